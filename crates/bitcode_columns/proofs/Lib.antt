@@ -1,0 +1,6 @@
+pub mod NumberLemmas
+pub mod DigitLemmas
+pub mod RawLemmas
+pub mod TaggedLemmas
+pub mod ByteLemmas
+pub mod IntLemmas

@@ -1,0 +1,27 @@
+-- The laws that every kind of column keeps, each over what the kind accepts.
+use Rattle.std.specs.Prelude.{◌≡◌, ℕ, ◌+◌, ◌*◌, ◌≤◌, List, [], ◌++◌, length, Option, Some, map, All, Bool, ℤ}
+use Rattle.bitcode_columns.specs.declared.error.Reason.{Reason}
+use Rattle.bitcode_columns.specs.Numbers.{IsNumber, residue}
+
+-- An input is read in at most one way: at one count there is one list of entries, and one rest.
+pub record IsReadOnce {Entry : Type 0} (Spells : List ℕ → List Entry → Type 0) : Type 0 where
+  pub once : (piece other : List ℕ) (entries others : List Entry) (rest left : List ℕ) → Spells piece entries → Spells other others
+      → length entries ≡ length others → piece ++ rest ≡ other ++ left → (entries ≡ others) × (rest ≡ left)
+
+-- No entries take no bytes, and so many entries take at least an eighth as many bytes.
+pub record TakesAnEighth {Entry : Type 0} (Spells : List ℕ → List Entry → Type 0) : Type 0 where
+  pub nothing : (piece : List ℕ) → Spells piece [] → piece ≡ []
+  pub eighth : (piece : List ℕ) (entries : List Entry) → Spells piece entries → length entries ≤ 8 * length piece
+
+-- Where a fault is named no front of the input spells so many entries.
+pub record IsFaultOf {Entry : Type 0} (fault : ℕ → List ℕ → Option Reason) (Spells : List ℕ → List Entry → Type 0) : Type 0 where
+  pub refused : (count : ℕ) (input : List ℕ) (reason : Reason) → fault count input ≡ Some reason
+      → (piece : List ℕ) (entries : List Entry) (rest : List ℕ) → Spells piece entries → length entries ≡ count → input ≡ piece ++ rest → ⊥
+
+-- What is written is accepted as the same entries. (What follows it changes nothing: an input is read once.)
+pub record IsReadBack (width : ℕ) (Spells : List ℕ → List ℕ → Type 0) (text : List ℤ → List ℕ) : Type 0 where
+  pub back : (signed : Bool) (entries : List ℤ) → All (IsNumber width signed) entries → Spells (text entries) (map (residue width) entries)
+
+-- The text takes at most the raw bytes and one more.
+pub record TakesAtMostOneMore (width : ℕ) (text : List ℤ → List ℕ) : Type 0 where
+  pub at_most : (signed : Bool) (entries : List ℤ) → All (IsNumber width signed) entries → length (text entries) ≤ width * length entries + 1

@@ -1,0 +1,11 @@
+pub mod LittleEndian
+pub mod Numbers
+pub mod Digits
+pub mod Tagged
+pub mod BoolColumn
+pub mod ByteColumn
+pub mod VariantColumn
+pub mod IntColumn
+pub mod Reading
+pub mod Laws
+pub mod Rows

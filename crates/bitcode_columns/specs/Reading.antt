@@ -1,0 +1,62 @@
+-- What a reader of a column does with its input, and which fault it names.
+use Rattle.std.specs.Prelude.{◌≡◌, ℕ, ◌*◌, ◌%◌, List, [], ◌∷◌, ◌++◌, length, drop, Option, Some, None, nat_lt, nat_le, ◌==◌, ◌⊎◌, if◌then◌else◌}
+use Rattle.std.specs.Int.{div_ceil}
+use Rattle.bitcode_columns.specs.declared.error.Reason.{Reason}
+use Rattle.bitcode_columns.specs.declared.error.Reason.TheVariants.{Eof, InvalidPacking, OutOfMemory}
+use Rattle.bitcode_columns.specs.declared.pack.Base.{Base}
+use Rattle.bitcode_columns.specs.declared.pack.Base.TheVariants.{Two}
+use Rattle.bitcode_columns.specs.Digits.{digits_in_byte}
+use Rattle.bitcode_columns.specs.Tagged.{level_of_tag}
+use Rattle.bitcode_columns.specs.ByteColumn.{base_at_level, highest_byte_tag}
+use Rattle.bitcode_columns.specs.IntColumn.{IntForm, bytes_form, bare_form, tagged_form, int_form, highest_int_tag, width_at_level}
+
+-- a front of the old input spells so many entries, and the new input is the rest
+pub record Reads {Entry : Type 0} (Spells : List ℕ → List Entry → Type 0) (count : ℕ) (old : List ℕ) (entries : List Entry) (new : List ℕ) : Type 0 where
+  pub size : length entries ≡ count
+  pub piece : List ℕ
+  pub whole : old ≡ piece ++ new
+  pub spelled : Spells piece entries
+
+-- the input after a refusal is an end part of what it was
+pub record IsEndOf (old new : List ℕ) : Type 0 where
+  pub taken : List ℕ
+  pub whole : old ≡ taken ++ new
+
+-- the fault, if there is one, of an input in which so many bytes are wanted
+abbrev pub missing : ℕ → List ℕ → Option Reason
+missing wanted input = if nat_lt (length input) wanted then Some Eof else None
+
+abbrev pub digits_fault : Base → ℕ → List ℕ → Option Reason
+digits_fault base count input = missing (div_ceil count (digits_in_byte base)) input
+
+abbrev pub bools_fault : ℕ → List ℕ → Option Reason
+bools_fault = digits_fault Two
+
+-- the tag first, then the least entry, then the narrow numbers
+abbrev pub tagged_fault : (width highest : ℕ) (narrow_fault : ℕ → List ℕ → Option Reason) → List ℕ → Option Reason
+tagged_fault width highest narrow_fault [] = Some Eof
+tagged_fault width highest narrow_fault (tag ∷ input) =
+    if nat_lt highest tag then Some InvalidPacking
+    else if nat_lt (length input) (width * (tag % 2)) then Some Eof
+    else narrow_fault (level_of_tag tag) (drop (width * (tag % 2)) input)
+
+abbrev pub bytes_fault : ℕ → List ℕ → Option Reason
+bytes_fault count input =
+    if nat_le count 2 then missing count input
+    else tagged_fault 1 highest_byte_tag (λ level. digits_fault (base_at_level level) count) input
+
+abbrev pub narrow_fault : ℕ → ℕ → List ℕ → Option Reason
+narrow_fault count width input = if width == 1 then bytes_fault count input else missing (count * width) input
+
+abbrev pub ints_fault_as : IntForm → ℕ → ℕ → List ℕ → Option Reason
+ints_fault_as bytes_form width count input = bytes_fault count input
+ints_fault_as bare_form width count input = missing (count * width) input
+ints_fault_as tagged_form width count input =
+    tagged_fault width (highest_int_tag width) (λ level. narrow_fault count (width_at_level width level)) input
+
+abbrev pub ints_fault : ℕ → ℕ → List ℕ → Option Reason
+ints_fault width count input = ints_fault_as (int_form width count) width count input
+
+-- A refusal names the fault, and want of memory comes only where there is none.
+abbrev pub Names : Reason → Option Reason → Type 0
+Names reason fault = ((reason ≡ OutOfMemory) × (fault ≡ None)) ⊎ (fault ≡ Some reason)

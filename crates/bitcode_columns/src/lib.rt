@@ -1,0 +1,5 @@
+// Numbers in, bytes out: the packers and unpackers of columns.
+#![tactic(auto)]
+
+pub mod error;
+pub mod pack;
