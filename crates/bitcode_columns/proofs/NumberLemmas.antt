@@ -3,8 +3,9 @@ use Rattle.std.proofs.Common.{◌≡◌, ℕ, ◌+◌, ◌-◌, ◌*◌, ◌/◌
 use Rattle.std.specs.Prelude.{◌-ℤ◌, ◌≤ℤ◌, unsigned_abs}
 use Rattle.bitcode_columns.specs.Numbers.{IsNumber, residue, number_of, least, greatest}
 
-pub number_of-residue : (width : ℕ) (signed : Bool) (z : ℤ) → IsNumber width signed z → number_of width signed (residue width z) ≡ z
-number_of-residue width signed z h = ?
+-- (at width 0 the numbers 0 and -1 have one residue)
+pub number_of-residue : (width : ℕ) (signed : Bool) (z : ℤ) → 1 ≤ width → IsNumber width signed z → number_of width signed (residue width z) ≡ z
+number_of-residue width signed z positive h = ?
 
 pub residue-number_of : (width : ℕ) (signed : Bool) (n : ℕ) → n < 256 ^ width → residue width (number_of width signed n) ≡ n
 residue-number_of width signed n h = ?
