@@ -1,3 +1,4 @@
+pub mod Reasons
 pub mod LittleEndian
 pub mod Numbers
 pub mod Digits
