@@ -1,3 +1,4 @@
+pub mod ListLemmas
 pub mod NumberLemmas
 pub mod DigitLemmas
 pub mod RawLemmas
