@@ -49,4 +49,4 @@ pub record SpellsDigits (base : Base) (bytes entries : List ℕ) : Type 0 where
 unfoldable pub digits_text : Base → List ℕ → List ℕ
 digits_text base entries =
     map (λ byte. number_with_digits (radix base) (take (digits_in_byte base) (drop (byte * digits_in_byte base) entries)))
-        (range_with_len 0 (div_ceil (length entries) (digits_in_byte base)))
+    (range_with_len 0 (div_ceil (length entries) (digits_in_byte base)))

@@ -1,6 +1,7 @@
 pub mod Reasons
 pub mod LittleEndian
 pub mod Numbers
+pub mod NumberRange
 pub mod Digits
 pub mod Tagged
 pub mod BoolColumn

@@ -42,7 +42,7 @@ abbrev pub shifted_text : (width : ℕ) (level_for : ℕ → ℕ) (narrow_text :
 shifted_text width level_for narrow_text entries =
     tag_of (shifted_level level_for entries) true
     ∷ (number_bytes width (residue width (least entries))
-        ++ narrow_text (shifted_level level_for entries) (map (λ e. unsigned_abs (e -ℤ least entries)) entries))
+    ++ narrow_text (shifted_level level_for entries) (map (λ e. unsigned_abs (e -ℤ least entries)) entries))
 
 abbrev pub plain_text : (width : ℕ) (level_for : ℕ → ℕ) (narrow_text : ℕ → List ℕ → List ℕ) → List ℤ → List ℕ
 plain_text width level_for narrow_text entries =

@@ -2,5 +2,6 @@
 #![tactic(auto)]
 
 pub mod error;
+pub mod int_types;
 pub mod pack;
 pub mod refuse;
