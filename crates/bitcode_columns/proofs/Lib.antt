@@ -5,3 +5,4 @@ pub mod RawLemmas
 pub mod TaggedLemmas
 pub mod ByteLemmas
 pub mod IntLemmas
+pub mod ChunkLemmas

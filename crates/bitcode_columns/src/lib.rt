@@ -1,6 +1,7 @@
 // Numbers in, bytes out: the packers and unpackers of columns.
 #![tactic(auto)]
 
+pub mod consume;
 pub mod error;
 pub mod int_types;
 pub mod pack;
