@@ -1,0 +1,5 @@
+pub mod Datum
+pub mod Shape
+pub mod Lawful
+pub mod Values
+pub mod LawfulValues

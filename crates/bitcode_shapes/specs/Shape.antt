@@ -1,0 +1,144 @@
+-- A shape says which data a type has, and so which columns.
+use Rattle.std.specs.Prelude.{◌≡◌, ℕ, zero, suc, ◌*◌, ◌^◌, ◌<◌, ◌≤◌, Bool, true, false, ℤ, pos, negsuc, ◌≤ℤ◌, ◌≢◌, Option, Some, None, IfSome, List, [], ◌∷◌, length, All, IsUtf8, ◌⊎◌}
+use Rattle.std.specs.Char.{IsScalar}
+use Rattle.bitcode_shapes.specs.Datum.{Datum, number, text, list, choice, unit, data_of, pair}
+
+-- which numbers of a width an entry may be
+pub data Allowed : Type 0 where
+  any_number : Allowed
+  nonzero : Allowed
+  scalar : Allowed
+  between : ℤ → ℤ → Allowed
+
+mutual
+  pub data Shape : Type 0 where
+    -- no columns
+    unit_shape : Shape
+    -- nothing is of it
+    never_shape : Shape
+    bool_shape : Shape
+    -- a number of a width in bytes, signed (true) or not
+    number_shape : ℕ → Bool → Allowed → Shape
+    -- a UTF-8 text, of at most so many bytes where a number is given
+    text_shape : Option ℕ → Shape
+    -- a byte of a text
+    raw_shape : Shape
+    -- a list, of at most so many elements where a number is given
+    seq_shape : Option ℕ → Shape → Shape
+    -- keys and values
+    map_shape : Shape → Shape → Shape
+    -- exactly so many elements
+    array_shape : ℕ → Shape → Shape
+    pair_shape : Shape → Shape → Shape
+    -- one of several variants, each with a payload
+    choice_shape : Shapes → Shape
+
+  pub data Shapes : Type 0 where
+    no_shapes : Shapes
+    shape_and : Shape → Shapes → Shapes
+
+-- how many variants
+abbrev pub variants : Shapes → ℕ
+variants no_shapes = 0
+variants (shape_and s ss) = suc (variants ss)
+
+-- z is a number of so many bytes
+abbrev pub IsInWidth : ℕ → Bool → ℤ → Type 0
+IsInWidth width false (pos n) = n < 256 ^ width
+IsInWidth width false (negsuc n) = ⊥
+IsInWidth width true (pos n) = 2 * n < 256 ^ width
+IsInWidth width true (negsuc n) = 2 * n < 256 ^ width
+
+abbrev pub IsScalarNumber : ℤ → Type 0
+IsScalarNumber (pos n) = IsScalar n
+IsScalarNumber (negsuc n) = ⊥
+
+abbrev pub IsAllowed : Allowed → ℤ → Type 0
+IsAllowed any_number z = Unit {0}
+IsAllowed nonzero z = z ≢ pos 0
+IsAllowed scalar z = IsScalarNumber z
+IsAllowed (between low high) z = (low ≤ℤ z) × (z ≤ℤ high)
+
+abbrev pub IsWithin : Option ℕ → ℕ → Type 0
+IsWithin None n = Unit {0}
+IsWithin (Some cap) n = n ≤ cap
+
+pub record IsNumberOf (width : ℕ) (signed : Bool) (allowed : Allowed) (d : Datum) : Type 0 where
+  pub value : ℤ
+  pub is : d ≡ number value
+  pub in_width : IsInWidth width signed value
+  pub in_allowed : IsAllowed allowed value
+
+pub record IsNaturalBelow (bound : ℕ) (d : Datum) : Type 0 where
+  pub value : ℕ
+  pub is : d ≡ number (pos value)
+  pub below : value < bound
+
+pub record IsTextOf (cap : Option ℕ) (d : Datum) : Type 0 where
+  pub bytes : List ℕ
+  pub is : d ≡ text bytes
+  pub utf8 : IsUtf8 bytes
+  pub within : IsWithin cap (length bytes)
+
+pub record IsListOf (IsElement : Datum → Type 0) (IsCount : ℕ → Type 0) (d : Datum) : Type 0 where
+  pub elements : List Datum
+  pub is : d ≡ list (data_of elements)
+  pub each : All IsElement elements
+  pub count : IsCount (length elements)
+
+pub record IsPairOf (IsFirst IsSecond : Datum → Type 0) (d : Datum) : Type 0 where
+  pub first : Datum
+  pub second : Datum
+  pub is : d ≡ pair first second
+  pub is_first : IsFirst first
+  pub is_second : IsSecond second
+
+pub record IsChoiceOf (IsVariant : ℕ → Datum → Type 0) (d : Datum) : Type 0 where
+  pub index : ℕ
+  pub payload : Datum
+  pub is : d ≡ choice index payload
+  pub is_variant : IsVariant index payload
+
+abbrev mutual
+  -- the datum is of the shape
+  pub IsOf : Shape → Datum → Type 0
+  IsOf unit_shape d = d ≡ unit
+  IsOf never_shape d = ⊥
+  IsOf bool_shape d = IsNaturalBelow 2 d
+  IsOf (number_shape width signed allowed) d = IsNumberOf width signed allowed d
+  IsOf (text_shape cap) d = IsTextOf cap d
+  IsOf raw_shape d = IsNaturalBelow 256 d
+  IsOf (seq_shape cap element) d = IsListOf (IsOf element) (IsWithin cap) d
+  IsOf (map_shape key value) d = IsListOf (IsPairOf (IsOf key) (IsOf value)) (λ _. Unit {0}) d
+  IsOf (array_shape count element) d = IsListOf (IsOf element) (λ n. n ≡ count) d
+  IsOf (pair_shape first second) d = IsPairOf (IsOf first) (IsOf second) d
+  IsOf (choice_shape shapes) d = IsChoiceOf (IsOfVariant shapes) d
+
+  -- the payload is of the variant's shape
+  pub IsOfVariant : Shapes → ℕ → Datum → Type 0
+  IsOfVariant no_shapes index d = ⊥
+  IsOfVariant (shape_and s ss) zero d = IsOf s d
+  IsOfVariant (shape_and s ss) (suc index) d = IsOfVariant ss index d
+
+-- a width in bytes that numbers have
+abbrev pub IsNumberWidth : ℕ → Type 0
+IsNumberWidth width = (width ≡ 1) ⊎ ((width ≡ 2) ⊎ ((width ≡ 4) ⊎ ((width ≡ 8) ⊎ (width ≡ 16))))
+
+abbrev mutual
+  -- numbers have one of the widths, and a choice is one of 2 to 256 variants
+  pub IsSound : Shape → Type 0
+  IsSound unit_shape = Unit {0}
+  IsSound never_shape = Unit {0}
+  IsSound bool_shape = Unit {0}
+  IsSound (number_shape width signed allowed) = IsNumberWidth width
+  IsSound (text_shape cap) = Unit {0}
+  IsSound raw_shape = Unit {0}
+  IsSound (seq_shape cap element) = IsSound element
+  IsSound (map_shape key value) = IsSound key × IsSound value
+  IsSound (array_shape count element) = IsSound element
+  IsSound (pair_shape first second) = IsSound first × IsSound second
+  IsSound (choice_shape shapes) = (2 ≤ variants shapes) × (variants shapes ≤ 256) × AreSound shapes
+
+  pub AreSound : Shapes → Type 0
+  AreSound no_shapes = Unit {0}
+  AreSound (shape_and s ss) = IsSound s × AreSound ss

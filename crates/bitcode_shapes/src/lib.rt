@@ -1,0 +1,5 @@
+// The data that types hold: their shapes, and what a lawful type promises.
+#![tactic(auto)]
+
+pub mod shaped;
+pub mod values;
