@@ -1,3 +1,4 @@
+pub mod Fast
 pub mod Reasons
 pub mod LittleEndian
 pub mod Numbers

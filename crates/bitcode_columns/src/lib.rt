@@ -3,6 +3,7 @@
 
 pub mod consume;
 pub mod error;
+pub mod fast;
 pub mod int_types;
 pub mod pack;
 pub mod refuse;
