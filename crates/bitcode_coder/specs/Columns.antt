@@ -1,0 +1,81 @@
+-- Columns of data. A column has a kind and its entries. The columns of a shape form a tree after the shape; read
+-- from left to right they are the list of columns that the bytes follow.
+use Rattle.std.specs.Prelude.{◌≡◌, ℕ, ◌+◌, ◌*◌, ◌<◌, ◌^◌, Bool, Option, Some, None, List, [], ◌∷◌, ◌++◌, length, sum_by, map}
+use Rattle.bitcode_shapes.specs.Datum.{Datum, text_in}
+
+pub data Kind : Type 0 where
+  bools : Kind
+  -- integers of a width in bytes, signed (true) or not
+  ints : ℕ → Bool → Kind
+  -- lengths and texts, of at most so much where a reader is given a number
+  lengths : Option ℕ → Kind
+  texts : Option ℕ → Kind
+  -- bytes of texts
+  raws : Kind
+  -- one of so many variants
+  variants : ℕ → Kind
+
+pub record Column : Type 0 where
+  pub kind : Kind
+  pub entries : List Datum
+
+pub data Columns : Type 0 where
+  no_columns : Columns
+  one : Kind → List Datum → Columns
+  two : Columns → Columns → Columns
+  -- the columns of the elements of so many arrays of a size
+  arrays : ℕ → ℕ → Columns → Columns
+
+-- the columns from left to right
+abbrev pub flat : Columns → List Column
+flat no_columns = []
+flat (one kind entries) = record { kind = kind; entries = entries } ∷ []
+flat (two first second) = flat first ++ flat second
+flat (arrays size count elements) = flat elements
+
+-- each column of the first with that of the second behind it
+abbrev pub beside : Columns → Columns → Columns
+beside no_columns _ = no_columns
+beside (one kind entries) (one _ more) = one kind (entries ++ more)
+beside (one kind entries) _ = one kind entries
+beside (two first second) (two third fourth) = two (beside first third) (beside second fourth)
+beside (two first second) _ = two first second
+beside (arrays size count elements) (arrays _ more others) = arrays size (count + more) (beside elements others)
+beside (arrays size count elements) _ = arrays size count elements
+
+-- the same columns, with no limit on lengths
+abbrev pub plain_kind : Kind → Kind
+plain_kind (lengths cap) = lengths None
+plain_kind (texts cap) = texts None
+plain_kind kind = kind
+
+abbrev pub plain : Columns → Columns
+plain no_columns = no_columns
+plain (one kind entries) = one (plain_kind kind) entries
+plain (two first second) = two (plain first) (plain second)
+plain (arrays size count elements) = arrays size count (plain elements)
+
+-- the same columns, with no entries
+abbrev pub emptied : Columns → Columns
+emptied no_columns = no_columns
+emptied (one kind entries) = one kind []
+emptied (two first second) = two (emptied first) (emptied second)
+emptied (arrays size count elements) = arrays size 0 (emptied elements)
+
+-- the number of arrays times their size is a length, at each node
+abbrev pub CountsFit : Columns → Type 0
+CountsFit no_columns = Unit {0}
+CountsFit (one kind entries) = Unit {0}
+CountsFit (two first second) = CountsFit first × CountsFit second
+CountsFit (arrays size count elements) = (count * size < 2 ^ 64) × CountsFit elements
+
+-- how many entries there are; a text counts once, and once for each of its bytes
+abbrev pub entry_count_of : Kind → List Datum → ℕ
+entry_count_of (texts cap) entries = length entries + sum_by (λ d. length (text_in d)) entries
+entry_count_of _ entries = length entries
+
+abbrev pub entry_count : Columns → ℕ
+entry_count no_columns = 0
+entry_count (one kind entries) = entry_count_of kind entries
+entry_count (two first second) = entry_count first + entry_count second
+entry_count (arrays size count elements) = entry_count elements

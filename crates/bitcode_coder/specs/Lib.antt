@@ -1,0 +1,5 @@
+pub mod LengthColumn
+pub mod TextColumn
+pub mod Columns
+pub mod Transposition
+pub mod Spelling

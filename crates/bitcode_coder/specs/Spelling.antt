@@ -1,0 +1,101 @@
+-- How bytes spell columns, and the bytes that are written for them.
+use Rattle.std.specs.Prelude.{◌≡◌, ℕ, ◌+◌, ◌*◌, ◌^◌, ◌<◌, pos, Bool, Option, List, [], ◌∷◌, ◌++◌, length, map, All, sum, ◌==◌}
+use Rattle.bitcode_columns.specs.Numbers.{number_of}
+use Rattle.bitcode_columns.specs.BoolColumn.{SpellsBools, bool_text, bool_number}
+use Rattle.bitcode_columns.specs.IntColumn.{SpellsInts, int_text}
+use Rattle.bitcode_columns.specs.VariantColumn.{SpellsVariants, variant_text}
+use Rattle.bitcode_shapes.specs.Datum.{Datum, number, text, number_in, natural_in, text_in}
+use Rattle.bitcode_shapes.specs.Shape.{Shape, IsOf}
+use Rattle.bitcode_coder.specs.LengthColumn.{SpellsLengths, length_text, length_limit}
+use Rattle.bitcode_coder.specs.TextColumn.{SpellsTexts, texts_text}
+use Rattle.bitcode_coder.specs.Columns.{Kind, Column, Columns, bools, ints, lengths, texts, raws, variants, no_columns, one, two, arrays, CountsFit}
+use Rattle.bitcode_coder.specs.Transposition.{columns_of}
+
+abbrev pub natural : ℕ → Datum
+natural n = number (pos n)
+
+abbrev pub truth : Bool → Datum
+truth b = natural (bool_number b)
+
+abbrev pub number_of_residue : ℕ → Bool → ℕ → Datum
+number_of_residue width signed n = number (number_of width signed n)
+
+-- the data are these entries, which the bytes spell
+pub record SpellsAs {Entry : Type 0} (datum : Entry → Datum) (Spells : List ℕ → List Entry → Type 0) (bytes : List ℕ) (ds : List Datum) : Type 0 where
+  pub entries : List Entry
+  pub are : ds ≡ map datum entries
+  pub spelled : Spells bytes entries
+
+pub record SpellsIntsInWidth (width : ℕ) (bytes entries : List ℕ) : Type 0 where
+  pub spelled : SpellsInts width bytes entries
+  pub in_width : All (λ n. n < 256 ^ width) entries
+
+-- ---- accepted
+
+abbrev pub SpellsColumn : Kind → List ℕ → List Datum → Type 0
+SpellsColumn bools = SpellsAs truth SpellsBools
+SpellsColumn (ints width signed) = SpellsAs (number_of_residue width signed) (SpellsIntsInWidth width)
+SpellsColumn (lengths cap) = SpellsAs natural (SpellsLengths cap)
+SpellsColumn (texts cap) = SpellsAs text (SpellsTexts cap)
+SpellsColumn raws = SpellsAs natural (λ bytes entries. bytes ≡ entries)
+SpellsColumn (variants count) = SpellsAs natural (SpellsVariants count)
+
+-- one piece and then another
+pub record IsSplit (First Second : List ℕ → Type 0) (bytes : List ℕ) : Type 0 where
+  pub front : List ℕ
+  pub back : List ℕ
+  pub whole : bytes ≡ front ++ back
+  pub first : First front
+  pub second : Second back
+
+-- one piece for each column, from left to right
+abbrev pub SpellsColumns : Columns → List ℕ → Type 0
+SpellsColumns no_columns bytes = bytes ≡ []
+SpellsColumns (one kind entries) bytes = SpellsColumn kind bytes entries
+SpellsColumns (two first second) bytes = IsSplit (SpellsColumns first) (SpellsColumns second) bytes
+SpellsColumns (arrays size count elements) bytes = SpellsColumns elements bytes
+
+-- the same of the columns as a list
+abbrev pub SpellsEach : List Column → List ℕ → Type 0
+SpellsEach [] bytes = bytes ≡ []
+SpellsEach (column ∷ columns) bytes = IsSplit (λ front. SpellsColumn column.kind front column.entries) (SpellsEach columns) bytes
+
+-- Bytes spell data of a shape: the data are of it, the counts of arrays are lengths, and the bytes are one
+-- piece for each of the data's columns, in order, each piece spelling its column.
+pub record Spells (shape : Shape) (bytes : List ℕ) (ds : List Datum) : Type 0 where
+  pub of_shape : All (IsOf shape) ds
+  pub counts : CountsFit (columns_of shape ds)
+  pub columns : SpellsColumns (columns_of shape ds) bytes
+
+-- ---- written
+
+abbrev pub column_text : Kind → List Datum → List ℕ
+column_text bools ds = bool_text (map (λ d. natural_in d == 1) ds)
+column_text (ints width signed) ds = int_text width (map number_in ds)
+column_text (lengths cap) ds = length_text (map natural_in ds)
+column_text (texts cap) ds = texts_text (map text_in ds)
+column_text raws ds = map natural_in ds
+column_text (variants count) ds = variant_text count (map natural_in ds)
+
+abbrev pub columns_text : Columns → List ℕ
+columns_text no_columns = []
+columns_text (one kind entries) = column_text kind entries
+columns_text (two first second) = columns_text first ++ columns_text second
+columns_text (arrays size count elements) = columns_text elements
+
+-- the texts of a list of columns, joined
+abbrev pub texts_of : List Column → List ℕ
+texts_of [] = []
+texts_of (column ∷ columns) = column_text column.kind column.entries ++ texts_of columns
+
+-- What is written is read back where each column of lengths, those of texts too, sums below the limit.
+abbrev pub LengthsBelowLimitOf : Kind → List Datum → Type 0
+LengthsBelowLimitOf (lengths cap) ds = sum (map natural_in ds) < length_limit
+LengthsBelowLimitOf (texts cap) ds = sum (map (λ d. length (text_in d)) ds) < length_limit
+LengthsBelowLimitOf _ ds = Unit {0}
+
+abbrev pub LengthsBelowLimit : Columns → Type 0
+LengthsBelowLimit no_columns = Unit {0}
+LengthsBelowLimit (one kind entries) = LengthsBelowLimitOf kind entries
+LengthsBelowLimit (two first second) = LengthsBelowLimit first × LengthsBelowLimit second
+LengthsBelowLimit (arrays size count elements) = LengthsBelowLimit elements

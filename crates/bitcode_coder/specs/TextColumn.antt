@@ -1,0 +1,15 @@
+-- A text column is a length column and then the bytes of all texts, joined. Each text for itself is UTF-8.
+use Rattle.std.specs.Prelude.{◌≡◌, ℕ, Option, List, ◌++◌, length, map, All, IsUtf8}
+use Rattle.std.specs.List.{flat_map}
+use Rattle.bitcode_coder.specs.LengthColumn.{SpellsLengths, length_text}
+
+-- Accepted.
+pub record SpellsTexts (cap : Option ℕ) (piece : List ℕ) (texts : List (List ℕ)) : Type 0 where
+  pub lengths_piece : List ℕ
+  pub whole : piece ≡ lengths_piece ++ flat_map (λ text. text) texts
+  pub lengths_spelled : SpellsLengths cap lengths_piece (map (λ text. length text) texts)
+  pub utf8 : All IsUtf8 texts
+
+-- Written.
+unfoldable pub texts_text : List (List ℕ) → List ℕ
+texts_text texts = length_text (map (λ text. length text) texts) ++ flat_map (λ text. text) texts

@@ -1,0 +1,2 @@
+// Columns of data, and the coders of one column.
+#![tactic(auto)]
