@@ -1,7 +1,8 @@
 -- Columns of data. A column has a kind and its entries. The columns of a shape form a tree after the shape; read
 -- from left to right they are the list of columns that the bytes follow.
-use Rattle.std.specs.Prelude.{◌≡◌, ℕ, ◌+◌, ◌*◌, ◌<◌, ◌^◌, Bool, Option, Some, None, List, [], ◌∷◌, ◌++◌, length, sum_by, map}
-use Rattle.bitcode_shapes.specs.Datum.{Datum, text_in}
+use Rattle.std.specs.Prelude.{◌≡◌, ℕ, ◌+◌, ◌*◌, ◌<◌, ◌^◌, ◌≤◌, pos, Bool, Option, Some, None, List, [], ◌∷◌, ◌++◌, length, sum_by, map}
+use Rattle.bitcode_shapes.specs.Datum.{Datum, number, text_in}
+use Rattle.bitcode_shapes.specs.Shape.{IsNumberWidth, IsNaturalBelow, IsNumberOf, IsTextOf, IsWithin, any_number}
 
 pub data Kind : Type 0 where
   bools : Kind
@@ -45,8 +46,8 @@ beside (arrays size count elements) _ = arrays size count elements
 
 -- the same columns, with no limit on lengths
 abbrev pub plain_kind : Kind → Kind
-plain_kind (lengths cap) = lengths None
-plain_kind (texts cap) = texts None
+plain_kind (lengths limit) = lengths None
+plain_kind (texts limit) = texts None
 plain_kind kind = kind
 
 abbrev pub plain : Columns → Columns
@@ -71,7 +72,7 @@ CountsFit (arrays size count elements) = (count * size < 2 ^ 64) × CountsFit el
 
 -- how many entries there are; a text counts once, and once for each of its bytes
 abbrev pub entry_count_of : Kind → List Datum → ℕ
-entry_count_of (texts cap) entries = length entries + sum_by (λ d. length (text_in d)) entries
+entry_count_of (texts limit) entries = length entries + sum_by (λ d. length (text_in d)) entries
 entry_count_of _ entries = length entries
 
 abbrev pub entry_count : Columns → ℕ
@@ -79,3 +80,19 @@ entry_count no_columns = 0
 entry_count (one kind entries) = entry_count_of kind entries
 entry_count (two first second) = entry_count first + entry_count second
 entry_count (arrays size count elements) = entry_count elements
+
+-- ---- what the entries of a column are
+
+-- a kind whose width or number of variants a column has
+abbrev pub IsSoundKind : Kind → Type 0
+IsSoundKind (ints width signed) = IsNumberWidth width
+IsSoundKind (variants count) = (2 ≤ count) × (count ≤ 256)
+IsSoundKind _ = Unit {0}
+
+abbrev pub IsEntryOf : Kind → Datum → Type 0
+IsEntryOf bools d = IsNaturalBelow 2 d
+IsEntryOf (ints width signed) d = IsNumberOf width signed any_number d
+IsEntryOf (lengths limit) d = (n : ℕ) × ((d ≡ number (pos n)) × IsWithin limit n)
+IsEntryOf (texts limit) d = IsTextOf limit d
+IsEntryOf raws d = IsNaturalBelow 256 d
+IsEntryOf (variants count) d = IsNaturalBelow count d

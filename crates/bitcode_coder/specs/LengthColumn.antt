@@ -26,13 +26,13 @@ lengths_from [] large = []
 lengths_from (byte ∷ bytes) large =
     if byte == escape then first_large large ∷ lengths_from bytes (other_large large) else byte ∷ lengths_from bytes large
 
--- A cap below 255 is asked of the bytes, so that an escape passes none; a greater one is asked of the lengths.
+-- A limit below 255 is asked of the bytes, so that an escape passes none; a greater one is asked of the lengths.
 abbrev pub KeepsCap : Option ℕ → List ℕ → List ℕ → Type 0
 KeepsCap None bytes lengths = Unit {0}
-KeepsCap (Some cap) bytes lengths = MatchBool (nat_lt cap escape) (All (λ byte. byte ≤ cap) bytes) (All (λ n. n ≤ cap) lengths)
+KeepsCap (Some limit) bytes lengths = MatchBool (nat_lt limit escape) (All (λ byte. byte ≤ limit) bytes) (All (λ n. n ≤ limit) lengths)
 
 -- Accepted.
-pub record SpellsLengths (cap : Option ℕ) (piece lengths : List ℕ) : Type 0 where
+pub record SpellsLengths (limit : Option ℕ) (piece lengths : List ℕ) : Type 0 where
   pub short_piece : List ℕ
   pub large_piece : List ℕ
   pub short : List ℕ
@@ -43,7 +43,7 @@ pub record SpellsLengths (cap : Option ℕ) (piece lengths : List ℕ) : Type 0 
   pub large_count : length large ≡ count_by (λ byte. byte == escape) short
   pub joined : lengths ≡ lengths_from short large
   pub below_limit : sum lengths < length_limit
-  pub keeps_cap : KeepsCap cap short lengths
+  pub keeps_cap : KeepsCap limit short lengths
 
 -- Written, whatever the sum is.
 unfoldable pub length_text : List ℕ → List ℕ

@@ -35,8 +35,8 @@ pub record SpellsIntsInWidth (width : ℕ) (bytes entries : List ℕ) : Type 0 w
 abbrev pub SpellsColumn : Kind → List ℕ → List Datum → Type 0
 SpellsColumn bools = SpellsAs truth SpellsBools
 SpellsColumn (ints width signed) = SpellsAs (number_of_residue width signed) (SpellsIntsInWidth width)
-SpellsColumn (lengths cap) = SpellsAs natural (SpellsLengths cap)
-SpellsColumn (texts cap) = SpellsAs text (SpellsTexts cap)
+SpellsColumn (lengths limit) = SpellsAs natural (SpellsLengths limit)
+SpellsColumn (texts limit) = SpellsAs text (SpellsTexts limit)
 SpellsColumn raws = SpellsAs natural (λ bytes entries. bytes ≡ entries)
 SpellsColumn (variants count) = SpellsAs natural (SpellsVariants count)
 
@@ -72,8 +72,8 @@ pub record Spells (shape : Shape) (bytes : List ℕ) (ds : List Datum) : Type 0 
 abbrev pub column_text : Kind → List Datum → List ℕ
 column_text bools ds = bool_text (map (λ d. natural_in d == 1) ds)
 column_text (ints width signed) ds = int_text width (map number_in ds)
-column_text (lengths cap) ds = length_text (map natural_in ds)
-column_text (texts cap) ds = texts_text (map text_in ds)
+column_text (lengths limit) ds = length_text (map natural_in ds)
+column_text (texts limit) ds = texts_text (map text_in ds)
 column_text raws ds = map natural_in ds
 column_text (variants count) ds = variant_text count (map natural_in ds)
 
@@ -90,8 +90,8 @@ texts_of (column ∷ columns) = column_text column.kind column.entries ++ texts_
 
 -- What is written is read back where each column of lengths, those of texts too, sums below the limit.
 abbrev pub LengthsBelowLimitOf : Kind → List Datum → Type 0
-LengthsBelowLimitOf (lengths cap) ds = sum (map natural_in ds) < length_limit
-LengthsBelowLimitOf (texts cap) ds = sum (map (λ d. length (text_in d)) ds) < length_limit
+LengthsBelowLimitOf (lengths limit) ds = sum (map natural_in ds) < length_limit
+LengthsBelowLimitOf (texts limit) ds = sum (map (λ d. length (text_in d)) ds) < length_limit
 LengthsBelowLimitOf _ ds = Unit {0}
 
 abbrev pub LengthsBelowLimit : Columns → Type 0

@@ -4,10 +4,10 @@ use Rattle.std.specs.List.{flat_map}
 use Rattle.bitcode_coder.specs.LengthColumn.{SpellsLengths, length_text}
 
 -- Accepted.
-pub record SpellsTexts (cap : Option ℕ) (piece : List ℕ) (texts : List (List ℕ)) : Type 0 where
+pub record SpellsTexts (limit : Option ℕ) (piece : List ℕ) (texts : List (List ℕ)) : Type 0 where
   pub lengths_piece : List ℕ
   pub whole : piece ≡ lengths_piece ++ flat_map (λ text. text) texts
-  pub lengths_spelled : SpellsLengths cap lengths_piece (map (λ text. length text) texts)
+  pub lengths_spelled : SpellsLengths limit lengths_piece (map (λ text. length text) texts)
   pub utf8 : All IsUtf8 texts
 
 -- Written.

@@ -2,8 +2,7 @@
 use Rattle.std.specs.Prelude.{◌≡◌, ℕ, zero, suc, pos, List, [], ◌∷◌, ◌++◌, length, map, filter, Option, None, ◌==◌}
 use Rattle.std.specs.List.{flat_map}
 use Rattle.bitcode_shapes.specs.Datum.{Datum, number, elements_in, first_in, second_in, variant_in, payload_in}
-use Rattle.bitcode_shapes.specs.Shape.{Shape, Shapes, unit_shape, never_shape, bool_shape, number_shape, text_shape, raw_shape, seq_shape, map_shape, array_shape, pair_shape, choice_shape, no_shapes, shape_and}
-use Rattle.bitcode_shapes.specs.Shape as shapes
+use Rattle.bitcode_shapes.specs.Shape.{Shape, Shapes, unit_shape, never_shape, bool_shape, number_shape, text_shape, raw_shape, seq_shape, map_shape, array_shape, pair_shape, choice_shape, no_shapes, shape_and, variant_count}
 use Rattle.bitcode_coder.specs.Columns.{Kind, Column, Columns, bools, ints, lengths, texts, raws, variants, no_columns, one, two, arrays}
 
 abbrev pub length_entry : Datum → Datum
@@ -32,14 +31,14 @@ abbrev mutual
   columns_of never_shape ds = no_columns
   columns_of bool_shape ds = one bools ds
   columns_of (number_shape width signed allowed) ds = one (ints width signed) ds
-  columns_of (text_shape cap) ds = one (texts cap) ds
+  columns_of (text_shape limit) ds = one (texts limit) ds
   columns_of raw_shape ds = one raws ds
-  columns_of (seq_shape cap element) ds = two (one (lengths cap) (map length_entry ds)) (columns_of element (joined ds))
+  columns_of (seq_shape limit element) ds = two (one (lengths limit) (map length_entry ds)) (columns_of element (joined ds))
   columns_of (map_shape key value) ds =
       two (one (lengths None) (map length_entry ds)) (two (columns_of key (map first_in (joined ds))) (columns_of value (map second_in (joined ds))))
   columns_of (array_shape size element) ds = array_columns size (length ds) (columns_of element (joined ds))
   columns_of (pair_shape first second) ds = two (columns_of first (map first_in ds)) (columns_of second (map second_in ds))
-  columns_of (choice_shape shapes) ds = two (one (variants (shapes.variants shapes)) (map variant_entry ds)) (payload_columns shapes 0 ds)
+  columns_of (choice_shape shapes) ds = two (one (variants (variant_count shapes)) (map variant_entry ds)) (payload_columns shapes 0 ds)
 
   pub payload_columns : Shapes → ℕ → List Datum → Columns
   payload_columns no_shapes index ds = no_columns
@@ -55,14 +54,14 @@ abbrev mutual
   spread never_shape ds = []
   spread bool_shape ds = column bools ds
   spread (number_shape width signed allowed) ds = column (ints width signed) ds
-  spread (text_shape cap) ds = column (texts cap) ds
+  spread (text_shape limit) ds = column (texts limit) ds
   spread raw_shape ds = column raws ds
-  spread (seq_shape cap element) ds = column (lengths cap) (map length_entry ds) ++ spread element (joined ds)
+  spread (seq_shape limit element) ds = column (lengths limit) (map length_entry ds) ++ spread element (joined ds)
   spread (map_shape key value) ds =
       column (lengths None) (map length_entry ds) ++ (spread key (map first_in (joined ds)) ++ spread value (map second_in (joined ds)))
   spread (array_shape size element) ds = spread element (joined ds)
   spread (pair_shape first second) ds = spread first (map first_in ds) ++ spread second (map second_in ds)
-  spread (choice_shape shapes) ds = column (variants (shapes.variants shapes)) (map variant_entry ds) ++ payload_spread shapes 0 ds
+  spread (choice_shape shapes) ds = column (variants (variant_count shapes)) (map variant_entry ds) ++ payload_spread shapes 0 ds
 
   pub payload_spread : Shapes → ℕ → List Datum → List Column
   payload_spread no_shapes index ds = []

@@ -38,9 +38,9 @@ mutual
     shape_and : Shape → Shapes → Shapes
 
 -- how many variants
-abbrev pub variants : Shapes → ℕ
-variants no_shapes = 0
-variants (shape_and s ss) = suc (variants ss)
+abbrev pub variant_count : Shapes → ℕ
+variant_count no_shapes = 0
+variant_count (shape_and s ss) = suc (variant_count ss)
 
 -- z is a number of so many bytes
 abbrev pub IsInWidth : ℕ → Bool → ℤ → Type 0
@@ -61,7 +61,7 @@ IsAllowed (between low high) z = (low ≤ℤ z) × (z ≤ℤ high)
 
 abbrev pub IsWithin : Option ℕ → ℕ → Type 0
 IsWithin None n = Unit {0}
-IsWithin (Some cap) n = n ≤ cap
+IsWithin (Some limit) n = n ≤ limit
 
 pub record IsNumberOf (width : ℕ) (signed : Bool) (allowed : Allowed) (d : Datum) : Type 0 where
   pub value : ℤ
@@ -74,11 +74,11 @@ pub record IsNaturalBelow (bound : ℕ) (d : Datum) : Type 0 where
   pub is : d ≡ number (pos value)
   pub below : value < bound
 
-pub record IsTextOf (cap : Option ℕ) (d : Datum) : Type 0 where
+pub record IsTextOf (limit : Option ℕ) (d : Datum) : Type 0 where
   pub bytes : List ℕ
   pub is : d ≡ text bytes
   pub utf8 : IsUtf8 bytes
-  pub within : IsWithin cap (length bytes)
+  pub within : IsWithin limit (length bytes)
 
 pub record IsListOf (IsElement : Datum → Type 0) (IsCount : ℕ → Type 0) (d : Datum) : Type 0 where
   pub elements : List Datum
@@ -106,9 +106,9 @@ abbrev mutual
   IsOf never_shape d = ⊥
   IsOf bool_shape d = IsNaturalBelow 2 d
   IsOf (number_shape width signed allowed) d = IsNumberOf width signed allowed d
-  IsOf (text_shape cap) d = IsTextOf cap d
+  IsOf (text_shape limit) d = IsTextOf limit d
   IsOf raw_shape d = IsNaturalBelow 256 d
-  IsOf (seq_shape cap element) d = IsListOf (IsOf element) (IsWithin cap) d
+  IsOf (seq_shape limit element) d = IsListOf (IsOf element) (IsWithin limit) d
   IsOf (map_shape key value) d = IsListOf (IsPairOf (IsOf key) (IsOf value)) (λ _. Unit {0}) d
   IsOf (array_shape count element) d = IsListOf (IsOf element) (λ n. n ≡ count) d
   IsOf (pair_shape first second) d = IsPairOf (IsOf first) (IsOf second) d
@@ -131,13 +131,13 @@ abbrev mutual
   IsSound never_shape = Unit {0}
   IsSound bool_shape = Unit {0}
   IsSound (number_shape width signed allowed) = IsNumberWidth width
-  IsSound (text_shape cap) = Unit {0}
+  IsSound (text_shape limit) = Unit {0}
   IsSound raw_shape = Unit {0}
-  IsSound (seq_shape cap element) = IsSound element
+  IsSound (seq_shape limit element) = IsSound element
   IsSound (map_shape key value) = IsSound key × IsSound value
   IsSound (array_shape count element) = IsSound element
   IsSound (pair_shape first second) = IsSound first × IsSound second
-  IsSound (choice_shape shapes) = (2 ≤ variants shapes) × (variants shapes ≤ 256) × AreSound shapes
+  IsSound (choice_shape shapes) = (2 ≤ variant_count shapes) × (variant_count shapes ≤ 256) × AreSound shapes
 
   pub AreSound : Shapes → Type 0
   AreSound no_shapes = Unit {0}

@@ -1,0 +1,5 @@
+pub mod LengthLemmas
+pub mod TextLemmas
+pub mod ColumnLemmas
+pub mod TranspositionLemmas
+pub mod SpellingLemmas
