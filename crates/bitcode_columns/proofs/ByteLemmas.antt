@@ -126,7 +126,7 @@ two_in_byte level h =
     cond_both (ltb level 5) _ _ P (λ e. omega arith) (λ e. omega arith)))))
 
 -- of more than five entries the shifted text is at most half as long, and three bytes
-byte_text_at_most : (entries : List ℤ) → length (byte_text entries) ≤ length entries + 1
+pub byte_text_at_most : (entries : List ℤ) → length (byte_text entries) ≤ length entries + 1
 unfolding byte_text tagged_text
 byte_text_at_most entries =
     let low : ℤ = least entries in
