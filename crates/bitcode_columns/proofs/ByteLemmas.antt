@@ -1,8 +1,8 @@
 -- The laws of byte columns.
-use Rattle.std.proofs.Common.{◌≡◌, ℕ, ◌+◌, ◌-◌, ◌*◌, ◌/◌, ◌%◌, ◌<◌, ◌≤◌, min, leb, ltb, Option, Some, List, ◌++◌, length, map, ℤ, refl, sym, ap, ◌∙◌, subst, inl, inr, ⊎_elim, arith, le_refl, length-append, mul-le-mul_left, div-add-mod'}
+use Rattle.std.proofs.Common.{◌≡◌, ℕ, ◌+◌, ◌*◌, ◌/◌, ◌<◌, ◌≤◌, leb, ltb, Option, List, ◌++◌, length, map, ℤ, refl, sym, ap, ◌∙◌, subst, inl, inr, ⊎_elim, arith, le_refl, length-append, mul-le-mul_left, div-add-mod'}
 use Rattle.std.specs.Prelude.{◌-ℤ◌, unsigned_abs}
 use Rattle.std.specs.Int.{div_ceil}
-use Rattle.std.proofs.lemmas.Bool.{cond_both, cond-true, cond-false, le-leb, lt-leb, leb-true, leb-false, ltb-true, ltb-false, and_parts}
+use Rattle.std.proofs.lemmas.Bool.{cond_both, cond-true, cond-false, le-leb, lt-leb, leb-true, leb-false, ltb-true, and_parts}
 use Rattle.std.proofs.lemmas.List.{length-map}
 use Rattle.std.proofs.lemmas.List.Elements.{All-weaker}
 use Rattle.std.proofs.lemmas.List.FromFn.{length-map-range_with_len}
@@ -10,7 +10,7 @@ use Rattle.bitcode_columns.specs.declared.error.Reason.{Reason}
 use Rattle.bitcode_columns.specs.declared.pack.Base.{Base}
 use Rattle.bitcode_columns.specs.declared.pack.Base.TheVariants.{Whole, Sixteen, Six, Four, Three, Two}
 use Rattle.bitcode_columns.specs.LittleEndian.{number_bytes}
-use Rattle.bitcode_columns.specs.Numbers.{residue, least, greatest}
+use Rattle.bitcode_columns.specs.Numbers.{residue, least}
 use Rattle.bitcode_columns.specs.Digits.{radix, digits_in_byte, base_for, SpellsDigits, digits_text}
 use Rattle.bitcode_columns.specs.Tagged.{plain_level, shifted_level, is_shifted, plain_text, shifted_text, tagged_text}
 use Rattle.bitcode_columns.specs.ByteColumn.{level_of_base, base_at_level, highest_byte_tag, SpellsAtByteLevel, SpellsBytes, byte_level_for, text_at_byte_level, byte_text}

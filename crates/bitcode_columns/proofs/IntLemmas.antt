@@ -1,5 +1,5 @@
 -- The laws of integer columns, at each width.
-use Rattle.std.proofs.Common.{◌≡◌, ℕ, ◌+◌, ◌-◌, ◌*◌, ◌/◌, ◌^◌, ◌<◌, ◌≤◌, Bool, true, false, cond, eqb, ltb, ◌||◌, ◌&&◌, ℤ, pos, Option, Some, List, [], ◌++◌, length, get_or, map, All, MatchBool, refl, sym, ap, ◌∙◌, subst, inl, inr, ⊎_elim, ◌⊎◌, arith, length-append, map-id, mul-le-mul_left, mul-le-mul_right, mul-div_cancel, div-mul-le_self, div-le_self, div-one}
+use Rattle.std.proofs.Common.{◌≡◌, ℕ, ◌+◌, ◌-◌, ◌*◌, ◌/◌, ◌^◌, ◌<◌, ◌≤◌, Bool, true, false, cond, eqb, ltb, ◌||◌, ◌&&◌, ℤ, pos, List, [], ◌++◌, length, get_or, map, All, MatchBool, refl, sym, ap, ◌∙◌, subst, inl, inr, ⊎_elim, ◌⊎◌, arith, length-append, map-id, mul-le-mul_left, mul-le-mul_right, mul-div_cancel, div-mul-le_self, div-le_self, div-one}
 use Rattle.std.specs.Prelude.{◌-ℤ◌, unsigned_abs}
 use Rattle.std.proofs.Math.Nat.{pow-le-pow_right}
 use Rattle.std.proofs.lemmas.Bool.{cond_both, eqb-true, eqb-false, ltb-true, ltb-false, and_parts, or_parts, cases_lt}
@@ -7,7 +7,6 @@ use Rattle.std.proofs.lemmas.Nat.{pow_pos, pow-add, pow_below, le-div}
 use Rattle.std.proofs.lemmas.List.{length-map}
 use Rattle.std.proofs.lemmas.List.Elements.{All-map, All-weaker}
 use Rattle.std.proofs.lemmas.Simd.{map-map}
-use Rattle.bitcode_columns.specs.declared.error.Reason.{Reason}
 use Rattle.bitcode_columns.specs.LittleEndian.{number_bytes, SpellsRaw, raw_text}
 use Rattle.bitcode_columns.specs.Numbers.{IsNumber, residue, least}
 use Rattle.bitcode_columns.specs.Tagged.{plain_level, shifted_level, is_shifted, plain_text, shifted_text, tagged_text}
@@ -32,12 +31,14 @@ as_once bytes_form width = SpellsBytes-once
 as_once bare_form width = SpellsRaw-once width
 as_once tagged_form width = SpellsTagged-once width (highest_int_tag width) (SpellsAtIntLevel width)
     (λ level. either_once (eqb (width_at_level width level) 1) SpellsBytes (SpellsRaw (width_at_level width level))
-        SpellsBytes-once (SpellsRaw-once (width_at_level width level)))
+    SpellsBytes-once (SpellsRaw-once (width_at_level width level)))
 
 pub SpellsInts-once : (width : ℕ) → IsReadOnce (SpellsInts width)
-SpellsInts-once width = record { once = λ piece other entries others rest left s t same e.
-    (as_once (int_form width (length entries)) width).once piece other entries others rest left s
-    (subst (λ count. SpellsIntsAs (int_form width count) width other others) (sym same) t) same e }
+SpellsInts-once width = record {
+  once = λ piece other entries others rest left s t same e.
+      (as_once (int_form width (length entries)) width).once piece other entries others rest left s
+      (subst (λ count. SpellsIntsAs (int_form width count) width other others) (sym same) t) same e;
+}
 
 -- ---- an eighth
 
@@ -69,7 +70,7 @@ as_eighth bytes_form width is_width piece entries s = SpellsBytes-eighth.eighth 
 as_eighth bare_form width is_width piece entries s = (SpellsRaw-eighth width (some_width width is_width)).eighth piece entries s
 as_eighth tagged_form width is_width piece entries s = SpellsTagged-eighth width (highest_int_tag width) (SpellsAtIntLevel width)
     (λ level body narrow within at_level. either_eighth (eqb (width_at_level width level) 1) (width_at_level width level)
-        (narrow_positive width level is_width (omega arith)) body narrow at_level)
+    (narrow_positive width level is_width (omega arith)) body narrow at_level)
     piece entries s
 
 nothing_of : (b : Bool) (width : ℕ) (piece : List ℕ) → SpellsIntsAs (cond b bytes_form bare_form) width piece [] → piece ≡ []
@@ -79,8 +80,9 @@ nothing_of false width piece s = s.whole
 
 pub SpellsInts-eighth : (width : ℕ) → IsWidth width → TakesAnEighth (SpellsInts width)
 SpellsInts-eighth width is_width = record {
-    nothing = λ piece s. nothing_of (eqb width 1) width piece s;
-    eighth = λ piece entries s. as_eighth (int_form width (length entries)) width is_width piece entries s }
+  nothing = λ piece s. nothing_of (eqb width 1) width piece s;
+  eighth = λ piece entries s. as_eighth (int_form width (length entries)) width is_width piece entries s;
+}
 
 -- ---- refused
 
@@ -97,9 +99,11 @@ as_refuses tagged_form width = tagged_fault-refuses width (highest_int_tag width
     (λ level. either_refuses (eqb (width_at_level width level) 1) (width_at_level width level))
 
 pub ints_fault-refuses : (width : ℕ) → IsFaultOf (ints_fault width) (SpellsInts width)
-ints_fault-refuses width = record { refused = λ count input reason fault piece entries rest s size whole.
-    (as_refuses (int_form width count) width).refused count input reason fault piece entries rest
-    (subst (λ n. SpellsIntsAs (int_form width n) width piece entries) size s) size whole }
+ints_fault-refuses width = record {
+  refused = λ count input reason fault piece entries rest s size whole.
+      (as_refuses (int_form width count) width).refused count input reason fault piece entries rest
+      (subst (λ n. SpellsIntsAs (int_form width n) width piece entries) size s) size whole;
+}
 
 -- ---- read back
 
@@ -115,8 +119,8 @@ either_spells false width numbers bytes raw = raw
 narrow_text-spells : (width : ℕ) (numbers : List ℕ) → All (λ n. n < 256 ^ width) numbers → SpellsNarrow width (narrow_text width numbers) numbers
 narrow_text-spells width numbers h = either_spells (eqb width 1) width numbers
     (λ one. let small : All (λ n. n < 256 ^ 1) numbers = subst (λ w. All (λ n. n < 256 ^ w) numbers) (eqb-true width 1 one) h in
-        subst (λ ns. SpellsBytes (byte_text (map pos numbers)) ns) (pos_residues numbers)
-        (byte_text-spells.back false (map pos numbers) (All-map (IsNumber 1 false) pos numbers small)))
+    subst (λ ns. SpellsBytes (byte_text (map pos numbers)) ns) (pos_residues numbers)
+    (byte_text-spells.back false (map pos numbers) (All-map (IsNumber 1 false) pos numbers small)))
     (record { whole = refl; fit = h })
 
 -- a width above a narrower one is at least the next
@@ -157,39 +161,44 @@ width_at_level_between width narrow is_width is_narrow h =
     let level : ℕ = halvings width - halvings narrow in
     let order : halvings narrow ≤ halvings width = halvings_order narrow width is_narrow is_width h in
     let split : width ≡ narrow * 2 ^ level =
-        sym (halvings_exact width is_width) ∙ (ap (λ n. 2 ^ n) (omega arith) ∙ (pow-add 2 (halvings narrow) level
-            ∙ ap (λ n. n * 2 ^ level) (halvings_exact narrow is_narrow))) in
+    sym (halvings_exact width is_width) ∙ (ap (λ n. 2 ^ n) (omega arith) ∙ (pow-add 2 (halvings narrow) level
+    ∙ ap (λ n. n * 2 ^ level) (halvings_exact narrow is_narrow))) in
     ap (λ n. n / 2 ^ level) split ∙ mul-div_cancel narrow (pow_pos level)
 
 int_levels_hold : (width : ℕ) → IsWidth width → Holds width (highest_int_tag width) (SpellsAtIntLevel width) (int_level_for width) (text_at_int_level width)
 int_levels_hold width is_width = record {
-    low = λ bound. omega arith;
-    whole = λ numbers h. narrow_text-spells (width_at_level width 0) numbers (subst (λ w. All (λ n. n < 256 ^ w) numbers) (sym (div-one width)) h);
-    narrowed = λ bound numbers small h.
-        let fits = width_for_fits width bound is_width small in
-        let same : width_at_level width (int_level_for width bound) ≡ width_for bound = width_at_level_between width (width_for bound) is_width fits.0 fits.2 in
-        let below : bound < 256 ^ width_at_level width (int_level_for width bound) = subst (λ w. bound < 256 ^ w) (sym same) fits.1 in
-        narrow_text-spells (width_at_level width (int_level_for width bound)) numbers
-        (All-weaker (λ n. n ≤ bound) (λ n. n < 256 ^ width_at_level width (int_level_for width bound)) (λ n le. omega arith) numbers h) }
+  low = λ bound. omega arith;
+  whole = λ numbers h. narrow_text-spells (width_at_level width 0) numbers (subst (λ w. All (λ n. n < 256 ^ w) numbers) (sym (div-one width)) h);
+  narrowed = λ bound numbers small h.
+      let fits = width_for_fits width bound is_width small in
+      let same : width_at_level width (int_level_for width bound) ≡ width_for bound = width_at_level_between width (width_for bound) is_width fits.0 fits.2 in
+      let below : bound < 256 ^ width_at_level width (int_level_for width bound) = subst (λ w. bound < 256 ^ w) (sym same) fits.1 in
+      narrow_text-spells (width_at_level width (int_level_for width bound)) numbers
+      (All-weaker (λ n. n ≤ bound) (λ n. n < 256 ^ width_at_level width (int_level_for width bound)) (λ n le. omega arith) numbers h);
+}
 
 pub int_text-spells : (width : ℕ) → IsWidth width → IsReadBack width (SpellsInts width) (int_text width)
 unfolding int_text
-int_text-spells width is_width = record { back = λ signed entries h.
-    let residues : List ℕ = map (residue width) entries in
-    let P : IntForm → Type 0 = λ form. SpellsIntsAs form width (int_text_as form width entries) residues in
-    let count : ℕ = length entries in
-    let bare : Bool = eqb count 0 || (eqb width 2 && eqb count 1) in
-    let spelled : P (int_form width count) =
-        cond_both (eqb width 1) bytes_form (cond bare bare_form tagged_form) P
-        (λ one. subst (λ w. All (IsNumber w signed) entries → SpellsBytes (byte_text entries) (map (residue w) entries)) (sym (eqb-true width 1 one))
-            (byte_text-spells.back signed entries) h)
-        (λ wide. cond_both bare bare_form tagged_form P
-            (λ few. record { whole = refl;
-                fit = All-map (λ n. n < 256 ^ width) (residue width) entries (λ k d i. residue_below width signed (get_or entries k d) (h k d i)) })
-            (λ many. tagged_text-spells width (highest_int_tag width) (SpellsAtIntLevel width) (int_level_for width) (text_at_int_level width)
-                (int_levels_hold width is_width) signed entries (some_width width is_width)
-                (omega (arith, eqb-false count 0 (or_parts (eqb count 0) (eqb width 2 && eqb count 1) many).0)) h)) in
-    subst (λ n. SpellsIntsAs (int_form width n) width (int_text_as (int_form width count) width entries) residues) (sym (length-map entries (residue width))) spelled }
+int_text-spells width is_width = record {
+  back = λ signed entries h.
+      let residues : List ℕ = map (residue width) entries in
+      let P : IntForm → Type 0 = λ form. SpellsIntsAs form width (int_text_as form width entries) residues in
+      let count : ℕ = length entries in
+      let bare : Bool = eqb count 0 || (eqb width 2 && eqb count 1) in
+      let spelled : P (int_form width count) =
+      cond_both (eqb width 1) bytes_form (cond bare bare_form tagged_form) P
+      (λ one. subst (λ w. All (IsNumber w signed) entries → SpellsBytes (byte_text entries) (map (residue w) entries)) (sym (eqb-true width 1 one))
+      (byte_text-spells.back signed entries) h)
+      (λ wide. cond_both bare bare_form tagged_form P
+      (λ few. record {
+        whole = refl;
+        fit = All-map (λ n. n < 256 ^ width) (residue width) entries (λ k d i. residue_below width signed (get_or entries k d) (h k d i));
+      })
+      (λ many. tagged_text-spells width (highest_int_tag width) (SpellsAtIntLevel width) (int_level_for width) (text_at_int_level width)
+      (int_levels_hold width is_width) signed entries (some_width width is_width)
+      (omega (arith, eqb-false count 0 (or_parts (eqb count 0) (eqb width 2 && eqb count 1) many).0)) h)) in
+      subst (λ n. SpellsIntsAs (int_form width n) width (int_text_as (int_form width count) width entries) residues) (sym (length-map entries (residue width))) spelled;
+}
 
 -- ---- how long
 
@@ -202,8 +211,11 @@ narrow_text_at_most width numbers =
     (λ wide. inl (omega (arith, length-raw_text width numbers)))
 
 half_width : (width level : ℕ) → 1 ≤ level → 2 * width_at_level width level ≤ width
-half_width width level high = omega (arith, div-mul-le_self width (2 ^ level),
-    mul-le-mul_left (width / 2 ^ level) (pow-le-pow_right {n = 2} (omega arith) {i = 1} {j = level} high))
+half_width width level high = omega (
+  arith,
+  div-mul-le_self width (2 ^ level),
+  mul-le-mul_left (width / 2 ^ level) (pow-le-pow_right {n = 2} (omega arith) {i = 1} {j = level} high),
+)
 
 tagged_at_most : (width : ℕ) (entries : List ℤ) → 2 ≤ width → 1 ≤ length entries
     → length (tagged_text width (int_level_for width) (text_at_int_level width) entries) ≤ width * length entries + 1
@@ -218,33 +230,41 @@ tagged_at_most width entries wide some =
     (plain_text width (int_level_for width) (text_at_int_level width) entries)
     (λ text. length text ≤ width * count + 1)
     (λ shifted.
-        let tests = and_parts (ltb 5 count) (ltb (plain_level (int_level_for width) entries) level) shifted in
-        let many : 5 < count = ltb-true 5 count tests.0 in
-        let high : 1 ≤ level = omega (arith, ltb-true _ _ tests.1) in
-        let front : length (number_bytes width (residue width low) ++ text_at_int_level width level distances)
-            ≡ width + length (text_at_int_level width level distances) =
-            length-append (number_bytes width (residue width low)) (text_at_int_level width level distances)
-            ∙ ap (λ n. n + length (text_at_int_level width level distances)) (length-number_bytes width (residue width low)) in
-        let sizes : length distances ≡ count = length-map entries (λ e. unsigned_abs (e -ℤ low)) in
-        ⊎_elim
-        (λ raw. omega (arith, front, raw, ap (λ n. n * width_at_level width level) sizes, mul-le-mul_left count (half_width width level high),
-            mul-le-mul_right width many))
-        (λ bytes. omega (arith, front, bytes, sizes, mul-le-mul_left count wide, mul-le-mul_right width many))
-        (narrow_text_at_most (width_at_level width level) distances))
+    let tests = and_parts (ltb 5 count) (ltb (plain_level (int_level_for width) entries) level) shifted in
+    let many : 5 < count = ltb-true 5 count tests.0 in
+    let high : 1 ≤ level = omega (arith, ltb-true _ _ tests.1) in
+    let front : length (number_bytes width (residue width low) ++ text_at_int_level width level distances)
+    ≡ width + length (text_at_int_level width level distances) =
+    length-append (number_bytes width (residue width low)) (text_at_int_level width level distances)
+    ∙ ap (λ n. n + length (text_at_int_level width level distances)) (length-number_bytes width (residue width low)) in
+    let sizes : length distances ≡ count = length-map entries (λ e. unsigned_abs (e -ℤ low)) in
+    ⊎_elim
+    (λ raw. omega (
+      arith,
+      front,
+      raw,
+      ap (λ n. n * width_at_level width level) sizes,
+      mul-le-mul_left count (half_width width level high),
+      mul-le-mul_right width many,
+    ))
+    (λ bytes. omega (arith, front, bytes, sizes, mul-le-mul_left count wide, mul-le-mul_right width many))
+    (narrow_text_at_most (width_at_level width level) distances))
     (λ plain. ⊎_elim
-        (λ raw. omega (arith, raw, ap (λ n. n * plain_width) (length-map entries (residue width)), mul-le-mul_left count (div-le_self width (2 ^ plain_level (int_level_for width) entries))))
-        (λ bytes. omega (arith, bytes, length-map entries (residue width), mul-le-mul_left count wide))
-        (narrow_text_at_most plain_width (map (residue width) entries)))
+    (λ raw. omega (arith, raw, ap (λ n. n * plain_width) (length-map entries (residue width)), mul-le-mul_left count (div-le_self width (2 ^ plain_level (int_level_for width) entries))))
+    (λ bytes. omega (arith, bytes, length-map entries (residue width), mul-le-mul_left count wide))
+    (narrow_text_at_most plain_width (map (residue width) entries)))
 
 pub length-int_text : (width : ℕ) → IsWidth width → TakesAtMostOneMore width (int_text width)
 unfolding int_text
-length-int_text width is_width = record { at_most = λ signed entries h.
-    let count : ℕ = length entries in
-    let bare : Bool = eqb count 0 || (eqb width 2 && eqb count 1) in
-    let P : IntForm → Type 0 = λ form. length (int_text_as form width entries) ≤ width * count + 1 in
-    cond_both (eqb width 1) bytes_form (cond bare bare_form tagged_form) P
-    (λ one. omega (arith, byte_text_at_most entries, ap (λ w. w * count) (eqb-true width 1 one)))
-    (λ wide. cond_both bare bare_form tagged_form P
-        (λ few. omega (arith, length-raw_text width (map (residue width) entries), ap (λ n. n * width) (length-map entries (residue width))))
-        (λ many. tagged_at_most width entries (omega (arith, some_width width is_width, eqb-false width 1 wide))
-            (omega (arith, eqb-false count 0 (or_parts (eqb count 0) (eqb width 2 && eqb count 1) many).0)))) }
+length-int_text width is_width = record {
+  at_most = λ signed entries h.
+      let count : ℕ = length entries in
+      let bare : Bool = eqb count 0 || (eqb width 2 && eqb count 1) in
+      let P : IntForm → Type 0 = λ form. length (int_text_as form width entries) ≤ width * count + 1 in
+      cond_both (eqb width 1) bytes_form (cond bare bare_form tagged_form) P
+      (λ one. omega (arith, byte_text_at_most entries, ap (λ w. w * count) (eqb-true width 1 one)))
+      (λ wide. cond_both bare bare_form tagged_form P
+      (λ few. omega (arith, length-raw_text width (map (residue width) entries), ap (λ n. n * width) (length-map entries (residue width))))
+      (λ many. tagged_at_most width entries (omega (arith, some_width width is_width, eqb-false width 1 wide))
+      (omega (arith, eqb-false count 0 (or_parts (eqb count 0) (eqb width 2 && eqb count 1) many).0))));
+}
