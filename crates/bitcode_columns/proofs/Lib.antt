@@ -6,3 +6,4 @@ pub mod TaggedLemmas
 pub mod ByteLemmas
 pub mod IntLemmas
 pub mod ChunkLemmas
+pub mod UnalignedLemmas

@@ -1,9 +1,12 @@
 // The integers that columns are made of: as numbers, as residues and as bytes.
-ghost use Rattle.std.specs.Prelude.{◌≡◌, ℕ, ◌+◌, ◌-◌, ◌%◌, ◌^◌, ◌<◌, ℤ, ◌<ℤ◌, ◌↔◌, Bool, List, IsTrue};
+ghost use Rattle.std.specs.Prelude.{◌≡◌, ℕ, ◌+◌, ◌-◌, ◌*◌, ◌%◌, ◌^◌, ◌<◌, ℤ, ◌<ℤ◌, ◌↔◌, Bool, List, ◌++◌, length, take, drop, map, All, IsTrue, IsErr, IfOk, OnOk, IfErr, OnErr};
 ghost use Rattle.bitcode_columns.specs.IntColumn.{IsWidth};
-ghost use Rattle.bitcode_columns.specs.LittleEndian.{little_endian, number_bytes};
+ghost use Rattle.bitcode_columns.specs.LittleEndian.{little_endian, number_bytes, SpellsRaw};
 ghost use Rattle.bitcode_columns.specs.NumberRange.{least_number, greatest_number};
 ghost use Rattle.bitcode_columns.specs.Numbers.{IsNumber, residue, number_of};
+
+use crate::consume::consume_byte_arrays;
+use crate::error::{Error, Reason};
 
 mod signed;
 mod unsigned;
@@ -31,6 +34,24 @@ pub trait SizedUInt: Copy {
     /// The difference, modulo the count of values of the type.
     fn wrapping_sub(self, right: Self) -> Self
         ensures { value result ≡ (value self + (256 ^ width - value right)) % 256 ^ width };
+
+    /// Takes a number from the front of the input, its lowest byte first.
+    ///
+    /// Fewer bytes than the type has are `EOF`, and the input stays as it is.
+    fn read(input: &mut &[u8]) -> Result<Self, Error>
+        ensures refused { IsErr result ↔ (length input.old.now < width) }
+        ensures reason { IfErr result (λ e. e.reason ≡ Reason.Eof) }
+        ensures unchanged { OnErr result (input.new.now ≡ input.old.now) }
+        ensures taken { IfOk result (λ number. value number ≡ little_endian (take width input.old.now)) }
+        ensures rest { OnOk result (input.new.now ≡ drop width input.old.now) };
+
+    /// Appends the bytes of the number, the lowest first.
+    ///
+    /// Where no memory is to be had that is `out of memory`, and `out` stays as it is.
+    fn write(self, out: &mut Vec<u8>) -> Result<(), Error>
+        ensures written { OnOk result (out.new.items ≡ out.old.items ++ number_bytes width (value self)) }
+        ensures unchanged { OnErr result (out.new.items ≡ out.old.items) }
+        ensures reason { IfErr result (λ e. e.reason ≡ Reason.OutOfMemory) };
 }
 
 /// An integer that a column can have as entries.
@@ -75,6 +96,17 @@ pub trait Int: Copy {
     fn is_less(self, other: Self) -> bool
         ensures { IsTrue result ↔ number self <ℤ number other };
 
+    /// Takes so many numbers from the front of the input, as their bytes.
+    ///
+    /// Too few bytes are `EOF`, and the input stays as it is.
+    fn consume_unaligned<'a>(input: &mut &'a [u8], count: usize) -> Result<&'a [Self::Une], Error>
+        ensures refused { IsErr result ↔ (length input.old.now < count * width) }
+        ensures reason { IfErr result (λ e. e.reason ≡ Reason.Eof) }
+        ensures unchanged { OnErr result (input.new.now ≡ input.old.now) }
+        ensures size { IfOk result (λ entries. length entries.now ≡ count) }
+        ensures spelled { IfOk result (λ entries. SpellsRaw width (take (count * width) input.old.now) (map (λ e. little_endian (une_bytes e)) entries.now)) }
+        ensures rest { OnOk result (input.new.now ≡ drop (count * width) input.old.now) };
+
     ghost width_law: { IsWidth width };
 
     ghost unsigned_law: { Self.Unsigned.width ≡ width };
@@ -107,4 +139,41 @@ pub trait Byte: SizedInt {
         ensures { Self.number result ≡ number_of 1 Self.signed byte };
 
     ghost byte_law: { Self.width ≡ 1 };
+}
+
+// Each byte is below 256.
+fn are_bytes(_bytes: &[u8])
+    ensures { All (λ b. b < 256) _bytes.now }
+{}
+
+// Takes `count` arrays of `N` bytes, which are the bytes of numbers.
+#[tactic(auto, using(crate::proofs::UnalignedLemmas::first_chunks_spell))]
+fn consume_numbers<'a, const N: usize>(
+    input: &mut &'a [u8],
+    count: usize,
+) -> Result<&'a [[u8; N]], Error>
+    requires { 0 < N }
+    ensures refused { IsErr result ↔ (length input.old.now < count * N) }
+    ensures reason { IfErr result (λ e. e.reason ≡ Reason.Eof) }
+    ensures unchanged { OnErr result (input.new.now ≡ input.old.now) }
+    ensures size { IfOk result (λ entries. length entries.now ≡ count) }
+    ensures spelled { IfOk result (λ entries. SpellsRaw N (take (count * N) input.old.now) (map little_endian entries.now)) }
+    ensures rest { OnOk result (input.new.now ≡ drop (count * N) input.old.now) }
+{
+    are_bytes(input);
+    let arrays = consume_byte_arrays(input, count)?;
+    Ok(arrays)
+}
+
+// Takes an array of `N` bytes.
+fn consume_array<const N: usize>(input: &mut &[u8]) -> Result<[u8; N], Error>
+    requires { 0 < N }
+    ensures refused { IsErr result ↔ (length input.old.now < N) }
+    ensures reason { IfErr result (λ e. e.reason ≡ Reason.Eof) }
+    ensures unchanged { OnErr result (input.new.now ≡ input.old.now) }
+    ensures taken { IfOk result (λ bytes. bytes ≡ take N input.old.now) }
+    ensures rest { OnOk result (input.new.now ≡ drop N input.old.now) }
+{
+    let arrays = consume_byte_arrays::<N>(input, 1)?;
+    Ok(arrays[0])
 }

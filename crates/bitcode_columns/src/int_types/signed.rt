@@ -2,7 +2,8 @@
 ghost use Rattle.std.specs.Prelude.{◌-◌, ◌/◌, ◌^◌, pos, negsuc, true, refl};
 ghost use Rattle.std.proofs.Common.{inl, inr};
 
-use crate::int_types::{Byte, Int, SizedInt};
+use crate::error::Error;
+use crate::int_types::{Byte, Int, SizedInt, consume_numbers};
 
 impl Int for i8 {
     type Une = [u8; 1];
@@ -39,6 +40,10 @@ impl Int for i8 {
 
     fn is_less(self, other: i8) -> bool {
         self < other
+    }
+
+    fn consume_unaligned<'a>(input: &mut &'a [u8], count: usize) -> Result<&'a [[u8; 1]], Error> {
+        consume_numbers(input, count)
     }
 
     ghost width_law = { inl refl };
@@ -107,6 +112,10 @@ impl Int for i16 {
         self < other
     }
 
+    fn consume_unaligned<'a>(input: &mut &'a [u8], count: usize) -> Result<&'a [[u8; 2]], Error> {
+        consume_numbers(input, count)
+    }
+
     ghost width_law = { inr (inl refl) };
 
     ghost unsigned_law = { refl };
@@ -159,6 +168,10 @@ impl Int for i32 {
 
     fn is_less(self, other: i32) -> bool {
         self < other
+    }
+
+    fn consume_unaligned<'a>(input: &mut &'a [u8], count: usize) -> Result<&'a [[u8; 4]], Error> {
+        consume_numbers(input, count)
     }
 
     ghost width_law = { inr (inr (inl refl)) };

@@ -2,7 +2,9 @@
 ghost use Rattle.std.specs.Prelude.{◌-◌, ◌^◌, pos, false, refl};
 ghost use Rattle.std.proofs.Common.{inl, inr};
 
-use crate::int_types::{Byte, Int, SizedInt, SizedUInt};
+use crate::consume::consume_byte;
+use crate::error::Error;
+use crate::int_types::{Byte, Int, SizedInt, SizedUInt, consume_array, consume_numbers};
 
 impl SizedUInt for u8 {
     ghost width = { 1 };
@@ -23,6 +25,15 @@ impl SizedUInt for u8 {
 
     fn wrapping_sub(self, right: u8) -> u8 {
         u8::wrapping_sub(self, right)
+    }
+
+    fn read(input: &mut &[u8]) -> Result<u8, Error> {
+        consume_byte(input)
+    }
+
+    fn write(self, out: &mut Vec<u8>) -> Result<(), Error> {
+        out.push(self)?;
+        Ok(())
     }
 }
 
@@ -61,6 +72,10 @@ impl Int for u8 {
 
     fn is_less(self, other: u8) -> bool {
         self < other
+    }
+
+    fn consume_unaligned<'a>(input: &mut &'a [u8], count: usize) -> Result<&'a [[u8; 1]], Error> {
+        consume_numbers(input, count)
     }
 
     ghost width_law = { inl refl };
@@ -112,6 +127,17 @@ impl SizedUInt for u16 {
     fn wrapping_sub(self, right: u16) -> u16 {
         u16::wrapping_sub(self, right)
     }
+
+    fn read(input: &mut &[u8]) -> Result<u16, Error> {
+        let bytes = consume_array::<2>(input)?;
+        Ok(u16::from_le_bytes(bytes))
+    }
+
+    fn write(self, out: &mut Vec<u8>) -> Result<(), Error> {
+        let bytes = self.to_le_bytes();
+        out.extend_from_slice(&bytes)?;
+        Ok(())
+    }
 }
 
 impl Int for u16 {
@@ -151,6 +177,10 @@ impl Int for u16 {
         self < other
     }
 
+    fn consume_unaligned<'a>(input: &mut &'a [u8], count: usize) -> Result<&'a [[u8; 2]], Error> {
+        consume_numbers(input, count)
+    }
+
     ghost width_law = { inr (inl refl) };
 
     ghost unsigned_law = { refl };
@@ -187,6 +217,17 @@ impl SizedUInt for u32 {
 
     fn wrapping_sub(self, right: u32) -> u32 {
         u32::wrapping_sub(self, right)
+    }
+
+    fn read(input: &mut &[u8]) -> Result<u32, Error> {
+        let bytes = consume_array::<4>(input)?;
+        Ok(u32::from_le_bytes(bytes))
+    }
+
+    fn write(self, out: &mut Vec<u8>) -> Result<(), Error> {
+        let bytes = self.to_le_bytes();
+        out.extend_from_slice(&bytes)?;
+        Ok(())
     }
 }
 
@@ -227,6 +268,10 @@ impl Int for u32 {
         self < other
     }
 
+    fn consume_unaligned<'a>(input: &mut &'a [u8], count: usize) -> Result<&'a [[u8; 4]], Error> {
+        consume_numbers(input, count)
+    }
+
     ghost width_law = { inr (inr (inl refl)) };
 
     ghost unsigned_law = { refl };
@@ -242,4 +287,70 @@ impl SizedInt for u32 {
     ghost MAX = { 256 ^ 4 - 1 };
 
     ghost bounds_law = { (refl, refl) };
+}
+
+impl SizedUInt for u64 {
+    ghost width = { 8 };
+
+    ghost value = { λ n. n };
+
+    fn to_wide(self) -> u128 {
+        self as u128
+    }
+
+    fn from_wide(wide: u128) -> u64 {
+        (wide % 0x1_0000_0000_0000_0000) as u64
+    }
+
+    fn wrapping_add(self, right: u64) -> u64 {
+        u64::wrapping_add(self, right)
+    }
+
+    fn wrapping_sub(self, right: u64) -> u64 {
+        u64::wrapping_sub(self, right)
+    }
+
+    fn read(input: &mut &[u8]) -> Result<u64, Error> {
+        let bytes = consume_array::<8>(input)?;
+        Ok(u64::from_le_bytes(bytes))
+    }
+
+    fn write(self, out: &mut Vec<u8>) -> Result<(), Error> {
+        let bytes = self.to_le_bytes();
+        out.extend_from_slice(&bytes)?;
+        Ok(())
+    }
+}
+
+impl SizedUInt for u128 {
+    ghost width = { 16 };
+
+    ghost value = { λ n. n };
+
+    fn to_wide(self) -> u128 {
+        self
+    }
+
+    fn from_wide(wide: u128) -> u128 {
+        wide
+    }
+
+    fn wrapping_add(self, right: u128) -> u128 {
+        u128::wrapping_add(self, right)
+    }
+
+    fn wrapping_sub(self, right: u128) -> u128 {
+        u128::wrapping_sub(self, right)
+    }
+
+    fn read(input: &mut &[u8]) -> Result<u128, Error> {
+        let bytes = consume_array::<16>(input)?;
+        Ok(u128::from_le_bytes(bytes))
+    }
+
+    fn write(self, out: &mut Vec<u8>) -> Result<(), Error> {
+        let bytes = self.to_le_bytes();
+        out.extend_from_slice(&bytes)?;
+        Ok(())
+    }
 }
