@@ -3,3 +3,4 @@ pub mod TextColumn
 pub mod Columns
 pub mod Transposition
 pub mod Spelling
+pub mod Coding

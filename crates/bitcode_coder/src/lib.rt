@@ -1,2 +1,4 @@
 // Columns of data, and the coders of one column.
 #![tactic(auto)]
+
+pub mod coder;

@@ -1,0 +1,115 @@
+// The four traits that coders of columns and of types meet.
+ghost use Rattle.std.specs.Prelude.{◌≡◌, ◌≢◌, ℕ, ◌+◌, ◌<◌, ◌≤◌, Bool, List, [], ◌∷◌, ◌++◌, length, IsTrue, IsOk, IfOk, OnOk, IfErr, OnErr};
+ghost use Rattle.bitcode_columns.specs.Reading.{Reads, IsEndOf};
+ghost use Rattle.bitcode_shapes.specs.Datum.{Datum};
+ghost use Rattle.bitcode_shapes.specs.Shape.{Shape};
+ghost use Rattle.bitcode_coder.specs.Columns.{Columns, emptied};
+ghost use Rattle.bitcode_coder.specs.Spelling.{Spells, columns_text};
+ghost use Rattle.bitcode_coder.specs.Coding.{written_columns, BeginsWith, JoinsListing, PassesWithListing, SurelyPasses, IsWritingRefusal, IsReadingRefusal, TakesDatum};
+
+use bitcode_columns::error::{Error, Reason};
+use bitcode_shapes::shaped::{Made, Shaped};
+use std::alloc::Global;
+
+/// Columns that grow, value by value.
+///
+/// After a refusal only [`Buffer::clear`] may follow: it gives the columns back empty.
+pub trait Buffer: Drop {
+    // the columns so far
+    ghost columns: { Self → Columns };
+
+    // how many more values surely have their place
+    ghost room: { Self → ℕ };
+
+    // so many more values make a number of arrays pass, whatever they are
+    ghost surely_passes: { Self → ℕ → Type 0 };
+
+    /// Columns without entries. Takes no memory.
+    fn new(alloc: Global) -> Self
+        ensures { columns result ≡ emptied (columns result) };
+
+    /// Makes room for `n` more values.
+    ///
+    /// A refused growth is `out of memory`, and `length overflow` comes only where no `n` values can follow.
+    fn reserve(&mut self, n: usize) -> Result<(), Error>
+        ensures columns { columns self.new ≡ columns self.old }
+        ensures ok { OnOk result (n ≤ room self.new) }
+        ensures grows { room self.old ≤ room self.new }
+        ensures refused { IfErr result (λ e. IsWritingRefusal e.reason (surely_passes self.old n)) };
+
+    /// Writes the columns behind `out`, and leaves them empty.
+    ///
+    /// A refused growth is `out of memory`; `out` then begins with what it held.
+    fn collect_into(&mut self, out: &mut Vec<u8>) -> Result<(), Error>
+        ensures written { OnOk result (out.new.items ≡ out.old.items ++ columns_text (columns self.old)) }
+        ensures empty { OnOk result (columns self.new ≡ emptied (columns self.old)) }
+        ensures begins { BeginsWith out.old.items out.new.items }
+        ensures form { emptied (columns self.new) ≡ emptied (columns self.old) }
+        ensures refused { IfErr result (λ e. e.reason ≡ Reason.OutOfMemory) };
+
+    /// Drops all entries. Takes no memory.
+    fn clear(&mut self)
+        ensures { columns self.new ≡ emptied (columns self.old) };
+}
+
+/// Columns that values of `T` are written to.
+pub trait Encoder<T: Shaped>: Buffer {
+    /// Joins the columns of a value to those so far. Room for it was reserved.
+    ///
+    /// Want of memory inside the value is `out of memory`, and `length overflow` comes only where a number of
+    /// arrays times their size passes 18446744073709551615.
+    fn encode(&mut self, t: &T) -> Result<(), Error>
+        requires { 0 < Self.room self.old }
+        ensures joined { OnOk result (JoinsListing T.lists T.shape t.now (Self.columns self.old) (Self.columns self.new)) }
+        ensures room { OnOk result (Self.room self.old ≤ Self.room self.new + 1) }
+        ensures form { emptied (Self.columns self.new) ≡ emptied (Self.columns self.old) }
+        ensures refused { IfErr result (λ e. IsWritingRefusal e.reason (PassesWithListing T.lists T.shape t.now (Self.columns self.old))) };
+
+    // the columns are those of the type's shape
+    ghost of_shape: { (e : Self) → emptied (Self.columns e) ≡ written_columns T.shape [] };
+
+    ghost surely: { (e : Self) (n : ℕ) → Self.surely_passes e n → SurelyPasses T.shape (Self.columns e) n };
+}
+
+/// Data that are read from an input.
+///
+/// After a refusal only [`View::populate`] may follow.
+pub trait View<'a>: Drop {
+    ghost shape: { Shape };
+
+    // the data that are left to take
+    ghost held: { Self → List Datum };
+
+    // reading so many data from such an input takes no memory
+    ghost reads_free: { ℕ → List ℕ → Type 0 };
+
+    /// Holds nothing. Takes no memory.
+    fn new(alloc: Global) -> Self
+        ensures { held result ≡ [] };
+
+    /// Reads `k` data from the front of the input, all checks included.
+    ///
+    /// A refusal names one of the faults of the input, or `out of memory`.
+    fn populate(&mut self, input: &mut &'a [u8], k: usize) -> Result<(), Error>
+        ensures read { OnOk result (Reads (Spells shape) k input.old.now (held self.new) input.new.now) }
+        ensures refused { IfErr result (λ e. IsReadingRefusal shape e.reason k input.old.now) }
+        ensures rest { OnErr result (IsEndOf input.old.now input.new.now) }
+        ensures free { reads_free k input.old.now → IfErr result (λ e. e.reason ≢ Reason.OutOfMemory) };
+}
+
+/// Data that values of `T` are made of.
+pub trait Decoder<'a, T: Made>: View<'a> {
+    // making a value takes no memory
+    ghost makes_free: { Bool };
+
+    /// Makes a value of the next datum. One is left.
+    ///
+    /// `out of memory` is its only refusal.
+    fn decode(&mut self) -> Result<T, Error>
+        requires { 0 < length (Self.held self.old) }
+        ensures made { IfOk result (λ t. TakesDatum T.makes t (Self.held self.old) (Self.held self.new)) }
+        ensures refused { IfErr result (λ e. e.reason ≡ Reason.OutOfMemory) }
+        ensures free { IsTrue makes_free → IsOk result };
+
+    ghost same_shape: { Self.shape ≡ T.shape };
+}
