@@ -1,4 +1,5 @@
 pub mod Fast
+pub mod Lending
 pub mod Reasons
 pub mod LittleEndian
 pub mod Numbers

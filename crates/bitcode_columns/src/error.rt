@@ -95,7 +95,7 @@ impl fmt::Display for Error {
     ghost output = { λ e. Some (reason_text e.reason) };
 
     fn fmt<W: fmt::Write>(&self, f: &mut fmt::Formatter<W>) -> fmt::Result {
-        f.write_str(self.reason())
+        f.write_str(self.reason.text())
     }
 }
 

@@ -1,8 +1,10 @@
 // Lists with reserved room, and lists that are read from the front.
-#![tactic(auto, unfolding(crate::specs::Fast::fast_items, crate::specs::Fast::fast_room, crate::specs::Fast::slice_rest, crate::specs::Fast::cow_rest))]
+#![tactic(auto, unfolding(crate::specs::Fast::fast_items, crate::specs::Fast::fast_room, crate::specs::Fast::slice_rest, crate::specs::Fast::cow_rest, crate::specs::Lending::with_fast_items))]
 
 ghost use Rattle.std.specs.Prelude.{◌≡◌, ℕ, ◌+◌, ◌-◌, ◌<◌, ◌≤◌, List, [], ◌∷◌, ◌++◌, length, take, drop, vec_len, IsOk, IfOk, OnOk, IfErr, OnErr};
+ghost use Rattle.std.specs.Borrow.{sem};
 ghost use Rattle.bitcode_columns.specs.Fast.{fast_items, fast_room, slice_rest, held_items, cow_rest};
+ghost use Rattle.bitcode_columns.specs.Lending.{with_fast_items, LendsItems, EndsBehind};
 
 use crate::error::{Error, Reason};
 use std::alloc::Global;
@@ -42,6 +44,18 @@ impl<T: Copy> FastVec<T> {
         ensures { result.now ≡ fast_items self.now }
     {
         self.vec.as_slice()
+    }
+
+    /// The items, to be written.
+    pub fn as_mut_slice(&mut self) -> &mut [T]
+        ensures* writes_back { sem 𝓛 (LendsItems T.row self.entry result) }
+        ensures value { result.now ≡ fast_items self.old }
+        ensures items { (written : List T) → length written ≡ length (fast_items self.old)
+            → fast_items (with_fast_items self.old written) ≡ written }
+        ensures room { (written : List T)
+            → fast_room (with_fast_items self.old written) ≡ fast_room self.old }
+    {
+        self.vec.as_mut_slice()
     }
 
     /// Drops the items. Their places are room again.
@@ -269,7 +283,28 @@ impl<'a, T: Drop> CowSlice<'a, T> {
         ensures { cow_rest self.old ≡ result ∷ cow_rest self.new }
     {
         let next = self.held.items()[self.position];
-        self.position += 1;
+        self.advance(1);
         next
+    }
+
+    /// Takes the next `n` items.
+    pub fn chunk_unchecked(&mut self, n: usize) -> &[T]
+        requires { n ≤ length (cow_rest self.old) }
+        ensures* rest { sem 𝓛 (EndsBehind T.row self.entry n) }
+        ensures taken { result.now ≡ take n (cow_rest self.old) }
+    {
+        let start = self.position;
+        self.advance(n);
+        &from_position(self.held.items(), start)[..n]
+    }
+
+    fn advance(&mut self, n: usize)
+        requires { n ≤ length (cow_rest self.old) }
+        ensures position { self.new.position ≡ self.old.position + n }
+        ensures held { self.new.held ≡ self.old.held }
+    {
+        // Its length says that the position fits.
+        let _items = self.held.items();
+        self.position += n;
     }
 }
