@@ -10,6 +10,7 @@ pub mod BoolColumn
 pub mod ByteColumn
 pub mod VariantColumn
 pub mod IntColumn
+pub mod Narrowing
 pub mod Reading
 pub mod Laws
 pub mod Rows

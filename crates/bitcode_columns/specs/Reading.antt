@@ -1,5 +1,5 @@
 -- What a reader of a column does with its input, and which fault it names.
-use Rattle.std.specs.Prelude.{◌≡◌, ℕ, ◌*◌, ◌%◌, List, [], ◌∷◌, ◌++◌, length, drop, Option, Some, None, nat_lt, nat_le, ◌==◌, ◌⊎◌, if◌then◌else◌}
+use Rattle.std.specs.Prelude.{◌≡◌, ℕ, Bool, true, false, ◌||◌, ◌*◌, ◌%◌, List, [], ◌∷◌, ◌++◌, length, drop, Option, Some, None, nat_lt, nat_le, ◌==◌, ◌⊎◌, if◌then◌else◌}
 use Rattle.std.specs.Int.{div_ceil}
 use Rattle.bitcode_columns.specs.declared.error.Reason.{Reason}
 use Rattle.bitcode_columns.specs.declared.error.Reason.TheVariants.{Eof, InvalidPacking, OutOfMemory}
@@ -60,3 +60,19 @@ ints_fault width count input = ints_fault_as (int_form width count) width count 
 -- A refusal names the fault, and want of memory comes only where there is none.
 abbrev pub Names : Reason → Option Reason → Type 0
 Names reason fault = ((reason ≡ OutOfMemory) × (fault ≡ None)) ⊎ (fault ≡ Some reason)
+
+-- Entries that stand as they are in the input: their reader borrows them, and takes no memory.
+abbrev pub has_raw_tag : List ℕ → Bool
+has_raw_tag [] = false
+has_raw_tag (tag ∷ input) = tag == 0
+
+abbrev pub bytes_stand_raw : ℕ → List ℕ → Bool
+bytes_stand_raw count input = nat_le count 2 || has_raw_tag input
+
+abbrev pub ints_stand_raw_as : IntForm → ℕ → List ℕ → Bool
+ints_stand_raw_as bytes_form count input = bytes_stand_raw count input
+ints_stand_raw_as bare_form count input = true
+ints_stand_raw_as tagged_form count input = has_raw_tag input
+
+abbrev pub ints_stand_raw : ℕ → ℕ → List ℕ → Bool
+ints_stand_raw width count input = ints_stand_raw_as (int_form width count) count input

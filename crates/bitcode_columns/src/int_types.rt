@@ -1,5 +1,5 @@
 // The integers that columns are made of: as numbers, as residues and as bytes.
-ghost use Rattle.std.specs.Prelude.{◌≡◌, ℕ, ◌+◌, ◌-◌, ◌*◌, ◌%◌, ◌^◌, ◌<◌, ℤ, ◌<ℤ◌, ◌↔◌, Bool, List, ◌++◌, length, take, drop, map, All, IsTrue, IsErr, IfOk, OnOk, IfErr, OnErr};
+ghost use Rattle.std.specs.Prelude.{◌≡◌, ℕ, ◌+◌, ◌-◌, ◌*◌, ◌%◌, ◌^◌, ◌<◌, ℤ, int_lt, ◌↔◌, Bool, List, ◌++◌, length, take, drop, map, All, IsErr, IfOk, OnOk, IfErr, OnErr};
 ghost use Rattle.bitcode_columns.specs.IntColumn.{IsWidth};
 ghost use Rattle.bitcode_columns.specs.LittleEndian.{little_endian, number_bytes, SpellsRaw};
 ghost use Rattle.bitcode_columns.specs.NumberRange.{least_number, greatest_number};
@@ -75,6 +75,10 @@ pub trait Int: Copy {
     fn width() -> usize
         ensures { result ≡ width };
 
+    /// Whether the type has negative numbers.
+    fn is_signed() -> bool
+        ensures { result ≡ signed };
+
     /// The number of these bytes.
     fn from_unaligned(unaligned: Self::Une) -> Self
         ensures { number result ≡ number_of width signed (little_endian (une_bytes unaligned)) };
@@ -94,7 +98,7 @@ pub trait Int: Copy {
 
     /// Whether the number is less than the other.
     fn is_less(self, other: Self) -> bool
-        ensures { IsTrue result ↔ number self <ℤ number other };
+        ensures { result ≡ int_lt (number self) (number other) };
 
     /// Takes so many numbers from the front of the input, as their bytes.
     ///

@@ -6,4 +6,5 @@ pub mod error;
 pub mod fast;
 pub mod int_types;
 pub mod pack;
+pub mod pack_ints;
 pub mod refuse;

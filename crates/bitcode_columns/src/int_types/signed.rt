@@ -22,6 +22,10 @@ impl Int for i8 {
         1
     }
 
+    fn is_signed() -> bool {
+        true
+    }
+
     fn from_unaligned(unaligned: [u8; 1]) -> i8 {
         i8::from_le_bytes(unaligned)
     }
@@ -92,6 +96,10 @@ impl Int for i16 {
         2
     }
 
+    fn is_signed() -> bool {
+        true
+    }
+
     fn from_unaligned(unaligned: [u8; 2]) -> i16 {
         i16::from_le_bytes(unaligned)
     }
@@ -148,6 +156,10 @@ impl Int for i32 {
 
     fn width() -> usize {
         4
+    }
+
+    fn is_signed() -> bool {
+        true
     }
 
     fn from_unaligned(unaligned: [u8; 4]) -> i32 {

@@ -54,6 +54,10 @@ impl Int for u8 {
         1
     }
 
+    fn is_signed() -> bool {
+        false
+    }
+
     fn from_unaligned(unaligned: [u8; 1]) -> u8 {
         u8::from_le_bytes(unaligned)
     }
@@ -157,6 +161,10 @@ impl Int for u16 {
         2
     }
 
+    fn is_signed() -> bool {
+        false
+    }
+
     fn from_unaligned(unaligned: [u8; 2]) -> u16 {
         u16::from_le_bytes(unaligned)
     }
@@ -246,6 +254,10 @@ impl Int for u32 {
 
     fn width() -> usize {
         4
+    }
+
+    fn is_signed() -> bool {
+        false
     }
 
     fn from_unaligned(unaligned: [u8; 4]) -> u32 {

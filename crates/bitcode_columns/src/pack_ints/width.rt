@@ -1,0 +1,41 @@
+// The widths of narrow numbers, and the tags that say them.
+ghost use Rattle.std.specs.Prelude.{◌≡◌, ◌-◌, ◌*◌, ◌≤◌};
+ghost use Rattle.bitcode_columns.specs.IntColumn.{halvings, width_for};
+ghost use Rattle.bitcode_columns.specs.Narrowing.{plain_width, shifted_width};
+ghost use Rattle.bitcode_columns.specs.Numbers.{IsNumber};
+
+use crate::int_types::{Int, SizedUInt};
+
+// The least width, in bytes, that holds a number.
+pub(crate) fn width_for(number: u128) -> usize
+    ensures { result ≡ width_for number }
+{
+    match number {
+        0..0x100 => 1,
+        0x100..0x1_0000 => 2,
+        0x1_0000..0x1_0000_0000 => 4,
+        0x1_0000_0000..0x1_0000_0000_0000_0000 => 8,
+        _ => 16,
+    }
+}
+
+// How often a width can be halved.
+pub(crate) fn halvings(width: usize) -> u8
+    ensures value { result ≡ halvings width }
+    ensures few { result ≤ 4 }
+{
+    match width {
+        0..2 => 0,
+        2..4 => 1,
+        4..8 => 2,
+        8..16 => 3,
+        _ => 4,
+    }
+}
+
+// The tag of a column of one width whose narrow numbers have another.
+pub(crate) fn tag_for(width: usize, narrow: usize) -> u8
+    ensures { result ≡ 2 * (halvings width - halvings narrow) }
+{
+    2 * halvings(width).saturating_sub(halvings(narrow))
+}
