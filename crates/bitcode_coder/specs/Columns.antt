@@ -34,15 +34,12 @@ flat (one kind entries) = record { kind = kind; entries = entries } ∷ []
 flat (two first second) = flat first ++ flat second
 flat (arrays size count elements) = flat elements
 
--- each column of the first with that of the second behind it
+-- each column of the first with that of the second behind it; nothing, where the two are of different forms
 abbrev pub beside : Columns → Columns → Columns
-beside no_columns _ = no_columns
 beside (one kind entries) (one _ more) = one kind (entries ++ more)
-beside (one kind entries) _ = one kind entries
 beside (two first second) (two third fourth) = two (beside first third) (beside second fourth)
-beside (two first second) _ = two first second
 beside (arrays size count elements) (arrays _ more others) = arrays size (count + more) (beside elements others)
-beside (arrays size count elements) _ = arrays size count elements
+beside _ _ = no_columns
 
 -- the same columns, with no limit on lengths
 abbrev pub plain_kind : Kind → Kind
