@@ -55,7 +55,7 @@ base_for_above greatest h =
     cond_both (ltb greatest 6) Six _ (λ b. greatest < radix b) (λ e. ltb-true _ _ e) λ not_six.
     cond_both (ltb greatest 16) Sixteen Whole (λ b. greatest < radix b) (λ e. ltb-true _ _ e) λ not_sixteen. h
 
-some_digits : (base : Base) → (1 ≤ digits_in_byte base) × (digits_in_byte base ≤ 8) × (1 ≤ radix base)
+pub some_digits : (base : Base) → (1 ≤ digits_in_byte base) × (digits_in_byte base ≤ 8) × (1 ≤ radix base)
 some_digits Whole = omega arith
 some_digits Sixteen = omega arith
 some_digits Six = omega arith
@@ -70,7 +70,7 @@ digits_text_at base entries byte h =
     get_or-map-range_with_len (λ b. number_with_digits (radix base) (take (digits_in_byte base) (drop (b * digits_in_byte base) entries)))
     0 (div_ceil (length entries) (digits_in_byte base)) byte byte 0 h (omega arith)
 
-size-digits_text : (base : Base) (entries : List ℕ) → length (digits_text base entries) ≡ div_ceil (length entries) (digits_in_byte base)
+pub size-digits_text : (base : Base) (entries : List ℕ) → length (digits_text base entries) ≡ div_ceil (length entries) (digits_in_byte base)
 unfolding digits_text
 size-digits_text base entries =
     length-map-range_with_len (λ b. number_with_digits (radix base) (take (digits_in_byte base) (drop (b * digits_in_byte base) entries)))

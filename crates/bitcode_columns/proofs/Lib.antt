@@ -7,3 +7,6 @@ pub mod ByteLemmas
 pub mod IntLemmas
 pub mod ChunkLemmas
 pub mod UnalignedLemmas
+pub mod PackingLemmas
+pub mod ReadingLemmas
+pub mod BoolLemmas

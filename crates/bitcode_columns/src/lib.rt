@@ -2,6 +2,7 @@
 #![tactic(auto)]
 
 pub mod consume;
+mod digits;
 pub mod error;
 pub mod fast;
 pub mod int_types;

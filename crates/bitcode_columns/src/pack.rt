@@ -1,4 +1,14 @@
 // Bools and bytes, packed.
+ghost use Rattle.std.specs.Prelude.{◌≡◌, ℕ, ◌+◌, ◌<◌, ◌++◌, length, vec_len, vec_capacity, IsOk, OnOk, IfErr, OnErr};
+ghost use Rattle.bitcode_columns.specs.BoolColumn.{SpellsBools, bool_text};
+ghost use Rattle.bitcode_columns.specs.Digits.{radix, digits_in_byte};
+ghost use Rattle.bitcode_columns.specs.Fast.{cow_rest};
+ghost use Rattle.bitcode_columns.specs.Reading.{Reads, IsEndOf, Names, bools_fault};
+
+use crate::digits::{push_packed, unpack_digits};
+use crate::error::{Error, Reason};
+use crate::fast::CowSlice;
+use std::alloc::Global;
 
 /// How many values a packed byte's digits have.
 #[derive(Clone, Copy, PartialEq, Eq)]
@@ -9,4 +19,66 @@ pub enum Base {
     Four,
     Three,
     Two,
+}
+
+impl Base {
+    /// What a digit is below.
+    pub(crate) fn radix(self) -> u16
+        ensures { result ≡ radix self }
+    {
+        match self {
+            Base::Whole => 256,
+            Base::Sixteen => 16,
+            Base::Six => 6,
+            Base::Four => 4,
+            Base::Three => 3,
+            Base::Two => 2,
+        }
+    }
+
+    /// How many digits a byte has.
+    pub(crate) fn digits_in_byte(self) -> usize
+        ensures { result ≡ digits_in_byte self }
+    {
+        match self {
+            Base::Whole => 1,
+            Base::Sixteen => 2,
+            Base::Six => 3,
+            Base::Four => 4,
+            Base::Three => 5,
+            Base::Two => 8,
+        }
+    }
+}
+
+/// Appends a column of bools: eight of them in each byte, the first in its lowest bit.
+///
+/// A refused growth is `out of memory`, and `out` holds what it held.
+pub fn pack_bools(bools: &[bool], out: &mut Vec<u8>) -> Result<(), Error>
+    ensures written { OnOk result (out.new.items ≡ out.old.items ++ bool_text bools.now) }
+    ensures reason { IfErr result (λ e. e.reason ≡ Reason.OutOfMemory) }
+    ensures unchanged { OnErr result (out.new.items ≡ out.old.items) }
+    ensures full { OnErr result (vec_capacity out.old < vec_len out.old + length (bool_text bools.now)) }
+{
+    out.reserve(bools.len().div_ceil(Base::Two.digits_in_byte()))?;
+    push_packed(Base::Two, bools, out);
+    Ok(())
+}
+
+/// Reads a column of so many bools from the front of the input into `out`, in memory of its own.
+///
+/// Fewer bytes than they take are `EOF`, and a refused growth is `out of memory`.
+pub fn unpack_bools<'a>(
+    alloc: Global,
+    input: &mut &'a [u8],
+    count: usize,
+    out: &mut CowSlice<'a, bool>,
+) -> Result<(), Error>
+    ensures read { OnOk result (Reads SpellsBools count input.old.now (cow_rest out.new) input.new.now) }
+    ensures refused { IfErr result (λ e. Names e.reason (bools_fault count input.old.now)) }
+    ensures rest { OnErr result (IsEndOf input.old.now input.new.now) }
+    ensures empty { count ≡ 0 → IsOk result }
+{
+    out.set_owned(unpack_digits(alloc, Base::Two, input, count)?);
+    Ok(())
 }

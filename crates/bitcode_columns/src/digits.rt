@@ -1,0 +1,140 @@
+// Small entries as the digits of bytes.
+ghost use Rattle.std.specs.Prelude.{◌≡◌, ℕ, ◌+◌, ◌*◌, ◌/◌, ◌%◌, ◌^◌, ◌<◌, ◌≤◌, ◌++◌, length, map, vec_len, vec_capacity, All, IsOk, IfOk, IfErr, OnErr};
+ghost use Rattle.std.specs.List.{range_with_len};
+ghost use Rattle.std.specs.Int.{div_ceil};
+ghost use Rattle.bitcode_columns.specs.BoolColumn.{bool_number};
+ghost use Rattle.bitcode_columns.specs.Digits.{radix, digits_in_byte, digit, number_with_digits, SpellsDigits, digits_text};
+ghost use Rattle.bitcode_columns.specs.Reading.{Reads, IsEndOf, Names, digits_fault};
+
+use crate::consume::consume_bytes;
+use crate::error::Error;
+use crate::pack::Base;
+use std::alloc::{AllocError, Global};
+
+/// An entry that can stand as a digit of a byte.
+pub(crate) trait Digit: Copy {
+    // The entry as a number.
+    ghost digit_of: { Self → ℕ };
+
+    // What these numbers are below.
+    ghost limit: { ℕ };
+
+    fn to_digit(self) -> u8
+        ensures { result ≡ digit_of self };
+
+    fn from_digit(digit: u8) -> Self
+        requires { digit < limit }
+        ensures { digit_of result ≡ digit };
+}
+
+impl Digit for u8 {
+    ghost digit_of = { λ entry. entry };
+
+    ghost limit = { 256 };
+
+    fn to_digit(self) -> u8 {
+        self
+    }
+
+    fn from_digit(digit: u8) -> u8 {
+        digit
+    }
+}
+
+impl Digit for bool {
+    ghost digit_of = { bool_number };
+
+    ghost limit = { 2 };
+
+    fn to_digit(self) -> u8 {
+        u8::from(self)
+    }
+
+    fn from_digit(digit: u8) -> bool {
+        digit == 1
+    }
+}
+
+// The number with these digits, the lowest first.
+fn number_with_digits<T: Digit>(base: Base, digits: &[T]) -> u8
+    requires { number_with_digits (radix base) (map T.digit_of digits.now) < 256 }
+    ensures { result ≡ number_with_digits (radix base) (map T.digit_of digits.now) }
+{
+    let radix = base.radix();
+    let mut number: u16 = 0;
+    for place in (0..digits.len()).rev() {
+        number = u16::from(digits[place].to_digit()) + radix * number;
+    }
+    number as u8
+}
+
+/// Appends the entries, so many of them to a byte as the base has digits in it.
+pub(crate) fn push_packed<T: Digit>(base: Base, entries: &[T], out: &mut Vec<u8>)
+    requires room { vec_len out.old + div_ceil (length entries.now) (digits_in_byte base) ≤ vec_capacity out.old }
+    requires digits { All (λ entry. T.digit_of entry < radix base) entries.now }
+    ensures { out.new.items ≡ out.old.items ++ digits_text base (map T.digit_of entries.now) }
+{
+    let in_byte = base.digits_in_byte();
+    let mut rest = entries;
+    for _byte in 0..entries.len().div_ceil(in_byte) {
+        let (digits, others) = rest.split_at(in_byte.min(rest.len()));
+        out.push_reserved(number_with_digits(base, digits));
+        rest = others;
+    }
+}
+
+// Appends the lowest digits of a byte.
+fn push_digits_of<T: Digit>(base: Base, byte: u8, count: usize, out: &mut Vec<T>)
+    requires room { vec_len out.old + count ≤ vec_capacity out.old }
+    requires in_limit { radix base ≤ T.limit }
+    ensures items { map T.digit_of out.new.items ≡ map T.digit_of out.old.items ++ map (digit (radix base) byte) (range_with_len 0 count) }
+    ensures capacity { vec_capacity out.new ≡ vec_capacity out.old }
+{
+    let radix = base.radix();
+    let mut rest = u16::from(byte);
+    for _place in 0..count {
+        out.push_reserved(T::from_digit((rest % radix) as u8));
+        rest /= radix;
+    }
+}
+
+/// So many entries, from bytes that hold them and no more.
+pub(crate) fn unpacked<T: Digit>(
+    alloc: Global,
+    base: Base,
+    packed: &[u8],
+    count: usize,
+) -> Result<Vec<T>, AllocError>
+    requires size { length packed.now ≡ div_ceil count (digits_in_byte base) }
+    requires in_limit { radix base ≤ T.limit }
+    ensures size { IfOk result (λ entries. vec_len entries ≡ count) }
+    ensures spelled { IfOk result (λ entries. SpellsDigits base packed.now (map T.digit_of entries.items)) }
+    ensures empty { count ≡ 0 → IsOk result }
+{
+    let in_byte = base.digits_in_byte();
+    let mut entries = Vec::with_capacity(alloc, count)?;
+    for byte in packed {
+        let left = count - entries.len();
+        push_digits_of(base, *byte, in_byte.min(left), &mut entries);
+    }
+    Ok(entries)
+}
+
+/// Reads so many entries from the front of the input.
+///
+/// The bytes are claimed before memory is taken for the entries.
+pub(crate) fn unpack_digits<T: Digit>(
+    alloc: Global,
+    base: Base,
+    input: &mut &[u8],
+    count: usize,
+) -> Result<Vec<T>, Error>
+    requires { radix base ≤ T.limit }
+    ensures read { IfOk result (λ entries. Reads (λ bytes read. SpellsDigits base bytes (map T.digit_of read)) count input.old.now entries.items input.new.now) }
+    ensures refused { IfErr result (λ e. Names e.reason (digits_fault base count input.old.now)) }
+    ensures rest { OnErr result (IsEndOf input.old.now input.new.now) }
+    ensures empty { count ≡ 0 → IsOk result }
+{
+    let packed = consume_bytes(input, count.div_ceil(base.digits_in_byte()))?;
+    Ok(unpacked(alloc, base, packed, count)?)
+}
