@@ -1,15 +1,130 @@
 -- The laws of length columns.
-use Rattle.std.proofs.Common.{◌≡◌, ℕ, ◌*◌, ◌<◌, ◌≤◌, Option, List, [], length, All, sum}
+use Rattle.std.proofs.Common.{◌≡◌, ℕ, suc, ◌^◌, ◌<◌, ◌≤◌, min, Bool, true, false, eqb, leb, ltb, MatchBool, pos, Option, Some, None, List, [], ◌∷◌, ◌++◌, length, map, All, sum, refl, sym, ap, ◌∙◌, subst, inl, inr, ⊎_elim, arith}
+use Rattle.std.specs.Prelude.{filter, count_by}
+use Rattle.std.proofs.lemmas.Bool.{cond-true, cond-false, cases_Bool, eq-eqb, ne_eqb, leb-true, leb-false}
+use Rattle.std.proofs.lemmas.List.{map-id, append_assoc, length-append, nil_from_length}
+use Rattle.std.proofs.lemmas.List.Elements.{All-map, All-weaker, All-filter}
+use Rattle.std.proofs.lemmas.List.Sums.{length-filter, get_or-le-sum_by}
+use Rattle.std.proofs.lemmas.Simd.{map-map}
 use Rattle.bitcode_columns.specs.Laws.{IsReadOnce, TakesAnEighth}
+use Rattle.bitcode_columns.specs.Numbers.{IsNumber, residue}
+use Rattle.bitcode_columns.specs.ByteColumn.{SpellsBytes, byte_text}
+use Rattle.bitcode_columns.specs.IntColumn.{IsWidth, SpellsInts, int_text}
+use Rattle.bitcode_columns.proofs.ByteLemmas.{SpellsBytes-once, SpellsBytes-eighth, byte_text-spells}
+use Rattle.bitcode_columns.proofs.IntLemmas.{SpellsInts-once, SpellsInts-eighth, int_text-spells}
 use Rattle.bitcode_shapes.specs.Shape.{IsWithin}
-use Rattle.bitcode_coder.specs.LengthColumn.{SpellsLengths, length_text, length_limit}
+use Rattle.bitcode_coder.specs.LengthColumn.{SpellsLengths, KeepsCap, escape, lengths_from, first_large, other_large, length_text, length_limit}
+
+eight_bytes : IsWidth 8
+eight_bytes = inr (inr (inr (inl refl)))
+
+-- as many lengths as short bytes
+length-lengths_from : (bytes large : List ℕ) → length (lengths_from bytes large) ≡ length bytes
+length-lengths_from [] large = refl
+length-lengths_from (byte ∷ bytes) large =
+    ⊎_elim
+    (λ is. ap length (cond-true (eqb byte escape) (first_large large ∷ lengths_from bytes (other_large large)) (byte ∷ lengths_from bytes large) is)
+    ∙ ap suc (length-lengths_from bytes (other_large large)))
+    (λ not. ap length (cond-false (eqb byte escape) (first_large large ∷ lengths_from bytes (other_large large)) (byte ∷ lengths_from bytes large) not)
+    ∙ ap suc (length-lengths_from bytes large))
+    (cases_Bool (eqb byte escape))
+
+as_many : (limit : Option ℕ) (piece lengths : List ℕ) (s : SpellsLengths limit piece lengths) → length lengths ≡ length s.short
+as_many limit piece lengths s = ap length s.joined ∙ length-lengths_from s.short s.large
 
 pub SpellsLengths-once : (limit : Option ℕ) → IsReadOnce (SpellsLengths limit)
-SpellsLengths-once limit = ?
+SpellsLengths-once limit = record {
+  once = λ piece other entries others rest left s t same e.
+      let split : s.short_piece ++ (s.large_piece ++ rest) ≡ t.short_piece ++ (t.large_piece ++ left) =
+      sym (append_assoc s.short_piece s.large_piece rest)
+      ∙ (ap (λ front. front ++ rest) (sym s.whole) ∙ (e ∙ (ap (λ front. front ++ left) t.whole ∙ append_assoc t.short_piece t.large_piece left))) in
+      let short = SpellsBytes-once.once s.short_piece t.short_piece s.short t.short (s.large_piece ++ rest) (t.large_piece ++ left)
+      s.short_spelled t.short_spelled (sym (as_many limit piece entries s) ∙ (same ∙ as_many limit other others t)) split in
+      let large = (SpellsInts-once 8).once s.large_piece t.large_piece s.large t.large rest left s.large_spelled t.large_spelled
+      (s.large_count ∙ (ap (count_by (λ byte. eqb byte escape)) short.0 ∙ sym t.large_count)) short.1 in
+      (s.joined ∙ (ap (λ bytes. lengths_from bytes s.large) short.0 ∙ (ap (lengths_from t.short) large.0 ∙ sym t.joined)), large.1);
+}
 
 pub SpellsLengths-eighth : (limit : Option ℕ) → TakesAnEighth (SpellsLengths limit)
-SpellsLengths-eighth limit = ?
+SpellsLengths-eighth limit = record {
+  nothing = λ piece s.
+      let no_short : s.short ≡ [] = nil_from_length s.short (sym (as_many limit piece [] s)) in
+      let no_large : s.large ≡ [] = nil_from_length s.large (s.large_count ∙ ap (count_by (λ byte. eqb byte escape)) no_short) in
+      let short_none : s.short_piece ≡ [] = SpellsBytes-eighth.nothing s.short_piece (subst (SpellsBytes s.short_piece) no_short s.short_spelled) in
+      let large_none : s.large_piece ≡ [] = (SpellsInts-eighth 8 eight_bytes).nothing s.large_piece (subst (SpellsInts 8 s.large_piece) no_large s.large_spelled) in
+      s.whole ∙ (ap (λ front. front ++ s.large_piece) short_none ∙ large_none);
+  eighth = λ piece entries s.
+      omega (
+        arith,
+        as_many limit piece entries s,
+        SpellsBytes-eighth.eighth s.short_piece s.short s.short_spelled,
+        ap length s.whole,
+        length-append s.short_piece s.large_piece,
+      );
+}
+
+-- ---- written
+
+-- an escape stands exactly for a large length
+escape_is : (n : ℕ) → eqb (min n escape) escape ≡ leb escape n
+escape_is n =
+    ⊎_elim
+    (λ large. eq-eqb (min n escape) escape (omega (arith, leb-true escape n large)) ∙ sym large)
+    (λ small. ne_eqb (min n escape) escape (λ same. omega (arith, leb-false escape n small)) ∙ sym small)
+    (cases_Bool (leb escape n))
+
+escapes : (lengths : List ℕ) → length (filter (λ byte. eqb byte escape) (map (λ n. min n escape) lengths)) ≡ length (filter (λ n. leb escape n) lengths)
+escapes [] = refl
+escapes (n ∷ lengths) =
+    ⊎_elim
+    (λ large. let test : eqb (min n escape) escape ≡ true = escape_is n ∙ large in
+    rw (test, large, escapes lengths))
+    (λ small. let test : eqb (min n escape) escape ≡ false = escape_is n ∙ small in
+    rw (test, small, escapes lengths))
+    (cases_Bool (leb escape n))
+
+-- the lengths are found from what is written
+found : (lengths : List ℕ) → lengths_from (map (λ n. min n escape) lengths) (filter (λ n. leb escape n) lengths) ≡ lengths
+found [] = refl
+found (n ∷ lengths) =
+    ⊎_elim
+    (λ large. let test : eqb (min n escape) escape ≡ true = escape_is n ∙ large in
+    rw (test, large, found lengths))
+    (λ small. let test : eqb (min n escape) escape ≡ false = escape_is n ∙ small in
+    let same : min n escape ≡ n = omega (arith, leb-false escape n small) in
+    rw (test, small, found lengths, same))
+    (cases_Bool (leb escape n))
+
+either_way : (b : Bool) (P Q : Type 0) → P → Q → MatchBool b P Q
+either_way true P Q p q = p
+either_way false P Q p q = q
+
+keeps : (limit : Option ℕ) (lengths : List ℕ) → All (IsWithin limit) lengths → KeepsCap limit (map (λ n. min n escape) lengths) lengths
+keeps None lengths within = tt
+keeps (Some limit) lengths within =
+    either_way (ltb limit escape) (All (λ byte. byte ≤ limit) (map (λ n. min n escape) lengths)) (All (λ n. n ≤ limit) lengths)
+    (All-map (λ byte. byte ≤ limit) (λ n. min n escape) lengths (All-weaker (λ n. n ≤ limit) (λ n. min n escape ≤ limit) (λ n h. omega arith) lengths within))
+    within
 
 pub length_text-spells : (limit : Option ℕ) (lengths : List ℕ) → sum lengths < length_limit → All (IsWithin limit) lengths
     → SpellsLengths limit (length_text lengths) lengths
-length_text-spells limit lengths below within = ?
+unfolding length_text
+length_text-spells limit lengths below within = record {
+  short_piece = byte_text (map (λ n. pos (min n escape)) lengths);
+  large_piece = int_text 8 (map pos (filter (λ n. leb escape n) lengths));
+  short = map (λ n. min n escape) lengths;
+  large = filter (λ n. leb escape n) lengths;
+  whole = refl;
+  short_spelled = subst (SpellsBytes (byte_text (map (λ n. pos (min n escape)) lengths))) (map-map (residue 1) (λ n. pos (min n escape)) lengths)
+      (byte_text-spells.back false (map (λ n. pos (min n escape)) lengths)
+      (All-map (IsNumber 1 false) (λ n. pos (min n escape)) lengths (λ k d inside. omega arith)));
+  large_spelled = subst (SpellsInts 8 (int_text 8 (map pos (filter (λ n. leb escape n) lengths))))
+      (map-map (residue 8) pos (filter (λ n. leb escape n) lengths) ∙ map-id (filter (λ n. leb escape n) lengths))
+      ((int_text-spells 8 eight_bytes).back false (map pos (filter (λ n. leb escape n) lengths))
+      (All-map (IsNumber 8 false) pos (filter (λ n. leb escape n) lengths)
+      (All-filter (λ n. leb escape n) (λ n. n < 256 ^ 8) lengths (λ k d inside. omega (arith, get_or-le-sum_by (λ n. n) lengths k d inside)))));
+  large_count = sym (escapes lengths) ∙ length-filter (λ byte. eqb byte escape) (map (λ n. min n escape) lengths);
+  joined = sym (found lengths);
+  below_limit = below;
+  keeps_cap = keeps limit lengths within;
+}
