@@ -1,0 +1,78 @@
+// The coder of what has no column.
+ghost use Rattle.std.specs.Prelude.{◌≡◌, refl, true, replicate};
+ghost use Rattle.bitcode_shapes.specs.Datum.{unit};
+ghost use Rattle.bitcode_shapes.specs.Shape.{unit_shape};
+ghost use Rattle.bitcode_coder.specs.Columns.{no_columns};
+ghost use Rattle.bitcode_coder.specs.Coding.{endless_room};
+
+use bitcode_coder::coder::{Buffer, Decoder, Encoder, View};
+use bitcode_columns::error::Error;
+use std::alloc::Global;
+
+/// The encoder and the decoder of types that hold nothing, such as `()`.
+///
+/// Their values take no bytes. So a decoder only counts how many are left, and never refuses.
+#[derive(Drop)]
+pub struct EmptyCoder {
+    left: usize,
+}
+
+impl Buffer for EmptyCoder {
+    ghost columns = { λ e. no_columns };
+
+    ghost room = { λ e. endless_room };
+
+    ghost surely_passes = { λ e n. ⊥ };
+
+    fn new(_alloc: Global) -> Self {
+        EmptyCoder { left: 0 }
+    }
+
+    fn reserve(&mut self, _n: usize) -> Result<(), Error> {
+        Ok(())
+    }
+
+    fn collect_into(&mut self, _out: &mut Vec<u8>) -> Result<(), Error> {
+        Ok(())
+    }
+
+    fn clear(&mut self) {}
+}
+
+impl Encoder<()> for EmptyCoder {
+    fn encode(&mut self, _t: &()) -> Result<(), Error> {
+        Ok(())
+    }
+
+    ghost of_shape = { λ e. refl };
+
+    ghost surely = { λ e n h. absurd h };
+}
+
+impl<'a> View<'a> for EmptyCoder {
+    ghost shape = { unit_shape };
+
+    ghost held = { λ d. replicate d.left unit };
+
+    ghost reads_free = { λ k input. Unit {0} };
+
+    fn new(_alloc: Global) -> Self {
+        EmptyCoder { left: 0 }
+    }
+
+    fn populate(&mut self, _input: &mut &'a [u8], k: usize) -> Result<(), Error> {
+        self.left = k;
+        Ok(())
+    }
+}
+
+impl<'a> Decoder<'a, ()> for EmptyCoder {
+    ghost makes_free = { true };
+
+    fn decode(&mut self) -> Result<(), Error> {
+        self.left -= 1;
+        Ok(())
+    }
+
+    ghost same_shape = { refl };
+}

@@ -1,0 +1,4 @@
+// Coders of the parts of which types are made.
+#![tactic(auto)]
+
+pub mod empty;
