@@ -10,3 +10,4 @@ pub mod UnalignedLemmas
 pub mod PackingLemmas
 pub mod ReadingLemmas
 pub mod BoolLemmas
+pub mod BoundLemmas
