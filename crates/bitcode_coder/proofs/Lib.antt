@@ -2,4 +2,5 @@ pub mod LengthLemmas
 pub mod TextLemmas
 pub mod ColumnLemmas
 pub mod TranspositionLemmas
+pub mod DatumLemmas
 pub mod SpellingLemmas

@@ -1,5 +1,5 @@
 -- The columns of data: joined lists, the list of columns, limits left out.
-use Rattle.std.proofs.Common.{◌≡◌, ℕ, zero, suc, ◌+◌, ◌*◌, List, [], ◌∷◌, ◌++◌, map, filter, length, None, ◌==◌, refl, sym, ◌∙◌, ap, ap₂, subst, add_assoc, append_assoc, append-nil, length-append}
+use Rattle.std.proofs.Common.{◌≡◌, ℕ, zero, suc, ◌+◌, List, [], ◌∷◌, ◌++◌, map, filter, length, None, ◌==◌, refl, sym, ◌∙◌, ap, ap₂, subst, add_assoc, append_assoc, append-nil, length-append}
 use Rattle.std.specs.Prelude.{◌↔◌}
 use Rattle.std.proofs.lemmas.List.{map-append}
 use Rattle.std.proofs.lemmas.List.Elements.{filter-append}
