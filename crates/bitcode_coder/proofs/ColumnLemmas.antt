@@ -1,5 +1,5 @@
 -- The laws of a column of each kind.
-use Rattle.std.proofs.Common.{◌≡◌, ℕ, ◌+◌, ◌-◌, ◌*◌, ◌^◌, ◌<◌, ◌≤◌, Bool, true, false, eqb, Option, ℤ, pos, negsuc, List, [], ◌∷◌, ◌++◌, length, map, All, get_or, sum, refl, sym, ap, ◌∙◌, subst, arith}
+use Rattle.std.proofs.Common.{◌≡◌, ℕ, ◌-◌, ◌*◌, ◌^◌, ◌<◌, ◌≤◌, Bool, true, false, eqb, Option, ℤ, pos, negsuc, List, [], ◌∷◌, ◌++◌, length, map, All, get_or, sum, refl, sym, ap, ◌∙◌, subst, arith}
 use Rattle.std.specs.Prelude.{sum_by, IsUtf8}
 use Rattle.std.proofs.lemmas.Bool.{cond_both, eqb-true, eqb-false}
 use Rattle.std.proofs.lemmas.List.{length-map, map-id, nil_from_length}
