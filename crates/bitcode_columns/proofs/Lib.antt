@@ -11,3 +11,4 @@ pub mod PackingLemmas
 pub mod ReadingLemmas
 pub mod BoolLemmas
 pub mod BoundLemmas
+pub mod NarrowLemmas

@@ -8,10 +8,10 @@ use Rattle.std.proofs.lemmas.List.Elements.{All-nil, All-cons, All-map}
 use borrow.Author.Differences.{down}
 use Rattle.bitcode_columns.specs.Numbers.{IsNumber, residue, number_of, least, greatest}
 
-some_residues : (width : ℕ) → 1 ≤ 256 ^ width
+pub some_residues : (width : ℕ) → 1 ≤ 256 ^ width
 some_residues width = one-le-pow width 256 (omega arith)
 
-even_residues : (width : ℕ) → 1 ≤ width → (half : ℕ) × (256 ^ width ≡ 2 * half)
+pub even_residues : (width : ℕ) → 1 ≤ width → (half : ℕ) × (256 ^ width ≡ 2 * half)
 even_residues zero positive = absurd (omega arith)
 even_residues (suc width) positive = (256 ^ width * 128, omega (arith, pow-suc 256 width))
 

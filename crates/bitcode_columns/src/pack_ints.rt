@@ -7,6 +7,7 @@ use crate::pack_ints::bounds::bounds;
 
 mod bounds;
 mod width;
+mod write;
 
 /// The least and the greatest of the values; of none the greatest and the least of the type.
 ///

@@ -1,8 +1,7 @@
 // The widths of narrow numbers, and the tags that say them.
-ghost use Rattle.std.specs.Prelude.{◌≡◌, ◌-◌, ◌*◌, ◌≤◌};
+ghost use Rattle.std.specs.Prelude.{◌≡◌, ◌-◌, ◌*◌, ◌≤◌, ◌≤ℤ◌};
 ghost use Rattle.bitcode_columns.specs.IntColumn.{halvings, width_for};
 ghost use Rattle.bitcode_columns.specs.Narrowing.{plain_width, shifted_width};
-ghost use Rattle.bitcode_columns.specs.Numbers.{IsNumber};
 
 use crate::int_types::{Int, SizedUInt};
 
@@ -38,4 +37,26 @@ pub(crate) fn tag_for(width: usize, narrow: usize) -> u8
     ensures { result ≡ 2 * (halvings width - halvings narrow) }
 {
     2 * halvings(width).saturating_sub(halvings(narrow))
+}
+
+// The width of the entries as they stand, negative ones needing the whole.
+pub(crate) fn plain_width<T: Int>(least: T, greatest: T) -> usize
+    requires { T.number least ≤ℤ T.number greatest }
+    ensures { result ≡ plain_width T.width (T.number least) (T.number greatest) }
+{
+    let zero = T::from_unsigned(T::Unsigned::from_wide(0));
+    if least.is_less(zero) {
+        return T::width();
+    }
+    width_for(greatest.to_unsigned().to_wide())
+}
+
+// The width of the entries without the least one.
+pub(crate) fn shifted_width<T: Int>(least: T, greatest: T) -> usize
+    requires { T.number least ≤ℤ T.number greatest }
+    ensures { result ≡ shifted_width (T.number least) (T.number greatest) }
+{
+    let low = least.to_unsigned();
+    let high = greatest.to_unsigned();
+    width_for(high.wrapping_sub(low).to_wide())
 }
