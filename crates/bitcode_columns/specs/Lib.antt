@@ -14,3 +14,4 @@ pub mod Narrowing
 pub mod Reading
 pub mod Laws
 pub mod Rows
+pub mod AcceptedRows
