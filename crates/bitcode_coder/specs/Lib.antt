@@ -4,3 +4,4 @@ pub mod Columns
 pub mod Transposition
 pub mod Spelling
 pub mod Coding
+pub mod Rows

@@ -1,0 +1,60 @@
+-- Worked rows: what is written for lengths and for data of some shapes, computed from the definitions.
+use Rattle.std.specs.Prelude.{◌≡◌, ℕ, true, false, pos, negsuc, List, [], ◌∷◌, None, map, refl}
+use Rattle.bitcode_columns.specs.LittleEndian.{raw_text}
+use Rattle.bitcode_columns.specs.Digits.{digits_text}
+use Rattle.bitcode_columns.specs.Tagged.{tagged_text}
+use Rattle.bitcode_columns.specs.ByteColumn.{byte_text}
+use Rattle.bitcode_columns.specs.BoolColumn.{bool_text}
+use Rattle.bitcode_columns.specs.IntColumn.{int_text}
+use Rattle.bitcode_shapes.specs.Datum.{Datum, number, list, pair, data_of}
+use Rattle.bitcode_shapes.specs.Shape.{Shape, number_shape, seq_shape, array_shape, pair_shape, bool_shape, any_number}
+use Rattle.bitcode_coder.specs.LengthColumn.{length_text}
+use Rattle.bitcode_coder.specs.Transposition.{columns_of}
+use Rattle.bitcode_coder.specs.Spelling.{columns_text}
+
+abbrev text_of : Shape → Datum → List ℕ
+text_of shape d = columns_text (columns_of shape (d ∷ []))
+
+abbrev n : ℕ → Datum
+n value = number (pos value)
+
+abbrev minus_one : Datum
+minus_one = number (negsuc 0)
+
+abbrev byte_shape : Shape
+byte_shape = number_shape 1 false any_number
+
+abbrev bytes : List ℕ → Datum
+bytes values = list (data_of (map n values))
+
+-- 255 stands for the large length behind
+an_escape : length_text (1 ∷ 255 ∷ 2 ∷ []) ≡ 0 ∷ 1 ∷ 255 ∷ 2 ∷ 6 ∷ 255 ∷ []
+unfolding length_text int_text byte_text tagged_text digits_text raw_text
+an_escape = refl
+
+array_of_three : text_of (array_shape 3 byte_shape) (bytes (0 ∷ 1 ∷ 2 ∷ [])) ≡ 8 ∷ 21 ∷ []
+unfolding int_text byte_text tagged_text digits_text raw_text
+array_of_three = refl
+
+pair_of_longs : text_of (pair_shape (number_shape 8 false any_number) (number_shape 8 true any_number)) (pair (n 0) (n 1)) ≡ 6 ∷ 0 ∷ 6 ∷ 1 ∷ []
+unfolding int_text byte_text tagged_text digits_text raw_text
+pair_of_longs = refl
+
+bool_and_short : text_of (pair_shape bool_shape (number_shape 2 false any_number)) (pair (n 1) (n 7)) ≡ 1 ∷ 7 ∷ 0 ∷ []
+unfolding bool_text int_text byte_text tagged_text digits_text raw_text
+bool_and_short = refl
+
+seven_shorts : text_of (seq_shape None (number_shape 2 true any_number))
+    (list (data_of (n 0 ∷ minus_one ∷ n 0 ∷ minus_one ∷ n 0 ∷ minus_one ∷ n 0 ∷ []))) ≡ 7 ∷ 1 ∷ 255 ∷ 255 ∷ 10 ∷ 85 ∷ []
+unfolding length_text int_text byte_text tagged_text digits_text raw_text
+seven_shorts = refl
+
+five_shorts : text_of (seq_shape None (number_shape 2 true any_number)) (list (data_of (n 0 ∷ minus_one ∷ n 0 ∷ minus_one ∷ n 0 ∷ [])))
+    ≡ 5 ∷ 0 ∷ 0 ∷ 0 ∷ 255 ∷ 255 ∷ 0 ∷ 0 ∷ 255 ∷ 255 ∷ 0 ∷ 0 ∷ []
+unfolding length_text int_text byte_text tagged_text digits_text raw_text
+five_shorts = refl
+
+lists_of_bytes : text_of (seq_shape None (seq_shape None byte_shape)) (list (data_of (bytes [] ∷ bytes (1 ∷ 2 ∷ 3 ∷ []) ∷ [])))
+    ≡ 2 ∷ 0 ∷ 3 ∷ 6 ∷ 57 ∷ []
+unfolding length_text int_text byte_text tagged_text digits_text raw_text
+lists_of_bytes = refl
