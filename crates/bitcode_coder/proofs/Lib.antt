@@ -1,3 +1,4 @@
+pub mod CoderLemmas
 pub mod LengthLemmas
 pub mod TextLemmas
 pub mod ColumnLemmas

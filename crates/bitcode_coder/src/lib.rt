@@ -1,4 +1,5 @@
 // Columns of data, and the coders of one column.
 #![tactic(auto)]
 
+pub mod bool;
 pub mod coder;

@@ -1,0 +1,103 @@
+// The coders of a column of bools.
+#![tactic(auto, using(crate::proofs::CoderLemmas::truths_in, crate::proofs::CoderLemmas::bools_read, crate::proofs::CoderLemmas::bools_refused))]
+
+ghost use Rattle.std.specs.Prelude.{◌≡◌, ◌≢◌, ◌≤◌, ◌++◌, map, true, refl, IsTrue, IsOk, IfOk, OnOk, IfErr, OnErr};
+ghost use Rattle.bitcode_columns.specs.Fast.{fast_items, fast_room, cow_rest};
+ghost use Rattle.bitcode_columns.specs.Reading.{Reads, IsEndOf, Names, bools_fault};
+ghost use Rattle.bitcode_shapes.specs.Shape.{bool_shape};
+ghost use Rattle.bitcode_coder.specs.Columns.{bools, one};
+ghost use Rattle.bitcode_coder.specs.Spelling.{Spells, truth};
+ghost use Rattle.bitcode_coder.specs.Coding.{IsReadingRefusal};
+
+use crate::coder::{Buffer, Decoder, Encoder, View};
+use bitcode_columns::error::{Error, Reason};
+use bitcode_columns::fast::{CowSlice, FastVec, PushUnchecked};
+use bitcode_columns::pack::{pack_bools, unpack_bools};
+use std::alloc::Global;
+
+/// The column that bools are written to.
+#[derive(Drop)]
+pub struct BoolEncoder {
+    values: FastVec<bool>,
+}
+
+impl Buffer for BoolEncoder {
+    ghost columns = { λ e. one bools (map truth (fast_items e.values)) };
+
+    ghost room = { λ e. fast_room e.values };
+
+    ghost surely_passes = { λ e n. ⊥ };
+
+    fn new(alloc: Global) -> Self {
+        BoolEncoder {
+            values: FastVec::new(alloc),
+        }
+    }
+
+    fn reserve(&mut self, n: usize) -> Result<(), Error> {
+        self.values.reserve(n)
+    }
+
+    fn collect_into(&mut self, out: &mut Vec<u8>) -> Result<(), Error> {
+        pack_bools(self.values.as_slice(), out)?;
+        self.values.clear();
+        Ok(())
+    }
+
+    fn clear(&mut self) {
+        self.values.clear();
+    }
+}
+
+impl Encoder<bool> for BoolEncoder {
+    fn encode(&mut self, t: &bool) -> Result<(), Error> {
+        self.values.push_unchecked(*t);
+        Ok(())
+    }
+
+    ghost of_shape = { λ e. refl };
+
+    ghost surely = { λ e n never. absurd never };
+}
+
+/// The column that bools are read from.
+#[derive(Drop)]
+pub struct BoolDecoder<'a> {
+    alloc: Global,
+    values: CowSlice<'a, bool>,
+}
+
+impl<'a> View<'a> for BoolDecoder<'a> {
+    ghost shape = { bool_shape };
+
+    ghost held = { λ d. map truth (cow_rest d.values) };
+
+    ghost reads_free = { λ count input. count ≡ 0 };
+
+    fn new(alloc: Global) -> Self {
+        BoolDecoder {
+            alloc,
+            values: CowSlice::new(alloc),
+        }
+    }
+
+    fn populate(&mut self, input: &mut &'a [u8], k: usize) -> Result<(), Error>
+        ensures read { OnOk result (Reads (Spells bool_shape) k input.old.now (map truth (cow_rest self.new.values)) input.new.now) }
+        ensures refused { IfErr result (λ e. IsReadingRefusal bool_shape e.reason k input.old.now) }
+        ensures rest { OnErr result (IsEndOf input.old.now input.new.now) }
+        ensures free { k ≡ 0 → IfErr result (λ e. e.reason ≢ Reason.OutOfMemory) }
+        ensures exact { IfErr result (λ e. Names e.reason (bools_fault k input.old.now)) }
+    {
+        unpack_bools(self.alloc, input, k, &mut self.values)
+    }
+}
+
+impl<'a> Decoder<'a, bool> for BoolDecoder<'a> {
+    ghost makes_free = { true };
+
+    fn decode(&mut self) -> Result<bool, Error> {
+        Ok(self.values.next_unchecked())
+    }
+
+    ghost same_shape = { refl };
+}
