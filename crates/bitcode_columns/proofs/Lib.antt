@@ -12,3 +12,4 @@ pub mod ReadingLemmas
 pub mod BoolLemmas
 pub mod BoundLemmas
 pub mod NarrowLemmas
+pub mod ByteReadingLemmas

@@ -1,5 +1,5 @@
 -- Which refusal a reader names, and what it leaves of its input.
-use Rattle.std.proofs.Common.{◌≡◌, ℕ, ◌<◌, ◌≤◌, List, [], ◌++◌, length, Some, None, inl, inr, sym, ap, ◌∙◌}
+use Rattle.std.proofs.Common.{◌≡◌, ℕ, ◌<◌, ◌≤◌, List, [], ◌∷◌, ◌++◌, length, Result, Ok, Err, OnErr, Some, None, inl, inr, sym, ap, ◌∙◌}
 use Rattle.std.proofs.lemmas.Bool.{cond-true, cond-false, lt-ltb, le-ltb}
 use Rattle.bitcode_columns.specs.declared.error.Reason.{Reason}
 use Rattle.bitcode_columns.specs.declared.error.Reason.TheVariants.{Eof, OutOfMemory}
@@ -24,3 +24,10 @@ IsEndOf-same old new same = record { taken = []; whole = sym same }
 
 pub IsEndOf-taken : (taken old new : List ℕ) → old ≡ taken ++ new → IsEndOf old new
 IsEndOf-taken taken old new whole = record { taken = taken; whole = whole }
+
+pub IsEndOf-byte : (byte : ℕ) (old new : List ℕ) → old ≡ byte ∷ new → IsEndOf old new
+IsEndOf-byte byte old new whole = record { taken = byte ∷ []; whole = whole }
+
+pub OnErr-always : {T E Q : Type 0} (r : Result T E) → Q → OnErr r Q
+OnErr-always (Ok x) q = tt
+OnErr-always (Err e) q = q

@@ -15,3 +15,4 @@ pub mod Reading
 pub mod Laws
 pub mod Rows
 pub mod AcceptedRows
+pub mod ByteForm

@@ -1,6 +1,7 @@
 // Bools and bytes, packed.
 ghost use Rattle.std.specs.Prelude.{◌≡◌, ℕ, ◌+◌, ◌<◌, ◌++◌, length, vec_len, vec_capacity, IsOk, OnOk, IfErr, OnErr};
 ghost use Rattle.bitcode_columns.specs.BoolColumn.{SpellsBools, bool_text};
+ghost use Rattle.bitcode_columns.specs.ByteColumn.{base_at_level};
 ghost use Rattle.bitcode_columns.specs.Digits.{radix, digits_in_byte};
 ghost use Rattle.bitcode_columns.specs.Fast.{cow_rest};
 ghost use Rattle.bitcode_columns.specs.Reading.{Reads, IsEndOf, Names, bools_fault};
@@ -8,7 +9,10 @@ ghost use Rattle.bitcode_columns.specs.Reading.{Reads, IsEndOf, Names, bools_fau
 use crate::digits::{push_packed, unpack_digits};
 use crate::error::{Error, Reason};
 use crate::fast::CowSlice;
+pub use crate::pack::bytes::unpack_bytes;
 use std::alloc::Global;
+
+mod bytes;
 
 /// How many values a packed byte's digits have.
 #[derive(Clone, Copy, PartialEq, Eq)]
@@ -33,6 +37,20 @@ impl Base {
             Base::Four => 4,
             Base::Three => 3,
             Base::Two => 2,
+        }
+    }
+
+    /// The base of a level: a higher level has smaller digits.
+    fn at_level(level: u8) -> Base
+        ensures { result ≡ base_at_level level }
+    {
+        match level {
+            0 => Base::Whole,
+            1 => Base::Sixteen,
+            2 => Base::Six,
+            3 => Base::Four,
+            4 => Base::Three,
+            _ => Base::Two,
         }
     }
 

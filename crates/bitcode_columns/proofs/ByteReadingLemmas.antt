@@ -1,0 +1,141 @@
+-- A byte column is read by its form.
+use Rattle.std.proofs.Common.{◌≡◌, ◌≢◌, ℕ, ◌+◌, ◌*◌, ◌/◌, ◌%◌, ◌<◌, ◌≤◌, true, false, List, [], ◌∷◌, ◌++◌, length, map, drop, get_or, All, Option, IsTrue, inr, refl, sym, ap, ◌∙◌, arith, leb, append_assoc, length-append}
+use Rattle.std.proofs.lemmas.Bool.{cond-false, lt-leb, le-ltb}
+use Rattle.std.proofs.lemmas.Bool.Decides.{nat_tests}
+use Rattle.std.proofs.lemmas.List.{drop_at, nil_from_length, length-map, map-id}
+use Rattle.std.proofs.lemmas.List.Elements.{All-head, All-tail}
+use Rattle.std.proofs.Math.Nat.{pow-zero, div-one, mod-eq_of_lt}
+use Rattle.bitcode_columns.specs.declared.error.Reason.{Reason}
+use Rattle.bitcode_columns.specs.declared.pack.Base.{Base}
+use Rattle.bitcode_columns.specs.declared.pack.Base.TheVariants.{Whole, Sixteen, Six, Four, Three, Two}
+use Rattle.bitcode_columns.specs.ByteColumn.{base_at_level, SpellsBytes}
+use Rattle.bitcode_columns.specs.ByteForm.{TellsForm}
+use Rattle.bitcode_columns.specs.Digits.{radix, SpellsDigits}
+use Rattle.bitcode_columns.specs.LittleEndian.{little_endian}
+use Rattle.bitcode_columns.specs.Reading.{Reads, IsEndOf, digits_fault, bytes_fault, bytes_stand_raw}
+use Rattle.bitcode_columns.specs.Tagged.{level_of_tag}
+
+pub radix_at_most : (base : Base) → radix base ≤ 256
+radix_at_most Whole = omega arith
+radix_at_most Sixteen = omega arith
+radix_at_most Six = omega arith
+radix_at_most Four = omega arith
+radix_at_most Three = omega arith
+radix_at_most Two = omega arith
+
+pub TellsForm-plain : (tag : ℕ) (input rest : List ℕ) (base : Base) → tag ≤ 10 → tag % 2 ≢ 1 → input ≡ tag ∷ rest
+    → base ≡ base_at_level ((tag + 1) / 2) → TellsForm input base 0 rest
+TellsForm-plain tag input rest base known even whole is = record {
+  tag = tag;
+  least_bytes = [];
+  known = known;
+  least_size = omega arith;
+  whole = whole;
+  base_is = is;
+  least_is = refl;
+}
+
+pub TellsForm-shifted : (tag least : ℕ) (input behind rest : List ℕ) (base : Base) → tag ≤ 10 → tag % 2 ≡ 1 → input ≡ tag ∷ behind → behind ≡ least ∷ rest
+    → base ≡ base_at_level ((tag + 1) / 2) → TellsForm input base least rest
+TellsForm-shifted tag least input behind rest base known odd whole later is = record {
+  tag = tag;
+  least_bytes = least ∷ [];
+  known = known;
+  least_size = omega arith;
+  whole = whole ∙ ap (λ xs. tag ∷ xs) later;
+  base_is = is;
+  least_is = omega arith;
+}
+
+-- whole bytes spell themselves
+pub SpellsDigits-whole : (bytes : List ℕ) → All (λ b. b < 256) bytes → SpellsDigits Whole bytes bytes
+SpellsDigits-whole bytes h = record {
+  size = omega arith;
+  each = λ i inside.
+      let place : i / 1 ≡ i = omega arith in
+      let first : i % 1 ≡ 0 = omega arith in
+      let below : get_or bytes i 0 < 256 = h i 0 inside in
+      rw (place, first, pow-zero, div-one) (sym (mod-eq_of_lt below));
+}
+
+pub base_at_level-whole : (level : ℕ) → base_at_level level ≡ Whole → level ≡ 0
+base_at_level-whole level is = grind (arith, nat_tests)
+
+-- no bytes are added to
+pub add_none : (bytes : List ℕ) (least : ℕ) → least ≡ 0 → All (λ b. b < 256) bytes → map (λ n. (n + least) % 256) bytes ≡ bytes
+add_none [] least none h = refl
+add_none (b ∷ bytes) least none h =
+    let below : b < 256 = All-head (λ x. x < 256) b bytes h in
+    let here : (b + least) % 256 ≡ b = omega arith in
+    rw (here, add_none bytes least none (All-tail (λ x. x < 256) b bytes h))
+
+module _ (count : ℕ) (input rest : List ℕ) (base : Base) (least : ℕ) (many : 2 < count) (form : TellsForm input base least rest) where
+  pub fault_behind_form : bytes_fault count input ≡ digits_fault base count rest
+  fault_behind_form =
+      let narrow : ℕ → List ℕ → Option Reason = λ level. digits_fault (base_at_level level) count in
+      let tail = form.least_bytes ++ rest in
+      let taken : drop (1 * (form.tag % 2)) tail ≡ rest = drop_at form.least_bytes rest (1 * (form.tag % 2)) form.least_size in
+      let enough : 1 * (form.tag % 2) ≤ length tail = omega (arith, length-append form.least_bytes rest, form.least_size) in
+      ap (bytes_fault count) form.whole
+      ∙ cond-false _ _ _ (lt-leb count 2 many)
+      ∙ cond-false _ _ _ (le-ltb 10 form.tag form.known)
+      ∙ cond-false _ _ _ (le-ltb (length tail) (1 * (form.tag % 2)) enough)
+      ∙ ap (narrow (level_of_tag form.tag)) taken
+      ∙ ap (λ b. digits_fault b count rest) (sym form.base_is)
+
+  pub end_behind_form : (new : List ℕ) → IsEndOf rest new → IsEndOf input new
+  end_behind_form new e = record {
+    taken = form.tag ∷ (form.least_bytes ++ e.taken);
+    whole = form.whole ∙ ap (λ xs. form.tag ∷ xs) (ap (λ xs. form.least_bytes ++ xs) e.whole ∙ sym (append_assoc form.least_bytes e.taken new));
+  }
+
+  pub raw_behind_form : IsTrue (bytes_stand_raw count input) → base ≡ Whole
+  raw_behind_form raw =
+      let is_raw : bytes_stand_raw count (form.tag ∷ (form.least_bytes ++ rest)) ≡ true = sym (ap (bytes_stand_raw count) form.whole) ∙ raw in
+      let many_is : leb count 2 ≡ false = lt-leb count 2 many in
+      let tag_is : form.tag ≡ 0 = grind (arith, nat_tests) in
+      form.base_is ∙ ap (λ tag. base_at_level (level_of_tag tag)) tag_is
+
+  pub whole_least : base ≡ Whole → least ≡ 0
+  whole_least is =
+      let level_is : (form.tag + 1) / 2 ≡ 0 = base_at_level-whole (level_of_tag form.tag) (sym form.base_is ∙ is) in
+      let tag_is : form.tag ≡ 0 = omega arith in
+      let none : form.least_bytes ≡ [] = nil_from_length form.least_bytes (form.least_size ∙ ap (λ tag. 1 * (tag % 2)) tag_is) in
+      form.least_is ∙ ap little_endian none
+
+  pub read_behind_form : (entries numbers new : List ℕ) → Reads (SpellsDigits base) count rest numbers new → entries ≡ map (λ n. (n + least) % 256) numbers
+      → Reads SpellsBytes count input entries new
+  read_behind_form entries numbers new read is =
+      let size : length entries ≡ count = ap length is ∙ length-map numbers (λ n. (n + least) % 256) ∙ read.size in
+      record {
+        size = size;
+        piece = form.tag ∷ (form.least_bytes ++ read.piece);
+        whole = form.whole ∙ ap (λ xs. form.tag ∷ xs) (ap (λ xs. form.least_bytes ++ xs) read.whole ∙ sym (append_assoc form.least_bytes read.piece new));
+        spelled = inr ((
+          omega arith,
+          record {
+            tag = form.tag;
+            least_bytes = form.least_bytes;
+            body = read.piece;
+            narrow = numbers;
+            known = form.known;
+            least_size = form.least_size;
+            whole = refl;
+            narrowed = rw form.base_is at read.spelled;
+            widened = is ∙ ap (λ low. map (λ n. (n + low) % 256) numbers) form.least_is;
+          },
+        ));
+      }
+
+  pub whole_behind_form : (bytes new : List ℕ) → base ≡ Whole → All (λ b. b < 256) bytes → length bytes ≡ count → rest ≡ bytes ++ new
+      → Reads SpellsBytes count input bytes new
+  whole_behind_form bytes new is h size whole =
+      let spelled : SpellsDigits base bytes bytes = rw is (SpellsDigits-whole bytes h) in
+      read_behind_form bytes bytes new (record { size = size; piece = bytes; whole = whole; spelled = spelled }) (sym (add_none bytes least (whole_least is) h))
+
+-- entries that are their own digits
+pub Reads-plain : {base : Base} {count : ℕ} {old entries new : List ℕ} → Reads (λ bytes read. SpellsDigits base bytes (map (λ n. n) read)) count old entries new
+    → Reads (SpellsDigits base) count old entries new
+Reads-plain {base} {count} {old} {entries} {new} read =
+    let spelled : SpellsDigits base read.piece entries = rw map-id at read.spelled in
+    record { size = read.size; piece = read.piece; whole = read.whole; spelled = spelled }
