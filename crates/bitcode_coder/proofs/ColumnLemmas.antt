@@ -16,6 +16,7 @@ use Rattle.bitcode_columns.specs.VariantColumn.{SpellsVariants, variant_text}
 use Rattle.bitcode_columns.proofs.ListLemmas.{append_split, map_further}
 use Rattle.bitcode_columns.proofs.DigitLemmas.{SpellsDigits-once, SpellsDigits-eighth, digits_text-spells, base_for_above}
 use Rattle.bitcode_columns.proofs.NumberLemmas.{number_of-residue, residue_below}
+use Rattle.bitcode_columns.proofs.BoolLemmas.{SpellsBools-once, bool_text-spells}
 use Rattle.bitcode_columns.proofs.IntLemmas.{SpellsInts-once, SpellsInts-eighth, int_text-spells}
 use Rattle.bitcode_shapes.specs.Datum.{Datum, number, text, number_in, natural_in, text_in}
 use Rattle.bitcode_shapes.specs.Shape.{IsNumberWidth, IsNaturalBelow, IsNumberOf, IsTextOf, IsWithin, IsInWidth, any_number}
@@ -58,29 +59,6 @@ as_spells datum Spells entry bytes ds same s = record {
 }
 
 -- ---- bools
-
-bools_found : (bs : List Bool) → map (λ n. eqb n 1) (map bool_number bs) ≡ bs
-bools_found [] = refl
-bools_found (true ∷ bs) = ap (λ later. true ∷ later) (bools_found bs)
-bools_found (false ∷ bs) = ap (λ later. false ∷ later) (bools_found bs)
-
-pub SpellsBools-once : IsReadOnce SpellsBools
-SpellsBools-once = record {
-  once = λ piece other entries others rest left s t same e.
-      let counts : length (map bool_number entries) ≡ length (map bool_number others) =
-      omega (arith, length-map entries bool_number, length-map others bool_number) in
-      let parts = (SpellsDigits-once Two).once piece other (map bool_number entries) (map bool_number others) rest left s t counts e in
-      (sym (bools_found entries) ∙ (ap (map (λ n. eqb n 1)) parts.0 ∙ bools_found others), parts.1);
-}
-
-bool_number_below : (b : Bool) → bool_number b < 2
-bool_number_below true = omega arith
-bool_number_below false = omega arith
-
-pub bool_text-spells : (bs : List Bool) → SpellsBools (bool_text bs) bs
-unfolding bool_text
-bool_text-spells bs =
-    digits_text-spells Two (map bool_number bs) (All-map (λ n. n < 2) bool_number bs (λ k d inside. bool_number_below (get_or bs k d)))
 
 truth_is : (n : ℕ) → n < 2 → bool_number (eqb n 1) ≡ n
 truth_is n below =

@@ -1,11 +1,14 @@
 -- The laws of bool columns.
-use Rattle.std.proofs.Common.{◌≡◌, Bool, List, length, map, refl, ap, ◌∙◌}
-use Rattle.std.specs.Int.{div_ceil}
+use Rattle.std.proofs.Common.{◌≡◌, ℕ, ◌*◌, ◌<◌, ◌≤◌, Bool, true, false, eqb, List, [], ◌∷◌, length, map, get_or, refl, sym, ap, ◌∙◌, arith}
 use Rattle.std.proofs.lemmas.List.{length-map}
+use Rattle.std.proofs.lemmas.List.Elements.{All-map}
+use Rattle.std.specs.Int.{div_ceil}
 use Rattle.bitcode_columns.specs.declared.pack.Base.TheVariants.{Two}
-use Rattle.bitcode_columns.specs.BoolColumn.{bool_number, bool_text}
+use Rattle.bitcode_columns.specs.BoolColumn.{SpellsBools, bool_text, bool_number}
 use Rattle.bitcode_columns.specs.Digits.{digits_text}
-use Rattle.bitcode_columns.proofs.DigitLemmas.{size-digits_text}
+use Rattle.bitcode_columns.specs.Reading.{bools_fault}
+use Rattle.bitcode_columns.specs.Laws.{IsReadOnce, TakesAnEighth, IsFaultOf}
+use Rattle.bitcode_columns.proofs.DigitLemmas.{size-digits_text, SpellsDigits-once, SpellsDigits-eighth, digits_text-spells, digits_fault-refuses}
 
 pub bool_text-is : (entries : List Bool) → bool_text entries ≡ digits_text Two (map bool_number entries)
 unfolding bool_text
@@ -13,3 +16,38 @@ bool_text-is entries = refl
 
 pub length-bool_text : (entries : List Bool) → length (bool_text entries) ≡ div_ceil (length entries) 8
 length-bool_text entries = ap length (bool_text-is entries) ∙ size-digits_text Two (map bool_number entries) ∙ ap (λ n. div_ceil n 8) (length-map entries bool_number)
+
+bools_found : (bs : List Bool) → map (λ n. eqb n 1) (map bool_number bs) ≡ bs
+bools_found [] = refl
+bools_found (true ∷ bs) = ap (λ later. true ∷ later) (bools_found bs)
+bools_found (false ∷ bs) = ap (λ later. false ∷ later) (bools_found bs)
+
+pub SpellsBools-once : IsReadOnce SpellsBools
+SpellsBools-once = record {
+  once = λ piece other entries others rest left s t same e.
+      let counts : length (map bool_number entries) ≡ length (map bool_number others) =
+      omega (arith, length-map entries bool_number, length-map others bool_number) in
+      let parts = (SpellsDigits-once Two).once piece other (map bool_number entries) (map bool_number others) rest left s t counts e in
+      (sym (bools_found entries) ∙ (ap (map (λ n. eqb n 1)) parts.0 ∙ bools_found others), parts.1);
+}
+
+bool_number_below : (b : Bool) → bool_number b < 2
+bool_number_below true = omega arith
+bool_number_below false = omega arith
+
+pub bool_text-spells : (bs : List Bool) → SpellsBools (bool_text bs) bs
+unfolding bool_text
+bool_text-spells bs =
+    digits_text-spells Two (map bool_number bs) (All-map (λ n. n < 2) bool_number bs (λ k d inside. bool_number_below (get_or bs k d)))
+
+pub SpellsBools-eighth : TakesAnEighth SpellsBools
+SpellsBools-eighth = record {
+  nothing = λ piece s. (SpellsDigits-eighth Two).nothing piece s;
+  eighth = λ piece entries s. omega (arith, (SpellsDigits-eighth Two).eighth piece (map bool_number entries) s, length-map entries bool_number);
+}
+
+pub bools_fault-refuses : IsFaultOf bools_fault SpellsBools
+bools_fault-refuses = record {
+  refused = λ count input reason named piece entries rest s size whole.
+      (digits_fault-refuses Two).refused count input reason named piece (map bool_number entries) rest s (length-map entries bool_number ∙ size) whole;
+}

@@ -14,7 +14,7 @@ fold_mapped : {X : Type 0} (op : ℤ → ℤ → ℤ) (f : X → ℤ) (first : �
     → fold op first (map f (take (i + 1) xs)) ≡ op (fold op first (map f (take i xs))) (f (get_or xs i d))
 fold_mapped op f first xs i d h =
     let more : map f (take (i + 1) xs) ≡ map f (take i xs) ++ (f (get_or xs i d) ∷ []) =
-        ap (λ n. map f (take n xs)) {y = suc i} (omega arith) ∙ ap (map f) (take-suc xs i d h) ∙ map-append f (take i xs) (get_or xs i d ∷ []) in
+    ap (λ n. map f (take n xs)) {y = suc i} (omega arith) ∙ ap (map f) (take-suc xs i d h) ∙ map-append f (take i xs) (get_or xs i d ∷ []) in
     rw more (fold_push op first (map f (take i xs)) (f (get_or xs i d)))
 
 pub least_more : {X : Type 0} (f : X → ℤ) (first : ℤ) (xs : List X) (i : ℕ) (d entry : X) (old new : ℤ) (test : Bool) → i < length xs

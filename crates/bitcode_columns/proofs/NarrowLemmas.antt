@@ -34,7 +34,7 @@ above_zero width signed z h = gone_round (256 ^ width) _ _ (omega arith) (residu
 
 pub width_positive : (width : ℕ) → IsWidth width → 1 ≤ width
 width_positive width of = elim of [
-    inl e ↦ omega arith
+  | inl e ↦ omega arith
   | inr (inl e) ↦ omega arith
   | inr (inr (inl e)) ↦ omega arith
   | inr (inr (inr (inl e))) ↦ omega arith
@@ -64,11 +64,11 @@ pub raw_more : {X : Type 0} (width : ℕ) (f : X → ℕ) (xs : List X) (i : ℕ
 unfolding raw_text
 raw_more width f xs i d entry start so_far next value h at before is after =
     let more : map f (take (i + 1) xs) ≡ map f (take i xs) ++ (f (get_or xs i d) ∷ []) =
-        ap (λ n. map f (take n xs)) {y = suc i} (omega arith) ∙ ap (map f) (take-suc xs i d h) ∙ map-append f (take i xs) (get_or xs i d ∷ []) in
+    ap (λ n. map f (take n xs)) {y = suc i} (omega arith) ∙ ap (map f) (take-suc xs i d h) ∙ map-append f (take i xs) (get_or xs i d ∷ []) in
     let last : raw_text width (value ∷ []) ≡ number_bytes width value = append-nil (number_bytes width value) in
     let joined : raw_text width (map f (take (i + 1) xs)) ≡ raw_text width (map f (take i xs)) ++ number_bytes width value =
-        ap (raw_text width) more ∙ flat_map-append (number_bytes width) (map f (take i xs)) (f (get_or xs i d) ∷ [])
-        ∙ ap (λ n. raw_text width (map f (take i xs)) ++ raw_text width (n ∷ [])) (sym (is ∙ ap f at))
-        ∙ ap (λ b. raw_text width (map f (take i xs)) ++ b) last in
+    ap (raw_text width) more ∙ flat_map-append (number_bytes width) (map f (take i xs)) (f (get_or xs i d) ∷ [])
+    ∙ ap (λ n. raw_text width (map f (take i xs)) ++ raw_text width (n ∷ [])) (sym (is ∙ ap f at))
+    ∙ ap (λ b. raw_text width (map f (take i xs)) ++ b) last in
     after ∙ ap (λ b. b ++ number_bytes width value) before ∙ append_assoc start (raw_text width (map f (take i xs))) (number_bytes width value)
     ∙ ap (λ b. start ++ b) (sym joined)

@@ -33,13 +33,27 @@ no_sixth_of_five entry s =
 -- a shifted word: 254 and 1
 shifted_word : SpellsInts 4 (3 ∷ 1 ∷ 0 ∷ 0 ∷ 0 ∷ 254 ∷ []) (255 ∷ [])
 shifted_word = record {
-  tag = 3; least_bytes = 1 ∷ 0 ∷ 0 ∷ 0 ∷ []; body = 254 ∷ []; narrow = 254 ∷ [];
-  known = lit≤ tt; least_size = refl; whole = refl; narrowed = inl (lit≤ tt, refl); widened = refl;
+  tag = 3;
+  least_bytes = 1 ∷ 0 ∷ 0 ∷ 0 ∷ [];
+  body = 254 ∷ [];
+  narrow = 254 ∷ [];
+  known = lit≤ tt;
+  least_size = refl;
+  whole = refl;
+  narrowed = inl (lit≤ tt, refl);
+  widened = refl;
 }
 
 -- a shifted word that wraps: 2 and 4294967295
 wrapped_word : SpellsInts 4 (3 ∷ 255 ∷ 255 ∷ 255 ∷ 255 ∷ 2 ∷ []) (1 ∷ [])
 wrapped_word = record {
-  tag = 3; least_bytes = 255 ∷ 255 ∷ 255 ∷ 255 ∷ []; body = 2 ∷ []; narrow = 2 ∷ [];
-  known = lit≤ tt; least_size = refl; whole = refl; narrowed = inl (lit≤ tt, refl); widened = refl;
+  tag = 3;
+  least_bytes = 255 ∷ 255 ∷ 255 ∷ 255 ∷ [];
+  body = 2 ∷ [];
+  narrow = 2 ∷ [];
+  known = lit≤ tt;
+  least_size = refl;
+  whole = refl;
+  narrowed = inl (lit≤ tt, refl);
+  widened = refl;
 }

@@ -1,7 +1,8 @@
 -- The laws that every kind of column keeps, each over what the kind accepts.
 use Rattle.std.specs.Prelude.{◌≡◌, ℕ, ◌+◌, ◌*◌, ◌≤◌, List, [], ◌++◌, length, Option, Some, map, All, Bool, ℤ}
 use Rattle.bitcode_columns.specs.declared.error.Reason.{Reason}
-use Rattle.bitcode_columns.specs.Numbers.{IsNumber, residue}
+use Rattle.bitcode_columns.specs.Numbers.{IsNumber, residue, number_of}
+use Rattle.bitcode_columns.specs.Reading.{Reads}
 
 -- An input is read in at most one way: at one count there is one list of entries, and one rest.
 pub record IsReadOnce {Entry : Type 0} (Spells : List ℕ → List Entry → Type 0) : Type 0 where
@@ -25,3 +26,12 @@ pub record IsReadBack (width : ℕ) (Spells : List ℕ → List ℕ → Type 0) 
 -- The text takes at most the raw bytes and one more.
 pub record TakesAtMostOneMore (width : ℕ) (text : List ℤ → List ℕ) : Type 0 where
   pub at_most : (signed : Bool) (entries : List ℤ) → All (IsNumber width signed) entries → length (text entries) ≤ width * length entries + 1
+
+-- The text of entries is read back as the same entries, whatever follows it.
+abbrev pub ReadsBack : (width : ℕ) → (List ℕ → List ℕ → Type 0) → (List ℤ → List ℕ) → Type 0
+ReadsBack width Spells text = (signed : Bool) (entries : List ℤ) (rest : List ℕ) → All (IsNumber width signed) entries
+    → Reads Spells (length entries) (text entries ++ rest) (map (residue width) entries) rest
+
+-- The number of an entry is found from its residue.
+abbrev pub NumbersAreFound : Type 0
+NumbersAreFound = (width : ℕ) (signed : Bool) (z : ℤ) → 1 ≤ width → IsNumber width signed z → number_of width signed (residue width z) ≡ z

@@ -6,6 +6,7 @@ mod digits;
 pub mod error;
 pub mod fast;
 pub mod int_types;
+pub mod laws;
 pub mod pack;
 pub mod pack_ints;
 pub mod refuse;

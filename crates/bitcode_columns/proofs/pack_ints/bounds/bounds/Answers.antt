@@ -8,11 +8,11 @@ use Rattle.bitcode_columns.proofs.pack_ints.bounds.bounds.Goals.{then-is_less, e
 pub loop-entry-preserved : goal.loop-entry-preserved
 loop-entry-preserved g c = record {
   least = elim c.if-is_less.branch [
-    then-is_less w ↦ least_more g.T.Int.number _ _ _ _ _ _ _ true c.loop-entry-test.true c.entry-item.is c.loop-entry.invariant.least w.if-is_less.ensures (ap g.T.Int.number w.least-is)
+    | then-is_less w ↦ least_more g.T.Int.number _ _ _ _ _ _ _ true c.loop-entry-test.true c.entry-item.is c.loop-entry.invariant.least w.if-is_less.ensures (ap g.T.Int.number w.least-is)
     | else-is_less w ↦ least_more g.T.Int.number _ _ _ _ _ _ _ false c.loop-entry-test.true c.entry-item.is c.loop-entry.invariant.least w.if-is_less.ensures (ap g.T.Int.number w.least-is)
   ];
   greatest = elim c.if-is_less-2.branch [
-    then-is_less-2 w ↦ greatest_more g.T.Int.number _ _ _ _ _ _ _ true c.loop-entry-test.true c.entry-item.is c.loop-entry.invariant.greatest w.if-is_less-2.ensures (ap g.T.Int.number w.greatest-is)
+    | then-is_less-2 w ↦ greatest_more g.T.Int.number _ _ _ _ _ _ _ true c.loop-entry-test.true c.entry-item.is c.loop-entry.invariant.greatest w.if-is_less-2.ensures (ap g.T.Int.number w.greatest-is)
     | else-is_less-2 w ↦ greatest_more g.T.Int.number _ _ _ _ _ _ _ false c.loop-entry-test.true c.entry-item.is c.loop-entry.invariant.greatest w.if-is_less-2.ensures (ap g.T.Int.number w.greatest-is)
   ];
   in_range = All-more (λ e. IsNumber g.T.Int.width g.T.Int.signed (g.T.Int.number e)) _ _ _ c.loop-entry-test.true c.loop-entry.invariant.in_range (subst (λ e. IsNumber g.T.Int.width g.T.Int.signed (g.T.Int.number e)) c.entry-item.is c.to_unsigned-in_range-in-loop-entry.ensures.in_range);

@@ -6,4 +6,4 @@ use Rattle.bitcode_columns.proofs.pack_ints.write.write_numbers.Given as goal
 abbrev pub invariant-loop-entry : goal.invariant-loop-entry
 invariant-loop-entry g l =
     l.out.items ≡ l.initial.out.items
-        ++ raw_text g.N.SizedUInt.width (map (λ e. above g.T.Int.width (g.T.Unsigned.SizedUInt.value l.base) (g.T.Int.number e) % 256 ^ g.N.SizedUInt.width) (take l.entry-index l.entries))
+    ++ raw_text g.N.SizedUInt.width (map (λ e. above g.T.Int.width (g.T.Unsigned.SizedUInt.value l.base) (g.T.Int.number e) % 256 ^ g.N.SizedUInt.width) (take l.entry-index l.entries))

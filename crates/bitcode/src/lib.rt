@@ -1,0 +1,32 @@
+// A columnar, bit-packing serializer: the names of the crates below, given out again.
+//
+// `encode` writes a value as few bytes, and `decode` reads it back or refuses the input:
+//
+//     let bytes = encode(alloc, &(true, 7u16))?;        // [1, 7, 0]
+//     let pair: (bool, u16) = decode(alloc, &bytes)?;   // (true, 7)
+#![tactic(auto)]
+
+pub use bitcode_coder::bool::{BoolDecoder, BoolEncoder};
+pub use bitcode_coder::coder::{Decoder, Encoder, View};
+pub use bitcode_coder::int::{AsInt, IntDecoder, IntEncoder, Integer};
+pub use bitcode_columns::consume::{
+    consume_byte, consume_byte_arrays, consume_bytes, expect_eof, mul_length,
+};
+pub use bitcode_columns::error::{Error, Reason};
+pub use bitcode_columns::fast::{
+    CowSlice, FastSlice, FastVec, NextUnchecked, PushUnchecked, SliceImpl, VecImpl,
+};
+pub use bitcode_columns::int_types::{Byte, Int, SizedInt, SizedUInt};
+pub use bitcode_columns::pack::{pack_bools, pack_bytes, unpack_bools, unpack_bytes};
+pub use bitcode_columns::pack_ints::{minmax, pack_ints, unpack_ints};
+pub use bitcode_columns::refuse::{err, error};
+pub use bitcode_derive::derive::{Decode, DecodeOwned, Encode};
+pub use bitcode_derive::whole::{decode, encode, invalid_enum_variant};
+pub use bitcode_parts::empty::EmptyCoder;
+pub use bitcode_shapes::shaped::{Made, Shaped};
+pub use bitcode_tuples::{TupleDecoder, TupleEncoder};
+
+/// The traits that coders meet, and the result of their calls.
+pub mod coder {
+    pub use bitcode_coder::coder::{Buffer, Decoder, Encoder, View};
+}

@@ -1,0 +1,35 @@
+// What holds of columns whatever their entries are. A call does nothing: its contract is the law.
+ghost use Rattle.std.specs.Prelude.{ℕ, Bool, List, ◌++◌, length};
+ghost use Rattle.bitcode_columns.specs.BoolColumn.{SpellsBools, bool_text};
+ghost use Rattle.bitcode_columns.specs.ByteColumn.{SpellsBytes, byte_text};
+ghost use Rattle.bitcode_columns.specs.IntColumn.{IsWidth, SpellsInts, int_text};
+ghost use Rattle.bitcode_columns.specs.Laws.{IsReadOnce, TakesAnEighth, IsFaultOf, TakesAtMostOneMore, ReadsBack, NumbersAreFound};
+ghost use Rattle.bitcode_columns.specs.Reading.{Reads, bools_fault, bytes_fault, ints_fault};
+
+/// Bool columns: what is written is read back whatever follows it, an input is read in at most one way, no entries
+/// take no bytes and so many at least an eighth as many, and a fault is named only where nothing can be read.
+pub fn bool_columns()
+    ensures back { (entries : List Bool) (rest : List ℕ) → Reads SpellsBools (length entries) (bool_text entries ++ rest) entries rest }
+    ensures once { IsReadOnce SpellsBools }
+    ensures eighth { TakesAnEighth SpellsBools }
+    ensures refused { IsFaultOf bools_fault SpellsBools }
+{}
+
+/// Byte columns: the same, and the text takes at most the raw bytes and one more.
+pub fn byte_columns()
+    ensures back { ReadsBack 1 SpellsBytes byte_text }
+    ensures once { IsReadOnce SpellsBytes }
+    ensures eighth { TakesAnEighth SpellsBytes }
+    ensures refused { IsFaultOf bytes_fault SpellsBytes }
+    ensures at_most { TakesAtMostOneMore 1 byte_text }
+{}
+
+/// Integer columns of 1, 2, 4, 8 and 16 bytes: the same, and the number of an entry is found from its residue.
+pub fn int_columns()
+    ensures back { (width : ℕ) → IsWidth width → ReadsBack width (SpellsInts width) (int_text width) }
+    ensures once { (width : ℕ) → IsReadOnce (SpellsInts width) }
+    ensures eighth { (width : ℕ) → IsWidth width → TakesAnEighth (SpellsInts width) }
+    ensures refused { (width : ℕ) → IsFaultOf (ints_fault width) (SpellsInts width) }
+    ensures at_most { (width : ℕ) → IsWidth width → TakesAtMostOneMore width (int_text width) }
+    ensures numbers { NumbersAreFound }
+{}

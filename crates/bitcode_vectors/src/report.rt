@@ -1,0 +1,42 @@
+// What the program prints of its rows.
+use std::alloc::Global;
+use std::fmt;
+use std::io;
+
+use crate::rows::{self, Got};
+use bitcode::Error;
+
+impl fmt::Display for Got {
+    fn fmt<W: fmt::Write>(&self, f: &mut fmt::Formatter<W>) -> fmt::Result {
+        match self {
+            Got::Bytes(bytes) => write!(f, "{bytes:?}"),
+            Got::Refused(error) => write!(f, "{error}"),
+            Got::AnotherValue => f.write_str("another value"),
+        }
+    }
+}
+
+/// Prints a row's line, and answers whether the row is ok.
+fn print_row(rt: &impl Print, number: u8, outcome: Result<(), Got>) -> io::Result<bool> {
+    match outcome {
+        Ok(()) => {
+            println!(rt; "row {number} ok")?;
+            Ok(true)
+        }
+        Err(got) => {
+            println!(rt; "row {number} wrong: got {got}")?;
+            Ok(false)
+        }
+    }
+}
+
+/// Runs all stored rows in order, and answers whether all of them are ok.
+pub fn print_rows(rt: &(impl Alloc + Print)) -> io::Result<bool> {
+    let alloc = rt.alloc();
+    let mut all_ok = print_row(rt, 1, rows::unit(alloc))?;
+    all_ok &= print_row(rt, 2, rows::bools(alloc))?;
+    all_ok &= print_row(rt, 21, rows::pair(alloc))?;
+    all_ok &= print_row(rt, 22, rows::words_written(alloc))?;
+    all_ok &= print_row(rt, 23, rows::words_read(alloc))?;
+    Ok(all_ok)
+}

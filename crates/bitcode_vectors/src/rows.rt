@@ -1,0 +1,80 @@
+// The stored rows. Each has one or more parts, and gives what the first wrong part gave.
+use std::alloc::Global;
+
+use bitcode::{decode, encode, Decode, Encode, Error, Reason};
+
+/// What a wrong part of a row gave.
+#[derive(Drop)]
+pub enum Got {
+    /// The value was written as other bytes.
+    Bytes(Vec<u8>),
+    /// The call refused, or refused for another reason.
+    Refused(Error),
+    /// Another value was read, or one where the input had to be refused.
+    AnotherValue,
+}
+
+/// The value is written as these bytes.
+fn encodes<T: Encode>(alloc: Global, t: &T, expected: &[u8]) -> Result<(), Got> {
+    match encode(alloc, t) {
+        Ok(bytes) if bytes.as_slice() == expected => Ok(()),
+        Ok(bytes) => Err(Got::Bytes(bytes)),
+        Err(error) => Err(Got::Refused(error)),
+    }
+}
+
+/// The bytes are read as this value.
+fn decodes<'a, T: Decode<'a> + PartialEq>(alloc: Global, bytes: &'a [u8], expected: T) -> Result<(), Got> {
+    match decode::<T>(alloc, bytes) {
+        Ok(t) if t == expected => Ok(()),
+        Ok(_) => Err(Got::AnotherValue),
+        Err(error) => Err(Got::Refused(error)),
+    }
+}
+
+/// The bytes are refused for this reason.
+fn refuses<'a, T: Decode<'a>>(alloc: Global, bytes: &'a [u8], expected: Reason) -> Result<(), Got> {
+    match decode::<T>(alloc, bytes) {
+        Ok(_) => Err(Got::AnotherValue),
+        Err(error) if error.reason == expected => Ok(()),
+        Err(error) => Err(Got::Refused(error)),
+    }
+}
+
+/// The unit takes no bytes.
+pub fn unit(alloc: Global) -> Result<(), Got> {
+    encodes(alloc, &(), &[])?;
+    decodes(alloc, &[], ())?;
+    refuses::<()>(alloc, &[0], Reason::ExpectedEof)
+}
+
+/// A bool is the lowest bit of its byte.
+pub fn bools(alloc: Global) -> Result<(), Got> {
+    decodes(alloc, &[0], false)?;
+    decodes(alloc, &[1], true)?;
+    decodes(alloc, &[2], false)?;
+    decodes(alloc, &[255], true)?;
+    refuses::<bool>(alloc, &[], Reason::Eof)
+}
+
+/// A pair is the column of its first field and then that of its second.
+pub fn pair(alloc: Global) -> Result<(), Got> {
+    encodes(alloc, &(true, 7u16), &[1, 7, 0])?;
+    refuses::<(bool, u16)>(alloc, &[1, 7], Reason::Eof)
+}
+
+/// One integer of four bytes takes as few as hold it, and its tag.
+pub fn words_written(alloc: Global) -> Result<(), Got> {
+    encodes(alloc, &255u32, &[4, 255])?;
+    encodes(alloc, &65535u32, &[2, 255, 255])?;
+    encodes(alloc, &65536u32, &[0, 0, 0, 1, 0])?;
+    encodes(alloc, &-1i32, &[0, 255, 255, 255, 255])
+}
+
+/// Shifted integers wrap, tags over 6 are refused, and missing bytes too.
+pub fn words_read(alloc: Global) -> Result<(), Got> {
+    decodes(alloc, &[3, 1, 0, 0, 0, 254], 255u32)?;
+    decodes(alloc, &[3, 255, 255, 255, 255, 2], 1u32)?;
+    refuses::<u32>(alloc, &[5, 0], Reason::InvalidPacking)?;
+    refuses::<u32>(alloc, &[4], Reason::Eof)
+}
