@@ -11,7 +11,8 @@ use std::alloc::Global;
 
 /// The encoder and the decoder of types that hold nothing, such as `()`.
 ///
-/// Their values take no bytes. So a decoder only counts how many are left, and never refuses.
+/// Their values take no bytes. So the encoder keeps nothing, and the decoder counts how many are left. Neither
+/// takes memory, and no call refuses.
 #[derive(Drop)]
 pub struct EmptyCoder {
     left: usize,
@@ -24,8 +25,8 @@ impl Buffer for EmptyCoder {
 
     ghost surely_passes = { λ e n. ⊥ };
 
-    fn new(_alloc: Global) -> Self {
-        EmptyCoder { left: 0 }
+    fn new(alloc: Global) -> Self {
+        View::new(alloc)
     }
 
     fn reserve(&mut self, _n: usize) -> Result<(), Error> {

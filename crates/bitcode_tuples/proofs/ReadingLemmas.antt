@@ -1,0 +1,119 @@
+-- Data of pairs are read as the data of the first fields and then those of the second.
+use Rattle.std.proofs.Common.{◌≡◌, ◌≢◌, ℕ, suc, List, [], ◌∷◌, ◌++◌, length, map, refl, sym, ◌∙◌, ap, subst, arith, append_assoc}
+use Rattle.std.specs.Prelude.{All, Result, Ok, Err, IfErr, OnErr}
+use Rattle.std.proofs.lemmas.List.{length-map}
+use Rattle.std.proofs.lemmas.List.Elements.{All-nil, All-cons, All-head, All-tail}
+use Rattle.bitcode_columns.specs.declared.error.Reason.{Reason}
+use Rattle.bitcode_columns.specs.Reading.{Reads, IsEndOf}
+use Rattle.bitcode_shapes.specs.Datum.{Datum, pair, first_in, second_in}
+use Rattle.bitcode_shapes.specs.Shape.{Shape, pair_shape, IsOf, IsPairOf}
+use Rattle.bitcode_coder.specs.Columns.{CountsFit}
+use Rattle.bitcode_coder.specs.Transposition.{columns_of}
+use Rattle.bitcode_coder.specs.Spelling.{Spells, SpellsColumns}
+use Rattle.bitcode_coder.specs.Coding.{IsReadingRefusal}
+use Rattle.bitcode_tuples.specs.Pairs.{pairs_of}
+use Rattle.bitcode_tuples.specs.PairLaws.{firsts_are, seconds_are}
+use Rattle.bitcode_coder.proofs.SpellingLemmas.{Spells-once}
+
+-- ---- lists of pairs
+
+pub length-pairs_of : (ds es : List Datum) → length ds ≡ length es → length (pairs_of ds es) ≡ length ds
+length-pairs_of [] es h = refl
+length-pairs_of (d ∷ ds) [] h = absurd (omega arith)
+length-pairs_of (d ∷ ds) (e ∷ es) h = ap suc (length-pairs_of ds es (omega arith))
+
+pub firsts-pairs_of : (ds es : List Datum) → length ds ≡ length es → map first_in (pairs_of ds es) ≡ ds
+firsts-pairs_of [] es h = refl
+firsts-pairs_of (d ∷ ds) [] h = absurd (omega arith)
+firsts-pairs_of (d ∷ ds) (e ∷ es) h = ap (λ xs. d ∷ xs) (firsts-pairs_of ds es (omega arith))
+
+pub seconds-pairs_of : (ds es : List Datum) → length ds ≡ length es → map second_in (pairs_of ds es) ≡ es
+seconds-pairs_of [] [] h = refl
+seconds-pairs_of [] (e ∷ es) h = absurd (omega arith)
+seconds-pairs_of (d ∷ ds) [] h = absurd (omega arith)
+seconds-pairs_of (d ∷ ds) (e ∷ es) h = ap (λ xs. e ∷ xs) (seconds-pairs_of ds es (omega arith))
+
+pub pairs_are : (IsFirst IsSecond : Datum → Type 0) (ds es : List Datum) → All IsFirst ds → All IsSecond es → All (IsPairOf IsFirst IsSecond) (pairs_of ds es)
+pairs_are IsFirst IsSecond [] es h k = All-nil (IsPairOf IsFirst IsSecond)
+pairs_are IsFirst IsSecond (d ∷ ds) [] h k = All-nil (IsPairOf IsFirst IsSecond)
+pairs_are IsFirst IsSecond (d ∷ ds) (e ∷ es) h k =
+    All-cons (IsPairOf IsFirst IsSecond) (pair d e) (pairs_of ds es)
+    (record { first = d; second = e; is = refl; is_first = All-head IsFirst d ds h; is_second = All-head IsSecond e es k })
+    (pairs_are IsFirst IsSecond ds es (All-tail IsFirst d ds h) (All-tail IsSecond e es k))
+
+-- ---- readings of pairs
+
+pub ends_behind : {Entry : Type 0} {Spelled : List ℕ → List Entry → Type 0} {k : ℕ} {old middle : List ℕ} {entries : List Entry} (new : List ℕ)
+    → Reads Spelled k old entries middle → IsEndOf middle new → IsEndOf old new
+ends_behind new r e = record { taken = r.piece ++ e.taken; whole = r.whole ∙ ap (λ x. r.piece ++ x) e.whole ∙ sym (append_assoc r.piece e.taken new) }
+
+module _ (s t : Shape) (k : ℕ) where
+  pub reads_pairs : {old middle : List ℕ} {ds : List Datum} (new : List ℕ) (es : List Datum) → Reads (Spells s) k old ds middle → Reads (Spells t) k middle es new
+      → Reads (Spells (pair_shape s t)) k old (pairs_of ds es) new
+  reads_pairs {ds = ds} new es r q =
+      let same : length ds ≡ length es = r.size ∙ sym q.size in
+      let firsts : ds ≡ map first_in (pairs_of ds es) = sym (firsts-pairs_of ds es same) in
+      let seconds : es ≡ map second_in (pairs_of ds es) = sym (seconds-pairs_of ds es same) in
+      record {
+        size = length-pairs_of ds es same ∙ r.size;
+        piece = r.piece ++ q.piece;
+        whole = r.whole ∙ ap (λ x. r.piece ++ x) q.whole ∙ sym (append_assoc r.piece q.piece new);
+        spelled = record {
+          of_shape = pairs_are (IsOf s) (IsOf t) ds es r.spelled.of_shape q.spelled.of_shape;
+          counts = (subst (λ xs. CountsFit (columns_of s xs)) firsts r.spelled.counts, subst (λ xs. CountsFit (columns_of t xs)) seconds q.spelled.counts);
+          columns = record {
+            front = r.piece;
+            back = q.piece;
+            whole = refl;
+            first = subst (λ xs. SpellsColumns (columns_of s xs) r.piece) firsts r.spelled.columns;
+            second = subst (λ xs. SpellsColumns (columns_of t xs) q.piece) seconds q.spelled.columns;
+          };
+        };
+      }
+
+  -- a reading of pairs is a reading of the first fields and one of the second
+  pub record ReadsBoth (old new : List ℕ) (ds : List Datum) : Type 0 where
+    pub middle : List ℕ
+    pub first : Reads (Spells s) k old (map first_in ds) middle
+    pub second : Reads (Spells t) k middle (map second_in ds) new
+
+  pub reads_both : (old new : List ℕ) (ds : List Datum) → Reads (Spells (pair_shape s t)) k old ds new → ReadsBoth old new ds
+  reads_both old new ds r =
+      let c = r.spelled.columns in
+      record {
+        middle = c.back ++ new;
+        first = record {
+          size = length-map ds first_in ∙ r.size;
+          piece = c.front;
+          whole = r.whole ∙ ap (λ x. x ++ new) c.whole ∙ append_assoc c.front c.back new;
+          spelled = record { of_shape = firsts_are (IsOf s) (IsOf t) ds r.spelled.of_shape; counts = r.spelled.counts.0; columns = c.first };
+        };
+        second = record {
+          size = length-map ds second_in ∙ r.size;
+          piece = c.back;
+          whole = refl;
+          spelled = record { of_shape = seconds_are (IsOf s) (IsOf t) ds r.spelled.of_shape; counts = r.spelled.counts.1; columns = c.second };
+        };
+      }
+
+  -- ---- refusals
+
+  pub refuses_first : (reason : Reason) (old : List ℕ) → IsReadingRefusal s reason k old → IsReadingRefusal (pair_shape s t) reason k old
+  refuses_first reason old h =
+      (h.0, λ other ds rest r. let both = reads_both old rest ds r in h.1 other (map first_in ds) both.middle both.first)
+
+  pub refuses_second : (reason : Reason) (old middle : List ℕ) (ds : List Datum) → Reads (Spells s) k old ds middle → IsReadingRefusal t reason k middle
+      → IsReadingRefusal (pair_shape s t) reason k old
+  refuses_second reason old middle ds q h = (
+    h.0,
+    λ other es rest r.
+        let both = reads_both old rest es r in
+        let same = (Spells-once s).once q.piece both.first.piece ds (map first_in es) middle both.middle q.spelled both.first.spelled
+        (q.size ∙ sym both.first.size) (sym q.whole ∙ both.first.whole) in
+        h.1 other (map second_in es) rest (subst (λ x. Reads (Spells t) k x (map second_in es) rest) (sym same.1) both.second),
+  )
+
+  pub refused_second : {T E : Type 0} (reason : E → Reason) (result : Result T E) (old middle : List ℕ) (ds : List Datum) → Reads (Spells s) k old ds middle
+      → IfErr result (λ e. IsReadingRefusal t (reason e) k middle) → IfErr result (λ e. IsReadingRefusal (pair_shape s t) (reason e) k old)
+  refused_second reason (Ok x) old middle ds q h = tt
+  refused_second reason (Err e) old middle ds q h = refuses_second (reason e) old middle ds q h

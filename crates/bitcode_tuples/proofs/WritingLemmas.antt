@@ -1,0 +1,45 @@
+-- What the encoders of the fields do to their columns makes up what the encoder of the pair does.
+use Rattle.std.proofs.Common.{◌≡◌, ap, inl, inr, refl}
+use Rattle.std.specs.Prelude.{Result, Ok, Err, IfErr}
+use Rattle.bitcode_columns.specs.declared.error.Reason.{Reason}
+use Rattle.bitcode_shapes.specs.Datum.{Datum, pair}
+use Rattle.bitcode_shapes.specs.Shape.{Shape, pair_shape}
+use Rattle.bitcode_shapes.specs.Values.{ListsPair}
+use Rattle.bitcode_coder.specs.Columns.{Columns, two}
+use Rattle.bitcode_coder.specs.Coding.{JoinsListing, PassesWithListing, IsWritingRefusal}
+use Rattle.bitcode_tuples.specs.PairLaws.{same_two}
+
+module _ {P Q : Type 0} (lists_p : P → Datum → Type 0) (lists_q : Q → Datum → Type 0) (s t : Shape) (x : P × Q) where
+  pub joins_pair : (a b c d : Columns) → JoinsListing lists_p s x.0 a c → JoinsListing lists_q t x.1 b d
+      → JoinsListing (ListsPair lists_p lists_q) (pair_shape s t) x (two a b) (two c d)
+  joins_pair a b c d h k = record {
+    datum = pair h.datum k.datum;
+    listing = record { first = h.datum; second = k.datum; is = refl; lists_first = h.listing; lists_second = k.listing };
+    joined = same_two h.joined k.joined;
+    fits = λ f. (h.fits f.0, k.fits f.1);
+  }
+
+  pub passes_with_first : (a b : Columns) (e : Datum) → lists_q x.1 e → PassesWithListing lists_p s x.0 a
+      → PassesWithListing (ListsPair lists_p lists_q) (pair_shape s t) x (two a b)
+  passes_with_first a b e l h = record {
+    datum = pair h.datum e;
+    listing = record { first = h.datum; second = e; is = refl; lists_first = h.listing; lists_second = l };
+    passes = λ f. h.passes f.0;
+  }
+
+  pub passes_with_second : (a b : Columns) (d : Datum) → lists_p x.0 d → PassesWithListing lists_q t x.1 b
+      → PassesWithListing (ListsPair lists_p lists_q) (pair_shape s t) x (two a b)
+  passes_with_second a b d l h = record {
+    datum = pair d h.datum;
+    listing = record { first = d; second = h.datum; is = refl; lists_first = l; lists_second = h.listing };
+    passes = λ f. h.passes f.1;
+  }
+
+pub refusal_weaker : {Passes Others : Type 0} (reason : Reason) → (Passes → Others) → IsWritingRefusal reason Passes → IsWritingRefusal reason Others
+refusal_weaker reason f (inl h) = inl h
+refusal_weaker reason f (inr h) = inr (h.0, f h.1)
+
+pub refused_weaker : {T E Passes Others : Type 0} (reason : E → Reason) (result : Result T E) → (Passes → Others)
+    → IfErr result (λ e. IsWritingRefusal (reason e) Passes) → IfErr result (λ e. IsWritingRefusal (reason e) Others)
+refused_weaker reason (Ok x) f h = tt
+refused_weaker reason (Err e) f h = refusal_weaker (reason e) f h

@@ -1,0 +1,56 @@
+// The decoder of pairs.
+ghost use Rattle.std.specs.Prelude.{ℕ, List, ◌&&◌};
+ghost use Rattle.bitcode_columns.specs.Reading.{Reads};
+ghost use Rattle.bitcode_shapes.specs.Datum.{Datum};
+ghost use Rattle.bitcode_shapes.specs.Shape.{pair_shape};
+ghost use Rattle.bitcode_coder.specs.Spelling.{Spells};
+ghost use Rattle.bitcode_tuples.specs.Pairs.{pairs_of};
+ghost use Rattle.bitcode_tuples.specs.PairLaws.{same_pair_shape};
+
+use bitcode_coder::coder::{Decoder, View};
+use bitcode_columns::error::Error;
+use bitcode_shapes::shaped::Made;
+use std::alloc::Global;
+
+/// The decoder of pairs: it reads the first fields of all pairs, and then the second ones.
+///
+/// It makes a pair by the decoders of its fields, and refuses as they do.
+#[derive(Drop)]
+pub struct TupleDecoder<A, B> {
+    first: A,
+    second: B,
+}
+
+impl<'a, A: View<'a>, B: View<'a>> View<'a> for TupleDecoder<A, B> {
+    ghost shape = { pair_shape A.shape B.shape };
+
+    ghost held = { λ d. pairs_of (A.held d.first) (B.held d.second) };
+
+    ghost reads_free = { λ k input.
+        A.reads_free k input × ((ds : List Datum) (rest : List ℕ) → Reads (Spells A.shape) k input ds rest → B.reads_free k rest) };
+
+    fn new(alloc: Global) -> Self {
+        TupleDecoder {
+            first: A::new(alloc),
+            second: B::new(alloc),
+        }
+    }
+
+    fn populate(&mut self, input: &mut &'a [u8], k: usize) -> Result<(), Error> {
+        self.first.populate(input, k)?;
+        self.second.populate(input, k)
+    }
+}
+
+impl<'a, P: Made + Drop, Q: Made, A: Decoder<'a, P>, B: Decoder<'a, Q>> Decoder<'a, (P, Q)>
+    for TupleDecoder<A, B> {
+    ghost makes_free = { A.makes_free && B.makes_free };
+
+    fn decode(&mut self) -> Result<(P, Q), Error> {
+        let first = self.first.decode()?;
+        let second = self.second.decode()?;
+        Ok((first, second))
+    }
+
+    ghost same_shape = { same_pair_shape A.same_shape B.same_shape };
+}

@@ -1,0 +1,60 @@
+// The encoder of pairs.
+ghost use Rattle.std.specs.Prelude.{min, ◌⊎◌};
+ghost use Rattle.bitcode_coder.specs.Columns.{two};
+ghost use Rattle.bitcode_tuples.specs.PairLaws.{same_two, pairs_pass};
+
+use bitcode_coder::coder::{Buffer, Encoder};
+use bitcode_columns::error::Error;
+use bitcode_shapes::shaped::Shaped;
+use std::alloc::Global;
+
+/// The encoder of pairs: the columns of the first fields, and behind them those of the second.
+///
+/// It writes a pair by the encoders of its fields, and refuses as they do.
+#[derive(Drop)]
+pub struct TupleEncoder<A, B> {
+    first: A,
+    second: B,
+}
+
+impl<A: Buffer, B: Buffer> Buffer for TupleEncoder<A, B> {
+    ghost columns = { λ e. two (A.columns e.first) (B.columns e.second) };
+
+    ghost room = { λ e. min (A.room e.first) (B.room e.second) };
+
+    ghost surely_passes = { λ e n. A.surely_passes e.first n ⊎ B.surely_passes e.second n };
+
+    fn new(alloc: Global) -> Self {
+        TupleEncoder {
+            first: A::new(alloc),
+            second: B::new(alloc),
+        }
+    }
+
+    fn reserve(&mut self, n: usize) -> Result<(), Error> {
+        self.first.reserve(n)?;
+        self.second.reserve(n)
+    }
+
+    fn collect_into(&mut self, out: &mut Vec<u8>) -> Result<(), Error> {
+        self.first.collect_into(out)?;
+        self.second.collect_into(out)
+    }
+
+    fn clear(&mut self) {
+        self.first.clear();
+        self.second.clear();
+    }
+}
+
+impl<P: Shaped, Q: Shaped, A: Encoder<P>, B: Encoder<Q>> Encoder<(P, Q)> for TupleEncoder<A, B> {
+    fn encode(&mut self, t: &(P, Q)) -> Result<(), Error> {
+        t.1.told();
+        self.first.encode(&t.0)?;
+        self.second.encode(&t.1)
+    }
+
+    ghost of_shape = { λ e. same_two (A.of_shape e.first) (B.of_shape e.second) };
+
+    ghost surely = { λ e n. pairs_pass P.shape Q.shape (A.columns e.first) (B.columns e.second) n (A.surely e.first n) (B.surely e.second n) };
+}

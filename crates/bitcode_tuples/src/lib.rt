@@ -1,0 +1,5 @@
+// Coders of tuples.
+#![tactic(auto)]
+
+pub mod decoder;
+pub mod encoder;
