@@ -1,9 +1,11 @@
 -- What is read and written of one column of bools or integers, in terms of data.
-use Rattle.std.proofs.Common.{◌≡◌, ℕ, ◌+◌, ◌*◌, ◌%◌, ◌^◌, ◌<◌, ◌≤◌, Bool, true, false, ltb, leb, eqb, ◌==◌, Option, Some, None, ℤ, pos, negsuc, List, [], ◌∷◌, ◌++◌, length, map, drop, All, refl, sym, ap, subst, ◌∙◌, inl, inr, lit<, arith}
+use Rattle.std.proofs.Common.{◌≡◌, ℕ, ◌+◌, ◌*◌, ◌%◌, ◌^◌, ◌<◌, ◌≤◌, Bool, true, false, ltb, leb, eqb, ◌==◌, Option, Some, None, ℤ, pos, negsuc, List, [], ◌∷◌, ◌++◌, length, map, drop, All, refl, sym, ap, subst, ◌∙◌, inl, inr, lit<, arith, Result, Ok, Err, OnOk, IfErr}
 use Rattle.std.proofs.lemmas.Bool.{cond_both}
 use Rattle.std.proofs.lemmas.List.{length-map, map-append}
 use Rattle.std.proofs.lemmas.List.Elements.{All-map}
+use Rattle.std.proofs.lemmas.Result.{IfErr-weaker}
 use Rattle.std.proofs.lemmas.Simd.{map-map}
+use Rattle.bitcode_columns.specs.declared.error.Error.{Error}
 use Rattle.bitcode_columns.specs.declared.error.Reason.{Reason}
 use Rattle.bitcode_columns.specs.declared.error.Reason.TheVariants.{Eof, InvalidPacking}
 use Rattle.bitcode_columns.specs.declared.pack.Base.TheVariants.{Two}
@@ -92,6 +94,12 @@ ints_refused width signed reason count input named =
     (λ bytes ds s. record { entries = s.columns.entries; are = s.columns.are; spelled = s.columns.spelled.spelled })
     reason count input (ints_known_as (int_form width count) width count input) named
 
+pub ints_refused_err : {T : Type 0} (r : Result T Error) (width : ℕ) (signed : Bool) (count : ℕ) (input : List ℕ)
+    → IfErr r (λ e. Names e.reason (ints_fault width count input)) → IfErr r (λ e. IsReadingRefusal (int_shape width signed) e.reason count input)
+ints_refused_err r width signed count input named =
+    IfErr-weaker r (λ e. Names e.reason (ints_fault width count input)) (λ e. IsReadingRefusal (int_shape width signed) e.reason count input)
+    (λ e h. ints_refused width signed e.reason count input h) named
+
 -- ---- read
 
 reads_of : {Entry : Type 0} (shape : Shape) (datum : Entry → Datum) (SpellsEntries : List ℕ → List Entry → Type 0)
@@ -152,6 +160,14 @@ ints_read residue_of width signed count old entries new known r below =
       counts = tt;
       columns = record { entries = map residue_of entries; are = refl; spelled = record { spelled = s; in_width = below } };
     }))
+
+pub ints_read_ok : {T E Entry : Type 0} (r : Result T E) (residue_of : Entry → ℕ) (width : ℕ) (signed : Bool) (count : ℕ) (old : List ℕ)
+    (entries : List Entry) (new : List ℕ) → IsWidth width → OnOk r (Reads (SpellsInts width) count old (map residue_of entries) new)
+    → OnOk r (All (λ n. n < 256 ^ width) (map residue_of entries))
+    → OnOk r (Reads (Spells (int_shape width signed)) count old (map (λ e. number_of_residue width signed (residue_of e)) entries) new)
+ints_read_ok (Ok value) residue_of width signed count old entries new known read below =
+    ints_read residue_of width signed count old entries new known read below
+ints_read_ok (Err error) residue_of width signed count old entries new known read below = tt
 
 -- ---- written
 

@@ -5,3 +5,4 @@ pub mod Transposition
 pub mod Spelling
 pub mod Coding
 pub mod Rows
+pub mod IntData

@@ -3,3 +3,4 @@
 
 pub mod bool;
 pub mod coder;
+pub mod int;
