@@ -19,7 +19,7 @@ eight_bytes : IsWidth 8
 eight_bytes = inr (inr (inr (inl refl)))
 
 -- as many lengths as short bytes
-length-lengths_from : (bytes large : List ℕ) → length (lengths_from bytes large) ≡ length bytes
+pub length-lengths_from : (bytes large : List ℕ) → length (lengths_from bytes large) ≡ length bytes
 length-lengths_from [] large = refl
 length-lengths_from (byte ∷ bytes) large =
     ⊎_elim

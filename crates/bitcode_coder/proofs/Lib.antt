@@ -5,3 +5,4 @@ pub mod ColumnLemmas
 pub mod TranspositionLemmas
 pub mod DatumLemmas
 pub mod SpellingLemmas
+pub mod RowLemmas
