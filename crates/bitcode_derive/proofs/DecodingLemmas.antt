@@ -1,0 +1,39 @@
+-- What is known of the data that a whole input spells, where a decoder of a shape, its own, reads it.
+use Rattle.std.proofs.Common.{◌≡◌, ℕ, ◌<◌, List, [], ◌∷◌, ◌++◌, length, refl, sym, ◌∙◌, ap, subst, arith}
+use Rattle.bitcode_columns.specs.Reading.{Reads}
+use Rattle.bitcode_shapes.specs.Datum.{Datum}
+use Rattle.bitcode_shapes.specs.Shape.{Shape, IsSound}
+use Rattle.bitcode_coder.specs.Spelling.{Spells}
+use Rattle.bitcode_coder.proofs.SpellingLemmas.{Spells-once, Spells-eighth}
+use Rattle.bitcode_derive.specs.Whole.{SpellsDatum, SpellsAtMostOne, IsBoundedByBytes}
+
+append_nil : (xs : List ℕ) → xs ≡ xs ++ []
+append_nil [] = refl
+append_nil (x ∷ xs) = ap (λ l. x ∷ l) (append_nil xs)
+
+cons_once : (d e : Datum) → d ∷ [] ≡ e ∷ [] → d ≡ e
+cons_once d e h = cc
+
+pub spells_at_most_one : (shape : Shape) (bytes : List ℕ) → SpellsAtMostOne shape bytes
+spells_at_most_one shape bytes d e s r = cons_once d e ((Spells-once shape).once bytes bytes (d ∷ []) (e ∷ []) [] [] s r refl refl).0
+
+pub bounded_by_bytes : (shape : Shape) (bytes : List ℕ) → IsSound shape → IsBoundedByBytes shape bytes
+bounded_by_bytes shape bytes sound d s = Spells-eighth shape sound bytes (d ∷ []) s
+
+module _ (own shape : Shape) (same : own ≡ shape) (bytes : List ℕ) where
+  -- what the whole input spells is read from it
+  pub none_spelled-unread : ((ds : List Datum) (rest : List ℕ) → Reads (Spells own) 1 bytes ds rest → ⊥)
+      → (d : Datum) → SpellsDatum shape bytes d → ⊥
+  none_spelled-unread unread d s =
+      unread (d ∷ []) []
+      (record { size = refl; piece = bytes; whole = append_nil bytes; spelled = subst (λ x. Spells x bytes (d ∷ [])) (sym same) s })
+
+  -- where bytes are left behind one datum, all of them spell none
+  pub none_spelled-left : (rest : List ℕ) (ds : List Datum) → Reads (Spells own) 1 bytes ds rest → 0 < length rest
+      → (d : Datum) → SpellsDatum shape bytes d → ⊥
+  none_spelled-left rest ds r more d s =
+      let e : rest ≡ [] =
+      ((Spells-once own).once r.piece bytes ds (d ∷ []) rest [] r.spelled (subst (λ x. Spells x bytes (d ∷ [])) (sym same) s) r.size
+      (sym r.whole ∙ append_nil bytes)).1 in
+      let n : length rest ≡ 0 = ap (λ l. length l) e in
+      absurd (omega arith)

@@ -1,0 +1,43 @@
+-- What whole calls write and read: one value, and all of the input.
+use Rattle.std.specs.Prelude.{◌≡◌, ℕ, ◌*◌, ◌≤◌, List, [], ◌∷◌, length}
+use Rattle.bitcode_shapes.specs.Datum.{Datum}
+use Rattle.bitcode_shapes.specs.Shape.{Shape}
+use Rattle.bitcode_coder.specs.Columns.{Columns, CountsFit, entry_count}
+use Rattle.bitcode_coder.specs.Transposition.{columns_of, spread}
+use Rattle.bitcode_coder.specs.Spelling.{Spells, texts_of}
+
+-- the columns of one datum, as a tree
+abbrev pub columns_of_one : Shape → Datum → Columns
+columns_of_one shape d = columns_of shape (d ∷ [])
+
+-- The bytes are the texts, joined, of the columns of one listing of the value, whose numbers of arrays are
+-- lengths.
+pub record IsEncodingOf {T : Type 0} (lists : T → Datum → Type 0) (shape : Shape) (t : T) (bytes : List ℕ) : Type 0 where
+  pub datum : Datum
+  pub listing : lists t datum
+  pub counts : CountsFit (columns_of_one shape datum)
+  pub written : bytes ≡ texts_of (spread shape (datum ∷ []))
+
+-- in some listing of the value some number of arrays times their size is no length
+pub record HasLongListing {T : Type 0} (lists : T → Datum → Type 0) (shape : Shape) (t : T) : Type 0 where
+  pub datum : Datum
+  pub listing : lists t datum
+  pub passes : CountsFit (columns_of_one shape datum) → ⊥
+
+-- the whole input spells the one datum
+abbrev pub SpellsDatum : Shape → List ℕ → Datum → Type 0
+SpellsDatum shape bytes d = Spells shape bytes (d ∷ [])
+
+-- the whole input spells a datum that makes the value
+pub record IsDecodingOf {T : Type 0} (makes : Datum → T → Type 0) (shape : Shape) (bytes : List ℕ) (t : T) : Type 0 where
+  pub datum : Datum
+  pub spelled : SpellsDatum shape bytes datum
+  pub made : makes datum t
+
+-- the whole input spells at most one datum
+abbrev pub SpellsAtMostOne : Shape → List ℕ → Type 0
+SpellsAtMostOne shape bytes = (d e : Datum) → SpellsDatum shape bytes d → SpellsDatum shape bytes e → d ≡ e
+
+-- all entries of a datum's columns together are at most eight times the bytes that spell it
+abbrev pub IsBoundedByBytes : Shape → List ℕ → Type 0
+IsBoundedByBytes shape bytes = (d : Datum) → SpellsDatum shape bytes d → entry_count (columns_of_one shape d) ≤ 8 * length bytes

@@ -1,0 +1,38 @@
+// The types that have coders.
+use bitcode_coder::coder::{Decoder, Encoder};
+use bitcode_shapes::shaped::{Made, Shaped};
+
+/// A type whose values are written.
+///
+/// A type of your own names the encoder of its fields, as a wrapper of a `u32` that of `u32`:
+///
+/// ```
+/// impl Encode for Meters {
+///     type Encoder = MetersEncoder;
+/// }
+/// ```
+pub trait Encode: Shaped {
+    /// The columns that values are written to.
+    type Encoder: Encoder<Self>;
+}
+
+/// A type whose values are read from an input that outlives `'a`.
+///
+/// ```
+/// impl<'a> Decode<'a> for Meters {
+///     type Decoder = MetersDecoder<'a>;
+/// }
+/// ```
+pub trait Decode<'a>: Made + Drop {
+    /// The data that values are made of.
+    type Decoder: Decoder<'a, Self>;
+}
+
+/// A type whose values borrow nothing from the input that they are read from.
+///
+/// It is a mark alone: each such type says so for itself.
+///
+/// ```
+/// impl DecodeOwned for Meters {}
+/// ```
+pub trait DecodeOwned: Made {}

@@ -1,0 +1,5 @@
+// Types that are encoded and decoded, and the whole calls.
+#![tactic(auto)]
+
+pub mod derive;
+pub mod whole;
