@@ -16,6 +16,12 @@ width_2 = inr (inl refl)
 pub width_4 : IsNumberWidth 4
 width_4 = inr (inr (inl refl))
 
+pub width_8 : IsNumberWidth 8
+width_8 = inr (inr (inr (inl refl)))
+
+pub width_16 : IsNumberWidth 16
+width_16 = inr (inr (inr (inr refl)))
+
 number_once : {m n : ℤ} → number m ≡ number n → m ≡ n
 number_once e = cc
 

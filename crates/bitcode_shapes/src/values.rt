@@ -2,7 +2,7 @@
 ghost use Rattle.std.specs.Prelude.{◌≡◌, Bool, true, false, ◌&&◌, ℤ, pos};
 ghost use Rattle.bitcode_shapes.specs.Shape.{bool_shape, unit_shape, pair_shape};
 ghost use Rattle.bitcode_shapes.specs.Values.{bool_number, int_shape, ListsNumber, MakesNumber, SameNumber, IsValueOfWidth, ListsUnit, MakesUnit, IsPairValue, ListsPair, MakesPair, SamePair};
-ghost use Rattle.bitcode_shapes.specs.LawfulValues.{width_1, width_2, width_4, int_lawful, unsigned_makeable, signed_makeable, bool_lawful, bool_makeable, unit_lawful, unit_makeable, pair_lawful, pair_makeable};
+ghost use Rattle.bitcode_shapes.specs.LawfulValues.{width_1, width_2, width_4, width_8, width_16, int_lawful, unsigned_makeable, signed_makeable, bool_lawful, bool_makeable, unit_lawful, unit_makeable, pair_lawful, pair_makeable};
 
 use crate::shaped::{Made, Shaped};
 
@@ -100,6 +100,78 @@ impl Made for u32 {
     ghost makeable = { unsigned_makeable 4 };
 }
 
+impl Shaped for u64 {
+    ghost shape = { int_shape 8 false };
+
+    ghost is_value = { IsValueOfWidth 8 false pos };
+
+    ghost lists = { ListsNumber pos };
+
+    ghost same = { SameNumber pos };
+
+    ghost in_order = { true };
+
+    fn told(&self) {
+        let _value = *self;
+    }
+
+    ghost lawful = { int_lawful pos 8 false width_8 };
+}
+
+impl Made for u64 {
+    ghost makes = { MakesNumber pos };
+
+    ghost makeable = { unsigned_makeable 8 };
+}
+
+impl Shaped for u128 {
+    ghost shape = { int_shape 16 false };
+
+    ghost is_value = { IsValueOfWidth 16 false pos };
+
+    ghost lists = { ListsNumber pos };
+
+    ghost same = { SameNumber pos };
+
+    ghost in_order = { true };
+
+    fn told(&self) {
+        let _value = *self;
+    }
+
+    ghost lawful = { int_lawful pos 16 false width_16 };
+}
+
+impl Made for u128 {
+    ghost makes = { MakesNumber pos };
+
+    ghost makeable = { unsigned_makeable 16 };
+}
+
+impl Shaped for usize {
+    ghost shape = { int_shape 8 false };
+
+    ghost is_value = { IsValueOfWidth 8 false pos };
+
+    ghost lists = { ListsNumber pos };
+
+    ghost same = { SameNumber pos };
+
+    ghost in_order = { true };
+
+    fn told(&self) {
+        let _value = *self;
+    }
+
+    ghost lawful = { int_lawful pos 8 false width_8 };
+}
+
+impl Made for usize {
+    ghost makes = { MakesNumber pos };
+
+    ghost makeable = { unsigned_makeable 8 };
+}
+
 impl Shaped for i8 {
     ghost shape = { int_shape 1 true };
 
@@ -170,6 +242,78 @@ impl Made for i32 {
     ghost makes = { MakesNumber (λ (z : ℤ). z) };
 
     ghost makeable = { signed_makeable 4 };
+}
+
+impl Shaped for i64 {
+    ghost shape = { int_shape 8 true };
+
+    ghost is_value = { IsValueOfWidth 8 true (λ (z : ℤ). z) };
+
+    ghost lists = { ListsNumber (λ (z : ℤ). z) };
+
+    ghost same = { SameNumber (λ (z : ℤ). z) };
+
+    ghost in_order = { true };
+
+    fn told(&self) {
+        let _value = *self;
+    }
+
+    ghost lawful = { int_lawful (λ (z : ℤ). z) 8 true width_8 };
+}
+
+impl Made for i64 {
+    ghost makes = { MakesNumber (λ (z : ℤ). z) };
+
+    ghost makeable = { signed_makeable 8 };
+}
+
+impl Shaped for i128 {
+    ghost shape = { int_shape 16 true };
+
+    ghost is_value = { IsValueOfWidth 16 true (λ (z : ℤ). z) };
+
+    ghost lists = { ListsNumber (λ (z : ℤ). z) };
+
+    ghost same = { SameNumber (λ (z : ℤ). z) };
+
+    ghost in_order = { true };
+
+    fn told(&self) {
+        let _value = *self;
+    }
+
+    ghost lawful = { int_lawful (λ (z : ℤ). z) 16 true width_16 };
+}
+
+impl Made for i128 {
+    ghost makes = { MakesNumber (λ (z : ℤ). z) };
+
+    ghost makeable = { signed_makeable 16 };
+}
+
+impl Shaped for isize {
+    ghost shape = { int_shape 8 true };
+
+    ghost is_value = { IsValueOfWidth 8 true (λ (z : ℤ). z) };
+
+    ghost lists = { ListsNumber (λ (z : ℤ). z) };
+
+    ghost same = { SameNumber (λ (z : ℤ). z) };
+
+    ghost in_order = { true };
+
+    fn told(&self) {
+        let _value = *self;
+    }
+
+    ghost lawful = { int_lawful (λ (z : ℤ). z) 8 true width_8 };
+}
+
+impl Made for isize {
+    ghost makes = { MakesNumber (λ (z : ℤ). z) };
+
+    ghost makeable = { signed_makeable 8 };
 }
 
 impl Shaped for () {
