@@ -5,4 +5,5 @@ pub mod Transposition
 pub mod Spelling
 pub mod Coding
 pub mod Rows
+pub mod Vectors
 pub mod IntData

@@ -15,4 +15,5 @@ pub mod Reading
 pub mod Laws
 pub mod Rows
 pub mod AcceptedRows
+pub mod Vectors
 pub mod ByteForm
