@@ -8,7 +8,8 @@ use crate::refuse::err;
 
 /// Takes the first `n` bytes of the input, which then goes on behind them.
 ///
-/// Fewer bytes are `EOF`, and the input stays as it is.
+/// Of `[1, 2, 3]` two bytes are `[1, 2]`, and `[3]` is left. Fewer bytes than `n` are `EOF`, and the input
+/// stays as it is.
 pub fn consume_bytes<'a>(input: &mut &'a [u8], n: usize) -> Result<&'a [u8], Error>
     ensures refused { IsErr result ↔ (length input.old.now < n) }
     ensures reason { IfErr result (λ e. e.reason ≡ Reason.Eof) }
@@ -29,7 +30,7 @@ pub fn consume_bytes<'a>(input: &mut &'a [u8], n: usize) -> Result<&'a [u8], Err
 
 /// Takes the first byte of the input.
 ///
-/// An empty input is `EOF`.
+/// An empty input is `EOF`, and stays as it is.
 pub fn consume_byte(input: &mut &[u8]) -> Result<u8, Error>
     ensures refused { IsErr result ↔ (length input.old.now ≡ 0) }
     ensures reason { IfErr result (λ e. e.reason ≡ Reason.Eof) }
@@ -46,7 +47,8 @@ pub fn consume_byte(input: &mut &[u8]) -> Result<u8, Error>
 
 /// Takes `k` arrays of `N` bytes each from the front of the input.
 ///
-/// Fewer than `k` times `N` bytes are `EOF`, and the input stays as it is.
+/// Of `[1, 0, 2, 0, 3]` two arrays of two bytes are `[[1, 0], [2, 0]]`, and `[3]` is left. Fewer than `k`
+/// times `N` bytes are `EOF`, and the input stays as it is.
 pub fn consume_byte_arrays<'a, const N: usize>(
     input: &mut &'a [u8],
     k: usize,
@@ -83,7 +85,7 @@ pub fn expect_eof(input: &[u8]) -> Result<(), Error>
 
 /// The product of two lengths.
 ///
-/// One over 18446744073709551615 is `length overflow`.
+/// A product over 18446744073709551615 is `length overflow`.
 pub fn mul_length(a: usize, b: usize) -> Result<usize, Error>
     ensures refused { IsErr result ↔ (2 ^ 64 ≤ a * b) }
     ensures reason { IfErr result (λ e. e.reason ≡ Reason.LengthOverflow) }

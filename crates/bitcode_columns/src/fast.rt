@@ -16,6 +16,9 @@ pub type VecImpl<T> = FastVec<T>;
 pub type SliceImpl<'a, T> = FastSlice<'a, T>;
 
 /// A list that is pushed to without a test, in room that was reserved before.
+///
+/// After `list.reserve(2)?` two calls of `push_unchecked`, or one of `extend_unchecked` with two items, can
+/// neither fail nor take memory. That the room is there is proved where they are called.
 #[derive(Drop)]
 pub struct FastVec<T: Copy> {
     vec: Vec<T>,
