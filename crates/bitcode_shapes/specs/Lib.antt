@@ -3,3 +3,5 @@ pub mod Shape
 pub mod Lawful
 pub mod Values
 pub mod LawfulValues
+pub mod Sequences
+pub mod LawfulSequences

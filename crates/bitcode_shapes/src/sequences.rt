@@ -1,0 +1,59 @@
+// Slices and vectors hold the data of their elements.
+ghost use Rattle.std.specs.Prelude.{None, All};
+ghost use Rattle.std.specs.Vec.{vec_items};
+ghost use Rattle.bitcode_shapes.specs.Shape.{seq_shape};
+ghost use Rattle.bitcode_shapes.specs.Sequences.{ListsSequence, MakesSequence, SameSequence};
+ghost use Rattle.bitcode_shapes.specs.LawfulSequences.{seq_lawful, seq_makeable, vec_built};
+
+use crate::shaped::{Made, Shaped};
+
+/// Each element in hand is a value of its type.
+pub fn told_each<T: Shaped>(items: &[T])
+    ensures { All T.is_value items.now }
+{
+    for item in items {
+        item.told();
+    }
+}
+
+impl<T: Shaped> Shaped for Vec<T> {
+    ghost shape = { seq_shape None T.shape };
+
+    ghost is_value = { λ v. All T.is_value v.items };
+
+    ghost lists = { λ v d. ListsSequence T.lists v.items d };
+
+    ghost same = { λ v w. SameSequence T.same v.items w.items };
+
+    ghost in_order = { T.in_order };
+
+    fn told(&self) {
+        told_each(self.as_slice());
+    }
+
+    ghost lawful = { seq_lawful T.shape T.is_value T.lists T.same vec_items T.in_order T.lawful };
+}
+
+impl<T: Made> Made for Vec<T> {
+    ghost makes = { λ d v. MakesSequence T.makes d v.items };
+
+    ghost makeable = { seq_makeable T.shape T.is_value T.lists T.same vec_items T.makes vec_built T.makeable };
+}
+
+impl<'a, T: Shaped> Shaped for &'a [T] {
+    ghost shape = { seq_shape None T.shape };
+
+    ghost is_value = { λ s. All T.is_value s.now };
+
+    ghost lists = { λ s d. ListsSequence T.lists s.now d };
+
+    ghost same = { λ s t. SameSequence T.same s.now t.now };
+
+    ghost in_order = { T.in_order };
+
+    fn told(&self) {
+        told_each(*self);
+    }
+
+    ghost lawful = { seq_lawful T.shape T.is_value T.lists T.same (λ s. s.now) T.in_order T.lawful };
+}
