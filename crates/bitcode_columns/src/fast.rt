@@ -1,7 +1,7 @@
 // Lists with reserved room, and lists that are read from the front.
 #![tactic(auto, unfolding(crate::specs::Fast::fast_items, crate::specs::Fast::fast_room, crate::specs::Fast::slice_rest, crate::specs::Fast::cow_rest, crate::specs::Lending::with_fast_items))]
 
-ghost use Rattle.std.specs.Prelude.{◌≡◌, ℕ, ◌+◌, ◌-◌, ◌<◌, ◌≤◌, List, [], ◌∷◌, ◌++◌, length, take, drop, vec_len, IsOk, IfOk, OnOk, IfErr, OnErr};
+ghost use Rattle.std.specs.Prelude.{◌≡◌, ℕ, ◌+◌, ◌<◌, ◌≤◌, List, [], ◌∷◌, ◌++◌, length, take, drop, vec_len, IsOk, IfOk, OnOk, IfErr, OnErr};
 ghost use Rattle.std.specs.Borrow.{sem};
 ghost use Rattle.bitcode_columns.specs.Fast.{fast_items, fast_room, slice_rest, held_items, cow_rest};
 ghost use Rattle.bitcode_columns.specs.Lending.{with_fast_items, LendsItems, EndsBehind};
