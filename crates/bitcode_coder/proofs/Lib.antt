@@ -6,3 +6,4 @@ pub mod TranspositionLemmas
 pub mod DatumLemmas
 pub mod SpellingLemmas
 pub mod RowLemmas
+pub mod LawLemmas

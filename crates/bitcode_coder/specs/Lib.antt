@@ -7,3 +7,4 @@ pub mod Coding
 pub mod Rows
 pub mod Vectors
 pub mod IntData
+pub mod Laws

@@ -4,3 +4,4 @@
 pub mod bool;
 pub mod coder;
 pub mod int;
+pub mod laws;

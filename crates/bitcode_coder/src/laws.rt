@@ -1,0 +1,50 @@
+// What holds of the columns of data, whatever the data are. A call does nothing: its contract is the law.
+ghost use Rattle.std.specs.Prelude.{List};
+ghost use Rattle.bitcode_columns.specs.Laws.{IsReadOnce};
+ghost use Rattle.bitcode_shapes.specs.Datum.{Datum};
+ghost use Rattle.bitcode_shapes.specs.Shape.{Shape, IsSound};
+ghost use Rattle.bitcode_coder.specs.Columns.{Kind, IsSoundKind};
+ghost use Rattle.bitcode_coder.specs.Spelling.{Spells, SpellsColumn};
+ghost use Rattle.bitcode_coder.specs.Laws.{ReadsBackColumn, ColumnTakesAnEighth, ReadsBackData, DataTakeAnEighth, JoinsColumnByColumn, TreeIsList};
+
+/// A column of any kind: what is written is read back whatever follows it, an input is read in at most one way, no
+/// entries take no bytes, and entries are at most eight times the bytes.
+///
+/// ```
+/// one_column();
+/// ```
+pub fn one_column()
+    ensures back { (kind : Kind) → IsSoundKind kind → ReadsBackColumn kind }
+    ensures once { (kind : Kind) → IsReadOnce (SpellsColumn kind) }
+    ensures eighth { (kind : Kind) → IsSoundKind kind → ColumnTakesAnEighth kind }
+{}
+
+/// Data of any shape: the same of all their columns together.
+///
+/// ```
+/// all_columns();
+/// ```
+pub fn all_columns()
+    ensures back { (shape : Shape) → IsSound shape → ReadsBackData shape }
+    ensures once { (shape : Shape) → IsReadOnce (Spells shape) }
+    ensures eighth { (shape : Shape) → IsSound shape → DataTakeAnEighth shape }
+{}
+
+/// The columns of two lists of data that are joined are the columns of the lists, joined column by column.
+///
+/// ```
+/// joined_data();
+/// ```
+pub fn joined_data()
+    ensures { (shape : Shape) → JoinsColumnByColumn shape }
+{}
+
+/// The columns of data, as a tree after their shape and as a list, are one: proofs go by the tree, and the bytes
+/// follow the list.
+///
+/// ```
+/// tree_and_list();
+/// ```
+pub fn tree_and_list()
+    ensures { (shape : Shape) (ds : List Datum) → TreeIsList shape ds }
+{}
