@@ -1,5 +1,5 @@
 -- Values that hold elements of a lawful type one by one, front to back, are lawful.
-use Rattle.std.proofs.Common.{◌≡◌, ℕ, zero, suc, ◌+◌, ◌^◌, ◌<◌, ◌≤◌, Bool, Option, Some, None, List, [], ◌∷◌, length, refl, sym, ◌∙◌, ap, subst, arith}
+use Rattle.std.proofs.Common.{◌≡◌, ℕ, suc, ◌^◌, ◌<◌, ◌≤◌, Bool, None, List, [], ◌∷◌, length, refl, sym, ◌∙◌, ap, subst, arith}
 use Rattle.std.specs.Prelude.{IsTrue, All}
 use Rattle.std.specs.List.{AllZip}
 use Rattle.std.proofs.lemmas.List.Elements.{All-nil, All-cons, All-head, All-tail, All-same}
@@ -7,7 +7,7 @@ use Rattle.std.specs.declared.alloc.Global.{Global}
 use Rattle.std.specs.declared.vec.Vec.{Vec}
 use Rattle.std.specs.Vec.{vec_items}
 use denote.RawPtr.{block_ptr}
-use Rattle.bitcode_shapes.specs.Datum.{Datum, Data, no_data, datum_and, list, data_of, list_of, IsStorable, AreStorable, storable_list, storable_more}
+use Rattle.bitcode_shapes.specs.Datum.{Datum, Data, datum_and, list, data_of, list_of, IsStorable, AreStorable, storable_list, storable_more}
 use Rattle.bitcode_shapes.specs.Shape.{Shape, IsOf, IsSound, IsListOf, IsWithin, seq_shape}
 use Rattle.bitcode_shapes.specs.Lawful.{Lawful, Makeable}
 use Rattle.bitcode_shapes.specs.Sequences.{ListsSequence, MakesSequence, SameSequence}

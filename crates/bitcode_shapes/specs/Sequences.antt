@@ -1,6 +1,6 @@
 -- The listings and making of values that hold elements one by one, front to back, as slices and vectors do.
 -- Each is said of the list of the elements.
-use Rattle.std.specs.Prelude.{◌≡◌, ℕ, ◌<◌, ◌^◌, List, length, All}
+use Rattle.std.specs.Prelude.{◌≡◌, List}
 use Rattle.std.specs.List.{AllZip}
 use Rattle.bitcode_shapes.specs.Datum.{Datum, list, data_of}
 
