@@ -1,5 +1,5 @@
 -- What the encoders of the fields do to their columns makes up what the encoder of the pair does.
-use Rattle.std.proofs.Common.{◌≡◌, ap, inl, inr, refl}
+use Rattle.std.proofs.Common.{inl, inr, refl}
 use Rattle.std.specs.Prelude.{Result, Ok, Err, IfErr}
 use Rattle.bitcode_columns.specs.declared.error.Reason.{Reason}
 use Rattle.bitcode_shapes.specs.Datum.{Datum, pair}
