@@ -2,4 +2,5 @@
 #![tactic(auto)]
 
 pub mod derive;
+pub mod laws;
 pub mod whole;

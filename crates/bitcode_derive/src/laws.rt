@@ -1,0 +1,55 @@
+// What follows from the contracts of the whole calls. A call only looks at its values: its contract is the law.
+ghost use Rattle.std.specs.Prelude.{◌≡◌, IsTrue};
+ghost use Rattle.bitcode_coder.specs.Spelling.{LengthsBelowLimit};
+ghost use Rattle.bitcode_derive.specs.Whole.{columns_of_one, IsEncodingOf, IsDecodingOf, SpellsDatum};
+
+use crate::derive::{Decode, Encode};
+
+/// What was written for a value is read, and as a value equal to it, where each column of lengths sums below
+/// 2251799813685247.
+///
+/// The bytes spell the listing that was written, so `decode` refuses them only for want of memory; and what it
+/// gives is equal to the value.
+///
+/// ```
+/// let bytes = encode(alloc, &t)?;
+/// let u: T = decode(alloc, &bytes)?;
+/// round_trip(&t, &bytes, &u);
+/// ```
+pub fn round_trip<'a, T: Encode + Decode<'a>>(t: &T, bytes: &'a [u8], u: &T)
+    ensures spelled { (written : IsEncodingOf T.lists T.shape t.now bytes.now) → LengthsBelowLimit (columns_of_one T.shape written.datum)
+        → SpellsDatum T.shape bytes.now written.datum }
+    ensures equal { (written : IsEncodingOf T.lists T.shape t.now bytes.now) → LengthsBelowLimit (columns_of_one T.shape written.datum)
+        → IsDecodingOf T.makes T.shape bytes.now u.now → T.same t.now u.now }
+{
+    t.told();
+    u.told();
+}
+
+/// A value that keeps nothing in an order of its own, as a hashed container or a heap does, is written as the same
+/// bytes each time.
+///
+/// ```
+/// let bytes = encode(alloc, &t)?;
+/// let again = encode(alloc, &t)?;
+/// one_text(&t, &bytes, &again);
+/// ```
+pub fn one_text<T: Encode>(t: &T, bytes: &[u8], again: &[u8])
+    ensures { IsTrue T.in_order → IsEncodingOf T.lists T.shape t.now bytes.now → IsEncodingOf T.lists T.shape t.now again.now → bytes.now ≡ again.now }
+{
+    t.told();
+}
+
+/// Two values that are read from the same bytes are equal.
+///
+/// ```
+/// let t: T = decode(alloc, bytes)?;
+/// let u: T = decode(alloc, bytes)?;
+/// one_value(bytes, &t, &u);
+/// ```
+pub fn one_value<'a, T: Decode<'a>>(bytes: &'a [u8], t: &T, u: &T)
+    ensures { IsDecodingOf T.makes T.shape bytes.now t.now → IsDecodingOf T.makes T.shape bytes.now u.now → T.same t.now u.now }
+{
+    t.told();
+    u.told();
+}
