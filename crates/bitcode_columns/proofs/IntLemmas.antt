@@ -42,17 +42,17 @@ SpellsInts-once width = record {
 
 -- ---- an eighth
 
-at_width : (P : ℕ → Type 0) → P 1 → P 2 → P 4 → P 8 → P 16 → (width : ℕ) → IsWidth width → P width
+pub at_width : (P : ℕ → Type 0) → P 1 → P 2 → P 4 → P 8 → P 16 → (width : ℕ) → IsWidth width → P width
 at_width P p1 p2 p4 p8 p16 width (inl e) = subst P (sym e) p1
 at_width P p1 p2 p4 p8 p16 width (inr (inl e)) = subst P (sym e) p2
 at_width P p1 p2 p4 p8 p16 width (inr (inr (inl e))) = subst P (sym e) p4
 at_width P p1 p2 p4 p8 p16 width (inr (inr (inr (inl e)))) = subst P (sym e) p8
 at_width P p1 p2 p4 p8 p16 width (inr (inr (inr (inr e)))) = subst P (sym e) p16
 
-halvings_exact : (width : ℕ) → IsWidth width → 2 ^ halvings width ≡ width
+pub halvings_exact : (width : ℕ) → IsWidth width → 2 ^ halvings width ≡ width
 halvings_exact = at_width (λ width. 2 ^ halvings width ≡ width) refl refl refl refl refl
 
-some_width : (width : ℕ) → IsWidth width → 1 ≤ width
+pub some_width : (width : ℕ) → IsWidth width → 1 ≤ width
 some_width = at_width (λ width. 1 ≤ width) (omega arith) (omega arith) (omega arith) (omega arith) (omega arith)
 
 narrow_positive : (width level : ℕ) → IsWidth width → level ≤ halvings width → 1 ≤ width_at_level width level
@@ -134,7 +134,7 @@ narrower width narrow bound h k = ⊎_elim (λ below. below)
     (cases_lt narrow width)
 
 -- the width for a number is a width that holds it, and none that does is below it
-width_for_fits : (width bound : ℕ) → IsWidth width → bound < 256 ^ width
+pub width_for_fits : (width bound : ℕ) → IsWidth width → bound < 256 ^ width
     → IsWidth (width_for bound) × (bound < 256 ^ width_for bound) × (width_for bound ≤ width)
 width_for_fits width bound is_width h =
     let P : ℕ → Type 0 = λ w. IsWidth w × (bound < 256 ^ w) × (w ≤ width) in
@@ -148,14 +148,14 @@ width_for_fits width bound is_width h =
     let whole : width ≡ 16 = omega arith in
     (inr (inr (inr (inr refl))), subst (λ w. bound < 256 ^ w) whole h, wide)))))
 
-halvings_order : (narrow width : ℕ) → IsWidth narrow → IsWidth width → narrow ≤ width → halvings narrow ≤ halvings width
+pub halvings_order : (narrow width : ℕ) → IsWidth narrow → IsWidth width → narrow ≤ width → halvings narrow ≤ halvings width
 halvings_order narrow width is_narrow is_width h = ⊎_elim
     (λ above. absurd (omega (arith, pow_below (halvings width) (halvings narrow) above, halvings_exact narrow is_narrow, halvings_exact width is_width)))
     (λ below. below)
     (cases_lt (halvings width) (halvings narrow))
 
 -- the level between two widths leads from one to the other
-width_at_level_between : (width narrow : ℕ) → IsWidth width → IsWidth narrow → narrow ≤ width
+pub width_at_level_between : (width narrow : ℕ) → IsWidth width → IsWidth narrow → narrow ≤ width
     → width_at_level width (halvings width - halvings narrow) ≡ narrow
 width_at_level_between width narrow is_width is_narrow h =
     let level : ℕ = halvings width - halvings narrow in

@@ -13,3 +13,5 @@ pub mod BoolLemmas
 pub mod BoundLemmas
 pub mod NarrowLemmas
 pub mod ByteReadingLemmas
+pub mod WrittenLemmas
+pub mod AppendLemmas

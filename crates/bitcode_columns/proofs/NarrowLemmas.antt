@@ -72,3 +72,11 @@ raw_more width f xs i d entry start so_far next value h at before is after =
     ∙ ap (λ b. raw_text width (map f (take i xs)) ++ b) last in
     after ∙ ap (λ b. b ++ number_bytes width value) before ∙ append_assoc start (raw_text width (map f (take i xs))) (number_bytes width value)
     ∙ ap (λ b. start ++ b) (sym joined)
+
+pub map_more : {X Y Z : Type 0} (f : X → Z) (h : Y → Z) (xs : List X) (i : ℕ) (d entry : X) (before after : List Y) (value : Y)
+    → i < length xs → entry ≡ get_or xs i d → map h before ≡ map f (take i xs) → h value ≡ f entry → after ≡ before ++ (value ∷ [])
+    → map h after ≡ map f (take (i + 1) xs)
+map_more f h xs i d entry before after value inside at so_far is pushed =
+    let more : map f (take (i + 1) xs) ≡ map f (take i xs) ++ (f (get_or xs i d) ∷ []) =
+    ap (λ n. map f (take n xs)) {y = suc i} (omega arith) ∙ ap (map f) (take-suc xs i d inside) ∙ map-append f (take i xs) (get_or xs i d ∷ []) in
+    ap (map h) pushed ∙ map-append h before (value ∷ []) ∙ ap (λ l. l ++ (h value ∷ [])) so_far ∙ ap (λ z. map f (take i xs) ++ (z ∷ [])) (is ∙ ap f at) ∙ sym more

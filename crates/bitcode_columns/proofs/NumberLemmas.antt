@@ -77,7 +77,7 @@ greatest_above (entry ∷ entries) =
     let b = fold-int_max_bounds entry entries (greatest (entry ∷ entries)) refl in
     All-cons (λ e. e ≤ℤ greatest (entry ∷ entries)) entry entries b.0 b.1
 
-distance_below : (low e high : ℤ) → low ≤ℤ e → e ≤ℤ high → unsigned_abs (e -ℤ low) ≤ unsigned_abs (high -ℤ low)
+pub distance_below : (low e high : ℤ) → low ≤ℤ e → e ≤ℤ high → unsigned_abs (e -ℤ low) ≤ unsigned_abs (high -ℤ low)
 distance_below low e high h k = omega (arith, ints)
 
 -- the distances from the least entry are at most that of the greatest one
@@ -86,7 +86,7 @@ distances_below entries =
     All-map (λ n. n ≤ unsigned_abs (greatest entries -ℤ least entries)) (λ e. unsigned_abs (e -ℤ least entries)) entries
     (λ k d h. distance_below _ _ _ (least_below entries k d h) (greatest_above entries k d h))
 
-residue_at_most : (width : ℕ) (low e high : ℤ) → pos 0 ≤ℤ low → low ≤ℤ e → e ≤ℤ high → residue width e ≤ unsigned_abs high
+pub residue_at_most : (width : ℕ) (low e high : ℤ) → pos 0 ≤ℤ low → low ≤ℤ e → e ≤ℤ high → residue width e ≤ unsigned_abs high
 residue_at_most width low (pos n) high at_least h k = omega (arith, ints)
 residue_at_most width low (negsuc n) high at_least h k = absurd (omega (arith, ints))
 

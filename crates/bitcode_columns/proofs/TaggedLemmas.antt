@@ -81,20 +81,20 @@ pub record Holds (width highest : ℕ) (SpellsNarrow : ℕ → List ℕ → List
   pub narrowed : (bound : ℕ) (numbers : List ℕ) → bound < 256 ^ width → All (λ n. n ≤ bound) numbers
       → SpellsNarrow (level_for bound) (narrow_text (level_for bound) numbers) numbers
 
-least_among : (P : ℤ → Type 0) (entries : List ℤ) → 1 ≤ length entries → All P entries → P (least entries)
+pub least_among : (P : ℤ → Type 0) (entries : List ℤ) → 1 ≤ length entries → All P entries → P (least entries)
 least_among P [] some h = absurd (omega arith)
 least_among P (entry ∷ entries) some h =
     ⊎_elim (λ first. subst P (sym first) (All-head P entry entries h)) (λ later. All-contains P entries (least (entry ∷ entries)) (All-tail P entry entries h) later)
     (fold-int_min_reached entry entries (least (entry ∷ entries)) refl)
 
-greatest_among : (P : ℤ → Type 0) (entries : List ℤ) → 1 ≤ length entries → All P entries → P (greatest entries)
+pub greatest_among : (P : ℤ → Type 0) (entries : List ℤ) → 1 ≤ length entries → All P entries → P (greatest entries)
 greatest_among P [] some h = absurd (omega arith)
 greatest_among P (entry ∷ entries) some h =
     ⊎_elim (λ first. subst P (sym first) (All-head P entry entries h)) (λ later. All-contains P entries (greatest (entry ∷ entries)) (All-tail P entry entries h) later)
     (fold-int_max_reached entry entries (greatest (entry ∷ entries)) refl)
 
 -- two numbers of a width are less than 256 ^ width apart
-apart_below : (width : ℕ) (signed : Bool) (low high : ℤ) → 1 ≤ width → IsNumber width signed low → IsNumber width signed high
+pub apart_below : (width : ℕ) (signed : Bool) (low high : ℤ) → 1 ≤ width → IsNumber width signed low → IsNumber width signed high
     → low ≤ℤ high → unsigned_abs (high -ℤ low) < 256 ^ width
 apart_below width false (pos a) (pos b) positive in_low in_high h = omega (arith, ints)
 apart_below width false (pos a) (negsuc b) positive in_low in_high h = absurd in_high
@@ -105,7 +105,7 @@ apart_below zero true (negsuc a) (pos b) positive in_low in_high h = absurd (ome
 apart_below (suc width) true (negsuc a) (pos b) positive in_low in_high h = omega (arith, ints, pow-suc 256 width)
 apart_below width true (negsuc a) (negsuc b) positive in_low in_high h = omega (arith, ints)
 
-abs_below : (width : ℕ) (signed : Bool) (z : ℤ) → pos 0 ≤ℤ z → IsNumber width signed z → unsigned_abs z < 256 ^ width
+pub abs_below : (width : ℕ) (signed : Bool) (z : ℤ) → pos 0 ≤ℤ z → IsNumber width signed z → unsigned_abs z < 256 ^ width
 abs_below width false (pos n) h in_z = in_z
 abs_below width true (pos n) h in_z = omega arith
 abs_below width signed (negsuc n) h in_z = absurd (omega (arith, ints))
@@ -142,11 +142,11 @@ shifted_text-spells width highest SpellsNarrow level_for narrow_text holds signe
           ∙ residue_from width signed low (get_or entries k d) in_low (h k d i) (least_below entries k d i));
     }
 
-not_negative : (z : ℤ) → int_lt z (pos 0) ≡ false → pos 0 ≤ℤ z
+pub not_negative : (z : ℤ) → int_lt z (pos 0) ≡ false → pos 0 ≤ℤ z
 not_negative (pos n) e = omega (arith, ints)
 not_negative (negsuc n) e = absurd (true≢false e)
 
-above_not_negative : (low high : ℤ) → pos 0 ≤ℤ low → low ≤ℤ high → pos 0 ≤ℤ high
+pub above_not_negative : (low high : ℤ) → pos 0 ≤ℤ low → low ≤ℤ high → pos 0 ≤ℤ high
 above_not_negative low high h k = omega (arith, ints)
 
 plain_text-spells : (width highest : ℕ) (SpellsNarrow : ℕ → List ℕ → List ℕ → Type 0) (level_for : ℕ → ℕ) (narrow_text : ℕ → List ℕ → List ℕ)

@@ -1,10 +1,15 @@
 // Integers, packed.
-ghost use Rattle.std.specs.Prelude.{◌≡◌, ◌<◌, [], length, map};
+ghost use Rattle.std.specs.Prelude.{◌≡◌, ◌<◌, [], ◌++◌, length, map, OnOk, IfErr, OnErr};
+ghost use Rattle.bitcode_columns.specs.IntColumn.{int_text};
 ghost use Rattle.bitcode_columns.specs.Numbers.{least, greatest};
 
-use crate::int_types::SizedInt;
+use crate::error::{Error, Reason};
+use crate::int_types::{Int, SizedInt};
+use crate::pack_ints::append::append_ints;
 use crate::pack_ints::bounds::bounds;
+use std::alloc::Global;
 
+mod append;
 mod bounds;
 mod width;
 mod write;
@@ -21,4 +26,20 @@ pub fn minmax<T: SizedInt>(values: &[T]) -> (T, T)
         Some(bounds) => bounds,
         None => (T::MAX, T::MIN),
     }
+}
+
+/// Appends the column of the integers. The slice is scratch afterwards.
+///
+/// A refused growth is `out of memory`, and then `out` is as it was.
+pub fn pack_ints<T: Int>(alloc: Global, ints: &mut [T], out: &mut Vec<u8>) -> Result<(), Error>
+    ensures written { OnOk result (out.new.items ≡ out.old.items ++ int_text T.width (map T.number ints.old)) }
+    ensures unchanged { OnErr result (out.new.items ≡ out.old.items) }
+    ensures reason { IfErr result (λ e. e.reason ≡ Reason.OutOfMemory) }
+{
+    let start = out.len();
+    let packed = append_ints(alloc, ints, out);
+    if packed.is_err() {
+        out.truncate(start);
+    }
+    packed
 }

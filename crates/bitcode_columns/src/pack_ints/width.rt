@@ -1,5 +1,5 @@
 // The widths of narrow numbers, and the tags that say them.
-ghost use Rattle.std.specs.Prelude.{◌≡◌, ◌-◌, ◌*◌, ◌≤◌, ◌≤ℤ◌};
+ghost use Rattle.std.specs.Prelude.{◌≡◌, ◌-◌, ◌*◌, ◌≤◌, ◌≤ℤ◌, ◌==◌, ◌||◌, ◌&&◌, nat_lt};
 ghost use Rattle.bitcode_columns.specs.IntColumn.{halvings, width_for};
 ghost use Rattle.bitcode_columns.specs.Narrowing.{plain_width, shifted_width};
 
@@ -59,4 +59,18 @@ pub(crate) fn shifted_width<T: Int>(least: T, greatest: T) -> usize
     let low = least.to_unsigned();
     let high = greatest.to_unsigned();
     width_for(high.wrapping_sub(low).to_wide())
+}
+
+// Whether entries of a width stand without a tag.
+pub(crate) fn is_bare(width: usize, count: usize) -> bool
+    ensures { result ≡ (count == 0 || (width == 2 && count == 1)) }
+{
+    count == 0 || width == 2 && count == 1
+}
+
+// Whether so many entries are written without the least one.
+pub(crate) fn is_shifted(count: usize, plain: usize, shifted: usize) -> bool
+    ensures { result ≡ (nat_lt 5 count && nat_lt shifted plain) }
+{
+    count > 5 && shifted < plain
 }

@@ -1,10 +1,14 @@
 // Writing the numbers of a column at a width.
-ghost use Rattle.std.specs.Prelude.{◌≡◌, ◌%◌, ◌^◌, ◌++◌, map, OnOk, IfErr};
+ghost use Rattle.std.specs.Prelude.{◌≡◌, ◌%◌, ◌^◌, ◌++◌, map, All, IfOk, OnOk, IfErr, OnErr};
+ghost use Rattle.bitcode_columns.specs.ByteColumn.{byte_text};
+ghost use Rattle.bitcode_columns.specs.IntColumn.{IsWidth, narrow_text};
 ghost use Rattle.bitcode_columns.specs.LittleEndian.{raw_text};
 ghost use Rattle.bitcode_columns.specs.Narrowing.{above, IsFrontOf};
+ghost use Rattle.bitcode_columns.specs.Numbers.{IsNumber, number_of};
 
 use crate::error::{Error, Reason};
-use crate::int_types::{Int, SizedUInt};
+use crate::int_types::{Byte, Int, SizedUInt};
+use std::alloc::Global;
 
 // Appends how far each entry lies above a base, in the bytes of a narrow type.
 //
@@ -15,6 +19,7 @@ pub(crate) fn write_numbers<T: Int, N: SizedUInt>(
     out: &mut Vec<u8>,
 ) -> Result<(), Error>
     ensures written { OnOk result (out.new.items ≡ out.old.items ++ raw_text N.width (map (λ e. above T.width (T.Unsigned.value base) (T.number e) % 256 ^ N.width) entries.now)) }
+    ensures in_range { OnOk result (All (λ e. IsNumber T.width T.signed (T.number e)) entries.now) }
     ensures kept { IsFrontOf out.old.items out.new.items }
     ensures reason { IfErr result (λ e. e.reason ≡ Reason.OutOfMemory) }
 {
@@ -23,4 +28,90 @@ pub(crate) fn write_numbers<T: Int, N: SizedUInt>(
         N::from_wide(distance.to_wide()).write(out)?;
     }
     Ok(())
+}
+
+// How far each entry lies above a base, as numbers of one byte.
+fn narrow_bytes<T: Int, B: Byte>(
+    alloc: Global,
+    entries: &[T],
+    base: T::Unsigned,
+) -> Result<Vec<B>, Error>
+    ensures numbers { IfOk result (λ bytes. map B.number bytes.items ≡ map (λ e. number_of 1 B.signed (above T.width (T.Unsigned.value base) (T.number e) % 256)) entries.now) }
+    ensures in_range { OnOk result (All (λ e. IsNumber T.width T.signed (T.number e)) entries.now) }
+    ensures reason { IfErr result (λ e. e.reason ≡ Reason.OutOfMemory) }
+{
+    let mut bytes = Vec::with_capacity(alloc, entries.len())?;
+    for entry in entries {
+        let distance = entry.to_unsigned().wrapping_sub(base).to_wide();
+        bytes.push(B::from_byte((distance % 0x100) as u8))?;
+    }
+    Ok(bytes)
+}
+
+// Appends how far each entry lies above a base, as a byte column.
+pub(crate) fn write_bytes<T: Int, B: Byte>(
+    alloc: Global,
+    entries: &[T],
+    base: T::Unsigned,
+    out: &mut Vec<u8>,
+) -> Result<(), Error>
+    ensures written { OnOk result (out.new.items ≡ out.old.items ++ byte_text (map (λ e. number_of 1 B.signed (above T.width (T.Unsigned.value base) (T.number e) % 256)) entries.now)) }
+    ensures in_range { OnOk result (All (λ e. IsNumber T.width T.signed (T.number e)) entries.now) }
+    ensures kept { IsFrontOf out.old.items out.new.items }
+    ensures reason { IfErr result (λ e. e.reason ≡ Reason.OutOfMemory) }
+{
+    let mut bytes = narrow_bytes::<T, B>(alloc, entries, base)?;
+    pack_bytes(&mut bytes, out)
+}
+
+// Appends how far each entry lies above a base, at a narrow width.
+pub(crate) fn write_narrow<T: Int>(
+    alloc: Global,
+    entries: &[T],
+    base: T::Unsigned,
+    width: usize,
+    out: &mut Vec<u8>,
+) -> Result<(), Error>
+    requires { IsWidth width }
+    ensures written { OnOk result (out.new.items ≡ out.old.items ++ narrow_text width (map (λ e. above T.width (T.Unsigned.value base) (T.number e) % 256 ^ width) entries.now)) }
+    ensures kept { IsFrontOf out.old.items out.new.items }
+    ensures reason { IfErr result (λ e. e.reason ≡ Reason.OutOfMemory) }
+{
+    match width {
+        1 => write_bytes::<T, u8>(alloc, entries, base, out),
+        2 => write_numbers::<T, u16>(entries, base, out),
+        4 => write_numbers::<T, u32>(entries, base, out),
+        8 => write_numbers::<T, u64>(entries, base, out),
+        _ => write_numbers::<T, u128>(entries, base, out),
+    }
+}
+
+// Appends the column of entries that are bytes.
+pub(crate) fn write_column<T: Int>(
+    alloc: Global,
+    entries: &[T],
+    out: &mut Vec<u8>,
+) -> Result<(), Error>
+    requires { T.width ≡ 1 }
+    ensures written { OnOk result (out.new.items ≡ out.old.items ++ byte_text (map T.number entries.now)) }
+    ensures kept { IsFrontOf out.old.items out.new.items }
+    ensures reason { IfErr result (λ e. e.reason ≡ Reason.OutOfMemory) }
+{
+    let base = T::Unsigned::from_wide(0);
+    if T::is_signed() {
+        write_bytes::<T, i8>(alloc, entries, base, out)
+    } else {
+        write_bytes::<T, u8>(alloc, entries, base, out)
+    }
+}
+
+// Stands for the packer of bytes.
+fn pack_bytes<T: Byte>(bytes: &mut [T], out: &mut Vec<u8>) -> Result<(), Error>
+    ensures written { OnOk result (out.new.items ≡ out.old.items ++ byte_text (map T.number bytes.old)) }
+    ensures unchanged { OnErr result (out.new.items ≡ out.old.items) }
+    ensures reason { IfErr result (λ e. e.reason ≡ Reason.OutOfMemory) }
+{
+    Err(Error {
+        reason: Reason::OutOfMemory,
+    })
 }

@@ -1,9 +1,12 @@
-use Rattle.std.proofs.Common.{◌≡◌, ◌%◌, ◌^◌, ◌++◌, take, map}
+use Rattle.std.proofs.Common.{◌≡◌, ◌%◌, ◌^◌, ◌++◌, take, map, All}
 use Rattle.bitcode_columns.specs.LittleEndian.{raw_text}
-use Rattle.bitcode_columns.specs.Narrowing.{above, IsFrontOf}
+use Rattle.bitcode_columns.specs.Numbers.{IsNumber}
+use Rattle.bitcode_columns.specs.Narrowing.{above}
 use Rattle.bitcode_columns.proofs.pack_ints.write.write_numbers.Given as goal
 
 abbrev pub invariant-loop-entry : goal.invariant-loop-entry
-invariant-loop-entry g l =
-    l.out.items ≡ l.initial.out.items
-    ++ raw_text g.N.SizedUInt.width (map (λ e. above g.T.Int.width (g.T.Unsigned.SizedUInt.value l.base) (g.T.Int.number e) % 256 ^ g.N.SizedUInt.width) (take l.entry-index l.entries))
+invariant-loop-entry g l = record {
+  written : l.out.items ≡ l.initial.out.items
+      ++ raw_text g.N.SizedUInt.width (map (λ e. above g.T.Int.width (g.T.Unsigned.SizedUInt.value l.base) (g.T.Int.number e) % 256 ^ g.N.SizedUInt.width) (take l.entry-index l.entries));
+  in_range : All (λ e. IsNumber g.T.Int.width g.T.Int.signed (g.T.Int.number e)) (take l.entry-index l.entries);
+}

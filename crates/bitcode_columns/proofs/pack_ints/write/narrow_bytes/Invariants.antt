@@ -1,0 +1,11 @@
+use Rattle.std.proofs.Common.{◌≡◌, ◌%◌, ◌^◌, take, map, All}
+use Rattle.bitcode_columns.specs.Numbers.{IsNumber, number_of}
+use Rattle.bitcode_columns.specs.Narrowing.{above}
+use Rattle.bitcode_columns.proofs.pack_ints.write.narrow_bytes.Given as goal
+
+abbrev pub invariant-loop-entry : goal.invariant-loop-entry
+invariant-loop-entry g l = record {
+  numbers : map g.B.Int.number l.bytes.items
+      ≡ map (λ e. number_of 1 g.B.Int.signed (above g.T.Int.width (g.T.Unsigned.SizedUInt.value l.base) (g.T.Int.number e) % 256)) (take l.entry-index l.entries);
+  in_range : All (λ e. IsNumber g.T.Int.width g.T.Int.signed (g.T.Int.number e)) (take l.entry-index l.entries);
+}

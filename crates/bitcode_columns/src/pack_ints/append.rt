@@ -1,0 +1,88 @@
+// Appending the column of some integers.
+ghost use Rattle.std.specs.Prelude.{◌≡◌, ◌-◌, ◌%◌, ◌^◌, ◌<◌, ◌∷◌, ◌++◌, true, false, length, map, OnOk, IfErr};
+ghost use Rattle.bitcode_columns.specs.LittleEndian.{number_bytes};
+ghost use Rattle.bitcode_columns.specs.Numbers.{residue};
+ghost use Rattle.bitcode_columns.specs.Narrowing.{above, IsFrontOf};
+ghost use Rattle.bitcode_columns.specs.IntColumn.{IsWidth, halvings, narrow_text, int_level_for, text_at_int_level, int_text};
+ghost use Rattle.bitcode_columns.specs.Tagged.{tag_of, tagged_text};
+
+use crate::error::{Error, Reason};
+use crate::int_types::{Int, SizedUInt};
+use crate::pack_ints::bounds::bounds;
+use crate::pack_ints::width::{is_bare, is_shifted, plain_width, shifted_width, tag_for};
+use crate::pack_ints::write::{write_column, write_narrow, write_numbers};
+use std::alloc::Global;
+
+// Appends the entries, each less the least one, at a narrow width, behind a tag and the least one.
+fn append_shifted<T: Int>(
+    alloc: Global,
+    entries: &[T],
+    least: T,
+    narrow: usize,
+    out: &mut Vec<u8>,
+) -> Result<(), Error>
+    requires { IsWidth narrow }
+    ensures written { OnOk result (out.new.items ≡ out.old.items ++ tag_of (halvings T.width - halvings narrow) true ∷ (number_bytes T.width (residue T.width (T.number least)) ++ narrow_text narrow (map (λ e. above T.width (residue T.width (T.number least)) (T.number e) % 256 ^ narrow) entries.now))) }
+    ensures kept { IsFrontOf out.old.items out.new.items }
+    ensures reason { IfErr result (λ e. e.reason ≡ Reason.OutOfMemory) }
+{
+    let base = least.to_unsigned();
+    out.push(tag_for(T::width(), narrow).saturating_sub(1))?;
+    base.write(out)?;
+    write_narrow(alloc, entries, base, narrow, out)
+}
+
+// Appends the entries at a narrow width, behind a tag.
+fn append_plain<T: Int>(
+    alloc: Global,
+    entries: &[T],
+    narrow: usize,
+    out: &mut Vec<u8>,
+) -> Result<(), Error>
+    requires { IsWidth narrow }
+    ensures written { OnOk result (out.new.items ≡ out.old.items ++ tag_of (halvings T.width - halvings narrow) false ∷ narrow_text narrow (map (λ e. above T.width 0 (T.number e) % 256 ^ narrow) entries.now)) }
+    ensures kept { IsFrontOf out.old.items out.new.items }
+    ensures reason { IfErr result (λ e. e.reason ≡ Reason.OutOfMemory) }
+{
+    out.push(tag_for(T::width(), narrow))?;
+    write_narrow(alloc, entries, T::Unsigned::from_wide(0), narrow, out)
+}
+
+// Appends the entries behind a tag, in the form that takes the narrower numbers.
+fn append_tagged<T: Int>(alloc: Global, entries: &[T], out: &mut Vec<u8>) -> Result<(), Error>
+    requires { 0 < length entries.now }
+    ensures written { OnOk result (out.new.items ≡ out.old.items ++ tagged_text T.width (int_level_for T.width) (text_at_int_level T.width) (map T.number entries.now)) }
+    ensures kept { IsFrontOf out.old.items out.new.items }
+    ensures reason { IfErr result (λ e. e.reason ≡ Reason.OutOfMemory) }
+{
+    let (least, greatest) = bounds(entries).unwrap();
+    let plain = plain_width(least, greatest);
+    let shifted = shifted_width(least, greatest);
+    if is_shifted(entries.len(), plain, shifted) {
+        append_shifted(alloc, entries, least, shifted, out)
+    } else {
+        append_plain(alloc, entries, plain, out)
+    }
+}
+
+// Appends the column of the entries.
+//
+// What was appended before a refusal stays.
+pub(crate) fn append_ints<T: Int>(
+    alloc: Global,
+    entries: &[T],
+    out: &mut Vec<u8>,
+) -> Result<(), Error>
+    ensures written { OnOk result (out.new.items ≡ out.old.items ++ int_text T.width (map T.number entries.now)) }
+    ensures kept { IsFrontOf out.old.items out.new.items }
+    ensures reason { IfErr result (λ e. e.reason ≡ Reason.OutOfMemory) }
+{
+    if T::width() == 1 {
+        return write_column(alloc, entries, out);
+    }
+    if is_bare(T::width(), entries.len()) {
+        let base = T::Unsigned::from_wide(0);
+        return write_numbers::<T, T::Unsigned>(entries, base, out);
+    }
+    append_tagged(alloc, entries, out)
+}
