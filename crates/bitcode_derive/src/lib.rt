@@ -2,5 +2,6 @@
 #![tactic(auto)]
 
 pub mod derive;
+mod impls;
 pub mod laws;
 pub mod whole;

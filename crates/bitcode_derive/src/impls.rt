@@ -1,0 +1,37 @@
+// The coders of bools, the unit and pairs.
+use bitcode_coder::bool::{BoolDecoder, BoolEncoder};
+use bitcode_parts::empty::EmptyCoder;
+use bitcode_tuples::decoder::TupleDecoder;
+use bitcode_tuples::encoder::TupleEncoder;
+
+use crate::derive::{Decode, DecodeOwned, Encode};
+
+impl Encode for bool {
+    type Encoder = BoolEncoder;
+}
+
+impl<'a> Decode<'a> for bool {
+    type Decoder = BoolDecoder<'a>;
+}
+
+impl DecodeOwned for bool {}
+
+impl Encode for () {
+    type Encoder = EmptyCoder;
+}
+
+impl<'a> Decode<'a> for () {
+    type Decoder = EmptyCoder;
+}
+
+impl DecodeOwned for () {}
+
+impl<A: Encode, B: Encode> Encode for (A, B) {
+    type Encoder = TupleEncoder<A::Encoder, B::Encoder>;
+}
+
+impl<'a, A: Decode<'a>, B: Decode<'a>> Decode<'a> for (A, B) {
+    type Decoder = TupleDecoder<A::Decoder, B::Decoder>;
+}
+
+impl<A: DecodeOwned, B: DecodeOwned> DecodeOwned for (A, B) {}
