@@ -15,3 +15,4 @@ pub mod NarrowLemmas
 pub mod ByteReadingLemmas
 pub mod WrittenLemmas
 pub mod AppendLemmas
+pub mod BytePackingLemmas

@@ -1,13 +1,15 @@
 // Small entries as the digits of bytes.
-ghost use Rattle.std.specs.Prelude.{◌≡◌, ℕ, ◌+◌, ◌*◌, ◌/◌, ◌%◌, ◌^◌, ◌<◌, ◌≤◌, ◌++◌, length, map, vec_len, vec_capacity, All, IsOk, IfOk, IfErr, OnErr};
+ghost use Rattle.std.specs.Prelude.{◌≡◌, ℕ, ◌+◌, ◌*◌, ◌/◌, ◌%◌, ◌^◌, ◌<◌, ◌≤◌, ◌++◌, length, map, vec_len, vec_capacity, All, ◌⊎◌, IsOk, IfOk, OnOk, IfErr, OnErr};
 ghost use Rattle.std.specs.List.{range_with_len};
 ghost use Rattle.std.specs.Int.{div_ceil};
 ghost use Rattle.bitcode_columns.specs.BoolColumn.{bool_number};
 ghost use Rattle.bitcode_columns.specs.Digits.{radix, digits_in_byte, digit, number_with_digits, SpellsDigits, digits_text};
+ghost use Rattle.bitcode_columns.specs.Numbers.{residue};
 ghost use Rattle.bitcode_columns.specs.Reading.{Reads, IsEndOf, Names, digits_fault};
 
 use crate::consume::consume_bytes;
-use crate::error::Error;
+use crate::error::{Error, Reason};
+use crate::int_types::Byte;
 use crate::pack::Base;
 use std::alloc::{AllocError, Global};
 
@@ -27,17 +29,17 @@ pub(crate) trait Digit: Copy {
         ensures { digit_of result ≡ digit };
 }
 
-impl Digit for u8 {
-    ghost digit_of = { λ entry. entry };
+impl<T: Byte> Digit for T {
+    ghost digit_of = { λ entry. residue 1 (T.number entry) };
 
     ghost limit = { 256 };
 
     fn to_digit(self) -> u8 {
-        self
+        self.to_byte()
     }
 
-    fn from_digit(digit: u8) -> u8 {
-        digit
+    fn from_digit(digit: u8) -> T {
+        T::from_byte(digit)
     }
 }
 
@@ -68,8 +70,8 @@ fn number_with_digits<T: Digit>(base: Base, digits: &[T]) -> u8
     number as u8
 }
 
-/// Appends the entries, so many of them to a byte as the base has digits in it.
-pub(crate) fn push_packed<T: Digit>(base: Base, entries: &[T], out: &mut Vec<u8>)
+// Appends the entries, so many of them to a byte as the base has digits in it.
+fn push_packed<T: Digit>(base: Base, entries: &[T], out: &mut Vec<u8>)
     requires room { vec_len out.old + div_ceil (length entries.now) (digits_in_byte base) ≤ vec_capacity out.old }
     requires digits { All (λ entry. T.digit_of entry < radix base) entries.now }
     ensures { out.new.items ≡ out.old.items ++ digits_text base (map T.digit_of entries.now) }
@@ -81,6 +83,42 @@ pub(crate) fn push_packed<T: Digit>(base: Base, entries: &[T], out: &mut Vec<u8>
         out.push_reserved(number_with_digits(base, digits));
         rest = others;
     }
+}
+
+// Appends the entries, each in a byte of its own.
+fn push_whole<T: Digit>(entries: &[T], out: &mut Vec<u8>)
+    requires { vec_len out.old + length entries.now ≤ vec_capacity out.old }
+    ensures { out.new.items ≡ out.old.items ++ map T.digit_of entries.now }
+{
+    for entry in entries {
+        out.push_reserved(entry.to_digit());
+    }
+}
+
+/// Appends a front and the entries behind it, whole bytes or digits of the base.
+///
+/// A refused growth is `out of memory`, and `out` holds what it held.
+pub(crate) fn pack_digits<T: Digit>(
+    front: &[u8],
+    base: Base,
+    entries: &[T],
+    out: &mut Vec<u8>,
+) -> Result<(), Error>
+    requires { (base ≡ Base.Whole) ⊎ All (λ entry. T.digit_of entry < radix base) entries.now }
+    ensures written { OnOk result (out.new.items ≡ out.old.items ++ (front.now ++ digits_text base (map T.digit_of entries.now))) }
+    ensures reason { IfErr result (λ e. e.reason ≡ Reason.OutOfMemory) }
+    ensures unchanged { OnErr result (out.new.items ≡ out.old.items) }
+    ensures full { OnErr result (vec_capacity out.old < vec_len out.old + length (front.now ++ digits_text base (map T.digit_of entries.now))) }
+{
+    let packed = entries.len().div_ceil(base.digits_in_byte());
+    out.reserve(packed.saturating_add(front.len()))?;
+    out.extend_from_slice(front).unwrap();
+    if base == Base::Whole {
+        push_whole(entries, out);
+    } else {
+        push_packed(base, entries, out);
+    }
+    Ok(())
 }
 
 // Appends the lowest digits of a byte.
@@ -98,8 +136,8 @@ fn push_digits_of<T: Digit>(base: Base, byte: u8, count: usize, out: &mut Vec<T>
     }
 }
 
-/// So many entries, from bytes that hold them and no more.
-pub(crate) fn unpacked<T: Digit>(
+// So many entries, from bytes that hold them and no more.
+fn unpacked<T: Digit>(
     alloc: Global,
     base: Base,
     packed: &[u8],

@@ -1,15 +1,15 @@
 // Bools and bytes, packed.
 ghost use Rattle.std.specs.Prelude.{◌≡◌, ℕ, ◌+◌, ◌<◌, ◌++◌, length, vec_len, vec_capacity, IsOk, OnOk, IfErr, OnErr};
 ghost use Rattle.bitcode_columns.specs.BoolColumn.{SpellsBools, bool_text};
-ghost use Rattle.bitcode_columns.specs.ByteColumn.{base_at_level};
-ghost use Rattle.bitcode_columns.specs.Digits.{radix, digits_in_byte};
+ghost use Rattle.bitcode_columns.specs.ByteColumn.{level_of_base, base_at_level};
+ghost use Rattle.bitcode_columns.specs.Digits.{radix, digits_in_byte, base_for};
 ghost use Rattle.bitcode_columns.specs.Fast.{cow_rest};
 ghost use Rattle.bitcode_columns.specs.Reading.{Reads, IsEndOf, Names, bools_fault};
 
-use crate::digits::{push_packed, unpack_digits};
+use crate::digits::{pack_digits, unpack_digits};
 use crate::error::{Error, Reason};
 use crate::fast::CowSlice;
-pub use crate::pack::bytes::unpack_bytes;
+pub use crate::pack::bytes::{pack_bytes, unpack_bytes};
 use std::alloc::Global;
 
 mod bytes;
@@ -40,7 +40,35 @@ impl Base {
         }
     }
 
-    /// The base of a level: a higher level has smaller digits.
+    /// The least base whose digits reach this number.
+    fn for_greatest(greatest: u8) -> Base
+        ensures { result ≡ base_for greatest }
+    {
+        match greatest {
+            0..=1 => Base::Two,
+            2 => Base::Three,
+            3 => Base::Four,
+            4..=5 => Base::Six,
+            6..=15 => Base::Sixteen,
+            _ => Base::Whole,
+        }
+    }
+
+    /// The level of the base: a higher level has smaller digits.
+    fn level(self) -> u8
+        ensures { result ≡ level_of_base self }
+    {
+        match self {
+            Base::Whole => 0,
+            Base::Sixteen => 1,
+            Base::Six => 2,
+            Base::Four => 3,
+            Base::Three => 4,
+            Base::Two => 5,
+        }
+    }
+
+    /// The base of a level.
     fn at_level(level: u8) -> Base
         ensures { result ≡ base_at_level level }
     {
@@ -78,9 +106,7 @@ pub fn pack_bools(bools: &[bool], out: &mut Vec<u8>) -> Result<(), Error>
     ensures unchanged { OnErr result (out.new.items ≡ out.old.items) }
     ensures full { OnErr result (vec_capacity out.old < vec_len out.old + length (bool_text bools.now)) }
 {
-    out.reserve(bools.len().div_ceil(Base::Two.digits_in_byte()))?;
-    push_packed(Base::Two, bools, out);
-    Ok(())
+    pack_digits(&[], Base::Two, bools, out)
 }
 
 /// Reads a column of so many bools from the front of the input into `out`, in memory of its own.

@@ -1,16 +1,20 @@
 // Byte columns.
-ghost use Rattle.std.specs.Prelude.{◌≡◌, ◌≢◌, ℕ, ◌+◌, ◌%◌, ◌/◌, ◌<◌, ◌≤◌, ◌++◌, List, Option, Some, All, length, map, IsTrue, OnOk, IfOk, IfErr, OnErr};
+ghost use Rattle.std.specs.Prelude.{◌≡◌, ◌≢◌, ℕ, ◌+◌, ◌%◌, ◌/◌, ◌<◌, ◌≤◌, ◌++◌, ◌-ℤ◌, ◌≤ℤ◌, pos, int_lt, unsigned_abs, vec_len, vec_capacity, if◌then◌else◌, List, Option, Some, All, length, map, IsTrue, OnOk, IfOk, IfErr, OnErr};
 ghost use Rattle.bitcode_columns.specs.declared.error.Reason.{Reason};
-ghost use Rattle.bitcode_columns.specs.ByteColumn.{SpellsBytes, highest_byte_tag};
+ghost use Rattle.bitcode_columns.specs.ByteColumn.{SpellsBytes, byte_text, highest_byte_tag};
 ghost use Rattle.bitcode_columns.specs.ByteForm.{TellsForm};
+ghost use Rattle.bitcode_columns.specs.Digits.{base_for};
 ghost use Rattle.bitcode_columns.specs.Fast.{cow_rest};
+ghost use Rattle.bitcode_columns.specs.Numbers.{residue};
 ghost use Rattle.bitcode_columns.specs.Reading.{Reads, IsEndOf, Names, tagged_fault, bytes_fault, bytes_stand_raw};
 
 use crate::consume::{consume_byte, consume_bytes};
-use crate::digits::unpack_digits;
+use crate::digits::{pack_digits, unpack_digits};
 use crate::error::{Error, Reason};
 use crate::fast::CowSlice;
+use crate::int_types::Byte;
 use crate::pack::Base;
+use crate::pack_ints::minmax;
 use crate::refuse::err;
 use std::alloc::Global;
 
@@ -19,6 +23,9 @@ const HIGHEST_TAG: u8 = 10;
 
 /// A column of at most so many bytes stands without a tag.
 const MOST_WITHOUT_TAG: usize = 2;
+
+/// At most so many bytes are never written as what lies above the least of them.
+const MOST_UNSHIFTED: usize = 5;
 
 /// How the entries of a byte column stand behind its tag.
 #[derive(Clone, Copy)]
@@ -98,4 +105,64 @@ pub fn unpack_bytes<'a>(
     add_to_each(&mut entries, form.least);
     out.set_owned(entries);
     Ok(())
+}
+
+/// Takes the least number off each, so that it is the digit of what is left.
+fn subtract_from_each<T: Byte>(bytes: &mut [T], least: T)
+    requires { All (λ entry. T.number least ≤ℤ T.number entry) bytes.old }
+    ensures { map (λ entry. residue 1 (T.number entry)) bytes.new ≡ map (λ entry. unsigned_abs (T.number entry -ℤ T.number least)) bytes.old }
+{
+    let low = least.to_byte();
+    for byte in bytes.iter_mut() {
+        *byte = T::from_byte(byte.to_byte().wrapping_sub(low));
+    }
+}
+
+/// The base in which the entries stand as they are: negative ones are whole bytes.
+fn plain_base<T: Byte>(least: T, greatest: T) -> Base
+    requires { T.number least ≤ℤ T.number greatest }
+    ensures { result ≡ (if int_lt (T.number least) (pos 0) then Base.Whole else base_for (unsigned_abs (T.number greatest))) }
+{
+    if least.is_less(T::from_byte(0)) {
+        Base::Whole
+    } else {
+        Base::for_greatest(greatest.to_byte())
+    }
+}
+
+/// The base in which the entries stand without the least one.
+fn shifted_base<T: Byte>(least: T, greatest: T) -> Base
+    requires { T.number least ≤ℤ T.number greatest }
+    ensures { result ≡ base_for (unsigned_abs (T.number greatest -ℤ T.number least)) }
+{
+    Base::for_greatest(greatest.to_byte().wrapping_sub(least.to_byte()))
+}
+
+/// Appends a column of bytes: as they are, or several to a byte where they are small, or where
+/// they lie close to the least one. `bytes` is scratch afterwards.
+///
+/// A refused growth is `out of memory`, and `out` holds what it held.
+pub fn pack_bytes<T: Byte>(bytes: &mut [T], out: &mut Vec<u8>) -> Result<(), Error>
+    ensures written { OnOk result (out.new.items ≡ out.old.items ++ byte_text (map T.number bytes.old)) }
+    ensures reason { IfErr result (λ e. e.reason ≡ Reason.OutOfMemory) }
+    ensures unchanged { OnErr result (out.new.items ≡ out.old.items) }
+    ensures full { OnErr result (vec_capacity out.old < vec_len out.old + length (byte_text (map T.number bytes.old))) }
+{
+    if bytes.len() <= MOST_WITHOUT_TAG {
+        return pack_digits(&[], Base::Whole, bytes, out);
+    }
+    let (least, greatest) = minmax(bytes);
+    let plain = plain_base(least, greatest);
+    let shifted = shifted_base(least, greatest);
+    if bytes.len() > MOST_UNSHIFTED && plain.level() < shifted.level() {
+        subtract_from_each(bytes, least);
+        pack_digits(
+            &[2 * shifted.level() - 1, least.to_byte()],
+            shifted,
+            bytes,
+            out,
+        )
+    } else {
+        pack_digits(&[2 * plain.level()], plain, bytes, out)
+    }
 }

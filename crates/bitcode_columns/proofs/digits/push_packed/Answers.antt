@@ -1,4 +1,4 @@
-use Rattle.std.proofs.Common.{◌≡◌, ◌*◌, ◌++◌, length, drop, sym, ap, ◌∙◌, arith}
+use Rattle.std.proofs.Common.{◌≡◌, ◌*◌, length, drop, sym, ap, arith}
 use Rattle.std.specs.Int.{div_ceil}
 use Rattle.std.proofs.lemmas.List.{append-nil}
 use Rattle.bitcode_columns.specs.Digits.{digits_in_byte}
@@ -29,10 +29,10 @@ loop-byte-preserved g c =
     let few = c.digits_in_byte-in_byte in
     let was = c.loop-byte.invariant in
     record {
-      rest = c.split_at.ensures.back ∙ rest-next number base entries rest byte c.min.result few.result was.rest c.min.ensures few.ensures;
-      items = c.push_reserved.ensures.items
-          ∙ packed_push number base entries rest byte c.min.result few.result was.rest c.min.ensures few.ensures
-          c.number_with_digits.result c.split_at.result.0.now c.args.out.now.items c.loop-byte.out.items c.split_at.ensures.front c.number_with_digits.ensures was.items;
+      rest = rw c.split_at.ensures.back (rest-next number base entries rest byte c.min.result few.result was.rest c.min.ensures few.ensures);
+      items = rw c.push_reserved.ensures.items
+          (packed_push number base entries rest byte c.min.result few.result was.rest c.min.ensures few.ensures
+          c.number_with_digits.result c.split_at.result.0.now c.args.out.now.items c.loop-byte.out.items c.split_at.ensures.front c.number_with_digits.ensures was.items);
       room = omega (arith, few.ensures);
     }
 
@@ -40,5 +40,5 @@ pub returns : goal.returns
 returns g c =
     let few = c.digits_in_byte-in_byte in
     let all : c.loop-byte._byte ≡ div_ceil (length c.args.entries.now) few.result = omega (arith, c.div_ceil-byte-end.ensures) in
-    c.loop-byte.invariant.items
-    ∙ ap (λ bytes. c.args.out.now.items ++ bytes) (packed_so_far-whole g.T.Digit.digit_of c.args.base c.args.entries.now c.loop-byte._byte few.result all few.ensures)
+    let whole = packed_so_far-whole g.T.Digit.digit_of c.args.base c.args.entries.now c.loop-byte._byte few.result all few.ensures in
+    rw (c.loop-byte.invariant.items, whole)
