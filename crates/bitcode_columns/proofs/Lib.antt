@@ -12,6 +12,8 @@ pub mod ReadingLemmas
 pub mod BoolLemmas
 pub mod BoundLemmas
 pub mod NarrowLemmas
+pub mod WideningLemmas
+pub mod IntReadingLemmas
 pub mod ByteReadingLemmas
 pub mod WrittenLemmas
 pub mod AppendLemmas

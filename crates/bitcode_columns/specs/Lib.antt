@@ -17,3 +17,4 @@ pub mod Rows
 pub mod AcceptedRows
 pub mod Vectors
 pub mod ByteForm
+pub mod IntHeader

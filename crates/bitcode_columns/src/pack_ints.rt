@@ -11,6 +11,7 @@ use std::alloc::Global;
 
 mod append;
 mod bounds;
+mod read;
 mod width;
 mod write;
 
