@@ -1,16 +1,23 @@
-// Integers as the entries of a column.
+// The coders of a column of integers.
 #![tactic(auto)]
 
-ghost use Rattle.std.specs.Prelude.{◌≡◌, List, refl};
-ghost use Rattle.std.proofs.Common.{ap};
+ghost use Rattle.std.specs.Prelude.{◌≡◌, ◌≤◌, ◌++◌, List, [], refl, OnOk, IfErr};
+ghost use Rattle.std.proofs.Common.{sym, ap};
+ghost use Rattle.bitcode_columns.specs.Fast.{fast_items, fast_room};
 ghost use Rattle.bitcode_shapes.specs.Datum.{Datum, number};
 ghost use Rattle.bitcode_shapes.specs.Shape.{Shape};
 ghost use Rattle.bitcode_shapes.specs.Values.{int_shape};
 ghost use Rattle.bitcode_coder.specs.Columns.{ints, one};
+ghost use Rattle.bitcode_coder.specs.IntData.{int_data};
 ghost use Rattle.bitcode_coder.specs.Coding.{written_columns};
 
+use crate::coder::{Buffer, Encoder};
+use bitcode_columns::error::Error;
+use bitcode_columns::fast::{FastVec, PushUnchecked};
 use bitcode_columns::int_types::Int;
+use bitcode_columns::pack_ints::pack_ints;
 use bitcode_shapes::shaped::{Made, Shaped};
+use std::alloc::Global;
 
 /// A type whose values are written as integers `I`, such as `char` as `u32`.
 pub trait AsInt<I: Int>: Shaped {
@@ -84,4 +91,51 @@ impl<T: Integer> AsInt<T> for T {
     }
 
     ghost as_int_columns = { λ ds. ap (λ (shape : Shape). written_columns shape ds) T.integer_shape };
+}
+
+/// The column that integers are written to.
+#[derive(Drop)]
+pub struct IntEncoder<T: Int> {
+    alloc: Global,
+    values: FastVec<T>,
+}
+
+impl<T: Int> Buffer for IntEncoder<T> {
+    ghost columns = { λ e. one (ints T.width T.signed) (int_data T.number (fast_items e.values)) };
+
+    ghost room = { λ e. fast_room e.values };
+
+    ghost surely_passes = { λ e n. ⊥ };
+
+    fn new(alloc: Global) -> Self {
+        IntEncoder {
+            alloc,
+            values: FastVec::new(alloc),
+        }
+    }
+
+    fn reserve(&mut self, n: usize) -> Result<(), Error> {
+        self.values.reserve(n)
+    }
+
+    fn collect_into(&mut self, out: &mut Vec<u8>) -> Result<(), Error> {
+        pack_ints(self.alloc, self.values.as_mut_slice(), out)?;
+        self.values.clear();
+        Ok(())
+    }
+
+    fn clear(&mut self) {
+        self.values.clear();
+    }
+}
+
+impl<I: Int, P: AsInt<I>> Encoder<P> for IntEncoder<I> {
+    fn encode(&mut self, t: &P) -> Result<(), Error> {
+        self.values.push_unchecked(t.to_int());
+        Ok(())
+    }
+
+    ghost of_shape = { λ e. sym (P.as_int_columns []) };
+
+    ghost surely = { λ e n never. absurd never };
 }
