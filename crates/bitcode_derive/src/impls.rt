@@ -1,10 +1,9 @@
 // The coders of bools, the unit and pairs.
+use crate::derive::{Decode, DecodeOwned, Encode};
 use bitcode_coder::bool::{BoolDecoder, BoolEncoder};
 use bitcode_parts::empty::EmptyCoder;
 use bitcode_tuples::decoder::TupleDecoder;
 use bitcode_tuples::encoder::TupleEncoder;
-
-use crate::derive::{Decode, DecodeOwned, Encode};
 
 impl Encode for bool {
     type Encoder = BoolEncoder;

@@ -1,0 +1,80 @@
+// A buffer that values of one type are written to, one after the other.
+ghost use Rattle.std.specs.Prelude.{◌≡◌, ◌≢◌, IsTrue, IfOk, IfErr};
+ghost use Rattle.bitcode_shapes.specs.Datum.{Datum};
+ghost use Rattle.bitcode_coder.specs.Coding.{IsWritingRefusal, IsReadingReason};
+ghost use Rattle.bitcode_derive.specs.Whole.{IsEncodingOf, HasLongListing, IsDecodingOf, SpellsDatum, SpellsAtMostOne, IsBoundedByBytes};
+
+use crate::derive::{Decode, Encode};
+use crate::whole;
+use bitcode_coder::coder::{Buffer as _, Encoder};
+use bitcode_columns::error::{Error, Reason};
+use std::alloc::Global;
+
+/// Writes values of one type, one after the other, into memory that it keeps.
+///
+/// Each call stands for itself: what came before it, refusals too, changes nothing of what is written.
+///
+/// ```
+/// let mut buffer: Buffer<(bool, u16)> = Buffer::new(alloc);
+/// let bytes = buffer.encode(&(true, 7))?;
+/// prove!(bytes == [1, 7, 0]);
+/// ```
+#[derive(Drop)]
+pub struct Buffer<T: Encode> {
+    alloc: Global,
+    encoder: T::Encoder,
+    bytes: Vec<u8>,
+}
+
+impl<T: Encode> Buffer<T> {
+    /// Holds nothing. Takes no memory.
+    pub fn new(alloc: Global) -> Self {
+        Buffer {
+            alloc,
+            encoder: T::Encoder::new(alloc),
+            bytes: Vec::new(alloc),
+        }
+    }
+
+    /// Writes a value: bytes that `whole::encode` may give for it.
+    ///
+    /// Errors: `length overflow` where some number of arrays in the value times their size passes
+    /// 18446744073709551615, and `out of memory` where a growth was refused.
+    ///
+    /// ```
+    /// let bytes = buffer.encode(&(true, 7))?;
+    /// ```
+    pub fn encode(&mut self, t: &T) -> Result<&[u8], Error>
+        ensures written { IfOk result (λ bytes. IsEncodingOf T.lists T.shape t.now bytes.now) }
+        ensures refused { IfErr result (λ e. IsWritingRefusal e.reason (HasLongListing T.lists T.shape t.now)) }
+    {
+        t.told();
+        self.encoder.clear();
+        self.bytes.clear();
+        self.encoder.reserve(1)?;
+        self.encoder.encode(t)?;
+        self.encoder.collect_into(&mut self.bytes)?;
+        Ok(self.bytes.as_slice())
+    }
+
+    /// Reads the one value that all of the bytes spell, as `whole::decode` does.
+    ///
+    /// Errors: one of the faults of the input, `expected EOF` where bytes are left behind the value, and
+    /// `out of memory` where a growth was refused.
+    ///
+    /// ```
+    /// let pair = buffer.decode(&[1, 7, 0])?;
+    /// ```
+    pub fn decode<'a>(&mut self, bytes: &'a [u8]) -> Result<T, Error>
+    where
+        T: Decode<'a>,
+        ensures found { IfOk result (λ t. IsDecodingOf T.makes T.shape bytes.now t) }
+        ensures once { SpellsAtMostOne T.shape bytes.now }
+        ensures bounded { IsBoundedByBytes T.shape bytes.now }
+        ensures reasons { IfErr result (λ e. IsReadingReason e.reason) }
+        ensures refused { IfErr result (λ e. e.reason ≢ Reason.OutOfMemory → (d : Datum) → SpellsDatum T.shape bytes.now d → ⊥) }
+        ensures free { T.Decoder.reads_free 1 bytes.now → IsTrue T.Decoder.makes_free → IfErr result (λ e. e.reason ≢ Reason.OutOfMemory) }
+    {
+        whole::decode(self.alloc, bytes)
+    }
+}
