@@ -1,5 +1,5 @@
 // Writing the numbers of a column at a width.
-ghost use Rattle.std.specs.Prelude.{◌≡◌, ◌%◌, ◌^◌, ◌++◌, map, All, IfOk, OnOk, IfErr, OnErr};
+ghost use Rattle.std.specs.Prelude.{◌≡◌, ◌%◌, ◌^◌, ◌++◌, map, All, IfOk, OnOk, IfErr};
 ghost use Rattle.bitcode_columns.specs.ByteColumn.{byte_text};
 ghost use Rattle.bitcode_columns.specs.IntColumn.{IsWidth, narrow_text};
 ghost use Rattle.bitcode_columns.specs.LittleEndian.{raw_text};
@@ -8,6 +8,7 @@ ghost use Rattle.bitcode_columns.specs.Numbers.{IsNumber, number_of};
 
 use crate::error::{Error, Reason};
 use crate::int_types::{Byte, Int, SizedUInt};
+use crate::pack::pack_bytes;
 use std::alloc::Global;
 
 // Appends how far each entry lies above a base, in the bytes of a narrow type.
@@ -103,15 +104,4 @@ pub(crate) fn write_column<T: Int>(
     } else {
         write_bytes::<T, u8>(alloc, entries, base, out)
     }
-}
-
-// Stands for the packer of bytes.
-fn pack_bytes<T: Byte>(bytes: &mut [T], out: &mut Vec<u8>) -> Result<(), Error>
-    ensures written { OnOk result (out.new.items ≡ out.old.items ++ byte_text (map T.number bytes.old)) }
-    ensures unchanged { OnErr result (out.new.items ≡ out.old.items) }
-    ensures reason { IfErr result (λ e. e.reason ≡ Reason.OutOfMemory) }
-{
-    Err(Error {
-        reason: Reason::OutOfMemory,
-    })
 }
