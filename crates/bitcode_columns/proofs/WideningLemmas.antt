@@ -50,8 +50,8 @@ numbers_more size i low modulus bytes rest so_far number wide entry so rest_is n
     ap (λ n. first_chunks size n bytes) (add-one i) ∙ chunks_suc size i bytes in
     ap (λ xs. xs ++ entry ∷ []) so ∙ ap (λ n. map F (map little_endian (first_chunks size i bytes)) ++ n ∷ []) value
     ∙ sym (ap (λ cs. map F (map little_endian cs)) chunks
-        ∙ ap (map F) (map-append little_endian (first_chunks size i bytes) (chunk ∷ []))
-        ∙ map-append F (map little_endian (first_chunks size i bytes)) (little_endian chunk ∷ []))
+    ∙ ap (map F) (map-append little_endian (first_chunks size i bytes) (chunk ∷ []))
+    ∙ map-append F (map little_endian (first_chunks size i bytes)) (little_endian chunk ∷ []))
 
 pub rest_more : (size i : ℕ) (bytes rest behind : List ℕ) → rest ≡ drop (i * size) bytes → behind ≡ drop size rest → behind ≡ drop ((i + 1) * size) bytes
 rest_more size i bytes rest behind rest_is behind_is =

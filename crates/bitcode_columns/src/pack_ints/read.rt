@@ -4,10 +4,11 @@ ghost use Rattle.std.specs.Simd.{first_chunks};
 ghost use Rattle.bitcode_columns.specs.declared.error.Reason.{Reason};
 ghost use Rattle.bitcode_columns.specs.Fast.{cow_rest};
 ghost use Rattle.bitcode_columns.specs.ByteColumn.{SpellsBytes};
-ghost use Rattle.bitcode_columns.specs.IntColumn.{IsWidth, SpellsInts, SpellsNarrow, halvings, highest_int_tag, width_at_level};
+ghost use Rattle.bitcode_columns.specs.IntColumn.{IsWidth, SpellsInts, SpellsNarrow, SpellsAtIntLevel, tagged_form, halvings, highest_int_tag, width_at_level};
 ghost use Rattle.bitcode_columns.specs.IntHeader.{TellsLevel, ReadsWidened};
 ghost use Rattle.bitcode_columns.specs.LittleEndian.{SpellsRaw, little_endian};
-ghost use Rattle.bitcode_columns.specs.Reading.{Reads, IsEndOf, Names, missing, tagged_fault, bytes_fault, narrow_fault, ints_fault, ints_stand_raw};
+ghost use Rattle.bitcode_columns.specs.Tagged.{SpellsTagged};
+ghost use Rattle.bitcode_columns.specs.Reading.{Reads, IsEndOf, Names, missing, tagged_fault, bytes_fault, narrow_fault, ints_fault_as, ints_fault, has_raw_tag, bytes_stand_raw, ints_stand_raw};
 
 use crate::consume::{consume_byte, consume_bytes};
 use crate::error::{Error, Reason};
@@ -17,6 +18,9 @@ use crate::pack::unpack_bytes;
 use crate::pack_ints::width::halvings;
 use crate::refuse::err;
 use std::alloc::Global;
+
+// At most so many bytes stand without a tag.
+const MOST_WITHOUT_TAG: usize = 2;
 
 // The bytes of a narrow number and the least entry together.
 fn widened<T: Int>(narrow: u128, least: T::Unsigned) -> T::Une
@@ -29,8 +33,7 @@ fn widened<T: Int>(narrow: u128, least: T::Unsigned) -> T::Une
 // Bytes are below 256.
 fn known_bytes(bytes: &[u8])
     ensures { All (λ byte. byte < 256) bytes.now }
-{
-}
+{}
 
 // Takes so many numbers of a width from the front of the input, as bytes.
 fn claim<'a>(input: &mut &'a [u8], count: usize, width: usize) -> Result<&'a [u8], Error>
@@ -172,4 +175,106 @@ fn read_header<T: Int>(input: &mut &[u8]) -> Result<Header<T>, Error>
         width: width >> level,
         least,
     })
+}
+
+// Lets `out` go on with entries that stand as they are at the front of the input.
+fn borrow_entries<'a, T: Int>(
+    input: &mut &'a [u8],
+    count: usize,
+    out: &mut CowSlice<'a, T::Une>,
+) -> Result<(), Error>
+    ensures read { OnOk result (Reads (SpellsRaw T.width) count input.old.now (map (λ u. little_endian (T.une_bytes u)) (cow_rest out.new)) input.new.now) }
+    ensures refused { IfErr result (λ e. Names e.reason (missing (count * T.width) input.old.now)) }
+    ensures memory { IfErr result (λ e. e.reason ≢ Reason.OutOfMemory) }
+    ensures rest { OnErr result (input.new.now ≡ input.old.now) }
+{
+    let entries = T::consume_unaligned(input, count)?;
+    out.set_borrowed(entries);
+    Ok(())
+}
+
+// The first byte of the input is the tag of entries that stand as they are.
+fn has_raw_tag(input: &[u8]) -> bool
+    ensures { result ≡ has_raw_tag input.now }
+{
+    match input.first() {
+        Some(tag) => *tag == 0,
+        None => false,
+    }
+}
+
+// Reads a column of integers of more than one byte that begins with a tag.
+fn read_tagged<'a, T: Int>(
+    alloc: Global,
+    input: &mut &'a [u8],
+    count: usize,
+    out: &mut CowSlice<'a, T::Une>,
+) -> Result<(), Error>
+    requires { 2 ≤ T.width }
+    ensures read { OnOk result (Reads (SpellsTagged T.width (highest_int_tag T.width) (SpellsAtIntLevel T.width)) count input.old.now (map (λ u. little_endian (T.une_bytes u)) (cow_rest out.new)) input.new.now) }
+    ensures refused { IfErr result (λ e. Names e.reason (ints_fault_as tagged_form T.width count input.old.now)) }
+    ensures rest { OnErr result (IsEndOf input.old.now input.new.now) }
+    ensures raw { IsTrue (has_raw_tag input.old.now) → IfErr result (λ e. e.reason ≢ Reason.OutOfMemory) }
+{
+    let raw = has_raw_tag(input);
+    let Header { width, least } = read_header::<T>(input)?;
+    if raw {
+        return borrow_entries::<T>(input, count, out);
+    }
+    let entries = read_narrow::<T>(alloc, input, count, width, least)?;
+    out.set_owned(entries);
+    Ok(())
+}
+
+// Reads a column of integers of one byte.
+fn read_column<'a, T: Int>(
+    alloc: Global,
+    input: &mut &'a [u8],
+    count: usize,
+    out: &mut CowSlice<'a, T::Une>,
+) -> Result<(), Error>
+    requires { T.width ≡ 1 }
+    ensures read { OnOk result (Reads SpellsBytes count input.old.now (map (λ u. little_endian (T.une_bytes u)) (cow_rest out.new)) input.new.now) }
+    ensures refused { IfErr result (λ e. Names e.reason (bytes_fault count input.old.now)) }
+    ensures rest { OnErr result (IsEndOf input.old.now input.new.now) }
+    ensures raw { IsTrue (bytes_stand_raw count input.old.now) → IfErr result (λ e. e.reason ≢ Reason.OutOfMemory) }
+{
+    if count <= MOST_WITHOUT_TAG {
+        return borrow_entries::<T>(input, count, out);
+    }
+    if has_raw_tag(input) {
+        consume_byte(input)?;
+        return borrow_entries::<T>(input, count, out);
+    }
+    let none = T::Unsigned::from_wide(0);
+    let entries = read_bytes::<T>(alloc, input, count, none)?;
+    out.set_owned(entries);
+    Ok(())
+}
+
+/// Reads a column of so many integers from the front of the input into `out`, as the bytes of each.
+///
+/// Entries that stand as they are, behind the tag 0 or without a tag, are a slice of the input and take no memory.
+///
+/// Missing bytes are `EOF`, a tag that no column has is `invalid packing`, and a refused growth is
+/// `out of memory`.
+pub fn unpack_ints<'a, T: Int>(
+    alloc: Global,
+    input: &mut &'a [u8],
+    count: usize,
+    out: &mut CowSlice<'a, T::Une>,
+) -> Result<(), Error>
+    ensures read { OnOk result (Reads (SpellsInts T.width) count input.old.now (map (λ u. little_endian (T.une_bytes u)) (cow_rest out.new)) input.new.now) }
+    ensures refused { IfErr result (λ e. Names e.reason (ints_fault T.width count input.old.now)) }
+    ensures rest { OnErr result (IsEndOf input.old.now input.new.now) }
+    ensures raw { IsTrue (ints_stand_raw T.width count input.old.now) → IfErr result (λ e. e.reason ≢ Reason.OutOfMemory) }
+{
+    let width = T::width();
+    if width == 1 {
+        return read_column::<T>(alloc, input, count, out);
+    }
+    if count == 0 || (width == 2 && count == 1) {
+        return borrow_entries::<T>(input, count, out);
+    }
+    read_tagged::<T>(alloc, input, count, out)
 }

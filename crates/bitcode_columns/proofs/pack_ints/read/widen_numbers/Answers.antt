@@ -10,5 +10,5 @@ loop-i-preserved g c = record {
   widened = ap (map (λ u. little_endian (g.T.Int.une_bytes u))) c.in_ok-push.ensures.items
       ∙ map-append (λ u. little_endian (g.T.Int.une_bytes u)) _ _
       ∙ numbers_more g.N.SizedUInt.width c.loop-i._i _ _ c.args.bytes.now _ _ _ _ _ c.loop-i.invariant.widened c.loop-i.invariant.left
-          c.in_ok-narrow.ensures.taken c.to_wide.ensures.same c.widened.ensures;
+      c.in_ok-narrow.ensures.taken c.to_wide.ensures.same c.widened.ensures;
 }
