@@ -15,6 +15,8 @@ mod read;
 mod width;
 mod write;
 
+pub use crate::pack_ints::read::unpack_ints;
+
 /// The least and the greatest of the values; of none the greatest and the least of the type.
 ///
 /// Takes no memory.
