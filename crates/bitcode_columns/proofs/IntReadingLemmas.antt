@@ -1,9 +1,9 @@
 -- A tagged column of integers is read by its header.
-use Rattle.std.proofs.Common.{◌≡◌, ◌≢◌, ℕ, zero, suc, ◌+◌, ◌*◌, ◌/◌, ◌%◌, ◌^◌, ◌<◌, ◌≤◌, ◌⊎◌, true, Bool, List, [], ◌∷◌, ◌++◌, length, map, take, drop, All, Option, MatchBool, inl, inr, refl, sym, ap, ◌∙◌, subst, arith, append_assoc, length-append, take-append-drop}
+use Rattle.std.proofs.Common.{◌≡◌, ◌≢◌, ℕ, zero, suc, ◌+◌, ◌*◌, ◌/◌, ◌%◌, ◌^◌, ◌<◌, ◌≤◌, ◌⊎◌, ◌||◌, ◌&&◌, true, false, Bool, cond, eqb, List, [], ◌∷◌, ◌++◌, length, map, take, drop, All, Option, MatchBool, inl, inr, refl, sym, ap, ◌∙◌, subst, arith, append_assoc, length-append, take-append-drop}
 use Rattle.std.proofs.Math.Nat.{mul-zero, mul-one, mod-eq_of_lt, mod-lt, div-one}
 use Rattle.std.proofs.lemmas.Bool.{cond-false, cond-true, le-ltb, eq-eqb, ne_eqb, eqb-true}
 use Rattle.std.proofs.lemmas.Bool.Decides.{nat_tests}
-use Rattle.std.proofs.lemmas.List.{drop_at, length-map, length-take-le, nil_from_length, take_all}
+use Rattle.std.proofs.lemmas.List.{drop_at, get_or_append_left, length-map, length-take-le, nil_from_length, take_all}
 use Rattle.std.proofs.lemmas.List.Elements.{All-head, All-tail, All-map}
 use Rattle.std.specs.Simd.{first_chunks}
 use Rattle.bitcode_columns.specs.declared.error.Reason.{Reason}
@@ -272,3 +272,33 @@ one_level (suc level) h = absurd (omega arith)
 pub IsWidth-at_level : (width level : ℕ) → IsWidth width → level ≤ halvings width → IsWidth (width_at_level width level)
 IsWidth-at_level width level known below =
     at_width (λ w. level ≤ halvings w → IsWidth (w / 2 ^ level)) (one_level level) (two_levels level) (four_levels level) (eight_levels level) (sixteen_levels level) width known below
+
+-- ---- entries are numbers of the width
+
+entries_as : (form : IntForm) (width : ℕ) (piece entries : List ℕ) → (form ≡ bytes_form → width ≡ 1) → All (λ b. b < 256) piece
+    → SpellsIntsAs form width piece entries → All (λ n. n < 256 ^ width) entries
+entries_as bytes_form width piece entries one bytes (inl s) =
+    subst (λ w. All (λ n. n < 256 ^ w) entries) (sym (one refl)) (subst (All (λ n. n < 256 ^ 1)) s.1 bytes)
+entries_as bytes_form width piece entries one bytes (inr s) =
+    subst (λ w. All (λ n. n < 256 ^ w) entries) (sym (one refl)) (bytes_below piece entries s.0 (inr s))
+entries_as bare_form width piece entries one bytes s = s.fit
+entries_as tagged_form width piece entries one bytes s =
+    subst (All (λ n. n < 256 ^ width)) (sym s.widened)
+    (All-map (λ n. n < 256 ^ width) (λ n. (n + little_endian s.least_bytes) % 256 ^ width) s.narrow (λ k d inside. mod-lt _ (some_numbers width)))
+
+bytes_chosen : (a b : Bool) → cond a bytes_form (cond b bare_form tagged_form) ≡ bytes_form → a ≡ true
+bytes_chosen true b e = refl
+bytes_chosen false true e = absurd cc
+bytes_chosen false false e = absurd cc
+
+bytes_width : (width count : ℕ) → int_form width count ≡ bytes_form → width ≡ 1
+bytes_width width count is = eqb-true width 1 (bytes_chosen (eqb width 1) (eqb count 0 || (eqb width 2 && eqb count 1)) is)
+
+all_front : (xs ys : List ℕ) → All (λ b. b < 256) (xs ++ ys) → All (λ b. b < 256) xs
+all_front xs ys h = λ k d inside. subst (λ b. b < 256) (get_or_append_left xs ys d k inside) (h k d (omega (arith, length-append xs ys)))
+
+pub entries_in_width : (width count : ℕ) (old entries new : List ℕ) → All (λ b. b < 256) old → Reads (SpellsInts width) count old entries new
+    → All (λ n. n < 256 ^ width) entries
+entries_in_width width count old entries new bytes read =
+    let piece : All (λ b. b < 256) read.piece = all_front read.piece new (subst (All (λ b. b < 256)) read.whole bytes) in
+    entries_as (int_form width (length entries)) width read.piece entries (bytes_width width (length entries)) piece read.spelled

@@ -252,13 +252,8 @@ fn read_column<'a, T: Int>(
     Ok(())
 }
 
-/// Reads a column of so many integers from the front of the input into `out`, as the bytes of each.
-///
-/// Entries that stand as they are, behind the tag 0 or without a tag, are a slice of the input and take no memory.
-///
-/// Missing bytes are `EOF`, a tag that no column has is `invalid packing`, and a refused growth is
-/// `out of memory`.
-pub fn unpack_ints<'a, T: Int>(
+// Reads a column by its form.
+fn read_ints<'a, T: Int>(
     alloc: Global,
     input: &mut &'a [u8],
     count: usize,
@@ -277,4 +272,26 @@ pub fn unpack_ints<'a, T: Int>(
         return borrow_entries::<T>(input, count, out);
     }
     read_tagged::<T>(alloc, input, count, out)
+}
+
+/// Reads a column of so many integers from the front of the input into `out`, as the bytes of each.
+///
+/// Entries that stand as they are, behind the tag 0 or without a tag, are a slice of the input and take no memory.
+///
+/// Missing bytes are `EOF`, a tag that no column has is `invalid packing`, and a refused growth is
+/// `out of memory`.
+pub fn unpack_ints<'a, T: Int>(
+    alloc: Global,
+    input: &mut &'a [u8],
+    count: usize,
+    out: &mut CowSlice<'a, T::Une>,
+) -> Result<(), Error>
+    ensures read { OnOk result (Reads (SpellsInts T.width) count input.old.now (map (λ u. little_endian (T.une_bytes u)) (cow_rest out.new)) input.new.now) }
+    ensures in_width { OnOk result (All (λ n. n < 256 ^ T.width) (map (λ u. little_endian (T.une_bytes u)) (cow_rest out.new))) }
+    ensures refused { IfErr result (λ e. Names e.reason (ints_fault T.width count input.old.now)) }
+    ensures rest { OnErr result (IsEndOf input.old.now input.new.now) }
+    ensures raw { IsTrue (ints_stand_raw T.width count input.old.now) → IfErr result (λ e. e.reason ≢ Reason.OutOfMemory) }
+{
+    known_bytes(input);
+    read_ints::<T>(alloc, input, count, out)
 }
