@@ -1,5 +1,5 @@
 -- What is read and written of one column of bools or integers, in terms of data.
-use Rattle.std.proofs.Common.{◌≡◌, ℕ, ◌+◌, ◌*◌, ◌%◌, ◌^◌, ◌<◌, ◌≤◌, Bool, true, false, ltb, leb, eqb, ◌==◌, Option, Some, None, ℤ, pos, negsuc, List, [], ◌∷◌, ◌++◌, length, map, drop, All, refl, sym, ap, subst, ◌∙◌, inl, inr, lit<, arith, Result, Ok, Err, OnOk, IfErr}
+use Rattle.std.proofs.Common.{◌≡◌, ℕ, ◌*◌, ◌%◌, ◌^◌, ◌<◌, ◌≤◌, Bool, true, false, ltb, leb, eqb, ◌==◌, Option, Some, None, ℤ, pos, negsuc, List, [], ◌∷◌, ◌++◌, length, map, drop, All, refl, sym, ap, subst, ◌∙◌, inl, inr, lit<, arith, Result, Ok, Err, OnOk, IfErr}
 use Rattle.std.proofs.lemmas.Bool.{cond_both}
 use Rattle.std.proofs.lemmas.List.{length-map, map-append}
 use Rattle.std.proofs.lemmas.List.Elements.{All-map}
@@ -20,10 +20,10 @@ use Rattle.bitcode_columns.proofs.DigitLemmas.{digits_fault-refuses}
 use Rattle.bitcode_columns.proofs.IntLemmas.{ints_fault-refuses}
 use Rattle.bitcode_columns.proofs.NumberLemmas.{IsNumber-number_of}
 use Rattle.bitcode_shapes.specs.Datum.{Datum, number, natural_in, number_in}
-use Rattle.bitcode_shapes.specs.Shape.{Shape, IsOf, IsInWidth, IsNumberOf, IsNaturalBelow, bool_shape, number_shape, any_number}
+use Rattle.bitcode_shapes.specs.Shape.{Shape, IsInWidth, IsNumberOf, IsNaturalBelow, bool_shape, any_number}
 use Rattle.bitcode_shapes.specs.Values.{int_shape}
 use Rattle.bitcode_coder.specs.Columns.{Kind, one, beside}
-use Rattle.bitcode_coder.specs.Spelling.{Spells, SpellsAs, SpellsIntsInWidth, truth, number_of_residue}
+use Rattle.bitcode_coder.specs.Spelling.{Spells, SpellsAs, truth, number_of_residue}
 use Rattle.bitcode_coder.specs.Coding.{IsReadingReason, IsReadingRefusal, JoinsListing, written_columns}
 
 -- ---- refused
