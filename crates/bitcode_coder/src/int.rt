@@ -1,21 +1,23 @@
 // The coders of a column of integers.
 #![tactic(auto)]
 
-ghost use Rattle.std.specs.Prelude.{◌≡◌, ◌≤◌, ◌++◌, List, [], refl, OnOk, IfErr};
+ghost use Rattle.std.specs.Prelude.{◌≡◌, ◌≢◌, ◌<◌, ◌≤◌, ◌++◌, List, [], All, true, refl, IsTrue, IsOk, IfOk, OnOk, IfErr, OnErr};
 ghost use Rattle.std.proofs.Common.{sym, ap};
-ghost use Rattle.bitcode_columns.specs.Fast.{fast_items, fast_room};
+ghost use Rattle.bitcode_columns.specs.Fast.{fast_items, fast_room, cow_rest};
+ghost use Rattle.bitcode_columns.specs.Reading.{Reads, IsEndOf, Names, ints_fault, ints_stand_raw};
 ghost use Rattle.bitcode_shapes.specs.Datum.{Datum, number};
 ghost use Rattle.bitcode_shapes.specs.Shape.{Shape};
 ghost use Rattle.bitcode_shapes.specs.Values.{int_shape};
 ghost use Rattle.bitcode_coder.specs.Columns.{ints, one};
-ghost use Rattle.bitcode_coder.specs.IntData.{int_data};
-ghost use Rattle.bitcode_coder.specs.Coding.{written_columns};
+ghost use Rattle.bitcode_coder.specs.IntData.{int_data, bytes_data};
+ghost use Rattle.bitcode_coder.specs.Spelling.{Spells};
+ghost use Rattle.bitcode_coder.specs.Coding.{IsReadingRefusal, written_columns};
 
-use crate::coder::{Buffer, Encoder};
-use bitcode_columns::error::Error;
-use bitcode_columns::fast::{FastVec, PushUnchecked};
+use crate::coder::{Buffer, Decoder, Encoder, View};
+use bitcode_columns::error::{Error, Reason};
+use bitcode_columns::fast::{CowSlice, FastVec, PushUnchecked};
 use bitcode_columns::int_types::Int;
-use bitcode_columns::pack_ints::pack_ints;
+use bitcode_columns::pack_ints::{pack_ints, unpack_ints};
 use bitcode_shapes::shaped::{Made, Shaped};
 use std::alloc::Global;
 
@@ -138,4 +140,52 @@ impl<I: Int, P: AsInt<I>> Encoder<P> for IntEncoder<I> {
     ghost of_shape = { λ e. sym (P.as_int_columns []) };
 
     ghost surely = { λ e n never. absurd never };
+}
+
+// Each byte is below 256.
+fn are_bytes(_bytes: &[u8])
+    ensures { All (λ b. b < 256) _bytes.now }
+{}
+
+/// The column that integers are read from.
+#[derive(Drop)]
+pub struct IntDecoder<'a, T: Int> {
+    alloc: Global,
+    values: CowSlice<'a, T::Une>,
+}
+
+impl<'a, T: Int> View<'a> for IntDecoder<'a, T> {
+    ghost shape = { int_shape T.width T.signed };
+
+    ghost held = { λ d. bytes_data T.width T.signed T.une_bytes (cow_rest d.values) };
+
+    ghost reads_free = { λ count input. IsTrue (ints_stand_raw T.width count input) };
+
+    fn new(alloc: Global) -> Self {
+        IntDecoder {
+            alloc,
+            values: CowSlice::new(alloc),
+        }
+    }
+
+    fn populate(&mut self, input: &mut &'a [u8], k: usize) -> Result<(), Error>
+        ensures read { OnOk result (Reads (Spells (int_shape T.width T.signed)) k input.old.now (bytes_data T.width T.signed T.une_bytes (cow_rest self.new.values)) input.new.now) }
+        ensures refused { IfErr result (λ e. IsReadingRefusal (int_shape T.width T.signed) e.reason k input.old.now) }
+        ensures rest { OnErr result (IsEndOf input.old.now input.new.now) }
+        ensures free { IsTrue (ints_stand_raw T.width k input.old.now) → IfErr result (λ e. e.reason ≢ Reason.OutOfMemory) }
+        ensures exact { IfErr result (λ e. Names e.reason (ints_fault T.width k input.old.now)) }
+    {
+        are_bytes(input);
+        unpack_ints::<T>(self.alloc, input, k, &mut self.values)
+    }
+}
+
+impl<'a, T: Integer> Decoder<'a, T> for IntDecoder<'a, T> {
+    ghost makes_free = { true };
+
+    fn decode(&mut self) -> Result<T, Error> {
+        Ok(T::from_unaligned(self.values.next_unchecked()))
+    }
+
+    ghost same_shape = { sym T.integer_shape };
 }
