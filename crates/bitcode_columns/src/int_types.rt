@@ -23,7 +23,7 @@ pub trait SizedUInt: Copy {
         ensures same { result ≡ value self }
         ensures in_range { value self < 256 ^ width };
 
-    /// The lowest bytes of a number, as many as the type has.
+    /// The lowest bytes of a number, as many as the type has: 258 gives the `u8` 2.
     fn from_wide(wide: u128) -> Self
         ensures { value result ≡ wide % 256 ^ width };
 
@@ -47,7 +47,7 @@ pub trait SizedUInt: Copy {
 
     /// Appends the bytes of the number, the lowest first.
     ///
-    /// Where no memory is to be had that is `out of memory`, and `out` stays as it is.
+    /// A refused growth is `out of memory`, and `out` stays as it is.
     fn write(self, out: &mut Vec<u8>) -> Result<(), Error>
         ensures written { OnOk result (out.new.items ≡ out.old.items ++ number_bytes width (value self)) }
         ensures unchanged { OnErr result (out.new.items ≡ out.old.items) }
@@ -83,11 +83,11 @@ pub trait Int: Copy {
     fn from_unaligned(unaligned: Self::Une) -> Self
         ensures { number result ≡ number_of width signed (little_endian (une_bytes unaligned)) };
 
-    /// The bytes of the number.
+    /// The bytes of the number: those of the `u16` 258 are `[2, 1]`.
     fn to_unaligned(self) -> Self::Une
         ensures { une_bytes result ≡ number_bytes width (residue width (number self)) };
 
-    /// The number modulo the count of values of the type: a negative one's two's complement.
+    /// The number modulo the count of values of the type: the `i16` -1 gives 65535.
     fn to_unsigned(self) -> Self::Unsigned
         ensures value { Self.Unsigned.value result ≡ residue width (number self) }
         ensures in_range { IsNumber width signed (number self) };
@@ -100,7 +100,7 @@ pub trait Int: Copy {
     fn is_less(self, other: Self) -> bool
         ensures { result ≡ int_lt (number self) (number other) };
 
-    /// Takes so many numbers from the front of the input, as their bytes.
+    /// Takes so many numbers from the front of the input, as the bytes of each.
     ///
     /// Too few bytes are `EOF`, and the input stays as it is.
     fn consume_unaligned<'a>(input: &mut &'a [u8], count: usize) -> Result<&'a [Self::Une], Error>

@@ -19,7 +19,7 @@ pub use crate::pack_ints::read::unpack_ints;
 
 /// The least and the greatest of the values; of none the greatest and the least of the type.
 ///
-/// Takes no memory.
+/// Of `[3, -1, 2]` they are `(-1, 3)`. Takes no memory.
 pub fn minmax<T: SizedInt>(values: &[T]) -> (T, T)
     ensures none { values.now ≡ [] → result ≡ (T.MAX, T.MIN) }
     ensures least { 0 < length values.now → T.number result.0 ≡ least (map T.number values.now) }
@@ -33,7 +33,8 @@ pub fn minmax<T: SizedInt>(values: &[T]) -> (T, T)
 
 /// Appends the column of the integers. The slice is scratch afterwards.
 ///
-/// A refused growth is `out of memory`, and then `out` is as it was.
+/// The one `u32` 255 becomes `[4, 255]`: a tag, which says that numbers of one byte stand behind it, and the
+/// number. A refused growth is `out of memory`, and then `out` is as it was.
 pub fn pack_ints<T: Int>(alloc: Global, ints: &mut [T], out: &mut Vec<u8>) -> Result<(), Error>
     ensures written { OnOk result (out.new.items ≡ out.old.items ++ int_text T.width (map T.number ints.old)) }
     ensures unchanged { OnErr result (out.new.items ≡ out.old.items) }
