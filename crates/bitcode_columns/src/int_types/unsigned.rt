@@ -334,6 +334,68 @@ impl SizedUInt for u64 {
     }
 }
 
+impl Int for u64 {
+    type Une = [u8; 8];
+
+    type Unsigned = u64;
+
+    ghost width = { 8 };
+
+    ghost signed = { false };
+
+    ghost number = { λ n. pos n };
+
+    ghost une_bytes = { λ bytes. bytes };
+
+    fn width() -> usize {
+        8
+    }
+
+    fn is_signed() -> bool {
+        false
+    }
+
+    fn from_unaligned(unaligned: [u8; 8]) -> u64 {
+        u64::from_le_bytes(unaligned)
+    }
+
+    fn to_unaligned(self) -> [u8; 8] {
+        u64::to_le_bytes(self)
+    }
+
+    fn to_unsigned(self) -> u64 {
+        self
+    }
+
+    fn from_unsigned(unsigned: u64) -> u64 {
+        unsigned
+    }
+
+    fn is_less(self, other: u64) -> bool {
+        self < other
+    }
+
+    fn consume_unaligned<'a>(input: &mut &'a [u8], count: usize) -> Result<&'a [[u8; 8]], Error> {
+        consume_numbers(input, count)
+    }
+
+    ghost width_law = { inr (inr (inr (inl refl))) };
+
+    ghost unsigned_law = { refl };
+}
+
+impl SizedInt for u64 {
+    const MIN: u64 = u64::MIN;
+
+    const MAX: u64 = u64::MAX;
+
+    ghost MIN = { 0 };
+
+    ghost MAX = { 256 ^ 8 - 1 };
+
+    ghost bounds_law = { (refl, refl) };
+}
+
 impl SizedUInt for u128 {
     ghost width = { 16 };
 
