@@ -84,7 +84,7 @@ escapes (n ∷ lengths) =
     (cases_Bool (leb escape n))
 
 -- the lengths are found from what is written
-found : (lengths : List ℕ) → lengths_from (map (λ n. min n escape) lengths) (filter (λ n. leb escape n) lengths) ≡ lengths
+pub found : (lengths : List ℕ) → lengths_from (map (λ n. min n escape) lengths) (filter (λ n. leb escape n) lengths) ≡ lengths
 found [] = refl
 found (n ∷ lengths) =
     ⊎_elim

@@ -1,5 +1,7 @@
 pub mod CoderLemmas
 pub mod LengthLemmas
+pub mod LengthPartLemmas
+pub mod LengthRefusalLemmas
 pub mod TextLemmas
 pub mod ColumnLemmas
 pub mod TranspositionLemmas

@@ -1,4 +1,6 @@
 pub mod LengthColumn
+pub mod LengthParts
+pub mod LengthCoders
 pub mod TextColumn
 pub mod Columns
 pub mod Transposition

@@ -5,3 +5,4 @@ pub mod bool;
 pub mod coder;
 pub mod int;
 pub mod laws;
+pub mod length;

@@ -1,0 +1,21 @@
+-- Both parts are read, and then the sum is looked at.
+use Rattle.std.proofs.Common.{None}
+use Rattle.std.proofs.lemmas.Result.{err_from_is_err_and}
+use Rattle.bitcode_columns.proofs.ReadingLemmas.{OnErr-always}
+use Rattle.bitcode_coder.specs.LengthCoders.{short_left, large_left, lengths_left}
+use Rattle.bitcode_coder.specs.LengthParts.{in_sum}
+use Rattle.bitcode_coder.proofs.LengthPartLemmas.{ends_behind_parts, reads_lengths}
+use Rattle.bitcode_coder.proofs.length.decoder.LengthDecoder.populate.Goals as goal
+
+pub returns-in_err-self-2-clause-refused : goal.returns-in_err-self-2-clause-refused
+unfolding short_left large_left lengths_left
+returns-in_err-self-2-clause-refused c =
+    let refused = err_from_is_err_and c.from_residual-in_err-self-2.result c.from_residual-in_err-self-2.ensures.1 in
+    rw (refused.1, refused.2) (in_sum c.in_ok-self.ensures.read c.in_err-self-2.ensures.refused)
+
+pub returns-in_err-self-2-clause-rest : goal.returns-in_err-self-2-clause-rest
+returns-in_err-self-2-clause-rest c = OnErr-always c.from_residual-in_err-self-2.result (ends_behind_parts c.in_ok-self.ensures.read)
+
+pub returns-clause-read : goal.returns-clause-read
+unfolding short_left large_left lengths_left
+returns-clause-read c = reads_lengths None _ _ _ _ _ c.in_ok-self.ensures.read c.in_ok-self-2.ensures.below tt

@@ -1,0 +1,31 @@
+-- What the coders of lengths hold.
+use Rattle.std.specs.Prelude.{ℕ, List, map}
+use Rattle.bitcode_columns.specs.Fast.{fast_items, fast_room, cow_rest}
+use Rattle.bitcode_columns.specs.LittleEndian.{little_endian}
+use Rattle.bitcode_coder.specs.declared.length.encoder.LengthEncoder.{LengthEncoder}
+use Rattle.bitcode_coder.specs.declared.length.decoder.LengthDecoder.{LengthDecoder}
+use Rattle.bitcode_coder.specs.LengthColumn.{lengths_from}
+
+-- the lengths that were written
+unfoldable pub written_lengths : LengthEncoder → List ℕ
+written_lengths e = lengths_from (fast_items e.small) e.large.items
+
+-- for how many more lengths there is room
+unfoldable pub length_room : LengthEncoder → ℕ
+length_room e = fast_room e.small
+
+-- the short bytes of the lengths that are left
+unfoldable pub short_left : LengthDecoder → List ℕ
+short_left d = cow_rest d.small
+
+-- the large lengths that are left
+unfoldable pub large_left : LengthDecoder → List ℕ
+large_left d = map little_endian (cow_rest d.large)
+
+-- the lengths that are left to take
+unfoldable pub lengths_left : LengthDecoder → List ℕ
+lengths_left d = lengths_from (cow_rest d.small) (map little_endian (cow_rest d.large))
+
+-- the sum of the lengths that were read
+unfoldable pub lengths_sum : LengthDecoder → ℕ
+lengths_sum d = d.sum

@@ -1,0 +1,36 @@
+// Lengths as the entries of a column.
+ghost use Rattle.std.specs.Prelude.{◌≡◌, ℕ, length};
+
+pub use crate::length::decoder::LengthDecoder;
+pub use crate::length::encoder::LengthEncoder;
+
+mod decoder;
+mod encoder;
+
+// The byte that stands for a length of 255 or more.
+const ESCAPE: u8 = 255;
+
+/// What has a length.
+pub trait Len {
+    ghost size: { Self → ℕ };
+
+    /// How many elements there are.
+    fn len(&self) -> usize
+        ensures { result ≡ size self.now };
+}
+
+impl<T> Len for &[T] {
+    ghost size = { λ slice. length slice.now };
+
+    fn len(&self) -> usize {
+        <[T]>::len(*self)
+    }
+}
+
+impl<T> Len for Vec<T> {
+    ghost size = { λ vec. length vec.items };
+
+    fn len(&self) -> usize {
+        self.as_slice().len()
+    }
+}

@@ -1,0 +1,207 @@
+// The coder that lengths are read from.
+#![tactic(auto, unfolding(crate::specs::LengthCoders::short_left, crate::specs::LengthCoders::large_left, crate::specs::LengthCoders::lengths_left, crate::specs::LengthCoders::lengths_sum))]
+
+ghost use Rattle.std.specs.Prelude.{◌≡◌, ◌≢◌, ℕ, ◌+◌, ◌<◌, ◌≤◌, List, [], ◌∷◌, Some, None, length, sum, map, All, MatchBool, IfOk, OnOk, IfErr, OnErr};
+ghost use Rattle.bitcode_columns.specs.Fast.{cow_rest};
+ghost use Rattle.bitcode_columns.specs.LittleEndian.{little_endian};
+ghost use Rattle.bitcode_columns.specs.Reading.{Reads, IsEndOf};
+ghost use Rattle.bitcode_coder.specs.LengthColumn.{SpellsLengths, KeepsCap, length_limit};
+ghost use Rattle.bitcode_coder.specs.LengthParts.{escapes, ReadsParts, sum_fault, NamesLengthFault, LengthsStandRaw};
+
+use crate::length::ESCAPE;
+use bitcode_columns::error::{Error, Reason};
+use bitcode_columns::fast::CowSlice;
+use bitcode_columns::pack::unpack_bytes;
+use bitcode_columns::pack_ints::unpack_ints;
+use bitcode_columns::refuse::err;
+use std::alloc::Global;
+
+// Read lengths sum to less than this: what isize can hold, divided by 4096.
+const LENGTH_LIMIT: u128 = 2251799813685247;
+
+/// The column that lengths are read from.
+#[derive(Drop)]
+pub struct LengthDecoder<'a> {
+    alloc: Global,
+    small: CowSlice<'a, u8>,
+    large: CowSlice<'a, [u8; 8]>,
+    sum: usize,
+    ghost enough: { length (cow_rest large) ≡ escapes (cow_rest small) },
+}
+
+// The number that eight bytes stand for, the lowest first.
+fn number_of_bytes(bytes: [u8; 8]) -> u64
+    ensures { result ≡ little_endian bytes }
+{
+    u64::from_le_bytes(bytes)
+}
+
+// How many large lengths follow the bytes.
+fn count_escapes(small: &[u8]) -> usize
+    ensures { result ≡ escapes small.now }
+{
+    small.iter().filter(|byte| **byte == ESCAPE).count()
+}
+
+// Whether a byte is over the limit.
+fn any_byte_over(bytes: &[u8], limit: usize) -> bool
+    ensures { MatchBool result (All (λ byte. byte ≤ limit) bytes.now → ⊥) (All (λ byte. byte ≤ limit) bytes.now) }
+{
+    bytes.iter().any(|byte| *byte as usize > limit)
+}
+
+impl<'a> LengthDecoder<'a> {
+    ghost use Rattle.bitcode_coder.specs.LengthCoders.{short_left, large_left, lengths_left, lengths_sum};
+
+    /// Holds no lengths. Takes no memory.
+    pub fn new(alloc: Global) -> Self
+        ensures left { lengths_left result ≡ [] }
+        ensures sum { lengths_sum result ≡ 0 }
+    {
+        LengthDecoder {
+            alloc,
+            small: CowSlice::new(alloc),
+            large: CowSlice::new(alloc),
+            sum: 0,
+        }
+    }
+
+    /// Reads `k` lengths from the front of the input.
+    ///
+    /// The short bytes refuse first, as a byte column does, and then the large lengths, as an integer column of
+    /// 64 bits does. Where both were read, a sum over 18446744073709551615 is `length overflow`, and any other sum
+    /// from 2251799813685247 on is `huge length`.
+    ///
+    /// No memory is taken where both parts stand in the input as they are.
+    pub fn populate(&mut self, input: &mut &'a [u8], k: usize) -> Result<(), Error>
+        ensures read { OnOk result (Reads (SpellsLengths None) k input.old.now (lengths_left self.new) input.new.now) }
+        ensures parts { OnOk result (ReadsParts k input.old.now (short_left self.new) (large_left self.new) input.new.now) }
+        ensures sum { OnOk result (lengths_sum self.new ≡ sum (lengths_left self.new)) }
+        ensures refused { IfErr result (λ e. NamesLengthFault e.reason k input.old.now) }
+        ensures rest { OnErr result (IsEndOf input.old.now input.new.now) }
+        ensures free { LengthsStandRaw k input.old.now → IfErr result (λ e. e.reason ≢ Reason.OutOfMemory) }
+    {
+        *self = LengthDecoder::read_parts(self.alloc, input, k)?;
+        self.sum = self.checked_sum()?;
+        Ok(())
+    }
+
+    /// The sum of the lengths that were read, those that were taken since too.
+    pub fn length(&self) -> usize
+        ensures { result ≡ lengths_sum self.now }
+    {
+        self.sum
+    }
+
+    /// Whether the lengths that are left break the limit `N`. Takes no memory.
+    ///
+    /// For `N` below 255 the bytes are asked, so that a 255 breaks it whatever length it stands for. For a greater
+    /// `N` it is the lengths.
+    pub fn any_greater_than<const N: usize>(&self) -> bool
+        ensures { MatchBool result (KeepsCap (Some N) (short_left self.now) (lengths_left self.now) → ⊥) (KeepsCap (Some N) (short_left self.now) (lengths_left self.now)) }
+    {
+        if N < ESCAPE as usize {
+            any_byte_over(self.small.as_slice(), N)
+        } else {
+            self.any_length_over(N)
+        }
+    }
+
+    /// Takes the next length. One is left.
+    pub fn decode(&mut self) -> usize
+        requires { 0 < length (lengths_left self.old) }
+        ensures taken { lengths_left self.old ≡ result ∷ lengths_left self.new }
+        ensures sum { lengths_sum self.new ≡ lengths_sum self.old }
+    {
+        let byte = self.small.next_unchecked();
+        if byte == ESCAPE {
+            number_of_bytes(self.large.next_unchecked()) as usize
+        } else {
+            byte as usize
+        }
+    }
+
+    // Both parts of a column, whatever they sum to.
+    fn read_parts(alloc: Global, input: &mut &'a [u8], k: usize) -> Result<LengthDecoder<'a>, Error>
+        ensures read { IfOk result (λ d. ReadsParts k input.old.now (short_left d) (large_left d) input.new.now) }
+        ensures refused { IfErr result (λ e. NamesLengthFault e.reason k input.old.now) }
+        ensures rest { OnErr result (IsEndOf input.old.now input.new.now) }
+        ensures free { LengthsStandRaw k input.old.now → IfErr result (λ e. e.reason ≢ Reason.OutOfMemory) }
+    {
+        let mut small = CowSlice::new(alloc);
+        unpack_bytes(alloc, input, k, &mut small)?;
+        let mut large = CowSlice::new(alloc);
+        unpack_ints::<u64>(alloc, input, count_escapes(small.as_slice()), &mut large)?;
+        Ok(LengthDecoder {
+            alloc,
+            small,
+            large,
+            sum: 0,
+        })
+    }
+
+    // The same lengths, to be taken without taking them here.
+    fn borrowed_clone(&self) -> LengthDecoder<'_>
+        ensures short { short_left result ≡ short_left self.now }
+        ensures left { lengths_left result ≡ lengths_left self.now }
+    {
+        let mut small = CowSlice::new(self.alloc);
+        small.set_borrowed(self.small.as_slice());
+        let mut large = CowSlice::new(self.alloc);
+        large.set_borrowed(self.large.as_slice());
+        LengthDecoder {
+            alloc: self.alloc,
+            small,
+            large,
+            sum: self.sum,
+        }
+    }
+
+    // How many lengths are left.
+    fn remaining(&self) -> usize
+        ensures { result ≡ length (lengths_left self.now) }
+    {
+        self.small.as_slice().len()
+    }
+
+    // The sum of the lengths that are left.
+    fn total(&self) -> u128
+        ensures { result ≡ sum (lengths_left self.now) }
+    {
+        let mut lengths = self.borrowed_clone();
+        let mut total: u128 = 0;
+        for _ in 0..self.remaining() {
+            total += lengths.decode() as u128;
+        }
+        total
+    }
+
+    // The sum, where lengths may have it.
+    fn checked_sum(&self) -> Result<usize, Error>
+        ensures sum { IfOk result (λ sum_left. sum_left ≡ sum (lengths_left self.now)) }
+        ensures below { OnOk result (sum (lengths_left self.now) < length_limit) }
+        ensures refused { IfErr result (λ e. sum_fault (sum (lengths_left self.now)) ≡ Some e.reason) }
+    {
+        let total = self.total();
+        if total > u64::MAX as u128 {
+            return err(Reason::LengthOverflow);
+        }
+        if total >= LENGTH_LIMIT {
+            return err(Reason::HugeLength);
+        }
+        Ok(total as usize)
+    }
+
+    // Whether a length is over the limit.
+    fn any_length_over(&self, limit: usize) -> bool
+        ensures { MatchBool result (All (λ n. n ≤ limit) (lengths_left self.now) → ⊥) (All (λ n. n ≤ limit) (lengths_left self.now)) }
+    {
+        let mut lengths = self.borrowed_clone();
+        for _ in 0..self.remaining() {
+            if lengths.decode() > limit {
+                return true;
+            }
+        }
+        false
+    }
+}

@@ -1,0 +1,104 @@
+// The coder that lengths are written to.
+#![tactic(auto, unfolding(crate::specs::LengthCoders::written_lengths, crate::specs::LengthCoders::length_room))]
+
+ghost use Rattle.std.specs.Prelude.{◌≡◌, ◌+◌, ◌<◌, ◌++◌, [], ◌∷◌, None, map, pos, IsOk, OnOk, IfErr, OnErr};
+ghost use Rattle.bitcode_columns.specs.ByteColumn.{byte_text};
+ghost use Rattle.bitcode_columns.specs.Fast.{fast_items, fast_room};
+ghost use Rattle.bitcode_columns.specs.IntColumn.{int_text};
+ghost use Rattle.bitcode_coder.specs.Coding.{BeginsWith};
+ghost use Rattle.bitcode_coder.specs.Columns.{lengths, one};
+ghost use Rattle.bitcode_coder.specs.LengthParts.{IsSplit};
+ghost use Rattle.bitcode_coder.specs.Spelling.{natural};
+
+use crate::coder::Buffer;
+use crate::length::ESCAPE;
+use bitcode_columns::error::{Error, Reason};
+use bitcode_columns::fast::{FastVec, PushUnchecked};
+use bitcode_columns::pack::pack_bytes;
+use bitcode_columns::pack_ints::pack_ints;
+use std::alloc::Global;
+
+/// The column that lengths are written to.
+///
+/// A length below 255 is a byte. A greater one is the byte 255, and stands among the large lengths behind the bytes.
+#[derive(Drop)]
+pub struct LengthEncoder {
+    alloc: Global,
+    small: FastVec<u8>,
+    large: Vec<u64>,
+    ghost split: { IsSplit (fast_items small) large.items },
+}
+
+// Writes both parts of a column. They are scratch afterwards.
+fn pack_parts(
+    alloc: Global,
+    small: &mut [u8],
+    large: &mut [u64],
+    out: &mut Vec<u8>,
+) -> Result<(), Error>
+    ensures written { OnOk result (out.new.items ≡ out.old.items ++ (byte_text (map pos small.old) ++ int_text 8 (map pos large.old))) }
+    ensures begins { BeginsWith out.old.items out.new.items }
+    ensures reason { IfErr result (λ e. e.reason ≡ Reason.OutOfMemory) }
+{
+    pack_bytes(small, out)?;
+    pack_ints(alloc, large, out)
+}
+
+impl Buffer for LengthEncoder {
+    ghost use Rattle.bitcode_coder.specs.LengthCoders.{written_lengths, length_room};
+
+    ghost columns = { λ e. one (lengths None) (map natural (written_lengths e)) };
+
+    ghost room = { length_room };
+
+    ghost surely_passes = { λ e n. ⊥ };
+
+    fn new(alloc: Global) -> Self {
+        LengthEncoder {
+            alloc,
+            small: FastVec::new(alloc),
+            large: Vec::new(alloc),
+        }
+    }
+
+    fn reserve(&mut self, n: usize) -> Result<(), Error> {
+        self.small.reserve(n)
+    }
+
+    fn collect_into(&mut self, out: &mut Vec<u8>) -> Result<(), Error> {
+        let packed = pack_parts(self.alloc, self.small.as_mut_slice(), &mut self.large, out);
+        self.small.clear();
+        self.large.clear();
+        packed
+    }
+
+    fn clear(&mut self) {
+        self.small.clear();
+        self.large.clear();
+    }
+}
+
+impl LengthEncoder {
+    ghost use Rattle.bitcode_coder.specs.LengthCoders.{written_lengths, length_room};
+
+    /// Writes a length. Room for it was reserved.
+    ///
+    /// A length of 255 or more may take memory: where none is to be had that is `out of memory`, and nothing is
+    /// written.
+    pub fn encode(&mut self, length: usize) -> Result<(), Error>
+        requires { 0 < length_room self.old }
+        ensures written { OnOk result (written_lengths self.new ≡ written_lengths self.old ++ length ∷ []) }
+        ensures room { OnOk result (length_room self.new + 1 ≡ length_room self.old) }
+        ensures short { length < 255 → IsOk result }
+        ensures refused { IfErr result (λ e. e.reason ≡ Reason.OutOfMemory) }
+        ensures unchanged { OnErr result (written_lengths self.new ≡ written_lengths self.old) }
+    {
+        if length < ESCAPE as usize {
+            self.small.push_unchecked(length as u8);
+        } else {
+            self.large.push(length as u64)?;
+            self.small.push_unchecked(ESCAPE);
+        }
+        Ok(())
+    }
+}
