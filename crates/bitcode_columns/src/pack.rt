@@ -14,7 +14,7 @@ use std::alloc::Global;
 
 mod bytes;
 
-/// How many values a packed byte's digits have.
+/// How many values a digit of a packed byte has: two to sixteen, or all 256 of a whole byte.
 #[derive(Clone, Copy, PartialEq, Eq)]
 pub enum Base {
     Whole,
@@ -100,6 +100,12 @@ impl Base {
 /// Appends a column of bools: eight of them in each byte, the first in its lowest bit.
 ///
 /// A refused growth is `out of memory`, and `out` holds what it held.
+///
+/// ```rust
+/// let mut out = Vec::new(alloc);
+/// pack_bools(&[true, false, true], &mut out)?;
+/// assert_eq!(rt; out.as_slice(), &[5]);
+/// ```
 pub fn pack_bools(bools: &[bool], out: &mut Vec<u8>) -> Result<(), Error>
     ensures written { OnOk result (out.new.items ≡ out.old.items ++ bool_text bools.now) }
     ensures reason { IfErr result (λ e. e.reason ≡ Reason.OutOfMemory) }
@@ -111,7 +117,16 @@ pub fn pack_bools(bools: &[bool], out: &mut Vec<u8>) -> Result<(), Error>
 
 /// Reads a column of so many bools from the front of the input into `out`, in memory of its own.
 ///
-/// Fewer bytes than they take are `EOF`, and a refused growth is `out of memory`.
+/// Fewer bytes than they take are `EOF`, and a refused growth is `out of memory`. The input is then
+/// at an end part of what it was, and `out` is to be filled anew.
+///
+/// ```rust
+/// let mut input: &[u8] = &[5, 9];
+/// let mut bools = CowSlice::new(alloc);
+/// unpack_bools(alloc, &mut input, 3, &mut bools)?;
+/// assert_eq!(rt; bools.as_slice(), &[true, false, true]);
+/// assert_eq!(rt; input, &[9]);
+/// ```
 pub fn unpack_bools<'a>(
     alloc: Global,
     input: &mut &'a [u8],

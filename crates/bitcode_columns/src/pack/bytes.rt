@@ -18,7 +18,7 @@ use crate::pack_ints::minmax;
 use crate::refuse::err;
 use std::alloc::Global;
 
-// The tag of the highest level.
+/// The tag of the highest level.
 const HIGHEST_TAG: u8 = 10;
 
 /// A column of at most so many bytes stands without a tag.
@@ -80,7 +80,14 @@ fn borrow_bytes<'a>(bytes: &'a [u8], out: &mut CowSlice<'a, u8>)
 /// At most two entries, and entries behind the tag 0, are a slice of the input and take no memory.
 ///
 /// Missing bytes are `EOF`, a tag that no column has is `invalid packing`, and a refused growth is
-/// `out of memory`.
+/// `out of memory`. The input is then at an end part of what it was, and `out` is to be filled anew.
+///
+/// ```rust
+/// let mut input: &[u8] = &[1, 201, 16, 50, 84, 6];
+/// let mut bytes = CowSlice::new(alloc);
+/// unpack_bytes(alloc, &mut input, 7, &mut bytes)?;
+/// assert_eq!(rt; bytes.as_slice(), &[201, 202, 203, 204, 205, 206, 207]);
+/// ```
 pub fn unpack_bytes<'a>(
     alloc: Global,
     input: &mut &'a [u8],
@@ -142,6 +149,12 @@ fn shifted_base<T: Byte>(least: T, greatest: T) -> Base
 /// they lie close to the least one. `bytes` is scratch afterwards.
 ///
 /// A refused growth is `out of memory`, and `out` holds what it held.
+///
+/// ```rust
+/// let mut out = Vec::new(alloc);
+/// pack_bytes(&mut [201u8, 202, 203, 204, 205, 206, 207], &mut out)?;
+/// assert_eq!(rt; out.as_slice(), &[1, 201, 16, 50, 84, 6]);
+/// ```
 pub fn pack_bytes<T: Byte>(bytes: &mut [T], out: &mut Vec<u8>) -> Result<(), Error>
     ensures written { OnOk result (out.new.items ≡ out.old.items ++ byte_text (map T.number bytes.old)) }
     ensures reason { IfErr result (λ e. e.reason ≡ Reason.OutOfMemory) }
