@@ -24,7 +24,8 @@ pub use bitcode_derive::derive::{Decode, DecodeOwned, Encode};
 pub use bitcode_derive::whole::{decode, encode, invalid_enum_variant};
 pub use bitcode_parts::empty::EmptyCoder;
 pub use bitcode_shapes::shaped::{Made, Shaped};
-pub use bitcode_tuples::{TupleDecoder, TupleEncoder};
+pub use bitcode_tuples::decoder::TupleDecoder;
+pub use bitcode_tuples::encoder::TupleEncoder;
 
 /// The traits that coders meet, and the result of their calls.
 pub mod coder {

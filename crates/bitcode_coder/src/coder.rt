@@ -35,6 +35,7 @@ pub trait Buffer: Drop {
         ensures columns { columns self.new ≡ columns self.old }
         ensures ok { OnOk result (n ≤ room self.new) }
         ensures grows { room self.old ≤ room self.new }
+        ensures succeeds { n ≤ room self.old → IsOk result }
         ensures refused { IfErr result (λ e. IsWritingRefusal e.reason (surely_passes self.old n)) };
 
     /// Writes the columns behind `out`, and leaves them empty.

@@ -1,10 +1,10 @@
 // Runs the stored rows: values whose bytes are known from the Rust crate, and inputs with their values or refusals.
 #![tactic(auto)]
 
-use std::env;
-use std::io;
+use std::alloc::Global;
 use std::process::ExitCode;
 use std::rt::Env;
+use std::{env, io};
 
 mod report;
 mod rows;
@@ -20,12 +20,12 @@ fn has_words(rt: &(impl Env + Alloc)) -> bool {
     }
 }
 
-fn run(rt: &(impl Env + Alloc + Print + Eprint)) -> io::Result<ExitCode> {
+fn run(rt: &(impl Env + Alloc + Print + Eprint), alloc: Global) -> io::Result<ExitCode> {
     if has_words(rt) {
         rt.eprintln(USAGE)?;
         return Ok(ExitCode::from(2));
     }
-    let all_ok = report::print_rows(rt)?;
+    let all_ok = report::print_rows(rt, alloc)?;
     Ok(if all_ok {
         ExitCode::SUCCESS
     } else {
@@ -34,5 +34,5 @@ fn run(rt: &(impl Env + Alloc + Print + Eprint)) -> io::Result<ExitCode> {
 }
 
 fn main(rt: HostRuntime) -> ExitCode {
-    run(&rt).unwrap_or(ExitCode::from(2))
+    run(&rt, rt.alloc()).unwrap_or(ExitCode::from(2))
 }

@@ -1,10 +1,8 @@
 // What the program prints of its rows.
-use std::alloc::Global;
-use std::fmt;
-use std::io;
-
 use crate::rows::{self, Got};
 use bitcode::Error;
+use std::alloc::Global;
+use std::{fmt, io};
 
 impl fmt::Display for Got {
     fn fmt<W: fmt::Write>(&self, f: &mut fmt::Formatter<W>) -> fmt::Result {
@@ -31,8 +29,7 @@ fn print_row(rt: &impl Print, number: u8, outcome: Result<(), Got>) -> io::Resul
 }
 
 /// Runs all stored rows in order, and answers whether all of them are ok.
-pub fn print_rows(rt: &(impl Alloc + Print)) -> io::Result<bool> {
-    let alloc = rt.alloc();
+pub fn print_rows(rt: &impl Print, alloc: Global) -> io::Result<bool> {
     let mut all_ok = print_row(rt, 1, rows::unit(alloc))?;
     all_ok &= print_row(rt, 2, rows::bools(alloc))?;
     all_ok &= print_row(rt, 21, rows::pair(alloc))?;

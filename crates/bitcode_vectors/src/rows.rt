@@ -1,7 +1,6 @@
 // The stored rows. Each has one or more parts, and gives what the first wrong part gave.
+use bitcode::{Decode, Encode, Error, Reason, decode, encode};
 use std::alloc::Global;
-
-use bitcode::{decode, encode, Decode, Encode, Error, Reason};
 
 /// What a wrong part of a row gave.
 #[derive(Drop)]
@@ -24,7 +23,11 @@ fn encodes<T: Encode>(alloc: Global, t: &T, expected: &[u8]) -> Result<(), Got> 
 }
 
 /// The bytes are read as this value.
-fn decodes<'a, T: Decode<'a> + PartialEq>(alloc: Global, bytes: &'a [u8], expected: T) -> Result<(), Got> {
+fn decodes<'a, T: Decode<'a> + PartialEq>(
+    alloc: Global,
+    bytes: &'a [u8],
+    expected: T,
+) -> Result<(), Got> {
     match decode::<T>(alloc, bytes) {
         Ok(t) if t == expected => Ok(()),
         Ok(_) => Err(Got::AnotherValue),
