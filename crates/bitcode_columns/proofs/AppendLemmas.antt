@@ -1,5 +1,5 @@
 -- What was appended is the text of the column.
-use Rattle.std.proofs.Common.{◌≡◌, ℕ, zero, suc, ◌+◌, ◌-◌, ◌*◌, ◌%◌, ◌^◌, ◌<◌, ◌≤◌, Bool, true, false, cond, eqb, ◌||◌, ◌&&◌, ℤ, pos, List, [], ◌∷◌, ◌++◌, length, map, get_or, All, Result, Ok, Err, OnOk, Option, Some, IfSome, refl, sym, ap, ◌∙◌, subst, arith, append_assoc, mod-eq_of_lt}
+use Rattle.std.proofs.Common.{◌≡◌, ℕ, ◌-◌, ◌%◌, ◌^◌, ◌<◌, ◌≤◌, Bool, true, false, eqb, ◌||◌, ◌&&◌, ℤ, pos, List, [], ◌∷◌, ◌++◌, length, map, get_or, All, Result, Ok, Err, OnOk, Option, Some, IfSome, sym, ap, ◌∙◌, subst, arith, append_assoc, mod-eq_of_lt}
 use Rattle.std.proofs.lemmas.Bool.{cond-true, cond-false, eq-eqb, ne_eqb, and_parts, and_from, ltb-true, lt-ltb, true≢false}
 use Rattle.std.proofs.lemmas.List.{length-map, append-nil}
 use Rattle.std.proofs.lemmas.Simd.{map-map}
@@ -7,7 +7,7 @@ use Rattle.std.proofs.Math.Nat.{zero-mod}
 use Rattle.bitcode_columns.specs.LittleEndian.{number_bytes, raw_text}
 use Rattle.bitcode_columns.specs.Numbers.{IsNumber, residue, number_of, least, greatest}
 use Rattle.bitcode_columns.specs.ByteColumn.{byte_text}
-use Rattle.bitcode_columns.specs.IntColumn.{IsWidth, halvings, IntForm, bytes_form, bare_form, tagged_form, int_form, int_text, int_text_as, narrow_text, int_level_for, text_at_int_level}
+use Rattle.bitcode_columns.specs.IntColumn.{IsWidth, halvings, int_text, int_text_as, narrow_text, int_level_for, text_at_int_level}
 use Rattle.bitcode_columns.specs.Tagged.{tag_of, tagged_text}
 use Rattle.std.specs.Prelude.{◌≤ℤ◌, nat_lt}
 use Rattle.std.proofs.lemmas.List.Elements.{All-map}

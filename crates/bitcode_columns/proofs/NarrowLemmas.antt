@@ -1,5 +1,5 @@
 -- Numbers that are narrowed: their distance from a base, and how they are written one by one.
-use Rattle.std.proofs.Common.{◌≡◌, ℕ, zero, suc, ◌+◌, ◌-◌, ◌*◌, ◌%◌, ◌^◌, ◌<◌, ◌≤◌, Bool, true, false, ℤ, pos, negsuc, List, [], ◌∷◌, ◌++◌, length, map, take, get_or, All, refl, sym, ap, ◌∙◌, subst, arith, append_assoc, inl, inr}
+use Rattle.std.proofs.Common.{◌≡◌, ℕ, suc, ◌+◌, ◌-◌, ◌*◌, ◌%◌, ◌^◌, ◌<◌, ◌≤◌, Bool, true, false, ℤ, pos, negsuc, List, [], ◌∷◌, ◌++◌, length, map, take, get_or, sym, ap, ◌∙◌, arith, append_assoc, inl, inr}
 use Rattle.std.specs.Prelude.{◌-ℤ◌, ◌≤ℤ◌, unsigned_abs}
 use Rattle.std.proofs.Math.Nat.{mod-eq_of_lt, add-mod_right}
 use Rattle.std.proofs.Math.Seq.{take-suc}
@@ -10,7 +10,7 @@ use Rattle.bitcode_columns.specs.LittleEndian.{number_bytes, raw_text}
 use Rattle.bitcode_columns.specs.IntColumn.{IsWidth}
 use Rattle.bitcode_columns.specs.Numbers.{IsNumber, residue}
 use Rattle.bitcode_columns.specs.Narrowing.{above}
-use Rattle.bitcode_columns.proofs.NumberLemmas.{residue_below, even_residues, some_residues}
+use Rattle.bitcode_columns.proofs.NumberLemmas.{residue_below, even_residues}
 
 -- ---- distances
 

@@ -1,6 +1,6 @@
 -- Worked rows: what the definitions accept, and what they do not.
-use Rattle.std.specs.Prelude.{◌≡◌, ℕ, zero, suc, ◌/◌, ◌%◌, ◌<◌, List, [], ◌∷◌, refl, slice_index}
-use Rattle.std.proofs.Common.{arith, inl, inr, lit<, lit≤, sym}
+use Rattle.std.specs.Prelude.{◌≡◌, ℕ, zero, suc, ◌/◌, ◌%◌, ◌<◌, [], ◌∷◌, refl, slice_index}
+use Rattle.std.proofs.Common.{arith, inl, lit<, lit≤, sym}
 use Rattle.std.proofs.lemmas.List.Elements.{All-nil, All-cons}
 use Rattle.bitcode_columns.specs.declared.pack.Base.TheVariants.{Six}
 use Rattle.bitcode_columns.specs.Digits.{SpellsDigits, digit}

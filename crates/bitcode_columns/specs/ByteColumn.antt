@@ -1,6 +1,6 @@
 -- A byte column. At most two entries stand bare; more of them follow a tag and are digits in the base of the
 -- tag's level. At level 0 that is base 256: the entries, raw.
-use Rattle.std.specs.Prelude.{◌≡◌, ℕ, ◌*◌, ◌≤◌, ◌<◌, ℤ, List, length, map, nat_lt, nat_le, ◌⊎◌, if◌then◌else◌}
+use Rattle.std.specs.Prelude.{◌≡◌, ℕ, ◌≤◌, ◌<◌, ℤ, List, length, map, nat_lt, nat_le, ◌⊎◌, if◌then◌else◌}
 use Rattle.bitcode_columns.specs.declared.pack.Base.{Base}
 use Rattle.bitcode_columns.specs.declared.pack.Base.TheVariants.{Whole, Sixteen, Six, Four, Three, Two}
 use Rattle.bitcode_columns.specs.Digits.{SpellsDigits, digits_text, base_for}

@@ -1,6 +1,6 @@
 -- What the entries of a column are as numbers. An entry of a column of width w stands in its bytes as its
 -- residue modulo 256 ^ w, a negative one in two's complement.
-use Rattle.std.specs.Prelude.{ℕ, suc, ◌+◌, ◌-◌, ◌*◌, ◌^◌, ◌<◌, Bool, true, false, ℤ, pos, negsuc, List, [], ◌∷◌, fold, nat_lt, if◌then◌else◌}
+use Rattle.std.specs.Prelude.{ℕ, suc, ◌-◌, ◌*◌, ◌^◌, ◌<◌, Bool, true, false, ℤ, pos, negsuc, List, [], ◌∷◌, fold, nat_lt, if◌then◌else◌}
 use Rattle.std.specs.Int.{int_min, int_max}
 
 -- z is a number of the width, signed or not

@@ -1,5 +1,5 @@
 -- Worked rows: columns whose bytes are known, computed from the definitions.
-use Rattle.std.specs.Prelude.{◌≡◌, ℕ, true, false, pos, negsuc, [], ◌∷◌, Some, None, refl, All}
+use Rattle.std.specs.Prelude.{◌≡◌, true, pos, negsuc, [], ◌∷◌, Some, None, refl}
 use Rattle.bitcode_columns.specs.declared.error.Reason.TheVariants.{Eof, InvalidPacking}
 use Rattle.bitcode_columns.specs.LittleEndian.{raw_text}
 use Rattle.bitcode_columns.specs.Digits.{digits_text}

@@ -1,4 +1,4 @@
-use Rattle.std.proofs.Common.{◌≡◌, ◌∙◌, map, sym, length, arith}
+use Rattle.std.proofs.Common.{◌≡◌, ◌∙◌, map, sym, arith}
 use Rattle.std.proofs.lemmas.Result.{on_ok_weaker}
 use Rattle.std.proofs.lemmas.List.{length-map}
 use Rattle.bitcode_columns.specs.Numbers.{least, greatest}

@@ -1,4 +1,4 @@
-use Rattle.std.proofs.Common.{◌≡◌, true, false, ap, subst}
+use Rattle.std.proofs.Common.{true, false, ap, subst}
 use Rattle.bitcode_columns.proofs.BoundLemmas.{least_more, greatest_more, least_of, greatest_of, all_of}
 use Rattle.bitcode_columns.specs.Numbers.{IsNumber}
 use Rattle.std.proofs.lemmas.List.Elements.{All-more}

@@ -1,4 +1,4 @@
-use Rattle.std.proofs.Common.{◌≡◌, sym, ap, ◌∙◌, subst}
+use Rattle.std.proofs.Common.{sym, ap, ◌∙◌, subst}
 use Rattle.std.proofs.lemmas.Result.{on_ok_weaker, on_err_weaker, IfErr-weaker, err_from_is_err_and}
 use Rattle.bitcode_columns.specs.IntColumn.{highest_int_tag, IsWidth, width_at_level}
 use Rattle.bitcode_columns.specs.Reading.{Names, narrow_fault}

@@ -1,4 +1,3 @@
-use Rattle.std.proofs.Common.{ℕ, ◌^◌, ◌<◌}
 use Rattle.bitcode_columns.proofs.WideningLemmas.{widened_is, some_numbers}
 use Rattle.bitcode_columns.proofs.pack_ints.read.widened.Goals as goal
 
