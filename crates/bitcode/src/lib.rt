@@ -20,6 +20,7 @@ pub use bitcode_columns::int_types::{Byte, Int, SizedInt, SizedUInt};
 pub use bitcode_columns::pack::{pack_bools, pack_bytes, unpack_bools, unpack_bytes};
 pub use bitcode_columns::pack_ints::{minmax, pack_ints, unpack_ints};
 pub use bitcode_columns::refuse::{err, error};
+pub use bitcode_derive::buffer::Buffer;
 pub use bitcode_derive::derive::{Decode, DecodeOwned, Encode};
 pub use bitcode_derive::whole::{decode, encode, invalid_enum_variant};
 pub use bitcode_parts::empty::EmptyCoder;

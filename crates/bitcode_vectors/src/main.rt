@@ -8,6 +8,8 @@ use std::{env, io};
 
 mod report;
 mod rows;
+#[cfg(test)]
+mod tests;
 
 /// What is printed on standard error for words that the program does not take.
 const USAGE: &str = "usage: bitcode_vectors [column KIND COUNT]";

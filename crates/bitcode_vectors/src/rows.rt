@@ -3,7 +3,7 @@ use bitcode::{Decode, Encode, Error, Reason, decode, encode};
 use std::alloc::Global;
 
 /// What a wrong part of a row gave.
-#[derive(Drop)]
+#[derive(Debug, Drop)]
 pub enum Got {
     /// The value was written as other bytes.
     Bytes(Vec<u8>),
@@ -14,7 +14,7 @@ pub enum Got {
 }
 
 /// The value is written as these bytes.
-fn encodes<T: Encode>(alloc: Global, t: &T, expected: &[u8]) -> Result<(), Got> {
+pub fn encodes<T: Encode>(alloc: Global, t: &T, expected: &[u8]) -> Result<(), Got> {
     match encode(alloc, t) {
         Ok(bytes) if bytes.as_slice() == expected => Ok(()),
         Ok(bytes) => Err(Got::Bytes(bytes)),
@@ -23,7 +23,7 @@ fn encodes<T: Encode>(alloc: Global, t: &T, expected: &[u8]) -> Result<(), Got> 
 }
 
 /// The bytes are read as this value.
-fn decodes<'a, T: Decode<'a> + PartialEq>(
+pub fn decodes<'a, T: Decode<'a> + PartialEq>(
     alloc: Global,
     bytes: &'a [u8],
     expected: T,
@@ -36,7 +36,11 @@ fn decodes<'a, T: Decode<'a> + PartialEq>(
 }
 
 /// The bytes are refused for this reason.
-fn refuses<'a, T: Decode<'a>>(alloc: Global, bytes: &'a [u8], expected: Reason) -> Result<(), Got> {
+pub fn refuses<'a, T: Decode<'a>>(
+    alloc: Global,
+    bytes: &'a [u8],
+    expected: Reason,
+) -> Result<(), Got> {
     match decode::<T>(alloc, bytes) {
         Ok(_) => Err(Got::AnotherValue),
         Err(error) if error.reason == expected => Ok(()),

@@ -1,0 +1,118 @@
+// Each public call once, with ample memory.
+use bitcode::coder::Buffer as _;
+use bitcode::{
+    BoolDecoder, BoolEncoder, Buffer, CowSlice, Decoder, Encoder, FastSlice, FastVec, IntEncoder,
+    NextUnchecked, PushUnchecked, Reason, TupleEncoder, View, consume_byte, consume_byte_arrays,
+    consume_bytes, decode, err, error, expect_eof, invalid_enum_variant, minmax, mul_length,
+};
+use std::test::Fail;
+
+#[test]
+fn an_input_is_taken_from_the_front(rt: HostRuntime) -> Result<(), Fail> {
+    let mut input: &[u8] = &[1, 2, 3, 4, 5, 6, 7];
+    assert_eq!(rt; consume_byte(&mut input)?, 1);
+    assert_eq!(rt; consume_bytes(&mut input, 2)?, [2, 3].as_slice());
+    assert_eq!(rt; consume_byte_arrays::<2>(&mut input, 2)?.len(), 2);
+    assert!(rt; consume_byte(&mut input).is_err());
+    expect_eof(input)?;
+    assert!(rt; expect_eof(&[0]).is_err());
+    assert_eq!(rt; mul_length(3, 4)?, 12);
+    assert_eq!(rt; mul_length(usize::MAX, 2), err(Reason::LengthOverflow));
+    Ok(())
+}
+
+#[test]
+fn errors_print_their_reason(rt: HostRuntime) -> Result<(), Fail> {
+    let alloc = rt.alloc();
+    let eof = error(Reason::Eof);
+    assert_eq!(rt; eof.reason(), "EOF");
+    assert_eq!(rt; format!(in alloc; "{eof}")?.as_str(), "EOF");
+    assert_eq!(rt; format!(in alloc; "{eof:?}")?.as_str(), "Error(\"EOF\")");
+    assert!(rt; eof != error(Reason::ExpectedEof));
+    assert_eq!(rt;
+        invalid_enum_variant::<u8>(),
+        err(Reason::InvalidEnumVariant)
+    );
+    Ok(())
+}
+
+#[test]
+fn a_list_with_room_is_pushed_to(rt: HostRuntime) -> Result<(), Fail> {
+    let alloc = rt.alloc();
+    let mut list: FastVec<u32> = FastVec::new(alloc);
+    list.reserve(4)?;
+    list.push_unchecked(1);
+    list.extend_unchecked(&[2, 3]);
+    assert_eq!(rt; list.len(), 3);
+    for item in list.as_mut_slice().iter_mut() {
+        *item = item.wrapping_add(1);
+    }
+    assert_eq!(rt; list.as_slice(), [2, 3, 4].as_slice());
+    list.clear();
+    assert_eq!(rt; list.len(), 0);
+    let copy = FastVec::from_vec(alloc, vec![in alloc; 3u32]?)?.into_vec()?;
+    assert_eq!(rt; copy.as_slice(), [3].as_slice());
+    Ok(())
+}
+
+#[test]
+fn a_slice_is_read_from_the_front(rt: HostRuntime) -> Result<(), Fail> {
+    let items = [1u8, 2, 3, 4, 5];
+    let mut slice = FastSlice::from(items.as_slice());
+    assert_eq!(rt; slice.next_unchecked(), 1);
+    assert_eq!(rt; slice.chunk_unchecked(2), [2, 3].as_slice());
+    slice.advance(1);
+    assert_eq!(rt; slice.as_slice(), [5].as_slice());
+    Ok(())
+}
+
+#[test]
+fn items_are_borrowed_or_owned(rt: HostRuntime) -> Result<(), Fail> {
+    let alloc = rt.alloc();
+    let mut items = CowSlice::new(alloc);
+    items.set_borrowed(&[1u8, 2, 3]);
+    assert_eq!(rt; items.next_unchecked(), 1);
+    assert_eq!(rt; items.chunk_unchecked(1), [2].as_slice());
+    assert_eq!(rt; items.as_slice(), [3].as_slice());
+    items.set_owned(vec![in alloc; 9u8]?);
+    assert_eq!(rt; items.as_slice(), [9].as_slice());
+    Ok(())
+}
+
+#[test]
+fn bounds_are_found(rt: HostRuntime) -> Result<(), Fail> {
+    assert_eq!(rt; minmax(&[3i16, -7, 5]), (-7, 5));
+    assert_eq!(rt; minmax::<u8>(&[]), (255, 0));
+    assert_eq!(rt; minmax(&[9u32]), (9, 9));
+    Ok(())
+}
+
+#[test]
+fn coders_are_used_by_themselves(rt: HostRuntime) -> Result<(), Fail> {
+    let alloc = rt.alloc();
+    let mut encoder: TupleEncoder<BoolEncoder, IntEncoder<u16>> = TupleEncoder::new(alloc);
+    encoder.reserve(1)?;
+    encoder.encode(&(true, 7u16))?;
+    let mut bytes = Vec::new(alloc);
+    encoder.collect_into(&mut bytes)?;
+    assert_eq!(rt; bytes.as_slice(), [1, 7, 0].as_slice());
+    encoder.clear();
+    let mut input: &[u8] = &[5];
+    let mut decoder = BoolDecoder::new(alloc);
+    decoder.populate(&mut input, 3)?;
+    let first: bool = decoder.decode()?;
+    assert!(rt; first);
+    Ok(())
+}
+
+#[test]
+fn a_buffer_starts_afresh(rt: HostRuntime) -> Result<(), Fail> {
+    let alloc = rt.alloc();
+    let mut buffer: Buffer<bool> = Buffer::new(alloc);
+    assert_eq!(rt; buffer.encode(&false)?, [0].as_slice());
+    assert_eq!(rt; buffer.encode(&true)?, [1].as_slice());
+    assert!(rt; buffer.decode(&[1])?);
+    let pair: ((bool, i8), (u32, ())) = decode(alloc, &[1, 251, 4, 9])?;
+    assert_eq!(rt; pair, ((true, -5), (9, ())));
+    Ok(())
+}
