@@ -31,4 +31,12 @@ pub use bitcode_tuples::encoder::TupleEncoder;
 /// The traits that coders meet, and the result of their calls.
 pub mod coder {
     pub use bitcode_coder::coder::{Buffer, Decoder, Encoder, View};
+    pub use bitcode_coder::result::Result;
+}
+
+/// The laws of columns, of data and of whole calls: calls that do nothing, and whose contracts are the laws.
+pub mod laws {
+    pub use bitcode_coder::laws::{all_columns, joined_data, one_column, tree_and_list};
+    pub use bitcode_columns::laws::{bool_columns, byte_columns, int_columns};
+    pub use bitcode_derive::laws::{one_text, one_value, round_trip};
 }

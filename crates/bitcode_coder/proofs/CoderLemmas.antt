@@ -1,5 +1,5 @@
 -- What is read and written of one column of bools or integers, in terms of data.
-use Rattle.std.proofs.Common.{◌≡◌, ℕ, ◌*◌, ◌%◌, ◌^◌, ◌<◌, ◌≤◌, Bool, true, false, ltb, leb, eqb, ◌==◌, Option, Some, None, ℤ, pos, negsuc, List, [], ◌∷◌, ◌++◌, length, map, drop, All, refl, sym, ap, subst, ◌∙◌, inl, inr, lit<, arith, Result, OnOk, IfErr, ◌+◌, cond, ◌||◌, ◌&&◌, mod-lt, take_at}
+use Rattle.std.proofs.Common.{◌≡◌, ℕ, ◌*◌, ◌%◌, ◌^◌, ◌<◌, ◌≤◌, Bool, true, false, ltb, leb, eqb, ◌==◌, Option, Some, None, ℤ, pos, negsuc, List, [], ◌∷◌, ◌++◌, length, map, drop, All, refl, sym, ap, subst, ◌∙◌, inl, inr, lit<, arith, Result, OnOk, IfErr, ◌+◌, cond, ◌||◌, ◌&&◌, mod-lt, take_at, Ok, Err}
 use Rattle.std.proofs.Math.Nat.{one-le-pow}
 use Rattle.std.proofs.lemmas.Bool.{cond_both, eqb-true}
 use Rattle.std.proofs.lemmas.List.{length-map, map-append}
@@ -163,36 +163,13 @@ ints_read residue_of width signed count old entries new known r below =
       columns = record { entries = map residue_of entries; are = refl; spelled = record { spelled = s; in_width = below } };
     }))
 
--- every entry is below the count of values of the width
-
-tagged_below : (width highest : ℕ) (SpellsNarrow : ℕ → List ℕ → List ℕ → Type 0) (piece entries : List ℕ) → SpellsTagged width highest SpellsNarrow piece entries
-    → All (λ n. n < 256 ^ width) entries
-tagged_below width highest SpellsNarrow piece entries s =
-    subst (All (λ n. n < 256 ^ width)) (sym s.widened)
-    (All-map (λ n. n < 256 ^ width) (λ n. (n + little_endian s.least_bytes) % 256 ^ width) s.narrow (λ k d h. mod-lt _ (one-le-pow width 256 (omega arith))))
-
-below_as : (is_byte is_bare : Bool) (width : ℕ) (piece entries : List ℕ) → (is_byte ≡ true → width ≡ 1) → All (λ b. b < 256) piece
-    → SpellsIntsAs (cond is_byte bytes_form (cond is_bare bare_form tagged_form)) width piece entries → All (λ n. n < 256 ^ width) entries
-below_as true is_bare width piece entries is_one bytes (inl bare) =
-    subst (λ w. All (λ n. n < 256 ^ w) entries) (sym (is_one refl)) (subst (All (λ b. b < 256)) bare.1 bytes)
-below_as true is_bare width piece entries is_one bytes (inr tagged) =
-    subst (λ w. All (λ n. n < 256 ^ w) entries) (sym (is_one refl)) (tagged_below 1 highest_byte_tag SpellsAtByteLevel piece entries tagged.1)
-below_as false true width piece entries is_one bytes s = s.fit
-below_as false false width piece entries is_one bytes s = tagged_below width (highest_int_tag width) (SpellsAtIntLevel width) piece entries s
-
-ints_below : (width count : ℕ) (old entries new : List ℕ) → All (λ b. b < 256) old → Reads (SpellsInts width) count old entries new
-    → All (λ n. n < 256 ^ width) entries
-ints_below width count old entries new bytes r =
-    below_as (width == 1) (length entries == 0 || (width == 2 && length entries == 1)) width r.piece entries (eqb-true width 1)
-    (subst (All (λ b. b < 256)) (take_at r.piece new (length r.piece) refl)
-    (All-take (λ b. b < 256) (length r.piece) (r.piece ++ new) (subst (All (λ b. b < 256)) r.whole bytes)))
-    r.spelled
-
 pub ints_read_ok : {T E Entry : Type 0} (r : Result T E) (residue_of : Entry → ℕ) (width : ℕ) (signed : Bool) (count : ℕ) (old : List ℕ)
-    (entries : List Entry) (new : List ℕ) → IsWidth width → All (λ b. b < 256) old → OnOk r (Reads (SpellsInts width) count old (map residue_of entries) new)
+    (entries : List Entry) (new : List ℕ) → IsWidth width → OnOk r (Reads (SpellsInts width) count old (map residue_of entries) new)
+    → OnOk r (All (λ n. n < 256 ^ width) (map residue_of entries))
     → OnOk r (Reads (Spells (int_shape width signed)) count old (map (λ e. number_of_residue width signed (residue_of e)) entries) new)
-ints_read_ok r residue_of width signed count old entries new known bytes read =
-    on_ok_weaker r (λ s. ints_read residue_of width signed count old entries new known s (ints_below width count old (map residue_of entries) new bytes s)) read
+ints_read_ok (Ok value) residue_of width signed count old entries new known read below =
+    ints_read residue_of width signed count old entries new known read below
+ints_read_ok (Err error) residue_of width signed count old entries new known read below = tt
 
 -- ---- written
 

@@ -54,6 +54,13 @@ five_shorts : text_of (seq_shape None (number_shape 2 true any_number)) (list (d
 unfolding length_text int_text byte_text tagged_text digits_text raw_text
 five_shorts = refl
 
+-- the least of all seventeen entries is the last one
+seventeen_shorts : text_of (seq_shape None (number_shape 2 false any_number))
+    (list (data_of (n 300 ∷ n 300 ∷ n 300 ∷ n 300 ∷ n 300 ∷ n 300 ∷ n 300 ∷ n 300 ∷ n 300 ∷ n 300 ∷ n 300 ∷ n 300 ∷ n 300 ∷ n 300 ∷ n 300
+    ∷ n 300 ∷ n 299 ∷ []))) ≡ 17 ∷ 1 ∷ 43 ∷ 1 ∷ 10 ∷ 255 ∷ 255 ∷ 0 ∷ []
+unfolding length_text int_text byte_text tagged_text digits_text raw_text
+seventeen_shorts = refl
+
 lists_of_bytes : text_of (seq_shape None (seq_shape None byte_shape)) (list (data_of (bytes [] ∷ bytes (1 ∷ 2 ∷ 3 ∷ []) ∷ [])))
     ≡ 2 ∷ 0 ∷ 3 ∷ 6 ∷ 57 ∷ []
 unfolding length_text int_text byte_text tagged_text digits_text raw_text

@@ -74,6 +74,8 @@ impl<'a> View<'a> for BoolDecoder<'a> {
 
     ghost reads_free = { λ count input. count ≡ 0 };
 
+    ghost faults = { λ reason count input. Names reason (bools_fault count input) };
+
     fn new(alloc: Global) -> Self {
         BoolDecoder {
             alloc,

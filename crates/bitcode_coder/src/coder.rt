@@ -1,5 +1,6 @@
 // The four traits that coders of columns and of types meet.
 ghost use Rattle.std.specs.Prelude.{◌≡◌, ◌≢◌, ℕ, ◌+◌, ◌<◌, ◌≤◌, Bool, List, [], ◌∷◌, ◌++◌, length, IsTrue, IsOk, IfOk, OnOk, IfErr, OnErr};
+ghost use Rattle.bitcode_columns.specs.declared.error.Reason.{Reason};
 ghost use Rattle.bitcode_columns.specs.Reading.{Reads, IsEndOf};
 ghost use Rattle.bitcode_shapes.specs.Datum.{Datum};
 ghost use Rattle.bitcode_shapes.specs.Shape.{Shape};
@@ -48,7 +49,7 @@ pub trait Buffer: Drop {
         ensures form { emptied (columns self.new) ≡ emptied (columns self.old) }
         ensures refused { IfErr result (λ e. e.reason ≡ Reason.OutOfMemory) };
 
-    /// Drops all entries. Takes no memory.
+    /// Drops all entries. Takes no memory. Room is to be reserved anew.
     fn clear(&mut self)
         ensures { columns self.new ≡ emptied (columns self.old) };
 }
@@ -84,6 +85,10 @@ pub trait View<'a>: Drop {
     // reading so many data from such an input takes no memory
     ghost reads_free: { ℕ → List ℕ → Type 0 };
 
+    // such a refusal names what is first at fault when so many data are read from such an input; want of memory is
+    // one only where all bytes of the column at hand are there
+    ghost faults: { Reason → ℕ → List ℕ → Type 0 };
+
     /// Holds nothing. Takes no memory.
     fn new(alloc: Global) -> Self
         ensures { held result ≡ [] };
@@ -94,6 +99,7 @@ pub trait View<'a>: Drop {
     fn populate(&mut self, input: &mut &'a [u8], k: usize) -> Result<(), Error>
         ensures read { OnOk result (Reads (Spells shape) k input.old.now (held self.new) input.new.now) }
         ensures refused { IfErr result (λ e. IsReadingRefusal shape e.reason k input.old.now) }
+        ensures exact { IfErr result (λ e. faults e.reason k input.old.now) }
         ensures rest { OnErr result (IsEndOf input.old.now input.new.now) }
         ensures free { reads_free k input.old.now → IfErr result (λ e. e.reason ≢ Reason.OutOfMemory) };
 }

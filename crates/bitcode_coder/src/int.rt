@@ -142,11 +142,6 @@ impl<I: Int, P: AsInt<I>> Encoder<P> for IntEncoder<I> {
     ghost surely = { λ e n never. absurd never };
 }
 
-// Each byte is below 256.
-fn are_bytes(_bytes: &[u8])
-    ensures { All (λ b. b < 256) _bytes.now }
-{}
-
 /// The column that integers are read from.
 #[derive(Drop)]
 pub struct IntDecoder<'a, T: Int> {
@@ -160,6 +155,8 @@ impl<'a, T: Int> View<'a> for IntDecoder<'a, T> {
     ghost held = { λ d. bytes_data T.width T.signed T.une_bytes (cow_rest d.values) };
 
     ghost reads_free = { λ count input. IsTrue (ints_stand_raw T.width count input) };
+
+    ghost faults = { λ reason count input. Names reason (ints_fault T.width count input) };
 
     fn new(alloc: Global) -> Self {
         IntDecoder {
@@ -175,7 +172,6 @@ impl<'a, T: Int> View<'a> for IntDecoder<'a, T> {
         ensures free { IsTrue (ints_stand_raw T.width k input.old.now) → IfErr result (λ e. e.reason ≢ Reason.OutOfMemory) }
         ensures exact { IfErr result (λ e. Names e.reason (ints_fault T.width k input.old.now)) }
     {
-        are_bytes(input);
         unpack_ints::<T>(self.alloc, input, k, &mut self.values)
     }
 }

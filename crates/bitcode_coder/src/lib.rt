@@ -6,3 +6,4 @@ pub mod coder;
 pub mod int;
 pub mod laws;
 pub mod length;
+pub mod result;

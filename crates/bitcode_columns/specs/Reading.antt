@@ -1,11 +1,12 @@
 -- What a reader of a column does with its input, and which fault it names.
-use Rattle.std.specs.Prelude.{◌≡◌, ℕ, Bool, true, false, ◌||◌, ◌*◌, ◌%◌, List, [], ◌∷◌, ◌++◌, length, drop, Option, Some, None, nat_lt, nat_le, ◌==◌, ◌⊎◌, if◌then◌else◌}
+use Rattle.std.specs.Prelude.{◌≡◌, ℕ, Bool, true, false, ◌||◌, ◌-◌, ◌*◌, ◌/◌, ◌%◌, List, [], ◌∷◌, ◌++◌, length, drop, slice_index, Option, Some, None, nat_lt, nat_le, ◌==◌, ◌⊎◌, if◌then◌else◌}
 use Rattle.std.specs.Int.{div_ceil}
+use Rattle.std.specs.List.{list_all, range_with_len}
 use Rattle.bitcode_columns.specs.declared.error.Reason.{Reason}
 use Rattle.bitcode_columns.specs.declared.error.Reason.TheVariants.{Eof, InvalidPacking, OutOfMemory}
 use Rattle.bitcode_columns.specs.declared.pack.Base.{Base}
 use Rattle.bitcode_columns.specs.declared.pack.Base.TheVariants.{Two}
-use Rattle.bitcode_columns.specs.Digits.{digits_in_byte}
+use Rattle.bitcode_columns.specs.Digits.{radix, digits_in_byte, base_for, digit}
 use Rattle.bitcode_columns.specs.Tagged.{level_of_tag}
 use Rattle.bitcode_columns.specs.ByteColumn.{base_at_level, highest_byte_tag}
 use Rattle.bitcode_columns.specs.IntColumn.{IntForm, bytes_form, bare_form, tagged_form, int_form, highest_int_tag, width_at_level}
@@ -31,6 +32,17 @@ digits_fault base count input = missing (div_ceil count (digits_in_byte base)) i
 
 abbrev pub bools_fault : ℕ → List ℕ → Option Reason
 bools_fault = digits_fault Two
+
+-- missing bytes first, then an entry that is no variant
+abbrev pub is_variant_at : (variants : ℕ) → List ℕ → ℕ → Bool
+is_variant_at variants input i =
+    nat_lt (digit (radix (base_for (variants - 1))) (slice_index input (i / digits_in_byte (base_for (variants - 1))))
+    (i % digits_in_byte (base_for (variants - 1)))) variants
+
+abbrev pub variants_fault : (variants count : ℕ) → List ℕ → Option Reason
+variants_fault variants count input =
+    if nat_lt (length input) (div_ceil count (digits_in_byte (base_for (variants - 1)))) then Some Eof
+    else if list_all (is_variant_at variants input) (range_with_len 0 count) then None else Some InvalidPacking
 
 -- the tag first, then the least entry, then the narrow numbers
 abbrev pub tagged_fault : (width highest : ℕ) (narrow_fault : ℕ → List ℕ → Option Reason) → List ℕ → Option Reason

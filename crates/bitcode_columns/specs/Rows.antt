@@ -8,7 +8,7 @@ use Rattle.bitcode_columns.specs.BoolColumn.{bool_text}
 use Rattle.bitcode_columns.specs.ByteColumn.{byte_text}
 use Rattle.bitcode_columns.specs.VariantColumn.{variant_text}
 use Rattle.bitcode_columns.specs.IntColumn.{int_text}
-use Rattle.bitcode_columns.specs.Reading.{bytes_fault, ints_fault}
+use Rattle.bitcode_columns.specs.Reading.{bytes_fault, ints_fault, variants_fault}
 
 -- ---- written
 
@@ -97,3 +97,12 @@ no_number = refl
 
 shifted_word : ints_fault 4 1 (3 ∷ 1 ∷ 0 ∷ 0 ∷ 0 ∷ 254 ∷ []) ≡ None
 shifted_word = refl
+
+no_sixth_of_five : variants_fault 5 1 (5 ∷ []) ≡ Some InvalidPacking
+no_sixth_of_five = refl
+
+sixth_of_six : variants_fault 6 1 (5 ∷ []) ≡ None
+sixth_of_six = refl
+
+no_variant : variants_fault 6 1 [] ≡ Some Eof
+no_variant = refl

@@ -41,6 +41,7 @@ pub fn pack_ints<T: Int>(alloc: Global, ints: &mut [T], out: &mut Vec<u8>) -> Re
     ensures reason { IfErr result (λ e. e.reason ≡ Reason.OutOfMemory) }
 {
     let start = out.len();
+    out.reserve(ints.len().saturating_mul(T::width()).saturating_add(1))?;
     let packed = append_ints(alloc, ints, out);
     if packed.is_err() {
         out.truncate(start);

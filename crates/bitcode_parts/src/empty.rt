@@ -57,6 +57,8 @@ impl<'a> View<'a> for EmptyCoder {
 
     ghost reads_free = { λ k input. Unit {0} };
 
+    ghost faults = { λ reason k input. ⊥ };
+
     fn new(_alloc: Global) -> Self {
         EmptyCoder { left: 0 }
     }

@@ -1,4 +1,6 @@
 // Tests that cross the crates: values, inputs and columns of the Rust crate, and each public call once.
+mod byte_columns;
 mod calls;
-mod columns;
+mod int_columns;
+mod packing;
 mod whole;

@@ -7,7 +7,7 @@ use Rattle.bitcode_coder.proofs.int.IntDecoderView.populate.Goals as goal
 pub returns-clause-read : goal.returns-clause-read
 returns-clause-read g c =
     ints_read_ok c.unpack_ints.result (λ u. little_endian (g.T.Int.une_bytes u)) g.T.Int.width g.T.Int.signed c.args.k c.args.input.now.now
-    (cow_rest c.unpack_ints.new.out) c.unpack_ints.new.input.now g.met.T.Int.width_law c.are_bytes.ensures c.unpack_ints.ensures.read
+    (cow_rest c.unpack_ints.new.out) c.unpack_ints.new.input.now g.met.T.Int.width_law c.unpack_ints.ensures.read c.unpack_ints.ensures.in_width
 
 pub returns-clause-refused : goal.returns-clause-refused
 returns-clause-refused g c =
