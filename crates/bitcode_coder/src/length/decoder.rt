@@ -20,6 +20,13 @@ use std::alloc::Global;
 const LENGTH_LIMIT: u128 = 2251799813685247;
 
 /// The column that lengths are read from.
+///
+/// ```
+/// let mut lengths = LengthDecoder::new(alloc);
+/// lengths.populate(&mut input, 3)?; // 0, 1, 255, 2, 6, 255
+/// lengths.length() // 258
+/// lengths.decode() // 1, then 255 and 2
+/// ```
 #[derive(Drop)]
 pub struct LengthDecoder<'a> {
     alloc: Global,
@@ -95,8 +102,8 @@ impl<'a> LengthDecoder<'a> {
 
     /// Whether the lengths that are left break the limit `N`. Takes no memory.
     ///
-    /// For `N` below 255 the bytes are asked, so that a 255 breaks it whatever length it stands for. For a greater
-    /// `N` it is the lengths.
+    /// For `N` below 255 the bytes are asked, so that a 255 breaks it whatever length it stands for: 255, 6, 2 is the
+    /// one length 2, and is over 100. For a greater `N` the lengths are asked.
     pub fn any_greater_than<const N: usize>(&self) -> bool
         ensures { MatchBool result (KeepsCap (Some N) (short_left self.now) (lengths_left self.now) → ⊥) (KeepsCap (Some N) (short_left self.now) (lengths_left self.now)) }
     {

@@ -20,7 +20,8 @@ use std::alloc::Global;
 
 /// The column that lengths are written to.
 ///
-/// A length below 255 is a byte. A greater one is the byte 255, and stands among the large lengths behind the bytes.
+/// A length below 255 is a byte. A greater one is the byte 255, and stands among the large lengths behind the bytes:
+/// 1, 255 and 2 are written as 0, 1, 255, 2, 6, 255.
 #[derive(Drop)]
 pub struct LengthEncoder {
     alloc: Global,
