@@ -96,6 +96,13 @@ impl<T: Integer> AsInt<T> for T {
 }
 
 /// The column that integers are written to.
+///
+/// ```
+/// let mut column: IntEncoder<u16> = IntEncoder::new(alloc);
+/// column.reserve(1)?;
+/// column.encode(&7)?;
+/// column.collect_into(&mut bytes)?;   // [7, 0]
+/// ```
 #[derive(Drop)]
 pub struct IntEncoder<T: Int> {
     alloc: Global,
@@ -143,6 +150,12 @@ impl<I: Int, P: AsInt<I>> Encoder<P> for IntEncoder<I> {
 }
 
 /// The column that integers are read from.
+///
+/// ```
+/// let mut column: IntDecoder<u16> = IntDecoder::new(alloc);
+/// column.populate(&mut input, 1)?;
+/// let first: u16 = column.decode()?;
+/// ```
 #[derive(Drop)]
 pub struct IntDecoder<'a, T: Int> {
     alloc: Global,

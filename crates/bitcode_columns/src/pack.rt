@@ -17,11 +17,17 @@ mod bytes;
 /// How many values a digit of a packed byte has: two to sixteen, or all 256 of a whole byte.
 #[derive(Clone, Copy, PartialEq, Eq)]
 pub enum Base {
+    /// One entry of 0 to 255.
     Whole,
+    /// Two entries below 16.
     Sixteen,
+    /// Three entries below 6.
     Six,
+    /// Four entries below 4.
     Four,
+    /// Five entries below 3.
     Three,
+    /// Eight entries below 2.
     Two,
 }
 

@@ -34,7 +34,8 @@ pub fn minmax<T: SizedInt>(values: &[T]) -> (T, T)
 /// Appends the column of the integers. The slice is scratch afterwards.
 ///
 /// The one `u32` 255 becomes `[4, 255]`: a tag, which says that numbers of one byte stand behind it, and the
-/// number. A refused growth is `out of memory`, and then `out` is as it was.
+/// number. Room is made for the most that a text can take, the raw bytes and one more, before anything is
+/// appended. A refused growth is `out of memory`, and then `out` is as it was.
 pub fn pack_ints<T: Int>(alloc: Global, ints: &mut [T], out: &mut Vec<u8>) -> Result<(), Error>
     ensures written { OnOk result (out.new.items ≡ out.old.items ++ int_text T.width (map T.number ints.old)) }
     ensures unchanged { OnErr result (out.new.items ≡ out.old.items) }

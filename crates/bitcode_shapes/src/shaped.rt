@@ -5,15 +5,22 @@ ghost use Rattle.bitcode_shapes.specs.Shape.{Shape};
 ghost use Rattle.bitcode_shapes.specs.Lawful.{Lawful, Makeable};
 
 /// A type whose values hold data of one shape.
+///
+/// A value of `(u8, bool)` holds the pair of a number and of 0 or 1. `crate::values` shows how types say so.
 pub trait Shaped {
+    // which data its values hold
     ghost shape: { Shape };
 
+    // a value whose numbers and chars are in their types' ranges, as every value in hand is
     ghost is_value: { Self → Type 0 };
 
+    // what a value holds; a hashed container or a heap may be listed in more than one order
     ghost lists: { Self → Datum → Type 0 };
 
+    // two values are equal
     ghost same: { Self → Self → Type 0 };
 
+    // nothing in a value is kept in an order of its own, so that it has one listing
     ghost in_order: { Bool };
 
     /// A value in hand is one.
@@ -25,6 +32,7 @@ pub trait Shaped {
 
 /// A type whose values are made of data.
 pub trait Made: Shaped {
+    // the value is made of the datum
     ghost makes: { Datum → Self → Type 0 };
 
     ghost makeable: { Makeable Self.shape Self.is_value Self.lists Self.same makes };

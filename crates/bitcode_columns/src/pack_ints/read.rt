@@ -278,8 +278,8 @@ fn read_ints<'a, T: Int>(
 ///
 /// Entries that stand as they are, behind the tag 0 or without a tag, are a slice of the input and take no memory.
 ///
-/// Missing bytes are `EOF`, a tag that no column has is `invalid packing`, and a refused growth is
-/// `out of memory`.
+/// Of `[1, 255, 255, 10, 85]` seven `i16` are the bytes of 0, -1, 0, -1, 0, -1 and 0. Missing bytes are `EOF`, a tag
+/// that no column has is `invalid packing`, and a refused growth is `out of memory`.
 pub fn unpack_ints<'a, T: Int>(
     alloc: Global,
     input: &mut &'a [u8],
