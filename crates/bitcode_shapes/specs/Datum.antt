@@ -1,6 +1,6 @@
 -- A datum is what a value holds, whatever type held it. A bool is the number 0 or 1, a char its scalar value,
 -- a map a list of tuples of two.
-use Rattle.std.specs.Prelude.{◌≡◌, ℕ, zero, suc, ◌<◌, ◌^◌, ℤ, pos, unsigned_abs, List, [], ◌∷◌, length, map}
+use Rattle.std.specs.Prelude.{ℕ, ◌<◌, ◌^◌, ℤ, pos, unsigned_abs, List, [], ◌∷◌, length}
 
 mutual
   pub data Datum : Type 0 where

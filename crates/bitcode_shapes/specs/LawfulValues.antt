@@ -1,9 +1,8 @@
 -- Bools, integers, the unit and pairs of lawful types are lawful.
-use Rattle.std.proofs.Common.{◌≡◌, ℕ, zero, suc, ◌+◌, ◌-◌, ◌*◌, ◌^◌, ◌<◌, ◌≤◌, Bool, true, false, ℤ, pos, negsuc, refl, sym, ◌∙◌, ap, subst, arith, rules, lit<, inl, inr}
+use Rattle.std.proofs.Common.{◌≡◌, ℕ, zero, suc, ◌<◌, Bool, true, false, ℤ, pos, negsuc, refl, sym, ◌∙◌, ap, subst, arith, lit<, inl, inr}
 use Rattle.std.specs.Prelude.{◌&&◌, IsTrue}
-use Rattle.std.specs.declared.alloc.Global.{Global}
-use Rattle.bitcode_shapes.specs.Datum.{Datum, Data, number, unit, tuple, pair, datum_and, no_data, IsStorable, AreStorable, storable_tuple, storable_more, storable_none}
-use Rattle.bitcode_shapes.specs.Shape.{Shape, IsOf, IsNumberOf, IsNaturalBelow, IsPairOf, bool_shape, unit_shape, pair_shape, number_shape, any_number, IsInWidth, IsNumberWidth}
+use Rattle.bitcode_shapes.specs.Datum.{Datum, number, unit, pair, IsStorable, storable_tuple, storable_more}
+use Rattle.bitcode_shapes.specs.Shape.{Shape, IsNaturalBelow, bool_shape, unit_shape, pair_shape, IsInWidth, IsNumberWidth}
 use Rattle.bitcode_shapes.specs.Lawful.{Lawful, Makeable}
 use Rattle.bitcode_shapes.specs.Values.{bool_number, int_shape, ListsNumber, MakesNumber, SameNumber, IsValueOfWidth, ListsUnit, MakesUnit, IsPairValue, ListsPair, MakesPair, SamePair}
 

@@ -1,5 +1,5 @@
 -- A shape says which data a type has, and so which columns.
-use Rattle.std.specs.Prelude.{◌≡◌, ℕ, zero, suc, ◌*◌, ◌^◌, ◌<◌, ◌≤◌, Bool, true, false, ℤ, pos, negsuc, ◌≤ℤ◌, ◌≢◌, Option, Some, None, IfSome, List, [], ◌∷◌, length, All, IsUtf8, ◌⊎◌}
+use Rattle.std.specs.Prelude.{◌≡◌, ℕ, zero, suc, ◌*◌, ◌^◌, ◌<◌, ◌≤◌, Bool, true, false, ℤ, pos, negsuc, ◌≤ℤ◌, ◌≢◌, Option, Some, None, List, length, All, IsUtf8, ◌⊎◌}
 use Rattle.std.specs.Char.{IsScalar}
 use Rattle.bitcode_shapes.specs.Datum.{Datum, number, text, list, choice, unit, data_of, pair}
 

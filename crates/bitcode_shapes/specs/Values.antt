@@ -1,5 +1,5 @@
 -- The shapes, listings and making of bools, integers, the unit and pairs.
-use Rattle.std.specs.Prelude.{◌≡◌, ℕ, Bool, true, false, ℤ, pos, ◌&&◌, if◌then◌else◌}
+use Rattle.std.specs.Prelude.{◌≡◌, ℕ, Bool, ℤ, pos, if◌then◌else◌}
 use Rattle.bitcode_shapes.specs.Datum.{Datum, number, unit, pair}
 use Rattle.bitcode_shapes.specs.Shape.{Shape, number_shape, any_number, IsInWidth}
 
