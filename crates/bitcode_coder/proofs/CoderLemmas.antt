@@ -1,21 +1,19 @@
 -- What is read and written of one column of bools or integers, in terms of data.
-use Rattle.std.proofs.Common.{◌≡◌, ℕ, ◌*◌, ◌%◌, ◌^◌, ◌<◌, ◌≤◌, Bool, true, false, ltb, leb, eqb, ◌==◌, Option, Some, None, ℤ, pos, negsuc, List, [], ◌∷◌, ◌++◌, length, map, drop, All, refl, sym, ap, subst, ◌∙◌, inl, inr, lit<, arith, Result, OnOk, IfErr, ◌+◌, cond, ◌||◌, ◌&&◌, mod-lt, take_at, Ok, Err}
-use Rattle.std.proofs.Math.Nat.{one-le-pow}
-use Rattle.std.proofs.lemmas.Bool.{cond_both, eqb-true}
+use Rattle.std.proofs.Common.{◌≡◌, ℕ, ◌*◌, ◌%◌, ◌^◌, ◌<◌, ◌≤◌, Bool, true, false, ltb, leb, eqb, ◌==◌, Option, Some, None, ℤ, pos, negsuc, List, [], ◌∷◌, ◌++◌, length, map, drop, All, refl, sym, ap, subst, ◌∙◌, inl, inr, lit<, arith, Result, OnOk, IfErr, Ok, Err}
+use Rattle.std.proofs.lemmas.Bool.{cond_both}
 use Rattle.std.proofs.lemmas.List.{length-map, map-append}
-use Rattle.std.proofs.lemmas.List.Elements.{All-map, All-take}
-use Rattle.std.proofs.lemmas.Result.{IfErr-weaker, on_ok_weaker}
+use Rattle.std.proofs.lemmas.List.Elements.{All-map}
+use Rattle.std.proofs.lemmas.Result.{IfErr-weaker}
 use Rattle.std.proofs.lemmas.Simd.{map-map}
 use Rattle.bitcode_columns.specs.declared.error.Error.{Error}
 use Rattle.bitcode_columns.specs.declared.error.Reason.{Reason}
 use Rattle.bitcode_columns.specs.declared.error.Reason.TheVariants.{Eof, InvalidPacking}
 use Rattle.bitcode_columns.specs.declared.pack.Base.TheVariants.{Two}
 use Rattle.bitcode_columns.specs.BoolColumn.{SpellsBools, bool_number}
-use Rattle.bitcode_columns.specs.ByteColumn.{base_at_level, highest_byte_tag, SpellsAtByteLevel}
-use Rattle.bitcode_columns.specs.IntColumn.{IsWidth, IntForm, bytes_form, bare_form, tagged_form, int_form, SpellsInts, SpellsIntsAs, SpellsAtIntLevel, highest_int_tag, width_at_level}
-use Rattle.bitcode_columns.specs.LittleEndian.{little_endian}
+use Rattle.bitcode_columns.specs.ByteColumn.{base_at_level, highest_byte_tag}
+use Rattle.bitcode_columns.specs.IntColumn.{IsWidth, IntForm, bytes_form, bare_form, tagged_form, int_form, SpellsInts, highest_int_tag, width_at_level}
 use Rattle.bitcode_columns.specs.Numbers.{IsNumber, number_of}
-use Rattle.bitcode_columns.specs.Tagged.{level_of_tag, SpellsTagged}
+use Rattle.bitcode_columns.specs.Tagged.{level_of_tag}
 use Rattle.bitcode_columns.specs.Reading.{Reads, missing, digits_fault, bools_fault, tagged_fault, bytes_fault, narrow_fault, ints_fault_as, ints_fault, Names}
 use Rattle.bitcode_columns.specs.Laws.{IsFaultOf}
 use Rattle.bitcode_columns.proofs.DigitLemmas.{digits_fault-refuses}

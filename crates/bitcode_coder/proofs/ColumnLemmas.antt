@@ -1,5 +1,5 @@
 -- The laws of a column of each kind.
-use Rattle.std.proofs.Common.{◌≡◌, ℕ, ◌-◌, ◌*◌, ◌^◌, ◌<◌, ◌≤◌, Bool, true, false, eqb, Option, ℤ, pos, negsuc, List, [], ◌∷◌, ◌++◌, length, map, All, get_or, sum, refl, sym, ap, ◌∙◌, subst, arith}
+use Rattle.std.proofs.Common.{◌≡◌, ℕ, ◌-◌, ◌*◌, ◌^◌, ◌<◌, ◌≤◌, Bool, true, false, eqb, Option, ℤ, pos, negsuc, List, [], ◌++◌, length, map, All, sum, refl, sym, ap, ◌∙◌, subst, arith}
 use Rattle.std.specs.Prelude.{sum_by, IsUtf8}
 use Rattle.std.proofs.lemmas.Bool.{cond_both, eqb-true, eqb-false}
 use Rattle.std.proofs.lemmas.List.{length-map, map-id, nil_from_length}
@@ -10,7 +10,7 @@ use Rattle.bitcode_columns.specs.Laws.{IsReadOnce}
 use Rattle.bitcode_columns.specs.declared.pack.Base.TheVariants.{Two}
 use Rattle.bitcode_columns.specs.Numbers.{IsNumber, residue, number_of}
 use Rattle.bitcode_columns.specs.Digits.{base_for, radix}
-use Rattle.bitcode_columns.specs.BoolColumn.{SpellsBools, bool_text, bool_number}
+use Rattle.bitcode_columns.specs.BoolColumn.{SpellsBools, bool_number}
 use Rattle.bitcode_columns.specs.IntColumn.{SpellsInts}
 use Rattle.bitcode_columns.specs.VariantColumn.{SpellsVariants, variant_text}
 use Rattle.bitcode_columns.proofs.ListLemmas.{append_split, map_further}

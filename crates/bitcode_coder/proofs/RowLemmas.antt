@@ -1,5 +1,5 @@
 -- Worked rows at the limit of a length column's sum: one length just below it is read, and the limit itself is not.
-use Rattle.std.proofs.Common.{◌≡◌, ℕ, ◌+◌, ◌^◌, ◌<◌, List, [], ◌∷◌, ◌++◌, length, sum, eqb, refl, sym, ap, ◌∙◌, subst, arith, inl, lit<, lit≤}
+use Rattle.std.proofs.Common.{◌≡◌, ℕ, ◌^◌, ◌<◌, List, [], ◌∷◌, ◌++◌, length, sum, eqb, refl, sym, ap, ◌∙◌, subst, arith, inl, lit<, lit≤}
 use Rattle.std.specs.Prelude.{None, count_by}
 use Rattle.std.proofs.lemmas.List.Elements.{All-nil, All-cons}
 use Rattle.bitcode_columns.specs.LittleEndian.{SpellsRaw, raw_text}

@@ -1,11 +1,11 @@
 -- What the calls of encoders and decoders do to the columns and data that they stand for.
-use Rattle.std.specs.Prelude.{◌≡◌, ◌≢◌, ℕ, ◌-◌, ◌<◌, ◌^◌, List, [], ◌∷◌, ◌++◌, length, All, ◌⊎◌}
+use Rattle.std.specs.Prelude.{◌≡◌, ◌≢◌, ℕ, ◌-◌, ◌^◌, List, [], ◌∷◌, ◌++◌, length, All, ◌⊎◌}
 use Rattle.bitcode_columns.specs.declared.error.Reason.{Reason}
 use Rattle.bitcode_columns.specs.declared.error.Reason.TheVariants.{Eof, ExpectedEof, InvalidPacking, LengthOverflow, HugeLength, InvalidUtf8, InvalidBitPattern, InvalidArrayVec, InvalidArrayString, InvalidEnumVariant, OutOfMemory}
 use Rattle.bitcode_columns.specs.Reading.{Reads}
 use Rattle.bitcode_shapes.specs.Datum.{Datum}
 use Rattle.bitcode_shapes.specs.Shape.{Shape, IsOf}
-use Rattle.bitcode_coder.specs.Columns.{Columns, beside, plain, emptied, CountsFit}
+use Rattle.bitcode_coder.specs.Columns.{Columns, beside, plain, CountsFit}
 use Rattle.bitcode_coder.specs.Transposition.{columns_of}
 use Rattle.bitcode_coder.specs.Spelling.{Spells}
 

@@ -1,6 +1,6 @@
 -- Columns of data. A column has a kind and its entries. The columns of a shape form a tree after the shape; read
 -- from left to right they are the list of columns that the bytes follow.
-use Rattle.std.specs.Prelude.{◌≡◌, ℕ, ◌+◌, ◌*◌, ◌<◌, ◌^◌, ◌≤◌, pos, Bool, Option, Some, None, List, [], ◌∷◌, ◌++◌, length, sum_by, map}
+use Rattle.std.specs.Prelude.{◌≡◌, ℕ, ◌+◌, ◌*◌, ◌<◌, ◌^◌, ◌≤◌, pos, Bool, Option, None, List, [], ◌∷◌, ◌++◌, length, sum_by}
 use Rattle.bitcode_shapes.specs.Datum.{Datum, number, text_in}
 use Rattle.bitcode_shapes.specs.Shape.{IsNumberWidth, IsNaturalBelow, IsNumberOf, IsTextOf, IsWithin, any_number}
 

@@ -1,6 +1,6 @@
 -- A length column is an unsigned byte column and then a 64-bit unsigned integer column. A byte below 255 is a
 -- length; each 255 stands for the next of the large lengths behind, which a reader accepts whatever they are.
-use Rattle.std.specs.Prelude.{◌≡◌, ℕ, ◌<◌, ◌≤◌, min, pos, Bool, Option, Some, None, List, [], ◌∷◌, ◌++◌, length, map, filter, sum, All, MatchBool, nat_lt, nat_le, ◌==◌, if◌then◌else◌, count_by}
+use Rattle.std.specs.Prelude.{◌≡◌, ℕ, ◌<◌, ◌≤◌, min, pos, Option, Some, None, List, [], ◌∷◌, ◌++◌, length, map, filter, sum, All, MatchBool, nat_lt, nat_le, ◌==◌, if◌then◌else◌, count_by}
 use Rattle.bitcode_columns.specs.ByteColumn.{SpellsBytes, byte_text}
 use Rattle.bitcode_columns.specs.IntColumn.{SpellsInts, int_text}
 

@@ -1,5 +1,5 @@
 -- How bytes spell columns, and the bytes that are written for them.
-use Rattle.std.specs.Prelude.{◌≡◌, ℕ, ◌+◌, ◌*◌, ◌^◌, ◌<◌, pos, Bool, Option, List, [], ◌∷◌, ◌++◌, length, map, All, sum, ◌==◌}
+use Rattle.std.specs.Prelude.{◌≡◌, ℕ, ◌^◌, ◌<◌, pos, Bool, List, [], ◌∷◌, ◌++◌, length, map, All, sum, ◌==◌}
 use Rattle.bitcode_columns.specs.Numbers.{number_of}
 use Rattle.bitcode_columns.specs.BoolColumn.{SpellsBools, bool_text, bool_number}
 use Rattle.bitcode_columns.specs.IntColumn.{SpellsInts, int_text}
