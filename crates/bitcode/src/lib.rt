@@ -9,6 +9,7 @@
 pub use bitcode_coder::bool::{BoolDecoder, BoolEncoder};
 pub use bitcode_coder::coder::{Decoder, Encoder, View};
 pub use bitcode_coder::int::{AsInt, IntDecoder, IntEncoder, Integer};
+pub use bitcode_coder::length::{Len, LengthDecoder, LengthEncoder};
 pub use bitcode_columns::consume::{
     consume_byte, consume_byte_arrays, consume_bytes, expect_eof, mul_length,
 };
