@@ -1,3 +1,4 @@
+pub mod CuttingLemmas
 pub mod CoderLemmas
 pub mod LengthLemmas
 pub mod LengthPartLemmas

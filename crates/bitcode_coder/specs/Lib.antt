@@ -1,3 +1,4 @@
+pub mod Cutting
 pub mod LengthColumn
 pub mod LengthParts
 pub mod LengthCoders

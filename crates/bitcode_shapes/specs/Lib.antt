@@ -5,3 +5,4 @@ pub mod Values
 pub mod LawfulValues
 pub mod Sequences
 pub mod LawfulSequences
+pub mod LawfulImages
