@@ -6,3 +6,9 @@ pub mod LawfulValues
 pub mod Sequences
 pub mod LawfulSequences
 pub mod LawfulImages
+pub mod Texts
+pub mod LawfulTexts
+pub mod Checked
+pub mod LawfulChecked
+pub mod Durations
+pub mod LawfulDurations
