@@ -10,3 +10,4 @@ pub mod DatumLemmas
 pub mod SpellingLemmas
 pub mod RowLemmas
 pub mod LawLemmas
+pub mod CountLemmas
