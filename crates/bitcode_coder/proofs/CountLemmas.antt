@@ -1,5 +1,5 @@
 -- Numbers of arrays in columns that are joined: where the whole fits, so does its front.
-use Rattle.std.proofs.Common.{◌≡◌, ℕ, zero, suc, ◌+◌, ◌*◌, ◌^◌, ◌<◌, ◌≤◌, List, [], ◌∷◌, ◌++◌, refl, sym, ◌∙◌, ap, ap₂, subst, arith, mul-le-mul_right}
+use Rattle.std.proofs.Common.{◌≡◌, ℕ, zero, suc, ◌+◌, ◌*◌, ◌^◌, ◌<◌, ◌≤◌, List, [], ◌∷◌, ◌++◌, refl, sym, ◌∙◌, ap, ap₂, subst, arith, append-nil, mul-le-mul_right}
 use Rattle.bitcode_shapes.specs.Datum.{Datum}
 use Rattle.bitcode_shapes.specs.Shape.{Shape}
 use Rattle.bitcode_coder.specs.Columns.{Columns, no_columns, one, two, arrays, beside, plain, emptied, CountsFit}
@@ -66,3 +66,13 @@ module _ (shape : Shape) (old : Columns) (form : emptied old ≡ written_columns
   CountsFit-fewer ds es fits =
       CountsFit-front (beside old (written_columns shape ds)) (written_columns shape es) (emptied-joined ds ∙ sym (emptied-written shape es))
       (subst CountsFit (joined-append ds es) fits)
+
+beside-emptied : (a : Columns) → beside a (emptied a) ≡ a
+beside-emptied no_columns = refl
+beside-emptied (one kind entries) = ap (one kind) (append-nil entries)
+beside-emptied (two a b) = ap₂ two (beside-emptied a) (beside-emptied b)
+beside-emptied (arrays size count a) = ap₂ (arrays size) (omega arith) (beside-emptied a)
+
+-- no data add nothing
+pub joined-none : (shape : Shape) (old : Columns) → emptied old ≡ written_columns shape [] → beside old (written_columns shape []) ≡ old
+joined-none shape old form = ap (beside old) (sym form) ∙ beside-emptied old

@@ -11,3 +11,4 @@ pub mod SpellingLemmas
 pub mod RowLemmas
 pub mod LawLemmas
 pub mod CountLemmas
+pub mod RefusalLemmas
