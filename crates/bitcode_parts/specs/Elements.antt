@@ -1,5 +1,5 @@
 -- The elements of a sequence, written and read one by one, front to back.
-use Rattle.std.specs.Prelude.{◌≡◌, List, ◌++◌}
+use Rattle.std.specs.Prelude.{◌≡◌, ℕ, List, ◌++◌, length}
 use Rattle.std.specs.List.{AllZip}
 use Rattle.bitcode_shapes.specs.Datum.{Datum}
 use Rattle.bitcode_shapes.specs.Shape.{Shape}
@@ -20,8 +20,9 @@ pub record PassesWithEach {T : Type 0} (lists : T → Datum → Type 0) (shape :
   pub listings : AllZip lists items parts
   pub passes : CountsFit (beside old (written_columns shape parts)) → ⊥
 
--- the items are made of data that were taken from the front
-pub record TakesEach {T : Type 0} (makes : Datum → T → Type 0) (items : List T) (old new : List Datum) : Type 0 where
+-- so many items are made of data that were taken from the front
+pub record TakesEach {T : Type 0} (makes : Datum → T → Type 0) (count : ℕ) (items : List T) (old new : List Datum) : Type 0 where
+  pub size : length items ≡ count
   pub parts : List Datum
   pub taken : old ≡ parts ++ new
   pub made : AllZip makes parts items

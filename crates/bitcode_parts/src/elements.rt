@@ -1,5 +1,5 @@
 // The elements of sequences, written and read one by one, front to back.
-ghost use Rattle.std.specs.Prelude.{◌≡◌, ◌+◌, ◌≤◌, [], length, All, IfOk, OnOk, IfErr};
+ghost use Rattle.std.specs.Prelude.{◌≡◌, ◌+◌, ◌≤◌, length, IfOk, OnOk, IfErr};
 ghost use Rattle.bitcode_columns.specs.declared.error.Reason.{Reason};
 ghost use Rattle.bitcode_coder.specs.Columns.{emptied};
 ghost use Rattle.bitcode_coder.specs.Coding.{IsWritingRefusal};
@@ -46,8 +46,7 @@ pub fn decode_each<'a, T: Made + Drop, D: Decoder<'a, T>>(
     count: usize,
 ) -> Result<Vec<T>, Error>
     requires { count ≤ length (D.held elements.old) }
-    ensures made { IfOk result (λ items. TakesEach T.makes items.items (D.held elements.old) (D.held elements.new)) }
-    ensures count { IfOk result (λ items. length items.items ≡ count) }
+    ensures made { IfOk result (λ items. TakesEach T.makes count items.items (D.held elements.old) (D.held elements.new)) }
     ensures refused { IfErr result (λ e. e.reason ≡ Reason.OutOfMemory) }
 {
     let mut items = Vec::with_capacity(alloc, count)?;

@@ -55,7 +55,7 @@ module _ {T : Type 0} (shape : Shape) (is_value : T → Type 0) (lists : T → D
         let rest = each_listed ts (All-tail is_value t ts h) in
         (first.0 ∷ rest.0, (first.1, rest.1))
 
-    each_of_shape : (values : List T) (ds : List Datum) → All is_value values → AllZip lists values ds → All (IsOf shape) ds
+    pub each_of_shape : (values : List T) (ds : List Datum) → All is_value values → AllZip lists values ds → All (IsOf shape) ds
     each_of_shape [] [] h z = All-nil (IsOf shape)
     each_of_shape [] (d ∷ ds) h z = absurd z
     each_of_shape (t ∷ ts) [] h z = absurd z
