@@ -1,10 +1,12 @@
-// The coders of bools, integers, the unit and pairs.
+// The coders of bools, integers, the unit and pairs; those of other types stand in the modules by subject.
 use crate::derive::{Decode, DecodeOwned, Encode};
 use bitcode_coder::bool::{BoolDecoder, BoolEncoder};
 use bitcode_coder::int::{IntDecoder, IntEncoder};
 use bitcode_parts::empty::EmptyCoder;
 use bitcode_tuples::decoder::TupleDecoder;
 use bitcode_tuples::encoder::TupleEncoder;
+
+mod sequences;
 
 impl Encode for bool {
     type Encoder = BoolEncoder;

@@ -1,5 +1,4 @@
 -- The next length, and so many elements.
-use Rattle.std.specs.Prelude.{vec_items}
 use Rattle.std.proofs.lemmas.Result.{IfOk-weaker}
 use Rattle.bitcode_coder.specs.LengthCoders.{lengths_left}
 use Rattle.bitcode_parts.proofs.SequenceLemmas.{takes_list}

@@ -1,9 +1,6 @@
 -- The lengths are read, and then the elements from what is left.
 use Rattle.std.proofs.Common.{inl, inr}
-use Rattle.std.specs.Prelude.{sum}
 use Rattle.std.proofs.lemmas.Result.{err_from_is_err_and, IfErr-weaker, on_ok_weaker, on_err_weaker}
-use Rattle.bitcode_columns.specs.declared.error.Error.{Error}
-use Rattle.bitcode_coder.specs.LengthCoders.{lengths_left}
 use Rattle.bitcode_coder.proofs.LengthPartLemmas.{ends_behind_read}
 use Rattle.bitcode_parts.proofs.SequenceLemmas.{reads_sequence, refuses_lengths, refuses_elements}
 use Rattle.bitcode_parts.proofs.vec.VecDecoderView.populate.Goals as goal
