@@ -21,6 +21,12 @@ impl<T: Drop> From<AllocFailed<T>> for Got {
     }
 }
 
+impl From<Error> for Got {
+    fn from(error: Error) -> Got {
+        Got::Refused(error)
+    }
+}
+
 impl From<AllocError> for Got {
     fn from(_refused: AllocError) -> Got {
         Got::Refused(error(Reason::OutOfMemory))
