@@ -1,4 +1,6 @@
 // Coders of the parts of which types are made.
 #![tactic(auto)]
 
+pub mod elements;
 pub mod empty;
+pub mod vec;
