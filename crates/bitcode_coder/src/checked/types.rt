@@ -6,7 +6,10 @@ ghost use Rattle.bitcode_shapes.specs.Shape.{nonzero, scalar};
 
 use crate::checked::Checked;
 use crate::int::AsInt;
-use std::num::{NonZeroI8, NonZeroI16, NonZeroI32, NonZeroU8, NonZeroU16, NonZeroU32, NonZeroU64};
+use std::num::{
+    NonZeroI8, NonZeroI16, NonZeroI32, NonZeroI64, NonZeroI128, NonZeroIsize, NonZeroU8,
+    NonZeroU16, NonZeroU32, NonZeroU64, NonZeroU128, NonZeroUsize,
+};
 
 impl AsInt<u8> for NonZeroU8 {
     fn to_int(&self) -> u8 {
@@ -129,6 +132,96 @@ impl Checked<i32> for NonZeroI32 {
 
     fn from_bits(bits: i32) -> Option<Self> {
         NonZeroI32::new(bits)
+    }
+
+    ghost checked_shape = { refl };
+}
+
+impl AsInt<u128> for NonZeroU128 {
+    fn to_int(&self) -> u128 {
+        self.get()
+    }
+
+    ghost as_int_columns = { λ ds. refl };
+}
+
+impl Checked<u128> for NonZeroU128 {
+    ghost allowed = { nonzero };
+
+    fn from_bits(bits: u128) -> Option<Self> {
+        NonZeroU128::new(bits)
+    }
+
+    ghost checked_shape = { refl };
+}
+
+impl AsInt<usize> for NonZeroUsize {
+    fn to_int(&self) -> usize {
+        self.get()
+    }
+
+    ghost as_int_columns = { λ ds. refl };
+}
+
+impl Checked<usize> for NonZeroUsize {
+    ghost allowed = { nonzero };
+
+    fn from_bits(bits: usize) -> Option<Self> {
+        NonZeroUsize::new(bits)
+    }
+
+    ghost checked_shape = { refl };
+}
+
+impl AsInt<i64> for NonZeroI64 {
+    fn to_int(&self) -> i64 {
+        self.get()
+    }
+
+    ghost as_int_columns = { λ ds. refl };
+}
+
+impl Checked<i64> for NonZeroI64 {
+    ghost allowed = { nonzero };
+
+    fn from_bits(bits: i64) -> Option<Self> {
+        NonZeroI64::new(bits)
+    }
+
+    ghost checked_shape = { refl };
+}
+
+impl AsInt<i128> for NonZeroI128 {
+    fn to_int(&self) -> i128 {
+        self.get()
+    }
+
+    ghost as_int_columns = { λ ds. refl };
+}
+
+impl Checked<i128> for NonZeroI128 {
+    ghost allowed = { nonzero };
+
+    fn from_bits(bits: i128) -> Option<Self> {
+        NonZeroI128::new(bits)
+    }
+
+    ghost checked_shape = { refl };
+}
+
+impl AsInt<isize> for NonZeroIsize {
+    fn to_int(&self) -> isize {
+        self.get()
+    }
+
+    ghost as_int_columns = { λ ds. refl };
+}
+
+impl Checked<isize> for NonZeroIsize {
+    ghost allowed = { nonzero };
+
+    fn from_bits(bits: isize) -> Option<Self> {
+        NonZeroIsize::new(bits)
     }
 
     ghost checked_shape = { refl };
