@@ -1,6 +1,8 @@
 // Coders of the parts of which types are made.
 #![tactic(auto)]
 
+pub mod convert;
+pub mod durations;
 pub mod elements;
 pub mod empty;
 pub mod vec;
