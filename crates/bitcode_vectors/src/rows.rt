@@ -3,6 +3,7 @@ use bitcode::{Decode, Encode, Error, Reason, decode, encode, error};
 use std::alloc::{AllocError, AllocFailed, Global};
 
 pub mod sequences;
+pub mod texts;
 
 /// What a wrong part of a row gave.
 #[derive(Debug, Drop)]
