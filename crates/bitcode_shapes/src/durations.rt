@@ -19,7 +19,6 @@ impl Shaped for Duration {
 
     fn told(&self) {
         let _seconds = self.as_secs();
-        let _nanos = self.subsec_nanos();
     }
 
     ghost lawful = { duration_lawful };

@@ -1,7 +1,9 @@
 // Tests that cross the crates: values, inputs and columns of the Rust crate, and each public call once.
 mod byte_columns;
 mod calls;
+mod checked;
 mod int_columns;
 mod packing;
 mod sequences;
+mod texts;
 mod whole;

@@ -1,0 +1,87 @@
+// Integers that are not 0, chars and durations: what the Rust crate wrote and read, and each public call once.
+use crate::rows::{Got, decodes, encodes, refuses};
+use bitcode::{
+    AsInt, Checked, CheckedIntDecoder, ConvertFrom, ConvertInto, Decoder, DurationDecode,
+    DurationEncode, Nanosecond, Reason, View, decode,
+};
+use std::num::{NonZeroI64, NonZeroU8};
+use std::test::Fail;
+use std::time::Duration;
+
+#[test]
+fn integers_that_are_not_0(rt: HostRuntime) -> Result<(), Got> {
+    let alloc = rt.alloc();
+    let mut bytes: [u8; 1] = [1];
+    for n in 1..=255u8 {
+        let Some(value) = NonZeroU8::new(n) else {
+            return Err(Got::AnotherValue);
+        };
+        bytes[0] = n;
+        encodes(alloc, &value, &bytes)?;
+        decodes(alloc, &bytes, value)?;
+    }
+    refuses::<NonZeroU8>(alloc, &[0], Reason::InvalidBitPattern)?;
+    refuses::<NonZeroU8>(alloc, &[44, 4], Reason::ExpectedEof)?;
+    refuses::<Vec<NonZeroU8>>(alloc, &[8, 10, 176], Reason::InvalidBitPattern)?;
+    let numbers: [(i64, &[u8]); 5] = [
+        (1, &[6, 1]),
+        (32768, &[4, 0, 128]),
+        (-129, &[0, 127, 255, 255, 255, 255, 255, 255, 255]),
+        (i64::MAX, &[0, 255, 255, 255, 255, 255, 255, 255, 127]),
+        (i64::MIN, &[0, 0, 0, 0, 0, 0, 0, 0, 128]),
+    ];
+    for (number, bytes) in &numbers {
+        let Some(value) = NonZeroI64::new(*number) else {
+            return Err(Got::AnotherValue);
+        };
+        encodes(alloc, &value, bytes)?;
+        decodes(alloc, bytes, value)?;
+    }
+    refuses::<NonZeroI64>(alloc, &[6, 0], Reason::InvalidBitPattern)?;
+    refuses::<NonZeroI64>(alloc, &[45, 7, 11], Reason::InvalidPacking)
+}
+
+#[test]
+fn durations_and_lists_of_chars(rt: HostRuntime) -> Result<(), Got> {
+    let alloc = rt.alloc();
+    let spans: [(u64, u32, &[u8]); 4] = [
+        (8, 0, &[6, 8, 4, 0]),
+        (16, 283, &[6, 16, 2, 27, 1]),
+        (4294967280, 19, &[2, 240, 255, 255, 255, 4, 19]),
+        (4294967296, 1, &[0, 0, 0, 0, 0, 1, 0, 0, 0, 4, 1]),
+    ];
+    for (seconds, nanos, bytes) in &spans {
+        let (seconds, nanos) = (*seconds, *nanos);
+        if nanos < 1_000_000_000 {
+            encodes(alloc, &Duration::new(seconds, nanos), bytes)?;
+            decodes(alloc, bytes, Duration::new(seconds, nanos))?;
+        }
+    }
+    refuses::<Duration>(alloc, &[6, 200, 4, 1, 116], Reason::ExpectedEof)?;
+    refuses::<Duration>(alloc, &[204, 2], Reason::InvalidPacking)?;
+    let chars: Vec<char> = vec![in alloc;
+        '\u{9e}', '\u{12}', '\u{bb}', '\u{d2}', '\u{c}', 'Z', 'e', '\u{87}',
+    ]?;
+    let bytes = [8, 4, 0, 158, 18, 187, 210, 12, 90, 101, 135];
+    encodes(alloc, &chars, &bytes)?;
+    decodes(alloc, &bytes, chars)
+}
+
+#[test]
+fn coders_of_checked_integers(rt: HostRuntime) -> Result<(), Fail> {
+    let alloc = rt.alloc();
+    let mut input: &[u8] = &[4, 97];
+    let mut chars: CheckedIntDecoder<char, u32> = CheckedIntDecoder::new(alloc);
+    chars.populate(&mut input, 1)?;
+    assert_eq!(rt; chars.decode()?, 'a');
+    assert_eq!(rt; 'a'.to_int(), 97);
+    assert_eq!(rt; char::from_bits(0xd800), None);
+    let nanos: Nanosecond = decode(alloc, &[4, 7])?;
+    assert_eq!(rt; nanos.into_inner(), 7);
+    let span = Duration::new(3, 5);
+    let written: DurationEncode = span.convert_into();
+    assert_eq!(rt; written, (3, 5));
+    let read: DurationDecode = decode(alloc, &[6, 3, 4, 5])?;
+    assert_eq!(rt; Duration::convert_from(read), span);
+    Ok(())
+}
