@@ -48,7 +48,7 @@ zip_length R (x ∷ xs) (y ∷ ys) z = ap suc (zip_length R xs ys z.1)
 
 module _ {T : Type 0} (shape : Shape) (is_value : T → Type 0) (lists : T → Datum → Type 0) (same : T → T → Type 0) where
   module _ (order : Bool) (element : Lawful shape is_value lists same order) where
-    each_listed : (values : List T) → All is_value values → (ds : List Datum) × AllZip lists values ds
+    pub each_listed : (values : List T) → All is_value values → (ds : List Datum) × AllZip lists values ds
     each_listed [] h = ([], tt)
     each_listed (t ∷ ts) h =
         let first = element.listed t (All-head is_value t ts h) in

@@ -1,0 +1,9 @@
+use Rattle.std.proofs.Common.{◌≡◌, length}
+use Rattle.bitcode_parts.specs.Elements.{TakesEach}
+use Rattle.bitcode_parts.proofs.elements.decode_each.Given as goal
+
+abbrev pub invariant-loop-made : goal.invariant-loop-made
+invariant-loop-made g l = record {
+  taken : TakesEach g.T.Made.makes l.items.items (g.D.View.held l.initial.elements) (g.D.View.held l.elements);
+  count : length l.items.items ≡ l._made;
+}
