@@ -1,5 +1,6 @@
 // Coders of the parts of which types are made.
 #![tactic(auto)]
 
+pub mod array;
 pub mod elements;
 pub mod empty;
