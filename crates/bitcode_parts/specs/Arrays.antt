@@ -1,5 +1,5 @@
 -- Arrays of a size: their columns are those of all their elements, and the elements make up the arrays again.
-use Rattle.std.specs.Prelude.{◌≡◌, ℕ, zero, suc, ◌-◌, ◌*◌, ◌/◌, ◌^◌, ◌<◌, ◌≤◌, List, min, replicate, ◌⊎◌}
+use Rattle.std.specs.Prelude.{◌≡◌, ℕ, zero, suc, ◌+◌, ◌-◌, ◌*◌, ◌/◌, ◌^◌, ◌<◌, ◌≤◌, List, min, replicate, ◌⊎◌}
 use Rattle.bitcode_columns.specs.declared.error.Reason.{Reason}
 use Rattle.bitcode_columns.specs.declared.error.Reason.TheVariants.{LengthOverflow}
 use Rattle.bitcode_shapes.specs.Datum.{Datum}
@@ -12,6 +12,11 @@ use Rattle.bitcode_parts.specs.Sequences.{lists_of}
 abbrev pub array_room : (size count room : ℕ) → ℕ
 array_room zero count room = endless_room
 array_room (suc size) count room = min (room / suc size) ((2 ^ 64 - 1) / suc size - count)
+
+-- So many more arrays surely pass: the number of all of them times their size is no length, or so many elements surely
+-- pass behind those that are there.
+abbrev pub ArraysPass : {E : Type 0} (size : ℕ) (passes : E → ℕ → Type 0) → E → (count more : ℕ) → Type 0
+ArraysPass size passes elements count more = (2 ^ 64 ≤ (count + more) * size) ⊎ passes elements (more * size)
 
 -- the elements of so many arrays, as arrays
 abbrev pub arrays_of : (size count : ℕ) → List Datum → List Datum

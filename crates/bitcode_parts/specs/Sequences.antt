@@ -1,5 +1,5 @@
 -- Sequences as the lengths of each and the elements of all.
-use Rattle.std.specs.Prelude.{ℕ, List, map, sum, None}
+use Rattle.std.specs.Prelude.{◌≡◌, ℕ, List, map, sum, None}
 use Rattle.bitcode_columns.specs.declared.error.Reason.{Reason}
 use Rattle.bitcode_columns.specs.Reading.{Reads}
 use Rattle.bitcode_shapes.specs.Datum.{Datum, list, data_of}

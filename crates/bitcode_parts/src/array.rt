@@ -1,7 +1,8 @@
 // The coders of arrays.
-ghost use Rattle.std.specs.Prelude.{◌≡◌, ◌+◌, ◌*◌, ◌^◌, ◌<◌, ◌≤◌, ◌⊎◌};
+ghost use Rattle.std.specs.Prelude.{◌≡◌, ◌+◌, ◌*◌, ◌^◌, ◌<◌, ◌≤◌, IsOk, OnOk, IfErr, IsErrOf};
+ghost use Rattle.bitcode_coder.specs.Coding.{IsWritingRefusal};
 ghost use Rattle.bitcode_coder.specs.Transposition.{array_columns};
-ghost use Rattle.bitcode_parts.specs.Arrays.{array_room};
+ghost use Rattle.bitcode_parts.specs.Arrays.{array_room, ArraysPass};
 ghost use Rattle.bitcode_parts.specs.ArrayLaws.{arrays_of_shape, arrays_pass};
 
 use crate::elements::encode_each;
@@ -30,7 +31,7 @@ impl<E: Buffer, const N: usize> Buffer for ArrayEncoder<E, N> {
 
     ghost room = { λ e. array_room N e.count (E.room e.elements) };
 
-    ghost surely_passes = { λ e n. (2 ^ 64 ≤ (e.count + n) * N) ⊎ E.surely_passes e.elements (n * N) };
+    ghost surely_passes = { λ e n. ArraysPass N E.surely_passes e.elements e.count n };
 
     fn new(alloc: Global) -> Self {
         ArrayEncoder {
@@ -39,7 +40,14 @@ impl<E: Buffer, const N: usize> Buffer for ArrayEncoder<E, N> {
         }
     }
 
-    fn reserve(&mut self, n: usize) -> Result<(), Error> {
+    fn reserve(&mut self, n: usize) -> Result<(), Error>
+        ensures columns { array_columns N self.new.count (E.columns self.new.elements) ≡ array_columns N self.old.count (E.columns self.old.elements) }
+        ensures ok { OnOk result (n ≤ array_room N self.new.count (E.room self.new.elements)) }
+        ensures grows { array_room N self.old.count (E.room self.old.elements) ≤ array_room N self.new.count (E.room self.new.elements) }
+        ensures succeeds { n ≤ array_room N self.old.count (E.room self.old.elements) → IsOk result }
+        ensures refused { IfErr result (λ e. IsWritingRefusal e.reason (ArraysPass N E.surely_passes self.old.elements self.old.count n)) }
+        ensures overflow { 2 ^ 64 ≤ (self.old.count + n) * N → IsErrOf result (record { reason = Reason.LengthOverflow }) }
+    {
         let Some(count) = self.count.checked_add(n) else {
             return err(Reason::LengthOverflow);
         };

@@ -1,5 +1,5 @@
 -- Each turn takes one datum.
-use Rattle.std.proofs.Common.{refl, arith}
+use Rattle.std.proofs.Common.{refl, arith, ap, length, ◌∙◌}
 use Rattle.bitcode_parts.proofs.ElementLemmas.{takes_one_more, taken_and_left}
 use Rattle.bitcode_parts.proofs.elements.decode_each.Goals as goal
 

@@ -1,4 +1,4 @@
-use Rattle.std.proofs.Common.{◌≡◌, ◌+◌, ◌≤◌, take}
+use Rattle.std.proofs.Common.{◌≡◌, ◌+◌, ◌≤◌, length, take}
 use Rattle.bitcode_coder.specs.Columns.{emptied}
 use Rattle.bitcode_parts.specs.Elements.{JoinsEach}
 use Rattle.bitcode_parts.proofs.elements.encode_each.Given as goal
