@@ -1,5 +1,5 @@
 -- The number of arrays and the number of their elements are looked at before room is made.
-use Rattle.std.proofs.Common.{◌*◌, ◌+◌, ◌^◌, ◌<◌, ◌≤◌, refl, arith}
+use Rattle.std.proofs.Common.{◌*◌, ◌+◌, ◌^◌, ◌<◌, ◌≤◌, true, refl, arith}
 use Rattle.std.proofs.lemmas.Result.{on_ok_weaker}
 use Rattle.std.proofs.lemmas.Bool.{false≢true}
 use Rattle.bitcode_parts.proofs.ArrayLemmas.{array_room-elements, array_room-count, array_room-enough, array_room-grows}
@@ -9,7 +9,7 @@ pub returns-in_err-_elements-clause-succeeds : goal.returns-in_err-_elements-cla
 returns-in_err-_elements-clause-succeeds g c room =
     let few : (c.args.self.now.count + c.args.n) * g.row.N < 2 ^ 64 =
     array_room-count g.row.N c.args.self.now.count c.args.n (g.E.Buffer.room c.args.self.now.elements) room c.args.self.now.fits in
-    let passes = c.in_err-_elements.ensures.refused.0 refl in
+    let passes = c.in_err-_elements.ensures.refused.0 (refl {a = true}) in
     let sum = c.in-Some.ensures in
     absurd (grind (arith, few, passes, sum))
 
