@@ -1,4 +1,6 @@
 // The coders of bools, integers, the unit and pairs.
+mod arrays;
+
 use crate::derive::{Decode, DecodeOwned, Encode};
 use bitcode_coder::bool::{BoolDecoder, BoolEncoder};
 use bitcode_coder::int::{IntDecoder, IntEncoder};
