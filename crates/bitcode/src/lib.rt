@@ -24,6 +24,7 @@ pub use bitcode_columns::refuse::{err, error};
 pub use bitcode_derive::buffer::Buffer;
 pub use bitcode_derive::derive::{Decode, DecodeOwned, Encode};
 pub use bitcode_derive::whole::{decode, encode, invalid_enum_variant};
+pub use bitcode_parts::array::{ArrayDecoder, ArrayEncoder};
 pub use bitcode_parts::empty::EmptyCoder;
 pub use bitcode_parts::vec::{VecDecoder, VecEncoder};
 pub use bitcode_shapes::shaped::{Made, Shaped};
@@ -40,5 +41,5 @@ pub mod coder {
 pub mod laws {
     pub use bitcode_coder::laws::{all_columns, joined_data, one_column, tree_and_list};
     pub use bitcode_columns::laws::{bool_columns, byte_columns, int_columns};
-    pub use bitcode_derive::laws::{one_text, one_value, round_trip};
+    pub use bitcode_derive::laws::{one_text, one_value, overflows_exactly, round_trip};
 }

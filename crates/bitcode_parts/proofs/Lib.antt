@@ -1,3 +1,5 @@
 pub mod ElementLemmas
 pub mod SequenceLemmas
 pub mod SequenceWritingLemmas
+pub mod ArrayLemmas
+pub mod ArrayReadingLemmas

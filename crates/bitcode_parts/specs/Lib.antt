@@ -1,2 +1,4 @@
 pub mod Elements
 pub mod Sequences
+pub mod Arrays
+pub mod ArrayLaws

@@ -1,6 +1,7 @@
 // Coders of the parts of which types are made.
 #![tactic(auto)]
 
+pub mod array;
 pub mod elements;
 pub mod empty;
 pub mod vec;

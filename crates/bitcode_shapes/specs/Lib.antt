@@ -6,3 +6,4 @@ pub mod LawfulValues
 pub mod Sequences
 pub mod LawfulSequences
 pub mod LawfulImages
+pub mod Arrays

@@ -4,6 +4,8 @@ use std::alloc::{AllocError, AllocFailed, Global};
 
 pub mod sequences;
 
+pub mod arrays;
+
 /// What a wrong part of a row gave.
 #[derive(Debug, Drop)]
 pub enum Got {
