@@ -18,8 +18,16 @@ use std::alloc::Global;
 
 /// The encoder of arrays of `N` elements: the columns of the elements of all arrays.
 ///
-/// It writes an array by the encoder of the elements, and refuses as that does. How many arrays there are is known to the reader, and is
-/// not written; that number times `N` has to be a length.
+/// It writes an array by the encoder of the elements, and refuses as that does. The number of arrays is not written: a
+/// reader knows it. That number times `N` has to be a length, and where it would not be, `reserve` answers
+/// `length overflow`.
+///
+/// ```
+/// let mut encoder: ArrayEncoder<IntEncoder<u8>, 3> = ArrayEncoder::new(alloc);
+/// encoder.reserve(1)?;
+/// encoder.encode(&[0, 1, 2])?;
+/// encoder.collect_into(&mut bytes)?; // [8, 21]
+/// ```
 #[derive(Drop)]
 pub struct ArrayEncoder<E, const N: usize> {
     elements: E,
@@ -86,7 +94,14 @@ impl<T: Shaped, E: Encoder<T>, const N: usize> Encoder<[T; N]> for ArrayEncoder<
 
 /// The decoder of arrays of `N` elements: it reads the elements of all arrays.
 ///
-/// It makes an array by the decoder of the elements, one element after the other.
+/// It makes an array by the decoder of the elements, one element after the other. Where the number of arrays times `N`
+/// is over 18446744073709551615, reading is `length overflow` and takes nothing from the input.
+///
+/// ```
+/// let mut decoder: ArrayDecoder<IntDecoder<u8>, 3> = ArrayDecoder::new(alloc);
+/// decoder.populate(&mut input, 1)?; // [8, 21]
+/// let first: [u8; 3] = decoder.decode()?; // [0, 1, 2]
+/// ```
 #[derive(Drop)]
 pub struct ArrayDecoder<D, const N: usize> {
     alloc: Global,
