@@ -17,13 +17,14 @@ use crate::pack::bytes::borrow_bytes;
 use crate::refuse::err;
 use std::alloc::Global;
 
+/// A variant is a byte, whatever `N` is.
+const HIGHEST_BYTE: usize = 255;
+
 /// The base in which the variants below `N` are digits.
 fn base_of_variants<const N: usize>() -> Base
-    requires some { 2 ≤ N }
-    requires few { N ≤ 256 }
     ensures { result ≡ base_for (N - 1) }
 {
-    Base::for_greatest((N - 1) as u8)
+    Base::for_greatest(N.saturating_sub(1).min(HIGHEST_BYTE) as u8)
 }
 
 /// Appends a column of variants, each below `N`: as many of them to a byte as the base for `N - 1` has digits in it,
@@ -37,9 +38,7 @@ fn base_of_variants<const N: usize>() -> Base
 /// assert_eq!(rt; out.as_slice(), &[227]);
 /// ```
 pub fn pack_bytes_less_than<const N: usize>(bytes: &[u8], out: &mut Vec<u8>) -> Result<(), Error>
-    requires some { 2 ≤ N }
-    requires few { N ≤ 256 }
-    requires known { All (λ entry. entry < N) bytes.now }
+    requires { All (λ entry. entry < N) bytes.now }
     ensures written { OnOk result (out.new.items ≡ out.old.items ++ variant_text N bytes.now) }
     ensures reason { IfErr result (λ e. e.reason ≡ Reason.OutOfMemory) }
     ensures unchanged { OnErr result (out.new.items ≡ out.old.items) }
@@ -56,8 +55,6 @@ fn read_digits<'a, const N: usize>(
     count: usize,
     out: &mut CowSlice<'a, u8>,
 ) -> Result<(), Error>
-    requires some { 2 ≤ N }
-    requires few { N ≤ 256 }
     ensures read { OnOk result (Reads (SpellsDigits (base_for (N - 1))) count input.old.now (cow_rest out.new) input.new.now) }
     ensures refused { IfErr result (λ e. Names e.reason (digits_fault (base_for (N - 1)) count input.old.now)) }
     ensures rest { OnErr result (IsEndOf input.old.now input.new.now) }
@@ -101,9 +98,7 @@ pub fn unpack_bytes_less_than<'a, const N: usize, const H: usize>(
     count: usize,
     out: &mut CowSlice<'a, u8>,
 ) -> Result<[usize; H], Error>
-    requires some { 2 ≤ N }
-    requires few { N ≤ 256 }
-    requires counted { (H ≡ N) ⊎ (H ≡ 0) }
+    requires { (H ≡ N) ⊎ (H ≡ 0) }
     ensures read { OnOk result (Reads (SpellsVariants N) count input.old.now (cow_rest out.new) input.new.now) }
     ensures counts { IfOk result (λ counts. AreCounts H (cow_rest out.new) counts) }
     ensures total { IfOk result (λ counts. H ≡ N → sum counts ≡ count) }
