@@ -10,6 +10,7 @@ use Rattle.bitcode_columns.specs.Counts.{count_of}
 use Rattle.bitcode_shapes.specs.Datum.{Datum, choice, variant_in, payload_in}
 use Rattle.bitcode_shapes.specs.Shape.{IsChoiceOf}
 use Rattle.bitcode_coder.specs.Transposition.{payloads}
+use Rattle.bitcode_coder.specs.Coding.{TakesDatum}
 use Rattle.bitcode_parts.specs.Payloads.{payloads_of, next_choice, choices_of}
 
 -- ---- counts
@@ -197,3 +198,10 @@ pub variant_there : (variant : ℕ) (variants : List ℕ) (lists : List (List Da
 variant_there variant variants lists some =
     let found = first_payload variant lists (payload_left variant variants lists some) in
     list_is_there variant lists found.0 found.1.0 found.1.1
+
+-- the next payload of the variant that comes was taken
+pub takes_choice : {T : Type 0} (makes : Datum → T → Type 0) (t : T) (variant : ℕ) (variants : List ℕ) (lists : List (List Datum)) (first : Datum) (rest : List Datum)
+    → payloads_of variant lists ≡ first ∷ rest → makes (choice variant first) t
+    → TakesDatum makes t (choices_of (variant ∷ variants) lists) (choices_of variants (set lists variant rest))
+takes_choice makes t variant variants lists first rest is made =
+    record { datum = choice variant first; taken = choices_of-next variant variants lists first rest is; made = made }
