@@ -1,5 +1,5 @@
 // What the program prints of its rows.
-use crate::rows::{self, Got};
+use crate::rows::{self, Got, variants};
 use bitcode::Error;
 use std::alloc::Global;
 use std::{fmt, io};
@@ -32,8 +32,11 @@ fn print_row(rt: &impl Print, number: u8, outcome: Result<(), Got>) -> io::Resul
 pub fn print_rows(rt: &impl Print, alloc: Global) -> io::Result<bool> {
     let mut all_ok = print_row(rt, 1, rows::unit(alloc))?;
     all_ok &= print_row(rt, 2, rows::bools(alloc))?;
+    all_ok &= print_row(rt, 10, variants::last_of_six(alloc))?;
+    all_ok &= print_row(rt, 11, variants::counts_of_high_bytes(alloc))?;
     all_ok &= print_row(rt, 21, rows::pair(alloc))?;
     all_ok &= print_row(rt, 22, rows::words_written(alloc))?;
     all_ok &= print_row(rt, 23, rows::words_read(alloc))?;
+    all_ok &= print_row(rt, 40, variants::raw_variants(alloc))?;
     Ok(all_ok)
 }

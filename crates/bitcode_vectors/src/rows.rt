@@ -2,6 +2,8 @@
 use bitcode::{Decode, Encode, Error, Reason, decode, encode};
 use std::alloc::Global;
 
+pub mod variants;
+
 /// What a wrong part of a row gave.
 #[derive(Debug, Drop)]
 pub enum Got {

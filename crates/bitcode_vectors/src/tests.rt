@@ -3,4 +3,5 @@ mod byte_columns;
 mod calls;
 mod int_columns;
 mod packing;
+mod variants;
 mod whole;
