@@ -17,8 +17,12 @@ pub use bitcode_columns::error::{Error, Reason};
 pub use bitcode_columns::fast::{
     CowSlice, FastSlice, FastVec, NextUnchecked, PushUnchecked, SliceImpl, VecImpl,
 };
+pub use bitcode_columns::histogram::histogram;
 pub use bitcode_columns::int_types::{Byte, Int, SizedInt, SizedUInt};
-pub use bitcode_columns::pack::{pack_bools, pack_bytes, unpack_bools, unpack_bytes};
+pub use bitcode_columns::pack::{
+    pack_bools, pack_bytes, pack_bytes_less_than, unpack_bools, unpack_bytes,
+    unpack_bytes_less_than,
+};
 pub use bitcode_columns::pack_ints::{minmax, pack_ints, unpack_ints};
 pub use bitcode_columns::refuse::{err, error};
 pub use bitcode_derive::buffer::Buffer;
@@ -27,6 +31,7 @@ pub use bitcode_derive::whole::{decode, encode, invalid_enum_variant};
 pub use bitcode_parts::array::{ArrayDecoder, ArrayEncoder};
 pub use bitcode_parts::empty::EmptyCoder;
 pub use bitcode_parts::vec::{VecDecoder, VecEncoder};
+pub use bitcode_parts::variant::{VariantDecoder, VariantEncoder};
 pub use bitcode_shapes::shaped::{Made, Shaped};
 pub use bitcode_tuples::decoder::TupleDecoder;
 pub use bitcode_tuples::encoder::TupleEncoder;
@@ -42,4 +47,6 @@ pub mod laws {
     pub use bitcode_coder::laws::{all_columns, joined_data, one_column, tree_and_list};
     pub use bitcode_columns::laws::{bool_columns, byte_columns, int_columns};
     pub use bitcode_derive::laws::{one_text, one_value, overflows_exactly, round_trip};
+    pub use bitcode_columns::laws::{bool_columns, byte_columns, int_columns, variant_columns};
+    pub use bitcode_derive::laws::{one_text, one_value, round_trip};
 }

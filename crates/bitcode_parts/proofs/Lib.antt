@@ -3,3 +3,6 @@ pub mod SequenceLemmas
 pub mod SequenceWritingLemmas
 pub mod ArrayLemmas
 pub mod ArrayReadingLemmas
+pub mod ChoiceLemmas
+pub mod ChoiceReadingLemmas
+pub mod ChoiceWritingLemmas

@@ -2,3 +2,5 @@ pub mod Elements
 pub mod Sequences
 pub mod Arrays
 pub mod ArrayLaws
+pub mod VariantCoders
+pub mod Payloads

@@ -5,3 +5,4 @@ pub mod array;
 pub mod elements;
 pub mod empty;
 pub mod vec;
+pub mod variant;

@@ -6,6 +6,8 @@ pub mod sequences;
 
 pub mod arrays;
 
+pub mod variants;
+
 /// What a wrong part of a row gave.
 #[derive(Debug, Drop)]
 pub enum Got {

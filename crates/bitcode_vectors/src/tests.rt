@@ -5,4 +5,5 @@ mod calls;
 mod int_columns;
 mod packing;
 mod sequences;
+mod variants;
 mod whole;
