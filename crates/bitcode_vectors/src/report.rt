@@ -1,5 +1,5 @@
 // What the program prints of its rows.
-use crate::rows::{self, Got};
+use crate::rows::{self, Got, byte_columns, lengths};
 use bitcode::Error;
 use std::alloc::Global;
 use std::{fmt, io};
@@ -32,8 +32,12 @@ fn print_row(rt: &impl Print, number: u8, outcome: Result<(), Got>) -> io::Resul
 pub fn print_rows(rt: &impl Print, alloc: Global) -> io::Result<bool> {
     let mut all_ok = print_row(rt, 1, rows::unit(alloc))?;
     all_ok &= print_row(rt, 2, rows::bools(alloc))?;
+    all_ok &= print_row(rt, 6, lengths::lengths_written(alloc))?;
+    all_ok &= print_row(rt, 7, lengths::lengths_read(alloc))?;
     all_ok &= print_row(rt, 21, rows::pair(alloc))?;
     all_ok &= print_row(rt, 22, rows::words_written(alloc))?;
     all_ok &= print_row(rt, 23, rows::words_read(alloc))?;
+    all_ok &= print_row(rt, 31, byte_columns::bytes_packed(alloc))?;
+    all_ok &= print_row(rt, 32, byte_columns::bytes_unpacked(alloc))?;
     Ok(all_ok)
 }

@@ -2,6 +2,9 @@
 use bitcode::{Decode, Encode, Error, Reason, decode, encode};
 use std::alloc::Global;
 
+pub mod byte_columns;
+pub mod lengths;
+
 /// What a wrong part of a row gave.
 #[derive(Debug, Drop)]
 pub enum Got {
@@ -11,6 +14,12 @@ pub enum Got {
     Refused(Error),
     /// Another value was read, or one where the input had to be refused.
     AnotherValue,
+}
+
+impl From<Error> for Got {
+    fn from(error: Error) -> Got {
+        Got::Refused(error)
+    }
 }
 
 /// The value is written as these bytes.
