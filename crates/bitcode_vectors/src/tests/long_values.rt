@@ -269,3 +269,17 @@ fn i128_values(rt: HostRuntime) -> Result<(), Got> {
         Reason::InvalidPacking,
     )
 }
+
+#[test]
+fn shorter_values_at_their_limits(rt: HostRuntime) -> Result<(), Got> {
+    let alloc = rt.alloc();
+    both_ways(alloc, u8::MAX, &[255])?;
+    both_ways(alloc, u16::MAX, &[255, 255])?;
+    both_ways(alloc, u32::MAX, &[0, 255, 255, 255, 255])?;
+    both_ways(alloc, i8::MIN, &[128])?;
+    both_ways(alloc, i8::MAX, &[127])?;
+    both_ways(alloc, i16::MIN, &[0, 128])?;
+    both_ways(alloc, i16::MAX, &[255, 127])?;
+    both_ways(alloc, i32::MIN, &[0, 0, 0, 0, 128])?;
+    both_ways(alloc, i32::MAX, &[0, 255, 255, 255, 127])
+}
