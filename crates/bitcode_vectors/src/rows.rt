@@ -2,10 +2,10 @@
 use bitcode::{Decode, Encode, Error, Reason, decode, encode, error};
 use std::alloc::{AllocError, AllocFailed, Global};
 
-pub mod sequences;
-
 pub mod arrays;
-
+pub mod byte_columns;
+pub mod lengths;
+pub mod sequences;
 pub mod variants;
 
 /// What a wrong part of a row gave.

@@ -2,8 +2,16 @@
 mod arrays;
 mod byte_columns;
 mod calls;
+mod fronts;
 mod int_columns;
+mod length_columns;
+mod limits;
+mod long_columns;
+mod long_values;
+mod longest_columns;
 mod packing;
 mod sequences;
+mod size_columns;
+mod tags;
 mod variants;
 mod whole;
