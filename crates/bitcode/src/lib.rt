@@ -45,8 +45,6 @@ pub mod coder {
 /// The laws of columns, of data and of whole calls: calls that do nothing, and whose contracts are the laws.
 pub mod laws {
     pub use bitcode_coder::laws::{all_columns, joined_data, one_column, tree_and_list};
-    pub use bitcode_columns::laws::{bool_columns, byte_columns, int_columns};
-    pub use bitcode_derive::laws::{one_text, one_value, overflows_exactly, round_trip};
     pub use bitcode_columns::laws::{bool_columns, byte_columns, int_columns, variant_columns};
-    pub use bitcode_derive::laws::{one_text, one_value, round_trip};
+    pub use bitcode_derive::laws::{one_text, one_value, overflows_exactly, round_trip};
 }
