@@ -30,8 +30,8 @@ pub use bitcode_derive::derive::{Decode, DecodeOwned, Encode};
 pub use bitcode_derive::whole::{decode, encode, invalid_enum_variant};
 pub use bitcode_parts::array::{ArrayDecoder, ArrayEncoder};
 pub use bitcode_parts::empty::EmptyCoder;
-pub use bitcode_parts::vec::{VecDecoder, VecEncoder};
 pub use bitcode_parts::variant::{VariantDecoder, VariantEncoder};
+pub use bitcode_parts::vec::{VecDecoder, VecEncoder};
 pub use bitcode_shapes::shaped::{Made, Shaped};
 pub use bitcode_tuples::decoder::TupleDecoder;
 pub use bitcode_tuples::encoder::TupleEncoder;
@@ -45,8 +45,6 @@ pub mod coder {
 /// The laws of columns, of data and of whole calls: calls that do nothing, and whose contracts are the laws.
 pub mod laws {
     pub use bitcode_coder::laws::{all_columns, joined_data, one_column, tree_and_list};
-    pub use bitcode_columns::laws::{bool_columns, byte_columns, int_columns};
-    pub use bitcode_derive::laws::{one_text, one_value, overflows_exactly, round_trip};
     pub use bitcode_columns::laws::{bool_columns, byte_columns, int_columns, variant_columns};
-    pub use bitcode_derive::laws::{one_text, one_value, round_trip};
+    pub use bitcode_derive::laws::{one_text, one_value, overflows_exactly, round_trip};
 }
