@@ -55,13 +55,8 @@ pub fn counts_of_high_bytes(alloc: Global) -> Result<(), Got> {
     let mut input: &[u8] = &bytes;
     let mut variants = VariantDecoder::<3, false>::new(alloc);
     match variants.populate(&mut input, 500) {
-        Ok(())
-            if variants.length(0) == 500
-                && variants.length(1) == 0
-                && variants.length(2) == 0 =>
-        {
-            Ok(())
-        }
+        Ok(()) if variants.length(0) == 500 && variants.length(1) == 0 && variants.length(2) == 0 =>
+            { Ok(()) }
         Ok(()) => Err(Got::AnotherValue),
         Err(error) => Err(Got::Refused(error)),
     }
