@@ -1,7 +1,7 @@
 // The rows of arrays.
 use super::{Got, encodes, refuses};
 use bitcode::coder::Buffer as _;
-use bitcode::{ArrayEncoder, EmptyCoder, Error, Reason, err};
+use bitcode::{ArrayEncoder, EmptyCoder, Error, Reason};
 use std::alloc::Global;
 
 /// The call refuses for this reason.

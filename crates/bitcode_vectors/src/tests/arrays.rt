@@ -1,9 +1,10 @@
 // Arrays of no, one, some and many elements, and numbers of arrays about the largest.
 use crate::rows::{Got, decodes, encodes, refuses};
 use bitcode::coder::Buffer as _;
+use bitcode::laws::overflows_exactly;
 use bitcode::{
-    ArrayDecoder, ArrayEncoder, Decoder, EmptyCoder, Encoder, IntDecoder, IntEncoder, Reason, View,
-    encode, err,
+    ArrayDecoder, ArrayEncoder, DecodeOwned, Decoder, EmptyCoder, Encoder, IntDecoder, IntEncoder,
+    Reason, View, encode, err,
 };
 use std::test::Fail;
 
@@ -176,5 +177,17 @@ fn array_coders_are_used_by_themselves(rt: HostRuntime) -> Result<(), Fail> {
     let second: [u8; 3] = decoder.decode()?;
     assert_eq!(rt; [first, second], [[0, 1, 2], [2, 1, 0]]);
     assert!(rt; input.is_empty());
+    Ok(())
+}
+
+/// A type whose values borrow nothing.
+fn is_owned<T: DecodeOwned>() {}
+
+#[test]
+fn arrays_are_owned_and_their_overflow_is_exact(rt: HostRuntime) -> Result<(), Fail> {
+    let array = [0u8, 1, 2];
+    let bytes = encode(rt.alloc(), &array)?;
+    overflows_exactly(&array, &bytes);
+    is_owned::<[u8; 3]>();
     Ok(())
 }
