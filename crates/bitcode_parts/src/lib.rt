@@ -4,5 +4,5 @@
 pub mod array;
 pub mod elements;
 pub mod empty;
-pub mod vec;
 pub mod variant;
+pub mod vec;
