@@ -8,8 +8,11 @@ use bitcode_parts::empty::EmptyCoder;
 use bitcode_tuples::decoder::TupleDecoder;
 use bitcode_tuples::encoder::TupleEncoder;
 
+mod checked;
+mod durations;
 mod ints;
 mod sequences;
+mod texts;
 
 impl Encode for bool {
     type Encoder = BoolEncoder;

@@ -4,3 +4,5 @@ pub mod Arrays
 pub mod ArrayLaws
 pub mod VariantCoders
 pub mod Payloads
+pub mod Conversion
+pub mod DurationData

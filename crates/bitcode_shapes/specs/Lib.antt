@@ -7,3 +7,9 @@ pub mod Sequences
 pub mod LawfulSequences
 pub mod LawfulImages
 pub mod Arrays
+pub mod Texts
+pub mod LawfulTexts
+pub mod Checked
+pub mod LawfulChecked
+pub mod Durations
+pub mod LawfulDurations
