@@ -6,3 +6,5 @@ pub mod LawfulValues
 pub mod Sequences
 pub mod LawfulSequences
 pub mod LawfulImages
+pub mod Choices
+pub mod LawfulChoices
