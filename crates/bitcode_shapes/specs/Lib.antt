@@ -8,3 +8,4 @@ pub mod LawfulSequences
 pub mod LawfulImages
 pub mod Choices
 pub mod LawfulChoices
+pub mod LawfulStructs

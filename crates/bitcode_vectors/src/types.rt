@@ -1,0 +1,2 @@
+// Types written by hand.
+pub mod foo;
