@@ -2,3 +2,4 @@
 #![tactic(auto)]
 
 pub mod empty;
+pub mod variant;
