@@ -21,7 +21,7 @@ width_8 = inr (inr (inr (inl refl)))
 pub width_16 : IsNumberWidth 16
 width_16 = inr (inr (inr (inr refl)))
 
-number_once : {m n : ℤ} → number m ≡ number n → m ≡ n
+pub number_once : {m n : ℤ} → number m ≡ number n → m ≡ n
 number_once e = cc
 
 pub int_lawful : {T : Type 0} (value : T → ℤ) (width : ℕ) (signed : Bool) → IsNumberWidth width

@@ -9,3 +9,9 @@ pub mod LawfulImages
 pub mod Choices
 pub mod LawfulChoices
 pub mod LawfulStructs
+pub mod Texts
+pub mod LawfulTexts
+pub mod Checked
+pub mod LawfulChecked
+pub mod Durations
+pub mod LawfulDurations

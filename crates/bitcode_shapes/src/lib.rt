@@ -2,6 +2,9 @@
 #![tactic(auto)]
 
 pub mod choices;
+pub mod checked;
+pub mod durations;
 pub mod sequences;
 pub mod shaped;
+pub mod texts;
 pub mod values;
