@@ -9,6 +9,7 @@ pub mod LawfulImages
 pub mod Choices
 pub mod LawfulChoices
 pub mod LawfulStructs
+pub mod LawfulNever
 pub mod Texts
 pub mod LawfulTexts
 pub mod Checked

@@ -1,9 +1,10 @@
 // The data that types hold: their shapes, and what a lawful type promises.
 #![tactic(auto)]
 
-pub mod choices;
 pub mod checked;
+pub mod choices;
 pub mod durations;
+pub mod no_variants;
 pub mod sequences;
 pub mod shaped;
 pub mod texts;

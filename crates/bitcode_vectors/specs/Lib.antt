@@ -1,1 +1,2 @@
 pub mod Foo
+pub mod One

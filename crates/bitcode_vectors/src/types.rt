@@ -1,2 +1,4 @@
 // Types written by hand.
 pub mod foo;
+pub mod never;
+pub mod one;
