@@ -1,1 +1,2 @@
 pub mod VariantCoders
+pub mod Payloads

@@ -1,0 +1,3 @@
+pub mod ChoiceLemmas
+pub mod ChoiceReadingLemmas
+pub mod ChoiceWritingLemmas
