@@ -102,7 +102,7 @@ ints_refused_err r width signed count input named =
 
 -- ---- read
 
-reads_of : {Entry : Type 0} (shape : Shape) (datum : Entry → Datum) (SpellsEntries : List ℕ → List Entry → Type 0)
+pub reads_of : {Entry : Type 0} (shape : Shape) (datum : Entry → Datum) (SpellsEntries : List ℕ → List Entry → Type 0)
     (count : ℕ) (old : List ℕ) (entries : List Entry) (new : List ℕ) → Reads SpellsEntries count old entries new
     → ((piece : List ℕ) → SpellsEntries piece entries → Spells shape piece (map datum entries))
     → Reads (Spells shape) count old (map datum entries) new

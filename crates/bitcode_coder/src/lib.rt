@@ -7,3 +7,5 @@ pub mod int;
 pub mod laws;
 pub mod length;
 pub mod result;
+pub mod str;
+pub mod u8_char;
