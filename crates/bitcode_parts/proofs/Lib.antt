@@ -1,3 +1,4 @@
 pub mod ChoiceLemmas
 pub mod ChoiceReadingLemmas
 pub mod ChoiceWritingLemmas
+pub mod TwoVariantLemmas

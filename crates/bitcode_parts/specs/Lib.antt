@@ -1,2 +1,4 @@
 pub mod VariantCoders
 pub mod Payloads
+pub mod TwoVariants
+pub mod TwoVariantLaws

@@ -2,4 +2,5 @@
 #![tactic(auto)]
 
 pub mod empty;
+pub mod result;
 pub mod variant;
