@@ -14,6 +14,7 @@ use Rattle.bitcode_shapes.specs.Choices.{ListsChoice, ListsLast, ListsVariant}
 use Rattle.bitcode_coder.specs.Columns.{Columns, no_columns, one, two, variants, emptied}
 use Rattle.bitcode_coder.specs.Spelling.{Spells, natural}
 use Rattle.bitcode_coder.specs.Coding.{written_columns, IsReadingRefusal, JoinsListing, PassesWithListing}
+use Rattle.bitcode_parts.specs.TwoVariants.{TwoVariantsReadFree}
 use Rattle.bitcode_parts.specs.Payloads.{choices_of}
 use Rattle.bitcode_parts.proofs.ChoiceReadingLemmas.{ends_behind_variants, ends_behind_payloads, reads_choices, refuses_variants, refuses_payloads, refuses_first, refuses_later}
 use Rattle.bitcode_parts.proofs.ChoiceWritingLemmas.{joins_here, joins_later, joins_choice, passes_here, passes_later, passes_choice}
@@ -29,10 +30,10 @@ variants_stopped s u k old e (Err f) stopped fault =
     (refuses_variants (shape_and s (shape_and u no_shapes)) e.reason k old fault)
 
 -- the variants were read, and counted
-module _ {T : Type 0} (s u : Shape) {k k0 : ℕ} {old middle entries counts : List ℕ} (read : Reads (SpellsVariants 2) k old entries middle)
+module _ (s u : Shape) {k k0 : ℕ} {old middle entries counts : List ℕ} (read : Reads (SpellsVariants 2) k old entries middle)
     (are : AreCounts 2 entries counts) (first_count : k0 ≡ get_or counts 0 0) where
   -- the payloads of the first variant were refused
-  pub first_stopped : (e : Error) (r : Result T Error) → IsErrAnd r (λ f. f ≡ e) → IsReadingRefusal s e.reason k0 middle
+  pub first_stopped : {T : Type 0} (e : Error) (r : Result T Error) → IsErrAnd r (λ f. f ≡ e) → IsReadingRefusal s e.reason k0 middle
       → IfErr r (λ f. IsReadingRefusal (choice_shape (shape_and s (shape_and u no_shapes))) f.reason k old)
   first_stopped e (Ok x) stopped refused = absurd stopped
   first_stopped e (Err f) stopped refused =
@@ -42,7 +43,7 @@ module _ {T : Type 0} (s u : Shape) {k k0 : ℕ} {old middle entries counts : Li
 
   -- they were read
   module _ {k1 : ℕ} {left : List ℕ} {ds : List Datum} (first : Reads (Spells s) k0 middle ds left) (second_count : k1 ≡ get_or counts 1 0) where
-    pub choice_read : (new : List ℕ) (es : List Datum) (r : Result T Error) → OnOk r (Reads (Spells u) k1 left es new)
+    pub choice_read : {T : Type 0} (new : List ℕ) (es : List Datum) (r : Result T Error) → OnOk r (Reads (Spells u) k1 left es new)
         → OnOk r (Reads (Spells (choice_shape (shape_and s (shape_and u no_shapes)))) k old (choices_of entries (ds ∷ es ∷ [])) new)
     choice_read new es (Ok x) second =
         reads_choices (shape_and s (shape_and u no_shapes)) (ds ∷ es ∷ []) new read (record {
@@ -52,13 +53,19 @@ module _ {T : Type 0} (s u : Shape) {k k0 : ℕ} {old middle entries counts : Li
         })
     choice_read new es (Err e) second = tt
 
-    pub choice_refused : (r : Result T Error) → IfErr r (λ e. IsReadingRefusal u e.reason k1 left)
+    pub choice_refused : {T : Type 0} (r : Result T Error) → IfErr r (λ e. IsReadingRefusal u e.reason k1 left)
         → IfErr r (λ e. IsReadingRefusal (choice_shape (shape_and s (shape_and u no_shapes))) e.reason k old)
     choice_refused (Ok x) refused = tt
     choice_refused (Err e) refused =
         refuses_payloads (shape_and s (shape_and u no_shapes)) e.reason read
         (refuses_later s (shape_and u no_shapes) 0 entries e.reason (subst (λ n. Reads (Spells s) n middle ds left) (first_count ∙ are.each 0 (lit< tt)) first)
         (refuses_first u no_shapes 1 entries e.reason (subst (λ n. IsReadingRefusal u e.reason n left) (second_count ∙ are.each 1 (lit< tt)) refused)))
+
+    -- the payloads of the second variant take no memory
+    pub second_free : (free_a free_b : ℕ → List ℕ → Type 0) → TwoVariantsReadFree s free_a free_b k old → free_b k1 left
+    second_free free_a free_b free =
+        subst (λ n. free_b n left) (sym (second_count ∙ are.each 1 (lit< tt)))
+        ((free.1 entries middle read).1 ds left (subst (λ n. Reads (Spells s) n middle ds left) (first_count ∙ are.each 0 (lit< tt)) first))
 
 -- what is left behind the variants and what stands behind the first payloads are ends of the input
 pub first_rest : {T : Type 0} {k : ℕ} {old middle entries : List ℕ} (new : List ℕ) (r : Result T Error) → Reads (SpellsVariants 2) k old entries middle

@@ -2,5 +2,6 @@
 #![tactic(auto)]
 
 pub mod empty;
+pub mod option;
 pub mod result;
 pub mod variant;
