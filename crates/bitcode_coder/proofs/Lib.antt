@@ -12,3 +12,5 @@ pub mod DatumLemmas
 pub mod SpellingLemmas
 pub mod RowLemmas
 pub mod LawLemmas
+pub mod CountLemmas
+pub mod RefusalLemmas

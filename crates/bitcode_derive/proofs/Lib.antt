@@ -1,3 +1,4 @@
 pub mod EncodingLemmas
 pub mod DecodingLemmas
 pub mod RoundTripLemmas
+pub mod ArrayCountLemmas

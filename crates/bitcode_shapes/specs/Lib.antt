@@ -16,3 +16,4 @@ pub mod Checked
 pub mod LawfulChecked
 pub mod Durations
 pub mod LawfulDurations
+pub mod Arrays

@@ -1,6 +1,7 @@
 // The data that types hold: their shapes, and what a lawful type promises.
 #![tactic(auto)]
 
+pub mod arrays;
 pub mod checked;
 pub mod choices;
 pub mod durations;
