@@ -28,14 +28,6 @@ use Rattle.bitcode_parts.proofs.ChoiceLemmas.{Recovers, recovers, choices_each, 
 
 -- ---- payloads that were read
 
-pub ends_behind_variants : {count k : ℕ} {old middle variants : List ℕ} (new : List ℕ) → Reads (SpellsVariants count) k old variants middle
-    → IsEndOf middle new → IsEndOf old new
-ends_behind_variants new r e = record { taken = r.piece ++ e.taken; whole = r.whole ∙ ap (λ x. r.piece ++ x) e.whole ∙ sym (append_assoc r.piece e.taken new) }
-
-pub ends_behind_payloads : {s : Shape} {k : ℕ} {old middle : List ℕ} {ds : List Datum} (new : List ℕ) → Reads (Spells s) k old ds middle
-    → IsEndOf middle new → IsEndOf old new
-ends_behind_payloads new r e = record { taken = r.piece ++ e.taken; whole = r.whole ∙ ap (λ x. r.piece ++ x) e.whole ∙ sym (append_assoc r.piece e.taken new) }
-
 -- payloads without columns are there without being read
 pub reads_units : (count : ℕ) (input : List ℕ) → Reads (Spells unit_shape) count input (replicate count unit) input
 reads_units count input = record {

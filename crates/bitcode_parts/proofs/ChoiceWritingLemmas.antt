@@ -94,12 +94,3 @@ module _ {T : Type 0} (lists : T → Datum → Type 0) (shapes : Shapes) (t : T)
 -- no room can be made for the payload, whatever it is
 pub passes_surely : (s : Shape) (a : Columns) (d : Datum) → IsOf s d → SurelyPasses s a 1 → CountsFit (beside a (written_columns s (d ∷ []))) → ⊥
 passes_surely s a d is surely = surely (d ∷ []) (All-cons (IsOf s) d [] is (All-nil (IsOf s))) refl
-
-pub refusal_weaker : {Passes Others : Type 0} (reason : Reason) → (Passes → Others) → IsWritingRefusal reason Passes → IsWritingRefusal reason Others
-refusal_weaker reason f (inl h) = inl h
-refusal_weaker reason f (inr h) = inr (h.0, f h.1)
-
-pub refused_weaker : {T E Passes Others : Type 0} (reason : E → Reason) (result : Result T E) → (Passes → Others)
-    → IfErr result (λ e. IsWritingRefusal (reason e) Passes) → IfErr result (λ e. IsWritingRefusal (reason e) Others)
-refused_weaker reason (Ok x) f h = tt
-refused_weaker reason (Err e) f h = refusal_weaker (reason e) f h

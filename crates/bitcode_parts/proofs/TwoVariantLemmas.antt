@@ -14,9 +14,10 @@ use Rattle.bitcode_shapes.specs.Choices.{ListsChoice, ListsLast, ListsVariant}
 use Rattle.bitcode_coder.specs.Columns.{Columns, no_columns, one, two, variants, emptied}
 use Rattle.bitcode_coder.specs.Spelling.{Spells, natural}
 use Rattle.bitcode_coder.specs.Coding.{written_columns, IsReadingRefusal, JoinsListing, PassesWithListing}
+use Rattle.bitcode_coder.proofs.LengthPartLemmas.{ends_behind_read}
 use Rattle.bitcode_parts.specs.TwoVariants.{TwoVariantsReadFree}
 use Rattle.bitcode_parts.specs.Payloads.{choices_of}
-use Rattle.bitcode_parts.proofs.ChoiceReadingLemmas.{ends_behind_variants, ends_behind_payloads, reads_choices, refuses_variants, refuses_payloads, refuses_first, refuses_later}
+use Rattle.bitcode_parts.proofs.ChoiceReadingLemmas.{reads_choices, refuses_variants, refuses_payloads, refuses_first, refuses_later}
 use Rattle.bitcode_parts.proofs.ChoiceWritingLemmas.{joins_here, joins_later, joins_choice, passes_here, passes_later, passes_choice}
 
 -- ---- populate
@@ -71,12 +72,12 @@ module _ (s u : Shape) {k k0 : ℕ} {old middle entries counts : List ℕ} (read
 pub first_rest : {T : Type 0} {k : ℕ} {old middle entries : List ℕ} (new : List ℕ) (r : Result T Error) → Reads (SpellsVariants 2) k old entries middle
     → IsEndOf middle new → OnErr r (IsEndOf old new)
 first_rest new (Ok x) read rest = tt
-first_rest new (Err e) read rest = ends_behind_variants new read rest
+first_rest new (Err e) read rest = ends_behind_read new read rest
 
 pub choice_rest : {T : Type 0} {s : Shape} {k k0 : ℕ} {old middle left entries : List ℕ} {ds : List Datum} (new : List ℕ) (r : Result T Error)
     → Reads (SpellsVariants 2) k old entries middle → Reads (Spells s) k0 middle ds left → OnErr r (IsEndOf left new) → OnErr r (IsEndOf old new)
 choice_rest new (Ok x) read first rest = tt
-choice_rest new (Err e) read first rest = ends_behind_variants new read (ends_behind_payloads new first rest)
+choice_rest new (Err e) read first rest = ends_behind_read new read (ends_behind_read new first rest)
 
 -- ---- encode
 

@@ -10,9 +10,10 @@ use Rattle.bitcode_shapes.specs.Values.{ListsPair}
 use Rattle.bitcode_coder.specs.Columns.{Columns, two}
 use Rattle.bitcode_coder.specs.Spelling.{Spells}
 use Rattle.bitcode_coder.specs.Coding.{IsReadingRefusal, IsWritingRefusal, JoinsListing, PassesWithListing}
+use Rattle.bitcode_coder.proofs.LengthPartLemmas.{ends_behind_read}
 use Rattle.bitcode_tuples.specs.Pairs.{pairs_of}
-use Rattle.bitcode_tuples.proofs.ReadingLemmas.{reads_pairs, refuses_first, refuses_second, ends_behind}
-use Rattle.bitcode_tuples.proofs.WritingLemmas.{joins_pair, passes_with_first, passes_with_second, refusal_weaker}
+use Rattle.bitcode_tuples.proofs.ReadingLemmas.{reads_pairs, refuses_first, refuses_second}
+use Rattle.bitcode_tuples.proofs.WritingLemmas.{joins_pair}
 
 -- ---- populate
 
@@ -38,7 +39,7 @@ module _ {s : Shape} {k : ℕ} {old : List ℕ} {T : Type 0} (t : Shape) where
 pub struct_rest : {s : Shape} {k : ℕ} {old middle : List ℕ} {ds : List Datum} {T : Type 0} (new : List ℕ) (r : Result T Error)
     → Reads (Spells s) k old ds middle → OnErr r (IsEndOf middle new) → OnErr r (IsEndOf old new)
 struct_rest new (Ok x) first second = tt
-struct_rest new (Err e) first second = ends_behind new first second
+struct_rest new (Err e) first second = ends_behind_read new first second
 
 -- ---- encode
 

@@ -4,7 +4,7 @@ use Rattle.std.proofs.lemmas.Result.{on_ok_weaker}
 use Rattle.bitcode_columns.specs.declared.error.Error.{Error}
 use Rattle.bitcode_shapes.specs.Datum.{unit}
 use Rattle.bitcode_shapes.specs.Choices.{option_variant}
-use Rattle.bitcode_parts.proofs.ChoiceWritingLemmas.{refused_weaker}
+use Rattle.bitcode_coder.proofs.RefusalLemmas.{refused_weaker}
 use Rattle.bitcode_parts.proofs.TwoVariantLemmas.{first_joins, second_joins, second_passes}
 use Rattle.bitcode_parts.proofs.option.OptionEncoderEncoderOption.encode.Goals as goal
 

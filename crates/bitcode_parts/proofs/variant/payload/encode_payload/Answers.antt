@@ -1,6 +1,7 @@
 -- Where no room can be made for a value whatever it is, none can be made for this one.
 use Rattle.std.proofs.lemmas.Result.{err_from_is_err_and}
-use Rattle.bitcode_parts.proofs.ChoiceWritingLemmas.{passes_surely, refusal_weaker}
+use Rattle.bitcode_coder.proofs.RefusalLemmas.{refusal_weaker}
+use Rattle.bitcode_parts.proofs.ChoiceWritingLemmas.{passes_surely}
 use Rattle.bitcode_parts.proofs.variant.payload.encode_payload.Goals as goal
 
 pub returns-in_err-reserve-clause-refused : goal.returns-in_err-reserve-clause-refused
