@@ -6,6 +6,7 @@ pub mod TextColumn
 pub mod JoinedTexts
 pub mod TextParts
 pub mod RawBytes
+pub mod CheckedColumn
 pub mod Columns
 pub mod Transposition
 pub mod Spelling

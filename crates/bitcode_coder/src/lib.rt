@@ -2,6 +2,7 @@
 #![tactic(auto)]
 
 pub mod bool;
+pub mod checked;
 pub mod coder;
 pub mod int;
 pub mod laws;

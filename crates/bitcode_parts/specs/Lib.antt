@@ -6,3 +6,5 @@ pub mod VariantCoders
 pub mod Payloads
 pub mod TwoVariants
 pub mod TwoVariantLaws
+pub mod Conversion
+pub mod DurationData

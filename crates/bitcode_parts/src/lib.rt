@@ -2,6 +2,8 @@
 #![tactic(auto)]
 
 pub mod array;
+pub mod convert;
+pub mod durations;
 pub mod elements;
 pub mod empty;
 pub mod option;

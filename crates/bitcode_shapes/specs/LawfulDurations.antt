@@ -1,5 +1,5 @@
 -- Durations are lawful.
-use Rattle.std.proofs.Common.{◌≡◌, ℕ, ◌+◌, ◌*◌, ◌/◌, ◌%◌, ◌≤◌, min, true, false, ℤ, pos, negsuc, refl, ap₂, arith}
+use Rattle.std.proofs.Common.{◌<◌, ap, ◌≡◌, ℕ, ◌+◌, ◌*◌, ◌/◌, ◌%◌, ◌≤◌, min, true, false, ℤ, pos, negsuc, refl, ap₂, arith}
 use Rattle.std.proofs.lemmas.Int.{ints}
 use Rattle.std.specs.declared.alloc.Global.{Global}
 use Rattle.std.specs.declared.time.Duration.{Duration}
@@ -21,12 +21,16 @@ duration_lawful =
 
 -- ---- made
 
-nanos_found : (z : ℤ) → IsInWidth 4 false z → IsAllowed below_second z → (n : ℕ) × (pos n ≡ z)
-nanos_found (pos n) h below = (n, refl)
-nanos_found (negsuc n) h below = absurd h
+nanos_found : {T : Type 0} (value : T → ℕ) → ((n : ℕ) → n < 1_000_000_000 → (t : T) × (value t ≡ n))
+    → (z : ℤ) → IsInWidth 4 false z → IsAllowed below_second z → (t : T) × (pos (value t) ≡ z)
+nanos_found value build (pos n) h below = let built = build n (omega (arith, ints, below.1)) in (built.0, ap pos built.1)
+nanos_found value build (negsuc n) h below = absurd h
 
-pub nanos_makeable : Makeable nanosecond_shape (IsCheckedValue 4 false below_second pos) (ListsNumber pos) (SameNumber pos) (MakesNumber pos)
-nanos_makeable = checked_makeable pos 4 false below_second nanos_found
+-- a type whose values stand for the nanoseconds below one second
+pub nanosecond_makeable : {T : Type 0} (value : T → ℕ) → ((n : ℕ) → n < 1_000_000_000 → (t : T) × (value t ≡ n))
+    → Makeable nanosecond_shape (IsCheckedValue 4 false below_second (λ t. pos (value t))) (ListsNumber (λ t. pos (value t)))
+    (SameNumber (λ t. pos (value t))) (MakesNumber (λ t. pos (value t)))
+nanosecond_makeable value build = checked_makeable (λ t. pos (value t)) 4 false below_second (nanos_found value build)
 
 span_found : Global → (u : ℕ × ℕ) → IsSpan u → (t : Duration) × (seconds_and_nanos t ≡ u)
 span_found g u h =
@@ -41,4 +45,5 @@ pub duration_makeable : Makeable duration_shape (λ t. IsSpan (seconds_and_nanos
 duration_makeable =
     image_makeable seconds_and_nanos span_found
     (pair_makeable (int_shape 8 false) nanosecond_shape (IsValueOfWidth 8 false pos) (IsCheckedValue 4 false below_second pos) (ListsNumber pos) (ListsNumber pos)
-    (SameNumber pos) (SameNumber pos) (MakesNumber pos) (MakesNumber pos) (unsigned_makeable 8) nanos_makeable)
+    (SameNumber pos) (SameNumber pos) (MakesNumber pos) (MakesNumber pos) (unsigned_makeable 8)
+    (nanosecond_makeable (λ n. n) (λ n h. (n, refl))))
