@@ -10,6 +10,7 @@ pub use bitcode_coder::bool::{BoolDecoder, BoolEncoder};
 pub use bitcode_coder::coder::{Decoder, Encoder, View};
 pub use bitcode_coder::int::{AsInt, IntDecoder, IntEncoder, Integer};
 pub use bitcode_coder::length::{Len, LengthDecoder, LengthEncoder};
+pub use bitcode_coder::str::{AsText, StrDecoder, StrEncoder};
 pub use bitcode_columns::consume::{
     consume_byte, consume_byte_arrays, consume_bytes, expect_eof, mul_length,
 };
@@ -48,11 +49,6 @@ pub mod coder {
 /// The laws of columns, of data and of whole calls: calls that do nothing, and whose contracts are the laws.
 pub mod laws {
     pub use bitcode_coder::laws::{all_columns, joined_data, one_column, tree_and_list};
-    pub use bitcode_columns::laws::{
-        bool_columns, bool_columns, byte_columns, byte_columns, int_columns, int_columns,
-        variant_columns,
-    };
-    pub use bitcode_derive::laws::{
-        one_text, one_text, one_value, one_value, overflows_exactly, round_trip, round_trip,
-    };
+    pub use bitcode_columns::laws::{bool_columns, byte_columns, int_columns, variant_columns};
+    pub use bitcode_derive::laws::{one_text, one_value, overflows_exactly, round_trip};
 }

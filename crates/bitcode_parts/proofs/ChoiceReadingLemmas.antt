@@ -9,7 +9,7 @@ use Rattle.std.proofs.lemmas.Simd.{map-map}
 use Rattle.bitcode_columns.specs.declared.error.Reason.{Reason}
 use Rattle.bitcode_columns.specs.declared.error.Reason.TheVariants.{Eof, InvalidPacking, OutOfMemory}
 use Rattle.bitcode_columns.specs.Counts.{count_of}
-use Rattle.bitcode_columns.specs.Reading.{Reads, IsEndOf, NamesVariantFault, variants_fault, is_variant_at}
+use Rattle.bitcode_columns.specs.Reading.{Reads, NamesVariantFault, variants_fault, is_variant_at}
 use Rattle.bitcode_columns.specs.Digits.{digits_in_byte, base_for}
 use Rattle.bitcode_columns.specs.VariantColumn.{SpellsVariants}
 use Rattle.bitcode_shapes.specs.Datum.{Datum, unit, variant_in, natural_in}

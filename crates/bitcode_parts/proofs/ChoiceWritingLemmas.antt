@@ -1,15 +1,13 @@
 -- A choice is written as its variant, and then its payload to the columns of that variant.
-use Rattle.std.proofs.Common.{◌≡◌, ℕ, suc, ◌+◌, ◌<◌, List, [], ◌∷◌, ◌++◌, map, refl, sym, ap, ap₂, subst, ◌∙◌, inl, inr, arith, append-nil}
-use Rattle.std.specs.Prelude.{Result, Ok, Err, IfErr}
+use Rattle.std.proofs.Common.{◌≡◌, ℕ, suc, ◌+◌, ◌<◌, List, [], ◌∷◌, ◌++◌, map, refl, sym, ap, ap₂, subst, ◌∙◌, arith, append-nil}
 use Rattle.std.proofs.lemmas.List.{map-append}
 use Rattle.std.proofs.lemmas.List.Elements.{All-nil, All-cons}
-use Rattle.bitcode_columns.specs.declared.error.Reason.{Reason}
 use Rattle.bitcode_shapes.specs.Datum.{Datum, choice}
 use Rattle.bitcode_shapes.specs.Shape.{Shape, Shapes, no_shapes, shape_and, choice_shape, variant_count, IsOf}
 use Rattle.bitcode_coder.specs.Columns.{Columns, no_columns, one, two, arrays, variants, beside, emptied, plain, CountsFit}
 use Rattle.bitcode_coder.specs.Transposition.{columns_of, payload_columns, payloads}
 use Rattle.bitcode_coder.specs.Spelling.{natural}
-use Rattle.bitcode_coder.specs.Coding.{written_columns, JoinsListing, PassesWithListing, SurelyPasses, IsWritingRefusal}
+use Rattle.bitcode_coder.specs.Coding.{written_columns, JoinsListing, PassesWithListing, SurelyPasses}
 use Rattle.bitcode_parts.specs.Payloads.{written_payloads, HasPayloads, JoinsPayload, PassesPayload}
 use Rattle.bitcode_parts.proofs.ChoiceLemmas.{payloads-same, payloads-other}
 

@@ -1,12 +1,14 @@
 -- A struct whose values stand for the pairs of its two fields is lawful where the fields are. Of three and more fields
--- the second is the pair of the rest. The laws of the numbers stand here by name, for structs and enums to cite.
-use Rattle.std.proofs.Common.{◌≡◌, Bool, true, false, ℤ, pos}
+-- the second is the pair of the rest. The laws of numbers and texts stand here by name, for structs and enums to cite.
+use Rattle.std.proofs.Common.{◌≡◌, ℕ, Bool, true, false, ℤ, pos, List, None, Bor}
 use Rattle.std.specs.Prelude.{◌&&◌}
 use Rattle.bitcode_shapes.specs.Datum.{Datum}
-use Rattle.bitcode_shapes.specs.Shape.{Shape, pair_shape}
+use Rattle.bitcode_shapes.specs.Shape.{Shape, pair_shape, text_shape}
 use Rattle.bitcode_shapes.specs.Lawful.{Lawful, Makeable}
 use Rattle.bitcode_shapes.specs.Values.{int_shape, ListsNumber, MakesNumber, SameNumber, IsValueOfWidth, IsPairValue, ListsPair, MakesPair, SamePair}
 use Rattle.bitcode_shapes.specs.LawfulValues.{int_lawful, unsigned_makeable, signed_makeable, pair_lawful, pair_makeable, width_1, width_4}
+use Rattle.bitcode_shapes.specs.Texts.{IsTextValue, ListsText, MakesText, SameText}
+use Rattle.bitcode_shapes.specs.LawfulTexts.{text_lawful, text_makeable, str_built}
 use Rattle.bitcode_shapes.specs.LawfulImages.{image_lawful, image_makeable}
 
 module _ {T A B : Type 0} {shape_a shape_b : Shape} {is_a : A → Type 0} {is_b : B → Type 0} {lists_a : A → Datum → Type 0} {lists_b : B → Datum → Type 0}
@@ -26,7 +28,7 @@ module _ {T A B : Type 0} {shape_a shape_b : Shape} {is_a : A → Type 0} {is_b 
       image_makeable fields (λ g u h. find u.0 u.1)
       (pair_makeable shape_a shape_b is_a is_b lists_a lists_b same_a same_b makes_a makes_b first second)
 
--- ---- the laws of numbers
+-- ---- the laws of numbers and texts
 
 pub u8_lawful : Lawful (int_shape 1 false) (IsValueOfWidth 1 false pos) (ListsNumber pos) (SameNumber pos) true
 u8_lawful = int_lawful pos 1 false width_1
@@ -45,3 +47,9 @@ u32_lawful = int_lawful pos 4 false width_4
 
 pub u32_makeable : Makeable (int_shape 4 false) (IsValueOfWidth 4 false pos) (ListsNumber pos) (SameNumber pos) (MakesNumber pos)
 u32_makeable = unsigned_makeable 4
+
+pub str_lawful : Lawful (text_shape None) (IsTextValue (λ (s : Bor (List ℕ)). s.now)) (ListsText (λ s. s.now)) (SameText (λ s. s.now)) true
+str_lawful = text_lawful (λ s. s.now)
+
+pub str_makeable : Makeable (text_shape None) (IsTextValue (λ (s : Bor (List ℕ)). s.now)) (ListsText (λ s. s.now)) (SameText (λ s. s.now)) (MakesText (λ s. s.now))
+str_makeable = text_makeable (λ s. s.now) str_built

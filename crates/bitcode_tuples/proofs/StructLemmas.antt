@@ -1,17 +1,19 @@
 -- A struct written by hand: what the coders of its fields do makes up what its own coder does. Each lemma closes one goal
 -- that the check leaves of such a struct's `populate` or `encode`, from the clauses of the fields' calls.
-use Rattle.std.proofs.Common.{◌≡◌, ℕ, List, Result, Ok, Err, OnOk, IfErr, subst, sym}
+use Rattle.std.proofs.Common.{◌≡◌, ℕ, List, Result, Ok, Err, OnOk, IfErr, subst, sym, inr}
+use Rattle.std.specs.Prelude.{◌⊎◌}
 use Rattle.std.specs.Result.{IsErrAnd, OnErr}
 use Rattle.bitcode_columns.specs.declared.error.Error.{Error}
+use Rattle.bitcode_columns.specs.declared.error.Reason.{Reason}
 use Rattle.bitcode_columns.specs.Reading.{Reads, IsEndOf}
 use Rattle.bitcode_shapes.specs.Datum.{Datum}
 use Rattle.bitcode_shapes.specs.Shape.{Shape, pair_shape}
 use Rattle.bitcode_shapes.specs.Values.{ListsPair}
 use Rattle.bitcode_coder.specs.Columns.{Columns, two}
 use Rattle.bitcode_coder.specs.Spelling.{Spells}
-use Rattle.bitcode_coder.specs.Coding.{IsReadingRefusal, IsWritingRefusal, JoinsListing, PassesWithListing}
+use Rattle.bitcode_coder.specs.Coding.{IsReadingRefusal, JoinsListing}
 use Rattle.bitcode_coder.proofs.LengthPartLemmas.{ends_behind_read}
-use Rattle.bitcode_tuples.specs.Pairs.{pairs_of}
+use Rattle.bitcode_tuples.specs.Pairs.{pairs_of, FaultsBehind}
 use Rattle.bitcode_tuples.proofs.ReadingLemmas.{reads_pairs, refuses_first, refuses_second}
 use Rattle.bitcode_tuples.proofs.WritingLemmas.{joins_pair}
 
@@ -35,6 +37,11 @@ module _ {s : Shape} {k : ℕ} {old : List ℕ} {T : Type 0} (t : Shape) where
         → IfErr r (λ e. IsReadingRefusal t e.reason k middle) → IfErr r (λ e. IsReadingRefusal (pair_shape s t) e.reason k old)
     struct_refused (Ok x) first second = tt
     struct_refused (Err e) first second = refuses_second s t k e.reason old middle ds first second
+
+pub struct_exact : {s : Shape} {k : ℕ} {old middle : List ℕ} {ds : List Datum} {T : Type 0} (FirstFault : Error → Type 0) (faults : Reason → ℕ → List ℕ → Type 0) (r : Result T Error)
+    → Reads (Spells s) k old ds middle → IfErr r (λ e. faults e.reason k middle) → IfErr r (λ e. FirstFault e ⊎ FaultsBehind s faults e.reason k old)
+struct_exact FirstFault faults (Ok x) first second = tt
+struct_exact FirstFault faults (Err e) first second = inr (record { firsts = _; rest = _; read = first; fault = second })
 
 pub struct_rest : {s : Shape} {k : ℕ} {old middle : List ℕ} {ds : List Datum} {T : Type 0} (new : List ℕ) (r : Result T Error)
     → Reads (Spells s) k old ds middle → OnErr r (IsEndOf middle new) → OnErr r (IsEndOf old new)

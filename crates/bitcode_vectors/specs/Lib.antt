@@ -1,2 +1,3 @@
 pub mod Foo
 pub mod One
+pub mod Two

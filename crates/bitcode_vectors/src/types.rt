@@ -2,3 +2,4 @@
 pub mod foo;
 pub mod never;
 pub mod one;
+pub mod two;

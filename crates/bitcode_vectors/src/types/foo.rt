@@ -1,33 +1,32 @@
 // A struct of two fields, written by hand.
 ghost use Rattle.std.specs.Prelude.{true, min, refl};
-ghost use Rattle.bitcode_shapes.specs.LawfulValues.{signed_makeable, int_lawful, width_2};
-ghost use Rattle.bitcode_shapes.specs.LawfulStructs.{struct_lawful, struct_makeable, u32_lawful, u32_makeable};
+ghost use Rattle.bitcode_shapes.specs.LawfulStructs.{struct_lawful, struct_makeable, u32_lawful, u32_makeable, str_lawful, str_makeable};
 ghost use Rattle.bitcode_coder.specs.Columns.{two};
 ghost use Rattle.bitcode_tuples.specs.Pairs.{pairs_of};
 ghost use Rattle.bitcode_vectors.specs.Foo.{foo_fields, foo_found};
 
 use bitcode::coder::{Buffer, Result};
 use bitcode::{
-    Decode, DecodeOwned, Decoder, Encode, Encoder, IntDecoder, IntEncoder, Made, Shaped,
+    Decode, Decoder, Encode, Encoder, IntDecoder, IntEncoder, Made, Shaped, StrDecoder, StrEncoder,
     TupleDecoder, View,
 };
 use std::alloc::Global;
 
 /// A number and a text.
 #[derive(Debug, Clone, Copy, PartialEq)]
-pub struct Foo {
+pub struct Foo<'a> {
     pub x: u32,
-    pub y: i16,
+    pub y: &'a str,
 }
 
-impl Shaped for Foo {
-    ghost shape = { ⟦<(u32, i16) as Shaped>⟧.shape };
+impl<'a> Shaped for Foo<'a> {
+    ghost shape = { ⟦<(u32, &'a str) as Shaped>⟧.shape };
 
-    ghost is_value = { λ t. ⟦<(u32, i16) as Shaped>⟧.is_value (foo_fields t) };
+    ghost is_value = { λ t. ⟦<(u32, &'a str) as Shaped>⟧.is_value (foo_fields t) };
 
-    ghost lists = { λ t d. ⟦<(u32, i16) as Shaped>⟧.lists (foo_fields t) d };
+    ghost lists = { λ t d. ⟦<(u32, &'a str) as Shaped>⟧.lists (foo_fields t) d };
 
-    ghost same = { λ t u. ⟦<(u32, i16) as Shaped>⟧.same (foo_fields t) (foo_fields u) };
+    ghost same = { λ t u. ⟦<(u32, &'a str) as Shaped>⟧.same (foo_fields t) (foo_fields u) };
 
     ghost in_order = { true };
 
@@ -36,25 +35,25 @@ impl Shaped for Foo {
         self.y.told();
     }
 
-    ghost lawful = { struct_lawful foo_fields u32_lawful (int_lawful (λ z. z) 2 true width_2) };
+    ghost lawful = { struct_lawful foo_fields u32_lawful str_lawful };
 }
 
-impl Made for Foo {
-    ghost makes = { λ d t. ⟦<(u32, i16) as Made>⟧.makes d (foo_fields t) };
+impl<'a> Made for Foo<'a> {
+    ghost makes = { λ d t. ⟦<(u32, &'a str) as Made>⟧.makes d (foo_fields t) };
 
-    ghost makeable = { struct_makeable foo_fields foo_found u32_makeable (signed_makeable 2) };
+    ghost makeable = { struct_makeable foo_fields foo_found u32_makeable str_makeable };
 }
 
 #[derive(Drop)]
 pub struct FooEncoder {
     x: IntEncoder<u32>,
-    y: IntEncoder<i16>,
+    y: StrEncoder,
 }
 
 impl Buffer for FooEncoder {
-    ghost columns = { λ e. two (⟦<IntEncoder<u32> as Buffer>⟧.columns e.x) (⟦<IntEncoder<i16> as Buffer>⟧.columns e.y) };
+    ghost columns = { λ e. two (⟦<IntEncoder<u32> as Buffer>⟧.columns e.x) (⟦<StrEncoder as Buffer>⟧.columns e.y) };
 
-    ghost room = { λ e. min (⟦<IntEncoder<u32> as Buffer>⟧.room e.x) (⟦<IntEncoder<i16> as Buffer>⟧.room e.y) };
+    ghost room = { λ e. min (⟦<IntEncoder<u32> as Buffer>⟧.room e.x) (⟦<StrEncoder as Buffer>⟧.room e.y) };
 
     ghost surely_passes = { λ e n. ⊥ };
 
@@ -81,8 +80,8 @@ impl Buffer for FooEncoder {
     }
 }
 
-impl Encoder<Foo> for FooEncoder {
-    fn encode(&mut self, t: &Foo) -> Result<()> {
+impl<'a> Encoder<Foo<'a>> for FooEncoder {
+    fn encode(&mut self, t: &Foo<'a>) -> Result<()> {
         self.x.encode(&t.x)?;
         self.y.encode(&t.y)
     }
@@ -95,15 +94,15 @@ impl Encoder<Foo> for FooEncoder {
 #[derive(Drop)]
 pub struct FooDecoder<'a> {
     x: IntDecoder<'a, u32>,
-    y: IntDecoder<'a, i16>,
+    y: StrDecoder<'a>,
 }
 
-type Fields<'a> = TupleDecoder<IntDecoder<'a, u32>, IntDecoder<'a, i16>>;
+type Fields<'a> = TupleDecoder<IntDecoder<'a, u32>, StrDecoder<'a>>;
 
 impl<'a> View<'a> for FooDecoder<'a> {
     ghost shape = { ⟦<Fields<'a> as View<'a>>⟧.shape };
 
-    ghost held = { λ d. pairs_of (⟦<IntDecoder<'a, u32> as View<'a>>⟧.held d.x) (⟦<IntDecoder<'a, i16> as View<'a>>⟧.held d.y) };
+    ghost held = { λ d. pairs_of (⟦<IntDecoder<'a, u32> as View<'a>>⟧.held d.x) (⟦<StrDecoder<'a> as View<'a>>⟧.held d.y) };
 
     ghost reads_free = { ⟦<Fields<'a> as View<'a>>⟧.reads_free };
 
@@ -122,10 +121,10 @@ impl<'a> View<'a> for FooDecoder<'a> {
     }
 }
 
-impl<'a> Decoder<'a, Foo> for FooDecoder<'a> {
+impl<'a> Decoder<'a, Foo<'a>> for FooDecoder<'a> {
     ghost makes_free = { true };
 
-    fn decode(&mut self) -> Result<Foo> {
+    fn decode(&mut self) -> Result<Foo<'a>> {
         let x = self.x.decode()?;
         let y = self.y.decode()?;
         Ok(Foo { x, y })
@@ -134,12 +133,10 @@ impl<'a> Decoder<'a, Foo> for FooDecoder<'a> {
     ghost same_shape = { refl };
 }
 
-impl Encode for Foo {
+impl<'a> Encode for Foo<'a> {
     type Encoder = FooEncoder;
 }
 
-impl<'a> Decode<'a> for Foo {
+impl<'a> Decode<'a> for Foo<'a> {
     type Decoder = FooDecoder<'a>;
 }
-
-impl DecodeOwned for Foo {}
