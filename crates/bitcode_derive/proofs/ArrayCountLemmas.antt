@@ -1,5 +1,5 @@
 -- Whether numbers of arrays are lengths shows in the numbers alone.
-use Rattle.std.proofs.Common.{◌≡◌, Bool, sym, ap, subst}
+use Rattle.std.proofs.Common.{◌≡◌, Bool, ap, subst}
 use Rattle.std.specs.Prelude.{◌↔◌, IsTrue}
 use Rattle.bitcode_shapes.specs.Datum.{Datum}
 use Rattle.bitcode_shapes.specs.Shape.{Shape}

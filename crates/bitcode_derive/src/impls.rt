@@ -1,6 +1,7 @@
 // The coders of bools, the unit and pairs; those of other types stand in the modules by subject.
 // The coders of bools, integers, the unit and pairs.
 mod arrays;
+mod choices;
 
 use crate::derive::{Decode, DecodeOwned, Encode};
 use bitcode_coder::bool::{BoolDecoder, BoolEncoder};

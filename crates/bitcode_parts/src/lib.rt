@@ -6,5 +6,7 @@ pub mod convert;
 pub mod durations;
 pub mod elements;
 pub mod empty;
-pub mod vec;
+pub mod option;
+pub mod result;
 pub mod variant;
+pub mod vec;
