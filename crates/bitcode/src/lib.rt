@@ -37,8 +37,6 @@ pub use bitcode_parts::convert::{
 };
 pub use bitcode_parts::durations::{DurationDecode, DurationEncode};
 pub use bitcode_parts::empty::EmptyCoder;
-pub use bitcode_parts::variant::{VariantDecoder, VariantEncoder};
-pub use bitcode_parts::vec::{VecDecoder, VecEncoder};
 pub use bitcode_parts::option::{OptionDecoder, OptionEncoder};
 pub use bitcode_parts::result::{ResultDecoder, ResultEncoder};
 pub use bitcode_parts::variant::{VariantDecoder, VariantEncoder, encode_payload};
@@ -65,7 +63,4 @@ pub mod laws {
         borrowed_text, borrowed_texts, one_text, one_value, overflows_exactly, round_trip,
         short_text,
     };
-    pub use bitcode_coder::laws::{all_columns, joined_data, one_column, tree_and_list};
-    pub use bitcode_columns::laws::{bool_columns, byte_columns, int_columns, variant_columns};
-    pub use bitcode_derive::laws::{one_text, one_value, overflows_exactly, round_trip};
 }
