@@ -37,6 +37,7 @@ pub fn print_rows(rt: &impl Print, alloc: Global) -> io::Result<bool> {
     all_ok &= print_row(rt, 5, rows::sequences::shifted_integers(alloc))?;
     all_ok &= print_row(rt, 6, rows::lengths::lengths_written(alloc))?;
     all_ok &= print_row(rt, 7, rows::lengths::lengths_read(alloc))?;
+    all_ok &= print_row(rt, 8, rows::arrays::more_bytes_than_a_length(alloc))?;
     all_ok &= print_row(rt, 10, rows::variants::last_of_six(alloc))?;
     all_ok &= print_row(rt, 11, rows::variants::counts_of_high_bytes(alloc))?;
     all_ok &= print_row(rt, 17, rows::texts::durations(alloc))?;
@@ -44,6 +45,7 @@ pub fn print_rows(rt: &impl Print, alloc: Global) -> io::Result<bool> {
     all_ok &= print_row(rt, 21, rows::pair(alloc))?;
     all_ok &= print_row(rt, 22, rows::words_written(alloc))?;
     all_ok &= print_row(rt, 23, rows::words_read(alloc))?;
+    all_ok &= print_row(rt, 27, rows::arrays::sums_of_lengths(alloc))?;
     all_ok &= print_row(rt, 28, rows::texts::checked_numbers(alloc))?;
     all_ok &= print_row(rt, 31, rows::byte_columns::bytes_packed(alloc))?;
     all_ok &= print_row(rt, 32, rows::byte_columns::bytes_unpacked(alloc))?;
