@@ -4,6 +4,9 @@ pub mod LengthLemmas
 pub mod LengthPartLemmas
 pub mod LengthRefusalLemmas
 pub mod TextLemmas
+pub mod JoinedTextLemmas
+pub mod TextCoderLemmas
+pub mod CheckedLemmas
 pub mod ColumnLemmas
 pub mod TranspositionLemmas
 pub mod DatumLemmas

@@ -9,7 +9,7 @@ use Rattle.std.proofs.lemmas.Simd.{map-map}
 use Rattle.bitcode_columns.specs.declared.error.Reason.{Reason}
 use Rattle.bitcode_columns.specs.declared.error.Reason.TheVariants.{Eof, InvalidPacking, OutOfMemory}
 use Rattle.bitcode_columns.specs.Counts.{count_of}
-use Rattle.bitcode_columns.specs.Reading.{Reads, IsEndOf, NamesVariantFault, variants_fault, is_variant_at}
+use Rattle.bitcode_columns.specs.Reading.{Reads, NamesVariantFault, variants_fault, is_variant_at}
 use Rattle.bitcode_columns.specs.Digits.{digits_in_byte, base_for}
 use Rattle.bitcode_columns.specs.VariantColumn.{SpellsVariants}
 use Rattle.bitcode_shapes.specs.Datum.{Datum, unit, variant_in, natural_in}
@@ -27,14 +27,6 @@ use Rattle.bitcode_parts.specs.Payloads.{payloads_of, choices_of, ReadsPayloads,
 use Rattle.bitcode_parts.proofs.ChoiceLemmas.{Recovers, recovers, choices_each, length-payloads_of}
 
 -- ---- payloads that were read
-
-pub ends_behind_variants : {count k : ℕ} {old middle variants : List ℕ} (new : List ℕ) → Reads (SpellsVariants count) k old variants middle
-    → IsEndOf middle new → IsEndOf old new
-ends_behind_variants new r e = record { taken = r.piece ++ e.taken; whole = r.whole ∙ ap (λ x. r.piece ++ x) e.whole ∙ sym (append_assoc r.piece e.taken new) }
-
-pub ends_behind_payloads : {s : Shape} {k : ℕ} {old middle : List ℕ} {ds : List Datum} (new : List ℕ) → Reads (Spells s) k old ds middle
-    → IsEndOf middle new → IsEndOf old new
-ends_behind_payloads new r e = record { taken = r.piece ++ e.taken; whole = r.whole ∙ ap (λ x. r.piece ++ x) e.whole ∙ sym (append_assoc r.piece e.taken new) }
 
 -- payloads without columns are there without being read
 pub reads_units : (count : ℕ) (input : List ℕ) → Reads (Spells unit_shape) count input (replicate count unit) input

@@ -1,15 +1,13 @@
 -- A choice is written as its variant, and then its payload to the columns of that variant.
-use Rattle.std.proofs.Common.{◌≡◌, ℕ, suc, ◌+◌, ◌<◌, List, [], ◌∷◌, ◌++◌, map, refl, sym, ap, ap₂, subst, ◌∙◌, inl, inr, arith, append-nil}
-use Rattle.std.specs.Prelude.{Result, Ok, Err, IfErr}
+use Rattle.std.proofs.Common.{◌≡◌, ℕ, suc, ◌+◌, ◌<◌, List, [], ◌∷◌, ◌++◌, map, refl, sym, ap, ap₂, subst, ◌∙◌, arith, append-nil}
 use Rattle.std.proofs.lemmas.List.{map-append}
 use Rattle.std.proofs.lemmas.List.Elements.{All-nil, All-cons}
-use Rattle.bitcode_columns.specs.declared.error.Reason.{Reason}
 use Rattle.bitcode_shapes.specs.Datum.{Datum, choice}
 use Rattle.bitcode_shapes.specs.Shape.{Shape, Shapes, no_shapes, shape_and, choice_shape, variant_count, IsOf}
 use Rattle.bitcode_coder.specs.Columns.{Columns, no_columns, one, two, arrays, variants, beside, emptied, plain, CountsFit}
 use Rattle.bitcode_coder.specs.Transposition.{columns_of, payload_columns, payloads}
 use Rattle.bitcode_coder.specs.Spelling.{natural}
-use Rattle.bitcode_coder.specs.Coding.{written_columns, JoinsListing, PassesWithListing, SurelyPasses, IsWritingRefusal}
+use Rattle.bitcode_coder.specs.Coding.{written_columns, JoinsListing, PassesWithListing, SurelyPasses}
 use Rattle.bitcode_parts.specs.Payloads.{written_payloads, HasPayloads, JoinsPayload, PassesPayload}
 use Rattle.bitcode_parts.proofs.ChoiceLemmas.{payloads-same, payloads-other}
 
@@ -94,12 +92,3 @@ module _ {T : Type 0} (lists : T → Datum → Type 0) (shapes : Shapes) (t : T)
 -- no room can be made for the payload, whatever it is
 pub passes_surely : (s : Shape) (a : Columns) (d : Datum) → IsOf s d → SurelyPasses s a 1 → CountsFit (beside a (written_columns s (d ∷ []))) → ⊥
 passes_surely s a d is surely = surely (d ∷ []) (All-cons (IsOf s) d [] is (All-nil (IsOf s))) refl
-
-pub refusal_weaker : {Passes Others : Type 0} (reason : Reason) → (Passes → Others) → IsWritingRefusal reason Passes → IsWritingRefusal reason Others
-refusal_weaker reason f (inl h) = inl h
-refusal_weaker reason f (inr h) = inr (h.0, f h.1)
-
-pub refused_weaker : {T E Passes Others : Type 0} (reason : E → Reason) (result : Result T E) → (Passes → Others)
-    → IfErr result (λ e. IsWritingRefusal (reason e) Passes) → IfErr result (λ e. IsWritingRefusal (reason e) Others)
-refused_weaker reason (Ok x) f h = tt
-refused_weaker reason (Err e) f h = refusal_weaker (reason e) f h

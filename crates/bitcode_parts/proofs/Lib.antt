@@ -6,3 +6,4 @@ pub mod ArrayReadingLemmas
 pub mod ChoiceLemmas
 pub mod ChoiceReadingLemmas
 pub mod ChoiceWritingLemmas
+pub mod TwoVariantLemmas

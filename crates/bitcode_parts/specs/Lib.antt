@@ -4,3 +4,7 @@ pub mod Arrays
 pub mod ArrayLaws
 pub mod VariantCoders
 pub mod Payloads
+pub mod TwoVariants
+pub mod TwoVariantLaws
+pub mod Conversion
+pub mod DurationData

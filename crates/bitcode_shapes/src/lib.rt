@@ -2,6 +2,11 @@
 #![tactic(auto)]
 
 pub mod arrays;
+pub mod checked;
+pub mod choices;
+pub mod durations;
+pub mod no_variants;
 pub mod sequences;
 pub mod shaped;
+pub mod texts;
 pub mod values;
