@@ -38,6 +38,7 @@ pub fn print_rows(rt: &impl Print, alloc: Global) -> io::Result<bool> {
     all_ok &= print_row(rt, 6, rows::lengths::lengths_written(alloc))?;
     all_ok &= print_row(rt, 7, rows::lengths::lengths_read(alloc))?;
     all_ok &= print_row(rt, 8, rows::arrays::more_bytes_than_a_length(alloc))?;
+    all_ok &= print_row(rt, 9, rows::arrays::two_texts(alloc))?;
     all_ok &= print_row(rt, 10, rows::variants::last_of_six(alloc))?;
     all_ok &= print_row(rt, 11, rows::variants::counts_of_high_bytes(alloc))?;
     all_ok &= print_row(rt, 17, rows::texts::durations(alloc))?;

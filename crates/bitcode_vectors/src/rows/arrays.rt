@@ -1,5 +1,5 @@
 // The rows of arrays.
-use super::{Got, encodes, refuses};
+use super::{Got, decodes, encodes, refuses};
 use bitcode::coder::Buffer as _;
 use bitcode::{ArrayEncoder, EmptyCoder, Error, Reason};
 use std::alloc::Global;
@@ -25,6 +25,13 @@ pub fn more_bytes_than_a_length(alloc: Global) -> Result<(), Got> {
     refuses::<Vec<[u8; 16384]>>(alloc, &passes, Reason::LengthOverflow)?;
     let fits = [255, 0, 255, 255, 255, 255, 255, 255, 3, 0];
     refuses::<Vec<[u8; 16384]>>(alloc, &fits, Reason::Eof)
+}
+
+/// Each text of an array is UTF-8 for itself.
+pub fn two_texts(alloc: Global) -> Result<(), Got> {
+    refuses::<[&str; 2]>(alloc, &[1, 2, 226, 152, 186], Reason::InvalidUtf8)?;
+    let bytes = [3, 3, 226, 152, 186, 226, 152, 186];
+    decodes(alloc, &bytes, ["☺", "☺"])
 }
 
 /// Lengths whose sum no length is, a sum that is too large to be read, and a small one.
