@@ -30,8 +30,7 @@ pub fn more_bytes_than_a_length(alloc: Global) -> Result<(), Got> {
 /// Each text of an array is UTF-8 for itself.
 pub fn two_texts(alloc: Global) -> Result<(), Got> {
     refuses::<[&str; 2]>(alloc, &[1, 2, 226, 152, 186], Reason::InvalidUtf8)?;
-    let bytes = [3, 3, 226, 152, 186, 226, 152, 186];
-    decodes(alloc, &bytes, ["☺", "☺"])
+    decodes(alloc, &[3, 3, 226, 152, 186, 226, 152, 186], ["☺", "☺"])
 }
 
 /// Lengths whose sum no length is, a sum that is too large to be read, and a small one.
