@@ -2,3 +2,4 @@ pub mod EncodingLemmas
 pub mod DecodingLemmas
 pub mod RoundTripLemmas
 pub mod ArrayCountLemmas
+pub mod BorrowedTextLemmas

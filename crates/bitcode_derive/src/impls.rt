@@ -1,16 +1,17 @@
 // The coders of bools, the unit and pairs; those of other types stand in the modules by subject.
-// The coders of bools, integers, the unit and pairs.
-mod arrays;
-mod choices;
-
 use crate::derive::{Decode, DecodeOwned, Encode};
 use bitcode_coder::bool::{BoolDecoder, BoolEncoder};
 use bitcode_parts::empty::EmptyCoder;
 use bitcode_tuples::decoder::TupleDecoder;
 use bitcode_tuples::encoder::TupleEncoder;
 
+mod arrays;
+mod checked;
+mod choices;
+mod durations;
 mod ints;
 mod sequences;
+mod texts;
 
 impl Encode for bool {
     type Encoder = BoolEncoder;

@@ -1,12 +1,17 @@
 // What follows from the contracts of the whole calls. A call only looks at its values: its contract is the law.
-ghost use Rattle.std.specs.Prelude.{◌≡◌, IsTrue};
+ghost use Rattle.std.specs.Prelude.{◌≡◌, ◌≢◌, ◌<◌, [], ◌∷◌, slice_index, IsTrue, IfErr};
 ghost use Rattle.bitcode_shapes.specs.Datum.{Datum};
 ghost use Rattle.bitcode_coder.specs.Columns.{CountsFit};
 ghost use Rattle.bitcode_coder.specs.Spelling.{LengthsBelowLimit};
-ghost use Rattle.bitcode_derive.specs.Whole.{columns_of_one, IsEncodingOf, HasLongListing, IsDecodingOf, SpellsDatum};
 ghost use Rattle.bitcode_derive.specs.ArrayCounts.{HasSameCounts};
+ghost use Rattle.bitcode_derive.specs.BorrowedTexts.{TextsStandIn, IsBorrowedFrom};
+ghost use Rattle.bitcode_derive.specs.Whole.{columns_of_one, IsEncodingOf, HasLongListing, IsDecodingOf, SpellsDatum};
 
 use crate::derive::{Decode, Encode};
+use crate::whole;
+use bitcode_columns::error::{Error, Reason};
+use bitcode_shapes::shaped::{Made, Shaped};
+use std::alloc::Global;
 
 /// What was written for a value is read, and as a value equal to it, where each column of lengths sums below
 /// 2251799813685247.
@@ -73,4 +78,41 @@ pub fn overflows_exactly<T: Encode>(t: &T, bytes: &[u8])
     ensures refused { HasSameCounts T.lists T.shape t.now → HasLongListing T.lists T.shape t.now → (d : Datum) → T.lists t.now d → CountsFit (columns_of_one T.shape d) → ⊥ }
 {
     t.told();
+}
+
+/// A text that is read from bytes is these bytes behind its length, up to their end.
+///
+/// So a `&str` that `decode` gives is a slice of the input, for as long as that lives.
+///
+/// ```
+/// let text: &str = decode(alloc, bytes)?; // [2, 97, 98]
+/// borrowed_text(bytes, &text); // the bytes from 1 to 3
+/// ```
+pub fn borrowed_text<'a>(bytes: &'a [u8], text: &&'a str)
+    ensures { IsDecodingOf ⟦<&'a str as Made>⟧.makes ⟦<&'a str as Shaped>⟧.shape bytes.now text.now → IsBorrowedFrom bytes.now text.now.now }
+{}
+
+/// The texts of a value that is read from bytes stand in these bytes, behind the lengths of their column: each from one
+/// place to another.
+///
+/// ```
+/// let pair: (&str, u8) = decode(alloc, bytes)?; // [2, 97, 98, 7]
+/// borrowed_texts(bytes, &pair); // "ab" is the bytes from 1 to 3
+/// ```
+pub fn borrowed_texts<'a, T: Decode<'a>>(bytes: &'a [u8], t: &T)
+    ensures { (found : IsDecodingOf T.makes T.shape bytes.now t.now) → TextsStandIn T.shape bytes.now (found.datum ∷ []) }
+{}
+
+/// Reads a text whose first byte is below 255, as `decode` does: this takes no memory.
+///
+/// Errors: one of the faults of the input, and never `out of memory`.
+///
+/// ```
+/// let text = short_text(alloc, &[2, 97, 98])?;
+/// ```
+pub fn short_text<'a>(alloc: Global, bytes: &'a [u8]) -> Result<&'a str, Error>
+    requires { slice_index bytes.now 0 < 255 }
+    ensures { IfErr result (λ e. e.reason ≢ Reason.OutOfMemory) }
+{
+    whole::decode(alloc, bytes)
 }

@@ -6,6 +6,7 @@ pub mod arrays;
 pub mod byte_columns;
 pub mod lengths;
 pub mod sequences;
+pub mod texts;
 pub mod variants;
 
 /// What a wrong part of a row gave.

@@ -4,6 +4,7 @@ mod byte_columns;
 mod calls;
 mod fronts;
 mod int_columns;
+mod integer_lists;
 mod length_columns;
 mod limits;
 mod long_columns;

@@ -1,11 +1,15 @@
 // The rows of variants by themselves.
+ghost use Rattle.std.specs.Prelude.{◌≤◌};
+
 use crate::rows::Got;
 use bitcode::coder::Buffer as _;
 use bitcode::{Reason, VariantDecoder, VariantEncoder};
 use std::alloc::Global;
 
 /// One byte is read as one of `N` variants, and is this one.
-fn reads_one<const N: usize>(alloc: Global, byte: u8, expected: u8) -> Result<(), Got> {
+fn reads_one<const N: usize>(alloc: Global, byte: u8, expected: u8) -> Result<(), Got>
+    requires { N ≤ 256 }
+{
     let bytes = [byte];
     let mut input: &[u8] = &bytes;
     let mut variants = VariantDecoder::<N, true>::new(alloc);
@@ -17,7 +21,9 @@ fn reads_one<const N: usize>(alloc: Global, byte: u8, expected: u8) -> Result<()
 }
 
 /// The bytes are no column of so many of `N` variants.
-fn refuses_as<const N: usize>(alloc: Global, mut bytes: &[u8], count: usize) -> Result<(), Got> {
+fn refuses_as<const N: usize>(alloc: Global, mut bytes: &[u8], count: usize) -> Result<(), Got>
+    requires { N ≤ 256 }
+{
     let mut variants = VariantDecoder::<N, true>::new(alloc);
     match variants.populate(&mut bytes, count) {
         Ok(()) => Err(Got::AnotherValue),

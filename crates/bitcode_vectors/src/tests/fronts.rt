@@ -81,3 +81,18 @@ fn columns_end_where_their_bytes_end(rt: HostRuntime) -> Result<(), Got> {
         &[2251799813685246],
     )
 }
+
+#[test]
+fn sequences_end_where_their_bytes_end(rt: HostRuntime) -> Result<(), Got> {
+    let alloc = rt.alloc();
+    ends::<Vec<i16>>(alloc, &[7, 1, 255, 255, 10, 85, 0])?;
+    ends::<Vec<i16>>(alloc, &[5, 0, 0, 0, 255, 255, 0, 0, 255, 255, 0, 0, 0])?;
+    ends::<Vec<u16>>(alloc, &[17, 1, 43, 1, 10, 255, 255, 0, 0])?;
+    ends::<Vec<Vec<u8>>>(alloc, &[2, 0, 3, 6, 57, 0])?;
+    let mut trues = vec![in alloc; 255, 6]?;
+    for _ in 0..32 {
+        trues.push(255)?;
+    }
+    trues.extend_from_slice(&[127, 0])?;
+    ends::<Vec<bool>>(alloc, trues.as_slice())
+}
