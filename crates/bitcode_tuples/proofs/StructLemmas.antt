@@ -48,6 +48,9 @@ pub struct_rest : {s : Shape} {k : ℕ} {old middle : List ℕ} {ds : List Datum
 struct_rest new (Ok x) first second = tt
 struct_rest new (Err e) first second = ends_behind_read new first second
 
+-- the lemmas that the check applies by itself where it is told to: #[tactic(auto, using(..::struct_reading))]
+pub ruleset struct_reading = (struct_read, struct_rest)
+
 -- ---- encode
 
 module _ {F P Q : Type 0} (fields : F → P × Q) (x : F) {lists_p : P → Datum → Type 0} {lists_q : Q → Datum → Type 0} {s t : Shape} {a b : Columns} where

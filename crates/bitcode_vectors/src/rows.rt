@@ -4,6 +4,7 @@ use std::alloc::{AllocError, AllocFailed, Global};
 
 pub mod arrays;
 pub mod byte_columns;
+pub mod choices;
 pub mod lengths;
 pub mod sequences;
 pub mod texts;

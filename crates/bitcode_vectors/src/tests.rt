@@ -2,6 +2,7 @@
 mod arrays;
 mod byte_columns;
 mod calls;
+mod choices;
 mod fronts;
 mod int_columns;
 mod integer_lists;

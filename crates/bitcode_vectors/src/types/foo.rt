@@ -1,9 +1,7 @@
 // A struct of two fields, written by hand.
 ghost use Rattle.std.specs.Prelude.{true, min, refl};
-ghost use Rattle.bitcode_shapes.specs.LawfulStructs.{struct_lawful, struct_makeable, u32_lawful, u32_makeable, str_lawful, str_makeable};
-ghost use Rattle.bitcode_coder.specs.Columns.{two};
-ghost use Rattle.bitcode_tuples.specs.Pairs.{pairs_of};
-ghost use Rattle.bitcode_vectors.specs.Foo.{foo_fields, foo_found};
+ghost use Rattle.bitcode.specs.ByHand.{struct_lawful, struct_makeable, u32_lawful, u32_makeable, str_lawful, str_makeable, two, pairs_of};
+ghost use Rattle.bitcode_vectors.specs.Foo.{foo_fields};
 
 use bitcode::coder::{Buffer, Result};
 use bitcode::{
@@ -41,7 +39,7 @@ impl<'a> Shaped for Foo<'a> {
 impl<'a> Made for Foo<'a> {
     ghost makes = { λ d t. ⟦<(u32, &'a str) as Made>⟧.makes d (foo_fields t) };
 
-    ghost makeable = { struct_makeable foo_fields foo_found u32_makeable str_makeable };
+    ghost makeable = { struct_makeable foo_fields (λ x y. (record { x = x; y = y }, refl)) u32_makeable str_makeable };
 }
 
 #[derive(Drop)]
@@ -115,6 +113,7 @@ impl<'a> View<'a> for FooDecoder<'a> {
         }
     }
 
+    #[tactic(auto, using(bitcode_tuples::proofs::StructLemmas::struct_reading))]
     fn populate(&mut self, input: &mut &'a [u8], k: usize) -> Result<()> {
         self.x.populate(input, k)?;
         self.y.populate(input, k)

@@ -1,7 +1,6 @@
 // An enum of one variant, written by hand: it has the shape of its field.
 ghost use Rattle.std.specs.Prelude.{true, refl};
-ghost use Rattle.bitcode_shapes.specs.LawfulImages.{image_lawful, image_makeable};
-ghost use Rattle.bitcode_shapes.specs.LawfulStructs.{u8_lawful, u8_makeable};
+ghost use Rattle.bitcode.specs.ByHand.{image_lawful, image_makeable, u8_lawful, u8_makeable};
 ghost use Rattle.bitcode_vectors.specs.One.{one_field, one_found};
 
 use bitcode::coder::{Buffer, Result};

@@ -1,14 +1,10 @@
 // An enum of two variants, written by hand.
 ghost use Rattle.std.specs.Prelude.{[], ◌∷◌, true, refl};
 ghost use Rattle.std.proofs.Common.{lit≤};
-ghost use Rattle.bitcode_shapes.specs.Shape.{choice_shape, shape_and, no_shapes};
-ghost use Rattle.bitcode_shapes.specs.Choices.{ListsChoice, ListsLast, ListsVariant, MakesChoice, MakesLast, MakesVariant, SameVariant, IsVariantValue};
-ghost use Rattle.bitcode_shapes.specs.LawfulChoices.{choice_lawful, choice_makeable, first_lawful, first_makeable, last_lawful, last_makeable};
-ghost use Rattle.bitcode_shapes.specs.LawfulImages.{image_lawful, image_makeable};
-ghost use Rattle.bitcode_shapes.specs.LawfulStructs.{u8_lawful, u8_makeable, i8_lawful, i8_makeable};
-ghost use Rattle.bitcode_coder.specs.Columns.{no_columns, two};
-ghost use Rattle.bitcode_parts.specs.Payloads.{choices_of};
-ghost use Rattle.bitcode_parts.specs.VariantCoders.{variant_room, variants_left};
+ghost use Rattle.bitcode.specs.ByHand.{choice_lawful, choice_makeable, first_lawful, first_makeable, last_lawful, last_makeable, image_lawful, image_makeable};
+ghost use Rattle.bitcode.specs.ByHand.{u8_lawful, u8_makeable, i8_lawful, i8_makeable, choice_shape, shape_and, no_shapes};
+ghost use Rattle.bitcode.specs.ByHand.{IsVariantValue, ListsChoice, ListsVariant, ListsLast, MakesChoice, MakesVariant, MakesLast, SameVariant};
+ghost use Rattle.bitcode.specs.ByHand.{no_columns, two, choices_of, variant_room, variants_left};
 ghost use Rattle.bitcode_vectors.specs.Two.{two_variant, two_found};
 
 use bitcode::coder::{Buffer, Result};
