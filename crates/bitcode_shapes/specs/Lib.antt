@@ -6,3 +6,6 @@ pub mod LawfulValues
 pub mod Sequences
 pub mod LawfulSequences
 pub mod LawfulImages
+pub mod Tuples
+pub mod LawfulTuples
+pub mod Pointers

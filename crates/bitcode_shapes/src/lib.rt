@@ -1,6 +1,9 @@
 // The data that types hold: their shapes, and what a lawful type promises.
 #![tactic(auto)]
 
+pub mod empty;
+pub mod pointers;
 pub mod sequences;
 pub mod shaped;
+pub mod tuples;
 pub mod values;
