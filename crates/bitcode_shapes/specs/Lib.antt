@@ -9,3 +9,4 @@ pub mod LawfulImages
 pub mod Tuples
 pub mod LawfulTuples
 pub mod Pointers
+pub mod Arrays
