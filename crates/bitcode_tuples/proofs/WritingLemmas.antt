@@ -43,3 +43,12 @@ pub refused_weaker : {T E Passes Others : Type 0} (reason : E → Reason) (resul
     → IfErr result (λ e. IsWritingRefusal (reason e) Passes) → IfErr result (λ e. IsWritingRefusal (reason e) Others)
 refused_weaker reason (Ok x) f h = tt
 refused_weaker reason (Err e) f h = refusal_weaker (reason e) f h
+
+-- ---- a value that stands for another one, as a tuple for a pair
+
+module _ {T U : Type 0} {lists : U → Datum → Type 0} {s : Shape} (split : T → U) (t : T) where
+  pub joins_as : {a b : Columns} → JoinsListing lists s (split t) a b → JoinsListing (λ u d. lists (split u) d) s t a b
+  joins_as h = record { datum = h.datum; listing = h.listing; joined = h.joined; fits = h.fits }
+
+  pub passes_as : {a : Columns} → PassesWithListing lists s (split t) a → PassesWithListing (λ u d. lists (split u) d) s t a
+  passes_as h = record { datum = h.datum; listing = h.listing; passes = h.passes }

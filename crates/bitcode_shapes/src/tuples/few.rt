@@ -1,8 +1,8 @@
 // Tuples of one field and of three to eight hold the data of their fields.
 ghost use Rattle.std.specs.Prelude.{refl};
 ghost use Rattle.bitcode_shapes.specs.LawfulImages.{image_lawful, image_makeable};
-ghost use Rattle.bitcode_shapes.specs.LawfulTuples.{both_lawful, both_makeable};
-ghost use Rattle.bitcode_shapes.specs.Tuples.{pairs_3, fields_3, pairs_4, fields_4, pairs_5, fields_5, pairs_6, fields_6, pairs_7, fields_7, pairs_8, fields_8};
+ghost use Rattle.bitcode_shapes.specs.LawfulTuples.{both_lawful, both_makeable, tuple_lawful, tuple_makeable};
+ghost use Rattle.bitcode_shapes.specs.Tuples.{split_3, split_4, split_5, split_6, split_7, split_8, joined_3, joined_4, joined_5, joined_6, joined_7, joined_8};
 
 use crate::shaped::{Made, Shaped};
 
@@ -33,11 +33,11 @@ impl<A: Made> Made for (A,) {
 impl<A: Shaped, B: Shaped, C: Shaped> Shaped for (A, B, C) {
     ghost shape = { ⟦<(A, (B, C)) as Shaped>⟧.shape };
 
-    ghost is_value = { λ t. ⟦<(A, (B, C)) as Shaped>⟧.is_value (pairs_3 t) };
+    ghost is_value = { λ t. ⟦<(A, (B, C)) as Shaped>⟧.is_value (split_3 t) };
 
-    ghost lists = { λ t. ⟦<(A, (B, C)) as Shaped>⟧.lists (pairs_3 t) };
+    ghost lists = { λ t. ⟦<(A, (B, C)) as Shaped>⟧.lists (split_3 t) };
 
-    ghost same = { λ t u. ⟦<(A, (B, C)) as Shaped>⟧.same (pairs_3 t) (pairs_3 u) };
+    ghost same = { λ t u. ⟦<(A, (B, C)) as Shaped>⟧.same (split_3 t) (split_3 u) };
 
     ghost in_order = { ⟦<(A, (B, C)) as Shaped>⟧.in_order };
 
@@ -47,25 +47,25 @@ impl<A: Shaped, B: Shaped, C: Shaped> Shaped for (A, B, C) {
         self.2.told();
     }
 
-    ghost lawful = { image_lawful pairs_3 (both_lawful A.lawful (both_lawful B.lawful C.lawful)) };
+    ghost lawful = { tuple_lawful split_3 A.lawful (both_lawful B.lawful C.lawful) };
 }
 
 impl<A: Made, B: Made, C: Made> Made for (A, B, C) {
-    ghost makes = { λ d t. ⟦<(A, (B, C)) as Made>⟧.makes d (pairs_3 t) };
+    ghost makes = { λ d t. ⟦<(A, (B, C)) as Made>⟧.makes d (split_3 t) };
 
-    ghost makeable = { image_makeable pairs_3 (λ g u h. (fields_3 u, refl)) (both_makeable A.makeable (both_makeable B.makeable C.makeable)) };
+    ghost makeable = { tuple_makeable split_3 joined_3 A.makeable (both_makeable B.makeable C.makeable) };
 }
 
 impl<A: Shaped, B: Shaped, C: Shaped, D: Shaped> Shaped for (A, B, C, D) {
-    ghost shape = { ⟦<(A, (B, (C, D))) as Shaped>⟧.shape };
+    ghost shape = { ⟦<(A, (B, C, D)) as Shaped>⟧.shape };
 
-    ghost is_value = { λ t. ⟦<(A, (B, (C, D))) as Shaped>⟧.is_value (pairs_4 t) };
+    ghost is_value = { λ t. ⟦<(A, (B, C, D)) as Shaped>⟧.is_value (split_4 t) };
 
-    ghost lists = { λ t. ⟦<(A, (B, (C, D))) as Shaped>⟧.lists (pairs_4 t) };
+    ghost lists = { λ t. ⟦<(A, (B, C, D)) as Shaped>⟧.lists (split_4 t) };
 
-    ghost same = { λ t u. ⟦<(A, (B, (C, D))) as Shaped>⟧.same (pairs_4 t) (pairs_4 u) };
+    ghost same = { λ t u. ⟦<(A, (B, C, D)) as Shaped>⟧.same (split_4 t) (split_4 u) };
 
-    ghost in_order = { ⟦<(A, (B, (C, D))) as Shaped>⟧.in_order };
+    ghost in_order = { ⟦<(A, (B, C, D)) as Shaped>⟧.in_order };
 
     fn told(&self) {
         self.0.told();
@@ -74,25 +74,25 @@ impl<A: Shaped, B: Shaped, C: Shaped, D: Shaped> Shaped for (A, B, C, D) {
         self.3.told();
     }
 
-    ghost lawful = { image_lawful pairs_4 (both_lawful A.lawful (both_lawful B.lawful (both_lawful C.lawful D.lawful))) };
+    ghost lawful = { tuple_lawful split_4 A.lawful (tuple_lawful split_3 B.lawful (both_lawful C.lawful D.lawful)) };
 }
 
 impl<A: Made, B: Made, C: Made, D: Made> Made for (A, B, C, D) {
-    ghost makes = { λ d t. ⟦<(A, (B, (C, D))) as Made>⟧.makes d (pairs_4 t) };
+    ghost makes = { λ d t. ⟦<(A, (B, C, D)) as Made>⟧.makes d (split_4 t) };
 
-    ghost makeable = { image_makeable pairs_4 (λ g u h. (fields_4 u, refl)) (both_makeable A.makeable (both_makeable B.makeable (both_makeable C.makeable D.makeable))) };
+    ghost makeable = { tuple_makeable split_4 joined_4 A.makeable (tuple_makeable split_3 joined_3 B.makeable (both_makeable C.makeable D.makeable)) };
 }
 
 impl<A: Shaped, B: Shaped, C: Shaped, D: Shaped, E: Shaped> Shaped for (A, B, C, D, E) {
-    ghost shape = { ⟦<(A, (B, (C, (D, E)))) as Shaped>⟧.shape };
+    ghost shape = { ⟦<(A, (B, C, D, E)) as Shaped>⟧.shape };
 
-    ghost is_value = { λ t. ⟦<(A, (B, (C, (D, E)))) as Shaped>⟧.is_value (pairs_5 t) };
+    ghost is_value = { λ t. ⟦<(A, (B, C, D, E)) as Shaped>⟧.is_value (split_5 t) };
 
-    ghost lists = { λ t. ⟦<(A, (B, (C, (D, E)))) as Shaped>⟧.lists (pairs_5 t) };
+    ghost lists = { λ t. ⟦<(A, (B, C, D, E)) as Shaped>⟧.lists (split_5 t) };
 
-    ghost same = { λ t u. ⟦<(A, (B, (C, (D, E)))) as Shaped>⟧.same (pairs_5 t) (pairs_5 u) };
+    ghost same = { λ t u. ⟦<(A, (B, C, D, E)) as Shaped>⟧.same (split_5 t) (split_5 u) };
 
-    ghost in_order = { ⟦<(A, (B, (C, (D, E)))) as Shaped>⟧.in_order };
+    ghost in_order = { ⟦<(A, (B, C, D, E)) as Shaped>⟧.in_order };
 
     fn told(&self) {
         self.0.told();
@@ -102,26 +102,25 @@ impl<A: Shaped, B: Shaped, C: Shaped, D: Shaped, E: Shaped> Shaped for (A, B, C,
         self.4.told();
     }
 
-    ghost lawful = { image_lawful pairs_5 (both_lawful A.lawful (both_lawful B.lawful (both_lawful C.lawful (both_lawful D.lawful E.lawful)))) };
+    ghost lawful = { tuple_lawful split_5 A.lawful (tuple_lawful split_4 B.lawful (tuple_lawful split_3 C.lawful (both_lawful D.lawful E.lawful))) };
 }
 
 impl<A: Made, B: Made, C: Made, D: Made, E: Made> Made for (A, B, C, D, E) {
-    ghost makes = { λ d t. ⟦<(A, (B, (C, (D, E)))) as Made>⟧.makes d (pairs_5 t) };
+    ghost makes = { λ d t. ⟦<(A, (B, C, D, E)) as Made>⟧.makes d (split_5 t) };
 
-    ghost makeable = { image_makeable pairs_5 (λ g u h. (fields_5 u, refl)) (both_makeable A.makeable (both_makeable B.makeable (both_makeable C.makeable (both_makeable D.makeable E.makeable)))) };
+    ghost makeable = { tuple_makeable split_5 joined_5 A.makeable (tuple_makeable split_4 joined_4 B.makeable (tuple_makeable split_3 joined_3 C.makeable (both_makeable D.makeable E.makeable))) };
 }
 
-impl<A: Shaped, B: Shaped, C: Shaped, D: Shaped, E: Shaped, F: Shaped> Shaped
-    for (A, B, C, D, E, F) {
-    ghost shape = { ⟦<(A, (B, (C, (D, (E, F))))) as Shaped>⟧.shape };
+impl<A: Shaped, B: Shaped, C: Shaped, D: Shaped, E: Shaped, F: Shaped> Shaped for (A, B, C, D, E, F) {
+    ghost shape = { ⟦<(A, (B, C, D, E, F)) as Shaped>⟧.shape };
 
-    ghost is_value = { λ t. ⟦<(A, (B, (C, (D, (E, F))))) as Shaped>⟧.is_value (pairs_6 t) };
+    ghost is_value = { λ t. ⟦<(A, (B, C, D, E, F)) as Shaped>⟧.is_value (split_6 t) };
 
-    ghost lists = { λ t. ⟦<(A, (B, (C, (D, (E, F))))) as Shaped>⟧.lists (pairs_6 t) };
+    ghost lists = { λ t. ⟦<(A, (B, C, D, E, F)) as Shaped>⟧.lists (split_6 t) };
 
-    ghost same = { λ t u. ⟦<(A, (B, (C, (D, (E, F))))) as Shaped>⟧.same (pairs_6 t) (pairs_6 u) };
+    ghost same = { λ t u. ⟦<(A, (B, C, D, E, F)) as Shaped>⟧.same (split_6 t) (split_6 u) };
 
-    ghost in_order = { ⟦<(A, (B, (C, (D, (E, F))))) as Shaped>⟧.in_order };
+    ghost in_order = { ⟦<(A, (B, C, D, E, F)) as Shaped>⟧.in_order };
 
     fn told(&self) {
         self.0.told();
@@ -132,26 +131,25 @@ impl<A: Shaped, B: Shaped, C: Shaped, D: Shaped, E: Shaped, F: Shaped> Shaped
         self.5.told();
     }
 
-    ghost lawful = { image_lawful pairs_6 (both_lawful A.lawful (both_lawful B.lawful (both_lawful C.lawful (both_lawful D.lawful (both_lawful E.lawful F.lawful))))) };
+    ghost lawful = { tuple_lawful split_6 A.lawful (tuple_lawful split_5 B.lawful (tuple_lawful split_4 C.lawful (tuple_lawful split_3 D.lawful (both_lawful E.lawful F.lawful)))) };
 }
 
 impl<A: Made, B: Made, C: Made, D: Made, E: Made, F: Made> Made for (A, B, C, D, E, F) {
-    ghost makes = { λ d t. ⟦<(A, (B, (C, (D, (E, F))))) as Made>⟧.makes d (pairs_6 t) };
+    ghost makes = { λ d t. ⟦<(A, (B, C, D, E, F)) as Made>⟧.makes d (split_6 t) };
 
-    ghost makeable = { image_makeable pairs_6 (λ g u h. (fields_6 u, refl)) (both_makeable A.makeable (both_makeable B.makeable (both_makeable C.makeable (both_makeable D.makeable (both_makeable E.makeable F.makeable))))) };
+    ghost makeable = { tuple_makeable split_6 joined_6 A.makeable (tuple_makeable split_5 joined_5 B.makeable (tuple_makeable split_4 joined_4 C.makeable (tuple_makeable split_3 joined_3 D.makeable (both_makeable E.makeable F.makeable)))) };
 }
 
-impl<A: Shaped, B: Shaped, C: Shaped, D: Shaped, E: Shaped, F: Shaped, G: Shaped> Shaped
-    for (A, B, C, D, E, F, G) {
-    ghost shape = { ⟦<(A, (B, (C, (D, (E, (F, G)))))) as Shaped>⟧.shape };
+impl<A: Shaped, B: Shaped, C: Shaped, D: Shaped, E: Shaped, F: Shaped, G: Shaped> Shaped for (A, B, C, D, E, F, G) {
+    ghost shape = { ⟦<(A, (B, C, D, E, F, G)) as Shaped>⟧.shape };
 
-    ghost is_value = { λ t. ⟦<(A, (B, (C, (D, (E, (F, G)))))) as Shaped>⟧.is_value (pairs_7 t) };
+    ghost is_value = { λ t. ⟦<(A, (B, C, D, E, F, G)) as Shaped>⟧.is_value (split_7 t) };
 
-    ghost lists = { λ t. ⟦<(A, (B, (C, (D, (E, (F, G)))))) as Shaped>⟧.lists (pairs_7 t) };
+    ghost lists = { λ t. ⟦<(A, (B, C, D, E, F, G)) as Shaped>⟧.lists (split_7 t) };
 
-    ghost same = { λ t u. ⟦<(A, (B, (C, (D, (E, (F, G)))))) as Shaped>⟧.same (pairs_7 t) (pairs_7 u) };
+    ghost same = { λ t u. ⟦<(A, (B, C, D, E, F, G)) as Shaped>⟧.same (split_7 t) (split_7 u) };
 
-    ghost in_order = { ⟦<(A, (B, (C, (D, (E, (F, G)))))) as Shaped>⟧.in_order };
+    ghost in_order = { ⟦<(A, (B, C, D, E, F, G)) as Shaped>⟧.in_order };
 
     fn told(&self) {
         self.0.told();
@@ -163,26 +161,25 @@ impl<A: Shaped, B: Shaped, C: Shaped, D: Shaped, E: Shaped, F: Shaped, G: Shaped
         self.6.told();
     }
 
-    ghost lawful = { image_lawful pairs_7 (both_lawful A.lawful (both_lawful B.lawful (both_lawful C.lawful (both_lawful D.lawful (both_lawful E.lawful (both_lawful F.lawful G.lawful)))))) };
+    ghost lawful = { tuple_lawful split_7 A.lawful (tuple_lawful split_6 B.lawful (tuple_lawful split_5 C.lawful (tuple_lawful split_4 D.lawful (tuple_lawful split_3 E.lawful (both_lawful F.lawful G.lawful))))) };
 }
 
 impl<A: Made, B: Made, C: Made, D: Made, E: Made, F: Made, G: Made> Made for (A, B, C, D, E, F, G) {
-    ghost makes = { λ d t. ⟦<(A, (B, (C, (D, (E, (F, G)))))) as Made>⟧.makes d (pairs_7 t) };
+    ghost makes = { λ d t. ⟦<(A, (B, C, D, E, F, G)) as Made>⟧.makes d (split_7 t) };
 
-    ghost makeable = { image_makeable pairs_7 (λ g u h. (fields_7 u, refl)) (both_makeable A.makeable (both_makeable B.makeable (both_makeable C.makeable (both_makeable D.makeable (both_makeable E.makeable (both_makeable F.makeable G.makeable)))))) };
+    ghost makeable = { tuple_makeable split_7 joined_7 A.makeable (tuple_makeable split_6 joined_6 B.makeable (tuple_makeable split_5 joined_5 C.makeable (tuple_makeable split_4 joined_4 D.makeable (tuple_makeable split_3 joined_3 E.makeable (both_makeable F.makeable G.makeable))))) };
 }
 
-impl<A: Shaped, B: Shaped, C: Shaped, D: Shaped, E: Shaped, F: Shaped, G: Shaped, H: Shaped> Shaped
-    for (A, B, C, D, E, F, G, H) {
-    ghost shape = { ⟦<(A, (B, (C, (D, (E, (F, (G, H))))))) as Shaped>⟧.shape };
+impl<A: Shaped, B: Shaped, C: Shaped, D: Shaped, E: Shaped, F: Shaped, G: Shaped, H: Shaped> Shaped for (A, B, C, D, E, F, G, H) {
+    ghost shape = { ⟦<(A, (B, C, D, E, F, G, H)) as Shaped>⟧.shape };
 
-    ghost is_value = { λ t. ⟦<(A, (B, (C, (D, (E, (F, (G, H))))))) as Shaped>⟧.is_value (pairs_8 t) };
+    ghost is_value = { λ t. ⟦<(A, (B, C, D, E, F, G, H)) as Shaped>⟧.is_value (split_8 t) };
 
-    ghost lists = { λ t. ⟦<(A, (B, (C, (D, (E, (F, (G, H))))))) as Shaped>⟧.lists (pairs_8 t) };
+    ghost lists = { λ t. ⟦<(A, (B, C, D, E, F, G, H)) as Shaped>⟧.lists (split_8 t) };
 
-    ghost same = { λ t u. ⟦<(A, (B, (C, (D, (E, (F, (G, H))))))) as Shaped>⟧.same (pairs_8 t) (pairs_8 u) };
+    ghost same = { λ t u. ⟦<(A, (B, C, D, E, F, G, H)) as Shaped>⟧.same (split_8 t) (split_8 u) };
 
-    ghost in_order = { ⟦<(A, (B, (C, (D, (E, (F, (G, H))))))) as Shaped>⟧.in_order };
+    ghost in_order = { ⟦<(A, (B, C, D, E, F, G, H)) as Shaped>⟧.in_order };
 
     fn told(&self) {
         self.0.told();
@@ -195,12 +192,11 @@ impl<A: Shaped, B: Shaped, C: Shaped, D: Shaped, E: Shaped, F: Shaped, G: Shaped
         self.7.told();
     }
 
-    ghost lawful = { image_lawful pairs_8 (both_lawful A.lawful (both_lawful B.lawful (both_lawful C.lawful (both_lawful D.lawful (both_lawful E.lawful (both_lawful F.lawful (both_lawful G.lawful H.lawful))))))) };
+    ghost lawful = { tuple_lawful split_8 A.lawful (tuple_lawful split_7 B.lawful (tuple_lawful split_6 C.lawful (tuple_lawful split_5 D.lawful (tuple_lawful split_4 E.lawful (tuple_lawful split_3 F.lawful (both_lawful G.lawful H.lawful)))))) };
 }
 
-impl<A: Made, B: Made, C: Made, D: Made, E: Made, F: Made, G: Made, H: Made> Made
-    for (A, B, C, D, E, F, G, H) {
-    ghost makes = { λ d t. ⟦<(A, (B, (C, (D, (E, (F, (G, H))))))) as Made>⟧.makes d (pairs_8 t) };
+impl<A: Made, B: Made, C: Made, D: Made, E: Made, F: Made, G: Made, H: Made> Made for (A, B, C, D, E, F, G, H) {
+    ghost makes = { λ d t. ⟦<(A, (B, C, D, E, F, G, H)) as Made>⟧.makes d (split_8 t) };
 
-    ghost makeable = { image_makeable pairs_8 (λ g u h. (fields_8 u, refl)) (both_makeable A.makeable (both_makeable B.makeable (both_makeable C.makeable (both_makeable D.makeable (both_makeable E.makeable (both_makeable F.makeable (both_makeable G.makeable H.makeable))))))) };
+    ghost makeable = { tuple_makeable split_8 joined_8 A.makeable (tuple_makeable split_7 joined_7 B.makeable (tuple_makeable split_6 joined_6 C.makeable (tuple_makeable split_5 joined_5 D.makeable (tuple_makeable split_4 joined_4 E.makeable (tuple_makeable split_3 joined_3 F.makeable (both_makeable G.makeable H.makeable)))))) };
 }

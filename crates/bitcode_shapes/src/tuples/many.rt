@@ -1,31 +1,19 @@
 // Tuples of nine to sixteen fields hold the data of their fields.
-ghost use Rattle.std.specs.Prelude.{refl};
-ghost use Rattle.bitcode_shapes.specs.LawfulImages.{image_lawful, image_makeable};
-ghost use Rattle.bitcode_shapes.specs.LawfulTuples.{both_lawful, both_makeable};
-ghost use Rattle.bitcode_shapes.specs.Tuples.{pairs_9, fields_9, pairs_10, fields_10, pairs_11, fields_11, pairs_12, fields_12, pairs_13, fields_13, pairs_14, fields_14, pairs_15, fields_15, pairs_16, fields_16};
+ghost use Rattle.bitcode_shapes.specs.LawfulTuples.{both_lawful, both_makeable, tuple_lawful, tuple_makeable};
+ghost use Rattle.bitcode_shapes.specs.Tuples.{split_3, split_4, split_5, split_6, split_7, split_8, split_9, split_10, split_11, split_12, split_13, split_14, split_15, split_16, joined_3, joined_4, joined_5, joined_6, joined_7, joined_8, joined_9, joined_10, joined_11, joined_12, joined_13, joined_14, joined_15, joined_16};
 
 use crate::shaped::{Made, Shaped};
 
-impl<
-    A: Shaped,
-    B: Shaped,
-    C: Shaped,
-    D: Shaped,
-    E: Shaped,
-    F: Shaped,
-    G: Shaped,
-    H: Shaped,
-    I: Shaped,
-> Shaped for (A, B, C, D, E, F, G, H, I) {
-    ghost shape = { ⟦<(A, (B, (C, (D, (E, (F, (G, (H, I)))))))) as Shaped>⟧.shape };
+impl<A: Shaped, B: Shaped, C: Shaped, D: Shaped, E: Shaped, F: Shaped, G: Shaped, H: Shaped, I: Shaped> Shaped for (A, B, C, D, E, F, G, H, I) {
+    ghost shape = { ⟦<(A, (B, C, D, E, F, G, H, I)) as Shaped>⟧.shape };
 
-    ghost is_value = { λ t. ⟦<(A, (B, (C, (D, (E, (F, (G, (H, I)))))))) as Shaped>⟧.is_value (pairs_9 t) };
+    ghost is_value = { λ t. ⟦<(A, (B, C, D, E, F, G, H, I)) as Shaped>⟧.is_value (split_9 t) };
 
-    ghost lists = { λ t. ⟦<(A, (B, (C, (D, (E, (F, (G, (H, I)))))))) as Shaped>⟧.lists (pairs_9 t) };
+    ghost lists = { λ t. ⟦<(A, (B, C, D, E, F, G, H, I)) as Shaped>⟧.lists (split_9 t) };
 
-    ghost same = { λ t u. ⟦<(A, (B, (C, (D, (E, (F, (G, (H, I)))))))) as Shaped>⟧.same (pairs_9 t) (pairs_9 u) };
+    ghost same = { λ t u. ⟦<(A, (B, C, D, E, F, G, H, I)) as Shaped>⟧.same (split_9 t) (split_9 u) };
 
-    ghost in_order = { ⟦<(A, (B, (C, (D, (E, (F, (G, (H, I)))))))) as Shaped>⟧.in_order };
+    ghost in_order = { ⟦<(A, (B, C, D, E, F, G, H, I)) as Shaped>⟧.in_order };
 
     fn told(&self) {
         self.0.told();
@@ -39,37 +27,25 @@ impl<
         self.8.told();
     }
 
-    ghost lawful = { image_lawful pairs_9 (both_lawful A.lawful (both_lawful B.lawful (both_lawful C.lawful (both_lawful D.lawful (both_lawful E.lawful (both_lawful F.lawful (both_lawful G.lawful (both_lawful H.lawful I.lawful)))))))) };
+    ghost lawful = { tuple_lawful split_9 A.lawful (tuple_lawful split_8 B.lawful (tuple_lawful split_7 C.lawful (tuple_lawful split_6 D.lawful (tuple_lawful split_5 E.lawful (tuple_lawful split_4 F.lawful (tuple_lawful split_3 G.lawful (both_lawful H.lawful I.lawful))))))) };
 }
 
-impl<A: Made, B: Made, C: Made, D: Made, E: Made, F: Made, G: Made, H: Made, I: Made> Made
-    for (A, B, C, D, E, F, G, H, I) {
-    ghost makes = { λ d t. ⟦<(A, (B, (C, (D, (E, (F, (G, (H, I)))))))) as Made>⟧.makes d (pairs_9 t) };
+impl<A: Made, B: Made, C: Made, D: Made, E: Made, F: Made, G: Made, H: Made, I: Made> Made for (A, B, C, D, E, F, G, H, I) {
+    ghost makes = { λ d t. ⟦<(A, (B, C, D, E, F, G, H, I)) as Made>⟧.makes d (split_9 t) };
 
-    ghost makeable = { image_makeable pairs_9 (λ g u h. (fields_9 u, refl)) (both_makeable A.makeable (both_makeable B.makeable (both_makeable C.makeable (both_makeable D.makeable (both_makeable E.makeable (both_makeable F.makeable (both_makeable G.makeable (both_makeable H.makeable I.makeable)))))))) };
+    ghost makeable = { tuple_makeable split_9 joined_9 A.makeable (tuple_makeable split_8 joined_8 B.makeable (tuple_makeable split_7 joined_7 C.makeable (tuple_makeable split_6 joined_6 D.makeable (tuple_makeable split_5 joined_5 E.makeable (tuple_makeable split_4 joined_4 F.makeable (tuple_makeable split_3 joined_3 G.makeable (both_makeable H.makeable I.makeable))))))) };
 }
 
-impl<
-    A: Shaped,
-    B: Shaped,
-    C: Shaped,
-    D: Shaped,
-    E: Shaped,
-    F: Shaped,
-    G: Shaped,
-    H: Shaped,
-    I: Shaped,
-    J: Shaped,
-> Shaped for (A, B, C, D, E, F, G, H, I, J) {
-    ghost shape = { ⟦<(A, (B, (C, (D, (E, (F, (G, (H, (I, J))))))))) as Shaped>⟧.shape };
+impl<A: Shaped, B: Shaped, C: Shaped, D: Shaped, E: Shaped, F: Shaped, G: Shaped, H: Shaped, I: Shaped, J: Shaped> Shaped for (A, B, C, D, E, F, G, H, I, J) {
+    ghost shape = { ⟦<(A, (B, C, D, E, F, G, H, I, J)) as Shaped>⟧.shape };
 
-    ghost is_value = { λ t. ⟦<(A, (B, (C, (D, (E, (F, (G, (H, (I, J))))))))) as Shaped>⟧.is_value (pairs_10 t) };
+    ghost is_value = { λ t. ⟦<(A, (B, C, D, E, F, G, H, I, J)) as Shaped>⟧.is_value (split_10 t) };
 
-    ghost lists = { λ t. ⟦<(A, (B, (C, (D, (E, (F, (G, (H, (I, J))))))))) as Shaped>⟧.lists (pairs_10 t) };
+    ghost lists = { λ t. ⟦<(A, (B, C, D, E, F, G, H, I, J)) as Shaped>⟧.lists (split_10 t) };
 
-    ghost same = { λ t u. ⟦<(A, (B, (C, (D, (E, (F, (G, (H, (I, J))))))))) as Shaped>⟧.same (pairs_10 t) (pairs_10 u) };
+    ghost same = { λ t u. ⟦<(A, (B, C, D, E, F, G, H, I, J)) as Shaped>⟧.same (split_10 t) (split_10 u) };
 
-    ghost in_order = { ⟦<(A, (B, (C, (D, (E, (F, (G, (H, (I, J))))))))) as Shaped>⟧.in_order };
+    ghost in_order = { ⟦<(A, (B, C, D, E, F, G, H, I, J)) as Shaped>⟧.in_order };
 
     fn told(&self) {
         self.0.told();
@@ -84,38 +60,25 @@ impl<
         self.9.told();
     }
 
-    ghost lawful = { image_lawful pairs_10 (both_lawful A.lawful (both_lawful B.lawful (both_lawful C.lawful (both_lawful D.lawful (both_lawful E.lawful (both_lawful F.lawful (both_lawful G.lawful (both_lawful H.lawful (both_lawful I.lawful J.lawful))))))))) };
+    ghost lawful = { tuple_lawful split_10 A.lawful (tuple_lawful split_9 B.lawful (tuple_lawful split_8 C.lawful (tuple_lawful split_7 D.lawful (tuple_lawful split_6 E.lawful (tuple_lawful split_5 F.lawful (tuple_lawful split_4 G.lawful (tuple_lawful split_3 H.lawful (both_lawful I.lawful J.lawful)))))))) };
 }
 
-impl<A: Made, B: Made, C: Made, D: Made, E: Made, F: Made, G: Made, H: Made, I: Made, J: Made> Made
-    for (A, B, C, D, E, F, G, H, I, J) {
-    ghost makes = { λ d t. ⟦<(A, (B, (C, (D, (E, (F, (G, (H, (I, J))))))))) as Made>⟧.makes d (pairs_10 t) };
+impl<A: Made, B: Made, C: Made, D: Made, E: Made, F: Made, G: Made, H: Made, I: Made, J: Made> Made for (A, B, C, D, E, F, G, H, I, J) {
+    ghost makes = { λ d t. ⟦<(A, (B, C, D, E, F, G, H, I, J)) as Made>⟧.makes d (split_10 t) };
 
-    ghost makeable = { image_makeable pairs_10 (λ g u h. (fields_10 u, refl)) (both_makeable A.makeable (both_makeable B.makeable (both_makeable C.makeable (both_makeable D.makeable (both_makeable E.makeable (both_makeable F.makeable (both_makeable G.makeable (both_makeable H.makeable (both_makeable I.makeable J.makeable))))))))) };
+    ghost makeable = { tuple_makeable split_10 joined_10 A.makeable (tuple_makeable split_9 joined_9 B.makeable (tuple_makeable split_8 joined_8 C.makeable (tuple_makeable split_7 joined_7 D.makeable (tuple_makeable split_6 joined_6 E.makeable (tuple_makeable split_5 joined_5 F.makeable (tuple_makeable split_4 joined_4 G.makeable (tuple_makeable split_3 joined_3 H.makeable (both_makeable I.makeable J.makeable)))))))) };
 }
 
-impl<
-    A: Shaped,
-    B: Shaped,
-    C: Shaped,
-    D: Shaped,
-    E: Shaped,
-    F: Shaped,
-    G: Shaped,
-    H: Shaped,
-    I: Shaped,
-    J: Shaped,
-    K: Shaped,
-> Shaped for (A, B, C, D, E, F, G, H, I, J, K) {
-    ghost shape = { ⟦<(A, (B, (C, (D, (E, (F, (G, (H, (I, (J, K)))))))))) as Shaped>⟧.shape };
+impl<A: Shaped, B: Shaped, C: Shaped, D: Shaped, E: Shaped, F: Shaped, G: Shaped, H: Shaped, I: Shaped, J: Shaped, K: Shaped> Shaped for (A, B, C, D, E, F, G, H, I, J, K) {
+    ghost shape = { ⟦<(A, (B, C, D, E, F, G, H, I, J, K)) as Shaped>⟧.shape };
 
-    ghost is_value = { λ t. ⟦<(A, (B, (C, (D, (E, (F, (G, (H, (I, (J, K)))))))))) as Shaped>⟧.is_value (pairs_11 t) };
+    ghost is_value = { λ t. ⟦<(A, (B, C, D, E, F, G, H, I, J, K)) as Shaped>⟧.is_value (split_11 t) };
 
-    ghost lists = { λ t. ⟦<(A, (B, (C, (D, (E, (F, (G, (H, (I, (J, K)))))))))) as Shaped>⟧.lists (pairs_11 t) };
+    ghost lists = { λ t. ⟦<(A, (B, C, D, E, F, G, H, I, J, K)) as Shaped>⟧.lists (split_11 t) };
 
-    ghost same = { λ t u. ⟦<(A, (B, (C, (D, (E, (F, (G, (H, (I, (J, K)))))))))) as Shaped>⟧.same (pairs_11 t) (pairs_11 u) };
+    ghost same = { λ t u. ⟦<(A, (B, C, D, E, F, G, H, I, J, K)) as Shaped>⟧.same (split_11 t) (split_11 u) };
 
-    ghost in_order = { ⟦<(A, (B, (C, (D, (E, (F, (G, (H, (I, (J, K)))))))))) as Shaped>⟧.in_order };
+    ghost in_order = { ⟦<(A, (B, C, D, E, F, G, H, I, J, K)) as Shaped>⟧.in_order };
 
     fn told(&self) {
         self.0.told();
@@ -131,50 +94,25 @@ impl<
         self.10.told();
     }
 
-    ghost lawful = { image_lawful pairs_11 (both_lawful A.lawful (both_lawful B.lawful (both_lawful C.lawful (both_lawful D.lawful (both_lawful E.lawful (both_lawful F.lawful (both_lawful G.lawful (both_lawful H.lawful (both_lawful I.lawful (both_lawful J.lawful K.lawful)))))))))) };
+    ghost lawful = { tuple_lawful split_11 A.lawful (tuple_lawful split_10 B.lawful (tuple_lawful split_9 C.lawful (tuple_lawful split_8 D.lawful (tuple_lawful split_7 E.lawful (tuple_lawful split_6 F.lawful (tuple_lawful split_5 G.lawful (tuple_lawful split_4 H.lawful (tuple_lawful split_3 I.lawful (both_lawful J.lawful K.lawful))))))))) };
 }
 
-impl<
-    A: Made,
-    B: Made,
-    C: Made,
-    D: Made,
-    E: Made,
-    F: Made,
-    G: Made,
-    H: Made,
-    I: Made,
-    J: Made,
-    K: Made,
-> Made for (A, B, C, D, E, F, G, H, I, J, K) {
-    ghost makes = { λ d t. ⟦<(A, (B, (C, (D, (E, (F, (G, (H, (I, (J, K)))))))))) as Made>⟧.makes d (pairs_11 t) };
+impl<A: Made, B: Made, C: Made, D: Made, E: Made, F: Made, G: Made, H: Made, I: Made, J: Made, K: Made> Made for (A, B, C, D, E, F, G, H, I, J, K) {
+    ghost makes = { λ d t. ⟦<(A, (B, C, D, E, F, G, H, I, J, K)) as Made>⟧.makes d (split_11 t) };
 
-    ghost makeable = { image_makeable pairs_11 (λ g u h. (fields_11 u, refl)) (both_makeable A.makeable (both_makeable B.makeable (both_makeable C.makeable (both_makeable D.makeable (both_makeable E.makeable (both_makeable F.makeable (both_makeable G.makeable (both_makeable H.makeable (both_makeable I.makeable (both_makeable J.makeable K.makeable)))))))))) };
+    ghost makeable = { tuple_makeable split_11 joined_11 A.makeable (tuple_makeable split_10 joined_10 B.makeable (tuple_makeable split_9 joined_9 C.makeable (tuple_makeable split_8 joined_8 D.makeable (tuple_makeable split_7 joined_7 E.makeable (tuple_makeable split_6 joined_6 F.makeable (tuple_makeable split_5 joined_5 G.makeable (tuple_makeable split_4 joined_4 H.makeable (tuple_makeable split_3 joined_3 I.makeable (both_makeable J.makeable K.makeable))))))))) };
 }
 
-impl<
-    A: Shaped,
-    B: Shaped,
-    C: Shaped,
-    D: Shaped,
-    E: Shaped,
-    F: Shaped,
-    G: Shaped,
-    H: Shaped,
-    I: Shaped,
-    J: Shaped,
-    K: Shaped,
-    L: Shaped,
-> Shaped for (A, B, C, D, E, F, G, H, I, J, K, L) {
-    ghost shape = { ⟦<(A, (B, (C, (D, (E, (F, (G, (H, (I, (J, (K, L))))))))))) as Shaped>⟧.shape };
+impl<A: Shaped, B: Shaped, C: Shaped, D: Shaped, E: Shaped, F: Shaped, G: Shaped, H: Shaped, I: Shaped, J: Shaped, K: Shaped, L: Shaped> Shaped for (A, B, C, D, E, F, G, H, I, J, K, L) {
+    ghost shape = { ⟦<(A, (B, C, D, E, F, G, H, I, J, K, L)) as Shaped>⟧.shape };
 
-    ghost is_value = { λ t. ⟦<(A, (B, (C, (D, (E, (F, (G, (H, (I, (J, (K, L))))))))))) as Shaped>⟧.is_value (pairs_12 t) };
+    ghost is_value = { λ t. ⟦<(A, (B, C, D, E, F, G, H, I, J, K, L)) as Shaped>⟧.is_value (split_12 t) };
 
-    ghost lists = { λ t. ⟦<(A, (B, (C, (D, (E, (F, (G, (H, (I, (J, (K, L))))))))))) as Shaped>⟧.lists (pairs_12 t) };
+    ghost lists = { λ t. ⟦<(A, (B, C, D, E, F, G, H, I, J, K, L)) as Shaped>⟧.lists (split_12 t) };
 
-    ghost same = { λ t u. ⟦<(A, (B, (C, (D, (E, (F, (G, (H, (I, (J, (K, L))))))))))) as Shaped>⟧.same (pairs_12 t) (pairs_12 u) };
+    ghost same = { λ t u. ⟦<(A, (B, C, D, E, F, G, H, I, J, K, L)) as Shaped>⟧.same (split_12 t) (split_12 u) };
 
-    ghost in_order = { ⟦<(A, (B, (C, (D, (E, (F, (G, (H, (I, (J, (K, L))))))))))) as Shaped>⟧.in_order };
+    ghost in_order = { ⟦<(A, (B, C, D, E, F, G, H, I, J, K, L)) as Shaped>⟧.in_order };
 
     fn told(&self) {
         self.0.told();
@@ -191,52 +129,25 @@ impl<
         self.11.told();
     }
 
-    ghost lawful = { image_lawful pairs_12 (both_lawful A.lawful (both_lawful B.lawful (both_lawful C.lawful (both_lawful D.lawful (both_lawful E.lawful (both_lawful F.lawful (both_lawful G.lawful (both_lawful H.lawful (both_lawful I.lawful (both_lawful J.lawful (both_lawful K.lawful L.lawful))))))))))) };
+    ghost lawful = { tuple_lawful split_12 A.lawful (tuple_lawful split_11 B.lawful (tuple_lawful split_10 C.lawful (tuple_lawful split_9 D.lawful (tuple_lawful split_8 E.lawful (tuple_lawful split_7 F.lawful (tuple_lawful split_6 G.lawful (tuple_lawful split_5 H.lawful (tuple_lawful split_4 I.lawful (tuple_lawful split_3 J.lawful (both_lawful K.lawful L.lawful)))))))))) };
 }
 
-impl<
-    A: Made,
-    B: Made,
-    C: Made,
-    D: Made,
-    E: Made,
-    F: Made,
-    G: Made,
-    H: Made,
-    I: Made,
-    J: Made,
-    K: Made,
-    L: Made,
-> Made for (A, B, C, D, E, F, G, H, I, J, K, L) {
-    ghost makes = { λ d t. ⟦<(A, (B, (C, (D, (E, (F, (G, (H, (I, (J, (K, L))))))))))) as Made>⟧.makes d (pairs_12 t) };
+impl<A: Made, B: Made, C: Made, D: Made, E: Made, F: Made, G: Made, H: Made, I: Made, J: Made, K: Made, L: Made> Made for (A, B, C, D, E, F, G, H, I, J, K, L) {
+    ghost makes = { λ d t. ⟦<(A, (B, C, D, E, F, G, H, I, J, K, L)) as Made>⟧.makes d (split_12 t) };
 
-    ghost makeable = { image_makeable pairs_12 (λ g u h. (fields_12 u, refl)) (both_makeable A.makeable (both_makeable B.makeable (both_makeable C.makeable (both_makeable D.makeable (both_makeable E.makeable (both_makeable F.makeable (both_makeable G.makeable (both_makeable H.makeable (both_makeable I.makeable (both_makeable J.makeable (both_makeable K.makeable L.makeable))))))))))) };
+    ghost makeable = { tuple_makeable split_12 joined_12 A.makeable (tuple_makeable split_11 joined_11 B.makeable (tuple_makeable split_10 joined_10 C.makeable (tuple_makeable split_9 joined_9 D.makeable (tuple_makeable split_8 joined_8 E.makeable (tuple_makeable split_7 joined_7 F.makeable (tuple_makeable split_6 joined_6 G.makeable (tuple_makeable split_5 joined_5 H.makeable (tuple_makeable split_4 joined_4 I.makeable (tuple_makeable split_3 joined_3 J.makeable (both_makeable K.makeable L.makeable)))))))))) };
 }
 
-impl<
-    A: Shaped,
-    B: Shaped,
-    C: Shaped,
-    D: Shaped,
-    E: Shaped,
-    F: Shaped,
-    G: Shaped,
-    H: Shaped,
-    I: Shaped,
-    J: Shaped,
-    K: Shaped,
-    L: Shaped,
-    M: Shaped,
-> Shaped for (A, B, C, D, E, F, G, H, I, J, K, L, M) {
-    ghost shape = { ⟦<(A, (B, (C, (D, (E, (F, (G, (H, (I, (J, (K, (L, M)))))))))))) as Shaped>⟧.shape };
+impl<A: Shaped, B: Shaped, C: Shaped, D: Shaped, E: Shaped, F: Shaped, G: Shaped, H: Shaped, I: Shaped, J: Shaped, K: Shaped, L: Shaped, M: Shaped> Shaped for (A, B, C, D, E, F, G, H, I, J, K, L, M) {
+    ghost shape = { ⟦<(A, (B, C, D, E, F, G, H, I, J, K, L, M)) as Shaped>⟧.shape };
 
-    ghost is_value = { λ t. ⟦<(A, (B, (C, (D, (E, (F, (G, (H, (I, (J, (K, (L, M)))))))))))) as Shaped>⟧.is_value (pairs_13 t) };
+    ghost is_value = { λ t. ⟦<(A, (B, C, D, E, F, G, H, I, J, K, L, M)) as Shaped>⟧.is_value (split_13 t) };
 
-    ghost lists = { λ t. ⟦<(A, (B, (C, (D, (E, (F, (G, (H, (I, (J, (K, (L, M)))))))))))) as Shaped>⟧.lists (pairs_13 t) };
+    ghost lists = { λ t. ⟦<(A, (B, C, D, E, F, G, H, I, J, K, L, M)) as Shaped>⟧.lists (split_13 t) };
 
-    ghost same = { λ t u. ⟦<(A, (B, (C, (D, (E, (F, (G, (H, (I, (J, (K, (L, M)))))))))))) as Shaped>⟧.same (pairs_13 t) (pairs_13 u) };
+    ghost same = { λ t u. ⟦<(A, (B, C, D, E, F, G, H, I, J, K, L, M)) as Shaped>⟧.same (split_13 t) (split_13 u) };
 
-    ghost in_order = { ⟦<(A, (B, (C, (D, (E, (F, (G, (H, (I, (J, (K, (L, M)))))))))))) as Shaped>⟧.in_order };
+    ghost in_order = { ⟦<(A, (B, C, D, E, F, G, H, I, J, K, L, M)) as Shaped>⟧.in_order };
 
     fn told(&self) {
         self.0.told();
@@ -254,54 +165,25 @@ impl<
         self.12.told();
     }
 
-    ghost lawful = { image_lawful pairs_13 (both_lawful A.lawful (both_lawful B.lawful (both_lawful C.lawful (both_lawful D.lawful (both_lawful E.lawful (both_lawful F.lawful (both_lawful G.lawful (both_lawful H.lawful (both_lawful I.lawful (both_lawful J.lawful (both_lawful K.lawful (both_lawful L.lawful M.lawful)))))))))))) };
+    ghost lawful = { tuple_lawful split_13 A.lawful (tuple_lawful split_12 B.lawful (tuple_lawful split_11 C.lawful (tuple_lawful split_10 D.lawful (tuple_lawful split_9 E.lawful (tuple_lawful split_8 F.lawful (tuple_lawful split_7 G.lawful (tuple_lawful split_6 H.lawful (tuple_lawful split_5 I.lawful (tuple_lawful split_4 J.lawful (tuple_lawful split_3 K.lawful (both_lawful L.lawful M.lawful))))))))))) };
 }
 
-impl<
-    A: Made,
-    B: Made,
-    C: Made,
-    D: Made,
-    E: Made,
-    F: Made,
-    G: Made,
-    H: Made,
-    I: Made,
-    J: Made,
-    K: Made,
-    L: Made,
-    M: Made,
-> Made for (A, B, C, D, E, F, G, H, I, J, K, L, M) {
-    ghost makes = { λ d t. ⟦<(A, (B, (C, (D, (E, (F, (G, (H, (I, (J, (K, (L, M)))))))))))) as Made>⟧.makes d (pairs_13 t) };
+impl<A: Made, B: Made, C: Made, D: Made, E: Made, F: Made, G: Made, H: Made, I: Made, J: Made, K: Made, L: Made, M: Made> Made for (A, B, C, D, E, F, G, H, I, J, K, L, M) {
+    ghost makes = { λ d t. ⟦<(A, (B, C, D, E, F, G, H, I, J, K, L, M)) as Made>⟧.makes d (split_13 t) };
 
-    ghost makeable = { image_makeable pairs_13 (λ g u h. (fields_13 u, refl)) (both_makeable A.makeable (both_makeable B.makeable (both_makeable C.makeable (both_makeable D.makeable (both_makeable E.makeable (both_makeable F.makeable (both_makeable G.makeable (both_makeable H.makeable (both_makeable I.makeable (both_makeable J.makeable (both_makeable K.makeable (both_makeable L.makeable M.makeable)))))))))))) };
+    ghost makeable = { tuple_makeable split_13 joined_13 A.makeable (tuple_makeable split_12 joined_12 B.makeable (tuple_makeable split_11 joined_11 C.makeable (tuple_makeable split_10 joined_10 D.makeable (tuple_makeable split_9 joined_9 E.makeable (tuple_makeable split_8 joined_8 F.makeable (tuple_makeable split_7 joined_7 G.makeable (tuple_makeable split_6 joined_6 H.makeable (tuple_makeable split_5 joined_5 I.makeable (tuple_makeable split_4 joined_4 J.makeable (tuple_makeable split_3 joined_3 K.makeable (both_makeable L.makeable M.makeable))))))))))) };
 }
 
-impl<
-    A: Shaped,
-    B: Shaped,
-    C: Shaped,
-    D: Shaped,
-    E: Shaped,
-    F: Shaped,
-    G: Shaped,
-    H: Shaped,
-    I: Shaped,
-    J: Shaped,
-    K: Shaped,
-    L: Shaped,
-    M: Shaped,
-    N: Shaped,
-> Shaped for (A, B, C, D, E, F, G, H, I, J, K, L, M, N) {
-    ghost shape = { ⟦<(A, (B, (C, (D, (E, (F, (G, (H, (I, (J, (K, (L, (M, N))))))))))))) as Shaped>⟧.shape };
+impl<A: Shaped, B: Shaped, C: Shaped, D: Shaped, E: Shaped, F: Shaped, G: Shaped, H: Shaped, I: Shaped, J: Shaped, K: Shaped, L: Shaped, M: Shaped, N: Shaped> Shaped for (A, B, C, D, E, F, G, H, I, J, K, L, M, N) {
+    ghost shape = { ⟦<(A, (B, C, D, E, F, G, H, I, J, K, L, M, N)) as Shaped>⟧.shape };
 
-    ghost is_value = { λ t. ⟦<(A, (B, (C, (D, (E, (F, (G, (H, (I, (J, (K, (L, (M, N))))))))))))) as Shaped>⟧.is_value (pairs_14 t) };
+    ghost is_value = { λ t. ⟦<(A, (B, C, D, E, F, G, H, I, J, K, L, M, N)) as Shaped>⟧.is_value (split_14 t) };
 
-    ghost lists = { λ t. ⟦<(A, (B, (C, (D, (E, (F, (G, (H, (I, (J, (K, (L, (M, N))))))))))))) as Shaped>⟧.lists (pairs_14 t) };
+    ghost lists = { λ t. ⟦<(A, (B, C, D, E, F, G, H, I, J, K, L, M, N)) as Shaped>⟧.lists (split_14 t) };
 
-    ghost same = { λ t u. ⟦<(A, (B, (C, (D, (E, (F, (G, (H, (I, (J, (K, (L, (M, N))))))))))))) as Shaped>⟧.same (pairs_14 t) (pairs_14 u) };
+    ghost same = { λ t u. ⟦<(A, (B, C, D, E, F, G, H, I, J, K, L, M, N)) as Shaped>⟧.same (split_14 t) (split_14 u) };
 
-    ghost in_order = { ⟦<(A, (B, (C, (D, (E, (F, (G, (H, (I, (J, (K, (L, (M, N))))))))))))) as Shaped>⟧.in_order };
+    ghost in_order = { ⟦<(A, (B, C, D, E, F, G, H, I, J, K, L, M, N)) as Shaped>⟧.in_order };
 
     fn told(&self) {
         self.0.told();
@@ -320,56 +202,25 @@ impl<
         self.13.told();
     }
 
-    ghost lawful = { image_lawful pairs_14 (both_lawful A.lawful (both_lawful B.lawful (both_lawful C.lawful (both_lawful D.lawful (both_lawful E.lawful (both_lawful F.lawful (both_lawful G.lawful (both_lawful H.lawful (both_lawful I.lawful (both_lawful J.lawful (both_lawful K.lawful (both_lawful L.lawful (both_lawful M.lawful N.lawful))))))))))))) };
+    ghost lawful = { tuple_lawful split_14 A.lawful (tuple_lawful split_13 B.lawful (tuple_lawful split_12 C.lawful (tuple_lawful split_11 D.lawful (tuple_lawful split_10 E.lawful (tuple_lawful split_9 F.lawful (tuple_lawful split_8 G.lawful (tuple_lawful split_7 H.lawful (tuple_lawful split_6 I.lawful (tuple_lawful split_5 J.lawful (tuple_lawful split_4 K.lawful (tuple_lawful split_3 L.lawful (both_lawful M.lawful N.lawful)))))))))))) };
 }
 
-impl<
-    A: Made,
-    B: Made,
-    C: Made,
-    D: Made,
-    E: Made,
-    F: Made,
-    G: Made,
-    H: Made,
-    I: Made,
-    J: Made,
-    K: Made,
-    L: Made,
-    M: Made,
-    N: Made,
-> Made for (A, B, C, D, E, F, G, H, I, J, K, L, M, N) {
-    ghost makes = { λ d t. ⟦<(A, (B, (C, (D, (E, (F, (G, (H, (I, (J, (K, (L, (M, N))))))))))))) as Made>⟧.makes d (pairs_14 t) };
+impl<A: Made, B: Made, C: Made, D: Made, E: Made, F: Made, G: Made, H: Made, I: Made, J: Made, K: Made, L: Made, M: Made, N: Made> Made for (A, B, C, D, E, F, G, H, I, J, K, L, M, N) {
+    ghost makes = { λ d t. ⟦<(A, (B, C, D, E, F, G, H, I, J, K, L, M, N)) as Made>⟧.makes d (split_14 t) };
 
-    ghost makeable = { image_makeable pairs_14 (λ g u h. (fields_14 u, refl)) (both_makeable A.makeable (both_makeable B.makeable (both_makeable C.makeable (both_makeable D.makeable (both_makeable E.makeable (both_makeable F.makeable (both_makeable G.makeable (both_makeable H.makeable (both_makeable I.makeable (both_makeable J.makeable (both_makeable K.makeable (both_makeable L.makeable (both_makeable M.makeable N.makeable))))))))))))) };
+    ghost makeable = { tuple_makeable split_14 joined_14 A.makeable (tuple_makeable split_13 joined_13 B.makeable (tuple_makeable split_12 joined_12 C.makeable (tuple_makeable split_11 joined_11 D.makeable (tuple_makeable split_10 joined_10 E.makeable (tuple_makeable split_9 joined_9 F.makeable (tuple_makeable split_8 joined_8 G.makeable (tuple_makeable split_7 joined_7 H.makeable (tuple_makeable split_6 joined_6 I.makeable (tuple_makeable split_5 joined_5 J.makeable (tuple_makeable split_4 joined_4 K.makeable (tuple_makeable split_3 joined_3 L.makeable (both_makeable M.makeable N.makeable)))))))))))) };
 }
 
-impl<
-    A: Shaped,
-    B: Shaped,
-    C: Shaped,
-    D: Shaped,
-    E: Shaped,
-    F: Shaped,
-    G: Shaped,
-    H: Shaped,
-    I: Shaped,
-    J: Shaped,
-    K: Shaped,
-    L: Shaped,
-    M: Shaped,
-    N: Shaped,
-    O: Shaped,
-> Shaped for (A, B, C, D, E, F, G, H, I, J, K, L, M, N, O) {
-    ghost shape = { ⟦<(A, (B, (C, (D, (E, (F, (G, (H, (I, (J, (K, (L, (M, (N, O)))))))))))))) as Shaped>⟧.shape };
+impl<A: Shaped, B: Shaped, C: Shaped, D: Shaped, E: Shaped, F: Shaped, G: Shaped, H: Shaped, I: Shaped, J: Shaped, K: Shaped, L: Shaped, M: Shaped, N: Shaped, O: Shaped> Shaped for (A, B, C, D, E, F, G, H, I, J, K, L, M, N, O) {
+    ghost shape = { ⟦<(A, (B, C, D, E, F, G, H, I, J, K, L, M, N, O)) as Shaped>⟧.shape };
 
-    ghost is_value = { λ t. ⟦<(A, (B, (C, (D, (E, (F, (G, (H, (I, (J, (K, (L, (M, (N, O)))))))))))))) as Shaped>⟧.is_value (pairs_15 t) };
+    ghost is_value = { λ t. ⟦<(A, (B, C, D, E, F, G, H, I, J, K, L, M, N, O)) as Shaped>⟧.is_value (split_15 t) };
 
-    ghost lists = { λ t. ⟦<(A, (B, (C, (D, (E, (F, (G, (H, (I, (J, (K, (L, (M, (N, O)))))))))))))) as Shaped>⟧.lists (pairs_15 t) };
+    ghost lists = { λ t. ⟦<(A, (B, C, D, E, F, G, H, I, J, K, L, M, N, O)) as Shaped>⟧.lists (split_15 t) };
 
-    ghost same = { λ t u. ⟦<(A, (B, (C, (D, (E, (F, (G, (H, (I, (J, (K, (L, (M, (N, O)))))))))))))) as Shaped>⟧.same (pairs_15 t) (pairs_15 u) };
+    ghost same = { λ t u. ⟦<(A, (B, C, D, E, F, G, H, I, J, K, L, M, N, O)) as Shaped>⟧.same (split_15 t) (split_15 u) };
 
-    ghost in_order = { ⟦<(A, (B, (C, (D, (E, (F, (G, (H, (I, (J, (K, (L, (M, (N, O)))))))))))))) as Shaped>⟧.in_order };
+    ghost in_order = { ⟦<(A, (B, C, D, E, F, G, H, I, J, K, L, M, N, O)) as Shaped>⟧.in_order };
 
     fn told(&self) {
         self.0.told();
@@ -389,58 +240,25 @@ impl<
         self.14.told();
     }
 
-    ghost lawful = { image_lawful pairs_15 (both_lawful A.lawful (both_lawful B.lawful (both_lawful C.lawful (both_lawful D.lawful (both_lawful E.lawful (both_lawful F.lawful (both_lawful G.lawful (both_lawful H.lawful (both_lawful I.lawful (both_lawful J.lawful (both_lawful K.lawful (both_lawful L.lawful (both_lawful M.lawful (both_lawful N.lawful O.lawful)))))))))))))) };
+    ghost lawful = { tuple_lawful split_15 A.lawful (tuple_lawful split_14 B.lawful (tuple_lawful split_13 C.lawful (tuple_lawful split_12 D.lawful (tuple_lawful split_11 E.lawful (tuple_lawful split_10 F.lawful (tuple_lawful split_9 G.lawful (tuple_lawful split_8 H.lawful (tuple_lawful split_7 I.lawful (tuple_lawful split_6 J.lawful (tuple_lawful split_5 K.lawful (tuple_lawful split_4 L.lawful (tuple_lawful split_3 M.lawful (both_lawful N.lawful O.lawful))))))))))))) };
 }
 
-impl<
-    A: Made,
-    B: Made,
-    C: Made,
-    D: Made,
-    E: Made,
-    F: Made,
-    G: Made,
-    H: Made,
-    I: Made,
-    J: Made,
-    K: Made,
-    L: Made,
-    M: Made,
-    N: Made,
-    O: Made,
-> Made for (A, B, C, D, E, F, G, H, I, J, K, L, M, N, O) {
-    ghost makes = { λ d t. ⟦<(A, (B, (C, (D, (E, (F, (G, (H, (I, (J, (K, (L, (M, (N, O)))))))))))))) as Made>⟧.makes d (pairs_15 t) };
+impl<A: Made, B: Made, C: Made, D: Made, E: Made, F: Made, G: Made, H: Made, I: Made, J: Made, K: Made, L: Made, M: Made, N: Made, O: Made> Made for (A, B, C, D, E, F, G, H, I, J, K, L, M, N, O) {
+    ghost makes = { λ d t. ⟦<(A, (B, C, D, E, F, G, H, I, J, K, L, M, N, O)) as Made>⟧.makes d (split_15 t) };
 
-    ghost makeable = { image_makeable pairs_15 (λ g u h. (fields_15 u, refl)) (both_makeable A.makeable (both_makeable B.makeable (both_makeable C.makeable (both_makeable D.makeable (both_makeable E.makeable (both_makeable F.makeable (both_makeable G.makeable (both_makeable H.makeable (both_makeable I.makeable (both_makeable J.makeable (both_makeable K.makeable (both_makeable L.makeable (both_makeable M.makeable (both_makeable N.makeable O.makeable)))))))))))))) };
+    ghost makeable = { tuple_makeable split_15 joined_15 A.makeable (tuple_makeable split_14 joined_14 B.makeable (tuple_makeable split_13 joined_13 C.makeable (tuple_makeable split_12 joined_12 D.makeable (tuple_makeable split_11 joined_11 E.makeable (tuple_makeable split_10 joined_10 F.makeable (tuple_makeable split_9 joined_9 G.makeable (tuple_makeable split_8 joined_8 H.makeable (tuple_makeable split_7 joined_7 I.makeable (tuple_makeable split_6 joined_6 J.makeable (tuple_makeable split_5 joined_5 K.makeable (tuple_makeable split_4 joined_4 L.makeable (tuple_makeable split_3 joined_3 M.makeable (both_makeable N.makeable O.makeable))))))))))))) };
 }
 
-impl<
-    A: Shaped,
-    B: Shaped,
-    C: Shaped,
-    D: Shaped,
-    E: Shaped,
-    F: Shaped,
-    G: Shaped,
-    H: Shaped,
-    I: Shaped,
-    J: Shaped,
-    K: Shaped,
-    L: Shaped,
-    M: Shaped,
-    N: Shaped,
-    O: Shaped,
-    P: Shaped,
-> Shaped for (A, B, C, D, E, F, G, H, I, J, K, L, M, N, O, P) {
-    ghost shape = { ⟦<(A, (B, (C, (D, (E, (F, (G, (H, (I, (J, (K, (L, (M, (N, (O, P))))))))))))))) as Shaped>⟧.shape };
+impl<A: Shaped, B: Shaped, C: Shaped, D: Shaped, E: Shaped, F: Shaped, G: Shaped, H: Shaped, I: Shaped, J: Shaped, K: Shaped, L: Shaped, M: Shaped, N: Shaped, O: Shaped, P: Shaped> Shaped for (A, B, C, D, E, F, G, H, I, J, K, L, M, N, O, P) {
+    ghost shape = { ⟦<(A, (B, C, D, E, F, G, H, I, J, K, L, M, N, O, P)) as Shaped>⟧.shape };
 
-    ghost is_value = { λ t. ⟦<(A, (B, (C, (D, (E, (F, (G, (H, (I, (J, (K, (L, (M, (N, (O, P))))))))))))))) as Shaped>⟧.is_value (pairs_16 t) };
+    ghost is_value = { λ t. ⟦<(A, (B, C, D, E, F, G, H, I, J, K, L, M, N, O, P)) as Shaped>⟧.is_value (split_16 t) };
 
-    ghost lists = { λ t. ⟦<(A, (B, (C, (D, (E, (F, (G, (H, (I, (J, (K, (L, (M, (N, (O, P))))))))))))))) as Shaped>⟧.lists (pairs_16 t) };
+    ghost lists = { λ t. ⟦<(A, (B, C, D, E, F, G, H, I, J, K, L, M, N, O, P)) as Shaped>⟧.lists (split_16 t) };
 
-    ghost same = { λ t u. ⟦<(A, (B, (C, (D, (E, (F, (G, (H, (I, (J, (K, (L, (M, (N, (O, P))))))))))))))) as Shaped>⟧.same (pairs_16 t) (pairs_16 u) };
+    ghost same = { λ t u. ⟦<(A, (B, C, D, E, F, G, H, I, J, K, L, M, N, O, P)) as Shaped>⟧.same (split_16 t) (split_16 u) };
 
-    ghost in_order = { ⟦<(A, (B, (C, (D, (E, (F, (G, (H, (I, (J, (K, (L, (M, (N, (O, P))))))))))))))) as Shaped>⟧.in_order };
+    ghost in_order = { ⟦<(A, (B, C, D, E, F, G, H, I, J, K, L, M, N, O, P)) as Shaped>⟧.in_order };
 
     fn told(&self) {
         self.0.told();
@@ -461,28 +279,11 @@ impl<
         self.15.told();
     }
 
-    ghost lawful = { image_lawful pairs_16 (both_lawful A.lawful (both_lawful B.lawful (both_lawful C.lawful (both_lawful D.lawful (both_lawful E.lawful (both_lawful F.lawful (both_lawful G.lawful (both_lawful H.lawful (both_lawful I.lawful (both_lawful J.lawful (both_lawful K.lawful (both_lawful L.lawful (both_lawful M.lawful (both_lawful N.lawful (both_lawful O.lawful P.lawful))))))))))))))) };
+    ghost lawful = { tuple_lawful split_16 A.lawful (tuple_lawful split_15 B.lawful (tuple_lawful split_14 C.lawful (tuple_lawful split_13 D.lawful (tuple_lawful split_12 E.lawful (tuple_lawful split_11 F.lawful (tuple_lawful split_10 G.lawful (tuple_lawful split_9 H.lawful (tuple_lawful split_8 I.lawful (tuple_lawful split_7 J.lawful (tuple_lawful split_6 K.lawful (tuple_lawful split_5 L.lawful (tuple_lawful split_4 M.lawful (tuple_lawful split_3 N.lawful (both_lawful O.lawful P.lawful)))))))))))))) };
 }
 
-impl<
-    A: Made,
-    B: Made,
-    C: Made,
-    D: Made,
-    E: Made,
-    F: Made,
-    G: Made,
-    H: Made,
-    I: Made,
-    J: Made,
-    K: Made,
-    L: Made,
-    M: Made,
-    N: Made,
-    O: Made,
-    P: Made,
-> Made for (A, B, C, D, E, F, G, H, I, J, K, L, M, N, O, P) {
-    ghost makes = { λ d t. ⟦<(A, (B, (C, (D, (E, (F, (G, (H, (I, (J, (K, (L, (M, (N, (O, P))))))))))))))) as Made>⟧.makes d (pairs_16 t) };
+impl<A: Made, B: Made, C: Made, D: Made, E: Made, F: Made, G: Made, H: Made, I: Made, J: Made, K: Made, L: Made, M: Made, N: Made, O: Made, P: Made> Made for (A, B, C, D, E, F, G, H, I, J, K, L, M, N, O, P) {
+    ghost makes = { λ d t. ⟦<(A, (B, C, D, E, F, G, H, I, J, K, L, M, N, O, P)) as Made>⟧.makes d (split_16 t) };
 
-    ghost makeable = { image_makeable pairs_16 (λ g u h. (fields_16 u, refl)) (both_makeable A.makeable (both_makeable B.makeable (both_makeable C.makeable (both_makeable D.makeable (both_makeable E.makeable (both_makeable F.makeable (both_makeable G.makeable (both_makeable H.makeable (both_makeable I.makeable (both_makeable J.makeable (both_makeable K.makeable (both_makeable L.makeable (both_makeable M.makeable (both_makeable N.makeable (both_makeable O.makeable P.makeable))))))))))))))) };
+    ghost makeable = { tuple_makeable split_16 joined_16 A.makeable (tuple_makeable split_15 joined_15 B.makeable (tuple_makeable split_14 joined_14 C.makeable (tuple_makeable split_13 joined_13 D.makeable (tuple_makeable split_12 joined_12 E.makeable (tuple_makeable split_11 joined_11 F.makeable (tuple_makeable split_10 joined_10 G.makeable (tuple_makeable split_9 joined_9 H.makeable (tuple_makeable split_8 joined_8 I.makeable (tuple_makeable split_7 joined_7 J.makeable (tuple_makeable split_6 joined_6 K.makeable (tuple_makeable split_5 joined_5 L.makeable (tuple_makeable split_4 joined_4 M.makeable (tuple_makeable split_3 joined_3 N.makeable (both_makeable O.makeable P.makeable)))))))))))))) };
 }
