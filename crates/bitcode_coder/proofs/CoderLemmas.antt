@@ -20,7 +20,7 @@ use Rattle.bitcode_columns.proofs.DigitLemmas.{digits_fault-refuses}
 use Rattle.bitcode_columns.proofs.IntLemmas.{ints_fault-refuses}
 use Rattle.bitcode_columns.proofs.NumberLemmas.{IsNumber-number_of}
 use Rattle.bitcode_shapes.specs.Datum.{Datum, number, natural_in, number_in}
-use Rattle.bitcode_shapes.specs.Shape.{Shape, IsInWidth, IsNumberOf, IsNaturalBelow, bool_shape, any_number}
+use Rattle.bitcode_shapes.specs.Shape.{Shape, Allowed, IsInWidth, IsAllowed, IsNumberOf, IsNaturalBelow, bool_shape, any_number}
 use Rattle.bitcode_shapes.specs.Values.{int_shape}
 use Rattle.bitcode_coder.specs.Columns.{Kind, one, beside}
 use Rattle.bitcode_coder.specs.Spelling.{Spells, SpellsAs, truth, number_of_residue}
@@ -102,7 +102,7 @@ ints_refused_err r width signed count input named =
 
 -- ---- read
 
-reads_of : {Entry : Type 0} (shape : Shape) (datum : Entry → Datum) (SpellsEntries : List ℕ → List Entry → Type 0)
+pub reads_of : {Entry : Type 0} (shape : Shape) (datum : Entry → Datum) (SpellsEntries : List ℕ → List Entry → Type 0)
     (count : ℕ) (old : List ℕ) (entries : List Entry) (new : List ℕ) → Reads SpellsEntries count old entries new
     → ((piece : List ℕ) → SpellsEntries piece entries → Spells shape piece (map datum entries))
     → Reads (Spells shape) count old (map datum entries) new
@@ -132,19 +132,20 @@ in_width width false (negsuc n) h = h
 in_width width true (pos n) h = h
 in_width width true (negsuc n) h = h
 
-some_width : (width : ℕ) → IsWidth width → 1 ≤ width
+pub some_width : (width : ℕ) → IsWidth width → 1 ≤ width
 some_width width (inl e) = omega arith
 some_width width (inr (inl e)) = omega arith
 some_width width (inr (inr (inl e))) = omega arith
 some_width width (inr (inr (inr (inl e)))) = omega arith
 some_width width (inr (inr (inr (inr e)))) = omega arith
 
-number_is : (width : ℕ) (signed : Bool) (n : ℕ) → 1 ≤ width → n < 256 ^ width → IsNumberOf width signed any_number (number_of_residue width signed n)
-number_is width signed n positive h = record {
+pub number_is : (width : ℕ) (signed : Bool) (allowed : Allowed) (n : ℕ) → 1 ≤ width → n < 256 ^ width → IsAllowed allowed (number_of width signed n)
+    → IsNumberOf width signed allowed (number_of_residue width signed n)
+number_is width signed allowed n positive h kept = record {
   value = number_of width signed n;
   is = refl;
   in_width = in_width width signed (number_of width signed n) (IsNumber-number_of width signed n positive h);
-  in_allowed = tt;
+  in_allowed = kept;
 }
 
 -- entries that stand for residues
@@ -156,7 +157,7 @@ ints_read residue_of width signed count old entries new known r below =
     (map-map (number_of_residue width signed) residue_of entries)
     (reads_of (int_shape width signed) (number_of_residue width signed) (SpellsInts width) count old (map residue_of entries) new r (λ piece s. record {
       of_shape = All-map (IsNumberOf width signed any_number) (number_of_residue width signed) (map residue_of entries)
-          (λ k d h. number_is width signed _ (some_width width known) (below k d h));
+          (λ k d h. number_is width signed any_number _ (some_width width known) (below k d h) tt);
       counts = tt;
       columns = record { entries = map residue_of entries; are = refl; spelled = record { spelled = s; in_width = below } };
     }))

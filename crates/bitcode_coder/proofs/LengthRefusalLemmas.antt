@@ -17,7 +17,7 @@ use Rattle.bitcode_coder.proofs.CoderLemmas.{ints_refused}
 use Rattle.bitcode_coder.proofs.LengthLemmas.{length-lengths_from}
 
 -- two readings of so many entries from one input
-reads_once : {Entry : Type 0} {Spelled : List ℕ → List Entry → Type 0} {count : ℕ} {input rest left : List ℕ} {entries others : List Entry}
+pub reads_once : {Entry : Type 0} {Spelled : List ℕ → List Entry → Type 0} {count : ℕ} {input rest left : List ℕ} {entries others : List Entry}
     → IsReadOnce Spelled → Reads Spelled count input entries rest → Reads Spelled count input others left → (entries ≡ others) × (rest ≡ left)
 reads_once {rest = rest} {left = left} {entries = entries} {others = others} law r s =
     law.once r.piece s.piece entries others rest left r.spelled s.spelled (r.size ∙ sym s.size) (sym r.whole ∙ s.whole)

@@ -4,9 +4,14 @@ pub mod LengthLemmas
 pub mod LengthPartLemmas
 pub mod LengthRefusalLemmas
 pub mod TextLemmas
+pub mod JoinedTextLemmas
+pub mod TextCoderLemmas
+pub mod CheckedLemmas
 pub mod ColumnLemmas
 pub mod TranspositionLemmas
 pub mod DatumLemmas
 pub mod SpellingLemmas
 pub mod RowLemmas
 pub mod LawLemmas
+pub mod CountLemmas
+pub mod RefusalLemmas

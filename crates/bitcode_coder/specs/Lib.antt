@@ -3,6 +3,10 @@ pub mod LengthColumn
 pub mod LengthParts
 pub mod LengthCoders
 pub mod TextColumn
+pub mod JoinedTexts
+pub mod TextParts
+pub mod RawBytes
+pub mod CheckedColumn
 pub mod Columns
 pub mod Transposition
 pub mod Spelling

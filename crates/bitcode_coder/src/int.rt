@@ -63,6 +63,30 @@ impl Integer for u32 {
     ghost integer_lists = { λ t. refl };
 }
 
+impl Integer for u64 {
+    ghost integer_shape = { refl };
+
+    ghost integer_makes = { λ t. refl };
+
+    ghost integer_lists = { λ t. refl };
+}
+
+impl Integer for u128 {
+    ghost integer_shape = { refl };
+
+    ghost integer_makes = { λ t. refl };
+
+    ghost integer_lists = { λ t. refl };
+}
+
+impl Integer for usize {
+    ghost integer_shape = { refl };
+
+    ghost integer_makes = { λ t. refl };
+
+    ghost integer_lists = { λ t. refl };
+}
+
 impl Integer for i8 {
     ghost integer_shape = { refl };
 
@@ -80,6 +104,30 @@ impl Integer for i16 {
 }
 
 impl Integer for i32 {
+    ghost integer_shape = { refl };
+
+    ghost integer_makes = { λ t. refl };
+
+    ghost integer_lists = { λ t. refl };
+}
+
+impl Integer for i64 {
+    ghost integer_shape = { refl };
+
+    ghost integer_makes = { λ t. refl };
+
+    ghost integer_lists = { λ t. refl };
+}
+
+impl Integer for i128 {
+    ghost integer_shape = { refl };
+
+    ghost integer_makes = { λ t. refl };
+
+    ghost integer_lists = { λ t. refl };
+}
+
+impl Integer for isize {
     ghost integer_shape = { refl };
 
     ghost integer_makes = { λ t. refl };

@@ -1,10 +1,11 @@
 // What holds of the columns of data, whatever the data are. A call does nothing: its contract is the law.
-ghost use Rattle.std.specs.Prelude.{List};
+ghost use Rattle.std.specs.Prelude.{ℕ, List};
 ghost use Rattle.bitcode_columns.specs.Laws.{IsReadOnce};
 ghost use Rattle.bitcode_shapes.specs.Datum.{Datum};
 ghost use Rattle.bitcode_shapes.specs.Shape.{Shape, IsSound};
 ghost use Rattle.bitcode_coder.specs.Columns.{Kind, IsSoundKind};
 ghost use Rattle.bitcode_coder.specs.Spelling.{Spells, SpellsColumn};
+ghost use Rattle.bitcode_coder.specs.JoinedTexts.{AreUtf8AsJoined};
 ghost use Rattle.bitcode_coder.specs.Laws.{ReadsBackColumn, ColumnTakesAnEighth, ReadsBackData, DataTakeAnEighth, JoinsColumnByColumn, TreeIsList};
 
 /// A column of any kind: what is written is read back whatever follows it, an input is read in at most one way, no
@@ -47,4 +48,14 @@ pub fn joined_data()
 /// ```
 pub fn tree_and_list()
     ensures { (shape : Shape) (ds : List Datum) → TreeIsList shape ds }
+{}
+
+/// Texts are UTF-8, each for itself, exactly where their joined bytes are and each text but for the last ends where a
+/// character begins: so a reader looks at the joined bytes once.
+///
+/// ```
+/// joined_texts();
+/// ```
+pub fn joined_texts()
+    ensures { (texts : List (List ℕ)) → AreUtf8AsJoined texts }
 {}

@@ -2,8 +2,11 @@
 #![tactic(auto)]
 
 pub mod bool;
+pub mod checked;
 pub mod coder;
 pub mod int;
 pub mod laws;
 pub mod length;
 pub mod result;
+pub mod str;
+pub mod u8_char;

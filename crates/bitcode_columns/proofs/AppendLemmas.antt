@@ -1,7 +1,7 @@
 -- What was appended is the text of the column.
 use Rattle.std.proofs.Common.{◌≡◌, ℕ, ◌-◌, ◌%◌, ◌^◌, ◌<◌, ◌≤◌, Bool, true, false, eqb, ◌||◌, ◌&&◌, ℤ, pos, List, [], ◌∷◌, ◌++◌, length, map, get_or, All, Result, Ok, Err, OnOk, Option, Some, IfSome, sym, ap, ◌∙◌, subst, arith, append_assoc, mod-eq_of_lt}
 use Rattle.std.proofs.lemmas.Bool.{cond-true, cond-false, eq-eqb, ne_eqb, and_parts, and_from, ltb-true, lt-ltb, true≢false}
-use Rattle.std.proofs.lemmas.List.{length-map, append-nil}
+use Rattle.std.proofs.lemmas.List.{length-map}
 use Rattle.std.proofs.lemmas.Simd.{map-map}
 use Rattle.std.proofs.Math.Nat.{zero-mod}
 use Rattle.bitcode_columns.specs.LittleEndian.{number_bytes, raw_text}
@@ -11,7 +11,7 @@ use Rattle.bitcode_columns.specs.IntColumn.{IsWidth, halvings, int_text, int_tex
 use Rattle.bitcode_columns.specs.Tagged.{tag_of, tagged_text}
 use Rattle.std.specs.Prelude.{◌≤ℤ◌, nat_lt}
 use Rattle.std.proofs.lemmas.List.Elements.{All-map}
-use Rattle.bitcode_columns.specs.Narrowing.{above, plain_width, shifted_width, IsFrontOf}
+use Rattle.bitcode_columns.specs.Narrowing.{above, plain_width, shifted_width}
 use Rattle.bitcode_columns.proofs.NumberLemmas.{number_of-residue, residue_below}
 use Rattle.bitcode_columns.proofs.NarrowLemmas.{above_zero}
 use Rattle.bitcode_columns.proofs.WrittenLemmas.{map_within, in_order, shifted_text_is, plain_text_is}
@@ -104,9 +104,6 @@ raw_residues uwidth width base signed f xs same none h =
     subst (λ w. P w base) (sym same) (subst (P width) (sym none) plain)
 
 -- ---- what was there stays
-
-pub front-same : (front whole : List ℕ) → whole ≡ front → IsFrontOf front whole
-front-same front whole e = record { more = []; joined = e ∙ sym (append-nil front) }
 
 -- ---- what the writer of a tagged column found
 

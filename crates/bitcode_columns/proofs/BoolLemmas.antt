@@ -2,20 +2,16 @@
 use Rattle.std.proofs.Common.{◌≡◌, ◌<◌, Bool, true, false, eqb, List, [], ◌∷◌, length, map, get_or, refl, sym, ap, ◌∙◌, arith}
 use Rattle.std.proofs.lemmas.List.{length-map}
 use Rattle.std.proofs.lemmas.List.Elements.{All-map}
-use Rattle.std.specs.Int.{div_ceil}
 use Rattle.bitcode_columns.specs.declared.pack.Base.TheVariants.{Two}
 use Rattle.bitcode_columns.specs.BoolColumn.{SpellsBools, bool_text, bool_number}
 use Rattle.bitcode_columns.specs.Digits.{digits_text}
 use Rattle.bitcode_columns.specs.Reading.{bools_fault}
 use Rattle.bitcode_columns.specs.Laws.{IsReadOnce, TakesAnEighth, IsFaultOf}
-use Rattle.bitcode_columns.proofs.DigitLemmas.{size-digits_text, SpellsDigits-once, SpellsDigits-eighth, digits_text-spells, digits_fault-refuses}
+use Rattle.bitcode_columns.proofs.DigitLemmas.{SpellsDigits-once, SpellsDigits-eighth, digits_text-spells, digits_fault-refuses}
 
 pub bool_text-is : (entries : List Bool) → bool_text entries ≡ digits_text Two (map bool_number entries)
 unfolding bool_text
 bool_text-is entries = refl
-
-pub length-bool_text : (entries : List Bool) → length (bool_text entries) ≡ div_ceil (length entries) 8
-length-bool_text entries = ap length (bool_text-is entries) ∙ size-digits_text Two (map bool_number entries) ∙ ap (λ n. div_ceil n 8) (length-map entries bool_number)
 
 bools_found : (bs : List Bool) → map (λ n. eqb n 1) (map bool_number bs) ≡ bs
 bools_found [] = refl

@@ -7,21 +7,13 @@ use Rattle.std.proofs.lemmas.List.Elements.{All-head, All-tail}
 use Rattle.std.proofs.Math.Nat.{pow-zero, div-one, mod-eq_of_lt}
 use Rattle.bitcode_columns.specs.declared.error.Reason.{Reason}
 use Rattle.bitcode_columns.specs.declared.pack.Base.{Base}
-use Rattle.bitcode_columns.specs.declared.pack.Base.TheVariants.{Whole, Sixteen, Six, Four, Three, Two}
+use Rattle.bitcode_columns.specs.declared.pack.Base.TheVariants.{Whole}
 use Rattle.bitcode_columns.specs.ByteColumn.{base_at_level, SpellsBytes}
 use Rattle.bitcode_columns.specs.ByteForm.{TellsForm}
-use Rattle.bitcode_columns.specs.Digits.{radix, SpellsDigits}
+use Rattle.bitcode_columns.specs.Digits.{SpellsDigits}
 use Rattle.bitcode_columns.specs.LittleEndian.{little_endian}
 use Rattle.bitcode_columns.specs.Reading.{Reads, IsEndOf, digits_fault, bytes_fault, bytes_stand_raw}
 use Rattle.bitcode_columns.specs.Tagged.{level_of_tag}
-
-pub radix_at_most : (base : Base) → radix base ≤ 256
-radix_at_most Whole = omega arith
-radix_at_most Sixteen = omega arith
-radix_at_most Six = omega arith
-radix_at_most Four = omega arith
-radix_at_most Three = omega arith
-radix_at_most Two = omega arith
 
 pub TellsForm-plain : (tag : ℕ) (input rest : List ℕ) (base : Base) → tag ≤ 10 → tag % 2 ≢ 1 → input ≡ tag ∷ rest
     → base ≡ base_at_level ((tag + 1) / 2) → TellsForm input base 0 rest

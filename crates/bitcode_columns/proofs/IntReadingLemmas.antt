@@ -1,9 +1,8 @@
 -- A tagged column of integers is read by its header.
-use Rattle.std.proofs.Common.{◌≡◌, ◌≢◌, ℕ, zero, suc, ◌+◌, ◌*◌, ◌/◌, ◌%◌, ◌^◌, ◌<◌, ◌≤◌, ◌⊎◌, ◌||◌, ◌&&◌, true, false, Bool, cond, eqb, List, [], ◌∷◌, ◌++◌, length, map, take, drop, All, Option, MatchBool, inl, inr, refl, sym, ap, ◌∙◌, subst, arith, append_assoc, length-append, take-append-drop}
-use Rattle.std.proofs.Math.Nat.{mul-zero, mul-one, mod-eq_of_lt, mod-lt, div-one}
-use Rattle.std.proofs.lemmas.Bool.{cond-false, cond-true, le-ltb, eq-eqb, ne_eqb, eqb-true}
-use Rattle.std.proofs.lemmas.Bool.Decides.{nat_tests}
-use Rattle.std.proofs.lemmas.List.{drop_at, get_or_append_left, length-map, length-take-le, nil_from_length, take_all}
+use Rattle.std.proofs.Common.{◌≡◌, ◌≢◌, ℕ, zero, suc, ◌+◌, ◌*◌, ◌/◌, ◌%◌, ◌^◌, ◌<◌, ◌≤◌, ◌||◌, ◌&&◌, true, false, Bool, cond, eqb, List, [], ◌∷◌, ◌++◌, length, map, take, drop, All, Option, MatchBool, inl, inr, refl, sym, ap, ◌∙◌, subst, arith, append_assoc, length-append}
+use Rattle.std.proofs.Math.Nat.{mul-zero, mod-eq_of_lt, mod-lt, div-one}
+use Rattle.std.proofs.lemmas.Bool.{cond-false, le-ltb, ne_eqb, eqb-true}
+use Rattle.std.proofs.lemmas.List.{drop_at, get_or_append_left, length-map, nil_from_length, take_all}
 use Rattle.std.proofs.lemmas.List.Elements.{All-head, All-tail, All-map}
 use Rattle.std.specs.Simd.{first_chunks}
 use Rattle.bitcode_columns.specs.declared.error.Reason.{Reason}
@@ -19,25 +18,6 @@ use Rattle.bitcode_columns.proofs.ByteReadingLemmas.{TellsForm-plain, whole_behi
 use Rattle.bitcode_columns.proofs.IntLemmas.{at_width}
 use Rattle.bitcode_columns.proofs.UnalignedLemmas.{first_chunks_spell}
 use Rattle.bitcode_columns.proofs.WideningLemmas.{some_numbers}
-
-pub TellsLevel-plain : (width highest tag level : ℕ) (input rest : List ℕ) → tag ≤ highest → tag % 2 ≢ 1 → input ≡ tag ∷ rest
-    → level ≡ level_of_tag tag → TellsLevel width highest input level 0 rest
-TellsLevel-plain width highest tag level input rest known even whole is =
-    let none : tag % 2 ≡ 0 = omega arith in
-    record { tag = tag; least_bytes = []; known = known; least_size = rw none (sym (mul-zero width)); whole = whole; level_is = is; least_is = refl }
-
-pub TellsLevel-shifted : (width highest tag level least : ℕ) (input behind rest : List ℕ) → tag ≤ highest → tag % 2 ≡ 1 → input ≡ tag ∷ behind
-    → width ≤ length behind → least ≡ little_endian (take width behind) → rest ≡ drop width behind → level ≡ level_of_tag tag
-    → TellsLevel width highest input level least rest
-TellsLevel-shifted width highest tag level least input behind rest known odd whole enough least_is rest_is is = record {
-  tag = tag;
-  least_bytes = take width behind;
-  known = known;
-  least_size = length-take-le width behind enough ∙ (sym (mul-one width) ∙ ap (λ n. width * n) (sym odd));
-  whole = whole ∙ ap (λ xs. tag ∷ xs) (sym (take-append-drop width behind) ∙ ap (λ xs. take width behind ++ xs) (sym rest_is));
-  level_is = is;
-  least_is = least_is;
-}
 
 module _ (width highest level least : ℕ) (input rest : List ℕ) (header : TellsLevel width highest input level least rest) where
   pub fault_behind_header : (narrow : ℕ → List ℕ → Option Reason) → tagged_fault width highest narrow input ≡ narrow level rest
@@ -101,25 +81,6 @@ ReadsWidened-raw width least narrow count input bytes rest entries h size whole 
     }
 
 -- ---- the forms of a column
-
-pub form_bytes : (width count : ℕ) → width ≡ 1 → int_form width count ≡ bytes_form
-form_bytes width count one = cond-true _ _ _ (eq-eqb width 1 one)
-
-pub form_bare : (width count : ℕ) → width ≢ 1 → (count ≡ 0) ⊎ ((width ≡ 2) × (count ≡ 1)) → int_form width count ≡ bare_form
-form_bare width count many few = grind (arith, nat_tests)
-
-pub form_tagged : (width count : ℕ) → width ≢ 1 → count ≢ 0 → ((width ≡ 2) × (count ≡ 1) → ⊥) → int_form width count ≡ tagged_form
-form_tagged width count many some more = grind (arith, nat_tests)
-
--- a column of a form is read as one of its integers
-pub Reads-in_form : (form : IntForm) (width count : ℕ) (old entries new : List ℕ) → int_form width count ≡ form
-    → Reads (SpellsIntsAs form width) count old entries new → Reads (SpellsInts width) count old entries new
-Reads-in_form form width count old entries new is read = record {
-  size = read.size;
-  piece = read.piece;
-  whole = read.whole;
-  spelled = subst (λ f. SpellsIntsAs f width read.piece entries) (sym (ap (int_form width) read.size ∙ is)) read.spelled;
-}
 
 -- ---- entries that stand as they are
 

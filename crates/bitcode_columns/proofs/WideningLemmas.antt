@@ -1,8 +1,7 @@
 -- Narrow numbers are read, and widened by the least entry.
-use Rattle.std.proofs.Common.{◌≡◌, ℕ, zero, suc, ◌+◌, ◌-◌, ◌*◌, ◌%◌, ◌^◌, ◌<◌, ◌≤◌, Bool, ℤ, List, [], ◌∷◌, ◌++◌, length, map, take, drop, sym, ap, ◌∙◌, subst, arith, length-drop, add-one}
+use Rattle.std.proofs.Common.{◌≡◌, ℕ, zero, suc, ◌+◌, ◌*◌, ◌%◌, ◌^◌, ◌<◌, Bool, ℤ, List, [], ◌∷◌, ◌++◌, map, take, drop, sym, ap, ◌∙◌, subst, arith, add-one}
 use Rattle.std.proofs.Math.Nat.{add-mod, mod-mod, mod-lt, one-le-pow}
 use Rattle.std.proofs.lemmas.List.{map-append, drop-drop}
-use Rattle.std.proofs.lemmas.Nat.{row_fits}
 use Rattle.std.specs.Simd.{first_chunks}
 use Rattle.bitcode_columns.specs.LittleEndian.{little_endian, number_bytes}
 use Rattle.bitcode_columns.specs.Numbers.{residue, number_of}
@@ -57,10 +56,3 @@ pub rest_more : (size i : ℕ) (bytes rest behind : List ℕ) → rest ≡ drop 
 rest_more size i bytes rest behind rest_is behind_is =
     let e : (i + 1) * size ≡ i * size + size = omega arith in
     behind_is ∙ ap (drop size) rest_is ∙ drop-drop size (i * size) bytes ∙ ap (λ n. drop n bytes) (sym e)
-
--- a number is left as long as not all were read
-pub number_left : (size i count : ℕ) (bytes rest : List ℕ) → length bytes ≡ count * size → i < count → rest ≡ drop (i * size) bytes → length rest < size → ⊥
-number_left size i count bytes rest all more rest_is short =
-    let e : length rest ≡ count * size - i * size = ap length rest_is ∙ (length-drop (i * size) bytes ∙ ap (λ n. n - i * size) all) in
-    let least : i * size + size ≤ count * size = row_fits i size count size more (omega arith) in
-    omega arith

@@ -9,7 +9,9 @@ use crate::consume::consume_byte_arrays;
 use crate::error::{Error, Reason};
 
 mod signed;
+mod sizes;
 mod unsigned;
+mod wide;
 
 /// An unsigned integer of a fixed width: what an [`Int`] of that width is modulo a power of 256.
 pub trait SizedUInt: Copy {
@@ -146,8 +148,8 @@ pub trait Byte: SizedInt {
 }
 
 // Each byte is below 256.
-fn are_bytes(_bytes: &[u8])
-    ensures { All (λ b. b < 256) _bytes.now }
+pub(crate) fn known_bytes(_bytes: &[u8])
+    ensures { All (λ byte. byte < 256) _bytes.now }
 {}
 
 // Takes `count` arrays of `N` bytes, which are the bytes of numbers.
@@ -164,7 +166,7 @@ fn consume_numbers<'a, const N: usize>(
     ensures spelled { IfOk result (λ entries. SpellsRaw N (take (count * N) input.old.now) (map little_endian entries.now)) }
     ensures rest { OnOk result (input.new.now ≡ drop (count * N) input.old.now) }
 {
-    are_bytes(input);
+    known_bytes(input);
     let arrays = consume_byte_arrays(input, count)?;
     Ok(arrays)
 }

@@ -1,10 +1,17 @@
-// The coders of bools, integers, the unit and pairs.
+// The coders of bools, the unit and pairs; those of other types stand in the modules by subject.
 use crate::derive::{Decode, DecodeOwned, Encode};
 use bitcode_coder::bool::{BoolDecoder, BoolEncoder};
-use bitcode_coder::int::{IntDecoder, IntEncoder};
 use bitcode_parts::empty::EmptyCoder;
 use bitcode_tuples::decoder::TupleDecoder;
 use bitcode_tuples::encoder::TupleEncoder;
+
+mod arrays;
+mod checked;
+mod choices;
+mod durations;
+mod ints;
+mod sequences;
+mod texts;
 
 impl Encode for bool {
     type Encoder = BoolEncoder;
@@ -15,66 +22,6 @@ impl<'a> Decode<'a> for bool {
 }
 
 impl DecodeOwned for bool {}
-
-impl Encode for u8 {
-    type Encoder = IntEncoder<u8>;
-}
-
-impl<'a> Decode<'a> for u8 {
-    type Decoder = IntDecoder<'a, u8>;
-}
-
-impl DecodeOwned for u8 {}
-
-impl Encode for u16 {
-    type Encoder = IntEncoder<u16>;
-}
-
-impl<'a> Decode<'a> for u16 {
-    type Decoder = IntDecoder<'a, u16>;
-}
-
-impl DecodeOwned for u16 {}
-
-impl Encode for u32 {
-    type Encoder = IntEncoder<u32>;
-}
-
-impl<'a> Decode<'a> for u32 {
-    type Decoder = IntDecoder<'a, u32>;
-}
-
-impl DecodeOwned for u32 {}
-
-impl Encode for i8 {
-    type Encoder = IntEncoder<i8>;
-}
-
-impl<'a> Decode<'a> for i8 {
-    type Decoder = IntDecoder<'a, i8>;
-}
-
-impl DecodeOwned for i8 {}
-
-impl Encode for i16 {
-    type Encoder = IntEncoder<i16>;
-}
-
-impl<'a> Decode<'a> for i16 {
-    type Decoder = IntDecoder<'a, i16>;
-}
-
-impl DecodeOwned for i16 {}
-
-impl Encode for i32 {
-    type Encoder = IntEncoder<i32>;
-}
-
-impl<'a> Decode<'a> for i32 {
-    type Decoder = IntDecoder<'a, i32>;
-}
-
-impl DecodeOwned for i32 {}
 
 impl Encode for () {
     type Encoder = EmptyCoder;

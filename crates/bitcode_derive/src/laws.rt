@@ -1,9 +1,17 @@
 // What follows from the contracts of the whole calls. A call only looks at its values: its contract is the law.
-ghost use Rattle.std.specs.Prelude.{◌≡◌, IsTrue};
+ghost use Rattle.std.specs.Prelude.{◌≡◌, ◌≢◌, ◌<◌, [], ◌∷◌, slice_index, IsTrue, IfErr};
+ghost use Rattle.bitcode_shapes.specs.Datum.{Datum};
+ghost use Rattle.bitcode_coder.specs.Columns.{CountsFit};
 ghost use Rattle.bitcode_coder.specs.Spelling.{LengthsBelowLimit};
-ghost use Rattle.bitcode_derive.specs.Whole.{columns_of_one, IsEncodingOf, IsDecodingOf, SpellsDatum};
+ghost use Rattle.bitcode_derive.specs.ArrayCounts.{HasSameCounts};
+ghost use Rattle.bitcode_derive.specs.BorrowedTexts.{TextsStandIn, IsBorrowedFrom};
+ghost use Rattle.bitcode_derive.specs.Whole.{columns_of_one, IsEncodingOf, HasLongListing, IsDecodingOf, SpellsDatum};
 
 use crate::derive::{Decode, Encode};
+use crate::whole;
+use bitcode_columns::error::{Error, Reason};
+use bitcode_shapes::shaped::{Made, Shaped};
+use std::alloc::Global;
 
 /// What was written for a value is read, and as a value equal to it, where each column of lengths sums below
 /// 2251799813685247.
@@ -52,4 +60,59 @@ pub fn one_value<'a, T: Decode<'a>>(bytes: &'a [u8], t: &T, u: &T)
 {
     t.told();
     u.told();
+}
+
+/// Where all listings of a value have the same numbers of arrays, want of memory aside `encode` answers
+/// `length overflow` exactly where one of these numbers times the arrays' size passes 18446744073709551615.
+///
+/// Bytes are written only where in no listing such a product passes, and `length overflow` is answered only where in
+/// each listing one does. A value that keeps nothing in an order of its own has one listing, and so such numbers.
+///
+/// ```
+/// let bytes = encode(alloc, &t)?;
+/// overflows_exactly(&t, &bytes);
+/// ```
+pub fn overflows_exactly<T: Encode>(t: &T, bytes: &[u8])
+    ensures ordered { IsTrue T.in_order → HasSameCounts T.lists T.shape t.now }
+    ensures written { HasSameCounts T.lists T.shape t.now → IsEncodingOf T.lists T.shape t.now bytes.now → (d : Datum) → T.lists t.now d → CountsFit (columns_of_one T.shape d) }
+    ensures refused { HasSameCounts T.lists T.shape t.now → HasLongListing T.lists T.shape t.now → (d : Datum) → T.lists t.now d → CountsFit (columns_of_one T.shape d) → ⊥ }
+{
+    t.told();
+}
+
+/// A text that is read from bytes is these bytes behind its length, up to their end.
+///
+/// So a `&str` that `decode` gives is a slice of the input, for as long as that lives.
+///
+/// ```
+/// let text: &str = decode(alloc, bytes)?; // [2, 97, 98]
+/// borrowed_text(bytes, &text); // the bytes from 1 to 3
+/// ```
+pub fn borrowed_text<'a>(bytes: &'a [u8], text: &&'a str)
+    ensures { IsDecodingOf ⟦<&'a str as Made>⟧.makes ⟦<&'a str as Shaped>⟧.shape bytes.now text.now → IsBorrowedFrom bytes.now text.now.now }
+{}
+
+/// The texts of a value that is read from bytes stand in these bytes, behind the lengths of their column: each from one
+/// place to another.
+///
+/// ```
+/// let pair: (&str, u8) = decode(alloc, bytes)?; // [2, 97, 98, 7]
+/// borrowed_texts(bytes, &pair); // "ab" is the bytes from 1 to 3
+/// ```
+pub fn borrowed_texts<'a, T: Decode<'a>>(bytes: &'a [u8], t: &T)
+    ensures { (found : IsDecodingOf T.makes T.shape bytes.now t.now) → TextsStandIn T.shape bytes.now (found.datum ∷ []) }
+{}
+
+/// Reads a text whose first byte is below 255, as `decode` does: this takes no memory.
+///
+/// Errors: one of the faults of the input, and never `out of memory`.
+///
+/// ```
+/// let text = short_text(alloc, &[2, 97, 98])?;
+/// ```
+pub fn short_text<'a>(alloc: Global, bytes: &'a [u8]) -> Result<&'a str, Error>
+    requires { slice_index bytes.now 0 < 255 }
+    ensures { IfErr result (λ e. e.reason ≢ Reason.OutOfMemory) }
+{
+    whole::decode(alloc, bytes)
 }

@@ -48,14 +48,14 @@ zip_length R (x ∷ xs) (y ∷ ys) z = ap suc (zip_length R xs ys z.1)
 
 module _ {T : Type 0} (shape : Shape) (is_value : T → Type 0) (lists : T → Datum → Type 0) (same : T → T → Type 0) where
   module _ (order : Bool) (element : Lawful shape is_value lists same order) where
-    each_listed : (values : List T) → All is_value values → (ds : List Datum) × AllZip lists values ds
+    pub each_listed : (values : List T) → All is_value values → (ds : List Datum) × AllZip lists values ds
     each_listed [] h = ([], tt)
     each_listed (t ∷ ts) h =
         let first = element.listed t (All-head is_value t ts h) in
         let rest = each_listed ts (All-tail is_value t ts h) in
         (first.0 ∷ rest.0, (first.1, rest.1))
 
-    each_of_shape : (values : List T) (ds : List Datum) → All is_value values → AllZip lists values ds → All (IsOf shape) ds
+    pub each_of_shape : (values : List T) (ds : List Datum) → All is_value values → AllZip lists values ds → All (IsOf shape) ds
     each_of_shape [] [] h z = All-nil (IsOf shape)
     each_of_shape [] (d ∷ ds) h z = absurd z
     each_of_shape (t ∷ ts) [] h z = absurd z

@@ -21,7 +21,7 @@ width_8 = inr (inr (inr (inl refl)))
 pub width_16 : IsNumberWidth 16
 width_16 = inr (inr (inr (inr refl)))
 
-number_once : {m n : ℤ} → number m ≡ number n → m ≡ n
+pub number_once : {m n : ℤ} → number m ≡ number n → m ≡ n
 number_once e = cc
 
 pub int_lawful : {T : Type 0} (value : T → ℤ) (width : ℕ) (signed : Bool) → IsNumberWidth width
@@ -118,7 +118,7 @@ storable_first a b (storable_tuple (storable_more h _)) = h
 storable_second : (a b : Datum) → IsStorable (pair a b) → IsStorable b
 storable_second a b (storable_tuple (storable_more _ (storable_more h _))) = h
 
-both : (a b : Bool) → IsTrue (a && b) → IsTrue a × IsTrue b
+pub both : (a b : Bool) → IsTrue (a && b) → IsTrue a × IsTrue b
 both true b h = (refl, h)
 both false b h = absurd cc
 

@@ -7,6 +7,15 @@ pub mod Sequences
 pub mod LawfulSequences
 pub mod LawfulImages
 pub mod Tuples
-pub mod LawfulTuples
 pub mod Pointers
+pub mod Choices
+pub mod LawfulChoices
+pub mod LawfulStructs
+pub mod LawfulNever
+pub mod Texts
+pub mod LawfulTexts
+pub mod Checked
+pub mod LawfulChecked
+pub mod Durations
+pub mod LawfulDurations
 pub mod Arrays

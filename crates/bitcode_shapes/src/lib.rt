@@ -2,10 +2,15 @@
 #![tactic(auto)]
 
 pub mod arrays;
+pub mod checked;
+pub mod choices;
+pub mod durations;
 pub mod empty;
+pub mod no_variants;
 pub mod pointers;
 pub mod sequences;
 pub mod shaped;
+pub mod texts;
 pub mod tuples;
 pub mod uuids;
 pub mod values;

@@ -4,7 +4,7 @@ use Rattle.std.specs.Prelude.{All, Result, Ok, Err, IfErr}
 use Rattle.std.proofs.lemmas.List.{length-map}
 use Rattle.std.proofs.lemmas.List.Elements.{All-nil, All-cons, All-head, All-tail}
 use Rattle.bitcode_columns.specs.declared.error.Reason.{Reason}
-use Rattle.bitcode_columns.specs.Reading.{Reads, IsEndOf}
+use Rattle.bitcode_columns.specs.Reading.{Reads}
 use Rattle.bitcode_shapes.specs.Datum.{Datum, pair, first_in, second_in}
 use Rattle.bitcode_shapes.specs.Shape.{Shape, pair_shape, IsOf, IsPairOf}
 use Rattle.bitcode_coder.specs.Columns.{CountsFit}
@@ -43,10 +43,6 @@ pairs_are IsFirst IsSecond (d ∷ ds) (e ∷ es) h k =
     (pairs_are IsFirst IsSecond ds es (All-tail IsFirst d ds h) (All-tail IsSecond e es k))
 
 -- ---- readings of pairs
-
-pub ends_behind : {Entry : Type 0} {Spelled : List ℕ → List Entry → Type 0} {k : ℕ} {old middle : List ℕ} {entries : List Entry} (new : List ℕ)
-    → Reads Spelled k old entries middle → IsEndOf middle new → IsEndOf old new
-ends_behind new r e = record { taken = r.piece ++ e.taken; whole = r.whole ∙ ap (λ x. r.piece ++ x) e.whole ∙ sym (append_assoc r.piece e.taken new) }
 
 module _ (s t : Shape) (k : ℕ) where
   pub reads_pairs : {old middle : List ℕ} {ds : List Datum} (new : List ℕ) (es : List Datum) → Reads (Spells s) k old ds middle → Reads (Spells t) k middle es new

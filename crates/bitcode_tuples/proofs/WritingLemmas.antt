@@ -1,12 +1,10 @@
 -- What the encoders of the fields do to their columns makes up what the encoder of the pair does.
-use Rattle.std.proofs.Common.{inl, inr, refl}
-use Rattle.std.specs.Prelude.{Result, Ok, Err, IfErr}
-use Rattle.bitcode_columns.specs.declared.error.Reason.{Reason}
+use Rattle.std.proofs.Common.{refl}
 use Rattle.bitcode_shapes.specs.Datum.{Datum, pair}
 use Rattle.bitcode_shapes.specs.Shape.{Shape, pair_shape}
 use Rattle.bitcode_shapes.specs.Values.{ListsPair}
 use Rattle.bitcode_coder.specs.Columns.{Columns, two}
-use Rattle.bitcode_coder.specs.Coding.{JoinsListing, PassesWithListing, IsWritingRefusal}
+use Rattle.bitcode_coder.specs.Coding.{JoinsListing, PassesWithListing}
 use Rattle.bitcode_tuples.specs.PairLaws.{same_two}
 
 module _ {P Q : Type 0} (lists_p : P → Datum → Type 0) (lists_q : Q → Datum → Type 0) (s t : Shape) (x : P × Q) where
@@ -34,15 +32,6 @@ module _ {P Q : Type 0} (lists_p : P → Datum → Type 0) (lists_q : Q → Datu
     listing = record { first = d; second = h.datum; is = refl; lists_first = l; lists_second = h.listing };
     passes = λ f. h.passes f.1;
   }
-
-pub refusal_weaker : {Passes Others : Type 0} (reason : Reason) → (Passes → Others) → IsWritingRefusal reason Passes → IsWritingRefusal reason Others
-refusal_weaker reason f (inl h) = inl h
-refusal_weaker reason f (inr h) = inr (h.0, f h.1)
-
-pub refused_weaker : {T E Passes Others : Type 0} (reason : E → Reason) (result : Result T E) → (Passes → Others)
-    → IfErr result (λ e. IsWritingRefusal (reason e) Passes) → IfErr result (λ e. IsWritingRefusal (reason e) Others)
-refused_weaker reason (Ok x) f h = tt
-refused_weaker reason (Err e) f h = refusal_weaker (reason e) f h
 
 -- ---- a value that stands for another one, as a tuple for a pair
 

@@ -1,6 +1,13 @@
 // The stored rows. Each has one or more parts, and gives what the first wrong part gave.
-use bitcode::{Decode, Encode, Error, Reason, decode, encode};
-use std::alloc::Global;
+use bitcode::{Decode, Encode, Error, Reason, decode, encode, error};
+use std::alloc::{AllocError, AllocFailed, Global};
+
+pub mod arrays;
+pub mod byte_columns;
+pub mod lengths;
+pub mod sequences;
+pub mod texts;
+pub mod variants;
 
 /// What a wrong part of a row gave.
 #[derive(Debug, Drop)]
@@ -11,6 +18,24 @@ pub enum Got {
     Refused(Error),
     /// Another value was read, or one where the input had to be refused.
     AnotherValue,
+}
+
+impl<T: Drop> From<AllocFailed<T>> for Got {
+    fn from(_refused: AllocFailed<T>) -> Got {
+        Got::Refused(error(Reason::OutOfMemory))
+    }
+}
+
+impl From<Error> for Got {
+    fn from(error: Error) -> Got {
+        Got::Refused(error)
+    }
+}
+
+impl From<AllocError> for Got {
+    fn from(_refused: AllocError) -> Got {
+        Got::Refused(error(Reason::OutOfMemory))
+    }
 }
 
 /// The value is written as these bytes.

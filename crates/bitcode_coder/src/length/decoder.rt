@@ -148,7 +148,7 @@ impl<'a> LengthDecoder<'a> {
     }
 
     // The same lengths, to be taken without taking them here.
-    fn borrowed_clone(&self) -> LengthDecoder<'_>
+    pub(crate) fn borrowed_clone(&self) -> LengthDecoder<'_>
         ensures short { short_left result ≡ short_left self.now }
         ensures left { lengths_left result ≡ lengths_left self.now }
     {
@@ -165,7 +165,7 @@ impl<'a> LengthDecoder<'a> {
     }
 
     // How many lengths are left.
-    fn remaining(&self) -> usize
+    pub(crate) fn remaining(&self) -> usize
         ensures { result ≡ length (lengths_left self.now) }
     {
         self.small.as_slice().len()

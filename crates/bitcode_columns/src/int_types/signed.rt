@@ -1,4 +1,4 @@
-// The signed integers.
+// The signed integers of 8 to 64 bits.
 ghost use Rattle.std.specs.Prelude.{◌-◌, ◌/◌, ◌^◌, pos, negsuc, true, refl};
 ghost use Rattle.std.proofs.Common.{inl, inr};
 
@@ -199,6 +199,68 @@ impl SizedInt for i32 {
     ghost MIN = { negsuc (256 ^ 4 / 2 - 1) };
 
     ghost MAX = { pos (256 ^ 4 / 2 - 1) };
+
+    ghost bounds_law = { (refl, refl) };
+}
+
+impl Int for i64 {
+    type Une = [u8; 8];
+
+    type Unsigned = u64;
+
+    ghost width = { 8 };
+
+    ghost signed = { true };
+
+    ghost number = { λ z. z };
+
+    ghost une_bytes = { λ bytes. bytes };
+
+    fn width() -> usize {
+        8
+    }
+
+    fn is_signed() -> bool {
+        true
+    }
+
+    fn from_unaligned(unaligned: [u8; 8]) -> i64 {
+        i64::from_le_bytes(unaligned)
+    }
+
+    fn to_unaligned(self) -> [u8; 8] {
+        i64::to_le_bytes(self)
+    }
+
+    fn to_unsigned(self) -> u64 {
+        self.cast_unsigned()
+    }
+
+    fn from_unsigned(unsigned: u64) -> i64 {
+        unsigned.cast_signed()
+    }
+
+    fn is_less(self, other: i64) -> bool {
+        self < other
+    }
+
+    fn consume_unaligned<'a>(input: &mut &'a [u8], count: usize) -> Result<&'a [[u8; 8]], Error> {
+        consume_numbers(input, count)
+    }
+
+    ghost width_law = { inr (inr (inr (inl refl))) };
+
+    ghost unsigned_law = { refl };
+}
+
+impl SizedInt for i64 {
+    const MIN: i64 = i64::MIN;
+
+    const MAX: i64 = i64::MAX;
+
+    ghost MIN = { negsuc (256 ^ 8 / 2 - 1) };
+
+    ghost MAX = { pos (256 ^ 8 / 2 - 1) };
 
     ghost bounds_law = { (refl, refl) };
 }

@@ -1,4 +1,4 @@
-// The unsigned integers.
+// The unsigned integers of 8 to 64 bits.
 ghost use Rattle.std.specs.Prelude.{◌-◌, ◌^◌, pos, false, refl};
 ghost use Rattle.std.proofs.Common.{inl, inr};
 
@@ -394,37 +394,4 @@ impl SizedInt for u64 {
     ghost MAX = { 256 ^ 8 - 1 };
 
     ghost bounds_law = { (refl, refl) };
-}
-
-impl SizedUInt for u128 {
-    ghost width = { 16 };
-
-    ghost value = { λ n. n };
-
-    fn to_wide(self) -> u128 {
-        self
-    }
-
-    fn from_wide(wide: u128) -> u128 {
-        wide
-    }
-
-    fn wrapping_add(self, right: u128) -> u128 {
-        u128::wrapping_add(self, right)
-    }
-
-    fn wrapping_sub(self, right: u128) -> u128 {
-        u128::wrapping_sub(self, right)
-    }
-
-    fn read(input: &mut &[u8]) -> Result<u128, Error> {
-        let bytes = consume_array::<16>(input)?;
-        Ok(u128::from_le_bytes(bytes))
-    }
-
-    fn write(self, out: &mut Vec<u8>) -> Result<(), Error> {
-        let bytes = self.to_le_bytes();
-        out.extend_from_slice(&bytes)?;
-        Ok(())
-    }
 }

@@ -13,7 +13,7 @@ ghost use Rattle.bitcode_columns.specs.Reading.{Reads, IsEndOf, Names, missing, 
 use crate::consume::{consume_byte, consume_bytes};
 use crate::error::{Error, Reason};
 use crate::fast::CowSlice;
-use crate::int_types::{Int, SizedUInt};
+use crate::int_types::{Int, SizedUInt, known_bytes};
 use crate::pack::unpack_bytes;
 use crate::pack_ints::width::halvings;
 use crate::refuse::err;
@@ -29,11 +29,6 @@ fn widened<T: Int>(narrow: u128, least: T::Unsigned) -> T::Une
     let sum = T::Unsigned::from_wide(narrow).wrapping_add(least);
     T::from_unsigned(sum).to_unaligned()
 }
-
-// Bytes are below 256.
-fn known_bytes(bytes: &[u8])
-    ensures { All (λ byte. byte < 256) bytes.now }
-{}
 
 // Takes so many numbers of a width from the front of the input, as bytes.
 fn claim<'a>(input: &mut &'a [u8], count: usize, width: usize) -> Result<&'a [u8], Error>

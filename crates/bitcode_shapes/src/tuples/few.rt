@@ -1,8 +1,8 @@
 // Tuples of one field and of three to eight hold the data of their fields.
 ghost use Rattle.std.specs.Prelude.{refl};
 ghost use Rattle.bitcode_shapes.specs.LawfulImages.{image_lawful, image_makeable};
-ghost use Rattle.bitcode_shapes.specs.LawfulTuples.{both_lawful, both_makeable, tuple_lawful, tuple_makeable};
-ghost use Rattle.bitcode_shapes.specs.Tuples.{split_3, split_4, split_5, split_6, split_7, split_8, joined_3, joined_4, joined_5, joined_6, joined_7, joined_8};
+ghost use Rattle.bitcode_shapes.specs.LawfulStructs.{struct_lawful, struct_makeable};
+ghost use Rattle.bitcode_shapes.specs.Tuples.{split_2, split_3, split_4, split_5, split_6, split_7, split_8, joined_2, joined_3, joined_4, joined_5, joined_6, joined_7, joined_8};
 
 use crate::shaped::{Made, Shaped};
 
@@ -47,13 +47,13 @@ impl<A: Shaped, B: Shaped, C: Shaped> Shaped for (A, B, C) {
         self.2.told();
     }
 
-    ghost lawful = { tuple_lawful split_3 A.lawful (both_lawful B.lawful C.lawful) };
+    ghost lawful = { struct_lawful split_3 A.lawful (struct_lawful split_2 B.lawful C.lawful) };
 }
 
 impl<A: Made, B: Made, C: Made> Made for (A, B, C) {
     ghost makes = { λ d t. ⟦<(A, (B, C)) as Made>⟧.makes d (split_3 t) };
 
-    ghost makeable = { tuple_makeable split_3 joined_3 A.makeable (both_makeable B.makeable C.makeable) };
+    ghost makeable = { struct_makeable split_3 joined_3 A.makeable (struct_makeable split_2 joined_2 B.makeable C.makeable) };
 }
 
 impl<A: Shaped, B: Shaped, C: Shaped, D: Shaped> Shaped for (A, B, C, D) {
@@ -74,13 +74,13 @@ impl<A: Shaped, B: Shaped, C: Shaped, D: Shaped> Shaped for (A, B, C, D) {
         self.3.told();
     }
 
-    ghost lawful = { tuple_lawful split_4 A.lawful (tuple_lawful split_3 B.lawful (both_lawful C.lawful D.lawful)) };
+    ghost lawful = { struct_lawful split_4 A.lawful (struct_lawful split_3 B.lawful (struct_lawful split_2 C.lawful D.lawful)) };
 }
 
 impl<A: Made, B: Made, C: Made, D: Made> Made for (A, B, C, D) {
     ghost makes = { λ d t. ⟦<(A, (B, C, D)) as Made>⟧.makes d (split_4 t) };
 
-    ghost makeable = { tuple_makeable split_4 joined_4 A.makeable (tuple_makeable split_3 joined_3 B.makeable (both_makeable C.makeable D.makeable)) };
+    ghost makeable = { struct_makeable split_4 joined_4 A.makeable (struct_makeable split_3 joined_3 B.makeable (struct_makeable split_2 joined_2 C.makeable D.makeable)) };
 }
 
 impl<A: Shaped, B: Shaped, C: Shaped, D: Shaped, E: Shaped> Shaped for (A, B, C, D, E) {
@@ -102,16 +102,17 @@ impl<A: Shaped, B: Shaped, C: Shaped, D: Shaped, E: Shaped> Shaped for (A, B, C,
         self.4.told();
     }
 
-    ghost lawful = { tuple_lawful split_5 A.lawful (tuple_lawful split_4 B.lawful (tuple_lawful split_3 C.lawful (both_lawful D.lawful E.lawful))) };
+    ghost lawful = { struct_lawful split_5 A.lawful (struct_lawful split_4 B.lawful (struct_lawful split_3 C.lawful (struct_lawful split_2 D.lawful E.lawful))) };
 }
 
 impl<A: Made, B: Made, C: Made, D: Made, E: Made> Made for (A, B, C, D, E) {
     ghost makes = { λ d t. ⟦<(A, (B, C, D, E)) as Made>⟧.makes d (split_5 t) };
 
-    ghost makeable = { tuple_makeable split_5 joined_5 A.makeable (tuple_makeable split_4 joined_4 B.makeable (tuple_makeable split_3 joined_3 C.makeable (both_makeable D.makeable E.makeable))) };
+    ghost makeable = { struct_makeable split_5 joined_5 A.makeable (struct_makeable split_4 joined_4 B.makeable (struct_makeable split_3 joined_3 C.makeable (struct_makeable split_2 joined_2 D.makeable E.makeable))) };
 }
 
-impl<A: Shaped, B: Shaped, C: Shaped, D: Shaped, E: Shaped, F: Shaped> Shaped for (A, B, C, D, E, F) {
+impl<A: Shaped, B: Shaped, C: Shaped, D: Shaped, E: Shaped, F: Shaped> Shaped
+    for (A, B, C, D, E, F) {
     ghost shape = { ⟦<(A, (B, C, D, E, F)) as Shaped>⟧.shape };
 
     ghost is_value = { λ t. ⟦<(A, (B, C, D, E, F)) as Shaped>⟧.is_value (split_6 t) };
@@ -131,16 +132,17 @@ impl<A: Shaped, B: Shaped, C: Shaped, D: Shaped, E: Shaped, F: Shaped> Shaped fo
         self.5.told();
     }
 
-    ghost lawful = { tuple_lawful split_6 A.lawful (tuple_lawful split_5 B.lawful (tuple_lawful split_4 C.lawful (tuple_lawful split_3 D.lawful (both_lawful E.lawful F.lawful)))) };
+    ghost lawful = { struct_lawful split_6 A.lawful (struct_lawful split_5 B.lawful (struct_lawful split_4 C.lawful (struct_lawful split_3 D.lawful (struct_lawful split_2 E.lawful F.lawful)))) };
 }
 
 impl<A: Made, B: Made, C: Made, D: Made, E: Made, F: Made> Made for (A, B, C, D, E, F) {
     ghost makes = { λ d t. ⟦<(A, (B, C, D, E, F)) as Made>⟧.makes d (split_6 t) };
 
-    ghost makeable = { tuple_makeable split_6 joined_6 A.makeable (tuple_makeable split_5 joined_5 B.makeable (tuple_makeable split_4 joined_4 C.makeable (tuple_makeable split_3 joined_3 D.makeable (both_makeable E.makeable F.makeable)))) };
+    ghost makeable = { struct_makeable split_6 joined_6 A.makeable (struct_makeable split_5 joined_5 B.makeable (struct_makeable split_4 joined_4 C.makeable (struct_makeable split_3 joined_3 D.makeable (struct_makeable split_2 joined_2 E.makeable F.makeable)))) };
 }
 
-impl<A: Shaped, B: Shaped, C: Shaped, D: Shaped, E: Shaped, F: Shaped, G: Shaped> Shaped for (A, B, C, D, E, F, G) {
+impl<A: Shaped, B: Shaped, C: Shaped, D: Shaped, E: Shaped, F: Shaped, G: Shaped> Shaped
+    for (A, B, C, D, E, F, G) {
     ghost shape = { ⟦<(A, (B, C, D, E, F, G)) as Shaped>⟧.shape };
 
     ghost is_value = { λ t. ⟦<(A, (B, C, D, E, F, G)) as Shaped>⟧.is_value (split_7 t) };
@@ -161,16 +163,17 @@ impl<A: Shaped, B: Shaped, C: Shaped, D: Shaped, E: Shaped, F: Shaped, G: Shaped
         self.6.told();
     }
 
-    ghost lawful = { tuple_lawful split_7 A.lawful (tuple_lawful split_6 B.lawful (tuple_lawful split_5 C.lawful (tuple_lawful split_4 D.lawful (tuple_lawful split_3 E.lawful (both_lawful F.lawful G.lawful))))) };
+    ghost lawful = { struct_lawful split_7 A.lawful (struct_lawful split_6 B.lawful (struct_lawful split_5 C.lawful (struct_lawful split_4 D.lawful (struct_lawful split_3 E.lawful (struct_lawful split_2 F.lawful G.lawful))))) };
 }
 
 impl<A: Made, B: Made, C: Made, D: Made, E: Made, F: Made, G: Made> Made for (A, B, C, D, E, F, G) {
     ghost makes = { λ d t. ⟦<(A, (B, C, D, E, F, G)) as Made>⟧.makes d (split_7 t) };
 
-    ghost makeable = { tuple_makeable split_7 joined_7 A.makeable (tuple_makeable split_6 joined_6 B.makeable (tuple_makeable split_5 joined_5 C.makeable (tuple_makeable split_4 joined_4 D.makeable (tuple_makeable split_3 joined_3 E.makeable (both_makeable F.makeable G.makeable))))) };
+    ghost makeable = { struct_makeable split_7 joined_7 A.makeable (struct_makeable split_6 joined_6 B.makeable (struct_makeable split_5 joined_5 C.makeable (struct_makeable split_4 joined_4 D.makeable (struct_makeable split_3 joined_3 E.makeable (struct_makeable split_2 joined_2 F.makeable G.makeable))))) };
 }
 
-impl<A: Shaped, B: Shaped, C: Shaped, D: Shaped, E: Shaped, F: Shaped, G: Shaped, H: Shaped> Shaped for (A, B, C, D, E, F, G, H) {
+impl<A: Shaped, B: Shaped, C: Shaped, D: Shaped, E: Shaped, F: Shaped, G: Shaped, H: Shaped> Shaped
+    for (A, B, C, D, E, F, G, H) {
     ghost shape = { ⟦<(A, (B, C, D, E, F, G, H)) as Shaped>⟧.shape };
 
     ghost is_value = { λ t. ⟦<(A, (B, C, D, E, F, G, H)) as Shaped>⟧.is_value (split_8 t) };
@@ -192,11 +195,12 @@ impl<A: Shaped, B: Shaped, C: Shaped, D: Shaped, E: Shaped, F: Shaped, G: Shaped
         self.7.told();
     }
 
-    ghost lawful = { tuple_lawful split_8 A.lawful (tuple_lawful split_7 B.lawful (tuple_lawful split_6 C.lawful (tuple_lawful split_5 D.lawful (tuple_lawful split_4 E.lawful (tuple_lawful split_3 F.lawful (both_lawful G.lawful H.lawful)))))) };
+    ghost lawful = { struct_lawful split_8 A.lawful (struct_lawful split_7 B.lawful (struct_lawful split_6 C.lawful (struct_lawful split_5 D.lawful (struct_lawful split_4 E.lawful (struct_lawful split_3 F.lawful (struct_lawful split_2 G.lawful H.lawful)))))) };
 }
 
-impl<A: Made, B: Made, C: Made, D: Made, E: Made, F: Made, G: Made, H: Made> Made for (A, B, C, D, E, F, G, H) {
+impl<A: Made, B: Made, C: Made, D: Made, E: Made, F: Made, G: Made, H: Made> Made
+    for (A, B, C, D, E, F, G, H) {
     ghost makes = { λ d t. ⟦<(A, (B, C, D, E, F, G, H)) as Made>⟧.makes d (split_8 t) };
 
-    ghost makeable = { tuple_makeable split_8 joined_8 A.makeable (tuple_makeable split_7 joined_7 B.makeable (tuple_makeable split_6 joined_6 C.makeable (tuple_makeable split_5 joined_5 D.makeable (tuple_makeable split_4 joined_4 E.makeable (tuple_makeable split_3 joined_3 F.makeable (both_makeable G.makeable H.makeable)))))) };
+    ghost makeable = { struct_makeable split_8 joined_8 A.makeable (struct_makeable split_7 joined_7 B.makeable (struct_makeable split_6 joined_6 C.makeable (struct_makeable split_5 joined_5 D.makeable (struct_makeable split_4 joined_4 E.makeable (struct_makeable split_3 joined_3 F.makeable (struct_makeable split_2 joined_2 G.makeable H.makeable)))))) };
 }

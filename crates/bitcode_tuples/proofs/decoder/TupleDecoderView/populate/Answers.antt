@@ -2,7 +2,8 @@
 use Rattle.std.proofs.Common.{inl, inr}
 use Rattle.std.proofs.lemmas.Result.{err_from_is_err_and, IfErr-weaker, on_ok_weaker, on_err_weaker}
 use Rattle.bitcode_columns.specs.declared.error.Error.{Error}
-use Rattle.bitcode_tuples.proofs.ReadingLemmas.{ends_behind, reads_pairs, refuses_first, refused_second}
+use Rattle.bitcode_coder.proofs.LengthPartLemmas.{ends_behind_read}
+use Rattle.bitcode_tuples.proofs.ReadingLemmas.{reads_pairs, refuses_first, refused_second}
 use Rattle.bitcode_tuples.proofs.decoder.TupleDecoderView.populate.Goals as goal
 
 pub returns-in_err-populate-clause-refused : goal.returns-in_err-populate-clause-refused
@@ -31,4 +32,4 @@ returns-clause-refused g c =
     refused_second g.A.View.shape g.B.View.shape c.args.k (λ (e : Error). e.reason) c.populate-2.result _ _ _ c.in_ok-populate.ensures.read c.populate-2.ensures.refused
 
 pub returns-clause-rest : goal.returns-clause-rest
-returns-clause-rest g c = on_err_weaker c.populate-2.result (ends_behind c.populate-2.new.input.now c.in_ok-populate.ensures.read) c.populate-2.ensures.rest
+returns-clause-rest g c = on_err_weaker c.populate-2.result (ends_behind_read c.populate-2.new.input.now c.in_ok-populate.ensures.read) c.populate-2.ensures.rest

@@ -2,7 +2,8 @@
 use Rattle.std.proofs.lemmas.Result.{on_ok_weaker}
 use Rattle.bitcode_columns.specs.declared.error.Error.{Error}
 use Rattle.bitcode_shapes.specs.Tuples.{split_15}
-use Rattle.bitcode_tuples.proofs.WritingLemmas.{joins_as, passes_as, refused_weaker}
+use Rattle.bitcode_coder.proofs.RefusalLemmas.{refused_weaker}
+use Rattle.bitcode_tuples.proofs.WritingLemmas.{joins_as, passes_as}
 use Rattle.bitcode_tuples.proofs.encoder.many.TupleEncoderEncoderTuple15.encode.Goals as goal
 
 pub returns-clause-joined : goal.returns-clause-joined

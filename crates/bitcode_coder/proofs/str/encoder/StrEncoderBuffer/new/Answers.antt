@@ -1,0 +1,14 @@
+-- No lengths, and no bytes.
+use Rattle.std.proofs.Common.{[], length, sum, sym, ap, ◌∙◌}
+use Rattle.bitcode_columns.specs.Fast.{fast_items}
+use Rattle.bitcode_coder.specs.LengthCoders.{written_lengths}
+use Rattle.bitcode_coder.proofs.TextCoderLemmas.{same_lengths, no_pieces}
+use Rattle.bitcode_coder.proofs.str.encoder.StrEncoderBuffer.new.Goals as goal
+
+pub invariant_of-result : goal.invariant_of-result
+invariant_of-result c = record {
+  whole = ap sum (same_lengths (written_lengths c.new.result) [] c.new.ensures) ∙ sym (ap length c.new-2.ensures.items);
+}
+
+pub returns : goal.returns
+returns c = no_pieces (written_lengths c.new.result) (fast_items c.new-2.result) c.new.ensures

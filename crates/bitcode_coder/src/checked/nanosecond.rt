@@ -1,0 +1,67 @@
+// Nanoseconds below one second.
+ghost use Rattle.std.specs.Prelude.{◌≡◌, ◌<◌, true, false, pos, refl};
+ghost use Rattle.bitcode_shapes.specs.Checked.{below_second, nanosecond_shape, IsCheckedValue};
+ghost use Rattle.bitcode_shapes.specs.Values.{ListsNumber, MakesNumber, SameNumber};
+ghost use Rattle.bitcode_shapes.specs.LawfulValues.{width_4};
+ghost use Rattle.bitcode_shapes.specs.LawfulChecked.{checked_lawful};
+ghost use Rattle.bitcode_shapes.specs.LawfulDurations.{nanosecond_makeable};
+
+use crate::checked::Checked;
+use bitcode_shapes::shaped::{Made, Shaped};
+
+const NANOSECONDS_IN_SECOND: u32 = 1_000_000_000;
+
+/// Nanoseconds below one second: those of a `Duration`.
+#[derive(Clone, Copy)]
+pub struct Nanosecond {
+    nanos: u32,
+    ghost below_one_second: { nanos < 1000000000 },
+}
+
+impl Nanosecond {
+    /// How many nanoseconds these are.
+    pub fn into_inner(self) -> u32
+        ensures value { result ≡ self.nanos }
+        ensures below { result < 1000000000 }
+    {
+        self.nanos
+    }
+}
+
+impl Shaped for Nanosecond {
+    ghost shape = { nanosecond_shape };
+
+    ghost is_value = { IsCheckedValue 4 false below_second (λ t. pos t.nanos) };
+
+    ghost lists = { ListsNumber (λ t. pos t.nanos) };
+
+    ghost same = { SameNumber (λ t. pos t.nanos) };
+
+    ghost in_order = { true };
+
+    fn told(&self) {
+        let _nanos = self.into_inner();
+    }
+
+    ghost lawful = { checked_lawful (λ t. pos t.nanos) 4 false below_second width_4 };
+}
+
+impl Made for Nanosecond {
+    ghost makes = { MakesNumber (λ t. pos t.nanos) };
+
+    ghost makeable = { nanosecond_makeable (λ t. t.nanos) (λ n h. (record { nanos = n; below_one_second = h }, refl)) };
+}
+
+impl Checked<u32> for Nanosecond {
+    ghost allowed = { below_second };
+
+    fn from_bits(bits: u32) -> Option<Self> {
+        if bits < NANOSECONDS_IN_SECOND {
+            Some(Nanosecond { nanos: bits })
+        } else {
+            None
+        }
+    }
+
+    ghost checked_shape = { refl };
+}

@@ -1,0 +1,55 @@
+// Texts as the entries of a column.
+ghost use Rattle.std.specs.Prelude.{◌≡◌, List, None, refl};
+ghost use Rattle.bitcode_shapes.specs.Datum.{Datum, text};
+ghost use Rattle.bitcode_coder.specs.Coding.{written_columns};
+ghost use Rattle.bitcode_coder.specs.Columns.{texts, one};
+
+pub use crate::str::decoder::StrDecoder;
+pub use crate::str::encoder::StrEncoder;
+use bitcode_shapes::shaped::Shaped;
+use std::boxed::BoxedStr;
+use std::rc::RcStr;
+
+mod decoder;
+mod encoder;
+
+/// A type whose values are written as texts.
+pub trait AsText: Shaped {
+    /// The text that stands for the value.
+    fn as_text(&self) -> &str
+        ensures { Self.lists self.now (text result.now) };
+
+    ghost as_text_columns: { (ds : List Datum) → written_columns Self.shape ds ≡ one (texts None) ds };
+}
+
+impl<'a> AsText for &'a str {
+    fn as_text(&self) -> &str {
+        *self
+    }
+
+    ghost as_text_columns = { λ ds. refl };
+}
+
+impl AsText for String {
+    fn as_text(&self) -> &str {
+        self.as_str()
+    }
+
+    ghost as_text_columns = { λ ds. refl };
+}
+
+impl AsText for BoxedStr {
+    fn as_text(&self) -> &str {
+        self.as_str()
+    }
+
+    ghost as_text_columns = { λ ds. refl };
+}
+
+impl AsText for RcStr {
+    fn as_text(&self) -> &str {
+        self.as_str()
+    }
+
+    ghost as_text_columns = { λ ds. refl };
+}

@@ -1,0 +1,91 @@
+// Bytes of texts, and their coder.
+ghost use Rattle.std.specs.Prelude.{◌≡◌, ◌++◌, map, pos, true, refl, OnOk};
+ghost use Rattle.bitcode_columns.specs.Fast.{fast_items, fast_room};
+ghost use Rattle.bitcode_shapes.specs.Shape.{raw_shape};
+ghost use Rattle.bitcode_shapes.specs.Values.{ListsNumber, SameNumber};
+ghost use Rattle.bitcode_coder.specs.Columns.{raws, one};
+ghost use Rattle.bitcode_coder.specs.RawBytes.{IsRawByte, raw_lawful};
+ghost use Rattle.bitcode_coder.specs.Spelling.{natural};
+
+use crate::coder::{Buffer, Encoder};
+use bitcode_columns::error::Error;
+use bitcode_columns::fast::{FastVec, PushUnchecked};
+use bitcode_shapes::shaped::Shaped;
+use std::alloc::Global;
+
+/// A byte of a text.
+///
+/// It is encoded only: its column is the bytes as they are, which need not be UTF-8. A `Vec` of the bytes of a text is
+/// written as the text is.
+#[derive(Clone, Copy)]
+pub struct U8Char(pub u8);
+
+impl Shaped for U8Char {
+    ghost shape = { raw_shape };
+
+    ghost is_value = { IsRawByte (λ t. t.0) };
+
+    ghost lists = { ListsNumber (λ t. pos t.0) };
+
+    ghost same = { SameNumber (λ t. pos t.0) };
+
+    ghost in_order = { true };
+
+    fn told(&self) {
+        let _byte = self.0;
+    }
+
+    ghost lawful = { raw_lawful (λ t. t.0) };
+}
+
+/// The column that bytes of texts are written to.
+///
+/// ```
+/// let mut column = U8CharEncoder::new(alloc);
+/// column.reserve(1)?;
+/// column.encode(&U8Char(255))?;
+/// column.collect_into(&mut bytes)?; // [255]
+/// ```
+#[derive(Drop)]
+pub struct U8CharEncoder {
+    bytes: FastVec<u8>,
+}
+
+impl Buffer for U8CharEncoder {
+    ghost columns = { λ e. one raws (map natural (fast_items e.bytes)) };
+
+    ghost room = { λ e. fast_room e.bytes };
+
+    ghost surely_passes = { λ e n. ⊥ };
+
+    fn new(alloc: Global) -> Self {
+        U8CharEncoder {
+            bytes: FastVec::new(alloc),
+        }
+    }
+
+    fn reserve(&mut self, n: usize) -> Result<(), Error> {
+        self.bytes.reserve(n)
+    }
+
+    fn collect_into(&mut self, out: &mut Vec<u8>) -> Result<(), Error> {
+        out.extend_from_slice(self.bytes.as_slice())?;
+        self.bytes.clear();
+        Ok(())
+    }
+
+    fn clear(&mut self) {
+        self.bytes.clear();
+    }
+}
+
+impl Encoder<U8Char> for U8CharEncoder {
+    fn encode(&mut self, t: &U8Char) -> Result<(), Error> {
+        self.bytes.push_unchecked(t.0);
+        Ok(())
+    }
+
+    ghost of_shape = { λ e. refl };
+
+    ghost surely = { λ e n never. absurd never };
+}

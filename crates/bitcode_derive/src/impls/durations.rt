@@ -1,0 +1,31 @@
+// The coders of durations.
+use crate::derive::{Decode, DecodeOwned, Encode};
+use bitcode_coder::checked::{CheckedIntDecoder, Nanosecond};
+use bitcode_coder::int::{IntDecoder, IntEncoder};
+use bitcode_parts::convert::{ConvertFromDecoder, ConvertIntoEncoder};
+use bitcode_parts::durations::{DurationDecode, DurationEncode};
+use bitcode_tuples::decoder::TupleDecoder;
+use bitcode_tuples::encoder::TupleEncoder;
+use std::time::Duration;
+
+impl Encode for Duration {
+    type Encoder = ConvertIntoEncoder<
+        DurationEncode,
+        TupleEncoder<IntEncoder<u64>, IntEncoder<u32>>,
+    >;
+}
+
+impl<'a> Decode<'a> for Duration {
+    type Decoder = ConvertFromDecoder<
+        DurationDecode,
+        TupleDecoder<IntDecoder<'a, u64>, CheckedIntDecoder<'a, Nanosecond, u32>>,
+    >;
+}
+
+impl DecodeOwned for Duration {}
+
+impl<'a> Decode<'a> for Nanosecond {
+    type Decoder = CheckedIntDecoder<'a, Nanosecond, u32>;
+}
+
+impl DecodeOwned for Nanosecond {}

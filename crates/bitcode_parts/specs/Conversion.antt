@@ -1,0 +1,26 @@
+-- A type whose values are written, or read, as values of another type.
+use Rattle.std.proofs.Common.{◌≡◌, ℕ, List, subst}
+use Rattle.std.proofs.lemmas.List.Elements.{All-weaker}
+use Rattle.bitcode_shapes.specs.Datum.{Datum}
+use Rattle.bitcode_shapes.specs.Shape.{Shape, IsOf}
+use Rattle.bitcode_coder.specs.Columns.{Columns, CountsFit, beside}
+use Rattle.bitcode_coder.specs.Coding.{SurelyPasses, written_columns}
+
+-- What lists the other value lists this one.
+abbrev pub ListsAsToo : {T U : Type 0} → (T → Datum → Type 0) → (U → Datum → Type 0) → T → U → Type 0
+ListsAsToo lists other_lists t u = (d : Datum) → other_lists u d → lists t d
+
+-- What makes the other value makes this one.
+abbrev pub MakesToo : {T U : Type 0} → (Datum → T → Type 0) → (Datum → U → Type 0) → T → U → Type 0
+MakesToo makes other_makes t u = (d : Datum) → other_makes d u → makes d t
+
+-- Data of a shape are written to the columns of another shape, and are of that one too.
+pub record IsWrittenAs (shape other : Shape) : Type 0 where
+  pub columns : (ds : List Datum) → written_columns shape ds ≡ written_columns other ds
+  pub data_of : (d : Datum) → IsOf shape d → IsOf other d
+
+-- where values of the other shape surely pass, so do those of this one
+pub surely_as : (shape other : Shape) → IsWrittenAs shape other → (old : Columns) (n : ℕ) → SurelyPasses other old n → SurelyPasses shape old n
+surely_as shape other as_other old n passes ds each size fits =
+    passes ds (All-weaker (IsOf shape) (IsOf other) as_other.data_of ds each) size
+    (subst (λ written. CountsFit (beside old written)) (as_other.columns ds) fits)

@@ -1,0 +1,22 @@
+-- Sequences as the lengths of each and the elements of all.
+use Rattle.std.specs.Prelude.{ℕ, List, map, sum, None}
+use Rattle.bitcode_columns.specs.declared.error.Reason.{Reason}
+use Rattle.bitcode_columns.specs.Reading.{Reads}
+use Rattle.bitcode_shapes.specs.Datum.{Datum, list, data_of}
+use Rattle.bitcode_coder.specs.Cutting.{cut}
+use Rattle.bitcode_coder.specs.LengthColumn.{SpellsLengths}
+
+-- lists of these lengths, of the data in their order
+abbrev pub lists_of : List ℕ → List Datum → List Datum
+lists_of lengths elements = map (λ ds. list (data_of ds)) (cut lengths elements)
+
+-- wherever the lengths are read, what is said of the elements behind them holds
+abbrev pub ElementsBehind : (ℕ → List ℕ → Type 0) → ℕ → List ℕ → Type 0
+ElementsBehind Said k input = (lengths rest : List ℕ) → Reads (SpellsLengths None) k input lengths rest → Said (sum lengths) rest
+
+-- the lengths are read, and what is left is at fault for the elements
+pub record FaultsInElements (faults : Reason → ℕ → List ℕ → Type 0) (reason : Reason) (k : ℕ) (input : List ℕ) : Type 0 where
+  pub lengths : List ℕ
+  pub rest : List ℕ
+  pub read : Reads (SpellsLengths None) k input lengths rest
+  pub fault : faults reason (sum lengths) rest

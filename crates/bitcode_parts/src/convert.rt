@@ -1,0 +1,140 @@
+// The coders of types whose values are written, or read, as values of another type.
+ghost use Rattle.std.specs.Prelude.{◌≡◌, []};
+ghost use Rattle.std.proofs.Common.{sym, ◌∙◌};
+ghost use Rattle.bitcode_parts.specs.Conversion.{ListsAsToo, MakesToo, IsWrittenAs, surely_as};
+
+use bitcode_coder::coder::{Buffer, Decoder, Encoder, View};
+use bitcode_columns::error::Error;
+use bitcode_shapes::shaped::{Made, Shaped};
+use std::alloc::Global;
+use std::marker::PhantomData;
+
+/// A type whose values are written as values of `T`, as a `Duration` is as its seconds and nanoseconds.
+///
+/// ```
+/// impl ConvertInto<u32> for Meters {
+///     fn convert_into(&self) -> u32 {
+///         self.0
+///     }
+/// }
+/// ```
+pub trait ConvertInto<T: Shaped>: Shaped {
+    /// The value that is written.
+    fn convert_into(&self) -> T
+        ensures { ListsAsToo Self.lists T.lists self.now result };
+
+    ghost written_as: { IsWrittenAs Self.shape T.shape };
+}
+
+/// A type whose values are made of values of `T`, as a `Duration` is of its seconds and nanoseconds.
+///
+/// ```
+/// impl ConvertFrom<u32> for Meters {
+///     fn convert_from(value: u32) -> Self {
+///         Meters(value)
+///     }
+/// }
+/// ```
+pub trait ConvertFrom<T: Made>: Made {
+    /// The value that is made of the one that was read.
+    fn convert_from(value: T) -> Self
+        ensures { MakesToo Self.makes T.makes result value };
+
+    ghost shape_from: { Self.shape ≡ T.shape };
+}
+
+/// The columns that values are written to as values of `T`, by the encoder `E` of these.
+///
+/// ```
+/// let mut lengths: ConvertIntoEncoder<u32, IntEncoder<u32>> = ConvertIntoEncoder::new(alloc);
+/// lengths.reserve(1)?;
+/// lengths.encode(&Meters(7))?;
+/// lengths.collect_into(&mut bytes)?; // [4, 7]
+/// ```
+#[derive(Drop)]
+pub struct ConvertIntoEncoder<T, E> {
+    inner: E,
+    of: PhantomData<T>,
+}
+
+impl<T: Drop, E: Buffer> Buffer for ConvertIntoEncoder<T, E> {
+    ghost columns = { λ e. E.columns e.inner };
+
+    ghost room = { λ e. E.room e.inner };
+
+    ghost surely_passes = { λ e n. E.surely_passes e.inner n };
+
+    fn new(alloc: Global) -> Self {
+        ConvertIntoEncoder {
+            inner: E::new(alloc),
+            of: PhantomData,
+        }
+    }
+
+    fn reserve(&mut self, n: usize) -> Result<(), Error> {
+        self.inner.reserve(n)
+    }
+
+    fn collect_into(&mut self, out: &mut Vec<u8>) -> Result<(), Error> {
+        self.inner.collect_into(out)
+    }
+
+    fn clear(&mut self) {
+        self.inner.clear();
+    }
+}
+
+impl<T: Shaped + Drop, D: ConvertInto<T>, E: Encoder<T>> Encoder<D> for ConvertIntoEncoder<T, E> {
+    fn encode(&mut self, t: &D) -> Result<(), Error> {
+        self.inner.encode(&t.convert_into())
+    }
+
+    ghost of_shape = { λ e. E.of_shape e.inner ∙ sym (D.written_as.columns []) };
+
+    ghost surely = { λ e n h. surely_as D.shape T.shape D.written_as (E.columns e.inner) n (E.surely e.inner n h) };
+}
+
+/// The data that values are made of by way of values of `T`, read by the decoder `D` of these.
+///
+/// ```
+/// let mut lengths: ConvertFromDecoder<u32, IntDecoder<u32>> = ConvertFromDecoder::new(alloc);
+/// lengths.populate(&mut input, 1)?; // [4, 7]
+/// let first: Meters = lengths.decode()?; // Meters(7)
+/// ```
+#[derive(Drop)]
+pub struct ConvertFromDecoder<T, D> {
+    inner: D,
+    of: PhantomData<T>,
+}
+
+impl<'a, T: Drop, D: View<'a>> View<'a> for ConvertFromDecoder<T, D> {
+    ghost shape = { D.shape };
+
+    ghost held = { λ d. D.held d.inner };
+
+    ghost reads_free = { λ k input. D.reads_free k input };
+
+    ghost faults = { λ reason k input. D.faults reason k input };
+
+    fn new(alloc: Global) -> Self {
+        ConvertFromDecoder {
+            inner: D::new(alloc),
+            of: PhantomData,
+        }
+    }
+
+    fn populate(&mut self, input: &mut &'a [u8], k: usize) -> Result<(), Error> {
+        self.inner.populate(input, k)
+    }
+}
+
+impl<'a, T: Made + Drop, F: ConvertFrom<T>, D: Decoder<'a, T>> Decoder<'a, F>
+    for ConvertFromDecoder<T, D> {
+    ghost makes_free = { D.makes_free };
+
+    fn decode(&mut self) -> Result<F, Error> {
+        Ok(F::convert_from(self.inner.decode()?))
+    }
+
+    ghost same_shape = { D.same_shape ∙ sym F.shape_from };
+}

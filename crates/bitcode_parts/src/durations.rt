@@ -1,0 +1,29 @@
+// Durations as seconds and nanoseconds.
+ghost use Rattle.std.specs.Prelude.{refl};
+ghost use Rattle.bitcode_parts.specs.DurationData.{duration_written_as};
+
+use crate::convert::{ConvertFrom, ConvertInto};
+use bitcode_coder::checked::Nanosecond;
+use std::time::Duration;
+
+/// What a `Duration` is written as: its seconds, and its nanoseconds below one second.
+pub type DurationEncode = (u64, u32);
+
+/// What a `Duration` is made of.
+pub type DurationDecode = (u64, Nanosecond);
+
+impl ConvertInto<DurationEncode> for Duration {
+    fn convert_into(&self) -> DurationEncode {
+        (self.as_secs(), self.subsec_nanos())
+    }
+
+    ghost written_as = { duration_written_as };
+}
+
+impl ConvertFrom<DurationDecode> for Duration {
+    fn convert_from(value: DurationDecode) -> Self {
+        Duration::new(value.0, value.1.into_inner())
+    }
+
+    ghost shape_from = { refl };
+}

@@ -1,0 +1,58 @@
+// The elements of sequences, written and read one by one, front to back.
+ghost use Rattle.std.specs.Prelude.{◌≡◌, ◌+◌, ◌≤◌, length, IsOk, IfOk, OnOk, IfErr};
+ghost use Rattle.bitcode_columns.specs.declared.error.Reason.{Reason};
+ghost use Rattle.bitcode_coder.specs.Columns.{emptied};
+ghost use Rattle.bitcode_coder.specs.Coding.{IsWritingRefusal};
+ghost use Rattle.bitcode_parts.specs.Elements.{JoinsEach, PassesWithEach, TakesEach};
+
+use bitcode_coder::coder::{Decoder, Encoder};
+use bitcode_columns::error::{Error, Reason};
+use bitcode_shapes::sequences::told_each;
+use bitcode_shapes::shaped::{Made, Shaped};
+use std::alloc::Global;
+
+/// Writes the elements, front to back. Room for them was reserved.
+///
+/// It refuses as the encoder does: the elements up to the one at hand may have been written then.
+///
+/// ```
+/// elements.reserve(items.len())?;
+/// encode_each(&mut elements, items)?;
+/// ```
+pub fn encode_each<T: Shaped, E: Encoder<T>>(elements: &mut E, items: &[T]) -> Result<(), Error>
+    requires { length items.now ≤ E.room elements.old }
+    ensures joined { OnOk result (JoinsEach T.lists T.shape items.now (E.columns elements.old) (E.columns elements.new)) }
+    ensures room { OnOk result (E.room elements.old ≤ E.room elements.new + length items.now) }
+    ensures form { emptied (E.columns elements.new) ≡ emptied (E.columns elements.old) }
+    ensures refused { IfErr result (λ e. IsWritingRefusal e.reason (PassesWithEach T.lists T.shape items.now (E.columns elements.old))) }
+{
+    told_each(items);
+    for item in items {
+        elements.encode(item)?;
+    }
+    Ok(())
+}
+
+/// Makes so many values, one after the other. So many data are left.
+///
+/// `out of memory` is its only refusal, and none comes where no value is wanted.
+///
+/// ```
+/// let items: Vec<u8> = decode_each(alloc, &mut elements, 3)?;
+/// ```
+pub fn decode_each<'a, T: Made + Drop, D: Decoder<'a, T>>(
+    alloc: Global,
+    elements: &mut D,
+    count: usize,
+) -> Result<Vec<T>, Error>
+    requires { count ≤ length (D.held elements.old) }
+    ensures made { IfOk result (λ items. TakesEach T.makes count items.items (D.held elements.old) (D.held elements.new)) }
+    ensures refused { IfErr result (λ e. e.reason ≡ Reason.OutOfMemory) }
+    ensures none { count ≡ 0 → IsOk result }
+{
+    let mut items = Vec::with_capacity(alloc, count)?;
+    for _made in 0..count {
+        items.push(elements.decode()?)?;
+    }
+    Ok(items)
+}

@@ -1,0 +1,154 @@
+// The coders of sequences: the lengths of all, and behind them the columns of all elements.
+#![tactic(auto, unfolding(bitcode_coder::specs::LengthCoders::lengths_left, bitcode_coder::specs::LengthCoders::lengths_sum))]
+
+ghost use Rattle.std.specs.Prelude.{◌≡◌, ◌+◌, ◌<◌, ◌≤◌, List, [], None, map, false, OnOk, IfErr, ◌⊎◌};
+ghost use Rattle.std.proofs.Common.{ap};
+ghost use Rattle.bitcode_shapes.specs.Shape.{seq_shape};
+ghost use Rattle.bitcode_shapes.specs.Sequences.{ListsSequence};
+ghost use Rattle.bitcode_coder.specs.Coding.{JoinsListing, PassesWithListing, IsWritingRefusal};
+ghost use Rattle.bitcode_coder.specs.Columns.{emptied, lengths, one, two};
+ghost use Rattle.bitcode_coder.specs.LengthCoders.{written_lengths, length_room, lengths_left};
+ghost use Rattle.bitcode_coder.specs.LengthParts.{NamesLengthFault, LengthsStandRaw};
+ghost use Rattle.bitcode_coder.specs.Spelling.{natural};
+ghost use Rattle.bitcode_parts.specs.Sequences.{lists_of, ElementsBehind, FaultsInElements};
+
+use crate::elements::{decode_each, encode_each};
+use bitcode_coder::coder::{Buffer, Decoder, Encoder, View};
+use bitcode_coder::length::{LengthDecoder, LengthEncoder};
+use bitcode_columns::error::Error;
+use bitcode_shapes::sequences::told_each;
+use bitcode_shapes::shaped::{Made, Shaped};
+use std::alloc::Global;
+
+/// The encoder of sequences: a column of lengths, and behind it the columns of all elements.
+///
+/// It writes the elements by their encoder, front to back, and refuses as that one does.
+///
+/// ```
+/// let mut lists: VecEncoder<IntEncoder<u8>> = VecEncoder::new(alloc);
+/// lists.reserve(1)?;
+/// lists.encode(&list)?;            // 1, 2 and 3
+/// lists.collect_into(&mut bytes)?; // [3, 6, 57]
+/// ```
+#[derive(Drop)]
+pub struct VecEncoder<E> {
+    lengths: LengthEncoder,
+    elements: E,
+}
+
+impl<E: Buffer> Buffer for VecEncoder<E> {
+    ghost columns = { λ e. two (one (lengths None) (map natural (written_lengths e.lengths))) (E.columns e.elements) };
+
+    ghost room = { λ e. length_room e.lengths };
+
+    ghost surely_passes = { λ e n. ⊥ };
+
+    fn new(alloc: Global) -> Self {
+        VecEncoder {
+            lengths: LengthEncoder::new(alloc),
+            elements: E::new(alloc),
+        }
+    }
+
+    fn reserve(&mut self, n: usize) -> Result<(), Error> {
+        self.lengths.reserve(n)
+    }
+
+    fn collect_into(&mut self, out: &mut Vec<u8>) -> Result<(), Error> {
+        self.lengths.collect_into(out)?;
+        self.elements.collect_into(out)
+    }
+
+    fn clear(&mut self) {
+        self.lengths.clear();
+        self.elements.clear();
+    }
+}
+
+impl<E> VecEncoder<E> {
+    // Writes a sequence: its length, and its elements.
+    fn encode_items<T: Shaped>(&mut self, items: &[T]) -> Result<(), Error>
+    where
+        E: Encoder<T>,
+        requires { 0 < length_room self.old.lengths }
+        ensures joined { OnOk result (JoinsListing (λ (s : List T) d. ListsSequence T.lists s d) (seq_shape None T.shape) items.now (⟦<VecEncoder<E> as Buffer>⟧.columns self.old) (⟦<VecEncoder<E> as Buffer>⟧.columns self.new)) }
+        ensures room { OnOk result (length_room self.old.lengths ≤ length_room self.new.lengths + 1) }
+        ensures form { emptied (E.columns self.new.elements) ≡ emptied (E.columns self.old.elements) }
+        ensures refused { IfErr result (λ e. IsWritingRefusal e.reason (PassesWithListing (λ (s : List T) d. ListsSequence T.lists s d) (seq_shape None T.shape) items.now (⟦<VecEncoder<E> as Buffer>⟧.columns self.old))) }
+    {
+        told_each(items);
+        self.elements.reserve(items.len())?;
+        self.lengths.encode(items.len())?;
+        encode_each(&mut self.elements, items)
+    }
+}
+
+impl<T: Shaped, E: Encoder<T>> Encoder<Vec<T>> for VecEncoder<E> {
+    fn encode(&mut self, t: &Vec<T>) -> Result<(), Error> {
+        self.encode_items(t.as_slice())
+    }
+
+    ghost of_shape = { λ e. ap (two (one (lengths None) [])) (E.of_shape e.elements) };
+
+    ghost surely = { λ e n never. absurd never };
+}
+
+impl<'b, T: Shaped, E: Encoder<T>> Encoder<&'b [T]> for VecEncoder<E> {
+    fn encode(&mut self, t: &&'b [T]) -> Result<(), Error> {
+        self.encode_items(*t)
+    }
+
+    ghost of_shape = { λ e. ap (two (one (lengths None) [])) (E.of_shape e.elements) };
+
+    ghost surely = { λ e n never. absurd never };
+}
+
+/// The decoder of sequences: it reads the lengths of all, and then the elements of all.
+///
+/// It makes the elements by their decoder, front to back, and refuses as that one does.
+///
+/// ```
+/// let mut lists: VecDecoder<IntDecoder<u8>> = VecDecoder::new(alloc);
+/// lists.populate(&mut input, 1)?;      // [3, 6, 57]
+/// let list: Vec<u8> = lists.decode()?; // 1, 2 and 3
+/// ```
+#[derive(Drop)]
+pub struct VecDecoder<'a, D> {
+    alloc: Global,
+    lengths: LengthDecoder<'a>,
+    elements: D,
+}
+
+impl<'a, D: View<'a>> View<'a> for VecDecoder<'a, D> {
+    ghost shape = { seq_shape None D.shape };
+
+    ghost held = { λ d. lists_of (lengths_left d.lengths) (D.held d.elements) };
+
+    ghost reads_free = { λ k input. LengthsStandRaw k input × ElementsBehind D.reads_free k input };
+
+    ghost faults = { λ reason k input. NamesLengthFault reason k input ⊎ FaultsInElements D.faults reason k input };
+
+    fn new(alloc: Global) -> Self {
+        VecDecoder {
+            alloc,
+            lengths: LengthDecoder::new(alloc),
+            elements: D::new(alloc),
+        }
+    }
+
+    fn populate(&mut self, input: &mut &'a [u8], k: usize) -> Result<(), Error> {
+        self.lengths.populate(input, k)?;
+        self.elements.populate(input, self.lengths.length())
+    }
+}
+
+impl<'a, T: Made + Drop, D: Decoder<'a, T>> Decoder<'a, Vec<T>> for VecDecoder<'a, D> {
+    ghost makes_free = { false };
+
+    fn decode(&mut self) -> Result<Vec<T>, Error> {
+        let count = self.lengths.decode();
+        decode_each(self.alloc, &mut self.elements, count)
+    }
+
+    ghost same_shape = { ap (seq_shape None) D.same_shape };
+}
