@@ -6,6 +6,8 @@ pub mod LawfulValues
 pub mod Sequences
 pub mod LawfulSequences
 pub mod LawfulImages
+pub mod Tuples
+pub mod Pointers
 pub mod Choices
 pub mod LawfulChoices
 pub mod LawfulStructs
