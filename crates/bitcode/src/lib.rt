@@ -20,19 +20,28 @@ pub use bitcode_columns::error::{Error, Reason};
 pub use bitcode_columns::fast::{
     CowSlice, FastSlice, FastVec, NextUnchecked, PushUnchecked, SliceImpl, VecImpl,
 };
+pub use bitcode_columns::histogram::histogram;
 pub use bitcode_columns::int_types::{Byte, Int, SizedInt, SizedUInt};
-pub use bitcode_columns::pack::{pack_bools, pack_bytes, unpack_bools, unpack_bytes};
+pub use bitcode_columns::pack::{
+    pack_bools, pack_bytes, pack_bytes_less_than, unpack_bools, unpack_bytes,
+    unpack_bytes_less_than,
+};
 pub use bitcode_columns::pack_ints::{minmax, pack_ints, unpack_ints};
 pub use bitcode_columns::refuse::{err, error};
 pub use bitcode_derive::buffer::Buffer;
 pub use bitcode_derive::derive::{Decode, DecodeOwned, Encode};
 pub use bitcode_derive::whole::{decode, encode, invalid_enum_variant};
+pub use bitcode_parts::array::{ArrayDecoder, ArrayEncoder};
 pub use bitcode_parts::convert::{
     ConvertFrom, ConvertFromDecoder, ConvertInto, ConvertIntoEncoder,
 };
 pub use bitcode_parts::durations::{DurationDecode, DurationEncode};
 pub use bitcode_parts::empty::EmptyCoder;
+pub use bitcode_parts::option::{OptionDecoder, OptionEncoder};
+pub use bitcode_parts::result::{ResultDecoder, ResultEncoder};
+pub use bitcode_parts::variant::{VariantDecoder, VariantEncoder, encode_payload};
 pub use bitcode_parts::vec::{VecDecoder, VecEncoder};
+pub use bitcode_shapes::no_variants::NoVariants;
 pub use bitcode_shapes::shaped::{Made, Shaped};
 pub use bitcode_tuples::decoder::TupleDecoder;
 pub use bitcode_tuples::encoder::TupleEncoder;
@@ -49,8 +58,9 @@ pub mod laws {
     pub use bitcode_coder::laws::{
         all_columns, joined_data, joined_texts, one_column, tree_and_list,
     };
-    pub use bitcode_columns::laws::{bool_columns, byte_columns, int_columns};
+    pub use bitcode_columns::laws::{bool_columns, byte_columns, int_columns, variant_columns};
     pub use bitcode_derive::laws::{
-        borrowed_text, borrowed_texts, one_text, one_value, round_trip, short_text,
+        borrowed_text, borrowed_texts, one_text, one_value, overflows_exactly, round_trip,
+        short_text,
     };
 }

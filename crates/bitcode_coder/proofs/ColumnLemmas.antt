@@ -15,6 +15,7 @@ use Rattle.bitcode_columns.specs.IntColumn.{SpellsInts}
 use Rattle.bitcode_columns.specs.VariantColumn.{SpellsVariants, variant_text}
 use Rattle.bitcode_columns.proofs.ListLemmas.{append_split, map_further}
 use Rattle.bitcode_columns.proofs.DigitLemmas.{SpellsDigits-once, SpellsDigits-eighth, digits_text-spells, base_for_above}
+use Rattle.bitcode_columns.proofs.VariantLemmas.{SpellsVariants-once, SpellsVariants-eighth, variant_text-spells}
 use Rattle.bitcode_columns.proofs.NumberLemmas.{number_of-residue, residue_below}
 use Rattle.bitcode_columns.proofs.BoolLemmas.{SpellsBools-once, bool_text-spells}
 use Rattle.bitcode_columns.proofs.IntLemmas.{SpellsInts-once, SpellsInts-eighth, int_text-spells}
@@ -72,14 +73,6 @@ ints_once width = record {
       (SpellsInts-once width).once piece other entries others rest left s.spelled t.spelled same e;
 }
 
--- ---- variants
-
-variants_once : (count : ℕ) → IsReadOnce (SpellsVariants count)
-variants_once count = record {
-  once = λ piece other entries others rest left s t same e.
-      (SpellsDigits-once (base_for (count - 1))).once piece other entries others rest left s.digits t.digits same e;
-}
-
 -- ---- each kind
 
 bytes_once : IsReadOnce (λ bytes entries. bytes ≡ entries)
@@ -94,7 +87,7 @@ SpellsColumn-once (ints width signed) = as_once (number_of_residue width signed)
 SpellsColumn-once (lengths limit) = as_once natural (SpellsLengths limit) (SpellsLengths-once limit)
 SpellsColumn-once (texts limit) = as_once text (SpellsTexts limit) (SpellsTexts-once limit)
 SpellsColumn-once raws = as_once natural (λ bytes entries. bytes ≡ entries) bytes_once
-SpellsColumn-once (variants count) = as_once natural (SpellsVariants count) (variants_once count)
+SpellsColumn-once (variants count) = as_once natural (SpellsVariants count) (SpellsVariants-once count)
 
 pub SpellsColumn-nothing : (kind : Kind) → IsSoundKind kind → (piece : List ℕ) → SpellsColumn kind piece [] → piece ≡ []
 SpellsColumn-nothing bools sound = as_nothing truth SpellsBools (SpellsDigits-eighth Two).nothing
@@ -104,7 +97,7 @@ SpellsColumn-nothing (lengths limit) sound = as_nothing natural (SpellsLengths l
 SpellsColumn-nothing (texts limit) sound = as_nothing text (SpellsTexts limit) (SpellsTexts-nothing limit)
 SpellsColumn-nothing raws sound = as_nothing natural (λ bytes entries. bytes ≡ entries) (λ piece s. s)
 SpellsColumn-nothing (variants count) sound =
-    as_nothing natural (SpellsVariants count) (λ piece s. (SpellsDigits-eighth (base_for (count - 1))).nothing piece s.digits)
+    as_nothing natural (SpellsVariants count) (SpellsVariants-eighth count).nothing
 
 texts_total : (ts : List (List ℕ)) → sum_by (λ d. length (text_in d)) (map text ts) ≡ sum_by (λ t. length t) ts
 texts_total ts =
@@ -128,7 +121,7 @@ SpellsColumn-eighth (texts limit) sound = λ piece entries s.
     )
 SpellsColumn-eighth raws sound = as_eighth natural (λ bytes entries. bytes ≡ entries) (λ piece entries s. omega (arith, ap length s))
 SpellsColumn-eighth (variants count) sound =
-    as_eighth natural (SpellsVariants count) (λ piece entries s. (SpellsDigits-eighth (base_for (count - 1))).eighth piece entries s.digits)
+    as_eighth natural (SpellsVariants count) (SpellsVariants-eighth count).eighth
 
 -- ---- read back
 
@@ -154,15 +147,9 @@ raw_columns_spell ds each =
 
 variant_columns_spell : (count : ℕ) → 2 ≤ count → count ≤ 256 → (ds : List Datum) → All (IsNaturalBelow count) ds
     → SpellsColumn (variants count) (column_text (variants count) ds) ds
-unfolding variant_text
 variant_columns_spell count some few ds each =
     as_spells natural (SpellsVariants count) natural_in (column_text (variants count) ds) ds (naturals_found count ds each)
-    record {
-      digits = digits_text-spells (base_for (count - 1)) (map natural_in ds)
-          (All-weaker (λ n. n < count) (λ n. n < radix (base_for (count - 1))) (λ n below. omega (arith, base_for_above (count - 1) (omega arith)))
-          (map natural_in ds) (naturals_below count ds each));
-      known = naturals_below count ds each;
-    }
+    (variant_text-spells count (map natural_in ds) some few (naturals_below count ds each))
 
 some_width : (width : ℕ) → IsNumberWidth width → 1 ≤ width
 some_width width is_width = omega arith

@@ -77,7 +77,7 @@ size-digits_text base entries =
     0 (div_ceil (length entries) (digits_in_byte base))
 
 -- the byte of an entry is one of them
-byte_inside : (i count digits : ℕ) → 1 ≤ digits → i < count → i / digits < div_ceil count digits
+pub byte_inside : (i count digits : ℕ) → 1 ≤ digits → i < count → i / digits < div_ceil count digits
 byte_inside i count digits some h = div_below i digits (div_ceil count digits) some (omega (arith, div_ceil_times count digits some))
 
 piece_at : (digits : ℕ) (entries : List ℕ) (i : ℕ) → 1 ≤ digits → i < length entries

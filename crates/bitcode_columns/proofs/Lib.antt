@@ -18,3 +18,5 @@ pub mod ByteReadingLemmas
 pub mod WrittenLemmas
 pub mod AppendLemmas
 pub mod BytePackingLemmas
+pub mod CountLemmas
+pub mod VariantLemmas

@@ -9,6 +9,7 @@ pub mod Tagged
 pub mod BoolColumn
 pub mod ByteColumn
 pub mod VariantColumn
+pub mod Counts
 pub mod IntColumn
 pub mod Narrowing
 pub mod Reading

@@ -73,10 +73,19 @@ ints_fault width count input = ints_fault_as (int_form width count) width count 
 abbrev pub Names : Reason → Option Reason → Type 0
 Names reason fault = ((reason ≡ OutOfMemory) × (fault ≡ None)) ⊎ (fault ≡ Some reason)
 
+-- The same of a variant column: memory is wanted after the bytes are there, and before the entries are known.
+abbrev pub NamesVariantFault : Reason → (variants count : ℕ) → List ℕ → Type 0
+NamesVariantFault reason variants count input =
+    ((reason ≡ OutOfMemory) × (digits_fault (base_for (variants - 1)) count input ≡ None)) ⊎ (variants_fault variants count input ≡ Some reason)
+
 -- Entries that stand as they are in the input: their reader borrows them, and takes no memory.
 abbrev pub has_raw_tag : List ℕ → Bool
 has_raw_tag [] = false
 has_raw_tag (tag ∷ input) = tag == 0
+
+-- from 17 variants on
+abbrev pub variants_stand_raw : (variants count : ℕ) → Bool
+variants_stand_raw variants count = nat_le 17 variants || count == 0
 
 abbrev pub bytes_stand_raw : ℕ → List ℕ → Bool
 bytes_stand_raw count input = nat_le count 2 || has_raw_tag input

@@ -1,10 +1,11 @@
 // What holds of columns whatever their entries are. A call does nothing: its contract is the law.
-ghost use Rattle.std.specs.Prelude.{ℕ, Bool, List, ◌++◌, length};
+ghost use Rattle.std.specs.Prelude.{ℕ, ◌<◌, ◌≤◌, Bool, List, ◌++◌, length, All};
 ghost use Rattle.bitcode_columns.specs.BoolColumn.{SpellsBools, bool_text};
 ghost use Rattle.bitcode_columns.specs.ByteColumn.{SpellsBytes, byte_text};
 ghost use Rattle.bitcode_columns.specs.IntColumn.{IsWidth, SpellsInts, int_text};
 ghost use Rattle.bitcode_columns.specs.Laws.{IsReadOnce, TakesAnEighth, IsFaultOf, TakesAtMostOneMore, ReadsBack, NumbersAreFound};
-ghost use Rattle.bitcode_columns.specs.Reading.{Reads, bools_fault, bytes_fault, ints_fault};
+ghost use Rattle.bitcode_columns.specs.Reading.{Reads, bools_fault, bytes_fault, variants_fault, ints_fault};
+ghost use Rattle.bitcode_columns.specs.VariantColumn.{SpellsVariants, variant_text};
 
 /// Bool columns: what is written is read back whatever follows it, an input is read in at most one way, no entries
 /// take no bytes and so many at least an eighth as many, and a fault is named only where nothing can be read.
@@ -22,6 +23,14 @@ pub fn byte_columns()
     ensures eighth { TakesAnEighth SpellsBytes }
     ensures refused { IsFaultOf bytes_fault SpellsBytes }
     ensures at_most { TakesAtMostOneMore 1 byte_text }
+{}
+
+/// Columns of 2 to 256 variants: as of bool columns.
+pub fn variant_columns()
+    ensures back { (variants : ℕ) (entries rest : List ℕ) → 2 ≤ variants → variants ≤ 256 → All (λ entry. entry < variants) entries → Reads (SpellsVariants variants) (length entries) (variant_text variants entries ++ rest) entries rest }
+    ensures once { (variants : ℕ) → IsReadOnce (SpellsVariants variants) }
+    ensures eighth { (variants : ℕ) → TakesAnEighth (SpellsVariants variants) }
+    ensures refused { (variants : ℕ) → IsFaultOf (variants_fault variants) (SpellsVariants variants) }
 {}
 
 /// Integer columns of 1, 2, 4, 8 and 16 bytes: the same, and the number of an entry is found from its residue.

@@ -5,6 +5,7 @@ pub mod consume;
 mod digits;
 pub mod error;
 pub mod fast;
+pub mod histogram;
 pub mod int_types;
 pub mod laws;
 pub mod pack;

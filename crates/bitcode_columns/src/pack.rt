@@ -10,9 +10,11 @@ use crate::digits::{pack_digits, unpack_digits};
 use crate::error::{Error, Reason};
 use crate::fast::CowSlice;
 pub use crate::pack::bytes::{pack_bytes, unpack_bytes};
+pub use crate::pack::variants::{pack_bytes_less_than, unpack_bytes_less_than};
 use std::alloc::Global;
 
 mod bytes;
+mod variants;
 
 /// How many values a digit of a packed byte has: two to sixteen, or all 256 of a whole byte.
 #[derive(Clone, Copy, PartialEq, Eq)]

@@ -1,4 +1,5 @@
 pub mod EncodingLemmas
 pub mod DecodingLemmas
 pub mod RoundTripLemmas
+pub mod ArrayCountLemmas
 pub mod BorrowedTextLemmas

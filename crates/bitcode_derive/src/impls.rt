@@ -5,7 +5,9 @@ use bitcode_parts::empty::EmptyCoder;
 use bitcode_tuples::decoder::TupleDecoder;
 use bitcode_tuples::encoder::TupleEncoder;
 
+mod arrays;
 mod checked;
+mod choices;
 mod durations;
 mod ints;
 mod sequences;

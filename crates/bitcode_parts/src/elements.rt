@@ -1,5 +1,5 @@
 // The elements of sequences, written and read one by one, front to back.
-ghost use Rattle.std.specs.Prelude.{◌≡◌, ◌+◌, ◌≤◌, length, IfOk, OnOk, IfErr};
+ghost use Rattle.std.specs.Prelude.{◌≡◌, ◌+◌, ◌≤◌, length, IsOk, IfOk, OnOk, IfErr};
 ghost use Rattle.bitcode_columns.specs.declared.error.Reason.{Reason};
 ghost use Rattle.bitcode_coder.specs.Columns.{emptied};
 ghost use Rattle.bitcode_coder.specs.Coding.{IsWritingRefusal};
@@ -35,7 +35,7 @@ pub fn encode_each<T: Shaped, E: Encoder<T>>(elements: &mut E, items: &[T]) -> R
 
 /// Makes so many values, one after the other. So many data are left.
 ///
-/// `out of memory` is its only refusal.
+/// `out of memory` is its only refusal, and none comes where no value is wanted.
 ///
 /// ```
 /// let items: Vec<u8> = decode_each(alloc, &mut elements, 3)?;
@@ -48,6 +48,7 @@ pub fn decode_each<'a, T: Made + Drop, D: Decoder<'a, T>>(
     requires { count ≤ length (D.held elements.old) }
     ensures made { IfOk result (λ items. TakesEach T.makes count items.items (D.held elements.old) (D.held elements.new)) }
     ensures refused { IfErr result (λ e. e.reason ≡ Reason.OutOfMemory) }
+    ensures none { count ≡ 0 → IsOk result }
 {
     let mut items = Vec::with_capacity(alloc, count)?;
     for _made in 0..count {

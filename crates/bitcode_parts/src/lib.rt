@@ -1,8 +1,17 @@
 // Coders of the parts of which types are made.
 #![tactic(auto)]
 
+pub mod array;
 pub mod convert;
+pub mod deref;
 pub mod durations;
 pub mod elements;
 pub mod empty;
+pub mod from;
+pub mod markers;
+pub mod option;
+pub mod pointers;
+pub mod result;
+pub mod uuids;
+pub mod variant;
 pub mod vec;

@@ -118,7 +118,7 @@ storable_first a b (storable_tuple (storable_more h _)) = h
 storable_second : (a b : Datum) → IsStorable (pair a b) → IsStorable b
 storable_second a b (storable_tuple (storable_more _ (storable_more h _))) = h
 
-both : (a b : Bool) → IsTrue (a && b) → IsTrue a × IsTrue b
+pub both : (a b : Bool) → IsTrue (a && b) → IsTrue a × IsTrue b
 both true b h = (refl, h)
 both false b h = absurd cc
 

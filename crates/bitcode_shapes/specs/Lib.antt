@@ -6,9 +6,16 @@ pub mod LawfulValues
 pub mod Sequences
 pub mod LawfulSequences
 pub mod LawfulImages
+pub mod Tuples
+pub mod Pointers
+pub mod Choices
+pub mod LawfulChoices
+pub mod LawfulStructs
+pub mod LawfulNever
 pub mod Texts
 pub mod LawfulTexts
 pub mod Checked
 pub mod LawfulChecked
 pub mod Durations
 pub mod LawfulDurations
+pub mod Arrays

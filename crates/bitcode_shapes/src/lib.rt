@@ -1,9 +1,16 @@
 // The data that types hold: their shapes, and what a lawful type promises.
 #![tactic(auto)]
 
+pub mod arrays;
 pub mod checked;
+pub mod choices;
 pub mod durations;
+pub mod empty;
+pub mod no_variants;
+pub mod pointers;
 pub mod sequences;
 pub mod shaped;
 pub mod texts;
+pub mod tuples;
+pub mod uuids;
 pub mod values;

@@ -10,7 +10,8 @@ use Rattle.bitcode_shapes.specs.Shape.{Shape, pair_shape, IsOf, IsPairOf}
 use Rattle.bitcode_coder.specs.Columns.{CountsFit}
 use Rattle.bitcode_coder.specs.Transposition.{columns_of}
 use Rattle.bitcode_coder.specs.Spelling.{Spells, SpellsColumns}
-use Rattle.bitcode_coder.specs.Coding.{IsReadingRefusal}
+use Rattle.bitcode_shapes.specs.Values.{MakesPair}
+use Rattle.bitcode_coder.specs.Coding.{IsReadingRefusal, TakesDatum}
 use Rattle.bitcode_tuples.specs.Pairs.{pairs_of}
 use Rattle.bitcode_tuples.specs.PairLaws.{firsts_are, seconds_are}
 use Rattle.bitcode_coder.proofs.SpellingLemmas.{Spells-once}
@@ -113,3 +114,15 @@ module _ (s t : Shape) (k : ℕ) where
       → IfErr result (λ e. IsReadingRefusal t (reason e) k middle) → IfErr result (λ e. IsReadingRefusal (pair_shape s t) (reason e) k old)
   refused_second reason (Ok x) old middle ds q h = tt
   refused_second reason (Err e) old middle ds q h = refuses_second (reason e) old middle ds q h
+
+-- ---- values of pairs
+
+-- a value that stands for a pair takes the pair of what its parts take
+pub takes_pair : {P Q T : Type 0} {makes_p : Datum → P → Type 0} {makes_q : Datum → Q → Type 0} {a b c d : List Datum} (split : T → P × Q) (t : T)
+    → TakesDatum makes_p (split t).0 a b → TakesDatum makes_q (split t).1 c d
+    → TakesDatum (λ e u. MakesPair makes_p makes_q e (split u)) t (pairs_of a c) (pairs_of b d)
+takes_pair {b} {c} split t h k = record {
+  datum = pair h.datum k.datum;
+  taken = ap (λ xs. pairs_of xs c) h.taken ∙ ap (λ xs. pairs_of (h.datum ∷ b) xs) k.taken;
+  made = record { first = h.datum; second = k.datum; is = refl; makes_first = h.made; makes_second = k.made };
+}

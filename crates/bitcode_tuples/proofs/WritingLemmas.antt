@@ -32,3 +32,12 @@ module _ {P Q : Type 0} (lists_p : P → Datum → Type 0) (lists_q : Q → Datu
     listing = record { first = d; second = h.datum; is = refl; lists_first = l; lists_second = h.listing };
     passes = λ f. h.passes f.1;
   }
+
+-- ---- a value that stands for another one, as a tuple for a pair
+
+module _ {T U : Type 0} {lists : U → Datum → Type 0} {s : Shape} (split : T → U) (t : T) where
+  pub joins_as : {a b : Columns} → JoinsListing lists s (split t) a b → JoinsListing (λ u d. lists (split u) d) s t a b
+  joins_as h = record { datum = h.datum; listing = h.listing; joined = h.joined; fits = h.fits }
+
+  pub passes_as : {a : Columns} → PassesWithListing lists s (split t) a → PassesWithListing (λ u d. lists (split u) d) s t a
+  passes_as h = record { datum = h.datum; listing = h.listing; passes = h.passes }

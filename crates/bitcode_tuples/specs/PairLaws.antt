@@ -1,12 +1,12 @@
 -- The laws of the coders of pairs follow from those of the coders of the fields.
-use Rattle.std.specs.Prelude.{◌≡◌, ℕ, List, map, All, ◌⊎◌}
+use Rattle.std.specs.Prelude.{◌≡◌, ℕ, List, length, map, All, ◌⊎◌}
 use Rattle.std.proofs.Common.{sym, ◌∙◌, ap, subst, inl, inr}
 use Rattle.std.proofs.lemmas.List.{length-map}
 use Rattle.std.proofs.lemmas.List.Elements.{All-map, All-weaker}
 use Rattle.bitcode_shapes.specs.Datum.{Datum, first_in, second_in}
-use Rattle.bitcode_shapes.specs.Shape.{Shape, pair_shape, IsOf, IsPairOf}
+use Rattle.bitcode_shapes.specs.Shape.{Shape, pair_shape, IsPairOf}
 use Rattle.bitcode_coder.specs.Columns.{Columns, two}
-use Rattle.bitcode_coder.specs.Coding.{SurelyPasses}
+use Rattle.bitcode_tuples.specs.declared.encoder.TupleEncoder.{TupleEncoder}
 
 pub same_pair_shape : {s t u v : Shape} → s ≡ u → t ≡ v → pair_shape s t ≡ pair_shape u v
 same_pair_shape {s} {t} {u} {v} e f = ap (λ x. pair_shape x t) e ∙ ap (λ y. pair_shape u y) f
@@ -28,10 +28,19 @@ module _ (IsFirst IsSecond : Datum → Type 0) where
   pub seconds_are : (ds : List Datum) → All (IsPairOf IsFirst IsSecond) ds → All IsSecond (map second_in ds)
   seconds_are ds each = All-map IsSecond second_in ds (All-weaker (IsPairOf IsFirst IsSecond) (λ d. IsSecond (second_in d)) second_is ds each)
 
--- where the values of one field pass, so do the pairs
-pub pairs_pass : {A B : Type 0} (s t : Shape) (first second : Columns) (n : ℕ) → (A → SurelyPasses s first n) → (B → SurelyPasses t second n)
-    → A ⊎ B → SurelyPasses (pair_shape s t) (two first second) n
-pairs_pass s t first second n of_first of_second (inl h) ds each size fits =
-    of_first h (map first_in ds) (firsts_are (IsOf s) (IsOf t) ds each) (length-map ds first_in ∙ size) fits.0
-pairs_pass s t first second n of_first of_second (inr h) ds each size fits =
-    of_second h (map second_in ds) (seconds_are (IsOf s) (IsOf t) ds each) (length-map ds second_in ∙ size) fits.1
+-- The laws of an encoder of pairs follow from those of the encoders of the fields, whatever is said of a field: that its
+-- columns without entries are those of its shape, and that so many values surely pass.
+pub both_of_shape : {A B : Type 0} {empty_a : A → Columns} {empty_b : B → Columns} {c d : Columns}
+    → ((a : A) → empty_a a ≡ c) → ((b : B) → empty_b b ≡ d) → (e : TupleEncoder A B) → two (empty_a e.first) (empty_b e.second) ≡ two c d
+both_of_shape of_first of_second e = same_two (of_first e.first) (of_second e.second)
+
+pub both_surely : {A B : Type 0} {passes_a : A → ℕ → Type 0} {passes_b : B → ℕ → Type 0} {IsFirst IsSecond : Datum → Type 0}
+    {fits_a : A → List Datum → Type 0} {fits_b : B → List Datum → Type 0}
+    → ((a : A) (n : ℕ) → passes_a a n → (ds : List Datum) → All IsFirst ds → length ds ≡ n → fits_a a ds → ⊥)
+    → ((b : B) (n : ℕ) → passes_b b n → (ds : List Datum) → All IsSecond ds → length ds ≡ n → fits_b b ds → ⊥)
+    → (e : TupleEncoder A B) (n : ℕ) → passes_a e.first n ⊎ passes_b e.second n → (ds : List Datum) → All (IsPairOf IsFirst IsSecond) ds → length ds ≡ n
+    → fits_a e.first (map first_in ds) × fits_b e.second (map second_in ds) → ⊥
+both_surely {IsFirst} {IsSecond} of_first of_second e n (inl h) ds each size fits =
+    of_first e.first n h (map first_in ds) (firsts_are IsFirst IsSecond ds each) (length-map ds first_in ∙ size) fits.0
+both_surely {IsFirst} {IsSecond} of_first of_second e n (inr h) ds each size fits =
+    of_second e.second n h (map second_in ds) (seconds_are IsFirst IsSecond ds each) (length-map ds second_in ∙ size) fits.1

@@ -12,13 +12,16 @@ use bitcode_columns::error::Error;
 use bitcode_shapes::shaped::Made;
 use std::alloc::Global;
 
+mod few;
+mod many;
+
 /// The decoder of pairs: it reads the first fields of all pairs, and then the second ones.
 ///
 /// It makes a pair by the decoders of its fields, and refuses as they do.
 #[derive(Drop)]
 pub struct TupleDecoder<A, B> {
-    first: A,
-    second: B,
+    pub(crate) first: A,
+    pub(crate) second: B,
 }
 
 impl<'a, A: View<'a>, B: View<'a>> View<'a> for TupleDecoder<A, B> {

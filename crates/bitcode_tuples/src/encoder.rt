@@ -1,20 +1,26 @@
 // The encoder of pairs.
 ghost use Rattle.std.specs.Prelude.{min, ◌⊎◌};
 ghost use Rattle.bitcode_coder.specs.Columns.{two};
-ghost use Rattle.bitcode_tuples.specs.PairLaws.{same_two, pairs_pass};
+ghost use Rattle.bitcode_tuples.specs.PairLaws.{both_of_shape, both_surely};
 
+use crate::fields::FieldsEncoder;
 use bitcode_coder::coder::{Buffer, Encoder};
 use bitcode_columns::error::Error;
 use bitcode_shapes::shaped::Shaped;
 use std::alloc::Global;
+
+mod few;
+mod many;
+mod more;
+mod several;
 
 /// The encoder of pairs: the columns of the first fields, and behind them those of the second.
 ///
 /// It writes a pair by the encoders of its fields, and refuses as they do.
 #[derive(Drop)]
 pub struct TupleEncoder<A, B> {
-    first: A,
-    second: B,
+    pub(crate) first: A,
+    pub(crate) second: B,
 }
 
 impl<A: Buffer, B: Buffer> Buffer for TupleEncoder<A, B> {
@@ -49,12 +55,10 @@ impl<A: Buffer, B: Buffer> Buffer for TupleEncoder<A, B> {
 
 impl<P: Shaped, Q: Shaped, A: Encoder<P>, B: Encoder<Q>> Encoder<(P, Q)> for TupleEncoder<A, B> {
     fn encode(&mut self, t: &(P, Q)) -> Result<(), Error> {
-        t.1.told();
-        self.first.encode(&t.0)?;
-        self.second.encode(&t.1)
+        self.encode_fields(&(&t.0, &t.1))
     }
 
-    ghost of_shape = { λ e. same_two (A.of_shape e.first) (B.of_shape e.second) };
+    ghost of_shape = { both_of_shape A.of_shape B.of_shape };
 
-    ghost surely = { λ e n. pairs_pass P.shape Q.shape (A.columns e.first) (B.columns e.second) n (A.surely e.first n) (B.surely e.second n) };
+    ghost surely = { both_surely A.surely B.surely };
 }

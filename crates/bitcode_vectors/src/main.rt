@@ -10,6 +10,7 @@ mod report;
 mod rows;
 #[cfg(test)]
 mod tests;
+mod types;
 
 /// What is printed on standard error for words that the program does not take.
 const USAGE: &str = "usage: bitcode_vectors [column KIND COUNT]";

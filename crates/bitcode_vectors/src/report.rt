@@ -1,5 +1,5 @@
 // What the program prints of its rows.
-use crate::rows::{self, Got, sequences, texts};
+use crate::rows::{self, Got};
 use bitcode::Error;
 use std::alloc::Global;
 use std::{fmt, io};
@@ -32,17 +32,35 @@ fn print_row(rt: &impl Print, number: u8, outcome: Result<(), Got>) -> io::Resul
 pub fn print_rows(rt: &impl Print, alloc: Global) -> io::Result<bool> {
     let mut all_ok = print_row(rt, 1, rows::unit(alloc))?;
     all_ok &= print_row(rt, 2, rows::bools(alloc))?;
-    all_ok &= print_row(rt, 3, texts::number_and_text(alloc))?;
-    all_ok &= print_row(rt, 5, sequences::shifted_integers(alloc))?;
-    all_ok &= print_row(rt, 17, texts::durations(alloc))?;
-    all_ok &= print_row(rt, 18, sequences::many_bools(alloc))?;
+    all_ok &= print_row(rt, 3, rows::texts::number_and_text(alloc))?;
+    all_ok &= print_row(rt, 4, rows::arrays::three_bytes(alloc))?;
+    all_ok &= print_row(rt, 5, rows::sequences::shifted_integers(alloc))?;
+    all_ok &= print_row(rt, 6, rows::lengths::lengths_written(alloc))?;
+    all_ok &= print_row(rt, 7, rows::lengths::lengths_read(alloc))?;
+    all_ok &= print_row(rt, 8, rows::arrays::more_bytes_than_a_length(alloc))?;
+    all_ok &= print_row(rt, 9, rows::arrays::two_texts(alloc))?;
+    all_ok &= print_row(rt, 10, rows::variants::last_of_six(alloc))?;
+    all_ok &= print_row(rt, 11, rows::variants::counts_of_high_bytes(alloc))?;
+    all_ok &= print_row(rt, 17, rows::texts::durations(alloc))?;
+    all_ok &= print_row(rt, 18, rows::sequences::many_bools(alloc))?;
     all_ok &= print_row(rt, 21, rows::pair(alloc))?;
     all_ok &= print_row(rt, 22, rows::words_written(alloc))?;
     all_ok &= print_row(rt, 23, rows::words_read(alloc))?;
-    all_ok &= print_row(rt, 28, texts::checked_numbers(alloc))?;
-    all_ok &= print_row(rt, 35, sequences::late_least(alloc))?;
-    all_ok &= print_row(rt, 36, sequences::nested_lists(alloc))?;
-    all_ok &= print_row(rt, 37, texts::texts_read(alloc))?;
-    all_ok &= print_row(rt, 38, texts::texts_written(alloc))?;
+    all_ok &= print_row(rt, 24, rows::choices::options(alloc))?;
+    all_ok &= print_row(rt, 25, rows::choices::two_variants(alloc))?;
+    all_ok &= print_row(rt, 27, rows::arrays::sums_of_lengths(alloc))?;
+    all_ok &= print_row(rt, 28, rows::texts::checked_numbers(alloc))?;
+    all_ok &= print_row(rt, 29, rows::choices::unused_bits_of_an_option(alloc))?;
+    all_ok &= print_row(rt, 31, rows::byte_columns::bytes_packed(alloc))?;
+    all_ok &= print_row(rt, 32, rows::byte_columns::bytes_unpacked(alloc))?;
+    all_ok &= print_row(rt, 33, rows::choices::results(alloc))?;
+    all_ok &= print_row(rt, 35, rows::sequences::late_least(alloc))?;
+    all_ok &= print_row(rt, 36, rows::sequences::nested_lists(alloc))?;
+    all_ok &= print_row(rt, 37, rows::texts::texts_read(alloc))?;
+    all_ok &= print_row(rt, 38, rows::texts::texts_written(alloc))?;
+    all_ok &= print_row(rt, 39, rows::choices::one_variant_and_none(alloc))?;
+    all_ok &= print_row(rt, 40, rows::variants::raw_variants(alloc))?;
+    all_ok &= print_row(rt, 41, rows::arrays::seven_signed_bytes(alloc))?;
+    all_ok &= print_row(rt, 42, rows::arrays::more_units_than_a_length(alloc))?;
     Ok(all_ok)
 }

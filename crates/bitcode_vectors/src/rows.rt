@@ -2,8 +2,13 @@
 use bitcode::{Decode, Encode, Error, Reason, decode, encode, error};
 use std::alloc::{AllocError, AllocFailed, Global};
 
+pub mod arrays;
+pub mod byte_columns;
+pub mod choices;
+pub mod lengths;
 pub mod sequences;
 pub mod texts;
+pub mod variants;
 
 /// What a wrong part of a row gave.
 #[derive(Debug, Drop)]

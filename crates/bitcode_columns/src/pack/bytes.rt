@@ -68,7 +68,7 @@ fn add_to_each(entries: &mut Vec<u8>, number: u8)
 }
 
 /// Lets `out` go on with a slice of the input, whose bytes are below 256 as all are.
-fn borrow_bytes<'a>(bytes: &'a [u8], out: &mut CowSlice<'a, u8>)
+pub(super) fn borrow_bytes<'a>(bytes: &'a [u8], out: &mut CowSlice<'a, u8>)
     ensures rest { cow_rest out.new ≡ bytes.now }
     ensures below { All (λ byte. byte < 256) bytes.now }
 {

@@ -1,14 +1,19 @@
 // The stored rows of texts, chars, checked integers and durations.
 use crate::rows::{Got, decodes, encodes, refuses};
+use crate::types::foo::Foo;
 use bitcode::{Reason, U8Char, decode};
 use std::alloc::Global;
 use std::num::NonZeroU32;
 use std::time::Duration;
 
-/// A number and a text are the number's column and then the text's.
+/// A number and a text are the number's column and then the text's, in a pair as in a struct.
 pub fn number_and_text(alloc: Global) -> Result<(), Got> {
-    encodes(alloc, &(10u32, "abc"), &[4, 10, 3, 97, 98, 99])?;
-    decodes(alloc, &[4, 10, 3, 97, 98, 99], (10u32, "abc"))
+    let bytes = [4, 10, 3, 97, 98, 99];
+    encodes(alloc, &(10u32, "abc"), &bytes)?;
+    decodes(alloc, &bytes, (10u32, "abc"))?;
+    let foo = Foo { x: 10, y: "abc" };
+    encodes(alloc, &foo, &bytes)?;
+    decodes(alloc, &bytes, foo)
 }
 
 /// Nanoseconds are below one second.

@@ -1,8 +1,8 @@
 // Columns of bools and bytes that the Rust crate packed, and inputs that it unpacked.
 use crate::rows::Got;
+use crate::rows::byte_columns::{packs_bytes, unpack_bytes_refuses};
 use crate::tests::packing::{
-    packs, packs_bools, packs_bytes, unpack_bytes_refuses, unpack_refuses, unpacks, unpacks_bools,
-    unpacks_bytes,
+    packs, packs_bools, unpack_refuses, unpacks, unpacks_bools, unpacks_bytes,
 };
 use bitcode::Reason;
 

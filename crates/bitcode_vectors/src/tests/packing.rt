@@ -1,8 +1,7 @@
 // How a test packs a column, and unpacks one.
 use crate::rows::Got;
 use bitcode::{
-    Byte, CowSlice, Int, Reason, pack_bools, pack_bytes, pack_ints, unpack_bools, unpack_bytes,
-    unpack_ints,
+    CowSlice, Int, Reason, pack_bools, pack_ints, unpack_bools, unpack_bytes, unpack_ints,
 };
 use std::alloc::Global;
 
@@ -10,16 +9,6 @@ use std::alloc::Global;
 pub fn packs<T: Int>(alloc: Global, entries: &mut [T], expected: &[u8]) -> Result<(), Got> {
     let mut out = Vec::new(alloc);
     match pack_ints(alloc, entries, &mut out) {
-        Ok(()) if out.as_slice() == expected => Ok(()),
-        Ok(()) => Err(Got::Bytes(out)),
-        Err(error) => Err(Got::Refused(error)),
-    }
-}
-
-/// The byte column of these entries is these bytes.
-pub fn packs_bytes<T: Byte>(alloc: Global, entries: &mut [T], expected: &[u8]) -> Result<(), Got> {
-    let mut out = Vec::new(alloc);
-    match pack_bytes(entries, &mut out) {
         Ok(()) if out.as_slice() == expected => Ok(()),
         Ok(()) => Err(Got::Bytes(out)),
         Err(error) => Err(Got::Refused(error)),
@@ -90,21 +79,6 @@ pub fn unpacks_bytes(
     match unpack_bytes(alloc, &mut bytes, expected.len(), &mut out) {
         Ok(()) if bytes.len() == rest && out.as_slice() == expected => Ok(()),
         Ok(()) => Err(Got::AnotherValue),
-        Err(error) => Err(Got::Refused(error)),
-    }
-}
-
-/// So many bytes are refused for this reason.
-pub fn unpack_bytes_refuses(
-    alloc: Global,
-    mut bytes: &[u8],
-    count: usize,
-    reason: Reason,
-) -> Result<(), Got> {
-    let mut out = CowSlice::new(alloc);
-    match unpack_bytes(alloc, &mut bytes, count, &mut out) {
-        Ok(()) => Err(Got::AnotherValue),
-        Err(error) if error.reason == reason => Ok(()),
         Err(error) => Err(Got::Refused(error)),
     }
 }

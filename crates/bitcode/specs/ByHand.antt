@@ -1,0 +1,14 @@
+-- The words that types written by hand use in their ghost members, given out again in one place: docs/GUIDE.md.
+-- The laws of structs, of numbers and of texts:
+pub use Rattle.bitcode_shapes.specs.LawfulStructs.{struct_lawful, struct_makeable, u8_lawful, u8_makeable, i8_lawful, i8_makeable, u32_lawful, u32_makeable, str_lawful, str_makeable}
+-- of types that stand for others, and of choices:
+pub use Rattle.bitcode_shapes.specs.LawfulImages.{image_lawful, image_makeable}
+pub use Rattle.bitcode_shapes.specs.LawfulChoices.{choice_lawful, choice_makeable, first_lawful, first_makeable, last_lawful, last_makeable}
+-- Shapes of choices, and what they list and make:
+pub use Rattle.bitcode_shapes.specs.Shape.{choice_shape, shape_and, no_shapes}
+pub use Rattle.bitcode_shapes.specs.Choices.{IsVariantValue, ListsChoice, ListsVariant, ListsLast, MakesChoice, MakesVariant, MakesLast, SameVariant}
+-- The columns that encoders hold, and the data that decoders hold:
+pub use Rattle.bitcode_coder.specs.Columns.{no_columns, two}
+pub use Rattle.bitcode_tuples.specs.Pairs.{pairs_of}
+pub use Rattle.bitcode_parts.specs.Payloads.{choices_of}
+pub use Rattle.bitcode_parts.specs.VariantCoders.{variant_room, variants_left}

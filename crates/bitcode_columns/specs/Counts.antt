@@ -1,0 +1,10 @@
+-- How many entries of a list are each number.
+use Rattle.std.specs.Prelude.{◌≡◌, ℕ, ◌<◌, List, length, slice_index, count_by, ◌==◌}
+
+abbrev pub count_of : ℕ → List ℕ → ℕ
+count_of value entries = count_by (λ entry. entry == value) entries
+
+-- A place for each number below a bound: so many of the entries are that number. Other entries count for nothing.
+pub record AreCounts (bound : ℕ) (entries counts : List ℕ) : Type 0 where
+  pub size : length counts ≡ bound
+  pub each : (value : ℕ) → value < bound → slice_index counts value ≡ count_of value entries

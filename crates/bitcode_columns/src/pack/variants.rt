@@ -1,0 +1,115 @@
+// Variant columns.
+ghost use Rattle.std.specs.Prelude.{◌≡◌, ◌≢◌, ℕ, ◌+◌, ◌-◌, ◌<◌, ◌≤◌, ◌⊎◌, ◌++◌, length, sum, nat_lt, All, IsTrue, IfOk, OnOk, IfErr, OnErr, vec_len, vec_capacity};
+ghost use Rattle.std.specs.List.{list_all};
+ghost use Rattle.bitcode_columns.specs.Counts.{AreCounts};
+ghost use Rattle.bitcode_columns.specs.Digits.{SpellsDigits, base_for};
+ghost use Rattle.bitcode_columns.specs.Fast.{cow_rest};
+ghost use Rattle.bitcode_columns.specs.Reading.{Reads, IsEndOf, Names, NamesVariantFault, digits_fault, variants_stand_raw};
+ghost use Rattle.bitcode_columns.specs.VariantColumn.{SpellsVariants, variant_text};
+
+use crate::consume::consume_bytes;
+use crate::digits::{pack_digits, unpack_digits};
+use crate::error::{Error, Reason};
+use crate::fast::CowSlice;
+use crate::histogram::counts_below;
+use crate::pack::Base;
+use crate::pack::bytes::borrow_bytes;
+use crate::refuse::err;
+use std::alloc::Global;
+
+/// A variant is a byte, whatever `N` is.
+const HIGHEST_BYTE: usize = 255;
+
+/// The base in which the variants below `N` are digits.
+fn base_of_variants<const N: usize>() -> Base
+    ensures { result ≡ base_for (N - 1) }
+{
+    Base::for_greatest(N.saturating_sub(1).min(HIGHEST_BYTE) as u8)
+}
+
+/// Appends a column of variants, each below `N`: as many of them to a byte as the base for `N - 1` has digits in it,
+/// and from 17 variants on as they are.
+///
+/// A refused growth is `out of memory`, and `out` holds what it held.
+///
+/// ```rust
+/// let mut out = Vec::new(alloc);
+/// pack_bytes_less_than::<3>(&[2, 0, 1, 2, 2], &mut out)?;
+/// assert_eq!(rt; out.as_slice(), &[227]);
+/// ```
+pub fn pack_bytes_less_than<const N: usize>(bytes: &[u8], out: &mut Vec<u8>) -> Result<(), Error>
+    requires { All (λ entry. entry < N) bytes.now }
+    ensures written { OnOk result (out.new.items ≡ out.old.items ++ variant_text N bytes.now) }
+    ensures reason { IfErr result (λ e. e.reason ≡ Reason.OutOfMemory) }
+    ensures unchanged { OnErr result (out.new.items ≡ out.old.items) }
+    ensures full { OnErr result (vec_capacity out.old < vec_len out.old + length (variant_text N bytes.now)) }
+{
+    pack_digits(&[], base_of_variants::<N>(), bytes, out)
+}
+
+/// Reads the digits of a column of so many variants from the front of the input into `out`. From 17 variants on they
+/// are a slice of the input.
+fn read_digits<'a, const N: usize>(
+    alloc: Global,
+    input: &mut &'a [u8],
+    count: usize,
+    out: &mut CowSlice<'a, u8>,
+) -> Result<(), Error>
+    ensures read { OnOk result (Reads (SpellsDigits (base_for (N - 1))) count input.old.now (cow_rest out.new) input.new.now) }
+    ensures refused { IfErr result (λ e. Names e.reason (digits_fault (base_for (N - 1)) count input.old.now)) }
+    ensures rest { OnErr result (IsEndOf input.old.now input.new.now) }
+    ensures raw { IsTrue (variants_stand_raw N count) → IfErr result (λ e. e.reason ≢ Reason.OutOfMemory) }
+{
+    let base = base_of_variants::<N>();
+    if base == Base::Whole {
+        borrow_bytes(consume_bytes(input, count)?, out);
+    } else {
+        out.set_owned(unpack_digits(alloc, base, input, count)?);
+    }
+    Ok(())
+}
+
+/// Whether each entry is one of so many variants.
+fn are_variants(entries: &[u8], variants: usize) -> bool
+    ensures { result ≡ list_all (λ entry. nat_lt entry variants) entries.now }
+{
+    entries.iter().all(|entry| (*entry as usize) < variants)
+}
+
+/// Reads a column of so many variants from the front of the input into `out`.
+///
+/// For `H = N` the result counts the entries: how many are variant 0, how many are variant 1, and so on. For `H = 0`
+/// nothing is counted. From 17 variants on the entries are a slice of the input and take no memory, and no entries
+/// take none either.
+///
+/// Missing bytes are `EOF`, an entry of `N` or more is `invalid packing`, and a refused growth is `out of memory`. The
+/// input is then at an end part of what it was, and `out` is to be filled anew.
+///
+/// ```rust
+/// let mut input: &[u8] = &[227];
+/// let mut variants = CowSlice::new(alloc);
+/// let counts = unpack_bytes_less_than::<3, 3>(alloc, &mut input, 4, &mut variants)?;
+/// assert_eq!(rt; variants.as_slice(), &[2, 0, 1, 2]);
+/// assert_eq!(rt; counts, [1, 1, 2]);
+/// ```
+pub fn unpack_bytes_less_than<'a, const N: usize, const H: usize>(
+    alloc: Global,
+    input: &mut &'a [u8],
+    count: usize,
+    out: &mut CowSlice<'a, u8>,
+) -> Result<[usize; H], Error>
+    requires { (H ≡ N) ⊎ (H ≡ 0) }
+    ensures read { OnOk result (Reads (SpellsVariants N) count input.old.now (cow_rest out.new) input.new.now) }
+    ensures counts { IfOk result (λ counts. AreCounts H (cow_rest out.new) counts) }
+    ensures total { IfOk result (λ counts. H ≡ N → sum counts ≡ count) }
+    ensures refused { IfErr result (λ e. NamesVariantFault e.reason N count input.old.now) }
+    ensures rest { OnErr result (IsEndOf input.old.now input.new.now) }
+    ensures raw { IsTrue (variants_stand_raw N count) → IfErr result (λ e. e.reason ≢ Reason.OutOfMemory) }
+{
+    read_digits::<N>(alloc, input, count, out)?;
+    let entries = out.as_slice();
+    if !are_variants(entries, N) {
+        return err(Reason::InvalidPacking);
+    }
+    Ok(counts_below(entries))
+}

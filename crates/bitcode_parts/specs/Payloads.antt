@@ -1,0 +1,86 @@
+-- Choices as their variants, and for each variant the list of its payloads. How composites read them, one column
+-- behind the other, and write them.
+use Rattle.std.specs.Prelude.{◌≡◌, ◌≢◌, ℕ, suc, List, [], ◌∷◌, slice_index_or, slice_set}
+use Rattle.bitcode_columns.specs.declared.error.Reason.{Reason}
+use Rattle.bitcode_columns.specs.declared.error.Reason.TheVariants.{OutOfMemory}
+use Rattle.bitcode_columns.specs.Counts.{count_of}
+use Rattle.bitcode_columns.specs.Reading.{Reads}
+use Rattle.bitcode_columns.specs.VariantColumn.{SpellsVariants}
+use Rattle.bitcode_shapes.specs.Datum.{Datum, choice}
+use Rattle.bitcode_shapes.specs.Shape.{Shape, Shapes, no_shapes, shape_and}
+use Rattle.bitcode_coder.specs.Columns.{Columns, beside, plain, emptied, CountsFit}
+use Rattle.bitcode_coder.specs.Transposition.{payload_columns}
+use Rattle.bitcode_coder.specs.Spelling.{Spells}
+use Rattle.bitcode_coder.specs.Coding.{IsReadingReason}
+
+-- ---- choices that a reader holds
+
+-- the payloads of a variant
+abbrev pub payloads_of : ℕ → List (List Datum) → List Datum
+payloads_of variant lists = slice_index_or lists variant []
+
+abbrev pub next_choice : ℕ → List Datum → (List Datum → List Datum) → List Datum
+next_choice variant [] later = []
+next_choice variant (d ∷ ds) later = choice variant d ∷ later ds
+
+-- each variant with the next of its payloads, as far as there are payloads
+abbrev pub choices_of : List ℕ → List (List Datum) → List Datum
+choices_of [] lists = []
+choices_of (variant ∷ variants) lists =
+    next_choice variant (payloads_of variant lists) (λ left. choices_of variants (slice_set lists variant left))
+
+-- ---- reading
+
+-- one reading, and another one behind it
+pub record InTurn (First Then : List ℕ → Type 0) : Type 0 where
+  pub middle : List ℕ
+  pub first : First middle
+  pub behind : Then middle
+
+-- The payloads of the variants from an index on were read: of each variant as many as there are of it.
+abbrev pub ReadsPayloads : Shapes → (index : ℕ) (variants old : List ℕ) → List (List Datum) → (new : List ℕ) → Type 0
+ReadsPayloads no_shapes index variants old [] new = old ≡ new
+ReadsPayloads no_shapes index variants old (ds ∷ lists) new = ⊥
+ReadsPayloads (shape_and s ss) index variants old [] new = ⊥
+ReadsPayloads (shape_and s ss) index variants old (ds ∷ lists) new =
+    InTurn (Reads (Spells s) (count_of index variants) old ds) (λ middle. ReadsPayloads ss (suc index) variants middle lists new)
+
+-- a refusal other than want of memory comes only where the payloads from that index on cannot be read
+abbrev pub IsPayloadsRefusal : Shapes → (index : ℕ) (variants : List ℕ) → Reason → (input : List ℕ) → Type 0
+IsPayloadsRefusal shapes index variants reason input =
+    IsReadingReason reason × (reason ≢ OutOfMemory → (lists : List (List Datum)) (rest : List ℕ) → ReadsPayloads shapes index variants input lists rest → ⊥)
+
+-- ---- faults
+
+-- the variants are read, and what is left is at fault
+pub record FaultsBehindVariants (count k : ℕ) (Fault : (variants rest : List ℕ) → Type 0) (input : List ℕ) : Type 0 where
+  pub variants : List ℕ
+  pub rest : List ℕ
+  pub read : Reads (SpellsVariants count) k input variants rest
+  pub fault : Fault variants rest
+
+-- so many payloads are read, and what is left is at fault
+pub record FaultsBehindPayloads (shape : Shape) (k : ℕ) (Fault : (rest : List ℕ) → Type 0) (input : List ℕ) : Type 0 where
+  pub payloads : List Datum
+  pub rest : List ℕ
+  pub read : Reads (Spells shape) k input payloads rest
+  pub fault : Fault rest
+
+-- ---- writing
+
+-- the columns of the payloads of a choice, variant by variant from an index on
+abbrev pub written_payloads : Shapes → (index : ℕ) → List Datum → Columns
+written_payloads shapes index ds = plain (payload_columns shapes index ds)
+
+-- these are columns of such payloads
+abbrev pub HasPayloads : Shapes → (index : ℕ) → Columns → Type 0
+HasPayloads shapes index columns = emptied columns ≡ written_payloads shapes index []
+
+-- The payload of a choice was joined to the columns of its variant, which is one from that index on.
+pub record JoinsPayload (shapes : Shapes) (index variant : ℕ) (payload : Datum) (old new : Columns) : Type 0 where
+  pub joined : new ≡ beside old (written_payloads shapes index (choice variant payload ∷ []))
+  pub fits : CountsFit old → CountsFit new
+
+-- with that payload some number of arrays is no length
+abbrev pub PassesPayload : Shapes → (index variant : ℕ) → Datum → Columns → Type 0
+PassesPayload shapes index variant payload old = CountsFit (beside old (written_payloads shapes index (choice variant payload ∷ []))) → ⊥

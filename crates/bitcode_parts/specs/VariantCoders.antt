@@ -1,0 +1,24 @@
+-- What the coders of variants hold.
+use Rattle.std.specs.Prelude.{ℕ, List}
+use Rattle.bitcode_columns.specs.Fast.{fast_items, fast_room, cow_rest}
+use Rattle.bitcode_parts.specs.declared.variant.encoder.VariantEncoder.{VariantEncoder}
+use Rattle.bitcode_parts.specs.declared.variant.decoder.VariantDecoder.{VariantDecoder}
+
+module _ {N : ℕ} where
+  -- the variants that were written
+  unfoldable pub written_variants : VariantEncoder N → List ℕ
+  written_variants e = fast_items e.variants
+
+  -- for how many more variants there is room
+  unfoldable pub variant_room : VariantEncoder N → ℕ
+  variant_room e = fast_room e.variants
+
+-- (a const argument that is a bool is its bit)
+module _ {N C_STYLE : ℕ} where
+  -- the variants that are left to take
+  unfoldable pub variants_left : VariantDecoder N C_STYLE → List ℕ
+  variants_left d = cow_rest d.variants
+
+  -- how many of each variant were read, place by place
+  unfoldable pub variant_counts : VariantDecoder N C_STYLE → List ℕ
+  variant_counts d = d.counts

@@ -1,0 +1,28 @@
+// Markers of types have no column, as the unit.
+ghost use Rattle.std.specs.Prelude.{refl, true};
+
+use crate::empty::EmptyCoder;
+use bitcode_coder::coder::{Decoder, Encoder};
+use bitcode_columns::error::Error;
+use std::marker::PhantomData;
+
+impl<T> Encoder<PhantomData<T>> for EmptyCoder {
+    fn encode(&mut self, _t: &PhantomData<T>) -> Result<(), Error> {
+        Ok(())
+    }
+
+    ghost of_shape = { λ e. refl };
+
+    ghost surely = { λ e n h. absurd h };
+}
+
+impl<'a, T> Decoder<'a, PhantomData<T>> for EmptyCoder {
+    ghost makes_free = { true };
+
+    fn decode(&mut self) -> Result<PhantomData<T>, Error> {
+        Decoder::<()>::decode(self)?;
+        Ok(PhantomData)
+    }
+
+    ghost same_shape = { refl };
+}

@@ -1,0 +1,24 @@
+// UUIDs as their sixteen bytes.
+ghost use Rattle.std.specs.Prelude.{refl};
+
+use crate::convert::{ConvertFrom, ConvertInto};
+use uuid::Uuid;
+
+/// What a `Uuid` is written as and made of: its sixteen bytes, in their order.
+pub type UuidConversion = [u8; 16];
+
+impl ConvertInto<UuidConversion> for Uuid {
+    fn convert_into(&self) -> UuidConversion {
+        self.into_bytes()
+    }
+
+    ghost written_as = { record { columns = λ ds. refl; data_of = λ d of. of } };
+}
+
+impl ConvertFrom<UuidConversion> for Uuid {
+    fn convert_from(value: UuidConversion) -> Self {
+        Uuid::from_bytes(value)
+    }
+
+    ghost shape_from = { refl };
+}

@@ -1,0 +1,61 @@
+-- A struct written by hand: what the coders of its fields do makes up what its own coder does. Each lemma closes one goal
+-- that the check leaves of such a struct's `populate` or `encode`, from the clauses of the fields' calls.
+use Rattle.std.proofs.Common.{◌≡◌, ℕ, List, Result, Ok, Err, OnOk, IfErr, subst, sym, inr}
+use Rattle.std.specs.Prelude.{◌⊎◌}
+use Rattle.std.specs.Result.{IsErrAnd, OnErr}
+use Rattle.bitcode_columns.specs.declared.error.Error.{Error}
+use Rattle.bitcode_columns.specs.declared.error.Reason.{Reason}
+use Rattle.bitcode_columns.specs.Reading.{Reads, IsEndOf}
+use Rattle.bitcode_shapes.specs.Datum.{Datum}
+use Rattle.bitcode_shapes.specs.Shape.{Shape, pair_shape}
+use Rattle.bitcode_shapes.specs.Values.{ListsPair}
+use Rattle.bitcode_coder.specs.Columns.{Columns, two}
+use Rattle.bitcode_coder.specs.Spelling.{Spells}
+use Rattle.bitcode_coder.specs.Coding.{IsReadingRefusal, JoinsListing}
+use Rattle.bitcode_coder.proofs.LengthPartLemmas.{ends_behind_read}
+use Rattle.bitcode_tuples.specs.Pairs.{pairs_of, FaultsBehind}
+use Rattle.bitcode_tuples.proofs.ReadingLemmas.{reads_pairs, refuses_first, refuses_second}
+use Rattle.bitcode_tuples.proofs.WritingLemmas.{joins_pair}
+
+-- ---- populate
+
+module _ {s : Shape} {k : ℕ} {old : List ℕ} {T : Type 0} (t : Shape) where
+  -- the first field was refused
+  pub struct_stopped : (e : Error) (r : Result T Error) → IsErrAnd r (λ f. f ≡ e) → IsReadingRefusal s e.reason k old
+      → IfErr r (λ f. IsReadingRefusal (pair_shape s t) f.reason k old)
+  struct_stopped e (Ok x) stopped first = absurd stopped
+  struct_stopped e (Err f) stopped first = subst (λ (x : Error). IsReadingRefusal (pair_shape s t) x.reason k old) (sym stopped) (refuses_first s t k e.reason old first)
+
+  -- the first field was read
+  module _ {middle : List ℕ} {ds : List Datum} where
+    pub struct_read : (new : List ℕ) (es : List Datum) (r : Result T Error) → Reads (Spells s) k old ds middle
+        → OnOk r (Reads (Spells t) k middle es new) → OnOk r (Reads (Spells (pair_shape s t)) k old (pairs_of ds es) new)
+    struct_read new es (Ok x) first second = reads_pairs s t k new es first second
+    struct_read new es (Err e) first second = tt
+
+    pub struct_refused : (r : Result T Error) → Reads (Spells s) k old ds middle
+        → IfErr r (λ e. IsReadingRefusal t e.reason k middle) → IfErr r (λ e. IsReadingRefusal (pair_shape s t) e.reason k old)
+    struct_refused (Ok x) first second = tt
+    struct_refused (Err e) first second = refuses_second s t k e.reason old middle ds first second
+
+pub struct_exact : {s : Shape} {k : ℕ} {old middle : List ℕ} {ds : List Datum} {T : Type 0} (FirstFault : Error → Type 0) (faults : Reason → ℕ → List ℕ → Type 0) (r : Result T Error)
+    → Reads (Spells s) k old ds middle → IfErr r (λ e. faults e.reason k middle) → IfErr r (λ e. FirstFault e ⊎ FaultsBehind s faults e.reason k old)
+struct_exact FirstFault faults (Ok x) first second = tt
+struct_exact FirstFault faults (Err e) first second = inr (record { firsts = _; rest = _; read = first; fault = second })
+
+pub struct_rest : {s : Shape} {k : ℕ} {old middle : List ℕ} {ds : List Datum} {T : Type 0} (new : List ℕ) (r : Result T Error)
+    → Reads (Spells s) k old ds middle → OnErr r (IsEndOf middle new) → OnErr r (IsEndOf old new)
+struct_rest new (Ok x) first second = tt
+struct_rest new (Err e) first second = ends_behind_read new first second
+
+-- the lemmas that the check applies by itself where it is told to: #[tactic(auto, using(..::struct_reading))]
+pub ruleset struct_reading = (struct_read, struct_rest)
+
+-- ---- encode
+
+module _ {F P Q : Type 0} (fields : F → P × Q) (x : F) {lists_p : P → Datum → Type 0} {lists_q : Q → Datum → Type 0} {s t : Shape} {a b : Columns} where
+  pub struct_joins : {c d : Columns} → JoinsListing lists_p s (fields x).0 a c → JoinsListing lists_q t (fields x).1 b d
+      → JoinsListing (λ y e. ListsPair lists_p lists_q (fields y) e) (pair_shape s t) x (two a b) (two c d)
+  struct_joins {c} {d} first second =
+      let joined = joins_pair lists_p lists_q s t (fields x) a b c d first second in
+      record { datum = joined.datum; listing = joined.listing; joined = joined.joined; fits = joined.fits }

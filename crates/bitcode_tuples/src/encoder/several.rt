@@ -1,0 +1,175 @@
+// The encoders of tuples of nine to eleven fields: of the first field, and of the tuple of the others.
+ghost use Rattle.bitcode_tuples.specs.PairLaws.{both_of_shape, both_surely};
+
+use crate::encoder::TupleEncoder;
+use crate::fields::FieldsEncoder;
+use crate::fields::few::FieldsEncoder8;
+use crate::fields::several::{FieldsEncoder9, FieldsEncoder10, FieldsEncoder11};
+use bitcode_coder::coder::Encoder;
+use bitcode_columns::error::Error;
+use bitcode_shapes::shaped::Shaped;
+
+impl<
+    T1: Shaped,
+    T2: Shaped,
+    T3: Shaped,
+    T4: Shaped,
+    T5: Shaped,
+    T6: Shaped,
+    T7: Shaped,
+    T8: Shaped,
+    T9: Shaped,
+    A: Encoder<T1>,
+    B: FieldsEncoder8<T2, T3, T4, T5, T6, T7, T8, T9>,
+> Encoder<(T1, T2, T3, T4, T5, T6, T7, T8, T9)> for TupleEncoder<A, B> {
+    fn encode(&mut self, t: &(T1, T2, T3, T4, T5, T6, T7, T8, T9)) -> Result<(), Error> {
+        self.encode_fields(&(&t.0, (&t.1, &t.2, &t.3, &t.4, &t.5, &t.6, &t.7, &t.8)))
+    }
+
+    ghost of_shape = { both_of_shape A.of_shape B.of_shape };
+
+    ghost surely = { both_surely A.surely B.surely };
+}
+
+impl<
+    T1: Shaped,
+    T2: Shaped,
+    T3: Shaped,
+    T4: Shaped,
+    T5: Shaped,
+    T6: Shaped,
+    T7: Shaped,
+    T8: Shaped,
+    T9: Shaped,
+    A: Encoder<T1>,
+    B: FieldsEncoder8<T2, T3, T4, T5, T6, T7, T8, T9>,
+> FieldsEncoder9<T1, T2, T3, T4, T5, T6, T7, T8, T9> for TupleEncoder<A, B> {
+    fn encode_each(
+        &mut self,
+        t1: &T1,
+        t2: &T2,
+        t3: &T3,
+        t4: &T4,
+        t5: &T5,
+        t6: &T6,
+        t7: &T7,
+        t8: &T8,
+        t9: &T9,
+    ) -> Result<(), Error> {
+        self.encode_fields(&(t1, (t2, t3, t4, t5, t6, t7, t8, t9)))
+    }
+}
+
+impl<
+    T1: Shaped,
+    T2: Shaped,
+    T3: Shaped,
+    T4: Shaped,
+    T5: Shaped,
+    T6: Shaped,
+    T7: Shaped,
+    T8: Shaped,
+    T9: Shaped,
+    T10: Shaped,
+    A: Encoder<T1>,
+    B: FieldsEncoder9<T2, T3, T4, T5, T6, T7, T8, T9, T10>,
+> Encoder<(T1, T2, T3, T4, T5, T6, T7, T8, T9, T10)> for TupleEncoder<A, B> {
+    fn encode(&mut self, t: &(T1, T2, T3, T4, T5, T6, T7, T8, T9, T10)) -> Result<(), Error> {
+        self.encode_fields(&(&t.0, (&t.1, &t.2, &t.3, &t.4, &t.5, &t.6, &t.7, &t.8, &t.9)))
+    }
+
+    ghost of_shape = { both_of_shape A.of_shape B.of_shape };
+
+    ghost surely = { both_surely A.surely B.surely };
+}
+
+impl<
+    T1: Shaped,
+    T2: Shaped,
+    T3: Shaped,
+    T4: Shaped,
+    T5: Shaped,
+    T6: Shaped,
+    T7: Shaped,
+    T8: Shaped,
+    T9: Shaped,
+    T10: Shaped,
+    A: Encoder<T1>,
+    B: FieldsEncoder9<T2, T3, T4, T5, T6, T7, T8, T9, T10>,
+> FieldsEncoder10<T1, T2, T3, T4, T5, T6, T7, T8, T9, T10> for TupleEncoder<A, B> {
+    fn encode_each(
+        &mut self,
+        t1: &T1,
+        t2: &T2,
+        t3: &T3,
+        t4: &T4,
+        t5: &T5,
+        t6: &T6,
+        t7: &T7,
+        t8: &T8,
+        t9: &T9,
+        t10: &T10,
+    ) -> Result<(), Error> {
+        self.encode_fields(&(t1, (t2, t3, t4, t5, t6, t7, t8, t9, t10)))
+    }
+}
+
+impl<
+    T1: Shaped,
+    T2: Shaped,
+    T3: Shaped,
+    T4: Shaped,
+    T5: Shaped,
+    T6: Shaped,
+    T7: Shaped,
+    T8: Shaped,
+    T9: Shaped,
+    T10: Shaped,
+    T11: Shaped,
+    A: Encoder<T1>,
+    B: FieldsEncoder10<T2, T3, T4, T5, T6, T7, T8, T9, T10, T11>,
+> Encoder<(T1, T2, T3, T4, T5, T6, T7, T8, T9, T10, T11)> for TupleEncoder<A, B> {
+    fn encode(&mut self, t: &(T1, T2, T3, T4, T5, T6, T7, T8, T9, T10, T11)) -> Result<(), Error> {
+        self.encode_fields(&(
+            &t.0,
+            (&t.1, &t.2, &t.3, &t.4, &t.5, &t.6, &t.7, &t.8, &t.9, &t.10),
+        ))
+    }
+
+    ghost of_shape = { both_of_shape A.of_shape B.of_shape };
+
+    ghost surely = { both_surely A.surely B.surely };
+}
+
+impl<
+    T1: Shaped,
+    T2: Shaped,
+    T3: Shaped,
+    T4: Shaped,
+    T5: Shaped,
+    T6: Shaped,
+    T7: Shaped,
+    T8: Shaped,
+    T9: Shaped,
+    T10: Shaped,
+    T11: Shaped,
+    A: Encoder<T1>,
+    B: FieldsEncoder10<T2, T3, T4, T5, T6, T7, T8, T9, T10, T11>,
+> FieldsEncoder11<T1, T2, T3, T4, T5, T6, T7, T8, T9, T10, T11> for TupleEncoder<A, B> {
+    fn encode_each(
+        &mut self,
+        t1: &T1,
+        t2: &T2,
+        t3: &T3,
+        t4: &T4,
+        t5: &T5,
+        t6: &T6,
+        t7: &T7,
+        t8: &T8,
+        t9: &T9,
+        t10: &T10,
+        t11: &T11,
+    ) -> Result<(), Error> {
+        self.encode_fields(&(t1, (t2, t3, t4, t5, t6, t7, t8, t9, t10, t11)))
+    }
+}

@@ -1,0 +1,71 @@
+// The fields of a tuple, borrowed one by one, and encoders that take them so.
+ghost use Rattle.std.specs.Prelude.{◌≡◌, ◌+◌, ◌<◌, ◌≤◌, OnOk, IfErr};
+ghost use Rattle.bitcode_coder.specs.Columns.{emptied};
+ghost use Rattle.bitcode_coder.specs.Coding.{JoinsListing, PassesWithListing, IsWritingRefusal};
+
+use crate::encoder::TupleEncoder;
+use bitcode_coder::coder::{Buffer, Encoder};
+use bitcode_columns::error::Error;
+use bitcode_shapes::shaped::Shaped;
+
+pub mod few;
+pub mod many;
+pub mod more;
+pub mod several;
+
+// A field, or a pair of the first field and the others.
+pub trait Fields {
+    type Whole: Shaped;
+
+    // what the fields make up
+    ghost whole: { Self → Self.Whole };
+
+    fn told(&self)
+        ensures { Self.Whole.is_value (whole self.now) };
+}
+
+impl<'a, P: Shaped> Fields for &'a P {
+    type Whole = P;
+
+    ghost whole = { λ p. p.now };
+
+    fn told(&self) {
+        (**self).told();
+    }
+}
+
+impl<F: Fields, G: Fields> Fields for (F, G) {
+    type Whole = (F::Whole, G::Whole);
+
+    ghost whole = { λ f. (F.whole f.0, G.whole f.1) };
+
+    fn told(&self) {
+        self.0.told();
+        self.1.told();
+    }
+}
+
+// As `Encoder`, for a value whose fields lie apart.
+pub trait FieldsEncoder<F: Fields>: Buffer {
+    fn encode_fields(&mut self, fields: &F) -> Result<(), Error>
+        requires { 0 < Self.room self.old }
+        ensures joined { OnOk result (JoinsListing F.Whole.lists F.Whole.shape (F.whole fields.now) (Self.columns self.old) (Self.columns self.new)) }
+        ensures room { OnOk result (Self.room self.old ≤ Self.room self.new + 1) }
+        ensures form { emptied (Self.columns self.new) ≡ emptied (Self.columns self.old) }
+        ensures refused { IfErr result (λ e. IsWritingRefusal e.reason (PassesWithListing F.Whole.lists F.Whole.shape (F.whole fields.now) (Self.columns self.old))) };
+}
+
+impl<'a, P: Shaped, E: Encoder<P>> FieldsEncoder<&'a P> for E {
+    fn encode_fields(&mut self, fields: &&'a P) -> Result<(), Error> {
+        self.encode(*fields)
+    }
+}
+
+impl<F: Fields, G: Fields, A: FieldsEncoder<F>, B: FieldsEncoder<G>> FieldsEncoder<(F, G)>
+    for TupleEncoder<A, B> {
+    fn encode_fields(&mut self, fields: &(F, G)) -> Result<(), Error> {
+        fields.1.told();
+        self.first.encode_fields(&fields.0)?;
+        self.second.encode_fields(&fields.1)
+    }
+}

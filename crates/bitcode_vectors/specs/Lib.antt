@@ -1,0 +1,3 @@
+pub mod Foo
+pub mod One
+pub mod Two

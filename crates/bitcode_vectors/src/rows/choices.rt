@@ -1,0 +1,47 @@
+// The stored rows of options, results and types written by hand.
+use crate::rows::{Got, decodes, encodes, refuses};
+use crate::types::never::Never;
+use crate::types::one::One;
+use crate::types::two::Two;
+use bitcode::Reason;
+use std::alloc::Global;
+
+/// The variants of all options stand together, and then the values of those that have one.
+pub fn options(alloc: Global) -> Result<(), Got> {
+    let shorts: Vec<Option<i16>> = vec![in alloc; None, Some(1), None]?;
+    encodes(alloc, &shorts, &[3, 2, 1, 0])?;
+    decodes(alloc, &[3, 2, 1, 0], shorts)?;
+    let pairs: Vec<(Option<u8>, u8)> = vec![in alloc; (None, 3), (Some(4), 5)]?;
+    encodes(alloc, &pairs, &[2, 2, 4, 3, 5])?;
+    decodes(alloc, &[2, 2, 4, 3, 5], pairs)
+}
+
+/// A column for each variant's payload, in the order of the variants.
+pub fn two_variants(alloc: Global) -> Result<(), Got> {
+    let written: Vec<Two> = vec![in alloc; Two::A(1), Two::B(-1), Two::A(2)]?;
+    encodes(alloc, &written, &[3, 2, 1, 2, 255])?;
+    decodes(alloc, &[3, 2, 1, 2, 255], written)?;
+    let read: Vec<Two> = vec![in alloc; Two::A(1), Two::B(-1), Two::B(-2)]?;
+    decodes(alloc, &[3, 6, 1, 255, 254], read)
+}
+
+/// Unused bits of the last byte are ignored, so no byte is another option.
+pub fn unused_bits_of_an_option(alloc: Global) -> Result<(), Got> {
+    decodes::<Option<bool>>(alloc, &[2], None)
+}
+
+/// All values stand before all errors.
+pub fn results(alloc: Global) -> Result<(), Got> {
+    let list: Vec<Result<bool, u32>> = vec![in alloc; Err(1), Ok(false)]?;
+    encodes(alloc, &list, &[2, 1, 0, 4, 1])?;
+    decodes(alloc, &[2, 1, 0, 4, 1], list)
+}
+
+/// An enum of one variant has no variant column; one of none has no values.
+pub fn one_variant_and_none(alloc: Global) -> Result<(), Got> {
+    encodes(alloc, &One::A(7), &[7])?;
+    decodes(alloc, &[7], One::A(7))?;
+    refuses::<Never>(alloc, &[], Reason::InvalidEnumVariant)?;
+    decodes::<Vec<Never>>(alloc, &[0], Vec::new(alloc))?;
+    refuses::<Vec<Never>>(alloc, &[1], Reason::InvalidEnumVariant)
+}

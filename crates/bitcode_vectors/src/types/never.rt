@@ -1,0 +1,107 @@
+// An enum without variants, written by hand. Its coders serve every type without values.
+ghost use Rattle.std.specs.Prelude.{◌≡◌, ◌<◌, false, refl, replicate};
+ghost use Rattle.bitcode_columns.specs.declared.error.Reason.TheVariants.{InvalidEnumVariant};
+ghost use Rattle.bitcode_shapes.specs.Datum.{unit};
+ghost use Rattle.bitcode_shapes.specs.Shape.{never_shape};
+ghost use Rattle.bitcode_coder.specs.Columns.{no_columns};
+ghost use Rattle.bitcode_coder.specs.Coding.{endless_room};
+
+use bitcode::coder::{Buffer, Result};
+use bitcode::{
+    Decode, DecodeOwned, Decoder, Encode, Encoder, NoVariants, Reason, View, err,
+    invalid_enum_variant,
+};
+use std::alloc::Global;
+
+/// There is no value.
+#[derive(Debug, Clone, Copy, PartialEq)]
+pub enum Never {}
+
+impl NoVariants for Never {
+    ghost never = { λ t P h. elim t [ ] };
+}
+
+/// The columns of a type without values: none. No value is ever written.
+#[derive(Drop)]
+pub struct NeverEncoder {}
+
+impl Buffer for NeverEncoder {
+    ghost columns = { λ e. no_columns };
+
+    ghost room = { λ e. endless_room };
+
+    ghost surely_passes = { λ e n. ⊥ };
+
+    fn new(_alloc: Global) -> Self {
+        NeverEncoder {}
+    }
+
+    fn reserve(&mut self, _n: usize) -> Result<()> {
+        Ok(())
+    }
+
+    fn collect_into(&mut self, _out: &mut Vec<u8>) -> Result<()> {
+        Ok(())
+    }
+
+    fn clear(&mut self) {}
+}
+
+impl<T: NoVariants> Encoder<T> for NeverEncoder {
+    fn encode(&mut self, _t: &T) -> Result<()> {
+        Ok(())
+    }
+
+    ghost of_shape = { λ e. refl };
+
+    ghost surely = { λ e n h. absurd h };
+}
+
+/// Reads no values; one or more are `invalid enum variant`.
+#[derive(Drop)]
+pub struct NeverDecoder {
+    left: usize,
+}
+
+impl<'a> View<'a> for NeverDecoder {
+    ghost shape = { never_shape };
+
+    ghost held = { λ d. replicate d.left unit };
+
+    ghost reads_free = { λ k input. Unit {0} };
+
+    ghost faults = { λ reason k input. (reason ≡ InvalidEnumVariant) × (0 < k) };
+
+    fn new(_alloc: Global) -> Self {
+        NeverDecoder { left: 0 }
+    }
+
+    fn populate(&mut self, _input: &mut &'a [u8], k: usize) -> Result<()> {
+        self.left = k;
+        if k > 0 {
+            return invalid_enum_variant();
+        }
+        Ok(())
+    }
+}
+
+impl<'a, T: NoVariants> Decoder<'a, T> for NeverDecoder {
+    ghost makes_free = { false };
+
+    // No reading leaves a value to make.
+    fn decode(&mut self) -> Result<T> {
+        err(Reason::OutOfMemory)
+    }
+
+    ghost same_shape = { refl };
+}
+
+impl Encode for Never {
+    type Encoder = NeverEncoder;
+}
+
+impl<'a> Decode<'a> for Never {
+    type Decoder = NeverDecoder;
+}
+
+impl DecodeOwned for Never {}
