@@ -11,9 +11,15 @@ pub fn options(alloc: Global) -> Result<(), Got> {
     let shorts: Vec<Option<i16>> = vec![in alloc; None, Some(1), None]?;
     encodes(alloc, &shorts, &[3, 2, 1, 0])?;
     decodes(alloc, &[3, 2, 1, 0], shorts)?;
-    let pairs: Vec<(Option<u8>, u8)> = vec![in alloc; (None, 3), (Some(4), 5)]?;
-    encodes(alloc, &pairs, &[2, 2, 4, 3, 5])?;
-    decodes(alloc, &[2, 2, 4, 3, 5], pairs)
+    options_in_pairs(alloc)
+}
+
+/// In pairs too, before the columns of the other fields.
+fn options_in_pairs(alloc: Global) -> Result<(), Got> {
+    let mut pairs: Vec<(Option<u8>, u8)> = Vec::with_capacity(alloc, 2)?;
+    pairs.push((None, 3))?;
+    pairs.push((Some(4), 5))?;
+    encodes(alloc, &pairs, &[2, 2, 4, 3, 5])
 }
 
 /// A column for each variant's payload, in the order of the variants.

@@ -8,12 +8,11 @@ use std::time::Duration;
 
 /// A number and a text are the number's column and then the text's, in a pair as in a struct.
 pub fn number_and_text(alloc: Global) -> Result<(), Got> {
-    let bytes = [4, 10, 3, 97, 98, 99];
-    encodes(alloc, &(10u32, "abc"), &bytes)?;
-    decodes(alloc, &bytes, (10u32, "abc"))?;
+    encodes(alloc, &(10u32, "abc"), &[4, 10, 3, 97, 98, 99])?;
+    decodes(alloc, &[4, 10, 3, 97, 98, 99], (10u32, "abc"))?;
     let foo = Foo { x: 10, y: "abc" };
-    encodes(alloc, &foo, &bytes)?;
-    decodes(alloc, &bytes, foo)
+    encodes(alloc, &foo, &[4, 10, 3, 97, 98, 99])?;
+    decodes(alloc, &[4, 10, 3, 97, 98, 99], foo)
 }
 
 /// Nanoseconds are below one second.

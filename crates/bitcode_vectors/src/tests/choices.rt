@@ -18,33 +18,36 @@ fn both_ways<'a, T: Encode + Decode<'a> + PartialEq>(
 }
 
 #[test]
-fn options_and_results(rt: HostRuntime) -> Result<(), Got> {
+fn options(rt: HostRuntime) -> Result<(), Got> {
     let alloc = rt.alloc();
     both_ways(alloc, Some(false), &[1, 0])?;
     both_ways::<Option<u32>>(alloc, None, &[0])?;
     both_ways(alloc, Some(4294967289u32), &[1, 0, 249, 255, 255, 255])?;
     both_ways(alloc, Some(Some(8u8)), &[1, 1, 8])?;
-    let list: Vec<Option<Option<bool>>> = vec![in alloc;
-        Some(Some(true)),
-        Some(None),
-        Some(Some(true)),
-    ]?;
-    both_ways(alloc, list, &[3, 7, 5, 3])?;
-    let list: Vec<Option<()>> = vec![in alloc; None, Some(()), None, None, None, None]?;
-    both_ways(alloc, list, &[6, 2])?;
-    let list: Vec<Result<bool, u32>> = vec![in alloc;
-        Err(294),
-        Err(223),
-        Ok(true),
-        Ok(true),
-        Ok(false),
-        Ok(true),
-    ]?;
-    both_ways(alloc, list, &[6, 3, 11, 2, 38, 1, 223, 0])?;
-    both_ways::<Result<bool, u32>>(alloc, Err(748), &[1, 2, 236, 2])?;
     refuses::<Option<u8>>(alloc, &[], Reason::Eof)?;
     refuses::<Option<u8>>(alloc, &[1], Reason::Eof)?;
-    refuses::<Option<u8>>(alloc, &[0, 7], Reason::ExpectedEof)?;
+    refuses::<Option<u8>>(alloc, &[0, 7], Reason::ExpectedEof)
+}
+
+#[test]
+fn lists_of_options(rt: HostRuntime) -> Result<(), Got> {
+    let alloc = rt.alloc();
+    let mut list: Vec<Option<Option<bool>>> = Vec::new(alloc);
+    list.push(Some(Some(true)))?;
+    list.push(Some(None))?;
+    list.push(Some(Some(true)))?;
+    both_ways(alloc, list, &[3, 7, 5, 3])?;
+    let units: Vec<Option<()>> = vec![in alloc; None, None, None]?;
+    both_ways(alloc, units, &[3, 0])
+}
+
+#[test]
+fn results(rt: HostRuntime) -> Result<(), Got> {
+    let alloc = rt.alloc();
+    both_ways::<Result<bool, u32>>(alloc, Err(748), &[1, 2, 236, 2])?;
+    both_ways::<Result<bool, u32>>(alloc, Err(0), &[1, 4, 0])?;
+    let list: Vec<Result<(), u8>> = vec![in alloc; Ok(()), Ok(())]?;
+    both_ways(alloc, list, &[2, 0])?;
     refuses::<Result<bool, u32>>(alloc, &[1, 5, 0], Reason::InvalidPacking)
 }
 
@@ -53,12 +56,11 @@ fn options_and_results(rt: HostRuntime) -> Result<(), Got> {
 #[test]
 fn results_of_options_and_texts(rt: HostRuntime) -> Result<(), Got> {
     let alloc = rt.alloc();
-    let list: Vec<Result<Option<u16>, &str>> = vec![in alloc;
-        Ok(Some(5)),
-        Err("a"),
-        Ok(None),
-        Err(""),
-    ]?;
+    let mut list: Vec<Result<Option<u16>, &str>> = Vec::new(alloc);
+    list.push(Ok(Some(5)))?;
+    list.push(Err("a"))?;
+    list.push(Ok(None))?;
+    list.push(Err(""))?;
     both_ways(alloc, list, &[4, 10, 1, 5, 0, 1, 0, 97])?;
     refuses::<Vec<Result<Option<u16>, &str>>>(
         alloc,
@@ -68,41 +70,48 @@ fn results_of_options_and_texts(rt: HostRuntime) -> Result<(), Got> {
 }
 
 #[test]
-fn types_written_by_hand(rt: HostRuntime) -> Result<(), Got> {
+fn structs_of_two_fields(rt: HostRuntime) -> Result<(), Got> {
     let alloc = rt.alloc();
     let foo = Foo {
         x: 4294967295,
         y: "Y_(",
     };
     both_ways(alloc, foo, &[0, 255, 255, 255, 255, 3, 89, 95, 40])?;
-    let list: Vec<Foo> = vec![in alloc;
-        Foo { x: 8, y: "d" },
-        Foo { x: 8, y: "" },
-        Foo { x: 7, y: "" },
-        Foo { x: 6, y: "e" },
-        Foo { x: 7, y: "w" },
-        Foo { x: 3, y: "u" },
-        Foo { x: 1, y: "c" },
-    ]?;
+    let mut list: Vec<Foo> = Vec::new(alloc);
+    for (x, y) in [
+        (8, "d"),
+        (8, ""),
+        (7, ""),
+        (6, "e"),
+        (7, "w"),
+        (3, "u"),
+        (1, "c"),
+    ] {
+        list.push(Foo { x, y })?;
+    }
     both_ways(
         alloc,
         list,
         &[7, 4, 2, 136, 103, 55, 1, 10, 121, 100, 101, 119, 117, 99],
     )?;
+    refuses::<Foo>(alloc, &[4, 1], Reason::Eof)
+}
+
+#[test]
+fn enums(rt: HostRuntime) -> Result<(), Got> {
+    let alloc = rt.alloc();
     both_ways(alloc, Two::A(81), &[0, 81])?;
-    let list: Vec<Two> = vec![in alloc;
-        Two::B(124),
-        Two::B(126),
-        Two::B(124),
-        Two::B(125),
-        Two::B(124),
-        Two::B(126),
-    ]?;
+    let mut list: Vec<Two> = Vec::new(alloc);
+    for b in [124, 126, 124, 125, 124, 126] {
+        list.push(Two::B(b))?;
+    }
     both_ways(alloc, list, &[6, 63, 7, 124, 33, 2])?;
     both_ways(alloc, One::A(13), &[13])?;
-    let list: Vec<One> = vec![in alloc; One::A(5), One::A(9), One::A(14), One::A(0), One::A(16)]?;
+    let mut list: Vec<One> = Vec::new(alloc);
+    for a in [5, 9, 14, 0, 16] {
+        list.push(One::A(a))?;
+    }
     both_ways(alloc, list, &[5, 0, 5, 9, 14, 0, 16])?;
     both_ways::<Option<Never>>(alloc, None, &[0])?;
-    refuses::<Option<Never>>(alloc, &[1], Reason::InvalidEnumVariant)?;
-    refuses::<Foo>(alloc, &[4, 1], Reason::Eof)
+    refuses::<Option<Never>>(alloc, &[1], Reason::InvalidEnumVariant)
 }
