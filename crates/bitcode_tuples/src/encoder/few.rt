@@ -33,6 +33,10 @@ impl<
     fn encode_each(&mut self, t1: &T1, t2: &T2, t3: &T3) -> Result<(), Error> {
         self.encode_fields(&(t1, (t2, t3)))
     }
+
+    ghost of_shape = { both_of_shape A.of_shape (both_of_shape B.of_shape C.of_shape) };
+
+    ghost surely = { both_surely A.surely (both_surely B.surely C.surely) };
 }
 
 impl<
@@ -63,6 +67,10 @@ impl<
     fn encode_each(&mut self, t1: &T1, t2: &T2, t3: &T3, t4: &T4) -> Result<(), Error> {
         self.encode_fields(&(t1, (t2, t3, t4)))
     }
+
+    ghost of_shape = { both_of_shape A.of_shape B.of_shape };
+
+    ghost surely = { both_surely A.surely B.surely };
 }
 
 impl<
@@ -95,6 +103,10 @@ impl<
     fn encode_each(&mut self, t1: &T1, t2: &T2, t3: &T3, t4: &T4, t5: &T5) -> Result<(), Error> {
         self.encode_fields(&(t1, (t2, t3, t4, t5)))
     }
+
+    ghost of_shape = { both_of_shape A.of_shape B.of_shape };
+
+    ghost surely = { both_surely A.surely B.surely };
 }
 
 impl<
@@ -137,6 +149,10 @@ impl<
     ) -> Result<(), Error> {
         self.encode_fields(&(t1, (t2, t3, t4, t5, t6)))
     }
+
+    ghost of_shape = { both_of_shape A.of_shape B.of_shape };
+
+    ghost surely = { both_surely A.surely B.surely };
 }
 
 impl<
@@ -182,6 +198,10 @@ impl<
     ) -> Result<(), Error> {
         self.encode_fields(&(t1, (t2, t3, t4, t5, t6, t7)))
     }
+
+    ghost of_shape = { both_of_shape A.of_shape B.of_shape };
+
+    ghost surely = { both_surely A.surely B.surely };
 }
 
 impl<
@@ -230,4 +250,8 @@ impl<
     ) -> Result<(), Error> {
         self.encode_fields(&(t1, (t2, t3, t4, t5, t6, t7, t8)))
     }
+
+    ghost of_shape = { both_of_shape A.of_shape B.of_shape };
+
+    ghost surely = { both_surely A.surely B.surely };
 }

@@ -85,6 +85,10 @@ impl<
             (t2, t3, t4, t5, t6, t7, t8, t9, t10, t11, t12, t13, t14),
         ))
     }
+
+    ghost of_shape = { both_of_shape A.of_shape B.of_shape };
+
+    ghost surely = { both_surely A.surely B.surely };
 }
 
 impl<
@@ -201,6 +205,10 @@ impl<
             (t2, t3, t4, t5, t6, t7, t8, t9, t10, t11, t12, t13, t14, t15),
         ))
     }
+
+    ghost of_shape = { both_of_shape A.of_shape B.of_shape };
+
+    ghost surely = { both_surely A.surely B.surely };
 }
 
 impl<

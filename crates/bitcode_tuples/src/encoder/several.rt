@@ -58,6 +58,10 @@ impl<
     ) -> Result<(), Error> {
         self.encode_fields(&(t1, (t2, t3, t4, t5, t6, t7, t8, t9)))
     }
+
+    ghost of_shape = { both_of_shape A.of_shape B.of_shape };
+
+    ghost surely = { both_surely A.surely B.surely };
 }
 
 impl<
@@ -112,6 +116,10 @@ impl<
     ) -> Result<(), Error> {
         self.encode_fields(&(t1, (t2, t3, t4, t5, t6, t7, t8, t9, t10)))
     }
+
+    ghost of_shape = { both_of_shape A.of_shape B.of_shape };
+
+    ghost surely = { both_surely A.surely B.surely };
 }
 
 impl<
@@ -172,4 +180,8 @@ impl<
     ) -> Result<(), Error> {
         self.encode_fields(&(t1, (t2, t3, t4, t5, t6, t7, t8, t9, t10, t11)))
     }
+
+    ghost of_shape = { both_of_shape A.of_shape B.of_shape };
+
+    ghost surely = { both_surely A.surely B.surely };
 }
