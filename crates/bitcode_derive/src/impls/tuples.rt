@@ -15,42 +15,12 @@ impl<'a, A: Decode<'a>> Decode<'a> for (A,) {
 
 impl<A: DecodeOwned> DecodeOwned for (A,) {}
 
-impl<A: Encode, B: Encode, C: Encode> Encode for (A, B, C) {
-    type Encoder = TupleEncoder<A::Encoder, TupleEncoder<B::Encoder, C::Encoder>>;
+impl<A: Encode, B: Encode, C: Encode, D: Encode, E: Encode, F: Encode, G: Encode, H: Encode, I: Encode, J: Encode, K: Encode, L: Encode, M: Encode, N: Encode> Encode for (A, B, C, D, E, F, G, H, I, J, K, L, M, N) {
+    type Encoder = TupleEncoder<A::Encoder, TupleEncoder<B::Encoder, TupleEncoder<C::Encoder, TupleEncoder<D::Encoder, TupleEncoder<E::Encoder, TupleEncoder<F::Encoder, TupleEncoder<G::Encoder, TupleEncoder<H::Encoder, TupleEncoder<I::Encoder, TupleEncoder<J::Encoder, TupleEncoder<K::Encoder, TupleEncoder<L::Encoder, TupleEncoder<M::Encoder, N::Encoder>>>>>>>>>>>>>;
 }
 
-impl<'a, A: Decode<'a>, B: Decode<'a>, C: Decode<'a>> Decode<'a> for (A, B, C) {
-    type Decoder = TupleDecoder<A::Decoder, TupleDecoder<B::Decoder, C::Decoder>>;
+impl<'a, A: Decode<'a>, B: Decode<'a>, C: Decode<'a>, D: Decode<'a>, E: Decode<'a>, F: Decode<'a>, G: Decode<'a>, H: Decode<'a>, I: Decode<'a>, J: Decode<'a>, K: Decode<'a>, L: Decode<'a>, M: Decode<'a>, N: Decode<'a>> Decode<'a> for (A, B, C, D, E, F, G, H, I, J, K, L, M, N) {
+    type Decoder = TupleDecoder<A::Decoder, TupleDecoder<B::Decoder, TupleDecoder<C::Decoder, TupleDecoder<D::Decoder, TupleDecoder<E::Decoder, TupleDecoder<F::Decoder, TupleDecoder<G::Decoder, TupleDecoder<H::Decoder, TupleDecoder<I::Decoder, TupleDecoder<J::Decoder, TupleDecoder<K::Decoder, TupleDecoder<L::Decoder, TupleDecoder<M::Decoder, N::Decoder>>>>>>>>>>>>>;
 }
 
-impl<A: DecodeOwned, B: DecodeOwned, C: DecodeOwned> DecodeOwned for (A, B, C) {}
-
-impl<A: Encode, B: Encode, C: Encode, D: Encode> Encode for (A, B, C, D) {
-    type Encoder = TupleEncoder<A::Encoder, TupleEncoder<B::Encoder, TupleEncoder<C::Encoder, D::Encoder>>>;
-}
-
-impl<'a, A: Decode<'a>, B: Decode<'a>, C: Decode<'a>, D: Decode<'a>> Decode<'a> for (A, B, C, D) {
-    type Decoder = TupleDecoder<A::Decoder, TupleDecoder<B::Decoder, TupleDecoder<C::Decoder, D::Decoder>>>;
-}
-
-impl<A: DecodeOwned, B: DecodeOwned, C: DecodeOwned, D: DecodeOwned> DecodeOwned for (A, B, C, D) {}
-
-impl<A: Encode, B: Encode, C: Encode, D: Encode, E: Encode, F: Encode, G: Encode, H: Encode> Encode for (A, B, C, D, E, F, G, H) {
-    type Encoder = TupleEncoder<A::Encoder, TupleEncoder<B::Encoder, TupleEncoder<C::Encoder, TupleEncoder<D::Encoder, TupleEncoder<E::Encoder, TupleEncoder<F::Encoder, TupleEncoder<G::Encoder, H::Encoder>>>>>>>;
-}
-
-impl<'a, A: Decode<'a>, B: Decode<'a>, C: Decode<'a>, D: Decode<'a>, E: Decode<'a>, F: Decode<'a>, G: Decode<'a>, H: Decode<'a>> Decode<'a> for (A, B, C, D, E, F, G, H) {
-    type Decoder = TupleDecoder<A::Decoder, TupleDecoder<B::Decoder, TupleDecoder<C::Decoder, TupleDecoder<D::Decoder, TupleDecoder<E::Decoder, TupleDecoder<F::Decoder, TupleDecoder<G::Decoder, H::Decoder>>>>>>>;
-}
-
-impl<A: DecodeOwned, B: DecodeOwned, C: DecodeOwned, D: DecodeOwned, E: DecodeOwned, F: DecodeOwned, G: DecodeOwned, H: DecodeOwned> DecodeOwned for (A, B, C, D, E, F, G, H) {}
-
-impl<A: Encode, B: Encode, C: Encode, D: Encode, E: Encode, F: Encode, G: Encode, H: Encode, I: Encode, J: Encode, K: Encode, L: Encode, M: Encode, N: Encode, O: Encode, P: Encode> Encode for (A, B, C, D, E, F, G, H, I, J, K, L, M, N, O, P) {
-    type Encoder = TupleEncoder<A::Encoder, TupleEncoder<B::Encoder, TupleEncoder<C::Encoder, TupleEncoder<D::Encoder, TupleEncoder<E::Encoder, TupleEncoder<F::Encoder, TupleEncoder<G::Encoder, TupleEncoder<H::Encoder, TupleEncoder<I::Encoder, TupleEncoder<J::Encoder, TupleEncoder<K::Encoder, TupleEncoder<L::Encoder, TupleEncoder<M::Encoder, TupleEncoder<N::Encoder, TupleEncoder<O::Encoder, P::Encoder>>>>>>>>>>>>>>>;
-}
-
-impl<'a, A: Decode<'a>, B: Decode<'a>, C: Decode<'a>, D: Decode<'a>, E: Decode<'a>, F: Decode<'a>, G: Decode<'a>, H: Decode<'a>, I: Decode<'a>, J: Decode<'a>, K: Decode<'a>, L: Decode<'a>, M: Decode<'a>, N: Decode<'a>, O: Decode<'a>, P: Decode<'a>> Decode<'a> for (A, B, C, D, E, F, G, H, I, J, K, L, M, N, O, P) {
-    type Decoder = TupleDecoder<A::Decoder, TupleDecoder<B::Decoder, TupleDecoder<C::Decoder, TupleDecoder<D::Decoder, TupleDecoder<E::Decoder, TupleDecoder<F::Decoder, TupleDecoder<G::Decoder, TupleDecoder<H::Decoder, TupleDecoder<I::Decoder, TupleDecoder<J::Decoder, TupleDecoder<K::Decoder, TupleDecoder<L::Decoder, TupleDecoder<M::Decoder, TupleDecoder<N::Decoder, TupleDecoder<O::Decoder, P::Decoder>>>>>>>>>>>>>>>;
-}
-
-impl<A: DecodeOwned, B: DecodeOwned, C: DecodeOwned, D: DecodeOwned, E: DecodeOwned, F: DecodeOwned, G: DecodeOwned, H: DecodeOwned, I: DecodeOwned, J: DecodeOwned, K: DecodeOwned, L: DecodeOwned, M: DecodeOwned, N: DecodeOwned, O: DecodeOwned, P: DecodeOwned> DecodeOwned for (A, B, C, D, E, F, G, H, I, J, K, L, M, N, O, P) {}
+impl<A: DecodeOwned, B: DecodeOwned, C: DecodeOwned, D: DecodeOwned, E: DecodeOwned, F: DecodeOwned, G: DecodeOwned, H: DecodeOwned, I: DecodeOwned, J: DecodeOwned, K: DecodeOwned, L: DecodeOwned, M: DecodeOwned, N: DecodeOwned> DecodeOwned for (A, B, C, D, E, F, G, H, I, J, K, L, M, N) {}
