@@ -34,13 +34,16 @@ pub trait FieldsEncoder3<T1: Shaped, T2: Shaped, T3: Shaped>: Buffer {
     ghost surely: { (e : Self) (n : ℕ) → Self.surely_passes e n → SurelyPasses ⟦<(T1, T2, T3) as Shaped>⟧.shape (Self.columns e) n };
 }
 
-impl<'a, T1: Shaped, T2: Shaped, T3: Shaped, E: FieldsEncoder3<T1, T2, T3>> FieldsEncoder<(&'a T1, &'a T2, &'a T3)> for E {
+impl<'a, T1: Shaped, T2: Shaped, T3: Shaped, E: FieldsEncoder3<T1, T2, T3>> FieldsEncoder<
+    (&'a T1, &'a T2, &'a T3),
+> for E {
     fn encode_fields(&mut self, fields: &(&'a T1, &'a T2, &'a T3)) -> Result<(), Error> {
         self.encode_each(fields.0, fields.1, fields.2)
     }
 }
 
-impl<'a, T1: Shaped, T2: Shaped, T3: Shaped, T4: Shaped> Fields for (&'a T1, &'a T2, &'a T3, &'a T4) {
+impl<'a, T1: Shaped, T2: Shaped, T3: Shaped, T4: Shaped> Fields
+    for (&'a T1, &'a T2, &'a T3, &'a T4) {
     type Whole = (T1, T2, T3, T4);
 
     ghost whole = { λ f. (f.0.now, f.1.now, f.2.now, f.3.now) };
@@ -67,13 +70,21 @@ pub trait FieldsEncoder4<T1: Shaped, T2: Shaped, T3: Shaped, T4: Shaped>: Buffer
     ghost surely: { (e : Self) (n : ℕ) → Self.surely_passes e n → SurelyPasses ⟦<(T1, T2, T3, T4) as Shaped>⟧.shape (Self.columns e) n };
 }
 
-impl<'a, T1: Shaped, T2: Shaped, T3: Shaped, T4: Shaped, E: FieldsEncoder4<T1, T2, T3, T4>> FieldsEncoder<(&'a T1, &'a T2, &'a T3, &'a T4)> for E {
+impl<
+    'a,
+    T1: Shaped,
+    T2: Shaped,
+    T3: Shaped,
+    T4: Shaped,
+    E: FieldsEncoder4<T1, T2, T3, T4>,
+> FieldsEncoder<(&'a T1, &'a T2, &'a T3, &'a T4)> for E {
     fn encode_fields(&mut self, fields: &(&'a T1, &'a T2, &'a T3, &'a T4)) -> Result<(), Error> {
         self.encode_each(fields.0, fields.1, fields.2, fields.3)
     }
 }
 
-impl<'a, T1: Shaped, T2: Shaped, T3: Shaped, T4: Shaped, T5: Shaped> Fields for (&'a T1, &'a T2, &'a T3, &'a T4, &'a T5) {
+impl<'a, T1: Shaped, T2: Shaped, T3: Shaped, T4: Shaped, T5: Shaped> Fields
+    for (&'a T1, &'a T2, &'a T3, &'a T4, &'a T5) {
     type Whole = (T1, T2, T3, T4, T5);
 
     ghost whole = { λ f. (f.0.now, f.1.now, f.2.now, f.3.now, f.4.now) };
@@ -101,13 +112,25 @@ pub trait FieldsEncoder5<T1: Shaped, T2: Shaped, T3: Shaped, T4: Shaped, T5: Sha
     ghost surely: { (e : Self) (n : ℕ) → Self.surely_passes e n → SurelyPasses ⟦<(T1, T2, T3, T4, T5) as Shaped>⟧.shape (Self.columns e) n };
 }
 
-impl<'a, T1: Shaped, T2: Shaped, T3: Shaped, T4: Shaped, T5: Shaped, E: FieldsEncoder5<T1, T2, T3, T4, T5>> FieldsEncoder<(&'a T1, &'a T2, &'a T3, &'a T4, &'a T5)> for E {
-    fn encode_fields(&mut self, fields: &(&'a T1, &'a T2, &'a T3, &'a T4, &'a T5)) -> Result<(), Error> {
+impl<
+    'a,
+    T1: Shaped,
+    T2: Shaped,
+    T3: Shaped,
+    T4: Shaped,
+    T5: Shaped,
+    E: FieldsEncoder5<T1, T2, T3, T4, T5>,
+> FieldsEncoder<(&'a T1, &'a T2, &'a T3, &'a T4, &'a T5)> for E {
+    fn encode_fields(
+        &mut self,
+        fields: &(&'a T1, &'a T2, &'a T3, &'a T4, &'a T5),
+    ) -> Result<(), Error> {
         self.encode_each(fields.0, fields.1, fields.2, fields.3, fields.4)
     }
 }
 
-impl<'a, T1: Shaped, T2: Shaped, T3: Shaped, T4: Shaped, T5: Shaped, T6: Shaped> Fields for (&'a T1, &'a T2, &'a T3, &'a T4, &'a T5, &'a T6) {
+impl<'a, T1: Shaped, T2: Shaped, T3: Shaped, T4: Shaped, T5: Shaped, T6: Shaped> Fields
+    for (&'a T1, &'a T2, &'a T3, &'a T4, &'a T5, &'a T6) {
     type Whole = (T1, T2, T3, T4, T5, T6);
 
     ghost whole = { λ f. (f.0.now, f.1.now, f.2.now, f.3.now, f.4.now, f.5.now) };
@@ -123,8 +146,23 @@ impl<'a, T1: Shaped, T2: Shaped, T3: Shaped, T4: Shaped, T5: Shaped, T6: Shaped>
 }
 
 /// As `Encoder`, for a tuple whose six fields lie apart.
-pub trait FieldsEncoder6<T1: Shaped, T2: Shaped, T3: Shaped, T4: Shaped, T5: Shaped, T6: Shaped>: Buffer {
-    fn encode_each(&mut self, t1: &T1, t2: &T2, t3: &T3, t4: &T4, t5: &T5, t6: &T6) -> Result<(), Error>
+pub trait FieldsEncoder6<
+    T1: Shaped,
+    T2: Shaped,
+    T3: Shaped,
+    T4: Shaped,
+    T5: Shaped,
+    T6: Shaped,
+>: Buffer {
+    fn encode_each(
+        &mut self,
+        t1: &T1,
+        t2: &T2,
+        t3: &T3,
+        t4: &T4,
+        t5: &T5,
+        t6: &T6,
+    ) -> Result<(), Error>
         requires { 0 < Self.room self.old }
         ensures joined { OnOk result (JoinsListing ⟦<(T1, T2, T3, T4, T5, T6) as Shaped>⟧.lists ⟦<(T1, T2, T3, T4, T5, T6) as Shaped>⟧.shape (t1.now, t2.now, t3.now, t4.now, t5.now, t6.now) (Self.columns self.old) (Self.columns self.new)) }
         ensures room { OnOk result (Self.room self.old ≤ Self.room self.new + 1) }
@@ -136,13 +174,26 @@ pub trait FieldsEncoder6<T1: Shaped, T2: Shaped, T3: Shaped, T4: Shaped, T5: Sha
     ghost surely: { (e : Self) (n : ℕ) → Self.surely_passes e n → SurelyPasses ⟦<(T1, T2, T3, T4, T5, T6) as Shaped>⟧.shape (Self.columns e) n };
 }
 
-impl<'a, T1: Shaped, T2: Shaped, T3: Shaped, T4: Shaped, T5: Shaped, T6: Shaped, E: FieldsEncoder6<T1, T2, T3, T4, T5, T6>> FieldsEncoder<(&'a T1, &'a T2, &'a T3, &'a T4, &'a T5, &'a T6)> for E {
-    fn encode_fields(&mut self, fields: &(&'a T1, &'a T2, &'a T3, &'a T4, &'a T5, &'a T6)) -> Result<(), Error> {
+impl<
+    'a,
+    T1: Shaped,
+    T2: Shaped,
+    T3: Shaped,
+    T4: Shaped,
+    T5: Shaped,
+    T6: Shaped,
+    E: FieldsEncoder6<T1, T2, T3, T4, T5, T6>,
+> FieldsEncoder<(&'a T1, &'a T2, &'a T3, &'a T4, &'a T5, &'a T6)> for E {
+    fn encode_fields(
+        &mut self,
+        fields: &(&'a T1, &'a T2, &'a T3, &'a T4, &'a T5, &'a T6),
+    ) -> Result<(), Error> {
         self.encode_each(fields.0, fields.1, fields.2, fields.3, fields.4, fields.5)
     }
 }
 
-impl<'a, T1: Shaped, T2: Shaped, T3: Shaped, T4: Shaped, T5: Shaped, T6: Shaped, T7: Shaped> Fields for (&'a T1, &'a T2, &'a T3, &'a T4, &'a T5, &'a T6, &'a T7) {
+impl<'a, T1: Shaped, T2: Shaped, T3: Shaped, T4: Shaped, T5: Shaped, T6: Shaped, T7: Shaped> Fields
+    for (&'a T1, &'a T2, &'a T3, &'a T4, &'a T5, &'a T6, &'a T7) {
     type Whole = (T1, T2, T3, T4, T5, T6, T7);
 
     ghost whole = { λ f. (f.0.now, f.1.now, f.2.now, f.3.now, f.4.now, f.5.now, f.6.now) };
@@ -159,8 +210,25 @@ impl<'a, T1: Shaped, T2: Shaped, T3: Shaped, T4: Shaped, T5: Shaped, T6: Shaped,
 }
 
 /// As `Encoder`, for a tuple whose seven fields lie apart.
-pub trait FieldsEncoder7<T1: Shaped, T2: Shaped, T3: Shaped, T4: Shaped, T5: Shaped, T6: Shaped, T7: Shaped>: Buffer {
-    fn encode_each(&mut self, t1: &T1, t2: &T2, t3: &T3, t4: &T4, t5: &T5, t6: &T6, t7: &T7) -> Result<(), Error>
+pub trait FieldsEncoder7<
+    T1: Shaped,
+    T2: Shaped,
+    T3: Shaped,
+    T4: Shaped,
+    T5: Shaped,
+    T6: Shaped,
+    T7: Shaped,
+>: Buffer {
+    fn encode_each(
+        &mut self,
+        t1: &T1,
+        t2: &T2,
+        t3: &T3,
+        t4: &T4,
+        t5: &T5,
+        t6: &T6,
+        t7: &T7,
+    ) -> Result<(), Error>
         requires { 0 < Self.room self.old }
         ensures joined { OnOk result (JoinsListing ⟦<(T1, T2, T3, T4, T5, T6, T7) as Shaped>⟧.lists ⟦<(T1, T2, T3, T4, T5, T6, T7) as Shaped>⟧.shape (t1.now, t2.now, t3.now, t4.now, t5.now, t6.now, t7.now) (Self.columns self.old) (Self.columns self.new)) }
         ensures room { OnOk result (Self.room self.old ≤ Self.room self.new + 1) }
@@ -172,13 +240,48 @@ pub trait FieldsEncoder7<T1: Shaped, T2: Shaped, T3: Shaped, T4: Shaped, T5: Sha
     ghost surely: { (e : Self) (n : ℕ) → Self.surely_passes e n → SurelyPasses ⟦<(T1, T2, T3, T4, T5, T6, T7) as Shaped>⟧.shape (Self.columns e) n };
 }
 
-impl<'a, T1: Shaped, T2: Shaped, T3: Shaped, T4: Shaped, T5: Shaped, T6: Shaped, T7: Shaped, E: FieldsEncoder7<T1, T2, T3, T4, T5, T6, T7>> FieldsEncoder<(&'a T1, &'a T2, &'a T3, &'a T4, &'a T5, &'a T6, &'a T7)> for E {
-    fn encode_fields(&mut self, fields: &(&'a T1, &'a T2, &'a T3, &'a T4, &'a T5, &'a T6, &'a T7)) -> Result<(), Error> {
-        self.encode_each(fields.0, fields.1, fields.2, fields.3, fields.4, fields.5, fields.6)
+impl<
+    'a,
+    T1: Shaped,
+    T2: Shaped,
+    T3: Shaped,
+    T4: Shaped,
+    T5: Shaped,
+    T6: Shaped,
+    T7: Shaped,
+    E: FieldsEncoder7<T1, T2, T3, T4, T5, T6, T7>,
+> FieldsEncoder<(&'a T1, &'a T2, &'a T3, &'a T4, &'a T5, &'a T6, &'a T7)> for E {
+    fn encode_fields(
+        &mut self,
+        fields: &(&'a T1, &'a T2, &'a T3, &'a T4, &'a T5, &'a T6, &'a T7),
+    ) -> Result<(), Error> {
+        self.encode_each(
+            fields.0, fields.1, fields.2, fields.3, fields.4, fields.5, fields.6,
+        )
     }
 }
 
-impl<'a, T1: Shaped, T2: Shaped, T3: Shaped, T4: Shaped, T5: Shaped, T6: Shaped, T7: Shaped, T8: Shaped> Fields for (&'a T1, &'a T2, &'a T3, &'a T4, &'a T5, &'a T6, &'a T7, &'a T8) {
+impl<
+    'a,
+    T1: Shaped,
+    T2: Shaped,
+    T3: Shaped,
+    T4: Shaped,
+    T5: Shaped,
+    T6: Shaped,
+    T7: Shaped,
+    T8: Shaped,
+> Fields
+    for (
+        &'a T1,
+        &'a T2,
+        &'a T3,
+        &'a T4,
+        &'a T5,
+        &'a T6,
+        &'a T7,
+        &'a T8,
+    ) {
     type Whole = (T1, T2, T3, T4, T5, T6, T7, T8);
 
     ghost whole = { λ f. (f.0.now, f.1.now, f.2.now, f.3.now, f.4.now, f.5.now, f.6.now, f.7.now) };
@@ -196,8 +299,27 @@ impl<'a, T1: Shaped, T2: Shaped, T3: Shaped, T4: Shaped, T5: Shaped, T6: Shaped,
 }
 
 /// As `Encoder`, for a tuple whose eight fields lie apart.
-pub trait FieldsEncoder8<T1: Shaped, T2: Shaped, T3: Shaped, T4: Shaped, T5: Shaped, T6: Shaped, T7: Shaped, T8: Shaped>: Buffer {
-    fn encode_each(&mut self, t1: &T1, t2: &T2, t3: &T3, t4: &T4, t5: &T5, t6: &T6, t7: &T7, t8: &T8) -> Result<(), Error>
+pub trait FieldsEncoder8<
+    T1: Shaped,
+    T2: Shaped,
+    T3: Shaped,
+    T4: Shaped,
+    T5: Shaped,
+    T6: Shaped,
+    T7: Shaped,
+    T8: Shaped,
+>: Buffer {
+    fn encode_each(
+        &mut self,
+        t1: &T1,
+        t2: &T2,
+        t3: &T3,
+        t4: &T4,
+        t5: &T5,
+        t6: &T6,
+        t7: &T7,
+        t8: &T8,
+    ) -> Result<(), Error>
         requires { 0 < Self.room self.old }
         ensures joined { OnOk result (JoinsListing ⟦<(T1, T2, T3, T4, T5, T6, T7, T8) as Shaped>⟧.lists ⟦<(T1, T2, T3, T4, T5, T6, T7, T8) as Shaped>⟧.shape (t1.now, t2.now, t3.now, t4.now, t5.now, t6.now, t7.now, t8.now) (Self.columns self.old) (Self.columns self.new)) }
         ensures room { OnOk result (Self.room self.old ≤ Self.room self.new + 1) }
@@ -209,8 +331,44 @@ pub trait FieldsEncoder8<T1: Shaped, T2: Shaped, T3: Shaped, T4: Shaped, T5: Sha
     ghost surely: { (e : Self) (n : ℕ) → Self.surely_passes e n → SurelyPasses ⟦<(T1, T2, T3, T4, T5, T6, T7, T8) as Shaped>⟧.shape (Self.columns e) n };
 }
 
-impl<'a, T1: Shaped, T2: Shaped, T3: Shaped, T4: Shaped, T5: Shaped, T6: Shaped, T7: Shaped, T8: Shaped, E: FieldsEncoder8<T1, T2, T3, T4, T5, T6, T7, T8>> FieldsEncoder<(&'a T1, &'a T2, &'a T3, &'a T4, &'a T5, &'a T6, &'a T7, &'a T8)> for E {
-    fn encode_fields(&mut self, fields: &(&'a T1, &'a T2, &'a T3, &'a T4, &'a T5, &'a T6, &'a T7, &'a T8)) -> Result<(), Error> {
-        self.encode_each(fields.0, fields.1, fields.2, fields.3, fields.4, fields.5, fields.6, fields.7)
+impl<
+    'a,
+    T1: Shaped,
+    T2: Shaped,
+    T3: Shaped,
+    T4: Shaped,
+    T5: Shaped,
+    T6: Shaped,
+    T7: Shaped,
+    T8: Shaped,
+    E: FieldsEncoder8<T1, T2, T3, T4, T5, T6, T7, T8>,
+> FieldsEncoder<
+    (
+        &'a T1,
+        &'a T2,
+        &'a T3,
+        &'a T4,
+        &'a T5,
+        &'a T6,
+        &'a T7,
+        &'a T8,
+    ),
+> for E {
+    fn encode_fields(
+        &mut self,
+        fields: &(
+            &'a T1,
+            &'a T2,
+            &'a T3,
+            &'a T4,
+            &'a T5,
+            &'a T6,
+            &'a T7,
+            &'a T8,
+        ),
+    ) -> Result<(), Error> {
+        self.encode_each(
+            fields.0, fields.1, fields.2, fields.3, fields.4, fields.5, fields.6, fields.7,
+        )
     }
 }

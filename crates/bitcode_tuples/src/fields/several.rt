@@ -8,7 +8,29 @@ use bitcode_coder::coder::Buffer;
 use bitcode_columns::error::Error;
 use bitcode_shapes::shaped::Shaped;
 
-impl<'a, T1: Shaped, T2: Shaped, T3: Shaped, T4: Shaped, T5: Shaped, T6: Shaped, T7: Shaped, T8: Shaped, T9: Shaped> Fields for (&'a T1, &'a T2, &'a T3, &'a T4, &'a T5, &'a T6, &'a T7, &'a T8, &'a T9) {
+impl<
+    'a,
+    T1: Shaped,
+    T2: Shaped,
+    T3: Shaped,
+    T4: Shaped,
+    T5: Shaped,
+    T6: Shaped,
+    T7: Shaped,
+    T8: Shaped,
+    T9: Shaped,
+> Fields
+    for (
+        &'a T1,
+        &'a T2,
+        &'a T3,
+        &'a T4,
+        &'a T5,
+        &'a T6,
+        &'a T7,
+        &'a T8,
+        &'a T9,
+    ) {
     type Whole = (T1, T2, T3, T4, T5, T6, T7, T8, T9);
 
     ghost whole = { λ f. (f.0.now, f.1.now, f.2.now, f.3.now, f.4.now, f.5.now, f.6.now, f.7.now, f.8.now) };
@@ -27,8 +49,29 @@ impl<'a, T1: Shaped, T2: Shaped, T3: Shaped, T4: Shaped, T5: Shaped, T6: Shaped,
 }
 
 /// As `Encoder`, for a tuple whose nine fields lie apart.
-pub trait FieldsEncoder9<T1: Shaped, T2: Shaped, T3: Shaped, T4: Shaped, T5: Shaped, T6: Shaped, T7: Shaped, T8: Shaped, T9: Shaped>: Buffer {
-    fn encode_each(&mut self, t1: &T1, t2: &T2, t3: &T3, t4: &T4, t5: &T5, t6: &T6, t7: &T7, t8: &T8, t9: &T9) -> Result<(), Error>
+pub trait FieldsEncoder9<
+    T1: Shaped,
+    T2: Shaped,
+    T3: Shaped,
+    T4: Shaped,
+    T5: Shaped,
+    T6: Shaped,
+    T7: Shaped,
+    T8: Shaped,
+    T9: Shaped,
+>: Buffer {
+    fn encode_each(
+        &mut self,
+        t1: &T1,
+        t2: &T2,
+        t3: &T3,
+        t4: &T4,
+        t5: &T5,
+        t6: &T6,
+        t7: &T7,
+        t8: &T8,
+        t9: &T9,
+    ) -> Result<(), Error>
         requires { 0 < Self.room self.old }
         ensures joined { OnOk result (JoinsListing ⟦<(T1, T2, T3, T4, T5, T6, T7, T8, T9) as Shaped>⟧.lists ⟦<(T1, T2, T3, T4, T5, T6, T7, T8, T9) as Shaped>⟧.shape (t1.now, t2.now, t3.now, t4.now, t5.now, t6.now, t7.now, t8.now, t9.now) (Self.columns self.old) (Self.columns self.new)) }
         ensures room { OnOk result (Self.room self.old ≤ Self.room self.new + 1) }
@@ -40,13 +83,77 @@ pub trait FieldsEncoder9<T1: Shaped, T2: Shaped, T3: Shaped, T4: Shaped, T5: Sha
     ghost surely: { (e : Self) (n : ℕ) → Self.surely_passes e n → SurelyPasses ⟦<(T1, T2, T3, T4, T5, T6, T7, T8, T9) as Shaped>⟧.shape (Self.columns e) n };
 }
 
-impl<'a, T1: Shaped, T2: Shaped, T3: Shaped, T4: Shaped, T5: Shaped, T6: Shaped, T7: Shaped, T8: Shaped, T9: Shaped, E: FieldsEncoder9<T1, T2, T3, T4, T5, T6, T7, T8, T9>> FieldsEncoder<(&'a T1, &'a T2, &'a T3, &'a T4, &'a T5, &'a T6, &'a T7, &'a T8, &'a T9)> for E {
-    fn encode_fields(&mut self, fields: &(&'a T1, &'a T2, &'a T3, &'a T4, &'a T5, &'a T6, &'a T7, &'a T8, &'a T9)) -> Result<(), Error> {
-        self.encode_each(fields.0, fields.1, fields.2, fields.3, fields.4, fields.5, fields.6, fields.7, fields.8)
+impl<
+    'a,
+    T1: Shaped,
+    T2: Shaped,
+    T3: Shaped,
+    T4: Shaped,
+    T5: Shaped,
+    T6: Shaped,
+    T7: Shaped,
+    T8: Shaped,
+    T9: Shaped,
+    E: FieldsEncoder9<T1, T2, T3, T4, T5, T6, T7, T8, T9>,
+> FieldsEncoder<
+    (
+        &'a T1,
+        &'a T2,
+        &'a T3,
+        &'a T4,
+        &'a T5,
+        &'a T6,
+        &'a T7,
+        &'a T8,
+        &'a T9,
+    ),
+> for E {
+    fn encode_fields(
+        &mut self,
+        fields: &(
+            &'a T1,
+            &'a T2,
+            &'a T3,
+            &'a T4,
+            &'a T5,
+            &'a T6,
+            &'a T7,
+            &'a T8,
+            &'a T9,
+        ),
+    ) -> Result<(), Error> {
+        self.encode_each(
+            fields.0, fields.1, fields.2, fields.3, fields.4, fields.5, fields.6, fields.7,
+            fields.8,
+        )
     }
 }
 
-impl<'a, T1: Shaped, T2: Shaped, T3: Shaped, T4: Shaped, T5: Shaped, T6: Shaped, T7: Shaped, T8: Shaped, T9: Shaped, T10: Shaped> Fields for (&'a T1, &'a T2, &'a T3, &'a T4, &'a T5, &'a T6, &'a T7, &'a T8, &'a T9, &'a T10) {
+impl<
+    'a,
+    T1: Shaped,
+    T2: Shaped,
+    T3: Shaped,
+    T4: Shaped,
+    T5: Shaped,
+    T6: Shaped,
+    T7: Shaped,
+    T8: Shaped,
+    T9: Shaped,
+    T10: Shaped,
+> Fields
+    for (
+        &'a T1,
+        &'a T2,
+        &'a T3,
+        &'a T4,
+        &'a T5,
+        &'a T6,
+        &'a T7,
+        &'a T8,
+        &'a T9,
+        &'a T10,
+    ) {
     type Whole = (T1, T2, T3, T4, T5, T6, T7, T8, T9, T10);
 
     ghost whole = { λ f. (f.0.now, f.1.now, f.2.now, f.3.now, f.4.now, f.5.now, f.6.now, f.7.now, f.8.now, f.9.now) };
@@ -66,8 +173,31 @@ impl<'a, T1: Shaped, T2: Shaped, T3: Shaped, T4: Shaped, T5: Shaped, T6: Shaped,
 }
 
 /// As `Encoder`, for a tuple whose ten fields lie apart.
-pub trait FieldsEncoder10<T1: Shaped, T2: Shaped, T3: Shaped, T4: Shaped, T5: Shaped, T6: Shaped, T7: Shaped, T8: Shaped, T9: Shaped, T10: Shaped>: Buffer {
-    fn encode_each(&mut self, t1: &T1, t2: &T2, t3: &T3, t4: &T4, t5: &T5, t6: &T6, t7: &T7, t8: &T8, t9: &T9, t10: &T10) -> Result<(), Error>
+pub trait FieldsEncoder10<
+    T1: Shaped,
+    T2: Shaped,
+    T3: Shaped,
+    T4: Shaped,
+    T5: Shaped,
+    T6: Shaped,
+    T7: Shaped,
+    T8: Shaped,
+    T9: Shaped,
+    T10: Shaped,
+>: Buffer {
+    fn encode_each(
+        &mut self,
+        t1: &T1,
+        t2: &T2,
+        t3: &T3,
+        t4: &T4,
+        t5: &T5,
+        t6: &T6,
+        t7: &T7,
+        t8: &T8,
+        t9: &T9,
+        t10: &T10,
+    ) -> Result<(), Error>
         requires { 0 < Self.room self.old }
         ensures joined { OnOk result (JoinsListing ⟦<(T1, T2, T3, T4, T5, T6, T7, T8, T9, T10) as Shaped>⟧.lists ⟦<(T1, T2, T3, T4, T5, T6, T7, T8, T9, T10) as Shaped>⟧.shape (t1.now, t2.now, t3.now, t4.now, t5.now, t6.now, t7.now, t8.now, t9.now, t10.now) (Self.columns self.old) (Self.columns self.new)) }
         ensures room { OnOk result (Self.room self.old ≤ Self.room self.new + 1) }
@@ -79,13 +209,82 @@ pub trait FieldsEncoder10<T1: Shaped, T2: Shaped, T3: Shaped, T4: Shaped, T5: Sh
     ghost surely: { (e : Self) (n : ℕ) → Self.surely_passes e n → SurelyPasses ⟦<(T1, T2, T3, T4, T5, T6, T7, T8, T9, T10) as Shaped>⟧.shape (Self.columns e) n };
 }
 
-impl<'a, T1: Shaped, T2: Shaped, T3: Shaped, T4: Shaped, T5: Shaped, T6: Shaped, T7: Shaped, T8: Shaped, T9: Shaped, T10: Shaped, E: FieldsEncoder10<T1, T2, T3, T4, T5, T6, T7, T8, T9, T10>> FieldsEncoder<(&'a T1, &'a T2, &'a T3, &'a T4, &'a T5, &'a T6, &'a T7, &'a T8, &'a T9, &'a T10)> for E {
-    fn encode_fields(&mut self, fields: &(&'a T1, &'a T2, &'a T3, &'a T4, &'a T5, &'a T6, &'a T7, &'a T8, &'a T9, &'a T10)) -> Result<(), Error> {
-        self.encode_each(fields.0, fields.1, fields.2, fields.3, fields.4, fields.5, fields.6, fields.7, fields.8, fields.9)
+impl<
+    'a,
+    T1: Shaped,
+    T2: Shaped,
+    T3: Shaped,
+    T4: Shaped,
+    T5: Shaped,
+    T6: Shaped,
+    T7: Shaped,
+    T8: Shaped,
+    T9: Shaped,
+    T10: Shaped,
+    E: FieldsEncoder10<T1, T2, T3, T4, T5, T6, T7, T8, T9, T10>,
+> FieldsEncoder<
+    (
+        &'a T1,
+        &'a T2,
+        &'a T3,
+        &'a T4,
+        &'a T5,
+        &'a T6,
+        &'a T7,
+        &'a T8,
+        &'a T9,
+        &'a T10,
+    ),
+> for E {
+    fn encode_fields(
+        &mut self,
+        fields: &(
+            &'a T1,
+            &'a T2,
+            &'a T3,
+            &'a T4,
+            &'a T5,
+            &'a T6,
+            &'a T7,
+            &'a T8,
+            &'a T9,
+            &'a T10,
+        ),
+    ) -> Result<(), Error> {
+        self.encode_each(
+            fields.0, fields.1, fields.2, fields.3, fields.4, fields.5, fields.6, fields.7,
+            fields.8, fields.9,
+        )
     }
 }
 
-impl<'a, T1: Shaped, T2: Shaped, T3: Shaped, T4: Shaped, T5: Shaped, T6: Shaped, T7: Shaped, T8: Shaped, T9: Shaped, T10: Shaped, T11: Shaped> Fields for (&'a T1, &'a T2, &'a T3, &'a T4, &'a T5, &'a T6, &'a T7, &'a T8, &'a T9, &'a T10, &'a T11) {
+impl<
+    'a,
+    T1: Shaped,
+    T2: Shaped,
+    T3: Shaped,
+    T4: Shaped,
+    T5: Shaped,
+    T6: Shaped,
+    T7: Shaped,
+    T8: Shaped,
+    T9: Shaped,
+    T10: Shaped,
+    T11: Shaped,
+> Fields
+    for (
+        &'a T1,
+        &'a T2,
+        &'a T3,
+        &'a T4,
+        &'a T5,
+        &'a T6,
+        &'a T7,
+        &'a T8,
+        &'a T9,
+        &'a T10,
+        &'a T11,
+    ) {
     type Whole = (T1, T2, T3, T4, T5, T6, T7, T8, T9, T10, T11);
 
     ghost whole = { λ f. (f.0.now, f.1.now, f.2.now, f.3.now, f.4.now, f.5.now, f.6.now, f.7.now, f.8.now, f.9.now, f.10.now) };
@@ -106,8 +305,33 @@ impl<'a, T1: Shaped, T2: Shaped, T3: Shaped, T4: Shaped, T5: Shaped, T6: Shaped,
 }
 
 /// As `Encoder`, for a tuple whose eleven fields lie apart.
-pub trait FieldsEncoder11<T1: Shaped, T2: Shaped, T3: Shaped, T4: Shaped, T5: Shaped, T6: Shaped, T7: Shaped, T8: Shaped, T9: Shaped, T10: Shaped, T11: Shaped>: Buffer {
-    fn encode_each(&mut self, t1: &T1, t2: &T2, t3: &T3, t4: &T4, t5: &T5, t6: &T6, t7: &T7, t8: &T8, t9: &T9, t10: &T10, t11: &T11) -> Result<(), Error>
+pub trait FieldsEncoder11<
+    T1: Shaped,
+    T2: Shaped,
+    T3: Shaped,
+    T4: Shaped,
+    T5: Shaped,
+    T6: Shaped,
+    T7: Shaped,
+    T8: Shaped,
+    T9: Shaped,
+    T10: Shaped,
+    T11: Shaped,
+>: Buffer {
+    fn encode_each(
+        &mut self,
+        t1: &T1,
+        t2: &T2,
+        t3: &T3,
+        t4: &T4,
+        t5: &T5,
+        t6: &T6,
+        t7: &T7,
+        t8: &T8,
+        t9: &T9,
+        t10: &T10,
+        t11: &T11,
+    ) -> Result<(), Error>
         requires { 0 < Self.room self.old }
         ensures joined { OnOk result (JoinsListing ⟦<(T1, T2, T3, T4, T5, T6, T7, T8, T9, T10, T11) as Shaped>⟧.lists ⟦<(T1, T2, T3, T4, T5, T6, T7, T8, T9, T10, T11) as Shaped>⟧.shape (t1.now, t2.now, t3.now, t4.now, t5.now, t6.now, t7.now, t8.now, t9.now, t10.now, t11.now) (Self.columns self.old) (Self.columns self.new)) }
         ensures room { OnOk result (Self.room self.old ≤ Self.room self.new + 1) }
@@ -119,8 +343,54 @@ pub trait FieldsEncoder11<T1: Shaped, T2: Shaped, T3: Shaped, T4: Shaped, T5: Sh
     ghost surely: { (e : Self) (n : ℕ) → Self.surely_passes e n → SurelyPasses ⟦<(T1, T2, T3, T4, T5, T6, T7, T8, T9, T10, T11) as Shaped>⟧.shape (Self.columns e) n };
 }
 
-impl<'a, T1: Shaped, T2: Shaped, T3: Shaped, T4: Shaped, T5: Shaped, T6: Shaped, T7: Shaped, T8: Shaped, T9: Shaped, T10: Shaped, T11: Shaped, E: FieldsEncoder11<T1, T2, T3, T4, T5, T6, T7, T8, T9, T10, T11>> FieldsEncoder<(&'a T1, &'a T2, &'a T3, &'a T4, &'a T5, &'a T6, &'a T7, &'a T8, &'a T9, &'a T10, &'a T11)> for E {
-    fn encode_fields(&mut self, fields: &(&'a T1, &'a T2, &'a T3, &'a T4, &'a T5, &'a T6, &'a T7, &'a T8, &'a T9, &'a T10, &'a T11)) -> Result<(), Error> {
-        self.encode_each(fields.0, fields.1, fields.2, fields.3, fields.4, fields.5, fields.6, fields.7, fields.8, fields.9, fields.10)
+impl<
+    'a,
+    T1: Shaped,
+    T2: Shaped,
+    T3: Shaped,
+    T4: Shaped,
+    T5: Shaped,
+    T6: Shaped,
+    T7: Shaped,
+    T8: Shaped,
+    T9: Shaped,
+    T10: Shaped,
+    T11: Shaped,
+    E: FieldsEncoder11<T1, T2, T3, T4, T5, T6, T7, T8, T9, T10, T11>,
+> FieldsEncoder<
+    (
+        &'a T1,
+        &'a T2,
+        &'a T3,
+        &'a T4,
+        &'a T5,
+        &'a T6,
+        &'a T7,
+        &'a T8,
+        &'a T9,
+        &'a T10,
+        &'a T11,
+    ),
+> for E {
+    fn encode_fields(
+        &mut self,
+        fields: &(
+            &'a T1,
+            &'a T2,
+            &'a T3,
+            &'a T4,
+            &'a T5,
+            &'a T6,
+            &'a T7,
+            &'a T8,
+            &'a T9,
+            &'a T10,
+            &'a T11,
+        ),
+    ) -> Result<(), Error> {
+        self.encode_each(
+            fields.0, fields.1, fields.2, fields.3, fields.4, fields.5, fields.6, fields.7,
+            fields.8, fields.9, fields.10,
+        )
     }
 }
