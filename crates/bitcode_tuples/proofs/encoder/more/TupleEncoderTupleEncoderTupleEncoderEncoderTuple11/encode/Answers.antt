@@ -4,7 +4,7 @@ use Rattle.bitcode_columns.specs.declared.error.Error.{Error}
 use Rattle.bitcode_shapes.specs.Tuples.{split_11}
 use Rattle.bitcode_coder.proofs.RefusalLemmas.{refused_weaker}
 use Rattle.bitcode_tuples.proofs.WritingLemmas.{joins_as, passes_as}
-use Rattle.bitcode_tuples.proofs.encoder.many.TupleEncoderTupleEncoderTupleEncoderEncoderTuple11.encode.Goals as goal
+use Rattle.bitcode_tuples.proofs.encoder.more.TupleEncoderTupleEncoderTupleEncoderEncoderTuple11.encode.Goals as goal
 
 pub returns-clause-joined : goal.returns-clause-joined
 returns-clause-joined g c = on_ok_weaker c.encode_fields.result (joins_as split_11 c.args.t.now) c.encode_fields.ensures.joined
