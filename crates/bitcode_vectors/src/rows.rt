@@ -7,6 +7,7 @@ pub mod byte_columns;
 pub mod lengths;
 pub mod sequences;
 pub mod texts;
+pub mod tuples;
 pub mod variants;
 
 /// What a wrong part of a row gave.
