@@ -35,10 +35,13 @@ pub use bitcode_parts::array::{ArrayDecoder, ArrayEncoder};
 pub use bitcode_parts::convert::{
     ConvertFrom, ConvertFromDecoder, ConvertInto, ConvertIntoEncoder,
 };
+pub use bitcode_parts::deref::{DerefEncoder, Points};
 pub use bitcode_parts::durations::{DurationDecode, DurationEncode};
 pub use bitcode_parts::empty::EmptyCoder;
+pub use bitcode_parts::from::{FromDecoder, FromValue};
 pub use bitcode_parts::option::{OptionDecoder, OptionEncoder};
 pub use bitcode_parts::result::{ResultDecoder, ResultEncoder};
+pub use bitcode_parts::uuids::UuidConversion;
 pub use bitcode_parts::variant::{VariantDecoder, VariantEncoder, encode_payload};
 pub use bitcode_parts::vec::{VecDecoder, VecEncoder};
 pub use bitcode_shapes::no_variants::NoVariants;

@@ -10,8 +10,12 @@ mod checked;
 mod choices;
 mod durations;
 mod ints;
+mod markers;
+mod pointers;
 mod sequences;
 mod texts;
+mod tuples;
+mod uuids;
 
 impl Encode for bool {
     type Encoder = BoolEncoder;

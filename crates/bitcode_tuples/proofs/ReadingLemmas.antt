@@ -10,7 +10,6 @@ use Rattle.bitcode_shapes.specs.Shape.{Shape, pair_shape, IsOf, IsPairOf}
 use Rattle.bitcode_coder.specs.Columns.{CountsFit}
 use Rattle.bitcode_coder.specs.Transposition.{columns_of}
 use Rattle.bitcode_coder.specs.Spelling.{Spells, SpellsColumns}
-use Rattle.bitcode_shapes.specs.Values.{MakesPair}
 use Rattle.bitcode_coder.specs.Coding.{IsReadingRefusal, TakesDatum}
 use Rattle.bitcode_tuples.specs.Pairs.{pairs_of}
 use Rattle.bitcode_tuples.specs.PairLaws.{firsts_are, seconds_are}
@@ -115,14 +114,8 @@ module _ (s t : Shape) (k : ℕ) where
   refused_second reason (Ok x) old middle ds q h = tt
   refused_second reason (Err e) old middle ds q h = refuses_second (reason e) old middle ds q h
 
--- ---- values of pairs
+-- ---- a value that stands for another one, as a tuple for a pair
 
--- a value that stands for a pair takes the pair of what its parts take
-pub takes_pair : {P Q T : Type 0} {makes_p : Datum → P → Type 0} {makes_q : Datum → Q → Type 0} {a b c d : List Datum} (split : T → P × Q) (t : T)
-    → TakesDatum makes_p (split t).0 a b → TakesDatum makes_q (split t).1 c d
-    → TakesDatum (λ e u. MakesPair makes_p makes_q e (split u)) t (pairs_of a c) (pairs_of b d)
-takes_pair {b} {c} split t h k = record {
-  datum = pair h.datum k.datum;
-  taken = ap (λ xs. pairs_of xs c) h.taken ∙ ap (λ xs. pairs_of (h.datum ∷ b) xs) k.taken;
-  made = record { first = h.datum; second = k.datum; is = refl; makes_first = h.made; makes_second = k.made };
-}
+pub takes_as : {T U : Type 0} {makes : Datum → U → Type 0} {a b : List Datum} (split : T → U) (t : T)
+    → TakesDatum makes (split t) a b → TakesDatum (λ d u. makes d (split u)) t a b
+takes_as split t h = record { datum = h.datum; taken = h.taken; made = h.made }

@@ -43,6 +43,7 @@ pub fn print_rows(rt: &impl Print, alloc: Global) -> io::Result<bool> {
     all_ok &= print_row(rt, 11, rows::variants::counts_of_high_bytes(alloc))?;
     all_ok &= print_row(rt, 17, rows::texts::durations(alloc))?;
     all_ok &= print_row(rt, 18, rows::sequences::many_bools(alloc))?;
+    all_ok &= print_row(rt, 19, rows::tuples::identifier(alloc))?;
     all_ok &= print_row(rt, 21, rows::pair(alloc))?;
     all_ok &= print_row(rt, 22, rows::words_written(alloc))?;
     all_ok &= print_row(rt, 23, rows::words_read(alloc))?;
@@ -60,7 +61,12 @@ pub fn print_rows(rt: &impl Print, alloc: Global) -> io::Result<bool> {
     all_ok &= print_row(rt, 38, rows::texts::texts_written(alloc))?;
     all_ok &= print_row(rt, 39, rows::choices::one_variant_and_none(alloc))?;
     all_ok &= print_row(rt, 40, rows::variants::raw_variants(alloc))?;
-    all_ok &= print_row(rt, 41, rows::arrays::seven_signed_bytes(alloc))?;
+    let arrays = rows::arrays::seven_signed_bytes(alloc);
+    all_ok &= print_row(
+        rt,
+        41,
+        arrays.and_then(|()| rows::tuples::fields_and_pointers(alloc)),
+    )?;
     all_ok &= print_row(rt, 42, rows::arrays::more_units_than_a_length(alloc))?;
     Ok(all_ok)
 }

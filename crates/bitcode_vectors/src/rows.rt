@@ -8,6 +8,7 @@ pub mod choices;
 pub mod lengths;
 pub mod sequences;
 pub mod texts;
+pub mod tuples;
 pub mod variants;
 
 /// What a wrong part of a row gave.

@@ -1,4 +1,4 @@
-// Tuples of ten to sixteen fields are made of pairs of the first field and the others.
+// The decoders of tuples of thirteen to sixteen fields.
 ghost use Rattle.std.specs.Prelude.{◌&&◌};
 ghost use Rattle.bitcode_tuples.specs.PairLaws.{same_pair_shape};
 
@@ -10,63 +10,8 @@ use bitcode_shapes::shaped::Made;
 impl<
     'a,
     T1: Made + Drop,
-    T2: Made,
-    T3: Made,
-    T4: Made,
-    T5: Made,
-    T6: Made,
-    T7: Made,
-    T8: Made,
-    T9: Made,
-    T10: Made,
-    T11: Made,
-    A: Decoder<'a, T1>,
-    B: Decoder<'a, (T2, T3, T4, T5, T6, T7, T8, T9, T10, T11)>,
-> Decoder<'a, (T1, T2, T3, T4, T5, T6, T7, T8, T9, T10, T11)> for TupleDecoder<A, B> {
-    ghost makes_free = { A.makes_free && B.makes_free };
-
-    fn decode(&mut self) -> Result<(T1, T2, T3, T4, T5, T6, T7, T8, T9, T10, T11), Error> {
-        let t1 = self.first.decode()?;
-        let (t2, t3, t4, t5, t6, t7, t8, t9, t10, t11) = self.second.decode()?;
-        Ok((t1, t2, t3, t4, t5, t6, t7, t8, t9, t10, t11))
-    }
-
-    ghost same_shape = { same_pair_shape A.same_shape B.same_shape };
-}
-
-impl<
-    'a,
-    T1: Made + Drop,
-    T2: Made,
-    T3: Made,
-    T4: Made,
-    T5: Made,
-    T6: Made,
-    T7: Made,
-    T8: Made,
-    T9: Made,
-    T10: Made,
-    T11: Made,
-    T12: Made,
-    A: Decoder<'a, T1>,
-    B: Decoder<'a, (T2, T3, T4, T5, T6, T7, T8, T9, T10, T11, T12)>,
-> Decoder<'a, (T1, T2, T3, T4, T5, T6, T7, T8, T9, T10, T11, T12)> for TupleDecoder<A, B> {
-    ghost makes_free = { A.makes_free && B.makes_free };
-
-    fn decode(&mut self) -> Result<(T1, T2, T3, T4, T5, T6, T7, T8, T9, T10, T11, T12), Error> {
-        let t1 = self.first.decode()?;
-        let (t2, t3, t4, t5, t6, t7, t8, t9, t10, t11, t12) = self.second.decode()?;
-        Ok((t1, t2, t3, t4, t5, t6, t7, t8, t9, t10, t11, t12))
-    }
-
-    ghost same_shape = { same_pair_shape A.same_shape B.same_shape };
-}
-
-impl<
-    'a,
-    T1: Made + Drop,
-    T2: Made,
-    T3: Made,
+    T2: Made + Drop,
+    T3: Made + Drop,
     T4: Made,
     T5: Made,
     T6: Made,
@@ -78,26 +23,30 @@ impl<
     T12: Made,
     T13: Made,
     A: Decoder<'a, T1>,
-    B: Decoder<'a, (T2, T3, T4, T5, T6, T7, T8, T9, T10, T11, T12, T13)>,
-> Decoder<'a, (T1, T2, T3, T4, T5, T6, T7, T8, T9, T10, T11, T12, T13)> for TupleDecoder<A, B> {
-    ghost makes_free = { A.makes_free && B.makes_free };
+    B: Decoder<'a, T2>,
+    C: Decoder<'a, T3>,
+    D: Decoder<'a, (T4, T5, T6, T7, T8, T9, T10, T11, T12, T13)>,
+> Decoder<'a, (T1, T2, T3, T4, T5, T6, T7, T8, T9, T10, T11, T12, T13)>
+    for TupleDecoder<A, TupleDecoder<B, TupleDecoder<C, D>>> {
+    ghost makes_free = { A.makes_free && (B.makes_free && (C.makes_free && D.makes_free)) };
 
     fn decode(
         &mut self,
     ) -> Result<(T1, T2, T3, T4, T5, T6, T7, T8, T9, T10, T11, T12, T13), Error> {
-        let t1 = self.first.decode()?;
-        let (t2, t3, t4, t5, t6, t7, t8, t9, t10, t11, t12, t13) = self.second.decode()?;
+        let (t1, (t2, (t3, (t4, t5, t6, t7, t8, t9, t10, t11, t12, t13)))) = Decoder::<
+            (T1, (T2, (T3, (T4, T5, T6, T7, T8, T9, T10, T11, T12, T13)))),
+        >::decode(self)?;
         Ok((t1, t2, t3, t4, t5, t6, t7, t8, t9, t10, t11, t12, t13))
     }
 
-    ghost same_shape = { same_pair_shape A.same_shape B.same_shape };
+    ghost same_shape = { same_pair_shape A.same_shape (same_pair_shape B.same_shape (same_pair_shape C.same_shape D.same_shape)) };
 }
 
 impl<
     'a,
     T1: Made + Drop,
-    T2: Made,
-    T3: Made,
+    T2: Made + Drop,
+    T3: Made + Drop,
     T4: Made,
     T5: Made,
     T6: Made,
@@ -110,27 +59,33 @@ impl<
     T13: Made,
     T14: Made,
     A: Decoder<'a, T1>,
-    B: Decoder<'a, (T2, T3, T4, T5, T6, T7, T8, T9, T10, T11, T12, T13, T14)>,
+    B: Decoder<'a, T2>,
+    C: Decoder<'a, T3>,
+    D: Decoder<'a, (T4, T5, T6, T7, T8, T9, T10, T11, T12, T13, T14)>,
 > Decoder<'a, (T1, T2, T3, T4, T5, T6, T7, T8, T9, T10, T11, T12, T13, T14)>
-    for TupleDecoder<A, B> {
-    ghost makes_free = { A.makes_free && B.makes_free };
+    for TupleDecoder<A, TupleDecoder<B, TupleDecoder<C, D>>> {
+    ghost makes_free = { A.makes_free && (B.makes_free && (C.makes_free && D.makes_free)) };
 
     fn decode(
         &mut self,
     ) -> Result<(T1, T2, T3, T4, T5, T6, T7, T8, T9, T10, T11, T12, T13, T14), Error> {
-        let t1 = self.first.decode()?;
-        let (t2, t3, t4, t5, t6, t7, t8, t9, t10, t11, t12, t13, t14) = self.second.decode()?;
+        let (t1, (t2, (t3, (t4, t5, t6, t7, t8, t9, t10, t11, t12, t13, t14)))) = Decoder::<
+            (
+                T1,
+                (T2, (T3, (T4, T5, T6, T7, T8, T9, T10, T11, T12, T13, T14))),
+            ),
+        >::decode(self)?;
         Ok((t1, t2, t3, t4, t5, t6, t7, t8, t9, t10, t11, t12, t13, t14))
     }
 
-    ghost same_shape = { same_pair_shape A.same_shape B.same_shape };
+    ghost same_shape = { same_pair_shape A.same_shape (same_pair_shape B.same_shape (same_pair_shape C.same_shape D.same_shape)) };
 }
 
 impl<
     'a,
     T1: Made + Drop,
-    T2: Made,
-    T3: Made,
+    T2: Made + Drop,
+    T3: Made + Drop,
     T4: Made,
     T5: Made,
     T6: Made,
@@ -144,7 +99,9 @@ impl<
     T14: Made,
     T15: Made,
     A: Decoder<'a, T1>,
-    B: Decoder<'a, (T2, T3, T4, T5, T6, T7, T8, T9, T10, T11, T12, T13, T14, T15)>,
+    B: Decoder<'a, T2>,
+    C: Decoder<'a, T3>,
+    D: Decoder<'a, (T4, T5, T6, T7, T8, T9, T10, T11, T12, T13, T14, T15)>,
 > Decoder<
     'a,
     (
@@ -164,8 +121,8 @@ impl<
         T14,
         T15,
     ),
-> for TupleDecoder<A, B> {
-    ghost makes_free = { A.makes_free && B.makes_free };
+> for TupleDecoder<A, TupleDecoder<B, TupleDecoder<C, D>>> {
+    ghost makes_free = { A.makes_free && (B.makes_free && (C.makes_free && D.makes_free)) };
 
     fn decode(
         &mut self,
@@ -189,21 +146,28 @@ impl<
         ),
         Error,
     > {
-        let t1 = self.first.decode()?;
-        let (t2, t3, t4, t5, t6, t7, t8, t9, t10, t11, t12, t13, t14, t15) = self.second.decode()?;
+        let (t1, (t2, (t3, (t4, t5, t6, t7, t8, t9, t10, t11, t12, t13, t14, t15)))) = Decoder::<
+            (
+                T1,
+                (
+                    T2,
+                    (T3, (T4, T5, T6, T7, T8, T9, T10, T11, T12, T13, T14, T15)),
+                ),
+            ),
+        >::decode(self)?;
         Ok((
             t1, t2, t3, t4, t5, t6, t7, t8, t9, t10, t11, t12, t13, t14, t15,
         ))
     }
 
-    ghost same_shape = { same_pair_shape A.same_shape B.same_shape };
+    ghost same_shape = { same_pair_shape A.same_shape (same_pair_shape B.same_shape (same_pair_shape C.same_shape D.same_shape)) };
 }
 
 impl<
     'a,
     T1: Made + Drop,
-    T2: Made,
-    T3: Made,
+    T2: Made + Drop,
+    T3: Made + Drop,
     T4: Made,
     T5: Made,
     T6: Made,
@@ -218,26 +182,9 @@ impl<
     T15: Made,
     T16: Made,
     A: Decoder<'a, T1>,
-    B: Decoder<
-        'a,
-        (
-            T2,
-            T3,
-            T4,
-            T5,
-            T6,
-            T7,
-            T8,
-            T9,
-            T10,
-            T11,
-            T12,
-            T13,
-            T14,
-            T15,
-            T16,
-        ),
-    >,
+    B: Decoder<'a, T2>,
+    C: Decoder<'a, T3>,
+    D: Decoder<'a, (T4, T5, T6, T7, T8, T9, T10, T11, T12, T13, T14, T15, T16)>,
 > Decoder<
     'a,
     (
@@ -258,8 +205,8 @@ impl<
         T15,
         T16,
     ),
-> for TupleDecoder<A, B> {
-    ghost makes_free = { A.makes_free && B.makes_free };
+> for TupleDecoder<A, TupleDecoder<B, TupleDecoder<C, D>>> {
+    ghost makes_free = { A.makes_free && (B.makes_free && (C.makes_free && D.makes_free)) };
 
     fn decode(
         &mut self,
@@ -284,14 +231,23 @@ impl<
         ),
         Error,
     > {
-        let t1 = self.first.decode()?;
-        let (t2, t3, t4, t5, t6, t7, t8, t9, t10, t11, t12, t13, t14, t15, t16) = self
-            .second
-            .decode()?;
+        let (t1, (t2, (t3, (t4, t5, t6, t7, t8, t9, t10, t11, t12, t13, t14, t15, t16)))) =
+            Decoder::<
+                (
+                    T1,
+                    (
+                        T2,
+                        (
+                            T3,
+                            (T4, T5, T6, T7, T8, T9, T10, T11, T12, T13, T14, T15, T16),
+                        ),
+                    ),
+                ),
+            >::decode(self)?;
         Ok((
             t1, t2, t3, t4, t5, t6, t7, t8, t9, t10, t11, t12, t13, t14, t15, t16,
         ))
     }
 
-    ghost same_shape = { same_pair_shape A.same_shape B.same_shape };
+    ghost same_shape = { same_pair_shape A.same_shape (same_pair_shape B.same_shape (same_pair_shape C.same_shape D.same_shape)) };
 }

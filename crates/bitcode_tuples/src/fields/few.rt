@@ -1,10 +1,10 @@
 // Encoders of three to eight fields that lie apart.
-ghost use Rattle.std.specs.Prelude.{◌≡◌, ◌+◌, ◌<◌, ◌≤◌, OnOk, IfErr};
+ghost use Rattle.std.specs.Prelude.{◌≡◌, ℕ, ◌+◌, ◌<◌, ◌≤◌, [], OnOk, IfErr};
 ghost use Rattle.bitcode_coder.specs.Columns.{emptied};
-ghost use Rattle.bitcode_coder.specs.Coding.{JoinsListing, PassesWithListing, IsWritingRefusal};
+ghost use Rattle.bitcode_coder.specs.Coding.{written_columns, JoinsListing, PassesWithListing, SurelyPasses, IsWritingRefusal};
 
 use crate::fields::{Fields, FieldsEncoder};
-use bitcode_coder::coder::Encoder;
+use bitcode_coder::coder::Buffer;
 use bitcode_columns::error::Error;
 use bitcode_shapes::shaped::Shaped;
 
@@ -20,14 +20,18 @@ impl<'a, T1: Shaped, T2: Shaped, T3: Shaped> Fields for (&'a T1, &'a T2, &'a T3)
     }
 }
 
-/// An encoder of tuples that takes their three fields one by one.
-pub trait FieldsEncoder3<T1: Shaped, T2: Shaped, T3: Shaped>: Encoder<(T1, T2, T3)> {
+/// As `Encoder`, for a tuple whose three fields lie apart.
+pub trait FieldsEncoder3<T1: Shaped, T2: Shaped, T3: Shaped>: Buffer {
     fn encode_each(&mut self, t1: &T1, t2: &T2, t3: &T3) -> Result<(), Error>
         requires { 0 < Self.room self.old }
         ensures joined { OnOk result (JoinsListing ⟦<(T1, T2, T3) as Shaped>⟧.lists ⟦<(T1, T2, T3) as Shaped>⟧.shape (t1.now, t2.now, t3.now) (Self.columns self.old) (Self.columns self.new)) }
         ensures room { OnOk result (Self.room self.old ≤ Self.room self.new + 1) }
         ensures form { emptied (Self.columns self.new) ≡ emptied (Self.columns self.old) }
         ensures refused { IfErr result (λ e. IsWritingRefusal e.reason (PassesWithListing ⟦<(T1, T2, T3) as Shaped>⟧.lists ⟦<(T1, T2, T3) as Shaped>⟧.shape (t1.now, t2.now, t3.now) (Self.columns self.old))) };
+
+    ghost of_shape: { (e : Self) → emptied (Self.columns e) ≡ written_columns ⟦<(T1, T2, T3) as Shaped>⟧.shape [] };
+
+    ghost surely: { (e : Self) (n : ℕ) → Self.surely_passes e n → SurelyPasses ⟦<(T1, T2, T3) as Shaped>⟧.shape (Self.columns e) n };
 }
 
 impl<'a, T1: Shaped, T2: Shaped, T3: Shaped, E: FieldsEncoder3<T1, T2, T3>> FieldsEncoder<
@@ -52,16 +56,18 @@ impl<'a, T1: Shaped, T2: Shaped, T3: Shaped, T4: Shaped> Fields
     }
 }
 
-/// An encoder of tuples that takes their four fields one by one.
-pub trait FieldsEncoder4<T1: Shaped, T2: Shaped, T3: Shaped, T4: Shaped>: Encoder<
-    (T1, T2, T3, T4),
-> {
+/// As `Encoder`, for a tuple whose four fields lie apart.
+pub trait FieldsEncoder4<T1: Shaped, T2: Shaped, T3: Shaped, T4: Shaped>: Buffer {
     fn encode_each(&mut self, t1: &T1, t2: &T2, t3: &T3, t4: &T4) -> Result<(), Error>
         requires { 0 < Self.room self.old }
         ensures joined { OnOk result (JoinsListing ⟦<(T1, T2, T3, T4) as Shaped>⟧.lists ⟦<(T1, T2, T3, T4) as Shaped>⟧.shape (t1.now, t2.now, t3.now, t4.now) (Self.columns self.old) (Self.columns self.new)) }
         ensures room { OnOk result (Self.room self.old ≤ Self.room self.new + 1) }
         ensures form { emptied (Self.columns self.new) ≡ emptied (Self.columns self.old) }
         ensures refused { IfErr result (λ e. IsWritingRefusal e.reason (PassesWithListing ⟦<(T1, T2, T3, T4) as Shaped>⟧.lists ⟦<(T1, T2, T3, T4) as Shaped>⟧.shape (t1.now, t2.now, t3.now, t4.now) (Self.columns self.old))) };
+
+    ghost of_shape: { (e : Self) → emptied (Self.columns e) ≡ written_columns ⟦<(T1, T2, T3, T4) as Shaped>⟧.shape [] };
+
+    ghost surely: { (e : Self) (n : ℕ) → Self.surely_passes e n → SurelyPasses ⟦<(T1, T2, T3, T4) as Shaped>⟧.shape (Self.columns e) n };
 }
 
 impl<
@@ -92,16 +98,18 @@ impl<'a, T1: Shaped, T2: Shaped, T3: Shaped, T4: Shaped, T5: Shaped> Fields
     }
 }
 
-/// An encoder of tuples that takes their five fields one by one.
-pub trait FieldsEncoder5<T1: Shaped, T2: Shaped, T3: Shaped, T4: Shaped, T5: Shaped>: Encoder<
-    (T1, T2, T3, T4, T5),
-> {
+/// As `Encoder`, for a tuple whose five fields lie apart.
+pub trait FieldsEncoder5<T1: Shaped, T2: Shaped, T3: Shaped, T4: Shaped, T5: Shaped>: Buffer {
     fn encode_each(&mut self, t1: &T1, t2: &T2, t3: &T3, t4: &T4, t5: &T5) -> Result<(), Error>
         requires { 0 < Self.room self.old }
         ensures joined { OnOk result (JoinsListing ⟦<(T1, T2, T3, T4, T5) as Shaped>⟧.lists ⟦<(T1, T2, T3, T4, T5) as Shaped>⟧.shape (t1.now, t2.now, t3.now, t4.now, t5.now) (Self.columns self.old) (Self.columns self.new)) }
         ensures room { OnOk result (Self.room self.old ≤ Self.room self.new + 1) }
         ensures form { emptied (Self.columns self.new) ≡ emptied (Self.columns self.old) }
         ensures refused { IfErr result (λ e. IsWritingRefusal e.reason (PassesWithListing ⟦<(T1, T2, T3, T4, T5) as Shaped>⟧.lists ⟦<(T1, T2, T3, T4, T5) as Shaped>⟧.shape (t1.now, t2.now, t3.now, t4.now, t5.now) (Self.columns self.old))) };
+
+    ghost of_shape: { (e : Self) → emptied (Self.columns e) ≡ written_columns ⟦<(T1, T2, T3, T4, T5) as Shaped>⟧.shape [] };
+
+    ghost surely: { (e : Self) (n : ℕ) → Self.surely_passes e n → SurelyPasses ⟦<(T1, T2, T3, T4, T5) as Shaped>⟧.shape (Self.columns e) n };
 }
 
 impl<
@@ -137,7 +145,7 @@ impl<'a, T1: Shaped, T2: Shaped, T3: Shaped, T4: Shaped, T5: Shaped, T6: Shaped>
     }
 }
 
-/// An encoder of tuples that takes their six fields one by one.
+/// As `Encoder`, for a tuple whose six fields lie apart.
 pub trait FieldsEncoder6<
     T1: Shaped,
     T2: Shaped,
@@ -145,7 +153,7 @@ pub trait FieldsEncoder6<
     T4: Shaped,
     T5: Shaped,
     T6: Shaped,
->: Encoder<(T1, T2, T3, T4, T5, T6)> {
+>: Buffer {
     fn encode_each(
         &mut self,
         t1: &T1,
@@ -160,6 +168,10 @@ pub trait FieldsEncoder6<
         ensures room { OnOk result (Self.room self.old ≤ Self.room self.new + 1) }
         ensures form { emptied (Self.columns self.new) ≡ emptied (Self.columns self.old) }
         ensures refused { IfErr result (λ e. IsWritingRefusal e.reason (PassesWithListing ⟦<(T1, T2, T3, T4, T5, T6) as Shaped>⟧.lists ⟦<(T1, T2, T3, T4, T5, T6) as Shaped>⟧.shape (t1.now, t2.now, t3.now, t4.now, t5.now, t6.now) (Self.columns self.old))) };
+
+    ghost of_shape: { (e : Self) → emptied (Self.columns e) ≡ written_columns ⟦<(T1, T2, T3, T4, T5, T6) as Shaped>⟧.shape [] };
+
+    ghost surely: { (e : Self) (n : ℕ) → Self.surely_passes e n → SurelyPasses ⟦<(T1, T2, T3, T4, T5, T6) as Shaped>⟧.shape (Self.columns e) n };
 }
 
 impl<
@@ -197,7 +209,7 @@ impl<'a, T1: Shaped, T2: Shaped, T3: Shaped, T4: Shaped, T5: Shaped, T6: Shaped,
     }
 }
 
-/// An encoder of tuples that takes their seven fields one by one.
+/// As `Encoder`, for a tuple whose seven fields lie apart.
 pub trait FieldsEncoder7<
     T1: Shaped,
     T2: Shaped,
@@ -206,7 +218,7 @@ pub trait FieldsEncoder7<
     T5: Shaped,
     T6: Shaped,
     T7: Shaped,
->: Encoder<(T1, T2, T3, T4, T5, T6, T7)> {
+>: Buffer {
     fn encode_each(
         &mut self,
         t1: &T1,
@@ -222,6 +234,10 @@ pub trait FieldsEncoder7<
         ensures room { OnOk result (Self.room self.old ≤ Self.room self.new + 1) }
         ensures form { emptied (Self.columns self.new) ≡ emptied (Self.columns self.old) }
         ensures refused { IfErr result (λ e. IsWritingRefusal e.reason (PassesWithListing ⟦<(T1, T2, T3, T4, T5, T6, T7) as Shaped>⟧.lists ⟦<(T1, T2, T3, T4, T5, T6, T7) as Shaped>⟧.shape (t1.now, t2.now, t3.now, t4.now, t5.now, t6.now, t7.now) (Self.columns self.old))) };
+
+    ghost of_shape: { (e : Self) → emptied (Self.columns e) ≡ written_columns ⟦<(T1, T2, T3, T4, T5, T6, T7) as Shaped>⟧.shape [] };
+
+    ghost surely: { (e : Self) (n : ℕ) → Self.surely_passes e n → SurelyPasses ⟦<(T1, T2, T3, T4, T5, T6, T7) as Shaped>⟧.shape (Self.columns e) n };
 }
 
 impl<
@@ -282,7 +298,7 @@ impl<
     }
 }
 
-/// An encoder of tuples that takes their eight fields one by one.
+/// As `Encoder`, for a tuple whose eight fields lie apart.
 pub trait FieldsEncoder8<
     T1: Shaped,
     T2: Shaped,
@@ -292,7 +308,7 @@ pub trait FieldsEncoder8<
     T6: Shaped,
     T7: Shaped,
     T8: Shaped,
->: Encoder<(T1, T2, T3, T4, T5, T6, T7, T8)> {
+>: Buffer {
     fn encode_each(
         &mut self,
         t1: &T1,
@@ -309,6 +325,10 @@ pub trait FieldsEncoder8<
         ensures room { OnOk result (Self.room self.old ≤ Self.room self.new + 1) }
         ensures form { emptied (Self.columns self.new) ≡ emptied (Self.columns self.old) }
         ensures refused { IfErr result (λ e. IsWritingRefusal e.reason (PassesWithListing ⟦<(T1, T2, T3, T4, T5, T6, T7, T8) as Shaped>⟧.lists ⟦<(T1, T2, T3, T4, T5, T6, T7, T8) as Shaped>⟧.shape (t1.now, t2.now, t3.now, t4.now, t5.now, t6.now, t7.now, t8.now) (Self.columns self.old))) };
+
+    ghost of_shape: { (e : Self) → emptied (Self.columns e) ≡ written_columns ⟦<(T1, T2, T3, T4, T5, T6, T7, T8) as Shaped>⟧.shape [] };
+
+    ghost surely: { (e : Self) (n : ℕ) → Self.surely_passes e n → SurelyPasses ⟦<(T1, T2, T3, T4, T5, T6, T7, T8) as Shaped>⟧.shape (Self.columns e) n };
 }
 
 impl<

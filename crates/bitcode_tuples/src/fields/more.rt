@@ -1,10 +1,10 @@
 // Encoders of twelve and thirteen fields that lie apart.
-ghost use Rattle.std.specs.Prelude.{◌≡◌, ◌+◌, ◌<◌, ◌≤◌, OnOk, IfErr};
+ghost use Rattle.std.specs.Prelude.{◌≡◌, ℕ, ◌+◌, ◌<◌, ◌≤◌, [], OnOk, IfErr};
 ghost use Rattle.bitcode_coder.specs.Columns.{emptied};
-ghost use Rattle.bitcode_coder.specs.Coding.{JoinsListing, PassesWithListing, IsWritingRefusal};
+ghost use Rattle.bitcode_coder.specs.Coding.{written_columns, JoinsListing, PassesWithListing, SurelyPasses, IsWritingRefusal};
 
 use crate::fields::{Fields, FieldsEncoder};
-use bitcode_coder::coder::Encoder;
+use bitcode_coder::coder::Buffer;
 use bitcode_columns::error::Error;
 use bitcode_shapes::shaped::Shaped;
 
@@ -57,7 +57,7 @@ impl<
     }
 }
 
-/// An encoder of tuples that takes their twelve fields one by one.
+/// As `Encoder`, for a tuple whose twelve fields lie apart.
 pub trait FieldsEncoder12<
     T1: Shaped,
     T2: Shaped,
@@ -71,7 +71,7 @@ pub trait FieldsEncoder12<
     T10: Shaped,
     T11: Shaped,
     T12: Shaped,
->: Encoder<(T1, T2, T3, T4, T5, T6, T7, T8, T9, T10, T11, T12)> {
+>: Buffer {
     fn encode_each(
         &mut self,
         t1: &T1,
@@ -92,6 +92,10 @@ pub trait FieldsEncoder12<
         ensures room { OnOk result (Self.room self.old ≤ Self.room self.new + 1) }
         ensures form { emptied (Self.columns self.new) ≡ emptied (Self.columns self.old) }
         ensures refused { IfErr result (λ e. IsWritingRefusal e.reason (PassesWithListing ⟦<(T1, T2, T3, T4, T5, T6, T7, T8, T9, T10, T11, T12) as Shaped>⟧.lists ⟦<(T1, T2, T3, T4, T5, T6, T7, T8, T9, T10, T11, T12) as Shaped>⟧.shape (t1.now, t2.now, t3.now, t4.now, t5.now, t6.now, t7.now, t8.now, t9.now, t10.now, t11.now, t12.now) (Self.columns self.old))) };
+
+    ghost of_shape: { (e : Self) → emptied (Self.columns e) ≡ written_columns ⟦<(T1, T2, T3, T4, T5, T6, T7, T8, T9, T10, T11, T12) as Shaped>⟧.shape [] };
+
+    ghost surely: { (e : Self) (n : ℕ) → Self.surely_passes e n → SurelyPasses ⟦<(T1, T2, T3, T4, T5, T6, T7, T8, T9, T10, T11, T12) as Shaped>⟧.shape (Self.columns e) n };
 }
 
 impl<
@@ -201,7 +205,7 @@ impl<
     }
 }
 
-/// An encoder of tuples that takes their thirteen fields one by one.
+/// As `Encoder`, for a tuple whose thirteen fields lie apart.
 pub trait FieldsEncoder13<
     T1: Shaped,
     T2: Shaped,
@@ -216,7 +220,7 @@ pub trait FieldsEncoder13<
     T11: Shaped,
     T12: Shaped,
     T13: Shaped,
->: Encoder<(T1, T2, T3, T4, T5, T6, T7, T8, T9, T10, T11, T12, T13)> {
+>: Buffer {
     fn encode_each(
         &mut self,
         t1: &T1,
@@ -238,6 +242,10 @@ pub trait FieldsEncoder13<
         ensures room { OnOk result (Self.room self.old ≤ Self.room self.new + 1) }
         ensures form { emptied (Self.columns self.new) ≡ emptied (Self.columns self.old) }
         ensures refused { IfErr result (λ e. IsWritingRefusal e.reason (PassesWithListing ⟦<(T1, T2, T3, T4, T5, T6, T7, T8, T9, T10, T11, T12, T13) as Shaped>⟧.lists ⟦<(T1, T2, T3, T4, T5, T6, T7, T8, T9, T10, T11, T12, T13) as Shaped>⟧.shape (t1.now, (t2.now, (t3.now, (t4.now, (t5.now, (t6.now, (t7.now, (t8.now, (t9.now, (t10.now, (t11.now, (t12.now, (t13.now, tt))))))))))))) (Self.columns self.old))) };
+
+    ghost of_shape: { (e : Self) → emptied (Self.columns e) ≡ written_columns ⟦<(T1, T2, T3, T4, T5, T6, T7, T8, T9, T10, T11, T12, T13) as Shaped>⟧.shape [] };
+
+    ghost surely: { (e : Self) (n : ℕ) → Self.surely_passes e n → SurelyPasses ⟦<(T1, T2, T3, T4, T5, T6, T7, T8, T9, T10, T11, T12, T13) as Shaped>⟧.shape (Self.columns e) n };
 }
 
 impl<

@@ -1,10 +1,10 @@
 // Encoders of nine to eleven fields that lie apart.
-ghost use Rattle.std.specs.Prelude.{◌≡◌, ◌+◌, ◌<◌, ◌≤◌, OnOk, IfErr};
+ghost use Rattle.std.specs.Prelude.{◌≡◌, ℕ, ◌+◌, ◌<◌, ◌≤◌, [], OnOk, IfErr};
 ghost use Rattle.bitcode_coder.specs.Columns.{emptied};
-ghost use Rattle.bitcode_coder.specs.Coding.{JoinsListing, PassesWithListing, IsWritingRefusal};
+ghost use Rattle.bitcode_coder.specs.Coding.{written_columns, JoinsListing, PassesWithListing, SurelyPasses, IsWritingRefusal};
 
 use crate::fields::{Fields, FieldsEncoder};
-use bitcode_coder::coder::Encoder;
+use bitcode_coder::coder::Buffer;
 use bitcode_columns::error::Error;
 use bitcode_shapes::shaped::Shaped;
 
@@ -48,7 +48,7 @@ impl<
     }
 }
 
-/// An encoder of tuples that takes their nine fields one by one.
+/// As `Encoder`, for a tuple whose nine fields lie apart.
 pub trait FieldsEncoder9<
     T1: Shaped,
     T2: Shaped,
@@ -59,7 +59,7 @@ pub trait FieldsEncoder9<
     T7: Shaped,
     T8: Shaped,
     T9: Shaped,
->: Encoder<(T1, T2, T3, T4, T5, T6, T7, T8, T9)> {
+>: Buffer {
     fn encode_each(
         &mut self,
         t1: &T1,
@@ -77,6 +77,10 @@ pub trait FieldsEncoder9<
         ensures room { OnOk result (Self.room self.old ≤ Self.room self.new + 1) }
         ensures form { emptied (Self.columns self.new) ≡ emptied (Self.columns self.old) }
         ensures refused { IfErr result (λ e. IsWritingRefusal e.reason (PassesWithListing ⟦<(T1, T2, T3, T4, T5, T6, T7, T8, T9) as Shaped>⟧.lists ⟦<(T1, T2, T3, T4, T5, T6, T7, T8, T9) as Shaped>⟧.shape (t1.now, t2.now, t3.now, t4.now, t5.now, t6.now, t7.now, t8.now, t9.now) (Self.columns self.old))) };
+
+    ghost of_shape: { (e : Self) → emptied (Self.columns e) ≡ written_columns ⟦<(T1, T2, T3, T4, T5, T6, T7, T8, T9) as Shaped>⟧.shape [] };
+
+    ghost surely: { (e : Self) (n : ℕ) → Self.surely_passes e n → SurelyPasses ⟦<(T1, T2, T3, T4, T5, T6, T7, T8, T9) as Shaped>⟧.shape (Self.columns e) n };
 }
 
 impl<
@@ -168,7 +172,7 @@ impl<
     }
 }
 
-/// An encoder of tuples that takes their ten fields one by one.
+/// As `Encoder`, for a tuple whose ten fields lie apart.
 pub trait FieldsEncoder10<
     T1: Shaped,
     T2: Shaped,
@@ -180,7 +184,7 @@ pub trait FieldsEncoder10<
     T8: Shaped,
     T9: Shaped,
     T10: Shaped,
->: Encoder<(T1, T2, T3, T4, T5, T6, T7, T8, T9, T10)> {
+>: Buffer {
     fn encode_each(
         &mut self,
         t1: &T1,
@@ -199,6 +203,10 @@ pub trait FieldsEncoder10<
         ensures room { OnOk result (Self.room self.old ≤ Self.room self.new + 1) }
         ensures form { emptied (Self.columns self.new) ≡ emptied (Self.columns self.old) }
         ensures refused { IfErr result (λ e. IsWritingRefusal e.reason (PassesWithListing ⟦<(T1, T2, T3, T4, T5, T6, T7, T8, T9, T10) as Shaped>⟧.lists ⟦<(T1, T2, T3, T4, T5, T6, T7, T8, T9, T10) as Shaped>⟧.shape (t1.now, t2.now, t3.now, t4.now, t5.now, t6.now, t7.now, t8.now, t9.now, t10.now) (Self.columns self.old))) };
+
+    ghost of_shape: { (e : Self) → emptied (Self.columns e) ≡ written_columns ⟦<(T1, T2, T3, T4, T5, T6, T7, T8, T9, T10) as Shaped>⟧.shape [] };
+
+    ghost surely: { (e : Self) (n : ℕ) → Self.surely_passes e n → SurelyPasses ⟦<(T1, T2, T3, T4, T5, T6, T7, T8, T9, T10) as Shaped>⟧.shape (Self.columns e) n };
 }
 
 impl<
@@ -296,7 +304,7 @@ impl<
     }
 }
 
-/// An encoder of tuples that takes their eleven fields one by one.
+/// As `Encoder`, for a tuple whose eleven fields lie apart.
 pub trait FieldsEncoder11<
     T1: Shaped,
     T2: Shaped,
@@ -309,7 +317,7 @@ pub trait FieldsEncoder11<
     T9: Shaped,
     T10: Shaped,
     T11: Shaped,
->: Encoder<(T1, T2, T3, T4, T5, T6, T7, T8, T9, T10, T11)> {
+>: Buffer {
     fn encode_each(
         &mut self,
         t1: &T1,
@@ -329,6 +337,10 @@ pub trait FieldsEncoder11<
         ensures room { OnOk result (Self.room self.old ≤ Self.room self.new + 1) }
         ensures form { emptied (Self.columns self.new) ≡ emptied (Self.columns self.old) }
         ensures refused { IfErr result (λ e. IsWritingRefusal e.reason (PassesWithListing ⟦<(T1, T2, T3, T4, T5, T6, T7, T8, T9, T10, T11) as Shaped>⟧.lists ⟦<(T1, T2, T3, T4, T5, T6, T7, T8, T9, T10, T11) as Shaped>⟧.shape (t1.now, t2.now, t3.now, t4.now, t5.now, t6.now, t7.now, t8.now, t9.now, t10.now, t11.now) (Self.columns self.old))) };
+
+    ghost of_shape: { (e : Self) → emptied (Self.columns e) ≡ written_columns ⟦<(T1, T2, T3, T4, T5, T6, T7, T8, T9, T10, T11) as Shaped>⟧.shape [] };
+
+    ghost surely: { (e : Self) (n : ℕ) → Self.surely_passes e n → SurelyPasses ⟦<(T1, T2, T3, T4, T5, T6, T7, T8, T9, T10, T11) as Shaped>⟧.shape (Self.columns e) n };
 }
 
 impl<

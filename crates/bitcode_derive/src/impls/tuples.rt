@@ -1,0 +1,5 @@
+// The coders of tuples: nested coders of pairs.
+mod few;
+mod many;
+mod more;
+mod several;

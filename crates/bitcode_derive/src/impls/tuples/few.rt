@@ -1,0 +1,216 @@
+// The coders of tuples of one field, which are as their field, and of three to eight.
+use crate::derive::{Decode, DecodeOwned, Encode};
+use bitcode_parts::deref::DerefEncoder;
+use bitcode_parts::from::FromDecoder;
+use bitcode_tuples::decoder::TupleDecoder;
+use bitcode_tuples::encoder::TupleEncoder;
+
+impl<A: Encode> Encode for (A,) {
+    type Encoder = DerefEncoder<A::Encoder>;
+}
+
+impl<'a, A: Decode<'a>> Decode<'a> for (A,) {
+    type Decoder = FromDecoder<A, A::Decoder>;
+}
+
+impl<A: DecodeOwned> DecodeOwned for (A,) {}
+
+impl<A: Encode, B: Encode, C: Encode> Encode for (A, B, C) {
+    type Encoder = TupleEncoder<A::Encoder, TupleEncoder<B::Encoder, C::Encoder>>;
+}
+
+impl<'a, A: Decode<'a>, B: Decode<'a>, C: Decode<'a>> Decode<'a> for (A, B, C) {
+    type Decoder = TupleDecoder<A::Decoder, TupleDecoder<B::Decoder, C::Decoder>>;
+}
+
+impl<A: DecodeOwned, B: DecodeOwned, C: DecodeOwned> DecodeOwned for (A, B, C) {}
+
+impl<A: Encode, B: Encode, C: Encode, D: Encode> Encode for (A, B, C, D) {
+    type Encoder = TupleEncoder<
+        A::Encoder,
+        TupleEncoder<B::Encoder, TupleEncoder<C::Encoder, D::Encoder>>,
+    >;
+}
+
+impl<'a, A: Decode<'a>, B: Decode<'a>, C: Decode<'a>, D: Decode<'a>> Decode<'a> for (A, B, C, D) {
+    type Decoder = TupleDecoder<
+        A::Decoder,
+        TupleDecoder<B::Decoder, TupleDecoder<C::Decoder, D::Decoder>>,
+    >;
+}
+
+impl<A: DecodeOwned, B: DecodeOwned, C: DecodeOwned, D: DecodeOwned> DecodeOwned for (A, B, C, D) {}
+
+impl<A: Encode, B: Encode, C: Encode, D: Encode, E: Encode> Encode for (A, B, C, D, E) {
+    type Encoder = TupleEncoder<
+        A::Encoder,
+        TupleEncoder<B::Encoder, TupleEncoder<C::Encoder, TupleEncoder<D::Encoder, E::Encoder>>>,
+    >;
+}
+
+impl<'a, A: Decode<'a>, B: Decode<'a>, C: Decode<'a>, D: Decode<'a>, E: Decode<'a>> Decode<'a>
+    for (A, B, C, D, E) {
+    type Decoder = TupleDecoder<
+        A::Decoder,
+        TupleDecoder<B::Decoder, TupleDecoder<C::Decoder, TupleDecoder<D::Decoder, E::Decoder>>>,
+    >;
+}
+
+impl<A: DecodeOwned, B: DecodeOwned, C: DecodeOwned, D: DecodeOwned, E: DecodeOwned> DecodeOwned
+    for (A, B, C, D, E) {}
+
+impl<A: Encode, B: Encode, C: Encode, D: Encode, E: Encode, F: Encode> Encode
+    for (A, B, C, D, E, F) {
+    type Encoder = TupleEncoder<
+        A::Encoder,
+        TupleEncoder<
+            B::Encoder,
+            TupleEncoder<
+                C::Encoder,
+                TupleEncoder<D::Encoder, TupleEncoder<E::Encoder, F::Encoder>>,
+            >,
+        >,
+    >;
+}
+
+impl<
+    'a,
+    A: Decode<'a>,
+    B: Decode<'a>,
+    C: Decode<'a>,
+    D: Decode<'a>,
+    E: Decode<'a>,
+    F: Decode<'a>,
+> Decode<'a> for (A, B, C, D, E, F) {
+    type Decoder = TupleDecoder<
+        A::Decoder,
+        TupleDecoder<
+            B::Decoder,
+            TupleDecoder<
+                C::Decoder,
+                TupleDecoder<D::Decoder, TupleDecoder<E::Decoder, F::Decoder>>,
+            >,
+        >,
+    >;
+}
+
+impl<
+    A: DecodeOwned,
+    B: DecodeOwned,
+    C: DecodeOwned,
+    D: DecodeOwned,
+    E: DecodeOwned,
+    F: DecodeOwned,
+> DecodeOwned for (A, B, C, D, E, F) {}
+
+impl<A: Encode, B: Encode, C: Encode, D: Encode, E: Encode, F: Encode, G: Encode> Encode
+    for (A, B, C, D, E, F, G) {
+    type Encoder = TupleEncoder<
+        A::Encoder,
+        TupleEncoder<
+            B::Encoder,
+            TupleEncoder<
+                C::Encoder,
+                TupleEncoder<
+                    D::Encoder,
+                    TupleEncoder<E::Encoder, TupleEncoder<F::Encoder, G::Encoder>>,
+                >,
+            >,
+        >,
+    >;
+}
+
+impl<
+    'a,
+    A: Decode<'a>,
+    B: Decode<'a>,
+    C: Decode<'a>,
+    D: Decode<'a>,
+    E: Decode<'a>,
+    F: Decode<'a>,
+    G: Decode<'a>,
+> Decode<'a> for (A, B, C, D, E, F, G) {
+    type Decoder = TupleDecoder<
+        A::Decoder,
+        TupleDecoder<
+            B::Decoder,
+            TupleDecoder<
+                C::Decoder,
+                TupleDecoder<
+                    D::Decoder,
+                    TupleDecoder<E::Decoder, TupleDecoder<F::Decoder, G::Decoder>>,
+                >,
+            >,
+        >,
+    >;
+}
+
+impl<
+    A: DecodeOwned,
+    B: DecodeOwned,
+    C: DecodeOwned,
+    D: DecodeOwned,
+    E: DecodeOwned,
+    F: DecodeOwned,
+    G: DecodeOwned,
+> DecodeOwned for (A, B, C, D, E, F, G) {}
+
+impl<A: Encode, B: Encode, C: Encode, D: Encode, E: Encode, F: Encode, G: Encode, H: Encode> Encode
+    for (A, B, C, D, E, F, G, H) {
+    type Encoder = TupleEncoder<
+        A::Encoder,
+        TupleEncoder<
+            B::Encoder,
+            TupleEncoder<
+                C::Encoder,
+                TupleEncoder<
+                    D::Encoder,
+                    TupleEncoder<
+                        E::Encoder,
+                        TupleEncoder<F::Encoder, TupleEncoder<G::Encoder, H::Encoder>>,
+                    >,
+                >,
+            >,
+        >,
+    >;
+}
+
+impl<
+    'a,
+    A: Decode<'a>,
+    B: Decode<'a>,
+    C: Decode<'a>,
+    D: Decode<'a>,
+    E: Decode<'a>,
+    F: Decode<'a>,
+    G: Decode<'a>,
+    H: Decode<'a>,
+> Decode<'a> for (A, B, C, D, E, F, G, H) {
+    type Decoder = TupleDecoder<
+        A::Decoder,
+        TupleDecoder<
+            B::Decoder,
+            TupleDecoder<
+                C::Decoder,
+                TupleDecoder<
+                    D::Decoder,
+                    TupleDecoder<
+                        E::Decoder,
+                        TupleDecoder<F::Decoder, TupleDecoder<G::Decoder, H::Decoder>>,
+                    >,
+                >,
+            >,
+        >,
+    >;
+}
+
+impl<
+    A: DecodeOwned,
+    B: DecodeOwned,
+    C: DecodeOwned,
+    D: DecodeOwned,
+    E: DecodeOwned,
+    F: DecodeOwned,
+    G: DecodeOwned,
+    H: DecodeOwned,
+> DecodeOwned for (A, B, C, D, E, F, G, H) {}

@@ -1,0 +1,262 @@
+// The coders of tuples of nine to eleven fields.
+use crate::derive::{Decode, DecodeOwned, Encode};
+use bitcode_tuples::decoder::TupleDecoder;
+use bitcode_tuples::encoder::TupleEncoder;
+
+impl<
+    A: Encode,
+    B: Encode,
+    C: Encode,
+    D: Encode,
+    E: Encode,
+    F: Encode,
+    G: Encode,
+    H: Encode,
+    I: Encode,
+> Encode for (A, B, C, D, E, F, G, H, I) {
+    type Encoder = TupleEncoder<
+        A::Encoder,
+        TupleEncoder<
+            B::Encoder,
+            TupleEncoder<
+                C::Encoder,
+                TupleEncoder<
+                    D::Encoder,
+                    TupleEncoder<
+                        E::Encoder,
+                        TupleEncoder<
+                            F::Encoder,
+                            TupleEncoder<G::Encoder, TupleEncoder<H::Encoder, I::Encoder>>,
+                        >,
+                    >,
+                >,
+            >,
+        >,
+    >;
+}
+
+impl<
+    'a,
+    A: Decode<'a>,
+    B: Decode<'a>,
+    C: Decode<'a>,
+    D: Decode<'a>,
+    E: Decode<'a>,
+    F: Decode<'a>,
+    G: Decode<'a>,
+    H: Decode<'a>,
+    I: Decode<'a>,
+> Decode<'a> for (A, B, C, D, E, F, G, H, I) {
+    type Decoder = TupleDecoder<
+        A::Decoder,
+        TupleDecoder<
+            B::Decoder,
+            TupleDecoder<
+                C::Decoder,
+                TupleDecoder<
+                    D::Decoder,
+                    TupleDecoder<
+                        E::Decoder,
+                        TupleDecoder<
+                            F::Decoder,
+                            TupleDecoder<G::Decoder, TupleDecoder<H::Decoder, I::Decoder>>,
+                        >,
+                    >,
+                >,
+            >,
+        >,
+    >;
+}
+
+impl<
+    A: DecodeOwned,
+    B: DecodeOwned,
+    C: DecodeOwned,
+    D: DecodeOwned,
+    E: DecodeOwned,
+    F: DecodeOwned,
+    G: DecodeOwned,
+    H: DecodeOwned,
+    I: DecodeOwned,
+> DecodeOwned for (A, B, C, D, E, F, G, H, I) {}
+
+impl<
+    A: Encode,
+    B: Encode,
+    C: Encode,
+    D: Encode,
+    E: Encode,
+    F: Encode,
+    G: Encode,
+    H: Encode,
+    I: Encode,
+    J: Encode,
+> Encode for (A, B, C, D, E, F, G, H, I, J) {
+    type Encoder = TupleEncoder<
+        A::Encoder,
+        TupleEncoder<
+            B::Encoder,
+            TupleEncoder<
+                C::Encoder,
+                TupleEncoder<
+                    D::Encoder,
+                    TupleEncoder<
+                        E::Encoder,
+                        TupleEncoder<
+                            F::Encoder,
+                            TupleEncoder<
+                                G::Encoder,
+                                TupleEncoder<H::Encoder, TupleEncoder<I::Encoder, J::Encoder>>,
+                            >,
+                        >,
+                    >,
+                >,
+            >,
+        >,
+    >;
+}
+
+impl<
+    'a,
+    A: Decode<'a>,
+    B: Decode<'a>,
+    C: Decode<'a>,
+    D: Decode<'a>,
+    E: Decode<'a>,
+    F: Decode<'a>,
+    G: Decode<'a>,
+    H: Decode<'a>,
+    I: Decode<'a>,
+    J: Decode<'a>,
+> Decode<'a> for (A, B, C, D, E, F, G, H, I, J) {
+    type Decoder = TupleDecoder<
+        A::Decoder,
+        TupleDecoder<
+            B::Decoder,
+            TupleDecoder<
+                C::Decoder,
+                TupleDecoder<
+                    D::Decoder,
+                    TupleDecoder<
+                        E::Decoder,
+                        TupleDecoder<
+                            F::Decoder,
+                            TupleDecoder<
+                                G::Decoder,
+                                TupleDecoder<H::Decoder, TupleDecoder<I::Decoder, J::Decoder>>,
+                            >,
+                        >,
+                    >,
+                >,
+            >,
+        >,
+    >;
+}
+
+impl<
+    A: DecodeOwned,
+    B: DecodeOwned,
+    C: DecodeOwned,
+    D: DecodeOwned,
+    E: DecodeOwned,
+    F: DecodeOwned,
+    G: DecodeOwned,
+    H: DecodeOwned,
+    I: DecodeOwned,
+    J: DecodeOwned,
+> DecodeOwned for (A, B, C, D, E, F, G, H, I, J) {}
+
+impl<
+    A: Encode,
+    B: Encode,
+    C: Encode,
+    D: Encode,
+    E: Encode,
+    F: Encode,
+    G: Encode,
+    H: Encode,
+    I: Encode,
+    J: Encode,
+    K: Encode,
+> Encode for (A, B, C, D, E, F, G, H, I, J, K) {
+    type Encoder = TupleEncoder<
+        A::Encoder,
+        TupleEncoder<
+            B::Encoder,
+            TupleEncoder<
+                C::Encoder,
+                TupleEncoder<
+                    D::Encoder,
+                    TupleEncoder<
+                        E::Encoder,
+                        TupleEncoder<
+                            F::Encoder,
+                            TupleEncoder<
+                                G::Encoder,
+                                TupleEncoder<
+                                    H::Encoder,
+                                    TupleEncoder<I::Encoder, TupleEncoder<J::Encoder, K::Encoder>>,
+                                >,
+                            >,
+                        >,
+                    >,
+                >,
+            >,
+        >,
+    >;
+}
+
+impl<
+    'a,
+    A: Decode<'a>,
+    B: Decode<'a>,
+    C: Decode<'a>,
+    D: Decode<'a>,
+    E: Decode<'a>,
+    F: Decode<'a>,
+    G: Decode<'a>,
+    H: Decode<'a>,
+    I: Decode<'a>,
+    J: Decode<'a>,
+    K: Decode<'a>,
+> Decode<'a> for (A, B, C, D, E, F, G, H, I, J, K) {
+    type Decoder = TupleDecoder<
+        A::Decoder,
+        TupleDecoder<
+            B::Decoder,
+            TupleDecoder<
+                C::Decoder,
+                TupleDecoder<
+                    D::Decoder,
+                    TupleDecoder<
+                        E::Decoder,
+                        TupleDecoder<
+                            F::Decoder,
+                            TupleDecoder<
+                                G::Decoder,
+                                TupleDecoder<
+                                    H::Decoder,
+                                    TupleDecoder<I::Decoder, TupleDecoder<J::Decoder, K::Decoder>>,
+                                >,
+                            >,
+                        >,
+                    >,
+                >,
+            >,
+        >,
+    >;
+}
+
+impl<
+    A: DecodeOwned,
+    B: DecodeOwned,
+    C: DecodeOwned,
+    D: DecodeOwned,
+    E: DecodeOwned,
+    F: DecodeOwned,
+    G: DecodeOwned,
+    H: DecodeOwned,
+    I: DecodeOwned,
+    J: DecodeOwned,
+    K: DecodeOwned,
+> DecodeOwned for (A, B, C, D, E, F, G, H, I, J, K) {}
