@@ -61,6 +61,7 @@ pub fn print_rows(rt: &impl Print, alloc: Global) -> io::Result<bool> {
     all_ok &= print_row(rt, 38, rows::texts::texts_written(alloc))?;
     all_ok &= print_row(rt, 39, rows::choices::one_variant_and_none(alloc))?;
     all_ok &= print_row(rt, 40, rows::variants::raw_variants(alloc))?;
+    all_ok &= print_row(rt, 41, rows::composites(alloc))?;
     all_ok &= print_row(rt, 42, rows::arrays::more_units_than_a_length(alloc))?;
     Ok(all_ok)
 }

@@ -112,3 +112,9 @@ pub fn words_read(alloc: Global) -> Result<(), Got> {
     refuses::<u32>(alloc, &[5, 0], Reason::InvalidPacking)?;
     refuses::<u32>(alloc, &[4], Reason::Eof)
 }
+
+/// Arrays, tuples and pointers have the columns of what is in them.
+pub fn composites(alloc: Global) -> Result<(), Got> {
+    arrays::seven_signed_bytes(alloc)?;
+    tuples::fields_and_pointers(alloc)
+}
