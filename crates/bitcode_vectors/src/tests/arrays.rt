@@ -131,7 +131,7 @@ fn nested_arrays_are_counted(rt: HostRuntime) -> Result<(), Fail> {
     let alloc = rt.alloc();
     let mut none: ArrayEncoder<EmptyCoder, 0> = ArrayEncoder::new(alloc);
     none.reserve(usize::MAX)?;
-    none.encode(&[])?;
+    none.encode(&[(); 0])?;
     none.reserve(usize::MAX)?;
     let mut fits: ArrayEncoder<ArrayEncoder<EmptyCoder, 4294967296>, 4294967295> =
         ArrayEncoder::new(alloc);
