@@ -98,7 +98,8 @@ impl<T: Shaped, E: Encoder<T>> Encoder<BoxedSlice<T>> for DerefEncoder<VecEncode
 
 impl<T: Shaped, E: Encoder<T>> Encoder<RcSlice<T>> for DerefEncoder<VecEncoder<E>> {
     fn encode(&mut self, t: &RcSlice<T>) -> Result<(), Error> {
-        self.inner.encode(&t.as_slice())
+        let items = t.as_slice();
+        self.inner.encode(&items)
     }
 
     ghost of_shape = { λ e. ap (two (one (lengths None) [])) (E.of_shape e.inner.elements) };

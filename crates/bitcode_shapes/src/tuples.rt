@@ -1,4 +1,4 @@
 // Tuples of one field and of three to sixteen: a tuple of one field is as its field, and a longer one as the pair of its
-// first field and the tuple of the others.
+// first half and its second.
 mod few;
 mod many;

@@ -14,7 +14,6 @@ use std::alloc::Global;
 
 mod few;
 mod many;
-mod more;
 
 /// The decoder of pairs: it reads the first fields of all pairs, and then the second ones.
 ///

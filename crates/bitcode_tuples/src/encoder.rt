@@ -11,7 +11,6 @@ use std::alloc::Global;
 
 mod few;
 mod many;
-mod more;
 
 /// The encoder of pairs: the columns of the first fields, and behind them those of the second.
 ///

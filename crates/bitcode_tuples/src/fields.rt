@@ -9,7 +9,6 @@ use bitcode_columns::error::Error;
 use bitcode_shapes::shaped::Shaped;
 
 pub mod few;
-pub mod more;
 pub mod several;
 
 // A field, or a pair of the first field and the others.

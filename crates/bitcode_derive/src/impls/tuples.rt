@@ -1,4 +1,4 @@
-// The coders of tuples: nested coders of pairs.
+// The coders of tuples: pairs of the coders of the first half of the fields and of the second.
 mod few;
 mod many;
 mod more;

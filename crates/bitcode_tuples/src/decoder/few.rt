@@ -1,4 +1,4 @@
-// The decoders of tuples of three to nine fields.
+// The decoders of tuples of three to eight fields: of the first half of the fields, and of the second.
 ghost use Rattle.std.specs.Prelude.{◌&&◌};
 ghost use Rattle.bitcode_tuples.specs.PairLaws.{same_pair_shape};
 
@@ -7,23 +7,57 @@ use bitcode_coder::coder::Decoder;
 use bitcode_columns::error::Error;
 use bitcode_shapes::shaped::Made;
 
-impl<
+impl<'a, T1: Made + Drop, T2: Made, T3: Made, A: Decoder<'a, T1>, B: Decoder<'a, (T2, T3)>> Decoder<
     'a,
-    T1: Made + Drop,
-    T2: Made + Drop,
-    T3: Made,
-    A: Decoder<'a, T1>,
-    B: Decoder<'a, T2>,
-    C: Decoder<'a, T3>,
-> Decoder<'a, (T1, T2, T3)> for TupleDecoder<A, TupleDecoder<B, C>> {
-    ghost makes_free = { A.makes_free && (B.makes_free && C.makes_free) };
+    (T1, T2, T3),
+> for TupleDecoder<A, B> {
+    ghost makes_free = { A.makes_free && B.makes_free };
 
     fn decode(&mut self) -> Result<(T1, T2, T3), Error> {
         let (t1, (t2, t3)) = Decoder::<(T1, (T2, T3))>::decode(self)?;
         Ok((t1, t2, t3))
     }
 
-    ghost same_shape = { same_pair_shape A.same_shape (same_pair_shape B.same_shape C.same_shape) };
+    ghost same_shape = { same_pair_shape A.same_shape B.same_shape };
+}
+
+impl<
+    'a,
+    T1: Made + Drop,
+    T2: Made + Drop,
+    T3: Made,
+    T4: Made,
+    A: Decoder<'a, (T1, T2)>,
+    B: Decoder<'a, (T3, T4)>,
+> Decoder<'a, (T1, T2, T3, T4)> for TupleDecoder<A, B> {
+    ghost makes_free = { A.makes_free && B.makes_free };
+
+    fn decode(&mut self) -> Result<(T1, T2, T3, T4), Error> {
+        let ((t1, t2), (t3, t4)) = Decoder::<((T1, T2), (T3, T4))>::decode(self)?;
+        Ok((t1, t2, t3, t4))
+    }
+
+    ghost same_shape = { same_pair_shape A.same_shape B.same_shape };
+}
+
+impl<
+    'a,
+    T1: Made + Drop,
+    T2: Made + Drop,
+    T3: Made,
+    T4: Made,
+    T5: Made,
+    A: Decoder<'a, (T1, T2)>,
+    B: Decoder<'a, (T3, T4, T5)>,
+> Decoder<'a, (T1, T2, T3, T4, T5)> for TupleDecoder<A, B> {
+    ghost makes_free = { A.makes_free && B.makes_free };
+
+    fn decode(&mut self) -> Result<(T1, T2, T3, T4, T5), Error> {
+        let ((t1, t2), (t3, t4, t5)) = Decoder::<((T1, T2), (T3, T4, T5))>::decode(self)?;
+        Ok((t1, t2, t3, t4, t5))
+    }
+
+    ghost same_shape = { same_pair_shape A.same_shape B.same_shape };
 }
 
 impl<
@@ -32,19 +66,43 @@ impl<
     T2: Made + Drop,
     T3: Made + Drop,
     T4: Made,
-    A: Decoder<'a, T1>,
-    B: Decoder<'a, T2>,
-    C: Decoder<'a, T3>,
-    D: Decoder<'a, T4>,
-> Decoder<'a, (T1, T2, T3, T4)> for TupleDecoder<A, TupleDecoder<B, TupleDecoder<C, D>>> {
-    ghost makes_free = { A.makes_free && (B.makes_free && (C.makes_free && D.makes_free)) };
+    T5: Made,
+    T6: Made,
+    A: Decoder<'a, (T1, T2, T3)>,
+    B: Decoder<'a, (T4, T5, T6)>,
+> Decoder<'a, (T1, T2, T3, T4, T5, T6)> for TupleDecoder<A, B> {
+    ghost makes_free = { A.makes_free && B.makes_free };
 
-    fn decode(&mut self) -> Result<(T1, T2, T3, T4), Error> {
-        let (t1, (t2, (t3, t4))) = Decoder::<(T1, (T2, (T3, T4)))>::decode(self)?;
-        Ok((t1, t2, t3, t4))
+    fn decode(&mut self) -> Result<(T1, T2, T3, T4, T5, T6), Error> {
+        let ((t1, t2, t3), (t4, t5, t6)) = Decoder::<((T1, T2, T3), (T4, T5, T6))>::decode(self)?;
+        Ok((t1, t2, t3, t4, t5, t6))
     }
 
-    ghost same_shape = { same_pair_shape A.same_shape (same_pair_shape B.same_shape (same_pair_shape C.same_shape D.same_shape)) };
+    ghost same_shape = { same_pair_shape A.same_shape B.same_shape };
+}
+
+impl<
+    'a,
+    T1: Made + Drop,
+    T2: Made + Drop,
+    T3: Made + Drop,
+    T4: Made,
+    T5: Made,
+    T6: Made,
+    T7: Made,
+    A: Decoder<'a, (T1, T2, T3)>,
+    B: Decoder<'a, (T4, T5, T6, T7)>,
+> Decoder<'a, (T1, T2, T3, T4, T5, T6, T7)> for TupleDecoder<A, B> {
+    ghost makes_free = { A.makes_free && B.makes_free };
+
+    fn decode(&mut self) -> Result<(T1, T2, T3, T4, T5, T6, T7), Error> {
+        let ((t1, t2, t3), (t4, t5, t6, t7)) = Decoder::<((T1, T2, T3), (T4, T5, T6, T7))>::decode(
+            self,
+        )?;
+        Ok((t1, t2, t3, t4, t5, t6, t7))
+    }
+
+    ghost same_shape = { same_pair_shape A.same_shape B.same_shape };
 }
 
 impl<
@@ -54,128 +112,20 @@ impl<
     T3: Made + Drop,
     T4: Made + Drop,
     T5: Made,
-    A: Decoder<'a, T1>,
-    B: Decoder<'a, T2>,
-    C: Decoder<'a, T3>,
-    D: Decoder<'a, T4>,
-    E: Decoder<'a, T5>,
-> Decoder<'a, (T1, T2, T3, T4, T5)>
-    for TupleDecoder<A, TupleDecoder<B, TupleDecoder<C, TupleDecoder<D, E>>>> {
-    ghost makes_free = { A.makes_free && (B.makes_free && (C.makes_free && (D.makes_free && E.makes_free))) };
-
-    fn decode(&mut self) -> Result<(T1, T2, T3, T4, T5), Error> {
-        let (t1, (t2, (t3, (t4, t5)))) = Decoder::<(T1, (T2, (T3, (T4, T5))))>::decode(self)?;
-        Ok((t1, t2, t3, t4, t5))
-    }
-
-    ghost same_shape = { same_pair_shape A.same_shape (same_pair_shape B.same_shape (same_pair_shape C.same_shape (same_pair_shape D.same_shape E.same_shape))) };
-}
-
-impl<
-    'a,
-    T1: Made + Drop,
-    T2: Made + Drop,
-    T3: Made + Drop,
-    T4: Made,
-    T5: Made,
-    T6: Made,
-    A: Decoder<'a, T1>,
-    B: Decoder<'a, T2>,
-    C: Decoder<'a, T3>,
-    D: Decoder<'a, (T4, T5, T6)>,
-> Decoder<'a, (T1, T2, T3, T4, T5, T6)> for TupleDecoder<A, TupleDecoder<B, TupleDecoder<C, D>>> {
-    ghost makes_free = { A.makes_free && (B.makes_free && (C.makes_free && D.makes_free)) };
-
-    fn decode(&mut self) -> Result<(T1, T2, T3, T4, T5, T6), Error> {
-        let (t1, (t2, (t3, (t4, t5, t6)))) = Decoder::<(T1, (T2, (T3, (T4, T5, T6))))>::decode(
-            self,
-        )?;
-        Ok((t1, t2, t3, t4, t5, t6))
-    }
-
-    ghost same_shape = { same_pair_shape A.same_shape (same_pair_shape B.same_shape (same_pair_shape C.same_shape D.same_shape)) };
-}
-
-impl<
-    'a,
-    T1: Made + Drop,
-    T2: Made + Drop,
-    T3: Made + Drop,
-    T4: Made,
-    T5: Made,
-    T6: Made,
-    T7: Made,
-    A: Decoder<'a, T1>,
-    B: Decoder<'a, T2>,
-    C: Decoder<'a, T3>,
-    D: Decoder<'a, (T4, T5, T6, T7)>,
-> Decoder<'a, (T1, T2, T3, T4, T5, T6, T7)>
-    for TupleDecoder<A, TupleDecoder<B, TupleDecoder<C, D>>> {
-    ghost makes_free = { A.makes_free && (B.makes_free && (C.makes_free && D.makes_free)) };
-
-    fn decode(&mut self) -> Result<(T1, T2, T3, T4, T5, T6, T7), Error> {
-        let (t1, (t2, (t3, (t4, t5, t6, t7)))) = Decoder::<
-            (T1, (T2, (T3, (T4, T5, T6, T7)))),
-        >::decode(self)?;
-        Ok((t1, t2, t3, t4, t5, t6, t7))
-    }
-
-    ghost same_shape = { same_pair_shape A.same_shape (same_pair_shape B.same_shape (same_pair_shape C.same_shape D.same_shape)) };
-}
-
-impl<
-    'a,
-    T1: Made + Drop,
-    T2: Made + Drop,
-    T3: Made + Drop,
-    T4: Made,
-    T5: Made,
     T6: Made,
     T7: Made,
     T8: Made,
-    A: Decoder<'a, T1>,
-    B: Decoder<'a, T2>,
-    C: Decoder<'a, T3>,
-    D: Decoder<'a, (T4, T5, T6, T7, T8)>,
-> Decoder<'a, (T1, T2, T3, T4, T5, T6, T7, T8)>
-    for TupleDecoder<A, TupleDecoder<B, TupleDecoder<C, D>>> {
-    ghost makes_free = { A.makes_free && (B.makes_free && (C.makes_free && D.makes_free)) };
+    A: Decoder<'a, (T1, T2, T3, T4)>,
+    B: Decoder<'a, (T5, T6, T7, T8)>,
+> Decoder<'a, (T1, T2, T3, T4, T5, T6, T7, T8)> for TupleDecoder<A, B> {
+    ghost makes_free = { A.makes_free && B.makes_free };
 
     fn decode(&mut self) -> Result<(T1, T2, T3, T4, T5, T6, T7, T8), Error> {
-        let (t1, (t2, (t3, (t4, t5, t6, t7, t8)))) = Decoder::<
-            (T1, (T2, (T3, (T4, T5, T6, T7, T8)))),
+        let ((t1, t2, t3, t4), (t5, t6, t7, t8)) = Decoder::<
+            ((T1, T2, T3, T4), (T5, T6, T7, T8)),
         >::decode(self)?;
         Ok((t1, t2, t3, t4, t5, t6, t7, t8))
     }
 
-    ghost same_shape = { same_pair_shape A.same_shape (same_pair_shape B.same_shape (same_pair_shape C.same_shape D.same_shape)) };
-}
-
-impl<
-    'a,
-    T1: Made + Drop,
-    T2: Made + Drop,
-    T3: Made + Drop,
-    T4: Made,
-    T5: Made,
-    T6: Made,
-    T7: Made,
-    T8: Made,
-    T9: Made,
-    A: Decoder<'a, T1>,
-    B: Decoder<'a, T2>,
-    C: Decoder<'a, T3>,
-    D: Decoder<'a, (T4, T5, T6, T7, T8, T9)>,
-> Decoder<'a, (T1, T2, T3, T4, T5, T6, T7, T8, T9)>
-    for TupleDecoder<A, TupleDecoder<B, TupleDecoder<C, D>>> {
-    ghost makes_free = { A.makes_free && (B.makes_free && (C.makes_free && D.makes_free)) };
-
-    fn decode(&mut self) -> Result<(T1, T2, T3, T4, T5, T6, T7, T8, T9), Error> {
-        let (t1, (t2, (t3, (t4, t5, t6, t7, t8, t9)))) = Decoder::<
-            (T1, (T2, (T3, (T4, T5, T6, T7, T8, T9)))),
-        >::decode(self)?;
-        Ok((t1, t2, t3, t4, t5, t6, t7, t8, t9))
-    }
-
-    ghost same_shape = { same_pair_shape A.same_shape (same_pair_shape B.same_shape (same_pair_shape C.same_shape D.same_shape)) };
+    ghost same_shape = { same_pair_shape A.same_shape B.same_shape };
 }

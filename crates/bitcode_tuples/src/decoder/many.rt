@@ -1,4 +1,4 @@
-// The decoders of tuples of thirteen to sixteen fields.
+// The decoders of tuples of nine to sixteen fields: of the first half of the fields, and of the second.
 ghost use Rattle.std.specs.Prelude.{◌&&◌};
 ghost use Rattle.bitcode_tuples.specs.PairLaws.{same_pair_shape};
 
@@ -12,34 +12,25 @@ impl<
     T1: Made + Drop,
     T2: Made + Drop,
     T3: Made + Drop,
-    T4: Made,
+    T4: Made + Drop,
     T5: Made,
     T6: Made,
     T7: Made,
     T8: Made,
     T9: Made,
-    T10: Made,
-    T11: Made,
-    T12: Made,
-    T13: Made,
-    A: Decoder<'a, T1>,
-    B: Decoder<'a, T2>,
-    C: Decoder<'a, T3>,
-    D: Decoder<'a, (T4, T5, T6, T7, T8, T9, T10, T11, T12, T13)>,
-> Decoder<'a, (T1, T2, T3, T4, T5, T6, T7, T8, T9, T10, T11, T12, T13)>
-    for TupleDecoder<A, TupleDecoder<B, TupleDecoder<C, D>>> {
-    ghost makes_free = { A.makes_free && (B.makes_free && (C.makes_free && D.makes_free)) };
+    A: Decoder<'a, (T1, T2, T3, T4)>,
+    B: Decoder<'a, (T5, T6, T7, T8, T9)>,
+> Decoder<'a, (T1, T2, T3, T4, T5, T6, T7, T8, T9)> for TupleDecoder<A, B> {
+    ghost makes_free = { A.makes_free && B.makes_free };
 
-    fn decode(
-        &mut self,
-    ) -> Result<(T1, T2, T3, T4, T5, T6, T7, T8, T9, T10, T11, T12, T13), Error> {
-        let (t1, (t2, (t3, (t4, t5, t6, t7, t8, t9, t10, t11, t12, t13)))) = Decoder::<
-            (T1, (T2, (T3, (T4, T5, T6, T7, T8, T9, T10, T11, T12, T13)))),
+    fn decode(&mut self) -> Result<(T1, T2, T3, T4, T5, T6, T7, T8, T9), Error> {
+        let ((t1, t2, t3, t4), (t5, t6, t7, t8, t9)) = Decoder::<
+            ((T1, T2, T3, T4), (T5, T6, T7, T8, T9)),
         >::decode(self)?;
-        Ok((t1, t2, t3, t4, t5, t6, t7, t8, t9, t10, t11, t12, t13))
+        Ok((t1, t2, t3, t4, t5, t6, t7, t8, t9))
     }
 
-    ghost same_shape = { same_pair_shape A.same_shape (same_pair_shape B.same_shape (same_pair_shape C.same_shape D.same_shape)) };
+    ghost same_shape = { same_pair_shape A.same_shape B.same_shape };
 }
 
 impl<
@@ -47,10 +38,126 @@ impl<
     T1: Made + Drop,
     T2: Made + Drop,
     T3: Made + Drop,
-    T4: Made,
-    T5: Made,
+    T4: Made + Drop,
+    T5: Made + Drop,
     T6: Made,
     T7: Made,
+    T8: Made,
+    T9: Made,
+    T10: Made,
+    A: Decoder<'a, (T1, T2, T3, T4, T5)>,
+    B: Decoder<'a, (T6, T7, T8, T9, T10)>,
+> Decoder<'a, (T1, T2, T3, T4, T5, T6, T7, T8, T9, T10)> for TupleDecoder<A, B> {
+    ghost makes_free = { A.makes_free && B.makes_free };
+
+    fn decode(&mut self) -> Result<(T1, T2, T3, T4, T5, T6, T7, T8, T9, T10), Error> {
+        let ((t1, t2, t3, t4, t5), (t6, t7, t8, t9, t10)) = Decoder::<
+            ((T1, T2, T3, T4, T5), (T6, T7, T8, T9, T10)),
+        >::decode(self)?;
+        Ok((t1, t2, t3, t4, t5, t6, t7, t8, t9, t10))
+    }
+
+    ghost same_shape = { same_pair_shape A.same_shape B.same_shape };
+}
+
+impl<
+    'a,
+    T1: Made + Drop,
+    T2: Made + Drop,
+    T3: Made + Drop,
+    T4: Made + Drop,
+    T5: Made + Drop,
+    T6: Made,
+    T7: Made,
+    T8: Made,
+    T9: Made,
+    T10: Made,
+    T11: Made,
+    A: Decoder<'a, (T1, T2, T3, T4, T5)>,
+    B: Decoder<'a, (T6, T7, T8, T9, T10, T11)>,
+> Decoder<'a, (T1, T2, T3, T4, T5, T6, T7, T8, T9, T10, T11)> for TupleDecoder<A, B> {
+    ghost makes_free = { A.makes_free && B.makes_free };
+
+    fn decode(&mut self) -> Result<(T1, T2, T3, T4, T5, T6, T7, T8, T9, T10, T11), Error> {
+        let ((t1, t2, t3, t4, t5), (t6, t7, t8, t9, t10, t11)) = Decoder::<
+            ((T1, T2, T3, T4, T5), (T6, T7, T8, T9, T10, T11)),
+        >::decode(self)?;
+        Ok((t1, t2, t3, t4, t5, t6, t7, t8, t9, t10, t11))
+    }
+
+    ghost same_shape = { same_pair_shape A.same_shape B.same_shape };
+}
+
+impl<
+    'a,
+    T1: Made + Drop,
+    T2: Made + Drop,
+    T3: Made + Drop,
+    T4: Made + Drop,
+    T5: Made + Drop,
+    T6: Made + Drop,
+    T7: Made,
+    T8: Made,
+    T9: Made,
+    T10: Made,
+    T11: Made,
+    T12: Made,
+    A: Decoder<'a, (T1, T2, T3, T4, T5, T6)>,
+    B: Decoder<'a, (T7, T8, T9, T10, T11, T12)>,
+> Decoder<'a, (T1, T2, T3, T4, T5, T6, T7, T8, T9, T10, T11, T12)> for TupleDecoder<A, B> {
+    ghost makes_free = { A.makes_free && B.makes_free };
+
+    fn decode(&mut self) -> Result<(T1, T2, T3, T4, T5, T6, T7, T8, T9, T10, T11, T12), Error> {
+        let ((t1, t2, t3, t4, t5, t6), (t7, t8, t9, t10, t11, t12)) = Decoder::<
+            ((T1, T2, T3, T4, T5, T6), (T7, T8, T9, T10, T11, T12)),
+        >::decode(self)?;
+        Ok((t1, t2, t3, t4, t5, t6, t7, t8, t9, t10, t11, t12))
+    }
+
+    ghost same_shape = { same_pair_shape A.same_shape B.same_shape };
+}
+
+impl<
+    'a,
+    T1: Made + Drop,
+    T2: Made + Drop,
+    T3: Made + Drop,
+    T4: Made + Drop,
+    T5: Made + Drop,
+    T6: Made + Drop,
+    T7: Made,
+    T8: Made,
+    T9: Made,
+    T10: Made,
+    T11: Made,
+    T12: Made,
+    T13: Made,
+    A: Decoder<'a, (T1, T2, T3, T4, T5, T6)>,
+    B: Decoder<'a, (T7, T8, T9, T10, T11, T12, T13)>,
+> Decoder<'a, (T1, T2, T3, T4, T5, T6, T7, T8, T9, T10, T11, T12, T13)> for TupleDecoder<A, B> {
+    ghost makes_free = { A.makes_free && B.makes_free };
+
+    fn decode(
+        &mut self,
+    ) -> Result<(T1, T2, T3, T4, T5, T6, T7, T8, T9, T10, T11, T12, T13), Error> {
+        let ((t1, t2, t3, t4, t5, t6), (t7, t8, t9, t10, t11, t12, t13)) = Decoder::<
+            ((T1, T2, T3, T4, T5, T6), (T7, T8, T9, T10, T11, T12, T13)),
+        >::decode(self)?;
+        Ok((t1, t2, t3, t4, t5, t6, t7, t8, t9, t10, t11, t12, t13))
+    }
+
+    ghost same_shape = { same_pair_shape A.same_shape B.same_shape };
+}
+
+impl<
+    'a,
+    T1: Made + Drop,
+    T2: Made + Drop,
+    T3: Made + Drop,
+    T4: Made + Drop,
+    T5: Made + Drop,
+    T6: Made + Drop,
+    T7: Made + Drop,
     T8: Made,
     T9: Made,
     T10: Made,
@@ -58,27 +165,25 @@ impl<
     T12: Made,
     T13: Made,
     T14: Made,
-    A: Decoder<'a, T1>,
-    B: Decoder<'a, T2>,
-    C: Decoder<'a, T3>,
-    D: Decoder<'a, (T4, T5, T6, T7, T8, T9, T10, T11, T12, T13, T14)>,
+    A: Decoder<'a, (T1, T2, T3, T4, T5, T6, T7)>,
+    B: Decoder<'a, (T8, T9, T10, T11, T12, T13, T14)>,
 > Decoder<'a, (T1, T2, T3, T4, T5, T6, T7, T8, T9, T10, T11, T12, T13, T14)>
-    for TupleDecoder<A, TupleDecoder<B, TupleDecoder<C, D>>> {
-    ghost makes_free = { A.makes_free && (B.makes_free && (C.makes_free && D.makes_free)) };
+    for TupleDecoder<A, B> {
+    ghost makes_free = { A.makes_free && B.makes_free };
 
     fn decode(
         &mut self,
     ) -> Result<(T1, T2, T3, T4, T5, T6, T7, T8, T9, T10, T11, T12, T13, T14), Error> {
-        let (t1, (t2, (t3, (t4, t5, t6, t7, t8, t9, t10, t11, t12, t13, t14)))) = Decoder::<
+        let ((t1, t2, t3, t4, t5, t6, t7), (t8, t9, t10, t11, t12, t13, t14)) = Decoder::<
             (
-                T1,
-                (T2, (T3, (T4, T5, T6, T7, T8, T9, T10, T11, T12, T13, T14))),
+                (T1, T2, T3, T4, T5, T6, T7),
+                (T8, T9, T10, T11, T12, T13, T14),
             ),
         >::decode(self)?;
         Ok((t1, t2, t3, t4, t5, t6, t7, t8, t9, t10, t11, t12, t13, t14))
     }
 
-    ghost same_shape = { same_pair_shape A.same_shape (same_pair_shape B.same_shape (same_pair_shape C.same_shape D.same_shape)) };
+    ghost same_shape = { same_pair_shape A.same_shape B.same_shape };
 }
 
 impl<
@@ -86,10 +191,10 @@ impl<
     T1: Made + Drop,
     T2: Made + Drop,
     T3: Made + Drop,
-    T4: Made,
-    T5: Made,
-    T6: Made,
-    T7: Made,
+    T4: Made + Drop,
+    T5: Made + Drop,
+    T6: Made + Drop,
+    T7: Made + Drop,
     T8: Made,
     T9: Made,
     T10: Made,
@@ -98,10 +203,8 @@ impl<
     T13: Made,
     T14: Made,
     T15: Made,
-    A: Decoder<'a, T1>,
-    B: Decoder<'a, T2>,
-    C: Decoder<'a, T3>,
-    D: Decoder<'a, (T4, T5, T6, T7, T8, T9, T10, T11, T12, T13, T14, T15)>,
+    A: Decoder<'a, (T1, T2, T3, T4, T5, T6, T7)>,
+    B: Decoder<'a, (T8, T9, T10, T11, T12, T13, T14, T15)>,
 > Decoder<
     'a,
     (
@@ -121,8 +224,8 @@ impl<
         T14,
         T15,
     ),
-> for TupleDecoder<A, TupleDecoder<B, TupleDecoder<C, D>>> {
-    ghost makes_free = { A.makes_free && (B.makes_free && (C.makes_free && D.makes_free)) };
+> for TupleDecoder<A, B> {
+    ghost makes_free = { A.makes_free && B.makes_free };
 
     fn decode(
         &mut self,
@@ -146,13 +249,10 @@ impl<
         ),
         Error,
     > {
-        let (t1, (t2, (t3, (t4, t5, t6, t7, t8, t9, t10, t11, t12, t13, t14, t15)))) = Decoder::<
+        let ((t1, t2, t3, t4, t5, t6, t7), (t8, t9, t10, t11, t12, t13, t14, t15)) = Decoder::<
             (
-                T1,
-                (
-                    T2,
-                    (T3, (T4, T5, T6, T7, T8, T9, T10, T11, T12, T13, T14, T15)),
-                ),
+                (T1, T2, T3, T4, T5, T6, T7),
+                (T8, T9, T10, T11, T12, T13, T14, T15),
             ),
         >::decode(self)?;
         Ok((
@@ -160,7 +260,7 @@ impl<
         ))
     }
 
-    ghost same_shape = { same_pair_shape A.same_shape (same_pair_shape B.same_shape (same_pair_shape C.same_shape D.same_shape)) };
+    ghost same_shape = { same_pair_shape A.same_shape B.same_shape };
 }
 
 impl<
@@ -168,11 +268,11 @@ impl<
     T1: Made + Drop,
     T2: Made + Drop,
     T3: Made + Drop,
-    T4: Made,
-    T5: Made,
-    T6: Made,
-    T7: Made,
-    T8: Made,
+    T4: Made + Drop,
+    T5: Made + Drop,
+    T6: Made + Drop,
+    T7: Made + Drop,
+    T8: Made + Drop,
     T9: Made,
     T10: Made,
     T11: Made,
@@ -181,10 +281,8 @@ impl<
     T14: Made,
     T15: Made,
     T16: Made,
-    A: Decoder<'a, T1>,
-    B: Decoder<'a, T2>,
-    C: Decoder<'a, T3>,
-    D: Decoder<'a, (T4, T5, T6, T7, T8, T9, T10, T11, T12, T13, T14, T15, T16)>,
+    A: Decoder<'a, (T1, T2, T3, T4, T5, T6, T7, T8)>,
+    B: Decoder<'a, (T9, T10, T11, T12, T13, T14, T15, T16)>,
 > Decoder<
     'a,
     (
@@ -205,8 +303,8 @@ impl<
         T15,
         T16,
     ),
-> for TupleDecoder<A, TupleDecoder<B, TupleDecoder<C, D>>> {
-    ghost makes_free = { A.makes_free && (B.makes_free && (C.makes_free && D.makes_free)) };
+> for TupleDecoder<A, B> {
+    ghost makes_free = { A.makes_free && B.makes_free };
 
     fn decode(
         &mut self,
@@ -231,23 +329,16 @@ impl<
         ),
         Error,
     > {
-        let (t1, (t2, (t3, (t4, t5, t6, t7, t8, t9, t10, t11, t12, t13, t14, t15, t16)))) =
-            Decoder::<
-                (
-                    T1,
-                    (
-                        T2,
-                        (
-                            T3,
-                            (T4, T5, T6, T7, T8, T9, T10, T11, T12, T13, T14, T15, T16),
-                        ),
-                    ),
-                ),
-            >::decode(self)?;
+        let ((t1, t2, t3, t4, t5, t6, t7, t8), (t9, t10, t11, t12, t13, t14, t15, t16)) = Decoder::<
+            (
+                (T1, T2, T3, T4, T5, T6, T7, T8),
+                (T9, T10, T11, T12, T13, T14, T15, T16),
+            ),
+        >::decode(self)?;
         Ok((
             t1, t2, t3, t4, t5, t6, t7, t8, t9, t10, t11, t12, t13, t14, t15, t16,
         ))
     }
 
-    ghost same_shape = { same_pair_shape A.same_shape (same_pair_shape B.same_shape (same_pair_shape C.same_shape D.same_shape)) };
+    ghost same_shape = { same_pair_shape A.same_shape B.same_shape };
 }

@@ -1,4 +1,4 @@
-// Encoders of nine to eleven fields that lie apart.
+// Encoders of six to eight fields that lie apart.
 ghost use Rattle.std.specs.Prelude.{◌≡◌, ℕ, ◌+◌, ◌<◌, ◌≤◌, [], OnOk, IfErr};
 ghost use Rattle.bitcode_coder.specs.Columns.{emptied};
 ghost use Rattle.bitcode_coder.specs.Coding.{written_columns, JoinsListing, PassesWithListing, SurelyPasses, IsWritingRefusal};
@@ -8,6 +8,51 @@ use bitcode_coder::coder::Buffer;
 use bitcode_columns::error::Error;
 use bitcode_shapes::shaped::Shaped;
 
+impl<'a, T1: Shaped, T2: Shaped, T3: Shaped, T4: Shaped, T5: Shaped, T6: Shaped> Fields
+    for (&'a T1, &'a T2, &'a T3, &'a T4, &'a T5, &'a T6) {
+    type Whole = (T1, T2, T3, T4, T5, T6);
+
+    ghost whole = { λ f. (f.0.now, f.1.now, f.2.now, f.3.now, f.4.now, f.5.now) };
+
+    fn told(&self) {
+        self.0.told();
+        self.1.told();
+        self.2.told();
+        self.3.told();
+        self.4.told();
+        self.5.told();
+    }
+}
+
+/// As `Encoder`, for a tuple whose six fields lie apart.
+pub trait FieldsEncoder6<
+    T1: Shaped,
+    T2: Shaped,
+    T3: Shaped,
+    T4: Shaped,
+    T5: Shaped,
+    T6: Shaped,
+>: Buffer {
+    fn encode_each(
+        &mut self,
+        t1: &T1,
+        t2: &T2,
+        t3: &T3,
+        t4: &T4,
+        t5: &T5,
+        t6: &T6,
+    ) -> Result<(), Error>
+        requires { 0 < Self.room self.old }
+        ensures joined { OnOk result (JoinsListing ⟦<(T1, T2, T3, T4, T5, T6) as Shaped>⟧.lists ⟦<(T1, T2, T3, T4, T5, T6) as Shaped>⟧.shape (t1.now, t2.now, t3.now, t4.now, t5.now, t6.now) (Self.columns self.old) (Self.columns self.new)) }
+        ensures room { OnOk result (Self.room self.old ≤ Self.room self.new + 1) }
+        ensures form { emptied (Self.columns self.new) ≡ emptied (Self.columns self.old) }
+        ensures refused { IfErr result (λ e. IsWritingRefusal e.reason (PassesWithListing ⟦<(T1, T2, T3, T4, T5, T6) as Shaped>⟧.lists ⟦<(T1, T2, T3, T4, T5, T6) as Shaped>⟧.shape (t1.now, t2.now, t3.now, t4.now, t5.now, t6.now) (Self.columns self.old))) };
+
+    ghost of_shape: { (e : Self) → emptied (Self.columns e) ≡ written_columns ⟦<(T1, T2, T3, T4, T5, T6) as Shaped>⟧.shape [] };
+
+    ghost surely: { (e : Self) (n : ℕ) → Self.surely_passes e n → SurelyPasses ⟦<(T1, T2, T3, T4, T5, T6) as Shaped>⟧.shape (Self.columns e) n };
+}
+
 impl<
     'a,
     T1: Shaped,
@@ -16,24 +61,21 @@ impl<
     T4: Shaped,
     T5: Shaped,
     T6: Shaped,
-    T7: Shaped,
-    T8: Shaped,
-    T9: Shaped,
-> Fields
-    for (
-        &'a T1,
-        &'a T2,
-        &'a T3,
-        &'a T4,
-        &'a T5,
-        &'a T6,
-        &'a T7,
-        &'a T8,
-        &'a T9,
-    ) {
-    type Whole = (T1, T2, T3, T4, T5, T6, T7, T8, T9);
+    E: FieldsEncoder6<T1, T2, T3, T4, T5, T6>,
+> FieldsEncoder<(&'a T1, &'a T2, &'a T3, &'a T4, &'a T5, &'a T6)> for E {
+    fn encode_fields(
+        &mut self,
+        fields: &(&'a T1, &'a T2, &'a T3, &'a T4, &'a T5, &'a T6),
+    ) -> Result<(), Error> {
+        self.encode_each(fields.0, fields.1, fields.2, fields.3, fields.4, fields.5)
+    }
+}
 
-    ghost whole = { λ f. (f.0.now, f.1.now, f.2.now, f.3.now, f.4.now, f.5.now, f.6.now, f.7.now, f.8.now) };
+impl<'a, T1: Shaped, T2: Shaped, T3: Shaped, T4: Shaped, T5: Shaped, T6: Shaped, T7: Shaped> Fields
+    for (&'a T1, &'a T2, &'a T3, &'a T4, &'a T5, &'a T6, &'a T7) {
+    type Whole = (T1, T2, T3, T4, T5, T6, T7);
+
+    ghost whole = { λ f. (f.0.now, f.1.now, f.2.now, f.3.now, f.4.now, f.5.now, f.6.now) };
 
     fn told(&self) {
         self.0.told();
@@ -43,13 +85,11 @@ impl<
         self.4.told();
         self.5.told();
         self.6.told();
-        self.7.told();
-        self.8.told();
     }
 }
 
-/// As `Encoder`, for a tuple whose nine fields lie apart.
-pub trait FieldsEncoder9<
+/// As `Encoder`, for a tuple whose seven fields lie apart.
+pub trait FieldsEncoder7<
     T1: Shaped,
     T2: Shaped,
     T3: Shaped,
@@ -57,8 +97,6 @@ pub trait FieldsEncoder9<
     T5: Shaped,
     T6: Shaped,
     T7: Shaped,
-    T8: Shaped,
-    T9: Shaped,
 >: Buffer {
     fn encode_each(
         &mut self,
@@ -69,18 +107,16 @@ pub trait FieldsEncoder9<
         t5: &T5,
         t6: &T6,
         t7: &T7,
-        t8: &T8,
-        t9: &T9,
     ) -> Result<(), Error>
         requires { 0 < Self.room self.old }
-        ensures joined { OnOk result (JoinsListing ⟦<(T1, T2, T3, T4, T5, T6, T7, T8, T9) as Shaped>⟧.lists ⟦<(T1, T2, T3, T4, T5, T6, T7, T8, T9) as Shaped>⟧.shape (t1.now, t2.now, t3.now, t4.now, t5.now, t6.now, t7.now, t8.now, t9.now) (Self.columns self.old) (Self.columns self.new)) }
+        ensures joined { OnOk result (JoinsListing ⟦<(T1, T2, T3, T4, T5, T6, T7) as Shaped>⟧.lists ⟦<(T1, T2, T3, T4, T5, T6, T7) as Shaped>⟧.shape (t1.now, t2.now, t3.now, t4.now, t5.now, t6.now, t7.now) (Self.columns self.old) (Self.columns self.new)) }
         ensures room { OnOk result (Self.room self.old ≤ Self.room self.new + 1) }
         ensures form { emptied (Self.columns self.new) ≡ emptied (Self.columns self.old) }
-        ensures refused { IfErr result (λ e. IsWritingRefusal e.reason (PassesWithListing ⟦<(T1, T2, T3, T4, T5, T6, T7, T8, T9) as Shaped>⟧.lists ⟦<(T1, T2, T3, T4, T5, T6, T7, T8, T9) as Shaped>⟧.shape (t1.now, t2.now, t3.now, t4.now, t5.now, t6.now, t7.now, t8.now, t9.now) (Self.columns self.old))) };
+        ensures refused { IfErr result (λ e. IsWritingRefusal e.reason (PassesWithListing ⟦<(T1, T2, T3, T4, T5, T6, T7) as Shaped>⟧.lists ⟦<(T1, T2, T3, T4, T5, T6, T7) as Shaped>⟧.shape (t1.now, t2.now, t3.now, t4.now, t5.now, t6.now, t7.now) (Self.columns self.old))) };
 
-    ghost of_shape: { (e : Self) → emptied (Self.columns e) ≡ written_columns ⟦<(T1, T2, T3, T4, T5, T6, T7, T8, T9) as Shaped>⟧.shape [] };
+    ghost of_shape: { (e : Self) → emptied (Self.columns e) ≡ written_columns ⟦<(T1, T2, T3, T4, T5, T6, T7) as Shaped>⟧.shape [] };
 
-    ghost surely: { (e : Self) (n : ℕ) → Self.surely_passes e n → SurelyPasses ⟦<(T1, T2, T3, T4, T5, T6, T7, T8, T9) as Shaped>⟧.shape (Self.columns e) n };
+    ghost surely: { (e : Self) (n : ℕ) → Self.surely_passes e n → SurelyPasses ⟦<(T1, T2, T3, T4, T5, T6, T7) as Shaped>⟧.shape (Self.columns e) n };
 }
 
 impl<
@@ -92,39 +128,14 @@ impl<
     T5: Shaped,
     T6: Shaped,
     T7: Shaped,
-    T8: Shaped,
-    T9: Shaped,
-    E: FieldsEncoder9<T1, T2, T3, T4, T5, T6, T7, T8, T9>,
-> FieldsEncoder<
-    (
-        &'a T1,
-        &'a T2,
-        &'a T3,
-        &'a T4,
-        &'a T5,
-        &'a T6,
-        &'a T7,
-        &'a T8,
-        &'a T9,
-    ),
-> for E {
+    E: FieldsEncoder7<T1, T2, T3, T4, T5, T6, T7>,
+> FieldsEncoder<(&'a T1, &'a T2, &'a T3, &'a T4, &'a T5, &'a T6, &'a T7)> for E {
     fn encode_fields(
         &mut self,
-        fields: &(
-            &'a T1,
-            &'a T2,
-            &'a T3,
-            &'a T4,
-            &'a T5,
-            &'a T6,
-            &'a T7,
-            &'a T8,
-            &'a T9,
-        ),
+        fields: &(&'a T1, &'a T2, &'a T3, &'a T4, &'a T5, &'a T6, &'a T7),
     ) -> Result<(), Error> {
         self.encode_each(
-            fields.0, fields.1, fields.2, fields.3, fields.4, fields.5, fields.6, fields.7,
-            fields.8,
+            fields.0, fields.1, fields.2, fields.3, fields.4, fields.5, fields.6,
         )
     }
 }
@@ -139,8 +150,6 @@ impl<
     T6: Shaped,
     T7: Shaped,
     T8: Shaped,
-    T9: Shaped,
-    T10: Shaped,
 > Fields
     for (
         &'a T1,
@@ -151,12 +160,10 @@ impl<
         &'a T6,
         &'a T7,
         &'a T8,
-        &'a T9,
-        &'a T10,
     ) {
-    type Whole = (T1, T2, T3, T4, T5, T6, T7, T8, T9, T10);
+    type Whole = (T1, T2, T3, T4, T5, T6, T7, T8);
 
-    ghost whole = { λ f. (f.0.now, f.1.now, f.2.now, f.3.now, f.4.now, f.5.now, f.6.now, f.7.now, f.8.now, f.9.now) };
+    ghost whole = { λ f. (f.0.now, f.1.now, f.2.now, f.3.now, f.4.now, f.5.now, f.6.now, f.7.now) };
 
     fn told(&self) {
         self.0.told();
@@ -167,13 +174,11 @@ impl<
         self.5.told();
         self.6.told();
         self.7.told();
-        self.8.told();
-        self.9.told();
     }
 }
 
-/// As `Encoder`, for a tuple whose ten fields lie apart.
-pub trait FieldsEncoder10<
+/// As `Encoder`, for a tuple whose eight fields lie apart.
+pub trait FieldsEncoder8<
     T1: Shaped,
     T2: Shaped,
     T3: Shaped,
@@ -182,8 +187,6 @@ pub trait FieldsEncoder10<
     T6: Shaped,
     T7: Shaped,
     T8: Shaped,
-    T9: Shaped,
-    T10: Shaped,
 >: Buffer {
     fn encode_each(
         &mut self,
@@ -195,18 +198,16 @@ pub trait FieldsEncoder10<
         t6: &T6,
         t7: &T7,
         t8: &T8,
-        t9: &T9,
-        t10: &T10,
     ) -> Result<(), Error>
         requires { 0 < Self.room self.old }
-        ensures joined { OnOk result (JoinsListing ⟦<(T1, T2, T3, T4, T5, T6, T7, T8, T9, T10) as Shaped>⟧.lists ⟦<(T1, T2, T3, T4, T5, T6, T7, T8, T9, T10) as Shaped>⟧.shape (t1.now, t2.now, t3.now, t4.now, t5.now, t6.now, t7.now, t8.now, t9.now, t10.now) (Self.columns self.old) (Self.columns self.new)) }
+        ensures joined { OnOk result (JoinsListing ⟦<(T1, T2, T3, T4, T5, T6, T7, T8) as Shaped>⟧.lists ⟦<(T1, T2, T3, T4, T5, T6, T7, T8) as Shaped>⟧.shape (t1.now, t2.now, t3.now, t4.now, t5.now, t6.now, t7.now, t8.now) (Self.columns self.old) (Self.columns self.new)) }
         ensures room { OnOk result (Self.room self.old ≤ Self.room self.new + 1) }
         ensures form { emptied (Self.columns self.new) ≡ emptied (Self.columns self.old) }
-        ensures refused { IfErr result (λ e. IsWritingRefusal e.reason (PassesWithListing ⟦<(T1, T2, T3, T4, T5, T6, T7, T8, T9, T10) as Shaped>⟧.lists ⟦<(T1, T2, T3, T4, T5, T6, T7, T8, T9, T10) as Shaped>⟧.shape (t1.now, t2.now, t3.now, t4.now, t5.now, t6.now, t7.now, t8.now, t9.now, t10.now) (Self.columns self.old))) };
+        ensures refused { IfErr result (λ e. IsWritingRefusal e.reason (PassesWithListing ⟦<(T1, T2, T3, T4, T5, T6, T7, T8) as Shaped>⟧.lists ⟦<(T1, T2, T3, T4, T5, T6, T7, T8) as Shaped>⟧.shape (t1.now, t2.now, t3.now, t4.now, t5.now, t6.now, t7.now, t8.now) (Self.columns self.old))) };
 
-    ghost of_shape: { (e : Self) → emptied (Self.columns e) ≡ written_columns ⟦<(T1, T2, T3, T4, T5, T6, T7, T8, T9, T10) as Shaped>⟧.shape [] };
+    ghost of_shape: { (e : Self) → emptied (Self.columns e) ≡ written_columns ⟦<(T1, T2, T3, T4, T5, T6, T7, T8) as Shaped>⟧.shape [] };
 
-    ghost surely: { (e : Self) (n : ℕ) → Self.surely_passes e n → SurelyPasses ⟦<(T1, T2, T3, T4, T5, T6, T7, T8, T9, T10) as Shaped>⟧.shape (Self.columns e) n };
+    ghost surely: { (e : Self) (n : ℕ) → Self.surely_passes e n → SurelyPasses ⟦<(T1, T2, T3, T4, T5, T6, T7, T8) as Shaped>⟧.shape (Self.columns e) n };
 }
 
 impl<
@@ -219,9 +220,7 @@ impl<
     T6: Shaped,
     T7: Shaped,
     T8: Shaped,
-    T9: Shaped,
-    T10: Shaped,
-    E: FieldsEncoder10<T1, T2, T3, T4, T5, T6, T7, T8, T9, T10>,
+    E: FieldsEncoder8<T1, T2, T3, T4, T5, T6, T7, T8>,
 > FieldsEncoder<
     (
         &'a T1,
@@ -232,8 +231,6 @@ impl<
         &'a T6,
         &'a T7,
         &'a T8,
-        &'a T9,
-        &'a T10,
     ),
 > for E {
     fn encode_fields(
@@ -247,150 +244,10 @@ impl<
             &'a T6,
             &'a T7,
             &'a T8,
-            &'a T9,
-            &'a T10,
         ),
     ) -> Result<(), Error> {
         self.encode_each(
             fields.0, fields.1, fields.2, fields.3, fields.4, fields.5, fields.6, fields.7,
-            fields.8, fields.9,
-        )
-    }
-}
-
-impl<
-    'a,
-    T1: Shaped,
-    T2: Shaped,
-    T3: Shaped,
-    T4: Shaped,
-    T5: Shaped,
-    T6: Shaped,
-    T7: Shaped,
-    T8: Shaped,
-    T9: Shaped,
-    T10: Shaped,
-    T11: Shaped,
-> Fields
-    for (
-        &'a T1,
-        &'a T2,
-        &'a T3,
-        &'a T4,
-        &'a T5,
-        &'a T6,
-        &'a T7,
-        &'a T8,
-        &'a T9,
-        &'a T10,
-        &'a T11,
-    ) {
-    type Whole = (T1, T2, T3, T4, T5, T6, T7, T8, T9, T10, T11);
-
-    ghost whole = { λ f. (f.0.now, f.1.now, f.2.now, f.3.now, f.4.now, f.5.now, f.6.now, f.7.now, f.8.now, f.9.now, f.10.now) };
-
-    fn told(&self) {
-        self.0.told();
-        self.1.told();
-        self.2.told();
-        self.3.told();
-        self.4.told();
-        self.5.told();
-        self.6.told();
-        self.7.told();
-        self.8.told();
-        self.9.told();
-        self.10.told();
-    }
-}
-
-/// As `Encoder`, for a tuple whose eleven fields lie apart.
-pub trait FieldsEncoder11<
-    T1: Shaped,
-    T2: Shaped,
-    T3: Shaped,
-    T4: Shaped,
-    T5: Shaped,
-    T6: Shaped,
-    T7: Shaped,
-    T8: Shaped,
-    T9: Shaped,
-    T10: Shaped,
-    T11: Shaped,
->: Buffer {
-    fn encode_each(
-        &mut self,
-        t1: &T1,
-        t2: &T2,
-        t3: &T3,
-        t4: &T4,
-        t5: &T5,
-        t6: &T6,
-        t7: &T7,
-        t8: &T8,
-        t9: &T9,
-        t10: &T10,
-        t11: &T11,
-    ) -> Result<(), Error>
-        requires { 0 < Self.room self.old }
-        ensures joined { OnOk result (JoinsListing ⟦<(T1, T2, T3, T4, T5, T6, T7, T8, T9, T10, T11) as Shaped>⟧.lists ⟦<(T1, T2, T3, T4, T5, T6, T7, T8, T9, T10, T11) as Shaped>⟧.shape (t1.now, t2.now, t3.now, t4.now, t5.now, t6.now, t7.now, t8.now, t9.now, t10.now, t11.now) (Self.columns self.old) (Self.columns self.new)) }
-        ensures room { OnOk result (Self.room self.old ≤ Self.room self.new + 1) }
-        ensures form { emptied (Self.columns self.new) ≡ emptied (Self.columns self.old) }
-        ensures refused { IfErr result (λ e. IsWritingRefusal e.reason (PassesWithListing ⟦<(T1, T2, T3, T4, T5, T6, T7, T8, T9, T10, T11) as Shaped>⟧.lists ⟦<(T1, T2, T3, T4, T5, T6, T7, T8, T9, T10, T11) as Shaped>⟧.shape (t1.now, t2.now, t3.now, t4.now, t5.now, t6.now, t7.now, t8.now, t9.now, t10.now, t11.now) (Self.columns self.old))) };
-
-    ghost of_shape: { (e : Self) → emptied (Self.columns e) ≡ written_columns ⟦<(T1, T2, T3, T4, T5, T6, T7, T8, T9, T10, T11) as Shaped>⟧.shape [] };
-
-    ghost surely: { (e : Self) (n : ℕ) → Self.surely_passes e n → SurelyPasses ⟦<(T1, T2, T3, T4, T5, T6, T7, T8, T9, T10, T11) as Shaped>⟧.shape (Self.columns e) n };
-}
-
-impl<
-    'a,
-    T1: Shaped,
-    T2: Shaped,
-    T3: Shaped,
-    T4: Shaped,
-    T5: Shaped,
-    T6: Shaped,
-    T7: Shaped,
-    T8: Shaped,
-    T9: Shaped,
-    T10: Shaped,
-    T11: Shaped,
-    E: FieldsEncoder11<T1, T2, T3, T4, T5, T6, T7, T8, T9, T10, T11>,
-> FieldsEncoder<
-    (
-        &'a T1,
-        &'a T2,
-        &'a T3,
-        &'a T4,
-        &'a T5,
-        &'a T6,
-        &'a T7,
-        &'a T8,
-        &'a T9,
-        &'a T10,
-        &'a T11,
-    ),
-> for E {
-    fn encode_fields(
-        &mut self,
-        fields: &(
-            &'a T1,
-            &'a T2,
-            &'a T3,
-            &'a T4,
-            &'a T5,
-            &'a T6,
-            &'a T7,
-            &'a T8,
-            &'a T9,
-            &'a T10,
-            &'a T11,
-        ),
-    ) -> Result<(), Error> {
-        self.encode_each(
-            fields.0, fields.1, fields.2, fields.3, fields.4, fields.5, fields.6, fields.7,
-            fields.8, fields.9, fields.10,
         )
     }
 }

@@ -27,15 +27,15 @@ impl<A: DecodeOwned, B: DecodeOwned, C: DecodeOwned> DecodeOwned for (A, B, C) {
 
 impl<A: Encode, B: Encode, C: Encode, D: Encode> Encode for (A, B, C, D) {
     type Encoder = TupleEncoder<
-        A::Encoder,
-        TupleEncoder<B::Encoder, TupleEncoder<C::Encoder, D::Encoder>>,
+        TupleEncoder<A::Encoder, B::Encoder>,
+        TupleEncoder<C::Encoder, D::Encoder>,
     >;
 }
 
 impl<'a, A: Decode<'a>, B: Decode<'a>, C: Decode<'a>, D: Decode<'a>> Decode<'a> for (A, B, C, D) {
     type Decoder = TupleDecoder<
-        A::Decoder,
-        TupleDecoder<B::Decoder, TupleDecoder<C::Decoder, D::Decoder>>,
+        TupleDecoder<A::Decoder, B::Decoder>,
+        TupleDecoder<C::Decoder, D::Decoder>,
     >;
 }
 
@@ -43,16 +43,16 @@ impl<A: DecodeOwned, B: DecodeOwned, C: DecodeOwned, D: DecodeOwned> DecodeOwned
 
 impl<A: Encode, B: Encode, C: Encode, D: Encode, E: Encode> Encode for (A, B, C, D, E) {
     type Encoder = TupleEncoder<
-        A::Encoder,
-        TupleEncoder<B::Encoder, TupleEncoder<C::Encoder, TupleEncoder<D::Encoder, E::Encoder>>>,
+        TupleEncoder<A::Encoder, B::Encoder>,
+        TupleEncoder<C::Encoder, TupleEncoder<D::Encoder, E::Encoder>>,
     >;
 }
 
 impl<'a, A: Decode<'a>, B: Decode<'a>, C: Decode<'a>, D: Decode<'a>, E: Decode<'a>> Decode<'a>
     for (A, B, C, D, E) {
     type Decoder = TupleDecoder<
-        A::Decoder,
-        TupleDecoder<B::Decoder, TupleDecoder<C::Decoder, TupleDecoder<D::Decoder, E::Decoder>>>,
+        TupleDecoder<A::Decoder, B::Decoder>,
+        TupleDecoder<C::Decoder, TupleDecoder<D::Decoder, E::Decoder>>,
     >;
 }
 
@@ -62,14 +62,8 @@ impl<A: DecodeOwned, B: DecodeOwned, C: DecodeOwned, D: DecodeOwned, E: DecodeOw
 impl<A: Encode, B: Encode, C: Encode, D: Encode, E: Encode, F: Encode> Encode
     for (A, B, C, D, E, F) {
     type Encoder = TupleEncoder<
-        A::Encoder,
-        TupleEncoder<
-            B::Encoder,
-            TupleEncoder<
-                C::Encoder,
-                TupleEncoder<D::Encoder, TupleEncoder<E::Encoder, F::Encoder>>,
-            >,
-        >,
+        TupleEncoder<A::Encoder, TupleEncoder<B::Encoder, C::Encoder>>,
+        TupleEncoder<D::Encoder, TupleEncoder<E::Encoder, F::Encoder>>,
     >;
 }
 
@@ -83,14 +77,8 @@ impl<
     F: Decode<'a>,
 > Decode<'a> for (A, B, C, D, E, F) {
     type Decoder = TupleDecoder<
-        A::Decoder,
-        TupleDecoder<
-            B::Decoder,
-            TupleDecoder<
-                C::Decoder,
-                TupleDecoder<D::Decoder, TupleDecoder<E::Decoder, F::Decoder>>,
-            >,
-        >,
+        TupleDecoder<A::Decoder, TupleDecoder<B::Decoder, C::Decoder>>,
+        TupleDecoder<D::Decoder, TupleDecoder<E::Decoder, F::Decoder>>,
     >;
 }
 
@@ -106,17 +94,8 @@ impl<
 impl<A: Encode, B: Encode, C: Encode, D: Encode, E: Encode, F: Encode, G: Encode> Encode
     for (A, B, C, D, E, F, G) {
     type Encoder = TupleEncoder<
-        A::Encoder,
-        TupleEncoder<
-            B::Encoder,
-            TupleEncoder<
-                C::Encoder,
-                TupleEncoder<
-                    D::Encoder,
-                    TupleEncoder<E::Encoder, TupleEncoder<F::Encoder, G::Encoder>>,
-                >,
-            >,
-        >,
+        TupleEncoder<A::Encoder, TupleEncoder<B::Encoder, C::Encoder>>,
+        TupleEncoder<TupleEncoder<D::Encoder, E::Encoder>, TupleEncoder<F::Encoder, G::Encoder>>,
     >;
 }
 
@@ -131,17 +110,8 @@ impl<
     G: Decode<'a>,
 > Decode<'a> for (A, B, C, D, E, F, G) {
     type Decoder = TupleDecoder<
-        A::Decoder,
-        TupleDecoder<
-            B::Decoder,
-            TupleDecoder<
-                C::Decoder,
-                TupleDecoder<
-                    D::Decoder,
-                    TupleDecoder<E::Decoder, TupleDecoder<F::Decoder, G::Decoder>>,
-                >,
-            >,
-        >,
+        TupleDecoder<A::Decoder, TupleDecoder<B::Decoder, C::Decoder>>,
+        TupleDecoder<TupleDecoder<D::Decoder, E::Decoder>, TupleDecoder<F::Decoder, G::Decoder>>,
     >;
 }
 
@@ -158,20 +128,8 @@ impl<
 impl<A: Encode, B: Encode, C: Encode, D: Encode, E: Encode, F: Encode, G: Encode, H: Encode> Encode
     for (A, B, C, D, E, F, G, H) {
     type Encoder = TupleEncoder<
-        A::Encoder,
-        TupleEncoder<
-            B::Encoder,
-            TupleEncoder<
-                C::Encoder,
-                TupleEncoder<
-                    D::Encoder,
-                    TupleEncoder<
-                        E::Encoder,
-                        TupleEncoder<F::Encoder, TupleEncoder<G::Encoder, H::Encoder>>,
-                    >,
-                >,
-            >,
-        >,
+        TupleEncoder<TupleEncoder<A::Encoder, B::Encoder>, TupleEncoder<C::Encoder, D::Encoder>>,
+        TupleEncoder<TupleEncoder<E::Encoder, F::Encoder>, TupleEncoder<G::Encoder, H::Encoder>>,
     >;
 }
 
@@ -187,20 +145,8 @@ impl<
     H: Decode<'a>,
 > Decode<'a> for (A, B, C, D, E, F, G, H) {
     type Decoder = TupleDecoder<
-        A::Decoder,
-        TupleDecoder<
-            B::Decoder,
-            TupleDecoder<
-                C::Decoder,
-                TupleDecoder<
-                    D::Decoder,
-                    TupleDecoder<
-                        E::Decoder,
-                        TupleDecoder<F::Decoder, TupleDecoder<G::Decoder, H::Decoder>>,
-                    >,
-                >,
-            >,
-        >,
+        TupleDecoder<TupleDecoder<A::Decoder, B::Decoder>, TupleDecoder<C::Decoder, D::Decoder>>,
+        TupleDecoder<TupleDecoder<E::Decoder, F::Decoder>, TupleDecoder<G::Decoder, H::Decoder>>,
     >;
 }
 

@@ -20,39 +20,18 @@ impl<
     N: Encode,
 > Encode for (A, B, C, D, E, F, G, H, I, J, K, L, M, N) {
     type Encoder = TupleEncoder<
-        A::Encoder,
         TupleEncoder<
-            B::Encoder,
+            TupleEncoder<A::Encoder, TupleEncoder<B::Encoder, C::Encoder>>,
             TupleEncoder<
-                C::Encoder,
-                TupleEncoder<
-                    D::Encoder,
-                    TupleEncoder<
-                        E::Encoder,
-                        TupleEncoder<
-                            F::Encoder,
-                            TupleEncoder<
-                                G::Encoder,
-                                TupleEncoder<
-                                    H::Encoder,
-                                    TupleEncoder<
-                                        I::Encoder,
-                                        TupleEncoder<
-                                            J::Encoder,
-                                            TupleEncoder<
-                                                K::Encoder,
-                                                TupleEncoder<
-                                                    L::Encoder,
-                                                    TupleEncoder<M::Encoder, N::Encoder>,
-                                                >,
-                                            >,
-                                        >,
-                                    >,
-                                >,
-                            >,
-                        >,
-                    >,
-                >,
+                TupleEncoder<D::Encoder, E::Encoder>,
+                TupleEncoder<F::Encoder, G::Encoder>,
+            >,
+        >,
+        TupleEncoder<
+            TupleEncoder<H::Encoder, TupleEncoder<I::Encoder, J::Encoder>>,
+            TupleEncoder<
+                TupleEncoder<K::Encoder, L::Encoder>,
+                TupleEncoder<M::Encoder, N::Encoder>,
             >,
         >,
     >;
@@ -76,39 +55,18 @@ impl<
     N: Decode<'a>,
 > Decode<'a> for (A, B, C, D, E, F, G, H, I, J, K, L, M, N) {
     type Decoder = TupleDecoder<
-        A::Decoder,
         TupleDecoder<
-            B::Decoder,
+            TupleDecoder<A::Decoder, TupleDecoder<B::Decoder, C::Decoder>>,
             TupleDecoder<
-                C::Decoder,
-                TupleDecoder<
-                    D::Decoder,
-                    TupleDecoder<
-                        E::Decoder,
-                        TupleDecoder<
-                            F::Decoder,
-                            TupleDecoder<
-                                G::Decoder,
-                                TupleDecoder<
-                                    H::Decoder,
-                                    TupleDecoder<
-                                        I::Decoder,
-                                        TupleDecoder<
-                                            J::Decoder,
-                                            TupleDecoder<
-                                                K::Decoder,
-                                                TupleDecoder<
-                                                    L::Decoder,
-                                                    TupleDecoder<M::Decoder, N::Decoder>,
-                                                >,
-                                            >,
-                                        >,
-                                    >,
-                                >,
-                            >,
-                        >,
-                    >,
-                >,
+                TupleDecoder<D::Decoder, E::Decoder>,
+                TupleDecoder<F::Decoder, G::Decoder>,
+            >,
+        >,
+        TupleDecoder<
+            TupleDecoder<H::Decoder, TupleDecoder<I::Decoder, J::Decoder>>,
+            TupleDecoder<
+                TupleDecoder<K::Decoder, L::Decoder>,
+                TupleDecoder<M::Decoder, N::Decoder>,
             >,
         >,
     >;
@@ -149,42 +107,21 @@ impl<
     O: Encode,
 > Encode for (A, B, C, D, E, F, G, H, I, J, K, L, M, N, O) {
     type Encoder = TupleEncoder<
-        A::Encoder,
         TupleEncoder<
-            B::Encoder,
+            TupleEncoder<A::Encoder, TupleEncoder<B::Encoder, C::Encoder>>,
             TupleEncoder<
-                C::Encoder,
-                TupleEncoder<
-                    D::Encoder,
-                    TupleEncoder<
-                        E::Encoder,
-                        TupleEncoder<
-                            F::Encoder,
-                            TupleEncoder<
-                                G::Encoder,
-                                TupleEncoder<
-                                    H::Encoder,
-                                    TupleEncoder<
-                                        I::Encoder,
-                                        TupleEncoder<
-                                            J::Encoder,
-                                            TupleEncoder<
-                                                K::Encoder,
-                                                TupleEncoder<
-                                                    L::Encoder,
-                                                    TupleEncoder<
-                                                        M::Encoder,
-                                                        TupleEncoder<N::Encoder, O::Encoder>,
-                                                    >,
-                                                >,
-                                            >,
-                                        >,
-                                    >,
-                                >,
-                            >,
-                        >,
-                    >,
-                >,
+                TupleEncoder<D::Encoder, E::Encoder>,
+                TupleEncoder<F::Encoder, G::Encoder>,
+            >,
+        >,
+        TupleEncoder<
+            TupleEncoder<
+                TupleEncoder<H::Encoder, I::Encoder>,
+                TupleEncoder<J::Encoder, K::Encoder>,
+            >,
+            TupleEncoder<
+                TupleEncoder<L::Encoder, M::Encoder>,
+                TupleEncoder<N::Encoder, O::Encoder>,
             >,
         >,
     >;
@@ -209,42 +146,21 @@ impl<
     O: Decode<'a>,
 > Decode<'a> for (A, B, C, D, E, F, G, H, I, J, K, L, M, N, O) {
     type Decoder = TupleDecoder<
-        A::Decoder,
         TupleDecoder<
-            B::Decoder,
+            TupleDecoder<A::Decoder, TupleDecoder<B::Decoder, C::Decoder>>,
             TupleDecoder<
-                C::Decoder,
-                TupleDecoder<
-                    D::Decoder,
-                    TupleDecoder<
-                        E::Decoder,
-                        TupleDecoder<
-                            F::Decoder,
-                            TupleDecoder<
-                                G::Decoder,
-                                TupleDecoder<
-                                    H::Decoder,
-                                    TupleDecoder<
-                                        I::Decoder,
-                                        TupleDecoder<
-                                            J::Decoder,
-                                            TupleDecoder<
-                                                K::Decoder,
-                                                TupleDecoder<
-                                                    L::Decoder,
-                                                    TupleDecoder<
-                                                        M::Decoder,
-                                                        TupleDecoder<N::Decoder, O::Decoder>,
-                                                    >,
-                                                >,
-                                            >,
-                                        >,
-                                    >,
-                                >,
-                            >,
-                        >,
-                    >,
-                >,
+                TupleDecoder<D::Decoder, E::Decoder>,
+                TupleDecoder<F::Decoder, G::Decoder>,
+            >,
+        >,
+        TupleDecoder<
+            TupleDecoder<
+                TupleDecoder<H::Decoder, I::Decoder>,
+                TupleDecoder<J::Decoder, K::Decoder>,
+            >,
+            TupleDecoder<
+                TupleDecoder<L::Decoder, M::Decoder>,
+                TupleDecoder<N::Decoder, O::Decoder>,
             >,
         >,
     >;
@@ -287,45 +203,24 @@ impl<
     P: Encode,
 > Encode for (A, B, C, D, E, F, G, H, I, J, K, L, M, N, O, P) {
     type Encoder = TupleEncoder<
-        A::Encoder,
         TupleEncoder<
-            B::Encoder,
             TupleEncoder<
-                C::Encoder,
-                TupleEncoder<
-                    D::Encoder,
-                    TupleEncoder<
-                        E::Encoder,
-                        TupleEncoder<
-                            F::Encoder,
-                            TupleEncoder<
-                                G::Encoder,
-                                TupleEncoder<
-                                    H::Encoder,
-                                    TupleEncoder<
-                                        I::Encoder,
-                                        TupleEncoder<
-                                            J::Encoder,
-                                            TupleEncoder<
-                                                K::Encoder,
-                                                TupleEncoder<
-                                                    L::Encoder,
-                                                    TupleEncoder<
-                                                        M::Encoder,
-                                                        TupleEncoder<
-                                                            N::Encoder,
-                                                            TupleEncoder<O::Encoder, P::Encoder>,
-                                                        >,
-                                                    >,
-                                                >,
-                                            >,
-                                        >,
-                                    >,
-                                >,
-                            >,
-                        >,
-                    >,
-                >,
+                TupleEncoder<A::Encoder, B::Encoder>,
+                TupleEncoder<C::Encoder, D::Encoder>,
+            >,
+            TupleEncoder<
+                TupleEncoder<E::Encoder, F::Encoder>,
+                TupleEncoder<G::Encoder, H::Encoder>,
+            >,
+        >,
+        TupleEncoder<
+            TupleEncoder<
+                TupleEncoder<I::Encoder, J::Encoder>,
+                TupleEncoder<K::Encoder, L::Encoder>,
+            >,
+            TupleEncoder<
+                TupleEncoder<M::Encoder, N::Encoder>,
+                TupleEncoder<O::Encoder, P::Encoder>,
             >,
         >,
     >;
@@ -351,45 +246,24 @@ impl<
     P: Decode<'a>,
 > Decode<'a> for (A, B, C, D, E, F, G, H, I, J, K, L, M, N, O, P) {
     type Decoder = TupleDecoder<
-        A::Decoder,
         TupleDecoder<
-            B::Decoder,
             TupleDecoder<
-                C::Decoder,
-                TupleDecoder<
-                    D::Decoder,
-                    TupleDecoder<
-                        E::Decoder,
-                        TupleDecoder<
-                            F::Decoder,
-                            TupleDecoder<
-                                G::Decoder,
-                                TupleDecoder<
-                                    H::Decoder,
-                                    TupleDecoder<
-                                        I::Decoder,
-                                        TupleDecoder<
-                                            J::Decoder,
-                                            TupleDecoder<
-                                                K::Decoder,
-                                                TupleDecoder<
-                                                    L::Decoder,
-                                                    TupleDecoder<
-                                                        M::Decoder,
-                                                        TupleDecoder<
-                                                            N::Decoder,
-                                                            TupleDecoder<O::Decoder, P::Decoder>,
-                                                        >,
-                                                    >,
-                                                >,
-                                            >,
-                                        >,
-                                    >,
-                                >,
-                            >,
-                        >,
-                    >,
-                >,
+                TupleDecoder<A::Decoder, B::Decoder>,
+                TupleDecoder<C::Decoder, D::Decoder>,
+            >,
+            TupleDecoder<
+                TupleDecoder<E::Decoder, F::Decoder>,
+                TupleDecoder<G::Decoder, H::Decoder>,
+            >,
+        >,
+        TupleDecoder<
+            TupleDecoder<
+                TupleDecoder<I::Decoder, J::Decoder>,
+                TupleDecoder<K::Decoder, L::Decoder>,
+            >,
+            TupleDecoder<
+                TupleDecoder<M::Decoder, N::Decoder>,
+                TupleDecoder<O::Decoder, P::Decoder>,
             >,
         >,
     >;

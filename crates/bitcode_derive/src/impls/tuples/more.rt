@@ -18,34 +18,13 @@ impl<
     L: Encode,
 > Encode for (A, B, C, D, E, F, G, H, I, J, K, L) {
     type Encoder = TupleEncoder<
-        A::Encoder,
         TupleEncoder<
-            B::Encoder,
-            TupleEncoder<
-                C::Encoder,
-                TupleEncoder<
-                    D::Encoder,
-                    TupleEncoder<
-                        E::Encoder,
-                        TupleEncoder<
-                            F::Encoder,
-                            TupleEncoder<
-                                G::Encoder,
-                                TupleEncoder<
-                                    H::Encoder,
-                                    TupleEncoder<
-                                        I::Encoder,
-                                        TupleEncoder<
-                                            J::Encoder,
-                                            TupleEncoder<K::Encoder, L::Encoder>,
-                                        >,
-                                    >,
-                                >,
-                            >,
-                        >,
-                    >,
-                >,
-            >,
+            TupleEncoder<A::Encoder, TupleEncoder<B::Encoder, C::Encoder>>,
+            TupleEncoder<D::Encoder, TupleEncoder<E::Encoder, F::Encoder>>,
+        >,
+        TupleEncoder<
+            TupleEncoder<G::Encoder, TupleEncoder<H::Encoder, I::Encoder>>,
+            TupleEncoder<J::Encoder, TupleEncoder<K::Encoder, L::Encoder>>,
         >,
     >;
 }
@@ -66,34 +45,13 @@ impl<
     L: Decode<'a>,
 > Decode<'a> for (A, B, C, D, E, F, G, H, I, J, K, L) {
     type Decoder = TupleDecoder<
-        A::Decoder,
         TupleDecoder<
-            B::Decoder,
-            TupleDecoder<
-                C::Decoder,
-                TupleDecoder<
-                    D::Decoder,
-                    TupleDecoder<
-                        E::Decoder,
-                        TupleDecoder<
-                            F::Decoder,
-                            TupleDecoder<
-                                G::Decoder,
-                                TupleDecoder<
-                                    H::Decoder,
-                                    TupleDecoder<
-                                        I::Decoder,
-                                        TupleDecoder<
-                                            J::Decoder,
-                                            TupleDecoder<K::Decoder, L::Decoder>,
-                                        >,
-                                    >,
-                                >,
-                            >,
-                        >,
-                    >,
-                >,
-            >,
+            TupleDecoder<A::Decoder, TupleDecoder<B::Decoder, C::Decoder>>,
+            TupleDecoder<D::Decoder, TupleDecoder<E::Decoder, F::Decoder>>,
+        >,
+        TupleDecoder<
+            TupleDecoder<G::Decoder, TupleDecoder<H::Decoder, I::Decoder>>,
+            TupleDecoder<J::Decoder, TupleDecoder<K::Decoder, L::Decoder>>,
         >,
     >;
 }
@@ -129,36 +87,15 @@ impl<
     M: Encode,
 > Encode for (A, B, C, D, E, F, G, H, I, J, K, L, M) {
     type Encoder = TupleEncoder<
-        A::Encoder,
         TupleEncoder<
-            B::Encoder,
+            TupleEncoder<A::Encoder, TupleEncoder<B::Encoder, C::Encoder>>,
+            TupleEncoder<D::Encoder, TupleEncoder<E::Encoder, F::Encoder>>,
+        >,
+        TupleEncoder<
+            TupleEncoder<G::Encoder, TupleEncoder<H::Encoder, I::Encoder>>,
             TupleEncoder<
-                C::Encoder,
-                TupleEncoder<
-                    D::Encoder,
-                    TupleEncoder<
-                        E::Encoder,
-                        TupleEncoder<
-                            F::Encoder,
-                            TupleEncoder<
-                                G::Encoder,
-                                TupleEncoder<
-                                    H::Encoder,
-                                    TupleEncoder<
-                                        I::Encoder,
-                                        TupleEncoder<
-                                            J::Encoder,
-                                            TupleEncoder<
-                                                K::Encoder,
-                                                TupleEncoder<L::Encoder, M::Encoder>,
-                                            >,
-                                        >,
-                                    >,
-                                >,
-                            >,
-                        >,
-                    >,
-                >,
+                TupleEncoder<J::Encoder, K::Encoder>,
+                TupleEncoder<L::Encoder, M::Encoder>,
             >,
         >,
     >;
@@ -181,36 +118,15 @@ impl<
     M: Decode<'a>,
 > Decode<'a> for (A, B, C, D, E, F, G, H, I, J, K, L, M) {
     type Decoder = TupleDecoder<
-        A::Decoder,
         TupleDecoder<
-            B::Decoder,
+            TupleDecoder<A::Decoder, TupleDecoder<B::Decoder, C::Decoder>>,
+            TupleDecoder<D::Decoder, TupleDecoder<E::Decoder, F::Decoder>>,
+        >,
+        TupleDecoder<
+            TupleDecoder<G::Decoder, TupleDecoder<H::Decoder, I::Decoder>>,
             TupleDecoder<
-                C::Decoder,
-                TupleDecoder<
-                    D::Decoder,
-                    TupleDecoder<
-                        E::Decoder,
-                        TupleDecoder<
-                            F::Decoder,
-                            TupleDecoder<
-                                G::Decoder,
-                                TupleDecoder<
-                                    H::Decoder,
-                                    TupleDecoder<
-                                        I::Decoder,
-                                        TupleDecoder<
-                                            J::Decoder,
-                                            TupleDecoder<
-                                                K::Decoder,
-                                                TupleDecoder<L::Decoder, M::Decoder>,
-                                            >,
-                                        >,
-                                    >,
-                                >,
-                            >,
-                        >,
-                    >,
-                >,
+                TupleDecoder<J::Decoder, K::Decoder>,
+                TupleDecoder<L::Decoder, M::Decoder>,
             >,
         >,
     >;

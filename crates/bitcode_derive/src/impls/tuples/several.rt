@@ -15,22 +15,10 @@ impl<
     I: Encode,
 > Encode for (A, B, C, D, E, F, G, H, I) {
     type Encoder = TupleEncoder<
-        A::Encoder,
+        TupleEncoder<TupleEncoder<A::Encoder, B::Encoder>, TupleEncoder<C::Encoder, D::Encoder>>,
         TupleEncoder<
-            B::Encoder,
-            TupleEncoder<
-                C::Encoder,
-                TupleEncoder<
-                    D::Encoder,
-                    TupleEncoder<
-                        E::Encoder,
-                        TupleEncoder<
-                            F::Encoder,
-                            TupleEncoder<G::Encoder, TupleEncoder<H::Encoder, I::Encoder>>,
-                        >,
-                    >,
-                >,
-            >,
+            TupleEncoder<E::Encoder, F::Encoder>,
+            TupleEncoder<G::Encoder, TupleEncoder<H::Encoder, I::Encoder>>,
         >,
     >;
 }
@@ -48,22 +36,10 @@ impl<
     I: Decode<'a>,
 > Decode<'a> for (A, B, C, D, E, F, G, H, I) {
     type Decoder = TupleDecoder<
-        A::Decoder,
+        TupleDecoder<TupleDecoder<A::Decoder, B::Decoder>, TupleDecoder<C::Decoder, D::Decoder>>,
         TupleDecoder<
-            B::Decoder,
-            TupleDecoder<
-                C::Decoder,
-                TupleDecoder<
-                    D::Decoder,
-                    TupleDecoder<
-                        E::Decoder,
-                        TupleDecoder<
-                            F::Decoder,
-                            TupleDecoder<G::Decoder, TupleDecoder<H::Decoder, I::Decoder>>,
-                        >,
-                    >,
-                >,
-            >,
+            TupleDecoder<E::Decoder, F::Decoder>,
+            TupleDecoder<G::Decoder, TupleDecoder<H::Decoder, I::Decoder>>,
         >,
     >;
 }
@@ -93,25 +69,13 @@ impl<
     J: Encode,
 > Encode for (A, B, C, D, E, F, G, H, I, J) {
     type Encoder = TupleEncoder<
-        A::Encoder,
         TupleEncoder<
-            B::Encoder,
-            TupleEncoder<
-                C::Encoder,
-                TupleEncoder<
-                    D::Encoder,
-                    TupleEncoder<
-                        E::Encoder,
-                        TupleEncoder<
-                            F::Encoder,
-                            TupleEncoder<
-                                G::Encoder,
-                                TupleEncoder<H::Encoder, TupleEncoder<I::Encoder, J::Encoder>>,
-                            >,
-                        >,
-                    >,
-                >,
-            >,
+            TupleEncoder<A::Encoder, B::Encoder>,
+            TupleEncoder<C::Encoder, TupleEncoder<D::Encoder, E::Encoder>>,
+        >,
+        TupleEncoder<
+            TupleEncoder<F::Encoder, G::Encoder>,
+            TupleEncoder<H::Encoder, TupleEncoder<I::Encoder, J::Encoder>>,
         >,
     >;
 }
@@ -130,25 +94,13 @@ impl<
     J: Decode<'a>,
 > Decode<'a> for (A, B, C, D, E, F, G, H, I, J) {
     type Decoder = TupleDecoder<
-        A::Decoder,
         TupleDecoder<
-            B::Decoder,
-            TupleDecoder<
-                C::Decoder,
-                TupleDecoder<
-                    D::Decoder,
-                    TupleDecoder<
-                        E::Decoder,
-                        TupleDecoder<
-                            F::Decoder,
-                            TupleDecoder<
-                                G::Decoder,
-                                TupleDecoder<H::Decoder, TupleDecoder<I::Decoder, J::Decoder>>,
-                            >,
-                        >,
-                    >,
-                >,
-            >,
+            TupleDecoder<A::Decoder, B::Decoder>,
+            TupleDecoder<C::Decoder, TupleDecoder<D::Decoder, E::Decoder>>,
+        >,
+        TupleDecoder<
+            TupleDecoder<F::Decoder, G::Decoder>,
+            TupleDecoder<H::Decoder, TupleDecoder<I::Decoder, J::Decoder>>,
         >,
     >;
 }
@@ -180,28 +132,13 @@ impl<
     K: Encode,
 > Encode for (A, B, C, D, E, F, G, H, I, J, K) {
     type Encoder = TupleEncoder<
-        A::Encoder,
         TupleEncoder<
-            B::Encoder,
-            TupleEncoder<
-                C::Encoder,
-                TupleEncoder<
-                    D::Encoder,
-                    TupleEncoder<
-                        E::Encoder,
-                        TupleEncoder<
-                            F::Encoder,
-                            TupleEncoder<
-                                G::Encoder,
-                                TupleEncoder<
-                                    H::Encoder,
-                                    TupleEncoder<I::Encoder, TupleEncoder<J::Encoder, K::Encoder>>,
-                                >,
-                            >,
-                        >,
-                    >,
-                >,
-            >,
+            TupleEncoder<A::Encoder, B::Encoder>,
+            TupleEncoder<C::Encoder, TupleEncoder<D::Encoder, E::Encoder>>,
+        >,
+        TupleEncoder<
+            TupleEncoder<F::Encoder, TupleEncoder<G::Encoder, H::Encoder>>,
+            TupleEncoder<I::Encoder, TupleEncoder<J::Encoder, K::Encoder>>,
         >,
     >;
 }
@@ -221,28 +158,13 @@ impl<
     K: Decode<'a>,
 > Decode<'a> for (A, B, C, D, E, F, G, H, I, J, K) {
     type Decoder = TupleDecoder<
-        A::Decoder,
         TupleDecoder<
-            B::Decoder,
-            TupleDecoder<
-                C::Decoder,
-                TupleDecoder<
-                    D::Decoder,
-                    TupleDecoder<
-                        E::Decoder,
-                        TupleDecoder<
-                            F::Decoder,
-                            TupleDecoder<
-                                G::Decoder,
-                                TupleDecoder<
-                                    H::Decoder,
-                                    TupleDecoder<I::Decoder, TupleDecoder<J::Decoder, K::Decoder>>,
-                                >,
-                            >,
-                        >,
-                    >,
-                >,
-            >,
+            TupleDecoder<A::Decoder, B::Decoder>,
+            TupleDecoder<C::Decoder, TupleDecoder<D::Decoder, E::Decoder>>,
+        >,
+        TupleDecoder<
+            TupleDecoder<F::Decoder, TupleDecoder<G::Decoder, H::Decoder>>,
+            TupleDecoder<I::Decoder, TupleDecoder<J::Decoder, K::Decoder>>,
         >,
     >;
 }
