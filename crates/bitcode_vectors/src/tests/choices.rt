@@ -112,6 +112,6 @@ fn enums(rt: HostRuntime) -> Result<(), Got> {
         list.push(One::A(a))?;
     }
     both_ways(alloc, list, &[5, 0, 5, 9, 14, 0, 16])?;
-    both_ways::<Option<Never>>(alloc, None, &[0])?;
+    encodes::<Option<Never>>(alloc, &None, &[0])?;
     refuses::<Option<Never>>(alloc, &[1], Reason::InvalidEnumVariant)
 }
