@@ -3,7 +3,7 @@ use crate::rows::{Got, decodes, encodes, refuses};
 use crate::types::never::Never;
 use crate::types::one::One;
 use crate::types::two::Two;
-use bitcode::Reason;
+use bitcode::{Reason, decode};
 use std::alloc::Global;
 
 /// The variants of all options stand together, and then the values of those that have one.
@@ -48,6 +48,15 @@ pub fn one_variant_and_none(alloc: Global) -> Result<(), Got> {
     encodes(alloc, &One::A(7), &[7])?;
     decodes(alloc, &[7], One::A(7))?;
     refuses::<Never>(alloc, &[], Reason::InvalidEnumVariant)?;
-    decodes::<Vec<Never>>(alloc, &[0], Vec::new(alloc))?;
+    reads_no_values(alloc, &[0])?;
     refuses::<Vec<Never>>(alloc, &[1], Reason::InvalidEnumVariant)
+}
+
+/// The bytes are read as a list of no values.
+fn reads_no_values(alloc: Global, bytes: &[u8]) -> Result<(), Got> {
+    match decode::<Vec<Never>>(alloc, bytes) {
+        Ok(list) if list.is_empty() => Ok(()),
+        Ok(_) => Err(Got::AnotherValue),
+        Err(error) => Err(Got::Refused(error)),
+    }
 }

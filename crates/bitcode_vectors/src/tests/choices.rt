@@ -4,7 +4,7 @@ use crate::types::foo::Foo;
 use crate::types::never::Never;
 use crate::types::one::One;
 use crate::types::two::Two;
-use bitcode::{Decode, Encode, Reason};
+use bitcode::{Decode, DecodeOwned, Encode, Reason};
 use std::alloc::Global;
 
 /// The value is written as these bytes, and the bytes are read as the value.
@@ -112,6 +112,18 @@ fn enums(rt: HostRuntime) -> Result<(), Got> {
         list.push(One::A(a))?;
     }
     both_ways(alloc, list, &[5, 0, 5, 9, 14, 0, 16])?;
-    both_ways::<Option<Never>>(alloc, None, &[0])?;
+    encodes::<Option<Never>>(alloc, &None, &[0])?;
     refuses::<Option<Never>>(alloc, &[1], Reason::InvalidEnumVariant)
+}
+
+/// Takes a type whose values borrow nothing.
+fn is_owned<T: DecodeOwned>() {}
+
+#[test]
+fn choices_are_owned() {
+    is_owned::<Option<u8>>();
+    is_owned::<Result<u8, bool>>();
+    is_owned::<Two>();
+    is_owned::<One>();
+    is_owned::<Never>();
 }

@@ -14,7 +14,7 @@ use bitcode::{
 use std::alloc::Global;
 
 /// There is no value.
-#[derive(Debug, Clone, Copy, PartialEq)]
+#[derive(Clone, Copy)]
 pub enum Never {}
 
 impl NoVariants for Never {
