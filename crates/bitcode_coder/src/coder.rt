@@ -15,7 +15,7 @@ use std::alloc::Global;
 /// Columns that grow, value by value.
 ///
 /// After a refusal only [`Buffer::clear`] may follow: it gives the columns back empty.
-pub trait Buffer: Drop {
+pub trait Buffer {
     // the columns so far
     ghost columns: { Self → Columns };
 
@@ -76,7 +76,7 @@ pub trait Encoder<T: Shaped>: Buffer {
 /// Data that are read from an input.
 ///
 /// After a refusal only [`View::populate`] may follow.
-pub trait View<'a>: Drop {
+pub trait View<'a> {
     ghost shape: { Shape };
 
     // the data that are left to take

@@ -13,7 +13,7 @@ use bitcode_shapes::shaped::{Made, Shaped};
 /// ```
 pub trait Encode: Shaped {
     /// The columns that values are written to.
-    type Encoder: Encoder<Self>;
+    type Encoder: Encoder<Self> + Drop;
 }
 
 /// A type whose values are read from an input that outlives `'a`.
@@ -25,7 +25,7 @@ pub trait Encode: Shaped {
 /// ```
 pub trait Decode<'a>: Made + Drop {
     /// The data that values are made of.
-    type Decoder: Decoder<'a, Self>;
+    type Decoder: Decoder<'a, Self> + Drop;
 }
 
 /// A type whose values borrow nothing from the input that they are read from.
