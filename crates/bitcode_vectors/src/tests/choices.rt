@@ -42,6 +42,25 @@ fn lists_of_options(rt: HostRuntime) -> Result<(), Got> {
 }
 
 #[test]
+fn lists_of_options_in_pairs(rt: HostRuntime) -> Result<(), Got> {
+    let alloc = rt.alloc();
+    let list: Vec<(Option<u8>, u8)> = vec![in alloc;
+        (None, 1),
+        (None, 0),
+        (None, 1),
+        (None, 0),
+        (Some(9), 1),
+    ]?;
+    both_ways(alloc, list, &[5, 16, 9, 10, 21])?;
+    refuses::<Vec<(Option<u8>, u8)>>(
+        alloc,
+        &[7, 212, 88, 0, 38, 43, 41, 0, 0, 32, 0, 0, 3, 26, 0],
+        Reason::InvalidPacking,
+    )?;
+    refuses::<Vec<(Option<u8>, u8)>>(alloc, &[171, 1, 0, 127], Reason::Eof)
+}
+
+#[test]
 fn results(rt: HostRuntime) -> Result<(), Got> {
     let alloc = rt.alloc();
     both_ways::<Result<bool, u32>>(alloc, Err(748), &[1, 2, 236, 2])?;
