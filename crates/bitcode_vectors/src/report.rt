@@ -28,8 +28,8 @@ fn print_row(rt: &impl Print, number: u8, outcome: Result<(), Got>) -> io::Resul
     }
 }
 
-/// Runs all stored rows in order, and answers whether all of them are ok.
-pub fn print_rows(rt: &impl Print, alloc: Global) -> io::Result<bool> {
+/// Runs rows 1 to 11 in order, and answers whether all of them are ok.
+fn print_rows_to_11(rt: &impl Print, alloc: Global) -> io::Result<bool> {
     let mut all_ok = print_row(rt, 1, rows::unit(alloc))?;
     all_ok &= print_row(rt, 2, rows::bools(alloc))?;
     all_ok &= print_row(rt, 3, rows::texts::number_and_text(alloc))?;
@@ -41,7 +41,12 @@ pub fn print_rows(rt: &impl Print, alloc: Global) -> io::Result<bool> {
     all_ok &= print_row(rt, 9, rows::arrays::two_texts(alloc))?;
     all_ok &= print_row(rt, 10, rows::variants::last_of_six(alloc))?;
     all_ok &= print_row(rt, 11, rows::variants::counts_of_high_bytes(alloc))?;
-    all_ok &= print_row(rt, 17, rows::texts::durations(alloc))?;
+    Ok(all_ok)
+}
+
+/// Runs rows 17 to 25 in order, and answers whether all of them are ok.
+fn print_rows_to_25(rt: &impl Print, alloc: Global) -> io::Result<bool> {
+    let mut all_ok = print_row(rt, 17, rows::texts::durations(alloc))?;
     all_ok &= print_row(rt, 18, rows::sequences::many_bools(alloc))?;
     all_ok &= print_row(rt, 19, rows::tuples::identifier(alloc))?;
     all_ok &= print_row(rt, 21, rows::pair(alloc))?;
@@ -49,13 +54,23 @@ pub fn print_rows(rt: &impl Print, alloc: Global) -> io::Result<bool> {
     all_ok &= print_row(rt, 23, rows::words_read(alloc))?;
     all_ok &= print_row(rt, 24, rows::choices::options(alloc))?;
     all_ok &= print_row(rt, 25, rows::choices::two_variants(alloc))?;
-    all_ok &= print_row(rt, 27, rows::arrays::sums_of_lengths(alloc))?;
+    Ok(all_ok)
+}
+
+/// Runs rows 27 to 33 in order, and answers whether all of them are ok.
+fn print_rows_to_33(rt: &impl Print, alloc: Global) -> io::Result<bool> {
+    let mut all_ok = print_row(rt, 27, rows::arrays::sums_of_lengths(alloc))?;
     all_ok &= print_row(rt, 28, rows::texts::checked_numbers(alloc))?;
     all_ok &= print_row(rt, 29, rows::choices::unused_bits_of_an_option(alloc))?;
     all_ok &= print_row(rt, 31, rows::byte_columns::bytes_packed(alloc))?;
     all_ok &= print_row(rt, 32, rows::byte_columns::bytes_unpacked(alloc))?;
     all_ok &= print_row(rt, 33, rows::choices::results(alloc))?;
-    all_ok &= print_row(rt, 35, rows::sequences::late_least(alloc))?;
+    Ok(all_ok)
+}
+
+/// Runs rows 35 to 42 in order, and answers whether all of them are ok.
+fn print_rows_to_42(rt: &impl Print, alloc: Global) -> io::Result<bool> {
+    let mut all_ok = print_row(rt, 35, rows::sequences::late_least(alloc))?;
     all_ok &= print_row(rt, 36, rows::sequences::nested_lists(alloc))?;
     all_ok &= print_row(rt, 37, rows::texts::texts_read(alloc))?;
     all_ok &= print_row(rt, 38, rows::texts::texts_written(alloc))?;
@@ -63,5 +78,14 @@ pub fn print_rows(rt: &impl Print, alloc: Global) -> io::Result<bool> {
     all_ok &= print_row(rt, 40, rows::variants::raw_variants(alloc))?;
     all_ok &= print_row(rt, 41, rows::composites(alloc))?;
     all_ok &= print_row(rt, 42, rows::arrays::more_units_than_a_length(alloc))?;
+    Ok(all_ok)
+}
+
+/// Runs all stored rows in order, and answers whether all of them are ok.
+pub fn print_rows(rt: &impl Print, alloc: Global) -> io::Result<bool> {
+    let mut all_ok = print_rows_to_11(rt, alloc)?;
+    all_ok &= print_rows_to_25(rt, alloc)?;
+    all_ok &= print_rows_to_33(rt, alloc)?;
+    all_ok &= print_rows_to_42(rt, alloc)?;
     Ok(all_ok)
 }
