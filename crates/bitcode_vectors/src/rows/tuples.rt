@@ -1,6 +1,6 @@
 // The rows of tuples, pointers, markers and UUIDs.
 use crate::rows::{Got, decodes, encodes};
-use bitcode::decode;
+use bitcode::Encode;
 use std::alloc::Global;
 use std::marker::PhantomData;
 use std::rc::RcStr;
@@ -26,10 +26,36 @@ type Bytes = (
     u8,
 );
 
+/// The sixteen fields are written as these bytes. (Of given types the checker would take much longer.)
+pub fn writes_sixteen<
+    A: Encode,
+    B: Encode,
+    C: Encode,
+    D: Encode,
+    E: Encode,
+    F: Encode,
+    G: Encode,
+    H: Encode,
+    I: Encode,
+    J: Encode,
+    K: Encode,
+    L: Encode,
+    M: Encode,
+    N: Encode,
+    O: Encode,
+    P: Encode,
+>(
+    alloc: Global,
+    t: &(A, B, C, D, E, F, G, H, I, J, K, L, M, N, O, P),
+    expected: &[u8],
+) -> Result<(), Got> {
+    encodes(alloc, t, expected)
+}
+
 /// A tuple is the columns of its fields in order.
 fn sixteen_bytes(alloc: Global) -> Result<(), Got> {
     let written: Bytes = (0, 1, 2, 3, 4, 5, 6, 7, 8, 9, 10, 11, 12, 13, 14, 15);
-    encodes(
+    writes_sixteen(
         alloc,
         &written,
         &[0, 1, 2, 3, 4, 5, 6, 7, 8, 9, 10, 11, 12, 13, 14, 15],

@@ -1,6 +1,7 @@
 // Tuples of one field, of three and of sixteen types, both ways. `scripts/checks/long_tuples` tries every number of fields.
+use crate::rows::tuples::writes_sixteen;
 use crate::rows::{Got, encodes, refuses};
-use bitcode::{Decode, DecodeOwned, Encode, Error, Reason, decode};
+use bitcode::{Decode, DecodeOwned, Error, Reason, decode};
 use std::alloc::Global;
 use std::time::Duration;
 
@@ -38,34 +39,6 @@ fn three_fields_come_back(rt: HostRuntime) -> Result<(), Got> {
     same(&[a, b, c], &BYTES)
 }
 
-// A call at sixteen types at once takes the checker more steps than it has, so the types have names here.
-
-/// The sixteen fields are written as these bytes.
-fn writes<
-    A: Encode,
-    B: Encode,
-    C: Encode,
-    D: Encode,
-    E: Encode,
-    F: Encode,
-    G: Encode,
-    H: Encode,
-    I: Encode,
-    J: Encode,
-    K: Encode,
-    L: Encode,
-    M: Encode,
-    N: Encode,
-    O: Encode,
-    P: Encode,
->(
-    alloc: Global,
-    t: &(A, B, C, D, E, F, G, H, I, J, K, L, M, N, O, P),
-    expected: &[u8],
-) -> Result<(), Got> {
-    encodes(alloc, t, expected)
-}
-
 #[test]
 fn sixteen_types_are_written(rt: HostRuntime) -> Result<(), Got> {
     let alloc = rt.alloc();
@@ -91,10 +64,10 @@ fn sixteen_types_are_written(rt: HostRuntime) -> Result<(), Got> {
         13, 126, 0, 0, 111, 0, 2, 136, 107, 4, 4, 6, 15, 4, 253, 127, 0, 2, 246, 255, 7, 113, 109,
         111, 109, 102, 103, 100, 0, 1, 0, 0, 0, 173, 40, 6, 2, 0, 21, 100, 228, 42,
     ];
-    writes(alloc, &value, &bytes)
+    writes_sixteen(alloc, &value, &bytes)
 }
 
-/// The sixteen fields that the bytes spell.
+/// The sixteen fields that the bytes spell. (Of given types the checker would take much longer.)
 fn reads<
     'a,
     A: Decode<'a>,
