@@ -1,9 +1,10 @@
-// The head of the programs of scripts/checks/vectors.
+// The head of the program that `scripts/checks/vectors` makes.
 #![tactic(auto)]
 
 use bitcode::{Decode, Encode, Error, Reason, U8Char, decode, encode};
 use std::alloc::Global;
 use std::boxed::{BoxedSlice, BoxedStr};
+use std::io;
 use std::marker::PhantomData;
 use std::num::*;
 use std::process::ExitCode;
@@ -17,52 +18,57 @@ use uuid::Uuid;
 
 mod types;
 
-/// A row that gave another answer: a refusal, or other bytes or another value.
-#[derive(Clone, Copy, Debug, Drop)]
+/// The table that is read, and its rows that gave another answer than theirs.
+#[derive(Drop)]
+struct Check {
+    alloc: Global,
+    table: &'static str,
+    wrong: Vec<Wrong>,
+}
+
+/// A row that gave other bytes or another value, or was refused, or for another reason.
+#[derive(Drop)]
 struct Wrong {
     table: &'static str,
     row: usize,
     refused: Option<Error>,
 }
 
-/// The rows that were wrong so far.
-#[derive(Drop)]
-struct Check {
-    alloc: Global,
-    wrong: Vec<Wrong>,
-}
-
 impl Check {
-    fn is(&mut self, well: bool, table: &'static str, row: usize, refused: Option<Error>) -> Result<(), Error> {
+    fn is(&mut self, well: bool, row: usize, refused: Option<Error>) -> Result<(), Error> {
         if !well {
+            let table = self.table;
             self.wrong.push(Wrong { table, row, refused })?;
         }
         Ok(())
     }
 
+    /// The value is written as these bytes.
     fn writes<T: Encode>(&mut self, row: usize, value: &T, bytes: &[u8]) -> Result<(), Error> {
         match encode(self.alloc, value) {
-            Ok(written) => self.is(written.as_slice() == bytes, "written", row, None),
-            Err(error) => self.is(false, "written", row, Some(error)),
+            Ok(written) => self.is(written.as_slice() == bytes, row, None),
+            Err(error) => self.is(false, row, Some(error)),
         }
     }
 
+    /// The bytes are read as this value.
     fn reads<'a, T: Decode<'a> + Same>(&mut self, row: usize, bytes: &'a [u8], value: &T) -> Result<(), Error> {
         match decode::<T>(self.alloc, bytes) {
-            Ok(read) => self.is(read.same(value), "read", row, None),
-            Err(error) => self.is(false, "read", row, Some(error)),
+            Ok(read) => self.is(read.same(value), row, None),
+            Err(error) => self.is(false, row, Some(error)),
         }
     }
 
+    /// The bytes are refused, for this reason or for any but memory.
     fn refuses<'a, T: Decode<'a>>(&mut self, row: usize, bytes: &'a [u8], reason: Option<Reason>) -> Result<(), Error> {
         match decode::<T>(self.alloc, bytes) {
-            Ok(_) => self.is(false, "read", row, None),
+            Ok(_) => self.is(false, row, None),
             Err(error) => {
                 let well = match reason {
                     Some(reason) => error.reason == reason,
                     None => error.reason != Reason::OutOfMemory,
                 };
-                self.is(well, "read", row, Some(error))
+                self.is(well, row, Some(error))
             }
         }
     }
@@ -160,20 +166,17 @@ impl<T: Same, E: Same> Same for Result<T, E> {
     }
 }
 
-fn report(rt: &impl Print, alloc: Global) -> std::io::Result<ExitCode> {
-    match rows(alloc) {
-        Ok(wrong) if wrong.is_empty() => Ok(ExitCode::SUCCESS),
-        Ok(wrong) => {
-            for row in wrong.iter() {
-                rt.println(format_args!("wrong: {row:?}"))?;
-            }
-            Ok(ExitCode::FAILURE)
-        }
-        Err(error) => {
-            rt.println(format_args!("{error}"))?;
-            Ok(ExitCode::FAILURE)
-        }
+/// Prints the wrong rows.
+fn report(rt: &impl Print, alloc: Global) -> io::Result<ExitCode> {
+    let mut check = Check { alloc, table: "", wrong: Vec::new(alloc) };
+    if let Err(error) = all_rows(alloc, &mut check) {
+        rt.println(format_args!("wrong: {error}"))?;
+        return Ok(ExitCode::FAILURE);
     }
+    for wrong in check.wrong.iter() {
+        rt.println(format_args!("wrong: {}, row {}: {:?}", wrong.table, wrong.row, wrong.refused))?;
+    }
+    Ok(if check.wrong.is_empty() { ExitCode::SUCCESS } else { ExitCode::FAILURE })
 }
 
 fn main(rt: HostRuntime) -> ExitCode {
