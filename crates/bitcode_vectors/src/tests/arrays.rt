@@ -69,32 +69,6 @@ fn arrays_of_arrays_are_one_column(rt: HostRuntime) -> Result<(), Got> {
 }
 
 #[test]
-fn arrays_of_lists_and_lists_of_arrays(rt: HostRuntime) -> Result<(), Got> {
-    let alloc = rt.alloc();
-    let lists: [Vec<u8>; 3] = [
-        vec![in alloc; 241]?,
-        vec![in alloc; 251]?,
-        vec![in alloc; 248, 240]?,
-    ];
-    encodes(alloc, &lists, &[8, 22, 0, 241, 251, 248, 240])?;
-    decodes(alloc, &[8, 22, 0, 241, 251, 248, 240], lists)?;
-    refuses::<[Vec<u8>; 3]>(alloc, &[2, 55, 0, 3, 250, 143, 183, 41], Reason::Eof)?;
-    let arrays: Vec<Vec<[u8; 3]>> = vec![in alloc;
-        vec![in alloc;]?,
-        vec![in alloc; [16, 17, 15], [17, 17, 16]]?,
-        vec![in alloc;]?,
-        vec![in alloc; [17, 15, 14]]?,
-    ]?;
-    decodes(alloc, &[4, 8, 33, 5, 14, 222, 123, 0], arrays)?;
-    refuses::<Vec<Vec<[u8; 3]>>>(alloc, &[9, 11], Reason::InvalidPacking)?;
-    refuses::<[Vec<()>; 2]>(
-        alloc,
-        &[255, 0, 0, 0, 0, 0, 0, 0, 0, 128, 1, 1, 1],
-        Reason::HugeLength,
-    )
-}
-
-#[test]
 fn many_elements_come_back(rt: HostRuntime) -> Result<(), Fail> {
     let alloc = rt.alloc();
     let zeros = [0u8; 65536];

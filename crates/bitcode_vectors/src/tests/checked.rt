@@ -42,32 +42,6 @@ fn integers_that_are_not_0(rt: HostRuntime) -> Result<(), Got> {
 }
 
 #[test]
-fn durations_and_lists_of_chars(rt: HostRuntime) -> Result<(), Got> {
-    let alloc = rt.alloc();
-    let spans: [(u64, u32, &[u8]); 4] = [
-        (8, 0, &[6, 8, 4, 0]),
-        (16, 283, &[6, 16, 2, 27, 1]),
-        (4294967280, 19, &[2, 240, 255, 255, 255, 4, 19]),
-        (4294967296, 1, &[0, 0, 0, 0, 0, 1, 0, 0, 0, 4, 1]),
-    ];
-    for (seconds, nanos, bytes) in &spans {
-        let (seconds, nanos) = (*seconds, *nanos);
-        if nanos < 1_000_000_000 {
-            encodes(alloc, &Duration::new(seconds, nanos), bytes)?;
-            decodes(alloc, bytes, Duration::new(seconds, nanos))?;
-        }
-    }
-    refuses::<Duration>(alloc, &[6, 200, 4, 1, 116], Reason::ExpectedEof)?;
-    refuses::<Duration>(alloc, &[204, 2], Reason::InvalidPacking)?;
-    let chars: Vec<char> = vec![in alloc;
-        '\u{9e}', '\u{12}', '\u{bb}', '\u{d2}', '\u{c}', 'Z', 'e', '\u{87}',
-    ]?;
-    let bytes = [8, 4, 0, 158, 18, 187, 210, 12, 90, 101, 135];
-    encodes(alloc, &chars, &bytes)?;
-    decodes(alloc, &bytes, chars)
-}
-
-#[test]
 fn coders_of_checked_integers(rt: HostRuntime) -> Result<(), Fail> {
     let alloc = rt.alloc();
     let mut input: &[u8] = &[4, 97];

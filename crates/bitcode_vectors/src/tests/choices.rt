@@ -70,24 +70,6 @@ fn results(rt: HostRuntime) -> Result<(), Got> {
     refuses::<Result<bool, u32>>(alloc, &[1, 5, 0], Reason::InvalidPacking)
 }
 
-/// Four results: the column of their variants, that of the options in the values, the number in one of these, and the
-/// two texts.
-#[test]
-fn results_of_options_and_texts(rt: HostRuntime) -> Result<(), Got> {
-    let alloc = rt.alloc();
-    let mut list: Vec<Result<Option<u16>, &str>> = Vec::new(alloc);
-    list.push(Ok(Some(5)))?;
-    list.push(Err("a"))?;
-    list.push(Ok(None))?;
-    list.push(Err(""))?;
-    both_ways(alloc, list, &[4, 10, 1, 5, 0, 1, 0, 97])?;
-    refuses::<Vec<Result<Option<u16>, &str>>>(
-        alloc,
-        &[4, 10, 1, 5, 0, 1, 0, 255],
-        Reason::InvalidUtf8,
-    )
-}
-
 #[test]
 fn structs_of_two_fields(rt: HostRuntime) -> Result<(), Got> {
     let alloc = rt.alloc();
