@@ -38,7 +38,11 @@ impl Check {
     fn is(&mut self, well: bool, row: usize, refused: Option<Error>) -> Result<(), Error> {
         if !well {
             let table = self.table;
-            self.wrong.push(Wrong { table, row, refused })?;
+            self.wrong.push(Wrong {
+                table,
+                row,
+                refused,
+            })?;
         }
         Ok(())
     }
@@ -52,24 +56,28 @@ impl Check {
     }
 
     /// The bytes are read as this value.
-    fn reads<'a, T: Decode<'a> + Same>(&mut self, row: usize, bytes: &'a [u8], value: &T) -> Result<(), Error> {
+    fn reads<'a, T: Decode<'a> + Same>(
+        &mut self,
+        row: usize,
+        bytes: &'a [u8],
+        value: &T,
+    ) -> Result<(), Error> {
         match decode::<T>(self.alloc, bytes) {
             Ok(read) => self.is(read.same(value), row, None),
             Err(error) => self.is(false, row, Some(error)),
         }
     }
 
-    /// The bytes are refused, for this reason or for any but memory.
-    fn refuses<'a, T: Decode<'a>>(&mut self, row: usize, bytes: &'a [u8], reason: Option<Reason>) -> Result<(), Error> {
+    /// The bytes are refused for this reason.
+    fn refuses<'a, T: Decode<'a>>(
+        &mut self,
+        row: usize,
+        bytes: &'a [u8],
+        reason: Reason,
+    ) -> Result<(), Error> {
         match decode::<T>(self.alloc, bytes) {
             Ok(_) => self.is(false, row, None),
-            Err(error) => {
-                let well = match reason {
-                    Some(reason) => error.reason == reason,
-                    None => error.reason != Reason::OutOfMemory,
-                };
-                self.is(well, row, Some(error))
-            }
+            Err(error) => self.is(error.reason == reason, row, Some(error)),
         }
     }
 }
@@ -90,8 +98,11 @@ macro_rules! same_where_equal {
 }
 
 same_where_equal!(bool, u8, u16, u32, u64, u128, usize, i8, i16, i32, i64, i128, isize, char, ());
+
 same_where_equal!(NonZeroU8, NonZeroU16, NonZeroU32, NonZeroU64, NonZeroU128, NonZeroUsize);
+
 same_where_equal!(NonZeroI8, NonZeroI16, NonZeroI32, NonZeroI64, NonZeroI128, NonZeroIsize);
+
 same_where_equal!(String, BoxedStr, RcStr, Duration, Uuid, One, Two);
 
 impl<'a> Same for &'a str {
@@ -113,7 +124,11 @@ impl<T> Same for PhantomData<T> {
 }
 
 fn same_slices<T: Same>(these: &[T], those: &[T]) -> bool {
-    these.len() == those.len() && these.iter().zip(those.iter()).all(|(this, that)| this.same(that))
+    these.len() == those.len()
+        && these
+            .iter()
+            .zip(those.iter())
+            .all(|(this, that)| this.same(that))
 }
 
 impl<T: Same, const N: usize> Same for [T; N] {
@@ -168,15 +183,26 @@ impl<T: Same, E: Same> Same for Result<T, E> {
 
 /// Prints the wrong rows.
 fn report(rt: &impl Print, alloc: Global) -> io::Result<ExitCode> {
-    let mut check = Check { alloc, table: "", wrong: Vec::new(alloc) };
+    let mut check = Check {
+        alloc,
+        table: "",
+        wrong: Vec::new(alloc),
+    };
     if let Err(error) = all_rows(alloc, &mut check) {
         rt.println(format_args!("wrong: {error}"))?;
         return Ok(ExitCode::FAILURE);
     }
     for wrong in check.wrong.iter() {
-        rt.println(format_args!("wrong: {}, row {}: {:?}", wrong.table, wrong.row, wrong.refused))?;
+        rt.println(format_args!(
+            "wrong: {}, row {}: {:?}",
+            wrong.table, wrong.row, wrong.refused
+        ))?;
     }
-    Ok(if check.wrong.is_empty() { ExitCode::SUCCESS } else { ExitCode::FAILURE })
+    Ok(if check.wrong.is_empty() {
+        ExitCode::SUCCESS
+    } else {
+        ExitCode::FAILURE
+    })
 }
 
 fn main(rt: HostRuntime) -> ExitCode {
