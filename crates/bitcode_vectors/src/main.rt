@@ -8,8 +8,6 @@ use std::{env, io};
 
 mod report;
 mod rows;
-#[cfg(test)]
-mod tests;
 mod types;
 
 /// What is printed on standard error for words that the program does not take.

@@ -1,18 +1,8 @@
 // What the program prints of its rows.
-use crate::rows::{self, Got};
-use bitcode::Error;
+use crate::rows;
+use bitcode_checks::Got;
 use std::alloc::Global;
-use std::{fmt, io};
-
-impl fmt::Display for Got {
-    fn fmt<W: fmt::Write>(&self, f: &mut fmt::Formatter<W>) -> fmt::Result {
-        match self {
-            Got::Bytes(bytes) => write!(f, "{bytes:?}"),
-            Got::Refused(error) => write!(f, "{error}"),
-            Got::AnotherValue => f.write_str("another value"),
-        }
-    }
-}
+use std::io;
 
 /// Prints a row's line, and answers whether the row is ok.
 fn print_row(rt: &impl Print, number: u8, outcome: Result<(), Got>) -> io::Result<bool> {

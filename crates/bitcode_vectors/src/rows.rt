@@ -1,6 +1,7 @@
 // The stored rows. Each has one or more parts, and gives what the first wrong part gave.
-use bitcode::{Decode, Encode, Error, Reason, decode, encode, error};
-use std::alloc::{AllocError, AllocFailed, Global};
+use bitcode::Reason;
+use bitcode_checks::{Got, decodes, encodes, refuses};
+use std::alloc::Global;
 
 pub mod arrays;
 pub mod byte_columns;
@@ -10,70 +11,6 @@ pub mod sequences;
 pub mod texts;
 pub mod tuples;
 pub mod variants;
-
-/// What a wrong part of a row gave.
-#[derive(Debug, Drop)]
-pub enum Got {
-    /// The value was written as other bytes.
-    Bytes(Vec<u8>),
-    /// The call refused, or refused for another reason.
-    Refused(Error),
-    /// Another value was read, or one where the input had to be refused.
-    AnotherValue,
-}
-
-impl<T: Drop> From<AllocFailed<T>> for Got {
-    fn from(_refused: AllocFailed<T>) -> Got {
-        Got::Refused(error(Reason::OutOfMemory))
-    }
-}
-
-impl From<Error> for Got {
-    fn from(error: Error) -> Got {
-        Got::Refused(error)
-    }
-}
-
-impl From<AllocError> for Got {
-    fn from(_refused: AllocError) -> Got {
-        Got::Refused(error(Reason::OutOfMemory))
-    }
-}
-
-/// The value is written as these bytes.
-pub fn encodes<T: Encode>(alloc: Global, t: &T, expected: &[u8]) -> Result<(), Got> {
-    match encode(alloc, t) {
-        Ok(bytes) if bytes.as_slice() == expected => Ok(()),
-        Ok(bytes) => Err(Got::Bytes(bytes)),
-        Err(error) => Err(Got::Refused(error)),
-    }
-}
-
-/// The bytes are read as this value.
-pub fn decodes<'a, T: Decode<'a> + PartialEq>(
-    alloc: Global,
-    bytes: &'a [u8],
-    expected: T,
-) -> Result<(), Got> {
-    match decode::<T>(alloc, bytes) {
-        Ok(t) if t == expected => Ok(()),
-        Ok(_) => Err(Got::AnotherValue),
-        Err(error) => Err(Got::Refused(error)),
-    }
-}
-
-/// The bytes are refused for this reason.
-pub fn refuses<'a, T: Decode<'a>>(
-    alloc: Global,
-    bytes: &'a [u8],
-    expected: Reason,
-) -> Result<(), Got> {
-    match decode::<T>(alloc, bytes) {
-        Ok(_) => Err(Got::AnotherValue),
-        Err(error) if error.reason == expected => Ok(()),
-        Err(error) => Err(Got::Refused(error)),
-    }
-}
 
 /// The unit takes no bytes.
 pub fn unit(alloc: Global) -> Result<(), Got> {

@@ -1,9 +1,9 @@
 // The stored rows of options, results and types written by hand.
-use crate::rows::{Got, decodes, encodes, refuses};
 use crate::types::never::Never;
 use crate::types::one::One;
 use crate::types::two::Two;
 use bitcode::{Reason, decode};
+use bitcode_checks::{Got, decodes, encodes, refuses};
 use std::alloc::Global;
 
 /// The variants of all options stand together, and then the values of those that have one.

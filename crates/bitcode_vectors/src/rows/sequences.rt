@@ -1,6 +1,6 @@
 // The stored rows of vectors and slices.
-use crate::rows::{Got, decodes, encodes, refuses};
 use bitcode::Reason;
+use bitcode_checks::{Got, decodes, encodes, refuses};
 use std::alloc::Global;
 
 /// Seven integers are shifted by their least one, the first five of them stand raw.

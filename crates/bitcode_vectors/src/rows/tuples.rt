@@ -1,6 +1,6 @@
 // The rows of tuples, pointers, markers and UUIDs.
-use crate::rows::{Got, decodes, encodes};
-use bitcode::Encode;
+use bitcode_checks::tuples::writes_sixteen;
+use bitcode_checks::{Got, decodes, encodes};
 use std::alloc::Global;
 use std::marker::PhantomData;
 use std::rc::RcStr;
@@ -25,32 +25,6 @@ type Bytes = (
     u8,
     u8,
 );
-
-/// The sixteen fields are written as these bytes. (Of given types the checker would take much longer.)
-pub fn writes_sixteen<
-    A: Encode,
-    B: Encode,
-    C: Encode,
-    D: Encode,
-    E: Encode,
-    F: Encode,
-    G: Encode,
-    H: Encode,
-    I: Encode,
-    J: Encode,
-    K: Encode,
-    L: Encode,
-    M: Encode,
-    N: Encode,
-    O: Encode,
-    P: Encode,
->(
-    alloc: Global,
-    t: &(A, B, C, D, E, F, G, H, I, J, K, L, M, N, O, P),
-    expected: &[u8],
-) -> Result<(), Got> {
-    encodes(alloc, t, expected)
-}
 
 /// A tuple is the columns of its fields in order.
 fn sixteen_bytes(alloc: Global) -> Result<(), Got> {

@@ -1,9 +1,9 @@
 // The rows of variants by themselves.
 ghost use Rattle.std.specs.Prelude.{◌≤◌};
 
-use crate::rows::Got;
 use bitcode::coder::Buffer as _;
 use bitcode::{Reason, VariantDecoder, VariantEncoder};
+use bitcode_checks::Got;
 use std::alloc::Global;
 
 /// One byte is read as one of `N` variants, and is this one.

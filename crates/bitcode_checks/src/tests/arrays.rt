@@ -1,0 +1,168 @@
+// Arrays of no, one, some and many elements, and numbers of arrays about the largest.
+use crate::{Got, decodes, encodes, refuses};
+use bitcode::coder::Buffer as _;
+use bitcode::laws::overflows_exactly;
+use bitcode::{
+    ArrayDecoder, ArrayEncoder, DecodeOwned, Decoder, EmptyCoder, Encoder, IntDecoder, IntEncoder,
+    Reason, View, encode, err,
+};
+use std::test::Fail;
+
+#[test]
+fn arrays_are_written(rt: HostRuntime) -> Result<(), Got> {
+    let alloc = rt.alloc();
+    encodes::<[u8; 0]>(alloc, &[], &[])?;
+    encodes(alloc, &[181u8], &[181])?;
+    encodes(alloc, &[117u8, 41], &[117, 41])?;
+    encodes(alloc, &[245u8, 243, 246], &[0, 245, 243, 246])?;
+    encodes(alloc, &[96i8, 97, 97, 97, 96, 96, 99], &[5, 96, 84, 48])?;
+    encodes(
+        alloc,
+        &[1u8, 0, 1, 1, 1, 1, 1, 1, 0, 0, 0, 1, 0, 0, 0, 1],
+        &[10, 253, 136],
+    )?;
+    encodes(
+        alloc,
+        &[0u16, 1, 0, 255, 3, 3, 3, 3, 0, 2, 3, 3, 1, 2, 3, 3],
+        &[2, 0, 0, 1, 0, 255, 3, 3, 3, 3, 0, 2, 3, 3, 1, 2, 3, 3],
+    )
+}
+
+#[test]
+fn arrays_are_read(rt: HostRuntime) -> Result<(), Got> {
+    let alloc = rt.alloc();
+    decodes::<[u8; 0]>(alloc, &[], [])?;
+    refuses::<[u8; 0]>(alloc, &[2], Reason::ExpectedEof)?;
+    decodes(alloc, &[215], [215u8])?;
+    refuses::<[u8; 1]>(alloc, &[66, 98], Reason::ExpectedEof)?;
+    decodes(alloc, &[0, 0, 68, 196], [0u8, 68, 196])?;
+    refuses::<[u8; 3]>(alloc, &[2, 144], Reason::Eof)?;
+    refuses::<[u8; 3]>(alloc, &[250, 243], Reason::InvalidPacking)?;
+    decodes(
+        alloc,
+        &[1, 252, 48, 115, 47, 7],
+        [-4i8, -1, -1, 3, 11, -2, 3],
+    )?;
+    decodes(
+        alloc,
+        &[2, 2, 51, 65, 6, 3, 64, 64, 4, 102],
+        [3u16, 3, 1, 4, 6, 0, 3, 0, 0, 4, 0, 4, 4, 0, 6, 6],
+    )
+}
+
+#[test]
+fn arrays_of_arrays_are_one_column(rt: HostRuntime) -> Result<(), Got> {
+    let alloc = rt.alloc();
+    encodes(alloc, &[[0u8, 1, 0], [1, 1, 1], [0, 1, 1]], &[10, 186, 1])?;
+    decodes(
+        alloc,
+        &[1, 239, 87, 183, 9, 86, 8],
+        [[246u8, 244, 246], [250, 248, 239], [245, 244, 247]],
+    )?;
+    refuses::<[[u8; 3]; 3]>(
+        alloc,
+        &[0, 29, 29, 13, 14, 9, 19, 27, 239, 10, 0],
+        Reason::ExpectedEof,
+    )?;
+    encodes::<[[u8; 0]; 3]>(alloc, &[[], [], []], &[])?;
+    decodes::<[[u8; 0]; 3]>(alloc, &[], [[], [], []])
+}
+
+#[test]
+fn many_elements_come_back(rt: HostRuntime) -> Result<(), Fail> {
+    let alloc = rt.alloc();
+    let zeros = [0u8; 65536];
+    let bytes = encode(alloc, &zeros)?;
+    assert_eq!(rt; bytes.len(), 8193);
+    assert_eq!(rt; bytes[0], 10);
+    assert!(rt; decodes(alloc, &bytes, zeros).is_ok());
+    Ok(())
+}
+
+#[test]
+fn arrays_are_counted(rt: HostRuntime) -> Result<(), Fail> {
+    let alloc = rt.alloc();
+    let most = 6148914691236517205;
+    let overflow = err(Reason::LengthOverflow);
+    let mut encoder: ArrayEncoder<EmptyCoder, 3> = ArrayEncoder::new(alloc);
+    assert_eq!(rt; encoder.reserve(most + 1), overflow);
+    encoder.reserve(most)?;
+    encoder.encode(&[(), (), ()])?;
+    assert_eq!(rt; encoder.reserve(most), overflow);
+    encoder.reserve(most - 1)?;
+    encoder.clear();
+    encoder.reserve(most)?;
+    encoder.encode(&[(), (), ()])?;
+    let mut bytes = Vec::new(alloc);
+    encoder.collect_into(&mut bytes)?;
+    assert!(rt; bytes.is_empty());
+    encoder.reserve(most)?;
+    assert_eq!(rt; encoder.reserve(usize::MAX), overflow);
+    Ok(())
+}
+
+#[test]
+fn nested_arrays_are_counted(rt: HostRuntime) -> Result<(), Fail> {
+    let alloc = rt.alloc();
+    let mut none: ArrayEncoder<EmptyCoder, 0> = ArrayEncoder::new(alloc);
+    none.reserve(usize::MAX)?;
+    let no_units: [(); 0] = [];
+    none.encode(&no_units)?;
+    none.reserve(usize::MAX)?;
+    let mut fits: ArrayEncoder<ArrayEncoder<EmptyCoder, 4294967296>, 4294967295> =
+        ArrayEncoder::new(alloc);
+    fits.reserve(1)?;
+    let mut passes: ArrayEncoder<ArrayEncoder<EmptyCoder, 4294967296>, 4294967296> =
+        ArrayEncoder::new(alloc);
+    assert_eq!(rt; passes.reserve(1), err(Reason::LengthOverflow));
+    Ok(())
+}
+
+#[test]
+fn too_many_arrays_are_not_read(rt: HostRuntime) -> Result<(), Fail> {
+    let alloc = rt.alloc();
+    let mut input: &[u8] = &[0, 1, 2];
+    let mut bytes: ArrayDecoder<IntDecoder<u8>, 16384> = ArrayDecoder::new(alloc);
+    let overflow = err(Reason::LengthOverflow);
+    assert_eq!(rt; bytes.populate(&mut input, 1125899906842624), overflow);
+    assert_eq!(rt; input, [0, 1, 2].as_slice());
+    assert_eq!(rt;
+        bytes.populate(&mut input, 1125899906842623),
+        err(Reason::Eof)
+    );
+    let mut units: ArrayDecoder<EmptyCoder, 9223372036854775808> = ArrayDecoder::new(alloc);
+    units.populate(&mut input, 1)?;
+    assert_eq!(rt; units.populate(&mut input, 2), err(Reason::LengthOverflow));
+    Ok(())
+}
+
+#[test]
+fn array_coders_are_used_by_themselves(rt: HostRuntime) -> Result<(), Fail> {
+    let alloc = rt.alloc();
+    let mut encoder: ArrayEncoder<IntEncoder<u8>, 3> = ArrayEncoder::new(alloc);
+    encoder.reserve(2)?;
+    encoder.encode(&[0u8, 1, 2])?;
+    encoder.encode(&[2u8, 1, 0])?;
+    let mut bytes = Vec::new(alloc);
+    encoder.collect_into(&mut bytes)?;
+    let mut input = bytes.as_slice();
+    let mut decoder: ArrayDecoder<IntDecoder<u8>, 3> = ArrayDecoder::new(alloc);
+    decoder.populate(&mut input, 2)?;
+    let first: [u8; 3] = decoder.decode()?;
+    let second: [u8; 3] = decoder.decode()?;
+    assert_eq!(rt; [first, second], [[0, 1, 2], [2, 1, 0]]);
+    assert!(rt; input.is_empty());
+    Ok(())
+}
+
+/// A type whose values borrow nothing.
+fn is_owned<T: DecodeOwned>() {}
+
+#[test]
+fn arrays_are_owned_and_their_overflow_is_exact(rt: HostRuntime) -> Result<(), Fail> {
+    let array = [0u8, 1, 2];
+    let bytes = encode(rt.alloc(), &array)?;
+    overflows_exactly(&array, &bytes);
+    is_owned::<[u8; 3]>();
+    Ok(())
+}

@@ -1,0 +1,68 @@
+// Vectors and slices that the Rust crate wrote and read.
+use crate::{Got, decodes, encodes, refuses};
+use bitcode::{Reason, encode};
+
+#[test]
+fn slices_are_written(rt: HostRuntime) -> Result<(), Got> {
+    let alloc = rt.alloc();
+    let slice: &[u16] = &[0];
+    encodes(alloc, &slice, &[1, 0, 0])?;
+    let slice: &[u16] = &[201, 201, 201, 203, 203, 203, 203];
+    encodes(alloc, &slice, &[7, 2, 7, 201, 216, 8])?;
+    let slice: &[u16] = &[3642, 3644, 3644];
+    encodes(alloc, &slice, &[3, 0, 58, 14, 60, 14, 60, 14])?;
+    let slice: &[u16] = &[0, 1, 0, 0, 0, 0, 0, 0, 0, 0];
+    encodes(alloc, &slice, &[10, 2, 10, 2, 0])?;
+    Ok(())
+}
+
+#[test]
+fn lengths_around_the_escape(rt: HostRuntime) -> Result<(), Got> {
+    let alloc = rt.alloc();
+    for (length, front) in [
+        (254usize, [254u8].as_slice()),
+        (255, &[255, 6, 255]),
+        (256, &[255, 4, 0, 1]),
+    ] {
+        let mut list: Vec<u8> = Vec::with_capacity(alloc, length)?;
+        let mut bytes: Vec<u8> = Vec::with_capacity(alloc, length)?;
+        bytes.extend_from_slice(front)?;
+        bytes.push(0)?;
+        for place in 0..length {
+            list.push(place.to_le_bytes()[0])?;
+            bytes.push(place.to_le_bytes()[0])?;
+        }
+        encodes(alloc, &list, bytes.as_slice())?;
+        decodes(alloc, bytes.as_slice(), list)?;
+    }
+    Ok(())
+}
+
+#[test]
+fn an_escape_may_say_less_than_255(rt: HostRuntime) -> Result<(), Got> {
+    let alloc = rt.alloc();
+    let list: Vec<u8> = vec![in alloc; 0, 1]?;
+    decodes(alloc, &[255, 6, 2, 0, 1], list)
+}
+
+#[test]
+fn a_million_integers_come_back(rt: HostRuntime) -> Result<(), Got> {
+    let alloc = rt.alloc();
+    let mut list: Vec<u64> = Vec::with_capacity(alloc, 1_000_000)?;
+    for number in 0..1_000_000u64 {
+        list.push(number)?;
+    }
+    let bytes = encode(alloc, &list)?;
+    decodes(alloc, bytes.as_slice(), list)
+}
+
+#[test]
+fn a_hundred_thousand_lists_come_back(rt: HostRuntime) -> Result<(), Got> {
+    let alloc = rt.alloc();
+    let mut lists: Vec<Vec<u8>> = Vec::with_capacity(alloc, 100_000)?;
+    for number in 0..100_000u32 {
+        lists.push(vec![in alloc; number.to_le_bytes()[0], 1]?)?;
+    }
+    let bytes = encode(alloc, &lists)?;
+    decodes(alloc, bytes.as_slice(), lists)
+}

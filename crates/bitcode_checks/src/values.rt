@@ -1,0 +1,49 @@
+// Whole values: how they are written, read and refused.
+use crate::Got;
+use bitcode::{Decode, Encode, Reason, decode, encode};
+use std::alloc::Global;
+
+/// The value is written as these bytes.
+pub fn encodes<T: Encode>(alloc: Global, t: &T, expected: &[u8]) -> Result<(), Got> {
+    match encode(alloc, t) {
+        Ok(bytes) if bytes.as_slice() == expected => Ok(()),
+        Ok(bytes) => Err(Got::Bytes(bytes)),
+        Err(error) => Err(Got::Refused(error)),
+    }
+}
+
+/// The bytes are read as this value.
+pub fn decodes<'a, T: Decode<'a> + PartialEq>(
+    alloc: Global,
+    bytes: &'a [u8],
+    expected: T,
+) -> Result<(), Got> {
+    match decode::<T>(alloc, bytes) {
+        Ok(t) if t == expected => Ok(()),
+        Ok(_) => Err(Got::AnotherValue),
+        Err(error) => Err(Got::Refused(error)),
+    }
+}
+
+/// The bytes are refused for this reason.
+pub fn refuses<'a, T: Decode<'a>>(
+    alloc: Global,
+    bytes: &'a [u8],
+    expected: Reason,
+) -> Result<(), Got> {
+    match decode::<T>(alloc, bytes) {
+        Ok(_) => Err(Got::AnotherValue),
+        Err(error) if error.reason == expected => Ok(()),
+        Err(error) => Err(Got::Refused(error)),
+    }
+}
+
+/// The value is written as these bytes, and the bytes are read as the value.
+pub fn both_ways<'a, T: Encode + Decode<'a> + PartialEq>(
+    alloc: Global,
+    t: T,
+    bytes: &'a [u8],
+) -> Result<(), Got> {
+    encodes(alloc, &t, bytes)?;
+    decodes(alloc, bytes, t)
+}
