@@ -12,7 +12,7 @@ use bitcode_shapes::shaped::{Made, Shaped};
 /// }
 /// ```
 pub trait Encode: Shaped {
-    /// The columns that values are written to.
+    /// The columns that values are written to. A whole call drops them.
     type Encoder: Encoder<Self> + Drop;
 }
 
@@ -24,7 +24,7 @@ pub trait Encode: Shaped {
 /// }
 /// ```
 pub trait Decode<'a>: Made + Drop {
-    /// The data that values are made of.
+    /// The data that values are made of. A whole call drops what is left of them.
     type Decoder: Decoder<'a, Self> + Drop;
 }
 
