@@ -5,7 +5,7 @@ use Rattle.bitcode_shapes.specs.Datum.{Datum}
 use Rattle.bitcode_shapes.specs.Shape.{Shape, array_shape}
 use Rattle.bitcode_shapes.specs.Lawful.{Lawful, Makeable}
 use Rattle.bitcode_shapes.specs.Sequences.{ListsSequence, MakesSequence, SameSequence}
-use Rattle.bitcode_shapes.specs.LawfulSequences.{sequence_lawful, sequence_makeable}
+use Rattle.bitcode_shapes.specs.LawfulSequences.{sequence_lawful, sequence_makeable, array_arrays}
 
 -- the elements are values, and there are so many
 pub record IsArrayValue {T : Type 0} (size : ℕ) (is_value : T → Type 0) (values : List T) : Type 0 where
@@ -17,7 +17,7 @@ module _ {T : Type 0} (size : ℕ) (shape : Shape) (is_value : T → Type 0) (li
       → Lawful (array_shape size shape) (IsArrayValue size is_value) (ListsSequence lists) (SameSequence same) order
   array_lawful order element =
       sequence_lawful shape is_value lists same (λ (values : List T). values) (IsArrayValue size is_value) (λ values h. h.each)
-      (array_shape size shape) (λ n. n ≡ size) order (λ sound. sound) (λ d l. l) (λ values h. h.count) element
+      (array_shape size shape) (λ n. n ≡ size) order (λ sound. sound) (λ d l. l) (λ values h. h.count) (array_arrays size shape) element
 
   pub array_makeable : (makes : Datum → T → Type 0) → Makeable shape is_value lists same makes
       → Makeable (array_shape size shape) (IsArrayValue size is_value) (ListsSequence lists) (SameSequence same) (MakesSequence makes)

@@ -1,17 +1,20 @@
 -- What a lawful type promises. T is the type; a value of it meets is_value (the numbers and chars in it are in
 -- their types' ranges).
-use Rattle.std.specs.Prelude.{◌≡◌, Bool, IsTrue}
+use Rattle.std.specs.Prelude.{◌≡◌, ℕ, Bool, IsTrue, List}
 use Rattle.std.specs.declared.alloc.Global.{Global}
 use Rattle.bitcode_shapes.specs.Datum.{Datum, IsStorable}
 use Rattle.bitcode_shapes.specs.Shape.{Shape, IsOf, IsSound}
+use Rattle.bitcode_shapes.specs.ArrayCounts.{arrays_at}
 
 -- Each value has a listing, each listing is of the shape, and `same` is an equivalence. Where nothing in the
--- value is kept in an order of its own, as in a hashed container or a heap, it has one listing.
+-- value is kept in an order of its own, as in a hashed container or a heap, it has one listing. All listings of a value
+-- have the same numbers of arrays.
 pub record Lawful {T : Type 0} (shape : Shape) (is_value : T → Type 0) (lists : T → Datum → Type 0) (same : T → T → Type 0) (in_order : Bool) : Type 0 where
   pub sound : IsSound shape
   pub listed : (t : T) → is_value t → (d : Datum) × lists t d
   pub of_shape : (t : T) (d : Datum) → is_value t → lists t d → IsOf shape d
   pub one_listing : IsTrue in_order → (t : T) (d e : Datum) → is_value t → lists t d → lists t e → d ≡ e
+  pub same_arrays : (t : T) (d e : Datum) → is_value t → lists t d → lists t e → (way : List ℕ) → arrays_at shape way d ≡ arrays_at shape way e
   pub reflexive : (t : T) → is_value t → same t t
   pub symmetric : (t u : T) → is_value t → is_value u → same t u → same u t
   pub transitive : (t u v : T) → is_value t → is_value u → is_value v → same t u → same u v → same t v

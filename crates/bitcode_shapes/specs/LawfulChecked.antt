@@ -16,6 +16,7 @@ module _ {T : Type 0} (value : T → ℤ) (width : ℕ) (signed : Bool) (allowed
     listed = λ t h. (number (value t), refl);
     of_shape = λ t d h l. record { value = value t; is = l; in_width = h.0; in_allowed = h.1 };
     one_listing = λ o t d e h l m. l ∙ sym m;
+    same_arrays = λ t d e h l m way. refl;
     reflexive = λ t h. refl;
     symmetric = λ t u h i s. sym s;
     transitive = λ t u v h i j s r. s ∙ r;

@@ -2,11 +2,12 @@
 -- and C, whose values stand for those of A ⊎ (B ⊎ C):
 --
 --     image_lawful stands_for (choice_lawful (lit≤ tt) (lit≤ tt) (first_lawful a_lawful (first_lawful b_lawful (last_lawful c_lawful))))
-use Rattle.std.proofs.Common.{◌≡◌, ℕ, zero, suc, ◌≤◌, Bool, Option, Some, None, Result, Ok, Err, refl, sym, ◌∙◌, ap, subst, inl, inr, lit≤}
-use Rattle.std.specs.Prelude.{◌&&◌, IsTrue, ◌⊎◌}
+use Rattle.std.proofs.Common.{◌≡◌, ℕ, zero, suc, ◌≤◌, Bool, Option, Some, None, List, [], ◌∷◌, Result, Ok, Err, refl, sym, ◌∙◌, ap, subst, inl, inr, lit≤}
+use Rattle.std.specs.Prelude.{◌&&◌, ◌==◌, cond, IsTrue, ◌⊎◌}
 use Rattle.std.specs.declared.alloc.Global.{Global}
 use Rattle.bitcode_shapes.specs.Datum.{Datum, choice, IsStorable, storable_choice}
 use Rattle.bitcode_shapes.specs.Shape.{Shape, Shapes, no_shapes, shape_and, choice_shape, variant_count, IsOfVariant, AreSound, unit_shape}
+use Rattle.bitcode_shapes.specs.ArrayCounts.{arrays_at, arrays_in}
 use Rattle.bitcode_shapes.specs.Lawful.{Lawful, Makeable}
 use Rattle.bitcode_shapes.specs.LawfulImages.{image_lawful, image_makeable}
 use Rattle.bitcode_shapes.specs.LawfulValues.{unit_lawful, unit_makeable, both}
@@ -19,6 +20,8 @@ pub record LawfulVariants {T : Type 0} (shapes : Shapes) (is_value : T → Type 
   pub listed : (t : T) → is_value t → (index : ℕ) × ((d : Datum) × lists t index d)
   pub of_shape : (t : T) (index : ℕ) (d : Datum) → is_value t → lists t index d → IsOfVariant shapes index d
   pub one_listing : IsTrue in_order → (t : T) (i j : ℕ) (d e : Datum) → is_value t → lists t i d → lists t j e → (i ≡ j) × (d ≡ e)
+  pub same_arrays : (t : T) (i j : ℕ) (d e : Datum) → is_value t → lists t i d → lists t j e
+      → (i ≡ j) × ((way : List ℕ) → arrays_in shapes i way d ≡ arrays_in shapes i way e)
   pub reflexive : (t : T) → is_value t → same t t
   pub symmetric : (t u : T) → is_value t → is_value u → same t u → same u t
   pub transitive : (t u v : T) → is_value t → is_value u → is_value v → same t u → same u v → same t v
@@ -41,12 +44,19 @@ module _ {A : Type 0} {s : Shape} {is_a : A → Type 0} {lists_a : A → Datum �
     last_one_listing o t zero (suc j) d e h l m = absurd m
     last_one_listing o t (suc i) j d e h l m = absurd l
 
+    last_same_arrays : (t : A) (i j : ℕ) (d e : Datum) → is_a t → ListsLast lists_a t i d → ListsLast lists_a t j e
+        → (i ≡ j) × ((way : List ℕ) → arrays_in (shape_and s no_shapes) i way d ≡ arrays_in (shape_and s no_shapes) i way e)
+    last_same_arrays t zero zero d e h l m = (refl, last.same_arrays t d e h l m)
+    last_same_arrays t zero (suc j) d e h l m = absurd m
+    last_same_arrays t (suc i) j d e h l m = absurd l
+
     pub last_lawful : LawfulVariants (shape_and s no_shapes) is_a (ListsLast lists_a) same_a order
     last_lawful = record {
       sound = (last.sound, tt);
       listed = λ t h. let l = last.listed t h in (0, (l.0, l.1));
       of_shape = last_of_shape;
       one_listing = last_one_listing;
+      same_arrays = last_same_arrays;
       reflexive = last.reflexive;
       symmetric = last.symmetric;
       transitive = last.transitive;
@@ -94,6 +104,18 @@ module _ {A B : Type 0} {s : Shape} {ss : Shapes} {is_a : A → Type 0} {is_b : 
         let found = rest.one_listing (both order_a order_b o).1 b i j d e h l m in
         (ap suc found.0, found.1)
 
+    variant_same_arrays : (t : A ⊎ B) (i j : ℕ) (d e : Datum) → IsVariantValue is_a is_b t
+        → ListsVariant lists_a lists_b t i d → ListsVariant lists_a lists_b t j e
+        → (i ≡ j) × ((way : List ℕ) → arrays_in (shape_and s ss) i way d ≡ arrays_in (shape_and s ss) i way e)
+    variant_same_arrays (inl a) zero zero d e h l m = (refl, first.same_arrays a d e h l m)
+    variant_same_arrays (inl a) zero (suc j) d e h l m = absurd m
+    variant_same_arrays (inl a) (suc i) j d e h l m = absurd l
+    variant_same_arrays (inr b) zero j d e h l m = absurd l
+    variant_same_arrays (inr b) (suc i) zero d e h l m = absurd m
+    variant_same_arrays (inr b) (suc i) (suc j) d e h l m =
+        let found = rest.same_arrays b i j d e h l m in
+        (ap suc found.0, found.1)
+
     variant_reflexive : (t : A ⊎ B) → IsVariantValue is_a is_b t → SameVariant same_a same_b t t
     variant_reflexive (inl a) h = first.reflexive a h
     variant_reflexive (inr b) h = rest.reflexive b h
@@ -119,6 +141,7 @@ module _ {A B : Type 0} {s : Shape} {ss : Shapes} {is_a : A → Type 0} {is_b : 
       listed = variant_listed;
       of_shape = variant_of_shape;
       one_listing = variant_one_listing;
+      same_arrays = variant_same_arrays;
       reflexive = variant_reflexive;
       symmetric = variant_symmetric;
       transitive = variant_transitive;
@@ -160,7 +183,21 @@ choice_once h = (cc, cc)
 storable_payload : {i : ℕ} {d : Datum} → IsStorable (choice i d) → IsStorable d
 storable_payload (storable_choice h) = h
 
+same_in_variant : (of_variants : Shapes) (i j : ℕ) (d e : Datum) → (i ≡ j) × ((way : List ℕ) → arrays_in of_variants i way d ≡ arrays_in of_variants i way e)
+    → (way : List ℕ) → arrays_at (choice_shape of_variants) way (choice i d) ≡ arrays_at (choice_shape of_variants) way (choice j e)
+same_in_variant of_variants i j d e found [] = refl
+same_in_variant of_variants i j d e found (place ∷ way) =
+    ap (λ n. cond (i == place) n 0) (found.1 way) ∙ ap (λ k. cond (k == place) (arrays_in of_variants k way e) 0) found.0
+
 module _ {T : Type 0} {shapes : Shapes} {is_value : T → Type 0} {lists : T → ℕ → Datum → Type 0} {same : T → T → Type 0} where
+  choice_same_arrays : {order : Bool} → LawfulVariants shapes is_value lists same order
+      → (t : T) (d e : Datum) → is_value t → ListsChoice lists t d → ListsChoice lists t e
+      → (way : List ℕ) → arrays_at (choice_shape shapes) way d ≡ arrays_at (choice_shape shapes) way e
+  choice_same_arrays variants t d e h l m way =
+      ap (arrays_at (choice_shape shapes) way) l.is
+      ∙ same_in_variant shapes l.index m.index l.payload m.payload (variants.same_arrays t l.index m.index l.payload m.payload h l.lists_payload m.lists_payload) way
+      ∙ ap (arrays_at (choice_shape shapes) way) (sym m.is)
+
   pub choice_lawful : {order : Bool} → 2 ≤ variant_count shapes → variant_count shapes ≤ 256 → LawfulVariants shapes is_value lists same order
       → Lawful (choice_shape shapes) is_value (ListsChoice lists) same order
   choice_lawful several few variants = record {
@@ -172,6 +209,7 @@ module _ {T : Type 0} {shapes : Shapes} {is_value : T → Type 0} {lists : T →
     one_listing = λ o t d e h l m.
         let found = variants.one_listing o t l.index m.index l.payload m.payload h l.lists_payload m.lists_payload in
         cc (l.is, m.is, found.0, found.1);
+    same_arrays = choice_same_arrays variants;
     reflexive = variants.reflexive;
     symmetric = variants.symmetric;
     transitive = variants.transitive;

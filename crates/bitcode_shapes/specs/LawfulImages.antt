@@ -14,6 +14,7 @@ module _ {T U : Type 0} (stands_for : T → U) {shape : Shape} {is_value : U →
     listed = λ t h. l.listed (stands_for t) h;
     of_shape = λ t d h m. l.of_shape (stands_for t) d h m;
     one_listing = λ o t d e h m n. l.one_listing o (stands_for t) d e h m n;
+    same_arrays = λ t d e h m n way. l.same_arrays (stands_for t) d e h m n way;
     reflexive = λ t h. l.reflexive (stands_for t) h;
     symmetric = λ t u h i s. l.symmetric (stands_for t) (stands_for u) h i s;
     transitive = λ t u v h i j s r. l.transitive (stands_for t) (stands_for u) (stands_for v) h i j s r;

@@ -1,5 +1,5 @@
 -- A type without values is lawful: no datum is of its shape.
-use Rattle.std.proofs.Common.{ℕ, zero, suc, true}
+use Rattle.std.proofs.Common.{ℕ, zero, suc, true, refl}
 use Rattle.bitcode_shapes.specs.Shape.{never_shape}
 use Rattle.bitcode_shapes.specs.Lawful.{Lawful, Makeable}
 
@@ -18,6 +18,7 @@ never_lawful never = record {
   listed = λ t h. absurd (from_never never t ⊥);
   of_shape = λ t d h l. absurd l;
   one_listing = λ o t d e h l m. absurd l;
+  same_arrays = λ t d e h l m way. refl;
   reflexive = λ t h. tt;
   symmetric = λ t u h i s. tt;
   transitive = λ t u v h i j s r. tt;

@@ -1,14 +1,16 @@
 -- Values that hold elements of a lawful type one by one, front to back, are lawful.
-use Rattle.std.proofs.Common.{◌≡◌, ℕ, suc, ◌^◌, ◌<◌, ◌≤◌, Bool, None, List, [], ◌∷◌, length, refl, sym, ◌∙◌, ap, subst, arith}
-use Rattle.std.specs.Prelude.{IsTrue, All}
+use Rattle.std.proofs.Common.{◌≡◌, ℕ, suc, ◌^◌, ◌<◌, ◌≤◌, ◌+◌, Bool, Option, None, List, [], ◌∷◌, length, refl, sym, ◌∙◌, ap, ap₂, subst, arith}
+use Rattle.std.specs.Prelude.{IsTrue, All, sum_by}
 use Rattle.std.specs.List.{AllZip}
+use Rattle.std.proofs.lemmas.List.Sums.{sum_by-cons}
 use Rattle.std.proofs.lemmas.List.Elements.{All-nil, All-cons, All-head, All-tail, All-same}
 use Rattle.std.specs.declared.alloc.Global.{Global}
 use Rattle.std.specs.declared.vec.Vec.{Vec}
 use Rattle.std.specs.Vec.{vec_items}
 use denote.RawPtr.{block_ptr}
 use Rattle.bitcode_shapes.specs.Datum.{Datum, Data, datum_and, list, data_of, list_of, IsStorable, AreStorable, storable_list, storable_more}
-use Rattle.bitcode_shapes.specs.Shape.{Shape, IsOf, IsSound, IsListOf, IsWithin, seq_shape}
+use Rattle.bitcode_shapes.specs.Shape.{Shape, IsOf, IsSound, IsListOf, IsWithin, seq_shape, array_shape}
+use Rattle.bitcode_shapes.specs.ArrayCounts.{arrays_at}
 use Rattle.bitcode_shapes.specs.Lawful.{Lawful, Makeable}
 use Rattle.bitcode_shapes.specs.Sequences.{ListsSequence, MakesSequence, SameSequence}
 
@@ -44,6 +46,26 @@ zip_length R [] (y ∷ ys) z = absurd z
 zip_length R (x ∷ xs) [] z = absurd z
 zip_length R (x ∷ xs) (y ∷ ys) z = ap suc (zip_length R xs ys z.1)
 
+-- ---- numbers of arrays
+
+-- the two hold as many arrays at each node
+abbrev pub HoldSameArrays : Shape → List Datum → List Datum → Type 0
+HoldSameArrays shape ds es = (way : List ℕ) → sum_by (arrays_at shape way) ds ≡ sum_by (arrays_at shape way) es
+
+in_elements : (shape : Shape) (way : List ℕ) (ds es : List Datum) → HoldSameArrays shape ds es
+    → sum_by (arrays_at shape way) (list_of (data_of ds)) ≡ sum_by (arrays_at shape way) (list_of (data_of es))
+in_elements shape way ds es same =
+    ap (sum_by (arrays_at shape way)) (list_of_data ds) ∙ same way ∙ ap (sum_by (arrays_at shape way)) (sym (list_of_data es))
+
+pub seq_arrays : (limit : Option ℕ) (shape : Shape) (ds es : List Datum) → HoldSameArrays shape ds es
+    → (way : List ℕ) → arrays_at (seq_shape limit shape) way (list (data_of ds)) ≡ arrays_at (seq_shape limit shape) way (list (data_of es))
+seq_arrays limit shape ds es same way = in_elements shape way ds es same
+
+pub array_arrays : (size : ℕ) (shape : Shape) (ds es : List Datum) → HoldSameArrays shape ds es
+    → (way : List ℕ) → arrays_at (array_shape size shape) way (list (data_of ds)) ≡ arrays_at (array_shape size shape) way (list (data_of es))
+array_arrays size shape ds es same [] = refl
+array_arrays size shape ds es same (place ∷ way) = in_elements shape way ds es same
+
 -- ---- the elements of a lawful type
 
 module _ {T : Type 0} (shape : Shape) (is_value : T → Type 0) (lists : T → Datum → Type 0) (same : T → T → Type 0) where
@@ -76,12 +98,25 @@ module _ {T : Type 0} (shape : Shape) (is_value : T → Type 0) (lists : T → D
         let rest : ds ≡ es = each_one_listing o ts ds es (All-tail is_value t ts h) y.1 z.1 in
         cc
 
-    each_reflexive : (values : List T) → All is_value values → AllZip same values values
+    pub each_same_arrays : (way : List ℕ) (values : List T) (ds es : List Datum) → All is_value values → AllZip lists values ds → AllZip lists values es
+        → sum_by (arrays_at shape way) ds ≡ sum_by (arrays_at shape way) es
+    each_same_arrays way [] [] [] h y z = refl
+    each_same_arrays way [] [] (e ∷ es) h y z = absurd z
+    each_same_arrays way [] (d ∷ ds) es h y z = absurd y
+    each_same_arrays way (t ∷ ts) [] es h y z = absurd y
+    each_same_arrays way (t ∷ ts) (d ∷ ds) [] h y z = absurd z
+    each_same_arrays way (t ∷ ts) (d ∷ ds) (e ∷ es) h y z =
+        sum_by-cons (arrays_at shape way) d ds
+        ∙ ap₂ (λ one more. one + more) (element.same_arrays t d e (All-head is_value t ts h) y.0 z.0 way)
+        (each_same_arrays way ts ds es (All-tail is_value t ts h) y.1 z.1)
+        ∙ sym (sum_by-cons (arrays_at shape way) e es)
+
+    pub each_reflexive : (values : List T) → All is_value values → AllZip same values values
     each_reflexive [] h = tt
     each_reflexive (t ∷ ts) h =
         (element.reflexive t (All-head is_value t ts h), each_reflexive ts (All-tail is_value t ts h))
 
-    each_symmetric : (ts us : List T) → All is_value ts → All is_value us → AllZip same ts us → AllZip same us ts
+    pub each_symmetric : (ts us : List T) → All is_value ts → All is_value us → AllZip same ts us → AllZip same us ts
     each_symmetric [] [] h i z = tt
     each_symmetric [] (u ∷ us) h i z = absurd z
     each_symmetric (t ∷ ts) [] h i z = absurd z
@@ -90,7 +125,7 @@ module _ {T : Type 0} (shape : Shape) (is_value : T → Type 0) (lists : T → D
       each_symmetric ts us (All-tail is_value t ts h) (All-tail is_value u us i) z.1,
     )
 
-    each_transitive : (ts us vs : List T) → All is_value ts → All is_value us → All is_value vs
+    pub each_transitive : (ts us vs : List T) → All is_value ts → All is_value us → All is_value vs
         → AllZip same ts us → AllZip same us vs → AllZip same ts vs
     each_transitive [] [] vs h i j y z = z
     each_transitive [] (u ∷ us) vs h i j y z = absurd y
@@ -110,7 +145,7 @@ module _ {T : Type 0} (shape : Shape) (is_value : T → Type 0) (lists : T → D
         let rest = each_made g ds (All-tail (IsOf shape) d ds h) (storable_tail d (data_of ds) s) in
         (first.0 ∷ rest.0, (All-cons is_value first.0 rest.0 first.1.0 rest.1.0, (first.1.1, rest.1.1)))
 
-    each_once : (ds : List Datum) (ts us : List T) → All is_value ts → All is_value us
+    pub each_once : (ds : List Datum) (ts us : List T) → All is_value ts → All is_value us
         → AllZip makes ds ts → AllZip makes ds us → AllZip same ts us
     each_once [] [] [] h i y z = tt
     each_once [] [] (u ∷ us) h i y z = absurd z
@@ -122,7 +157,7 @@ module _ {T : Type 0} (shape : Shape) (is_value : T → Type 0) (lists : T → D
       each_once ds ts us (All-tail is_value t ts h) (All-tail is_value u us i) y.1 z.1,
     )
 
-    each_remade : (ts us : List T) (ds : List Datum) → All is_value ts → All is_value us
+    pub each_remade : (ts us : List T) (ds : List Datum) → All is_value ts → All is_value us
         → AllZip lists ts ds → AllZip makes ds us → AllZip same ts us
     each_remade [] [] ds h i y z = tt
     each_remade [] (u ∷ us) [] h i y z = absurd z
@@ -141,9 +176,10 @@ module _ {T : Type 0} (shape : Shape) (is_value : T → Type 0) (lists : T → D
     pub sequence_lawful : (order : Bool) → (IsSound shape → IsSound whole)
         → ((d : Datum) → IsListOf (IsOf shape) is_count d → IsOf whole d)
         → ((c : C) → is_whole c → is_count (length (items c)))
+        → ((ds es : List Datum) → HoldSameArrays shape ds es → (way : List ℕ) → arrays_at whole way (list (data_of ds)) ≡ arrays_at whole way (list (data_of es)))
         → Lawful shape is_value lists same order
         → Lawful whole is_whole (λ c d. ListsSequence lists (items c) d) (λ b c. SameSequence same (items b) (items c)) order
-    sequence_lawful order sound into counted element = record {
+    sequence_lawful order sound into counted arrays element = record {
       sound = sound element.sound;
       listed = λ c h.
           let found = each_listed order element (items c) (each c h) in
@@ -157,6 +193,10 @@ module _ {T : Type 0} (shape : Shape) (is_value : T → Type 0) (lists : T → D
       one_listing = λ o c d e h l m.
           let one = each_one_listing order element o (items c) l.elements m.elements (each c h) l.each m.each in
           l.is ∙ ap (λ ds. list (data_of ds)) one ∙ sym m.is;
+      same_arrays = λ c d e h l m way.
+          ap (arrays_at whole way) l.is
+          ∙ arrays l.elements m.elements (λ on. each_same_arrays order element on (items c) l.elements m.elements (each c h) l.each m.each) way
+          ∙ ap (arrays_at whole way) (sym m.is);
       reflexive = λ c h. each_reflexive order element (items c) (each c h);
       symmetric = λ b c h i s. each_symmetric order element (items b) (items c) (each b h) (each c i) s;
       transitive = λ a b c h i j s r. each_transitive order element (items a) (items b) (items c) (each a h) (each b i) (each c j) s r;
@@ -203,7 +243,7 @@ module _ {T : Type 0} (shape : Shape) (is_value : T → Type 0) (lists : T → D
         → Lawful (seq_shape None shape) (λ c. All is_value (items c)) (λ c d. ListsSequence lists (items c) d)
         (λ b c. SameSequence same (items b) (items c)) order
     seq_lawful order element = sequence_lawful items (λ c. All is_value (items c)) (λ c h. h) (seq_shape None shape) (IsWithin None)
-        order (λ s. s) (λ d l. l) (λ c h. tt) element
+        order (λ s. s) (λ d l. l) (λ c h. tt) (seq_arrays None shape) element
 
     pub seq_makeable : (makes : Datum → T → Type 0)
         → (Global → (values : List T) → length values < 2 ^ 63 → (c : C) × (items c ≡ values))

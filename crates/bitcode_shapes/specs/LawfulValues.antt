@@ -1,8 +1,9 @@
 -- Bools, integers, the unit and pairs of lawful types are lawful.
-use Rattle.std.proofs.Common.{◌≡◌, ℕ, zero, suc, ◌<◌, Bool, true, false, ℤ, pos, negsuc, refl, sym, ◌∙◌, ap, subst, arith, lit<, inl, inr}
+use Rattle.std.proofs.Common.{◌≡◌, ℕ, zero, suc, ◌<◌, Bool, true, false, ℤ, pos, negsuc, List, [], ◌∷◌, refl, sym, ◌∙◌, ap, subst, arith, lit<, inl, inr}
 use Rattle.std.specs.Prelude.{◌&&◌, IsTrue}
-use Rattle.bitcode_shapes.specs.Datum.{Datum, number, unit, pair, IsStorable, storable_tuple, storable_more}
+use Rattle.bitcode_shapes.specs.Datum.{Datum, number, unit, pair, first_in, second_in, IsStorable, storable_tuple, storable_more}
 use Rattle.bitcode_shapes.specs.Shape.{Shape, IsNaturalBelow, bool_shape, unit_shape, pair_shape, IsInWidth, IsNumberWidth}
+use Rattle.bitcode_shapes.specs.ArrayCounts.{arrays_at}
 use Rattle.bitcode_shapes.specs.Lawful.{Lawful, Makeable}
 use Rattle.bitcode_shapes.specs.Values.{bool_number, int_shape, ListsNumber, MakesNumber, SameNumber, IsValueOfWidth, ListsUnit, MakesUnit, IsPairValue, ListsPair, MakesPair, SamePair}
 
@@ -31,6 +32,7 @@ int_lawful value width signed known = record {
   listed = λ t h. (number (value t), refl);
   of_shape = λ t d h l. record { value = value t; is = l; in_width = h; in_allowed = tt };
   one_listing = λ o t d e h l m. l ∙ sym m;
+  same_arrays = λ t d e h l m way. refl;
   reflexive = λ t h. refl;
   symmetric = λ t u h i s. sym s;
   transitive = λ t u v h i j s r. s ∙ r;
@@ -70,6 +72,7 @@ bool_lawful = record {
   listed = λ t h. (number (bool_number t), refl);
   of_shape = λ t d h l. subst (IsNaturalBelow 2) (sym l) (bool_below t);
   one_listing = λ o t d e h l m. l ∙ sym m;
+  same_arrays = λ t d e h l m way. refl;
   reflexive = λ t h. refl;
   symmetric = λ t u h i s. sym s;
   transitive = λ t u v h i j s r. s ∙ r;
@@ -95,6 +98,7 @@ unit_lawful = record {
   listed = λ t h. (unit, refl);
   of_shape = λ t d h l. l;
   one_listing = λ o t d e h l m. l ∙ sym m;
+  same_arrays = λ t d e h l m way. refl;
   reflexive = λ t h. tt;
   symmetric = λ t u h i s. tt;
   transitive = λ t u v h i j s r. tt;
@@ -124,6 +128,17 @@ both false b h = absurd cc
 
 module _ {A B : Type 0} (shape_a shape_b : Shape) (is_a : A → Type 0) (is_b : B → Type 0) (lists_a : A → Datum → Type 0) (lists_b : B → Datum → Type 0)
     (same_a : A → A → Type 0) (same_b : B → B → Type 0) where
+  pair_same_arrays : {order_a order_b : Bool} → Lawful shape_a is_a lists_a same_a order_a → Lawful shape_b is_b lists_b same_b order_b
+      → (t : A × B) (d e : Datum) → IsPairValue is_a is_b t → ListsPair lists_a lists_b t d → ListsPair lists_a lists_b t e
+      → (way : List ℕ) → arrays_at (pair_shape shape_a shape_b) way d ≡ arrays_at (pair_shape shape_a shape_b) way e
+  pair_same_arrays la lb t d e h l m [] = refl
+  pair_same_arrays la lb t d e h l m (zero ∷ way) =
+      ap (λ x. arrays_at shape_a way (first_in x)) l.is ∙ la.same_arrays t.0 l.first m.first h.0 l.lists_first m.lists_first way
+      ∙ ap (λ x. arrays_at shape_a way (first_in x)) (sym m.is)
+  pair_same_arrays la lb t d e h l m (suc place ∷ way) =
+      ap (λ x. arrays_at shape_b way (second_in x)) l.is ∙ lb.same_arrays t.1 l.second m.second h.1 l.lists_second m.lists_second way
+      ∙ ap (λ x. arrays_at shape_b way (second_in x)) (sym m.is)
+
   pub pair_lawful : (order_a order_b : Bool) → Lawful shape_a is_a lists_a same_a order_a → Lawful shape_b is_b lists_b same_b order_b
       → Lawful (pair_shape shape_a shape_b) (IsPairValue is_a is_b) (ListsPair lists_a lists_b) (SamePair same_a same_b) (order_a && order_b)
   pair_lawful order_a order_b la lb = record {
@@ -141,6 +156,7 @@ module _ {A B : Type 0} (shape_a shape_b : Shape) (is_a : A → Type 0) (is_b : 
         let f : l.first ≡ m.first = la.one_listing (both order_a order_b o).0 t.0 l.first m.first h.0 l.lists_first m.lists_first in
         let s : l.second ≡ m.second = lb.one_listing (both order_a order_b o).1 t.1 l.second m.second h.1 l.lists_second m.lists_second in
         cc (l.is, m.is, f, s);
+    same_arrays = pair_same_arrays la lb;
     reflexive = λ t h. (la.reflexive t.0 h.0, lb.reflexive t.1 h.1);
     symmetric = λ t u h i s. (la.symmetric t.0 u.0 h.0 i.0 s.0, lb.symmetric t.1 u.1 h.1 i.1 s.1);
     transitive = λ t u v h i j s r. (la.transitive t.0 u.0 v.0 h.0 i.0 j.0 s.0 r.0, lb.transitive t.1 u.1 v.1 h.1 i.1 j.1 s.1 r.1);

@@ -1,5 +1,6 @@
 pub mod Datum
 pub mod Shape
+pub mod ArrayCounts
 pub mod Lawful
 pub mod Values
 pub mod LawfulValues
@@ -19,3 +20,9 @@ pub mod LawfulChecked
 pub mod Durations
 pub mod LawfulDurations
 pub mod Arrays
+pub mod Collections
+pub mod FixedCapacity
+pub mod AnyOrder
+pub mod LawfulAnyOrder
+pub mod Sets
+pub mod LawfulSets

@@ -4,8 +4,11 @@
 pub mod arrays;
 pub mod checked;
 pub mod choices;
+pub mod collections;
 pub mod durations;
 pub mod empty;
+pub mod fixed_capacity;
+pub mod keys;
 pub mod no_variants;
 pub mod pointers;
 pub mod sequences;

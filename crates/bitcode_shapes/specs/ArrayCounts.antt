@@ -1,0 +1,26 @@
+-- How many arrays a datum holds at a node of its shape. A way leads to the node: the elements of a list are no step, those
+-- of an array are one, keys and values, fields and variants are one by their place.
+use Rattle.std.specs.Prelude.{ℕ, zero, suc, List, [], ◌∷◌, ◌==◌, cond, sum_by}
+use Rattle.bitcode_shapes.specs.Datum.{Datum, elements_in, first_in, second_in, variant_in, payload_in}
+use Rattle.bitcode_shapes.specs.Shape.{Shape, Shapes, seq_shape, map_shape, array_shape, pair_shape, choice_shape, no_shapes, shape_and}
+
+abbrev mutual
+  pub arrays_at : Shape → List ℕ → Datum → ℕ
+  arrays_at (seq_shape limit element) way d = sum_by (arrays_at element way) (elements_in d)
+  arrays_at (map_shape key value) [] d = 0
+  arrays_at (map_shape key value) (zero ∷ way) d = sum_by (λ p. arrays_at key way (first_in p)) (elements_in d)
+  arrays_at (map_shape key value) (suc place ∷ way) d = sum_by (λ p. arrays_at value way (second_in p)) (elements_in d)
+  arrays_at (array_shape size element) [] d = 1
+  arrays_at (array_shape size element) (place ∷ way) d = sum_by (arrays_at element way) (elements_in d)
+  arrays_at (pair_shape first second) [] d = 0
+  arrays_at (pair_shape first second) (zero ∷ way) d = arrays_at first way (first_in d)
+  arrays_at (pair_shape first second) (suc place ∷ way) d = arrays_at second way (second_in d)
+  arrays_at (choice_shape of_variants) [] d = 0
+  arrays_at (choice_shape of_variants) (place ∷ way) d = cond (variant_in d == place) (arrays_in of_variants (variant_in d) way (payload_in d)) 0
+  arrays_at _ way d = 0
+
+  -- in the payload of the variant at the place
+  pub arrays_in : Shapes → ℕ → List ℕ → Datum → ℕ
+  arrays_in no_shapes place way d = 0
+  arrays_in (shape_and s ss) zero way d = arrays_at s way d
+  arrays_in (shape_and s ss) (suc place) way d = arrays_in ss place way d

@@ -1,0 +1,20 @@
+-- The making and equality of sets, by their keys: equal keys count once, and which of them a set keeps is open.
+use Rattle.std.specs.Prelude.{◌≡◌, Bool, true, List, All}
+use Rattle.std.specs.Set.{is_member}
+use Rattle.bitcode_shapes.specs.Datum.{Datum}
+use Rattle.bitcode_shapes.specs.Sequences.{MakesSequence}
+
+-- a key is equal to one of the first exactly where it is to one of the second
+abbrev pub SameMembers : {T : Type 0} → (T → T → Bool) → List T → List T → Type 0
+SameMembers {T} eq keys others = (key : T) → is_member eq keys key ≡ is_member eq others key
+
+-- the keys are those of the values that the elements make
+pub record MakesSet {T : Type 0} (is_value : T → Type 0) (eq : T → T → Bool) (makes : Datum → T → Type 0) (d : Datum) (keys : List T) : Type 0 where
+  pub values : List T
+  pub are : All is_value values
+  pub making : MakesSequence makes d values
+  pub members : SameMembers eq keys values
+
+-- `==` says of values whether they are the same
+abbrev pub TellsSame : {T : Type 0} → (T → Type 0) → (T → T → Type 0) → (T → T → Bool) → Type 0
+TellsSame {T} is_value same eq = (t u : T) → is_value t → is_value u → (same t u → eq t u ≡ true) × (eq t u ≡ true → same t u)
