@@ -26,3 +26,5 @@ pub mod AnyOrder
 pub mod LawfulAnyOrder
 pub mod Sets
 pub mod LawfulSets
+pub mod BuiltOrdered
+pub mod BuiltDistinct
