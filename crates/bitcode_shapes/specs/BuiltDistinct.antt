@@ -9,7 +9,7 @@ use Rattle.std.proofs.lemmas.List.Elements.{All-nil, All-cons, All-head, All-tai
 
 module _ {K X : Type 0} (eq : K → K → Bool) where
   -- the entries whose keys are not equal to k
-  without : K → List (K × X) → List (K × X)
+  abbrev without : K → List (K × X) → List (K × X)
   without k [] = []
   without k (e ∷ es) = cond (eq k e.0) (without k es) (e ∷ without k es)
 
@@ -26,6 +26,7 @@ module _ {K X : Type 0} (eq : K → K → Bool) where
       (λ same. apart_without k es) (λ other. (other, apart_without k es))
 
   distinct_without : (k : K) (es : List (K × X)) → IsDistinct eq (keys_of es) → IsDistinct eq (keys_of (without k es))
+  unfolding IsDistinct
   distinct_without k [] h = tt
   distinct_without k (e ∷ es) h =
       cond_both (eq k e.0) (without k es) (e ∷ without k es) (λ l. IsDistinct eq (keys_of l))
@@ -39,11 +40,12 @@ module _ {K X : Type 0} (eq : K → K → Bool) where
         (λ same. kept_without k es (All-tail P e es h)) (λ other. All-cons P e (without k es) (All-head P e es h) (kept_without k es (All-tail P e es h)))
 
   -- the pairs put in turn
-  pub all_put : List (K × X) → List (K × X) → List (K × X)
+  abbrev pub all_put : List (K × X) → List (K × X) → List (K × X)
   all_put es [] = es
   all_put es (p ∷ ps) = all_put (p ∷ without p.0 es) ps
 
   pub all_distinct : (es ps : List (K × X)) → IsDistinct eq (keys_of es) → IsDistinct eq (keys_of (all_put es ps))
+  unfolding IsDistinct
   all_distinct es [] h = h
   all_distinct es (p ∷ ps) h = all_distinct (p ∷ without p.0 es) ps (apart_without p.0 es, distinct_without p.0 es h)
 

@@ -89,7 +89,7 @@ module _ {K X : Type 0} {R : K → K → Ordering} (o : IsTotalOrder R) where
 -- ---- entries of many pairs
 
 module _ {K X : Type 0} {R : K → K → Ordering} (o : IsTotalOrder R) where
-  pub all_inserted : List (K × X) → List (K × X) → List (K × X)
+  abbrev pub all_inserted : List (K × X) → List (K × X) → List (K × X)
   all_inserted es [] = es
   all_inserted es (p ∷ ps) = all_inserted (insert_entry R es p.0 p.1) ps
 

@@ -28,3 +28,5 @@ pub mod Sets
 pub mod LawfulSets
 pub mod BuiltOrdered
 pub mod BuiltDistinct
+pub mod Maps
+pub mod LawfulMaps
