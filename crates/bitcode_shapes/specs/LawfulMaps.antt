@@ -50,8 +50,8 @@ module _ {K X : Type 0} {eq : K → K → Bool} (laws : IsEquivalence eq) where
   found_at k v (x ∷ xs) e = by (eq k x.0) refl (λ g. found_at k v xs g) e
     where
       by : (b : Bool) → eq k x.0 ≡ b → (lookup (eq k) xs ≡ Some v → FindsAt k v xs) → cond b (Some x.1) (lookup (eq k) xs) ≡ Some v → FindsAt k v (x ∷ xs)
-      by true p later g = let here : x.1 ≡ v = cc in record { stored = x.0; entry = (0, (omega arith, ap (λ w. (x.0, w)) here)); equal = p }
-      by false p later g = let f = later g in record { stored = f.stored; entry = (suc f.entry.0, (omega (arith, f.entry.1.0), f.entry.1.1)); equal = f.equal }
+      by true p later g = let here : x.1 ≡ v = cc in record { stored = x.0; entry = (0, omega arith, ap (λ w. (x.0, w)) here); equal = p }
+      by false p later g = let f = later g in record { stored = f.stored; entry = (suc f.entry.0, omega (arith, f.entry.1), f.entry.2); equal = f.equal }
 
   found_reordered : (k : K) (v : X) (es fs : List (K × X)) → IsPermutation es fs → IsDistinct eq (keys_of fs) → lookup (eq k) es ≡ Some v → lookup (eq k) fs ≡ Some v
   found_reordered k v es fs moved distinct e =
