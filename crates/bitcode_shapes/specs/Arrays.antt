@@ -19,9 +19,9 @@ module _ {T : Type 0} (size : ℕ) (shape : Shape) (is_value : T → Type 0) (li
       sequence_lawful shape is_value lists same (λ (values : List T). values) (IsArrayValue size is_value) (λ values h. h.each)
       (array_shape size shape) (λ n. n ≡ size) order (λ sound. sound) (λ d l. l) (λ values h. h.count) (array_arrays size shape) element
 
-  pub array_makeable : (makes : Datum → T → Type 0) → Makeable shape is_value lists same makes
-      → Makeable (array_shape size shape) (IsArrayValue size is_value) (ListsSequence lists) (SameSequence same) (MakesSequence makes)
+  pub array_makeable : {on : Type 0} (makes : Datum → T → Type 0) → Makeable on shape is_value lists same makes
+      → Makeable on (array_shape size shape) (IsArrayValue size is_value) (ListsSequence lists) (SameSequence same) (MakesSequence makes)
   array_makeable makes element =
       sequence_makeable shape is_value lists same (λ (values : List T). values) (IsArrayValue size is_value) (λ values h. h.each)
-      (array_shape size shape) (λ n. n ≡ size) makes (λ d is. is)
+      (array_shape size shape) (λ n. n ≡ size) makes (λ g. g) (λ d is. is)
       (λ g values small each count. (values, (record { each = each; count = count }, refl))) element

@@ -86,6 +86,10 @@ module _ {K X : Type 0} {R : K → K → Ordering} (o : IsTotalOrder R) where
           apart : eq_by_cmp R e.0 k ≡ true → R k e.0 ≡ Greater → ⊥
           apart one more = let other : eq_by_cmp R k e.0 ≡ true = (eq_by_cmp_equiv o).symm k e.0 ∙ one in absurd cc
 
+pub none_sorted : {K : Type 0} (R : K → K → Ordering) → IsStrictlySortedBy R []
+unfolding IsStrictlySortedBy
+none_sorted R = tt
+
 -- ---- entries of many pairs
 
 module _ {K X : Type 0} {R : K → K → Ordering} (o : IsTotalOrder R) where

@@ -23,5 +23,5 @@ deque_built g values small = (
   refl,
 )
 
-pub list_built : {T : Type 0} → Global → (values : List T) → length values < 2 ^ 63 → (l : List T) × (l ≡ values)
-list_built g values small = (values, refl)
+pub list_built : {T : Type 0} → (values : List T) → length values < 2 ^ 63 → (l : List T) × (l ≡ values)
+list_built values small = (values, refl)

@@ -26,12 +26,12 @@ module _ {T : Type 0} (capacity : ℕ) (shape : Shape) (is_value : T → Type 0)
       (seq_shape (Some capacity) shape) (IsWithin (Some capacity)) order (λ sound. sound) (λ d l. l) (λ v h. h.count)
       (seq_arrays (Some capacity) shape) element
 
-  pub array_vec_makeable : (makes : Datum → T → Type 0) → Makeable shape is_value lists same makes
-      → Makeable (seq_shape (Some capacity) shape) (λ (v : ArrayVec T). IsWithinCapacity capacity is_value v.items) (λ v d. ListsSequence lists v.items d)
+  pub array_vec_makeable : {on : Type 0} (makes : Datum → T → Type 0) → Makeable on shape is_value lists same makes
+      → Makeable on (seq_shape (Some capacity) shape) (λ (v : ArrayVec T). IsWithinCapacity capacity is_value v.items) (λ v d. ListsSequence lists v.items d)
       (λ v w. SameSequence same v.items w.items) (λ d v. MakesSequence makes d v.items)
   array_vec_makeable makes element =
       sequence_makeable shape is_value lists same (λ (v : ArrayVec T). v.items) (λ v. IsWithinCapacity capacity is_value v.items) (λ v h. h.each)
-      (seq_shape (Some capacity) shape) (IsWithin (Some capacity)) makes (λ d is. is)
+      (seq_shape (Some capacity) shape) (IsWithin (Some capacity)) makes (λ g. g) (λ d is. is)
       (λ g values small each count. (record { items = values }, (record { each = each; count = count }, refl))) element
 
 -- the bytes are those of a text, and no more than fit
@@ -43,7 +43,7 @@ module _ (capacity : ℕ) where
   pub array_string_lawful : Lawful (text_shape (Some capacity)) (λ (s : ArrayString). IsTextWithin capacity s.bytes) (ListsText (λ s. s.bytes)) (SameText (λ s. s.bytes)) true
   array_string_lawful = limited_lawful (λ s. s.bytes) (Some capacity) (λ s. IsTextWithin capacity s.bytes) (λ s h. (h.utf8, h.size))
 
-  pub array_string_makeable : Makeable (text_shape (Some capacity)) (λ (s : ArrayString). IsTextWithin capacity s.bytes) (ListsText (λ s. s.bytes))
+  pub array_string_makeable : Makeable (Unit {0}) (text_shape (Some capacity)) (λ (s : ArrayString). IsTextWithin capacity s.bytes) (ListsText (λ s. s.bytes))
       (SameText (λ s. s.bytes)) (MakesText (λ s. s.bytes))
   array_string_makeable =
       limited_makeable (λ s. s.bytes) (Some capacity) (λ s. IsTextWithin capacity s.bytes)

@@ -1,7 +1,6 @@
 -- What a lawful type promises. T is the type; a value of it meets is_value (the numbers and chars in it are in
 -- their types' ranges).
 use Rattle.std.specs.Prelude.{◌≡◌, ℕ, Bool, IsTrue, List}
-use Rattle.std.specs.declared.alloc.Global.{Global}
 use Rattle.bitcode_shapes.specs.Datum.{Datum, IsStorable}
 use Rattle.bitcode_shapes.specs.Shape.{Shape, IsOf, IsSound}
 use Rattle.bitcode_shapes.specs.ArrayCounts.{arrays_at}
@@ -19,9 +18,10 @@ pub record Lawful {T : Type 0} (shape : Shape) (is_value : T → Type 0) (lists 
   pub symmetric : (t u : T) → is_value t → is_value u → same t u → same u t
   pub transitive : (t u v : T) → is_value t → is_value u → is_value v → same t u → same u v → same t v
 
--- Each datum of the shape that memory can hold makes some value (the allocator is what a value is built on);
+-- Each datum of the shape that memory can hold makes some value, given the material that values are built on, as an
+-- allocator;
 -- what one datum makes is equal, and a value is equal to what a listing of it makes.
-pub record Makeable {T : Type 0} (shape : Shape) (is_value : T → Type 0) (lists : T → Datum → Type 0) (same : T → T → Type 0) (makes : Datum → T → Type 0) : Type 0 where
-  pub made : Global → (d : Datum) → IsOf shape d → IsStorable d → (t : T) × (is_value t × makes d t)
+pub record Makeable {T : Type 0} (material : Type 0) (shape : Shape) (is_value : T → Type 0) (lists : T → Datum → Type 0) (same : T → T → Type 0) (makes : Datum → T → Type 0) : Type 0 where
+  pub made : material → (d : Datum) → IsOf shape d → IsStorable d → (t : T) × (is_value t × makes d t)
   pub once : (d : Datum) (t u : T) → is_value t → is_value u → makes d t → makes d u → same t u
   pub remade : (t u : T) (d : Datum) → is_value t → is_value u → lists t d → makes d u → same t u

@@ -4,7 +4,6 @@ use Rattle.std.specs.Prelude.{All, slice_set}
 use Rattle.std.specs.List.{AllZip, swap}
 use Rattle.std.specs.List.Sorted.{IsPermutation}
 use Rattle.std.proofs.lemmas.List.Sorted.{IsPermutation-refl, IsPermutation-sym, IsPermutation-trans, IsPermutation-swap, IsPermutation-keeps, All-permutation, sum_by-IsPermutation}
-use Rattle.std.specs.declared.alloc.Global.{Global}
 use Rattle.bitcode_shapes.specs.Datum.{Datum, list, data_of}
 use Rattle.bitcode_shapes.specs.Shape.{Shape, IsOf, IsListOf, IsSound, seq_shape}
 use Rattle.bitcode_shapes.specs.ArrayCounts.{arrays_at}
@@ -147,13 +146,13 @@ module _ {T : Type 0} (shape : Shape) (is_value : T → Type 0) (lists : T → D
     }
 
   -- a container of any number of elements, of which nothing else is asked
-  pub any_order_makeable : {C : Type 0} (items : C → List T) (makes : Datum → T → Type 0)
-      → (Global → (values : List T) → length values < 2 ^ 63 → (c : C) × (items c ≡ values))
-      → Makeable shape is_value lists same makes
-      → Makeable (seq_shape None shape) (λ c. All is_value (items c)) (λ c d. ListsInAnyOrder lists (items c) d)
+  pub any_order_makeable : {C on inner : Type 0} (items : C → List T) (makes : Datum → T → Type 0) → (on → inner)
+      → (on → (values : List T) → length values < 2 ^ 63 → (c : C) × (items c ≡ values))
+      → Makeable inner shape is_value lists same makes
+      → Makeable on (seq_shape None shape) (λ c. All is_value (items c)) (λ c d. ListsInAnyOrder lists (items c) d)
       (λ b c. SameInAnyOrder same (items b) (items c)) (λ d c. MakesInAnyOrder makes d (items c))
-  any_order_makeable items makes build element =
-      let in_order = seq_makeable shape is_value lists same items makes build element in
+  any_order_makeable items makes within build element =
+      let in_order = seq_makeable shape is_value lists same items makes within build element in
       record {
         made = λ g d o s.
             let found = in_order.made g d o s in

@@ -4,7 +4,6 @@
 --     image_lawful stands_for (choice_lawful (lit≤ tt) (lit≤ tt) (first_lawful a_lawful (first_lawful b_lawful (last_lawful c_lawful))))
 use Rattle.std.proofs.Common.{◌≡◌, ℕ, zero, suc, ◌≤◌, Bool, Option, Some, None, List, [], ◌∷◌, Result, Ok, Err, refl, sym, ◌∙◌, ap, subst, inl, inr, lit≤}
 use Rattle.std.specs.Prelude.{◌&&◌, ◌==◌, cond, IsTrue, ◌⊎◌}
-use Rattle.std.specs.declared.alloc.Global.{Global}
 use Rattle.bitcode_shapes.specs.Datum.{Datum, choice, IsStorable, storable_choice}
 use Rattle.bitcode_shapes.specs.Shape.{Shape, Shapes, no_shapes, shape_and, choice_shape, variant_count, IsOfVariant, AreSound, unit_shape}
 use Rattle.bitcode_shapes.specs.ArrayCounts.{arrays_at, arrays_in}
@@ -26,8 +25,8 @@ pub record LawfulVariants {T : Type 0} (shapes : Shapes) (is_value : T → Type 
   pub symmetric : (t u : T) → is_value t → is_value u → same t u → same u t
   pub transitive : (t u v : T) → is_value t → is_value u → is_value v → same t u → same u v → same t v
 
-pub record MakeableVariants {T : Type 0} (shapes : Shapes) (is_value : T → Type 0) (lists : T → ℕ → Datum → Type 0) (same : T → T → Type 0) (makes : ℕ → Datum → T → Type 0) : Type 0 where
-  pub made : Global → (index : ℕ) (d : Datum) → IsOfVariant shapes index d → IsStorable d → (t : T) × (is_value t × makes index d t)
+pub record MakeableVariants {T : Type 0} (material : Type 0) (shapes : Shapes) (is_value : T → Type 0) (lists : T → ℕ → Datum → Type 0) (same : T → T → Type 0) (makes : ℕ → Datum → T → Type 0) : Type 0 where
+  pub made : material → (index : ℕ) (d : Datum) → IsOfVariant shapes index d → IsStorable d → (t : T) × (is_value t × makes index d t)
   pub once : (index : ℕ) (d : Datum) (t u : T) → is_value t → is_value u → makes index d t → makes index d u → same t u
   pub remade : (t u : T) (index : ℕ) (d : Datum) → is_value t → is_value u → lists t index d → makes index d u → same t u
 
@@ -62,8 +61,8 @@ module _ {A : Type 0} {s : Shape} {is_a : A → Type 0} {lists_a : A → Datum �
       transitive = last.transitive;
     }
 
-  module _ {makes_a : Datum → A → Type 0} (last : Makeable s is_a lists_a same_a makes_a) where
-    last_made : Global → (index : ℕ) (d : Datum) → IsOfVariant (shape_and s no_shapes) index d → IsStorable d → (t : A) × (is_a t × MakesLast makes_a index d t)
+  module _ {on : Type 0} {makes_a : Datum → A → Type 0} (last : Makeable on s is_a lists_a same_a makes_a) where
+    last_made : on → (index : ℕ) (d : Datum) → IsOfVariant (shape_and s no_shapes) index d → IsStorable d → (t : A) × (is_a t × MakesLast makes_a index d t)
     last_made g zero d o stored = last.made g d o stored
     last_made g (suc index) d o stored = absurd o
 
@@ -75,7 +74,7 @@ module _ {A : Type 0} {s : Shape} {is_a : A → Type 0} {lists_a : A → Datum �
     last_remade t u zero d h i l m = last.remade t u d h i l m
     last_remade t u (suc index) d h i l m = absurd m
 
-    pub last_makeable : MakeableVariants (shape_and s no_shapes) is_a (ListsLast lists_a) same_a (MakesLast makes_a)
+    pub last_makeable : MakeableVariants on (shape_and s no_shapes) is_a (ListsLast lists_a) same_a (MakesLast makes_a)
     last_makeable = record { made = last_made; once = last_once; remade = last_remade }
 
 -- ---- the first variant beside the rest
@@ -147,12 +146,12 @@ module _ {A B : Type 0} {s : Shape} {ss : Shapes} {is_a : A → Type 0} {is_b : 
       transitive = variant_transitive;
     }
 
-  module _ {makes_a : Datum → A → Type 0} {makes_b : ℕ → Datum → B → Type 0} (first : Makeable s is_a lists_a same_a makes_a)
-      (rest : MakeableVariants ss is_b lists_b same_b makes_b) where
-    variant_made : Global → (index : ℕ) (d : Datum) → IsOfVariant (shape_and s ss) index d → IsStorable d
+  module _ {on_a on_b : Type 0} {makes_a : Datum → A → Type 0} {makes_b : ℕ → Datum → B → Type 0} (first : Makeable on_a s is_a lists_a same_a makes_a)
+      (rest : MakeableVariants on_b ss is_b lists_b same_b makes_b) where
+    variant_made : on_a × on_b → (index : ℕ) (d : Datum) → IsOfVariant (shape_and s ss) index d → IsStorable d
         → (t : A ⊎ B) × (IsVariantValue is_a is_b t × MakesVariant makes_a makes_b index d t)
-    variant_made g zero d o stored = let found = first.made g d o stored in (inl found.0, found.1)
-    variant_made g (suc index) d o stored = let found = rest.made g index d o stored in (inr found.0, found.1)
+    variant_made g zero d o stored = let found = first.made g.0 d o stored in (inl found.0, found.1)
+    variant_made g (suc index) d o stored = let found = rest.made g.1 index d o stored in (inr found.0, found.1)
 
     variant_once : (index : ℕ) (d : Datum) (t u : A ⊎ B) → IsVariantValue is_a is_b t → IsVariantValue is_a is_b u
         → MakesVariant makes_a makes_b index d t → MakesVariant makes_a makes_b index d u → SameVariant same_a same_b t u
@@ -172,7 +171,7 @@ module _ {A B : Type 0} {s : Shape} {ss : Shapes} {is_a : A → Type 0} {is_b : 
     variant_remade (inr a) (inl b) (suc index) d h i l m = absurd m
     variant_remade (inr a) (inr b) (suc index) d h i l m = rest.remade a b index d h i l m
 
-    pub first_makeable : MakeableVariants (shape_and s ss) (IsVariantValue is_a is_b) (ListsVariant lists_a lists_b) (SameVariant same_a same_b) (MakesVariant makes_a makes_b)
+    pub first_makeable : MakeableVariants (on_a × on_b) (shape_and s ss) (IsVariantValue is_a is_b) (ListsVariant lists_a lists_b) (SameVariant same_a same_b) (MakesVariant makes_a makes_b)
     first_makeable = record { made = variant_made; once = variant_once; remade = variant_remade }
 
 -- ---- choices
@@ -215,9 +214,9 @@ module _ {T : Type 0} {shapes : Shapes} {is_value : T → Type 0} {lists : T →
     transitive = variants.transitive;
   }
 
-  pub choice_makeable : {makes : ℕ → Datum → T → Type 0} → MakeableVariants shapes is_value lists same makes
-      → Makeable (choice_shape shapes) is_value (ListsChoice lists) same (MakesChoice makes)
-  choice_makeable {makes} variants = record {
+  pub choice_makeable : {on : Type 0} {makes : ℕ → Datum → T → Type 0} → MakeableVariants on shapes is_value lists same makes
+      → Makeable on (choice_shape shapes) is_value (ListsChoice lists) same (MakesChoice makes)
+  choice_makeable {makes = makes} variants = record {
     made = λ g d o stored.
         let found = variants.made g o.index o.payload o.is_variant (storable_payload (subst IsStorable o.is stored)) in
         (found.0, (found.1.0, record { index = o.index; payload = o.payload; is = o.is; makes_payload = found.1.1 }));
@@ -246,12 +245,12 @@ module _ {A : Type 0} {s : Shape} {is_a : A → Type 0} {lists_a : A → Datum �
       (λ o p. SameVariant (λ t u. Unit {0}) same_a (option_variant o) (option_variant p)) order
   option_lawful some = image_lawful option_variant (choice_lawful (lit≤ tt) (lit≤ tt) (first_lawful unit_lawful (last_lawful some)))
 
-  pub option_makeable : {makes_a : Datum → A → Type 0} → Makeable s is_a lists_a same_a makes_a
-      → Makeable (choice_shape (shape_and unit_shape (shape_and s no_shapes))) (λ (o : Option A). IsVariantValue (λ t. Unit {0}) is_a (option_variant o))
+  pub option_makeable : {on : Type 0} {makes_a : Datum → A → Type 0} → Makeable on s is_a lists_a same_a makes_a
+      → Makeable on (choice_shape (shape_and unit_shape (shape_and s no_shapes))) (λ (o : Option A). IsVariantValue (λ t. Unit {0}) is_a (option_variant o))
       (λ o d. ListsChoice (ListsVariant ListsUnit (ListsLast lists_a)) (option_variant o) d)
       (λ o p. SameVariant (λ t u. Unit {0}) same_a (option_variant o) (option_variant p))
       (λ d o. MakesChoice (MakesVariant MakesUnit (MakesLast makes_a)) d (option_variant o))
-  option_makeable some = image_makeable option_variant (λ g u h. option_found u) (choice_makeable (first_makeable (unit_makeable tt) (last_makeable some)))
+  option_makeable some = image_makeable option_variant (λ g. (tt, g)) (λ g u h. option_found u) (choice_makeable (first_makeable (unit_makeable tt) (last_makeable some)))
 
 module _ {A B : Type 0} {s t : Shape} {is_a : A → Type 0} {is_b : B → Type 0} {lists_a : A → Datum → Type 0} {lists_b : B → Datum → Type 0}
     {same_a : A → A → Type 0} {same_b : B → B → Type 0} where
@@ -261,9 +260,9 @@ module _ {A B : Type 0} {s t : Shape} {is_a : A → Type 0} {is_b : B → Type 0
       (λ q r. SameVariant same_a same_b (result_variant q) (result_variant r)) (order_a && order_b)
   result_lawful ok err = image_lawful result_variant (choice_lawful (lit≤ tt) (lit≤ tt) (first_lawful ok (last_lawful err)))
 
-  pub result_makeable : {makes_a : Datum → A → Type 0} {makes_b : Datum → B → Type 0} → Makeable s is_a lists_a same_a makes_a → Makeable t is_b lists_b same_b makes_b
-      → Makeable (choice_shape (shape_and s (shape_and t no_shapes))) (λ (r : Result A B). IsVariantValue is_a is_b (result_variant r))
+  pub result_makeable : {on_a on_b : Type 0} {makes_a : Datum → A → Type 0} {makes_b : Datum → B → Type 0} → Makeable on_a s is_a lists_a same_a makes_a → Makeable on_b t is_b lists_b same_b makes_b
+      → Makeable (on_a × on_b) (choice_shape (shape_and s (shape_and t no_shapes))) (λ (r : Result A B). IsVariantValue is_a is_b (result_variant r))
       (λ r d. ListsChoice (ListsVariant lists_a (ListsLast lists_b)) (result_variant r) d)
       (λ q r. SameVariant same_a same_b (result_variant q) (result_variant r))
       (λ d r. MakesChoice (MakesVariant makes_a (MakesLast makes_b)) d (result_variant r))
-  result_makeable ok err = image_makeable result_variant (λ g u h. result_found u) (choice_makeable (first_makeable ok (last_makeable err)))
+  result_makeable ok err = image_makeable result_variant (λ g. g) (λ g u h. result_found u) (choice_makeable (first_makeable ok (last_makeable err)))

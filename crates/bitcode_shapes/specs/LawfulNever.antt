@@ -24,7 +24,7 @@ never_lawful never = record {
   transitive = λ t u v h i j s r. tt;
 }
 
-pub never_makeable : {T : Type 0} → Makeable never_shape (λ (t : T). Unit {0}) (λ t d. ⊥) (λ t u. Unit {0}) (λ d t. ⊥)
+pub never_makeable : {T : Type 0} → Makeable (Unit {0}) never_shape (λ (t : T). Unit {0}) (λ t d. ⊥) (λ t u. Unit {0}) (λ d t. ⊥)
 never_makeable = record {
   made = λ g d o s. absurd o;
   once = λ d t u h i m n. absurd m;

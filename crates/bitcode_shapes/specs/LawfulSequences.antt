@@ -136,8 +136,8 @@ module _ {T : Type 0} (shape : Shape) (is_value : T → Type 0) (lists : T → D
       each_transitive ts us vs (All-tail is_value t ts h) (All-tail is_value u us i) (All-tail is_value v vs j) y.1 z.1,
     )
 
-  module _ (makes : Datum → T → Type 0) (element : Makeable shape is_value lists same makes) where
-    each_made : Global → (ds : List Datum) → All (IsOf shape) ds → AreStorable (data_of ds)
+  module _ {on : Type 0} (makes : Datum → T → Type 0) (element : Makeable on shape is_value lists same makes) where
+    each_made : on → (ds : List Datum) → All (IsOf shape) ds → AreStorable (data_of ds)
         → (values : List T) × (All is_value values × AllZip makes ds values)
     each_made g [] h s = ([], (All-nil is_value, tt))
     each_made g (d ∷ ds) h s =
@@ -202,18 +202,19 @@ module _ {T : Type 0} (shape : Shape) (is_value : T → Type 0) (lists : T → D
       transitive = λ a b c h i j s r. each_transitive order element (items a) (items b) (items c) (each a h) (each b i) (each c j) s r;
     }
 
-    pub sequence_makeable : (makes : Datum → T → Type 0)
+    -- within the material is that of the elements
+    pub sequence_makeable : {on inner : Type 0} (makes : Datum → T → Type 0) → (on → inner)
         → ((d : Datum) → IsOf whole d → IsListOf (IsOf shape) is_count d)
-        → (Global → (values : List T) → length values < 2 ^ 63 → All is_value values → is_count (length values)
+        → (on → (values : List T) → length values < 2 ^ 63 → All is_value values → is_count (length values)
         → (c : C) × (is_whole c × (items c ≡ values)))
-        → Makeable shape is_value lists same makes
-        → Makeable whole is_whole (λ c d. ListsSequence lists (items c) d) (λ b c. SameSequence same (items b) (items c))
+        → Makeable inner shape is_value lists same makes
+        → Makeable on whole is_whole (λ c d. ListsSequence lists (items c) d) (λ b c. SameSequence same (items b) (items c))
         (λ d c. MakesSequence makes d (items c))
-    sequence_makeable makes out_of build element = record {
+    sequence_makeable makes within out_of build element = record {
       made = λ g d o s.
           let l = out_of d o in
           let stored : IsStorable (list (data_of l.elements)) = subst IsStorable l.is s in
-          let found = each_made makes element g l.elements l.each (storable_each (data_of l.elements) stored) in
+          let found = each_made makes element (within g) l.elements l.each (storable_each (data_of l.elements) stored) in
           let as_many : length l.elements ≡ length found.0 = zip_length makes l.elements found.0 found.1.1 in
           let small : length l.elements < 2 ^ 63 = subst (λ ds. length ds < 2 ^ 63) (list_of_data l.elements) (storable_count (data_of l.elements) stored) in
           let built = build g found.0 (subst (λ n. n < 2 ^ 63) as_many small) found.1.0 (subst is_count as_many l.count) in (
@@ -245,13 +246,13 @@ module _ {T : Type 0} (shape : Shape) (is_value : T → Type 0) (lists : T → D
     seq_lawful order element = sequence_lawful items (λ c. All is_value (items c)) (λ c h. h) (seq_shape None shape) (IsWithin None)
         order (λ s. s) (λ d l. l) (λ c h. tt) (seq_arrays None shape) element
 
-    pub seq_makeable : (makes : Datum → T → Type 0)
-        → (Global → (values : List T) → length values < 2 ^ 63 → (c : C) × (items c ≡ values))
-        → Makeable shape is_value lists same makes
-        → Makeable (seq_shape None shape) (λ c. All is_value (items c)) (λ c d. ListsSequence lists (items c) d)
+    pub seq_makeable : {on inner : Type 0} (makes : Datum → T → Type 0) → (on → inner)
+        → (on → (values : List T) → length values < 2 ^ 63 → (c : C) × (items c ≡ values))
+        → Makeable inner shape is_value lists same makes
+        → Makeable on (seq_shape None shape) (λ c. All is_value (items c)) (λ c d. ListsSequence lists (items c) d)
         (λ b c. SameSequence same (items b) (items c)) (λ d c. MakesSequence makes d (items c))
-    seq_makeable makes build element = sequence_makeable items (λ c. All is_value (items c)) (λ c h. h) (seq_shape None shape) (IsWithin None)
-        makes (λ d o. o)
+    seq_makeable makes within build element = sequence_makeable items (λ c. All is_value (items c)) (λ c h. h) (seq_shape None shape) (IsWithin None)
+        makes within (λ d o. o)
         (λ g values small h n.
         let built = build g values small in
         (built.0, (All-same is_value (items built.0) values built.1 h, built.1)))

@@ -38,9 +38,9 @@ module _ {T : Type 0} (bytes : T → List ℕ) (limit : Option ℕ) (is_whole : 
   }
 
   -- each text that memory can hold is the bytes of some value
-  pub limited_makeable : (Global → (whole : List ℕ) → length whole < 2 ^ 63 → IsUtf8 whole → IsWithin limit (length whole)
+  pub limited_makeable : {on : Type 0} → (on → (whole : List ℕ) → length whole < 2 ^ 63 → IsUtf8 whole → IsWithin limit (length whole)
       → (t : T) × (is_whole t × (bytes t ≡ whole)))
-      → Makeable (text_shape limit) is_whole (ListsText bytes) (SameText bytes) (MakesText bytes)
+      → Makeable on (text_shape limit) is_whole (ListsText bytes) (SameText bytes) (MakesText bytes)
   limited_makeable build = record {
     made = λ g d o s.
         let built = build g o.bytes (storable_length o.bytes (subst IsStorable o.is s)) o.utf8 o.within in
@@ -55,8 +55,8 @@ module _ {T : Type 0} (bytes : T → List ℕ) where
   pub text_lawful : Lawful (text_shape None) (IsTextValue bytes) (ListsText bytes) (SameText bytes) true
   text_lawful = limited_lawful bytes None (IsTextValue bytes) (λ t h. (h, tt))
 
-  pub text_makeable : (Global → (whole : List ℕ) → length whole < 2 ^ 63 → IsUtf8 whole → (t : T) × (bytes t ≡ whole))
-      → Makeable (text_shape None) (IsTextValue bytes) (ListsText bytes) (SameText bytes) (MakesText bytes)
+  pub text_makeable : {on : Type 0} → (on → (whole : List ℕ) → length whole < 2 ^ 63 → IsUtf8 whole → (t : T) × (bytes t ≡ whole))
+      → Makeable on (text_shape None) (IsTextValue bytes) (ListsText bytes) (SameText bytes) (MakesText bytes)
   text_makeable build = limited_makeable bytes None (IsTextValue bytes) (λ g whole small utf8 any.
       let built = build g whole small utf8 in
       (built.0, (subst IsUtf8 (sym built.1) utf8, built.1)))
@@ -78,5 +78,5 @@ rc_str_built g whole small utf8 =
     let inner = string_built g whole small utf8 in
     (record { text = record { ptr = block_ptr 0 0; value = inner.0 } }, inner.1)
 
-pub str_built : Global → (whole : List ℕ) → length whole < 2 ^ 63 → IsUtf8 whole → (t : Bor (List ℕ)) × (t.now ≡ whole)
+pub str_built : Unit {0} → (whole : List ℕ) → length whole < 2 ^ 63 → IsUtf8 whole → (t : Bor (List ℕ)) × (t.now ≡ whole)
 str_built g whole small utf8 = (record { ref_ptr = (0, 0); now = whole }, refl)

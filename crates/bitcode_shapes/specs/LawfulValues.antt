@@ -40,7 +40,7 @@ int_lawful value width signed known = record {
 
 pub int_makeable : {T : Type 0} (value : T → ℤ) (width : ℕ) (signed : Bool)
     → ((z : ℤ) → IsInWidth width signed z → (t : T) × (value t ≡ z))
-    → Makeable (int_shape width signed) (IsValueOfWidth width signed value) (ListsNumber value) (SameNumber value) (MakesNumber value)
+    → Makeable (Unit {0}) (int_shape width signed) (IsValueOfWidth width signed value) (ListsNumber value) (SameNumber value) (MakesNumber value)
 int_makeable value width signed find = record {
   made = λ g d o s. let found = find o.value o.in_width in
       (found.0, (subst (λ z. IsInWidth width signed z) (sym found.1) o.in_width, o.is ∙ ap number (sym found.1)));
@@ -53,11 +53,11 @@ unsigned_found width (pos n) h = (n, refl)
 unsigned_found width (negsuc n) h = absurd h
 
 pub unsigned_makeable : (width : ℕ)
-    → Makeable (int_shape width false) (IsValueOfWidth width false pos) (ListsNumber pos) (SameNumber pos) (MakesNumber pos)
+    → Makeable (Unit {0}) (int_shape width false) (IsValueOfWidth width false pos) (ListsNumber pos) (SameNumber pos) (MakesNumber pos)
 unsigned_makeable width = int_makeable pos width false (unsigned_found width)
 
 pub signed_makeable : (width : ℕ)
-    → Makeable (int_shape width true) (IsValueOfWidth width true (λ (z : ℤ). z)) (ListsNumber (λ (z : ℤ). z)) (SameNumber (λ (z : ℤ). z)) (MakesNumber (λ (z : ℤ). z))
+    → Makeable (Unit {0}) (int_shape width true) (IsValueOfWidth width true (λ (z : ℤ). z)) (ListsNumber (λ (z : ℤ). z)) (SameNumber (λ (z : ℤ). z)) (MakesNumber (λ (z : ℤ). z))
 signed_makeable width = int_makeable (λ z. z) width true (λ z h. (z, refl))
 
 -- ---- bools
@@ -83,7 +83,7 @@ bool_found zero h = (false, refl)
 bool_found (suc zero) h = (true, refl)
 bool_found (suc (suc n)) h = absurd (omega arith)
 
-pub bool_makeable : Makeable bool_shape (λ (b : Bool). Unit {0}) (ListsNumber bool_number) (SameNumber bool_number) (MakesNumber bool_number)
+pub bool_makeable : Makeable (Unit {0}) bool_shape (λ (b : Bool). Unit {0}) (ListsNumber bool_number) (SameNumber bool_number) (MakesNumber bool_number)
 bool_makeable = record {
   made = λ g d o s. let found = bool_found o.value o.below in (found.0, (tt, o.is ∙ ap number (sym found.1)));
   once = λ d t u h i m n. number_once (sym m ∙ n);
@@ -104,7 +104,7 @@ unit_lawful = record {
   transitive = λ t u v h i j s r. tt;
 }
 
-pub unit_makeable : {T : Type 0} → T → Makeable unit_shape (λ (t : T). Unit {0}) ListsUnit (λ t u. Unit {0}) MakesUnit
+pub unit_makeable : {T : Type 0} → T → Makeable (Unit {0}) unit_shape (λ (t : T). Unit {0}) ListsUnit (λ t u. Unit {0}) MakesUnit
 unit_makeable t = record {
   made = λ g d o s. (t, (tt, o));
   once = λ d t u h i m n. tt;
@@ -162,14 +162,14 @@ module _ {A B : Type 0} (shape_a shape_b : Shape) (is_a : A → Type 0) (is_b : 
     transitive = λ t u v h i j s r. (la.transitive t.0 u.0 v.0 h.0 i.0 j.0 s.0 r.0, lb.transitive t.1 u.1 v.1 h.1 i.1 j.1 s.1 r.1);
   }
 
-  pub pair_makeable : (makes_a : Datum → A → Type 0) (makes_b : Datum → B → Type 0)
-      → Makeable shape_a is_a lists_a same_a makes_a → Makeable shape_b is_b lists_b same_b makes_b
-      → Makeable (pair_shape shape_a shape_b) (IsPairValue is_a is_b) (ListsPair lists_a lists_b) (SamePair same_a same_b) (MakesPair makes_a makes_b)
+  pub pair_makeable : {on_a on_b : Type 0} (makes_a : Datum → A → Type 0) (makes_b : Datum → B → Type 0)
+      → Makeable on_a shape_a is_a lists_a same_a makes_a → Makeable on_b shape_b is_b lists_b same_b makes_b
+      → Makeable (on_a × on_b) (pair_shape shape_a shape_b) (IsPairValue is_a is_b) (ListsPair lists_a lists_b) (SamePair same_a same_b) (MakesPair makes_a makes_b)
   pair_makeable makes_a makes_b ma mb = record {
     made = λ g d o s.
         let stored : IsStorable (pair o.first o.second) = subst IsStorable o.is s in
-        let x = ma.made g o.first o.is_first (storable_first o.first o.second stored) in
-        let y = mb.made g o.second o.is_second (storable_second o.first o.second stored) in
+        let x = ma.made g.0 o.first o.is_first (storable_first o.first o.second stored) in
+        let y = mb.made g.1 o.second o.is_second (storable_second o.first o.second stored) in
         ((x.0, y.0), ((x.1.0, y.1.0), record { first = o.first; second = o.second; is = o.is; makes_first = x.1.1; makes_second = y.1.1 }));
     once = λ d t u h i m n.
         let e = pair_once m.first m.second n.first n.second (sym m.is ∙ n.is) in (

@@ -1,6 +1,9 @@
 -- The making and equality of sets, by their keys: equal keys count once, and which of them a set keeps is open.
 use Rattle.std.specs.Prelude.{◌≡◌, Bool, true, List, All}
 use Rattle.std.specs.Set.{is_member}
+use Rattle.std.specs.List.{IsDistinct}
+use Rattle.std.specs.List.Sorted.{IsStrictlySortedBy}
+use Rattle.std.specs.declared.cmp.Ordering.{Ordering}
 use Rattle.bitcode_shapes.specs.Datum.{Datum}
 use Rattle.bitcode_shapes.specs.Sequences.{MakesSequence}
 
@@ -18,3 +21,13 @@ pub record MakesSet {T : Type 0} (is_value : T → Type 0) (eq : T → T → Boo
 -- `==` says of values whether they are the same
 abbrev pub TellsSame : {T : Type 0} → (T → Type 0) → (T → T → Type 0) → (T → T → Bool) → Type 0
 TellsSame {T} is_value same eq = (t u : T) → is_value t → is_value u → (same t u → eq t u ≡ true) × (eq t u ≡ true → same t u)
+
+-- a set whose keys are values in order
+pub record IsOrderedSet {T : Type 0} (is_value : T → Type 0) (cmp : T → T → Ordering) (keys : List T) : Type 0 where
+  pub each : All is_value keys
+  pub ascending : IsStrictlySortedBy cmp keys
+
+-- a set whose keys are values of which no two are equal
+pub record IsDistinctSet {T : Type 0} (is_value : T → Type 0) (eq : T → T → Bool) (keys : List T) : Type 0 where
+  pub each : All is_value keys
+  pub apart : IsDistinct eq keys

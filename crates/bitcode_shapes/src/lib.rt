@@ -12,6 +12,7 @@ pub mod keys;
 pub mod no_variants;
 pub mod pointers;
 pub mod sequences;
+pub mod sets;
 pub mod shaped;
 pub mod texts;
 pub mod tuples;

@@ -1,4 +1,5 @@
 // Texts hold their bytes.
+ghost use Rattle.std.specs.declared.alloc.Global.{Global};
 ghost use Rattle.std.specs.Prelude.{None, true};
 ghost use Rattle.std.specs.Box.{boxed_str_bytes};
 ghost use Rattle.std.specs.Rc.{rc_str_bytes};
@@ -30,6 +31,8 @@ impl<'a> Shaped for &'a str {
 }
 
 impl<'a> Made for &'a str {
+    ghost material = { Unit {0} };
+
     ghost makes = { MakesText (λ s. s.now) };
 
     ghost makeable = { text_makeable (λ s. s.now) str_built };
@@ -54,6 +57,8 @@ impl Shaped for String {
 }
 
 impl Made for String {
+    ghost material = { Global };
+
     ghost makes = { MakesText string_bytes };
 
     ghost makeable = { text_makeable string_bytes string_built };
@@ -78,6 +83,8 @@ impl Shaped for BoxedStr {
 }
 
 impl Made for BoxedStr {
+    ghost material = { Global };
+
     ghost makes = { MakesText boxed_str_bytes };
 
     ghost makeable = { text_makeable boxed_str_bytes boxed_str_built };
@@ -102,6 +109,8 @@ impl Shaped for RcStr {
 }
 
 impl Made for RcStr {
+    ghost material = { Global };
+
     ghost makes = { MakesText rc_str_bytes };
 
     ghost makeable = { text_makeable rc_str_bytes rc_str_built };

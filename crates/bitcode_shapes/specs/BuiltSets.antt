@@ -1,0 +1,58 @@
+-- Sets and heaps of any elements can be built.
+use Rattle.std.proofs.Common.{◌≡◌, ◌^◌, ◌<◌, Bool, true, None, List, [], ◌∷◌, length, map, refl, sym, ◌∙◌, ap, ap₂, subst}
+use Rattle.std.specs.Prelude.{All, is_some}
+use Rattle.std.specs.declared.alloc.Global.{Global}
+use Rattle.std.specs.declared.cmp.Ordering.{Ordering}
+use Rattle.std.specs.declared.collections.BinaryHeap.{BinaryHeap}
+use Rattle.std.specs.BinaryHeap.{heap_items}
+use Rattle.std.specs.BTreeSet.{BTreeSet}
+use Rattle.std.specs.HashSet.{HashSet}
+use Rattle.std.specs.HashMap.{HashMap}
+use Rattle.std.specs.BTreeMap.{BTreeMap}
+use Rattle.std.specs.Ordering.{is_eq, eq_by_cmp}
+use Rattle.std.specs.Cmp.{IsTotalOrder, IsEquivalence}
+use Rattle.std.specs.Map.{lookup, keys_of, update_all}
+use Rattle.std.specs.Set.{is_member}
+use Rattle.std.proofs.lemmas.Cmp.{eq_by_cmp_equiv}
+use Rattle.std.proofs.lemmas.List.Elements.{All-nil}
+use Rattle.std.proofs.lemmas.Map.Made.{is_some-lookup, is_some-update_all}
+use Rattle.bitcode_shapes.specs.LawfulSequences.{vec_built}
+use Rattle.bitcode_shapes.specs.Sets.{SameMembers, TellsSame, IsOrderedSet, IsDistinctSet}
+use Rattle.bitcode_shapes.specs.BuiltOrdered as ordered
+use Rattle.bitcode_shapes.specs.BuiltDistinct as distinct
+
+pub heap_built : {T : Type 0} → Global → (values : List T) → length values < 2 ^ 63 → (h : BinaryHeap T Global) × (heap_items h ≡ values)
+heap_built g values small = let built = vec_built g values small in (record { «data» = built.0 }, built.1)
+
+-- ---- the keys of entries without values
+
+abbrev alone : {T : Type 0} → T → T × Unit {0}
+alone t = (t, tt)
+
+keys_alone : {T : Type 0} (values : List T) → keys_of (map alone values) ≡ values
+keys_alone [] = refl
+keys_alone (t ∷ ts) = ap (λ rest. t ∷ rest) (keys_alone ts)
+
+module _ {T : Type 0} (eq : T → T → Bool) (laws : IsEquivalence eq) (values : List T) (entries : List (T × Unit {0})) where
+  members_of_entries : ((key : T) → lookup (eq key) entries ≡ update_all eq (λ _. None) (map alone values) key) → SameMembers eq (keys_of entries) values
+  members_of_entries found key =
+      sym (is_some-lookup (eq key) entries) ∙ ap is_some (found key) ∙ is_some-update_all laws key (λ _. None) (map alone values)
+      ∙ ap (λ keys. is_member eq keys key) (keys_alone values)
+
+-- ---- the two kinds of sets
+
+module _ {T : Type 0} (is_value : T → Type 0) where
+  pub ordered_set_built : {R : T → T → Ordering} → IsTotalOrder R → (values : List T) → All is_value values
+      → (s : BTreeSet T) × (IsOrderedSet is_value R s.keys × SameMembers (eq_by_cmp R) s.keys values)
+  ordered_set_built {R} o values h =
+      let entries = ordered.all_inserted o [] (map alone values) in
+      let pairs : All is_value (keys_of (map alone values)) = subst (All is_value) (sym (keys_alone values)) h in (
+        record { keys = keys_of entries },
+        (
+          record {
+            each = ordered.all_keys o is_value (λ u. Unit {0}) [] (map alone values) (All-nil is_value) pairs;
+            ascending = ordered.all_sorted o [] (map alone values) (ordered.none_sorted R);
+          },
+          members_of_entries (eq_by_cmp R) (eq_by_cmp_equiv o) values entries (λ key. ordered.all_found o (λ _. None) key [] (map alone values) refl),
+        ),
+      )

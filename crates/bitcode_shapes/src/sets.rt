@@ -1,0 +1,43 @@
+// Sets hold the data of their keys: an ordered set in their order, a hashed one in an order of its own.
+ghost use Rattle.std.specs.Prelude.{None, false};
+ghost use Rattle.std.specs.Ordering.{eq_by_cmp};
+ghost use Rattle.std.proofs.lemmas.Cmp.{eq_by_cmp_equiv};
+ghost use Rattle.bitcode_shapes.specs.BuiltSets.{ordered_set_built};
+ghost use Rattle.bitcode_shapes.specs.LawfulSets.{ordered_set_lawful, ordered_set_makeable, tells_by_order};
+ghost use Rattle.bitcode_shapes.specs.Sequences.{ListsSequence};
+ghost use Rattle.bitcode_shapes.specs.Sets.{IsOrderedSet, MakesSet, SameMembers};
+ghost use Rattle.bitcode_shapes.specs.Shape.{seq_shape};
+
+use crate::keys::Key;
+use crate::shaped::{Made, Shaped};
+use std::cmp::Ord;
+use std::collections::BTreeSet;
+
+impl<T: Shaped + Ord> Shaped for BTreeSet<T> {
+    ghost shape = { seq_shape None T.shape };
+
+    ghost is_value = { λ s. IsOrderedSet T.is_value T.cmp s.keys };
+
+    ghost lists = { λ s d. ListsSequence T.lists s.keys d };
+
+    ghost same = { λ s t. SameMembers (eq_by_cmp T.cmp) s.keys t.keys };
+
+    ghost in_order = { T.in_order };
+
+    fn told(&self) {
+        let _count = self.len();
+        for key in self.iter() {
+            key.told();
+        }
+    }
+
+    ghost lawful = { ordered_set_lawful T.shape T.is_value T.lists T.same (λ s. s.keys) (λ s. IsOrderedSet T.is_value T.cmp s.keys) (λ s h. h.each) (eq_by_cmp T.cmp) T.in_order T.lawful };
+}
+
+impl<T: Key + Made + Ord> Made for BTreeSet<T> {
+    ghost material = { T.material };
+
+    ghost makes = { λ d s. MakesSet T.is_value (eq_by_cmp T.cmp) T.makes d s.keys };
+
+    ghost makeable = { ordered_set_makeable T.shape T.is_value T.lists T.same (eq_by_cmp T.cmp) (eq_by_cmp_equiv T.total) (tells_by_order T.is_value T.same T.eq T.cmp T.matches_eq T.keyed) (λ s. s.keys) (λ s. IsOrderedSet T.is_value T.cmp s.keys) (λ s h. h.each) T.makes (λ g. g) (λ g. ordered_set_built T.is_value T.total) T.makeable };
+}
