@@ -54,6 +54,10 @@ module _ {K X : Type 0} (eq : K → K → Bool) where
   all_kept P es (p ∷ ps) h i =
       all_kept P (p ∷ without p.0 es) ps (All-cons P p (without p.0 es) (All-head P p ps i) (kept_without P p.0 es h)) (All-tail P p ps i)
 
+pub none_distinct : {K : Type 0} (eq : K → K → Bool) → IsDistinct eq []
+unfolding IsDistinct
+none_distinct eq = tt
+
 module _ {K X : Type 0} {eq : K → K → Bool} (laws : IsEquivalence eq) where
   -- a query for another key finds what it found
   found_without : (k q : K) (es : List (K × X)) → eq k q ≡ false → lookup (eq q) (without eq k es) ≡ lookup (eq q) es

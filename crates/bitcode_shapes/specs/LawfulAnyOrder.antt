@@ -9,7 +9,7 @@ use Rattle.bitcode_shapes.specs.Shape.{Shape, IsOf, IsListOf, IsSound, seq_shape
 use Rattle.bitcode_shapes.specs.ArrayCounts.{arrays_at}
 use Rattle.bitcode_shapes.specs.Lawful.{Lawful, Makeable}
 use Rattle.bitcode_shapes.specs.Sequences.{ListsSequence, MakesSequence, SameSequence}
-use Rattle.bitcode_shapes.specs.LawfulSequences.{zip_length, each_listed, each_of_shape, each_same_arrays, each_reflexive, each_symmetric, each_transitive, each_once, each_remade, elements_once, HoldSameArrays, seq_makeable}
+use Rattle.bitcode_shapes.specs.LawfulSequences.{zip_length, each_listed, each_of_shape, each_same_arrays, each_reflexive, each_symmetric, each_transitive, each_once, each_remade, elements_once, HoldSameArrays, seq_arrays, seq_makeable}
 use Rattle.bitcode_shapes.specs.AnyOrder.{ListsInAnyOrder, MakesInAnyOrder, SameInAnyOrder}
 
 -- ---- of two lists, one by one, when one is reordered
@@ -146,6 +146,11 @@ module _ {T : Type 0} (shape : Shape) (is_value : T → Type 0) (lists : T → D
     }
 
   -- a container of any number of elements, of which nothing else is asked
+  pub any_heap_lawful : (order : Bool) → Lawful shape is_value lists same order → {C : Type 0} (items : C → List T)
+      → Lawful (seq_shape None shape) (λ c. All is_value (items c)) (λ c d. ListsInAnyOrder lists (items c) d) (λ b c. SameInAnyOrder same (items b) (items c)) false
+  any_heap_lawful order element items =
+      any_order_lawful order element items (λ c. All is_value (items c)) (λ c h. h) (seq_shape None shape) (λ s. s) (λ d l. l) (seq_arrays None shape)
+
   pub any_order_makeable : {C on inner : Type 0} (items : C → List T) (makes : Datum → T → Type 0) → (on → inner)
       → (on → (values : List T) → length values < 2 ^ 63 → (c : C) × (items c ≡ values))
       → Makeable inner shape is_value lists same makes

@@ -31,3 +31,4 @@ pub mod BuiltDistinct
 pub mod Maps
 pub mod LawfulMaps
 pub mod BuiltSets
+pub mod BuiltMaps

@@ -1,7 +1,10 @@
 -- The making and equality of maps, by their entries: of pairs with equal keys the last gives the value. Which of the keys a
 -- map keeps is open.
 use Rattle.std.specs.Prelude.{◌≡◌, Bool, Option, Some, None, List, All}
-use Rattle.std.specs.Map.{lookup, update_all}
+use Rattle.std.specs.List.{IsDistinct}
+use Rattle.std.specs.List.Sorted.{IsStrictlySortedBy}
+use Rattle.std.specs.declared.cmp.Ordering.{Ordering}
+use Rattle.std.specs.Map.{lookup, keys_of, update_all}
 use Rattle.bitcode_shapes.specs.Datum.{Datum}
 use Rattle.bitcode_shapes.specs.Sequences.{MakesSequence}
 use Rattle.bitcode_shapes.specs.Values.{IsPairValue, MakesPair}
@@ -24,3 +27,13 @@ pub record MakesMap {K X : Type 0} (is_key : K → Type 0) (is_value : X → Typ
   pub are : All (IsPairValue is_key is_value) pairs
   pub making : MakesSequence (MakesPair makes_key makes_value) d pairs
   pub found : (key : K) → lookup (eq key) entries ≡ update_all eq (λ _. None) pairs key
+
+-- a map whose entries are values, and whose keys are in order
+pub record IsOrderedMap {K X : Type 0} (is_key : K → Type 0) (is_value : X → Type 0) (cmp : K → K → Ordering) (entries : List (K × X)) : Type 0 where
+  pub each : All (IsPairValue is_key is_value) entries
+  pub ascending : IsStrictlySortedBy cmp (keys_of entries)
+
+-- a map whose entries are values, no two with equal keys
+pub record IsDistinctMap {K X : Type 0} (is_key : K → Type 0) (is_value : X → Type 0) (eq : K → K → Bool) (entries : List (K × X)) : Type 0 where
+  pub each : All (IsPairValue is_key is_value) entries
+  pub apart : IsDistinct eq (keys_of entries)

@@ -8,6 +8,7 @@ pub mod collections;
 pub mod durations;
 pub mod empty;
 pub mod fixed_capacity;
+pub mod heaps;
 pub mod keys;
 pub mod no_variants;
 pub mod pointers;

@@ -1,17 +1,19 @@
 // Sets hold the data of their keys: an ordered set in their order, a hashed one in an order of its own.
-ghost use Rattle.std.specs.Prelude.{None, false};
+ghost use Rattle.std.specs.Prelude.{◌≡◌, None, false, List};
 ghost use Rattle.std.specs.Ordering.{eq_by_cmp};
 ghost use Rattle.std.proofs.lemmas.Cmp.{eq_by_cmp_equiv};
-ghost use Rattle.bitcode_shapes.specs.BuiltSets.{ordered_set_built};
-ghost use Rattle.bitcode_shapes.specs.LawfulSets.{ordered_set_lawful, ordered_set_makeable, tells_by_order};
+ghost use Rattle.bitcode_shapes.specs.AnyOrder.{ListsInAnyOrder};
+ghost use Rattle.bitcode_shapes.specs.BuiltSets.{ordered_set_built, hashed_set_built};
+ghost use Rattle.bitcode_shapes.specs.LawfulSets.{ordered_set_lawful, ordered_set_makeable, hashed_set_lawful, hashed_set_makeable, tells_by_order};
 ghost use Rattle.bitcode_shapes.specs.Sequences.{ListsSequence};
-ghost use Rattle.bitcode_shapes.specs.Sets.{IsOrderedSet, MakesSet, SameMembers};
+ghost use Rattle.bitcode_shapes.specs.Sets.{IsOrderedSet, IsDistinctSet, MakesSet, SameMembers};
 ghost use Rattle.bitcode_shapes.specs.Shape.{seq_shape};
 
 use crate::keys::Key;
 use crate::shaped::{Made, Shaped};
-use std::cmp::Ord;
-use std::collections::BTreeSet;
+use std::cmp::{Eq, Ord};
+use std::collections::{BTreeSet, HashSet};
+use std::hash::Hash;
 
 impl<T: Shaped + Ord> Shaped for BTreeSet<T> {
     ghost shape = { seq_shape None T.shape };
@@ -40,4 +42,33 @@ impl<T: Key + Made + Ord> Made for BTreeSet<T> {
     ghost makes = { λ d s. MakesSet T.is_value (eq_by_cmp T.cmp) T.makes d s.keys };
 
     ghost makeable = { ordered_set_makeable T.shape T.is_value T.lists T.same (eq_by_cmp T.cmp) (eq_by_cmp_equiv T.total) (tells_by_order T.is_value T.same T.eq T.cmp T.matches_eq T.keyed) (λ s. s.keys) (λ s. IsOrderedSet T.is_value T.cmp s.keys) (λ s h. h.each) T.makes (λ g. g) (λ g. ordered_set_built T.is_value T.total) T.makeable };
+}
+
+impl<T: Shaped + Eq + Hash> Shaped for HashSet<T> {
+    ghost shape = { seq_shape None T.shape };
+
+    ghost is_value = { λ s. IsDistinctSet T.is_value T.eq s.keys };
+
+    ghost lists = { λ s d. ListsInAnyOrder T.lists s.keys d };
+
+    ghost same = { λ s t. SameMembers T.eq s.keys t.keys };
+
+    ghost in_order = { false };
+
+    fn told(&self) {
+        let _count = self.len();
+        for key in self.iter() {
+            key.told();
+        }
+    }
+
+    ghost lawful = { hashed_set_lawful T.shape T.is_value T.lists T.same (λ s. s.keys) (λ s. IsDistinctSet T.is_value T.eq s.keys) (λ s h. h.each) T.eq T.in_order T.lawful };
+}
+
+impl<T: Key + Made + Hash> Made for HashSet<T> {
+    ghost material = { T.material × ((keys : List T) → (s : Self) × (s.keys ≡ keys)) };
+
+    ghost makes = { λ d s. MakesSet T.is_value T.eq T.makes d s.keys };
+
+    ghost makeable = { hashed_set_makeable T.shape T.is_value T.lists T.same T.eq T.Eq.laws T.keyed (λ s. s.keys) (λ s. IsDistinctSet T.is_value T.eq s.keys) (λ s h. h.each) T.makes (λ g. g.0) (λ g. hashed_set_built T.is_value (λ (s : Self). s.keys) T.Eq.laws g.1) T.makeable };
 }
