@@ -10,6 +10,7 @@ pub mod empty;
 pub mod fixed_capacity;
 pub mod heaps;
 pub mod keys;
+pub mod maps;
 pub mod no_variants;
 pub mod pointers;
 pub mod sequences;
