@@ -1,7 +1,5 @@
 -- Elements that are written and read one by one.
-use Rattle.std.proofs.Common.{◌≡◌, ℕ, suc, ◌+◌, ◌<◌, List, [], ◌∷◌, ◌++◌, length, take, drop, get_or, refl, sym, ◌∙◌, ap, subst, append_assoc, add-one, drop-cons, arith, length-append}
-use Rattle.std.proofs.Math.Seq.{take-suc}
-use Rattle.std.proofs.lemmas.List.{take-append-drop}
+use Rattle.std.proofs.Common.{◌≡◌, ℕ, suc, ◌+◌, ◌<◌, List, [], ◌∷◌, ◌++◌, length, take, drop, get_or, refl, sym, ◌∙◌, ap, subst, append_assoc, append-nil, arith, length-append}
 use Rattle.std.specs.List.{AllZip}
 use Rattle.bitcode_shapes.specs.Datum.{Datum}
 use Rattle.bitcode_shapes.specs.Shape.{Shape}
@@ -52,15 +50,32 @@ module _ {T : Type 0} (lists : T → Datum → Type 0) (shape : Shape) where
   pub joins_none : (old : Columns) → emptied old ≡ written_columns shape [] → JoinsEach lists shape [] old old
   joins_none old form = record { parts = []; listings = tt; joined = sym (joined-none shape old form); fits = λ fit. fit }
 
--- the element at a place
-module _ {A : Type 0} (items : List A) (place : ℕ) (item : A) (inside : place < length items) (is : item ≡ get_or items place item) where
-  pub grown_by : take (place + 1) items ≡ take place items ++ item ∷ []
-  grown_by = ap (λ n. take n items) (add-one place) ∙ take-suc items place item inside ∙ ap (λ a. take place items ++ a ∷ []) (sym is)
+-- the elements before the rest were written
+pub record JoinsFront {T : Type 0} (lists : T → Datum → Type 0) (shape : Shape) (whole rest : List T) (old now : Columns) : Type 0 where
+  pub done : List T
+  pub parted : whole ≡ done ++ rest
+  pub joins : JoinsEach lists shape done old now
 
-  pub parted_at : items ≡ take place items ++ item ∷ drop (suc place) items
-  parted_at =
-      sym (take-append-drop place items)
-      ∙ ap (λ rest. take place items ++ rest) (drop-cons items place item inside ∙ ap (λ a. a ∷ drop (suc place) items) (sym is))
+module _ {T : Type 0} (lists : T → Datum → Type 0) (shape : Shape) (old : Columns) (form : emptied old ≡ written_columns shape []) where
+  pub front_none : (whole : List T) → JoinsFront lists shape whole whole old old
+  front_none whole = record { done = []; parted = refl; joins = joins_none lists shape old form }
+
+  pub front_more : (whole rest : List T) (item : T) (now new : Columns) → JoinsFront lists shape whole (item ∷ rest) old now
+      → JoinsListing lists shape item now new → JoinsFront lists shape whole rest old new
+  front_more whole rest item now new front one = record {
+    done = front.done ++ item ∷ [];
+    parted = front.parted ∙ sym (append_assoc front.done (item ∷ []) rest);
+    joins = joins_one_more lists shape old now new front.done (front.done ++ item ∷ []) item form front.joins one refl;
+  }
+
+  pub front_all : (whole : List T) (now : Columns) → JoinsFront lists shape whole [] old now → JoinsEach lists shape whole old now
+  front_all whole now front =
+      subst (λ items. JoinsEach lists shape items old now) (sym (append-nil front.done) ∙ sym front.parted) front.joins
+
+  pub front_passes : (whole rest : List T) (item : T) (now : Columns) → JoinsFront lists shape whole (item ∷ rest) old now
+      → PassesWithListing lists shape item now → (others : List Datum) → AllZip lists rest others → PassesWithEach lists shape whole old
+  front_passes whole rest item now front one others listed =
+      passes_at lists shape old now front.done item rest whole form front.joins one others listed front.parted
 
 module _ {T : Type 0} (makes : Datum → T → Type 0) where
   pub takes_none : (old : List Datum) (items : List T) → items ≡ [] → TakesEach makes 0 items old old

@@ -52,3 +52,23 @@ module _ {T : Type 0} (lists : T → Datum → Type 0) (s : Shape) (items : List
         passes =
             surely found.0 (each_of_shape s is_value lists same order lawful items found.0 values found.1) (sym (zip_length lists items found.0 found.1));
       }
+
+-- ---- a type that is written as the sequence of its elements
+
+module _ {T U : Type 0} (lists : T → Datum → Type 0) (s : Shape) (lists_whole : U → Datum → Type 0) (whole : Shape) (t : U) (items : List T)
+    (listed : (d : Datum) → ListsSequence lists items d → lists_whole t d)
+    (columns : (ds : List Datum) → written_columns whole ds ≡ written_columns (seq_shape None s) ds) (old : Columns) where
+  pub joins_as : (new : Columns) → JoinsListing (λ (v : List T) d. ListsSequence lists v d) (seq_shape None s) items old new → JoinsListing lists_whole whole t old new
+  joins_as new j = record {
+    datum = j.datum;
+    listing = listed j.datum j.listing;
+    joined = j.joined ∙ ap (beside old) (sym (columns (j.datum ∷ [])));
+    fits = j.fits;
+  }
+
+  pub passes_as : PassesWithListing (λ (v : List T) d. ListsSequence lists v d) (seq_shape None s) items old → PassesWithListing lists_whole whole t old
+  passes_as j = record {
+    datum = j.datum;
+    listing = listed j.datum j.listing;
+    passes = λ fits. j.passes (subst (λ added. CountsFit (beside old added)) (columns (j.datum ∷ [])) fits);
+  }

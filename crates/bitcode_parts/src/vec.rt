@@ -2,7 +2,7 @@
 #![tactic(auto, unfolding(bitcode_coder::specs::LengthCoders::lengths_left, bitcode_coder::specs::LengthCoders::lengths_sum))]
 
 ghost use Rattle.std.specs.Prelude.{◌≡◌, ◌+◌, ◌<◌, ◌≤◌, List, [], None, map, false, OnOk, IfErr, ◌⊎◌};
-ghost use Rattle.std.proofs.Common.{ap};
+ghost use Rattle.std.proofs.Common.{sym, ap, ◌∙◌};
 ghost use Rattle.bitcode_shapes.specs.Shape.{seq_shape};
 ghost use Rattle.bitcode_shapes.specs.Sequences.{ListsSequence};
 ghost use Rattle.bitcode_coder.specs.Coding.{JoinsListing, PassesWithListing, IsWritingRefusal};
@@ -12,11 +12,11 @@ ghost use Rattle.bitcode_coder.specs.LengthParts.{NamesLengthFault, LengthsStand
 ghost use Rattle.bitcode_coder.specs.Spelling.{natural};
 ghost use Rattle.bitcode_parts.specs.Sequences.{lists_of, ElementsBehind, FaultsInElements};
 
-use crate::elements::{decode_each, encode_each};
+use crate::elements::decode_each;
+use crate::sequences::Sequence;
 use bitcode_coder::coder::{Buffer, Decoder, Encoder, View};
 use bitcode_coder::length::{LengthDecoder, LengthEncoder};
 use bitcode_columns::error::Error;
-use bitcode_shapes::sequences::told_each;
 use bitcode_shapes::shaped::{Made, Shaped};
 use std::alloc::Global;
 
@@ -65,40 +65,16 @@ impl<E: Buffer> Buffer for VecEncoder<E> {
     }
 }
 
-impl<E> VecEncoder<E> {
-    // Writes a sequence: its length, and its elements.
-    fn encode_items<T: Shaped>(&mut self, items: &[T]) -> Result<(), Error>
-    where
-        E: Encoder<T>,
-        requires { 0 < length_room self.old.lengths }
-        ensures joined { OnOk result (JoinsListing (λ (s : List T) d. ListsSequence T.lists s d) (seq_shape None T.shape) items.now (⟦<VecEncoder<E> as Buffer>⟧.columns self.old) (⟦<VecEncoder<E> as Buffer>⟧.columns self.new)) }
-        ensures room { OnOk result (length_room self.old.lengths ≤ length_room self.new.lengths + 1) }
-        ensures form { emptied (E.columns self.new.elements) ≡ emptied (E.columns self.old.elements) }
-        ensures refused { IfErr result (λ e. IsWritingRefusal e.reason (PassesWithListing (λ (s : List T) d. ListsSequence T.lists s d) (seq_shape None T.shape) items.now (⟦<VecEncoder<E> as Buffer>⟧.columns self.old))) }
-    {
-        told_each(items);
-        self.elements.reserve(items.len())?;
-        self.lengths.encode(items.len())?;
-        encode_each(&mut self.elements, items)
-    }
-}
-
-impl<T: Shaped, E: Encoder<T>> Encoder<Vec<T>> for VecEncoder<E> {
-    fn encode(&mut self, t: &Vec<T>) -> Result<(), Error> {
-        self.encode_items(t.as_slice())
+impl<S: Sequence, E: Encoder<S::Element>> Encoder<S> for VecEncoder<E> {
+    fn encode(&mut self, t: &S) -> Result<(), Error> {
+        t.told();
+        let count = t.element_count();
+        self.elements.reserve(count)?;
+        self.lengths.encode(count)?;
+        t.encode_elements(&mut self.elements)
     }
 
-    ghost of_shape = { λ e. ap (two (one (lengths None) [])) (E.of_shape e.elements) };
-
-    ghost surely = { λ e n never. absurd never };
-}
-
-impl<'b, T: Shaped, E: Encoder<T>> Encoder<&'b [T]> for VecEncoder<E> {
-    fn encode(&mut self, t: &&'b [T]) -> Result<(), Error> {
-        self.encode_items(*t)
-    }
-
-    ghost of_shape = { λ e. ap (two (one (lengths None) [])) (E.of_shape e.elements) };
+    ghost of_shape = { λ e. ap (two (one (lengths None) [])) (E.of_shape e.elements) ∙ sym (S.items_columns []) };
 
     ghost surely = { λ e n never. absurd never };
 }
