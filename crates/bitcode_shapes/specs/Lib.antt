@@ -30,3 +30,4 @@ pub mod BuiltOrdered
 pub mod BuiltDistinct
 pub mod Maps
 pub mod LawfulMaps
+pub mod KeyLaws
