@@ -93,7 +93,7 @@ results_told told_a told_b (Ok a) (Err b) h i = apart
 results_told told_a told_b (Err a) (Ok b) h i = apart
 results_told told_a told_b (Err a) (Err b) h i = told_b a b h i
 
--- ---- tuples: `==` goes over the fields from the first, and what is the same goes by halves
+-- ---- tuples and structs: `==` of a tuple goes over the fields from the first, and what is the same goes by halves
 
 -- `answer` goes on from the answer so far: that holds and the values are the same
 abbrev pub TellsMore : {T : Type 0} → (T → Type 0) → (T → T → Type 0) → (T → T → Bool → Bool) → Type 0
@@ -121,3 +121,9 @@ module _ {A B : Type 0} {is_a : A → Type 0} {is_b : B → Type 0} {same_a : A 
         λ s. second.0 (first.0 (s.0, s.1.0), s.1.1),
         λ e. let more = second.1 e in let so = first.1 more.0 in (so.0, (so.1, more.1)),
       )
+
+  -- `==` of a struct is that of its first field and of the rest
+  pub structs_told : {eq_a : A → A → Bool} {eq_b : B → B → Bool} {T : Type 0} (fields : T → A × B) → TellsSame is_a same_a eq_a → TellsSame is_b same_b eq_b
+      → TellsSame (λ t. IsPairValue is_a is_b (fields t)) (λ t u. SamePair same_a same_b (fields t) (fields u))
+      (λ t u. eq_a (fields t).0 (fields u).0 && eq_b (fields t).1 (fields u).1)
+  structs_told fields told_a told_b = tuples_told (halves_told fields (field_told told_a) (field_told told_b))

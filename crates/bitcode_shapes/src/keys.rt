@@ -7,11 +7,13 @@ ghost use Rattle.std.specs.String.{string_bytes};
 ghost use Rattle.std.specs.Vec.{vec_items};
 ghost use Rattle.std.specs.VecDeque.{deque_items};
 ghost use Rattle.bitcode_shapes.specs.KeyLaws.{ones_told, bools_told, naturals_told, integers_told, texts_told, images_told, sequences_told, options_told, results_told};
+ghost use Rattle.bitcode_shapes.specs.LawfulNever.{from_never};
 ghost use Rattle.bitcode_shapes.specs.Sets.{TellsSame};
 ghost use Rattle.bitcode_shapes.specs.Values.{IsValueOfWidth};
 
 mod tuples;
 
+use crate::no_variants::NoVariants;
 use crate::shaped::Shaped;
 use arrayvec::{ArrayString, ArrayVec};
 use std::boxed::{BoxedSlice, BoxedStr};
@@ -221,4 +223,8 @@ impl Key for Uuid {
 
 impl<K> Key for PhantomData<K> {
     ghost keyed = { ones_told _ };
+}
+
+impl<K: NoVariants + Eq> Key for K {
+    ghost keyed = { λ t u h i. from_never K.never t _ };
 }

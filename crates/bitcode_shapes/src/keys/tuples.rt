@@ -1,5 +1,5 @@
 // Tuples of one field to twelve as keys: longer ones have no `==`.
-ghost use Rattle.bitcode_shapes.specs.KeyLaws.{field_told, halves_told, images_told, tuples_told};
+ghost use Rattle.bitcode_shapes.specs.KeyLaws.{field_told, halves_told, images_told, structs_told, tuples_told};
 ghost use Rattle.bitcode_shapes.specs.Tuples.{split_2, split_3, split_4, split_5, split_6, split_7, split_8, split_9, split_10, split_11, split_12};
 
 use crate::keys::Key;
@@ -9,7 +9,7 @@ impl<A: Key> Key for (A,) {
 }
 
 impl<A: Key, B: Key> Key for (A, B) {
-    ghost keyed = { tuples_told (halves_told split_2 (field_told A.keyed) (field_told B.keyed)) };
+    ghost keyed = { structs_told split_2 A.keyed B.keyed };
 }
 
 impl<A: Key, B: Key, C: Key> Key for (A, B, C) {
