@@ -1,4 +1,6 @@
-// Keys of sets and maps: the types of this crate whose `==` says of two values whether they are the same.
+// Keys of sets and maps: the types of this crate whose `==` says of two values whether they are the same. A duration is
+// none: its `==` compares the seconds and nanoseconds that it stores, and no contract says that it stores fewer than a
+// second's nanoseconds.
 ghost use Rattle.std.specs.Prelude.{false, pos};
 ghost use Rattle.std.specs.Box.{boxed_slice_items, boxed_str_bytes, box_value};
 ghost use Rattle.std.specs.Int.NonZero.{non_zero_u8_get, non_zero_u16_get, non_zero_u32_get, non_zero_u64_get, non_zero_u128_get, non_zero_usize_get, non_zero_i8_get, non_zero_i16_get, non_zero_i32_get, non_zero_i64_get, non_zero_i128_get, non_zero_isize_get};
