@@ -32,3 +32,4 @@ pub mod Maps
 pub mod LawfulMaps
 pub mod BuiltSets
 pub mod BuiltMaps
+pub mod KeyLaws
