@@ -3,6 +3,7 @@ use Rattle.std.specs.Prelude.{◌≡◌, ℕ, List, ◌++◌, length}
 use Rattle.std.specs.List.{AllZip}
 use Rattle.bitcode_shapes.specs.Datum.{Datum}
 use Rattle.bitcode_shapes.specs.Shape.{Shape}
+use Rattle.bitcode_shapes.specs.Sequences.{MakesSequence}
 use Rattle.bitcode_coder.specs.Columns.{Columns, beside, CountsFit}
 use Rattle.bitcode_coder.specs.Coding.{written_columns}
 
@@ -26,3 +27,7 @@ pub record TakesEach {T : Type 0} (makes : Datum → T → Type 0) (count : ℕ)
   pub parts : List Datum
   pub taken : old ≡ parts ++ new
   pub made : AllZip makes parts items
+
+-- the value is made of each list of data that makes these elements
+abbrev pub MakesOfElements : {T U : Type 0} → (Datum → U → Type 0) → (Datum → T → Type 0) → U → List T → Type 0
+MakesOfElements makes_whole makes t elements = (d : Datum) → MakesSequence makes d elements → makes_whole d t

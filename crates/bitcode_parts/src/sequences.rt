@@ -8,13 +8,16 @@ ghost use Rattle.bitcode_shapes.specs.Shape.{seq_shape};
 ghost use Rattle.bitcode_shapes.specs.Sequences.{ListsSequence};
 ghost use Rattle.bitcode_coder.specs.Columns.{emptied};
 ghost use Rattle.bitcode_coder.specs.Coding.{written_columns, IsWritingRefusal};
-ghost use Rattle.bitcode_parts.specs.Elements.{JoinsEach, PassesWithEach};
+ghost use Rattle.bitcode_parts.specs.Elements.{JoinsEach, PassesWithEach, MakesOfElements};
 
 use crate::elements::{encode_each, encode_lent};
 use arrayvec::ArrayVec;
 use bitcode_coder::coder::Encoder;
-use bitcode_columns::error::Error;
-use bitcode_shapes::shaped::Shaped;
+use bitcode_columns::error::{Error, Reason};
+use bitcode_shapes::keys::Key;
+use bitcode_shapes::sequences::told_each;
+use bitcode_shapes::shaped::{Made, Shaped};
+use std::alloc::Global;
 use std::cmp::{Eq, Ord};
 use std::collections::{BTreeSet, BinaryHeap, HashSet, LinkedList, VecDeque};
 use std::hash::Hash;
@@ -221,4 +224,120 @@ impl<T: Shaped + Eq + Hash> Sequence for HashSet<T> {
     ghost items_list = { λ t d l. record { order = t.keys; reordered = IsPermutation-refl t.keys; listing = l } };
 
     ghost items_columns = { λ ds. refl };
+}
+
+/// A type that is made of its elements, one after the other.
+///
+/// ```
+/// impl FromElements for Scores {
+///     type Part = u32;
+///
+///     fn from_elements(_alloc: Global, elements: Vec<u32>) -> Result<Self, Error> {
+///         Ok(Scores(elements))
+///     }
+/// }
+/// ```
+pub trait FromElements: Made {
+    type Part: Made + Drop;
+
+    /// The value that is made of these elements.
+    ///
+    /// `out of memory` is the only refusal.
+    fn from_elements(alloc: Global, elements: Vec<Self::Part>) -> Result<Self, Error>
+        ensures made { IfOk result (λ t. MakesOfElements Self.makes Self.Part.makes t elements.items) }
+        ensures refused { IfErr result (λ e. e.reason ≡ Reason.OutOfMemory) };
+
+    ghost elements_shape: { seq_shape None Self.Part.shape ≡ Self.shape };
+}
+
+impl<T: Made + Drop> FromElements for Vec<T> {
+    type Part = T;
+
+    fn from_elements(_alloc: Global, elements: Vec<T>) -> Result<Vec<T>, Error>
+        ensures made { IfOk result (λ t. MakesOfElements ⟦<Vec<T> as Made>⟧.makes T.makes t elements.items) }
+        ensures refused { IfErr result (λ e. e.reason ≡ Reason.OutOfMemory) }
+    {
+        Ok(elements)
+    }
+
+    ghost elements_shape = { refl };
+}
+
+impl<T: Made + Drop> FromElements for VecDeque<T> {
+    type Part = T;
+
+    fn from_elements(_alloc: Global, elements: Vec<T>) -> Result<VecDeque<T>, Error>
+        ensures made { IfOk result (λ t. MakesOfElements ⟦<VecDeque<T> as Made>⟧.makes T.makes t elements.items) }
+        ensures refused { IfErr result (λ e. e.reason ≡ Reason.OutOfMemory) }
+    {
+        Ok(VecDeque::from(elements))
+    }
+
+    ghost elements_shape = { refl };
+}
+
+impl<T: Made + Drop> FromElements for LinkedList<T> {
+    type Part = T;
+
+    fn from_elements(alloc: Global, elements: Vec<T>) -> Result<LinkedList<T>, Error>
+        ensures made { IfOk result (λ t. MakesOfElements ⟦<LinkedList<T> as Made>⟧.makes T.makes t elements.items) }
+        ensures refused { IfErr result (λ e. e.reason ≡ Reason.OutOfMemory) }
+    {
+        let mut list = LinkedList::new(alloc);
+        for element in elements {
+            list.push_back(element)?;
+        }
+        Ok(list)
+    }
+
+    ghost elements_shape = { refl };
+}
+
+impl<T: Made + Ord + Drop> FromElements for BinaryHeap<T> {
+    type Part = T;
+
+    fn from_elements(_alloc: Global, elements: Vec<T>) -> Result<BinaryHeap<T>, Error>
+        ensures made { IfOk result (λ t. MakesOfElements ⟦<BinaryHeap<T> as Made>⟧.makes T.makes t elements.items) }
+        ensures refused { IfErr result (λ e. e.reason ≡ Reason.OutOfMemory) }
+    {
+        Ok(BinaryHeap::from(elements))
+    }
+
+    ghost elements_shape = { refl };
+}
+
+impl<T: Key + Made + Ord + Drop> FromElements for BTreeSet<T> {
+    type Part = T;
+
+    fn from_elements(alloc: Global, elements: Vec<T>) -> Result<BTreeSet<T>, Error>
+        ensures made { IfOk result (λ t. MakesOfElements ⟦<BTreeSet<T> as Made>⟧.makes T.makes t elements.items) }
+        ensures refused { IfErr result (λ e. e.reason ≡ Reason.OutOfMemory) }
+    {
+        told_each(elements.as_slice());
+        let mut set = BTreeSet::new(alloc);
+        for element in elements {
+            let _added = set.insert(element)?;
+        }
+        Ok(set)
+    }
+
+    ghost elements_shape = { refl };
+}
+
+impl<T: Key + Made + Hash + Drop> FromElements for HashSet<T> {
+    type Part = T;
+
+    fn from_elements(alloc: Global, elements: Vec<T>) -> Result<HashSet<T>, Error>
+        ensures made { IfOk result (λ t. MakesOfElements ⟦<HashSet<T> as Made>⟧.makes T.makes t elements.items) }
+        ensures refused { IfErr result (λ e. e.reason ≡ Reason.OutOfMemory) }
+    {
+        told_each(elements.as_slice());
+        let mut set = HashSet::new(alloc);
+        for element in elements {
+            let _added = set.insert(element)?;
+        }
+        Ok(set)
+    }
+
+    ghost elements_shape = { refl };
 }
