@@ -24,7 +24,7 @@ use Rattle.bitcode_coder.proofs.CuttingLemmas.{cut-enough, joined-cut, lengths-c
 use Rattle.bitcode_coder.proofs.LengthLemmas.{SpellsLengths-once}
 use Rattle.bitcode_coder.proofs.LengthRefusalLemmas.{lengths_refused, length_reason}
 use Rattle.bitcode_coder.proofs.DatumLemmas.{joined_each}
-use Rattle.bitcode_parts.specs.Elements.{TakesEach}
+use Rattle.bitcode_parts.specs.Elements.{TakesEach, MakesOfElements}
 use Rattle.bitcode_parts.specs.Sequences.{lists_of}
 
 -- ---- lists of data
@@ -166,3 +166,8 @@ takes_list makes items t n old ns elements rest is taken = record {
       ∙ lists_of-parts n ns taken.parts rest (zip_length makes taken.parts (items t) taken.made ∙ taken.size);
   made = record { elements = taken.parts; is = refl; each = taken.made };
 }
+
+-- and a value of the list
+pub takes_made : {T U : Type 0} (makes_whole : Datum → U → Type 0) (makes : Datum → T → Type 0) (t : U) (items : List T) (old new : List Datum)
+    → MakesOfElements makes_whole makes t items → TakesDatum (λ d (ts : List T). MakesSequence makes d ts) items old new → TakesDatum makes_whole t old new
+takes_made makes_whole makes t items old new whole taken = record { datum = taken.datum; taken = taken.taken; made = whole taken.datum taken.made }

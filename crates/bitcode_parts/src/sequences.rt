@@ -246,8 +246,6 @@ pub trait FromElements: Made {
     fn from_elements(alloc: Global, elements: Vec<Self::Part>) -> Result<Self, Error>
         ensures made { IfOk result (λ t. MakesOfElements Self.makes Self.Part.makes t elements.items) }
         ensures refused { IfErr result (λ e. e.reason ≡ Reason.OutOfMemory) };
-
-    ghost elements_shape: { seq_shape None Self.Part.shape ≡ Self.shape };
 }
 
 impl<T: Made + Drop> FromElements for Vec<T> {
@@ -259,8 +257,6 @@ impl<T: Made + Drop> FromElements for Vec<T> {
     {
         Ok(elements)
     }
-
-    ghost elements_shape = { refl };
 }
 
 impl<T: Made + Drop> FromElements for VecDeque<T> {
@@ -272,8 +268,6 @@ impl<T: Made + Drop> FromElements for VecDeque<T> {
     {
         Ok(VecDeque::from(elements))
     }
-
-    ghost elements_shape = { refl };
 }
 
 impl<T: Made + Drop> FromElements for LinkedList<T> {
@@ -289,8 +283,6 @@ impl<T: Made + Drop> FromElements for LinkedList<T> {
         }
         Ok(list)
     }
-
-    ghost elements_shape = { refl };
 }
 
 impl<T: Made + Ord + Drop> FromElements for BinaryHeap<T> {
@@ -302,8 +294,6 @@ impl<T: Made + Ord + Drop> FromElements for BinaryHeap<T> {
     {
         Ok(BinaryHeap::from(elements))
     }
-
-    ghost elements_shape = { refl };
 }
 
 impl<T: Key + Made + Ord + Drop> FromElements for BTreeSet<T> {
@@ -320,8 +310,6 @@ impl<T: Key + Made + Ord + Drop> FromElements for BTreeSet<T> {
         }
         Ok(set)
     }
-
-    ghost elements_shape = { refl };
 }
 
 impl<T: Key + Made + Hash + Drop> FromElements for HashSet<T> {
@@ -338,6 +326,4 @@ impl<T: Key + Made + Hash + Drop> FromElements for HashSet<T> {
         }
         Ok(set)
     }
-
-    ghost elements_shape = { refl };
 }

@@ -1,11 +1,11 @@
 // The coders of sequences: the lengths of all, and behind them the columns of all elements.
 #![tactic(auto, unfolding(bitcode_coder::specs::LengthCoders::lengths_left, bitcode_coder::specs::LengthCoders::lengths_sum))]
 
-ghost use Rattle.std.specs.Prelude.{◌≡◌, ◌+◌, ◌<◌, ◌≤◌, List, [], None, map, false, OnOk, IfErr, ◌⊎◌};
+ghost use Rattle.std.specs.Prelude.{◌≡◌, ◌+◌, ◌<◌, ◌≤◌, List, [], None, length, map, false, IfOk, OnOk, IfErr, ◌⊎◌};
 ghost use Rattle.std.proofs.Common.{sym, ap, ◌∙◌};
 ghost use Rattle.bitcode_shapes.specs.Shape.{seq_shape};
 ghost use Rattle.bitcode_shapes.specs.Sequences.{ListsSequence};
-ghost use Rattle.bitcode_coder.specs.Coding.{JoinsListing, PassesWithListing, IsWritingRefusal};
+ghost use Rattle.bitcode_coder.specs.Coding.{JoinsListing, PassesWithListing, IsWritingRefusal, TakesDatum};
 ghost use Rattle.bitcode_coder.specs.Columns.{emptied, lengths, one, two};
 ghost use Rattle.bitcode_coder.specs.LengthCoders.{written_lengths, length_room, lengths_left};
 ghost use Rattle.bitcode_coder.specs.LengthParts.{NamesLengthFault, LengthsStandRaw};
@@ -13,12 +13,16 @@ ghost use Rattle.bitcode_coder.specs.Spelling.{natural};
 ghost use Rattle.bitcode_parts.specs.Sequences.{lists_of, ElementsBehind, FaultsInElements};
 
 use crate::elements::decode_each;
-use crate::sequences::Sequence;
+use crate::sequences::{FromElements, Sequence};
 use bitcode_coder::coder::{Buffer, Decoder, Encoder, View};
 use bitcode_coder::length::{LengthDecoder, LengthEncoder};
-use bitcode_columns::error::Error;
-use bitcode_shapes::shaped::{Made, Shaped};
+use bitcode_columns::error::{Error, Reason};
+use bitcode_shapes::keys::Key;
+use bitcode_shapes::shaped::Made;
 use std::alloc::Global;
+use std::cmp::Ord;
+use std::collections::{BTreeSet, BinaryHeap, HashSet, LinkedList, VecDeque};
+use std::hash::Hash;
 
 /// The encoder of sequences: a column of lengths, and behind it the columns of all elements.
 ///
@@ -118,12 +122,76 @@ impl<'a, D: View<'a>> View<'a> for VecDecoder<'a, D> {
     }
 }
 
+impl<'a, D> VecDecoder<'a, D> {
+    // Makes a value of the next length and so many elements.
+    fn decode_as<C: FromElements>(&mut self) -> Result<C, Error>
+    where
+        D: Decoder<'a, C::Part>,
+        requires { 0 < length (lists_of (lengths_left self.old.lengths) (D.held self.old.elements)) }
+        ensures made { IfOk result (λ t. TakesDatum C.makes t (lists_of (lengths_left self.old.lengths) (D.held self.old.elements)) (lists_of (lengths_left self.new.lengths) (D.held self.new.elements))) }
+        ensures refused { IfErr result (λ e. e.reason ≡ Reason.OutOfMemory) }
+    {
+        let count = self.lengths.decode();
+        let elements = decode_each(self.alloc, &mut self.elements, count)?;
+        C::from_elements(self.alloc, elements)
+    }
+}
+
 impl<'a, T: Made + Drop, D: Decoder<'a, T>> Decoder<'a, Vec<T>> for VecDecoder<'a, D> {
     ghost makes_free = { false };
 
     fn decode(&mut self) -> Result<Vec<T>, Error> {
-        let count = self.lengths.decode();
-        decode_each(self.alloc, &mut self.elements, count)
+        self.decode_as()
+    }
+
+    ghost same_shape = { ap (seq_shape None) D.same_shape };
+}
+
+impl<'a, T: Made + Drop, D: Decoder<'a, T>> Decoder<'a, VecDeque<T>> for VecDecoder<'a, D> {
+    ghost makes_free = { false };
+
+    fn decode(&mut self) -> Result<VecDeque<T>, Error> {
+        self.decode_as()
+    }
+
+    ghost same_shape = { ap (seq_shape None) D.same_shape };
+}
+
+impl<'a, T: Made + Drop, D: Decoder<'a, T>> Decoder<'a, LinkedList<T>> for VecDecoder<'a, D> {
+    ghost makes_free = { false };
+
+    fn decode(&mut self) -> Result<LinkedList<T>, Error> {
+        self.decode_as()
+    }
+
+    ghost same_shape = { ap (seq_shape None) D.same_shape };
+}
+
+impl<'a, T: Made + Ord + Drop, D: Decoder<'a, T>> Decoder<'a, BinaryHeap<T>> for VecDecoder<'a, D> {
+    ghost makes_free = { false };
+
+    fn decode(&mut self) -> Result<BinaryHeap<T>, Error> {
+        self.decode_as()
+    }
+
+    ghost same_shape = { ap (seq_shape None) D.same_shape };
+}
+
+impl<'a, T: Key + Made + Ord + Drop, D: Decoder<'a, T>> Decoder<'a, BTreeSet<T>> for VecDecoder<'a, D> {
+    ghost makes_free = { false };
+
+    fn decode(&mut self) -> Result<BTreeSet<T>, Error> {
+        self.decode_as()
+    }
+
+    ghost same_shape = { ap (seq_shape None) D.same_shape };
+}
+
+impl<'a, T: Key + Made + Hash + Drop, D: Decoder<'a, T>> Decoder<'a, HashSet<T>> for VecDecoder<'a, D> {
+    ghost makes_free = { false };
+
+    fn decode(&mut self) -> Result<HashSet<T>, Error> {
+        self.decode_as()
     }
 
     ghost same_shape = { ap (seq_shape None) D.same_shape };
