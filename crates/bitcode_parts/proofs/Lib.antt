@@ -2,6 +2,7 @@ pub mod ElementLemmas
 pub mod SequenceLemmas
 pub mod SequenceWritingLemmas
 pub mod SetLemmas
+pub mod MapLemmas
 pub mod ArrayLemmas
 pub mod ArrayReadingLemmas
 pub mod ChoiceLemmas
