@@ -3,6 +3,7 @@ pub mod SequenceLemmas
 pub mod SequenceWritingLemmas
 pub mod SetLemmas
 pub mod MapLemmas
+pub mod MapWritingLemmas
 pub mod ArrayLemmas
 pub mod ArrayReadingLemmas
 pub mod ChoiceLemmas

@@ -12,7 +12,7 @@ use Rattle.bitcode_coder.specs.Spelling.{natural}
 use Rattle.bitcode_coder.specs.Coding.{written_columns, JoinsListing, PassesWithListing, SurelyPasses}
 use Rattle.bitcode_parts.specs.Elements.{JoinsEach, PassesWithEach}
 
-elements_again : (parts : List Datum) → elements_in (list (data_of parts)) ++ [] ≡ parts
+pub elements_again : (parts : List Datum) → elements_in (list (data_of parts)) ++ [] ≡ parts
 elements_again parts = append-nil (elements_in (list (data_of parts))) ∙ list_of_data parts
 
 module _ {T : Type 0} (lists : T → Datum → Type 0) (s : Shape) (items : List T) where

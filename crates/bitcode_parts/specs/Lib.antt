@@ -1,5 +1,6 @@
 pub mod Elements
 pub mod Sequences
+pub mod Maps
 pub mod Arrays
 pub mod ArrayLaws
 pub mod VariantCoders

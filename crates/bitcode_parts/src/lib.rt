@@ -9,6 +9,7 @@ pub mod elements;
 pub mod empty;
 pub mod from;
 pub mod lends;
+pub mod map;
 pub mod mappings;
 pub mod markers;
 pub mod option;
