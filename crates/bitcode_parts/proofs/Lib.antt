@@ -4,6 +4,7 @@ pub mod SequenceWritingLemmas
 pub mod SetLemmas
 pub mod MapLemmas
 pub mod MapWritingLemmas
+pub mod MapReadingLemmas
 pub mod ArrayLemmas
 pub mod ArrayReadingLemmas
 pub mod ChoiceLemmas

@@ -124,7 +124,7 @@ impl<'a, D: View<'a>> View<'a> for VecDecoder<'a, D> {
 
 impl<'a, D> VecDecoder<'a, D> {
     // Makes a value of the next length and so many elements.
-    fn decode_as<C: FromElements>(&mut self) -> Result<C, Error>
+    pub(crate) fn decode_as<C: FromElements>(&mut self) -> Result<C, Error>
     where
         D: Decoder<'a, C::Part>,
         requires { 0 < length (lists_of (lengths_left self.old.lengths) (D.held self.old.elements)) }
