@@ -34,9 +34,10 @@ fn print_rows_to_11(rt: &impl Print, alloc: Global) -> io::Result<bool> {
     Ok(all_ok)
 }
 
-/// Runs rows 17 to 25 in order, and answers whether all of them are ok.
+/// Runs rows 12 to 25 in order, and answers whether all of them are ok.
 fn print_rows_to_25(rt: &impl Print, alloc: Global) -> io::Result<bool> {
-    let mut all_ok = print_row(rt, 17, rows::texts::durations(alloc))?;
+    let mut all_ok = print_row(rt, 13, rows::collections::equal_keys(alloc))?;
+    all_ok &= print_row(rt, 17, rows::texts::durations(alloc))?;
     all_ok &= print_row(rt, 18, rows::sequences::many_bools(alloc))?;
     all_ok &= print_row(rt, 19, rows::tuples::identifier(alloc))?;
     all_ok &= print_row(rt, 21, rows::pair(alloc))?;
@@ -58,8 +59,8 @@ fn print_rows_to_33(rt: &impl Print, alloc: Global) -> io::Result<bool> {
     Ok(all_ok)
 }
 
-/// Runs rows 35 to 42 in order, and answers whether all of them are ok.
-fn print_rows_to_42(rt: &impl Print, alloc: Global) -> io::Result<bool> {
+/// Runs rows 35 to 44 in order, and answers whether all of them are ok.
+fn print_rows_to_44(rt: &impl Print, alloc: Global) -> io::Result<bool> {
     let mut all_ok = print_row(rt, 35, rows::sequences::late_least(alloc))?;
     all_ok &= print_row(rt, 36, rows::sequences::nested_lists(alloc))?;
     all_ok &= print_row(rt, 37, rows::texts::texts_read(alloc))?;
@@ -68,6 +69,7 @@ fn print_rows_to_42(rt: &impl Print, alloc: Global) -> io::Result<bool> {
     all_ok &= print_row(rt, 40, rows::variants::raw_variants(alloc))?;
     all_ok &= print_row(rt, 41, rows::composites(alloc))?;
     all_ok &= print_row(rt, 42, rows::arrays::more_units_than_a_length(alloc))?;
+    all_ok &= print_row(rt, 43, rows::collections::sets_and_heaps(alloc))?;
     Ok(all_ok)
 }
 
@@ -76,6 +78,6 @@ pub fn print_rows(rt: &impl Print, alloc: Global) -> io::Result<bool> {
     let mut all_ok = print_rows_to_11(rt, alloc)?;
     all_ok &= print_rows_to_25(rt, alloc)?;
     all_ok &= print_rows_to_33(rt, alloc)?;
-    all_ok &= print_rows_to_42(rt, alloc)?;
+    all_ok &= print_rows_to_44(rt, alloc)?;
     Ok(all_ok)
 }

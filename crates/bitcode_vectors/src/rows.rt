@@ -6,6 +6,7 @@ use std::alloc::Global;
 pub mod arrays;
 pub mod byte_columns;
 pub mod choices;
+pub mod collections;
 pub mod lengths;
 pub mod sequences;
 pub mod texts;
