@@ -1,4 +1,4 @@
--- All listings of a value have the same numbers of arrays in their columns; so in all of them these are lengths, or in none.
+-- All listings of a value have the same numbers of arrays in their columns; so these are lengths in all of them, or in none.
 use Rattle.std.proofs.Common.{◌≡◌, ℕ, zero, suc, ◌+◌, Bool, true, false, cond, List, [], ◌∷◌, length, map, filter, None, ◌==◌, refl, sym, ◌∙◌, ap, ap₂, subst, arith, eqb-true}
 use Rattle.std.specs.Prelude.{◌↔◌}
 use Rattle.std.specs.List.{flat_map, sum, sum_by}
