@@ -3,7 +3,6 @@ ghost use Rattle.std.specs.Prelude.{◌≡◌, ◌≢◌, ◌<◌, [], ◌∷◌
 ghost use Rattle.bitcode_shapes.specs.Datum.{Datum};
 ghost use Rattle.bitcode_coder.specs.Columns.{CountsFit};
 ghost use Rattle.bitcode_coder.specs.Spelling.{LengthsBelowLimit};
-ghost use Rattle.bitcode_derive.specs.ArrayCounts.{HasSameCounts};
 ghost use Rattle.bitcode_derive.specs.BorrowedTexts.{TextsStandIn, IsBorrowedFrom};
 ghost use Rattle.bitcode_derive.specs.Whole.{columns_of_one, IsEncodingOf, HasLongListing, IsDecodingOf, SpellsDatum};
 
@@ -62,20 +61,19 @@ pub fn one_value<'a, T: Decode<'a>>(bytes: &'a [u8], t: &T, u: &T)
     u.told();
 }
 
-/// Where all listings of a value have the same numbers of arrays, want of memory aside `encode` answers
-/// `length overflow` exactly where one of these numbers times the arrays' size passes 18446744073709551615.
+/// Want of memory aside, `encode` answers `length overflow` exactly where in a listing of the value, and so in each, a
+/// number of arrays times their size passes 18446744073709551615.
 ///
-/// Bytes are written only where in no listing such a product passes, and `length overflow` is answered only where in
-/// each listing one does. A value that keeps nothing in an order of its own has one listing, and so such numbers.
+/// All listings of a value have the same numbers of arrays. So bytes are written only where in no listing such a product
+/// passes, and `length overflow` is answered only where in each listing one does.
 ///
 /// ```
 /// let bytes = encode(alloc, &t)?;
 /// overflows_exactly(&t, &bytes);
 /// ```
 pub fn overflows_exactly<T: Encode>(t: &T, bytes: &[u8])
-    ensures ordered { IsTrue T.in_order → HasSameCounts T.lists T.shape t.now }
-    ensures written { HasSameCounts T.lists T.shape t.now → IsEncodingOf T.lists T.shape t.now bytes.now → (d : Datum) → T.lists t.now d → CountsFit (columns_of_one T.shape d) }
-    ensures refused { HasSameCounts T.lists T.shape t.now → HasLongListing T.lists T.shape t.now → (d : Datum) → T.lists t.now d → CountsFit (columns_of_one T.shape d) → ⊥ }
+    ensures written { IsEncodingOf T.lists T.shape t.now bytes.now → (d : Datum) → T.lists t.now d → CountsFit (columns_of_one T.shape d) }
+    ensures refused { HasLongListing T.lists T.shape t.now → (d : Datum) → T.lists t.now d → CountsFit (columns_of_one T.shape d) → ⊥ }
 {
     t.told();
 }
