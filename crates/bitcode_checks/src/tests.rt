@@ -4,6 +4,7 @@ mod byte_columns;
 mod calls;
 mod checked;
 mod choices;
+mod collections;
 mod fronts;
 mod int_columns;
 mod integers;
