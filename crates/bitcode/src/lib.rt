@@ -37,6 +37,7 @@ pub use bitcode_parts::convert::{
 };
 pub use bitcode_parts::deref::{DerefEncoder, Points};
 pub use bitcode_parts::durations::{DurationDecode, DurationEncode};
+pub use bitcode_parts::elements::{encode_each, encode_lent};
 pub use bitcode_parts::empty::EmptyCoder;
 pub use bitcode_parts::from::{FromDecoder, FromValue};
 pub use bitcode_parts::lends::Lends;
