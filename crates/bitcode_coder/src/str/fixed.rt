@@ -19,11 +19,11 @@ use bitcode_columns::error::{Error, Reason};
 use bitcode_columns::refuse::err;
 use std::alloc::Global;
 
-/// The column that texts of at most `N` bytes each are read from. Making one takes no memory.
+/// The column that texts of at most `N` bytes each are read from. Making a value takes no memory.
 ///
-/// [`View::populate`] refuses first as [`StrDecoder`] does, and then with `invalid ArrayString` where a text is over
-/// the limit. For `N` below 255 the bytes of the length column are asked, so that a 255 is over it whatever length
-/// it stands for.
+/// [`View::populate`] refuses as that of [`StrDecoder`] does. Where it would not, `invalid ArrayString` is the refusal
+/// of a text that is over `N` bytes. For `N` below 255 the bytes of the length column are asked, so that a 255 there is
+/// over it whatever length it stands for.
 ///
 /// ```
 /// let mut column: ArrayStringDecoder<2> = ArrayStringDecoder::new(alloc);
