@@ -1,9 +1,9 @@
 -- The laws of length columns.
 use Rattle.std.proofs.Common.{◌≡◌, ℕ, suc, ◌^◌, ◌<◌, ◌≤◌, min, Bool, true, false, eqb, leb, ltb, MatchBool, pos, Option, Some, None, List, [], ◌∷◌, ◌++◌, length, map, All, sum, refl, sym, ap, ◌∙◌, subst, inl, inr, ⊎_elim, arith}
 use Rattle.std.specs.Prelude.{filter, count_by}
-use Rattle.std.proofs.lemmas.Bool.{cond-true, cond-false, cases_Bool, eq-eqb, ne_eqb, leb-true, leb-false}
+use Rattle.std.proofs.lemmas.Bool.{cond-true, cond-false, cases_Bool, eq-eqb, ne_eqb, leb-true, leb-false, ltb-true, MatchBool-at_true, MatchBool-at_false}
 use Rattle.std.proofs.lemmas.List.{map-id, append_assoc, length-append, nil_from_length}
-use Rattle.std.proofs.lemmas.List.Elements.{All-map, All-weaker, All-filter}
+use Rattle.std.proofs.lemmas.List.Elements.{All-map, All-weaker, All-filter, All-head, All-tail}
 use Rattle.std.proofs.lemmas.List.Sums.{length-filter, get_or-le-sum_by}
 use Rattle.std.proofs.lemmas.Simd.{map-map}
 use Rattle.bitcode_columns.specs.Laws.{IsReadOnce, TakesAnEighth}
@@ -128,3 +128,45 @@ length_text-spells limit lengths below within = record {
   below_limit = below;
   keeps_cap = keeps limit lengths within;
 }
+
+-- ---- limited
+
+-- bytes that are no escapes are the lengths
+without_escapes : (bytes large : List ℕ) → All (λ byte. byte < escape) bytes → lengths_from bytes large ≡ bytes
+without_escapes [] large below = refl
+without_escapes (byte ∷ bytes) large below =
+    cond-false (eqb byte escape) _ _ (ne_eqb byte escape (λ same. omega (arith, All-head (λ b. b < escape) byte bytes below)))
+    ∙ ap (λ more. byte ∷ more) (without_escapes bytes large (All-tail (λ b. b < escape) byte bytes below))
+
+-- where a limit is kept, the lengths are within it
+pub cap_within : (limit : ℕ) (bytes large : List ℕ) → KeepsCap (Some limit) bytes (lengths_from bytes large) → All (λ n. n ≤ limit) (lengths_from bytes large)
+cap_within limit bytes large keeps =
+    ⊎_elim
+    (λ small. let each : All (λ byte. byte ≤ limit) bytes = MatchBool-at_true _ _ small keeps in
+    let below : All (λ byte. byte < escape) bytes =
+    All-weaker (λ byte. byte ≤ limit) (λ byte. byte < escape) (λ byte h. omega (arith, ltb-true limit escape small)) bytes each in
+    subst (All (λ n. n ≤ limit)) (sym (without_escapes bytes large below)) each)
+    (λ not. MatchBool-at_false _ _ not keeps)
+    (cases_Bool (ltb limit escape))
+
+-- a piece spells the same lengths under any limit that they keep
+pub other_limit : {limit : Option ℕ} {piece lengths : List ℕ} (other : Option ℕ) (s : SpellsLengths limit piece lengths) → KeepsCap other s.short lengths
+    → SpellsLengths other piece lengths
+other_limit other s keeps = record {
+  short_piece = s.short_piece;
+  large_piece = s.large_piece;
+  short = s.short;
+  large = s.large;
+  whole = s.whole;
+  short_spelled = s.short_spelled;
+  large_spelled = s.large_spelled;
+  large_count = s.large_count;
+  joined = s.joined;
+  below_limit = s.below_limit;
+  keeps_cap = keeps;
+}
+
+-- lengths that are spelled under a limit are within it
+pub SpellsLengths-within : {limit : ℕ} {piece lengths : List ℕ} → SpellsLengths (Some limit) piece lengths → All (λ n. n ≤ limit) lengths
+SpellsLengths-within {limit} s =
+    subst (All (λ n. n ≤ limit)) (sym s.joined) (cap_within limit s.short s.large (subst (KeepsCap (Some limit) s.short) s.joined s.keeps_cap))

@@ -14,7 +14,7 @@ use Rattle.bitcode_coder.specs.Coding.{IsReadingReason}
 use Rattle.bitcode_coder.specs.LengthColumn.{SpellsLengths, KeepsCap, lengths_from, length_limit}
 use Rattle.bitcode_coder.specs.LengthParts.{escapes, ReadsParts, sum_fault, NamesLengthFault, in_short, in_large, in_sum}
 use Rattle.bitcode_coder.proofs.CoderLemmas.{ints_refused}
-use Rattle.bitcode_coder.proofs.LengthLemmas.{length-lengths_from}
+use Rattle.bitcode_coder.proofs.LengthLemmas.{length-lengths_from, other_limit}
 
 -- two readings of so many entries from one input
 pub reads_once : {Entry : Type 0} {Spelled : List ℕ → List Entry → Type 0} {count : ℕ} {input rest left : List ℕ} {entries others : List Entry}
@@ -87,14 +87,27 @@ pub lengths_refused : (limit : Option ℕ) (reason : Reason) (count : ℕ) (inpu
     → (lengths rest : List ℕ) → Reads (SpellsLengths limit) count input lengths rest → ⊥
 lengths_refused limit reason count input fault other lengths rest r = lengths_refused_here limit reason count input other lengths rest r fault
 
+-- the lengths of a reading are those of parts that were read
+joined_parts : {limit : Option ℕ} {count : ℕ} {input short large left lengths rest : List ℕ} → ReadsParts count input short large left
+    → (r : Reads (SpellsLengths limit) count input lengths rest) → (short ≡ r.spelled.short) × (lengths ≡ lengths_from short large)
+joined_parts {short = short} read r =
+    let same = parts_once read (parts_of r) in
+    (same.0, r.spelled.joined ∙ (ap (λ bytes. lengths_from bytes r.spelled.large) (sym same.0) ∙ ap (lengths_from short) (sym same.1)))
+
+-- where lengths were read that keep a limit, a reading without it is one with it
+pub cap_kept : (limit : Option ℕ) (count : ℕ) (input short large left : List ℕ) → ReadsParts count input short large left
+    → KeepsCap limit short (lengths_from short large) → {lengths rest : List ℕ} (r : Reads (SpellsLengths None) count input lengths rest)
+    → SpellsLengths limit r.piece lengths
+cap_kept limit count input short large left read keeps {lengths} r =
+    let same = joined_parts read r in
+    other_limit limit r.spelled (subst (λ bytes. KeepsCap limit bytes lengths) same.0 (subst (KeepsCap limit short) (sym same.1) keeps))
+
 -- where lengths were read that break a limit, none that keep it can be read
 pub cap_refused : (limit : Option ℕ) (count : ℕ) (input short large left : List ℕ) → ReadsParts count input short large left
     → (KeepsCap limit short (lengths_from short large) → ⊥) → (lengths rest : List ℕ) → Reads (SpellsLengths limit) count input lengths rest → ⊥
 cap_refused limit count input short large left read broken lengths rest r =
-    let same = parts_once read (parts_of r) in
-    let joined : lengths ≡ lengths_from short large =
-    r.spelled.joined ∙ (ap (λ bytes. lengths_from bytes r.spelled.large) (sym same.0) ∙ ap (lengths_from short) (sym same.1)) in
-    broken (subst (KeepsCap limit short) joined (subst (λ bytes. KeepsCap limit bytes lengths) (sym same.0) r.spelled.keeps_cap))
+    let same = joined_parts read r in
+    broken (subst (KeepsCap limit short) same.1 (subst (λ bytes. KeepsCap limit bytes lengths) (sym same.0) r.spelled.keeps_cap))
 
 -- ---- the reasons
 

@@ -6,6 +6,7 @@ pub mod LengthRefusalLemmas
 pub mod TextLemmas
 pub mod JoinedTextLemmas
 pub mod TextCoderLemmas
+pub mod LimitedTextLemmas
 pub mod CheckedLemmas
 pub mod ColumnLemmas
 pub mod TranspositionLemmas

@@ -1,5 +1,5 @@
 -- What the coders of texts read and write, and why a reader of texts refuses.
-use Rattle.std.proofs.Common.{◌≡◌, ◌≢◌, ℕ, ◌<◌, ◌≤◌, None, List, [], ◌∷◌, ◌++◌, length, take, drop, map, All, sum, refl, sym, ◌∙◌, ap, ap₂, subst, arith, append_assoc, append-nil, length-append, Result, Ok, Err, OnOk, ⊎_elim}
+use Rattle.std.proofs.Common.{◌≡◌, ◌≢◌, ℕ, ◌<◌, ◌≤◌, Option, None, List, [], ◌∷◌, ◌++◌, length, take, drop, map, All, sum, refl, sym, ◌∙◌, ap, ap₂, subst, arith, append_assoc, append-nil, length-append, Result, Ok, Err, OnOk, ⊎_elim}
 use Rattle.std.specs.Prelude.{IsUtf8}
 use Rattle.std.proofs.lemmas.Bool.{cases_lt}
 use Rattle.std.proofs.lemmas.List.{length-map, map-id, map-append}
@@ -11,7 +11,7 @@ use Rattle.bitcode_columns.specs.declared.error.Reason.{Reason}
 use Rattle.bitcode_columns.specs.declared.error.Reason.TheVariants.{OutOfMemory}
 use Rattle.bitcode_columns.specs.Reading.{Reads}
 use Rattle.bitcode_columns.proofs.ListLemmas.{append_split}
-use Rattle.bitcode_shapes.specs.Datum.{text, text_in, natural_in}
+use Rattle.bitcode_shapes.specs.Datum.{Datum, text, text_in, natural_in}
 use Rattle.bitcode_shapes.specs.Shape.{IsTextOf, text_shape}
 use Rattle.bitcode_coder.specs.Coding.{IsReadingReason, IsReadingRefusal}
 use Rattle.bitcode_coder.specs.Columns.{lengths as length_kind, texts as text_kind, one}
@@ -114,25 +114,39 @@ module _ {count : ℕ} {old lengths : List ℕ} (bytes : List ℕ) {new : List �
 
 -- ---- refused
 
-module _ {count : ℕ} {input : List ℕ} {texts : List (List ℕ)} {rest : List ℕ} (r : Reads (SpellsTexts None) count input texts rest) where
-  lengths_of_reading : Reads (SpellsLengths None) count input (lengths_of texts) (join texts ++ rest)
-  lengths_of_reading = record {
-    size = length-map texts (λ t. length t) ∙ r.size;
-    piece = r.spelled.lengths_piece;
-    whole = r.whole ∙ (ap (λ piece. piece ++ rest) r.spelled.whole ∙ append_assoc r.spelled.lengths_piece (join texts) rest);
-    spelled = r.spelled.lengths_spelled;
-  }
+-- the lengths of a reading of texts
+unfoldable pub lengths_of_reading : {limit : Option ℕ} {count : ℕ} {input rest : List ℕ} {texts : List (List ℕ)} (r : Reads (SpellsTexts limit) count input texts rest)
+    → Reads (SpellsLengths limit) count input (lengths_of texts) (join texts ++ rest)
+lengths_of_reading {rest = rest} {texts = texts} r = record {
+  size = length-map texts (λ t. length t) ∙ r.size;
+  piece = r.spelled.lengths_piece;
+  whole = r.whole ∙ (ap (λ piece. piece ++ rest) r.spelled.whole ∙ append_assoc r.spelled.lengths_piece (join texts) rest);
+  spelled = r.spelled.lengths_spelled;
+}
 
+-- the texts of a reading of their data
+unfoldable pub texts_of_reading : {limit : Option ℕ} {count : ℕ} {input rest : List ℕ} {ds : List Datum} (r : Reads (Spells (text_shape limit)) count input ds rest)
+    → Reads (SpellsTexts limit) count input r.spelled.columns.entries rest
+texts_of_reading r =
+    let column = r.spelled.columns in
+    record {
+      size = sym (length-map column.entries text) ∙ (sym (ap length column.are) ∙ r.size);
+      piece = r.piece;
+      whole = r.whole;
+      spelled = column.spelled;
+    }
+
+module _ {count : ℕ} {input : List ℕ} {texts : List (List ℕ)} {rest : List ℕ} (r : Reads (SpellsTexts None) count input texts rest) where
   total : length (join texts) ≡ sum (lengths_of texts)
   total = length-flat_map (λ t. t) texts ∙ sym (sum-map (λ t. length t) texts)
 
   texts_refused : (reason : Reason) → reason ≢ OutOfMemory → NamesTextFault reason count input → ⊥
-  texts_refused reason other (in_lengths fault) = lengths_refused None reason count input fault other (lengths_of texts) (join texts ++ rest) lengths_of_reading
+  texts_refused reason other (in_lengths fault) = lengths_refused None reason count input fault other (lengths_of texts) (join texts ++ rest) (lengths_of_reading r)
   texts_refused reason other (missing_bytes lengths middle is read few) =
-      let same = reads_once (SpellsLengths-once None) read lengths_of_reading in
+      let same = reads_once (SpellsLengths-once None) read (lengths_of_reading r) in
       omega (arith, ap length same.1, ap sum same.0, total, length-append (join texts) rest)
   texts_refused reason other (not_texts lengths bytes behind is read all broken) =
-      let same = reads_once (SpellsLengths-once None) read lengths_of_reading in
+      let same = reads_once (SpellsLengths-once None) read (lengths_of_reading r) in
       let front : bytes ≡ join texts = (append_split bytes (join texts) behind rest (all ∙ (ap sum same.0 ∙ sym total)) same.1).0 in
       broken (subst (All IsUtf8) (sym (ap₂ cut same.0 front ∙ cut-joined texts)) r.spelled.utf8)
 
@@ -144,14 +158,5 @@ text_reason reason count input (not_texts lengths bytes rest is read all broken)
 pub text_refusal : (reason : Reason) (count : ℕ) (input : List ℕ) → NamesTextFault reason count input → IsReadingRefusal (text_shape None) reason count input
 text_refusal reason count input fault = (
   text_reason reason count input fault,
-  λ other ds rest r.
-      let texts = r.spelled.columns.entries in
-      texts_refused
-      (record {
-        size = sym (length-map texts text) ∙ (sym (ap length r.spelled.columns.are) ∙ r.size);
-        piece = r.piece;
-        whole = r.whole;
-        spelled = r.spelled.columns.spelled;
-      })
-      reason other fault,
+  λ other ds rest r. texts_refused (texts_of_reading r) reason other fault,
 )

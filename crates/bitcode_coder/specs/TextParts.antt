@@ -1,11 +1,14 @@
 -- Which fault a reader of texts names.
-use Rattle.std.specs.Prelude.{◌≡◌, ℕ, ◌<◌, None, List, ◌++◌, length, sum, All, IsUtf8}
+use Rattle.std.specs.Prelude.{◌≡◌, ℕ, ◌<◌, Some, None, List, ◌++◌, length, sum, All, IsUtf8}
 use Rattle.bitcode_columns.specs.declared.error.Reason.{Reason}
-use Rattle.bitcode_columns.specs.declared.error.Reason.TheVariants.{Eof, InvalidUtf8}
+use Rattle.bitcode_columns.specs.declared.error.Reason.TheVariants.{Eof, InvalidUtf8, InvalidArrayString}
 use Rattle.bitcode_columns.specs.Reading.{Reads}
+use Rattle.bitcode_shapes.specs.Datum.{Datum}
+use Rattle.bitcode_shapes.specs.Shape.{text_shape}
 use Rattle.bitcode_coder.specs.Cutting.{cut}
-use Rattle.bitcode_coder.specs.LengthColumn.{SpellsLengths}
-use Rattle.bitcode_coder.specs.LengthParts.{NamesLengthFault}
+use Rattle.bitcode_coder.specs.LengthColumn.{SpellsLengths, KeepsCap, lengths_from}
+use Rattle.bitcode_coder.specs.LengthParts.{ReadsParts, NamesLengthFault}
+use Rattle.bitcode_coder.specs.Spelling.{Spells}
 
 -- A refusal names the fault of the lengths; where they can be read, that fewer bytes follow than they sum to; and
 -- where these bytes are there, that one of the texts is not UTF-8.
@@ -15,3 +18,20 @@ pub data NamesTextFault (reason : Reason) (count : ℕ) (input : List ℕ) : Typ
       → NamesTextFault reason count input
   not_texts : (lengths bytes rest : List ℕ) → reason ≡ InvalidUtf8 → Reads (SpellsLengths None) count input lengths (bytes ++ rest)
       → length bytes ≡ sum lengths → (All IsUtf8 (cut lengths bytes) → ⊥) → NamesTextFault reason count input
+
+-- Texts can be read where no limit is set, and the bytes or lengths that this limit asks are over it.
+pub record BreaksTextLimit (limit count : ℕ) (input : List ℕ) : Type 0 where
+  pub texts : List Datum
+  pub rest : List ℕ
+  pub read : Reads (Spells (text_shape None)) count input texts rest
+  pub short : List ℕ
+  pub large : List ℕ
+  pub behind : List ℕ
+  pub parts : ReadsParts count input short large behind
+  pub broken : KeepsCap (Some limit) short (lengths_from short large) → ⊥
+
+-- A refusal of texts of at most so many bytes each names the fault of the texts; where they can be read, that they
+-- break the limit.
+pub data NamesLimitedTextFault (limit : ℕ) (reason : Reason) (count : ℕ) (input : List ℕ) : Type 0 where
+  in_texts : NamesTextFault reason count input → NamesLimitedTextFault limit reason count input
+  over_limit : reason ≡ InvalidArrayString → BreaksTextLimit limit count input → NamesLimitedTextFault limit reason count input

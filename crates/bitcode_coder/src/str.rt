@@ -6,12 +6,15 @@ ghost use Rattle.bitcode_coder.specs.Columns.{texts, one};
 
 pub use crate::str::decoder::StrDecoder;
 pub use crate::str::encoder::StrEncoder;
+pub use crate::str::fixed::ArrayStringDecoder;
+use arrayvec::ArrayString;
 use bitcode_shapes::shaped::Shaped;
 use std::boxed::BoxedStr;
 use std::rc::RcStr;
 
 mod decoder;
 mod encoder;
+mod fixed;
 
 /// A type whose values are written as texts.
 pub trait AsText: Shaped {
@@ -47,6 +50,14 @@ impl AsText for BoxedStr {
 }
 
 impl AsText for RcStr {
+    fn as_text(&self) -> &str {
+        self.as_str()
+    }
+
+    ghost as_text_columns = { λ ds. refl };
+}
+
+impl<const N: usize> AsText for ArrayString<N> {
     fn as_text(&self) -> &str {
         self.as_str()
     }

@@ -1,5 +1,5 @@
 // The coder that texts are read from.
-ghost use Rattle.std.specs.Prelude.{◌≡◌, ◌≢◌, ◌<◌, [], ◌∷◌, None, true, false, refl, length, map, sum, All, IsUtf8, MatchBool, IfOk, OnOk, IfErr, OnErr};
+ghost use Rattle.std.specs.Prelude.{◌≡◌, ◌≢◌, ℕ, ◌<◌, List, [], ◌∷◌, None, true, false, refl, length, map, sum, All, IsUtf8, MatchBool, IfOk, OnOk, IfErr, OnErr};
 ghost use Rattle.std.specs.Str.{IsCharBoundary};
 ghost use Rattle.std.proofs.Props.{props};
 ghost use Rattle.bitcode_columns.specs.Fast.{slice_rest};
@@ -9,8 +9,8 @@ ghost use Rattle.bitcode_shapes.specs.Shape.{text_shape};
 ghost use Rattle.bitcode_coder.specs.Coding.{IsReadingRefusal};
 ghost use Rattle.bitcode_coder.specs.Cutting.{cut};
 ghost use Rattle.bitcode_coder.specs.JoinedTexts.{ends_from, IsCutAtChars};
-ghost use Rattle.bitcode_coder.specs.LengthCoders.{lengths_left};
-ghost use Rattle.bitcode_coder.specs.LengthParts.{LengthsStandRaw};
+ghost use Rattle.bitcode_coder.specs.LengthCoders.{short_left, large_left, lengths_left};
+ghost use Rattle.bitcode_coder.specs.LengthParts.{ReadsParts, LengthsStandRaw};
 ghost use Rattle.bitcode_coder.specs.Spelling.{Spells};
 ghost use Rattle.bitcode_coder.specs.TextParts.{NamesTextFault};
 
@@ -38,7 +38,7 @@ use std::str::{from_utf8, from_utf8_unchecked};
 #[derive(Drop)]
 pub struct StrDecoder<'a> {
     alloc: Global,
-    lengths: LengthDecoder<'a>,
+    pub(super) lengths: LengthDecoder<'a>,
     bytes: FastSlice<'a, u8>,
     ghost utf8: { All IsUtf8 (cut (lengths_left lengths) (slice_rest bytes)) } by { Prim.hlevel props },
 }
@@ -72,8 +72,13 @@ fn are_texts(bytes: &[u8], lengths: &LengthDecoder<'_>) -> bool
 
 impl<'a> StrDecoder<'a> {
     // Reads a column, all checks included.
-    fn read(alloc: Global, input: &mut &'a [u8], k: usize) -> Result<StrDecoder<'a>, Error>
+    pub(super) fn read(
+        alloc: Global,
+        input: &mut &'a [u8],
+        k: usize,
+    ) -> Result<StrDecoder<'a>, Error>
         ensures read { IfOk result (λ d. Reads (Spells (text_shape None)) k input.old.now (map text (cut (lengths_left d.lengths) (slice_rest d.bytes))) input.new.now) }
+        ensures parts { IfOk result (λ d. (middle : List ℕ) × ReadsParts k input.old.now (short_left d.lengths) (large_left d.lengths) middle) }
         ensures refused { IfErr result (λ e. NamesTextFault e.reason k input.old.now) }
         ensures rest { OnErr result (IsEndOf input.old.now input.new.now) }
         ensures free { LengthsStandRaw k input.old.now → IfErr result (λ e. e.reason ≢ Reason.OutOfMemory) }
@@ -92,7 +97,7 @@ impl<'a> StrDecoder<'a> {
     }
 
     // Takes the next text, a slice of the input.
-    fn take_text(&mut self) -> &'a str
+    pub(super) fn take_text(&mut self) -> &'a str
         requires { 0 < length (cut (lengths_left self.old.lengths) (slice_rest self.old.bytes)) }
         ensures { cut (lengths_left self.old.lengths) (slice_rest self.old.bytes) ≡ result.now ∷ cut (lengths_left self.new.lengths) (slice_rest self.new.bytes) }
     {

@@ -1,0 +1,78 @@
+// The coder that texts of a fixed capacity are read from.
+ghost use Rattle.std.specs.Prelude.{◌≡◌, ◌≢◌, ◌≤◌, [], Some, true, refl, length, map, All, OnOk, IfErr, OnErr};
+ghost use Rattle.std.proofs.Props.{props};
+ghost use Rattle.bitcode_columns.specs.Fast.{slice_rest};
+ghost use Rattle.bitcode_columns.specs.Reading.{Reads, IsEndOf};
+ghost use Rattle.bitcode_shapes.specs.Datum.{text};
+ghost use Rattle.bitcode_shapes.specs.Shape.{text_shape};
+ghost use Rattle.bitcode_coder.specs.Coding.{IsReadingRefusal};
+ghost use Rattle.bitcode_coder.specs.Cutting.{cut};
+ghost use Rattle.bitcode_coder.specs.LengthCoders.{lengths_left};
+ghost use Rattle.bitcode_coder.specs.LengthParts.{LengthsStandRaw};
+ghost use Rattle.bitcode_coder.specs.Spelling.{Spells};
+ghost use Rattle.bitcode_coder.specs.TextParts.{NamesLimitedTextFault};
+
+use crate::coder::{Decoder, View};
+use crate::str::StrDecoder;
+use arrayvec::ArrayString;
+use bitcode_columns::error::{Error, Reason};
+use bitcode_columns::refuse::err;
+use std::alloc::Global;
+
+/// The column that texts of at most `N` bytes each are read from. Making a value takes no memory.
+///
+/// [`View::populate`] refuses as that of [`StrDecoder`] does. Where it would not, `invalid ArrayString` is the refusal
+/// of a text that is over `N` bytes. For `N` below 255 the bytes of the length column are asked, so that a 255 there is
+/// over it whatever length it stands for.
+///
+/// ```
+/// let mut column: ArrayStringDecoder<2> = ArrayStringDecoder::new(alloc);
+/// column.populate(&mut input, 2)?; // [2, 1, 97, 98, 99]
+/// let first: ArrayString<2> = column.decode()?; // "ab"
+/// let second: ArrayString<2> = column.decode()?; // "c"
+/// ```
+#[derive(Drop)]
+pub struct ArrayStringDecoder<'a, const N: usize> {
+    alloc: Global,
+    column: StrDecoder<'a>,
+    ghost within: { All (λ t. length t ≤ N) (cut (lengths_left column.lengths) (slice_rest column.bytes)) } by { Prim.hlevel props },
+}
+
+impl<'a, const N: usize> View<'a> for ArrayStringDecoder<'a, N> {
+    ghost shape = { text_shape (Some N) };
+
+    ghost held = { λ d. map text (cut (lengths_left d.column.lengths) (slice_rest d.column.bytes)) };
+
+    ghost reads_free = { LengthsStandRaw };
+
+    ghost faults = { NamesLimitedTextFault N };
+
+    fn new(alloc: Global) -> Self {
+        ArrayStringDecoder {
+            alloc,
+            column: StrDecoder::new(alloc),
+        }
+    }
+
+    fn populate(&mut self, input: &mut &'a [u8], k: usize) -> Result<(), Error> {
+        let column = StrDecoder::read(self.alloc, input, k)?;
+        if column.lengths.any_greater_than::<N>() {
+            return err(Reason::InvalidArrayString);
+        }
+        self.column = column;
+        Ok(())
+    }
+}
+
+impl<'a, const N: usize> Decoder<'a, ArrayString<N>> for ArrayStringDecoder<'a, N> {
+    ghost makes_free = { true };
+
+    fn decode(&mut self) -> Result<ArrayString<N>, Error> {
+        match ArrayString::from(self.column.take_text()) {
+            Ok(text) => Ok(text),
+            Err(_) => unreachable!(),
+        }
+    }
+
+    ghost same_shape = { refl };
+}
