@@ -1,5 +1,5 @@
 -- Lengths that keep a limit, by their bytes or by themselves.
-use Rattle.std.proofs.Common.{◌≡◌, ℕ, ◌<◌, ◌≤◌, ltb, ◌==◌, Option, Some, None, List, [], ◌∷◌, All, sym, subst, ⊎_elim, arith}
+use Rattle.std.proofs.Common.{ℕ, ◌<◌, ◌≤◌, ltb, ◌==◌, Option, Some, None, List, [], ◌∷◌, All, sym, subst, ⊎_elim, arith}
 use Rattle.std.proofs.lemmas.Bool.{cases_Bool, cond-false, ltb-true, ne_eqb, MatchBool-at_true, MatchBool-at_false}
 use Rattle.std.proofs.lemmas.List.Elements.{All-nil, All-head, All-tail, All-cons}
 use Rattle.bitcode_columns.specs.Reading.{Reads}

@@ -1,11 +1,11 @@
 -- Data of lists are read as the lengths of all and then the elements of all.
-use Rattle.std.proofs.Common.{◌≡◌, ℕ, Option, List, [], ◌∷◌, ◌++◌, length, map, sum, take, drop, refl, sym, ◌∙◌, ap, ap₂, subst, leb, arith, append_assoc, length-append}
+use Rattle.std.proofs.Common.{◌≡◌, ℕ, Option, List, [], ◌∷◌, ◌++◌, ◌<◌, ◌≤◌, length, map, sum, take, drop, refl, sym, ◌∙◌, ap, ap₂, subst, ⊎_elim, leb, arith, append_assoc, length-append}
 use Rattle.std.specs.Prelude.{None, All}
 use Rattle.std.specs.List.{flat_map}
 use Rattle.std.proofs.Math.Seq.{take-append_seam, drop-append_seam}
 use Rattle.std.proofs.lemmas.List.{length-map, length-take-le}
 use Rattle.std.proofs.lemmas.List.Elements.{All-nil, All-cons, All-head, All-tail, All-take, All-drop}
-use Rattle.std.proofs.lemmas.Bool.{cond_both, leb-true}
+use Rattle.std.proofs.lemmas.Bool.{cond_both, cases_Bool, leb-true, leb-false}
 use Rattle.std.proofs.lemmas.List.Sums.{sum_by-cons}
 use Rattle.bitcode_columns.specs.declared.error.Reason.{Reason}
 use Rattle.bitcode_columns.specs.Reading.{Reads}
@@ -20,7 +20,7 @@ use Rattle.bitcode_coder.specs.LengthColumn.{SpellsLengths, KeepsCap, lengths_fr
 use Rattle.bitcode_coder.specs.LengthParts.{ReadsParts, NamesLengthFault}
 use Rattle.bitcode_coder.specs.Spelling.{Spells, SpellsColumns, natural}
 use Rattle.bitcode_coder.specs.Coding.{IsReadingRefusal, TakesDatum}
-use Rattle.bitcode_coder.proofs.CuttingLemmas.{cut-enough, joined-cut, lengths-cut}
+use Rattle.bitcode_coder.proofs.CuttingLemmas.{cut-enough, cut-few, joined-cut, lengths-cut}
 use Rattle.bitcode_coder.proofs.LengthLemmas.{SpellsLengths-once}
 use Rattle.bitcode_coder.proofs.LengthRefusalLemmas.{reads_once, lengths_refused, length_reason, cap_refused}
 use Rattle.bitcode_coder.proofs.DatumLemmas.{joined_each}
@@ -167,6 +167,17 @@ lists_of-parts n ns parts rest size =
     ∙ ap (map as_list)
     (cut-enough (length parts) ns (parts ++ rest) (omega (arith, length-append parts rest))
     ∙ ap₂ (λ first more. first ∷ cut ns more) (take-append_seam parts rest) (drop-append_seam parts rest))
+
+-- where a list is left, its elements are
+pub enough_elements : (n : ℕ) (old ns : List ℕ) (elements : List Datum) → old ≡ n ∷ ns → 0 < length (lists_of old elements) → n ≤ length elements
+enough_elements n old ns elements is some =
+    ⊎_elim
+    (λ enough. leb-true n (length elements) enough)
+    (λ few.
+    let none : lists_of old elements ≡ [] =
+    ap (λ lengths. lists_of lengths elements) is ∙ ap (map as_list) (cut-few n ns elements (leb-false n (length elements) few)) in
+    omega (arith, some, ap length none))
+    (cases_Bool (leb n (length elements)))
 
 -- a list was made of the next length and so many elements
 pub takes_list : {T C : Type 0} (makes : Datum → T → Type 0) (items : C → List T) (t : C) (n : ℕ) (old ns : List ℕ) (elements rest : List Datum) → old ≡ n ∷ ns
