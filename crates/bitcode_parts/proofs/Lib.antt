@@ -1,4 +1,5 @@
 pub mod ElementLemmas
+pub mod CapLemmas
 pub mod SequenceLemmas
 pub mod SequenceWritingLemmas
 pub mod SetLemmas

@@ -1,11 +1,11 @@
 -- Data of lists are read as the lengths of all and then the elements of all.
-use Rattle.std.proofs.Common.{◌≡◌, ℕ, List, [], ◌∷◌, ◌++◌, length, map, sum, take, drop, refl, sym, ◌∙◌, ap, ap₂, subst, leb, arith, append_assoc, length-append}
+use Rattle.std.proofs.Common.{◌≡◌, ℕ, Option, List, [], ◌∷◌, ◌++◌, ◌<◌, ◌≤◌, length, map, sum, take, drop, refl, sym, ◌∙◌, ap, ap₂, subst, ⊎_elim, leb, arith, append_assoc, length-append}
 use Rattle.std.specs.Prelude.{None, All}
 use Rattle.std.specs.List.{flat_map}
 use Rattle.std.proofs.Math.Seq.{take-append_seam, drop-append_seam}
-use Rattle.std.proofs.lemmas.List.{length-map}
-use Rattle.std.proofs.lemmas.List.Elements.{All-nil, All-cons, All-take, All-drop}
-use Rattle.std.proofs.lemmas.Bool.{cond_both}
+use Rattle.std.proofs.lemmas.List.{length-map, length-take-le}
+use Rattle.std.proofs.lemmas.List.Elements.{All-nil, All-cons, All-head, All-tail, All-take, All-drop}
+use Rattle.std.proofs.lemmas.Bool.{cond_both, cases_Bool, leb-true, leb-false}
 use Rattle.std.proofs.lemmas.List.Sums.{sum_by-cons}
 use Rattle.bitcode_columns.specs.declared.error.Reason.{Reason}
 use Rattle.bitcode_columns.specs.Reading.{Reads}
@@ -16,16 +16,17 @@ use Rattle.bitcode_shapes.specs.LawfulSequences.{list_of_data, zip_length}
 use Rattle.bitcode_coder.specs.Columns.{CountsFit}
 use Rattle.bitcode_coder.specs.Cutting.{cut}
 use Rattle.bitcode_coder.specs.Transposition.{columns_of, joined, length_entry}
-use Rattle.bitcode_coder.specs.LengthColumn.{SpellsLengths}
-use Rattle.bitcode_coder.specs.LengthParts.{NamesLengthFault}
+use Rattle.bitcode_coder.specs.LengthColumn.{SpellsLengths, KeepsCap, lengths_from}
+use Rattle.bitcode_coder.specs.LengthParts.{ReadsParts, NamesLengthFault}
 use Rattle.bitcode_coder.specs.Spelling.{Spells, SpellsColumns, natural}
 use Rattle.bitcode_coder.specs.Coding.{IsReadingRefusal, TakesDatum}
-use Rattle.bitcode_coder.proofs.CuttingLemmas.{cut-enough, joined-cut, lengths-cut}
+use Rattle.bitcode_coder.proofs.CuttingLemmas.{cut-enough, cut-few, joined-cut, lengths-cut}
 use Rattle.bitcode_coder.proofs.LengthLemmas.{SpellsLengths-once}
-use Rattle.bitcode_coder.proofs.LengthRefusalLemmas.{lengths_refused, length_reason}
+use Rattle.bitcode_coder.proofs.LengthRefusalLemmas.{reads_once, lengths_refused, length_reason, cap_refused}
 use Rattle.bitcode_coder.proofs.DatumLemmas.{joined_each}
 use Rattle.bitcode_parts.specs.Elements.{TakesEach, MakesOfElements}
 use Rattle.bitcode_parts.specs.Sequences.{lists_of}
+use Rattle.bitcode_parts.proofs.CapLemmas.{spelled_within, reads_unlimited}
 
 -- ---- lists of data
 
@@ -62,23 +63,28 @@ joined-length (d ∷ ds) (n ∷ ns) e =
     let rest : length (joined ds) ≡ sum ns = joined-length ds ns cc in
     omega (arith, length-append (elements_in d) (joined ds), sum_by-cons (λ x. x) n ns)
 
-piece_is : (P : Datum → Type 0) (ds : List Datum) → All P ds → IsListOf P (IsWithin None) (as_list ds)
-piece_is P ds each = record { elements = ds; is = refl; each = each; count = tt }
-
-pieces_are : (P : Datum → Type 0) (lengths : List ℕ) (elements : List Datum) → All P elements → All (IsListOf P (IsWithin None)) (lists_of lengths elements)
-pieces_are P [] elements each = All-nil (IsListOf P (IsWithin None))
-pieces_are P (n ∷ ns) elements each =
-    cond_both (leb n (length elements)) (take n elements ∷ cut ns (drop n elements)) [] (λ pieces. All (IsListOf P (IsWithin None)) (map as_list pieces))
-    (λ enough.
-    All-cons (IsListOf P (IsWithin None)) (as_list (take n elements)) (lists_of ns (drop n elements)) (piece_is P (take n elements) (All-take P n elements each))
-    (pieces_are P ns (drop n elements) (All-drop P n elements each)))
-    (λ few. All-nil (IsListOf P (IsWithin None)))
+module _ (limit : Option ℕ) (P : Datum → Type 0) where
+  pieces_are : (lengths : List ℕ) (elements : List Datum) → All (IsWithin limit) lengths → All P elements
+      → All (IsListOf P (IsWithin limit)) (lists_of lengths elements)
+  pieces_are [] elements within each = All-nil (IsListOf P (IsWithin limit))
+  pieces_are (n ∷ ns) elements within each =
+      cond_both (leb n (length elements)) (take n elements ∷ cut ns (drop n elements)) [] (λ pieces. All (IsListOf P (IsWithin limit)) (map as_list pieces))
+      (λ enough.
+      All-cons (IsListOf P (IsWithin limit)) (as_list (take n elements)) (lists_of ns (drop n elements))
+      (record {
+        elements = take n elements;
+        is = refl;
+        each = All-take P n elements each;
+        count = subst (IsWithin limit) (sym (length-take-le n elements (leb-true n (length elements) enough))) (All-head (IsWithin limit) n ns within);
+      })
+      (pieces_are ns (drop n elements) (All-tail (IsWithin limit) n ns within) (All-drop P n elements each)))
+      (λ few. All-nil (IsListOf P (IsWithin limit)))
 
 -- ---- readings of lists
 
-module _ (s : Shape) (k : ℕ) where
-  pub reads_sequence : {old middle : List ℕ} {lengths : List ℕ} (new : List ℕ) (elements : List Datum) → Reads (SpellsLengths None) k old lengths middle
-      → Reads (Spells s) (sum lengths) middle elements new → Reads (Spells (seq_shape None s)) k old (lists_of lengths elements) new
+module _ (limit : Option ℕ) (s : Shape) (k : ℕ) where
+  pub reads_sequence : {old middle : List ℕ} {lengths : List ℕ} (new : List ℕ) (elements : List Datum) → Reads (SpellsLengths limit) k old lengths middle
+      → Reads (Spells s) (sum lengths) middle elements new → Reads (Spells (seq_shape limit s)) k old (lists_of lengths elements) new
   reads_sequence {lengths = lengths} new elements r q =
       let all : sum lengths ≡ length elements = sym q.size in
       let same : elements ≡ joined (lists_of lengths elements) = sym (joined-lists_of lengths elements all) in
@@ -87,7 +93,7 @@ module _ (s : Shape) (k : ℕ) where
         piece = r.piece ++ q.piece;
         whole = r.whole ∙ ap (λ x. r.piece ++ x) q.whole ∙ sym (append_assoc r.piece q.piece new);
         spelled = record {
-          of_shape = pieces_are (IsOf s) lengths elements q.spelled.of_shape;
+          of_shape = pieces_are limit (IsOf s) lengths elements (spelled_within limit r.piece lengths r.spelled) q.spelled.of_shape;
           counts = (tt, subst (λ ds. CountsFit (columns_of s ds)) same q.spelled.counts);
           columns = record {
             front = r.piece;
@@ -103,10 +109,10 @@ module _ (s : Shape) (k : ℕ) where
   pub record ReadsSequence (old new : List ℕ) (ds : List Datum) : Type 0 where
     pub lengths : List ℕ
     pub middle : List ℕ
-    pub first : Reads (SpellsLengths None) k old lengths middle
+    pub first : Reads (SpellsLengths limit) k old lengths middle
     pub second : Reads (Spells s) (sum lengths) middle (joined ds) new
 
-  pub reads_parts : (old new : List ℕ) (ds : List Datum) → Reads (Spells (seq_shape None s)) k old ds new → ReadsSequence old new ds
+  pub reads_parts : (old new : List ℕ) (ds : List Datum) → Reads (Spells (seq_shape limit s)) k old ds new → ReadsSequence old new ds
   reads_parts old new ds r =
       let c = r.spelled.columns in
       record {
@@ -122,29 +128,36 @@ module _ (s : Shape) (k : ℕ) where
           size = joined-length ds c.first.entries c.first.are;
           piece = c.back;
           whole = refl;
-          spelled = record { of_shape = joined_each (IsOf s) (IsWithin None) ds r.spelled.of_shape; counts = r.spelled.counts.1; columns = c.second };
+          spelled = record { of_shape = joined_each (IsOf s) (IsWithin limit) ds r.spelled.of_shape; counts = r.spelled.counts.1; columns = c.second };
         };
       }
 
   -- ---- refusals
 
-  pub refuses_lengths : (reason : Reason) (old : List ℕ) → NamesLengthFault reason k old → IsReadingRefusal (seq_shape None s) reason k old
+  pub refuses_lengths : (reason : Reason) (old : List ℕ) → NamesLengthFault reason k old → IsReadingRefusal (seq_shape limit s) reason k old
   refuses_lengths reason old fault =
-      (length_reason reason k old fault, λ other ds rest r. let parts = reads_parts old rest ds r in lengths_refused None reason k old fault other parts.lengths parts.middle parts.first)
+      (length_reason reason k old fault, λ other ds rest r. let parts = reads_parts old rest ds r in lengths_refused limit reason k old fault other parts.lengths parts.middle parts.first)
 
+  -- the lengths can be read without the limit
   pub refuses_elements : (reason : Reason) (old middle : List ℕ) (lengths : List ℕ) → Reads (SpellsLengths None) k old lengths middle
-      → IsReadingRefusal s reason (sum lengths) middle → IsReadingRefusal (seq_shape None s) reason k old
+      → IsReadingRefusal s reason (sum lengths) middle → IsReadingRefusal (seq_shape limit s) reason k old
   refuses_elements reason old middle lengths q h = (
     h.0,
     λ other ds rest r.
         let parts = reads_parts old rest ds r in
-        let same = (SpellsLengths-once None).once q.piece parts.first.piece lengths parts.lengths middle parts.middle q.spelled parts.first.spelled
-        (q.size ∙ sym parts.first.size) (sym q.whole ∙ parts.first.whole) in
+        let same = reads_once (SpellsLengths-once None) q (reads_unlimited parts.first) in
         let count : sum parts.lengths ≡ sum lengths = ap sum (sym same.0) in
         let here : Reads (Spells s) (sum parts.lengths) middle (joined ds) rest =
         subst (λ x. Reads (Spells s) (sum parts.lengths) x (joined ds) rest) (sym same.1) parts.second in
         h.1 other (joined ds) rest (subst (λ n. Reads (Spells s) n middle (joined ds) rest) count here),
   )
+
+  -- a list is longer than the limit
+  pub refuses_cap : (old short large left : List ℕ) → ReadsParts k old short large left → (KeepsCap limit short (lengths_from short large) → ⊥)
+      → (ds : List Datum) (rest : List ℕ) → Reads (Spells (seq_shape limit s)) k old ds rest → ⊥
+  refuses_cap old short large left read broken ds rest r =
+      let parts = reads_parts old rest ds r in
+      cap_refused limit k old short large left read broken parts.lengths parts.middle parts.first
 
 -- ---- taken
 
@@ -154,6 +167,17 @@ lists_of-parts n ns parts rest size =
     ∙ ap (map as_list)
     (cut-enough (length parts) ns (parts ++ rest) (omega (arith, length-append parts rest))
     ∙ ap₂ (λ first more. first ∷ cut ns more) (take-append_seam parts rest) (drop-append_seam parts rest))
+
+-- where a list is left, its elements are
+pub enough_elements : (n : ℕ) (old ns : List ℕ) (elements : List Datum) → old ≡ n ∷ ns → 0 < length (lists_of old elements) → n ≤ length elements
+enough_elements n old ns elements is some =
+    ⊎_elim
+    (λ enough. leb-true n (length elements) enough)
+    (λ few.
+    let none : lists_of old elements ≡ [] =
+    ap (λ lengths. lists_of lengths elements) is ∙ ap (map as_list) (cut-few n ns elements (leb-false n (length elements) few)) in
+    omega (arith, some, ap length none))
+    (cases_Bool (leb n (length elements)))
 
 -- a list was made of the next length and so many elements
 pub takes_list : {T C : Type 0} (makes : Datum → T → Type 0) (items : C → List T) (t : C) (n : ℕ) (old ns : List ℕ) (elements rest : List Datum) → old ≡ n ∷ ns

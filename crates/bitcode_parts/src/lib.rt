@@ -7,6 +7,7 @@ pub mod deref;
 pub mod durations;
 pub mod elements;
 pub mod empty;
+pub mod fixed_capacity;
 pub mod from;
 pub mod lends;
 pub mod map;

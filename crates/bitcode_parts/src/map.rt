@@ -121,9 +121,10 @@ impl<'a, D: View<'a>> View<'a> for MapDecoder<'a, D> {
     }
 }
 
-impl<'a, K: Key + Made + Ord + Drop, V: Made + Drop, D: Decoder<'a, (K, V)>>
-    Decoder<'a, BTreeMap<K, V>> for MapDecoder<'a, D>
-{
+impl<'a, K: Key + Made + Ord + Drop, V: Made + Drop, D: Decoder<'a, (K, V)>> Decoder<
+    'a,
+    BTreeMap<K, V>,
+> for MapDecoder<'a, D> {
     ghost makes_free = { false };
 
     fn decode(&mut self) -> Result<BTreeMap<K, V>, Error> {
@@ -133,9 +134,10 @@ impl<'a, K: Key + Made + Ord + Drop, V: Made + Drop, D: Decoder<'a, (K, V)>>
     ghost same_shape = { ap map_of D.same_shape };
 }
 
-impl<'a, K: Key + Made + Hash + Drop, V: Made + Drop, D: Decoder<'a, (K, V)>>
-    Decoder<'a, HashMap<K, V>> for MapDecoder<'a, D>
-{
+impl<'a, K: Key + Made + Hash + Drop, V: Made + Drop, D: Decoder<'a, (K, V)>> Decoder<
+    'a,
+    HashMap<K, V>,
+> for MapDecoder<'a, D> {
     ghost makes_free = { false };
 
     fn decode(&mut self) -> Result<HashMap<K, V>, Error> {

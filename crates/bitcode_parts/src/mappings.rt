@@ -33,6 +33,7 @@ use std::hash::Hash;
 /// ```
 pub trait Mapping: Shaped {
     type Key: Shaped;
+
     type Value: Shaped;
 
     // the pairs, as they are written
@@ -67,6 +68,7 @@ pub trait Mapping: Shaped {
 
 impl<K: Shaped + Ord, V: Shaped> Mapping for BTreeMap<K, V> {
     type Key = K;
+
     type Value = V;
 
     ghost entries = { λ m. m.entries };
@@ -92,6 +94,7 @@ impl<K: Shaped + Ord, V: Shaped> Mapping for BTreeMap<K, V> {
 
 impl<K: Shaped + Eq + Hash, V: Shaped> Mapping for HashMap<K, V> {
     type Key = K;
+
     type Value = V;
 
     ghost entries = { λ m. m.entries };

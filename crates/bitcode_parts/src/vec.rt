@@ -177,7 +177,8 @@ impl<'a, T: Made + Ord + Drop, D: Decoder<'a, T>> Decoder<'a, BinaryHeap<T>> for
     ghost same_shape = { ap (seq_shape None) D.same_shape };
 }
 
-impl<'a, T: Key + Made + Ord + Drop, D: Decoder<'a, T>> Decoder<'a, BTreeSet<T>> for VecDecoder<'a, D> {
+impl<'a, T: Key + Made + Ord + Drop, D: Decoder<'a, T>> Decoder<'a, BTreeSet<T>>
+    for VecDecoder<'a, D> {
     ghost makes_free = { false };
 
     fn decode(&mut self) -> Result<BTreeSet<T>, Error> {
@@ -187,7 +188,8 @@ impl<'a, T: Key + Made + Ord + Drop, D: Decoder<'a, T>> Decoder<'a, BTreeSet<T>>
     ghost same_shape = { ap (seq_shape None) D.same_shape };
 }
 
-impl<'a, T: Key + Made + Hash + Drop, D: Decoder<'a, T>> Decoder<'a, HashSet<T>> for VecDecoder<'a, D> {
+impl<'a, T: Key + Made + Hash + Drop, D: Decoder<'a, T>> Decoder<'a, HashSet<T>>
+    for VecDecoder<'a, D> {
     ghost makes_free = { false };
 
     fn decode(&mut self) -> Result<HashSet<T>, Error> {
