@@ -11,7 +11,7 @@ pub use bitcode_coder::checked::{Checked, CheckedIntDecoder, Nanosecond};
 pub use bitcode_coder::coder::{Decoder, Encoder, View};
 pub use bitcode_coder::int::{AsInt, IntDecoder, IntEncoder, Integer};
 pub use bitcode_coder::length::{Len, LengthDecoder, LengthEncoder};
-pub use bitcode_coder::str::{AsText, StrDecoder, StrEncoder};
+pub use bitcode_coder::str::{ArrayStringDecoder, AsText, StrDecoder, StrEncoder};
 pub use bitcode_coder::u8_char::{U8Char, U8CharEncoder};
 pub use bitcode_columns::consume::{
     consume_byte, consume_byte_arrays, consume_bytes, expect_eof, mul_length,
@@ -39,6 +39,7 @@ pub use bitcode_parts::deref::{DerefEncoder, Points};
 pub use bitcode_parts::durations::{DurationDecode, DurationEncode};
 pub use bitcode_parts::elements::{encode_each, encode_lent};
 pub use bitcode_parts::empty::EmptyCoder;
+pub use bitcode_parts::fixed_capacity::ArrayVecDecoder;
 pub use bitcode_parts::from::{FromDecoder, FromValue};
 pub use bitcode_parts::lends::Lends;
 pub use bitcode_parts::map::{MapDecoder, MapEncoder};

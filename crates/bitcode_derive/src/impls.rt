@@ -10,6 +10,7 @@ mod checked;
 mod choices;
 mod collections;
 mod durations;
+mod fixed_capacity;
 mod ints;
 mod maps;
 mod markers;

@@ -36,7 +36,8 @@ fn print_rows_to_11(rt: &impl Print, alloc: Global) -> io::Result<bool> {
 
 /// Runs rows 12 to 25 in order, and answers whether all of them are ok.
 fn print_rows_to_25(rt: &impl Print, alloc: Global) -> io::Result<bool> {
-    let mut all_ok = print_row(rt, 13, rows::collections::equal_keys(alloc))?;
+    let mut all_ok = print_row(rt, 12, rows::fixed_capacity::two_bytes(alloc))?;
+    all_ok &= print_row(rt, 13, rows::collections::equal_keys(alloc))?;
     all_ok &= print_row(rt, 17, rows::texts::durations(alloc))?;
     all_ok &= print_row(rt, 18, rows::sequences::many_bools(alloc))?;
     all_ok &= print_row(rt, 19, rows::tuples::identifier(alloc))?;
@@ -48,9 +49,10 @@ fn print_rows_to_25(rt: &impl Print, alloc: Global) -> io::Result<bool> {
     Ok(all_ok)
 }
 
-/// Runs rows 27 to 33 in order, and answers whether all of them are ok.
+/// Runs rows 26 to 33 in order, and answers whether all of them are ok.
 fn print_rows_to_33(rt: &impl Print, alloc: Global) -> io::Result<bool> {
-    let mut all_ok = print_row(rt, 27, rows::arrays::sums_of_lengths(alloc))?;
+    let mut all_ok = print_row(rt, 26, rows::fixed_capacity::five_hundred_bytes(alloc))?;
+    all_ok &= print_row(rt, 27, rows::arrays::sums_of_lengths(alloc))?;
     all_ok &= print_row(rt, 28, rows::texts::checked_numbers(alloc))?;
     all_ok &= print_row(rt, 29, rows::choices::unused_bits_of_an_option(alloc))?;
     all_ok &= print_row(rt, 31, rows::byte_columns::bytes_packed(alloc))?;
@@ -70,6 +72,7 @@ fn print_rows_to_44(rt: &impl Print, alloc: Global) -> io::Result<bool> {
     all_ok &= print_row(rt, 41, rows::composites(alloc))?;
     all_ok &= print_row(rt, 42, rows::arrays::more_units_than_a_length(alloc))?;
     all_ok &= print_row(rt, 43, rows::collections::sets_and_heaps(alloc))?;
+    all_ok &= print_row(rt, 44, rows::fixed_capacity::two_letters(alloc))?;
     Ok(all_ok)
 }
 

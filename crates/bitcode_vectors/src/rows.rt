@@ -7,6 +7,7 @@ pub mod arrays;
 pub mod byte_columns;
 pub mod choices;
 pub mod collections;
+pub mod fixed_capacity;
 pub mod lengths;
 pub mod sequences;
 pub mod texts;
