@@ -5,6 +5,7 @@ mod calls;
 mod checked;
 mod choices;
 mod collections;
+mod fixed_capacity;
 mod fronts;
 mod int_columns;
 mod integers;
