@@ -1,15 +1,11 @@
 -- Maps that are made by inserting pairs one by one.
-use Rattle.std.proofs.Common.{◌≡◌, Bool, cond, Option, Some, None, List, [], ◌∷◌, length, refl, sym, ◌∙◌, ap, arith}
+use Rattle.std.proofs.Common.{◌≡◌, Bool, cond, Option, Some, None, List, [], ◌∷◌, refl, sym, ◌∙◌, ap}
 use Rattle.std.specs.Prelude.{All}
 use Rattle.std.specs.Map.{lookup, update, update_all}
 use Rattle.bitcode_shapes.specs.Datum.{Datum}
 use Rattle.bitcode_shapes.specs.Maps.{MakesMap}
 use Rattle.bitcode_shapes.specs.Values.{IsPairValue, MakesPair}
 use Rattle.bitcode_parts.specs.Elements.{MakesOfElements}
-
-pub none_left : {T : Type 0} (rest : List T) → length rest ≡ 0 → rest ≡ []
-none_left [] e = refl
-none_left (t ∷ ts) e = absurd (omega (arith, e))
 
 module _ {K X : Type 0} (eq : K → K → Bool) where
   -- pairs that are inserted in turn give the same over what finds the same

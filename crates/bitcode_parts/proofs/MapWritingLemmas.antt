@@ -4,12 +4,11 @@ use Rattle.std.specs.Prelude.{None, Bool, All}
 use Rattle.std.specs.List.{AllZip}
 use Rattle.std.specs.Map.{keys_of, values_of}
 use Rattle.std.proofs.lemmas.List.{map-append, length-map}
-use Rattle.std.proofs.lemmas.List.Elements.{All-nil, All-cons, All-head, All-tail}
 use Rattle.bitcode_shapes.specs.Datum.{Datum, list, data_of, pair, first_in, second_in}
 use Rattle.bitcode_shapes.specs.Shape.{Shape, map_shape}
 use Rattle.bitcode_shapes.specs.Lawful.{Lawful}
 use Rattle.bitcode_shapes.specs.Sequences.{ListsSequence}
-use Rattle.bitcode_shapes.specs.Values.{IsPairValue, ListsPair}
+use Rattle.bitcode_shapes.specs.Values.{ListsPair}
 use Rattle.bitcode_shapes.specs.LawfulSequences.{list_of_data, zip_length, each_listed}
 use Rattle.bitcode_coder.specs.Columns.{Columns, lengths, one, two, beside, CountsFit}
 use Rattle.bitcode_coder.specs.Spelling.{natural}
@@ -49,17 +48,6 @@ module _ {K X : Type 0} (lists_key : K → Datum → Type 0) (lists_value : X �
   as_many : (es : List (K × X)) (ks vs : List Datum) → AllZip lists_key (keys_of es) ks → AllZip lists_value (values_of es) vs → length ks ≡ length vs
   as_many es ks vs y z =
       sym (zip_length lists_key (keys_of es) ks y) ∙ length-map es (λ e. e.0) ∙ sym (length-map es (λ e. e.1)) ∙ zip_length lists_value (values_of es) vs z
-
-module _ {K X : Type 0} (is_key : K → Type 0) (is_value : X → Type 0) where
-  pub keys_are : (es : List (K × X)) → All (IsPairValue is_key is_value) es → All is_key (keys_of es)
-  keys_are [] h = All-nil is_key
-  keys_are (e ∷ es) h =
-      All-cons is_key e.0 (keys_of es) (All-head (IsPairValue is_key is_value) e es h).0 (keys_are es (All-tail (IsPairValue is_key is_value) e es h))
-
-  pub values_are : (es : List (K × X)) → All (IsPairValue is_key is_value) es → All is_value (values_of es)
-  values_are [] h = All-nil is_value
-  values_are (e ∷ es) h =
-      All-cons is_value e.1 (values_of es) (All-head (IsPairValue is_key is_value) e es h).1 (values_are es (All-tail (IsPairValue is_key is_value) e es h))
 
 -- ---- the columns of one map
 

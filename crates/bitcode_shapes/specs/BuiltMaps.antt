@@ -15,11 +15,11 @@ module _ {K X : Type 0} (is_key : K → Type 0) (is_value : X → Type 0) where
   abbrev IsEntry : K × X → Type 0
   IsEntry = IsPairValue is_key is_value
 
-  keys_are : (es : List (K × X)) → All IsEntry es → All is_key (keys_of es)
+  pub keys_are : (es : List (K × X)) → All IsEntry es → All is_key (keys_of es)
   keys_are [] h = All-nil is_key
   keys_are (e ∷ es) h = All-cons is_key e.0 (keys_of es) (All-head IsEntry e es h).0 (keys_are es (All-tail IsEntry e es h))
 
-  values_are : (es : List (K × X)) → All IsEntry es → All is_value (values_of es)
+  pub values_are : (es : List (K × X)) → All IsEntry es → All is_value (values_of es)
   values_are [] h = All-nil is_value
   values_are (e ∷ es) h = All-cons is_value e.1 (values_of es) (All-head IsEntry e es h).1 (values_are es (All-tail IsEntry e es h))
 

@@ -4,11 +4,12 @@ use Rattle.std.specs.Map.{keys_of, values_of}
 use Rattle.std.proofs.lemmas.List.{length-map}
 use Rattle.std.proofs.lemmas.Result.{err_from_is_err_and, on_ok_weaker}
 use Rattle.bitcode_columns.specs.declared.error.Error.{Error}
+use Rattle.bitcode_shapes.specs.BuiltMaps.{keys_are, values_are}
 use Rattle.bitcode_shapes.specs.LawfulSequences.{each_listed}
 use Rattle.bitcode_coder.specs.LengthCoders.{written_lengths}
 use Rattle.bitcode_coder.proofs.RefusalLemmas.{refusal_weaker, refused_weaker}
 use Rattle.bitcode_parts.proofs.SequenceWritingLemmas.{passes_surely}
-use Rattle.bitcode_parts.proofs.MapWritingLemmas.{keys_are, values_are, joins_map, passes_keys, passes_values}
+use Rattle.bitcode_parts.proofs.MapWritingLemmas.{joins_map, passes_keys, passes_values}
 use Rattle.bitcode_parts.proofs.map.MapEncoderEncoder.encode.Goals as goal
 
 pub encode_keys-requires-clause-values : goal.encode_keys-requires-clause-values

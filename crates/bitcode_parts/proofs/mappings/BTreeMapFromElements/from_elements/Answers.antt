@@ -1,8 +1,9 @@
 -- Each turn inserts one pair.
 use Rattle.std.proofs.Common.{sym, ◌∙◌, subst}
 use Rattle.std.specs.Ordering.{eq_by_cmp}
+use Rattle.std.proofs.lemmas.List.{nil_from_length}
 use Rattle.std.specs.Vec.Iter.{into_iter_items}
-use Rattle.bitcode_parts.proofs.MapLemmas.{none_left, GivesWhole, pair_inserted, map_of_elements}
+use Rattle.bitcode_parts.proofs.MapLemmas.{GivesWhole, pair_inserted, map_of_elements}
 use Rattle.bitcode_parts.proofs.mappings.BTreeMapFromElements.from_elements.Goals as goal
 
 pub loop-key-preserved-in_ok-_old : goal.loop-key-preserved-in_ok-_old
@@ -21,4 +22,4 @@ pub returns-clause-made : goal.returns-clause-made
 returns-clause-made g c =
     map_of_elements (eq_by_cmp g.K.Ord.cmp) (λ (m : _). m.entries) g.K.Shaped.is_value g.V.Shaped.is_value g.K.Made.makes g.V.Made.makes c.loop-key.map c.args.elements.items
     (rw c.as_slice.ensures.value at c.told_each.ensures)
-    (subst (λ rest. GivesWhole (eq_by_cmp g.K.Ord.cmp) c.loop-key.map.entries rest c.args.elements.items) (none_left (into_iter_items c.loop-key.key-iterator) (sym c.loop-key.key-iterator.rest.ok.0 ∙ c.in-None.ensures.steps.0)) c.loop-key.invariant)
+    (subst (λ rest. GivesWhole (eq_by_cmp g.K.Ord.cmp) c.loop-key.map.entries rest c.args.elements.items) (nil_from_length (into_iter_items c.loop-key.key-iterator) (sym c.loop-key.key-iterator.rest.ok.0 ∙ c.in-None.ensures.steps.0)) c.loop-key.invariant)
