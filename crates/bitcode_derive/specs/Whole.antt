@@ -1,5 +1,8 @@
 -- What whole calls write and read: one value, and all of the input.
-use Rattle.std.specs.Prelude.{◌≡◌, ℕ, ◌*◌, ◌≤◌, List, [], ◌∷◌, length}
+use Rattle.std.specs.Prelude.{◌≡◌, ℕ, ◌*◌, ◌<◌, ◌≤◌, List, [], ◌∷◌, length, ◌⊎◌}
+use Rattle.bitcode_columns.specs.declared.error.Reason.{Reason}
+use Rattle.bitcode_columns.specs.declared.error.Reason.TheVariants.{ExpectedEof, OutOfMemory}
+use Rattle.bitcode_columns.specs.Reading.{Reads}
 use Rattle.bitcode_shapes.specs.Datum.{Datum}
 use Rattle.bitcode_shapes.specs.Shape.{Shape}
 use Rattle.bitcode_coder.specs.Columns.{Columns, CountsFit, entry_count}
@@ -41,3 +44,16 @@ SpellsAtMostOne shape bytes = (d e : Datum) → SpellsDatum shape bytes d → Sp
 -- all entries of a datum's columns together are at most eight times the bytes that spell it
 abbrev pub IsBoundedByBytes : Shape → List ℕ → Type 0
 IsBoundedByBytes shape bytes = (d : Datum) → SpellsDatum shape bytes d → entry_count (columns_of_one shape d) ≤ 8 * length bytes
+
+-- a front of the input spells one datum, and bytes are left behind it
+pub record LeavesBytes (shape : Shape) (bytes : List ℕ) : Type 0 where
+  pub read_data : List Datum
+  pub rest : List ℕ
+  pub read : Reads (Spells shape) 1 bytes read_data rest
+  pub left : 0 < length rest
+
+-- What a refusal of a whole input names: want of memory, what is first at fault when one datum is read, or that bytes
+-- are left behind it.
+abbrev pub NamesWholeFault : (faults : Reason → ℕ → List ℕ → Type 0) → Shape → Reason → List ℕ → Type 0
+NamesWholeFault faults shape reason bytes =
+    (reason ≡ OutOfMemory) ⊎ (faults reason 1 bytes ⊎ ((reason ≡ ExpectedEof) × LeavesBytes shape bytes))

@@ -1,5 +1,5 @@
 // What follows from the contracts of the whole calls. A call only looks at its values: its contract is the law.
-ghost use Rattle.std.specs.Prelude.{◌≡◌, ◌≢◌, ◌<◌, [], ◌∷◌, slice_index, IsTrue, IfErr};
+ghost use Rattle.std.specs.Prelude.{◌≡◌, ◌≢◌, ◌<◌, [], ◌∷◌, slice_index, IsTrue, IfOk, IfErr};
 ghost use Rattle.bitcode_shapes.specs.Datum.{Datum};
 ghost use Rattle.bitcode_coder.specs.Columns.{CountsFit};
 ghost use Rattle.bitcode_coder.specs.Spelling.{LengthsBelowLimit};
@@ -110,7 +110,9 @@ pub fn borrowed_texts<'a, T: Decode<'a>>(bytes: &'a [u8], t: &T)
 /// ```
 pub fn short_text<'a>(alloc: Global, bytes: &'a [u8]) -> Result<&'a str, Error>
     requires { slice_index bytes.now 0 < 255 }
-    ensures { IfErr result (λ e. e.reason ≢ Reason.OutOfMemory) }
+    ensures found { IfOk result (λ text. IsDecodingOf ⟦<&'a str as Made>⟧.makes ⟦<&'a str as Shaped>⟧.shape bytes.now text) }
+    ensures refused { IfErr result (λ e. e.reason ≢ Reason.OutOfMemory → (d : Datum) → SpellsDatum ⟦<&'a str as Shaped>⟧.shape bytes.now d → ⊥) }
+    ensures free { IfErr result (λ e. e.reason ≢ Reason.OutOfMemory) }
 {
     whole::decode(alloc, bytes)
 }

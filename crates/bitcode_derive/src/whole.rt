@@ -2,7 +2,7 @@
 ghost use Rattle.std.specs.Prelude.{◌≡◌, ◌≢◌, IsTrue, IsErrOf, IfOk, IfErr};
 ghost use Rattle.bitcode_shapes.specs.Datum.{Datum};
 ghost use Rattle.bitcode_coder.specs.Coding.{IsWritingRefusal, IsReadingReason};
-ghost use Rattle.bitcode_derive.specs.Whole.{IsEncodingOf, HasLongListing, IsDecodingOf, SpellsDatum, SpellsAtMostOne, IsBoundedByBytes};
+ghost use Rattle.bitcode_derive.specs.Whole.{IsEncodingOf, HasLongListing, IsDecodingOf, SpellsDatum, SpellsAtMostOne, IsBoundedByBytes, NamesWholeFault};
 
 use crate::derive::{Decode, Encode};
 use bitcode_coder::coder::{Buffer, Decoder, Encoder, View};
@@ -54,6 +54,7 @@ pub fn decode<'a, T: Decode<'a>>(alloc: Global, bytes: &'a [u8]) -> Result<T, Er
     ensures bounded { IsBoundedByBytes T.shape bytes.now }
     ensures reasons { IfErr result (λ e. IsReadingReason e.reason) }
     ensures refused { IfErr result (λ e. e.reason ≢ Reason.OutOfMemory → (d : Datum) → SpellsDatum T.shape bytes.now d → ⊥) }
+    ensures exact { IfErr result (λ e. NamesWholeFault T.Decoder.faults T.Decoder.shape e.reason bytes.now) }
     ensures free { T.Decoder.reads_free 1 bytes.now → IsTrue T.Decoder.makes_free → IfErr result (λ e. e.reason ≢ Reason.OutOfMemory) }
 {
     let mut input = bytes;

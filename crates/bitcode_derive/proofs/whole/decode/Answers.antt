@@ -1,5 +1,5 @@
 -- What is read is read once, and it is all of the input.
-use Rattle.std.proofs.Common.{rules, ◌≡◌, refl}
+use Rattle.std.proofs.Common.{rules, ◌≡◌, refl, inl, inr}
 use Rattle.std.proofs.lemmas.Result.{err_from_is_err_and}
 use Rattle.bitcode_derive.proofs.DecodingLemmas.{spells_at_most_one, bounded_by_bytes, none_spelled-unread, none_spelled-left}
 use Rattle.bitcode_derive.proofs.whole.decode.Goals as goal
@@ -34,3 +34,21 @@ returns-clause-once g c = spells_at_most_one g.T.Shaped.shape c.args.bytes.now
 
 pub returns-clause-bounded : goal.returns-clause-bounded
 returns-clause-bounded g c = bounded_by_bytes g.T.Shaped.shape c.args.bytes.now g.met.T.Shaped.lawful.sound
+
+pub returns-in_err-populate-clause-exact : goal.returns-in_err-populate-clause-exact
+returns-in_err-populate-clause-exact g c =
+    let p = err_from_is_err_and c.from_residual.result c.from_residual.ensures.1 in
+    rw (p.1, p.2) (inr (inl c.in_err-populate.ensures.exact))
+
+pub returns-in_err-expect_eof-clause-exact : goal.returns-in_err-expect_eof-clause-exact
+returns-in_err-expect_eof-clause-exact g c =
+    let p = err_from_is_err_and c.from_residual-in_err-expect_eof.result c.from_residual-in_err-expect_eof.ensures.1 in
+    rw (p.1, p.2) (inr (inr (
+      c.in_err-expect_eof.ensures.reason,
+      record {
+        read_data = _;
+        rest = _;
+        read = c.in_ok-populate.ensures.read;
+        left = c.in_err-expect_eof.ensures.refused.0 refl;
+      },
+    )))
