@@ -1,5 +1,5 @@
 -- The laws of a column of each kind.
-use Rattle.std.proofs.Common.{◌≡◌, ℕ, ◌-◌, ◌*◌, ◌^◌, ◌<◌, ◌≤◌, Bool, true, false, eqb, Option, ℤ, pos, negsuc, List, [], ◌++◌, length, map, All, sum, refl, sym, ap, ◌∙◌, subst, arith}
+use Rattle.std.proofs.Common.{◌≡◌, ℕ, ◌*◌, ◌^◌, ◌<◌, ◌≤◌, Bool, true, false, eqb, Option, ℤ, pos, negsuc, List, [], ◌++◌, length, map, All, sum, refl, sym, ap, ◌∙◌, subst, arith}
 use Rattle.std.specs.Prelude.{sum_by, IsUtf8}
 use Rattle.std.proofs.lemmas.Bool.{cond_both, eqb-true, eqb-false}
 use Rattle.std.proofs.lemmas.List.{length-map, map-id, nil_from_length}
@@ -9,12 +9,11 @@ use Rattle.std.proofs.lemmas.List.Elements.{All-weaker, All-map}
 use Rattle.bitcode_columns.specs.Laws.{IsReadOnce}
 use Rattle.bitcode_columns.specs.declared.pack.Base.TheVariants.{Two}
 use Rattle.bitcode_columns.specs.Numbers.{IsNumber, residue, number_of}
-use Rattle.bitcode_columns.specs.Digits.{base_for, radix}
 use Rattle.bitcode_columns.specs.BoolColumn.{SpellsBools, bool_number}
 use Rattle.bitcode_columns.specs.IntColumn.{SpellsInts}
-use Rattle.bitcode_columns.specs.VariantColumn.{SpellsVariants, variant_text}
+use Rattle.bitcode_columns.specs.VariantColumn.{SpellsVariants}
 use Rattle.bitcode_columns.proofs.ListLemmas.{append_split, map_further}
-use Rattle.bitcode_columns.proofs.DigitLemmas.{SpellsDigits-once, SpellsDigits-eighth, digits_text-spells, base_for_above}
+use Rattle.bitcode_columns.proofs.DigitLemmas.{SpellsDigits-eighth}
 use Rattle.bitcode_columns.proofs.VariantLemmas.{SpellsVariants-once, SpellsVariants-eighth, variant_text-spells}
 use Rattle.bitcode_columns.proofs.NumberLemmas.{number_of-residue, residue_below}
 use Rattle.bitcode_columns.proofs.BoolLemmas.{SpellsBools-once, bool_text-spells}

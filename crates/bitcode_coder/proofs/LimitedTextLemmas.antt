@@ -1,5 +1,5 @@
 -- Readings of texts of at most so many bytes each, and of the same texts with no limit.
-use Rattle.std.proofs.Common.{◌≡◌, ℕ, ◌<◌, ◌≤◌, Option, Some, None, List, length, get_or, map, All, refl, sym, ap, ◌∙◌, subst, arith}
+use Rattle.std.proofs.Common.{◌≡◌, ℕ, ◌≤◌, Option, Some, None, List, length, get_or, map, All, refl, sym, ap, ◌∙◌, subst, arith}
 use Rattle.std.proofs.lemmas.List.{length-map, get_or-map}
 use Rattle.std.proofs.lemmas.List.Elements.{All-map}
 use Rattle.bitcode_columns.specs.declared.error.Reason.{Reason}
@@ -9,7 +9,7 @@ use Rattle.bitcode_shapes.specs.Datum.{Datum, text, text_in}
 use Rattle.bitcode_shapes.specs.Shape.{IsTextOf, text_shape}
 use Rattle.bitcode_coder.specs.Coding.{IsReadingReason, IsReadingRefusal}
 use Rattle.bitcode_coder.specs.JoinedTexts.{lengths_of}
-use Rattle.bitcode_coder.specs.LengthColumn.{SpellsLengths, KeepsCap, lengths_from}
+use Rattle.bitcode_coder.specs.LengthColumn.{KeepsCap, lengths_from}
 use Rattle.bitcode_coder.specs.LengthParts.{ReadsParts}
 use Rattle.bitcode_coder.specs.Spelling.{Spells}
 use Rattle.bitcode_coder.specs.TextParts.{NamesLimitedTextFault, in_texts, over_limit}

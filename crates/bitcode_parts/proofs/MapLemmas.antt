@@ -1,5 +1,5 @@
 -- Maps that are made by inserting pairs one by one.
-use Rattle.std.proofs.Common.{◌≡◌, Bool, cond, Option, Some, None, List, [], ◌∷◌, refl, sym, ◌∙◌, ap}
+use Rattle.std.proofs.Common.{◌≡◌, Bool, cond, Option, Some, None, List, [], ◌∷◌, ◌∙◌, ap}
 use Rattle.std.specs.Prelude.{All}
 use Rattle.std.specs.Map.{lookup, update, update_all}
 use Rattle.bitcode_shapes.specs.Datum.{Datum}

@@ -1,5 +1,5 @@
 -- Data of maps are read as lists of their entries.
-use Rattle.std.proofs.Common.{◌≡◌, ◌≢◌, ℕ, None, List, sym, subst}
+use Rattle.std.proofs.Common.{◌≡◌, ℕ, None, List, sym, subst}
 use Rattle.std.specs.Prelude.{All}
 use Rattle.bitcode_columns.specs.declared.error.Reason.{Reason}
 use Rattle.bitcode_columns.specs.Reading.{Reads}

@@ -1,21 +1,20 @@
 -- Data of maps are written as the lengths of each, the keys of all and the values of all.
 use Rattle.std.proofs.Common.{◌≡◌, ℕ, suc, List, [], ◌∷◌, ◌++◌, length, map, refl, sym, ◌∙◌, ap, ap₂, subst}
-use Rattle.std.specs.Prelude.{None, Bool, All}
+use Rattle.std.specs.Prelude.{None}
 use Rattle.std.specs.List.{AllZip}
 use Rattle.std.specs.Map.{keys_of, values_of}
 use Rattle.std.proofs.lemmas.List.{map-append, length-map}
-use Rattle.bitcode_shapes.specs.Datum.{Datum, list, data_of, pair, first_in, second_in}
+use Rattle.bitcode_shapes.specs.Datum.{Datum, list, data_of, first_in, second_in}
 use Rattle.bitcode_shapes.specs.Shape.{Shape, map_shape}
-use Rattle.bitcode_shapes.specs.Lawful.{Lawful}
 use Rattle.bitcode_shapes.specs.Sequences.{ListsSequence}
 use Rattle.bitcode_shapes.specs.Values.{ListsPair}
-use Rattle.bitcode_shapes.specs.LawfulSequences.{list_of_data, zip_length, each_listed}
+use Rattle.bitcode_shapes.specs.LawfulSequences.{list_of_data, zip_length}
 use Rattle.bitcode_coder.specs.Columns.{Columns, lengths, one, two, beside, CountsFit}
 use Rattle.bitcode_coder.specs.Spelling.{natural}
-use Rattle.bitcode_coder.specs.Coding.{written_columns, JoinsListing, PassesWithListing, SurelyPasses}
+use Rattle.bitcode_coder.specs.Coding.{written_columns, JoinsListing, PassesWithListing}
 use Rattle.bitcode_parts.specs.Elements.{JoinsEach, PassesWithEach}
 use Rattle.bitcode_parts.specs.Maps.{pairs_of}
-use Rattle.bitcode_parts.proofs.SequenceWritingLemmas.{elements_again, passes_surely}
+use Rattle.bitcode_parts.proofs.SequenceWritingLemmas.{elements_again}
 
 -- ---- keys and values, as pairs
 

@@ -1,12 +1,12 @@
 -- Sets and heaps of any elements can be built.
-use Rattle.std.proofs.Common.{◌≡◌, ◌^◌, ◌<◌, Bool, true, None, List, [], ◌∷◌, length, map, refl, sym, ◌∙◌, ap, ap₂, subst}
+use Rattle.std.proofs.Common.{◌≡◌, ◌^◌, ◌<◌, Bool, None, List, [], ◌∷◌, length, map, refl, sym, ◌∙◌, ap, subst}
 use Rattle.std.specs.Prelude.{All, is_some}
 use Rattle.std.specs.declared.alloc.Global.{Global}
 use Rattle.std.specs.declared.cmp.Ordering.{Ordering}
 use Rattle.std.specs.declared.collections.BinaryHeap.{BinaryHeap}
 use Rattle.std.specs.BinaryHeap.{heap_items}
 use Rattle.std.specs.BTreeSet.{BTreeSet}
-use Rattle.std.specs.Ordering.{is_eq, eq_by_cmp}
+use Rattle.std.specs.Ordering.{eq_by_cmp}
 use Rattle.std.specs.Cmp.{IsTotalOrder, IsEquivalence}
 use Rattle.std.specs.Map.{lookup, keys_of, update_all}
 use Rattle.std.specs.Set.{is_member}
@@ -14,7 +14,7 @@ use Rattle.std.proofs.lemmas.Cmp.{eq_by_cmp_equiv}
 use Rattle.std.proofs.lemmas.List.Elements.{All-nil, All-cons, All-head, All-tail}
 use Rattle.std.proofs.lemmas.Map.Made.{is_some-lookup, is_some-update_all}
 use Rattle.bitcode_shapes.specs.LawfulSequences.{vec_built}
-use Rattle.bitcode_shapes.specs.Sets.{SameMembers, TellsSame, IsOrderedSet, IsDistinctSet}
+use Rattle.bitcode_shapes.specs.Sets.{SameMembers, IsOrderedSet, IsDistinctSet}
 use Rattle.bitcode_shapes.specs.BuiltOrdered as ordered
 use Rattle.bitcode_shapes.specs.BuiltDistinct as distinct
 

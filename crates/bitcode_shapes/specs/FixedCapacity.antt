@@ -1,7 +1,6 @@
 -- Vectors and texts of a fixed capacity are lawful, and can be built up to it.
-use Rattle.std.proofs.Common.{◌≡◌, ℕ, ◌^◌, ◌<◌, ◌≤◌, Bool, true, Some, List, [], length, refl}
+use Rattle.std.proofs.Common.{ℕ, ◌≤◌, Bool, true, Some, List, [], length, refl}
 use Rattle.std.specs.Prelude.{All, IsUtf8}
-use Rattle.std.specs.declared.alloc.Global.{Global}
 use Rattle.arrayvec.specs.ArrayVec.{ArrayVec}
 use Rattle.arrayvec.specs.ArrayString.{ArrayString}
 use Rattle.bitcode_shapes.specs.Datum.{Datum}

@@ -8,7 +8,6 @@ use Rattle.bitcode_shapes.specs.Datum.{Datum, list, data_of}
 use Rattle.bitcode_shapes.specs.Shape.{Shape, IsOf, IsListOf, IsSound, seq_shape}
 use Rattle.bitcode_shapes.specs.ArrayCounts.{arrays_at}
 use Rattle.bitcode_shapes.specs.Lawful.{Lawful, Makeable}
-use Rattle.bitcode_shapes.specs.Sequences.{ListsSequence, MakesSequence, SameSequence}
 use Rattle.bitcode_shapes.specs.LawfulSequences.{zip_length, each_listed, each_of_shape, each_same_arrays, each_reflexive, each_symmetric, each_transitive, each_once, each_remade, elements_once, HoldSameArrays, seq_arrays, seq_makeable}
 use Rattle.bitcode_shapes.specs.AnyOrder.{ListsInAnyOrder, MakesInAnyOrder, SameInAnyOrder}
 

@@ -1,6 +1,6 @@
 -- Maps between lawful types are lawful: those whose entries are in order of their keys, and those that keep an order of
 -- their own.
-use Rattle.std.proofs.Common.{◌≡◌, ℕ, zero, suc, ◌^◌, ◌<◌, Bool, true, false, cond, Option, Some, None, List, [], ◌∷◌, length, refl, sym, ◌∙◌, ap, subst, arith}
+use Rattle.std.proofs.Common.{◌≡◌, ℕ, zero, suc, Bool, true, false, cond, Option, Some, None, List, [], ◌∷◌, refl, sym, ◌∙◌, ap, subst, arith}
 use Rattle.std.specs.Prelude.{◌&&◌, All, IfSome}
 use Rattle.std.specs.Cmp.{IsEquivalence}
 use Rattle.std.specs.List.{AllZip, IsDistinct}
@@ -14,7 +14,7 @@ use Rattle.std.proofs.lemmas.Map.Entries.{All-lookup}
 use Rattle.std.proofs.lemmas.Map.Keys.{IsDistinct-IsPermutation}
 use Rattle.std.proofs.lemmas.Map.Views.{lookup-from_Contains}
 use Rattle.std.proofs.lemmas.Map.Made.{update_all_none}
-use Rattle.bitcode_shapes.specs.Datum.{Datum, list, data_of, first_in, second_in}
+use Rattle.bitcode_shapes.specs.Datum.{Datum, list, data_of}
 use Rattle.bitcode_shapes.specs.Shape.{Shape, map_shape, pair_shape}
 use Rattle.bitcode_shapes.specs.ArrayCounts.{arrays_at}
 use Rattle.bitcode_shapes.specs.Lawful.{Lawful, Makeable}

@@ -1,6 +1,6 @@
 -- A listing of each element up to the one at hand was joined; those behind it are listed by their law.
-use Rattle.std.proofs.Common.{◌∷◌, All, refl, subst, ap, ◌∙◌, arith, length}
-use Rattle.std.proofs.lemmas.List.Elements.{All-head, All-tail}
+use Rattle.std.proofs.Common.{All, refl, subst, ap, ◌∙◌, arith, length}
+use Rattle.std.proofs.lemmas.List.Elements.{All-tail}
 use Rattle.std.proofs.lemmas.Result.{err_from_is_err_and}
 use Rattle.bitcode_shapes.specs.LawfulSequences.{each_listed}
 use Rattle.bitcode_coder.proofs.RefusalLemmas.{refusal_weaker}
