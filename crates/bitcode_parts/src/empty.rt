@@ -12,7 +12,7 @@ use std::alloc::Global;
 /// The encoder and the decoder of types that hold nothing, such as `()`.
 ///
 /// Their values take no bytes. So the encoder keeps nothing, and the decoder counts how many are left. Neither
-/// takes memory, and no call refuses.
+/// takes memory.
 #[derive(Drop)]
 pub struct EmptyCoder {
     left: usize,
