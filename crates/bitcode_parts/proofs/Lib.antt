@@ -2,7 +2,6 @@ pub mod ElementLemmas
 pub mod CapLemmas
 pub mod SequenceLemmas
 pub mod SequenceWritingLemmas
-pub mod SetLemmas
 pub mod MapLemmas
 pub mod MapWritingLemmas
 pub mod MapReadingLemmas
