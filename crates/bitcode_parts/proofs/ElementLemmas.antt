@@ -68,10 +68,6 @@ module _ {T : Type 0} (lists : T → Datum → Type 0) (shape : Shape) (old : Co
     joins = joins_one_more lists shape old now new front.done (front.done ++ item ∷ []) item form front.joins one refl;
   }
 
-  pub front_all : (whole : List T) (now : Columns) → JoinsFront lists shape whole [] old now → JoinsEach lists shape whole old now
-  front_all whole now front =
-      subst (λ items. JoinsEach lists shape items old now) (sym (append-nil front.done) ∙ sym front.parted) front.joins
-
   pub front_passes : (whole rest : List T) (item : T) (now : Columns) → JoinsFront lists shape whole (item ∷ rest) old now
       → PassesWithListing lists shape item now → (others : List Datum) → AllZip lists rest others → PassesWithEach lists shape whole old
   front_passes whole rest item now front one others listed =
