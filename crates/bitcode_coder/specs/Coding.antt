@@ -64,6 +64,14 @@ abbrev pub IsReadingRefusal : Shape → Reason → ℕ → List ℕ → Type 0
 IsReadingRefusal shape reason k input =
     IsReadingReason reason × (reason ≢ OutOfMemory → (ds : List Datum) (rest : List ℕ) → Reads (Spells shape) k input ds rest → ⊥)
 
+-- what lists the other value lists this one
+abbrev pub ListsAsToo : {T U : Type 0} → (T → Datum → Type 0) → (U → Datum → Type 0) → T → U → Type 0
+ListsAsToo lists other_lists t u = (d : Datum) → other_lists u d → lists t d
+
+-- what makes the other value makes this one
+abbrev pub MakesToo : {T U : Type 0} → (Datum → T → Type 0) → (Datum → U → Type 0) → T → U → Type 0
+MakesToo makes other_makes t u = (d : Datum) → other_makes d u → makes d t
+
 -- the first of the data was taken, and the value is made of it
 pub record TakesDatum {T : Type 0} (makes : Datum → T → Type 0) (t : T) (old new : List Datum) : Type 0 where
   pub datum : Datum

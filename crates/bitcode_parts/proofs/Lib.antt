@@ -1,12 +1,3 @@
-pub mod ElementLemmas
-pub mod CapLemmas
-pub mod SequenceLemmas
-pub mod SequenceWritingLemmas
-pub mod MapLemmas
-pub mod MapWritingLemmas
-pub mod MapReadingLemmas
-pub mod ArrayLemmas
-pub mod ArrayReadingLemmas
 pub mod ChoiceLemmas
 pub mod ChoiceReadingLemmas
 pub mod ChoiceWritingLemmas

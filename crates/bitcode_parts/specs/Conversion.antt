@@ -6,14 +6,6 @@ use Rattle.bitcode_shapes.specs.Shape.{Shape, IsOf}
 use Rattle.bitcode_coder.specs.Columns.{Columns, CountsFit, beside}
 use Rattle.bitcode_coder.specs.Coding.{SurelyPasses, written_columns}
 
--- What lists the other value lists this one.
-abbrev pub ListsAsToo : {T U : Type 0} → (T → Datum → Type 0) → (U → Datum → Type 0) → T → U → Type 0
-ListsAsToo lists other_lists t u = (d : Datum) → other_lists u d → lists t d
-
--- What makes the other value makes this one.
-abbrev pub MakesToo : {T U : Type 0} → (Datum → T → Type 0) → (Datum → U → Type 0) → T → U → Type 0
-MakesToo makes other_makes t u = (d : Datum) → other_makes d u → makes d t
-
 -- Data of a shape are written to the columns of another shape, and are of that one too.
 pub record IsWrittenAs (shape other : Shape) : Type 0 where
   pub columns : (ds : List Datum) → written_columns shape ds ≡ written_columns other ds

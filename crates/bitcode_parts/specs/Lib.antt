@@ -1,8 +1,3 @@
-pub mod Elements
-pub mod Sequences
-pub mod Maps
-pub mod Arrays
-pub mod ArrayLaws
 pub mod VariantCoders
 pub mod Payloads
 pub mod TwoVariants

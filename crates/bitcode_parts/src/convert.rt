@@ -1,7 +1,8 @@
 // The coders of types whose values are written, or read, as values of another type.
 ghost use Rattle.std.specs.Prelude.{◌≡◌, []};
 ghost use Rattle.std.proofs.Common.{sym, ◌∙◌};
-ghost use Rattle.bitcode_parts.specs.Conversion.{ListsAsToo, MakesToo, IsWrittenAs, surely_as};
+ghost use Rattle.bitcode_coder.specs.Coding.{ListsAsToo, MakesToo};
+ghost use Rattle.bitcode_parts.specs.Conversion.{IsWrittenAs, surely_as};
 
 use bitcode_coder::coder::{Buffer, Decoder, Encoder, View};
 use bitcode_columns::error::Error;

@@ -8,7 +8,6 @@ use std::{env, io};
 
 mod report;
 mod rows;
-mod types;
 
 /// What is printed on standard error for words that the program does not take.
 const USAGE: &str = "usage: bitcode_vectors [column KIND COUNT]";

@@ -2,8 +2,8 @@
 use crate::derive::{Decode, DecodeOwned, Encode};
 use arrayvec::{ArrayString, ArrayVec};
 use bitcode_coder::str::{ArrayStringDecoder, StrEncoder};
-use bitcode_parts::fixed_capacity::ArrayVecDecoder;
-use bitcode_parts::vec::VecEncoder;
+use bitcode_containers::fixed_capacity::ArrayVecDecoder;
+use bitcode_containers::vec::VecEncoder;
 use std::default::Default;
 
 impl<T: Encode, const N: usize> Encode for ArrayVec<T, N> {

@@ -1,6 +1,6 @@
 // The coders of maps.
 use crate::derive::{Decode, DecodeOwned, Encode};
-use bitcode_parts::map::{MapDecoder, MapEncoder};
+use bitcode_containers::map::{MapDecoder, MapEncoder};
 use bitcode_shapes::keys::Key;
 use bitcode_tuples::decoder::TupleDecoder;
 use std::cmp::{Eq, Ord};

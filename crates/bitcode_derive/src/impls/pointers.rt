@@ -1,8 +1,8 @@
 // The coders of boxes, shared pointers and their slices.
 use crate::derive::{Decode, DecodeOwned, Encode};
-use bitcode_parts::deref::DerefEncoder;
-use bitcode_parts::from::FromDecoder;
-use bitcode_parts::vec::{VecDecoder, VecEncoder};
+use bitcode_containers::deref::DerefEncoder;
+use bitcode_containers::from::FromDecoder;
+use bitcode_containers::vec::{VecDecoder, VecEncoder};
 use std::boxed::BoxedSlice;
 use std::rc::{Rc, RcSlice};
 

@@ -1,6 +1,6 @@
 // The coders of vectors and slices.
 use crate::derive::{Decode, DecodeOwned, Encode};
-use bitcode_parts::vec::{VecDecoder, VecEncoder};
+use bitcode_containers::vec::{VecDecoder, VecEncoder};
 
 impl<T: Encode> Encode for Vec<T> {
     type Encoder = VecEncoder<T::Encoder>;

@@ -1,8 +1,8 @@
 // The stored rows of options, results and types written by hand.
-use crate::types::never::Never;
-use crate::types::one::One;
-use crate::types::two::Two;
 use bitcode::{Reason, decode};
+use bitcode_by_hand::never::Never;
+use bitcode_by_hand::one::One;
+use bitcode_by_hand::two::Two;
 use bitcode_checks::{Got, decodes, encodes, refuses};
 use std::alloc::Global;
 

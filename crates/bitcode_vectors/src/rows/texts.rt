@@ -1,6 +1,6 @@
 // The stored rows of texts, chars, checked integers and durations.
-use crate::types::foo::Foo;
 use bitcode::{Reason, U8Char, decode};
+use bitcode_by_hand::foo::Foo;
 use bitcode_checks::{Got, decodes, encodes, refuses};
 use std::alloc::Global;
 use std::num::NonZeroU32;

@@ -1,0 +1,29 @@
+-- The variants are read, then the payloads of the first, and then those of the second.
+use Rattle.std.proofs.Common.{refl}
+use Rattle.bitcode_parts.proofs.TwoVariantLemmas.{variants_stopped, first_stopped, first_rest, choice_read, choice_refused, choice_rest}
+use Rattle.bitcode_by_hand.proofs.two.TwoDecoderView.populate.Goals as goal
+
+pub returns-in_err-populate-clause-refused : goal.returns-in_err-populate-clause-refused
+returns-in_err-populate-clause-refused c = variants_stopped _ _ _ _ _ _ c.from_residual.ensures.1 c.in_err-populate.ensures.refused
+
+pub returns-in_err-populate-2-clause-refused : goal.returns-in_err-populate-2-clause-refused
+returns-in_err-populate-2-clause-refused c =
+    first_stopped _ _ c.in_ok-populate.ensures.read (c.in_ok-populate.ensures.counts refl) c.length.ensures _ _
+    c.from_residual-in_err-populate-2.ensures.1 c.in_err-populate-2.ensures.refused
+
+pub returns-in_err-populate-2-clause-rest : goal.returns-in_err-populate-2-clause-rest
+returns-in_err-populate-2-clause-rest c = first_rest _ _ c.in_ok-populate.ensures.read c.in_err-populate-2.ensures.rest
+
+pub returns-clause-read : goal.returns-clause-read
+returns-clause-read c =
+    choice_read _ _ c.in_ok-populate.ensures.read (c.in_ok-populate.ensures.counts refl) c.length.ensures
+    c.in_ok-populate-2.ensures.read c.length-2.ensures _ _ c.populate-3.result c.populate-3.ensures.read
+
+pub returns-clause-refused : goal.returns-clause-refused
+returns-clause-refused c =
+    choice_refused _ _ c.in_ok-populate.ensures.read (c.in_ok-populate.ensures.counts refl) c.length.ensures
+    c.in_ok-populate-2.ensures.read c.length-2.ensures c.populate-3.result c.populate-3.ensures.refused
+
+pub returns-clause-rest : goal.returns-clause-rest
+returns-clause-rest c =
+    choice_rest _ c.populate-3.result c.in_ok-populate.ensures.read c.in_ok-populate-2.ensures.read c.populate-3.ensures.rest

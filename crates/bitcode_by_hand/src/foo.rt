@@ -1,0 +1,143 @@
+// A struct of two fields, written by hand.
+ghost use Rattle.std.specs.Prelude.{true, min, refl};
+ghost use Rattle.bitcode.specs.ByHand.{struct_lawful, struct_makeable, u32_lawful, u32_makeable, str_lawful, str_makeable, two, pairs_of};
+ghost use Rattle.bitcode_by_hand.specs.Foo.{foo_fields};
+
+use bitcode::coder::{Buffer, Result};
+use bitcode::{
+    Decode, Decoder, Encode, Encoder, IntDecoder, IntEncoder, Made, Shaped, StrDecoder, StrEncoder,
+    TupleDecoder, View,
+};
+use std::alloc::Global;
+
+/// A number and a text.
+#[derive(Debug, Clone, Copy, PartialEq)]
+pub struct Foo<'a> {
+    pub x: u32,
+    pub y: &'a str,
+}
+
+impl<'a> Shaped for Foo<'a> {
+    ghost shape = { ⟦<(u32, &'a str) as Shaped>⟧.shape };
+
+    ghost is_value = { λ t. ⟦<(u32, &'a str) as Shaped>⟧.is_value (foo_fields t) };
+
+    ghost lists = { λ t d. ⟦<(u32, &'a str) as Shaped>⟧.lists (foo_fields t) d };
+
+    ghost same = { λ t u. ⟦<(u32, &'a str) as Shaped>⟧.same (foo_fields t) (foo_fields u) };
+
+    ghost in_order = { true };
+
+    fn told(&self) {
+        self.x.told();
+        self.y.told();
+    }
+
+    ghost lawful = { struct_lawful foo_fields u32_lawful str_lawful };
+}
+
+impl<'a> Made for Foo<'a> {
+    ghost material = { ⟦<(u32, &'a str) as Made>⟧.material };
+
+    ghost makes = { λ d t. ⟦<(u32, &'a str) as Made>⟧.makes d (foo_fields t) };
+
+    ghost makeable = { struct_makeable foo_fields (λ x y. (record { x = x; y = y }, refl)) u32_makeable str_makeable };
+}
+
+#[derive(Drop)]
+pub struct FooEncoder {
+    x: IntEncoder<u32>,
+    y: StrEncoder,
+}
+
+impl Buffer for FooEncoder {
+    ghost columns = { λ e. two (⟦<IntEncoder<u32> as Buffer>⟧.columns e.x) (⟦<StrEncoder as Buffer>⟧.columns e.y) };
+
+    ghost room = { λ e. min (⟦<IntEncoder<u32> as Buffer>⟧.room e.x) (⟦<StrEncoder as Buffer>⟧.room e.y) };
+
+    ghost surely_passes = { λ e n. ⊥ };
+
+    fn new(alloc: Global) -> Self {
+        FooEncoder {
+            x: Buffer::new(alloc),
+            y: Buffer::new(alloc),
+        }
+    }
+
+    fn reserve(&mut self, n: usize) -> Result<()> {
+        self.x.reserve(n)?;
+        self.y.reserve(n)
+    }
+
+    fn collect_into(&mut self, out: &mut Vec<u8>) -> Result<()> {
+        self.x.collect_into(out)?;
+        self.y.collect_into(out)
+    }
+
+    fn clear(&mut self) {
+        self.x.clear();
+        self.y.clear();
+    }
+}
+
+impl<'a> Encoder<Foo<'a>> for FooEncoder {
+    fn encode(&mut self, t: &Foo<'a>) -> Result<()> {
+        self.x.encode(&t.x)?;
+        self.y.encode(&t.y)
+    }
+
+    ghost of_shape = { λ e. refl };
+
+    ghost surely = { λ e n h. absurd h };
+}
+
+#[derive(Drop)]
+pub struct FooDecoder<'a> {
+    x: IntDecoder<'a, u32>,
+    y: StrDecoder<'a>,
+}
+
+type Fields<'a> = TupleDecoder<IntDecoder<'a, u32>, StrDecoder<'a>>;
+
+impl<'a> View<'a> for FooDecoder<'a> {
+    ghost shape = { ⟦<Fields<'a> as View<'a>>⟧.shape };
+
+    ghost held = { λ d. pairs_of (⟦<IntDecoder<'a, u32> as View<'a>>⟧.held d.x) (⟦<StrDecoder<'a> as View<'a>>⟧.held d.y) };
+
+    ghost reads_free = { ⟦<Fields<'a> as View<'a>>⟧.reads_free };
+
+    ghost faults = { ⟦<Fields<'a> as View<'a>>⟧.faults };
+
+    fn new(alloc: Global) -> Self {
+        FooDecoder {
+            x: View::new(alloc),
+            y: View::new(alloc),
+        }
+    }
+
+    #[tactic(auto, using(bitcode_tuples::proofs::StructLemmas::struct_reading))]
+    fn populate(&mut self, input: &mut &'a [u8], k: usize) -> Result<()> {
+        self.x.populate(input, k)?;
+        self.y.populate(input, k)
+    }
+}
+
+impl<'a> Decoder<'a, Foo<'a>> for FooDecoder<'a> {
+    ghost makes_free = { true };
+
+    fn decode(&mut self) -> Result<Foo<'a>> {
+        let x = self.x.decode()?;
+        let y = self.y.decode()?;
+        Ok(Foo { x, y })
+    }
+
+    ghost same_shape = { refl };
+}
+
+impl<'a> Encode for Foo<'a> {
+    type Encoder = FooEncoder;
+}
+
+impl<'a> Decode<'a> for Foo<'a> {
+    type Decoder = FooDecoder<'a>;
+}

@@ -1,0 +1,131 @@
+// An enum of one variant, written by hand: it has the shape of its field.
+ghost use Rattle.std.specs.Prelude.{true, refl};
+ghost use Rattle.bitcode.specs.ByHand.{image_lawful, image_makeable, u8_lawful, u8_makeable};
+ghost use Rattle.bitcode_by_hand.specs.One.{one_field, one_found};
+
+use bitcode::coder::{Buffer, Result};
+use bitcode::{
+    Decode, DecodeOwned, Decoder, Encode, Encoder, IntDecoder, IntEncoder, Made, Shaped, View,
+};
+use std::alloc::Global;
+
+/// A byte.
+#[derive(Debug, Clone, Copy, PartialEq)]
+pub enum One {
+    A(u8),
+}
+
+impl Shaped for One {
+    ghost shape = { ⟦<u8 as Shaped>⟧.shape };
+
+    ghost is_value = { λ t. ⟦<u8 as Shaped>⟧.is_value (one_field t) };
+
+    ghost lists = { λ t d. ⟦<u8 as Shaped>⟧.lists (one_field t) d };
+
+    ghost same = { λ t u. ⟦<u8 as Shaped>⟧.same (one_field t) (one_field u) };
+
+    ghost in_order = { true };
+
+    fn told(&self) {
+        let One::A(a) = self;
+        a.told();
+    }
+
+    ghost lawful = { image_lawful one_field u8_lawful };
+}
+
+impl Made for One {
+    ghost material = { ⟦<u8 as Made>⟧.material };
+
+    ghost makes = { λ d t. ⟦<u8 as Made>⟧.makes d (one_field t) };
+
+    ghost makeable = { image_makeable one_field (λ g. g) (λ g a h. one_found a) u8_makeable };
+}
+
+#[derive(Drop)]
+pub struct OneEncoder {
+    a: IntEncoder<u8>,
+}
+
+impl Buffer for OneEncoder {
+    ghost columns = { λ e. ⟦<IntEncoder<u8> as Buffer>⟧.columns e.a };
+
+    ghost room = { λ e. ⟦<IntEncoder<u8> as Buffer>⟧.room e.a };
+
+    ghost surely_passes = { λ e n. ⊥ };
+
+    fn new(alloc: Global) -> Self {
+        OneEncoder {
+            a: Buffer::new(alloc),
+        }
+    }
+
+    fn reserve(&mut self, n: usize) -> Result<()> {
+        self.a.reserve(n)
+    }
+
+    fn collect_into(&mut self, out: &mut Vec<u8>) -> Result<()> {
+        self.a.collect_into(out)
+    }
+
+    fn clear(&mut self) {
+        self.a.clear();
+    }
+}
+
+impl Encoder<One> for OneEncoder {
+    fn encode(&mut self, t: &One) -> Result<()> {
+        let One::A(a) = t;
+        self.a.encode(a)
+    }
+
+    ghost of_shape = { λ e. refl };
+
+    ghost surely = { λ e n h. absurd h };
+}
+
+#[derive(Drop)]
+pub struct OneDecoder<'a> {
+    a: IntDecoder<'a, u8>,
+}
+
+impl<'a> View<'a> for OneDecoder<'a> {
+    ghost shape = { ⟦<u8 as Shaped>⟧.shape };
+
+    ghost held = { λ d. ⟦<IntDecoder<'a, u8> as View<'a>>⟧.held d.a };
+
+    ghost reads_free = { ⟦<IntDecoder<'a, u8> as View<'a>>⟧.reads_free };
+
+    ghost faults = { ⟦<IntDecoder<'a, u8> as View<'a>>⟧.faults };
+
+    fn new(alloc: Global) -> Self {
+        OneDecoder {
+            a: View::new(alloc),
+        }
+    }
+
+    fn populate(&mut self, input: &mut &'a [u8], k: usize) -> Result<()> {
+        self.a.populate(input, k)
+    }
+}
+
+impl<'a> Decoder<'a, One> for OneDecoder<'a> {
+    ghost makes_free = { true };
+
+    fn decode(&mut self) -> Result<One> {
+        let a = self.a.decode()?;
+        Ok(One::A(a))
+    }
+
+    ghost same_shape = { refl };
+}
+
+impl Encode for One {
+    type Encoder = OneEncoder;
+}
+
+impl<'a> Decode<'a> for One {
+    type Decoder = OneDecoder<'a>;
+}
+
+impl DecodeOwned for One {}
