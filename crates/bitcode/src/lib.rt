@@ -8,7 +8,7 @@
 
 pub use bitcode_coder::bool::{BoolDecoder, BoolEncoder};
 pub use bitcode_coder::checked::{Checked, CheckedIntDecoder, Nanosecond};
-pub use bitcode_coder::coder::{Decoder, Encoder, View};
+pub use bitcode_coder::coder::{Decoder, Encoder, MAX_VECTORED_CHUNK, View};
 pub use bitcode_coder::int::{AsInt, IntDecoder, IntEncoder, Integer};
 pub use bitcode_coder::length::{Len, LengthDecoder, LengthEncoder};
 pub use bitcode_coder::str::{ArrayStringDecoder, AsText, StrDecoder, StrEncoder};
@@ -28,28 +28,28 @@ pub use bitcode_columns::pack::{
 };
 pub use bitcode_columns::pack_ints::{minmax, pack_ints, unpack_ints};
 pub use bitcode_columns::refuse::{err, error};
-pub use bitcode_derive::buffer::Buffer;
-pub use bitcode_derive::derive::{Decode, DecodeOwned, Encode};
-pub use bitcode_derive::whole::{decode, encode, invalid_enum_variant};
 pub use bitcode_containers::array::{ArrayDecoder, ArrayEncoder};
-pub use bitcode_parts::convert::{
-    ConvertFrom, ConvertFromDecoder, ConvertInto, ConvertIntoEncoder,
-};
 pub use bitcode_containers::deref::{DerefEncoder, Points};
-pub use bitcode_parts::durations::{DurationDecode, DurationEncode};
 pub use bitcode_containers::elements::{encode_each, encode_lent};
-pub use bitcode_parts::empty::EmptyCoder;
 pub use bitcode_containers::fixed_capacity::ArrayVecDecoder;
 pub use bitcode_containers::from::{FromDecoder, FromValue};
 pub use bitcode_containers::lends::Lends;
 pub use bitcode_containers::map::{MapDecoder, MapEncoder};
 pub use bitcode_containers::mappings::Mapping;
+pub use bitcode_containers::sequences::Sequence;
+pub use bitcode_containers::vec::{VecDecoder, VecEncoder};
+pub use bitcode_derive::buffer::Buffer;
+pub use bitcode_derive::derive::{Decode, DecodeOwned, Encode};
+pub use bitcode_derive::whole::{decode, encode, invalid_enum_variant};
+pub use bitcode_parts::convert::{
+    ConvertFrom, ConvertFromDecoder, ConvertInto, ConvertIntoEncoder,
+};
+pub use bitcode_parts::durations::{DurationDecode, DurationEncode};
+pub use bitcode_parts::empty::EmptyCoder;
 pub use bitcode_parts::option::{OptionDecoder, OptionEncoder};
 pub use bitcode_parts::result::{ResultDecoder, ResultEncoder};
-pub use bitcode_containers::sequences::Sequence;
 pub use bitcode_parts::uuids::UuidConversion;
 pub use bitcode_parts::variant::{VariantDecoder, VariantEncoder, encode_payload};
-pub use bitcode_containers::vec::{VecDecoder, VecEncoder};
 pub use bitcode_shapes::keys::Key;
 pub use bitcode_shapes::no_variants::NoVariants;
 pub use bitcode_shapes::shaped::{Made, Shaped};

@@ -1,23 +1,12 @@
-// Tests that cross the crates: values, inputs and columns of the Rust crate, and each public call once.
+// Tests that cross the crates: values and inputs of the Rust crate, and each public call once.
 mod arrays;
-mod byte_columns;
 mod calls;
 mod checked;
 mod choices;
+mod chunks;
 mod collections;
 mod fixed_capacity;
-mod fronts;
-mod int_columns;
-mod integers;
-mod length_columns;
-mod limits;
-mod long_columns;
-mod longest_columns;
-mod packing;
 mod pointers;
 mod sequences;
-mod size_columns;
-mod tags;
 mod texts;
 mod tuples;
-mod variants;

@@ -15,4 +15,5 @@ pub mod SpellingLemmas
 pub mod RowLemmas
 pub mod LawLemmas
 pub mod CountLemmas
+pub mod EachLemmas
 pub mod RefusalLemmas

@@ -1,5 +1,6 @@
 -- What the calls of encoders and decoders do to the columns and data that they stand for.
 use Rattle.std.specs.Prelude.{◌≡◌, ◌≢◌, ℕ, ◌-◌, ◌^◌, List, [], ◌∷◌, ◌++◌, length, All, ◌⊎◌}
+use Rattle.std.specs.List.{AllZip}
 use Rattle.bitcode_columns.specs.declared.error.Reason.{Reason}
 use Rattle.bitcode_columns.specs.declared.error.Reason.TheVariants.{Eof, ExpectedEof, InvalidPacking, LengthOverflow, HugeLength, InvalidUtf8, InvalidBitPattern, InvalidArrayVec, InvalidArrayString, InvalidEnumVariant, OutOfMemory}
 use Rattle.bitcode_columns.specs.Reading.{Reads}
@@ -35,6 +36,20 @@ pub record PassesWithListing {T : Type 0} (lists : T → Datum → Type 0) (shap
   pub datum : Datum
   pub listing : lists t datum
   pub passes : CountsFit (beside old (written_columns shape (datum ∷ []))) → ⊥
+
+-- The columns of a listing of each value were joined to the old ones. The numbers of arrays in them are still
+-- lengths if they were.
+pub record JoinsEach {T : Type 0} (lists : T → Datum → Type 0) (shape : Shape) (values : List T) (old new : Columns) : Type 0 where
+  pub parts : List Datum
+  pub listings : AllZip lists values parts
+  pub joined : new ≡ beside old (written_columns shape parts)
+  pub fits : CountsFit old → CountsFit new
+
+-- with some listing of each value, some number of arrays is no length
+pub record PassesWithEach {T : Type 0} (lists : T → Datum → Type 0) (shape : Shape) (values : List T) (old : Columns) : Type 0 where
+  pub parts : List Datum
+  pub listings : AllZip lists values parts
+  pub passes : CountsFit (beside old (written_columns shape parts)) → ⊥
 
 -- the next so many values make some number of arrays pass, whatever they are
 abbrev pub SurelyPasses : Shape → Columns → ℕ → Type 0

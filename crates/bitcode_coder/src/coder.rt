@@ -1,16 +1,20 @@
 // The four traits that coders of columns and of types meet.
-ghost use Rattle.std.specs.Prelude.{◌≡◌, ◌≢◌, ℕ, ◌+◌, ◌<◌, ◌≤◌, Bool, List, [], ◌∷◌, ◌++◌, length, IsTrue, IsOk, IfOk, OnOk, IfErr, OnErr};
+ghost use Rattle.std.specs.Prelude.{◌≡◌, ◌≢◌, ℕ, ◌+◌, ◌<◌, ◌≤◌, Bool, List, [], ◌∷◌, ◌++◌, length, map, IsTrue, IsOk, IfOk, OnOk, IfErr, OnErr};
 ghost use Rattle.bitcode_columns.specs.declared.error.Reason.{Reason};
 ghost use Rattle.bitcode_columns.specs.Reading.{Reads, IsEndOf};
 ghost use Rattle.bitcode_shapes.specs.Datum.{Datum};
 ghost use Rattle.bitcode_shapes.specs.Shape.{Shape};
 ghost use Rattle.bitcode_coder.specs.Columns.{Columns, emptied};
 ghost use Rattle.bitcode_coder.specs.Spelling.{Spells, columns_text};
-ghost use Rattle.bitcode_coder.specs.Coding.{written_columns, BeginsWith, JoinsListing, PassesWithListing, SurelyPasses, IsWritingRefusal, IsReadingRefusal, TakesDatum};
+ghost use Rattle.bitcode_coder.specs.Coding.{written_columns, BeginsWith, JoinsListing, PassesWithListing, JoinsEach, PassesWithEach, SurelyPasses, IsWritingRefusal, IsReadingRefusal, TakesDatum};
 
 use bitcode_columns::error::{Error, Reason};
+use bitcode_shapes::sequences::told_behind;
 use bitcode_shapes::shaped::{Made, Shaped};
 use std::alloc::Global;
+
+/// The most references that [`Encoder::encode_vectored`] takes.
+pub const MAX_VECTORED_CHUNK: usize = 64;
 
 /// Columns that grow, value by value.
 ///
@@ -52,6 +56,20 @@ pub trait Buffer {
     /// Drops all entries. Takes no memory. Room is to be reserved anew.
     fn clear(&mut self)
         ensures { columns self.new ≡ emptied (columns self.old) };
+
+    /// Writes the columns as bytes of their own, and leaves them empty.
+    ///
+    /// A refused growth is `out of memory`.
+    final fn collect(&mut self, alloc: Global) -> Result<Vec<u8>, Error>
+        ensures written { IfOk result (λ bytes. bytes.items ≡ columns_text (columns self.old)) }
+        ensures empty { OnOk result (columns self.new ≡ emptied (columns self.old)) }
+        ensures form { emptied (columns self.new) ≡ emptied (columns self.old) }
+        ensures refused { IfErr result (λ e. e.reason ≡ Reason.OutOfMemory) }
+    {
+        let mut bytes = Vec::new(alloc);
+        self.collect_into(&mut bytes)?;
+        Ok(bytes)
+    }
 }
 
 /// Columns that values of `T` are written to.
@@ -66,6 +84,25 @@ pub trait Encoder<T: Shaped>: Buffer {
         ensures room { OnOk result (Self.room self.old ≤ Self.room self.new + 1) }
         ensures form { emptied (Self.columns self.new) ≡ emptied (Self.columns self.old) }
         ensures refused { IfErr result (λ e. IsWritingRefusal e.reason (PassesWithListing T.lists T.shape t.now (Self.columns self.old))) };
+
+    /// Joins the columns of 1 to [`MAX_VECTORED_CHUNK`] values to those so far, as [`Encoder::encode`] does one by one.
+    /// Room for them was reserved.
+    ///
+    /// It refuses as that does: the values up to the one at hand may have been joined then.
+    fn encode_vectored(&mut self, values: &[&T]) -> Result<(), Error>
+        requires chunk { (0 < length values.now) × (length values.now ≤ 64) }
+        requires room { length values.now ≤ Self.room self.old }
+        ensures joined { OnOk result (JoinsEach T.lists T.shape (map (λ value. value.now) values.now) (Self.columns self.old) (Self.columns self.new)) }
+        ensures room { OnOk result (Self.room self.old ≤ Self.room self.new + length values.now) }
+        ensures form { emptied (Self.columns self.new) ≡ emptied (Self.columns self.old) }
+        ensures refused { IfErr result (λ e. IsWritingRefusal e.reason (PassesWithEach T.lists T.shape (map (λ value. value.now) values.now) (Self.columns self.old))) }
+    {
+        told_behind(values);
+        for value in values {
+            self.encode(*value)?;
+        }
+        Ok(())
+    }
 
     // the columns are those of the type's shape
     ghost of_shape: { (e : Self) → emptied (Self.columns e) ≡ written_columns T.shape [] };

@@ -7,8 +7,7 @@ use Rattle.bitcode_shapes.specs.Sequences.{ListsSequence}
 use Rattle.bitcode_shapes.specs.LawfulSequences.{list_of_data}
 use Rattle.bitcode_coder.specs.Columns.{Columns, arrays, beside, CountsFit}
 use Rattle.bitcode_coder.specs.Transposition.{array_columns, joined}
-use Rattle.bitcode_coder.specs.Coding.{written_columns, JoinsListing, PassesWithListing}
-use Rattle.bitcode_containers.specs.Elements.{JoinsEach, PassesWithEach}
+use Rattle.bitcode_coder.specs.Coding.{written_columns, JoinsListing, PassesWithListing, JoinsEach, PassesWithEach}
 use Rattle.bitcode_containers.specs.Arrays.{array_room}
 
 -- how many times a size goes into a number

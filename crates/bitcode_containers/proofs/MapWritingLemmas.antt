@@ -11,8 +11,7 @@ use Rattle.bitcode_shapes.specs.Values.{ListsPair}
 use Rattle.bitcode_shapes.specs.LawfulSequences.{list_of_data, zip_length}
 use Rattle.bitcode_coder.specs.Columns.{Columns, lengths, one, two, beside, CountsFit}
 use Rattle.bitcode_coder.specs.Spelling.{natural}
-use Rattle.bitcode_coder.specs.Coding.{written_columns, JoinsListing, PassesWithListing}
-use Rattle.bitcode_containers.specs.Elements.{JoinsEach, PassesWithEach}
+use Rattle.bitcode_coder.specs.Coding.{written_columns, JoinsListing, PassesWithListing, JoinsEach, PassesWithEach}
 use Rattle.bitcode_containers.specs.Maps.{pairs_of}
 use Rattle.bitcode_containers.proofs.SequenceWritingLemmas.{elements_again}
 

@@ -9,8 +9,7 @@ use Rattle.bitcode_shapes.specs.Sequences.{ListsSequence}
 use Rattle.bitcode_shapes.specs.LawfulSequences.{list_of_data, zip_length, each_listed, each_of_shape}
 use Rattle.bitcode_coder.specs.Columns.{Columns, lengths, one, two, beside, CountsFit}
 use Rattle.bitcode_coder.specs.Spelling.{natural}
-use Rattle.bitcode_coder.specs.Coding.{written_columns, JoinsListing, PassesWithListing, SurelyPasses}
-use Rattle.bitcode_containers.specs.Elements.{JoinsEach, PassesWithEach}
+use Rattle.bitcode_coder.specs.Coding.{written_columns, JoinsListing, PassesWithListing, SurelyPasses, JoinsEach, PassesWithEach}
 
 pub elements_again : (parts : List Datum) → elements_in (list (data_of parts)) ++ [] ≡ parts
 elements_again parts = append-nil (elements_in (list (data_of parts))) ∙ list_of_data parts

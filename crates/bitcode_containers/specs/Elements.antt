@@ -1,25 +1,8 @@
--- The elements of a sequence, written and read one by one, front to back.
+-- The elements of a sequence, read one by one, front to back, and what they make.
 use Rattle.std.specs.Prelude.{◌≡◌, ℕ, List, ◌++◌, length}
 use Rattle.std.specs.List.{AllZip}
 use Rattle.bitcode_shapes.specs.Datum.{Datum}
-use Rattle.bitcode_shapes.specs.Shape.{Shape}
 use Rattle.bitcode_shapes.specs.Sequences.{MakesSequence}
-use Rattle.bitcode_coder.specs.Columns.{Columns, beside, CountsFit}
-use Rattle.bitcode_coder.specs.Coding.{written_columns}
-
--- The columns of a listing of each element were joined to the old ones. The numbers of arrays in them are still
--- lengths if they were.
-pub record JoinsEach {T : Type 0} (lists : T → Datum → Type 0) (shape : Shape) (items : List T) (old new : Columns) : Type 0 where
-  pub parts : List Datum
-  pub listings : AllZip lists items parts
-  pub joined : new ≡ beside old (written_columns shape parts)
-  pub fits : CountsFit old → CountsFit new
-
--- with some listing of each element, some number of arrays is no length
-pub record PassesWithEach {T : Type 0} (lists : T → Datum → Type 0) (shape : Shape) (items : List T) (old : Columns) : Type 0 where
-  pub parts : List Datum
-  pub listings : AllZip lists items parts
-  pub passes : CountsFit (beside old (written_columns shape parts)) → ⊥
 
 -- so many items are made of data that were taken from the front
 pub record TakesEach {T : Type 0} (makes : Datum → T → Type 0) (count : ℕ) (items : List T) (old new : List Datum) : Type 0 where

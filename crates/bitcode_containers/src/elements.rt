@@ -2,8 +2,8 @@
 ghost use Rattle.std.specs.Prelude.{◌≡◌, ◌+◌, ◌≤◌, length, All, IsOk, IfOk, OnOk, IfErr};
 ghost use Rattle.bitcode_columns.specs.declared.error.Reason.{Reason};
 ghost use Rattle.bitcode_coder.specs.Columns.{emptied};
-ghost use Rattle.bitcode_coder.specs.Coding.{IsWritingRefusal};
-ghost use Rattle.bitcode_containers.specs.Elements.{JoinsEach, PassesWithEach, TakesEach};
+ghost use Rattle.bitcode_coder.specs.Coding.{JoinsEach, PassesWithEach, IsWritingRefusal};
+ghost use Rattle.bitcode_containers.specs.Elements.{TakesEach};
 
 use crate::lends::Lends;
 use bitcode_coder::coder::{Decoder, Encoder};

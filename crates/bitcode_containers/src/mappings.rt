@@ -7,8 +7,8 @@ ghost use Rattle.bitcode_shapes.specs.Shape.{map_shape};
 ghost use Rattle.bitcode_shapes.specs.Sequences.{ListsSequence};
 ghost use Rattle.bitcode_shapes.specs.Values.{IsPairValue, ListsPair};
 ghost use Rattle.bitcode_coder.specs.Columns.{emptied};
-ghost use Rattle.bitcode_coder.specs.Coding.{IsWritingRefusal};
-ghost use Rattle.bitcode_containers.specs.Elements.{JoinsEach, PassesWithEach, MakesOfElements};
+ghost use Rattle.bitcode_coder.specs.Coding.{JoinsEach, PassesWithEach, IsWritingRefusal};
+ghost use Rattle.bitcode_containers.specs.Elements.{MakesOfElements};
 
 use crate::elements::encode_lent;
 use crate::sequences::FromElements;

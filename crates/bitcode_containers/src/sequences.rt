@@ -7,8 +7,8 @@ ghost use Rattle.bitcode_shapes.specs.Datum.{Datum};
 ghost use Rattle.bitcode_shapes.specs.Shape.{seq_shape};
 ghost use Rattle.bitcode_shapes.specs.Sequences.{ListsSequence};
 ghost use Rattle.bitcode_coder.specs.Columns.{emptied};
-ghost use Rattle.bitcode_coder.specs.Coding.{written_columns, IsWritingRefusal};
-ghost use Rattle.bitcode_containers.specs.Elements.{JoinsEach, PassesWithEach, MakesOfElements};
+ghost use Rattle.bitcode_coder.specs.Coding.{written_columns, JoinsEach, PassesWithEach, IsWritingRefusal};
+ghost use Rattle.bitcode_containers.specs.Elements.{MakesOfElements};
 
 use crate::elements::{encode_each, encode_lent};
 use arrayvec::ArrayVec;

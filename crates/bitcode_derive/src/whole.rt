@@ -31,9 +31,7 @@ pub fn encode<T: Encode>(alloc: Global, t: &T) -> Result<Vec<u8>, Error>
     let mut encoder = T::Encoder::new(alloc);
     encoder.reserve(1)?;
     encoder.encode(t)?;
-    let mut bytes = Vec::new(alloc);
-    encoder.collect_into(&mut bytes)?;
-    Ok(bytes)
+    encoder.collect(alloc)
 }
 
 /// Reads the one value that all of the bytes spell.

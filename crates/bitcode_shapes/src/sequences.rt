@@ -17,6 +17,15 @@ pub fn told_each<T: Shaped>(items: &[T])
     }
 }
 
+/// What each reference in hand leads to is a value of its type.
+pub fn told_behind<T: Shaped>(references: &[&T])
+    ensures { All (λ reference. T.is_value reference.now) references.now }
+{
+    for reference in references {
+        reference.told();
+    }
+}
+
 impl<T: Shaped> Shaped for Vec<T> {
     ghost shape = { seq_shape None T.shape };
 

@@ -41,6 +41,7 @@ fn print_rows_to_25(rt: &impl Print, alloc: Global) -> io::Result<bool> {
     all_ok &= print_row(rt, 17, rows::texts::durations(alloc))?;
     all_ok &= print_row(rt, 18, rows::sequences::many_bools(alloc))?;
     all_ok &= print_row(rt, 19, rows::tuples::identifier(alloc))?;
+    all_ok &= print_row(rt, 20, rows::buffers::emptied_list(alloc))?;
     all_ok &= print_row(rt, 21, rows::pair(alloc))?;
     all_ok &= print_row(rt, 22, rows::words_written(alloc))?;
     all_ok &= print_row(rt, 23, rows::words_read(alloc))?;
@@ -61,8 +62,8 @@ fn print_rows_to_33(rt: &impl Print, alloc: Global) -> io::Result<bool> {
     Ok(all_ok)
 }
 
-/// Runs rows 35 to 44 in order, and answers whether all of them are ok.
-fn print_rows_to_44(rt: &impl Print, alloc: Global) -> io::Result<bool> {
+/// Runs rows 35 to 45 in order, and answers whether all of them are ok.
+fn print_rows_to_45(rt: &impl Print, alloc: Global) -> io::Result<bool> {
     let mut all_ok = print_row(rt, 35, rows::sequences::late_least(alloc))?;
     all_ok &= print_row(rt, 36, rows::sequences::nested_lists(alloc))?;
     all_ok &= print_row(rt, 37, rows::texts::texts_read(alloc))?;
@@ -73,6 +74,7 @@ fn print_rows_to_44(rt: &impl Print, alloc: Global) -> io::Result<bool> {
     all_ok &= print_row(rt, 42, rows::arrays::more_units_than_a_length(alloc))?;
     all_ok &= print_row(rt, 43, rows::collections::sets_and_heaps(alloc))?;
     all_ok &= print_row(rt, 44, rows::fixed_capacity::two_letters(alloc))?;
+    all_ok &= print_row(rt, 45, rows::buffers::one_after_the_other(alloc))?;
     Ok(all_ok)
 }
 
@@ -81,6 +83,6 @@ pub fn print_rows(rt: &impl Print, alloc: Global) -> io::Result<bool> {
     let mut all_ok = print_rows_to_11(rt, alloc)?;
     all_ok &= print_rows_to_25(rt, alloc)?;
     all_ok &= print_rows_to_33(rt, alloc)?;
-    all_ok &= print_rows_to_44(rt, alloc)?;
+    all_ok &= print_rows_to_45(rt, alloc)?;
     Ok(all_ok)
 }

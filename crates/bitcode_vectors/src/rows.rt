@@ -4,6 +4,7 @@ use bitcode_checks::{Got, decodes, encodes, refuses};
 use std::alloc::Global;
 
 pub mod arrays;
+pub mod buffers;
 pub mod byte_columns;
 pub mod choices;
 pub mod collections;

@@ -1,10 +1,9 @@
-// Pointers, markers and UUIDs, both ways.
-use crate::{Got, decodes, encodes, refuses};
+// Pointers and markers, both ways.
+use crate::{Got, encodes, refuses};
 use bitcode::{DecodeOwned, Reason, decode};
 use std::boxed::BoxedSlice;
 use std::marker::PhantomData;
 use std::rc::{Rc, RcSlice};
-use uuid::Uuid;
 
 /// Takes only what borrows nothing from an input.
 fn owned<T: DecodeOwned>(t: T) -> T {
@@ -20,12 +19,8 @@ fn is(same: bool) -> Result<(), Got> {
 fn boxes(rt: HostRuntime) -> Result<(), Got> {
     let alloc = rt.alloc();
     encodes(alloc, &Box::new(alloc, 8u8)?, &[8])?;
-    let numbers: Vec<u16> = vec![in alloc; 8, 4, 3, 7, 8]?;
-    encodes(alloc, &Box::new(alloc, numbers)?, &[5, 2, 2, 72, 115, 8])?;
     let read: Box<u8> = owned(decode(alloc, &[73])?);
     is(*read == 73)?;
-    let some: Option<Box<u64>> = decode(alloc, &[1, 6, 201])?;
-    is(some.is_some_and(|number| *number == 201))?;
     refuses::<Box<u8>>(alloc, &[], Reason::Eof)
 }
 
@@ -37,7 +32,6 @@ fn shared_pointers(rt: HostRuntime) -> Result<(), Got> {
         &Rc::new(alloc, 3606444468u32)?,
         &[0, 180, 249, 245, 214],
     )?;
-    encodes(alloc, &Rc::new(alloc, (11u8, true))?, &[11, 1])?;
     let read: Rc<u32> = owned(decode(alloc, &[0, 155, 255, 255, 255])?);
     is(*read == 4294967195)
 }
@@ -63,20 +57,4 @@ fn markers(rt: HostRuntime) -> Result<(), Got> {
     let (_, number): (PhantomData<u8>, u8) = owned(decode(alloc, &[5])?);
     is(number == 5)?;
     refuses::<PhantomData<u8>>(alloc, &[0], Reason::ExpectedEof)
-}
-
-#[test]
-fn identifiers(rt: HostRuntime) -> Result<(), Got> {
-    let alloc = rt.alloc();
-    let id = Uuid::from_bytes([2, 2, 1, 0, 0, 1, 2, 0, 1, 2, 2, 0, 2, 2, 1, 1]);
-    encodes(alloc, &Some(id), &[1, 8, 17, 196, 155, 1])?;
-    let high = [
-        183, 187, 179, 187, 175, 187, 179, 187, 179, 185, 177, 187, 187, 177, 187, 173,
-    ];
-    decodes(
-        alloc,
-        &[1, 1, 173, 234, 230, 226, 230, 198, 228, 78, 14],
-        Some(Uuid::from_bytes(high)),
-    )?;
-    refuses::<Uuid>(alloc, &[0, 1, 2], Reason::Eof)
 }

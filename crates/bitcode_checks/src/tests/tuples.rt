@@ -1,12 +1,9 @@
-// Tuples of one field, of three and of sixteen types, both ways. `scripts/checks/long_tuples` tries every number of fields.
+// Tuples of one field and of sixteen types, both ways. `scripts/checks/long_tuples` tries every number of fields.
 use crate::tuples::writes_sixteen;
 use crate::{Got, encodes, refuses};
 use bitcode::{Decode, DecodeOwned, Error, Reason, decode};
 use std::alloc::Global;
 use std::time::Duration;
-
-/// Bytes that are each a column of one entry.
-const BYTES: [u8; 3] = [0, 1, 2];
 
 /// Takes only what borrows nothing from an input.
 fn owned<T: DecodeOwned>(t: T) -> T {
@@ -29,14 +26,6 @@ fn one_field_is_as_that_field(rt: HostRuntime) -> Result<(), Got> {
     let (read,) = owned(decode(alloc, &[253])?);
     same(&[read], &[253])?;
     refuses::<(u8,)>(alloc, &[253, 0], Reason::ExpectedEof)
-}
-
-#[test]
-fn three_fields_come_back(rt: HostRuntime) -> Result<(), Got> {
-    let alloc = rt.alloc();
-    encodes(alloc, &(0u8, 1u8, 2u8), &BYTES)?;
-    let (a, b, c): (u8, u8, u8) = owned(decode(alloc, &BYTES)?);
-    same(&[a, b, c], &BYTES)
 }
 
 #[test]

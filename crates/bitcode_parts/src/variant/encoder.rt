@@ -1,7 +1,7 @@
 // The coder that variants are written to.
 #![tactic(auto, unfolding(crate::specs::VariantCoders::written_variants, crate::specs::VariantCoders::variant_room))]
 
-ghost use Rattle.std.specs.Prelude.{◌≡◌, ◌+◌, ◌<◌, ◌++◌, [], ◌∷◌, map, All};
+ghost use Rattle.std.specs.Prelude.{◌≡◌, ◌+◌, ◌<◌, ◌≤◌, ◌++◌, [], ◌∷◌, length, map, All};
 ghost use Rattle.bitcode_columns.specs.Fast.{fast_items};
 ghost use Rattle.bitcode_coder.specs.Columns.{variants, one};
 ghost use Rattle.bitcode_coder.specs.Spelling.{natural};
@@ -70,5 +70,21 @@ impl<const N: usize> VariantEncoder<N> {
         ensures room { variant_room self.new + 1 ≡ variant_room self.old }
     {
         self.variants.push_unchecked(variant);
+    }
+
+    /// Writes 1 to `MAX_VECTORED_CHUNK` variants, each of which is below `N`. Room for them was reserved.
+    ///
+    /// ```
+    /// variants.reserve(2)?;
+    /// variants.encode_vectored(&[2, 1]);
+    /// ```
+    pub fn encode_vectored(&mut self, several: &[u8])
+        requires chunk { (0 < length several.now) × (length several.now ≤ 64) }
+        requires room { length several.now ≤ variant_room self.old }
+        requires known { All (λ variant. variant < N) several.now }
+        ensures written { written_variants self.new ≡ written_variants self.old ++ several.now }
+        ensures room { variant_room self.old ≤ variant_room self.new + length several.now }
+    {
+        self.variants.extend_unchecked(several);
     }
 }

@@ -4,7 +4,7 @@ use Rattle.std.proofs.lemmas.List.Elements.{All-tail}
 use Rattle.std.proofs.lemmas.Result.{err_from_is_err_and}
 use Rattle.bitcode_shapes.specs.LawfulSequences.{each_listed}
 use Rattle.bitcode_coder.proofs.RefusalLemmas.{refusal_weaker}
-use Rattle.bitcode_containers.proofs.ElementLemmas.{JoinsFront, front_none, front_more, front_passes}
+use Rattle.bitcode_coder.proofs.EachLemmas.{JoinsFront, front_none, front_more, front_passes}
 use Rattle.bitcode_containers.proofs.elements.encode_lent.Goals as goal
 
 pub loop-item-init : goal.loop-item-init

@@ -1,6 +1,6 @@
 use Rattle.std.proofs.Common.{◌≡◌, ◌+◌, ◌≤◌, length, All}
 use Rattle.bitcode_coder.specs.Columns.{emptied}
-use Rattle.bitcode_containers.proofs.ElementLemmas.{JoinsFront}
+use Rattle.bitcode_coder.proofs.EachLemmas.{JoinsFront}
 use Rattle.bitcode_containers.proofs.elements.encode_lent.Given as goal
 
 abbrev pub invariant-loop-item : goal.invariant-loop-item

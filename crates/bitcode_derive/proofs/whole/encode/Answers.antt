@@ -1,6 +1,6 @@
 -- One value is written: the encoder began without entries.
 use Rattle.std.proofs.Common.{◌≡◌, [], ◌∙◌}
-use Rattle.std.proofs.lemmas.Result.{err_from_is_err_and}
+use Rattle.std.proofs.lemmas.Result.{IfOk-weaker, err_from_is_err_and}
 use Rattle.bitcode_coder.specs.Coding.{written_columns}
 use Rattle.bitcode_derive.proofs.EncodingLemmas.{encoding_of-joined, refusal-joined, refusal-surely}
 use Rattle.bitcode_derive.proofs.whole.encode.Goals as goal
@@ -28,5 +28,6 @@ pub returns-clause-written : goal.returns-clause-written
 returns-clause-written g c =
     let none_yet : g.T.Encoder.Buffer.columns c.reserve.new.self ≡ written_columns g.T.Shaped.shape [] =
     c.in_ok-reserve.ensures.columns ∙ c.new-encoder.ensures ∙ g.met.T.Encoder.Encoder.of_shape c.new-encoder.result in
-    encoding_of-joined g.T.Shaped.lists g.T.Shaped.shape c.args.t.now _ none_yet _ _ c.in_ok-encode.ensures.joined
-    (rw c.new-bytes.ensures.items at c.in_ok-collect_into.ensures.written)
+    IfOk-weaker c.collect.result _ _
+    (λ bytes. encoding_of-joined g.T.Shaped.lists g.T.Shaped.shape c.args.t.now _ none_yet _ _ c.in_ok-encode.ensures.joined)
+    c.collect.ensures.written

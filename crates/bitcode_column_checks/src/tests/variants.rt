@@ -1,12 +1,12 @@
 // Columns of variants that the Rust crate packed and unpacked, and every last byte in every base.
 ghost use Rattle.std.specs.Prelude.{◌≡◌, ◌<◌, ◌≤◌, ◌⊎◌};
 
-use crate::Got;
 use bitcode::coder::Buffer as _;
 use bitcode::{
     CowSlice, Error, Reason, VariantDecoder, VariantEncoder, histogram, pack_bytes_less_than,
     unpack_bytes_less_than,
 };
+use bitcode_checks::Got;
 use std::alloc::Global;
 use std::test::Fail;
 

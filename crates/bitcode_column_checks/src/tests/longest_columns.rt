@@ -1,7 +1,7 @@
 // Columns of integers of 128 bits that the Rust crate packed, and inputs that it unpacked.
-use crate::Got;
 use crate::tests::packing::{packs, unpack_refuses, unpacks};
 use bitcode::Reason;
+use bitcode_checks::Got;
 
 #[test]
 fn u128_columns_are_packed(rt: HostRuntime) -> Result<(), Got> {

@@ -1,9 +1,9 @@
 // Every proper front of accepted bytes is `EOF`, and a byte behind them is refused, or left where a column was read.
-use crate::byte_columns::unpack_bytes_refuses;
-use crate::lengths::{reads_lengths, refuses_lengths};
 use crate::tests::packing::unpacks_bytes;
-use crate::{Got, refuses};
 use bitcode::{Decode, Reason, decode};
+use bitcode_checks::byte_columns::unpack_bytes_refuses;
+use bitcode_checks::lengths::{reads_lengths, refuses_lengths};
+use bitcode_checks::{Got, refuses};
 use std::alloc::Global;
 
 // The bytes but the last one are read as a value; fewer and more are not.

@@ -1,7 +1,7 @@
 // Columns of lengths that the Rust crate wrote or read, and the limits of lengths and of their sum.
-use crate::Got;
-use crate::lengths::{reads_lengths, refuses_lengths, writes_lengths};
 use bitcode::{LengthDecoder, Reason};
+use bitcode_checks::Got;
+use bitcode_checks::lengths::{reads_lengths, refuses_lengths, writes_lengths};
 use std::alloc::Global;
 
 // The column is written as these bytes, and read from them.

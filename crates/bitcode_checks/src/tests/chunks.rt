@@ -1,0 +1,47 @@
+// Values that are written in chunks, and columns that are collected into bytes of their own.
+use bitcode::coder::Buffer as _;
+use bitcode::{BoolEncoder, Encoder, IntEncoder, MAX_VECTORED_CHUNK, TupleEncoder, VariantEncoder};
+use std::test::Fail;
+
+#[test]
+fn one_value_is_a_chunk(rt: HostRuntime) -> Result<(), Fail> {
+    let alloc = rt.alloc();
+    let mut encoder: TupleEncoder<BoolEncoder, IntEncoder<u16>> = TupleEncoder::new(alloc);
+    encoder.reserve(1)?;
+    encoder.encode_vectored(&[&(true, 7u16)])?;
+    assert_eq!(rt; encoder.collect(alloc)?.as_slice(), [1, 7, 0].as_slice());
+    assert_eq!(rt; encoder.collect(alloc)?.len(), 0);
+    Ok(())
+}
+
+#[test]
+fn a_chunk_is_as_one_by_one(rt: HostRuntime) -> Result<(), Fail> {
+    let alloc = rt.alloc();
+    let mut encoder: IntEncoder<u16> = IntEncoder::new(alloc);
+    encoder.reserve(17)?;
+    encoder.encode_vectored(&[&300u16; 16])?;
+    encoder.encode(&299u16)?;
+    let bytes = encoder.collect(alloc)?;
+    assert_eq!(rt; bytes.as_slice(), [1, 43, 1, 10, 255, 255, 0].as_slice());
+    Ok(())
+}
+
+#[test]
+fn the_longest_chunk(rt: HostRuntime) -> Result<(), Fail> {
+    let alloc = rt.alloc();
+    let mut encoder = BoolEncoder::new(alloc);
+    encoder.reserve(MAX_VECTORED_CHUNK)?;
+    encoder.encode_vectored(&[&true; 64])?;
+    assert_eq!(rt; encoder.collect(alloc)?.as_slice(), [255; 8].as_slice());
+    Ok(())
+}
+
+#[test]
+fn several_variants(rt: HostRuntime) -> Result<(), Fail> {
+    let alloc = rt.alloc();
+    let mut encoder = VariantEncoder::<17>::new(alloc);
+    encoder.reserve(2)?;
+    encoder.encode_vectored(&[16, 3]);
+    assert_eq!(rt; encoder.collect(alloc)?.as_slice(), [16, 3].as_slice());
+    Ok(())
+}
