@@ -1,5 +1,5 @@
 -- A listing of each value up to the one at hand was joined; those behind it are listed by their law.
-use Rattle.std.proofs.Common.{All, map, drop, refl, subst, ◌+◌, ◌∙◌, arith}
+use Rattle.std.proofs.Common.{map, drop, refl, subst, ◌+◌, ◌∙◌, arith}
 use Rattle.std.proofs.lemmas.List.{at_drop_all}
 use Rattle.std.proofs.lemmas.List.Elements.{All-drop, All-map}
 use Rattle.std.proofs.lemmas.Result.{err_from_is_err_and}
