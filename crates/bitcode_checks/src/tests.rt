@@ -6,6 +6,7 @@ mod choices;
 mod chunks;
 mod collections;
 mod fixed_capacity;
+mod integers;
 mod pointers;
 mod sequences;
 mod texts;
