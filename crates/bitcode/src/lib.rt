@@ -7,9 +7,9 @@
 #![tactic(auto)]
 
 pub use bitcode_coder::bool::{BoolDecoder, BoolEncoder};
-pub use bitcode_coder::checked::{Checked, CheckedIntDecoder, Nanosecond};
+pub use bitcode_integers::checked::{Checked, CheckedIntDecoder, Nanosecond};
 pub use bitcode_coder::coder::{Decoder, Encoder, MAX_VECTORED_CHUNK, View};
-pub use bitcode_coder::int::{AsInt, IntDecoder, IntEncoder, Integer};
+pub use bitcode_integers::int::{AsInt, IntDecoder, IntEncoder, Integer};
 pub use bitcode_coder::length::{Len, LengthDecoder, LengthEncoder};
 pub use bitcode_coder::str::{ArrayStringDecoder, AsText, StrDecoder, StrEncoder};
 pub use bitcode_coder::u8_char::{U8Char, U8CharEncoder};

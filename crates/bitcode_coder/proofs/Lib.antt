@@ -7,7 +7,6 @@ pub mod TextLemmas
 pub mod JoinedTextLemmas
 pub mod TextCoderLemmas
 pub mod LimitedTextLemmas
-pub mod CheckedLemmas
 pub mod ColumnLemmas
 pub mod TranspositionLemmas
 pub mod DatumLemmas

@@ -6,12 +6,10 @@ pub mod TextColumn
 pub mod JoinedTexts
 pub mod TextParts
 pub mod RawBytes
-pub mod CheckedColumn
 pub mod Columns
 pub mod Transposition
 pub mod Spelling
 pub mod Coding
 pub mod Rows
 pub mod Vectors
-pub mod IntData
 pub mod Laws

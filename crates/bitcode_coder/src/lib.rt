@@ -2,9 +2,7 @@
 #![tactic(auto)]
 
 pub mod bool;
-pub mod checked;
 pub mod coder;
-pub mod int;
 pub mod laws;
 pub mod length;
 pub mod result;

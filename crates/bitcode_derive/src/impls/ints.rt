@@ -1,6 +1,6 @@
 // The coders of integers.
 use crate::derive::{Decode, DecodeOwned, Encode};
-use bitcode_coder::int::{IntDecoder, IntEncoder};
+use bitcode_integers::int::{IntDecoder, IntEncoder};
 
 impl Encode for u8 {
     type Encoder = IntEncoder<u8>;

@@ -1,0 +1,2 @@
+pub mod CheckedColumn
+pub mod IntData
