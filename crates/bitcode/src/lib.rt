@@ -7,9 +7,7 @@
 #![tactic(auto)]
 
 pub use bitcode_coder::bool::{BoolDecoder, BoolEncoder};
-pub use bitcode_integers::checked::{Checked, CheckedIntDecoder, Nanosecond};
 pub use bitcode_coder::coder::{Decoder, Encoder, MAX_VECTORED_CHUNK, View};
-pub use bitcode_integers::int::{AsInt, IntDecoder, IntEncoder, Integer};
 pub use bitcode_coder::length::{Len, LengthDecoder, LengthEncoder};
 pub use bitcode_coder::str::{ArrayStringDecoder, AsText, StrDecoder, StrEncoder};
 pub use bitcode_coder::u8_char::{U8Char, U8CharEncoder};
@@ -41,6 +39,9 @@ pub use bitcode_containers::vec::{VecDecoder, VecEncoder};
 pub use bitcode_derive::buffer::Buffer;
 pub use bitcode_derive::derive::{Decode, DecodeOwned, Encode};
 pub use bitcode_derive::whole::{decode, encode, invalid_enum_variant};
+pub use bitcode_integers::checked::{Checked, CheckedIntDecoder, Nanosecond};
+pub use bitcode_integers::column_int::ColumnInt;
+pub use bitcode_integers::int::{AsInt, IntDecoder, IntEncoder, Integer};
 pub use bitcode_parts::convert::{
     ConvertFrom, ConvertFromDecoder, ConvertInto, ConvertIntoEncoder,
 };
