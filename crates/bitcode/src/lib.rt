@@ -11,11 +11,11 @@ pub use bitcode_coder::coder::{Decoder, Encoder, MAX_VECTORED_CHUNK, View};
 pub use bitcode_coder::length::{Len, LengthDecoder, LengthEncoder};
 pub use bitcode_coder::str::{ArrayStringDecoder, AsText, StrDecoder, StrEncoder};
 pub use bitcode_coder::u8_char::{U8Char, U8CharEncoder};
-pub use bitcode_columns::consume::{
+pub use bitcode_input::consume::{
     consume_byte, consume_byte_arrays, consume_bytes, expect_eof, mul_length,
 };
-pub use bitcode_columns::error::{Error, Reason};
-pub use bitcode_columns::fast::{
+pub use bitcode_input::error::{Error, Reason};
+pub use bitcode_input::fast::{
     CowSlice, FastSlice, FastVec, NextUnchecked, PushUnchecked, SliceImpl, VecImpl,
 };
 pub use bitcode_columns::histogram::histogram;
@@ -25,7 +25,7 @@ pub use bitcode_columns::pack::{
     unpack_bytes_less_than,
 };
 pub use bitcode_columns::pack_ints::{minmax, pack_ints, unpack_ints};
-pub use bitcode_columns::refuse::{err, error};
+pub use bitcode_input::refuse::{err, error};
 pub use bitcode_containers::array::{ArrayDecoder, ArrayEncoder};
 pub use bitcode_containers::deref::{DerefEncoder, Points};
 pub use bitcode_containers::elements::{encode_each, encode_lent};

@@ -1,6 +1,6 @@
 // Bytes of texts, and their coder.
 ghost use Rattle.std.specs.Prelude.{◌≡◌, ◌++◌, map, pos, true, refl, OnOk};
-ghost use Rattle.bitcode_columns.specs.Fast.{fast_items, fast_room};
+ghost use Rattle.bitcode_input.specs.Fast.{fast_items, fast_room};
 ghost use Rattle.bitcode_shapes.specs.Shape.{raw_shape};
 ghost use Rattle.bitcode_shapes.specs.Values.{ListsNumber, SameNumber};
 ghost use Rattle.bitcode_coder.specs.Columns.{raws, one};
@@ -8,8 +8,8 @@ ghost use Rattle.bitcode_coder.specs.RawBytes.{IsRawByte, raw_lawful};
 ghost use Rattle.bitcode_coder.specs.Spelling.{natural};
 
 use crate::coder::{Buffer, Encoder};
-use bitcode_columns::error::Error;
-use bitcode_columns::fast::{FastVec, PushUnchecked};
+use bitcode_input::error::Error;
+use bitcode_input::fast::{FastVec, PushUnchecked};
 use bitcode_shapes::shaped::Shaped;
 use std::alloc::Global;
 

@@ -5,7 +5,7 @@ use Rattle.std.proofs.lemmas.Bool.{cond-false, le-ltb, ne_eqb, eqb-true}
 use Rattle.std.proofs.lemmas.List.{drop_at, get_or_append_left, length-map, nil_from_length, take_all}
 use Rattle.std.proofs.lemmas.List.Elements.{All-head, All-tail, All-map}
 use Rattle.std.specs.Simd.{first_chunks}
-use Rattle.bitcode_columns.specs.declared.error.Reason.{Reason}
+use Rattle.bitcode_input.specs.declared.error.Reason.{Reason}
 use Rattle.bitcode_columns.specs.declared.pack.Base.TheVariants.{Whole}
 use Rattle.bitcode_columns.specs.ByteColumn.{SpellsBytes, base_at_level}
 use Rattle.bitcode_columns.specs.ByteForm.{TellsForm}

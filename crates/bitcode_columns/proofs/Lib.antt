@@ -5,7 +5,6 @@ pub mod RawLemmas
 pub mod TaggedLemmas
 pub mod ByteLemmas
 pub mod IntLemmas
-pub mod ChunkLemmas
 pub mod UnalignedLemmas
 pub mod PackingLemmas
 pub mod ReadingLemmas

@@ -3,8 +3,8 @@ use Rattle.std.proofs.Common.{◌≡◌, ℕ, zero, suc, ◌+◌, ◌*◌, ◌/�
 use Rattle.std.proofs.lemmas.List.Elements.{All-head, All-tail}
 use Rattle.std.proofs.lemmas.Option.{cond_some}
 use Rattle.std.proofs.lemmas.Bool.{ltb-true}
-use Rattle.bitcode_columns.specs.declared.error.Reason.{Reason}
-use Rattle.bitcode_columns.specs.declared.error.Reason.TheVariants.{Eof}
+use Rattle.bitcode_input.specs.declared.error.Reason.{Reason}
+use Rattle.bitcode_input.specs.declared.error.Reason.TheVariants.{Eof}
 use Rattle.bitcode_columns.specs.LittleEndian.{little_endian, number_bytes, raw_text, SpellsRaw}
 use Rattle.bitcode_columns.specs.Reading.{missing}
 use Rattle.bitcode_columns.specs.Laws.{IsReadOnce, TakesAnEighth, IsFaultOf}

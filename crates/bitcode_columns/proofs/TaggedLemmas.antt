@@ -5,7 +5,7 @@ use Rattle.std.proofs.lemmas.Bool.{true≢false, le-ltb, ltb-true, and_parts, co
 use Rattle.std.proofs.lemmas.Int.{ints, fold-int_min_reached, fold-int_max_reached}
 use Rattle.std.proofs.lemmas.List.{length-map, drop_at}
 use Rattle.std.proofs.lemmas.List.Elements.{All-head, All-tail, All-contains, All-map}
-use Rattle.bitcode_columns.specs.declared.error.Reason.{Reason}
+use Rattle.bitcode_input.specs.declared.error.Reason.{Reason}
 use Rattle.bitcode_columns.specs.LittleEndian.{little_endian, number_bytes}
 use Rattle.bitcode_columns.specs.Numbers.{IsNumber, residue, least, greatest}
 use Rattle.bitcode_columns.specs.Tagged.{level_of_tag, SpellsTagged, plain_level, shifted_level, is_shifted, plain_text, shifted_text, tagged_text}

@@ -1,6 +1,6 @@
 -- The laws that every kind of column keeps, each over what the kind accepts.
 use Rattle.std.specs.Prelude.{◌≡◌, ℕ, ◌+◌, ◌*◌, ◌≤◌, List, [], ◌++◌, length, Option, Some, map, All, Bool, ℤ}
-use Rattle.bitcode_columns.specs.declared.error.Reason.{Reason}
+use Rattle.bitcode_input.specs.declared.error.Reason.{Reason}
 use Rattle.bitcode_columns.specs.Numbers.{IsNumber, residue, number_of}
 use Rattle.bitcode_columns.specs.Reading.{Reads}
 

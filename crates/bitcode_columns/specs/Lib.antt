@@ -1,6 +1,3 @@
-pub mod Fast
-pub mod Lending
-pub mod Reasons
 pub mod LittleEndian
 pub mod Numbers
 pub mod NumberRange

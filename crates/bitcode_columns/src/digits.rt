@@ -7,10 +7,10 @@ ghost use Rattle.bitcode_columns.specs.Digits.{radix, digits_in_byte, digit, num
 ghost use Rattle.bitcode_columns.specs.Numbers.{residue};
 ghost use Rattle.bitcode_columns.specs.Reading.{Reads, IsEndOf, Names, digits_fault};
 
-use crate::consume::consume_bytes;
-use crate::error::{Error, Reason};
 use crate::int_types::Byte;
 use crate::pack::Base;
+use bitcode_input::consume::consume_bytes;
+use bitcode_input::error::{Error, Reason};
 use std::alloc::{AllocError, Global};
 
 /// An entry that can stand as a digit of a byte.

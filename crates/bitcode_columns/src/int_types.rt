@@ -5,8 +5,8 @@ ghost use Rattle.bitcode_columns.specs.LittleEndian.{little_endian, number_bytes
 ghost use Rattle.bitcode_columns.specs.NumberRange.{least_number, greatest_number};
 ghost use Rattle.bitcode_columns.specs.Numbers.{IsNumber, residue, number_of};
 
-use crate::consume::consume_byte_arrays;
-use crate::error::{Error, Reason};
+use bitcode_input::consume::consume_byte_arrays;
+use bitcode_input::error::{Error, Reason};
 
 mod signed;
 mod sizes;

@@ -3,10 +3,10 @@ ghost use Rattle.std.specs.Prelude.{◌≡◌, ◌<◌, [], ◌++◌, length, ma
 ghost use Rattle.bitcode_columns.specs.IntColumn.{int_text};
 ghost use Rattle.bitcode_columns.specs.Numbers.{least, greatest};
 
-use crate::error::{Error, Reason};
 use crate::int_types::{Int, SizedInt};
 use crate::pack_ints::append::append_ints;
 use crate::pack_ints::bounds::bounds;
+use bitcode_input::error::{Error, Reason};
 use std::alloc::Global;
 
 mod append;

@@ -10,9 +10,9 @@ ghost use Rattle.bitcode_containers.specs.ArrayLaws.{arrays_of_shape, arrays_pas
 
 use crate::elements::{decode_each, encode_each};
 use bitcode_coder::coder::{Buffer, Decoder, Encoder, View};
-use bitcode_columns::consume::mul_length;
-use bitcode_columns::error::{Error, Reason};
-use bitcode_columns::refuse::err;
+use bitcode_input::consume::mul_length;
+use bitcode_input::error::{Error, Reason};
+use bitcode_input::refuse::err;
 use bitcode_shapes::shaped::{Made, Shaped};
 use std::alloc::Global;
 

@@ -6,7 +6,7 @@ ghost use Rattle.bitcode_coder.specs.Columns.{lengths, one, two};
 
 use crate::vec::VecEncoder;
 use bitcode_coder::coder::{Buffer, Encoder};
-use bitcode_columns::error::Error;
+use bitcode_input::error::Error;
 use bitcode_shapes::shaped::Shaped;
 use std::alloc::Global;
 use std::boxed::BoxedSlice;

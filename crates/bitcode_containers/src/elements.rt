@@ -1,13 +1,13 @@
 // The elements of sequences, written and read one by one, front to back.
 ghost use Rattle.std.specs.Prelude.{◌≡◌, ◌+◌, ◌≤◌, length, All, IsOk, IfOk, OnOk, IfErr};
-ghost use Rattle.bitcode_columns.specs.declared.error.Reason.{Reason};
+ghost use Rattle.bitcode_input.specs.declared.error.Reason.{Reason};
 ghost use Rattle.bitcode_coder.specs.Columns.{emptied};
 ghost use Rattle.bitcode_coder.specs.Coding.{JoinsEach, PassesWithEach, IsWritingRefusal};
 ghost use Rattle.bitcode_containers.specs.Elements.{TakesEach};
 
 use crate::lends::Lends;
 use bitcode_coder::coder::{Decoder, Encoder};
-use bitcode_columns::error::{Error, Reason};
+use bitcode_input::error::{Error, Reason};
 use bitcode_shapes::sequences::told_each;
 use bitcode_shapes::shaped::{Made, Shaped};
 use std::alloc::Global;

@@ -12,8 +12,8 @@ ghost use Rattle.bitcode_containers.specs.Sequences.{lists_of, BreaksLimit, Elem
 use arrayvec::ArrayVec;
 use bitcode_coder::coder::{Decoder, View};
 use bitcode_coder::length::LengthDecoder;
-use bitcode_columns::error::{Error, Reason};
-use bitcode_columns::refuse::err;
+use bitcode_input::error::{Error, Reason};
+use bitcode_input::refuse::err;
 use bitcode_shapes::shaped::Made;
 use std::alloc::Global;
 use std::default::Default;

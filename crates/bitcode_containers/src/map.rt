@@ -14,7 +14,7 @@ use crate::mappings::Mapping;
 use crate::vec::VecDecoder;
 use bitcode_coder::coder::{Buffer, Decoder, Encoder, View};
 use bitcode_coder::length::LengthEncoder;
-use bitcode_columns::error::Error;
+use bitcode_input::error::Error;
 use bitcode_shapes::keys::Key;
 use bitcode_shapes::shaped::Made;
 use std::alloc::Global;

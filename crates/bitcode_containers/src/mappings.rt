@@ -13,7 +13,7 @@ ghost use Rattle.bitcode_containers.specs.Elements.{MakesOfElements};
 use crate::elements::encode_lent;
 use crate::sequences::FromElements;
 use bitcode_coder::coder::Encoder;
-use bitcode_columns::error::{Error, Reason};
+use bitcode_input::error::{Error, Reason};
 use bitcode_shapes::keys::Key;
 use bitcode_shapes::sequences::told_each;
 use bitcode_shapes::shaped::{Made, Shaped};

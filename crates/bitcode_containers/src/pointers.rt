@@ -3,7 +3,7 @@ ghost use Rattle.std.specs.Prelude.{refl, true, false};
 
 use crate::deref::Points;
 use crate::from::FromValue;
-use bitcode_columns::error::Error;
+use bitcode_input::error::Error;
 use bitcode_shapes::shaped::{Made, Shaped};
 use std::alloc::Global;
 use std::boxed::BoxedSlice;

@@ -16,7 +16,7 @@ use crate::elements::decode_each;
 use crate::sequences::{FromElements, Sequence};
 use bitcode_coder::coder::{Buffer, Decoder, Encoder, View};
 use bitcode_coder::length::{LengthDecoder, LengthEncoder};
-use bitcode_columns::error::{Error, Reason};
+use bitcode_input::error::{Error, Reason};
 use bitcode_shapes::keys::Key;
 use bitcode_shapes::shaped::Made;
 use std::alloc::Global;

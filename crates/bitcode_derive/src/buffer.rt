@@ -7,7 +7,7 @@ ghost use Rattle.bitcode_derive.specs.Whole.{IsEncodingOf, HasLongListing, IsDec
 use crate::derive::{Decode, Encode};
 use crate::whole;
 use bitcode_coder::coder::{Buffer as _, Encoder};
-use bitcode_columns::error::{Error, Reason};
+use bitcode_input::error::{Error, Reason};
 use std::alloc::Global;
 
 /// Writes values of one type, one after the other, into memory that it keeps.

@@ -8,7 +8,7 @@ ghost use Rattle.bitcode_derive.specs.Whole.{columns_of_one, IsEncodingOf, HasLo
 
 use crate::derive::{Decode, Encode};
 use crate::whole;
-use bitcode_columns::error::{Error, Reason};
+use bitcode_input::error::{Error, Reason};
 use bitcode_shapes::shaped::{Made, Shaped};
 use std::alloc::Global;
 

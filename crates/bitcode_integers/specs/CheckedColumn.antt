@@ -2,8 +2,8 @@
 use Rattle.std.specs.Prelude.{◌≡◌, ℕ, zero, suc, Bool, true, false, ◌&&◌, ℤ, pos, negsuc, List, [], ◌∷◌, map, All, if◌then◌else◌}
 use Rattle.std.specs.Int.Signed.{le_z}
 use lib.Utf8.{scalar as is_scalar}
-use Rattle.bitcode_columns.specs.declared.error.Reason.{Reason}
-use Rattle.bitcode_columns.specs.declared.error.Reason.TheVariants.{InvalidBitPattern}
+use Rattle.bitcode_input.specs.declared.error.Reason.{Reason}
+use Rattle.bitcode_input.specs.declared.error.Reason.TheVariants.{InvalidBitPattern}
 use Rattle.bitcode_columns.specs.IntColumn.{SpellsInts}
 use Rattle.bitcode_columns.specs.LittleEndian.{little_endian}
 use Rattle.bitcode_columns.specs.Numbers.{number_of}

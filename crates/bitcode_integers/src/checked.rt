@@ -1,7 +1,7 @@
 // Integers of which not all are allowed: what they stand for, and the coder that reads them.
 ghost use Rattle.std.specs.Prelude.{◌≡◌, ◌≢◌, [], true, All, MatchBool, MatchOption, IfOk, OnOk, IfErr, OnErr, IsTrue};
 ghost use Rattle.std.proofs.Common.{sym};
-ghost use Rattle.bitcode_columns.specs.Fast.{cow_rest};
+ghost use Rattle.bitcode_input.specs.Fast.{cow_rest};
 ghost use Rattle.bitcode_columns.specs.LittleEndian.{little_endian};
 ghost use Rattle.bitcode_columns.specs.Numbers.{number_of};
 ghost use Rattle.bitcode_columns.specs.Reading.{Reads, IsEndOf, ints_stand_raw};
@@ -14,9 +14,9 @@ ghost use Rattle.bitcode_coder.specs.Spelling.{Spells};
 pub use crate::checked::nanosecond::Nanosecond;
 use crate::column_int::ColumnInt;
 use bitcode_coder::coder::{Decoder, View};
-use bitcode_columns::error::{Error, Reason};
-use bitcode_columns::fast::CowSlice;
-use bitcode_columns::refuse::err;
+use bitcode_input::error::{Error, Reason};
+use bitcode_input::fast::CowSlice;
+use bitcode_input::refuse::err;
 use bitcode_shapes::shaped::Made;
 use std::alloc::Global;
 use std::marker::PhantomData;

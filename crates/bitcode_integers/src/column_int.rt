@@ -1,13 +1,13 @@
 // The integers, as the coders of their columns take them.
 ghost use Rattle.std.specs.Prelude.{◌≡◌, ◌≢◌, ℕ, ◌^◌, ◌<◌, ◌++◌, ℤ, Bool, List, map, All, IsTrue, pos, true, false, refl, OnOk, IfErr, OnErr};
-ghost use Rattle.bitcode_columns.specs.Fast.{cow_rest};
+ghost use Rattle.bitcode_input.specs.Fast.{cow_rest};
 ghost use Rattle.bitcode_columns.specs.IntColumn.{IsWidth, SpellsInts, int_text};
 ghost use Rattle.bitcode_columns.specs.LittleEndian.{little_endian};
 ghost use Rattle.bitcode_columns.specs.Numbers.{number_of};
 ghost use Rattle.bitcode_columns.specs.Reading.{Reads, IsEndOf, Names, ints_fault, ints_stand_raw};
 
-use bitcode_columns::error::{Error, Reason};
-use bitcode_columns::fast::CowSlice;
+use bitcode_input::error::{Error, Reason};
+use bitcode_input::fast::CowSlice;
 use bitcode_columns::int_types::Int;
 use bitcode_columns::pack_ints::{pack_ints, unpack_ints};
 use std::alloc::Global;

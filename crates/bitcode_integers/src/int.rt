@@ -3,7 +3,7 @@
 
 ghost use Rattle.std.specs.Prelude.{◌≡◌, ◌≢◌, ◌<◌, ◌≤◌, ◌++◌, List, [], All, true, refl, IsTrue, IsOk, IfOk, OnOk, IfErr, OnErr};
 ghost use Rattle.std.proofs.Common.{sym, ap};
-ghost use Rattle.bitcode_columns.specs.Fast.{fast_items, fast_room, cow_rest};
+ghost use Rattle.bitcode_input.specs.Fast.{fast_items, fast_room, cow_rest};
 ghost use Rattle.bitcode_columns.specs.Reading.{Reads, IsEndOf, Names, ints_fault, ints_stand_raw};
 ghost use Rattle.bitcode_shapes.specs.Datum.{Datum, number};
 ghost use Rattle.bitcode_shapes.specs.Shape.{Shape};
@@ -15,8 +15,8 @@ ghost use Rattle.bitcode_coder.specs.Coding.{IsReadingRefusal, written_columns};
 
 use crate::column_int::ColumnInt;
 use bitcode_coder::coder::{Buffer, Decoder, Encoder, View};
-use bitcode_columns::error::{Error, Reason};
-use bitcode_columns::fast::{CowSlice, FastVec, PushUnchecked};
+use bitcode_input::error::{Error, Reason};
+use bitcode_input::fast::{CowSlice, FastVec, PushUnchecked};
 use bitcode_shapes::shaped::{Made, Shaped};
 use std::alloc::Global;
 

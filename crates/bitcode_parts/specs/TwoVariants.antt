@@ -1,6 +1,6 @@
 -- Reading the choices of two variants: which fault is first, and when no memory is taken.
 use Rattle.std.specs.Prelude.{ℕ, List, IsTrue, ◌⊎◌}
-use Rattle.bitcode_columns.specs.declared.error.Reason.{Reason}
+use Rattle.bitcode_input.specs.declared.error.Reason.{Reason}
 use Rattle.bitcode_columns.specs.Counts.{count_of}
 use Rattle.bitcode_columns.specs.Reading.{Reads, NamesVariantFault, variants_stand_raw}
 use Rattle.bitcode_columns.specs.VariantColumn.{SpellsVariants}

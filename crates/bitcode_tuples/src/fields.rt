@@ -5,7 +5,7 @@ ghost use Rattle.bitcode_coder.specs.Coding.{JoinsListing, PassesWithListing, Is
 
 use crate::encoder::TupleEncoder;
 use bitcode_coder::coder::{Buffer, Encoder};
-use bitcode_columns::error::Error;
+use bitcode_input::error::Error;
 use bitcode_shapes::shaped::Shaped;
 
 pub mod few;

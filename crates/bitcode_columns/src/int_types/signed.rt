@@ -2,8 +2,8 @@
 ghost use Rattle.std.specs.Prelude.{◌-◌, ◌/◌, ◌^◌, pos, negsuc, true, refl};
 ghost use Rattle.std.proofs.Common.{inl, inr};
 
-use crate::error::Error;
 use crate::int_types::{Byte, Int, SizedInt, consume_numbers};
+use bitcode_input::error::Error;
 
 impl Int for i8 {
     type Une = [u8; 1];

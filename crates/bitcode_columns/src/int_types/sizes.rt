@@ -2,8 +2,8 @@
 ghost use Rattle.std.specs.Prelude.{pos, true, false, refl};
 ghost use Rattle.std.proofs.Common.{inl, inr};
 
-use crate::error::Error;
 use crate::int_types::{Int, consume_numbers};
+use bitcode_input::error::Error;
 
 impl Int for usize {
     type Une = [u8; 8];

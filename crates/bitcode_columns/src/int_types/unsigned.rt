@@ -2,9 +2,9 @@
 ghost use Rattle.std.specs.Prelude.{◌-◌, ◌^◌, pos, false, refl};
 ghost use Rattle.std.proofs.Common.{inl, inr};
 
-use crate::consume::consume_byte;
-use crate::error::Error;
 use crate::int_types::{Byte, Int, SizedInt, SizedUInt, consume_array, consume_numbers};
+use bitcode_input::consume::consume_byte;
+use bitcode_input::error::Error;
 
 impl SizedUInt for u8 {
     ghost width = { 1 };

@@ -2,8 +2,8 @@
 ghost use Rattle.std.specs.Prelude.{◌-◌, ◌/◌, ◌^◌, pos, negsuc, true, false, refl};
 ghost use Rattle.std.proofs.Common.{inr};
 
-use crate::error::Error;
 use crate::int_types::{Int, SizedInt, SizedUInt, consume_array, consume_numbers};
+use bitcode_input::error::Error;
 
 impl SizedUInt for u128 {
     ghost width = { 16 };

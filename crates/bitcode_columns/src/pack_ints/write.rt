@@ -6,9 +6,9 @@ ghost use Rattle.bitcode_columns.specs.LittleEndian.{raw_text};
 ghost use Rattle.bitcode_columns.specs.Narrowing.{above, IsFrontOf};
 ghost use Rattle.bitcode_columns.specs.Numbers.{IsNumber, number_of};
 
-use crate::error::{Error, Reason};
 use crate::int_types::{Byte, Int, SizedUInt};
 use crate::pack::pack_bytes;
+use bitcode_input::error::{Error, Reason};
 use std::alloc::Global;
 
 // Appends how far each entry lies above a base, in the bytes of a narrow type.

@@ -3,8 +3,8 @@ ghost use Rattle.std.specs.Prelude.{pos, false, refl};
 ghost use Rattle.std.proofs.Common.{inl, inr};
 
 use crate::column_int::ColumnInt;
-use bitcode_columns::error::Error;
-use bitcode_columns::fast::CowSlice;
+use bitcode_input::error::Error;
+use bitcode_input::fast::CowSlice;
 use bitcode_columns::int_types::Int;
 use bitcode_columns::pack_ints::{pack_ints, unpack_ints};
 use std::alloc::Global;

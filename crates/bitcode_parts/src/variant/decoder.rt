@@ -6,9 +6,9 @@ ghost use Rattle.bitcode_columns.specs.Counts.{AreCounts};
 ghost use Rattle.bitcode_columns.specs.Reading.{Reads, IsEndOf, NamesVariantFault, variants_stand_raw};
 ghost use Rattle.bitcode_columns.specs.VariantColumn.{SpellsVariants};
 
-use bitcode_columns::error::{Error, Reason};
-use bitcode_columns::fast::CowSlice;
 use bitcode_columns::pack::unpack_bytes_less_than;
+use bitcode_input::error::{Error, Reason};
+use bitcode_input::fast::CowSlice;
 use std::alloc::Global;
 
 /// The column that the variants of an enum are read from, where it has `N` of them, 2 to 256.

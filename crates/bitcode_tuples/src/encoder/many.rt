@@ -6,7 +6,7 @@ use crate::fields::FieldsEncoder;
 use crate::fields::few::{FieldsEncoder4, FieldsEncoder5};
 use crate::fields::several::{FieldsEncoder6, FieldsEncoder7, FieldsEncoder8};
 use bitcode_coder::coder::Encoder;
-use bitcode_columns::error::Error;
+use bitcode_input::error::Error;
 use bitcode_shapes::shaped::Shaped;
 
 impl<

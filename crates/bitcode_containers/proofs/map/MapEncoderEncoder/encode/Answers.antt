@@ -3,7 +3,7 @@ use Rattle.std.proofs.Common.{◌∙◌, sym, length, subst}
 use Rattle.std.specs.Map.{keys_of, values_of}
 use Rattle.std.proofs.lemmas.List.{length-map}
 use Rattle.std.proofs.lemmas.Result.{err_from_is_err_and, on_ok_weaker}
-use Rattle.bitcode_columns.specs.declared.error.Error.{Error}
+use Rattle.bitcode_input.specs.declared.error.Error.{Error}
 use Rattle.bitcode_shapes.specs.BuiltMaps.{keys_are, values_are}
 use Rattle.bitcode_shapes.specs.LawfulSequences.{each_listed}
 use Rattle.bitcode_coder.specs.LengthCoders.{written_lengths}

@@ -1,7 +1,7 @@
 -- The column is read, and then its entries are looked at.
 use Rattle.std.proofs.Common.{All, map, refl, subst}
 use Rattle.std.proofs.lemmas.Result.{err_from_is_err_and}
-use Rattle.bitcode_columns.specs.Fast.{cow_rest}
+use Rattle.bitcode_input.specs.Fast.{cow_rest}
 use Rattle.bitcode_columns.specs.LittleEndian.{little_endian}
 use Rattle.bitcode_columns.specs.Numbers.{number_of}
 use Rattle.bitcode_shapes.specs.Shape.{IsAllowed}

@@ -1,7 +1,7 @@
 -- The numbers of the column are those of the integers.
 use Rattle.std.proofs.Common.{ap, sym, ◌∙◌, ◌++◌, map}
 use Rattle.bitcode_columns.specs.IntColumn.{int_text}
-use Rattle.bitcode_columns.specs.Fast.{fast_items}
+use Rattle.bitcode_input.specs.Fast.{fast_items}
 use Rattle.bitcode_coder.proofs.CoderLemmas.{numbers_in}
 use Rattle.bitcode_integers.proofs.int.IntEncoderBuffer.collect_into.Goals as goal
 

@@ -1,5 +1,5 @@
 -- The listing of a value joins its column.
-use Rattle.bitcode_columns.specs.Fast.{fast_items}
+use Rattle.bitcode_input.specs.Fast.{fast_items}
 use Rattle.bitcode_shapes.specs.Datum.{number}
 use Rattle.bitcode_coder.specs.Columns.{ints}
 use Rattle.bitcode_coder.proofs.CoderLemmas.{joins_entry}

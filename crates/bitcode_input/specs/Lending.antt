@@ -4,11 +4,11 @@ use Rattle.std.specs.Borrow.{Lends, follows_so, Fml, MutBor, RattleType, Array}
 use Rattle.std.specs.Vec.{with_items}
 use mathlib.Core.Option.{none}
 use mir.Syntax.{named}
-use Rattle.bitcode_columns.specs.declared.fast.FastVec.{FastVec}
-use Rattle.bitcode_columns.specs.declared.fast.CowSlice.{CowSlice}
-use Rattle.bitcode_columns.specs.contracts.fast.FastVec.{the_row as fast_row}
-use Rattle.bitcode_columns.specs.contracts.fast.CowSlice.{the_row as cow_row}
-use Rattle.bitcode_columns.specs.Fast.{cow_rest}
+use Rattle.bitcode_input.specs.declared.fast.FastVec.{FastVec}
+use Rattle.bitcode_input.specs.declared.fast.CowSlice.{CowSlice}
+use Rattle.bitcode_input.specs.contracts.fast.FastVec.{the_row as fast_row}
+use Rattle.bitcode_input.specs.contracts.fast.CowSlice.{the_row as cow_row}
+use Rattle.bitcode_input.specs.Fast.{cow_rest}
 
 -- v with these items in place of its own, as many
 unfoldable pub with_fast_items : {T : Type 0} → FastVec T → List T → FastVec T

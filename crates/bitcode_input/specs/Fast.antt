@@ -1,10 +1,10 @@
 -- Lists with reserved room, and lists that are read from the front.
 use Rattle.std.specs.Prelude.{ℕ, ◌-◌, List, drop, vec_len, vec_capacity}
-use Rattle.bitcode_columns.specs.declared.fast.FastVec.{FastVec}
-use Rattle.bitcode_columns.specs.declared.fast.FastSlice.{FastSlice}
-use Rattle.bitcode_columns.specs.declared.fast.CowSlice.{CowSlice}
-use Rattle.bitcode_columns.specs.declared.fast.Held.{Held}
-use Rattle.bitcode_columns.specs.declared.fast.Held.TheVariants.{Borrowed, Owned}
+use Rattle.bitcode_input.specs.declared.fast.FastVec.{FastVec}
+use Rattle.bitcode_input.specs.declared.fast.FastSlice.{FastSlice}
+use Rattle.bitcode_input.specs.declared.fast.CowSlice.{CowSlice}
+use Rattle.bitcode_input.specs.declared.fast.Held.{Held}
+use Rattle.bitcode_input.specs.declared.fast.Held.TheVariants.{Borrowed, Owned}
 
 module _ {T : Type 0} where
   -- the items that were pushed

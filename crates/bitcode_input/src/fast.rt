@@ -3,8 +3,8 @@
 
 ghost use Rattle.std.specs.Prelude.{◌≡◌, ℕ, ◌+◌, ◌<◌, ◌≤◌, List, [], ◌∷◌, ◌++◌, length, take, drop, vec_len, IsOk, IfOk, OnOk, IfErr, OnErr};
 ghost use Rattle.std.specs.Borrow.{sem};
-ghost use Rattle.bitcode_columns.specs.Fast.{fast_items, fast_room, slice_rest, held_items, cow_rest};
-ghost use Rattle.bitcode_columns.specs.Lending.{with_fast_items, LendsItems, EndsBehind};
+ghost use Rattle.bitcode_input.specs.Fast.{fast_items, fast_room, slice_rest, held_items, cow_rest};
+ghost use Rattle.bitcode_input.specs.Lending.{with_fast_items, LendsItems, EndsBehind};
 
 use crate::error::{Error, Reason};
 use std::alloc::Global;

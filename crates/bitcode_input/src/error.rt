@@ -1,6 +1,6 @@
 // Why a call refuses.
 ghost use Rattle.std.specs.Prelude.{◌≡◌, ◌++◌, Some, codes};
-ghost use Rattle.bitcode_columns.specs.Reasons.{reason_text};
+ghost use Rattle.bitcode_input.specs.Reasons.{reason_text};
 
 use std::alloc::{AllocError, AllocFailed};
 use std::fmt;
@@ -112,7 +112,7 @@ impl fmt::Debug for Error {
 impl std::error::Error for Error {}
 
 impl From<AllocError> for Error {
-    ghost use Rattle.bitcode_columns.specs.declared.error.Reason.TheVariants.{OutOfMemory};
+    ghost use Rattle.bitcode_input.specs.declared.error.Reason.TheVariants.{OutOfMemory};
 
     ghost from_gives = { λ _ e. e.reason ≡ OutOfMemory };
 
@@ -124,7 +124,7 @@ impl From<AllocError> for Error {
 }
 
 impl<T: Drop> From<AllocFailed<T>> for Error {
-    ghost use Rattle.bitcode_columns.specs.declared.error.Reason.TheVariants.{OutOfMemory};
+    ghost use Rattle.bitcode_input.specs.declared.error.Reason.TheVariants.{OutOfMemory};
 
     ghost from_gives = { λ _ e. e.reason ≡ OutOfMemory };
 

@@ -1,7 +1,7 @@
 -- The text of each reason, as an error prints it.
 use Rattle.std.specs.Prelude.{ℕ, List, codes}
-use Rattle.bitcode_columns.specs.declared.error.Reason.{Reason}
-use Rattle.bitcode_columns.specs.declared.error.Reason.TheVariants.{Eof, ExpectedEof, InvalidPacking, LengthOverflow, HugeLength, InvalidUtf8, InvalidBitPattern, InvalidArrayVec, InvalidArrayString, InvalidEnumVariant, InvalidOption, InvalidChar, TooManyZeroSizedTypes, TooManyVariants, NotOfTheShape, NestedTooDeep, OutOfMemory, BadShape}
+use Rattle.bitcode_input.specs.declared.error.Reason.{Reason}
+use Rattle.bitcode_input.specs.declared.error.Reason.TheVariants.{Eof, ExpectedEof, InvalidPacking, LengthOverflow, HugeLength, InvalidUtf8, InvalidBitPattern, InvalidArrayVec, InvalidArrayString, InvalidEnumVariant, InvalidOption, InvalidChar, TooManyZeroSizedTypes, TooManyVariants, NotOfTheShape, NestedTooDeep, OutOfMemory, BadShape}
 
 abbrev pub reason_text : Reason → List ℕ
 reason_text Eof = codes "EOF"

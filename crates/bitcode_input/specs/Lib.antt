@@ -1,0 +1,3 @@
+pub mod Fast
+pub mod Lending
+pub mod Reasons
