@@ -11,13 +11,6 @@ pub use bitcode_coder::coder::{Decoder, Encoder, MAX_VECTORED_CHUNK, View};
 pub use bitcode_coder::length::{Len, LengthDecoder, LengthEncoder};
 pub use bitcode_coder::str::{ArrayStringDecoder, AsText, StrDecoder, StrEncoder};
 pub use bitcode_coder::u8_char::{U8Char, U8CharEncoder};
-pub use bitcode_input::consume::{
-    consume_byte, consume_byte_arrays, consume_bytes, expect_eof, mul_length,
-};
-pub use bitcode_input::error::{Error, Reason};
-pub use bitcode_input::fast::{
-    CowSlice, FastSlice, FastVec, NextUnchecked, PushUnchecked, SliceImpl, VecImpl,
-};
 pub use bitcode_columns::histogram::histogram;
 pub use bitcode_columns::int_types::{Byte, Int, SizedInt, SizedUInt};
 pub use bitcode_columns::pack::{
@@ -25,7 +18,6 @@ pub use bitcode_columns::pack::{
     unpack_bytes_less_than,
 };
 pub use bitcode_columns::pack_ints::{minmax, pack_ints, unpack_ints};
-pub use bitcode_input::refuse::{err, error};
 pub use bitcode_containers::array::{ArrayDecoder, ArrayEncoder};
 pub use bitcode_containers::deref::{DerefEncoder, Points};
 pub use bitcode_containers::elements::{encode_each, encode_lent};
@@ -39,6 +31,14 @@ pub use bitcode_containers::vec::{VecDecoder, VecEncoder};
 pub use bitcode_derive::buffer::Buffer;
 pub use bitcode_derive::derive::{Decode, DecodeOwned, Encode};
 pub use bitcode_derive::whole::{decode, encode, invalid_enum_variant};
+pub use bitcode_input::consume::{
+    consume_byte, consume_byte_arrays, consume_bytes, expect_eof, mul_length,
+};
+pub use bitcode_input::error::{Error, Reason};
+pub use bitcode_input::fast::{
+    CowSlice, FastSlice, FastVec, NextUnchecked, PushUnchecked, SliceImpl, VecImpl,
+};
+pub use bitcode_input::refuse::{err, error};
 pub use bitcode_integers::checked::{Checked, CheckedIntDecoder, Nanosecond};
 pub use bitcode_integers::column_int::ColumnInt;
 pub use bitcode_integers::int::{AsInt, IntDecoder, IntEncoder, Integer};

@@ -6,10 +6,10 @@ ghost use Rattle.bitcode_columns.specs.LittleEndian.{little_endian};
 ghost use Rattle.bitcode_columns.specs.Numbers.{number_of};
 ghost use Rattle.bitcode_columns.specs.Reading.{Reads, IsEndOf, Names, ints_fault, ints_stand_raw};
 
-use bitcode_input::error::{Error, Reason};
-use bitcode_input::fast::CowSlice;
 use bitcode_columns::int_types::Int;
 use bitcode_columns::pack_ints::{pack_ints, unpack_ints};
+use bitcode_input::error::{Error, Reason};
+use bitcode_input::fast::CowSlice;
 use std::alloc::Global;
 
 mod signed;
