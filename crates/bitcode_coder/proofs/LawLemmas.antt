@@ -1,5 +1,5 @@
 -- The laws of columns in the words of their contracts.
-use Rattle.std.proofs.Common.{◌≡◌, ℕ, ◌+◌, List, [], ◌∷◌, ◌++◌, length, refl, sym, ◌∙◌, ap, ap₂, subst, length-append, arith}
+use Rattle.std.proofs.Common.{◌≡◌, ◌+◌, List, [], ◌∷◌, ◌++◌, length, refl, sym, ◌∙◌, ap, ap₂, subst, length-append, arith}
 use Rattle.bitcode_shapes.specs.Datum.{Datum}
 use Rattle.bitcode_shapes.specs.Shape.{Shape, IsSound}
 use Rattle.bitcode_coder.specs.Columns.{Kind, Column, Columns, no_columns, one, two, arrays, flat, beside, emptied, IsSoundKind}
@@ -55,9 +55,6 @@ column_by_column-append (x ∷ xs) (y ∷ ys) us vs same =
     ap (λ l. record { kind = x.kind; entries = x.entries ++ y.entries } ∷ l) (column_by_column-append xs ys us vs (omega arith))
 
 -- how many columns there are
-width : Columns → ℕ
-width a = length (flat a)
-
 width-emptied : (a : Columns) → length (flat (emptied a)) ≡ length (flat a)
 width-emptied no_columns = refl
 width-emptied (one kind entries) = refl

@@ -1,7 +1,7 @@
 -- The two parts of a length column, as a writer keeps them and as a reader takes them.
-use Rattle.std.proofs.Common.{◌≡◌, ◌≢◌, ℕ, suc, ◌+◌, ◌<◌, ◌≤◌, min, Bool, cond, leb, ◌==◌, pos, Option, List, [], ◌∷◌, ◌++◌, length, map, sum, refl, sym, ap, ◌∙◌, subst, arith, Result, OnOk}
+use Rattle.std.proofs.Common.{◌≡◌, ℕ, suc, ◌+◌, ◌<◌, ◌≤◌, min, Bool, leb, pos, Option, List, [], ◌∷◌, ◌++◌, length, map, sum, refl, sym, ap, ◌∙◌, subst, arith, Result, OnOk}
 use Rattle.std.specs.Prelude.{filter}
-use Rattle.std.proofs.lemmas.Bool.{cond-true, cond-false, eq-eqb, ne_eqb, le-leb, lt-leb}
+use Rattle.std.proofs.lemmas.Bool.{cond-true, cond-false, le-leb, lt-leb}
 use Rattle.std.proofs.lemmas.List.{map-id, map-append, append_assoc, append-nil}
 use Rattle.std.proofs.lemmas.List.Elements.{filter-append}
 use Rattle.std.proofs.lemmas.List.Sums.{sum_by-cons}
@@ -59,9 +59,6 @@ pushed_large short large newer_short newer_large n above split shorts larges =
     pushed short large newer_short newer_large n split (shorts ∙ ap (λ byte. short ++ byte ∷ []) (sym same))
     (larges ∙ ap (λ more. large ++ more) (sym one_large))
 
-pub nothing_split : (short large : List ℕ) → short ≡ [] → large ≡ [] → (lengths_from short large ≡ []) × IsSplit short large
-nothing_split short large no_short no_large = split_of [] short large no_short no_large
-
 pub length_text-parts : (short large : List ℕ) → IsSplit short large
     → byte_text (map pos short) ++ int_text 8 (map pos large) ≡ length_text (lengths_from short large)
 unfolding length_text
@@ -87,28 +84,6 @@ written_parts result old new short large first second split same_short same_larg
 
 pub taken_from : (old : List ℕ) (n : ℕ) (new : List ℕ) → old ≡ n ∷ new → (sum old ≡ n + sum new) × (length old ≡ suc (length new))
 taken_from old n new taken = (ap sum taken ∙ sum_by-cons (λ x. x) n new, ap length taken)
-
-abbrev counted : ℕ → ℕ
-counted byte = cond (byte == escape) 1 0
-
-pub taken_short : (old bytes large : List ℕ) (byte : ℕ) → byte ≢ escape → old ≡ byte ∷ bytes → lengths_from old large ≡ byte ∷ lengths_from bytes large
-taken_short old bytes large byte other whole =
-    ap (λ short. lengths_from short large) whole ∙ cond-false (byte == escape) _ _ (ne_eqb byte escape other)
-
-pub taken_large : (old bytes large rest : List ℕ) (byte n : ℕ) → byte ≡ escape → old ≡ byte ∷ bytes → large ≡ n ∷ rest
-    → lengths_from old large ≡ n ∷ lengths_from bytes rest
-taken_large old bytes large rest byte n same whole larges =
-    ap (λ short. lengths_from short large) (whole ∙ ap (λ first. first ∷ bytes) same) ∙ ap (lengths_from (escape ∷ bytes)) larges
-
-pub enough_short : (old bytes : List ℕ) (byte count : ℕ) → byte ≢ escape → old ≡ byte ∷ bytes → count ≡ escapes old → count ≡ escapes bytes
-enough_short old bytes byte count other whole enough =
-    let none_here : counted byte ≡ 0 = cond-false (byte == escape) 1 0 (ne_eqb byte escape other) in
-    omega (arith, ap escapes whole, sum_by-cons counted byte bytes)
-
-pub enough_large : (old bytes : List ℕ) (byte count : ℕ) → byte ≡ escape → old ≡ byte ∷ bytes → count ≡ escapes old → count ≡ suc (escapes bytes)
-enough_large old bytes byte count same whole enough =
-    let one_here : counted byte ≡ 1 = cond-true (byte == escape) 1 0 (eq-eqb byte escape same) in
-    omega (arith, ap escapes whole, sum_by-cons counted byte bytes)
 
 -- ---- refused
 

@@ -1,18 +1,16 @@
 -- A byte column is read by its form.
-use Rattle.std.proofs.Common.{◌≡◌, ◌≢◌, ℕ, ◌+◌, ◌*◌, ◌/◌, ◌%◌, ◌<◌, ◌≤◌, true, false, List, [], ◌∷◌, ◌++◌, length, map, drop, get_or, All, Option, IsTrue, inr, refl, sym, ap, ◌∙◌, arith, leb, append_assoc, length-append}
-use Rattle.std.proofs.lemmas.Bool.{cond-false, lt-leb, le-ltb}
+use Rattle.std.proofs.Common.{◌≡◌, ◌≢◌, ℕ, ◌+◌, ◌*◌, ◌/◌, ◌%◌, ◌<◌, ◌≤◌, List, [], ◌∷◌, ◌++◌, length, map, get_or, All, inr, refl, sym, ap, ◌∙◌, arith, append_assoc}
 use Rattle.std.proofs.lemmas.Bool.Decides.{nat_tests}
-use Rattle.std.proofs.lemmas.List.{drop_at, nil_from_length, length-map, map-id}
+use Rattle.std.proofs.lemmas.List.{nil_from_length, length-map, map-id}
 use Rattle.std.proofs.lemmas.List.Elements.{All-head, All-tail}
 use Rattle.std.proofs.Math.Nat.{pow-zero, div-one, mod-eq_of_lt}
-use Rattle.bitcode_input.specs.declared.error.Reason.{Reason}
 use Rattle.bitcode_columns.specs.declared.pack.Base.{Base}
 use Rattle.bitcode_columns.specs.declared.pack.Base.TheVariants.{Whole}
 use Rattle.bitcode_columns.specs.ByteColumn.{base_at_level, SpellsBytes}
 use Rattle.bitcode_columns.specs.ByteForm.{TellsForm}
 use Rattle.bitcode_columns.specs.Digits.{SpellsDigits}
 use Rattle.bitcode_columns.specs.LittleEndian.{little_endian}
-use Rattle.bitcode_columns.specs.Reading.{Reads, IsEndOf, digits_fault, bytes_fault, bytes_stand_raw}
+use Rattle.bitcode_columns.specs.Reading.{Reads, IsEndOf}
 use Rattle.bitcode_columns.specs.Tagged.{level_of_tag}
 
 pub TellsForm-plain : (tag : ℕ) (input rest : List ℕ) (base : Base) → tag ≤ 10 → tag % 2 ≢ 1 → input ≡ tag ∷ rest
@@ -62,31 +60,11 @@ add_none (b ∷ bytes) least none h =
     rw (here, add_none bytes least none (All-tail (λ x. x < 256) b bytes h))
 
 module _ (count : ℕ) (input rest : List ℕ) (base : Base) (least : ℕ) (many : 2 < count) (form : TellsForm input base least rest) where
-  pub fault_behind_form : bytes_fault count input ≡ digits_fault base count rest
-  fault_behind_form =
-      let narrow : ℕ → List ℕ → Option Reason = λ level. digits_fault (base_at_level level) count in
-      let tail = form.least_bytes ++ rest in
-      let taken : drop (1 * (form.tag % 2)) tail ≡ rest = drop_at form.least_bytes rest (1 * (form.tag % 2)) form.least_size in
-      let enough : 1 * (form.tag % 2) ≤ length tail = omega (arith, length-append form.least_bytes rest, form.least_size) in
-      ap (bytes_fault count) form.whole
-      ∙ cond-false _ _ _ (lt-leb count 2 many)
-      ∙ cond-false _ _ _ (le-ltb 10 form.tag form.known)
-      ∙ cond-false _ _ _ (le-ltb (length tail) (1 * (form.tag % 2)) enough)
-      ∙ ap (narrow (level_of_tag form.tag)) taken
-      ∙ ap (λ b. digits_fault b count rest) (sym form.base_is)
-
   pub end_behind_form : (new : List ℕ) → IsEndOf rest new → IsEndOf input new
   end_behind_form new e = record {
     taken = form.tag ∷ (form.least_bytes ++ e.taken);
     whole = form.whole ∙ ap (λ xs. form.tag ∷ xs) (ap (λ xs. form.least_bytes ++ xs) e.whole ∙ sym (append_assoc form.least_bytes e.taken new));
   }
-
-  pub raw_behind_form : IsTrue (bytes_stand_raw count input) → base ≡ Whole
-  raw_behind_form raw =
-      let is_raw : bytes_stand_raw count (form.tag ∷ (form.least_bytes ++ rest)) ≡ true = sym (ap (bytes_stand_raw count) form.whole) ∙ raw in
-      let many_is : leb count 2 ≡ false = lt-leb count 2 many in
-      let tag_is : form.tag ≡ 0 = grind (arith, nat_tests) in
-      form.base_is ∙ ap (λ tag. base_at_level (level_of_tag tag)) tag_is
 
   pub whole_least : base ≡ Whole → least ≡ 0
   whole_least is =

@@ -1,5 +1,5 @@
 -- The counts of entries add up to how many there are.
-use Rattle.std.proofs.Common.{◌≡◌, ℕ, zero, suc, ◌+◌, ◌<◌, ◌≤◌, Bool, cond, ltb, eqb, List, [], ◌∷◌, length, map, All, refl, sym, ap, subst, ◌∙◌, arith, add-one}
+use Rattle.std.proofs.Common.{◌≡◌, ℕ, zero, suc, ◌+◌, ◌<◌, Bool, cond, ltb, eqb, List, [], ◌∷◌, length, map, All, refl, sym, ap, subst, ◌∙◌, arith, add-one}
 use Rattle.std.specs.List.{count_by, range_with_len, sum, sum_by}
 use Rattle.std.proofs.lemmas.Bool.Decides.{nat_tests}
 use Rattle.std.proofs.lemmas.Bool.{lt-ltb, le-ltb, cond-true, cond-false}
@@ -7,11 +7,8 @@ use Rattle.std.proofs.lemmas.Grind.{same_number_lists}
 use Rattle.std.proofs.lemmas.List.{map-id}
 use Rattle.std.proofs.lemmas.List.Elements.{All-head, All-tail}
 use Rattle.std.proofs.lemmas.List.FromFn.{length-map-range_with_len, get_or-map-range_with_len, sum_by-map-range_with_len_more}
-use Rattle.std.proofs.lemmas.List.Sums.{count_by-le-length, sum-map, sum_by-cons}
+use Rattle.std.proofs.lemmas.List.Sums.{sum-map, sum_by-cons}
 use Rattle.bitcode_columns.specs.Counts.{AreCounts, count_of}
-
-pub count_of-le : (value : ℕ) (entries : List ℕ) → count_of value entries ≤ length entries
-count_of-le value entries = count_by-le-length (λ entry. eqb entry value) entries
 
 one : Bool → ℕ
 one b = cond b 1 0

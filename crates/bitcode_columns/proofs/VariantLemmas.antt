@@ -1,5 +1,5 @@
 -- Columns of variants are read and written as digits, and an entry that is no variant is refused.
-use Rattle.std.proofs.Common.{◌≡◌, ℕ, ◌-◌, ◌/◌, ◌%◌, ◌<◌, ◌≤◌, Bool, true, false, cond, ltb, Some, None, List, length, map, get_or, All, refl, sym, ap, ◌∙◌, inl, inr, arith, length-append}
+use Rattle.std.proofs.Common.{◌≡◌, ℕ, ◌-◌, ◌/◌, ◌%◌, ◌<◌, ◌≤◌, Bool, true, false, cond, ltb, Some, None, List, length, map, get_or, All, refl, sym, ap, ◌∙◌, inr, arith, length-append}
 use Rattle.std.proofs.Math.ListN.{get_or-append}
 use Rattle.std.specs.Int.{div_ceil}
 use Rattle.std.specs.List.{list_all, range_with_len}
@@ -10,13 +10,13 @@ use Rattle.std.proofs.lemmas.List.Folds.{list_all-map}
 use Rattle.std.proofs.lemmas.List.FromFn.{length-map-range_with_len, get_or-map-range_with_len}
 use Rattle.std.proofs.lemmas.List.Sums.{AllPass-from_list_all, list_all-from_AllPass}
 use Rattle.bitcode_input.specs.declared.error.Reason.{Reason}
-use Rattle.bitcode_input.specs.declared.error.Reason.TheVariants.{Eof, InvalidPacking}
+use Rattle.bitcode_input.specs.declared.error.Reason.TheVariants.{InvalidPacking}
 use Rattle.bitcode_columns.specs.declared.pack.Base.{Base}
 use Rattle.bitcode_columns.specs.Digits.{radix, digits_in_byte, base_for, digit, digits_text, SpellsDigits}
-use Rattle.bitcode_columns.specs.Reading.{Reads, Names, NamesVariantFault, missing, digits_fault, variants_fault}
+use Rattle.bitcode_columns.specs.Reading.{Reads, NamesVariantFault, variants_fault}
 use Rattle.bitcode_columns.specs.VariantColumn.{SpellsVariants, variant_text}
 use Rattle.bitcode_columns.specs.Laws.{IsReadOnce, TakesAnEighth, IsFaultOf}
-use Rattle.bitcode_columns.proofs.DigitLemmas.{some_digits, byte_inside, SpellsDigits-once, SpellsDigits-eighth, digits_text-spells, base_for_above, missing_short}
+use Rattle.bitcode_columns.proofs.DigitLemmas.{some_digits, byte_inside, SpellsDigits-once, SpellsDigits-eighth, digits_text-spells, base_for_above}
 
 -- ---- written
 
@@ -88,25 +88,6 @@ module _ (variants count : ℕ) (input entries rest : List ℕ) (read : Reads (S
 
   pub names_unknown : (reason : Reason) → reason ≡ InvalidPacking → are_variants variants entries ≡ false → NamesVariantFault reason variants count input
   names_unknown reason is unknown = inr (variants_fault-of_digits ∙ cond-false _ _ _ unknown ∙ ap Some (sym is))
-
-  pub reads_variants : are_variants variants entries ≡ true → Reads (SpellsVariants variants) count input entries rest
-  reads_variants all = record {
-    size = read.size;
-    piece = read.piece;
-    whole = read.whole;
-    spelled = record { digits = read.spelled; known = known_variants variants entries all };
-  }
-
--- a refusal of the digits
-pub names_of_digits : (variants count : ℕ) (input : List ℕ) (reason : Reason) → Names reason (digits_fault (base_for (variants - 1)) count input)
-    → NamesVariantFault reason variants count input
-names_of_digits variants count input reason (inl memory) = inl memory
-names_of_digits variants count input reason (inr named) =
-    let wanted = div_ceil count (digits_in_byte (base_for (variants - 1))) in
-    let short : length input < wanted = missing_short wanted input reason named in
-    let eof : missing wanted input ≡ Some Eof = cond-true _ _ _ (lt-ltb (length input) wanted short) in
-    let is : Some Eof ≡ Some reason = sym eof ∙ named in
-    inr (cond-true _ _ _ (lt-ltb (length input) wanted short) ∙ is)
 
 -- ---- laws
 

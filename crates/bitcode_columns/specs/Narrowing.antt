@@ -1,5 +1,5 @@
 -- How the writer of an integer column picks the width of its narrow numbers.
-use Rattle.std.specs.Prelude.{◌≡◌, ℕ, ◌+◌, ◌-◌, ◌%◌, ◌^◌, Bool, ℤ, pos, ◌-ℤ◌, int_lt, unsigned_abs, List, ◌++◌, nat_lt, ◌&&◌, if◌then◌else◌}
+use Rattle.std.specs.Prelude.{◌≡◌, ℕ, ◌+◌, ◌-◌, ◌%◌, ◌^◌, ℤ, pos, ◌-ℤ◌, int_lt, unsigned_abs, List, ◌++◌, if◌then◌else◌}
 use Rattle.bitcode_columns.specs.Numbers.{residue}
 use Rattle.bitcode_columns.specs.IntColumn.{width_for}
 
@@ -14,9 +14,6 @@ plain_width width low high = if int_lt low (pos 0) then width else width_for (un
 -- their width without the least one
 abbrev pub shifted_width : (low high : ℤ) → ℕ
 shifted_width low high = width_for (unsigned_abs (high -ℤ low))
-
-abbrev pub is_narrowed : (width count : ℕ) (low high : ℤ) → Bool
-is_narrowed width count low high = nat_lt 5 count && nat_lt (shifted_width low high) (plain_width width low high)
 
 -- the list begins with the front
 pub record IsFrontOf (front whole : List ℕ) : Type 0 where

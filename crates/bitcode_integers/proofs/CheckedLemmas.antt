@@ -1,8 +1,8 @@
 -- What is read of a column of integers of which not all are allowed, and why its reader refuses.
-use Rattle.std.proofs.Common.{◌≡◌, ◌≢◌, ℕ, zero, suc, ◌^◌, ◌<◌, Bool, true, false, ℤ, pos, negsuc, Option, Some, None, List, [], ◌∷◌, length, map, All, refl, sym, ap, ap₂, ⊎_elim, inl, inr, ◌∙◌, subst, arith}
+use Rattle.std.proofs.Common.{◌≡◌, ◌≢◌, ℕ, zero, suc, ◌^◌, ◌<◌, Bool, true, ℤ, pos, negsuc, Option, Some, None, List, [], ◌∷◌, length, map, All, refl, sym, ap, ap₂, inl, inr, ◌∙◌, subst, arith}
 use Rattle.std.specs.Prelude.{MatchOption, is_some, ◌&&◌, unsigned_abs}
 use Rattle.std.specs.Int.Signed.{le_z}
-use Rattle.std.proofs.lemmas.Bool.{cond-true, cond-false, cases_Bool}
+use Rattle.std.proofs.lemmas.Bool.{cond-true}
 use Rattle.std.proofs.lemmas.Int.{ints}
 use Rattle.std.proofs.lemmas.List.{length-map}
 use Rattle.std.proofs.lemmas.List.Elements.{All-map, All-head, All-tail, All-nil, All-cons}
@@ -24,23 +24,6 @@ use Rattle.bitcode_coder.proofs.LengthRefusalLemmas.{reads_once}
 
 -- ---- the test
 
-both_true : (a b : Bool) → a && b ≡ true → (a ≡ true) × (b ≡ true)
-both_true true b h = (refl, h)
-both_true false b h = absurd cc
-
-pub IsAllowed-true : (allowed : Allowed) (z : ℤ) → is_allowed allowed z ≡ true → IsAllowed allowed z
-IsAllowed-true any_number z h = tt
-IsAllowed-true nonzero (pos zero) h = absurd cc
-IsAllowed-true nonzero (pos (suc n)) h = λ e. cc
-IsAllowed-true nonzero (negsuc n) h = λ e. cc
-IsAllowed-true scalar (pos n) h = h
-IsAllowed-true scalar (negsuc n) h = absurd cc
-IsAllowed-true (between low high) z h =
-    let parts = both_true (le_z low z) (le_z z high) h in
-    let least : le_z low z ≡ true = parts.0 in
-    let most : le_z z high ≡ true = parts.1 in
-    (grind (arith, ints), grind (arith, ints))
-
 pub is_allowed-IsAllowed : (allowed : Allowed) (z : ℤ) → IsAllowed allowed z → is_allowed allowed z ≡ true
 is_allowed-IsAllowed any_number z h = refl
 is_allowed-IsAllowed nonzero (pos zero) h = absurd (h refl)
@@ -60,21 +43,6 @@ all_in_front allowed [] each = refl
 all_in_front allowed (z ∷ zs) each =
     cond-true (is_allowed allowed z) (z ∷ allowed_front allowed zs) [] (is_allowed-IsAllowed allowed z (All-head (IsAllowed allowed) z zs each))
     ∙ ap (λ more. z ∷ more) (all_in_front allowed zs (All-tail (IsAllowed allowed) z zs each))
-
--- where something is held, the first number is allowed, and is the first that is held
-pub front_taken : (allowed : Allowed) (old : List ℤ) (z : ℤ) (new : List ℤ) → old ≡ z ∷ new → 0 < length (checked_data allowed old)
-    → IsAllowed allowed z × (checked_data allowed old ≡ number z ∷ checked_data allowed new)
-front_taken allowed old z new taken some =
-    ⊎_elim
-    (λ is. (
-      IsAllowed-true allowed z is,
-      ap (checked_data allowed) taken ∙ ap (map number) (cond-true (is_allowed allowed z) (z ∷ allowed_front allowed new) [] is),
-    ))
-    (λ is_not.
-    let nothing : checked_data allowed old ≡ [] =
-    ap (checked_data allowed) taken ∙ ap (map number) (cond-false (is_allowed allowed z) (z ∷ allowed_front allowed new) [] is_not) in
-    absurd (omega (arith, ap length nothing)))
-    (cases_Bool (is_allowed allowed z))
 
 -- ---- read
 

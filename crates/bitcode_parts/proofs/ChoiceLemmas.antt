@@ -175,33 +175,3 @@ module _ (P : ℕ → Datum → Type 0) where
   choices_each [] lists h = All-nil (IsChoiceOf P)
   choices_each (variant ∷ variants) lists h =
       next_each variant variants lists h (λ left each. choices_each variants left each) (payloads_of variant lists) refl
-
--- ---- the next choice
-
--- where a choice is left, a variant is
-pub variant_left : (variants : List ℕ) (lists : List (List Datum)) → 0 < length (choices_of variants lists) → 0 < length variants
-variant_left [] lists some = some
-variant_left (variant ∷ variants) lists some = omega arith
-
--- and a payload of the variant that comes
-pub payload_left : (variant : ℕ) (variants : List ℕ) (lists : List (List Datum)) → 0 < length (choices_of (variant ∷ variants) lists)
-    → 0 < length (payloads_of variant lists)
-payload_left variant variants lists some = split (payloads_of variant lists) refl
-  where
-    split : (ds : List Datum) → payloads_of variant lists ≡ ds → 0 < length (payloads_of variant lists)
-    split [] is = absurd (omega (arith, ap length (choices_of-none variant variants lists is)))
-    split (d ∷ ds) is = omega (arith, ap length is)
-
--- the variant that comes has a list of payloads
-pub variant_there : (variant : ℕ) (variants : List ℕ) (lists : List (List Datum)) → 0 < length (choices_of (variant ∷ variants) lists)
-    → variant < length lists
-variant_there variant variants lists some =
-    let found = first_payload variant lists (payload_left variant variants lists some) in
-    list_is_there variant lists found.0 found.1.0 found.1.1
-
--- the next payload of the variant that comes was taken
-pub takes_choice : {T : Type 0} (makes : Datum → T → Type 0) (t : T) (variant : ℕ) (variants : List ℕ) (lists : List (List Datum)) (first : Datum) (rest : List Datum)
-    → payloads_of variant lists ≡ first ∷ rest → makes (choice variant first) t
-    → TakesDatum makes t (choices_of (variant ∷ variants) lists) (choices_of variants (set lists variant rest))
-takes_choice makes t variant variants lists first rest is made =
-    record { datum = choice variant first; taken = choices_of-next variant variants lists first rest is; made = made }

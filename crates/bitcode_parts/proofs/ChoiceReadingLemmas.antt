@@ -28,15 +28,6 @@ use Rattle.bitcode_parts.proofs.ChoiceLemmas.{Recovers, recovers, choices_each, 
 
 -- ---- payloads that were read
 
--- payloads without columns are there without being read
-pub reads_units : (count : ℕ) (input : List ℕ) → Reads (Spells unit_shape) count input (replicate count unit) input
-reads_units count input = record {
-  size = length-replicate count unit;
-  piece = [];
-  whole = refl;
-  spelled = record { of_shape = All-replicate (λ d. d ≡ unit) count unit refl; counts = tt; columns = refl };
-}
-
 -- as many lists as variants, and in each as many payloads as there are of the variant
 pub length-lists : (shapes : Shapes) (index : ℕ) (entries old : List ℕ) (lists : List (List Datum)) (new : List ℕ) → ReadsPayloads shapes index entries old lists new
     → length lists ≡ variant_count shapes

@@ -23,16 +23,6 @@ beside-emptied (arrays size count elements) = ap₂ (arrays size) (let e : count
 pub beside-none : (a none : Columns) → emptied a ≡ none → beside a none ≡ a
 beside-none a none is = ap (beside a) (sym is) ∙ beside-emptied a
 
-module _ (s : Shape) (ss : Shapes) (index : ℕ) where
-  -- the columns of one variant more
-  pub payloads_and : (a rest : Columns) → emptied a ≡ written_columns s [] → HasPayloads ss (suc index) rest → HasPayloads (shape_and s ss) index (two a rest)
-  payloads_and a rest first later = ap₂ two first later
-
--- the columns of the variants and those of the payloads are those of choices
-pub choice_form : (shapes : Shapes) (entries : List Datum) (rest : Columns) → HasPayloads shapes 0 rest
-    → emptied (two (one (variants (variant_count shapes)) entries) rest) ≡ written_columns (choice_shape shapes) []
-choice_form shapes entries rest h = ap (two (one (variants (variant_count shapes)) [])) h
-
 -- a choice of an earlier variant adds nothing
 none_later : (ss : Shapes) (index variant : ℕ) (d : Datum) → variant < index → payload_columns ss index (choice variant d ∷ []) ≡ payload_columns ss index []
 none_later no_shapes index variant d before = refl

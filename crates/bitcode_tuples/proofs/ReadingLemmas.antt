@@ -115,7 +115,3 @@ module _ (s t : Shape) (k : ℕ) where
   refused_second reason (Err e) old middle ds q h = refuses_second (reason e) old middle ds q h
 
 -- ---- a value that stands for another one, as a tuple for a pair
-
-pub takes_as : {T U : Type 0} {makes : Datum → U → Type 0} {a b : List Datum} (split : T → U) (t : T)
-    → TakesDatum makes (split t) a b → TakesDatum (λ d u. makes d (split u)) t a b
-takes_as split t h = record { datum = h.datum; taken = h.taken; made = h.made }
