@@ -12,7 +12,6 @@ pub use bitcode_coder::length::{Len, LengthDecoder, LengthEncoder};
 pub use bitcode_coder::str::{ArrayStringDecoder, AsText, StrDecoder, StrEncoder};
 pub use bitcode_coder::u8_char::{U8Char, U8CharEncoder};
 pub use bitcode_columns::histogram::histogram;
-pub use bitcode_columns::int_types::{Byte, Int, SizedInt, SizedUInt};
 pub use bitcode_columns::pack::{
     pack_bools, pack_bytes, pack_bytes_less_than, unpack_bools, unpack_bytes,
     unpack_bytes_less_than,
@@ -42,6 +41,7 @@ pub use bitcode_input::refuse::{err, error};
 pub use bitcode_integers::checked::{Checked, CheckedIntDecoder, Nanosecond};
 pub use bitcode_integers::column_int::ColumnInt;
 pub use bitcode_integers::int::{AsInt, IntDecoder, IntEncoder, Integer};
+pub use bitcode_numbers::int_types::{Byte, Int, SizedInt, SizedUInt};
 pub use bitcode_parts::convert::{
     ConvertFrom, ConvertFromDecoder, ConvertInto, ConvertIntoEncoder,
 };

@@ -1,11 +1,9 @@
 pub mod ListLemmas
-pub mod NumberLemmas
 pub mod DigitLemmas
 pub mod RawLemmas
 pub mod TaggedLemmas
 pub mod ByteLemmas
 pub mod IntLemmas
-pub mod UnalignedLemmas
 pub mod PackingLemmas
 pub mod ReadingLemmas
 pub mod BoolLemmas

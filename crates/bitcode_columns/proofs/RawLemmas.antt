@@ -1,40 +1,15 @@
 -- Raw numbers of one width.
-use Rattle.std.proofs.Common.{◌≡◌, ℕ, zero, suc, ◌+◌, ◌*◌, ◌/◌, ◌%◌, ◌^◌, ◌<◌, ◌≤◌, List, [], ◌∷◌, ◌++◌, length, All, refl, sym, ap, ◌∙◌, Some, arith, ltb, mul-le-mul_left, pow-suc, append_assoc, length-append}
+use Rattle.std.proofs.Common.{◌≡◌, ℕ, ◌+◌, ◌*◌, ◌^◌, ◌<◌, ◌≤◌, List, [], ◌∷◌, ◌++◌, length, All, refl, sym, ap, ◌∙◌, Some, arith, ltb, mul-le-mul_left, append_assoc, length-append}
 use Rattle.std.proofs.lemmas.List.Elements.{All-head, All-tail}
 use Rattle.std.proofs.lemmas.Option.{cond_some}
 use Rattle.std.proofs.lemmas.Bool.{ltb-true}
 use Rattle.bitcode_input.specs.declared.error.Reason.{Reason}
 use Rattle.bitcode_input.specs.declared.error.Reason.TheVariants.{Eof}
-use Rattle.bitcode_columns.specs.LittleEndian.{little_endian, number_bytes, raw_text, SpellsRaw}
+use Rattle.bitcode_numbers.specs.LittleEndian.{little_endian, number_bytes, raw_text, SpellsRaw}
 use Rattle.bitcode_columns.specs.Reading.{missing}
 use Rattle.bitcode_columns.specs.Laws.{IsReadOnce, TakesAnEighth, IsFaultOf}
+use Rattle.bitcode_numbers.proofs.EndianLemmas.{length-number_bytes, little_endian-number_bytes}
 use Rattle.bitcode_columns.proofs.ListLemmas.{append_split}
-
-pub length-number_bytes : (width n : ℕ) → length (number_bytes width n) ≡ width
-length-number_bytes zero n = refl
-length-number_bytes (suc width) n = ap suc (length-number_bytes width (n / 256))
-
-pub little_endian-number_bytes : (width n : ℕ) → n < 256 ^ width → little_endian (number_bytes width n) ≡ n
-little_endian-number_bytes zero n h = omega arith
-little_endian-number_bytes (suc width) n h =
-    let below : n / 256 < 256 ^ width = omega (arith, pow-suc 256 width) in
-    omega (arith, little_endian-number_bytes width (n / 256) below)
-
-pub number_bytes-little_endian : (bytes : List ℕ) → All (λ b. b < 256) bytes → number_bytes (length bytes) (little_endian bytes) ≡ bytes
-number_bytes-little_endian [] h = refl
-number_bytes-little_endian (byte ∷ bytes) h =
-    let first : byte < 256 = All-head (λ b. b < 256) byte bytes h in
-    let low : (byte + 256 * little_endian bytes) % 256 ≡ byte = omega arith in
-    let high : (byte + 256 * little_endian bytes) / 256 ≡ little_endian bytes = omega arith in
-    let rest : number_bytes (length bytes) (little_endian bytes) ≡ bytes = number_bytes-little_endian bytes (All-tail (λ b. b < 256) byte bytes h) in
-    rw (low, high, rest)
-
-pub little_endian_below : (bytes : List ℕ) → All (λ b. b < 256) bytes → little_endian bytes < 256 ^ length bytes
-little_endian_below [] h = omega arith
-little_endian_below (byte ∷ bytes) h =
-    let first : byte < 256 = All-head (λ b. b < 256) byte bytes h in
-    let rest : little_endian bytes < 256 ^ length bytes = little_endian_below bytes (All-tail (λ b. b < 256) byte bytes h) in
-    omega (arith, pow-suc 256 (length bytes))
 
 pub length-raw_text : (width : ℕ) (numbers : List ℕ) → length (raw_text width numbers) ≡ length numbers * width
 unfolding raw_text

@@ -1,10 +1,8 @@
 -- A bool column is digits in base 2, without a tag: 0 is false and 1 is true.
-use Rattle.std.specs.Prelude.{ℕ, Bool, List, map, if◌then◌else◌}
+use Rattle.std.specs.Prelude.{ℕ, Bool, List, map}
+use Rattle.bitcode_numbers.specs.Numbers.{bool_number}
 use Rattle.bitcode_columns.specs.declared.pack.Base.TheVariants.{Two}
 use Rattle.bitcode_columns.specs.Digits.{SpellsDigits, digits_text}
-
-abbrev pub bool_number : Bool → ℕ
-bool_number b = if b then 1 else 0
 
 abbrev pub SpellsBools : List ℕ → List Bool → Type 0
 SpellsBools bytes entries = SpellsDigits Two bytes (map bool_number entries)

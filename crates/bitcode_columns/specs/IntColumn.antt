@@ -1,14 +1,11 @@
 -- A column of integers of a width of 1, 2, 4, 8 or 16 bytes. Width 1 is a byte column. Nothing stands for no
 -- entries, and one entry of 2 bytes stands bare. All else follows a tag, and each level halves the width of
 -- the numbers; those of one byte are an unsigned byte column of their own.
-use Rattle.std.specs.Prelude.{◌≡◌, ℕ, ◌-◌, ◌*◌, ◌/◌, ◌^◌, ℤ, pos, List, length, map, nat_lt, MatchBool, ◌==◌, ◌||◌, ◌&&◌, ◌⊎◌, if◌then◌else◌}
-use Rattle.bitcode_columns.specs.LittleEndian.{SpellsRaw, raw_text}
-use Rattle.bitcode_columns.specs.Numbers.{residue}
+use Rattle.std.specs.Prelude.{ℕ, ◌-◌, ◌*◌, ◌/◌, ◌^◌, ℤ, pos, List, length, map, nat_lt, MatchBool, ◌==◌, ◌||◌, ◌&&◌, if◌then◌else◌}
+use Rattle.bitcode_numbers.specs.LittleEndian.{SpellsRaw, raw_text}
+use Rattle.bitcode_numbers.specs.Numbers.{residue}
 use Rattle.bitcode_columns.specs.Tagged.{SpellsTagged, tagged_text}
 use Rattle.bitcode_columns.specs.ByteColumn.{SpellsBytes, byte_text}
-
-abbrev pub IsWidth : ℕ → Type 0
-IsWidth width = (width ≡ 1) ⊎ ((width ≡ 2) ⊎ ((width ≡ 4) ⊎ ((width ≡ 8) ⊎ (width ≡ 16))))
 
 -- how often a width can be halved
 abbrev pub halvings : ℕ → ℕ

@@ -1,6 +1,3 @@
-pub mod LittleEndian
-pub mod Numbers
-pub mod NumberRange
 pub mod Digits
 pub mod Tagged
 pub mod BoolColumn

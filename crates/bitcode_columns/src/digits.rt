@@ -2,60 +2,14 @@
 ghost use Rattle.std.specs.Prelude.{◌≡◌, ℕ, ◌+◌, ◌*◌, ◌/◌, ◌%◌, ◌^◌, ◌<◌, ◌≤◌, ◌++◌, length, map, vec_len, vec_capacity, All, ◌⊎◌, IsOk, IfOk, OnOk, IfErr, OnErr};
 ghost use Rattle.std.specs.List.{range_with_len};
 ghost use Rattle.std.specs.Int.{div_ceil};
-ghost use Rattle.bitcode_columns.specs.BoolColumn.{bool_number};
 ghost use Rattle.bitcode_columns.specs.Digits.{radix, digits_in_byte, digit, number_with_digits, SpellsDigits, digits_text};
-ghost use Rattle.bitcode_columns.specs.Numbers.{residue};
 ghost use Rattle.bitcode_columns.specs.Reading.{Reads, IsEndOf, Names, digits_fault};
 
-use crate::int_types::Byte;
 use crate::pack::Base;
 use bitcode_input::consume::consume_bytes;
 use bitcode_input::error::{Error, Reason};
+use bitcode_numbers::digit::Digit;
 use std::alloc::{AllocError, Global};
-
-/// An entry that can stand as a digit of a byte.
-pub(crate) trait Digit: Copy {
-    // The entry as a number.
-    ghost digit_of: { Self → ℕ };
-
-    // What these numbers are below.
-    ghost limit: { ℕ };
-
-    fn to_digit(self) -> u8
-        ensures { result ≡ digit_of self };
-
-    fn from_digit(digit: u8) -> Self
-        requires { digit < limit }
-        ensures { digit_of result ≡ digit };
-}
-
-impl<T: Byte> Digit for T {
-    ghost digit_of = { λ entry. residue 1 (T.number entry) };
-
-    ghost limit = { 256 };
-
-    fn to_digit(self) -> u8 {
-        self.to_byte()
-    }
-
-    fn from_digit(digit: u8) -> T {
-        T::from_byte(digit)
-    }
-}
-
-impl Digit for bool {
-    ghost digit_of = { bool_number };
-
-    ghost limit = { 2 };
-
-    fn to_digit(self) -> u8 {
-        u8::from(self)
-    }
-
-    fn from_digit(digit: u8) -> bool {
-        digit == 1
-    }
-}
 
 // The number with these digits, the lowest first.
 fn number_with_digits<T: Digit>(base: Base, digits: &[T]) -> u8

@@ -3,7 +3,6 @@
 
 mod digits;
 pub mod histogram;
-pub mod int_types;
 pub mod laws;
 pub mod pack;
 pub mod pack_ints;

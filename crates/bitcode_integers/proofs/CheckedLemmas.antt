@@ -9,8 +9,9 @@ use Rattle.std.proofs.lemmas.List.Elements.{All-map, All-head, All-tail, All-nil
 use Rattle.std.proofs.lemmas.Simd.{map-map}
 use Rattle.bitcode_input.specs.declared.error.Reason.{Reason}
 use Rattle.bitcode_input.specs.declared.error.Reason.TheVariants.{OutOfMemory}
-use Rattle.bitcode_columns.specs.IntColumn.{IsWidth, SpellsInts}
-use Rattle.bitcode_columns.specs.Numbers.{number_of}
+use Rattle.bitcode_numbers.specs.Widths.{IsWidth}
+use Rattle.bitcode_columns.specs.IntColumn.{SpellsInts}
+use Rattle.bitcode_numbers.specs.Numbers.{number_of}
 use Rattle.bitcode_columns.specs.Reading.{Reads}
 use Rattle.bitcode_columns.proofs.IntLemmas.{SpellsInts-once, ints_fault-refuses}
 use Rattle.bitcode_shapes.proofs.CheckedLemmas.{nonzero_unsigned, nonzero_signed}

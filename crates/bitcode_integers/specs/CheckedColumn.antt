@@ -5,8 +5,8 @@ use lib.Utf8.{scalar as is_scalar}
 use Rattle.bitcode_input.specs.declared.error.Reason.{Reason}
 use Rattle.bitcode_input.specs.declared.error.Reason.TheVariants.{InvalidBitPattern}
 use Rattle.bitcode_columns.specs.IntColumn.{SpellsInts}
-use Rattle.bitcode_columns.specs.LittleEndian.{little_endian}
-use Rattle.bitcode_columns.specs.Numbers.{number_of}
+use Rattle.bitcode_numbers.specs.LittleEndian.{little_endian}
+use Rattle.bitcode_numbers.specs.Numbers.{number_of}
 use Rattle.bitcode_columns.specs.Reading.{Reads, Names, ints_fault}
 use Rattle.bitcode_shapes.specs.Datum.{Datum, number}
 use Rattle.bitcode_shapes.specs.Shape.{Allowed, any_number, nonzero, scalar, between, IsAllowed}

@@ -1,6 +1,6 @@
 -- The data that integers are, and those that the bytes of integers stand for.
 use Rattle.std.specs.Prelude.{ℕ, Bool, ℤ, List, map}
-use Rattle.bitcode_columns.specs.LittleEndian.{little_endian}
+use Rattle.bitcode_numbers.specs.LittleEndian.{little_endian}
 use Rattle.bitcode_shapes.specs.Datum.{Datum, number}
 use Rattle.bitcode_coder.specs.Spelling.{number_of_residue}
 

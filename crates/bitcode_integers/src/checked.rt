@@ -2,8 +2,8 @@
 ghost use Rattle.std.specs.Prelude.{◌≡◌, ◌≢◌, [], true, All, MatchBool, MatchOption, IfOk, OnOk, IfErr, OnErr, IsTrue};
 ghost use Rattle.std.proofs.Common.{sym};
 ghost use Rattle.bitcode_input.specs.Fast.{cow_rest};
-ghost use Rattle.bitcode_columns.specs.LittleEndian.{little_endian};
-ghost use Rattle.bitcode_columns.specs.Numbers.{number_of};
+ghost use Rattle.bitcode_numbers.specs.LittleEndian.{little_endian};
+ghost use Rattle.bitcode_numbers.specs.Numbers.{number_of};
 ghost use Rattle.bitcode_columns.specs.Reading.{Reads, IsEndOf, ints_stand_raw};
 ghost use Rattle.bitcode_shapes.specs.Datum.{number};
 ghost use Rattle.bitcode_shapes.specs.Shape.{Allowed, IsAllowed, number_shape};

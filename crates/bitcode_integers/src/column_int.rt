@@ -1,15 +1,16 @@
 // The integers, as the coders of their columns take them.
 ghost use Rattle.std.specs.Prelude.{◌≡◌, ◌≢◌, ℕ, ◌^◌, ◌<◌, ◌++◌, ℤ, Bool, List, map, All, IsTrue, pos, true, false, refl, OnOk, IfErr, OnErr};
 ghost use Rattle.bitcode_input.specs.Fast.{cow_rest};
-ghost use Rattle.bitcode_columns.specs.IntColumn.{IsWidth, SpellsInts, int_text};
-ghost use Rattle.bitcode_columns.specs.LittleEndian.{little_endian};
-ghost use Rattle.bitcode_columns.specs.Numbers.{number_of};
+ghost use Rattle.bitcode_numbers.specs.Widths.{IsWidth};
+ghost use Rattle.bitcode_columns.specs.IntColumn.{SpellsInts, int_text};
+ghost use Rattle.bitcode_numbers.specs.LittleEndian.{little_endian};
+ghost use Rattle.bitcode_numbers.specs.Numbers.{number_of};
 ghost use Rattle.bitcode_columns.specs.Reading.{Reads, IsEndOf, Names, ints_fault, ints_stand_raw};
 
-use bitcode_columns::int_types::Int;
 use bitcode_columns::pack_ints::{pack_ints, unpack_ints};
 use bitcode_input::error::{Error, Reason};
 use bitcode_input::fast::CowSlice;
+use bitcode_numbers::int_types::Int;
 use std::alloc::Global;
 
 mod signed;
@@ -18,7 +19,7 @@ mod unsigned;
 /// An integer with a column: what its coders ask of it.
 ///
 /// It says no more than they need, so that code that names a coder at a type is checked fast: an
-/// [`Int`](bitcode_columns::int_types::Int) brings its arithmetic along.
+/// [`Int`](bitcode_numbers::int_types::Int) brings its arithmetic along.
 pub trait ColumnInt: Copy {
     /// The number's bytes, the lowest first.
     type Une: Copy;

@@ -4,19 +4,20 @@ ghost use Rattle.std.specs.Simd.{first_chunks};
 ghost use Rattle.bitcode_input.specs.declared.error.Reason.{Reason};
 ghost use Rattle.bitcode_input.specs.Fast.{cow_rest};
 ghost use Rattle.bitcode_columns.specs.ByteColumn.{SpellsBytes};
-ghost use Rattle.bitcode_columns.specs.IntColumn.{IsWidth, SpellsInts, SpellsNarrow, SpellsAtIntLevel, tagged_form, halvings, highest_int_tag, width_at_level};
+ghost use Rattle.bitcode_numbers.specs.Widths.{IsWidth};
+ghost use Rattle.bitcode_columns.specs.IntColumn.{SpellsInts, SpellsNarrow, SpellsAtIntLevel, tagged_form, halvings, highest_int_tag, width_at_level};
 ghost use Rattle.bitcode_columns.specs.IntHeader.{TellsLevel, ReadsWidened};
-ghost use Rattle.bitcode_columns.specs.LittleEndian.{SpellsRaw, little_endian};
+ghost use Rattle.bitcode_numbers.specs.LittleEndian.{SpellsRaw, little_endian};
 ghost use Rattle.bitcode_columns.specs.Tagged.{SpellsTagged};
 ghost use Rattle.bitcode_columns.specs.Reading.{Reads, IsEndOf, Names, missing, tagged_fault, bytes_fault, narrow_fault, ints_fault_as, ints_fault, has_raw_tag, bytes_stand_raw, ints_stand_raw};
 
-use crate::int_types::{Int, SizedUInt, known_bytes};
 use crate::pack::unpack_bytes;
 use crate::pack_ints::width::halvings;
 use bitcode_input::consume::{consume_byte, consume_bytes};
 use bitcode_input::error::{Error, Reason};
 use bitcode_input::fast::CowSlice;
 use bitcode_input::refuse::err;
+use bitcode_numbers::int_types::{Int, SizedUInt, known_bytes};
 use std::alloc::Global;
 
 // At most so many bytes stand without a tag.

@@ -3,10 +3,10 @@ ghost use Rattle.std.specs.Prelude.{pos, false, refl};
 ghost use Rattle.std.proofs.Common.{inl, inr};
 
 use crate::column_int::ColumnInt;
-use bitcode_columns::int_types::Int;
 use bitcode_columns::pack_ints::{pack_ints, unpack_ints};
 use bitcode_input::error::Error;
 use bitcode_input::fast::CowSlice;
+use bitcode_numbers::int_types::Int;
 use std::alloc::Global;
 
 impl ColumnInt for u8 {

@@ -1,5 +1,5 @@
 -- The entries that were read, as data.
-use Rattle.bitcode_columns.specs.LittleEndian.{little_endian}
+use Rattle.bitcode_numbers.specs.LittleEndian.{little_endian}
 use Rattle.bitcode_input.specs.Fast.{cow_rest}
 use Rattle.bitcode_coder.proofs.CoderLemmas.{ints_read_ok, ints_refused_err}
 use Rattle.bitcode_integers.proofs.int.IntDecoderView.populate.Goals as goal

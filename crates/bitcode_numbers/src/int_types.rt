@@ -1,9 +1,9 @@
 // The integers that columns are made of: as numbers, as residues and as bytes.
 ghost use Rattle.std.specs.Prelude.{◌≡◌, ℕ, ◌+◌, ◌-◌, ◌*◌, ◌%◌, ◌^◌, ◌<◌, ℤ, int_lt, ◌↔◌, Bool, List, ◌++◌, length, take, drop, map, All, IsErr, IfOk, OnOk, IfErr, OnErr};
-ghost use Rattle.bitcode_columns.specs.IntColumn.{IsWidth};
-ghost use Rattle.bitcode_columns.specs.LittleEndian.{little_endian, number_bytes, SpellsRaw};
-ghost use Rattle.bitcode_columns.specs.NumberRange.{least_number, greatest_number};
-ghost use Rattle.bitcode_columns.specs.Numbers.{IsNumber, residue, number_of};
+ghost use Rattle.bitcode_numbers.specs.Widths.{IsWidth};
+ghost use Rattle.bitcode_numbers.specs.LittleEndian.{little_endian, number_bytes, SpellsRaw};
+ghost use Rattle.bitcode_numbers.specs.NumberRange.{least_number, greatest_number};
+ghost use Rattle.bitcode_numbers.specs.Numbers.{IsNumber, residue, number_of};
 
 use bitcode_input::consume::consume_byte_arrays;
 use bitcode_input::error::{Error, Reason};
@@ -147,8 +147,8 @@ pub trait Byte: SizedInt {
     ghost byte_law: { Self.width ≡ 1 };
 }
 
-// Each byte is below 256.
-pub(crate) fn known_bytes(_bytes: &[u8])
+/// Each byte is below 256.
+pub fn known_bytes(_bytes: &[u8])
     ensures { All (λ byte. byte < 256) _bytes.now }
 {}
 

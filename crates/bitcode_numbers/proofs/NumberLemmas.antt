@@ -6,7 +6,7 @@ use Rattle.std.proofs.lemmas.Bool.{cond-true, cond-false, lt-ltb, le-ltb, cond_b
 use Rattle.std.proofs.lemmas.Int.{ints, fold-int_min_bounds, fold-int_max_bounds}
 use Rattle.std.proofs.lemmas.List.Elements.{All-nil, All-cons, All-map}
 use borrow.Author.Differences.{down}
-use Rattle.bitcode_columns.specs.Numbers.{IsNumber, residue, number_of, least, greatest}
+use Rattle.bitcode_numbers.specs.Numbers.{IsNumber, residue, number_of, least, greatest}
 
 pub some_residues : (width : ℕ) → 1 ≤ 256 ^ width
 some_residues width = one-le-pow width 256 (omega arith)

@@ -27,3 +27,7 @@ least (entry ∷ entries) = fold int_min entry entries
 abbrev pub greatest : List ℤ → ℤ
 greatest [] = pos 0
 greatest (entry ∷ entries) = fold int_max entry entries
+
+-- a bool as a number
+abbrev pub bool_number : Bool → ℕ
+bool_number b = if b then 1 else 0

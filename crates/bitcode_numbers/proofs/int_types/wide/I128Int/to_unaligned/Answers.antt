@@ -1,9 +1,9 @@
 -- The bytes of the number's residue, as std says them.
 use Rattle.std.proofs.Common.{◌≡◌, rules, ap, ◌∙◌}
-use Rattle.bitcode_columns.specs.LittleEndian.{number_bytes}
-use Rattle.bitcode_columns.specs.Numbers.{residue}
-use Rattle.bitcode_columns.proofs.UnalignedLemmas.{to_le_bytes_128}
-use Rattle.bitcode_columns.proofs.int_types.wide.I128Int.to_unaligned.Goals as goal
+use Rattle.bitcode_numbers.specs.LittleEndian.{number_bytes}
+use Rattle.bitcode_numbers.specs.Numbers.{residue}
+use Rattle.bitcode_numbers.proofs.UnalignedLemmas.{to_le_bytes_128}
+use Rattle.bitcode_numbers.proofs.int_types.wide.I128Int.to_unaligned.Goals as goal
 
 pub returns : goal.returns
 returns c =

@@ -1,7 +1,7 @@
 -- What was appended are the number's bytes, as std says them.
 use Rattle.std.proofs.Common.{◌++◌, ap, ◌∙◌}
-use Rattle.bitcode_columns.proofs.UnalignedLemmas.{to_le_bytes_128}
-use Rattle.bitcode_columns.proofs.int_types.wide.U128SizedUInt.write.Goals as goal
+use Rattle.bitcode_numbers.proofs.UnalignedLemmas.{to_le_bytes_128}
+use Rattle.bitcode_numbers.proofs.int_types.wide.U128SizedUInt.write.Goals as goal
 
 pub returns-clause-written : goal.returns-clause-written
 returns-clause-written c =

@@ -1,0 +1,4 @@
+pub mod LittleEndian
+pub mod Numbers
+pub mod NumberRange
+pub mod Widths
