@@ -1,5 +1,5 @@
 // Small entries as the digits of bytes.
-ghost use Rattle.std.specs.Prelude.{◌≡◌, ℕ, ◌+◌, ◌*◌, ◌/◌, ◌%◌, ◌^◌, ◌<◌, ◌≤◌, ◌++◌, length, map, vec_len, vec_capacity, All, ◌⊎◌, IsOk, IfOk, OnOk, IfErr, OnErr};
+ghost use Rattle.std.specs.Prelude.{◌≡◌, ◌+◌, ◌*◌, ◌/◌, ◌%◌, ◌<◌, ◌≤◌, ◌++◌, length, map, vec_len, vec_capacity, All, ◌⊎◌, IsOk, IfOk, OnOk, IfErr, OnErr};
 ghost use Rattle.std.specs.List.{range_with_len};
 ghost use Rattle.std.specs.Int.{div_ceil};
 ghost use Rattle.bitcode_columns.specs.Digits.{radix, digits_in_byte, digit, number_with_digits, SpellsDigits, digits_text};
