@@ -6,6 +6,7 @@
 //     let pair: (bool, u16) = decode(alloc, &bytes)?;   // (true, 7)
 #![tactic(auto)]
 
+pub use bitcode_arrays::array::{ArrayDecoder, ArrayEncoder};
 pub use bitcode_coder::bool::{BoolDecoder, BoolEncoder};
 pub use bitcode_coder::coder::{Decoder, Encoder, MAX_VECTORED_CHUNK, View};
 pub use bitcode_coder::length::{Len, LengthDecoder, LengthEncoder};
@@ -17,11 +18,8 @@ pub use bitcode_columns::pack::{
     unpack_bytes_less_than,
 };
 pub use bitcode_columns::pack_ints::{minmax, pack_ints, unpack_ints};
-pub use bitcode_containers::array::{ArrayDecoder, ArrayEncoder};
-pub use bitcode_containers::deref::{DerefEncoder, Points};
 pub use bitcode_containers::elements::{encode_each, encode_lent};
 pub use bitcode_containers::fixed_capacity::ArrayVecDecoder;
-pub use bitcode_containers::from::{FromDecoder, FromValue};
 pub use bitcode_containers::lends::Lends;
 pub use bitcode_containers::map::{MapDecoder, MapEncoder};
 pub use bitcode_containers::mappings::Mapping;
@@ -51,6 +49,8 @@ pub use bitcode_parts::option::{OptionDecoder, OptionEncoder};
 pub use bitcode_parts::result::{ResultDecoder, ResultEncoder};
 pub use bitcode_parts::uuids::UuidConversion;
 pub use bitcode_parts::variant::{VariantDecoder, VariantEncoder, encode_payload};
+pub use bitcode_pointers::deref::{DerefEncoder, Points};
+pub use bitcode_pointers::from::{FromDecoder, FromValue};
 pub use bitcode_shapes::keys::Key;
 pub use bitcode_shapes::no_variants::NoVariants;
 pub use bitcode_shapes::shaped::{Made, Shaped};

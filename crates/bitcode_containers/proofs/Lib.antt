@@ -5,5 +5,3 @@ pub mod SequenceWritingLemmas
 pub mod MapLemmas
 pub mod MapWritingLemmas
 pub mod MapReadingLemmas
-pub mod ArrayLemmas
-pub mod ArrayReadingLemmas

@@ -1,6 +1,6 @@
 // The coders of arrays.
 use crate::derive::{Decode, DecodeOwned, Encode};
-use bitcode_containers::array::{ArrayDecoder, ArrayEncoder};
+use bitcode_arrays::array::{ArrayDecoder, ArrayEncoder};
 
 impl<T: Encode, const N: usize> Encode for [T; N] {
     type Encoder = ArrayEncoder<T::Encoder, N>;

@@ -1,8 +1,8 @@
 // The coders of boxes, shared pointers and their slices.
 use crate::derive::{Decode, DecodeOwned, Encode};
-use bitcode_containers::deref::DerefEncoder;
-use bitcode_containers::from::FromDecoder;
 use bitcode_containers::vec::{VecDecoder, VecEncoder};
+use bitcode_pointers::deref::DerefEncoder;
+use bitcode_pointers::from::FromDecoder;
 use std::boxed::BoxedSlice;
 use std::rc::{Rc, RcSlice};
 

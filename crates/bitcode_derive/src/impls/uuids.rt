@@ -1,6 +1,6 @@
 // The coders of UUIDs.
 use crate::derive::{Decode, DecodeOwned, Encode};
-use bitcode_containers::array::{ArrayDecoder, ArrayEncoder};
+use bitcode_arrays::array::{ArrayDecoder, ArrayEncoder};
 use bitcode_integers::int::{IntDecoder, IntEncoder};
 use bitcode_parts::convert::{ConvertFromDecoder, ConvertIntoEncoder};
 use bitcode_parts::uuids::UuidConversion;

@@ -1,7 +1,7 @@
 // The coders of tuples of one field, which are as their field, and of three to eight.
 use crate::derive::{Decode, DecodeOwned, Encode};
-use bitcode_containers::deref::DerefEncoder;
-use bitcode_containers::from::FromDecoder;
+use bitcode_pointers::deref::DerefEncoder;
+use bitcode_pointers::from::FromDecoder;
 use bitcode_tuples::decoder::TupleDecoder;
 use bitcode_tuples::encoder::TupleEncoder;
 

@@ -2,8 +2,8 @@
 use Rattle.std.proofs.Common.{◌*◌, ◌+◌, ◌^◌, ◌<◌, ◌≤◌, true, refl, arith}
 use Rattle.std.proofs.lemmas.Result.{on_ok_weaker}
 use Rattle.std.proofs.lemmas.Bool.{false≢true}
-use Rattle.bitcode_containers.proofs.ArrayLemmas.{array_room-elements, array_room-count, array_room-enough, array_room-grows}
-use Rattle.bitcode_containers.proofs.array.ArrayEncoderBuffer.reserve.Goals as goal
+use Rattle.bitcode_arrays.proofs.ArrayLemmas.{array_room-elements, array_room-count, array_room-enough, array_room-grows}
+use Rattle.bitcode_arrays.proofs.array.ArrayEncoderBuffer.reserve.Goals as goal
 
 pub returns-in_err-_elements-clause-succeeds : goal.returns-in_err-_elements-clause-succeeds
 returns-in_err-_elements-clause-succeeds g c room =

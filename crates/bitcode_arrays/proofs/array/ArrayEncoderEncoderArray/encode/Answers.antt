@@ -2,8 +2,8 @@
 use Rattle.std.proofs.Common.{length, ◌*◌, ◌+◌, ◌≤◌, refl, ap, arith}
 use Rattle.std.proofs.lemmas.Result.{err_from_is_err_and}
 use Rattle.bitcode_coder.proofs.RefusalLemmas.{refusal_weaker}
-use Rattle.bitcode_containers.proofs.ArrayLemmas.{array_room-elements, array_room-count, array_room-taken, joins_array, array_passes}
-use Rattle.bitcode_containers.proofs.array.ArrayEncoderEncoderArray.encode.Goals as goal
+use Rattle.bitcode_arrays.proofs.ArrayLemmas.{array_room-elements, array_room-count, array_room-taken, joins_array, array_passes}
+use Rattle.bitcode_arrays.proofs.array.ArrayEncoderEncoderArray.encode.Goals as goal
 
 pub encode_each-requires : goal.encode_each-requires
 encode_each-requires g c =

@@ -2,8 +2,8 @@
 use Rattle.std.proofs.Common.{◌*◌, ◌^◌, ◌≤◌, arith}
 use Rattle.std.proofs.lemmas.Result.{err_from_is_err_and}
 use Rattle.std.proofs.lemmas.Bool.{false≢true}
-use Rattle.bitcode_containers.proofs.ArrayReadingLemmas.{reads_arrays, refuses_elements}
-use Rattle.bitcode_containers.proofs.array.ArrayDecoderView.populate.Goals as goal
+use Rattle.bitcode_arrays.proofs.ArrayReadingLemmas.{reads_arrays, refuses_elements}
+use Rattle.bitcode_arrays.proofs.array.ArrayDecoderView.populate.Goals as goal
 
 pub returns-in_err-populate-clause-refused : goal.returns-in_err-populate-clause-refused
 returns-in_err-populate-clause-refused g c =

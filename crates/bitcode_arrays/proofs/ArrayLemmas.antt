@@ -8,7 +8,7 @@ use Rattle.bitcode_shapes.specs.LawfulSequences.{list_of_data}
 use Rattle.bitcode_coder.specs.Columns.{Columns, arrays, beside, CountsFit}
 use Rattle.bitcode_coder.specs.Transposition.{array_columns, joined}
 use Rattle.bitcode_coder.specs.Coding.{written_columns, JoinsListing, PassesWithListing, JoinsEach, PassesWithEach}
-use Rattle.bitcode_containers.specs.Arrays.{array_room}
+use Rattle.bitcode_arrays.specs.Arrays.{array_room}
 
 -- how many times a size goes into a number
 goes_into : (size n number : ℕ) → n * suc size ≤ number → n ≤ number / suc size

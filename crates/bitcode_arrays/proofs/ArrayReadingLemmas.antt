@@ -17,8 +17,8 @@ use Rattle.bitcode_coder.specs.Coding.{IsReadingRefusal, TakesDatum}
 use Rattle.bitcode_coder.proofs.CuttingLemmas.{cut-enough, cut-few}
 use Rattle.bitcode_coder.proofs.DatumLemmas.{joined_each}
 use Rattle.bitcode_containers.specs.Elements.{TakesEach}
-use Rattle.bitcode_containers.specs.Arrays.{arrays_of}
-use Rattle.bitcode_containers.specs.ArrayLaws.{length-joined_arrays}
+use Rattle.bitcode_arrays.specs.Arrays.{arrays_of}
+use Rattle.bitcode_arrays.specs.ArrayLaws.{length-joined_arrays}
 
 -- ---- the arrays that elements make up
 

@@ -4,8 +4,8 @@ ghost use Rattle.std.proofs.Common.{sym, ◌∙◌, ap, subst};
 ghost use Rattle.bitcode_coder.specs.Coding.{ListsAsToo, written_columns, SurelyPasses};
 ghost use Rattle.bitcode_coder.specs.Columns.{lengths, one, two};
 
-use crate::vec::VecEncoder;
 use bitcode_coder::coder::{Buffer, Encoder};
+use bitcode_containers::vec::VecEncoder;
 use bitcode_input::error::Error;
 use bitcode_shapes::shaped::Shaped;
 use std::alloc::Global;

@@ -5,11 +5,11 @@ ghost use Rattle.bitcode_shapes.specs.Shape.{array_shape};
 ghost use Rattle.bitcode_coder.specs.Coding.{IsWritingRefusal, IsReadingRefusal};
 ghost use Rattle.bitcode_coder.specs.Spelling.{Spells};
 ghost use Rattle.bitcode_coder.specs.Transposition.{array_columns};
-ghost use Rattle.bitcode_containers.specs.Arrays.{array_room, ArraysPass, arrays_of, ArrayFaults};
-ghost use Rattle.bitcode_containers.specs.ArrayLaws.{arrays_of_shape, arrays_pass, same_array_shape};
+ghost use Rattle.bitcode_arrays.specs.Arrays.{array_room, ArraysPass, arrays_of, ArrayFaults};
+ghost use Rattle.bitcode_arrays.specs.ArrayLaws.{arrays_of_shape, arrays_pass, same_array_shape};
 
-use crate::elements::{decode_each, encode_each};
 use bitcode_coder::coder::{Buffer, Decoder, Encoder, View};
+use bitcode_containers::elements::{decode_each, encode_each};
 use bitcode_input::consume::mul_length;
 use bitcode_input::error::{Error, Reason};
 use bitcode_input::refuse::err;

@@ -1,6 +1,6 @@
 -- The next elements are those of the next array.
-use Rattle.bitcode_containers.proofs.ArrayReadingLemmas.{takes_array}
-use Rattle.bitcode_containers.proofs.array.ArrayDecoderDecoderArray.decode.Goals as goal
+use Rattle.bitcode_arrays.proofs.ArrayReadingLemmas.{takes_array}
+use Rattle.bitcode_arrays.proofs.array.ArrayDecoderDecoderArray.decode.Goals as goal
 
 pub returns-clause-made : goal.returns-clause-made
 returns-clause-made g c =

@@ -1,0 +1,4 @@
+// The coders of arrays.
+#![tactic(auto)]
+
+pub mod array;
