@@ -1,5 +1,6 @@
 // Columns of each kind, written, read and refused.
 mod byte_columns;
+mod coder_calls;
 mod fronts;
 mod int_columns;
 mod length_columns;

@@ -31,7 +31,7 @@ pub trait AsInt<I: ColumnInt>: Shaped {
     ghost as_int_columns: { (ds : List Datum) → written_columns Self.shape ds ≡ one (ints I.width I.signed) ds };
 }
 
-/// An integer whose values are written as they are, and made of what is read.
+/// An integer whose values are made of what is read, as it is.
 pub trait Integer: ColumnInt + Made {
     ghost integer_shape: { Self.shape ≡ int_shape Self.width Self.signed };
 

@@ -102,6 +102,22 @@ fn arrays_are_counted(rt: HostRuntime) -> Result<(), Fail> {
 }
 
 #[test]
+fn arrays_held_are_counted(rt: HostRuntime) -> Result<(), Fail> {
+    let alloc = rt.alloc();
+    let overflow = err(Reason::LengthOverflow);
+    let mut ones: ArrayEncoder<EmptyCoder, 1> = ArrayEncoder::new(alloc);
+    ones.reserve(1)?;
+    ones.encode(&[()])?;
+    assert_eq!(rt; ones.reserve(usize::MAX), overflow);
+    ones.reserve(usize::MAX - 1)?;
+    let most = 281474976710655;
+    let mut many: ArrayEncoder<EmptyCoder, 65536> = ArrayEncoder::new(alloc);
+    many.reserve(most)?;
+    assert_eq!(rt; many.reserve(most + 1), overflow);
+    Ok(())
+}
+
+#[test]
 fn nested_arrays_are_counted(rt: HostRuntime) -> Result<(), Fail> {
     let alloc = rt.alloc();
     let mut none: ArrayEncoder<EmptyCoder, 0> = ArrayEncoder::new(alloc);
