@@ -16,41 +16,43 @@ fn are_numbers<T: ColumnInt + PartialEq>(entries: &[T::Une], expected: &[T]) -> 
     true
 }
 
-// The integers are read from these bytes, and packed as them.
-fn both_ways<T: ColumnInt + PartialEq + 'static>(
+// The bytes are read as these integers.
+fn reads<'a, T: ColumnInt + PartialEq + 'a>(
     alloc: Global,
-    entries: &mut [T],
-    bytes: &[u8],
+    mut bytes: &'a [u8],
+    expected: &[T],
 ) -> Result<(), Got> {
-    let mut input = bytes;
-    let mut read = CowSlice::new(alloc);
-    T::unpack(alloc, &mut input, entries.len(), &mut read)?;
-    if !input.is_empty() || !are_numbers(read.as_slice(), entries) {
-        return Err(Got::AnotherValue);
+    let mut out = CowSlice::new(alloc);
+    match T::unpack(alloc, &mut bytes, expected.len(), &mut out) {
+        Ok(()) if bytes.is_empty() && are_numbers(out.as_slice(), expected) => Ok(()),
+        Ok(()) => Err(Got::AnotherValue),
+        Err(error) => Err(Got::Refused(error)),
     }
+}
+
+// The integers are packed as these bytes.
+fn packs<T: ColumnInt>(alloc: Global, entries: &mut [T], expected: &[u8]) -> Result<(), Got> {
     let mut out = Vec::new(alloc);
-    T::pack(alloc, entries, &mut out)?;
-    if out.as_slice() == bytes {
-        Ok(())
-    } else {
-        Err(Got::Bytes(out))
+    match T::pack(alloc, entries, &mut out) {
+        Ok(()) if out.as_slice() == expected => Ok(()),
+        Ok(()) => Err(Got::Bytes(out)),
+        Err(error) => Err(Got::Refused(error)),
     }
 }
 
 #[test]
-fn integers_pack_their_columns(rt: HostRuntime) -> Result<(), Got> {
+fn integers_read_and_pack_their_columns(rt: HostRuntime) -> Result<(), Got> {
     let alloc = rt.alloc();
-    both_ways(alloc, &mut [204u16, 200, 203], &[2, 0, 204, 200, 203])?;
-    both_ways(
+    reads::<u16>(alloc, &[2, 0, 204, 200, 203], &[204, 200, 203])?;
+    packs::<u16>(alloc, &mut [204, 200, 203], &[2, 0, 204, 200, 203])?;
+    reads::<i16>(
         alloc,
-        &mut [127i16, 127, 127, 126, 127],
-        &[2, 0, 127, 127, 127, 126, 127],
+        &[1, 245, 255, 4, 122, 115, 148],
+        &[-9, -9, -8, -10, -10, -8, -7, -11, -7],
     )?;
-    both_ways(
+    packs::<i16>(
         alloc,
-        &mut [18446744073709551613usize, 18446744073709551614],
-        &[
-            0, 253, 255, 255, 255, 255, 255, 255, 255, 254, 255, 255, 255, 255, 255, 255, 255,
-        ],
+        &mut [-9, -9, -8, -10, -10, -8, -7, -11, -7],
+        &[1, 245, 255, 4, 122, 115, 148],
     )
 }
