@@ -1,5 +1,5 @@
 // The integers, as the coders of their columns take them.
-ghost use Rattle.std.specs.Prelude.{◌≡◌, ◌≢◌, ℕ, ◌^◌, ◌<◌, ◌++◌, ℤ, Bool, List, map, All, IsTrue, pos, true, false, refl, OnOk, IfErr, OnErr};
+ghost use Rattle.std.specs.Prelude.{◌≡◌, ◌≢◌, ℕ, ◌^◌, ◌<◌, ◌++◌, ℤ, Bool, List, map, All, IsTrue, OnOk, IfErr, OnErr};
 ghost use Rattle.bitcode_input.specs.Fast.{cow_rest};
 ghost use Rattle.bitcode_numbers.specs.Widths.{IsWidth};
 ghost use Rattle.bitcode_columns.specs.IntColumn.{SpellsInts, int_text};
@@ -7,10 +7,8 @@ ghost use Rattle.bitcode_numbers.specs.LittleEndian.{little_endian};
 ghost use Rattle.bitcode_numbers.specs.Numbers.{number_of};
 ghost use Rattle.bitcode_columns.specs.Reading.{Reads, IsEndOf, Names, ints_fault, ints_stand_raw};
 
-use bitcode_columns::pack_ints::{pack_ints, unpack_ints};
 use bitcode_input::error::{Error, Reason};
 use bitcode_input::fast::CowSlice;
-use bitcode_numbers::int_types::Int;
 use std::alloc::Global;
 
 mod signed;
@@ -33,7 +31,7 @@ pub trait ColumnInt: Copy {
 
     ghost une_bytes: { Self.Une → List ℕ };
 
-    /// Appends the column of the integers, as [`pack_ints`] does. The slice is scratch afterwards.
+    /// Appends the column of the integers, as [`pack_ints`](bitcode_columns::pack_ints::pack_ints) does. The slice is scratch afterwards.
     ///
     /// A refused growth is `out of memory`, and then `out` is as it was.
     fn pack(alloc: Global, ints: &mut [Self], out: &mut Vec<u8>) -> Result<(), Error>
@@ -41,7 +39,8 @@ pub trait ColumnInt: Copy {
         ensures unchanged { OnErr result (out.new.items ≡ out.old.items) }
         ensures reason { IfErr result (λ e. e.reason ≡ Reason.OutOfMemory) };
 
-    /// Reads a column of so many integers from the front of the input into `out`, as [`unpack_ints`] does.
+    /// Reads a column of so many integers from the front of the input into `out`, as
+    /// [`unpack_ints`](bitcode_columns::pack_ints::unpack_ints) does.
     ///
     /// Missing bytes are `EOF`, a tag that no column has is `invalid packing`, and a refused growth is `out of memory`.
     fn unpack<'a>(
