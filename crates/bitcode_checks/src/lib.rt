@@ -10,4 +10,4 @@ pub mod tuples;
 pub mod values;
 
 pub use crate::got::Got;
-pub use crate::values::{both_ways, decodes, encodes, refuses};
+pub use crate::values::{both_ways, decodes, encodes, holds, refuses, written_and_read};

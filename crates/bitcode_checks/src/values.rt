@@ -1,6 +1,6 @@
 // Whole values: how they are written, read and refused.
 use crate::Got;
-use bitcode::{Decode, Encode, Reason, decode, encode};
+use bitcode::{Decode, DecodeOwned, Encode, Reason, decode, encode};
 use std::alloc::Global;
 
 /// The value is written as these bytes.
@@ -46,4 +46,28 @@ pub fn both_ways<'a, T: Encode + Decode<'a> + PartialEq>(
 ) -> Result<(), Got> {
     encodes(alloc, &t, bytes)?;
     decodes(alloc, bytes, t)
+}
+
+/// The value is written as these bytes, they are read as the value, and others are refused for these reasons.
+pub fn holds<'a, T: Encode + Decode<'a> + PartialEq>(
+    alloc: Global,
+    t: T,
+    bytes: &'a [u8],
+    refused: &[(&'a [u8], Reason)],
+) -> Result<(), Got> {
+    both_ways(alloc, t, bytes)?;
+    for (other, reason) in refused {
+        refuses::<T>(alloc, other, *reason)?;
+    }
+    Ok(())
+}
+
+/// What the bytes of a value are read as, which are these. Nothing of it is borrowed from them.
+pub fn written_and_read<'a, T: Encode + Decode<'a> + DecodeOwned>(
+    alloc: Global,
+    t: &T,
+    bytes: &'a [u8],
+) -> Result<T, Got> {
+    encodes(alloc, t, bytes)?;
+    Ok(decode(alloc, bytes)?)
 }

@@ -1,6 +1,6 @@
 // The stored rows. Each has one or more parts, and gives what the first wrong part gave.
 use bitcode::Reason;
-use bitcode_checks::{Got, decodes, encodes, refuses};
+use bitcode_checks::{Got, decodes, encodes, holds, refuses};
 use std::alloc::Global;
 
 pub mod arrays;
@@ -17,17 +17,15 @@ pub mod variants;
 
 /// The unit takes no bytes.
 pub fn unit(alloc: Global) -> Result<(), Got> {
-    encodes(alloc, &(), &[])?;
-    decodes(alloc, &[], ())?;
-    refuses::<()>(alloc, &[0], Reason::ExpectedEof)
+    holds(alloc, (), &[], &[(&[0], Reason::ExpectedEof)])
 }
 
 /// A bool is the lowest bit of its byte.
 pub fn bools(alloc: Global) -> Result<(), Got> {
-    decodes(alloc, &[0], false)?;
-    decodes(alloc, &[1], true)?;
-    decodes(alloc, &[2], false)?;
-    decodes(alloc, &[255], true)?;
+    let bytes: [([u8; 1], bool); 4] = [([0], false), ([1], true), ([2], false), ([255], true)];
+    for (byte, expected) in &bytes {
+        decodes(alloc, byte, *expected)?;
+    }
     refuses::<bool>(alloc, &[], Reason::Eof)
 }
 
@@ -39,16 +37,22 @@ pub fn pair(alloc: Global) -> Result<(), Got> {
 
 /// One integer of four bytes takes as few as hold it, and its tag.
 pub fn words_written(alloc: Global) -> Result<(), Got> {
-    encodes(alloc, &255u32, &[4, 255])?;
-    encodes(alloc, &65535u32, &[2, 255, 255])?;
-    encodes(alloc, &65536u32, &[0, 0, 0, 1, 0])?;
+    let words: [(u32, &[u8]); 3] = [
+        (255, &[4, 255]),
+        (65535, &[2, 255, 255]),
+        (65536, &[0, 0, 0, 1, 0]),
+    ];
+    for (word, bytes) in &words {
+        encodes(alloc, word, bytes)?;
+    }
     encodes(alloc, &-1i32, &[0, 255, 255, 255, 255])
 }
 
 /// Shifted integers wrap, tags over 6 are refused, and missing bytes too.
 pub fn words_read(alloc: Global) -> Result<(), Got> {
-    decodes(alloc, &[3, 1, 0, 0, 0, 254], 255u32)?;
-    decodes(alloc, &[3, 255, 255, 255, 255, 2], 1u32)?;
+    for (bytes, word) in [([3, 1, 0, 0, 0, 254], 255), ([3, 255, 255, 255, 255, 2], 1)] {
+        decodes::<u32>(alloc, &bytes, word)?;
+    }
     refuses::<u32>(alloc, &[5, 0], Reason::InvalidPacking)?;
     refuses::<u32>(alloc, &[4], Reason::Eof)
 }

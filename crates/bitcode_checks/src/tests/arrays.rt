@@ -1,5 +1,5 @@
 // Arrays of no, one, some and many elements, and numbers of arrays about the largest.
-use crate::{Got, decodes, encodes, refuses};
+use crate::{Got, both_ways, holds};
 use bitcode::coder::Buffer as _;
 use bitcode::laws::overflows_exactly;
 use bitcode::{
@@ -9,74 +9,40 @@ use bitcode::{
 use std::test::Fail;
 
 #[test]
-fn arrays_are_written(rt: HostRuntime) -> Result<(), Got> {
+fn arrays_both_ways(rt: HostRuntime) -> Result<(), Got> {
     let alloc = rt.alloc();
-    encodes::<[u8; 0]>(alloc, &[], &[])?;
-    encodes(alloc, &[181u8], &[181])?;
-    encodes(alloc, &[117u8, 41], &[117, 41])?;
-    encodes(alloc, &[245u8, 243, 246], &[0, 245, 243, 246])?;
-    encodes(alloc, &[96i8, 97, 97, 97, 96, 96, 99], &[5, 96, 84, 48])?;
-    encodes(
+    holds::<[u8; 0]>(alloc, [], &[], &[(&[2], Reason::ExpectedEof)])?;
+    holds(alloc, [181u8], &[181], &[(&[66, 98], Reason::ExpectedEof)])?;
+    holds(
         alloc,
-        &[1u8, 0, 1, 1, 1, 1, 1, 1, 0, 0, 0, 1, 0, 0, 0, 1],
-        &[10, 253, 136],
+        [245u8, 243, 246],
+        &[0, 245, 243, 246],
+        &[
+            (&[2, 144], Reason::Eof),
+            (&[250, 243], Reason::InvalidPacking),
+        ],
     )?;
-    encodes(
+    both_ways(
         alloc,
-        &[0u16, 1, 0, 255, 3, 3, 3, 3, 0, 2, 3, 3, 1, 2, 3, 3],
+        [0u16, 1, 0, 255, 3, 3, 3, 3, 0, 2, 3, 3, 1, 2, 3, 3],
         &[2, 0, 0, 1, 0, 255, 3, 3, 3, 3, 0, 2, 3, 3, 1, 2, 3, 3],
     )
 }
 
 #[test]
-fn arrays_are_read(rt: HostRuntime) -> Result<(), Got> {
-    let alloc = rt.alloc();
-    decodes::<[u8; 0]>(alloc, &[], [])?;
-    refuses::<[u8; 0]>(alloc, &[2], Reason::ExpectedEof)?;
-    decodes(alloc, &[215], [215u8])?;
-    refuses::<[u8; 1]>(alloc, &[66, 98], Reason::ExpectedEof)?;
-    decodes(alloc, &[0, 0, 68, 196], [0u8, 68, 196])?;
-    refuses::<[u8; 3]>(alloc, &[2, 144], Reason::Eof)?;
-    refuses::<[u8; 3]>(alloc, &[250, 243], Reason::InvalidPacking)?;
-    decodes(
-        alloc,
-        &[1, 252, 48, 115, 47, 7],
-        [-4i8, -1, -1, 3, 11, -2, 3],
-    )?;
-    decodes(
-        alloc,
-        &[2, 2, 51, 65, 6, 3, 64, 64, 4, 102],
-        [3u16, 3, 1, 4, 6, 0, 3, 0, 0, 4, 0, 4, 4, 0, 6, 6],
+fn arrays_of_arrays_are_one_column(rt: HostRuntime) -> Result<(), Got> {
+    both_ways(
+        rt.alloc(),
+        [[0u8, 1, 0], [1, 1, 1], [0, 1, 1]],
+        &[10, 186, 1],
     )
 }
 
 #[test]
-fn arrays_of_arrays_are_one_column(rt: HostRuntime) -> Result<(), Got> {
-    let alloc = rt.alloc();
-    encodes(alloc, &[[0u8, 1, 0], [1, 1, 1], [0, 1, 1]], &[10, 186, 1])?;
-    decodes(
-        alloc,
-        &[1, 239, 87, 183, 9, 86, 8],
-        [[246u8, 244, 246], [250, 248, 239], [245, 244, 247]],
-    )?;
-    refuses::<[[u8; 3]; 3]>(
-        alloc,
-        &[0, 29, 29, 13, 14, 9, 19, 27, 239, 10, 0],
-        Reason::ExpectedEof,
-    )?;
-    encodes::<[[u8; 0]; 3]>(alloc, &[[], [], []], &[])?;
-    decodes::<[[u8; 0]; 3]>(alloc, &[], [[], [], []])
-}
-
-#[test]
-fn many_elements_come_back(rt: HostRuntime) -> Result<(), Fail> {
-    let alloc = rt.alloc();
-    let zeros = [0u8; 65536];
-    let bytes = encode(alloc, &zeros)?;
-    assert_eq!(rt; bytes.len(), 8193);
-    assert_eq!(rt; bytes[0], 10);
-    assert!(rt; decodes(alloc, &bytes, zeros).is_ok());
-    Ok(())
+fn many_elements_come_back(rt: HostRuntime) -> Result<(), Got> {
+    let mut bytes = [0u8; 8193];
+    bytes[0] = 10;
+    both_ways(rt.alloc(), [0u8; 65536], &bytes)
 }
 
 #[test]

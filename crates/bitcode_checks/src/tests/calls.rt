@@ -3,7 +3,7 @@ use bitcode::coder::Buffer as _;
 use bitcode::{
     BoolDecoder, BoolEncoder, Buffer, CowSlice, Decoder, Encoder, FastSlice, FastVec, IntEncoder,
     NextUnchecked, PushUnchecked, Reason, TupleEncoder, View, consume_byte, consume_byte_arrays,
-    consume_bytes, decode, err, error, expect_eof, invalid_enum_variant, minmax, mul_length,
+    consume_bytes, err, error, expect_eof, invalid_enum_variant, minmax, mul_length,
 };
 use std::test::Fail;
 
@@ -112,7 +112,5 @@ fn a_buffer_starts_afresh(rt: HostRuntime) -> Result<(), Fail> {
     assert_eq!(rt; buffer.encode(&false)?, [0].as_slice());
     assert_eq!(rt; buffer.encode(&true)?, [1].as_slice());
     assert!(rt; buffer.decode(&[1])?);
-    let pair: ((bool, i8), (u32, ())) = decode(alloc, &[1, 251, 4, 9])?;
-    assert_eq!(rt; pair, ((true, -5), (9, ())));
     Ok(())
 }

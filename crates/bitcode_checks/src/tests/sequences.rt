@@ -1,18 +1,21 @@
 // Vectors and slices that the Rust crate wrote and read.
-use crate::{Got, decodes, encodes, refuses};
-use bitcode::{Reason, encode};
+use crate::{Got, both_ways, decodes, encodes};
+use bitcode::encode;
 
 #[test]
 fn slices_are_written(rt: HostRuntime) -> Result<(), Got> {
-    let alloc = rt.alloc();
-    let slice: &[u16] = &[0];
-    encodes(alloc, &slice, &[1, 0, 0])?;
-    let slice: &[u16] = &[201, 201, 201, 203, 203, 203, 203];
-    encodes(alloc, &slice, &[7, 2, 7, 201, 216, 8])?;
-    let slice: &[u16] = &[3642, 3644, 3644];
-    encodes(alloc, &slice, &[3, 0, 58, 14, 60, 14, 60, 14])?;
-    let slice: &[u16] = &[0, 1, 0, 0, 0, 0, 0, 0, 0, 0];
-    encodes(alloc, &slice, &[10, 2, 10, 2, 0])?;
+    let slices: [(&[u16], &[u8]); 4] = [
+        (&[0], &[1, 0, 0]),
+        (
+            &[201, 201, 201, 203, 203, 203, 203],
+            &[7, 2, 7, 201, 216, 8],
+        ),
+        (&[3642, 3644, 3644], &[3, 0, 58, 14, 60, 14, 60, 14]),
+        (&[0, 1, 0, 0, 0, 0, 0, 0, 0, 0], &[10, 2, 10, 2, 0]),
+    ];
+    for (slice, bytes) in &slices {
+        encodes(rt.alloc(), slice, bytes)?;
+    }
     Ok(())
 }
 
@@ -32,17 +35,9 @@ fn lengths_around_the_escape(rt: HostRuntime) -> Result<(), Got> {
             list.push(place.to_le_bytes()[0])?;
             bytes.push(place.to_le_bytes()[0])?;
         }
-        encodes(alloc, &list, bytes.as_slice())?;
-        decodes(alloc, bytes.as_slice(), list)?;
+        both_ways(alloc, list, bytes.as_slice())?;
     }
     Ok(())
-}
-
-#[test]
-fn an_escape_may_say_less_than_255(rt: HostRuntime) -> Result<(), Got> {
-    let alloc = rt.alloc();
-    let list: Vec<u8> = vec![in alloc; 0, 1]?;
-    decodes(alloc, &[255, 6, 2, 0, 1], list)
 }
 
 #[test]

@@ -1,18 +1,15 @@
 // The stored rows of vectors and slices.
 use bitcode::Reason;
-use bitcode_checks::{Got, decodes, encodes, refuses};
+use bitcode_checks::{Got, encodes, refuses};
 use std::alloc::Global;
 
 /// Seven integers are shifted by their least one, the first five of them stand raw.
 pub fn shifted_integers(alloc: Global) -> Result<(), Got> {
     let waves: Vec<i16> = vec![in alloc; 0, -1, 0, -1, 0, -1, 0]?;
-    let shifted = [7, 1, 255, 255, 10, 85];
-    encodes(alloc, &waves, &shifted)?;
+    encodes(alloc, &waves, &[7, 1, 255, 255, 10, 85])?;
     let five: Vec<i16> = vec![in alloc; 0, -1, 0, -1, 0]?;
     let raw = [5, 0, 0, 0, 255, 255, 0, 0, 255, 255, 0, 0];
-    encodes(alloc, &five, &raw)?;
-    decodes(alloc, &shifted, waves)?;
-    decodes(alloc, &raw, five)
+    encodes(alloc, &five, &raw)
 }
 
 /// The bytes of a row: some that come first, and then as many more of one value.
@@ -34,8 +31,7 @@ pub fn many_bools(alloc: Global) -> Result<(), Got> {
     let mut bytes = bytes_of(alloc, &[255, 6, 255], 255, 31)?;
     refuses::<Vec<bool>>(alloc, bytes.as_slice(), Reason::Eof)?;
     bytes.push(127)?;
-    encodes(alloc, &trues, bytes.as_slice())?;
-    decodes(alloc, bytes.as_slice(), trues)
+    encodes(alloc, &trues, bytes.as_slice())
 }
 
 /// The least of all entries is what they are shifted by, wherever it stands.
@@ -46,8 +42,7 @@ pub fn late_least(alloc: Global) -> Result<(), Got> {
     }
     shorts.push(299)?;
     let bytes = [17, 1, 43, 1, 10, 255, 255, 0];
-    encodes(alloc, &shorts, &bytes)?;
-    decodes(alloc, &bytes, shorts)
+    encodes(alloc, &shorts, &bytes)
 }
 
 /// The lengths of all lists come before the elements of all lists.
@@ -55,6 +50,5 @@ pub fn nested_lists(alloc: Global) -> Result<(), Got> {
     let lists: Vec<Vec<u8>> = vec![in alloc; vec![in alloc;]?, vec![in alloc; 1, 2, 3]?]?;
     let bytes = [2, 0, 3, 6, 57];
     encodes(alloc, &lists.as_slice(), &bytes)?;
-    encodes(alloc, &lists, &bytes)?;
-    decodes(alloc, &bytes, lists)
+    encodes(alloc, &lists, &bytes)
 }

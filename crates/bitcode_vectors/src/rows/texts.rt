@@ -9,10 +9,8 @@ use std::time::Duration;
 /// A number and a text are the number's column and then the text's, in a pair as in a struct.
 pub fn number_and_text(alloc: Global) -> Result<(), Got> {
     encodes(alloc, &(10u32, "abc"), &[4, 10, 3, 97, 98, 99])?;
-    decodes(alloc, &[4, 10, 3, 97, 98, 99], (10u32, "abc"))?;
     let foo = Foo { x: 10, y: "abc" };
-    encodes(alloc, &foo, &[4, 10, 3, 97, 98, 99])?;
-    decodes(alloc, &[4, 10, 3, 97, 98, 99], foo)
+    encodes(alloc, &foo, &[4, 10, 3, 97, 98, 99])
 }
 
 /// Nanoseconds are below one second.
@@ -21,7 +19,6 @@ pub fn durations(alloc: Global) -> Result<(), Got> {
         0, 255, 255, 255, 255, 255, 255, 255, 255, 0, 255, 201, 154, 59,
     ];
     decodes(alloc, &longest, Duration::new(u64::MAX, 999_999_999))?;
-    encodes(alloc, &Duration::new(u64::MAX, 999_999_999), &longest)?;
     let longer = [
         0, 255, 255, 255, 255, 255, 255, 255, 255, 0, 0, 202, 154, 59,
     ];

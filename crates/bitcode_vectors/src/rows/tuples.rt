@@ -1,6 +1,6 @@
 // The rows of tuples, pointers, markers and UUIDs.
 use bitcode_checks::tuples::writes_sixteen;
-use bitcode_checks::{Got, decodes, encodes};
+use bitcode_checks::{Got, encodes};
 use std::alloc::Global;
 use std::marker::PhantomData;
 use std::rc::RcStr;
@@ -59,6 +59,5 @@ pub fn identifier(alloc: Global) -> Result<(), Got> {
     let written = [
         0, 161, 162, 163, 164, 177, 178, 193, 194, 209, 210, 211, 212, 213, 214, 215, 216,
     ];
-    encodes(alloc, &Uuid::from_bytes(bytes), &written)?;
-    decodes(alloc, &written, Uuid::from_bytes(bytes))
+    encodes(alloc, &Uuid::from_bytes(bytes), &written)
 }
