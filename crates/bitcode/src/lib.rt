@@ -59,7 +59,7 @@ pub use bitcode_tuples::encoder::TupleEncoder;
 
 /// The traits that coders meet, and the result of their calls.
 pub mod coder {
-    pub use bitcode_coder::coder::{Buffer, Decoder, Encoder, View};
+    pub use bitcode_coder::coder::{Buffer, Decoder, Encoder, HoldsColumns, HoldsData, View};
     pub use bitcode_coder::result::Result;
 }
 

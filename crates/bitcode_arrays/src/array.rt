@@ -8,7 +8,7 @@ ghost use Rattle.bitcode_coder.specs.Transposition.{array_columns};
 ghost use Rattle.bitcode_arrays.specs.Arrays.{array_room, ArraysPass, arrays_of, ArrayFaults};
 ghost use Rattle.bitcode_arrays.specs.ArrayLaws.{arrays_of_shape, arrays_pass, same_array_shape};
 
-use bitcode_coder::coder::{Buffer, Decoder, Encoder, View};
+use bitcode_coder::coder::{Buffer, Decoder, Encoder, HoldsColumns, HoldsData, View};
 use bitcode_containers::elements::{decode_each, encode_each};
 use bitcode_input::consume::mul_length;
 use bitcode_input::error::{Error, Reason};
@@ -37,13 +37,15 @@ pub struct ArrayEncoder<E, const N: usize> {
     ghost uncounted: { N ≡ 0 → count ≡ 0 },
 }
 
-impl<E: Buffer, const N: usize> Buffer for ArrayEncoder<E, N> {
+impl<E: HoldsColumns, const N: usize> HoldsColumns for ArrayEncoder<E, N> {
     ghost columns = { λ e. array_columns N e.count (E.columns e.elements) };
 
     ghost room = { λ e. array_room N e.count (E.room e.elements) };
 
     ghost surely_passes = { λ e n. ArraysPass N E.surely_passes e.elements e.count n };
+}
 
+impl<E: Buffer, const N: usize> Buffer for ArrayEncoder<E, N> {
     fn new(alloc: Global) -> Self {
         ArrayEncoder {
             elements: E::new(alloc),
@@ -110,11 +112,13 @@ pub struct ArrayDecoder<D, const N: usize> {
     left: usize,
 }
 
-impl<'a, D: View<'a>, const N: usize> View<'a> for ArrayDecoder<D, N> {
+impl<D: HoldsData, const N: usize> HoldsData for ArrayDecoder<D, N> {
     ghost shape = { array_shape N D.shape };
 
     ghost held = { λ d. arrays_of N d.left (D.held d.elements) };
+}
 
+impl<'a, D: View<'a>, const N: usize> View<'a> for ArrayDecoder<D, N> {
     ghost reads_free = { λ k input. k * N < 2 ^ 64 → D.reads_free (k * N) input };
 
     ghost faults = { ArrayFaults N D.faults };

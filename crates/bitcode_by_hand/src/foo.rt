@@ -3,7 +3,7 @@ ghost use Rattle.std.specs.Prelude.{true, min, refl};
 ghost use Rattle.bitcode.specs.ByHand.{struct_lawful, struct_makeable, u32_lawful, u32_makeable, str_lawful, str_makeable, two, pairs_of};
 ghost use Rattle.bitcode_by_hand.specs.Foo.{foo_fields};
 
-use bitcode::coder::{Buffer, Result};
+use bitcode::coder::{Buffer, HoldsColumns, HoldsData, Result};
 use bitcode::{
     Decode, Decoder, Encode, Encoder, IntDecoder, IntEncoder, Made, Shaped, StrDecoder, StrEncoder,
     TupleDecoder, View,
@@ -50,13 +50,15 @@ pub struct FooEncoder {
     y: StrEncoder,
 }
 
-impl Buffer for FooEncoder {
-    ghost columns = { λ e. two (⟦<IntEncoder<u32> as Buffer>⟧.columns e.x) (⟦<StrEncoder as Buffer>⟧.columns e.y) };
+impl HoldsColumns for FooEncoder {
+    ghost columns = { λ e. two (⟦<IntEncoder<u32> as HoldsColumns>⟧.columns e.x) (⟦<StrEncoder as HoldsColumns>⟧.columns e.y) };
 
-    ghost room = { λ e. min (⟦<IntEncoder<u32> as Buffer>⟧.room e.x) (⟦<StrEncoder as Buffer>⟧.room e.y) };
+    ghost room = { λ e. min (⟦<IntEncoder<u32> as HoldsColumns>⟧.room e.x) (⟦<StrEncoder as HoldsColumns>⟧.room e.y) };
 
     ghost surely_passes = { λ e n. ⊥ };
+}
 
+impl Buffer for FooEncoder {
     fn new(alloc: Global) -> Self {
         FooEncoder {
             x: Buffer::new(alloc),
@@ -99,11 +101,13 @@ pub struct FooDecoder<'a> {
 
 type Fields<'a> = TupleDecoder<IntDecoder<'a, u32>, StrDecoder<'a>>;
 
+impl<'a> HoldsData for FooDecoder<'a> {
+    ghost shape = { ⟦<Fields<'a> as HoldsData>⟧.shape };
+
+    ghost held = { λ d. pairs_of (⟦<IntDecoder<'a, u32> as HoldsData>⟧.held d.x) (⟦<StrDecoder<'a> as HoldsData>⟧.held d.y) };
+}
+
 impl<'a> View<'a> for FooDecoder<'a> {
-    ghost shape = { ⟦<Fields<'a> as View<'a>>⟧.shape };
-
-    ghost held = { λ d. pairs_of (⟦<IntDecoder<'a, u32> as View<'a>>⟧.held d.x) (⟦<StrDecoder<'a> as View<'a>>⟧.held d.y) };
-
     ghost reads_free = { ⟦<Fields<'a> as View<'a>>⟧.reads_free };
 
     ghost faults = { ⟦<Fields<'a> as View<'a>>⟧.faults };

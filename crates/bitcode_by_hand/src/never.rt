@@ -6,7 +6,7 @@ ghost use Rattle.bitcode_shapes.specs.Shape.{never_shape};
 ghost use Rattle.bitcode_coder.specs.Columns.{no_columns};
 ghost use Rattle.bitcode_coder.specs.Coding.{endless_room};
 
-use bitcode::coder::{Buffer, Result};
+use bitcode::coder::{Buffer, HoldsColumns, HoldsData, Result};
 use bitcode::{
     Decode, DecodeOwned, Decoder, Encode, Encoder, NoVariants, Reason, View, err,
     invalid_enum_variant,
@@ -25,13 +25,15 @@ impl NoVariants for Never {
 #[derive(Drop)]
 pub struct NeverEncoder {}
 
-impl Buffer for NeverEncoder {
+impl HoldsColumns for NeverEncoder {
     ghost columns = { λ e. no_columns };
 
     ghost room = { λ e. endless_room };
 
     ghost surely_passes = { λ e n. ⊥ };
+}
 
+impl Buffer for NeverEncoder {
     fn new(_alloc: Global) -> Self {
         NeverEncoder {}
     }
@@ -63,11 +65,13 @@ pub struct NeverDecoder {
     left: usize,
 }
 
-impl<'a> View<'a> for NeverDecoder {
+impl HoldsData for NeverDecoder {
     ghost shape = { never_shape };
 
     ghost held = { λ d. replicate d.left unit };
+}
 
+impl<'a> View<'a> for NeverDecoder {
     ghost reads_free = { λ k input. Unit {0} };
 
     ghost faults = { λ reason k input. (reason ≡ InvalidEnumVariant) × (0 < k) };

@@ -3,7 +3,7 @@ ghost use Rattle.std.specs.Prelude.{true, refl};
 ghost use Rattle.bitcode.specs.ByHand.{image_lawful, image_makeable, u8_lawful, u8_makeable};
 ghost use Rattle.bitcode_by_hand.specs.One.{one_field, one_found};
 
-use bitcode::coder::{Buffer, Result};
+use bitcode::coder::{Buffer, HoldsColumns, HoldsData, Result};
 use bitcode::{
     Decode, DecodeOwned, Decoder, Encode, Encoder, IntDecoder, IntEncoder, Made, Shaped, View,
 };
@@ -47,13 +47,15 @@ pub struct OneEncoder {
     a: IntEncoder<u8>,
 }
 
-impl Buffer for OneEncoder {
-    ghost columns = { λ e. ⟦<IntEncoder<u8> as Buffer>⟧.columns e.a };
+impl HoldsColumns for OneEncoder {
+    ghost columns = { λ e. ⟦<IntEncoder<u8> as HoldsColumns>⟧.columns e.a };
 
-    ghost room = { λ e. ⟦<IntEncoder<u8> as Buffer>⟧.room e.a };
+    ghost room = { λ e. ⟦<IntEncoder<u8> as HoldsColumns>⟧.room e.a };
 
     ghost surely_passes = { λ e n. ⊥ };
+}
 
+impl Buffer for OneEncoder {
     fn new(alloc: Global) -> Self {
         OneEncoder {
             a: Buffer::new(alloc),
@@ -89,11 +91,13 @@ pub struct OneDecoder<'a> {
     a: IntDecoder<'a, u8>,
 }
 
-impl<'a> View<'a> for OneDecoder<'a> {
+impl<'a> HoldsData for OneDecoder<'a> {
     ghost shape = { ⟦<u8 as Shaped>⟧.shape };
 
-    ghost held = { λ d. ⟦<IntDecoder<'a, u8> as View<'a>>⟧.held d.a };
+    ghost held = { λ d. ⟦<IntDecoder<'a, u8> as HoldsData>⟧.held d.a };
+}
 
+impl<'a> View<'a> for OneDecoder<'a> {
     ghost reads_free = { ⟦<IntDecoder<'a, u8> as View<'a>>⟧.reads_free };
 
     ghost faults = { ⟦<IntDecoder<'a, u8> as View<'a>>⟧.faults };

@@ -7,7 +7,7 @@ ghost use Rattle.bitcode.specs.ByHand.{IsVariantValue, ListsChoice, ListsVariant
 ghost use Rattle.bitcode.specs.ByHand.{no_columns, two, choices_of, variant_room, variants_left};
 ghost use Rattle.bitcode_by_hand.specs.Two.{two_variant, two_found};
 
-use bitcode::coder::{Buffer, Result};
+use bitcode::coder::{Buffer, HoldsColumns, HoldsData, Result};
 use bitcode::{
     Decode, DecodeOwned, Decoder, Encode, Encoder, IntDecoder, IntEncoder, Made, ResultDecoder,
     Shaped, VariantDecoder, VariantEncoder, View, encode_payload,
@@ -57,14 +57,16 @@ pub struct TwoEncoder {
     b: IntEncoder<i8>,
 }
 
-impl Buffer for TwoEncoder {
-    ghost columns = { λ e. two (⟦<VariantEncoder<2> as Buffer>⟧.columns e.variants)
-        (two (⟦<IntEncoder<u8> as Buffer>⟧.columns e.a) (two (⟦<IntEncoder<i8> as Buffer>⟧.columns e.b) no_columns)) };
+impl HoldsColumns for TwoEncoder {
+    ghost columns = { λ e. two (⟦<VariantEncoder<2> as HoldsColumns>⟧.columns e.variants)
+        (two (⟦<IntEncoder<u8> as HoldsColumns>⟧.columns e.a) (two (⟦<IntEncoder<i8> as HoldsColumns>⟧.columns e.b) no_columns)) };
 
     ghost room = { λ e. variant_room e.variants };
 
     ghost surely_passes = { λ e n. ⊥ };
+}
 
+impl Buffer for TwoEncoder {
     fn new(alloc: Global) -> Self {
         TwoEncoder {
             variants: Buffer::new(alloc),
@@ -118,11 +120,13 @@ pub struct TwoDecoder<'a> {
 
 type Variants<'a> = ResultDecoder<'a, IntDecoder<'a, u8>, IntDecoder<'a, i8>>;
 
+impl<'a> HoldsData for TwoDecoder<'a> {
+    ghost shape = { ⟦<Variants<'a> as HoldsData>⟧.shape };
+
+    ghost held = { λ d. choices_of (variants_left d.variants) (⟦<IntDecoder<'a, u8> as HoldsData>⟧.held d.a ∷ ⟦<IntDecoder<'a, i8> as HoldsData>⟧.held d.b ∷ []) };
+}
+
 impl<'a> View<'a> for TwoDecoder<'a> {
-    ghost shape = { ⟦<Variants<'a> as View<'a>>⟧.shape };
-
-    ghost held = { λ d. choices_of (variants_left d.variants) (⟦<IntDecoder<'a, u8> as View<'a>>⟧.held d.a ∷ ⟦<IntDecoder<'a, i8> as View<'a>>⟧.held d.b ∷ []) };
-
     ghost reads_free = { ⟦<Variants<'a> as View<'a>>⟧.reads_free };
 
     ghost faults = { ⟦<Variants<'a> as View<'a>>⟧.faults };

@@ -9,7 +9,7 @@ ghost use Rattle.bitcode_coder.specs.Columns.{bools, one};
 ghost use Rattle.bitcode_coder.specs.Spelling.{Spells, truth};
 ghost use Rattle.bitcode_coder.specs.Coding.{IsReadingRefusal};
 
-use crate::coder::{Buffer, Decoder, Encoder, View};
+use crate::coder::{Buffer, Decoder, Encoder, HoldsColumns, HoldsData, View};
 use bitcode_columns::pack::{pack_bools, unpack_bools};
 use bitcode_input::error::{Error, Reason};
 use bitcode_input::fast::{CowSlice, FastVec, PushUnchecked};
@@ -21,13 +21,15 @@ pub struct BoolEncoder {
     values: FastVec<bool>,
 }
 
-impl Buffer for BoolEncoder {
+impl HoldsColumns for BoolEncoder {
     ghost columns = { λ e. one bools (map truth (fast_items e.values)) };
 
     ghost room = { λ e. fast_room e.values };
 
     ghost surely_passes = { λ e n. ⊥ };
+}
 
+impl Buffer for BoolEncoder {
     fn new(alloc: Global) -> Self {
         BoolEncoder {
             values: FastVec::new(alloc),
@@ -67,11 +69,13 @@ pub struct BoolDecoder<'a> {
     values: CowSlice<'a, bool>,
 }
 
-impl<'a> View<'a> for BoolDecoder<'a> {
+impl<'a> HoldsData for BoolDecoder<'a> {
     ghost shape = { bool_shape };
 
     ghost held = { λ d. map truth (cow_rest d.values) };
+}
 
+impl<'a> View<'a> for BoolDecoder<'a> {
     ghost reads_free = { λ count input. count ≡ 0 };
 
     ghost faults = { λ reason count input. Names reason (bools_fault count input) };

@@ -16,10 +16,10 @@ use std::alloc::Global;
 /// The most references that [`Encoder::encode_vectored`] takes.
 pub const MAX_VECTORED_CHUNK: usize = 64;
 
-/// Columns that grow, value by value.
+/// The columns that an encoder holds.
 ///
-/// After a refusal only [`Buffer::clear`] may follow: it gives the columns back empty.
-pub trait Buffer {
+/// It has no functions: `Buffer` and `Encoder` both speak of these columns.
+pub trait HoldsColumns {
     // the columns so far
     ghost columns: { Self → Columns };
 
@@ -28,42 +28,47 @@ pub trait Buffer {
 
     // so many more values make a number of arrays pass, whatever they are
     ghost surely_passes: { Self → ℕ → Type 0 };
+}
 
+/// Columns that grow, value by value.
+///
+/// After a refusal only [`Buffer::clear`] may follow: it gives the columns back empty.
+pub trait Buffer: HoldsColumns {
     /// Columns without entries. Takes no memory.
     fn new(alloc: Global) -> Self
-        ensures { columns result ≡ emptied (columns result) };
+        ensures { Self.columns result ≡ emptied (Self.columns result) };
 
     /// Makes room for `n` more values.
     ///
     /// A refused growth is `out of memory`, and `length overflow` comes only where no `n` values can follow.
     fn reserve(&mut self, n: usize) -> Result<(), Error>
-        ensures columns { columns self.new ≡ columns self.old }
-        ensures ok { OnOk result (n ≤ room self.new) }
-        ensures grows { room self.old ≤ room self.new }
-        ensures succeeds { n ≤ room self.old → IsOk result }
-        ensures refused { IfErr result (λ e. IsWritingRefusal e.reason (surely_passes self.old n)) };
+        ensures columns { Self.columns self.new ≡ Self.columns self.old }
+        ensures ok { OnOk result (n ≤ Self.room self.new) }
+        ensures grows { Self.room self.old ≤ Self.room self.new }
+        ensures succeeds { n ≤ Self.room self.old → IsOk result }
+        ensures refused { IfErr result (λ e. IsWritingRefusal e.reason (Self.surely_passes self.old n)) };
 
     /// Writes the columns behind `out`, and leaves them empty.
     ///
     /// A refused growth is `out of memory`; `out` then begins with what it held.
     fn collect_into(&mut self, out: &mut Vec<u8>) -> Result<(), Error>
-        ensures written { OnOk result (out.new.items ≡ out.old.items ++ columns_text (columns self.old)) }
-        ensures empty { OnOk result (columns self.new ≡ emptied (columns self.old)) }
+        ensures written { OnOk result (out.new.items ≡ out.old.items ++ columns_text (Self.columns self.old)) }
+        ensures empty { OnOk result (Self.columns self.new ≡ emptied (Self.columns self.old)) }
         ensures begins { BeginsWith out.old.items out.new.items }
-        ensures form { emptied (columns self.new) ≡ emptied (columns self.old) }
+        ensures form { emptied (Self.columns self.new) ≡ emptied (Self.columns self.old) }
         ensures refused { IfErr result (λ e. e.reason ≡ Reason.OutOfMemory) };
 
     /// Drops all entries. Takes no memory. Room is to be reserved anew.
     fn clear(&mut self)
-        ensures { columns self.new ≡ emptied (columns self.old) };
+        ensures { Self.columns self.new ≡ emptied (Self.columns self.old) };
 
     /// Writes the columns as bytes of their own, and leaves them empty.
     ///
     /// A refused growth is `out of memory`.
     final fn collect(&mut self, alloc: Global) -> Result<Vec<u8>, Error>
-        ensures written { IfOk result (λ bytes. bytes.items ≡ columns_text (columns self.old)) }
-        ensures empty { OnOk result (columns self.new ≡ emptied (columns self.old)) }
-        ensures form { emptied (columns self.new) ≡ emptied (columns self.old) }
+        ensures written { IfOk result (λ bytes. bytes.items ≡ columns_text (Self.columns self.old)) }
+        ensures empty { OnOk result (Self.columns self.new ≡ emptied (Self.columns self.old)) }
+        ensures form { emptied (Self.columns self.new) ≡ emptied (Self.columns self.old) }
         ensures refused { IfErr result (λ e. e.reason ≡ Reason.OutOfMemory) }
     {
         let mut bytes = Vec::new(alloc);
@@ -73,7 +78,7 @@ pub trait Buffer {
 }
 
 /// Columns that values of `T` are written to.
-pub trait Encoder<T: Shaped>: Buffer {
+pub trait Encoder<T: Shaped>: HoldsColumns {
     /// Joins the columns of a value to those so far. Room for it was reserved.
     ///
     /// Want of memory inside the value is `out of memory`, and `length overflow` comes only where a number of
@@ -110,15 +115,20 @@ pub trait Encoder<T: Shaped>: Buffer {
     ghost surely: { (e : Self) (n : ℕ) → Self.surely_passes e n → SurelyPasses T.shape (Self.columns e) n };
 }
 
-/// Data that are read from an input.
+/// The data that a decoder holds.
 ///
-/// After a refusal only [`View::populate`] may follow.
-pub trait View<'a> {
+/// It has no functions: `View` and `Decoder` both speak of these data.
+pub trait HoldsData {
     ghost shape: { Shape };
 
     // the data that are left to take
     ghost held: { Self → List Datum };
+}
 
+/// Data that are read from an input.
+///
+/// After a refusal only [`View::populate`] may follow.
+pub trait View<'a>: HoldsData {
     // reading so many data from such an input takes no memory
     ghost reads_free: { ℕ → List ℕ → Type 0 };
 
@@ -128,21 +138,21 @@ pub trait View<'a> {
 
     /// Holds nothing. Takes no memory.
     fn new(alloc: Global) -> Self
-        ensures { held result ≡ [] };
+        ensures { Self.held result ≡ [] };
 
     /// Reads `k` data from the front of the input, all checks included.
     ///
     /// A refusal names one of the faults of the input, or `out of memory`.
     fn populate(&mut self, input: &mut &'a [u8], k: usize) -> Result<(), Error>
-        ensures read { OnOk result (Reads (Spells shape) k input.old.now (held self.new) input.new.now) }
-        ensures refused { IfErr result (λ e. IsReadingRefusal shape e.reason k input.old.now) }
+        ensures read { OnOk result (Reads (Spells Self.shape) k input.old.now (Self.held self.new) input.new.now) }
+        ensures refused { IfErr result (λ e. IsReadingRefusal Self.shape e.reason k input.old.now) }
         ensures exact { IfErr result (λ e. faults e.reason k input.old.now) }
         ensures rest { OnErr result (IsEndOf input.old.now input.new.now) }
         ensures free { reads_free k input.old.now → IfErr result (λ e. e.reason ≢ Reason.OutOfMemory) };
 }
 
 /// Data that values of `T` are made of.
-pub trait Decoder<'a, T: Made>: View<'a> {
+pub trait Decoder<'a, T: Made>: HoldsData {
     // making a value takes no memory
     ghost makes_free: { Bool };
 

@@ -7,7 +7,7 @@ ghost use Rattle.bitcode_coder.specs.Columns.{raws, one};
 ghost use Rattle.bitcode_coder.specs.RawBytes.{IsRawByte, raw_lawful};
 ghost use Rattle.bitcode_coder.specs.Spelling.{natural};
 
-use crate::coder::{Buffer, Encoder};
+use crate::coder::{Buffer, Encoder, HoldsColumns};
 use bitcode_input::error::Error;
 use bitcode_input::fast::{FastVec, PushUnchecked};
 use bitcode_shapes::shaped::Shaped;
@@ -51,13 +51,15 @@ pub struct U8CharEncoder {
     bytes: FastVec<u8>,
 }
 
-impl Buffer for U8CharEncoder {
+impl HoldsColumns for U8CharEncoder {
     ghost columns = { λ e. one raws (map natural (fast_items e.bytes)) };
 
     ghost room = { λ e. fast_room e.bytes };
 
     ghost surely_passes = { λ e n. ⊥ };
+}
 
+impl Buffer for U8CharEncoder {
     fn new(alloc: Global) -> Self {
         U8CharEncoder {
             bytes: FastVec::new(alloc),

@@ -20,7 +20,7 @@ use Rattle.bitcode_columns.proofs.ListLemmas.{append_split}
 use Rattle.bitcode_columns.proofs.DigitLemmas.{base_for_above, digits_text-spells, length-digits_text, SpellsDigits-once, SpellsDigits-eighth, digits_fault-refuses}
 use Rattle.bitcode_numbers.proofs.EndianLemmas.{length-number_bytes}
 use Rattle.bitcode_columns.proofs.RawLemmas.{missing_short}
-use Rattle.bitcode_columns.proofs.TaggedLemmas.{Holds, SpellsTagged-once, SpellsTagged-eighth, tagged_fault-refuses, tagged_text-spells}
+use Rattle.bitcode_columns.proofs.TaggedLemmas.{HoldsData, SpellsTagged-once, SpellsTagged-eighth, tagged_fault-refuses, tagged_text-spells}
 
 pub SpellsBytes-once : IsReadOnce SpellsBytes
 SpellsBytes-once = record {
@@ -84,7 +84,7 @@ base_at_level-level_of_base Four = refl
 base_at_level-level_of_base Three = refl
 base_at_level-level_of_base Two = refl
 
-byte_levels_hold : Holds 1 highest_byte_tag SpellsAtByteLevel byte_level_for text_at_byte_level
+byte_levels_hold : HoldsData 1 highest_byte_tag SpellsAtByteLevel byte_level_for text_at_byte_level
 byte_levels_hold = record {
   low = λ bound. level_low (base_for bound);
   whole = λ numbers h. digits_text-spells Whole numbers h;

@@ -18,7 +18,7 @@ use Rattle.bitcode_columns.specs.Laws.{IsReadOnce, TakesAnEighth, IsFaultOf, IsR
 use Rattle.bitcode_numbers.proofs.NumberLemmas.{residue_below}
 use Rattle.bitcode_numbers.proofs.EndianLemmas.{length-number_bytes}
 use Rattle.bitcode_columns.proofs.RawLemmas.{length-raw_text, SpellsRaw-once, SpellsRaw-eighth, missing-refuses_raw}
-use Rattle.bitcode_columns.proofs.TaggedLemmas.{Holds, SpellsTagged-once, SpellsTagged-eighth, tagged_fault-refuses, tagged_text-spells}
+use Rattle.bitcode_columns.proofs.TaggedLemmas.{HoldsData, SpellsTagged-once, SpellsTagged-eighth, tagged_fault-refuses, tagged_text-spells}
 use Rattle.bitcode_columns.proofs.ByteLemmas.{SpellsBytes-once, SpellsBytes-eighth, bytes_fault-refuses, byte_text-spells, byte_text_at_most}
 
 -- ---- read once
@@ -167,7 +167,7 @@ width_at_level_between width narrow is_width is_narrow h =
     ∙ ap (λ n. n * 2 ^ level) (halvings_exact narrow is_narrow))) in
     ap (λ n. n / 2 ^ level) split ∙ mul-div_cancel narrow (pow_pos level)
 
-int_levels_hold : (width : ℕ) → IsWidth width → Holds width (highest_int_tag width) (SpellsAtIntLevel width) (int_level_for width) (text_at_int_level width)
+int_levels_hold : (width : ℕ) → IsWidth width → HoldsData width (highest_int_tag width) (SpellsAtIntLevel width) (int_level_for width) (text_at_int_level width)
 int_levels_hold width is_width = record {
   low = λ bound. omega arith;
   whole = λ numbers h. narrow_text-spells (width_at_level width 0) numbers (subst (λ w. All (λ n. n < 256 ^ w) numbers) (sym (div-one width)) h);

@@ -75,7 +75,7 @@ tagged_fault-refuses width highest SpellsNarrow narrow_fault narrow = record {
 }
 
 -- numbers of the width stand whole at level 0, and numbers up to a bound at its level
-pub record Holds (width highest : ℕ) (SpellsNarrow : ℕ → List ℕ → List ℕ → Type 0) (level_for : ℕ → ℕ) (narrow_text : ℕ → List ℕ → List ℕ) : Type 0 where
+pub record HoldsData (width highest : ℕ) (SpellsNarrow : ℕ → List ℕ → List ℕ → Type 0) (level_for : ℕ → ℕ) (narrow_text : ℕ → List ℕ → List ℕ) : Type 0 where
   pub low : (bound : ℕ) → 2 * level_for bound ≤ highest
   pub whole : (numbers : List ℕ) → All (λ n. n < 256 ^ width) numbers → SpellsNarrow 0 (narrow_text 0 numbers) numbers
   pub narrowed : (bound : ℕ) (numbers : List ℕ) → bound < 256 ^ width → All (λ n. n ≤ bound) numbers
@@ -111,7 +111,7 @@ abs_below width true (pos n) h in_z = omega arith
 abs_below width signed (negsuc n) h in_z = absurd (omega (arith, ints))
 
 shifted_text-spells : (width highest : ℕ) (SpellsNarrow : ℕ → List ℕ → List ℕ → Type 0) (level_for : ℕ → ℕ) (narrow_text : ℕ → List ℕ → List ℕ)
-    → Holds width highest SpellsNarrow level_for narrow_text
+    → HoldsData width highest SpellsNarrow level_for narrow_text
     → (signed : Bool) (entries : List ℤ) → 1 ≤ width → 1 ≤ length entries → All (IsNumber width signed) entries → 1 ≤ shifted_level level_for entries
     → SpellsTagged width highest SpellsNarrow (shifted_text width level_for narrow_text entries) (map (residue width) entries)
 shifted_text-spells width highest SpellsNarrow level_for narrow_text holds signed entries positive some h high =
@@ -150,7 +150,7 @@ pub above_not_negative : (low high : ℤ) → pos 0 ≤ℤ low → low ≤ℤ hi
 above_not_negative low high h k = omega (arith, ints)
 
 plain_text-spells : (width highest : ℕ) (SpellsNarrow : ℕ → List ℕ → List ℕ → Type 0) (level_for : ℕ → ℕ) (narrow_text : ℕ → List ℕ → List ℕ)
-    → Holds width highest SpellsNarrow level_for narrow_text
+    → HoldsData width highest SpellsNarrow level_for narrow_text
     → (signed : Bool) (entries : List ℤ) → 1 ≤ length entries → All (IsNumber width signed) entries
     → SpellsTagged width highest SpellsNarrow (plain_text width level_for narrow_text entries) (map (residue width) entries)
 plain_text-spells width highest SpellsNarrow level_for narrow_text holds signed entries some h =
@@ -193,7 +193,7 @@ plain_text-spells width highest SpellsNarrow level_for narrow_text holds signed 
 
 -- (at width 0 the numbers 0 and -1 are too far apart)
 pub tagged_text-spells : (width highest : ℕ) (SpellsNarrow : ℕ → List ℕ → List ℕ → Type 0) (level_for : ℕ → ℕ) (narrow_text : ℕ → List ℕ → List ℕ)
-    → Holds width highest SpellsNarrow level_for narrow_text
+    → HoldsData width highest SpellsNarrow level_for narrow_text
     → (signed : Bool) (entries : List ℤ) → 1 ≤ width → 1 ≤ length entries → All (IsNumber width signed) entries
     → SpellsTagged width highest SpellsNarrow (tagged_text width level_for narrow_text entries) (map (residue width) entries)
 unfolding tagged_text

@@ -10,7 +10,7 @@ ghost use Rattle.bitcode_coder.specs.LengthParts.{NamesLengthFault, LengthsStand
 ghost use Rattle.bitcode_containers.specs.Sequences.{lists_of, BreaksLimit, ElementsBehind, FaultsInElements};
 
 use arrayvec::ArrayVec;
-use bitcode_coder::coder::{Decoder, View};
+use bitcode_coder::coder::{Decoder, HoldsData, View};
 use bitcode_coder::length::LengthDecoder;
 use bitcode_input::error::{Error, Reason};
 use bitcode_input::refuse::err;
@@ -37,11 +37,13 @@ pub struct ArrayVecDecoder<'a, D, const N: usize> {
     ghost capped: { All (λ n. n ≤ N) (lengths_left lengths) } by { Prim.hlevel props },
 }
 
-impl<'a, D: View<'a>, const N: usize> View<'a> for ArrayVecDecoder<'a, D, N> {
+impl<'a, D: HoldsData, const N: usize> HoldsData for ArrayVecDecoder<'a, D, N> {
     ghost shape = { seq_shape (Some N) D.shape };
 
     ghost held = { λ d. lists_of (lengths_left d.lengths) (D.held d.elements) };
+}
 
+impl<'a, D: View<'a>, const N: usize> View<'a> for ArrayVecDecoder<'a, D, N> {
     ghost reads_free = { λ k input. LengthsStandRaw k input × ElementsBehind D.reads_free k input };
 
     ghost faults = { λ reason k input. NamesLengthFault reason k input ⊎ (FaultsInElements D.faults reason k input ⊎ BreaksLimit N D.shape reason k input) };

@@ -12,7 +12,7 @@ ghost use Rattle.bitcode_containers.specs.Maps.{map_of};
 
 use crate::mappings::Mapping;
 use crate::vec::VecDecoder;
-use bitcode_coder::coder::{Buffer, Decoder, Encoder, View};
+use bitcode_coder::coder::{Buffer, Decoder, Encoder, HoldsColumns, HoldsData, View};
 use bitcode_coder::length::LengthEncoder;
 use bitcode_input::error::Error;
 use bitcode_shapes::keys::Key;
@@ -39,13 +39,15 @@ pub struct MapEncoder<K, V> {
     values: V,
 }
 
-impl<K: Buffer, V: Buffer> Buffer for MapEncoder<K, V> {
+impl<K: HoldsColumns, V: HoldsColumns> HoldsColumns for MapEncoder<K, V> {
     ghost columns = { λ e. two (one (lengths None) (map natural (written_lengths e.lengths))) (two (K.columns e.keys) (V.columns e.values)) };
 
     ghost room = { λ e. length_room e.lengths };
 
     ghost surely_passes = { λ e n. ⊥ };
+}
 
+impl<K: Buffer, V: Buffer> Buffer for MapEncoder<K, V> {
     fn new(alloc: Global) -> Self {
         MapEncoder {
             lengths: LengthEncoder::new(alloc),
@@ -71,7 +73,7 @@ impl<K: Buffer, V: Buffer> Buffer for MapEncoder<K, V> {
     }
 }
 
-impl<M: Mapping, K: Encoder<M::Key>, V: Encoder<M::Value>> Encoder<M> for MapEncoder<K, V> {
+impl<M: Mapping, K: Buffer + Encoder<M::Key>, V: Buffer + Encoder<M::Value>> Encoder<M> for MapEncoder<K, V> {
     fn encode(&mut self, t: &M) -> Result<(), Error> {
         t.told();
         let count = t.entry_count();
@@ -101,11 +103,13 @@ pub struct MapDecoder<'a, D> {
     entries: VecDecoder<'a, D>,
 }
 
-impl<'a, D: View<'a>> View<'a> for MapDecoder<'a, D> {
+impl<'a, D: HoldsData> HoldsData for MapDecoder<'a, D> {
     ghost shape = { map_of D.shape };
 
-    ghost held = { λ d. ⟦<VecDecoder<'a, D> as View<'a>>⟧.held d.entries };
+    ghost held = { λ d. ⟦<VecDecoder<'a, D> as HoldsData>⟧.held d.entries };
+}
 
+impl<'a, D: View<'a>> View<'a> for MapDecoder<'a, D> {
     ghost reads_free = { λ k input. ⟦<VecDecoder<'a, D> as View<'a>>⟧.reads_free k input };
 
     ghost faults = { λ reason k input. ⟦<VecDecoder<'a, D> as View<'a>>⟧.faults reason k input };

@@ -14,7 +14,7 @@ ghost use Rattle.bitcode_containers.specs.Sequences.{lists_of, ElementsBehind, F
 
 use crate::elements::decode_each;
 use crate::sequences::{FromElements, Sequence};
-use bitcode_coder::coder::{Buffer, Decoder, Encoder, View};
+use bitcode_coder::coder::{Buffer, Decoder, Encoder, HoldsColumns, HoldsData, View};
 use bitcode_coder::length::{LengthDecoder, LengthEncoder};
 use bitcode_input::error::{Error, Reason};
 use bitcode_shapes::keys::Key;
@@ -40,13 +40,15 @@ pub struct VecEncoder<E> {
     elements: E,
 }
 
-impl<E: Buffer> Buffer for VecEncoder<E> {
+impl<E: HoldsColumns> HoldsColumns for VecEncoder<E> {
     ghost columns = { λ e. two (one (lengths None) (map natural (written_lengths e.lengths))) (E.columns e.elements) };
 
     ghost room = { λ e. length_room e.lengths };
 
     ghost surely_passes = { λ e n. ⊥ };
+}
 
+impl<E: Buffer> Buffer for VecEncoder<E> {
     fn new(alloc: Global) -> Self {
         VecEncoder {
             lengths: LengthEncoder::new(alloc),
@@ -69,7 +71,7 @@ impl<E: Buffer> Buffer for VecEncoder<E> {
     }
 }
 
-impl<S: Sequence, E: Encoder<S::Element>> Encoder<S> for VecEncoder<E> {
+impl<S: Sequence, E: Buffer + Encoder<S::Element>> Encoder<S> for VecEncoder<E> {
     fn encode(&mut self, t: &S) -> Result<(), Error> {
         t.told();
         let count = t.element_count();
@@ -99,11 +101,13 @@ pub struct VecDecoder<'a, D> {
     elements: D,
 }
 
-impl<'a, D: View<'a>> View<'a> for VecDecoder<'a, D> {
+impl<'a, D: HoldsData> HoldsData for VecDecoder<'a, D> {
     ghost shape = { seq_shape None D.shape };
 
     ghost held = { λ d. lists_of (lengths_left d.lengths) (D.held d.elements) };
+}
 
+impl<'a, D: View<'a>> View<'a> for VecDecoder<'a, D> {
     ghost reads_free = { λ k input. LengthsStandRaw k input × ElementsBehind D.reads_free k input };
 
     ghost faults = { λ reason k input. NamesLengthFault reason k input ⊎ FaultsInElements D.faults reason k input };

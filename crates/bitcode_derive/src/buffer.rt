@@ -27,7 +27,7 @@ pub struct Buffer<T: Encode> {
 }
 
 impl<T: Encode> Buffer<T> {
-    /// Holds nothing. Takes no memory.
+    /// HoldsData nothing. Takes no memory.
     pub fn new(alloc: Global) -> Self {
         Buffer {
             alloc,

@@ -1,5 +1,5 @@
 // The types that have coders.
-use bitcode_coder::coder::{Decoder, Encoder};
+use bitcode_coder::coder::{Buffer, Decoder, Encoder, View};
 use bitcode_shapes::shaped::{Made, Shaped};
 
 /// A type whose values are written.
@@ -13,7 +13,7 @@ use bitcode_shapes::shaped::{Made, Shaped};
 /// ```
 pub trait Encode: Shaped {
     /// The columns that values are written to. A whole call drops them.
-    type Encoder: Encoder<Self> + Drop;
+    type Encoder: Buffer + Encoder<Self> + Drop;
 }
 
 /// A type whose values are read from an input that outlives `'a`.
@@ -25,7 +25,7 @@ pub trait Encode: Shaped {
 /// ```
 pub trait Decode<'a>: Made + Drop {
     /// The data that values are made of. A whole call drops what is left of them.
-    type Decoder: Decoder<'a, Self> + Drop;
+    type Decoder: View<'a> + Decoder<'a, Self> + Drop;
 }
 
 /// A type whose values borrow nothing from the input that they are read from.

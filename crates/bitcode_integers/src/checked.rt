@@ -13,7 +13,7 @@ ghost use Rattle.bitcode_coder.specs.Spelling.{Spells};
 
 pub use crate::checked::nanosecond::Nanosecond;
 use crate::column_int::ColumnInt;
-use bitcode_coder::coder::{Decoder, View};
+use bitcode_coder::coder::{Decoder, HoldsData, View};
 use bitcode_input::error::{Error, Reason};
 use bitcode_input::fast::CowSlice;
 use bitcode_input::refuse::err;
@@ -63,11 +63,13 @@ fn are_allowed<C: Checked<I>, I: ColumnInt>(entries: &[I::Une]) -> bool
     true
 }
 
-impl<'a, C: Checked<I>, I: ColumnInt> View<'a> for CheckedIntDecoder<'a, C, I> {
+impl<'a, C: Checked<I>, I: ColumnInt> HoldsData for CheckedIntDecoder<'a, C, I> {
     ghost shape = { number_shape I.width I.signed C.allowed };
 
     ghost held = { λ d. checked_data C.allowed (numbers_of I.width I.signed I.une_bytes (cow_rest d.values)) };
+}
 
+impl<'a, C: Checked<I>, I: ColumnInt> View<'a> for CheckedIntDecoder<'a, C, I> {
     ghost reads_free = { λ count input. IsTrue (ints_stand_raw I.width count input) };
 
     ghost faults = { λ reason count input. NamesCheckedFault I.width I.signed C.allowed reason count input };

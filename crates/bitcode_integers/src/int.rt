@@ -14,7 +14,7 @@ ghost use Rattle.bitcode_coder.specs.Spelling.{Spells};
 ghost use Rattle.bitcode_coder.specs.Coding.{IsReadingRefusal, written_columns};
 
 use crate::column_int::ColumnInt;
-use bitcode_coder::coder::{Buffer, Decoder, Encoder, View};
+use bitcode_coder::coder::{Buffer, Decoder, Encoder, HoldsColumns, HoldsData, View};
 use bitcode_input::error::{Error, Reason};
 use bitcode_input::fast::{CowSlice, FastVec, PushUnchecked};
 use bitcode_shapes::shaped::{Made, Shaped};
@@ -52,13 +52,15 @@ pub struct IntEncoder<T: ColumnInt> {
     values: FastVec<T>,
 }
 
-impl<T: ColumnInt> Buffer for IntEncoder<T> {
+impl<T: ColumnInt> HoldsColumns for IntEncoder<T> {
     ghost columns = { λ e. one (ints T.width T.signed) (int_data T.number (fast_items e.values)) };
 
     ghost room = { λ e. fast_room e.values };
 
     ghost surely_passes = { λ e n. ⊥ };
+}
 
+impl<T: ColumnInt> Buffer for IntEncoder<T> {
     fn new(alloc: Global) -> Self {
         IntEncoder {
             alloc,
@@ -105,11 +107,13 @@ pub struct IntDecoder<'a, T: ColumnInt> {
     values: CowSlice<'a, T::Une>,
 }
 
-impl<'a, T: ColumnInt> View<'a> for IntDecoder<'a, T> {
+impl<'a, T: ColumnInt> HoldsData for IntDecoder<'a, T> {
     ghost shape = { int_shape T.width T.signed };
 
     ghost held = { λ d. bytes_data T.width T.signed T.une_bytes (cow_rest d.values) };
+}
 
+impl<'a, T: ColumnInt> View<'a> for IntDecoder<'a, T> {
     ghost reads_free = { λ count input. IsTrue (ints_stand_raw T.width count input) };
 
     ghost faults = { λ reason count input. Names reason (ints_fault T.width count input) };

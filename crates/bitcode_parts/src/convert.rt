@@ -4,7 +4,7 @@ ghost use Rattle.std.proofs.Common.{sym, ◌∙◌};
 ghost use Rattle.bitcode_coder.specs.Coding.{ListsAsToo, MakesToo};
 ghost use Rattle.bitcode_parts.specs.Conversion.{IsWrittenAs, surely_as};
 
-use bitcode_coder::coder::{Buffer, Decoder, Encoder, View};
+use bitcode_coder::coder::{Buffer, Decoder, Encoder, HoldsColumns, HoldsData, View};
 use bitcode_input::error::Error;
 use bitcode_shapes::shaped::{Made, Shaped};
 use std::alloc::Global;
@@ -58,13 +58,15 @@ pub struct ConvertIntoEncoder<T, E> {
     of: PhantomData<T>,
 }
 
-impl<T: Drop, E: Buffer> Buffer for ConvertIntoEncoder<T, E> {
+impl<T: Drop, E: HoldsColumns> HoldsColumns for ConvertIntoEncoder<T, E> {
     ghost columns = { λ e. E.columns e.inner };
 
     ghost room = { λ e. E.room e.inner };
 
     ghost surely_passes = { λ e n. E.surely_passes e.inner n };
+}
 
+impl<T: Drop, E: Buffer> Buffer for ConvertIntoEncoder<T, E> {
     fn new(alloc: Global) -> Self {
         ConvertIntoEncoder {
             inner: E::new(alloc),
@@ -108,11 +110,13 @@ pub struct ConvertFromDecoder<T, D> {
     of: PhantomData<T>,
 }
 
-impl<'a, T: Drop, D: View<'a>> View<'a> for ConvertFromDecoder<T, D> {
+impl<T: Drop, D: HoldsData> HoldsData for ConvertFromDecoder<T, D> {
     ghost shape = { D.shape };
 
     ghost held = { λ d. D.held d.inner };
+}
 
+impl<'a, T: Drop, D: View<'a>> View<'a> for ConvertFromDecoder<T, D> {
     ghost reads_free = { λ k input. D.reads_free k input };
 
     ghost faults = { λ reason k input. D.faults reason k input };

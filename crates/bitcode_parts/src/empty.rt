@@ -5,7 +5,7 @@ ghost use Rattle.bitcode_shapes.specs.Shape.{unit_shape};
 ghost use Rattle.bitcode_coder.specs.Columns.{no_columns};
 ghost use Rattle.bitcode_coder.specs.Coding.{endless_room};
 
-use bitcode_coder::coder::{Buffer, Decoder, Encoder, View};
+use bitcode_coder::coder::{Buffer, Decoder, Encoder, HoldsColumns, HoldsData, View};
 use bitcode_input::error::Error;
 use std::alloc::Global;
 
@@ -18,13 +18,15 @@ pub struct EmptyCoder {
     left: usize,
 }
 
-impl Buffer for EmptyCoder {
+impl HoldsColumns for EmptyCoder {
     ghost columns = { λ e. no_columns };
 
     ghost room = { λ e. endless_room };
 
     ghost surely_passes = { λ e n. ⊥ };
+}
 
+impl Buffer for EmptyCoder {
     fn new(alloc: Global) -> Self {
         View::new(alloc)
     }
@@ -50,11 +52,13 @@ impl Encoder<()> for EmptyCoder {
     ghost surely = { λ e n h. absurd h };
 }
 
-impl<'a> View<'a> for EmptyCoder {
+impl HoldsData for EmptyCoder {
     ghost shape = { unit_shape };
 
     ghost held = { λ d. replicate d.left unit };
+}
 
+impl<'a> View<'a> for EmptyCoder {
     ghost reads_free = { λ k input. Unit {0} };
 
     ghost faults = { λ reason k input. ⊥ };

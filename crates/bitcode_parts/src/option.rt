@@ -9,7 +9,7 @@ ghost use Rattle.bitcode_parts.specs.VariantCoders.{variant_room, variants_left}
 
 use crate::empty::EmptyCoder;
 use crate::variant::{VariantDecoder, VariantEncoder, encode_payload};
-use bitcode_coder::coder::{Buffer, Decoder, Encoder, View};
+use bitcode_coder::coder::{Buffer, Decoder, Encoder, HoldsColumns, HoldsData, View};
 use bitcode_input::error::Error;
 use bitcode_shapes::shaped::{Made, Shaped};
 use std::alloc::Global;
@@ -30,13 +30,15 @@ pub struct OptionEncoder<E> {
     some: E,
 }
 
-impl<E: Buffer> Buffer for OptionEncoder<E> {
-    ghost columns = { λ e. two (⟦<VariantEncoder<2> as Buffer>⟧.columns e.variants) (two no_columns (two (E.columns e.some) no_columns)) };
+impl<E: HoldsColumns> HoldsColumns for OptionEncoder<E> {
+    ghost columns = { λ e. two (⟦<VariantEncoder<2> as HoldsColumns>⟧.columns e.variants) (two no_columns (two (E.columns e.some) no_columns)) };
 
     ghost room = { λ e. variant_room e.variants };
 
     ghost surely_passes = { λ e n. ⊥ };
+}
 
+impl<E: Buffer> Buffer for OptionEncoder<E> {
     fn new(alloc: Global) -> Self {
         OptionEncoder {
             variants: VariantEncoder::new(alloc),
@@ -59,7 +61,7 @@ impl<E: Buffer> Buffer for OptionEncoder<E> {
     }
 }
 
-impl<T: Shaped, E: Encoder<T>> Encoder<Option<T>> for OptionEncoder<E> {
+impl<T: Shaped, E: Buffer + Encoder<T>> Encoder<Option<T>> for OptionEncoder<E> {
     fn encode(&mut self, t: &Option<T>) -> Result<(), Error> {
         match t {
             None => {
@@ -92,11 +94,13 @@ pub struct OptionDecoder<'a, D> {
     some: D,
 }
 
-impl<'a, D: View<'a>> View<'a> for OptionDecoder<'a, D> {
+impl<'a, D: HoldsData> HoldsData for OptionDecoder<'a, D> {
     ghost shape = { choice_shape (shape_and unit_shape (shape_and D.shape no_shapes)) };
 
-    ghost held = { λ d. choices_of (variants_left d.variants) (⟦<EmptyCoder as View<'a>>⟧.held d.none ∷ D.held d.some ∷ []) };
+    ghost held = { λ d. choices_of (variants_left d.variants) (⟦<EmptyCoder as HoldsData>⟧.held d.none ∷ D.held d.some ∷ []) };
+}
 
+impl<'a, D: View<'a>> View<'a> for OptionDecoder<'a, D> {
     ghost reads_free = { TwoVariantsReadFree unit_shape ⟦<EmptyCoder as View<'a>>⟧.reads_free D.reads_free };
 
     ghost faults = { TwoVariantsFault unit_shape ⟦<EmptyCoder as View<'a>>⟧.faults D.faults };

@@ -8,7 +8,7 @@ ghost use Rattle.bitcode_parts.specs.TwoVariantLaws.{same_two_variants, two_vari
 ghost use Rattle.bitcode_parts.specs.VariantCoders.{variant_room, variants_left};
 
 use crate::variant::{VariantDecoder, VariantEncoder, encode_payload};
-use bitcode_coder::coder::{Buffer, Decoder, Encoder, View};
+use bitcode_coder::coder::{Buffer, Decoder, Encoder, HoldsColumns, HoldsData, View};
 use bitcode_input::error::Error;
 use bitcode_shapes::shaped::{Made, Shaped};
 use std::alloc::Global;
@@ -29,13 +29,15 @@ pub struct ResultEncoder<A, B> {
     err: B,
 }
 
-impl<A: Buffer, B: Buffer> Buffer for ResultEncoder<A, B> {
-    ghost columns = { λ e. two (⟦<VariantEncoder<2> as Buffer>⟧.columns e.variants) (two (A.columns e.ok) (two (B.columns e.err) no_columns)) };
+impl<A: HoldsColumns, B: HoldsColumns> HoldsColumns for ResultEncoder<A, B> {
+    ghost columns = { λ e. two (⟦<VariantEncoder<2> as HoldsColumns>⟧.columns e.variants) (two (A.columns e.ok) (two (B.columns e.err) no_columns)) };
 
     ghost room = { λ e. variant_room e.variants };
 
     ghost surely_passes = { λ e n. ⊥ };
+}
 
+impl<A: Buffer, B: Buffer> Buffer for ResultEncoder<A, B> {
     fn new(alloc: Global) -> Self {
         ResultEncoder {
             variants: VariantEncoder::new(alloc),
@@ -61,7 +63,7 @@ impl<A: Buffer, B: Buffer> Buffer for ResultEncoder<A, B> {
     }
 }
 
-impl<T: Shaped, E: Shaped, A: Encoder<T>, B: Encoder<E>> Encoder<Result<T, E>>
+impl<T: Shaped, E: Shaped, A: Buffer + Encoder<T>, B: Buffer + Encoder<E>> Encoder<Result<T, E>>
     for ResultEncoder<A, B> {
     fn encode(&mut self, t: &Result<T, E>) -> Result<(), Error> {
         match t {
@@ -95,11 +97,13 @@ pub struct ResultDecoder<'a, A, B> {
     err: B,
 }
 
-impl<'a, A: View<'a>, B: View<'a>> View<'a> for ResultDecoder<'a, A, B> {
+impl<'a, A: HoldsData, B: HoldsData> HoldsData for ResultDecoder<'a, A, B> {
     ghost shape = { choice_shape (shape_and A.shape (shape_and B.shape no_shapes)) };
 
     ghost held = { λ d. choices_of (variants_left d.variants) (A.held d.ok ∷ B.held d.err ∷ []) };
+}
 
+impl<'a, A: View<'a>, B: View<'a>> View<'a> for ResultDecoder<'a, A, B> {
     ghost reads_free = { TwoVariantsReadFree A.shape A.reads_free B.reads_free };
 
     ghost faults = { TwoVariantsFault A.shape A.faults B.faults };

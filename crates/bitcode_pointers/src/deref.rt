@@ -4,7 +4,7 @@ ghost use Rattle.std.proofs.Common.{sym, ◌∙◌, ap, subst};
 ghost use Rattle.bitcode_coder.specs.Coding.{ListsAsToo, written_columns, SurelyPasses};
 ghost use Rattle.bitcode_coder.specs.Columns.{lengths, one, two};
 
-use bitcode_coder::coder::{Buffer, Encoder};
+use bitcode_coder::coder::{Buffer, Encoder, HoldsColumns};
 use bitcode_containers::vec::VecEncoder;
 use bitcode_input::error::Error;
 use bitcode_shapes::shaped::Shaped;
@@ -49,13 +49,15 @@ pub struct DerefEncoder<E> {
     inner: E,
 }
 
-impl<E: Buffer> Buffer for DerefEncoder<E> {
+impl<E: HoldsColumns> HoldsColumns for DerefEncoder<E> {
     ghost columns = { λ e. E.columns e.inner };
 
     ghost room = { λ e. E.room e.inner };
 
     ghost surely_passes = { λ e n. E.surely_passes e.inner n };
+}
 
+impl<E: Buffer> Buffer for DerefEncoder<E> {
     fn new(alloc: Global) -> Self {
         DerefEncoder {
             inner: E::new(alloc),
@@ -85,7 +87,7 @@ impl<P: Points, E: Encoder<P::Target>> Encoder<P> for DerefEncoder<E> {
     ghost surely = { λ e n h. subst (λ shape. SurelyPasses shape (E.columns e.inner) n) (sym P.same_shape) (E.surely e.inner n h) };
 }
 
-impl<T: Shaped, E: Encoder<T>> Encoder<BoxedSlice<T>> for DerefEncoder<VecEncoder<E>> {
+impl<T: Shaped, E: Buffer + Encoder<T>> Encoder<BoxedSlice<T>> for DerefEncoder<VecEncoder<E>> {
     fn encode(&mut self, t: &BoxedSlice<T>) -> Result<(), Error> {
         self.inner.encode(&t.as_slice())
     }
@@ -95,7 +97,7 @@ impl<T: Shaped, E: Encoder<T>> Encoder<BoxedSlice<T>> for DerefEncoder<VecEncode
     ghost surely = { λ e n never. absurd never };
 }
 
-impl<T: Shaped, E: Encoder<T>> Encoder<RcSlice<T>> for DerefEncoder<VecEncoder<E>> {
+impl<T: Shaped, E: Buffer + Encoder<T>> Encoder<RcSlice<T>> for DerefEncoder<VecEncoder<E>> {
     fn encode(&mut self, t: &RcSlice<T>) -> Result<(), Error> {
         let items = t.as_slice();
         self.inner.encode(&items)

@@ -3,7 +3,7 @@ ghost use Rattle.std.specs.Prelude.{◌≡◌, Bool, IsTrue, IsOk, IfOk, IfErr, 
 ghost use Rattle.std.proofs.Common.{sym, ◌∙◌};
 ghost use Rattle.bitcode_coder.specs.Coding.{MakesToo};
 
-use bitcode_coder::coder::{Decoder, View};
+use bitcode_coder::coder::{Decoder, HoldsData, View};
 use bitcode_input::error::{Error, Reason};
 use bitcode_shapes::shaped::Made;
 use std::alloc::Global;
@@ -49,11 +49,13 @@ pub struct FromDecoder<T, D> {
     of: PhantomData<T>,
 }
 
-impl<'a, T: Drop, D: View<'a>> View<'a> for FromDecoder<T, D> {
+impl<T: Drop, D: HoldsData> HoldsData for FromDecoder<T, D> {
     ghost shape = { D.shape };
 
     ghost held = { λ d. D.held d.inner };
+}
 
+impl<'a, T: Drop, D: View<'a>> View<'a> for FromDecoder<T, D> {
     ghost reads_free = { λ k input. D.reads_free k input };
 
     ghost faults = { λ reason k input. D.faults reason k input };

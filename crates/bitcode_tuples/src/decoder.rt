@@ -7,7 +7,7 @@ ghost use Rattle.bitcode_coder.specs.Spelling.{Spells};
 ghost use Rattle.bitcode_tuples.specs.Pairs.{pairs_of, FaultsBehind};
 ghost use Rattle.bitcode_tuples.specs.PairLaws.{same_pair_shape};
 
-use bitcode_coder::coder::{Decoder, View};
+use bitcode_coder::coder::{Decoder, HoldsData, View};
 use bitcode_input::error::Error;
 use bitcode_shapes::shaped::Made;
 use std::alloc::Global;
@@ -24,11 +24,13 @@ pub struct TupleDecoder<A, B> {
     pub(crate) second: B,
 }
 
-impl<'a, A: View<'a>, B: View<'a>> View<'a> for TupleDecoder<A, B> {
+impl<A: HoldsData, B: HoldsData> HoldsData for TupleDecoder<A, B> {
     ghost shape = { pair_shape A.shape B.shape };
 
     ghost held = { λ d. pairs_of (A.held d.first) (B.held d.second) };
+}
 
+impl<'a, A: View<'a>, B: View<'a>> View<'a> for TupleDecoder<A, B> {
     ghost reads_free = { λ k input.
         A.reads_free k input × ((ds : List Datum) (rest : List ℕ) → Reads (Spells A.shape) k input ds rest → B.reads_free k rest) };
 

@@ -4,7 +4,7 @@ ghost use Rattle.bitcode_coder.specs.Columns.{two};
 ghost use Rattle.bitcode_tuples.specs.PairLaws.{both_of_shape, both_surely};
 
 use crate::fields::FieldsEncoder;
-use bitcode_coder::coder::{Buffer, Encoder};
+use bitcode_coder::coder::{Buffer, Encoder, HoldsColumns};
 use bitcode_input::error::Error;
 use bitcode_shapes::shaped::Shaped;
 use std::alloc::Global;
@@ -21,13 +21,15 @@ pub struct TupleEncoder<A, B> {
     pub(crate) second: B,
 }
 
-impl<A: Buffer, B: Buffer> Buffer for TupleEncoder<A, B> {
+impl<A: HoldsColumns, B: HoldsColumns> HoldsColumns for TupleEncoder<A, B> {
     ghost columns = { λ e. two (A.columns e.first) (B.columns e.second) };
 
     ghost room = { λ e. min (A.room e.first) (B.room e.second) };
 
     ghost surely_passes = { λ e n. A.surely_passes e.first n ⊎ B.surely_passes e.second n };
+}
 
+impl<A: Buffer, B: Buffer> Buffer for TupleEncoder<A, B> {
     fn new(alloc: Global) -> Self {
         TupleEncoder {
             first: A::new(alloc),

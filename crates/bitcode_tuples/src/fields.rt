@@ -4,7 +4,7 @@ ghost use Rattle.bitcode_coder.specs.Columns.{emptied};
 ghost use Rattle.bitcode_coder.specs.Coding.{JoinsListing, PassesWithListing, IsWritingRefusal};
 
 use crate::encoder::TupleEncoder;
-use bitcode_coder::coder::{Buffer, Encoder};
+use bitcode_coder::coder::{Encoder, HoldsColumns};
 use bitcode_input::error::Error;
 use bitcode_shapes::shaped::Shaped;
 
@@ -44,7 +44,7 @@ impl<F: Fields, G: Fields> Fields for (F, G) {
 }
 
 // As `Encoder`, for a value whose fields lie apart.
-pub trait FieldsEncoder<F: Fields>: Buffer {
+pub trait FieldsEncoder<F: Fields>: HoldsColumns {
     fn encode_fields(&mut self, fields: &F) -> Result<(), Error>
         requires { 0 < Self.room self.old }
         ensures joined { OnOk result (JoinsListing F.Whole.lists F.Whole.shape (F.whole fields.now) (Self.columns self.old) (Self.columns self.new)) }

@@ -10,7 +10,7 @@ ghost use Rattle.bitcode_coder.specs.Columns.{lengths, one};
 ghost use Rattle.bitcode_coder.specs.LengthParts.{IsSplit};
 ghost use Rattle.bitcode_coder.specs.Spelling.{natural};
 
-use crate::coder::Buffer;
+use crate::coder::{Buffer, HoldsColumns};
 use crate::length::ESCAPE;
 use bitcode_columns::pack::pack_bytes;
 use bitcode_columns::pack_ints::pack_ints;
@@ -45,7 +45,7 @@ fn pack_parts(
     pack_ints(alloc, large, out)
 }
 
-impl Buffer for LengthEncoder {
+impl HoldsColumns for LengthEncoder {
     ghost use Rattle.bitcode_coder.specs.LengthCoders.{written_lengths, length_room};
 
     ghost columns = { λ e. one (lengths None) (map natural (written_lengths e)) };
@@ -53,7 +53,9 @@ impl Buffer for LengthEncoder {
     ghost room = { length_room };
 
     ghost surely_passes = { λ e n. ⊥ };
+}
 
+impl Buffer for LengthEncoder {
     fn new(alloc: Global) -> Self {
         LengthEncoder {
             alloc,

@@ -14,7 +14,7 @@ ghost use Rattle.bitcode_coder.specs.LengthParts.{ReadsParts, LengthsStandRaw};
 ghost use Rattle.bitcode_coder.specs.Spelling.{Spells};
 ghost use Rattle.bitcode_coder.specs.TextParts.{NamesTextFault};
 
-use crate::coder::{Decoder, View};
+use crate::coder::{Decoder, HoldsData, View};
 use crate::length::LengthDecoder;
 use bitcode_input::consume::consume_bytes;
 use bitcode_input::error::{Error, Reason};
@@ -107,11 +107,13 @@ impl<'a> StrDecoder<'a> {
     }
 }
 
-impl<'a> View<'a> for StrDecoder<'a> {
+impl<'a> HoldsData for StrDecoder<'a> {
     ghost shape = { text_shape None };
 
     ghost held = { λ d. map text (cut (lengths_left d.lengths) (slice_rest d.bytes)) };
+}
 
+impl<'a> View<'a> for StrDecoder<'a> {
     ghost reads_free = { LengthsStandRaw };
 
     ghost faults = { NamesTextFault };

@@ -9,7 +9,7 @@ ghost use Rattle.bitcode_coder.specs.Cutting.{cut};
 ghost use Rattle.bitcode_coder.specs.LengthCoders.{written_lengths, length_room};
 ghost use Rattle.bitcode_coder.specs.LengthColumn.{length_text};
 
-use crate::coder::{Buffer, Encoder};
+use crate::coder::{Buffer, Encoder, HoldsColumns};
 use crate::length::LengthEncoder;
 use crate::str::AsText;
 use bitcode_input::error::{Error, Reason};
@@ -43,13 +43,15 @@ fn pack_texts(lengths: &mut LengthEncoder, bytes: &[u8], out: &mut Vec<u8>) -> R
     Ok(())
 }
 
-impl Buffer for StrEncoder {
+impl HoldsColumns for StrEncoder {
     ghost columns = { λ e. one (texts None) (map text (cut (written_lengths e.lengths) (fast_items e.bytes))) };
 
     ghost room = { λ e. length_room e.lengths };
 
     ghost surely_passes = { λ e n. ⊥ };
+}
 
+impl Buffer for StrEncoder {
     fn new(alloc: Global) -> Self {
         StrEncoder {
             lengths: LengthEncoder::new(alloc),

@@ -12,7 +12,7 @@ ghost use Rattle.bitcode_coder.specs.LengthParts.{LengthsStandRaw};
 ghost use Rattle.bitcode_coder.specs.Spelling.{Spells};
 ghost use Rattle.bitcode_coder.specs.TextParts.{NamesLimitedTextFault};
 
-use crate::coder::{Decoder, View};
+use crate::coder::{Decoder, HoldsData, View};
 use crate::str::StrDecoder;
 use arrayvec::ArrayString;
 use bitcode_input::error::{Error, Reason};
@@ -38,11 +38,13 @@ pub struct ArrayStringDecoder<'a, const N: usize> {
     ghost within: { All (λ t. length t ≤ N) (cut (lengths_left column.lengths) (slice_rest column.bytes)) } by { Prim.hlevel props },
 }
 
-impl<'a, const N: usize> View<'a> for ArrayStringDecoder<'a, N> {
+impl<'a, const N: usize> HoldsData for ArrayStringDecoder<'a, N> {
     ghost shape = { text_shape (Some N) };
 
     ghost held = { λ d. map text (cut (lengths_left d.column.lengths) (slice_rest d.column.bytes)) };
+}
 
+impl<'a, const N: usize> View<'a> for ArrayStringDecoder<'a, N> {
     ghost reads_free = { LengthsStandRaw };
 
     ghost faults = { NamesLimitedTextFault N };

@@ -6,7 +6,7 @@ ghost use Rattle.bitcode_input.specs.Fast.{fast_items};
 ghost use Rattle.bitcode_coder.specs.Columns.{variants, one};
 ghost use Rattle.bitcode_coder.specs.Spelling.{natural};
 
-use bitcode_coder::coder::Buffer;
+use bitcode_coder::coder::{Buffer, HoldsColumns};
 use bitcode_columns::pack::pack_bytes_less_than;
 use bitcode_input::error::Error;
 use bitcode_input::fast::{FastVec, PushUnchecked};
@@ -29,7 +29,7 @@ pub struct VariantEncoder<const N: usize> {
     ghost known: { All (λ variant. variant < N) (fast_items variants) },
 }
 
-impl<const N: usize> Buffer for VariantEncoder<N> {
+impl<const N: usize> HoldsColumns for VariantEncoder<N> {
     ghost use Rattle.bitcode_parts.specs.VariantCoders.{written_variants, variant_room};
 
     ghost columns = { λ e. one (variants N) (map natural (written_variants e)) };
@@ -37,7 +37,9 @@ impl<const N: usize> Buffer for VariantEncoder<N> {
     ghost room = { variant_room };
 
     ghost surely_passes = { λ e n. ⊥ };
+}
 
+impl<const N: usize> Buffer for VariantEncoder<N> {
     fn new(alloc: Global) -> Self {
         VariantEncoder {
             variants: FastVec::new(alloc),

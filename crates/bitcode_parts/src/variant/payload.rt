@@ -3,7 +3,7 @@ ghost use Rattle.std.specs.Prelude.{◌≡◌, OnOk, IfErr};
 ghost use Rattle.bitcode_coder.specs.Columns.{emptied};
 ghost use Rattle.bitcode_coder.specs.Coding.{JoinsListing, PassesWithListing, IsWritingRefusal};
 
-use bitcode_coder::coder::Encoder;
+use bitcode_coder::coder::{Buffer, Encoder};
 use bitcode_input::error::Error;
 use bitcode_shapes::shaped::Shaped;
 
@@ -16,7 +16,7 @@ use bitcode_shapes::shaped::Shaped;
 /// self.variants.encode(1);
 /// encode_payload(&mut self.some, t)
 /// ```
-pub fn encode_payload<T: Shaped, E: Encoder<T>>(encoder: &mut E, t: &T) -> Result<(), Error>
+pub fn encode_payload<T: Shaped, E: Buffer + Encoder<T>>(encoder: &mut E, t: &T) -> Result<(), Error>
     ensures joined { OnOk result (JoinsListing T.lists T.shape t.now (E.columns encoder.old) (E.columns encoder.new)) }
     ensures form { emptied (E.columns encoder.new) ≡ emptied (E.columns encoder.old) }
     ensures refused { IfErr result (λ e. IsWritingRefusal e.reason (PassesWithListing T.lists T.shape t.now (E.columns encoder.old))) }

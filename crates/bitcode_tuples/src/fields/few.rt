@@ -4,7 +4,7 @@ ghost use Rattle.bitcode_coder.specs.Columns.{emptied};
 ghost use Rattle.bitcode_coder.specs.Coding.{written_columns, JoinsListing, PassesWithListing, SurelyPasses, IsWritingRefusal};
 
 use crate::fields::{Fields, FieldsEncoder};
-use bitcode_coder::coder::Buffer;
+use bitcode_coder::coder::HoldsColumns;
 use bitcode_input::error::Error;
 use bitcode_shapes::shaped::Shaped;
 
@@ -21,7 +21,7 @@ impl<'a, T1: Shaped, T2: Shaped, T3: Shaped> Fields for (&'a T1, &'a T2, &'a T3)
 }
 
 /// As `Encoder`, for a tuple whose three fields lie apart.
-pub trait FieldsEncoder3<T1: Shaped, T2: Shaped, T3: Shaped>: Buffer {
+pub trait FieldsEncoder3<T1: Shaped, T2: Shaped, T3: Shaped>: HoldsColumns {
     fn encode_each(&mut self, t1: &T1, t2: &T2, t3: &T3) -> Result<(), Error>
         requires { 0 < Self.room self.old }
         ensures joined { OnOk result (JoinsListing ⟦<(T1, T2, T3) as Shaped>⟧.lists ⟦<(T1, T2, T3) as Shaped>⟧.shape (t1.now, t2.now, t3.now) (Self.columns self.old) (Self.columns self.new)) }
@@ -57,7 +57,7 @@ impl<'a, T1: Shaped, T2: Shaped, T3: Shaped, T4: Shaped> Fields
 }
 
 /// As `Encoder`, for a tuple whose four fields lie apart.
-pub trait FieldsEncoder4<T1: Shaped, T2: Shaped, T3: Shaped, T4: Shaped>: Buffer {
+pub trait FieldsEncoder4<T1: Shaped, T2: Shaped, T3: Shaped, T4: Shaped>: HoldsColumns {
     fn encode_each(&mut self, t1: &T1, t2: &T2, t3: &T3, t4: &T4) -> Result<(), Error>
         requires { 0 < Self.room self.old }
         ensures joined { OnOk result (JoinsListing ⟦<(T1, T2, T3, T4) as Shaped>⟧.lists ⟦<(T1, T2, T3, T4) as Shaped>⟧.shape (t1.now, t2.now, t3.now, t4.now) (Self.columns self.old) (Self.columns self.new)) }
@@ -99,7 +99,7 @@ impl<'a, T1: Shaped, T2: Shaped, T3: Shaped, T4: Shaped, T5: Shaped> Fields
 }
 
 /// As `Encoder`, for a tuple whose five fields lie apart.
-pub trait FieldsEncoder5<T1: Shaped, T2: Shaped, T3: Shaped, T4: Shaped, T5: Shaped>: Buffer {
+pub trait FieldsEncoder5<T1: Shaped, T2: Shaped, T3: Shaped, T4: Shaped, T5: Shaped>: HoldsColumns {
     fn encode_each(&mut self, t1: &T1, t2: &T2, t3: &T3, t4: &T4, t5: &T5) -> Result<(), Error>
         requires { 0 < Self.room self.old }
         ensures joined { OnOk result (JoinsListing ⟦<(T1, T2, T3, T4, T5) as Shaped>⟧.lists ⟦<(T1, T2, T3, T4, T5) as Shaped>⟧.shape (t1.now, t2.now, t3.now, t4.now, t5.now) (Self.columns self.old) (Self.columns self.new)) }

@@ -4,7 +4,7 @@ ghost use Rattle.bitcode_coder.specs.Columns.{emptied};
 ghost use Rattle.bitcode_coder.specs.Coding.{written_columns, JoinsListing, PassesWithListing, SurelyPasses, IsWritingRefusal};
 
 use crate::fields::{Fields, FieldsEncoder};
-use bitcode_coder::coder::Buffer;
+use bitcode_coder::coder::HoldsColumns;
 use bitcode_input::error::Error;
 use bitcode_shapes::shaped::Shaped;
 
@@ -32,7 +32,7 @@ pub trait FieldsEncoder6<
     T4: Shaped,
     T5: Shaped,
     T6: Shaped,
->: Buffer {
+>: HoldsColumns {
     fn encode_each(
         &mut self,
         t1: &T1,
@@ -97,7 +97,7 @@ pub trait FieldsEncoder7<
     T5: Shaped,
     T6: Shaped,
     T7: Shaped,
->: Buffer {
+>: HoldsColumns {
     fn encode_each(
         &mut self,
         t1: &T1,
@@ -187,7 +187,7 @@ pub trait FieldsEncoder8<
     T6: Shaped,
     T7: Shaped,
     T8: Shaped,
->: Buffer {
+>: HoldsColumns {
     fn encode_each(
         &mut self,
         t1: &T1,

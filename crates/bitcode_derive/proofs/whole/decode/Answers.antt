@@ -12,9 +12,9 @@ returns-in_err-populate-clause-bounded g c = bounded_by_bytes g.T.Shaped.shape c
 
 pub returns-in_err-populate-clause-refused : goal.returns-in_err-populate-clause-refused
 returns-in_err-populate-clause-refused g c =
-    let same : g.T.Decoder.View.shape ≡ g.T.Shaped.shape = search rules in
+    let same : g.T.Decoder.HoldsData.shape ≡ g.T.Shaped.shape = search rules in
     let p = err_from_is_err_and c.from_residual.result c.from_residual.ensures.1 in
-    rw (p.1, p.2) (λ other. none_spelled-unread g.T.Decoder.View.shape g.T.Shaped.shape same c.args.bytes.now (c.in_err-populate.ensures.refused.1 other))
+    rw (p.1, p.2) (λ other. none_spelled-unread g.T.Decoder.HoldsData.shape g.T.Shaped.shape same c.args.bytes.now (c.in_err-populate.ensures.refused.1 other))
 
 pub returns-in_err-expect_eof-clause-once : goal.returns-in_err-expect_eof-clause-once
 returns-in_err-expect_eof-clause-once g c = spells_at_most_one g.T.Shaped.shape c.args.bytes.now
@@ -24,10 +24,10 @@ returns-in_err-expect_eof-clause-bounded g c = bounded_by_bytes g.T.Shaped.shape
 
 pub returns-in_err-expect_eof-clause-refused : goal.returns-in_err-expect_eof-clause-refused
 returns-in_err-expect_eof-clause-refused g c =
-    let same : g.T.Decoder.View.shape ≡ g.T.Shaped.shape = search rules in
+    let same : g.T.Decoder.HoldsData.shape ≡ g.T.Shaped.shape = search rules in
     let p = err_from_is_err_and c.from_residual-in_err-expect_eof.result c.from_residual-in_err-expect_eof.ensures.1 in
     let r = c.in_ok-populate.ensures.read in
-    rw (p.1, p.2) (λ other. none_spelled-left g.T.Decoder.View.shape g.T.Shaped.shape same c.args.bytes.now _ _ r (c.in_err-expect_eof.ensures.refused.0 refl))
+    rw (p.1, p.2) (λ other. none_spelled-left g.T.Decoder.HoldsData.shape g.T.Shaped.shape same c.args.bytes.now _ _ r (c.in_err-expect_eof.ensures.refused.0 refl))
 
 pub returns-clause-once : goal.returns-clause-once
 returns-clause-once g c = spells_at_most_one g.T.Shaped.shape c.args.bytes.now

@@ -14,12 +14,12 @@ invariant_of-self g c = record {
 }
 
 pub loop-made-init : goal.loop-made-init
-loop-made-init g c = record { each = takes_none g.T.Made.makes (g.D.View.held c.args.self.now.elements) c.new-vec.result.items c.new-vec.ensures; lengths = refl }
+loop-made-init g c = record { each = takes_none g.T.Made.makes (g.D.HoldsData.held c.args.self.now.elements) c.new-vec.result.items c.new-vec.ensures; lengths = refl }
 
 pub decode-requires : goal.decode-requires
 decode-requires g c κs =
-    let held = g.D.View.held c.args.self.now.elements in
-    let left = g.D.View.held c.loop-made.self.elements in
+    let held = g.D.HoldsData.held c.args.self.now.elements in
+    let left = g.D.HoldsData.held c.loop-made.self.elements in
     let old = lengths_left c.args.self.now.lengths in
     let new = lengths_left c.decode-count.new.self in
     let enough = enough_elements c.decode-count.result old new held c.decode-count.ensures.taken c.requires in
@@ -35,9 +35,9 @@ push-requires g c =
 
 pub loop-made-preserved : goal.loop-made-preserved
 loop-made-preserved g c =
-    let held = g.D.View.held c.args.self.now.elements in
-    let left = g.D.View.held c.loop-made.self.elements in
-    let less = g.D.View.held c.decode.new.self in
+    let held = g.D.HoldsData.held c.args.self.now.elements in
+    let left = g.D.HoldsData.held c.loop-made.self.elements in
+    let less = g.D.HoldsData.held c.decode.new.self in
     record {
       each =
           takes_one_more g.T.Made.makes c.loop-made._made held left less c.loop-made.vec.items c.push.new.self.items c.in_ok-decode.field-0
@@ -51,8 +51,8 @@ returns-clause-made g c =
     let count = c.decode-count.result in
     let old = lengths_left c.args.self.now.lengths in
     let new = lengths_left c.loop-made.self.lengths in
-    let held = g.D.View.held c.args.self.now.elements in
-    let left = g.D.View.held c.loop-made.self.elements in
+    let held = g.D.HoldsData.held c.args.self.now.elements in
+    let left = g.D.HoldsData.held c.loop-made.self.elements in
     let vec = c.loop-made.vec in
     takes_list makes (λ v. v.items) vec count old new held left (subst (λ ns. old ≡ count ∷ ns) (sym c.loop-made.invariant.lengths) c.decode-count.ensures.taken)
     (subst (λ n. TakesEach makes n vec.items held left) (omega (arith, c.loop-made.auto._made-end, c.loop-made-test.false)) c.loop-made.invariant.each)

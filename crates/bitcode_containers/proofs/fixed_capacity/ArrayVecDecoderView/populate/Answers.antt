@@ -11,7 +11,7 @@ use Rattle.bitcode_containers.proofs.fixed_capacity.ArrayVecDecoderView.populate
 pub returns-in_err-populate-clause-refused : goal.returns-in_err-populate-clause-refused
 returns-in_err-populate-clause-refused g c =
     let refused = err_from_is_err_and c.from_residual.result c.from_residual.ensures.1 in
-    rw (refused.1, refused.2) (refuses_lengths (Some g.row.N) g.D.View.shape c.args.k _ _ c.in_err-populate.ensures.refused)
+    rw (refused.1, refused.2) (refuses_lengths (Some g.row.N) g.D.HoldsData.shape c.args.k _ _ c.in_err-populate.ensures.refused)
 
 pub returns-in_err-populate-clause-exact : goal.returns-in_err-populate-clause-exact
 returns-in_err-populate-clause-exact g c =
@@ -22,7 +22,7 @@ pub returns-in_err-populate-2-clause-refused : goal.returns-in_err-populate-2-cl
 returns-in_err-populate-2-clause-refused g c =
     let refused = err_from_is_err_and c.from_residual-in_err-populate-2.result c.from_residual-in_err-populate-2.ensures.1 in
     rw (refused.1, refused.2)
-    (refuses_elements (Some g.row.N) g.D.View.shape c.args.k _ _ _ _ c.in_ok-populate.ensures.read
+    (refuses_elements (Some g.row.N) g.D.HoldsData.shape c.args.k _ _ _ _ c.in_ok-populate.ensures.read
     (rw (c.length.ensures, c.in_ok-populate.ensures.sum) at c.in_err-populate-2.ensures.refused))
 
 pub returns-in_err-populate-2-clause-rest : goal.returns-in_err-populate-2-clause-rest
@@ -36,7 +36,7 @@ returns-then-any_greater_than-clause-refused g c =
     rw c.err.ensures (
       tt,
       λ other.
-          refuses_cap (Some g.row.N) g.D.View.shape c.args.k c.args.input.now.now (short_left c.populate.new.self) (large_left c.populate.new.self)
+          refuses_cap (Some g.row.N) g.D.HoldsData.shape c.args.k c.args.input.now.now (short_left c.populate.new.self) (large_left c.populate.new.self)
           c.populate.new.input.now c.in_ok-populate.ensures.parts c.if-any_greater_than.ensures,
     )
 
@@ -48,9 +48,9 @@ returns-then-any_greater_than-clause-exact g c =
       is = refl;
       lists = _;
       rest = c.populate-2.new.input.now;
-      read = reads_sequence None g.D.View.shape c.args.k c.populate-2.new.input.now (g.D.View.held c.populate-2.new.self) c.in_ok-populate.ensures.read
+      read = reads_sequence None g.D.HoldsData.shape c.args.k c.populate-2.new.input.now (g.D.HoldsData.held c.populate-2.new.self) c.in_ok-populate.ensures.read
           (rw (c.length.ensures, c.in_ok-populate.ensures.sum) at c.in_ok-populate-2.ensures.read);
-      over = refuses_cap (Some g.row.N) g.D.View.shape c.args.k c.args.input.now.now (short_left c.populate.new.self) (large_left c.populate.new.self)
+      over = refuses_cap (Some g.row.N) g.D.HoldsData.shape c.args.k c.args.input.now.now (short_left c.populate.new.self) (large_left c.populate.new.self)
           c.populate.new.input.now c.in_ok-populate.ensures.parts c.if-any_greater_than.ensures;
     })))
 
@@ -69,7 +69,7 @@ invariant_of-self-2 g c = record {
 pub returns-clause-read : goal.returns-clause-read
 unfolding short_left large_left lengths_left
 returns-clause-read g c =
-    reads_sequence (Some g.row.N) g.D.View.shape c.args.k c.populate-2.new.input.now (g.D.View.held c.populate-2.new.self)
+    reads_sequence (Some g.row.N) g.D.HoldsData.shape c.args.k c.populate-2.new.input.now (g.D.HoldsData.held c.populate-2.new.self)
     (reads_lengths (Some g.row.N) c.args.k c.args.input.now.now (short_left c.populate.new.self) (large_left c.populate.new.self) c.populate.new.input.now
     c.in_ok-populate.ensures.parts c.in_ok-populate.ensures.read.spelled.below_limit c.if-any_greater_than.ensures)
     (rw (c.length.ensures, c.in_ok-populate.ensures.sum) at c.in_ok-populate-2.ensures.read)

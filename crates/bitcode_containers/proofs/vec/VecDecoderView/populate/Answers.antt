@@ -8,7 +8,7 @@ use Rattle.bitcode_containers.proofs.vec.VecDecoderView.populate.Goals as goal
 pub returns-in_err-populate-clause-refused : goal.returns-in_err-populate-clause-refused
 returns-in_err-populate-clause-refused g c =
     let refused = err_from_is_err_and c.from_residual.result c.from_residual.ensures.1 in
-    rw (refused.1, refused.2) (refuses_lengths None g.D.View.shape c.args.k _ _ c.in_err-populate.ensures.refused)
+    rw (refused.1, refused.2) (refuses_lengths None g.D.HoldsData.shape c.args.k _ _ c.in_err-populate.ensures.refused)
 
 pub returns-in_err-populate-clause-exact : goal.returns-in_err-populate-clause-exact
 returns-in_err-populate-clause-exact g c =
@@ -23,12 +23,12 @@ returns-clause-exact g c =
 pub returns-clause-read : goal.returns-clause-read
 returns-clause-read g c =
     on_ok_weaker c.populate-2.result (
-    reads_sequence None g.D.View.shape c.args.k c.populate-2.new.input.now (g.D.View.held c.populate-2.new.self) c.in_ok-populate.ensures.read
+    reads_sequence None g.D.HoldsData.shape c.args.k c.populate-2.new.input.now (g.D.HoldsData.held c.populate-2.new.self) c.in_ok-populate.ensures.read
     ) (rw (c.length.ensures, c.in_ok-populate.ensures.sum) at c.populate-2.ensures.read)
 
 pub returns-clause-refused : goal.returns-clause-refused
 returns-clause-refused g c =
-    IfErr-weaker c.populate-2.result _ _ (λ e h. refuses_elements None g.D.View.shape c.args.k e.reason _ _ _ c.in_ok-populate.ensures.read h)
+    IfErr-weaker c.populate-2.result _ _ (λ e h. refuses_elements None g.D.HoldsData.shape c.args.k e.reason _ _ _ c.in_ok-populate.ensures.read h)
     (rw (c.length.ensures, c.in_ok-populate.ensures.sum) at c.populate-2.ensures.refused)
 
 pub returns-clause-rest : goal.returns-clause-rest

@@ -5,11 +5,11 @@ use Rattle.bitcode_parts.proofs.TwoVariantLemmas.{variants_stopped, first_stoppe
 use Rattle.bitcode_parts.proofs.option.OptionDecoderView.populate.Goals as goal
 
 pub returns-in_err-populate-clause-refused : goal.returns-in_err-populate-clause-refused
-returns-in_err-populate-clause-refused g c = variants_stopped unit_shape g.D.View.shape _ _ _ _ c.from_residual.ensures.1 c.in_err-populate.ensures.refused
+returns-in_err-populate-clause-refused g c = variants_stopped unit_shape g.D.HoldsData.shape _ _ _ _ c.from_residual.ensures.1 c.in_err-populate.ensures.refused
 
 pub returns-in_err-populate-2-clause-refused : goal.returns-in_err-populate-2-clause-refused
 returns-in_err-populate-2-clause-refused g c =
-    first_stopped unit_shape g.D.View.shape c.in_ok-populate.ensures.read (c.in_ok-populate.ensures.counts refl) c.length.ensures _ _
+    first_stopped unit_shape g.D.HoldsData.shape c.in_ok-populate.ensures.read (c.in_ok-populate.ensures.counts refl) c.length.ensures _ _
     c.from_residual-in_err-populate-2.ensures.1 c.in_err-populate-2.ensures.refused
 
 pub returns-in_err-populate-2-clause-rest : goal.returns-in_err-populate-2-clause-rest
@@ -17,12 +17,12 @@ returns-in_err-populate-2-clause-rest g c = first_rest _ _ c.in_ok-populate.ensu
 
 pub returns-clause-read : goal.returns-clause-read
 returns-clause-read g c =
-    choice_read unit_shape g.D.View.shape c.in_ok-populate.ensures.read (c.in_ok-populate.ensures.counts refl) c.length.ensures
+    choice_read unit_shape g.D.HoldsData.shape c.in_ok-populate.ensures.read (c.in_ok-populate.ensures.counts refl) c.length.ensures
     c.in_ok-populate-2.ensures.read c.length-2.ensures _ _ c.populate-3.result c.populate-3.ensures.read
 
 pub returns-clause-refused : goal.returns-clause-refused
 returns-clause-refused g c =
-    choice_refused unit_shape g.D.View.shape c.in_ok-populate.ensures.read (c.in_ok-populate.ensures.counts refl) c.length.ensures
+    choice_refused unit_shape g.D.HoldsData.shape c.in_ok-populate.ensures.read (c.in_ok-populate.ensures.counts refl) c.length.ensures
     c.in_ok-populate-2.ensures.read c.length-2.ensures c.populate-3.result c.populate-3.ensures.refused
 
 pub returns-clause-rest : goal.returns-clause-rest
@@ -32,6 +32,6 @@ returns-clause-rest g c =
 pub returns-clause-free : goal.returns-clause-free
 returns-clause-free g c = λ free.
     c.populate-3.ensures.free (
-    second_free unit_shape g.D.View.shape c.in_ok-populate.ensures.read (c.in_ok-populate.ensures.counts refl) c.length.ensures
+    second_free unit_shape g.D.HoldsData.shape c.in_ok-populate.ensures.read (c.in_ok-populate.ensures.counts refl) c.length.ensures
     c.in_ok-populate-2.ensures.read c.length-2.ensures (λ k input. Unit {0}) g.D.View.reads_free free
     )
