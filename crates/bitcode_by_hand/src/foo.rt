@@ -37,8 +37,6 @@ impl<'a> Shaped for Foo<'a> {
 }
 
 impl<'a> Made for Foo<'a> {
-    ghost material = { ⟦<(u32, &'a str) as Made>⟧.material };
-
     ghost makes = { λ d t. ⟦<(u32, &'a str) as Made>⟧.makes d (foo_fields t) };
 
     ghost makeable = { struct_makeable foo_fields (λ x y. (record { x = x; y = y }, refl)) u32_makeable str_makeable };

@@ -35,11 +35,9 @@ impl Shaped for One {
 }
 
 impl Made for One {
-    ghost material = { ⟦<u8 as Made>⟧.material };
-
     ghost makes = { λ d t. ⟦<u8 as Made>⟧.makes d (one_field t) };
 
-    ghost makeable = { image_makeable one_field (λ g. g) (λ g a h. one_found a) u8_makeable };
+    ghost makeable = { image_makeable one_field (λ g a h. one_found a) u8_makeable };
 }
 
 #[derive(Drop)]

@@ -43,11 +43,9 @@ impl Shaped for Two {
 }
 
 impl Made for Two {
-    ghost material = { ⟦<u8 as Made>⟧.material × ⟦<i8 as Made>⟧.material };
-
     ghost makes = { λ d t. MakesChoice (MakesVariant ⟦<u8 as Made>⟧.makes (MakesLast ⟦<i8 as Made>⟧.makes)) d (two_variant t) };
 
-    ghost makeable = { image_makeable two_variant (λ g. g) (λ g v h. two_found v) (choice_makeable (first_makeable u8_makeable (last_makeable i8_makeable))) };
+    ghost makeable = { image_makeable two_variant (λ g v h. two_found v) (choice_makeable (first_makeable u8_makeable (last_makeable i8_makeable))) };
 }
 
 #[derive(Drop)]

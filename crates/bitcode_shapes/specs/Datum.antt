@@ -1,6 +1,6 @@
 -- A datum is what a value holds, whatever type held it. A bool is the number 0 or 1, a char its scalar value,
 -- a map a list of tuples of two.
-use Rattle.std.specs.Prelude.{ℕ, ◌<◌, ◌^◌, ℤ, pos, unsigned_abs, List, [], ◌∷◌, length}
+use Rattle.std.specs.Prelude.{ℕ, ℤ, pos, unsigned_abs, List, [], ◌∷◌}
 
 mutual
   pub data Datum : Type 0 where
@@ -73,18 +73,3 @@ variant_in _ = 0
 abbrev pub payload_in : Datum → Datum
 payload_in (choice i d) = d
 payload_in _ = unit
-
--- ---- what memory can hold: each list has less than 2 ^ 63 elements, and each text as many bytes
-
-mutual
-  pub data IsStorable : Datum → Type 0 where
-    storable_unit : IsStorable unit
-    storable_number : {z : ℤ} → IsStorable (number z)
-    storable_text : {bytes : List ℕ} → length bytes < 2 ^ 63 → IsStorable (text bytes)
-    storable_list : {ds : Data} → length (list_of ds) < 2 ^ 63 → AreStorable ds → IsStorable (list ds)
-    storable_tuple : {ds : Data} → AreStorable ds → IsStorable (tuple ds)
-    storable_choice : {i : ℕ} {d : Datum} → IsStorable d → IsStorable (choice i d)
-
-  pub data AreStorable : Data → Type 0 where
-    storable_none : AreStorable no_data
-    storable_more : {d : Datum} {ds : Data} → IsStorable d → AreStorable ds → AreStorable (datum_and d ds)

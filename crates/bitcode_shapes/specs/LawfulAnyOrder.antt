@@ -1,14 +1,14 @@
 -- Values that hold elements of a lawful type in an order of their own are lawful.
 use Rattle.std.proofs.Common.{◌≡◌, ℕ, zero, suc, ◌^◌, ◌<◌, Bool, false, None, List, [], ◌∷◌, length, get_or, refl, sym, ◌∙◌, ap, subst, arith}
 use Rattle.std.specs.Prelude.{All, slice_set}
+use Rattle.std.specs.declared.alloc.Global.{Global}
 use Rattle.std.specs.List.{AllZip, swap}
 use Rattle.std.specs.List.Sorted.{IsPermutation}
-use Rattle.std.proofs.lemmas.List.Sorted.{IsPermutation-refl, IsPermutation-sym, IsPermutation-trans, IsPermutation-swap, IsPermutation-keeps, All-permutation, sum_by-IsPermutation}
+use Rattle.std.proofs.lemmas.List.Sorted.{IsPermutation-refl, IsPermutation-sym, IsPermutation-trans, IsPermutation-swap, IsPermutation-keeps, All-permutation}
 use Rattle.bitcode_shapes.specs.Datum.{Datum, list, data_of}
 use Rattle.bitcode_shapes.specs.Shape.{Shape, IsOf, IsListOf, IsSound, seq_shape}
-use Rattle.bitcode_shapes.specs.ArrayCounts.{arrays_at}
 use Rattle.bitcode_shapes.specs.Lawful.{Lawful, Makeable}
-use Rattle.bitcode_shapes.specs.LawfulSequences.{zip_length, each_listed, each_of_shape, each_same_arrays, each_reflexive, each_symmetric, each_transitive, each_once, each_remade, elements_once, HoldSameArrays, seq_arrays, seq_makeable}
+use Rattle.bitcode_shapes.specs.LawfulSequences.{zip_length, each_listed, each_of_shape, each_reflexive, each_symmetric, each_transitive, each_once, each_remade, elements_once, seq_makeable}
 use Rattle.bitcode_shapes.specs.AnyOrder.{ListsInAnyOrder, MakesInAnyOrder, SameInAnyOrder}
 
 -- ---- of two lists, one by one, when one is reordered
@@ -75,15 +75,6 @@ module _ {T : Type 0} (shape : Shape) (is_value : T → Type 0) (lists : T → D
       }
 
   module _ (order : Bool) (element : Lawful shape is_value lists same order) where
-    any_same_arrays : (values : List T) (d e : Datum) → All is_value values → (l : ListsInAnyOrder lists values d) → (m : ListsInAnyOrder lists values e)
-        → HoldSameArrays shape l.listing.elements m.listing.elements
-    any_same_arrays values d e h l m way =
-        let across : IsPermutation l.order m.order = IsPermutation-trans l.order values m.order (IsPermutation-sym values l.order l.reordered) m.reordered in
-        let f = zip_follows lists l.order m.order l.listing.elements across l.listing.each in
-        sym (sum_by-IsPermutation (arrays_at shape way) l.listing.elements f.others f.moved)
-        ∙ each_same_arrays shape is_value lists same order element way m.order f.others m.listing.elements
-        (All-permutation is_value values m.order m.reordered h) f.zipped m.listing.each
-
     any_reflexive : (values : List T) → All is_value values → SameInAnyOrder same values values
     any_reflexive values h = record {
       order = values;
@@ -114,9 +105,8 @@ module _ {T : Type 0} (shape : Shape) (is_value : T → Type 0) (lists : T → D
     pub any_order_lawful : {C : Type 0} (items : C → List T) (is_whole : C → Type 0) → ((c : C) → is_whole c → All is_value (items c))
         → (whole : Shape) → (IsSound shape → IsSound whole)
         → ((d : Datum) → IsListOf (IsOf shape) (λ n. Unit {0}) d → IsOf whole d)
-        → ((ds es : List Datum) → HoldSameArrays shape ds es → (way : List ℕ) → arrays_at whole way (list (data_of ds)) ≡ arrays_at whole way (list (data_of es)))
         → Lawful whole is_whole (λ c d. ListsInAnyOrder lists (items c) d) (λ b c. SameInAnyOrder same (items b) (items c)) false
-    any_order_lawful items is_whole each whole sound into arrays = record {
+    any_order_lawful items is_whole each whole sound into = record {
       sound = sound element.sound;
       listed = λ c h.
           let found = each_listed shape is_value lists same order element (items c) (each c h) in (
@@ -135,10 +125,6 @@ module _ {T : Type 0} (shape : Shape) (is_value : T → Type 0) (lists : T → D
         count = tt;
       });
       one_listing = λ o c d e h l m. absurd cc;
-      same_arrays = λ c d e h l m way.
-          ap (arrays_at whole way) l.listing.is
-          ∙ arrays l.listing.elements m.listing.elements (any_same_arrays (items c) d e (each c h) l m) way
-          ∙ ap (arrays_at whole way) (sym m.listing.is);
       reflexive = λ c h. any_reflexive (items c) (each c h);
       symmetric = λ b c h i s. any_symmetric (items b) (items c) (each b h) (each c i) s;
       transitive = λ a b c h i j s r. any_transitive (items a) (items b) (items c) (each a h) (each b i) (each c j) s r;
@@ -148,15 +134,15 @@ module _ {T : Type 0} (shape : Shape) (is_value : T → Type 0) (lists : T → D
   pub any_heap_lawful : (order : Bool) → Lawful shape is_value lists same order → {C : Type 0} (items : C → List T)
       → Lawful (seq_shape None shape) (λ c. All is_value (items c)) (λ c d. ListsInAnyOrder lists (items c) d) (λ b c. SameInAnyOrder same (items b) (items c)) false
   any_heap_lawful order element items =
-      any_order_lawful order element items (λ c. All is_value (items c)) (λ c h. h) (seq_shape None shape) (λ s. s) (λ d l. l) (seq_arrays None shape)
+      any_order_lawful order element items (λ c. All is_value (items c)) (λ c h. h) (seq_shape None shape) (λ s. s) (λ d l. l)
 
-  pub any_order_makeable : {C on inner : Type 0} (items : C → List T) (makes : Datum → T → Type 0) → (on → inner)
-      → (on → (values : List T) → length values < 2 ^ 63 → (c : C) × (items c ≡ values))
-      → Makeable inner shape is_value lists same makes
-      → Makeable on (seq_shape None shape) (λ c. All is_value (items c)) (λ c d. ListsInAnyOrder lists (items c) d)
+  pub any_order_makeable : {C : Type 0} (items : C → List T) (makes : Datum → T → Type 0)
+      → (Global → (values : List T) → length values < 2 ^ 63 → (c : C) × (items c ≡ values))
+      → Makeable shape is_value lists same makes
+      → Makeable (seq_shape None shape) (λ c. All is_value (items c)) (λ c d. ListsInAnyOrder lists (items c) d)
       (λ b c. SameInAnyOrder same (items b) (items c)) (λ d c. MakesInAnyOrder makes d (items c))
-  any_order_makeable items makes within build element =
-      let in_order = seq_makeable shape is_value lists same items makes within build element in
+  any_order_makeable items makes build element =
+      let in_order = seq_makeable shape is_value lists same items makes build element in
       record {
         made = λ g d o s.
             let found = in_order.made g d o s in

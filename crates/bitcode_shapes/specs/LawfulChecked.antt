@@ -16,7 +16,6 @@ module _ {T : Type 0} (value : T → ℤ) (width : ℕ) (signed : Bool) (allowed
     listed = λ t h. (number (value t), refl);
     of_shape = λ t d h l. record { value = value t; is = l; in_width = h.0; in_allowed = h.1 };
     one_listing = λ o t d e h l m. l ∙ sym m;
-    same_arrays = λ t d e h l m way. refl;
     reflexive = λ t h. refl;
     symmetric = λ t u h i s. sym s;
     transitive = λ t u v h i j s r. s ∙ r;
@@ -24,7 +23,7 @@ module _ {T : Type 0} (value : T → ℤ) (width : ℕ) (signed : Bool) (allowed
 
   -- each allowed number is that of some value
   pub checked_makeable : ((z : ℤ) → IsInWidth width signed z → IsAllowed allowed z → (t : T) × (value t ≡ z))
-      → Makeable (Unit {0}) (number_shape width signed allowed) (IsCheckedValue width signed allowed value) (ListsNumber value) (SameNumber value) (MakesNumber value)
+      → Makeable (number_shape width signed allowed) (IsCheckedValue width signed allowed value) (ListsNumber value) (SameNumber value) (MakesNumber value)
   checked_makeable find = record {
     made = λ g d o s.
         let found = find o.value o.in_width o.in_allowed in (
@@ -50,7 +49,7 @@ unsigned_nonzero_found value width build (pos n) h other = let built = build n (
 unsigned_nonzero_found value width build (negsuc n) h other = absurd h
 
 pub unsigned_nonzero_makeable : {T : Type 0} (value : T → ℕ) (width : ℕ) → ((n : ℕ) → 0 < n → (t : T) × (value t ≡ n))
-    → Makeable (Unit {0}) (nonzero_shape width false) (IsCheckedValue width false nonzero (λ t. pos (value t))) (ListsNumber (λ t. pos (value t)))
+    → Makeable (nonzero_shape width false) (IsCheckedValue width false nonzero (λ t. pos (value t))) (ListsNumber (λ t. pos (value t)))
     (SameNumber (λ t. pos (value t))) (MakesNumber (λ t. pos (value t)))
 unsigned_nonzero_makeable value width build = checked_makeable (λ t. pos (value t)) width false nonzero (unsigned_nonzero_found value width build)
 
@@ -59,7 +58,7 @@ positive_size (pos n) other = positive n other
 positive_size (negsuc n) other = omega arith
 
 pub signed_nonzero_makeable : {T : Type 0} (value : T → ℤ) (width : ℕ) → ((z : ℤ) → 0 < unsigned_abs z → (t : T) × (value t ≡ z))
-    → Makeable (Unit {0}) (nonzero_shape width true) (IsCheckedValue width true nonzero value) (ListsNumber value) (SameNumber value) (MakesNumber value)
+    → Makeable (nonzero_shape width true) (IsCheckedValue width true nonzero value) (ListsNumber value) (SameNumber value) (MakesNumber value)
 signed_nonzero_makeable value width build =
     checked_makeable value width true nonzero (λ z h other. build z (positive_size z other))
 
@@ -69,5 +68,5 @@ char_found : (z : ℤ) → IsInWidth 4 false z → IsAllowed scalar z → (c : �
 char_found (pos n) h s = (n, refl)
 char_found (negsuc n) h s = absurd h
 
-pub char_makeable : Makeable (Unit {0}) char_shape (IsCheckedValue 4 false scalar pos) (ListsNumber pos) (SameNumber pos) (MakesNumber pos)
+pub char_makeable : Makeable char_shape (IsCheckedValue 4 false scalar pos) (ListsNumber pos) (SameNumber pos) (MakesNumber pos)
 char_makeable = checked_makeable pos 4 false scalar char_found

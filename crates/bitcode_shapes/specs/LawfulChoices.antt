@@ -2,12 +2,13 @@
 -- and C, whose values stand for those of A ⊎ (B ⊎ C):
 --
 --     image_lawful stands_for (choice_lawful (lit≤ tt) (lit≤ tt) (first_lawful a_lawful (first_lawful b_lawful (last_lawful c_lawful))))
-use Rattle.std.proofs.Common.{◌≡◌, ℕ, zero, suc, ◌≤◌, Bool, Option, Some, None, List, [], ◌∷◌, Result, Ok, Err, refl, sym, ◌∙◌, ap, subst, inl, inr, lit≤}
-use Rattle.std.specs.Prelude.{◌&&◌, ◌==◌, cond, IsTrue, ◌⊎◌}
-use Rattle.bitcode_shapes.specs.Datum.{Datum, choice, IsStorable, storable_choice}
+use Rattle.std.proofs.Common.{◌≡◌, ℕ, zero, suc, ◌≤◌, Bool, Option, Some, None, Result, Ok, Err, refl, sym, ◌∙◌, ap, subst, inl, inr, lit≤}
+use Rattle.std.specs.Prelude.{◌&&◌, IsTrue, ◌⊎◌}
+use Rattle.std.specs.declared.alloc.Global.{Global}
+use Rattle.bitcode_shapes.specs.Datum.{Datum, choice}
 use Rattle.bitcode_shapes.specs.Shape.{Shape, Shapes, no_shapes, shape_and, choice_shape, variant_count, IsOfVariant, AreSound, unit_shape}
-use Rattle.bitcode_shapes.specs.ArrayCounts.{arrays_at, arrays_in}
 use Rattle.bitcode_shapes.specs.Lawful.{Lawful, Makeable}
+use Rattle.bitcode_shapes.specs.Storable.{IsStorable, IsStorableVariant}
 use Rattle.bitcode_shapes.specs.LawfulImages.{image_lawful, image_makeable}
 use Rattle.bitcode_shapes.specs.LawfulValues.{unit_lawful, unit_makeable, both}
 use Rattle.bitcode_shapes.specs.Values.{ListsUnit, MakesUnit}
@@ -19,14 +20,12 @@ pub record LawfulVariants {T : Type 0} (shapes : Shapes) (is_value : T → Type 
   pub listed : (t : T) → is_value t → (index : ℕ) × ((d : Datum) × lists t index d)
   pub of_shape : (t : T) (index : ℕ) (d : Datum) → is_value t → lists t index d → IsOfVariant shapes index d
   pub one_listing : IsTrue in_order → (t : T) (i j : ℕ) (d e : Datum) → is_value t → lists t i d → lists t j e → (i ≡ j) × (d ≡ e)
-  pub same_arrays : (t : T) (i j : ℕ) (d e : Datum) → is_value t → lists t i d → lists t j e
-      → (i ≡ j) × ((way : List ℕ) → arrays_in shapes i way d ≡ arrays_in shapes i way e)
   pub reflexive : (t : T) → is_value t → same t t
   pub symmetric : (t u : T) → is_value t → is_value u → same t u → same u t
   pub transitive : (t u v : T) → is_value t → is_value u → is_value v → same t u → same u v → same t v
 
-pub record MakeableVariants {T : Type 0} (material : Type 0) (shapes : Shapes) (is_value : T → Type 0) (lists : T → ℕ → Datum → Type 0) (same : T → T → Type 0) (makes : ℕ → Datum → T → Type 0) : Type 0 where
-  pub made : material → (index : ℕ) (d : Datum) → IsOfVariant shapes index d → IsStorable d → (t : T) × (is_value t × makes index d t)
+pub record MakeableVariants {T : Type 0} (shapes : Shapes) (is_value : T → Type 0) (lists : T → ℕ → Datum → Type 0) (same : T → T → Type 0) (makes : ℕ → Datum → T → Type 0) : Type 0 where
+  pub made : Global → (index : ℕ) (d : Datum) → IsOfVariant shapes index d → IsStorableVariant shapes index d → (t : T) × (is_value t × makes index d t)
   pub once : (index : ℕ) (d : Datum) (t u : T) → is_value t → is_value u → makes index d t → makes index d u → same t u
   pub remade : (t u : T) (index : ℕ) (d : Datum) → is_value t → is_value u → lists t index d → makes index d u → same t u
 
@@ -43,26 +42,19 @@ module _ {A : Type 0} {s : Shape} {is_a : A → Type 0} {lists_a : A → Datum �
     last_one_listing o t zero (suc j) d e h l m = absurd m
     last_one_listing o t (suc i) j d e h l m = absurd l
 
-    last_same_arrays : (t : A) (i j : ℕ) (d e : Datum) → is_a t → ListsLast lists_a t i d → ListsLast lists_a t j e
-        → (i ≡ j) × ((way : List ℕ) → arrays_in (shape_and s no_shapes) i way d ≡ arrays_in (shape_and s no_shapes) i way e)
-    last_same_arrays t zero zero d e h l m = (refl, last.same_arrays t d e h l m)
-    last_same_arrays t zero (suc j) d e h l m = absurd m
-    last_same_arrays t (suc i) j d e h l m = absurd l
-
     pub last_lawful : LawfulVariants (shape_and s no_shapes) is_a (ListsLast lists_a) same_a order
     last_lawful = record {
       sound = (last.sound, tt);
       listed = λ t h. let l = last.listed t h in (0, (l.0, l.1));
       of_shape = last_of_shape;
       one_listing = last_one_listing;
-      same_arrays = last_same_arrays;
       reflexive = last.reflexive;
       symmetric = last.symmetric;
       transitive = last.transitive;
     }
 
-  module _ {on : Type 0} {makes_a : Datum → A → Type 0} (last : Makeable on s is_a lists_a same_a makes_a) where
-    last_made : on → (index : ℕ) (d : Datum) → IsOfVariant (shape_and s no_shapes) index d → IsStorable d → (t : A) × (is_a t × MakesLast makes_a index d t)
+  module _ {makes_a : Datum → A → Type 0} (last : Makeable s is_a lists_a same_a makes_a) where
+    last_made : Global → (index : ℕ) (d : Datum) → IsOfVariant (shape_and s no_shapes) index d → IsStorableVariant (shape_and s no_shapes) index d → (t : A) × (is_a t × MakesLast makes_a index d t)
     last_made g zero d o stored = last.made g d o stored
     last_made g (suc index) d o stored = absurd o
 
@@ -74,7 +66,7 @@ module _ {A : Type 0} {s : Shape} {is_a : A → Type 0} {lists_a : A → Datum �
     last_remade t u zero d h i l m = last.remade t u d h i l m
     last_remade t u (suc index) d h i l m = absurd m
 
-    pub last_makeable : MakeableVariants on (shape_and s no_shapes) is_a (ListsLast lists_a) same_a (MakesLast makes_a)
+    pub last_makeable : MakeableVariants (shape_and s no_shapes) is_a (ListsLast lists_a) same_a (MakesLast makes_a)
     last_makeable = record { made = last_made; once = last_once; remade = last_remade }
 
 -- ---- the first variant beside the rest
@@ -103,18 +95,6 @@ module _ {A B : Type 0} {s : Shape} {ss : Shapes} {is_a : A → Type 0} {is_b : 
         let found = rest.one_listing (both order_a order_b o).1 b i j d e h l m in
         (ap suc found.0, found.1)
 
-    variant_same_arrays : (t : A ⊎ B) (i j : ℕ) (d e : Datum) → IsVariantValue is_a is_b t
-        → ListsVariant lists_a lists_b t i d → ListsVariant lists_a lists_b t j e
-        → (i ≡ j) × ((way : List ℕ) → arrays_in (shape_and s ss) i way d ≡ arrays_in (shape_and s ss) i way e)
-    variant_same_arrays (inl a) zero zero d e h l m = (refl, first.same_arrays a d e h l m)
-    variant_same_arrays (inl a) zero (suc j) d e h l m = absurd m
-    variant_same_arrays (inl a) (suc i) j d e h l m = absurd l
-    variant_same_arrays (inr b) zero j d e h l m = absurd l
-    variant_same_arrays (inr b) (suc i) zero d e h l m = absurd m
-    variant_same_arrays (inr b) (suc i) (suc j) d e h l m =
-        let found = rest.same_arrays b i j d e h l m in
-        (ap suc found.0, found.1)
-
     variant_reflexive : (t : A ⊎ B) → IsVariantValue is_a is_b t → SameVariant same_a same_b t t
     variant_reflexive (inl a) h = first.reflexive a h
     variant_reflexive (inr b) h = rest.reflexive b h
@@ -140,18 +120,17 @@ module _ {A B : Type 0} {s : Shape} {ss : Shapes} {is_a : A → Type 0} {is_b : 
       listed = variant_listed;
       of_shape = variant_of_shape;
       one_listing = variant_one_listing;
-      same_arrays = variant_same_arrays;
       reflexive = variant_reflexive;
       symmetric = variant_symmetric;
       transitive = variant_transitive;
     }
 
-  module _ {on_a on_b : Type 0} {makes_a : Datum → A → Type 0} {makes_b : ℕ → Datum → B → Type 0} (first : Makeable on_a s is_a lists_a same_a makes_a)
-      (rest : MakeableVariants on_b ss is_b lists_b same_b makes_b) where
-    variant_made : on_a × on_b → (index : ℕ) (d : Datum) → IsOfVariant (shape_and s ss) index d → IsStorable d
+  module _ {makes_a : Datum → A → Type 0} {makes_b : ℕ → Datum → B → Type 0} (first : Makeable s is_a lists_a same_a makes_a)
+      (rest : MakeableVariants ss is_b lists_b same_b makes_b) where
+    variant_made : Global → (index : ℕ) (d : Datum) → IsOfVariant (shape_and s ss) index d → IsStorableVariant (shape_and s ss) index d
         → (t : A ⊎ B) × (IsVariantValue is_a is_b t × MakesVariant makes_a makes_b index d t)
-    variant_made g zero d o stored = let found = first.made g.0 d o stored in (inl found.0, found.1)
-    variant_made g (suc index) d o stored = let found = rest.made g.1 index d o stored in (inr found.0, found.1)
+    variant_made g zero d o stored = let found = first.made g d o stored in (inl found.0, found.1)
+    variant_made g (suc index) d o stored = let found = rest.made g index d o stored in (inr found.0, found.1)
 
     variant_once : (index : ℕ) (d : Datum) (t u : A ⊎ B) → IsVariantValue is_a is_b t → IsVariantValue is_a is_b u
         → MakesVariant makes_a makes_b index d t → MakesVariant makes_a makes_b index d u → SameVariant same_a same_b t u
@@ -171,7 +150,7 @@ module _ {A B : Type 0} {s : Shape} {ss : Shapes} {is_a : A → Type 0} {is_b : 
     variant_remade (inr a) (inl b) (suc index) d h i l m = absurd m
     variant_remade (inr a) (inr b) (suc index) d h i l m = rest.remade a b index d h i l m
 
-    pub first_makeable : MakeableVariants (on_a × on_b) (shape_and s ss) (IsVariantValue is_a is_b) (ListsVariant lists_a lists_b) (SameVariant same_a same_b) (MakesVariant makes_a makes_b)
+    pub first_makeable : MakeableVariants (shape_and s ss) (IsVariantValue is_a is_b) (ListsVariant lists_a lists_b) (SameVariant same_a same_b) (MakesVariant makes_a makes_b)
     first_makeable = record { made = variant_made; once = variant_once; remade = variant_remade }
 
 -- ---- choices
@@ -179,24 +158,7 @@ module _ {A B : Type 0} {s : Shape} {ss : Shapes} {is_a : A → Type 0} {is_b : 
 choice_once : {i j : ℕ} {d e : Datum} → choice i d ≡ choice j e → (i ≡ j) × (d ≡ e)
 choice_once h = (cc, cc)
 
-storable_payload : {i : ℕ} {d : Datum} → IsStorable (choice i d) → IsStorable d
-storable_payload (storable_choice h) = h
-
-same_in_variant : (of_variants : Shapes) (i j : ℕ) (d e : Datum) → (i ≡ j) × ((way : List ℕ) → arrays_in of_variants i way d ≡ arrays_in of_variants i way e)
-    → (way : List ℕ) → arrays_at (choice_shape of_variants) way (choice i d) ≡ arrays_at (choice_shape of_variants) way (choice j e)
-same_in_variant of_variants i j d e found [] = refl
-same_in_variant of_variants i j d e found (place ∷ way) =
-    ap (λ n. cond (i == place) n 0) (found.1 way) ∙ ap (λ k. cond (k == place) (arrays_in of_variants k way e) 0) found.0
-
 module _ {T : Type 0} {shapes : Shapes} {is_value : T → Type 0} {lists : T → ℕ → Datum → Type 0} {same : T → T → Type 0} where
-  choice_same_arrays : {order : Bool} → LawfulVariants shapes is_value lists same order
-      → (t : T) (d e : Datum) → is_value t → ListsChoice lists t d → ListsChoice lists t e
-      → (way : List ℕ) → arrays_at (choice_shape shapes) way d ≡ arrays_at (choice_shape shapes) way e
-  choice_same_arrays variants t d e h l m way =
-      ap (arrays_at (choice_shape shapes) way) l.is
-      ∙ same_in_variant shapes l.index m.index l.payload m.payload (variants.same_arrays t l.index m.index l.payload m.payload h l.lists_payload m.lists_payload) way
-      ∙ ap (arrays_at (choice_shape shapes) way) (sym m.is)
-
   pub choice_lawful : {order : Bool} → 2 ≤ variant_count shapes → variant_count shapes ≤ 256 → LawfulVariants shapes is_value lists same order
       → Lawful (choice_shape shapes) is_value (ListsChoice lists) same order
   choice_lawful several few variants = record {
@@ -208,17 +170,16 @@ module _ {T : Type 0} {shapes : Shapes} {is_value : T → Type 0} {lists : T →
     one_listing = λ o t d e h l m.
         let found = variants.one_listing o t l.index m.index l.payload m.payload h l.lists_payload m.lists_payload in
         cc (l.is, m.is, found.0, found.1);
-    same_arrays = choice_same_arrays variants;
     reflexive = variants.reflexive;
     symmetric = variants.symmetric;
     transitive = variants.transitive;
   }
 
-  pub choice_makeable : {on : Type 0} {makes : ℕ → Datum → T → Type 0} → MakeableVariants on shapes is_value lists same makes
-      → Makeable on (choice_shape shapes) is_value (ListsChoice lists) same (MakesChoice makes)
+  pub choice_makeable : {makes : ℕ → Datum → T → Type 0} → MakeableVariants shapes is_value lists same makes
+      → Makeable (choice_shape shapes) is_value (ListsChoice lists) same (MakesChoice makes)
   choice_makeable {makes = makes} variants = record {
     made = λ g d o stored.
-        let found = variants.made g o.index o.payload o.is_variant (storable_payload (subst IsStorable o.is stored)) in
+        let found = variants.made g o.index o.payload o.is_variant (subst (IsStorable (choice_shape shapes)) o.is stored) in
         (found.0, (found.1.0, record { index = o.index; payload = o.payload; is = o.is; makes_payload = found.1.1 }));
     once = λ d t u h i m n.
         let e = choice_once (sym m.is ∙ n.is) in
@@ -245,12 +206,12 @@ module _ {A : Type 0} {s : Shape} {is_a : A → Type 0} {lists_a : A → Datum �
       (λ o p. SameVariant (λ t u. Unit {0}) same_a (option_variant o) (option_variant p)) order
   option_lawful some = image_lawful option_variant (choice_lawful (lit≤ tt) (lit≤ tt) (first_lawful unit_lawful (last_lawful some)))
 
-  pub option_makeable : {on : Type 0} {makes_a : Datum → A → Type 0} → Makeable on s is_a lists_a same_a makes_a
-      → Makeable on (choice_shape (shape_and unit_shape (shape_and s no_shapes))) (λ (o : Option A). IsVariantValue (λ t. Unit {0}) is_a (option_variant o))
+  pub option_makeable : {makes_a : Datum → A → Type 0} → Makeable s is_a lists_a same_a makes_a
+      → Makeable (choice_shape (shape_and unit_shape (shape_and s no_shapes))) (λ (o : Option A). IsVariantValue (λ t. Unit {0}) is_a (option_variant o))
       (λ o d. ListsChoice (ListsVariant ListsUnit (ListsLast lists_a)) (option_variant o) d)
       (λ o p. SameVariant (λ t u. Unit {0}) same_a (option_variant o) (option_variant p))
       (λ d o. MakesChoice (MakesVariant MakesUnit (MakesLast makes_a)) d (option_variant o))
-  option_makeable some = image_makeable option_variant (λ g. (tt, g)) (λ g u h. option_found u) (choice_makeable (first_makeable (unit_makeable tt) (last_makeable some)))
+  option_makeable some = image_makeable option_variant (λ g u h. option_found u) (choice_makeable (first_makeable (unit_makeable tt) (last_makeable some)))
 
 module _ {A B : Type 0} {s t : Shape} {is_a : A → Type 0} {is_b : B → Type 0} {lists_a : A → Datum → Type 0} {lists_b : B → Datum → Type 0}
     {same_a : A → A → Type 0} {same_b : B → B → Type 0} where
@@ -260,9 +221,9 @@ module _ {A B : Type 0} {s t : Shape} {is_a : A → Type 0} {is_b : B → Type 0
       (λ q r. SameVariant same_a same_b (result_variant q) (result_variant r)) (order_a && order_b)
   result_lawful ok err = image_lawful result_variant (choice_lawful (lit≤ tt) (lit≤ tt) (first_lawful ok (last_lawful err)))
 
-  pub result_makeable : {on_a on_b : Type 0} {makes_a : Datum → A → Type 0} {makes_b : Datum → B → Type 0} → Makeable on_a s is_a lists_a same_a makes_a → Makeable on_b t is_b lists_b same_b makes_b
-      → Makeable (on_a × on_b) (choice_shape (shape_and s (shape_and t no_shapes))) (λ (r : Result A B). IsVariantValue is_a is_b (result_variant r))
+  pub result_makeable : {makes_a : Datum → A → Type 0} {makes_b : Datum → B → Type 0} → Makeable s is_a lists_a same_a makes_a → Makeable t is_b lists_b same_b makes_b
+      → Makeable (choice_shape (shape_and s (shape_and t no_shapes))) (λ (r : Result A B). IsVariantValue is_a is_b (result_variant r))
       (λ r d. ListsChoice (ListsVariant lists_a (ListsLast lists_b)) (result_variant r) d)
       (λ q r. SameVariant same_a same_b (result_variant q) (result_variant r))
       (λ d r. MakesChoice (MakesVariant makes_a (MakesLast makes_b)) d (result_variant r))
-  result_makeable ok err = image_makeable result_variant (λ g. g) (λ g u h. result_found u) (choice_makeable (first_makeable ok (last_makeable err)))
+  result_makeable ok err = image_makeable result_variant (λ g u h. result_found u) (choice_makeable (first_makeable ok (last_makeable err)))

@@ -27,22 +27,22 @@ nanos_found value build (negsuc n) h below = absurd h
 
 -- a type whose values stand for the nanoseconds below one second
 pub nanosecond_makeable : {T : Type 0} (value : T → ℕ) → ((n : ℕ) → n < 1_000_000_000 → (t : T) × (value t ≡ n))
-    → Makeable (Unit {0}) nanosecond_shape (IsCheckedValue 4 false below_second (λ t. pos (value t))) (ListsNumber (λ t. pos (value t)))
+    → Makeable nanosecond_shape (IsCheckedValue 4 false below_second (λ t. pos (value t))) (ListsNumber (λ t. pos (value t)))
     (SameNumber (λ t. pos (value t))) (MakesNumber (λ t. pos (value t)))
 nanosecond_makeable value build = checked_makeable (λ t. pos (value t)) 4 false below_second (nanos_found value build)
 
-span_found : Unit {0} → (u : ℕ × ℕ) → IsSpan u → (t : Duration) × (seconds_and_nanos t ≡ u)
-span_found g u h =
+span_found : (u : ℕ × ℕ) → IsSpan u → (t : Duration) × (seconds_and_nanos t ≡ u)
+span_found u h =
     let below : u.1 ≤ 999_999_999 = omega (arith, ints, h.1.1.1) in
     let kept : min u.1 999_999_999 ≡ u.1 = omega arith in
     let whole : (u.0 * 1_000_000_000 + min u.1 999_999_999) / 1_000_000_000 ≡ u.0 = omega arith in
     let left : (u.0 * 1_000_000_000 + min u.1 999_999_999) % 1_000_000_000 ≡ u.1 = omega arith in
     (record { secs = u.0; nanos = u.1 }, ap₂ (λ seconds nanos. (seconds, nanos)) whole left)
 
-pub duration_makeable : Makeable (Unit {0}) duration_shape (λ t. IsSpan (seconds_and_nanos t)) (λ t d. ListsSpan (seconds_and_nanos t) d)
+pub duration_makeable : Makeable duration_shape (λ t. IsSpan (seconds_and_nanos t)) (λ t d. ListsSpan (seconds_and_nanos t) d)
     (λ t u. SameSpan (seconds_and_nanos t) (seconds_and_nanos u)) (λ d t. MakesSpan d (seconds_and_nanos t))
 duration_makeable =
-    image_makeable seconds_and_nanos (λ g. (g, g)) span_found
+    image_makeable seconds_and_nanos (λ g. span_found)
     (pair_makeable (int_shape 8 false) nanosecond_shape (IsValueOfWidth 8 false pos) (IsCheckedValue 4 false below_second pos) (ListsNumber pos) (ListsNumber pos)
     (SameNumber pos) (SameNumber pos) (MakesNumber pos) (MakesNumber pos) (unsigned_makeable 8)
     (nanosecond_makeable (λ n. n) (λ n h. (n, refl))))

@@ -1,7 +1,8 @@
 -- Maps between lawful types are lawful: those whose entries are in order of their keys, and those that keep an order of
 -- their own.
-use Rattle.std.proofs.Common.{◌≡◌, ℕ, zero, suc, Bool, true, false, cond, Option, Some, None, List, [], ◌∷◌, refl, sym, ◌∙◌, ap, subst, arith}
+use Rattle.std.proofs.Common.{◌≡◌, suc, Bool, true, false, cond, Option, Some, None, List, [], ◌∷◌, refl, sym, ◌∙◌, ap, subst, arith}
 use Rattle.std.specs.Prelude.{◌&&◌, All, IfSome}
+use Rattle.std.specs.declared.alloc.Global.{Global}
 use Rattle.std.specs.Cmp.{IsEquivalence}
 use Rattle.std.specs.List.{AllZip, IsDistinct}
 use Rattle.std.specs.List.Sorted.{IsPermutation}
@@ -14,26 +15,18 @@ use Rattle.std.proofs.lemmas.Map.Entries.{All-lookup}
 use Rattle.std.proofs.lemmas.Map.Keys.{IsDistinct-IsPermutation}
 use Rattle.std.proofs.lemmas.Map.Views.{lookup-from_Contains}
 use Rattle.std.proofs.lemmas.Map.Made.{update_all_none}
-use Rattle.bitcode_shapes.specs.Datum.{Datum, list, data_of}
+use Rattle.bitcode_shapes.specs.Datum.{Datum}
 use Rattle.bitcode_shapes.specs.Shape.{Shape, map_shape, pair_shape}
-use Rattle.bitcode_shapes.specs.ArrayCounts.{arrays_at}
 use Rattle.bitcode_shapes.specs.Lawful.{Lawful, Makeable}
 use Rattle.bitcode_shapes.specs.Values.{IsPairValue, ListsPair, MakesPair, SamePair}
 use Rattle.bitcode_shapes.specs.LawfulValues.{pair_lawful, pair_makeable}
 use Rattle.bitcode_shapes.specs.Sequences.{ListsSequence, MakesSequence}
-use Rattle.bitcode_shapes.specs.LawfulSequences.{HoldSameArrays, seq_arrays, sequence_lawful, seq_makeable, each_once, each_remade, elements_once}
+use Rattle.bitcode_shapes.specs.LawfulSequences.{sequence_lawful, seq_makeable, each_once, each_remade, elements_once}
 use Rattle.bitcode_shapes.specs.AnyOrder.{ListsInAnyOrder}
 use Rattle.bitcode_shapes.specs.LawfulAnyOrder.{any_order_lawful}
 use Rattle.bitcode_shapes.specs.Sets.{TellsSame}
 use Rattle.bitcode_shapes.specs.LawfulSets.{under_equality}
 use Rattle.bitcode_shapes.specs.Maps.{SameFound, SameEntries, MakesMap}
-
--- the pairs of a map hold as many arrays as pairs do
-map_arrays : (key value : Shape) (ds es : List Datum) → HoldSameArrays (pair_shape key value) ds es
-    → (way : List ℕ) → arrays_at (map_shape key value) way (list (data_of ds)) ≡ arrays_at (map_shape key value) way (list (data_of es))
-map_arrays key value ds es same [] = refl
-map_arrays key value ds es same (zero ∷ way) = seq_arrays None (pair_shape key value) ds es same (zero ∷ way)
-map_arrays key value ds es same (suc place ∷ way) = seq_arrays None (pair_shape key value) ds es same (suc place ∷ way)
 
 -- ---- looking up
 
@@ -126,7 +119,7 @@ module _ {K X : Type 0} (key value : Shape) (is_key : K → Type 0) (is_value : 
       ordered_map_lawful =
           by_entries of_value
           (sequence_lawful (pair_shape key value) IsEntry (ListsPair lists_key lists_value) (SamePair same_key same_value) entries is_whole each
-          (map_shape key value) (λ n. Unit {0}) (order_key && order_value) (λ s. s) (λ d l. l) (λ c h. tt) (map_arrays key value)
+          (map_shape key value) (λ n. Unit {0}) (order_key && order_value) (λ s. s) (λ d l. l) (λ c h. tt)
           (pair_lawful key value is_key is_value lists_key lists_value same_key same_value order_key order_value of_key of_value))
 
       -- the map has an order of its own
@@ -136,7 +129,7 @@ module _ {K X : Type 0} (key value : Shape) (is_key : K → Type 0) (is_value : 
           by_entries of_value
           (any_order_lawful (pair_shape key value) IsEntry (ListsPair lists_key lists_value) (SamePair same_key same_value) (order_key && order_value)
           (pair_lawful key value is_key is_value lists_key lists_value same_key same_value order_key order_value of_key of_value)
-          entries is_whole each (map_shape key value) (λ s. s) (λ d l. l) (map_arrays key value))
+          entries is_whole each (map_shape key value) (λ s. s) (λ d l. l))
 
   -- ---- making
 
@@ -157,10 +150,10 @@ module _ {K X : Type 0} (key value : Shape) (is_key : K → Type 0) (is_value : 
         by false true e = absurd cc
         by false false e = s
 
-    module _ {C on_key on_value : Type 0} (entries : C → List (K × X)) (is_whole : C → Type 0) (each : (c : C) → is_whole c → All IsEntry (entries c))
+    module _ {C : Type 0} (entries : C → List (K × X)) (is_whole : C → Type 0) (each : (c : C) → is_whole c → All IsEntry (entries c))
         (distinct : (c : C) → is_whole c → IsDistinct eq (keys_of (entries c))) (makes_key : Datum → K → Type 0) (makes_value : Datum → X → Type 0)
-        (of_key : Makeable on_key key is_key lists_key same_key makes_key) (of_value : Makeable on_value value is_value lists_value same_value makes_value) where
-      of_pair : Makeable (on_key × on_value) (pair_shape key value) IsEntry (ListsPair lists_key lists_value) (SamePair same_key same_value) (MakesPair makes_key makes_value)
+        (of_key : Makeable key is_key lists_key same_key makes_key) (of_value : Makeable value is_value lists_value same_value makes_value) where
+      of_pair : Makeable (pair_shape key value) IsEntry (ListsPair lists_key lists_value) (SamePair same_key same_value) (MakesPair makes_key makes_value)
       of_pair = pair_makeable key value is_key is_value lists_key lists_value same_key same_value makes_key makes_value of_key of_value
 
       -- entries in an order that lists the elements which the pairs are made of
@@ -174,15 +167,15 @@ module _ {K X : Type 0} (key value : Shape) (is_key : K → Type 0) (is_value : 
           subst (λ o. SameFound same_value o (update_all eq (λ _. None) pairs k)) (update_all_none laws eq (λ x y. refl) order k apart)
           (same_updates k (λ _. None) (λ _. None) order pairs h i alike tt)
 
-      map_makeable : {on : Type 0} {lists_whole : C → Datum → Type 0} → (on → on_key × on_value)
-          → (on → (pairs : List (K × X)) → All IsEntry pairs → (c : C) × (is_whole c × ((k : K) → lookup (eq k) (entries c) ≡ update_all eq (λ _. None) pairs k)))
+      map_makeable : {lists_whole : C → Datum → Type 0}
+          → (Global → (pairs : List (K × X)) → All IsEntry pairs → (c : C) × (is_whole c × ((k : K) → lookup (eq k) (entries c) ≡ update_all eq (λ _. None) pairs k)))
           → ((c : C) (d : Datum) (pairs : List (K × X)) (k : K) → is_whole c → All IsEntry pairs → lists_whole c d → MakesSequence (MakesPair makes_key makes_value) d pairs
           → SameFound same_value (lookup (eq k) (entries c)) (update_all eq (λ _. None) pairs k))
-          → Makeable on (map_shape key value) is_whole lists_whole (λ b c. SameEntries eq same_value (entries b) (entries c))
+          → Makeable (map_shape key value) is_whole lists_whole (λ b c. SameEntries eq same_value (entries b) (entries c))
           (λ d c. MakesMap is_key is_value eq makes_key makes_value d (entries c))
-      map_makeable within build listed =
+      map_makeable build listed =
           let in_order = seq_makeable (pair_shape key value) IsEntry (ListsPair lists_key lists_value) (SamePair same_key same_value) (λ (pairs : List (K × X)). pairs)
-          (MakesPair makes_key makes_value) within (λ g pairs small. (pairs, refl)) of_pair in
+          (MakesPair makes_key makes_value) (λ g pairs small. (pairs, refl)) of_pair in
           record {
             made = λ g d o s.
                 let found = in_order.made g d o s in
@@ -199,18 +192,16 @@ module _ {K X : Type 0} (key value : Shape) (is_key : K → Type 0) (is_value : 
                 subst (SameFound same_value (lookup (eq k) (entries b))) (sym (m.found k)) (listed b d m.pairs k h m.are l m.making);
           }
 
-      pub ordered_map_makeable : {on : Type 0} → (on → on_key × on_value)
-          → (on → (pairs : List (K × X)) → All IsEntry pairs → (c : C) × (is_whole c × ((k : K) → lookup (eq k) (entries c) ≡ update_all eq (λ _. None) pairs k)))
-          → Makeable on (map_shape key value) is_whole (λ c d. ListsSequence (ListsPair lists_key lists_value) (entries c) d)
+      pub ordered_map_makeable : (Global → (pairs : List (K × X)) → All IsEntry pairs → (c : C) × (is_whole c × ((k : K) → lookup (eq k) (entries c) ≡ update_all eq (λ _. None) pairs k)))
+          → Makeable (map_shape key value) is_whole (λ c d. ListsSequence (ListsPair lists_key lists_value) (entries c) d)
           (λ b c. SameEntries eq same_value (entries b) (entries c)) (λ d c. MakesMap is_key is_value eq makes_key makes_value d (entries c))
-      ordered_map_makeable within build = map_makeable within build (λ c d pairs k h i l m. relisted (entries c) pairs d k (each c h) i (distinct c h) l m)
+      ordered_map_makeable build = map_makeable build (λ c d pairs k h i l m. relisted (entries c) pairs d k (each c h) i (distinct c h) l m)
 
-      pub hashed_map_makeable : {on : Type 0} → (on → on_key × on_value)
-          → (on → (pairs : List (K × X)) → All IsEntry pairs → (c : C) × (is_whole c × ((k : K) → lookup (eq k) (entries c) ≡ update_all eq (λ _. None) pairs k)))
-          → Makeable on (map_shape key value) is_whole (λ c d. ListsInAnyOrder (ListsPair lists_key lists_value) (entries c) d)
+      pub hashed_map_makeable : (Global → (pairs : List (K × X)) → All IsEntry pairs → (c : C) × (is_whole c × ((k : K) → lookup (eq k) (entries c) ≡ update_all eq (λ _. None) pairs k)))
+          → Makeable (map_shape key value) is_whole (λ c d. ListsInAnyOrder (ListsPair lists_key lists_value) (entries c) d)
           (λ b c. SameEntries eq same_value (entries b) (entries c)) (λ d c. MakesMap is_key is_value eq makes_key makes_value d (entries c))
-      hashed_map_makeable within build =
-          map_makeable within build (λ c d pairs k h i l m.
+      hashed_map_makeable build =
+          map_makeable build (λ c d pairs k h i l m.
           subst (λ o. SameFound same_value o (update_all eq (λ _. None) pairs k)) (sym (lookup_reordered laws k (entries c) l.order l.reordered (distinct c h)))
           (relisted l.order pairs d k (All-permutation IsEntry (entries c) l.order l.reordered (each c h)) i
           (IsDistinct-IsPermutation eq laws.symm (keys_of (entries c)) (keys_of l.order) (IsPermutation-map (λ e. e.0) (entries c) l.order l.reordered) (distinct c h))

@@ -1,5 +1,5 @@
 -- A type without values is lawful: no datum is of its shape.
-use Rattle.std.proofs.Common.{ℕ, zero, suc, true, refl}
+use Rattle.std.proofs.Common.{ℕ, zero, suc, true}
 use Rattle.bitcode_shapes.specs.Shape.{never_shape}
 use Rattle.bitcode_shapes.specs.Lawful.{Lawful, Makeable}
 
@@ -18,13 +18,12 @@ never_lawful never = record {
   listed = λ t h. absurd (from_never never t ⊥);
   of_shape = λ t d h l. absurd l;
   one_listing = λ o t d e h l m. absurd l;
-  same_arrays = λ t d e h l m way. refl;
   reflexive = λ t h. tt;
   symmetric = λ t u h i s. tt;
   transitive = λ t u v h i j s r. tt;
 }
 
-pub never_makeable : {T : Type 0} → Makeable (Unit {0}) never_shape (λ (t : T). Unit {0}) (λ t d. ⊥) (λ t u. Unit {0}) (λ d t. ⊥)
+pub never_makeable : {T : Type 0} → Makeable never_shape (λ (t : T). Unit {0}) (λ t d. ⊥) (λ t u. Unit {0}) (λ d t. ⊥)
 never_makeable = record {
   made = λ g d o s. absurd o;
   once = λ d t u h i m n. absurd m;

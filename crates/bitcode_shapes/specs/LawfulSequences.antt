@@ -1,17 +1,16 @@
 -- Values that hold elements of a lawful type one by one, front to back, are lawful.
-use Rattle.std.proofs.Common.{◌≡◌, ℕ, suc, ◌^◌, ◌<◌, ◌≤◌, ◌+◌, Bool, Option, None, List, [], ◌∷◌, length, refl, sym, ◌∙◌, ap, ap₂, subst, arith}
-use Rattle.std.specs.Prelude.{IsTrue, All, sum_by}
+use Rattle.std.proofs.Common.{◌≡◌, ℕ, suc, ◌^◌, ◌<◌, ◌≤◌, Bool, None, List, [], ◌∷◌, length, refl, sym, ◌∙◌, ap, subst, arith}
+use Rattle.std.specs.Prelude.{IsTrue, All}
 use Rattle.std.specs.List.{AllZip}
-use Rattle.std.proofs.lemmas.List.Sums.{sum_by-cons}
 use Rattle.std.proofs.lemmas.List.Elements.{All-nil, All-cons, All-head, All-tail, All-same}
 use Rattle.std.specs.declared.alloc.Global.{Global}
 use Rattle.std.specs.declared.vec.Vec.{Vec}
 use Rattle.std.specs.Vec.{vec_items}
 use denote.RawPtr.{block_ptr}
-use Rattle.bitcode_shapes.specs.Datum.{Datum, Data, datum_and, list, data_of, list_of, IsStorable, AreStorable, storable_list, storable_more}
-use Rattle.bitcode_shapes.specs.Shape.{Shape, IsOf, IsSound, IsListOf, IsWithin, seq_shape, array_shape}
-use Rattle.bitcode_shapes.specs.ArrayCounts.{arrays_at}
+use Rattle.bitcode_shapes.specs.Datum.{Datum, Data, list, data_of, list_of, elements_in}
+use Rattle.bitcode_shapes.specs.Shape.{Shape, IsOf, IsSound, IsListOf, IsWithin, seq_shape}
 use Rattle.bitcode_shapes.specs.Lawful.{Lawful, Makeable}
+use Rattle.bitcode_shapes.specs.Storable.{IsStorable, IsStorableSize}
 use Rattle.bitcode_shapes.specs.Sequences.{ListsSequence, MakesSequence, SameSequence}
 
 -- ---- lists of data, in a datum and out of it
@@ -26,18 +25,6 @@ data_once e = cc
 pub elements_once : (ds es : List Datum) → list (data_of ds) ≡ list (data_of es) → ds ≡ es
 elements_once ds es e = sym (list_of_data ds) ∙ ap list_of (data_once e) ∙ list_of_data es
 
-storable_count : (ds : Data) → IsStorable (list ds) → length (list_of ds) < 2 ^ 63
-storable_count ds (storable_list h _) = h
-
-storable_each : (ds : Data) → IsStorable (list ds) → AreStorable ds
-storable_each ds (storable_list _ h) = h
-
-storable_head : (d : Datum) (ds : Data) → AreStorable (datum_and d ds) → IsStorable d
-storable_head d ds (storable_more h _) = h
-
-storable_tail : (d : Datum) (ds : Data) → AreStorable (datum_and d ds) → AreStorable ds
-storable_tail d ds (storable_more _ h) = h
-
 -- ---- of two lists, one by one
 
 pub zip_length : {A B : Type 0} (R : A → B → Type 0) (xs : List A) (ys : List B) → AllZip R xs ys → length xs ≡ length ys
@@ -45,26 +32,6 @@ zip_length R [] [] z = refl
 zip_length R [] (y ∷ ys) z = absurd z
 zip_length R (x ∷ xs) [] z = absurd z
 zip_length R (x ∷ xs) (y ∷ ys) z = ap suc (zip_length R xs ys z.1)
-
--- ---- numbers of arrays
-
--- the two hold as many arrays at each node
-abbrev pub HoldSameArrays : Shape → List Datum → List Datum → Type 0
-HoldSameArrays shape ds es = (way : List ℕ) → sum_by (arrays_at shape way) ds ≡ sum_by (arrays_at shape way) es
-
-in_elements : (shape : Shape) (way : List ℕ) (ds es : List Datum) → HoldSameArrays shape ds es
-    → sum_by (arrays_at shape way) (list_of (data_of ds)) ≡ sum_by (arrays_at shape way) (list_of (data_of es))
-in_elements shape way ds es same =
-    ap (sum_by (arrays_at shape way)) (list_of_data ds) ∙ same way ∙ ap (sum_by (arrays_at shape way)) (sym (list_of_data es))
-
-pub seq_arrays : (limit : Option ℕ) (shape : Shape) (ds es : List Datum) → HoldSameArrays shape ds es
-    → (way : List ℕ) → arrays_at (seq_shape limit shape) way (list (data_of ds)) ≡ arrays_at (seq_shape limit shape) way (list (data_of es))
-seq_arrays limit shape ds es same way = in_elements shape way ds es same
-
-pub array_arrays : (size : ℕ) (shape : Shape) (ds es : List Datum) → HoldSameArrays shape ds es
-    → (way : List ℕ) → arrays_at (array_shape size shape) way (list (data_of ds)) ≡ arrays_at (array_shape size shape) way (list (data_of es))
-array_arrays size shape ds es same [] = refl
-array_arrays size shape ds es same (place ∷ way) = in_elements shape way ds es same
 
 -- ---- the elements of a lawful type
 
@@ -98,19 +65,6 @@ module _ {T : Type 0} (shape : Shape) (is_value : T → Type 0) (lists : T → D
         let rest : ds ≡ es = each_one_listing o ts ds es (All-tail is_value t ts h) y.1 z.1 in
         cc
 
-    pub each_same_arrays : (way : List ℕ) (values : List T) (ds es : List Datum) → All is_value values → AllZip lists values ds → AllZip lists values es
-        → sum_by (arrays_at shape way) ds ≡ sum_by (arrays_at shape way) es
-    each_same_arrays way [] [] [] h y z = refl
-    each_same_arrays way [] [] (e ∷ es) h y z = absurd z
-    each_same_arrays way [] (d ∷ ds) es h y z = absurd y
-    each_same_arrays way (t ∷ ts) [] es h y z = absurd y
-    each_same_arrays way (t ∷ ts) (d ∷ ds) [] h y z = absurd z
-    each_same_arrays way (t ∷ ts) (d ∷ ds) (e ∷ es) h y z =
-        sum_by-cons (arrays_at shape way) d ds
-        ∙ ap₂ (λ one more. one + more) (element.same_arrays t d e (All-head is_value t ts h) y.0 z.0 way)
-        (each_same_arrays way ts ds es (All-tail is_value t ts h) y.1 z.1)
-        ∙ sym (sum_by-cons (arrays_at shape way) e es)
-
     pub each_reflexive : (values : List T) → All is_value values → AllZip same values values
     each_reflexive [] h = tt
     each_reflexive (t ∷ ts) h =
@@ -136,13 +90,13 @@ module _ {T : Type 0} (shape : Shape) (is_value : T → Type 0) (lists : T → D
       each_transitive ts us vs (All-tail is_value t ts h) (All-tail is_value u us i) (All-tail is_value v vs j) y.1 z.1,
     )
 
-  module _ {on : Type 0} (makes : Datum → T → Type 0) (element : Makeable on shape is_value lists same makes) where
-    each_made : on → (ds : List Datum) → All (IsOf shape) ds → AreStorable (data_of ds)
+  module _ (makes : Datum → T → Type 0) (element : Makeable shape is_value lists same makes) where
+    each_made : Global → (ds : List Datum) → All (IsOf shape) ds → All (IsStorable shape) ds
         → (values : List T) × (All is_value values × AllZip makes ds values)
     each_made g [] h s = ([], (All-nil is_value, tt))
     each_made g (d ∷ ds) h s =
-        let first = element.made g d (All-head (IsOf shape) d ds h) (storable_head d (data_of ds) s) in
-        let rest = each_made g ds (All-tail (IsOf shape) d ds h) (storable_tail d (data_of ds) s) in
+        let first = element.made g d (All-head (IsOf shape) d ds h) (All-head (IsStorable shape) d ds s) in
+        let rest = each_made g ds (All-tail (IsOf shape) d ds h) (All-tail (IsStorable shape) d ds s) in
         (first.0 ∷ rest.0, (All-cons is_value first.0 rest.0 first.1.0 rest.1.0, (first.1.1, rest.1.1)))
 
     pub each_once : (ds : List Datum) (ts us : List T) → All is_value ts → All is_value us
@@ -176,10 +130,9 @@ module _ {T : Type 0} (shape : Shape) (is_value : T → Type 0) (lists : T → D
     pub sequence_lawful : (order : Bool) → (IsSound shape → IsSound whole)
         → ((d : Datum) → IsListOf (IsOf shape) is_count d → IsOf whole d)
         → ((c : C) → is_whole c → is_count (length (items c)))
-        → ((ds es : List Datum) → HoldSameArrays shape ds es → (way : List ℕ) → arrays_at whole way (list (data_of ds)) ≡ arrays_at whole way (list (data_of es)))
         → Lawful shape is_value lists same order
         → Lawful whole is_whole (λ c d. ListsSequence lists (items c) d) (λ b c. SameSequence same (items b) (items c)) order
-    sequence_lawful order sound into counted arrays element = record {
+    sequence_lawful order sound into counted element = record {
       sound = sound element.sound;
       listed = λ c h.
           let found = each_listed order element (items c) (each c h) in
@@ -193,31 +146,29 @@ module _ {T : Type 0} (shape : Shape) (is_value : T → Type 0) (lists : T → D
       one_listing = λ o c d e h l m.
           let one = each_one_listing order element o (items c) l.elements m.elements (each c h) l.each m.each in
           l.is ∙ ap (λ ds. list (data_of ds)) one ∙ sym m.is;
-      same_arrays = λ c d e h l m way.
-          ap (arrays_at whole way) l.is
-          ∙ arrays l.elements m.elements (λ on. each_same_arrays order element on (items c) l.elements m.elements (each c h) l.each m.each) way
-          ∙ ap (arrays_at whole way) (sym m.is);
       reflexive = λ c h. each_reflexive order element (items c) (each c h);
       symmetric = λ b c h i s. each_symmetric order element (items b) (items c) (each b h) (each c i) s;
       transitive = λ a b c h i j s r. each_transitive order element (items a) (items b) (items c) (each a h) (each b i) (each c j) s r;
     }
 
-    -- within the material is that of the elements
-    pub sequence_makeable : {on inner : Type 0} (makes : Datum → T → Type 0) → (on → inner)
+    -- `is_size` is what the container asks of how many elements it holds
+    pub sequence_makeable : (makes : Datum → T → Type 0) (is_size : ℕ → Type 0)
         → ((d : Datum) → IsOf whole d → IsListOf (IsOf shape) is_count d)
-        → (on → (values : List T) → length values < 2 ^ 63 → All is_value values → is_count (length values)
+        → ((d : Datum) → IsStorable whole d → is_size (length (elements_in d)) × All (IsStorable shape) (elements_in d))
+        → (Global → (values : List T) → is_size (length values) → All is_value values → is_count (length values)
         → (c : C) × (is_whole c × (items c ≡ values)))
-        → Makeable inner shape is_value lists same makes
-        → Makeable on whole is_whole (λ c d. ListsSequence lists (items c) d) (λ b c. SameSequence same (items b) (items c))
+        → Makeable shape is_value lists same makes
+        → Makeable whole is_whole (λ c d. ListsSequence lists (items c) d) (λ b c. SameSequence same (items b) (items c))
         (λ d c. MakesSequence makes d (items c))
-    sequence_makeable makes within out_of build element = record {
+    sequence_makeable makes is_size out_of held build element = record {
       made = λ g d o s.
           let l = out_of d o in
-          let stored : IsStorable (list (data_of l.elements)) = subst IsStorable l.is s in
-          let found = each_made makes element (within g) l.elements l.each (storable_each (data_of l.elements) stored) in
+          let elements : elements_in d ≡ l.elements = ap elements_in l.is ∙ list_of_data l.elements in
+          let stored = held d s in
+          let found = each_made makes element g l.elements l.each (subst (All (IsStorable shape)) elements stored.1) in
           let as_many : length l.elements ≡ length found.0 = zip_length makes l.elements found.0 found.1.1 in
-          let small : length l.elements < 2 ^ 63 = subst (λ ds. length ds < 2 ^ 63) (list_of_data l.elements) (storable_count (data_of l.elements) stored) in
-          let built = build g found.0 (subst (λ n. n < 2 ^ 63) as_many small) found.1.0 (subst is_count as_many l.count) in (
+          let size : is_size (length found.0) = subst is_size (ap length elements ∙ as_many) stored.0 in
+          let built = build g found.0 size found.1.0 (subst is_count as_many l.count) in (
             built.0,
             (
               built.1.0,
@@ -244,15 +195,15 @@ module _ {T : Type 0} (shape : Shape) (is_value : T → Type 0) (lists : T → D
         → Lawful (seq_shape None shape) (λ c. All is_value (items c)) (λ c d. ListsSequence lists (items c) d)
         (λ b c. SameSequence same (items b) (items c)) order
     seq_lawful order element = sequence_lawful items (λ c. All is_value (items c)) (λ c h. h) (seq_shape None shape) (IsWithin None)
-        order (λ s. s) (λ d l. l) (λ c h. tt) (seq_arrays None shape) element
+        order (λ s. s) (λ d l. l) (λ c h. tt) element
 
-    pub seq_makeable : {on inner : Type 0} (makes : Datum → T → Type 0) → (on → inner)
-        → (on → (values : List T) → length values < 2 ^ 63 → (c : C) × (items c ≡ values))
-        → Makeable inner shape is_value lists same makes
-        → Makeable on (seq_shape None shape) (λ c. All is_value (items c)) (λ c d. ListsSequence lists (items c) d)
+    pub seq_makeable : (makes : Datum → T → Type 0)
+        → (Global → (values : List T) → length values < 2 ^ 63 → (c : C) × (items c ≡ values))
+        → Makeable shape is_value lists same makes
+        → Makeable (seq_shape None shape) (λ c. All is_value (items c)) (λ c d. ListsSequence lists (items c) d)
         (λ b c. SameSequence same (items b) (items c)) (λ d c. MakesSequence makes d (items c))
-    seq_makeable makes within build element = sequence_makeable items (λ c. All is_value (items c)) (λ c h. h) (seq_shape None shape) (IsWithin None)
-        makes within (λ d o. o)
+    seq_makeable makes build element = sequence_makeable items (λ c. All is_value (items c)) (λ c h. h) (seq_shape None shape) (IsWithin None)
+        makes (IsStorableSize None) (λ d o. o) (λ d s. s)
         (λ g values small h n.
         let built = build g values small in
         (built.0, (All-same is_value (items built.0) values built.1 h, built.1)))

@@ -1,6 +1,7 @@
 -- Sets of a lawful type are lawful: those whose keys are in order, and those that keep an order of their own.
 use Rattle.std.proofs.Common.{◌≡◌, Bool, true, false, None, List, [], ◌∷◌, refl, sym, ◌∙◌, ap₂, subst}
 use Rattle.std.specs.Prelude.{All, ◌||◌}
+use Rattle.std.specs.declared.alloc.Global.{Global}
 use Rattle.std.specs.declared.cmp.Ordering.{Ordering}
 use Rattle.std.specs.Ordering.{is_eq, eq_by_cmp}
 use Rattle.std.specs.Cmp.{IsEquivalence}
@@ -11,7 +12,7 @@ use Rattle.bitcode_shapes.specs.Datum.{Datum}
 use Rattle.bitcode_shapes.specs.Shape.{Shape, IsWithin, seq_shape}
 use Rattle.bitcode_shapes.specs.Lawful.{Lawful, Makeable}
 use Rattle.bitcode_shapes.specs.Sequences.{ListsSequence, MakesSequence}
-use Rattle.bitcode_shapes.specs.LawfulSequences.{sequence_lawful, seq_arrays, seq_makeable, each_once, each_remade, elements_once}
+use Rattle.bitcode_shapes.specs.LawfulSequences.{sequence_lawful, seq_makeable, each_once, each_remade, elements_once}
 use Rattle.bitcode_shapes.specs.AnyOrder.{ListsInAnyOrder}
 use Rattle.bitcode_shapes.specs.LawfulAnyOrder.{any_order_lawful}
 use Rattle.bitcode_shapes.specs.Sets.{SameMembers, MakesSet, TellsSame}
@@ -28,7 +29,6 @@ under_equality l equal reflexive symmetric transitive = record {
   listed = l.listed;
   of_shape = l.of_shape;
   one_listing = l.one_listing;
-  same_arrays = l.same_arrays;
   reflexive = reflexive;
   symmetric = symmetric;
   transitive = transitive;
@@ -45,13 +45,13 @@ module _ {T : Type 0} (shape : Shape) (is_value : T → Type 0) (lists : T → D
     pub ordered_set_lawful : (order : Bool) → Lawful shape is_value lists same order
         → Lawful (seq_shape None shape) is_whole (λ c d. ListsSequence lists (keys c) d) (λ b c. SameMembers eq (keys b) (keys c)) order
     ordered_set_lawful order element =
-        by_members (sequence_lawful shape is_value lists same keys is_whole each (seq_shape None shape) (IsWithin None) order (λ s. s) (λ d l. l) (λ c h. tt) (seq_arrays None shape) element)
+        by_members (sequence_lawful shape is_value lists same keys is_whole each (seq_shape None shape) (IsWithin None) order (λ s. s) (λ d l. l) (λ c h. tt) element)
 
     -- the set has an order of its own
     pub hashed_set_lawful : (order : Bool) → Lawful shape is_value lists same order
         → Lawful (seq_shape None shape) is_whole (λ c d. ListsInAnyOrder lists (keys c) d) (λ b c. SameMembers eq (keys b) (keys c)) false
     hashed_set_lawful order element =
-        by_members (any_order_lawful shape is_value lists same order element keys is_whole each (seq_shape None shape) (λ s. s) (λ d l. l) (seq_arrays None shape))
+        by_members (any_order_lawful shape is_value lists same order element keys is_whole each (seq_shape None shape) (λ s. s) (λ d l. l))
 
   module _ (eq : T → T → Bool) (laws : IsEquivalence eq) (tells : TellsSame is_value same eq) where
     -- values that are the same one by one have the same members
@@ -65,12 +65,12 @@ module _ {T : Type 0} (shape : Shape) (is_value : T → Type 0) (lists : T → D
         ap₂ (λ here more. here || more) one (members_alike ts us (All-tail is_value t ts h) (All-tail is_value u us i) z.1 key)
 
     module _ {C : Type 0} (keys : C → List T) (is_whole : C → Type 0) (each : (c : C) → is_whole c → All is_value (keys c)) (makes : Datum → T → Type 0) where
-      set_makeable : {on inner : Type 0} {lists_whole : C → Datum → Type 0} → (on → inner) → (on → (values : List T) → All is_value values → (c : C) × (is_whole c × SameMembers eq (keys c) values))
+      set_makeable : {lists_whole : C → Datum → Type 0} → (Global → (values : List T) → All is_value values → (c : C) × (is_whole c × SameMembers eq (keys c) values))
           → ((c : C) (d : Datum) (values : List T) → is_whole c → All is_value values → lists_whole c d → MakesSequence makes d values → SameMembers eq (keys c) values)
-          → Makeable inner shape is_value lists same makes
-          → Makeable on (seq_shape None shape) is_whole lists_whole (λ b c. SameMembers eq (keys b) (keys c)) (λ d c. MakesSet is_value eq makes d (keys c))
-      set_makeable within build relisted element =
-          let in_order = seq_makeable shape is_value lists same (λ (values : List T). values) makes within (λ g values small. (values, refl)) element in
+          → Makeable shape is_value lists same makes
+          → Makeable (seq_shape None shape) is_whole lists_whole (λ b c. SameMembers eq (keys b) (keys c)) (λ d c. MakesSet is_value eq makes d (keys c))
+      set_makeable build relisted element =
+          let in_order = seq_makeable shape is_value lists same (λ (values : List T). values) makes (λ g values small. (values, refl)) element in
           record {
             made = λ g d o s.
                 let found = in_order.made g d o s in
@@ -84,24 +84,24 @@ module _ {T : Type 0} (shape : Shape) (is_value : T → Type 0) (lists : T → D
             remade = λ b c d h i l m key. relisted b d m.values h m.are l m.making key ∙ sym (m.members key);
           }
 
-      relisted_in_order : {inner : Type 0} → Makeable inner shape is_value lists same makes → (order : List T) (d : Datum) (values : List T) → All is_value order → All is_value values
+      relisted_in_order : Makeable shape is_value lists same makes → (order : List T) (d : Datum) (values : List T) → All is_value order → All is_value values
           → ListsSequence lists order d → MakesSequence makes d values → SameMembers eq order values
       relisted_in_order element order d values h i l m =
           let one = elements_once l.elements m.elements (sym l.is ∙ m.is) in
           members_alike order values h i
           (each_remade shape is_value lists same makes element order values m.elements h i (subst (λ ds. AllZip lists order ds) one l.each) m.each)
 
-      pub ordered_set_makeable : {on inner : Type 0} → (on → inner) → (on → (values : List T) → All is_value values → (c : C) × (is_whole c × SameMembers eq (keys c) values))
-          → Makeable inner shape is_value lists same makes
-          → Makeable on (seq_shape None shape) is_whole (λ c d. ListsSequence lists (keys c) d) (λ b c. SameMembers eq (keys b) (keys c)) (λ d c. MakesSet is_value eq makes d (keys c))
-      ordered_set_makeable within build element =
-          set_makeable within build (λ c d values h i l m. relisted_in_order element (keys c) d values (each c h) i l m) element
+      pub ordered_set_makeable : (Global → (values : List T) → All is_value values → (c : C) × (is_whole c × SameMembers eq (keys c) values))
+          → Makeable shape is_value lists same makes
+          → Makeable (seq_shape None shape) is_whole (λ c d. ListsSequence lists (keys c) d) (λ b c. SameMembers eq (keys b) (keys c)) (λ d c. MakesSet is_value eq makes d (keys c))
+      ordered_set_makeable build element =
+          set_makeable build (λ c d values h i l m. relisted_in_order element (keys c) d values (each c h) i l m) element
 
-      pub hashed_set_makeable : {on inner : Type 0} → (on → inner) → (on → (values : List T) → All is_value values → (c : C) × (is_whole c × SameMembers eq (keys c) values))
-          → Makeable inner shape is_value lists same makes
-          → Makeable on (seq_shape None shape) is_whole (λ c d. ListsInAnyOrder lists (keys c) d) (λ b c. SameMembers eq (keys b) (keys c)) (λ d c. MakesSet is_value eq makes d (keys c))
-      hashed_set_makeable within build element =
-          set_makeable within build (λ c d values h i l m key.
+      pub hashed_set_makeable : (Global → (values : List T) → All is_value values → (c : C) × (is_whole c × SameMembers eq (keys c) values))
+          → Makeable shape is_value lists same makes
+          → Makeable (seq_shape None shape) is_whole (λ c d. ListsInAnyOrder lists (keys c) d) (λ b c. SameMembers eq (keys b) (keys c)) (λ d c. MakesSet is_value eq makes d (keys c))
+      hashed_set_makeable build element =
+          set_makeable build (λ c d values h i l m key.
           list_any-IsPermutation (eq key) (keys c) l.order l.reordered
           ∙ relisted_in_order element l.order d values (All-permutation is_value (keys c) l.order l.reordered (each c h)) i l.listing m key) element
 

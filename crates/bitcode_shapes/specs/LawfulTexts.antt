@@ -9,17 +9,15 @@ use Rattle.std.specs.Box.{boxed_str_bytes}
 use Rattle.std.specs.Rc.{rc_str_bytes}
 use denote.RawPtr.{block_ptr}
 use denote.Ref.{Bor}
-use Rattle.bitcode_shapes.specs.Datum.{text, IsStorable, storable_text}
+use Rattle.bitcode_shapes.specs.Datum.{text, text_in}
 use Rattle.bitcode_shapes.specs.Shape.{text_shape, IsWithin}
 use Rattle.bitcode_shapes.specs.Lawful.{Lawful, Makeable}
+use Rattle.bitcode_shapes.specs.Storable.{IsStorableSize}
 use Rattle.bitcode_shapes.specs.LawfulSequences.{vec_built}
 use Rattle.bitcode_shapes.specs.Texts.{IsTextValue, ListsText, MakesText, SameText}
 
 text_once : {bytes others : List ℕ} → text bytes ≡ text others → bytes ≡ others
 text_once e = cc
-
-storable_length : (bytes : List ℕ) → IsStorable (text bytes) → length bytes < 2 ^ 63
-storable_length bytes (storable_text h) = h
 
 -- ---- A text of a limited size: `is_whole` is what the values meet.
 
@@ -31,19 +29,18 @@ module _ {T : Type 0} (bytes : T → List ℕ) (limit : Option ℕ) (is_whole : 
     listed = λ t h. (text (bytes t), refl);
     of_shape = λ t d h l. record { bytes = bytes t; is = l; utf8 = (is_text t h).0; within = (is_text t h).1 };
     one_listing = λ o t d e h l m. l ∙ sym m;
-    same_arrays = λ t d e h l m way. refl;
     reflexive = λ t h. refl;
     symmetric = λ t u h i s. sym s;
     transitive = λ t u v h i j s r. s ∙ r;
   }
 
-  -- each text that memory can hold is the bytes of some value
-  pub limited_makeable : {on : Type 0} → (on → (whole : List ℕ) → length whole < 2 ^ 63 → IsUtf8 whole → IsWithin limit (length whole)
+  -- each text that can be stored is the bytes of some value
+  pub limited_makeable : (Global → (whole : List ℕ) → IsStorableSize limit (length whole) → IsUtf8 whole → IsWithin limit (length whole)
       → (t : T) × (is_whole t × (bytes t ≡ whole)))
-      → Makeable on (text_shape limit) is_whole (ListsText bytes) (SameText bytes) (MakesText bytes)
+      → Makeable (text_shape limit) is_whole (ListsText bytes) (SameText bytes) (MakesText bytes)
   limited_makeable build = record {
     made = λ g d o s.
-        let built = build g o.bytes (storable_length o.bytes (subst IsStorable o.is s)) o.utf8 o.within in
+        let built = build g o.bytes (subst (λ x. IsStorableSize limit (length (text_in x))) o.is s) o.utf8 o.within in
         (built.0, (built.1.0, o.is ∙ ap text (sym built.1.1)));
     once = λ d t u h i m n. text_once (sym m ∙ n);
     remade = λ t u d h i l m. text_once (sym l ∙ m);
@@ -55,8 +52,8 @@ module _ {T : Type 0} (bytes : T → List ℕ) where
   pub text_lawful : Lawful (text_shape None) (IsTextValue bytes) (ListsText bytes) (SameText bytes) true
   text_lawful = limited_lawful bytes None (IsTextValue bytes) (λ t h. (h, tt))
 
-  pub text_makeable : {on : Type 0} → (on → (whole : List ℕ) → length whole < 2 ^ 63 → IsUtf8 whole → (t : T) × (bytes t ≡ whole))
-      → Makeable on (text_shape None) (IsTextValue bytes) (ListsText bytes) (SameText bytes) (MakesText bytes)
+  pub text_makeable : (Global → (whole : List ℕ) → length whole < 2 ^ 63 → IsUtf8 whole → (t : T) × (bytes t ≡ whole))
+      → Makeable (text_shape None) (IsTextValue bytes) (ListsText bytes) (SameText bytes) (MakesText bytes)
   text_makeable build = limited_makeable bytes None (IsTextValue bytes) (λ g whole small utf8 any.
       let built = build g whole small utf8 in
       (built.0, (subst IsUtf8 (sym built.1) utf8, built.1)))
@@ -78,5 +75,5 @@ rc_str_built g whole small utf8 =
     let inner = string_built g whole small utf8 in
     (record { text = record { ptr = block_ptr 0 0; value = inner.0 } }, inner.1)
 
-pub str_built : Unit {0} → (whole : List ℕ) → length whole < 2 ^ 63 → IsUtf8 whole → (t : Bor (List ℕ)) × (t.now ≡ whole)
-str_built g whole small utf8 = (record { ref_ptr = (0, 0); now = whole }, refl)
+pub str_built : (whole : List ℕ) → length whole < 2 ^ 63 → IsUtf8 whole → (t : Bor (List ℕ)) × (t.now ≡ whole)
+str_built whole small utf8 = (record { ref_ptr = (0, 0); now = whole }, refl)

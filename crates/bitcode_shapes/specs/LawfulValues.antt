@@ -1,10 +1,10 @@
 -- Bools, integers, the unit and pairs of lawful types are lawful.
-use Rattle.std.proofs.Common.{◌≡◌, ℕ, zero, suc, ◌<◌, Bool, true, false, ℤ, pos, negsuc, List, [], ◌∷◌, refl, sym, ◌∙◌, ap, subst, arith, lit<, inl, inr}
+use Rattle.std.proofs.Common.{◌≡◌, ℕ, zero, suc, ◌<◌, Bool, true, false, ℤ, pos, negsuc, refl, sym, ◌∙◌, ap, subst, arith, lit<, inl, inr}
 use Rattle.std.specs.Prelude.{◌&&◌, IsTrue}
-use Rattle.bitcode_shapes.specs.Datum.{Datum, number, unit, pair, first_in, second_in, IsStorable, storable_tuple, storable_more}
+use Rattle.bitcode_shapes.specs.Datum.{Datum, number, unit, pair}
 use Rattle.bitcode_shapes.specs.Shape.{Shape, IsNaturalBelow, bool_shape, unit_shape, pair_shape, IsInWidth, IsNumberWidth}
-use Rattle.bitcode_shapes.specs.ArrayCounts.{arrays_at}
 use Rattle.bitcode_shapes.specs.Lawful.{Lawful, Makeable}
+use Rattle.bitcode_shapes.specs.Storable.{IsStorable}
 use Rattle.bitcode_shapes.specs.Values.{bool_number, int_shape, ListsNumber, MakesNumber, SameNumber, IsValueOfWidth, ListsUnit, MakesUnit, IsPairValue, ListsPair, MakesPair, SamePair}
 
 pub width_1 : IsNumberWidth 1
@@ -32,7 +32,6 @@ int_lawful value width signed known = record {
   listed = λ t h. (number (value t), refl);
   of_shape = λ t d h l. record { value = value t; is = l; in_width = h; in_allowed = tt };
   one_listing = λ o t d e h l m. l ∙ sym m;
-  same_arrays = λ t d e h l m way. refl;
   reflexive = λ t h. refl;
   symmetric = λ t u h i s. sym s;
   transitive = λ t u v h i j s r. s ∙ r;
@@ -40,7 +39,7 @@ int_lawful value width signed known = record {
 
 pub int_makeable : {T : Type 0} (value : T → ℤ) (width : ℕ) (signed : Bool)
     → ((z : ℤ) → IsInWidth width signed z → (t : T) × (value t ≡ z))
-    → Makeable (Unit {0}) (int_shape width signed) (IsValueOfWidth width signed value) (ListsNumber value) (SameNumber value) (MakesNumber value)
+    → Makeable (int_shape width signed) (IsValueOfWidth width signed value) (ListsNumber value) (SameNumber value) (MakesNumber value)
 int_makeable value width signed find = record {
   made = λ g d o s. let found = find o.value o.in_width in
       (found.0, (subst (λ z. IsInWidth width signed z) (sym found.1) o.in_width, o.is ∙ ap number (sym found.1)));
@@ -53,11 +52,11 @@ unsigned_found width (pos n) h = (n, refl)
 unsigned_found width (negsuc n) h = absurd h
 
 pub unsigned_makeable : (width : ℕ)
-    → Makeable (Unit {0}) (int_shape width false) (IsValueOfWidth width false pos) (ListsNumber pos) (SameNumber pos) (MakesNumber pos)
+    → Makeable (int_shape width false) (IsValueOfWidth width false pos) (ListsNumber pos) (SameNumber pos) (MakesNumber pos)
 unsigned_makeable width = int_makeable pos width false (unsigned_found width)
 
 pub signed_makeable : (width : ℕ)
-    → Makeable (Unit {0}) (int_shape width true) (IsValueOfWidth width true (λ (z : ℤ). z)) (ListsNumber (λ (z : ℤ). z)) (SameNumber (λ (z : ℤ). z)) (MakesNumber (λ (z : ℤ). z))
+    → Makeable (int_shape width true) (IsValueOfWidth width true (λ (z : ℤ). z)) (ListsNumber (λ (z : ℤ). z)) (SameNumber (λ (z : ℤ). z)) (MakesNumber (λ (z : ℤ). z))
 signed_makeable width = int_makeable (λ z. z) width true (λ z h. (z, refl))
 
 -- ---- bools
@@ -72,7 +71,6 @@ bool_lawful = record {
   listed = λ t h. (number (bool_number t), refl);
   of_shape = λ t d h l. subst (IsNaturalBelow 2) (sym l) (bool_below t);
   one_listing = λ o t d e h l m. l ∙ sym m;
-  same_arrays = λ t d e h l m way. refl;
   reflexive = λ t h. refl;
   symmetric = λ t u h i s. sym s;
   transitive = λ t u v h i j s r. s ∙ r;
@@ -83,7 +81,7 @@ bool_found zero h = (false, refl)
 bool_found (suc zero) h = (true, refl)
 bool_found (suc (suc n)) h = absurd (omega arith)
 
-pub bool_makeable : Makeable (Unit {0}) bool_shape (λ (b : Bool). Unit {0}) (ListsNumber bool_number) (SameNumber bool_number) (MakesNumber bool_number)
+pub bool_makeable : Makeable bool_shape (λ (b : Bool). Unit {0}) (ListsNumber bool_number) (SameNumber bool_number) (MakesNumber bool_number)
 bool_makeable = record {
   made = λ g d o s. let found = bool_found o.value o.below in (found.0, (tt, o.is ∙ ap number (sym found.1)));
   once = λ d t u h i m n. number_once (sym m ∙ n);
@@ -98,13 +96,12 @@ unit_lawful = record {
   listed = λ t h. (unit, refl);
   of_shape = λ t d h l. l;
   one_listing = λ o t d e h l m. l ∙ sym m;
-  same_arrays = λ t d e h l m way. refl;
   reflexive = λ t h. tt;
   symmetric = λ t u h i s. tt;
   transitive = λ t u v h i j s r. tt;
 }
 
-pub unit_makeable : {T : Type 0} → T → Makeable (Unit {0}) unit_shape (λ (t : T). Unit {0}) ListsUnit (λ t u. Unit {0}) MakesUnit
+pub unit_makeable : {T : Type 0} → T → Makeable unit_shape (λ (t : T). Unit {0}) ListsUnit (λ t u. Unit {0}) MakesUnit
 unit_makeable t = record {
   made = λ g d o s. (t, (tt, o));
   once = λ d t u h i m n. tt;
@@ -116,29 +113,12 @@ unit_makeable t = record {
 pub pair_once : (a b c d : Datum) → pair a b ≡ pair c d → (a ≡ c) × (b ≡ d)
 pair_once a b c d e = (cc, cc)
 
-storable_first : (a b : Datum) → IsStorable (pair a b) → IsStorable a
-storable_first a b (storable_tuple (storable_more h _)) = h
-
-storable_second : (a b : Datum) → IsStorable (pair a b) → IsStorable b
-storable_second a b (storable_tuple (storable_more _ (storable_more h _))) = h
-
 pub both : (a b : Bool) → IsTrue (a && b) → IsTrue a × IsTrue b
 both true b h = (refl, h)
 both false b h = absurd cc
 
 module _ {A B : Type 0} (shape_a shape_b : Shape) (is_a : A → Type 0) (is_b : B → Type 0) (lists_a : A → Datum → Type 0) (lists_b : B → Datum → Type 0)
     (same_a : A → A → Type 0) (same_b : B → B → Type 0) where
-  pair_same_arrays : {order_a order_b : Bool} → Lawful shape_a is_a lists_a same_a order_a → Lawful shape_b is_b lists_b same_b order_b
-      → (t : A × B) (d e : Datum) → IsPairValue is_a is_b t → ListsPair lists_a lists_b t d → ListsPair lists_a lists_b t e
-      → (way : List ℕ) → arrays_at (pair_shape shape_a shape_b) way d ≡ arrays_at (pair_shape shape_a shape_b) way e
-  pair_same_arrays la lb t d e h l m [] = refl
-  pair_same_arrays la lb t d e h l m (zero ∷ way) =
-      ap (λ x. arrays_at shape_a way (first_in x)) l.is ∙ la.same_arrays t.0 l.first m.first h.0 l.lists_first m.lists_first way
-      ∙ ap (λ x. arrays_at shape_a way (first_in x)) (sym m.is)
-  pair_same_arrays la lb t d e h l m (suc place ∷ way) =
-      ap (λ x. arrays_at shape_b way (second_in x)) l.is ∙ lb.same_arrays t.1 l.second m.second h.1 l.lists_second m.lists_second way
-      ∙ ap (λ x. arrays_at shape_b way (second_in x)) (sym m.is)
-
   pub pair_lawful : (order_a order_b : Bool) → Lawful shape_a is_a lists_a same_a order_a → Lawful shape_b is_b lists_b same_b order_b
       → Lawful (pair_shape shape_a shape_b) (IsPairValue is_a is_b) (ListsPair lists_a lists_b) (SamePair same_a same_b) (order_a && order_b)
   pair_lawful order_a order_b la lb = record {
@@ -156,20 +136,19 @@ module _ {A B : Type 0} (shape_a shape_b : Shape) (is_a : A → Type 0) (is_b : 
         let f : l.first ≡ m.first = la.one_listing (both order_a order_b o).0 t.0 l.first m.first h.0 l.lists_first m.lists_first in
         let s : l.second ≡ m.second = lb.one_listing (both order_a order_b o).1 t.1 l.second m.second h.1 l.lists_second m.lists_second in
         cc (l.is, m.is, f, s);
-    same_arrays = pair_same_arrays la lb;
     reflexive = λ t h. (la.reflexive t.0 h.0, lb.reflexive t.1 h.1);
     symmetric = λ t u h i s. (la.symmetric t.0 u.0 h.0 i.0 s.0, lb.symmetric t.1 u.1 h.1 i.1 s.1);
     transitive = λ t u v h i j s r. (la.transitive t.0 u.0 v.0 h.0 i.0 j.0 s.0 r.0, lb.transitive t.1 u.1 v.1 h.1 i.1 j.1 s.1 r.1);
   }
 
-  pub pair_makeable : {on_a on_b : Type 0} (makes_a : Datum → A → Type 0) (makes_b : Datum → B → Type 0)
-      → Makeable on_a shape_a is_a lists_a same_a makes_a → Makeable on_b shape_b is_b lists_b same_b makes_b
-      → Makeable (on_a × on_b) (pair_shape shape_a shape_b) (IsPairValue is_a is_b) (ListsPair lists_a lists_b) (SamePair same_a same_b) (MakesPair makes_a makes_b)
+  pub pair_makeable : (makes_a : Datum → A → Type 0) (makes_b : Datum → B → Type 0)
+      → Makeable shape_a is_a lists_a same_a makes_a → Makeable shape_b is_b lists_b same_b makes_b
+      → Makeable (pair_shape shape_a shape_b) (IsPairValue is_a is_b) (ListsPair lists_a lists_b) (SamePair same_a same_b) (MakesPair makes_a makes_b)
   pair_makeable makes_a makes_b ma mb = record {
     made = λ g d o s.
-        let stored : IsStorable (pair o.first o.second) = subst IsStorable o.is s in
-        let x = ma.made g.0 o.first o.is_first (storable_first o.first o.second stored) in
-        let y = mb.made g.1 o.second o.is_second (storable_second o.first o.second stored) in
+        let stored = subst (IsStorable (pair_shape shape_a shape_b)) o.is s in
+        let x = ma.made g o.first o.is_first stored.0 in
+        let y = mb.made g o.second o.is_second stored.1 in
         ((x.0, y.0), ((x.1.0, y.1.0), record { first = o.first; second = o.second; is = o.is; makes_first = x.1.1; makes_second = y.1.1 }));
     once = λ d t u h i m n.
         let e = pair_once m.first m.second n.first n.second (sym m.is ∙ n.is) in (

@@ -1,5 +1,6 @@
 pub mod Datum
 pub mod Shape
+pub mod Storable
 pub mod ArrayCounts
 pub mod Lawful
 pub mod Values
@@ -30,6 +31,8 @@ pub mod BuiltOrdered
 pub mod BuiltDistinct
 pub mod Maps
 pub mod LawfulMaps
+pub mod BuiltEntries
 pub mod BuiltSets
 pub mod BuiltMaps
+pub mod SameArrays
 pub mod KeyLaws

@@ -25,8 +25,6 @@ impl<T: Shaped, const N: usize> Shaped for [T; N] {
 }
 
 impl<T: Made, const N: usize> Made for [T; N] {
-    ghost material = { T.material };
-
     ghost makes = { MakesSequence T.makes };
 
     ghost makeable = { array_makeable N T.shape T.is_value T.lists T.same T.makes T.makeable };

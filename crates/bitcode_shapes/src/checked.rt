@@ -34,8 +34,6 @@ impl Shaped for NonZeroU8 {
 }
 
 impl Made for NonZeroU8 {
-    ghost material = { Unit {0} };
-
     ghost makes = { MakesNumber (λ t. pos (non_zero_u8_get t)) };
 
     ghost makeable = { unsigned_nonzero_makeable non_zero_u8_get 1 (λ n h. (record { value = n; ok = h }, refl)) };
@@ -60,8 +58,6 @@ impl Shaped for NonZeroU16 {
 }
 
 impl Made for NonZeroU16 {
-    ghost material = { Unit {0} };
-
     ghost makes = { MakesNumber (λ t. pos (non_zero_u16_get t)) };
 
     ghost makeable = { unsigned_nonzero_makeable non_zero_u16_get 2 (λ n h. (record { value = n; ok = h }, refl)) };
@@ -86,8 +82,6 @@ impl Shaped for NonZeroU32 {
 }
 
 impl Made for NonZeroU32 {
-    ghost material = { Unit {0} };
-
     ghost makes = { MakesNumber (λ t. pos (non_zero_u32_get t)) };
 
     ghost makeable = { unsigned_nonzero_makeable non_zero_u32_get 4 (λ n h. (record { value = n; ok = h }, refl)) };
@@ -112,8 +106,6 @@ impl Shaped for NonZeroU64 {
 }
 
 impl Made for NonZeroU64 {
-    ghost material = { Unit {0} };
-
     ghost makes = { MakesNumber (λ t. pos (non_zero_u64_get t)) };
 
     ghost makeable = { unsigned_nonzero_makeable non_zero_u64_get 8 (λ n h. (record { value = n; ok = h }, refl)) };
@@ -138,8 +130,6 @@ impl Shaped for NonZeroU128 {
 }
 
 impl Made for NonZeroU128 {
-    ghost material = { Unit {0} };
-
     ghost makes = { MakesNumber (λ t. pos (non_zero_u128_get t)) };
 
     ghost makeable = { unsigned_nonzero_makeable non_zero_u128_get 16 (λ n h. (record { value = n; ok = h }, refl)) };
@@ -164,8 +154,6 @@ impl Shaped for NonZeroUsize {
 }
 
 impl Made for NonZeroUsize {
-    ghost material = { Unit {0} };
-
     ghost makes = { MakesNumber (λ t. pos (non_zero_usize_get t)) };
 
     ghost makeable = { unsigned_nonzero_makeable non_zero_usize_get 8 (λ n h. (record { value = n; ok = h }, refl)) };
@@ -190,8 +178,6 @@ impl Shaped for NonZeroI8 {
 }
 
 impl Made for NonZeroI8 {
-    ghost material = { Unit {0} };
-
     ghost makes = { MakesNumber non_zero_i8_get };
 
     ghost makeable = { signed_nonzero_makeable non_zero_i8_get 1 (λ z h. (record { value = z; ok = h }, refl)) };
@@ -216,8 +202,6 @@ impl Shaped for NonZeroI16 {
 }
 
 impl Made for NonZeroI16 {
-    ghost material = { Unit {0} };
-
     ghost makes = { MakesNumber non_zero_i16_get };
 
     ghost makeable = { signed_nonzero_makeable non_zero_i16_get 2 (λ z h. (record { value = z; ok = h }, refl)) };
@@ -242,8 +226,6 @@ impl Shaped for NonZeroI32 {
 }
 
 impl Made for NonZeroI32 {
-    ghost material = { Unit {0} };
-
     ghost makes = { MakesNumber non_zero_i32_get };
 
     ghost makeable = { signed_nonzero_makeable non_zero_i32_get 4 (λ z h. (record { value = z; ok = h }, refl)) };
@@ -268,8 +250,6 @@ impl Shaped for NonZeroI64 {
 }
 
 impl Made for NonZeroI64 {
-    ghost material = { Unit {0} };
-
     ghost makes = { MakesNumber non_zero_i64_get };
 
     ghost makeable = { signed_nonzero_makeable non_zero_i64_get 8 (λ z h. (record { value = z; ok = h }, refl)) };
@@ -294,8 +274,6 @@ impl Shaped for NonZeroI128 {
 }
 
 impl Made for NonZeroI128 {
-    ghost material = { Unit {0} };
-
     ghost makes = { MakesNumber non_zero_i128_get };
 
     ghost makeable = { signed_nonzero_makeable non_zero_i128_get 16 (λ z h. (record { value = z; ok = h }, refl)) };
@@ -320,8 +298,6 @@ impl Shaped for NonZeroIsize {
 }
 
 impl Made for NonZeroIsize {
-    ghost material = { Unit {0} };
-
     ghost makes = { MakesNumber non_zero_isize_get };
 
     ghost makeable = { signed_nonzero_makeable non_zero_isize_get 8 (λ z h. (record { value = z; ok = h }, refl)) };
@@ -346,8 +322,6 @@ impl Shaped for char {
 }
 
 impl Made for char {
-    ghost material = { Unit {0} };
-
     ghost makes = { MakesNumber pos };
 
     ghost makeable = { char_makeable };

@@ -28,8 +28,6 @@ impl<T: Shaped> Shaped for Option<T> {
 }
 
 impl<T: Made> Made for Option<T> {
-    ghost material = { T.material };
-
     ghost makes = { λ d o. MakesChoice (MakesVariant MakesUnit (MakesLast T.makes)) d (option_variant o) };
 
     ghost makeable = { option_makeable T.makeable };
@@ -57,8 +55,6 @@ impl<T: Shaped, E: Shaped> Shaped for Result<T, E> {
 }
 
 impl<T: Made, E: Made> Made for Result<T, E> {
-    ghost material = { T.material × E.material };
-
     ghost makes = { λ d r. MakesChoice (MakesVariant T.makes (MakesLast E.makes)) d (result_variant r) };
 
     ghost makeable = { result_makeable T.makeable E.makeable };

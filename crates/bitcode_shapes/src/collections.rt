@@ -1,5 +1,4 @@
 // Queues and lists hold the data of their elements, front to back.
-ghost use Rattle.std.specs.declared.alloc.Global.{Global};
 ghost use Rattle.std.specs.Prelude.{None, All, List};
 ghost use Rattle.std.specs.VecDeque.{deque_items};
 ghost use Rattle.bitcode_shapes.specs.Collections.{deque_built, list_built};
@@ -32,11 +31,9 @@ impl<T: Shaped> Shaped for VecDeque<T> {
 }
 
 impl<T: Made> Made for VecDeque<T> {
-    ghost material = { Global × T.material };
-
     ghost makes = { λ d q. MakesSequence T.makes d (deque_items q) };
 
-    ghost makeable = { seq_makeable T.shape T.is_value T.lists T.same deque_items T.makes (λ g. g.1) (λ g. deque_built g.0) T.makeable };
+    ghost makeable = { seq_makeable T.shape T.is_value T.lists T.same deque_items T.makes deque_built T.makeable };
 }
 
 impl<T: Shaped> Shaped for LinkedList<T> {
@@ -60,9 +57,7 @@ impl<T: Shaped> Shaped for LinkedList<T> {
 }
 
 impl<T: Made> Made for LinkedList<T> {
-    ghost material = { T.material };
-
     ghost makes = { λ d l. MakesSequence T.makes d l };
 
-    ghost makeable = { seq_makeable T.shape T.is_value T.lists T.same (λ l. l) T.makes (λ g. g) (λ g. list_built) T.makeable };
+    ghost makeable = { seq_makeable T.shape T.is_value T.lists T.same (λ l. l) T.makes (λ g. list_built) T.makeable };
 }

@@ -25,8 +25,6 @@ impl Shaped for Duration {
 }
 
 impl Made for Duration {
-    ghost material = { Unit {0} };
-
     ghost makes = { λ d t. MakesSpan d (seconds_and_nanos t) };
 
     ghost makeable = { duration_makeable };

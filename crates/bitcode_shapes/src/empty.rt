@@ -24,8 +24,6 @@ impl<T> Shaped for PhantomData<T> {
 }
 
 impl<T> Made for PhantomData<T> {
-    ghost material = { Unit {0} };
-
     ghost makes = { MakesUnit };
 
     ghost makeable = { unit_makeable (record {}) };

@@ -28,8 +28,6 @@ impl<T: Shaped, const N: usize> Shaped for ArrayVec<T, N> {
 }
 
 impl<T: Made, const N: usize> Made for ArrayVec<T, N> {
-    ghost material = { T.material };
-
     ghost makes = { λ d v. MakesSequence T.makes d v.items };
 
     ghost makeable = { array_vec_makeable N T.shape T.is_value T.lists T.same T.makes T.makeable };
@@ -54,8 +52,6 @@ impl<const N: usize> Shaped for ArrayString<N> {
 }
 
 impl<const N: usize> Made for ArrayString<N> {
-    ghost material = { Unit {0} };
-
     ghost makes = { MakesText (λ s. s.bytes) };
 
     ghost makeable = { array_string_makeable N };

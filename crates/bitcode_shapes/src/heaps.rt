@@ -1,6 +1,5 @@
 // Heaps hold the data of their elements, in an order of their own.
 ghost use Rattle.std.specs.Prelude.{None, All, false};
-ghost use Rattle.std.specs.declared.alloc.Global.{Global};
 ghost use Rattle.std.specs.BinaryHeap.{heap_items};
 ghost use Rattle.bitcode_shapes.specs.AnyOrder.{ListsInAnyOrder, MakesInAnyOrder, SameInAnyOrder};
 ghost use Rattle.bitcode_shapes.specs.BuiltSets.{heap_built};
@@ -31,9 +30,7 @@ impl<T: Shaped + Ord> Shaped for BinaryHeap<T> {
 }
 
 impl<T: Made + Ord> Made for BinaryHeap<T> {
-    ghost material = { Global × T.material };
-
     ghost makes = { λ d h. MakesInAnyOrder T.makes d (heap_items h) };
 
-    ghost makeable = { any_order_makeable T.shape T.is_value T.lists T.same heap_items T.makes (λ g. g.1) (λ g. heap_built g.0) T.makeable };
+    ghost makeable = { any_order_makeable T.shape T.is_value T.lists T.same heap_items T.makes heap_built T.makeable };
 }

@@ -1,10 +1,11 @@
 // Maps hold the data of their keys and values: an ordered map in the order of its keys, a hashed one in an order of its own.
-ghost use Rattle.std.specs.Prelude.{◌≡◌, ◌&&◌, false, List};
+ghost use Rattle.std.specs.Prelude.{◌&&◌, false};
 ghost use Rattle.std.specs.Map.{keys_of};
 ghost use Rattle.std.specs.Ordering.{eq_by_cmp};
 ghost use Rattle.std.proofs.lemmas.Cmp.{eq_by_cmp_equiv};
 ghost use Rattle.std.proofs.lemmas.Map.Keys.{IsDistinct-from_sorted};
 ghost use Rattle.bitcode_shapes.specs.AnyOrder.{ListsInAnyOrder};
+ghost use Rattle.bitcode_shapes.specs.BuiltEntries.{ordered_map_of, hashed_map_of};
 ghost use Rattle.bitcode_shapes.specs.BuiltMaps.{ordered_map_built, hashed_map_built};
 ghost use Rattle.bitcode_shapes.specs.LawfulMaps.{ordered_map_lawful, ordered_map_makeable, hashed_map_lawful, hashed_map_makeable};
 ghost use Rattle.bitcode_shapes.specs.LawfulSets.{tells_by_order};
@@ -42,11 +43,9 @@ impl<K: Shaped + Ord, V: Shaped> Shaped for BTreeMap<K, V> {
 }
 
 impl<K: Key + Made + Ord, V: Made> Made for BTreeMap<K, V> {
-    ghost material = { (K.material × V.material) × ((entries : List (K × V)) → (m : Self) × (m.entries ≡ entries)) };
-
     ghost makes = { λ d m. MakesMap K.is_value V.is_value (eq_by_cmp K.cmp) K.makes V.makes d m.entries };
 
-    ghost makeable = { ordered_map_makeable K.shape V.shape K.is_value V.is_value K.lists V.lists K.same V.same (eq_by_cmp K.cmp) (eq_by_cmp_equiv K.total) (tells_by_order K.is_value K.same K.eq K.cmp K.matches_eq K.keyed) (λ m. m.entries) (λ m. IsOrderedMap K.is_value V.is_value K.cmp m.entries) (λ m h. h.each) (λ m h. IsDistinct-from_sorted K.cmp (keys_of m.entries) h.ascending) K.makes V.makes K.makeable V.makeable (λ g. g.0) (λ g. ordered_map_built K.is_value V.is_value (λ (m : Self). m.entries) g.1 K.total) };
+    ghost makeable = { ordered_map_makeable K.shape V.shape K.is_value V.is_value K.lists V.lists K.same V.same (eq_by_cmp K.cmp) (eq_by_cmp_equiv K.total) (tells_by_order K.is_value K.same K.eq K.cmp K.matches_eq K.keyed) (λ m. m.entries) (λ m. IsOrderedMap K.is_value V.is_value K.cmp m.entries) (λ m h. h.each) (λ m h. IsDistinct-from_sorted K.cmp (keys_of m.entries) h.ascending) K.makes V.makes K.makeable V.makeable (λ g. ordered_map_built K.is_value V.is_value (λ (m : Self). m.entries) ordered_map_of K.total) };
 }
 
 impl<K: Shaped + Eq + Hash, V: Shaped> Shaped for HashMap<K, V> {
@@ -72,9 +71,7 @@ impl<K: Shaped + Eq + Hash, V: Shaped> Shaped for HashMap<K, V> {
 }
 
 impl<K: Key + Made + Hash, V: Made> Made for HashMap<K, V> {
-    ghost material = { (K.material × V.material) × ((entries : List (K × V)) → (m : Self) × (m.entries ≡ entries)) };
-
     ghost makes = { λ d m. MakesMap K.is_value V.is_value K.eq K.makes V.makes d m.entries };
 
-    ghost makeable = { hashed_map_makeable K.shape V.shape K.is_value V.is_value K.lists V.lists K.same V.same K.eq K.Eq.laws K.keyed (λ m. m.entries) (λ m. IsDistinctMap K.is_value V.is_value K.eq m.entries) (λ m h. h.each) (λ m h. h.apart) K.makes V.makes K.makeable V.makeable (λ g. g.0) (λ g. hashed_map_built K.is_value V.is_value (λ (m : Self). m.entries) g.1 K.Eq.laws) };
+    ghost makeable = { hashed_map_makeable K.shape V.shape K.is_value V.is_value K.lists V.lists K.same V.same K.eq K.Eq.laws K.keyed (λ m. m.entries) (λ m. IsDistinctMap K.is_value V.is_value K.eq m.entries) (λ m h. h.each) (λ m h. h.apart) K.makes V.makes K.makeable V.makeable (λ g. hashed_map_built K.is_value V.is_value (λ (m : Self). m.entries) hashed_map_of K.Eq.laws) };
 }

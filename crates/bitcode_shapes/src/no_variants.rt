@@ -40,8 +40,6 @@ impl<T: NoVariants> Shaped for T {
 }
 
 impl<T: NoVariants> Made for T {
-    ghost material = { Unit {0} };
-
     ghost makes = { λ d t. ⊥ };
 
     ghost makeable = { never_makeable };

@@ -1,5 +1,4 @@
 // Pointers hold the data of what they own: a box and a shared pointer those of the value, slices those of a sequence.
-ghost use Rattle.std.specs.declared.alloc.Global.{Global};
 ghost use Rattle.std.specs.Prelude.{None, All};
 ghost use Rattle.std.specs.Box.{box_value, boxed_slice_items};
 ghost use Rattle.std.specs.Rc.{rc_value, rc_slice_items};
@@ -33,11 +32,9 @@ impl<T: Shaped> Shaped for Box<T> {
 }
 
 impl<T: Made> Made for Box<T> {
-    ghost material = { Global × T.material };
-
     ghost makes = { λ d b. T.makes d (box_value b) };
 
-    ghost makeable = { image_makeable box_value (λ g. g.1) (λ g t h. box_built g.0 t) T.makeable };
+    ghost makeable = { image_makeable box_value (λ g t h. box_built g t) T.makeable };
 }
 
 impl<T: Shaped> Shaped for Rc<T> {
@@ -59,11 +56,9 @@ impl<T: Shaped> Shaped for Rc<T> {
 }
 
 impl<T: Made> Made for Rc<T> {
-    ghost material = { Global × T.material };
-
     ghost makes = { λ d r. T.makes d (rc_value r) };
 
-    ghost makeable = { image_makeable rc_value (λ g. g.1) (λ g t h. rc_built g.0 t) T.makeable };
+    ghost makeable = { image_makeable rc_value (λ g t h. rc_built g t) T.makeable };
 }
 
 impl<T: Shaped> Shaped for BoxedSlice<T> {
@@ -85,11 +80,9 @@ impl<T: Shaped> Shaped for BoxedSlice<T> {
 }
 
 impl<T: Made> Made for BoxedSlice<T> {
-    ghost material = { Global × T.material };
-
     ghost makes = { λ d b. MakesSequence T.makes d (boxed_slice_items b) };
 
-    ghost makeable = { seq_makeable T.shape T.is_value T.lists T.same boxed_slice_items T.makes (λ g. g.1) (λ g. boxed_slice_built g.0) T.makeable };
+    ghost makeable = { seq_makeable T.shape T.is_value T.lists T.same boxed_slice_items T.makes boxed_slice_built T.makeable };
 }
 
 impl<T: Shaped> Shaped for RcSlice<T> {
@@ -111,9 +104,7 @@ impl<T: Shaped> Shaped for RcSlice<T> {
 }
 
 impl<T: Made> Made for RcSlice<T> {
-    ghost material = { Global × T.material };
-
     ghost makes = { λ d r. MakesSequence T.makes d (rc_slice_items r) };
 
-    ghost makeable = { seq_makeable T.shape T.is_value T.lists T.same rc_slice_items T.makes (λ g. g.1) (λ g. rc_slice_built g.0) T.makeable };
+    ghost makeable = { seq_makeable T.shape T.is_value T.lists T.same rc_slice_items T.makes rc_slice_built T.makeable };
 }

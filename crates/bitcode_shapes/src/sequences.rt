@@ -1,5 +1,4 @@
 // Slices and vectors hold the data of their elements.
-ghost use Rattle.std.specs.declared.alloc.Global.{Global};
 ghost use Rattle.std.specs.Prelude.{None, All};
 ghost use Rattle.std.specs.Vec.{vec_items};
 ghost use Rattle.bitcode_shapes.specs.Shape.{seq_shape};
@@ -45,11 +44,9 @@ impl<T: Shaped> Shaped for Vec<T> {
 }
 
 impl<T: Made> Made for Vec<T> {
-    ghost material = { Global × T.material };
-
     ghost makes = { λ d v. MakesSequence T.makes d v.items };
 
-    ghost makeable = { seq_makeable T.shape T.is_value T.lists T.same vec_items T.makes (λ g. g.1) (λ g. vec_built g.0) T.makeable };
+    ghost makeable = { seq_makeable T.shape T.is_value T.lists T.same vec_items T.makes vec_built T.makeable };
 }
 
 impl<'a, T: Shaped> Shaped for &'a [T] {

@@ -1,8 +1,9 @@
 // Sets hold the data of their keys: an ordered set in their order, a hashed one in an order of its own.
-ghost use Rattle.std.specs.Prelude.{◌≡◌, None, false, List};
+ghost use Rattle.std.specs.Prelude.{None, false};
 ghost use Rattle.std.specs.Ordering.{eq_by_cmp};
 ghost use Rattle.std.proofs.lemmas.Cmp.{eq_by_cmp_equiv};
 ghost use Rattle.bitcode_shapes.specs.AnyOrder.{ListsInAnyOrder};
+ghost use Rattle.bitcode_shapes.specs.BuiltEntries.{hashed_set_of};
 ghost use Rattle.bitcode_shapes.specs.BuiltSets.{ordered_set_built, hashed_set_built};
 ghost use Rattle.bitcode_shapes.specs.LawfulSets.{ordered_set_lawful, ordered_set_makeable, hashed_set_lawful, hashed_set_makeable, tells_by_order};
 ghost use Rattle.bitcode_shapes.specs.Sequences.{ListsSequence};
@@ -37,11 +38,9 @@ impl<T: Shaped + Ord> Shaped for BTreeSet<T> {
 }
 
 impl<T: Key + Made + Ord> Made for BTreeSet<T> {
-    ghost material = { T.material };
-
     ghost makes = { λ d s. MakesSet T.is_value (eq_by_cmp T.cmp) T.makes d s.keys };
 
-    ghost makeable = { ordered_set_makeable T.shape T.is_value T.lists T.same (eq_by_cmp T.cmp) (eq_by_cmp_equiv T.total) (tells_by_order T.is_value T.same T.eq T.cmp T.matches_eq T.keyed) (λ s. s.keys) (λ s. IsOrderedSet T.is_value T.cmp s.keys) (λ s h. h.each) T.makes (λ g. g) (λ g. ordered_set_built T.is_value T.total) T.makeable };
+    ghost makeable = { ordered_set_makeable T.shape T.is_value T.lists T.same (eq_by_cmp T.cmp) (eq_by_cmp_equiv T.total) (tells_by_order T.is_value T.same T.eq T.cmp T.matches_eq T.keyed) (λ s. s.keys) (λ s. IsOrderedSet T.is_value T.cmp s.keys) (λ s h. h.each) T.makes (λ g. ordered_set_built T.is_value T.total) T.makeable };
 }
 
 impl<T: Shaped + Eq + Hash> Shaped for HashSet<T> {
@@ -66,9 +65,7 @@ impl<T: Shaped + Eq + Hash> Shaped for HashSet<T> {
 }
 
 impl<T: Key + Made + Hash> Made for HashSet<T> {
-    ghost material = { T.material × ((keys : List T) → (s : Self) × (s.keys ≡ keys)) };
-
     ghost makes = { λ d s. MakesSet T.is_value T.eq T.makes d s.keys };
 
-    ghost makeable = { hashed_set_makeable T.shape T.is_value T.lists T.same T.eq T.Eq.laws T.keyed (λ s. s.keys) (λ s. IsDistinctSet T.is_value T.eq s.keys) (λ s h. h.each) T.makes (λ g. g.0) (λ g. hashed_set_built T.is_value (λ (s : Self). s.keys) T.Eq.laws g.1) T.makeable };
+    ghost makeable = { hashed_set_makeable T.shape T.is_value T.lists T.same T.eq T.Eq.laws T.keyed (λ s. s.keys) (λ s. IsDistinctSet T.is_value T.eq s.keys) (λ s h. h.each) T.makes (λ g. hashed_set_built T.is_value (λ (s : Self). s.keys) T.Eq.laws hashed_set_of) T.makeable };
 }

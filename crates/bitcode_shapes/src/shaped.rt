@@ -32,11 +32,8 @@ pub trait Shaped {
 
 /// A type whose values are made of data.
 pub trait Made: Shaped {
-    // what values are built on in proofs, as an allocator
-    ghost material: { Type 0 };
-
     // the value is made of the datum
     ghost makes: { Datum → Self → Type 0 };
 
-    ghost makeable: { Makeable material Self.shape Self.is_value Self.lists Self.same makes };
+    ghost makeable: { Makeable Self.shape Self.is_value Self.lists Self.same makes };
 }

@@ -1,5 +1,4 @@
 // Texts hold their bytes.
-ghost use Rattle.std.specs.declared.alloc.Global.{Global};
 ghost use Rattle.std.specs.Prelude.{None, true};
 ghost use Rattle.std.specs.Box.{boxed_str_bytes};
 ghost use Rattle.std.specs.Rc.{rc_str_bytes};
@@ -31,11 +30,9 @@ impl<'a> Shaped for &'a str {
 }
 
 impl<'a> Made for &'a str {
-    ghost material = { Unit {0} };
-
     ghost makes = { MakesText (λ s. s.now) };
 
-    ghost makeable = { text_makeable (λ s. s.now) str_built };
+    ghost makeable = { text_makeable (λ s. s.now) (λ g. str_built) };
 }
 
 impl Shaped for String {
@@ -57,8 +54,6 @@ impl Shaped for String {
 }
 
 impl Made for String {
-    ghost material = { Global };
-
     ghost makes = { MakesText string_bytes };
 
     ghost makeable = { text_makeable string_bytes string_built };
@@ -83,8 +78,6 @@ impl Shaped for BoxedStr {
 }
 
 impl Made for BoxedStr {
-    ghost material = { Global };
-
     ghost makes = { MakesText boxed_str_bytes };
 
     ghost makeable = { text_makeable boxed_str_bytes boxed_str_built };
@@ -109,8 +102,6 @@ impl Shaped for RcStr {
 }
 
 impl Made for RcStr {
-    ghost material = { Global };
-
     ghost makes = { MakesText rc_str_bytes };
 
     ghost makeable = { text_makeable rc_str_bytes rc_str_built };

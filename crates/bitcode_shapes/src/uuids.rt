@@ -26,8 +26,6 @@ impl Shaped for Uuid {
 }
 
 impl Made for Uuid {
-    ghost material = { Unit {0} };
-
     ghost makes = { ⟦<[u8; 16] as Made>⟧.makes };
 
     ghost makeable = { array_makeable 16 (int_shape 1 false) (IsValueOfWidth 1 false pos) (ListsNumber pos) (SameNumber pos) (MakesNumber pos) (unsigned_makeable 1) };

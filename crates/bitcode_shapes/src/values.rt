@@ -23,8 +23,6 @@ impl Shaped for bool {
 }
 
 impl Made for bool {
-    ghost material = { Unit {0} };
-
     ghost makes = { MakesNumber bool_number };
 
     ghost makeable = { bool_makeable };
@@ -49,8 +47,6 @@ impl Shaped for u8 {
 }
 
 impl Made for u8 {
-    ghost material = { Unit {0} };
-
     ghost makes = { MakesNumber pos };
 
     ghost makeable = { unsigned_makeable 1 };
@@ -75,8 +71,6 @@ impl Shaped for u16 {
 }
 
 impl Made for u16 {
-    ghost material = { Unit {0} };
-
     ghost makes = { MakesNumber pos };
 
     ghost makeable = { unsigned_makeable 2 };
@@ -101,8 +95,6 @@ impl Shaped for u32 {
 }
 
 impl Made for u32 {
-    ghost material = { Unit {0} };
-
     ghost makes = { MakesNumber pos };
 
     ghost makeable = { unsigned_makeable 4 };
@@ -127,8 +119,6 @@ impl Shaped for u64 {
 }
 
 impl Made for u64 {
-    ghost material = { Unit {0} };
-
     ghost makes = { MakesNumber pos };
 
     ghost makeable = { unsigned_makeable 8 };
@@ -153,8 +143,6 @@ impl Shaped for u128 {
 }
 
 impl Made for u128 {
-    ghost material = { Unit {0} };
-
     ghost makes = { MakesNumber pos };
 
     ghost makeable = { unsigned_makeable 16 };
@@ -179,8 +167,6 @@ impl Shaped for usize {
 }
 
 impl Made for usize {
-    ghost material = { Unit {0} };
-
     ghost makes = { MakesNumber pos };
 
     ghost makeable = { unsigned_makeable 8 };
@@ -205,8 +191,6 @@ impl Shaped for i8 {
 }
 
 impl Made for i8 {
-    ghost material = { Unit {0} };
-
     ghost makes = { MakesNumber (λ (z : ℤ). z) };
 
     ghost makeable = { signed_makeable 1 };
@@ -231,8 +215,6 @@ impl Shaped for i16 {
 }
 
 impl Made for i16 {
-    ghost material = { Unit {0} };
-
     ghost makes = { MakesNumber (λ (z : ℤ). z) };
 
     ghost makeable = { signed_makeable 2 };
@@ -257,8 +239,6 @@ impl Shaped for i32 {
 }
 
 impl Made for i32 {
-    ghost material = { Unit {0} };
-
     ghost makes = { MakesNumber (λ (z : ℤ). z) };
 
     ghost makeable = { signed_makeable 4 };
@@ -283,8 +263,6 @@ impl Shaped for i64 {
 }
 
 impl Made for i64 {
-    ghost material = { Unit {0} };
-
     ghost makes = { MakesNumber (λ (z : ℤ). z) };
 
     ghost makeable = { signed_makeable 8 };
@@ -309,8 +287,6 @@ impl Shaped for i128 {
 }
 
 impl Made for i128 {
-    ghost material = { Unit {0} };
-
     ghost makes = { MakesNumber (λ (z : ℤ). z) };
 
     ghost makeable = { signed_makeable 16 };
@@ -335,8 +311,6 @@ impl Shaped for isize {
 }
 
 impl Made for isize {
-    ghost material = { Unit {0} };
-
     ghost makes = { MakesNumber (λ (z : ℤ). z) };
 
     ghost makeable = { signed_makeable 8 };
@@ -359,8 +333,6 @@ impl Shaped for () {
 }
 
 impl Made for () {
-    ghost material = { Unit {0} };
-
     ghost makes = { MakesUnit };
 
     ghost makeable = { unit_makeable (record {}) };
@@ -386,8 +358,6 @@ impl<A: Shaped, B: Shaped> Shaped for (A, B) {
 }
 
 impl<A: Made, B: Made> Made for (A, B) {
-    ghost material = { A.material × B.material };
-
     ghost makes = { MakesPair A.makes B.makes };
 
     ghost makeable = { pair_makeable A.shape B.shape A.is_value B.is_value A.lists B.lists A.same B.same A.makes B.makes A.makeable B.makeable };

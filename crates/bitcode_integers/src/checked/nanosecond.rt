@@ -47,8 +47,6 @@ impl Shaped for Nanosecond {
 }
 
 impl Made for Nanosecond {
-    ghost material = { Unit {0} };
-
     ghost makes = { MakesNumber (λ t. pos t.nanos) };
 
     ghost makeable = { nanosecond_makeable (λ t. t.nanos) (λ n h. (record { nanos = n; below_one_second = h }, refl)) };

@@ -25,11 +25,9 @@ impl<A: Shaped> Shaped for (A,) {
 }
 
 impl<A: Made> Made for (A,) {
-    ghost material = { A.material };
-
     ghost makes = { λ d t. A.makes d t.0 };
 
-    ghost makeable = { image_makeable (λ t. t.0) (λ g. g) (λ g a h. (record { 0 = a }, refl)) A.makeable };
+    ghost makeable = { image_makeable (λ t. t.0) (λ g a h. (record { 0 = a }, refl)) A.makeable };
 }
 
 impl<A: Shaped, B: Shaped, C: Shaped> Shaped for (A, B, C) {
@@ -53,8 +51,6 @@ impl<A: Shaped, B: Shaped, C: Shaped> Shaped for (A, B, C) {
 }
 
 impl<A: Made, B: Made, C: Made> Made for (A, B, C) {
-    ghost material = { ⟦<(A, (B, C)) as Made>⟧.material };
-
     ghost makes = { λ d t. ⟦<(A, (B, C)) as Made>⟧.makes d (split_3 t) };
 
     ghost makeable = { struct_makeable split_3 joined_3 A.makeable (struct_makeable split_2 joined_2 B.makeable C.makeable) };
@@ -82,8 +78,6 @@ impl<A: Shaped, B: Shaped, C: Shaped, D: Shaped> Shaped for (A, B, C, D) {
 }
 
 impl<A: Made, B: Made, C: Made, D: Made> Made for (A, B, C, D) {
-    ghost material = { ⟦<((A, B), (C, D)) as Made>⟧.material };
-
     ghost makes = { λ d t. ⟦<((A, B), (C, D)) as Made>⟧.makes d (split_4 t) };
 
     ghost makeable = { struct_makeable split_4 joined_4 (struct_makeable split_2 joined_2 A.makeable B.makeable) (struct_makeable split_2 joined_2 C.makeable D.makeable) };
@@ -112,8 +106,6 @@ impl<A: Shaped, B: Shaped, C: Shaped, D: Shaped, E: Shaped> Shaped for (A, B, C,
 }
 
 impl<A: Made, B: Made, C: Made, D: Made, E: Made> Made for (A, B, C, D, E) {
-    ghost material = { ⟦<((A, B), (C, D, E)) as Made>⟧.material };
-
     ghost makes = { λ d t. ⟦<((A, B), (C, D, E)) as Made>⟧.makes d (split_5 t) };
 
     ghost makeable = { struct_makeable split_5 joined_5 (struct_makeable split_2 joined_2 A.makeable B.makeable) (struct_makeable split_3 joined_3 C.makeable (struct_makeable split_2 joined_2 D.makeable E.makeable)) };
@@ -144,8 +136,6 @@ impl<A: Shaped, B: Shaped, C: Shaped, D: Shaped, E: Shaped, F: Shaped> Shaped
 }
 
 impl<A: Made, B: Made, C: Made, D: Made, E: Made, F: Made> Made for (A, B, C, D, E, F) {
-    ghost material = { ⟦<((A, B, C), (D, E, F)) as Made>⟧.material };
-
     ghost makes = { λ d t. ⟦<((A, B, C), (D, E, F)) as Made>⟧.makes d (split_6 t) };
 
     ghost makeable = { struct_makeable split_6 joined_6 (struct_makeable split_3 joined_3 A.makeable (struct_makeable split_2 joined_2 B.makeable C.makeable)) (struct_makeable split_3 joined_3 D.makeable (struct_makeable split_2 joined_2 E.makeable F.makeable)) };
@@ -177,8 +167,6 @@ impl<A: Shaped, B: Shaped, C: Shaped, D: Shaped, E: Shaped, F: Shaped, G: Shaped
 }
 
 impl<A: Made, B: Made, C: Made, D: Made, E: Made, F: Made, G: Made> Made for (A, B, C, D, E, F, G) {
-    ghost material = { ⟦<((A, B, C), (D, E, F, G)) as Made>⟧.material };
-
     ghost makes = { λ d t. ⟦<((A, B, C), (D, E, F, G)) as Made>⟧.makes d (split_7 t) };
 
     ghost makeable = { struct_makeable split_7 joined_7 (struct_makeable split_3 joined_3 A.makeable (struct_makeable split_2 joined_2 B.makeable C.makeable)) (struct_makeable split_4 joined_4 (struct_makeable split_2 joined_2 D.makeable E.makeable) (struct_makeable split_2 joined_2 F.makeable G.makeable)) };
@@ -212,8 +200,6 @@ impl<A: Shaped, B: Shaped, C: Shaped, D: Shaped, E: Shaped, F: Shaped, G: Shaped
 
 impl<A: Made, B: Made, C: Made, D: Made, E: Made, F: Made, G: Made, H: Made> Made
     for (A, B, C, D, E, F, G, H) {
-    ghost material = { ⟦<((A, B, C, D), (E, F, G, H)) as Made>⟧.material };
-
     ghost makes = { λ d t. ⟦<((A, B, C, D), (E, F, G, H)) as Made>⟧.makes d (split_8 t) };
 
     ghost makeable = { struct_makeable split_8 joined_8 (struct_makeable split_4 joined_4 (struct_makeable split_2 joined_2 A.makeable B.makeable) (struct_makeable split_2 joined_2 C.makeable D.makeable)) (struct_makeable split_4 joined_4 (struct_makeable split_2 joined_2 E.makeable F.makeable) (struct_makeable split_2 joined_2 G.makeable H.makeable)) };

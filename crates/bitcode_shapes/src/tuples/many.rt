@@ -42,8 +42,6 @@ impl<
 
 impl<A: Made, B: Made, C: Made, D: Made, E: Made, F: Made, G: Made, H: Made, I: Made> Made
     for (A, B, C, D, E, F, G, H, I) {
-    ghost material = { ⟦<((A, B, C, D), (E, F, G, H, I)) as Made>⟧.material };
-
     ghost makes = { λ d t. ⟦<((A, B, C, D), (E, F, G, H, I)) as Made>⟧.makes d (split_9 t) };
 
     ghost makeable = { struct_makeable split_9 joined_9 (struct_makeable split_4 joined_4 (struct_makeable split_2 joined_2 A.makeable B.makeable) (struct_makeable split_2 joined_2 C.makeable D.makeable)) (struct_makeable split_5 joined_5 (struct_makeable split_2 joined_2 E.makeable F.makeable) (struct_makeable split_3 joined_3 G.makeable (struct_makeable split_2 joined_2 H.makeable I.makeable))) };
@@ -89,8 +87,6 @@ impl<
 
 impl<A: Made, B: Made, C: Made, D: Made, E: Made, F: Made, G: Made, H: Made, I: Made, J: Made> Made
     for (A, B, C, D, E, F, G, H, I, J) {
-    ghost material = { ⟦<((A, B, C, D, E), (F, G, H, I, J)) as Made>⟧.material };
-
     ghost makes = { λ d t. ⟦<((A, B, C, D, E), (F, G, H, I, J)) as Made>⟧.makes d (split_10 t) };
 
     ghost makeable = { struct_makeable split_10 joined_10 (struct_makeable split_5 joined_5 (struct_makeable split_2 joined_2 A.makeable B.makeable) (struct_makeable split_3 joined_3 C.makeable (struct_makeable split_2 joined_2 D.makeable E.makeable))) (struct_makeable split_5 joined_5 (struct_makeable split_2 joined_2 F.makeable G.makeable) (struct_makeable split_3 joined_3 H.makeable (struct_makeable split_2 joined_2 I.makeable J.makeable))) };
@@ -149,8 +145,6 @@ impl<
     J: Made,
     K: Made,
 > Made for (A, B, C, D, E, F, G, H, I, J, K) {
-    ghost material = { ⟦<((A, B, C, D, E), (F, G, H, I, J, K)) as Made>⟧.material };
-
     ghost makes = { λ d t. ⟦<((A, B, C, D, E), (F, G, H, I, J, K)) as Made>⟧.makes d (split_11 t) };
 
     ghost makeable = { struct_makeable split_11 joined_11 (struct_makeable split_5 joined_5 (struct_makeable split_2 joined_2 A.makeable B.makeable) (struct_makeable split_3 joined_3 C.makeable (struct_makeable split_2 joined_2 D.makeable E.makeable))) (struct_makeable split_6 joined_6 (struct_makeable split_3 joined_3 F.makeable (struct_makeable split_2 joined_2 G.makeable H.makeable)) (struct_makeable split_3 joined_3 I.makeable (struct_makeable split_2 joined_2 J.makeable K.makeable))) };
@@ -212,8 +206,6 @@ impl<
     K: Made,
     L: Made,
 > Made for (A, B, C, D, E, F, G, H, I, J, K, L) {
-    ghost material = { ⟦<((A, B, C, D, E, F), (G, H, I, J, K, L)) as Made>⟧.material };
-
     ghost makes = { λ d t. ⟦<((A, B, C, D, E, F), (G, H, I, J, K, L)) as Made>⟧.makes d (split_12 t) };
 
     ghost makeable = { struct_makeable split_12 joined_12 (struct_makeable split_6 joined_6 (struct_makeable split_3 joined_3 A.makeable (struct_makeable split_2 joined_2 B.makeable C.makeable)) (struct_makeable split_3 joined_3 D.makeable (struct_makeable split_2 joined_2 E.makeable F.makeable))) (struct_makeable split_6 joined_6 (struct_makeable split_3 joined_3 G.makeable (struct_makeable split_2 joined_2 H.makeable I.makeable)) (struct_makeable split_3 joined_3 J.makeable (struct_makeable split_2 joined_2 K.makeable L.makeable))) };
@@ -278,8 +270,6 @@ impl<
     L: Made,
     M: Made,
 > Made for (A, B, C, D, E, F, G, H, I, J, K, L, M) {
-    ghost material = { ⟦<((A, B, C, D, E, F), (G, H, I, J, K, L, M)) as Made>⟧.material };
-
     ghost makes = { λ d t. ⟦<((A, B, C, D, E, F), (G, H, I, J, K, L, M)) as Made>⟧.makes d (split_13 t) };
 
     ghost makeable = { struct_makeable split_13 joined_13 (struct_makeable split_6 joined_6 (struct_makeable split_3 joined_3 A.makeable (struct_makeable split_2 joined_2 B.makeable C.makeable)) (struct_makeable split_3 joined_3 D.makeable (struct_makeable split_2 joined_2 E.makeable F.makeable))) (struct_makeable split_7 joined_7 (struct_makeable split_3 joined_3 G.makeable (struct_makeable split_2 joined_2 H.makeable I.makeable)) (struct_makeable split_4 joined_4 (struct_makeable split_2 joined_2 J.makeable K.makeable) (struct_makeable split_2 joined_2 L.makeable M.makeable))) };
@@ -347,8 +337,6 @@ impl<
     M: Made,
     N: Made,
 > Made for (A, B, C, D, E, F, G, H, I, J, K, L, M, N) {
-    ghost material = { ⟦<((A, B, C, D, E, F, G), (H, I, J, K, L, M, N)) as Made>⟧.material };
-
     ghost makes = { λ d t. ⟦<((A, B, C, D, E, F, G), (H, I, J, K, L, M, N)) as Made>⟧.makes d (split_14 t) };
 
     ghost makeable = { struct_makeable split_14 joined_14 (struct_makeable split_7 joined_7 (struct_makeable split_3 joined_3 A.makeable (struct_makeable split_2 joined_2 B.makeable C.makeable)) (struct_makeable split_4 joined_4 (struct_makeable split_2 joined_2 D.makeable E.makeable) (struct_makeable split_2 joined_2 F.makeable G.makeable))) (struct_makeable split_7 joined_7 (struct_makeable split_3 joined_3 H.makeable (struct_makeable split_2 joined_2 I.makeable J.makeable)) (struct_makeable split_4 joined_4 (struct_makeable split_2 joined_2 K.makeable L.makeable) (struct_makeable split_2 joined_2 M.makeable N.makeable))) };
@@ -419,8 +407,6 @@ impl<
     N: Made,
     O: Made,
 > Made for (A, B, C, D, E, F, G, H, I, J, K, L, M, N, O) {
-    ghost material = { ⟦<((A, B, C, D, E, F, G), (H, I, J, K, L, M, N, O)) as Made>⟧.material };
-
     ghost makes = { λ d t. ⟦<((A, B, C, D, E, F, G), (H, I, J, K, L, M, N, O)) as Made>⟧.makes d (split_15 t) };
 
     ghost makeable = { struct_makeable split_15 joined_15 (struct_makeable split_7 joined_7 (struct_makeable split_3 joined_3 A.makeable (struct_makeable split_2 joined_2 B.makeable C.makeable)) (struct_makeable split_4 joined_4 (struct_makeable split_2 joined_2 D.makeable E.makeable) (struct_makeable split_2 joined_2 F.makeable G.makeable))) (struct_makeable split_8 joined_8 (struct_makeable split_4 joined_4 (struct_makeable split_2 joined_2 H.makeable I.makeable) (struct_makeable split_2 joined_2 J.makeable K.makeable)) (struct_makeable split_4 joined_4 (struct_makeable split_2 joined_2 L.makeable M.makeable) (struct_makeable split_2 joined_2 N.makeable O.makeable))) };
@@ -494,8 +480,6 @@ impl<
     O: Made,
     P: Made,
 > Made for (A, B, C, D, E, F, G, H, I, J, K, L, M, N, O, P) {
-    ghost material = { ⟦<((A, B, C, D, E, F, G, H), (I, J, K, L, M, N, O, P)) as Made>⟧.material };
-
     ghost makes = { λ d t. ⟦<((A, B, C, D, E, F, G, H), (I, J, K, L, M, N, O, P)) as Made>⟧.makes d (split_16 t) };
 
     ghost makeable = { struct_makeable split_16 joined_16 (struct_makeable split_8 joined_8 (struct_makeable split_4 joined_4 (struct_makeable split_2 joined_2 A.makeable B.makeable) (struct_makeable split_2 joined_2 C.makeable D.makeable)) (struct_makeable split_4 joined_4 (struct_makeable split_2 joined_2 E.makeable F.makeable) (struct_makeable split_2 joined_2 G.makeable H.makeable))) (struct_makeable split_8 joined_8 (struct_makeable split_4 joined_4 (struct_makeable split_2 joined_2 I.makeable J.makeable) (struct_makeable split_2 joined_2 K.makeable L.makeable)) (struct_makeable split_4 joined_4 (struct_makeable split_2 joined_2 M.makeable N.makeable) (struct_makeable split_2 joined_2 O.makeable P.makeable))) };
