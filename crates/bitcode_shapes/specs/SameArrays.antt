@@ -15,7 +15,6 @@ use Rattle.bitcode_shapes.specs.Shape.{Shape, Shapes, no_shapes, shape_and, unit
 use Rattle.bitcode_shapes.specs.ArrayCounts.{arrays_at, arrays_in, ListsSameArrays, VariantsListSameArrays}
 use Rattle.bitcode_shapes.specs.Lawful.{Lawful}
 use Rattle.bitcode_shapes.specs.Values.{ListsUnit, IsPairValue, ListsPair}
-use Rattle.bitcode_shapes.specs.LawfulValues.{unit_lawful}
 use Rattle.bitcode_shapes.specs.Sequences.{ListsSequence}
 use Rattle.bitcode_shapes.specs.LawfulSequences.{list_of_data}
 use Rattle.bitcode_shapes.specs.AnyOrder.{ListsInAnyOrder}
@@ -29,6 +28,14 @@ pub one_listing_same_arrays : {T : Type 0} {shape : Shape} {is_value : T → Typ
 one_listing_same_arrays {shape = shape} lawful = record {
   at = λ t d e h l m way. ap (arrays_at shape way) (lawful.one_listing refl t d e h l m);
 }
+
+-- of a type each of whose values lists one datum, as numbers and texts do
+pub one_datum_same_arrays : {T : Type 0} {datum : T → Datum} {shape : Shape} {is_value : T → Type 0} → ListsSameArrays shape is_value (λ t d. d ≡ datum t)
+one_datum_same_arrays {shape = shape} = record { at = λ t d e h l m way. ap (arrays_at shape way) (l ∙ sym m) }
+
+-- of a type without values
+pub never_same_arrays : {T : Type 0} {shape : Shape} {is_value : T → Type 0} → ListsSameArrays shape is_value (λ t d. ⊥)
+never_same_arrays = record { at = λ t d e h l m way. absurd l }
 
 pub image_same_arrays : {T U : Type 0} (stands_for : T → U) {shape : Shape} {is_value : U → Type 0} {lists : U → Datum → Type 0}
     → ListsSameArrays shape is_value lists → ListsSameArrays shape (λ t. is_value (stands_for t)) (λ t d. lists (stands_for t) d)
@@ -196,7 +203,7 @@ pub option_same_arrays : {A : Type 0} {s : Shape} {is_a : A → Type 0} {lists_a
     → ListsSameArrays (choice_shape (shape_and unit_shape (shape_and s no_shapes))) (λ (o : Option A). IsVariantValue (λ t. Unit {0}) is_a (option_variant o))
     (λ o d. ListsChoice (ListsVariant ListsUnit (ListsLast lists_a)) (option_variant o) d)
 option_same_arrays some =
-    image_same_arrays option_variant (choice_same_arrays (first_same_arrays (one_listing_same_arrays unit_lawful) (last_same_arrays some)))
+    image_same_arrays option_variant (choice_same_arrays (first_same_arrays one_datum_same_arrays (last_same_arrays some)))
 
 pub result_same_arrays : {A B : Type 0} {s t : Shape} {is_a : A → Type 0} {is_b : B → Type 0} {lists_a : A → Datum → Type 0} {lists_b : B → Datum → Type 0}
     → ListsSameArrays s is_a lists_a → ListsSameArrays t is_b lists_b

@@ -13,6 +13,7 @@ pub mod keys;
 pub mod maps;
 pub mod no_variants;
 pub mod pointers;
+pub mod same_arrays;
 pub mod sequences;
 pub mod sets;
 pub mod shaped;
