@@ -17,7 +17,7 @@ use Rattle.std.proofs.lemmas.Map.Views.{All-keys-insert_entry, All-values-insert
 -- ---- keys
 
 module _ {K : Type 0} {R : K → K → Ordering} (o : IsTotalOrder R) where
-  below_more : (k x : K) (xs : List K) → R k x ≡ Less → AllByRecursion (λ y. R x y ≡ Less) xs → AllByRecursion (λ y. R k y ≡ Less) xs
+  pub below_more : (k x : K) (xs : List K) → R k x ≡ Less → AllByRecursion (λ y. R x y ≡ Less) xs → AllByRecursion (λ y. R k y ≡ Less) xs
   below_more k x [] less a = tt
   below_more k x (y ∷ ys) less a = (o.trans k x y less a.0, below_more k x ys less a.1)
 

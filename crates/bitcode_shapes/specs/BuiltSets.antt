@@ -23,10 +23,10 @@ heap_built g values small = let built = vec_built g values small in (record { «
 
 -- ---- the keys of entries without values
 
-abbrev alone : {T : Type 0} → T → T × Unit {0}
+abbrev pub alone : {T : Type 0} → T → T × Unit {0}
 alone t = (t, tt)
 
-keys_alone : {T : Type 0} (values : List T) → keys_of (map alone values) ≡ values
+pub keys_alone : {T : Type 0} (values : List T) → keys_of (map alone values) ≡ values
 keys_alone [] = refl
 keys_alone (t ∷ ts) = ap (λ rest. t ∷ rest) (keys_alone ts)
 

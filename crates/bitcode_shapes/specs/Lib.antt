@@ -36,3 +36,4 @@ pub mod BuiltSets
 pub mod BuiltMaps
 pub mod SameArrays
 pub mod KeyLaws
+pub mod OrderedKeyLaws

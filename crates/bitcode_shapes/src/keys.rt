@@ -10,6 +10,7 @@ ghost use Rattle.std.specs.Vec.{vec_items};
 ghost use Rattle.std.specs.VecDeque.{deque_items};
 ghost use Rattle.bitcode_shapes.specs.KeyLaws.{ones_told, bools_told, naturals_told, integers_told, texts_told, images_told, sequences_told, options_told, results_told};
 ghost use Rattle.bitcode_shapes.specs.LawfulNever.{from_never};
+ghost use Rattle.bitcode_shapes.specs.OrderedKeyLaws.{ordered_maps_told, ordered_sets_told};
 ghost use Rattle.bitcode_shapes.specs.Sets.{TellsSame};
 ghost use Rattle.bitcode_shapes.specs.Values.{IsValueOfWidth};
 
@@ -19,8 +20,8 @@ use crate::no_variants::NoVariants;
 use crate::shaped::Shaped;
 use arrayvec::{ArrayString, ArrayVec};
 use std::boxed::{BoxedSlice, BoxedStr};
-use std::cmp::Eq;
-use std::collections::{LinkedList, VecDeque};
+use std::cmp::{Eq, Ord};
+use std::collections::{BTreeMap, BTreeSet, LinkedList, VecDeque};
 use std::marker::PhantomData;
 use std::num::{
     NonZeroI8, NonZeroI16, NonZeroI32, NonZeroI64, NonZeroI128, NonZeroIsize, NonZeroU8,
@@ -213,6 +214,14 @@ impl<K: Key> Key for VecDeque<K> {
 
 impl<K: Key> Key for LinkedList<K> {
     ghost keyed = { sequences_told K.keyed (λ l. l) _ (λ l each. each) };
+}
+
+impl<K: Shaped + Ord> Key for BTreeSet<K> {
+    ghost keyed = { ordered_sets_told K.total K.matches_eq _ (λ s. s.keys) };
+}
+
+impl<K: Shaped + Ord, V: Key> Key for BTreeMap<K, V> {
+    ghost keyed = { ordered_maps_told K.total K.matches_eq _ V.keyed (λ m. m.entries) };
 }
 
 impl<K: Key, const N: usize> Key for ArrayVec<K, N> {
