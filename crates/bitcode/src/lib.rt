@@ -53,6 +53,7 @@ pub use bitcode_pointers::deref::{DerefEncoder, Points};
 pub use bitcode_pointers::from::{FromDecoder, FromValue};
 pub use bitcode_shapes::keys::Key;
 pub use bitcode_shapes::no_variants::NoVariants;
+pub use bitcode_shapes::same_arrays::SameArrays;
 pub use bitcode_shapes::shaped::{Made, Shaped};
 pub use bitcode_tuples::decoder::TupleDecoder;
 pub use bitcode_tuples::encoder::TupleEncoder;

@@ -1,12 +1,12 @@
 // A struct of two fields, written by hand.
 ghost use Rattle.std.specs.Prelude.{true, min, refl};
-ghost use Rattle.bitcode.specs.ByHand.{struct_lawful, struct_makeable, u32_lawful, u32_makeable, str_lawful, str_makeable, two, pairs_of};
+ghost use Rattle.bitcode.specs.ByHand.{struct_lawful, struct_makeable, u32_lawful, u32_makeable, str_lawful, str_makeable, one_datum_same_arrays, struct_same_arrays, two, pairs_of};
 ghost use Rattle.bitcode_by_hand.specs.Foo.{foo_fields};
 
 use bitcode::coder::{Buffer, HoldsColumns, HoldsData, Result};
 use bitcode::{
-    Decode, Decoder, Encode, Encoder, IntDecoder, IntEncoder, Made, Shaped, StrDecoder, StrEncoder,
-    TupleDecoder, View,
+    Decode, Decoder, Encode, Encoder, IntDecoder, IntEncoder, Made, SameArrays, Shaped, StrDecoder,
+    StrEncoder, TupleDecoder, View,
 };
 use std::alloc::Global;
 
@@ -34,6 +34,10 @@ impl<'a> Shaped for Foo<'a> {
     }
 
     ghost lawful = { struct_lawful foo_fields u32_lawful str_lawful };
+}
+
+impl<'a> SameArrays for Foo<'a> {
+    ghost same_arrays = { struct_same_arrays foo_fields one_datum_same_arrays one_datum_same_arrays };
 }
 
 impl<'a> Made for Foo<'a> {

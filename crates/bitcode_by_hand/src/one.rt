@@ -1,11 +1,12 @@
 // An enum of one variant, written by hand: it has the shape of its field.
 ghost use Rattle.std.specs.Prelude.{true, refl};
-ghost use Rattle.bitcode.specs.ByHand.{image_lawful, image_makeable, u8_lawful, u8_makeable};
+ghost use Rattle.bitcode.specs.ByHand.{image_lawful, image_makeable, image_same_arrays, one_datum_same_arrays, u8_lawful, u8_makeable};
 ghost use Rattle.bitcode_by_hand.specs.One.{one_field, one_found};
 
 use bitcode::coder::{Buffer, HoldsColumns, HoldsData, Result};
 use bitcode::{
-    Decode, DecodeOwned, Decoder, Encode, Encoder, IntDecoder, IntEncoder, Made, Shaped, View,
+    Decode, DecodeOwned, Decoder, Encode, Encoder, IntDecoder, IntEncoder, Made, SameArrays,
+    Shaped, View,
 };
 use std::alloc::Global;
 
@@ -32,6 +33,10 @@ impl Shaped for One {
     }
 
     ghost lawful = { image_lawful one_field u8_lawful };
+}
+
+impl SameArrays for One {
+    ghost same_arrays = { image_same_arrays one_field one_datum_same_arrays };
 }
 
 impl Made for One {

@@ -15,7 +15,6 @@ raw_lawful byte = record {
   listed = λ t h. (number (pos (byte t)), refl);
   of_shape = λ t d h l. record { value = byte t; is = l; below = h };
   one_listing = λ o t d e h l m. l ∙ sym m;
-  same_arrays = λ t d e h l m way. refl;
   reflexive = λ t h. refl;
   symmetric = λ t u h i s. sym s;
   transitive = λ t u v h i j s r. s ∙ r;

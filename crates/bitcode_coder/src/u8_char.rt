@@ -1,6 +1,7 @@
 // Bytes of texts, and their coder.
 ghost use Rattle.std.specs.Prelude.{◌≡◌, ◌++◌, map, pos, true, refl, OnOk};
 ghost use Rattle.bitcode_input.specs.Fast.{fast_items, fast_room};
+ghost use Rattle.bitcode_shapes.specs.SameArrays.{one_datum_same_arrays};
 ghost use Rattle.bitcode_shapes.specs.Shape.{raw_shape};
 ghost use Rattle.bitcode_shapes.specs.Values.{ListsNumber, SameNumber};
 ghost use Rattle.bitcode_coder.specs.Columns.{raws, one};
@@ -10,6 +11,7 @@ ghost use Rattle.bitcode_coder.specs.Spelling.{natural};
 use crate::coder::{Buffer, Encoder, HoldsColumns};
 use bitcode_input::error::Error;
 use bitcode_input::fast::{FastVec, PushUnchecked};
+use bitcode_shapes::same_arrays::SameArrays;
 use bitcode_shapes::shaped::Shaped;
 use std::alloc::Global;
 
@@ -36,6 +38,10 @@ impl Shaped for U8Char {
     }
 
     ghost lawful = { raw_lawful (λ t. t.0) };
+}
+
+impl SameArrays for U8Char {
+    ghost same_arrays = { one_datum_same_arrays };
 }
 
 /// The column that bytes of texts are written to.

@@ -1,4 +1,4 @@
--- All listings of a value have the same numbers of arrays in their columns; so these are lengths in all of them, or in none.
+-- Where all listings of a value have the same numbers of arrays, so have their columns; and these are lengths in all of them, or in none.
 use Rattle.std.proofs.Common.{◌≡◌, ℕ, zero, suc, ◌+◌, Bool, true, false, cond, List, [], ◌∷◌, length, map, filter, None, ◌==◌, refl, sym, ◌∙◌, ap, ap₂, subst, arith, eqb-true}
 use Rattle.std.specs.Prelude.{◌↔◌}
 use Rattle.std.specs.List.{flat_map, sum, sum_by}
@@ -7,9 +7,8 @@ use Rattle.std.proofs.lemmas.List.Sums.{sum-map, sum_by-append, sum_by-cons}
 use Rattle.std.proofs.lemmas.Simd.{map-map}
 use Rattle.bitcode_shapes.specs.Datum.{Datum, elements_in, first_in, second_in, variant_in, payload_in}
 use Rattle.bitcode_shapes.specs.Shape.{Shape, Shapes, unit_shape, never_shape, bool_shape, number_shape, text_shape, raw_shape, seq_shape, map_shape, array_shape, pair_shape, choice_shape, no_shapes, shape_and, variant_count}
-use Rattle.bitcode_shapes.specs.ArrayCounts.{arrays_at, arrays_in}
-use Rattle.bitcode_shapes.specs.Lawful.{Lawful}
-use Rattle.bitcode_shapes.specs.LawfulSequences.{HoldSameArrays}
+use Rattle.bitcode_shapes.specs.ArrayCounts.{arrays_at, arrays_in, ListsSameArrays}
+use Rattle.bitcode_shapes.specs.SameArrays.{HoldSameArrays}
 use Rattle.bitcode_coder.specs.Columns.{Columns, lengths, variants, no_columns, one, two, arrays, CountsFit}
 use Rattle.bitcode_coder.specs.Transposition.{columns_of, payload_columns, joined, payloads, array_columns}
 use Rattle.bitcode_derive.specs.Whole.{columns_of_one}
@@ -133,10 +132,9 @@ mutual
 
 -- ---- listings of one value
 
-module _ {T : Type 0} {shape : Shape} {is_value : T → Type 0} {lists : T → Datum → Type 0} {same : T → T → Type 0} {in_order : Bool}
-    (lawful : Lawful shape is_value lists same in_order) where
+module _ {T : Type 0} {shape : Shape} {is_value : T → Type 0} {lists : T → Datum → Type 0} (alike : ListsSameArrays shape is_value lists) where
   pub same_counts : (t : T) (d e : Datum) → is_value t → lists t d → lists t e → array_counts (columns_of_one shape d) ≡ array_counts (columns_of_one shape e)
-  same_counts t d e v h k = array_counts-columns_of shape (d ∷ []) (e ∷ []) (λ way. ap (λ n. 0 + n) (lawful.same_arrays t d e v h k way))
+  same_counts t d e v h k = array_counts-columns_of shape (d ∷ []) (e ∷ []) (λ way. ap (λ n. 0 + n) (alike.at t d e v h k way))
 
   -- where the numbers of one listing are lengths, so are those of any other
   pub counts_fit : (t : T) (d e : Datum) → is_value t → lists t d → lists t e → CountsFit (columns_of_one shape d) → CountsFit (columns_of_one shape e)

@@ -21,7 +21,7 @@ module _ {T : Type 0} {shape : Shape} {is_value : T → Type 0} {lists : T → D
       subst (λ b. Spells shape b (e.datum ∷ [])) (texts_of-spread shape (e.datum ∷ []) ∙ sym e.written)
       (columns_text-spells shape lawful.sound (e.datum ∷ []) (All-cons (IsOf shape) e.datum [] is_of (All-nil (IsOf shape))) e.counts below)
 
-  pub read_equal : {material : Type 0} {makes : Datum → T → Type 0} → Makeable material shape is_value lists same makes → (t u : T) (bytes : List ℕ) → is_value t → is_value u
+  pub read_equal : {makes : Datum → T → Type 0} → Makeable shape is_value lists same makes → (t u : T) (bytes : List ℕ) → is_value t → is_value u
       → (e : IsEncodingOf lists shape t bytes) → LengthsBelowLimit (columns_of_one shape e.datum) → IsDecodingOf makes shape bytes u → same t u
   read_equal {makes = makes} makeable t u bytes v w e below f =
       let is : e.datum ≡ f.datum = spells_at_most_one shape bytes e.datum f.datum (written_spells t bytes v e below) f.spelled in
@@ -32,8 +32,8 @@ module _ {T : Type 0} {shape : Shape} {is_value : T → Type 0} {lists : T → D
   written_once ordered t bytes again v e f =
       e.written ∙ ap (λ d. texts_of (spread shape (d ∷ []))) (lawful.one_listing ordered t e.datum f.datum v e.listing f.listing) ∙ sym f.written
 
-pub read_once : {T : Type 0} {shape : Shape} {is_value : T → Type 0} {lists : T → Datum → Type 0} {same : T → T → Type 0} {material : Type 0} {makes : Datum → T → Type 0}
-    → Makeable material shape is_value lists same makes → (t u : T) (bytes : List ℕ) → is_value t → is_value u
+pub read_once : {T : Type 0} {shape : Shape} {is_value : T → Type 0} {lists : T → Datum → Type 0} {same : T → T → Type 0} {makes : Datum → T → Type 0}
+    → Makeable shape is_value lists same makes → (t u : T) (bytes : List ℕ) → is_value t → is_value u
     → IsDecodingOf makes shape bytes t → IsDecodingOf makes shape bytes u → same t u
 read_once {shape = shape} {makes = makes} makeable t u bytes v w e f =
     let is : e.datum ≡ f.datum = spells_at_most_one shape bytes e.datum f.datum e.spelled f.spelled in

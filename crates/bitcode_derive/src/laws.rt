@@ -9,6 +9,7 @@ ghost use Rattle.bitcode_derive.specs.Whole.{columns_of_one, IsEncodingOf, HasLo
 use crate::derive::{Decode, Encode};
 use crate::whole;
 use bitcode_input::error::{Error, Reason};
+use bitcode_shapes::same_arrays::SameArrays;
 use bitcode_shapes::shaped::{Made, Shaped};
 use std::alloc::Global;
 
@@ -64,14 +65,15 @@ pub fn one_value<'a, T: Decode<'a>>(bytes: &'a [u8], t: &T, u: &T)
 /// Want of memory aside, `encode` answers `length overflow` exactly where in a listing of the value, and so in each, a
 /// number of arrays times their size passes 18446744073709551615.
 ///
-/// All listings of a value have the same numbers of arrays. So bytes are written only where in no listing such a product
-/// passes, and `length overflow` is answered only where in each listing one does.
+/// All listings of such a value have the same numbers of arrays: `SameArrays` promises it, which every type of this library
+/// is. So bytes are written only where in no listing such a product passes, and `length overflow` is answered only where in
+/// each listing one does.
 ///
 /// ```
 /// let bytes = encode(alloc, &t)?;
 /// overflows_exactly(&t, &bytes);
 /// ```
-pub fn overflows_exactly<T: Encode>(t: &T, bytes: &[u8])
+pub fn overflows_exactly<T: Encode + SameArrays>(t: &T, bytes: &[u8])
     ensures written { IsEncodingOf T.lists T.shape t.now bytes.now → (d : Datum) → T.lists t.now d → CountsFit (columns_of_one T.shape d) }
     ensures refused { HasLongListing T.lists T.shape t.now → (d : Datum) → T.lists t.now d → CountsFit (columns_of_one T.shape d) → ⊥ }
 {

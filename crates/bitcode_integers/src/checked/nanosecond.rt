@@ -1,12 +1,14 @@
 // Nanoseconds below one second.
 ghost use Rattle.std.specs.Prelude.{◌≡◌, ◌<◌, true, false, pos, refl};
 ghost use Rattle.bitcode_shapes.specs.Checked.{below_second, nanosecond_shape, IsCheckedValue};
+ghost use Rattle.bitcode_shapes.specs.SameArrays.{one_datum_same_arrays};
 ghost use Rattle.bitcode_shapes.specs.Values.{ListsNumber, MakesNumber, SameNumber};
 ghost use Rattle.bitcode_shapes.specs.LawfulValues.{width_4};
 ghost use Rattle.bitcode_shapes.specs.LawfulChecked.{checked_lawful};
 ghost use Rattle.bitcode_shapes.specs.LawfulDurations.{nanosecond_makeable};
 
 use crate::checked::Checked;
+use bitcode_shapes::same_arrays::SameArrays;
 use bitcode_shapes::shaped::{Made, Shaped};
 
 const NANOSECONDS_IN_SECOND: u32 = 1_000_000_000;
@@ -44,6 +46,10 @@ impl Shaped for Nanosecond {
     }
 
     ghost lawful = { checked_lawful (λ t. pos t.nanos) 4 false below_second width_4 };
+}
+
+impl SameArrays for Nanosecond {
+    ghost same_arrays = { one_datum_same_arrays };
 }
 
 impl Made for Nanosecond {
