@@ -52,6 +52,20 @@ fn ordered_sets(rt: HostRuntime) -> Result<(), Got> {
 }
 
 #[test]
+fn sets_of_sets(rt: HostRuntime) -> Result<(), Got> {
+    let alloc = rt.alloc();
+    let mut sets: BTreeSet<BTreeSet<u8>> = BTreeSet::new(alloc);
+    let mut set: BTreeSet<u8> = BTreeSet::new(alloc);
+    for key in [1, 2] {
+        let _added = sets.insert(set.clone()?)?;
+        let _added = set.insert(key)?;
+    }
+    let _added = sets.insert(set)?;
+    let read = written_and_read(alloc, &sets, &[3, 8, 21, 8, 22])?;
+    is(read == sets)
+}
+
+#[test]
 fn hashed_sets(rt: HostRuntime) -> Result<(), Got> {
     let alloc = rt.alloc();
     let mut set: HashSet<u16> = HashSet::new(alloc);
@@ -77,4 +91,15 @@ fn hashed_maps(rt: HostRuntime) -> Result<(), Got> {
     let _none = map.insert(50, 376)?;
     let read = written_and_read(alloc, &map, &[1, 50, 120, 1])?;
     is(read.len() == 1 && read.get(&50) == Some(&376))
+}
+
+#[test]
+fn maps_by_sets(rt: HostRuntime) -> Result<(), Got> {
+    let alloc = rt.alloc();
+    let mut key: BTreeSet<u8> = BTreeSet::new(alloc);
+    let _added = key.insert(2)?;
+    let mut map: HashMap<BTreeSet<u8>, u8> = HashMap::new(alloc);
+    let _none = map.insert(key, 7)?;
+    let read = written_and_read(alloc, &map, &[1, 1, 2, 7])?;
+    is(read == map)
 }
