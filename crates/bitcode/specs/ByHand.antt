@@ -5,7 +5,7 @@ pub use Rattle.bitcode_shapes.specs.LawfulStructs.{struct_lawful, struct_makeabl
 pub use Rattle.bitcode_shapes.specs.LawfulImages.{image_lawful, image_makeable}
 pub use Rattle.bitcode_shapes.specs.LawfulChoices.{choice_lawful, choice_makeable, first_lawful, first_makeable, last_lawful, last_makeable}
 -- that all listings have the same numbers of arrays:
-pub use Rattle.bitcode_shapes.specs.SameArrays.{one_datum_same_arrays, one_listing_same_arrays, image_same_arrays, struct_same_arrays, choice_same_arrays, first_same_arrays, last_same_arrays}
+pub use Rattle.bitcode_shapes.specs.SameArrays.{one_datum_same_arrays, one_listing_same_arrays, image_same_arrays, struct_same_arrays, choice_same_arrays, first_same_arrays, last_same_arrays, u8_same_arrays, i8_same_arrays, u32_same_arrays, str_same_arrays}
 -- Shapes of choices, and what they list and make:
 pub use Rattle.bitcode_shapes.specs.Shape.{choice_shape, shape_and, no_shapes}
 pub use Rattle.bitcode_shapes.specs.Choices.{IsVariantValue, ListsChoice, ListsVariant, ListsLast, MakesChoice, MakesVariant, MakesLast, SameVariant}

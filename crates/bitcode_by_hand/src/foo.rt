@@ -1,6 +1,6 @@
 // A struct of two fields, written by hand.
 ghost use Rattle.std.specs.Prelude.{true, min, refl};
-ghost use Rattle.bitcode.specs.ByHand.{struct_lawful, struct_makeable, u32_lawful, u32_makeable, str_lawful, str_makeable, one_datum_same_arrays, struct_same_arrays, two, pairs_of};
+ghost use Rattle.bitcode.specs.ByHand.{struct_lawful, struct_makeable, u32_lawful, u32_makeable, str_lawful, str_makeable, struct_same_arrays, u32_same_arrays, str_same_arrays, two, pairs_of};
 ghost use Rattle.bitcode_by_hand.specs.Foo.{foo_fields};
 
 use bitcode::coder::{Buffer, HoldsColumns, HoldsData, Result};
@@ -37,7 +37,7 @@ impl<'a> Shaped for Foo<'a> {
 }
 
 impl<'a> SameArrays for Foo<'a> {
-    ghost same_arrays = { struct_same_arrays foo_fields one_datum_same_arrays one_datum_same_arrays };
+    ghost same_arrays = { struct_same_arrays foo_fields u32_same_arrays str_same_arrays };
 }
 
 impl<'a> Made for Foo<'a> {

@@ -5,7 +5,7 @@ ghost use Rattle.bitcode.specs.ByHand.{choice_lawful, choice_makeable, first_law
 ghost use Rattle.bitcode.specs.ByHand.{u8_lawful, u8_makeable, i8_lawful, i8_makeable, choice_shape, shape_and, no_shapes};
 ghost use Rattle.bitcode.specs.ByHand.{IsVariantValue, ListsChoice, ListsVariant, ListsLast, MakesChoice, MakesVariant, MakesLast, SameVariant};
 ghost use Rattle.bitcode.specs.ByHand.{no_columns, two, choices_of, variant_room, variants_left};
-ghost use Rattle.bitcode.specs.ByHand.{one_datum_same_arrays, image_same_arrays, choice_same_arrays, first_same_arrays, last_same_arrays};
+ghost use Rattle.bitcode.specs.ByHand.{image_same_arrays, choice_same_arrays, first_same_arrays, last_same_arrays, u8_same_arrays, i8_same_arrays};
 ghost use Rattle.bitcode_by_hand.specs.Two.{two_variant, two_found};
 
 use bitcode::coder::{Buffer, HoldsColumns, HoldsData, Result};
@@ -44,7 +44,7 @@ impl Shaped for Two {
 }
 
 impl SameArrays for Two {
-    ghost same_arrays = { image_same_arrays two_variant (choice_same_arrays (first_same_arrays one_datum_same_arrays (last_same_arrays one_datum_same_arrays))) };
+    ghost same_arrays = { image_same_arrays two_variant (choice_same_arrays (first_same_arrays u8_same_arrays (last_same_arrays i8_same_arrays))) };
 }
 
 impl Made for Two {

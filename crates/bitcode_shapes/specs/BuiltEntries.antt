@@ -1,6 +1,6 @@
 -- For every list of entries there is an ordered map and a hashed map with exactly these, and for every list of keys a hashed
 -- set. They are written down as the standard library lays such values out: here, and nowhere else, what is proved stands on
--- its layout, and so on crates below `std` that `crates.txt` names.
+-- its layout, and so on crates below `std` that `crates.txt` names. Of the layout nothing is asked but that there is one.
 use Rattle.std.proofs.Common.{◌≡◌, List, refl, inl}
 use Rattle.core.specs.declared.hash.build.BuildHasherDefault.{BuildHasherDefault}
 use Rattle.core.specs.declared.hash.fold.FoldHasher.{FoldHasher}

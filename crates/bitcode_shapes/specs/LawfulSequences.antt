@@ -151,6 +151,14 @@ module _ {T : Type 0} (shape : Shape) (is_value : T → Type 0) (lists : T → D
       transitive = λ a b c h i j s r. each_transitive order element (items a) (items b) (items c) (each a h) (each b i) (each c j) s r;
     }
 
+    -- a container of the values that the elements of a datum make is made of the datum
+    made_whole : (makes : Datum → T → Type 0) (d : Datum) (elements : List Datum) → d ≡ list (data_of elements) → (values : List T) → AllZip makes elements values
+        → (c : C) × (is_whole c × (items c ≡ values)) → (c : C) × (is_whole c × MakesSequence makes d (items c))
+    made_whole makes d elements is values making built = (
+      built.0,
+      (built.1.0, record { elements = elements; is = is; each = subst (AllZip makes elements) (sym built.1.1) making }),
+    )
+
     -- `is_size` is what the container asks of how many elements it holds
     pub sequence_makeable : (makes : Datum → T → Type 0) (is_size : ℕ → Type 0)
         → ((d : Datum) → IsOf whole d → IsListOf (IsOf shape) is_count d)
@@ -168,17 +176,7 @@ module _ {T : Type 0} (shape : Shape) (is_value : T → Type 0) (lists : T → D
           let found = each_made makes element g l.elements l.each (subst (All (IsStorable shape)) elements stored.1) in
           let as_many : length l.elements ≡ length found.0 = zip_length makes l.elements found.0 found.1.1 in
           let size : is_size (length found.0) = subst is_size (ap length elements ∙ as_many) stored.0 in
-          let built = build g found.0 size found.1.0 (subst is_count as_many l.count) in (
-            built.0,
-            (
-              built.1.0,
-              record {
-                elements = l.elements;
-                is = l.is;
-                each = subst (λ values. AllZip makes l.elements values) (sym built.1.1) found.1.1;
-              },
-            ),
-          );
+          made_whole makes d l.elements l.is found.0 found.1.1 (build g found.0 size found.1.0 (subst is_count as_many l.count));
       once = λ d b c h i m n.
           let one = elements_once m.elements n.elements (sym m.is ∙ n.is) in
           each_once makes element n.elements (items b) (items c) (each b h) (each c i)

@@ -2,7 +2,7 @@
 -- others, where it holds of these. So a type of one's own promises it as it promises to be lawful:
 --
 --     image_same_arrays stands_for (pair_same_arrays first second)
-use Rattle.std.proofs.Common.{◌≡◌, ℕ, zero, suc, ◌+◌, true, Option, None, List, [], ◌∷◌, Result, refl, sym, ◌∙◌, ap, ap₂}
+use Rattle.std.proofs.Common.{◌≡◌, ℕ, zero, suc, ◌+◌, true, false, ℤ, pos, Bor, Option, None, List, [], ◌∷◌, Result, refl, sym, ◌∙◌, ap, ap₂}
 use Rattle.std.specs.Prelude.{All, sum_by, ◌==◌, cond, ◌⊎◌}
 use Rattle.std.proofs.Common.{inl, inr}
 use Rattle.std.specs.List.{AllZip}
@@ -11,10 +11,11 @@ use Rattle.std.proofs.lemmas.List.Elements.{All-head, All-tail}
 use Rattle.std.proofs.lemmas.List.Sums.{sum_by-cons}
 use Rattle.std.proofs.lemmas.List.Sorted.{IsPermutation-sym, IsPermutation-trans, All-permutation, sum_by-IsPermutation}
 use Rattle.bitcode_shapes.specs.Datum.{Datum, list, choice, data_of, list_of, first_in, second_in}
-use Rattle.bitcode_shapes.specs.Shape.{Shape, Shapes, no_shapes, shape_and, unit_shape, seq_shape, map_shape, array_shape, pair_shape, choice_shape}
+use Rattle.bitcode_shapes.specs.Shape.{Shape, Shapes, no_shapes, shape_and, unit_shape, text_shape, seq_shape, map_shape, array_shape, pair_shape, choice_shape}
 use Rattle.bitcode_shapes.specs.ArrayCounts.{arrays_at, arrays_in, ListsSameArrays, VariantsListSameArrays}
 use Rattle.bitcode_shapes.specs.Lawful.{Lawful}
-use Rattle.bitcode_shapes.specs.Values.{ListsUnit, IsPairValue, ListsPair}
+use Rattle.bitcode_shapes.specs.Values.{int_shape, IsValueOfWidth, ListsNumber, ListsUnit, IsPairValue, ListsPair}
+use Rattle.bitcode_shapes.specs.Texts.{IsTextValue, ListsText}
 use Rattle.bitcode_shapes.specs.Sequences.{ListsSequence}
 use Rattle.bitcode_shapes.specs.LawfulSequences.{list_of_data}
 use Rattle.bitcode_shapes.specs.AnyOrder.{ListsInAnyOrder}
@@ -40,6 +41,20 @@ never_same_arrays = record { at = λ t d e h l m way. absurd l }
 pub image_same_arrays : {T U : Type 0} (stands_for : T → U) {shape : Shape} {is_value : U → Type 0} {lists : U → Datum → Type 0}
     → ListsSameArrays shape is_value lists → ListsSameArrays shape (λ t. is_value (stands_for t)) (λ t d. lists (stands_for t) d)
 image_same_arrays stands_for of_image = record { at = λ t d e h l m way. of_image.at (stands_for t) d e h l m way }
+
+-- ---- numbers and texts, by name, for structs and enums to cite
+
+pub u8_same_arrays : ListsSameArrays (int_shape 1 false) (IsValueOfWidth 1 false pos) (ListsNumber pos)
+u8_same_arrays = one_datum_same_arrays
+
+pub i8_same_arrays : ListsSameArrays (int_shape 1 true) (IsValueOfWidth 1 true (λ (z : ℤ). z)) (ListsNumber (λ (z : ℤ). z))
+i8_same_arrays = one_datum_same_arrays
+
+pub u32_same_arrays : ListsSameArrays (int_shape 4 false) (IsValueOfWidth 4 false pos) (ListsNumber pos)
+u32_same_arrays = one_datum_same_arrays
+
+pub str_same_arrays : ListsSameArrays (text_shape None) (IsTextValue (λ (s : Bor (List ℕ)). s.now)) (ListsText (λ s. s.now))
+str_same_arrays = one_datum_same_arrays
 
 -- ---- pairs and structs
 
