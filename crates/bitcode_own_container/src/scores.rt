@@ -1,12 +1,12 @@
 // A container of numbers, written by hand: it is written as the sequence of its elements, and made of them.
-ghost use Rattle.std.specs.Prelude.{true, false, refl};
-ghost use Rattle.bitcode.specs.ByHand.{image_lawful, image_makeable, u32_lawful, u32_makeable, vec_lawful, vec_makeable};
+ghost use Rattle.std.specs.Prelude.{◌≡◌, true, false, refl, IfOk, IfErr};
+ghost use Rattle.bitcode.specs.ByHand.{image_lawful, image_makeable, u32_lawful, u32_makeable, vec_lawful, vec_makeable, MakesOfElements};
 ghost use Rattle.bitcode_own_container.specs.Scores.{scores_list};
 
 use bitcode::coder::{HoldsData, Result};
 use bitcode::{
     Decode, DecodeOwned, Decoder, Encode, Encoder, FromElements, IntDecoder, IntEncoder, Made,
-    Sequence, Shaped, VecDecoder, VecEncoder, View, encode_each,
+    Reason, Sequence, Shaped, VecDecoder, VecEncoder, View, encode_each,
 };
 use std::alloc::Global;
 
@@ -65,7 +65,10 @@ impl Sequence for Scores {
 impl FromElements for Scores {
     type Part = u32;
 
-    fn from_elements(_alloc: Global, elements: Vec<u32>) -> Result<Scores> {
+    fn from_elements(_alloc: Global, elements: Vec<u32>) -> Result<Scores>
+        ensures made { IfOk result (λ t. MakesOfElements ⟦<Scores as Made>⟧.makes ⟦<u32 as Made>⟧.makes t elements.items) }
+        ensures refused { IfErr result (λ e. e.reason ≡ Reason.OutOfMemory) }
+    {
         Ok(Scores { list: elements })
     }
 }

@@ -1,14 +1,16 @@
 // With ample memory scores are written and read back.
 use crate::scores::Scores;
-use bitcode::{decode, encode};
+use bitcode::{Error, decode, encode};
 
 #[test]
-fn scores_come_back(rt: HostRuntime) {
+fn scores_come_back(rt: HostRuntime) -> Result<(), Error> {
     let alloc = rt.alloc();
-    let list = vec![in alloc; 1u32, 2, 3].expect(&rt, "memory");
-    let scores = Scores { list };
-    let bytes = encode(alloc, &scores).expect(&rt, "bytes");
-    assert!(rt; bytes == [3, 5, 6, 57]);
-    let again: Scores = decode(alloc, &bytes).expect(&rt, "scores");
+    let scores = Scores {
+        list: vec![in alloc; 0, 1, 3, 0, 3, 1]?,
+    };
+    let bytes = encode(alloc, &scores)?;
+    assert!(rt; bytes == [6, 4, 6, 52, 7]);
+    let again: Scores = decode(alloc, &bytes)?;
     assert!(rt; again == scores);
+    Ok(())
 }
