@@ -9,8 +9,8 @@ fn scores_come_back(rt: HostRuntime) -> Result<(), Error> {
         list: vec![in alloc; 0, 1, 3, 0, 3, 1]?,
     };
     let bytes = encode(alloc, &scores)?;
-    assert!(rt; bytes == [6, 4, 6, 52, 7]);
-    let again: Scores = decode(alloc, &bytes)?;
+    assert!(rt; bytes.as_slice() == [6, 4, 6, 52, 7].as_slice());
+    let again: Scores = decode(alloc, bytes.as_slice())?;
     assert!(rt; again == scores);
     Ok(())
 }
