@@ -18,12 +18,12 @@ pub use bitcode_columns::pack::{
     unpack_bytes_less_than,
 };
 pub use bitcode_columns::pack_ints::{minmax, pack_ints, unpack_ints};
-pub use bitcode_containers::elements::{encode_each, encode_lent};
+pub use bitcode_containers::elements::{decode_each, encode_each, encode_lent};
 pub use bitcode_containers::fixed_capacity::ArrayVecDecoder;
 pub use bitcode_containers::lends::Lends;
 pub use bitcode_containers::map::{MapDecoder, MapEncoder};
 pub use bitcode_containers::mappings::Mapping;
-pub use bitcode_containers::sequences::Sequence;
+pub use bitcode_containers::sequences::{FromElements, Sequence};
 pub use bitcode_containers::vec::{VecDecoder, VecEncoder};
 pub use bitcode_derive::buffer::Buffer;
 pub use bitcode_derive::derive::{Decode, DecodeOwned, Encode};
@@ -54,9 +54,11 @@ pub use bitcode_pointers::from::{FromDecoder, FromValue};
 pub use bitcode_shapes::keys::Key;
 pub use bitcode_shapes::no_variants::NoVariants;
 pub use bitcode_shapes::same_arrays::SameArrays;
+pub use bitcode_shapes::sequences::{told_behind, told_each};
 pub use bitcode_shapes::shaped::{Made, Shaped};
 pub use bitcode_tuples::decoder::TupleDecoder;
 pub use bitcode_tuples::encoder::TupleEncoder;
+pub use bitcode_tuples::fields::{Fields, FieldsEncoder};
 
 /// The traits that coders meet, and the result of their calls.
 pub mod coder {

@@ -3,12 +3,11 @@
 
 ghost use Rattle.std.specs.Prelude.{◌≡◌, [], None, map, false, min};
 ghost use Rattle.std.proofs.Common.{sym, ap, ap₂, ◌∙◌};
-ghost use Rattle.bitcode_shapes.specs.Shape.{Shape};
+ghost use Rattle.bitcode_shapes.specs.Shape.{Shape, map_shape};
 ghost use Rattle.bitcode_coder.specs.Coding.{written_columns};
 ghost use Rattle.bitcode_coder.specs.Columns.{lengths, one, two};
 ghost use Rattle.bitcode_coder.specs.LengthCoders.{written_lengths, length_room};
 ghost use Rattle.bitcode_coder.specs.Spelling.{natural};
-ghost use Rattle.bitcode_containers.specs.Maps.{map_of};
 
 use crate::mappings::Mapping;
 use crate::vec::VecDecoder;
@@ -17,6 +16,7 @@ use bitcode_coder::length::LengthEncoder;
 use bitcode_input::error::Error;
 use bitcode_shapes::keys::Key;
 use bitcode_shapes::shaped::Made;
+use bitcode_tuples::decoder::TupleDecoder;
 use std::alloc::Global;
 use std::cmp::Ord;
 use std::collections::{BTreeMap, HashMap};
@@ -73,7 +73,8 @@ impl<K: Buffer, V: Buffer> Buffer for MapEncoder<K, V> {
     }
 }
 
-impl<M: Mapping, K: Buffer + Encoder<M::Key>, V: Buffer + Encoder<M::Value>> Encoder<M> for MapEncoder<K, V> {
+impl<M: Mapping, K: Buffer + Encoder<M::Key>, V: Buffer + Encoder<M::Value>> Encoder<M>
+    for MapEncoder<K, V> {
     fn encode(&mut self, t: &M) -> Result<(), Error> {
         t.told();
         let count = t.entry_count();
@@ -91,28 +92,29 @@ impl<M: Mapping, K: Buffer + Encoder<M::Key>, V: Buffer + Encoder<M::Value>> Enc
 
 /// The decoder of maps: it reads the lengths of all, and then the keys and the values of all.
 ///
-/// It makes the pairs of a map by their decoder `D`, and the map of its pairs: of two equal keys the last gives the value.
+/// It makes the keys and the values by their decoders, and the map of their pairs: of two equal keys the last gives the
+/// value.
 ///
 /// ```
-/// let mut maps: MapDecoder<TupleDecoder<IntDecoder<u8>, IntDecoder<u8>>> = MapDecoder::new(alloc);
+/// let mut maps: MapDecoder<IntDecoder<u8>, IntDecoder<u8>> = MapDecoder::new(alloc);
 /// maps.populate(&mut input, 1)?;              // [1, 1, 6]
 /// let map: BTreeMap<u8, u8> = maps.decode()?; // 1 to 6
 /// ```
 #[derive(Drop)]
-pub struct MapDecoder<'a, D> {
-    entries: VecDecoder<'a, D>,
+pub struct MapDecoder<'a, K, V> {
+    entries: VecDecoder<'a, TupleDecoder<K, V>>,
 }
 
-impl<'a, D: HoldsData> HoldsData for MapDecoder<'a, D> {
-    ghost shape = { map_of D.shape };
+impl<'a, K: HoldsData, V: HoldsData> HoldsData for MapDecoder<'a, K, V> {
+    ghost shape = { map_shape K.shape V.shape };
 
-    ghost held = { λ d. ⟦<VecDecoder<'a, D> as HoldsData>⟧.held d.entries };
+    ghost held = { λ d. ⟦<VecDecoder<'a, TupleDecoder<K, V>> as HoldsData>⟧.held d.entries };
 }
 
-impl<'a, D: View<'a>> View<'a> for MapDecoder<'a, D> {
-    ghost reads_free = { λ k input. ⟦<VecDecoder<'a, D> as View<'a>>⟧.reads_free k input };
+impl<'a, K: View<'a>, V: View<'a>> View<'a> for MapDecoder<'a, K, V> {
+    ghost reads_free = { λ k input. ⟦<VecDecoder<'a, TupleDecoder<K, V>> as View<'a>>⟧.reads_free k input };
 
-    ghost faults = { λ reason k input. ⟦<VecDecoder<'a, D> as View<'a>>⟧.faults reason k input };
+    ghost faults = { λ reason k input. ⟦<VecDecoder<'a, TupleDecoder<K, V>> as View<'a>>⟧.faults reason k input };
 
     fn new(alloc: Global) -> Self {
         MapDecoder {
@@ -125,28 +127,28 @@ impl<'a, D: View<'a>> View<'a> for MapDecoder<'a, D> {
     }
 }
 
-impl<'a, K: Key + Made + Ord + Drop, V: Made + Drop, D: Decoder<'a, (K, V)>> Decoder<
+impl<'a, P: Key + Made + Ord + Drop, Q: Made + Drop, K: Decoder<'a, P>, V: Decoder<'a, Q>> Decoder<
     'a,
-    BTreeMap<K, V>,
-> for MapDecoder<'a, D> {
+    BTreeMap<P, Q>,
+> for MapDecoder<'a, K, V> {
     ghost makes_free = { false };
 
-    fn decode(&mut self) -> Result<BTreeMap<K, V>, Error> {
+    fn decode(&mut self) -> Result<BTreeMap<P, Q>, Error> {
         self.entries.decode_as()
     }
 
-    ghost same_shape = { ap map_of D.same_shape };
+    ghost same_shape = { ap₂ map_shape K.same_shape V.same_shape };
 }
 
-impl<'a, K: Key + Made + Hash + Drop, V: Made + Drop, D: Decoder<'a, (K, V)>> Decoder<
+impl<'a, P: Key + Made + Hash + Drop, Q: Made + Drop, K: Decoder<'a, P>, V: Decoder<'a, Q>> Decoder<
     'a,
-    HashMap<K, V>,
-> for MapDecoder<'a, D> {
+    HashMap<P, Q>,
+> for MapDecoder<'a, K, V> {
     ghost makes_free = { false };
 
-    fn decode(&mut self) -> Result<HashMap<K, V>, Error> {
+    fn decode(&mut self) -> Result<HashMap<P, Q>, Error> {
         self.entries.decode_as()
     }
 
-    ghost same_shape = { ap map_of D.same_shape };
+    ghost same_shape = { ap₂ map_shape K.same_shape V.same_shape };
 }

@@ -127,8 +127,14 @@ impl<'a, D: View<'a>> View<'a> for VecDecoder<'a, D> {
 }
 
 impl<'a, D> VecDecoder<'a, D> {
-    // Makes a value of the next length and so many elements.
-    pub(crate) fn decode_as<C: FromElements>(&mut self) -> Result<C, Error>
+    /// Makes a container of the next length and so many elements. One length is left.
+    ///
+    /// A decoder of a container of one's own is this call. `out of memory` is its only refusal.
+    ///
+    /// ```
+    /// let scores: Scores = lists.decode_as()?; // of a `Scores: FromElements`
+    /// ```
+    pub fn decode_as<C: FromElements>(&mut self) -> Result<C, Error>
     where
         D: Decoder<'a, C::Part>,
         requires { 0 < length (lists_of (lengths_left self.old.lengths) (D.held self.old.elements)) }

@@ -92,12 +92,12 @@ pub fn borrowed_text<'a>(bytes: &'a [u8], text: &&'a str)
     ensures { IsDecodingOf ⟦<&'a str as Made>⟧.makes ⟦<&'a str as Shaped>⟧.shape bytes.now text.now → IsBorrowedFrom bytes.now text.now.now }
 {}
 
-/// The texts of a value that is read from bytes stand in these bytes, behind the lengths of their column: each from one
-/// place to another.
+/// The texts of a value that is read from bytes are slices of these bytes: each begins where the columns before its own, its
+/// column's lengths and the texts before it in its column end.
 ///
 /// ```
-/// let pair: (&str, u8) = decode(alloc, bytes)?; // [2, 97, 98, 7]
-/// borrowed_texts(bytes, &pair); // "ab" is the bytes from 1 to 3
+/// let pair: (u8, &str) = decode(alloc, bytes)?; // [7, 2, 97, 98]
+/// borrowed_texts(bytes, &pair); // "ab" is the bytes from 2 to 4
 /// ```
 pub fn borrowed_texts<'a, T: Decode<'a>>(bytes: &'a [u8], t: &T)
     ensures { (found : IsDecodingOf T.makes T.shape bytes.now t.now) → TextsStandIn T.shape bytes.now (found.datum ∷ []) }

@@ -7,6 +7,7 @@ pub mod Values
 pub mod LawfulValues
 pub mod Sequences
 pub mod LawfulSequences
+pub mod LawfulVectors
 pub mod LawfulImages
 pub mod Tuples
 pub mod Pointers

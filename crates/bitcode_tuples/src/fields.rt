@@ -11,13 +11,18 @@ use bitcode_shapes::shaped::Shaped;
 pub mod few;
 pub mod several;
 
-// A field, or a pair of the first field and the others.
+/// References to the fields of a value: to one of them, or a pair of one and the others.
+///
+/// ```
+/// let fields = (&player.name, (&player.level, &player.score));
+/// ```
 pub trait Fields {
     type Whole: Shaped;
 
     // what the fields make up
     ghost whole: { Self → Self.Whole };
 
+    /// What the fields make up is a value.
     fn told(&self)
         ensures { Self.Whole.is_value (whole self.now) };
 }
@@ -43,8 +48,15 @@ impl<F: Fields, G: Fields> Fields for (F, G) {
     }
 }
 
-// As `Encoder`, for a value whose fields lie apart.
+/// As `Encoder`, for a value whose fields lie apart, as those of a struct do.
 pub trait FieldsEncoder<F: Fields>: HoldsColumns {
+    /// Joins the columns of what the fields make up to those so far, as `Encoder::encode` does. Room for it was reserved.
+    ///
+    /// It refuses as that does.
+    ///
+    /// ```
+    /// columns.encode_fields(&(&player.name, (&player.level, &player.score)))?;
+    /// ```
     fn encode_fields(&mut self, fields: &F) -> Result<(), Error>
         requires { 0 < Self.room self.old }
         ensures joined { OnOk result (JoinsListing F.Whole.lists F.Whole.shape (F.whole fields.now) (Self.columns self.old) (Self.columns self.new)) }

@@ -3,4 +3,4 @@
 
 pub mod decoder;
 pub mod encoder;
-mod fields;
+pub mod fields;

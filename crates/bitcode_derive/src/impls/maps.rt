@@ -2,7 +2,6 @@
 use crate::derive::{Decode, DecodeOwned, Encode};
 use bitcode_containers::map::{MapDecoder, MapEncoder};
 use bitcode_shapes::keys::Key;
-use bitcode_tuples::decoder::TupleDecoder;
 use std::cmp::{Eq, Ord};
 use std::collections::{BTreeMap, HashMap};
 use std::hash::Hash;
@@ -12,7 +11,7 @@ impl<K: Encode + Ord, V: Encode> Encode for BTreeMap<K, V> {
 }
 
 impl<'a, K: Decode<'a> + Key + Ord, V: Decode<'a>> Decode<'a> for BTreeMap<K, V> {
-    type Decoder = MapDecoder<'a, TupleDecoder<K::Decoder, V::Decoder>>;
+    type Decoder = MapDecoder<'a, K::Decoder, V::Decoder>;
 }
 
 impl<K: DecodeOwned + Key + Ord, V: DecodeOwned> DecodeOwned for BTreeMap<K, V> {}
@@ -22,7 +21,7 @@ impl<K: Encode + Eq + Hash, V: Encode> Encode for HashMap<K, V> {
 }
 
 impl<'a, K: Decode<'a> + Key + Hash, V: Decode<'a>> Decode<'a> for HashMap<K, V> {
-    type Decoder = MapDecoder<'a, TupleDecoder<K::Decoder, V::Decoder>>;
+    type Decoder = MapDecoder<'a, K::Decoder, V::Decoder>;
 }
 
 impl<K: DecodeOwned + Key + Hash, V: DecodeOwned> DecodeOwned for HashMap<K, V> {}

@@ -1,0 +1,16 @@
+// With ample memory scores are written and read back.
+use crate::scores::Scores;
+use bitcode::{Error, decode, encode};
+
+#[test]
+fn scores_come_back(rt: HostRuntime) -> Result<(), Error> {
+    let alloc = rt.alloc();
+    let scores = Scores {
+        list: vec![in alloc; 0, 1, 3, 0, 3, 1]?,
+    };
+    let bytes = encode(alloc, &scores)?;
+    assert!(rt; bytes.as_slice() == [6, 4, 6, 52, 7].as_slice());
+    let again: Scores = decode(alloc, bytes.as_slice())?;
+    assert!(rt; again == scores);
+    Ok(())
+}
