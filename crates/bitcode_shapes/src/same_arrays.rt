@@ -27,13 +27,12 @@ use std::rc::{Rc, RcSlice, RcStr};
 use std::time::Duration;
 use uuid::Uuid;
 
-/// A type whose values can each be written or not, in whatever order they are listed: all listings of a value have the
-/// same numbers of arrays.
+/// A type of which all listings of a value have the same numbers of arrays. So whether a value can be written does not
+/// depend on the order in which it is listed.
 ///
-/// An encoder refuses a value whose arrays are too many to be counted. A type of one's own can be written and read without
-/// this promise; with it, `overflows_exactly` of `bitcode_derive::laws` tells when a value is refused. Where nothing in a
-/// value is kept in an order of its own, it follows from that. `specs/SameArrays.antt` has the laws of structs, choices
-/// and sequences.
+/// An encoder refuses a value whose arrays are too many to be counted, and `overflows_exactly` of `bitcode_derive::laws` says
+/// when, of these types. A type of one's own can be written and read without this promise. `specs/SameArrays.antt` has its
+/// laws: of types whose values list one datum each, of structs, choices, sequences and maps.
 ///
 /// ```
 /// impl SameArrays for Name {
