@@ -5,8 +5,8 @@ ghost use Rattle.bitcode_by_hand.specs.Foo.{foo_fields};
 
 use bitcode::coder::{Buffer, HoldsColumns, HoldsData, Result};
 use bitcode::{
-    Decode, Decoder, Encode, Encoder, IntDecoder, IntEncoder, Made, Shaped, StrDecoder, StrEncoder,
-    TupleDecoder, View,
+    Decoder, Encoder, HasDecoder, HasEncoder, IntDecoder, IntEncoder, Made, Shaped, StrDecoder,
+    StrEncoder, TupleDecoder, View,
 };
 use std::alloc::Global;
 
@@ -138,10 +138,10 @@ impl<'a> Decoder<'a, Foo<'a>> for FooDecoder<'a> {
     ghost same_shape = { refl };
 }
 
-impl<'a> Encode for Foo<'a> {
+impl<'a> HasEncoder for Foo<'a> {
     type Encoder = FooEncoder;
 }
 
-impl<'a> Decode<'a> for Foo<'a> {
+impl<'a> HasDecoder<'a> for Foo<'a> {
     type Decoder = FooDecoder<'a>;
 }

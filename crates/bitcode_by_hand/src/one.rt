@@ -5,7 +5,8 @@ ghost use Rattle.bitcode_by_hand.specs.One.{one_field, one_found};
 
 use bitcode::coder::{Buffer, HoldsColumns, HoldsData, Result};
 use bitcode::{
-    Decode, DecodeOwned, Decoder, Encode, Encoder, IntDecoder, IntEncoder, Made, Shaped, View,
+    DecodeOwned, Decoder, Encoder, HasDecoder, HasEncoder, IntDecoder, IntEncoder, Made, Shaped,
+    View,
 };
 use std::alloc::Global;
 
@@ -124,11 +125,11 @@ impl<'a> Decoder<'a, One> for OneDecoder<'a> {
     ghost same_shape = { refl };
 }
 
-impl Encode for One {
+impl HasEncoder for One {
     type Encoder = OneEncoder;
 }
 
-impl<'a> Decode<'a> for One {
+impl<'a> HasDecoder<'a> for One {
     type Decoder = OneDecoder<'a>;
 }
 

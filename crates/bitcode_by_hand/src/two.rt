@@ -9,8 +9,8 @@ ghost use Rattle.bitcode_by_hand.specs.Two.{two_variant, two_found};
 
 use bitcode::coder::{Buffer, HoldsColumns, HoldsData, Result};
 use bitcode::{
-    Decode, DecodeOwned, Decoder, Encode, Encoder, IntDecoder, IntEncoder, Made, ResultDecoder,
-    Shaped, VariantDecoder, VariantEncoder, View, encode_payload,
+    DecodeOwned, Decoder, Encoder, HasDecoder, HasEncoder, IntDecoder, IntEncoder, Made,
+    ResultDecoder, Shaped, VariantDecoder, VariantEncoder, View, encode_payload,
 };
 use std::alloc::Global;
 
@@ -160,11 +160,11 @@ impl<'a> Decoder<'a, Two> for TwoDecoder<'a> {
     ghost same_shape = { refl };
 }
 
-impl Encode for Two {
+impl HasEncoder for Two {
     type Encoder = TwoEncoder;
 }
 
-impl<'a> Decode<'a> for Two {
+impl<'a> HasDecoder<'a> for Two {
     type Decoder = TwoDecoder<'a>;
 }
 
