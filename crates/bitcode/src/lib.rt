@@ -26,7 +26,7 @@ pub use bitcode_containers::mappings::Mapping;
 pub use bitcode_containers::sequences::{FromElements, Sequence};
 pub use bitcode_containers::vec::{VecDecoder, VecEncoder};
 pub use bitcode_derive::buffer::Buffer;
-pub use bitcode_derive::derive::{Decode, DecodeOwned, Encode};
+pub use bitcode_derive::derive::{Decode, DecodeOwned, Encode, HasDecoder, HasEncoder};
 pub use bitcode_derive::whole::{decode, encode, invalid_enum_variant};
 pub use bitcode_input::consume::{
     consume_byte, consume_byte_arrays, consume_bytes, expect_eof, mul_length,

@@ -5,7 +5,7 @@ ghost use Rattle.bitcode_by_hand.specs.Foo.{foo_fields};
 
 use bitcode::coder::{Buffer, HoldsColumns, HoldsData, Result};
 use bitcode::{
-    Decode, Decoder, Encode, Encoder, IntDecoder, IntEncoder, Made, SameArrays, Shaped, StrDecoder,
+    Decoder, Encoder, IntDecoder, IntEncoder, Made, SameArrays, Shaped, StrDecoder, HasDecoder, HasEncoder,
     StrEncoder, TupleDecoder, View,
 };
 use std::alloc::Global;
@@ -140,10 +140,10 @@ impl<'a> Decoder<'a, Foo<'a>> for FooDecoder<'a> {
     ghost same_shape = { refl };
 }
 
-impl<'a> Encode for Foo<'a> {
+impl<'a> HasEncoder for Foo<'a> {
     type Encoder = FooEncoder;
 }
 
-impl<'a> Decode<'a> for Foo<'a> {
+impl<'a> HasDecoder<'a> for Foo<'a> {
     type Decoder = FooDecoder<'a>;
 }

@@ -8,7 +8,7 @@ ghost use Rattle.bitcode_coder.specs.Coding.{endless_room};
 
 use bitcode::coder::{Buffer, HoldsColumns, HoldsData, Result};
 use bitcode::{
-    Decode, DecodeOwned, Decoder, Encode, Encoder, NoVariants, Reason, View, err,
+    DecodeOwned, Decoder, Encoder, HasDecoder, HasEncoder, NoVariants, Reason, View, err,
     invalid_enum_variant,
 };
 use std::alloc::Global;
@@ -100,11 +100,11 @@ impl<'a, T: NoVariants> Decoder<'a, T> for NeverDecoder {
     ghost same_shape = { refl };
 }
 
-impl Encode for Never {
+impl HasEncoder for Never {
     type Encoder = NeverEncoder;
 }
 
-impl<'a> Decode<'a> for Never {
+impl<'a> HasDecoder<'a> for Never {
     type Decoder = NeverDecoder;
 }
 

@@ -5,8 +5,7 @@ ghost use Rattle.bitcode_by_hand.specs.One.{one_field, one_found};
 
 use bitcode::coder::{Buffer, HoldsColumns, HoldsData, Result};
 use bitcode::{
-    Decode, DecodeOwned, Decoder, Encode, Encoder, IntDecoder, IntEncoder, Made, SameArrays,
-    Shaped, View,
+    DecodeOwned, Decoder, Encoder, IntDecoder, IntEncoder, Made, SameArrays, Shaped, View, HasDecoder, HasEncoder,
 };
 use std::alloc::Global;
 
@@ -127,11 +126,11 @@ impl<'a> Decoder<'a, One> for OneDecoder<'a> {
     ghost same_shape = { refl };
 }
 
-impl Encode for One {
+impl HasEncoder for One {
     type Encoder = OneEncoder;
 }
 
-impl<'a> Decode<'a> for One {
+impl<'a> HasDecoder<'a> for One {
     type Decoder = OneDecoder<'a>;
 }
 

@@ -10,8 +10,7 @@ ghost use Rattle.bitcode_by_hand.specs.Two.{two_variant, two_found};
 
 use bitcode::coder::{Buffer, HoldsColumns, HoldsData, Result};
 use bitcode::{
-    Decode, DecodeOwned, Decoder, Encode, Encoder, IntDecoder, IntEncoder, Made, ResultDecoder,
-    SameArrays, Shaped, VariantDecoder, VariantEncoder, View, encode_payload,
+    DecodeOwned, Decoder, Encoder, IntDecoder, IntEncoder, Made, ResultDecoder, SameArrays, Shaped, VariantDecoder, VariantEncoder, View, encode_payload, HasDecoder, HasEncoder,
 };
 use std::alloc::Global;
 
@@ -163,11 +162,11 @@ impl<'a> Decoder<'a, Two> for TwoDecoder<'a> {
     ghost same_shape = { refl };
 }
 
-impl Encode for Two {
+impl HasEncoder for Two {
     type Encoder = TwoEncoder;
 }
 
-impl<'a> Decode<'a> for Two {
+impl<'a> HasDecoder<'a> for Two {
     type Decoder = TwoDecoder<'a>;
 }
 

@@ -4,10 +4,11 @@ ghost use Rattle.bitcode_shapes.specs.Datum.{Datum};
 ghost use Rattle.bitcode_coder.specs.Coding.{IsWritingRefusal, IsReadingReason};
 ghost use Rattle.bitcode_derive.specs.Whole.{IsEncodingOf, HasLongListing, IsDecodingOf, SpellsDatum, SpellsAtMostOne, IsBoundedByBytes, NamesWholeFault};
 
-use crate::derive::{Decode, Encode};
+use crate::derive::{HasDecoder, HasEncoder};
 use crate::whole;
-use bitcode_coder::coder::{Buffer as _, Encoder};
+use bitcode_coder::coder::{Buffer as EncoderBuffer, Decoder, Encoder, View};
 use bitcode_input::error::{Error, Reason};
+use bitcode_shapes::shaped::{Made, Shaped};
 use std::alloc::Global;
 
 /// Writes values of one type, one after the other, into memory that it keeps.
@@ -20,13 +21,16 @@ use std::alloc::Global;
 /// prove!(bytes == [1, 7, 0]);
 /// ```
 #[derive(Drop)]
-pub struct Buffer<T: Encode> {
+pub struct Buffer<T: HasEncoder> {
     alloc: Global,
     encoder: T::Encoder,
     bytes: Vec<u8>,
 }
 
-impl<T: Encode> Buffer<T> {
+impl<T: HasEncoder + Shaped> Buffer<T>
+where
+    T::Encoder: EncoderBuffer + Encoder<T> + Drop,
+{
     /// HoldsData nothing. Takes no memory.
     pub fn new(alloc: Global) -> Self {
         Buffer {
@@ -67,7 +71,8 @@ impl<T: Encode> Buffer<T> {
     /// ```
     pub fn decode<'a>(&mut self, bytes: &'a [u8]) -> Result<T, Error>
     where
-        T: Decode<'a>,
+        T: HasDecoder<'a> + Made + Drop,
+        T::Decoder: View<'a> + Decoder<'a, T> + Drop,
         ensures found { IfOk result (λ t. IsDecodingOf T.makes T.shape bytes.now t) }
         ensures once { SpellsAtMostOne T.shape bytes.now }
         ensures bounded { IsBoundedByBytes T.shape bytes.now }

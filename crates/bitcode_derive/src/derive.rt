@@ -2,31 +2,54 @@
 use bitcode_coder::coder::{Buffer, Decoder, Encoder, View};
 use bitcode_shapes::shaped::{Made, Shaped};
 
-/// A type whose values are written.
+/// Names the encoder of a type.
 ///
-/// A type of your own names the encoder of its fields, as a wrapper of a `u32` that of `u32`:
+/// A type of your own names the encoder of its fields, as a wrapper of a `u32` that of `u32`. It is then an [`Encode`],
+/// where the encoder writes its values:
 ///
 /// ```
-/// impl Encode for Meters {
+/// impl HasEncoder for Meters {
 ///     type Encoder = MetersEncoder;
 /// }
 /// ```
-pub trait Encode: Shaped {
-    /// The columns that values are written to. A whole call drops them.
-    type Encoder: Buffer + Encoder<Self> + Drop;
+pub trait HasEncoder {
+    /// The columns that values are written to.
+    type Encoder;
 }
 
-/// A type whose values are read from an input that outlives `'a`.
+/// A type whose values are written: every lawful type whose encoder takes its values.
+///
+/// It has no impls of its own. A whole call drops the encoder.
+pub trait Encode: HasEncoder<Encoder: Buffer + Encoder<Self> + Drop> + Shaped {}
+
+impl<T: HasEncoder + Shaped> Encode for T
+where
+    T::Encoder: Buffer + Encoder<T> + Drop,
+{}
+
+/// Names the decoder of a type, for an input that outlives `'a`.
+///
+/// The type is then a [`Decode`], where values of it are made of what the decoder holds:
 ///
 /// ```
-/// impl<'a> Decode<'a> for Meters {
+/// impl<'a> HasDecoder<'a> for Meters {
 ///     type Decoder = MetersDecoder<'a>;
 /// }
 /// ```
-pub trait Decode<'a>: Made + Drop {
-    /// The data that values are made of. A whole call drops what is left of them.
-    type Decoder: View<'a> + Decoder<'a, Self> + Drop;
+pub trait HasDecoder<'a> {
+    /// The data that values are made of.
+    type Decoder;
 }
+
+/// A type whose values are read from an input that outlives `'a`: every lawful type whose decoder makes its values.
+///
+/// It has no impls of its own. A whole call drops the value and what is left of the data.
+pub trait Decode<'a>: HasDecoder<'a, Decoder: View<'a> + Decoder<'a, Self> + Drop> + Made + Drop {}
+
+impl<'a, T: HasDecoder<'a> + Made + Drop> Decode<'a> for T
+where
+    T::Decoder: View<'a> + Decoder<'a, T> + Drop,
+{}
 
 /// A type whose values borrow nothing from the input that they are read from.
 ///

@@ -1,5 +1,5 @@
 // The coders of bools, the unit and pairs; those of other types stand in the modules by subject.
-use crate::derive::{Decode, DecodeOwned, Encode};
+use crate::derive::{DecodeOwned, HasDecoder, HasEncoder};
 use bitcode_coder::bool::{BoolDecoder, BoolEncoder};
 use bitcode_parts::empty::EmptyCoder;
 use bitcode_tuples::decoder::TupleDecoder;
@@ -20,31 +20,31 @@ mod texts;
 mod tuples;
 mod uuids;
 
-impl Encode for bool {
+impl HasEncoder for bool {
     type Encoder = BoolEncoder;
 }
 
-impl<'a> Decode<'a> for bool {
+impl<'a> HasDecoder<'a> for bool {
     type Decoder = BoolDecoder<'a>;
 }
 
 impl DecodeOwned for bool {}
 
-impl Encode for () {
+impl HasEncoder for () {
     type Encoder = EmptyCoder;
 }
 
-impl<'a> Decode<'a> for () {
+impl<'a> HasDecoder<'a> for () {
     type Decoder = EmptyCoder;
 }
 
 impl DecodeOwned for () {}
 
-impl<A: Encode, B: Encode> Encode for (A, B) {
+impl<A: HasEncoder, B: HasEncoder> HasEncoder for (A, B) {
     type Encoder = TupleEncoder<A::Encoder, B::Encoder>;
 }
 
-impl<'a, A: Decode<'a>, B: Decode<'a>> Decode<'a> for (A, B) {
+impl<'a, A: HasDecoder<'a>, B: HasDecoder<'a>> HasDecoder<'a> for (A, B) {
     type Decoder = TupleDecoder<A::Decoder, B::Decoder>;
 }
 

@@ -6,7 +6,6 @@ ghost use Rattle.bitcode_coder.specs.Spelling.{LengthsBelowLimit};
 ghost use Rattle.bitcode_derive.specs.BorrowedTexts.{TextsStandIn, IsBorrowedFrom};
 ghost use Rattle.bitcode_derive.specs.Whole.{columns_of_one, IsEncodingOf, HasLongListing, IsDecodingOf, SpellsDatum};
 
-use crate::derive::{Decode, Encode};
 use crate::whole;
 use bitcode_input::error::{Error, Reason};
 use bitcode_shapes::same_arrays::SameArrays;
@@ -24,7 +23,7 @@ use std::alloc::Global;
 /// let u: T = decode(alloc, &bytes)?;
 /// round_trip(&t, &bytes, &u);
 /// ```
-pub fn round_trip<'a, T: Encode + Decode<'a>>(t: &T, bytes: &'a [u8], u: &T)
+pub fn round_trip<'a, T: Made>(t: &T, bytes: &'a [u8], u: &T)
     ensures spelled { (written : IsEncodingOf T.lists T.shape t.now bytes.now) → LengthsBelowLimit (columns_of_one T.shape written.datum)
         → SpellsDatum T.shape bytes.now written.datum }
     ensures equal { (written : IsEncodingOf T.lists T.shape t.now bytes.now) → LengthsBelowLimit (columns_of_one T.shape written.datum)
@@ -42,7 +41,7 @@ pub fn round_trip<'a, T: Encode + Decode<'a>>(t: &T, bytes: &'a [u8], u: &T)
 /// let again = encode(alloc, &t)?;
 /// one_text(&t, &bytes, &again);
 /// ```
-pub fn one_text<T: Encode>(t: &T, bytes: &[u8], again: &[u8])
+pub fn one_text<T: Shaped>(t: &T, bytes: &[u8], again: &[u8])
     ensures { IsTrue T.in_order → IsEncodingOf T.lists T.shape t.now bytes.now → IsEncodingOf T.lists T.shape t.now again.now → bytes.now ≡ again.now }
 {
     t.told();
@@ -55,7 +54,7 @@ pub fn one_text<T: Encode>(t: &T, bytes: &[u8], again: &[u8])
 /// let u: T = decode(alloc, bytes)?;
 /// one_value(bytes, &t, &u);
 /// ```
-pub fn one_value<'a, T: Decode<'a>>(bytes: &'a [u8], t: &T, u: &T)
+pub fn one_value<'a, T: Made>(bytes: &'a [u8], t: &T, u: &T)
     ensures { IsDecodingOf T.makes T.shape bytes.now t.now → IsDecodingOf T.makes T.shape bytes.now u.now → T.same t.now u.now }
 {
     t.told();
@@ -73,7 +72,7 @@ pub fn one_value<'a, T: Decode<'a>>(bytes: &'a [u8], t: &T, u: &T)
 /// let bytes = encode(alloc, &t)?;
 /// overflows_exactly(&t, &bytes);
 /// ```
-pub fn overflows_exactly<T: Encode + SameArrays>(t: &T, bytes: &[u8])
+pub fn overflows_exactly<T: SameArrays>(t: &T, bytes: &[u8])
     ensures written { IsEncodingOf T.lists T.shape t.now bytes.now → (d : Datum) → T.lists t.now d → CountsFit (columns_of_one T.shape d) }
     ensures refused { HasLongListing T.lists T.shape t.now → (d : Datum) → T.lists t.now d → CountsFit (columns_of_one T.shape d) → ⊥ }
 {
@@ -99,7 +98,7 @@ pub fn borrowed_text<'a>(bytes: &'a [u8], text: &&'a str)
 /// let pair: (u8, &str) = decode(alloc, bytes)?; // [7, 2, 97, 98]
 /// borrowed_texts(bytes, &pair); // "ab" is the bytes from 2 to 4
 /// ```
-pub fn borrowed_texts<'a, T: Decode<'a>>(bytes: &'a [u8], t: &T)
+pub fn borrowed_texts<'a, T: Made>(bytes: &'a [u8], t: &T)
     ensures { (found : IsDecodingOf T.makes T.shape bytes.now t.now) → TextsStandIn T.shape bytes.now (found.datum ∷ []) }
 {}
 

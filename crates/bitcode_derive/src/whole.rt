@@ -4,11 +4,12 @@ ghost use Rattle.bitcode_shapes.specs.Datum.{Datum};
 ghost use Rattle.bitcode_coder.specs.Coding.{IsWritingRefusal, IsReadingReason};
 ghost use Rattle.bitcode_derive.specs.Whole.{IsEncodingOf, HasLongListing, IsDecodingOf, SpellsDatum, SpellsAtMostOne, IsBoundedByBytes, NamesWholeFault};
 
-use crate::derive::{Decode, Encode};
+use crate::derive::{HasDecoder, HasEncoder};
 use bitcode_coder::coder::{Buffer, Decoder, Encoder, View};
 use bitcode_input::consume::expect_eof;
 use bitcode_input::error::{Error, Reason};
 use bitcode_input::refuse::err;
+use bitcode_shapes::shaped::{Made, Shaped};
 use std::alloc::Global;
 
 /// Writes a value: the texts of its columns, joined.
@@ -23,7 +24,9 @@ use std::alloc::Global;
 /// let bytes = encode(alloc, &(true, 7u16))?;
 /// prove!(bytes.as_slice() == [1, 7, 0]);
 /// ```
-pub fn encode<T: Encode>(alloc: Global, t: &T) -> Result<Vec<u8>, Error>
+pub fn encode<T: HasEncoder + Shaped>(alloc: Global, t: &T) -> Result<Vec<u8>, Error>
+where
+    T::Encoder: Buffer + Encoder<T> + Drop,
     ensures written { IfOk result (λ bytes. IsEncodingOf T.lists T.shape t.now bytes.items) }
     ensures refused { IfErr result (λ e. IsWritingRefusal e.reason (HasLongListing T.lists T.shape t.now)) }
 {
@@ -46,7 +49,12 @@ pub fn encode<T: Encode>(alloc: Global, t: &T) -> Result<Vec<u8>, Error>
 /// let pair: (bool, u16) = decode(alloc, &[1, 7, 0])?;
 /// prove!(pair.0 && pair.1 == 7);
 /// ```
-pub fn decode<'a, T: Decode<'a>>(alloc: Global, bytes: &'a [u8]) -> Result<T, Error>
+pub fn decode<'a, T: HasDecoder<'a> + Made + Drop>(
+    alloc: Global,
+    bytes: &'a [u8],
+) -> Result<T, Error>
+where
+    T::Decoder: View<'a> + Decoder<'a, T> + Drop,
     ensures found { IfOk result (λ t. IsDecodingOf T.makes T.shape bytes.now t) }
     ensures once { SpellsAtMostOne T.shape bytes.now }
     ensures bounded { IsBoundedByBytes T.shape bytes.now }

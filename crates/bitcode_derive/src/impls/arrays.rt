@@ -1,12 +1,12 @@
 // The coders of arrays.
-use crate::derive::{Decode, DecodeOwned, Encode};
+use crate::derive::{DecodeOwned, HasDecoder, HasEncoder};
 use bitcode_arrays::array::{ArrayDecoder, ArrayEncoder};
 
-impl<T: Encode, const N: usize> Encode for [T; N] {
+impl<T: HasEncoder, const N: usize> HasEncoder for [T; N] {
     type Encoder = ArrayEncoder<T::Encoder, N>;
 }
 
-impl<'a, T: Decode<'a>, const N: usize> Decode<'a> for [T; N] {
+impl<'a, T: HasDecoder<'a>, const N: usize> HasDecoder<'a> for [T; N] {
     type Decoder = ArrayDecoder<T::Decoder, N>;
 }
 

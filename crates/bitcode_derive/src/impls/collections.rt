@@ -1,56 +1,56 @@
 // The coders of queues, lists, heaps and sets: those of sequences.
-use crate::derive::{Decode, DecodeOwned, Encode};
+use crate::derive::{DecodeOwned, HasDecoder, HasEncoder};
 use bitcode_containers::vec::{VecDecoder, VecEncoder};
 use bitcode_shapes::keys::Key;
 use std::cmp::{Eq, Ord};
 use std::collections::{BTreeSet, BinaryHeap, HashSet, LinkedList, VecDeque};
 use std::hash::Hash;
 
-impl<T: Encode> Encode for VecDeque<T> {
+impl<T: HasEncoder> HasEncoder for VecDeque<T> {
     type Encoder = VecEncoder<T::Encoder>;
 }
 
-impl<'a, T: Decode<'a>> Decode<'a> for VecDeque<T> {
+impl<'a, T: HasDecoder<'a>> HasDecoder<'a> for VecDeque<T> {
     type Decoder = VecDecoder<'a, T::Decoder>;
 }
 
 impl<T: DecodeOwned> DecodeOwned for VecDeque<T> {}
 
-impl<T: Encode> Encode for LinkedList<T> {
+impl<T: HasEncoder> HasEncoder for LinkedList<T> {
     type Encoder = VecEncoder<T::Encoder>;
 }
 
-impl<'a, T: Decode<'a>> Decode<'a> for LinkedList<T> {
+impl<'a, T: HasDecoder<'a>> HasDecoder<'a> for LinkedList<T> {
     type Decoder = VecDecoder<'a, T::Decoder>;
 }
 
 impl<T: DecodeOwned> DecodeOwned for LinkedList<T> {}
 
-impl<T: Encode + Ord> Encode for BinaryHeap<T> {
+impl<T: HasEncoder + Ord> HasEncoder for BinaryHeap<T> {
     type Encoder = VecEncoder<T::Encoder>;
 }
 
-impl<'a, T: Decode<'a> + Ord> Decode<'a> for BinaryHeap<T> {
+impl<'a, T: HasDecoder<'a> + Ord> HasDecoder<'a> for BinaryHeap<T> {
     type Decoder = VecDecoder<'a, T::Decoder>;
 }
 
 impl<T: DecodeOwned + Ord> DecodeOwned for BinaryHeap<T> {}
 
-impl<T: Encode + Ord> Encode for BTreeSet<T> {
+impl<T: HasEncoder + Ord> HasEncoder for BTreeSet<T> {
     type Encoder = VecEncoder<T::Encoder>;
 }
 
-impl<'a, T: Decode<'a> + Key + Ord> Decode<'a> for BTreeSet<T> {
+impl<'a, T: HasDecoder<'a> + Key + Ord> HasDecoder<'a> for BTreeSet<T> {
     type Decoder = VecDecoder<'a, T::Decoder>;
 }
 
 impl<T: DecodeOwned + Key + Ord> DecodeOwned for BTreeSet<T> {}
 
-impl<T: Encode + Eq + Hash> Encode for HashSet<T> {
+impl<T: HasEncoder + Eq + Hash> HasEncoder for HashSet<T> {
     type Encoder = VecEncoder<T::Encoder>;
 }
 
-impl<'a, T: Decode<'a> + Key + Hash> Decode<'a> for HashSet<T> {
+impl<'a, T: HasDecoder<'a> + Key + Hash> HasDecoder<'a> for HashSet<T> {
     type Decoder = VecDecoder<'a, T::Decoder>;
 }
 

@@ -1,5 +1,5 @@
 // The coders of durations.
-use crate::derive::{Decode, DecodeOwned, Encode};
+use crate::derive::{DecodeOwned, HasDecoder, HasEncoder};
 use bitcode_integers::checked::{CheckedIntDecoder, Nanosecond};
 use bitcode_integers::int::{IntDecoder, IntEncoder};
 use bitcode_parts::convert::{ConvertFromDecoder, ConvertIntoEncoder};
@@ -8,14 +8,14 @@ use bitcode_tuples::decoder::TupleDecoder;
 use bitcode_tuples::encoder::TupleEncoder;
 use std::time::Duration;
 
-impl Encode for Duration {
+impl HasEncoder for Duration {
     type Encoder = ConvertIntoEncoder<
         DurationEncode,
         TupleEncoder<IntEncoder<u64>, IntEncoder<u32>>,
     >;
 }
 
-impl<'a> Decode<'a> for Duration {
+impl<'a> HasDecoder<'a> for Duration {
     type Decoder = ConvertFromDecoder<
         DurationDecode,
         TupleDecoder<IntDecoder<'a, u64>, CheckedIntDecoder<'a, Nanosecond, u32>>,
@@ -24,7 +24,7 @@ impl<'a> Decode<'a> for Duration {
 
 impl DecodeOwned for Duration {}
 
-impl<'a> Decode<'a> for Nanosecond {
+impl<'a> HasDecoder<'a> for Nanosecond {
     type Decoder = CheckedIntDecoder<'a, Nanosecond, u32>;
 }
 

@@ -1,13 +1,13 @@
 // The coder of markers of types.
-use crate::derive::{Decode, DecodeOwned, Encode};
+use crate::derive::{DecodeOwned, HasDecoder, HasEncoder};
 use bitcode_parts::empty::EmptyCoder;
 use std::marker::PhantomData;
 
-impl<T> Encode for PhantomData<T> {
+impl<T> HasEncoder for PhantomData<T> {
     type Encoder = EmptyCoder;
 }
 
-impl<'a, T> Decode<'a> for PhantomData<T> {
+impl<'a, T> HasDecoder<'a> for PhantomData<T> {
     type Decoder = EmptyCoder;
 }
 

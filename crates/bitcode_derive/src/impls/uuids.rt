@@ -1,16 +1,16 @@
 // The coders of UUIDs.
-use crate::derive::{Decode, DecodeOwned, Encode};
+use crate::derive::{DecodeOwned, HasDecoder, HasEncoder};
 use bitcode_arrays::array::{ArrayDecoder, ArrayEncoder};
 use bitcode_integers::int::{IntDecoder, IntEncoder};
 use bitcode_parts::convert::{ConvertFromDecoder, ConvertIntoEncoder};
 use bitcode_parts::uuids::UuidConversion;
 use uuid::Uuid;
 
-impl Encode for Uuid {
+impl HasEncoder for Uuid {
     type Encoder = ConvertIntoEncoder<UuidConversion, ArrayEncoder<IntEncoder<u8>, 16>>;
 }
 
-impl<'a> Decode<'a> for Uuid {
+impl<'a> HasDecoder<'a> for Uuid {
     type Decoder = ConvertFromDecoder<UuidConversion, ArrayDecoder<IntDecoder<'a, u8>, 16>>;
 }
 

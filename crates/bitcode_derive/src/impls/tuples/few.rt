@@ -1,38 +1,39 @@
 // The coders of tuples of one field, which are as their field, and of three to eight.
-use crate::derive::{Decode, DecodeOwned, Encode};
+use crate::derive::{DecodeOwned, HasDecoder, HasEncoder};
 use bitcode_pointers::deref::DerefEncoder;
 use bitcode_pointers::from::FromDecoder;
 use bitcode_tuples::decoder::TupleDecoder;
 use bitcode_tuples::encoder::TupleEncoder;
 
-impl<A: Encode> Encode for (A,) {
+impl<A: HasEncoder> HasEncoder for (A,) {
     type Encoder = DerefEncoder<A::Encoder>;
 }
 
-impl<'a, A: Decode<'a>> Decode<'a> for (A,) {
+impl<'a, A: HasDecoder<'a>> HasDecoder<'a> for (A,) {
     type Decoder = FromDecoder<A, A::Decoder>;
 }
 
 impl<A: DecodeOwned> DecodeOwned for (A,) {}
 
-impl<A: Encode, B: Encode, C: Encode> Encode for (A, B, C) {
+impl<A: HasEncoder, B: HasEncoder, C: HasEncoder> HasEncoder for (A, B, C) {
     type Encoder = TupleEncoder<A::Encoder, TupleEncoder<B::Encoder, C::Encoder>>;
 }
 
-impl<'a, A: Decode<'a>, B: Decode<'a>, C: Decode<'a>> Decode<'a> for (A, B, C) {
+impl<'a, A: HasDecoder<'a>, B: HasDecoder<'a>, C: HasDecoder<'a>> HasDecoder<'a> for (A, B, C) {
     type Decoder = TupleDecoder<A::Decoder, TupleDecoder<B::Decoder, C::Decoder>>;
 }
 
 impl<A: DecodeOwned, B: DecodeOwned, C: DecodeOwned> DecodeOwned for (A, B, C) {}
 
-impl<A: Encode, B: Encode, C: Encode, D: Encode> Encode for (A, B, C, D) {
+impl<A: HasEncoder, B: HasEncoder, C: HasEncoder, D: HasEncoder> HasEncoder for (A, B, C, D) {
     type Encoder = TupleEncoder<
         TupleEncoder<A::Encoder, B::Encoder>,
         TupleEncoder<C::Encoder, D::Encoder>,
     >;
 }
 
-impl<'a, A: Decode<'a>, B: Decode<'a>, C: Decode<'a>, D: Decode<'a>> Decode<'a> for (A, B, C, D) {
+impl<'a, A: HasDecoder<'a>, B: HasDecoder<'a>, C: HasDecoder<'a>, D: HasDecoder<'a>> HasDecoder<'a>
+    for (A, B, C, D) {
     type Decoder = TupleDecoder<
         TupleDecoder<A::Decoder, B::Decoder>,
         TupleDecoder<C::Decoder, D::Decoder>,
@@ -41,15 +42,22 @@ impl<'a, A: Decode<'a>, B: Decode<'a>, C: Decode<'a>, D: Decode<'a>> Decode<'a> 
 
 impl<A: DecodeOwned, B: DecodeOwned, C: DecodeOwned, D: DecodeOwned> DecodeOwned for (A, B, C, D) {}
 
-impl<A: Encode, B: Encode, C: Encode, D: Encode, E: Encode> Encode for (A, B, C, D, E) {
+impl<A: HasEncoder, B: HasEncoder, C: HasEncoder, D: HasEncoder, E: HasEncoder> HasEncoder
+    for (A, B, C, D, E) {
     type Encoder = TupleEncoder<
         TupleEncoder<A::Encoder, B::Encoder>,
         TupleEncoder<C::Encoder, TupleEncoder<D::Encoder, E::Encoder>>,
     >;
 }
 
-impl<'a, A: Decode<'a>, B: Decode<'a>, C: Decode<'a>, D: Decode<'a>, E: Decode<'a>> Decode<'a>
-    for (A, B, C, D, E) {
+impl<
+    'a,
+    A: HasDecoder<'a>,
+    B: HasDecoder<'a>,
+    C: HasDecoder<'a>,
+    D: HasDecoder<'a>,
+    E: HasDecoder<'a>,
+> HasDecoder<'a> for (A, B, C, D, E) {
     type Decoder = TupleDecoder<
         TupleDecoder<A::Decoder, B::Decoder>,
         TupleDecoder<C::Decoder, TupleDecoder<D::Decoder, E::Decoder>>,
@@ -59,8 +67,14 @@ impl<'a, A: Decode<'a>, B: Decode<'a>, C: Decode<'a>, D: Decode<'a>, E: Decode<'
 impl<A: DecodeOwned, B: DecodeOwned, C: DecodeOwned, D: DecodeOwned, E: DecodeOwned> DecodeOwned
     for (A, B, C, D, E) {}
 
-impl<A: Encode, B: Encode, C: Encode, D: Encode, E: Encode, F: Encode> Encode
-    for (A, B, C, D, E, F) {
+impl<
+    A: HasEncoder,
+    B: HasEncoder,
+    C: HasEncoder,
+    D: HasEncoder,
+    E: HasEncoder,
+    F: HasEncoder,
+> HasEncoder for (A, B, C, D, E, F) {
     type Encoder = TupleEncoder<
         TupleEncoder<A::Encoder, TupleEncoder<B::Encoder, C::Encoder>>,
         TupleEncoder<D::Encoder, TupleEncoder<E::Encoder, F::Encoder>>,
@@ -69,13 +83,13 @@ impl<A: Encode, B: Encode, C: Encode, D: Encode, E: Encode, F: Encode> Encode
 
 impl<
     'a,
-    A: Decode<'a>,
-    B: Decode<'a>,
-    C: Decode<'a>,
-    D: Decode<'a>,
-    E: Decode<'a>,
-    F: Decode<'a>,
-> Decode<'a> for (A, B, C, D, E, F) {
+    A: HasDecoder<'a>,
+    B: HasDecoder<'a>,
+    C: HasDecoder<'a>,
+    D: HasDecoder<'a>,
+    E: HasDecoder<'a>,
+    F: HasDecoder<'a>,
+> HasDecoder<'a> for (A, B, C, D, E, F) {
     type Decoder = TupleDecoder<
         TupleDecoder<A::Decoder, TupleDecoder<B::Decoder, C::Decoder>>,
         TupleDecoder<D::Decoder, TupleDecoder<E::Decoder, F::Decoder>>,
@@ -91,8 +105,15 @@ impl<
     F: DecodeOwned,
 > DecodeOwned for (A, B, C, D, E, F) {}
 
-impl<A: Encode, B: Encode, C: Encode, D: Encode, E: Encode, F: Encode, G: Encode> Encode
-    for (A, B, C, D, E, F, G) {
+impl<
+    A: HasEncoder,
+    B: HasEncoder,
+    C: HasEncoder,
+    D: HasEncoder,
+    E: HasEncoder,
+    F: HasEncoder,
+    G: HasEncoder,
+> HasEncoder for (A, B, C, D, E, F, G) {
     type Encoder = TupleEncoder<
         TupleEncoder<A::Encoder, TupleEncoder<B::Encoder, C::Encoder>>,
         TupleEncoder<TupleEncoder<D::Encoder, E::Encoder>, TupleEncoder<F::Encoder, G::Encoder>>,
@@ -101,14 +122,14 @@ impl<A: Encode, B: Encode, C: Encode, D: Encode, E: Encode, F: Encode, G: Encode
 
 impl<
     'a,
-    A: Decode<'a>,
-    B: Decode<'a>,
-    C: Decode<'a>,
-    D: Decode<'a>,
-    E: Decode<'a>,
-    F: Decode<'a>,
-    G: Decode<'a>,
-> Decode<'a> for (A, B, C, D, E, F, G) {
+    A: HasDecoder<'a>,
+    B: HasDecoder<'a>,
+    C: HasDecoder<'a>,
+    D: HasDecoder<'a>,
+    E: HasDecoder<'a>,
+    F: HasDecoder<'a>,
+    G: HasDecoder<'a>,
+> HasDecoder<'a> for (A, B, C, D, E, F, G) {
     type Decoder = TupleDecoder<
         TupleDecoder<A::Decoder, TupleDecoder<B::Decoder, C::Decoder>>,
         TupleDecoder<TupleDecoder<D::Decoder, E::Decoder>, TupleDecoder<F::Decoder, G::Decoder>>,
@@ -125,8 +146,16 @@ impl<
     G: DecodeOwned,
 > DecodeOwned for (A, B, C, D, E, F, G) {}
 
-impl<A: Encode, B: Encode, C: Encode, D: Encode, E: Encode, F: Encode, G: Encode, H: Encode> Encode
-    for (A, B, C, D, E, F, G, H) {
+impl<
+    A: HasEncoder,
+    B: HasEncoder,
+    C: HasEncoder,
+    D: HasEncoder,
+    E: HasEncoder,
+    F: HasEncoder,
+    G: HasEncoder,
+    H: HasEncoder,
+> HasEncoder for (A, B, C, D, E, F, G, H) {
     type Encoder = TupleEncoder<
         TupleEncoder<TupleEncoder<A::Encoder, B::Encoder>, TupleEncoder<C::Encoder, D::Encoder>>,
         TupleEncoder<TupleEncoder<E::Encoder, F::Encoder>, TupleEncoder<G::Encoder, H::Encoder>>,
@@ -135,15 +164,15 @@ impl<A: Encode, B: Encode, C: Encode, D: Encode, E: Encode, F: Encode, G: Encode
 
 impl<
     'a,
-    A: Decode<'a>,
-    B: Decode<'a>,
-    C: Decode<'a>,
-    D: Decode<'a>,
-    E: Decode<'a>,
-    F: Decode<'a>,
-    G: Decode<'a>,
-    H: Decode<'a>,
-> Decode<'a> for (A, B, C, D, E, F, G, H) {
+    A: HasDecoder<'a>,
+    B: HasDecoder<'a>,
+    C: HasDecoder<'a>,
+    D: HasDecoder<'a>,
+    E: HasDecoder<'a>,
+    F: HasDecoder<'a>,
+    G: HasDecoder<'a>,
+    H: HasDecoder<'a>,
+> HasDecoder<'a> for (A, B, C, D, E, F, G, H) {
     type Decoder = TupleDecoder<
         TupleDecoder<TupleDecoder<A::Decoder, B::Decoder>, TupleDecoder<C::Decoder, D::Decoder>>,
         TupleDecoder<TupleDecoder<E::Decoder, F::Decoder>, TupleDecoder<G::Decoder, H::Decoder>>,

@@ -1,24 +1,24 @@
 // The coders of tuples of fourteen to sixteen fields.
-use crate::derive::{Decode, DecodeOwned, Encode};
+use crate::derive::{DecodeOwned, HasDecoder, HasEncoder};
 use bitcode_tuples::decoder::TupleDecoder;
 use bitcode_tuples::encoder::TupleEncoder;
 
 impl<
-    A: Encode,
-    B: Encode,
-    C: Encode,
-    D: Encode,
-    E: Encode,
-    F: Encode,
-    G: Encode,
-    H: Encode,
-    I: Encode,
-    J: Encode,
-    K: Encode,
-    L: Encode,
-    M: Encode,
-    N: Encode,
-> Encode for (A, B, C, D, E, F, G, H, I, J, K, L, M, N) {
+    A: HasEncoder,
+    B: HasEncoder,
+    C: HasEncoder,
+    D: HasEncoder,
+    E: HasEncoder,
+    F: HasEncoder,
+    G: HasEncoder,
+    H: HasEncoder,
+    I: HasEncoder,
+    J: HasEncoder,
+    K: HasEncoder,
+    L: HasEncoder,
+    M: HasEncoder,
+    N: HasEncoder,
+> HasEncoder for (A, B, C, D, E, F, G, H, I, J, K, L, M, N) {
     type Encoder = TupleEncoder<
         TupleEncoder<
             TupleEncoder<A::Encoder, TupleEncoder<B::Encoder, C::Encoder>>,
@@ -39,21 +39,21 @@ impl<
 
 impl<
     'a,
-    A: Decode<'a>,
-    B: Decode<'a>,
-    C: Decode<'a>,
-    D: Decode<'a>,
-    E: Decode<'a>,
-    F: Decode<'a>,
-    G: Decode<'a>,
-    H: Decode<'a>,
-    I: Decode<'a>,
-    J: Decode<'a>,
-    K: Decode<'a>,
-    L: Decode<'a>,
-    M: Decode<'a>,
-    N: Decode<'a>,
-> Decode<'a> for (A, B, C, D, E, F, G, H, I, J, K, L, M, N) {
+    A: HasDecoder<'a>,
+    B: HasDecoder<'a>,
+    C: HasDecoder<'a>,
+    D: HasDecoder<'a>,
+    E: HasDecoder<'a>,
+    F: HasDecoder<'a>,
+    G: HasDecoder<'a>,
+    H: HasDecoder<'a>,
+    I: HasDecoder<'a>,
+    J: HasDecoder<'a>,
+    K: HasDecoder<'a>,
+    L: HasDecoder<'a>,
+    M: HasDecoder<'a>,
+    N: HasDecoder<'a>,
+> HasDecoder<'a> for (A, B, C, D, E, F, G, H, I, J, K, L, M, N) {
     type Decoder = TupleDecoder<
         TupleDecoder<
             TupleDecoder<A::Decoder, TupleDecoder<B::Decoder, C::Decoder>>,
@@ -90,22 +90,22 @@ impl<
 > DecodeOwned for (A, B, C, D, E, F, G, H, I, J, K, L, M, N) {}
 
 impl<
-    A: Encode,
-    B: Encode,
-    C: Encode,
-    D: Encode,
-    E: Encode,
-    F: Encode,
-    G: Encode,
-    H: Encode,
-    I: Encode,
-    J: Encode,
-    K: Encode,
-    L: Encode,
-    M: Encode,
-    N: Encode,
-    O: Encode,
-> Encode for (A, B, C, D, E, F, G, H, I, J, K, L, M, N, O) {
+    A: HasEncoder,
+    B: HasEncoder,
+    C: HasEncoder,
+    D: HasEncoder,
+    E: HasEncoder,
+    F: HasEncoder,
+    G: HasEncoder,
+    H: HasEncoder,
+    I: HasEncoder,
+    J: HasEncoder,
+    K: HasEncoder,
+    L: HasEncoder,
+    M: HasEncoder,
+    N: HasEncoder,
+    O: HasEncoder,
+> HasEncoder for (A, B, C, D, E, F, G, H, I, J, K, L, M, N, O) {
     type Encoder = TupleEncoder<
         TupleEncoder<
             TupleEncoder<A::Encoder, TupleEncoder<B::Encoder, C::Encoder>>,
@@ -129,22 +129,22 @@ impl<
 
 impl<
     'a,
-    A: Decode<'a>,
-    B: Decode<'a>,
-    C: Decode<'a>,
-    D: Decode<'a>,
-    E: Decode<'a>,
-    F: Decode<'a>,
-    G: Decode<'a>,
-    H: Decode<'a>,
-    I: Decode<'a>,
-    J: Decode<'a>,
-    K: Decode<'a>,
-    L: Decode<'a>,
-    M: Decode<'a>,
-    N: Decode<'a>,
-    O: Decode<'a>,
-> Decode<'a> for (A, B, C, D, E, F, G, H, I, J, K, L, M, N, O) {
+    A: HasDecoder<'a>,
+    B: HasDecoder<'a>,
+    C: HasDecoder<'a>,
+    D: HasDecoder<'a>,
+    E: HasDecoder<'a>,
+    F: HasDecoder<'a>,
+    G: HasDecoder<'a>,
+    H: HasDecoder<'a>,
+    I: HasDecoder<'a>,
+    J: HasDecoder<'a>,
+    K: HasDecoder<'a>,
+    L: HasDecoder<'a>,
+    M: HasDecoder<'a>,
+    N: HasDecoder<'a>,
+    O: HasDecoder<'a>,
+> HasDecoder<'a> for (A, B, C, D, E, F, G, H, I, J, K, L, M, N, O) {
     type Decoder = TupleDecoder<
         TupleDecoder<
             TupleDecoder<A::Decoder, TupleDecoder<B::Decoder, C::Decoder>>,
@@ -185,23 +185,23 @@ impl<
 > DecodeOwned for (A, B, C, D, E, F, G, H, I, J, K, L, M, N, O) {}
 
 impl<
-    A: Encode,
-    B: Encode,
-    C: Encode,
-    D: Encode,
-    E: Encode,
-    F: Encode,
-    G: Encode,
-    H: Encode,
-    I: Encode,
-    J: Encode,
-    K: Encode,
-    L: Encode,
-    M: Encode,
-    N: Encode,
-    O: Encode,
-    P: Encode,
-> Encode for (A, B, C, D, E, F, G, H, I, J, K, L, M, N, O, P) {
+    A: HasEncoder,
+    B: HasEncoder,
+    C: HasEncoder,
+    D: HasEncoder,
+    E: HasEncoder,
+    F: HasEncoder,
+    G: HasEncoder,
+    H: HasEncoder,
+    I: HasEncoder,
+    J: HasEncoder,
+    K: HasEncoder,
+    L: HasEncoder,
+    M: HasEncoder,
+    N: HasEncoder,
+    O: HasEncoder,
+    P: HasEncoder,
+> HasEncoder for (A, B, C, D, E, F, G, H, I, J, K, L, M, N, O, P) {
     type Encoder = TupleEncoder<
         TupleEncoder<
             TupleEncoder<
@@ -228,23 +228,23 @@ impl<
 
 impl<
     'a,
-    A: Decode<'a>,
-    B: Decode<'a>,
-    C: Decode<'a>,
-    D: Decode<'a>,
-    E: Decode<'a>,
-    F: Decode<'a>,
-    G: Decode<'a>,
-    H: Decode<'a>,
-    I: Decode<'a>,
-    J: Decode<'a>,
-    K: Decode<'a>,
-    L: Decode<'a>,
-    M: Decode<'a>,
-    N: Decode<'a>,
-    O: Decode<'a>,
-    P: Decode<'a>,
-> Decode<'a> for (A, B, C, D, E, F, G, H, I, J, K, L, M, N, O, P) {
+    A: HasDecoder<'a>,
+    B: HasDecoder<'a>,
+    C: HasDecoder<'a>,
+    D: HasDecoder<'a>,
+    E: HasDecoder<'a>,
+    F: HasDecoder<'a>,
+    G: HasDecoder<'a>,
+    H: HasDecoder<'a>,
+    I: HasDecoder<'a>,
+    J: HasDecoder<'a>,
+    K: HasDecoder<'a>,
+    L: HasDecoder<'a>,
+    M: HasDecoder<'a>,
+    N: HasDecoder<'a>,
+    O: HasDecoder<'a>,
+    P: HasDecoder<'a>,
+> HasDecoder<'a> for (A, B, C, D, E, F, G, H, I, J, K, L, M, N, O, P) {
     type Decoder = TupleDecoder<
         TupleDecoder<
             TupleDecoder<

@@ -1,22 +1,22 @@
 // The coders of tuples of twelve and thirteen fields.
-use crate::derive::{Decode, DecodeOwned, Encode};
+use crate::derive::{DecodeOwned, HasDecoder, HasEncoder};
 use bitcode_tuples::decoder::TupleDecoder;
 use bitcode_tuples::encoder::TupleEncoder;
 
 impl<
-    A: Encode,
-    B: Encode,
-    C: Encode,
-    D: Encode,
-    E: Encode,
-    F: Encode,
-    G: Encode,
-    H: Encode,
-    I: Encode,
-    J: Encode,
-    K: Encode,
-    L: Encode,
-> Encode for (A, B, C, D, E, F, G, H, I, J, K, L) {
+    A: HasEncoder,
+    B: HasEncoder,
+    C: HasEncoder,
+    D: HasEncoder,
+    E: HasEncoder,
+    F: HasEncoder,
+    G: HasEncoder,
+    H: HasEncoder,
+    I: HasEncoder,
+    J: HasEncoder,
+    K: HasEncoder,
+    L: HasEncoder,
+> HasEncoder for (A, B, C, D, E, F, G, H, I, J, K, L) {
     type Encoder = TupleEncoder<
         TupleEncoder<
             TupleEncoder<A::Encoder, TupleEncoder<B::Encoder, C::Encoder>>,
@@ -31,19 +31,19 @@ impl<
 
 impl<
     'a,
-    A: Decode<'a>,
-    B: Decode<'a>,
-    C: Decode<'a>,
-    D: Decode<'a>,
-    E: Decode<'a>,
-    F: Decode<'a>,
-    G: Decode<'a>,
-    H: Decode<'a>,
-    I: Decode<'a>,
-    J: Decode<'a>,
-    K: Decode<'a>,
-    L: Decode<'a>,
-> Decode<'a> for (A, B, C, D, E, F, G, H, I, J, K, L) {
+    A: HasDecoder<'a>,
+    B: HasDecoder<'a>,
+    C: HasDecoder<'a>,
+    D: HasDecoder<'a>,
+    E: HasDecoder<'a>,
+    F: HasDecoder<'a>,
+    G: HasDecoder<'a>,
+    H: HasDecoder<'a>,
+    I: HasDecoder<'a>,
+    J: HasDecoder<'a>,
+    K: HasDecoder<'a>,
+    L: HasDecoder<'a>,
+> HasDecoder<'a> for (A, B, C, D, E, F, G, H, I, J, K, L) {
     type Decoder = TupleDecoder<
         TupleDecoder<
             TupleDecoder<A::Decoder, TupleDecoder<B::Decoder, C::Decoder>>,
@@ -72,20 +72,20 @@ impl<
 > DecodeOwned for (A, B, C, D, E, F, G, H, I, J, K, L) {}
 
 impl<
-    A: Encode,
-    B: Encode,
-    C: Encode,
-    D: Encode,
-    E: Encode,
-    F: Encode,
-    G: Encode,
-    H: Encode,
-    I: Encode,
-    J: Encode,
-    K: Encode,
-    L: Encode,
-    M: Encode,
-> Encode for (A, B, C, D, E, F, G, H, I, J, K, L, M) {
+    A: HasEncoder,
+    B: HasEncoder,
+    C: HasEncoder,
+    D: HasEncoder,
+    E: HasEncoder,
+    F: HasEncoder,
+    G: HasEncoder,
+    H: HasEncoder,
+    I: HasEncoder,
+    J: HasEncoder,
+    K: HasEncoder,
+    L: HasEncoder,
+    M: HasEncoder,
+> HasEncoder for (A, B, C, D, E, F, G, H, I, J, K, L, M) {
     type Encoder = TupleEncoder<
         TupleEncoder<
             TupleEncoder<A::Encoder, TupleEncoder<B::Encoder, C::Encoder>>,
@@ -103,20 +103,20 @@ impl<
 
 impl<
     'a,
-    A: Decode<'a>,
-    B: Decode<'a>,
-    C: Decode<'a>,
-    D: Decode<'a>,
-    E: Decode<'a>,
-    F: Decode<'a>,
-    G: Decode<'a>,
-    H: Decode<'a>,
-    I: Decode<'a>,
-    J: Decode<'a>,
-    K: Decode<'a>,
-    L: Decode<'a>,
-    M: Decode<'a>,
-> Decode<'a> for (A, B, C, D, E, F, G, H, I, J, K, L, M) {
+    A: HasDecoder<'a>,
+    B: HasDecoder<'a>,
+    C: HasDecoder<'a>,
+    D: HasDecoder<'a>,
+    E: HasDecoder<'a>,
+    F: HasDecoder<'a>,
+    G: HasDecoder<'a>,
+    H: HasDecoder<'a>,
+    I: HasDecoder<'a>,
+    J: HasDecoder<'a>,
+    K: HasDecoder<'a>,
+    L: HasDecoder<'a>,
+    M: HasDecoder<'a>,
+> HasDecoder<'a> for (A, B, C, D, E, F, G, H, I, J, K, L, M) {
     type Decoder = TupleDecoder<
         TupleDecoder<
             TupleDecoder<A::Decoder, TupleDecoder<B::Decoder, C::Decoder>>,

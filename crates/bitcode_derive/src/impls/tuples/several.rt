@@ -1,19 +1,19 @@
 // The coders of tuples of nine to eleven fields.
-use crate::derive::{Decode, DecodeOwned, Encode};
+use crate::derive::{DecodeOwned, HasDecoder, HasEncoder};
 use bitcode_tuples::decoder::TupleDecoder;
 use bitcode_tuples::encoder::TupleEncoder;
 
 impl<
-    A: Encode,
-    B: Encode,
-    C: Encode,
-    D: Encode,
-    E: Encode,
-    F: Encode,
-    G: Encode,
-    H: Encode,
-    I: Encode,
-> Encode for (A, B, C, D, E, F, G, H, I) {
+    A: HasEncoder,
+    B: HasEncoder,
+    C: HasEncoder,
+    D: HasEncoder,
+    E: HasEncoder,
+    F: HasEncoder,
+    G: HasEncoder,
+    H: HasEncoder,
+    I: HasEncoder,
+> HasEncoder for (A, B, C, D, E, F, G, H, I) {
     type Encoder = TupleEncoder<
         TupleEncoder<TupleEncoder<A::Encoder, B::Encoder>, TupleEncoder<C::Encoder, D::Encoder>>,
         TupleEncoder<
@@ -25,16 +25,16 @@ impl<
 
 impl<
     'a,
-    A: Decode<'a>,
-    B: Decode<'a>,
-    C: Decode<'a>,
-    D: Decode<'a>,
-    E: Decode<'a>,
-    F: Decode<'a>,
-    G: Decode<'a>,
-    H: Decode<'a>,
-    I: Decode<'a>,
-> Decode<'a> for (A, B, C, D, E, F, G, H, I) {
+    A: HasDecoder<'a>,
+    B: HasDecoder<'a>,
+    C: HasDecoder<'a>,
+    D: HasDecoder<'a>,
+    E: HasDecoder<'a>,
+    F: HasDecoder<'a>,
+    G: HasDecoder<'a>,
+    H: HasDecoder<'a>,
+    I: HasDecoder<'a>,
+> HasDecoder<'a> for (A, B, C, D, E, F, G, H, I) {
     type Decoder = TupleDecoder<
         TupleDecoder<TupleDecoder<A::Decoder, B::Decoder>, TupleDecoder<C::Decoder, D::Decoder>>,
         TupleDecoder<
@@ -57,17 +57,17 @@ impl<
 > DecodeOwned for (A, B, C, D, E, F, G, H, I) {}
 
 impl<
-    A: Encode,
-    B: Encode,
-    C: Encode,
-    D: Encode,
-    E: Encode,
-    F: Encode,
-    G: Encode,
-    H: Encode,
-    I: Encode,
-    J: Encode,
-> Encode for (A, B, C, D, E, F, G, H, I, J) {
+    A: HasEncoder,
+    B: HasEncoder,
+    C: HasEncoder,
+    D: HasEncoder,
+    E: HasEncoder,
+    F: HasEncoder,
+    G: HasEncoder,
+    H: HasEncoder,
+    I: HasEncoder,
+    J: HasEncoder,
+> HasEncoder for (A, B, C, D, E, F, G, H, I, J) {
     type Encoder = TupleEncoder<
         TupleEncoder<
             TupleEncoder<A::Encoder, B::Encoder>,
@@ -82,17 +82,17 @@ impl<
 
 impl<
     'a,
-    A: Decode<'a>,
-    B: Decode<'a>,
-    C: Decode<'a>,
-    D: Decode<'a>,
-    E: Decode<'a>,
-    F: Decode<'a>,
-    G: Decode<'a>,
-    H: Decode<'a>,
-    I: Decode<'a>,
-    J: Decode<'a>,
-> Decode<'a> for (A, B, C, D, E, F, G, H, I, J) {
+    A: HasDecoder<'a>,
+    B: HasDecoder<'a>,
+    C: HasDecoder<'a>,
+    D: HasDecoder<'a>,
+    E: HasDecoder<'a>,
+    F: HasDecoder<'a>,
+    G: HasDecoder<'a>,
+    H: HasDecoder<'a>,
+    I: HasDecoder<'a>,
+    J: HasDecoder<'a>,
+> HasDecoder<'a> for (A, B, C, D, E, F, G, H, I, J) {
     type Decoder = TupleDecoder<
         TupleDecoder<
             TupleDecoder<A::Decoder, B::Decoder>,
@@ -119,18 +119,18 @@ impl<
 > DecodeOwned for (A, B, C, D, E, F, G, H, I, J) {}
 
 impl<
-    A: Encode,
-    B: Encode,
-    C: Encode,
-    D: Encode,
-    E: Encode,
-    F: Encode,
-    G: Encode,
-    H: Encode,
-    I: Encode,
-    J: Encode,
-    K: Encode,
-> Encode for (A, B, C, D, E, F, G, H, I, J, K) {
+    A: HasEncoder,
+    B: HasEncoder,
+    C: HasEncoder,
+    D: HasEncoder,
+    E: HasEncoder,
+    F: HasEncoder,
+    G: HasEncoder,
+    H: HasEncoder,
+    I: HasEncoder,
+    J: HasEncoder,
+    K: HasEncoder,
+> HasEncoder for (A, B, C, D, E, F, G, H, I, J, K) {
     type Encoder = TupleEncoder<
         TupleEncoder<
             TupleEncoder<A::Encoder, B::Encoder>,
@@ -145,18 +145,18 @@ impl<
 
 impl<
     'a,
-    A: Decode<'a>,
-    B: Decode<'a>,
-    C: Decode<'a>,
-    D: Decode<'a>,
-    E: Decode<'a>,
-    F: Decode<'a>,
-    G: Decode<'a>,
-    H: Decode<'a>,
-    I: Decode<'a>,
-    J: Decode<'a>,
-    K: Decode<'a>,
-> Decode<'a> for (A, B, C, D, E, F, G, H, I, J, K) {
+    A: HasDecoder<'a>,
+    B: HasDecoder<'a>,
+    C: HasDecoder<'a>,
+    D: HasDecoder<'a>,
+    E: HasDecoder<'a>,
+    F: HasDecoder<'a>,
+    G: HasDecoder<'a>,
+    H: HasDecoder<'a>,
+    I: HasDecoder<'a>,
+    J: HasDecoder<'a>,
+    K: HasDecoder<'a>,
+> HasDecoder<'a> for (A, B, C, D, E, F, G, H, I, J, K) {
     type Decoder = TupleDecoder<
         TupleDecoder<
             TupleDecoder<A::Decoder, B::Decoder>,
