@@ -6,59 +6,112 @@
 //     let pair: (bool, u16) = decode(alloc, &bytes)?;   // (true, 7)
 #![tactic(auto)]
 
-pub use bitcode_arrays::array::{ArrayDecoder, ArrayEncoder};
-pub use bitcode_coder::bool::{BoolDecoder, BoolEncoder};
-pub use bitcode_coder::coder::{Decoder, Encoder, MAX_VECTORED_CHUNK, View};
-pub use bitcode_coder::length::{Len, LengthDecoder, LengthEncoder};
-pub use bitcode_coder::str::{ArrayStringDecoder, AsText, StrDecoder, StrEncoder};
-pub use bitcode_coder::u8_char::{U8Char, U8CharEncoder};
+pub use bitcode_arrays::array::ArrayDecoder;
+pub use bitcode_arrays::array::ArrayEncoder;
+pub use bitcode_coder::bool::BoolDecoder;
+pub use bitcode_coder::bool::BoolEncoder;
+pub use bitcode_coder::coder::Decoder;
+pub use bitcode_coder::coder::Encoder;
+pub use bitcode_coder::coder::MAX_VECTORED_CHUNK;
+pub use bitcode_coder::coder::View;
+pub use bitcode_coder::length::Len;
+pub use bitcode_coder::length::LengthDecoder;
+pub use bitcode_coder::length::LengthEncoder;
+pub use bitcode_coder::str::ArrayStringDecoder;
+pub use bitcode_coder::str::AsText;
+pub use bitcode_coder::str::StrDecoder;
+pub use bitcode_coder::str::StrEncoder;
+pub use bitcode_coder::u8_char::U8Char;
+pub use bitcode_coder::u8_char::U8CharEncoder;
 pub use bitcode_columns::histogram::histogram;
-pub use bitcode_columns::pack::{
-    pack_bools, pack_bytes, pack_bytes_less_than, unpack_bools, unpack_bytes,
-    unpack_bytes_less_than,
-};
-pub use bitcode_columns::pack_ints::{minmax, pack_ints, unpack_ints};
-pub use bitcode_containers::elements::{decode_each, encode_each, encode_lent};
+pub use bitcode_columns::pack::pack_bools;
+pub use bitcode_columns::pack::pack_bytes;
+pub use bitcode_columns::pack::pack_bytes_less_than;
+pub use bitcode_columns::pack::unpack_bools;
+pub use bitcode_columns::pack::unpack_bytes;
+pub use bitcode_columns::pack::unpack_bytes_less_than;
+pub use bitcode_columns::pack_ints::minmax;
+pub use bitcode_columns::pack_ints::pack_ints;
+pub use bitcode_columns::pack_ints::unpack_ints;
+pub use bitcode_containers::elements::decode_each;
+pub use bitcode_containers::elements::encode_each;
+pub use bitcode_containers::elements::encode_lent;
 pub use bitcode_containers::fixed_capacity::ArrayVecDecoder;
 pub use bitcode_containers::lends::Lends;
-pub use bitcode_containers::map::{MapDecoder, MapEncoder};
+pub use bitcode_containers::map::MapDecoder;
+pub use bitcode_containers::map::MapEncoder;
 pub use bitcode_containers::mappings::Mapping;
-pub use bitcode_containers::sequences::{FromElements, Sequence};
-pub use bitcode_containers::vec::{VecDecoder, VecEncoder};
+pub use bitcode_containers::sequences::FromElements;
+pub use bitcode_containers::sequences::Sequence;
+pub use bitcode_containers::vec::VecDecoder;
+pub use bitcode_containers::vec::VecEncoder;
 pub use bitcode_derive::buffer::Buffer;
-pub use bitcode_derive::derive::{Decode, DecodeOwned, Encode, HasDecoder, HasEncoder};
-pub use bitcode_derive::whole::{decode, encode, invalid_enum_variant};
-pub use bitcode_input::consume::{
-    consume_byte, consume_byte_arrays, consume_bytes, expect_eof, mul_length,
-};
-pub use bitcode_input::error::{Error, Reason};
-pub use bitcode_input::fast::{
-    CowSlice, FastSlice, FastVec, NextUnchecked, PushUnchecked, SliceImpl, VecImpl,
-};
-pub use bitcode_input::refuse::{err, error};
-pub use bitcode_integers::checked::{Checked, CheckedIntDecoder, Nanosecond};
+pub use bitcode_derive::derive::Decode;
+pub use bitcode_derive::derive::DecodeOwned;
+pub use bitcode_derive::derive::Encode;
+pub use bitcode_derive::derive::HasDecoder;
+pub use bitcode_derive::derive::HasEncoder;
+pub use bitcode_derive::whole::decode;
+pub use bitcode_derive::whole::encode;
+pub use bitcode_derive::whole::invalid_enum_variant;
+pub use bitcode_input::consume::consume_byte;
+pub use bitcode_input::consume::consume_byte_arrays;
+pub use bitcode_input::consume::consume_bytes;
+pub use bitcode_input::consume::expect_eof;
+pub use bitcode_input::consume::mul_length;
+pub use bitcode_input::error::Error;
+pub use bitcode_input::error::Reason;
+pub use bitcode_input::fast::CowSlice;
+pub use bitcode_input::fast::FastSlice;
+pub use bitcode_input::fast::FastVec;
+pub use bitcode_input::fast::NextUnchecked;
+pub use bitcode_input::fast::PushUnchecked;
+pub use bitcode_input::fast::SliceImpl;
+pub use bitcode_input::fast::VecImpl;
+pub use bitcode_input::refuse::err;
+pub use bitcode_input::refuse::error;
+pub use bitcode_integers::checked::Checked;
+pub use bitcode_integers::checked::CheckedIntDecoder;
+pub use bitcode_integers::checked::Nanosecond;
 pub use bitcode_integers::column_int::ColumnInt;
-pub use bitcode_integers::int::{AsInt, IntDecoder, IntEncoder, Integer};
-pub use bitcode_numbers::int_types::{Byte, Int, SizedInt, SizedUInt};
-pub use bitcode_parts::convert::{
-    ConvertFrom, ConvertFromDecoder, ConvertInto, ConvertIntoEncoder,
-};
-pub use bitcode_parts::durations::{DurationDecode, DurationEncode};
+pub use bitcode_integers::int::AsInt;
+pub use bitcode_integers::int::IntDecoder;
+pub use bitcode_integers::int::IntEncoder;
+pub use bitcode_integers::int::Integer;
+pub use bitcode_numbers::int_types::Byte;
+pub use bitcode_numbers::int_types::Int;
+pub use bitcode_numbers::int_types::SizedInt;
+pub use bitcode_numbers::int_types::SizedUInt;
+pub use bitcode_parts::convert::ConvertFrom;
+pub use bitcode_parts::convert::ConvertFromDecoder;
+pub use bitcode_parts::convert::ConvertInto;
+pub use bitcode_parts::convert::ConvertIntoEncoder;
+pub use bitcode_parts::durations::DurationDecode;
+pub use bitcode_parts::durations::DurationEncode;
 pub use bitcode_parts::empty::EmptyCoder;
-pub use bitcode_parts::option::{OptionDecoder, OptionEncoder};
-pub use bitcode_parts::result::{ResultDecoder, ResultEncoder};
+pub use bitcode_parts::option::OptionDecoder;
+pub use bitcode_parts::option::OptionEncoder;
+pub use bitcode_parts::result::ResultDecoder;
+pub use bitcode_parts::result::ResultEncoder;
 pub use bitcode_parts::uuids::UuidConversion;
-pub use bitcode_parts::variant::{VariantDecoder, VariantEncoder, encode_payload};
-pub use bitcode_pointers::deref::{DerefEncoder, Points};
-pub use bitcode_pointers::from::{FromDecoder, FromValue};
+pub use bitcode_parts::variant::VariantDecoder;
+pub use bitcode_parts::variant::VariantEncoder;
+pub use bitcode_parts::variant::encode_payload;
+pub use bitcode_pointers::deref::DerefEncoder;
+pub use bitcode_pointers::deref::Points;
+pub use bitcode_pointers::from::FromDecoder;
+pub use bitcode_pointers::from::FromValue;
 pub use bitcode_shapes::keys::Key;
 pub use bitcode_shapes::no_variants::NoVariants;
 pub use bitcode_shapes::same_arrays::SameArrays;
-pub use bitcode_shapes::sequences::{told_behind, told_each};
-pub use bitcode_shapes::shaped::{Made, Shaped};
+pub use bitcode_shapes::sequences::told_behind;
+pub use bitcode_shapes::sequences::told_each;
+pub use bitcode_shapes::shaped::Made;
+pub use bitcode_shapes::shaped::Shaped;
 pub use bitcode_tuples::decoder::TupleDecoder;
 pub use bitcode_tuples::encoder::TupleEncoder;
-pub use bitcode_tuples::fields::{Fields, FieldsEncoder};
+pub use bitcode_tuples::fields::Fields;
+pub use bitcode_tuples::fields::FieldsEncoder;
 
 /// The traits that coders meet, and the result of their calls.
 pub mod coder {

@@ -1,19 +1,20 @@
 // The coders of maps: the lengths of all, behind them the columns of all keys, and behind these those of all values.
 #![tactic(auto, unfolding(bitcode_coder::specs::LengthCoders::lengths_left, bitcode_coder::specs::LengthCoders::lengths_sum))]
 
-ghost use Rattle.std.specs.Prelude.{◌≡◌, [], None, map, false, min};
+ghost use Rattle.std.specs.Prelude.{◌≡◌, ◌<◌, [], None, length, map, false, min, IfOk, IfErr};
 ghost use Rattle.std.proofs.Common.{sym, ap, ap₂, ◌∙◌};
 ghost use Rattle.bitcode_shapes.specs.Shape.{Shape, map_shape};
-ghost use Rattle.bitcode_coder.specs.Coding.{written_columns};
+ghost use Rattle.bitcode_coder.specs.Coding.{written_columns, TakesDatum};
 ghost use Rattle.bitcode_coder.specs.Columns.{lengths, one, two};
 ghost use Rattle.bitcode_coder.specs.LengthCoders.{written_lengths, length_room};
 ghost use Rattle.bitcode_coder.specs.Spelling.{natural};
 
 use crate::mappings::Mapping;
+use crate::sequences::FromElements;
 use crate::vec::VecDecoder;
 use bitcode_coder::coder::{Buffer, Decoder, Encoder, HoldsColumns, HoldsData, View};
 use bitcode_coder::length::LengthEncoder;
-use bitcode_input::error::Error;
+use bitcode_input::error::{Error, Reason};
 use bitcode_shapes::keys::Key;
 use bitcode_shapes::shaped::Made;
 use bitcode_tuples::decoder::TupleDecoder;
@@ -127,6 +128,25 @@ impl<'a, K: View<'a>, V: View<'a>> View<'a> for MapDecoder<'a, K, V> {
     }
 }
 
+impl<'a, K, V> MapDecoder<'a, K, V> {
+    /// Makes a container of the next length and so many pairs. One length is left.
+    ///
+    /// A decoder of a map of one's own is this call. `out of memory` is its only refusal.
+    ///
+    /// ```
+    /// let names: Names = maps.decode_as()?; // of a `Names: FromElements<Part = (u8, String)>`
+    /// ```
+    pub fn decode_as<C: FromElements>(&mut self) -> Result<C, Error>
+    where
+        TupleDecoder<K, V>: Decoder<'a, C::Part>,
+        requires { 0 < length (⟦<VecDecoder<'a, TupleDecoder<K, V>> as HoldsData>⟧.held self.old.entries) }
+        ensures made { IfOk result (λ t. TakesDatum C.makes t (⟦<VecDecoder<'a, TupleDecoder<K, V>> as HoldsData>⟧.held self.old.entries) (⟦<VecDecoder<'a, TupleDecoder<K, V>> as HoldsData>⟧.held self.new.entries)) }
+        ensures refused { IfErr result (λ e. e.reason ≡ Reason.OutOfMemory) }
+    {
+        self.entries.decode_as()
+    }
+}
+
 impl<'a, P: Key + Made + Ord + Drop, Q: Made + Drop, K: Decoder<'a, P>, V: Decoder<'a, Q>> Decoder<
     'a,
     BTreeMap<P, Q>,
@@ -134,7 +154,7 @@ impl<'a, P: Key + Made + Ord + Drop, Q: Made + Drop, K: Decoder<'a, P>, V: Decod
     ghost makes_free = { false };
 
     fn decode(&mut self) -> Result<BTreeMap<P, Q>, Error> {
-        self.entries.decode_as()
+        self.decode_as()
     }
 
     ghost same_shape = { ap₂ map_shape K.same_shape V.same_shape };
@@ -147,7 +167,7 @@ impl<'a, P: Key + Made + Hash + Drop, Q: Made + Drop, K: Decoder<'a, P>, V: Deco
     ghost makes_free = { false };
 
     fn decode(&mut self) -> Result<HashMap<P, Q>, Error> {
-        self.entries.decode_as()
+        self.decode_as()
     }
 
     ghost same_shape = { ap₂ map_shape K.same_shape V.same_shape };

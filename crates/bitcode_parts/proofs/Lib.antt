@@ -1,4 +1,5 @@
 pub mod ChoiceLemmas
 pub mod ChoiceReadingLemmas
 pub mod ChoiceWritingLemmas
+pub mod BareVariantLemmas
 pub mod TwoVariantLemmas

@@ -3,7 +3,7 @@ ghost use Rattle.std.specs.Prelude.{◌≡◌, ◌<◌, ◌≤◌, ◌⊎◌};
 
 use bitcode::coder::Buffer as _;
 use bitcode::{
-    CowSlice, Error, Reason, VariantDecoder, VariantEncoder, histogram, pack_bytes_less_than,
+    CowSlice, Error, Reason, VariantDecoder, VariantEncoder, View, histogram, pack_bytes_less_than,
     unpack_bytes_less_than,
 };
 use bitcode_checks::Got;
@@ -103,6 +103,17 @@ fn refuses<const N: usize>(
     } else {
         Err(Got::AnotherValue)
     }
+}
+
+/// How many bytes are left behind so many data.
+fn left_behind<'a, V: View<'a> + Drop>(
+    alloc: Global,
+    mut input: &'a [u8],
+    count: usize,
+) -> Result<usize, Error> {
+    let mut data = V::new(alloc);
+    data.populate(&mut input, count)?;
+    Ok(input.len())
 }
 
 /// So many of `N` variants are counted so.
@@ -289,5 +300,19 @@ fn bytes_are_counted_and_packed_below_a_bound(rt: HostRuntime) -> Result<(), Fai
     let mut out = vec![in alloc; 9u8]?;
     pack_bytes_less_than::<3>(&[2, 0, 1, 2, 2], &mut out)?;
     assert_eq!(rt; out.as_slice(), [9, 227].as_slice());
+    Ok(())
+}
+
+#[test]
+fn variants_are_data(rt: HostRuntime) -> Result<(), Error> {
+    let left = left_behind::<VariantDecoder<3, true>>(rt.alloc(), &[5, 7], 3)?;
+    assert!(rt; left == 1);
+    let refused = left_behind::<VariantDecoder<5, false>>(rt.alloc(), &[5], 1);
+    assert!(rt;
+        refused
+            == Err(Error {
+                reason: Reason::InvalidPacking
+            })
+    );
     Ok(())
 }

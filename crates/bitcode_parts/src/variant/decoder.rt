@@ -5,7 +5,10 @@ ghost use Rattle.std.specs.Prelude.{◌≡◌, ◌≢◌, false, ◌<◌, [], �
 ghost use Rattle.bitcode_columns.specs.Counts.{AreCounts};
 ghost use Rattle.bitcode_columns.specs.Reading.{Reads, IsEndOf, NamesVariantFault, variants_stand_raw};
 ghost use Rattle.bitcode_columns.specs.VariantColumn.{SpellsVariants};
+ghost use Rattle.bitcode_parts.specs.BareVariants.{bare_shape, bare_choices};
+ghost use Rattle.bitcode_parts.specs.VariantCoders.{variants_left, variant_counts};
 
+use bitcode_coder::coder::{HoldsData, View};
 use bitcode_columns::pack::unpack_bytes_less_than;
 use bitcode_input::error::{Error, Reason};
 use bitcode_input::fast::CowSlice;
@@ -30,8 +33,6 @@ pub struct VariantDecoder<'a, const N: usize, const C_STYLE: bool> {
 }
 
 impl<'a, const N: usize, const C_STYLE: bool> VariantDecoder<'a, N, C_STYLE> {
-    ghost use Rattle.bitcode_parts.specs.VariantCoders.{variants_left, variant_counts};
-
     /// HoldsData no variants. Takes no memory.
     pub fn new(alloc: Global) -> Self
         ensures left { variants_left result ≡ [] }
@@ -79,5 +80,26 @@ impl<'a, const N: usize, const C_STYLE: bool> VariantDecoder<'a, N, C_STYLE> {
         ensures counts { variant_counts self.new ≡ variant_counts self.old }
     {
         self.variants.next_unchecked()
+    }
+}
+
+// The data of an enum whose variants all lack a payload.
+impl<'a, const N: usize, const C_STYLE: bool> HoldsData for VariantDecoder<'a, N, C_STYLE> {
+    ghost shape = { bare_shape N };
+
+    ghost held = { λ d. bare_choices (variants_left d) };
+}
+
+impl<'a, const N: usize, const C_STYLE: bool> View<'a> for VariantDecoder<'a, N, C_STYLE> {
+    ghost reads_free = { λ k input. IsTrue (variants_stand_raw N k) };
+
+    ghost faults = { λ reason k input. NamesVariantFault reason N k input };
+
+    fn new(alloc: Global) -> Self {
+        VariantDecoder::new(alloc)
+    }
+
+    fn populate(&mut self, input: &mut &'a [u8], k: usize) -> Result<(), Error> {
+        self.populate(input, k)
     }
 }

@@ -1,0 +1,7 @@
+// A struct and a container written by hand, as a user of the library writes them: nothing but the library is named.
+#![tactic(auto)]
+
+pub mod player;
+pub mod scores;
+#[cfg(test)]
+mod tests;

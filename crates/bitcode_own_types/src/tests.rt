@@ -1,0 +1,32 @@
+// With ample memory a player and scores are written and read back.
+use crate::player::Player;
+use crate::scores::Scores;
+use bitcode::{Error, decode, encode};
+
+#[test]
+fn a_player_comes_back(rt: HostRuntime) -> Result<(), Error> {
+    let alloc = rt.alloc();
+    let player = Player {
+        name: "ab",
+        level: 7,
+        points: 32768,
+    };
+    let bytes = encode(alloc, &player)?;
+    assert!(rt; bytes.as_slice() == [2, 97, 98, 7, 2, 0, 128].as_slice());
+    let again: Player<'_> = decode(alloc, bytes.as_slice())?;
+    assert!(rt; again == player);
+    Ok(())
+}
+
+#[test]
+fn scores_come_back(rt: HostRuntime) -> Result<(), Error> {
+    let alloc = rt.alloc();
+    let scores = Scores {
+        list: vec![in alloc; 0, 1, 3, 0, 3, 1]?,
+    };
+    let bytes = encode(alloc, &scores)?;
+    assert!(rt; bytes.as_slice() == [6, 4, 6, 52, 7].as_slice());
+    let again: Scores = decode(alloc, bytes.as_slice())?;
+    assert!(rt; again == scores);
+    Ok(())
+}
