@@ -1,13 +1,13 @@
 -- What is read and written of one column of bools or integers, in terms of data.
-use Rattle.std.proofs.Common.{◌≡◌, ℕ, ◌*◌, ◌%◌, ◌^◌, ◌<◌, ◌≤◌, Bool, true, false, ltb, leb, eqb, ◌==◌, Option, Some, None, ℤ, pos, negsuc, List, [], ◌∷◌, ◌++◌, length, map, drop, All, refl, sym, ap, subst, ◌∙◌, inl, inr, lit<, arith, Result, OnOk, IfErr, Ok, Err}
-use Rattle.std.proofs.lemmas.Bool.{cond_both}
+use Rattle.std.proofs.Common.{◌≡◌, ◌≢◌, ℕ, ◌*◌, ◌%◌, ◌^◌, ◌<◌, ◌≤◌, Bool, true, false, ltb, leb, eqb, ◌==◌, Option, Some, None, ℤ, pos, negsuc, List, [], ◌∷◌, ◌++◌, length, map, drop, All, refl, sym, ap, subst, ◌∙◌, inl, inr, lit<, arith, Result, OnOk, IsOk, IfErr, Ok, Err}
+use Rattle.std.proofs.lemmas.Bool.{cond_both, false≢true}
 use Rattle.std.proofs.lemmas.List.{length-map, map-append}
 use Rattle.std.proofs.lemmas.List.Elements.{All-map}
 use Rattle.std.proofs.lemmas.Result.{IfErr-weaker}
 use Rattle.std.proofs.lemmas.Simd.{map-map}
 use Rattle.bitcode_input.specs.declared.error.Error.{Error}
 use Rattle.bitcode_input.specs.declared.error.Reason.{Reason}
-use Rattle.bitcode_input.specs.declared.error.Reason.TheVariants.{Eof, InvalidPacking}
+use Rattle.bitcode_input.specs.declared.error.Reason.TheVariants.{Eof, InvalidPacking, OutOfMemory}
 use Rattle.bitcode_columns.specs.declared.pack.Base.TheVariants.{Two}
 use Rattle.bitcode_columns.specs.BoolColumn.{SpellsBools}
 use Rattle.bitcode_columns.specs.ByteColumn.{base_at_level, highest_byte_tag}
@@ -25,6 +25,7 @@ use Rattle.bitcode_shapes.specs.Shape.{Shape, Allowed, IsInWidth, IsAllowed, IsN
 use Rattle.bitcode_shapes.specs.Values.{int_shape}
 use Rattle.bitcode_coder.specs.Columns.{Kind, one, beside}
 use Rattle.bitcode_coder.specs.Spelling.{Spells, SpellsAs, truth, number_of_residue}
+use Rattle.bitcode_coder.specs.Faults.{NamesBoolsFault}
 use Rattle.bitcode_coder.specs.Coding.{IsReadingReason, IsReadingRefusal, JoinsListing, written_columns}
 
 -- ---- refused
@@ -87,6 +88,18 @@ pub bools_refused : (reason : Reason) (count : ℕ) (input : List ℕ) → Names
     → IsReadingRefusal bool_shape reason count input
 bools_refused reason count input named =
     refusal_of bool_shape truth SpellsBools bools_fault bools_fault-refuses (λ bytes ds s. s.columns) reason count input (missing_known _ input) named
+
+-- a fault that a reader names, and where it takes no memory
+pub names_unless_free : {T : Type 0} (r : Result T Error) (Named : Reason → Type 0) (free : Type 0) → IfErr r (λ e. Named e.reason)
+    → (free → IfErr r (λ e. e.reason ≢ OutOfMemory)) → IfErr r (λ e. Named e.reason × (free → e.reason ≢ OutOfMemory))
+names_unless_free (Ok x) Named free named raw = tt
+names_unless_free (Err e) Named free named raw = (named, raw)
+
+-- bools that are refused, and none of them is refused
+pub bools_exact : {T : Type 0} (r : Result T Error) (count : ℕ) (input : List ℕ) → IfErr r (λ e. Names e.reason (bools_fault count input)) → (count ≡ 0 → IsOk r)
+    → IfErr r (λ e. NamesBoolsFault e.reason count input)
+bools_exact (Ok x) count input named empty = tt
+bools_exact (Err e) count input named empty = (named, λ none. absurd (false≢true (empty none)))
 
 pub ints_refused : (width : ℕ) (signed : Bool) (reason : Reason) (count : ℕ) (input : List ℕ) → Names reason (ints_fault width count input)
     → IsReadingRefusal (int_shape width signed) reason count input

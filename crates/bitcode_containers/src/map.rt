@@ -110,8 +110,6 @@ impl<'a, D: HoldsData> HoldsData for MapDecoder<'a, D> {
 }
 
 impl<'a, D: View<'a>> View<'a> for MapDecoder<'a, D> {
-    ghost reads_free = { λ k input. ⟦<VecDecoder<'a, D> as View<'a>>⟧.reads_free k input };
-
     ghost faults = { λ reason k input. ⟦<VecDecoder<'a, D> as View<'a>>⟧.faults reason k input };
 
     fn new(alloc: Global) -> Self {

@@ -104,8 +104,8 @@ module _ {width : ℕ} {signed : Bool} {allowed : Allowed} {count : ℕ} {input 
   each_allowed = allowed_of_data r.spelled.columns.entries (subst (All (IsNumberOf width signed allowed)) r.spelled.columns.are r.spelled.of_shape)
 
   checked_refused : (reason : Reason) → reason ≢ OutOfMemory → NamesCheckedFault width signed allowed reason count input → ⊥
-  checked_refused reason other (in_column (inl memory)) = other memory.0
-  checked_refused reason other (in_column (inr fault)) =
+  checked_refused reason other (in_column (inl memory, free)) = other memory.0
+  checked_refused reason other (in_column (inr fault, free)) =
       (ints_fault-refuses width).refused count input reason fault entries_read.piece r.spelled.columns.entries rest entries_read.spelled entries_read.size entries_read.whole
   checked_refused reason other (not_allowed entries left is read broken) =
       let same = reads_once (SpellsInts-once width) read entries_read in
@@ -113,7 +113,7 @@ module _ {width : ℕ} {signed : Bool} {allowed : Allowed} {count : ℕ} {input 
 
 checked_reason : (width : ℕ) (signed : Bool) (allowed : Allowed) (reason : Reason) (count : ℕ) (input : List ℕ)
     → NamesCheckedFault width signed allowed reason count input → IsReadingReason reason
-checked_reason width signed allowed reason count input (in_column named) = (ints_refused width signed reason count input named).0
+checked_reason width signed allowed reason count input (in_column named) = (ints_refused width signed reason count input named.0).0
 checked_reason width signed allowed reason count input (not_allowed entries left is read broken) = subst IsReadingReason (sym is) tt
 
 pub checked_refusal : (width : ℕ) (signed : Bool) (allowed : Allowed) (reason : Reason) (count : ℕ) (input : List ℕ)

@@ -1,13 +1,14 @@
 // The coder that variants are read from.
 #![tactic(auto, unfolding(crate::specs::VariantCoders::variants_left, crate::specs::VariantCoders::variant_counts))]
 
-ghost use Rattle.std.specs.Prelude.{◌≡◌, ◌≢◌, false, ◌<◌, [], ◌∷◌, length, slice_index, IsTrue, OnOk, IfErr, OnErr};
+ghost use Rattle.std.specs.Prelude.{◌≡◌, false, ◌<◌, [], ◌∷◌, length, slice_index, OnOk, IfErr, OnErr};
 ghost use Rattle.bitcode_columns.specs.Counts.{AreCounts};
-ghost use Rattle.bitcode_columns.specs.Reading.{Reads, IsEndOf, NamesVariantFault, variants_stand_raw};
+ghost use Rattle.bitcode_columns.specs.Reading.{Reads, IsEndOf};
 ghost use Rattle.bitcode_columns.specs.VariantColumn.{SpellsVariants};
+ghost use Rattle.bitcode_coder.specs.Faults.{NamesVariantsFault};
 
 use bitcode_columns::pack::unpack_bytes_less_than;
-use bitcode_input::error::{Error, Reason};
+use bitcode_input::error::Error;
 use bitcode_input::fast::CowSlice;
 use std::alloc::Global;
 
@@ -51,9 +52,8 @@ impl<'a, const N: usize, const C_STYLE: bool> VariantDecoder<'a, N, C_STYLE> {
     pub fn populate(&mut self, input: &mut &'a [u8], k: usize) -> Result<(), Error>
         ensures read { OnOk result (Reads (SpellsVariants N) k input.old.now (variants_left self.new) input.new.now) }
         ensures counts { OnOk result (C_STYLE ≡ false → AreCounts N (variants_left self.new) (variant_counts self.new)) }
-        ensures refused { IfErr result (λ e. NamesVariantFault e.reason N k input.old.now) }
+        ensures refused { IfErr result (λ e. NamesVariantsFault N e.reason k input.old.now) }
         ensures rest { OnErr result (IsEndOf input.old.now input.new.now) }
-        ensures free { IsTrue (variants_stand_raw N k) → IfErr result (λ e. e.reason ≢ Reason.OutOfMemory) }
     {
         if C_STYLE {
             let [] = unpack_bytes_less_than::<N, 0>(self.alloc, input, k, &mut self.variants)?;

@@ -10,7 +10,7 @@ pub returns-in_err-unpack_ints-clause-refused : goal.returns-in_err-unpack_ints-
 returns-in_err-unpack_ints-clause-refused c =
     let refused = err_from_is_err_and c.from_residual-in_err-unpack_ints.result c.from_residual-in_err-unpack_ints.ensures.1 in
     rw (refused.1, refused.2) (fault_of_large _ c.count_escapes.result c.in_ok-unpack_bytes.ensures.read (c.count_escapes.ensures ∙ ap escapes c.as_slice.ensures)
-    c.in_err-unpack_ints.ensures.refused)
+    (c.in_err-unpack_ints.ensures.refused, c.in_err-unpack_ints.ensures.raw))
 
 pub returns-in_err-unpack_ints-clause-rest : goal.returns-in_err-unpack_ints-clause-rest
 returns-in_err-unpack_ints-clause-rest c =
