@@ -73,7 +73,8 @@ impl<K: Buffer, V: Buffer> Buffer for MapEncoder<K, V> {
     }
 }
 
-impl<M: Mapping, K: Buffer + Encoder<M::Key>, V: Buffer + Encoder<M::Value>> Encoder<M> for MapEncoder<K, V> {
+impl<M: Mapping, K: Buffer + Encoder<M::Key>, V: Buffer + Encoder<M::Value>> Encoder<M>
+    for MapEncoder<K, V> {
     fn encode(&mut self, t: &M) -> Result<(), Error> {
         t.told();
         let count = t.entry_count();

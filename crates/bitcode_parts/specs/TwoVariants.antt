@@ -1,13 +1,9 @@
 -- Reading the choices of two variants: which fault is first.
-use Rattle.std.specs.Prelude.{ℕ, List, IsTrue, ◌⊎◌}
+use Rattle.std.specs.Prelude.{ℕ, List, ◌⊎◌}
 use Rattle.bitcode_input.specs.declared.error.Reason.{Reason}
 use Rattle.bitcode_columns.specs.Counts.{count_of}
-use Rattle.bitcode_columns.specs.Reading.{Reads}
-use Rattle.bitcode_columns.specs.VariantColumn.{SpellsVariants}
-use Rattle.bitcode_shapes.specs.Datum.{Datum}
 use Rattle.bitcode_shapes.specs.Shape.{Shape}
 use Rattle.bitcode_coder.specs.Faults.{NamesVariantsFault}
-use Rattle.bitcode_coder.specs.Spelling.{Spells}
 use Rattle.bitcode_parts.specs.Payloads.{FaultsBehindVariants, FaultsBehindPayloads}
 
 -- the variants are at fault, or behind them the payloads of the first variant, or behind those the payloads of the second
