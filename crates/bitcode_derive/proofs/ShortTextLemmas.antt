@@ -35,9 +35,9 @@ sum_free reason is total =
 -- a byte column that stands raw, and no large lengths behind it
 module _ (input : List ℕ) (below : slice_index input 0 < 255) where
   lengths_free : (reason : Reason) → reason ≡ OutOfMemory → NamesLengthFault reason 1 input → ⊥
-  lengths_free reason is (in_short named) = named.1 refl is
+  lengths_free reason is (in_short named) = named.free refl is
   lengths_free reason is (in_large {short = short} {middle = middle} read named) =
-      named.1 (subst (λ n. IsTrue (ints_stand_raw 8 n middle)) (sym (no_escape short input middle below read)) refl) is
+      named.free (subst (λ n. IsTrue (ints_stand_raw 8 n middle)) (sym (no_escape short input middle below read)) refl) is
   lengths_free reason is (in_sum {short = short} {large = large} read fault) = sum_free reason is (sum (lengths_from short large)) fault
 
   texts_free : (reason : Reason) → reason ≡ OutOfMemory → NamesTextFault reason 1 input → ⊥

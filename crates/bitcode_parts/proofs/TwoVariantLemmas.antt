@@ -5,7 +5,6 @@ use Rattle.std.proofs.Common.{◌≡◌, ℕ, List, [], ◌∷◌, ◌++◌, get
 use Rattle.std.specs.Prelude.{◌⊎◌}
 use Rattle.std.specs.Result.{IsErrAnd, OnErr}
 use Rattle.bitcode_input.specs.declared.error.Error.{Error}
-use Rattle.bitcode_input.specs.declared.error.Reason.{Reason}
 use Rattle.bitcode_columns.specs.Counts.{AreCounts}
 use Rattle.bitcode_columns.specs.Reading.{Reads, IsEndOf}
 use Rattle.bitcode_columns.specs.VariantColumn.{SpellsVariants}
@@ -18,7 +17,6 @@ use Rattle.bitcode_coder.specs.Spelling.{Spells, natural}
 use Rattle.bitcode_coder.specs.Coding.{written_columns, IsReadingRefusal, JoinsListing, PassesWithListing}
 use Rattle.bitcode_coder.proofs.LengthPartLemmas.{ends_behind_read}
 use Rattle.bitcode_parts.specs.Payloads.{choices_of}
-use Rattle.bitcode_parts.specs.TwoVariants.{TwoVariantsFault}
 use Rattle.bitcode_parts.proofs.ChoiceReadingLemmas.{reads_choices, refuses_variants, refuses_payloads, refuses_first, refuses_later}
 use Rattle.bitcode_parts.proofs.ChoiceWritingLemmas.{joins_here, joins_later, joins_choice, passes_here, passes_later, passes_choice}
 
@@ -30,16 +28,7 @@ pub variants_stopped : {T : Type 0} (s u : Shape) (k : ℕ) (old : List ℕ) (e 
 variants_stopped s u k old e (Ok x) stopped fault = absurd stopped
 variants_stopped s u k old e (Err f) stopped fault =
     subst (λ (x : Error). IsReadingRefusal (choice_shape (shape_and s (shape_and u no_shapes))) x.reason k old) (sym stopped)
-    (refuses_variants (shape_and s (shape_and u no_shapes)) e.reason k old fault.0)
-
--- the variants were read, and the payloads of the first were refused: by a fault of theirs
-pub first_exact : (s : Shape) (first second : Reason → ℕ → List ℕ → Type 0) {k k0 : ℕ} {old middle entries counts : List ℕ}
-    → Reads (SpellsVariants 2) k old entries middle → AreCounts 2 entries counts → k0 ≡ get_or counts 0 0 → {T : Type 0} (e : Error) (r : Result T Error)
-    → IsErrAnd r (λ f. f ≡ e) → first e.reason k0 middle → IfErr r (λ f. TwoVariantsFault s first second f.reason k old)
-first_exact s first second read are count e (Ok x) stopped fault = absurd stopped
-first_exact s first second {k} {k0} {old} {middle} {entries} read are count e (Err f) stopped fault =
-    subst (λ (x : Error). TwoVariantsFault s first second x.reason k old) (sym stopped)
-    (inr (record { variants = entries; rest = middle; read = read; fault = inl (subst (λ n. first e.reason n middle) (count ∙ are.each 0 (lit< tt)) fault) }))
+    (refuses_variants (shape_and s (shape_and u no_shapes)) e.reason k old fault.named)
 
 -- the variants were read, and counted
 module _ (s u : Shape) {k k0 : ℕ} {old middle entries counts : List ℕ} (read : Reads (SpellsVariants 2) k old entries middle)

@@ -1,8 +1,6 @@
 -- The variants are read, then the payloads of the first, and then those of the second.
-use Rattle.std.proofs.Common.{false, refl}
-use Rattle.bitcode_shapes.specs.Values.{int_shape}
-use Rattle.bitcode_coder.specs.Faults.{NamesIntsFault}
-use Rattle.bitcode_parts.proofs.TwoVariantLemmas.{variants_stopped, first_stopped, first_exact, first_rest, choice_read, choice_refused, choice_rest}
+use Rattle.std.proofs.Common.{refl}
+use Rattle.bitcode_parts.proofs.TwoVariantLemmas.{variants_stopped, first_stopped, first_rest, choice_read, choice_refused, choice_rest}
 use Rattle.bitcode_by_hand.proofs.two.TwoDecoderView.populate.Goals as goal
 
 pub returns-in_err-populate-clause-refused : goal.returns-in_err-populate-clause-refused
@@ -12,11 +10,6 @@ pub returns-in_err-populate-2-clause-refused : goal.returns-in_err-populate-2-cl
 returns-in_err-populate-2-clause-refused c =
     first_stopped _ _ c.in_ok-populate.ensures.read (c.in_ok-populate.ensures.counts refl) c.length.ensures _ _
     c.from_residual-in_err-populate-2.ensures.1 c.in_err-populate-2.ensures.refused
-
-pub returns-in_err-populate-2-clause-exact : goal.returns-in_err-populate-2-clause-exact
-returns-in_err-populate-2-clause-exact c =
-    first_exact (int_shape 1 false) (NamesIntsFault 1) (NamesIntsFault 1) c.in_ok-populate.ensures.read (c.in_ok-populate.ensures.counts refl) c.length.ensures _ _
-    c.from_residual-in_err-populate-2.ensures.1 c.in_err-populate-2.ensures.exact
 
 pub returns-in_err-populate-2-clause-rest : goal.returns-in_err-populate-2-clause-rest
 returns-in_err-populate-2-clause-rest c = first_rest _ _ c.in_ok-populate.ensures.read c.in_err-populate-2.ensures.rest

@@ -1,9 +1,7 @@
 -- The entries that were read, as data.
-use Rattle.std.specs.Prelude.{IsTrue}
 use Rattle.bitcode_numbers.specs.LittleEndian.{little_endian}
 use Rattle.bitcode_input.specs.Fast.{cow_rest}
-use Rattle.bitcode_columns.specs.Reading.{Names, ints_fault, ints_stand_raw}
-use Rattle.bitcode_coder.proofs.CoderLemmas.{ints_read_ok, ints_refused_err, names_unless_free}
+use Rattle.bitcode_coder.proofs.CoderLemmas.{ints_read_ok, ints_refused_err, ints_exact}
 use Rattle.bitcode_integers.proofs.int.IntDecoderView.populate.Goals as goal
 
 pub returns-clause-read : goal.returns-clause-read
@@ -17,5 +15,4 @@ returns-clause-refused g c =
 
 pub returns-clause-exact : goal.returns-clause-exact
 returns-clause-exact g c =
-    names_unless_free c.unpack.result (λ reason. Names reason (ints_fault g.T.ColumnInt.width c.args.k c.args.input.now.now))
-    (IsTrue (ints_stand_raw g.T.ColumnInt.width c.args.k c.args.input.now.now)) c.unpack.ensures.refused c.unpack.ensures.raw
+    ints_exact c.unpack.result g.T.ColumnInt.width c.args.k c.args.input.now.now c.unpack.ensures.refused c.unpack.ensures.raw
