@@ -139,7 +139,7 @@ pub trait View<'a>: HoldsData {
 
     /// Reads `k` data from the front of the input, all checks included.
     ///
-    /// A refusal names one of the faults of the input, or `out of memory`.
+    /// A refusal names what is first at fault; `out of memory` is that only of a column that takes memory.
     fn populate(&mut self, input: &mut &'a [u8], k: usize) -> Result<(), Error>
         ensures read { OnOk result (Reads (Spells Self.shape) k input.old.now (Self.held self.new) input.new.now) }
         ensures refused { IfErr result (λ e. IsReadingRefusal Self.shape e.reason k input.old.now) }

@@ -39,8 +39,9 @@ pub fn encode<T: Encode>(alloc: Global, t: &T) -> Result<Vec<u8>, Error>
 /// Everything is checked before the value is made, and no byte may be left over. The call keeps nothing.
 ///
 /// Errors: one of the faults of the input, `expected EOF` where bytes are left behind the value, and
-/// `out of memory` where a growth was refused: that of a column all of whose bytes are there, or, where the bytes spell
-/// a value, one for the value. A refusal for another cause than want of memory comes only where the bytes spell no value.
+/// `out of memory` where a growth was refused: for a column that takes memory, once all its bytes are there, or for a
+/// value that takes memory, once the bytes are known to spell it. A refusal for another cause than want of memory comes
+/// only where the bytes spell no value.
 ///
 /// ```
 /// let pair: (bool, u16) = decode(alloc, &[1, 7, 0])?;
