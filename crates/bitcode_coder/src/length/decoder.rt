@@ -113,7 +113,7 @@ impl<'a> LengthDecoder<'a> {
         }
     }
 
-    /// Takes the next length. One is left.
+    /// Takes the next length, and its short byte with it: `any_greater_than` then asks those behind. One is left.
     pub fn decode(&mut self) -> usize
         requires { 0 < length (lengths_left self.old) }
         ensures taken { lengths_left self.old ≡ result ∷ lengths_left self.new }
