@@ -119,8 +119,6 @@ impl<D: HoldsData, const N: usize> HoldsData for ArrayDecoder<D, N> {
 }
 
 impl<'a, D: View<'a>, const N: usize> View<'a> for ArrayDecoder<D, N> {
-    ghost reads_free = { λ k input. k * N < 2 ^ 64 → D.reads_free (k * N) input };
-
     ghost faults = { ArrayFaults N D.faults };
 
     fn new(alloc: Global) -> Self {
@@ -136,7 +134,6 @@ impl<'a, D: View<'a>, const N: usize> View<'a> for ArrayDecoder<D, N> {
         ensures refused { IfErr result (λ e. IsReadingRefusal (array_shape N D.shape) e.reason k input.old.now) }
         ensures exact { IfErr result (λ e. ArrayFaults N D.faults e.reason k input.old.now) }
         ensures rest { OnErr result (IsEndOf input.old.now input.new.now) }
-        ensures free { (k * N < 2 ^ 64 → D.reads_free (k * N) input.old.now) → IfErr result (λ e. e.reason ≢ Reason.OutOfMemory) }
         ensures unread { 2 ^ 64 ≤ k * N → input.new.now ≡ input.old.now }
     {
         let count = mul_length(k, N)?;

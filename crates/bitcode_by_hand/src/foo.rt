@@ -110,8 +110,6 @@ impl<'a> HoldsData for FooDecoder<'a> {
 }
 
 impl<'a> View<'a> for FooDecoder<'a> {
-    ghost reads_free = { ⟦<Fields<'a> as View<'a>>⟧.reads_free };
-
     ghost faults = { ⟦<Fields<'a> as View<'a>>⟧.faults };
 
     fn new(alloc: Global) -> Self {

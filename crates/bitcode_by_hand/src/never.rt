@@ -72,8 +72,6 @@ impl HoldsData for NeverDecoder {
 }
 
 impl<'a> View<'a> for NeverDecoder {
-    ghost reads_free = { λ k input. Unit {0} };
-
     ghost faults = { λ reason k input. (reason ≡ InvalidEnumVariant) × (0 < k) };
 
     fn new(_alloc: Global) -> Self {

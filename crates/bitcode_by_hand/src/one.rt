@@ -100,8 +100,6 @@ impl<'a> HoldsData for OneDecoder<'a> {
 }
 
 impl<'a> View<'a> for OneDecoder<'a> {
-    ghost reads_free = { ⟦<IntDecoder<'a, u8> as View<'a>>⟧.reads_free };
-
     ghost faults = { ⟦<IntDecoder<'a, u8> as View<'a>>⟧.faults };
 
     fn new(alloc: Global) -> Self {

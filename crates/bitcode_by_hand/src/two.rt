@@ -129,8 +129,6 @@ impl<'a> HoldsData for TwoDecoder<'a> {
 }
 
 impl<'a> View<'a> for TwoDecoder<'a> {
-    ghost reads_free = { ⟦<Variants<'a> as View<'a>>⟧.reads_free };
-
     ghost faults = { ⟦<Variants<'a> as View<'a>>⟧.faults };
 
     fn new(alloc: Global) -> Self {

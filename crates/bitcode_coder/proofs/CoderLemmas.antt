@@ -1,13 +1,13 @@
 -- What is read and written of one column of bools or integers, in terms of data.
-use Rattle.std.proofs.Common.{◌≡◌, ℕ, ◌*◌, ◌%◌, ◌^◌, ◌<◌, ◌≤◌, Bool, true, false, ltb, leb, eqb, ◌==◌, Option, Some, None, ℤ, pos, negsuc, List, [], ◌∷◌, ◌++◌, length, map, drop, All, refl, sym, ap, subst, ◌∙◌, inl, inr, lit<, arith, Result, OnOk, IfErr, Ok, Err}
-use Rattle.std.proofs.lemmas.Bool.{cond_both}
+use Rattle.std.proofs.Common.{◌≡◌, ◌≢◌, ℕ, ◌*◌, ◌%◌, ◌^◌, ◌<◌, ◌≤◌, Bool, true, false, ltb, leb, eqb, ◌==◌, Option, Some, None, ℤ, pos, negsuc, List, [], ◌∷◌, ◌++◌, length, map, drop, All, refl, sym, ap, subst, ◌∙◌, inl, inr, lit<, arith, Result, OnOk, IsOk, IfErr, Ok, Err, IsTrue}
+use Rattle.std.proofs.lemmas.Bool.{cond_both, false≢true}
 use Rattle.std.proofs.lemmas.List.{length-map, map-append}
 use Rattle.std.proofs.lemmas.List.Elements.{All-map}
 use Rattle.std.proofs.lemmas.Result.{IfErr-weaker}
 use Rattle.std.proofs.lemmas.Simd.{map-map}
 use Rattle.bitcode_input.specs.declared.error.Error.{Error}
 use Rattle.bitcode_input.specs.declared.error.Reason.{Reason}
-use Rattle.bitcode_input.specs.declared.error.Reason.TheVariants.{Eof, InvalidPacking}
+use Rattle.bitcode_input.specs.declared.error.Reason.TheVariants.{Eof, InvalidPacking, OutOfMemory}
 use Rattle.bitcode_columns.specs.declared.pack.Base.TheVariants.{Two}
 use Rattle.bitcode_columns.specs.BoolColumn.{SpellsBools}
 use Rattle.bitcode_columns.specs.ByteColumn.{base_at_level, highest_byte_tag}
@@ -15,7 +15,7 @@ use Rattle.bitcode_numbers.specs.Widths.{IsWidth}
 use Rattle.bitcode_columns.specs.IntColumn.{IntForm, bytes_form, bare_form, tagged_form, int_form, SpellsInts, highest_int_tag, width_at_level}
 use Rattle.bitcode_numbers.specs.Numbers.{IsNumber, number_of, bool_number}
 use Rattle.bitcode_columns.specs.Tagged.{level_of_tag}
-use Rattle.bitcode_columns.specs.Reading.{Reads, missing, digits_fault, bools_fault, tagged_fault, bytes_fault, narrow_fault, ints_fault_as, ints_fault, Names}
+use Rattle.bitcode_columns.specs.Reading.{Reads, missing, digits_fault, bools_fault, tagged_fault, bytes_fault, narrow_fault, ints_fault_as, ints_fault, ints_stand_raw, Names}
 use Rattle.bitcode_columns.specs.Laws.{IsFaultOf}
 use Rattle.bitcode_columns.proofs.DigitLemmas.{digits_fault-refuses}
 use Rattle.bitcode_columns.proofs.IntLemmas.{ints_fault-refuses}
@@ -25,6 +25,7 @@ use Rattle.bitcode_shapes.specs.Shape.{Shape, Allowed, IsInWidth, IsAllowed, IsN
 use Rattle.bitcode_shapes.specs.Values.{int_shape}
 use Rattle.bitcode_coder.specs.Columns.{Kind, one, beside}
 use Rattle.bitcode_coder.specs.Spelling.{Spells, SpellsAs, truth, number_of_residue}
+use Rattle.bitcode_coder.specs.Faults.{NamesBoolsFault, NamesIntsFault}
 use Rattle.bitcode_coder.specs.Coding.{IsReadingReason, IsReadingRefusal, JoinsListing, written_columns}
 
 -- ---- refused
@@ -88,6 +89,12 @@ pub bools_refused : (reason : Reason) (count : ℕ) (input : List ℕ) → Names
 bools_refused reason count input named =
     refusal_of bool_shape truth SpellsBools bools_fault bools_fault-refuses (λ bytes ds s. s.columns) reason count input (missing_known _ input) named
 
+-- bools that are refused, and none of them is refused
+pub bools_exact : {T : Type 0} (r : Result T Error) (count : ℕ) (input : List ℕ) → IfErr r (λ e. Names e.reason (bools_fault count input)) → (count ≡ 0 → IsOk r)
+    → IfErr r (λ e. NamesBoolsFault e.reason count input)
+bools_exact (Ok x) count input named empty = tt
+bools_exact (Err e) count input named empty = record { named = named; free = λ none. absurd (false≢true (empty none)) }
+
 pub ints_refused : (width : ℕ) (signed : Bool) (reason : Reason) (count : ℕ) (input : List ℕ) → Names reason (ints_fault width count input)
     → IsReadingRefusal (int_shape width signed) reason count input
 ints_refused width signed reason count input named =
@@ -100,6 +107,12 @@ pub ints_refused_err : {T : Type 0} (r : Result T Error) (width : ℕ) (signed :
 ints_refused_err r width signed count input named =
     IfErr-weaker r (λ e. Names e.reason (ints_fault width count input)) (λ e. IsReadingRefusal (int_shape width signed) e.reason count input)
     (λ e h. ints_refused width signed e.reason count input h) named
+
+-- integers that are refused, and those that stand as they are
+pub ints_exact : {T : Type 0} (r : Result T Error) (width count : ℕ) (input : List ℕ) → IfErr r (λ e. Names e.reason (ints_fault width count input))
+    → (IsTrue (ints_stand_raw width count input) → IfErr r (λ e. e.reason ≢ OutOfMemory)) → IfErr r (λ e. NamesIntsFault width e.reason count input)
+ints_exact (Ok x) width count input named raw = tt
+ints_exact (Err e) width count input named raw = record { named = named; free = raw }
 
 -- ---- read
 

@@ -10,10 +10,11 @@ use Rattle.std.proofs.lemmas.Simd.{map-map}
 use Rattle.bitcode_columns.specs.ByteColumn.{SpellsBytes, byte_text}
 use Rattle.bitcode_columns.specs.IntColumn.{int_text}
 use Rattle.bitcode_input.specs.declared.error.Reason.{Reason}
-use Rattle.bitcode_columns.specs.Reading.{Reads, IsEndOf, Names, ints_fault}
+use Rattle.bitcode_columns.specs.Reading.{Reads, IsEndOf}
 use Rattle.bitcode_shapes.specs.Datum.{natural_in}
 use Rattle.bitcode_coder.specs.Spelling.{natural}
 use Rattle.bitcode_coder.specs.LengthColumn.{SpellsLengths, KeepsCap, escape, lengths_from, length_text, length_limit}
+use Rattle.bitcode_coder.specs.Faults.{NamesIntsFault}
 use Rattle.bitcode_coder.specs.LengthParts.{escapes, IsSplit, ReadsParts, NamesLengthFault, in_large}
 use Rattle.bitcode_coder.proofs.LengthLemmas.{length-lengths_from, found}
 
@@ -89,9 +90,9 @@ taken_from old n new taken = (ap sum taken ∙ sum_by-cons (λ x. x) n new, ap l
 
 -- a fault of the large lengths
 pub fault_of_large : {k : ℕ} {old short middle : List ℕ} (reason : Reason) (count : ℕ) → Reads SpellsBytes k old short middle → count ≡ escapes short
-    → Names reason (ints_fault 8 count middle) → NamesLengthFault reason k old
+    → NamesIntsFault 8 reason count middle → NamesLengthFault reason k old
 fault_of_large {middle = middle} reason count read counted named =
-    in_large read (subst (λ wanted. Names reason (ints_fault 8 wanted middle)) counted named)
+    in_large read (subst (λ wanted. NamesIntsFault 8 reason wanted middle) counted named)
 
 -- ---- read
 

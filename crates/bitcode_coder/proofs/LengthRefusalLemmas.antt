@@ -79,8 +79,8 @@ module _ (limit : Option ℕ) (reason : Reason) (count : ℕ) (input : List ℕ)
       cc
 
   lengths_refused_here : NamesLengthFault reason count input → ⊥
-  lengths_refused_here (in_short named) = short_refused named
-  lengths_refused_here (in_large {short = short} {middle = middle} read named) = large_refused short middle read named
+  lengths_refused_here (in_short named) = short_refused named.named
+  lengths_refused_here (in_large {short = short} {middle = middle} read named) = large_refused short middle read named.named
   lengths_refused_here (in_sum {short = short} {large = large} {rest = left} read fault) = sum_refused short large left read fault
 
 pub lengths_refused : (limit : Option ℕ) (reason : Reason) (count : ℕ) (input : List ℕ) → NamesLengthFault reason count input → reason ≢ OutOfMemory
@@ -122,6 +122,6 @@ sum_fault-known total =
     (λ over. tt)
 
 pub length_reason : (reason : Reason) (count : ℕ) (input : List ℕ) → NamesLengthFault reason count input → IsReadingReason reason
-length_reason reason count input (in_short named) = (ints_refused 1 false reason count input named).0
-length_reason reason count input (in_large {short = short} {middle = middle} read named) = (ints_refused 8 false reason (escapes short) middle named).0
+length_reason reason count input (in_short named) = (ints_refused 1 false reason count input named.named).0
+length_reason reason count input (in_large {short = short} {middle = middle} read named) = (ints_refused 8 false reason (escapes short) middle named.named).0
 length_reason reason count input (in_sum {short = short} {large = large} {rest = left} read fault) = subst KnownReason fault (sum_fault-known (sum (lengths_from short large)))

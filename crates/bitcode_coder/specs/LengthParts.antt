@@ -1,11 +1,12 @@
 -- The two parts of a length column: the short bytes, and the large lengths behind them. What a writer keeps of
 -- them, and what a reader says of them.
-use Rattle.std.specs.Prelude.{◌≡◌, ℕ, ◌^◌, min, Option, Some, None, List, map, filter, sum, count_by, nat_lt, nat_le, ◌==◌, IsTrue, if◌then◌else◌}
+use Rattle.std.specs.Prelude.{◌≡◌, ℕ, ◌^◌, min, Option, Some, None, List, map, filter, sum, count_by, nat_lt, nat_le, ◌==◌, if◌then◌else◌}
 use Rattle.bitcode_input.specs.declared.error.Reason.{Reason}
 use Rattle.bitcode_input.specs.declared.error.Reason.TheVariants.{LengthOverflow, HugeLength}
 use Rattle.bitcode_columns.specs.ByteColumn.{SpellsBytes}
 use Rattle.bitcode_columns.specs.IntColumn.{SpellsInts}
-use Rattle.bitcode_columns.specs.Reading.{Reads, Names, bytes_fault, ints_fault, bytes_stand_raw, ints_stand_raw}
+use Rattle.bitcode_columns.specs.Reading.{Reads}
+use Rattle.bitcode_coder.specs.Faults.{NamesBytesFault, NamesIntsFault}
 use Rattle.bitcode_coder.specs.LengthColumn.{escape, lengths_from, length_limit}
 
 abbrev pub escapes : List ℕ → ℕ
@@ -28,15 +29,10 @@ sum_fault total =
     if nat_lt total (2 ^ 64) then if nat_lt total length_limit then None else Some HugeLength else Some LengthOverflow
 
 -- A refusal names the fault of the short bytes; where they can be read, that of the large lengths; and where
--- both can be read, that of the sum. Want of memory comes only where the part in hand has no fault.
+-- both can be read, that of the sum. Want of memory comes only where the part in hand takes memory and has no fault.
 pub data NamesLengthFault (reason : Reason) (count : ℕ) (input : List ℕ) : Type 0 where
-  in_short : Names reason (bytes_fault count input) → NamesLengthFault reason count input
-  in_large : {short middle : List ℕ} → Reads SpellsBytes count input short middle → Names reason (ints_fault 8 (escapes short) middle)
+  in_short : NamesBytesFault reason count input → NamesLengthFault reason count input
+  in_large : {short middle : List ℕ} → Reads SpellsBytes count input short middle → NamesIntsFault 8 reason (escapes short) middle
       → NamesLengthFault reason count input
   in_sum : {short large rest : List ℕ} → ReadsParts count input short large rest → sum_fault (sum (lengths_from short large)) ≡ Some reason
       → NamesLengthFault reason count input
-
--- both parts stand as they are in the input: their reader borrows them, and takes no memory
-pub record LengthsStandRaw (count : ℕ) (input : List ℕ) : Type 0 where
-  pub short_raw : IsTrue (bytes_stand_raw count input)
-  pub large_raw : (short middle : List ℕ) → Reads SpellsBytes count input short middle → IsTrue (ints_stand_raw 8 (escapes short) middle)

@@ -1,5 +1,6 @@
 pub mod Cutting
 pub mod LengthColumn
+pub mod Faults
 pub mod LengthParts
 pub mod LengthCoders
 pub mod TextColumn

@@ -1,13 +1,14 @@
 // The coders of a column of bools.
-#![tactic(auto, using(crate::proofs::CoderLemmas::truths_in, crate::proofs::CoderLemmas::bools_read, crate::proofs::CoderLemmas::bools_refused))]
+#![tactic(auto, using(crate::proofs::CoderLemmas::truths_in, crate::proofs::CoderLemmas::bools_read, crate::proofs::CoderLemmas::bools_refused, crate::proofs::CoderLemmas::bools_exact))]
 
 ghost use Rattle.std.specs.Prelude.{◌≡◌, ◌≢◌, ◌≤◌, ◌++◌, map, true, refl, IsTrue, IsOk, IfOk, OnOk, IfErr, OnErr};
 ghost use Rattle.bitcode_input.specs.Fast.{fast_items, fast_room, cow_rest};
-ghost use Rattle.bitcode_columns.specs.Reading.{Reads, IsEndOf, Names, bools_fault};
+ghost use Rattle.bitcode_columns.specs.Reading.{Reads, IsEndOf};
 ghost use Rattle.bitcode_shapes.specs.Shape.{bool_shape};
 ghost use Rattle.bitcode_coder.specs.Columns.{bools, one};
 ghost use Rattle.bitcode_coder.specs.Spelling.{Spells, truth};
 ghost use Rattle.bitcode_coder.specs.Coding.{IsReadingRefusal};
+ghost use Rattle.bitcode_coder.specs.Faults.{NamesBoolsFault};
 
 use crate::coder::{Buffer, Decoder, Encoder, HoldsColumns, HoldsData, View};
 use bitcode_columns::pack::{pack_bools, unpack_bools};
@@ -76,9 +77,7 @@ impl<'a> HoldsData for BoolDecoder<'a> {
 }
 
 impl<'a> View<'a> for BoolDecoder<'a> {
-    ghost reads_free = { λ count input. count ≡ 0 };
-
-    ghost faults = { λ reason count input. Names reason (bools_fault count input) };
+    ghost faults = { NamesBoolsFault };
 
     fn new(alloc: Global) -> Self {
         BoolDecoder {
@@ -91,8 +90,7 @@ impl<'a> View<'a> for BoolDecoder<'a> {
         ensures read { OnOk result (Reads (Spells bool_shape) k input.old.now (map truth (cow_rest self.new.values)) input.new.now) }
         ensures refused { IfErr result (λ e. IsReadingRefusal bool_shape e.reason k input.old.now) }
         ensures rest { OnErr result (IsEndOf input.old.now input.new.now) }
-        ensures free { k ≡ 0 → IfErr result (λ e. e.reason ≢ Reason.OutOfMemory) }
-        ensures exact { IfErr result (λ e. Names e.reason (bools_fault k input.old.now)) }
+        ensures exact { IfErr result (λ e. NamesBoolsFault e.reason k input.old.now) }
     {
         unpack_bools(self.alloc, input, k, &mut self.values)
     }

@@ -129,11 +129,8 @@ pub trait HoldsData {
 ///
 /// After a refusal only [`View::populate`] may follow.
 pub trait View<'a>: HoldsData {
-    // reading so many data from such an input takes no memory
-    ghost reads_free: { ℕ → List ℕ → Type 0 };
-
     // such a refusal names what is first at fault when so many data are read from such an input; want of memory is
-    // one only where all bytes of the column at hand are there
+    // one only where the column at hand takes memory and all its bytes are there
     ghost faults: { Reason → ℕ → List ℕ → Type 0 };
 
     /// Holds nothing. Takes no memory.
@@ -142,13 +139,12 @@ pub trait View<'a>: HoldsData {
 
     /// Reads `k` data from the front of the input, all checks included.
     ///
-    /// A refusal names one of the faults of the input, or `out of memory`.
+    /// A refusal names what is first at fault; `out of memory` is that only of a column that takes memory.
     fn populate(&mut self, input: &mut &'a [u8], k: usize) -> Result<(), Error>
         ensures read { OnOk result (Reads (Spells Self.shape) k input.old.now (Self.held self.new) input.new.now) }
         ensures refused { IfErr result (λ e. IsReadingRefusal Self.shape e.reason k input.old.now) }
         ensures exact { IfErr result (λ e. faults e.reason k input.old.now) }
-        ensures rest { OnErr result (IsEndOf input.old.now input.new.now) }
-        ensures free { reads_free k input.old.now → IfErr result (λ e. e.reason ≢ Reason.OutOfMemory) };
+        ensures rest { OnErr result (IsEndOf input.old.now input.new.now) };
 }
 
 /// Data that values of `T` are made of.

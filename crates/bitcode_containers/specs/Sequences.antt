@@ -13,10 +13,6 @@ use Rattle.bitcode_coder.specs.Spelling.{Spells}
 abbrev pub lists_of : List ℕ → List Datum → List Datum
 lists_of lengths elements = map (λ ds. list (data_of ds)) (cut lengths elements)
 
--- wherever the lengths are read, what is said of the elements behind them holds
-abbrev pub ElementsBehind : (ℕ → List ℕ → Type 0) → ℕ → List ℕ → Type 0
-ElementsBehind Said k input = (lengths rest : List ℕ) → Reads (SpellsLengths None) k input lengths rest → Said (sum lengths) rest
-
 -- the lengths are read, and what is left is at fault for the elements
 pub record FaultsInElements (faults : Reason → ℕ → List ℕ → Type 0) (reason : Reason) (k : ℕ) (input : List ℕ) : Type 0 where
   pub lengths : List ℕ

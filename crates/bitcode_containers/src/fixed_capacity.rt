@@ -6,8 +6,8 @@ ghost use Rattle.std.proofs.Common.{ap};
 ghost use Rattle.std.proofs.Props.{props};
 ghost use Rattle.bitcode_shapes.specs.Shape.{seq_shape};
 ghost use Rattle.bitcode_coder.specs.LengthCoders.{lengths_left};
-ghost use Rattle.bitcode_coder.specs.LengthParts.{NamesLengthFault, LengthsStandRaw};
-ghost use Rattle.bitcode_containers.specs.Sequences.{lists_of, BreaksLimit, ElementsBehind, FaultsInElements};
+ghost use Rattle.bitcode_coder.specs.LengthParts.{NamesLengthFault};
+ghost use Rattle.bitcode_containers.specs.Sequences.{lists_of, BreaksLimit, FaultsInElements};
 
 use arrayvec::ArrayVec;
 use bitcode_coder::coder::{Decoder, HoldsData, View};
@@ -44,8 +44,6 @@ impl<'a, D: HoldsData, const N: usize> HoldsData for ArrayVecDecoder<'a, D, N> {
 }
 
 impl<'a, D: View<'a>, const N: usize> View<'a> for ArrayVecDecoder<'a, D, N> {
-    ghost reads_free = { λ k input. LengthsStandRaw k input × ElementsBehind D.reads_free k input };
-
     ghost faults = { λ reason k input. NamesLengthFault reason k input ⊎ (FaultsInElements D.faults reason k input ⊎ BreaksLimit N D.shape reason k input) };
 
     fn new(alloc: Global) -> Self {

@@ -113,8 +113,6 @@ impl<'a, K: HoldsData, V: HoldsData> HoldsData for MapDecoder<'a, K, V> {
 }
 
 impl<'a, K: View<'a>, V: View<'a>> View<'a> for MapDecoder<'a, K, V> {
-    ghost reads_free = { λ k input. ⟦<VecDecoder<'a, TupleDecoder<K, V>> as View<'a>>⟧.reads_free k input };
-
     ghost faults = { λ reason k input. ⟦<VecDecoder<'a, TupleDecoder<K, V>> as View<'a>>⟧.faults reason k input };
 
     fn new(alloc: Global) -> Self {

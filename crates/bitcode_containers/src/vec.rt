@@ -8,9 +8,9 @@ ghost use Rattle.bitcode_shapes.specs.Sequences.{ListsSequence};
 ghost use Rattle.bitcode_coder.specs.Coding.{JoinsListing, PassesWithListing, IsWritingRefusal, TakesDatum};
 ghost use Rattle.bitcode_coder.specs.Columns.{emptied, lengths, one, two};
 ghost use Rattle.bitcode_coder.specs.LengthCoders.{written_lengths, length_room, lengths_left};
-ghost use Rattle.bitcode_coder.specs.LengthParts.{NamesLengthFault, LengthsStandRaw};
+ghost use Rattle.bitcode_coder.specs.LengthParts.{NamesLengthFault};
 ghost use Rattle.bitcode_coder.specs.Spelling.{natural};
-ghost use Rattle.bitcode_containers.specs.Sequences.{lists_of, ElementsBehind, FaultsInElements};
+ghost use Rattle.bitcode_containers.specs.Sequences.{lists_of, FaultsInElements};
 
 use crate::elements::decode_each;
 use crate::sequences::{FromElements, Sequence};
@@ -108,8 +108,6 @@ impl<'a, D: HoldsData> HoldsData for VecDecoder<'a, D> {
 }
 
 impl<'a, D: View<'a>> View<'a> for VecDecoder<'a, D> {
-    ghost reads_free = { λ k input. LengthsStandRaw k input × ElementsBehind D.reads_free k input };
-
     ghost faults = { λ reason k input. NamesLengthFault reason k input ⊎ FaultsInElements D.faults reason k input };
 
     fn new(alloc: Global) -> Self {

@@ -3,3 +3,4 @@ pub mod DecodingLemmas
 pub mod RoundTripLemmas
 pub mod ArrayCountLemmas
 pub mod BorrowedTextLemmas
+pub mod ShortTextLemmas

@@ -1,5 +1,5 @@
 -- What whole calls write and read: one value, and all of the input.
-use Rattle.std.specs.Prelude.{◌≡◌, ℕ, ◌*◌, ◌<◌, ◌≤◌, List, [], ◌∷◌, length, ◌⊎◌}
+use Rattle.std.specs.Prelude.{◌≡◌, ℕ, ◌*◌, ◌<◌, ◌≤◌, Bool, IsTrue, List, [], ◌∷◌, length}
 use Rattle.bitcode_input.specs.declared.error.Reason.{Reason}
 use Rattle.bitcode_input.specs.declared.error.Reason.TheVariants.{ExpectedEof, OutOfMemory}
 use Rattle.bitcode_columns.specs.Reading.{Reads}
@@ -52,8 +52,9 @@ pub record LeavesBytes (shape : Shape) (bytes : List ℕ) : Type 0 where
   pub read : Reads (Spells shape) 1 bytes read_data rest
   pub left : 0 < length rest
 
--- What a refusal of a whole input names: want of memory, what is first at fault when one datum is read, or that bytes
--- are left behind it.
-abbrev pub NamesWholeFault : (faults : Reason → ℕ → List ℕ → Type 0) → Shape → Reason → List ℕ → Type 0
-NamesWholeFault faults shape reason bytes =
-    (reason ≡ OutOfMemory) ⊎ (faults reason 1 bytes ⊎ ((reason ≡ ExpectedEof) × LeavesBytes shape bytes))
+-- What a refusal of a whole input names: what is first at fault when one datum is read; where it is read, that bytes
+-- are left behind it; and where the whole input spells it, want of memory for the value, unless making it takes none.
+pub data NamesWholeFault (faults : Reason → ℕ → List ℕ → Type 0) (makes_free : Bool) (shape : Shape) (reason : Reason) (bytes : List ℕ) : Type 0 where
+  in_columns : faults reason 1 bytes → NamesWholeFault faults makes_free shape reason bytes
+  bytes_left : reason ≡ ExpectedEof → LeavesBytes shape bytes → NamesWholeFault faults makes_free shape reason bytes
+  in_making : reason ≡ OutOfMemory → (IsTrue makes_free → ⊥) → (d : Datum) → SpellsDatum shape bytes d → NamesWholeFault faults makes_free shape reason bytes

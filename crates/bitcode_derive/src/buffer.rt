@@ -1,5 +1,5 @@
 // A buffer that values of one type are written to, one after the other.
-ghost use Rattle.std.specs.Prelude.{◌≡◌, ◌≢◌, IsTrue, IfOk, IfErr};
+ghost use Rattle.std.specs.Prelude.{◌≡◌, ◌≢◌, IfOk, IfErr};
 ghost use Rattle.bitcode_shapes.specs.Datum.{Datum};
 ghost use Rattle.bitcode_coder.specs.Coding.{IsWritingRefusal, IsReadingReason};
 ghost use Rattle.bitcode_derive.specs.Whole.{IsEncodingOf, HasLongListing, IsDecodingOf, SpellsDatum, SpellsAtMostOne, IsBoundedByBytes, NamesWholeFault};
@@ -78,8 +78,7 @@ where
         ensures bounded { IsBoundedByBytes T.shape bytes.now }
         ensures reasons { IfErr result (λ e. IsReadingReason e.reason) }
         ensures refused { IfErr result (λ e. e.reason ≢ Reason.OutOfMemory → (d : Datum) → SpellsDatum T.shape bytes.now d → ⊥) }
-        ensures exact { IfErr result (λ e. NamesWholeFault T.Decoder.faults T.Decoder.shape e.reason bytes.now) }
-        ensures free { T.Decoder.reads_free 1 bytes.now → IsTrue T.Decoder.makes_free → IfErr result (λ e. e.reason ≢ Reason.OutOfMemory) }
+        ensures exact { IfErr result (λ e. NamesWholeFault T.Decoder.faults T.Decoder.makes_free T.Decoder.shape e.reason bytes.now) }
     {
         whole::decode(self.alloc, bytes)
     }

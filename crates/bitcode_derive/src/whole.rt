@@ -1,5 +1,5 @@
 // Whole calls: one value to bytes, and all bytes of an input to a value.
-ghost use Rattle.std.specs.Prelude.{◌≡◌, ◌≢◌, IsTrue, IsErrOf, IfOk, IfErr};
+ghost use Rattle.std.specs.Prelude.{◌≡◌, ◌≢◌, IsErrOf, IfOk, IfErr};
 ghost use Rattle.bitcode_shapes.specs.Datum.{Datum};
 ghost use Rattle.bitcode_coder.specs.Coding.{IsWritingRefusal, IsReadingReason};
 ghost use Rattle.bitcode_derive.specs.Whole.{IsEncodingOf, HasLongListing, IsDecodingOf, SpellsDatum, SpellsAtMostOne, IsBoundedByBytes, NamesWholeFault};
@@ -42,8 +42,9 @@ where
 /// Everything is checked before the value is made, and no byte may be left over. The call keeps nothing.
 ///
 /// Errors: one of the faults of the input, `expected EOF` where bytes are left behind the value, and
-/// `out of memory` where a growth was refused. A refusal for another cause than want of memory comes only
-/// where the bytes spell no value.
+/// `out of memory` where a growth was refused: for a column that takes memory, once all its bytes are there, or for a
+/// value that takes memory, once the bytes are known to spell it. A refusal for another cause than want of memory comes
+/// only where the bytes spell no value.
 ///
 /// ```
 /// let pair: (bool, u16) = decode(alloc, &[1, 7, 0])?;
@@ -60,8 +61,7 @@ where
     ensures bounded { IsBoundedByBytes T.shape bytes.now }
     ensures reasons { IfErr result (λ e. IsReadingReason e.reason) }
     ensures refused { IfErr result (λ e. e.reason ≢ Reason.OutOfMemory → (d : Datum) → SpellsDatum T.shape bytes.now d → ⊥) }
-    ensures exact { IfErr result (λ e. NamesWholeFault T.Decoder.faults T.Decoder.shape e.reason bytes.now) }
-    ensures free { T.Decoder.reads_free 1 bytes.now → IsTrue T.Decoder.makes_free → IfErr result (λ e. e.reason ≢ Reason.OutOfMemory) }
+    ensures exact { IfErr result (λ e. NamesWholeFault T.Decoder.faults T.Decoder.makes_free T.Decoder.shape e.reason bytes.now) }
 {
     let mut input = bytes;
     let mut decoder = T::Decoder::new(alloc);

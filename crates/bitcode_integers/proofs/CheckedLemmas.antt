@@ -12,7 +12,7 @@ use Rattle.bitcode_input.specs.declared.error.Reason.TheVariants.{OutOfMemory}
 use Rattle.bitcode_numbers.specs.Widths.{IsWidth}
 use Rattle.bitcode_columns.specs.IntColumn.{SpellsInts}
 use Rattle.bitcode_numbers.specs.Numbers.{number_of}
-use Rattle.bitcode_columns.specs.Reading.{Reads}
+use Rattle.bitcode_columns.specs.Reading.{Reads, Names, ints_fault}
 use Rattle.bitcode_columns.proofs.IntLemmas.{SpellsInts-once, ints_fault-refuses}
 use Rattle.bitcode_shapes.proofs.CheckedLemmas.{nonzero_unsigned, nonzero_signed}
 use Rattle.bitcode_shapes.specs.Datum.{Datum, number}
@@ -103,17 +103,20 @@ module _ {width : ℕ} {signed : Bool} {allowed : Allowed} {count : ℕ} {input 
   each_allowed : All (λ n. IsAllowed allowed (number_of width signed n)) r.spelled.columns.entries
   each_allowed = allowed_of_data r.spelled.columns.entries (subst (All (IsNumberOf width signed allowed)) r.spelled.columns.are r.spelled.of_shape)
 
-  checked_refused : (reason : Reason) → reason ≢ OutOfMemory → NamesCheckedFault width signed allowed reason count input → ⊥
-  checked_refused reason other (in_column (inl memory)) = other memory.0
-  checked_refused reason other (in_column (inr fault)) =
+  column_refused : (reason : Reason) → reason ≢ OutOfMemory → Names reason (ints_fault width count input) → ⊥
+  column_refused reason other (inl memory) = other memory.0
+  column_refused reason other (inr fault) =
       (ints_fault-refuses width).refused count input reason fault entries_read.piece r.spelled.columns.entries rest entries_read.spelled entries_read.size entries_read.whole
+
+  checked_refused : (reason : Reason) → reason ≢ OutOfMemory → NamesCheckedFault width signed allowed reason count input → ⊥
+  checked_refused reason other (in_column column) = column_refused reason other column.named
   checked_refused reason other (not_allowed entries left is read broken) =
       let same = reads_once (SpellsInts-once width) read entries_read in
       broken (subst (All (λ n. IsAllowed allowed (number_of width signed n))) (sym same.0) each_allowed)
 
 checked_reason : (width : ℕ) (signed : Bool) (allowed : Allowed) (reason : Reason) (count : ℕ) (input : List ℕ)
     → NamesCheckedFault width signed allowed reason count input → IsReadingReason reason
-checked_reason width signed allowed reason count input (in_column named) = (ints_refused width signed reason count input named).0
+checked_reason width signed allowed reason count input (in_column named) = (ints_refused width signed reason count input named.named).0
 checked_reason width signed allowed reason count input (not_allowed entries left is read broken) = subst IsReadingReason (sym is) tt
 
 pub checked_refusal : (width : ℕ) (signed : Bool) (allowed : Allowed) (reason : Reason) (count : ℕ) (input : List ℕ)

@@ -7,8 +7,9 @@ use Rattle.bitcode_input.specs.declared.error.Reason.TheVariants.{InvalidBitPatt
 use Rattle.bitcode_columns.specs.IntColumn.{SpellsInts}
 use Rattle.bitcode_numbers.specs.LittleEndian.{little_endian}
 use Rattle.bitcode_numbers.specs.Numbers.{number_of}
-use Rattle.bitcode_columns.specs.Reading.{Reads, Names, ints_fault}
+use Rattle.bitcode_columns.specs.Reading.{Reads}
 use Rattle.bitcode_shapes.specs.Datum.{Datum, number}
+use Rattle.bitcode_coder.specs.Faults.{NamesIntsFault}
 use Rattle.bitcode_shapes.specs.Shape.{Allowed, any_number, nonzero, scalar, between, IsAllowed}
 
 -- whether a number is allowed
@@ -36,6 +37,6 @@ checked_data allowed zs = map number (allowed_front allowed zs)
 
 -- A refusal names the fault of the column; where it can be read, that an entry is not allowed.
 pub data NamesCheckedFault (width : ℕ) (signed : Bool) (allowed : Allowed) (reason : Reason) (count : ℕ) (input : List ℕ) : Type 0 where
-  in_column : Names reason (ints_fault width count input) → NamesCheckedFault width signed allowed reason count input
+  in_column : NamesIntsFault width reason count input → NamesCheckedFault width signed allowed reason count input
   not_allowed : (entries rest : List ℕ) → reason ≡ InvalidBitPattern → Reads (SpellsInts width) count input entries rest
       → (All (λ n. IsAllowed allowed (number_of width signed n)) entries → ⊥) → NamesCheckedFault width signed allowed reason count input

@@ -4,7 +4,7 @@ ghost use Rattle.std.proofs.Common.{sym};
 ghost use Rattle.bitcode_input.specs.Fast.{cow_rest};
 ghost use Rattle.bitcode_numbers.specs.LittleEndian.{little_endian};
 ghost use Rattle.bitcode_numbers.specs.Numbers.{number_of};
-ghost use Rattle.bitcode_columns.specs.Reading.{Reads, IsEndOf, ints_stand_raw};
+ghost use Rattle.bitcode_columns.specs.Reading.{Reads, IsEndOf};
 ghost use Rattle.bitcode_shapes.specs.Datum.{number};
 ghost use Rattle.bitcode_shapes.specs.Shape.{Allowed, IsAllowed, number_shape};
 ghost use Rattle.bitcode_integers.specs.CheckedColumn.{numbers_of, checked_data, NamesCheckedFault};
@@ -70,9 +70,7 @@ impl<'a, C: Checked<I>, I: ColumnInt> HoldsData for CheckedIntDecoder<'a, C, I> 
 }
 
 impl<'a, C: Checked<I>, I: ColumnInt> View<'a> for CheckedIntDecoder<'a, C, I> {
-    ghost reads_free = { λ count input. IsTrue (ints_stand_raw I.width count input) };
-
-    ghost faults = { λ reason count input. NamesCheckedFault I.width I.signed C.allowed reason count input };
+    ghost faults = { NamesCheckedFault I.width I.signed C.allowed };
 
     fn new(alloc: Global) -> Self {
         CheckedIntDecoder {

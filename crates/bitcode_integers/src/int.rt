@@ -4,7 +4,7 @@
 ghost use Rattle.std.specs.Prelude.{◌≡◌, ◌≢◌, ◌<◌, ◌≤◌, ◌++◌, List, [], All, true, refl, IsTrue, IsOk, IfOk, OnOk, IfErr, OnErr};
 ghost use Rattle.std.proofs.Common.{sym, ap};
 ghost use Rattle.bitcode_input.specs.Fast.{fast_items, fast_room, cow_rest};
-ghost use Rattle.bitcode_columns.specs.Reading.{Reads, IsEndOf, Names, ints_fault, ints_stand_raw};
+ghost use Rattle.bitcode_columns.specs.Reading.{Reads, IsEndOf};
 ghost use Rattle.bitcode_shapes.specs.Datum.{Datum, number};
 ghost use Rattle.bitcode_shapes.specs.Shape.{Shape};
 ghost use Rattle.bitcode_shapes.specs.Values.{int_shape};
@@ -12,6 +12,7 @@ ghost use Rattle.bitcode_coder.specs.Columns.{ints, one};
 ghost use Rattle.bitcode_integers.specs.IntData.{int_data, bytes_data};
 ghost use Rattle.bitcode_coder.specs.Spelling.{Spells};
 ghost use Rattle.bitcode_coder.specs.Coding.{IsReadingRefusal, written_columns};
+ghost use Rattle.bitcode_coder.specs.Faults.{NamesIntsFault};
 
 use crate::column_int::ColumnInt;
 use bitcode_coder::coder::{Buffer, Decoder, Encoder, HoldsColumns, HoldsData, View};
@@ -114,9 +115,7 @@ impl<'a, T: ColumnInt> HoldsData for IntDecoder<'a, T> {
 }
 
 impl<'a, T: ColumnInt> View<'a> for IntDecoder<'a, T> {
-    ghost reads_free = { λ count input. IsTrue (ints_stand_raw T.width count input) };
-
-    ghost faults = { λ reason count input. Names reason (ints_fault T.width count input) };
+    ghost faults = { NamesIntsFault T.width };
 
     fn new(alloc: Global) -> Self {
         IntDecoder {
@@ -129,8 +128,7 @@ impl<'a, T: ColumnInt> View<'a> for IntDecoder<'a, T> {
         ensures read { OnOk result (Reads (Spells (int_shape T.width T.signed)) k input.old.now (bytes_data T.width T.signed T.une_bytes (cow_rest self.new.values)) input.new.now) }
         ensures refused { IfErr result (λ e. IsReadingRefusal (int_shape T.width T.signed) e.reason k input.old.now) }
         ensures rest { OnErr result (IsEndOf input.old.now input.new.now) }
-        ensures free { IsTrue (ints_stand_raw T.width k input.old.now) → IfErr result (λ e. e.reason ≢ Reason.OutOfMemory) }
-        ensures exact { IfErr result (λ e. Names e.reason (ints_fault T.width k input.old.now)) }
+        ensures exact { IfErr result (λ e. NamesIntsFault T.width e.reason k input.old.now) }
     {
         T::unpack(self.alloc, input, k, &mut self.values)
     }

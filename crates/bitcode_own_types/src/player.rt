@@ -106,8 +106,6 @@ impl<'a> HoldsData for PlayerDecoder<'a> {
 }
 
 impl<'a> View<'a> for PlayerDecoder<'a> {
-    ghost reads_free = { ⟦<Data<'a> as View<'a>>⟧.reads_free };
-
     ghost faults = { ⟦<Data<'a> as View<'a>>⟧.faults };
 
     fn new(alloc: Global) -> Self {

@@ -88,8 +88,6 @@ impl<'a> HoldsData for ScoresDecoder<'a> {
 }
 
 impl<'a> View<'a> for ScoresDecoder<'a> {
-    ghost reads_free = { ⟦<Lists<'a> as View<'a>>⟧.reads_free };
-
     ghost faults = { ⟦<Lists<'a> as View<'a>>⟧.faults };
 
     fn new(alloc: Global) -> Self {

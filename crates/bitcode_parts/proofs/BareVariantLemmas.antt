@@ -4,6 +4,7 @@ use Rattle.std.proofs.lemmas.List.{length-map, append-nil}
 use Rattle.std.proofs.lemmas.List.Elements.{All-map, All-weaker}
 use Rattle.bitcode_input.specs.declared.error.Reason.{Reason}
 use Rattle.bitcode_columns.specs.Reading.{Reads, NamesVariantFault}
+use Rattle.bitcode_coder.specs.Faults.{NamesVariantsFault}
 use Rattle.bitcode_columns.specs.VariantColumn.{SpellsVariants}
 use Rattle.bitcode_shapes.specs.Datum.{Datum, choice, unit}
 use Rattle.bitcode_shapes.specs.Shape.{IsChoiceOf, IsOfVariant, variant_count}
@@ -65,6 +66,6 @@ module _ (count k : ℕ) (old : List ℕ) where
     };
   }
 
-  pub refuses_bare : (reason : Reason) → NamesVariantFault reason count k old → IsReadingRefusal (bare_shape count) reason k old
+  pub refuses_bare : (reason : Reason) → NamesVariantsFault count reason k old → IsReadingRefusal (bare_shape count) reason k old
   refuses_bare reason fault =
-      refuses_variants (unit_shapes count) reason k old (subst (λ n. NamesVariantFault reason n k old) (sym (count-unit_shapes count)) fault)
+      refuses_variants (unit_shapes count) reason k old (subst (λ n. NamesVariantFault reason n k old) (sym (count-unit_shapes count)) fault.named)

@@ -6,16 +6,16 @@ use Rattle.std.specs.Prelude.{◌⊎◌}
 use Rattle.std.specs.Result.{IsErrAnd, OnErr}
 use Rattle.bitcode_input.specs.declared.error.Error.{Error}
 use Rattle.bitcode_columns.specs.Counts.{AreCounts}
-use Rattle.bitcode_columns.specs.Reading.{Reads, IsEndOf, NamesVariantFault}
+use Rattle.bitcode_columns.specs.Reading.{Reads, IsEndOf}
 use Rattle.bitcode_columns.specs.VariantColumn.{SpellsVariants}
 use Rattle.bitcode_shapes.specs.Datum.{Datum, choice}
 use Rattle.bitcode_shapes.specs.Shape.{Shape, choice_shape, shape_and, no_shapes}
 use Rattle.bitcode_shapes.specs.Choices.{ListsChoice, ListsLast, ListsVariant}
 use Rattle.bitcode_coder.specs.Columns.{Columns, no_columns, one, two, variants, emptied}
+use Rattle.bitcode_coder.specs.Faults.{NamesVariantsFault}
 use Rattle.bitcode_coder.specs.Spelling.{Spells, natural}
 use Rattle.bitcode_coder.specs.Coding.{written_columns, IsReadingRefusal, JoinsListing, PassesWithListing}
 use Rattle.bitcode_coder.proofs.LengthPartLemmas.{ends_behind_read}
-use Rattle.bitcode_parts.specs.TwoVariants.{TwoVariantsReadFree}
 use Rattle.bitcode_parts.specs.Payloads.{choices_of}
 use Rattle.bitcode_parts.proofs.ChoiceReadingLemmas.{reads_choices, refuses_variants, refuses_payloads, refuses_first, refuses_later}
 use Rattle.bitcode_parts.proofs.ChoiceWritingLemmas.{joins_here, joins_later, joins_choice, passes_here, passes_later, passes_choice}
@@ -23,12 +23,12 @@ use Rattle.bitcode_parts.proofs.ChoiceWritingLemmas.{joins_here, joins_later, jo
 -- ---- populate
 
 -- the variants were refused
-pub variants_stopped : {T : Type 0} (s u : Shape) (k : ℕ) (old : List ℕ) (e : Error) (r : Result T Error) → IsErrAnd r (λ f. f ≡ e) → NamesVariantFault e.reason 2 k old
+pub variants_stopped : {T : Type 0} (s u : Shape) (k : ℕ) (old : List ℕ) (e : Error) (r : Result T Error) → IsErrAnd r (λ f. f ≡ e) → NamesVariantsFault 2 e.reason k old
     → IfErr r (λ f. IsReadingRefusal (choice_shape (shape_and s (shape_and u no_shapes))) f.reason k old)
 variants_stopped s u k old e (Ok x) stopped fault = absurd stopped
 variants_stopped s u k old e (Err f) stopped fault =
     subst (λ (x : Error). IsReadingRefusal (choice_shape (shape_and s (shape_and u no_shapes))) x.reason k old) (sym stopped)
-    (refuses_variants (shape_and s (shape_and u no_shapes)) e.reason k old fault)
+    (refuses_variants (shape_and s (shape_and u no_shapes)) e.reason k old fault.named)
 
 -- the variants were read, and counted
 module _ (s u : Shape) {k k0 : ℕ} {old middle entries counts : List ℕ} (read : Reads (SpellsVariants 2) k old entries middle)
@@ -61,12 +61,6 @@ module _ (s u : Shape) {k k0 : ℕ} {old middle entries counts : List ℕ} (read
         refuses_payloads (shape_and s (shape_and u no_shapes)) e.reason read
         (refuses_later s (shape_and u no_shapes) 0 entries e.reason (subst (λ n. Reads (Spells s) n middle ds left) (first_count ∙ are.each 0 (lit< tt)) first)
         (refuses_first u no_shapes 1 entries e.reason (subst (λ n. IsReadingRefusal u e.reason n left) (second_count ∙ are.each 1 (lit< tt)) refused)))
-
-    -- the payloads of the second variant take no memory
-    pub second_free : (free_a free_b : ℕ → List ℕ → Type 0) → TwoVariantsReadFree s free_a free_b k old → free_b k1 left
-    second_free free_a free_b free =
-        subst (λ n. free_b n left) (sym (second_count ∙ are.each 1 (lit< tt)))
-        ((free.1 entries middle read).1 ds left (subst (λ n. Reads (Spells s) n middle ds left) (first_count ∙ are.each 0 (lit< tt)) first))
 
 -- what is left behind the variants and what stands behind the first payloads are ends of the input
 pub first_rest : {T : Type 0} {k : ℕ} {old middle entries : List ℕ} (new : List ℕ) (r : Result T Error) → Reads (SpellsVariants 2) k old entries middle

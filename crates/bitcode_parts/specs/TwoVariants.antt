@@ -1,23 +1,14 @@
--- Reading the choices of two variants: which fault is first, and when no memory is taken.
-use Rattle.std.specs.Prelude.{ℕ, List, IsTrue, ◌⊎◌}
+-- Reading the choices of two variants: which fault is first.
+use Rattle.std.specs.Prelude.{ℕ, List, ◌⊎◌}
 use Rattle.bitcode_input.specs.declared.error.Reason.{Reason}
 use Rattle.bitcode_columns.specs.Counts.{count_of}
-use Rattle.bitcode_columns.specs.Reading.{Reads, NamesVariantFault, variants_stand_raw}
-use Rattle.bitcode_columns.specs.VariantColumn.{SpellsVariants}
-use Rattle.bitcode_shapes.specs.Datum.{Datum}
 use Rattle.bitcode_shapes.specs.Shape.{Shape}
-use Rattle.bitcode_coder.specs.Spelling.{Spells}
+use Rattle.bitcode_coder.specs.Faults.{NamesVariantsFault}
 use Rattle.bitcode_parts.specs.Payloads.{FaultsBehindVariants, FaultsBehindPayloads}
 
 -- the variants are at fault, or behind them the payloads of the first variant, or behind those the payloads of the second
 abbrev pub TwoVariantsFault : Shape → (first second : Reason → ℕ → List ℕ → Type 0) → Reason → ℕ → List ℕ → Type 0
 TwoVariantsFault shape first second reason k input =
-    NamesVariantFault reason 2 k input
+    NamesVariantsFault 2 reason k input
     ⊎ FaultsBehindVariants 2 k (λ variants rest. first reason (count_of 0 variants) rest
     ⊎ FaultsBehindPayloads shape (count_of 0 variants) (λ left. second reason (count_of 1 variants) left) rest) input
-
--- each of the three readings takes no memory, after whatever the ones before it read
-abbrev pub TwoVariantsReadFree : Shape → (first second : ℕ → List ℕ → Type 0) → ℕ → List ℕ → Type 0
-TwoVariantsReadFree shape first second k input =
-    IsTrue (variants_stand_raw 2 k) × ((variants rest : List ℕ) → Reads (SpellsVariants 2) k input variants rest → first (count_of 0 variants) rest
-    × ((ds : List Datum) (left : List ℕ) → Reads (Spells shape) (count_of 0 variants) rest ds left → second (count_of 1 variants) left))

@@ -117,8 +117,6 @@ impl<T: Drop, D: HoldsData> HoldsData for ConvertFromDecoder<T, D> {
 }
 
 impl<'a, T: Drop, D: View<'a>> View<'a> for ConvertFromDecoder<T, D> {
-    ghost reads_free = { λ k input. D.reads_free k input };
-
     ghost faults = { λ reason k input. D.faults reason k input };
 
     fn new(alloc: Global) -> Self {

@@ -59,8 +59,6 @@ impl HoldsData for EmptyCoder {
 }
 
 impl<'a> View<'a> for EmptyCoder {
-    ghost reads_free = { λ k input. Unit {0} };
-
     ghost faults = { λ reason k input. ⊥ };
 
     fn new(_alloc: Global) -> Self {

@@ -3,7 +3,7 @@ ghost use Rattle.std.specs.Prelude.{◌≡◌, refl, [], ◌∷◌};
 ghost use Rattle.bitcode_shapes.specs.Shape.{choice_shape, shape_and, no_shapes, unit_shape};
 ghost use Rattle.bitcode_coder.specs.Columns.{no_columns, two};
 ghost use Rattle.bitcode_parts.specs.Payloads.{choices_of};
-ghost use Rattle.bitcode_parts.specs.TwoVariants.{TwoVariantsFault, TwoVariantsReadFree};
+ghost use Rattle.bitcode_parts.specs.TwoVariants.{TwoVariantsFault};
 ghost use Rattle.bitcode_parts.specs.TwoVariantLaws.{same_two_variants, two_variants_form};
 ghost use Rattle.bitcode_parts.specs.VariantCoders.{variant_room, variants_left};
 
@@ -101,8 +101,6 @@ impl<'a, D: HoldsData> HoldsData for OptionDecoder<'a, D> {
 }
 
 impl<'a, D: View<'a>> View<'a> for OptionDecoder<'a, D> {
-    ghost reads_free = { TwoVariantsReadFree unit_shape ⟦<EmptyCoder as View<'a>>⟧.reads_free D.reads_free };
-
     ghost faults = { TwoVariantsFault unit_shape ⟦<EmptyCoder as View<'a>>⟧.faults D.faults };
 
     fn new(alloc: Global) -> Self {

@@ -3,7 +3,7 @@ ghost use Rattle.std.specs.Prelude.{[], ◌∷◌, ◌&&◌};
 ghost use Rattle.bitcode_shapes.specs.Shape.{choice_shape, shape_and, no_shapes};
 ghost use Rattle.bitcode_coder.specs.Columns.{no_columns, two};
 ghost use Rattle.bitcode_parts.specs.Payloads.{choices_of};
-ghost use Rattle.bitcode_parts.specs.TwoVariants.{TwoVariantsFault, TwoVariantsReadFree};
+ghost use Rattle.bitcode_parts.specs.TwoVariants.{TwoVariantsFault};
 ghost use Rattle.bitcode_parts.specs.TwoVariantLaws.{same_two_variants, two_variants_form};
 ghost use Rattle.bitcode_parts.specs.VariantCoders.{variant_room, variants_left};
 
@@ -104,8 +104,6 @@ impl<'a, A: HoldsData, B: HoldsData> HoldsData for ResultDecoder<'a, A, B> {
 }
 
 impl<'a, A: View<'a>, B: View<'a>> View<'a> for ResultDecoder<'a, A, B> {
-    ghost reads_free = { TwoVariantsReadFree A.shape A.reads_free B.reads_free };
-
     ghost faults = { TwoVariantsFault A.shape A.faults B.faults };
 
     fn new(alloc: Global) -> Self {

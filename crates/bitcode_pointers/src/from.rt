@@ -56,8 +56,6 @@ impl<T: Drop, D: HoldsData> HoldsData for FromDecoder<T, D> {
 }
 
 impl<'a, T: Drop, D: View<'a>> View<'a> for FromDecoder<T, D> {
-    ghost reads_free = { λ k input. D.reads_free k input };
-
     ghost faults = { λ reason k input. D.faults reason k input };
 
     fn new(alloc: Global) -> Self {

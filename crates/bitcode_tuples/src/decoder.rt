@@ -1,9 +1,6 @@
 // The decoder of pairs.
-ghost use Rattle.std.specs.Prelude.{ℕ, List, ◌⊎◌, ◌&&◌};
-ghost use Rattle.bitcode_columns.specs.Reading.{Reads};
-ghost use Rattle.bitcode_shapes.specs.Datum.{Datum};
+ghost use Rattle.std.specs.Prelude.{◌⊎◌, ◌&&◌};
 ghost use Rattle.bitcode_shapes.specs.Shape.{pair_shape};
-ghost use Rattle.bitcode_coder.specs.Spelling.{Spells};
 ghost use Rattle.bitcode_tuples.specs.Pairs.{pairs_of, FaultsBehind};
 ghost use Rattle.bitcode_tuples.specs.PairLaws.{same_pair_shape};
 
@@ -31,9 +28,6 @@ impl<A: HoldsData, B: HoldsData> HoldsData for TupleDecoder<A, B> {
 }
 
 impl<'a, A: View<'a>, B: View<'a>> View<'a> for TupleDecoder<A, B> {
-    ghost reads_free = { λ k input.
-        A.reads_free k input × ((ds : List Datum) (rest : List ℕ) → Reads (Spells A.shape) k input ds rest → B.reads_free k rest) };
-
     ghost faults = { λ reason k input. A.faults reason k input ⊎ FaultsBehind A.shape B.faults reason k input };
 
     fn new(alloc: Global) -> Self {

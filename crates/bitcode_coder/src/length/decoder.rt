@@ -1,12 +1,12 @@
 // The coder that lengths are read from.
 #![tactic(auto, unfolding(crate::specs::LengthCoders::short_left, crate::specs::LengthCoders::large_left, crate::specs::LengthCoders::lengths_left, crate::specs::LengthCoders::lengths_sum))]
 
-ghost use Rattle.std.specs.Prelude.{◌≡◌, ◌≢◌, ℕ, ◌+◌, ◌<◌, ◌≤◌, List, [], ◌∷◌, Some, None, length, sum, map, All, MatchBool, IfOk, OnOk, IfErr, OnErr};
+ghost use Rattle.std.specs.Prelude.{◌≡◌, ◌≢◌, ℕ, ◌+◌, ◌<◌, ◌≤◌, List, [], ◌∷◌, Some, None, length, drop, sum, map, All, MatchBool, IfOk, OnOk, IfErr, OnErr};
 ghost use Rattle.bitcode_input.specs.Fast.{cow_rest};
 ghost use Rattle.bitcode_numbers.specs.LittleEndian.{little_endian};
 ghost use Rattle.bitcode_columns.specs.Reading.{Reads, IsEndOf};
 ghost use Rattle.bitcode_coder.specs.LengthColumn.{SpellsLengths, KeepsCap, length_limit};
-ghost use Rattle.bitcode_coder.specs.LengthParts.{escapes, ReadsParts, sum_fault, NamesLengthFault, LengthsStandRaw};
+ghost use Rattle.bitcode_coder.specs.LengthParts.{escapes, ReadsParts, sum_fault, NamesLengthFault};
 
 use crate::length::ESCAPE;
 use bitcode_columns::pack::unpack_bytes;
@@ -86,7 +86,6 @@ impl<'a> LengthDecoder<'a> {
         ensures sum { OnOk result (lengths_sum self.new ≡ sum (lengths_left self.new)) }
         ensures refused { IfErr result (λ e. NamesLengthFault e.reason k input.old.now) }
         ensures rest { OnErr result (IsEndOf input.old.now input.new.now) }
-        ensures free { LengthsStandRaw k input.old.now → IfErr result (λ e. e.reason ≢ Reason.OutOfMemory) }
     {
         *self = LengthDecoder::read_parts(self.alloc, input, k)?;
         self.sum = self.checked_sum()?;
@@ -114,10 +113,11 @@ impl<'a> LengthDecoder<'a> {
         }
     }
 
-    /// Takes the next length. One is left.
+    /// Takes the next length, and its short byte with it: `any_greater_than` then asks those behind. One is left.
     pub fn decode(&mut self) -> usize
         requires { 0 < length (lengths_left self.old) }
         ensures taken { lengths_left self.old ≡ result ∷ lengths_left self.new }
+        ensures short { short_left self.new ≡ drop 1 (short_left self.old) }
         ensures sum { lengths_sum self.new ≡ lengths_sum self.old }
     {
         let byte = self.small.next_unchecked();
@@ -133,7 +133,6 @@ impl<'a> LengthDecoder<'a> {
         ensures read { IfOk result (λ d. ReadsParts k input.old.now (short_left d) (large_left d) input.new.now) }
         ensures refused { IfErr result (λ e. NamesLengthFault e.reason k input.old.now) }
         ensures rest { OnErr result (IsEndOf input.old.now input.new.now) }
-        ensures free { LengthsStandRaw k input.old.now → IfErr result (λ e. e.reason ≢ Reason.OutOfMemory) }
     {
         let mut small = CowSlice::new(alloc);
         unpack_bytes(alloc, input, k, &mut small)?;

@@ -10,7 +10,7 @@ ghost use Rattle.bitcode_coder.specs.Coding.{IsReadingRefusal};
 ghost use Rattle.bitcode_coder.specs.Cutting.{cut};
 ghost use Rattle.bitcode_coder.specs.JoinedTexts.{ends_from, IsCutAtChars};
 ghost use Rattle.bitcode_coder.specs.LengthCoders.{short_left, large_left, lengths_left};
-ghost use Rattle.bitcode_coder.specs.LengthParts.{ReadsParts, LengthsStandRaw};
+ghost use Rattle.bitcode_coder.specs.LengthParts.{ReadsParts};
 ghost use Rattle.bitcode_coder.specs.Spelling.{Spells};
 ghost use Rattle.bitcode_coder.specs.TextParts.{NamesTextFault};
 
@@ -81,7 +81,6 @@ impl<'a> StrDecoder<'a> {
         ensures parts { IfOk result (λ d. (middle : List ℕ) × ReadsParts k input.old.now (short_left d.lengths) (large_left d.lengths) middle) }
         ensures refused { IfErr result (λ e. NamesTextFault e.reason k input.old.now) }
         ensures rest { OnErr result (IsEndOf input.old.now input.new.now) }
-        ensures free { LengthsStandRaw k input.old.now → IfErr result (λ e. e.reason ≢ Reason.OutOfMemory) }
     {
         let mut lengths = LengthDecoder::new(alloc);
         lengths.populate(input, k)?;
@@ -114,8 +113,6 @@ impl<'a> HoldsData for StrDecoder<'a> {
 }
 
 impl<'a> View<'a> for StrDecoder<'a> {
-    ghost reads_free = { LengthsStandRaw };
-
     ghost faults = { NamesTextFault };
 
     fn new(alloc: Global) -> Self {

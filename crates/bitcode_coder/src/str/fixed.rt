@@ -8,7 +8,6 @@ ghost use Rattle.bitcode_shapes.specs.Shape.{text_shape};
 ghost use Rattle.bitcode_coder.specs.Coding.{IsReadingRefusal};
 ghost use Rattle.bitcode_coder.specs.Cutting.{cut};
 ghost use Rattle.bitcode_coder.specs.LengthCoders.{lengths_left};
-ghost use Rattle.bitcode_coder.specs.LengthParts.{LengthsStandRaw};
 ghost use Rattle.bitcode_coder.specs.Spelling.{Spells};
 ghost use Rattle.bitcode_coder.specs.TextParts.{NamesLimitedTextFault};
 
@@ -45,8 +44,6 @@ impl<'a, const N: usize> HoldsData for ArrayStringDecoder<'a, N> {
 }
 
 impl<'a, const N: usize> View<'a> for ArrayStringDecoder<'a, N> {
-    ghost reads_free = { LengthsStandRaw };
-
     ghost faults = { NamesLimitedTextFault N };
 
     fn new(alloc: Global) -> Self {

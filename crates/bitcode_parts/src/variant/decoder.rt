@@ -1,16 +1,17 @@
 // The coder that variants are read from.
 #![tactic(auto, unfolding(crate::specs::VariantCoders::variants_left, crate::specs::VariantCoders::variant_counts))]
 
-ghost use Rattle.std.specs.Prelude.{◌≡◌, ◌≢◌, false, ◌<◌, [], ◌∷◌, length, slice_index, IsTrue, OnOk, IfErr, OnErr};
+ghost use Rattle.std.specs.Prelude.{◌≡◌, false, ◌<◌, [], ◌∷◌, length, slice_index, OnOk, IfErr, OnErr};
 ghost use Rattle.bitcode_columns.specs.Counts.{AreCounts};
-ghost use Rattle.bitcode_columns.specs.Reading.{Reads, IsEndOf, NamesVariantFault, variants_stand_raw};
+ghost use Rattle.bitcode_columns.specs.Reading.{Reads, IsEndOf};
 ghost use Rattle.bitcode_columns.specs.VariantColumn.{SpellsVariants};
 ghost use Rattle.bitcode_parts.specs.BareVariants.{bare_shape, bare_choices};
 ghost use Rattle.bitcode_parts.specs.VariantCoders.{variants_left, variant_counts};
+ghost use Rattle.bitcode_coder.specs.Faults.{NamesVariantsFault};
 
 use bitcode_coder::coder::{HoldsData, View};
 use bitcode_columns::pack::unpack_bytes_less_than;
-use bitcode_input::error::{Error, Reason};
+use bitcode_input::error::Error;
 use bitcode_input::fast::CowSlice;
 use std::alloc::Global;
 
@@ -52,9 +53,8 @@ impl<'a, const N: usize, const C_STYLE: bool> VariantDecoder<'a, N, C_STYLE> {
     pub fn populate(&mut self, input: &mut &'a [u8], k: usize) -> Result<(), Error>
         ensures read { OnOk result (Reads (SpellsVariants N) k input.old.now (variants_left self.new) input.new.now) }
         ensures counts { OnOk result (C_STYLE ≡ false → AreCounts N (variants_left self.new) (variant_counts self.new)) }
-        ensures refused { IfErr result (λ e. NamesVariantFault e.reason N k input.old.now) }
+        ensures refused { IfErr result (λ e. NamesVariantsFault N e.reason k input.old.now) }
         ensures rest { OnErr result (IsEndOf input.old.now input.new.now) }
-        ensures free { IsTrue (variants_stand_raw N k) → IfErr result (λ e. e.reason ≢ Reason.OutOfMemory) }
     {
         if C_STYLE {
             let [] = unpack_bytes_less_than::<N, 0>(self.alloc, input, k, &mut self.variants)?;
@@ -91,9 +91,7 @@ impl<'a, const N: usize, const C_STYLE: bool> HoldsData for VariantDecoder<'a, N
 }
 
 impl<'a, const N: usize, const C_STYLE: bool> View<'a> for VariantDecoder<'a, N, C_STYLE> {
-    ghost reads_free = { λ k input. IsTrue (variants_stand_raw N k) };
-
-    ghost faults = { λ reason k input. NamesVariantFault reason N k input };
+    ghost faults = { λ reason k input. NamesVariantsFault N reason k input };
 
     fn new(alloc: Global) -> Self {
         VariantDecoder::new(alloc)

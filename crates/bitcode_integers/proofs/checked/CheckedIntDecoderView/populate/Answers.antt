@@ -13,12 +13,12 @@ pub returns-in_err-unpack-clause-refused : goal.returns-in_err-unpack-clause-ref
 returns-in_err-unpack-clause-refused g c =
     let refused = err_from_is_err_and c.from_residual.result c.from_residual.ensures.1 in
     rw (refused.1, refused.2)
-    (checked_refusal g.I.ColumnInt.width g.I.ColumnInt.signed g.C.Checked.allowed _ c.args.k c.args.input.now.now (in_column c.in_err-unpack.ensures.refused))
+    (checked_refusal g.I.ColumnInt.width g.I.ColumnInt.signed g.C.Checked.allowed _ c.args.k c.args.input.now.now (in_column (record { named = c.in_err-unpack.ensures.refused; free = c.in_err-unpack.ensures.raw })))
 
 pub returns-in_err-unpack-clause-exact : goal.returns-in_err-unpack-clause-exact
 returns-in_err-unpack-clause-exact g c =
     let refused = err_from_is_err_and c.from_residual.result c.from_residual.ensures.1 in
-    rw (refused.1, refused.2) (in_column c.in_err-unpack.ensures.refused)
+    rw (refused.1, refused.2) (in_column (record { named = c.in_err-unpack.ensures.refused; free = c.in_err-unpack.ensures.raw }))
 
 pub returns-then-not-are_allowed-clause-exact : goal.returns-then-not-are_allowed-clause-exact
 returns-then-not-are_allowed-clause-exact g c =

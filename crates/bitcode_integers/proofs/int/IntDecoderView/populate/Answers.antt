@@ -1,7 +1,7 @@
 -- The entries that were read, as data.
 use Rattle.bitcode_numbers.specs.LittleEndian.{little_endian}
 use Rattle.bitcode_input.specs.Fast.{cow_rest}
-use Rattle.bitcode_coder.proofs.CoderLemmas.{ints_read_ok, ints_refused_err}
+use Rattle.bitcode_coder.proofs.CoderLemmas.{ints_read_ok, ints_refused_err, ints_exact}
 use Rattle.bitcode_integers.proofs.int.IntDecoderView.populate.Goals as goal
 
 pub returns-clause-read : goal.returns-clause-read
@@ -12,3 +12,7 @@ returns-clause-read g c =
 pub returns-clause-refused : goal.returns-clause-refused
 returns-clause-refused g c =
     ints_refused_err c.unpack.result g.T.ColumnInt.width g.T.ColumnInt.signed c.args.k c.args.input.now.now c.unpack.ensures.refused
+
+pub returns-clause-exact : goal.returns-clause-exact
+returns-clause-exact g c =
+    ints_exact c.unpack.result g.T.ColumnInt.width c.args.k c.args.input.now.now c.unpack.ensures.refused c.unpack.ensures.raw

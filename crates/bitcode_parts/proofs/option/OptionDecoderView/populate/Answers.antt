@@ -1,7 +1,7 @@
 -- The variants are read, then the places without a value, and then the values from what is left.
 use Rattle.std.proofs.Common.{refl}
 use Rattle.bitcode_shapes.specs.Shape.{unit_shape}
-use Rattle.bitcode_parts.proofs.TwoVariantLemmas.{variants_stopped, first_stopped, first_rest, second_free, choice_read, choice_refused, choice_rest}
+use Rattle.bitcode_parts.proofs.TwoVariantLemmas.{variants_stopped, first_stopped, first_rest, choice_read, choice_refused, choice_rest}
 use Rattle.bitcode_parts.proofs.option.OptionDecoderView.populate.Goals as goal
 
 pub returns-in_err-populate-clause-refused : goal.returns-in_err-populate-clause-refused
@@ -28,10 +28,3 @@ returns-clause-refused g c =
 pub returns-clause-rest : goal.returns-clause-rest
 returns-clause-rest g c =
     choice_rest _ c.populate-3.result c.in_ok-populate.ensures.read c.in_ok-populate-2.ensures.read c.populate-3.ensures.rest
-
-pub returns-clause-free : goal.returns-clause-free
-returns-clause-free g c = λ free.
-    c.populate-3.ensures.free (
-    second_free unit_shape g.D.HoldsData.shape c.in_ok-populate.ensures.read (c.in_ok-populate.ensures.counts refl) c.length.ensures
-    c.in_ok-populate-2.ensures.read c.length-2.ensures (λ k input. Unit {0}) g.D.View.reads_free free
-    )
