@@ -11,4 +11,4 @@ pub use Rattle.bitcode_shapes.specs.Choices.{IsVariantValue, ListsChoice, ListsV
 pub use Rattle.bitcode_coder.specs.Columns.{no_columns, two}
 pub use Rattle.bitcode_tuples.specs.Pairs.{pairs_of}
 pub use Rattle.bitcode_parts.specs.Payloads.{choices_of}
-pub use Rattle.bitcode_parts.specs.VariantCoders.{variant_room, variants_left}
+pub use Rattle.bitcode_parts.specs.VariantCoders.{variant_room, variants_left, variants_owned}

@@ -1,5 +1,5 @@
 // A struct of two fields, written by hand.
-ghost use Rattle.std.specs.Prelude.{true, min, refl};
+ghost use Rattle.std.specs.Prelude.{true, false, min, refl, ◌+◌};
 ghost use Rattle.bitcode.specs.ByHand.{struct_lawful, struct_makeable, u32_lawful, u32_makeable, str_lawful, str_makeable, two, pairs_of};
 ghost use Rattle.bitcode_by_hand.specs.Foo.{foo_fields};
 
@@ -55,7 +55,11 @@ impl HoldsColumns for FooEncoder {
 
     ghost room = { λ e. min (⟦<IntEncoder<u32> as HoldsColumns>⟧.room e.x) (⟦<StrEncoder as HoldsColumns>⟧.room e.y) };
 
+    ghost capacity = { λ e. ⟦<IntEncoder<u32> as HoldsColumns>⟧.capacity e.x + ⟦<StrEncoder as HoldsColumns>⟧.capacity e.y };
+
     ghost surely_passes = { λ e n. ⊥ };
+
+    ghost overflows = { λ e n. ⊥ };
 }
 
 impl Buffer for FooEncoder {
@@ -83,6 +87,8 @@ impl Buffer for FooEncoder {
 }
 
 impl<'a> Encoder<Foo<'a>> for FooEncoder {
+    ghost writes_free = { false };
+
     fn encode(&mut self, t: &Foo<'a>) -> Result<()> {
         self.x.encode(&t.x)?;
         self.y.encode(&t.y)
@@ -105,6 +111,8 @@ impl<'a> HoldsData for FooDecoder<'a> {
     ghost shape = { ⟦<Fields<'a> as HoldsData>⟧.shape };
 
     ghost held = { λ d. pairs_of (⟦<IntDecoder<'a, u32> as HoldsData>⟧.held d.x) (⟦<StrDecoder<'a> as HoldsData>⟧.held d.y) };
+
+    ghost owned = { λ d. ⟦<IntDecoder<'a, u32> as HoldsData>⟧.owned d.x + ⟦<StrDecoder<'a> as HoldsData>⟧.owned d.y };
 }
 
 impl<'a> View<'a> for FooDecoder<'a> {

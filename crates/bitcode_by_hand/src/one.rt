@@ -52,7 +52,11 @@ impl HoldsColumns for OneEncoder {
 
     ghost room = { λ e. ⟦<IntEncoder<u8> as HoldsColumns>⟧.room e.a };
 
+    ghost capacity = { λ e. ⟦<IntEncoder<u8> as HoldsColumns>⟧.capacity e.a };
+
     ghost surely_passes = { λ e n. ⊥ };
+
+    ghost overflows = { λ e n. ⊥ };
 }
 
 impl Buffer for OneEncoder {
@@ -76,6 +80,8 @@ impl Buffer for OneEncoder {
 }
 
 impl Encoder<One> for OneEncoder {
+    ghost writes_free = { true };
+
     fn encode(&mut self, t: &One) -> Result<()> {
         let One::A(a) = t;
         self.a.encode(a)
@@ -95,6 +101,8 @@ impl<'a> HoldsData for OneDecoder<'a> {
     ghost shape = { ⟦<u8 as Shaped>⟧.shape };
 
     ghost held = { λ d. ⟦<IntDecoder<'a, u8> as HoldsData>⟧.held d.a };
+
+    ghost owned = { λ d. ⟦<IntDecoder<'a, u8> as HoldsData>⟧.owned d.a };
 }
 
 impl<'a> View<'a> for OneDecoder<'a> {

@@ -1,12 +1,12 @@
 // The coders of maps: the lengths of all, behind them the columns of all keys, and behind these those of all values.
 #![tactic(auto, unfolding(bitcode_coder::specs::LengthCoders::lengths_left, bitcode_coder::specs::LengthCoders::lengths_sum))]
 
-ghost use Rattle.std.specs.Prelude.{◌≡◌, [], None, map, false, min};
+ghost use Rattle.std.specs.Prelude.{◌≡◌, ◌+◌, [], None, map, false, min};
 ghost use Rattle.std.proofs.Common.{sym, ap, ap₂, ◌∙◌};
 ghost use Rattle.bitcode_shapes.specs.Shape.{Shape};
 ghost use Rattle.bitcode_coder.specs.Coding.{written_columns};
 ghost use Rattle.bitcode_coder.specs.Columns.{lengths, one, two};
-ghost use Rattle.bitcode_coder.specs.LengthCoders.{written_lengths, length_room};
+ghost use Rattle.bitcode_coder.specs.LengthCoders.{written_lengths, length_room, length_capacity};
 ghost use Rattle.bitcode_coder.specs.Spelling.{natural};
 ghost use Rattle.bitcode_containers.specs.Maps.{map_of};
 
@@ -44,7 +44,11 @@ impl<K: HoldsColumns, V: HoldsColumns> HoldsColumns for MapEncoder<K, V> {
 
     ghost room = { λ e. length_room e.lengths };
 
+    ghost capacity = { λ e. length_capacity e.lengths + K.capacity e.keys + V.capacity e.values };
+
     ghost surely_passes = { λ e n. ⊥ };
+
+    ghost overflows = { λ e n. ⊥ };
 }
 
 impl<K: Buffer, V: Buffer> Buffer for MapEncoder<K, V> {
@@ -74,6 +78,8 @@ impl<K: Buffer, V: Buffer> Buffer for MapEncoder<K, V> {
 }
 
 impl<M: Mapping, K: Buffer + Encoder<M::Key>, V: Buffer + Encoder<M::Value>> Encoder<M> for MapEncoder<K, V> {
+    ghost writes_free = { false };
+
     fn encode(&mut self, t: &M) -> Result<(), Error> {
         t.told();
         let count = t.entry_count();
@@ -107,6 +113,8 @@ impl<'a, D: HoldsData> HoldsData for MapDecoder<'a, D> {
     ghost shape = { map_of D.shape };
 
     ghost held = { λ d. ⟦<VecDecoder<'a, D> as HoldsData>⟧.held d.entries };
+
+    ghost owned = { λ d. ⟦<VecDecoder<'a, D> as HoldsData>⟧.owned d.entries };
 }
 
 impl<'a, D: View<'a>> View<'a> for MapDecoder<'a, D> {
