@@ -27,7 +27,7 @@ pub struct Buffer<T: Encode> {
 }
 
 impl<T: Encode> Buffer<T> {
-    /// HoldsData nothing. Takes no memory.
+    /// Holds nothing. Takes no memory.
     pub fn new(alloc: Global) -> Self
         ensures columns { T.Encoder.capacity result.encoder ≡ 0 }
         ensures bytes { vec_capacity result.bytes ≡ 0 }

@@ -60,7 +60,7 @@ fn any_byte_over(bytes: &[u8], limit: usize) -> bool
 impl<'a> LengthDecoder<'a> {
     ghost use Rattle.bitcode_coder.specs.LengthCoders.{short_left, large_left, lengths_left, lengths_sum, lengths_owned};
 
-    /// HoldsData no lengths. Takes no memory.
+    /// Holds no lengths. Takes no memory.
     pub fn new(alloc: Global) -> Self
         ensures left { lengths_left result ≡ [] }
         ensures sum { lengths_sum result ≡ 0 }

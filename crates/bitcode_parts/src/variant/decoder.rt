@@ -32,7 +32,7 @@ pub struct VariantDecoder<'a, const N: usize, const C_STYLE: bool> {
 impl<'a, const N: usize, const C_STYLE: bool> VariantDecoder<'a, N, C_STYLE> {
     ghost use Rattle.bitcode_parts.specs.VariantCoders.{variants_left, variant_counts, variants_owned};
 
-    /// HoldsData no variants. Takes no memory.
+    /// Holds no variants. Takes no memory.
     pub fn new(alloc: Global) -> Self
         ensures left { variants_left result ≡ [] }
         ensures counts { AreCounts N [] (variant_counts result) }
