@@ -77,7 +77,8 @@ impl<K: Buffer, V: Buffer> Buffer for MapEncoder<K, V> {
     }
 }
 
-impl<M: Mapping, K: Buffer + Encoder<M::Key>, V: Buffer + Encoder<M::Value>> Encoder<M> for MapEncoder<K, V> {
+impl<M: Mapping, K: Buffer + Encoder<M::Key>, V: Buffer + Encoder<M::Value>> Encoder<M>
+    for MapEncoder<K, V> {
     ghost writes_free = { false };
 
     fn encode(&mut self, t: &M) -> Result<(), Error> {

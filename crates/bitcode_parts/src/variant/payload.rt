@@ -16,7 +16,10 @@ use bitcode_shapes::shaped::Shaped;
 /// self.variants.encode(1);
 /// encode_payload(&mut self.some, t)
 /// ```
-pub fn encode_payload<T: Shaped, E: Buffer + Encoder<T>>(encoder: &mut E, t: &T) -> Result<(), Error>
+pub fn encode_payload<T: Shaped, E: Buffer + Encoder<T>>(
+    encoder: &mut E,
+    t: &T,
+) -> Result<(), Error>
     ensures joined { OnOk result (JoinsListing T.lists T.shape t.now (E.columns encoder.old) (E.columns encoder.new)) }
     ensures form { emptied (E.columns encoder.new) ≡ emptied (E.columns encoder.old) }
     ensures refused { IfErr result (λ e. IsWritingRefusal e.reason (PassesWithListing T.lists T.shape t.now (E.columns encoder.old))) }
