@@ -13,7 +13,7 @@ pub use Rattle.bitcode_shapes.specs.Choices.{IsVariantValue, ListsChoice, ListsV
 pub use Rattle.bitcode_coder.specs.Columns.{no_columns, two}
 pub use Rattle.bitcode_tuples.specs.Pairs.{pairs_of}
 pub use Rattle.bitcode_parts.specs.Payloads.{choices_of}
-pub use Rattle.bitcode_parts.specs.VariantCoders.{variant_room, variants_left}
+pub use Rattle.bitcode_parts.specs.VariantCoders.{variant_room, variants_left, variants_owned}
 -- The laws of vectors, and what containers are made of:
 pub use Rattle.bitcode_shapes.specs.LawfulVectors.{vec_lawful, vec_makeable}
 pub use Rattle.bitcode_containers.specs.Elements.{MakesOfElements}

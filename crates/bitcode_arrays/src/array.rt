@@ -1,5 +1,5 @@
 // The coders of arrays.
-ghost use Rattle.std.specs.Prelude.{◌≡◌, ◌≢◌, ◌+◌, ◌*◌, ◌^◌, ◌<◌, ◌≤◌, ◌==◌, IsOk, OnOk, IfErr, OnErr, IsErrOf};
+ghost use Rattle.std.specs.Prelude.{◌≡◌, ◌≢◌, ◌+◌, ◌*◌, ◌^◌, ◌<◌, ◌≤◌, ◌==◌, ◌||◌, IsOk, OnOk, IfErr, OnErr, IsErrOf};
 ghost use Rattle.bitcode_columns.specs.Reading.{Reads, IsEndOf};
 ghost use Rattle.bitcode_shapes.specs.Shape.{array_shape};
 ghost use Rattle.bitcode_coder.specs.Coding.{IsWritingRefusal, IsReadingRefusal};
@@ -42,7 +42,11 @@ impl<E: HoldsColumns, const N: usize> HoldsColumns for ArrayEncoder<E, N> {
 
     ghost room = { λ e. array_room N e.count (E.room e.elements) };
 
+    ghost capacity = { λ e. E.capacity e.elements };
+
     ghost surely_passes = { λ e n. ArraysPass N E.surely_passes e.elements e.count n };
+
+    ghost overflows = { λ e n. ArraysPass N E.overflows e.elements e.count n };
 }
 
 impl<E: Buffer, const N: usize> Buffer for ArrayEncoder<E, N> {
@@ -59,7 +63,7 @@ impl<E: Buffer, const N: usize> Buffer for ArrayEncoder<E, N> {
         ensures grows { array_room N self.old.count (E.room self.old.elements) ≤ array_room N self.new.count (E.room self.new.elements) }
         ensures succeeds { n ≤ array_room N self.old.count (E.room self.old.elements) → IsOk result }
         ensures refused { IfErr result (λ e. IsWritingRefusal e.reason (ArraysPass N E.surely_passes self.old.elements self.old.count n)) }
-        ensures overflow { 2 ^ 64 ≤ (self.old.count + n) * N → IsErrOf result (record { reason = Reason.LengthOverflow }) }
+        ensures overflow { ArraysPass N E.overflows self.old.elements self.old.count n → IsErrOf result (record { reason = Reason.LengthOverflow }) }
     {
         let Some(count) = self.count.checked_add(n) else {
             return err(Reason::LengthOverflow);
@@ -81,6 +85,8 @@ impl<E: Buffer, const N: usize> Buffer for ArrayEncoder<E, N> {
 }
 
 impl<T: Shaped, E: Encoder<T>, const N: usize> Encoder<[T; N]> for ArrayEncoder<E, N> {
+    ghost writes_free = { E.writes_free || N == 0 };
+
     fn encode(&mut self, t: &[T; N]) -> Result<(), Error> {
         encode_each(&mut self.elements, t.as_slice())?;
         if N > 0 {
@@ -116,6 +122,8 @@ impl<D: HoldsData, const N: usize> HoldsData for ArrayDecoder<D, N> {
     ghost shape = { array_shape N D.shape };
 
     ghost held = { λ d. arrays_of N d.left (D.held d.elements) };
+
+    ghost owned = { λ d. D.owned d.elements };
 }
 
 impl<'a, D: View<'a>, const N: usize> View<'a> for ArrayDecoder<D, N> {

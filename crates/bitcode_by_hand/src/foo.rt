@@ -1,12 +1,12 @@
 // A struct of two fields, written by hand.
-ghost use Rattle.std.specs.Prelude.{true, min, refl};
+ghost use Rattle.std.specs.Prelude.{true, min, refl, false, ◌+◌};
 ghost use Rattle.bitcode.specs.ByHand.{struct_lawful, struct_makeable, u32_lawful, u32_makeable, str_lawful, str_makeable, struct_same_arrays, u32_same_arrays, str_same_arrays, two, pairs_of};
 ghost use Rattle.bitcode_by_hand.specs.Foo.{foo_fields};
 
 use bitcode::coder::{Buffer, HoldsColumns, HoldsData, Result};
 use bitcode::{
-    Decoder, Encoder, IntDecoder, IntEncoder, Made, SameArrays, Shaped, StrDecoder, HasDecoder, HasEncoder,
-    StrEncoder, TupleDecoder, View,
+    Decoder, Encoder, HasDecoder, HasEncoder, IntDecoder, IntEncoder, Made, SameArrays, Shaped,
+    StrDecoder, StrEncoder, TupleDecoder, View,
 };
 use std::alloc::Global;
 
@@ -57,7 +57,11 @@ impl HoldsColumns for FooEncoder {
 
     ghost room = { λ e. min (⟦<IntEncoder<u32> as HoldsColumns>⟧.room e.x) (⟦<StrEncoder as HoldsColumns>⟧.room e.y) };
 
+    ghost capacity = { λ e. ⟦<IntEncoder<u32> as HoldsColumns>⟧.capacity e.x + ⟦<StrEncoder as HoldsColumns>⟧.capacity e.y };
+
     ghost surely_passes = { λ e n. ⊥ };
+
+    ghost overflows = { λ e n. ⊥ };
 }
 
 impl Buffer for FooEncoder {
@@ -85,6 +89,8 @@ impl Buffer for FooEncoder {
 }
 
 impl<'a> Encoder<Foo<'a>> for FooEncoder {
+    ghost writes_free = { false };
+
     fn encode(&mut self, t: &Foo<'a>) -> Result<()> {
         self.x.encode(&t.x)?;
         self.y.encode(&t.y)
@@ -107,6 +113,8 @@ impl<'a> HoldsData for FooDecoder<'a> {
     ghost shape = { ⟦<Fields<'a> as HoldsData>⟧.shape };
 
     ghost held = { λ d. pairs_of (⟦<IntDecoder<'a, u32> as HoldsData>⟧.held d.x) (⟦<StrDecoder<'a> as HoldsData>⟧.held d.y) };
+
+    ghost owned = { λ d. ⟦<IntDecoder<'a, u32> as HoldsData>⟧.owned d.x + ⟦<StrDecoder<'a> as HoldsData>⟧.owned d.y };
 }
 
 impl<'a> View<'a> for FooDecoder<'a> {

@@ -1,5 +1,5 @@
 // An enum without variants, written by hand. Its coders serve every type without values.
-ghost use Rattle.std.specs.Prelude.{◌≡◌, ◌<◌, false, refl, replicate};
+ghost use Rattle.std.specs.Prelude.{◌≡◌, ◌<◌, true, false, refl, replicate};
 ghost use Rattle.bitcode_input.specs.declared.error.Reason.TheVariants.{InvalidEnumVariant};
 ghost use Rattle.bitcode_shapes.specs.Datum.{unit};
 ghost use Rattle.bitcode_shapes.specs.Shape.{never_shape};
@@ -30,7 +30,11 @@ impl HoldsColumns for NeverEncoder {
 
     ghost room = { λ e. endless_room };
 
+    ghost capacity = { λ e. 0 };
+
     ghost surely_passes = { λ e n. ⊥ };
+
+    ghost overflows = { λ e n. ⊥ };
 }
 
 impl Buffer for NeverEncoder {
@@ -50,6 +54,8 @@ impl Buffer for NeverEncoder {
 }
 
 impl<T: NoVariants> Encoder<T> for NeverEncoder {
+    ghost writes_free = { true };
+
     fn encode(&mut self, _t: &T) -> Result<()> {
         Ok(())
     }
@@ -69,6 +75,8 @@ impl HoldsData for NeverDecoder {
     ghost shape = { never_shape };
 
     ghost held = { λ d. replicate d.left unit };
+
+    ghost owned = { λ d. 0 };
 }
 
 impl<'a> View<'a> for NeverDecoder {

@@ -5,7 +5,8 @@ ghost use Rattle.bitcode_by_hand.specs.One.{one_field, one_found};
 
 use bitcode::coder::{Buffer, HoldsColumns, HoldsData, Result};
 use bitcode::{
-    DecodeOwned, Decoder, Encoder, IntDecoder, IntEncoder, Made, SameArrays, Shaped, View, HasDecoder, HasEncoder,
+    DecodeOwned, Decoder, Encoder, HasDecoder, HasEncoder, IntDecoder, IntEncoder, Made,
+    SameArrays, Shaped, View,
 };
 use std::alloc::Global;
 
@@ -54,7 +55,11 @@ impl HoldsColumns for OneEncoder {
 
     ghost room = { λ e. ⟦<IntEncoder<u8> as HoldsColumns>⟧.room e.a };
 
+    ghost capacity = { λ e. ⟦<IntEncoder<u8> as HoldsColumns>⟧.capacity e.a };
+
     ghost surely_passes = { λ e n. ⊥ };
+
+    ghost overflows = { λ e n. ⊥ };
 }
 
 impl Buffer for OneEncoder {
@@ -78,6 +83,8 @@ impl Buffer for OneEncoder {
 }
 
 impl Encoder<One> for OneEncoder {
+    ghost writes_free = { true };
+
     fn encode(&mut self, t: &One) -> Result<()> {
         let One::A(a) = t;
         self.a.encode(a)
@@ -97,6 +104,8 @@ impl<'a> HoldsData for OneDecoder<'a> {
     ghost shape = { ⟦<u8 as Shaped>⟧.shape };
 
     ghost held = { λ d. ⟦<IntDecoder<'a, u8> as HoldsData>⟧.held d.a };
+
+    ghost owned = { λ d. ⟦<IntDecoder<'a, u8> as HoldsData>⟧.owned d.a };
 }
 
 impl<'a> View<'a> for OneDecoder<'a> {

@@ -1,16 +1,16 @@
 // An enum of two variants, written by hand.
-ghost use Rattle.std.specs.Prelude.{[], ◌∷◌, true, refl};
+ghost use Rattle.std.specs.Prelude.{[], ◌∷◌, true, false, refl, ◌+◌};
 ghost use Rattle.std.proofs.Common.{lit≤};
 ghost use Rattle.bitcode.specs.ByHand.{choice_lawful, choice_makeable, first_lawful, first_makeable, last_lawful, last_makeable, image_lawful, image_makeable};
 ghost use Rattle.bitcode.specs.ByHand.{u8_lawful, u8_makeable, i8_lawful, i8_makeable, choice_shape, shape_and, no_shapes};
 ghost use Rattle.bitcode.specs.ByHand.{IsVariantValue, ListsChoice, ListsVariant, ListsLast, MakesChoice, MakesVariant, MakesLast, SameVariant};
-ghost use Rattle.bitcode.specs.ByHand.{no_columns, two, choices_of, variant_room, variants_left};
-ghost use Rattle.bitcode.specs.ByHand.{image_same_arrays, choice_same_arrays, first_same_arrays, last_same_arrays, u8_same_arrays, i8_same_arrays};
+ghost use Rattle.bitcode.specs.ByHand.{no_columns, two, choices_of, variant_room, variants_left, image_same_arrays, choice_same_arrays, first_same_arrays, last_same_arrays, u8_same_arrays, i8_same_arrays, variants_owned};
 ghost use Rattle.bitcode_by_hand.specs.Two.{two_variant, two_found};
 
 use bitcode::coder::{Buffer, HoldsColumns, HoldsData, Result};
 use bitcode::{
-    DecodeOwned, Decoder, Encoder, IntDecoder, IntEncoder, Made, ResultDecoder, SameArrays, Shaped, VariantDecoder, VariantEncoder, View, encode_payload, HasDecoder, HasEncoder,
+    DecodeOwned, Decoder, Encoder, HasDecoder, HasEncoder, IntDecoder, IntEncoder, Made,
+    ResultDecoder, SameArrays, Shaped, VariantDecoder, VariantEncoder, View, encode_payload,
 };
 use std::alloc::Global;
 
@@ -65,7 +65,11 @@ impl HoldsColumns for TwoEncoder {
 
     ghost room = { λ e. variant_room e.variants };
 
+    ghost capacity = { λ e. ⟦<VariantEncoder<2> as HoldsColumns>⟧.capacity e.variants + ⟦<IntEncoder<u8> as HoldsColumns>⟧.capacity e.a + ⟦<IntEncoder<i8> as HoldsColumns>⟧.capacity e.b };
+
     ghost surely_passes = { λ e n. ⊥ };
+
+    ghost overflows = { λ e n. ⊥ };
 }
 
 impl Buffer for TwoEncoder {
@@ -95,6 +99,8 @@ impl Buffer for TwoEncoder {
 }
 
 impl Encoder<Two> for TwoEncoder {
+    ghost writes_free = { false };
+
     fn encode(&mut self, t: &Two) -> Result<()> {
         match t {
             Two::A(a) => {
@@ -126,6 +132,8 @@ impl<'a> HoldsData for TwoDecoder<'a> {
     ghost shape = { ⟦<Variants<'a> as HoldsData>⟧.shape };
 
     ghost held = { λ d. choices_of (variants_left d.variants) (⟦<IntDecoder<'a, u8> as HoldsData>⟧.held d.a ∷ ⟦<IntDecoder<'a, i8> as HoldsData>⟧.held d.b ∷ []) };
+
+    ghost owned = { λ d. variants_owned d.variants + ⟦<IntDecoder<'a, u8> as HoldsData>⟧.owned d.a + ⟦<IntDecoder<'a, i8> as HoldsData>⟧.owned d.b };
 }
 
 impl<'a> View<'a> for TwoDecoder<'a> {

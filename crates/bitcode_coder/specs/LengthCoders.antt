@@ -1,6 +1,6 @@
 -- What the coders of lengths hold.
-use Rattle.std.specs.Prelude.{ℕ, List, map}
-use Rattle.bitcode_input.specs.Fast.{fast_items, fast_room, cow_rest}
+use Rattle.std.specs.Prelude.{ℕ, ◌+◌, List, map, vec_capacity}
+use Rattle.bitcode_input.specs.Fast.{fast_items, fast_room, fast_capacity, cow_rest, cow_owned}
 use Rattle.bitcode_numbers.specs.LittleEndian.{little_endian}
 use Rattle.bitcode_coder.specs.declared.length.encoder.LengthEncoder.{LengthEncoder}
 use Rattle.bitcode_coder.specs.declared.length.decoder.LengthDecoder.{LengthDecoder}
@@ -13,6 +13,10 @@ written_lengths e = lengths_from (fast_items e.small) e.large.items
 -- for how many more lengths there is room
 unfoldable pub length_room : LengthEncoder → ℕ
 length_room e = fast_room e.small
+
+-- how many entries both lists have memory for, those that they hold included
+unfoldable pub length_capacity : LengthEncoder → ℕ
+length_capacity e = fast_capacity e.small + vec_capacity e.large
 
 -- the short bytes of the lengths that are left
 unfoldable pub short_left : LengthDecoder → List ℕ
@@ -29,3 +33,7 @@ lengths_left d = lengths_from (cow_rest d.small) (map little_endian (cow_rest d.
 -- the sum of the lengths that were read
 unfoldable pub lengths_sum : LengthDecoder → ℕ
 lengths_sum d = d.sum
+
+-- how many entries both parts have memory of their own for
+unfoldable pub lengths_owned : LengthDecoder → ℕ
+lengths_owned d = cow_owned d.small + cow_owned d.large

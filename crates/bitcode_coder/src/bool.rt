@@ -2,8 +2,8 @@
 #![tactic(auto, using(crate::proofs::CoderLemmas::truths_in, crate::proofs::CoderLemmas::bools_read, crate::proofs::CoderLemmas::bools_refused, crate::proofs::CoderLemmas::bools_exact))]
 
 ghost use Rattle.std.specs.Prelude.{◌≡◌, ◌≢◌, ◌≤◌, ◌++◌, map, true, refl, IsTrue, IsOk, IfOk, OnOk, IfErr, OnErr};
-ghost use Rattle.bitcode_input.specs.Fast.{fast_items, fast_room, cow_rest};
-ghost use Rattle.bitcode_columns.specs.Reading.{Reads, IsEndOf};
+ghost use Rattle.bitcode_input.specs.Fast.{fast_items, fast_room, cow_rest, fast_capacity, cow_owned};
+ghost use Rattle.bitcode_columns.specs.Reading.{Reads, IsEndOf, Names, bools_fault};
 ghost use Rattle.bitcode_shapes.specs.Shape.{bool_shape};
 ghost use Rattle.bitcode_coder.specs.Columns.{bools, one};
 ghost use Rattle.bitcode_coder.specs.Spelling.{Spells, truth};
@@ -27,7 +27,11 @@ impl HoldsColumns for BoolEncoder {
 
     ghost room = { λ e. fast_room e.values };
 
+    ghost capacity = { λ e. fast_capacity e.values };
+
     ghost surely_passes = { λ e n. ⊥ };
+
+    ghost overflows = { λ e n. ⊥ };
 }
 
 impl Buffer for BoolEncoder {
@@ -53,6 +57,8 @@ impl Buffer for BoolEncoder {
 }
 
 impl Encoder<bool> for BoolEncoder {
+    ghost writes_free = { true };
+
     fn encode(&mut self, t: &bool) -> Result<(), Error> {
         self.values.push_unchecked(*t);
         Ok(())
@@ -74,6 +80,8 @@ impl<'a> HoldsData for BoolDecoder<'a> {
     ghost shape = { bool_shape };
 
     ghost held = { λ d. map truth (cow_rest d.values) };
+
+    ghost owned = { λ d. cow_owned d.values };
 }
 
 impl<'a> View<'a> for BoolDecoder<'a> {

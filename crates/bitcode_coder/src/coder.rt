@@ -1,5 +1,5 @@
 // The four traits that coders of columns and of types meet.
-ghost use Rattle.std.specs.Prelude.{◌≡◌, ◌≢◌, ℕ, ◌+◌, ◌<◌, ◌≤◌, Bool, List, [], ◌∷◌, ◌++◌, length, map, IsTrue, IsOk, IfOk, OnOk, IfErr, OnErr};
+ghost use Rattle.std.specs.Prelude.{◌≡◌, ◌≢◌, ℕ, ◌+◌, ◌<◌, ◌≤◌, Bool, List, [], ◌∷◌, ◌++◌, length, map, IsTrue, IsOk, IfOk, OnOk, IfErr, OnErr, IsErrOf};
 ghost use Rattle.bitcode_input.specs.declared.error.Reason.{Reason};
 ghost use Rattle.bitcode_columns.specs.Reading.{Reads, IsEndOf};
 ghost use Rattle.bitcode_shapes.specs.Datum.{Datum};
@@ -26,8 +26,14 @@ pub trait HoldsColumns {
     // how many more values surely have their place
     ghost room: { Self → ℕ };
 
+    // how many entries its lists have memory for, those that they hold included
+    ghost capacity: { Self → ℕ };
+
     // so many more values make a number of arrays pass, whatever they are
     ghost surely_passes: { Self → ℕ → Type 0 };
+
+    // that so many more values make a number of arrays pass is found before memory is asked for
+    ghost overflows: { Self → ℕ → Type 0 };
 }
 
 /// Columns that grow, value by value.
@@ -36,17 +42,20 @@ pub trait HoldsColumns {
 pub trait Buffer: HoldsColumns {
     /// Columns without entries. Takes no memory.
     fn new(alloc: Global) -> Self
-        ensures { Self.columns result ≡ emptied (Self.columns result) };
+        ensures empty { Self.columns result ≡ emptied (Self.columns result) }
+        ensures capacity { Self.capacity result ≡ 0 };
 
     /// Makes room for `n` more values.
     ///
-    /// A refused growth is `out of memory`, and `length overflow` comes only where no `n` values can follow.
+    /// A refused growth is `out of memory`, and `length overflow` comes only where no `n` values can follow. Where that
+    /// is found before memory is asked for, it is `length overflow` whatever memory there is.
     fn reserve(&mut self, n: usize) -> Result<(), Error>
         ensures columns { Self.columns self.new ≡ Self.columns self.old }
         ensures ok { OnOk result (n ≤ Self.room self.new) }
         ensures grows { Self.room self.old ≤ Self.room self.new }
         ensures succeeds { n ≤ Self.room self.old → IsOk result }
-        ensures refused { IfErr result (λ e. IsWritingRefusal e.reason (Self.surely_passes self.old n)) };
+        ensures refused { IfErr result (λ e. IsWritingRefusal e.reason (Self.surely_passes self.old n)) }
+        ensures overflow { Self.overflows self.old n → IsErrOf result (record { reason = Reason.LengthOverflow }) };
 
     /// Writes the columns behind `out`, and leaves them empty.
     ///
@@ -60,7 +69,8 @@ pub trait Buffer: HoldsColumns {
 
     /// Drops all entries. Takes no memory. Room is to be reserved anew.
     fn clear(&mut self)
-        ensures { Self.columns self.new ≡ emptied (Self.columns self.old) };
+        ensures empty { Self.columns self.new ≡ emptied (Self.columns self.old) }
+        ensures capacity { Self.capacity self.new ≤ Self.capacity self.old };
 
     /// Writes the columns as bytes of their own, and leaves them empty.
     ///
@@ -79,6 +89,9 @@ pub trait Buffer: HoldsColumns {
 
 /// Columns that values of `T` are written to.
 pub trait Encoder<T: Shaped>: HoldsColumns {
+    // writing a value takes no memory, where room for it was reserved
+    ghost writes_free: { Bool };
+
     /// Joins the columns of a value to those so far. Room for it was reserved.
     ///
     /// Want of memory inside the value is `out of memory`, and `length overflow` comes only where a number of
@@ -88,19 +101,21 @@ pub trait Encoder<T: Shaped>: HoldsColumns {
         ensures joined { OnOk result (JoinsListing T.lists T.shape t.now (Self.columns self.old) (Self.columns self.new)) }
         ensures room { OnOk result (Self.room self.old ≤ Self.room self.new + 1) }
         ensures form { emptied (Self.columns self.new) ≡ emptied (Self.columns self.old) }
-        ensures refused { IfErr result (λ e. IsWritingRefusal e.reason (PassesWithListing T.lists T.shape t.now (Self.columns self.old))) };
+        ensures refused { IfErr result (λ e. IsWritingRefusal e.reason (PassesWithListing T.lists T.shape t.now (Self.columns self.old))) }
+        ensures free { IsTrue writes_free → IfErr result (λ e. e.reason ≢ Reason.OutOfMemory) };
 
     /// Joins the columns of 1 to [`MAX_VECTORED_CHUNK`] values to those so far, as [`Encoder::encode`] does one by one.
     /// Room for them was reserved.
     ///
     /// It refuses as that does: the values up to the one at hand may have been joined then.
     fn encode_vectored(&mut self, values: &[&T]) -> Result<(), Error>
-        requires chunk { (0 < length values.now) × (length values.now ≤ 64) }
+        requires chunk { (0 < length values.now) × (length values.now ≤ MAX_VECTORED_CHUNK) }
         requires room { length values.now ≤ Self.room self.old }
         ensures joined { OnOk result (JoinsEach T.lists T.shape (map (λ value. value.now) values.now) (Self.columns self.old) (Self.columns self.new)) }
         ensures room { OnOk result (Self.room self.old ≤ Self.room self.new + length values.now) }
         ensures form { emptied (Self.columns self.new) ≡ emptied (Self.columns self.old) }
         ensures refused { IfErr result (λ e. IsWritingRefusal e.reason (PassesWithEach T.lists T.shape (map (λ value. value.now) values.now) (Self.columns self.old))) }
+        ensures free { IsTrue writes_free → IfErr result (λ e. e.reason ≢ Reason.OutOfMemory) }
     {
         told_behind(values);
         for value in values {
@@ -123,6 +138,9 @@ pub trait HoldsData {
 
     // the data that are left to take
     ghost held: { Self → List Datum };
+
+    // how many entries it has memory of its own for
+    ghost owned: { Self → ℕ };
 }
 
 /// Data that are read from an input.
@@ -135,7 +153,8 @@ pub trait View<'a>: HoldsData {
 
     /// Holds nothing. Takes no memory.
     fn new(alloc: Global) -> Self
-        ensures { Self.held result ≡ [] };
+        ensures held { Self.held result ≡ [] }
+        ensures owned { Self.owned result ≡ 0 };
 
     /// Reads `k` data from the front of the input, all checks included.
     ///

@@ -1,6 +1,6 @@
 // Bytes of texts, and their coder.
 ghost use Rattle.std.specs.Prelude.{◌≡◌, ◌++◌, map, pos, true, refl, OnOk};
-ghost use Rattle.bitcode_input.specs.Fast.{fast_items, fast_room};
+ghost use Rattle.bitcode_input.specs.Fast.{fast_items, fast_room, fast_capacity};
 ghost use Rattle.bitcode_shapes.specs.SameArrays.{one_datum_same_arrays};
 ghost use Rattle.bitcode_shapes.specs.Shape.{raw_shape};
 ghost use Rattle.bitcode_shapes.specs.Values.{ListsNumber, SameNumber};
@@ -62,7 +62,11 @@ impl HoldsColumns for U8CharEncoder {
 
     ghost room = { λ e. fast_room e.bytes };
 
+    ghost capacity = { λ e. fast_capacity e.bytes };
+
     ghost surely_passes = { λ e n. ⊥ };
+
+    ghost overflows = { λ e n. ⊥ };
 }
 
 impl Buffer for U8CharEncoder {
@@ -88,6 +92,8 @@ impl Buffer for U8CharEncoder {
 }
 
 impl Encoder<U8Char> for U8CharEncoder {
+    ghost writes_free = { true };
+
     fn encode(&mut self, t: &U8Char) -> Result<(), Error> {
         self.bytes.push_unchecked(t.0);
         Ok(())

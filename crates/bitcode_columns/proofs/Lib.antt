@@ -14,6 +14,7 @@ pub mod IntReadingLemmas
 pub mod ByteReadingLemmas
 pub mod WrittenLemmas
 pub mod AppendLemmas
+pub mod RoomLemmas
 pub mod BytePackingLemmas
 pub mod CountLemmas
 pub mod VariantLemmas

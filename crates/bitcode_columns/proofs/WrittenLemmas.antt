@@ -24,7 +24,7 @@ map_within f g (x ∷ xs) each =
 
 -- ---- some entries of a width
 
-record Entries (width : ℕ) (signed : Bool) (entries : List ℤ) : Type 0 where
+pub record Entries (width : ℕ) (signed : Bool) (entries : List ℤ) : Type 0 where
   pub is_width : IsWidth width
   pub some : 1 ≤ length entries
   pub numbers : All (IsNumber width signed) entries
@@ -32,7 +32,7 @@ record Entries (width : ℕ) (signed : Bool) (entries : List ℤ) : Type 0 where
 pub in_order : (entries : List ℤ) → 1 ≤ length entries → least entries ≤ℤ greatest entries
 in_order entries some = least_among (λ e. e ≤ℤ greatest entries) entries some (greatest_above entries)
 
-shifted_fits : (width : ℕ) (signed : Bool) (entries : List ℤ) → Entries width signed entries
+pub shifted_fits : (width : ℕ) (signed : Bool) (entries : List ℤ) → Entries width signed entries
     → IsWidth (shifted_width (least entries) (greatest entries))
     × (unsigned_abs (greatest entries -ℤ least entries) < 256 ^ shifted_width (least entries) (greatest entries))
     × (shifted_width (least entries) (greatest entries) ≤ width)
@@ -41,7 +41,7 @@ shifted_fits width signed entries e = width_for_fits width _ e.is_width
     (least_among (IsNumber width signed) entries e.some e.numbers) (greatest_among (IsNumber width signed) entries e.some e.numbers)
     (in_order entries e.some))
 
-plain_fits : (width : ℕ) (signed : Bool) (entries : List ℤ) → Entries width signed entries
+pub plain_fits : (width : ℕ) (signed : Bool) (entries : List ℤ) → Entries width signed entries
     → IsWidth (plain_width width (least entries) (greatest entries)) × (plain_width width (least entries) (greatest entries) ≤ width)
 plain_fits width signed entries e =
     cond_both (int_lt (least entries) (pos 0)) width (width_for (unsigned_abs (greatest entries))) (λ w. IsWidth w × (w ≤ width))

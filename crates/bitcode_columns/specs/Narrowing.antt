@@ -1,7 +1,7 @@
 -- How the writer of an integer column picks the width of its narrow numbers.
-use Rattle.std.specs.Prelude.{◌≡◌, ℕ, ◌+◌, ◌-◌, ◌%◌, ◌^◌, ℤ, pos, ◌-ℤ◌, int_lt, unsigned_abs, List, ◌++◌, if◌then◌else◌}
-use Rattle.bitcode_numbers.specs.Numbers.{residue}
-use Rattle.bitcode_columns.specs.IntColumn.{width_for}
+use Rattle.std.specs.Prelude.{◌≡◌, ◌≢◌, ℕ, ◌+◌, ◌-◌, ◌%◌, ◌^◌, ℤ, pos, ◌-ℤ◌, int_lt, unsigned_abs, List, length, ◌++◌, nat_lt, ◌&&◌, ◌⊎◌, if◌then◌else◌}
+use Rattle.bitcode_numbers.specs.Numbers.{residue, least, greatest}
+use Rattle.bitcode_columns.specs.IntColumn.{IntForm, bytes_form, bare_form, tagged_form, int_form, width_for}
 
 -- how far the residue of a number lies above a base, going round
 abbrev pub above : (width base : ℕ) → ℤ → ℕ
@@ -14,6 +14,24 @@ plain_width width low high = if int_lt low (pos 0) then width else width_for (un
 -- their width without the least one
 abbrev pub shifted_width : (low high : ℤ) → ℕ
 shifted_width low high = width_for (unsigned_abs (high -ℤ low))
+
+-- the narrower of the two widths, the second one of more than five entries alone
+abbrev pub narrow_width : (count plain shifted : ℕ) → ℕ
+narrow_width count plain shifted = if nat_lt 5 count && nat_lt shifted plain then shifted else plain
+
+abbrev pub numbers_width_as : IntForm → ℕ → List ℤ → ℕ
+numbers_width_as bytes_form width entries = 1
+numbers_width_as bare_form width entries = width
+numbers_width_as tagged_form width entries =
+    narrow_width (length entries) (plain_width width (least entries) (greatest entries)) (shifted_width (least entries) (greatest entries))
+
+-- the width of the numbers that a column is written as
+unfoldable pub numbers_width : ℕ → List ℤ → ℕ
+numbers_width width entries = numbers_width_as (int_form width (length entries)) width entries
+
+-- Numbers of one byte are packed once more, as a byte column. Only that takes memory besides the output's.
+abbrev pub TakesNoScratch : ℕ → List ℤ → Type 0
+TakesNoScratch width entries = (length entries ≡ 0) ⊎ (numbers_width width entries ≢ 1)
 
 -- the list begins with the front
 pub record IsFrontOf (front whole : List ℕ) : Type 0 where

@@ -1,6 +1,7 @@
 // Integers, packed.
-ghost use Rattle.std.specs.Prelude.{◌≡◌, ◌<◌, [], ◌++◌, length, map, OnOk, IfErr, OnErr};
+ghost use Rattle.std.specs.Prelude.{◌≡◌, ◌+◌, ◌*◌, ◌<◌, ◌≤◌, [], ◌++◌, length, map, vec_len, vec_capacity, IsOk, OnOk, IfErr, OnErr};
 ghost use Rattle.bitcode_columns.specs.IntColumn.{int_text};
+ghost use Rattle.bitcode_columns.specs.Narrowing.{TakesNoScratch};
 ghost use Rattle.bitcode_numbers.specs.Numbers.{least, greatest};
 
 use crate::pack_ints::append::append_ints;
@@ -35,11 +36,13 @@ pub fn minmax<T: SizedInt>(values: &[T]) -> (T, T)
 ///
 /// The one `u32` 255 becomes `[4, 255]`: a tag, which says that numbers of one byte stand behind it, and the
 /// number. Room is made for the most that a text can take, the raw bytes and one more, before anything is
-/// appended. A refused growth is `out of memory`, and then `out` is as it was.
+/// appended. A refused growth is `out of memory`, and then `out` is as it was. None comes where `out` has that room and
+/// the numbers are not of one byte, since only those are packed once more, from scratch memory.
 pub fn pack_ints<T: Int>(alloc: Global, ints: &mut [T], out: &mut Vec<u8>) -> Result<(), Error>
     ensures written { OnOk result (out.new.items ≡ out.old.items ++ int_text T.width (map T.number ints.old)) }
     ensures unchanged { OnErr result (out.new.items ≡ out.old.items) }
     ensures reason { IfErr result (λ e. e.reason ≡ Reason.OutOfMemory) }
+    ensures succeeds { TakesNoScratch T.width (map T.number ints.old) → vec_len out.old + (1 + length ints.old * T.width) ≤ vec_capacity out.old → IsOk result }
 {
     let start = out.len();
     out.reserve(ints.len().saturating_mul(T::width()).saturating_add(1))?;

@@ -1,5 +1,5 @@
 // The elements of sequences, written and read one by one, front to back.
-ghost use Rattle.std.specs.Prelude.{◌≡◌, ◌+◌, ◌≤◌, length, All, IsOk, IfOk, OnOk, IfErr};
+ghost use Rattle.std.specs.Prelude.{◌≡◌, ◌≢◌, ◌+◌, ◌≤◌, length, All, IsTrue, IsOk, IfOk, OnOk, IfErr};
 ghost use Rattle.bitcode_input.specs.declared.error.Reason.{Reason};
 ghost use Rattle.bitcode_coder.specs.Columns.{emptied};
 ghost use Rattle.bitcode_coder.specs.Coding.{JoinsEach, PassesWithEach, IsWritingRefusal};
@@ -30,6 +30,8 @@ pub fn encode_lent<'b, T: Shaped + 'b, L: Lends<'b, T>, E: Encoder<T>>(
     ensures room { OnOk result (E.room elements.old ≤ E.room elements.new + length (L.rest lent)) }
     ensures form { emptied (E.columns elements.new) ≡ emptied (E.columns elements.old) }
     ensures refused { IfErr result (λ e. IsWritingRefusal e.reason (PassesWithEach T.lists T.shape (L.rest lent) (E.columns elements.old))) }
+    ensures free { IsTrue E.writes_free → IfErr result (λ e. e.reason ≢ Reason.OutOfMemory) }
+    ensures none { length (L.rest lent) ≡ 0 → IsOk result }
 {
     while let Some(item) = lent.lend() {
         elements.encode(item)?;
@@ -51,6 +53,8 @@ pub fn encode_each<T: Shaped, E: Encoder<T>>(elements: &mut E, items: &[T]) -> R
     ensures room { OnOk result (E.room elements.old ≤ E.room elements.new + length items.now) }
     ensures form { emptied (E.columns elements.new) ≡ emptied (E.columns elements.old) }
     ensures refused { IfErr result (λ e. IsWritingRefusal e.reason (PassesWithEach T.lists T.shape items.now (E.columns elements.old))) }
+    ensures free { IsTrue E.writes_free → IfErr result (λ e. e.reason ≢ Reason.OutOfMemory) }
+    ensures none { length items.now ≡ 0 → IsOk result }
 {
     told_each(items);
     encode_lent(elements, items.iter())

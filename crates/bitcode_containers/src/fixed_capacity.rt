@@ -1,13 +1,13 @@
 // The decoder of vectors of a fixed capacity: as that of sequences, but no length passes the capacity.
 #![tactic(auto, unfolding(bitcode_coder::specs::LengthCoders::lengths_left, bitcode_coder::specs::LengthCoders::lengths_sum))]
 
-ghost use Rattle.std.specs.Prelude.{◌≤◌, ◌⊎◌, Some, All, false};
+ghost use Rattle.std.specs.Prelude.{◌+◌, ◌≤◌, ◌⊎◌, Some, All, false};
 ghost use Rattle.std.proofs.Common.{ap};
 ghost use Rattle.std.proofs.Props.{props};
 ghost use Rattle.bitcode_shapes.specs.Shape.{seq_shape};
-ghost use Rattle.bitcode_coder.specs.LengthCoders.{lengths_left};
-ghost use Rattle.bitcode_coder.specs.LengthParts.{NamesLengthFault};
-ghost use Rattle.bitcode_containers.specs.Sequences.{lists_of, BreaksLimit, FaultsInElements};
+ghost use Rattle.bitcode_coder.specs.LengthCoders.{lengths_left, lengths_owned};
+ghost use Rattle.bitcode_coder.specs.LengthParts.{NamesLengthFault, LengthsStandRaw};
+ghost use Rattle.bitcode_containers.specs.Sequences.{lists_of, BreaksLimit, FaultsInElements, ElementsBehind};
 
 use arrayvec::ArrayVec;
 use bitcode_coder::coder::{Decoder, HoldsData, View};
@@ -41,6 +41,8 @@ impl<'a, D: HoldsData, const N: usize> HoldsData for ArrayVecDecoder<'a, D, N> {
     ghost shape = { seq_shape (Some N) D.shape };
 
     ghost held = { λ d. lists_of (lengths_left d.lengths) (D.held d.elements) };
+
+    ghost owned = { λ d. lengths_owned d.lengths + D.owned d.elements };
 }
 
 impl<'a, D: View<'a>, const N: usize> View<'a> for ArrayVecDecoder<'a, D, N> {

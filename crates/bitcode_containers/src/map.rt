@@ -1,12 +1,12 @@
 // The coders of maps: the lengths of all, behind them the columns of all keys, and behind these those of all values.
 #![tactic(auto, unfolding(bitcode_coder::specs::LengthCoders::lengths_left, bitcode_coder::specs::LengthCoders::lengths_sum))]
 
-ghost use Rattle.std.specs.Prelude.{◌≡◌, ◌<◌, [], None, length, map, false, min, IfOk, IfErr};
+ghost use Rattle.std.specs.Prelude.{◌≡◌, ◌<◌, [], None, length, map, false, min, IfOk, IfErr, ◌+◌};
 ghost use Rattle.std.proofs.Common.{sym, ap, ap₂, ◌∙◌};
 ghost use Rattle.bitcode_shapes.specs.Shape.{Shape, map_shape};
 ghost use Rattle.bitcode_coder.specs.Coding.{written_columns, TakesDatum};
 ghost use Rattle.bitcode_coder.specs.Columns.{lengths, one, two};
-ghost use Rattle.bitcode_coder.specs.LengthCoders.{written_lengths, length_room};
+ghost use Rattle.bitcode_coder.specs.LengthCoders.{written_lengths, length_room, length_capacity};
 ghost use Rattle.bitcode_coder.specs.Spelling.{natural};
 
 use crate::mappings::Mapping;
@@ -45,7 +45,11 @@ impl<K: HoldsColumns, V: HoldsColumns> HoldsColumns for MapEncoder<K, V> {
 
     ghost room = { λ e. length_room e.lengths };
 
+    ghost capacity = { λ e. length_capacity e.lengths + K.capacity e.keys + V.capacity e.values };
+
     ghost surely_passes = { λ e n. ⊥ };
+
+    ghost overflows = { λ e n. ⊥ };
 }
 
 impl<K: Buffer, V: Buffer> Buffer for MapEncoder<K, V> {
@@ -76,6 +80,8 @@ impl<K: Buffer, V: Buffer> Buffer for MapEncoder<K, V> {
 
 impl<M: Mapping, K: Buffer + Encoder<M::Key>, V: Buffer + Encoder<M::Value>> Encoder<M>
     for MapEncoder<K, V> {
+    ghost writes_free = { false };
+
     fn encode(&mut self, t: &M) -> Result<(), Error> {
         t.told();
         let count = t.entry_count();
@@ -110,6 +116,8 @@ impl<'a, K: HoldsData, V: HoldsData> HoldsData for MapDecoder<'a, K, V> {
     ghost shape = { map_shape K.shape V.shape };
 
     ghost held = { λ d. ⟦<VecDecoder<'a, TupleDecoder<K, V>> as HoldsData>⟧.held d.entries };
+
+    ghost owned = { λ d. ⟦<VecDecoder<'a, TupleDecoder<K, V>> as HoldsData>⟧.owned d.entries };
 }
 
 impl<'a, K: View<'a>, V: View<'a>> View<'a> for MapDecoder<'a, K, V> {

@@ -7,8 +7,8 @@ ghost use Rattle.bitcode_shapes.specs.Shape.{seq_shape};
 ghost use Rattle.bitcode_shapes.specs.Sequences.{ListsSequence};
 ghost use Rattle.bitcode_coder.specs.Coding.{JoinsListing, PassesWithListing, IsWritingRefusal, TakesDatum};
 ghost use Rattle.bitcode_coder.specs.Columns.{emptied, lengths, one, two};
-ghost use Rattle.bitcode_coder.specs.LengthCoders.{written_lengths, length_room, lengths_left};
-ghost use Rattle.bitcode_coder.specs.LengthParts.{NamesLengthFault};
+ghost use Rattle.bitcode_coder.specs.LengthCoders.{written_lengths, length_room, lengths_left, length_capacity, lengths_owned};
+ghost use Rattle.bitcode_coder.specs.LengthParts.{NamesLengthFault, LengthsStandRaw};
 ghost use Rattle.bitcode_coder.specs.Spelling.{natural};
 ghost use Rattle.bitcode_containers.specs.Sequences.{lists_of, FaultsInElements};
 
@@ -45,7 +45,11 @@ impl<E: HoldsColumns> HoldsColumns for VecEncoder<E> {
 
     ghost room = { λ e. length_room e.lengths };
 
+    ghost capacity = { λ e. length_capacity e.lengths + E.capacity e.elements };
+
     ghost surely_passes = { λ e n. ⊥ };
+
+    ghost overflows = { λ e n. ⊥ };
 }
 
 impl<E: Buffer> Buffer for VecEncoder<E> {
@@ -72,6 +76,8 @@ impl<E: Buffer> Buffer for VecEncoder<E> {
 }
 
 impl<S: Sequence, E: Buffer + Encoder<S::Element>> Encoder<S> for VecEncoder<E> {
+    ghost writes_free = { false };
+
     fn encode(&mut self, t: &S) -> Result<(), Error> {
         t.told();
         let count = t.element_count();
@@ -105,6 +111,8 @@ impl<'a, D: HoldsData> HoldsData for VecDecoder<'a, D> {
     ghost shape = { seq_shape None D.shape };
 
     ghost held = { λ d. lists_of (lengths_left d.lengths) (D.held d.elements) };
+
+    ghost owned = { λ d. lengths_owned d.lengths + D.owned d.elements };
 }
 
 impl<'a, D: View<'a>> View<'a> for VecDecoder<'a, D> {

@@ -1,5 +1,5 @@
 // A buffer that values of one type are written to, one after the other.
-ghost use Rattle.std.specs.Prelude.{◌≡◌, ◌≢◌, IfOk, IfErr};
+ghost use Rattle.std.specs.Prelude.{◌≡◌, ◌≢◌, IfOk, IfErr, IsTrue, vec_capacity};
 ghost use Rattle.bitcode_shapes.specs.Datum.{Datum};
 ghost use Rattle.bitcode_coder.specs.Coding.{IsWritingRefusal, IsReadingReason};
 ghost use Rattle.bitcode_derive.specs.Whole.{IsEncodingOf, HasLongListing, IsDecodingOf, SpellsDatum, SpellsAtMostOne, IsBoundedByBytes, NamesWholeFault};
@@ -31,8 +31,11 @@ impl<T: HasEncoder + Shaped> Buffer<T>
 where
     T::Encoder: EncoderBuffer + Encoder<T> + Drop,
 {
-    /// HoldsData nothing. Takes no memory.
-    pub fn new(alloc: Global) -> Self {
+    /// Holds nothing. Takes no memory.
+    pub fn new(alloc: Global) -> Self
+        ensures columns { T.Encoder.capacity result.encoder ≡ 0 }
+        ensures bytes { vec_capacity result.bytes ≡ 0 }
+    {
         Buffer {
             alloc,
             encoder: T::Encoder::new(alloc),

@@ -1,9 +1,9 @@
 // Lists with reserved room, and lists that are read from the front.
-#![tactic(auto, unfolding(crate::specs::Fast::fast_items, crate::specs::Fast::fast_room, crate::specs::Fast::slice_rest, crate::specs::Fast::cow_rest, crate::specs::Lending::with_fast_items))]
+#![tactic(auto, unfolding(crate::specs::Fast::fast_items, crate::specs::Fast::fast_room, crate::specs::Fast::slice_rest, crate::specs::Fast::cow_rest, crate::specs::Fast::cow_owned, crate::specs::Lending::with_fast_items))]
 
 ghost use Rattle.std.specs.Prelude.{◌≡◌, ℕ, ◌+◌, ◌<◌, ◌≤◌, List, [], ◌∷◌, ◌++◌, length, take, drop, vec_len, IsOk, IfOk, OnOk, IfErr, OnErr};
 ghost use Rattle.std.specs.Borrow.{sem};
-ghost use Rattle.bitcode_input.specs.Fast.{fast_items, fast_room, slice_rest, held_items, cow_rest};
+ghost use Rattle.bitcode_input.specs.Fast.{fast_items, fast_room, slice_rest, held_items, cow_rest, cow_owned};
 ghost use Rattle.bitcode_input.specs.Lending.{with_fast_items, LendsItems, EndsBehind};
 
 use crate::error::{Error, Reason};
@@ -247,7 +247,8 @@ pub struct CowSlice<'a, T> {
 impl<'a, T: Drop> CowSlice<'a, T> {
     /// Nothing is left. Takes no memory.
     pub fn new(alloc: Global) -> Self
-        ensures { cow_rest result ≡ [] }
+        ensures rest { cow_rest result ≡ [] }
+        ensures owned { cow_owned result ≡ 0 }
     {
         CowSlice {
             held: Held::Owned(Vec::new(alloc)),

@@ -1,7 +1,7 @@
 // Integers of which not all are allowed: what they stand for, and the coder that reads them.
 ghost use Rattle.std.specs.Prelude.{◌≡◌, ◌≢◌, [], true, All, MatchBool, MatchOption, IfOk, OnOk, IfErr, OnErr, IsTrue};
 ghost use Rattle.std.proofs.Common.{sym};
-ghost use Rattle.bitcode_input.specs.Fast.{cow_rest};
+ghost use Rattle.bitcode_input.specs.Fast.{cow_rest, cow_owned};
 ghost use Rattle.bitcode_numbers.specs.LittleEndian.{little_endian};
 ghost use Rattle.bitcode_numbers.specs.Numbers.{number_of};
 ghost use Rattle.bitcode_columns.specs.Reading.{Reads, IsEndOf};
@@ -67,6 +67,8 @@ impl<'a, C: Checked<I>, I: ColumnInt> HoldsData for CheckedIntDecoder<'a, C, I> 
     ghost shape = { number_shape I.width I.signed C.allowed };
 
     ghost held = { λ d. checked_data C.allowed (numbers_of I.width I.signed I.une_bytes (cow_rest d.values)) };
+
+    ghost owned = { λ d. cow_owned d.values };
 }
 
 impl<'a, C: Checked<I>, I: ColumnInt> View<'a> for CheckedIntDecoder<'a, C, I> {

@@ -3,8 +3,8 @@
 
 ghost use Rattle.std.specs.Prelude.{◌≡◌, ◌≢◌, ◌<◌, ◌≤◌, ◌++◌, List, [], All, true, refl, IsTrue, IsOk, IfOk, OnOk, IfErr, OnErr};
 ghost use Rattle.std.proofs.Common.{sym, ap};
-ghost use Rattle.bitcode_input.specs.Fast.{fast_items, fast_room, cow_rest};
-ghost use Rattle.bitcode_columns.specs.Reading.{Reads, IsEndOf};
+ghost use Rattle.bitcode_input.specs.Fast.{fast_items, fast_room, cow_rest, fast_capacity, cow_owned};
+ghost use Rattle.bitcode_columns.specs.Reading.{Reads, IsEndOf, Names, ints_fault, ints_stand_raw};
 ghost use Rattle.bitcode_shapes.specs.Datum.{Datum, number};
 ghost use Rattle.bitcode_shapes.specs.Shape.{Shape};
 ghost use Rattle.bitcode_shapes.specs.Values.{int_shape};
@@ -58,7 +58,11 @@ impl<T: ColumnInt> HoldsColumns for IntEncoder<T> {
 
     ghost room = { λ e. fast_room e.values };
 
+    ghost capacity = { λ e. fast_capacity e.values };
+
     ghost surely_passes = { λ e n. ⊥ };
+
+    ghost overflows = { λ e n. ⊥ };
 }
 
 impl<T: ColumnInt> Buffer for IntEncoder<T> {
@@ -85,6 +89,8 @@ impl<T: ColumnInt> Buffer for IntEncoder<T> {
 }
 
 impl<I: ColumnInt, P: AsInt<I>> Encoder<P> for IntEncoder<I> {
+    ghost writes_free = { true };
+
     fn encode(&mut self, t: &P) -> Result<(), Error> {
         self.values.push_unchecked(t.to_int());
         Ok(())
@@ -112,6 +118,8 @@ impl<'a, T: ColumnInt> HoldsData for IntDecoder<'a, T> {
     ghost shape = { int_shape T.width T.signed };
 
     ghost held = { λ d. bytes_data T.width T.signed T.une_bytes (cow_rest d.values) };
+
+    ghost owned = { λ d. cow_owned d.values };
 }
 
 impl<'a, T: ColumnInt> View<'a> for IntDecoder<'a, T> {

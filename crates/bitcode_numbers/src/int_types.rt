@@ -1,5 +1,5 @@
 // The integers that columns are made of: as numbers, as residues and as bytes.
-ghost use Rattle.std.specs.Prelude.{◌≡◌, ℕ, ◌+◌, ◌-◌, ◌*◌, ◌%◌, ◌^◌, ◌<◌, ℤ, int_lt, ◌↔◌, Bool, List, ◌++◌, length, take, drop, map, All, IsErr, IfOk, OnOk, IfErr, OnErr};
+ghost use Rattle.std.specs.Prelude.{◌≡◌, ℕ, ◌+◌, ◌-◌, ◌*◌, ◌%◌, ◌^◌, ◌<◌, ◌≤◌, ℤ, int_lt, ◌↔◌, Bool, List, ◌++◌, length, take, drop, map, All, vec_len, vec_capacity, IsOk, IsErr, IfOk, OnOk, IfErr, OnErr};
 ghost use Rattle.bitcode_numbers.specs.Widths.{IsWidth};
 ghost use Rattle.bitcode_numbers.specs.LittleEndian.{little_endian, number_bytes, SpellsRaw};
 ghost use Rattle.bitcode_numbers.specs.NumberRange.{least_number, greatest_number};
@@ -53,7 +53,10 @@ pub trait SizedUInt: Copy {
     fn write(self, out: &mut Vec<u8>) -> Result<(), Error>
         ensures written { OnOk result (out.new.items ≡ out.old.items ++ number_bytes width (value self)) }
         ensures unchanged { OnErr result (out.new.items ≡ out.old.items) }
-        ensures reason { IfErr result (λ e. e.reason ≡ Reason.OutOfMemory) };
+        ensures reason { IfErr result (λ e. e.reason ≡ Reason.OutOfMemory) }
+        ensures succeeds { vec_len out.old + width ≤ vec_capacity out.old → IsOk result }
+        ensures len { OnOk result (vec_len out.new ≡ vec_len out.old + width) }
+        ensures capacity { vec_capacity out.old ≤ vec_capacity out.new };
 }
 
 /// An integer that a column can have as entries.

@@ -6,7 +6,7 @@ ghost use Rattle.bitcode_own_types.specs.Player.{player_fields};
 
 use bitcode::coder::{Buffer, HoldsColumns, HoldsData, Result};
 use bitcode::{
-    Decode, Decoder, Encode, Encoder, FieldsEncoder, IntDecoder, IntEncoder, Made, Shaped,
+    Decoder, Encoder, FieldsEncoder, HasDecoder, HasEncoder, IntDecoder, IntEncoder, Made, Shaped,
     StrDecoder, StrEncoder, TupleDecoder, TupleEncoder, View,
 };
 use std::alloc::Global;
@@ -59,7 +59,11 @@ impl HoldsColumns for PlayerEncoder {
 
     ghost room = { λ e. ⟦<Columns as HoldsColumns>⟧.room e.fields };
 
+    ghost capacity = { λ e. ⟦<Columns as HoldsColumns>⟧.capacity e.fields };
+
     ghost surely_passes = { λ e n. ⟦<Columns as HoldsColumns>⟧.surely_passes e.fields n };
+
+    ghost overflows = { λ e n. ⟦<Columns as HoldsColumns>⟧.overflows e.fields n };
 }
 
 impl Buffer for PlayerEncoder {
@@ -83,6 +87,8 @@ impl Buffer for PlayerEncoder {
 }
 
 impl<'a> Encoder<Player<'a>> for PlayerEncoder {
+    ghost writes_free = { false };
+
     fn encode(&mut self, t: &Player<'a>) -> Result<()> {
         self.fields.encode_fields(&(&t.name, (&t.level, &t.points)))
     }
@@ -103,6 +109,8 @@ impl<'a> HoldsData for PlayerDecoder<'a> {
     ghost shape = { ⟦<Data<'a> as HoldsData>⟧.shape };
 
     ghost held = { λ d. ⟦<Data<'a> as HoldsData>⟧.held d.fields };
+
+    ghost owned = { λ d. ⟦<Data<'a> as HoldsData>⟧.owned d.fields };
 }
 
 impl<'a> View<'a> for PlayerDecoder<'a> {
@@ -134,10 +142,10 @@ impl<'a> Decoder<'a, Player<'a>> for PlayerDecoder<'a> {
     ghost same_shape = { refl };
 }
 
-impl<'a> Encode for Player<'a> {
+impl<'a> HasEncoder for Player<'a> {
     type Encoder = PlayerEncoder;
 }
 
-impl<'a> Decode<'a> for Player<'a> {
+impl<'a> HasDecoder<'a> for Player<'a> {
     type Decoder = PlayerDecoder<'a>;
 }

@@ -5,8 +5,8 @@ ghost use Rattle.bitcode_own_types.specs.Scores.{scores_list};
 
 use bitcode::coder::{HoldsData, Result};
 use bitcode::{
-    Decode, DecodeOwned, Decoder, Encode, Encoder, FromElements, IntDecoder, IntEncoder, Made,
-    Reason, Sequence, Shaped, VecDecoder, VecEncoder, View, encode_each,
+    DecodeOwned, Decoder, Encoder, FromElements, HasDecoder, HasEncoder, IntDecoder, IntEncoder,
+    Made, Reason, Sequence, Shaped, VecDecoder, VecEncoder, View, encode_each,
 };
 use std::alloc::Global;
 
@@ -85,6 +85,8 @@ impl<'a> HoldsData for ScoresDecoder<'a> {
     ghost shape = { ⟦<Lists<'a> as HoldsData>⟧.shape };
 
     ghost held = { λ d. ⟦<Lists<'a> as HoldsData>⟧.held d.lists };
+
+    ghost owned = { λ d. ⟦<Lists<'a> as HoldsData>⟧.owned d.lists };
 }
 
 impl<'a> View<'a> for ScoresDecoder<'a> {
@@ -111,11 +113,11 @@ impl<'a> Decoder<'a, Scores> for ScoresDecoder<'a> {
     ghost same_shape = { refl };
 }
 
-impl Encode for Scores {
+impl HasEncoder for Scores {
     type Encoder = VecEncoder<IntEncoder<u32>>;
 }
 
-impl<'a> Decode<'a> for Scores {
+impl<'a> HasDecoder<'a> for Scores {
     type Decoder = ScoresDecoder<'a>;
 }
 

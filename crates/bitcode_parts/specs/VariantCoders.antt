@@ -1,6 +1,6 @@
 -- What the coders of variants hold.
 use Rattle.std.specs.Prelude.{ℕ, List}
-use Rattle.bitcode_input.specs.Fast.{fast_items, fast_room, cow_rest}
+use Rattle.bitcode_input.specs.Fast.{fast_items, fast_room, fast_capacity, cow_rest, cow_owned}
 use Rattle.bitcode_parts.specs.declared.variant.encoder.VariantEncoder.{VariantEncoder}
 use Rattle.bitcode_parts.specs.declared.variant.decoder.VariantDecoder.{VariantDecoder}
 
@@ -13,11 +13,19 @@ module _ {N : ℕ} where
   unfoldable pub variant_room : VariantEncoder N → ℕ
   variant_room e = fast_room e.variants
 
+  -- how many variants there is memory for, those that were written included
+  unfoldable pub variant_capacity : VariantEncoder N → ℕ
+  variant_capacity e = fast_capacity e.variants
+
 -- (a const argument that is a bool is its bit)
 module _ {N C_STYLE : ℕ} where
   -- the variants that are left to take
   unfoldable pub variants_left : VariantDecoder N C_STYLE → List ℕ
   variants_left d = cow_rest d.variants
+
+  -- how many variants it has memory of its own for
+  unfoldable pub variants_owned : VariantDecoder N C_STYLE → ℕ
+  variants_owned d = cow_owned d.variants
 
   -- how many of each variant were read, place by place
   unfoldable pub variant_counts : VariantDecoder N C_STYLE → List ℕ

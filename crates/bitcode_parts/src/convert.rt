@@ -63,7 +63,11 @@ impl<T: Drop, E: HoldsColumns> HoldsColumns for ConvertIntoEncoder<T, E> {
 
     ghost room = { λ e. E.room e.inner };
 
+    ghost capacity = { λ e. E.capacity e.inner };
+
     ghost surely_passes = { λ e n. E.surely_passes e.inner n };
+
+    ghost overflows = { λ e n. E.overflows e.inner n };
 }
 
 impl<T: Drop, E: Buffer> Buffer for ConvertIntoEncoder<T, E> {
@@ -88,6 +92,8 @@ impl<T: Drop, E: Buffer> Buffer for ConvertIntoEncoder<T, E> {
 }
 
 impl<T: Shaped + Drop, D: ConvertInto<T>, E: Encoder<T>> Encoder<D> for ConvertIntoEncoder<T, E> {
+    ghost writes_free = { E.writes_free };
+
     fn encode(&mut self, t: &D) -> Result<(), Error> {
         self.inner.encode(&t.convert_into())
     }
@@ -114,6 +120,8 @@ impl<T: Drop, D: HoldsData> HoldsData for ConvertFromDecoder<T, D> {
     ghost shape = { D.shape };
 
     ghost held = { λ d. D.held d.inner };
+
+    ghost owned = { λ d. D.owned d.inner };
 }
 
 impl<'a, T: Drop, D: View<'a>> View<'a> for ConvertFromDecoder<T, D> {

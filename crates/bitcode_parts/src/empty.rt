@@ -23,7 +23,11 @@ impl HoldsColumns for EmptyCoder {
 
     ghost room = { λ e. endless_room };
 
+    ghost capacity = { λ e. 0 };
+
     ghost surely_passes = { λ e n. ⊥ };
+
+    ghost overflows = { λ e n. ⊥ };
 }
 
 impl Buffer for EmptyCoder {
@@ -43,6 +47,8 @@ impl Buffer for EmptyCoder {
 }
 
 impl Encoder<()> for EmptyCoder {
+    ghost writes_free = { true };
+
     fn encode(&mut self, _t: &()) -> Result<(), Error> {
         Ok(())
     }
@@ -56,6 +62,8 @@ impl HoldsData for EmptyCoder {
     ghost shape = { unit_shape };
 
     ghost held = { λ d. replicate d.left unit };
+
+    ghost owned = { λ d. 0 };
 }
 
 impl<'a> View<'a> for EmptyCoder {

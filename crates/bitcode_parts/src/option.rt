@@ -1,11 +1,11 @@
 // The coders of options.
-ghost use Rattle.std.specs.Prelude.{◌≡◌, refl, [], ◌∷◌};
+ghost use Rattle.std.specs.Prelude.{◌≡◌, ◌+◌, refl, false, [], ◌∷◌};
 ghost use Rattle.bitcode_shapes.specs.Shape.{choice_shape, shape_and, no_shapes, unit_shape};
 ghost use Rattle.bitcode_coder.specs.Columns.{no_columns, two};
 ghost use Rattle.bitcode_parts.specs.Payloads.{choices_of};
 ghost use Rattle.bitcode_parts.specs.TwoVariants.{TwoVariantsFault};
 ghost use Rattle.bitcode_parts.specs.TwoVariantLaws.{same_two_variants, two_variants_form};
-ghost use Rattle.bitcode_parts.specs.VariantCoders.{variant_room, variants_left};
+ghost use Rattle.bitcode_parts.specs.VariantCoders.{variant_room, variant_capacity, variants_left, variants_owned};
 
 use crate::empty::EmptyCoder;
 use crate::variant::{VariantDecoder, VariantEncoder, encode_payload};
@@ -35,7 +35,11 @@ impl<E: HoldsColumns> HoldsColumns for OptionEncoder<E> {
 
     ghost room = { λ e. variant_room e.variants };
 
+    ghost capacity = { λ e. variant_capacity e.variants + E.capacity e.some };
+
     ghost surely_passes = { λ e n. ⊥ };
+
+    ghost overflows = { λ e n. ⊥ };
 }
 
 impl<E: Buffer> Buffer for OptionEncoder<E> {
@@ -62,6 +66,8 @@ impl<E: Buffer> Buffer for OptionEncoder<E> {
 }
 
 impl<T: Shaped, E: Buffer + Encoder<T>> Encoder<Option<T>> for OptionEncoder<E> {
+    ghost writes_free = { false };
+
     fn encode(&mut self, t: &Option<T>) -> Result<(), Error> {
         match t {
             None => {
@@ -98,6 +104,8 @@ impl<'a, D: HoldsData> HoldsData for OptionDecoder<'a, D> {
     ghost shape = { choice_shape (shape_and unit_shape (shape_and D.shape no_shapes)) };
 
     ghost held = { λ d. choices_of (variants_left d.variants) (⟦<EmptyCoder as HoldsData>⟧.held d.none ∷ D.held d.some ∷ []) };
+
+    ghost owned = { λ d. variants_owned d.variants + D.owned d.some };
 }
 
 impl<'a, D: View<'a>> View<'a> for OptionDecoder<'a, D> {

@@ -1,11 +1,11 @@
 // The coders of results.
-ghost use Rattle.std.specs.Prelude.{[], ◌∷◌, ◌&&◌};
+ghost use Rattle.std.specs.Prelude.{◌+◌, [], ◌∷◌, false, ◌&&◌};
 ghost use Rattle.bitcode_shapes.specs.Shape.{choice_shape, shape_and, no_shapes};
 ghost use Rattle.bitcode_coder.specs.Columns.{no_columns, two};
 ghost use Rattle.bitcode_parts.specs.Payloads.{choices_of};
 ghost use Rattle.bitcode_parts.specs.TwoVariants.{TwoVariantsFault};
 ghost use Rattle.bitcode_parts.specs.TwoVariantLaws.{same_two_variants, two_variants_form};
-ghost use Rattle.bitcode_parts.specs.VariantCoders.{variant_room, variants_left};
+ghost use Rattle.bitcode_parts.specs.VariantCoders.{variant_room, variant_capacity, variants_left, variants_owned};
 
 use crate::variant::{VariantDecoder, VariantEncoder, encode_payload};
 use bitcode_coder::coder::{Buffer, Decoder, Encoder, HoldsColumns, HoldsData, View};
@@ -34,7 +34,11 @@ impl<A: HoldsColumns, B: HoldsColumns> HoldsColumns for ResultEncoder<A, B> {
 
     ghost room = { λ e. variant_room e.variants };
 
+    ghost capacity = { λ e. variant_capacity e.variants + A.capacity e.ok + B.capacity e.err };
+
     ghost surely_passes = { λ e n. ⊥ };
+
+    ghost overflows = { λ e n. ⊥ };
 }
 
 impl<A: Buffer, B: Buffer> Buffer for ResultEncoder<A, B> {
@@ -65,6 +69,8 @@ impl<A: Buffer, B: Buffer> Buffer for ResultEncoder<A, B> {
 
 impl<T: Shaped, E: Shaped, A: Buffer + Encoder<T>, B: Buffer + Encoder<E>> Encoder<Result<T, E>>
     for ResultEncoder<A, B> {
+    ghost writes_free = { false };
+
     fn encode(&mut self, t: &Result<T, E>) -> Result<(), Error> {
         match t {
             Ok(value) => {
@@ -101,6 +107,8 @@ impl<'a, A: HoldsData, B: HoldsData> HoldsData for ResultDecoder<'a, A, B> {
     ghost shape = { choice_shape (shape_and A.shape (shape_and B.shape no_shapes)) };
 
     ghost held = { λ d. choices_of (variants_left d.variants) (A.held d.ok ∷ B.held d.err ∷ []) };
+
+    ghost owned = { λ d. variants_owned d.variants + A.owned d.ok + B.owned d.err };
 }
 
 impl<'a, A: View<'a>, B: View<'a>> View<'a> for ResultDecoder<'a, A, B> {

@@ -1,5 +1,5 @@
 // The encoder of types whose values point to one of another type.
-ghost use Rattle.std.specs.Prelude.{◌≡◌, [], None};
+ghost use Rattle.std.specs.Prelude.{◌≡◌, [], None, false};
 ghost use Rattle.std.proofs.Common.{sym, ◌∙◌, ap, subst};
 ghost use Rattle.bitcode_coder.specs.Coding.{ListsAsToo, written_columns, SurelyPasses};
 ghost use Rattle.bitcode_coder.specs.Columns.{lengths, one, two};
@@ -54,7 +54,11 @@ impl<E: HoldsColumns> HoldsColumns for DerefEncoder<E> {
 
     ghost room = { λ e. E.room e.inner };
 
+    ghost capacity = { λ e. E.capacity e.inner };
+
     ghost surely_passes = { λ e n. E.surely_passes e.inner n };
+
+    ghost overflows = { λ e n. E.overflows e.inner n };
 }
 
 impl<E: Buffer> Buffer for DerefEncoder<E> {
@@ -78,6 +82,8 @@ impl<E: Buffer> Buffer for DerefEncoder<E> {
 }
 
 impl<P: Points, E: Encoder<P::Target>> Encoder<P> for DerefEncoder<E> {
+    ghost writes_free = { E.writes_free };
+
     fn encode(&mut self, t: &P) -> Result<(), Error> {
         self.inner.encode(t.target())
     }
@@ -88,6 +94,8 @@ impl<P: Points, E: Encoder<P::Target>> Encoder<P> for DerefEncoder<E> {
 }
 
 impl<T: Shaped, E: Buffer + Encoder<T>> Encoder<BoxedSlice<T>> for DerefEncoder<VecEncoder<E>> {
+    ghost writes_free = { false };
+
     fn encode(&mut self, t: &BoxedSlice<T>) -> Result<(), Error> {
         self.inner.encode(&t.as_slice())
     }
@@ -98,6 +106,8 @@ impl<T: Shaped, E: Buffer + Encoder<T>> Encoder<BoxedSlice<T>> for DerefEncoder<
 }
 
 impl<T: Shaped, E: Buffer + Encoder<T>> Encoder<RcSlice<T>> for DerefEncoder<VecEncoder<E>> {
+    ghost writes_free = { false };
+
     fn encode(&mut self, t: &RcSlice<T>) -> Result<(), Error> {
         let items = t.as_slice();
         self.inner.encode(&items)

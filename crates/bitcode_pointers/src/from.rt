@@ -53,6 +53,8 @@ impl<T: Drop, D: HoldsData> HoldsData for FromDecoder<T, D> {
     ghost shape = { D.shape };
 
     ghost held = { λ d. D.held d.inner };
+
+    ghost owned = { λ d. D.owned d.inner };
 }
 
 impl<'a, T: Drop, D: View<'a>> View<'a> for FromDecoder<T, D> {

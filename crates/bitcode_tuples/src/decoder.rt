@@ -1,5 +1,7 @@
 // The decoder of pairs.
-ghost use Rattle.std.specs.Prelude.{◌⊎◌, ◌&&◌};
+ghost use Rattle.std.specs.Prelude.{◌⊎◌, ◌&&◌, ℕ, ◌+◌, List};
+ghost use Rattle.bitcode_columns.specs.Reading.{Reads};
+ghost use Rattle.bitcode_shapes.specs.Datum.{Datum};
 ghost use Rattle.bitcode_shapes.specs.Shape.{pair_shape};
 ghost use Rattle.bitcode_tuples.specs.Pairs.{pairs_of, FaultsBehind};
 ghost use Rattle.bitcode_tuples.specs.PairLaws.{same_pair_shape};
@@ -25,6 +27,8 @@ impl<A: HoldsData, B: HoldsData> HoldsData for TupleDecoder<A, B> {
     ghost shape = { pair_shape A.shape B.shape };
 
     ghost held = { λ d. pairs_of (A.held d.first) (B.held d.second) };
+
+    ghost owned = { λ d. A.owned d.first + B.owned d.second };
 }
 
 impl<'a, A: View<'a>, B: View<'a>> View<'a> for TupleDecoder<A, B> {

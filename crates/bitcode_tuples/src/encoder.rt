@@ -1,5 +1,5 @@
 // The encoder of pairs.
-ghost use Rattle.std.specs.Prelude.{min, ◌⊎◌};
+ghost use Rattle.std.specs.Prelude.{min, ◌+◌, ◌≤◌, ◌&&◌, ◌⊎◌};
 ghost use Rattle.bitcode_coder.specs.Columns.{two};
 ghost use Rattle.bitcode_tuples.specs.PairLaws.{both_of_shape, both_surely};
 
@@ -26,7 +26,11 @@ impl<A: HoldsColumns, B: HoldsColumns> HoldsColumns for TupleEncoder<A, B> {
 
     ghost room = { λ e. min (A.room e.first) (B.room e.second) };
 
+    ghost capacity = { λ e. A.capacity e.first + B.capacity e.second };
+
     ghost surely_passes = { λ e n. A.surely_passes e.first n ⊎ B.surely_passes e.second n };
+
+    ghost overflows = { λ e n. A.overflows e.first n ⊎ ((n ≤ A.room e.first) × B.overflows e.second n) };
 }
 
 impl<A: Buffer, B: Buffer> Buffer for TupleEncoder<A, B> {
@@ -54,6 +58,8 @@ impl<A: Buffer, B: Buffer> Buffer for TupleEncoder<A, B> {
 }
 
 impl<P: Shaped, Q: Shaped, A: Encoder<P>, B: Encoder<Q>> Encoder<(P, Q)> for TupleEncoder<A, B> {
+    ghost writes_free = { A.writes_free && B.writes_free };
+
     fn encode(&mut self, t: &(P, Q)) -> Result<(), Error> {
         self.encode_fields(&(&t.0, &t.1))
     }

@@ -1,11 +1,11 @@
 // The fields of a tuple, borrowed one by one, and encoders that take them so.
-ghost use Rattle.std.specs.Prelude.{◌≡◌, ◌+◌, ◌<◌, ◌≤◌, OnOk, IfErr};
+ghost use Rattle.std.specs.Prelude.{◌≡◌, ◌≢◌, ◌+◌, ◌<◌, ◌≤◌, Bool, ◌&&◌, IsTrue, OnOk, IfErr};
 ghost use Rattle.bitcode_coder.specs.Columns.{emptied};
 ghost use Rattle.bitcode_coder.specs.Coding.{JoinsListing, PassesWithListing, IsWritingRefusal};
 
 use crate::encoder::TupleEncoder;
 use bitcode_coder::coder::{Encoder, HoldsColumns};
-use bitcode_input::error::Error;
+use bitcode_input::error::{Error, Reason};
 use bitcode_shapes::shaped::Shaped;
 
 pub mod few;
@@ -50,6 +50,9 @@ impl<F: Fields, G: Fields> Fields for (F, G) {
 
 /// As `Encoder`, for a value whose fields lie apart, as those of a struct do.
 pub trait FieldsEncoder<F: Fields>: HoldsColumns {
+    // writing the fields takes no memory, where room for them was reserved
+    ghost writes_free: { Bool };
+
     /// Joins the columns of what the fields make up to those so far, as `Encoder::encode` does. Room for it was reserved.
     ///
     /// It refuses as that does.
@@ -62,10 +65,13 @@ pub trait FieldsEncoder<F: Fields>: HoldsColumns {
         ensures joined { OnOk result (JoinsListing F.Whole.lists F.Whole.shape (F.whole fields.now) (Self.columns self.old) (Self.columns self.new)) }
         ensures room { OnOk result (Self.room self.old ≤ Self.room self.new + 1) }
         ensures form { emptied (Self.columns self.new) ≡ emptied (Self.columns self.old) }
-        ensures refused { IfErr result (λ e. IsWritingRefusal e.reason (PassesWithListing F.Whole.lists F.Whole.shape (F.whole fields.now) (Self.columns self.old))) };
+        ensures refused { IfErr result (λ e. IsWritingRefusal e.reason (PassesWithListing F.Whole.lists F.Whole.shape (F.whole fields.now) (Self.columns self.old))) }
+        ensures free { IsTrue writes_free → IfErr result (λ e. e.reason ≢ Reason.OutOfMemory) };
 }
 
 impl<'a, P: Shaped, E: Encoder<P>> FieldsEncoder<&'a P> for E {
+    ghost writes_free = { E.writes_free };
+
     fn encode_fields(&mut self, fields: &&'a P) -> Result<(), Error> {
         self.encode(*fields)
     }
@@ -73,6 +79,8 @@ impl<'a, P: Shaped, E: Encoder<P>> FieldsEncoder<&'a P> for E {
 
 impl<F: Fields, G: Fields, A: FieldsEncoder<F>, B: FieldsEncoder<G>> FieldsEncoder<(F, G)>
     for TupleEncoder<A, B> {
+    ghost writes_free = { A.writes_free && B.writes_free };
+
     fn encode_fields(&mut self, fields: &(F, G)) -> Result<(), Error> {
         fields.1.told();
         self.first.encode_fields(&fields.0)?;

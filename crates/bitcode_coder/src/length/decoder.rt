@@ -1,5 +1,5 @@
 // The coder that lengths are read from.
-#![tactic(auto, unfolding(crate::specs::LengthCoders::short_left, crate::specs::LengthCoders::large_left, crate::specs::LengthCoders::lengths_left, crate::specs::LengthCoders::lengths_sum))]
+#![tactic(auto, unfolding(crate::specs::LengthCoders::short_left, crate::specs::LengthCoders::large_left, crate::specs::LengthCoders::lengths_left, crate::specs::LengthCoders::lengths_sum, crate::specs::LengthCoders::lengths_owned))]
 
 ghost use Rattle.std.specs.Prelude.{◌≡◌, ◌≢◌, ℕ, ◌+◌, ◌<◌, ◌≤◌, List, [], ◌∷◌, Some, None, length, drop, sum, map, All, MatchBool, IfOk, OnOk, IfErr, OnErr};
 ghost use Rattle.bitcode_input.specs.Fast.{cow_rest};
@@ -58,12 +58,13 @@ fn any_byte_over(bytes: &[u8], limit: usize) -> bool
 }
 
 impl<'a> LengthDecoder<'a> {
-    ghost use Rattle.bitcode_coder.specs.LengthCoders.{short_left, large_left, lengths_left, lengths_sum};
+    ghost use Rattle.bitcode_coder.specs.LengthCoders.{short_left, large_left, lengths_left, lengths_sum, lengths_owned};
 
-    /// HoldsData no lengths. Takes no memory.
+    /// Holds no lengths. Takes no memory.
     pub fn new(alloc: Global) -> Self
         ensures left { lengths_left result ≡ [] }
         ensures sum { lengths_sum result ≡ 0 }
+        ensures owned { lengths_owned result ≡ 0 }
     {
         LengthDecoder {
             alloc,

@@ -1,5 +1,5 @@
 // The coder that lengths are written to.
-#![tactic(auto, unfolding(crate::specs::LengthCoders::written_lengths, crate::specs::LengthCoders::length_room))]
+#![tactic(auto, unfolding(crate::specs::LengthCoders::written_lengths, crate::specs::LengthCoders::length_room, crate::specs::LengthCoders::length_capacity))]
 
 ghost use Rattle.std.specs.Prelude.{◌≡◌, ◌+◌, ◌<◌, ◌++◌, [], ◌∷◌, None, map, pos, IsOk, OnOk, IfErr, OnErr};
 ghost use Rattle.bitcode_columns.specs.ByteColumn.{byte_text};
@@ -46,13 +46,17 @@ fn pack_parts(
 }
 
 impl HoldsColumns for LengthEncoder {
-    ghost use Rattle.bitcode_coder.specs.LengthCoders.{written_lengths, length_room};
+    ghost use Rattle.bitcode_coder.specs.LengthCoders.{written_lengths, length_room, length_capacity};
 
     ghost columns = { λ e. one (lengths None) (map natural (written_lengths e)) };
 
     ghost room = { length_room };
 
+    ghost capacity = { length_capacity };
+
     ghost surely_passes = { λ e n. ⊥ };
+
+    ghost overflows = { λ e n. ⊥ };
 }
 
 impl Buffer for LengthEncoder {

@@ -9,8 +9,8 @@ ghost use Rattle.bitcode_shapes.specs.Shape.{text_shape};
 ghost use Rattle.bitcode_coder.specs.Coding.{IsReadingRefusal};
 ghost use Rattle.bitcode_coder.specs.Cutting.{cut};
 ghost use Rattle.bitcode_coder.specs.JoinedTexts.{ends_from, IsCutAtChars};
-ghost use Rattle.bitcode_coder.specs.LengthCoders.{short_left, large_left, lengths_left};
-ghost use Rattle.bitcode_coder.specs.LengthParts.{ReadsParts};
+ghost use Rattle.bitcode_coder.specs.LengthCoders.{short_left, large_left, lengths_left, lengths_owned};
+ghost use Rattle.bitcode_coder.specs.LengthParts.{ReadsParts, LengthsStandRaw};
 ghost use Rattle.bitcode_coder.specs.Spelling.{Spells};
 ghost use Rattle.bitcode_coder.specs.TextParts.{NamesTextFault};
 
@@ -110,6 +110,8 @@ impl<'a> HoldsData for StrDecoder<'a> {
     ghost shape = { text_shape None };
 
     ghost held = { λ d. map text (cut (lengths_left d.lengths) (slice_rest d.bytes)) };
+
+    ghost owned = { λ d. lengths_owned d.lengths };
 }
 
 impl<'a> View<'a> for StrDecoder<'a> {

@@ -1,12 +1,12 @@
 // The coder that texts are written to.
-ghost use Rattle.std.specs.Prelude.{◌≡◌, ◌++◌, [], None, length, map, sum, OnOk, IfErr};
+ghost use Rattle.std.specs.Prelude.{◌≡◌, ◌+◌, ◌++◌, [], None, false, length, map, sum, OnOk, IfErr};
 ghost use Rattle.std.proofs.Common.{sym};
-ghost use Rattle.bitcode_input.specs.Fast.{fast_items};
+ghost use Rattle.bitcode_input.specs.Fast.{fast_items, fast_capacity};
 ghost use Rattle.bitcode_shapes.specs.Datum.{text};
 ghost use Rattle.bitcode_coder.specs.Coding.{BeginsWith};
 ghost use Rattle.bitcode_coder.specs.Columns.{texts, one};
 ghost use Rattle.bitcode_coder.specs.Cutting.{cut};
-ghost use Rattle.bitcode_coder.specs.LengthCoders.{written_lengths, length_room};
+ghost use Rattle.bitcode_coder.specs.LengthCoders.{written_lengths, length_room, length_capacity};
 ghost use Rattle.bitcode_coder.specs.LengthColumn.{length_text};
 
 use crate::coder::{Buffer, Encoder, HoldsColumns};
@@ -48,7 +48,11 @@ impl HoldsColumns for StrEncoder {
 
     ghost room = { λ e. length_room e.lengths };
 
+    ghost capacity = { λ e. length_capacity e.lengths + fast_capacity e.bytes };
+
     ghost surely_passes = { λ e n. ⊥ };
+
+    ghost overflows = { λ e n. ⊥ };
 }
 
 impl Buffer for StrEncoder {
@@ -77,6 +81,8 @@ impl Buffer for StrEncoder {
 }
 
 impl<P: AsText> Encoder<P> for StrEncoder {
+    ghost writes_free = { false };
+
     fn encode(&mut self, t: &P) -> Result<(), Error> {
         let bytes = t.as_text().as_bytes();
         self.bytes.reserve(bytes.len())?;

@@ -7,7 +7,8 @@ ghost use Rattle.bitcode_shapes.specs.Datum.{text};
 ghost use Rattle.bitcode_shapes.specs.Shape.{text_shape};
 ghost use Rattle.bitcode_coder.specs.Coding.{IsReadingRefusal};
 ghost use Rattle.bitcode_coder.specs.Cutting.{cut};
-ghost use Rattle.bitcode_coder.specs.LengthCoders.{lengths_left};
+ghost use Rattle.bitcode_coder.specs.LengthCoders.{lengths_left, lengths_owned};
+ghost use Rattle.bitcode_coder.specs.LengthParts.{LengthsStandRaw};
 ghost use Rattle.bitcode_coder.specs.Spelling.{Spells};
 ghost use Rattle.bitcode_coder.specs.TextParts.{NamesLimitedTextFault};
 
@@ -41,6 +42,8 @@ impl<'a, const N: usize> HoldsData for ArrayStringDecoder<'a, N> {
     ghost shape = { text_shape (Some N) };
 
     ghost held = { λ d. map text (cut (lengths_left d.column.lengths) (slice_rest d.column.bytes)) };
+
+    ghost owned = { λ d. lengths_owned d.column.lengths };
 }
 
 impl<'a, const N: usize> View<'a> for ArrayStringDecoder<'a, N> {

@@ -1,8 +1,8 @@
 // Appending the column of some integers.
-ghost use Rattle.std.specs.Prelude.{◌≡◌, ◌-◌, ◌%◌, ◌^◌, ◌<◌, ◌∷◌, ◌++◌, true, false, length, map, OnOk, IfErr};
+ghost use Rattle.std.specs.Prelude.{◌≡◌, ◌≢◌, ◌+◌, ◌-◌, ◌*◌, ◌%◌, ◌^◌, ◌<◌, ◌≤◌, ◌∷◌, ◌++◌, true, false, length, map, vec_len, vec_capacity, IsOk, OnOk, IfErr};
 ghost use Rattle.bitcode_numbers.specs.LittleEndian.{number_bytes};
-ghost use Rattle.bitcode_numbers.specs.Numbers.{residue};
-ghost use Rattle.bitcode_columns.specs.Narrowing.{above, IsFrontOf};
+ghost use Rattle.bitcode_numbers.specs.Numbers.{residue, least, greatest};
+ghost use Rattle.bitcode_columns.specs.Narrowing.{above, plain_width, shifted_width, narrow_width, TakesNoScratch, IsFrontOf};
 ghost use Rattle.bitcode_numbers.specs.Widths.{IsWidth};
 ghost use Rattle.bitcode_columns.specs.IntColumn.{halvings, narrow_text, int_level_for, text_at_int_level, int_text};
 ghost use Rattle.bitcode_columns.specs.Tagged.{tag_of, tagged_text};
@@ -26,6 +26,7 @@ fn append_shifted<T: Int>(
     ensures written { OnOk result (out.new.items ≡ out.old.items ++ tag_of (halvings T.width - halvings narrow) true ∷ (number_bytes T.width (residue T.width (T.number least)) ++ narrow_text narrow (map (λ e. above T.width (residue T.width (T.number least)) (T.number e) % 256 ^ narrow) entries.now))) }
     ensures kept { IsFrontOf out.old.items out.new.items }
     ensures reason { IfErr result (λ e. e.reason ≡ Reason.OutOfMemory) }
+    ensures succeeds { narrow ≢ 1 → vec_len out.old + (1 + T.width + length entries.now * narrow) ≤ vec_capacity out.old → IsOk result }
 {
     let base = least.to_unsigned();
     out.push(tag_for(T::width(), narrow).saturating_sub(1))?;
@@ -44,6 +45,7 @@ fn append_plain<T: Int>(
     ensures written { OnOk result (out.new.items ≡ out.old.items ++ tag_of (halvings T.width - halvings narrow) false ∷ narrow_text narrow (map (λ e. above T.width 0 (T.number e) % 256 ^ narrow) entries.now)) }
     ensures kept { IsFrontOf out.old.items out.new.items }
     ensures reason { IfErr result (λ e. e.reason ≡ Reason.OutOfMemory) }
+    ensures succeeds { narrow ≢ 1 → vec_len out.old + (1 + length entries.now * narrow) ≤ vec_capacity out.old → IsOk result }
 {
     out.push(tag_for(T::width(), narrow))?;
     write_narrow(alloc, entries, T::Unsigned::from_wide(0), narrow, out)
@@ -55,6 +57,9 @@ fn append_tagged<T: Int>(alloc: Global, entries: &[T], out: &mut Vec<u8>) -> Res
     ensures written { OnOk result (out.new.items ≡ out.old.items ++ tagged_text T.width (int_level_for T.width) (text_at_int_level T.width) (map T.number entries.now)) }
     ensures kept { IsFrontOf out.old.items out.new.items }
     ensures reason { IfErr result (λ e. e.reason ≡ Reason.OutOfMemory) }
+    ensures succeeds { let low = least (map T.number entries.now) in let high = greatest (map T.number entries.now) in
+        narrow_width (length entries.now) (plain_width T.width low high) (shifted_width low high) ≢ 1
+        → vec_len out.old + (1 + length entries.now * T.width) ≤ vec_capacity out.old → IsOk result }
 {
     let (least, greatest) = bounds(entries).unwrap();
     let plain = plain_width(least, greatest);
@@ -77,6 +82,7 @@ pub(crate) fn append_ints<T: Int>(
     ensures written { OnOk result (out.new.items ≡ out.old.items ++ int_text T.width (map T.number entries.now)) }
     ensures kept { IsFrontOf out.old.items out.new.items }
     ensures reason { IfErr result (λ e. e.reason ≡ Reason.OutOfMemory) }
+    ensures succeeds { TakesNoScratch T.width (map T.number entries.now) → vec_len out.old + (1 + length entries.now * T.width) ≤ vec_capacity out.old → IsOk result }
 {
     if T::width() == 1 {
         return write_column(alloc, entries, out);

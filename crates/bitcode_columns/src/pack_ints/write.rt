@@ -1,5 +1,5 @@
 // Writing the numbers of a column at a width.
-ghost use Rattle.std.specs.Prelude.{◌≡◌, ◌%◌, ◌^◌, ◌++◌, map, All, IfOk, OnOk, IfErr};
+ghost use Rattle.std.specs.Prelude.{◌≡◌, ◌≢◌, ◌+◌, ◌*◌, ◌%◌, ◌^◌, ◌≤◌, ◌++◌, length, map, All, vec_len, vec_capacity, IsOk, IfOk, OnOk, IfErr};
 ghost use Rattle.bitcode_columns.specs.ByteColumn.{byte_text};
 ghost use Rattle.bitcode_numbers.specs.Widths.{IsWidth};
 ghost use Rattle.bitcode_columns.specs.IntColumn.{narrow_text};
@@ -24,6 +24,7 @@ pub(crate) fn write_numbers<T: Int, N: SizedUInt>(
     ensures in_range { OnOk result (All (λ e. IsNumber T.width T.signed (T.number e)) entries.now) }
     ensures kept { IsFrontOf out.old.items out.new.items }
     ensures reason { IfErr result (λ e. e.reason ≡ Reason.OutOfMemory) }
+    ensures succeeds { vec_len out.old + length entries.now * N.width ≤ vec_capacity out.old → IsOk result }
 {
     for entry in entries {
         let distance = entry.to_unsigned().wrapping_sub(base);
@@ -41,6 +42,7 @@ fn narrow_bytes<T: Int, B: Byte>(
     ensures numbers { IfOk result (λ bytes. map B.number bytes.items ≡ map (λ e. number_of 1 B.signed (above T.width (T.Unsigned.value base) (T.number e) % 256)) entries.now) }
     ensures in_range { OnOk result (All (λ e. IsNumber T.width T.signed (T.number e)) entries.now) }
     ensures reason { IfErr result (λ e. e.reason ≡ Reason.OutOfMemory) }
+    ensures none { length entries.now ≡ 0 → IsOk result }
 {
     let mut bytes = Vec::with_capacity(alloc, entries.len())?;
     for entry in entries {
@@ -61,6 +63,7 @@ pub(crate) fn write_bytes<T: Int, B: Byte>(
     ensures in_range { OnOk result (All (λ e. IsNumber T.width T.signed (T.number e)) entries.now) }
     ensures kept { IsFrontOf out.old.items out.new.items }
     ensures reason { IfErr result (λ e. e.reason ≡ Reason.OutOfMemory) }
+    ensures none { length entries.now ≡ 0 → vec_len out.old ≤ vec_capacity out.old → IsOk result }
 {
     let mut bytes = narrow_bytes::<T, B>(alloc, entries, base)?;
     pack_bytes(&mut bytes, out)
@@ -78,6 +81,7 @@ pub(crate) fn write_narrow<T: Int>(
     ensures written { OnOk result (out.new.items ≡ out.old.items ++ narrow_text width (map (λ e. above T.width (T.Unsigned.value base) (T.number e) % 256 ^ width) entries.now)) }
     ensures kept { IsFrontOf out.old.items out.new.items }
     ensures reason { IfErr result (λ e. e.reason ≡ Reason.OutOfMemory) }
+    ensures succeeds { width ≢ 1 → vec_len out.old + length entries.now * width ≤ vec_capacity out.old → IsOk result }
 {
     match width {
         1 => write_bytes::<T, u8>(alloc, entries, base, out),
@@ -98,6 +102,7 @@ pub(crate) fn write_column<T: Int>(
     ensures written { OnOk result (out.new.items ≡ out.old.items ++ byte_text (map T.number entries.now)) }
     ensures kept { IsFrontOf out.old.items out.new.items }
     ensures reason { IfErr result (λ e. e.reason ≡ Reason.OutOfMemory) }
+    ensures none { length entries.now ≡ 0 → vec_len out.old ≤ vec_capacity out.old → IsOk result }
 {
     let base = T::Unsigned::from_wide(0);
     if T::is_signed() {

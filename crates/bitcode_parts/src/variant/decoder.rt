@@ -1,5 +1,5 @@
 // The coder that variants are read from.
-#![tactic(auto, unfolding(crate::specs::VariantCoders::variants_left, crate::specs::VariantCoders::variant_counts))]
+#![tactic(auto, unfolding(crate::specs::VariantCoders::variants_left, crate::specs::VariantCoders::variant_counts, crate::specs::VariantCoders::variants_owned))]
 
 ghost use Rattle.std.specs.Prelude.{◌≡◌, false, ◌<◌, [], ◌∷◌, length, slice_index, OnOk, IfErr, OnErr};
 ghost use Rattle.bitcode_columns.specs.Counts.{AreCounts};
@@ -34,10 +34,13 @@ pub struct VariantDecoder<'a, const N: usize, const C_STYLE: bool> {
 }
 
 impl<'a, const N: usize, const C_STYLE: bool> VariantDecoder<'a, N, C_STYLE> {
-    /// HoldsData no variants. Takes no memory.
+    /// Holds no variants. Takes no memory.
+    ghost use Rattle.bitcode_parts.specs.VariantCoders.{variants_left, variant_counts, variants_owned};
+    /// Holds no variants. Takes no memory.
     pub fn new(alloc: Global) -> Self
         ensures left { variants_left result ≡ [] }
         ensures counts { AreCounts N [] (variant_counts result) }
+        ensures owned { variants_owned result ≡ 0 }
     {
         VariantDecoder {
             alloc,
@@ -88,6 +91,8 @@ impl<'a, const N: usize, const C_STYLE: bool> HoldsData for VariantDecoder<'a, N
     ghost shape = { bare_shape N };
 
     ghost held = { λ d. bare_choices (variants_left d) };
+
+    ghost owned = { variants_owned };
 }
 
 impl<'a, const N: usize, const C_STYLE: bool> View<'a> for VariantDecoder<'a, N, C_STYLE> {

@@ -1,12 +1,12 @@
 // The coder that variants are written to.
-#![tactic(auto, unfolding(crate::specs::VariantCoders::written_variants, crate::specs::VariantCoders::variant_room))]
+#![tactic(auto, unfolding(crate::specs::VariantCoders::written_variants, crate::specs::VariantCoders::variant_room, crate::specs::VariantCoders::variant_capacity))]
 
 ghost use Rattle.std.specs.Prelude.{◌≡◌, ◌+◌, ◌<◌, ◌≤◌, ◌++◌, [], ◌∷◌, length, map, All};
 ghost use Rattle.bitcode_input.specs.Fast.{fast_items};
 ghost use Rattle.bitcode_coder.specs.Columns.{variants, one};
 ghost use Rattle.bitcode_coder.specs.Spelling.{natural};
 
-use bitcode_coder::coder::{Buffer, HoldsColumns};
+use bitcode_coder::coder::{Buffer, HoldsColumns, MAX_VECTORED_CHUNK};
 use bitcode_columns::pack::pack_bytes_less_than;
 use bitcode_input::error::Error;
 use bitcode_input::fast::{FastVec, PushUnchecked};
@@ -30,13 +30,17 @@ pub struct VariantEncoder<const N: usize> {
 }
 
 impl<const N: usize> HoldsColumns for VariantEncoder<N> {
-    ghost use Rattle.bitcode_parts.specs.VariantCoders.{written_variants, variant_room};
+    ghost use Rattle.bitcode_parts.specs.VariantCoders.{written_variants, variant_room, variant_capacity};
 
     ghost columns = { λ e. one (variants N) (map natural (written_variants e)) };
 
     ghost room = { variant_room };
 
+    ghost capacity = { variant_capacity };
+
     ghost surely_passes = { λ e n. ⊥ };
+
+    ghost overflows = { λ e n. ⊥ };
 }
 
 impl<const N: usize> Buffer for VariantEncoder<N> {
@@ -74,14 +78,14 @@ impl<const N: usize> VariantEncoder<N> {
         self.variants.push_unchecked(variant);
     }
 
-    /// Writes 1 to `MAX_VECTORED_CHUNK` variants, each of which is below `N`. Room for them was reserved.
+    /// Writes 1 to [`MAX_VECTORED_CHUNK`] variants, each of which is below `N`. Room for them was reserved.
     ///
     /// ```
     /// variants.reserve(2)?;
     /// variants.encode_vectored(&[2, 1]);
     /// ```
     pub fn encode_vectored(&mut self, several: &[u8])
-        requires chunk { (0 < length several.now) × (length several.now ≤ 64) }
+        requires chunk { (0 < length several.now) × (length several.now ≤ MAX_VECTORED_CHUNK) }
         requires room { length several.now ≤ variant_room self.old }
         requires known { All (λ variant. variant < N) several.now }
         ensures written { written_variants self.new ≡ written_variants self.old ++ several.now }

@@ -1,4 +1,5 @@
 // The encoders of tuples of three to eight fields: of the first half of the fields, and of the second.
+ghost use Rattle.std.specs.Prelude.{◌&&◌};
 ghost use Rattle.bitcode_tuples.specs.PairLaws.{both_of_shape, both_surely};
 
 use crate::encoder::TupleEncoder;
@@ -12,6 +13,8 @@ use bitcode_shapes::shaped::Shaped;
 impl<T1: Shaped, T2: Shaped, T3: Shaped, A: Encoder<T1>, B: Encoder<T2>, C: Encoder<T3>> Encoder<
     (T1, T2, T3),
 > for TupleEncoder<A, TupleEncoder<B, C>> {
+    ghost writes_free = { A.writes_free && (B.writes_free && C.writes_free) };
+
     fn encode(&mut self, t: &(T1, T2, T3)) -> Result<(), Error> {
         FieldsEncoder::<(&T1, (&T2, &T3))>::encode_fields(self, &(&t.0, (&t.1, &t.2)))
     }
@@ -29,6 +32,8 @@ impl<
     B: Encoder<T2>,
     C: Encoder<T3>,
 > FieldsEncoder3<T1, T2, T3> for TupleEncoder<A, TupleEncoder<B, C>> {
+    ghost writes_free = { A.writes_free && (B.writes_free && C.writes_free) };
+
     fn encode_each(&mut self, t1: &T1, t2: &T2, t3: &T3) -> Result<(), Error> {
         FieldsEncoder::<(&T1, (&T2, &T3))>::encode_fields(self, &(t1, (t2, t3)))
     }
@@ -48,6 +53,8 @@ impl<
     C: Encoder<T3>,
     D: Encoder<T4>,
 > Encoder<(T1, T2, T3, T4)> for TupleEncoder<TupleEncoder<A, B>, TupleEncoder<C, D>> {
+    ghost writes_free = { (A.writes_free && B.writes_free) && (C.writes_free && D.writes_free) };
+
     fn encode(&mut self, t: &(T1, T2, T3, T4)) -> Result<(), Error> {
         FieldsEncoder::<((&T1, &T2), (&T3, &T4))>::encode_fields(
             self,
@@ -70,6 +77,8 @@ impl<
     C: Encoder<T3>,
     D: Encoder<T4>,
 > FieldsEncoder4<T1, T2, T3, T4> for TupleEncoder<TupleEncoder<A, B>, TupleEncoder<C, D>> {
+    ghost writes_free = { (A.writes_free && B.writes_free) && (C.writes_free && D.writes_free) };
+
     fn encode_each(&mut self, t1: &T1, t2: &T2, t3: &T3, t4: &T4) -> Result<(), Error> {
         FieldsEncoder::<((&T1, &T2), (&T3, &T4))>::encode_fields(self, &((t1, t2), (t3, t4)))
     }
@@ -89,6 +98,8 @@ impl<
     B: Encoder<T2>,
     C: FieldsEncoder3<T3, T4, T5>,
 > Encoder<(T1, T2, T3, T4, T5)> for TupleEncoder<TupleEncoder<A, B>, C> {
+    ghost writes_free = { (A.writes_free && B.writes_free) && C.writes_free };
+
     fn encode(&mut self, t: &(T1, T2, T3, T4, T5)) -> Result<(), Error> {
         FieldsEncoder::<((&T1, &T2), (&T3, &T4, &T5))>::encode_fields(
             self,
@@ -111,6 +122,8 @@ impl<
     B: Encoder<T2>,
     C: FieldsEncoder3<T3, T4, T5>,
 > FieldsEncoder5<T1, T2, T3, T4, T5> for TupleEncoder<TupleEncoder<A, B>, C> {
+    ghost writes_free = { (A.writes_free && B.writes_free) && C.writes_free };
+
     fn encode_each(&mut self, t1: &T1, t2: &T2, t3: &T3, t4: &T4, t5: &T5) -> Result<(), Error> {
         FieldsEncoder::<((&T1, &T2), (&T3, &T4, &T5))>::encode_fields(
             self,
@@ -133,6 +146,8 @@ impl<
     A: FieldsEncoder3<T1, T2, T3>,
     B: FieldsEncoder3<T4, T5, T6>,
 > Encoder<(T1, T2, T3, T4, T5, T6)> for TupleEncoder<A, B> {
+    ghost writes_free = { A.writes_free && B.writes_free };
+
     fn encode(&mut self, t: &(T1, T2, T3, T4, T5, T6)) -> Result<(), Error> {
         FieldsEncoder::<((&T1, &T2, &T3), (&T4, &T5, &T6))>::encode_fields(
             self,
@@ -155,6 +170,8 @@ impl<
     A: FieldsEncoder3<T1, T2, T3>,
     B: FieldsEncoder3<T4, T5, T6>,
 > FieldsEncoder6<T1, T2, T3, T4, T5, T6> for TupleEncoder<A, B> {
+    ghost writes_free = { A.writes_free && B.writes_free };
+
     fn encode_each(
         &mut self,
         t1: &T1,
@@ -186,6 +203,8 @@ impl<
     A: FieldsEncoder3<T1, T2, T3>,
     B: FieldsEncoder4<T4, T5, T6, T7>,
 > Encoder<(T1, T2, T3, T4, T5, T6, T7)> for TupleEncoder<A, B> {
+    ghost writes_free = { A.writes_free && B.writes_free };
+
     fn encode(&mut self, t: &(T1, T2, T3, T4, T5, T6, T7)) -> Result<(), Error> {
         FieldsEncoder::<((&T1, &T2, &T3), (&T4, &T5, &T6, &T7))>::encode_fields(
             self,
@@ -209,6 +228,8 @@ impl<
     A: FieldsEncoder3<T1, T2, T3>,
     B: FieldsEncoder4<T4, T5, T6, T7>,
 > FieldsEncoder7<T1, T2, T3, T4, T5, T6, T7> for TupleEncoder<A, B> {
+    ghost writes_free = { A.writes_free && B.writes_free };
+
     fn encode_each(
         &mut self,
         t1: &T1,
@@ -242,6 +263,8 @@ impl<
     A: FieldsEncoder4<T1, T2, T3, T4>,
     B: FieldsEncoder4<T5, T6, T7, T8>,
 > Encoder<(T1, T2, T3, T4, T5, T6, T7, T8)> for TupleEncoder<A, B> {
+    ghost writes_free = { A.writes_free && B.writes_free };
+
     fn encode(&mut self, t: &(T1, T2, T3, T4, T5, T6, T7, T8)) -> Result<(), Error> {
         FieldsEncoder::<((&T1, &T2, &T3, &T4), (&T5, &T6, &T7, &T8))>::encode_fields(
             self,
@@ -266,6 +289,8 @@ impl<
     A: FieldsEncoder4<T1, T2, T3, T4>,
     B: FieldsEncoder4<T5, T6, T7, T8>,
 > FieldsEncoder8<T1, T2, T3, T4, T5, T6, T7, T8> for TupleEncoder<A, B> {
+    ghost writes_free = { A.writes_free && B.writes_free };
+
     fn encode_each(
         &mut self,
         t1: &T1,

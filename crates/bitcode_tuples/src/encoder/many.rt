@@ -1,4 +1,5 @@
 // The encoders of tuples of nine to sixteen fields: of the first half of the fields, and of the second.
+ghost use Rattle.std.specs.Prelude.{◌&&◌};
 ghost use Rattle.bitcode_tuples.specs.PairLaws.{both_of_shape, both_surely};
 
 use crate::encoder::TupleEncoder;
@@ -22,6 +23,8 @@ impl<
     A: FieldsEncoder4<T1, T2, T3, T4>,
     B: FieldsEncoder5<T5, T6, T7, T8, T9>,
 > Encoder<(T1, T2, T3, T4, T5, T6, T7, T8, T9)> for TupleEncoder<A, B> {
+    ghost writes_free = { A.writes_free && B.writes_free };
+
     fn encode(&mut self, t: &(T1, T2, T3, T4, T5, T6, T7, T8, T9)) -> Result<(), Error> {
         FieldsEncoder::<((&T1, &T2, &T3, &T4), (&T5, &T6, &T7, &T8, &T9))>::encode_fields(
             self,
@@ -48,6 +51,8 @@ impl<
     A: FieldsEncoder5<T1, T2, T3, T4, T5>,
     B: FieldsEncoder5<T6, T7, T8, T9, T10>,
 > Encoder<(T1, T2, T3, T4, T5, T6, T7, T8, T9, T10)> for TupleEncoder<A, B> {
+    ghost writes_free = { A.writes_free && B.writes_free };
+
     fn encode(&mut self, t: &(T1, T2, T3, T4, T5, T6, T7, T8, T9, T10)) -> Result<(), Error> {
         FieldsEncoder::<((&T1, &T2, &T3, &T4, &T5), (&T6, &T7, &T8, &T9, &T10))>::encode_fields(
             self,
@@ -78,6 +83,8 @@ impl<
     A: FieldsEncoder5<T1, T2, T3, T4, T5>,
     B: FieldsEncoder6<T6, T7, T8, T9, T10, T11>,
 > Encoder<(T1, T2, T3, T4, T5, T6, T7, T8, T9, T10, T11)> for TupleEncoder<A, B> {
+    ghost writes_free = { A.writes_free && B.writes_free };
+
     fn encode(&mut self, t: &(T1, T2, T3, T4, T5, T6, T7, T8, T9, T10, T11)) -> Result<(), Error> {
         FieldsEncoder::<
             ((&T1, &T2, &T3, &T4, &T5), (&T6, &T7, &T8, &T9, &T10, &T11)),
@@ -111,6 +118,8 @@ impl<
     A: FieldsEncoder6<T1, T2, T3, T4, T5, T6>,
     B: FieldsEncoder6<T7, T8, T9, T10, T11, T12>,
 > Encoder<(T1, T2, T3, T4, T5, T6, T7, T8, T9, T10, T11, T12)> for TupleEncoder<A, B> {
+    ghost writes_free = { A.writes_free && B.writes_free };
+
     fn encode(
         &mut self,
         t: &(T1, T2, T3, T4, T5, T6, T7, T8, T9, T10, T11, T12),
@@ -151,6 +160,8 @@ impl<
     A: FieldsEncoder6<T1, T2, T3, T4, T5, T6>,
     B: FieldsEncoder7<T7, T8, T9, T10, T11, T12, T13>,
 > Encoder<(T1, T2, T3, T4, T5, T6, T7, T8, T9, T10, T11, T12, T13)> for TupleEncoder<A, B> {
+    ghost writes_free = { A.writes_free && B.writes_free };
+
     fn encode(
         &mut self,
         t: &(T1, T2, T3, T4, T5, T6, T7, T8, T9, T10, T11, T12, T13),
@@ -192,6 +203,8 @@ impl<
     A: FieldsEncoder7<T1, T2, T3, T4, T5, T6, T7>,
     B: FieldsEncoder7<T8, T9, T10, T11, T12, T13, T14>,
 > Encoder<(T1, T2, T3, T4, T5, T6, T7, T8, T9, T10, T11, T12, T13, T14)> for TupleEncoder<A, B> {
+    ghost writes_free = { A.writes_free && B.writes_free };
+
     fn encode(
         &mut self,
         t: &(T1, T2, T3, T4, T5, T6, T7, T8, T9, T10, T11, T12, T13, T14),
@@ -252,6 +265,8 @@ impl<
         T15,
     ),
 > for TupleEncoder<A, B> {
+    ghost writes_free = { A.writes_free && B.writes_free };
+
     fn encode(
         &mut self,
         t: &(
@@ -330,6 +345,8 @@ impl<
         T16,
     ),
 > for TupleEncoder<A, B> {
+    ghost writes_free = { A.writes_free && B.writes_free };
+
     fn encode(
         &mut self,
         t: &(

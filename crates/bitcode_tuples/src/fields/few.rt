@@ -1,11 +1,11 @@
 // Encoders of three to five fields that lie apart.
-ghost use Rattle.std.specs.Prelude.{◌≡◌, ℕ, ◌+◌, ◌<◌, ◌≤◌, [], OnOk, IfErr};
+ghost use Rattle.std.specs.Prelude.{◌≡◌, ◌≢◌, ℕ, ◌+◌, ◌<◌, ◌≤◌, Bool, [], IsTrue, OnOk, IfErr};
 ghost use Rattle.bitcode_coder.specs.Columns.{emptied};
 ghost use Rattle.bitcode_coder.specs.Coding.{written_columns, JoinsListing, PassesWithListing, SurelyPasses, IsWritingRefusal};
 
 use crate::fields::{Fields, FieldsEncoder};
 use bitcode_coder::coder::HoldsColumns;
-use bitcode_input::error::Error;
+use bitcode_input::error::{Error, Reason};
 use bitcode_shapes::shaped::Shaped;
 
 impl<'a, T1: Shaped, T2: Shaped, T3: Shaped> Fields for (&'a T1, &'a T2, &'a T3) {
@@ -22,12 +22,16 @@ impl<'a, T1: Shaped, T2: Shaped, T3: Shaped> Fields for (&'a T1, &'a T2, &'a T3)
 
 /// As `Encoder`, for a tuple whose three fields lie apart.
 pub trait FieldsEncoder3<T1: Shaped, T2: Shaped, T3: Shaped>: HoldsColumns {
+    // writing the fields takes no memory, where room for them was reserved
+    ghost writes_free: { Bool };
+
     fn encode_each(&mut self, t1: &T1, t2: &T2, t3: &T3) -> Result<(), Error>
         requires { 0 < Self.room self.old }
         ensures joined { OnOk result (JoinsListing ⟦<(T1, T2, T3) as Shaped>⟧.lists ⟦<(T1, T2, T3) as Shaped>⟧.shape (t1.now, t2.now, t3.now) (Self.columns self.old) (Self.columns self.new)) }
         ensures room { OnOk result (Self.room self.old ≤ Self.room self.new + 1) }
         ensures form { emptied (Self.columns self.new) ≡ emptied (Self.columns self.old) }
-        ensures refused { IfErr result (λ e. IsWritingRefusal e.reason (PassesWithListing ⟦<(T1, T2, T3) as Shaped>⟧.lists ⟦<(T1, T2, T3) as Shaped>⟧.shape (t1.now, t2.now, t3.now) (Self.columns self.old))) };
+        ensures refused { IfErr result (λ e. IsWritingRefusal e.reason (PassesWithListing ⟦<(T1, T2, T3) as Shaped>⟧.lists ⟦<(T1, T2, T3) as Shaped>⟧.shape (t1.now, t2.now, t3.now) (Self.columns self.old))) }
+        ensures free { IsTrue writes_free → IfErr result (λ e. e.reason ≢ Reason.OutOfMemory) };
 
     ghost of_shape: { (e : Self) → emptied (Self.columns e) ≡ written_columns ⟦<(T1, T2, T3) as Shaped>⟧.shape [] };
 
@@ -37,6 +41,8 @@ pub trait FieldsEncoder3<T1: Shaped, T2: Shaped, T3: Shaped>: HoldsColumns {
 impl<'a, T1: Shaped, T2: Shaped, T3: Shaped, E: FieldsEncoder3<T1, T2, T3>> FieldsEncoder<
     (&'a T1, &'a T2, &'a T3),
 > for E {
+    ghost writes_free = { E.writes_free };
+
     fn encode_fields(&mut self, fields: &(&'a T1, &'a T2, &'a T3)) -> Result<(), Error> {
         self.encode_each(fields.0, fields.1, fields.2)
     }
@@ -58,12 +64,16 @@ impl<'a, T1: Shaped, T2: Shaped, T3: Shaped, T4: Shaped> Fields
 
 /// As `Encoder`, for a tuple whose four fields lie apart.
 pub trait FieldsEncoder4<T1: Shaped, T2: Shaped, T3: Shaped, T4: Shaped>: HoldsColumns {
+    // writing the fields takes no memory, where room for them was reserved
+    ghost writes_free: { Bool };
+
     fn encode_each(&mut self, t1: &T1, t2: &T2, t3: &T3, t4: &T4) -> Result<(), Error>
         requires { 0 < Self.room self.old }
         ensures joined { OnOk result (JoinsListing ⟦<(T1, T2, T3, T4) as Shaped>⟧.lists ⟦<(T1, T2, T3, T4) as Shaped>⟧.shape (t1.now, t2.now, t3.now, t4.now) (Self.columns self.old) (Self.columns self.new)) }
         ensures room { OnOk result (Self.room self.old ≤ Self.room self.new + 1) }
         ensures form { emptied (Self.columns self.new) ≡ emptied (Self.columns self.old) }
-        ensures refused { IfErr result (λ e. IsWritingRefusal e.reason (PassesWithListing ⟦<(T1, T2, T3, T4) as Shaped>⟧.lists ⟦<(T1, T2, T3, T4) as Shaped>⟧.shape (t1.now, t2.now, t3.now, t4.now) (Self.columns self.old))) };
+        ensures refused { IfErr result (λ e. IsWritingRefusal e.reason (PassesWithListing ⟦<(T1, T2, T3, T4) as Shaped>⟧.lists ⟦<(T1, T2, T3, T4) as Shaped>⟧.shape (t1.now, t2.now, t3.now, t4.now) (Self.columns self.old))) }
+        ensures free { IsTrue writes_free → IfErr result (λ e. e.reason ≢ Reason.OutOfMemory) };
 
     ghost of_shape: { (e : Self) → emptied (Self.columns e) ≡ written_columns ⟦<(T1, T2, T3, T4) as Shaped>⟧.shape [] };
 
@@ -78,6 +88,8 @@ impl<
     T4: Shaped,
     E: FieldsEncoder4<T1, T2, T3, T4>,
 > FieldsEncoder<(&'a T1, &'a T2, &'a T3, &'a T4)> for E {
+    ghost writes_free = { E.writes_free };
+
     fn encode_fields(&mut self, fields: &(&'a T1, &'a T2, &'a T3, &'a T4)) -> Result<(), Error> {
         self.encode_each(fields.0, fields.1, fields.2, fields.3)
     }
@@ -100,12 +112,16 @@ impl<'a, T1: Shaped, T2: Shaped, T3: Shaped, T4: Shaped, T5: Shaped> Fields
 
 /// As `Encoder`, for a tuple whose five fields lie apart.
 pub trait FieldsEncoder5<T1: Shaped, T2: Shaped, T3: Shaped, T4: Shaped, T5: Shaped>: HoldsColumns {
+    // writing the fields takes no memory, where room for them was reserved
+    ghost writes_free: { Bool };
+
     fn encode_each(&mut self, t1: &T1, t2: &T2, t3: &T3, t4: &T4, t5: &T5) -> Result<(), Error>
         requires { 0 < Self.room self.old }
         ensures joined { OnOk result (JoinsListing ⟦<(T1, T2, T3, T4, T5) as Shaped>⟧.lists ⟦<(T1, T2, T3, T4, T5) as Shaped>⟧.shape (t1.now, t2.now, t3.now, t4.now, t5.now) (Self.columns self.old) (Self.columns self.new)) }
         ensures room { OnOk result (Self.room self.old ≤ Self.room self.new + 1) }
         ensures form { emptied (Self.columns self.new) ≡ emptied (Self.columns self.old) }
-        ensures refused { IfErr result (λ e. IsWritingRefusal e.reason (PassesWithListing ⟦<(T1, T2, T3, T4, T5) as Shaped>⟧.lists ⟦<(T1, T2, T3, T4, T5) as Shaped>⟧.shape (t1.now, t2.now, t3.now, t4.now, t5.now) (Self.columns self.old))) };
+        ensures refused { IfErr result (λ e. IsWritingRefusal e.reason (PassesWithListing ⟦<(T1, T2, T3, T4, T5) as Shaped>⟧.lists ⟦<(T1, T2, T3, T4, T5) as Shaped>⟧.shape (t1.now, t2.now, t3.now, t4.now, t5.now) (Self.columns self.old))) }
+        ensures free { IsTrue writes_free → IfErr result (λ e. e.reason ≢ Reason.OutOfMemory) };
 
     ghost of_shape: { (e : Self) → emptied (Self.columns e) ≡ written_columns ⟦<(T1, T2, T3, T4, T5) as Shaped>⟧.shape [] };
 
@@ -121,6 +137,8 @@ impl<
     T5: Shaped,
     E: FieldsEncoder5<T1, T2, T3, T4, T5>,
 > FieldsEncoder<(&'a T1, &'a T2, &'a T3, &'a T4, &'a T5)> for E {
+    ghost writes_free = { E.writes_free };
+
     fn encode_fields(
         &mut self,
         fields: &(&'a T1, &'a T2, &'a T3, &'a T4, &'a T5),

@@ -1,11 +1,11 @@
 // Encoders of six to eight fields that lie apart.
-ghost use Rattle.std.specs.Prelude.{◌≡◌, ℕ, ◌+◌, ◌<◌, ◌≤◌, [], OnOk, IfErr};
+ghost use Rattle.std.specs.Prelude.{◌≡◌, ◌≢◌, ℕ, ◌+◌, ◌<◌, ◌≤◌, Bool, [], IsTrue, OnOk, IfErr};
 ghost use Rattle.bitcode_coder.specs.Columns.{emptied};
 ghost use Rattle.bitcode_coder.specs.Coding.{written_columns, JoinsListing, PassesWithListing, SurelyPasses, IsWritingRefusal};
 
 use crate::fields::{Fields, FieldsEncoder};
 use bitcode_coder::coder::HoldsColumns;
-use bitcode_input::error::Error;
+use bitcode_input::error::{Error, Reason};
 use bitcode_shapes::shaped::Shaped;
 
 impl<'a, T1: Shaped, T2: Shaped, T3: Shaped, T4: Shaped, T5: Shaped, T6: Shaped> Fields
@@ -33,6 +33,9 @@ pub trait FieldsEncoder6<
     T5: Shaped,
     T6: Shaped,
 >: HoldsColumns {
+    // writing the fields takes no memory, where room for them was reserved
+    ghost writes_free: { Bool };
+
     fn encode_each(
         &mut self,
         t1: &T1,
@@ -46,7 +49,8 @@ pub trait FieldsEncoder6<
         ensures joined { OnOk result (JoinsListing ⟦<(T1, T2, T3, T4, T5, T6) as Shaped>⟧.lists ⟦<(T1, T2, T3, T4, T5, T6) as Shaped>⟧.shape (t1.now, t2.now, t3.now, t4.now, t5.now, t6.now) (Self.columns self.old) (Self.columns self.new)) }
         ensures room { OnOk result (Self.room self.old ≤ Self.room self.new + 1) }
         ensures form { emptied (Self.columns self.new) ≡ emptied (Self.columns self.old) }
-        ensures refused { IfErr result (λ e. IsWritingRefusal e.reason (PassesWithListing ⟦<(T1, T2, T3, T4, T5, T6) as Shaped>⟧.lists ⟦<(T1, T2, T3, T4, T5, T6) as Shaped>⟧.shape (t1.now, t2.now, t3.now, t4.now, t5.now, t6.now) (Self.columns self.old))) };
+        ensures refused { IfErr result (λ e. IsWritingRefusal e.reason (PassesWithListing ⟦<(T1, T2, T3, T4, T5, T6) as Shaped>⟧.lists ⟦<(T1, T2, T3, T4, T5, T6) as Shaped>⟧.shape (t1.now, t2.now, t3.now, t4.now, t5.now, t6.now) (Self.columns self.old))) }
+        ensures free { IsTrue writes_free → IfErr result (λ e. e.reason ≢ Reason.OutOfMemory) };
 
     ghost of_shape: { (e : Self) → emptied (Self.columns e) ≡ written_columns ⟦<(T1, T2, T3, T4, T5, T6) as Shaped>⟧.shape [] };
 
@@ -63,6 +67,8 @@ impl<
     T6: Shaped,
     E: FieldsEncoder6<T1, T2, T3, T4, T5, T6>,
 > FieldsEncoder<(&'a T1, &'a T2, &'a T3, &'a T4, &'a T5, &'a T6)> for E {
+    ghost writes_free = { E.writes_free };
+
     fn encode_fields(
         &mut self,
         fields: &(&'a T1, &'a T2, &'a T3, &'a T4, &'a T5, &'a T6),
@@ -98,6 +104,9 @@ pub trait FieldsEncoder7<
     T6: Shaped,
     T7: Shaped,
 >: HoldsColumns {
+    // writing the fields takes no memory, where room for them was reserved
+    ghost writes_free: { Bool };
+
     fn encode_each(
         &mut self,
         t1: &T1,
@@ -112,7 +121,8 @@ pub trait FieldsEncoder7<
         ensures joined { OnOk result (JoinsListing ⟦<(T1, T2, T3, T4, T5, T6, T7) as Shaped>⟧.lists ⟦<(T1, T2, T3, T4, T5, T6, T7) as Shaped>⟧.shape (t1.now, t2.now, t3.now, t4.now, t5.now, t6.now, t7.now) (Self.columns self.old) (Self.columns self.new)) }
         ensures room { OnOk result (Self.room self.old ≤ Self.room self.new + 1) }
         ensures form { emptied (Self.columns self.new) ≡ emptied (Self.columns self.old) }
-        ensures refused { IfErr result (λ e. IsWritingRefusal e.reason (PassesWithListing ⟦<(T1, T2, T3, T4, T5, T6, T7) as Shaped>⟧.lists ⟦<(T1, T2, T3, T4, T5, T6, T7) as Shaped>⟧.shape (t1.now, t2.now, t3.now, t4.now, t5.now, t6.now, t7.now) (Self.columns self.old))) };
+        ensures refused { IfErr result (λ e. IsWritingRefusal e.reason (PassesWithListing ⟦<(T1, T2, T3, T4, T5, T6, T7) as Shaped>⟧.lists ⟦<(T1, T2, T3, T4, T5, T6, T7) as Shaped>⟧.shape (t1.now, t2.now, t3.now, t4.now, t5.now, t6.now, t7.now) (Self.columns self.old))) }
+        ensures free { IsTrue writes_free → IfErr result (λ e. e.reason ≢ Reason.OutOfMemory) };
 
     ghost of_shape: { (e : Self) → emptied (Self.columns e) ≡ written_columns ⟦<(T1, T2, T3, T4, T5, T6, T7) as Shaped>⟧.shape [] };
 
@@ -130,6 +140,8 @@ impl<
     T7: Shaped,
     E: FieldsEncoder7<T1, T2, T3, T4, T5, T6, T7>,
 > FieldsEncoder<(&'a T1, &'a T2, &'a T3, &'a T4, &'a T5, &'a T6, &'a T7)> for E {
+    ghost writes_free = { E.writes_free };
+
     fn encode_fields(
         &mut self,
         fields: &(&'a T1, &'a T2, &'a T3, &'a T4, &'a T5, &'a T6, &'a T7),
@@ -188,6 +200,9 @@ pub trait FieldsEncoder8<
     T7: Shaped,
     T8: Shaped,
 >: HoldsColumns {
+    // writing the fields takes no memory, where room for them was reserved
+    ghost writes_free: { Bool };
+
     fn encode_each(
         &mut self,
         t1: &T1,
@@ -203,7 +218,8 @@ pub trait FieldsEncoder8<
         ensures joined { OnOk result (JoinsListing ⟦<(T1, T2, T3, T4, T5, T6, T7, T8) as Shaped>⟧.lists ⟦<(T1, T2, T3, T4, T5, T6, T7, T8) as Shaped>⟧.shape (t1.now, t2.now, t3.now, t4.now, t5.now, t6.now, t7.now, t8.now) (Self.columns self.old) (Self.columns self.new)) }
         ensures room { OnOk result (Self.room self.old ≤ Self.room self.new + 1) }
         ensures form { emptied (Self.columns self.new) ≡ emptied (Self.columns self.old) }
-        ensures refused { IfErr result (λ e. IsWritingRefusal e.reason (PassesWithListing ⟦<(T1, T2, T3, T4, T5, T6, T7, T8) as Shaped>⟧.lists ⟦<(T1, T2, T3, T4, T5, T6, T7, T8) as Shaped>⟧.shape (t1.now, t2.now, t3.now, t4.now, t5.now, t6.now, t7.now, t8.now) (Self.columns self.old))) };
+        ensures refused { IfErr result (λ e. IsWritingRefusal e.reason (PassesWithListing ⟦<(T1, T2, T3, T4, T5, T6, T7, T8) as Shaped>⟧.lists ⟦<(T1, T2, T3, T4, T5, T6, T7, T8) as Shaped>⟧.shape (t1.now, t2.now, t3.now, t4.now, t5.now, t6.now, t7.now, t8.now) (Self.columns self.old))) }
+        ensures free { IsTrue writes_free → IfErr result (λ e. e.reason ≢ Reason.OutOfMemory) };
 
     ghost of_shape: { (e : Self) → emptied (Self.columns e) ≡ written_columns ⟦<(T1, T2, T3, T4, T5, T6, T7, T8) as Shaped>⟧.shape [] };
 
@@ -233,6 +249,8 @@ impl<
         &'a T8,
     ),
 > for E {
+    ghost writes_free = { E.writes_free };
+
     fn encode_fields(
         &mut self,
         fields: &(

@@ -12,6 +12,7 @@ loop-item-init g c = record {
   front = front_none g.T.Shaped.lists g.T.Shaped.shape (g.E.HoldsColumns.columns c.args.elements.now) (g.met.E.Encoder.of_shape c.args.elements.now) (g.L.Lends.rest c.args.lent);
   values = c.requires.values;
   left = c.requires.room;
+  fewer = omega arith;
   room = omega arith;
   form = refl;
 }
@@ -32,6 +33,7 @@ loop-item-preserved g c =
           (subst (λ items. JoinsFront lists shape whole items old now) c.in-Some.ensures.next c.loop-item.invariant.front) c.in_ok-encode.ensures.joined;
       values = All-tail g.T.Shaped.is_value item rest (subst (All g.T.Shaped.is_value) c.in-Some.ensures.next c.loop-item.invariant.values);
       left = omega (arith, shorter, c.loop-item.invariant.left, c.in_ok-encode.ensures.room);
+      fewer = omega (arith, shorter, c.loop-item.invariant.fewer);
       room = omega (arith, shorter, c.loop-item.invariant.room, c.in_ok-encode.ensures.room);
       form = c.encode.ensures.form ∙ c.loop-item.invariant.form;
     }

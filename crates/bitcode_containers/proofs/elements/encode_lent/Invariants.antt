@@ -8,6 +8,7 @@ invariant-loop-item g l = record {
   front : JoinsFront g.T.Shaped.lists g.T.Shaped.shape (g.L.Lends.rest l.initial.lent) (g.L.Lends.rest l.lent) (g.E.HoldsColumns.columns l.initial.elements) (g.E.HoldsColumns.columns l.elements);
   values : All g.T.Shaped.is_value (g.L.Lends.rest l.lent);
   left : length (g.L.Lends.rest l.lent) ≤ g.E.HoldsColumns.room l.elements;
+  fewer : length (g.L.Lends.rest l.lent) ≤ length (g.L.Lends.rest l.initial.lent);
   room : g.E.HoldsColumns.room l.initial.elements + length (g.L.Lends.rest l.lent) ≤ g.E.HoldsColumns.room l.elements + length (g.L.Lends.rest l.initial.lent);
   form : emptied (g.E.HoldsColumns.columns l.elements) ≡ emptied (g.E.HoldsColumns.columns l.initial.elements);
 }

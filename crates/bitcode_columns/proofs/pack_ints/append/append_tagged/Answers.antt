@@ -3,6 +3,7 @@ use Rattle.std.proofs.lemmas.Result.{on_ok_weaker}
 use Rattle.std.proofs.lemmas.List.{length-map}
 use Rattle.bitcode_numbers.specs.Numbers.{least, greatest}
 use Rattle.bitcode_columns.proofs.AppendLemmas.{IfSome-at, ordered, tagged_shifted, tagged_plain}
+use Rattle.bitcode_columns.proofs.RoomLemmas.{shifted_takes, plain_takes}
 use Rattle.bitcode_columns.proofs.pack_ints.append.append_tagged.Goals as goal
 
 pub plain_width-plain-requires : goal.plain_width-plain-requires
@@ -32,3 +33,21 @@ returns-else-is_shifted-clause-written g c =
     (IfSome-at (λ pair. g.T.Int.number pair.1 ≡ greatest (map g.T.Int.number c.args.entries.now)) c.unwrap-least.ensures c.bounds.ensures.greatest)
     c.plain_width-plain.ensures c.shifted_width-shifted.ensures (sym c.is_shifted.ensures ∙ c.if-is_shifted.false) written)
     c.append_plain.ensures.written
+
+pub returns-then-is_shifted-clause-succeeds : goal.returns-then-is_shifted-clause-succeeds
+returns-then-is_shifted-clause-succeeds g c more room =
+    let takes =
+    shifted_takes g.T.Int.number c.args.entries.now g.T.Int.width _ _ g.T.Int.signed _ _ g.met.T.Int.width_law c.requires c.bounds.ensures.in_range
+    (IfSome-at (λ pair. g.T.Int.number pair.0 ≡ least (map g.T.Int.number c.args.entries.now)) c.unwrap-least.ensures c.bounds.ensures.least)
+    (IfSome-at (λ pair. g.T.Int.number pair.1 ≡ greatest (map g.T.Int.number c.args.entries.now)) c.unwrap-least.ensures c.bounds.ensures.greatest)
+    c.plain_width-plain.ensures c.shifted_width-shifted.ensures (sym c.is_shifted.ensures ∙ c.if-is_shifted.true) in
+    c.append_shifted.ensures.succeeds (λ one. more (takes.1 ∙ one)) (omega (arith, room, takes.0))
+
+pub returns-else-is_shifted-clause-succeeds : goal.returns-else-is_shifted-clause-succeeds
+returns-else-is_shifted-clause-succeeds g c more room =
+    let takes =
+    plain_takes g.T.Int.number c.args.entries.now g.T.Int.width _ _ g.T.Int.signed _ _ g.met.T.Int.width_law c.requires c.bounds.ensures.in_range
+    (IfSome-at (λ pair. g.T.Int.number pair.0 ≡ least (map g.T.Int.number c.args.entries.now)) c.unwrap-least.ensures c.bounds.ensures.least)
+    (IfSome-at (λ pair. g.T.Int.number pair.1 ≡ greatest (map g.T.Int.number c.args.entries.now)) c.unwrap-least.ensures c.bounds.ensures.greatest)
+    c.plain_width-plain.ensures c.shifted_width-shifted.ensures (sym c.is_shifted.ensures ∙ c.if-is_shifted.false) in
+    c.append_plain.ensures.succeeds (λ one. more (takes.1 ∙ one)) (omega (arith, room, takes.0))

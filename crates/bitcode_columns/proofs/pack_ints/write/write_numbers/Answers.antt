@@ -1,13 +1,17 @@
-use Rattle.std.proofs.Common.{subst}
+use Rattle.std.proofs.Common.{subst, arith}
+use Rattle.std.proofs.lemmas.Bool.{false≢true}
 use Rattle.std.proofs.lemmas.List.Elements.{All-more, All-nil}
 use Rattle.bitcode_numbers.specs.Numbers.{IsNumber}
 use Rattle.bitcode_columns.proofs.NarrowLemmas.{narrowed, raw_none, raw_more}
+use Rattle.bitcode_columns.proofs.RoomLemmas.{next_len, next_fits}
 use Rattle.bitcode_columns.proofs.pack_ints.write.write_numbers.Goals as goal
 
 pub loop-entry-init : goal.loop-entry-init
 loop-entry-init g c = record {
   written = raw_none g.N.SizedUInt.width _;
   in_range = All-nil (λ e. IsNumber g.T.Int.width g.T.Int.signed (g.T.Int.number e));
+  len = omega arith;
+  capacity = omega arith;
 }
 
 pub loop-entry-preserved : goal.loop-entry-preserved
@@ -17,4 +21,11 @@ loop-entry-preserved g c = record {
       c.in_ok-write.ensures.written;
   in_range = All-more (λ e. IsNumber g.T.Int.width g.T.Int.signed (g.T.Int.number e)) _ _ _ c.loop-entry-test.true c.loop-entry.invariant.in_range
       (subst (λ e. IsNumber g.T.Int.width g.T.Int.signed (g.T.Int.number e)) c.entry-item.is c.to_unsigned.ensures.in_range);
+  len = next_len g.N.SizedUInt.width _ _ _ _ c.loop-entry.invariant.len c.in_ok-write.ensures.len;
+  capacity = omega (arith, c.loop-entry.invariant.capacity, c.write.ensures.capacity);
 }
+
+pub returns-in_err-write-clause-succeeds : goal.returns-in_err-write-clause-succeeds
+returns-in_err-write-clause-succeeds g c room =
+    let fits = next_fits g.N.SizedUInt.width _ _ _ _ c.loop-entry-test.true c.loop-entry.invariant.len in
+    absurd (false≢true (c.in_err-write.ensures.succeeds (omega (arith, room, fits, c.loop-entry.invariant.capacity))))

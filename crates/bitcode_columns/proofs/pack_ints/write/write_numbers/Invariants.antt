@@ -1,4 +1,4 @@
-use Rattle.std.proofs.Common.{◌≡◌, ◌%◌, ◌^◌, ◌++◌, take, map, All}
+use Rattle.std.proofs.Common.{◌≡◌, ◌+◌, ◌*◌, ◌≤◌, vec_len, vec_capacity, ◌%◌, ◌^◌, ◌++◌, take, map, All}
 use Rattle.bitcode_numbers.specs.LittleEndian.{raw_text}
 use Rattle.bitcode_numbers.specs.Numbers.{IsNumber}
 use Rattle.bitcode_columns.specs.Narrowing.{above}
@@ -9,4 +9,6 @@ invariant-loop-entry g l = record {
   written : l.out.items ≡ l.initial.out.items
       ++ raw_text g.N.SizedUInt.width (map (λ e. above g.T.Int.width (g.T.Unsigned.SizedUInt.value l.base) (g.T.Int.number e) % 256 ^ g.N.SizedUInt.width) (take l.entry-index l.entries));
   in_range : All (λ e. IsNumber g.T.Int.width g.T.Int.signed (g.T.Int.number e)) (take l.entry-index l.entries);
+  len : vec_len l.out ≡ vec_len l.initial.out + l.entry-index * g.N.SizedUInt.width;
+  capacity : vec_capacity l.initial.out ≤ vec_capacity l.out;
 }

@@ -9,7 +9,7 @@ pub returns-in_err-reserve : goal.returns-in_err-reserve
 returns-in_err-reserve g c =
     let p = err_from_is_err_and c.from_residual.result c.from_residual.ensures.1 in
     let none_yet : g.T.Encoder.HoldsColumns.columns c.clear.new.self ≡ written_columns g.T.Shaped.shape [] =
-    c.clear.ensures ∙ g.met.T.Encoder.Encoder.of_shape c.args.self.now.encoder in
+    c.clear.ensures.empty ∙ g.met.T.Encoder.Encoder.of_shape c.args.self.now.encoder in
     let l = g.met.T.Shaped.lawful.listed c.args.t.now c.told.ensures in
     rw (p.1, p.2)
     (record {
@@ -25,7 +25,7 @@ pub returns-in_err-encode : goal.returns-in_err-encode
 returns-in_err-encode g c =
     let p = err_from_is_err_and c.from_residual-in_err-encode.result c.from_residual-in_err-encode.ensures.1 in
     let none_yet : g.T.Encoder.HoldsColumns.columns c.reserve.new.self ≡ written_columns g.T.Shaped.shape [] =
-    c.in_ok-reserve.ensures.columns ∙ c.clear.ensures ∙ g.met.T.Encoder.Encoder.of_shape c.args.self.now.encoder in
+    c.in_ok-reserve.ensures.columns ∙ c.clear.ensures.empty ∙ g.met.T.Encoder.Encoder.of_shape c.args.self.now.encoder in
     rw (p.1, p.2)
     (record {
       written = tt;
@@ -35,7 +35,7 @@ returns-in_err-encode g c =
 pub returns : goal.returns
 returns g c =
     let none_yet : g.T.Encoder.HoldsColumns.columns c.reserve.new.self ≡ written_columns g.T.Shaped.shape [] =
-    c.in_ok-reserve.ensures.columns ∙ c.clear.ensures ∙ g.met.T.Encoder.Encoder.of_shape c.args.self.now.encoder in
+    c.in_ok-reserve.ensures.columns ∙ c.clear.ensures.empty ∙ g.met.T.Encoder.Encoder.of_shape c.args.self.now.encoder in
     record {
       written =
           encoding_of-joined g.T.Shaped.lists g.T.Shaped.shape c.args.t.now _ none_yet _ _ c.in_ok-encode.ensures.joined

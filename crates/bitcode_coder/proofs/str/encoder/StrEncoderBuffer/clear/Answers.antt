@@ -7,8 +7,8 @@ use Rattle.bitcode_coder.proofs.str.encoder.StrEncoderBuffer.clear.Goals as goal
 
 pub invariant_of-self : goal.invariant_of-self
 invariant_of-self c = record {
-  whole = ap sum (same_lengths (written_lengths c.clear.new.self) [] c.clear.ensures) ∙ sym (ap length c.clear-2.ensures.items);
+  whole = ap sum (same_lengths (written_lengths c.clear.new.self) [] c.clear.ensures.empty) ∙ sym (ap length c.clear-2.ensures.items);
 }
 
-pub returns : goal.returns
-returns c = no_pieces (written_lengths c.clear.new.self) (fast_items c.clear-2.new.self) c.clear.ensures
+pub returns-clause-empty : goal.returns-clause-empty
+returns-clause-empty c = no_pieces (written_lengths c.clear.new.self) (fast_items c.clear-2.new.self) c.clear.ensures.empty

@@ -9,7 +9,7 @@ use Rattle.bitcode_coder.proofs.str.encoder.StrEncoderBuffer.collect_into.Goals 
 
 pub invariant_of-self : goal.invariant_of-self
 invariant_of-self c = record {
-  whole = ap sum (same_lengths (written_lengths c.clear.new.self) [] c.clear.ensures) ∙ sym (ap length c.clear-2.ensures.items);
+  whole = ap sum (same_lengths (written_lengths c.clear.new.self) [] c.clear.ensures.empty) ∙ sym (ap length c.clear-2.ensures.items);
 }
 
 pub returns-clause-written : goal.returns-clause-written
@@ -22,4 +22,4 @@ returns-clause-written c =
 
 pub returns-clause-empty : goal.returns-clause-empty
 returns-clause-empty c =
-    OnOk-always c.pack_texts-packed.result (no_pieces (written_lengths c.clear.new.self) (fast_items c.clear-2.new.self) c.clear.ensures)
+    OnOk-always c.pack_texts-packed.result (no_pieces (written_lengths c.clear.new.self) (fast_items c.clear-2.new.self) c.clear.ensures.empty)
