@@ -6,7 +6,7 @@ ghost use Rattle.bitcode_columns.specs.Counts.{AreCounts};
 ghost use Rattle.bitcode_columns.specs.Reading.{Reads, IsEndOf};
 ghost use Rattle.bitcode_columns.specs.VariantColumn.{SpellsVariants};
 ghost use Rattle.bitcode_parts.specs.BareVariants.{bare_shape, bare_choices};
-ghost use Rattle.bitcode_parts.specs.VariantCoders.{variants_left, variant_counts};
+ghost use Rattle.bitcode_parts.specs.VariantCoders.{variants_left, variant_counts, variants_owned};
 ghost use Rattle.bitcode_coder.specs.Faults.{NamesVariantsFault};
 
 use bitcode_coder::coder::{HoldsData, View};
@@ -34,8 +34,6 @@ pub struct VariantDecoder<'a, const N: usize, const C_STYLE: bool> {
 }
 
 impl<'a, const N: usize, const C_STYLE: bool> VariantDecoder<'a, N, C_STYLE> {
-    /// Holds no variants. Takes no memory.
-    ghost use Rattle.bitcode_parts.specs.VariantCoders.{variants_left, variant_counts, variants_owned};
     /// Holds no variants. Takes no memory.
     pub fn new(alloc: Global) -> Self
         ensures left { variants_left result ≡ [] }
