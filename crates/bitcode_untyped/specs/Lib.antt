@@ -1,0 +1,11 @@
+pub mod ShapeTree
+pub mod View
+pub mod Walk
+pub mod PlacedColumns
+pub mod Population
+pub mod Runs
+pub mod Machine
+pub mod Faults
+pub mod Bounds
+pub mod Spelling
+pub mod Rows
