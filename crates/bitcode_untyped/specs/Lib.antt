@@ -1,4 +1,5 @@
 pub mod ShapeTree
+pub mod References
 pub mod View
 pub mod Walk
 pub mod PlacedColumns
