@@ -1,1 +1,11 @@
 pub mod ViewLemmas
+pub mod DatumLemmas
+pub mod PlaceLemmas
+pub mod OneRunLemmas
+pub mod HostLemmas
+pub mod PopulationLemmas
+pub mod GrowingLemmas
+pub mod SoundLemmas
+pub mod FreshLemmas
+pub mod PartingLemmas
+pub mod KindLemmas
