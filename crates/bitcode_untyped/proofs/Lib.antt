@@ -9,3 +9,7 @@ pub mod SoundLemmas
 pub mod FreshLemmas
 pub mod PartingLemmas
 pub mod KindLemmas
+pub mod NextColumnLemmas
+pub mod CompleteLemmas
+pub mod OnceLemmas
+pub mod BoundLemmas

@@ -130,7 +130,7 @@ tracks_step bytes w a b u i (inr t) =
       counted = rw ws (counted_append (map whole a.opened) (whole new) i.counted t.0 t.1 t.4);
     }
 
-pub tracks_run : (bytes : List ℕ) (t w : List Use) (a b : State) → Tracks bytes w a → Runs (Takes) a t b → Tracks bytes (w ++ t) b
+pub tracks_run : (bytes : List ℕ) (t w : List Use) (a b : State) → Tracks bytes w a → Runs Takes a t b → Tracks bytes (w ++ t) b
 tracks_run bytes [] w a b i r = rw append-nil (subst (λ z. Tracks bytes w z) r i)
 tracks_run bytes (u ∷ t) w a b i r =
     subst (λ z. Tracks bytes z b) (append_assoc w (u ∷ []) t) (tracks_run bytes t (w ++ u ∷ []) r.0 b (tracks_step bytes w a r.0 u i r.1) r.2)
@@ -240,7 +240,7 @@ module _ (s : ShapeTree) (d : Datum) (bytes : List ℕ) (b : State) (i : Tracks 
       all_seen b.opened (subst Distinct (sym i.seen_so_far) (distinct (walk s [] d))) each ∙ i.seen_so_far
 
 -- Where the machine runs along the whole walk of a datum, the bytes are one piece for each column of the datum, and the rest.
-pub sound : (s : ShapeTree) (d : Datum) (bytes : List ℕ) (b : State) → Runs (Takes) (start bytes) (walk s [] d) b → Spelled bytes (columns (walk s [] d)) b.rest
+pub sound : (s : ShapeTree) (d : Datum) (bytes : List ℕ) (b : State) → Runs Takes (start bytes) (walk s [] d) b → Spelled bytes (columns (walk s [] d)) b.rest
 sound s d bytes b r =
     let i = tracks_run bytes (walk s [] d) [] (start bytes) b (tracks_start bytes) r in
     subst (λ cs. Spelled bytes cs b.rest) (whole_is s d bytes b i) i.spelled

@@ -9,4 +9,5 @@ pub mod Machine
 pub mod Faults
 pub mod Bounds
 pub mod Spelling
+pub mod Laws
 pub mod Rows
