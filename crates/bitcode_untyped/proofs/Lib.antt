@@ -13,3 +13,6 @@ pub mod NextColumnLemmas
 pub mod CompleteLemmas
 pub mod OnceLemmas
 pub mod BoundLemmas
+pub mod EntryLemmas
+pub mod SpellingLemmas
+pub mod LawLemmas
