@@ -16,3 +16,4 @@ pub mod BoundLemmas
 pub mod EntryLemmas
 pub mod SpellingLemmas
 pub mod LawLemmas
+pub mod SoundTreeLemmas
