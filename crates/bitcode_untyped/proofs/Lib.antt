@@ -17,3 +17,5 @@ pub mod EntryLemmas
 pub mod SpellingLemmas
 pub mod LawLemmas
 pub mod SoundTreeLemmas
+pub mod FollowLemmas
+pub mod FaultLemmas
