@@ -1,5 +1,5 @@
 -- A datum has at most 65537 elements for each entry, and at most eight entries for each byte that spells it.
-use Rattle.std.proofs.Common.{◌≡◌, ℕ, zero, suc, ◌+◌, ◌*◌, ◌≤◌, List, [], ◌∷◌, ◌++◌, length, refl, ap, sym, ◌∙◌, subst, Bool, true, false, cond, arith, length-append, ◌&&◌}
+use Rattle.std.proofs.Common.{◌≡◌, ℕ, zero, suc, ◌+◌, ◌*◌, ◌≤◌, List, [], ◌∷◌, ◌++◌, length, refl, ap, Bool, true, false, cond, arith, length-append, ◌&&◌}
 use Rattle.std.specs.List.{AllByRecursion, flat_map}
 use Rattle.bitcode_shapes.specs.Datum.{Datum, Data, unit, number, text, list, tuple, choice, no_data, datum_and, list_of, elements_in, fields_in, first_in, second_in, variant_in, payload_in}
 use Rattle.bitcode_coder.specs.Columns.{Kind, bools, ints, lengths, texts, raws, variants, IsEntryOf}
@@ -73,10 +73,10 @@ mutual
       let f : Datum → List Use = λ e. walk s (key ∷ p) (first_in e) ++ walk v (value ∷ p) (second_in e) in
       let Q : Datum → Type 0 = λ e. IsLimited s (first_in e) × IsLimited v (second_in e) in
       let one : (e : Datum) → IsPair (IsOf s) (IsOf v) e → Q e → element_count e + own (column_free s) ≤ 65537 * length (f e) = λ e q l.
-        let a = bounded s (key ∷ p) (first_in e) q.1 l.0 in
-        let b = bounded v (value ∷ p) (second_in e) q.2 l.1 in
-        let t : element_count e ≡ element_count (first_in e) + (element_count (second_in e) + 0) = ap element_count q.0 in
-        omega (arith, a, b, t, length-append (walk s (key ∷ p) (first_in e)) (walk v (value ∷ p) (second_in e))) in
+      let a = bounded s (key ∷ p) (first_in e) q.1 l.0 in
+      let b = bounded v (value ∷ p) (second_in e) q.2 l.1 in
+      let t : element_count e ≡ element_count (first_in e) + (element_count (second_in e) + 0) = ap element_count q.0 in
+      omega (arith, a, b, t, length-append (walk s (key ∷ p) (first_in e)) (walk v (value ∷ p) (second_in e))) in
       list_bound (column_free s) d f h.0 k.0 (each_bound (own (column_free s)) f (IsPair (IsOf s) (IsOf v)) Q one (elements_in d) h.1 k.1)
   bounded (tuple_tree ss) p d h k =
       let t : element_count d ≡ element_counts (fields_in d) = ap element_count h.0 in

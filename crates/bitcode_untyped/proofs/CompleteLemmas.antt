@@ -1,6 +1,6 @@
 -- The machine runs along the whole walk of a datum whose columns the bytes spell.
-use Rattle.std.proofs.Common.{◌≡◌, ℕ, zero, suc, ◌+◌, ◌⊎◌, inl, inr, List, [], ◌∷◌, ◌++◌, length, map, take, drop, refl, ap, sym, ◌∙◌, subst, Bool, true, false, not, ◌||◌, slice_get, Some, None, append_assoc, length-append, arith}
-use Rattle.std.proofs.lemmas.Bool.{cases_Bool, or_left, or_right, or_cases}
+use Rattle.std.proofs.Common.{◌≡◌, ℕ, ◌+◌, inl, inr, List, [], ◌∷◌, ◌++◌, length, map, refl, ap, sym, ◌∙◌, subst, Bool, true, false, ◌||◌, slice_get, Some, append_assoc, length-append, arith}
+use Rattle.std.proofs.lemmas.Bool.{cases_Bool, or_left, or_right}
 use Rattle.std.proofs.lemmas.List.{append-nil, map-append}
 use Rattle.std.specs.List.{AllByRecursion}
 use Rattle.bitcode_shapes.specs.Datum.{Datum}

@@ -1,5 +1,5 @@
 -- The kinds of a walk are of columns that there are, and its entries are of their kinds.
-use Rattle.std.proofs.Common.{◌≡◌, ℕ, zero, suc, ◌+◌, ◌≤◌, ◌⊎◌, inl, inr, pos, None, List, [], ◌∷◌, ◌++◌, length, refl, ap, sym, ◌∙◌, subst, Bool, true, false, arith}
+use Rattle.std.proofs.Common.{◌≡◌, ℕ, zero, suc, ◌+◌, ◌≤◌, inl, inr, pos, List, [], ◌∷◌, ◌++◌, length, refl, sym, subst, arith}
 use Rattle.std.proofs.lemmas.Bool.{cases_Bool}
 use Rattle.bitcode_shapes.specs.Datum.{Datum, Data, no_data, datum_and, elements_in, fields_in, first_in, second_in, variant_in, payload_in}
 use Rattle.bitcode_coder.specs.Columns.{Kind, IsEntryOf, IsSoundKind}
@@ -63,7 +63,7 @@ mutual
   entered (map_tree s v) p d h =
       let f : Datum → List Use = λ e. walk s (key ∷ p) (first_in e) ++ walk v (value ∷ p) (second_in e) in
       let one : (e : Datum) → IsPair (IsOf s) (IsOf v) e → AllByRecursion Entered (f e) = λ e i.
-        each_append Entered _ _ (entered s (key ∷ p) (first_in e) i.1) (entered v (value ∷ p) (second_in e) i.2) in
+      each_append Entered _ _ (entered s (key ∷ p) (first_in e) i.1) (entered v (value ∷ p) (second_in e) i.2) in
       (length_entered d, each_flat_of Entered (IsPair (IsOf s) (IsOf v)) f one (elements_in d) h.1)
   entered (tuple_tree ss) p d h = entered_fields ss (field_place ss p) 0 (fields_in d) h.1
   entered (choice_tree ss) p d h =

@@ -1,18 +1,16 @@
 -- The faults of a value at a node, by the variant of both.
-use Rattle.std.proofs.Common.{◌≡◌, ℕ, zero, suc, Bool, ℤ, List, [], ◌∷◌, ◌++◌, map, Option, Some, None, Vec, Box, String, Global, slice_get, refl, sym, ◌∙◌, ap, nat_lt, if◌then◌else◌}
+use Rattle.std.proofs.Common.{◌≡◌, ℕ, suc, Bool, ℤ, List, [], ◌∷◌, ◌++◌, map, Some, None, Vec, Box, String, Global, slice_get, sym, ◌∙◌, ap, nat_lt, if◌then◌else◌}
 use Rattle.std.specs.List.{flat_map}
 use Rattle.std.proofs.lemmas.List.Folds.{flat_map-map}
-use Rattle.bitcode_input.specs.declared.error.Reason.{Reason}
 use Rattle.bitcode_input.specs.declared.error.Reason.TheVariants.{TooManyVariants, NotOfTheShape, NestedTooDeep}
-use Rattle.bitcode_untyped.specs.Faults.{Followed, stands, too_deep, nowhere, follow, follow_entry, Judge, faults_of_fields, faults_of_variant, faults_of, faults_step, faults_at}
+use Rattle.bitcode_untyped.specs.Faults.{follow, follow_entry, Judge, faults_of_fields, faults_of_variant, faults_of, faults_step, faults_at}
 use Rattle.bitcode_untyped.specs.declared.shape.ShapeNode.{ShapeNode}
-use Rattle.bitcode_untyped.specs.declared.shape.ShapeNode.TheOpen.{ShapeNode-F}
 use Rattle.bitcode_untyped.specs.declared.shape.ShapeNode.TheVariants as node
 use Rattle.bitcode_untyped.specs.declared.value.Value.{Value, out-Value}
 use Rattle.bitcode_untyped.specs.declared.value.Value.TheOpen.{Value-F}
 use Rattle.bitcode_untyped.specs.declared.value.Value.TheFolds.{fold-roll-Value, fold_out-Value, map-Value}
 use Rattle.bitcode_untyped.specs.declared.value.Value.TheVariants as value
-use Rattle.bitcode_untyped.proofs.FollowLemmas.{reference, follow-Unit, follow-Bool, follow-U8, follow-U16, follow-U32, follow-U64, follow-U128, follow-I8, follow-I16, follow-I32, follow-I64, follow-I128, follow-Char, follow-Str, follow-Bytes, follow-Option, follow-Seq, follow-Map, follow-Tuple, follow-Enum, follow-Ref}
+use Rattle.bitcode_untyped.proofs.FollowLemmas.{follow-Unit, follow-Bool, follow-U8, follow-U16, follow-U32, follow-U64, follow-U128, follow-I8, follow-I16, follow-I32, follow-I64, follow-I128, follow-Char, follow-Str, follow-Bytes, follow-Option, follow-Seq, follow-Map, follow-Tuple, follow-Enum, follow-Ref}
 
 module _ (table : List ShapeNode) where
   -- what a value says of itself, whatever it is

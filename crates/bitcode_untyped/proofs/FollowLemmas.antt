@@ -1,16 +1,10 @@
 -- What stands at a node, and the faults of a value there, by the variant.
-use Rattle.std.proofs.Common.{◌≡◌, ℕ, zero, suc, Bool, ℤ, List, [], ◌∷◌, map, Option, Some, None, Vec, Box, String, Global, slice_get, sym, ◌∙◌, ap}
-use Rattle.std.proofs.lemmas.Simd.{map-map}
-use Rattle.bitcode_untyped.specs.Faults.{Followed, stands, too_deep, nowhere, follow, follow_by, follow_entry, Judge, faults_of, faults_step, faults_at}
-use Rattle.bitcode_untyped.specs.declared.shape.ShapeNode.{ShapeNode, out-ShapeNode}
+use Rattle.std.proofs.Common.{◌≡◌, ℕ, zero, suc, List, Vec, Box, Global, slice_get, sym, ◌∙◌, ap}
+use Rattle.bitcode_untyped.specs.Faults.{Followed, stands, too_deep, follow, follow_by, follow_entry}
+use Rattle.bitcode_untyped.specs.declared.shape.ShapeNode.{ShapeNode}
 use Rattle.bitcode_untyped.specs.declared.shape.ShapeNode.TheOpen.{ShapeNode-F}
 use Rattle.bitcode_untyped.specs.declared.shape.ShapeNode.TheViews.{roll-ShapeNode, out-roll-ShapeNode}
 use Rattle.bitcode_untyped.specs.declared.shape.ShapeNode.TheVariants as node
-use Rattle.bitcode_untyped.specs.declared.value.Value.{Value}
-use Rattle.bitcode_untyped.specs.declared.value.Value.TheOpen.{Value-F}
-use Rattle.bitcode_untyped.specs.declared.value.Value.TheFolds.{fold-roll-Value}
-use Rattle.bitcode_untyped.specs.declared.value.Value.TheVariants as value
-use Rattle.bitcode_input.specs.declared.error.Reason.{Reason}
 
 -- ---- what stands at a node
 

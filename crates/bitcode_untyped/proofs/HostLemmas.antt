@@ -1,9 +1,8 @@
 -- Where a walk has its entries.
-use Rattle.std.proofs.Common.{◌≡◌, ℕ, zero, suc, ◌+◌, ◌≤◌, ◌<◌, ◌⊎◌, inl, inr, pos, List, [], ◌∷◌, ◌++◌, length, flat_map, map, refl, ap, sym, ◌∙◌, subst, Bool, true, false, arith, zero-add}
+use Rattle.std.proofs.Common.{◌≡◌, ℕ, zero, suc, ◌+◌, ◌⊎◌, inl, inr, List, [], ◌∷◌, ◌++◌, flat_map, refl, sym, ◌∙◌, subst, arith, zero-add}
 use Rattle.std.proofs.lemmas.Bool.{cases_Bool}
 use Rattle.bitcode_shapes.specs.Datum.{Datum, Data, elements_in, first_of, rest_of, fields_in, first_in, second_in, variant_in, payload_in}
 use Rattle.bitcode_coder.specs.Columns.{Kind}
-use Rattle.bitcode_untyped.specs.Machine.{next}
 use Rattle.bitcode_untyped.specs.PlacedColumns.{same_place, entries_at}
 use Rattle.bitcode_untyped.specs.ShapeTree.{ShapeTree, unit_tree, never_tree, leaf_tree, seq_tree, map_tree, tuple_tree, choice_tree, ShapeTrees, no_trees, tree_and, tree_at}
 use Rattle.bitcode_untyped.specs.Walk.{element, key, value, variant, field, Place, Use, use_at, length_kind, index_kind, field_place, walk, walk_fields, walk_variant}

@@ -1,11 +1,10 @@
 -- The laws in the words of their contracts, and what the reader's machine has to do with them.
-use Rattle.std.proofs.Common.{◌≡◌, ℕ, ◌+◌, ◌*◌, ◌≤◌, List, [], ◌∷◌, ◌++◌, length, refl, ap, sym, ◌∙◌, subst, arith, zero-add}
-use Rattle.std.proofs.lemmas.List.{append-nil}
+use Rattle.std.proofs.Common.{◌≡◌, ℕ, ◌*◌, ◌≤◌, List, [], ◌++◌, length, sym, ◌∙◌, subst, arith, zero-add}
 use Rattle.bitcode_shapes.specs.Datum.{Datum}
 use Rattle.bitcode_untyped.specs.Bounds.{element_count, IsLimited}
 use Rattle.bitcode_untyped.specs.Laws.{SpellsOnce, DatumTakesAnEighth, ElementsAreBounded, ReadsBackDatum}
 use Rattle.bitcode_untyped.specs.Machine.{State, start, Takes}
-use Rattle.bitcode_untyped.specs.PlacedColumns.{columns, columns_of, entry_count}
+use Rattle.bitcode_untyped.specs.PlacedColumns.{columns_of, entry_count}
 use Rattle.bitcode_untyped.specs.Runs.{Runs}
 use Rattle.bitcode_untyped.specs.ShapeTree.{ShapeTree, IsOf, IsSound}
 use Rattle.bitcode_untyped.specs.Spelling.{SpellsDatum}

@@ -19,3 +19,4 @@ pub mod LawLemmas
 pub mod SoundTreeLemmas
 pub mod FollowLemmas
 pub mod FaultLemmas
+pub mod MismatchLemmas

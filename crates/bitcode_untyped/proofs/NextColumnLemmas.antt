@@ -1,6 +1,6 @@
 -- The columns so far decide the next one's place, kind and count, and all of them the datum.
-use Rattle.std.proofs.Common.{◌≡◌, ℕ, zero, suc, ◌+◌, ◌⊎◌, inl, inr, List, [], ◌∷◌, ◌++◌, length, map, take, drop, refl, ap, sym, ◌∙◌, subst, Bool, true, false, not, ◌||◌}
-use Rattle.std.proofs.lemmas.Bool.{cases_Bool, or_left, or_right, or_cases}
+use Rattle.std.proofs.Common.{◌≡◌, ℕ, inl, inr, List, [], ◌∷◌, ◌++◌, length, map, take, drop, refl, ap, sym, ◌∙◌, subst, Bool, true, false}
+use Rattle.std.proofs.lemmas.Bool.{cases_Bool, or_left, or_right}
 use Rattle.std.proofs.lemmas.List.{append-nil, take-append-drop}
 use Rattle.std.specs.List.{AllByRecursion}
 use Rattle.bitcode_shapes.specs.Datum.{Datum}

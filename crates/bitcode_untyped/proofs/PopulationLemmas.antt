@@ -1,10 +1,10 @@
 -- Each column of a walk has as many entries as the columns above it say.
-use Rattle.std.proofs.Common.{◌≡◌, ℕ, zero, suc, ◌+◌, ◌≤◌, ◌<◌, ◌⊎◌, inl, inr, pos, List, [], ◌∷◌, ◌++◌, length, flat_map, map, refl, ap, sym, ◌∙◌, subst, Bool, true, false, arith, zero-add, ◌==◌, length-append, if◌then◌else◌, cond}
+use Rattle.std.proofs.Common.{◌≡◌, ℕ, zero, suc, ◌+◌, ◌<◌, inl, inr, List, [], ◌∷◌, ◌++◌, length, flat_map, map, refl, ap, sym, ◌∙◌, subst, arith, zero-add, ◌==◌, length-append, if◌then◌else◌, cond}
 use Rattle.std.proofs.lemmas.List.Sums.{sum_by-cons}
 use Rattle.std.proofs.lemmas.Grind.{flat_map-append}
 use Rattle.std.proofs.lemmas.List.{length-map, append-nil}
 use Rattle.std.proofs.lemmas.List.Folds.{flat_map-map}
-use Rattle.std.proofs.lemmas.Bool.{eqb-false, cases_Bool, eqb-true, eq-eqb}
+use Rattle.std.proofs.lemmas.Bool.{eqb-false, cases_Bool, eqb-true}
 use Rattle.bitcode_shapes.specs.Datum.{Datum, Data, natural_in, elements_in, first_of, rest_of, fields_in, first_in, second_in, variant_in, payload_in}
 use Rattle.bitcode_coder.specs.Columns.{Kind}
 use Rattle.bitcode_coder.specs.Spelling.{natural}

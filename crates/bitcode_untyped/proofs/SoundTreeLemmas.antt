@@ -1,5 +1,5 @@
 -- The tree of every shape is sound: its kinds are of columns that there are.
-use Rattle.std.proofs.Common.{◌≡◌, ℕ, zero, suc, List, [], ◌∷◌, map, refl, sym, ◌∙◌, ap, subst, inl, inr}
+use Rattle.std.proofs.Common.{ℕ, zero, suc, List, [], ◌∷◌, map, refl, sym, ◌∙◌, ap, subst, inl, inr}
 use Rattle.bitcode_untyped.specs.ShapeTree.{ShapeTree, IsSound, AreSound}
 use Rattle.bitcode_untyped.specs.View.{tree_by, tree_step, trees_of, entry_tree, followed, tree_of}
 use Rattle.bitcode_untyped.specs.declared.shape.Shape.{Shape}

@@ -1,5 +1,5 @@
 -- The pieces of columns: how many entries there are, and that what is written spells them.
-use Rattle.std.proofs.Common.{◌≡◌, ℕ, zero, suc, ◌+◌, ◌*◌, ◌≤◌, ◌⊎◌, inl, inr, List, [], ◌∷◌, ◌++◌, length, map, refl, ap, sym, ◌∙◌, subst, Bool, true, false, arith, append_assoc, length-append}
+use Rattle.std.proofs.Common.{◌≡◌, ℕ, ◌+◌, ◌*◌, ◌≤◌, inl, inr, List, [], ◌∷◌, ◌++◌, length, refl, ap, sym, ◌∙◌, arith, append_assoc, length-append}
 use Rattle.std.specs.Prelude.{All}
 use Rattle.std.proofs.lemmas.List.{append-nil}
 use Rattle.std.proofs.lemmas.List.Sums.{sum_by-cons}
@@ -9,7 +9,6 @@ use Rattle.bitcode_shapes.specs.Datum.{Datum}
 use Rattle.bitcode_coder.specs.Columns.{Kind, bools, ints, lengths, texts, raws, variants, IsEntryOf, IsSoundKind, entry_count_of}
 use Rattle.bitcode_coder.specs.Spelling.{SpellsEach, texts_of, column_text, LengthsBelowLimitOf}
 use Rattle.std.specs.List.{AllByRecursion}
-use Rattle.bitcode_untyped.specs.Machine.{whole}
 use Rattle.bitcode_untyped.specs.PlacedColumns.{same_place, PlacedColumn, columns, unplaced, entry_count}
 use Rattle.bitcode_untyped.specs.Walk.{Use}
 use Rattle.bitcode_untyped.proofs.GrowingLemmas.{put, columns_snoc}
@@ -71,7 +70,7 @@ count-columns [] w = ap (λ x. count_entries (columns x)) (append-nil w) ∙ ome
 count-columns (u ∷ v) w =
     let step : count_entries (columns (w ++ u ∷ [])) ≡ count_entries (columns w) + 1 = ap count_entries (columns_snoc w u) ∙ count-put u (columns w) in
     let e : count_entries (columns (w ++ u ∷ v)) ≡ count_entries (columns (w ++ u ∷ [])) + length v =
-      ap (λ x. count_entries (columns x)) (sym (append_assoc w (u ∷ []) v)) ∙ count-columns v (w ++ u ∷ []) in
+    ap (λ x. count_entries (columns x)) (sym (append_assoc w (u ∷ []) v)) ∙ count-columns v (w ++ u ∷ []) in
     omega (arith, e, step)
 
 pub eighth : (cs : List PlacedColumn) (bytes : List ℕ) → AllByRecursion (λ (c : PlacedColumn). IsSoundKind c.kind) cs
