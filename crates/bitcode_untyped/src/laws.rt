@@ -1,5 +1,7 @@
 // What holds of untyped data and of the bytes that spell them. A call does nothing: its contract is the law.
 ghost use Rattle.bitcode_untyped.specs.ShapeTree.{ShapeTree, IsSound};
+ghost use Rattle.bitcode_untyped.specs.View.{tree_of};
+ghost use Rattle.bitcode_untyped.specs.declared.shape.Shape.{Shape};
 ghost use Rattle.bitcode_untyped.specs.Laws.{ColumnsDecide, SpellsOnce, DatumTakesAnEighth, ElementsAreBounded, ReadsBackDatum};
 
 /// The columns of a datum so far decide the place, kind and count of the next one, and all of them decide the datum: so
@@ -23,4 +25,13 @@ pub fn spelled_data()
     ensures once { (shape : ShapeTree) → SpellsOnce shape }
     ensures eighth { (shape : ShapeTree) → IsSound shape → DatumTakesAnEighth shape }
     ensures bounded { (shape : ShapeTree) → IsSound shape → ElementsAreBounded shape }
+{}
+
+/// Every shape has only columns that there are: what `spelled_data` says holds of each.
+///
+/// ```
+/// every_shape();
+/// ```
+pub fn every_shape()
+    ensures { (shape : Shape) → IsSound (tree_of shape) }
 {}
