@@ -3,4 +3,6 @@
 
 pub mod laws;
 pub mod shape;
+#[cfg(test)]
+mod tests;
 pub mod value;
