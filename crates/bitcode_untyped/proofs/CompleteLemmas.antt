@@ -12,11 +12,12 @@ use Rattle.bitcode_untyped.specs.Population.{population}
 use Rattle.bitcode_untyped.specs.Runs.{Runs}
 use Rattle.bitcode_untyped.specs.ShapeTree.{ShapeTree}
 use Rattle.bitcode_untyped.specs.Walk.{element, key, value, variant, field, Place, Use, walk}
+use Rattle.bitcode_untyped.proofs.EachLemmas.{each_front, each_back}
 use Rattle.bitcode_untyped.proofs.PlaceLemmas.{same_place-true, same_place-refl, entries_here, entries-append}
 use Rattle.bitcode_untyped.proofs.GrowingLemmas.{put, same_place_sym, differ_sym, columns_snoc, columns_lookup}
 use Rattle.bitcode_untyped.proofs.SoundLemmas.{Spelled, closed_none}
 use Rattle.bitcode_untyped.proofs.FreshLemmas.{fresh, also, AllIn, fresh_first, GroundedBy, GroundedWalk, walk_grounded, grounded_at, population_by}
-use Rattle.bitcode_untyped.proofs.KindLemmas.{HasKind, each_front, each_back, kinded, one_kind, kind_columns}
+use Rattle.bitcode_untyped.proofs.KindLemmas.{HasKind, kinded, one_kind, kind_columns}
 use Rattle.bitcode_untyped.proofs.NextColumnLemmas.{fresh_none, fresh_ext, each_open, count_at}
 
 -- The column of a state, of which so much was taken, where all of it is known.

@@ -1,16 +1,17 @@
 -- The kinds of a walk are of columns that there are, and its entries are of their kinds.
 use Rattle.std.proofs.Common.{◌≡◌, ℕ, zero, suc, ◌+◌, ◌≤◌, inl, inr, pos, List, [], ◌∷◌, ◌++◌, length, refl, sym, subst, arith}
 use Rattle.std.proofs.lemmas.Bool.{cases_Bool}
+use Rattle.std.specs.List.{AllByRecursion}
 use Rattle.bitcode_shapes.specs.Datum.{Datum, Data, no_data, datum_and, elements_in, fields_in, first_in, second_in, variant_in, payload_in}
 use Rattle.bitcode_coder.specs.Columns.{Kind, IsEntryOf, IsSoundKind}
 use Rattle.bitcode_coder.specs.Transposition.{length_entry, variant_entry}
-use Rattle.std.specs.List.{AllByRecursion, flat_map}
 use Rattle.bitcode_untyped.specs.PlacedColumns.{same_place, entries_at, PlacedColumn, columns, columns_of}
 use Rattle.bitcode_untyped.specs.ShapeTree.{ShapeTree, unit_tree, never_tree, leaf_tree, seq_tree, map_tree, tuple_tree, choice_tree, ShapeTrees, no_trees, tree_and, IsPair, IsOf, AreOf, IsOfVariant, IsSound, AreSound}
 use Rattle.bitcode_untyped.specs.Walk.{element, key, value, variant, Place, Use, length_kind, index_kind, field_place, walk, walk_fields, walk_variant}
+use Rattle.bitcode_untyped.proofs.EachLemmas.{each_if, each_append, each_flat_of}
 use Rattle.bitcode_untyped.proofs.PlaceLemmas.{same_place-true}
 use Rattle.bitcode_untyped.proofs.SoundLemmas.{sound}
-use Rattle.bitcode_untyped.proofs.KindLemmas.{HasKindFrom, HasKindAt, HasKind, each_if, each_append, kinded, one_kind, each_without, kind_columns}
+use Rattle.bitcode_untyped.proofs.KindLemmas.{HasKindFrom, HasKindAt, HasKind, kinded, one_kind, each_without, kind_columns}
 
 mutual
   pub sound_kind : (s : ShapeTree) → IsSound s → (p q : Place) (k : Kind) → HasKindFrom s p q k → IsSoundKind k
@@ -47,11 +48,6 @@ length_entered d = (length (elements_in d), (refl, tt))
 
 pub index_entered : (d : Datum) → variant_in d ≤ 255 → IsEntryOf index_kind (variant_entry d)
 index_entered d h = record { value = pos (variant_in d); is = refl; in_width = omega arith; in_allowed = tt }
-
-pub each_flat_of : {A B : Type 0} (P : B → Type 0) (Q : A → Type 0) (f : A → List B) → ((x : A) → Q x → AllByRecursion P (f x))
-    → (xs : List A) → AllByRecursion Q xs → AllByRecursion P (flat_map f xs)
-each_flat_of P Q f h [] all = tt
-each_flat_of P Q f h (x ∷ xs) all = each_append P (f x) (flat_map f xs) (h x all.0) (each_flat_of P Q f h xs all.1)
 
 mutual
   pub entered : (s : ShapeTree) (p : Place) (d : Datum) → IsOf s d → AllByRecursion Entered (walk s p d)

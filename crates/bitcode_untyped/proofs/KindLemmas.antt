@@ -1,5 +1,5 @@
 -- All entries of a place have one kind.
-use Rattle.std.proofs.Common.{◌≡◌, ℕ, zero, suc, ◌+◌, ◌⊎◌, inl, inr, List, [], ◌∷◌, ◌++◌, flat_map, refl, sym, ◌∙◌, subst, arith, zero-add}
+use Rattle.std.proofs.Common.{◌≡◌, ℕ, zero, suc, ◌+◌, ◌⊎◌, inl, inr, List, [], ◌∷◌, ◌++◌, refl, sym, ◌∙◌, subst, arith, zero-add}
 use Rattle.std.proofs.lemmas.Bool.{cases_Bool}
 use Rattle.std.specs.List.{AllByRecursion}
 use Rattle.bitcode_shapes.specs.Datum.{Datum, Data, elements_in, first_of, rest_of, fields_in, first_in, second_in, variant_in, payload_in}
@@ -7,6 +7,7 @@ use Rattle.bitcode_coder.specs.Columns.{Kind}
 use Rattle.bitcode_untyped.specs.PlacedColumns.{same_place, PlacedColumn, without, columns}
 use Rattle.bitcode_untyped.specs.ShapeTree.{ShapeTree, unit_tree, never_tree, leaf_tree, seq_tree, map_tree, tuple_tree, choice_tree, ShapeTrees, no_trees, tree_and}
 use Rattle.bitcode_untyped.specs.Walk.{Step, element, key, value, variant, field, Place, Use, length_kind, index_kind, field_place, walk, walk_fields, walk_variant}
+use Rattle.bitcode_untyped.proofs.EachLemmas.{each_if, each_append, each_flat}
 use Rattle.bitcode_untyped.proofs.PlaceLemmas.{Under, append_same_tail, under_step, under_not_above}
 
 -- The shape, standing at p, has a column of kind k at q.
@@ -30,26 +31,6 @@ HasKind s p q k = HasKindFrom s p q k
 
 abbrev pub Kinded : ShapeTree → Place → Use → Type 0
 Kinded s p u = HasKindFrom s p u.place u.kind
-
-pub each_if : {A : Type 0} (P Q : A → Type 0) → ((x : A) → P x → Q x) → (xs : List A) → AllByRecursion P xs → AllByRecursion Q xs
-each_if P Q f [] h = tt
-each_if P Q f (x ∷ xs) h = (f x h.0, each_if P Q f xs h.1)
-
-pub each_append : {A : Type 0} (P : A → Type 0) (xs ys : List A) → AllByRecursion P xs → AllByRecursion P ys → AllByRecursion P (xs ++ ys)
-each_append P [] ys h k = k
-each_append P (x ∷ xs) ys h k = (h.0, each_append P xs ys h.1 k)
-
-pub each_front : {A : Type 0} (P : A → Type 0) (xs ys : List A) → AllByRecursion P (xs ++ ys) → AllByRecursion P xs
-each_front P [] ys h = tt
-each_front P (x ∷ xs) ys h = (h.0, each_front P xs ys h.1)
-
-pub each_back : {A : Type 0} (P : A → Type 0) (xs ys : List A) → AllByRecursion P (xs ++ ys) → AllByRecursion P ys
-each_back P [] ys h = h
-each_back P (x ∷ xs) ys h = each_back P xs ys h.1
-
-pub each_flat : {A B : Type 0} (P : B → Type 0) (f : A → List B) → ((x : A) → AllByRecursion P (f x)) → (xs : List A) → AllByRecursion P (flat_map f xs)
-each_flat P f h [] = tt
-each_flat P f h (x ∷ xs) = each_append P (f x) (flat_map f xs) (h x) (each_flat P f h xs)
 
 mutual
   pub kinded : (s : ShapeTree) (p : Place) (d : Datum) → AllByRecursion (λ (u : Use). HasKindFrom s p u.place u.kind) (walk s p d)

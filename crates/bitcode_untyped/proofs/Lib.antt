@@ -1,5 +1,6 @@
 pub mod ViewLemmas
 pub mod DatumLemmas
+pub mod EachLemmas
 pub mod PlaceLemmas
 pub mod OneRunLemmas
 pub mod HostLemmas
@@ -20,3 +21,5 @@ pub mod SoundTreeLemmas
 pub mod FollowLemmas
 pub mod FaultLemmas
 pub mod MismatchLemmas
+pub mod ReadLemmas
+pub mod FollowedLemmas

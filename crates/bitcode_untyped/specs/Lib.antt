@@ -9,5 +9,6 @@ pub mod Machine
 pub mod Faults
 pub mod Bounds
 pub mod Spelling
+pub mod Reads
 pub mod Laws
 pub mod Rows
