@@ -54,13 +54,18 @@ put_open u (c ∷ cs) q =
       ]
     ]
 
-pub put_last : (u : Use) (cs : List PlacedColumn) → is_open cs u.place ≡ false → put u cs ≡ cs ++ record { place = u.place; kind = u.kind; entries = u.entry ∷ [] } ∷ []
+pub put_last : (u : Use) (cs : List PlacedColumn) → is_open cs u.place ≡ false
+    → put u cs ≡ cs ++ record { place = u.place; kind = u.kind; entries = u.entry ∷ [] } ∷ []
 put_last u [] h = refl
 put_last u (c ∷ cs) h =
     elim (cases_Bool (same_place u.place c.place)) [ inl k ↦ absurd (let m = rw k at h in cc) | inr k ↦ rw k (ap (λ (xs : List PlacedColumn). c ∷ xs) (put_last u cs (rw k at h))) ]
 
 -- what each column has of the walk so far
-pub put_each : (u : Use) (M : Place → List Datum) (cs : List PlacedColumn) → (K : Place → Kind → Type 0) → AllByRecursion (λ (c : PlacedColumn). K c.place c.kind) cs → ((p : Place) (k : Kind) → same_place u.place p ≡ true → K p k → u.kind ≡ k) → is_open cs u.place ≡ true → ((c : PlacedColumn) → same_place u.place c.place ≡ true → entries_of cs c.place ≡ c.entries → slice_get (M c.place) (length c.entries) ≡ Some u.entry) → TakesNext (map (opening M) cs) u (map (opening M) (put u cs))
+pub put_each : (u : Use) (M : Place → List Datum) (cs : List PlacedColumn) → (K : Place → Kind → Type 0)
+    → AllByRecursion (λ (c : PlacedColumn). K c.place c.kind) cs → ((p : Place) (k : Kind) → same_place u.place p ≡ true → K p k → u.kind ≡ k)
+    → is_open cs u.place ≡ true
+    → ((c : PlacedColumn) → same_place u.place c.place ≡ true → entries_of cs c.place ≡ c.entries → slice_get (M c.place) (length c.entries) ≡ Some u.entry)
+    → TakesNext (map (opening M) cs) u (map (opening M) (put u cs))
 put_each u M [] K all one h e = cc
 put_each u M (c ∷ cs) K all one h e =
     elim (cases_Bool (same_place u.place c.place)) [
@@ -68,7 +73,8 @@ put_each u M (c ∷ cs) K all one h e =
           let l : length (c.entries ++ u.entry ∷ []) ≡ length c.entries + 1 = omega (arith, length-append c.entries (u.entry ∷ [])) in
           rw k (inl (refl, one c.place c.kind k all.0, e c k (rw (same_place-refl c.place) refl), rw l refl))
       | inr k ↦
-          let e' : (c' : PlacedColumn) → same_place u.place c'.place ≡ true → entries_of cs c'.place ≡ c'.entries → slice_get (M c'.place) (length c'.entries) ≡ Some u.entry = λ c' m n.
+          let e' : (c' : PlacedColumn) → same_place u.place c'.place ≡ true → entries_of cs c'.place ≡ c'.entries → slice_get (M c'.place) (length c'.entries) ≡ Some u.entry =
+          λ c' m n.
           let d : same_place c'.place c.place ≡ false = subst (λ z. same_place z c.place ≡ false) (same_place-true u.place c'.place m) k in
           e c' m (rw d n) in
           rw k (inr (refl, map (opening M) (put u cs), refl, put_each u M cs K all.1 one (rw k at h) e'))
@@ -110,47 +116,63 @@ module _ (s : ShapeTree) (d : Datum) (last : List ℕ) where
   abbrev pub state : List Use → List ℕ → State
   state w now = record { opened = map (opening full) (columns w); rest = now }
 
-  pub step_open : (w t : List Use) (u : Use) (now : List ℕ) → walk s [] d ≡ w ++ u ∷ t → is_open (columns w) u.place ≡ true → Takes (state w now) u (state (w ++ u ∷ []) now)
+  pub step_open : (w t : List Use) (u : Use) (now : List ℕ) → walk s [] d ≡ w ++ u ∷ t → is_open (columns w) u.place ≡ true
+      → Takes (state w now) u (state (w ++ u ∷ []) now)
   step_open w t u now e h =
       let kinded_walk = subst (λ x. AllByRecursion (λ (v : Use). HasKind s [] v.place v.kind) x) e (kinded s [] d) in
       let kinds = kind_columns (HasKind s []) w (each_front (λ (v : Use). HasKind s [] v.place v.kind) w (u ∷ t) kinded_walk) in
       let mine = (each_back (λ (v : Use). HasKind s [] v.place v.kind) w (u ∷ t) kinded_walk).0 in
-      let one : (p : Place) (k : Kind) → same_place u.place p ≡ true → HasKind s [] p k → u.kind ≡ k = λ p k m has. one_kind s [] p u.kind k (subst (λ q. HasKind s [] q u.kind) (same_place-true u.place p m) mine) has in
-      let at : (c : PlacedColumn) → same_place u.place c.place ≡ true → entries_of (columns w) c.place ≡ c.entries → slice_get (full c.place) (length c.entries) ≡ Some u.entry = λ c k m.
+      let one : (p : Place) (k : Kind) → same_place u.place p ≡ true → HasKind s [] p k → u.kind ≡ k =
+      λ p k m has. one_kind s [] p u.kind k (subst (λ q. HasKind s [] q u.kind) (same_place-true u.place p m) mine) has in
+      let at : (c : PlacedColumn) → same_place u.place c.place ≡ true → entries_of (columns w) c.place ≡ c.entries → slice_get (full c.place) (length c.entries) ≡ Some u.entry =
+      λ c k m.
       let p : u.place ≡ c.place = same_place-true u.place c.place k in
-      let es : full c.place ≡ entries_at c.place w ++ u.entry ∷ entries_at c.place t = ap (λ x. entries_at c.place x) e ∙ entries-append c.place w (u ∷ t) ∙ ap (λ x. entries_at c.place w ++ x) (subst (λ z. entries_at z (u ∷ t) ≡ u.entry ∷ entries_at z t) p (entries_here u.place u.kind u.entry t)) in
+      let es : full c.place ≡ entries_at c.place w ++ u.entry ∷ entries_at c.place t =
+      ap (λ x. entries_at c.place x) e ∙ entries-append c.place w (u ∷ t)
+      ∙ ap (λ x. entries_at c.place w ++ x) (subst (λ z. entries_at z (u ∷ t) ≡ u.entry ∷ entries_at z t) p (entries_here u.place u.kind u.entry t)) in
       let l : c.entries ≡ entries_at c.place w = sym m ∙ columns_lookup w c.place in
       rw (es, l) (slice_get_behind (entries_at c.place w) (entries_at c.place t) u.entry) in
       inl (subst (λ cs. TakesNext (map (opening full) (columns w)) u (map (opening full) cs)) (sym (columns_snoc w u)) (put_each u full (columns w) (HasKind s []) kinds one h at), refl)
 
-  pub step_new : (w t : List Use) (u : Use) (now : List ℕ) → walk s [] d ≡ w ++ u ∷ t → is_open (columns w) u.place ≡ false → Spelled now (fresh (is_open (columns w)) (columns (walk s [] d))) last → (after : List ℕ) × Takes (state w now) u (state (w ++ u ∷ []) after) × Spelled after (fresh (also u.place (is_open (columns w))) (columns (walk s [] d))) last
+  pub step_new : (w t : List Use) (u : Use) (now : List ℕ) → walk s [] d ≡ w ++ u ∷ t → is_open (columns w) u.place ≡ false
+      → Spelled now (fresh (is_open (columns w)) (columns (walk s [] d))) last
+      → (after : List ℕ) × Takes (state w now) u (state (w ++ u ∷ []) after) × Spelled after (fresh (also u.place (is_open (columns w))) (columns (walk s [] d))) last
   step_new w t u now e h spelled =
       let z : Place → Bool = is_open (columns w) in
       let known : AllIn z w = all_open w z (λ q k. k) in
       let first = ap (λ x. fresh z (columns x)) e ∙ fresh_first z w u t known h in
       let sp = subst (λ cs. Spelled now cs last) first spelled in
       let nothing : entries_at u.place w ≡ [] = sym (columns_lookup w u.place) ∙ closed_none (columns w) u.place h in
-      let there : entries_at u.place (w ++ u ∷ t) ≡ u.entry ∷ entries_at u.place t = entries-append u.place w (u ∷ t) ∙ rw nothing (entries_here u.place u.kind u.entry t) in
+      let there : entries_at u.place (w ++ u ∷ t) ≡ u.entry ∷ entries_at u.place t =
+      entries-append u.place w (u ∷ t) ∙ rw nothing (entries_here u.place u.kind u.entry t) in
       let fulls : full u.place ≡ u.entry ∷ entries_at u.place t = ap (λ x. entries_at u.place x) e ∙ there in
-      let by : GroundedBy z u.place = grounded_at (λ q. false) z w u t (λ q k. absurd (let m : false ≡ true = k in cc)) known (subst (GroundedWalk (λ q. false)) e (walk_grounded s [] d (λ q. false) tt)) in
+      let by : GroundedBy z u.place =
+      grounded_at (λ q. false) z w u t (λ q k. absurd (let m : false ≡ true = k in cc)) known (subst (GroundedWalk (λ q. false)) e (walk_grounded s [] d (λ q. false) tt)) in
       let ws : List PlacedColumn = map whole (map (opening full) (columns w)) in
-      let pop : population full u.place ≡ population (entries_of ws) u.place = population_by z full (entries_of ws) (λ q k. sym (opening_entries full (columns w) q k)) u.place by in
-      let n : length (u.entry ∷ entries_at u.place t) ≡ population (entries_of ws) u.place = ap length (sym fulls) ∙ count_at s d w u.place u.kind u.entry t e ∙ pop in
+      let pop : population full u.place ≡ population (entries_of ws) u.place =
+      population_by z full (entries_of ws) (λ q k. sym (opening_entries full (columns w) q k)) u.place by in
+      let n : length (u.entry ∷ entries_at u.place t) ≡ population (entries_of ws) u.place =
+      ap length (sym fulls) ∙ count_at s d w u.place u.kind u.entry t e ∙ pop in
       let piece = subst (λ x. SpellsColumn u.kind sp.0 x) there sp.3 in
       let new : Opened = record { place = u.place; kind = u.kind; entries = u.entry ∷ entries_at u.place t; taken = 1 } in
-      let grown : map (opening full) (columns (w ++ u ∷ [])) ≡ map (opening full) (columns w) ++ new ∷ [] = ap (map (opening full)) (columns_snoc w u ∙ put_last u (columns w) h) ∙ map-append (opening full) (columns w) _ ∙ ap (λ (es : List Datum). let o : Opened = record { place = u.place; kind = u.kind; entries = es; taken = 1 } in map (opening full) (columns w) ++ o ∷ []) fulls in
+      let grown : map (opening full) (columns (w ++ u ∷ [])) ≡ map (opening full) (columns w) ++ new ∷ [] =
+      ap (map (opening full)) (columns_snoc w u ∙ put_last u (columns w) h) ∙ map-append (opening full) (columns w) _
+      ∙ ap (λ (es : List Datum). let o : Opened = record { place = u.place; kind = u.kind; entries = es; taken = 1 } in map (opening full) (columns w) ++ o ∷ []) fulls in
       let rest_is = ap (λ x. fresh (also u.place z) (columns x)) (sym e) in
       (sp.1, inr (opening_open full (columns w) u.place ∙ h, grounded_from full (columns w) u.place by, entries_at u.place t, sp.0, n, sp.2, piece, grown), subst (λ cs. Spelled sp.1 cs last) rest_is sp.4)
 
-  pub run_on : (t w : List Use) (now : List ℕ) → walk s [] d ≡ w ++ t → Spelled now (fresh (is_open (columns w)) (columns (walk s [] d))) last → Runs Takes (state w now) t (state (walk s [] d) last)
+  pub run_on : (t w : List Use) (now : List ℕ) → walk s [] d ≡ w ++ t → Spelled now (fresh (is_open (columns w)) (columns (walk s [] d))) last
+      → Runs Takes (state w now) t (state (walk s [] d) last)
   run_on [] w now e spelled =
       let w_is : walk s [] d ≡ w = e ∙ append-nil w in
-      let none_left : fresh (is_open (columns w)) (columns (walk s [] d)) ≡ [] = subst (λ x. fresh (is_open (columns x)) (columns (walk s [] d)) ≡ []) w_is (fresh_none (is_open (columns (walk s [] d))) (columns (walk s [] d)) (each_open (columns (walk s [] d)))) in
+      let none_left : fresh (is_open (columns w)) (columns (walk s [] d)) ≡ [] =
+      subst (λ x. fresh (is_open (columns x)) (columns (walk s [] d)) ≡ []) w_is (fresh_none (is_open (columns (walk s [] d))) (columns (walk s [] d)) (each_open (columns (walk s [] d)))) in
       let now_is : now ≡ last = subst (λ cs. Spelled now cs last) none_left spelled in
       rw (now_is, w_is) refl
   run_on (u ∷ t) w now e spelled =
       let e' : walk s [] d ≡ (w ++ u ∷ []) ++ t = e ∙ sym (append_assoc w (u ∷ []) t) in
-      let opens : (q : Place) → is_open (columns (w ++ u ∷ [])) q ≡ also u.place (is_open (columns w)) q = λ q. ap (λ cs. is_open cs q) (columns_snoc w u) ∙ put_open u (columns w) q in
+      let opens : (q : Place) → is_open (columns (w ++ u ∷ [])) q ≡ also u.place (is_open (columns w)) q =
+      λ q. ap (λ cs. is_open cs q) (columns_snoc w u) ∙ put_open u (columns w) q in
       let to_next = fresh_ext (is_open (columns (w ++ u ∷ []))) (also u.place (is_open (columns w))) (columns (walk s [] d)) opens in
       elim (cases_Bool (is_open (columns w) u.place)) [
         | inl h ↦
@@ -170,7 +192,8 @@ all_fresh [] = refl
 all_fresh (c ∷ cs) = ap (λ (xs : List PlacedColumn). c ∷ xs) (all_fresh cs)
 
 -- Where the bytes are one piece for each column of a datum, and then a rest, the machine runs along the datum's whole walk and stands at the rest.
-pub complete : (s : ShapeTree) (d : Datum) (bytes last : List ℕ) → Spelled bytes (columns (walk s [] d)) last → (b : State) × Runs Takes (start bytes) (walk s [] d) b × (b.rest ≡ last)
+pub complete : (s : ShapeTree) (d : Datum) (bytes last : List ℕ) → Spelled bytes (columns (walk s [] d)) last
+    → (b : State) × Runs Takes (start bytes) (walk s [] d) b × (b.rest ≡ last)
 complete s d bytes last spelled =
     let all : fresh (is_open []) (columns (walk s [] d)) ≡ columns (walk s [] d) = all_fresh (columns (walk s [] d)) in
     (_, run_on s d last (walk s [] d) [] bytes refl (subst (λ cs. Spelled bytes cs last) (sym all) spelled), refl)

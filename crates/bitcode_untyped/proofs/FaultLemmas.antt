@@ -134,32 +134,37 @@ module _ (table : List ShapeNode) where
       ∙ ap (λ (f : Judge). f left (node.Option b)) (fold-roll-Value Judge (faults_step table) (Value-F.Option None))
       ∙ ap (faults_at (map-Value Value Judge (faults_of table) (Value-F.Option None))) (follow-Option table left b)
 
-  pub faults-Some : (left : ℕ) (w : Box Value Global) (b : Box ShapeNode Global) → faults_of table (value.Option (Some w)) left (node.Option b) ≡ faults_of table w.value left b.value
+  pub faults-Some : (left : ℕ) (w : Box Value Global) (b : Box ShapeNode Global)
+      → faults_of table (value.Option (Some w)) left (node.Option b) ≡ faults_of table w.value left b.value
   faults-Some left w b =
       ap (λ v. faults_of table v left (node.Option b)) (sym (value.rolls-Option (Some w)))
       ∙ ap (λ (f : Judge). f left (node.Option b)) (fold-roll-Value Judge (faults_step table) (Value-F.Option (Some w)))
       ∙ ap (faults_at (map-Value Value Judge (faults_of table) (Value-F.Option (Some w)))) (follow-Option table left b)
 
-  pub faults-Seq : (left : ℕ) (v : Vec Value Global) (b : Box ShapeNode Global) → faults_of table (value.Seq v) left (node.Seq b) ≡ flat_map (λ w. faults_of table w left b.value) v.items
+  pub faults-Seq : (left : ℕ) (v : Vec Value Global) (b : Box ShapeNode Global)
+      → faults_of table (value.Seq v) left (node.Seq b) ≡ flat_map (λ w. faults_of table w left b.value) v.items
   faults-Seq left v b =
       ap (λ v. faults_of table v left (node.Seq b)) (sym (value.rolls-Seq v))
       ∙ ap (λ (f : Judge). f left (node.Seq b)) (fold-roll-Value Judge (faults_step table) (Value-F.Seq v))
       ∙ ap (faults_at (map-Value Value Judge (faults_of table) (Value-F.Seq v))) (follow-Seq table left b)
       ∙ flat_map-map (λ (f : Judge). f left b.value) (faults_of table) v.items
 
-  pub faults-Tuple : (left : ℕ) (v : Vec Value Global) (ns : Vec ShapeNode Global) → faults_of table (value.Tuple v) left (node.Tuple ns) ≡ faults_of_fields (map (faults_of table) v.items) left ns.items
+  pub faults-Tuple : (left : ℕ) (v : Vec Value Global) (ns : Vec ShapeNode Global)
+      → faults_of table (value.Tuple v) left (node.Tuple ns) ≡ faults_of_fields (map (faults_of table) v.items) left ns.items
   faults-Tuple left v ns =
       ap (λ v. faults_of table v left (node.Tuple ns)) (sym (value.rolls-Tuple v))
       ∙ ap (λ (f : Judge). f left (node.Tuple ns)) (fold-roll-Value Judge (faults_step table) (Value-F.Tuple v))
       ∙ ap (faults_at (map-Value Value Judge (faults_of table) (Value-F.Tuple v))) (follow-Tuple table left ns)
 
-  pub faults-Enum : (left : ℕ) (i : ℕ) (w : Box Value Global) (ns : Vec ShapeNode Global) → faults_of table (value.Enum i w) left (node.Enum ns) ≡ (if nat_lt 255 i then TooManyVariants ∷ [] else faults_of_variant (faults_of table w.value) left (slice_get ns.items i))
+  pub faults-Enum : (left : ℕ) (i : ℕ) (w : Box Value Global) (ns : Vec ShapeNode Global)
+      → faults_of table (value.Enum i w) left (node.Enum ns) ≡ (if nat_lt 255 i then TooManyVariants ∷ [] else faults_of_variant (faults_of table w.value) left (slice_get ns.items i))
   faults-Enum left i w ns =
       ap (λ v. faults_of table v left (node.Enum ns)) (sym (value.rolls-Enum i w))
       ∙ ap (λ (f : Judge). f left (node.Enum ns)) (fold-roll-Value Judge (faults_step table) (Value-F.Enum i w))
       ∙ ap (faults_at (map-Value Value Judge (faults_of table) (Value-F.Enum i w))) (follow-Enum table left ns)
 
-  pub faults-Map : (left : ℕ) (v : Vec (Value × Value) Global) (k : Box ShapeNode Global) (s : Box ShapeNode Global) → faults_of table (value.Map v) left (node.Map k s) ≡ flat_map (λ e. faults_of table e.0 left k.value ++ faults_of table e.1 left s.value) v.items
+  pub faults-Map : (left : ℕ) (v : Vec (Value × Value) Global) (k : Box ShapeNode Global) (s : Box ShapeNode Global)
+      → faults_of table (value.Map v) left (node.Map k s) ≡ flat_map (λ e. faults_of table e.0 left k.value ++ faults_of table e.1 left s.value) v.items
   faults-Map left v k s =
       ap (λ v. faults_of table v left (node.Map k s)) (sym (value.rolls-Map v))
       ∙ ap (λ (f : Judge). f left (node.Map k s)) (fold-roll-Value Judge (faults_step table) (Value-F.Map v))

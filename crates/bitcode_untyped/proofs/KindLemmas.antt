@@ -46,7 +46,8 @@ mutual
   kinded (choice_tree ss) p d =
       (inl (refl, refl), each_if (λ (u : Use). HasKindAt ss (variant_in d) (variant (variant_in d) ∷ p) u.place u.kind) (Kinded (choice_tree ss) p) (λ u h. inr (variant_in d, h)) _ (kinded_variant ss (variant_in d) (variant (variant_in d) ∷ p) (payload_in d)))
 
-  pub kinded_fields : (ss : ShapeTrees) (at : ℕ → Place) (i : ℕ) (xs : Data) → AllByRecursion (λ (u : Use). (j : ℕ) × HasKindAt ss j (at (i + j)) u.place u.kind) (walk_fields ss at i xs)
+  pub kinded_fields : (ss : ShapeTrees) (at : ℕ → Place) (i : ℕ) (xs : Data)
+      → AllByRecursion (λ (u : Use). (j : ℕ) × HasKindAt ss j (at (i + j)) u.place u.kind) (walk_fields ss at i xs)
   kinded_fields no_trees at i xs = tt
   kinded_fields (tree_and s ss) at i xs =
       let P : Use → Type 0 = λ u. (j : ℕ) × HasKindAt (tree_and s ss) j (at (i + j)) u.place u.kind in
@@ -84,17 +85,20 @@ mutual
 pub same_step_below : (a b : Step) (p q : Place) → Under (a ∷ p) q → Under (b ∷ p) q → a ≡ b
 same_step_below a b p q u v = append_same_tail u.0 v.0 a b p (sym u.1 ∙ v.1)
 
-pub one_kind_single : (s : ShapeTree) (p q : Place) (k l : Kind) → (HasKindFrom s p q k → HasKindFrom s p q l → k ≡ l) → (i j : ℕ) → HasKindAt (tree_and s no_trees) i p q k → HasKindAt (tree_and s no_trees) j p q l → k ≡ l
+pub one_kind_single : (s : ShapeTree) (p q : Place) (k l : Kind) → (HasKindFrom s p q k → HasKindFrom s p q l → k ≡ l) → (i j : ℕ)
+    → HasKindAt (tree_and s no_trees) i p q k → HasKindAt (tree_and s no_trees) j p q l → k ≡ l
 one_kind_single s p q k l f zero zero h g = f h g
 one_kind_single s p q k l f zero (suc j) h g = absurd g
 one_kind_single s p q k l f (suc i) j h g = absurd h
 
-pub one_kind_tuple : (ss : ShapeTrees) (p q : Place) (k l : Kind) → ((j : ℕ) (at : Place) → HasKindAt ss j at q k → HasKindAt ss j at q l → k ≡ l) → HasKindFrom (tuple_tree ss) p q k → HasKindFrom (tuple_tree ss) p q l → k ≡ l
+pub one_kind_tuple : (ss : ShapeTrees) (p q : Place) (k l : Kind) → ((j : ℕ) (at : Place) → HasKindAt ss j at q k → HasKindAt ss j at q l → k ≡ l)
+    → HasKindFrom (tuple_tree ss) p q k → HasKindFrom (tuple_tree ss) p q l → k ≡ l
 one_kind_tuple no_trees p q k l f h g = absurd h.1
 one_kind_tuple (tree_and s no_trees) p q k l f h g = one_kind_single s p q k l (f 0 p) h.0 g.0 h.1 g.1
 one_kind_tuple (tree_and s (tree_and t ts)) p q k l f h g =
     let ss : ShapeTrees = tree_and s (tree_and t ts) in
-    let e : field h.0 ≡ field g.0 = same_step_below (field h.0) (field g.0) p q (kind_under_at ss h.0 (field h.0 ∷ p) q k h.1) (kind_under_at ss g.0 (field g.0 ∷ p) q l g.1) in
+    let e : field h.0 ≡ field g.0 =
+    same_step_below (field h.0) (field g.0) p q (kind_under_at ss h.0 (field h.0 ∷ p) q k h.1) (kind_under_at ss g.0 (field g.0 ∷ p) q l g.1) in
     let i : h.0 ≡ g.0 = cc in
     f h.0 (field h.0 ∷ p) h.1 (subst (λ z. HasKindAt ss z (field z ∷ p) q l) (sym i) g.1)
 
@@ -124,7 +128,8 @@ mutual
   one_kind (choice_tree ss) p q k l (inl h) (inr g) = absurd (under_not_above (variant g.0) p q (kind_under_at ss g.0 (variant g.0 ∷ p) q l g.1) h.0)
   one_kind (choice_tree ss) p q k l (inr h) (inl g) = absurd (under_not_above (variant h.0) p q (kind_under_at ss h.0 (variant h.0 ∷ p) q k h.1) g.0)
   one_kind (choice_tree ss) p q k l (inr h) (inr g) =
-      let e : variant h.0 ≡ variant g.0 = same_step_below (variant h.0) (variant g.0) p q (kind_under_at ss h.0 (variant h.0 ∷ p) q k h.1) (kind_under_at ss g.0 (variant g.0 ∷ p) q l g.1) in
+      let e : variant h.0 ≡ variant g.0 =
+      same_step_below (variant h.0) (variant g.0) p q (kind_under_at ss h.0 (variant h.0 ∷ p) q k h.1) (kind_under_at ss g.0 (variant g.0 ∷ p) q l g.1) in
       let i : h.0 ≡ g.0 = cc in
       one_kind_at ss h.0 (variant h.0 ∷ p) q k l h.1 (subst (λ z. HasKindAt ss z (variant z ∷ p) q l) (sym i) g.1)
 
@@ -138,6 +143,7 @@ each_without P p [] h = tt
 each_without P p (c ∷ cs) h = elim (cases_Bool (same_place p c.place)) [ inl k ↦ rw k (each_without P p cs h.1) | inr k ↦ rw k (h.0, each_without P p cs h.1) ]
 
 -- what holds of the kind of each use holds of the kind of each column
-pub kind_columns : (K : Place → Kind → Type 0) (w : List Use) → AllByRecursion (λ (u : Use). K u.place u.kind) w → AllByRecursion (λ (c : PlacedColumn). K c.place c.kind) (columns w)
+pub kind_columns : (K : Place → Kind → Type 0) (w : List Use) → AllByRecursion (λ (u : Use). K u.place u.kind) w
+    → AllByRecursion (λ (c : PlacedColumn). K c.place c.kind) (columns w)
 kind_columns K [] h = tt
 kind_columns K (u ∷ w) h = (h.0, each_without (λ (c : PlacedColumn). K c.place c.kind) u.place (columns w) (kind_columns K w h.1))

@@ -167,7 +167,8 @@ module _ (table : List ShapeNode) (v : Value) (left : ℕ) where
       by (Value-F.Option (Some w)) e = refl
       by _ e = refl
 
-  pub other-Option : (b : Box ShapeNode Global) → ((o : Option (Box Value Global)) → v ≡ (value.Option o) → ⊥) → faults_of table v left (node.Option b) ≡ NotOfTheShape ∷ []
+  pub other-Option : (b : Box ShapeNode Global) → ((o : Option (Box Value Global)) → v ≡ (value.Option o) → ⊥)
+      → faults_of table v left (node.Option b) ≡ NotOfTheShape ∷ []
   other-Option b h =
       faults_at-follow table v left (node.Option b) ∙ ap (faults_at (judged table v)) (follow-Option table left b) ∙ by (out-Value v) (sym (roll-out-Value v))
     where
@@ -185,7 +186,8 @@ module _ (table : List ShapeNode) (v : Value) (left : ℕ) where
       by (Value-F.Option (Some w)) e = refl
       by _ e = refl
 
-  pub other-Map : (k : Box ShapeNode Global) (s : Box ShapeNode Global) → ((es : Vec (Value × Value) Global) → v ≡ (value.Map es) → ⊥) → faults_of table v left (node.Map k s) ≡ NotOfTheShape ∷ []
+  pub other-Map : (k : Box ShapeNode Global) (s : Box ShapeNode Global) → ((es : Vec (Value × Value) Global) → v ≡ (value.Map es) → ⊥)
+      → faults_of table v left (node.Map k s) ≡ NotOfTheShape ∷ []
   other-Map k s h =
       faults_at-follow table v left (node.Map k s) ∙ ap (faults_at (judged table v)) (follow-Map table left k s) ∙ by (out-Value v) (sym (roll-out-Value v))
     where
@@ -195,7 +197,8 @@ module _ (table : List ShapeNode) (v : Value) (left : ℕ) where
       by (Value-F.Option (Some w)) e = refl
       by _ e = refl
 
-  pub other-Tuple : (ns : Vec ShapeNode Global) → ((vs : Vec Value Global) → v ≡ (value.Tuple vs) → ⊥) → faults_of table v left (node.Tuple ns) ≡ NotOfTheShape ∷ []
+  pub other-Tuple : (ns : Vec ShapeNode Global) → ((vs : Vec Value Global) → v ≡ (value.Tuple vs) → ⊥)
+      → faults_of table v left (node.Tuple ns) ≡ NotOfTheShape ∷ []
   other-Tuple ns h =
       faults_at-follow table v left (node.Tuple ns) ∙ ap (faults_at (judged table v)) (follow-Tuple table left ns) ∙ by (out-Value v) (sym (roll-out-Value v))
     where
@@ -205,7 +208,8 @@ module _ (table : List ShapeNode) (v : Value) (left : ℕ) where
       by (Value-F.Option (Some w)) e = refl
       by _ e = refl
 
-  pub other-Enum : (ns : Vec ShapeNode Global) → ((i : ℕ) (w : Box Value Global) → v ≡ (value.Enum i w) → ⊥) → faults_of table v left (node.Enum ns) ≡ NotOfTheShape ∷ []
+  pub other-Enum : (ns : Vec ShapeNode Global) → ((i : ℕ) (w : Box Value Global) → v ≡ (value.Enum i w) → ⊥)
+      → faults_of table v left (node.Enum ns) ≡ NotOfTheShape ∷ []
   other-Enum ns h =
       faults_at-follow table v left (node.Enum ns) ∙ ap (faults_at (judged table v)) (follow-Enum table left ns) ∙ by (out-Value v) (sym (roll-out-Value v))
     where

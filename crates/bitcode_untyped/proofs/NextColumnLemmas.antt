@@ -50,7 +50,8 @@ pub fresh-append : (z : Place → Bool) (cs ds : List PlacedColumn) → fresh z 
 fresh-append z [] ds = refl
 fresh-append z (c ∷ cs) ds = elim (cases_Bool (z c.place)) [ inl k ↦ rw k (fresh-append z cs ds) | inr k ↦ rw k (ap (λ (xs : List PlacedColumn). c ∷ xs) (fresh-append z cs ds)) ]
 
-pub each_more : (c : PlacedColumn) (fs cs : List PlacedColumn) → AllByRecursion (λ (x : PlacedColumn). is_open fs x.place ≡ true) cs → AllByRecursion (λ (x : PlacedColumn). is_open (c ∷ fs) x.place ≡ true) cs
+pub each_more : (c : PlacedColumn) (fs cs : List PlacedColumn) → AllByRecursion (λ (x : PlacedColumn). is_open fs x.place ≡ true) cs
+    → AllByRecursion (λ (x : PlacedColumn). is_open (c ∷ fs) x.place ≡ true) cs
 each_more c fs [] h = tt
 each_more c fs (x ∷ cs) h = (or_right (same_place x.place c.place) _ h.0, each_more c fs cs h.1)
 
@@ -58,7 +59,10 @@ pub each_open : (fs : List PlacedColumn) → AllByRecursion (λ (c : PlacedColum
 each_open [] = tt
 each_open (c ∷ fs) = (or_left (same_place c.place c.place) _ (same_place-refl c.place), each_more c fs fs (each_open fs))
 
-pub each_closed_more : (a : PlacedColumn) (fs bs : List PlacedColumn) → is_open (fs ++ bs) a.place ≡ false → AllByRecursion (λ (c : PlacedColumn). is_open fs c.place ≡ false) bs → (cs : List PlacedColumn) → is_open cs a.place ≡ false → AllByRecursion (λ (c : PlacedColumn). is_open fs c.place ≡ false) cs → AllByRecursion (λ (c : PlacedColumn). is_open (a ∷ fs) c.place ≡ false) cs
+pub each_closed_more : (a : PlacedColumn) (fs bs : List PlacedColumn) → is_open (fs ++ bs) a.place ≡ false
+    → AllByRecursion (λ (c : PlacedColumn). is_open fs c.place ≡ false) bs → (cs : List PlacedColumn) → is_open cs a.place ≡ false
+    → AllByRecursion (λ (c : PlacedColumn). is_open fs c.place ≡ false) cs
+    → AllByRecursion (λ (c : PlacedColumn). is_open (a ∷ fs) c.place ≡ false) cs
 each_closed_more a fs bs h all [] k e = tt
 each_closed_more a fs bs h all (c ∷ cs) k e =
     elim (cases_Bool (same_place a.place c.place)) [
@@ -81,7 +85,8 @@ fresh_behind fs bs d = fresh-append (is_open fs) fs bs ∙ rw (fresh_none (is_op
 
 pub fresh_drop : (j : ℕ) (cs : List PlacedColumn) → Distinct cs → fresh (is_open (take j cs)) cs ≡ drop j cs
 fresh_drop j cs d =
-    ap (λ xs. fresh (is_open (take j cs)) xs) (sym (take-append-drop j cs)) ∙ fresh_behind (take j cs) (drop j cs) (subst Distinct (sym (take-append-drop j cs)) d)
+    ap (λ xs. fresh (is_open (take j cs)) xs) (sym (take-append-drop j cs))
+    ∙ fresh_behind (take j cs) (drop j cs) (subst Distinct (sym (take-append-drop j cs)) d)
 
 pub next_same : (cs : List PlacedColumn) (P : Type 0) → P → NextAgree cs cs P
 next_same [] P p = p
@@ -95,7 +100,8 @@ pub occurs : (front : List Use) (p : Place) (k : Kind) (e : Datum) (after : List
 occurs front p k e after h = not_none (entries_at p front) (entries_at p after) e (ap (λ xs. entries_at p front ++ xs) (sym (entries_here p k e after)) ∙ sym (entries-append p front (use_at p k e ∷ after)) ∙ h)
 
 -- how many entries a place has that is reached
-pub count_at : (s : ShapeTree) (d : Datum) (front : List Use) (p : Place) (k : Kind) (e : Datum) (after : List Use) → walk s [] d ≡ front ++ use_at p k e ∷ after → length (entries_at p (walk s [] d)) ≡ population (λ q. entries_at q (walk s [] d)) p
+pub count_at : (s : ShapeTree) (d : Datum) (front : List Use) (p : Place) (k : Kind) (e : Datum) (after : List Use)
+    → walk s [] d ≡ front ++ use_at p k e ∷ after → length (entries_at p (walk s [] d)) ≡ population (λ q. entries_at q (walk s [] d)) p
 count_at s d front p k e after h =
     elim (hosted s [] d p) [
       | inl nothing ↦ absurd (occurs front p k e after (subst (λ w. entries_at p w ≡ []) h nothing))
@@ -115,12 +121,15 @@ columns_decide s d e j hd he h =
       | inl all ↦ subst (λ x. NextAgree (drop j (columns v)) (drop j (columns_of s x)) (d ≡ x)) all.1 (next_same (drop j (columns v)) (d ≡ d) refl)
       | inr p ↦
           let fv = fresh_drop j (columns v) (distinct v) in
-          let fw = fresh_ext z (is_open (take j (columns w))) (columns w) (λ q. (bare_same (take j (columns v)) (take j (columns w)) q h).0) ∙ fresh_drop j (columns w) (distinct w) in
+          let fw =
+          fresh_ext z (is_open (take j (columns w))) (columns w) (λ q. (bare_same (take j (columns v)) (take j (columns w)) q h).0)
+          ∙ fresh_drop j (columns w) (distinct w) in
           let cv = fresh_first z p.front (use_at p.place p.kind p.e) p.after_v p.known p.new in
           let cw = fresh_first z p.front (use_at p.place p.kind p.f) p.after_w p.known p.new in
           let dv = sym fv ∙ ap (λ x. fresh z (columns x)) p.is_v ∙ cv in
           let dw = sym fw ∙ ap (λ x. fresh z (columns x)) p.is_w ∙ cw in
-          let g : GroundedBy z p.place = grounded_at (λ q. false) z p.front (use_at p.place p.kind p.e) p.after_v (λ q k. absurd (let m : false ≡ true = k in cc)) p.known (subst (GroundedWalk (λ q. false)) p.is_v (walk_grounded s [] d (λ q. false) tt)) in
+          let g : GroundedBy z p.place =
+          grounded_at (λ q. false) z p.front (use_at p.place p.kind p.e) p.after_v (λ q k. absurd (let m : false ≡ true = k in cc)) p.known (subst (GroundedWalk (λ q. false)) p.is_v (walk_grounded s [] d (λ q. false) tt)) in
           let n = count_at s d p.front p.place p.kind p.e p.after_v p.is_v in
           let m = count_at s e p.front p.place p.kind p.f p.after_w p.is_w in
           let pop = population_by z (λ q. entries_at q v) (λ q. entries_at q w) same p.place g in

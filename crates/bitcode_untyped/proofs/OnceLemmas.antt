@@ -12,7 +12,8 @@ use Rattle.bitcode_untyped.proofs.SoundLemmas.{Spelled}
 use Rattle.bitcode_untyped.proofs.CompleteLemmas.{complete}
 use Rattle.bitcode_coder.proofs.ColumnLemmas.{SpellsColumn-once}
 
-pub next_one : (cs : List Opened) (p : Place) (k : Kind) (e f : Datum) (bs ds : List Opened) → TakesNext cs (use_at p k e) bs → TakesNext cs (use_at p k f) ds → (e ≡ f) × (bs ≡ ds)
+pub next_one : (cs : List Opened) (p : Place) (k : Kind) (e f : Datum) (bs ds : List Opened) → TakesNext cs (use_at p k e) bs
+    → TakesNext cs (use_at p k f) ds → (e ≡ f) × (bs ≡ ds)
 next_one [] p k e f bs ds x y = absurd x
 next_one (c ∷ cs) p k e f bs ds (inl x) (inl y) =
     let g : Some e ≡ Some f = sym x.2 ∙ y.2 in (cc, x.3 ∙ sym y.3)
@@ -41,7 +42,8 @@ takes_one a b c p k e f (inr x) (inl y) = absurd (let h : true ≡ false = sym (
 takes_one a b c p k e f (inr x) (inr y) =
     let r = (SpellsColumn-once k).once x.3 y.3 (e ∷ x.2) (f ∷ y.2) b.rest c.rest x.6 y.6 (x.4 ∙ sym y.4) (sym x.5 ∙ y.5) in
     let es : e ∷ x.2 ≡ f ∷ y.2 = r.0 in
-    let opened : b.opened ≡ c.opened = x.7 ∙ ap (λ (zs : List Datum). let o : Opened = record { place = p; kind = k; entries = zs; taken = 1 } in a.opened ++ o ∷ []) es ∙ sym y.7 in
+    let opened : b.opened ≡ c.opened =
+    x.7 ∙ ap (λ (zs : List Datum). let o : Opened = record { place = p; kind = k; entries = zs; taken = 1 } in a.opened ++ o ∷ []) es ∙ sym y.7 in
     (cc, same_state b c opened r.1)
 
 pub one_datum : (s : ShapeTree) (d e : Datum) (bytes r t : List ℕ) → IsOf s d → IsOf s e → Spelled bytes (columns_of s d) r

@@ -21,7 +21,8 @@ module _ (follow : ℕ → ShapeTree) (below : (i : ℕ) → IsSound (follow i))
   all_sound [] = tt
   all_sound (n ∷ ns) = (n.1, all_sound ns)
 
-  sound_layer : (y : ShapeNode-F Known) → IsSound (tree_step follow (map-ShapeNode ShapeNode ShapeTree (tree_by follow) (map-ShapeNode Known ShapeNode node_of y)))
+  sound_layer : (y : ShapeNode-F Known)
+      → IsSound (tree_step follow (map-ShapeNode ShapeNode ShapeTree (tree_by follow) (map-ShapeNode Known ShapeNode node_of y)))
   sound_layer ShapeNode-F.Unit = tt
   sound_layer ShapeNode-F.Bool = tt
   sound_layer ShapeNode-F.U8 = inl refl
