@@ -6,6 +6,7 @@ use Rattle.std.specs.List.{AllByRecursion}
 use Rattle.bitcode_shapes.specs.Datum.{Datum}
 use Rattle.bitcode_coder.specs.Columns.{Kind}
 use Rattle.bitcode_coder.specs.Spelling.{SpellsColumn}
+use Rattle.bitcode_untyped.specs.Growing.{put}
 use Rattle.bitcode_untyped.specs.Machine.{Opened, State, start, whole, is_open, entries_of, Grounded, TakesNext, Takes}
 use Rattle.bitcode_untyped.specs.PlacedColumns.{same_place, entries_at, PlacedColumn, without, columns}
 use Rattle.bitcode_untyped.specs.Population.{population}
@@ -14,7 +15,7 @@ use Rattle.bitcode_untyped.specs.ShapeTree.{ShapeTree}
 use Rattle.bitcode_untyped.specs.Walk.{element, key, value, variant, field, Place, Use, walk}
 use Rattle.bitcode_untyped.proofs.EachLemmas.{each_front, each_back}
 use Rattle.bitcode_untyped.proofs.PlaceLemmas.{same_place-true, same_place-refl, entries_here, entries-append}
-use Rattle.bitcode_untyped.proofs.GrowingLemmas.{put, same_place_sym, differ_sym, columns_snoc, columns_lookup}
+use Rattle.bitcode_untyped.proofs.GrowingLemmas.{same_place_sym, differ_sym, columns_snoc, columns_lookup}
 use Rattle.bitcode_untyped.proofs.SoundLemmas.{Spelled, closed_none}
 use Rattle.bitcode_untyped.proofs.FreshLemmas.{fresh, also, AllIn, fresh_first, GroundedBy, GroundedWalk, walk_grounded, grounded_at, population_by}
 use Rattle.bitcode_untyped.proofs.KindLemmas.{HasKind, kinded, one_kind, kind_columns}

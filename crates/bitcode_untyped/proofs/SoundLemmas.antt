@@ -4,6 +4,7 @@ use Rattle.std.proofs.lemmas.Bool.{cases_Bool, or_cases, or_left, or_right}
 use Rattle.std.proofs.lemmas.List.{append-nil, map-append}
 use Rattle.bitcode_shapes.specs.Datum.{Datum}
 use Rattle.bitcode_coder.specs.Spelling.{SpellsColumn}
+use Rattle.bitcode_untyped.specs.Growing.{put}
 use Rattle.bitcode_untyped.specs.Machine.{Opened, State, start, whole, seen, is_open, entries_of, Grounded, TakesNext, Takes}
 use Rattle.bitcode_untyped.specs.PlacedColumns.{same_place, entries_at, PlacedColumn, without, columns}
 use Rattle.bitcode_untyped.specs.Population.{total, count_of, population}
@@ -13,7 +14,7 @@ use Rattle.bitcode_untyped.specs.Walk.{element, key, value, variant, field, Plac
 use Rattle.bitcode_untyped.proofs.PlaceLemmas.{same_place-true, same_place-refl}
 use Rattle.bitcode_untyped.proofs.HostLemmas.{Hosts, hosted}
 use Rattle.bitcode_untyped.proofs.PopulationLemmas.{populated}
-use Rattle.bitcode_untyped.proofs.GrowingLemmas.{put, columns_snoc, columns_lookup, Filled, filled}
+use Rattle.bitcode_untyped.proofs.GrowingLemmas.{columns_snoc, columns_lookup, Filled, filled}
 
 -- One piece for each column, in order, and then the rest.
 abbrev pub Spelled : List ℕ → List PlacedColumn → List ℕ → Type 0

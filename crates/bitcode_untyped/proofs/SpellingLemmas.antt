@@ -9,9 +9,10 @@ use Rattle.bitcode_shapes.specs.Datum.{Datum}
 use Rattle.bitcode_coder.specs.Columns.{Kind, bools, ints, lengths, texts, raws, variants, IsEntryOf, IsSoundKind, entry_count_of}
 use Rattle.bitcode_coder.specs.Spelling.{SpellsEach, texts_of, column_text, LengthsBelowLimitOf}
 use Rattle.std.specs.List.{AllByRecursion}
+use Rattle.bitcode_untyped.specs.Growing.{put}
 use Rattle.bitcode_untyped.specs.PlacedColumns.{same_place, PlacedColumn, columns, unplaced, entry_count}
 use Rattle.bitcode_untyped.specs.Walk.{Use}
-use Rattle.bitcode_untyped.proofs.GrowingLemmas.{put, columns_snoc}
+use Rattle.bitcode_untyped.proofs.GrowingLemmas.{columns_snoc}
 use Rattle.bitcode_untyped.proofs.SoundLemmas.{Spelled, sound}
 use Rattle.bitcode_coder.proofs.ColumnLemmas.{SpellsColumn-eighth, column_text-spells}
 

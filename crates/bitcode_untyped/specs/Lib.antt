@@ -3,6 +3,7 @@ pub mod References
 pub mod View
 pub mod Walk
 pub mod PlacedColumns
+pub mod Growing
 pub mod Population
 pub mod Runs
 pub mod Machine
