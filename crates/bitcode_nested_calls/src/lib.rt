@@ -5,6 +5,7 @@
 use bitcode::{Decode, Encode, Error, decode, encode};
 use std::alloc::Global;
 use std::collections::BTreeMap;
+use std::marker::PhantomData;
 
 pub type Twelve = (u8, u8, u8, u8, u8, u8, u8, u8, u8, u8, u8, u8);
 
@@ -68,6 +69,31 @@ pub fn load<'a, T: Decode<'a>>(alloc: Global, bytes: &'a [u8]) -> Result<T, Erro
     decode(alloc, bytes)
 }
 
+/// Bytes that a value of `T` is read from each time that it is asked for.
+#[derive(Drop)]
+pub struct Cache<T> {
+    bytes: Vec<u8>,
+    of: PhantomData<T>,
+}
+
+impl<T> Cache<T> {
+    /// Keeps the bytes.
+    pub fn new(bytes: Vec<u8>) -> Self {
+        Cache {
+            bytes,
+            of: PhantomData,
+        }
+    }
+
+    /// Reads the value, which may be one that borrows its texts from the cache.
+    pub fn get<'a>(&'a self, alloc: Global) -> Result<T, Error>
+    where
+        T: Decode<'a>,
+    {
+        decode(alloc, self.bytes.as_slice())
+    }
+}
+
 #[cfg(test)]
 mod tests {
     use super::*;
@@ -88,6 +114,8 @@ mod tests {
         assert_eq!(rt; all_of::<u8>(alloc, &[2, 7, 9])?.as_slice(), [2, 7, 9].as_slice());
         let short: Result<u8, Error> = load(alloc, &[]);
         assert!(rt; matches!(&short, Err(error) if error.reason == Reason::Eof));
+        let cache: Cache<Vec<u8>> = Cache::new([2, 7, 9].to_vec(alloc)?);
+        assert_eq!(rt; cache.get(alloc)?.as_slice(), [7, 9].as_slice());
         Ok(())
     }
 }

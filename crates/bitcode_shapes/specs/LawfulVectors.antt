@@ -16,7 +16,7 @@ module _ {T : Type 0} {shape : Shape} {is_value : T → Type 0} {lists : T → D
       (λ v w. SameSequence same v.items w.items) order
   vec_lawful {order} element = seq_lawful shape is_value lists same vec_items order element
 
-  pub vec_makeable : {on : Type 0} {makes : Datum → T → Type 0} → Makeable on shape is_value lists same makes
-      → Makeable (Global × on) (seq_shape None shape) (λ (v : Vec T Global). All is_value v.items) (λ v d. ListsSequence lists v.items d)
+  pub vec_makeable : {makes : Datum → T → Type 0} → Makeable shape is_value lists same makes
+      → Makeable (seq_shape None shape) (λ (v : Vec T Global). All is_value v.items) (λ v d. ListsSequence lists v.items d)
       (λ v w. SameSequence same v.items w.items) (λ d v. MakesSequence makes d v.items)
-  vec_makeable {makes = makes} element = seq_makeable shape is_value lists same vec_items makes (λ g. g.1) (λ g. vec_built g.0) element
+  vec_makeable {makes = makes} element = seq_makeable shape is_value lists same vec_items makes vec_built element
