@@ -1,9 +1,9 @@
 // The coders of a column of bools.
 #![tactic(auto, using(crate::proofs::CoderLemmas::truths_in, crate::proofs::CoderLemmas::bools_read, crate::proofs::CoderLemmas::bools_refused, crate::proofs::CoderLemmas::bools_exact))]
 
-ghost use Rattle.std.specs.Prelude.{◌≡◌, ◌≢◌, ◌≤◌, ◌++◌, map, true, refl, IsTrue, IsOk, IfOk, OnOk, IfErr, OnErr};
+ghost use Rattle.std.specs.Prelude.{◌≡◌, ◌≢◌, ◌≤◌, ◌++◌, map, true, refl, OnOk, IfErr, OnErr};
 ghost use Rattle.bitcode_input.specs.Fast.{fast_items, fast_room, cow_rest, fast_capacity, cow_owned};
-ghost use Rattle.bitcode_columns.specs.Reading.{Reads, IsEndOf, Names, bools_fault};
+ghost use Rattle.bitcode_columns.specs.Reading.{Reads, IsEndOf};
 ghost use Rattle.bitcode_shapes.specs.Shape.{bool_shape};
 ghost use Rattle.bitcode_coder.specs.Columns.{bools, one};
 ghost use Rattle.bitcode_coder.specs.Spelling.{Spells, truth};

@@ -1,5 +1,5 @@
 // Bytes of texts, and their coder.
-ghost use Rattle.std.specs.Prelude.{◌≡◌, ◌++◌, map, pos, true, refl, OnOk};
+ghost use Rattle.std.specs.Prelude.{◌≡◌, ◌++◌, map, pos, true, refl};
 ghost use Rattle.bitcode_input.specs.Fast.{fast_items, fast_room, fast_capacity};
 ghost use Rattle.bitcode_shapes.specs.SameArrays.{one_datum_same_arrays};
 ghost use Rattle.bitcode_shapes.specs.Shape.{raw_shape};

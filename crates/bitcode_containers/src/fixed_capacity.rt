@@ -6,8 +6,8 @@ ghost use Rattle.std.proofs.Common.{ap};
 ghost use Rattle.std.proofs.Props.{props};
 ghost use Rattle.bitcode_shapes.specs.Shape.{seq_shape};
 ghost use Rattle.bitcode_coder.specs.LengthCoders.{lengths_left, lengths_owned};
-ghost use Rattle.bitcode_coder.specs.LengthParts.{NamesLengthFault, LengthsStandRaw};
-ghost use Rattle.bitcode_containers.specs.Sequences.{lists_of, BreaksLimit, FaultsInElements, ElementsBehind};
+ghost use Rattle.bitcode_coder.specs.LengthParts.{NamesLengthFault};
+ghost use Rattle.bitcode_containers.specs.Sequences.{lists_of, BreaksLimit, FaultsInElements};
 
 use arrayvec::ArrayVec;
 use bitcode_coder::coder::{Decoder, HoldsData, View};

@@ -1,7 +1,7 @@
 // The coders of maps: the lengths of all, behind them the columns of all keys, and behind these those of all values.
 #![tactic(auto, unfolding(bitcode_coder::specs::LengthCoders::lengths_left, bitcode_coder::specs::LengthCoders::lengths_sum))]
 
-ghost use Rattle.std.specs.Prelude.{◌≡◌, ◌<◌, [], None, length, map, false, min, IfOk, IfErr, ◌+◌};
+ghost use Rattle.std.specs.Prelude.{◌≡◌, ◌<◌, [], None, length, map, false, IfOk, IfErr, ◌+◌};
 ghost use Rattle.std.proofs.Common.{sym, ap, ap₂, ◌∙◌};
 ghost use Rattle.bitcode_shapes.specs.Shape.{Shape, map_shape};
 ghost use Rattle.bitcode_coder.specs.Coding.{written_columns, TakesDatum};

@@ -1,5 +1,5 @@
 // Types that are written as the pairs of their keys and values, and made of them.
-ghost use Rattle.std.specs.Prelude.{◌≡◌, ◌+◌, ◌≤◌, List, None, length, All, refl, OnOk, IfOk, IfErr};
+ghost use Rattle.std.specs.Prelude.{◌≡◌, ◌+◌, ◌≤◌, List, length, All, refl, OnOk, IfOk, IfErr};
 ghost use Rattle.std.specs.Map.{keys_of, values_of};
 ghost use Rattle.std.proofs.lemmas.List.Sorted.{IsPermutation-refl};
 ghost use Rattle.bitcode_shapes.specs.Datum.{Datum};

@@ -1,5 +1,5 @@
 // Types that are written as the sequence of their elements, and made of it.
-ghost use Rattle.std.specs.Prelude.{◌≡◌, ◌+◌, ◌≤◌, List, None, Some, length, All, refl, OnOk, IfOk, IfErr};
+ghost use Rattle.std.specs.Prelude.{◌≡◌, ◌+◌, ◌≤◌, List, None, length, All, refl, OnOk, IfOk, IfErr};
 ghost use Rattle.std.specs.BinaryHeap.{heap_items};
 ghost use Rattle.std.specs.VecDeque.{deque_items};
 ghost use Rattle.std.proofs.lemmas.List.Sorted.{IsPermutation-refl};

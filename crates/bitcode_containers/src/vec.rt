@@ -1,14 +1,13 @@
 // The coders of sequences: the lengths of all, and behind them the columns of all elements.
 #![tactic(auto, unfolding(bitcode_coder::specs::LengthCoders::lengths_left, bitcode_coder::specs::LengthCoders::lengths_sum))]
 
-ghost use Rattle.std.specs.Prelude.{◌≡◌, ◌+◌, ◌<◌, ◌≤◌, List, [], None, length, map, false, IfOk, OnOk, IfErr, ◌⊎◌};
+ghost use Rattle.std.specs.Prelude.{◌≡◌, ◌+◌, ◌<◌, ◌≤◌, [], None, length, map, false, IfOk, IfErr, ◌⊎◌};
 ghost use Rattle.std.proofs.Common.{sym, ap, ◌∙◌};
 ghost use Rattle.bitcode_shapes.specs.Shape.{seq_shape};
-ghost use Rattle.bitcode_shapes.specs.Sequences.{ListsSequence};
-ghost use Rattle.bitcode_coder.specs.Coding.{JoinsListing, PassesWithListing, IsWritingRefusal, TakesDatum};
-ghost use Rattle.bitcode_coder.specs.Columns.{emptied, lengths, one, two};
+ghost use Rattle.bitcode_coder.specs.Coding.{TakesDatum};
+ghost use Rattle.bitcode_coder.specs.Columns.{lengths, one, two};
 ghost use Rattle.bitcode_coder.specs.LengthCoders.{written_lengths, length_room, lengths_left, length_capacity, lengths_owned};
-ghost use Rattle.bitcode_coder.specs.LengthParts.{NamesLengthFault, LengthsStandRaw};
+ghost use Rattle.bitcode_coder.specs.LengthParts.{NamesLengthFault};
 ghost use Rattle.bitcode_coder.specs.Spelling.{natural};
 ghost use Rattle.bitcode_containers.specs.Sequences.{lists_of, FaultsInElements};
 

@@ -1,15 +1,12 @@
 // Integers of which not all are allowed: what they stand for, and the coder that reads them.
-ghost use Rattle.std.specs.Prelude.{◌≡◌, ◌≢◌, [], true, All, MatchBool, MatchOption, IfOk, OnOk, IfErr, OnErr, IsTrue};
+ghost use Rattle.std.specs.Prelude.{◌≡◌, ◌≢◌, [], true, All, MatchBool, MatchOption};
 ghost use Rattle.std.proofs.Common.{sym};
 ghost use Rattle.bitcode_input.specs.Fast.{cow_rest, cow_owned};
 ghost use Rattle.bitcode_numbers.specs.LittleEndian.{little_endian};
 ghost use Rattle.bitcode_numbers.specs.Numbers.{number_of};
-ghost use Rattle.bitcode_columns.specs.Reading.{Reads, IsEndOf};
 ghost use Rattle.bitcode_shapes.specs.Datum.{number};
 ghost use Rattle.bitcode_shapes.specs.Shape.{Allowed, IsAllowed, number_shape};
 ghost use Rattle.bitcode_integers.specs.CheckedColumn.{numbers_of, checked_data, NamesCheckedFault};
-ghost use Rattle.bitcode_coder.specs.Coding.{IsReadingRefusal};
-ghost use Rattle.bitcode_coder.specs.Spelling.{Spells};
 
 pub use crate::checked::nanosecond::Nanosecond;
 use crate::column_int::ColumnInt;

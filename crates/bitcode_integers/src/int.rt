@@ -1,12 +1,11 @@
 // The coders of a column of integers.
 #![tactic(auto)]
 
-ghost use Rattle.std.specs.Prelude.{◌≡◌, ◌≢◌, ◌<◌, ◌≤◌, ◌++◌, List, [], All, true, refl, IsTrue, IsOk, IfOk, OnOk, IfErr, OnErr};
-ghost use Rattle.std.proofs.Common.{sym, ap};
+ghost use Rattle.std.specs.Prelude.{◌≡◌, ◌≢◌, ◌<◌, ◌≤◌, ◌++◌, List, [], true, OnOk, IfErr, OnErr};
+ghost use Rattle.std.proofs.Common.{sym};
 ghost use Rattle.bitcode_input.specs.Fast.{fast_items, fast_room, cow_rest, fast_capacity, cow_owned};
-ghost use Rattle.bitcode_columns.specs.Reading.{Reads, IsEndOf, Names, ints_fault, ints_stand_raw};
+ghost use Rattle.bitcode_columns.specs.Reading.{Reads, IsEndOf};
 ghost use Rattle.bitcode_shapes.specs.Datum.{Datum, number};
-ghost use Rattle.bitcode_shapes.specs.Shape.{Shape};
 ghost use Rattle.bitcode_shapes.specs.Values.{int_shape};
 ghost use Rattle.bitcode_coder.specs.Columns.{ints, one};
 ghost use Rattle.bitcode_integers.specs.IntData.{int_data, bytes_data};

@@ -9,7 +9,24 @@ use std::marker::PhantomData;
 
 pub type Twelve = (u8, u8, u8, u8, u8, u8, u8, u8, u8, u8, u8, u8);
 
-pub type Sixteen = (u8, u8, u8, u8, u8, u8, u8, u8, u8, u8, u8, u8, u8, u8, u8, u8);
+pub type Sixteen = (
+    u8,
+    u8,
+    u8,
+    u8,
+    u8,
+    u8,
+    u8,
+    u8,
+    u8,
+    u8,
+    u8,
+    u8,
+    u8,
+    u8,
+    u8,
+    u8,
+);
 
 pub type Options = Vec<Option<(u64, u64, u64, u64, u64, u64, u64, u64, u64)>>;
 
@@ -104,14 +121,26 @@ mod tests {
     fn reads_and_writes(rt: HostRuntime) -> Result<(), Fail> {
         let alloc = rt.alloc();
         let twelve_bytes = [1, 2, 3, 4, 5, 6, 7, 8, 9, 10, 11, 12];
-        assert_eq!(rt; twelve(alloc, &twelve_bytes)?.as_slice(), twelve_bytes.as_slice());
+        assert_eq!(rt;
+            twelve(alloc, &twelve_bytes)?.as_slice(),
+            twelve_bytes.as_slice()
+        );
         let sixteen_bytes = [0, 1, 2, 3, 4, 5, 6, 7, 8, 9, 10, 11, 12, 13, 14, 15];
-        assert_eq!(rt; sixteen(alloc, &sixteen_bytes)?.as_slice(), sixteen_bytes.as_slice());
+        assert_eq!(rt;
+            sixteen(alloc, &sixteen_bytes)?.as_slice(),
+            sixteen_bytes.as_slice()
+        );
         assert_eq!(rt; options(alloc, &[2, 0])?.as_slice(), [2, 0].as_slice());
         assert_eq!(rt; records(alloc, &[0])?.as_slice(), [0].as_slice());
         assert_eq!(rt; table(alloc, &[0])?.as_slice(), [0].as_slice());
-        assert_eq!(rt; deep(alloc, &[1, 1, 1, 1, 1, 1, 7])?.as_slice(), [1, 1, 1, 1, 1, 1, 7].as_slice());
-        assert_eq!(rt; all_of::<u8>(alloc, &[2, 7, 9])?.as_slice(), [2, 7, 9].as_slice());
+        assert_eq!(rt;
+            deep(alloc, &[1, 1, 1, 1, 1, 1, 7])?.as_slice(),
+            [1, 1, 1, 1, 1, 1, 7].as_slice()
+        );
+        assert_eq!(rt;
+            all_of::<u8>(alloc, &[2, 7, 9])?.as_slice(),
+            [2, 7, 9].as_slice()
+        );
         let short: Result<u8, Error> = load(alloc, &[]);
         assert!(rt; matches!(&short, Err(error) if error.reason == Reason::Eof));
         let cache: Cache<Vec<u8>> = Cache::new([2, 7, 9].to_vec(alloc)?);

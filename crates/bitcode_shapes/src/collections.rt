@@ -1,5 +1,5 @@
 // Queues and lists hold the data of their elements, front to back.
-ghost use Rattle.std.specs.Prelude.{None, All, List};
+ghost use Rattle.std.specs.Prelude.{None, All};
 ghost use Rattle.std.specs.VecDeque.{deque_items};
 ghost use Rattle.bitcode_shapes.specs.Collections.{deque_built, list_built};
 ghost use Rattle.bitcode_shapes.specs.LawfulSequences.{seq_lawful, seq_makeable};

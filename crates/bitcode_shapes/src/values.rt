@@ -1,5 +1,5 @@
 // Bools, integers, the unit and pairs hold data.
-ghost use Rattle.std.specs.Prelude.{◌≡◌, Bool, true, false, ◌&&◌, ℤ, pos};
+ghost use Rattle.std.specs.Prelude.{◌≡◌, true, false, ◌&&◌, ℤ, pos};
 ghost use Rattle.bitcode_shapes.specs.Shape.{bool_shape, unit_shape, pair_shape};
 ghost use Rattle.bitcode_shapes.specs.Values.{bool_number, int_shape, ListsNumber, MakesNumber, SameNumber, IsValueOfWidth, ListsUnit, MakesUnit, IsPairValue, ListsPair, MakesPair, SamePair};
 ghost use Rattle.bitcode_shapes.specs.LawfulValues.{width_1, width_2, width_4, width_8, width_16, int_lawful, unsigned_makeable, signed_makeable, bool_lawful, bool_makeable, unit_lawful, unit_makeable, pair_lawful, pair_makeable};

@@ -1,7 +1,5 @@
 // The decoder of pairs.
-ghost use Rattle.std.specs.Prelude.{◌⊎◌, ◌&&◌, ℕ, ◌+◌, List};
-ghost use Rattle.bitcode_columns.specs.Reading.{Reads};
-ghost use Rattle.bitcode_shapes.specs.Datum.{Datum};
+ghost use Rattle.std.specs.Prelude.{◌⊎◌, ◌&&◌, ℕ, ◌+◌};
 ghost use Rattle.bitcode_shapes.specs.Shape.{pair_shape};
 ghost use Rattle.bitcode_tuples.specs.Pairs.{pairs_of, FaultsBehind};
 ghost use Rattle.bitcode_tuples.specs.PairLaws.{same_pair_shape};

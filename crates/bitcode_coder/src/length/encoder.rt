@@ -3,7 +3,7 @@
 
 ghost use Rattle.std.specs.Prelude.{◌≡◌, ◌+◌, ◌<◌, ◌++◌, [], ◌∷◌, None, map, pos, IsOk, OnOk, IfErr, OnErr};
 ghost use Rattle.bitcode_columns.specs.ByteColumn.{byte_text};
-ghost use Rattle.bitcode_input.specs.Fast.{fast_items, fast_room};
+ghost use Rattle.bitcode_input.specs.Fast.{fast_items};
 ghost use Rattle.bitcode_columns.specs.IntColumn.{int_text};
 ghost use Rattle.bitcode_coder.specs.Coding.{BeginsWith};
 ghost use Rattle.bitcode_coder.specs.Columns.{lengths, one};

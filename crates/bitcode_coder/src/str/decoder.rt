@@ -1,16 +1,15 @@
 // The coder that texts are read from.
-ghost use Rattle.std.specs.Prelude.{◌≡◌, ◌≢◌, ℕ, ◌<◌, List, [], ◌∷◌, None, true, false, refl, length, map, sum, All, IsUtf8, MatchBool, IfOk, OnOk, IfErr, OnErr};
+ghost use Rattle.std.specs.Prelude.{◌≡◌, ◌≢◌, ℕ, ◌<◌, List, [], ◌∷◌, None, true, false, refl, length, map, sum, All, IsUtf8, MatchBool, IfOk, IfErr, OnErr};
 ghost use Rattle.std.specs.Str.{IsCharBoundary};
 ghost use Rattle.std.proofs.Props.{props};
 ghost use Rattle.bitcode_input.specs.Fast.{slice_rest};
 ghost use Rattle.bitcode_columns.specs.Reading.{Reads, IsEndOf};
 ghost use Rattle.bitcode_shapes.specs.Datum.{text};
 ghost use Rattle.bitcode_shapes.specs.Shape.{text_shape};
-ghost use Rattle.bitcode_coder.specs.Coding.{IsReadingRefusal};
 ghost use Rattle.bitcode_coder.specs.Cutting.{cut};
-ghost use Rattle.bitcode_coder.specs.JoinedTexts.{ends_from, IsCutAtChars};
+ghost use Rattle.bitcode_coder.specs.JoinedTexts.{ends_from};
 ghost use Rattle.bitcode_coder.specs.LengthCoders.{short_left, large_left, lengths_left, lengths_owned};
-ghost use Rattle.bitcode_coder.specs.LengthParts.{ReadsParts, LengthsStandRaw};
+ghost use Rattle.bitcode_coder.specs.LengthParts.{ReadsParts};
 ghost use Rattle.bitcode_coder.specs.Spelling.{Spells};
 ghost use Rattle.bitcode_coder.specs.TextParts.{NamesTextFault};
 

@@ -1,15 +1,11 @@
 // The coder that texts of a fixed capacity are read from.
-ghost use Rattle.std.specs.Prelude.{◌≡◌, ◌≢◌, ◌≤◌, [], Some, true, refl, length, map, All, OnOk, IfErr, OnErr};
+ghost use Rattle.std.specs.Prelude.{◌≡◌, ◌≢◌, ◌≤◌, [], Some, true, refl, length, map, All};
 ghost use Rattle.std.proofs.Props.{props};
 ghost use Rattle.bitcode_input.specs.Fast.{slice_rest};
-ghost use Rattle.bitcode_columns.specs.Reading.{Reads, IsEndOf};
 ghost use Rattle.bitcode_shapes.specs.Datum.{text};
 ghost use Rattle.bitcode_shapes.specs.Shape.{text_shape};
-ghost use Rattle.bitcode_coder.specs.Coding.{IsReadingRefusal};
 ghost use Rattle.bitcode_coder.specs.Cutting.{cut};
 ghost use Rattle.bitcode_coder.specs.LengthCoders.{lengths_left, lengths_owned};
-ghost use Rattle.bitcode_coder.specs.LengthParts.{LengthsStandRaw};
-ghost use Rattle.bitcode_coder.specs.Spelling.{Spells};
 ghost use Rattle.bitcode_coder.specs.TextParts.{NamesLimitedTextFault};
 
 use crate::coder::{Decoder, HoldsData, View};
