@@ -1,4 +1,4 @@
-// Tuples of one field and of sixteen types, both ways. `scripts/checks/long_tuples` tries every number of fields.
+// Tuples of one field and of sixteen types, both ways. The tables of `scripts/vectors` have every number of fields.
 use crate::tuples::writes_sixteen;
 use crate::{Got, written_and_read};
 use bitcode::{Decode, Error, decode};
