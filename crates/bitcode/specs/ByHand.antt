@@ -1,9 +1,11 @@
 -- The words that types written by hand use in their ghost members, given out again in one place: docs/GUIDE.md.
 -- The laws of structs, of numbers and of texts:
 pub use Rattle.bitcode_shapes.specs.LawfulStructs.{struct_lawful, struct_makeable, u8_lawful, u8_makeable, i8_lawful, i8_makeable, u32_lawful, u32_makeable, str_lawful, str_makeable}
+pub use Rattle.bitcode_shapes.specs.LawfulValues.{bool_lawful, bool_makeable, unit_lawful, unit_makeable, int_lawful, int_makeable}
+pub use Rattle.bitcode_shapes.specs.LawfulTexts.{text_lawful, text_makeable}
 -- of types that stand for others, and of choices:
 pub use Rattle.bitcode_shapes.specs.LawfulImages.{image_lawful, image_makeable}
-pub use Rattle.bitcode_shapes.specs.LawfulChoices.{choice_lawful, choice_makeable, first_lawful, first_makeable, last_lawful, last_makeable}
+pub use Rattle.bitcode_shapes.specs.LawfulChoices.{option_lawful, option_makeable, result_lawful, result_makeable, choice_lawful, choice_makeable, first_lawful, first_makeable, last_lawful, last_makeable}
 -- that all listings have the same numbers of arrays:
 pub use Rattle.bitcode_shapes.specs.SameArrays.{one_datum_same_arrays, one_listing_same_arrays, image_same_arrays, struct_same_arrays, choice_same_arrays, first_same_arrays, last_same_arrays, u8_same_arrays, i8_same_arrays, u32_same_arrays, str_same_arrays}
 -- Shapes of choices, and what they list and make:

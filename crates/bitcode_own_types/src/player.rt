@@ -1,5 +1,5 @@
 // A struct of three fields, written by hand over the coders of tuples.
-ghost use Rattle.std.specs.Prelude.{true, refl};
+ghost use Rattle.std.specs.Prelude.{true, false, refl};
 ghost use Rattle.std.proofs.Common.{⊎_elim};
 ghost use Rattle.bitcode.specs.ByHand.{struct_lawful, struct_makeable, str_lawful, str_makeable, u8_lawful, u8_makeable, u32_lawful, u32_makeable};
 ghost use Rattle.bitcode_own_types.specs.Player.{player_fields};
@@ -40,8 +40,6 @@ impl<'a> Shaped for Player<'a> {
 }
 
 impl<'a> Made for Player<'a> {
-    ghost material = { ⟦<(&'a str, (u8, u32)) as Made>⟧.material };
-
     ghost makes = { λ d p. ⟦<(&'a str, (u8, u32)) as Made>⟧.makes d (player_fields p) };
 
     ghost makeable = { struct_makeable player_fields (λ name rest. (record { name = name; level = rest.0; points = rest.1 }, refl)) str_makeable (struct_makeable (λ rest. rest) (λ level points. ((level, points), refl)) u8_makeable u32_makeable) };

@@ -35,11 +35,9 @@ impl Shaped for Scores {
 }
 
 impl Made for Scores {
-    ghost material = { ⟦<Vec<u32> as Made>⟧.material };
-
     ghost makes = { λ d s. ⟦<Vec<u32> as Made>⟧.makes d s.list };
 
-    ghost makeable = { image_makeable scores_list (λ g. g) (λ g list h. (record { list = list }, refl)) (vec_makeable u32_makeable) };
+    ghost makeable = { image_makeable scores_list (λ g list h. (record { list = list }, refl)) (vec_makeable u32_makeable) };
 }
 
 impl Sequence for Scores {
