@@ -19,3 +19,5 @@ pub use Rattle.bitcode_parts.specs.VariantCoders.{variant_room, variants_left, v
 -- The laws of vectors, and what containers are made of:
 pub use Rattle.bitcode_shapes.specs.LawfulVectors.{vec_lawful, vec_makeable}
 pub use Rattle.bitcode_containers.specs.Elements.{MakesOfElements}
+-- What is read of bytes:
+pub use Rattle.bitcode_derive.specs.Whole.{IsDecodingOf}

@@ -1,7 +1,8 @@
-// With ample memory a player and scores are written and read back.
+// With ample memory a player and scores are written and read back, and generic code reads them.
+use crate::generic::{Cache, load};
 use crate::player::Player;
 use crate::scores::Scores;
-use bitcode::{Error, decode, encode};
+use bitcode::{Error, Reason, decode, encode};
 
 #[test]
 fn a_player_comes_back(rt: HostRuntime) -> Result<(), Error> {
@@ -28,5 +29,17 @@ fn scores_come_back(rt: HostRuntime) -> Result<(), Error> {
     assert!(rt; bytes.as_slice() == [6, 4, 6, 52, 7].as_slice());
     let again: Scores = decode(alloc, bytes.as_slice())?;
     assert!(rt; again == scores);
+    Ok(())
+}
+
+#[test]
+fn generic_code_reads(rt: HostRuntime) -> Result<(), Error> {
+    let alloc = rt.alloc();
+    let level: u8 = load(alloc, &[7])?;
+    assert!(rt; level == 7);
+    let refused: Result<u8, Error> = load(alloc, &[]);
+    assert!(rt; matches!(&refused, Err(error) if error.reason == Reason::Eof));
+    let cache: Cache<Vec<u8>> = Cache::new(vec![in alloc; 2, 7, 9]?);
+    assert!(rt; cache.get(alloc)?.as_slice() == [7, 9].as_slice());
     Ok(())
 }

@@ -1,0 +1,42 @@
+// Generic code over values of any type.
+ghost use Rattle.std.specs.Prelude.{◌≡◌, IfOk};
+ghost use Rattle.bitcode.specs.ByHand.{IsDecodingOf};
+
+use bitcode::{Decode, Error, decode};
+use std::alloc::Global;
+use std::marker::PhantomData;
+
+/// Reads one value of any type.
+pub fn load<'a, T: Decode<'a>>(alloc: Global, bytes: &'a [u8]) -> Result<T, Error>
+    ensures { IfOk result (λ t. IsDecodingOf T.makes T.shape bytes.now t) }
+{
+    decode(alloc, bytes)
+}
+
+/// Bytes that a value of `T` is read from each time that it is asked for.
+#[derive(Drop)]
+pub struct Cache<T> {
+    bytes: Vec<u8>,
+    of: PhantomData<T>,
+}
+
+impl<T> Cache<T> {
+    /// Keeps the bytes.
+    pub fn new(bytes: Vec<u8>) -> Self
+        ensures { result.bytes ≡ bytes }
+    {
+        Cache {
+            bytes,
+            of: PhantomData,
+        }
+    }
+
+    /// Reads the value, which may be one that borrows its texts from the cache.
+    pub fn get<'a>(&'a self, alloc: Global) -> Result<T, Error>
+    where
+        T: Decode<'a>,
+        ensures { IfOk result (λ t. IsDecodingOf T.makes T.shape self.now.bytes.items t) }
+    {
+        decode(alloc, self.bytes.as_slice())
+    }
+}
