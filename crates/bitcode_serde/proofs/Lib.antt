@@ -1,3 +1,4 @@
 pub mod IndexLemmas
 pub mod ColumnLemmas
 pub mod ReadingLemmas
+pub mod StepLemmas

@@ -24,7 +24,7 @@ use Rattle.bitcode_serde.specs.declared.reader.Reader.{Reader}
 
 -- ---- places
 
-places_from-length : (ps : List Place) (bs : List Below) → length (places_from ps bs) ≡ length ps + length bs
+pub places_from-length : (ps : List Place) (bs : List Below) → length (places_from ps bs) ≡ length ps + length bs
 places_from-length ps [] = omega arith
 places_from-length ps (b ∷ bs) =
     let x : List Place = (step_of b.step ∷ place_at ps b.above) ∷ [] in

@@ -1,5 +1,5 @@
 -- What a reader stands for: the state of the machine that takes one entry after another.
-use Rattle.std.specs.Prelude.{◌≡◌, ◌≢◌, ℕ, zero, suc, ◌<◌, true, List, [], ◌∷◌, ◌++◌, length, map, drop, get_or}
+use Rattle.std.specs.Prelude.{◌≡◌, ◌≢◌, ℕ, zero, suc, ◌<◌, ◌≤◌, true, List, [], ◌∷◌, ◌++◌, length, map, drop, get_or}
 use Rattle.bitcode_shapes.specs.Datum.{Datum}
 use Rattle.bitcode_coder.specs.Columns.{Kind}
 use Rattle.bitcode_untyped.specs.Machine.{Opened, State, whole, is_open, entries_of, Grounded, TakesNext, Takes}
@@ -32,6 +32,19 @@ places_from ps (b ∷ bs) = places_from (ps ++ (step_of b.step ∷ place_at ps b
 -- the root, and each place below one before it
 abbrev pub places : List Below → List Place
 places = places_from ([] ∷ [])
+
+-- the place is that step below the other
+abbrev pub IsStep : Below → ℕ → CodeStep → Type 0
+IsStep b above step = (b.above ≡ above) × (step_of b.step ≡ step_of step)
+
+-- i is the number of the place
+abbrev pub IsPlace : List Below → ℕ → Place → Type 0
+IsPlace bs i p = (i ≤ length bs) × (place_at (places bs) i ≡ p)
+
+-- Each place lies below one before it, where so many come before the first.
+abbrev pub IsRooted : ℕ → List Below → Type 0
+IsRooted n [] = Unit {0}
+IsRooted n (b ∷ bs) = (b.above < n) × IsRooted (suc n) bs
 
 -- how many data stand at each
 abbrev pub counts : List Below → List ℕ

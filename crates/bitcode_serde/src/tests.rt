@@ -1,6 +1,6 @@
 // Columns of the Rust crate.
 use crate::column::{Column, ColumnKind};
-use crate::reader::Reader;
+use crate::reader::{Reader, Step};
 use crate::serde::{VariantDecoder, VariantEncoder};
 use bitcode_coder::coder::{Buffer, Decoder, Encoder, View};
 use bitcode_untyped::value::Value;
@@ -77,5 +77,24 @@ fn the_root_is_read(rt: HostRuntime) -> Result<(), Fail> {
     assert_eq!(rt; index.count, 1);
     let mut codes = Reader::new(alloc, &[2, 97, 0]);
     assert_eq!(rt; codes.take_code(0)?, 97);
+    Ok(())
+}
+
+#[test]
+fn elements_are_read_at_one_place(rt: HostRuntime) -> Result<(), Fail> {
+    let mut reader = Reader::new(rt.alloc(), &[2, 0, 1, 0]);
+    let all = reader.take_length(0)?;
+    let elements = reader.step(0, Step::Element, all.total)?;
+    assert_eq!(rt; reader.step(0, Step::Element, all.total)?, elements);
+    let first = reader.take_length(elements)?;
+    assert_eq!(rt; first.length, 0);
+    assert_eq!(rt; first.total, 1);
+    let second = reader.take_length(elements)?;
+    assert_eq!(rt; second.length, 1);
+    let inner = reader.step(elements, Step::Element, second.total)?;
+    assert_ne!(rt; inner, elements);
+    assert_eq!(rt; reader.take_length(inner)?.length, 0);
+    assert!(rt; reader.is_at_end());
+    assert!(rt; reader.take_length(inner).is_err());
     Ok(())
 }
