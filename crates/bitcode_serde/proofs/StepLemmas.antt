@@ -178,6 +178,7 @@ module _ (bs : List Below) (b : Below) (rooted : IsRooted 1 bs) (inside : b.abov
           size = h.0.size;
           entries = h.0.entries;
           tallies = h.0.tallies;
+          are = h.0.are;
         },
         back_more cs os h.1,
       )
