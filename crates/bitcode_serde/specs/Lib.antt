@@ -1,3 +1,4 @@
 pub mod Indices
 pub mod ReadColumns
 pub mod Reading
+pub mod ReadingValues

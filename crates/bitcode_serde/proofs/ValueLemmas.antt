@@ -1,0 +1,175 @@
+-- Reading a value: what is read of its parts, reader by reader.
+use Rattle.std.proofs.Common.{◌≡◌, ◌≢◌, ℕ, ◌+◌, ◌<◌, ◌≤◌, List, [], ◌∷◌, ◌++◌, length, map, true, refl, sym, subst}
+use Rattle.bitcode_input.specs.declared.error.Reason.{Reason}
+use Rattle.bitcode_input.specs.declared.error.Reason.TheVariants as reason
+use Rattle.bitcode_shapes.specs.Datum.{Datum, list, data_of}
+use Rattle.bitcode_shapes.specs.Shape.{any_number}
+use Rattle.bitcode_coder.specs.Coding.{IsReadingReason}
+use Rattle.bitcode_coder.specs.Columns.{Kind, IsEntryOf}
+use Rattle.bitcode_coder.specs.Spelling.{natural}
+use Rattle.bitcode_untyped.specs.Machine.{State, Takes, whole, is_open, entries_of}
+use Rattle.bitcode_untyped.specs.Reads.{ReadsDatum, ReadsNoDatum, IsReadable, ReadsMany}
+use Rattle.bitcode_untyped.specs.Bounds.{column_free, free_limit}
+use Rattle.bitcode_untyped.specs.Population.{total}
+use Rattle.bitcode_untyped.specs.ShapeTree.{ShapeTree, leaf_tree, seq_tree}
+use Rattle.bitcode_untyped.specs.Walk.{element, Place, use_at, length_kind, walk}
+use Rattle.bitcode_untyped.proofs.ReadLemmas.{many_none, many_push, many_stuck, one_datum_read, leaf_read, seq_read, seq_stuck}
+use Rattle.bitcode_serde.specs.Reading.{step_of, IsPlace, IsRooted, places, place_at, Hosts, Stands, NothingAt, Leads, LeadsTelling, AreSized}
+use Rattle.bitcode_serde.specs.ReadingValues.{IsSteady, Continues, GoesAlong, HasNone, ReadsAt, ReadsListAt, IsValueReason, IsRefusalOf, IsRefusalAt, IsListRefusalAt}
+use Rattle.bitcode_serde.specs.declared.reader.Reader.{Reader}
+use Rattle.bitcode_serde.specs.declared.reader.Step.{Step}
+use Rattle.bitcode_serde.specs.declared.reader.Step.TheVariants as step
+
+-- ---- refusals
+
+pub value_reason : (r : Reason) → IsReadingReason r → IsValueReason r
+value_reason reason.Eof h = tt
+value_reason reason.ExpectedEof h = tt
+value_reason reason.InvalidPacking h = tt
+value_reason reason.LengthOverflow h = tt
+value_reason reason.HugeLength h = tt
+value_reason reason.InvalidUtf8 h = tt
+value_reason reason.InvalidBitPattern h = tt
+value_reason reason.InvalidArrayVec h = tt
+value_reason reason.InvalidArrayString h = tt
+value_reason reason.InvalidEnumVariant h = tt
+value_reason reason.InvalidOption h = tt
+value_reason reason.InvalidChar h = tt
+value_reason reason.TooManyZeroSizedTypes h = tt
+value_reason reason.TooManyVariants h = h
+value_reason reason.NotOfTheShape h = h
+value_reason reason.NestedTooDeep h = tt
+value_reason reason.OutOfMemory h = tt
+value_reason reason.BadShape h = h
+
+pub refused_memory : (r : Reader) (place : ℕ) (N : Place → State → Type 0) (why : Reason) → why ≡ reason.OutOfMemory → IsRefusalOf r place N why
+refused_memory r place N why e = (subst IsValueReason (sym e) tt, λ other. absurd (other e))
+
+-- nothing is there where no entry is to be taken
+pub refused_entry : (r : Reader) (place : ℕ) (kind : Kind) (N : Place → State → Type 0) (why : Reason)
+    → ((p : Place) (a : State) → NothingAt a p kind → N p a)
+    → IsReadingReason why × (why ≢ reason.OutOfMemory → (a : State) → Stands r a → NothingAt a (place_at (places r.below.items) place) kind)
+    → IsRefusalOf r place N why
+refused_entry r place kind N why none h =
+    (value_reason why h.0, λ other p at a s. none p a (subst (λ q. NothingAt a q kind) at.1 (h.1 other a s)))
+
+-- ---- places
+
+pub same_places : (old new : Reader) (i : ℕ) (p : Place) → new.below ≡ old.below → IsPlace old.below.items i p → IsPlace new.below.items i p
+same_places old new i p e at = subst (λ b. IsPlace b.items i p) (sym e) at
+
+pub continues_here : (old new : Reader) → IsSteady old → new.below ≡ old.below → AreSized new.columns.items → Continues old new
+continues_here old new steady e sized = record {
+  steady = record { sized = sized; rooted = subst (λ b. IsRooted 1 b.items) (sym e) steady.rooted };
+  kept = λ i p at. same_places old new i p e at;
+}
+
+pub continues_on : (old mid new : Reader) → Continues old mid → Continues mid new → Continues old new
+continues_on old mid new c d = record { steady = d.steady; kept = λ i p at. d.kept i p (c.kept i p at) }
+
+-- ---- entries
+
+pub led_at : (old new : Reader) (place : ℕ) (kind : Kind) (d : Datum) → Leads old (place_at (places old.below.items) place) kind d new
+    → GoesAlong old place new (λ p a b. Takes a (use_at p kind d) b × IsEntryOf kind d)
+led_at old new place kind d leads p at a s =
+    let l = leads a s in (l.0, l.2, (subst (λ q. Takes a (use_at q kind d) l.0) at.1 l.1, l.3))
+
+pub record TakesTelling (kind : Kind) (d : Datum) (Told : List Datum → Type 0) (p : Place) (a b : State) : Type 0 where
+  pub takes : Takes a (use_at p kind d) b
+  pub open_at : is_open (map whole b.opened) p ≡ true
+  pub told : Told (entries_of (map whole b.opened) p)
+  pub entry : IsEntryOf kind d
+
+pub told_at : (old new : Reader) (place : ℕ) (kind : Kind) (d : Datum) (Told : List Datum → Type 0)
+    → LeadsTelling old (place_at (places old.below.items) place) kind d new Told → GoesAlong old place new (TakesTelling kind d Told)
+told_at old new place kind d Told leads p at a s =
+    let l = leads a s in (
+      l.0,
+      l.2,
+      subst (λ q. TakesTelling kind d Told q a l.0) at.1 (record { takes = l.1; open_at = l.3; told = l.4; entry = l.5 }),
+    )
+
+pub leaf_told : (old new : Reader) (place : ℕ) (kind : Kind) (d : Datum) (Told : List Datum → Type 0)
+    → LeadsTelling old (place_at (places old.below.items) place) kind d new Told → ReadsAt (leaf_tree kind any_number) place old d new
+leaf_told old new place kind d Told leads p at a s =
+    let l = told_at old new place kind d Told leads p at a s in
+    (l.0, l.1, leaf_read kind any_number p a d l.0 (l.2.entry, tt) l.2.takes)
+
+-- ---- one after another
+
+pub none_yet : (s : ShapeTree) (place : ℕ) (r : Reader) → ReadsListAt s place r 0 [] r
+none_yet s place r p at a st = (a, st, many_none (IsReadable s) (walk s p) a)
+
+pub one_more : (s : ShapeTree) (place : ℕ) (old mid new : Reader) (i : ℕ) (ds : List Datum) (d : Datum) → Continues old mid
+    → ReadsListAt s place old i ds mid → ReadsAt s place mid d new → ReadsListAt s place old (i + 1) (ds ++ d ∷ []) new
+one_more s place old mid new i ds d c many one p at a st =
+    let r = many p at a st in
+    let t = one p (c.kept place p at) r.0 r.1 in
+    (t.0, t.1, many_push (IsReadable s) (walk s p) a r.0 t.0 i ds d r.2 t.2)
+
+pub list_stuck : (s : ShapeTree) (place : ℕ) (old mid : Reader) (i n : ℕ) (ds : List Datum) (why : Reason) → Continues old mid
+    → ReadsListAt s place old i ds mid → i < n → IsRefusalAt s place mid why → IsListRefusalAt s place old n why
+list_stuck s place old mid i n ds why c many lt h = (
+  h.0,
+  λ other p at a st.
+    let r = many p at a st in
+    many_stuck (IsReadable s) (walk s p) (one_datum_read s p) a r.0 i n ds r.2 (h.1 other p (c.kept place p at) r.0 r.1) lt,
+)
+
+-- ---- steps
+
+pub stepped : (old new : Reader) (place : ℕ) (p : Place) (way : Step) (count : ℕ) (b : State) → IsPlace old.below.items place p
+    → ((a : State) → Stands old a → Hosts (map whole a.opened) (step_of way ∷ place_at (places old.below.items) place) count → Stands new a)
+    → Stands old b → Hosts (map whole b.opened) (step_of way ∷ p) count → Stands new b
+stepped old new place p way count b at stands s h =
+    stands b s (subst (λ q. Hosts (map whole b.opened) (step_of way ∷ q) count) (sym at.1) h)
+
+pub below_it : (old new : Reader) (place i : ℕ) (p : Place) (way : Step) → IsPlace old.below.items place p
+    → IsPlace new.below.items i (step_of way ∷ place_at (places old.below.items) place) → IsPlace new.below.items i (step_of way ∷ p)
+below_it old new place i p way at there = subst (λ q. IsPlace new.below.items i (step_of way ∷ q)) at.1 there
+
+pub still_there : (old new : Reader) (place : ℕ) → Continues old new → place ≤ length old.below.items → place ≤ length new.below.items
+still_there old new place c h = (c.kept place (place_at (places old.below.items) place) (h, refl)).0
+
+pub continues_stepped : (old mid new : Reader) → mid.below ≡ old.below → AreSized mid.columns.items → new.columns ≡ mid.columns → IsRooted 1 new.below.items
+    → ((i : ℕ) (p : Place) → IsPlace mid.below.items i p → IsPlace new.below.items i p) → Continues old new
+continues_stepped old mid new below sized columns rooted kept = record {
+  steady = record { sized = subst (λ cs. AreSized cs.items) (sym columns) sized; rooted = rooted };
+  kept = λ i p at. kept i p (same_places old mid i p below at);
+}
+
+-- ---- lists
+
+-- The length of a list is taken, and its elements stand at the place inside.
+pub record EntersList (old new : Reader) (place inside n : ℕ) : Type 0 where
+  pub at : (p : Place) → IsPlace old.below.items place p → IsPlace new.below.items inside (element ∷ p)
+  pub goes : GoesAlong old place new (λ p a b. Takes a (use_at p length_kind (natural n)) b)
+
+pub enters_list : (old mid new : Reader) (place inside n count : ℕ)
+    → LeadsTelling old (place_at (places old.below.items) place) length_kind (natural n) mid (λ entries. count ≡ total entries)
+    → mid.below ≡ old.below → IsPlace new.below.items inside (element ∷ place_at (places mid.below.items) place)
+    → ((a : State) → Stands mid a → Hosts (map whole a.opened) (element ∷ place_at (places mid.below.items) place) count → Stands new a)
+    → EntersList old new place inside n
+enters_list old mid new place inside n count leads below there stands = record {
+  at = λ p at. below_it mid new place inside p step.Element (same_places old mid place p below at) there;
+  goes = λ p at a s.
+    let t = told_at old mid place length_kind (natural n) (λ entries. count ≡ total entries) leads p at a s in (
+      t.0,
+      stepped mid new place p step.Element count t.0 (same_places old mid place p below at) stands t.1 (t.2.open_at, sym t.2.told),
+      t.2.takes,
+    );
+}
+
+pub seq_read_at : (s : ShapeTree) (old mid new : Reader) (place inside n : ℕ) (ds : List Datum) → EntersList old mid place inside n
+    → (column_free s ≡ true → n ≤ free_limit) → ReadsListAt s inside mid n ds new → ReadsAt (seq_tree s) place old (list (data_of ds)) new
+seq_read_at s old mid new place inside n ds enters few each p at a st =
+    let g = enters.goes p at a st in
+    let r = each (element ∷ p) (enters.at p at) g.0 g.1 in
+    (r.0, r.1, seq_read s p a n g.0 g.2 ds r.0 few r.2)
+
+pub seq_refused : (s : ShapeTree) (old mid : Reader) (place inside n : ℕ) (why : Reason) → EntersList old mid place inside n
+    → IsListRefusalAt s inside mid n why → IsRefusalAt (seq_tree s) place old why
+seq_refused s old mid place inside n why enters h = (
+  h.0,
+  λ other p at a st. let g = enters.goes p at a st in seq_stuck s p a n g.0 g.2 (h.1 other (element ∷ p) (enters.at p at) g.0 g.1),
+)
