@@ -3,3 +3,6 @@ pub mod ColumnLemmas
 pub mod ReadingLemmas
 pub mod StepLemmas
 pub mod ValueLemmas
+pub mod DepthLemmas
+pub mod FreeLemmas
+pub mod EntryLemmas

@@ -2,6 +2,7 @@
 #![tactic(auto)]
 
 pub mod column;
+pub mod free;
 pub mod leaf;
 pub mod reader;
 pub mod serde;
