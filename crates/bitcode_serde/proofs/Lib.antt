@@ -6,3 +6,4 @@ pub mod ValueLemmas
 pub mod DepthLemmas
 pub mod FreeLemmas
 pub mod EntryLemmas
+pub mod FieldLemmas

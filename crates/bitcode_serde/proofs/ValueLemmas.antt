@@ -2,22 +2,23 @@
 use Rattle.std.proofs.Common.{◌≡◌, ◌≢◌, ℕ, ◌+◌, ◌<◌, ◌≤◌, List, [], ◌∷◌, ◌++◌, length, map, true, refl, sym, subst}
 use Rattle.bitcode_input.specs.declared.error.Reason.{Reason}
 use Rattle.bitcode_input.specs.declared.error.Reason.TheVariants as reason
-use Rattle.bitcode_shapes.specs.Datum.{Datum, list, data_of}
+use Rattle.bitcode_shapes.specs.Datum.{Datum, unit, list, choice, data_of}
 use Rattle.bitcode_shapes.specs.Shape.{any_number}
 use Rattle.bitcode_coder.specs.Coding.{IsReadingReason}
 use Rattle.bitcode_coder.specs.Columns.{Kind, IsEntryOf}
 use Rattle.bitcode_coder.specs.Spelling.{natural}
 use Rattle.bitcode_untyped.specs.Machine.{State, Takes, whole, is_open, entries_of}
-use Rattle.bitcode_untyped.specs.Reads.{ReadsDatum, ReadsNoDatum, IsReadable, ReadsMany}
+use Rattle.bitcode_untyped.specs.Reads.{ReadsDatum, ReadsNoDatum, IsReadable, ReadsMany, ReadsPairs}
 use Rattle.bitcode_untyped.specs.Bounds.{column_free, free_limit}
-use Rattle.bitcode_untyped.specs.Population.{total}
-use Rattle.bitcode_untyped.specs.ShapeTree.{ShapeTree, leaf_tree, seq_tree}
-use Rattle.bitcode_untyped.specs.Walk.{element, Place, use_at, length_kind, walk}
-use Rattle.bitcode_untyped.proofs.ReadLemmas.{many_none, many_push, many_stuck, one_datum_read, leaf_read, seq_read, seq_stuck}
+use Rattle.bitcode_untyped.specs.Population.{total, count_of}
+use Rattle.bitcode_untyped.specs.ShapeTree.{ShapeTree, ShapeTrees, unit_tree, never_tree, leaf_tree, seq_tree, choice_tree, tree_at, greatest_index}
+use Rattle.bitcode_untyped.specs.PlacedColumns.{PlacedColumn}
+use Rattle.bitcode_untyped.specs.Walk.{Step, element, key, value, variant, Place, use_at, length_kind, index_kind, walk}
+use Rattle.bitcode_untyped.proofs.ReadLemmas.{many_none, many_push, many_stuck, one_datum_read, unit_read, never_read, leaf_read, seq_read, seq_stuck, choice_read, choice_stuck}
 use Rattle.bitcode_serde.specs.Reading.{step_of, IsPlace, IsRooted, places, place_at, Hosts, Stands, NothingAt, Leads, LeadsTelling, AreSized}
 use Rattle.bitcode_serde.specs.ReadingValues.{IsSteady, Continues, GoesAlong, HasNone, ReadsAt, ReadsListAt, IsValueReason, IsRefusalOf, IsRefusalAt, IsListRefusalAt}
 use Rattle.bitcode_serde.specs.declared.reader.Reader.{Reader}
-use Rattle.bitcode_serde.specs.declared.reader.Step.{Step}
+use Rattle.bitcode_serde.specs.declared.reader.Step.{Step as CodeStep}
 use Rattle.bitcode_serde.specs.declared.reader.Step.TheVariants as step
 
 -- ---- refusals
@@ -118,13 +119,13 @@ list_stuck s place old mid i n ds why c many lt h = (
 
 -- ---- steps
 
-pub stepped : (old new : Reader) (place : ℕ) (p : Place) (way : Step) (count : ℕ) (b : State) → IsPlace old.below.items place p
+pub stepped : (old new : Reader) (place : ℕ) (p : Place) (way : CodeStep) (count : ℕ) (b : State) → IsPlace old.below.items place p
     → ((a : State) → Stands old a → Hosts (map whole a.opened) (step_of way ∷ place_at (places old.below.items) place) count → Stands new a)
     → Stands old b → Hosts (map whole b.opened) (step_of way ∷ p) count → Stands new b
 stepped old new place p way count b at stands s h =
     stands b s (subst (λ q. Hosts (map whole b.opened) (step_of way ∷ q) count) (sym at.1) h)
 
-pub below_it : (old new : Reader) (place i : ℕ) (p : Place) (way : Step) → IsPlace old.below.items place p
+pub below_it : (old new : Reader) (place i : ℕ) (p : Place) (way : CodeStep) → IsPlace old.below.items place p
     → IsPlace new.below.items i (step_of way ∷ place_at (places old.below.items) place) → IsPlace new.below.items i (step_of way ∷ p)
 below_it old new place i p way at there = subst (λ q. IsPlace new.below.items i (step_of way ∷ q)) at.1 there
 
@@ -138,38 +139,126 @@ continues_stepped old mid new below sized columns rooted kept = record {
   kept = λ i p at. kept i p (same_places old mid i p below at);
 }
 
--- ---- lists
+-- ---- going down
 
--- The length of a list is taken, and its elements stand at the place inside.
-pub record EntersList (old new : Reader) (place inside n : ℕ) : Type 0 where
-  pub at : (p : Place) → IsPlace old.below.items place p → IsPlace new.below.items inside (element ∷ p)
-  pub goes : GoesAlong old place new (λ p a b. Takes a (use_at p length_kind (natural n)) b)
+-- An entry is taken, and what it counts stands at a place one step below.
+pub record Enters (way : Step) (kind : Kind) (d : Datum) (old new : Reader) (place inside : ℕ) : Type 0 where
+  pub at : (p : Place) → IsPlace old.below.items place p → IsPlace new.below.items inside (way ∷ p)
+  pub goes : GoesAlong old place new (λ p a b. Takes a (use_at p kind d) b × IsEntryOf kind d)
+
+abbrev pub EntersList : Reader → Reader → ℕ → ℕ → ℕ → Type 0
+EntersList old new place inside n = Enters element length_kind (natural n) old new place inside
+
+pub enters : (way : CodeStep) (kind : Kind) (d : Datum) (Told : List Datum → Type 0) (old mid new : Reader) (place inside count : ℕ)
+    → ((ws : List PlacedColumn) (p : Place) → is_open ws p ≡ true → Told (entries_of ws p) → Hosts ws (step_of way ∷ p) count)
+    → LeadsTelling old (place_at (places old.below.items) place) kind d mid Told
+    → mid.below ≡ old.below → IsPlace new.below.items inside (step_of way ∷ place_at (places mid.below.items) place)
+    → ((a : State) → Stands mid a → Hosts (map whole a.opened) (step_of way ∷ place_at (places mid.below.items) place) count → Stands new a)
+    → Enters (step_of way) kind d old new place inside
+enters way kind d Told old mid new place inside count hosts leads below there stands = record {
+  at = λ p at. below_it mid new place inside p way (same_places old mid place p below at) there;
+  goes = λ p at a s.
+    let t = told_at old mid place kind d Told leads p at a s in (
+      t.0,
+      stepped mid new place p way count t.0 (same_places old mid place p below at) stands t.1 (hosts (map whole t.0.opened) p t.2.open_at t.2.told),
+      (t.2.takes, t.2.entry),
+    );
+}
 
 pub enters_list : (old mid new : Reader) (place inside n count : ℕ)
     → LeadsTelling old (place_at (places old.below.items) place) length_kind (natural n) mid (λ entries. count ≡ total entries)
     → mid.below ≡ old.below → IsPlace new.below.items inside (element ∷ place_at (places mid.below.items) place)
     → ((a : State) → Stands mid a → Hosts (map whole a.opened) (element ∷ place_at (places mid.below.items) place) count → Stands new a)
     → EntersList old new place inside n
-enters_list old mid new place inside n count leads below there stands = record {
-  at = λ p at. below_it mid new place inside p step.Element (same_places old mid place p below at) there;
-  goes = λ p at a s.
-    let t = told_at old mid place length_kind (natural n) (λ entries. count ≡ total entries) leads p at a s in (
-      t.0,
-      stepped mid new place p step.Element count t.0 (same_places old mid place p below at) stands t.1 (t.2.open_at, sym t.2.told),
-      t.2.takes,
-    );
-}
+enters_list old mid new place inside n count =
+    enters step.Element length_kind (natural n) (λ entries. count ≡ total entries) old mid new place inside count (λ ws p is told. (is, sym told))
+
+pub enters_choice : (old mid new : Reader) (place inside i count : ℕ)
+    → LeadsTelling old (place_at (places old.below.items) place) index_kind (natural i) mid (λ entries. count ≡ count_of i entries)
+    → mid.below ≡ old.below → IsPlace new.below.items inside (variant i ∷ place_at (places mid.below.items) place)
+    → ((a : State) → Stands mid a → Hosts (map whole a.opened) (variant i ∷ place_at (places mid.below.items) place) count → Stands new a)
+    → Enters (variant i) index_kind (natural i) old new place inside
+enters_choice old mid new place inside i count =
+    enters (step.Variant i) index_kind (natural i) (λ entries. count ≡ count_of i entries) old mid new place inside count (λ ws p is told. (is, sym told))
+
+-- ---- lists
 
 pub seq_read_at : (s : ShapeTree) (old mid new : Reader) (place inside n : ℕ) (ds : List Datum) → EntersList old mid place inside n
     → (column_free s ≡ true → n ≤ free_limit) → ReadsListAt s inside mid n ds new → ReadsAt (seq_tree s) place old (list (data_of ds)) new
 seq_read_at s old mid new place inside n ds enters few each p at a st =
     let g = enters.goes p at a st in
     let r = each (element ∷ p) (enters.at p at) g.0 g.1 in
-    (r.0, r.1, seq_read s p a n g.0 g.2 ds r.0 few r.2)
+    (r.0, r.1, seq_read s p a n g.0 g.2.0 ds r.0 few r.2)
 
 pub seq_refused : (s : ShapeTree) (old mid : Reader) (place inside n : ℕ) (why : Reason) → EntersList old mid place inside n
     → IsListRefusalAt s inside mid n why → IsRefusalAt (seq_tree s) place old why
 seq_refused s old mid place inside n why enters h = (
   h.0,
-  λ other p at a st. let g = enters.goes p at a st in seq_stuck s p a n g.0 g.2 (h.1 other (element ∷ p) (enters.at p at) g.0 g.1),
+  λ other p at a st. let g = enters.goes p at a st in seq_stuck s p a n g.0 g.2.0 (h.1 other (element ∷ p) (enters.at p at) g.0 g.1),
 )
+
+-- ---- choices
+
+pub choice_read_at : (ss : ShapeTrees) (i : ℕ) (d : Datum) (old mid new : Reader) (place inside : ℕ) → i ≤ greatest_index
+    → Enters (variant i) index_kind (natural i) old mid place inside → ReadsAt (tree_at ss i) inside mid d new → ReadsAt (choice_tree ss) place old (choice i d) new
+choice_read_at ss i d old mid new place inside small enters one p at a st =
+    let g = enters.goes p at a st in
+    let r = one (variant i ∷ p) (enters.at p at) g.0 g.1 in
+    (r.0, r.1, choice_read ss p a i g.0 g.2.0 d r.0 small r.2)
+
+pub choice_refused : (ss : ShapeTrees) (i : ℕ) (old mid : Reader) (place inside : ℕ) (why : Reason)
+    → Enters (variant i) index_kind (natural i) old mid place inside → IsRefusalAt (tree_at ss i) inside mid why → IsRefusalAt (choice_tree ss) place old why
+choice_refused ss i old mid place inside why enters h = (
+  h.0,
+  λ other p at a st. let g = enters.goes p at a st in choice_stuck ss p a i g.0 g.2.0 (h.1 other (variant i ∷ p) (enters.at p at) g.0 g.1),
+)
+
+-- the variant of an index is a unit
+pub choice_of_unit : (ss : ShapeTrees) (i : ℕ) (old new : Reader) (place : ℕ) (Told : List Datum → Type 0) → i ≤ greatest_index → tree_at ss i ≡ unit_tree
+    → LeadsTelling old (place_at (places old.below.items) place) index_kind (natural i) new Told → ReadsAt (choice_tree ss) place old (choice i unit) new
+choice_of_unit ss i old new place Told small is leads p at a st =
+    let t = told_at old new place index_kind (natural i) Told leads p at a st in (
+      t.0,
+      t.1,
+      choice_read ss p a i t.0 t.2.takes unit t.0 small (subst (λ s. ReadsDatum s (variant i ∷ p) t.0 unit t.0) (sym is) (unit_read (variant i ∷ p) t.0)),
+    )
+
+-- there is no variant of an index
+pub no_choice : (ss : ShapeTrees) (i : ℕ) (old new : Reader) (place : ℕ) (Told : List Datum → Type 0) → tree_at ss i ≡ never_tree
+    → LeadsTelling old (place_at (places old.below.items) place) index_kind (natural i) new Told → HasNone old place (ReadsNoDatum (choice_tree ss))
+no_choice ss i old new place Told is leads p at a st =
+    let t = told_at old new place index_kind (natural i) Told leads p at a st in
+    choice_stuck ss p a i t.0 t.2.takes (subst (λ s. ReadsNoDatum s (variant i ∷ p) t.0) (sym is) (never_read (variant i ∷ p) t.0))
+
+-- ---- maps
+
+-- The length of a map is taken, and its keys and values stand at places one step below.
+pub record EntersMap (old new : Reader) (place keys values n : ℕ) : Type 0 where
+  pub keys_at : (p : Place) → IsPlace old.below.items place p → IsPlace new.below.items keys (key ∷ p)
+  pub values_at : (p : Place) → IsPlace old.below.items place p → IsPlace new.below.items values (value ∷ p)
+  pub goes : GoesAlong old place new (λ p a b. Takes a (use_at p length_kind (natural n)) b)
+
+pub enters_map : (old mid between new : Reader) (place keys values n count : ℕ) → place ≤ length old.below.items
+    → LeadsTelling old (place_at (places old.below.items) place) length_kind (natural n) mid (λ entries. count ≡ total entries)
+    → mid.below ≡ old.below → IsPlace between.below.items keys (key ∷ place_at (places mid.below.items) place)
+    → ((i : ℕ) (p : Place) → IsPlace mid.below.items i p → IsPlace between.below.items i p)
+    → ((a : State) → Stands mid a → Hosts (map whole a.opened) (key ∷ place_at (places mid.below.items) place) count → Stands between a)
+    → IsPlace new.below.items values (value ∷ place_at (places between.below.items) place)
+    → ((i : ℕ) (p : Place) → IsPlace between.below.items i p → IsPlace new.below.items i p)
+    → ((a : State) → Stands between a → Hosts (map whole a.opened) (value ∷ place_at (places between.below.items) place) count → Stands new a)
+    → EntersMap old new place keys values n
+enters_map old mid between new place keys values n count within leads below there_key kept_key stands_key there_value kept_value stands_value = record {
+  keys_at = λ p at. kept_value keys (key ∷ p) (below_it mid between place keys p step.Key (same_places old mid place p below at) there_key);
+  values_at = λ p at. below_it between new place values p step.Value (kept_key place p (same_places old mid place p below at)) there_value;
+  goes = λ p at a s.
+    let t = told_at old mid place length_kind (natural n) (λ entries. count ≡ total entries) leads p at a s in
+    let m = same_places old mid place p below at in
+    let k = stepped mid between place p step.Key count t.0 m stands_key t.1 (t.2.open_at, sym t.2.told) in
+    (t.0, stepped between new place p step.Value count t.0 (kept_key place p m) stands_value k (t.2.open_at, sym t.2.told), t.2.takes);
+}
+
+-- so many pairs of a map at a place, one after another
+abbrev pub ReadsPairsAt : ShapeTree → ShapeTree → ℕ → ℕ → Reader → ℕ → List Datum → Reader → Type 0
+ReadsPairsAt k v keys values old count ds new =
+    (p : Place) → IsPlace old.below.items keys (key ∷ p) → IsPlace old.below.items values (value ∷ p) → (a : State) → Stands old a
+    → (b : State) × Stands new b × ReadsPairs k v p a count ds b

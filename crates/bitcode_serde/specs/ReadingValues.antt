@@ -1,5 +1,5 @@
 -- What is read of a value, from one reader to the next.
-use Rattle.std.specs.Prelude.{◌≡◌, ◌≢◌, ℕ, List}
+use Rattle.std.specs.Prelude.{◌≡◌, ◌≢◌, ℕ, zero, suc, List, ◌∷◌}
 use Rattle.bitcode_input.specs.declared.error.Reason.{Reason}
 use Rattle.bitcode_input.specs.declared.error.Reason.TheVariants.{OutOfMemory, InvalidOption, InvalidChar, TooManyZeroSizedTypes, NestedTooDeep}
 use Rattle.bitcode_shapes.specs.Datum.{Datum}
@@ -7,7 +7,7 @@ use Rattle.bitcode_coder.specs.Coding.{IsReadingReason}
 use Rattle.bitcode_untyped.specs.Machine.{State}
 use Rattle.bitcode_untyped.specs.Reads.{ReadsDatum, ReadsNoDatum, IsReadable, ReadsMany}
 use Rattle.bitcode_untyped.specs.ShapeTree.{ShapeTree}
-use Rattle.bitcode_untyped.specs.Walk.{Place, walk}
+use Rattle.bitcode_untyped.specs.Walk.{field, Place, walk}
 use Rattle.bitcode_serde.specs.Reading.{IsPlace, IsRooted, AreSized, Stands}
 use Rattle.bitcode_serde.specs.declared.reader.Reader.{Reader}
 
@@ -56,3 +56,8 @@ IsRefusalAt s place old = IsRefusalOf old place (ReadsNoDatum s)
 abbrev pub IsListRefusalAt : ShapeTree → ℕ → Reader → ℕ → Reason → Type 0
 IsListRefusalAt s place old count =
     IsRefusalOf old place (λ p a. (ds : List Datum) (b : State) → ReadsMany (IsReadable s) (walk s p) a count ds b → ⊥)
+
+-- where field i of so many stands: a tuple of one has no place of its own
+abbrev pub field_at : ℕ → Place → ℕ → Place
+field_at (suc zero) p i = p
+field_at _ p i = field i ∷ p

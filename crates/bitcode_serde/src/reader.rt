@@ -9,6 +9,7 @@ ghost use Rattle.bitcode_untyped.specs.View.{datum_of};
 ghost use Rattle.bitcode_untyped.specs.Walk.{Place, length_kind, index_kind};
 ghost use Rattle.bitcode_serde.specs.ReadColumns.{kind_of};
 ghost use Rattle.bitcode_serde.specs.Reading.{step_of, IsStep, IsPlace, IsRooted, Hosts, places, place_at, counts, AreSized, Stands, IsReady, Prepares, NothingAt, Leads, LeadsTelling};
+ghost use Rattle.bitcode_serde.specs.ReadingValues.{IsSteady, Continues, field_at};
 
 use crate::column::{Column, ColumnKind};
 use bitcode_input::error::{Error, Reason};
@@ -197,6 +198,25 @@ impl<'a> Reader<'a> {
                 Ok(self.below.as_slice().len())
             }
         }
+    }
+
+    /// The number of the place of a field of a tuple of so many: a tuple of one stands where its field does.
+    ///
+    /// A refused growth is `out of memory`.
+    pub fn field(&mut self, place: usize, i: usize, fields: usize) -> Result<usize, Error>
+        requires place { place ≤ length self.old.below.items }
+        requires steady { IsSteady self.old }
+        ensures continues { OnOk result (Continues self.old self.new) }
+        ensures found { IfOk result (λ inside. (p : Place) → IsPlace self.old.below.items place p → IsPlace self.new.below.items inside (field_at fields p i)) }
+        ensures stands { OnOk result ((a : State) → Stands self.old a → Stands self.new a) }
+        ensures refused { IfErr result (λ e. e.reason ≡ Reason.OutOfMemory) }
+    {
+        if fields == 1 {
+            return Ok(place);
+        }
+        let count = self.count_at(place);
+        let inside = self.step(place, Step::Field(i), count)?;
+        Ok(inside)
     }
 
     /// Takes the next entry of the column of a place, which is opened where it is first reached.
