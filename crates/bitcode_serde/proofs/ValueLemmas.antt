@@ -1,23 +1,24 @@
 -- Reading a value: what is read of its parts, reader by reader.
-use Rattle.std.proofs.Common.{◌≡◌, ◌≢◌, ℕ, ◌+◌, ◌<◌, ◌≤◌, List, [], ◌∷◌, ◌++◌, length, map, true, refl, sym, subst}
+use Rattle.std.proofs.Common.{◌≡◌, ◌≢◌, ℕ, zero, suc, ◌+◌, ◌<◌, ◌≤◌, List, [], ◌∷◌, ◌++◌, length, map, true, refl, sym, subst, arith, false, pos}
 use Rattle.bitcode_input.specs.declared.error.Reason.{Reason}
 use Rattle.bitcode_input.specs.declared.error.Reason.TheVariants as reason
-use Rattle.bitcode_shapes.specs.Datum.{Datum, unit, list, choice, data_of}
-use Rattle.bitcode_shapes.specs.Shape.{any_number}
+use Rattle.bitcode_shapes.specs.Datum.{Datum, unit, list, choice, pair, data_of}
+use Rattle.bitcode_shapes.specs.Shape.{any_number, IsInWidth}
 use Rattle.bitcode_coder.specs.Coding.{IsReadingReason}
 use Rattle.bitcode_coder.specs.Columns.{Kind, IsEntryOf}
 use Rattle.bitcode_coder.specs.Spelling.{natural}
 use Rattle.bitcode_untyped.specs.Machine.{State, Takes, whole, is_open, entries_of}
-use Rattle.bitcode_untyped.specs.Reads.{ReadsDatum, ReadsNoDatum, IsReadable, ReadsMany, ReadsPairs}
+use Rattle.bitcode_untyped.specs.Reads.{ReadsDatum, ReadsNoDatum, IsReadable, ReadsMany, IsReadablePair, pair_walk, ReadsPairs}
 use Rattle.bitcode_untyped.specs.Bounds.{column_free, free_limit}
 use Rattle.bitcode_untyped.specs.Population.{total, count_of}
-use Rattle.bitcode_untyped.specs.ShapeTree.{ShapeTree, ShapeTrees, unit_tree, never_tree, leaf_tree, seq_tree, choice_tree, tree_at, greatest_index}
+use Rattle.bitcode_untyped.specs.ShapeTree.{ShapeTree, ShapeTrees, no_trees, tree_and, unit_tree, never_tree, leaf_tree, seq_tree, map_tree, choice_tree, tree_at, greatest_index}
 use Rattle.bitcode_untyped.specs.PlacedColumns.{PlacedColumn}
 use Rattle.bitcode_untyped.specs.Walk.{Step, element, key, value, variant, Place, use_at, length_kind, index_kind, walk}
-use Rattle.bitcode_untyped.proofs.ReadLemmas.{many_none, many_push, many_stuck, one_datum_read, unit_read, never_read, leaf_read, seq_read, seq_stuck, choice_read, choice_stuck}
-use Rattle.bitcode_serde.specs.Reading.{step_of, IsPlace, IsRooted, places, place_at, Hosts, Stands, NothingAt, Leads, LeadsTelling, AreSized}
+use Rattle.bitcode_untyped.proofs.ReadLemmas.{many_none, many_push, many_stuck, one_datum_read, unit_read, never_read, leaf_read, seq_read, seq_stuck, choice_read, choice_stuck, one_pair_read, pair_read, pair_stuck_key, pair_stuck_value, map_read, map_stuck}
+use Rattle.bitcode_serde.specs.Reading.{step_of, IsPlace, IsRooted, places_from, places, place_at, Hosts, Stands, NothingAt, Leads, LeadsTelling, AreSized}
 use Rattle.bitcode_serde.specs.ReadingValues.{IsSteady, Continues, GoesAlong, HasNone, ReadsAt, ReadsListAt, IsValueReason, IsRefusalOf, IsRefusalAt, IsListRefusalAt}
 use Rattle.bitcode_serde.specs.declared.reader.Reader.{Reader}
+use Rattle.bitcode_serde.specs.declared.reader.Below.{Below}
 use Rattle.bitcode_serde.specs.declared.reader.Step.{Step as CodeStep}
 use Rattle.bitcode_serde.specs.declared.reader.Step.TheVariants as step
 
@@ -67,6 +68,13 @@ continues_here old new steady e sized = record {
 
 pub continues_on : (old mid new : Reader) → Continues old mid → Continues mid new → Continues old new
 continues_on old mid new c d = record { steady = d.steady; kept = λ i p at. d.kept i p (c.kept i p at) }
+
+root_from : (p : Place) (ps : List Place) (bs : List Below) → place_at (places_from (p ∷ ps) bs) 0 ≡ p
+root_from p ps [] = refl
+root_from p ps (b ∷ bs) = root_from p (ps ++ (step_of b.step ∷ place_at (p ∷ ps) b.above) ∷ []) bs
+
+pub root_place : (bs : List Below) → IsPlace bs 0 []
+root_place bs = (omega arith, root_from [] [] bs)
 
 -- ---- entries
 
@@ -199,12 +207,23 @@ seq_refused s old mid place inside n why enters h = (
 
 -- ---- choices
 
-pub choice_read_at : (ss : ShapeTrees) (i : ℕ) (d : Datum) (old mid new : Reader) (place inside : ℕ) → i ≤ greatest_index
+small_index : (i : ℕ) → IsEntryOf index_kind (natural i) → i ≤ greatest_index
+small_index i h =
+    let e : h.value ≡ pos i = cc (h.is) in
+    let small = subst (λ z. IsInWidth 1 false z) e h.in_width in
+    omega (arith, small)
+
+pub no_third : (s : ShapeTree) (i : ℕ) → 1 < i → tree_at (tree_and unit_tree (tree_and s no_trees)) i ≡ never_tree
+no_third s zero h = absurd (omega arith)
+no_third s (suc zero) h = absurd (omega arith)
+no_third s (suc (suc i)) h = refl
+
+pub choice_read_at : (ss : ShapeTrees) (i : ℕ) (d : Datum) (old mid new : Reader) (place inside : ℕ)
     → Enters (variant i) index_kind (natural i) old mid place inside → ReadsAt (tree_at ss i) inside mid d new → ReadsAt (choice_tree ss) place old (choice i d) new
-choice_read_at ss i d old mid new place inside small enters one p at a st =
+choice_read_at ss i d old mid new place inside enters one p at a st =
     let g = enters.goes p at a st in
     let r = one (variant i ∷ p) (enters.at p at) g.0 g.1 in
-    (r.0, r.1, choice_read ss p a i g.0 g.2.0 d r.0 small r.2)
+    (r.0, r.1, choice_read ss p a i g.0 g.2.0 d r.0 (small_index i g.2.1) r.2)
 
 pub choice_refused : (ss : ShapeTrees) (i : ℕ) (old mid : Reader) (place inside : ℕ) (why : Reason)
     → Enters (variant i) index_kind (natural i) old mid place inside → IsRefusalAt (tree_at ss i) inside mid why → IsRefusalAt (choice_tree ss) place old why
@@ -214,13 +233,13 @@ choice_refused ss i old mid place inside why enters h = (
 )
 
 -- the variant of an index is a unit
-pub choice_of_unit : (ss : ShapeTrees) (i : ℕ) (old new : Reader) (place : ℕ) (Told : List Datum → Type 0) → i ≤ greatest_index → tree_at ss i ≡ unit_tree
+pub choice_of_unit : (ss : ShapeTrees) (i : ℕ) (old new : Reader) (place : ℕ) (Told : List Datum → Type 0) → tree_at ss i ≡ unit_tree
     → LeadsTelling old (place_at (places old.below.items) place) index_kind (natural i) new Told → ReadsAt (choice_tree ss) place old (choice i unit) new
-choice_of_unit ss i old new place Told small is leads p at a st =
+choice_of_unit ss i old new place Told is leads p at a st =
     let t = told_at old new place index_kind (natural i) Told leads p at a st in (
       t.0,
       t.1,
-      choice_read ss p a i t.0 t.2.takes unit t.0 small (subst (λ s. ReadsDatum s (variant i ∷ p) t.0 unit t.0) (sym is) (unit_read (variant i ∷ p) t.0)),
+      choice_read ss p a i t.0 t.2.takes unit t.0 (small_index i t.2.entry) (subst (λ s. ReadsDatum s (variant i ∷ p) t.0 unit t.0) (sym is) (unit_read (variant i ∷ p) t.0)),
     )
 
 -- there is no variant of an index
@@ -238,7 +257,7 @@ pub record EntersMap (old new : Reader) (place keys values n : ℕ) : Type 0 whe
   pub values_at : (p : Place) → IsPlace old.below.items place p → IsPlace new.below.items values (value ∷ p)
   pub goes : GoesAlong old place new (λ p a b. Takes a (use_at p length_kind (natural n)) b)
 
-pub enters_map : (old mid between new : Reader) (place keys values n count : ℕ) → place ≤ length old.below.items
+pub enters_map : (old mid between new : Reader) (place keys values n count : ℕ)
     → LeadsTelling old (place_at (places old.below.items) place) length_kind (natural n) mid (λ entries. count ≡ total entries)
     → mid.below ≡ old.below → IsPlace between.below.items keys (key ∷ place_at (places mid.below.items) place)
     → ((i : ℕ) (p : Place) → IsPlace mid.below.items i p → IsPlace between.below.items i p)
@@ -247,7 +266,7 @@ pub enters_map : (old mid between new : Reader) (place keys values n count : ℕ
     → ((i : ℕ) (p : Place) → IsPlace between.below.items i p → IsPlace new.below.items i p)
     → ((a : State) → Stands between a → Hosts (map whole a.opened) (value ∷ place_at (places between.below.items) place) count → Stands new a)
     → EntersMap old new place keys values n
-enters_map old mid between new place keys values n count within leads below there_key kept_key stands_key there_value kept_value stands_value = record {
+enters_map old mid between new place keys values n count leads below there_key kept_key stands_key there_value kept_value stands_value = record {
   keys_at = λ p at. kept_value keys (key ∷ p) (below_it mid between place keys p step.Key (same_places old mid place p below at) there_key);
   values_at = λ p at. below_it between new place values p step.Value (kept_key place p (same_places old mid place p below at)) there_value;
   goes = λ p at a s.
@@ -262,3 +281,52 @@ abbrev pub ReadsPairsAt : ShapeTree → ShapeTree → ℕ → ℕ → Reader →
 ReadsPairsAt k v keys values old count ds new =
     (p : Place) → IsPlace old.below.items keys (key ∷ p) → IsPlace old.below.items values (value ∷ p) → (a : State) → Stands old a
     → (b : State) × Stands new b × ReadsPairs k v p a count ds b
+
+-- ---- pairs
+
+pub no_pairs : (k v : ShapeTree) (keys values : ℕ) (r : Reader) → ReadsPairsAt k v keys values r 0 [] r
+no_pairs k v keys values r p at_key at_value a st = (a, st, many_none _ _ a)
+
+module _ (k v : ShapeTree) (keys values : ℕ) (old mid : Reader) (i : ℕ) (ds : List Datum) (c : Continues old mid)
+    (many : ReadsPairsAt k v keys values old i ds mid) where
+  pub one_more_pair : (next new : Reader) (x y : Datum) → Continues mid next → ReadsAt k keys mid x next → ReadsAt v values next y new
+      → ReadsPairsAt k v keys values old (i + 1) (ds ++ pair x y ∷ []) new
+  one_more_pair next new x y d first second p at_key at_value a st =
+      let r = many p at_key at_value a st in
+      let f = first (key ∷ p) (c.kept keys (key ∷ p) at_key) r.0 r.1 in
+      let s = second (value ∷ p) (d.kept values (value ∷ p) (c.kept values (value ∷ p) at_value)) f.0 f.1 in
+      (s.0, s.1, many_push (IsReadablePair k v) (pair_walk k v p) a r.0 s.0 i ds (pair x y) r.2 (pair_read k v p r.0 x y f.0 s.0 f.2 s.2))
+
+  abbrev pub NoPairs : ℕ → Type 0
+  NoPairs n =
+      (p : Place) → IsPlace old.below.items keys (key ∷ p) → IsPlace old.below.items values (value ∷ p) → (a : State) → Stands old a
+      → (es : List Datum) (b : State) → ReadsPairs k v p a n es b → ⊥
+
+  pub key_stuck : (n : ℕ) → i < n → HasNone mid keys (ReadsNoDatum k) → NoPairs n
+  key_stuck n lt none p at_key at_value a st =
+      let r = many p at_key at_value a st in
+      many_stuck (IsReadablePair k v) (pair_walk k v p) (one_pair_read k v p) a r.0 i n ds r.2
+      (pair_stuck_key k v p r.0 (none (key ∷ p) (c.kept keys (key ∷ p) at_key) r.0 r.1)) lt
+
+  pub value_stuck : (n : ℕ) (next : Reader) (x : Datum) → i < n → Continues mid next → ReadsAt k keys mid x next
+      → HasNone next values (ReadsNoDatum v) → NoPairs n
+  value_stuck n next x lt d first none p at_key at_value a st =
+      let r = many p at_key at_value a st in
+      let f = first (key ∷ p) (c.kept keys (key ∷ p) at_key) r.0 r.1 in
+      many_stuck (IsReadablePair k v) (pair_walk k v p) (one_pair_read k v p) a r.0 i n ds r.2
+      (pair_stuck_value k v p r.0 x f.0 f.2 (none (value ∷ p) (d.kept values (value ∷ p) (c.kept values (value ∷ p) at_value)) f.0 f.1)) lt
+
+pub map_read_at : (k v : ShapeTree) (old mid new : Reader) (place keys values n : ℕ) (ds : List Datum) → EntersMap old mid place keys values n
+    → (column_free k ≡ true → n ≤ free_limit) → ReadsPairsAt k v keys values mid n ds new → ReadsAt (map_tree k v) place old (list (data_of ds)) new
+map_read_at k v old mid new place keys values n ds enters few each p at a st =
+    let g = enters.goes p at a st in
+    let r = each p (enters.keys_at p at) (enters.values_at p at) g.0 g.1 in
+    (r.0, r.1, map_read k v p a n g.0 g.2 ds r.0 few r.2)
+
+pub map_stuck_at : (k v : ShapeTree) (old mid : Reader) (place keys values n : ℕ) → EntersMap old mid place keys values n
+    → ((p : Place) → IsPlace mid.below.items keys (key ∷ p) → IsPlace mid.below.items values (value ∷ p) → (a : State) → Stands mid a
+      → (es : List Datum) (b : State) → ReadsPairs k v p a n es b → ⊥)
+    → HasNone old place (ReadsNoDatum (map_tree k v))
+map_stuck_at k v old mid place keys values n enters none p at a st =
+    let g = enters.goes p at a st in
+    map_stuck k v p a n g.0 g.2 (none p (enters.keys_at p at) (enters.values_at p at) g.0 g.1)

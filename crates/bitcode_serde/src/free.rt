@@ -1,10 +1,26 @@
 // Which nodes name data without a column.
-ghost use Rattle.std.specs.Prelude.{◌≡◌};
+ghost use Rattle.std.specs.Prelude.{◌≡◌, ◌<◌, ◌≤◌, true, MatchBool};
 ghost use Rattle.std.specs.List.{list_all};
-ghost use Rattle.bitcode_untyped.specs.Bounds.{column_free};
+ghost use Rattle.bitcode_untyped.specs.Bounds.{column_free, free_limit};
 ghost use Rattle.bitcode_untyped.specs.View.{tree_of_node};
 
 use bitcode_untyped::shape::ShapeNode;
+
+/// How many elements or keys without a column are read, in one list or map.
+pub const ZST_LIMIT: usize = 65536;
+
+/// Whether so many data of a node are more than are read, since they have no entry in any column.
+pub fn is_over_limit(table: &[ShapeNode], node: &ShapeNode, left: usize, count: usize) -> bool
+    ensures { MatchBool result ((column_free (tree_of_node left table.now node.now) ≡ true) × (free_limit < count)) (column_free (tree_of_node left table.now node.now) ≡ true → count ≤ free_limit) }
+{
+    if count <= ZST_LIMIT {
+        return false;
+    }
+    if is_free(table, node, left) {
+        return true;
+    }
+    false
+}
 
 /// Whether the data of a node have no entry in any column, where so many references may be followed.
 #[cycle(free)]

@@ -6,5 +6,6 @@ pub mod free;
 pub mod leaf;
 pub mod reader;
 pub mod serde;
+pub mod values;
 #[cfg(test)]
 mod tests;
