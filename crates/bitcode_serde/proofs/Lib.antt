@@ -7,3 +7,4 @@ pub mod DepthLemmas
 pub mod FreeLemmas
 pub mod EntryLemmas
 pub mod FieldLemmas
+pub mod WholeLemmas

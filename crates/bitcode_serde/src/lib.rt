@@ -2,6 +2,7 @@
 #![tactic(auto)]
 
 pub mod column;
+pub mod deserialize;
 pub mod free;
 pub mod leaf;
 pub mod reader;
