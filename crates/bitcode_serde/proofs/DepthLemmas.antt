@@ -1,5 +1,5 @@
 -- Nodes are deeper than their parts.
-use Rattle.std.proofs.Common.{◌≡◌, ℕ, zero, suc, ◌+◌, ◌-◌, ◌*◌, ◌<◌, ◌≤◌, max, List, [], ◌∷◌, map, Some, slice_get, Box, Vec, Global, arith, sub-one, sym, ap, ◌∙◌}
+use Rattle.std.proofs.Common.{◌≡◌, ℕ, zero, suc, ◌+◌, ◌-◌, ◌*◌, ◌<◌, ◌≤◌, max, List, [], ◌∷◌, Some, slice_get, Box, Vec, Global, arith, sub-one, sym, ap, ◌∙◌}
 use Rattle.bitcode_untyped.specs.declared.shape.ShapeNode.{ShapeNode}
 use Rattle.bitcode_untyped.specs.declared.shape.ShapeNode.TheOpen.{ShapeNode-F}
 use Rattle.bitcode_untyped.specs.declared.shape.ShapeNode.TheFolds.{fold-roll-ShapeNode}

@@ -1,5 +1,5 @@
 -- Reading the fields of a tuple, one after another.
-use Rattle.std.proofs.Common.{◌≡◌, ◌≢◌, ℕ, zero, suc, ◌+◌, ◌≤◌, List, [], ◌∷◌, ◌++◌, length, map, drop, Some, None, slice_get, refl, sym, ap, subst, add-one, arith}
+use Rattle.std.proofs.Common.{◌≡◌, ◌≢◌, ℕ, zero, suc, ◌+◌, List, [], ◌∷◌, ◌++◌, length, map, drop, Some, None, slice_get, refl, sym, ap, subst, add-one}
 use Rattle.bitcode_input.specs.declared.error.Reason.{Reason}
 use Rattle.bitcode_shapes.specs.Datum.{Datum, tuple, data_of}
 use Rattle.bitcode_untyped.specs.Machine.{State}
@@ -74,11 +74,11 @@ module _ (f : ShapeNode → ShapeTree) where
       field_refused why h = (
         h.0,
         λ other p at a st.
-          let g = so_far p at a st in
-          let none = h.1 other (field_at (length ns) p i) (found p (c.kept place p at)) g.0 (stands g.0 g.1) in
-          let s = subst (λ left. FieldsSoFar (field_place trees p) trees a done left i g.0) (trees_next ns i n there) g.2 in
-          tuple_stuck trees p a (s.stuck (fields_stuck_first (field_place trees p) (f n) (trees_of (map f (drop (i + 1) ns))) i g.0
-          (subst (λ q. ReadsNoDatum (f n) q g.0) (sym (field_of ns p i)) none))),
+            let g = so_far p at a st in
+            let none = h.1 other (field_at (length ns) p i) (found p (c.kept place p at)) g.0 (stands g.0 g.1) in
+            let s = subst (λ left. FieldsSoFar (field_place trees p) trees a done left i g.0) (trees_next ns i n there) g.2 in
+            tuple_stuck trees p a (s.stuck (fields_stuck_first (field_place trees p) (f n) (trees_of (map f (drop (i + 1) ns))) i g.0
+            (subst (λ q. ReadsNoDatum (f n) q g.0) (sym (field_of ns p i)) none))),
       )
 
     pub tuple_done : (mid : Reader) (i : ℕ) (done : List Datum) → i ≡ length ns → FieldsAt i done mid → ReadsAt (tuple_tree trees) place old (tuple (data_of done)) mid

@@ -1,5 +1,5 @@
 -- A place below another.
-use Rattle.std.proofs.Common.{◌≡◌, ◌≢◌, ℕ, zero, suc, ◌+◌, ◌-◌, ◌<◌, ◌≤◌, List, [], ◌∷◌, ◌++◌, length, map, get_or, All, refl, ap, sym, subst, ◌∙◌, ◌⊎◌, inl, inr, Some, None, slice_get, arith, length-append, add-one, zero-add}
+use Rattle.std.proofs.Common.{◌≡◌, ℕ, zero, suc, ◌+◌, ◌<◌, ◌≤◌, List, [], ◌∷◌, ◌++◌, length, map, get_or, All, refl, ap, sym, subst, ◌∙◌, ◌⊎◌, inl, inr, Some, slice_get, arith, length-append}
 use Rattle.std.specs.Prelude.{IsSomeAnd}
 use Rattle.std.proofs.lemmas.List.{map-append, length-map}
 use Rattle.std.proofs.Math.ListN.{get_or-append}
@@ -7,13 +7,13 @@ use Rattle.std.proofs.Math.Seq.{get_or-append_seam}
 use Rattle.std.proofs.lemmas.Option.{get_or_from_slice_get}
 use Rattle.bitcode_untyped.specs.Machine.{Opened, State, whole}
 use Rattle.bitcode_untyped.specs.PlacedColumns.{PlacedColumn}
-use Rattle.bitcode_untyped.specs.Walk.{Step, Place}
-use Rattle.bitcode_serde.specs.Reading.{places_from, places, place_at, counts, step_of, IsStep, IsPlace, IsRooted, AreApart, Backs, Back, Hosts, HostAll, Stands}
+use Rattle.bitcode_untyped.specs.Walk.{Place}
+use Rattle.bitcode_serde.specs.Reading.{places_from, places, place_at, counts, step_of, IsStep, IsPlace, IsRooted, AreApart, Back, Hosts, HostAll, Stands}
 use Rattle.bitcode_serde.specs.declared.reader.Step.{Step as CodeStep}
 use Rattle.bitcode_serde.specs.declared.reader.Below.{Below}
 use Rattle.bitcode_serde.specs.declared.reader.OpenColumn.{OpenColumn}
 use Rattle.bitcode_serde.specs.declared.reader.Reader.{Reader}
-use Rattle.bitcode_serde.proofs.ReadingLemmas.{places_from-length, inside_places}
+use Rattle.bitcode_serde.proofs.ReadingLemmas.{places_from-length}
 
 -- ---- lists
 

@@ -8,7 +8,7 @@ use Rattle.bitcode_coder.specs.Coding.{IsReadingReason}
 use Rattle.bitcode_coder.specs.Columns.{Kind, IsEntryOf}
 use Rattle.bitcode_coder.specs.Spelling.{natural}
 use Rattle.bitcode_untyped.specs.Machine.{State, Takes, whole, is_open, entries_of}
-use Rattle.bitcode_untyped.specs.Reads.{ReadsDatum, ReadsNoDatum, IsReadable, ReadsMany, IsReadablePair, pair_walk, ReadsPairs}
+use Rattle.bitcode_untyped.specs.Reads.{ReadsDatum, ReadsNoDatum, IsReadable, IsReadablePair, pair_walk, ReadsPairs}
 use Rattle.bitcode_untyped.specs.Bounds.{column_free, free_limit}
 use Rattle.bitcode_untyped.specs.Population.{total, count_of}
 use Rattle.bitcode_untyped.specs.ShapeTree.{ShapeTree, ShapeTrees, no_trees, tree_and, unit_tree, never_tree, leaf_tree, seq_tree, map_tree, choice_tree, tree_at, greatest_index}
@@ -121,8 +121,8 @@ pub list_stuck : (s : ShapeTree) (place : ℕ) (old mid : Reader) (i n : ℕ) (d
 list_stuck s place old mid i n ds why c many lt h = (
   h.0,
   λ other p at a st.
-    let r = many p at a st in
-    many_stuck (IsReadable s) (walk s p) (one_datum_read s p) a r.0 i n ds r.2 (h.1 other p (c.kept place p at) r.0 r.1) lt,
+      let r = many p at a st in
+      many_stuck (IsReadable s) (walk s p) (one_datum_read s p) a r.0 i n ds r.2 (h.1 other p (c.kept place p at) r.0 r.1) lt,
 )
 
 -- ---- steps
@@ -166,11 +166,11 @@ pub enters : (way : CodeStep) (kind : Kind) (d : Datum) (Told : List Datum → T
 enters way kind d Told old mid new place inside count hosts leads below there stands = record {
   at = λ p at. below_it mid new place inside p way (same_places old mid place p below at) there;
   goes = λ p at a s.
-    let t = told_at old mid place kind d Told leads p at a s in (
-      t.0,
-      stepped mid new place p way count t.0 (same_places old mid place p below at) stands t.1 (hosts (map whole t.0.opened) p t.2.open_at t.2.told),
-      (t.2.takes, t.2.entry),
-    );
+      let t = told_at old mid place kind d Told leads p at a s in (
+        t.0,
+        stepped mid new place p way count t.0 (same_places old mid place p below at) stands t.1 (hosts (map whole t.0.opened) p t.2.open_at t.2.told),
+        (t.2.takes, t.2.entry),
+      );
 }
 
 pub enters_list : (old mid new : Reader) (place inside n count : ℕ)
@@ -270,10 +270,10 @@ enters_map old mid between new place keys values n count leads below there_key k
   keys_at = λ p at. kept_value keys (key ∷ p) (below_it mid between place keys p step.Key (same_places old mid place p below at) there_key);
   values_at = λ p at. below_it between new place values p step.Value (kept_key place p (same_places old mid place p below at)) there_value;
   goes = λ p at a s.
-    let t = told_at old mid place length_kind (natural n) (λ entries. count ≡ total entries) leads p at a s in
-    let m = same_places old mid place p below at in
-    let k = stepped mid between place p step.Key count t.0 m stands_key t.1 (t.2.open_at, sym t.2.told) in
-    (t.0, stepped between new place p step.Value count t.0 (kept_key place p m) stands_value k (t.2.open_at, sym t.2.told), t.2.takes);
+      let t = told_at old mid place length_kind (natural n) (λ entries. count ≡ total entries) leads p at a s in
+      let m = same_places old mid place p below at in
+      let k = stepped mid between place p step.Key count t.0 m stands_key t.1 (t.2.open_at, sym t.2.told) in
+      (t.0, stepped between new place p step.Value count t.0 (kept_key place p m) stands_value k (t.2.open_at, sym t.2.told), t.2.takes);
 }
 
 -- so many pairs of a map at a place, one after another
@@ -325,7 +325,7 @@ map_read_at k v old mid new place keys values n ds enters few each p at a st =
 
 pub map_stuck_at : (k v : ShapeTree) (old mid : Reader) (place keys values n : ℕ) → EntersMap old mid place keys values n
     → ((p : Place) → IsPlace mid.below.items keys (key ∷ p) → IsPlace mid.below.items values (value ∷ p) → (a : State) → Stands mid a
-      → (es : List Datum) (b : State) → ReadsPairs k v p a n es b → ⊥)
+    → (es : List Datum) (b : State) → ReadsPairs k v p a n es b → ⊥)
     → HasNone old place (ReadsNoDatum (map_tree k v))
 map_stuck_at k v old mid place keys values n enters none p at a st =
     let g = enters.goes p at a st in

@@ -1,5 +1,5 @@
 -- What is read of a value, from one reader to the next.
-use Rattle.std.specs.Prelude.{◌≡◌, ◌≢◌, ℕ, zero, suc, List, ◌∷◌}
+use Rattle.std.specs.Prelude.{◌≢◌, ℕ, zero, suc, List, ◌∷◌}
 use Rattle.bitcode_input.specs.declared.error.Reason.{Reason}
 use Rattle.bitcode_input.specs.declared.error.Reason.TheVariants.{OutOfMemory, InvalidOption, InvalidChar, TooManyZeroSizedTypes, NestedTooDeep}
 use Rattle.bitcode_shapes.specs.Datum.{Datum}

@@ -37,7 +37,14 @@ pub fn deserialize(alloc: Global, shape: &Shape, bytes: &[u8]) -> Result<Value, 
 {
     let table = shape.table();
     let mut reader = Reader::new(alloc, bytes);
-    let value = read(alloc, &mut reader, table, &table[shape.root()], REF_LIMIT, 0)?;
+    let value = read(
+        alloc,
+        &mut reader,
+        table,
+        &table[shape.root()],
+        REF_LIMIT,
+        0,
+    )?;
     if !reader.is_at_end() {
         return err(Reason::ExpectedEof);
     }

@@ -7,6 +7,6 @@ pub mod free;
 pub mod leaf;
 pub mod reader;
 pub mod serde;
-pub mod values;
 #[cfg(test)]
 mod tests;
+pub mod values;

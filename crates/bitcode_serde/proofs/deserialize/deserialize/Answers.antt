@@ -50,7 +50,7 @@ returns-then-not-is_at_end-clause-refused c =
     passed_on (λ e. IsValueReason e.reason × (e.reason ≢ OutOfMemory → (d : Datum) → SpellsDatum (tree_of c.args.shape.now) c.args.bytes.now d → ⊥)) c.err.result _ _ c.err.ensures refl (
       tt,
       λ other. rw is (more_behind (tree_of_node 128 c.table-table.result.now c.index-table-root.result) c.args.bytes.now (datum_of c.in_ok-value.value) c.new-reader.result c.read.new.reader
-      c.new-reader.ensures.stands c.in_ok-value.ensures.read c.if-not-is_at_end.ensures),
+          c.new-reader.ensures.stands c.in_ok-value.ensures.read c.if-not-is_at_end.ensures),
     )
 
 pub returns-clause-read : goal.returns-clause-read

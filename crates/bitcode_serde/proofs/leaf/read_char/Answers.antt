@@ -24,6 +24,6 @@ returns-in-None-clause-refused c =
     passed_on (λ e. IsRefusalAt char_tree c.args.place c.args.reader.now e.reason) c.err.result _ _ c.err.ensures refl (
       tt,
       λ other p at a s.
-        let l = led_at c.args.reader.now c.take_code.new.self c.args.place (ints 4 false) (natural code) c.in_ok-code.ensures.leads p at a s in
-        leaf_refused (ints 4 false) scalar p a (natural code) l.0 l.2.0 c.in-None.ensures.value,
+          let l = led_at c.args.reader.now c.take_code.new.self c.args.place (ints 4 false) (natural code) c.in_ok-code.ensures.leads p at a s in
+          leaf_refused (ints 4 false) scalar p a (natural code) l.0 l.2.0 c.in-None.ensures.value,
     )

@@ -9,7 +9,7 @@ use Rattle.bitcode_untyped.specs.Reads.{ReadsNoDatum}
 use Rattle.bitcode_untyped.specs.ShapeTree.{natural_tree}
 use Rattle.bitcode_untyped.specs.Walk.{index_kind}
 use Rattle.bitcode_untyped.proofs.ReadLemmas.{leaf_stuck}
-use Rattle.bitcode_serde.specs.ReadingValues.{Continues, ReadsListAt, IsListRefusalAt}
+use Rattle.bitcode_serde.specs.ReadingValues.{ReadsListAt, IsListRefusalAt}
 use Rattle.bitcode_serde.proofs.ColumnLemmas.{passed_on}
 use Rattle.bitcode_serde.proofs.ValueLemmas.{refused_entry, still_there, leaf_told, one_more, list_stuck, continues_here, continues_on}
 use Rattle.bitcode_serde.proofs.leaf.read_each_byte.Goals as goal
@@ -33,7 +33,7 @@ loop-i-preserved c =
     let read = leaf_told c.loop-i.reader now c.args.place index_kind (natural byte.index) (λ entries. byte.count ≡ count_of byte.index entries) c.in_ok-byte.ensures.leads in (
       continues_on _ c.loop-i.reader now c.loop-i.invariant.0 one,
       rw (c.in_ok-push.ensures.items, map-append)
-      (one_more (natural_tree 1) c.args.place c.args.reader.now c.loop-i.reader now c.loop-i._i _ (natural byte.index) c.loop-i.invariant.0 c.loop-i.invariant.1 read),
+          (one_more (natural_tree 1) c.args.place c.args.reader.now c.loop-i.reader now c.loop-i._i _ (natural byte.index) c.loop-i.invariant.0 c.loop-i.invariant.1 read),
     )
 
 pub returns-clause-read : goal.returns-clause-read

@@ -1,5 +1,5 @@
 -- By the node, and by what was taken.
-use Rattle.std.proofs.Common.{rules, arith, ◌≡◌, ◌<◌, ◌≤◌, ◌-◌, length, map, refl, ap, sym, subst, true}
+use Rattle.std.proofs.Common.{rules, arith, ◌≡◌, ◌<◌, ◌-◌, length, map, refl, ap, subst}
 use Rattle.std.proofs.lemmas.List.{map-append}
 use Rattle.std.proofs.lemmas.Result.{err_from_is_err_and}
 use Rattle.bitcode_shapes.specs.Datum.{unit, choice, pair}
@@ -15,10 +15,10 @@ use Rattle.bitcode_coder.specs.Spelling.{natural}
 use Rattle.bitcode_serde.specs.Reading.{places, place_at}
 use Rattle.bitcode_serde.specs.ReadingValues.{ReadsAt, ReadsListAt, IsRefusalAt, IsListRefusalAt}
 use Rattle.bitcode_serde.proofs.ColumnLemmas.{passed_on}
-use Rattle.bitcode_serde.proofs.DepthLemmas.{depth-Option, depth-Seq, depth-Map, depth-Tuple, depth-Enum, entry_deep, reference_falls}
+use Rattle.bitcode_serde.proofs.DepthLemmas.{entry_deep, reference_falls}
 use Rattle.bitcode_serde.proofs.EntryLemmas.{found_entry, no_entry}
 use Rattle.bitcode_serde.proofs.FieldLemmas.{tree_at_entry, tree_at_none, no_fields, one_more_field, field_refused, tuple_done}
-use Rattle.bitcode_serde.proofs.ValueLemmas.{refused_entry, still_there, continues_on, continues_stepped, one_more, list_stuck, enters_list, enters_choice, enters_map, seq_read_at, seq_refused, choice_read_at, choice_refused, choice_of_unit, no_choice, no_third, told_at, ReadsPairsAt, no_pairs, one_more_pair, key_stuck, value_stuck, map_read_at, map_stuck_at}
+use Rattle.bitcode_serde.proofs.ValueLemmas.{refused_entry, still_there, continues_on, continues_stepped, one_more, list_stuck, enters_list, enters_choice, enters_map, seq_read_at, seq_refused, choice_read_at, choice_refused, choice_of_unit, no_choice, no_third, told_at, ReadsPairsAt, one_more_pair, key_stuck, value_stuck, map_read_at, map_stuck_at}
 use Rattle.bitcode_serde.proofs.values.+read.Goals as goal
 
 pub read-returns-in-Bool-clause-read : goal.read-returns-in-Bool-clause-read
@@ -136,32 +136,32 @@ pub read-returns-in-Enum-clause-refused : goal.read-returns-in-Enum-clause-refus
 read-returns-in-Enum-clause-refused t c = rw (c.in-Enum.is, tree-Enum (followed c.args.left c.args.table.now) c.in-Enum.nodes, ← c.deref-in-Enum.ensures.value) c.read_enum.ensures.refused
 
 pub read-read-requires : goal.read-read-requires
-read-read-requires t c = 
+read-read-requires t c =
     let h : 0 < c.args.left = omega arith in
     let d = reference_falls c.args.left c.args.table.now c.in-Ref.i 0 c.in-Some.entry.now (found_entry c.args.table.now c.in-Ref.i c.in-Some.entry.now c.in-Some.ensures.lookup.3.0 (c.in-Some.ensures.lookup.3.1 c.in-Some.entry.now)) h in
     search (rules, d)
 
 pub read-returns-then-left-eq0-clause-refused : goal.read-returns-then-left-eq0-clause-refused
-read-returns-then-left-eq0-clause-refused t c = 
+read-returns-then-left-eq0-clause-refused t c =
     passed_on (λ e. IsRefusalAt (tree_of_node c.args.left c.args.table.now c.args.node.now) c.args.place c.args.reader.now e.reason) c.err.result _ _ c.err.ensures refl
     (tt, λ other. rw (c.in-Ref.is, tree-Ref, c.if-left-eq0.true, followed-zero) (λ p at a st. never_read p a))
 
 pub read-returns-in-Some-clause-read : goal.read-returns-in-Some-clause-read
-read-returns-in-Some-clause-read t c = 
+read-returns-in-Some-clause-read t c =
     let left : 0 < c.args.left = omega arith in
     let e = followed_one c.args.left c.args.table.now c.in-Ref.i left in
     let f = entry_there (followed (c.args.left - 1) c.args.table.now) c.args.table.now c.in-Ref.i c.in-Some.entry.now (found_entry c.args.table.now c.in-Ref.i c.in-Some.entry.now c.in-Some.ensures.lookup.3.0 (c.in-Some.ensures.lookup.3.1 c.in-Some.entry.now)) in
     rw (c.in-Ref.is, tree-Ref, e, f) c.read.ensures.read
 
 pub read-returns-in-Some-clause-refused : goal.read-returns-in-Some-clause-refused
-read-returns-in-Some-clause-refused t c = 
+read-returns-in-Some-clause-refused t c =
     let left : 0 < c.args.left = omega arith in
     let e = followed_one c.args.left c.args.table.now c.in-Ref.i left in
     let f = entry_there (followed (c.args.left - 1) c.args.table.now) c.args.table.now c.in-Ref.i c.in-Some.entry.now (found_entry c.args.table.now c.in-Ref.i c.in-Some.entry.now c.in-Some.ensures.lookup.3.0 (c.in-Some.ensures.lookup.3.1 c.in-Some.entry.now)) in
     rw (c.in-Ref.is, tree-Ref, e, f) c.read.ensures.refused
 
 pub read-returns-in-None-clause-refused : goal.read-returns-in-None-clause-refused
-read-returns-in-None-clause-refused t c = 
+read-returns-in-None-clause-refused t c =
     let left : 0 < c.args.left = omega arith in
     let e = followed_one c.args.left c.args.table.now c.in-Ref.i left in
     let f = entry_away (followed (c.args.left - 1) c.args.table.now) c.args.table.now c.in-Ref.i (no_entry c.args.table.now c.in-Ref.i c.in-None.ensures.lookup.3) in
@@ -169,39 +169,38 @@ read-returns-in-None-clause-refused t c =
     (tt, λ other. rw (c.in-Ref.is, tree-Ref, e, f) (λ p at a st. never_read p a))
 
 pub read_elements-read-requires : goal.read_elements-read-requires
-read_elements-read-requires t c = 
+read_elements-read-requires t c =
     let h = still_there _ c.loop-i.reader c.args.place c.loop-i.invariant.0 c.requires.place in
     let s = c.loop-i.invariant.0.steady in
     search (rules, h, s)
 
 pub read_elements-returns-in_err-value-clause-refused : goal.read_elements-returns-in_err-value-clause-refused
-read_elements-returns-in_err-value-clause-refused t c = 
+read_elements-returns-in_err-value-clause-refused t c =
     let y = err_from_is_err_and c.from_residual.result c.from_residual.ensures.1 in
     let lt : c.loop-i._i < c.args.count = omega arith in
     passed_on (λ e. IsListRefusalAt (tree_of_node c.args.left c.args.table.now c.args.node.now) c.args.place c.args.reader.now c.args.count e.reason) c.from_residual.result c.in_err-value.field-0.0 y.0 y.1 y.2
     (list_stuck (tree_of_node c.args.left c.args.table.now c.args.node.now) c.args.place c.args.reader.now c.loop-i.reader c.loop-i._i c.args.count _ _ c.loop-i.invariant.0 c.loop-i.invariant.1 lt c.in_err-value.ensures.refused)
 
 pub read_elements-loop-i-preserved : goal.read_elements-loop-i-preserved
-read_elements-loop-i-preserved t c = 
-    (
-      continues_on c.args.reader.now c.loop-i.reader c.read.new.reader c.loop-i.invariant.0 c.in_ok-value.ensures.continues,
-      rw (c.in_ok-push.ensures.items, map-append)
+read_elements-loop-i-preserved t c = (
+  continues_on c.args.reader.now c.loop-i.reader c.read.new.reader c.loop-i.invariant.0 c.in_ok-value.ensures.continues,
+  rw (c.in_ok-push.ensures.items, map-append)
       (one_more (tree_of_node c.args.left c.args.table.now c.args.node.now) c.args.place c.args.reader.now c.loop-i.reader c.read.new.reader c.loop-i._i _ (datum_of c.in_ok-value.value) c.loop-i.invariant.0 c.loop-i.invariant.1 c.in_ok-value.ensures.read),
-    )
+)
 
 pub read_elements-returns-clause-read : goal.read_elements-returns-clause-read
-read_elements-returns-clause-read t c = 
+read_elements-returns-clause-read t c =
     let e : c.loop-i._i ≡ c.args.count = omega arith in
     subst (λ n. ReadsListAt (tree_of_node c.args.left c.args.table.now c.args.node.now) c.args.place c.args.reader.now n (map datum_of c.loop-i.values.items) c.loop-i.reader) e c.loop-i.invariant.1
 
 pub read_seq-returns-in_err-taken-clause-refused : goal.read_seq-returns-in_err-taken-clause-refused
-read_seq-returns-in_err-taken-clause-refused t c = 
+read_seq-returns-in_err-taken-clause-refused t c =
     let y = err_from_is_err_and c.from_residual.result c.from_residual.ensures.1 in
     passed_on (λ e. IsRefusalAt (seq_tree (tree_of_node c.args.left c.args.table.now c.args.node.now)) c.args.place c.args.reader.now e.reason) c.from_residual.result c.in_err-taken.field-0.0 y.0 y.1 y.2
     (refused_entry c.args.reader.now c.args.place length_kind (ReadsNoDatum (seq_tree (tree_of_node c.args.left c.args.table.now c.args.node.now))) _ (λ p a stuck. seq_stuck_length (tree_of_node c.args.left c.args.table.now c.args.node.now) p a stuck) c.in_err-taken.ensures.refused)
 
 pub read_seq-returns-in_err-values-clause-refused : goal.read_seq-returns-in_err-values-clause-refused
-read_seq-returns-in_err-values-clause-refused t c = 
+read_seq-returns-in_err-values-clause-refused t c =
     let y = err_from_is_err_and c.from_residual-in_err-values.result c.from_residual-in_err-values.ensures.1 in
     let enters = enters_list c.args.reader.now c.take_length.new.self c.step.new.self c.args.place c.in_ok-elements.elements c.in_ok-taken.taken.length c.in_ok-taken.taken.total
     c.in_ok-taken.ensures.leads c.take_length.ensures.below c.in_ok-elements.ensures.found c.in_ok-elements.ensures.stands in
@@ -209,13 +208,13 @@ read_seq-returns-in_err-values-clause-refused t c =
     (seq_refused (tree_of_node c.args.left c.args.table.now c.args.node.now) c.args.reader.now c.step.new.self c.args.place c.in_ok-elements.elements c.in_ok-taken.taken.length _ enters c.in_err-values.ensures.refused)
 
 pub read_seq-returns-clause-continues : goal.read_seq-returns-clause-continues
-read_seq-returns-clause-continues t c = 
+read_seq-returns-clause-continues t c =
     continues_on c.args.reader.now c.step.new.self _
     (continues_stepped c.args.reader.now c.take_length.new.self c.step.new.self c.take_length.ensures.below c.in_ok-taken.ensures.sized c.step.ensures.columns c.in_ok-elements.ensures.rooted c.in_ok-elements.ensures.kept)
     c.in_ok-values.ensures.continues
 
 pub read_seq-returns-clause-read : goal.read_seq-returns-clause-read
-read_seq-returns-clause-read t c = 
+read_seq-returns-clause-read t c =
     let enters = enters_list c.args.reader.now c.take_length.new.self c.step.new.self c.args.place c.in_ok-elements.elements c.in_ok-taken.taken.length c.in_ok-taken.taken.total
     c.in_ok-taken.ensures.leads c.take_length.ensures.below c.in_ok-elements.ensures.found c.in_ok-elements.ensures.stands in
     rw (datum-Seq c.in_ok-values.values)
@@ -223,13 +222,13 @@ read_seq-returns-clause-read t c =
     c.if-is_over_limit.ensures c.in_ok-values.ensures.read)
 
 pub read_option-returns-in_err-taken-clause-refused : goal.read_option-returns-in_err-taken-clause-refused
-read_option-returns-in_err-taken-clause-refused t c = 
+read_option-returns-in_err-taken-clause-refused t c =
     let y = err_from_is_err_and c.from_residual.result c.from_residual.ensures.1 in
     passed_on (λ e. IsRefusalAt (choice_tree (tree_and unit_tree (tree_and (tree_of_node c.args.left c.args.table.now c.args.node.now) no_trees))) c.args.place c.args.reader.now e.reason) c.from_residual.result c.in_err-taken.field-0.0 y.0 y.1 y.2
     (refused_entry c.args.reader.now c.args.place index_kind (ReadsNoDatum (choice_tree (tree_and unit_tree (tree_and (tree_of_node c.args.left c.args.table.now c.args.node.now) no_trees)))) _ (λ p a stuck. choice_stuck_index (tree_and unit_tree (tree_and (tree_of_node c.args.left c.args.table.now c.args.node.now) no_trees)) p a stuck) c.in_err-taken.ensures.refused)
 
 pub read_option-returns-then-taken-eq0-clause-read : goal.read_option-returns-then-taken-eq0-clause-read
-read_option-returns-then-taken-eq0-clause-read t c = 
+read_option-returns-then-taken-eq0-clause-read t c =
     let i = c.in_ok-taken.taken.index in
     let is : i ≡ 0 = omega arith in
     rw datum-None
@@ -237,7 +236,7 @@ read_option-returns-then-taken-eq0-clause-read t c =
     (choice_of_unit (tree_and unit_tree (tree_and (tree_of_node c.args.left c.args.table.now c.args.node.now) no_trees)) i c.args.reader.now c.take_index.new.self c.args.place (λ entries. c.in_ok-taken.taken.count ≡ count_of i entries) (ap (tree_at (tree_and unit_tree (tree_and (tree_of_node c.args.left c.args.table.now c.args.node.now) no_trees))) is) c.in_ok-taken.ensures.leads))
 
 pub read_option-returns-then-taken-gt1-clause-refused : goal.read_option-returns-then-taken-gt1-clause-refused
-read_option-returns-then-taken-gt1-clause-refused t c = 
+read_option-returns-then-taken-gt1-clause-refused t c =
     let i = c.in_ok-taken.taken.index in
     passed_on (λ e. IsRefusalAt (choice_tree (tree_and unit_tree (tree_and (tree_of_node c.args.left c.args.table.now c.args.node.now) no_trees))) c.args.place c.args.reader.now e.reason) c.err.result _ _ c.err.ensures refl (
       tt,
@@ -246,7 +245,7 @@ read_option-returns-then-taken-gt1-clause-refused t c =
     )
 
 pub read_option-returns-in_err-value-clause-refused : goal.read_option-returns-in_err-value-clause-refused
-read_option-returns-in_err-value-clause-refused t c = 
+read_option-returns-in_err-value-clause-refused t c =
     let y = err_from_is_err_and c.from_residual-in_err-value.result c.from_residual-in_err-value.ensures.1 in
     let i = c.in_ok-taken.taken.index in
     let enters = enters_choice c.args.reader.now c.take_index.new.self c.step.new.self c.args.place c.in_ok-inside.inside i c.in_ok-taken.taken.count
@@ -256,13 +255,13 @@ read_option-returns-in_err-value-clause-refused t c =
     (choice_refused (tree_and unit_tree (tree_and (tree_of_node c.args.left c.args.table.now c.args.node.now) no_trees)) i c.args.reader.now c.step.new.self c.args.place c.in_ok-inside.inside _ enters (rw (ap (tree_at (tree_and unit_tree (tree_and (tree_of_node c.args.left c.args.table.now c.args.node.now) no_trees))) one) c.in_err-value.ensures.refused))
 
 pub read_option-returns-clause-continues : goal.read_option-returns-clause-continues
-read_option-returns-clause-continues t c = 
+read_option-returns-clause-continues t c =
     continues_on c.args.reader.now c.step.new.self _
     (continues_stepped c.args.reader.now c.take_index.new.self c.step.new.self c.take_index.ensures.below c.in_ok-taken.ensures.sized c.step.ensures.columns c.in_ok-inside.ensures.rooted c.in_ok-inside.ensures.kept)
     c.in_ok-value.ensures.continues
 
 pub read_option-returns-clause-read : goal.read_option-returns-clause-read
-read_option-returns-clause-read t c = 
+read_option-returns-clause-read t c =
     let i = c.in_ok-taken.taken.index in
     let enters = enters_choice c.args.reader.now c.take_index.new.self c.step.new.self c.args.place c.in_ok-inside.inside i c.in_ok-taken.taken.count
     c.in_ok-taken.ensures.leads c.take_index.ensures.below c.in_ok-inside.ensures.found c.in_ok-inside.ensures.stands in
@@ -271,20 +270,20 @@ read_option-returns-clause-read t c =
     rw (datum-Some c.in_ok-new.field-0, c.in_ok-new.ensures.ok) (subst (λ k. ReadsAt (choice_tree (tree_and unit_tree (tree_and (tree_of_node c.args.left c.args.table.now c.args.node.now) no_trees))) c.args.place c.args.reader.now (choice k (datum_of c.in_ok-value.value)) c.read.new.reader) one read)
 
 pub read_enum-returns-in_err-taken-clause-refused : goal.read_enum-returns-in_err-taken-clause-refused
-read_enum-returns-in_err-taken-clause-refused t c = 
+read_enum-returns-in_err-taken-clause-refused t c =
     let y = err_from_is_err_and c.from_residual.result c.from_residual.ensures.1 in
     passed_on (λ e. IsRefusalAt (choice_tree (trees_of (map (tree_of_node c.args.left c.args.table.now) c.args.nodes.now))) c.args.place c.args.reader.now e.reason) c.from_residual.result c.in_err-taken.field-0.0 y.0 y.1 y.2
     (refused_entry c.args.reader.now c.args.place index_kind (ReadsNoDatum (choice_tree (trees_of (map (tree_of_node c.args.left c.args.table.now) c.args.nodes.now)))) _ (λ p a stuck. choice_stuck_index (trees_of (map (tree_of_node c.args.left c.args.table.now) c.args.nodes.now)) p a stuck) c.in_err-taken.ensures.refused)
 
 pub read_enum-read-requires : goal.read_enum-read-requires
-read_enum-read-requires t c = 
+read_enum-read-requires t c =
     let d = entry_deep c.args.nodes.now c.in_ok-taken.taken.index c.in-Some.node.now (found_entry c.args.nodes.now c.in_ok-taken.taken.index c.in-Some.node.now c.in-Some.ensures.lookup.3.0 (c.in-Some.ensures.lookup.3.1 c.in-Some.node.now)) in
     let h = c.in_ok-inside-in-Some.ensures.found.0 in
     let s = (continues_stepped c.args.reader.now c.take_index.new.self c.step.new.self c.take_index.ensures.below c.in_ok-taken.ensures.sized c.step.ensures.columns c.in_ok-inside-in-Some.ensures.rooted c.in_ok-inside-in-Some.ensures.kept).steady in
     search (rules, d, h, s)
 
 pub read_enum-returns-in_err-value-in-Some-clause-refused : goal.read_enum-returns-in_err-value-in-Some-clause-refused
-read_enum-returns-in_err-value-in-Some-clause-refused t c = 
+read_enum-returns-in_err-value-in-Some-clause-refused t c =
     let y = err_from_is_err_and c.from_residual-in_err-value-in-Some.result c.from_residual-in_err-value-in-Some.ensures.1 in
     let i = c.in_ok-taken.taken.index in
     let enters = enters_choice c.args.reader.now c.take_index.new.self c.step.new.self c.args.place c.in_ok-inside-in-Some.inside i c.in_ok-taken.taken.count
@@ -294,13 +293,13 @@ read_enum-returns-in_err-value-in-Some-clause-refused t c =
     (choice_refused (trees_of (map (tree_of_node c.args.left c.args.table.now) c.args.nodes.now)) i c.args.reader.now c.step.new.self c.args.place c.in_ok-inside-in-Some.inside _ enters (rw is c.in_err-value-in-Some.ensures.refused))
 
 pub read_enum-returns-in_ok-new-in-Some-clause-continues : goal.read_enum-returns-in_ok-new-in-Some-clause-continues
-read_enum-returns-in_ok-new-in-Some-clause-continues t c = 
+read_enum-returns-in_ok-new-in-Some-clause-continues t c =
     continues_on c.args.reader.now c.step.new.self _
     (continues_stepped c.args.reader.now c.take_index.new.self c.step.new.self c.take_index.ensures.below c.in_ok-taken.ensures.sized c.step.ensures.columns c.in_ok-inside-in-Some.ensures.rooted c.in_ok-inside-in-Some.ensures.kept)
     c.in_ok-value-in-Some.ensures.continues
 
 pub read_enum-returns-in_ok-new-in-Some-clause-read : goal.read_enum-returns-in_ok-new-in-Some-clause-read
-read_enum-returns-in_ok-new-in-Some-clause-read t c = 
+read_enum-returns-in_ok-new-in-Some-clause-read t c =
     let i = c.in_ok-taken.taken.index in
     let enters = enters_choice c.args.reader.now c.take_index.new.self c.step.new.self c.args.place c.in_ok-inside-in-Some.inside i c.in_ok-taken.taken.count
     c.in_ok-taken.ensures.leads c.take_index.ensures.below c.in_ok-inside-in-Some.ensures.found c.in_ok-inside-in-Some.ensures.stands in
@@ -309,7 +308,7 @@ read_enum-returns-in_ok-new-in-Some-clause-read t c =
     (choice_read_at (trees_of (map (tree_of_node c.args.left c.args.table.now) c.args.nodes.now)) i (datum_of c.in_ok-value-in-Some.value) c.args.reader.now c.step.new.self _ c.args.place c.in_ok-inside-in-Some.inside enters (rw is c.in_ok-value-in-Some.ensures.read))
 
 pub read_enum-returns-in-None-clause-refused : goal.read_enum-returns-in-None-clause-refused
-read_enum-returns-in-None-clause-refused t c = 
+read_enum-returns-in-None-clause-refused t c =
     let i = c.in_ok-taken.taken.index in
     passed_on (λ e. IsRefusalAt (choice_tree (trees_of (map (tree_of_node c.args.left c.args.table.now) c.args.nodes.now))) c.args.place c.args.reader.now e.reason) c.err.result _ _ c.err.ensures refl (
       tt,
@@ -318,7 +317,7 @@ read_enum-returns-in-None-clause-refused t c =
     )
 
 pub read_map-returns-in_err-taken-clause-refused : goal.read_map-returns-in_err-taken-clause-refused
-read_map-returns-in_err-taken-clause-refused t c = 
+read_map-returns-in_err-taken-clause-refused t c =
     let y = err_from_is_err_and c.from_residual.result c.from_residual.ensures.1 in
     passed_on (λ e. IsRefusalAt (map_tree (tree_of_node c.args.left c.args.table.now c.args.key.now) (tree_of_node c.args.left c.args.table.now c.args.value.now)) c.args.place c.args.reader.now e.reason) c.from_residual.result c.in_err-taken.field-0.0 y.0 y.1 y.2
     (refused_entry c.args.reader.now c.args.place length_kind (ReadsNoDatum (map_tree (tree_of_node c.args.left c.args.table.now c.args.key.now) (tree_of_node c.args.left c.args.table.now c.args.value.now))) _ (λ p a stuck. map_stuck_length (tree_of_node c.args.left c.args.table.now c.args.key.now) (tree_of_node c.args.left c.args.table.now c.args.value.now) p a stuck) c.in_err-taken.ensures.refused)
@@ -334,7 +333,7 @@ read_map-read-requires t c =
     search (rules, h, s)
 
 pub read_map-returns-in_err-first-clause-refused : goal.read_map-returns-in_err-first-clause-refused
-read_map-returns-in_err-first-clause-refused t c = 
+read_map-returns-in_err-first-clause-refused t c =
     let y = err_from_is_err_and c.from_residual-in_err-first.result c.from_residual-in_err-first.ensures.1 in
     let enters = enters_map c.args.reader.now c.take_length.new.self c.step.new.self c.step-2.new.self c.args.place c.in_ok-keys.keys c.in_ok-values.values c.in_ok-taken.taken.length c.in_ok-taken.taken.total
     c.in_ok-taken.ensures.leads c.take_length.ensures.below c.in_ok-keys.ensures.found c.in_ok-keys.ensures.kept c.in_ok-keys.ensures.stands
@@ -351,7 +350,7 @@ read_map-read-requires-in-loop-i t c =
     search (rules, h, s)
 
 pub read_map-returns-in_err-second-clause-refused : goal.read_map-returns-in_err-second-clause-refused
-read_map-returns-in_err-second-clause-refused t c = 
+read_map-returns-in_err-second-clause-refused t c =
     let y = err_from_is_err_and c.from_residual-in_err-second.result c.from_residual-in_err-second.ensures.1 in
     let enters = enters_map c.args.reader.now c.take_length.new.self c.step.new.self c.step-2.new.self c.args.place c.in_ok-keys.keys c.in_ok-values.values c.in_ok-taken.taken.length c.in_ok-taken.taken.total
     c.in_ok-taken.ensures.leads c.take_length.ensures.below c.in_ok-keys.ensures.found c.in_ok-keys.ensures.kept c.in_ok-keys.ensures.stands
@@ -361,19 +360,18 @@ read_map-returns-in_err-second-clause-refused t c =
     ((c.in_err-second.ensures.refused.0, λ other. map_stuck_at (tree_of_node c.args.left c.args.table.now c.args.key.now) (tree_of_node c.args.left c.args.table.now c.args.value.now) c.args.reader.now c.step-2.new.self c.args.place c.in_ok-keys.keys c.in_ok-values.values c.in_ok-taken.taken.length enters (value_stuck (tree_of_node c.args.left c.args.table.now c.args.key.now) (tree_of_node c.args.left c.args.table.now c.args.value.now) c.in_ok-keys.keys c.in_ok-values.values c.step-2.new.self c.loop-i.reader c.loop-i._i _ c.loop-i.invariant.0 c.loop-i.invariant.1 c.in_ok-taken.taken.length c.read.new.reader (datum_of c.in_ok-first.first) lt c.in_ok-first.ensures.continues c.in_ok-first.ensures.read (c.in_err-second.ensures.refused.1 other))))
 
 pub read_map-loop-i-preserved : goal.read_map-loop-i-preserved
-read_map-loop-i-preserved t c = 
-    (
-      continues_on c.step-2.new.self c.loop-i.reader c.read-in-loop-i.new.reader c.loop-i.invariant.0 (continues_on c.loop-i.reader c.read.new.reader c.read-in-loop-i.new.reader c.in_ok-first.ensures.continues c.in_ok-second.ensures.continues),
-      rw (c.in_ok-push.ensures.items, map-append)
+read_map-loop-i-preserved t c = (
+  continues_on c.step-2.new.self c.loop-i.reader c.read-in-loop-i.new.reader c.loop-i.invariant.0 (continues_on c.loop-i.reader c.read.new.reader c.read-in-loop-i.new.reader c.in_ok-first.ensures.continues c.in_ok-second.ensures.continues),
+  rw (c.in_ok-push.ensures.items, map-append)
       (one_more_pair (tree_of_node c.args.left c.args.table.now c.args.key.now) (tree_of_node c.args.left c.args.table.now c.args.value.now) c.in_ok-keys.keys c.in_ok-values.values c.step-2.new.self c.loop-i.reader c.loop-i._i _ c.loop-i.invariant.0 c.loop-i.invariant.1 c.read.new.reader c.read-in-loop-i.new.reader (datum_of c.in_ok-first.first) (datum_of c.in_ok-second.second) c.in_ok-first.ensures.continues c.in_ok-first.ensures.read c.in_ok-second.ensures.read),
-    )
+)
 
 pub read_map-returns-clause-continues : goal.read_map-returns-clause-continues
-read_map-returns-clause-continues t c = 
+read_map-returns-clause-continues t c =
     continues_on c.args.reader.now c.step-2.new.self c.loop-i.reader (continues_on c.args.reader.now c.step.new.self c.step-2.new.self (continues_stepped c.args.reader.now c.take_length.new.self c.step.new.self c.take_length.ensures.below c.in_ok-taken.ensures.sized c.step.ensures.columns c.in_ok-keys.ensures.rooted c.in_ok-keys.ensures.kept) (continues_stepped c.step.new.self c.step.new.self c.step-2.new.self refl (continues_stepped c.args.reader.now c.take_length.new.self c.step.new.self c.take_length.ensures.below c.in_ok-taken.ensures.sized c.step.ensures.columns c.in_ok-keys.ensures.rooted c.in_ok-keys.ensures.kept).steady.sized c.step-2.ensures.columns c.in_ok-values.ensures.rooted c.in_ok-values.ensures.kept)) c.loop-i.invariant.0
 
 pub read_map-returns-clause-read : goal.read_map-returns-clause-read
-read_map-returns-clause-read t c = 
+read_map-returns-clause-read t c =
     let enters = enters_map c.args.reader.now c.take_length.new.self c.step.new.self c.step-2.new.self c.args.place c.in_ok-keys.keys c.in_ok-values.values c.in_ok-taken.taken.length c.in_ok-taken.taken.total
     c.in_ok-taken.ensures.leads c.take_length.ensures.below c.in_ok-keys.ensures.found c.in_ok-keys.ensures.kept c.in_ok-keys.ensures.stands
     c.in_ok-values.ensures.found c.in_ok-values.ensures.kept c.in_ok-values.ensures.stands in
@@ -383,54 +381,52 @@ read_map-returns-clause-read t c =
     (subst (λ n. ReadsPairsAt (tree_of_node c.args.left c.args.table.now c.args.key.now) (tree_of_node c.args.left c.args.table.now c.args.value.now) c.in_ok-keys.keys c.in_ok-values.values c.step-2.new.self n (map (λ e. pair (datum_of e.0) (datum_of e.1)) c.loop-i.pairs.items) c.loop-i.reader) all c.loop-i.invariant.1))
 
 pub read_tuple-loop-i-init : goal.read_tuple-loop-i-init
-read_tuple-loop-i-init t c = 
-    (
-      record { steady = c.requires.steady; kept = λ i p at. at },
-      rw c.new-values.ensures.items (no_fields (tree_of_node c.args.left c.args.table.now) c.args.nodes.now c.args.place c.args.reader.now),
-    )
+read_tuple-loop-i-init t c = (
+  record { steady = c.requires.steady; kept = λ i p at. at },
+  rw c.new-values.ensures.items (no_fields (tree_of_node c.args.left c.args.table.now) c.args.nodes.now c.args.place c.args.reader.now),
+)
 
 pub read_tuple-field-requires-clause-place : goal.read_tuple-field-requires-clause-place
 read_tuple-field-requires-clause-place t c = still_there c.args.reader.now c.loop-i.reader c.args.place c.loop-i.invariant.0 c.requires.place
 
 pub read_tuple-read-requires : goal.read_tuple-read-requires
-read_tuple-read-requires t c = 
+read_tuple-read-requires t c =
     let d = entry_deep c.args.nodes.now c.loop-i.i c.index-nodes-i.result (found_entry c.args.nodes.now c.loop-i.i c.index-nodes-i.result c.loop-i-test.true c.index-nodes-i.is) in
     let h = (c.in_ok-inside.ensures.found _ (c.loop-i.invariant.0.kept c.args.place (place_at (places c.args.reader.now.below.items) c.args.place) (c.requires.place, refl))).0 in
     let s = c.in_ok-inside.ensures.continues.steady in
     search (rules, d, h, s)
 
 pub read_tuple-returns-in_err-value-clause-refused : goal.read_tuple-returns-in_err-value-clause-refused
-read_tuple-returns-in_err-value-clause-refused t c = 
+read_tuple-returns-in_err-value-clause-refused t c =
     let y = err_from_is_err_and c.from_residual-in_err-value.result c.from_residual-in_err-value.ensures.1 in
     passed_on (λ e. IsRefusalAt (tuple_tree (trees_of (map (tree_of_node c.args.left c.args.table.now) c.args.nodes.now))) c.args.place c.args.reader.now e.reason) c.from_residual-in_err-value.result c.in_err-value.field-0.0 y.0 y.1 y.2
     (field_refused (tree_of_node c.args.left c.args.table.now) c.args.nodes.now c.args.place c.args.reader.now c.loop-i.reader c.field.new.self c.in_ok-inside.inside c.loop-i.i c.index-nodes-i.result (map datum_of c.loop-i.values.items) c.loop-i.invariant.0 (found_entry c.args.nodes.now c.loop-i.i c.index-nodes-i.result c.loop-i-test.true c.index-nodes-i.is) c.in_ok-inside.ensures.found c.in_ok-inside.ensures.stands c.loop-i.invariant.1 _ c.in_err-value.ensures.refused)
 
 pub read_tuple-loop-i-preserved : goal.read_tuple-loop-i-preserved
-read_tuple-loop-i-preserved t c = 
-    (
-      continues_on c.args.reader.now c.loop-i.reader c.read.new.reader c.loop-i.invariant.0 (continues_on c.loop-i.reader c.field.new.self c.read.new.reader c.in_ok-inside.ensures.continues c.in_ok-value.ensures.continues),
-      rw (c.in_ok-push.ensures.items, map-append) (one_more_field (tree_of_node c.args.left c.args.table.now) c.args.nodes.now c.args.place c.args.reader.now c.loop-i.reader c.field.new.self c.in_ok-inside.inside c.loop-i.i c.index-nodes-i.result (map datum_of c.loop-i.values.items) c.loop-i.invariant.0 (found_entry c.args.nodes.now c.loop-i.i c.index-nodes-i.result c.loop-i-test.true c.index-nodes-i.is) c.in_ok-inside.ensures.found c.in_ok-inside.ensures.stands c.loop-i.invariant.1 (datum_of c.in_ok-value.value) c.read.new.reader c.in_ok-value.ensures.read),
-    )
+read_tuple-loop-i-preserved t c = (
+  continues_on c.args.reader.now c.loop-i.reader c.read.new.reader c.loop-i.invariant.0 (continues_on c.loop-i.reader c.field.new.self c.read.new.reader c.in_ok-inside.ensures.continues c.in_ok-value.ensures.continues),
+  rw (c.in_ok-push.ensures.items, map-append) (one_more_field (tree_of_node c.args.left c.args.table.now) c.args.nodes.now c.args.place c.args.reader.now c.loop-i.reader c.field.new.self c.in_ok-inside.inside c.loop-i.i c.index-nodes-i.result (map datum_of c.loop-i.values.items) c.loop-i.invariant.0 (found_entry c.args.nodes.now c.loop-i.i c.index-nodes-i.result c.loop-i-test.true c.index-nodes-i.is) c.in_ok-inside.ensures.found c.in_ok-inside.ensures.stands c.loop-i.invariant.1 (datum_of c.in_ok-value.value) c.read.new.reader c.in_ok-value.ensures.read),
+)
 
 pub read_tuple-returns-clause-read : goal.read_tuple-returns-clause-read
-read_tuple-returns-clause-read t c = 
+read_tuple-returns-clause-read t c =
     let last : c.loop-i.i ≡ length c.args.nodes.now = omega arith in
     rw (datum-Tuple c.loop-i.values) (tuple_done (tree_of_node c.args.left c.args.table.now) c.args.nodes.now c.args.place c.args.reader.now c.loop-i.reader c.loop-i.i (map datum_of c.loop-i.values.items) last c.loop-i.invariant.1)
 
 pub read_seq-returns-then-is_over_limit-clause-refused : goal.read_seq-returns-then-is_over_limit-clause-refused
-read_seq-returns-then-is_over_limit-clause-refused t c = 
+read_seq-returns-then-is_over_limit-clause-refused t c =
     passed_on (λ e. IsRefusalAt (seq_tree (tree_of_node c.args.left c.args.table.now c.args.node.now)) c.args.place c.args.reader.now e.reason) c.err.result _ _ c.err.ensures refl (
       tt,
       λ other p at a st.
-        let l = told_at c.args.reader.now c.take_length.new.self c.args.place length_kind (natural c.in_ok-taken.taken.length) (λ entries. c.in_ok-taken.taken.total ≡ total entries) c.in_ok-taken.ensures.leads p at a st in
-        seq_over_limit (tree_of_node c.args.left c.args.table.now c.args.node.now) p a c.in_ok-taken.taken.length l.0 l.2.takes c.if-is_over_limit.ensures.0 c.if-is_over_limit.ensures.1,
+          let l = told_at c.args.reader.now c.take_length.new.self c.args.place length_kind (natural c.in_ok-taken.taken.length) (λ entries. c.in_ok-taken.taken.total ≡ total entries) c.in_ok-taken.ensures.leads p at a st in
+          seq_over_limit (tree_of_node c.args.left c.args.table.now c.args.node.now) p a c.in_ok-taken.taken.length l.0 l.2.takes c.if-is_over_limit.ensures.0 c.if-is_over_limit.ensures.1,
     )
 
 pub read_map-returns-then-is_over_limit-clause-refused : goal.read_map-returns-then-is_over_limit-clause-refused
-read_map-returns-then-is_over_limit-clause-refused t c = 
+read_map-returns-then-is_over_limit-clause-refused t c =
     passed_on (λ e. IsRefusalAt (map_tree (tree_of_node c.args.left c.args.table.now c.args.key.now) (tree_of_node c.args.left c.args.table.now c.args.value.now)) c.args.place c.args.reader.now e.reason) c.err.result _ _ c.err.ensures refl (
       tt,
       λ other p at a st.
-        let l = told_at c.args.reader.now c.take_length.new.self c.args.place length_kind (natural c.in_ok-taken.taken.length) (λ entries. c.in_ok-taken.taken.total ≡ total entries) c.in_ok-taken.ensures.leads p at a st in
-        map_over_limit (tree_of_node c.args.left c.args.table.now c.args.key.now) (tree_of_node c.args.left c.args.table.now c.args.value.now) p a c.in_ok-taken.taken.length l.0 l.2.takes c.if-is_over_limit.ensures.0 c.if-is_over_limit.ensures.1,
+          let l = told_at c.args.reader.now c.take_length.new.self c.args.place length_kind (natural c.in_ok-taken.taken.length) (λ entries. c.in_ok-taken.taken.total ≡ total entries) c.in_ok-taken.ensures.leads p at a st in
+          map_over_limit (tree_of_node c.args.left c.args.table.now c.args.key.now) (tree_of_node c.args.left c.args.table.now c.args.value.now) p a c.in_ok-taken.taken.length l.0 l.2.takes c.if-is_over_limit.ensures.0 c.if-is_over_limit.ensures.1,
     )

@@ -1,5 +1,5 @@
 -- A reference takes one from those that are left, and the parts of a node are less deep.
-use Rattle.std.proofs.Common.{◌+◌, ◌*◌, ◌≤◌, max, length, map}
+use Rattle.std.proofs.Common.{◌+◌, ◌*◌, max, map}
 use Rattle.bitcode_shapes.specs.Datum.{pair}
 use Rattle.bitcode_untyped.specs.View.{datum_of, tree_of_node}
 use Rattle.bitcode_serde.specs.Depth.{depth, deepest, left_below}
@@ -41,4 +41,4 @@ abbrev pub invariant-read_map-loop-i : goal.invariant-read_map-loop-i
 invariant-read_map-loop-i l =
     Continues l.initial.reader l.reader
     × ReadsPairsAt (tree_of_node l.left l.table l.key) (tree_of_node l.left l.table l.value) l.keys l.values l.initial.reader l._i
-      (map (λ e. pair (datum_of e.0) (datum_of e.1)) l.pairs.items) l.reader
+    (map (λ e. pair (datum_of e.0) (datum_of e.1)) l.pairs.items) l.reader
