@@ -1,0 +1,10 @@
+pub mod IndexLemmas
+pub mod ColumnLemmas
+pub mod ReadingLemmas
+pub mod StepLemmas
+pub mod ValueLemmas
+pub mod DepthLemmas
+pub mod FreeLemmas
+pub mod EntryLemmas
+pub mod FieldLemmas
+pub mod WholeLemmas

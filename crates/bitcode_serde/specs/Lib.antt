@@ -1,0 +1,5 @@
+pub mod Indices
+pub mod ReadColumns
+pub mod Reading
+pub mod ReadingValues
+pub mod Depth
