@@ -1,0 +1,30 @@
+-- What is read and written of a column of indices.
+use Rattle.std.proofs.Common.{ℕ, ◌<◌, ◌≡◌, false, List, All, refl, length, map, ap, lit≤}
+use Rattle.std.proofs.lemmas.List.Elements.{All-map}
+use Rattle.bitcode_input.specs.declared.error.Reason.{Reason}
+use Rattle.bitcode_columns.specs.ByteColumn.{SpellsBytes}
+use Rattle.bitcode_columns.specs.Reading.{Reads, Names, bytes_fault}
+use Rattle.bitcode_shapes.specs.Shape.{IsNumberOf, any_number}
+use Rattle.bitcode_shapes.specs.Values.{int_shape}
+use Rattle.bitcode_coder.specs.Spelling.{Spells, natural}
+use Rattle.bitcode_coder.specs.Coding.{IsReadingRefusal}
+use Rattle.bitcode_coder.proofs.CoderLemmas.{reads_of, ints_refused, number_is}
+use Rattle.bitcode_coder.proofs.LengthPartLemmas.{naturals_in}
+use Rattle.bitcode_untyped.specs.Population.{count_of}
+use Rattle.bitcode_columns.specs.Counts.{count_of as count_of_number}
+
+pub indices_refused : (reason : Reason) (count : ℕ) (input : List ℕ) → Names reason (bytes_fault count input)
+    → IsReadingRefusal (int_shape 1 false) reason count input
+indices_refused reason count input named = ints_refused 1 false reason count input named
+
+pub indices_read : (count : ℕ) (old entries new : List ℕ) → Reads SpellsBytes count old entries new → All (λ n. n < 256) entries
+    → Reads (Spells (int_shape 1 false)) count old (map natural entries) new
+indices_read count old entries new r below =
+    reads_of (int_shape 1 false) natural SpellsBytes count old entries new r (λ piece s. record {
+      of_shape = All-map (IsNumberOf 1 false any_number) natural entries (λ k d h. number_is 1 false any_number _ (lit≤ tt) (below k d h) tt);
+      counts = tt;
+      columns = record { entries = entries; are = refl; spelled = record { spelled = s; in_width = below } };
+    })
+
+pub indices_counted : (entries : List ℕ) (index : ℕ) → count_of index (map natural entries) ≡ count_of_number index entries
+indices_counted entries index = ap (count_of_number index) (naturals_in entries)

@@ -1,0 +1,23 @@
+-- What the coders of indices hold.
+use Rattle.std.specs.Prelude.{ℕ, List, map, get_or}
+use Rattle.bitcode_input.specs.Fast.{fast_items, fast_room, cow_rest}
+use Rattle.bitcode_shapes.specs.Datum.{Datum}
+use Rattle.bitcode_coder.specs.Spelling.{natural}
+use Rattle.bitcode_serde.specs.declared.serde.encoder.VariantEncoder.{VariantEncoder}
+use Rattle.bitcode_serde.specs.declared.serde.decoder.VariantDecoder.{VariantDecoder}
+
+-- the indices that were written
+unfoldable pub written_indices : VariantEncoder → List ℕ
+written_indices e = fast_items e.indices
+
+-- for how many more indices there is room
+unfoldable pub index_room : VariantEncoder → ℕ
+index_room e = fast_room e.indices
+
+-- the indices that are left to take
+unfoldable pub indices_left : VariantDecoder → List Datum
+indices_left d = map natural (cow_rest d.indices)
+
+-- how often an index was read
+unfoldable pub index_count : VariantDecoder → ℕ → ℕ
+index_count d index = get_or d.counts index 0

@@ -1,0 +1,140 @@
+// The column that indices are read from.
+#![tactic(auto, using(crate::proofs::IndexLemmas::indices_refused), unfolding(crate::specs::Indices::indices_left, crate::specs::Indices::index_count))]
+
+ghost use Rattle.std.specs.Prelude.{pos, ◌≡◌, ◌≢◌, ℕ, ◌<◌, ◌≤◌, [], length, true, false, refl, IsTrue, IsOk, All, IfOk, OnOk, IfErr, OnErr, MatchOption};
+ghost use Rattle.bitcode_columns.specs.Counts.{AreCounts};
+ghost use Rattle.bitcode_columns.specs.Reading.{Reads, IsEndOf, Names, ints_fault, ints_stand_raw};
+ghost use Rattle.bitcode_shapes.specs.Datum.{Datum, number};
+ghost use Rattle.bitcode_shapes.specs.Values.{int_shape, MakesNumber};
+ghost use Rattle.bitcode_coder.specs.Spelling.{Spells};
+ghost use Rattle.bitcode_coder.specs.Coding.{IsReadingRefusal, TakesDatum};
+ghost use Rattle.bitcode_untyped.specs.Population.{count_of};
+
+use bitcode_coder::coder::{Decoder, HoldsData, View};
+use bitcode_columns::histogram::histogram;
+use bitcode_columns::pack::unpack_bytes;
+use bitcode_input::error::{Error, Reason};
+use bitcode_input::fast::CowSlice;
+use std::alloc::Global;
+
+/// The column that the indices of variants are read from, whatever the number of variants: a column of bytes.
+///
+/// The indices are counted as they are read, so that the payloads of each variant can be read behind them.
+///
+/// ```
+/// let mut indices = VariantDecoder::new(alloc);
+/// indices.populate(&mut input, 3)?; // of [8, 20]: 2, 0 and 2
+/// indices.length(2) // 2
+/// indices.max_variant_index() // Some(2)
+/// ```
+#[derive(Drop)]
+pub struct VariantDecoder<'a> {
+    alloc: Global,
+    indices: CowSlice<'a, u8>,
+    counts: [usize; 256],
+}
+
+// How often each byte occurs; and that bytes are below 256.
+fn counts_of_bytes(bytes: &[u8]) -> [usize; 256]
+    ensures counts { AreCounts 256 bytes.now result }
+    ensures below { All (λ byte. byte < 256) bytes.now }
+{
+    histogram(bytes)
+}
+
+impl<'a> HoldsData for VariantDecoder<'a> {
+    ghost use Rattle.bitcode_serde.specs.Indices.{indices_left};
+
+    ghost shape = { int_shape 1 false };
+
+    ghost held = { indices_left };
+}
+
+impl<'a> View<'a> for VariantDecoder<'a> {
+    ghost use Rattle.bitcode_serde.specs.Indices.{indices_left, index_count};
+
+    ghost reads_free = { λ count input. IsTrue (ints_stand_raw 1 count input) };
+
+    ghost faults = { λ reason count input. Names reason (ints_fault 1 count input) };
+
+    fn new(alloc: Global) -> Self
+        ensures held { indices_left result ≡ [] }
+        ensures counts { (index : ℕ) → index < 256 → index_count result index ≡ 0 }
+    {
+        VariantDecoder {
+            alloc,
+            indices: CowSlice::new(alloc),
+            counts: [0; 256],
+        }
+    }
+
+    /// Reads `k` indices from the front of the input, and counts them.
+    ///
+    /// Missing bytes are `EOF`, a tag that no column has is `invalid packing`, and a refused growth is `out of memory`.
+    fn populate(&mut self, input: &mut &'a [u8], k: usize) -> Result<(), Error>
+        ensures read { OnOk result (Reads (Spells (int_shape 1 false)) k input.old.now (indices_left self.new) input.new.now) }
+        ensures refused { IfErr result (λ e. IsReadingRefusal (int_shape 1 false) e.reason k input.old.now) }
+        ensures rest { OnErr result (IsEndOf input.old.now input.new.now) }
+        ensures free { IsTrue (ints_stand_raw 1 k input.old.now) → IfErr result (λ e. e.reason ≢ Reason.OutOfMemory) }
+        ensures exact { IfErr result (λ e. Names e.reason (ints_fault 1 k input.old.now)) }
+        ensures counts { OnOk result ((index : ℕ) → index < 256 → index_count self.new index ≡ count_of index (indices_left self.new)) }
+    {
+        unpack_bytes(self.alloc, input, k, &mut self.indices)?;
+        self.counts = counts_of_bytes(self.indices.as_slice());
+        Ok(())
+    }
+}
+
+impl<'a> Decoder<'a, u8> for VariantDecoder<'a> {
+    ghost use Rattle.bitcode_serde.specs.Indices.{indices_left, index_count};
+
+    ghost makes_free = { true };
+
+    /// Takes the next index. One is left.
+    fn decode(&mut self) -> Result<u8, Error>
+        requires { 0 < length (indices_left self.old) }
+        ensures made { IfOk result (λ index. TakesDatum (MakesNumber (λ n. pos n)) index (indices_left self.old) (indices_left self.new)) }
+        ensures refused { IfErr result (λ e. e.reason ≡ Reason.OutOfMemory) }
+        ensures free { IsTrue true → IsOk result }
+        ensures counts { (index : ℕ) → index_count self.new index ≡ index_count self.old index }
+    {
+        Ok(self.indices.next_unchecked())
+    }
+
+    ghost same_shape = { refl };
+}
+
+impl<'a> VariantDecoder<'a> {
+    ghost use Rattle.bitcode_serde.specs.Indices.{index_count};
+
+    /// How many of the indices that were read are this one, those that were taken since too. It is 0 for an index that
+    /// was not met.
+    ///
+    /// ```
+    /// indices.length(2) // of 2, 0 and 2: 2
+    /// indices.length(7) // 0
+    /// ```
+    pub fn length(&self, index: u8) -> usize
+        ensures { result ≡ index_count self.now index }
+    {
+        self.counts[index as usize]
+    }
+
+    /// The greatest of the indices that were read, those that were taken since too; `None` where there is none.
+    ///
+    /// ```
+    /// indices.max_variant_index() // of 2, 0 and 2: Some(2)
+    /// ```
+    pub fn max_variant_index(&self) -> Option<u8>
+        ensures { MatchOption result
+            ((index : ℕ) → index < 256 → index_count self.now index ≡ 0)
+            (λ greatest. (0 < index_count self.now greatest) × ((index : ℕ) → greatest < index → index < 256 → index_count self.now index ≡ 0)) }
+    {
+        for index in (0..256).rev() {
+            if self.counts[index] > 0 {
+                return Some(index as u8);
+            }
+        }
+        None
+    }
+}

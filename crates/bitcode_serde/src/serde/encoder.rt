@@ -1,0 +1,72 @@
+// The column that indices are written to.
+#![tactic(auto, unfolding(crate::specs::Indices::written_indices, crate::specs::Indices::index_room))]
+
+ghost use Rattle.std.specs.Prelude.{false, map, refl};
+ghost use Rattle.bitcode_coder.specs.Columns.{ints, one};
+ghost use Rattle.bitcode_coder.specs.Spelling.{natural};
+
+use bitcode_coder::coder::{Buffer, Encoder, HoldsColumns};
+use bitcode_input::error::Error;
+use bitcode_input::fast::{FastVec, PushUnchecked};
+use bitcode_integers::column_int::ColumnInt;
+use std::alloc::Global;
+
+/// The column that the indices of variants are written to, whatever the number of variants: a column of bytes.
+///
+/// ```
+/// let mut indices = VariantEncoder::new(alloc);
+/// indices.reserve(3)?;
+/// indices.encode(&2)?;
+/// indices.encode(&0)?;
+/// indices.encode(&2)?;
+/// indices.collect_into(&mut out)?; // [8, 20]: the tag of base 3, and the digits 2, 0 and 2
+/// ```
+#[derive(Drop)]
+pub struct VariantEncoder {
+    alloc: Global,
+    indices: FastVec<u8>,
+}
+
+impl HoldsColumns for VariantEncoder {
+    ghost use Rattle.bitcode_serde.specs.Indices.{written_indices, index_room};
+
+    ghost columns = { λ e. one (ints 1 false) (map natural (written_indices e)) };
+
+    ghost room = { index_room };
+
+    ghost surely_passes = { λ e n. ⊥ };
+}
+
+impl Buffer for VariantEncoder {
+    fn new(alloc: Global) -> Self {
+        VariantEncoder {
+            alloc,
+            indices: FastVec::new(alloc),
+        }
+    }
+
+    fn reserve(&mut self, n: usize) -> Result<(), Error> {
+        self.indices.reserve(n)
+    }
+
+    fn collect_into(&mut self, out: &mut Vec<u8>) -> Result<(), Error> {
+        u8::pack(self.alloc, self.indices.as_mut_slice(), out)?;
+        self.indices.clear();
+        Ok(())
+    }
+
+    fn clear(&mut self) {
+        self.indices.clear();
+    }
+}
+
+impl Encoder<u8> for VariantEncoder {
+    fn encode(&mut self, t: &u8) -> Result<(), Error> {
+        self.indices.push_unchecked(*t);
+        Ok(())
+    }
+
+    ghost of_shape = { λ e. refl };
+
+    ghost surely = { λ e n never. absurd never };
+}
