@@ -1,6 +1,8 @@
-// Columns of indices, of the Rust crate.
+// Columns of the Rust crate.
+use crate::column::{Column, ColumnKind};
 use crate::serde::{VariantDecoder, VariantEncoder};
 use bitcode_coder::coder::{Buffer, Decoder, Encoder, View};
+use bitcode_untyped::value::Value;
 use std::test::Fail;
 
 #[test]
@@ -32,5 +34,27 @@ fn indices_are_read_and_counted(rt: HostRuntime) -> Result<(), Fail> {
     assert_eq!(rt; indices.length(1), 0);
     assert_eq!(rt; indices.length(255), 0);
     assert_eq!(rt; indices.max_variant_index(), Some(2));
+    Ok(())
+}
+
+#[test]
+fn columns_are_opened_and_taken(rt: HostRuntime) -> Result<(), Fail> {
+    let alloc = rt.alloc();
+    let mut input: &[u8] = &[7, 1, 2, 3, 97, 98, 99, 2, 97, 0, 8, 20];
+    let mut number = Column::open(ColumnKind::U16, alloc, &mut input, 1)?;
+    assert_eq!(rt; number.take()?, Value::U16(263));
+    let mut lengths = Column::open(ColumnKind::Lengths, alloc, &mut input, 2)?;
+    assert_eq!(rt; lengths.total(), 5);
+    assert_eq!(rt; lengths.take_length(), 2);
+    assert_eq!(rt; lengths.take_length(), 3);
+    let mut bytes = Column::open(ColumnKind::Bytes, alloc, &mut input, 2)?;
+    assert_eq!(rt; bytes.take_index(), 97);
+    assert_eq!(rt; bytes.take()?, Value::U8(98));
+    assert_eq!(rt; bytes.count(98), 1);
+    assert_eq!(rt; input, [99, 2, 97, 0, 8, 20].as_slice());
+    let mut code: &[u8] = &[2, 97, 0];
+    let mut chars = Column::open(ColumnKind::U32, alloc, &mut code, 1)?;
+    assert!(rt; chars.kind() == ColumnKind::U32);
+    assert_eq!(rt; chars.take_code(), 97);
     Ok(())
 }

@@ -1,0 +1,82 @@
+-- The columns that a reader has open.
+use Rattle.std.specs.Prelude.{◌≡◌, ◌≢◌, ℕ, ◌<◌, true, false, None, List, ◌++◌, length, map}
+use Rattle.bitcode_input.specs.Fast.{slice_rest, cow_rest}
+use Rattle.bitcode_input.specs.declared.error.Reason.{Reason}
+use Rattle.bitcode_input.specs.declared.error.Reason.TheVariants.{OutOfMemory}
+use Rattle.bitcode_shapes.specs.Datum.{Datum, text}
+use Rattle.bitcode_coder.specs.Columns.{Kind, bools, ints, lengths, texts}
+use Rattle.bitcode_coder.specs.Coding.{IsReadingReason}
+use Rattle.bitcode_coder.specs.Cutting.{cut}
+use Rattle.bitcode_coder.specs.LengthCoders.{lengths_left, lengths_sum}
+use Rattle.bitcode_coder.specs.Spelling.{SpellsColumn, natural, truth}
+use Rattle.bitcode_integers.specs.IntData.{bytes_data}
+use Rattle.bitcode_serde.specs.Indices.{indices_left, index_count}
+use Rattle.bitcode_untyped.specs.Population.{total, count_of}
+use Rattle.bitcode_serde.specs.declared.column.ColumnKind.{ColumnKind}
+use Rattle.bitcode_serde.specs.declared.column.ColumnKind.TheVariants as kind
+use Rattle.bitcode_serde.specs.declared.column.Column.{Column}
+use Rattle.bitcode_serde.specs.declared.column.Column.TheVariants as column
+
+abbrev pub kind_of : ColumnKind → Kind
+kind_of kind.Bools = bools
+kind_of kind.Bytes = ints 1 false
+kind_of kind.U16 = ints 2 false
+kind_of kind.U32 = ints 4 false
+kind_of kind.U64 = ints 8 false
+kind_of kind.U128 = ints 16 false
+kind_of kind.I8 = ints 1 true
+kind_of kind.I16 = ints 2 true
+kind_of kind.I32 = ints 4 true
+kind_of kind.I64 = ints 8 true
+kind_of kind.I128 = ints 16 true
+kind_of kind.Lengths = lengths None
+kind_of kind.Texts = texts None
+
+abbrev pub kind_of_column : Column → Kind
+kind_of_column (column.Bools d) = bools
+kind_of_column (column.Bytes d) = ints 1 false
+kind_of_column (column.U16 d) = ints 2 false
+kind_of_column (column.U32 d) = ints 4 false
+kind_of_column (column.U64 d) = ints 8 false
+kind_of_column (column.U128 d) = ints 16 false
+kind_of_column (column.I8 d) = ints 1 true
+kind_of_column (column.I16 d) = ints 2 true
+kind_of_column (column.I32 d) = ints 4 true
+kind_of_column (column.I64 d) = ints 8 true
+kind_of_column (column.I128 d) = ints 16 true
+kind_of_column (column.Lengths d) = lengths None
+kind_of_column (column.Texts d) = texts None
+
+-- the entries that are left to take
+abbrev pub left : Column → List Datum
+left (column.Bools d) = map truth (cow_rest d.values)
+left (column.Bytes d) = indices_left d.value
+left (column.U16 d) = bytes_data 2 false (λ bytes. bytes) (cow_rest d.values)
+left (column.U32 d) = bytes_data 4 false (λ bytes. bytes) (cow_rest d.values)
+left (column.U64 d) = bytes_data 8 false (λ bytes. bytes) (cow_rest d.values)
+left (column.U128 d) = bytes_data 16 false (λ bytes. bytes) (cow_rest d.values)
+left (column.I8 d) = bytes_data 1 true (λ bytes. bytes) (cow_rest d.values)
+left (column.I16 d) = bytes_data 2 true (λ bytes. bytes) (cow_rest d.values)
+left (column.I32 d) = bytes_data 4 true (λ bytes. bytes) (cow_rest d.values)
+left (column.I64 d) = bytes_data 8 true (λ bytes. bytes) (cow_rest d.values)
+left (column.I128 d) = bytes_data 16 true (λ bytes. bytes) (cow_rest d.values)
+left (column.Lengths d) = map natural (lengths_left d)
+left (column.Texts d) = map text (cut (lengths_left d.lengths) (slice_rest d.bytes))
+
+-- What was counted as the column was read, of entries that it had.
+abbrev pub Tallies : Column → List Datum → Type 0
+Tallies (column.Bytes d) entries = (index : ℕ) → index < 256 → index_count d.value index ≡ count_of index entries
+Tallies (column.Lengths d) entries = lengths_sum d ≡ total entries
+Tallies _ entries = Unit {0}
+
+-- The front of the old input spells so many entries of a column, and the new input is the rest.
+pub record ReadsColumn (kind : Kind) (count : ℕ) (old : List ℕ) (entries : List Datum) (new : List ℕ) : Type 0 where
+  pub size : length entries ≡ count
+  pub piece : List ℕ
+  pub whole : old ≡ piece ++ new
+  pub spelled : SpellsColumn kind piece entries
+
+-- a refusal other than want of memory comes only where no front of the input spells so many entries
+abbrev pub IsColumnRefusal : Kind → Reason → ℕ → List ℕ → Type 0
+IsColumnRefusal kind reason count input =
+    IsReadingReason reason × (reason ≢ OutOfMemory → (entries : List Datum) (rest : List ℕ) → ReadsColumn kind count input entries rest → ⊥)

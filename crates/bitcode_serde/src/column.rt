@@ -1,0 +1,265 @@
+// The columns that a reader has open.
+ghost use Rattle.std.specs.Prelude.{◌≡◌, ℕ, ◌<◌, List, ◌∷◌, None, false, length, sum, IsTrue, IfOk, IfErr};
+ghost use Rattle.bitcode_columns.specs.Reading.{Reads};
+ghost use Rattle.bitcode_coder.specs.LengthColumn.{SpellsLengths};
+ghost use Rattle.bitcode_coder.specs.LengthCoders.{lengths_left, lengths_sum};
+ghost use Rattle.bitcode_coder.specs.LengthParts.{NamesLengthFault};
+ghost use Rattle.bitcode_shapes.specs.Datum.{Datum};
+ghost use Rattle.bitcode_shapes.specs.Values.{int_shape};
+ghost use Rattle.bitcode_coder.specs.Columns.{ints, lengths};
+ghost use Rattle.bitcode_coder.specs.Spelling.{Spells, natural};
+ghost use Rattle.bitcode_untyped.specs.Population.{total, count_of};
+ghost use Rattle.bitcode_serde.specs.Indices.{indices_left, index_count};
+ghost use Rattle.bitcode_coder.specs.Coding.{IsReadingRefusal, TakesDatum};
+ghost use Rattle.bitcode_untyped.specs.View.{datum_of};
+ghost use Rattle.bitcode_serde.specs.ReadColumns.{kind_of, kind_of_column, left, Tallies, ReadsColumn, IsColumnRefusal};
+
+use crate::serde::VariantDecoder;
+use bitcode_coder::bool::BoolDecoder;
+use bitcode_coder::coder::{Decoder, View};
+use bitcode_coder::length::LengthDecoder;
+use bitcode_coder::str::StrDecoder;
+use bitcode_input::error::{Error, Reason};
+use bitcode_integers::int::IntDecoder;
+use bitcode_shapes::shaped::Made;
+use bitcode_untyped::value::Value;
+use std::alloc::Global;
+
+/// What a column holds.
+#[derive(Clone, Copy, PartialEq, Eq)]
+pub enum ColumnKind {
+    Bools,
+    /// Numbers of one byte, and the indices of variants.
+    Bytes,
+    U16,
+    /// Numbers of four bytes, and the codes of chars.
+    U32,
+    U64,
+    U128,
+    I8,
+    I16,
+    I32,
+    I64,
+    I128,
+    Lengths,
+    Texts,
+}
+
+/// An open column: the entries that are left to take.
+#[derive(Drop)]
+pub enum Column<'a> {
+    Bools(BoolDecoder<'a>),
+    Bytes(Box<VariantDecoder<'a>>),
+    U16(IntDecoder<'a, u16>),
+    U32(IntDecoder<'a, u32>),
+    U64(IntDecoder<'a, u64>),
+    U128(IntDecoder<'a, u128>),
+    I8(IntDecoder<'a, i8>),
+    I16(IntDecoder<'a, i16>),
+    I32(IntDecoder<'a, i32>),
+    I64(IntDecoder<'a, i64>),
+    I128(IntDecoder<'a, i128>),
+    Lengths(LengthDecoder<'a>),
+    Texts(StrDecoder<'a>),
+}
+
+// Takes the next entry, where that takes no memory.
+fn next<'a, T: Made, D: Decoder<'a, T>>(column: &mut D) -> T
+    requires some { 0 < length (D.held column.old) }
+    requires free { IsTrue D.makes_free }
+    ensures { TakesDatum T.makes result (D.held column.old) (D.held column.new) }
+{
+    column.decode().unwrap()
+}
+
+// Reads a column of so many entries.
+fn read<'a, D: View<'a> + Drop>(
+    alloc: Global,
+    input: &mut &'a [u8],
+    count: usize,
+) -> Result<D, Error>
+    ensures read { IfOk result (λ d. Reads (Spells D.shape) count input.old.now (D.held d) input.new.now) }
+    ensures refused { IfErr result (λ e. IsReadingRefusal D.shape e.reason count input.old.now) }
+{
+    let mut column = D::new(alloc);
+    column.populate(input, count)?;
+    Ok(column)
+}
+
+// Reads a column of so many indices, and counts them.
+fn read_indices<'a>(
+    alloc: Global,
+    input: &mut &'a [u8],
+    count: usize,
+) -> Result<VariantDecoder<'a>, Error>
+    ensures read { IfOk result (λ d. Reads (Spells (int_shape 1 false)) count input.old.now (indices_left d) input.new.now) }
+    ensures counts { IfOk result (λ d. (index : ℕ) → index < 256 → index_count d index ≡ count_of index (indices_left d)) }
+    ensures refused { IfErr result (λ e. IsReadingRefusal (int_shape 1 false) e.reason count input.old.now) }
+{
+    let mut column = VariantDecoder::new(alloc);
+    column.populate(input, count)?;
+    Ok(column)
+}
+
+// Reads a column of so many lengths.
+fn read_lengths<'a>(
+    alloc: Global,
+    input: &mut &'a [u8],
+    count: usize,
+) -> Result<LengthDecoder<'a>, Error>
+    ensures read { IfOk result (λ d. Reads (SpellsLengths None) count input.old.now (lengths_left d) input.new.now) }
+    ensures sum { IfOk result (λ d. lengths_sum d ≡ sum (lengths_left d)) }
+    ensures refused { IfErr result (λ e. NamesLengthFault e.reason count input.old.now) }
+{
+    let mut column = LengthDecoder::new(alloc);
+    column.populate(input, count)?;
+    Ok(column)
+}
+
+impl<'a> Column<'a> {
+    /// Reads a column of so many entries from the front of the input.
+    ///
+    /// It refuses as the column's decoder does.
+    pub fn open(
+        kind: ColumnKind,
+        alloc: Global,
+        input: &mut &'a [u8],
+        count: usize,
+    ) -> Result<Column<'a>, Error>
+        ensures read { IfOk result (λ column. ReadsColumn (kind_of kind) count input.old.now (left column) input.new.now) }
+        ensures kind { IfOk result (λ column. kind_of_column column ≡ kind_of kind) }
+        ensures tallies { IfOk result (λ column. Tallies column (left column)) }
+        ensures refused { IfErr result (λ e. IsColumnRefusal (kind_of kind) e.reason count input.old.now) }
+    {
+        match kind {
+            ColumnKind::Bools => Ok(Column::Bools(read(alloc, input, count)?)),
+            ColumnKind::Bytes => Ok(Column::Bytes(Box::new(
+                alloc,
+                read_indices(alloc, input, count)?,
+            )?)),
+            ColumnKind::U16 => Ok(Column::U16(read(alloc, input, count)?)),
+            ColumnKind::U32 => Ok(Column::U32(read(alloc, input, count)?)),
+            ColumnKind::U64 => Ok(Column::U64(read(alloc, input, count)?)),
+            ColumnKind::U128 => Ok(Column::U128(read(alloc, input, count)?)),
+            ColumnKind::I8 => Ok(Column::I8(read(alloc, input, count)?)),
+            ColumnKind::I16 => Ok(Column::I16(read(alloc, input, count)?)),
+            ColumnKind::I32 => Ok(Column::I32(read(alloc, input, count)?)),
+            ColumnKind::I64 => Ok(Column::I64(read(alloc, input, count)?)),
+            ColumnKind::I128 => Ok(Column::I128(read(alloc, input, count)?)),
+            ColumnKind::Lengths => Ok(Column::Lengths(read_lengths(alloc, input, count)?)),
+            ColumnKind::Texts => Ok(Column::Texts(read(alloc, input, count)?)),
+        }
+    }
+
+    /// What the column holds.
+    pub fn kind(&self) -> ColumnKind
+        ensures { kind_of result ≡ kind_of_column self.now }
+    {
+        match self {
+            Column::Bools(_) => ColumnKind::Bools,
+            Column::Bytes(_) => ColumnKind::Bytes,
+            Column::U16(_) => ColumnKind::U16,
+            Column::U32(_) => ColumnKind::U32,
+            Column::U64(_) => ColumnKind::U64,
+            Column::U128(_) => ColumnKind::U128,
+            Column::I8(_) => ColumnKind::I8,
+            Column::I16(_) => ColumnKind::I16,
+            Column::I32(_) => ColumnKind::I32,
+            Column::I64(_) => ColumnKind::I64,
+            Column::I128(_) => ColumnKind::I128,
+            Column::Lengths(_) => ColumnKind::Lengths,
+            Column::Texts(_) => ColumnKind::Texts,
+        }
+    }
+
+    /// Takes the next entry. One is left.
+    ///
+    /// `out of memory` is the only refusal: a text is copied.
+    pub fn take(&mut self) -> Result<Value, Error>
+        requires { 0 < length (left self.old) }
+        ensures taken { IfOk result (λ value. left self.old ≡ datum_of value ∷ left self.new) }
+        ensures kind { kind_of_column self.new ≡ kind_of_column self.old }
+        ensures tallies { (entries : List Datum) → Tallies self.old entries → Tallies self.new entries }
+        ensures refused { IfErr result (λ e. e.reason ≡ Reason.OutOfMemory) }
+    {
+        match self {
+            Column::Bools(column) => Ok(Value::Bool(next(column))),
+            Column::Bytes(column) => Ok(Value::U8(column.decode().unwrap())),
+            Column::U16(column) => Ok(Value::U16(next(column))),
+            Column::U32(column) => Ok(Value::U32(next(column))),
+            Column::U64(column) => Ok(Value::U64(next(column))),
+            Column::U128(column) => Ok(Value::U128(next(column))),
+            Column::I8(column) => Ok(Value::I8(next(column))),
+            Column::I16(column) => Ok(Value::I16(next(column))),
+            Column::I32(column) => Ok(Value::I32(next(column))),
+            Column::I64(column) => Ok(Value::I64(next(column))),
+            Column::I128(column) => Ok(Value::I128(next(column))),
+            Column::Lengths(column) => Ok(Value::U64(column.decode() as u64)),
+            Column::Texts(column) => Ok(Value::Str(column.decode()?)),
+        }
+    }
+
+    /// Takes the next length. One is left.
+    pub fn take_length(&mut self) -> usize
+        requires lengths { kind_of_column self.old ≡ lengths None }
+        requires some { 0 < length (left self.old) }
+        ensures taken { left self.old ≡ natural result ∷ left self.new }
+        ensures kind { kind_of_column self.new ≡ kind_of_column self.old }
+        ensures tallies { (entries : List Datum) → Tallies self.old entries → Tallies self.new entries }
+    {
+        match self {
+            Column::Lengths(column) => column.decode(),
+            _ => unreachable!(),
+        }
+    }
+
+    /// Takes the next index. One is left.
+    pub fn take_index(&mut self) -> u8
+        requires bytes { kind_of_column self.old ≡ ints 1 false }
+        requires some { 0 < length (left self.old) }
+        ensures taken { left self.old ≡ natural result ∷ left self.new }
+        ensures kind { kind_of_column self.new ≡ kind_of_column self.old }
+        ensures tallies { (entries : List Datum) → Tallies self.old entries → Tallies self.new entries }
+    {
+        match self {
+            Column::Bytes(column) => column.decode().unwrap(),
+            _ => unreachable!(),
+        }
+    }
+
+    /// Takes the next number of four bytes. One is left.
+    pub fn take_code(&mut self) -> u32
+        requires codes { kind_of_column self.old ≡ ints 4 false }
+        requires some { 0 < length (left self.old) }
+        ensures taken { left self.old ≡ natural result ∷ left self.new }
+        ensures kind { kind_of_column self.new ≡ kind_of_column self.old }
+        ensures tallies { (entries : List Datum) → Tallies self.old entries → Tallies self.new entries }
+    {
+        match self {
+            Column::U32(column) => next(column),
+            _ => unreachable!(),
+        }
+    }
+
+    /// The sum of the lengths that were read, those that were taken since too.
+    pub fn total(&self) -> usize
+        requires { kind_of_column self.now ≡ lengths None }
+        ensures { (entries : List Datum) → Tallies self.now entries → result ≡ total entries }
+    {
+        match self {
+            Column::Lengths(column) => column.length(),
+            _ => unreachable!(),
+        }
+    }
+
+    /// How many of the indices that were read are this one, those that were taken since too.
+    pub fn count(&self, index: u8) -> usize
+        requires { kind_of_column self.now ≡ ints 1 false }
+        ensures { (entries : List Datum) → Tallies self.now entries → result ≡ count_of index entries }
+    {
+        match self {
+            Column::Bytes(column) => column.length(index),
+            _ => unreachable!(),
+        }
+    }
+}
