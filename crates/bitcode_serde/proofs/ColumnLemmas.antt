@@ -1,6 +1,6 @@
 -- What is read of one column, in terms of its kind.
-use Rattle.std.proofs.Common.{ℕ, ◌≡◌, ◌≢◌, ◌<◌, ◌^◌, ◌++◌, false, true, None, ℤ, pos, List, ◌∷◌, All, String, Global, string_bytes, length, map, refl, ap, sym, subst, ◌∙◌, lit<, lit≤}
-use Rattle.std.specs.Prelude.{Bool, Result, Err, IfErr}
+use Rattle.std.proofs.Common.{ℕ, ◌≡◌, ◌<◌, false, true, None, ℤ, List, ◌∷◌, All, String, Global, string_bytes, length, map, refl, ap, sym, subst, ◌∙◌, lit<}
+use Rattle.std.specs.Prelude.{Bool, Result, Err, IfErr, ◌==◌, if◌then◌else◌}
 use Rattle.std.specs.Int.{w128}
 use Rattle.std.specs.Int.Signed.{mag}
 use Rattle.std.proofs.Common.{rules, to_z, of_z, w8, w16, w32, w64}
@@ -8,13 +8,12 @@ use Rattle.bitcode_input.specs.declared.error.Error.{Error}
 use Rattle.std.proofs.lemmas.List.{length-map}
 use Rattle.std.proofs.lemmas.List.Elements.{All-map}
 use Rattle.bitcode_input.specs.declared.error.Reason.{Reason}
-use Rattle.bitcode_input.specs.declared.error.Reason.TheVariants.{OutOfMemory}
 use Rattle.bitcode_columns.specs.Reading.{Reads}
 use Rattle.bitcode_shapes.specs.Datum.{Datum, number, text}
 use Rattle.bitcode_shapes.specs.Shape.{Shape, IsNumberOf, IsNaturalBelow, IsTextOf, any_number, bool_shape, text_shape}
 use Rattle.bitcode_shapes.specs.Values.{int_shape, MakesNumber}
 use Rattle.bitcode_shapes.specs.Texts.{MakesText}
-use Rattle.bitcode_coder.specs.Coding.{TakesDatum, IsReadingRefusal, IsReadingReason}
+use Rattle.bitcode_coder.specs.Coding.{TakesDatum, IsReadingRefusal}
 use Rattle.bitcode_coder.specs.Columns.{Kind, ints, bools, texts, lengths}
 use Rattle.bitcode_coder.specs.LengthColumn.{SpellsLengths}
 use Rattle.bitcode_coder.specs.LengthParts.{NamesLengthFault}
@@ -24,7 +23,9 @@ use Rattle.bitcode_coder.proofs.LengthRefusalLemmas.{lengths_refused, length_rea
 use Rattle.bitcode_numbers.specs.Widths.{IsWidth}
 use Rattle.bitcode_untyped.specs.View.{datum_of}
 use Rattle.bitcode_untyped.specs.declared.value.Value.{Value}
-use Rattle.bitcode_serde.specs.ReadColumns.{ReadsColumn, IsColumnRefusal}
+use Rattle.bitcode_serde.specs.ReadColumns.{ReadsColumn, IsColumnRefusal, kind_of, kind_number}
+use Rattle.bitcode_serde.specs.declared.column.ColumnKind.{ColumnKind}
+use Rattle.bitcode_serde.specs.declared.column.ColumnKind.TheVariants as kind
 
 -- ---- taken
 
@@ -124,3 +125,31 @@ kept_64 z h = search rules
 
 pub kept_128 : (z : ℤ) → mag z < 170141183460469231731687303715884105728 → to_z w128 (of_z w128 z) ≡ z
 kept_128 z h = search rules
+
+-- ---- kinds by their numbers
+
+-- the kind of a number
+abbrev pub numbered : ℕ → Kind
+numbered n =
+    if n == 0 then bools else if n == 1 then lengths None else if n == 2 then texts None else if n == 12 then ints 1 false
+    else if n == 13 then ints 1 true else if n == 14 then ints 2 false else if n == 15 then ints 2 true else if n == 18 then ints 4 false
+    else if n == 19 then ints 4 true else if n == 26 then ints 8 false else if n == 27 then ints 8 true else if n == 42 then ints 16 false
+    else ints 16 true
+
+numbered_kind : (k : ColumnKind) → numbered (kind_number (kind_of k)) ≡ kind_of k
+numbered_kind kind.Bools = refl
+numbered_kind kind.Bytes = refl
+numbered_kind kind.U16 = refl
+numbered_kind kind.U32 = refl
+numbered_kind kind.U64 = refl
+numbered_kind kind.U128 = refl
+numbered_kind kind.I8 = refl
+numbered_kind kind.I16 = refl
+numbered_kind kind.I32 = refl
+numbered_kind kind.I64 = refl
+numbered_kind kind.I128 = refl
+numbered_kind kind.Lengths = refl
+numbered_kind kind.Texts = refl
+
+pub same_kind : (a b : ColumnKind) → kind_number (kind_of a) ≡ kind_number (kind_of b) → kind_of a ≡ kind_of b
+same_kind a b e = sym (numbered_kind a) ∙ ap numbered e ∙ numbered_kind b

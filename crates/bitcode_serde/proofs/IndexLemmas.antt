@@ -1,5 +1,5 @@
 -- What is read and written of a column of indices.
-use Rattle.std.proofs.Common.{ℕ, ◌<◌, ◌≡◌, false, List, All, refl, length, map, ap, lit≤}
+use Rattle.std.proofs.Common.{ℕ, ◌<◌, ◌≡◌, false, List, All, refl, map, ap, lit≤}
 use Rattle.std.proofs.lemmas.List.Elements.{All-map}
 use Rattle.bitcode_input.specs.declared.error.Reason.{Reason}
 use Rattle.bitcode_columns.specs.ByteColumn.{SpellsBytes}

@@ -1,2 +1,3 @@
 pub mod IndexLemmas
 pub mod ColumnLemmas
+pub mod ReadingLemmas

@@ -1,2 +1,3 @@
 pub mod Indices
 pub mod ReadColumns
+pub mod Reading

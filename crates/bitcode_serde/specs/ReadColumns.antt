@@ -1,5 +1,5 @@
 -- The columns that a reader has open.
-use Rattle.std.specs.Prelude.{◌≡◌, ◌≢◌, ℕ, ◌<◌, true, false, None, List, ◌++◌, length, map}
+use Rattle.std.specs.Prelude.{◌≡◌, ◌≢◌, ℕ, ◌<◌, ◌+◌, ◌*◌, if◌then◌else◌, true, false, None, List, ◌++◌, length, map}
 use Rattle.bitcode_input.specs.Fast.{slice_rest, cow_rest}
 use Rattle.bitcode_input.specs.declared.error.Reason.{Reason}
 use Rattle.bitcode_input.specs.declared.error.Reason.TheVariants.{OutOfMemory}
@@ -31,6 +31,14 @@ kind_of kind.I64 = ints 8 true
 kind_of kind.I128 = ints 16 true
 kind_of kind.Lengths = lengths None
 kind_of kind.Texts = texts None
+
+-- a number for each kind that a reader has
+abbrev pub kind_number : Kind → ℕ
+kind_number bools = 0
+kind_number (lengths limit) = 1
+kind_number (texts limit) = 2
+kind_number (ints width signed) = 10 + 2 * width + (if signed then 1 else 0)
+kind_number _ = 3
 
 abbrev pub kind_of_column : Column → Kind
 kind_of_column (column.Bools d) = bools

@@ -1,5 +1,5 @@
 // The columns that a reader has open.
-ghost use Rattle.std.specs.Prelude.{◌≡◌, ℕ, ◌<◌, List, ◌∷◌, None, false, length, sum, IsTrue, IfOk, IfErr};
+ghost use Rattle.std.specs.Prelude.{◌≡◌, ◌≢◌, ℕ, ◌<◌, List, ◌∷◌, None, false, length, sum, IsTrue, MatchBool, IfOk, IfErr};
 ghost use Rattle.bitcode_columns.specs.Reading.{Reads};
 ghost use Rattle.bitcode_coder.specs.LengthColumn.{SpellsLengths};
 ghost use Rattle.bitcode_coder.specs.LengthCoders.{lengths_left, lengths_sum};
@@ -12,7 +12,7 @@ ghost use Rattle.bitcode_untyped.specs.Population.{total, count_of};
 ghost use Rattle.bitcode_serde.specs.Indices.{indices_left, index_count};
 ghost use Rattle.bitcode_coder.specs.Coding.{IsReadingRefusal, TakesDatum};
 ghost use Rattle.bitcode_untyped.specs.View.{datum_of};
-ghost use Rattle.bitcode_serde.specs.ReadColumns.{kind_of, kind_of_column, left, Tallies, ReadsColumn, IsColumnRefusal};
+ghost use Rattle.bitcode_serde.specs.ReadColumns.{kind_of, kind_number, kind_of_column, left, Tallies, ReadsColumn, IsColumnRefusal};
 
 use crate::serde::VariantDecoder;
 use bitcode_coder::bool::BoolDecoder;
@@ -43,6 +43,39 @@ pub enum ColumnKind {
     I128,
     Lengths,
     Texts,
+}
+
+impl ColumnKind {
+    // A number of its own for each kind.
+    fn number(self) -> u8
+        ensures { result ≡ kind_number (kind_of self) }
+    {
+        match self {
+            ColumnKind::Bools => 0,
+            ColumnKind::Bytes => 12,
+            ColumnKind::U16 => 14,
+            ColumnKind::U32 => 18,
+            ColumnKind::U64 => 26,
+            ColumnKind::U128 => 42,
+            ColumnKind::I8 => 13,
+            ColumnKind::I16 => 15,
+            ColumnKind::I32 => 19,
+            ColumnKind::I64 => 27,
+            ColumnKind::I128 => 43,
+            ColumnKind::Lengths => 1,
+            ColumnKind::Texts => 2,
+        }
+    }
+
+    /// Whether the two kinds are one.
+    pub fn is(self, other: ColumnKind) -> bool
+        ensures { MatchBool result (kind_of self ≡ kind_of other) (kind_of self ≢ kind_of other) }
+    {
+        if self.number() == other.number() {
+            return true;
+        }
+        false
+    }
 }
 
 /// An open column: the entries that are left to take.

@@ -2,6 +2,7 @@
 #![tactic(auto)]
 
 pub mod column;
+pub mod reader;
 pub mod serde;
 #[cfg(test)]
 mod tests;

@@ -1,5 +1,6 @@
 // Columns of the Rust crate.
 use crate::column::{Column, ColumnKind};
+use crate::reader::Reader;
 use crate::serde::{VariantDecoder, VariantEncoder};
 use bitcode_coder::coder::{Buffer, Decoder, Encoder, View};
 use bitcode_untyped::value::Value;
@@ -56,5 +57,25 @@ fn columns_are_opened_and_taken(rt: HostRuntime) -> Result<(), Fail> {
     let mut chars = Column::open(ColumnKind::U32, alloc, &mut code, 1)?;
     assert!(rt; chars.kind() == ColumnKind::U32);
     assert_eq!(rt; chars.take_code(), 97);
+    Ok(())
+}
+
+#[test]
+fn the_root_is_read(rt: HostRuntime) -> Result<(), Fail> {
+    let alloc = rt.alloc();
+    let mut number = Reader::new(alloc, &[7, 1]);
+    assert!(rt; !number.is_at_end());
+    assert_eq!(rt; number.take(0, ColumnKind::U16)?, Value::U16(263));
+    assert!(rt; number.is_at_end());
+    let mut lengths = Reader::new(alloc, &[9]);
+    let length = lengths.take_length(0)?;
+    assert_eq!(rt; length.length, 9);
+    assert_eq!(rt; length.total, 9);
+    let mut indices = Reader::new(alloc, &[3]);
+    let index = indices.take_index(0)?;
+    assert_eq!(rt; index.index, 3);
+    assert_eq!(rt; index.count, 1);
+    let mut codes = Reader::new(alloc, &[2, 97, 0]);
+    assert_eq!(rt; codes.take_code(0)?, 97);
     Ok(())
 }

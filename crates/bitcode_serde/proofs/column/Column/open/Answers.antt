@@ -1,5 +1,5 @@
 -- Each column refuses as its decoder does.
-use Rattle.std.proofs.Common.{false, true, None, inl, inr, refl}
+use Rattle.std.proofs.Common.{false, true, None}
 use Rattle.std.proofs.lemmas.Result.{err_from_is_err_and}
 use Rattle.bitcode_coder.specs.Columns.{bools, ints, lengths, texts}
 use Rattle.bitcode_shapes.specs.Shape.{bool_shape, text_shape}

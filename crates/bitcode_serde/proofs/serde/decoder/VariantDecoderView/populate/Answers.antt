@@ -1,4 +1,4 @@
-use Rattle.std.proofs.Common.{ap, subst, All, sym, ◌∙◌, ◌<◌, List, ℕ}
+use Rattle.std.proofs.Common.{ap, subst, All, sym, ◌∙◌, ◌<◌}
 use Rattle.bitcode_input.specs.Fast.{cow_rest}
 use Rattle.bitcode_columns.specs.Counts.{count_of}
 use Rattle.bitcode_serde.specs.Indices.{indices_left, index_count}

@@ -1,0 +1,56 @@
+-- The machine takes the entry that the column gives.
+use Rattle.std.proofs.Common.{rules, arith, refl, ap, length, ◌-◌, ◌∙◌, false}
+use Rattle.bitcode_coder.specs.Columns.{ints}
+use Rattle.bitcode_coder.specs.Spelling.{natural}
+use Rattle.bitcode_serde.proofs.ReadingLemmas.{led_telling, found_ready, ready_within, sized_at, sized_set}
+use Rattle.bitcode_serde.proofs.reader.Reader.take_index.Goals as goal
+
+pub index_mut-open-requires : goal.index_mut-open-requires
+index_mut-open-requires c =
+    let h = ready_within c.ready.new.self.columns.items c.args.place c.in_ok-i.i (ints 1 false) c.in_ok-i.ensures.found in
+    search (rules, h)
+
+pub overflow_sub-open : goal.overflow_sub-open
+overflow_sub-open c =
+    let h = found_ready c.ready.new.self.columns.items c.args.place c.in_ok-i.i (ints 1 false) c.index_mut-open.result.now c.in_ok-i.ensures.found c.index_mut-open.ensures.value in
+    let some = h.1 in
+    omega (arith, some)
+
+pub take_index-index-requires-clause-bytes : goal.take_index-index-requires-clause-bytes
+take_index-index-requires-clause-bytes c =
+    let h = found_ready c.ready.new.self.columns.items c.args.place c.in_ok-i.i (ints 1 false) c.index_mut-open.result.now c.in_ok-i.ensures.found c.index_mut-open.ensures.value in h.0
+
+pub take_index-index-requires-clause-some : goal.take_index-index-requires-clause-some
+take_index-index-requires-clause-some c =
+    let h = found_ready c.ready.new.self.columns.items c.args.place c.in_ok-i.i (ints 1 false) c.index_mut-open.result.now c.in_ok-i.ensures.found c.index_mut-open.ensures.value in
+    let some = h.1 in
+    let size = sized_at c.ready.new.self.columns.items c.args.place c.in_ok-i.i (ints 1 false) c.index_mut-open.result.now c.in_ok-i.ensures.sized c.in_ok-i.ensures.found c.index_mut-open.ensures.value in
+    omega (arith, some, size)
+
+pub returns-clause-sized : goal.returns-clause-sized
+returns-clause-sized c =
+    let size = sized_at c.ready.new.self.columns.items c.args.place c.in_ok-i.i (ints 1 false) c.index_mut-open.result.now c.in_ok-i.ensures.sized c.in_ok-i.ensures.found c.index_mut-open.ensures.value in
+    let taken = ap length c.take_index-index.ensures.taken in
+    sized_set c.ready.new.self.columns.items c.in_ok-i.i _ c.in_ok-i.ensures.sized (omega (arith, size, taken))
+
+pub count-count-requires : goal.count-count-requires
+count-count-requires c =
+    let h = found_ready c.ready.new.self.columns.items c.args.place c.in_ok-i.i (ints 1 false) c.index_mut-open.result.now c.in_ok-i.ensures.found c.index_mut-open.ensures.value in c.take_index-index.ensures.kind ∙ h.0
+
+pub returns-clause-leads : goal.returns-clause-leads
+returns-clause-leads c = λ a s.
+    let there = c.index_mut-open.result.now in
+    let h = found_ready c.ready.new.self.columns.items c.args.place c.in_ok-i.i (ints 1 false) c.index_mut-open.result.now c.in_ok-i.ensures.found c.index_mut-open.ensures.value in
+    let some = h.1 in
+    let led = led_telling c.args.self.now c.ready.new.self _ c.args.place c.in_ok-i.i (ints 1 false) there
+    (record { place = there.place; left = there.left - 1; column = c.take_index-index.new.self })
+    (natural c.take_index-index.result) c.requires.place c.ready.ensures.below c.ready.ensures.below refl refl c.in_ok-i.ensures.found c.index_mut-open.ensures.value
+    (record {
+      place = refl;
+      kind = c.take_index-index.ensures.kind;
+      size = omega (arith, some);
+      taken = c.take_index-index.ensures.taken;
+      tallies = c.take_index-index.ensures.tallies;
+    })
+    c.in_ok-i.ensures.prepared a s in
+    (led.0, led.1, led.2, led.3, c.count-count.ensures _ (c.take_index-index.ensures.tallies _ led.4))

@@ -1,0 +1,103 @@
+-- What a reader stands for: the state of the machine that takes one entry after another.
+use Rattle.std.specs.Prelude.{◌≡◌, ◌≢◌, ℕ, zero, suc, ◌<◌, true, List, [], ◌∷◌, ◌++◌, length, map, drop, get_or}
+use Rattle.bitcode_shapes.specs.Datum.{Datum}
+use Rattle.bitcode_coder.specs.Columns.{Kind}
+use Rattle.bitcode_untyped.specs.Machine.{Opened, State, whole, is_open, entries_of, Grounded, TakesNext, Takes}
+use Rattle.bitcode_untyped.specs.PlacedColumns.{PlacedColumn}
+use Rattle.bitcode_untyped.specs.Population.{population}
+use Rattle.bitcode_untyped.specs.Walk.{Step, element, key, value, variant, field, Place, use_at}
+use Rattle.bitcode_serde.specs.ReadColumns.{kind_of_column, left, Tallies}
+use Rattle.bitcode_serde.specs.declared.reader.Step.{Step as CodeStep}
+use Rattle.bitcode_serde.specs.declared.reader.Step.TheVariants as step
+use Rattle.bitcode_serde.specs.declared.reader.Below.{Below}
+use Rattle.bitcode_serde.specs.declared.reader.OpenColumn.{OpenColumn}
+use Rattle.bitcode_serde.specs.declared.reader.Reader.{Reader}
+
+-- ---- places, by number
+
+abbrev pub step_of : CodeStep → Step
+step_of step.Element = element
+step_of step.Key = key
+step_of step.Value = value
+step_of (step.Variant i) = variant i
+step_of (step.Field i) = field i
+
+abbrev pub place_at : List Place → ℕ → Place
+place_at ps i = get_or ps i []
+
+abbrev pub places_from : List Place → List Below → List Place
+places_from ps [] = ps
+places_from ps (b ∷ bs) = places_from (ps ++ (step_of b.step ∷ place_at ps b.above) ∷ []) bs
+
+-- the root, and each place below one before it
+abbrev pub places : List Below → List Place
+places = places_from ([] ∷ [])
+
+-- how many data stand at each
+abbrev pub counts : List Below → List ℕ
+counts bs = 1 ∷ map (λ b. b.count) bs
+
+abbrev pub AreApart : List Place → Type 0
+AreApart ps = (i j : ℕ) → i < length ps → j < length ps → place_at ps i ≡ place_at ps j → i ≡ j
+
+-- ---- columns
+
+-- The reader knows how many entries each column has left.
+abbrev pub AreSized : List OpenColumn → Type 0
+AreSized [] = Unit {0}
+AreSized (c ∷ cs) = (c.left ≡ length (left c.column)) × AreSized cs
+
+-- what the reader has of a column is what the machine has not taken of it
+pub record Backs (ps : List Place) (c : OpenColumn) (o : Opened) : Type 0 where
+  pub inside : c.place < length ps
+  pub place : o.place ≡ place_at ps c.place
+  pub kind : o.kind ≡ kind_of_column c.column
+  pub size : c.left ≡ length (left c.column)
+  pub entries : left c.column ≡ drop o.taken o.entries
+  pub tallies : Tallies c.column o.entries
+
+abbrev pub Back : List Place → List OpenColumn → List Opened → Type 0
+Back ps [] [] = Unit {0}
+Back ps (c ∷ cs) (o ∷ os) = Backs ps c o × Back ps cs os
+Back ps [] (o ∷ os) = ⊥
+Back ps (c ∷ cs) [] = ⊥
+
+-- so many data stand at a place
+abbrev pub Hosts : List PlacedColumn → Place → ℕ → Type 0
+Hosts ws p n = Grounded ws p × (population (entries_of ws) p ≡ n)
+
+abbrev pub HostAll : List PlacedColumn → List Place → List ℕ → Type 0
+HostAll ws ps ns = (i : ℕ) → i < length ps → Hosts ws (place_at ps i) (get_or ns i 0)
+
+-- The reader stands for the state.
+pub record Stands (r : Reader) (a : State) : Type 0 where
+  pub backs : Back (places r.below.items) r.columns.items a.opened
+  pub hosts : HostAll (map whole a.opened) (places r.below.items) (counts r.below.items)
+  pub apart : AreApart (places r.below.items)
+  pub input : a.rest ≡ r.input.now
+
+-- ---- steps
+
+-- column i is the first of a place, is of a kind, and has an entry left
+abbrev pub IsReady : List OpenColumn → ℕ → Kind → ℕ → Type 0
+IsReady [] n kind i = ⊥
+IsReady (c ∷ cs) n kind zero = (c.place ≡ n) × (kind_of_column c.column ≡ kind) × (0 < c.left)
+IsReady (c ∷ cs) n kind (suc i) = (c.place ≢ n) × IsReady cs n kind i
+
+-- what takes an entry of the place from there takes it from here
+abbrev pub Prepares : State → Place → Kind → State → Type 0
+Prepares a p kind m = (d : Datum) (b : State) → TakesNext m.opened (use_at p kind d) b.opened → b.rest ≡ m.rest → Takes a (use_at p kind d) b
+
+-- no entry of the place can be taken
+abbrev pub NothingAt : State → Place → Kind → Type 0
+NothingAt a p kind = (d : Datum) (b : State) → Takes a (use_at p kind d) b → ⊥
+
+-- The machine takes an entry, and the reader goes along.
+abbrev pub Leads : Reader → Place → Kind → Datum → Reader → Type 0
+Leads old p kind d new = (a : State) → Stands old a → (b : State) × Takes a (use_at p kind d) b × Stands new b
+
+-- The same, and the machine's column of that place is open, with entries of which something is told.
+abbrev pub LeadsTelling : Reader → Place → Kind → Datum → Reader → (List Datum → Type 0) → Type 0
+LeadsTelling old p kind d new Told =
+    (a : State) → Stands old a → (b : State) × Takes a (use_at p kind d) b × Stands new b
+    × (is_open (map whole b.opened) p ≡ true) × Told (entries_of (map whole b.opened) p)

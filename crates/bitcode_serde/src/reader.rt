@@ -1,0 +1,241 @@
+// Columns as they are first reached, each at its place.
+ghost use Rattle.std.specs.Prelude.{◌≡◌, ◌≢◌, ◌<◌, ◌≤◌, [], false, take, length, All, slice_get, get_or, IfOk, OnOk, IfErr, IfSome, IfNone, IsSomeAnd, MatchBool};
+ghost use Rattle.bitcode_coder.specs.Spelling.{natural};
+ghost use Rattle.bitcode_coder.specs.Columns.{ints};
+ghost use Rattle.bitcode_untyped.specs.Population.{total, count_of};
+ghost use Rattle.bitcode_coder.specs.Coding.{IsReadingReason};
+ghost use Rattle.bitcode_untyped.specs.Machine.{State, start};
+ghost use Rattle.bitcode_untyped.specs.View.{datum_of};
+ghost use Rattle.bitcode_untyped.specs.Walk.{length_kind, index_kind};
+ghost use Rattle.bitcode_serde.specs.ReadColumns.{kind_of};
+ghost use Rattle.bitcode_serde.specs.Reading.{places, place_at, counts, AreSized, Stands, IsReady, Prepares, NothingAt, Leads, LeadsTelling};
+
+use crate::column::{Column, ColumnKind};
+use bitcode_input::error::{Error, Reason};
+use bitcode_input::refuse::err;
+use bitcode_untyped::value::Value;
+use std::alloc::Global;
+
+/// From a value to a part of it.
+#[derive(Clone, Copy, PartialEq, Eq)]
+pub enum Step {
+    Element,
+    Key,
+    Value,
+    Variant(u8),
+    Field(usize),
+}
+
+/// A place below another, and how many data stand at it.
+#[derive(Clone, Copy)]
+pub struct Below {
+    above: usize,
+    step: Step,
+    count: usize,
+}
+
+/// An open column, the number of its place, and how many of its entries are left.
+#[derive(Drop)]
+pub struct OpenColumn<'a> {
+    place: usize,
+    left: usize,
+    column: Column<'a>,
+}
+
+/// The columns so far, and the bytes behind them.
+///
+/// Places are numbered as they are met: 0 is the root, and each other lies below one before it.
+#[derive(Drop)]
+pub struct Reader<'a> {
+    alloc: Global,
+    input: &'a [u8],
+    below: Vec<Below>,
+    columns: Vec<OpenColumn<'a>>,
+}
+
+/// A length that was taken, and the sum of all lengths of its column.
+#[derive(Clone, Copy)]
+pub struct Length {
+    pub length: usize,
+    pub total: usize,
+}
+
+/// An index that was taken, and how many indices of its column are the same.
+#[derive(Clone, Copy)]
+pub struct Index {
+    pub index: u8,
+    pub count: usize,
+}
+
+// The first column of a place.
+fn find(columns: &[OpenColumn<'_>], place: usize) -> Option<usize>
+    ensures none { IfNone result (All (λ c. c.place ≢ place) columns.now) }
+    ensures some { IfSome result (λ i. IsSomeAnd (slice_get columns.now i) (λ c. c.place ≡ place)) }
+    ensures first { IfSome result (λ i. All (λ c. c.place ≢ place) (take i columns.now)) }
+{
+    for (i, column) in columns.iter().enumerate() {
+        if column.place == place {
+            return Some(i);
+        }
+    }
+    None
+}
+
+impl<'a> Reader<'a> {
+    /// Stands before the bytes, with no column open. Takes no memory.
+    pub fn new(alloc: Global, bytes: &'a [u8]) -> Self
+        ensures stands { Stands result (start bytes.now) }
+        ensures sized { AreSized result.columns.items }
+    {
+        Reader {
+            alloc,
+            input: bytes,
+            below: Vec::new(alloc),
+            columns: Vec::new(alloc),
+        }
+    }
+
+    /// Whether no byte is left behind the columns that were opened.
+    pub fn is_at_end(&self) -> bool
+        ensures { MatchBool result ((a : State) → Stands self.now a → a.rest ≡ []) ((a : State) → Stands self.now a → a.rest ≢ []) }
+    {
+        self.input.is_empty()
+    }
+
+    // How many data stand at a place.
+    fn count_at(&self, place: usize) -> usize
+        requires { place ≤ length self.now.below.items }
+        ensures { result ≡ get_or (counts self.now.below.items) place 0 }
+    {
+        if place == 0 {
+            1
+        } else {
+            self.below[place - 1].count
+        }
+    }
+
+    // Opens the column of a place, unless it is open, and finds it. An entry is left.
+    fn ready(&mut self, place: usize, kind: ColumnKind) -> Result<usize, Error>
+        requires place { place ≤ length self.old.below.items }
+        requires sized { AreSized self.old.columns.items }
+        ensures sized { OnOk result (AreSized self.new.columns.items) }
+        ensures found { IfOk result (λ i. IsReady self.new.columns.items place (kind_of kind) i) }
+        ensures below { self.new.below ≡ self.old.below }
+        ensures prepared { OnOk result ((a : State) → Stands self.old a → (m : State) × Stands self.new m × Prepares a (place_at (places self.old.below.items) place) (kind_of kind) m) }
+        ensures refused { IfErr result (λ e. IsReadingReason e.reason × (e.reason ≢ Reason.OutOfMemory → (a : State) → Stands self.old a → NothingAt a (place_at (places self.old.below.items) place) (kind_of kind))) }
+    {
+        match find(&self.columns, place) {
+            Some(i) => {
+                let open = &self.columns[i];
+                if !open.column.kind().is(kind) {
+                    return err(Reason::Eof);
+                }
+                if open.left == 0 {
+                    return err(Reason::Eof);
+                }
+                Ok(i)
+            }
+            None => self.open(place, kind),
+        }
+    }
+
+    // Opens the column of a place that has none.
+    fn open(&mut self, place: usize, kind: ColumnKind) -> Result<usize, Error>
+        requires place { place ≤ length self.old.below.items }
+        requires closed { All (λ c. c.place ≢ place) self.old.columns.items }
+        requires sized { AreSized self.old.columns.items }
+        ensures sized { OnOk result (AreSized self.new.columns.items) }
+        ensures found { IfOk result (λ i. IsReady self.new.columns.items place (kind_of kind) i) }
+        ensures below { self.new.below ≡ self.old.below }
+        ensures prepared { OnOk result ((a : State) → Stands self.old a → (m : State) × Stands self.new m × Prepares a (place_at (places self.old.below.items) place) (kind_of kind) m) }
+        ensures refused { IfErr result (λ e. IsReadingReason e.reason × (e.reason ≢ Reason.OutOfMemory → (a : State) → Stands self.old a → NothingAt a (place_at (places self.old.below.items) place) (kind_of kind))) }
+    {
+        let count = self.count_at(place);
+        if count == 0 {
+            return err(Reason::Eof);
+        }
+        let column = Column::open(kind, self.alloc, &mut self.input, count)?;
+        self.columns.push(OpenColumn {
+            place,
+            left: count,
+            column,
+        })?;
+        Ok(self.columns.as_slice().len() - 1)
+    }
+
+    /// Takes the next entry of the column of a place, which is opened where it is first reached.
+    ///
+    /// It refuses as the column's decoder does, and with `EOF` where no entry is left.
+    pub fn take(&mut self, place: usize, kind: ColumnKind) -> Result<Value, Error>
+        requires place { place ≤ length self.old.below.items }
+        requires sized { AreSized self.old.columns.items }
+        ensures sized { OnOk result (AreSized self.new.columns.items) }
+        ensures leads { IfOk result (λ value. Leads self.old (place_at (places self.old.below.items) place) (kind_of kind) (datum_of value) self.new) }
+        ensures below { self.new.below ≡ self.old.below }
+        ensures refused { IfErr result (λ e. IsReadingReason e.reason × (e.reason ≢ Reason.OutOfMemory → (a : State) → Stands self.old a → NothingAt a (place_at (places self.old.below.items) place) (kind_of kind))) }
+    {
+        let i = self.ready(place, kind)?;
+        let open = &mut self.columns[i];
+        open.left -= 1;
+        let value = open.column.take()?;
+        Ok(value)
+    }
+
+    /// Takes the next length of a place, and tells the sum of all of them.
+    ///
+    /// It refuses as [`Reader::take`] does.
+    pub fn take_length(&mut self, place: usize) -> Result<Length, Error>
+        requires place { place ≤ length self.old.below.items }
+        requires sized { AreSized self.old.columns.items }
+        ensures sized { OnOk result (AreSized self.new.columns.items) }
+        ensures leads { IfOk result (λ taken. LeadsTelling self.old (place_at (places self.old.below.items) place) length_kind (natural taken.length) self.new
+            (λ entries. taken.total ≡ total entries)) }
+        ensures below { self.new.below ≡ self.old.below }
+        ensures refused { IfErr result (λ e. IsReadingReason e.reason × (e.reason ≢ Reason.OutOfMemory → (a : State) → Stands self.old a → NothingAt a (place_at (places self.old.below.items) place) length_kind)) }
+    {
+        let i = self.ready(place, ColumnKind::Lengths)?;
+        let open = &mut self.columns[i];
+        open.left -= 1;
+        let length = open.column.take_length();
+        let total = open.column.total();
+        Ok(Length { length, total })
+    }
+
+    /// Takes the next index of a place, and tells how many of its indices are the same.
+    ///
+    /// It refuses as [`Reader::take`] does.
+    pub fn take_index(&mut self, place: usize) -> Result<Index, Error>
+        requires place { place ≤ length self.old.below.items }
+        requires sized { AreSized self.old.columns.items }
+        ensures sized { OnOk result (AreSized self.new.columns.items) }
+        ensures leads { IfOk result (λ taken. LeadsTelling self.old (place_at (places self.old.below.items) place) index_kind (natural taken.index) self.new
+            (λ entries. taken.count ≡ count_of taken.index entries)) }
+        ensures below { self.new.below ≡ self.old.below }
+        ensures refused { IfErr result (λ e. IsReadingReason e.reason × (e.reason ≢ Reason.OutOfMemory → (a : State) → Stands self.old a → NothingAt a (place_at (places self.old.below.items) place) index_kind)) }
+    {
+        let i = self.ready(place, ColumnKind::Bytes)?;
+        let open = &mut self.columns[i];
+        open.left -= 1;
+        let index = open.column.take_index();
+        let count = open.column.count(index);
+        Ok(Index { index, count })
+    }
+
+    /// Takes the next number of four bytes of a place.
+    ///
+    /// It refuses as [`Reader::take`] does.
+    pub fn take_code(&mut self, place: usize) -> Result<u32, Error>
+        requires place { place ≤ length self.old.below.items }
+        requires sized { AreSized self.old.columns.items }
+        ensures sized { OnOk result (AreSized self.new.columns.items) }
+        ensures leads { IfOk result (λ code. Leads self.old (place_at (places self.old.below.items) place) (ints 4 false) (natural code) self.new) }
+        ensures below { self.new.below ≡ self.old.below }
+        ensures refused { IfErr result (λ e. IsReadingReason e.reason × (e.reason ≢ Reason.OutOfMemory → (a : State) → Stands self.old a → NothingAt a (place_at (places self.old.below.items) place) (ints 4 false))) }
+    {
+        let i = self.ready(place, ColumnKind::U32)?;
+        let open = &mut self.columns[i];
+        open.left -= 1;
+        let code = open.column.take_code();
+        Ok(code)
+    }
+}
