@@ -1,6 +1,6 @@
 -- A datum is known by its parts.
-use Rattle.std.proofs.Common.{◌≡◌, ℕ, zero, suc, List, [], ◌∷◌, refl, ap, sym, ◌∙◌}
-use Rattle.bitcode_shapes.specs.Datum.{Datum, Data, list, tuple, choice, pair, unit, no_data, datum_and, data_of, list_of, elements_in, fields_in, first_in, second_in, variant_in, payload_in, first_of, rest_of}
+use Rattle.std.proofs.Common.{◌≡◌, ℕ, zero, suc, ap, sym, ◌∙◌}
+use Rattle.bitcode_shapes.specs.Datum.{Datum, Data, list, tuple, choice, pair, data_of, elements_in, fields_in, first_in, second_in, variant_in, payload_in, first_of, rest_of}
 use Rattle.bitcode_untyped.specs.ShapeTree.{IsList, IsTuple, IsChoice}
 
 pub list_by_parts : (d e : Datum) → IsList d → IsList e → elements_in d ≡ elements_in e → d ≡ e

@@ -1,5 +1,5 @@
 -- The first column that is new, and the columns above each place.
-use Rattle.std.proofs.Common.{◌≡◌, ℕ, zero, suc, ◌+◌, ◌⊎◌, inl, inr, List, [], ◌∷◌, ◌++◌, length, map, flat_map, take, drop, refl, ap, sym, ◌∙◌, subst, Bool, true, false, not, filter, if◌then◌else◌, ◌||◌}
+use Rattle.std.proofs.Common.{◌≡◌, ℕ, zero, suc, ◌+◌, inl, inr, List, [], ◌∷◌, ◌++◌, flat_map, refl, ap, sym, subst, Bool, true, false, not, filter, ◌||◌}
 use Rattle.std.proofs.lemmas.Bool.{cases_Bool, or_left, or_right, or_cases}
 use Rattle.std.specs.List.{AllByRecursion}
 use Rattle.bitcode_shapes.specs.Datum.{Datum, Data, elements_in, first_of, rest_of, fields_in, first_in, second_in, variant_in, payload_in}
@@ -39,7 +39,8 @@ fresh_also z p (c ∷ cs) =
     ]
 
 -- Where all places so far are in z and the next is not, it has the first fresh column.
-pub fresh_first : (z : Place → Bool) (w : List Use) (u : Use) (t : List Use) → AllIn z w → z u.place ≡ false → fresh z (columns (w ++ u ∷ t)) ≡ record { place = u.place; kind = u.kind; entries = entries_at u.place (w ++ u ∷ t) } ∷ fresh (also u.place z) (columns (w ++ u ∷ t))
+pub fresh_first : (z : Place → Bool) (w : List Use) (u : Use) (t : List Use) → AllIn z w → z u.place ≡ false
+    → fresh z (columns (w ++ u ∷ t)) ≡ record { place = u.place; kind = u.kind; entries = entries_at u.place (w ++ u ∷ t) } ∷ fresh (also u.place z) (columns (w ++ u ∷ t))
 fresh_first z [] u t all h =
     rw (h, same_place-refl u.place, fresh_also z u.place (columns t)) refl
 fresh_first z (v ∷ w) u t all h =
@@ -112,7 +113,8 @@ mutual
   walk_grounded (tuple_tree ts) p d z g = walk_grounded_fields ts (field_place ts p) 0 (fields_in d) z (λ i. grounded_field z ts p i g)
   walk_grounded (choice_tree ts) p d z g = (g, walk_grounded_variant ts (variant_in d) (variant (variant_in d) ∷ p) (payload_in d) (also p z) (here_too z p))
 
-  pub walk_grounded_fields : (ts : ShapeTrees) (at : ℕ → Place) (i : ℕ) (xs : Data) (z : Place → Bool) → ((i : ℕ) → GroundedBy z (at i)) → GroundedWalk z (walk_fields ts at i xs)
+  pub walk_grounded_fields : (ts : ShapeTrees) (at : ℕ → Place) (i : ℕ) (xs : Data) (z : Place → Bool) → ((i : ℕ) → GroundedBy z (at i))
+      → GroundedWalk z (walk_fields ts at i xs)
   walk_grounded_fields no_trees at i xs z g = tt
   walk_grounded_fields (tree_and t ts) at i xs z g =
       grounded_then z _ _ (walk_grounded t (at i) (first_of xs) z (g i)) (walk_grounded_fields ts at (i + 1) (rest_of xs) z g)
@@ -126,11 +128,13 @@ mutual
 pub grounded_at : (z y : Place → Bool) (w : List Use) (u : Use) (t : List Use) → Within z y → AllIn y w → GroundedWalk z (w ++ u ∷ t) → GroundedBy y u.place
 grounded_at z y [] u t h all g = grounded_within z y h u.place g.0
 grounded_at z y (v ∷ w) u t h all g =
-    let h' : Within (also v.place z) y = λ q k. elim (or_cases (same_place v.place q) (z q) k) [ inl e ↦ subst (λ r. y r ≡ true) (same_place-true v.place q e) all.0 | inr e ↦ h q e ] in
+    let h' : Within (also v.place z) y =
+    λ q k. elim (or_cases (same_place v.place q) (z q) k) [ inl e ↦ subst (λ r. y r ≡ true) (same_place-true v.place q e) all.0 | inr e ↦ h q e ] in
     grounded_at (also v.place z) y w u t h' all.1 g.1
 
 -- Columns that agree on y give one population to what y grounds.
-pub population_by : (y : Place → Bool) (M N : Place → List Datum) → ((q : Place) → y q ≡ true → M q ≡ N q) → (q : Place) → GroundedBy y q → population M q ≡ population N q
+pub population_by : (y : Place → Bool) (M N : Place → List Datum) → ((q : Place) → y q ≡ true → M q ≡ N q) → (q : Place) → GroundedBy y q
+    → population M q ≡ population N q
 population_by y M N h [] g = refl
 population_by y M N h (element ∷ p) g = ap total (h p g)
 population_by y M N h (key ∷ p) g = ap total (h p g)

@@ -1,17 +1,13 @@
 -- The columns of a walk that grows at its end.
-use Rattle.std.proofs.Common.{◌≡◌, ℕ, zero, suc, ◌+◌, ◌⊎◌, inl, inr, List, [], ◌∷◌, ◌++◌, length, map, refl, ap, sym, ◌∙◌, subst, Bool, true, false, not, if◌then◌else◌, ◌||◌}
+use Rattle.std.proofs.Common.{◌≡◌, inl, inr, List, [], ◌∷◌, ◌++◌, refl, ap, sym, ◌∙◌, append_assoc, subst, true, false}
 use Rattle.std.proofs.lemmas.Bool.{cases_Bool, false_from_ne_true}
 use Rattle.std.proofs.lemmas.List.{append-nil}
 use Rattle.std.specs.List.{AllByRecursion}
 use Rattle.bitcode_untyped.specs.Machine.{entries_of}
+use Rattle.bitcode_untyped.specs.Growing.{put, put_all}
 use Rattle.bitcode_untyped.specs.PlacedColumns.{same_place, entries_at, PlacedColumn, without, columns}
 use Rattle.bitcode_untyped.specs.Walk.{Place, Use}
 use Rattle.bitcode_untyped.proofs.PlaceLemmas.{same_place-true, same_place-refl, entries-append}
-
--- one more use
-abbrev pub put : Use → List PlacedColumn → List PlacedColumn
-put u [] = record { place = u.place; kind = u.kind; entries = u.entry ∷ [] } ∷ []
-put u (c ∷ cs) = if same_place u.place c.place then record c { entries = c.entries ++ u.entry ∷ [] } ∷ cs else c ∷ put u cs
 
 pub same_place_sym : (p q : Place) → same_place p q ≡ true → same_place q p ≡ true
 same_place_sym p q h = rw (same_place-true p q h) (same_place-refl q)
@@ -55,6 +51,19 @@ columns_snoc (v ∷ w) u =
           let k' : same_place v.place u.place ≡ false = differ_sym u.place v.place k in
           rw (k, e, k', append-nil, ih, without_put_other u v.place (columns w) k) refl
     ]
+
+pub put_all-append : (v w : List Use) (cs : List PlacedColumn) → put_all (v ++ w) cs ≡ put_all w (put_all v cs)
+put_all-append [] w cs = refl
+put_all-append (u ∷ v) w cs = put_all-append v w (put u cs)
+
+pub put_all-columns : (v w : List Use) → put_all v (columns w) ≡ columns (w ++ v)
+put_all-columns [] w = ap columns (sym (append-nil w))
+put_all-columns (u ∷ v) w =
+    ap (put_all v) (sym (columns_snoc w u)) ∙ put_all-columns v (w ++ u ∷ []) ∙ ap columns (append_assoc w (u ∷ []) v)
+
+-- The columns of a walk are those that a writer makes use by use.
+pub put_all-none : (w : List Use) → put_all w [] ≡ columns w
+put_all-none w = put_all-columns w []
 
 pub lookup_without : (p q : Place) (cs : List PlacedColumn) → same_place p q ≡ false → entries_of (without q cs) p ≡ entries_of cs p
 lookup_without p q [] h = refl

@@ -1,9 +1,8 @@
 -- Where a walk has its entries.
-use Rattle.std.proofs.Common.{◌≡◌, ℕ, zero, suc, ◌+◌, ◌≤◌, ◌<◌, ◌⊎◌, inl, inr, pos, List, [], ◌∷◌, ◌++◌, length, flat_map, map, refl, ap, sym, ◌∙◌, subst, Bool, true, false, arith, zero-add}
+use Rattle.std.proofs.Common.{◌≡◌, ℕ, zero, suc, ◌+◌, ◌⊎◌, inl, inr, List, [], ◌∷◌, ◌++◌, flat_map, refl, sym, ◌∙◌, subst, arith, zero-add}
 use Rattle.std.proofs.lemmas.Bool.{cases_Bool}
 use Rattle.bitcode_shapes.specs.Datum.{Datum, Data, elements_in, first_of, rest_of, fields_in, first_in, second_in, variant_in, payload_in}
 use Rattle.bitcode_coder.specs.Columns.{Kind}
-use Rattle.bitcode_untyped.specs.Machine.{next}
 use Rattle.bitcode_untyped.specs.PlacedColumns.{same_place, entries_at}
 use Rattle.bitcode_untyped.specs.ShapeTree.{ShapeTree, unit_tree, never_tree, leaf_tree, seq_tree, map_tree, tuple_tree, choice_tree, ShapeTrees, no_trees, tree_and, tree_at}
 use Rattle.bitcode_untyped.specs.Walk.{element, key, value, variant, field, Place, Use, use_at, length_kind, index_kind, field_place, walk, walk_fields, walk_variant}
@@ -73,14 +72,16 @@ mutual
   hosted (map_tree t v) p d q =
       let H : Type 0 = Hosts t (key ∷ p) q ⊎ Hosts v (value ∷ p) q in
       let f : Datum → List Use = λ e. walk t (key ∷ p) (first_in e) ++ walk v (value ∷ p) (second_in e) in
-      let one : (x : Datum) → NoneOr q (f x) H = λ x. none_or_append q _ _ H (none_or_if q _ _ _ inl (hosted t (key ∷ p) (first_in x) q)) (none_or_if q _ _ _ inr (hosted v (value ∷ p) (second_in x) q)) in
+      let one : (x : Datum) → NoneOr q (f x) H =
+      λ x. none_or_append q _ _ H (none_or_if q _ _ _ inl (hosted t (key ∷ p) (first_in x) q)) (none_or_if q _ _ _ inr (hosted v (value ∷ p) (second_in x) q)) in
       none_or_first q p length_kind _ _ _ inl (none_or_if q _ _ _ inr (none_or_each q f H one (elements_in d)))
   hosted (tuple_tree ts) p d q =
       none_or_if q _ _ _ (λ (h : (j : ℕ) × HostsAt ts j (field_place ts p (0 + j)) q). (h.0, subst (λ z. HostsAt ts h.0 (field_place ts p z) q) (zero-add h.0) h.1)) (hosted_fields ts (field_place ts p) 0 (fields_in d) q)
   hosted (choice_tree ts) p d q =
       none_or_first q p index_kind _ _ _ inl (none_or_if q _ _ _ (λ (h : HostsAt ts (variant_in d) (variant (variant_in d) ∷ p) q). inr (variant_in d, h)) (hosted_variant ts (variant_in d) (variant (variant_in d) ∷ p) (payload_in d) q))
 
-  pub hosted_fields : (ts : ShapeTrees) (at : ℕ → Place) (i : ℕ) (xs : Data) (q : Place) → NoneOr q (walk_fields ts at i xs) ((j : ℕ) × HostsAt ts j (at (i + j)) q)
+  pub hosted_fields : (ts : ShapeTrees) (at : ℕ → Place) (i : ℕ) (xs : Data) (q : Place)
+      → NoneOr q (walk_fields ts at i xs) ((j : ℕ) × HostsAt ts j (at (i + j)) q)
   hosted_fields no_trees at i xs q = inl refl
   hosted_fields (tree_and t ts) at i xs q =
       let zeroth : i + 0 ≡ i = omega arith in

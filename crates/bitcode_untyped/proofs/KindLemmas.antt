@@ -1,5 +1,5 @@
 -- All entries of a place have one kind.
-use Rattle.std.proofs.Common.{◌≡◌, ℕ, zero, suc, ◌+◌, ◌⊎◌, inl, inr, List, [], ◌∷◌, ◌++◌, flat_map, refl, ap, sym, ◌∙◌, subst, Bool, true, false, arith, zero-add}
+use Rattle.std.proofs.Common.{◌≡◌, ℕ, zero, suc, ◌+◌, ◌⊎◌, inl, inr, List, [], ◌∷◌, ◌++◌, refl, sym, ◌∙◌, subst, arith, zero-add}
 use Rattle.std.proofs.lemmas.Bool.{cases_Bool}
 use Rattle.std.specs.List.{AllByRecursion}
 use Rattle.bitcode_shapes.specs.Datum.{Datum, Data, elements_in, first_of, rest_of, fields_in, first_in, second_in, variant_in, payload_in}
@@ -7,6 +7,7 @@ use Rattle.bitcode_coder.specs.Columns.{Kind}
 use Rattle.bitcode_untyped.specs.PlacedColumns.{same_place, PlacedColumn, without, columns}
 use Rattle.bitcode_untyped.specs.ShapeTree.{ShapeTree, unit_tree, never_tree, leaf_tree, seq_tree, map_tree, tuple_tree, choice_tree, ShapeTrees, no_trees, tree_and}
 use Rattle.bitcode_untyped.specs.Walk.{Step, element, key, value, variant, field, Place, Use, length_kind, index_kind, field_place, walk, walk_fields, walk_variant}
+use Rattle.bitcode_untyped.proofs.EachLemmas.{each_if, each_append, each_flat}
 use Rattle.bitcode_untyped.proofs.PlaceLemmas.{Under, append_same_tail, under_step, under_not_above}
 
 -- The shape, standing at p, has a column of kind k at q.
@@ -31,26 +32,6 @@ HasKind s p q k = HasKindFrom s p q k
 abbrev pub Kinded : ShapeTree → Place → Use → Type 0
 Kinded s p u = HasKindFrom s p u.place u.kind
 
-pub each_if : {A : Type 0} (P Q : A → Type 0) → ((x : A) → P x → Q x) → (xs : List A) → AllByRecursion P xs → AllByRecursion Q xs
-each_if P Q f [] h = tt
-each_if P Q f (x ∷ xs) h = (f x h.0, each_if P Q f xs h.1)
-
-pub each_append : {A : Type 0} (P : A → Type 0) (xs ys : List A) → AllByRecursion P xs → AllByRecursion P ys → AllByRecursion P (xs ++ ys)
-each_append P [] ys h k = k
-each_append P (x ∷ xs) ys h k = (h.0, each_append P xs ys h.1 k)
-
-pub each_front : {A : Type 0} (P : A → Type 0) (xs ys : List A) → AllByRecursion P (xs ++ ys) → AllByRecursion P xs
-each_front P [] ys h = tt
-each_front P (x ∷ xs) ys h = (h.0, each_front P xs ys h.1)
-
-pub each_back : {A : Type 0} (P : A → Type 0) (xs ys : List A) → AllByRecursion P (xs ++ ys) → AllByRecursion P ys
-each_back P [] ys h = h
-each_back P (x ∷ xs) ys h = each_back P xs ys h.1
-
-pub each_flat : {A B : Type 0} (P : B → Type 0) (f : A → List B) → ((x : A) → AllByRecursion P (f x)) → (xs : List A) → AllByRecursion P (flat_map f xs)
-each_flat P f h [] = tt
-each_flat P f h (x ∷ xs) = each_append P (f x) (flat_map f xs) (h x) (each_flat P f h xs)
-
 mutual
   pub kinded : (s : ShapeTree) (p : Place) (d : Datum) → AllByRecursion (λ (u : Use). HasKindFrom s p u.place u.kind) (walk s p d)
   kinded unit_tree p d = tt
@@ -65,7 +46,8 @@ mutual
   kinded (choice_tree ss) p d =
       (inl (refl, refl), each_if (λ (u : Use). HasKindAt ss (variant_in d) (variant (variant_in d) ∷ p) u.place u.kind) (Kinded (choice_tree ss) p) (λ u h. inr (variant_in d, h)) _ (kinded_variant ss (variant_in d) (variant (variant_in d) ∷ p) (payload_in d)))
 
-  pub kinded_fields : (ss : ShapeTrees) (at : ℕ → Place) (i : ℕ) (xs : Data) → AllByRecursion (λ (u : Use). (j : ℕ) × HasKindAt ss j (at (i + j)) u.place u.kind) (walk_fields ss at i xs)
+  pub kinded_fields : (ss : ShapeTrees) (at : ℕ → Place) (i : ℕ) (xs : Data)
+      → AllByRecursion (λ (u : Use). (j : ℕ) × HasKindAt ss j (at (i + j)) u.place u.kind) (walk_fields ss at i xs)
   kinded_fields no_trees at i xs = tt
   kinded_fields (tree_and s ss) at i xs =
       let P : Use → Type 0 = λ u. (j : ℕ) × HasKindAt (tree_and s ss) j (at (i + j)) u.place u.kind in
@@ -103,17 +85,20 @@ mutual
 pub same_step_below : (a b : Step) (p q : Place) → Under (a ∷ p) q → Under (b ∷ p) q → a ≡ b
 same_step_below a b p q u v = append_same_tail u.0 v.0 a b p (sym u.1 ∙ v.1)
 
-pub one_kind_single : (s : ShapeTree) (p q : Place) (k l : Kind) → (HasKindFrom s p q k → HasKindFrom s p q l → k ≡ l) → (i j : ℕ) → HasKindAt (tree_and s no_trees) i p q k → HasKindAt (tree_and s no_trees) j p q l → k ≡ l
+pub one_kind_single : (s : ShapeTree) (p q : Place) (k l : Kind) → (HasKindFrom s p q k → HasKindFrom s p q l → k ≡ l) → (i j : ℕ)
+    → HasKindAt (tree_and s no_trees) i p q k → HasKindAt (tree_and s no_trees) j p q l → k ≡ l
 one_kind_single s p q k l f zero zero h g = f h g
 one_kind_single s p q k l f zero (suc j) h g = absurd g
 one_kind_single s p q k l f (suc i) j h g = absurd h
 
-pub one_kind_tuple : (ss : ShapeTrees) (p q : Place) (k l : Kind) → ((j : ℕ) (at : Place) → HasKindAt ss j at q k → HasKindAt ss j at q l → k ≡ l) → HasKindFrom (tuple_tree ss) p q k → HasKindFrom (tuple_tree ss) p q l → k ≡ l
+pub one_kind_tuple : (ss : ShapeTrees) (p q : Place) (k l : Kind) → ((j : ℕ) (at : Place) → HasKindAt ss j at q k → HasKindAt ss j at q l → k ≡ l)
+    → HasKindFrom (tuple_tree ss) p q k → HasKindFrom (tuple_tree ss) p q l → k ≡ l
 one_kind_tuple no_trees p q k l f h g = absurd h.1
 one_kind_tuple (tree_and s no_trees) p q k l f h g = one_kind_single s p q k l (f 0 p) h.0 g.0 h.1 g.1
 one_kind_tuple (tree_and s (tree_and t ts)) p q k l f h g =
     let ss : ShapeTrees = tree_and s (tree_and t ts) in
-    let e : field h.0 ≡ field g.0 = same_step_below (field h.0) (field g.0) p q (kind_under_at ss h.0 (field h.0 ∷ p) q k h.1) (kind_under_at ss g.0 (field g.0 ∷ p) q l g.1) in
+    let e : field h.0 ≡ field g.0 =
+    same_step_below (field h.0) (field g.0) p q (kind_under_at ss h.0 (field h.0 ∷ p) q k h.1) (kind_under_at ss g.0 (field g.0 ∷ p) q l g.1) in
     let i : h.0 ≡ g.0 = cc in
     f h.0 (field h.0 ∷ p) h.1 (subst (λ z. HasKindAt ss z (field z ∷ p) q l) (sym i) g.1)
 
@@ -143,7 +128,8 @@ mutual
   one_kind (choice_tree ss) p q k l (inl h) (inr g) = absurd (under_not_above (variant g.0) p q (kind_under_at ss g.0 (variant g.0 ∷ p) q l g.1) h.0)
   one_kind (choice_tree ss) p q k l (inr h) (inl g) = absurd (under_not_above (variant h.0) p q (kind_under_at ss h.0 (variant h.0 ∷ p) q k h.1) g.0)
   one_kind (choice_tree ss) p q k l (inr h) (inr g) =
-      let e : variant h.0 ≡ variant g.0 = same_step_below (variant h.0) (variant g.0) p q (kind_under_at ss h.0 (variant h.0 ∷ p) q k h.1) (kind_under_at ss g.0 (variant g.0 ∷ p) q l g.1) in
+      let e : variant h.0 ≡ variant g.0 =
+      same_step_below (variant h.0) (variant g.0) p q (kind_under_at ss h.0 (variant h.0 ∷ p) q k h.1) (kind_under_at ss g.0 (variant g.0 ∷ p) q l g.1) in
       let i : h.0 ≡ g.0 = cc in
       one_kind_at ss h.0 (variant h.0 ∷ p) q k l h.1 (subst (λ z. HasKindAt ss z (variant z ∷ p) q l) (sym i) g.1)
 
@@ -157,6 +143,7 @@ each_without P p [] h = tt
 each_without P p (c ∷ cs) h = elim (cases_Bool (same_place p c.place)) [ inl k ↦ rw k (each_without P p cs h.1) | inr k ↦ rw k (h.0, each_without P p cs h.1) ]
 
 -- what holds of the kind of each use holds of the kind of each column
-pub kind_columns : (K : Place → Kind → Type 0) (w : List Use) → AllByRecursion (λ (u : Use). K u.place u.kind) w → AllByRecursion (λ (c : PlacedColumn). K c.place c.kind) (columns w)
+pub kind_columns : (K : Place → Kind → Type 0) (w : List Use) → AllByRecursion (λ (u : Use). K u.place u.kind) w
+    → AllByRecursion (λ (c : PlacedColumn). K c.place c.kind) (columns w)
 kind_columns K [] h = tt
 kind_columns K (u ∷ w) h = (h.0, each_without (λ (c : PlacedColumn). K c.place c.kind) u.place (columns w) (kind_columns K w h.1))

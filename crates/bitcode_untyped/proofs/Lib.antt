@@ -1,5 +1,6 @@
 pub mod ViewLemmas
 pub mod DatumLemmas
+pub mod EachLemmas
 pub mod PlaceLemmas
 pub mod OneRunLemmas
 pub mod HostLemmas
@@ -9,3 +10,16 @@ pub mod SoundLemmas
 pub mod FreshLemmas
 pub mod PartingLemmas
 pub mod KindLemmas
+pub mod NextColumnLemmas
+pub mod CompleteLemmas
+pub mod OnceLemmas
+pub mod BoundLemmas
+pub mod EntryLemmas
+pub mod SpellingLemmas
+pub mod LawLemmas
+pub mod SoundTreeLemmas
+pub mod FollowLemmas
+pub mod FaultLemmas
+pub mod MismatchLemmas
+pub mod ReadLemmas
+pub mod FollowedLemmas

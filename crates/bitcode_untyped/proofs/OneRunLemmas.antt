@@ -1,5 +1,5 @@
 -- A machine that can take at most one entry at each place runs along the walk of at most one datum of a shape.
-use Rattle.std.proofs.Common.{◌≡◌, ℕ, zero, suc, ◌+◌, pos, List, [], ◌∷◌, ◌++◌, length, flat_map, refl, ap, sym, ◌∙◌, subst}
+use Rattle.std.proofs.Common.{◌≡◌, ℕ, zero, suc, ◌+◌, List, [], ◌∷◌, ◌++◌, length, flat_map, refl, sym, ◌∙◌, subst}
 use Rattle.std.specs.List.{AllByRecursion}
 use Rattle.bitcode_shapes.specs.Datum.{Datum, no_data, datum_and, elements_in, first_of, rest_of, fields_in, first_in, second_in, variant_in, payload_in}
 use Rattle.bitcode_coder.specs.Columns.{Kind}
@@ -24,7 +24,9 @@ module _ {S : Type 0} (T : S → Use → S → Type 0) (takes_one : TakesOne T) 
       let t = runs-append v w r.0 b r.2 in (t.0, (r.0, r.1, t.1), t.2)
 
   -- one thing after another
-  pub one_run_then : {A B C : Type 0} (P : A → Type 0) (Q : B → Type 0) (f : A → List Use) (g : B → List Use) → OneRun T P f → OneRun T Q g → (m : C → A) (n : C → B) → (x y : C) (a b c : S) → P (m x) → Q (n x) → P (m y) → Q (n y) → Runs T a (f (m x) ++ g (n x)) b → Runs T a (f (m y) ++ g (n y)) c → (m x ≡ m y) × (n x ≡ n y) × (b ≡ c)
+  pub one_run_then : {A B C : Type 0} (P : A → Type 0) (Q : B → Type 0) (f : A → List Use) (g : B → List Use) → OneRun T P f → OneRun T Q g
+      → (m : C → A) (n : C → B) → (x y : C) (a b c : S) → P (m x) → Q (n x) → P (m y) → Q (n y) → Runs T a (f (m x) ++ g (n x)) b
+      → Runs T a (f (m y) ++ g (n y)) c → (m x ≡ m y) × (n x ≡ n y) × (b ≡ c)
   one_run_then P Q f g one two m n x y a b c px qx py qy r s =
       let r' = runs-append (f (m x)) (g (n x)) a b r in
       let s' = runs-append (f (m y)) (g (n y)) a c s in
@@ -33,7 +35,8 @@ module _ {S : Type 0} (T : S → Use → S → Type 0) (takes_one : TakesOne T) 
       (h.0, k.0, k.1)
 
   -- a list of known length, one element after another
-  pub one_run_each : {A : Type 0} (P : A → Type 0) (f : A → List Use) → OneRun T P f → (xs ys : List A) (a b c : S) → length xs ≡ length ys → AllByRecursion P xs → AllByRecursion P ys → Runs T a (flat_map f xs) b → Runs T a (flat_map f ys) c → (xs ≡ ys) × (b ≡ c)
+  pub one_run_each : {A : Type 0} (P : A → Type 0) (f : A → List Use) → OneRun T P f → (xs ys : List A) (a b c : S) → length xs ≡ length ys
+      → AllByRecursion P xs → AllByRecursion P ys → Runs T a (flat_map f xs) b → Runs T a (flat_map f ys) c → (xs ≡ ys) × (b ≡ c)
   one_run_each P f one [] [] a b c e px py r s = (refl, sym r ∙ s)
   one_run_each P f one [] (y ∷ ys) a b c e px py r s = cc
   one_run_each P f one (x ∷ xs) [] a b c e px py r s = cc
@@ -59,16 +62,19 @@ module _ {S : Type 0} (T : S → Use → S → Type 0) (takes_one : TakesOne T) 
     one_run (seq_tree t) p x y a b c px py r s =
         let h = takes_one a r.0 s.0 p length_kind _ _ r.1 s.1 in
         let e = same_number _ _ h.0 in
-        let k = one_run_each (IsOf t) (walk t (element ∷ p)) (one_run t (element ∷ p)) (elements_in x) (elements_in y) r.0 b c e px.1 py.1 r.2 (subst (λ z. Runs T z (flat_map (walk t (element ∷ p)) (elements_in y)) c) (sym h.1) s.2) in
+        let k =
+        one_run_each (IsOf t) (walk t (element ∷ p)) (one_run t (element ∷ p)) (elements_in x) (elements_in y) r.0 b c e px.1 py.1 r.2 (subst (λ z. Runs T z (flat_map (walk t (element ∷ p)) (elements_in y)) c) (sym h.1) s.2) in
         (list_by_parts x y px.0 py.0 k.0, k.1)
     one_run (map_tree t v) p x y a b c px py r s =
         let h = takes_one a r.0 s.0 p length_kind _ _ r.1 s.1 in
         let e = same_number _ _ h.0 in
         let f : Datum → List Use = λ d. walk t (key ∷ p) (first_in d) ++ walk v (value ∷ p) (second_in d) in
         let one : OneRun T (IsPair (IsOf t) (IsOf v)) f = λ d d' a' b' c' pd pd' r' s'.
-        let q = one_run_then (IsOf t) (IsOf v) (walk t (key ∷ p)) (walk v (value ∷ p)) (one_run t (key ∷ p)) (one_run v (value ∷ p)) first_in second_in d d' a' b' c' pd.1 pd.2 pd'.1 pd'.2 r' s' in
+        let q =
+        one_run_then (IsOf t) (IsOf v) (walk t (key ∷ p)) (walk v (value ∷ p)) (one_run t (key ∷ p)) (one_run v (value ∷ p)) first_in second_in d d' a' b' c' pd.1 pd.2 pd'.1 pd'.2 r' s' in
         (pair_by_parts d d' pd.0 pd'.0 q.0 q.1, q.2) in
-        let k = one_run_each (IsPair (IsOf t) (IsOf v)) f one (elements_in x) (elements_in y) r.0 b c e px.1 py.1 r.2 (subst (λ z. Runs T z (flat_map f (elements_in y)) c) (sym h.1) s.2) in
+        let k =
+        one_run_each (IsPair (IsOf t) (IsOf v)) f one (elements_in x) (elements_in y) r.0 b c e px.1 py.1 r.2 (subst (λ z. Runs T z (flat_map f (elements_in y)) c) (sym h.1) s.2) in
         (list_by_parts x y px.0 py.0 k.0, k.1)
     one_run (tuple_tree ts) p x y a b c px py r s =
         let k = one_run_fields ts (field_place ts p) 0 (fields_in x) (fields_in y) a b c px.1 py.1 r s in
@@ -89,7 +95,8 @@ module _ {S : Type 0} (T : S → Use → S → Type 0) (takes_one : TakesOne T) 
     one_run_fields (tree_and t ts) at i no_data ys a b c px py r s = absurd px
     one_run_fields (tree_and t ts) at i (datum_and x xs) no_data a b c px py r s = absurd py
     one_run_fields (tree_and t ts) at i (datum_and x xs) (datum_and y ys) a b c px py r s =
-        let q = one_run_then (IsOf t) (AreOf ts) (walk t (at i)) (walk_fields ts at (i + 1)) (one_run t (at i)) (one_run_fields ts at (i + 1)) first_of rest_of (datum_and x xs) (datum_and y ys) a b c px.0 px.1 py.0 py.1 r s in
+        let q =
+        one_run_then (IsOf t) (AreOf ts) (walk t (at i)) (walk_fields ts at (i + 1)) (one_run t (at i)) (one_run_fields ts at (i + 1)) first_of rest_of (datum_and x xs) (datum_and y ys) a b c px.0 px.1 py.0 py.1 r s in
         let h : x ≡ y = q.0 in
         let k : xs ≡ ys = q.1 in
         (cc, q.2)

@@ -1,7 +1,7 @@
 -- Two data of one shape: either their walks have the same entries to the end, or they part at a place that is new to both.
-use Rattle.std.proofs.Common.{◌≡◌, ℕ, zero, suc, ◌+◌, ◌⊎◌, inl, inr, List, [], ◌∷◌, ◌++◌, length, map, flat_map, take, drop, refl, ap, sym, ◌∙◌, subst, Bool, true, false, not, append_assoc}
+use Rattle.std.proofs.Common.{◌≡◌, ℕ, zero, suc, ◌+◌, ◌⊎◌, inl, inr, List, [], ◌∷◌, ◌++◌, length, flat_map, refl, ap, sym, ◌∙◌, subst, Bool, true, false, append_assoc}
 use Rattle.std.proofs.lemmas.Bool.{cases_Bool}
-use Rattle.std.proofs.lemmas.List.{append_cancel_left, append-nil}
+use Rattle.std.proofs.lemmas.List.{append_cancel_left}
 use Rattle.std.specs.List.{AllByRecursion}
 use Rattle.bitcode_shapes.specs.Datum.{Datum, no_data, datum_and, elements_in, first_of, rest_of, fields_in, first_in, second_in, variant_in, payload_in}
 use Rattle.bitcode_coder.specs.Columns.{Kind}
@@ -74,13 +74,18 @@ agree_behind z c v w a q h = append_cancel_left (entries_at q c) (entries_at q v
 
 module _ (z : Place → Bool) where
   -- one thing after another
-  pub one_way_then : {A B C : Type 0} (P : A → Type 0) (Q : B → Type 0) (f : A → List Use) (g : B → List Use) → OneWay z P f → OneWay z Q g → (m : C → A) (n : C → B) → (x y : C) (t u : List Use) → P (m x) → Q (n x) → P (m y) → Q (n y) → Agree z ((f (m x) ++ g (n x)) ++ t) ((f (m y) ++ g (n y)) ++ u) → Outcome z (f (m x) ++ g (n x)) (f (m y) ++ g (n y)) ((m x ≡ m y) × (n x ≡ n y))
+  pub one_way_then : {A B C : Type 0} (P : A → Type 0) (Q : B → Type 0) (f : A → List Use) (g : B → List Use) → OneWay z P f → OneWay z Q g
+      → (m : C → A) (n : C → B) → (x y : C) (t u : List Use) → P (m x) → Q (n x) → P (m y) → Q (n y)
+      → Agree z ((f (m x) ++ g (n x)) ++ t) ((f (m y) ++ g (n y)) ++ u)
+      → Outcome z (f (m x) ++ g (n x)) (f (m y) ++ g (n y)) ((m x ≡ m y) × (n x ≡ n y))
   one_way_then P Q f g one two m n x y t u px qx py qy a =
-      let a' : Agree z (f (m x) ++ (g (n x) ++ t)) (f (m y) ++ (g (n y) ++ u)) = λ q h. ap (λ w. entries_at q w) (sym (append_assoc (f (m x)) (g (n x)) t)) ∙ a q h ∙ ap (λ w. entries_at q w) (append_assoc (f (m y)) (g (n y)) u) in
+      let a' : Agree z (f (m x) ++ (g (n x) ++ t)) (f (m y) ++ (g (n y) ++ u)) =
+      λ q h. ap (λ w. entries_at q w) (sym (append_assoc (f (m x)) (g (n x)) t)) ∙ a q h ∙ ap (λ w. entries_at q w) (append_assoc (f (m y)) (g (n y)) u) in
       elim (one (m x) (m y) (g (n x) ++ t) (g (n y) ++ u) px py a') [
         | inr p ↦ inr (parts_before z (f (m x)) (f (m y)) (g (n x)) (g (n y)) p)
         | inl h ↦
-            let b : Agree z (f (m x) ++ (g (n x) ++ t)) (f (m x) ++ (g (n y) ++ u)) = subst (λ k. Agree z (f (m x) ++ (g (n x) ++ t)) (f k ++ (g (n y) ++ u))) (sym h.1) a' in
+            let b : Agree z (f (m x) ++ (g (n x) ++ t)) (f (m x) ++ (g (n y) ++ u)) =
+            subst (λ k. Agree z (f (m x) ++ (g (n x) ++ t)) (f k ++ (g (n y) ++ u))) (sym h.1) a' in
             let b' = agree_behind z (f (m x)) (g (n x) ++ t) (g (n y) ++ u) b in
             elim (two (n x) (n y) t u qx qy b') [
               | inr p ↦ inr (subst (λ k. Parts z (f (m x) ++ g (n x)) (f k ++ g (n y))) h.1 (parts_behind z (f (m x)) (g (n x)) (g (n y)) h.0 p))
@@ -89,16 +94,20 @@ module _ (z : Place → Bool) where
       ]
 
   -- a list of known length, one element after another
-  pub one_way_each : {A : Type 0} (P : A → Type 0) (f : A → List Use) → OneWay z P f → (xs ys : List A) (t u : List Use) → length xs ≡ length ys → AllByRecursion P xs → AllByRecursion P ys → Agree z (flat_map f xs ++ t) (flat_map f ys ++ u) → Outcome z (flat_map f xs) (flat_map f ys) (xs ≡ ys)
+  pub one_way_each : {A : Type 0} (P : A → Type 0) (f : A → List Use) → OneWay z P f → (xs ys : List A) (t u : List Use) → length xs ≡ length ys
+      → AllByRecursion P xs → AllByRecursion P ys → Agree z (flat_map f xs ++ t) (flat_map f ys ++ u)
+      → Outcome z (flat_map f xs) (flat_map f ys) (xs ≡ ys)
   one_way_each P f one [] [] t u e px py a = inl (tt, refl)
   one_way_each P f one [] (y ∷ ys) t u e px py a = cc
   one_way_each P f one (x ∷ xs) [] t u e px py a = cc
   one_way_each P f one (x ∷ xs) (y ∷ ys) t u e px py a =
-      let a' : Agree z (f x ++ (flat_map f xs ++ t)) (f y ++ (flat_map f ys ++ u)) = λ q h. ap (λ w. entries_at q w) (sym (append_assoc (f x) (flat_map f xs) t)) ∙ a q h ∙ ap (λ w. entries_at q w) (append_assoc (f y) (flat_map f ys) u) in
+      let a' : Agree z (f x ++ (flat_map f xs ++ t)) (f y ++ (flat_map f ys ++ u)) =
+      λ q h. ap (λ w. entries_at q w) (sym (append_assoc (f x) (flat_map f xs) t)) ∙ a q h ∙ ap (λ w. entries_at q w) (append_assoc (f y) (flat_map f ys) u) in
       elim (one x y (flat_map f xs ++ t) (flat_map f ys ++ u) px.0 py.0 a') [
         | inr p ↦ inr (parts_before z (f x) (f y) (flat_map f xs) (flat_map f ys) p)
         | inl h ↦
-            let b : Agree z (f x ++ (flat_map f xs ++ t)) (f x ++ (flat_map f ys ++ u)) = subst (λ k. Agree z (f x ++ (flat_map f xs ++ t)) (f k ++ (flat_map f ys ++ u))) (sym h.1) a' in
+            let b : Agree z (f x ++ (flat_map f xs ++ t)) (f x ++ (flat_map f ys ++ u)) =
+            subst (λ k. Agree z (f x ++ (flat_map f xs ++ t)) (f k ++ (flat_map f ys ++ u))) (sym h.1) a' in
             let b' = agree_behind z (f x) (flat_map f xs ++ t) (flat_map f ys ++ u) b in
             let hx : x ≡ y = h.1 in
             elim (one_way_each P f one xs ys t u (cc) px.1 py.1 b') [
@@ -108,14 +117,17 @@ module _ (z : Place → Bool) where
       ]
 
   -- an entry first, and what follows
-  pub one_way_first : (p : Place) (k : Kind) (e f : Datum) (v w t u : List Use) (X : Type 0) → Agree z ((use_at p k e ∷ v) ++ t) ((use_at p k f ∷ w) ++ u) → (e ≡ f → Agree z (v ++ t) (w ++ u) → Outcome z v w X) → Outcome z (use_at p k e ∷ v) (use_at p k f ∷ w) X
+  pub one_way_first : (p : Place) (k : Kind) (e f : Datum) (v w t u : List Use) (X : Type 0)
+      → Agree z ((use_at p k e ∷ v) ++ t) ((use_at p k f ∷ w) ++ u) → (e ≡ f → Agree z (v ++ t) (w ++ u) → Outcome z v w X)
+      → Outcome z (use_at p k e ∷ v) (use_at p k f ∷ w) X
   one_way_first p k e f v w t u X a go =
       elim (cases_Bool (z p)) [
         | inr h ↦ inr (record { front = []; place = p; kind = k; e = e; f = f; after_v = v; after_w = w; is_v = refl; is_w = refl; known = tt; new = h })
         | inl h ↦
             let both : e ∷ entries_at p (v ++ t) ≡ f ∷ entries_at p (w ++ u) = sym (entries_here p k e (v ++ t)) ∙ a p h ∙ entries_here p k f (w ++ u) in
             let same : e ≡ f = cc in
-            let a' : Agree z ((use_at p k e ∷ []) ++ (v ++ t)) ((use_at p k e ∷ []) ++ (w ++ u)) = subst (λ g. Agree z (use_at p k e ∷ (v ++ t)) (use_at p k g ∷ (w ++ u))) (sym same) a in
+            let a' : Agree z ((use_at p k e ∷ []) ++ (v ++ t)) ((use_at p k e ∷ []) ++ (w ++ u)) =
+            subst (λ g. Agree z (use_at p k e ∷ (v ++ t)) (use_at p k g ∷ (w ++ u))) (sym same) a in
             elim (go same (agree_behind z (use_at p k e ∷ []) (v ++ t) (w ++ u) a')) [
               | inl r ↦ inl ((h, r.0), r.1)
               | inr r ↦ inr (subst (λ g. Parts z (use_at p k e ∷ v) (use_at p k g ∷ w)) same (parts_behind z (use_at p k e ∷ []) v w (h, tt) r))
@@ -147,7 +159,8 @@ module _ (z : Place → Bool) where
         one_way_first p index_kind _ _ _ _ t u _ a (λ e b.
         let i : variant_in x ≡ variant_in y = same_number _ _ e in
         let py' = subst (λ j. IsOfVariant ss j (payload_in y)) (sym i) py.2 in
-        let b' = subst (λ j. Agree z (walk_variant ss (variant_in x) (variant (variant_in x) ∷ p) (payload_in x) ++ t) (walk_variant ss j (variant j ∷ p) (payload_in y) ++ u)) (sym i) b in
+        let b' =
+        subst (λ j. Agree z (walk_variant ss (variant_in x) (variant (variant_in x) ∷ p) (payload_in x) ++ t) (walk_variant ss j (variant j ∷ p) (payload_in y) ++ u)) (sym i) b in
         let o = one_way_variant ss (variant_in x) (variant (variant_in x) ∷ p) (payload_in x) (payload_in y) t u px.2 py' b' in
         outcome_if _ _ _ _ (λ k. choice_by_parts x y px.0 py.0 i k) (subst (λ j. Outcome z (walk_variant ss (variant_in x) (variant (variant_in x) ∷ p) (payload_in x)) (walk_variant ss j (variant j ∷ p) (payload_in y)) (payload_in x ≡ payload_in y)) i o))
 

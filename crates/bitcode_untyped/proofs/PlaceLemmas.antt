@@ -1,5 +1,5 @@
 -- Places, and the entries at them.
-use Rattle.std.proofs.Common.{◌≡◌, ℕ, zero, suc, ◌+◌, ◌≤◌, ◌<◌, ◌⊎◌, inl, inr, pos, List, [], ◌∷◌, ◌++◌, length, flat_map, map, refl, ap, sym, ◌∙◌, subst, Bool, true, false, cond, nat_eq, append_assoc, length-append, arith, ◌&&◌, if◌then◌else◌}
+use Rattle.std.proofs.Common.{◌≡◌, inl, inr, List, [], ◌∷◌, ◌++◌, length, flat_map, refl, ap, sym, ◌∙◌, true, false, append_assoc, length-append, arith}
 use Rattle.std.proofs.lemmas.Bool.{eqb-true, eq-eqb, and_parts, and_from, false_from_ne_true, cases_Bool}
 use Rattle.bitcode_shapes.specs.Datum.{Datum}
 use Rattle.bitcode_coder.specs.Columns.{Kind}
@@ -95,7 +95,8 @@ pub under_not_above : (s : Step) (p q : Place) → Under (s ∷ p) q → q ≡ p
 under_not_above s p q u e = apart_above s p u.0 (sym e ∙ u.1)
 
 -- the entries of several walks, each known
-pub entries_each : {A : Type 0} (q : Place) (f : A → List Use) (h : A → List Datum) (P : A → Type 0) → ((x : A) → P x → entries_at q (f x) ≡ h x) → (xs : List A) → ((i : A) → P i) → entries_at q (flat_map f xs) ≡ flat_map h xs
+pub entries_each : {A : Type 0} (q : Place) (f : A → List Use) (h : A → List Datum) (P : A → Type 0) → ((x : A) → P x → entries_at q (f x) ≡ h x)
+    → (xs : List A) → ((i : A) → P i) → entries_at q (flat_map f xs) ≡ flat_map h xs
 entries_each q f h P e [] all = refl
 entries_each q f h P e (x ∷ xs) all =
     entries-append q (f x) (flat_map f xs) ∙ rw (e x (all x), entries_each q f h P e xs all) refl

@@ -1,9 +1,10 @@
 -- What the machine ran along to the end of the bytes is what the bytes spell.
-use Rattle.std.proofs.Common.{◌≡◌, ℕ, zero, suc, ◌+◌, ◌<◌, ◌≤◌, ◌⊎◌, inl, inr, List, [], ◌∷◌, ◌++◌, length, map, take, refl, ap, sym, ◌∙◌, subst, Bool, true, false, not, if◌then◌else◌, ◌||◌, slice_get, Some, None, append_assoc, arith, add-one, zero-add}
-use Rattle.std.proofs.lemmas.Bool.{cases_Bool, false_from_ne_true, or_cases, or_left, or_right}
+use Rattle.std.proofs.Common.{◌≡◌, ℕ, zero, suc, ◌+◌, inl, inr, List, [], ◌∷◌, ◌++◌, length, map, take, refl, ap, sym, ◌∙◌, subst, true, false, ◌||◌, slice_get, Some, append_assoc, add-one}
+use Rattle.std.proofs.lemmas.Bool.{cases_Bool, or_cases, or_left, or_right}
 use Rattle.std.proofs.lemmas.List.{append-nil, map-append}
 use Rattle.bitcode_shapes.specs.Datum.{Datum}
 use Rattle.bitcode_coder.specs.Spelling.{SpellsColumn}
+use Rattle.bitcode_untyped.specs.Growing.{put}
 use Rattle.bitcode_untyped.specs.Machine.{Opened, State, start, whole, seen, is_open, entries_of, Grounded, TakesNext, Takes}
 use Rattle.bitcode_untyped.specs.PlacedColumns.{same_place, entries_at, PlacedColumn, without, columns}
 use Rattle.bitcode_untyped.specs.Population.{total, count_of, population}
@@ -13,7 +14,7 @@ use Rattle.bitcode_untyped.specs.Walk.{element, key, value, variant, field, Plac
 use Rattle.bitcode_untyped.proofs.PlaceLemmas.{same_place-true, same_place-refl}
 use Rattle.bitcode_untyped.proofs.HostLemmas.{Hosts, hosted}
 use Rattle.bitcode_untyped.proofs.PopulationLemmas.{populated}
-use Rattle.bitcode_untyped.proofs.GrowingLemmas.{put, columns_snoc, columns_lookup, Filled, filled}
+use Rattle.bitcode_untyped.proofs.GrowingLemmas.{columns_snoc, columns_lookup, Filled, filled}
 
 -- One piece for each column, in order, and then the rest.
 abbrev pub Spelled : List ℕ → List PlacedColumn → List ℕ → Type 0
@@ -31,7 +32,8 @@ of_append_open [] vs q h = cc
 of_append_open (c ∷ ws) vs q h =
     elim (cases_Bool (same_place q c.place)) [ inl k ↦ rw k refl | inr k ↦ rw k (of_append_open ws vs q (rw k at h)) ]
 
-pub of_append_closed : (ws vs : List PlacedColumn) (q : Place) → is_open ws q ≡ false → (entries_of (ws ++ vs) q ≡ entries_of vs q) × (is_open (ws ++ vs) q ≡ is_open vs q)
+pub of_append_closed : (ws vs : List PlacedColumn) (q : Place) → is_open ws q ≡ false
+    → (entries_of (ws ++ vs) q ≡ entries_of vs q) × (is_open (ws ++ vs) q ≡ is_open vs q)
 of_append_closed [] vs q h = (refl, refl)
 of_append_closed (c ∷ ws) vs q h =
     elim (cases_Bool (same_place q c.place)) [ inl k ↦ absurd (let m = rw k at h in cc) | inr k ↦ rw k (of_append_closed ws vs q (rw k at h)) ]
@@ -56,7 +58,8 @@ population_append ws vs (field i ∷ p) g = population_append ws vs p g
 abbrev pub Counted : List PlacedColumn → Type 0
 Counted ws = (q : Place) → is_open ws q ≡ true → Grounded ws q × (length (entries_of ws q) ≡ population (entries_of ws) q)
 
-pub counted_append : (ws : List PlacedColumn) (c : PlacedColumn) → Counted ws → is_open ws c.place ≡ false → Grounded ws c.place → length c.entries ≡ population (entries_of ws) c.place → Counted (ws ++ c ∷ [])
+pub counted_append : (ws : List PlacedColumn) (c : PlacedColumn) → Counted ws → is_open ws c.place ≡ false → Grounded ws c.place
+    → length c.entries ≡ population (entries_of ws) c.place → Counted (ws ++ c ∷ [])
 counted_append ws c all closed g n q h =
     elim (cases_Bool (is_open ws q)) [
       | inl k ↦ let m = all q k in (grounded_append ws (c ∷ []) q m.0, rw (of_append_open ws (c ∷ []) q k, population_append ws (c ∷ []) q m.0) m.1)
@@ -74,7 +77,8 @@ counted_append ws c all closed g n q h =
           ]
     ]
 
-pub spelled_append : (bytes mid rest piece : List ℕ) (cs : List PlacedColumn) (c : PlacedColumn) → Spelled bytes cs mid → mid ≡ piece ++ rest → SpellsColumn c.kind piece c.entries → Spelled bytes (cs ++ c ∷ []) rest
+pub spelled_append : (bytes mid rest piece : List ℕ) (cs : List PlacedColumn) (c : PlacedColumn) → Spelled bytes cs mid → mid ≡ piece ++ rest
+    → SpellsColumn c.kind piece c.entries → Spelled bytes (cs ++ c ∷ []) rest
 spelled_append bytes mid rest piece [] c s e h = (piece, rest, s ∙ e, h, refl)
 spelled_append bytes mid rest piece (d ∷ cs) c s e h = (s.0, s.1, s.2, s.3, spelled_append s.1 mid rest piece cs c s.4 e h)
 
@@ -95,7 +99,8 @@ takes_seen [] u ds t = absurd t
 takes_seen (c ∷ cs) u ds (inl t) = rw (t.3, t.0, take_get c.entries c.taken u.entry t.2) refl
 takes_seen (c ∷ cs) u ds (inr t) = rw (t.2, t.0) (ap (λ (xs : List PlacedColumn). seen c ∷ xs) (takes_seen cs u t.1 t.3))
 
-pub put_new : (cs : List Opened) (u : Use) → is_open (map whole cs) u.place ≡ false → put u (map seen cs) ≡ map seen cs ++ record { place = u.place; kind = u.kind; entries = u.entry ∷ [] } ∷ []
+pub put_new : (cs : List Opened) (u : Use) → is_open (map whole cs) u.place ≡ false
+    → put u (map seen cs) ≡ map seen cs ++ record { place = u.place; kind = u.kind; entries = u.entry ∷ [] } ∷ []
 put_new [] u h = refl
 put_new (c ∷ cs) u h =
     elim (cases_Bool (same_place u.place c.place)) [
@@ -130,7 +135,7 @@ tracks_step bytes w a b u i (inr t) =
       counted = rw ws (counted_append (map whole a.opened) (whole new) i.counted t.0 t.1 t.4);
     }
 
-pub tracks_run : (bytes : List ℕ) (t w : List Use) (a b : State) → Tracks bytes w a → Runs (Takes) a t b → Tracks bytes (w ++ t) b
+pub tracks_run : (bytes : List ℕ) (t w : List Use) (a b : State) → Tracks bytes w a → Runs Takes a t b → Tracks bytes (w ++ t) b
 tracks_run bytes [] w a b i r = rw append-nil (subst (λ z. Tracks bytes w z) r i)
 tracks_run bytes (u ∷ t) w a b i r =
     subst (λ z. Tracks bytes z b) (append_assoc w (u ∷ []) t) (tracks_run bytes t (w ++ u ∷ []) r.0 b (tracks_step bytes w a r.0 u i r.1) r.2)
@@ -189,7 +194,8 @@ distinct [] = tt
 distinct (u ∷ w) = (closed_without u.place (columns w), distinct_without u.place (columns w) (distinct w))
 
 -- Where each place has the same entries seen as there are, the columns are the same.
-pub all_seen : (cs : List Opened) → Distinct (map seen cs) → ((q : Place) → entries_of (map whole cs) q ≡ entries_of (map seen cs) q) → map whole cs ≡ map seen cs
+pub all_seen : (cs : List Opened) → Distinct (map seen cs) → ((q : Place) → entries_of (map whole cs) q ≡ entries_of (map seen cs) q)
+    → map whole cs ≡ map seen cs
 all_seen [] d h = refl
 all_seen (c ∷ cs) d h =
     let e : c.entries ≡ take c.taken c.entries = rw (same_place-refl c.place) at (h c.place) in
@@ -209,7 +215,8 @@ module _ (s : ShapeTree) (d : Datum) (bytes : List ℕ) (b : State) (i : Tracks 
   pub counts : (q : Place) → Hosts s [] q → length (entries_at q (walk s [] d)) ≡ population (λ z. entries_at z (walk s [] d)) q
   counts q h = populated s [] (λ z. entries_at z (walk s [] d)) (d ∷ []) refl (λ z u. ap (λ w. entries_at z w) (sym (append-nil (walk s [] d)))) q h
 
-  pub lookup_from : (q : Place) → population (entries_of (map whole b.opened)) q ≡ population (λ z. entries_at z (walk s [] d)) q → entries_of (map whole b.opened) q ≡ entries_at q (walk s [] d)
+  pub lookup_from : (q : Place) → population (entries_of (map whole b.opened)) q ≡ population (λ z. entries_at z (walk s [] d)) q
+      → entries_of (map whole b.opened) q ≡ entries_at q (walk s [] d)
   lookup_from q e =
       let front = seen_front b.opened q in
       let at = seen_entries q in
@@ -220,7 +227,8 @@ module _ (s : ShapeTree) (d : Datum) (bytes : List ℕ) (b : State) (i : Tracks 
               | inl nothing ↦ absurd (filled_open (columns (walk s [] d)) q (filled (walk s [] d)) o (columns_lookup (walk s [] d) q ∙ nothing))
               | inr h ↦
                   let n = (i.counted q k).1 in
-                  let l : length (take front.0 (entries_of (map whole b.opened) q)) ≡ length (entries_of (map whole b.opened) q) = ap length (sym front.1 ∙ at) ∙ counts q h ∙ sym e ∙ sym n in
+                  let l : length (take front.0 (entries_of (map whole b.opened) q)) ≡ length (entries_of (map whole b.opened) q) =
+                  ap length (sym front.1 ∙ at) ∙ counts q h ∙ sym e ∙ sym n in
                   sym (take_all front.0 (entries_of (map whole b.opened) q) l) ∙ sym front.1 ∙ at
             ]
         | inr k ↦ closed_none (map whole b.opened) q k ∙ sym (closed_none (map seen b.opened) q (same_open b.opened q ∙ k)) ∙ at
@@ -236,11 +244,12 @@ module _ (s : ShapeTree) (d : Datum) (bytes : List ℕ) (b : State) (i : Tracks 
 
   pub whole_is : map whole b.opened ≡ columns (walk s [] d)
   whole_is =
-      let each : (q : Place) → entries_of (map whole b.opened) q ≡ entries_of (map seen b.opened) q = λ q. lookup_from q (populations q) ∙ sym (seen_entries q) in
+      let each : (q : Place) → entries_of (map whole b.opened) q ≡ entries_of (map seen b.opened) q =
+      λ q. lookup_from q (populations q) ∙ sym (seen_entries q) in
       all_seen b.opened (subst Distinct (sym i.seen_so_far) (distinct (walk s [] d))) each ∙ i.seen_so_far
 
 -- Where the machine runs along the whole walk of a datum, the bytes are one piece for each column of the datum, and the rest.
-pub sound : (s : ShapeTree) (d : Datum) (bytes : List ℕ) (b : State) → Runs (Takes) (start bytes) (walk s [] d) b → Spelled bytes (columns (walk s [] d)) b.rest
+pub sound : (s : ShapeTree) (d : Datum) (bytes : List ℕ) (b : State) → Runs Takes (start bytes) (walk s [] d) b → Spelled bytes (columns (walk s [] d)) b.rest
 sound s d bytes b r =
     let i = tracks_run bytes (walk s [] d) [] (start bytes) b (tracks_start bytes) r in
     subst (λ cs. Spelled bytes cs b.rest) (whole_is s d bytes b i) i.spelled

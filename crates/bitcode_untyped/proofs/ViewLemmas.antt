@@ -71,7 +71,8 @@ module _ (follow : ℕ → ShapeTree) where
   pub tree-Seq : (b : Box ShapeNode Global) → tree_by follow (node.Seq b) ≡ seq_tree (tree_by follow b.value)
   tree-Seq b = ap (tree_by follow) (sym (node.rolls-Seq b)) ∙ fold-roll-ShapeNode ShapeTree (tree_step follow) (ShapeNode-F.Seq b)
 
-  pub tree-Map : (k : Box ShapeNode Global) (v : Box ShapeNode Global) → tree_by follow (node.Map k v) ≡ map_tree (tree_by follow k.value) (tree_by follow v.value)
+  pub tree-Map : (k : Box ShapeNode Global) (v : Box ShapeNode Global)
+      → tree_by follow (node.Map k v) ≡ map_tree (tree_by follow k.value) (tree_by follow v.value)
   tree-Map k v = ap (tree_by follow) (sym (node.rolls-Map k v)) ∙ fold-roll-ShapeNode ShapeTree (tree_step follow) (ShapeNode-F.Map k v)
 
   pub tree-Tuple : (v : Vec ShapeNode Global) → tree_by follow (node.Tuple v) ≡ tuple_tree (trees_of (map (tree_by follow) v.items))

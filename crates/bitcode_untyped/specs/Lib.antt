@@ -3,10 +3,13 @@ pub mod References
 pub mod View
 pub mod Walk
 pub mod PlacedColumns
+pub mod Growing
 pub mod Population
 pub mod Runs
 pub mod Machine
 pub mod Faults
 pub mod Bounds
 pub mod Spelling
+pub mod Reads
+pub mod Laws
 pub mod Rows

@@ -1,5 +1,5 @@
 -- Worked rows: the columns of some data, and what is written for them, computed from the definitions.
-use Rattle.std.specs.Prelude.{◌≡◌, ℕ, zero, suc, false, negsuc, List, [], ◌∷◌, replicate, refl}
+use Rattle.std.specs.Prelude.{◌≡◌, ℕ, zero, suc, false, negsuc, List, [], ◌∷◌, ◌++◌, replicate, refl}
 use Rattle.bitcode_numbers.specs.LittleEndian.{raw_text}
 use Rattle.bitcode_columns.specs.Digits.{digits_text}
 use Rattle.bitcode_columns.specs.Tagged.{tagged_text}
@@ -11,7 +11,7 @@ use Rattle.bitcode_coder.specs.Columns.{bools, ints}
 use Rattle.bitcode_coder.specs.LengthColumn.{length_text}
 use Rattle.bitcode_coder.specs.TextColumn.{texts_text}
 use Rattle.bitcode_coder.specs.Spelling.{natural}
-use Rattle.bitcode_untyped.specs.ShapeTree.{ShapeTree, unit_tree, never_tree, seq_tree, map_tree, tuple_tree, choice_tree, bool_tree, natural_tree, integer_tree, text_tree, option_tree}
+use Rattle.bitcode_untyped.specs.ShapeTree.{ShapeTree, IsOf, unit_tree, never_tree, seq_tree, map_tree, tuple_tree, choice_tree, bool_tree, natural_tree, integer_tree, text_tree, option_tree}
 use Rattle.bitcode_untyped.specs.View.{trees_of}
 use Rattle.bitcode_untyped.specs.Walk.{element, field, length_kind}
 use Rattle.bitcode_untyped.specs.PlacedColumns.{columns_of}
@@ -141,3 +141,22 @@ chain_tree (suc left) = enum_tree (unit_tree ∷ pair_tree (natural_tree 1) (cha
 chain_text : datum_text (chain_tree 129) (choice 1 (pair (natural 5) (choice 1 (pair (natural 6) (choice 0 unit))))) ≡ 1 ∷ 5 ∷ 1 ∷ 6 ∷ 0 ∷ []
 unfolding int_text byte_text tagged_text digits_text raw_text
 chain_text = refl
+
+-- the table [Option(Ref 0)]
+abbrev optional_tree : ℕ → ShapeTree
+optional_tree zero = never_tree
+optional_tree (suc left) = option_tree (optional_tree left)
+
+abbrev some_in : ℕ → Datum
+some_in zero = none
+some_in (suc depth) = some (some_in depth)
+
+-- 128 references on the path
+deep_text : datum_text (optional_tree 129) (some_in 128) ≡ replicate 128 1 ++ 0 ∷ []
+unfolding int_text byte_text tagged_text digits_text raw_text
+deep_text = refl
+
+-- one more is too many
+too_deep : (left : ℕ) → IsOf (optional_tree left) (some_in left) → ⊥
+too_deep zero h = h
+too_deep (suc left) h = too_deep left h.2

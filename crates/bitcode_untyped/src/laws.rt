@@ -1,0 +1,37 @@
+// What holds of untyped data and of the bytes that spell them. A call does nothing: its contract is the law.
+ghost use Rattle.bitcode_untyped.specs.ShapeTree.{ShapeTree, IsSound};
+ghost use Rattle.bitcode_untyped.specs.View.{tree_of};
+ghost use Rattle.bitcode_untyped.specs.declared.shape.Shape.{Shape};
+ghost use Rattle.bitcode_untyped.specs.Laws.{ColumnsDecide, SpellsOnce, DatumTakesAnEighth, ElementsAreBounded, ReadsBackDatum};
+
+/// The columns of a datum so far decide the place, kind and count of the next one, and all of them decide the datum: so
+/// a reader always knows what it is to read next.
+///
+/// ```
+/// columns_decide();
+/// ```
+pub fn columns_decide()
+    ensures { (shape : ShapeTree) → ColumnsDecide shape }
+{}
+
+/// The bytes of a datum of any shape: what is written for it spells it, an input spells at most one, its columns have at
+/// most eight entries a byte, and it has at most 65537 elements and pairs an entry.
+///
+/// ```
+/// spelled_data();
+/// ```
+pub fn spelled_data()
+    ensures back { (shape : ShapeTree) → IsSound shape → ReadsBackDatum shape }
+    ensures once { (shape : ShapeTree) → SpellsOnce shape }
+    ensures eighth { (shape : ShapeTree) → IsSound shape → DatumTakesAnEighth shape }
+    ensures bounded { (shape : ShapeTree) → IsSound shape → ElementsAreBounded shape }
+{}
+
+/// Every shape has only columns that there are: what `spelled_data` says holds of each.
+///
+/// ```
+/// every_shape();
+/// ```
+pub fn every_shape()
+    ensures { (shape : Shape) → IsSound (tree_of shape) }
+{}
