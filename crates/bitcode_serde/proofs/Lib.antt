@@ -1,3 +1,5 @@
 pub mod IndexLemmas
 pub mod ColumnLemmas
 pub mod ReadingLemmas
+pub mod WrittenLemmas
+pub mod WritingLemmas

@@ -6,3 +6,5 @@ pub mod reader;
 pub mod serde;
 #[cfg(test)]
 mod tests;
+pub mod writer;
+pub mod written;
