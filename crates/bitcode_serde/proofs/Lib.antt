@@ -3,3 +3,4 @@ pub mod ColumnLemmas
 pub mod ReadingLemmas
 pub mod WrittenLemmas
 pub mod WritingLemmas
+pub mod LeafLemmas

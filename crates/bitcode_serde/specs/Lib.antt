@@ -4,3 +4,4 @@ pub mod Reading
 pub mod WrittenColumns
 pub mod WrittenPlaces
 pub mod Writing
+pub mod Serializing

@@ -2,6 +2,7 @@
 #![tactic(auto)]
 
 pub mod column;
+mod leaf;
 pub mod reader;
 pub mod serde;
 #[cfg(test)]
