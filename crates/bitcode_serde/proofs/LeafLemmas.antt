@@ -1,13 +1,13 @@
 -- The values that are entries of one column.
-use Rattle.std.proofs.Common.{◌≡◌, ◌≢◌, ℕ, ℤ, Bool, true, false, List, [], ◌∷◌, String, Vec, Box, Global, None, string_bytes, pos, refl, ap, sym, subst, ◌∙◌}
+use Rattle.std.proofs.Common.{◌≡◌, ℕ, ℤ, Bool, true, false, String, Vec, Box, Global, None, string_bytes, refl, sym, ◌∙◌}
 use Rattle.bitcode_input.specs.declared.error.Reason.TheVariants.{NotOfTheShape}
-use Rattle.bitcode_shapes.specs.Datum.{Datum, number, text}
+use Rattle.bitcode_shapes.specs.Datum.{number, text}
 use Rattle.bitcode_shapes.specs.Shape.{any_number, scalar}
 use Rattle.bitcode_coder.specs.Columns.{bools, ints, texts}
 use Rattle.bitcode_coder.specs.Spelling.{natural, truth}
 use Rattle.bitcode_untyped.specs.declared.shape.ShapeNode.{ShapeNode, out-ShapeNode}
 use Rattle.bitcode_untyped.specs.declared.shape.ShapeNode.TheOpen.{ShapeNode-F}
-use Rattle.bitcode_untyped.specs.declared.shape.ShapeNode.TheViews.{roll-ShapeNode, roll-out-ShapeNode, out-roll-ShapeNode}
+use Rattle.bitcode_untyped.specs.declared.shape.ShapeNode.TheViews.{roll-ShapeNode, roll-out-ShapeNode}
 use Rattle.bitcode_untyped.specs.declared.shape.ShapeNode.TheVariants as node
 use Rattle.bitcode_untyped.specs.declared.value.Value.{Value}
 use Rattle.bitcode_untyped.specs.declared.value.Value.TheVariants as value

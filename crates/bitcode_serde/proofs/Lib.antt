@@ -4,3 +4,4 @@ pub mod ReadingLemmas
 pub mod WrittenLemmas
 pub mod WritingLemmas
 pub mod LeafLemmas
+pub mod SerializeLemmas

@@ -12,7 +12,7 @@ use Rattle.bitcode_untyped.specs.Growing.{put}
 use Rattle.bitcode_untyped.specs.PlaceKinds.{HasKindFrom}
 use Rattle.bitcode_untyped.specs.PlacedColumns.{same_place, column_at}
 use Rattle.bitcode_untyped.specs.ShapeTree.{ShapeTree}
-use Rattle.bitcode_untyped.specs.Walk.{Step, Place, use_at}
+use Rattle.bitcode_untyped.specs.Walk.{Place, use_at}
 use Rattle.bitcode_untyped.proofs.KindLemmas.{one_kind}
 use Rattle.bitcode_untyped.proofs.PlaceLemmas.{same_place-refl, same_place-false}
 use Rattle.bitcode_serde.specs.Reading.{step_of, place_at, AreApart}

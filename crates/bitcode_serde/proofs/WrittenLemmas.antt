@@ -1,17 +1,16 @@
 -- Which entries a column takes.
-use Rattle.std.proofs.Common.{◌≡◌, ◌≢◌, ◌⊎◌, inl, inr, ℕ, ℤ, Bool, true, false, None, List, [], ◌∷◌, Bor, refl, ap, sym, subst, ◌∙◌, arith}
-use Rattle.std.specs.Prelude.{Result, Ok, Err, IfErr, IsErrOf}
+use Rattle.std.proofs.Common.{◌≡◌, ◌≢◌, ◌⊎◌, inl, inr, ℕ, ℤ, Bool, true, false, None, List, [], ◌∷◌, Bor, refl, ap, sym, subst, arith}
+use Rattle.std.specs.Prelude.{Result, Ok, Err, IfErr}
 use Rattle.bitcode_input.specs.declared.error.Error.{Error}
 use Rattle.bitcode_input.specs.declared.error.Reason.TheVariants.{OutOfMemory}
 use Rattle.bitcode_shapes.specs.Datum.{Datum}
 use Rattle.bitcode_shapes.specs.Shape.{Shape}
 use Rattle.bitcode_coder.specs.Coding.{written_columns, PassesWithListing}
-use Rattle.bitcode_coder.specs.Columns.{Kind, Columns, bools, ints, lengths, texts, one, beside, CountsFit}
+use Rattle.bitcode_coder.specs.Columns.{Kind, bools, ints, lengths, texts, one, beside, CountsFit}
 use Rattle.bitcode_serde.specs.ReadColumns.{kind_number}
-use Rattle.bitcode_serde.specs.WrittenColumns.{kind_of_entry, kind_of_written}
+use Rattle.bitcode_serde.specs.WrittenColumns.{kind_of_entry}
 use Rattle.bitcode_serde.specs.declared.written.Entry.{Entry}
 use Rattle.bitcode_serde.specs.declared.written.Entry.TheVariants as entry
-use Rattle.bitcode_serde.specs.declared.written.WrittenColumn.{WrittenColumn}
 
 pub if_err : {A : Type 0} (P Q : Error → Type 0) (r : Result A Error) → ((e : Error) → P e → Q e) → IfErr r P → IfErr r Q
 if_err P Q (Ok a) f h = tt

@@ -1,5 +1,5 @@
 -- What a writer has written.
-use Rattle.std.specs.Prelude.{◌≡◌, ℕ, ◌≤◌, ◌⊎◌, List, [], ◌∷◌, ◌++◌, length, map, All}
+use Rattle.std.specs.Prelude.{◌≡◌, ℕ, ◌≤◌, ◌⊎◌, List, [], ◌∷◌, ◌++◌, length, map}
 use Rattle.std.specs.List.{AllByRecursion}
 use Rattle.bitcode_input.specs.declared.error.Reason.{Reason}
 use Rattle.bitcode_input.specs.declared.error.Reason.TheVariants.{OutOfMemory}
@@ -12,7 +12,6 @@ use Rattle.bitcode_untyped.specs.Walk.{Place, Use}
 use Rattle.bitcode_serde.specs.Reading.{place_at}
 use Rattle.bitcode_serde.specs.WrittenColumns.{kind_of_written, entries_of}
 use Rattle.bitcode_serde.specs.WrittenPlaces.{met}
-use Rattle.bitcode_serde.specs.declared.writer.state.WrittenPlace.{WrittenPlace}
 use Rattle.bitcode_serde.specs.declared.writer.state.PlacedWritten.{PlacedWritten}
 use Rattle.bitcode_serde.specs.declared.writer.state.Writer.{Writer}
 

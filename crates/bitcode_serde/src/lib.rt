@@ -5,7 +5,10 @@ pub mod column;
 mod leaf;
 pub mod reader;
 pub mod serde;
+mod serialize;
 #[cfg(test)]
 mod tests;
 pub mod writer;
+#[cfg(test)]
+mod writing_tests;
 pub mod written;

@@ -1,5 +1,5 @@
 -- A step down to a place that was met, or to a new one.
-use Rattle.std.proofs.Common.{◌≡◌, ◌+◌, ◌≤◌, [], ◌∷◌, ◌++◌, All, length, refl, ap, sym, subst, ◌∙◌, arith, length-append}
+use Rattle.std.proofs.Common.{◌≡◌, ◌+◌, [], ◌∷◌, ◌++◌, All, length, refl, ap, subst, ◌∙◌, arith, length-append}
 use Rattle.std.specs.Prelude.{IsSomeAnd, slice_get, is_ok}
 use Rattle.bitcode_serde.specs.Reading.{AreApart}
 use Rattle.bitcode_serde.specs.WrittenPlaces.{met, LieBelow}

@@ -1,12 +1,8 @@
 -- An entry goes to the column of its place.
-use Rattle.std.proofs.Common.{◌≡◌, ◌≢◌, ◌⊎◌, ◌++◌, [], ◌∷◌, All, take, refl, ap, sym, subst, ◌∙◌}
+use Rattle.std.proofs.Common.{◌≡◌, ◌≢◌, ◌++◌, [], ◌∷◌, All, take, refl, ap, subst, ◌∙◌}
 use Rattle.std.specs.Prelude.{IsSomeAnd, slice_get}
-use Rattle.bitcode_input.specs.declared.error.Reason.TheVariants.{OutOfMemory}
-use Rattle.bitcode_untyped.specs.PlaceKinds.{HasKindFrom}
-use Rattle.bitcode_untyped.specs.ShapeTree.{ShapeTree}
 use Rattle.bitcode_serde.specs.WrittenColumns.{kind_of_entry, datum_of_entry}
 use Rattle.bitcode_serde.specs.WrittenPlaces.{met}
-use Rattle.bitcode_serde.specs.Writing.{written, place_in, AreOfShape}
 use Rattle.bitcode_serde.proofs.WritingLemmas.{put_there, put_behind, memory_there, on_ok}
 use Rattle.bitcode_serde.proofs.WrittenLemmas.{if_err}
 use Rattle.bitcode_serde.proofs.writer.state.Writer.put.Goals as goal
