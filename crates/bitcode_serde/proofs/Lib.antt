@@ -3,5 +3,5 @@ pub mod ColumnLemmas
 pub mod ReadingLemmas
 pub mod WrittenLemmas
 pub mod WritingLemmas
-pub mod LeafLemmas
+pub mod LeafEntryLemmas
 pub mod SerializeLemmas

@@ -2,7 +2,7 @@
 #![tactic(auto)]
 
 pub mod column;
-mod leaf;
+mod entries;
 pub mod reader;
 pub mod serde;
 mod serialize;

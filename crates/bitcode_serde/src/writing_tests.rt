@@ -1,5 +1,5 @@
 // Columns are written in the order of their first entries.
-use crate::leaf::leaf_entry;
+use crate::entries::leaf_entry;
 use crate::reader::Step;
 use crate::serialize::write_bytes;
 use crate::writer::Writer;

@@ -4,8 +4,8 @@ use Rattle.bitcode_shapes.specs.Datum.{number, text}
 use Rattle.bitcode_coder.specs.Columns.{ints, texts}
 use Rattle.bitcode_serde.specs.Serializing.{IsEntryAt, HasOneFault}
 use Rattle.bitcode_serde.proofs.ColumnLemmas.{passed_on, kept_8, kept_16, kept_32, kept_64, kept_128}
-use Rattle.bitcode_serde.proofs.LeafLemmas.{entry-Bool, entry-U8, entry-U16, entry-U32, entry-U64, entry-U128, entry-I8, entry-I16, entry-I32, entry-I64, entry-I128, entry-Char, entry-Str, fault-Bool, fault-U8, fault-U16, fault-U32, fault-U64, fault-U128, fault-I8, fault-I16, fault-I32, fault-I64, fault-I128, fault-Char, fault-Str}
-use Rattle.bitcode_serde.proofs.leaf.leaf_entry.Goals as goal
+use Rattle.bitcode_serde.proofs.LeafEntryLemmas.{entry-Bool, entry-U8, entry-U16, entry-U32, entry-U64, entry-U128, entry-I8, entry-I16, entry-I32, entry-I64, entry-I128, entry-Char, entry-Str, fault-Bool, fault-U8, fault-U16, fault-U32, fault-U64, fault-U128, fault-I8, fault-I16, fault-I32, fault-I64, fault-I128, fault-Char, fault-Str}
+use Rattle.bitcode_serde.proofs.entries.leaf_entry.Goals as goal
 
 pub returns-in-Bool-value-clause-entry : goal.returns-in-Bool-value-clause-entry
 returns-in-Bool-value-clause-entry c = entry-Bool c.args.node.now c.args.value.now c.in-Bool-value.b c.in-Bool.is c.in-Bool-value.is
