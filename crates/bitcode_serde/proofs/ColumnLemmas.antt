@@ -12,9 +12,10 @@ use Rattle.bitcode_columns.specs.Reading.{Reads}
 use Rattle.bitcode_shapes.specs.Datum.{Datum, number, text}
 use Rattle.bitcode_shapes.specs.Shape.{Shape, IsNumberOf, IsNaturalBelow, IsTextOf, any_number, bool_shape, text_shape}
 use Rattle.bitcode_shapes.specs.Values.{int_shape, MakesNumber}
+use Rattle.bitcode_shapes.specs.LawfulValues.{width_1, width_2, width_4, width_8, width_16}
 use Rattle.bitcode_shapes.specs.Texts.{MakesText}
 use Rattle.bitcode_coder.specs.Coding.{TakesDatum, IsReadingRefusal}
-use Rattle.bitcode_coder.specs.Columns.{Kind, ints, bools, texts, lengths}
+use Rattle.bitcode_coder.specs.Columns.{Kind, ints, bools, texts, lengths, IsEntryOf}
 use Rattle.bitcode_coder.specs.LengthColumn.{SpellsLengths}
 use Rattle.bitcode_coder.specs.LengthParts.{NamesLengthFault}
 use Rattle.bitcode_coder.specs.Spelling.{Spells, SpellsColumn, natural, truth, number_of_residue}
@@ -153,3 +154,29 @@ numbered_kind kind.Texts = refl
 
 pub same_kind : (a b : ColumnKind) → kind_number (kind_of a) ≡ kind_number (kind_of b) → kind_of a ≡ kind_of b
 same_kind a b e = sym (numbered_kind a) ∙ ap numbered e ∙ numbered_kind b
+
+-- ---- what is read of a column are entries of its kind
+
+ints_are : (width : ℕ) (signed : Bool) → IsWidth width → (piece : List ℕ) (ds : List Datum) → SpellsColumn (ints width signed) piece ds → All (IsEntryOf (ints width signed)) ds
+ints_are width signed known piece ds s =
+    subst (All (IsNumberOf width signed any_number)) (sym s.are)
+    (All-map (IsNumberOf width signed any_number) (number_of_residue width signed) s.entries
+    (λ k d g. number_is width signed any_number _ (some_width width known) (s.spelled.in_width k d g) tt))
+
+pub entries_are : (k : ColumnKind) (piece : List ℕ) (ds : List Datum) → SpellsColumn (kind_of k) piece ds → All (IsEntryOf (kind_of k)) ds
+entries_are kind.Bools piece ds s = subst (All (IsNaturalBelow 2)) (sym s.are) (All-map (IsNaturalBelow 2) truth s.entries (λ k d g. truth_below _))
+entries_are kind.Lengths piece ds s =
+    subst (All (IsEntryOf (lengths None))) (sym s.are) (All-map (IsEntryOf (lengths None)) natural s.entries (λ k d g. (_, (refl, tt))))
+entries_are kind.Texts piece ds s =
+    subst (All (IsTextOf None)) (sym s.are)
+    (All-map (IsTextOf None) text s.entries (λ k d g. record { bytes = _; is = refl; utf8 = s.spelled.utf8 k d g; within = tt }))
+entries_are kind.Bytes piece ds s = ints_are 1 false width_1 piece ds s
+entries_are kind.U16 piece ds s = ints_are 2 false width_2 piece ds s
+entries_are kind.U32 piece ds s = ints_are 4 false width_4 piece ds s
+entries_are kind.U64 piece ds s = ints_are 8 false width_8 piece ds s
+entries_are kind.U128 piece ds s = ints_are 16 false width_16 piece ds s
+entries_are kind.I8 piece ds s = ints_are 1 true width_1 piece ds s
+entries_are kind.I16 piece ds s = ints_are 2 true width_2 piece ds s
+entries_are kind.I32 piece ds s = ints_are 4 true width_4 piece ds s
+entries_are kind.I64 piece ds s = ints_are 8 true width_8 piece ds s
+entries_are kind.I128 piece ds s = ints_are 16 true width_16 piece ds s

@@ -1,6 +1,13 @@
 pub mod IndexLemmas
 pub mod ColumnLemmas
 pub mod ReadingLemmas
+pub mod StepLemmas
+pub mod ValueLemmas
+pub mod DepthLemmas
+pub mod FreeLemmas
+pub mod EntryLemmas
+pub mod FieldLemmas
+pub mod WholeLemmas
 pub mod WrittenLemmas
 pub mod WritingLemmas
 pub mod LeafEntryLemmas

@@ -3,11 +3,12 @@ use Rattle.std.proofs.Common.{◌≡◌, ◌≢◌, ℕ, zero, suc, ◌+◌, ◌
 use Rattle.std.specs.Prelude.{IsSomeAnd}
 use Rattle.std.proofs.lemmas.Bool.{or_left, or_right}
 use Rattle.std.proofs.lemmas.List.{map-append}
+use Rattle.std.proofs.lemmas.Option.{get_or_from_slice_get, slice_get_within}
 use Rattle.std.proofs.Math.ListN.{set}
 use Rattle.bitcode_input.specs.declared.error.Reason.{Reason}
 use Rattle.bitcode_input.specs.declared.error.Reason.TheVariants.{OutOfMemory}
 use Rattle.bitcode_shapes.specs.Datum.{Datum}
-use Rattle.bitcode_coder.specs.Columns.{Kind}
+use Rattle.bitcode_coder.specs.Columns.{Kind, IsEntryOf}
 use Rattle.bitcode_coder.specs.Coding.{IsReadingReason}
 use Rattle.bitcode_coder.specs.Spelling.{SpellsColumn}
 use Rattle.bitcode_untyped.specs.Machine.{Opened, State, start, whole, next, is_open, entries_of, TakesNext}
@@ -24,7 +25,7 @@ use Rattle.bitcode_serde.specs.declared.reader.Reader.{Reader}
 
 -- ---- places
 
-places_from-length : (ps : List Place) (bs : List Below) → length (places_from ps bs) ≡ length ps + length bs
+pub places_from-length : (ps : List Place) (bs : List Below) → length (places_from ps bs) ≡ length ps + length bs
 places_from-length ps [] = omega arith
 places_from-length ps (b ∷ bs) =
     let x : List Place = (step_of b.step ∷ place_at ps b.above) ∷ [] in
@@ -81,6 +82,9 @@ none_left [] k d e h = cc
 none_left (x ∷ xs) zero d e h = let m : suc (length xs) ≡ 0 = e in omega (arith, m)
 none_left (x ∷ xs) (suc k) d e h = none_left xs k d e h
 
+all_got : (P : Datum → Type 0) (xs : List Datum) (k : ℕ) (d : Datum) → All P xs → slice_get xs k ≡ Some d → P d
+all_got P xs k d all h = subst P (get_or_from_slice_get xs k d d h) (all k d (slice_get_within xs k d h))
+
 -- the entry behind those that were taken
 behind : (xs : List Datum) (k : ℕ) (d : Datum) (ys : List Datum) → drop k xs ≡ d ∷ ys → (slice_get xs k ≡ Some d) × (drop (k + 1) xs ≡ ys)
 behind [] zero d ys e = cc
@@ -126,7 +130,7 @@ module _ (ps : List Place) (apart : AreApart ps) (n : ℕ) (inside : n < length 
 
   -- ---- an entry is taken
 
-  taken_back : (c after : OpenColumn) (o : Opened) (d : Datum) → Backs ps c o → TakesEntry c d after → Backs ps after (next o) × (slice_get o.entries o.taken ≡ Some d)
+  taken_back : (c after : OpenColumn) (o : Opened) (d : Datum) → Backs ps c o → TakesEntry c d after → Backs ps after (next o) × (slice_get o.entries o.taken ≡ Some d) × IsEntryOf o.kind d
   taken_back c after o d b t =
       let e : drop o.taken o.entries ≡ d ∷ left after.column = sym b.entries ∙ t.taken in
       let g = behind o.entries o.taken d (left after.column) e in
@@ -138,23 +142,25 @@ module _ (ps : List Place) (apart : AreApart ps) (n : ℕ) (inside : n < length 
           size = omega (arith, s);
           entries = sym g.1;
           tallies = t.tallies o.entries b.tallies;
+          are = b.are;
         },
         g.0,
+        all_got (IsEntryOf o.kind) o.entries o.taken d b.are g.0,
       )
 
   pub take_at : (cs : List OpenColumn) (os : List Opened) (i : ℕ) (kind : Kind) (c after : OpenColumn) (d : Datum) → Back ps cs os → IsReady cs n kind i
       → c ≡ get_or cs i c → TakesEntry c d after
-      → (more : List Opened) × TakesNext os (use_at (place_at ps n) kind d) more × Back ps (set cs i after) more
+      → (more : List Opened) × TakesNext os (use_at (place_at ps n) kind d) more × Back ps (set cs i after) more × IsEntryOf kind d
   take_at [] os i kind c after d b ready is t = absurd ready
   take_at (x ∷ cs) [] i kind c after d b ready is t = absurd b
   take_at (x ∷ cs) (o ∷ os) zero kind c after d b ready is t =
       let e : c ≡ x = is in
       let u : TakesEntry x d after = subst (λ z. TakesEntry z d after) e t in
       let h = taken_back x after o d b.0 u in
-      (next o ∷ os, inl (here x o b.0 ready.0, sym ready.1 ∙ sym b.0.kind, h.1, refl), (h.0, b.1))
+      (next o ∷ os, inl (here x o b.0 ready.0, sym ready.1 ∙ sym b.0.kind, h.1, refl), (h.0, b.1), subst (λ k. IsEntryOf k d) (b.0.kind ∙ ready.1) h.2)
   take_at (x ∷ cs) (o ∷ os) (suc i) kind c after d b ready is t =
       let r = take_at cs os i kind c after d b.1 ready.1 is t in
-      (o ∷ r.0, inr (elsewhere x o b.0 ready.0, r.0, refl, r.1), (b.0, r.2))
+      (o ∷ r.0, inr (elsewhere x o b.0 ready.0, r.0, refl, r.1), (b.0, r.2), r.3)
 
   -- what was counted is of the machine's column
   pub tallied_at : (cs : List OpenColumn) (os : List Opened) (i : ℕ) (kind : Kind) (c : OpenColumn) → Back ps cs os → IsReady cs n kind i → c ≡ get_or cs i c
@@ -218,9 +224,9 @@ host_all_more ws vs ps ns h i inside =
 
 pub stands_opened : (old new : Reader) (a : State) (n : ℕ) (kind : Kind) (entries : List Datum) (rest : List ℕ) (c : OpenColumn) → Stands old a
     → n < length (places old.below.items) → new.below ≡ old.below → new.columns.items ≡ old.columns.items ++ c ∷ [] → new.input.now ≡ rest
-    → c.place ≡ n → kind_of_column c.column ≡ kind → c.left ≡ length entries → left c.column ≡ entries → Tallies c.column entries
+    → c.place ≡ n → kind_of_column c.column ≡ kind → c.left ≡ length entries → left c.column ≡ entries → Tallies c.column entries → All (IsEntryOf kind) entries
     → Stands new (with_column a (untouched (place_at (places old.below.items) n) kind entries) rest)
-stands_opened old new a n kind entries rest c s inside below columns input at same size all tallies =
+stands_opened old new a n kind entries rest c s inside below columns input at same size all tallies are =
     let ps = places old.below.items in
     let o = untouched (place_at ps n) kind entries in
     let b : Backs ps c o = record {
@@ -230,6 +236,7 @@ stands_opened old new a n kind entries rest c s inside below columns input at sa
       size = size ∙ ap length (sym all);
       entries = all;
       tallies = tallies;
+      are = are;
     } in
     let whole_is : map whole (a.opened ++ o ∷ []) ≡ map whole a.opened ++ whole o ∷ [] = map-append whole a.opened (o ∷ []) in
     record {
@@ -266,11 +273,11 @@ module _ (r : Reader) (n : ℕ) (within : n ≤ length r.below.items) (away : Al
 
   pub prepared_here : (new : Reader) (kind : Kind) (entries : List Datum) (c : OpenColumn) → ReadsColumn kind count r.input.now entries new.input.now
       → new.below ≡ r.below → new.columns.items ≡ r.columns.items ++ c ∷ [] → c.place ≡ n → kind_of_column c.column ≡ kind → c.left ≡ count
-      → left c.column ≡ entries → Tallies c.column entries
+      → left c.column ≡ entries → Tallies c.column entries → All (IsEntryOf kind) entries
       → (a : State) → Stands r a → (m : State) × Stands new m × Prepares a (place_at (places r.below.items) n) kind m
-  prepared_here new kind entries c read below columns at same size all tallies a s = (
+  prepared_here new kind entries c read below columns at same size all tallies are a s = (
     with_column a (untouched (place_at (places r.below.items) n) kind entries) new.input.now,
-    stands_opened r new a n kind entries new.input.now c s (inside_places r.below.items n within) below columns refl at same (size ∙ sym read.size) all tallies,
+    stands_opened r new a n kind entries new.input.now c s (inside_places r.below.items n within) below columns refl at same (size ∙ sym read.size) all tallies are,
     prepared a (place_at (places r.below.items) n) kind count entries new.input.now (not_open a s) (hosted a s)
         (subst (λ bytes. ReadsColumn kind count bytes entries new.input.now) (sym s.input) read),
   )
@@ -327,6 +334,7 @@ led_telling old ready new n i kind c after d within below_ready below input colu
           (open_at ps s.apart n (inside_places old.below.items n within) ready.columns.items m.0.opened i backs (first_ready ready.columns.items n i kind is_ready)),
       subst (λ ws. Tallies c.column (entries_of ws (place_at ps n))) (sym same)
           (tallied_at ps s.apart n (inside_places old.below.items n within) ready.columns.items m.0.opened i kind c backs is_ready is),
+      r.3,
     )
 
 pub led : (old ready new : Reader) (n i : ℕ) (kind : Kind) (c after : OpenColumn) (d : Datum) → n ≤ length old.below.items → ready.below ≡ old.below
@@ -336,7 +344,7 @@ pub led : (old ready new : Reader) (n i : ℕ) (kind : Kind) (c after : OpenColu
     → Leads old (place_at (places old.below.items) n) kind d new
 led old ready new n i kind c after d within below_ready below input columns is_ready is t prepares a s =
     let h = led_telling old ready new n i kind c after d within below_ready below input columns is_ready is t prepares a s in
-    (h.0, h.1, h.2)
+    (h.0, h.1, h.2, h.5)
 
 -- the column that is ready at the index
 pub found_ready : (cs : List OpenColumn) (n i : ℕ) (kind : Kind) (c : OpenColumn) → IsReady cs n kind i → c ≡ get_or cs i c

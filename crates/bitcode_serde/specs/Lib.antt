@@ -1,6 +1,8 @@
 pub mod Indices
 pub mod ReadColumns
 pub mod Reading
+pub mod ReadingValues
+pub mod Depth
 pub mod WrittenColumns
 pub mod WrittenPlaces
 pub mod Writing

@@ -1,7 +1,7 @@
 -- What a reader stands for: the state of the machine that takes one entry after another.
-use Rattle.std.specs.Prelude.{◌≡◌, ◌≢◌, ℕ, zero, suc, ◌<◌, true, List, [], ◌∷◌, ◌++◌, length, map, drop, get_or}
+use Rattle.std.specs.Prelude.{◌≡◌, ◌≢◌, ℕ, zero, suc, ◌<◌, ◌≤◌, true, List, [], ◌∷◌, ◌++◌, length, map, drop, get_or, All}
 use Rattle.bitcode_shapes.specs.Datum.{Datum}
-use Rattle.bitcode_coder.specs.Columns.{Kind}
+use Rattle.bitcode_coder.specs.Columns.{Kind, IsEntryOf}
 use Rattle.bitcode_untyped.specs.Machine.{Opened, State, whole, is_open, entries_of, Grounded, TakesNext, Takes}
 use Rattle.bitcode_untyped.specs.PlacedColumns.{PlacedColumn}
 use Rattle.bitcode_untyped.specs.Population.{population}
@@ -33,6 +33,19 @@ places_from ps (b ∷ bs) = places_from (ps ++ (step_of b.step ∷ place_at ps b
 abbrev pub places : List Below → List Place
 places = places_from ([] ∷ [])
 
+-- the place is that step below the other
+abbrev pub IsStep : Below → ℕ → CodeStep → Type 0
+IsStep b above step = (b.above ≡ above) × (step_of b.step ≡ step_of step)
+
+-- i is the number of the place
+abbrev pub IsPlace : List Below → ℕ → Place → Type 0
+IsPlace bs i p = (i ≤ length bs) × (place_at (places bs) i ≡ p)
+
+-- Each place lies below one before it, where so many come before the first.
+abbrev pub IsRooted : ℕ → List Below → Type 0
+IsRooted n [] = Unit {0}
+IsRooted n (b ∷ bs) = (b.above < n) × IsRooted (suc n) bs
+
 -- how many data stand at each
 abbrev pub counts : List Below → List ℕ
 counts bs = 1 ∷ map (λ b. b.count) bs
@@ -55,6 +68,7 @@ pub record Backs (ps : List Place) (c : OpenColumn) (o : Opened) : Type 0 where
   pub size : c.left ≡ length (left c.column)
   pub entries : left c.column ≡ drop o.taken o.entries
   pub tallies : Tallies c.column o.entries
+  pub are : All (IsEntryOf o.kind) o.entries
 
 abbrev pub Back : List Place → List OpenColumn → List Opened → Type 0
 Back ps [] [] = Unit {0}
@@ -94,10 +108,10 @@ NothingAt a p kind = (d : Datum) (b : State) → Takes a (use_at p kind d) b →
 
 -- The machine takes an entry, and the reader goes along.
 abbrev pub Leads : Reader → Place → Kind → Datum → Reader → Type 0
-Leads old p kind d new = (a : State) → Stands old a → (b : State) × Takes a (use_at p kind d) b × Stands new b
+Leads old p kind d new = (a : State) → Stands old a → (b : State) × Takes a (use_at p kind d) b × Stands new b × IsEntryOf kind d
 
 -- The same, and the machine's column of that place is open, with entries of which something is told.
 abbrev pub LeadsTelling : Reader → Place → Kind → Datum → Reader → (List Datum → Type 0) → Type 0
 LeadsTelling old p kind d new Told =
     (a : State) → Stands old a → (b : State) × Takes a (use_at p kind d) b × Stands new b
-    × (is_open (map whole b.opened) p ≡ true) × Told (entries_of (map whole b.opened) p)
+    × (is_open (map whole b.opened) p ≡ true) × Told (entries_of (map whole b.opened) p) × IsEntryOf kind d

@@ -1,14 +1,15 @@
 // Columns as they are first reached, each at its place.
-ghost use Rattle.std.specs.Prelude.{◌≡◌, ◌≢◌, ◌<◌, ◌≤◌, [], false, take, length, All, slice_get, get_or, IfOk, OnOk, IfErr, IfSome, IfNone, IsSomeAnd, MatchBool};
+ghost use Rattle.std.specs.Prelude.{◌≡◌, ◌≢◌, ◌<◌, ◌≤◌, ℕ, [], ◌∷◌, false, take, length, map, All, slice_get, get_or, IfOk, OnOk, IfErr, IfSome, IfNone, IsSomeAnd, MatchBool};
 ghost use Rattle.bitcode_coder.specs.Spelling.{natural};
 ghost use Rattle.bitcode_coder.specs.Columns.{ints};
 ghost use Rattle.bitcode_untyped.specs.Population.{total, count_of};
 ghost use Rattle.bitcode_coder.specs.Coding.{IsReadingReason};
-ghost use Rattle.bitcode_untyped.specs.Machine.{State, start};
+ghost use Rattle.bitcode_untyped.specs.Machine.{State, start, whole};
 ghost use Rattle.bitcode_untyped.specs.View.{datum_of};
-ghost use Rattle.bitcode_untyped.specs.Walk.{length_kind, index_kind};
+ghost use Rattle.bitcode_untyped.specs.Walk.{Place, length_kind, index_kind};
 ghost use Rattle.bitcode_serde.specs.ReadColumns.{kind_of};
-ghost use Rattle.bitcode_serde.specs.Reading.{places, place_at, counts, AreSized, Stands, IsReady, Prepares, NothingAt, Leads, LeadsTelling};
+ghost use Rattle.bitcode_serde.specs.Reading.{step_of, IsStep, IsPlace, IsRooted, Hosts, places, place_at, counts, AreSized, Stands, IsReady, Prepares, NothingAt, Leads, LeadsTelling};
+ghost use Rattle.bitcode_serde.specs.ReadingValues.{IsSteady, Continues, field_at};
 
 use crate::column::{Column, ColumnKind};
 use bitcode_input::error::{Error, Reason};
@@ -81,11 +82,25 @@ fn find(columns: &[OpenColumn<'_>], place: usize) -> Option<usize>
     None
 }
 
+// The place one step below another, if it was met: 0 is the first behind the root.
+fn find_below(below: &[Below], above: usize, step: Step) -> Option<usize>
+    ensures none { IfNone result (All (λ b. IsStep b above step → ⊥) below.now) }
+    ensures some { IfSome result (λ i. IsSomeAnd (slice_get below.now i) (λ b. IsStep b above step)) }
+{
+    for (i, place) in below.iter().enumerate() {
+        if place.above == above && place.step == step {
+            return Some(i);
+        }
+    }
+    None
+}
+
 impl<'a> Reader<'a> {
     /// Stands before the bytes, with no column open. Takes no memory.
     pub fn new(alloc: Global, bytes: &'a [u8]) -> Self
         ensures stands { Stands result (start bytes.now) }
         ensures sized { AreSized result.columns.items }
+        ensures rooted { IsRooted 1 result.below.items }
     {
         Reader {
             alloc,
@@ -161,6 +176,47 @@ impl<'a> Reader<'a> {
             column,
         })?;
         Ok(self.columns.as_slice().len() - 1)
+    }
+
+    /// The number of the place one step below another, at which so many data stand.
+    ///
+    /// A refused growth is `out of memory`.
+    pub fn step(&mut self, above: usize, step: Step, count: usize) -> Result<usize, Error>
+        requires above { above ≤ length self.old.below.items }
+        requires rooted { IsRooted 1 self.old.below.items }
+        ensures rooted { OnOk result (IsRooted 1 self.new.below.items) }
+        ensures found { IfOk result (λ i. IsPlace self.new.below.items i (step_of step ∷ place_at (places self.old.below.items) above)) }
+        ensures kept { OnOk result ((i : ℕ) (p : Place) → IsPlace self.old.below.items i p → IsPlace self.new.below.items i p) }
+        ensures stands { OnOk result ((a : State) → Stands self.old a → Hosts (map whole a.opened) (step_of step ∷ place_at (places self.old.below.items) above) count → Stands self.new a) }
+        ensures columns { self.new.columns ≡ self.old.columns }
+        ensures refused { IfErr result (λ e. e.reason ≡ Reason.OutOfMemory) }
+    {
+        match find_below(&self.below, above, step) {
+            Some(i) => Ok(i + 1),
+            None => {
+                self.below.push(Below { above, step, count })?;
+                Ok(self.below.as_slice().len())
+            }
+        }
+    }
+
+    /// The number of the place of a field of a tuple of so many: a tuple of one stands where its field does.
+    ///
+    /// A refused growth is `out of memory`.
+    pub fn field(&mut self, place: usize, i: usize, fields: usize) -> Result<usize, Error>
+        requires place { place ≤ length self.old.below.items }
+        requires steady { IsSteady self.old }
+        ensures continues { OnOk result (Continues self.old self.new) }
+        ensures found { IfOk result (λ inside. (p : Place) → IsPlace self.old.below.items place p → IsPlace self.new.below.items inside (field_at fields p i)) }
+        ensures stands { OnOk result ((a : State) → Stands self.old a → Stands self.new a) }
+        ensures refused { IfErr result (λ e. e.reason ≡ Reason.OutOfMemory) }
+    {
+        if fields == 1 {
+            return Ok(place);
+        }
+        let count = self.count_at(place);
+        let inside = self.step(place, Step::Field(i), count)?;
+        Ok(inside)
     }
 
     /// Takes the next entry of the column of a place, which is opened where it is first reached.

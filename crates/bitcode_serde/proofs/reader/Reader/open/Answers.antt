@@ -6,7 +6,7 @@ use Rattle.bitcode_coder.specs.Coding.{IsReadingReason}
 use Rattle.bitcode_untyped.specs.Machine.{State}
 use Rattle.bitcode_serde.specs.Reading.{places, place_at, Stands, NothingAt}
 use Rattle.bitcode_serde.specs.ReadColumns.{kind_of, left}
-use Rattle.bitcode_serde.proofs.ColumnLemmas.{passed_on}
+use Rattle.bitcode_serde.proofs.ColumnLemmas.{passed_on, entries_are}
 use Rattle.bitcode_serde.proofs.ReadingLemmas.{refused_here, none_here, prepared_here, ready_pushed, sized_last}
 use Rattle.bitcode_serde.proofs.reader.Reader.open.Goals as goal
 
@@ -35,7 +35,7 @@ pub returns-clause-prepared : goal.returns-clause-prepared
 returns-clause-prepared c =
     prepared_here c.args.self.now c.args.place c.requires.place c.requires.closed c.count_at-count.result c.count_at-count.ensures
     _ (kind_of c.args.kind) (left c.in_ok-column.column) _ c.in_ok-column.ensures.read refl c.in_ok-push.ensures.items refl c.in_ok-column.ensures.kind refl refl
-    c.in_ok-column.ensures.tallies
+    c.in_ok-column.ensures.tallies (entries_are c.args.kind _ _ c.in_ok-column.ensures.read.spelled)
 
 pub returns-clause-sized : goal.returns-clause-sized
 returns-clause-sized c =

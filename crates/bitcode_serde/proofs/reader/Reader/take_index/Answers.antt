@@ -53,4 +53,4 @@ returns-clause-leads c = λ a s.
       tallies = c.take_index-index.ensures.tallies;
     })
     c.in_ok-i.ensures.prepared a s in
-    (led.0, led.1, led.2, led.3, c.count-count.ensures _ (c.take_index-index.ensures.tallies _ led.4))
+    (led.0, led.1, led.2, led.3, c.count-count.ensures _ (c.take_index-index.ensures.tallies _ led.4), led.5)

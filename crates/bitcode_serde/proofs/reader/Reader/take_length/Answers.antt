@@ -53,4 +53,4 @@ returns-clause-leads c = λ a s.
       tallies = c.take_length-length.ensures.tallies;
     })
     c.in_ok-i.ensures.prepared a s in
-    (led.0, led.1, led.2, led.3, c.total-total.ensures _ (c.take_length-length.ensures.tallies _ led.4))
+    (led.0, led.1, led.2, led.3, c.total-total.ensures _ (c.take_length-length.ensures.tallies _ led.4), led.5)

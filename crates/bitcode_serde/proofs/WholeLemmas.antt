@@ -1,0 +1,56 @@
+-- Reading a whole input.
+use Rattle.std.proofs.Common.{◌≡◌, ◌≢◌, ℕ, ◌*◌, ◌≤◌, List, [], length, get_or, refl, sym, subst, ap, ◌∙◌}
+use Rattle.bitcode_input.specs.declared.error.Reason.{Reason}
+use Rattle.bitcode_input.specs.declared.error.Reason.TheVariants as reason
+use Rattle.bitcode_shapes.specs.Datum.{Datum}
+use Rattle.bitcode_untyped.specs.Bounds.{element_count}
+use Rattle.bitcode_untyped.specs.Machine.{State, start}
+use Rattle.bitcode_untyped.specs.PlacedColumns.{columns_of, entry_count}
+use Rattle.bitcode_untyped.specs.ShapeTree.{ShapeTree}
+use Rattle.bitcode_untyped.specs.Spelling.{SpellsDatum}
+use Rattle.bitcode_untyped.specs.View.{tree_of, tree_of_node, reference_limit}
+use Rattle.bitcode_untyped.specs.declared.shape.Shape.{Shape}
+use Rattle.bitcode_untyped.specs.declared.shape.ShapeNode.{ShapeNode}
+use Rattle.bitcode_untyped.proofs.FollowedLemmas.{root_tree}
+use Rattle.bitcode_untyped.proofs.LawLemmas.{spells_once, datum_takes_an_eighth, elements_are_bounded}
+use Rattle.bitcode_untyped.proofs.ReadLemmas.{whole_read, whole_stuck, whole_trailing}
+use Rattle.bitcode_untyped.proofs.SoundTreeLemmas.{sound_shape}
+use Rattle.bitcode_serde.specs.Reading.{Stands}
+use Rattle.bitcode_serde.specs.ReadingValues.{ReadsAt, IsValueReason, IsRefusalAt}
+use Rattle.bitcode_serde.specs.declared.reader.Reader.{Reader}
+use Rattle.bitcode_serde.proofs.EntryLemmas.{found_entry}
+use Rattle.bitcode_serde.proofs.ValueLemmas.{root_place}
+
+pub spelled : (s : ShapeTree) (bytes : List ℕ) (d : Datum) (old new : Reader) → Stands old (start bytes) → ReadsAt s 0 old d new
+    → ((a : State) → Stands new a → a.rest ≡ []) → SpellsDatum s bytes d
+spelled s bytes d old new first read last =
+    let r = read [] (root_place old.below.items) (start bytes) first in
+    whole_read s bytes d r.0 r.2 (last r.0 r.1)
+
+pub more_behind : (s : ShapeTree) (bytes : List ℕ) (d : Datum) (old new : Reader) → Stands old (start bytes) → ReadsAt s 0 old d new
+    → ((a : State) → Stands new a → a.rest ≢ []) → (e : Datum) → SpellsDatum s bytes e → ⊥
+more_behind s bytes d old new first read more =
+    let r = read [] (root_place old.below.items) (start bytes) first in
+    whole_trailing s bytes d r.0 r.2 (more r.0 r.1)
+
+pub none_spelled : (s : ShapeTree) (bytes : List ℕ) (old : Reader) (why : Reason) → Stands old (start bytes) → IsRefusalAt s 0 old why
+    → IsValueReason why × (why ≢ reason.OutOfMemory → (d : Datum) → SpellsDatum s bytes d → ⊥)
+none_spelled s bytes old why first h =
+    (h.0, λ other. whole_stuck s bytes (h.1 other [] (root_place old.below.items) (start bytes) first))
+
+pub one_spelled : (s : ShapeTree) (bytes : List ℕ) (d e : Datum) → SpellsDatum s bytes d → SpellsDatum s bytes e → d ≡ e
+one_spelled s bytes d e h k = (spells_once s bytes bytes [] [] d e h k refl).0
+
+pub eighth : (shape : Shape) (bytes : List ℕ) (d : Datum) → SpellsDatum (tree_of shape) bytes d → entry_count (columns_of (tree_of shape) d) ≤ 8 * length bytes
+eighth shape bytes d h = datum_takes_an_eighth (tree_of shape) (sound_shape shape) bytes d h
+
+pub bounded : (shape : Shape) (bytes : List ℕ) (d : Datum) → SpellsDatum (tree_of shape) bytes d → element_count d ≤ 524296 * length bytes
+bounded shape bytes d h = (elements_are_bounded (tree_of shape) (sound_shape shape)).by_bytes bytes d h
+
+-- the tree of a shape is that of its root
+pub root_is : (shape : Shape) (table : List ShapeNode) (root : ℕ) (n : ShapeNode) → table ≡ shape.table.items → root ≡ shape.root → n ≡ get_or table root n
+    → tree_of shape ≡ tree_of_node reference_limit table n
+root_is shape table root n t r is =
+    let at : n ≡ get_or shape.table.items root n = subst (λ ns. n ≡ get_or ns root n) t is in
+    let there : n ≡ get_or shape.table.items shape.root n = subst (λ i. n ≡ get_or shape.table.items i n) r at in
+    root_tree shape n (found_entry shape.table.items shape.root n shape.sound.root_in there) ∙ ap (λ ns. tree_of_node reference_limit ns n) (sym t)

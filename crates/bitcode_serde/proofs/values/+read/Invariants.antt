@@ -1,0 +1,44 @@
+-- A reference takes one from those that are left, and the parts of a node are less deep.
+use Rattle.std.proofs.Common.{◌+◌, ◌*◌, max, map}
+use Rattle.bitcode_shapes.specs.Datum.{pair}
+use Rattle.bitcode_untyped.specs.View.{datum_of, tree_of_node}
+use Rattle.bitcode_serde.specs.Depth.{depth, deepest, left_below}
+use Rattle.bitcode_serde.specs.ReadingValues.{Continues, ReadsListAt}
+use Rattle.bitcode_serde.proofs.FieldLemmas.{FieldsAt}
+use Rattle.bitcode_serde.proofs.ValueLemmas.{ReadsPairsAt}
+use Rattle.bitcode_serde.proofs.values.+read.Given as goal
+
+abbrev pub decreases-read : goal.decreases-read
+decreases-read l = 4 * left_below l.left l.table.now (depth l.node.now)
+
+abbrev pub decreases-read_option : goal.decreases-read_option
+decreases-read_option l = 4 * left_below l.left l.table.now (depth l.node.now) + 1
+
+abbrev pub decreases-read_seq : goal.decreases-read_seq
+decreases-read_seq l = 4 * left_below l.left l.table.now (depth l.node.now) + 2
+
+abbrev pub decreases-read_elements : goal.decreases-read_elements
+decreases-read_elements l = 4 * left_below l.left l.table.now (depth l.node.now) + 1
+
+abbrev pub decreases-read_tuple : goal.decreases-read_tuple
+decreases-read_tuple l = 4 * left_below l.left l.table.now (deepest l.nodes.now) + 1
+
+abbrev pub decreases-read_enum : goal.decreases-read_enum
+decreases-read_enum l = 4 * left_below l.left l.table.now (deepest l.nodes.now) + 1
+
+abbrev pub decreases-read_map : goal.decreases-read_map
+decreases-read_map l = 4 * left_below l.left l.table.now (max (depth l.key.now) (depth l.value.now)) + 1
+
+abbrev pub invariant-read_elements-loop-i : goal.invariant-read_elements-loop-i
+invariant-read_elements-loop-i l =
+    Continues l.initial.reader l.reader × ReadsListAt (tree_of_node l.left l.table l.node) l.place l.initial.reader l._i (map datum_of l.values.items) l.reader
+
+abbrev pub invariant-read_tuple-loop-i : goal.invariant-read_tuple-loop-i
+invariant-read_tuple-loop-i l =
+    Continues l.initial.reader l.reader × FieldsAt (tree_of_node l.left l.table) l.nodes l.place l.initial.reader l.i (map datum_of l.values.items) l.reader
+
+abbrev pub invariant-read_map-loop-i : goal.invariant-read_map-loop-i
+invariant-read_map-loop-i l =
+    Continues l.initial.reader l.reader
+    × ReadsPairsAt (tree_of_node l.left l.table l.key) (tree_of_node l.left l.table l.value) l.keys l.values l.initial.reader l._i
+    (map (λ e. pair (datum_of e.0) (datum_of e.1)) l.pairs.items) l.reader

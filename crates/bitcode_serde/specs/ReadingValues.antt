@@ -1,0 +1,63 @@
+-- What is read of a value, from one reader to the next.
+use Rattle.std.specs.Prelude.{◌≢◌, ℕ, zero, suc, List, ◌∷◌}
+use Rattle.bitcode_input.specs.declared.error.Reason.{Reason}
+use Rattle.bitcode_input.specs.declared.error.Reason.TheVariants.{OutOfMemory, InvalidOption, InvalidChar, TooManyZeroSizedTypes, NestedTooDeep}
+use Rattle.bitcode_shapes.specs.Datum.{Datum}
+use Rattle.bitcode_coder.specs.Coding.{IsReadingReason}
+use Rattle.bitcode_untyped.specs.Machine.{State}
+use Rattle.bitcode_untyped.specs.Reads.{ReadsDatum, ReadsNoDatum, IsReadable, ReadsMany}
+use Rattle.bitcode_untyped.specs.ShapeTree.{ShapeTree}
+use Rattle.bitcode_untyped.specs.Walk.{field, Place, walk}
+use Rattle.bitcode_serde.specs.Reading.{IsPlace, IsRooted, AreSized, Stands}
+use Rattle.bitcode_serde.specs.declared.reader.Reader.{Reader}
+
+-- between two calls
+pub record IsSteady (r : Reader) : Type 0 where
+  pub sized : AreSized r.columns.items
+  pub rooted : IsRooted 1 r.below.items
+
+-- The places of the old reader are the new one's too, by the same numbers.
+pub record Continues (old new : Reader) : Type 0 where
+  pub steady : IsSteady new
+  pub kept : (i : ℕ) (p : Place) → IsPlace old.below.items i p → IsPlace new.below.items i p
+
+-- The machine goes along with the reader, and what it does at the place is this.
+abbrev pub GoesAlong : Reader → ℕ → Reader → (Place → State → State → Type 0) → Type 0
+GoesAlong old place new Does =
+    (p : Place) → IsPlace old.below.items place p → (a : State) → Stands old a → (b : State) × Stands new b × Does p a b
+
+-- The machine does not do this where the reader stands.
+abbrev pub HasNone : Reader → ℕ → (Place → State → Type 0) → Type 0
+HasNone old place DoesNot = (p : Place) → IsPlace old.below.items place p → (a : State) → Stands old a → DoesNot p a
+
+-- a datum is read at the place
+abbrev pub ReadsAt : ShapeTree → ℕ → Reader → Datum → Reader → Type 0
+ReadsAt s place old d new = GoesAlong old place new (λ p a b. ReadsDatum s p a d b)
+
+-- so many data are read at the place, one after another
+abbrev pub ReadsListAt : ShapeTree → ℕ → Reader → ℕ → List Datum → Reader → Type 0
+ReadsListAt s place old count ds new = GoesAlong old place new (λ p a b. ReadsMany (IsReadable s) (walk s p) a count ds b)
+
+-- the reasons of refusals by a reader of values
+abbrev pub IsValueReason : Reason → Type 0
+IsValueReason InvalidOption = Unit {0}
+IsValueReason InvalidChar = Unit {0}
+IsValueReason TooManyZeroSizedTypes = Unit {0}
+IsValueReason NestedTooDeep = Unit {0}
+IsValueReason reason = IsReadingReason reason
+
+-- a refusal other than want of memory comes only where this is not to be had
+abbrev pub IsRefusalOf : Reader → ℕ → (Place → State → Type 0) → Reason → Type 0
+IsRefusalOf old place DoesNot reason = IsValueReason reason × (reason ≢ OutOfMemory → HasNone old place DoesNot)
+
+abbrev pub IsRefusalAt : ShapeTree → ℕ → Reader → Reason → Type 0
+IsRefusalAt s place old = IsRefusalOf old place (ReadsNoDatum s)
+
+abbrev pub IsListRefusalAt : ShapeTree → ℕ → Reader → ℕ → Reason → Type 0
+IsListRefusalAt s place old count =
+    IsRefusalOf old place (λ p a. (ds : List Datum) (b : State) → ReadsMany (IsReadable s) (walk s p) a count ds b → ⊥)
+
+-- where field i of so many stands: a tuple of one has no place of its own
+abbrev pub field_at : ℕ → Place → ℕ → Place
+field_at (suc zero) p i = p
+field_at _ p i = field i ∷ p

@@ -1,0 +1,56 @@
+// Which nodes name data without a column.
+ghost use Rattle.std.specs.Prelude.{◌≡◌, ◌<◌, ◌≤◌, true, MatchBool};
+ghost use Rattle.std.specs.List.{list_all};
+ghost use Rattle.bitcode_untyped.specs.Bounds.{column_free, free_limit};
+ghost use Rattle.bitcode_untyped.specs.View.{tree_of_node};
+
+use bitcode_untyped::shape::ShapeNode;
+
+/// How many elements or keys without a column are read, in one list or map.
+pub const ZST_LIMIT: usize = 65536;
+
+/// Whether so many data of a node are more than are read, since they have no entry in any column.
+pub fn is_over_limit(table: &[ShapeNode], node: &ShapeNode, left: usize, count: usize) -> bool
+    ensures { MatchBool result ((column_free (tree_of_node left table.now node.now) ≡ true) × (free_limit < count)) (column_free (tree_of_node left table.now node.now) ≡ true → count ≤ free_limit) }
+{
+    if count <= ZST_LIMIT {
+        return false;
+    }
+    if is_free(table, node, left) {
+        return true;
+    }
+    false
+}
+
+/// Whether the data of a node have no entry in any column, where so many references may be followed.
+#[cycle(free)]
+pub fn is_free(table: &[ShapeNode], node: &ShapeNode, left: usize) -> bool
+    ensures { result ≡ column_free (tree_of_node left table.now node.now) }
+{
+    match node {
+        ShapeNode::Unit => true,
+        ShapeNode::Tuple(nodes) => are_free(table, nodes, left),
+        ShapeNode::Ref(i) => {
+            if left == 0 {
+                return false;
+            }
+            match table.get(*i) {
+                Some(entry) => is_free(table, entry, left - 1),
+                None => false,
+            }
+        }
+        _ => false,
+    }
+}
+
+#[cycle(free)]
+fn are_free(table: &[ShapeNode], nodes: &[ShapeNode], left: usize) -> bool
+    ensures { result ≡ list_all (λ node. column_free (tree_of_node left table.now node)) nodes.now }
+{
+    for node in nodes {
+        if !is_free(table, node, left) {
+            return false;
+        }
+    }
+    true
+}

@@ -1,0 +1,77 @@
+// Values that one column has, and lists of bytes.
+ghost use Rattle.std.specs.Prelude.{◌≤◌, length, map, IfOk, IfErr, OnOk};
+ghost use Rattle.bitcode_coder.specs.Spelling.{natural};
+ghost use Rattle.bitcode_shapes.specs.Shape.{any_number};
+ghost use Rattle.bitcode_untyped.specs.ShapeTree.{leaf_tree, char_tree, natural_tree, seq_tree};
+ghost use Rattle.bitcode_untyped.specs.View.{datum_of};
+ghost use Rattle.bitcode_serde.specs.ReadColumns.{kind_of};
+ghost use Rattle.bitcode_serde.specs.ReadingValues.{IsSteady, Continues, ReadsAt, ReadsListAt, IsRefusalAt, IsListRefusalAt};
+
+use crate::column::ColumnKind;
+use crate::reader::{Reader, Step};
+use bitcode_input::error::{Error, Reason};
+use bitcode_input::refuse::err;
+use bitcode_untyped::value::Value;
+use std::alloc::Global;
+
+/// Reads a value of a column of a kind.
+pub fn read_leaf(reader: &mut Reader<'_>, place: usize, kind: ColumnKind) -> Result<Value, Error>
+    requires place { place ≤ length reader.old.below.items }
+    requires steady { IsSteady reader.old }
+    ensures continues { OnOk result (Continues reader.old reader.new) }
+    ensures read { IfOk result (λ value. ReadsAt (leaf_tree (kind_of kind) any_number) place reader.old (datum_of value) reader.new) }
+    ensures refused { IfErr result (λ e. IsRefusalAt (leaf_tree (kind_of kind) any_number) place reader.old e.reason) }
+{
+    let value = reader.take(place, kind)?;
+    Ok(value)
+}
+
+/// Reads a char. It refuses with `invalid char` where its number is the code of none.
+pub fn read_char(reader: &mut Reader<'_>, place: usize) -> Result<Value, Error>
+    requires place { place ≤ length reader.old.below.items }
+    requires steady { IsSteady reader.old }
+    ensures continues { OnOk result (Continues reader.old reader.new) }
+    ensures read { IfOk result (λ value. ReadsAt char_tree place reader.old (datum_of value) reader.new) }
+    ensures refused { IfErr result (λ e. IsRefusalAt char_tree place reader.old e.reason) }
+{
+    let code = reader.take_code(place)?;
+    match char::from_u32(code) {
+        Some(c) => Ok(Value::Char(c)),
+        None => err(Reason::InvalidChar),
+    }
+}
+
+// Reads so many bytes.
+fn read_each_byte(
+    alloc: Global,
+    reader: &mut Reader<'_>,
+    place: usize,
+    count: usize,
+) -> Result<Vec<u8>, Error>
+    requires place { place ≤ length reader.old.below.items }
+    requires steady { IsSteady reader.old }
+    ensures continues { OnOk result (Continues reader.old reader.new) }
+    ensures read { IfOk result (λ bytes. ReadsListAt (natural_tree 1) place reader.old count (map natural bytes.items) reader.new) }
+    ensures refused { IfErr result (λ e. IsListRefusalAt (natural_tree 1) place reader.old count e.reason) }
+{
+    let mut bytes = Vec::new(alloc);
+    for _i in 0..count {
+        let byte = reader.take_index(place)?;
+        bytes.push(byte.index)?;
+    }
+    Ok(bytes)
+}
+
+/// Reads a list of bytes.
+pub fn read_bytes(alloc: Global, reader: &mut Reader<'_>, place: usize) -> Result<Value, Error>
+    requires place { place ≤ length reader.old.below.items }
+    requires steady { IsSteady reader.old }
+    ensures continues { OnOk result (Continues reader.old reader.new) }
+    ensures read { IfOk result (λ value. ReadsAt (seq_tree (natural_tree 1)) place reader.old (datum_of value) reader.new) }
+    ensures refused { IfErr result (λ e. IsRefusalAt (seq_tree (natural_tree 1)) place reader.old e.reason) }
+{
+    let taken = reader.take_length(place)?;
+    let elements = reader.step(place, Step::Element, taken.total)?;
+    let bytes = read_each_byte(alloc, reader, elements, taken.length)?;
+    Ok(Value::Bytes(bytes))
+}
