@@ -8,3 +8,7 @@ pub mod FreeLemmas
 pub mod EntryLemmas
 pub mod FieldLemmas
 pub mod WholeLemmas
+pub mod WrittenLemmas
+pub mod WritingLemmas
+pub mod LeafEntryLemmas
+pub mod SerializeLemmas

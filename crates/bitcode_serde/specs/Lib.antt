@@ -3,3 +3,7 @@ pub mod ReadColumns
 pub mod Reading
 pub mod ReadingValues
 pub mod Depth
+pub mod WrittenColumns
+pub mod WrittenPlaces
+pub mod Writing
+pub mod Serializing

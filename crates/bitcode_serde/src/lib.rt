@@ -3,10 +3,16 @@
 
 pub mod column;
 pub mod deserialize;
+mod entries;
 pub mod free;
 pub mod leaf;
 pub mod reader;
 pub mod serde;
+mod serialize;
 #[cfg(test)]
 mod tests;
 pub mod values;
+pub mod writer;
+#[cfg(test)]
+mod writing_tests;
+pub mod written;

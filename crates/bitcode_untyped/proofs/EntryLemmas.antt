@@ -5,13 +5,14 @@ use Rattle.std.specs.List.{AllByRecursion}
 use Rattle.bitcode_shapes.specs.Datum.{Datum, Data, no_data, datum_and, elements_in, fields_in, first_in, second_in, variant_in, payload_in}
 use Rattle.bitcode_coder.specs.Columns.{Kind, IsEntryOf, IsSoundKind}
 use Rattle.bitcode_coder.specs.Transposition.{length_entry, variant_entry}
+use Rattle.bitcode_untyped.specs.PlaceKinds.{HasKindFrom, HasKindAt}
 use Rattle.bitcode_untyped.specs.PlacedColumns.{same_place, entries_at, PlacedColumn, columns, columns_of}
 use Rattle.bitcode_untyped.specs.ShapeTree.{ShapeTree, unit_tree, never_tree, leaf_tree, seq_tree, map_tree, tuple_tree, choice_tree, ShapeTrees, no_trees, tree_and, IsPair, IsOf, AreOf, IsOfVariant, IsSound, AreSound}
 use Rattle.bitcode_untyped.specs.Walk.{element, key, value, variant, Place, Use, length_kind, index_kind, field_place, walk, walk_fields, walk_variant}
 use Rattle.bitcode_untyped.proofs.EachLemmas.{each_if, each_append, each_flat_of}
 use Rattle.bitcode_untyped.proofs.PlaceLemmas.{same_place-true}
 use Rattle.bitcode_untyped.proofs.SoundLemmas.{sound}
-use Rattle.bitcode_untyped.proofs.KindLemmas.{HasKindFrom, HasKindAt, HasKind, kinded, one_kind, each_without, kind_columns}
+use Rattle.bitcode_untyped.proofs.KindLemmas.{HasKind, kinded, one_kind, each_without, kind_columns}
 
 mutual
   pub sound_kind : (s : ShapeTree) → IsSound s → (p q : Place) (k : Kind) → HasKindFrom s p q k → IsSoundKind k

@@ -4,27 +4,12 @@ use Rattle.std.proofs.lemmas.Bool.{cases_Bool}
 use Rattle.std.specs.List.{AllByRecursion}
 use Rattle.bitcode_shapes.specs.Datum.{Datum, Data, elements_in, first_of, rest_of, fields_in, first_in, second_in, variant_in, payload_in}
 use Rattle.bitcode_coder.specs.Columns.{Kind}
+use Rattle.bitcode_untyped.specs.PlaceKinds.{HasKindFrom, HasKindAt}
 use Rattle.bitcode_untyped.specs.PlacedColumns.{same_place, PlacedColumn, without, columns}
 use Rattle.bitcode_untyped.specs.ShapeTree.{ShapeTree, unit_tree, never_tree, leaf_tree, seq_tree, map_tree, tuple_tree, choice_tree, ShapeTrees, no_trees, tree_and}
 use Rattle.bitcode_untyped.specs.Walk.{Step, element, key, value, variant, field, Place, Use, length_kind, index_kind, field_place, walk, walk_fields, walk_variant}
 use Rattle.bitcode_untyped.proofs.EachLemmas.{each_if, each_append, each_flat}
 use Rattle.bitcode_untyped.proofs.PlaceLemmas.{Under, append_same_tail, under_step, under_not_above}
-
--- The shape, standing at p, has a column of kind k at q.
-abbrev mutual
-  pub HasKindFrom : ShapeTree → Place → Place → Kind → Type 0
-  HasKindFrom unit_tree p q k = ⊥
-  HasKindFrom never_tree p q k = ⊥
-  HasKindFrom (leaf_tree l allowed) p q k = (q ≡ p) × (k ≡ l)
-  HasKindFrom (seq_tree s) p q k = ((q ≡ p) × (k ≡ length_kind)) ⊎ HasKindFrom s (element ∷ p) q k
-  HasKindFrom (map_tree s v) p q k = ((q ≡ p) × (k ≡ length_kind)) ⊎ (HasKindFrom s (key ∷ p) q k ⊎ HasKindFrom v (value ∷ p) q k)
-  HasKindFrom (tuple_tree ss) p q k = (j : ℕ) × HasKindAt ss j (field_place ss p j) q k
-  HasKindFrom (choice_tree ss) p q k = ((q ≡ p) × (k ≡ index_kind)) ⊎ ((j : ℕ) × HasKindAt ss j (variant j ∷ p) q k)
-
-  pub HasKindAt : ShapeTrees → ℕ → Place → Place → Kind → Type 0
-  HasKindAt no_trees j p q k = ⊥
-  HasKindAt (tree_and s ss) zero p q k = HasKindFrom s p q k
-  HasKindAt (tree_and s ss) (suc j) p q k = HasKindAt ss j p q k
 
 abbrev pub HasKind : ShapeTree → Place → Place → Kind → Type 0
 HasKind s p q k = HasKindFrom s p q k

@@ -13,3 +13,4 @@ pub mod Spelling
 pub mod Reads
 pub mod Laws
 pub mod Rows
+pub mod PlaceKinds

@@ -1,0 +1,145 @@
+-- The values that are entries of one column.
+use Rattle.std.proofs.Common.{◌≡◌, ℕ, ℤ, Bool, true, false, String, Vec, Box, Global, None, string_bytes, refl, sym, ◌∙◌}
+use Rattle.bitcode_input.specs.declared.error.Reason.TheVariants.{NotOfTheShape}
+use Rattle.bitcode_shapes.specs.Datum.{number, text}
+use Rattle.bitcode_shapes.specs.Shape.{any_number, scalar}
+use Rattle.bitcode_coder.specs.Columns.{bools, ints, texts}
+use Rattle.bitcode_coder.specs.Spelling.{natural, truth}
+use Rattle.bitcode_untyped.specs.declared.shape.ShapeNode.{ShapeNode, out-ShapeNode}
+use Rattle.bitcode_untyped.specs.declared.shape.ShapeNode.TheOpen.{ShapeNode-F}
+use Rattle.bitcode_untyped.specs.declared.shape.ShapeNode.TheViews.{roll-ShapeNode, roll-out-ShapeNode}
+use Rattle.bitcode_untyped.specs.declared.shape.ShapeNode.TheVariants as node
+use Rattle.bitcode_untyped.specs.declared.value.Value.{Value}
+use Rattle.bitcode_untyped.specs.declared.value.Value.TheVariants as value
+use Rattle.bitcode_untyped.proofs.FaultLemmas.{faults-Bool, faults-U8, faults-U16, faults-U32, faults-U64, faults-U128, faults-I8, faults-I16, faults-I32, faults-I64, faults-I128, faults-Char, faults-Str}
+use Rattle.bitcode_untyped.proofs.MismatchLemmas.{other-Bool, other-U8, other-U16, other-U32, other-U64, other-U128, other-I8, other-I16, other-I32, other-I64, other-I128, other-Char, other-Str}
+use Rattle.bitcode_untyped.proofs.ViewLemmas.{tree-Bool, tree-U8, tree-U16, tree-U32, tree-U64, tree-U128, tree-I8, tree-I16, tree-I32, tree-I64, tree-I128, tree-Char, tree-Str, datum-Bool, datum-U8, datum-U16, datum-U32, datum-U64, datum-U128, datum-I8, datum-I16, datum-I32, datum-I64, datum-I128, datum-Char, datum-Str}
+use Rattle.bitcode_serde.specs.Serializing.{is_leaf, IsLeaf, IsEntryAt, HasOneFault}
+
+-- ---- nodes
+
+pub leaf_else : (n : ShapeNode) → (n ≡ node.Unit → ⊥) → (n ≡ node.Bytes → ⊥) → ((b : Box ShapeNode Global) → n ≡ (node.Option b) → ⊥) → ((b : Box ShapeNode Global) → n ≡ (node.Seq b) → ⊥) → ((k s : Box ShapeNode Global) → n ≡ (node.Map k s) → ⊥) → ((ns : Vec ShapeNode Global) → n ≡ (node.Tuple ns) → ⊥) → ((ns : Vec ShapeNode Global) → n ≡ (node.Enum ns) → ⊥) → ((i : ℕ) → n ≡ (node.Ref i) → ⊥) → IsLeaf n
+leaf_else n hUnit hBytes hOption hSeq hMap hTuple hEnum hRef = by (out-ShapeNode n) (sym (roll-out-ShapeNode n))
+  where
+    by : (w : ShapeNode-F ShapeNode) → n ≡ roll-ShapeNode w → is_leaf w ≡ true
+    by ShapeNode-F.Unit e = absurd (hUnit (e ∙ node.rolls-Unit))
+    by ShapeNode-F.Bytes e = absurd (hBytes (e ∙ node.rolls-Bytes))
+    by (ShapeNode-F.Option b) e = absurd (hOption b (e ∙ node.rolls-Option b))
+    by (ShapeNode-F.Seq b) e = absurd (hSeq b (e ∙ node.rolls-Seq b))
+    by (ShapeNode-F.Map k s) e = absurd (hMap k s (e ∙ node.rolls-Map k s))
+    by (ShapeNode-F.Tuple ns) e = absurd (hTuple ns (e ∙ node.rolls-Tuple ns))
+    by (ShapeNode-F.Enum ns) e = absurd (hEnum ns (e ∙ node.rolls-Enum ns))
+    by (ShapeNode-F.Ref i) e = absurd (hRef i (e ∙ node.rolls-Ref i))
+    by _ e = refl
+
+pub leaf_away : (n : ShapeNode) → IsLeaf n → (n ≡ node.Bool → ⊥) → (n ≡ node.U8 → ⊥) → (n ≡ node.U16 → ⊥) → (n ≡ node.U32 → ⊥) → (n ≡ node.U64 → ⊥) → (n ≡ node.U128 → ⊥) → (n ≡ node.I8 → ⊥) → (n ≡ node.I16 → ⊥) → (n ≡ node.I32 → ⊥) → (n ≡ node.I64 → ⊥) → (n ≡ node.I128 → ⊥) → (n ≡ node.Char → ⊥) → (n ≡ node.Str → ⊥) → ⊥
+leaf_away n leaf hBool hU8 hU16 hU32 hU64 hU128 hI8 hI16 hI32 hI64 hI128 hChar hStr = by (out-ShapeNode n) (sym (roll-out-ShapeNode n)) leaf
+  where
+    by : (w : ShapeNode-F ShapeNode) → n ≡ roll-ShapeNode w → is_leaf w ≡ true → ⊥
+    by ShapeNode-F.Bool e l = hBool (e ∙ node.rolls-Bool)
+    by ShapeNode-F.U8 e l = hU8 (e ∙ node.rolls-U8)
+    by ShapeNode-F.U16 e l = hU16 (e ∙ node.rolls-U16)
+    by ShapeNode-F.U32 e l = hU32 (e ∙ node.rolls-U32)
+    by ShapeNode-F.U64 e l = hU64 (e ∙ node.rolls-U64)
+    by ShapeNode-F.U128 e l = hU128 (e ∙ node.rolls-U128)
+    by ShapeNode-F.I8 e l = hI8 (e ∙ node.rolls-I8)
+    by ShapeNode-F.I16 e l = hI16 (e ∙ node.rolls-I16)
+    by ShapeNode-F.I32 e l = hI32 (e ∙ node.rolls-I32)
+    by ShapeNode-F.I64 e l = hI64 (e ∙ node.rolls-I64)
+    by ShapeNode-F.I128 e l = hI128 (e ∙ node.rolls-I128)
+    by ShapeNode-F.Char e l = hChar (e ∙ node.rolls-Char)
+    by ShapeNode-F.Str e l = hStr (e ∙ node.rolls-Str)
+    by _ e l = cc
+
+-- ---- an entry of its column
+
+pub entry-Bool : (n : ShapeNode) (v : Value) (b : Bool) → n ≡ node.Bool → v ≡ value.Bool b → IsEntryAt n v bools (truth b)
+entry-Bool n v b is_node is_value =
+    rw (is_node, is_value) (record { allowed = any_number; tree = λ follow. tree-Bool follow; datum = datum-Bool b; whole = λ table left. faults-Bool table left b })
+
+pub fault-Bool : (n : ShapeNode) (v : Value) → n ≡ node.Bool → ((b : Bool) → v ≡ value.Bool b → ⊥) → HasOneFault n v NotOfTheShape
+fault-Bool n v is_node away = rw is_node (λ table left. other-Bool table v left away)
+
+pub entry-U8 : (n : ShapeNode) (v : Value) (m : ℕ) → n ≡ node.U8 → v ≡ value.U8 m → IsEntryAt n v (ints 1 false) (natural m)
+entry-U8 n v m is_node is_value =
+    rw (is_node, is_value) (record { allowed = any_number; tree = λ follow. tree-U8 follow; datum = datum-U8 m; whole = λ table left. faults-U8 table left m })
+
+pub fault-U8 : (n : ShapeNode) (v : Value) → n ≡ node.U8 → ((m : ℕ) → v ≡ value.U8 m → ⊥) → HasOneFault n v NotOfTheShape
+fault-U8 n v is_node away = rw is_node (λ table left. other-U8 table v left away)
+
+pub entry-U16 : (n : ShapeNode) (v : Value) (m : ℕ) → n ≡ node.U16 → v ≡ value.U16 m → IsEntryAt n v (ints 2 false) (natural m)
+entry-U16 n v m is_node is_value =
+    rw (is_node, is_value) (record { allowed = any_number; tree = λ follow. tree-U16 follow; datum = datum-U16 m; whole = λ table left. faults-U16 table left m })
+
+pub fault-U16 : (n : ShapeNode) (v : Value) → n ≡ node.U16 → ((m : ℕ) → v ≡ value.U16 m → ⊥) → HasOneFault n v NotOfTheShape
+fault-U16 n v is_node away = rw is_node (λ table left. other-U16 table v left away)
+
+pub entry-U32 : (n : ShapeNode) (v : Value) (m : ℕ) → n ≡ node.U32 → v ≡ value.U32 m → IsEntryAt n v (ints 4 false) (natural m)
+entry-U32 n v m is_node is_value =
+    rw (is_node, is_value) (record { allowed = any_number; tree = λ follow. tree-U32 follow; datum = datum-U32 m; whole = λ table left. faults-U32 table left m })
+
+pub fault-U32 : (n : ShapeNode) (v : Value) → n ≡ node.U32 → ((m : ℕ) → v ≡ value.U32 m → ⊥) → HasOneFault n v NotOfTheShape
+fault-U32 n v is_node away = rw is_node (λ table left. other-U32 table v left away)
+
+pub entry-U64 : (n : ShapeNode) (v : Value) (m : ℕ) → n ≡ node.U64 → v ≡ value.U64 m → IsEntryAt n v (ints 8 false) (natural m)
+entry-U64 n v m is_node is_value =
+    rw (is_node, is_value) (record { allowed = any_number; tree = λ follow. tree-U64 follow; datum = datum-U64 m; whole = λ table left. faults-U64 table left m })
+
+pub fault-U64 : (n : ShapeNode) (v : Value) → n ≡ node.U64 → ((m : ℕ) → v ≡ value.U64 m → ⊥) → HasOneFault n v NotOfTheShape
+fault-U64 n v is_node away = rw is_node (λ table left. other-U64 table v left away)
+
+pub entry-U128 : (n : ShapeNode) (v : Value) (m : ℕ) → n ≡ node.U128 → v ≡ value.U128 m → IsEntryAt n v (ints 16 false) (natural m)
+entry-U128 n v m is_node is_value =
+    rw (is_node, is_value) (record { allowed = any_number; tree = λ follow. tree-U128 follow; datum = datum-U128 m; whole = λ table left. faults-U128 table left m })
+
+pub fault-U128 : (n : ShapeNode) (v : Value) → n ≡ node.U128 → ((m : ℕ) → v ≡ value.U128 m → ⊥) → HasOneFault n v NotOfTheShape
+fault-U128 n v is_node away = rw is_node (λ table left. other-U128 table v left away)
+
+pub entry-I8 : (n : ShapeNode) (v : Value) (m : ℤ) → n ≡ node.I8 → v ≡ value.I8 m → IsEntryAt n v (ints 1 true) (number m)
+entry-I8 n v m is_node is_value =
+    rw (is_node, is_value) (record { allowed = any_number; tree = λ follow. tree-I8 follow; datum = datum-I8 m; whole = λ table left. faults-I8 table left m })
+
+pub fault-I8 : (n : ShapeNode) (v : Value) → n ≡ node.I8 → ((m : ℤ) → v ≡ value.I8 m → ⊥) → HasOneFault n v NotOfTheShape
+fault-I8 n v is_node away = rw is_node (λ table left. other-I8 table v left away)
+
+pub entry-I16 : (n : ShapeNode) (v : Value) (m : ℤ) → n ≡ node.I16 → v ≡ value.I16 m → IsEntryAt n v (ints 2 true) (number m)
+entry-I16 n v m is_node is_value =
+    rw (is_node, is_value) (record { allowed = any_number; tree = λ follow. tree-I16 follow; datum = datum-I16 m; whole = λ table left. faults-I16 table left m })
+
+pub fault-I16 : (n : ShapeNode) (v : Value) → n ≡ node.I16 → ((m : ℤ) → v ≡ value.I16 m → ⊥) → HasOneFault n v NotOfTheShape
+fault-I16 n v is_node away = rw is_node (λ table left. other-I16 table v left away)
+
+pub entry-I32 : (n : ShapeNode) (v : Value) (m : ℤ) → n ≡ node.I32 → v ≡ value.I32 m → IsEntryAt n v (ints 4 true) (number m)
+entry-I32 n v m is_node is_value =
+    rw (is_node, is_value) (record { allowed = any_number; tree = λ follow. tree-I32 follow; datum = datum-I32 m; whole = λ table left. faults-I32 table left m })
+
+pub fault-I32 : (n : ShapeNode) (v : Value) → n ≡ node.I32 → ((m : ℤ) → v ≡ value.I32 m → ⊥) → HasOneFault n v NotOfTheShape
+fault-I32 n v is_node away = rw is_node (λ table left. other-I32 table v left away)
+
+pub entry-I64 : (n : ShapeNode) (v : Value) (m : ℤ) → n ≡ node.I64 → v ≡ value.I64 m → IsEntryAt n v (ints 8 true) (number m)
+entry-I64 n v m is_node is_value =
+    rw (is_node, is_value) (record { allowed = any_number; tree = λ follow. tree-I64 follow; datum = datum-I64 m; whole = λ table left. faults-I64 table left m })
+
+pub fault-I64 : (n : ShapeNode) (v : Value) → n ≡ node.I64 → ((m : ℤ) → v ≡ value.I64 m → ⊥) → HasOneFault n v NotOfTheShape
+fault-I64 n v is_node away = rw is_node (λ table left. other-I64 table v left away)
+
+pub entry-I128 : (n : ShapeNode) (v : Value) (m : ℤ) → n ≡ node.I128 → v ≡ value.I128 m → IsEntryAt n v (ints 16 true) (number m)
+entry-I128 n v m is_node is_value =
+    rw (is_node, is_value) (record { allowed = any_number; tree = λ follow. tree-I128 follow; datum = datum-I128 m; whole = λ table left. faults-I128 table left m })
+
+pub fault-I128 : (n : ShapeNode) (v : Value) → n ≡ node.I128 → ((m : ℤ) → v ≡ value.I128 m → ⊥) → HasOneFault n v NotOfTheShape
+fault-I128 n v is_node away = rw is_node (λ table left. other-I128 table v left away)
+
+pub entry-Char : (n : ShapeNode) (v : Value) (c : ℕ) → n ≡ node.Char → v ≡ value.Char c → IsEntryAt n v (ints 4 false) (natural c)
+entry-Char n v c is_node is_value =
+    rw (is_node, is_value) (record { allowed = scalar; tree = λ follow. tree-Char follow; datum = datum-Char c; whole = λ table left. faults-Char table left c })
+
+pub fault-Char : (n : ShapeNode) (v : Value) → n ≡ node.Char → ((c : ℕ) → v ≡ value.Char c → ⊥) → HasOneFault n v NotOfTheShape
+fault-Char n v is_node away = rw is_node (λ table left. other-Char table v left away)
+
+pub entry-Str : (n : ShapeNode) (v : Value) (s : String Global) → n ≡ node.Str → v ≡ value.Str s → IsEntryAt n v (texts None) (text (string_bytes s))
+entry-Str n v s is_node is_value =
+    rw (is_node, is_value) (record { allowed = any_number; tree = λ follow. tree-Str follow; datum = datum-Str s; whole = λ table left. faults-Str table left s })
+
+pub fault-Str : (n : ShapeNode) (v : Value) → n ≡ node.Str → ((s : String Global) → v ≡ value.Str s → ⊥) → HasOneFault n v NotOfTheShape
+fault-Str n v is_node away = rw is_node (λ table left. other-Str table v left away)
