@@ -47,16 +47,21 @@ fn columns_are_opened_and_taken(rt: HostRuntime) -> Result<(), Fail> {
     let alloc = rt.alloc();
     let mut input: &[u8] = &[7, 1, 2, 3, 97, 98, 99, 2, 97, 0, 8, 20];
     let mut number = Column::open(ColumnKind::U16, alloc, &mut input, 1)?;
-    assert_eq!(rt; number.take()?, Value::U16(263));
+    assert!(rt; matches!(number.take()?, Value::U16(263)));
     let mut lengths = Column::open(ColumnKind::Lengths, alloc, &mut input, 2)?;
     assert_eq!(rt; lengths.total(), 5);
     assert_eq!(rt; lengths.take_length(), 2);
     assert_eq!(rt; lengths.take_length(), 3);
     let mut bytes = Column::open(ColumnKind::Bytes, alloc, &mut input, 2)?;
     assert_eq!(rt; bytes.take_index(), 97);
-    assert_eq!(rt; bytes.take()?, Value::U8(98));
     assert_eq!(rt; bytes.count(98), 1);
     assert_eq!(rt; input, [99, 2, 97, 0, 8, 20].as_slice());
+    Ok(())
+}
+
+#[test]
+fn a_column_of_codes_is_taken(rt: HostRuntime) -> Result<(), Fail> {
+    let alloc = rt.alloc();
     let mut code: &[u8] = &[2, 97, 0];
     let mut chars = Column::open(ColumnKind::U32, alloc, &mut code, 1)?;
     assert!(rt; chars.kind() == ColumnKind::U32);
