@@ -9,8 +9,8 @@ use bitcode_input::error::Error;
 use bitcode_shapes::shaped::Made;
 use std::alloc::Global;
 
-mod few;
-mod many;
+mod of_3_to_8;
+mod of_9_to_16;
 
 /// The decoder of pairs: it reads the first fields of all pairs, and then the second ones.
 ///

@@ -9,8 +9,8 @@ use bitcode_input::error::Error;
 use bitcode_shapes::shaped::Shaped;
 use std::alloc::Global;
 
-mod few;
-mod many;
+mod of_3_to_8;
+mod of_9_to_16;
 
 /// The encoder of pairs: the columns of the first fields, and behind them those of the second.
 ///

@@ -8,8 +8,8 @@ use bitcode_coder::coder::{Encoder, HoldsColumns};
 use bitcode_input::error::{Error, Reason};
 use bitcode_shapes::shaped::Shaped;
 
-pub mod few;
-pub mod several;
+pub mod of_3_to_5;
+pub mod of_6_to_8;
 
 /// References to the fields of a value: to one of them, or a pair of one and the others.
 ///

@@ -1,5 +1,6 @@
 // The coders of tuples: pairs of the coders of the first half of the fields and of the second.
-mod few;
-mod many;
-mod more;
-mod several;
+mod of_1;
+mod of_12_and_13;
+mod of_14_to_16;
+mod of_3_to_8;
+mod of_9_to_11;

@@ -1,0 +1,14 @@
+// The coders of tuples of one field, which are as their field.
+use crate::derive::{DecodeOwned, HasDecoder, HasEncoder};
+use bitcode_pointers::deref::DerefEncoder;
+use bitcode_pointers::from::FromDecoder;
+
+impl<A: HasEncoder> HasEncoder for (A,) {
+    type Encoder = DerefEncoder<A::Encoder>;
+}
+
+impl<'a, A: HasDecoder<'a>> HasDecoder<'a> for (A,) {
+    type Decoder = FromDecoder<A, A::Decoder>;
+}
+
+impl<A: DecodeOwned> DecodeOwned for (A,) {}

@@ -1,0 +1,314 @@
+// The encoders of tuples of three to eight fields: of the first half of the fields, and of the second.
+ghost use Rattle.std.specs.Prelude.{◌&&◌};
+ghost use Rattle.bitcode_tuples.specs.PairLaws.{both_of_shape, both_surely};
+
+use crate::encoder::TupleEncoder;
+use crate::fields::FieldsEncoder;
+use crate::fields::of_3_to_5::{FieldsEncoder3, FieldsEncoder4, FieldsEncoder5};
+use crate::fields::of_6_to_8::{FieldsEncoder6, FieldsEncoder7, FieldsEncoder8};
+use bitcode_coder::coder::Encoder;
+use bitcode_input::error::Error;
+use bitcode_shapes::shaped::Shaped;
+
+impl<T1: Shaped, T2: Shaped, T3: Shaped, A: Encoder<T1>, B: Encoder<T2>, C: Encoder<T3>> Encoder<
+    (T1, T2, T3),
+> for TupleEncoder<A, TupleEncoder<B, C>> {
+    ghost writes_free = { A.writes_free && (B.writes_free && C.writes_free) };
+
+    fn encode(&mut self, t: &(T1, T2, T3)) -> Result<(), Error> {
+        FieldsEncoder::<(&T1, (&T2, &T3))>::encode_fields(self, &(&t.0, (&t.1, &t.2)))
+    }
+
+    ghost of_shape = { both_of_shape A.of_shape (both_of_shape B.of_shape C.of_shape) };
+
+    ghost surely = { both_surely A.surely (both_surely B.surely C.surely) };
+}
+
+impl<
+    T1: Shaped,
+    T2: Shaped,
+    T3: Shaped,
+    A: Encoder<T1>,
+    B: Encoder<T2>,
+    C: Encoder<T3>,
+> FieldsEncoder3<T1, T2, T3> for TupleEncoder<A, TupleEncoder<B, C>> {
+    ghost writes_free = { A.writes_free && (B.writes_free && C.writes_free) };
+
+    fn encode_each(&mut self, t1: &T1, t2: &T2, t3: &T3) -> Result<(), Error> {
+        FieldsEncoder::<(&T1, (&T2, &T3))>::encode_fields(self, &(t1, (t2, t3)))
+    }
+
+    ghost of_shape = { both_of_shape A.of_shape (both_of_shape B.of_shape C.of_shape) };
+
+    ghost surely = { both_surely A.surely (both_surely B.surely C.surely) };
+}
+
+impl<
+    T1: Shaped,
+    T2: Shaped,
+    T3: Shaped,
+    T4: Shaped,
+    A: Encoder<T1>,
+    B: Encoder<T2>,
+    C: Encoder<T3>,
+    D: Encoder<T4>,
+> Encoder<(T1, T2, T3, T4)> for TupleEncoder<TupleEncoder<A, B>, TupleEncoder<C, D>> {
+    ghost writes_free = { (A.writes_free && B.writes_free) && (C.writes_free && D.writes_free) };
+
+    fn encode(&mut self, t: &(T1, T2, T3, T4)) -> Result<(), Error> {
+        FieldsEncoder::<((&T1, &T2), (&T3, &T4))>::encode_fields(
+            self,
+            &((&t.0, &t.1), (&t.2, &t.3)),
+        )
+    }
+
+    ghost of_shape = { both_of_shape (both_of_shape A.of_shape B.of_shape) (both_of_shape C.of_shape D.of_shape) };
+
+    ghost surely = { both_surely (both_surely A.surely B.surely) (both_surely C.surely D.surely) };
+}
+
+impl<
+    T1: Shaped,
+    T2: Shaped,
+    T3: Shaped,
+    T4: Shaped,
+    A: Encoder<T1>,
+    B: Encoder<T2>,
+    C: Encoder<T3>,
+    D: Encoder<T4>,
+> FieldsEncoder4<T1, T2, T3, T4> for TupleEncoder<TupleEncoder<A, B>, TupleEncoder<C, D>> {
+    ghost writes_free = { (A.writes_free && B.writes_free) && (C.writes_free && D.writes_free) };
+
+    fn encode_each(&mut self, t1: &T1, t2: &T2, t3: &T3, t4: &T4) -> Result<(), Error> {
+        FieldsEncoder::<((&T1, &T2), (&T3, &T4))>::encode_fields(self, &((t1, t2), (t3, t4)))
+    }
+
+    ghost of_shape = { both_of_shape (both_of_shape A.of_shape B.of_shape) (both_of_shape C.of_shape D.of_shape) };
+
+    ghost surely = { both_surely (both_surely A.surely B.surely) (both_surely C.surely D.surely) };
+}
+
+impl<
+    T1: Shaped,
+    T2: Shaped,
+    T3: Shaped,
+    T4: Shaped,
+    T5: Shaped,
+    A: Encoder<T1>,
+    B: Encoder<T2>,
+    C: FieldsEncoder3<T3, T4, T5>,
+> Encoder<(T1, T2, T3, T4, T5)> for TupleEncoder<TupleEncoder<A, B>, C> {
+    ghost writes_free = { (A.writes_free && B.writes_free) && C.writes_free };
+
+    fn encode(&mut self, t: &(T1, T2, T3, T4, T5)) -> Result<(), Error> {
+        FieldsEncoder::<((&T1, &T2), (&T3, &T4, &T5))>::encode_fields(
+            self,
+            &((&t.0, &t.1), (&t.2, &t.3, &t.4)),
+        )
+    }
+
+    ghost of_shape = { both_of_shape (both_of_shape A.of_shape B.of_shape) C.of_shape };
+
+    ghost surely = { both_surely (both_surely A.surely B.surely) C.surely };
+}
+
+impl<
+    T1: Shaped,
+    T2: Shaped,
+    T3: Shaped,
+    T4: Shaped,
+    T5: Shaped,
+    A: Encoder<T1>,
+    B: Encoder<T2>,
+    C: FieldsEncoder3<T3, T4, T5>,
+> FieldsEncoder5<T1, T2, T3, T4, T5> for TupleEncoder<TupleEncoder<A, B>, C> {
+    ghost writes_free = { (A.writes_free && B.writes_free) && C.writes_free };
+
+    fn encode_each(&mut self, t1: &T1, t2: &T2, t3: &T3, t4: &T4, t5: &T5) -> Result<(), Error> {
+        FieldsEncoder::<((&T1, &T2), (&T3, &T4, &T5))>::encode_fields(
+            self,
+            &((t1, t2), (t3, t4, t5)),
+        )
+    }
+
+    ghost of_shape = { both_of_shape (both_of_shape A.of_shape B.of_shape) C.of_shape };
+
+    ghost surely = { both_surely (both_surely A.surely B.surely) C.surely };
+}
+
+impl<
+    T1: Shaped,
+    T2: Shaped,
+    T3: Shaped,
+    T4: Shaped,
+    T5: Shaped,
+    T6: Shaped,
+    A: FieldsEncoder3<T1, T2, T3>,
+    B: FieldsEncoder3<T4, T5, T6>,
+> Encoder<(T1, T2, T3, T4, T5, T6)> for TupleEncoder<A, B> {
+    ghost writes_free = { A.writes_free && B.writes_free };
+
+    fn encode(&mut self, t: &(T1, T2, T3, T4, T5, T6)) -> Result<(), Error> {
+        FieldsEncoder::<((&T1, &T2, &T3), (&T4, &T5, &T6))>::encode_fields(
+            self,
+            &((&t.0, &t.1, &t.2), (&t.3, &t.4, &t.5)),
+        )
+    }
+
+    ghost of_shape = { both_of_shape A.of_shape B.of_shape };
+
+    ghost surely = { both_surely A.surely B.surely };
+}
+
+impl<
+    T1: Shaped,
+    T2: Shaped,
+    T3: Shaped,
+    T4: Shaped,
+    T5: Shaped,
+    T6: Shaped,
+    A: FieldsEncoder3<T1, T2, T3>,
+    B: FieldsEncoder3<T4, T5, T6>,
+> FieldsEncoder6<T1, T2, T3, T4, T5, T6> for TupleEncoder<A, B> {
+    ghost writes_free = { A.writes_free && B.writes_free };
+
+    fn encode_each(
+        &mut self,
+        t1: &T1,
+        t2: &T2,
+        t3: &T3,
+        t4: &T4,
+        t5: &T5,
+        t6: &T6,
+    ) -> Result<(), Error> {
+        FieldsEncoder::<((&T1, &T2, &T3), (&T4, &T5, &T6))>::encode_fields(
+            self,
+            &((t1, t2, t3), (t4, t5, t6)),
+        )
+    }
+
+    ghost of_shape = { both_of_shape A.of_shape B.of_shape };
+
+    ghost surely = { both_surely A.surely B.surely };
+}
+
+impl<
+    T1: Shaped,
+    T2: Shaped,
+    T3: Shaped,
+    T4: Shaped,
+    T5: Shaped,
+    T6: Shaped,
+    T7: Shaped,
+    A: FieldsEncoder3<T1, T2, T3>,
+    B: FieldsEncoder4<T4, T5, T6, T7>,
+> Encoder<(T1, T2, T3, T4, T5, T6, T7)> for TupleEncoder<A, B> {
+    ghost writes_free = { A.writes_free && B.writes_free };
+
+    fn encode(&mut self, t: &(T1, T2, T3, T4, T5, T6, T7)) -> Result<(), Error> {
+        FieldsEncoder::<((&T1, &T2, &T3), (&T4, &T5, &T6, &T7))>::encode_fields(
+            self,
+            &((&t.0, &t.1, &t.2), (&t.3, &t.4, &t.5, &t.6)),
+        )
+    }
+
+    ghost of_shape = { both_of_shape A.of_shape B.of_shape };
+
+    ghost surely = { both_surely A.surely B.surely };
+}
+
+impl<
+    T1: Shaped,
+    T2: Shaped,
+    T3: Shaped,
+    T4: Shaped,
+    T5: Shaped,
+    T6: Shaped,
+    T7: Shaped,
+    A: FieldsEncoder3<T1, T2, T3>,
+    B: FieldsEncoder4<T4, T5, T6, T7>,
+> FieldsEncoder7<T1, T2, T3, T4, T5, T6, T7> for TupleEncoder<A, B> {
+    ghost writes_free = { A.writes_free && B.writes_free };
+
+    fn encode_each(
+        &mut self,
+        t1: &T1,
+        t2: &T2,
+        t3: &T3,
+        t4: &T4,
+        t5: &T5,
+        t6: &T6,
+        t7: &T7,
+    ) -> Result<(), Error> {
+        FieldsEncoder::<((&T1, &T2, &T3), (&T4, &T5, &T6, &T7))>::encode_fields(
+            self,
+            &((t1, t2, t3), (t4, t5, t6, t7)),
+        )
+    }
+
+    ghost of_shape = { both_of_shape A.of_shape B.of_shape };
+
+    ghost surely = { both_surely A.surely B.surely };
+}
+
+impl<
+    T1: Shaped,
+    T2: Shaped,
+    T3: Shaped,
+    T4: Shaped,
+    T5: Shaped,
+    T6: Shaped,
+    T7: Shaped,
+    T8: Shaped,
+    A: FieldsEncoder4<T1, T2, T3, T4>,
+    B: FieldsEncoder4<T5, T6, T7, T8>,
+> Encoder<(T1, T2, T3, T4, T5, T6, T7, T8)> for TupleEncoder<A, B> {
+    ghost writes_free = { A.writes_free && B.writes_free };
+
+    fn encode(&mut self, t: &(T1, T2, T3, T4, T5, T6, T7, T8)) -> Result<(), Error> {
+        FieldsEncoder::<((&T1, &T2, &T3, &T4), (&T5, &T6, &T7, &T8))>::encode_fields(
+            self,
+            &((&t.0, &t.1, &t.2, &t.3), (&t.4, &t.5, &t.6, &t.7)),
+        )
+    }
+
+    ghost of_shape = { both_of_shape A.of_shape B.of_shape };
+
+    ghost surely = { both_surely A.surely B.surely };
+}
+
+impl<
+    T1: Shaped,
+    T2: Shaped,
+    T3: Shaped,
+    T4: Shaped,
+    T5: Shaped,
+    T6: Shaped,
+    T7: Shaped,
+    T8: Shaped,
+    A: FieldsEncoder4<T1, T2, T3, T4>,
+    B: FieldsEncoder4<T5, T6, T7, T8>,
+> FieldsEncoder8<T1, T2, T3, T4, T5, T6, T7, T8> for TupleEncoder<A, B> {
+    ghost writes_free = { A.writes_free && B.writes_free };
+
+    fn encode_each(
+        &mut self,
+        t1: &T1,
+        t2: &T2,
+        t3: &T3,
+        t4: &T4,
+        t5: &T5,
+        t6: &T6,
+        t7: &T7,
+        t8: &T8,
+    ) -> Result<(), Error> {
+        FieldsEncoder::<((&T1, &T2, &T3, &T4), (&T5, &T6, &T7, &T8))>::encode_fields(
+            self,
+            &((t1, t2, t3, t4), (t5, t6, t7, t8)),
+        )
+    }
+
+    ghost of_shape = { both_of_shape A.of_shape B.of_shape };
+
+    ghost surely = { both_surely A.surely B.surely };
+}

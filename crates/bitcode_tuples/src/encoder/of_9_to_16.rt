@@ -1,0 +1,388 @@
+// The encoders of tuples of nine to sixteen fields: of the first half of the fields, and of the second.
+ghost use Rattle.std.specs.Prelude.{◌&&◌};
+ghost use Rattle.bitcode_tuples.specs.PairLaws.{both_of_shape, both_surely};
+
+use crate::encoder::TupleEncoder;
+use crate::fields::FieldsEncoder;
+use crate::fields::of_3_to_5::{FieldsEncoder4, FieldsEncoder5};
+use crate::fields::of_6_to_8::{FieldsEncoder6, FieldsEncoder7, FieldsEncoder8};
+use bitcode_coder::coder::Encoder;
+use bitcode_input::error::Error;
+use bitcode_shapes::shaped::Shaped;
+
+impl<
+    T1: Shaped,
+    T2: Shaped,
+    T3: Shaped,
+    T4: Shaped,
+    T5: Shaped,
+    T6: Shaped,
+    T7: Shaped,
+    T8: Shaped,
+    T9: Shaped,
+    A: FieldsEncoder4<T1, T2, T3, T4>,
+    B: FieldsEncoder5<T5, T6, T7, T8, T9>,
+> Encoder<(T1, T2, T3, T4, T5, T6, T7, T8, T9)> for TupleEncoder<A, B> {
+    ghost writes_free = { A.writes_free && B.writes_free };
+
+    fn encode(&mut self, t: &(T1, T2, T3, T4, T5, T6, T7, T8, T9)) -> Result<(), Error> {
+        FieldsEncoder::<((&T1, &T2, &T3, &T4), (&T5, &T6, &T7, &T8, &T9))>::encode_fields(
+            self,
+            &((&t.0, &t.1, &t.2, &t.3), (&t.4, &t.5, &t.6, &t.7, &t.8)),
+        )
+    }
+
+    ghost of_shape = { both_of_shape A.of_shape B.of_shape };
+
+    ghost surely = { both_surely A.surely B.surely };
+}
+
+impl<
+    T1: Shaped,
+    T2: Shaped,
+    T3: Shaped,
+    T4: Shaped,
+    T5: Shaped,
+    T6: Shaped,
+    T7: Shaped,
+    T8: Shaped,
+    T9: Shaped,
+    T10: Shaped,
+    A: FieldsEncoder5<T1, T2, T3, T4, T5>,
+    B: FieldsEncoder5<T6, T7, T8, T9, T10>,
+> Encoder<(T1, T2, T3, T4, T5, T6, T7, T8, T9, T10)> for TupleEncoder<A, B> {
+    ghost writes_free = { A.writes_free && B.writes_free };
+
+    fn encode(&mut self, t: &(T1, T2, T3, T4, T5, T6, T7, T8, T9, T10)) -> Result<(), Error> {
+        FieldsEncoder::<((&T1, &T2, &T3, &T4, &T5), (&T6, &T7, &T8, &T9, &T10))>::encode_fields(
+            self,
+            &(
+                (&t.0, &t.1, &t.2, &t.3, &t.4),
+                (&t.5, &t.6, &t.7, &t.8, &t.9),
+            ),
+        )
+    }
+
+    ghost of_shape = { both_of_shape A.of_shape B.of_shape };
+
+    ghost surely = { both_surely A.surely B.surely };
+}
+
+impl<
+    T1: Shaped,
+    T2: Shaped,
+    T3: Shaped,
+    T4: Shaped,
+    T5: Shaped,
+    T6: Shaped,
+    T7: Shaped,
+    T8: Shaped,
+    T9: Shaped,
+    T10: Shaped,
+    T11: Shaped,
+    A: FieldsEncoder5<T1, T2, T3, T4, T5>,
+    B: FieldsEncoder6<T6, T7, T8, T9, T10, T11>,
+> Encoder<(T1, T2, T3, T4, T5, T6, T7, T8, T9, T10, T11)> for TupleEncoder<A, B> {
+    ghost writes_free = { A.writes_free && B.writes_free };
+
+    fn encode(&mut self, t: &(T1, T2, T3, T4, T5, T6, T7, T8, T9, T10, T11)) -> Result<(), Error> {
+        FieldsEncoder::<
+            ((&T1, &T2, &T3, &T4, &T5), (&T6, &T7, &T8, &T9, &T10, &T11)),
+        >::encode_fields(
+            self,
+            &(
+                (&t.0, &t.1, &t.2, &t.3, &t.4),
+                (&t.5, &t.6, &t.7, &t.8, &t.9, &t.10),
+            ),
+        )
+    }
+
+    ghost of_shape = { both_of_shape A.of_shape B.of_shape };
+
+    ghost surely = { both_surely A.surely B.surely };
+}
+
+impl<
+    T1: Shaped,
+    T2: Shaped,
+    T3: Shaped,
+    T4: Shaped,
+    T5: Shaped,
+    T6: Shaped,
+    T7: Shaped,
+    T8: Shaped,
+    T9: Shaped,
+    T10: Shaped,
+    T11: Shaped,
+    T12: Shaped,
+    A: FieldsEncoder6<T1, T2, T3, T4, T5, T6>,
+    B: FieldsEncoder6<T7, T8, T9, T10, T11, T12>,
+> Encoder<(T1, T2, T3, T4, T5, T6, T7, T8, T9, T10, T11, T12)> for TupleEncoder<A, B> {
+    ghost writes_free = { A.writes_free && B.writes_free };
+
+    fn encode(
+        &mut self,
+        t: &(T1, T2, T3, T4, T5, T6, T7, T8, T9, T10, T11, T12),
+    ) -> Result<(), Error> {
+        FieldsEncoder::<
+            (
+                (&T1, &T2, &T3, &T4, &T5, &T6),
+                (&T7, &T8, &T9, &T10, &T11, &T12),
+            ),
+        >::encode_fields(
+            self,
+            &(
+                (&t.0, &t.1, &t.2, &t.3, &t.4, &t.5),
+                (&t.6, &t.7, &t.8, &t.9, &t.10, &t.11),
+            ),
+        )
+    }
+
+    ghost of_shape = { both_of_shape A.of_shape B.of_shape };
+
+    ghost surely = { both_surely A.surely B.surely };
+}
+
+impl<
+    T1: Shaped,
+    T2: Shaped,
+    T3: Shaped,
+    T4: Shaped,
+    T5: Shaped,
+    T6: Shaped,
+    T7: Shaped,
+    T8: Shaped,
+    T9: Shaped,
+    T10: Shaped,
+    T11: Shaped,
+    T12: Shaped,
+    T13: Shaped,
+    A: FieldsEncoder6<T1, T2, T3, T4, T5, T6>,
+    B: FieldsEncoder7<T7, T8, T9, T10, T11, T12, T13>,
+> Encoder<(T1, T2, T3, T4, T5, T6, T7, T8, T9, T10, T11, T12, T13)> for TupleEncoder<A, B> {
+    ghost writes_free = { A.writes_free && B.writes_free };
+
+    fn encode(
+        &mut self,
+        t: &(T1, T2, T3, T4, T5, T6, T7, T8, T9, T10, T11, T12, T13),
+    ) -> Result<(), Error> {
+        FieldsEncoder::<
+            (
+                (&T1, &T2, &T3, &T4, &T5, &T6),
+                (&T7, &T8, &T9, &T10, &T11, &T12, &T13),
+            ),
+        >::encode_fields(
+            self,
+            &(
+                (&t.0, &t.1, &t.2, &t.3, &t.4, &t.5),
+                (&t.6, &t.7, &t.8, &t.9, &t.10, &t.11, &t.12),
+            ),
+        )
+    }
+
+    ghost of_shape = { both_of_shape A.of_shape B.of_shape };
+
+    ghost surely = { both_surely A.surely B.surely };
+}
+
+impl<
+    T1: Shaped,
+    T2: Shaped,
+    T3: Shaped,
+    T4: Shaped,
+    T5: Shaped,
+    T6: Shaped,
+    T7: Shaped,
+    T8: Shaped,
+    T9: Shaped,
+    T10: Shaped,
+    T11: Shaped,
+    T12: Shaped,
+    T13: Shaped,
+    T14: Shaped,
+    A: FieldsEncoder7<T1, T2, T3, T4, T5, T6, T7>,
+    B: FieldsEncoder7<T8, T9, T10, T11, T12, T13, T14>,
+> Encoder<(T1, T2, T3, T4, T5, T6, T7, T8, T9, T10, T11, T12, T13, T14)> for TupleEncoder<A, B> {
+    ghost writes_free = { A.writes_free && B.writes_free };
+
+    fn encode(
+        &mut self,
+        t: &(T1, T2, T3, T4, T5, T6, T7, T8, T9, T10, T11, T12, T13, T14),
+    ) -> Result<(), Error> {
+        FieldsEncoder::<
+            (
+                (&T1, &T2, &T3, &T4, &T5, &T6, &T7),
+                (&T8, &T9, &T10, &T11, &T12, &T13, &T14),
+            ),
+        >::encode_fields(
+            self,
+            &(
+                (&t.0, &t.1, &t.2, &t.3, &t.4, &t.5, &t.6),
+                (&t.7, &t.8, &t.9, &t.10, &t.11, &t.12, &t.13),
+            ),
+        )
+    }
+
+    ghost of_shape = { both_of_shape A.of_shape B.of_shape };
+
+    ghost surely = { both_surely A.surely B.surely };
+}
+
+impl<
+    T1: Shaped,
+    T2: Shaped,
+    T3: Shaped,
+    T4: Shaped,
+    T5: Shaped,
+    T6: Shaped,
+    T7: Shaped,
+    T8: Shaped,
+    T9: Shaped,
+    T10: Shaped,
+    T11: Shaped,
+    T12: Shaped,
+    T13: Shaped,
+    T14: Shaped,
+    T15: Shaped,
+    A: FieldsEncoder7<T1, T2, T3, T4, T5, T6, T7>,
+    B: FieldsEncoder8<T8, T9, T10, T11, T12, T13, T14, T15>,
+> Encoder<
+    (
+        T1,
+        T2,
+        T3,
+        T4,
+        T5,
+        T6,
+        T7,
+        T8,
+        T9,
+        T10,
+        T11,
+        T12,
+        T13,
+        T14,
+        T15,
+    ),
+> for TupleEncoder<A, B> {
+    ghost writes_free = { A.writes_free && B.writes_free };
+
+    fn encode(
+        &mut self,
+        t: &(
+            T1,
+            T2,
+            T3,
+            T4,
+            T5,
+            T6,
+            T7,
+            T8,
+            T9,
+            T10,
+            T11,
+            T12,
+            T13,
+            T14,
+            T15,
+        ),
+    ) -> Result<(), Error> {
+        FieldsEncoder::<
+            (
+                (&T1, &T2, &T3, &T4, &T5, &T6, &T7),
+                (&T8, &T9, &T10, &T11, &T12, &T13, &T14, &T15),
+            ),
+        >::encode_fields(
+            self,
+            &(
+                (&t.0, &t.1, &t.2, &t.3, &t.4, &t.5, &t.6),
+                (&t.7, &t.8, &t.9, &t.10, &t.11, &t.12, &t.13, &t.14),
+            ),
+        )
+    }
+
+    ghost of_shape = { both_of_shape A.of_shape B.of_shape };
+
+    ghost surely = { both_surely A.surely B.surely };
+}
+
+impl<
+    T1: Shaped,
+    T2: Shaped,
+    T3: Shaped,
+    T4: Shaped,
+    T5: Shaped,
+    T6: Shaped,
+    T7: Shaped,
+    T8: Shaped,
+    T9: Shaped,
+    T10: Shaped,
+    T11: Shaped,
+    T12: Shaped,
+    T13: Shaped,
+    T14: Shaped,
+    T15: Shaped,
+    T16: Shaped,
+    A: FieldsEncoder8<T1, T2, T3, T4, T5, T6, T7, T8>,
+    B: FieldsEncoder8<T9, T10, T11, T12, T13, T14, T15, T16>,
+> Encoder<
+    (
+        T1,
+        T2,
+        T3,
+        T4,
+        T5,
+        T6,
+        T7,
+        T8,
+        T9,
+        T10,
+        T11,
+        T12,
+        T13,
+        T14,
+        T15,
+        T16,
+    ),
+> for TupleEncoder<A, B> {
+    ghost writes_free = { A.writes_free && B.writes_free };
+
+    fn encode(
+        &mut self,
+        t: &(
+            T1,
+            T2,
+            T3,
+            T4,
+            T5,
+            T6,
+            T7,
+            T8,
+            T9,
+            T10,
+            T11,
+            T12,
+            T13,
+            T14,
+            T15,
+            T16,
+        ),
+    ) -> Result<(), Error> {
+        FieldsEncoder::<
+            (
+                (&T1, &T2, &T3, &T4, &T5, &T6, &T7, &T8),
+                (&T9, &T10, &T11, &T12, &T13, &T14, &T15, &T16),
+            ),
+        >::encode_fields(
+            self,
+            &(
+                (&t.0, &t.1, &t.2, &t.3, &t.4, &t.5, &t.6, &t.7),
+                (&t.8, &t.9, &t.10, &t.11, &t.12, &t.13, &t.14, &t.15),
+            ),
+        )
+    }
+
+    ghost of_shape = { both_of_shape A.of_shape B.of_shape };
+
+    ghost surely = { both_surely A.surely B.surely };
+}
