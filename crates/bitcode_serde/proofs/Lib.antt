@@ -5,6 +5,8 @@ pub mod StepLemmas
 pub mod ValueLemmas
 pub mod DepthLemmas
 pub mod FreeLemmas
+pub mod LinkLemmas
+pub mod PlaceLemmas
 pub mod EntryLemmas
 pub mod FieldLemmas
 pub mod WholeLemmas

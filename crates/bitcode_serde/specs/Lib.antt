@@ -1,5 +1,7 @@
 pub mod Indices
 pub mod ReadColumns
+pub mod Links
+pub mod Places
 pub mod Reading
 pub mod ReadingValues
 pub mod Depth
