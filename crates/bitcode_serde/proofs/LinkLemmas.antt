@@ -1,6 +1,5 @@
 -- Links of places, by number.
 use Rattle.std.proofs.Common.{◌≡◌, ℕ, zero, suc, ◌<◌, ◌≤◌, ◌⊎◌, inl, inr, List, [], ◌∷◌, ◌++◌, length, get_or, Option, None, Some, slice_get, refl, ap, sym, ◌∙◌, subst, arith}
-use Rattle.std.specs.Prelude.{Result, Ok, Err, OnOk}
 use Rattle.std.proofs.Math.ListN.{set}
 use Rattle.bitcode_serde.specs.Links.{link_of, HasRoom, link, column_link, HasRoomAt}
 use Rattle.bitcode_serde.specs.declared.links.Links.{Links}
@@ -110,9 +109,3 @@ link_of_column l column step.Key = refl
 link_of_column l column step.Value = refl
 link_of_column l column (step.Variant i) = refl
 link_of_column l column (step.Field i) = refl
-
--- ---- what a call that may fail leaves
-
-pub when_ok : {A E P Q : Type 0} (r : Result A E) → (P → Q) → OnOk r P → OnOk r Q
-when_ok (Ok a) f h = f h
-when_ok (Err e) f h = tt

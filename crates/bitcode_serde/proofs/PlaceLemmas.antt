@@ -1,5 +1,6 @@
 -- Places by number, and their links.
 use Rattle.std.proofs.Common.{◌≡◌, ℕ, zero, suc, ◌+◌, ◌-◌, ◌<◌, ◌≤◌, ◌⊎◌, inl, inr, List, [], ◌∷◌, ◌++◌, length, take, drop, Option, None, Some, slice_get, refl, ap, sym, subst, ◌∙◌, arith, length-append}
+use Rattle.std.proofs.lemmas.List.{append-nil}
 use Rattle.bitcode_untyped.specs.Walk.{Place}
 use Rattle.bitcode_serde.specs.Links.{link}
 use Rattle.bitcode_serde.specs.Places.{step_of, place_at, places_from, places, IsPlace, LieBelow, AreApart, AreLinked, LinkBelow, IsGrown}
@@ -247,3 +248,13 @@ written_back n [] (y ∷ old) e same = absurd (omega (arith, same))
 written_back n (x ∷ new) [] e same = absurd (omega (arith, same))
 written_back zero (x ∷ new) (y ∷ old) e same = absurd (omega (arith, e))
 written_back (suc n) (x ∷ new) (y ∷ old) e same = ap (λ xs. x ∷ xs) (written_back n new old (omega (arith, e)) (omega (arith, same)))
+
+-- ---- places that may have grown
+
+pub grown_size : (old new : List Below) (b : Below) (n : ℕ) → IsGrown old b new n → length old ≤ length new
+grown_size old new b n (inl e) = let h = ap length e in omega (arith, h)
+grown_size old new b n (inr e) = let h = ap length e.0 in let l = length-append old (b ∷ []) in omega (arith, h, l)
+
+pub grown_places : (old new : List Below) (b : Below) (n : ℕ) → IsGrown old b new n → (more : List Place) × (places new ≡ places old ++ more)
+grown_places old new b n (inl e) = ([], ap places e ∙ sym (append-nil (places old)))
+grown_places old new b n (inr e) = (below_place (places old) b ∷ [], ap places e.0 ∙ places-last old b)

@@ -8,9 +8,10 @@ use Rattle.std.proofs.lemmas.Option.{get_or_from_slice_get}
 use Rattle.bitcode_untyped.specs.Machine.{Opened, State, whole}
 use Rattle.bitcode_untyped.specs.PlacedColumns.{PlacedColumn}
 use Rattle.bitcode_untyped.specs.Walk.{Place}
-use Rattle.bitcode_serde.specs.Reading.{places_from, places, place_at, counts, step_of, IsStep, IsPlace, IsRooted, AreApart, Back, Hosts, HostAll, Stands}
-use Rattle.bitcode_serde.specs.declared.reader.Step.{Step as CodeStep}
-use Rattle.bitcode_serde.specs.declared.reader.Below.{Below}
+use Rattle.bitcode_serde.specs.Reading.{counts, Back, Hosts, HostAll, Stands}
+use Rattle.bitcode_serde.specs.Places.{places_from, places, place_at, step_of, IsPlace, AreApart}
+use Rattle.bitcode_serde.specs.declared.step.Step.{Step as CodeStep}
+use Rattle.bitcode_serde.specs.declared.places.Below.{Below}
 use Rattle.bitcode_serde.specs.declared.reader.OpenColumn.{OpenColumn}
 use Rattle.bitcode_serde.specs.declared.reader.Reader.{Reader}
 use Rattle.bitcode_serde.proofs.ReadingLemmas.{places_from-length}
@@ -202,7 +203,7 @@ module _ (bs : List Below) (b : Below) (rooted : IsRooted 1 bs) (inside : b.abov
   counts_more : counts (bs ++ b ∷ []) ≡ counts bs ++ b.count ∷ []
   counts_more = ap (λ ns. 1 ∷ ns) (map-append (λ z. z.count) bs (b ∷ []))
 
-  pub pushed_stands : (old new : Reader) → old.below.items ≡ bs → new.below.items ≡ bs ++ b ∷ [] → new.columns ≡ old.columns → new.input.now ≡ old.input.now
+  pub pushed_stands : (old new : Reader) → old.places.below.items ≡ bs → new.places.below.items ≡ bs ++ b ∷ [] → new.columns ≡ old.columns → new.input.now ≡ old.input.now
       → All (λ c. IsStep c b.above b.step → ⊥) bs → (a : State) → Stands old a → Hosts (map whole a.opened) q b.count → Stands new a
   pushed_stands old new was is columns input none a s hosts =
       let backs = subst (λ z. Back (places z) old.columns.items a.opened) was s.backs in

@@ -6,6 +6,5 @@ pub mod Reading
 pub mod ReadingValues
 pub mod Depth
 pub mod WrittenColumns
-pub mod WrittenPlaces
 pub mod Writing
 pub mod Serializing

@@ -7,7 +7,7 @@ ghost use Rattle.bitcode_coder.specs.Spelling.{natural};
 ghost use Rattle.bitcode_untyped.specs.ShapeTree.{seq_tree, natural_tree};
 ghost use Rattle.bitcode_serde.specs.Serializing.{Outcome};
 
-use crate::reader::Step;
+use crate::step::Step;
 use crate::writer::Writer;
 use crate::written::Entry;
 use bitcode_input::error::Error;
@@ -16,7 +16,7 @@ use bitcode_input::error::Error;
 ///
 /// A refused growth is `out of memory`.
 pub fn write_bytes(writer: &mut Writer, place: usize, bytes: &[u8]) -> Result<(), Error>
-    requires { place ≤ length writer.old.below.items }
+    requires { place ≤ length writer.old.places.below.items }
     ensures { Outcome writer.old (seq_tree (natural_tree 1)) place (list (data_of (map natural bytes.now))) [] result writer.new }
 {
     writer.put(place, Entry::Length(bytes.len()))?;

@@ -1,7 +1,7 @@
 // Columns are written in the order of their first entries.
 use crate::entries::leaf_entry;
-use crate::reader::Step;
 use crate::serialize::write_bytes;
+use crate::step::Step;
 use crate::writer::Writer;
 use crate::written::{Entry, WrittenColumn};
 use bitcode_untyped::shape::ShapeNode;

@@ -1,6 +1,7 @@
 use Rattle.std.proofs.Common.{ap, ◌∙◌}
 use Rattle.bitcode_serde.specs.Links.{link_of}
-use Rattle.bitcode_serde.proofs.LinkLemmas.{room_set, link_set-same, column_set-same, when_ok}
+use Rattle.bitcode_serde.proofs.LinkLemmas.{room_set, link_set-same, column_set-same}
+use Rattle.bitcode_serde.proofs.OutcomeLemmas.{when_ok}
 use Rattle.bitcode_serde.proofs.places.make_room_below.Goals as goal
 
 pub returns-clause-links : goal.returns-clause-links

@@ -12,7 +12,7 @@ use Rattle.bitcode_untyped.proofs.FollowedLemmas.{followed-zero, followed_one, e
 use Rattle.bitcode_untyped.proofs.ReadLemmas.{never_read, seq_stuck_length, seq_over_limit, map_stuck_length, map_over_limit, choice_stuck_index}
 use Rattle.bitcode_untyped.proofs.ViewLemmas.{tree-Bool, tree-U8, tree-U16, tree-U32, tree-U64, tree-U128, tree-I8, tree-I16, tree-I32, tree-I64, tree-I128, tree-Char, tree-Str, tree-Bytes, tree-Option, tree-Seq, tree-Map, tree-Tuple, tree-Enum, tree-Ref, datum-None, datum-Some, datum-Seq, datum-Map, datum-Tuple, datum-Enum}
 use Rattle.bitcode_coder.specs.Spelling.{natural}
-use Rattle.bitcode_serde.specs.Reading.{places, place_at}
+use Rattle.bitcode_serde.specs.Places.{places, place_at}
 use Rattle.bitcode_serde.specs.ReadingValues.{ReadsAt, ReadsListAt, IsRefusalAt, IsListRefusalAt}
 use Rattle.bitcode_serde.proofs.ColumnLemmas.{passed_on}
 use Rattle.bitcode_serde.proofs.DepthLemmas.{entry_deep, reference_falls}
@@ -392,7 +392,7 @@ read_tuple-field-requires-clause-place t c = still_there c.args.reader.now c.loo
 pub read_tuple-read-requires : goal.read_tuple-read-requires
 read_tuple-read-requires t c =
     let d = entry_deep c.args.nodes.now c.loop-i.i c.index-nodes-i.result (found_entry c.args.nodes.now c.loop-i.i c.index-nodes-i.result c.loop-i-test.true c.index-nodes-i.is) in
-    let h = (c.in_ok-inside.ensures.found _ (c.loop-i.invariant.0.kept c.args.place (place_at (places c.args.reader.now.below.items) c.args.place) (c.requires.place, refl))).0 in
+    let h = (c.in_ok-inside.ensures.found _ (c.loop-i.invariant.0.kept c.args.place (place_at (places c.args.reader.now.places.below.items) c.args.place) (c.requires.place, refl))).0 in
     let s = c.in_ok-inside.ensures.continues.steady in
     search (rules, d, h, s)
 
