@@ -130,14 +130,14 @@ kept_128 z h = search rules
 -- ---- kinds by their numbers
 
 -- the kind of a number
-abbrev pub numbered : ℕ → Kind
+abbrev pub numbered : ℕ → ColumnKind
 numbered n =
-    if n == 0 then bools else if n == 1 then lengths None else if n == 2 then texts None else if n == 12 then ints 1 false
-    else if n == 13 then ints 1 true else if n == 14 then ints 2 false else if n == 15 then ints 2 true else if n == 18 then ints 4 false
-    else if n == 19 then ints 4 true else if n == 26 then ints 8 false else if n == 27 then ints 8 true else if n == 42 then ints 16 false
-    else ints 16 true
+    if n == 0 then kind.Bools else if n == 1 then kind.Lengths else if n == 2 then kind.Texts else if n == 12 then kind.Bytes
+    else if n == 13 then kind.I8 else if n == 14 then kind.U16 else if n == 15 then kind.I16 else if n == 18 then kind.U32
+    else if n == 19 then kind.I32 else if n == 26 then kind.U64 else if n == 27 then kind.I64 else if n == 42 then kind.U128
+    else kind.I128
 
-numbered_kind : (k : ColumnKind) → numbered (kind_number (kind_of k)) ≡ kind_of k
+numbered_kind : (k : ColumnKind) → numbered (kind_number (kind_of k)) ≡ k
 numbered_kind kind.Bools = refl
 numbered_kind kind.Bytes = refl
 numbered_kind kind.U16 = refl
@@ -152,8 +152,8 @@ numbered_kind kind.I128 = refl
 numbered_kind kind.Lengths = refl
 numbered_kind kind.Texts = refl
 
-pub same_kind : (a b : ColumnKind) → kind_number (kind_of a) ≡ kind_number (kind_of b) → kind_of a ≡ kind_of b
-same_kind a b e = sym (numbered_kind a) ∙ ap numbered e ∙ numbered_kind b
+pub same_in_code : (a b : ColumnKind) → kind_of a ≡ kind_of b → a ≡ b
+same_in_code a b e = sym (numbered_kind a) ∙ ap (λ k. numbered (kind_number k)) e ∙ numbered_kind b
 
 -- ---- what is read of a column are entries of its kind
 

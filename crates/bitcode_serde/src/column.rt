@@ -12,7 +12,7 @@ ghost use Rattle.bitcode_untyped.specs.Population.{total, count_of};
 ghost use Rattle.bitcode_serde.specs.Indices.{indices_left, index_count};
 ghost use Rattle.bitcode_coder.specs.Coding.{IsReadingRefusal, TakesDatum};
 ghost use Rattle.bitcode_untyped.specs.View.{datum_of};
-ghost use Rattle.bitcode_serde.specs.ReadColumns.{kind_of, kind_number, kind_of_column, left, Tallies, ReadsColumn, IsColumnRefusal};
+ghost use Rattle.bitcode_serde.specs.ReadColumns.{kind_of, kind_number, kind_in_code, kind_of_column, left, Tallies, IsCaseOf, ReadsColumn, IsColumnRefusal};
 
 use crate::serde::VariantDecoder;
 use bitcode_coder::bool::BoolDecoder;
@@ -211,6 +211,7 @@ impl<'a> Column<'a> {
     pub fn take(&mut self) -> Result<Value, Error>
         requires { 0 < length (left self.old) }
         ensures taken { IfOk result (λ value. left self.old ≡ datum_of value ∷ left self.new) }
+        ensures of_case { IfOk result (λ value. IsCaseOf (kind_in_code self.old) value) }
         ensures kind { kind_of_column self.new ≡ kind_of_column self.old }
         ensures tallies { (entries : List Datum) → Tallies self.old entries → Tallies self.new entries }
         ensures refused { IfErr result (λ e. e.reason ≡ Reason.OutOfMemory) }
