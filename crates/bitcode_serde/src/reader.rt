@@ -7,7 +7,7 @@ ghost use Rattle.bitcode_coder.specs.Coding.{IsReadingReason};
 ghost use Rattle.bitcode_untyped.specs.Machine.{State, start, whole};
 ghost use Rattle.bitcode_untyped.specs.View.{datum_of};
 ghost use Rattle.bitcode_untyped.specs.Walk.{Place, length_kind, index_kind};
-ghost use Rattle.bitcode_serde.specs.ReadColumns.{kind_of};
+ghost use Rattle.bitcode_serde.specs.ReadColumns.{kind_of, IsCaseOf};
 ghost use Rattle.bitcode_serde.specs.Reading.{step_of, IsStep, IsPlace, IsRooted, Hosts, places, place_at, counts, AreSized, Stands, IsReady, Prepares, NothingAt, Leads, LeadsTelling};
 ghost use Rattle.bitcode_serde.specs.ReadingValues.{IsSteady, Continues, field_at};
 
@@ -227,6 +227,7 @@ impl<'a> Reader<'a> {
         requires sized { AreSized self.old.columns.items }
         ensures sized { OnOk result (AreSized self.new.columns.items) }
         ensures leads { IfOk result (λ value. Leads self.old (place_at (places self.old.below.items) place) (kind_of kind) (datum_of value) self.new) }
+        ensures of_case { IfOk result (λ value. IsCaseOf kind value) }
         ensures below { self.new.below ≡ self.old.below }
         ensures refused { IfErr result (λ e. IsReadingReason e.reason × (e.reason ≢ Reason.OutOfMemory → (a : State) → Stands self.old a → NothingAt a (place_at (places self.old.below.items) place) (kind_of kind))) }
     {
