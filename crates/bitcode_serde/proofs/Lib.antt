@@ -7,6 +7,7 @@ pub mod DepthLemmas
 pub mod FreeLemmas
 pub mod EntryLemmas
 pub mod FieldLemmas
+pub mod CaseLemmas
 pub mod WholeLemmas
 pub mod WrittenLemmas
 pub mod WritingLemmas

@@ -5,6 +5,7 @@ use Rattle.bitcode_coder.specs.Spelling.{natural}
 use Rattle.bitcode_untyped.specs.Reads.{ReadsNoDatum}
 use Rattle.bitcode_untyped.specs.ShapeTree.{natural_tree, seq_tree}
 use Rattle.bitcode_untyped.specs.Walk.{length_kind}
+use Rattle.bitcode_untyped.proofs.FaultLemmas.{faults-Bytes}
 use Rattle.bitcode_untyped.proofs.ReadLemmas.{seq_stuck_length}
 use Rattle.bitcode_untyped.proofs.ViewLemmas.{datum-Bytes}
 use Rattle.bitcode_serde.specs.ReadingValues.{IsRefusalAt}
@@ -40,3 +41,6 @@ returns-clause-read c =
     rw (datum-Bytes c.in_ok-bytes.bytes)
     (seq_read_at (natural_tree 1) c.args.reader.now c.step.new.self _ c.args.place c.in_ok-elements.elements c.in_ok-taken.taken.length (map natural c.in_ok-bytes.bytes.items) enters
     (λ free. cc) c.in_ok-bytes.ensures.read)
+
+pub returns-clause-whole : goal.returns-clause-whole
+returns-clause-whole c = λ table left. faults-Bytes table left c.in_ok-bytes.bytes
