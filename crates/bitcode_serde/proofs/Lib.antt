@@ -1,4 +1,5 @@
 pub mod IndexLemmas
+pub mod ReasonLemmas
 pub mod ColumnLemmas
 pub mod ReadingLemmas
 pub mod StepLemmas

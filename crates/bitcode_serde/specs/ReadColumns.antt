@@ -3,10 +3,9 @@ use Rattle.std.specs.Prelude.{◌≡◌, ◌≢◌, ℕ, ℤ, ◌<◌, ◌+◌, 
 use Rattle.std.specs.Global.{Global}
 use Rattle.bitcode_input.specs.Fast.{slice_rest, cow_rest}
 use Rattle.bitcode_input.specs.declared.error.Reason.{Reason}
-use Rattle.bitcode_input.specs.declared.error.Reason.TheVariants.{OutOfMemory}
+use Rattle.bitcode_input.specs.declared.error.Reason.TheVariants.{Eof, InvalidPacking, LengthOverflow, HugeLength, InvalidUtf8, OutOfMemory}
 use Rattle.bitcode_shapes.specs.Datum.{Datum, text}
 use Rattle.bitcode_coder.specs.Columns.{Kind, bools, ints, lengths, texts}
-use Rattle.bitcode_coder.specs.Coding.{IsReadingReason}
 use Rattle.bitcode_coder.specs.Cutting.{cut}
 use Rattle.bitcode_coder.specs.LengthCoders.{lengths_left, lengths_sum}
 use Rattle.bitcode_coder.specs.Spelling.{SpellsColumn, natural, truth}
@@ -106,7 +105,17 @@ pub record ReadsColumn (kind : Kind) (count : ℕ) (old : List ℕ) (entries : L
   pub whole : old ≡ piece ++ new
   pub spelled : SpellsColumn kind piece entries
 
+-- the reasons for which a column is refused: its entries have no limit, and all numbers are allowed
+abbrev pub IsColumnReason : Reason → Type 0
+IsColumnReason Eof = Unit {0}
+IsColumnReason InvalidPacking = Unit {0}
+IsColumnReason LengthOverflow = Unit {0}
+IsColumnReason HugeLength = Unit {0}
+IsColumnReason InvalidUtf8 = Unit {0}
+IsColumnReason OutOfMemory = Unit {0}
+IsColumnReason _ = ⊥
+
 -- a refusal other than want of memory comes only where no front of the input spells so many entries
 abbrev pub IsColumnRefusal : Kind → Reason → ℕ → List ℕ → Type 0
 IsColumnRefusal kind reason count input =
-    IsReadingReason reason × (reason ≢ OutOfMemory → (entries : List Datum) (rest : List ℕ) → ReadsColumn kind count input entries rest → ⊥)
+    IsColumnReason reason × (reason ≢ OutOfMemory → (entries : List Datum) (rest : List ℕ) → ReadsColumn kind count input entries rest → ⊥)

@@ -2,9 +2,8 @@
 use Rattle.std.specs.Prelude.{◌≡◌, ◌≢◌, ℕ, zero, suc, List, [], ◌∷◌, Vec, Box}
 use Rattle.std.specs.Global.{Global}
 use Rattle.bitcode_input.specs.declared.error.Reason.{Reason}
-use Rattle.bitcode_input.specs.declared.error.Reason.TheVariants.{OutOfMemory, InvalidOption, InvalidChar, TooManyZeroSizedTypes, NestedTooDeep}
+use Rattle.bitcode_input.specs.declared.error.Reason.TheVariants.{ExpectedEof, InvalidEnumVariant, OutOfMemory, InvalidOption, InvalidChar, TooManyZeroSizedTypes, NestedTooDeep}
 use Rattle.bitcode_shapes.specs.Datum.{Datum}
-use Rattle.bitcode_coder.specs.Coding.{IsReadingReason}
 use Rattle.bitcode_untyped.specs.Faults.{faults_of}
 use Rattle.bitcode_untyped.specs.Machine.{State}
 use Rattle.bitcode_untyped.specs.Reads.{ReadsDatum, ReadsNoDatum, IsReadable, ReadsMany}
@@ -13,6 +12,7 @@ use Rattle.bitcode_untyped.specs.Walk.{field, Place, walk}
 use Rattle.bitcode_untyped.specs.declared.shape.ShapeNode.{ShapeNode}
 use Rattle.bitcode_untyped.specs.declared.shape.ShapeNode.TheVariants as node
 use Rattle.bitcode_untyped.specs.declared.value.Value.{Value}
+use Rattle.bitcode_serde.specs.ReadColumns.{IsColumnReason}
 use Rattle.bitcode_serde.specs.Reading.{IsPlace, IsRooted, AreSized, Stands}
 use Rattle.bitcode_serde.specs.declared.reader.Reader.{Reader}
 
@@ -45,11 +45,13 @@ ReadsListAt s place old count ds new = GoesAlong old place new (λ p a b. ReadsM
 
 -- the reasons of refusals by a reader of values
 abbrev pub IsValueReason : Reason → Type 0
+IsValueReason ExpectedEof = Unit {0}
+IsValueReason InvalidEnumVariant = Unit {0}
 IsValueReason InvalidOption = Unit {0}
 IsValueReason InvalidChar = Unit {0}
 IsValueReason TooManyZeroSizedTypes = Unit {0}
 IsValueReason NestedTooDeep = Unit {0}
-IsValueReason reason = IsReadingReason reason
+IsValueReason reason = IsColumnReason reason
 
 -- a refusal other than want of memory comes only where this is not to be had
 abbrev pub IsRefusalOf : Reader → ℕ → (Place → State → Type 0) → Reason → Type 0
