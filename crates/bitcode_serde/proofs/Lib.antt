@@ -1,4 +1,5 @@
 pub mod IndexLemmas
+pub mod ReasonLemmas
 pub mod ColumnLemmas
 pub mod ReadingLemmas
 pub mod StepLemmas
@@ -11,6 +12,7 @@ pub mod PlaceLemmas
 pub mod FiledLemmas
 pub mod EntryLemmas
 pub mod FieldLemmas
+pub mod CaseLemmas
 pub mod WholeLemmas
 pub mod WrittenLemmas
 pub mod WritingLemmas

@@ -1,7 +1,8 @@
 // Bytes of the second format to a value.
-ghost use Rattle.std.specs.Prelude.{◌≡◌, ◌≢◌, ◌≤◌, ◌*◌, length, IfOk, IfErr};
+ghost use Rattle.std.specs.Prelude.{◌≡◌, ◌≢◌, ◌≤◌, ◌*◌, [], length, IfOk, IfErr};
 ghost use Rattle.bitcode_shapes.specs.Datum.{Datum};
 ghost use Rattle.bitcode_untyped.specs.Bounds.{element_count};
+ghost use Rattle.bitcode_untyped.specs.Faults.{value_faults};
 ghost use Rattle.bitcode_untyped.specs.PlacedColumns.{columns_of, entry_count};
 ghost use Rattle.bitcode_untyped.specs.Spelling.{SpellsDatum};
 ghost use Rattle.bitcode_untyped.specs.View.{datum_of, tree_of};
@@ -30,6 +31,7 @@ pub const REF_LIMIT: usize = 128;
 /// ```
 pub fn deserialize(alloc: Global, shape: &Shape, bytes: &[u8]) -> Result<Value, Error>
     ensures read { IfOk result (λ value. SpellsDatum (tree_of shape.now) bytes.now (datum_of value)) }
+    ensures whole { IfOk result (λ value. value_faults shape.now value ≡ []) }
     ensures refused { IfErr result (λ e. IsValueReason e.reason × (e.reason ≢ Reason.OutOfMemory → (d : Datum) → SpellsDatum (tree_of shape.now) bytes.now d → ⊥)) }
     ensures once { (d e : Datum) → SpellsDatum (tree_of shape.now) bytes.now d → SpellsDatum (tree_of shape.now) bytes.now e → d ≡ e }
     ensures eighth { (d : Datum) → SpellsDatum (tree_of shape.now) bytes.now d → entry_count (columns_of (tree_of shape.now) d) ≤ 8 * length bytes.now }

@@ -1,19 +1,26 @@
 -- By the node, and by what was taken.
-use Rattle.std.proofs.Common.{rules, arith, ◌≡◌, ◌<◌, ◌-◌, length, map, refl, ap, subst}
+use Rattle.std.proofs.Common.{rules, arith, ◌≡◌, ◌<◌, ◌-◌, [], ◌++◌, length, map, refl, ap, subst, sym, ◌∙◌}
 use Rattle.std.proofs.lemmas.List.{map-append}
-use Rattle.std.proofs.lemmas.Result.{err_from_is_err_and}
+use Rattle.std.proofs.lemmas.Result.{err_from_is_err_and, IfOk-weaker}
 use Rattle.bitcode_shapes.specs.Datum.{unit, choice, pair}
+use Rattle.bitcode_untyped.specs.Faults.{faults_of}
 use Rattle.bitcode_untyped.specs.Population.{total, count_of}
 use Rattle.bitcode_untyped.specs.Reads.{ReadsNoDatum}
 use Rattle.bitcode_untyped.specs.ShapeTree.{unit_tree, seq_tree, map_tree, tuple_tree, choice_tree, no_trees, tree_and, tree_at}
 use Rattle.bitcode_untyped.specs.View.{datum_of, followed, tree_of_node, trees_of}
 use Rattle.bitcode_untyped.specs.Walk.{length_kind, index_kind}
+use Rattle.bitcode_untyped.specs.declared.shape.ShapeNode.TheVariants as node
+use Rattle.bitcode_untyped.specs.declared.value.Value.TheVariants as value
+use Rattle.bitcode_untyped.proofs.FaultLemmas.{faults-Unit, faults-Bool, faults-U8, faults-U16, faults-U32, faults-U64, faults-U128, faults-I8, faults-I16, faults-I32, faults-I64, faults-I128, faults-Str, faults-None, faults-Some, faults-Seq, faults-Map, faults-Tuple}
 use Rattle.bitcode_untyped.proofs.FollowedLemmas.{followed-zero, followed_one, entry_there, entry_away}
 use Rattle.bitcode_untyped.proofs.ReadLemmas.{never_read, seq_stuck_length, seq_over_limit, map_stuck_length, map_over_limit, choice_stuck_index}
 use Rattle.bitcode_untyped.proofs.ViewLemmas.{tree-Bool, tree-U8, tree-U16, tree-U32, tree-U64, tree-U128, tree-I8, tree-I16, tree-I32, tree-I64, tree-I128, tree-Char, tree-Str, tree-Bytes, tree-Option, tree-Seq, tree-Map, tree-Tuple, tree-Enum, tree-Ref, datum-None, datum-Some, datum-Seq, datum-Map, datum-Tuple, datum-Enum}
 use Rattle.bitcode_coder.specs.Spelling.{natural}
+use Rattle.bitcode_serde.specs.ReadColumns.{IsCaseOf}
+use Rattle.bitcode_serde.specs.declared.column.ColumnKind.TheVariants as kind
 use Rattle.bitcode_serde.specs.Places.{places, place_at}
-use Rattle.bitcode_serde.specs.ReadingValues.{ReadsAt, ReadsListAt, IsRefusalAt, IsListRefusalAt}
+use Rattle.bitcode_serde.specs.ReadingValues.{ReadsAt, ReadsListAt, IsRefusalAt, IsListRefusalAt, IsOfChar, IsOfBytes, IsOfOption, IsOfSeq, IsOfMap, IsOfTuple, IsOfEnum}
+use Rattle.bitcode_serde.proofs.CaseLemmas.{nothing, one_more_whole, of_case, one_more_field_whole, all_fields_whole, enum_whole, reference_whole}
 use Rattle.bitcode_serde.proofs.ColumnLemmas.{passed_on}
 use Rattle.bitcode_serde.proofs.DepthLemmas.{entry_deep, reference_falls}
 use Rattle.bitcode_serde.proofs.EntryLemmas.{found_entry, no_entry}
@@ -186,6 +193,8 @@ read_elements-loop-i-preserved t c = (
   continues_on c.args.reader.now c.loop-i.reader c.read.new.reader c.loop-i.invariant.0 c.in_ok-value.ensures.continues,
   rw (c.in_ok-push.ensures.items, map-append)
       (one_more (tree_of_node c.args.left c.args.table.now c.args.node.now) c.args.place c.args.reader.now c.loop-i.reader c.read.new.reader c.loop-i._i _ (datum_of c.in_ok-value.value) c.loop-i.invariant.0 c.loop-i.invariant.1 c.in_ok-value.ensures.read),
+  rw c.in_ok-push.ensures.items
+      (one_more_whole (λ v. faults_of c.args.table.now v c.args.left c.args.node.now) c.loop-i.values.items c.in_ok-value.value c.loop-i.invariant.2 c.in_ok-value.ensures.whole),
 )
 
 pub read_elements-returns-clause-read : goal.read_elements-returns-clause-read
@@ -210,7 +219,7 @@ read_seq-returns-in_err-values-clause-refused t c =
 pub read_seq-returns-clause-continues : goal.read_seq-returns-clause-continues
 read_seq-returns-clause-continues t c =
     continues_on c.args.reader.now c.step.new.self _
-    (continues_stepped c.args.reader.now c.take_length.new.self c.step.new.self c.take_length.ensures.below c.in_ok-taken.ensures.sized c.step.ensures.columns c.in_ok-elements.ensures.rooted c.in_ok-elements.ensures.kept)
+    (continues_stepped c.args.reader.now c.take_length.new.self c.step.new.self c.take_length.ensures.below c.in_ok-taken.ensures.sized c.step.ensures.columns c.in_ok-elements.ensures.kept)
     c.in_ok-values.ensures.continues
 
 pub read_seq-returns-clause-read : goal.read_seq-returns-clause-read
@@ -257,7 +266,7 @@ read_option-returns-in_err-value-clause-refused t c =
 pub read_option-returns-clause-continues : goal.read_option-returns-clause-continues
 read_option-returns-clause-continues t c =
     continues_on c.args.reader.now c.step.new.self _
-    (continues_stepped c.args.reader.now c.take_index.new.self c.step.new.self c.take_index.ensures.below c.in_ok-taken.ensures.sized c.step.ensures.columns c.in_ok-inside.ensures.rooted c.in_ok-inside.ensures.kept)
+    (continues_stepped c.args.reader.now c.take_index.new.self c.step.new.self c.take_index.ensures.below c.in_ok-taken.ensures.sized c.step.ensures.columns c.in_ok-inside.ensures.kept)
     c.in_ok-value.ensures.continues
 
 pub read_option-returns-clause-read : goal.read_option-returns-clause-read
@@ -279,7 +288,7 @@ pub read_enum-read-requires : goal.read_enum-read-requires
 read_enum-read-requires t c =
     let d = entry_deep c.args.nodes.now c.in_ok-taken.taken.index c.in-Some.node.now (found_entry c.args.nodes.now c.in_ok-taken.taken.index c.in-Some.node.now c.in-Some.ensures.lookup.3.0 (c.in-Some.ensures.lookup.3.1 c.in-Some.node.now)) in
     let h = c.in_ok-inside-in-Some.ensures.found.0 in
-    let s = (continues_stepped c.args.reader.now c.take_index.new.self c.step.new.self c.take_index.ensures.below c.in_ok-taken.ensures.sized c.step.ensures.columns c.in_ok-inside-in-Some.ensures.rooted c.in_ok-inside-in-Some.ensures.kept).steady in
+    let s = (continues_stepped c.args.reader.now c.take_index.new.self c.step.new.self c.take_index.ensures.below c.in_ok-taken.ensures.sized c.step.ensures.columns c.in_ok-inside-in-Some.ensures.kept).steady in
     search (rules, d, h, s)
 
 pub read_enum-returns-in_err-value-in-Some-clause-refused : goal.read_enum-returns-in_err-value-in-Some-clause-refused
@@ -295,7 +304,7 @@ read_enum-returns-in_err-value-in-Some-clause-refused t c =
 pub read_enum-returns-in_ok-new-in-Some-clause-continues : goal.read_enum-returns-in_ok-new-in-Some-clause-continues
 read_enum-returns-in_ok-new-in-Some-clause-continues t c =
     continues_on c.args.reader.now c.step.new.self _
-    (continues_stepped c.args.reader.now c.take_index.new.self c.step.new.self c.take_index.ensures.below c.in_ok-taken.ensures.sized c.step.ensures.columns c.in_ok-inside-in-Some.ensures.rooted c.in_ok-inside-in-Some.ensures.kept)
+    (continues_stepped c.args.reader.now c.take_index.new.self c.step.new.self c.take_index.ensures.below c.in_ok-taken.ensures.sized c.step.ensures.columns c.in_ok-inside-in-Some.ensures.kept)
     c.in_ok-value-in-Some.ensures.continues
 
 pub read_enum-returns-in_ok-new-in-Some-clause-read : goal.read_enum-returns-in_ok-new-in-Some-clause-read
@@ -323,11 +332,11 @@ read_map-returns-in_err-taken-clause-refused t c =
     (refused_entry c.args.reader.now c.args.place length_kind (ReadsNoDatum (map_tree (tree_of_node c.args.left c.args.table.now c.args.key.now) (tree_of_node c.args.left c.args.table.now c.args.value.now))) _ (λ p a stuck. map_stuck_length (tree_of_node c.args.left c.args.table.now c.args.key.now) (tree_of_node c.args.left c.args.table.now c.args.value.now) p a stuck) c.in_err-taken.ensures.refused)
 
 pub read_map-step-requires-2-clause-above : goal.read_map-step-requires-2-clause-above
-read_map-step-requires-2-clause-above t c = still_there c.args.reader.now c.step.new.self c.args.place (continues_stepped c.args.reader.now c.take_length.new.self c.step.new.self c.take_length.ensures.below c.in_ok-taken.ensures.sized c.step.ensures.columns c.in_ok-keys.ensures.rooted c.in_ok-keys.ensures.kept) c.requires.place
+read_map-step-requires-2-clause-above t c = still_there c.args.reader.now c.step.new.self c.args.place (continues_stepped c.args.reader.now c.take_length.new.self c.step.new.self c.take_length.ensures.below c.in_ok-taken.ensures.sized c.step.ensures.columns c.in_ok-keys.ensures.kept) c.requires.place
 
 pub read_map-read-requires : goal.read_map-read-requires
 read_map-read-requires t c =
-    let k = still_there c.step.new.self c.step-2.new.self c.in_ok-keys.keys (continues_stepped c.step.new.self c.step.new.self c.step-2.new.self refl (continues_stepped c.args.reader.now c.take_length.new.self c.step.new.self c.take_length.ensures.below c.in_ok-taken.ensures.sized c.step.ensures.columns c.in_ok-keys.ensures.rooted c.in_ok-keys.ensures.kept).steady.sized c.step-2.ensures.columns c.in_ok-values.ensures.rooted c.in_ok-values.ensures.kept) c.in_ok-keys.ensures.found.0 in
+    let k = still_there c.step.new.self c.step-2.new.self c.in_ok-keys.keys (continues_stepped c.step.new.self c.step.new.self c.step-2.new.self refl (continues_stepped c.args.reader.now c.take_length.new.self c.step.new.self c.take_length.ensures.below c.in_ok-taken.ensures.sized c.step.ensures.columns c.in_ok-keys.ensures.kept).steady.sized c.step-2.ensures.columns c.in_ok-values.ensures.kept) c.in_ok-keys.ensures.found.0 in
     let h = still_there c.step-2.new.self c.loop-i.reader c.in_ok-keys.keys c.loop-i.invariant.0 k in
     let s = c.loop-i.invariant.0.steady in
     search (rules, h, s)
@@ -364,11 +373,16 @@ read_map-loop-i-preserved t c = (
   continues_on c.step-2.new.self c.loop-i.reader c.read-in-loop-i.new.reader c.loop-i.invariant.0 (continues_on c.loop-i.reader c.read.new.reader c.read-in-loop-i.new.reader c.in_ok-first.ensures.continues c.in_ok-second.ensures.continues),
   rw (c.in_ok-push.ensures.items, map-append)
       (one_more_pair (tree_of_node c.args.left c.args.table.now c.args.key.now) (tree_of_node c.args.left c.args.table.now c.args.value.now) c.in_ok-keys.keys c.in_ok-values.values c.step-2.new.self c.loop-i.reader c.loop-i._i _ c.loop-i.invariant.0 c.loop-i.invariant.1 c.read.new.reader c.read-in-loop-i.new.reader (datum_of c.in_ok-first.first) (datum_of c.in_ok-second.second) c.in_ok-first.ensures.continues c.in_ok-first.ensures.read c.in_ok-second.ensures.read),
+  rw c.in_ok-push.ensures.items
+      (one_more_whole (λ e. faults_of c.args.table.now e.0 c.args.left c.args.key.now ++ faults_of c.args.table.now e.1 c.args.left c.args.value.now)
+      c.loop-i.pairs.items (c.in_ok-first.first, c.in_ok-second.second) c.loop-i.invariant.2
+      (nothing (faults_of c.args.table.now c.in_ok-first.first c.args.left c.args.key.now) (faults_of c.args.table.now c.in_ok-second.second c.args.left c.args.value.now)
+      c.in_ok-first.ensures.whole c.in_ok-second.ensures.whole)),
 )
 
 pub read_map-returns-clause-continues : goal.read_map-returns-clause-continues
 read_map-returns-clause-continues t c =
-    continues_on c.args.reader.now c.step-2.new.self c.loop-i.reader (continues_on c.args.reader.now c.step.new.self c.step-2.new.self (continues_stepped c.args.reader.now c.take_length.new.self c.step.new.self c.take_length.ensures.below c.in_ok-taken.ensures.sized c.step.ensures.columns c.in_ok-keys.ensures.rooted c.in_ok-keys.ensures.kept) (continues_stepped c.step.new.self c.step.new.self c.step-2.new.self refl (continues_stepped c.args.reader.now c.take_length.new.self c.step.new.self c.take_length.ensures.below c.in_ok-taken.ensures.sized c.step.ensures.columns c.in_ok-keys.ensures.rooted c.in_ok-keys.ensures.kept).steady.sized c.step-2.ensures.columns c.in_ok-values.ensures.rooted c.in_ok-values.ensures.kept)) c.loop-i.invariant.0
+    continues_on c.args.reader.now c.step-2.new.self c.loop-i.reader (continues_on c.args.reader.now c.step.new.self c.step-2.new.self (continues_stepped c.args.reader.now c.take_length.new.self c.step.new.self c.take_length.ensures.below c.in_ok-taken.ensures.sized c.step.ensures.columns c.in_ok-keys.ensures.kept) (continues_stepped c.step.new.self c.step.new.self c.step-2.new.self refl (continues_stepped c.args.reader.now c.take_length.new.self c.step.new.self c.take_length.ensures.below c.in_ok-taken.ensures.sized c.step.ensures.columns c.in_ok-keys.ensures.kept).steady.sized c.step-2.ensures.columns c.in_ok-values.ensures.kept)) c.loop-i.invariant.0
 
 pub read_map-returns-clause-read : goal.read_map-returns-clause-read
 read_map-returns-clause-read t c =
@@ -384,6 +398,7 @@ pub read_tuple-loop-i-init : goal.read_tuple-loop-i-init
 read_tuple-loop-i-init t c = (
   record { steady = c.requires.steady; kept = λ i p at. at },
   rw c.new-values.ensures.items (no_fields (tree_of_node c.args.left c.args.table.now) c.args.nodes.now c.args.place c.args.reader.now),
+  rw c.new-values.ensures.items refl,
 )
 
 pub read_tuple-field-requires-clause-place : goal.read_tuple-field-requires-clause-place
@@ -406,6 +421,9 @@ pub read_tuple-loop-i-preserved : goal.read_tuple-loop-i-preserved
 read_tuple-loop-i-preserved t c = (
   continues_on c.args.reader.now c.loop-i.reader c.read.new.reader c.loop-i.invariant.0 (continues_on c.loop-i.reader c.field.new.self c.read.new.reader c.in_ok-inside.ensures.continues c.in_ok-value.ensures.continues),
   rw (c.in_ok-push.ensures.items, map-append) (one_more_field (tree_of_node c.args.left c.args.table.now) c.args.nodes.now c.args.place c.args.reader.now c.loop-i.reader c.field.new.self c.in_ok-inside.inside c.loop-i.i c.index-nodes-i.result (map datum_of c.loop-i.values.items) c.loop-i.invariant.0 (found_entry c.args.nodes.now c.loop-i.i c.index-nodes-i.result c.loop-i-test.true c.index-nodes-i.is) c.in_ok-inside.ensures.found c.in_ok-inside.ensures.stands c.loop-i.invariant.1 (datum_of c.in_ok-value.value) c.read.new.reader c.in_ok-value.ensures.read),
+  rw c.in_ok-push.ensures.items
+      (one_more_field_whole c.args.table.now c.args.left c.args.nodes.now c.loop-i.values.items c.loop-i.i c.in_ok-value.value c.index-nodes-i.result c.loop-i.invariant.2
+      (found_entry c.args.nodes.now c.loop-i.i c.index-nodes-i.result c.loop-i-test.true c.index-nodes-i.is) c.in_ok-value.ensures.whole),
 )
 
 pub read_tuple-returns-clause-read : goal.read_tuple-returns-clause-read
@@ -430,3 +448,137 @@ read_map-returns-then-is_over_limit-clause-refused t c =
           let l = told_at c.args.reader.now c.take_length.new.self c.args.place length_kind (natural c.in_ok-taken.taken.length) (λ entries. c.in_ok-taken.taken.total ≡ total entries) c.in_ok-taken.ensures.leads p at a st in
           map_over_limit (tree_of_node c.args.left c.args.table.now c.args.key.now) (tree_of_node c.args.left c.args.table.now c.args.value.now) p a c.in_ok-taken.taken.length l.0 l.2.takes c.if-is_over_limit.ensures.0 c.if-is_over_limit.ensures.1,
     )
+
+-- ---- the cases of values
+
+pub read-returns-in-Unit-clause-whole : goal.read-returns-in-Unit-clause-whole
+read-returns-in-Unit-clause-whole t c = rw c.in-Unit.is (faults-Unit c.args.table.now c.args.left)
+
+pub read-returns-in-Bool-clause-whole : goal.read-returns-in-Bool-clause-whole
+read-returns-in-Bool-clause-whole t c =
+    rw c.in-Bool.is (IfOk-weaker _ (IsCaseOf kind.Bools) (λ v. faults_of c.args.table.now v c.args.left node.Bool ≡ [])
+    (λ v h. of_case c.args.table.now c.args.left node.Bool v (λ b. value.Bool b) (faults-Bool c.args.table.now c.args.left) h) c.read_leaf.ensures.of_case)
+
+pub read-returns-in-U8-clause-whole : goal.read-returns-in-U8-clause-whole
+read-returns-in-U8-clause-whole t c =
+    rw c.in-U8.is (IfOk-weaker _ (IsCaseOf kind.Bytes) (λ v. faults_of c.args.table.now v c.args.left node.U8 ≡ [])
+    (λ v h. of_case c.args.table.now c.args.left node.U8 v (λ n. value.U8 n) (faults-U8 c.args.table.now c.args.left) h) c.read_leaf-in-U8.ensures.of_case)
+
+pub read-returns-in-U16-clause-whole : goal.read-returns-in-U16-clause-whole
+read-returns-in-U16-clause-whole t c =
+    rw c.in-U16.is (IfOk-weaker _ (IsCaseOf kind.U16) (λ v. faults_of c.args.table.now v c.args.left node.U16 ≡ [])
+    (λ v h. of_case c.args.table.now c.args.left node.U16 v (λ n. value.U16 n) (faults-U16 c.args.table.now c.args.left) h) c.read_leaf-in-U16.ensures.of_case)
+
+pub read-returns-in-U32-clause-whole : goal.read-returns-in-U32-clause-whole
+read-returns-in-U32-clause-whole t c =
+    rw c.in-U32.is (IfOk-weaker _ (IsCaseOf kind.U32) (λ v. faults_of c.args.table.now v c.args.left node.U32 ≡ [])
+    (λ v h. of_case c.args.table.now c.args.left node.U32 v (λ n. value.U32 n) (faults-U32 c.args.table.now c.args.left) h) c.read_leaf-in-U32.ensures.of_case)
+
+pub read-returns-in-U64-clause-whole : goal.read-returns-in-U64-clause-whole
+read-returns-in-U64-clause-whole t c =
+    rw c.in-U64.is (IfOk-weaker _ (IsCaseOf kind.U64) (λ v. faults_of c.args.table.now v c.args.left node.U64 ≡ [])
+    (λ v h. of_case c.args.table.now c.args.left node.U64 v (λ n. value.U64 n) (faults-U64 c.args.table.now c.args.left) h) c.read_leaf-in-U64.ensures.of_case)
+
+pub read-returns-in-U128-clause-whole : goal.read-returns-in-U128-clause-whole
+read-returns-in-U128-clause-whole t c =
+    rw c.in-U128.is (IfOk-weaker _ (IsCaseOf kind.U128) (λ v. faults_of c.args.table.now v c.args.left node.U128 ≡ [])
+    (λ v h. of_case c.args.table.now c.args.left node.U128 v (λ n. value.U128 n) (faults-U128 c.args.table.now c.args.left) h) c.read_leaf-in-U128.ensures.of_case)
+
+pub read-returns-in-I8-clause-whole : goal.read-returns-in-I8-clause-whole
+read-returns-in-I8-clause-whole t c =
+    rw c.in-I8.is (IfOk-weaker _ (IsCaseOf kind.I8) (λ v. faults_of c.args.table.now v c.args.left node.I8 ≡ [])
+    (λ v h. of_case c.args.table.now c.args.left node.I8 v (λ z. value.I8 z) (faults-I8 c.args.table.now c.args.left) h) c.read_leaf-in-I8.ensures.of_case)
+
+pub read-returns-in-I16-clause-whole : goal.read-returns-in-I16-clause-whole
+read-returns-in-I16-clause-whole t c =
+    rw c.in-I16.is (IfOk-weaker _ (IsCaseOf kind.I16) (λ v. faults_of c.args.table.now v c.args.left node.I16 ≡ [])
+    (λ v h. of_case c.args.table.now c.args.left node.I16 v (λ z. value.I16 z) (faults-I16 c.args.table.now c.args.left) h) c.read_leaf-in-I16.ensures.of_case)
+
+pub read-returns-in-I32-clause-whole : goal.read-returns-in-I32-clause-whole
+read-returns-in-I32-clause-whole t c =
+    rw c.in-I32.is (IfOk-weaker _ (IsCaseOf kind.I32) (λ v. faults_of c.args.table.now v c.args.left node.I32 ≡ [])
+    (λ v h. of_case c.args.table.now c.args.left node.I32 v (λ z. value.I32 z) (faults-I32 c.args.table.now c.args.left) h) c.read_leaf-in-I32.ensures.of_case)
+
+pub read-returns-in-I64-clause-whole : goal.read-returns-in-I64-clause-whole
+read-returns-in-I64-clause-whole t c =
+    rw c.in-I64.is (IfOk-weaker _ (IsCaseOf kind.I64) (λ v. faults_of c.args.table.now v c.args.left node.I64 ≡ [])
+    (λ v h. of_case c.args.table.now c.args.left node.I64 v (λ z. value.I64 z) (faults-I64 c.args.table.now c.args.left) h) c.read_leaf-in-I64.ensures.of_case)
+
+pub read-returns-in-I128-clause-whole : goal.read-returns-in-I128-clause-whole
+read-returns-in-I128-clause-whole t c =
+    rw c.in-I128.is (IfOk-weaker _ (IsCaseOf kind.I128) (λ v. faults_of c.args.table.now v c.args.left node.I128 ≡ [])
+    (λ v h. of_case c.args.table.now c.args.left node.I128 v (λ z. value.I128 z) (faults-I128 c.args.table.now c.args.left) h) c.read_leaf-in-I128.ensures.of_case)
+
+pub read-returns-in-Str-clause-whole : goal.read-returns-in-Str-clause-whole
+read-returns-in-Str-clause-whole t c =
+    rw c.in-Str.is (IfOk-weaker _ (IsCaseOf kind.Texts) (λ v. faults_of c.args.table.now v c.args.left node.Str ≡ [])
+    (λ v h. of_case c.args.table.now c.args.left node.Str v (λ s. value.Str s) (faults-Str c.args.table.now c.args.left) h) c.read_leaf-in-Str.ensures.of_case)
+
+pub read-returns-in-Char-clause-whole : goal.read-returns-in-Char-clause-whole
+read-returns-in-Char-clause-whole t c =
+    rw c.in-Char.is (IfOk-weaker _ IsOfChar (λ v. faults_of c.args.table.now v c.args.left node.Char ≡ []) (λ v h. h c.args.table.now c.args.left) c.read_char.ensures.whole)
+
+pub read-returns-in-Bytes-clause-whole : goal.read-returns-in-Bytes-clause-whole
+read-returns-in-Bytes-clause-whole t c =
+    rw c.in-Bytes.is (IfOk-weaker _ IsOfBytes (λ v. faults_of c.args.table.now v c.args.left node.Bytes ≡ []) (λ v h. h c.args.table.now c.args.left) c.read_bytes.ensures.whole)
+
+pub read-returns-in-Option-clause-whole : goal.read-returns-in-Option-clause-whole
+read-returns-in-Option-clause-whole t c =
+    rw c.in-Option.is (IfOk-weaker _ (IsOfOption c.args.table.now c.args.left _) (λ v. faults_of c.args.table.now v c.args.left (node.Option c.in-Option.some) ≡ [])
+    (λ v h. h c.in-Option.some (sym c.deref.ensures)) c.read_option.ensures.whole)
+
+pub read-returns-in-Seq-clause-whole : goal.read-returns-in-Seq-clause-whole
+read-returns-in-Seq-clause-whole t c =
+    rw c.in-Seq.is (IfOk-weaker _ (IsOfSeq c.args.table.now c.args.left _) (λ v. faults_of c.args.table.now v c.args.left (node.Seq c.in-Seq.element) ≡ [])
+    (λ v h. h c.in-Seq.element (sym c.deref-in-Seq.ensures)) c.read_seq.ensures.whole)
+
+pub read-returns-in-Map-clause-whole : goal.read-returns-in-Map-clause-whole
+read-returns-in-Map-clause-whole t c =
+    rw c.in-Map.is (IfOk-weaker _ (IsOfMap c.args.table.now c.args.left _ _) (λ v. faults_of c.args.table.now v c.args.left (node.Map c.in-Map.key c.in-Map.value) ≡ [])
+    (λ v h. h c.in-Map.key c.in-Map.value (sym c.deref-in-Map.ensures) (sym c.deref-in-Map-2.ensures)) c.read_map.ensures.whole)
+
+pub read-returns-in-Tuple-clause-whole : goal.read-returns-in-Tuple-clause-whole
+read-returns-in-Tuple-clause-whole t c =
+    rw c.in-Tuple.is (IfOk-weaker _ (IsOfTuple c.args.table.now c.args.left _) (λ v. faults_of c.args.table.now v c.args.left (node.Tuple c.in-Tuple.nodes) ≡ [])
+    (λ v h. h c.in-Tuple.nodes (sym c.deref-in-Tuple.ensures.value)) c.read_tuple.ensures.whole)
+
+pub read-returns-in-Enum-clause-whole : goal.read-returns-in-Enum-clause-whole
+read-returns-in-Enum-clause-whole t c =
+    rw c.in-Enum.is (IfOk-weaker _ (IsOfEnum c.args.table.now c.args.left _) (λ v. faults_of c.args.table.now v c.args.left (node.Enum c.in-Enum.nodes) ≡ [])
+    (λ v h. h c.in-Enum.nodes (sym c.deref-in-Enum.ensures.value)) c.read_enum.ensures.whole)
+
+pub read-returns-in-Some-clause-whole : goal.read-returns-in-Some-clause-whole
+read-returns-in-Some-clause-whole t c =
+    let some : 0 < c.args.left = omega arith in
+    let there = found_entry c.args.table.now c.in-Ref.i c.in-Some.entry.now c.in-Some.ensures.lookup.3.0 (c.in-Some.ensures.lookup.3.1 c.in-Some.entry.now) in
+    rw c.in-Ref.is (IfOk-weaker _ (λ v. faults_of c.args.table.now v (c.args.left - 1) c.in-Some.entry.now ≡ [])
+    (λ v. faults_of c.args.table.now v c.args.left (node.Ref c.in-Ref.i) ≡ [])
+    (λ v h. reference_whole c.args.table.now v c.args.left c.in-Ref.i c.in-Some.entry.now some there h) c.read.ensures.whole)
+
+pub read_option-returns-then-taken-eq0-clause-whole : goal.read_option-returns-then-taken-eq0-clause-whole
+read_option-returns-then-taken-eq0-clause-whole t c = λ b is. faults-None c.args.table.now c.args.left b
+
+pub read_option-returns-clause-whole : goal.read_option-returns-clause-whole
+read_option-returns-clause-whole t c = λ b is.
+    faults-Some c.args.table.now c.args.left c.in_ok-new.field-0 b ∙ rw (c.in_ok-new.ensures.ok, is) c.in_ok-value.ensures.whole
+
+pub read_seq-returns-clause-whole : goal.read_seq-returns-clause-whole
+read_seq-returns-clause-whole t c = λ b is.
+    faults-Seq c.args.table.now c.args.left c.in_ok-values.values b ∙ rw is c.in_ok-values.ensures.whole
+
+pub read_map-returns-clause-whole : goal.read_map-returns-clause-whole
+read_map-returns-clause-whole t c = λ k w is_key is_value.
+    faults-Map c.args.table.now c.args.left c.loop-i.pairs k w ∙ rw (is_key, is_value) c.loop-i.invariant.2
+
+pub read_tuple-returns-clause-whole : goal.read_tuple-returns-clause-whole
+read_tuple-returns-clause-whole t c = λ ns is.
+    let last : c.loop-i.i ≡ length c.args.nodes.now = omega arith in
+    faults-Tuple c.args.table.now c.args.left c.loop-i.values ns
+    ∙ rw is (all_fields_whole c.args.table.now c.args.left c.args.nodes.now c.loop-i.values.items c.loop-i.i last c.loop-i.invariant.2)
+
+pub read_enum-returns-in_ok-new-in-Some-clause-whole : goal.read_enum-returns-in_ok-new-in-Some-clause-whole
+read_enum-returns-in_ok-new-in-Some-clause-whole t c = λ ns is.
+    let i = c.in_ok-taken.taken.index in
+    let n = c.in-Some.node.now in
+    let there = found_entry c.args.nodes.now i n c.in-Some.ensures.lookup.3.0 (c.in-Some.ensures.lookup.3.1 n) in
+    enum_whole c.args.table.now c.args.left i c.in_ok-new-in-Some.field-0 ns n (omega arith) (rw is there) (rw c.in_ok-new-in-Some.ensures.ok c.in_ok-value-in-Some.ensures.whole)
