@@ -255,6 +255,10 @@ pub grown_size : (old new : List Below) (b : Below) (n : ℕ) → IsGrown old b 
 grown_size old new b n (inl e) = let h = ap length e in omega (arith, h)
 grown_size old new b n (inr e) = let h = ap length e.0 in let l = length-append old (b ∷ []) in omega (arith, h, l)
 
+pub grown_within : (old new : List Below) (b : Below) (n : ℕ) → IsGrown old b new n → n ≤ length new → n ≤ length old + 1
+grown_within old new b n (inl e) h = let s = ap length e in omega (arith, h, s)
+grown_within old new b n (inr e) h = let s = ap length e.0 in let l = length-append old (b ∷ []) in omega (arith, h, s, l)
+
 pub grown_places : (old new : List Below) (b : Below) (n : ℕ) → IsGrown old b new n → (more : List Place) × (places new ≡ places old ++ more)
 grown_places old new b n (inl e) = ([], ap places e ∙ sym (append-nil (places old)))
 grown_places old new b n (inr e) = (below_place (places old) b ∷ [], ap places e.0 ∙ places-last old b)

@@ -26,7 +26,7 @@ use Rattle.bitcode_serde.specs.Places.{place_at, places}
 use Rattle.bitcode_serde.specs.Serializing.{Outcome}
 use Rattle.bitcode_serde.specs.Writing.{written, place_in, Grows, Writes, AreOfShape, IsAmong, RefusesAt}
 use Rattle.bitcode_serde.specs.declared.writer.state.Writer.{Writer}
-use Rattle.bitcode_serde.proofs.WritingLemmas.{at_front, inside_places}
+use Rattle.bitcode_serde.proofs.PlaceLemmas.{at_front, inside_places}
 
 -- ---- writers that grow
 

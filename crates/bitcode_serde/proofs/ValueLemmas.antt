@@ -63,7 +63,7 @@ same_places old new i p e at = subst (λ b. IsPlace b.items i p) (sym e) at
 
 pub continues_here : (old new : Reader) → IsSteady old → new.places.below ≡ old.places.below → AreSized new.columns.items → Continues old new
 continues_here old new steady e sized = record {
-  steady = record { sized = sized; rooted = subst (λ b. IsRooted 1 b.items) (sym e) steady.rooted };
+  steady = record { sized = sized };
   kept = λ i p at. same_places old new i p e at;
 }
 
@@ -141,10 +141,10 @@ below_it old new place i p way at there = subst (λ q. IsPlace new.places.below.
 pub still_there : (old new : Reader) (place : ℕ) → Continues old new → place ≤ length old.places.below.items → place ≤ length new.places.below.items
 still_there old new place c h = (c.kept place (place_at (places old.places.below.items) place) (h, refl)).0
 
-pub continues_stepped : (old mid new : Reader) → mid.places.below ≡ old.places.below → AreSized mid.columns.items → new.columns ≡ mid.columns → IsRooted 1 new.places.below.items
+pub continues_stepped : (old mid new : Reader) → mid.places.below ≡ old.places.below → AreSized mid.columns.items → new.columns ≡ mid.columns
     → ((i : ℕ) (p : Place) → IsPlace mid.places.below.items i p → IsPlace new.places.below.items i p) → Continues old new
-continues_stepped old mid new below sized columns rooted kept = record {
-  steady = record { sized = subst (λ cs. AreSized cs.items) (sym columns) sized; rooted = rooted };
+continues_stepped old mid new below sized columns kept = record {
+  steady = record { sized = subst (λ cs. AreSized cs.items) (sym columns) sized };
   kept = λ i p at. kept i p (same_places old mid i p below at);
 }
 

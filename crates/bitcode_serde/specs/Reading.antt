@@ -6,7 +6,7 @@ use Rattle.bitcode_untyped.specs.Machine.{Opened, State, whole, is_open, entries
 use Rattle.bitcode_untyped.specs.PlacedColumns.{PlacedColumn}
 use Rattle.bitcode_untyped.specs.Population.{population}
 use Rattle.bitcode_untyped.specs.Walk.{Place, use_at}
-use Rattle.bitcode_serde.specs.Places.{place_at, places, AreApart}
+use Rattle.bitcode_serde.specs.Places.{place_at, places}
 use Rattle.bitcode_serde.specs.ReadColumns.{kind_of_column, left, Tallies}
 use Rattle.bitcode_serde.specs.declared.reader.OpenColumn.{OpenColumn}
 use Rattle.bitcode_serde.specs.declared.reader.Reader.{Reader}
@@ -49,7 +49,6 @@ HostAll ws ps ns = (i : ℕ) → i < length ps → Hosts ws (place_at ps i) (get
 pub record Stands (r : Reader) (a : State) : Type 0 where
   pub backs : Back (places r.places.below.items) r.columns.items a.opened
   pub hosts : HostAll (map whole a.opened) (places r.places.below.items) (counts r)
-  pub apart : AreApart (places r.places.below.items)
   pub input : a.rest ≡ r.input.now
 
 -- ---- steps

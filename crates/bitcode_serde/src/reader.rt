@@ -54,6 +54,20 @@ pub struct Index {
     pub count: usize,
 }
 
+// Makes room for the count of one more place than so many.
+fn make_room(counts: &mut Vec<usize>, places: usize) -> Result<(), Error>
+    requires { places ≤ length counts.old.items }
+    ensures same { (i : ℕ) → i < length counts.old.items → get_or counts.new.items i 0 ≡ get_or counts.old.items i 0 }
+    ensures longer { length counts.old.items ≤ length counts.new.items }
+    ensures room { OnOk result (places < length counts.new.items) }
+    ensures refused { IfErr result (λ e. e.reason ≡ Reason.OutOfMemory) }
+{
+    if counts.len() == places {
+        counts.push(0)?;
+    }
+    Ok(())
+}
+
 impl<'a> Reader<'a> {
     ghost use Rattle.bitcode_serde.specs.Reading.{Hosts, counts, AreSized, Stands, IsReady, Prepares, NothingAt, Leads, LeadsTelling};
     ghost use Rattle.bitcode_serde.specs.ReadingValues.{IsSteady, Continues, field_at};
@@ -163,9 +177,7 @@ impl<'a> Reader<'a> {
         ensures columns { self.new.columns ≡ self.old.columns }
         ensures refused { IfErr result (λ e. e.reason ≡ Reason.OutOfMemory) }
     {
-        if self.counts.len() == self.places.len() {
-            self.counts.push(count)?;
-        }
+        make_room(&mut self.counts, self.places.len())?;
         let place = self.places.below(above, step)?;
         self.counts[place - 1] = count;
         Ok(place)

@@ -5,7 +5,7 @@ use Rattle.bitcode_serde.specs.Reading.{Hosts}
 use Rattle.bitcode_serde.specs.Places.{places, place_at}
 use Rattle.bitcode_serde.specs.declared.step.Step.TheVariants as step
 use Rattle.bitcode_serde.proofs.FieldLemmas.{field_at_several}
-use Rattle.bitcode_serde.proofs.ReadingLemmas.{inside_places}
+use Rattle.bitcode_serde.proofs.PlaceLemmas.{inside_places}
 use Rattle.bitcode_serde.proofs.ValueLemmas.{below_it}
 use Rattle.bitcode_serde.proofs.reader.Reader.field.Goals as goal
 
