@@ -331,7 +331,7 @@ read_map-returns-in_err-taken-clause-refused t c =
     passed_on (λ e. IsRefusalAt (map_tree (tree_of_node c.args.left c.args.table.now c.args.key.now) (tree_of_node c.args.left c.args.table.now c.args.value.now)) c.args.place c.args.reader.now e.reason) c.from_residual.result c.in_err-taken.field-0.0 y.0 y.1 y.2
     (refused_entry c.args.reader.now c.args.place length_kind (ReadsNoDatum (map_tree (tree_of_node c.args.left c.args.table.now c.args.key.now) (tree_of_node c.args.left c.args.table.now c.args.value.now))) _ (λ p a stuck. map_stuck_length (tree_of_node c.args.left c.args.table.now c.args.key.now) (tree_of_node c.args.left c.args.table.now c.args.value.now) p a stuck) c.in_err-taken.ensures.refused)
 
-pub read_map-step-requires-2 : goal.read_map-step-requires-2-clause-above
+pub read_map-step-requires-2 : goal.read_map-step-requires-2
 read_map-step-requires-2 t c = still_there c.args.reader.now c.step.new.self c.args.place (continues_stepped c.args.reader.now c.take_length.new.self c.step.new.self c.take_length.ensures.below c.in_ok-taken.ensures.sized c.step.ensures.columns c.in_ok-keys.ensures.kept) c.requires.place
 
 pub read_map-read-requires : goal.read_map-read-requires
