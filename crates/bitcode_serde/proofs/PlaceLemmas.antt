@@ -157,6 +157,9 @@ apart_more ps q apart fresh i j high_i high_j e =
       ]
     ]
 
+pub length_more : (bs more : List Below) (b : Below) (n : ℕ) → more ≡ bs ++ b ∷ [] → n ≡ length bs → n + 1 ≡ length more
+length_more bs more b n is e = let s = ap length is in let l = length-append bs (b ∷ []) in omega (arith, s, l, e)
+
 module _ (bs more : List Below) (b : Below) (is : more ≡ bs ++ b ∷ []) (lie : LieBelow bs) (inside : b.above ≤ length bs) where
   size : length more ≡ suc (length bs)
   size = let e = ap length is in let l = length-append bs (b ∷ []) in omega (arith, e, l)

@@ -154,8 +154,8 @@ impl Places {
         ensures unchanged { OnErr result (self.new.below.items ≡ self.old.below.items) }
     {
         make_room_below(self.alloc, &mut self.links, above, step)?;
+        let place = self.len() + 1;
         self.below.push(Below { above, step })?;
-        let place = self.below.len();
         set_link(&mut self.links, above, step, place);
         Ok(place)
     }

@@ -170,7 +170,7 @@ impl<'a> Reader<'a> {
     ///
     /// A refused growth is `out of memory`.
     pub fn step(&mut self, above: usize, step: Step, count: usize) -> Result<usize, Error>
-        requires above { above ≤ length self.old.places.below.items }
+        requires { above ≤ length self.old.places.below.items }
         ensures found { IfOk result (λ i. IsPlace self.new.places.below.items i (step_of step ∷ place_at (places self.old.places.below.items) above)) }
         ensures kept { OnOk result ((i : ℕ) (p : Place) → IsPlace self.old.places.below.items i p → IsPlace self.new.places.below.items i p) }
         ensures stands { OnOk result ((a : State) → Stands self.old a → Hosts (map whole a.opened) (step_of step ∷ place_at (places self.old.places.below.items) above) count → Stands self.new a) }

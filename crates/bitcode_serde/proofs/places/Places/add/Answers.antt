@@ -1,10 +1,10 @@
 -- A place is added, and linked from the one above it.
-use Rattle.std.proofs.Common.{◌≡◌, ◌⊎◌, sym, subst, length, inl, inr, ℕ, ap, ◌∙◌}
+use Rattle.std.proofs.Common.{◌≡◌, ◌⊎◌, ◌+◌, sym, subst, length, inl, inr, ℕ, ap, ◌∙◌}
 use Rattle.bitcode_serde.specs.Links.{link}
 use Rattle.bitcode_serde.specs.Places.{AreLinked, LinkBelow}
 use Rattle.bitcode_serde.specs.declared.places.Below.{Below}
 use Rattle.bitcode_serde.specs.declared.step.Step.{Step}
-use Rattle.bitcode_serde.proofs.PlaceLemmas.{below_grown, new_place, apart_grown, linked_grown, others_grown, written_back}
+use Rattle.bitcode_serde.proofs.PlaceLemmas.{below_grown, new_place, apart_grown, linked_grown, others_grown, written_back, length_more}
 use Rattle.bitcode_serde.proofs.places.Places.add.Goals as goal
 
 pub invariant_of-self-2-clause-below_others : goal.invariant_of-self-2-clause-below_others
@@ -22,7 +22,7 @@ invariant_of-self-2-clause-linked c =
     let old = c.args.self.now in
     let new : Below = record { above = c.args.above; step = c.args.step } in
     let h = linked_grown old.below.items c.push.new.self.items new c.in_ok-push.ensures.items old.below_others c.requires.above old.links.items old.linked c.requires.fresh
-    c.set_link.new.links c.len-place.result (c.len-place.ensures ∙ c.push.new.self.ok.0) c.set_link.ensures.there
+    c.set_link.new.links (c.len-place.result + 1) (length_more old.below.items c.push.new.self.items new c.len-place.result c.in_ok-push.ensures.items c.len-place.ensures) c.set_link.ensures.there
     (λ a s. elim (c.set_link.ensures.others a s) [
       | inl e ↦ inl (e ∙ ap (λ ls. link ls a s) c.deref_mut.ensures.value ∙ c.in_ok-make_room_below.ensures.links a s)
       | inr h ↦ inr h
@@ -35,7 +35,7 @@ invariant_of-self-2-clause-no_others c =
     let old = c.args.self.now in
     let new : Below = record { above = c.args.above; step = c.args.step } in
     let h = others_grown old.below.items c.push.new.self.items new c.in_ok-push.ensures.items old.below_others c.requires.above old.links.items old.linked c.requires.fresh
-    c.set_link.new.links c.len-place.result (c.len-place.ensures ∙ c.push.new.self.ok.0) c.set_link.ensures.there
+    c.set_link.new.links (c.len-place.result + 1) (length_more old.below.items c.push.new.self.items new c.len-place.result c.in_ok-push.ensures.items c.len-place.ensures) c.set_link.ensures.there
     (λ a s. elim (c.set_link.ensures.others a s) [
       | inl e ↦ inl (e ∙ ap (λ ls. link ls a s) c.deref_mut.ensures.value ∙ c.in_ok-make_room_below.ensures.links a s)
       | inr h ↦ inr h
@@ -47,4 +47,5 @@ invariant_of-self-2-clause-no_others c =
 pub returns-clause-found : goal.returns-clause-found
 returns-clause-found c =
     new_place c.args.self.now.below.items c.push.new.self.items (record { above = c.args.above; step = c.args.step }) c.in_ok-push.ensures.items
-    c.args.self.now.below_others c.requires.above c.len-place.result (c.len-place.ensures ∙ c.push.new.self.ok.0)
+    c.args.self.now.below_others c.requires.above (c.len-place.result + 1)
+    (length_more c.args.self.now.below.items c.push.new.self.items _ c.len-place.result c.in_ok-push.ensures.items c.len-place.ensures)
