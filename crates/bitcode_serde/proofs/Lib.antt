@@ -12,3 +12,4 @@ pub mod WrittenLemmas
 pub mod WritingLemmas
 pub mod LeafEntryLemmas
 pub mod SerializeLemmas
+pub mod WalkLemmas
