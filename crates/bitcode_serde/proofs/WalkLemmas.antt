@@ -1,6 +1,6 @@
 -- Writing lists, maps, variants and tuples, part by part.
-use Rattle.std.proofs.Common.{◌≡◌, ◌≢◌, ℕ, zero, suc, ◌+◌, ◌<◌, ◌≤◌, inl, inr, List, [], ◌∷◌, ◌++◌, length, map, take, drop, Some, slice_get, refl, ap, sym, subst, ◌∙◌, arith, add-one, append_assoc}
-use Rattle.std.specs.Prelude.{Result, Ok, Err}
+use Rattle.std.proofs.Common.{◌≡◌, ◌≢◌, ℕ, zero, suc, ◌+◌, ◌-◌, ◌<◌, ◌≤◌, inl, inr, List, [], ◌∷◌, ◌++◌, length, map, take, drop, Some, None, slice_get, refl, ap, sym, subst, ◌∙◌, arith, add-one, sub-one, append_assoc}
+use Rattle.std.specs.Prelude.{Result, Ok, Err, OnOk, IfErr}
 use Rattle.std.specs.List.{AllByRecursion, flat_map}
 use Rattle.std.proofs.lemmas.List.{append-nil, length-map}
 use Rattle.std.proofs.lemmas.List.Folds.{flat_map-map}
@@ -8,25 +8,30 @@ use Rattle.std.proofs.lemmas.Grind.{flat_map-append}
 use Rattle.std.proofs.Math.Seq.{take-length}
 use Rattle.bitcode_input.specs.declared.error.Error.{Error}
 use Rattle.bitcode_input.specs.declared.error.Reason.{Reason}
-use Rattle.bitcode_input.specs.declared.error.Reason.TheVariants.{NotOfTheShape}
+use Rattle.bitcode_input.specs.declared.error.Reason.TheVariants.{OutOfMemory, NotOfTheShape}
 use Rattle.bitcode_shapes.specs.Datum.{Datum, Data, datum_and, list, tuple, choice, pair, list_of, data_of, first_in, second_in}
 use Rattle.bitcode_coder.specs.Columns.{Kind}
 use Rattle.bitcode_coder.specs.Spelling.{natural}
-use Rattle.bitcode_untyped.specs.Faults.{Judge, faults_of_fields}
+use Rattle.bitcode_untyped.specs.Faults.{Judge, faults_of_fields, faults_of}
+use Rattle.bitcode_untyped.specs.Growing.{put}
 use Rattle.bitcode_untyped.specs.PlaceKinds.{HasKindFrom, HasKindAt}
 use Rattle.bitcode_untyped.specs.ShapeTree.{ShapeTree, ShapeTrees, no_trees, tree_and, map_tree, tuple_tree, choice_tree, IsOf, AreOf, IsOfVariant, IsPair}
-use Rattle.bitcode_untyped.specs.View.{datum_of, trees_of}
+use Rattle.bitcode_untyped.specs.View.{datum_of, followed, tree_of_node, trees_of}
 use Rattle.bitcode_untyped.specs.Walk.{key, value, variant, Place, Use, use_at, length_kind, index_kind, field_place, walk, walk_fields, walk_variant}
 use Rattle.bitcode_untyped.specs.declared.shape.ShapeNode.{ShapeNode}
+use Rattle.bitcode_untyped.specs.declared.shape.ShapeNode.TheVariants as node
 use Rattle.bitcode_untyped.specs.declared.value.Value.{Value}
 use Rattle.bitcode_untyped.proofs.EachLemmas.{each_if, each_append, each_front, each_flat}
+use Rattle.bitcode_untyped.proofs.FaultLemmas.{faults-Ref, faults-away}
+use Rattle.bitcode_untyped.proofs.FollowedLemmas.{followed_one, entry_there}
 use Rattle.bitcode_untyped.proofs.KindLemmas.{kinded}
+use Rattle.bitcode_untyped.proofs.ViewLemmas.{tree-Ref}
 use Rattle.bitcode_serde.specs.ReadingValues.{field_at}
 use Rattle.bitcode_serde.specs.Serializing.{Outcome, IsVariant}
-use Rattle.bitcode_serde.specs.Writing.{written, place_in, Grows, Writes, IsAmong, RefusesAt}
+use Rattle.bitcode_serde.specs.Writing.{written, place_in, Grows, Writes, AreOfShape, IsAmong, RefusesAt}
 use Rattle.bitcode_serde.specs.declared.writer.state.Writer.{Writer}
 use Rattle.bitcode_serde.proofs.FieldLemmas.{field_of}
-use Rattle.bitcode_serde.proofs.SerializeLemmas.{grows_same, kept, writes_none, writes_then, refuses_inside, among_front, among_back, listed, each_map}
+use Rattle.bitcode_serde.proofs.SerializeLemmas.{grows_same, grows_then, kept, writes_put, writes_none, writes_then, refuses_use, refuses_inside, among_front, among_back, listed, each_map}
 
 -- ---- the entry at a number
 
@@ -113,6 +118,39 @@ outcome_inside old start new tree sub n m d e done faults (Err y) first kinds in
   refused = refuses_inside old start tree sub n m done faults faults y.reason first kinds inside (λ a. a) o.refused;
 }
 
+-- ---- one use
+
+pub use_outcome : {A : Type 0} (old new : Writer) (tree : ShapeTree) (n : ℕ) (d entry : Datum) (kind : Kind) (r : Result A Error)
+    → walk tree (place_in old n) d ≡ use_at (place_in old n) kind entry ∷ [] → HasKindFrom tree (place_in old n) (place_in old n) kind → IsOf tree d
+    → OnOk r (new.below ≡ old.below) → OnOk r (written new ≡ put (use_at (place_in old n) kind entry) (written old))
+    → IfErr r (λ e. (root : ShapeTree) → AreOfShape root (written old) → HasKindFrom root [] (place_in old n) kind → e.reason ≡ OutOfMemory)
+    → Outcome old tree n d [] r new
+use_outcome old new tree n d entry kind (Ok a) walked has of below more refused = record {
+  written = subst (λ w. Writes old w new) (sym walked) (writes_put old new (use_at (place_in old n) kind entry) below more);
+  of_tree = of;
+  whole = refl;
+  refused = tt;
+}
+use_outcome old new tree n d entry kind (Err e) walked has of below more refused =
+    record { written = tt; of_tree = tt; whole = tt; refused = refuses_use old tree n [] e.reason (place_in old n) kind refused has }
+
+-- ---- references
+
+pub reference_there : (left : ℕ) (table : List ShapeNode) (i : ℕ) (n : ShapeNode) → 0 < left → slice_get table i ≡ Some n
+    → tree_of_node left table (node.Ref i) ≡ tree_of_node (left - 1) table n
+reference_there left table i n some there =
+    tree-Ref (followed left table) i ∙ followed_one left table i some ∙ entry_there (followed (left - 1) table) table i n there
+
+pub faults_there : (left : ℕ) (table : List ShapeNode) (v : Value) (i : ℕ) (n : ShapeNode) → 0 < left → slice_get table i ≡ Some n
+    → faults_of table v left (node.Ref i) ≡ faults_of table v (left - 1) n
+faults_there zero table v i n some there = absurd (omega (arith, some))
+faults_there (suc left) table v i n some there = rw sub-one (faults-Ref table v left i n there)
+
+pub faults_nowhere : (left : ℕ) (table : List ShapeNode) (v : Value) (i : ℕ) → 0 < left → slice_get table i ≡ None
+    → faults_of table v left (node.Ref i) ≡ NotOfTheShape ∷ []
+faults_nowhere zero table v i some away = absurd (omega (arith, some))
+faults_nowhere (suc left) table v i some away = faults-away table v left i away
+
 -- ---- variants
 
 pub walk_of_variant : (ss : ShapeTrees) (i : ℕ) (t : ShapeTree) (p : Place) (d : Datum) → IsVariant ss i t → walk_variant ss i p d ≡ walk t p d
@@ -185,6 +223,67 @@ module _ {A : Type 0} (k v : ShapeTree) (first second : A → Datum) (xs : List 
             (each_if (λ (u : Use). HasKindFrom v (value ∷ p) u.place u.kind) P (λ u h. inr (inr h)) _ (kinded v (value ∷ p) (second x)))) (take i xs))
             also,
       )
+
+  -- a key was refused
+  pub key_refused : (old start now : Writer) (n keys values count i : ℕ) (faults part : List Reason) (reason : Reason)
+      → Writes old (use_at (place_in old n) length_kind (natural count) ∷ []) start → place_in start keys ≡ key ∷ place_in old n → place_in start values ≡ value ∷ place_in old n
+      → keys ≤ length start.below.items → Writes start (flat_map (pair_uses (place_in start keys) (place_in start values)) (take i xs)) now
+      → (IsAmong reason part → IsAmong reason faults) → RefusesAt now k keys part reason → RefusesAt old (map_tree k v) n faults reason
+  key_refused old start now n keys values count i faults part reason first at_keys at_values inside so_far among refused =
+      let p = place_in old n in
+      let pairs : List Use = flat_map (pair_uses (key ∷ p) (value ∷ p)) (take i xs) in
+      let rest : Writes start (pairs ++ []) now = subst (λ w. Writes start w now) (sym (append-nil pairs))
+      (subst (λ q. Writes start (flat_map (pair_uses q (value ∷ p)) (take i xs)) now) at_keys (subst (λ q. Writes start (flat_map (pair_uses (place_in start keys) q) (take i xs)) now) at_values so_far)) in
+      refuses_inside old now (map_tree k v) k n keys (use_at p length_kind (natural count) ∷ (pairs ++ [])) faults part reason
+      (writes_then old start now (use_at p length_kind (natural count) ∷ []) _ first rest) (pair_kinds p count i [] tt)
+      (λ q kind h. inr (inl (subst (λ z. HasKindFrom k z q kind) (kept start now keys so_far.grows inside ∙ at_keys) h))) among refused
+
+  -- a value was refused, behind its key
+  pub value_refused : (old start now next : Writer) (n keys values count i : ℕ) (d : Datum) (faults part : List Reason) (reason : Reason)
+      → Writes old (use_at (place_in old n) length_kind (natural count) ∷ []) start → place_in start keys ≡ key ∷ place_in old n → place_in start values ≡ value ∷ place_in old n
+      → keys ≤ length start.below.items → values ≤ length start.below.items → Writes start (flat_map (pair_uses (place_in start keys) (place_in start values)) (take i xs)) now
+      → Writes now (walk k (place_in now keys) d) next
+      → (IsAmong reason part → IsAmong reason faults) → RefusesAt next v values part reason → RefusesAt old (map_tree k v) n faults reason
+  value_refused old start now next n keys values count i d faults part reason first at_keys at_values inside_keys inside_values so_far step among refused =
+      let p = place_in old n in
+      let P : Use → Type 0 = λ u. HasKindFrom (map_tree k v) p u.place u.kind in
+      let pairs : List Use = flat_map (pair_uses (key ∷ p) (value ∷ p)) (take i xs) in
+      let there = kept start now keys so_far.grows inside_keys ∙ at_keys in
+      let one : Writes now (walk k (key ∷ p) d) next = subst (λ q. Writes now (walk k q d) next) there step in
+      let rest : Writes start pairs now =
+      subst (λ q. Writes start (flat_map (pair_uses q (value ∷ p)) (take i xs)) now) at_keys (subst (λ q. Writes start (flat_map (pair_uses (place_in start keys) q) (take i xs)) now) at_values so_far) in
+      refuses_inside old next (map_tree k v) v n values (use_at p length_kind (natural count) ∷ (pairs ++ walk k (key ∷ p) d)) faults part reason
+      (writes_then old start next (use_at p length_kind (natural count) ∷ []) _ first (writes_then start now next pairs (walk k (key ∷ p) d) rest one))
+      (pair_kinds p count i (walk k (key ∷ p) d) (each_if (λ (u : Use). HasKindFrom k (key ∷ p) u.place u.kind) P (λ u h. inr (inl h)) _ (kinded k (key ∷ p) d)))
+      (λ q kind h. inr (inr (subst (λ z. HasKindFrom v z q kind) (kept start next values (grows_then start now next so_far.grows step.grows) inside_values ∙ at_values) h))) among refused
+
+  pub map_done : (old start now : Writer) (n keys values : ℕ) → Writes old (use_at (place_in old n) length_kind (natural (length xs)) ∷ []) start
+      → place_in start keys ≡ key ∷ place_in old n → place_in start values ≡ value ∷ place_in old n
+      → Writes start (flat_map (pair_uses (place_in start keys) (place_in start values)) xs) now
+      → Writes old (walk (map_tree k v) (place_in old n) (list (data_of (map pair_of xs)))) now
+  map_done old start now n keys values first at_keys at_values so_far =
+      let p = place_in old n in
+      let rest : Writes start (flat_map (pair_uses (key ∷ p) (value ∷ p)) xs) now =
+      subst (λ q. Writes start (flat_map (pair_uses q (value ∷ p)) xs) now) at_keys (subst (λ q. Writes start (flat_map (pair_uses (place_in start keys) q) xs) now) at_values so_far) in
+      subst (λ w. Writes old w now) (sym (map_walk p)) (writes_then old start now (use_at p length_kind (natural (length xs)) ∷ []) _ first rest)
+
+-- the places of the keys and of the values are known
+pub both_begun : (old mid start : Writer) (n keys values : ℕ) (u : Use) → Writes old (u ∷ []) mid → place_in mid keys ≡ key ∷ place_in old n → keys ≤ length mid.below.items
+    → n ≤ length old.below.items → place_in start values ≡ value ∷ place_in mid n → Grows mid start → written start ≡ written mid
+    → Writes old (u ∷ []) start × (place_in start keys ≡ key ∷ place_in old n) × (place_in start values ≡ value ∷ place_in old n)
+both_begun old mid start n keys values u first at_keys inside_keys inside at_values grows same = (
+  writes_then old mid start (u ∷ []) [] first (writes_none mid start grows same),
+  kept mid start keys grows inside_keys ∙ at_keys,
+  at_values ∙ ap (λ p. value ∷ p) (kept old mid n first.grows inside),
+)
+
+-- a key and its value were written, at places that were known before
+pub pair_there : (start now next new : Writer) (k v : ShapeTree) (keys values : ℕ) (d e : Datum) → Grows start now → keys ≤ length start.below.items → values ≤ length start.below.items
+    → Writes now (walk k (place_in now keys) d) next → Writes next (walk v (place_in next values) e) new
+    → Writes now (walk k (place_in start keys) d ++ walk v (place_in start values) e) new
+pair_there start now next new k v keys values d e g inside_keys inside_values one two =
+    writes_then now next new _ _ (written_there start now next k keys d g inside_keys one)
+    (written_there start next new v values e (grows_then start now next g one.grows) inside_values two)
 
 -- ---- tuples
 

@@ -7,7 +7,7 @@ use Rattle.bitcode_untyped.specs.View.{datum_of, tree_of_node}
 use Rattle.bitcode_untyped.specs.Walk.{walk}
 use Rattle.bitcode_serde.specs.Writing.{place_in}
 use Rattle.bitcode_serde.specs.Depth.{depth, deepest, left_below}
-use Rattle.bitcode_serde.proofs.WalkLemmas.{EachWritten, pair_uses, FieldsWritten}
+use Rattle.bitcode_serde.proofs.WalkLemmas.{EachWritten, FieldsWritten}
 use Rattle.bitcode_serde.proofs.walk.+write.Given as goal
 
 abbrev pub decreases-write : goal.decreases-write
@@ -38,7 +38,11 @@ invariant-write_seq-loop-value l =
     (λ v. IsOf (tree_of_node l.left l.table l.node) (datum_of v)) (λ v. faults_of l.table v l.left l.node) l.values l.initial.writer l.value-index l.writer
 
 abbrev pub invariant-write_map-loop-first : goal.invariant-write_map-loop-first
-invariant-write_map-loop-first l = ?
+invariant-write_map-loop-first l =
+    (l.keys ≤ length l.initial.writer.below.items) × (l.values ≤ length l.initial.writer.below.items)
+    × EachWritten (λ e. walk (tree_of_node l.left l.table l.key) (place_in l.initial.writer l.keys) (datum_of e.0) ++ walk (tree_of_node l.left l.table l.value) (place_in l.initial.writer l.values) (datum_of e.1))
+    (λ e. IsOf (tree_of_node l.left l.table l.key) (datum_of e.0) × IsOf (tree_of_node l.left l.table l.value) (datum_of e.1))
+    (λ e. faults_of l.table e.0 l.left l.key ++ faults_of l.table e.1 l.left l.value) l.pairs l.initial.writer l.first-index l.writer
 
 abbrev pub invariant-write_tuple-loop-i : goal.invariant-write_tuple-loop-i
 invariant-write_tuple-loop-i l =
