@@ -8,7 +8,7 @@ use Rattle.bitcode_input.specs.declared.error.Reason.TheVariants.{NotOfTheShape}
 use Rattle.bitcode_shapes.specs.Datum.{unit}
 use Rattle.bitcode_coder.specs.Spelling.{natural}
 use Rattle.bitcode_untyped.specs.Faults.{faults_of}
-use Rattle.bitcode_untyped.specs.ShapeTree.{unit_tree, leaf_tree, seq_tree, map_tree, tuple_tree, choice_tree, option_tree, IsOf}
+use Rattle.bitcode_untyped.specs.ShapeTree.{unit_tree, leaf_tree, seq_tree, map_tree, tuple_tree, choice_tree, no_trees, tree_and, IsOf}
 use Rattle.bitcode_untyped.specs.View.{datum_of, followed, tree_of_node, trees_of}
 use Rattle.bitcode_untyped.specs.Walk.{element, key, variant, length_kind, index_kind, use_at, walk}
 use Rattle.bitcode_untyped.proofs.FaultLemmas.{faults-Unit, faults-Bytes, faults-None, faults-Some, faults-Seq, faults-Map, faults-Tuple, faults-Enum}
@@ -31,11 +31,15 @@ write-returns-in-Bytes-value t c =
     rw (c.in-Bytes.is, c.in-Bytes-value.is, tree-Bytes (followed c.args.left c.args.table.now), datum-Bytes c.in-Bytes-value.bytes, faults-Bytes c.args.table.now c.args.left c.in-Bytes-value.bytes, ← c.deref.ensures.value)
     c.write_bytes.ensures
 
-pub write-returns-in-Option-None : goal.write-returns-in-Option-None
-write-returns-in-Option-None t c = ?
+pub write-returns-in-None : goal.write-returns-in-None
+write-returns-in-None t c = 
+    rw (c.in-Option.is, c.in-Option-value.is, c.in-None.is, tree-Option (followed c.args.left c.args.table.now) c.in-Option.some, datum-None, faults-None c.args.table.now c.args.left c.in-Option.some)
+    (use_outcome c.args.writer.now c.put.new.self _ c.args.place _ (natural 0) index_kind c.put.result refl (inl (refl, refl)) (refl, omega arith, refl) c.put.ensures.below c.put.ensures.written c.put.ensures.refused)
 
-pub write-returns-in-Option-Some : goal.write-returns-in-Option-Some
-write-returns-in-Option-Some t c = ?
+pub write-returns-in-Some : goal.write-returns-in-Some
+write-returns-in-Some t c = 
+    rw (c.in-Option.is, c.in-Option-value.is, c.in-Some.is, tree-Option (followed c.args.left c.args.table.now) c.in-Option.some, datum-Some c.in-Some.inside, faults-Some c.args.table.now c.args.left c.in-Some.inside c.in-Option.some, ← c.deref-in-Some.ensures, ← c.deref-in-Some-2.ensures)
+    (c.write_variant.ensures (tree_and unit_tree (tree_and (tree_of_node c.args.left c.args.table.now c.deref-in-Some.result.now) no_trees)) refl)
 
 pub write-returns-in_default-value : goal.write-returns-in_default-value
 write-returns-in_default-value t c = 
@@ -195,6 +199,10 @@ write_seq-returns t c =
     (list_done (tree_of_node c.args.left c.args.table.now c.args.node.now) datum_of c.args.values.now c.args.writer.now start c.loop-value.writer c.args.place m c.loop-value.value-index b.0 b.1 c.loop-value-test.false c.loop-value.auto.value-index-end c.loop-value.invariant.1.written)
     (list_is (tree_of_node c.args.left c.args.table.now c.args.node.now) datum_of c.args.values.now all.1) all.2
 
+pub write_seq-loop-value-init : goal.write_seq-loop-value-init
+write_seq-loop-value-init t c = 
+    (c.in_ok-element.ensures.inside, each_none (λ v. walk (tree_of_node c.args.left c.args.table.now c.args.node.now) (place_in c.below.new.self c.in_ok-element.element) (datum_of v)) (λ v. IsOf (tree_of_node c.args.left c.args.table.now c.args.node.now) (datum_of v)) (λ v. faults_of c.args.table.now v c.args.left c.args.node.now) c.args.values.now c.below.new.self)
+
 pub write_map-returns-in_err-put : goal.write_map-returns-in_err-put
 write_map-returns-in_err-put t c = 
     let y = err_from_is_err_and c.from_residual.result c.from_residual.ensures.1 in
@@ -259,6 +267,15 @@ write_map-returns t c =
     written_outcome c.args.writer.now (map_tree (tree_of_node c.args.left c.args.table.now c.args.key.now) (tree_of_node c.args.left c.args.table.now c.args.value.now)) c.args.place _ _ tt c.loop-first.writer
     (map_done (tree_of_node c.args.left c.args.table.now c.args.key.now) (tree_of_node c.args.left c.args.table.now c.args.value.now) (λ e. datum_of e.0) (λ e. datum_of e.1) c.args.pairs.now c.args.writer.now c.below-2.new.self c.loop-first.writer c.args.place c.in_ok-keys.keys c.in_ok-values.values b.0 b.1 b.2 all.0)
     (map_is (tree_of_node c.args.left c.args.table.now c.args.key.now) (tree_of_node c.args.left c.args.table.now c.args.value.now) (λ e. datum_of e.0) (λ e. datum_of e.1) c.args.pairs.now all.1) all.2
+
+pub write_map-loop-first-init : goal.write_map-loop-first-init
+write_map-loop-first-init t c = 
+    let k = c.in_ok-keys.ensures.inside in
+    let g = c.in_ok-values.ensures.grows.size in (
+      omega (arith, k, g),
+      c.in_ok-values.ensures.inside,
+      each_none (λ e. walk (tree_of_node c.args.left c.args.table.now c.args.key.now) (place_in c.below-2.new.self c.in_ok-keys.keys) (datum_of e.0) ++ walk (tree_of_node c.args.left c.args.table.now c.args.value.now) (place_in c.below-2.new.self c.in_ok-values.values) (datum_of e.1)) (λ e. IsOf (tree_of_node c.args.left c.args.table.now c.args.key.now) (datum_of e.0) × IsOf (tree_of_node c.args.left c.args.table.now c.args.value.now) (datum_of e.1)) (λ e. faults_of c.args.table.now e.0 c.args.left c.args.key.now ++ faults_of c.args.table.now e.1 c.args.left c.args.value.now) c.args.pairs.now c.below-2.new.self,
+    )
 
 pub write_tuple-returns-then-values-nodes : goal.write_tuple-returns-then-values-nodes
 write_tuple-returns-then-values-nodes t c = 
