@@ -1,6 +1,6 @@
 -- The values that are entries of one column.
 use Rattle.std.specs.List.{AllByRecursion}
-use Rattle.std.proofs.Common.{◌≡◌, ℕ, zero, suc, ℤ, pos, negsuc, inl, inr, List, [], ◌∷◌, get_or, ◌*◌, ◌^◌, ◌<◌, arith, Bool, true, false, String, Vec, Box, Global, None, string_bytes, refl, sym, ◌∙◌}
+use Rattle.std.proofs.Common.{◌≡◌, ℕ, suc, ℤ, pos, negsuc, inl, inr, List, [], ◌∷◌, get_or, ◌*◌, ◌^◌, ◌<◌, arith, Bool, true, false, String, Vec, Box, Global, None, string_bytes, refl, sym, ◌∙◌}
 use Rattle.bitcode_input.specs.declared.error.Reason.TheVariants.{NotOfTheShape}
 use Rattle.std.specs.Int.Signed.{mag}
 use Rattle.std.specs.Char.{IsScalar}

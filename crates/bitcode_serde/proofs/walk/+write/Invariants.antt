@@ -1,5 +1,5 @@
 -- A reference takes one from those that are left, and the parts of a node are less deep.
-use Rattle.std.proofs.Common.{◌≡◌, ◌+◌, ◌*◌, ◌≤◌, max, map, length}
+use Rattle.std.proofs.Common.{◌+◌, ◌*◌, ◌≤◌, max, length}
 use Rattle.std.proofs.Common.{◌++◌}
 use Rattle.bitcode_untyped.specs.Faults.{faults_of}
 use Rattle.bitcode_untyped.specs.ShapeTree.{IsOf}
