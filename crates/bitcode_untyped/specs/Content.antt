@@ -42,3 +42,7 @@ content_of = fold-Value Datum content_step
 abbrev pub DatumDecides : Shape → Type 0
 DatumDecides shape =
     (v w : Value) → value_faults shape v ≡ [] → value_faults shape w ≡ [] → datum_of v ≡ datum_of w → content_of v ≡ content_of w
+
+-- the content of each value of the shape whose datum is such
+abbrev pub IsOnlyContent : Shape → (Datum → Type 0) → Datum → Type 0
+IsOnlyContent shape IsSuch content = (v : Value) → value_faults shape v ≡ [] → IsSuch (datum_of v) → content_of v ≡ content

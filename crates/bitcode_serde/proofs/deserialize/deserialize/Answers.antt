@@ -7,7 +7,7 @@ use Rattle.bitcode_untyped.specs.Spelling.{SpellsDatum}
 use Rattle.bitcode_untyped.specs.View.{datum_of, tree_of, tree_of_node}
 use Rattle.bitcode_serde.specs.ReadingValues.{IsValueReason}
 use Rattle.bitcode_serde.proofs.ColumnLemmas.{passed_on}
-use Rattle.bitcode_serde.proofs.WholeLemmas.{spelled, more_behind, none_spelled, one_spelled, eighth, bounded, root_is, root_whole}
+use Rattle.bitcode_serde.proofs.WholeLemmas.{spelled, more_behind, none_spelled, one_spelled, eighth, bounded, root_is, root_whole, only_value}
 use Rattle.bitcode_serde.proofs.deserialize.deserialize.Goals as goal
 
 pub returns-in_err-value-clause-once : goal.returns-in_err-value-clause-once
@@ -63,3 +63,6 @@ pub returns-clause-whole : goal.returns-clause-whole
 returns-clause-whole c =
     root_whole c.args.shape.now c.table-table.result.now c.root.result c.index-table-root.result c.in_ok-value.value c.table-table.ensures c.root.ensures c.index-table-root.is
     c.in_ok-value.ensures.whole
+
+pub returns-clause-only : goal.returns-clause-only
+returns-clause-only c = only_value c.args.shape.now c.args.bytes.now c.in_ok-value.value (returns-clause-read c) (returns-clause-whole c)
