@@ -41,7 +41,8 @@ pub returns-in_err-value-clause-refused : goal.returns-in_err-value-clause-refus
 returns-in_err-value-clause-refused c =
     let y = err_from_is_err_and c.from_residual.result c.from_residual.ensures.1 in
     let is = root_is c.args.shape.now c.table-table.result.now c.root.result c.index-table-root.result c.table-table.ensures c.root.ensures c.index-table-root.is in
-    passed_on (λ e. IsValueReason e.reason × (e.reason ≢ OutOfMemory → (d : Datum) → SpellsDatum (tree_of c.args.shape.now) c.args.bytes.now d → ⊥)) c.from_residual.result c.in_err-value.field-0.0 y.0 y.1 y.2
+    passed_on (λ e. IsValueReason e.reason × (e.reason ≢ OutOfMemory → (d : Datum) → SpellsDatum (tree_of c.args.shape.now) c.args.bytes.now d → ⊥)) c.from_residual.result
+    c.in_err-value.field-0.0 y.0 y.1 y.2
     (rw is (none_spelled (tree_of_node 128 c.table-table.result.now c.index-table-root.result) c.args.bytes.now c.new-reader.result _ c.new-reader.ensures.stands c.in_err-value.ensures.refused))
 
 pub returns-then-not-is_at_end-clause-refused : goal.returns-then-not-is_at_end-clause-refused
