@@ -1,4 +1,5 @@
 pub mod IndexLemmas
+pub mod ReasonLemmas
 pub mod ColumnLemmas
 pub mod ReadingLemmas
 pub mod StepLemmas
@@ -7,6 +8,7 @@ pub mod DepthLemmas
 pub mod FreeLemmas
 pub mod EntryLemmas
 pub mod FieldLemmas
+pub mod CaseLemmas
 pub mod WholeLemmas
 pub mod WrittenLemmas
 pub mod WritingLemmas

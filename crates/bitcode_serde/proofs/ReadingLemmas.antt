@@ -9,7 +9,6 @@ use Rattle.bitcode_input.specs.declared.error.Reason.{Reason}
 use Rattle.bitcode_input.specs.declared.error.Reason.TheVariants.{OutOfMemory}
 use Rattle.bitcode_shapes.specs.Datum.{Datum}
 use Rattle.bitcode_coder.specs.Columns.{Kind, IsEntryOf}
-use Rattle.bitcode_coder.specs.Coding.{IsReadingReason}
 use Rattle.bitcode_coder.specs.Spelling.{SpellsColumn}
 use Rattle.bitcode_untyped.specs.Machine.{Opened, State, start, whole, next, is_open, entries_of, TakesNext}
 use Rattle.bitcode_untyped.specs.PlacedColumns.{PlacedColumn, same_place}
@@ -17,7 +16,7 @@ use Rattle.bitcode_untyped.specs.Population.{population}
 use Rattle.bitcode_untyped.specs.Walk.{Place, Use, use_at}
 use Rattle.bitcode_untyped.proofs.PlaceLemmas.{same_place-refl, same_place-false}
 use Rattle.bitcode_untyped.proofs.SoundLemmas.{grounded_append, population_append, takes_whole}
-use Rattle.bitcode_serde.specs.ReadColumns.{kind_of_column, left, Tallies, ReadsColumn, IsColumnRefusal}
+use Rattle.bitcode_serde.specs.ReadColumns.{kind_of_column, left, Tallies, ReadsColumn, IsColumnReason, IsColumnRefusal}
 use Rattle.bitcode_serde.specs.Reading.{places_from, places, place_at, counts, step_of, AreApart, AreSized, Backs, Back, Hosts, HostAll, Stands, IsReady, Prepares, NothingAt, Leads, LeadsTelling}
 use Rattle.bitcode_serde.specs.declared.reader.Below.{Below}
 use Rattle.bitcode_serde.specs.declared.reader.OpenColumn.{OpenColumn}
@@ -265,7 +264,7 @@ module _ (r : Reader) (n : ℕ) (within : n ≤ length r.below.items) (away : Al
       (λ d more rest read. none d more rest (subst (λ bytes. ReadsColumn kind count bytes (d ∷ more) rest) s.input read))
 
   pub refused_here : (kind : Kind) (reason : Reason) → IsColumnRefusal kind reason count r.input.now
-      → IsReadingReason reason × (reason ≢ OutOfMemory → (a : State) → Stands r a → NothingAt a (place_at (places r.below.items) n) kind)
+      → IsColumnReason reason × (reason ≢ OutOfMemory → (a : State) → Stands r a → NothingAt a (place_at (places r.below.items) n) kind)
   refused_here kind reason h = (h.0, λ other. nothing_here kind (λ d more rest. h.1 other (d ∷ more) rest))
 
   pub none_here : (kind : Kind) → count ≡ 0 → (a : State) → Stands r a → NothingAt a (place_at (places r.below.items) n) kind

@@ -4,7 +4,6 @@ use Rattle.bitcode_input.specs.declared.error.Reason.{Reason}
 use Rattle.bitcode_input.specs.declared.error.Reason.TheVariants as reason
 use Rattle.bitcode_shapes.specs.Datum.{Datum, unit, list, choice, pair, data_of}
 use Rattle.bitcode_shapes.specs.Shape.{any_number, IsInWidth}
-use Rattle.bitcode_coder.specs.Coding.{IsReadingReason}
 use Rattle.bitcode_coder.specs.Columns.{Kind, IsEntryOf}
 use Rattle.bitcode_coder.specs.Spelling.{natural}
 use Rattle.bitcode_untyped.specs.Machine.{State, Takes, whole, is_open, entries_of}
@@ -15,6 +14,7 @@ use Rattle.bitcode_untyped.specs.ShapeTree.{ShapeTree, ShapeTrees, no_trees, tre
 use Rattle.bitcode_untyped.specs.PlacedColumns.{PlacedColumn}
 use Rattle.bitcode_untyped.specs.Walk.{Step, element, key, value, variant, Place, use_at, length_kind, index_kind, walk}
 use Rattle.bitcode_untyped.proofs.ReadLemmas.{many_none, many_push, many_stuck, one_datum_read, unit_read, never_read, leaf_read, seq_read, seq_stuck, choice_read, choice_stuck, one_pair_read, pair_read, pair_stuck_key, pair_stuck_value, map_read, map_stuck}
+use Rattle.bitcode_serde.specs.ReadColumns.{IsColumnReason}
 use Rattle.bitcode_serde.specs.Reading.{step_of, IsPlace, IsRooted, places_from, places, place_at, Hosts, Stands, NothingAt, Leads, LeadsTelling, AreSized}
 use Rattle.bitcode_serde.specs.ReadingValues.{IsSteady, Continues, GoesAlong, HasNone, ReadsAt, ReadsListAt, IsValueReason, IsRefusalOf, IsRefusalAt, IsListRefusalAt}
 use Rattle.bitcode_serde.specs.declared.reader.Reader.{Reader}
@@ -24,16 +24,16 @@ use Rattle.bitcode_serde.specs.declared.reader.Step.TheVariants as step
 
 -- ---- refusals
 
-pub value_reason : (r : Reason) → IsReadingReason r → IsValueReason r
+pub value_reason : (r : Reason) → IsColumnReason r → IsValueReason r
 value_reason reason.Eof h = tt
 value_reason reason.ExpectedEof h = tt
 value_reason reason.InvalidPacking h = tt
 value_reason reason.LengthOverflow h = tt
 value_reason reason.HugeLength h = tt
 value_reason reason.InvalidUtf8 h = tt
-value_reason reason.InvalidBitPattern h = tt
-value_reason reason.InvalidArrayVec h = tt
-value_reason reason.InvalidArrayString h = tt
+value_reason reason.InvalidBitPattern h = h
+value_reason reason.InvalidArrayVec h = h
+value_reason reason.InvalidArrayString h = h
 value_reason reason.InvalidEnumVariant h = tt
 value_reason reason.InvalidOption h = tt
 value_reason reason.InvalidChar h = tt
@@ -50,7 +50,7 @@ refused_memory r place N why e = (subst IsValueReason (sym e) tt, λ other. absu
 -- nothing is there where no entry is to be taken
 pub refused_entry : (r : Reader) (place : ℕ) (kind : Kind) (N : Place → State → Type 0) (why : Reason)
     → ((p : Place) (a : State) → NothingAt a p kind → N p a)
-    → IsReadingReason why × (why ≢ reason.OutOfMemory → (a : State) → Stands r a → NothingAt a (place_at (places r.below.items) place) kind)
+    → IsColumnReason why × (why ≢ reason.OutOfMemory → (a : State) → Stands r a → NothingAt a (place_at (places r.below.items) place) kind)
     → IsRefusalOf r place N why
 refused_entry r place kind N why none h =
     (value_reason why h.0, λ other p at a s. none p a (subst (λ q. NothingAt a q kind) at.1 (h.1 other a s)))

@@ -1,16 +1,20 @@
 -- Reading a whole input.
-use Rattle.std.proofs.Common.{◌≡◌, ◌≢◌, ℕ, ◌*◌, ◌≤◌, List, [], length, get_or, refl, sym, subst, ap, ◌∙◌}
+use Rattle.std.proofs.Common.{◌≡◌, ◌≢◌, ℕ, ◌*◌, ◌≤◌, List, [], length, get_or, slice_get, Some, refl, sym, subst, ap, ◌∙◌}
 use Rattle.bitcode_input.specs.declared.error.Reason.{Reason}
 use Rattle.bitcode_input.specs.declared.error.Reason.TheVariants as reason
 use Rattle.bitcode_shapes.specs.Datum.{Datum}
 use Rattle.bitcode_untyped.specs.Bounds.{element_count}
+use Rattle.bitcode_untyped.specs.Content.{content_of, IsOnlyContent}
+use Rattle.bitcode_untyped.specs.Faults.{faults_of, value_faults}
 use Rattle.bitcode_untyped.specs.Machine.{State, start}
 use Rattle.bitcode_untyped.specs.PlacedColumns.{columns_of, entry_count}
 use Rattle.bitcode_untyped.specs.ShapeTree.{ShapeTree}
 use Rattle.bitcode_untyped.specs.Spelling.{SpellsDatum}
-use Rattle.bitcode_untyped.specs.View.{tree_of, tree_of_node, reference_limit}
+use Rattle.bitcode_untyped.specs.View.{datum_of, tree_of, tree_of_node, reference_limit}
 use Rattle.bitcode_untyped.specs.declared.shape.Shape.{Shape}
 use Rattle.bitcode_untyped.specs.declared.shape.ShapeNode.{ShapeNode}
+use Rattle.bitcode_untyped.specs.declared.value.Value.{Value}
+use Rattle.bitcode_untyped.proofs.ContentLemmas.{datum_decides}
 use Rattle.bitcode_untyped.proofs.FollowedLemmas.{root_tree}
 use Rattle.bitcode_untyped.proofs.LawLemmas.{spells_once, datum_takes_an_eighth, elements_are_bounded}
 use Rattle.bitcode_untyped.proofs.ReadLemmas.{whole_read, whole_stuck, whole_trailing}
@@ -47,10 +51,29 @@ eighth shape bytes d h = datum_takes_an_eighth (tree_of shape) (sound_shape shap
 pub bounded : (shape : Shape) (bytes : List ℕ) (d : Datum) → SpellsDatum (tree_of shape) bytes d → element_count d ≤ 524296 * length bytes
 bounded shape bytes d h = (elements_are_bounded (tree_of shape) (sound_shape shape)).by_bytes bytes d h
 
+-- ---- the root
+
+root_there : (shape : Shape) (table : List ShapeNode) (root : ℕ) (n : ShapeNode) → table ≡ shape.table.items → root ≡ shape.root → n ≡ get_or table root n
+    → slice_get shape.table.items shape.root ≡ Some n
+root_there shape table root n t r is =
+    let at : n ≡ get_or shape.table.items root n = subst (λ ns. n ≡ get_or ns root n) t is in
+    let there : n ≡ get_or shape.table.items shape.root n = subst (λ i. n ≡ get_or shape.table.items i n) r at in
+    found_entry shape.table.items shape.root n shape.sound.root_in there
+
 -- the tree of a shape is that of its root
 pub root_is : (shape : Shape) (table : List ShapeNode) (root : ℕ) (n : ShapeNode) → table ≡ shape.table.items → root ≡ shape.root → n ≡ get_or table root n
     → tree_of shape ≡ tree_of_node reference_limit table n
 root_is shape table root n t r is =
-    let at : n ≡ get_or shape.table.items root n = subst (λ ns. n ≡ get_or ns root n) t is in
-    let there : n ≡ get_or shape.table.items shape.root n = subst (λ i. n ≡ get_or shape.table.items i n) r at in
-    root_tree shape n (found_entry shape.table.items shape.root n shape.sound.root_in there) ∙ ap (λ ns. tree_of_node reference_limit ns n) (sym t)
+    root_tree shape n (root_there shape table root n t r is) ∙ ap (λ ns. tree_of_node reference_limit ns n) (sym t)
+
+-- a value of a shape is one of its root
+pub root_whole : (shape : Shape) (table : List ShapeNode) (root : ℕ) (n : ShapeNode) (v : Value) → table ≡ shape.table.items → root ≡ shape.root
+    → n ≡ get_or table root n → faults_of table v reference_limit n ≡ [] → value_faults shape v ≡ []
+root_whole shape table root n v t r is h =
+    rw (root_there shape table root n t r is) (subst (λ ns. faults_of ns v reference_limit n ≡ []) t h)
+
+-- the datum of a value of the shape is that of no other
+pub only_value : (shape : Shape) (bytes : List ℕ) (value : Value) → SpellsDatum (tree_of shape) bytes (datum_of value) → value_faults shape value ≡ []
+    → IsOnlyContent shape (SpellsDatum (tree_of shape) bytes) (content_of value)
+only_value shape bytes value spells whole other h spelled =
+    datum_decides shape other value h whole (one_spelled (tree_of shape) bytes (datum_of other) (datum_of value) spelled spells)

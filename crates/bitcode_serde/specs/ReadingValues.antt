@@ -1,13 +1,18 @@
 -- What is read of a value, from one reader to the next.
-use Rattle.std.specs.Prelude.{◌≢◌, ℕ, zero, suc, List, ◌∷◌}
+use Rattle.std.specs.Prelude.{◌≡◌, ◌≢◌, ℕ, zero, suc, List, [], ◌∷◌, Vec, Box}
+use Rattle.std.specs.Global.{Global}
 use Rattle.bitcode_input.specs.declared.error.Reason.{Reason}
-use Rattle.bitcode_input.specs.declared.error.Reason.TheVariants.{OutOfMemory, InvalidOption, InvalidChar, TooManyZeroSizedTypes, NestedTooDeep}
+use Rattle.bitcode_input.specs.declared.error.Reason.TheVariants.{ExpectedEof, InvalidEnumVariant, OutOfMemory, InvalidOption, InvalidChar, TooManyZeroSizedTypes, NestedTooDeep}
 use Rattle.bitcode_shapes.specs.Datum.{Datum}
-use Rattle.bitcode_coder.specs.Coding.{IsReadingReason}
+use Rattle.bitcode_untyped.specs.Faults.{faults_of}
 use Rattle.bitcode_untyped.specs.Machine.{State}
 use Rattle.bitcode_untyped.specs.Reads.{ReadsDatum, ReadsNoDatum, IsReadable, ReadsMany}
 use Rattle.bitcode_untyped.specs.ShapeTree.{ShapeTree}
 use Rattle.bitcode_untyped.specs.Walk.{field, Place, walk}
+use Rattle.bitcode_untyped.specs.declared.shape.ShapeNode.{ShapeNode}
+use Rattle.bitcode_untyped.specs.declared.shape.ShapeNode.TheVariants as node
+use Rattle.bitcode_untyped.specs.declared.value.Value.{Value}
+use Rattle.bitcode_serde.specs.ReadColumns.{IsColumnReason}
 use Rattle.bitcode_serde.specs.Reading.{IsPlace, IsRooted, AreSized, Stands}
 use Rattle.bitcode_serde.specs.declared.reader.Reader.{Reader}
 
@@ -40,11 +45,13 @@ ReadsListAt s place old count ds new = GoesAlong old place new (λ p a b. ReadsM
 
 -- the reasons of refusals by a reader of values
 abbrev pub IsValueReason : Reason → Type 0
+IsValueReason ExpectedEof = Unit {0}
+IsValueReason InvalidEnumVariant = Unit {0}
 IsValueReason InvalidOption = Unit {0}
 IsValueReason InvalidChar = Unit {0}
 IsValueReason TooManyZeroSizedTypes = Unit {0}
 IsValueReason NestedTooDeep = Unit {0}
-IsValueReason reason = IsReadingReason reason
+IsValueReason reason = IsColumnReason reason
 
 -- a refusal other than want of memory comes only where this is not to be had
 abbrev pub IsRefusalOf : Reader → ℕ → (Place → State → Type 0) → Reason → Type 0
@@ -61,3 +68,28 @@ IsListRefusalAt s place old count =
 abbrev pub field_at : ℕ → Place → ℕ → Place
 field_at (suc zero) p i = p
 field_at _ p i = field i ∷ p
+
+-- ---- values of the cases of their nodes
+
+abbrev pub IsOfChar : Value → Type 0
+IsOfChar v = (table : List ShapeNode) (left : ℕ) → faults_of table v left node.Char ≡ []
+
+abbrev pub IsOfBytes : Value → Type 0
+IsOfBytes v = (table : List ShapeNode) (left : ℕ) → faults_of table v left node.Bytes ≡ []
+
+-- of an option of a node, in whichever box the node stands
+abbrev pub IsOfOption : List ShapeNode → ℕ → ShapeNode → Value → Type 0
+IsOfOption table left n v = (b : Box ShapeNode Global) → b.value ≡ n → faults_of table v left (node.Option b) ≡ []
+
+abbrev pub IsOfSeq : List ShapeNode → ℕ → ShapeNode → Value → Type 0
+IsOfSeq table left n v = (b : Box ShapeNode Global) → b.value ≡ n → faults_of table v left (node.Seq b) ≡ []
+
+abbrev pub IsOfMap : List ShapeNode → ℕ → ShapeNode → ShapeNode → Value → Type 0
+IsOfMap table left key value v =
+    (k w : Box ShapeNode Global) → k.value ≡ key → w.value ≡ value → faults_of table v left (node.Map k w) ≡ []
+
+abbrev pub IsOfTuple : List ShapeNode → ℕ → List ShapeNode → Value → Type 0
+IsOfTuple table left nodes v = (ns : Vec ShapeNode Global) → ns.items ≡ nodes → faults_of table v left (node.Tuple ns) ≡ []
+
+abbrev pub IsOfEnum : List ShapeNode → ℕ → List ShapeNode → Value → Type 0
+IsOfEnum table left nodes v = (ns : Vec ShapeNode Global) → ns.items ≡ nodes → faults_of table v left (node.Enum ns) ≡ []

@@ -4,8 +4,8 @@ ghost use Rattle.bitcode_coder.specs.Spelling.{natural};
 ghost use Rattle.bitcode_shapes.specs.Shape.{any_number};
 ghost use Rattle.bitcode_untyped.specs.ShapeTree.{leaf_tree, char_tree, natural_tree, seq_tree};
 ghost use Rattle.bitcode_untyped.specs.View.{datum_of};
-ghost use Rattle.bitcode_serde.specs.ReadColumns.{kind_of};
-ghost use Rattle.bitcode_serde.specs.ReadingValues.{IsSteady, Continues, ReadsAt, ReadsListAt, IsRefusalAt, IsListRefusalAt};
+ghost use Rattle.bitcode_serde.specs.ReadColumns.{kind_of, IsCaseOf};
+ghost use Rattle.bitcode_serde.specs.ReadingValues.{IsSteady, Continues, ReadsAt, ReadsListAt, IsRefusalAt, IsListRefusalAt, IsOfChar, IsOfBytes};
 
 use crate::column::ColumnKind;
 use crate::reader::{Reader, Step};
@@ -20,6 +20,7 @@ pub fn read_leaf(reader: &mut Reader<'_>, place: usize, kind: ColumnKind) -> Res
     requires steady { IsSteady reader.old }
     ensures continues { OnOk result (Continues reader.old reader.new) }
     ensures read { IfOk result (λ value. ReadsAt (leaf_tree (kind_of kind) any_number) place reader.old (datum_of value) reader.new) }
+    ensures of_case { IfOk result (λ value. IsCaseOf kind value) }
     ensures refused { IfErr result (λ e. IsRefusalAt (leaf_tree (kind_of kind) any_number) place reader.old e.reason) }
 {
     let value = reader.take(place, kind)?;
@@ -32,6 +33,7 @@ pub fn read_char(reader: &mut Reader<'_>, place: usize) -> Result<Value, Error>
     requires steady { IsSteady reader.old }
     ensures continues { OnOk result (Continues reader.old reader.new) }
     ensures read { IfOk result (λ value. ReadsAt char_tree place reader.old (datum_of value) reader.new) }
+    ensures whole { IfOk result (λ value. IsOfChar value) }
     ensures refused { IfErr result (λ e. IsRefusalAt char_tree place reader.old e.reason) }
 {
     let code = reader.take_code(place)?;
@@ -68,6 +70,7 @@ pub fn read_bytes(alloc: Global, reader: &mut Reader<'_>, place: usize) -> Resul
     requires steady { IsSteady reader.old }
     ensures continues { OnOk result (Continues reader.old reader.new) }
     ensures read { IfOk result (λ value. ReadsAt (seq_tree (natural_tree 1)) place reader.old (datum_of value) reader.new) }
+    ensures whole { IfOk result (λ value. IsOfBytes value) }
     ensures refused { IfErr result (λ e. IsRefusalAt (seq_tree (natural_tree 1)) place reader.old e.reason) }
 {
     let taken = reader.take_length(place)?;

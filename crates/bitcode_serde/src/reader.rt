@@ -3,11 +3,10 @@ ghost use Rattle.std.specs.Prelude.{◌≡◌, ◌≢◌, ◌<◌, ◌≤◌, �
 ghost use Rattle.bitcode_coder.specs.Spelling.{natural};
 ghost use Rattle.bitcode_coder.specs.Columns.{ints};
 ghost use Rattle.bitcode_untyped.specs.Population.{total, count_of};
-ghost use Rattle.bitcode_coder.specs.Coding.{IsReadingReason};
 ghost use Rattle.bitcode_untyped.specs.Machine.{State, start, whole};
 ghost use Rattle.bitcode_untyped.specs.View.{datum_of};
 ghost use Rattle.bitcode_untyped.specs.Walk.{Place, length_kind, index_kind};
-ghost use Rattle.bitcode_serde.specs.ReadColumns.{kind_of};
+ghost use Rattle.bitcode_serde.specs.ReadColumns.{kind_of, IsCaseOf, IsColumnReason};
 ghost use Rattle.bitcode_serde.specs.Reading.{step_of, IsStep, IsPlace, IsRooted, Hosts, places, place_at, counts, AreSized, Stands, IsReady, Prepares, NothingAt, Leads, LeadsTelling};
 ghost use Rattle.bitcode_serde.specs.ReadingValues.{IsSteady, Continues, field_at};
 
@@ -137,7 +136,7 @@ impl<'a> Reader<'a> {
         ensures found { IfOk result (λ i. IsReady self.new.columns.items place (kind_of kind) i) }
         ensures below { self.new.below ≡ self.old.below }
         ensures prepared { OnOk result ((a : State) → Stands self.old a → (m : State) × Stands self.new m × Prepares a (place_at (places self.old.below.items) place) (kind_of kind) m) }
-        ensures refused { IfErr result (λ e. IsReadingReason e.reason × (e.reason ≢ Reason.OutOfMemory → (a : State) → Stands self.old a → NothingAt a (place_at (places self.old.below.items) place) (kind_of kind))) }
+        ensures refused { IfErr result (λ e. IsColumnReason e.reason × (e.reason ≢ Reason.OutOfMemory → (a : State) → Stands self.old a → NothingAt a (place_at (places self.old.below.items) place) (kind_of kind))) }
     {
         match find(&self.columns, place) {
             Some(i) => {
@@ -163,7 +162,7 @@ impl<'a> Reader<'a> {
         ensures found { IfOk result (λ i. IsReady self.new.columns.items place (kind_of kind) i) }
         ensures below { self.new.below ≡ self.old.below }
         ensures prepared { OnOk result ((a : State) → Stands self.old a → (m : State) × Stands self.new m × Prepares a (place_at (places self.old.below.items) place) (kind_of kind) m) }
-        ensures refused { IfErr result (λ e. IsReadingReason e.reason × (e.reason ≢ Reason.OutOfMemory → (a : State) → Stands self.old a → NothingAt a (place_at (places self.old.below.items) place) (kind_of kind))) }
+        ensures refused { IfErr result (λ e. IsColumnReason e.reason × (e.reason ≢ Reason.OutOfMemory → (a : State) → Stands self.old a → NothingAt a (place_at (places self.old.below.items) place) (kind_of kind))) }
     {
         let count = self.count_at(place);
         if count == 0 {
@@ -227,8 +226,9 @@ impl<'a> Reader<'a> {
         requires sized { AreSized self.old.columns.items }
         ensures sized { OnOk result (AreSized self.new.columns.items) }
         ensures leads { IfOk result (λ value. Leads self.old (place_at (places self.old.below.items) place) (kind_of kind) (datum_of value) self.new) }
+        ensures of_case { IfOk result (λ value. IsCaseOf kind value) }
         ensures below { self.new.below ≡ self.old.below }
-        ensures refused { IfErr result (λ e. IsReadingReason e.reason × (e.reason ≢ Reason.OutOfMemory → (a : State) → Stands self.old a → NothingAt a (place_at (places self.old.below.items) place) (kind_of kind))) }
+        ensures refused { IfErr result (λ e. IsColumnReason e.reason × (e.reason ≢ Reason.OutOfMemory → (a : State) → Stands self.old a → NothingAt a (place_at (places self.old.below.items) place) (kind_of kind))) }
     {
         let i = self.ready(place, kind)?;
         let open = &mut self.columns[i];
@@ -247,7 +247,7 @@ impl<'a> Reader<'a> {
         ensures leads { IfOk result (λ taken. LeadsTelling self.old (place_at (places self.old.below.items) place) length_kind (natural taken.length) self.new
             (λ entries. taken.total ≡ total entries)) }
         ensures below { self.new.below ≡ self.old.below }
-        ensures refused { IfErr result (λ e. IsReadingReason e.reason × (e.reason ≢ Reason.OutOfMemory → (a : State) → Stands self.old a → NothingAt a (place_at (places self.old.below.items) place) length_kind)) }
+        ensures refused { IfErr result (λ e. IsColumnReason e.reason × (e.reason ≢ Reason.OutOfMemory → (a : State) → Stands self.old a → NothingAt a (place_at (places self.old.below.items) place) length_kind)) }
     {
         let i = self.ready(place, ColumnKind::Lengths)?;
         let open = &mut self.columns[i];
@@ -267,7 +267,7 @@ impl<'a> Reader<'a> {
         ensures leads { IfOk result (λ taken. LeadsTelling self.old (place_at (places self.old.below.items) place) index_kind (natural taken.index) self.new
             (λ entries. taken.count ≡ count_of taken.index entries)) }
         ensures below { self.new.below ≡ self.old.below }
-        ensures refused { IfErr result (λ e. IsReadingReason e.reason × (e.reason ≢ Reason.OutOfMemory → (a : State) → Stands self.old a → NothingAt a (place_at (places self.old.below.items) place) index_kind)) }
+        ensures refused { IfErr result (λ e. IsColumnReason e.reason × (e.reason ≢ Reason.OutOfMemory → (a : State) → Stands self.old a → NothingAt a (place_at (places self.old.below.items) place) index_kind)) }
     {
         let i = self.ready(place, ColumnKind::Bytes)?;
         let open = &mut self.columns[i];
@@ -286,7 +286,7 @@ impl<'a> Reader<'a> {
         ensures sized { OnOk result (AreSized self.new.columns.items) }
         ensures leads { IfOk result (λ code. Leads self.old (place_at (places self.old.below.items) place) (ints 4 false) (natural code) self.new) }
         ensures below { self.new.below ≡ self.old.below }
-        ensures refused { IfErr result (λ e. IsReadingReason e.reason × (e.reason ≢ Reason.OutOfMemory → (a : State) → Stands self.old a → NothingAt a (place_at (places self.old.below.items) place) (ints 4 false))) }
+        ensures refused { IfErr result (λ e. IsColumnReason e.reason × (e.reason ≢ Reason.OutOfMemory → (a : State) → Stands self.old a → NothingAt a (place_at (places self.old.below.items) place) (ints 4 false))) }
     {
         let i = self.ready(place, ColumnKind::U32)?;
         let open = &mut self.columns[i];

@@ -1,8 +1,10 @@
 // Values under a shape.
-ghost use Rattle.std.specs.Prelude.{◌≤◌, length, map, IfOk, IfErr, OnOk};
+ghost use Rattle.std.specs.Prelude.{◌≡◌, ◌≤◌, [], length, map, IfOk, IfErr, OnOk};
+ghost use Rattle.std.specs.List.{flat_map};
+ghost use Rattle.bitcode_untyped.specs.Faults.{faults_of};
 ghost use Rattle.bitcode_untyped.specs.ShapeTree.{option_tree, seq_tree, map_tree, tuple_tree, choice_tree};
 ghost use Rattle.bitcode_untyped.specs.View.{datum_of, tree_of_node, trees_of};
-ghost use Rattle.bitcode_serde.specs.ReadingValues.{IsSteady, Continues, ReadsAt, ReadsListAt, IsRefusalAt, IsListRefusalAt};
+ghost use Rattle.bitcode_serde.specs.ReadingValues.{IsSteady, Continues, ReadsAt, ReadsListAt, IsRefusalAt, IsListRefusalAt, IsOfOption, IsOfSeq, IsOfMap, IsOfTuple, IsOfEnum};
 
 use crate::column::ColumnKind;
 use crate::free::is_over_limit;
@@ -28,6 +30,7 @@ pub fn read(
     requires steady { IsSteady reader.old }
     ensures continues { OnOk result (Continues reader.old reader.new) }
     ensures read { IfOk result (λ value. ReadsAt (tree_of_node left table.now node.now) place reader.old (datum_of value) reader.new) }
+    ensures whole { IfOk result (λ value. faults_of table.now value left node.now ≡ []) }
     ensures refused { IfErr result (λ e. IsRefusalAt (tree_of_node left table.now node.now) place reader.old e.reason) }
 {
     match node {
@@ -77,6 +80,7 @@ fn read_option(
     requires steady { IsSteady reader.old }
     ensures continues { OnOk result (Continues reader.old reader.new) }
     ensures read { IfOk result (λ value. ReadsAt (option_tree (tree_of_node left table.now node.now)) place reader.old (datum_of value) reader.new) }
+    ensures whole { IfOk result (λ value. IsOfOption table.now left node.now value) }
     ensures refused { IfErr result (λ e. IsRefusalAt (option_tree (tree_of_node left table.now node.now)) place reader.old e.reason) }
 {
     let taken = reader.take_index(place)?;
@@ -105,6 +109,7 @@ fn read_seq(
     requires steady { IsSteady reader.old }
     ensures continues { OnOk result (Continues reader.old reader.new) }
     ensures read { IfOk result (λ value. ReadsAt (seq_tree (tree_of_node left table.now node.now)) place reader.old (datum_of value) reader.new) }
+    ensures whole { IfOk result (λ value. IsOfSeq table.now left node.now value) }
     ensures refused { IfErr result (λ e. IsRefusalAt (seq_tree (tree_of_node left table.now node.now)) place reader.old e.reason) }
 {
     let taken = reader.take_length(place)?;
@@ -131,6 +136,7 @@ fn read_elements(
     requires steady { IsSteady reader.old }
     ensures continues { OnOk result (Continues reader.old reader.new) }
     ensures read { IfOk result (λ values. ReadsListAt (tree_of_node left table.now node.now) place reader.old count (map datum_of values.items) reader.new) }
+    ensures whole { IfOk result (λ values. flat_map (λ value. faults_of table.now value left node.now) values.items ≡ []) }
     ensures refused { IfErr result (λ e. IsListRefusalAt (tree_of_node left table.now node.now) place reader.old count e.reason) }
 {
     let mut values = Vec::new(alloc);
@@ -155,6 +161,7 @@ fn read_tuple(
     requires steady { IsSteady reader.old }
     ensures continues { OnOk result (Continues reader.old reader.new) }
     ensures read { IfOk result (λ value. ReadsAt (tuple_tree (trees_of (map (tree_of_node left table.now) nodes.now))) place reader.old (datum_of value) reader.new) }
+    ensures whole { IfOk result (λ value. IsOfTuple table.now left nodes.now value) }
     ensures refused { IfErr result (λ e. IsRefusalAt (tuple_tree (trees_of (map (tree_of_node left table.now) nodes.now))) place reader.old e.reason) }
 {
     let mut values = Vec::new(alloc);
@@ -180,6 +187,7 @@ fn read_enum(
     requires steady { IsSteady reader.old }
     ensures continues { OnOk result (Continues reader.old reader.new) }
     ensures read { IfOk result (λ value. ReadsAt (choice_tree (trees_of (map (tree_of_node left table.now) nodes.now))) place reader.old (datum_of value) reader.new) }
+    ensures whole { IfOk result (λ value. IsOfEnum table.now left nodes.now value) }
     ensures refused { IfErr result (λ e. IsRefusalAt (choice_tree (trees_of (map (tree_of_node left table.now) nodes.now))) place reader.old e.reason) }
 {
     let taken = reader.take_index(place)?;
@@ -208,6 +216,7 @@ fn read_map(
     requires steady { IsSteady reader.old }
     ensures continues { OnOk result (Continues reader.old reader.new) }
     ensures read { IfOk result (λ made. ReadsAt (map_tree (tree_of_node left table.now key.now) (tree_of_node left table.now value.now)) place reader.old (datum_of made) reader.new) }
+    ensures whole { IfOk result (λ made. IsOfMap table.now left key.now value.now made) }
     ensures refused { IfErr result (λ e. IsRefusalAt (map_tree (tree_of_node left table.now key.now) (tree_of_node left table.now value.now)) place reader.old e.reason) }
 {
     let taken = reader.take_length(place)?;

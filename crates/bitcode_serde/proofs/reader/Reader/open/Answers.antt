@@ -2,10 +2,9 @@
 use Rattle.std.proofs.Common.{◌≢◌, refl, sym, arith, ap, length}
 use Rattle.std.proofs.lemmas.Result.{err_from_is_err_and}
 use Rattle.bitcode_input.specs.declared.error.Reason.TheVariants.{OutOfMemory}
-use Rattle.bitcode_coder.specs.Coding.{IsReadingReason}
 use Rattle.bitcode_untyped.specs.Machine.{State}
 use Rattle.bitcode_serde.specs.Reading.{places, place_at, Stands, NothingAt}
-use Rattle.bitcode_serde.specs.ReadColumns.{kind_of, left}
+use Rattle.bitcode_serde.specs.ReadColumns.{kind_of, left, IsColumnReason}
 use Rattle.bitcode_serde.proofs.ColumnLemmas.{passed_on, entries_are}
 use Rattle.bitcode_serde.proofs.ReadingLemmas.{refused_here, none_here, prepared_here, ready_pushed, sized_last}
 use Rattle.bitcode_serde.proofs.reader.Reader.open.Goals as goal
@@ -13,7 +12,7 @@ use Rattle.bitcode_serde.proofs.reader.Reader.open.Goals as goal
 pub returns-then-count-eq0-clause-refused : goal.returns-then-count-eq0-clause-refused
 returns-then-count-eq0-clause-refused c =
     let r = c.args.self.now in
-    passed_on (λ e. IsReadingReason e.reason × (e.reason ≢ OutOfMemory → (a : State) → Stands r a → NothingAt a (place_at (places r.below.items) c.args.place) (kind_of c.args.kind)))
+    passed_on (λ e. IsColumnReason e.reason × (e.reason ≢ OutOfMemory → (a : State) → Stands r a → NothingAt a (place_at (places r.below.items) c.args.place) (kind_of c.args.kind)))
     c.err.result _ _ c.err.ensures refl
     (tt, λ other. none_here r c.args.place c.requires.place c.requires.closed c.count_at-count.result c.count_at-count.ensures (kind_of c.args.kind) c.if-count-eq0.true)
 
@@ -21,7 +20,7 @@ pub returns-in_err-column-clause-refused : goal.returns-in_err-column-clause-ref
 returns-in_err-column-clause-refused c =
     let r = c.args.self.now in
     let y = err_from_is_err_and c.from_residual.result c.from_residual.ensures.1 in
-    passed_on (λ e. IsReadingReason e.reason × (e.reason ≢ OutOfMemory → (a : State) → Stands r a → NothingAt a (place_at (places r.below.items) c.args.place) (kind_of c.args.kind)))
+    passed_on (λ e. IsColumnReason e.reason × (e.reason ≢ OutOfMemory → (a : State) → Stands r a → NothingAt a (place_at (places r.below.items) c.args.place) (kind_of c.args.kind)))
     c.from_residual.result c.in_err-column.field-0.0 y.0 y.1 y.2
     (refused_here r c.args.place c.requires.place c.requires.closed c.count_at-count.result c.count_at-count.ensures (kind_of c.args.kind) c.in_err-column.field-0.0.reason
     c.in_err-column.ensures.refused)

@@ -1,7 +1,8 @@
 -- The machine takes the entry that the column gives.
-use Rattle.std.proofs.Common.{rules, arith, refl, ap, length, ◌-◌}
-use Rattle.bitcode_serde.specs.ReadColumns.{kind_of}
+use Rattle.std.proofs.Common.{rules, arith, refl, ap, subst, length, ◌-◌}
+use Rattle.bitcode_serde.specs.ReadColumns.{kind_of, kind_in_code, IsCaseOf}
 use Rattle.bitcode_untyped.specs.View.{datum_of}
+use Rattle.bitcode_serde.proofs.ColumnLemmas.{same_in_code}
 use Rattle.bitcode_serde.proofs.ReadingLemmas.{led, found_ready, ready_within, sized_at, sized_set}
 use Rattle.bitcode_serde.proofs.reader.Reader.take.Goals as goal
 
@@ -49,3 +50,9 @@ returns-clause-leads c =
       tallies = c.take.ensures.tallies;
     })
     c.in_ok-i.ensures.prepared
+
+pub returns-clause-of_case : goal.returns-clause-of_case
+returns-clause-of_case c =
+    let there = c.index_mut-open.result.now in
+    let h = found_ready c.ready.new.self.columns.items c.args.place c.in_ok-i.i (kind_of c.args.kind) there c.in_ok-i.ensures.found c.index_mut-open.ensures.value in
+    subst (λ k. IsCaseOf k c.in_ok-value.value) (same_in_code (kind_in_code there.column) c.args.kind h.0) c.in_ok-value.ensures.of_case
