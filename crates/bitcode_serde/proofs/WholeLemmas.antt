@@ -53,7 +53,7 @@ bounded shape bytes d h = (elements_are_bounded (tree_of shape) (sound_shape sha
 
 -- ---- the root
 
-root_there : (shape : Shape) (table : List ShapeNode) (root : ℕ) (n : ShapeNode) → table ≡ shape.table.items → root ≡ shape.root → n ≡ get_or table root n
+pub root_there : (shape : Shape) (table : List ShapeNode) (root : ℕ) (n : ShapeNode) → table ≡ shape.table.items → root ≡ shape.root → n ≡ get_or table root n
     → slice_get shape.table.items shape.root ≡ Some n
 root_there shape table root n t r is =
     let at : n ≡ get_or shape.table.items root n = subst (λ ns. n ≡ get_or ns root n) t is in
