@@ -18,3 +18,5 @@ pub mod WrittenLemmas
 pub mod WritingLemmas
 pub mod LeafEntryLemmas
 pub mod SerializeLemmas
+pub mod WalkLemmas
+pub mod WholeWritingLemmas

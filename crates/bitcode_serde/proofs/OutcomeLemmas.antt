@@ -16,3 +16,11 @@ told_ok P Q (Err e) f h = tt
 pub either_way : {A E : Type 0} (P : A → Type 0) (Q R : Type 0) (r : Result A E) → ((a : A) → P a → R) → (Q → R) → IfOk r P → OnErr r Q → R
 either_way P Q R (Ok a) f g h k = f a h
 either_way P Q R (Err e) f g h k = g k
+
+pub on_ok : {A E : Type 0} (P Q R : Type 0) (r : Result A E) → OnOk r P → OnOk r Q → (P → Q → R) → OnOk r R
+on_ok P Q R (Ok a) h g f = f h g
+on_ok P Q R (Err e) h g f = tt
+
+pub on_all : {A E : Type 0} (P : Type 0) (r : Result A E) → P → OnOk r P
+on_all P (Ok a) h = h
+on_all P (Err e) h = tt

@@ -73,6 +73,9 @@ places_from-front ps (b ∷ bs) i h =
     let l = length-append ps (below_place ps b ∷ []) in
     places_from-front (ps ++ below_place ps b ∷ []) bs i (omega (arith, h, l)) ∙ at_front ps (below_place ps b ∷ []) i h
 
+pub root_first : (bs : List Below) → place_at (places bs) 0 ≡ []
+root_first bs = places_from-front ([] ∷ []) bs 0 (omega arith)
+
 -- each place lies below one before it; so many are before the first
 abbrev LieFrom : ℕ → List Below → Type 0
 LieFrom n [] = Unit {0}
@@ -185,7 +188,7 @@ module _ (bs more : List Below) (b : Below) (is : more ≡ bs ++ b ∷ []) (lie 
     -- each place so far is another
     fresh : AreApart (places bs) → (j : ℕ) → j < length (places bs) → place_at (places bs) j ≡ below_place (places bs) b → ⊥
     fresh apart zero h e =
-        let root : place_at (places bs) 0 ≡ [] = places_from-front ([] ∷ []) bs 0 (omega arith) in
+        let root : place_at (places bs) 0 ≡ [] = root_first bs in
         let same : [] ≡ below_place (places bs) b = sym root ∙ e in cc
     fresh apart (suc k) h e =
         let l = places-length bs in

@@ -4,15 +4,17 @@ use Rattle.bitcode_input.specs.declared.error.Reason.{Reason}
 use Rattle.bitcode_input.specs.declared.error.Reason.TheVariants as reason
 use Rattle.bitcode_shapes.specs.Datum.{Datum}
 use Rattle.bitcode_untyped.specs.Bounds.{element_count}
+use Rattle.bitcode_untyped.specs.Content.{content_of, IsOnlyContent}
 use Rattle.bitcode_untyped.specs.Faults.{faults_of, value_faults}
 use Rattle.bitcode_untyped.specs.Machine.{State, start}
 use Rattle.bitcode_untyped.specs.PlacedColumns.{columns_of, entry_count}
 use Rattle.bitcode_untyped.specs.ShapeTree.{ShapeTree}
 use Rattle.bitcode_untyped.specs.Spelling.{SpellsDatum}
-use Rattle.bitcode_untyped.specs.View.{tree_of, tree_of_node, reference_limit}
+use Rattle.bitcode_untyped.specs.View.{datum_of, tree_of, tree_of_node, reference_limit}
 use Rattle.bitcode_untyped.specs.declared.shape.Shape.{Shape}
 use Rattle.bitcode_untyped.specs.declared.shape.ShapeNode.{ShapeNode}
 use Rattle.bitcode_untyped.specs.declared.value.Value.{Value}
+use Rattle.bitcode_untyped.proofs.ContentLemmas.{datum_decides}
 use Rattle.bitcode_untyped.proofs.FollowedLemmas.{root_tree}
 use Rattle.bitcode_untyped.proofs.LawLemmas.{spells_once, datum_takes_an_eighth, elements_are_bounded}
 use Rattle.bitcode_untyped.proofs.ReadLemmas.{whole_read, whole_stuck, whole_trailing}
@@ -51,7 +53,7 @@ bounded shape bytes d h = (elements_are_bounded (tree_of shape) (sound_shape sha
 
 -- ---- the root
 
-root_there : (shape : Shape) (table : List ShapeNode) (root : ℕ) (n : ShapeNode) → table ≡ shape.table.items → root ≡ shape.root → n ≡ get_or table root n
+pub root_there : (shape : Shape) (table : List ShapeNode) (root : ℕ) (n : ShapeNode) → table ≡ shape.table.items → root ≡ shape.root → n ≡ get_or table root n
     → slice_get shape.table.items shape.root ≡ Some n
 root_there shape table root n t r is =
     let at : n ≡ get_or shape.table.items root n = subst (λ ns. n ≡ get_or ns root n) t is in
@@ -69,3 +71,9 @@ pub root_whole : (shape : Shape) (table : List ShapeNode) (root : ℕ) (n : Shap
     → n ≡ get_or table root n → faults_of table v reference_limit n ≡ [] → value_faults shape v ≡ []
 root_whole shape table root n v t r is h =
     rw (root_there shape table root n t r is) (subst (λ ns. faults_of ns v reference_limit n ≡ []) t h)
+
+-- the datum of a value of the shape is that of no other
+pub only_value : (shape : Shape) (bytes : List ℕ) (value : Value) → SpellsDatum (tree_of shape) bytes (datum_of value) → value_faults shape value ≡ []
+    → IsOnlyContent shape (SpellsDatum (tree_of shape) bytes) (content_of value)
+only_value shape bytes value spells whole other h spelled =
+    datum_decides shape other value h whole (one_spelled (tree_of shape) bytes (datum_of other) (datum_of value) spelled spells)

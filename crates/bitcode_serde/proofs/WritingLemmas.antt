@@ -1,6 +1,6 @@
 -- What a writer's steps do to its places and columns.
 use Rattle.std.proofs.Common.{◌≡◌, ◌≢◌, ℕ, zero, suc, ◌+◌, ◌<◌, ◌≤◌, ◌⊎◌, inl, inr, List, [], ◌∷◌, ◌++◌, length, map, take, get_or, All, refl, ap, sym, subst, ◌∙◌, true, false, Some, slice_get, arith, length-append}
-use Rattle.std.specs.Prelude.{Bool, IsSomeAnd, Result, Ok, Err, OnOk, if◌then◌else◌}
+use Rattle.std.specs.Prelude.{Bool, IsSomeAnd, Result, Ok, Err, OnOk, IfOk, if◌then◌else◌}
 use Rattle.std.specs.List.{AllByRecursion}
 use Rattle.std.proofs.Math.ListN.{set}
 use Rattle.std.proofs.lemmas.Bool.{cases_Bool}
@@ -135,9 +135,3 @@ pub memory_there : (ps : List Place) (cs : List PlacedWritten) (n i : ℕ) (kind
 memory_there ps cs n i kind c reason here is (inl m) root of_shape has = m
 memory_there ps cs n i kind c reason here is (inr clash) root of_shape has =
     absurd (clash (one_kind root [] (place_at ps n) kind (kind_of_written c.column) has (kind_there ps cs n i c root of_shape here is)))
-
--- ---- what a call that may fail leaves
-
-pub on_ok : {A E : Type 0} (P Q R : Type 0) (r : Result A E) → OnOk r P → OnOk r Q → (P → Q → R) → OnOk r R
-on_ok P Q R (Ok a) h g f = f h g
-on_ok P Q R (Err e) h g f = tt

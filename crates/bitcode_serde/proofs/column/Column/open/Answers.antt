@@ -18,8 +18,10 @@ returns-in_err-read-in-Bools-clause-refused c =
 pub returns-in_err-read_indices-in-Bytes-clause-refused : goal.returns-in_err-read_indices-in-Bytes-clause-refused
 returns-in_err-read_indices-in-Bytes-clause-refused c =
     let y = err_from_is_err_and c.from_residual-in_err-read_indices-in-Bytes.result c.from_residual-in_err-read_indices-in-Bytes.ensures.1 in
-    rw c.in-Bytes.is (passed_on (λ e. IsColumnRefusal (ints 1 false) e.reason c.args.count c.args.input.now.now) c.from_residual-in_err-read_indices-in-Bytes.result c.in_err-read_indices-in-Bytes.field-0.0 y.0 y.1 y.2
-    (ints_column_refused 1 false width_1 c.in_err-read_indices-in-Bytes.field-0.0.reason c.args.count c.args.input.now.now c.in_err-read_indices-in-Bytes.ensures.exact c.in_err-read_indices-in-Bytes.ensures.refused))
+    rw c.in-Bytes.is (passed_on (λ e. IsColumnRefusal (ints 1 false) e.reason c.args.count c.args.input.now.now) c.from_residual-in_err-read_indices-in-Bytes.result
+    c.in_err-read_indices-in-Bytes.field-0.0 y.0 y.1 y.2
+    (ints_column_refused 1 false width_1 c.in_err-read_indices-in-Bytes.field-0.0.reason c.args.count c.args.input.now.now c.in_err-read_indices-in-Bytes.ensures.exact
+    c.in_err-read_indices-in-Bytes.ensures.refused))
 
 pub returns-in_err-read-in-U16-clause-refused : goal.returns-in_err-read-in-U16-clause-refused
 returns-in_err-read-in-U16-clause-refused c =
@@ -78,7 +80,8 @@ returns-in_err-read-in-I128-clause-refused c =
 pub returns-in_err-read_lengths-in-Lengths-clause-refused : goal.returns-in_err-read_lengths-in-Lengths-clause-refused
 returns-in_err-read_lengths-in-Lengths-clause-refused c =
     let y = err_from_is_err_and c.from_residual-in_err-read_lengths-in-Lengths.result c.from_residual-in_err-read_lengths-in-Lengths.ensures.1 in
-    rw c.in-Lengths.is (passed_on (λ e. IsColumnRefusal (lengths None) e.reason c.args.count c.args.input.now.now) c.from_residual-in_err-read_lengths-in-Lengths.result c.in_err-read_lengths-in-Lengths.field-0.0 y.0 y.1 y.2
+    rw c.in-Lengths.is (passed_on (λ e. IsColumnRefusal (lengths None) e.reason c.args.count c.args.input.now.now) c.from_residual-in_err-read_lengths-in-Lengths.result
+    c.in_err-read_lengths-in-Lengths.field-0.0 y.0 y.1 y.2
     (lengths_column_refused c.in_err-read_lengths-in-Lengths.field-0.0.reason c.args.count c.args.input.now.now c.in_err-read_lengths-in-Lengths.ensures.refused))
 
 pub returns-in_err-read-in-Texts-clause-refused : goal.returns-in_err-read-in-Texts-clause-refused
@@ -137,4 +140,5 @@ returns-in_ok-read_lengths-in-Lengths-clause-read c =
 
 pub returns-in_ok-new-in-Bytes-clause-read : goal.returns-in_ok-new-in-Bytes-clause-read
 returns-in_ok-new-in-Bytes-clause-read c =
-    rw (c.in-Bytes.is, c.in_ok-new-in-Bytes.ensures.ok) (column_read (ints 1 false) (int_shape 1 false) c.args.count c.args.input.now.now _ _ c.in_ok-read_indices-in-Bytes.ensures.read (λ piece s. s.columns))
+    rw (c.in-Bytes.is, c.in_ok-new-in-Bytes.ensures.ok) (column_read (ints 1 false) (int_shape 1 false) c.args.count c.args.input.now.now _ _
+    c.in_ok-read_indices-in-Bytes.ensures.read (λ piece s. s.columns))

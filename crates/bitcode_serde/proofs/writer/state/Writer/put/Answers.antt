@@ -4,8 +4,8 @@ use Rattle.bitcode_serde.specs.Places.{places}
 use Rattle.bitcode_serde.specs.Writing.{placed}
 use Rattle.bitcode_serde.specs.WrittenColumns.{kind_of_entry, datum_of_entry}
 use Rattle.bitcode_serde.proofs.FiledLemmas.{filed_set}
-use Rattle.bitcode_serde.proofs.OutcomeLemmas.{when_ok}
-use Rattle.bitcode_serde.proofs.WritingLemmas.{put_there, put_behind, memory_there, within_set, on_ok}
+use Rattle.bitcode_serde.proofs.OutcomeLemmas.{when_ok, on_ok}
+use Rattle.bitcode_serde.proofs.WritingLemmas.{put_there, put_behind, memory_there, within_set}
 use Rattle.bitcode_serde.proofs.WrittenLemmas.{if_err}
 use Rattle.bitcode_serde.proofs.writer.state.Writer.put.Goals as goal
 
