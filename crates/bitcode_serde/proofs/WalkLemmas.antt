@@ -15,7 +15,7 @@ use Rattle.bitcode_coder.specs.Spelling.{natural}
 use Rattle.bitcode_untyped.specs.Faults.{Judge, faults_of_fields, faults_of}
 use Rattle.bitcode_untyped.specs.Growing.{put}
 use Rattle.bitcode_untyped.specs.PlaceKinds.{HasKindFrom, HasKindAt}
-use Rattle.bitcode_untyped.specs.ShapeTree.{ShapeTree, ShapeTrees, no_trees, tree_and, map_tree, tuple_tree, choice_tree, IsOf, AreOf, IsOfVariant, IsPair}
+use Rattle.bitcode_untyped.specs.ShapeTree.{ShapeTree, leaf_tree, ShapeTrees, no_trees, tree_and, map_tree, tuple_tree, choice_tree, IsOf, AreOf, IsOfVariant, IsPair}
 use Rattle.bitcode_untyped.specs.View.{datum_of, followed, tree_of_node, trees_of}
 use Rattle.bitcode_untyped.specs.Walk.{key, value, variant, Place, Use, use_at, length_kind, index_kind, field_place, walk, walk_fields, walk_variant}
 use Rattle.bitcode_untyped.specs.declared.shape.ShapeNode.{ShapeNode}
@@ -27,11 +27,11 @@ use Rattle.bitcode_untyped.proofs.FollowedLemmas.{followed_one, entry_there}
 use Rattle.bitcode_untyped.proofs.KindLemmas.{kinded}
 use Rattle.bitcode_untyped.proofs.ViewLemmas.{tree-Ref}
 use Rattle.bitcode_serde.specs.ReadingValues.{field_at}
-use Rattle.bitcode_serde.specs.Serializing.{Outcome, IsVariant}
+use Rattle.bitcode_serde.specs.Serializing.{Outcome, IsEntryAt, IsVariant}
 use Rattle.bitcode_serde.specs.Writing.{written, place_in, Grows, Writes, AreOfShape, IsAmong, RefusesAt}
 use Rattle.bitcode_serde.specs.declared.writer.state.Writer.{Writer}
 use Rattle.bitcode_serde.proofs.FieldLemmas.{field_of}
-use Rattle.bitcode_serde.proofs.SerializeLemmas.{grows_same, grows_then, kept, writes_put, writes_none, writes_then, refuses_use, refuses_inside, among_front, among_back, listed, each_map}
+use Rattle.bitcode_serde.proofs.SerializeLemmas.{grows_same, grows_then, kept, writes_put, writes_none, writes_then, refuses_use, refuses_inside, among_front, among_back, listed, each_map, same_outcome}
 
 -- ---- the entry at a number
 
@@ -133,6 +133,16 @@ use_outcome old new tree n d entry kind (Ok a) walked has of below more refused 
 }
 use_outcome old new tree n d entry kind (Err e) walked has of below more refused =
     record { written = tt; of_tree = tt; whole = tt; refused = refuses_use old tree n [] e.reason (place_in old n) kind refused has }
+
+-- the entry that a leaf is
+pub leaf_outcome : {A : Type 0} (old new : Writer) (n : ℕ) (nd : ShapeNode) (v : Value) (kind : Kind) (d : Datum) (r : Result A Error) → IsEntryAt nd v kind d
+    → OnOk r (new.below ≡ old.below) → OnOk r (written new ≡ put (use_at (place_in old n) kind d) (written old))
+    → IfErr r (λ e. (root : ShapeTree) → AreOfShape root (written old) → HasKindFrom root [] (place_in old n) kind → e.reason ≡ OutOfMemory)
+    → (table : List ShapeNode) (left : ℕ) → Outcome old (tree_of_node left table nd) n (datum_of v) (faults_of table v left nd) r new
+leaf_outcome old new n nd v kind d r entry below more refused table left =
+    same_outcome old (tree_of_node left table nd) (leaf_tree kind entry.allowed) n (datum_of v) d (faults_of table v left nd) [] r new
+    (entry.tree (followed left table)) entry.datum (entry.whole table left)
+    (use_outcome old new (leaf_tree kind entry.allowed) n d d kind r refl (refl, refl) entry.of_tree below more refused)
 
 -- ---- references
 

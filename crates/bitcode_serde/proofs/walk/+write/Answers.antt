@@ -7,18 +7,17 @@ use Rattle.bitcode_input.specs.declared.error.Reason.TheVariants.{NotOfTheShape}
 use Rattle.bitcode_shapes.specs.Datum.{unit}
 use Rattle.bitcode_coder.specs.Spelling.{natural}
 use Rattle.bitcode_untyped.specs.Faults.{faults_of}
-use Rattle.bitcode_untyped.specs.ShapeTree.{unit_tree, leaf_tree, seq_tree, map_tree, tuple_tree, choice_tree, no_trees, tree_and, IsOf}
+use Rattle.bitcode_untyped.specs.ShapeTree.{unit_tree, seq_tree, map_tree, tuple_tree, choice_tree, no_trees, tree_and, IsOf}
 use Rattle.bitcode_untyped.specs.View.{datum_of, followed, tree_of_node, trees_of}
 use Rattle.bitcode_untyped.specs.Walk.{element, key, variant, length_kind, index_kind, use_at, walk}
 use Rattle.bitcode_untyped.proofs.FaultLemmas.{faults-Unit, faults-Bytes, faults-None, faults-Some, faults-Seq, faults-Map, faults-Tuple, faults-Enum}
 use Rattle.bitcode_untyped.proofs.MismatchLemmas.{other-Unit, other-Bytes, other-Option, other-Seq, other-Map, other-Tuple, other-Enum}
 use Rattle.bitcode_untyped.proofs.ViewLemmas.{tree-Unit, tree-Bytes, tree-Option, tree-Seq, tree-Map, tree-Tuple, tree-Enum, datum-Unit, datum-Bytes, datum-None, datum-Some, datum-Seq, datum-Map, datum-Tuple, datum-Enum}
-use Rattle.bitcode_serde.specs.WrittenColumns.{kind_of_entry, datum_of_entry}
 use Rattle.bitcode_serde.specs.Writing.{place_in}
 use Rattle.bitcode_serde.proofs.DepthLemmas.{entry_deep, reference_falls}
 use Rattle.bitcode_serde.proofs.EntryLemmas.{found_entry, no_entry}
 use Rattle.bitcode_serde.proofs.SerializeLemmas.{grows_same, writes_none, refuses_use, among_front, among_back, begun, list_done, list_is, list_refused, refused_outcome, written_outcome, same_outcome, one_fault}
-use Rattle.bitcode_serde.proofs.WalkLemmas.{among_entry, each_none, each_more, each_all, written_there, use_outcome, reference_there, faults_there, faults_nowhere, variant_there, variant_outcome, both_begun, pair_there, key_refused, value_refused, map_done, map_is, uneven_fault, fields_none, field_more, field_refused, fields_done}
+use Rattle.bitcode_serde.proofs.WalkLemmas.{leaf_outcome, among_entry, each_none, each_more, each_all, written_there, use_outcome, reference_there, faults_there, faults_nowhere, variant_there, variant_outcome, both_begun, pair_there, key_refused, value_refused, map_done, map_is, uneven_fault, fields_none, field_more, field_refused, fields_done}
 use Rattle.bitcode_serde.proofs.walk.+write.Goals as goal
 
 pub write-returns-in-Unit-value : goal.write-returns-in-Unit-value
@@ -97,10 +96,8 @@ write-returns-in-Enum-value t c =
 
 pub write-returns-in_ok-leaf_entry-in_default : goal.write-returns-in_ok-leaf_entry-in_default
 write-returns-in_ok-leaf_entry-in_default t c =
-    let entry = c.in_ok-leaf_entry-in_default.ensures.entry in
-    same_outcome c.args.writer.now _ (leaf_tree (kind_of_entry c.in_ok-leaf_entry-in_default.field-0) entry.allowed) c.args.place _ (datum_of_entry c.in_ok-leaf_entry-in_default.field-0) _ [] c.put-in_default.result c.put-in_default.new.self
-    (entry.tree (followed c.args.left c.args.table.now)) entry.datum (entry.whole c.args.table.now c.args.left)
-    (use_outcome c.args.writer.now c.put-in_default.new.self _ c.args.place _ _ _ c.put-in_default.result refl (refl, refl) entry.of_tree c.put-in_default.ensures.below c.put-in_default.ensures.written c.put-in_default.ensures.refused)
+    leaf_outcome c.args.writer.now c.put-in_default.new.self c.args.place c.args.node.now c.args.value.now _ _ c.put-in_default.result c.in_ok-leaf_entry-in_default.ensures.entry
+    c.put-in_default.ensures.below c.put-in_default.ensures.written c.put-in_default.ensures.refused c.args.table.now c.args.left
 
 pub write_enum-write_variant-requires : goal.write_enum-write_variant-requires
 write_enum-write_variant-requires t c =
@@ -152,6 +149,9 @@ write_variant-returns t c =
     let b = begun c.args.writer.now c.put.new.self c.below.new.self c.args.place c.in_ok-inside.inside (use_at (place_in c.args.writer.now c.args.place) index_kind (natural c.args.index)) (variant c.args.index)
     c.in_ok-put.ensures.below c.in_ok-put.ensures.written c.in_ok-inside.ensures.place c.in_ok-inside.ensures.grows c.in_ok-inside.ensures.written in
     variant_outcome c.args.writer.now c.below.new.self c.write.new.writer trees (tree_of_node c.args.left c.args.table.now c.args.node.now) c.args.index c.args.place c.in_ok-inside.inside (datum_of c.args.value.now) _ c.write.result is small b.0 b.1 c.write.ensures
+
+pub write_seq-returns-then-is_leaf : goal.write_seq-returns-then-is_leaf
+write_seq-returns-then-is_leaf t c = c.write_leaves.ensures c.args.table.now c.args.left
 
 pub write_seq-returns-in_err-put : goal.write_seq-returns-in_err-put
 write_seq-returns-in_err-put t c =
