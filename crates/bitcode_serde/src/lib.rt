@@ -8,10 +8,11 @@ pub mod free;
 pub mod leaf;
 pub mod reader;
 pub mod serde;
-mod serialize;
+pub mod serialize;
 #[cfg(test)]
 mod tests;
 pub mod values;
+mod walk;
 pub mod writer;
 #[cfg(test)]
 mod writing_tests;

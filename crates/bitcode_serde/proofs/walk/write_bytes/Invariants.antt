@@ -4,7 +4,7 @@ use Rattle.bitcode_coder.specs.Columns.{ints}
 use Rattle.bitcode_coder.specs.Spelling.{natural}
 use Rattle.bitcode_untyped.specs.Walk.{use_at}
 use Rattle.bitcode_serde.specs.Writing.{place_in, Writes}
-use Rattle.bitcode_serde.proofs.serialize.write_bytes.Given as goal
+use Rattle.bitcode_serde.proofs.walk.write_bytes.Given as goal
 
 abbrev pub invariant-loop-byte : goal.invariant-loop-byte
 invariant-loop-byte l =

@@ -7,7 +7,7 @@ use Rattle.bitcode_untyped.specs.ShapeTree.{natural_tree, seq_tree}
 use Rattle.bitcode_untyped.specs.Walk.{element, length_kind, use_at, walk}
 use Rattle.bitcode_serde.specs.Writing.{place_in}
 use Rattle.bitcode_serde.proofs.SerializeLemmas.{begun, grown, list_done, list_refused, refuses_use, writes_put, refused_outcome, written_outcome}
-use Rattle.bitcode_serde.proofs.serialize.write_bytes.Goals as goal
+use Rattle.bitcode_serde.proofs.walk.write_bytes.Goals as goal
 
 pub returns-in_err-put : goal.returns-in_err-put
 returns-in_err-put c =
