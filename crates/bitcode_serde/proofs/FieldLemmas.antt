@@ -43,7 +43,7 @@ module _ (f : ShapeNode → ShapeTree) where
   trees_after [] = refl
   trees_after (n ∷ ns) = trees_after ns
 
-  field_of : (ns : List ShapeNode) (p : Place) (i : ℕ) → field_place (trees_of (map f ns)) p i ≡ field_at (length ns) p i
+  pub field_of : (ns : List ShapeNode) (p : Place) (i : ℕ) → field_place (trees_of (map f ns)) p i ≡ field_at (length ns) p i
   field_of [] p i = refl
   field_of (n ∷ []) p i = refl
   field_of (n ∷ m ∷ ns) p i = refl

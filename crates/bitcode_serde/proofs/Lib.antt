@@ -7,8 +7,9 @@ pub mod DepthLemmas
 pub mod FreeLemmas
 pub mod EntryLemmas
 pub mod FieldLemmas
-pub mod WholeLemmas
 pub mod WrittenLemmas
 pub mod WritingLemmas
 pub mod LeafEntryLemmas
 pub mod SerializeLemmas
+pub mod WalkLemmas
+pub mod WholeLemmas

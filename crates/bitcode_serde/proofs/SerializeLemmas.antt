@@ -14,7 +14,7 @@ use Rattle.bitcode_coder.specs.Columns.{Kind}
 use Rattle.bitcode_untyped.specs.Growing.{put, put_all}
 use Rattle.bitcode_untyped.specs.PlaceKinds.{HasKindFrom}
 use Rattle.bitcode_untyped.specs.PlacedColumns.{same_place, PlacedColumn}
-use Rattle.bitcode_untyped.specs.ShapeTree.{ShapeTree, seq_tree}
+use Rattle.bitcode_untyped.specs.ShapeTree.{ShapeTree, seq_tree, IsOf}
 use Rattle.bitcode_untyped.specs.Walk.{Step, element, Place, Use, use_at, length_kind, walk}
 use Rattle.bitcode_untyped.proofs.KindLemmas.{kinded}
 use Rattle.std.proofs.lemmas.List.{length-map}
@@ -122,6 +122,10 @@ pub listed : (ds : List Datum) → list_of (data_of ds) ≡ ds
 listed [] = refl
 listed (d ∷ ds) = ap (λ xs. d ∷ xs) (listed ds)
 
+pub each_map : {A B : Type 0} (P : B → Type 0) (f : A → B) (xs : List A) → AllByRecursion (λ x. P (f x)) xs → AllByRecursion P (map f xs)
+each_map P f [] h = tt
+each_map P f (x ∷ xs) h = (h.0, each_map P f xs h.1)
+
 -- one element more, of those that were taken so far
 pub one_more : {A B : Type 0} (f : A → List B) (xs : List A) (i : ℕ) (x default : A) → i < length xs → x ≡ get_or xs i default
     → flat_map f (take (i + 1) xs) ≡ flat_map f (take i xs) ++ f x
@@ -173,6 +177,11 @@ module _ {A : Type 0} (s : ShapeTree) (datum : A → Datum) (xs : List A) where
       subst (λ w. Writes old w now) (sym (list_walk p))
       (subst (λ q. Writes old (use_at p length_kind (natural (length xs)) ∷ flat_map (λ x. walk s q (datum x)) xs) now) at all)
 
+  pub list_is : AllByRecursion (λ x. IsOf s (datum x)) xs → IsOf (seq_tree s) (list (data_of (map datum xs)))
+  list_is each =
+      let e : list_of (data_of (map datum xs)) ≡ map datum xs = listed (map datum xs) in
+      (sym (ap (λ ds. list (data_of ds)) e), subst (AllByRecursion (IsOf s)) (sym e) (each_map (IsOf s) datum xs each))
+
   pub list_kinds : (p : Place) (k i : ℕ)
       → AllByRecursion (λ u. HasKindFrom (seq_tree s) p u.place u.kind) (use_at p length_kind (natural k) ∷ flat_map (λ x. walk s (element ∷ p) (datum x)) (take i xs))
   list_kinds p k i = (
@@ -198,11 +207,11 @@ module _ {A : Type 0} (s : ShapeTree) (datum : A → Datum) (xs : List A) where
 pub refused_outcome : {A : Type 0} (old : Writer) (tree : ShapeTree) (n : ℕ) (d : Datum) (faults : List Reason) (r : Result A Error) (new : Writer) (e y : Error) → r ≡ Err y → y ≡ e
     → RefusesAt old tree n faults e.reason → Outcome old tree n d faults r new
 refused_outcome old tree n d faults r new e y h g k =
-    rw (h, g) (record { written = tt; whole = tt; refused = k })
+    rw (h, g) (record { written = tt; of_tree = tt; whole = tt; refused = k })
 
 pub written_outcome : {A : Type 0} (old : Writer) (tree : ShapeTree) (n : ℕ) (d : Datum) (faults : List Reason) (a : A) (new : Writer)
-    → Writes old (walk tree (place_in old n) d) new → faults ≡ [] → Outcome old tree n d faults (Ok a) new
-written_outcome old tree n d faults a new w e = record { written = w; whole = e; refused = tt }
+    → Writes old (walk tree (place_in old n) d) new → IsOf tree d → faults ≡ [] → Outcome old tree n d faults (Ok a) new
+written_outcome old tree n d faults a new w of e = record { written = w; of_tree = of; whole = e; refused = tt }
 
 -- the same outcome, told otherwise
 pub same_outcome : {A : Type 0} (old : Writer) (tree other : ShapeTree) (n : ℕ) (d e : Datum) (faults reasons : List Reason) (r : Result A Error) (new : Writer)
@@ -213,4 +222,4 @@ same_outcome old tree other n d e faults reasons r new t k f h = rw (t, k, f) h
 pub one_fault : {A : Type 0} (old : Writer) (tree : ShapeTree) (n : ℕ) (d : Datum) (faults : List Reason) (reason : Reason) (r : Result A Error) (e : Error) (new : Writer)
     → r ≡ Err e → e.reason ≡ reason → faults ≡ reason ∷ [] → Outcome old tree n d faults r new
 one_fault old tree n d faults reason r e new h g f =
-    rw (h, f) (record { written = tt; whole = tt; refused = λ root of_shape part. inr (inl g) })
+    rw (h, f) (record { written = tt; of_tree = tt; whole = tt; refused = λ root of_shape part. inr (inl g) })

@@ -1,6 +1,6 @@
 -- What a writer's steps do to its places and columns.
 use Rattle.std.proofs.Common.{◌≡◌, ◌≢◌, ℕ, zero, suc, ◌+◌, ◌<◌, ◌≤◌, ◌⊎◌, inl, inr, List, [], ◌∷◌, ◌++◌, length, map, take, get_or, All, refl, ap, sym, subst, ◌∙◌, true, false, Some, slice_get, arith, length-append}
-use Rattle.std.specs.Prelude.{Bool, IsSomeAnd, Result, Ok, Err, OnOk, if◌then◌else◌}
+use Rattle.std.specs.Prelude.{Bool, IsSomeAnd, Result, Ok, Err, OnOk, IfOk, if◌then◌else◌}
 use Rattle.std.specs.List.{AllByRecursion}
 use Rattle.std.proofs.Math.ListN.{set}
 use Rattle.std.proofs.lemmas.Bool.{cases_Bool}
@@ -156,7 +156,7 @@ fresh_from n full (b ∷ bs) above s stand below apart size inside away i low hi
     at_or_behind (suc n) zero h = absurd (omega (arith, h))
     at_or_behind (suc n) (suc i) h = elim (at_or_behind n i (omega (arith, h))) [ inl e ↦ inl (ap (λ k. suc k) e) | inr g ↦ inr (omega (arith, g)) ]
 
-root_first : (bs : List WrittenPlace) → place_at (met bs) 0 ≡ []
+pub root_first : (bs : List WrittenPlace) → place_at (met bs) 0 ≡ []
 root_first bs = met_front ([] ∷ []) bs 0 (omega arith)
 
 pub fresh_place : (bs : List WrittenPlace) (above : ℕ) (s : CodeStep) → LieBelow bs → AreApart (met bs) → above ≤ length bs
@@ -308,3 +308,11 @@ either_way P b more grown same e h g =
 pub on_ok : {A E : Type 0} (P Q R : Type 0) (r : Result A E) → OnOk r P → OnOk r Q → (P → Q → R) → OnOk r R
 on_ok P Q R (Ok a) h g f = f h g
 on_ok P Q R (Err e) h g f = tt
+
+pub on_all : {A E : Type 0} (P : Type 0) (r : Result A E) → P → OnOk r P
+on_all P (Ok a) h = h
+on_all P (Err e) h = tt
+
+pub if_ok : {A E : Type 0} (P Q : A → Type 0) (r : Result A E) → ((a : A) → P a → Q a) → IfOk r P → IfOk r Q
+if_ok P Q (Ok a) f h = f a h
+if_ok P Q (Err e) f h = tt

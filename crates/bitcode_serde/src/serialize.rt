@@ -1,7 +1,10 @@
 // A value to bytes of the second format.
 ghost use Rattle.std.specs.Prelude.{◌≡◌, [], IfOk, IfErr, OnOk};
+ghost use Rattle.bitcode_untyped.specs.Bounds.{IsLimited};
 ghost use Rattle.bitcode_untyped.specs.Faults.{value_faults};
-ghost use Rattle.bitcode_untyped.specs.Spelling.{datum_text};
+ghost use Rattle.bitcode_untyped.specs.Laws.{LengthsBelowLimit};
+ghost use Rattle.bitcode_untyped.specs.ShapeTree.{IsOf};
+ghost use Rattle.bitcode_untyped.specs.Spelling.{datum_text, SpellsDatum};
 ghost use Rattle.bitcode_untyped.specs.View.{datum_of, tree_of};
 ghost use Rattle.bitcode_serde.specs.Writing.{IsWriterReason};
 
@@ -25,7 +28,10 @@ use std::alloc::Global;
 /// ```
 pub fn serialize(alloc: Global, shape: &Shape, value: &Value) -> Result<Vec<u8>, Error>
     ensures written { IfOk result (λ bytes. bytes.items ≡ datum_text (tree_of shape.now) (datum_of value.now)) }
+    ensures of_shape { OnOk result (IsOf (tree_of shape.now) (datum_of value.now)) }
     ensures whole { OnOk result (value_faults shape.now value.now ≡ []) }
+    ensures back { IfOk result (λ bytes. IsLimited (tree_of shape.now) (datum_of value.now) → LengthsBelowLimit (tree_of shape.now) (datum_of value.now)
+        → SpellsDatum (tree_of shape.now) bytes.items (datum_of value.now)) }
     ensures refused { IfErr result (λ e. IsWriterReason e.reason (value_faults shape.now value.now)) }
 {
     let mut writer = Writer::new(alloc);

@@ -49,10 +49,10 @@ pub fn write(
             _ => err(Reason::NotOfTheShape),
         },
         ShapeNode::Option(some) => match value {
-            Value::Option(None) => writer.put(place, Entry::Byte(0)),
-            Value::Option(Some(inside)) => write_variant(
-                writer, table, some, 1, inside, left, place,
-            ),
+            Value::Option(inside) => match inside {
+                None => writer.put(place, Entry::Byte(0)),
+                Some(inside) => write_variant(writer, table, some, 1, inside, left, place),
+            },
             _ => err(Reason::NotOfTheShape),
         },
         ShapeNode::Seq(element) => match value {

@@ -6,7 +6,8 @@ use Rattle.bitcode_coder.specs.Spelling.{natural}
 use Rattle.bitcode_untyped.specs.ShapeTree.{natural_tree, seq_tree}
 use Rattle.bitcode_untyped.specs.Walk.{element, length_kind, use_at, walk}
 use Rattle.bitcode_serde.specs.Writing.{place_in}
-use Rattle.bitcode_serde.proofs.SerializeLemmas.{begun, grown, list_done, list_refused, refuses_use, writes_put, refused_outcome, written_outcome}
+use Rattle.bitcode_serde.proofs.LeafEntryLemmas.{bytes_are}
+use Rattle.bitcode_serde.proofs.SerializeLemmas.{begun, grown, list_done, list_is, list_refused, refuses_use, writes_put, refused_outcome, written_outcome}
 use Rattle.bitcode_serde.proofs.walk.write_bytes.Goals as goal
 
 pub returns-in_err-put : goal.returns-in_err-put
@@ -47,4 +48,4 @@ returns c =
     c.in_ok-put.ensures.below c.in_ok-put.ensures.written c.in_ok-element.ensures.place c.in_ok-element.ensures.grows c.in_ok-element.ensures.written in
     written_outcome old (seq_tree (natural_tree 1)) c.args.place _ [] tt c.loop-byte.writer
     (list_done (natural_tree 1) natural c.args.bytes.now old start c.loop-byte.writer c.args.place m c.loop-byte.byte-index b.0 b.1 c.loop-byte-test.false c.loop-byte.auto.byte-index-end
-    c.loop-byte.invariant.1) refl
+    c.loop-byte.invariant.1) (list_is (natural_tree 1) natural c.args.bytes.now (bytes_are c.args.bytes.now (λ i. (c.type_inv.bytes i).fits))) refl
