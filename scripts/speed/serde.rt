@@ -3,6 +3,8 @@
 // Each line compares two values of one kind by the time that they take within this run.
 #![tactic(auto)]
 
+ghost use Rattle.std.specs.Prelude.{◌<◌, ◌≤◌};
+
 use anyhow::Result;
 use bitcode::{Shape, ShapeNode, Value, deserialize, serialize};
 use std::alloc::Global;
@@ -80,7 +82,7 @@ fn list(alloc: Global, element: ShapeNode, elements: Vec<Value>) -> Result<Case>
 fn numbers(alloc: Global, count: usize) -> Result<Case> {
     let mut elements = Vec::new(alloc);
     for i in 0..count {
-        elements.push(Value::U32(i as u32))?;
+        elements.push(Value::U32((i % 100_000) as u32))?;
     }
     list(alloc, ShapeNode::U32, elements)
 }
@@ -137,7 +139,7 @@ fn lists(alloc: Global, count: usize) -> Result<Case> {
     for i in 0..count / 8 {
         let mut numbers = Vec::new(alloc);
         for j in 0..8usize {
-            numbers.push(Value::U16((i % 1000 + j) as u16))?;
+            numbers.push(Value::U16(((i + j) % 1000) as u16))?;
         }
         elements.push(Value::Seq(numbers))?;
     }
@@ -146,12 +148,14 @@ fn lists(alloc: Global, count: usize) -> Result<Case> {
 }
 
 /// So many numbers, in records of so many fields.
-fn records(alloc: Global, count: usize, fields: usize) -> Result<Case> {
+fn records(alloc: Global, count: usize, fields: usize) -> Result<Case>
+    requires { 0 < fields }
+{
     let mut elements = Vec::new(alloc);
     for i in 0..count / fields {
         let mut record = Vec::new(alloc);
         for j in 0..fields {
-            record.push(Value::U16((i % 1000 + j) as u16))?;
+            record.push(Value::U16(((i + j) % 1000) as u16))?;
         }
         elements.push(Value::Tuple(record))?;
     }
@@ -163,7 +167,10 @@ fn records(alloc: Global, count: usize, fields: usize) -> Result<Case> {
 }
 
 /// So many numbers, each in one of so many variants, in turn.
-fn variants(alloc: Global, count: usize, kinds: usize) -> Result<Case> {
+fn variants(alloc: Global, count: usize, kinds: usize) -> Result<Case>
+    requires kinds { 0 < kinds }
+    requires at_most { kinds ≤ 256 }
+{
     let mut elements = Vec::new(alloc);
     for i in 0..count {
         let number = Value::U16((i % 1000) as u16);
@@ -176,106 +183,90 @@ fn variants(alloc: Global, count: usize, kinds: usize) -> Result<Case> {
     list(alloc, ShapeNode::Enum(nodes), elements)
 }
 
-/// A comment with four comments, which have four comments each, so many times over.
-fn comment(alloc: Global, depth: usize) -> Result<Value> {
+/// A comment and its replies: so many times the same one.
+fn comment(alloc: Global, reply: &Value, count: usize) -> Result<Value> {
     let mut replies = Vec::new(alloc);
-    if depth > 0 {
-        for _ in 0..4 {
-            replies.push(comment(alloc, depth - 1)?)?;
-        }
+    for _ in 0..count {
+        replies.push(reply.clone()?)?;
     }
     let words = Value::Str(String::from_str(alloc, "words")?);
     Ok(Value::Tuple(vec![in alloc; words, Value::Seq(replies)]?))
 }
 
+/// A tree of comments, each with four replies, so many levels deep.
 fn comments(alloc: Global, depth: usize) -> Result<Case> {
     let replies = ShapeNode::Seq(Box::new(alloc, ShapeNode::Ref(0))?);
     let node = ShapeNode::Tuple(vec![in alloc; ShapeNode::Str, replies]?);
+    let mut thread = comment(alloc, &Value::Unit, 0)?;
+    for _ in 0..depth {
+        thread = comment(alloc, &thread, 4)?;
+    }
     Ok(Case {
         shape: Shape::new(vec![in alloc; node]?, 0)?,
-        value: comment(alloc, depth)?,
+        value: thread,
     })
 }
 
-/// Four times the value.
-fn compare_lengths(rt: &HostRuntime, alloc: Global) -> Result<bool> {
-    let (n, four) = (ENTRIES, 4 * ENTRIES);
-    let most = MOST_FOR_FOUR;
-    let mut well = compare(
-        rt,
-        "four times the bytes",
-        &bytes(alloc, 20 * n)?,
-        &bytes(alloc, 20 * four)?,
-        most,
-    )?;
-    well &= compare(
-        rt,
-        "four times the numbers",
-        &numbers(alloc, n)?,
-        &numbers(alloc, four)?,
-        most,
-    )?;
-    well &= compare(
-        rt,
-        "four times the texts",
-        &texts(alloc, n)?,
-        &texts(alloc, four)?,
-        most,
-    )?;
-    well &= compare(
-        rt,
-        "four times the options",
-        &options(alloc, n)?,
-        &options(alloc, four)?,
-        most,
-    )?;
-    well &= compare(
+/// Compares the time of four times the value.
+fn four_times<F: Fn(Global, usize) -> Result<Case>>(
+    rt: &HostRuntime,
+    name: &str,
+    make: F,
+) -> Result<bool>
+    requires { F.IsAlwaysCallable make }
+{
+    let alloc = rt.alloc();
+    let small = make(alloc, ENTRIES)?;
+    let large = make(alloc, 4 * ENTRIES)?;
+    compare(rt, name, &small, &large, MOST_FOR_FOUR)
+}
+
+fn compare_lengths(rt: &HostRuntime) -> Result<bool> {
+    let mut well = four_times(rt, "four times the bytes", |alloc, n| bytes(alloc, n))?;
+    well &= four_times(rt, "four times the numbers", |alloc, n| numbers(alloc, n))?;
+    well &= four_times(rt, "four times the texts", |alloc, n| texts(alloc, n))?;
+    well &= four_times(rt, "four times the options", |alloc, n| options(alloc, n))?;
+    well &= four_times(
         rt,
         "four times the pairs of a map",
-        &pairs(alloc, n)?,
-        &pairs(alloc, four)?,
-        most,
+        |alloc, n| pairs(alloc, n),
     )?;
-    well &= compare(
+    well &= four_times(
         rt,
         "four times the lists of eight",
-        &lists(alloc, n)?,
-        &lists(alloc, four)?,
-        most,
+        |alloc, n| lists(alloc, n),
     )?;
-    well &= compare(
+    well &= four_times(
         rt,
         "four times the records of ten",
-        &records(alloc, n, 10)?,
-        &records(alloc, four, 10)?,
-        most,
+        |alloc, n| records(alloc, n, 10),
     )?;
-    well &= compare(
-        rt,
-        "four times the comments of a tree",
-        &comments(alloc, 4)?,
-        &comments(alloc, 5)?,
-        most,
-    )?;
+    well &= four_times(rt, "four times the comments of a tree", |alloc, n| {
+        comments(alloc, if n == ENTRIES { 5 } else { 6 })
+    })?;
     Ok(well)
 }
 
-/// As many entries under a wider shape.
+/// Compares the time of as many entries under a wider shape.
 fn compare_shapes(rt: &HostRuntime, alloc: Global) -> Result<bool> {
-    let (n, most) = (4 * ENTRIES, MOST_FOR_FIELDS);
+    let n = 4 * ENTRIES;
+    let few = records(alloc, n, 2)?;
+    let many = records(alloc, n, 100)?;
     let mut well = compare(
         rt,
         "100 fields in the place of 2",
-        &records(alloc, n, 2)?,
-        &records(alloc, n, 100)?,
-        most,
+        &few,
+        &many,
+        MOST_FOR_FIELDS,
     )?;
+    let few = variants(alloc, n, 2)?;
+    let many = variants(alloc, n, 100)?;
     well &= compare(
         rt,
         "100 variants in the place of 2",
-        &variants(alloc, n, 2)?,
-        &variants(alloc, n, 100)?,
-        most,
+        &few,
+        &many,
+        MOST_FOR_FIELDS,
     )?;
     Ok(well)
 }
@@ -285,7 +276,7 @@ fn run(rt: &HostRuntime, alloc: Global) -> Result<bool> {
         "{:<40} {:>9} {:>11} {:>7}",
         "times as long", "serialize", "deserialize", "at most"
     )?;
-    let mut well = compare_lengths(rt, alloc)?;
+    let mut well = compare_lengths(rt)?;
     well &= compare_shapes(rt, alloc)?;
     Ok(well)
 }
