@@ -210,38 +210,27 @@ fn comments(alloc: Global, depth: usize) -> Result<Case> {
 /// Compares the time of four times the value.
 fn four_times<F: Fn(Global, usize) -> Result<Case>>(
     rt: &HostRuntime,
-    name: &str,
+    plural: &str,
     make: F,
 ) -> Result<bool>
     requires { F.IsAlwaysCallable make }
 {
     let alloc = rt.alloc();
+    let name = format!(in alloc; "four times the {plural}")?;
     let small = make(alloc, ENTRIES)?;
     let large = make(alloc, 4 * ENTRIES)?;
-    compare(rt, name, &small, &large, MOST_FOR_FOUR)
+    compare(rt, &name, &small, &large, MOST_FOR_FOUR)
 }
 
 fn compare_lengths(rt: &HostRuntime) -> Result<bool> {
-    let mut well = four_times(rt, "four times the bytes", |alloc, n| bytes(alloc, n))?;
-    well &= four_times(rt, "four times the numbers", |alloc, n| numbers(alloc, n))?;
-    well &= four_times(rt, "four times the texts", |alloc, n| texts(alloc, n))?;
-    well &= four_times(rt, "four times the options", |alloc, n| options(alloc, n))?;
-    well &= four_times(
-        rt,
-        "four times the pairs of a map",
-        |alloc, n| pairs(alloc, n),
-    )?;
-    well &= four_times(
-        rt,
-        "four times the lists of eight",
-        |alloc, n| lists(alloc, n),
-    )?;
-    well &= four_times(
-        rt,
-        "four times the records of ten",
-        |alloc, n| records(alloc, n, 10),
-    )?;
-    well &= four_times(rt, "four times the comments of a tree", |alloc, n| {
+    let mut well = four_times(rt, "bytes", bytes)?;
+    well &= four_times(rt, "numbers", numbers)?;
+    well &= four_times(rt, "texts", texts)?;
+    well &= four_times(rt, "options", options)?;
+    well &= four_times(rt, "pairs of a map", pairs)?;
+    well &= four_times(rt, "lists of eight", lists)?;
+    well &= four_times(rt, "records of ten", |alloc, n| records(alloc, n, 10))?;
+    well &= four_times(rt, "comments of a tree", |alloc, n| {
         comments(alloc, if n == ENTRIES { 5 } else { 6 })
     })?;
     Ok(well)
