@@ -4,6 +4,11 @@
 //
 //     let bytes = encode(alloc, &(true, 7u16))?;        // [1, 7, 0]
 //     let pair: (bool, u16) = decode(alloc, &bytes)?;   // (true, 7)
+//
+// `serialize` and `deserialize` do so with a `Value` that has no type of its own, under a `Shape`, which may hold itself:
+//
+//     let bytes = serialize(alloc, &shape, &value)?;
+//     let value = deserialize(alloc, &shape, &bytes)?;
 #![tactic(auto)]
 
 pub use bitcode_arrays::array::ArrayDecoder;
@@ -101,6 +106,10 @@ pub use bitcode_pointers::deref::DerefEncoder;
 pub use bitcode_pointers::deref::Points;
 pub use bitcode_pointers::from::FromDecoder;
 pub use bitcode_pointers::from::FromValue;
+pub use bitcode_serde::deserialize::REF_LIMIT;
+pub use bitcode_serde::deserialize::deserialize;
+pub use bitcode_serde::free::ZST_LIMIT;
+pub use bitcode_serde::serialize::serialize;
 pub use bitcode_shapes::keys::Key;
 pub use bitcode_shapes::no_variants::NoVariants;
 pub use bitcode_shapes::same_arrays::SameArrays;
@@ -112,11 +121,19 @@ pub use bitcode_tuples::decoder::TupleDecoder;
 pub use bitcode_tuples::encoder::TupleEncoder;
 pub use bitcode_tuples::fields::Fields;
 pub use bitcode_tuples::fields::FieldsEncoder;
+pub use bitcode_untyped::shape::Shape;
+pub use bitcode_untyped::shape::ShapeNode;
+pub use bitcode_untyped::value::Value;
 
 /// The traits that coders meet, and the result of their calls.
 pub mod coder {
     pub use bitcode_coder::coder::{Buffer, Decoder, Encoder, HoldsColumns, HoldsData, View};
     pub use bitcode_coder::result::Result;
+}
+
+/// The coders of the indices of variants in the second format: of any number of variants up to 256.
+pub mod serde {
+    pub use bitcode_serde::serde::{VariantDecoder, VariantEncoder};
 }
 
 /// The laws of columns, of data and of whole calls: calls that do nothing but `short_text`, which is `decode`, and whose
@@ -130,4 +147,5 @@ pub mod laws {
         borrowed_text, borrowed_texts, one_text, one_value, overflows_exactly, round_trip,
         short_text,
     };
+    pub use bitcode_untyped::laws::{columns_decide, every_shape, spelled_data};
 }

@@ -7,6 +7,7 @@ pub mod lengths;
 #[cfg(test)]
 mod tests;
 pub mod tuples;
+pub mod untyped;
 pub mod values;
 
 pub use crate::got::Got;

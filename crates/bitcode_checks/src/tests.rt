@@ -9,5 +9,6 @@ mod fixed_capacity;
 mod integers;
 mod pointers;
 mod sequences;
+mod serde;
 mod texts;
 mod tuples;

@@ -38,6 +38,9 @@ fn print_rows_to_11(rt: &impl Print, alloc: Global) -> io::Result<bool> {
 fn print_rows_to_25(rt: &impl Print, alloc: Global) -> io::Result<bool> {
     let mut all_ok = print_row(rt, 12, rows::fixed_capacity::two_bytes(alloc))?;
     all_ok &= print_row(rt, 13, rows::collections::equal_keys(alloc))?;
+    all_ok &= print_row(rt, 14, rows::untyped::lists::columns_by_first_use(alloc))?;
+    all_ok &= print_row(rt, 15, rows::untyped::recursion(alloc))?;
+    all_ok &= print_row(rt, 16, rows::untyped::limits(alloc))?;
     all_ok &= print_row(rt, 17, rows::texts::durations(alloc))?;
     all_ok &= print_row(rt, 18, rows::sequences::many_bools(alloc))?;
     all_ok &= print_row(rt, 19, rows::tuples::identifier(alloc))?;
@@ -56,6 +59,7 @@ fn print_rows_to_33(rt: &impl Print, alloc: Global) -> io::Result<bool> {
     all_ok &= print_row(rt, 27, rows::arrays::sums_of_lengths(alloc))?;
     all_ok &= print_row(rt, 28, rows::texts::checked_numbers(alloc))?;
     all_ok &= print_row(rt, 29, rows::choices::unused_bits_of_an_option(alloc))?;
+    all_ok &= print_row(rt, 30, rows::untyped::shapes::tables(alloc))?;
     all_ok &= print_row(rt, 31, rows::byte_columns::bytes_packed(alloc))?;
     all_ok &= print_row(rt, 32, rows::byte_columns::bytes_unpacked(alloc))?;
     all_ok &= print_row(rt, 33, rows::choices::results(alloc))?;
@@ -78,11 +82,21 @@ fn print_rows_to_45(rt: &impl Print, alloc: Global) -> io::Result<bool> {
     Ok(all_ok)
 }
 
+/// Runs rows 46 to 49 in order, and answers whether all of them are ok.
+fn print_rows_to_49(rt: &impl Print, alloc: Global) -> io::Result<bool> {
+    let mut all_ok = print_row(rt, 46, rows::untyped::lists::lists_of_bytes(alloc))?;
+    all_ok &= print_row(rt, 47, rows::untyped::composites(alloc))?;
+    all_ok &= print_row(rt, 48, rows::untyped::references::options_of_lists(alloc))?;
+    all_ok &= print_row(rt, 49, rows::untyped::references::chain(alloc))?;
+    Ok(all_ok)
+}
+
 /// Runs all stored rows in order, and answers whether all of them are ok.
 pub fn print_rows(rt: &impl Print, alloc: Global) -> io::Result<bool> {
     let mut all_ok = print_rows_to_11(rt, alloc)?;
     all_ok &= print_rows_to_25(rt, alloc)?;
     all_ok &= print_rows_to_33(rt, alloc)?;
     all_ok &= print_rows_to_45(rt, alloc)?;
+    all_ok &= print_rows_to_49(rt, alloc)?;
     Ok(all_ok)
 }

@@ -13,6 +13,7 @@ pub mod lengths;
 pub mod sequences;
 pub mod texts;
 pub mod tuples;
+pub mod untyped;
 pub mod variants;
 
 /// The unit takes no bytes.

@@ -1,4 +1,5 @@
 // The stored rows of options, results and types written by hand.
+use super::untyped;
 use bitcode::{Reason, decode};
 use bitcode_by_hand::never::Never;
 use bitcode_by_hand::one::One;
@@ -10,7 +11,8 @@ use std::alloc::Global;
 pub fn options(alloc: Global) -> Result<(), Got> {
     let shorts: Vec<Option<i16>> = vec![in alloc; None, Some(1), None]?;
     encodes(alloc, &shorts, &[3, 2, 1, 0])?;
-    options_in_pairs(alloc)
+    options_in_pairs(alloc)?;
+    untyped::choices::options_in_pairs(alloc)
 }
 
 /// In pairs too, before the columns of the other fields.
@@ -29,15 +31,18 @@ pub fn two_variants(alloc: Global) -> Result<(), Got> {
     decodes(alloc, &[3, 6, 1, 255, 254], read)
 }
 
-/// Unused bits of the last byte are ignored, so no byte is another option.
+/// Under a shape another index is refused; in the first format unused bits of the last byte are ignored, so that no byte is
+/// another option.
 pub fn unused_bits_of_an_option(alloc: Global) -> Result<(), Got> {
+    untyped::choices::unknown_indices(alloc)?;
     decodes::<Option<bool>>(alloc, &[2], None)
 }
 
-/// All values stand before all errors.
+/// All values stand before all errors, and under a shape the columns in the order of their first entries.
 pub fn results(alloc: Global) -> Result<(), Got> {
     let list: Vec<Result<bool, u32>> = vec![in alloc; Err(1), Ok(false)]?;
-    encodes(alloc, &list, &[2, 1, 0, 4, 1])
+    encodes(alloc, &list, &[2, 1, 0, 4, 1])?;
+    untyped::choices::results(alloc)
 }
 
 /// An enum of one variant has no variant column; one of none has no values.

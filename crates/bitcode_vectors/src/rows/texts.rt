@@ -1,4 +1,5 @@
 // The stored rows of texts, chars, checked integers and durations.
+use super::untyped;
 use bitcode::{Reason, U8Char, decode};
 use bitcode_by_hand::foo::Foo;
 use bitcode_checks::{Got, decodes, encodes, refuses};
@@ -31,7 +32,8 @@ pub fn checked_numbers(alloc: Global) -> Result<(), Got> {
     decodes(alloc, &[4, 1], NonZeroU32::MIN)?;
     refuses::<char>(alloc, &[0, 255, 255, 255, 255], Reason::InvalidBitPattern)?;
     refuses::<char>(alloc, &[2, 0, 216], Reason::InvalidBitPattern)?;
-    decodes(alloc, &[4, 97], 'a')
+    decodes(alloc, &[4, 97], 'a')?;
+    untyped::leaves::surrogate(alloc)
 }
 
 /// Each text for itself is UTF-8, and is a slice of the input.

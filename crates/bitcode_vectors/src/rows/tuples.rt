@@ -1,4 +1,5 @@
 // The rows of tuples, pointers, markers and UUIDs.
+use super::untyped;
 use bitcode_checks::tuples::writes_sixteen;
 use bitcode_checks::{Got, encodes};
 use std::alloc::Global;
@@ -59,5 +60,6 @@ pub fn identifier(alloc: Global) -> Result<(), Got> {
     let written = [
         0, 161, 162, 163, 164, 177, 178, 193, 194, 209, 210, 211, 212, 213, 214, 215, 216,
     ];
-    encodes(alloc, &Uuid::from_bytes(bytes), &written)
+    encodes(alloc, &Uuid::from_bytes(bytes), &written)?;
+    untyped::lists::signed_bytes(alloc)
 }
