@@ -9,6 +9,7 @@ pub mod FreeLemmas
 pub mod EntryLemmas
 pub mod FieldLemmas
 pub mod CaseLemmas
+pub mod LeafLemmas
 pub mod WholeLemmas
 pub mod WrittenLemmas
 pub mod WritingLemmas
