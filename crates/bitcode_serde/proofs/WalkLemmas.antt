@@ -136,7 +136,7 @@ use_outcome old new tree n d entry kind (Err e) walked has of below more refused
 
 -- the entry that a leaf is
 pub leaf_outcome : {A : Type 0} (old new : Writer) (n : ℕ) (nd : ShapeNode) (v : Value) (kind : Kind) (d : Datum) (r : Result A Error) → IsEntryAt nd v kind d
-    → OnOk r (new.below ≡ old.below) → OnOk r (written new ≡ put (use_at (place_in old n) kind d) (written old))
+    → OnOk r (new.places.below ≡ old.places.below) → OnOk r (written new ≡ put (use_at (place_in old n) kind d) (written old))
     → IfErr r (λ e. (root : ShapeTree) → AreOfShape root (written old) → HasKindFrom root [] (place_in old n) kind → e.reason ≡ OutOfMemory)
     → (table : List ShapeNode) (left : ℕ) → Outcome old (tree_of_node left table nd) n (datum_of v) (faults_of table v left nd) r new
 leaf_outcome old new n nd v kind d r entry below more refused table left =

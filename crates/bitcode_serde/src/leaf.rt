@@ -85,7 +85,7 @@ pub fn read_bytes(alloc: Global, reader: &mut Reader<'_>, place: usize) -> Resul
 /// Reads a value of a node whose values are entries of one column.
 pub fn read_entry(reader: &mut Reader<'_>, node: &ShapeNode, place: usize) -> Result<Value, Error>
     requires leaf { IsLeaf node.now }
-    requires place { place ≤ length reader.old.below.items }
+    requires place { place ≤ length reader.old.places.below.items }
     requires steady { IsSteady reader.old }
     ensures continues { OnOk result (Continues reader.old reader.new) }
     ensures read { IfOk result (λ value. ReadsLeafAt node.now place reader.old (datum_of value) reader.new) }

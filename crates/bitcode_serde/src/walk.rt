@@ -164,7 +164,7 @@ fn write_leaves(
     values: &[Value],
     place: usize,
 ) -> Result<(), Error>
-    requires place { place ≤ length writer.old.below.items }
+    requires place { place ≤ length writer.old.places.below.items }
     requires leaf { IsLeaf node.now }
     ensures { (table : List ShapeNode) (left : ℕ) → Outcome writer.old (seq_tree (tree_of_node left table node.now)) place (list (data_of (map datum_of values.now)))
         (flat_map (λ value. faults_of table value left node.now) values.now) result writer.new }
