@@ -6,7 +6,6 @@ pub mod got;
 pub mod lengths;
 #[cfg(test)]
 mod tests;
-pub mod tuples;
 pub mod values;
 
 pub use crate::got::Got;
