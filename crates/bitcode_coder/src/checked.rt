@@ -9,8 +9,8 @@ ghost use Rattle.bitcode_shapes.specs.Shape.{Allowed, IsAllowed, number_shape};
 ghost use Rattle.bitcode_coder.specs.CheckedColumn.{numbers_of, checked_data, NamesCheckedFault};
 
 pub use crate::checked::nanosecond::Nanosecond;
+use crate::coder::{Decoder, HoldsData, View};
 use crate::column_int::ColumnInt;
-use bitcode_coder::coder::{Decoder, HoldsData, View};
 use bitcode_columns::error::{Error, Reason};
 use bitcode_columns::fast::CowSlice;
 use bitcode_columns::refuse::err;

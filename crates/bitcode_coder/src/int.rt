@@ -13,8 +13,8 @@ ghost use Rattle.bitcode_coder.specs.Spelling.{Spells};
 ghost use Rattle.bitcode_coder.specs.Coding.{IsReadingRefusal, written_columns};
 ghost use Rattle.bitcode_coder.specs.Faults.{NamesIntsFault};
 
+use crate::coder::{Buffer, Decoder, Encoder, HoldsColumns, HoldsData, View};
 use crate::column_int::ColumnInt;
-use bitcode_coder::coder::{Buffer, Decoder, Encoder, HoldsColumns, HoldsData, View};
 use bitcode_columns::error::{Error, Reason};
 use bitcode_columns::fast::{CowSlice, FastVec, PushUnchecked};
 use bitcode_shapes::shaped::{Made, Shaped};
