@@ -3,12 +3,11 @@
 // second's nanoseconds.
 ghost use Rattle.std.specs.Prelude.{false, pos};
 ghost use Rattle.std.specs.Box.{boxed_slice_items, boxed_str_bytes, box_value};
-ghost use Rattle.std.specs.Int.NonZero.{non_zero_u8_get, non_zero_u16_get, non_zero_u32_get, non_zero_u64_get, non_zero_u128_get, non_zero_usize_get, non_zero_i8_get, non_zero_i16_get, non_zero_i32_get, non_zero_i64_get, non_zero_i128_get, non_zero_isize_get};
 ghost use Rattle.std.specs.Rc.{rc_slice_items, rc_str_bytes, rc_value};
 ghost use Rattle.std.specs.String.{string_bytes};
 ghost use Rattle.std.specs.Vec.{vec_items};
 ghost use Rattle.std.specs.VecDeque.{deque_items};
-ghost use Rattle.bitcode_shapes.specs.KeyLaws.{ones_told, bools_told, naturals_told, integers_told, texts_told, images_told, sequences_told, options_told, results_told};
+ghost use Rattle.bitcode_shapes.specs.KeyLaws.{ones_told, bools_told, naturals_told, texts_told, images_told, sequences_told, options_told, results_told};
 ghost use Rattle.bitcode_shapes.specs.LawfulNever.{from_never};
 ghost use Rattle.bitcode_shapes.specs.OrderedKeyLaws.{ordered_maps_told, ordered_sets_told};
 ghost use Rattle.bitcode_shapes.specs.Sets.{TellsSame};
@@ -23,10 +22,6 @@ use std::boxed::{BoxedSlice, BoxedStr};
 use std::cmp::{Eq, Ord};
 use std::collections::{BTreeMap, BTreeSet, LinkedList, VecDeque};
 use std::marker::PhantomData;
-use std::num::{
-    NonZeroI8, NonZeroI16, NonZeroI32, NonZeroI64, NonZeroI128, NonZeroIsize, NonZeroU8,
-    NonZeroU16, NonZeroU32, NonZeroU64, NonZeroU128, NonZeroUsize,
-};
 use std::rc::{Rc, RcSlice, RcStr};
 use uuid::Uuid;
 
@@ -48,108 +43,8 @@ impl Key for bool {
     ghost keyed = { bools_told _ };
 }
 
-impl Key for u8 {
-    ghost keyed = { naturals_told _ (λ n. n) };
-}
-
-impl Key for u16 {
-    ghost keyed = { naturals_told _ (λ n. n) };
-}
-
-impl Key for u32 {
-    ghost keyed = { naturals_told _ (λ n. n) };
-}
-
-impl Key for u64 {
-    ghost keyed = { naturals_told _ (λ n. n) };
-}
-
-impl Key for u128 {
-    ghost keyed = { naturals_told _ (λ n. n) };
-}
-
-impl Key for usize {
-    ghost keyed = { naturals_told _ (λ n. n) };
-}
-
-impl Key for i8 {
-    ghost keyed = { integers_told _ (λ z. z) };
-}
-
-impl Key for i16 {
-    ghost keyed = { integers_told _ (λ z. z) };
-}
-
-impl Key for i32 {
-    ghost keyed = { integers_told _ (λ z. z) };
-}
-
-impl Key for i64 {
-    ghost keyed = { integers_told _ (λ z. z) };
-}
-
-impl Key for i128 {
-    ghost keyed = { integers_told _ (λ z. z) };
-}
-
-impl Key for isize {
-    ghost keyed = { integers_told _ (λ z. z) };
-}
-
 impl Key for () {
     ghost keyed = { ones_told _ };
-}
-
-impl Key for char {
-    ghost keyed = { naturals_told _ (λ n. n) };
-}
-
-impl Key for NonZeroU8 {
-    ghost keyed = { naturals_told _ non_zero_u8_get };
-}
-
-impl Key for NonZeroU16 {
-    ghost keyed = { naturals_told _ non_zero_u16_get };
-}
-
-impl Key for NonZeroU32 {
-    ghost keyed = { naturals_told _ non_zero_u32_get };
-}
-
-impl Key for NonZeroU64 {
-    ghost keyed = { naturals_told _ non_zero_u64_get };
-}
-
-impl Key for NonZeroU128 {
-    ghost keyed = { naturals_told _ non_zero_u128_get };
-}
-
-impl Key for NonZeroUsize {
-    ghost keyed = { naturals_told _ non_zero_usize_get };
-}
-
-impl Key for NonZeroI8 {
-    ghost keyed = { integers_told _ non_zero_i8_get };
-}
-
-impl Key for NonZeroI16 {
-    ghost keyed = { integers_told _ non_zero_i16_get };
-}
-
-impl Key for NonZeroI32 {
-    ghost keyed = { integers_told _ non_zero_i32_get };
-}
-
-impl Key for NonZeroI64 {
-    ghost keyed = { integers_told _ non_zero_i64_get };
-}
-
-impl Key for NonZeroI128 {
-    ghost keyed = { integers_told _ non_zero_i128_get };
-}
-
-impl Key for NonZeroIsize {
-    ghost keyed = { integers_told _ non_zero_isize_get };
 }
 
 impl<'a> Key for &'a str {

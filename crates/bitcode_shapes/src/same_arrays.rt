@@ -19,10 +19,6 @@ use std::cmp::{Eq, Ord};
 use std::collections::{BTreeMap, BTreeSet, BinaryHeap, HashMap, HashSet, LinkedList, VecDeque};
 use std::hash::Hash;
 use std::marker::PhantomData;
-use std::num::{
-    NonZeroI8, NonZeroI16, NonZeroI32, NonZeroI64, NonZeroI128, NonZeroIsize, NonZeroU8,
-    NonZeroU16, NonZeroU32, NonZeroU64, NonZeroU128, NonZeroUsize,
-};
 use std::rc::{Rc, RcSlice, RcStr};
 use std::time::Duration;
 use uuid::Uuid;
@@ -47,107 +43,7 @@ impl SameArrays for bool {
     ghost same_arrays = { one_datum_same_arrays };
 }
 
-impl SameArrays for u8 {
-    ghost same_arrays = { one_datum_same_arrays };
-}
-
-impl SameArrays for u16 {
-    ghost same_arrays = { one_datum_same_arrays };
-}
-
-impl SameArrays for u32 {
-    ghost same_arrays = { one_datum_same_arrays };
-}
-
-impl SameArrays for u64 {
-    ghost same_arrays = { one_datum_same_arrays };
-}
-
-impl SameArrays for u128 {
-    ghost same_arrays = { one_datum_same_arrays };
-}
-
-impl SameArrays for usize {
-    ghost same_arrays = { one_datum_same_arrays };
-}
-
-impl SameArrays for i8 {
-    ghost same_arrays = { one_datum_same_arrays };
-}
-
-impl SameArrays for i16 {
-    ghost same_arrays = { one_datum_same_arrays };
-}
-
-impl SameArrays for i32 {
-    ghost same_arrays = { one_datum_same_arrays };
-}
-
-impl SameArrays for i64 {
-    ghost same_arrays = { one_datum_same_arrays };
-}
-
-impl SameArrays for i128 {
-    ghost same_arrays = { one_datum_same_arrays };
-}
-
-impl SameArrays for isize {
-    ghost same_arrays = { one_datum_same_arrays };
-}
-
 impl SameArrays for () {
-    ghost same_arrays = { one_datum_same_arrays };
-}
-
-impl SameArrays for char {
-    ghost same_arrays = { one_datum_same_arrays };
-}
-
-impl SameArrays for NonZeroU8 {
-    ghost same_arrays = { one_datum_same_arrays };
-}
-
-impl SameArrays for NonZeroU16 {
-    ghost same_arrays = { one_datum_same_arrays };
-}
-
-impl SameArrays for NonZeroU32 {
-    ghost same_arrays = { one_datum_same_arrays };
-}
-
-impl SameArrays for NonZeroU64 {
-    ghost same_arrays = { one_datum_same_arrays };
-}
-
-impl SameArrays for NonZeroU128 {
-    ghost same_arrays = { one_datum_same_arrays };
-}
-
-impl SameArrays for NonZeroUsize {
-    ghost same_arrays = { one_datum_same_arrays };
-}
-
-impl SameArrays for NonZeroI8 {
-    ghost same_arrays = { one_datum_same_arrays };
-}
-
-impl SameArrays for NonZeroI16 {
-    ghost same_arrays = { one_datum_same_arrays };
-}
-
-impl SameArrays for NonZeroI32 {
-    ghost same_arrays = { one_datum_same_arrays };
-}
-
-impl SameArrays for NonZeroI64 {
-    ghost same_arrays = { one_datum_same_arrays };
-}
-
-impl SameArrays for NonZeroI128 {
-    ghost same_arrays = { one_datum_same_arrays };
-}
-
-impl SameArrays for NonZeroIsize {
     ghost same_arrays = { one_datum_same_arrays };
 }
 
