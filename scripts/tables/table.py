@@ -1,6 +1,7 @@
 """What the scripts of this folder share: rows that are put into templates, and files that are written of them."""
 
 import os
+import re
 import shutil
 import subprocess
 import sys
@@ -15,9 +16,12 @@ def filled(template, rows):
     return "".join(Template(template).substitute(row) for row in rows)
 
 
-def first_line(script, path):
-    """What a written file begins with, in the comments of its language."""
-    return f"{'--' if path.endswith('.antt') else '//'} Written by scripts/tables/{script}.\n"
+def in_its_crate(script, path, text):
+    """The text as a file of its crate, which says in the first line where it is from, and calls its own crate by `crate`."""
+    crate = path.split("/")[1]
+    comment = "--" if path.endswith(".antt") else "//"
+    own = re.sub(rf"^use {crate}::", "use crate::", text.lstrip("\n"), flags=re.M)
+    return f"{comment} Written by scripts/tables/{script}.\n{own}"
 
 
 def laid_out(folder):
@@ -38,7 +42,7 @@ def write(script, texts):
         for path, text in texts.items():
             os.makedirs(os.path.dirname(f"{work}/{path}"), exist_ok=True)
             with open(f"{work}/{path}", "w") as file:
-                file.write(first_line(script, path) + text.lstrip("\n"))
+                file.write(in_its_crate(script, path, text))
         laid_out(work)
         for path in texts:
             os.makedirs(os.path.dirname(f"{target}/{path}"), exist_ok=True)
