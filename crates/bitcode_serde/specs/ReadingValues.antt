@@ -1,7 +1,7 @@
 -- What is read of a value, from one reader to the next.
 use Rattle.std.specs.Prelude.{◌≢◌, ℕ, zero, suc, List, ◌∷◌}
-use Rattle.bitcode_input.specs.declared.error.Reason.{Reason}
-use Rattle.bitcode_input.specs.declared.error.Reason.TheVariants.{OutOfMemory, InvalidOption, InvalidChar, TooManyZeroSizedTypes, NestedTooDeep}
+use Rattle.bitcode_columns.specs.declared.error.Reason.{Reason}
+use Rattle.bitcode_columns.specs.declared.error.Reason.TheVariants.{OutOfMemory, InvalidOption, InvalidChar, TooManyZeroSizedTypes, NestedTooDeep}
 use Rattle.bitcode_shapes.specs.Datum.{Datum}
 use Rattle.bitcode_coder.specs.Coding.{IsReadingReason}
 use Rattle.bitcode_untyped.specs.Machine.{State}

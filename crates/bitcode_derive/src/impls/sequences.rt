@@ -1,7 +1,7 @@
 // Written by scripts/tables/types.
 // The coders of vectors and slices.
 use crate::derive::{DecodeOwned, HasDecoder, HasEncoder};
-use bitcode_containers::vec::{VecDecoder, VecEncoder};
+use bitcode_parts::vec::{VecDecoder, VecEncoder};
 
 impl<T: HasEncoder> HasEncoder for Vec<T> {
     type Encoder = VecEncoder<T::Encoder>;
