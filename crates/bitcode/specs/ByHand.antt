@@ -20,4 +20,5 @@ pub use Rattle.bitcode_parts.specs.VariantCoders.{variant_room, variants_left, v
 pub use Rattle.bitcode_shapes.specs.LawfulVectors.{vec_lawful, vec_makeable}
 pub use Rattle.bitcode_parts.specs.Elements.{MakesOfElements}
 -- What is read of bytes:
-pub use Rattle.bitcode_derive.specs.Whole.{IsDecodingOf}
+pub use Rattle.bitcode_shapes.specs.Datum.{Datum}
+pub use Rattle.bitcode_derive.specs.Whole.{IsDecodingOf, SpellsDatum}

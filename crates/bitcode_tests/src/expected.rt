@@ -2,5 +2,4 @@
 pub mod byte_columns;
 pub mod got;
 pub mod lengths;
-pub mod tuples;
 pub mod values;

@@ -1,6 +1,5 @@
 // Tuples of one field, both ways, and of sixteen types, written. The tables of `scripts/vectors` have every number of fields.
-use crate::expected::tuples::writes_sixteen;
-use crate::{Got, written_and_read};
+use crate::{Got, encodes, written_and_read};
 use std::time::Duration;
 
 #[test]
@@ -38,5 +37,5 @@ fn sixteen_types_are_written(rt: HostRuntime) -> Result<(), Got> {
         13, 126, 0, 0, 111, 0, 2, 136, 107, 4, 4, 6, 15, 4, 253, 127, 0, 2, 246, 255, 7, 113, 109,
         111, 109, 102, 103, 100, 0, 1, 0, 0, 0, 173, 40, 6, 2, 0, 21, 100, 228, 42,
     ];
-    writes_sixteen(alloc, &value, &bytes)
+    encodes(alloc, &value, &bytes)
 }

@@ -1,5 +1,4 @@
 // The rows of tuples, pointers, markers and UUIDs.
-use bitcode_tests::expected::tuples::writes_sixteen;
 use bitcode_tests::{Got, encodes};
 use std::alloc::Global;
 use std::marker::PhantomData;
@@ -29,7 +28,7 @@ type Bytes = (
 /// A tuple is the columns of its fields in order.
 fn sixteen_bytes(alloc: Global) -> Result<(), Got> {
     let written: Bytes = (0, 1, 2, 3, 4, 5, 6, 7, 8, 9, 10, 11, 12, 13, 14, 15);
-    writes_sixteen(
+    encodes(
         alloc,
         &written,
         &[0, 1, 2, 3, 4, 5, 6, 7, 8, 9, 10, 11, 12, 13, 14, 15],
