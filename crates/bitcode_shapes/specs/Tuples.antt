@@ -1,3 +1,4 @@
+-- Written by scripts/tables/tuples.
 -- A tuple of three or more fields stands for the pair of its first half and its second, the longer one last; a half of one
 -- field is that field. Each such pair is stood for. In proofs a tuple of more than twelve fields is a nest of pairs that ends
 -- in the unit.

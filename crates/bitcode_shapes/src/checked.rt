@@ -1,3 +1,4 @@
+// Written by scripts/tables/integers.
 // Numbers of which not all are allowed: integers that are not 0, and chars.
 #![tactic(auto, using(crate::proofs::CheckedLemmas::nonzero_unsigned, crate::proofs::CheckedLemmas::nonzero_signed))]
 
@@ -6,9 +7,13 @@ ghost use Rattle.std.specs.Int.NonZero.{non_zero_u8_get, non_zero_u16_get, non_z
 ghost use Rattle.bitcode_shapes.specs.Shape.{nonzero, scalar};
 ghost use Rattle.bitcode_shapes.specs.Values.{ListsNumber, MakesNumber, SameNumber};
 ghost use Rattle.bitcode_shapes.specs.Checked.{nonzero_shape, char_shape, IsCheckedValue};
+ghost use Rattle.bitcode_shapes.specs.KeyLaws.{naturals_told, integers_told};
 ghost use Rattle.bitcode_shapes.specs.LawfulValues.{width_1, width_2, width_4, width_8, width_16};
 ghost use Rattle.bitcode_shapes.specs.LawfulChecked.{checked_lawful, unsigned_nonzero_makeable, signed_nonzero_makeable, char_makeable};
+ghost use Rattle.bitcode_shapes.specs.SameArrays.{one_datum_same_arrays};
 
+use crate::keys::Key;
+use crate::same_arrays::SameArrays;
 use crate::shaped::{Made, Shaped};
 use std::num::{
     NonZeroI8, NonZeroI16, NonZeroI32, NonZeroI64, NonZeroI128, NonZeroIsize, NonZeroU8,
@@ -39,6 +44,14 @@ impl Made for NonZeroU8 {
     ghost makeable = { unsigned_nonzero_makeable non_zero_u8_get 1 (λ n h. (record { value = n; ok = h }, refl)) };
 }
 
+impl Key for NonZeroU8 {
+    ghost keyed = { naturals_told _ non_zero_u8_get };
+}
+
+impl SameArrays for NonZeroU8 {
+    ghost same_arrays = { one_datum_same_arrays };
+}
+
 impl Shaped for NonZeroU16 {
     ghost shape = { nonzero_shape 2 false };
 
@@ -61,6 +74,14 @@ impl Made for NonZeroU16 {
     ghost makes = { MakesNumber (λ t. pos (non_zero_u16_get t)) };
 
     ghost makeable = { unsigned_nonzero_makeable non_zero_u16_get 2 (λ n h. (record { value = n; ok = h }, refl)) };
+}
+
+impl Key for NonZeroU16 {
+    ghost keyed = { naturals_told _ non_zero_u16_get };
+}
+
+impl SameArrays for NonZeroU16 {
+    ghost same_arrays = { one_datum_same_arrays };
 }
 
 impl Shaped for NonZeroU32 {
@@ -87,6 +108,14 @@ impl Made for NonZeroU32 {
     ghost makeable = { unsigned_nonzero_makeable non_zero_u32_get 4 (λ n h. (record { value = n; ok = h }, refl)) };
 }
 
+impl Key for NonZeroU32 {
+    ghost keyed = { naturals_told _ non_zero_u32_get };
+}
+
+impl SameArrays for NonZeroU32 {
+    ghost same_arrays = { one_datum_same_arrays };
+}
+
 impl Shaped for NonZeroU64 {
     ghost shape = { nonzero_shape 8 false };
 
@@ -109,6 +138,14 @@ impl Made for NonZeroU64 {
     ghost makes = { MakesNumber (λ t. pos (non_zero_u64_get t)) };
 
     ghost makeable = { unsigned_nonzero_makeable non_zero_u64_get 8 (λ n h. (record { value = n; ok = h }, refl)) };
+}
+
+impl Key for NonZeroU64 {
+    ghost keyed = { naturals_told _ non_zero_u64_get };
+}
+
+impl SameArrays for NonZeroU64 {
+    ghost same_arrays = { one_datum_same_arrays };
 }
 
 impl Shaped for NonZeroU128 {
@@ -135,6 +172,14 @@ impl Made for NonZeroU128 {
     ghost makeable = { unsigned_nonzero_makeable non_zero_u128_get 16 (λ n h. (record { value = n; ok = h }, refl)) };
 }
 
+impl Key for NonZeroU128 {
+    ghost keyed = { naturals_told _ non_zero_u128_get };
+}
+
+impl SameArrays for NonZeroU128 {
+    ghost same_arrays = { one_datum_same_arrays };
+}
+
 impl Shaped for NonZeroUsize {
     ghost shape = { nonzero_shape 8 false };
 
@@ -157,6 +202,14 @@ impl Made for NonZeroUsize {
     ghost makes = { MakesNumber (λ t. pos (non_zero_usize_get t)) };
 
     ghost makeable = { unsigned_nonzero_makeable non_zero_usize_get 8 (λ n h. (record { value = n; ok = h }, refl)) };
+}
+
+impl Key for NonZeroUsize {
+    ghost keyed = { naturals_told _ non_zero_usize_get };
+}
+
+impl SameArrays for NonZeroUsize {
+    ghost same_arrays = { one_datum_same_arrays };
 }
 
 impl Shaped for NonZeroI8 {
@@ -183,6 +236,14 @@ impl Made for NonZeroI8 {
     ghost makeable = { signed_nonzero_makeable non_zero_i8_get 1 (λ z h. (record { value = z; ok = h }, refl)) };
 }
 
+impl Key for NonZeroI8 {
+    ghost keyed = { integers_told _ non_zero_i8_get };
+}
+
+impl SameArrays for NonZeroI8 {
+    ghost same_arrays = { one_datum_same_arrays };
+}
+
 impl Shaped for NonZeroI16 {
     ghost shape = { nonzero_shape 2 true };
 
@@ -205,6 +266,14 @@ impl Made for NonZeroI16 {
     ghost makes = { MakesNumber non_zero_i16_get };
 
     ghost makeable = { signed_nonzero_makeable non_zero_i16_get 2 (λ z h. (record { value = z; ok = h }, refl)) };
+}
+
+impl Key for NonZeroI16 {
+    ghost keyed = { integers_told _ non_zero_i16_get };
+}
+
+impl SameArrays for NonZeroI16 {
+    ghost same_arrays = { one_datum_same_arrays };
 }
 
 impl Shaped for NonZeroI32 {
@@ -231,6 +300,14 @@ impl Made for NonZeroI32 {
     ghost makeable = { signed_nonzero_makeable non_zero_i32_get 4 (λ z h. (record { value = z; ok = h }, refl)) };
 }
 
+impl Key for NonZeroI32 {
+    ghost keyed = { integers_told _ non_zero_i32_get };
+}
+
+impl SameArrays for NonZeroI32 {
+    ghost same_arrays = { one_datum_same_arrays };
+}
+
 impl Shaped for NonZeroI64 {
     ghost shape = { nonzero_shape 8 true };
 
@@ -253,6 +330,14 @@ impl Made for NonZeroI64 {
     ghost makes = { MakesNumber non_zero_i64_get };
 
     ghost makeable = { signed_nonzero_makeable non_zero_i64_get 8 (λ z h. (record { value = z; ok = h }, refl)) };
+}
+
+impl Key for NonZeroI64 {
+    ghost keyed = { integers_told _ non_zero_i64_get };
+}
+
+impl SameArrays for NonZeroI64 {
+    ghost same_arrays = { one_datum_same_arrays };
 }
 
 impl Shaped for NonZeroI128 {
@@ -279,6 +364,14 @@ impl Made for NonZeroI128 {
     ghost makeable = { signed_nonzero_makeable non_zero_i128_get 16 (λ z h. (record { value = z; ok = h }, refl)) };
 }
 
+impl Key for NonZeroI128 {
+    ghost keyed = { integers_told _ non_zero_i128_get };
+}
+
+impl SameArrays for NonZeroI128 {
+    ghost same_arrays = { one_datum_same_arrays };
+}
+
 impl Shaped for NonZeroIsize {
     ghost shape = { nonzero_shape 8 true };
 
@@ -303,6 +396,14 @@ impl Made for NonZeroIsize {
     ghost makeable = { signed_nonzero_makeable non_zero_isize_get 8 (λ z h. (record { value = z; ok = h }, refl)) };
 }
 
+impl Key for NonZeroIsize {
+    ghost keyed = { integers_told _ non_zero_isize_get };
+}
+
+impl SameArrays for NonZeroIsize {
+    ghost same_arrays = { one_datum_same_arrays };
+}
+
 impl Shaped for char {
     ghost shape = { char_shape };
 
@@ -325,4 +426,12 @@ impl Made for char {
     ghost makes = { MakesNumber pos };
 
     ghost makeable = { char_makeable };
+}
+
+impl Key for char {
+    ghost keyed = { naturals_told _ (λ n. n) };
+}
+
+impl SameArrays for char {
+    ghost same_arrays = { one_datum_same_arrays };
 }

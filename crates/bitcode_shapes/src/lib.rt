@@ -9,6 +9,7 @@ pub mod durations;
 pub mod empty;
 pub mod fixed_capacity;
 pub mod heaps;
+pub mod ints;
 pub mod keys;
 pub mod maps;
 pub mod no_variants;

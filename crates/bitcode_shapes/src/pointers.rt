@@ -1,3 +1,4 @@
+// Written by scripts/tables/types.
 // Pointers hold the data of what they own: a box and a shared pointer those of the value, slices those of a sequence.
 ghost use Rattle.std.specs.Prelude.{None, All};
 ghost use Rattle.std.specs.Box.{box_value, boxed_slice_items};
@@ -16,11 +17,11 @@ use std::rc::{Rc, RcSlice};
 impl<T: Shaped> Shaped for Box<T> {
     ghost shape = { T.shape };
 
-    ghost is_value = { λ b. T.is_value (box_value b) };
+    ghost is_value = { λ p. T.is_value (box_value p) };
 
-    ghost lists = { λ b. T.lists (box_value b) };
+    ghost lists = { λ p. T.lists (box_value p) };
 
-    ghost same = { λ b c. T.same (box_value b) (box_value c) };
+    ghost same = { λ p q. T.same (box_value p) (box_value q) };
 
     ghost in_order = { T.in_order };
 
@@ -32,7 +33,7 @@ impl<T: Shaped> Shaped for Box<T> {
 }
 
 impl<T: Made> Made for Box<T> {
-    ghost makes = { λ d b. T.makes d (box_value b) };
+    ghost makes = { λ d p. T.makes d (box_value p) };
 
     ghost makeable = { image_makeable box_value (λ g t h. box_built g t) T.makeable };
 }
@@ -40,11 +41,11 @@ impl<T: Made> Made for Box<T> {
 impl<T: Shaped> Shaped for Rc<T> {
     ghost shape = { T.shape };
 
-    ghost is_value = { λ r. T.is_value (rc_value r) };
+    ghost is_value = { λ p. T.is_value (rc_value p) };
 
-    ghost lists = { λ r. T.lists (rc_value r) };
+    ghost lists = { λ p. T.lists (rc_value p) };
 
-    ghost same = { λ r s. T.same (rc_value r) (rc_value s) };
+    ghost same = { λ p q. T.same (rc_value p) (rc_value q) };
 
     ghost in_order = { T.in_order };
 
@@ -56,7 +57,7 @@ impl<T: Shaped> Shaped for Rc<T> {
 }
 
 impl<T: Made> Made for Rc<T> {
-    ghost makes = { λ d r. T.makes d (rc_value r) };
+    ghost makes = { λ d p. T.makes d (rc_value p) };
 
     ghost makeable = { image_makeable rc_value (λ g t h. rc_built g t) T.makeable };
 }
@@ -64,11 +65,11 @@ impl<T: Made> Made for Rc<T> {
 impl<T: Shaped> Shaped for BoxedSlice<T> {
     ghost shape = { seq_shape None T.shape };
 
-    ghost is_value = { λ b. All T.is_value (boxed_slice_items b) };
+    ghost is_value = { λ p. All T.is_value (boxed_slice_items p) };
 
-    ghost lists = { λ b d. ListsSequence T.lists (boxed_slice_items b) d };
+    ghost lists = { λ p d. ListsSequence T.lists (boxed_slice_items p) d };
 
-    ghost same = { λ b c. SameSequence T.same (boxed_slice_items b) (boxed_slice_items c) };
+    ghost same = { λ p q. SameSequence T.same (boxed_slice_items p) (boxed_slice_items q) };
 
     ghost in_order = { T.in_order };
 
@@ -80,7 +81,7 @@ impl<T: Shaped> Shaped for BoxedSlice<T> {
 }
 
 impl<T: Made> Made for BoxedSlice<T> {
-    ghost makes = { λ d b. MakesSequence T.makes d (boxed_slice_items b) };
+    ghost makes = { λ d p. MakesSequence T.makes d (boxed_slice_items p) };
 
     ghost makeable = { seq_makeable T.shape T.is_value T.lists T.same boxed_slice_items T.makes boxed_slice_built T.makeable };
 }
@@ -88,11 +89,11 @@ impl<T: Made> Made for BoxedSlice<T> {
 impl<T: Shaped> Shaped for RcSlice<T> {
     ghost shape = { seq_shape None T.shape };
 
-    ghost is_value = { λ r. All T.is_value (rc_slice_items r) };
+    ghost is_value = { λ p. All T.is_value (rc_slice_items p) };
 
-    ghost lists = { λ r d. ListsSequence T.lists (rc_slice_items r) d };
+    ghost lists = { λ p d. ListsSequence T.lists (rc_slice_items p) d };
 
-    ghost same = { λ r s. SameSequence T.same (rc_slice_items r) (rc_slice_items s) };
+    ghost same = { λ p q. SameSequence T.same (rc_slice_items p) (rc_slice_items q) };
 
     ghost in_order = { T.in_order };
 
@@ -104,7 +105,7 @@ impl<T: Shaped> Shaped for RcSlice<T> {
 }
 
 impl<T: Made> Made for RcSlice<T> {
-    ghost makes = { λ d r. MakesSequence T.makes d (rc_slice_items r) };
+    ghost makes = { λ d p. MakesSequence T.makes d (rc_slice_items p) };
 
     ghost makeable = { seq_makeable T.shape T.is_value T.lists T.same rc_slice_items T.makes rc_slice_built T.makeable };
 }

@@ -1,3 +1,4 @@
+// Written by scripts/tables/integers.
 // The types whose values stand for some of the integers: those that are not 0, and chars.
 #![tactic(auto, using(crate::proofs::CheckedLemmas::unsigned_from_bits, crate::proofs::CheckedLemmas::signed_from_bits))]
 
@@ -83,6 +84,42 @@ impl Checked<u64> for NonZeroU64 {
     ghost checked_shape = { refl };
 }
 
+impl AsInt<u128> for NonZeroU128 {
+    fn to_int(&self) -> u128 {
+        self.get()
+    }
+
+    ghost as_int_columns = { λ ds. refl };
+}
+
+impl Checked<u128> for NonZeroU128 {
+    ghost allowed = { nonzero };
+
+    fn from_bits(bits: u128) -> Option<Self> {
+        NonZeroU128::new(bits)
+    }
+
+    ghost checked_shape = { refl };
+}
+
+impl AsInt<usize> for NonZeroUsize {
+    fn to_int(&self) -> usize {
+        self.get()
+    }
+
+    ghost as_int_columns = { λ ds. refl };
+}
+
+impl Checked<usize> for NonZeroUsize {
+    ghost allowed = { nonzero };
+
+    fn from_bits(bits: usize) -> Option<Self> {
+        NonZeroUsize::new(bits)
+    }
+
+    ghost checked_shape = { refl };
+}
+
 impl AsInt<i8> for NonZeroI8 {
     fn to_int(&self) -> i8 {
         self.get()
@@ -132,42 +169,6 @@ impl Checked<i32> for NonZeroI32 {
 
     fn from_bits(bits: i32) -> Option<Self> {
         NonZeroI32::new(bits)
-    }
-
-    ghost checked_shape = { refl };
-}
-
-impl AsInt<u128> for NonZeroU128 {
-    fn to_int(&self) -> u128 {
-        self.get()
-    }
-
-    ghost as_int_columns = { λ ds. refl };
-}
-
-impl Checked<u128> for NonZeroU128 {
-    ghost allowed = { nonzero };
-
-    fn from_bits(bits: u128) -> Option<Self> {
-        NonZeroU128::new(bits)
-    }
-
-    ghost checked_shape = { refl };
-}
-
-impl AsInt<usize> for NonZeroUsize {
-    fn to_int(&self) -> usize {
-        self.get()
-    }
-
-    ghost as_int_columns = { λ ds. refl };
-}
-
-impl Checked<usize> for NonZeroUsize {
-    ghost allowed = { nonzero };
-
-    fn from_bits(bits: usize) -> Option<Self> {
-        NonZeroUsize::new(bits)
     }
 
     ghost checked_shape = { refl };

@@ -1,3 +1,4 @@
+// Written by scripts/tables/integers.
 // The signed integers.
 ghost use Rattle.std.specs.Prelude.{true, refl};
 ghost use Rattle.std.proofs.Common.{inl, inr};

@@ -1,3 +1,4 @@
+// Written by scripts/tables/integers.
 // The integers, which are written as they are.
 ghost use Rattle.std.specs.Prelude.{refl};
 

@@ -1,3 +1,4 @@
+// Written by scripts/tables/types.
 // The coders of arrays.
 use crate::derive::{DecodeOwned, HasDecoder, HasEncoder};
 use bitcode_parts::array::{ArrayDecoder, ArrayEncoder};

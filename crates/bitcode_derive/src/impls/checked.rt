@@ -1,3 +1,4 @@
+// Written by scripts/tables/integers.
 // The coders of integers that are not 0, and of chars.
 use crate::derive::{DecodeOwned, HasDecoder, HasEncoder};
 use bitcode_coder::checked::CheckedIntDecoder;

@@ -1,4 +1,5 @@
-// Options and results are encoded and decoded.
+// Written by scripts/tables/types.
+// The coders of options and results.
 use crate::derive::{DecodeOwned, HasDecoder, HasEncoder};
 use bitcode_parts::option::{OptionDecoder, OptionEncoder};
 use bitcode_parts::result::{ResultDecoder, ResultEncoder};

@@ -1,3 +1,4 @@
+// Written by scripts/tables/types.
 // The coders of queues, lists, heaps and sets: those of sequences.
 use crate::derive::{DecodeOwned, HasDecoder, HasEncoder};
 use bitcode_parts::vec::{VecDecoder, VecEncoder};

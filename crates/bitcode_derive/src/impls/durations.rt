@@ -1,3 +1,4 @@
+// Written by scripts/tables/types.
 // The coders of durations.
 use crate::derive::{DecodeOwned, HasDecoder, HasEncoder};
 use bitcode_coder::checked::{CheckedIntDecoder, Nanosecond};

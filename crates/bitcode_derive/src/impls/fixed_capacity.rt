@@ -1,3 +1,4 @@
+// Written by scripts/tables/types.
 // The coders of vectors and texts of a fixed capacity.
 use crate::derive::{DecodeOwned, HasDecoder, HasEncoder};
 use arrayvec::{ArrayString, ArrayVec};
@@ -5,16 +6,6 @@ use bitcode_coder::str::{ArrayStringDecoder, StrEncoder};
 use bitcode_parts::fixed_capacity::ArrayVecDecoder;
 use bitcode_parts::vec::VecEncoder;
 use std::default::Default;
-
-impl<T: HasEncoder, const N: usize> HasEncoder for ArrayVec<T, N> {
-    type Encoder = VecEncoder<T::Encoder>;
-}
-
-impl<'a, T: HasDecoder<'a> + Default, const N: usize> HasDecoder<'a> for ArrayVec<T, N> {
-    type Decoder = ArrayVecDecoder<'a, T::Decoder, N>;
-}
-
-impl<T: DecodeOwned + Default, const N: usize> DecodeOwned for ArrayVec<T, N> {}
 
 impl<const N: usize> HasEncoder for ArrayString<N> {
     type Encoder = StrEncoder;
@@ -25,3 +16,13 @@ impl<'a, const N: usize> HasDecoder<'a> for ArrayString<N> {
 }
 
 impl<const N: usize> DecodeOwned for ArrayString<N> {}
+
+impl<T: HasEncoder, const N: usize> HasEncoder for ArrayVec<T, N> {
+    type Encoder = VecEncoder<T::Encoder>;
+}
+
+impl<'a, T: HasDecoder<'a> + Default, const N: usize> HasDecoder<'a> for ArrayVec<T, N> {
+    type Decoder = ArrayVecDecoder<'a, T::Decoder, N>;
+}
+
+impl<T: DecodeOwned + Default, const N: usize> DecodeOwned for ArrayVec<T, N> {}

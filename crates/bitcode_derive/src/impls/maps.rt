@@ -1,3 +1,4 @@
+// Written by scripts/tables/types.
 // The coders of maps.
 use crate::derive::{DecodeOwned, HasDecoder, HasEncoder};
 use bitcode_parts::map::{MapDecoder, MapEncoder};

@@ -1,3 +1,4 @@
+// Written by scripts/tables/types.
 // The coder of markers of types.
 use crate::derive::{DecodeOwned, HasDecoder, HasEncoder};
 use bitcode_parts::empty::EmptyCoder;

@@ -1,3 +1,4 @@
+// Written by scripts/tables/types.
 // The coders of boxes, shared pointers and their slices.
 use crate::derive::{DecodeOwned, HasDecoder, HasEncoder};
 use bitcode_parts::deref::DerefEncoder;

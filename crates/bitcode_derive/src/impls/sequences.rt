@@ -1,3 +1,4 @@
+// Written by scripts/tables/types.
 // The coders of vectors and slices.
 use crate::derive::{DecodeOwned, HasDecoder, HasEncoder};
 use bitcode_parts::vec::{VecDecoder, VecEncoder};
@@ -12,6 +13,6 @@ impl<'a, T: HasDecoder<'a>> HasDecoder<'a> for Vec<T> {
 
 impl<T: DecodeOwned> DecodeOwned for Vec<T> {}
 
-impl<'b, T: HasEncoder> HasEncoder for &'b [T] {
+impl<'a, T: HasEncoder> HasEncoder for &'a [T] {
     type Encoder = VecEncoder<T::Encoder>;
 }

@@ -1,3 +1,4 @@
+// Written by scripts/tables/types.
 // The coders of texts.
 use crate::derive::{DecodeOwned, HasDecoder, HasEncoder};
 use bitcode_coder::str::{StrDecoder, StrEncoder};
@@ -5,7 +6,7 @@ use bitcode_coder::u8_char::{U8Char, U8CharEncoder};
 use std::boxed::BoxedStr;
 use std::rc::RcStr;
 
-impl<'b> HasEncoder for &'b str {
+impl<'a> HasEncoder for &'a str {
     type Encoder = StrEncoder;
 }
 

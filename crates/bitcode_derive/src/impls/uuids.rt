@@ -1,3 +1,4 @@
+// Written by scripts/tables/types.
 // The coders of UUIDs.
 use crate::derive::{DecodeOwned, HasDecoder, HasEncoder};
 use bitcode_coder::int::{IntDecoder, IntEncoder};

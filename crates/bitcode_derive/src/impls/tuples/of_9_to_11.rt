@@ -1,3 +1,4 @@
+// Written by scripts/tables/tuples.
 // The coders of tuples of nine to eleven fields.
 use crate::derive::{DecodeOwned, HasDecoder, HasEncoder};
 use bitcode_tuples::decoder::TupleDecoder;

@@ -1,3 +1,4 @@
+-- Written by scripts/tables/tuples.
 -- The tuple stands for a pair.
 use Rattle.std.proofs.lemmas.Result.{on_ok_weaker}
 use Rattle.bitcode_columns.specs.declared.error.Error.{Error}

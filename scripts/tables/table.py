@@ -1,0 +1,49 @@
+"""What the scripts of this folder share: rows that are put into templates, and files that are written of them."""
+
+import os
+import re
+import shutil
+import subprocess
+import sys
+import tempfile
+from string import Template
+
+TOP = os.path.dirname(os.path.dirname(os.path.dirname(os.path.abspath(__file__))))
+
+
+def filled(template, rows):
+    """The template with each of the rows put into it, one after the other."""
+    return "".join(Template(template).substitute(row) for row in rows)
+
+
+def in_its_crate(script, path, text):
+    """The text as a file of its crate, which says in the first line where it is from, and calls its own crate by `crate`."""
+    crate = path.split("/")[1]
+    comment = "--" if path.endswith(".antt") else "//"
+    own = re.sub(rf"^use {crate}::", "use crate::", text.lstrip("\n"), flags=re.M)
+    return f"{comment} Written by scripts/tables/{script}.\n{own}"
+
+
+def laid_out(folder):
+    """Lays out what stands in the crates of the folder, as `rt fmt` does."""
+    for crate in os.listdir(f"{folder}/crates"):
+        ran = subprocess.run(
+            ["rt", "fmt"], cwd=f"{folder}/crates/{crate}",
+            stdout=subprocess.PIPE, stderr=subprocess.STDOUT, text=True,
+        )
+        if ran.returncode != 0:
+            sys.exit(ran.stdout)
+
+
+def write(script, texts):
+    """Writes the files, given by their paths, into the folder that the command names, and else into the repository."""
+    target = sys.argv[1] if len(sys.argv) > 1 else TOP
+    with tempfile.TemporaryDirectory() as work:
+        for path, text in texts.items():
+            os.makedirs(os.path.dirname(f"{work}/{path}"), exist_ok=True)
+            with open(f"{work}/{path}", "w") as file:
+                file.write(in_its_crate(script, path, text))
+        laid_out(work)
+        for path in texts:
+            os.makedirs(os.path.dirname(f"{target}/{path}"), exist_ok=True)
+            shutil.copyfile(f"{work}/{path}", f"{target}/{path}")
