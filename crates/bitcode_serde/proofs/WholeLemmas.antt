@@ -28,19 +28,19 @@ use Rattle.bitcode_serde.proofs.ValueLemmas.{root_place}
 pub spelled : (s : ShapeTree) (bytes : List ℕ) (d : Datum) (old new : Reader) → Stands old (start bytes) → ReadsAt s 0 old d new
     → ((a : State) → Stands new a → a.rest ≡ []) → SpellsDatum s bytes d
 spelled s bytes d old new first read last =
-    let r = read [] (root_place old.below.items) (start bytes) first in
+    let r = read [] (root_place old.places.below.items) (start bytes) first in
     whole_read s bytes d r.0 r.2 (last r.0 r.1)
 
 pub more_behind : (s : ShapeTree) (bytes : List ℕ) (d : Datum) (old new : Reader) → Stands old (start bytes) → ReadsAt s 0 old d new
     → ((a : State) → Stands new a → a.rest ≢ []) → (e : Datum) → SpellsDatum s bytes e → ⊥
 more_behind s bytes d old new first read more =
-    let r = read [] (root_place old.below.items) (start bytes) first in
+    let r = read [] (root_place old.places.below.items) (start bytes) first in
     whole_trailing s bytes d r.0 r.2 (more r.0 r.1)
 
 pub none_spelled : (s : ShapeTree) (bytes : List ℕ) (old : Reader) (why : Reason) → Stands old (start bytes) → IsRefusalAt s 0 old why
     → IsValueReason why × (why ≢ reason.OutOfMemory → (d : Datum) → SpellsDatum s bytes d → ⊥)
 none_spelled s bytes old why first h =
-    (h.0, λ other. whole_stuck s bytes (h.1 other [] (root_place old.below.items) (start bytes) first))
+    (h.0, λ other. whole_stuck s bytes (h.1 other [] (root_place old.places.below.items) (start bytes) first))
 
 pub one_spelled : (s : ShapeTree) (bytes : List ℕ) (d e : Datum) → SpellsDatum s bytes d → SpellsDatum s bytes e → d ≡ e
 one_spelled s bytes d e h k = (spells_once s bytes bytes [] [] d e h k refl).0

@@ -22,7 +22,7 @@ use Rattle.bitcode_untyped.proofs.SoundTreeLemmas.{sound_shape}
 use Rattle.bitcode_serde.specs.Writing.{written, place_in, Writes, AreOfShape, IsWriterReason, RefusesAt}
 use Rattle.bitcode_serde.specs.declared.writer.state.Writer.{Writer}
 use Rattle.bitcode_serde.proofs.WholeLemmas.{root_there}
-use Rattle.bitcode_serde.proofs.WritingLemmas.{root_first}
+use Rattle.bitcode_serde.proofs.PlaceLemmas.{root_first}
 
 -- the faults under a shape are those at its root
 pub root_faults : (shape : Shape) (table : List ShapeNode) (root : ℕ) (n : ShapeNode) (v : Value) → table ≡ shape.table.items → root ≡ shape.root
@@ -34,11 +34,11 @@ root_faults shape table root n v t r is =
 pub whole_written : (s : ShapeTree) (d : Datum) (old new : Writer) → written old ≡ [] → Writes old (walk s (place_in old 0) d) new
     → texts_of (unplaced (written new)) ≡ datum_text s d
 whole_written s d old new none w =
-    ap (λ cs. texts_of (unplaced cs)) (w.columns ∙ ap (put_all (walk s (place_in old 0) d)) none ∙ ap (λ p. put_all (walk s p d) []) (root_first old.below.items) ∙ put_all-none (walk s [] d))
+    ap (λ cs. texts_of (unplaced cs)) (w.columns ∙ ap (put_all (walk s (place_in old 0) d)) none ∙ ap (λ p. put_all (walk s p d) []) (root_first old.places.below.items) ∙ put_all-none (walk s [] d))
 
 pub whole_refused : (s : ShapeTree) (old : Writer) (faults : List Reason) (why : Reason) → written old ≡ [] → RefusesAt old s 0 faults why → IsWriterReason why faults
 whole_refused s old faults why none h =
-    h s (subst (AreOfShape s) (sym none) tt) (λ q kind k. subst (λ p. HasKindFrom s p q kind) (root_first old.below.items) k)
+    h s (subst (AreOfShape s) (sym none) tt) (λ q kind k. subst (λ p. HasKindFrom s p q kind) (root_first old.places.below.items) k)
 
 pub read_back : (shape : Shape) (bytes : List ℕ) (d : Datum) → bytes ≡ datum_text (tree_of shape) d → IsOf (tree_of shape) d → IsLimited (tree_of shape) d
     → LengthsBelowLimit (tree_of shape) d → SpellsDatum (tree_of shape) bytes d

@@ -9,7 +9,8 @@ ghost use Rattle.bitcode_serde.specs.ReadingValues.{IsSteady, Continues, ReadsAt
 use crate::column::ColumnKind;
 use crate::free::is_over_limit;
 use crate::leaf::{read_bytes, read_char, read_leaf};
-use crate::reader::{Reader, Step};
+use crate::reader::Reader;
+use crate::step::Step;
 use bitcode_input::error::{Error, Reason};
 use bitcode_input::refuse::err;
 use bitcode_untyped::shape::ShapeNode;
@@ -26,7 +27,7 @@ pub fn read(
     left: usize,
     place: usize,
 ) -> Result<Value, Error>
-    requires place { place ≤ length reader.old.below.items }
+    requires place { place ≤ length reader.old.places.below.items }
     requires steady { IsSteady reader.old }
     ensures continues { OnOk result (Continues reader.old reader.new) }
     ensures read { IfOk result (λ value. ReadsAt (tree_of_node left table.now node.now) place reader.old (datum_of value) reader.new) }
@@ -76,7 +77,7 @@ fn read_option(
     left: usize,
     place: usize,
 ) -> Result<Value, Error>
-    requires place { place ≤ length reader.old.below.items }
+    requires place { place ≤ length reader.old.places.below.items }
     requires steady { IsSteady reader.old }
     ensures continues { OnOk result (Continues reader.old reader.new) }
     ensures read { IfOk result (λ value. ReadsAt (option_tree (tree_of_node left table.now node.now)) place reader.old (datum_of value) reader.new) }
@@ -105,7 +106,7 @@ fn read_seq(
     left: usize,
     place: usize,
 ) -> Result<Value, Error>
-    requires place { place ≤ length reader.old.below.items }
+    requires place { place ≤ length reader.old.places.below.items }
     requires steady { IsSteady reader.old }
     ensures continues { OnOk result (Continues reader.old reader.new) }
     ensures read { IfOk result (λ value. ReadsAt (seq_tree (tree_of_node left table.now node.now)) place reader.old (datum_of value) reader.new) }
@@ -132,7 +133,7 @@ fn read_elements(
     place: usize,
     count: usize,
 ) -> Result<Vec<Value>, Error>
-    requires place { place ≤ length reader.old.below.items }
+    requires place { place ≤ length reader.old.places.below.items }
     requires steady { IsSteady reader.old }
     ensures continues { OnOk result (Continues reader.old reader.new) }
     ensures read { IfOk result (λ values. ReadsListAt (tree_of_node left table.now node.now) place reader.old count (map datum_of values.items) reader.new) }
@@ -157,7 +158,7 @@ fn read_tuple(
     left: usize,
     place: usize,
 ) -> Result<Value, Error>
-    requires place { place ≤ length reader.old.below.items }
+    requires place { place ≤ length reader.old.places.below.items }
     requires steady { IsSteady reader.old }
     ensures continues { OnOk result (Continues reader.old reader.new) }
     ensures read { IfOk result (λ value. ReadsAt (tuple_tree (trees_of (map (tree_of_node left table.now) nodes.now))) place reader.old (datum_of value) reader.new) }
@@ -183,7 +184,7 @@ fn read_enum(
     left: usize,
     place: usize,
 ) -> Result<Value, Error>
-    requires place { place ≤ length reader.old.below.items }
+    requires place { place ≤ length reader.old.places.below.items }
     requires steady { IsSteady reader.old }
     ensures continues { OnOk result (Continues reader.old reader.new) }
     ensures read { IfOk result (λ value. ReadsAt (choice_tree (trees_of (map (tree_of_node left table.now) nodes.now))) place reader.old (datum_of value) reader.new) }
@@ -212,7 +213,7 @@ fn read_map(
     left: usize,
     place: usize,
 ) -> Result<Value, Error>
-    requires place { place ≤ length reader.old.below.items }
+    requires place { place ≤ length reader.old.places.below.items }
     requires steady { IsSteady reader.old }
     ensures continues { OnOk result (Continues reader.old reader.new) }
     ensures read { IfOk result (λ made. ReadsAt (map_tree (tree_of_node left table.now key.now) (tree_of_node left table.now value.now)) place reader.old (datum_of made) reader.new) }

@@ -11,7 +11,7 @@ use Rattle.bitcode_serde.specs.Writing.{IsWriterReason}
 use Rattle.bitcode_serde.proofs.ColumnLemmas.{passed_on}
 use Rattle.bitcode_serde.proofs.WholeLemmas.{root_is}
 use Rattle.bitcode_serde.proofs.WholeWritingLemmas.{root_faults, whole_written, whole_refused, read_back}
-use Rattle.bitcode_serde.proofs.WritingLemmas.{if_ok, on_all}
+use Rattle.bitcode_serde.proofs.OutcomeLemmas.{if_ok, on_all}
 use Rattle.bitcode_serde.proofs.WrittenLemmas.{if_err}
 use Rattle.bitcode_serde.proofs.serialize.serialize.Goals as goal
 

@@ -11,6 +11,6 @@ use Rattle.bitcode_serde.proofs.walk.write_leaves.Given as goal
 
 abbrev pub invariant-loop-value : goal.invariant-loop-value
 invariant-loop-value l =
-    (l.element ≤ length l.initial.writer.below.items)
+    (l.element ≤ length l.initial.writer.places.below.items)
     × ((table : List ShapeNode) (left : ℕ) → EachWritten (λ v. walk (tree_of_node left table l.node) (place_in l.initial.writer l.element) (datum_of v))
     (λ v. IsOf (tree_of_node left table l.node) (datum_of v)) (λ v. faults_of table v left l.node) l.values l.initial.writer l.value-index l.writer)
