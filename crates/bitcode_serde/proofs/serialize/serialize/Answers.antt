@@ -5,8 +5,9 @@ use Rattle.bitcode_untyped.specs.Bounds.{IsLimited}
 use Rattle.bitcode_untyped.specs.Faults.{faults_of, value_faults}
 use Rattle.bitcode_untyped.specs.Laws.{LengthsBelowLimit}
 use Rattle.bitcode_untyped.specs.ShapeTree.{IsOf}
-use Rattle.bitcode_untyped.specs.Spelling.{datum_text, SpellsDatum}
+use Rattle.bitcode_untyped.specs.Spelling.{datum_text}
 use Rattle.bitcode_untyped.specs.View.{datum_of, tree_of, tree_of_node}
+use Rattle.bitcode_serde.specs.Serializing.{IsReadAs}
 use Rattle.bitcode_serde.specs.Writing.{IsWriterReason}
 use Rattle.bitcode_serde.proofs.ColumnLemmas.{passed_on}
 use Rattle.bitcode_serde.proofs.WholeLemmas.{root_is}
@@ -42,8 +43,9 @@ returns-clause-back c =
     let is = root_is c.args.shape.now c.table-table.result.now c.root.result c.index-table-root.result c.table-table.ensures c.root.ensures c.index-table-root.is in
     let s = tree_of c.args.shape.now in
     let of : IsOf s (datum_of c.args.value.now) = rw is c.in_ok-write.ensures.of_tree in
-    if_ok _ (λ bytes. IsLimited s (datum_of c.args.value.now) → LengthsBelowLimit s (datum_of c.args.value.now) → SpellsDatum s bytes.items (datum_of c.args.value.now)) c.collect.result
-    (λ bytes text. read_back c.args.shape.now bytes.items (datum_of c.args.value.now) (rw is (text ∙ whole_written (tree_of_node 128 c.table-table.result.now c.index-table-root.result) (datum_of c.args.value.now) c.new-writer.result c.write.new.writer c.new-writer.ensures.empty c.in_ok-write.ensures.written)) of)
+    let whole = root_faults c.args.shape.now c.table-table.result.now c.root.result c.index-table-root.result c.args.value.now c.table-table.ensures c.root.ensures c.index-table-root.is ∙ c.in_ok-write.ensures.whole in
+    if_ok _ (λ bytes. IsLimited s (datum_of c.args.value.now) → LengthsBelowLimit s (datum_of c.args.value.now) → IsReadAs c.args.shape.now bytes.items c.args.value.now) c.collect.result
+    (λ bytes text. read_back c.args.shape.now bytes.items c.args.value.now (rw is (text ∙ whole_written (tree_of_node 128 c.table-table.result.now c.index-table-root.result) (datum_of c.args.value.now) c.new-writer.result c.write.new.writer c.new-writer.ensures.empty c.in_ok-write.ensures.written)) of whole)
     c.collect.ensures.text
 
 pub returns-clause-refused : goal.returns-clause-refused
