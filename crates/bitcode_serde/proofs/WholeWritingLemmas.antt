@@ -35,13 +35,16 @@ root_faults shape table root n v t r is =
 pub whole_written : (s : ShapeTree) (d : Datum) (old new : Writer) → written old ≡ [] → Writes old (walk s (place_in old 0) d) new
     → texts_of (unplaced (written new)) ≡ datum_text s d
 whole_written s d old new none w =
-    ap (λ cs. texts_of (unplaced cs)) (w.columns ∙ ap (put_all (walk s (place_in old 0) d)) none ∙ ap (λ p. put_all (walk s p d) []) (root_first old.places.below.items) ∙ put_all-none (walk s [] d))
+    ap (λ cs. texts_of (unplaced cs)) (w.columns ∙ ap (put_all (walk s (place_in old 0) d)) none ∙ ap (λ p. put_all (walk s p d) [])
+    (root_first old.places.below.items) ∙ put_all-none (walk s [] d))
 
-pub whole_refused : (s : ShapeTree) (old : Writer) (faults : List Reason) (why : Reason) → written old ≡ [] → RefusesAt old s 0 faults why → IsWriterReason why faults
+pub whole_refused : (s : ShapeTree) (old : Writer) (faults : List Reason) (why : Reason) → written old ≡ [] → RefusesAt old s 0 faults why
+    → IsWriterReason why faults
 whole_refused s old faults why none h =
     h s (subst (AreOfShape s) (sym none) tt) (λ q kind k. subst (λ p. HasKindFrom s p q kind) (root_first old.places.below.items) k)
 
-pub read_back : (shape : Shape) (bytes : List ℕ) (v : Value) → bytes ≡ datum_text (tree_of shape) (datum_of v) → IsOf (tree_of shape) (datum_of v) → value_faults shape v ≡ []
+pub read_back : (shape : Shape) (bytes : List ℕ) (v : Value) → bytes ≡ datum_text (tree_of shape) (datum_of v) → IsOf (tree_of shape) (datum_of v)
+    → value_faults shape v ≡ []
     → IsLimited (tree_of shape) (datum_of v) → LengthsBelowLimit (tree_of shape) (datum_of v) → IsReadAs shape bytes v
 read_back shape bytes v e of whole limited lengths =
     let spelled : SpellsDatum (tree_of shape) bytes (datum_of v) =
