@@ -1,6 +1,6 @@
 -- The values that are entries of one column.
 use Rattle.std.proofs.Common.{◌≡◌, ℕ, ℤ, Bool, true, false, String, Vec, Box, Global, None, string_bytes, refl, sym, ◌∙◌}
-use Rattle.bitcode_input.specs.declared.error.Reason.TheVariants.{NotOfTheShape}
+use Rattle.bitcode_columns.specs.declared.error.Reason.TheVariants.{NotOfTheShape}
 use Rattle.bitcode_shapes.specs.Datum.{number, text}
 use Rattle.bitcode_shapes.specs.Shape.{any_number, scalar}
 use Rattle.bitcode_coder.specs.Columns.{bools, ints, texts}

@@ -11,8 +11,8 @@ ghost use Rattle.bitcode_serde.specs.Reading.{step_of, IsStep, IsPlace, IsRooted
 ghost use Rattle.bitcode_serde.specs.ReadingValues.{IsSteady, Continues, field_at};
 
 use crate::column::{Column, ColumnKind};
-use bitcode_input::error::{Error, Reason};
-use bitcode_input::refuse::err;
+use bitcode_columns::error::{Error, Reason};
+use bitcode_columns::refuse::err;
 use bitcode_untyped::value::Value;
 use std::alloc::Global;
 

@@ -10,7 +10,7 @@ ghost use Rattle.bitcode_serde.specs.Serializing.{Outcome};
 use crate::reader::Step;
 use crate::writer::Writer;
 use crate::written::Entry;
-use bitcode_input::error::Error;
+use bitcode_columns::error::Error;
 
 /// Writes a list of bytes at a place: its length, and then its bytes, one after another.
 ///

@@ -4,7 +4,7 @@ use crate::deserialize::deserialize;
 use crate::reader::{Reader, Step};
 use crate::serde::{VariantDecoder, VariantEncoder};
 use bitcode_coder::coder::{Buffer, Decoder, Encoder, View};
-use bitcode_input::error::{Error, Reason};
+use bitcode_columns::error::{Error, Reason};
 use bitcode_untyped::shape::{Shape, ShapeNode};
 use bitcode_untyped::value::Value;
 use std::alloc::Global;

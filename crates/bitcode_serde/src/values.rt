@@ -9,8 +9,8 @@ ghost use Rattle.bitcode_serde.specs.ReadingValues.{IsSteady, Continues, ReadsAt
 use crate::free::is_over_limit;
 use crate::leaf::{read_bytes, read_entry};
 use crate::reader::{Reader, Step};
-use bitcode_input::error::{Error, Reason};
-use bitcode_input::refuse::err;
+use bitcode_columns::error::{Error, Reason};
+use bitcode_columns::refuse::err;
 use bitcode_untyped::shape::ShapeNode;
 use bitcode_untyped::value::Value;
 use std::alloc::Global;

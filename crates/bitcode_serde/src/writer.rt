@@ -16,7 +16,7 @@ ghost use Rattle.bitcode_serde.specs.Writing.{written, place_in, column_of, Grow
 use crate::reader::Step;
 pub use crate::writer::state::{PlacedWritten, Writer, WrittenPlace};
 use crate::written::{Entry, WrittenColumn};
-use bitcode_input::error::{Error, Reason};
+use bitcode_columns::error::{Error, Reason};
 use std::alloc::Global;
 
 mod state;

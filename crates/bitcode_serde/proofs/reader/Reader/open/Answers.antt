@@ -1,7 +1,7 @@
 -- A column is opened where the machine opens one.
 use Rattle.std.proofs.Common.{◌≢◌, refl, sym, arith, ap, length}
 use Rattle.std.proofs.lemmas.Result.{err_from_is_err_and}
-use Rattle.bitcode_input.specs.declared.error.Reason.TheVariants.{OutOfMemory}
+use Rattle.bitcode_columns.specs.declared.error.Reason.TheVariants.{OutOfMemory}
 use Rattle.bitcode_untyped.specs.Machine.{State}
 use Rattle.bitcode_serde.specs.Reading.{places, place_at, Stands, NothingAt}
 use Rattle.bitcode_serde.specs.ReadColumns.{kind_of, left, IsColumnReason}
