@@ -20,11 +20,11 @@ use Rattle.bitcode_untyped.proofs.ReadLemmas.{list_of-data_of}
 
 -- ---- no faults
 
-no_first : {A : Type 0} (xs ys : List A) → xs ++ ys ≡ [] → xs ≡ []
+pub no_first : {A : Type 0} (xs ys : List A) → xs ++ ys ≡ [] → xs ≡ []
 no_first [] ys h = refl
 no_first (x ∷ xs) ys h = cc
 
-no_last : {A : Type 0} (xs ys : List A) → xs ++ ys ≡ [] → ys ≡ []
+pub no_last : {A : Type 0} (xs ys : List A) → xs ++ ys ≡ [] → ys ≡ []
 no_last [] ys h = h
 no_last (x ∷ xs) ys h = cc
 
