@@ -6,6 +6,10 @@ pub mod StepLemmas
 pub mod ValueLemmas
 pub mod DepthLemmas
 pub mod FreeLemmas
+pub mod OutcomeLemmas
+pub mod LinkLemmas
+pub mod PlaceLemmas
+pub mod FiledLemmas
 pub mod EntryLemmas
 pub mod FieldLemmas
 pub mod CaseLemmas
@@ -15,3 +19,5 @@ pub mod WrittenLemmas
 pub mod WritingLemmas
 pub mod LeafEntryLemmas
 pub mod SerializeLemmas
+pub mod WalkLemmas
+pub mod WholeWritingLemmas

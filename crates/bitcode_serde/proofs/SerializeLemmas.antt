@@ -14,7 +14,7 @@ use Rattle.bitcode_coder.specs.Columns.{Kind}
 use Rattle.bitcode_untyped.specs.Growing.{put, put_all}
 use Rattle.bitcode_untyped.specs.PlaceKinds.{HasKindFrom}
 use Rattle.bitcode_untyped.specs.PlacedColumns.{same_place, PlacedColumn}
-use Rattle.bitcode_untyped.specs.ShapeTree.{ShapeTree, seq_tree}
+use Rattle.bitcode_untyped.specs.ShapeTree.{ShapeTree, seq_tree, IsOf}
 use Rattle.bitcode_untyped.specs.Walk.{Step, element, Place, Use, use_at, length_kind, walk}
 use Rattle.bitcode_untyped.proofs.KindLemmas.{kinded}
 use Rattle.std.proofs.lemmas.List.{length-map}
@@ -22,33 +22,32 @@ use Rattle.std.proofs.lemmas.List.Folds.{flat_map-map}
 use Rattle.bitcode_coder.specs.Spelling.{natural}
 use Rattle.bitcode_untyped.proofs.GrowingLemmas.{put_all-append}
 use Rattle.bitcode_untyped.proofs.EachLemmas.{each_if, each_flat}
-use Rattle.bitcode_serde.specs.Reading.{place_at}
-use Rattle.bitcode_serde.specs.WrittenPlaces.{met}
+use Rattle.bitcode_serde.specs.Places.{place_at, places}
 use Rattle.bitcode_serde.specs.Serializing.{Outcome}
 use Rattle.bitcode_serde.specs.Writing.{written, place_in, Grows, Writes, AreOfShape, IsAmong, RefusesAt}
 use Rattle.bitcode_serde.specs.declared.writer.state.Writer.{Writer}
-use Rattle.bitcode_serde.proofs.WritingLemmas.{at_front, met_inside}
+use Rattle.bitcode_serde.proofs.PlaceLemmas.{at_front, inside_places}
 
 -- ---- writers that grow
 
-pub grows_same : (a b : Writer) → b.below ≡ a.below → Grows a b
+pub grows_same : (a b : Writer) → b.places.below ≡ a.places.below → Grows a b
 grows_same a b e = record {
   more = [];
-  places = ap (λ z. met z.items) e ∙ sym (append-nil (met a.below.items));
-  size = let h : length b.below.items ≡ length a.below.items = ap (λ z. length z.items) e in omega (arith, h);
+  places = ap (λ z. places z.items) e ∙ sym (append-nil (places a.places.below.items));
+  size = let h : length b.places.below.items ≡ length a.places.below.items = ap (λ z. length z.items) e in omega (arith, h);
 }
 
 pub grows_then : (a b c : Writer) → Grows a b → Grows b c → Grows a c
 grows_then a b c g h = record {
   more = g.more ++ h.more;
-  places = h.places ∙ ap (λ (ps : List Place). ps ++ h.more) g.places ∙ append_assoc (met a.below.items) g.more h.more;
+  places = h.places ∙ ap (λ (ps : List Place). ps ++ h.more) g.places ∙ append_assoc (places a.places.below.items) g.more h.more;
   size = let x = g.size in let y = h.size in omega (arith, x, y);
 }
 
-pub kept : (a b : Writer) (n : ℕ) → Grows a b → n ≤ length a.below.items → place_in b n ≡ place_in a n
-kept a b n g h = ap (λ (ps : List Place). place_at ps n) g.places ∙ at_front (met a.below.items) g.more n (met_inside a.below.items n h)
+pub kept : (a b : Writer) (n : ℕ) → Grows a b → n ≤ length a.places.below.items → place_in b n ≡ place_in a n
+kept a b n g h = ap (λ (ps : List Place). place_at ps n) g.places ∙ at_front (places a.places.below.items) g.more n (inside_places a.places.below.items n h)
 
-pub writes_put : (a b : Writer) (u : Use) → b.below ≡ a.below → written b ≡ put u (written a) → Writes a (u ∷ []) b
+pub writes_put : (a b : Writer) (u : Use) → b.places.below ≡ a.places.below → written b ≡ put u (written a) → Writes a (u ∷ []) b
 writes_put a b u e h = record { grows = grows_same a b e; columns = h }
 
 pub writes_none : (a b : Writer) → Grows a b → written b ≡ written a → Writes a [] b
@@ -93,7 +92,8 @@ pub refuses_inside : (old now : Writer) (tree sub : ShapeTree) (n m : ℕ) (done
     → (IsAmong reason part_faults → IsAmong reason faults) → RefusesAt now sub m part_faults reason → RefusesAt old tree n faults reason
 refuses_inside old now tree sub n m done faults part_faults reason w kinds inside among refused root of_shape part =
     let of_shape_now = subst (AreOfShape root) (sym w.columns)
-    (of_shape_all root done (written old) of_shape (each_if (λ (u : Use). HasKindFrom tree (place_in old n) u.place u.kind) (λ (u : Use). HasKindFrom root [] u.place u.kind) (λ u h. part u.place u.kind h) done kinds)) in
+    (of_shape_all root done (written old) of_shape (each_if (λ (u : Use). HasKindFrom tree (place_in old n) u.place u.kind)
+    (λ (u : Use). HasKindFrom root [] u.place u.kind) (λ u h. part u.place u.kind h) done kinds)) in
     elim (refused root of_shape_now (λ q kind h. part q kind (inside q kind h))) [
       | inl memory ↦ inl memory
       | inr fault ↦ inr (among fault)
@@ -122,6 +122,10 @@ pub listed : (ds : List Datum) → list_of (data_of ds) ≡ ds
 listed [] = refl
 listed (d ∷ ds) = ap (λ xs. d ∷ xs) (listed ds)
 
+pub each_map : {A B : Type 0} (P : B → Type 0) (f : A → B) (xs : List A) → AllByRecursion (λ x. P (f x)) xs → AllByRecursion P (map f xs)
+each_map P f [] h = tt
+each_map P f (x ∷ xs) h = (h.0, each_map P f xs h.1)
+
 -- one element more, of those that were taken so far
 pub one_more : {A B : Type 0} (f : A → List B) (xs : List A) (i : ℕ) (x default : A) → i < length xs → x ≡ get_or xs i default
     → flat_map f (take (i + 1) xs) ≡ flat_map f (take i xs) ++ f x
@@ -132,16 +136,16 @@ one_more f xs i x default h e =
 -- ---- a list at its place
 
 -- the number of elements was written, and the place of the elements is known
-pub begun : (old first now : Writer) (n m : ℕ) (u : Use) (s : Step) → first.below ≡ old.below → written first ≡ put u (written old)
+pub begun : (old first now : Writer) (n m : ℕ) (u : Use) (s : Step) → first.places.below ≡ old.places.below → written first ≡ put u (written old)
     → place_in now m ≡ s ∷ place_in first n → Grows first now → written now ≡ written first
     → Writes old (u ∷ []) now × (place_in now m ≡ s ∷ place_in old n)
 begun old first now n m u s same put_there at grows rest = (
   writes_then old first now (u ∷ []) [] (writes_put old first u same put_there) (writes_none first now grows rest),
-  at ∙ ap (λ z. s ∷ place_at (met z.items) n) same,
+  at ∙ ap (λ z. s ∷ place_at (places z.items) n) same,
 )
 
 module _ {A : Type 0} (uses_of : Place → A → List Use) (xs : List A) where
-  pub grown : (start now new : Writer) (m i : ℕ) (x default : A) → m ≤ length start.below.items
+  pub grown : (start now new : Writer) (m i : ℕ) (x default : A) → m ≤ length start.places.below.items
       → Writes start (flat_map (uses_of (place_in start m)) (take i xs)) now → Writes now (uses_of (place_in now m) x) new → i < length xs → x ≡ get_or xs i default
       → Writes start (flat_map (uses_of (place_in start m)) (take (i + 1) xs)) new
   grown start now new m i x default inside so_far step high is =
@@ -165,44 +169,55 @@ module _ {A : Type 0} (s : ShapeTree) (datum : A → Datum) (xs : List A) where
       ∙ ap (λ w. use_at p length_kind (natural (length xs)) ∷ w) (flat_map-map (walk s (element ∷ p)) datum xs)
 
   pub list_done : (old start now : Writer) (n m i : ℕ) → Writes old (use_at (place_in old n) length_kind (natural (length xs)) ∷ []) start
-      → place_in start m ≡ element ∷ place_in old n → length xs ≤ i → i ≤ length xs → Writes start (flat_map (λ x. walk s (place_in start m) (datum x)) (take i xs)) now
+      → place_in start m ≡ element ∷ place_in old n → length xs ≤ i → i ≤ length xs
+      → Writes start (flat_map (λ x. walk s (place_in start m) (datum x)) (take i xs)) now
       → Writes old (walk (seq_tree s) (place_in old n) (list (data_of (map datum xs)))) now
   list_done old start now n m i first at low high so_far =
       let p = place_in old n in
-      let all = finished (λ q x. walk s q (datum x)) xs old start now (use_at p length_kind (natural (length xs))) (place_in start m) i first (omega (arith, low, high)) so_far in
+      let all = finished (λ q x. walk s q (datum x)) xs old start now (use_at p length_kind (natural (length xs))) (place_in start m) i first
+      (omega (arith, low, high)) so_far in
       subst (λ w. Writes old w now) (sym (list_walk p))
       (subst (λ q. Writes old (use_at p length_kind (natural (length xs)) ∷ flat_map (λ x. walk s q (datum x)) xs) now) at all)
 
+  pub list_is : AllByRecursion (λ x. IsOf s (datum x)) xs → IsOf (seq_tree s) (list (data_of (map datum xs)))
+  list_is each =
+      let e : list_of (data_of (map datum xs)) ≡ map datum xs = listed (map datum xs) in
+      (sym (ap (λ ds. list (data_of ds)) e), subst (AllByRecursion (IsOf s)) (sym e) (each_map (IsOf s) datum xs each))
+
   pub list_kinds : (p : Place) (k i : ℕ)
-      → AllByRecursion (λ u. HasKindFrom (seq_tree s) p u.place u.kind) (use_at p length_kind (natural k) ∷ flat_map (λ x. walk s (element ∷ p) (datum x)) (take i xs))
+      → AllByRecursion (λ u. HasKindFrom (seq_tree s) p u.place u.kind) (use_at p length_kind (natural k) ∷ flat_map (λ x. walk s (element ∷ p) (datum x))
+      (take i xs))
   list_kinds p k i = (
     inl (refl, refl),
     each_if (λ (u : Use). HasKindFrom s (element ∷ p) u.place u.kind) (λ (u : Use). HasKindFrom (seq_tree s) p u.place u.kind) (λ u h. inr h) _
-        (each_flat (λ (u : Use). HasKindFrom s (element ∷ p) u.place u.kind) (λ x. walk s (element ∷ p) (datum x)) (λ x. kinded s (element ∷ p) (datum x)) (take i xs)),
+        (each_flat (λ (u : Use). HasKindFrom s (element ∷ p) u.place u.kind) (λ x. walk s (element ∷ p) (datum x)) (λ x. kinded s (element ∷ p) (datum x))
+        (take i xs)),
   )
 
   -- an element was refused
   pub list_refused : (old start now : Writer) (n m k i : ℕ) (faults part_faults : List Reason) (reason : Reason)
-      → Writes old (use_at (place_in old n) length_kind (natural k) ∷ []) start → place_in start m ≡ element ∷ place_in old n → m ≤ length start.below.items
+      → Writes old (use_at (place_in old n) length_kind (natural k) ∷ []) start → place_in start m ≡ element ∷ place_in old n → m ≤ length start.places.below.items
       → Writes start (flat_map (λ x. walk s (place_in start m) (datum x)) (take i xs)) now
       → (IsAmong reason part_faults → IsAmong reason faults) → RefusesAt now s m part_faults reason → RefusesAt old (seq_tree s) n faults reason
   list_refused old start now n m k i faults part_faults reason first at inside so_far among refused =
       let p = place_in old n in
       let rest = subst (λ q. Writes start (flat_map (λ x. walk s q (datum x)) (take i xs)) now) at so_far in
-      refuses_inside old now (seq_tree s) s n m (use_at p length_kind (natural k) ∷ flat_map (λ x. walk s (element ∷ p) (datum x)) (take i xs)) faults part_faults reason
+      refuses_inside old now (seq_tree s) s n m (use_at p length_kind (natural k) ∷ flat_map (λ x. walk s (element ∷ p) (datum x)) (take i xs)) faults
+      part_faults reason
       (writes_then old start now (use_at p length_kind (natural k) ∷ []) _ first rest) (list_kinds p k i)
       (λ q kind h. inr (subst (λ z. HasKindFrom s z q kind) (kept start now m so_far.grows inside ∙ at) h)) among refused
 
 -- ---- outcomes
 
-pub refused_outcome : {A : Type 0} (old : Writer) (tree : ShapeTree) (n : ℕ) (d : Datum) (faults : List Reason) (r : Result A Error) (new : Writer) (e y : Error) → r ≡ Err y → y ≡ e
+pub refused_outcome : {A : Type 0} (old : Writer) (tree : ShapeTree) (n : ℕ) (d : Datum) (faults : List Reason) (r : Result A Error) (new : Writer)
+    (e y : Error) → r ≡ Err y → y ≡ e
     → RefusesAt old tree n faults e.reason → Outcome old tree n d faults r new
 refused_outcome old tree n d faults r new e y h g k =
-    rw (h, g) (record { written = tt; whole = tt; refused = k })
+    rw (h, g) (record { written = tt; of_tree = tt; whole = tt; refused = k })
 
 pub written_outcome : {A : Type 0} (old : Writer) (tree : ShapeTree) (n : ℕ) (d : Datum) (faults : List Reason) (a : A) (new : Writer)
-    → Writes old (walk tree (place_in old n) d) new → faults ≡ [] → Outcome old tree n d faults (Ok a) new
-written_outcome old tree n d faults a new w e = record { written = w; whole = e; refused = tt }
+    → Writes old (walk tree (place_in old n) d) new → IsOf tree d → faults ≡ [] → Outcome old tree n d faults (Ok a) new
+written_outcome old tree n d faults a new w of e = record { written = w; of_tree = of; whole = e; refused = tt }
 
 -- the same outcome, told otherwise
 pub same_outcome : {A : Type 0} (old : Writer) (tree other : ShapeTree) (n : ℕ) (d e : Datum) (faults reasons : List Reason) (r : Result A Error) (new : Writer)
@@ -210,7 +225,8 @@ pub same_outcome : {A : Type 0} (old : Writer) (tree other : ShapeTree) (n : ℕ
 same_outcome old tree other n d e faults reasons r new t k f h = rw (t, k, f) h
 
 -- one fault, and the refusal that names it
-pub one_fault : {A : Type 0} (old : Writer) (tree : ShapeTree) (n : ℕ) (d : Datum) (faults : List Reason) (reason : Reason) (r : Result A Error) (e : Error) (new : Writer)
+pub one_fault : {A : Type 0} (old : Writer) (tree : ShapeTree) (n : ℕ) (d : Datum) (faults : List Reason) (reason : Reason) (r : Result A Error) (e : Error)
+    (new : Writer)
     → r ≡ Err e → e.reason ≡ reason → faults ≡ reason ∷ [] → Outcome old tree n d faults r new
 one_fault old tree n d faults reason r e new h g f =
-    rw (h, f) (record { written = tt; whole = tt; refused = λ root of_shape part. inr (inl g) })
+    rw (h, f) (record { written = tt; of_tree = tt; whole = tt; refused = λ root of_shape part. inr (inl g) })

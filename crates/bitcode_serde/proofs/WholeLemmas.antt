@@ -28,19 +28,19 @@ use Rattle.bitcode_serde.proofs.ValueLemmas.{root_place}
 pub spelled : (s : ShapeTree) (bytes : List ℕ) (d : Datum) (old new : Reader) → Stands old (start bytes) → ReadsAt s 0 old d new
     → ((a : State) → Stands new a → a.rest ≡ []) → SpellsDatum s bytes d
 spelled s bytes d old new first read last =
-    let r = read [] (root_place old.below.items) (start bytes) first in
+    let r = read [] (root_place old.places.below.items) (start bytes) first in
     whole_read s bytes d r.0 r.2 (last r.0 r.1)
 
 pub more_behind : (s : ShapeTree) (bytes : List ℕ) (d : Datum) (old new : Reader) → Stands old (start bytes) → ReadsAt s 0 old d new
     → ((a : State) → Stands new a → a.rest ≢ []) → (e : Datum) → SpellsDatum s bytes e → ⊥
 more_behind s bytes d old new first read more =
-    let r = read [] (root_place old.below.items) (start bytes) first in
+    let r = read [] (root_place old.places.below.items) (start bytes) first in
     whole_trailing s bytes d r.0 r.2 (more r.0 r.1)
 
 pub none_spelled : (s : ShapeTree) (bytes : List ℕ) (old : Reader) (why : Reason) → Stands old (start bytes) → IsRefusalAt s 0 old why
     → IsValueReason why × (why ≢ reason.OutOfMemory → (d : Datum) → SpellsDatum s bytes d → ⊥)
 none_spelled s bytes old why first h =
-    (h.0, λ other. whole_stuck s bytes (h.1 other [] (root_place old.below.items) (start bytes) first))
+    (h.0, λ other. whole_stuck s bytes (h.1 other [] (root_place old.places.below.items) (start bytes) first))
 
 pub one_spelled : (s : ShapeTree) (bytes : List ℕ) (d e : Datum) → SpellsDatum s bytes d → SpellsDatum s bytes e → d ≡ e
 one_spelled s bytes d e h k = (spells_once s bytes bytes [] [] d e h k refl).0
@@ -53,7 +53,7 @@ bounded shape bytes d h = (elements_are_bounded (tree_of shape) (sound_shape sha
 
 -- ---- the root
 
-root_there : (shape : Shape) (table : List ShapeNode) (root : ℕ) (n : ShapeNode) → table ≡ shape.table.items → root ≡ shape.root → n ≡ get_or table root n
+pub root_there : (shape : Shape) (table : List ShapeNode) (root : ℕ) (n : ShapeNode) → table ≡ shape.table.items → root ≡ shape.root → n ≡ get_or table root n
     → slice_get shape.table.items shape.root ≡ Some n
 root_there shape table root n t r is =
     let at : n ≡ get_or shape.table.items root n = subst (λ ns. n ≡ get_or ns root n) t is in

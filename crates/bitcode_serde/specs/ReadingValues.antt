@@ -14,27 +14,27 @@ use Rattle.bitcode_untyped.specs.declared.shape.ShapeNode.{ShapeNode}
 use Rattle.bitcode_untyped.specs.declared.shape.ShapeNode.TheVariants as node
 use Rattle.bitcode_untyped.specs.declared.value.Value.{Value}
 use Rattle.bitcode_serde.specs.ReadColumns.{IsColumnReason}
-use Rattle.bitcode_serde.specs.Reading.{IsPlace, IsRooted, AreSized, Stands}
+use Rattle.bitcode_serde.specs.Reading.{AreSized, Stands}
+use Rattle.bitcode_serde.specs.Places.{IsPlace}
 use Rattle.bitcode_serde.specs.declared.reader.Reader.{Reader}
 
 -- between two calls
 pub record IsSteady (r : Reader) : Type 0 where
   pub sized : AreSized r.columns.items
-  pub rooted : IsRooted 1 r.below.items
 
 -- The places of the old reader are the new one's too, by the same numbers.
 pub record Continues (old new : Reader) : Type 0 where
   pub steady : IsSteady new
-  pub kept : (i : ℕ) (p : Place) → IsPlace old.below.items i p → IsPlace new.below.items i p
+  pub kept : (i : ℕ) (p : Place) → IsPlace old.places.below.items i p → IsPlace new.places.below.items i p
 
 -- The machine goes along with the reader, and what it does at the place is this.
 abbrev pub GoesAlong : Reader → ℕ → Reader → (Place → State → State → Type 0) → Type 0
 GoesAlong old place new Does =
-    (p : Place) → IsPlace old.below.items place p → (a : State) → Stands old a → (b : State) × Stands new b × Does p a b
+    (p : Place) → IsPlace old.places.below.items place p → (a : State) → Stands old a → (b : State) × Stands new b × Does p a b
 
 -- The machine does not do this where the reader stands.
 abbrev pub HasNone : Reader → ℕ → (Place → State → Type 0) → Type 0
-HasNone old place DoesNot = (p : Place) → IsPlace old.below.items place p → (a : State) → Stands old a → DoesNot p a
+HasNone old place DoesNot = (p : Place) → IsPlace old.places.below.items place p → (a : State) → Stands old a → DoesNot p a
 
 -- a datum is read at the place
 abbrev pub ReadsAt : ShapeTree → ℕ → Reader → Datum → Reader → Type 0

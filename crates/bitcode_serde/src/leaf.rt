@@ -9,7 +9,8 @@ ghost use Rattle.bitcode_serde.specs.ReadingValues.{IsSteady, Continues, ReadsAt
 ghost use Rattle.bitcode_serde.specs.Serializing.{IsLeaf};
 
 use crate::column::ColumnKind;
-use crate::reader::{Reader, Step};
+use crate::reader::Reader;
+use crate::step::Step;
 use bitcode_columns::error::{Error, Reason};
 use bitcode_columns::refuse::err;
 use bitcode_untyped::shape::ShapeNode;
@@ -18,7 +19,7 @@ use std::alloc::Global;
 
 /// Reads a value of a column of a kind.
 pub fn read_leaf(reader: &mut Reader<'_>, place: usize, kind: ColumnKind) -> Result<Value, Error>
-    requires place { place ≤ length reader.old.below.items }
+    requires place { place ≤ length reader.old.places.below.items }
     requires steady { IsSteady reader.old }
     ensures continues { OnOk result (Continues reader.old reader.new) }
     ensures read { IfOk result (λ value. ReadsAt (leaf_tree (kind_of kind) any_number) place reader.old (datum_of value) reader.new) }
@@ -31,7 +32,7 @@ pub fn read_leaf(reader: &mut Reader<'_>, place: usize, kind: ColumnKind) -> Res
 
 /// Reads a char. It refuses with `invalid char` where its number is the code of none.
 pub fn read_char(reader: &mut Reader<'_>, place: usize) -> Result<Value, Error>
-    requires place { place ≤ length reader.old.below.items }
+    requires place { place ≤ length reader.old.places.below.items }
     requires steady { IsSteady reader.old }
     ensures continues { OnOk result (Continues reader.old reader.new) }
     ensures read { IfOk result (λ value. ReadsAt char_tree place reader.old (datum_of value) reader.new) }
@@ -52,7 +53,7 @@ fn read_each_byte(
     place: usize,
     count: usize,
 ) -> Result<Vec<u8>, Error>
-    requires place { place ≤ length reader.old.below.items }
+    requires place { place ≤ length reader.old.places.below.items }
     requires steady { IsSteady reader.old }
     ensures continues { OnOk result (Continues reader.old reader.new) }
     ensures read { IfOk result (λ bytes. ReadsListAt (natural_tree 1) place reader.old count (map natural bytes.items) reader.new) }
@@ -68,7 +69,7 @@ fn read_each_byte(
 
 /// Reads a list of bytes.
 pub fn read_bytes(alloc: Global, reader: &mut Reader<'_>, place: usize) -> Result<Value, Error>
-    requires place { place ≤ length reader.old.below.items }
+    requires place { place ≤ length reader.old.places.below.items }
     requires steady { IsSteady reader.old }
     ensures continues { OnOk result (Continues reader.old reader.new) }
     ensures read { IfOk result (λ value. ReadsAt (seq_tree (natural_tree 1)) place reader.old (datum_of value) reader.new) }
@@ -84,7 +85,7 @@ pub fn read_bytes(alloc: Global, reader: &mut Reader<'_>, place: usize) -> Resul
 /// Reads a value of a node whose values are entries of one column.
 pub fn read_entry(reader: &mut Reader<'_>, node: &ShapeNode, place: usize) -> Result<Value, Error>
     requires leaf { IsLeaf node.now }
-    requires place { place ≤ length reader.old.below.items }
+    requires place { place ≤ length reader.old.places.below.items }
     requires steady { IsSteady reader.old }
     ensures continues { OnOk result (Continues reader.old reader.new) }
     ensures read { IfOk result (λ value. ReadsLeafAt node.now place reader.old (datum_of value) reader.new) }

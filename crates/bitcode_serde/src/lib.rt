@@ -6,12 +6,16 @@ pub mod deserialize;
 mod entries;
 pub mod free;
 pub mod leaf;
+pub mod links;
+pub mod places;
 pub mod reader;
 pub mod serde;
-mod serialize;
+pub mod serialize;
+pub mod step;
 #[cfg(test)]
 mod tests;
 pub mod values;
+mod walk;
 pub mod writer;
 #[cfg(test)]
 mod writing_tests;

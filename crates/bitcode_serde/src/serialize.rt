@@ -1,28 +1,52 @@
-// Values are written under their shapes.
-#![tactic(auto)]
+// A value to bytes of the second format.
+ghost use Rattle.std.specs.Prelude.{◌≡◌, [], IfOk, IfErr, OnOk};
+ghost use Rattle.bitcode_untyped.specs.Bounds.{IsLimited};
+ghost use Rattle.bitcode_untyped.specs.Faults.{value_faults};
+ghost use Rattle.bitcode_untyped.specs.Laws.{LengthsBelowLimit};
+ghost use Rattle.bitcode_untyped.specs.ShapeTree.{IsOf};
+ghost use Rattle.bitcode_untyped.specs.Spelling.{datum_text};
+ghost use Rattle.bitcode_untyped.specs.View.{datum_of, tree_of};
+ghost use Rattle.bitcode_serde.specs.Serializing.{IsReadAs};
+ghost use Rattle.bitcode_serde.specs.Writing.{IsWriterReason};
 
-ghost use Rattle.std.specs.Prelude.{◌≤◌, [], map, length};
-ghost use Rattle.bitcode_shapes.specs.Datum.{list, data_of};
-ghost use Rattle.bitcode_coder.specs.Spelling.{natural};
-ghost use Rattle.bitcode_untyped.specs.ShapeTree.{seq_tree, natural_tree};
-ghost use Rattle.bitcode_serde.specs.Serializing.{Outcome};
-
-use crate::reader::Step;
+use crate::deserialize::REF_LIMIT;
+use crate::walk::write;
 use crate::writer::Writer;
-use crate::written::Entry;
 use bitcode_columns::error::Error;
+use bitcode_untyped::shape::Shape;
+use bitcode_untyped::value::Value;
+use std::alloc::Global;
 
-/// Writes a list of bytes at a place: its length, and then its bytes, one after another.
+/// Writes a value of a shape: one column for each place that the value has, in the order of their first entries.
 ///
-/// A refused growth is `out of memory`.
-pub fn write_bytes(writer: &mut Writer, place: usize, bytes: &[u8]) -> Result<(), Error>
-    requires { place ≤ length writer.old.below.items }
-    ensures { Outcome writer.old (seq_tree (natural_tree 1)) place (list (data_of (map natural bytes.now))) [] result writer.new }
+/// It refuses a value that is not of the shape, and no other: with `too many variants` only where an index is over 255,
+/// with `nested too deep` only where more than 128 references are followed on a path, with `value is not of the shape` only
+/// where it is not in another way, and with `out of memory`. Where it is not in several ways, any of them may be told.
+///
+/// `deserialize` reads the value back, where each column of lengths sums below 2251799813685247 and each list of elements
+/// without a column, and each map of keys without one, has at most 65536 of them.
+///
+/// ```
+/// let flags = Shape::new(vec![in alloc; ShapeNode::Seq(Box::new(alloc, ShapeNode::Bool)?)]?, 0)?;
+/// let bytes = serialize(alloc, &flags, &Value::Seq(vec![in alloc; Value::Bool(true), Value::Bool(false)]?))?;
+/// ```
+pub fn serialize(alloc: Global, shape: &Shape, value: &Value) -> Result<Vec<u8>, Error>
+    ensures written { IfOk result (λ bytes. bytes.items ≡ datum_text (tree_of shape.now) (datum_of value.now)) }
+    ensures of_shape { OnOk result (IsOf (tree_of shape.now) (datum_of value.now)) }
+    ensures whole { OnOk result (value_faults shape.now value.now ≡ []) }
+    ensures back { IfOk result (λ bytes. IsLimited (tree_of shape.now) (datum_of value.now) → LengthsBelowLimit (tree_of shape.now) (datum_of value.now)
+        → IsReadAs shape.now bytes.items value.now) }
+    ensures refused { IfErr result (λ e. IsWriterReason e.reason (value_faults shape.now value.now)) }
 {
-    writer.put(place, Entry::Length(bytes.len()))?;
-    let element = writer.below(place, Step::Element)?;
-    for byte in bytes {
-        writer.put(element, Entry::Byte(*byte))?;
-    }
-    Ok(())
+    let mut writer = Writer::new(alloc);
+    let table = shape.table();
+    write(
+        &mut writer,
+        table,
+        &table[shape.root()],
+        value,
+        REF_LIMIT,
+        0,
+    )?;
+    writer.collect()
 }

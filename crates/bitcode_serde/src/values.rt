@@ -8,7 +8,8 @@ ghost use Rattle.bitcode_serde.specs.ReadingValues.{IsSteady, Continues, ReadsAt
 
 use crate::free::is_over_limit;
 use crate::leaf::{read_bytes, read_entry};
-use crate::reader::{Reader, Step};
+use crate::reader::Reader;
+use crate::step::Step;
 use bitcode_columns::error::{Error, Reason};
 use bitcode_columns::refuse::err;
 use bitcode_untyped::shape::ShapeNode;
@@ -25,7 +26,7 @@ pub fn read(
     left: usize,
     place: usize,
 ) -> Result<Value, Error>
-    requires place { place ≤ length reader.old.below.items }
+    requires place { place ≤ length reader.old.places.below.items }
     requires steady { IsSteady reader.old }
     ensures continues { OnOk result (Continues reader.old reader.new) }
     ensures read { IfOk result (λ value. ReadsAt (tree_of_node left table.now node.now) place reader.old (datum_of value) reader.new) }
@@ -63,7 +64,7 @@ fn read_option(
     left: usize,
     place: usize,
 ) -> Result<Value, Error>
-    requires place { place ≤ length reader.old.below.items }
+    requires place { place ≤ length reader.old.places.below.items }
     requires steady { IsSteady reader.old }
     ensures continues { OnOk result (Continues reader.old reader.new) }
     ensures read { IfOk result (λ value. ReadsAt (option_tree (tree_of_node left table.now node.now)) place reader.old (datum_of value) reader.new) }
@@ -92,7 +93,7 @@ fn read_seq(
     left: usize,
     place: usize,
 ) -> Result<Value, Error>
-    requires place { place ≤ length reader.old.below.items }
+    requires place { place ≤ length reader.old.places.below.items }
     requires steady { IsSteady reader.old }
     ensures continues { OnOk result (Continues reader.old reader.new) }
     ensures read { IfOk result (λ value. ReadsAt (seq_tree (tree_of_node left table.now node.now)) place reader.old (datum_of value) reader.new) }
@@ -119,7 +120,7 @@ fn read_elements(
     place: usize,
     count: usize,
 ) -> Result<Vec<Value>, Error>
-    requires place { place ≤ length reader.old.below.items }
+    requires place { place ≤ length reader.old.places.below.items }
     requires steady { IsSteady reader.old }
     ensures continues { OnOk result (Continues reader.old reader.new) }
     ensures read { IfOk result (λ values. ReadsListAt (tree_of_node left table.now node.now) place reader.old count (map datum_of values.items) reader.new) }
@@ -144,7 +145,7 @@ fn read_tuple(
     left: usize,
     place: usize,
 ) -> Result<Value, Error>
-    requires place { place ≤ length reader.old.below.items }
+    requires place { place ≤ length reader.old.places.below.items }
     requires steady { IsSteady reader.old }
     ensures continues { OnOk result (Continues reader.old reader.new) }
     ensures read { IfOk result (λ value. ReadsAt (tuple_tree (trees_of (map (tree_of_node left table.now) nodes.now))) place reader.old (datum_of value) reader.new) }
@@ -170,7 +171,7 @@ fn read_enum(
     left: usize,
     place: usize,
 ) -> Result<Value, Error>
-    requires place { place ≤ length reader.old.below.items }
+    requires place { place ≤ length reader.old.places.below.items }
     requires steady { IsSteady reader.old }
     ensures continues { OnOk result (Continues reader.old reader.new) }
     ensures read { IfOk result (λ value. ReadsAt (choice_tree (trees_of (map (tree_of_node left table.now) nodes.now))) place reader.old (datum_of value) reader.new) }
@@ -199,7 +200,7 @@ fn read_map(
     left: usize,
     place: usize,
 ) -> Result<Value, Error>
-    requires place { place ≤ length reader.old.below.items }
+    requires place { place ≤ length reader.old.places.below.items }
     requires steady { IsSteady reader.old }
     ensures continues { OnOk result (Continues reader.old reader.new) }
     ensures read { IfOk result (λ made. ReadsAt (map_tree (tree_of_node left table.now key.now) (tree_of_node left table.now value.now)) place reader.old (datum_of made) reader.new) }

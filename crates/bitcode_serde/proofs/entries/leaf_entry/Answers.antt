@@ -1,5 +1,8 @@
 -- Each leaf's value is an entry of its column, and any other has a fault.
-use Rattle.std.proofs.Common.{true, sym, subst, ◌∙◌, refl, None}
+use Rattle.std.proofs.Common.{rules, arith, ◌<◌, true, sym, subst, ◌∙◌, refl, None}
+use Rattle.std.specs.Int.Signed.{mag}
+use Rattle.std.specs.Char.{IsScalar}
+use Rattle.std.specs.Prelude.{IsUtf8}
 use Rattle.bitcode_shapes.specs.Datum.{number, text}
 use Rattle.bitcode_coder.specs.Columns.{ints, texts}
 use Rattle.bitcode_serde.specs.Serializing.{IsEntryAt, HasOneFault}
@@ -16,7 +19,9 @@ returns-in_default-value-clause-refused c =
     (fault-Bool c.args.node.now c.args.value.now c.in-Bool.is c.in_default-value.not-Bool)
 
 pub returns-in-U8-value-clause-entry : goal.returns-in-U8-value-clause-entry
-returns-in-U8-value-clause-entry c = entry-U8 c.args.node.now c.args.value.now c.in-U8-value.n c.in-U8.is c.in-U8-value.is
+returns-in-U8-value-clause-entry c =
+    let small : c.in-U8-value.n < 256 = omega arith in
+    entry-U8 c.args.node.now c.args.value.now c.in-U8-value.n c.in-U8.is c.in-U8-value.is small
 
 pub returns-in_default-value-2-clause-refused : goal.returns-in_default-value-2-clause-refused
 returns-in_default-value-2-clause-refused c =
@@ -24,7 +29,9 @@ returns-in_default-value-2-clause-refused c =
     (fault-U8 c.args.node.now c.args.value.now c.in-U8.is c.in_default-value-2.not-U8)
 
 pub returns-in-U16-value-clause-entry : goal.returns-in-U16-value-clause-entry
-returns-in-U16-value-clause-entry c = entry-U16 c.args.node.now c.args.value.now c.in-U16-value.n c.in-U16.is c.in-U16-value.is
+returns-in-U16-value-clause-entry c =
+    let small : c.in-U16-value.n < 65536 = omega arith in
+    entry-U16 c.args.node.now c.args.value.now c.in-U16-value.n c.in-U16.is c.in-U16-value.is small
 
 pub returns-in_default-value-3-clause-refused : goal.returns-in_default-value-3-clause-refused
 returns-in_default-value-3-clause-refused c =
@@ -32,7 +39,9 @@ returns-in_default-value-3-clause-refused c =
     (fault-U16 c.args.node.now c.args.value.now c.in-U16.is c.in_default-value-3.not-U16)
 
 pub returns-in-U32-value-clause-entry : goal.returns-in-U32-value-clause-entry
-returns-in-U32-value-clause-entry c = entry-U32 c.args.node.now c.args.value.now c.in-U32-value.n c.in-U32.is c.in-U32-value.is
+returns-in-U32-value-clause-entry c =
+    let small : c.in-U32-value.n < 4294967296 = omega arith in
+    entry-U32 c.args.node.now c.args.value.now c.in-U32-value.n c.in-U32.is c.in-U32-value.is small
 
 pub returns-in_default-value-4-clause-refused : goal.returns-in_default-value-4-clause-refused
 returns-in_default-value-4-clause-refused c =
@@ -40,7 +49,9 @@ returns-in_default-value-4-clause-refused c =
     (fault-U32 c.args.node.now c.args.value.now c.in-U32.is c.in_default-value-4.not-U32)
 
 pub returns-in-U64-value-clause-entry : goal.returns-in-U64-value-clause-entry
-returns-in-U64-value-clause-entry c = entry-U64 c.args.node.now c.args.value.now c.in-U64-value.n c.in-U64.is c.in-U64-value.is
+returns-in-U64-value-clause-entry c =
+    let small : c.in-U64-value.n < 18446744073709551616 = omega arith in
+    entry-U64 c.args.node.now c.args.value.now c.in-U64-value.n c.in-U64.is c.in-U64-value.is small
 
 pub returns-in_default-value-5-clause-refused : goal.returns-in_default-value-5-clause-refused
 returns-in_default-value-5-clause-refused c =
@@ -48,7 +59,9 @@ returns-in_default-value-5-clause-refused c =
     (fault-U64 c.args.node.now c.args.value.now c.in-U64.is c.in_default-value-5.not-U64)
 
 pub returns-in-U128-value-clause-entry : goal.returns-in-U128-value-clause-entry
-returns-in-U128-value-clause-entry c = entry-U128 c.args.node.now c.args.value.now c.in-U128-value.n c.in-U128.is c.in-U128-value.is
+returns-in-U128-value-clause-entry c =
+    let small : c.in-U128-value.n < 340282366920938463463374607431768211456 = omega arith in
+    entry-U128 c.args.node.now c.args.value.now c.in-U128-value.n c.in-U128.is c.in-U128-value.is small
 
 pub returns-in_default-value-6-clause-refused : goal.returns-in_default-value-6-clause-refused
 returns-in_default-value-6-clause-refused c =
@@ -56,7 +69,11 @@ returns-in_default-value-6-clause-refused c =
     (fault-U128 c.args.node.now c.args.value.now c.in-U128.is c.in_default-value-6.not-U128)
 
 pub returns-in-I8-value-clause-entry : goal.returns-in-I8-value-clause-entry
-returns-in-I8-value-clause-entry c = subst (λ z. IsEntryAt c.args.node.now c.args.value.now (ints 1 true) (number z)) (sym (kept_8 c.copied-number.result c.copied-number.type_inv ∙ c.copied-number.ensures)) (entry-I8 c.args.node.now c.args.value.now c.in-I8-value.n c.in-I8.is c.in-I8-value.is)
+returns-in-I8-value-clause-entry c =
+    let small : mag c.in-I8-value.n < 128 = subst (λ z. mag z < 128) c.copied-number.ensures c.copied-number.type_inv in
+    subst (λ z. IsEntryAt c.args.node.now c.args.value.now (ints 1 true) (number z))
+    (sym (kept_8 c.copied-number.result c.copied-number.type_inv ∙ c.copied-number.ensures))
+    (entry-I8 c.args.node.now c.args.value.now c.in-I8-value.n c.in-I8.is c.in-I8-value.is small)
 
 pub returns-in_default-value-7-clause-refused : goal.returns-in_default-value-7-clause-refused
 returns-in_default-value-7-clause-refused c =
@@ -64,7 +81,11 @@ returns-in_default-value-7-clause-refused c =
     (fault-I8 c.args.node.now c.args.value.now c.in-I8.is c.in_default-value-7.not-I8)
 
 pub returns-in-I16-value-clause-entry : goal.returns-in-I16-value-clause-entry
-returns-in-I16-value-clause-entry c = subst (λ z. IsEntryAt c.args.node.now c.args.value.now (ints 2 true) (number z)) (sym (kept_16 c.copied-number-in-I16-value.result c.copied-number-in-I16-value.type_inv ∙ c.copied-number-in-I16-value.ensures)) (entry-I16 c.args.node.now c.args.value.now c.in-I16-value.n c.in-I16.is c.in-I16-value.is)
+returns-in-I16-value-clause-entry c =
+    let small : mag c.in-I16-value.n < 32768 = subst (λ z. mag z < 32768) c.copied-number-in-I16-value.ensures c.copied-number-in-I16-value.type_inv in
+    subst (λ z. IsEntryAt c.args.node.now c.args.value.now (ints 2 true) (number z))
+    (sym (kept_16 c.copied-number-in-I16-value.result c.copied-number-in-I16-value.type_inv ∙ c.copied-number-in-I16-value.ensures))
+    (entry-I16 c.args.node.now c.args.value.now c.in-I16-value.n c.in-I16.is c.in-I16-value.is small)
 
 pub returns-in_default-value-8-clause-refused : goal.returns-in_default-value-8-clause-refused
 returns-in_default-value-8-clause-refused c =
@@ -72,7 +93,11 @@ returns-in_default-value-8-clause-refused c =
     (fault-I16 c.args.node.now c.args.value.now c.in-I16.is c.in_default-value-8.not-I16)
 
 pub returns-in-I32-value-clause-entry : goal.returns-in-I32-value-clause-entry
-returns-in-I32-value-clause-entry c = subst (λ z. IsEntryAt c.args.node.now c.args.value.now (ints 4 true) (number z)) (sym (kept_32 c.copied-number-in-I32-value.result c.copied-number-in-I32-value.type_inv ∙ c.copied-number-in-I32-value.ensures)) (entry-I32 c.args.node.now c.args.value.now c.in-I32-value.n c.in-I32.is c.in-I32-value.is)
+returns-in-I32-value-clause-entry c =
+    let small : mag c.in-I32-value.n < 2147483648 = subst (λ z. mag z < 2147483648) c.copied-number-in-I32-value.ensures c.copied-number-in-I32-value.type_inv in
+    subst (λ z. IsEntryAt c.args.node.now c.args.value.now (ints 4 true) (number z))
+    (sym (kept_32 c.copied-number-in-I32-value.result c.copied-number-in-I32-value.type_inv ∙ c.copied-number-in-I32-value.ensures))
+    (entry-I32 c.args.node.now c.args.value.now c.in-I32-value.n c.in-I32.is c.in-I32-value.is small)
 
 pub returns-in_default-value-9-clause-refused : goal.returns-in_default-value-9-clause-refused
 returns-in_default-value-9-clause-refused c =
@@ -80,7 +105,12 @@ returns-in_default-value-9-clause-refused c =
     (fault-I32 c.args.node.now c.args.value.now c.in-I32.is c.in_default-value-9.not-I32)
 
 pub returns-in-I64-value-clause-entry : goal.returns-in-I64-value-clause-entry
-returns-in-I64-value-clause-entry c = subst (λ z. IsEntryAt c.args.node.now c.args.value.now (ints 8 true) (number z)) (sym (kept_64 c.copied-number-in-I64-value.result c.copied-number-in-I64-value.type_inv ∙ c.copied-number-in-I64-value.ensures)) (entry-I64 c.args.node.now c.args.value.now c.in-I64-value.n c.in-I64.is c.in-I64-value.is)
+returns-in-I64-value-clause-entry c =
+    let small : mag c.in-I64-value.n < 9223372036854775808 = subst (λ z. mag z < 9223372036854775808) c.copied-number-in-I64-value.ensures
+    c.copied-number-in-I64-value.type_inv in
+    subst (λ z. IsEntryAt c.args.node.now c.args.value.now (ints 8 true) (number z))
+    (sym (kept_64 c.copied-number-in-I64-value.result c.copied-number-in-I64-value.type_inv ∙ c.copied-number-in-I64-value.ensures))
+    (entry-I64 c.args.node.now c.args.value.now c.in-I64-value.n c.in-I64.is c.in-I64-value.is small)
 
 pub returns-in_default-value-10-clause-refused : goal.returns-in_default-value-10-clause-refused
 returns-in_default-value-10-clause-refused c =
@@ -88,7 +118,12 @@ returns-in_default-value-10-clause-refused c =
     (fault-I64 c.args.node.now c.args.value.now c.in-I64.is c.in_default-value-10.not-I64)
 
 pub returns-in-I128-value-clause-entry : goal.returns-in-I128-value-clause-entry
-returns-in-I128-value-clause-entry c = subst (λ z. IsEntryAt c.args.node.now c.args.value.now (ints 16 true) (number z)) (sym (kept_128 c.copied-number-in-I128-value.result c.copied-number-in-I128-value.type_inv ∙ c.copied-number-in-I128-value.ensures)) (entry-I128 c.args.node.now c.args.value.now c.in-I128-value.n c.in-I128.is c.in-I128-value.is)
+returns-in-I128-value-clause-entry c =
+    let small : mag c.in-I128-value.n < 170141183460469231731687303715884105728 = subst (λ z. mag z < 170141183460469231731687303715884105728)
+    c.copied-number-in-I128-value.ensures c.copied-number-in-I128-value.type_inv in
+    subst (λ z. IsEntryAt c.args.node.now c.args.value.now (ints 16 true) (number z))
+    (sym (kept_128 c.copied-number-in-I128-value.result c.copied-number-in-I128-value.type_inv ∙ c.copied-number-in-I128-value.ensures))
+    (entry-I128 c.args.node.now c.args.value.now c.in-I128-value.n c.in-I128.is c.in-I128-value.is small)
 
 pub returns-in_default-value-11-clause-refused : goal.returns-in_default-value-11-clause-refused
 returns-in_default-value-11-clause-refused c =
@@ -96,7 +131,9 @@ returns-in_default-value-11-clause-refused c =
     (fault-I128 c.args.node.now c.args.value.now c.in-I128.is c.in_default-value-11.not-I128)
 
 pub returns-in-Char-value-clause-entry : goal.returns-in-Char-value-clause-entry
-returns-in-Char-value-clause-entry c = entry-Char c.args.node.now c.args.value.now c.in-Char-value.c c.in-Char.is c.in-Char-value.is
+returns-in-Char-value-clause-entry c =
+    let is_char : IsScalar c.in-Char-value.c = search rules in
+    entry-Char c.args.node.now c.args.value.now c.in-Char-value.c c.in-Char.is c.in-Char-value.is is_char
 
 pub returns-in_default-value-12-clause-refused : goal.returns-in_default-value-12-clause-refused
 returns-in_default-value-12-clause-refused c =
@@ -104,7 +141,9 @@ returns-in_default-value-12-clause-refused c =
     (fault-Char c.args.node.now c.args.value.now c.in-Char.is c.in_default-value-12.not-Char)
 
 pub returns-in-Str-value-clause-entry : goal.returns-in-Str-value-clause-entry
-returns-in-Str-value-clause-entry c = subst (λ bytes. IsEntryAt c.args.node.now c.args.value.now (texts None) (text bytes)) (sym c.as_str.ensures.value) (entry-Str c.args.node.now c.args.value.now c.in-Str-value.s c.in-Str.is c.in-Str-value.is)
+returns-in-Str-value-clause-entry c =
+    subst (λ bytes. IsEntryAt c.args.node.now c.args.value.now (texts None) (text bytes)) (sym c.as_str.ensures.value)
+    (entry-Str c.args.node.now c.args.value.now c.in-Str-value.s c.in-Str.is c.in-Str-value.is (subst IsUtf8 c.as_str.ensures.value c.as_str.utf8))
 
 pub returns-in_default-value-13-clause-refused : goal.returns-in_default-value-13-clause-refused
 returns-in_default-value-13-clause-refused c =

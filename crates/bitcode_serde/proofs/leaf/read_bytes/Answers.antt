@@ -32,7 +32,7 @@ pub returns-clause-continues : goal.returns-clause-continues
 returns-clause-continues c =
     continues_on c.args.reader.now c.step.new.self _
     (continues_stepped c.args.reader.now c.take_length.new.self c.step.new.self c.take_length.ensures.below c.in_ok-taken.ensures.sized c.step.ensures.columns
-    c.in_ok-elements.ensures.rooted c.in_ok-elements.ensures.kept)
+    c.in_ok-elements.ensures.kept)
     c.in_ok-bytes.ensures.continues
 
 pub returns-clause-read : goal.returns-clause-read

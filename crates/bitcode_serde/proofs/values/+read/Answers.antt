@@ -15,7 +15,7 @@ use Rattle.bitcode_untyped.proofs.FollowedLemmas.{followed-zero, followed_one, e
 use Rattle.bitcode_untyped.proofs.ReadLemmas.{never_read, seq_stuck_length, seq_over_limit, map_stuck_length, map_over_limit, choice_stuck_index}
 use Rattle.bitcode_untyped.proofs.ViewLemmas.{tree-Bytes, tree-Option, tree-Seq, tree-Map, tree-Tuple, tree-Enum, tree-Ref, datum-None, datum-Some, datum-Seq, datum-Map, datum-Tuple, datum-Enum}
 use Rattle.bitcode_coder.specs.Spelling.{natural}
-use Rattle.bitcode_serde.specs.Reading.{places, place_at}
+use Rattle.bitcode_serde.specs.Places.{places, place_at}
 use Rattle.bitcode_serde.specs.ReadingValues.{ReadsAt, ReadsListAt, IsRefusalAt, IsListRefusalAt, IsOfLeaf, IsOfBytes, ReadsLeafAt, IsLeafRefusalAt, IsOfOption, IsOfSeq, IsOfMap, IsOfTuple, IsOfEnum}
 use Rattle.bitcode_serde.proofs.CaseLemmas.{nothing, one_more_whole, one_more_field_whole, all_fields_whole, enum_whole, reference_whole}
 use Rattle.bitcode_serde.proofs.ColumnLemmas.{passed_on}
@@ -172,7 +172,7 @@ pub read_seq-returns-clause-continues : goal.read_seq-returns-clause-continues
 read_seq-returns-clause-continues t c =
     continues_on c.args.reader.now c.step.new.self _
     (continues_stepped c.args.reader.now c.take_length.new.self c.step.new.self c.take_length.ensures.below c.in_ok-taken.ensures.sized c.step.ensures.columns
-    c.in_ok-elements.ensures.rooted c.in_ok-elements.ensures.kept)
+    c.in_ok-elements.ensures.kept)
     c.in_ok-values.ensures.continues
 
 pub read_seq-returns-clause-read : goal.read_seq-returns-clause-read
@@ -225,7 +225,7 @@ pub read_option-returns-clause-continues : goal.read_option-returns-clause-conti
 read_option-returns-clause-continues t c =
     continues_on c.args.reader.now c.step.new.self _
     (continues_stepped c.args.reader.now c.take_index.new.self c.step.new.self c.take_index.ensures.below c.in_ok-taken.ensures.sized c.step.ensures.columns
-    c.in_ok-inside.ensures.rooted c.in_ok-inside.ensures.kept)
+    c.in_ok-inside.ensures.kept)
     c.in_ok-value.ensures.continues
 
 pub read_option-returns-clause-read : goal.read_option-returns-clause-read
@@ -253,7 +253,7 @@ read_enum-read-requires t c =
     (found_entry c.args.nodes.now c.in_ok-taken.taken.index c.in-Some.node.now c.in-Some.ensures.lookup.3.0 (c.in-Some.ensures.lookup.3.1 c.in-Some.node.now)) in
     let h = c.in_ok-inside-in-Some.ensures.found.0 in
     let s = (continues_stepped c.args.reader.now c.take_index.new.self c.step.new.self c.take_index.ensures.below c.in_ok-taken.ensures.sized c.step.ensures.columns
-    c.in_ok-inside-in-Some.ensures.rooted c.in_ok-inside-in-Some.ensures.kept).steady in
+    c.in_ok-inside-in-Some.ensures.kept).steady in
     search (rules, d, h, s)
 
 pub read_enum-returns-in_err-value-in-Some-clause-refused : goal.read_enum-returns-in_err-value-in-Some-clause-refused
@@ -273,7 +273,7 @@ pub read_enum-returns-in_ok-new-in-Some-clause-continues : goal.read_enum-return
 read_enum-returns-in_ok-new-in-Some-clause-continues t c =
     continues_on c.args.reader.now c.step.new.self _
     (continues_stepped c.args.reader.now c.take_index.new.self c.step.new.self c.take_index.ensures.below c.in_ok-taken.ensures.sized c.step.ensures.columns
-    c.in_ok-inside-in-Some.ensures.rooted c.in_ok-inside-in-Some.ensures.kept)
+    c.in_ok-inside-in-Some.ensures.kept)
     c.in_ok-value-in-Some.ensures.continues
 
 pub read_enum-returns-in_ok-new-in-Some-clause-read : goal.read_enum-returns-in_ok-new-in-Some-clause-read
@@ -308,18 +308,18 @@ read_map-returns-in_err-taken-clause-refused t c =
     (refused_entry c.args.reader.now c.args.place length_kind (ReadsNoDatum (map_tree key_tree value_tree)) _ (λ p a stuck. map_stuck_length key_tree value_tree p a stuck)
     c.in_err-taken.ensures.refused)
 
-pub read_map-step-requires-2-clause-above : goal.read_map-step-requires-2-clause-above
-read_map-step-requires-2-clause-above t c =
+pub read_map-step-requires-2 : goal.read_map-step-requires-2
+read_map-step-requires-2 t c =
     still_there c.args.reader.now c.step.new.self c.args.place
     (continues_stepped c.args.reader.now c.take_length.new.self c.step.new.self c.take_length.ensures.below c.in_ok-taken.ensures.sized c.step.ensures.columns
-    c.in_ok-keys.ensures.rooted c.in_ok-keys.ensures.kept) c.requires.place
+    c.in_ok-keys.ensures.kept) c.requires.place
 
 pub read_map-read-requires : goal.read_map-read-requires
 read_map-read-requires t c =
     let k = still_there c.step.new.self c.step-2.new.self c.in_ok-keys.keys
     (continues_stepped c.step.new.self c.step.new.self c.step-2.new.self refl
     (continues_stepped c.args.reader.now c.take_length.new.self c.step.new.self c.take_length.ensures.below c.in_ok-taken.ensures.sized c.step.ensures.columns
-    c.in_ok-keys.ensures.rooted c.in_ok-keys.ensures.kept).steady.sized c.step-2.ensures.columns c.in_ok-values.ensures.rooted c.in_ok-values.ensures.kept) c.in_ok-keys.ensures.found.0 in
+    c.in_ok-keys.ensures.kept).steady.sized c.step-2.ensures.columns c.in_ok-values.ensures.kept) c.in_ok-keys.ensures.found.0 in
     let h = still_there c.step-2.new.self c.loop-i.reader c.in_ok-keys.keys c.loop-i.invariant.0 k in
     let s = c.loop-i.invariant.0.steady in
     search (rules, h, s)
@@ -388,9 +388,9 @@ read_map-returns-clause-continues t c =
     continues_on c.args.reader.now c.step-2.new.self c.loop-i.reader
     (continues_on c.args.reader.now c.step.new.self c.step-2.new.self
     (continues_stepped c.args.reader.now c.take_length.new.self c.step.new.self c.take_length.ensures.below c.in_ok-taken.ensures.sized c.step.ensures.columns
-    c.in_ok-keys.ensures.rooted c.in_ok-keys.ensures.kept) (continues_stepped c.step.new.self c.step.new.self c.step-2.new.self refl
+    c.in_ok-keys.ensures.kept) (continues_stepped c.step.new.self c.step.new.self c.step-2.new.self refl
     (continues_stepped c.args.reader.now c.take_length.new.self c.step.new.self c.take_length.ensures.below c.in_ok-taken.ensures.sized c.step.ensures.columns
-    c.in_ok-keys.ensures.rooted c.in_ok-keys.ensures.kept).steady.sized c.step-2.ensures.columns c.in_ok-values.ensures.rooted c.in_ok-values.ensures.kept)) c.loop-i.invariant.0
+    c.in_ok-keys.ensures.kept).steady.sized c.step-2.ensures.columns c.in_ok-values.ensures.kept)) c.loop-i.invariant.0
 
 pub read_map-returns-clause-read : goal.read_map-returns-clause-read
 read_map-returns-clause-read t c =
@@ -421,7 +421,7 @@ read_tuple-field-requires-clause-place t c = still_there c.args.reader.now c.loo
 pub read_tuple-read-requires : goal.read_tuple-read-requires
 read_tuple-read-requires t c =
     let d = entry_deep c.args.nodes.now c.loop-i.i c.index-nodes-i.result (found_entry c.args.nodes.now c.loop-i.i c.index-nodes-i.result c.loop-i-test.true c.index-nodes-i.is) in
-    let h = (c.in_ok-inside.ensures.found _ (c.loop-i.invariant.0.kept c.args.place (place_at (places c.args.reader.now.below.items) c.args.place) (c.requires.place, refl))).0 in
+    let h = (c.in_ok-inside.ensures.found _ (c.loop-i.invariant.0.kept c.args.place (place_at (places c.args.reader.now.places.below.items) c.args.place) (c.requires.place, refl))).0 in
     let s = c.in_ok-inside.ensures.continues.steady in
     search (rules, d, h, s)
 
