@@ -49,7 +49,7 @@ pub fn read(
         ShapeNode::I128 => read_leaf(reader, place, ColumnKind::I128),
         ShapeNode::Str => read_leaf(reader, place, ColumnKind::Texts),
         ShapeNode::Char => read_char(reader, place),
-        ShapeNode::Bytes => read_bytes(alloc, reader, place),
+        ShapeNode::Bytes => read_bytes(reader, place),
         ShapeNode::Option(some) => read_option(alloc, reader, table, some, left, place),
         ShapeNode::Seq(element) => read_seq(alloc, reader, table, element, left, place),
         ShapeNode::Map(key, value) => read_map(alloc, reader, table, key, value, left, place),

@@ -54,9 +54,11 @@ returns-then-index-count-clause-refused c =
     let size = sized_at cs c.args.place c.in_ok-i.i index_kind there c.in_ok-i.ensures.sized c.in_ok-i.ensures.found c.index.ensures in
     let some = (found_ready cs c.args.place c.in_ok-i.i index_kind there c.in_ok-i.ensures.found c.index.ensures).1 in
     passed_on (λ e. IsColumnReason e.reason × (e.reason ≢ OutOfMemory → (a : State) → Stands r a → NotSoMany a p index_kind c.args.count))
-    c.err.result _ _ c.err.ensures refl
-    (tt, λ other. stuck_each r c.ready.new.self c.args.place c.in_ok-i.i index_kind there c.requires.place c.ready.ensures.below c.in_ok-i.ensures.found c.index.ensures
-    c.in_ok-i.ensures.prepared c.args.count size some c.if-index-count.true)
+    c.err.result _ _ c.err.ensures refl (
+      tt,
+      λ other. stuck_each r c.ready.new.self c.args.place c.in_ok-i.i index_kind there c.requires.place c.ready.ensures.below c.in_ok-i.ensures.found c.index.ensures
+          c.in_ok-i.ensures.prepared c.args.count size some c.if-index-count.true,
+    )
 
 pub returns-clause-sized : goal.returns-clause-sized
 returns-clause-sized c =
