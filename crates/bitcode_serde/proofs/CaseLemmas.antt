@@ -5,7 +5,6 @@ use Rattle.std.proofs.lemmas.Bool.{le-ltb}
 use Rattle.std.proofs.lemmas.Grind.{flat_map-append}
 use Rattle.std.proofs.lemmas.List.{map-append}
 use Rattle.std.proofs.Math.Seq.{take-length}
-use Rattle.bitcode_input.specs.declared.error.Reason.{Reason}
 use Rattle.bitcode_untyped.specs.Faults.{Judge, faults_of, faults_of_fields}
 use Rattle.bitcode_untyped.specs.declared.shape.ShapeNode.{ShapeNode}
 use Rattle.bitcode_untyped.specs.declared.shape.ShapeNode.TheVariants as node

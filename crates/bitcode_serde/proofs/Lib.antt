@@ -14,6 +14,7 @@ pub mod FiledLemmas
 pub mod EntryLemmas
 pub mod FieldLemmas
 pub mod CaseLemmas
+pub mod LeafLemmas
 pub mod WholeLemmas
 pub mod WrittenLemmas
 pub mod WritingLemmas

@@ -92,7 +92,8 @@ pub refuses_inside : (old now : Writer) (tree sub : ShapeTree) (n m : ℕ) (done
     → (IsAmong reason part_faults → IsAmong reason faults) → RefusesAt now sub m part_faults reason → RefusesAt old tree n faults reason
 refuses_inside old now tree sub n m done faults part_faults reason w kinds inside among refused root of_shape part =
     let of_shape_now = subst (AreOfShape root) (sym w.columns)
-    (of_shape_all root done (written old) of_shape (each_if (λ (u : Use). HasKindFrom tree (place_in old n) u.place u.kind) (λ (u : Use). HasKindFrom root [] u.place u.kind) (λ u h. part u.place u.kind h) done kinds)) in
+    (of_shape_all root done (written old) of_shape (each_if (λ (u : Use). HasKindFrom tree (place_in old n) u.place u.kind)
+    (λ (u : Use). HasKindFrom root [] u.place u.kind) (λ u h. part u.place u.kind h) done kinds)) in
     elim (refused root of_shape_now (λ q kind h. part q kind (inside q kind h))) [
       | inl memory ↦ inl memory
       | inr fault ↦ inr (among fault)
@@ -168,11 +169,13 @@ module _ {A : Type 0} (s : ShapeTree) (datum : A → Datum) (xs : List A) where
       ∙ ap (λ w. use_at p length_kind (natural (length xs)) ∷ w) (flat_map-map (walk s (element ∷ p)) datum xs)
 
   pub list_done : (old start now : Writer) (n m i : ℕ) → Writes old (use_at (place_in old n) length_kind (natural (length xs)) ∷ []) start
-      → place_in start m ≡ element ∷ place_in old n → length xs ≤ i → i ≤ length xs → Writes start (flat_map (λ x. walk s (place_in start m) (datum x)) (take i xs)) now
+      → place_in start m ≡ element ∷ place_in old n → length xs ≤ i → i ≤ length xs
+      → Writes start (flat_map (λ x. walk s (place_in start m) (datum x)) (take i xs)) now
       → Writes old (walk (seq_tree s) (place_in old n) (list (data_of (map datum xs)))) now
   list_done old start now n m i first at low high so_far =
       let p = place_in old n in
-      let all = finished (λ q x. walk s q (datum x)) xs old start now (use_at p length_kind (natural (length xs))) (place_in start m) i first (omega (arith, low, high)) so_far in
+      let all = finished (λ q x. walk s q (datum x)) xs old start now (use_at p length_kind (natural (length xs))) (place_in start m) i first
+      (omega (arith, low, high)) so_far in
       subst (λ w. Writes old w now) (sym (list_walk p))
       (subst (λ q. Writes old (use_at p length_kind (natural (length xs)) ∷ flat_map (λ x. walk s q (datum x)) xs) now) at all)
 
@@ -182,11 +185,13 @@ module _ {A : Type 0} (s : ShapeTree) (datum : A → Datum) (xs : List A) where
       (sym (ap (λ ds. list (data_of ds)) e), subst (AllByRecursion (IsOf s)) (sym e) (each_map (IsOf s) datum xs each))
 
   pub list_kinds : (p : Place) (k i : ℕ)
-      → AllByRecursion (λ u. HasKindFrom (seq_tree s) p u.place u.kind) (use_at p length_kind (natural k) ∷ flat_map (λ x. walk s (element ∷ p) (datum x)) (take i xs))
+      → AllByRecursion (λ u. HasKindFrom (seq_tree s) p u.place u.kind) (use_at p length_kind (natural k) ∷ flat_map (λ x. walk s (element ∷ p) (datum x))
+      (take i xs))
   list_kinds p k i = (
     inl (refl, refl),
     each_if (λ (u : Use). HasKindFrom s (element ∷ p) u.place u.kind) (λ (u : Use). HasKindFrom (seq_tree s) p u.place u.kind) (λ u h. inr h) _
-        (each_flat (λ (u : Use). HasKindFrom s (element ∷ p) u.place u.kind) (λ x. walk s (element ∷ p) (datum x)) (λ x. kinded s (element ∷ p) (datum x)) (take i xs)),
+        (each_flat (λ (u : Use). HasKindFrom s (element ∷ p) u.place u.kind) (λ x. walk s (element ∷ p) (datum x)) (λ x. kinded s (element ∷ p) (datum x))
+        (take i xs)),
   )
 
   -- an element was refused
@@ -197,13 +202,15 @@ module _ {A : Type 0} (s : ShapeTree) (datum : A → Datum) (xs : List A) where
   list_refused old start now n m k i faults part_faults reason first at inside so_far among refused =
       let p = place_in old n in
       let rest = subst (λ q. Writes start (flat_map (λ x. walk s q (datum x)) (take i xs)) now) at so_far in
-      refuses_inside old now (seq_tree s) s n m (use_at p length_kind (natural k) ∷ flat_map (λ x. walk s (element ∷ p) (datum x)) (take i xs)) faults part_faults reason
+      refuses_inside old now (seq_tree s) s n m (use_at p length_kind (natural k) ∷ flat_map (λ x. walk s (element ∷ p) (datum x)) (take i xs)) faults
+      part_faults reason
       (writes_then old start now (use_at p length_kind (natural k) ∷ []) _ first rest) (list_kinds p k i)
       (λ q kind h. inr (subst (λ z. HasKindFrom s z q kind) (kept start now m so_far.grows inside ∙ at) h)) among refused
 
 -- ---- outcomes
 
-pub refused_outcome : {A : Type 0} (old : Writer) (tree : ShapeTree) (n : ℕ) (d : Datum) (faults : List Reason) (r : Result A Error) (new : Writer) (e y : Error) → r ≡ Err y → y ≡ e
+pub refused_outcome : {A : Type 0} (old : Writer) (tree : ShapeTree) (n : ℕ) (d : Datum) (faults : List Reason) (r : Result A Error) (new : Writer)
+    (e y : Error) → r ≡ Err y → y ≡ e
     → RefusesAt old tree n faults e.reason → Outcome old tree n d faults r new
 refused_outcome old tree n d faults r new e y h g k =
     rw (h, g) (record { written = tt; of_tree = tt; whole = tt; refused = k })
@@ -218,7 +225,8 @@ pub same_outcome : {A : Type 0} (old : Writer) (tree other : ShapeTree) (n : ℕ
 same_outcome old tree other n d e faults reasons r new t k f h = rw (t, k, f) h
 
 -- one fault, and the refusal that names it
-pub one_fault : {A : Type 0} (old : Writer) (tree : ShapeTree) (n : ℕ) (d : Datum) (faults : List Reason) (reason : Reason) (r : Result A Error) (e : Error) (new : Writer)
+pub one_fault : {A : Type 0} (old : Writer) (tree : ShapeTree) (n : ℕ) (d : Datum) (faults : List Reason) (reason : Reason) (r : Result A Error) (e : Error)
+    (new : Writer)
     → r ≡ Err e → e.reason ≡ reason → faults ≡ reason ∷ [] → Outcome old tree n d faults r new
 one_fault old tree n d faults reason r e new h g f =
     rw (h, f) (record { written = tt; of_tree = tt; whole = tt; refused = λ root of_shape part. inr (inl g) })

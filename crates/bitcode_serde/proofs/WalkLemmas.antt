@@ -15,7 +15,7 @@ use Rattle.bitcode_coder.specs.Spelling.{natural}
 use Rattle.bitcode_untyped.specs.Faults.{Judge, faults_of_fields, faults_of}
 use Rattle.bitcode_untyped.specs.Growing.{put}
 use Rattle.bitcode_untyped.specs.PlaceKinds.{HasKindFrom, HasKindAt}
-use Rattle.bitcode_untyped.specs.ShapeTree.{ShapeTree, ShapeTrees, no_trees, tree_and, map_tree, tuple_tree, choice_tree, IsOf, AreOf, IsOfVariant, IsPair}
+use Rattle.bitcode_untyped.specs.ShapeTree.{ShapeTree, leaf_tree, ShapeTrees, no_trees, tree_and, map_tree, tuple_tree, choice_tree, IsOf, AreOf, IsOfVariant, IsPair}
 use Rattle.bitcode_untyped.specs.View.{datum_of, followed, tree_of_node, trees_of}
 use Rattle.bitcode_untyped.specs.Walk.{key, value, variant, Place, Use, use_at, length_kind, index_kind, field_place, walk, walk_fields, walk_variant}
 use Rattle.bitcode_untyped.specs.declared.shape.ShapeNode.{ShapeNode}
@@ -27,11 +27,11 @@ use Rattle.bitcode_untyped.proofs.FollowedLemmas.{followed_one, entry_there}
 use Rattle.bitcode_untyped.proofs.KindLemmas.{kinded}
 use Rattle.bitcode_untyped.proofs.ViewLemmas.{tree-Ref}
 use Rattle.bitcode_serde.specs.ReadingValues.{field_at}
-use Rattle.bitcode_serde.specs.Serializing.{Outcome, IsVariant}
+use Rattle.bitcode_serde.specs.Serializing.{Outcome, IsEntryAt, IsVariant}
 use Rattle.bitcode_serde.specs.Writing.{written, place_in, Grows, Writes, AreOfShape, IsAmong, RefusesAt}
 use Rattle.bitcode_serde.specs.declared.writer.state.Writer.{Writer}
 use Rattle.bitcode_serde.proofs.FieldLemmas.{field_of}
-use Rattle.bitcode_serde.proofs.SerializeLemmas.{grows_same, grows_then, kept, writes_put, writes_none, writes_then, refuses_use, refuses_inside, among_front, among_back, listed, each_map}
+use Rattle.bitcode_serde.proofs.SerializeLemmas.{grows_same, grows_then, kept, writes_put, writes_none, writes_then, refuses_use, refuses_inside, among_front, among_back, listed, each_map, same_outcome}
 
 -- ---- the entry at a number
 
@@ -66,7 +66,8 @@ among_entry reason f (y ∷ xs) (suc i) x h a = among_back reason (f y) (flat_ma
 -- ---- what is written one after another
 
 -- The first i were written, all of them are what they should be, and none has a fault.
-pub record EachWritten {A : Type 0} (uses : A → List Use) (Is : A → Type 0) (faults : A → List Reason) (xs : List A) (start : Writer) (i : ℕ) (now : Writer) : Type 0 where
+pub record EachWritten {A : Type 0} (uses : A → List Use) (Is : A → Type 0) (faults : A → List Reason) (xs : List A) (start : Writer) (i : ℕ) (now : Writer) :
+    Type 0 where
   pub written : Writes start (flat_map uses (take i xs)) now
   pub are : AllByRecursion Is (take i xs)
   pub whole : flat_map faults (take i xs) ≡ []
@@ -100,7 +101,8 @@ written_there start now new s m d g inside w = subst (λ p. Writes now (walk s p
 
 -- ---- a part that ends what is written
 
-pub outcome_inside : {A : Type 0} (old start new : Writer) (tree sub : ShapeTree) (n m : ℕ) (d e : Datum) (done : List Use) (faults : List Reason) (r : Result A Error)
+pub outcome_inside : {A : Type 0} (old start new : Writer) (tree sub : ShapeTree) (n m : ℕ) (d e : Datum) (done : List Use) (faults : List Reason)
+    (r : Result A Error)
     → Writes old done start → AllByRecursion (λ u. HasKindFrom tree (place_in old n) u.place u.kind) done
     → ((q : Place) (kind : Kind) → HasKindFrom sub (place_in start m) q kind → HasKindFrom tree (place_in old n) q kind)
     → done ++ walk sub (place_in start m) e ≡ walk tree (place_in old n) d → (IsOf sub e → IsOf tree d)
@@ -133,6 +135,16 @@ use_outcome old new tree n d entry kind (Ok a) walked has of below more refused 
 }
 use_outcome old new tree n d entry kind (Err e) walked has of below more refused =
     record { written = tt; of_tree = tt; whole = tt; refused = refuses_use old tree n [] e.reason (place_in old n) kind refused has }
+
+-- the entry that a leaf is
+pub leaf_outcome : {A : Type 0} (old new : Writer) (n : ℕ) (nd : ShapeNode) (v : Value) (kind : Kind) (d : Datum) (r : Result A Error) → IsEntryAt nd v kind d
+    → OnOk r (new.places.below ≡ old.places.below) → OnOk r (written new ≡ put (use_at (place_in old n) kind d) (written old))
+    → IfErr r (λ e. (root : ShapeTree) → AreOfShape root (written old) → HasKindFrom root [] (place_in old n) kind → e.reason ≡ OutOfMemory)
+    → (table : List ShapeNode) (left : ℕ) → Outcome old (tree_of_node left table nd) n (datum_of v) (faults_of table v left nd) r new
+leaf_outcome old new n nd v kind d r entry below more refused table left =
+    same_outcome old (tree_of_node left table nd) (leaf_tree kind entry.allowed) n (datum_of v) d (faults_of table v left nd) [] r new
+    (entry.tree (followed left table)) entry.datum (entry.whole table left)
+    (use_outcome old new (leaf_tree kind entry.allowed) n d d kind r refl (refl, refl) entry.of_tree below more refused)
 
 -- ---- references
 
@@ -207,12 +219,14 @@ module _ {A : Type 0} (k v : ShapeTree) (first second : A → Datum) (xs : List 
       let e : list_of (data_of (map pair_of xs)) ≡ map pair_of xs = listed (map pair_of xs) in (
         sym (ap (λ ds. list (data_of ds)) e),
         subst (AllByRecursion (IsPair (IsOf k) (IsOf v))) (sym e)
-            (each_map (IsPair (IsOf k) (IsOf v)) pair_of xs (each_if (λ x. IsOf k (first x) × IsOf v (second x)) (λ x. IsPair (IsOf k) (IsOf v) (pair_of x)) (λ x h. (refl, h.0, h.1)) xs each)),
+            (each_map (IsPair (IsOf k) (IsOf v)) pair_of xs (each_if (λ x. IsOf k (first x) × IsOf v (second x)) (λ x. IsPair (IsOf k) (IsOf v) (pair_of x))
+            (λ x h. (refl, h.0, h.1)) xs each)),
       )
 
   -- the uses of the first pairs, and of the key of the next one, are of the map
   pub pair_kinds : (p : Place) (n i : ℕ) (done : List Use) → AllByRecursion (λ u. HasKindFrom (map_tree k v) p u.place u.kind) done
-      → AllByRecursion (λ u. HasKindFrom (map_tree k v) p u.place u.kind) (use_at p length_kind (natural n) ∷ (flat_map (pair_uses (key ∷ p) (value ∷ p)) (take i xs) ++ done))
+      → AllByRecursion (λ u. HasKindFrom (map_tree k v) p u.place u.kind)
+      (use_at p length_kind (natural n) ∷ (flat_map (pair_uses (key ∷ p) (value ∷ p)) (take i xs) ++ done))
   pair_kinds p n i done also =
       let P : Use → Type 0 = λ u. HasKindFrom (map_tree k v) p u.place u.kind in (
         inl (refl, refl),
@@ -226,22 +240,26 @@ module _ {A : Type 0} (k v : ShapeTree) (first second : A → Datum) (xs : List 
 
   -- a key was refused
   pub key_refused : (old start now : Writer) (n keys values count i : ℕ) (faults part : List Reason) (reason : Reason)
-      → Writes old (use_at (place_in old n) length_kind (natural count) ∷ []) start → place_in start keys ≡ key ∷ place_in old n → place_in start values ≡ value ∷ place_in old n
+      → Writes old (use_at (place_in old n) length_kind (natural count) ∷ []) start → place_in start keys ≡ key ∷ place_in old n
+      → place_in start values ≡ value ∷ place_in old n
       → keys ≤ length start.places.below.items → Writes start (flat_map (pair_uses (place_in start keys) (place_in start values)) (take i xs)) now
       → (IsAmong reason part → IsAmong reason faults) → RefusesAt now k keys part reason → RefusesAt old (map_tree k v) n faults reason
   key_refused old start now n keys values count i faults part reason first at_keys at_values inside so_far among refused =
       let p = place_in old n in
       let pairs : List Use = flat_map (pair_uses (key ∷ p) (value ∷ p)) (take i xs) in
       let rest : Writes start (pairs ++ []) now = subst (λ w. Writes start w now) (sym (append-nil pairs))
-      (subst (λ q. Writes start (flat_map (pair_uses q (value ∷ p)) (take i xs)) now) at_keys (subst (λ q. Writes start (flat_map (pair_uses (place_in start keys) q) (take i xs)) now) at_values so_far)) in
+      (subst (λ q. Writes start (flat_map (pair_uses q (value ∷ p)) (take i xs)) now) at_keys
+      (subst (λ q. Writes start (flat_map (pair_uses (place_in start keys) q) (take i xs)) now) at_values so_far)) in
       refuses_inside old now (map_tree k v) k n keys (use_at p length_kind (natural count) ∷ (pairs ++ [])) faults part reason
       (writes_then old start now (use_at p length_kind (natural count) ∷ []) _ first rest) (pair_kinds p count i [] tt)
       (λ q kind h. inr (inl (subst (λ z. HasKindFrom k z q kind) (kept start now keys so_far.grows inside ∙ at_keys) h))) among refused
 
   -- a value was refused, behind its key
   pub value_refused : (old start now next : Writer) (n keys values count i : ℕ) (d : Datum) (faults part : List Reason) (reason : Reason)
-      → Writes old (use_at (place_in old n) length_kind (natural count) ∷ []) start → place_in start keys ≡ key ∷ place_in old n → place_in start values ≡ value ∷ place_in old n
-      → keys ≤ length start.places.below.items → values ≤ length start.places.below.items → Writes start (flat_map (pair_uses (place_in start keys) (place_in start values)) (take i xs)) now
+      → Writes old (use_at (place_in old n) length_kind (natural count) ∷ []) start → place_in start keys ≡ key ∷ place_in old n
+      → place_in start values ≡ value ∷ place_in old n
+      → keys ≤ length start.places.below.items → values ≤ length start.places.below.items
+      → Writes start (flat_map (pair_uses (place_in start keys) (place_in start values)) (take i xs)) now
       → Writes now (walk k (place_in now keys) d) next
       → (IsAmong reason part → IsAmong reason faults) → RefusesAt next v values part reason → RefusesAt old (map_tree k v) n faults reason
   value_refused old start now next n keys values count i d faults part reason first at_keys at_values inside_keys inside_values so_far step among refused =
@@ -251,11 +269,13 @@ module _ {A : Type 0} (k v : ShapeTree) (first second : A → Datum) (xs : List 
       let there = kept start now keys so_far.grows inside_keys ∙ at_keys in
       let one : Writes now (walk k (key ∷ p) d) next = subst (λ q. Writes now (walk k q d) next) there step in
       let rest : Writes start pairs now =
-      subst (λ q. Writes start (flat_map (pair_uses q (value ∷ p)) (take i xs)) now) at_keys (subst (λ q. Writes start (flat_map (pair_uses (place_in start keys) q) (take i xs)) now) at_values so_far) in
+      subst (λ q. Writes start (flat_map (pair_uses q (value ∷ p)) (take i xs)) now) at_keys
+      (subst (λ q. Writes start (flat_map (pair_uses (place_in start keys) q) (take i xs)) now) at_values so_far) in
       refuses_inside old next (map_tree k v) v n values (use_at p length_kind (natural count) ∷ (pairs ++ walk k (key ∷ p) d)) faults part reason
       (writes_then old start next (use_at p length_kind (natural count) ∷ []) _ first (writes_then start now next pairs (walk k (key ∷ p) d) rest one))
       (pair_kinds p count i (walk k (key ∷ p) d) (each_if (λ (u : Use). HasKindFrom k (key ∷ p) u.place u.kind) P (λ u h. inr (inl h)) _ (kinded k (key ∷ p) d)))
-      (λ q kind h. inr (inr (subst (λ z. HasKindFrom v z q kind) (kept start next values (grows_then start now next so_far.grows step.grows) inside_values ∙ at_values) h))) among refused
+      (λ q kind h. inr (inr (subst (λ z. HasKindFrom v z q kind) (kept start next values (grows_then start now next so_far.grows step.grows) inside_values
+      ∙ at_values) h))) among refused
 
   pub map_done : (old start now : Writer) (n keys values : ℕ) → Writes old (use_at (place_in old n) length_kind (natural (length xs)) ∷ []) start
       → place_in start keys ≡ key ∷ place_in old n → place_in start values ≡ value ∷ place_in old n
@@ -264,11 +284,13 @@ module _ {A : Type 0} (k v : ShapeTree) (first second : A → Datum) (xs : List 
   map_done old start now n keys values first at_keys at_values so_far =
       let p = place_in old n in
       let rest : Writes start (flat_map (pair_uses (key ∷ p) (value ∷ p)) xs) now =
-      subst (λ q. Writes start (flat_map (pair_uses q (value ∷ p)) xs) now) at_keys (subst (λ q. Writes start (flat_map (pair_uses (place_in start keys) q) xs) now) at_values so_far) in
+      subst (λ q. Writes start (flat_map (pair_uses q (value ∷ p)) xs) now) at_keys
+      (subst (λ q. Writes start (flat_map (pair_uses (place_in start keys) q) xs) now) at_values so_far) in
       subst (λ w. Writes old w now) (sym (map_walk p)) (writes_then old start now (use_at p length_kind (natural (length xs)) ∷ []) _ first rest)
 
 -- the places of the keys and of the values are known
-pub both_begun : (old mid start : Writer) (n keys values : ℕ) (u : Use) → Writes old (u ∷ []) mid → place_in mid keys ≡ key ∷ place_in old n → keys ≤ length mid.places.below.items
+pub both_begun : (old mid start : Writer) (n keys values : ℕ) (u : Use) → Writes old (u ∷ []) mid → place_in mid keys ≡ key ∷ place_in old n
+    → keys ≤ length mid.places.below.items
     → n ≤ length old.places.below.items → place_in start values ≡ value ∷ place_in mid n → Grows mid start → written start ≡ written mid
     → Writes old (u ∷ []) start × (place_in start keys ≡ key ∷ place_in old n) × (place_in start values ≡ value ∷ place_in old n)
 both_begun old mid start n keys values u first at_keys inside_keys inside at_values grows same = (
@@ -278,7 +300,8 @@ both_begun old mid start n keys values u first at_keys inside_keys inside at_val
 )
 
 -- a key and its value were written, at places that were known before
-pub pair_there : (start now next new : Writer) (k v : ShapeTree) (keys values : ℕ) (d e : Datum) → Grows start now → keys ≤ length start.places.below.items → values ≤ length start.places.below.items
+pub pair_there : (start now next new : Writer) (k v : ShapeTree) (keys values : ℕ) (d e : Datum) → Grows start now → keys ≤ length start.places.below.items
+    → values ≤ length start.places.below.items
     → Writes now (walk k (place_in now keys) d) next → Writes next (walk v (place_in next values) e) new
     → Writes now (walk k (place_in start keys) d ++ walk v (place_in start values) e) new
 pair_there start now next new k v keys values d e g inside_keys inside_values one two =
@@ -321,7 +344,8 @@ module _ (f : ShapeNode → ShapeTree) (judge : Value → Judge) (left : ℕ) (n
     data_next : data_after i ≡ datum_and (datum_of v) (data_after (i + 1))
     data_next = rw add-one (ap (λ ws. data_of (map datum_of ws)) (drop_entry vs i v value_there))
 
-    faults_next : faults_of_fields (map judge (drop i vs)) left (drop i ns) ≡ judge v left node ++ faults_of_fields (map judge (drop (i + 1) vs)) left (drop (i + 1) ns)
+    faults_next : faults_of_fields (map judge (drop i vs)) left (drop i ns)
+        ≡ judge v left node ++ faults_of_fields (map judge (drop (i + 1) vs)) left (drop (i + 1) ns)
     faults_next =
         rw add-one
         (ap (λ ms. faults_of_fields (map judge (drop i vs)) left ms) (drop_entry ns i node node_there)
@@ -329,7 +353,8 @@ module _ (f : ShapeNode → ShapeTree) (judge : Value → Judge) (left : ℕ) (n
 
     walk_next : walk_fields (trees_after i) fields_at i (data_after i)
         ≡ walk (f node) (fields_at i) (datum_of v) ++ walk_fields (trees_after (i + 1)) fields_at (i + 1) (data_after (i + 1))
-    walk_next = ap (λ ss. walk_fields ss fields_at i (data_after i)) trees_next ∙ ap (λ ds. walk_fields (tree_and (f node) (trees_after (i + 1))) fields_at i ds) data_next
+    walk_next =
+        ap (λ ss. walk_fields ss fields_at i (data_after i)) trees_next ∙ ap (λ ds. walk_fields (tree_and (f node) (trees_after (i + 1))) fields_at i ds) data_next
 
     -- the place of the field, and the places that were met before it
     module _ (now below : Writer) (m : ℕ) (so_far : FieldsWritten i now) (grows : Grows now below) (same : written below ≡ written now)
@@ -340,12 +365,15 @@ module _ (f : ShapeNode → ShapeTree) (judge : Value → Judge) (left : ℕ) (n
       here : Writes old so_far.done below
       here = subst (λ w. Writes old w below) (append-nil so_far.done) (writes_then old now below so_far.done [] so_far.written (writes_none now below grows same))
 
-      pub field_more : (new : Writer) → Writes below (walk (f node) (place_in below m) (datum_of v)) new → IsOf (f node) (datum_of v) → judge v left node ≡ [] → FieldsWritten (i + 1) new
+      pub field_more : (new : Writer) → Writes below (walk (f node) (place_in below m) (datum_of v)) new → IsOf (f node) (datum_of v) → judge v left node ≡ []
+          → FieldsWritten (i + 1) new
       field_more new step is whole = record {
         done = so_far.done ++ walk (f node) (place_in below m) (datum_of v);
         written = writes_then old below new so_far.done _ here step;
-        walked = append_assoc so_far.done _ _ ∙ ap (λ w. so_far.done ++ w) (ap (λ p. walk (f node) p (datum_of v) ++ walk_fields (trees_after (i + 1)) fields_at (i + 1) (data_after (i + 1))) place_there ∙ sym walk_next) ∙ so_far.walked;
-        are = λ h. so_far.are (subst (λ ss. AreOf ss (data_after i)) (sym trees_next) (subst (AreOf (tree_and (f node) (trees_after (i + 1)))) (sym data_next) (is, h)));
+        walked = append_assoc so_far.done _ _ ∙ ap (λ w. so_far.done ++ w) (ap
+            (λ p. walk (f node) p (datum_of v) ++ walk_fields (trees_after (i + 1)) fields_at (i + 1) (data_after (i + 1))) place_there ∙ sym walk_next) ∙ so_far.walked;
+        are = λ h. so_far.are (subst (λ ss. AreOf ss (data_after i)) (sym trees_next)
+            (subst (AreOf (tree_and (f node) (trees_after (i + 1)))) (sym data_next) (is, h)));
         faults = ap (λ rs. rs ++ faults_of_fields (map judge (drop (i + 1) vs)) left (drop (i + 1) ns)) (sym whole) ∙ sym faults_next ∙ so_far.faults;
       }
 
@@ -354,10 +382,16 @@ module _ (f : ShapeNode → ShapeTree) (judge : Value → Judge) (left : ℕ) (n
       field_refused reason refused =
           let p = place_in old n in
           let ss = trees_after 0 in
-          let all : AllByRecursion (λ u. HasKindFrom (tuple_tree ss) p u.place u.kind) (walk_fields ss fields_at 0 (data_after 0)) = kinded (tuple_tree ss) p (tuple (data_after 0)) in
+          let all : AllByRecursion (λ u. HasKindFrom (tuple_tree ss) p u.place u.kind) (walk_fields ss fields_at 0 (data_after 0)) = kinded (tuple_tree ss) p
+          (tuple (data_after 0)) in
           refuses_inside old below (tuple_tree ss) (f node) n m so_far.done (faults_of_fields (map judge vs) left ns) (judge v left node) reason here
-          (each_front (λ (u : Use). HasKindFrom (tuple_tree ss) p u.place u.kind) so_far.done _ (subst (AllByRecursion (λ (u : Use). HasKindFrom (tuple_tree ss) p u.place u.kind)) (sym so_far.walked) all))
-          (λ q kind h. (i, kind_of_variant ss i (f node) (fields_at i) q kind (variant_there f ns i node node_there) (subst (λ z. HasKindFrom (f node) z q kind) place_there h)))
+          (each_front (λ (u : Use). HasKindFrom (tuple_tree ss) p u.place u.kind) so_far.done _
+          (subst (AllByRecursion (λ (u : Use). HasKindFrom (tuple_tree ss) p u.place u.kind)) (sym so_far.walked) all))
+          (λ q kind h. (
+            i,
+            kind_of_variant ss i (f node) (fields_at i) q kind (variant_there f ns i node node_there)
+                (subst (λ z. HasKindFrom (f node) z q kind) place_there h),
+          ))
           (λ a. subst (IsAmong reason) (sym faults_next ∙ so_far.faults) (among_front reason (judge v left node) _ a)) refused
 
   pub fields_done : (i : ℕ) (now : Writer) → i ≡ length ns → length vs ≡ length ns → FieldsWritten i now
@@ -366,7 +400,12 @@ module _ (f : ShapeNode → ShapeTree) (judge : Value → Judge) (left : ℕ) (n
   fields_done i now last even so_far =
       let no_nodes : drop i ns ≡ [] = drop_past ns i (omega (arith, last)) in
       let no_values : drop i vs ≡ [] = drop_past vs i (omega (arith, last, even)) in (
-        subst (λ w. Writes old w now) (sym (append-nil so_far.done) ∙ ap (λ w. so_far.done ++ w) (sym (ap (λ ms. walk_fields (trees_of (map f ms)) fields_at i (data_after i)) no_nodes)) ∙ so_far.walked) so_far.written,
-        (refl, so_far.are (subst (λ ms. AreOf (trees_of (map f ms)) (data_after i)) (sym no_nodes) (subst (λ ws. AreOf no_trees (data_of (map datum_of ws))) (sym no_values) tt))),
+        subst (λ w. Writes old w now) (sym (append-nil so_far.done) ∙ ap (λ w. so_far.done ++ w)
+            (sym (ap (λ ms. walk_fields (trees_of (map f ms)) fields_at i (data_after i)) no_nodes)) ∙ so_far.walked) so_far.written,
+        (
+          refl,
+          so_far.are (subst (λ ms. AreOf (trees_of (map f ms)) (data_after i)) (sym no_nodes)
+              (subst (λ ws. AreOf no_trees (data_of (map datum_of ws))) (sym no_values) tt)),
+        ),
         sym so_far.faults ∙ ap (λ ms. faults_of_fields (map judge (drop i vs)) left ms) no_nodes ∙ ap (λ ws. faults_of_fields (map judge ws) left []) no_values,
       )

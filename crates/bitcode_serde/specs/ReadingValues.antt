@@ -8,6 +8,7 @@ use Rattle.bitcode_untyped.specs.Faults.{faults_of}
 use Rattle.bitcode_untyped.specs.Machine.{State}
 use Rattle.bitcode_untyped.specs.Reads.{ReadsDatum, ReadsNoDatum, IsReadable, ReadsMany}
 use Rattle.bitcode_untyped.specs.ShapeTree.{ShapeTree}
+use Rattle.bitcode_untyped.specs.View.{tree_by}
 use Rattle.bitcode_untyped.specs.Walk.{field, Place, walk}
 use Rattle.bitcode_untyped.specs.declared.shape.ShapeNode.{ShapeNode}
 use Rattle.bitcode_untyped.specs.declared.shape.ShapeNode.TheVariants as node
@@ -60,6 +61,13 @@ IsRefusalOf old place DoesNot reason = IsValueReason reason × (reason ≢ OutOf
 abbrev pub IsRefusalAt : ShapeTree → ℕ → Reader → Reason → Type 0
 IsRefusalAt s place old = IsRefusalOf old place (ReadsNoDatum s)
 
+-- the same of a node that holds no others, wherever references lead
+abbrev pub ReadsLeafAt : ShapeNode → ℕ → Reader → Datum → Reader → Type 0
+ReadsLeafAt n place old d new = (follow : ℕ → ShapeTree) → ReadsAt (tree_by follow n) place old d new
+
+abbrev pub IsLeafRefusalAt : ShapeNode → ℕ → Reader → Reason → Type 0
+IsLeafRefusalAt n place old reason = (follow : ℕ → ShapeTree) → IsRefusalAt (tree_by follow n) place old reason
+
 abbrev pub IsListRefusalAt : ShapeTree → ℕ → Reader → ℕ → Reason → Type 0
 IsListRefusalAt s place old count =
     IsRefusalOf old place (λ p a. (ds : List Datum) (b : State) → ReadsMany (IsReadable s) (walk s p) a count ds b → ⊥)
@@ -71,11 +79,15 @@ field_at _ p i = field i ∷ p
 
 -- ---- values of the cases of their nodes
 
+-- of a node that holds no others
+abbrev pub IsOfLeaf : ShapeNode → Value → Type 0
+IsOfLeaf n v = (table : List ShapeNode) (left : ℕ) → faults_of table v left n ≡ []
+
 abbrev pub IsOfChar : Value → Type 0
-IsOfChar v = (table : List ShapeNode) (left : ℕ) → faults_of table v left node.Char ≡ []
+IsOfChar = IsOfLeaf node.Char
 
 abbrev pub IsOfBytes : Value → Type 0
-IsOfBytes v = (table : List ShapeNode) (left : ℕ) → faults_of table v left node.Bytes ≡ []
+IsOfBytes = IsOfLeaf node.Bytes
 
 -- of an option of a node, in whichever box the node stands
 abbrev pub IsOfOption : List ShapeNode → ℕ → ShapeNode → Value → Type 0

@@ -5,10 +5,13 @@ use Rattle.bitcode_input.specs.declared.error.Reason.{Reason}
 use Rattle.bitcode_shapes.specs.Datum.{Datum}
 use Rattle.bitcode_shapes.specs.Shape.{Allowed}
 use Rattle.bitcode_coder.specs.Columns.{Kind}
+use Rattle.bitcode_untyped.specs.Content.{content_of, IsOnlyContent}
 use Rattle.bitcode_untyped.specs.Faults.{faults_of}
 use Rattle.bitcode_untyped.specs.ShapeTree.{ShapeTree, leaf_tree, ShapeTrees, no_trees, tree_and, IsOf}
-use Rattle.bitcode_untyped.specs.View.{datum_of, tree_by}
+use Rattle.bitcode_untyped.specs.Spelling.{SpellsDatum}
+use Rattle.bitcode_untyped.specs.View.{datum_of, tree_by, tree_of}
 use Rattle.bitcode_untyped.specs.Walk.{walk}
+use Rattle.bitcode_untyped.specs.declared.shape.Shape.{Shape}
 use Rattle.bitcode_untyped.specs.declared.shape.ShapeNode.{ShapeNode, out-ShapeNode}
 use Rattle.bitcode_untyped.specs.declared.shape.ShapeNode.TheOpen.{ShapeNode-F}
 use Rattle.bitcode_untyped.specs.declared.value.Value.{Value}
@@ -21,6 +24,11 @@ pub record Outcome {A : Type 0} (old : Writer) (tree : ShapeTree) (n : ℕ) (d :
   pub of_tree : OnOk result (IsOf tree d)
   pub whole : OnOk result (faults ≡ [])
   pub refused : IfErr result (λ e. RefusesAt old tree n faults e.reason)
+
+-- The bytes are read as the value, cases and all, and as no other.
+pub record IsReadAs (shape : Shape) (bytes : List ℕ) (v : Value) : Type 0 where
+  pub spelled : SpellsDatum (tree_of shape) bytes (datum_of v)
+  pub only : IsOnlyContent shape (SpellsDatum (tree_of shape) bytes) (content_of v)
 
 -- a node whose values are entries of one column
 abbrev pub is_leaf : ShapeNode-F ShapeNode → Bool

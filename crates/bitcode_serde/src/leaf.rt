@@ -5,13 +5,15 @@ ghost use Rattle.bitcode_shapes.specs.Shape.{any_number};
 ghost use Rattle.bitcode_untyped.specs.ShapeTree.{leaf_tree, char_tree, natural_tree, seq_tree};
 ghost use Rattle.bitcode_untyped.specs.View.{datum_of};
 ghost use Rattle.bitcode_serde.specs.ReadColumns.{kind_of, IsCaseOf};
-ghost use Rattle.bitcode_serde.specs.ReadingValues.{IsSteady, Continues, ReadsAt, ReadsListAt, IsRefusalAt, IsListRefusalAt, IsOfChar, IsOfBytes};
+ghost use Rattle.bitcode_serde.specs.ReadingValues.{IsSteady, Continues, ReadsAt, ReadsListAt, IsRefusalAt, IsListRefusalAt, IsOfLeaf, IsOfChar, IsOfBytes, ReadsLeafAt, IsLeafRefusalAt};
+ghost use Rattle.bitcode_serde.specs.Serializing.{IsLeaf};
 
 use crate::column::ColumnKind;
 use crate::reader::Reader;
 use crate::step::Step;
 use bitcode_input::error::{Error, Reason};
 use bitcode_input::refuse::err;
+use bitcode_untyped::shape::ShapeNode;
 use bitcode_untyped::value::Value;
 
 /// Reads a value of a column of a kind.
@@ -72,4 +74,32 @@ pub fn read_bytes(reader: &mut Reader<'_>, place: usize) -> Result<Value, Error>
     let elements = reader.step(place, Step::Element, taken.total)?;
     let bytes = read_elements_of_bytes(reader, elements, taken.length)?;
     Ok(Value::Bytes(bytes))
+}
+
+/// Reads a value of a node whose values are entries of one column.
+pub fn read_entry(reader: &mut Reader<'_>, node: &ShapeNode, place: usize) -> Result<Value, Error>
+    requires leaf { IsLeaf node.now }
+    requires place { place ≤ length reader.old.places.below.items }
+    requires steady { IsSteady reader.old }
+    ensures continues { OnOk result (Continues reader.old reader.new) }
+    ensures read { IfOk result (λ value. ReadsLeafAt node.now place reader.old (datum_of value) reader.new) }
+    ensures whole { IfOk result (λ value. IsOfLeaf node.now value) }
+    ensures refused { IfErr result (λ e. IsLeafRefusalAt node.now place reader.old e.reason) }
+{
+    match node {
+        ShapeNode::Bool => read_leaf(reader, place, ColumnKind::Bools),
+        ShapeNode::U8 => read_leaf(reader, place, ColumnKind::Bytes),
+        ShapeNode::U16 => read_leaf(reader, place, ColumnKind::U16),
+        ShapeNode::U32 => read_leaf(reader, place, ColumnKind::U32),
+        ShapeNode::U64 => read_leaf(reader, place, ColumnKind::U64),
+        ShapeNode::U128 => read_leaf(reader, place, ColumnKind::U128),
+        ShapeNode::I8 => read_leaf(reader, place, ColumnKind::I8),
+        ShapeNode::I16 => read_leaf(reader, place, ColumnKind::I16),
+        ShapeNode::I32 => read_leaf(reader, place, ColumnKind::I32),
+        ShapeNode::I64 => read_leaf(reader, place, ColumnKind::I64),
+        ShapeNode::I128 => read_leaf(reader, place, ColumnKind::I128),
+        ShapeNode::Str => read_leaf(reader, place, ColumnKind::Texts),
+        ShapeNode::Char => read_char(reader, place),
+        _ => unreachable!(),
+    }
 }

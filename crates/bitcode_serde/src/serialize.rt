@@ -4,8 +4,9 @@ ghost use Rattle.bitcode_untyped.specs.Bounds.{IsLimited};
 ghost use Rattle.bitcode_untyped.specs.Faults.{value_faults};
 ghost use Rattle.bitcode_untyped.specs.Laws.{LengthsBelowLimit};
 ghost use Rattle.bitcode_untyped.specs.ShapeTree.{IsOf};
-ghost use Rattle.bitcode_untyped.specs.Spelling.{datum_text, SpellsDatum};
+ghost use Rattle.bitcode_untyped.specs.Spelling.{datum_text};
 ghost use Rattle.bitcode_untyped.specs.View.{datum_of, tree_of};
+ghost use Rattle.bitcode_serde.specs.Serializing.{IsReadAs};
 ghost use Rattle.bitcode_serde.specs.Writing.{IsWriterReason};
 
 use crate::deserialize::REF_LIMIT;
@@ -22,6 +23,9 @@ use std::alloc::Global;
 /// with `nested too deep` only where more than 128 references are followed on a path, with `value is not of the shape` only
 /// where it is not in another way, and with `out of memory`. Where it is not in several ways, any of them may be told.
 ///
+/// `deserialize` reads the value back, where each column of lengths sums below 2251799813685247 and each list of elements
+/// without a column, and each map of keys without one, has at most 65536 of them.
+///
 /// ```
 /// let flags = Shape::new(vec![in alloc; ShapeNode::Seq(Box::new(alloc, ShapeNode::Bool)?)]?, 0)?;
 /// let bytes = serialize(alloc, &flags, &Value::Seq(vec![in alloc; Value::Bool(true), Value::Bool(false)]?))?;
@@ -31,7 +35,7 @@ pub fn serialize(alloc: Global, shape: &Shape, value: &Value) -> Result<Vec<u8>,
     ensures of_shape { OnOk result (IsOf (tree_of shape.now) (datum_of value.now)) }
     ensures whole { OnOk result (value_faults shape.now value.now ≡ []) }
     ensures back { IfOk result (λ bytes. IsLimited (tree_of shape.now) (datum_of value.now) → LengthsBelowLimit (tree_of shape.now) (datum_of value.now)
-        → SpellsDatum (tree_of shape.now) bytes.items (datum_of value.now)) }
+        → IsReadAs shape.now bytes.items value.now) }
     ensures refused { IfErr result (λ e. IsWriterReason e.reason (value_faults shape.now value.now)) }
 {
     let mut writer = Writer::new(alloc);

@@ -6,9 +6,8 @@ ghost use Rattle.bitcode_untyped.specs.ShapeTree.{option_tree, seq_tree, map_tre
 ghost use Rattle.bitcode_untyped.specs.View.{datum_of, tree_of_node, trees_of};
 ghost use Rattle.bitcode_serde.specs.ReadingValues.{IsSteady, Continues, ReadsAt, ReadsListAt, IsRefusalAt, IsListRefusalAt, IsOfOption, IsOfSeq, IsOfMap, IsOfTuple, IsOfEnum};
 
-use crate::column::ColumnKind;
 use crate::free::is_over_limit;
-use crate::leaf::{read_bytes, read_char, read_leaf};
+use crate::leaf::{read_bytes, read_entry};
 use crate::reader::Reader;
 use crate::step::Step;
 use bitcode_input::error::{Error, Reason};
@@ -36,19 +35,6 @@ pub fn read(
 {
     match node {
         ShapeNode::Unit => Ok(Value::Unit),
-        ShapeNode::Bool => read_leaf(reader, place, ColumnKind::Bools),
-        ShapeNode::U8 => read_leaf(reader, place, ColumnKind::Bytes),
-        ShapeNode::U16 => read_leaf(reader, place, ColumnKind::U16),
-        ShapeNode::U32 => read_leaf(reader, place, ColumnKind::U32),
-        ShapeNode::U64 => read_leaf(reader, place, ColumnKind::U64),
-        ShapeNode::U128 => read_leaf(reader, place, ColumnKind::U128),
-        ShapeNode::I8 => read_leaf(reader, place, ColumnKind::I8),
-        ShapeNode::I16 => read_leaf(reader, place, ColumnKind::I16),
-        ShapeNode::I32 => read_leaf(reader, place, ColumnKind::I32),
-        ShapeNode::I64 => read_leaf(reader, place, ColumnKind::I64),
-        ShapeNode::I128 => read_leaf(reader, place, ColumnKind::I128),
-        ShapeNode::Str => read_leaf(reader, place, ColumnKind::Texts),
-        ShapeNode::Char => read_char(reader, place),
         ShapeNode::Bytes => read_bytes(reader, place),
         ShapeNode::Option(some) => read_option(alloc, reader, table, some, left, place),
         ShapeNode::Seq(element) => read_seq(alloc, reader, table, element, left, place),
@@ -64,6 +50,7 @@ pub fn read(
                 None => err(Reason::NestedTooDeep),
             }
         }
+        _ => read_entry(reader, node, place),
     }
 }
 

@@ -1,12 +1,12 @@
 -- The shape and the datum decide what a value holds, and its cases.
-use Rattle.std.proofs.Common.{◌≡◌, ℕ, List, [], ◌∷◌, ◌++◌, map, Option, Some, None, slice_get, true, false, inl, inr, nat_lt, if◌then◌else◌, refl, sym, ap, subst, ◌∙◌}
+use Rattle.std.proofs.Common.{◌≡◌, ℕ, List, [], ◌∷◌, ◌++◌, map, Option, Some, None, slice_get, inl, inr, nat_lt, if◌then◌else◌, refl, sym, ap, subst, ◌∙◌}
 use Rattle.std.specs.List.{flat_map}
 use Rattle.std.proofs.lemmas.Bool.{cases_Bool}
 use Rattle.bitcode_input.specs.declared.error.Reason.{Reason}
-use Rattle.bitcode_input.specs.declared.error.Reason.TheVariants.{TooManyVariants, NotOfTheShape, NestedTooDeep}
+use Rattle.bitcode_input.specs.declared.error.Reason.TheVariants.{TooManyVariants}
 use Rattle.bitcode_shapes.specs.Datum.{Datum, list, tuple, choice, pair, data_of, list_of, elements_in, fields_in, first_in, second_in, variant_in, payload_in}
 use Rattle.bitcode_untyped.specs.Content.{case_number, content_step, content_of, DatumDecides}
-use Rattle.bitcode_untyped.specs.Faults.{Followed, stands, too_deep, nowhere, follow, Judge, faults_of, faults_at, faults_by, faults_of_fields, faults_of_variant, value_faults}
+use Rattle.bitcode_untyped.specs.Faults.{Followed, stands, too_deep, nowhere, follow, Judge, faults_of, faults_at, faults_by, faults_of_fields, faults_of_variant}
 use Rattle.bitcode_untyped.specs.View.{datum_of, datum_step}
 use Rattle.bitcode_untyped.specs.declared.shape.Shape.{Shape}
 use Rattle.bitcode_untyped.specs.declared.shape.ShapeNode.{ShapeNode}
@@ -15,7 +15,7 @@ use Rattle.bitcode_untyped.specs.declared.value.Value.{Value, out-Value}
 use Rattle.bitcode_untyped.specs.declared.value.Value.TheOpen.{Value-F}
 use Rattle.bitcode_untyped.specs.declared.value.Value.TheViews.{roll-Value, out-roll-Value}
 use Rattle.bitcode_untyped.specs.declared.value.Value.TheFolds.{fold_out-Value, map-Value, ind-Value}
-use Rattle.bitcode_untyped.proofs.FaultLemmas.{judged, faults_at-follow}
+use Rattle.bitcode_untyped.proofs.FaultLemmas.{faults_at-follow}
 use Rattle.bitcode_untyped.proofs.ReadLemmas.{list_of-data_of}
 
 -- ---- no faults

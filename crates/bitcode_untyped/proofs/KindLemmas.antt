@@ -1,5 +1,5 @@
 -- All entries of a place have one kind.
-use Rattle.std.proofs.Common.{◌≡◌, ℕ, zero, suc, ◌+◌, ◌⊎◌, inl, inr, List, [], ◌∷◌, ◌++◌, refl, sym, ◌∙◌, subst, arith, zero-add}
+use Rattle.std.proofs.Common.{◌≡◌, ℕ, zero, suc, ◌+◌, inl, inr, List, [], ◌∷◌, ◌++◌, refl, sym, ◌∙◌, subst, arith, zero-add}
 use Rattle.std.proofs.lemmas.Bool.{cases_Bool}
 use Rattle.std.specs.List.{AllByRecursion}
 use Rattle.bitcode_shapes.specs.Datum.{Datum, Data, elements_in, first_of, rest_of, fields_in, first_in, second_in, variant_in, payload_in}
@@ -7,7 +7,7 @@ use Rattle.bitcode_coder.specs.Columns.{Kind}
 use Rattle.bitcode_untyped.specs.PlaceKinds.{HasKindFrom, HasKindAt}
 use Rattle.bitcode_untyped.specs.PlacedColumns.{same_place, PlacedColumn, without, columns}
 use Rattle.bitcode_untyped.specs.ShapeTree.{ShapeTree, unit_tree, never_tree, leaf_tree, seq_tree, map_tree, tuple_tree, choice_tree, ShapeTrees, no_trees, tree_and}
-use Rattle.bitcode_untyped.specs.Walk.{Step, element, key, value, variant, field, Place, Use, length_kind, index_kind, field_place, walk, walk_fields, walk_variant}
+use Rattle.bitcode_untyped.specs.Walk.{Step, element, key, value, variant, field, Place, Use, field_place, walk, walk_fields, walk_variant}
 use Rattle.bitcode_untyped.proofs.EachLemmas.{each_if, each_append, each_flat}
 use Rattle.bitcode_untyped.proofs.PlaceLemmas.{Under, append_same_tail, under_step, under_not_above}
 

@@ -71,7 +71,8 @@ returns-in_default-value-6-clause-refused c =
 pub returns-in-I8-value-clause-entry : goal.returns-in-I8-value-clause-entry
 returns-in-I8-value-clause-entry c =
     let small : mag c.in-I8-value.n < 128 = subst (λ z. mag z < 128) c.copied-number.ensures c.copied-number.type_inv in
-    subst (λ z. IsEntryAt c.args.node.now c.args.value.now (ints 1 true) (number z)) (sym (kept_8 c.copied-number.result c.copied-number.type_inv ∙ c.copied-number.ensures))
+    subst (λ z. IsEntryAt c.args.node.now c.args.value.now (ints 1 true) (number z))
+    (sym (kept_8 c.copied-number.result c.copied-number.type_inv ∙ c.copied-number.ensures))
     (entry-I8 c.args.node.now c.args.value.now c.in-I8-value.n c.in-I8.is c.in-I8-value.is small)
 
 pub returns-in_default-value-7-clause-refused : goal.returns-in_default-value-7-clause-refused
@@ -82,7 +83,8 @@ returns-in_default-value-7-clause-refused c =
 pub returns-in-I16-value-clause-entry : goal.returns-in-I16-value-clause-entry
 returns-in-I16-value-clause-entry c =
     let small : mag c.in-I16-value.n < 32768 = subst (λ z. mag z < 32768) c.copied-number-in-I16-value.ensures c.copied-number-in-I16-value.type_inv in
-    subst (λ z. IsEntryAt c.args.node.now c.args.value.now (ints 2 true) (number z)) (sym (kept_16 c.copied-number-in-I16-value.result c.copied-number-in-I16-value.type_inv ∙ c.copied-number-in-I16-value.ensures))
+    subst (λ z. IsEntryAt c.args.node.now c.args.value.now (ints 2 true) (number z))
+    (sym (kept_16 c.copied-number-in-I16-value.result c.copied-number-in-I16-value.type_inv ∙ c.copied-number-in-I16-value.ensures))
     (entry-I16 c.args.node.now c.args.value.now c.in-I16-value.n c.in-I16.is c.in-I16-value.is small)
 
 pub returns-in_default-value-8-clause-refused : goal.returns-in_default-value-8-clause-refused
@@ -93,7 +95,8 @@ returns-in_default-value-8-clause-refused c =
 pub returns-in-I32-value-clause-entry : goal.returns-in-I32-value-clause-entry
 returns-in-I32-value-clause-entry c =
     let small : mag c.in-I32-value.n < 2147483648 = subst (λ z. mag z < 2147483648) c.copied-number-in-I32-value.ensures c.copied-number-in-I32-value.type_inv in
-    subst (λ z. IsEntryAt c.args.node.now c.args.value.now (ints 4 true) (number z)) (sym (kept_32 c.copied-number-in-I32-value.result c.copied-number-in-I32-value.type_inv ∙ c.copied-number-in-I32-value.ensures))
+    subst (λ z. IsEntryAt c.args.node.now c.args.value.now (ints 4 true) (number z))
+    (sym (kept_32 c.copied-number-in-I32-value.result c.copied-number-in-I32-value.type_inv ∙ c.copied-number-in-I32-value.ensures))
     (entry-I32 c.args.node.now c.args.value.now c.in-I32-value.n c.in-I32.is c.in-I32-value.is small)
 
 pub returns-in_default-value-9-clause-refused : goal.returns-in_default-value-9-clause-refused
@@ -103,8 +106,10 @@ returns-in_default-value-9-clause-refused c =
 
 pub returns-in-I64-value-clause-entry : goal.returns-in-I64-value-clause-entry
 returns-in-I64-value-clause-entry c =
-    let small : mag c.in-I64-value.n < 9223372036854775808 = subst (λ z. mag z < 9223372036854775808) c.copied-number-in-I64-value.ensures c.copied-number-in-I64-value.type_inv in
-    subst (λ z. IsEntryAt c.args.node.now c.args.value.now (ints 8 true) (number z)) (sym (kept_64 c.copied-number-in-I64-value.result c.copied-number-in-I64-value.type_inv ∙ c.copied-number-in-I64-value.ensures))
+    let small : mag c.in-I64-value.n < 9223372036854775808 = subst (λ z. mag z < 9223372036854775808) c.copied-number-in-I64-value.ensures
+    c.copied-number-in-I64-value.type_inv in
+    subst (λ z. IsEntryAt c.args.node.now c.args.value.now (ints 8 true) (number z))
+    (sym (kept_64 c.copied-number-in-I64-value.result c.copied-number-in-I64-value.type_inv ∙ c.copied-number-in-I64-value.ensures))
     (entry-I64 c.args.node.now c.args.value.now c.in-I64-value.n c.in-I64.is c.in-I64-value.is small)
 
 pub returns-in_default-value-10-clause-refused : goal.returns-in_default-value-10-clause-refused
@@ -114,8 +119,10 @@ returns-in_default-value-10-clause-refused c =
 
 pub returns-in-I128-value-clause-entry : goal.returns-in-I128-value-clause-entry
 returns-in-I128-value-clause-entry c =
-    let small : mag c.in-I128-value.n < 170141183460469231731687303715884105728 = subst (λ z. mag z < 170141183460469231731687303715884105728) c.copied-number-in-I128-value.ensures c.copied-number-in-I128-value.type_inv in
-    subst (λ z. IsEntryAt c.args.node.now c.args.value.now (ints 16 true) (number z)) (sym (kept_128 c.copied-number-in-I128-value.result c.copied-number-in-I128-value.type_inv ∙ c.copied-number-in-I128-value.ensures))
+    let small : mag c.in-I128-value.n < 170141183460469231731687303715884105728 = subst (λ z. mag z < 170141183460469231731687303715884105728)
+    c.copied-number-in-I128-value.ensures c.copied-number-in-I128-value.type_inv in
+    subst (λ z. IsEntryAt c.args.node.now c.args.value.now (ints 16 true) (number z))
+    (sym (kept_128 c.copied-number-in-I128-value.result c.copied-number-in-I128-value.type_inv ∙ c.copied-number-in-I128-value.ensures))
     (entry-I128 c.args.node.now c.args.value.now c.in-I128-value.n c.in-I128.is c.in-I128-value.is small)
 
 pub returns-in_default-value-11-clause-refused : goal.returns-in_default-value-11-clause-refused

@@ -1,7 +1,7 @@
 -- By the node, and by what was taken.
 use Rattle.std.proofs.Common.{rules, arith, ◌≡◌, ◌<◌, ◌-◌, [], ◌++◌, length, map, refl, ap, subst, sym, ◌∙◌}
 use Rattle.std.proofs.lemmas.List.{map-append}
-use Rattle.std.proofs.lemmas.Result.{err_from_is_err_and, IfOk-weaker}
+use Rattle.std.proofs.lemmas.Result.{err_from_is_err_and, IfOk-weaker, IfErr-weaker}
 use Rattle.bitcode_shapes.specs.Datum.{unit, choice, pair}
 use Rattle.bitcode_untyped.specs.Faults.{faults_of}
 use Rattle.bitcode_untyped.specs.Population.{total, count_of}
@@ -10,101 +10,44 @@ use Rattle.bitcode_untyped.specs.ShapeTree.{unit_tree, seq_tree, map_tree, tuple
 use Rattle.bitcode_untyped.specs.View.{datum_of, followed, tree_of_node, trees_of}
 use Rattle.bitcode_untyped.specs.Walk.{length_kind, index_kind}
 use Rattle.bitcode_untyped.specs.declared.shape.ShapeNode.TheVariants as node
-use Rattle.bitcode_untyped.specs.declared.value.Value.TheVariants as value
-use Rattle.bitcode_untyped.proofs.FaultLemmas.{faults-Unit, faults-Bool, faults-U8, faults-U16, faults-U32, faults-U64, faults-U128, faults-I8, faults-I16, faults-I32, faults-I64, faults-I128, faults-Str, faults-None, faults-Some, faults-Seq, faults-Map, faults-Tuple}
+use Rattle.bitcode_untyped.proofs.FaultLemmas.{faults-Unit, faults-None, faults-Some, faults-Seq, faults-Map, faults-Tuple}
 use Rattle.bitcode_untyped.proofs.FollowedLemmas.{followed-zero, followed_one, entry_there, entry_away}
 use Rattle.bitcode_untyped.proofs.ReadLemmas.{never_read, seq_stuck_length, seq_over_limit, map_stuck_length, map_over_limit, choice_stuck_index}
-use Rattle.bitcode_untyped.proofs.ViewLemmas.{tree-Bool, tree-U8, tree-U16, tree-U32, tree-U64, tree-U128, tree-I8, tree-I16, tree-I32, tree-I64, tree-I128, tree-Char, tree-Str, tree-Bytes, tree-Option, tree-Seq, tree-Map, tree-Tuple, tree-Enum, tree-Ref, datum-None, datum-Some, datum-Seq, datum-Map, datum-Tuple, datum-Enum}
+use Rattle.bitcode_untyped.proofs.ViewLemmas.{tree-Bytes, tree-Option, tree-Seq, tree-Map, tree-Tuple, tree-Enum, tree-Ref, datum-None, datum-Some, datum-Seq, datum-Map, datum-Tuple, datum-Enum}
 use Rattle.bitcode_coder.specs.Spelling.{natural}
-use Rattle.bitcode_serde.specs.ReadColumns.{IsCaseOf}
-use Rattle.bitcode_serde.specs.declared.column.ColumnKind.TheVariants as kind
 use Rattle.bitcode_serde.specs.Places.{places, place_at}
-use Rattle.bitcode_serde.specs.ReadingValues.{ReadsAt, ReadsListAt, IsRefusalAt, IsListRefusalAt, IsOfChar, IsOfBytes, IsOfOption, IsOfSeq, IsOfMap, IsOfTuple, IsOfEnum}
-use Rattle.bitcode_serde.proofs.CaseLemmas.{nothing, one_more_whole, of_case, one_more_field_whole, all_fields_whole, enum_whole, reference_whole}
+use Rattle.bitcode_serde.specs.ReadingValues.{ReadsAt, ReadsListAt, IsRefusalAt, IsListRefusalAt, IsOfLeaf, IsOfBytes, ReadsLeafAt, IsLeafRefusalAt, IsOfOption, IsOfSeq, IsOfMap, IsOfTuple, IsOfEnum}
+use Rattle.bitcode_serde.proofs.CaseLemmas.{nothing, one_more_whole, one_more_field_whole, all_fields_whole, enum_whole, reference_whole}
 use Rattle.bitcode_serde.proofs.ColumnLemmas.{passed_on}
 use Rattle.bitcode_serde.proofs.DepthLemmas.{entry_deep, reference_falls}
 use Rattle.bitcode_serde.proofs.EntryLemmas.{found_entry, no_entry}
 use Rattle.bitcode_serde.proofs.FieldLemmas.{tree_at_entry, tree_at_none, no_fields, one_more_field, field_refused, tuple_done}
+use Rattle.bitcode_serde.proofs.LeafEntryLemmas.{leaf_else}
 use Rattle.bitcode_serde.proofs.ValueLemmas.{refused_entry, still_there, continues_on, continues_stepped, one_more, list_stuck, enters_list, enters_choice, enters_map, seq_read_at, seq_refused, choice_read_at, choice_refused, choice_of_unit, no_choice, no_third, told_at, ReadsPairsAt, one_more_pair, key_stuck, value_stuck, map_read_at, map_stuck_at}
 use Rattle.bitcode_serde.proofs.values.+read.Goals as goal
 
-pub read-returns-in-Bool-clause-read : goal.read-returns-in-Bool-clause-read
-read-returns-in-Bool-clause-read t c = rw (c.in-Bool.is, tree-Bool (followed c.args.left c.args.table.now)) c.read_leaf.ensures.read
+pub read-read_entry-requires : goal.read-read_entry-requires
+read-read_entry-requires t c =
+    let d = c.in_default in
+    let leaf = leaf_else c.args.node.now d.not-Unit d.not-Bytes d.not-Option d.not-Seq d.not-Map d.not-Tuple d.not-Enum d.not-Ref in
+    search (rules, leaf)
 
-pub read-returns-in-Bool-clause-refused : goal.read-returns-in-Bool-clause-refused
-read-returns-in-Bool-clause-refused t c = rw (c.in-Bool.is, tree-Bool (followed c.args.left c.args.table.now)) c.read_leaf.ensures.refused
+pub read-returns-in_default-clause-read : goal.read-returns-in_default-clause-read
+read-returns-in_default-clause-read t c =
+    IfOk-weaker c.read_entry.result (λ v. ReadsLeafAt c.args.node.now c.args.place c.args.reader.now (datum_of v) c.read_entry.new.reader)
+    (λ v. ReadsAt (tree_of_node c.args.left c.args.table.now c.args.node.now) c.args.place c.args.reader.now (datum_of v) c.read_entry.new.reader)
+    (λ v h. h (followed c.args.left c.args.table.now)) c.read_entry.ensures.read
 
-pub read-returns-in-U8-clause-read : goal.read-returns-in-U8-clause-read
-read-returns-in-U8-clause-read t c = rw (c.in-U8.is, tree-U8 (followed c.args.left c.args.table.now)) c.read_leaf-in-U8.ensures.read
+pub read-returns-in_default-clause-whole : goal.read-returns-in_default-clause-whole
+read-returns-in_default-clause-whole t c =
+    IfOk-weaker c.read_entry.result (λ v. IsOfLeaf c.args.node.now v) (λ v. faults_of c.args.table.now v c.args.left c.args.node.now ≡ [])
+    (λ v h. h c.args.table.now c.args.left) c.read_entry.ensures.whole
 
-pub read-returns-in-U8-clause-refused : goal.read-returns-in-U8-clause-refused
-read-returns-in-U8-clause-refused t c = rw (c.in-U8.is, tree-U8 (followed c.args.left c.args.table.now)) c.read_leaf-in-U8.ensures.refused
-
-pub read-returns-in-U16-clause-read : goal.read-returns-in-U16-clause-read
-read-returns-in-U16-clause-read t c = rw (c.in-U16.is, tree-U16 (followed c.args.left c.args.table.now)) c.read_leaf-in-U16.ensures.read
-
-pub read-returns-in-U16-clause-refused : goal.read-returns-in-U16-clause-refused
-read-returns-in-U16-clause-refused t c = rw (c.in-U16.is, tree-U16 (followed c.args.left c.args.table.now)) c.read_leaf-in-U16.ensures.refused
-
-pub read-returns-in-U32-clause-read : goal.read-returns-in-U32-clause-read
-read-returns-in-U32-clause-read t c = rw (c.in-U32.is, tree-U32 (followed c.args.left c.args.table.now)) c.read_leaf-in-U32.ensures.read
-
-pub read-returns-in-U32-clause-refused : goal.read-returns-in-U32-clause-refused
-read-returns-in-U32-clause-refused t c = rw (c.in-U32.is, tree-U32 (followed c.args.left c.args.table.now)) c.read_leaf-in-U32.ensures.refused
-
-pub read-returns-in-U64-clause-read : goal.read-returns-in-U64-clause-read
-read-returns-in-U64-clause-read t c = rw (c.in-U64.is, tree-U64 (followed c.args.left c.args.table.now)) c.read_leaf-in-U64.ensures.read
-
-pub read-returns-in-U64-clause-refused : goal.read-returns-in-U64-clause-refused
-read-returns-in-U64-clause-refused t c = rw (c.in-U64.is, tree-U64 (followed c.args.left c.args.table.now)) c.read_leaf-in-U64.ensures.refused
-
-pub read-returns-in-U128-clause-read : goal.read-returns-in-U128-clause-read
-read-returns-in-U128-clause-read t c = rw (c.in-U128.is, tree-U128 (followed c.args.left c.args.table.now)) c.read_leaf-in-U128.ensures.read
-
-pub read-returns-in-U128-clause-refused : goal.read-returns-in-U128-clause-refused
-read-returns-in-U128-clause-refused t c = rw (c.in-U128.is, tree-U128 (followed c.args.left c.args.table.now)) c.read_leaf-in-U128.ensures.refused
-
-pub read-returns-in-I8-clause-read : goal.read-returns-in-I8-clause-read
-read-returns-in-I8-clause-read t c = rw (c.in-I8.is, tree-I8 (followed c.args.left c.args.table.now)) c.read_leaf-in-I8.ensures.read
-
-pub read-returns-in-I8-clause-refused : goal.read-returns-in-I8-clause-refused
-read-returns-in-I8-clause-refused t c = rw (c.in-I8.is, tree-I8 (followed c.args.left c.args.table.now)) c.read_leaf-in-I8.ensures.refused
-
-pub read-returns-in-I16-clause-read : goal.read-returns-in-I16-clause-read
-read-returns-in-I16-clause-read t c = rw (c.in-I16.is, tree-I16 (followed c.args.left c.args.table.now)) c.read_leaf-in-I16.ensures.read
-
-pub read-returns-in-I16-clause-refused : goal.read-returns-in-I16-clause-refused
-read-returns-in-I16-clause-refused t c = rw (c.in-I16.is, tree-I16 (followed c.args.left c.args.table.now)) c.read_leaf-in-I16.ensures.refused
-
-pub read-returns-in-I32-clause-read : goal.read-returns-in-I32-clause-read
-read-returns-in-I32-clause-read t c = rw (c.in-I32.is, tree-I32 (followed c.args.left c.args.table.now)) c.read_leaf-in-I32.ensures.read
-
-pub read-returns-in-I32-clause-refused : goal.read-returns-in-I32-clause-refused
-read-returns-in-I32-clause-refused t c = rw (c.in-I32.is, tree-I32 (followed c.args.left c.args.table.now)) c.read_leaf-in-I32.ensures.refused
-
-pub read-returns-in-I64-clause-read : goal.read-returns-in-I64-clause-read
-read-returns-in-I64-clause-read t c = rw (c.in-I64.is, tree-I64 (followed c.args.left c.args.table.now)) c.read_leaf-in-I64.ensures.read
-
-pub read-returns-in-I64-clause-refused : goal.read-returns-in-I64-clause-refused
-read-returns-in-I64-clause-refused t c = rw (c.in-I64.is, tree-I64 (followed c.args.left c.args.table.now)) c.read_leaf-in-I64.ensures.refused
-
-pub read-returns-in-I128-clause-read : goal.read-returns-in-I128-clause-read
-read-returns-in-I128-clause-read t c = rw (c.in-I128.is, tree-I128 (followed c.args.left c.args.table.now)) c.read_leaf-in-I128.ensures.read
-
-pub read-returns-in-I128-clause-refused : goal.read-returns-in-I128-clause-refused
-read-returns-in-I128-clause-refused t c = rw (c.in-I128.is, tree-I128 (followed c.args.left c.args.table.now)) c.read_leaf-in-I128.ensures.refused
-
-pub read-returns-in-Str-clause-read : goal.read-returns-in-Str-clause-read
-read-returns-in-Str-clause-read t c = rw (c.in-Str.is, tree-Str (followed c.args.left c.args.table.now)) c.read_leaf-in-Str.ensures.read
-
-pub read-returns-in-Str-clause-refused : goal.read-returns-in-Str-clause-refused
-read-returns-in-Str-clause-refused t c = rw (c.in-Str.is, tree-Str (followed c.args.left c.args.table.now)) c.read_leaf-in-Str.ensures.refused
-
-pub read-returns-in-Char-clause-read : goal.read-returns-in-Char-clause-read
-read-returns-in-Char-clause-read t c = rw (c.in-Char.is, tree-Char (followed c.args.left c.args.table.now)) c.read_char.ensures.read
-
-pub read-returns-in-Char-clause-refused : goal.read-returns-in-Char-clause-refused
-read-returns-in-Char-clause-refused t c = rw (c.in-Char.is, tree-Char (followed c.args.left c.args.table.now)) c.read_char.ensures.refused
+pub read-returns-in_default-clause-refused : goal.read-returns-in_default-clause-refused
+read-returns-in_default-clause-refused t c =
+    IfErr-weaker c.read_entry.result (λ e. IsLeafRefusalAt c.args.node.now c.args.place c.args.reader.now e.reason)
+    (λ e. IsRefusalAt (tree_of_node c.args.left c.args.table.now c.args.node.now) c.args.place c.args.reader.now e.reason)
+    (λ e h. h (followed c.args.left c.args.table.now)) c.read_entry.ensures.refused
 
 pub read-returns-in-Bytes-clause-read : goal.read-returns-in-Bytes-clause-read
 read-returns-in-Bytes-clause-read t c = rw (c.in-Bytes.is, tree-Bytes (followed c.args.left c.args.table.now)) c.read_bytes.ensures.read
@@ -538,70 +481,6 @@ read_map-returns-then-is_over_limit-clause-refused t c =
 
 pub read-returns-in-Unit-clause-whole : goal.read-returns-in-Unit-clause-whole
 read-returns-in-Unit-clause-whole t c = rw c.in-Unit.is (faults-Unit c.args.table.now c.args.left)
-
-pub read-returns-in-Bool-clause-whole : goal.read-returns-in-Bool-clause-whole
-read-returns-in-Bool-clause-whole t c =
-    rw c.in-Bool.is (IfOk-weaker _ (IsCaseOf kind.Bools) (λ v. faults_of c.args.table.now v c.args.left node.Bool ≡ [])
-    (λ v h. of_case c.args.table.now c.args.left node.Bool v (λ b. value.Bool b) (faults-Bool c.args.table.now c.args.left) h) c.read_leaf.ensures.of_case)
-
-pub read-returns-in-U8-clause-whole : goal.read-returns-in-U8-clause-whole
-read-returns-in-U8-clause-whole t c =
-    rw c.in-U8.is (IfOk-weaker _ (IsCaseOf kind.Bytes) (λ v. faults_of c.args.table.now v c.args.left node.U8 ≡ [])
-    (λ v h. of_case c.args.table.now c.args.left node.U8 v (λ n. value.U8 n) (faults-U8 c.args.table.now c.args.left) h) c.read_leaf-in-U8.ensures.of_case)
-
-pub read-returns-in-U16-clause-whole : goal.read-returns-in-U16-clause-whole
-read-returns-in-U16-clause-whole t c =
-    rw c.in-U16.is (IfOk-weaker _ (IsCaseOf kind.U16) (λ v. faults_of c.args.table.now v c.args.left node.U16 ≡ [])
-    (λ v h. of_case c.args.table.now c.args.left node.U16 v (λ n. value.U16 n) (faults-U16 c.args.table.now c.args.left) h) c.read_leaf-in-U16.ensures.of_case)
-
-pub read-returns-in-U32-clause-whole : goal.read-returns-in-U32-clause-whole
-read-returns-in-U32-clause-whole t c =
-    rw c.in-U32.is (IfOk-weaker _ (IsCaseOf kind.U32) (λ v. faults_of c.args.table.now v c.args.left node.U32 ≡ [])
-    (λ v h. of_case c.args.table.now c.args.left node.U32 v (λ n. value.U32 n) (faults-U32 c.args.table.now c.args.left) h) c.read_leaf-in-U32.ensures.of_case)
-
-pub read-returns-in-U64-clause-whole : goal.read-returns-in-U64-clause-whole
-read-returns-in-U64-clause-whole t c =
-    rw c.in-U64.is (IfOk-weaker _ (IsCaseOf kind.U64) (λ v. faults_of c.args.table.now v c.args.left node.U64 ≡ [])
-    (λ v h. of_case c.args.table.now c.args.left node.U64 v (λ n. value.U64 n) (faults-U64 c.args.table.now c.args.left) h) c.read_leaf-in-U64.ensures.of_case)
-
-pub read-returns-in-U128-clause-whole : goal.read-returns-in-U128-clause-whole
-read-returns-in-U128-clause-whole t c =
-    rw c.in-U128.is (IfOk-weaker _ (IsCaseOf kind.U128) (λ v. faults_of c.args.table.now v c.args.left node.U128 ≡ [])
-    (λ v h. of_case c.args.table.now c.args.left node.U128 v (λ n. value.U128 n) (faults-U128 c.args.table.now c.args.left) h) c.read_leaf-in-U128.ensures.of_case)
-
-pub read-returns-in-I8-clause-whole : goal.read-returns-in-I8-clause-whole
-read-returns-in-I8-clause-whole t c =
-    rw c.in-I8.is (IfOk-weaker _ (IsCaseOf kind.I8) (λ v. faults_of c.args.table.now v c.args.left node.I8 ≡ [])
-    (λ v h. of_case c.args.table.now c.args.left node.I8 v (λ z. value.I8 z) (faults-I8 c.args.table.now c.args.left) h) c.read_leaf-in-I8.ensures.of_case)
-
-pub read-returns-in-I16-clause-whole : goal.read-returns-in-I16-clause-whole
-read-returns-in-I16-clause-whole t c =
-    rw c.in-I16.is (IfOk-weaker _ (IsCaseOf kind.I16) (λ v. faults_of c.args.table.now v c.args.left node.I16 ≡ [])
-    (λ v h. of_case c.args.table.now c.args.left node.I16 v (λ z. value.I16 z) (faults-I16 c.args.table.now c.args.left) h) c.read_leaf-in-I16.ensures.of_case)
-
-pub read-returns-in-I32-clause-whole : goal.read-returns-in-I32-clause-whole
-read-returns-in-I32-clause-whole t c =
-    rw c.in-I32.is (IfOk-weaker _ (IsCaseOf kind.I32) (λ v. faults_of c.args.table.now v c.args.left node.I32 ≡ [])
-    (λ v h. of_case c.args.table.now c.args.left node.I32 v (λ z. value.I32 z) (faults-I32 c.args.table.now c.args.left) h) c.read_leaf-in-I32.ensures.of_case)
-
-pub read-returns-in-I64-clause-whole : goal.read-returns-in-I64-clause-whole
-read-returns-in-I64-clause-whole t c =
-    rw c.in-I64.is (IfOk-weaker _ (IsCaseOf kind.I64) (λ v. faults_of c.args.table.now v c.args.left node.I64 ≡ [])
-    (λ v h. of_case c.args.table.now c.args.left node.I64 v (λ z. value.I64 z) (faults-I64 c.args.table.now c.args.left) h) c.read_leaf-in-I64.ensures.of_case)
-
-pub read-returns-in-I128-clause-whole : goal.read-returns-in-I128-clause-whole
-read-returns-in-I128-clause-whole t c =
-    rw c.in-I128.is (IfOk-weaker _ (IsCaseOf kind.I128) (λ v. faults_of c.args.table.now v c.args.left node.I128 ≡ [])
-    (λ v h. of_case c.args.table.now c.args.left node.I128 v (λ z. value.I128 z) (faults-I128 c.args.table.now c.args.left) h) c.read_leaf-in-I128.ensures.of_case)
-
-pub read-returns-in-Str-clause-whole : goal.read-returns-in-Str-clause-whole
-read-returns-in-Str-clause-whole t c =
-    rw c.in-Str.is (IfOk-weaker _ (IsCaseOf kind.Texts) (λ v. faults_of c.args.table.now v c.args.left node.Str ≡ [])
-    (λ v h. of_case c.args.table.now c.args.left node.Str v (λ s. value.Str s) (faults-Str c.args.table.now c.args.left) h) c.read_leaf-in-Str.ensures.of_case)
-
-pub read-returns-in-Char-clause-whole : goal.read-returns-in-Char-clause-whole
-read-returns-in-Char-clause-whole t c =
-    rw c.in-Char.is (IfOk-weaker _ IsOfChar (λ v. faults_of c.args.table.now v c.args.left node.Char ≡ []) (λ v h. h c.args.table.now c.args.left) c.read_char.ensures.whole)
 
 pub read-returns-in-Bytes-clause-whole : goal.read-returns-in-Bytes-clause-whole
 read-returns-in-Bytes-clause-whole t c =

@@ -40,7 +40,8 @@ invariant-write_seq-loop-value l =
 abbrev pub invariant-write_map-loop-first : goal.invariant-write_map-loop-first
 invariant-write_map-loop-first l =
     (l.keys ≤ length l.initial.writer.places.below.items) × (l.values ≤ length l.initial.writer.places.below.items)
-    × EachWritten (λ e. walk (tree_of_node l.left l.table l.key) (place_in l.initial.writer l.keys) (datum_of e.0) ++ walk (tree_of_node l.left l.table l.value) (place_in l.initial.writer l.values) (datum_of e.1))
+    × EachWritten (λ e. walk (tree_of_node l.left l.table l.key) (place_in l.initial.writer l.keys) (datum_of e.0) ++ walk
+    (tree_of_node l.left l.table l.value) (place_in l.initial.writer l.values) (datum_of e.1))
     (λ e. IsOf (tree_of_node l.left l.table l.key) (datum_of e.0) × IsOf (tree_of_node l.left l.table l.value) (datum_of e.1))
     (λ e. faults_of l.table e.0 l.left l.key ++ faults_of l.table e.1 l.left l.value) l.pairs l.initial.writer l.first-index l.writer
 
