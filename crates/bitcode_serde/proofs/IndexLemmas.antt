@@ -1,5 +1,6 @@
 -- What is read and written of a column of indices.
-use Rattle.std.proofs.Common.{ℕ, ◌<◌, ◌≡◌, false, List, All, refl, map, ap, lit≤}
+use Rattle.std.proofs.Common.{ℕ, ◌<◌, ◌≡◌, ◌++◌, false, List, All, refl, sym, ◌∙◌, map, take, drop, ap, lit≤}
+use Rattle.std.proofs.lemmas.List.{map-append, take-append-drop}
 use Rattle.std.proofs.lemmas.List.Elements.{All-map}
 use Rattle.bitcode_columns.specs.declared.error.Reason.{Reason}
 use Rattle.bitcode_columns.specs.ByteColumn.{SpellsBytes}
@@ -28,3 +29,7 @@ indices_read count old entries new r below =
 
 pub indices_counted : (entries : List ℕ) (index : ℕ) → count_of index (map natural entries) ≡ count_of_number index entries
 indices_counted entries index = ap (count_of_number index) (naturals_in entries)
+
+pub indices_cut : (all taken rest : List ℕ) (n : ℕ) → taken ≡ take n all → rest ≡ drop n all → map natural all ≡ map natural taken ++ map natural rest
+indices_cut all taken rest n e f =
+    ap (map natural) (sym (take-append-drop n all) ∙ ap (λ xs. xs ++ drop n all) (sym e) ∙ ap (λ xs. taken ++ xs) (sym f)) ∙ map-append natural taken rest

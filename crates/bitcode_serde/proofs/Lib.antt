@@ -2,6 +2,7 @@ pub mod IndexLemmas
 pub mod ReasonLemmas
 pub mod ColumnLemmas
 pub mod ReadingLemmas
+pub mod EachTakenLemmas
 pub mod StepLemmas
 pub mod ValueLemmas
 pub mod DepthLemmas

@@ -64,27 +64,27 @@ pub record TakesEntry (c : OpenColumn) (d : Datum) (after : OpenColumn) : Type 0
   pub taken : left c.column ≡ d ∷ left after.column
   pub tallies : (entries : List Datum) → Tallies c.column entries → Tallies after.column entries
 
-none_left : (xs : List Datum) (k : ℕ) (d : Datum) → length (drop k xs) ≡ 0 → slice_get xs k ≡ Some d → ⊥
+pub none_left : (xs : List Datum) (k : ℕ) (d : Datum) → length (drop k xs) ≡ 0 → slice_get xs k ≡ Some d → ⊥
 none_left [] k d e h = cc
 none_left (x ∷ xs) zero d e h = let m : suc (length xs) ≡ 0 = e in omega (arith, m)
 none_left (x ∷ xs) (suc k) d e h = none_left xs k d e h
 
-all_got : (P : Datum → Type 0) (xs : List Datum) (k : ℕ) (d : Datum) → All P xs → slice_get xs k ≡ Some d → P d
+pub all_got : (P : Datum → Type 0) (xs : List Datum) (k : ℕ) (d : Datum) → All P xs → slice_get xs k ≡ Some d → P d
 all_got P xs k d all h = subst P (get_or_from_slice_get xs k d d h) (all k d (slice_get_within xs k d h))
 
 -- the entry behind those that were taken
-behind : (xs : List Datum) (k : ℕ) (d : Datum) (ys : List Datum) → drop k xs ≡ d ∷ ys → (slice_get xs k ≡ Some d) × (drop (k + 1) xs ≡ ys)
+pub behind : (xs : List Datum) (k : ℕ) (d : Datum) (ys : List Datum) → drop k xs ≡ d ∷ ys → (slice_get xs k ≡ Some d) × (drop (k + 1) xs ≡ ys)
 behind [] zero d ys e = cc
 behind [] (suc k) d ys e = cc
 behind (x ∷ xs) zero d ys e = let h : x ≡ d = cc in let t : xs ≡ ys = cc in (ap (λ z. Some z) h, t)
 behind (x ∷ xs) (suc k) d ys e = let r = behind xs k d ys e in (r.0, rw add-one (subst (λ j. drop j xs ≡ ys) (add-one k) r.1))
 
 module _ (ps : List Place) (apart : AreApart ps) (n : ℕ) (inside : n < length ps) where
-  elsewhere : (c : OpenColumn) (o : Opened) → Backs ps c o → c.place ≢ n → same_place (place_at ps n) o.place ≡ false
+  pub elsewhere : (c : OpenColumn) (o : Opened) → Backs ps c o → c.place ≢ n → same_place (place_at ps n) o.place ≡ false
   elsewhere c o b away =
       same_place-false (place_at ps n) o.place (λ e. away (sym (apart n c.place inside b.inside (e ∙ b.place))))
 
-  here : (c : OpenColumn) (o : Opened) → Backs ps c o → c.place ≡ n → same_place (place_at ps n) o.place ≡ true
+  pub here : (c : OpenColumn) (o : Opened) → Backs ps c o → c.place ≡ n → same_place (place_at ps n) o.place ≡ true
   here c o b e =
       let p : o.place ≡ place_at ps n = b.place ∙ ap (place_at ps) e in
       subst (λ q. same_place (place_at ps n) q ≡ true) (sym p) (same_place-refl (place_at ps n))

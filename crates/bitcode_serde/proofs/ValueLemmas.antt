@@ -1,5 +1,6 @@
 -- Reading a value: what is read of its parts, reader by reader.
-use Rattle.std.proofs.Common.{◌≡◌, ◌≢◌, ℕ, zero, suc, ◌+◌, ◌<◌, ◌≤◌, List, [], ◌∷◌, ◌++◌, length, map, true, refl, sym, subst, arith, false, pos}
+use Rattle.std.proofs.Common.{◌≡◌, ◌≢◌, ℕ, zero, suc, ◌+◌, ◌<◌, ◌≤◌, List, [], ◌∷◌, ◌++◌, length, map, true, refl, ap, sym, subst, arith, false, pos}
+use Rattle.std.specs.List.{AllByRecursion, flat_map}
 use Rattle.bitcode_columns.specs.declared.error.Reason.{Reason}
 use Rattle.bitcode_columns.specs.declared.error.Reason.TheVariants as reason
 use Rattle.bitcode_shapes.specs.Datum.{Datum, unit, list, choice, pair, data_of}
@@ -10,12 +11,13 @@ use Rattle.bitcode_untyped.specs.Machine.{State, Takes, whole, is_open, entries_
 use Rattle.bitcode_untyped.specs.Reads.{ReadsDatum, ReadsNoDatum, IsReadable, IsReadablePair, pair_walk, ReadsPairs}
 use Rattle.bitcode_untyped.specs.Bounds.{column_free, free_limit}
 use Rattle.bitcode_untyped.specs.Population.{total, count_of}
+use Rattle.bitcode_untyped.specs.Runs.{Runs}
 use Rattle.bitcode_untyped.specs.ShapeTree.{ShapeTree, ShapeTrees, no_trees, tree_and, unit_tree, never_tree, leaf_tree, seq_tree, map_tree, choice_tree, tree_at, greatest_index}
 use Rattle.bitcode_untyped.specs.PlacedColumns.{PlacedColumn}
 use Rattle.bitcode_untyped.specs.Walk.{Step, element, key, value, variant, Place, use_at, length_kind, index_kind, walk}
 use Rattle.bitcode_untyped.proofs.ReadLemmas.{many_none, many_push, many_stuck, one_datum_read, unit_read, never_read, leaf_read, seq_read, seq_stuck, choice_read, choice_stuck, one_pair_read, pair_read, pair_stuck_key, pair_stuck_value, map_read, map_stuck}
 use Rattle.bitcode_serde.specs.ReadColumns.{IsColumnReason}
-use Rattle.bitcode_serde.specs.Reading.{Hosts, Stands, NothingAt, Leads, LeadsTelling, AreSized}
+use Rattle.bitcode_serde.specs.Reading.{Hosts, Stands, NothingAt, NotSoMany, Leads, LeadsEach, LeadsTelling, AreSized}
 use Rattle.bitcode_serde.specs.Places.{step_of, IsPlace, places_from, places, place_at}
 use Rattle.bitcode_serde.specs.ReadingValues.{IsSteady, Continues, GoesAlong, HasNone, ReadsAt, ReadsListAt, IsValueReason, IsRefusalOf, IsRefusalAt, IsListRefusalAt}
 use Rattle.bitcode_serde.specs.declared.reader.Reader.{Reader}
@@ -104,6 +106,32 @@ pub leaf_told : (old new : Reader) (place : ℕ) (kind : Kind) (d : Datum) (Told
 leaf_told old new place kind d Told leads p at a s =
     let l = told_at old new place kind d Told leads p at a s in
     (l.0, l.1, leaf_read kind any_number p a d l.0 (l.2.entry, tt) l.2.takes)
+
+-- ---- entries that are taken at once
+
+leaf_walks : (kind : Kind) (p : Place) (ds : List Datum) → flat_map (walk (leaf_tree kind any_number) p) ds ≡ map (use_at p kind) ds
+leaf_walks kind p [] = refl
+leaf_walks kind p (d ∷ ds) = ap (λ us. use_at p kind d ∷ us) (leaf_walks kind p ds)
+
+leaves_are : (kind : Kind) (ds : List Datum) → AllByRecursion (IsEntryOf kind) ds → AllByRecursion (IsReadable (leaf_tree kind any_number)) ds
+leaves_are kind [] h = tt
+leaves_are kind (d ∷ ds) h = (((h.0, tt), tt), leaves_are kind ds h.1)
+
+pub leaves_read : (old new : Reader) (place count : ℕ) (kind : Kind) (ds : List Datum) → LeadsEach old (place_at (places old.places.below.items) place) kind ds new
+    → length ds ≡ count → ReadsListAt (leaf_tree kind any_number) place old count ds new
+leaves_read old new place count kind ds leads size p at a s =
+    let l = leads a s in
+    let runs = subst (λ q. Runs Takes a (map (use_at q kind) ds) l.0) at.1 l.1 in
+    (l.0, l.2, record { size = size; each = leaves_are kind ds l.3; runs = subst (λ us. Runs Takes a us l.0) (sym (leaf_walks kind p ds)) runs })
+
+pub leaves_refused : (r : Reader) (place count : ℕ) (kind : Kind) (why : Reason)
+    → IsColumnReason why × (why ≢ reason.OutOfMemory → (a : State) → Stands r a → NotSoMany a (place_at (places r.places.below.items) place) kind count)
+    → IsListRefusalAt (leaf_tree kind any_number) place r count why
+leaves_refused r place count kind why h = (
+  value_reason why h.0,
+  λ other p at a s ds b read.
+      subst (λ q. NotSoMany a q kind count) at.1 (h.1 other a s) ds b read.size (subst (λ us. Runs Takes a us b) (leaf_walks kind p ds) read.runs),
+)
 
 -- ---- one after another
 

@@ -1,10 +1,12 @@
 -- What a reader stands for: the state of the machine that takes one entry after another.
 use Rattle.std.specs.Prelude.{◌≡◌, ◌≢◌, ℕ, zero, suc, ◌<◌, ◌≤◌, true, List, [], ◌∷◌, ◌++◌, length, map, drop, get_or, All}
+use Rattle.std.specs.List.{AllByRecursion}
 use Rattle.bitcode_shapes.specs.Datum.{Datum}
 use Rattle.bitcode_coder.specs.Columns.{Kind, IsEntryOf}
 use Rattle.bitcode_untyped.specs.Machine.{Opened, State, whole, is_open, entries_of, Grounded, TakesNext, Takes}
 use Rattle.bitcode_untyped.specs.PlacedColumns.{PlacedColumn}
 use Rattle.bitcode_untyped.specs.Population.{population}
+use Rattle.bitcode_untyped.specs.Runs.{Runs}
 use Rattle.bitcode_untyped.specs.Walk.{Place, use_at}
 use Rattle.bitcode_serde.specs.Places.{place_at, places}
 use Rattle.bitcode_serde.specs.ReadColumns.{kind_of_column, left, Tallies}
@@ -76,3 +78,12 @@ abbrev pub LeadsTelling : Reader → Place → Kind → Datum → Reader → (Li
 LeadsTelling old p kind d new Told =
     (a : State) → Stands old a → (b : State) × Takes a (use_at p kind d) b × Stands new b
     × (is_open (map whole b.opened) p ≡ true) × Told (entries_of (map whole b.opened) p) × IsEntryOf kind d
+
+-- The machine takes entries one after another, and the reader goes along.
+abbrev pub LeadsEach : Reader → Place → Kind → List Datum → Reader → Type 0
+LeadsEach old p kind ds new =
+    (a : State) → Stands old a → (b : State) × Runs Takes a (map (use_at p kind) ds) b × Stands new b × AllByRecursion (IsEntryOf kind) ds
+
+-- so many entries of the place can't be taken
+abbrev pub NotSoMany : State → Place → Kind → ℕ → Type 0
+NotSoMany a p kind count = (ds : List Datum) (b : State) → length ds ≡ count → Runs Takes a (map (use_at p kind) ds) b → ⊥

@@ -1,5 +1,5 @@
 // The columns that a reader has open.
-ghost use Rattle.std.specs.Prelude.{◌≡◌, ◌≢◌, ℕ, ◌<◌, List, ◌∷◌, None, false, length, sum, IsTrue, MatchBool, IfOk, IfErr};
+ghost use Rattle.std.specs.Prelude.{◌≡◌, ◌≢◌, ℕ, ◌<◌, ◌≤◌, List, ◌∷◌, ◌++◌, None, false, length, map, sum, IsTrue, MatchBool, IfOk, IfErr};
 ghost use Rattle.bitcode_columns.specs.Reading.{Reads};
 ghost use Rattle.bitcode_coder.specs.LengthColumn.{SpellsLengths};
 ghost use Rattle.bitcode_coder.specs.LengthCoders.{lengths_left, lengths_sum};
@@ -260,6 +260,24 @@ impl<'a> Column<'a> {
     {
         match self {
             Column::Bytes(column) => column.decode().unwrap(),
+            _ => unreachable!(),
+        }
+    }
+
+    /// Takes so many of the next numbers of one byte. So many are left.
+    ///
+    /// A refused growth is `out of memory`.
+    pub fn take_bytes(&mut self, count: usize) -> Result<Vec<u8>, Error>
+        requires bytes { kind_of_column self.old ≡ ints 1 false }
+        requires some { count ≤ length (left self.old) }
+        ensures taken { IfOk result (λ bytes. left self.old ≡ map natural bytes.items ++ left self.new) }
+        ensures size { IfOk result (λ bytes. length bytes.items ≡ count) }
+        ensures kind { kind_of_column self.new ≡ kind_of_column self.old }
+        ensures tallies { (entries : List Datum) → Tallies self.old entries → Tallies self.new entries }
+        ensures refused { IfErr result (λ e. e.reason ≡ Reason.OutOfMemory) }
+    {
+        match self {
+            Column::Bytes(column) => column.take(count),
             _ => unreachable!(),
         }
     }

@@ -15,7 +15,6 @@ use bitcode_columns::error::{Error, Reason};
 use bitcode_columns::refuse::err;
 use bitcode_untyped::shape::ShapeNode;
 use bitcode_untyped::value::Value;
-use std::alloc::Global;
 
 /// Reads a value of a column of a kind.
 pub fn read_leaf(reader: &mut Reader<'_>, place: usize, kind: ColumnKind) -> Result<Value, Error>
@@ -46,9 +45,8 @@ pub fn read_char(reader: &mut Reader<'_>, place: usize) -> Result<Value, Error>
     }
 }
 
-// Reads so many bytes.
-fn read_each_byte(
-    alloc: Global,
+// Reads the bytes of a list, so many of them.
+fn read_elements_of_bytes(
     reader: &mut Reader<'_>,
     place: usize,
     count: usize,
@@ -59,16 +57,12 @@ fn read_each_byte(
     ensures read { IfOk result (λ bytes. ReadsListAt (natural_tree 1) place reader.old count (map natural bytes.items) reader.new) }
     ensures refused { IfErr result (λ e. IsListRefusalAt (natural_tree 1) place reader.old count e.reason) }
 {
-    let mut bytes = Vec::new(alloc);
-    for _i in 0..count {
-        let byte = reader.take_index(place)?;
-        bytes.push(byte.index)?;
-    }
+    let bytes = reader.take_bytes(place, count)?;
     Ok(bytes)
 }
 
 /// Reads a list of bytes.
-pub fn read_bytes(alloc: Global, reader: &mut Reader<'_>, place: usize) -> Result<Value, Error>
+pub fn read_bytes(reader: &mut Reader<'_>, place: usize) -> Result<Value, Error>
     requires place { place ≤ length reader.old.places.below.items }
     requires steady { IsSteady reader.old }
     ensures continues { OnOk result (Continues reader.old reader.new) }
@@ -78,7 +72,7 @@ pub fn read_bytes(alloc: Global, reader: &mut Reader<'_>, place: usize) -> Resul
 {
     let taken = reader.take_length(place)?;
     let elements = reader.step(place, Step::Element, taken.total)?;
-    let bytes = read_each_byte(alloc, reader, elements, taken.length)?;
+    let bytes = read_elements_of_bytes(reader, elements, taken.length)?;
     Ok(Value::Bytes(bytes))
 }
 

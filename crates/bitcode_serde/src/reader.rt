@@ -69,7 +69,7 @@ fn make_room(counts: &mut Vec<usize>, places: usize) -> Result<(), Error>
 }
 
 impl<'a> Reader<'a> {
-    ghost use Rattle.bitcode_serde.specs.Reading.{Hosts, counts, AreSized, Stands, IsReady, Prepares, NothingAt, Leads, LeadsTelling};
+    ghost use Rattle.bitcode_serde.specs.Reading.{Hosts, counts, AreSized, Stands, IsReady, Prepares, NothingAt, NotSoMany, Leads, LeadsEach, LeadsTelling};
     ghost use Rattle.bitcode_serde.specs.ReadingValues.{IsSteady, Continues, field_at};
 
     /// Stands before the bytes, with no column open. Takes no memory.
@@ -259,6 +259,31 @@ impl<'a> Reader<'a> {
         let index = open.column.take_index();
         let count = open.column.count(index);
         Ok(Index { index, count })
+    }
+
+    /// Takes so many of the next numbers of one byte of a place, all at once.
+    ///
+    /// It refuses as [`Reader::take`] does.
+    pub fn take_bytes(&mut self, place: usize, count: usize) -> Result<Vec<u8>, Error>
+        requires place { place ≤ length self.old.places.below.items }
+        requires sized { AreSized self.old.columns.items }
+        ensures sized { OnOk result (AreSized self.new.columns.items) }
+        ensures leads { IfOk result (λ bytes. LeadsEach self.old (place_at (places self.old.places.below.items) place) index_kind (map natural bytes.items) self.new) }
+        ensures size { IfOk result (λ bytes. length bytes.items ≡ count) }
+        ensures below { self.new.places.below ≡ self.old.places.below }
+        ensures refused { IfErr result (λ e. IsColumnReason e.reason × (e.reason ≢ Reason.OutOfMemory → (a : State) → Stands self.old a → NotSoMany a (place_at (places self.old.places.below.items) place) index_kind count)) }
+    {
+        if count == 0 {
+            return Ok(Vec::new(self.alloc));
+        }
+        let i = self.ready(place, ColumnKind::Bytes)?;
+        if self.columns[i].left < count {
+            return err(Reason::Eof);
+        }
+        let open = &mut self.columns[i];
+        open.left -= count;
+        let bytes = open.column.take_bytes(count)?;
+        Ok(bytes)
     }
 
     /// Takes the next number of four bytes of a place.

@@ -34,7 +34,7 @@ pub fn serialize(alloc: Global, shape: &Shape, value: &Value) -> Result<Vec<u8>,
     ensures written { IfOk result (λ bytes. bytes.items ≡ datum_text (tree_of shape.now) (datum_of value.now)) }
     ensures of_shape { OnOk result (IsOf (tree_of shape.now) (datum_of value.now)) }
     ensures whole { OnOk result (value_faults shape.now value.now ≡ []) }
-    ensures back { IfOk result (λ bytes. IsLimited (tree_of shape.now) (datum_of value.now) → LengthsBelowLimit (tree_of shape.now) (datum_of value.now)
+    ensures round_trip { IfOk result (λ bytes. IsLimited (tree_of shape.now) (datum_of value.now) → LengthsBelowLimit (tree_of shape.now) (datum_of value.now)
         → IsReadAs shape.now bytes.items value.now) }
     ensures refused { IfErr result (λ e. IsWriterReason e.reason (value_faults shape.now value.now)) }
 {

@@ -35,7 +35,7 @@ pub fn read(
 {
     match node {
         ShapeNode::Unit => Ok(Value::Unit),
-        ShapeNode::Bytes => read_bytes(alloc, reader, place),
+        ShapeNode::Bytes => read_bytes(reader, place),
         ShapeNode::Option(some) => read_option(alloc, reader, table, some, left, place),
         ShapeNode::Seq(element) => read_seq(alloc, reader, table, element, left, place),
         ShapeNode::Map(key, value) => read_map(alloc, reader, table, key, value, left, place),

@@ -1,7 +1,7 @@
 // The column that indices are read from.
 #![tactic(auto, using(crate::proofs::IndexLemmas::indices_refused), unfolding(crate::specs::Indices::indices_left, crate::specs::Indices::indices_owned, crate::specs::Indices::index_count))]
 
-ghost use Rattle.std.specs.Prelude.{pos, ◌≡◌, ◌≢◌, ℕ, ◌<◌, ◌≤◌, [], length, true, false, refl, IsTrue, IsOk, All, IfOk, OnOk, IfErr, OnErr, MatchOption};
+ghost use Rattle.std.specs.Prelude.{pos, ◌≡◌, ◌≢◌, ℕ, ◌<◌, ◌≤◌, [], length, true, false, refl, IsTrue, IsOk, All, ◌++◌, map, IfOk, OnOk, IfErr, OnErr, MatchOption};
 ghost use Rattle.bitcode_columns.specs.Counts.{AreCounts};
 ghost use Rattle.bitcode_columns.specs.Reading.{Reads, IsEndOf};
 ghost use Rattle.bitcode_coder.specs.Faults.{NamesIntsFault};
@@ -106,7 +106,8 @@ impl<'a> Decoder<'a, u8> for VariantDecoder<'a> {
 }
 
 impl<'a> VariantDecoder<'a> {
-    ghost use Rattle.bitcode_serde.specs.Indices.{index_count};
+    ghost use Rattle.bitcode_coder.specs.Spelling.{natural};
+    ghost use Rattle.bitcode_serde.specs.Indices.{indices_left, index_count};
 
     /// How many of the indices that were read are this one, those that were taken since too. It is 0 for an index that
     /// was not met.
@@ -119,6 +120,19 @@ impl<'a> VariantDecoder<'a> {
         ensures { result ≡ index_count self.now index }
     {
         self.counts[index as usize]
+    }
+
+    // Takes so many of the next indices. So many are left.
+    pub(crate) fn take(&mut self, count: usize) -> Result<Vec<u8>, Error>
+        requires { count ≤ length (indices_left self.old) }
+        ensures taken { IfOk result (λ bytes. indices_left self.old ≡ map natural bytes.items ++ indices_left self.new) }
+        ensures size { IfOk result (λ bytes. length bytes.items ≡ count) }
+        ensures counts { (index : ℕ) → index_count self.new index ≡ index_count self.old index }
+        ensures refused { IfErr result (λ e. e.reason ≡ Reason.OutOfMemory) }
+    {
+        let mut taken = Vec::new(self.alloc);
+        taken.extend_from_slice(self.indices.chunk_unchecked(count))?;
+        Ok(taken)
     }
 
     /// The greatest of the indices that were read, those that were taken since too; `None` where there is none.

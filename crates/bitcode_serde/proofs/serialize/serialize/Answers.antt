@@ -43,8 +43,8 @@ returns-clause-whole c =
     (root_faults c.args.shape.now c.table-table.result.now c.root.result c.index-table-root.result c.args.value.now c.table-table.ensures c.root.ensures
     c.index-table-root.is ∙ c.in_ok-write.ensures.whole)
 
-pub returns-clause-back : goal.returns-clause-back
-returns-clause-back c =
+pub returns-clause-round_trip : goal.returns-clause-round_trip
+returns-clause-round_trip c =
     let is = root_is c.args.shape.now c.table-table.result.now c.root.result c.index-table-root.result c.table-table.ensures c.root.ensures c.index-table-root.is in
     let s = tree_of c.args.shape.now in
     let of : IsOf s (datum_of c.args.value.now) = rw is c.in_ok-write.ensures.of_tree in
