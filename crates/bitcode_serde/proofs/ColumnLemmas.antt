@@ -16,17 +16,20 @@ use Rattle.bitcode_shapes.specs.LawfulValues.{width_1, width_2, width_4, width_8
 use Rattle.bitcode_shapes.specs.Texts.{MakesText}
 use Rattle.bitcode_coder.specs.Coding.{TakesDatum, IsReadingRefusal}
 use Rattle.bitcode_coder.specs.Columns.{Kind, ints, bools, texts, lengths, IsEntryOf}
+use Rattle.bitcode_coder.specs.Faults.{NamesBoolsFault, NamesIntsFault}
 use Rattle.bitcode_coder.specs.LengthColumn.{SpellsLengths}
 use Rattle.bitcode_coder.specs.LengthParts.{NamesLengthFault}
+use Rattle.bitcode_coder.specs.TextParts.{NamesTextFault}
 use Rattle.bitcode_coder.specs.Spelling.{Spells, SpellsColumn, natural, truth, number_of_residue}
 use Rattle.bitcode_coder.proofs.CoderLemmas.{number_is, some_width}
-use Rattle.bitcode_coder.proofs.LengthRefusalLemmas.{lengths_refused, length_reason}
+use Rattle.bitcode_coder.proofs.LengthRefusalLemmas.{lengths_refused}
 use Rattle.bitcode_numbers.specs.Widths.{IsWidth}
 use Rattle.bitcode_untyped.specs.View.{datum_of}
 use Rattle.bitcode_untyped.specs.declared.value.Value.{Value}
-use Rattle.bitcode_serde.specs.ReadColumns.{ReadsColumn, IsColumnRefusal, kind_of, kind_number}
+use Rattle.bitcode_serde.specs.ReadColumns.{ReadsColumn, IsColumnReason, IsColumnRefusal, kind_of, kind_number}
 use Rattle.bitcode_serde.specs.declared.column.ColumnKind.{ColumnKind}
 use Rattle.bitcode_serde.specs.declared.column.ColumnKind.TheVariants as kind
+use Rattle.bitcode_serde.proofs.ReasonLemmas.{bools_reason, ints_reason, lengths_reason, texts_reason}
 
 -- ---- taken
 
@@ -55,28 +58,29 @@ lengths_column_read count old ns new r =
 
 -- ---- refused
 
-refused_by : (kind : Kind) (shape : Shape) (reason : Reason) (count : ℕ) (input : List ℕ) → IsReadingRefusal shape reason count input
+refused_by : (kind : Kind) (shape : Shape) (reason : Reason) (count : ℕ) (input : List ℕ) → IsColumnReason reason → IsReadingRefusal shape reason count input
     → ((piece : List ℕ) (ds : List Datum) → SpellsColumn kind piece ds → Spells shape piece ds) → IsColumnRefusal kind reason count input
-refused_by kind shape reason count input h spells =
-    (h.0, λ other ds rest r. h.1 other ds rest (record { size = r.size; piece = r.piece; whole = r.whole; spelled = spells r.piece ds r.spelled }))
+refused_by kind shape reason count input known h spells =
+    (known, λ other ds rest r. h.1 other ds rest (record { size = r.size; piece = r.piece; whole = r.whole; spelled = spells r.piece ds r.spelled }))
 
 truth_below : (b : Bool) → IsNaturalBelow 2 (truth b)
 truth_below true = record { value = 1; is = refl; below = lit< tt }
 truth_below false = record { value = 0; is = refl; below = lit< tt }
 
-pub bools_column_refused : (reason : Reason) (count : ℕ) (input : List ℕ) → IsReadingRefusal bool_shape reason count input
+pub bools_column_refused : (reason : Reason) (count : ℕ) (input : List ℕ) → NamesBoolsFault reason count input → IsReadingRefusal bool_shape reason count input
     → IsColumnRefusal bools reason count input
-bools_column_refused reason count input h =
-    refused_by bools bool_shape reason count input h (λ piece ds s. record {
+bools_column_refused reason count input named h =
+    refused_by bools bool_shape reason count input (bools_reason reason count input named) h (λ piece ds s. record {
       of_shape = subst (All (IsNaturalBelow 2)) (sym s.are) (All-map (IsNaturalBelow 2) truth s.entries (λ k d g. truth_below _));
       counts = tt;
       columns = s;
     })
 
 pub ints_column_refused : (width : ℕ) (signed : Bool) → IsWidth width → (reason : Reason) (count : ℕ) (input : List ℕ)
-    → IsReadingRefusal (int_shape width signed) reason count input → IsColumnRefusal (ints width signed) reason count input
-ints_column_refused width signed known reason count input h =
-    refused_by (ints width signed) (int_shape width signed) reason count input h (λ piece ds s. record {
+    → NamesIntsFault width reason count input → IsReadingRefusal (int_shape width signed) reason count input
+    → IsColumnRefusal (ints width signed) reason count input
+ints_column_refused width signed known reason count input named h =
+    refused_by (ints width signed) (int_shape width signed) reason count input (ints_reason width reason count input named) h (λ piece ds s. record {
       of_shape = subst (All (IsNumberOf width signed any_number)) (sym s.are)
           (All-map (IsNumberOf width signed any_number) (number_of_residue width signed) s.entries
           (λ k d g. number_is width signed any_number _ (some_width width known) (s.spelled.in_width k d g) tt));
@@ -84,10 +88,10 @@ ints_column_refused width signed known reason count input h =
       columns = s;
     })
 
-pub texts_column_refused : (reason : Reason) (count : ℕ) (input : List ℕ) → IsReadingRefusal (text_shape None) reason count input
-    → IsColumnRefusal (texts None) reason count input
-texts_column_refused reason count input h =
-    refused_by (texts None) (text_shape None) reason count input h (λ piece ds s. record {
+pub texts_column_refused : (reason : Reason) (count : ℕ) (input : List ℕ) → NamesTextFault reason count input
+    → IsReadingRefusal (text_shape None) reason count input → IsColumnRefusal (texts None) reason count input
+texts_column_refused reason count input named h =
+    refused_by (texts None) (text_shape None) reason count input (texts_reason reason count input named) h (λ piece ds s. record {
       of_shape = subst (All (IsTextOf None)) (sym s.are)
           (All-map (IsTextOf None) text s.entries (λ k d g. record { bytes = _; is = refl; utf8 = s.spelled.utf8 k d g; within = tt }));
       counts = tt;
@@ -97,7 +101,7 @@ texts_column_refused reason count input h =
 pub lengths_column_refused : (reason : Reason) (count : ℕ) (input : List ℕ) → NamesLengthFault reason count input
     → IsColumnRefusal (lengths None) reason count input
 lengths_column_refused reason count input h = (
-  length_reason reason count input h,
+  lengths_reason reason count input h,
   λ other ds rest r. lengths_refused None reason count input h other r.spelled.entries rest (record {
     size = sym (length-map r.spelled.entries natural) ∙ (sym (ap length r.spelled.are) ∙ r.size);
     piece = r.piece;
@@ -130,14 +134,14 @@ kept_128 z h = search rules
 -- ---- kinds by their numbers
 
 -- the kind of a number
-abbrev pub numbered : ℕ → Kind
+abbrev pub numbered : ℕ → ColumnKind
 numbered n =
-    if n == 0 then bools else if n == 1 then lengths None else if n == 2 then texts None else if n == 12 then ints 1 false
-    else if n == 13 then ints 1 true else if n == 14 then ints 2 false else if n == 15 then ints 2 true else if n == 18 then ints 4 false
-    else if n == 19 then ints 4 true else if n == 26 then ints 8 false else if n == 27 then ints 8 true else if n == 42 then ints 16 false
-    else ints 16 true
+    if n == 0 then kind.Bools else if n == 1 then kind.Lengths else if n == 2 then kind.Texts else if n == 12 then kind.Bytes
+    else if n == 13 then kind.I8 else if n == 14 then kind.U16 else if n == 15 then kind.I16 else if n == 18 then kind.U32
+    else if n == 19 then kind.I32 else if n == 26 then kind.U64 else if n == 27 then kind.I64 else if n == 42 then kind.U128
+    else kind.I128
 
-numbered_kind : (k : ColumnKind) → numbered (kind_number (kind_of k)) ≡ kind_of k
+numbered_kind : (k : ColumnKind) → numbered (kind_number (kind_of k)) ≡ k
 numbered_kind kind.Bools = refl
 numbered_kind kind.Bytes = refl
 numbered_kind kind.U16 = refl
@@ -152,8 +156,8 @@ numbered_kind kind.I128 = refl
 numbered_kind kind.Lengths = refl
 numbered_kind kind.Texts = refl
 
-pub same_kind : (a b : ColumnKind) → kind_number (kind_of a) ≡ kind_number (kind_of b) → kind_of a ≡ kind_of b
-same_kind a b e = sym (numbered_kind a) ∙ ap numbered e ∙ numbered_kind b
+pub same_in_code : (a b : ColumnKind) → kind_of a ≡ kind_of b → a ≡ b
+same_in_code a b e = sym (numbered_kind a) ∙ ap (λ k. numbered (kind_number k)) e ∙ numbered_kind b
 
 -- ---- what is read of a column are entries of its kind
 

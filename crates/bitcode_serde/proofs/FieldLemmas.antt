@@ -9,7 +9,8 @@ use Rattle.bitcode_untyped.specs.View.{trees_of}
 use Rattle.bitcode_untyped.specs.Walk.{field, Place, field_place}
 use Rattle.bitcode_untyped.proofs.ReadLemmas.{FieldsSoFar, no_fields_yet, one_field_more, all_fields, fields_stuck_first, tuple_read, tuple_stuck}
 use Rattle.bitcode_untyped.specs.declared.shape.ShapeNode.{ShapeNode}
-use Rattle.bitcode_serde.specs.Reading.{IsPlace, Stands}
+use Rattle.bitcode_serde.specs.Reading.{Stands}
+use Rattle.bitcode_serde.specs.Places.{IsPlace}
 use Rattle.bitcode_serde.specs.ReadingValues.{Continues, GoesAlong, ReadsAt, IsRefusalAt, field_at}
 use Rattle.bitcode_serde.specs.declared.reader.Reader.{Reader}
 
@@ -60,7 +61,7 @@ module _ (f : ShapeNode → ShapeTree) where
     no_fields p at a st = (a, st, no_fields_yet (field_place trees p) trees a)
 
     module _ (mid below : Reader) (inside i : ℕ) (n : ShapeNode) (done : List Datum) (c : Continues old mid) (there : slice_get ns i ≡ Some n)
-        (found : (p : Place) → IsPlace mid.below.items place p → IsPlace below.below.items inside (field_at (length ns) p i))
+        (found : (p : Place) → IsPlace mid.places.below.items place p → IsPlace below.places.below.items inside (field_at (length ns) p i))
         (stands : (a : State) → Stands mid a → Stands below a) (so_far : FieldsAt i done mid) where
       pub one_more_field : (d : Datum) (new : Reader) → ReadsAt (f n) inside below d new → FieldsAt (i + 1) (done ++ d ∷ []) new
       one_more_field d new one p at a st =

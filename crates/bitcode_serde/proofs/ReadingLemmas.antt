@@ -9,7 +9,6 @@ use Rattle.bitcode_input.specs.declared.error.Reason.{Reason}
 use Rattle.bitcode_input.specs.declared.error.Reason.TheVariants.{OutOfMemory}
 use Rattle.bitcode_shapes.specs.Datum.{Datum}
 use Rattle.bitcode_coder.specs.Columns.{Kind, IsEntryOf}
-use Rattle.bitcode_coder.specs.Coding.{IsReadingReason}
 use Rattle.bitcode_coder.specs.Spelling.{SpellsColumn}
 use Rattle.bitcode_untyped.specs.Machine.{Opened, State, start, whole, next, is_open, entries_of, TakesNext}
 use Rattle.bitcode_untyped.specs.PlacedColumns.{PlacedColumn, same_place}
@@ -17,24 +16,12 @@ use Rattle.bitcode_untyped.specs.Population.{population}
 use Rattle.bitcode_untyped.specs.Walk.{Place, Use, use_at}
 use Rattle.bitcode_untyped.proofs.PlaceLemmas.{same_place-refl, same_place-false}
 use Rattle.bitcode_untyped.proofs.SoundLemmas.{grounded_append, population_append, takes_whole}
-use Rattle.bitcode_serde.specs.ReadColumns.{kind_of_column, left, Tallies, ReadsColumn, IsColumnRefusal}
-use Rattle.bitcode_serde.specs.Reading.{places_from, places, place_at, counts, step_of, AreApart, AreSized, Backs, Back, Hosts, HostAll, Stands, IsReady, Prepares, NothingAt, Leads, LeadsTelling}
-use Rattle.bitcode_serde.specs.declared.reader.Below.{Below}
+use Rattle.bitcode_serde.specs.ReadColumns.{kind_of_column, left, Tallies, ReadsColumn, IsColumnReason, IsColumnRefusal}
+use Rattle.bitcode_serde.specs.Reading.{counts, AreSized, Backs, Back, Hosts, HostAll, Stands, IsReady, Prepares, NothingAt, Leads, LeadsTelling}
+use Rattle.bitcode_serde.specs.Places.{places, place_at, AreApart}
 use Rattle.bitcode_serde.specs.declared.reader.OpenColumn.{OpenColumn}
 use Rattle.bitcode_serde.specs.declared.reader.Reader.{Reader}
-
--- ---- places
-
-pub places_from-length : (ps : List Place) (bs : List Below) → length (places_from ps bs) ≡ length ps + length bs
-places_from-length ps [] = omega arith
-places_from-length ps (b ∷ bs) =
-    let x : List Place = (step_of b.step ∷ place_at ps b.above) ∷ [] in
-    let h = places_from-length (ps ++ x) bs in
-    let l : length (ps ++ x) ≡ length ps + 1 = length-append ps x in
-    omega (arith, h, l)
-
-pub inside_places : (bs : List Below) (n : ℕ) → n ≤ length bs → n < length (places bs)
-inside_places bs n h = let e = places_from-length ([] ∷ []) bs in omega arith
+use Rattle.bitcode_serde.proofs.PlaceLemmas.{inside_places}
 
 -- ---- the first column of a place
 
@@ -223,11 +210,11 @@ host_all_more ws vs ps ns h i inside =
     let k = h i inside in (grounded_append ws vs (place_at ps i) k.0, population_append ws vs (place_at ps i) k.0 ∙ k.1)
 
 pub stands_opened : (old new : Reader) (a : State) (n : ℕ) (kind : Kind) (entries : List Datum) (rest : List ℕ) (c : OpenColumn) → Stands old a
-    → n < length (places old.below.items) → new.below ≡ old.below → new.columns.items ≡ old.columns.items ++ c ∷ [] → new.input.now ≡ rest
+    → n < length (places old.places.below.items) → new.places.below ≡ old.places.below → new.counts ≡ old.counts → new.columns.items ≡ old.columns.items ++ c ∷ [] → new.input.now ≡ rest
     → c.place ≡ n → kind_of_column c.column ≡ kind → c.left ≡ length entries → left c.column ≡ entries → Tallies c.column entries → All (IsEntryOf kind) entries
-    → Stands new (with_column a (untouched (place_at (places old.below.items) n) kind entries) rest)
-stands_opened old new a n kind entries rest c s inside below columns input at same size all tallies are =
-    let ps = places old.below.items in
+    → Stands new (with_column a (untouched (place_at (places old.places.below.items) n) kind entries) rest)
+stands_opened old new a n kind entries rest c s inside below counted columns input at same size all tallies are =
+    let ps = places old.places.below.items in
     let o = untouched (place_at ps n) kind entries in
     let b : Backs ps c o = record {
       inside = subst (λ i. i < length ps) (sym at) inside;
@@ -242,43 +229,43 @@ stands_opened old new a n kind entries rest c s inside below columns input at sa
     record {
       backs = subst (λ z. Back (places z.items) new.columns.items (a.opened ++ o ∷ [])) (sym below)
           (subst (λ cs. Back ps cs (a.opened ++ o ∷ [])) (sym columns) (back_last ps old.columns.items a.opened c o s.backs b));
-      hosts = subst (λ z. HostAll (map whole (a.opened ++ o ∷ [])) (places z.items) (counts z.items)) (sym below)
-          (subst (λ ws. HostAll ws ps (counts old.below.items)) (sym whole_is) (host_all_more (map whole a.opened) (whole o ∷ []) ps (counts old.below.items) s.hosts));
-      apart = subst (λ z. AreApart (places z.items)) (sym below) s.apart;
+      hosts = subst (λ z. HostAll (map whole (a.opened ++ o ∷ [])) (places z.items) (counts new)) (sym below)
+          (subst (λ z. HostAll (map whole (a.opened ++ o ∷ [])) ps (1 ∷ z.items)) (sym counted)
+          (subst (λ ws. HostAll ws ps (counts old)) (sym whole_is) (host_all_more (map whole a.opened) (whole o ∷ []) ps (counts old) s.hosts)));
       input = sym input;
     }
 
 -- ---- what a reader tells of a place whose column is not open
 
-module _ (r : Reader) (n : ℕ) (within : n ≤ length r.below.items) (away : All (λ c. c.place ≢ n) r.columns.items) (count : ℕ)
-    (counted : count ≡ get_or (counts r.below.items) n 0) where
-  not_open : (a : State) → Stands r a → is_open (map whole a.opened) (place_at (places r.below.items) n) ≡ false
-  not_open a s = closed (places r.below.items) s.apart n (inside_places r.below.items n within) r.columns.items a.opened s.backs away
+module _ (r : Reader) (n : ℕ) (within : n ≤ length r.places.below.items) (away : All (λ c. c.place ≢ n) r.columns.items) (count : ℕ)
+    (counted : count ≡ get_or (counts r) n 0) where
+  not_open : (a : State) → Stands r a → is_open (map whole a.opened) (place_at (places r.places.below.items) n) ≡ false
+  not_open a s = closed (places r.places.below.items) r.places.apart n (inside_places r.places.below.items n within) r.columns.items a.opened s.backs away
 
-  hosted : (a : State) → Stands r a → Hosts (map whole a.opened) (place_at (places r.below.items) n) count
-  hosted a s = let h = s.hosts n (inside_places r.below.items n within) in (h.0, h.1 ∙ sym counted)
+  hosted : (a : State) → Stands r a → Hosts (map whole a.opened) (place_at (places r.places.below.items) n) count
+  hosted a s = let h = s.hosts n (inside_places r.places.below.items n within) in (h.0, h.1 ∙ sym counted)
 
   pub nothing_here : (kind : Kind) → ((d : Datum) (more : List Datum) (rest : List ℕ) → ReadsColumn kind count r.input.now (d ∷ more) rest → ⊥)
-      → (a : State) → Stands r a → NothingAt a (place_at (places r.below.items) n) kind
+      → (a : State) → Stands r a → NothingAt a (place_at (places r.places.below.items) n) kind
   nothing_here kind none a s =
-      nothing_to_open a (place_at (places r.below.items) n) kind count (not_open a s) (hosted a s)
+      nothing_to_open a (place_at (places r.places.below.items) n) kind count (not_open a s) (hosted a s)
       (λ d more rest read. none d more rest (subst (λ bytes. ReadsColumn kind count bytes (d ∷ more) rest) s.input read))
 
   pub refused_here : (kind : Kind) (reason : Reason) → IsColumnRefusal kind reason count r.input.now
-      → IsReadingReason reason × (reason ≢ OutOfMemory → (a : State) → Stands r a → NothingAt a (place_at (places r.below.items) n) kind)
+      → IsColumnReason reason × (reason ≢ OutOfMemory → (a : State) → Stands r a → NothingAt a (place_at (places r.places.below.items) n) kind)
   refused_here kind reason h = (h.0, λ other. nothing_here kind (λ d more rest. h.1 other (d ∷ more) rest))
 
-  pub none_here : (kind : Kind) → count ≡ 0 → (a : State) → Stands r a → NothingAt a (place_at (places r.below.items) n) kind
+  pub none_here : (kind : Kind) → count ≡ 0 → (a : State) → Stands r a → NothingAt a (place_at (places r.places.below.items) n) kind
   none_here kind zero_is = nothing_here kind (λ d more rest read. let e : suc (length more) ≡ count = read.size in omega (arith, e, zero_is))
 
   pub prepared_here : (new : Reader) (kind : Kind) (entries : List Datum) (c : OpenColumn) → ReadsColumn kind count r.input.now entries new.input.now
-      → new.below ≡ r.below → new.columns.items ≡ r.columns.items ++ c ∷ [] → c.place ≡ n → kind_of_column c.column ≡ kind → c.left ≡ count
+      → new.places.below ≡ r.places.below → new.counts ≡ r.counts → new.columns.items ≡ r.columns.items ++ c ∷ [] → c.place ≡ n → kind_of_column c.column ≡ kind → c.left ≡ count
       → left c.column ≡ entries → Tallies c.column entries → All (IsEntryOf kind) entries
-      → (a : State) → Stands r a → (m : State) × Stands new m × Prepares a (place_at (places r.below.items) n) kind m
-  prepared_here new kind entries c read below columns at same size all tallies are a s = (
-    with_column a (untouched (place_at (places r.below.items) n) kind entries) new.input.now,
-    stands_opened r new a n kind entries new.input.now c s (inside_places r.below.items n within) below columns refl at same (size ∙ sym read.size) all tallies are,
-    prepared a (place_at (places r.below.items) n) kind count entries new.input.now (not_open a s) (hosted a s)
+      → (a : State) → Stands r a → (m : State) × Stands new m × Prepares a (place_at (places r.places.below.items) n) kind m
+  prepared_here new kind entries c read below counts_same columns at same size all tallies are a s = (
+    with_column a (untouched (place_at (places r.places.below.items) n) kind entries) new.input.now,
+    stands_opened r new a n kind entries new.input.now c s (inside_places r.places.below.items n within) below counts_same columns refl at same (size ∙ sym read.size) all tallies are,
+    prepared a (place_at (places r.places.below.items) n) kind count entries new.input.now (not_open a s) (hosted a s)
         (subst (λ bytes. ReadsColumn kind count bytes entries new.input.now) (sym s.input) read),
   )
 
@@ -291,12 +278,12 @@ ready_pushed cs all n i kind c away e l here same some =
 
 -- ---- what a reader tells of a place whose column is open
 
-pub stuck_here : (r : Reader) (n i : ℕ) (kind : Kind) (c : OpenColumn) → n ≤ length r.below.items → IsFirstAt r.columns.items n i → c ≡ get_or r.columns.items i c
-    → (kind_of_column c.column ≢ kind) ⊎ (c.left ≡ 0) → (a : State) → Stands r a → NothingAt a (place_at (places r.below.items) n) kind
+pub stuck_here : (r : Reader) (n i : ℕ) (kind : Kind) (c : OpenColumn) → n ≤ length r.places.below.items → IsFirstAt r.columns.items n i → c ≡ get_or r.columns.items i c
+    → (kind_of_column c.column ≢ kind) ⊎ (c.left ≡ 0) → (a : State) → Stands r a → NothingAt a (place_at (places r.places.below.items) n) kind
 stuck_here r n i kind c within first is why a s d b (inl t) =
-    stuck_next (places r.below.items) s.apart n (inside_places r.below.items n within) r.columns.items a.opened i kind c s.backs first is why d b.opened t.0
+    stuck_next (places r.places.below.items) r.places.apart n (inside_places r.places.below.items n within) r.columns.items a.opened i kind c s.backs first is why d b.opened t.0
 stuck_here r n i kind c within first is why a s d b (inr t) =
-    let h : true ≡ false = sym (open_at (places r.below.items) s.apart n (inside_places r.below.items n within) r.columns.items a.opened i s.backs first) ∙ t.0 in cc
+    let h : true ≡ false = sym (open_at (places r.places.below.items) r.places.apart n (inside_places r.places.below.items n within) r.columns.items a.opened i s.backs first) ∙ t.0 in cc
 
 pub same_prepared : (r : Reader) (p : Place) (kind : Kind) (a : State) → Stands r a → (m : State) × Stands r m × Prepares a p kind m
 same_prepared r p kind a s = (a, s, λ d b t same. inl (t, same))
@@ -307,43 +294,42 @@ first_ready (x ∷ cs) n zero kind ready = ready.0
 first_ready (x ∷ cs) n (suc i) kind ready = (ready.0, first_ready cs n i kind ready.1)
 
 -- the entry that was taken leads the reader on, and the column tells what was counted
-pub led_telling : (old ready new : Reader) (n i : ℕ) (kind : Kind) (c after : OpenColumn) (d : Datum) → n ≤ length old.below.items → ready.below ≡ old.below
-    → new.below ≡ old.below → new.input.now ≡ ready.input.now → new.columns.items ≡ set ready.columns.items i after → IsReady ready.columns.items n kind i
+pub led_telling : (old ready new : Reader) (n i : ℕ) (kind : Kind) (c after : OpenColumn) (d : Datum) → n ≤ length old.places.below.items → ready.places.below ≡ old.places.below
+    → new.places.below ≡ old.places.below → new.counts ≡ ready.counts → new.input.now ≡ ready.input.now → new.columns.items ≡ set ready.columns.items i after → IsReady ready.columns.items n kind i
     → c ≡ get_or ready.columns.items i c → TakesEntry c d after
-    → ((a : State) → Stands old a → (m : State) × Stands ready m × Prepares a (place_at (places old.below.items) n) kind m)
-    → LeadsTelling old (place_at (places old.below.items) n) kind d new (Tallies c.column)
-led_telling old ready new n i kind c after d within below_ready below input columns is_ready is t prepares a s =
+    → ((a : State) → Stands old a → (m : State) × Stands ready m × Prepares a (place_at (places old.places.below.items) n) kind m)
+    → LeadsTelling old (place_at (places old.places.below.items) n) kind d new (Tallies c.column)
+led_telling old ready new n i kind c after d within below_ready below counted input columns is_ready is t prepares a s =
     let m = prepares a s in
-    let ps = places old.below.items in
-    let ready_places : places ready.below.items ≡ ps = ap (λ z. places z.items) below_ready in
+    let ps = places old.places.below.items in
+    let ready_places : places ready.places.below.items ≡ ps = ap (λ z. places z.items) below_ready in
     let backs = subst (λ qs. Back qs ready.columns.items m.0.opened) ready_places m.1.backs in
-    let hosts = subst (λ z. HostAll (map whole m.0.opened) (places z.items) (counts z.items)) below_ready m.1.hosts in
-    let r = take_at ps s.apart n (inside_places old.below.items n within) ready.columns.items m.0.opened i kind c after d backs is_ready is t in
+    let hosts = subst (λ z. HostAll (map whole m.0.opened) (places z.items) (counts ready)) below_ready m.1.hosts in
+    let r = take_at ps old.places.apart n (inside_places old.places.below.items n within) ready.columns.items m.0.opened i kind c after d backs is_ready is t in
     let b : State = record { opened = r.0; rest = m.0.rest } in
     let same : map whole r.0 ≡ map whole m.0.opened = takes_whole m.0.opened (use_at (place_at ps n) kind d) r.0 r.1 in (
       b,
       m.2 d b r.1 refl,
       record {
         backs = subst (λ z. Back (places z.items) new.columns.items r.0) (sym below) (subst (λ cs. Back ps cs r.0) (sym columns) r.2);
-        hosts = subst (λ z. HostAll (map whole r.0) (places z.items) (counts z.items)) (sym below)
-            (subst (λ ws. HostAll ws ps (counts old.below.items)) (sym same) hosts);
-        apart = subst (λ z. AreApart (places z.items)) (sym below) s.apart;
+        hosts = subst (λ z. HostAll (map whole r.0) (places z.items) (counts new)) (sym below)
+            (subst (λ z. HostAll (map whole r.0) ps (1 ∷ z.items)) (sym counted) (subst (λ ws. HostAll ws ps (counts ready)) (sym same) hosts));
         input = m.1.input ∙ sym input;
       },
       subst (λ ws. is_open ws (place_at ps n) ≡ true) (sym same)
-          (open_at ps s.apart n (inside_places old.below.items n within) ready.columns.items m.0.opened i backs (first_ready ready.columns.items n i kind is_ready)),
+          (open_at ps old.places.apart n (inside_places old.places.below.items n within) ready.columns.items m.0.opened i backs (first_ready ready.columns.items n i kind is_ready)),
       subst (λ ws. Tallies c.column (entries_of ws (place_at ps n))) (sym same)
-          (tallied_at ps s.apart n (inside_places old.below.items n within) ready.columns.items m.0.opened i kind c backs is_ready is),
+          (tallied_at ps old.places.apart n (inside_places old.places.below.items n within) ready.columns.items m.0.opened i kind c backs is_ready is),
       r.3,
     )
 
-pub led : (old ready new : Reader) (n i : ℕ) (kind : Kind) (c after : OpenColumn) (d : Datum) → n ≤ length old.below.items → ready.below ≡ old.below
-    → new.below ≡ old.below → new.input.now ≡ ready.input.now → new.columns.items ≡ set ready.columns.items i after → IsReady ready.columns.items n kind i
+pub led : (old ready new : Reader) (n i : ℕ) (kind : Kind) (c after : OpenColumn) (d : Datum) → n ≤ length old.places.below.items → ready.places.below ≡ old.places.below
+    → new.places.below ≡ old.places.below → new.counts ≡ ready.counts → new.input.now ≡ ready.input.now → new.columns.items ≡ set ready.columns.items i after → IsReady ready.columns.items n kind i
     → c ≡ get_or ready.columns.items i c → TakesEntry c d after
-    → ((a : State) → Stands old a → (m : State) × Stands ready m × Prepares a (place_at (places old.below.items) n) kind m)
-    → Leads old (place_at (places old.below.items) n) kind d new
-led old ready new n i kind c after d within below_ready below input columns is_ready is t prepares a s =
-    let h = led_telling old ready new n i kind c after d within below_ready below input columns is_ready is t prepares a s in
+    → ((a : State) → Stands old a → (m : State) × Stands ready m × Prepares a (place_at (places old.places.below.items) n) kind m)
+    → Leads old (place_at (places old.places.below.items) n) kind d new
+led old ready new n i kind c after d within below_ready below counted input columns is_ready is t prepares a s =
+    let h = led_telling old ready new n i kind c after d within below_ready below counted input columns is_ready is t prepares a s in
     (h.0, h.1, h.2, h.5)
 
 -- the column that is ready at the index
@@ -383,10 +369,9 @@ host_root : HostAll [] ([] ∷ []) (1 ∷ [])
 host_root zero inside = (tt, refl)
 host_root (suc i) inside = absurd (omega (arith, inside))
 
-pub stands_first : (r : Reader) (bytes : List ℕ) → r.below.items ≡ [] → r.columns.items ≡ [] → r.input.now ≡ bytes → Stands r (start bytes)
-stands_first r bytes below columns input = record {
-  backs = subst (λ cs. Back (places r.below.items) cs []) (sym columns) tt;
-  hosts = subst (λ bs. HostAll [] (places bs) (counts bs)) (sym below) host_root;
-  apart = subst (λ bs. AreApart (places bs)) (sym below) (λ i j inside_i inside_j e. omega (arith, inside_i, inside_j));
+pub stands_first : (r : Reader) (bytes : List ℕ) → r.places.below.items ≡ [] → r.counts.items ≡ [] → r.columns.items ≡ [] → r.input.now ≡ bytes → Stands r (start bytes)
+stands_first r bytes below counted columns input = record {
+  backs = subst (λ cs. Back (places r.places.below.items) cs []) (sym columns) tt;
+  hosts = subst (λ bs. HostAll [] (places bs) (counts r)) (sym below) (subst (λ ns. HostAll [] ([] ∷ []) (1 ∷ ns)) (sym counted) host_root);
   input = sym input;
 }

@@ -22,33 +22,32 @@ use Rattle.std.proofs.lemmas.List.Folds.{flat_map-map}
 use Rattle.bitcode_coder.specs.Spelling.{natural}
 use Rattle.bitcode_untyped.proofs.GrowingLemmas.{put_all-append}
 use Rattle.bitcode_untyped.proofs.EachLemmas.{each_if, each_flat}
-use Rattle.bitcode_serde.specs.Reading.{place_at}
-use Rattle.bitcode_serde.specs.WrittenPlaces.{met}
+use Rattle.bitcode_serde.specs.Places.{place_at, places}
 use Rattle.bitcode_serde.specs.Serializing.{Outcome}
 use Rattle.bitcode_serde.specs.Writing.{written, place_in, Grows, Writes, AreOfShape, IsAmong, RefusesAt}
 use Rattle.bitcode_serde.specs.declared.writer.state.Writer.{Writer}
-use Rattle.bitcode_serde.proofs.WritingLemmas.{at_front, met_inside}
+use Rattle.bitcode_serde.proofs.PlaceLemmas.{at_front, inside_places}
 
 -- ---- writers that grow
 
-pub grows_same : (a b : Writer) → b.below ≡ a.below → Grows a b
+pub grows_same : (a b : Writer) → b.places.below ≡ a.places.below → Grows a b
 grows_same a b e = record {
   more = [];
-  places = ap (λ z. met z.items) e ∙ sym (append-nil (met a.below.items));
-  size = let h : length b.below.items ≡ length a.below.items = ap (λ z. length z.items) e in omega (arith, h);
+  places = ap (λ z. places z.items) e ∙ sym (append-nil (places a.places.below.items));
+  size = let h : length b.places.below.items ≡ length a.places.below.items = ap (λ z. length z.items) e in omega (arith, h);
 }
 
 pub grows_then : (a b c : Writer) → Grows a b → Grows b c → Grows a c
 grows_then a b c g h = record {
   more = g.more ++ h.more;
-  places = h.places ∙ ap (λ (ps : List Place). ps ++ h.more) g.places ∙ append_assoc (met a.below.items) g.more h.more;
+  places = h.places ∙ ap (λ (ps : List Place). ps ++ h.more) g.places ∙ append_assoc (places a.places.below.items) g.more h.more;
   size = let x = g.size in let y = h.size in omega (arith, x, y);
 }
 
-pub kept : (a b : Writer) (n : ℕ) → Grows a b → n ≤ length a.below.items → place_in b n ≡ place_in a n
-kept a b n g h = ap (λ (ps : List Place). place_at ps n) g.places ∙ at_front (met a.below.items) g.more n (met_inside a.below.items n h)
+pub kept : (a b : Writer) (n : ℕ) → Grows a b → n ≤ length a.places.below.items → place_in b n ≡ place_in a n
+kept a b n g h = ap (λ (ps : List Place). place_at ps n) g.places ∙ at_front (places a.places.below.items) g.more n (inside_places a.places.below.items n h)
 
-pub writes_put : (a b : Writer) (u : Use) → b.below ≡ a.below → written b ≡ put u (written a) → Writes a (u ∷ []) b
+pub writes_put : (a b : Writer) (u : Use) → b.places.below ≡ a.places.below → written b ≡ put u (written a) → Writes a (u ∷ []) b
 writes_put a b u e h = record { grows = grows_same a b e; columns = h }
 
 pub writes_none : (a b : Writer) → Grows a b → written b ≡ written a → Writes a [] b
@@ -136,16 +135,16 @@ one_more f xs i x default h e =
 -- ---- a list at its place
 
 -- the number of elements was written, and the place of the elements is known
-pub begun : (old first now : Writer) (n m : ℕ) (u : Use) (s : Step) → first.below ≡ old.below → written first ≡ put u (written old)
+pub begun : (old first now : Writer) (n m : ℕ) (u : Use) (s : Step) → first.places.below ≡ old.places.below → written first ≡ put u (written old)
     → place_in now m ≡ s ∷ place_in first n → Grows first now → written now ≡ written first
     → Writes old (u ∷ []) now × (place_in now m ≡ s ∷ place_in old n)
 begun old first now n m u s same put_there at grows rest = (
   writes_then old first now (u ∷ []) [] (writes_put old first u same put_there) (writes_none first now grows rest),
-  at ∙ ap (λ z. s ∷ place_at (met z.items) n) same,
+  at ∙ ap (λ z. s ∷ place_at (places z.items) n) same,
 )
 
 module _ {A : Type 0} (uses_of : Place → A → List Use) (xs : List A) where
-  pub grown : (start now new : Writer) (m i : ℕ) (x default : A) → m ≤ length start.below.items
+  pub grown : (start now new : Writer) (m i : ℕ) (x default : A) → m ≤ length start.places.below.items
       → Writes start (flat_map (uses_of (place_in start m)) (take i xs)) now → Writes now (uses_of (place_in now m) x) new → i < length xs → x ≡ get_or xs i default
       → Writes start (flat_map (uses_of (place_in start m)) (take (i + 1) xs)) new
   grown start now new m i x default inside so_far step high is =
@@ -192,7 +191,7 @@ module _ {A : Type 0} (s : ShapeTree) (datum : A → Datum) (xs : List A) where
 
   -- an element was refused
   pub list_refused : (old start now : Writer) (n m k i : ℕ) (faults part_faults : List Reason) (reason : Reason)
-      → Writes old (use_at (place_in old n) length_kind (natural k) ∷ []) start → place_in start m ≡ element ∷ place_in old n → m ≤ length start.below.items
+      → Writes old (use_at (place_in old n) length_kind (natural k) ∷ []) start → place_in start m ≡ element ∷ place_in old n → m ≤ length start.places.below.items
       → Writes start (flat_map (λ x. walk s (place_in start m) (datum x)) (take i xs)) now
       → (IsAmong reason part_faults → IsAmong reason faults) → RefusesAt now s m part_faults reason → RefusesAt old (seq_tree s) n faults reason
   list_refused old start now n m k i faults part_faults reason first at inside so_far among refused =

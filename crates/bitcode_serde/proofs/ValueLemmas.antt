@@ -4,7 +4,6 @@ use Rattle.bitcode_input.specs.declared.error.Reason.{Reason}
 use Rattle.bitcode_input.specs.declared.error.Reason.TheVariants as reason
 use Rattle.bitcode_shapes.specs.Datum.{Datum, unit, list, choice, pair, data_of}
 use Rattle.bitcode_shapes.specs.Shape.{any_number, IsInWidth}
-use Rattle.bitcode_coder.specs.Coding.{IsReadingReason}
 use Rattle.bitcode_coder.specs.Columns.{Kind, IsEntryOf}
 use Rattle.bitcode_coder.specs.Spelling.{natural}
 use Rattle.bitcode_untyped.specs.Machine.{State, Takes, whole, is_open, entries_of}
@@ -15,25 +14,27 @@ use Rattle.bitcode_untyped.specs.ShapeTree.{ShapeTree, ShapeTrees, no_trees, tre
 use Rattle.bitcode_untyped.specs.PlacedColumns.{PlacedColumn}
 use Rattle.bitcode_untyped.specs.Walk.{Step, element, key, value, variant, Place, use_at, length_kind, index_kind, walk}
 use Rattle.bitcode_untyped.proofs.ReadLemmas.{many_none, many_push, many_stuck, one_datum_read, unit_read, never_read, leaf_read, seq_read, seq_stuck, choice_read, choice_stuck, one_pair_read, pair_read, pair_stuck_key, pair_stuck_value, map_read, map_stuck}
-use Rattle.bitcode_serde.specs.Reading.{step_of, IsPlace, IsRooted, places_from, places, place_at, Hosts, Stands, NothingAt, Leads, LeadsTelling, AreSized}
+use Rattle.bitcode_serde.specs.ReadColumns.{IsColumnReason}
+use Rattle.bitcode_serde.specs.Reading.{Hosts, Stands, NothingAt, Leads, LeadsTelling, AreSized}
+use Rattle.bitcode_serde.specs.Places.{step_of, IsPlace, places_from, places, place_at}
 use Rattle.bitcode_serde.specs.ReadingValues.{IsSteady, Continues, GoesAlong, HasNone, ReadsAt, ReadsListAt, IsValueReason, IsRefusalOf, IsRefusalAt, IsListRefusalAt}
 use Rattle.bitcode_serde.specs.declared.reader.Reader.{Reader}
-use Rattle.bitcode_serde.specs.declared.reader.Below.{Below}
-use Rattle.bitcode_serde.specs.declared.reader.Step.{Step as CodeStep}
-use Rattle.bitcode_serde.specs.declared.reader.Step.TheVariants as step
+use Rattle.bitcode_serde.specs.declared.places.Below.{Below}
+use Rattle.bitcode_serde.specs.declared.step.Step.{Step as CodeStep}
+use Rattle.bitcode_serde.specs.declared.step.Step.TheVariants as step
 
 -- ---- refusals
 
-pub value_reason : (r : Reason) → IsReadingReason r → IsValueReason r
+pub value_reason : (r : Reason) → IsColumnReason r → IsValueReason r
 value_reason reason.Eof h = tt
 value_reason reason.ExpectedEof h = tt
 value_reason reason.InvalidPacking h = tt
 value_reason reason.LengthOverflow h = tt
 value_reason reason.HugeLength h = tt
 value_reason reason.InvalidUtf8 h = tt
-value_reason reason.InvalidBitPattern h = tt
-value_reason reason.InvalidArrayVec h = tt
-value_reason reason.InvalidArrayString h = tt
+value_reason reason.InvalidBitPattern h = h
+value_reason reason.InvalidArrayVec h = h
+value_reason reason.InvalidArrayString h = h
 value_reason reason.InvalidEnumVariant h = tt
 value_reason reason.InvalidOption h = tt
 value_reason reason.InvalidChar h = tt
@@ -50,19 +51,19 @@ refused_memory r place N why e = (subst IsValueReason (sym e) tt, λ other. absu
 -- nothing is there where no entry is to be taken
 pub refused_entry : (r : Reader) (place : ℕ) (kind : Kind) (N : Place → State → Type 0) (why : Reason)
     → ((p : Place) (a : State) → NothingAt a p kind → N p a)
-    → IsReadingReason why × (why ≢ reason.OutOfMemory → (a : State) → Stands r a → NothingAt a (place_at (places r.below.items) place) kind)
+    → IsColumnReason why × (why ≢ reason.OutOfMemory → (a : State) → Stands r a → NothingAt a (place_at (places r.places.below.items) place) kind)
     → IsRefusalOf r place N why
 refused_entry r place kind N why none h =
     (value_reason why h.0, λ other p at a s. none p a (subst (λ q. NothingAt a q kind) at.1 (h.1 other a s)))
 
 -- ---- places
 
-pub same_places : (old new : Reader) (i : ℕ) (p : Place) → new.below ≡ old.below → IsPlace old.below.items i p → IsPlace new.below.items i p
+pub same_places : (old new : Reader) (i : ℕ) (p : Place) → new.places.below ≡ old.places.below → IsPlace old.places.below.items i p → IsPlace new.places.below.items i p
 same_places old new i p e at = subst (λ b. IsPlace b.items i p) (sym e) at
 
-pub continues_here : (old new : Reader) → IsSteady old → new.below ≡ old.below → AreSized new.columns.items → Continues old new
+pub continues_here : (old new : Reader) → IsSteady old → new.places.below ≡ old.places.below → AreSized new.columns.items → Continues old new
 continues_here old new steady e sized = record {
-  steady = record { sized = sized; rooted = subst (λ b. IsRooted 1 b.items) (sym e) steady.rooted };
+  steady = record { sized = sized };
   kept = λ i p at. same_places old new i p e at;
 }
 
@@ -78,7 +79,7 @@ root_place bs = (omega arith, root_from [] [] bs)
 
 -- ---- entries
 
-pub led_at : (old new : Reader) (place : ℕ) (kind : Kind) (d : Datum) → Leads old (place_at (places old.below.items) place) kind d new
+pub led_at : (old new : Reader) (place : ℕ) (kind : Kind) (d : Datum) → Leads old (place_at (places old.places.below.items) place) kind d new
     → GoesAlong old place new (λ p a b. Takes a (use_at p kind d) b × IsEntryOf kind d)
 led_at old new place kind d leads p at a s =
     let l = leads a s in (l.0, l.2, (subst (λ q. Takes a (use_at q kind d) l.0) at.1 l.1, l.3))
@@ -90,7 +91,7 @@ pub record TakesTelling (kind : Kind) (d : Datum) (Told : List Datum → Type 0)
   pub entry : IsEntryOf kind d
 
 pub told_at : (old new : Reader) (place : ℕ) (kind : Kind) (d : Datum) (Told : List Datum → Type 0)
-    → LeadsTelling old (place_at (places old.below.items) place) kind d new Told → GoesAlong old place new (TakesTelling kind d Told)
+    → LeadsTelling old (place_at (places old.places.below.items) place) kind d new Told → GoesAlong old place new (TakesTelling kind d Told)
 told_at old new place kind d Told leads p at a s =
     let l = leads a s in (
       l.0,
@@ -99,7 +100,7 @@ told_at old new place kind d Told leads p at a s =
     )
 
 pub leaf_told : (old new : Reader) (place : ℕ) (kind : Kind) (d : Datum) (Told : List Datum → Type 0)
-    → LeadsTelling old (place_at (places old.below.items) place) kind d new Told → ReadsAt (leaf_tree kind any_number) place old d new
+    → LeadsTelling old (place_at (places old.places.below.items) place) kind d new Told → ReadsAt (leaf_tree kind any_number) place old d new
 leaf_told old new place kind d Told leads p at a s =
     let l = told_at old new place kind d Told leads p at a s in
     (l.0, l.1, leaf_read kind any_number p a d l.0 (l.2.entry, tt) l.2.takes)
@@ -127,23 +128,23 @@ list_stuck s place old mid i n ds why c many lt h = (
 
 -- ---- steps
 
-pub stepped : (old new : Reader) (place : ℕ) (p : Place) (way : CodeStep) (count : ℕ) (b : State) → IsPlace old.below.items place p
-    → ((a : State) → Stands old a → Hosts (map whole a.opened) (step_of way ∷ place_at (places old.below.items) place) count → Stands new a)
+pub stepped : (old new : Reader) (place : ℕ) (p : Place) (way : CodeStep) (count : ℕ) (b : State) → IsPlace old.places.below.items place p
+    → ((a : State) → Stands old a → Hosts (map whole a.opened) (step_of way ∷ place_at (places old.places.below.items) place) count → Stands new a)
     → Stands old b → Hosts (map whole b.opened) (step_of way ∷ p) count → Stands new b
 stepped old new place p way count b at stands s h =
     stands b s (subst (λ q. Hosts (map whole b.opened) (step_of way ∷ q) count) (sym at.1) h)
 
-pub below_it : (old new : Reader) (place i : ℕ) (p : Place) (way : CodeStep) → IsPlace old.below.items place p
-    → IsPlace new.below.items i (step_of way ∷ place_at (places old.below.items) place) → IsPlace new.below.items i (step_of way ∷ p)
-below_it old new place i p way at there = subst (λ q. IsPlace new.below.items i (step_of way ∷ q)) at.1 there
+pub below_it : (old new : Reader) (place i : ℕ) (p : Place) (way : CodeStep) → IsPlace old.places.below.items place p
+    → IsPlace new.places.below.items i (step_of way ∷ place_at (places old.places.below.items) place) → IsPlace new.places.below.items i (step_of way ∷ p)
+below_it old new place i p way at there = subst (λ q. IsPlace new.places.below.items i (step_of way ∷ q)) at.1 there
 
-pub still_there : (old new : Reader) (place : ℕ) → Continues old new → place ≤ length old.below.items → place ≤ length new.below.items
-still_there old new place c h = (c.kept place (place_at (places old.below.items) place) (h, refl)).0
+pub still_there : (old new : Reader) (place : ℕ) → Continues old new → place ≤ length old.places.below.items → place ≤ length new.places.below.items
+still_there old new place c h = (c.kept place (place_at (places old.places.below.items) place) (h, refl)).0
 
-pub continues_stepped : (old mid new : Reader) → mid.below ≡ old.below → AreSized mid.columns.items → new.columns ≡ mid.columns → IsRooted 1 new.below.items
-    → ((i : ℕ) (p : Place) → IsPlace mid.below.items i p → IsPlace new.below.items i p) → Continues old new
-continues_stepped old mid new below sized columns rooted kept = record {
-  steady = record { sized = subst (λ cs. AreSized cs.items) (sym columns) sized; rooted = rooted };
+pub continues_stepped : (old mid new : Reader) → mid.places.below ≡ old.places.below → AreSized mid.columns.items → new.columns ≡ mid.columns
+    → ((i : ℕ) (p : Place) → IsPlace mid.places.below.items i p → IsPlace new.places.below.items i p) → Continues old new
+continues_stepped old mid new below sized columns kept = record {
+  steady = record { sized = subst (λ cs. AreSized cs.items) (sym columns) sized };
   kept = λ i p at. kept i p (same_places old mid i p below at);
 }
 
@@ -151,7 +152,7 @@ continues_stepped old mid new below sized columns rooted kept = record {
 
 -- An entry is taken, and what it counts stands at a place one step below.
 pub record Enters (way : Step) (kind : Kind) (d : Datum) (old new : Reader) (place inside : ℕ) : Type 0 where
-  pub at : (p : Place) → IsPlace old.below.items place p → IsPlace new.below.items inside (way ∷ p)
+  pub at : (p : Place) → IsPlace old.places.below.items place p → IsPlace new.places.below.items inside (way ∷ p)
   pub goes : GoesAlong old place new (λ p a b. Takes a (use_at p kind d) b × IsEntryOf kind d)
 
 abbrev pub EntersList : Reader → Reader → ℕ → ℕ → ℕ → Type 0
@@ -159,9 +160,9 @@ EntersList old new place inside n = Enters element length_kind (natural n) old n
 
 pub enters : (way : CodeStep) (kind : Kind) (d : Datum) (Told : List Datum → Type 0) (old mid new : Reader) (place inside count : ℕ)
     → ((ws : List PlacedColumn) (p : Place) → is_open ws p ≡ true → Told (entries_of ws p) → Hosts ws (step_of way ∷ p) count)
-    → LeadsTelling old (place_at (places old.below.items) place) kind d mid Told
-    → mid.below ≡ old.below → IsPlace new.below.items inside (step_of way ∷ place_at (places mid.below.items) place)
-    → ((a : State) → Stands mid a → Hosts (map whole a.opened) (step_of way ∷ place_at (places mid.below.items) place) count → Stands new a)
+    → LeadsTelling old (place_at (places old.places.below.items) place) kind d mid Told
+    → mid.places.below ≡ old.places.below → IsPlace new.places.below.items inside (step_of way ∷ place_at (places mid.places.below.items) place)
+    → ((a : State) → Stands mid a → Hosts (map whole a.opened) (step_of way ∷ place_at (places mid.places.below.items) place) count → Stands new a)
     → Enters (step_of way) kind d old new place inside
 enters way kind d Told old mid new place inside count hosts leads below there stands = record {
   at = λ p at. below_it mid new place inside p way (same_places old mid place p below at) there;
@@ -174,17 +175,17 @@ enters way kind d Told old mid new place inside count hosts leads below there st
 }
 
 pub enters_list : (old mid new : Reader) (place inside n count : ℕ)
-    → LeadsTelling old (place_at (places old.below.items) place) length_kind (natural n) mid (λ entries. count ≡ total entries)
-    → mid.below ≡ old.below → IsPlace new.below.items inside (element ∷ place_at (places mid.below.items) place)
-    → ((a : State) → Stands mid a → Hosts (map whole a.opened) (element ∷ place_at (places mid.below.items) place) count → Stands new a)
+    → LeadsTelling old (place_at (places old.places.below.items) place) length_kind (natural n) mid (λ entries. count ≡ total entries)
+    → mid.places.below ≡ old.places.below → IsPlace new.places.below.items inside (element ∷ place_at (places mid.places.below.items) place)
+    → ((a : State) → Stands mid a → Hosts (map whole a.opened) (element ∷ place_at (places mid.places.below.items) place) count → Stands new a)
     → EntersList old new place inside n
 enters_list old mid new place inside n count =
     enters step.Element length_kind (natural n) (λ entries. count ≡ total entries) old mid new place inside count (λ ws p is told. (is, sym told))
 
 pub enters_choice : (old mid new : Reader) (place inside i count : ℕ)
-    → LeadsTelling old (place_at (places old.below.items) place) index_kind (natural i) mid (λ entries. count ≡ count_of i entries)
-    → mid.below ≡ old.below → IsPlace new.below.items inside (variant i ∷ place_at (places mid.below.items) place)
-    → ((a : State) → Stands mid a → Hosts (map whole a.opened) (variant i ∷ place_at (places mid.below.items) place) count → Stands new a)
+    → LeadsTelling old (place_at (places old.places.below.items) place) index_kind (natural i) mid (λ entries. count ≡ count_of i entries)
+    → mid.places.below ≡ old.places.below → IsPlace new.places.below.items inside (variant i ∷ place_at (places mid.places.below.items) place)
+    → ((a : State) → Stands mid a → Hosts (map whole a.opened) (variant i ∷ place_at (places mid.places.below.items) place) count → Stands new a)
     → Enters (variant i) index_kind (natural i) old new place inside
 enters_choice old mid new place inside i count =
     enters (step.Variant i) index_kind (natural i) (λ entries. count ≡ count_of i entries) old mid new place inside count (λ ws p is told. (is, sym told))
@@ -234,7 +235,7 @@ choice_refused ss i old mid place inside why enters h = (
 
 -- the variant of an index is a unit
 pub choice_of_unit : (ss : ShapeTrees) (i : ℕ) (old new : Reader) (place : ℕ) (Told : List Datum → Type 0) → tree_at ss i ≡ unit_tree
-    → LeadsTelling old (place_at (places old.below.items) place) index_kind (natural i) new Told → ReadsAt (choice_tree ss) place old (choice i unit) new
+    → LeadsTelling old (place_at (places old.places.below.items) place) index_kind (natural i) new Told → ReadsAt (choice_tree ss) place old (choice i unit) new
 choice_of_unit ss i old new place Told is leads p at a st =
     let t = told_at old new place index_kind (natural i) Told leads p at a st in (
       t.0,
@@ -244,7 +245,7 @@ choice_of_unit ss i old new place Told is leads p at a st =
 
 -- there is no variant of an index
 pub no_choice : (ss : ShapeTrees) (i : ℕ) (old new : Reader) (place : ℕ) (Told : List Datum → Type 0) → tree_at ss i ≡ never_tree
-    → LeadsTelling old (place_at (places old.below.items) place) index_kind (natural i) new Told → HasNone old place (ReadsNoDatum (choice_tree ss))
+    → LeadsTelling old (place_at (places old.places.below.items) place) index_kind (natural i) new Told → HasNone old place (ReadsNoDatum (choice_tree ss))
 no_choice ss i old new place Told is leads p at a st =
     let t = told_at old new place index_kind (natural i) Told leads p at a st in
     choice_stuck ss p a i t.0 t.2.takes (subst (λ s. ReadsNoDatum s (variant i ∷ p) t.0) (sym is) (never_read (variant i ∷ p) t.0))
@@ -253,18 +254,18 @@ no_choice ss i old new place Told is leads p at a st =
 
 -- The length of a map is taken, and its keys and values stand at places one step below.
 pub record EntersMap (old new : Reader) (place keys values n : ℕ) : Type 0 where
-  pub keys_at : (p : Place) → IsPlace old.below.items place p → IsPlace new.below.items keys (key ∷ p)
-  pub values_at : (p : Place) → IsPlace old.below.items place p → IsPlace new.below.items values (value ∷ p)
+  pub keys_at : (p : Place) → IsPlace old.places.below.items place p → IsPlace new.places.below.items keys (key ∷ p)
+  pub values_at : (p : Place) → IsPlace old.places.below.items place p → IsPlace new.places.below.items values (value ∷ p)
   pub goes : GoesAlong old place new (λ p a b. Takes a (use_at p length_kind (natural n)) b)
 
 pub enters_map : (old mid between new : Reader) (place keys values n count : ℕ)
-    → LeadsTelling old (place_at (places old.below.items) place) length_kind (natural n) mid (λ entries. count ≡ total entries)
-    → mid.below ≡ old.below → IsPlace between.below.items keys (key ∷ place_at (places mid.below.items) place)
-    → ((i : ℕ) (p : Place) → IsPlace mid.below.items i p → IsPlace between.below.items i p)
-    → ((a : State) → Stands mid a → Hosts (map whole a.opened) (key ∷ place_at (places mid.below.items) place) count → Stands between a)
-    → IsPlace new.below.items values (value ∷ place_at (places between.below.items) place)
-    → ((i : ℕ) (p : Place) → IsPlace between.below.items i p → IsPlace new.below.items i p)
-    → ((a : State) → Stands between a → Hosts (map whole a.opened) (value ∷ place_at (places between.below.items) place) count → Stands new a)
+    → LeadsTelling old (place_at (places old.places.below.items) place) length_kind (natural n) mid (λ entries. count ≡ total entries)
+    → mid.places.below ≡ old.places.below → IsPlace between.places.below.items keys (key ∷ place_at (places mid.places.below.items) place)
+    → ((i : ℕ) (p : Place) → IsPlace mid.places.below.items i p → IsPlace between.places.below.items i p)
+    → ((a : State) → Stands mid a → Hosts (map whole a.opened) (key ∷ place_at (places mid.places.below.items) place) count → Stands between a)
+    → IsPlace new.places.below.items values (value ∷ place_at (places between.places.below.items) place)
+    → ((i : ℕ) (p : Place) → IsPlace between.places.below.items i p → IsPlace new.places.below.items i p)
+    → ((a : State) → Stands between a → Hosts (map whole a.opened) (value ∷ place_at (places between.places.below.items) place) count → Stands new a)
     → EntersMap old new place keys values n
 enters_map old mid between new place keys values n count leads below there_key kept_key stands_key there_value kept_value stands_value = record {
   keys_at = λ p at. kept_value keys (key ∷ p) (below_it mid between place keys p step.Key (same_places old mid place p below at) there_key);
@@ -279,7 +280,7 @@ enters_map old mid between new place keys values n count leads below there_key k
 -- so many pairs of a map at a place, one after another
 abbrev pub ReadsPairsAt : ShapeTree → ShapeTree → ℕ → ℕ → Reader → ℕ → List Datum → Reader → Type 0
 ReadsPairsAt k v keys values old count ds new =
-    (p : Place) → IsPlace old.below.items keys (key ∷ p) → IsPlace old.below.items values (value ∷ p) → (a : State) → Stands old a
+    (p : Place) → IsPlace old.places.below.items keys (key ∷ p) → IsPlace old.places.below.items values (value ∷ p) → (a : State) → Stands old a
     → (b : State) × Stands new b × ReadsPairs k v p a count ds b
 
 -- ---- pairs
@@ -299,7 +300,7 @@ module _ (k v : ShapeTree) (keys values : ℕ) (old mid : Reader) (i : ℕ) (ds 
 
   abbrev pub NoPairs : ℕ → Type 0
   NoPairs n =
-      (p : Place) → IsPlace old.below.items keys (key ∷ p) → IsPlace old.below.items values (value ∷ p) → (a : State) → Stands old a
+      (p : Place) → IsPlace old.places.below.items keys (key ∷ p) → IsPlace old.places.below.items values (value ∷ p) → (a : State) → Stands old a
       → (es : List Datum) (b : State) → ReadsPairs k v p a n es b → ⊥
 
   pub key_stuck : (n : ℕ) → i < n → HasNone mid keys (ReadsNoDatum k) → NoPairs n
@@ -324,7 +325,7 @@ map_read_at k v old mid new place keys values n ds enters few each p at a st =
     (r.0, r.1, map_read k v p a n g.0 g.2 ds r.0 few r.2)
 
 pub map_stuck_at : (k v : ShapeTree) (old mid : Reader) (place keys values n : ℕ) → EntersMap old mid place keys values n
-    → ((p : Place) → IsPlace mid.below.items keys (key ∷ p) → IsPlace mid.below.items values (value ∷ p) → (a : State) → Stands mid a
+    → ((p : Place) → IsPlace mid.places.below.items keys (key ∷ p) → IsPlace mid.places.below.items values (value ∷ p) → (a : State) → Stands mid a
     → (es : List Datum) (b : State) → ReadsPairs k v p a n es b → ⊥)
     → HasNone old place (ReadsNoDatum (map_tree k v))
 map_stuck_at k v old mid place keys values n enters none p at a st =

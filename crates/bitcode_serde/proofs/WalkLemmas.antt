@@ -94,7 +94,7 @@ module _ {A : Type 0} (uses : A → List Use) (Is : A → Type 0) (faults : A �
       )
 
 -- what was written at a place that was known before
-pub written_there : (start now new : Writer) (s : ShapeTree) (m : ℕ) (d : Datum) → Grows start now → m ≤ length start.below.items
+pub written_there : (start now new : Writer) (s : ShapeTree) (m : ℕ) (d : Datum) → Grows start now → m ≤ length start.places.below.items
     → Writes now (walk s (place_in now m) d) new → Writes now (walk s (place_in start m) d) new
 written_there start now new s m d g inside w = subst (λ p. Writes now (walk s p d) new) (kept start now m g inside) w
 
@@ -122,7 +122,7 @@ outcome_inside old start new tree sub n m d e done faults (Err y) first kinds in
 
 pub use_outcome : {A : Type 0} (old new : Writer) (tree : ShapeTree) (n : ℕ) (d entry : Datum) (kind : Kind) (r : Result A Error)
     → walk tree (place_in old n) d ≡ use_at (place_in old n) kind entry ∷ [] → HasKindFrom tree (place_in old n) (place_in old n) kind → IsOf tree d
-    → OnOk r (new.below ≡ old.below) → OnOk r (written new ≡ put (use_at (place_in old n) kind entry) (written old))
+    → OnOk r (new.places.below ≡ old.places.below) → OnOk r (written new ≡ put (use_at (place_in old n) kind entry) (written old))
     → IfErr r (λ e. (root : ShapeTree) → AreOfShape root (written old) → HasKindFrom root [] (place_in old n) kind → e.reason ≡ OutOfMemory)
     → Outcome old tree n d [] r new
 use_outcome old new tree n d entry kind (Ok a) walked has of below more refused = record {
@@ -227,7 +227,7 @@ module _ {A : Type 0} (k v : ShapeTree) (first second : A → Datum) (xs : List 
   -- a key was refused
   pub key_refused : (old start now : Writer) (n keys values count i : ℕ) (faults part : List Reason) (reason : Reason)
       → Writes old (use_at (place_in old n) length_kind (natural count) ∷ []) start → place_in start keys ≡ key ∷ place_in old n → place_in start values ≡ value ∷ place_in old n
-      → keys ≤ length start.below.items → Writes start (flat_map (pair_uses (place_in start keys) (place_in start values)) (take i xs)) now
+      → keys ≤ length start.places.below.items → Writes start (flat_map (pair_uses (place_in start keys) (place_in start values)) (take i xs)) now
       → (IsAmong reason part → IsAmong reason faults) → RefusesAt now k keys part reason → RefusesAt old (map_tree k v) n faults reason
   key_refused old start now n keys values count i faults part reason first at_keys at_values inside so_far among refused =
       let p = place_in old n in
@@ -241,7 +241,7 @@ module _ {A : Type 0} (k v : ShapeTree) (first second : A → Datum) (xs : List 
   -- a value was refused, behind its key
   pub value_refused : (old start now next : Writer) (n keys values count i : ℕ) (d : Datum) (faults part : List Reason) (reason : Reason)
       → Writes old (use_at (place_in old n) length_kind (natural count) ∷ []) start → place_in start keys ≡ key ∷ place_in old n → place_in start values ≡ value ∷ place_in old n
-      → keys ≤ length start.below.items → values ≤ length start.below.items → Writes start (flat_map (pair_uses (place_in start keys) (place_in start values)) (take i xs)) now
+      → keys ≤ length start.places.below.items → values ≤ length start.places.below.items → Writes start (flat_map (pair_uses (place_in start keys) (place_in start values)) (take i xs)) now
       → Writes now (walk k (place_in now keys) d) next
       → (IsAmong reason part → IsAmong reason faults) → RefusesAt next v values part reason → RefusesAt old (map_tree k v) n faults reason
   value_refused old start now next n keys values count i d faults part reason first at_keys at_values inside_keys inside_values so_far step among refused =
@@ -268,8 +268,8 @@ module _ {A : Type 0} (k v : ShapeTree) (first second : A → Datum) (xs : List 
       subst (λ w. Writes old w now) (sym (map_walk p)) (writes_then old start now (use_at p length_kind (natural (length xs)) ∷ []) _ first rest)
 
 -- the places of the keys and of the values are known
-pub both_begun : (old mid start : Writer) (n keys values : ℕ) (u : Use) → Writes old (u ∷ []) mid → place_in mid keys ≡ key ∷ place_in old n → keys ≤ length mid.below.items
-    → n ≤ length old.below.items → place_in start values ≡ value ∷ place_in mid n → Grows mid start → written start ≡ written mid
+pub both_begun : (old mid start : Writer) (n keys values : ℕ) (u : Use) → Writes old (u ∷ []) mid → place_in mid keys ≡ key ∷ place_in old n → keys ≤ length mid.places.below.items
+    → n ≤ length old.places.below.items → place_in start values ≡ value ∷ place_in mid n → Grows mid start → written start ≡ written mid
     → Writes old (u ∷ []) start × (place_in start keys ≡ key ∷ place_in old n) × (place_in start values ≡ value ∷ place_in old n)
 both_begun old mid start n keys values u first at_keys inside_keys inside at_values grows same = (
   writes_then old mid start (u ∷ []) [] first (writes_none mid start grows same),
@@ -278,7 +278,7 @@ both_begun old mid start n keys values u first at_keys inside_keys inside at_val
 )
 
 -- a key and its value were written, at places that were known before
-pub pair_there : (start now next new : Writer) (k v : ShapeTree) (keys values : ℕ) (d e : Datum) → Grows start now → keys ≤ length start.below.items → values ≤ length start.below.items
+pub pair_there : (start now next new : Writer) (k v : ShapeTree) (keys values : ℕ) (d e : Datum) → Grows start now → keys ≤ length start.places.below.items → values ≤ length start.places.below.items
     → Writes now (walk k (place_in now keys) d) next → Writes next (walk v (place_in next values) e) new
     → Writes now (walk k (place_in start keys) d ++ walk v (place_in start values) e) new
 pair_there start now next new k v keys values d e g inside_keys inside_values one two =
@@ -333,7 +333,7 @@ module _ (f : ShapeNode → ShapeTree) (judge : Value → Judge) (left : ℕ) (n
 
     -- the place of the field, and the places that were met before it
     module _ (now below : Writer) (m : ℕ) (so_far : FieldsWritten i now) (grows : Grows now below) (same : written below ≡ written now)
-        (at : place_in below m ≡ field_at (length ns) (place_in now n) i) (inside : n ≤ length old.below.items) where
+        (at : place_in below m ≡ field_at (length ns) (place_in now n) i) (inside : n ≤ length old.places.below.items) where
       place_there : place_in below m ≡ fields_at i
       place_there = at ∙ ap (λ p. field_at (length ns) p i) (kept old now n so_far.written.grows inside) ∙ sym (field_of f ns (place_in old n) i)
 

@@ -1,9 +1,10 @@
 pub mod Indices
 pub mod ReadColumns
+pub mod Links
+pub mod Places
 pub mod Reading
 pub mod ReadingValues
 pub mod Depth
 pub mod WrittenColumns
-pub mod WrittenPlaces
 pub mod Writing
 pub mod Serializing

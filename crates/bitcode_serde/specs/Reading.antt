@@ -5,53 +5,15 @@ use Rattle.bitcode_coder.specs.Columns.{Kind, IsEntryOf}
 use Rattle.bitcode_untyped.specs.Machine.{Opened, State, whole, is_open, entries_of, Grounded, TakesNext, Takes}
 use Rattle.bitcode_untyped.specs.PlacedColumns.{PlacedColumn}
 use Rattle.bitcode_untyped.specs.Population.{population}
-use Rattle.bitcode_untyped.specs.Walk.{Step, element, key, value, variant, field, Place, use_at}
+use Rattle.bitcode_untyped.specs.Walk.{Place, use_at}
+use Rattle.bitcode_serde.specs.Places.{place_at, places}
 use Rattle.bitcode_serde.specs.ReadColumns.{kind_of_column, left, Tallies}
-use Rattle.bitcode_serde.specs.declared.reader.Step.{Step as CodeStep}
-use Rattle.bitcode_serde.specs.declared.reader.Step.TheVariants as step
-use Rattle.bitcode_serde.specs.declared.reader.Below.{Below}
 use Rattle.bitcode_serde.specs.declared.reader.OpenColumn.{OpenColumn}
 use Rattle.bitcode_serde.specs.declared.reader.Reader.{Reader}
 
--- ---- places, by number
-
-abbrev pub step_of : CodeStep → Step
-step_of step.Element = element
-step_of step.Key = key
-step_of step.Value = value
-step_of (step.Variant i) = variant i
-step_of (step.Field i) = field i
-
-abbrev pub place_at : List Place → ℕ → Place
-place_at ps i = get_or ps i []
-
-abbrev pub places_from : List Place → List Below → List Place
-places_from ps [] = ps
-places_from ps (b ∷ bs) = places_from (ps ++ (step_of b.step ∷ place_at ps b.above) ∷ []) bs
-
--- the root, and each place below one before it
-abbrev pub places : List Below → List Place
-places = places_from ([] ∷ [])
-
--- the place is that step below the other
-abbrev pub IsStep : Below → ℕ → CodeStep → Type 0
-IsStep b above step = (b.above ≡ above) × (step_of b.step ≡ step_of step)
-
--- i is the number of the place
-abbrev pub IsPlace : List Below → ℕ → Place → Type 0
-IsPlace bs i p = (i ≤ length bs) × (place_at (places bs) i ≡ p)
-
--- Each place lies below one before it, where so many come before the first.
-abbrev pub IsRooted : ℕ → List Below → Type 0
-IsRooted n [] = Unit {0}
-IsRooted n (b ∷ bs) = (b.above < n) × IsRooted (suc n) bs
-
--- how many data stand at each
-abbrev pub counts : List Below → List ℕ
-counts bs = 1 ∷ map (λ b. b.count) bs
-
-abbrev pub AreApart : List Place → Type 0
-AreApart ps = (i j : ℕ) → i < length ps → j < length ps → place_at ps i ≡ place_at ps j → i ≡ j
+-- how many data stand at each place: one at the root
+abbrev pub counts : Reader → List ℕ
+counts r = 1 ∷ r.counts.items
 
 -- ---- columns
 
@@ -85,9 +47,8 @@ HostAll ws ps ns = (i : ℕ) → i < length ps → Hosts ws (place_at ps i) (get
 
 -- The reader stands for the state.
 pub record Stands (r : Reader) (a : State) : Type 0 where
-  pub backs : Back (places r.below.items) r.columns.items a.opened
-  pub hosts : HostAll (map whole a.opened) (places r.below.items) (counts r.below.items)
-  pub apart : AreApart (places r.below.items)
+  pub backs : Back (places r.places.below.items) r.columns.items a.opened
+  pub hosts : HostAll (map whole a.opened) (places r.places.below.items) (counts r)
   pub input : a.rest ≡ r.input.now
 
 -- ---- steps

@@ -1,34 +1,39 @@
 -- What is read of a value, from one reader to the next.
-use Rattle.std.specs.Prelude.{◌≢◌, ℕ, zero, suc, List, ◌∷◌}
+use Rattle.std.specs.Prelude.{◌≡◌, ◌≢◌, ℕ, zero, suc, List, [], ◌∷◌, Vec, Box}
+use Rattle.std.specs.Global.{Global}
 use Rattle.bitcode_input.specs.declared.error.Reason.{Reason}
-use Rattle.bitcode_input.specs.declared.error.Reason.TheVariants.{OutOfMemory, InvalidOption, InvalidChar, TooManyZeroSizedTypes, NestedTooDeep}
+use Rattle.bitcode_input.specs.declared.error.Reason.TheVariants.{ExpectedEof, InvalidEnumVariant, OutOfMemory, InvalidOption, InvalidChar, TooManyZeroSizedTypes, NestedTooDeep}
 use Rattle.bitcode_shapes.specs.Datum.{Datum}
-use Rattle.bitcode_coder.specs.Coding.{IsReadingReason}
+use Rattle.bitcode_untyped.specs.Faults.{faults_of}
 use Rattle.bitcode_untyped.specs.Machine.{State}
 use Rattle.bitcode_untyped.specs.Reads.{ReadsDatum, ReadsNoDatum, IsReadable, ReadsMany}
 use Rattle.bitcode_untyped.specs.ShapeTree.{ShapeTree}
 use Rattle.bitcode_untyped.specs.Walk.{field, Place, walk}
-use Rattle.bitcode_serde.specs.Reading.{IsPlace, IsRooted, AreSized, Stands}
+use Rattle.bitcode_untyped.specs.declared.shape.ShapeNode.{ShapeNode}
+use Rattle.bitcode_untyped.specs.declared.shape.ShapeNode.TheVariants as node
+use Rattle.bitcode_untyped.specs.declared.value.Value.{Value}
+use Rattle.bitcode_serde.specs.ReadColumns.{IsColumnReason}
+use Rattle.bitcode_serde.specs.Reading.{AreSized, Stands}
+use Rattle.bitcode_serde.specs.Places.{IsPlace}
 use Rattle.bitcode_serde.specs.declared.reader.Reader.{Reader}
 
 -- between two calls
 pub record IsSteady (r : Reader) : Type 0 where
   pub sized : AreSized r.columns.items
-  pub rooted : IsRooted 1 r.below.items
 
 -- The places of the old reader are the new one's too, by the same numbers.
 pub record Continues (old new : Reader) : Type 0 where
   pub steady : IsSteady new
-  pub kept : (i : ℕ) (p : Place) → IsPlace old.below.items i p → IsPlace new.below.items i p
+  pub kept : (i : ℕ) (p : Place) → IsPlace old.places.below.items i p → IsPlace new.places.below.items i p
 
 -- The machine goes along with the reader, and what it does at the place is this.
 abbrev pub GoesAlong : Reader → ℕ → Reader → (Place → State → State → Type 0) → Type 0
 GoesAlong old place new Does =
-    (p : Place) → IsPlace old.below.items place p → (a : State) → Stands old a → (b : State) × Stands new b × Does p a b
+    (p : Place) → IsPlace old.places.below.items place p → (a : State) → Stands old a → (b : State) × Stands new b × Does p a b
 
 -- The machine does not do this where the reader stands.
 abbrev pub HasNone : Reader → ℕ → (Place → State → Type 0) → Type 0
-HasNone old place DoesNot = (p : Place) → IsPlace old.below.items place p → (a : State) → Stands old a → DoesNot p a
+HasNone old place DoesNot = (p : Place) → IsPlace old.places.below.items place p → (a : State) → Stands old a → DoesNot p a
 
 -- a datum is read at the place
 abbrev pub ReadsAt : ShapeTree → ℕ → Reader → Datum → Reader → Type 0
@@ -40,11 +45,13 @@ ReadsListAt s place old count ds new = GoesAlong old place new (λ p a b. ReadsM
 
 -- the reasons of refusals by a reader of values
 abbrev pub IsValueReason : Reason → Type 0
+IsValueReason ExpectedEof = Unit {0}
+IsValueReason InvalidEnumVariant = Unit {0}
 IsValueReason InvalidOption = Unit {0}
 IsValueReason InvalidChar = Unit {0}
 IsValueReason TooManyZeroSizedTypes = Unit {0}
 IsValueReason NestedTooDeep = Unit {0}
-IsValueReason reason = IsReadingReason reason
+IsValueReason reason = IsColumnReason reason
 
 -- a refusal other than want of memory comes only where this is not to be had
 abbrev pub IsRefusalOf : Reader → ℕ → (Place → State → Type 0) → Reason → Type 0
@@ -61,3 +68,28 @@ IsListRefusalAt s place old count =
 abbrev pub field_at : ℕ → Place → ℕ → Place
 field_at (suc zero) p i = p
 field_at _ p i = field i ∷ p
+
+-- ---- values of the cases of their nodes
+
+abbrev pub IsOfChar : Value → Type 0
+IsOfChar v = (table : List ShapeNode) (left : ℕ) → faults_of table v left node.Char ≡ []
+
+abbrev pub IsOfBytes : Value → Type 0
+IsOfBytes v = (table : List ShapeNode) (left : ℕ) → faults_of table v left node.Bytes ≡ []
+
+-- of an option of a node, in whichever box the node stands
+abbrev pub IsOfOption : List ShapeNode → ℕ → ShapeNode → Value → Type 0
+IsOfOption table left n v = (b : Box ShapeNode Global) → b.value ≡ n → faults_of table v left (node.Option b) ≡ []
+
+abbrev pub IsOfSeq : List ShapeNode → ℕ → ShapeNode → Value → Type 0
+IsOfSeq table left n v = (b : Box ShapeNode Global) → b.value ≡ n → faults_of table v left (node.Seq b) ≡ []
+
+abbrev pub IsOfMap : List ShapeNode → ℕ → ShapeNode → ShapeNode → Value → Type 0
+IsOfMap table left key value v =
+    (k w : Box ShapeNode Global) → k.value ≡ key → w.value ≡ value → faults_of table v left (node.Map k w) ≡ []
+
+abbrev pub IsOfTuple : List ShapeNode → ℕ → List ShapeNode → Value → Type 0
+IsOfTuple table left nodes v = (ns : Vec ShapeNode Global) → ns.items ≡ nodes → faults_of table v left (node.Tuple ns) ≡ []
+
+abbrev pub IsOfEnum : List ShapeNode → ℕ → List ShapeNode → Value → Type 0
+IsOfEnum table left nodes v = (ns : Vec ShapeNode Global) → ns.items ≡ nodes → faults_of table v left (node.Enum ns) ≡ []

@@ -9,9 +9,8 @@ use Rattle.bitcode_untyped.specs.PlacedColumns.{PlacedColumn}
 use Rattle.bitcode_untyped.specs.PlaceKinds.{HasKindFrom}
 use Rattle.bitcode_untyped.specs.ShapeTree.{ShapeTree}
 use Rattle.bitcode_untyped.specs.Walk.{Place, Use}
-use Rattle.bitcode_serde.specs.Reading.{place_at}
+use Rattle.bitcode_serde.specs.Places.{place_at, places}
 use Rattle.bitcode_serde.specs.WrittenColumns.{kind_of_written, entries_of}
-use Rattle.bitcode_serde.specs.WrittenPlaces.{met}
 use Rattle.bitcode_serde.specs.declared.writer.state.PlacedWritten.{PlacedWritten}
 use Rattle.bitcode_serde.specs.declared.writer.state.Writer.{Writer}
 
@@ -24,17 +23,17 @@ column_of c = record { kind = kind_of_written c.column; entries = entries_of c.c
 
 -- the columns so far, each at its place
 abbrev pub written : Writer → List PlacedColumn
-written w = map (placed (met w.below.items)) w.columns.items
+written w = map (placed (places w.places.below.items)) w.columns.items
 
 -- the place of a number
 abbrev pub place_in : Writer → ℕ → Place
-place_in w n = place_at (met w.below.items) n
+place_in w n = place_at (places w.places.below.items) n
 
 -- no place is forgotten, and numbers stay
 pub record Grows (old new : Writer) : Type 0 where
   pub more : List Place
-  pub places : met new.below.items ≡ met old.below.items ++ more
-  pub size : length old.below.items ≤ length new.below.items
+  pub places : places new.places.below.items ≡ places old.places.below.items ++ more
+  pub size : length old.places.below.items ≤ length new.places.below.items
 
 -- The uses were written, one after another.
 pub record Writes (old : Writer) (uses : List Use) (new : Writer) : Type 0 where

@@ -11,8 +11,9 @@ ghost use Rattle.bitcode_coder.specs.Spelling.{Spells, natural};
 ghost use Rattle.bitcode_untyped.specs.Population.{total, count_of};
 ghost use Rattle.bitcode_serde.specs.Indices.{indices_left, index_count};
 ghost use Rattle.bitcode_coder.specs.Coding.{IsReadingRefusal, TakesDatum};
+ghost use Rattle.bitcode_coder.specs.Faults.{NamesIntsFault};
 ghost use Rattle.bitcode_untyped.specs.View.{datum_of};
-ghost use Rattle.bitcode_serde.specs.ReadColumns.{kind_of, kind_number, kind_of_column, left, Tallies, ReadsColumn, IsColumnRefusal};
+ghost use Rattle.bitcode_serde.specs.ReadColumns.{kind_of, kind_number, kind_in_code, kind_of_column, left, Tallies, IsCaseOf, ReadsColumn, IsColumnRefusal};
 
 use crate::serde::VariantDecoder;
 use bitcode_coder::bool::BoolDecoder;
@@ -113,6 +114,7 @@ fn read<'a, D: View<'a> + Drop>(
 ) -> Result<D, Error>
     ensures read { IfOk result (λ d. Reads (Spells D.shape) count input.old.now (D.held d) input.new.now) }
     ensures refused { IfErr result (λ e. IsReadingRefusal D.shape e.reason count input.old.now) }
+    ensures exact { IfErr result (λ e. D.faults e.reason count input.old.now) }
 {
     let mut column = D::new(alloc);
     column.populate(input, count)?;
@@ -128,6 +130,7 @@ fn read_indices<'a>(
     ensures read { IfOk result (λ d. Reads (Spells (int_shape 1 false)) count input.old.now (indices_left d) input.new.now) }
     ensures counts { IfOk result (λ d. (index : ℕ) → index < 256 → index_count d index ≡ count_of index (indices_left d)) }
     ensures refused { IfErr result (λ e. IsReadingRefusal (int_shape 1 false) e.reason count input.old.now) }
+    ensures exact { IfErr result (λ e. NamesIntsFault 1 e.reason count input.old.now) }
 {
     let mut column = VariantDecoder::new(alloc);
     column.populate(input, count)?;
@@ -211,6 +214,7 @@ impl<'a> Column<'a> {
     pub fn take(&mut self) -> Result<Value, Error>
         requires { 0 < length (left self.old) }
         ensures taken { IfOk result (λ value. left self.old ≡ datum_of value ∷ left self.new) }
+        ensures of_case { IfOk result (λ value. IsCaseOf (kind_in_code self.old) value) }
         ensures kind { kind_of_column self.new ≡ kind_of_column self.old }
         ensures tallies { (entries : List Datum) → Tallies self.old entries → Tallies self.new entries }
         ensures refused { IfErr result (λ e. e.reason ≡ Reason.OutOfMemory) }

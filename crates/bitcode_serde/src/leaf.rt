@@ -4,11 +4,12 @@ ghost use Rattle.bitcode_coder.specs.Spelling.{natural};
 ghost use Rattle.bitcode_shapes.specs.Shape.{any_number};
 ghost use Rattle.bitcode_untyped.specs.ShapeTree.{leaf_tree, char_tree, natural_tree, seq_tree};
 ghost use Rattle.bitcode_untyped.specs.View.{datum_of};
-ghost use Rattle.bitcode_serde.specs.ReadColumns.{kind_of};
-ghost use Rattle.bitcode_serde.specs.ReadingValues.{IsSteady, Continues, ReadsAt, ReadsListAt, IsRefusalAt, IsListRefusalAt};
+ghost use Rattle.bitcode_serde.specs.ReadColumns.{kind_of, IsCaseOf};
+ghost use Rattle.bitcode_serde.specs.ReadingValues.{IsSteady, Continues, ReadsAt, ReadsListAt, IsRefusalAt, IsListRefusalAt, IsOfChar, IsOfBytes};
 
 use crate::column::ColumnKind;
-use crate::reader::{Reader, Step};
+use crate::reader::Reader;
+use crate::step::Step;
 use bitcode_input::error::{Error, Reason};
 use bitcode_input::refuse::err;
 use bitcode_untyped::value::Value;
@@ -16,10 +17,11 @@ use std::alloc::Global;
 
 /// Reads a value of a column of a kind.
 pub fn read_leaf(reader: &mut Reader<'_>, place: usize, kind: ColumnKind) -> Result<Value, Error>
-    requires place { place ≤ length reader.old.below.items }
+    requires place { place ≤ length reader.old.places.below.items }
     requires steady { IsSteady reader.old }
     ensures continues { OnOk result (Continues reader.old reader.new) }
     ensures read { IfOk result (λ value. ReadsAt (leaf_tree (kind_of kind) any_number) place reader.old (datum_of value) reader.new) }
+    ensures of_case { IfOk result (λ value. IsCaseOf kind value) }
     ensures refused { IfErr result (λ e. IsRefusalAt (leaf_tree (kind_of kind) any_number) place reader.old e.reason) }
 {
     let value = reader.take(place, kind)?;
@@ -28,10 +30,11 @@ pub fn read_leaf(reader: &mut Reader<'_>, place: usize, kind: ColumnKind) -> Res
 
 /// Reads a char. It refuses with `invalid char` where its number is the code of none.
 pub fn read_char(reader: &mut Reader<'_>, place: usize) -> Result<Value, Error>
-    requires place { place ≤ length reader.old.below.items }
+    requires place { place ≤ length reader.old.places.below.items }
     requires steady { IsSteady reader.old }
     ensures continues { OnOk result (Continues reader.old reader.new) }
     ensures read { IfOk result (λ value. ReadsAt char_tree place reader.old (datum_of value) reader.new) }
+    ensures whole { IfOk result (λ value. IsOfChar value) }
     ensures refused { IfErr result (λ e. IsRefusalAt char_tree place reader.old e.reason) }
 {
     let code = reader.take_code(place)?;
@@ -48,7 +51,7 @@ fn read_each_byte(
     place: usize,
     count: usize,
 ) -> Result<Vec<u8>, Error>
-    requires place { place ≤ length reader.old.below.items }
+    requires place { place ≤ length reader.old.places.below.items }
     requires steady { IsSteady reader.old }
     ensures continues { OnOk result (Continues reader.old reader.new) }
     ensures read { IfOk result (λ bytes. ReadsListAt (natural_tree 1) place reader.old count (map natural bytes.items) reader.new) }
@@ -64,10 +67,11 @@ fn read_each_byte(
 
 /// Reads a list of bytes.
 pub fn read_bytes(alloc: Global, reader: &mut Reader<'_>, place: usize) -> Result<Value, Error>
-    requires place { place ≤ length reader.old.below.items }
+    requires place { place ≤ length reader.old.places.below.items }
     requires steady { IsSteady reader.old }
     ensures continues { OnOk result (Continues reader.old reader.new) }
     ensures read { IfOk result (λ value. ReadsAt (seq_tree (natural_tree 1)) place reader.old (datum_of value) reader.new) }
+    ensures whole { IfOk result (λ value. IsOfBytes value) }
     ensures refused { IfErr result (λ e. IsRefusalAt (seq_tree (natural_tree 1)) place reader.old e.reason) }
 {
     let taken = reader.take_length(place)?;

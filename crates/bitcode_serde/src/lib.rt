@@ -6,9 +6,12 @@ pub mod deserialize;
 mod entries;
 pub mod free;
 pub mod leaf;
+pub mod links;
+pub mod places;
 pub mod reader;
 pub mod serde;
 pub mod serialize;
+pub mod step;
 #[cfg(test)]
 mod tests;
 pub mod values;

@@ -3,37 +3,21 @@ ghost use Rattle.std.specs.Prelude.{◌≡◌, ◌≢◌, ◌<◌, ◌≤◌, �
 ghost use Rattle.bitcode_coder.specs.Spelling.{natural};
 ghost use Rattle.bitcode_coder.specs.Columns.{ints};
 ghost use Rattle.bitcode_untyped.specs.Population.{total, count_of};
-ghost use Rattle.bitcode_coder.specs.Coding.{IsReadingReason};
 ghost use Rattle.bitcode_untyped.specs.Machine.{State, start, whole};
 ghost use Rattle.bitcode_untyped.specs.View.{datum_of};
 ghost use Rattle.bitcode_untyped.specs.Walk.{Place, length_kind, index_kind};
-ghost use Rattle.bitcode_serde.specs.ReadColumns.{kind_of};
-ghost use Rattle.bitcode_serde.specs.Reading.{step_of, IsStep, IsPlace, IsRooted, Hosts, places, place_at, counts, AreSized, Stands, IsReady, Prepares, NothingAt, Leads, LeadsTelling};
-ghost use Rattle.bitcode_serde.specs.ReadingValues.{IsSteady, Continues, field_at};
+ghost use Rattle.bitcode_serde.specs.ReadColumns.{kind_of, IsCaseOf, IsColumnReason};
+ghost use Rattle.std.proofs.Props.{props};
+ghost use Rattle.bitcode_serde.specs.Links.{AreFiled};
+ghost use Rattle.bitcode_serde.specs.Places.{step_of, IsPlace, places, place_at};
 
 use crate::column::{Column, ColumnKind};
+use crate::places::Places;
+use crate::step::Step;
 use bitcode_input::error::{Error, Reason};
 use bitcode_input::refuse::err;
 use bitcode_untyped::value::Value;
 use std::alloc::Global;
-
-/// From a value to a part of it.
-#[derive(Clone, Copy, PartialEq, Eq)]
-pub enum Step {
-    Element,
-    Key,
-    Value,
-    Variant(u8),
-    Field(usize),
-}
-
-/// A place below another, and how many data stand at it.
-#[derive(Clone, Copy)]
-pub struct Below {
-    above: usize,
-    step: Step,
-    count: usize,
-}
 
 /// An open column, the number of its place, and how many of its entries are left.
 #[derive(Drop)]
@@ -43,15 +27,17 @@ pub struct OpenColumn<'a> {
     column: Column<'a>,
 }
 
-/// The columns so far, and the bytes behind them.
-///
-/// Places are numbered as they are met: 0 is the root, and each other lies below one before it.
+/// The columns so far, and the bytes behind them; the places that were met, and how many data stand at each below the root.
 #[derive(Drop)]
 pub struct Reader<'a> {
     alloc: Global,
     input: &'a [u8],
-    below: Vec<Below>,
+    places: Places,
+    counts: Vec<usize>,
     columns: Vec<OpenColumn<'a>>,
+
+    ghost counted: { length places.below.items ≤ length counts.items },
+    ghost filed: { AreFiled places.links.items (map (λ c. c.place) columns.items) } by { Prim.hlevel props },
 }
 
 /// A length that was taken, and the sum of all lengths of its column.
@@ -68,44 +54,34 @@ pub struct Index {
     pub count: usize,
 }
 
-// The first column of a place.
-fn find(columns: &[OpenColumn<'_>], place: usize) -> Option<usize>
-    ensures none { IfNone result (All (λ c. c.place ≢ place) columns.now) }
-    ensures some { IfSome result (λ i. IsSomeAnd (slice_get columns.now i) (λ c. c.place ≡ place)) }
-    ensures first { IfSome result (λ i. All (λ c. c.place ≢ place) (take i columns.now)) }
+// Makes room for the count of one more place than so many.
+fn make_room(counts: &mut Vec<usize>, places: usize) -> Result<(), Error>
+    requires { places ≤ length counts.old.items }
+    ensures same { (i : ℕ) → i < length counts.old.items → get_or counts.new.items i 0 ≡ get_or counts.old.items i 0 }
+    ensures longer { length counts.old.items ≤ length counts.new.items }
+    ensures room { OnOk result (places < length counts.new.items) }
+    ensures refused { IfErr result (λ e. e.reason ≡ Reason.OutOfMemory) }
 {
-    for (i, column) in columns.iter().enumerate() {
-        if column.place == place {
-            return Some(i);
-        }
+    if counts.len() == places {
+        counts.push(0)?;
     }
-    None
-}
-
-// The place one step below another, if it was met: 0 is the first behind the root.
-fn find_below(below: &[Below], above: usize, step: Step) -> Option<usize>
-    ensures none { IfNone result (All (λ b. IsStep b above step → ⊥) below.now) }
-    ensures some { IfSome result (λ i. IsSomeAnd (slice_get below.now i) (λ b. IsStep b above step)) }
-{
-    for (i, place) in below.iter().enumerate() {
-        if place.above == above && place.step == step {
-            return Some(i);
-        }
-    }
-    None
+    Ok(())
 }
 
 impl<'a> Reader<'a> {
+    ghost use Rattle.bitcode_serde.specs.Reading.{Hosts, counts, AreSized, Stands, IsReady, Prepares, NothingAt, Leads, LeadsTelling};
+    ghost use Rattle.bitcode_serde.specs.ReadingValues.{IsSteady, Continues, field_at};
+
     /// Stands before the bytes, with no column open. Takes no memory.
     pub fn new(alloc: Global, bytes: &'a [u8]) -> Self
         ensures stands { Stands result (start bytes.now) }
         ensures sized { AreSized result.columns.items }
-        ensures rooted { IsRooted 1 result.below.items }
     {
         Reader {
             alloc,
             input: bytes,
-            below: Vec::new(alloc),
+            places: Places::new(alloc),
+            counts: Vec::new(alloc),
             columns: Vec::new(alloc),
         }
     }
@@ -117,29 +93,38 @@ impl<'a> Reader<'a> {
         self.input.is_empty()
     }
 
+    // The column of a place, if it is open.
+    fn column(&self, place: usize) -> Option<usize>
+        ensures none { IfNone result (All (λ c. c.place ≢ place) self.now.columns.items) }
+        ensures some { IfSome result (λ i. IsSomeAnd (slice_get self.now.columns.items i) (λ c. c.place ≡ place)) }
+        ensures first { IfSome result (λ i. All (λ c. c.place ≢ place) (take i self.now.columns.items)) }
+    {
+        self.places.column(place)
+    }
+
     // How many data stand at a place.
     fn count_at(&self, place: usize) -> usize
-        requires { place ≤ length self.now.below.items }
-        ensures { result ≡ get_or (counts self.now.below.items) place 0 }
+        requires { place ≤ length self.now.places.below.items }
+        ensures { result ≡ get_or (counts self.now) place 0 }
     {
         if place == 0 {
             1
         } else {
-            self.below[place - 1].count
+            self.counts[place - 1]
         }
     }
 
     // Opens the column of a place, unless it is open, and finds it. An entry is left.
     fn ready(&mut self, place: usize, kind: ColumnKind) -> Result<usize, Error>
-        requires place { place ≤ length self.old.below.items }
+        requires place { place ≤ length self.old.places.below.items }
         requires sized { AreSized self.old.columns.items }
         ensures sized { OnOk result (AreSized self.new.columns.items) }
         ensures found { IfOk result (λ i. IsReady self.new.columns.items place (kind_of kind) i) }
-        ensures below { self.new.below ≡ self.old.below }
-        ensures prepared { OnOk result ((a : State) → Stands self.old a → (m : State) × Stands self.new m × Prepares a (place_at (places self.old.below.items) place) (kind_of kind) m) }
-        ensures refused { IfErr result (λ e. IsReadingReason e.reason × (e.reason ≢ Reason.OutOfMemory → (a : State) → Stands self.old a → NothingAt a (place_at (places self.old.below.items) place) (kind_of kind))) }
+        ensures below { self.new.places.below ≡ self.old.places.below }
+        ensures prepared { OnOk result ((a : State) → Stands self.old a → (m : State) × Stands self.new m × Prepares a (place_at (places self.old.places.below.items) place) (kind_of kind) m) }
+        ensures refused { IfErr result (λ e. IsColumnReason e.reason × (e.reason ≢ Reason.OutOfMemory → (a : State) → Stands self.old a → NothingAt a (place_at (places self.old.places.below.items) place) (kind_of kind))) }
     {
-        match find(&self.columns, place) {
+        match self.column(place) {
             Some(i) => {
                 let open = &self.columns[i];
                 if !open.column.kind().is(kind) {
@@ -156,58 +141,56 @@ impl<'a> Reader<'a> {
 
     // Opens the column of a place that has none.
     fn open(&mut self, place: usize, kind: ColumnKind) -> Result<usize, Error>
-        requires place { place ≤ length self.old.below.items }
+        requires place { place ≤ length self.old.places.below.items }
         requires closed { All (λ c. c.place ≢ place) self.old.columns.items }
         requires sized { AreSized self.old.columns.items }
         ensures sized { OnOk result (AreSized self.new.columns.items) }
         ensures found { IfOk result (λ i. IsReady self.new.columns.items place (kind_of kind) i) }
-        ensures below { self.new.below ≡ self.old.below }
-        ensures prepared { OnOk result ((a : State) → Stands self.old a → (m : State) × Stands self.new m × Prepares a (place_at (places self.old.below.items) place) (kind_of kind) m) }
-        ensures refused { IfErr result (λ e. IsReadingReason e.reason × (e.reason ≢ Reason.OutOfMemory → (a : State) → Stands self.old a → NothingAt a (place_at (places self.old.below.items) place) (kind_of kind))) }
+        ensures below { self.new.places.below ≡ self.old.places.below }
+        ensures prepared { OnOk result ((a : State) → Stands self.old a → (m : State) × Stands self.new m × Prepares a (place_at (places self.old.places.below.items) place) (kind_of kind) m) }
+        ensures refused { IfErr result (λ e. IsColumnReason e.reason × (e.reason ≢ Reason.OutOfMemory → (a : State) → Stands self.old a → NothingAt a (place_at (places self.old.places.below.items) place) (kind_of kind))) }
     {
         let count = self.count_at(place);
         if count == 0 {
             return err(Reason::Eof);
         }
+        self.places.make_room(place)?;
         let column = Column::open(kind, self.alloc, &mut self.input, count)?;
         self.columns.push(OpenColumn {
             place,
             left: count,
             column,
         })?;
-        Ok(self.columns.as_slice().len() - 1)
+        let last = self.columns.len() - 1;
+        self.places.set_column(place, last);
+        Ok(last)
     }
 
     /// The number of the place one step below another, at which so many data stand.
     ///
     /// A refused growth is `out of memory`.
     pub fn step(&mut self, above: usize, step: Step, count: usize) -> Result<usize, Error>
-        requires above { above ≤ length self.old.below.items }
-        requires rooted { IsRooted 1 self.old.below.items }
-        ensures rooted { OnOk result (IsRooted 1 self.new.below.items) }
-        ensures found { IfOk result (λ i. IsPlace self.new.below.items i (step_of step ∷ place_at (places self.old.below.items) above)) }
-        ensures kept { OnOk result ((i : ℕ) (p : Place) → IsPlace self.old.below.items i p → IsPlace self.new.below.items i p) }
-        ensures stands { OnOk result ((a : State) → Stands self.old a → Hosts (map whole a.opened) (step_of step ∷ place_at (places self.old.below.items) above) count → Stands self.new a) }
+        requires { above ≤ length self.old.places.below.items }
+        ensures found { IfOk result (λ i. IsPlace self.new.places.below.items i (step_of step ∷ place_at (places self.old.places.below.items) above)) }
+        ensures kept { OnOk result ((i : ℕ) (p : Place) → IsPlace self.old.places.below.items i p → IsPlace self.new.places.below.items i p) }
+        ensures stands { OnOk result ((a : State) → Stands self.old a → Hosts (map whole a.opened) (step_of step ∷ place_at (places self.old.places.below.items) above) count → Stands self.new a) }
         ensures columns { self.new.columns ≡ self.old.columns }
         ensures refused { IfErr result (λ e. e.reason ≡ Reason.OutOfMemory) }
     {
-        match find_below(&self.below, above, step) {
-            Some(i) => Ok(i + 1),
-            None => {
-                self.below.push(Below { above, step, count })?;
-                Ok(self.below.as_slice().len())
-            }
-        }
+        make_room(&mut self.counts, self.places.len())?;
+        let place = self.places.below(above, step)?;
+        self.counts[place - 1] = count;
+        Ok(place)
     }
 
     /// The number of the place of a field of a tuple of so many: a tuple of one stands where its field does.
     ///
     /// A refused growth is `out of memory`.
     pub fn field(&mut self, place: usize, i: usize, fields: usize) -> Result<usize, Error>
-        requires place { place ≤ length self.old.below.items }
+        requires place { place ≤ length self.old.places.below.items }
         requires steady { IsSteady self.old }
         ensures continues { OnOk result (Continues self.old self.new) }
-        ensures found { IfOk result (λ inside. (p : Place) → IsPlace self.old.below.items place p → IsPlace self.new.below.items inside (field_at fields p i)) }
+        ensures found { IfOk result (λ inside. (p : Place) → IsPlace self.old.places.below.items place p → IsPlace self.new.places.below.items inside (field_at fields p i)) }
         ensures stands { OnOk result ((a : State) → Stands self.old a → Stands self.new a) }
         ensures refused { IfErr result (λ e. e.reason ≡ Reason.OutOfMemory) }
     {
@@ -223,12 +206,13 @@ impl<'a> Reader<'a> {
     ///
     /// It refuses as the column's decoder does, and with `EOF` where no entry is left.
     pub fn take(&mut self, place: usize, kind: ColumnKind) -> Result<Value, Error>
-        requires place { place ≤ length self.old.below.items }
+        requires place { place ≤ length self.old.places.below.items }
         requires sized { AreSized self.old.columns.items }
         ensures sized { OnOk result (AreSized self.new.columns.items) }
-        ensures leads { IfOk result (λ value. Leads self.old (place_at (places self.old.below.items) place) (kind_of kind) (datum_of value) self.new) }
-        ensures below { self.new.below ≡ self.old.below }
-        ensures refused { IfErr result (λ e. IsReadingReason e.reason × (e.reason ≢ Reason.OutOfMemory → (a : State) → Stands self.old a → NothingAt a (place_at (places self.old.below.items) place) (kind_of kind))) }
+        ensures leads { IfOk result (λ value. Leads self.old (place_at (places self.old.places.below.items) place) (kind_of kind) (datum_of value) self.new) }
+        ensures of_case { IfOk result (λ value. IsCaseOf kind value) }
+        ensures below { self.new.places.below ≡ self.old.places.below }
+        ensures refused { IfErr result (λ e. IsColumnReason e.reason × (e.reason ≢ Reason.OutOfMemory → (a : State) → Stands self.old a → NothingAt a (place_at (places self.old.places.below.items) place) (kind_of kind))) }
     {
         let i = self.ready(place, kind)?;
         let open = &mut self.columns[i];
@@ -241,13 +225,13 @@ impl<'a> Reader<'a> {
     ///
     /// It refuses as [`Reader::take`] does.
     pub fn take_length(&mut self, place: usize) -> Result<Length, Error>
-        requires place { place ≤ length self.old.below.items }
+        requires place { place ≤ length self.old.places.below.items }
         requires sized { AreSized self.old.columns.items }
         ensures sized { OnOk result (AreSized self.new.columns.items) }
-        ensures leads { IfOk result (λ taken. LeadsTelling self.old (place_at (places self.old.below.items) place) length_kind (natural taken.length) self.new
+        ensures leads { IfOk result (λ taken. LeadsTelling self.old (place_at (places self.old.places.below.items) place) length_kind (natural taken.length) self.new
             (λ entries. taken.total ≡ total entries)) }
-        ensures below { self.new.below ≡ self.old.below }
-        ensures refused { IfErr result (λ e. IsReadingReason e.reason × (e.reason ≢ Reason.OutOfMemory → (a : State) → Stands self.old a → NothingAt a (place_at (places self.old.below.items) place) length_kind)) }
+        ensures below { self.new.places.below ≡ self.old.places.below }
+        ensures refused { IfErr result (λ e. IsColumnReason e.reason × (e.reason ≢ Reason.OutOfMemory → (a : State) → Stands self.old a → NothingAt a (place_at (places self.old.places.below.items) place) length_kind)) }
     {
         let i = self.ready(place, ColumnKind::Lengths)?;
         let open = &mut self.columns[i];
@@ -261,13 +245,13 @@ impl<'a> Reader<'a> {
     ///
     /// It refuses as [`Reader::take`] does.
     pub fn take_index(&mut self, place: usize) -> Result<Index, Error>
-        requires place { place ≤ length self.old.below.items }
+        requires place { place ≤ length self.old.places.below.items }
         requires sized { AreSized self.old.columns.items }
         ensures sized { OnOk result (AreSized self.new.columns.items) }
-        ensures leads { IfOk result (λ taken. LeadsTelling self.old (place_at (places self.old.below.items) place) index_kind (natural taken.index) self.new
+        ensures leads { IfOk result (λ taken. LeadsTelling self.old (place_at (places self.old.places.below.items) place) index_kind (natural taken.index) self.new
             (λ entries. taken.count ≡ count_of taken.index entries)) }
-        ensures below { self.new.below ≡ self.old.below }
-        ensures refused { IfErr result (λ e. IsReadingReason e.reason × (e.reason ≢ Reason.OutOfMemory → (a : State) → Stands self.old a → NothingAt a (place_at (places self.old.below.items) place) index_kind)) }
+        ensures below { self.new.places.below ≡ self.old.places.below }
+        ensures refused { IfErr result (λ e. IsColumnReason e.reason × (e.reason ≢ Reason.OutOfMemory → (a : State) → Stands self.old a → NothingAt a (place_at (places self.old.places.below.items) place) index_kind)) }
     {
         let i = self.ready(place, ColumnKind::Bytes)?;
         let open = &mut self.columns[i];
@@ -281,12 +265,12 @@ impl<'a> Reader<'a> {
     ///
     /// It refuses as [`Reader::take`] does.
     pub fn take_code(&mut self, place: usize) -> Result<u32, Error>
-        requires place { place ≤ length self.old.below.items }
+        requires place { place ≤ length self.old.places.below.items }
         requires sized { AreSized self.old.columns.items }
         ensures sized { OnOk result (AreSized self.new.columns.items) }
-        ensures leads { IfOk result (λ code. Leads self.old (place_at (places self.old.below.items) place) (ints 4 false) (natural code) self.new) }
-        ensures below { self.new.below ≡ self.old.below }
-        ensures refused { IfErr result (λ e. IsReadingReason e.reason × (e.reason ≢ Reason.OutOfMemory → (a : State) → Stands self.old a → NothingAt a (place_at (places self.old.below.items) place) (ints 4 false))) }
+        ensures leads { IfOk result (λ code. Leads self.old (place_at (places self.old.places.below.items) place) (ints 4 false) (natural code) self.new) }
+        ensures below { self.new.places.below ≡ self.old.places.below }
+        ensures refused { IfErr result (λ e. IsColumnReason e.reason × (e.reason ≢ Reason.OutOfMemory → (a : State) → Stands self.old a → NothingAt a (place_at (places self.old.places.below.items) place) (ints 4 false))) }
     {
         let i = self.ready(place, ColumnKind::U32)?;
         let open = &mut self.columns[i];

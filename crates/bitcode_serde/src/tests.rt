@@ -1,8 +1,9 @@
 // Columns of the Rust crate.
 use crate::column::{Column, ColumnKind};
 use crate::deserialize::deserialize;
-use crate::reader::{Reader, Step};
+use crate::reader::Reader;
 use crate::serde::{VariantDecoder, VariantEncoder};
+use crate::step::Step;
 use bitcode_coder::coder::{Buffer, Decoder, Encoder, View};
 use bitcode_input::error::{Error, Reason};
 use bitcode_untyped::shape::{Shape, ShapeNode};

@@ -1,13 +1,16 @@
 // Values under a shape.
-ghost use Rattle.std.specs.Prelude.{◌≤◌, length, map, IfOk, IfErr, OnOk};
+ghost use Rattle.std.specs.Prelude.{◌≡◌, ◌≤◌, [], length, map, IfOk, IfErr, OnOk};
+ghost use Rattle.std.specs.List.{flat_map};
+ghost use Rattle.bitcode_untyped.specs.Faults.{faults_of};
 ghost use Rattle.bitcode_untyped.specs.ShapeTree.{option_tree, seq_tree, map_tree, tuple_tree, choice_tree};
 ghost use Rattle.bitcode_untyped.specs.View.{datum_of, tree_of_node, trees_of};
-ghost use Rattle.bitcode_serde.specs.ReadingValues.{IsSteady, Continues, ReadsAt, ReadsListAt, IsRefusalAt, IsListRefusalAt};
+ghost use Rattle.bitcode_serde.specs.ReadingValues.{IsSteady, Continues, ReadsAt, ReadsListAt, IsRefusalAt, IsListRefusalAt, IsOfOption, IsOfSeq, IsOfMap, IsOfTuple, IsOfEnum};
 
 use crate::column::ColumnKind;
 use crate::free::is_over_limit;
 use crate::leaf::{read_bytes, read_char, read_leaf};
-use crate::reader::{Reader, Step};
+use crate::reader::Reader;
+use crate::step::Step;
 use bitcode_input::error::{Error, Reason};
 use bitcode_input::refuse::err;
 use bitcode_untyped::shape::ShapeNode;
@@ -24,10 +27,11 @@ pub fn read(
     left: usize,
     place: usize,
 ) -> Result<Value, Error>
-    requires place { place ≤ length reader.old.below.items }
+    requires place { place ≤ length reader.old.places.below.items }
     requires steady { IsSteady reader.old }
     ensures continues { OnOk result (Continues reader.old reader.new) }
     ensures read { IfOk result (λ value. ReadsAt (tree_of_node left table.now node.now) place reader.old (datum_of value) reader.new) }
+    ensures whole { IfOk result (λ value. faults_of table.now value left node.now ≡ []) }
     ensures refused { IfErr result (λ e. IsRefusalAt (tree_of_node left table.now node.now) place reader.old e.reason) }
 {
     match node {
@@ -73,10 +77,11 @@ fn read_option(
     left: usize,
     place: usize,
 ) -> Result<Value, Error>
-    requires place { place ≤ length reader.old.below.items }
+    requires place { place ≤ length reader.old.places.below.items }
     requires steady { IsSteady reader.old }
     ensures continues { OnOk result (Continues reader.old reader.new) }
     ensures read { IfOk result (λ value. ReadsAt (option_tree (tree_of_node left table.now node.now)) place reader.old (datum_of value) reader.new) }
+    ensures whole { IfOk result (λ value. IsOfOption table.now left node.now value) }
     ensures refused { IfErr result (λ e. IsRefusalAt (option_tree (tree_of_node left table.now node.now)) place reader.old e.reason) }
 {
     let taken = reader.take_index(place)?;
@@ -101,10 +106,11 @@ fn read_seq(
     left: usize,
     place: usize,
 ) -> Result<Value, Error>
-    requires place { place ≤ length reader.old.below.items }
+    requires place { place ≤ length reader.old.places.below.items }
     requires steady { IsSteady reader.old }
     ensures continues { OnOk result (Continues reader.old reader.new) }
     ensures read { IfOk result (λ value. ReadsAt (seq_tree (tree_of_node left table.now node.now)) place reader.old (datum_of value) reader.new) }
+    ensures whole { IfOk result (λ value. IsOfSeq table.now left node.now value) }
     ensures refused { IfErr result (λ e. IsRefusalAt (seq_tree (tree_of_node left table.now node.now)) place reader.old e.reason) }
 {
     let taken = reader.take_length(place)?;
@@ -127,10 +133,11 @@ fn read_elements(
     place: usize,
     count: usize,
 ) -> Result<Vec<Value>, Error>
-    requires place { place ≤ length reader.old.below.items }
+    requires place { place ≤ length reader.old.places.below.items }
     requires steady { IsSteady reader.old }
     ensures continues { OnOk result (Continues reader.old reader.new) }
     ensures read { IfOk result (λ values. ReadsListAt (tree_of_node left table.now node.now) place reader.old count (map datum_of values.items) reader.new) }
+    ensures whole { IfOk result (λ values. flat_map (λ value. faults_of table.now value left node.now) values.items ≡ []) }
     ensures refused { IfErr result (λ e. IsListRefusalAt (tree_of_node left table.now node.now) place reader.old count e.reason) }
 {
     let mut values = Vec::new(alloc);
@@ -151,10 +158,11 @@ fn read_tuple(
     left: usize,
     place: usize,
 ) -> Result<Value, Error>
-    requires place { place ≤ length reader.old.below.items }
+    requires place { place ≤ length reader.old.places.below.items }
     requires steady { IsSteady reader.old }
     ensures continues { OnOk result (Continues reader.old reader.new) }
     ensures read { IfOk result (λ value. ReadsAt (tuple_tree (trees_of (map (tree_of_node left table.now) nodes.now))) place reader.old (datum_of value) reader.new) }
+    ensures whole { IfOk result (λ value. IsOfTuple table.now left nodes.now value) }
     ensures refused { IfErr result (λ e. IsRefusalAt (tuple_tree (trees_of (map (tree_of_node left table.now) nodes.now))) place reader.old e.reason) }
 {
     let mut values = Vec::new(alloc);
@@ -176,10 +184,11 @@ fn read_enum(
     left: usize,
     place: usize,
 ) -> Result<Value, Error>
-    requires place { place ≤ length reader.old.below.items }
+    requires place { place ≤ length reader.old.places.below.items }
     requires steady { IsSteady reader.old }
     ensures continues { OnOk result (Continues reader.old reader.new) }
     ensures read { IfOk result (λ value. ReadsAt (choice_tree (trees_of (map (tree_of_node left table.now) nodes.now))) place reader.old (datum_of value) reader.new) }
+    ensures whole { IfOk result (λ value. IsOfEnum table.now left nodes.now value) }
     ensures refused { IfErr result (λ e. IsRefusalAt (choice_tree (trees_of (map (tree_of_node left table.now) nodes.now))) place reader.old e.reason) }
 {
     let taken = reader.take_index(place)?;
@@ -204,10 +213,11 @@ fn read_map(
     left: usize,
     place: usize,
 ) -> Result<Value, Error>
-    requires place { place ≤ length reader.old.below.items }
+    requires place { place ≤ length reader.old.places.below.items }
     requires steady { IsSteady reader.old }
     ensures continues { OnOk result (Continues reader.old reader.new) }
     ensures read { IfOk result (λ made. ReadsAt (map_tree (tree_of_node left table.now key.now) (tree_of_node left table.now value.now)) place reader.old (datum_of made) reader.new) }
+    ensures whole { IfOk result (λ made. IsOfMap table.now left key.now value.now made) }
     ensures refused { IfErr result (λ e. IsRefusalAt (map_tree (tree_of_node left table.now key.now) (tree_of_node left table.now value.now)) place reader.old e.reason) }
 {
     let taken = reader.take_length(place)?;

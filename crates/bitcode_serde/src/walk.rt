@@ -14,7 +14,7 @@ ghost use Rattle.bitcode_serde.specs.Serializing.{Outcome, IsVariant};
 ghost use Rattle.bitcode_serde.specs.Writing.{written, place_in, Grows};
 
 use crate::entries::leaf_entry;
-use crate::reader::Step;
+use crate::step::Step;
 use crate::writer::Writer;
 use crate::written::Entry;
 use bitcode_input::error::{Error, Reason};
@@ -36,7 +36,7 @@ pub fn write(
     left: usize,
     place: usize,
 ) -> Result<(), Error>
-    requires { place ≤ length writer.old.below.items }
+    requires { place ≤ length writer.old.places.below.items }
     ensures { Outcome writer.old (tree_of_node left table.now node.now) place (datum_of value.now) (faults_of table.now value.now left node.now) result writer.new }
 {
     match node {
@@ -80,7 +80,7 @@ pub fn write(
 
 /// Writes a list of bytes at a place: its length, and then its bytes, one after another.
 pub fn write_bytes(writer: &mut Writer, place: usize, bytes: &[u8]) -> Result<(), Error>
-    requires { place ≤ length writer.old.below.items }
+    requires { place ≤ length writer.old.places.below.items }
     ensures { Outcome writer.old (seq_tree (natural_tree 1)) place (list (data_of (map natural bytes.now))) [] result writer.new }
 {
     writer.put(place, Entry::Length(bytes.len()))?;
@@ -101,7 +101,7 @@ fn write_reference(
     left: usize,
     place: usize,
 ) -> Result<(), Error>
-    requires { place ≤ length writer.old.below.items }
+    requires { place ≤ length writer.old.places.below.items }
     ensures { Outcome writer.old (tree_of_node left table.now (ShapeNode.Ref i)) place (datum_of value.now) (faults_of table.now value.now left (ShapeNode.Ref i)) result writer.new }
 {
     if left == 0 {
@@ -124,7 +124,7 @@ fn write_variant(
     left: usize,
     place: usize,
 ) -> Result<(), Error>
-    requires { place ≤ length writer.old.below.items }
+    requires { place ≤ length writer.old.places.below.items }
     ensures { (trees : ShapeTrees) → IsVariant trees index (tree_of_node left table.now node.now)
         → Outcome writer.old (choice_tree trees) place (choice index (datum_of value.now)) (faults_of table.now value.now left node.now) result writer.new }
 {
@@ -144,7 +144,7 @@ fn write_enum(
     left: usize,
     place: usize,
 ) -> Result<(), Error>
-    requires { place ≤ length writer.old.below.items }
+    requires { place ≤ length writer.old.places.below.items }
     ensures { Outcome writer.old (choice_tree (trees_of (map (tree_of_node left table.now) nodes.now))) place (choice index (datum_of value.now))
         (if nat_lt greatest_index index then TooManyVariants ∷ [] else faults_of_variant (faults_of table.now value.now) left (slice_get nodes.now index)) result writer.new }
 {
@@ -167,7 +167,7 @@ fn write_seq(
     left: usize,
     place: usize,
 ) -> Result<(), Error>
-    requires { place ≤ length writer.old.below.items }
+    requires { place ≤ length writer.old.places.below.items }
     ensures { Outcome writer.old (seq_tree (tree_of_node left table.now node.now)) place (list (data_of (map datum_of values.now)))
         (flat_map (λ value. faults_of table.now value left node.now) values.now) result writer.new }
 {
@@ -190,7 +190,7 @@ fn write_map(
     left: usize,
     place: usize,
 ) -> Result<(), Error>
-    requires { place ≤ length writer.old.below.items }
+    requires { place ≤ length writer.old.places.below.items }
     ensures { Outcome writer.old (map_tree (tree_of_node left table.now key.now) (tree_of_node left table.now value.now)) place
         (list (data_of (map (λ e. pair (datum_of e.0) (datum_of e.1)) pairs.now)))
         (flat_map (λ e. faults_of table.now e.0 left key.now ++ faults_of table.now e.1 left value.now) pairs.now) result writer.new }
@@ -212,8 +212,8 @@ fn field_below(
     index: usize,
     fields: usize,
 ) -> Result<usize, Error>
-    requires { place ≤ length writer.old.below.items }
-    ensures inside { IfOk result (λ n. n ≤ length writer.new.below.items) }
+    requires { place ≤ length writer.old.places.below.items }
+    ensures inside { IfOk result (λ n. n ≤ length writer.new.places.below.items) }
     ensures place { IfOk result (λ n. place_in writer.new n ≡ field_at fields (place_in writer.old place) index) }
     ensures grows { OnOk result (Grows writer.old writer.new) }
     ensures written { OnOk result (written writer.new ≡ written writer.old) }
@@ -235,7 +235,7 @@ fn write_tuple(
     left: usize,
     place: usize,
 ) -> Result<(), Error>
-    requires { place ≤ length writer.old.below.items }
+    requires { place ≤ length writer.old.places.below.items }
     ensures { Outcome writer.old (tuple_tree (trees_of (map (tree_of_node left table.now) nodes.now))) place (tuple (data_of (map datum_of values.now)))
         (faults_of_fields (map (faults_of table.now) values.now) left nodes.now) result writer.new }
 {

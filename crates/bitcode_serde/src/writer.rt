@@ -8,45 +8,18 @@ ghost use Rattle.bitcode_untyped.specs.PlaceKinds.{HasKindFrom};
 ghost use Rattle.bitcode_untyped.specs.PlacedColumns.{unplaced};
 ghost use Rattle.bitcode_untyped.specs.ShapeTree.{ShapeTree};
 ghost use Rattle.bitcode_untyped.specs.Walk.{use_at};
-ghost use Rattle.bitcode_serde.specs.Reading.{step_of, AreApart};
+ghost use Rattle.bitcode_serde.specs.Places.{step_of, AreApart, places};
 ghost use Rattle.bitcode_serde.specs.WrittenColumns.{kind_of_entry, datum_of_entry};
-ghost use Rattle.bitcode_serde.specs.WrittenPlaces.{met};
 ghost use Rattle.bitcode_serde.specs.Writing.{written, place_in, column_of, Grows, AreOfShape};
 
-use crate::reader::Step;
-pub use crate::writer::state::{PlacedWritten, Writer, WrittenPlace};
+use crate::places::Places;
+use crate::step::Step;
+pub use crate::writer::state::{PlacedWritten, Writer};
 use crate::written::{Entry, WrittenColumn};
 use bitcode_input::error::{Error, Reason};
 use std::alloc::Global;
 
 mod state;
-
-// The first column of a place.
-fn find_column(columns: &[PlacedWritten], place: usize) -> Option<usize>
-    ensures none { IfNone result (All (λ c. c.place ≢ place) columns.now) }
-    ensures some { IfSome result (λ i. IsSomeAnd (slice_get columns.now i) (λ c. c.place ≡ place)) }
-    ensures first { IfSome result (λ i. All (λ c. c.place ≢ place) (take i columns.now)) }
-{
-    for (i, column) in columns.iter().enumerate() {
-        if column.place == place {
-            return Some(i);
-        }
-    }
-    None
-}
-
-// The place a step below another.
-fn find_below(below: &[WrittenPlace], above: usize, step: Step) -> Option<usize>
-    ensures none { IfNone result (All (λ b. (b.above ≡ above) × (b.step ≡ step) → ⊥) below.now) }
-    ensures some { IfSome result (λ i. IsSomeAnd (slice_get below.now i) (λ b. (b.above ≡ above) × (b.step ≡ step))) }
-{
-    for (i, place) in below.iter().enumerate() {
-        if place.above == above && place.step == step {
-            return Some(i);
-        }
-    }
-    None
-}
 
 // Writes columns behind `out`. They are scratch afterwards.
 fn collect_columns(columns: &mut [PlacedWritten], out: &mut Vec<u8>) -> Result<(), Error>
@@ -66,7 +39,7 @@ impl Writer {
     {
         Writer {
             alloc,
-            below: Vec::new(alloc),
+            places: Places::new(alloc),
             columns: Vec::new(alloc),
         }
     }
@@ -75,39 +48,56 @@ impl Writer {
     ///
     /// A refused growth is `out of memory`.
     pub fn below(&mut self, place: usize, step: Step) -> Result<usize, Error>
-        requires { place ≤ length self.old.below.items }
-        ensures inside { IfOk result (λ n. n ≤ length self.new.below.items) }
+        requires { place ≤ length self.old.places.below.items }
+        ensures inside { IfOk result (λ n. n ≤ length self.new.places.below.items) }
         ensures place { IfOk result (λ n. place_in self.new n ≡ step_of step ∷ place_in self.old place) }
         ensures grows { OnOk result (Grows self.old self.new) }
         ensures written { OnOk result (written self.new ≡ written self.old) }
         ensures refused { IfErr result (λ e. e.reason ≡ Reason.OutOfMemory) }
     {
-        match find_below(&self.below, place, step) {
-            Some(i) => Ok(i + 1),
-            None => {
-                self.below.push(WrittenPlace { above: place, step })?;
-                Ok(self.below.as_slice().len())
-            }
-        }
+        self.places.below(place, step)
+    }
+
+    // The column of a place, if it has one.
+    fn column(&self, place: usize) -> Option<usize>
+        ensures none { IfNone result (All (λ c. c.place ≢ place) self.now.columns.items) }
+        ensures some { IfSome result (λ i. IsSomeAnd (slice_get self.now.columns.items i) (λ c. c.place ≡ place)) }
+        ensures first { IfSome result (λ i. All (λ c. c.place ≢ place) (take i self.now.columns.items)) }
+    {
+        self.places.column(place)
+    }
+
+    // Adds the column of a place that has none.
+    fn add(&mut self, place: usize, column: WrittenColumn) -> Result<(), Error>
+        requires place { place ≤ length self.old.places.below.items }
+        requires fresh { All (λ c. c.place ≢ place) self.old.columns.items }
+        ensures below { self.new.places.below ≡ self.old.places.below }
+        ensures columns { OnOk result (self.new.columns.items ≡ self.old.columns.items ++ record { place = place; column = column } ∷ []) }
+        ensures refused { IfErr result (λ e. e.reason ≡ Reason.OutOfMemory) }
+    {
+        self.places.make_room(place)?;
+        self.columns.push(PlacedWritten { place, column })?;
+        let last = self.columns.len() - 1;
+        self.places.set_column(place, last);
+        Ok(())
     }
 
     /// Writes an entry to the column of a place.
     ///
     /// A refused growth is `out of memory`, and `value is not of the shape` comes only where the column is for other entries.
     pub fn put(&mut self, place: usize, next: Entry<'_>) -> Result<(), Error>
-        requires { place ≤ length self.old.below.items }
-        ensures below { OnOk result (self.new.below ≡ self.old.below) }
+        requires { place ≤ length self.old.places.below.items }
+        ensures below { OnOk result (self.new.places.below ≡ self.old.places.below) }
         ensures written { OnOk result (written self.new ≡ put (use_at (place_in self.old place) (kind_of_entry next.entry) (datum_of_entry next.entry)) (written self.old)) }
         ensures refused { IfErr result (λ e. (root : ShapeTree) → AreOfShape root (written self.old)
             → HasKindFrom root [] (place_in self.old place) (kind_of_entry next.entry) → e.reason ≡ Reason.OutOfMemory) }
     {
-        match find_column(&self.columns, place) {
+        match self.column(place) {
             Some(i) => self.columns[i].column.push(next),
             None => {
                 let mut column = WrittenColumn::new(self.alloc, next);
                 column.push(next)?;
-                self.columns.push(PlacedWritten { place, column })?;
-                Ok(())
+                self.add(place, column)
             }
         }
     }

@@ -1,8 +1,8 @@
 // Columns are written in the order of their first entries.
 use crate::deserialize::deserialize;
 use crate::entries::leaf_entry;
-use crate::reader::Step;
 use crate::serialize::serialize;
+use crate::step::Step;
 use crate::walk::write_bytes;
 use crate::writer::Writer;
 use crate::written::{Entry, WrittenColumn};

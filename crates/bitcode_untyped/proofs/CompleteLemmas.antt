@@ -159,8 +159,11 @@ module _ (s : ShapeTree) (d : Datum) (last : List ℕ) where
       let grown : map (opening full) (columns (w ++ u ∷ [])) ≡ map (opening full) (columns w) ++ new ∷ [] =
       ap (map (opening full)) (columns_snoc w u ∙ put_last u (columns w) h) ∙ map-append (opening full) (columns w) _
       ∙ ap (λ (es : List Datum). let o : Opened = record { place = u.place; kind = u.kind; entries = es; taken = 1 } in map (opening full) (columns w) ++ o ∷ []) fulls in
-      let rest_is = ap (λ x. fresh (also u.place z) (columns x)) (sym e) in
-      (sp.1, inr (opening_open full (columns w) u.place ∙ h, grounded_from full (columns w) u.place by, entries_at u.place t, sp.0, n, sp.2, piece, grown), subst (λ cs. Spelled sp.1 cs last) rest_is sp.4)
+      let rest_is = ap (λ x. fresh (also u.place z) (columns x)) (sym e) in (
+        sp.1,
+        inr (opening_open full (columns w) u.place ∙ h, grounded_from full (columns w) u.place by, entries_at u.place t, sp.0, n, sp.2, piece, grown),
+        subst (λ cs. Spelled sp.1 cs last) rest_is sp.4,
+      )
 
   pub run_on : (t w : List Use) (now : List ℕ) → walk s [] d ≡ w ++ t → Spelled now (fresh (is_open (columns w)) (columns (walk s [] d))) last
       → Runs Takes (state w now) t (state (walk s [] d) last)

@@ -108,8 +108,11 @@ mutual
   walk_grounded never_tree p d z g = tt
   walk_grounded (leaf_tree k allowed) p d z g = (g, tt)
   walk_grounded (seq_tree t) p d z g = (g, grounded_each (also p z) (walk t (element ∷ p)) (λ x. walk_grounded t (element ∷ p) x (also p z) (here_too z p)) (elements_in d))
-  walk_grounded (map_tree t v) p d z g =
-      (g, grounded_each (also p z) (λ e. walk t (key ∷ p) (first_in e) ++ walk v (value ∷ p) (second_in e)) (λ x. grounded_then (also p z) _ _ (walk_grounded t (key ∷ p) (first_in x) (also p z) (here_too z p)) (walk_grounded v (value ∷ p) (second_in x) (also p z) (here_too z p))) (elements_in d))
+  walk_grounded (map_tree t v) p d z g = (
+    g,
+    grounded_each (also p z) (λ e. walk t (key ∷ p) (first_in e) ++ walk v (value ∷ p) (second_in e))
+        (λ x. grounded_then (also p z) _ _ (walk_grounded t (key ∷ p) (first_in x) (also p z) (here_too z p)) (walk_grounded v (value ∷ p) (second_in x) (also p z) (here_too z p))) (elements_in d),
+  )
   walk_grounded (tuple_tree ts) p d z g = walk_grounded_fields ts (field_place ts p) 0 (fields_in d) z (λ i. grounded_field z ts p i g)
   walk_grounded (choice_tree ts) p d z g = (g, walk_grounded_variant ts (variant_in d) (variant (variant_in d) ∷ p) (payload_in d) (also p z) (here_too z p))
 

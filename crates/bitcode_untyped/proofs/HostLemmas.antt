@@ -76,9 +76,11 @@ mutual
       λ x. none_or_append q _ _ H (none_or_if q _ _ _ inl (hosted t (key ∷ p) (first_in x) q)) (none_or_if q _ _ _ inr (hosted v (value ∷ p) (second_in x) q)) in
       none_or_first q p length_kind _ _ _ inl (none_or_if q _ _ _ inr (none_or_each q f H one (elements_in d)))
   hosted (tuple_tree ts) p d q =
-      none_or_if q _ _ _ (λ (h : (j : ℕ) × HostsAt ts j (field_place ts p (0 + j)) q). (h.0, subst (λ z. HostsAt ts h.0 (field_place ts p z) q) (zero-add h.0) h.1)) (hosted_fields ts (field_place ts p) 0 (fields_in d) q)
+      none_or_if q _ _ _ (λ (h : (j : ℕ) × HostsAt ts j (field_place ts p (0 + j)) q). (h.0, subst (λ z. HostsAt ts h.0 (field_place ts p z) q) (zero-add h.0) h.1))
+      (hosted_fields ts (field_place ts p) 0 (fields_in d) q)
   hosted (choice_tree ts) p d q =
-      none_or_first q p index_kind _ _ _ inl (none_or_if q _ _ _ (λ (h : HostsAt ts (variant_in d) (variant (variant_in d) ∷ p) q). inr (variant_in d, h)) (hosted_variant ts (variant_in d) (variant (variant_in d) ∷ p) (payload_in d) q))
+      none_or_first q p index_kind _ _ _ inl (none_or_if q _ _ _ (λ (h : HostsAt ts (variant_in d) (variant (variant_in d) ∷ p) q). inr (variant_in d, h))
+      (hosted_variant ts (variant_in d) (variant (variant_in d) ∷ p) (payload_in d) q))
 
   pub hosted_fields : (ts : ShapeTrees) (at : ℕ → Place) (i : ℕ) (xs : Data) (q : Place)
       → NoneOr q (walk_fields ts at i xs) ((j : ℕ) × HostsAt ts j (at (i + j)) q)

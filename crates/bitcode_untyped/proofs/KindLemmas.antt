@@ -22,14 +22,23 @@ mutual
   kinded unit_tree p d = tt
   kinded never_tree p d = tt
   kinded (leaf_tree k allowed) p d = ((refl, refl), tt)
-  kinded (seq_tree s) p d = (inl (refl, refl), each_if (Kinded s (element ∷ p)) (Kinded (seq_tree s) p) (λ u h. inr h) _ (each_flat (Kinded s (element ∷ p)) (walk s (element ∷ p)) (kinded s (element ∷ p)) (elements_in d)))
+  kinded (seq_tree s) p d =
+      (inl (refl, refl), each_if (Kinded s (element ∷ p)) (Kinded (seq_tree s) p) (λ u h. inr h) _ (each_flat (Kinded s (element ∷ p)) (walk s (element ∷ p)) (kinded s (element ∷ p)) (elements_in d)))
   kinded (map_tree s v) p d =
-      let f : Datum → List Use = λ e. walk s (key ∷ p) (first_in e) ++ walk v (value ∷ p) (second_in e) in
-      (inl (refl, refl), each_flat (Kinded (map_tree s v) p) f (λ e. each_append (Kinded (map_tree s v) p) _ _ (each_if (Kinded s (key ∷ p)) (Kinded (map_tree s v) p) (λ u h. inr (inl h)) _ (kinded s (key ∷ p) (first_in e))) (each_if (Kinded v (value ∷ p)) (Kinded (map_tree s v) p) (λ u h. inr (inr h)) _ (kinded v (value ∷ p) (second_in e)))) (elements_in d))
+      let f : Datum → List Use = λ e. walk s (key ∷ p) (first_in e) ++ walk v (value ∷ p) (second_in e) in (
+        inl (refl, refl),
+        each_flat (Kinded (map_tree s v) p) f
+            (λ e. each_append (Kinded (map_tree s v) p) _ _ (each_if (Kinded s (key ∷ p)) (Kinded (map_tree s v) p) (λ u h. inr (inl h)) _ (kinded s (key ∷ p) (first_in e)))
+            (each_if (Kinded v (value ∷ p)) (Kinded (map_tree s v) p) (λ u h. inr (inr h)) _ (kinded v (value ∷ p) (second_in e)))) (elements_in d),
+      )
   kinded (tuple_tree ss) p d =
-      each_if (λ (u : Use). (j : ℕ) × HasKindAt ss j (field_place ss p (0 + j)) u.place u.kind) (Kinded (tuple_tree ss) p) (λ u h. (h.0, subst (λ z. HasKindAt ss h.0 (field_place ss p z) u.place u.kind) (zero-add h.0) h.1)) _ (kinded_fields ss (field_place ss p) 0 (fields_in d))
-  kinded (choice_tree ss) p d =
-      (inl (refl, refl), each_if (λ (u : Use). HasKindAt ss (variant_in d) (variant (variant_in d) ∷ p) u.place u.kind) (Kinded (choice_tree ss) p) (λ u h. inr (variant_in d, h)) _ (kinded_variant ss (variant_in d) (variant (variant_in d) ∷ p) (payload_in d)))
+      each_if (λ (u : Use). (j : ℕ) × HasKindAt ss j (field_place ss p (0 + j)) u.place u.kind) (Kinded (tuple_tree ss) p)
+      (λ u h. (h.0, subst (λ z. HasKindAt ss h.0 (field_place ss p z) u.place u.kind) (zero-add h.0) h.1)) _ (kinded_fields ss (field_place ss p) 0 (fields_in d))
+  kinded (choice_tree ss) p d = (
+    inl (refl, refl),
+    each_if (λ (u : Use). HasKindAt ss (variant_in d) (variant (variant_in d) ∷ p) u.place u.kind) (Kinded (choice_tree ss) p)
+        (λ u h. inr (variant_in d, h)) _ (kinded_variant ss (variant_in d) (variant (variant_in d) ∷ p) (payload_in d)),
+  )
 
   pub kinded_fields : (ss : ShapeTrees) (at : ℕ → Place) (i : ℕ) (xs : Data)
       → AllByRecursion (λ (u : Use). (j : ℕ) × HasKindAt ss j (at (i + j)) u.place u.kind) (walk_fields ss at i xs)
@@ -39,7 +48,8 @@ mutual
       let zeroth : i ≡ i + 0 = omega arith in
       each_append P _ _
       (each_if (Kinded s (at i)) P (λ u h. (0, subst (λ z. HasKindFrom s (at z) u.place u.kind) zeroth h)) _ (kinded s (at i) (first_of xs)))
-      (each_if (λ (u : Use). (j : ℕ) × HasKindAt ss j (at (i + 1 + j)) u.place u.kind) P (λ u h. (suc h.0, subst (λ z. HasKindAt ss h.0 (at z) u.place u.kind) (omega arith) h.1)) _ (kinded_fields ss at (i + 1) (rest_of xs)))
+      (each_if (λ (u : Use). (j : ℕ) × HasKindAt ss j (at (i + 1 + j)) u.place u.kind) P
+      (λ u h. (suc h.0, subst (λ z. HasKindAt ss h.0 (at z) u.place u.kind) (omega arith) h.1)) _ (kinded_fields ss at (i + 1) (rest_of xs)))
 
   pub kinded_variant : (ss : ShapeTrees) (i : ℕ) (p : Place) (d : Datum) → AllByRecursion (λ (u : Use). HasKindAt ss i p u.place u.kind) (walk_variant ss i p d)
   kinded_variant no_trees i p d = tt

@@ -21,5 +21,6 @@ pub mod SoundTreeLemmas
 pub mod FollowLemmas
 pub mod FaultLemmas
 pub mod MismatchLemmas
+pub mod ContentLemmas
 pub mod ReadLemmas
 pub mod FollowedLemmas

@@ -97,7 +97,8 @@ not_none [] ys e h = cc
 not_none (x ∷ xs) ys e h = cc
 
 pub occurs : (front : List Use) (p : Place) (k : Kind) (e : Datum) (after : List Use) → entries_at p (front ++ use_at p k e ∷ after) ≡ [] → ⊥
-occurs front p k e after h = not_none (entries_at p front) (entries_at p after) e (ap (λ xs. entries_at p front ++ xs) (sym (entries_here p k e after)) ∙ sym (entries-append p front (use_at p k e ∷ after)) ∙ h)
+occurs front p k e after h =
+    not_none (entries_at p front) (entries_at p after) e (ap (λ xs. entries_at p front ++ xs) (sym (entries_here p k e after)) ∙ sym (entries-append p front (use_at p k e ∷ after)) ∙ h)
 
 -- how many entries a place has that is reached
 pub count_at : (s : ShapeTree) (d : Datum) (front : List Use) (p : Place) (k : Kind) (e : Datum) (after : List Use)
@@ -129,7 +130,8 @@ columns_decide s d e j hd he h =
           let dv = sym fv ∙ ap (λ x. fresh z (columns x)) p.is_v ∙ cv in
           let dw = sym fw ∙ ap (λ x. fresh z (columns x)) p.is_w ∙ cw in
           let g : GroundedBy z p.place =
-          grounded_at (λ q. false) z p.front (use_at p.place p.kind p.e) p.after_v (λ q k. absurd (let m : false ≡ true = k in cc)) p.known (subst (GroundedWalk (λ q. false)) p.is_v (walk_grounded s [] d (λ q. false) tt)) in
+          grounded_at (λ q. false) z p.front (use_at p.place p.kind p.e) p.after_v (λ q k. absurd (let m : false ≡ true = k in cc)) p.known
+          (subst (GroundedWalk (λ q. false)) p.is_v (walk_grounded s [] d (λ q. false) tt)) in
           let n = count_at s d p.front p.place p.kind p.e p.after_v p.is_v in
           let m = count_at s e p.front p.place p.kind p.f p.after_w p.is_w in
           let pop = population_by z (λ q. entries_at q v) (λ q. entries_at q w) same p.place g in

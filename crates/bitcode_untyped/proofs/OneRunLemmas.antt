@@ -63,7 +63,8 @@ module _ {S : Type 0} (T : S → Use → S → Type 0) (takes_one : TakesOne T) 
         let h = takes_one a r.0 s.0 p length_kind _ _ r.1 s.1 in
         let e = same_number _ _ h.0 in
         let k =
-        one_run_each (IsOf t) (walk t (element ∷ p)) (one_run t (element ∷ p)) (elements_in x) (elements_in y) r.0 b c e px.1 py.1 r.2 (subst (λ z. Runs T z (flat_map (walk t (element ∷ p)) (elements_in y)) c) (sym h.1) s.2) in
+        one_run_each (IsOf t) (walk t (element ∷ p)) (one_run t (element ∷ p)) (elements_in x) (elements_in y) r.0 b c e px.1 py.1 r.2
+        (subst (λ z. Runs T z (flat_map (walk t (element ∷ p)) (elements_in y)) c) (sym h.1) s.2) in
         (list_by_parts x y px.0 py.0 k.0, k.1)
     one_run (map_tree t v) p x y a b c px py r s =
         let h = takes_one a r.0 s.0 p length_kind _ _ r.1 s.1 in
@@ -96,7 +97,8 @@ module _ {S : Type 0} (T : S → Use → S → Type 0) (takes_one : TakesOne T) 
     one_run_fields (tree_and t ts) at i (datum_and x xs) no_data a b c px py r s = absurd py
     one_run_fields (tree_and t ts) at i (datum_and x xs) (datum_and y ys) a b c px py r s =
         let q =
-        one_run_then (IsOf t) (AreOf ts) (walk t (at i)) (walk_fields ts at (i + 1)) (one_run t (at i)) (one_run_fields ts at (i + 1)) first_of rest_of (datum_and x xs) (datum_and y ys) a b c px.0 px.1 py.0 py.1 r s in
+        one_run_then (IsOf t) (AreOf ts) (walk t (at i)) (walk_fields ts at (i + 1)) (one_run t (at i)) (one_run_fields ts at (i + 1)) first_of rest_of (datum_and x xs)
+        (datum_and y ys) a b c px.0 px.1 py.0 py.1 r s in
         let h : x ≡ y = q.0 in
         let k : xs ≡ ys = q.1 in
         (cc, q.2)

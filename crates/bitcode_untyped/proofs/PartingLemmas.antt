@@ -147,12 +147,15 @@ module _ (z : Place → Bool) where
     one_way never_tree p x y t u px py a = absurd px
     one_way (leaf_tree k allowed) p x y t u px py a = one_way_first p k x y [] [] t u _ a (λ e b. inl (tt, e))
     one_way (seq_tree s) p x y t u px py a =
-        one_way_first p length_kind _ _ _ _ t u _ a (λ e b. outcome_if _ _ _ _ (list_by_parts x y px.0 py.0) (one_way_each (IsOf s) (walk s (element ∷ p)) (one_way s (element ∷ p)) (elements_in x) (elements_in y) t u (same_number _ _ e) px.1 py.1 b))
+        one_way_first p length_kind _ _ _ _ t u _ a (λ e b. outcome_if _ _ _ _ (list_by_parts x y px.0 py.0)
+        (one_way_each (IsOf s) (walk s (element ∷ p)) (one_way s (element ∷ p)) (elements_in x) (elements_in y) t u (same_number _ _ e) px.1 py.1 b))
     one_way (map_tree s v) p x y t u px py a =
         let f : Datum → List Use = λ d. walk s (key ∷ p) (first_in d) ++ walk v (value ∷ p) (second_in d) in
         let one : OneWay z (IsPair (IsOf s) (IsOf v)) f = λ d d' t' u' pd pd' a'.
-        outcome_if _ _ _ _ (λ (h : (first_in d ≡ first_in d') × (second_in d ≡ second_in d')). pair_by_parts d d' pd.0 pd'.0 h.0 h.1) (one_way_then (IsOf s) (IsOf v) (walk s (key ∷ p)) (walk v (value ∷ p)) (one_way s (key ∷ p)) (one_way v (value ∷ p)) first_in second_in d d' t' u' pd.1 pd.2 pd'.1 pd'.2 a') in
-        one_way_first p length_kind _ _ _ _ t u _ a (λ e b. outcome_if _ _ _ _ (list_by_parts x y px.0 py.0) (one_way_each (IsPair (IsOf s) (IsOf v)) f one (elements_in x) (elements_in y) t u (same_number _ _ e) px.1 py.1 b))
+        outcome_if _ _ _ _ (λ (h : (first_in d ≡ first_in d') × (second_in d ≡ second_in d')). pair_by_parts d d' pd.0 pd'.0 h.0 h.1)
+        (one_way_then (IsOf s) (IsOf v) (walk s (key ∷ p)) (walk v (value ∷ p)) (one_way s (key ∷ p)) (one_way v (value ∷ p)) first_in second_in d d' t' u' pd.1 pd.2 pd'.1 pd'.2 a') in
+        one_way_first p length_kind _ _ _ _ t u _ a (λ e b. outcome_if _ _ _ _ (list_by_parts x y px.0 py.0)
+        (one_way_each (IsPair (IsOf s) (IsOf v)) f one (elements_in x) (elements_in y) t u (same_number _ _ e) px.1 py.1 b))
     one_way (tuple_tree ss) p x y t u px py a =
         outcome_if _ _ _ _ (tuple_by_parts x y px.0 py.0) (one_way_fields ss (field_place ss p) 0 (fields_in x) (fields_in y) t u px.1 py.1 a)
     one_way (choice_tree ss) p x y t u px py a =
@@ -162,7 +165,8 @@ module _ (z : Place → Bool) where
         let b' =
         subst (λ j. Agree z (walk_variant ss (variant_in x) (variant (variant_in x) ∷ p) (payload_in x) ++ t) (walk_variant ss j (variant j ∷ p) (payload_in y) ++ u)) (sym i) b in
         let o = one_way_variant ss (variant_in x) (variant (variant_in x) ∷ p) (payload_in x) (payload_in y) t u px.2 py' b' in
-        outcome_if _ _ _ _ (λ k. choice_by_parts x y px.0 py.0 i k) (subst (λ j. Outcome z (walk_variant ss (variant_in x) (variant (variant_in x) ∷ p) (payload_in x)) (walk_variant ss j (variant j ∷ p) (payload_in y)) (payload_in x ≡ payload_in y)) i o))
+        outcome_if _ _ _ _ (λ k. choice_by_parts x y px.0 py.0 i k)
+        (subst (λ j. Outcome z (walk_variant ss (variant_in x) (variant (variant_in x) ∷ p) (payload_in x)) (walk_variant ss j (variant j ∷ p) (payload_in y)) (payload_in x ≡ payload_in y)) i o))
 
     pub one_way_fields : (ss : ShapeTrees) (at : ℕ → Place) (i : ℕ) → OneWay z (AreOf ss) (walk_fields ss at i)
     one_way_fields no_trees at i no_data no_data t u px py a = inl (tt, refl)
@@ -171,7 +175,9 @@ module _ (z : Place → Bool) where
     one_way_fields (tree_and s ss) at i no_data ys t u px py a = absurd px
     one_way_fields (tree_and s ss) at i (datum_and x xs) no_data t u px py a = absurd py
     one_way_fields (tree_and s ss) at i (datum_and x xs) (datum_and y ys) t u px py a =
-        outcome_if _ _ _ _ (λ (h : (x ≡ y) × (xs ≡ ys)). let hx : x ≡ y = h.0 in let hs : xs ≡ ys = h.1 in let r : datum_and x xs ≡ datum_and y ys = cc in r) (one_way_then (IsOf s) (AreOf ss) (walk s (at i)) (walk_fields ss at (i + 1)) (one_way s (at i)) (one_way_fields ss at (i + 1)) first_of rest_of (datum_and x xs) (datum_and y ys) t u px.0 px.1 py.0 py.1 a)
+        outcome_if _ _ _ _ (λ (h : (x ≡ y) × (xs ≡ ys)). let hx : x ≡ y = h.0 in let hs : xs ≡ ys = h.1 in let r : datum_and x xs ≡ datum_and y ys = cc in r)
+        (one_way_then (IsOf s) (AreOf ss) (walk s (at i)) (walk_fields ss at (i + 1)) (one_way s (at i)) (one_way_fields ss at (i + 1)) first_of rest_of (datum_and x xs)
+        (datum_and y ys) t u px.0 px.1 py.0 py.1 a)
 
     pub one_way_variant : (ss : ShapeTrees) (i : ℕ) (p : Place) → OneWay z (IsOfVariant ss i) (walk_variant ss i p)
     one_way_variant no_trees i p x y t u px py a = absurd px

@@ -99,14 +99,19 @@ variants_at ts p q j u (d ∷ ds) =
     let both : entries_at q (flat_map (walk (choice_tree ts) p) (d ∷ ds)) ≡ entries_at q w ++ entries_at q (flat_map (walk (tree_at ts j) (variant j ∷ p)) (chosen j ds)) =
     entries-append q (walk (choice_tree ts) p d) (flat_map (walk (choice_tree ts) p) ds) ∙ rw (first, later) refl in
     elim (cases_Bool (i == j)) [
-      | inl h ↦ both ∙ rw h (subst (λ z. entries_at q (walk (tree_at ts z) (variant z ∷ p) (payload_in d)) ++ entries_at q (flat_map (walk (tree_at ts j) (variant j ∷ p)) (chosen j ds)) ≡ entries_at q (walk (tree_at ts j) (variant j ∷ p) (payload_in d) ++ flat_map (walk (tree_at ts j) (variant j ∷ p)) (chosen j ds))) (sym (eqb-true i j h)) (sym (entries-append q (walk (tree_at ts j) (variant j ∷ p) (payload_in d)) _)))
+      | inl h ↦ both ∙ rw h
+          (subst (λ z. entries_at q (walk (tree_at ts z) (variant z ∷ p) (payload_in d)) ++ entries_at q (flat_map (walk (tree_at ts j) (variant j ∷ p)) (chosen j ds))
+          ≡ entries_at q (walk (tree_at ts j) (variant j ∷ p) (payload_in d) ++ flat_map (walk (tree_at ts j) (variant j ∷ p)) (chosen j ds))) (sym (eqb-true i j h))
+          (sym (entries-append q (walk (tree_at ts j) (variant j ∷ p) (payload_in d)) _)))
       | inr h ↦ both ∙ rw h (rw (apart_none (tree_at ts i) (variant i ∷ p) (payload_in d) q (apart_beside (variant j) (variant i) p q (λ e. eqb-false i j h (sym (same_variant j i e))) u)) refl)
     ]
 
 -- Where the columns below p are those of data at p, and there are as many data as the columns above say, each
 -- column of the shape has as many entries as the columns above it say.
 abbrev pub Populated : ShapeTree → Type 0
-Populated s = (p : Place) (M : Place → List Datum) (ds : List Datum) → population M p ≡ length ds → ((q : Place) → Under p q → M q ≡ entries_at q (flat_map (walk s p) ds)) → (q : Place) → Hosts s p q → length (M q) ≡ population M q
+Populated s =
+    (p : Place) (M : Place → List Datum) (ds : List Datum) → population M p ≡ length ds → ((q : Place) → Under p q → M q ≡ entries_at q (flat_map (walk s p) ds))
+    → (q : Place) → Hosts s p q → length (M q) ≡ population M q
 
 abbrev pub Known : (Place → List Datum) → ShapeTree → Place → List Datum → Type 0
 Known M s p ds = (q : Place) → Under p q → M q ≡ entries_at q (flat_map (walk s p) ds)
@@ -147,7 +152,9 @@ value_not_key e = cc
 pub populated_single : (t : ShapeTree) → Populated t → (p : Place) (M : Place → List Datum) (ds : List Datum) → population M p ≡ length ds
     → Known M (tuple_tree (tree_and t no_trees)) p ds → (q : Place) (j : ℕ) → HostsAt (tree_and t no_trees) j p q → length (M q) ≡ population M q
 populated_single t one p M ds n known q zero h =
-    one p M (map (λ d. first_in d) ds) (n ∙ sym (length-map ds (λ d. first_in d))) (λ r u. known r u ∙ entries_ext r (λ d. walk t p (first_in d) ++ []) (λ d. walk t p (first_in d)) (λ d. only_first r _ [] refl) ds ∙ ap (λ w. entries_at r w) (sym (flat_map-map (walk t p) (λ d. first_in d) ds))) q h
+    one p M (map (λ d. first_in d) ds) (n ∙ sym (length-map ds (λ d. first_in d)))
+    (λ r u. known r u ∙ entries_ext r (λ d. walk t p (first_in d) ++ []) (λ d. walk t p (first_in d)) (λ d. only_first r _ [] refl) ds ∙ ap (λ w. entries_at r w)
+    (sym (flat_map-map (walk t p) (λ d. first_in d) ds))) q h
 populated_single t one p M ds n known q (suc j) h = absurd h
 
 pub populated_tuple : (ts : ShapeTrees) → ((j : ℕ) → Populated (tree_at ts j)) → Populated (tuple_tree ts)
@@ -157,7 +164,9 @@ populated_tuple (tree_and t (tree_and u us)) each p M ds n known q h =
     let j = h.0 in
     let ts : ShapeTrees = tree_and t (tree_and u us) in
     let at_field : Known M (tree_at ts j) (field j ∷ p) (map (λ d. field_at (fields_in d) j) ds) =
-    λ r w. known r (under_step (field j) p r w) ∙ entries_ext r (λ d. walk_fields ts (λ z. field z ∷ p) 0 (fields_in d)) (λ d. walk (tree_at ts j) (field j ∷ p) (field_at (fields_in d) j)) (λ d. fields_at ts p r 0 j j (fields_in d) (omega arith) w) ds ∙ ap (λ w. entries_at r w) (sym (flat_map-map (walk (tree_at ts j) (field j ∷ p)) (λ d. field_at (fields_in d) j) ds)) in
+    λ r w. known r (under_step (field j) p r w) ∙ entries_ext r (λ d. walk_fields ts (λ z. field z ∷ p) 0 (fields_in d))
+    (λ d. walk (tree_at ts j) (field j ∷ p) (field_at (fields_in d) j)) (λ d. fields_at ts p r 0 j j (fields_in d) (omega arith) w) ds ∙ ap (λ w. entries_at r w)
+    (sym (flat_map-map (walk (tree_at ts j) (field j ∷ p)) (λ d. field_at (fields_in d) j) ds)) in
     each j (field j ∷ p) M (map (λ d. field_at (fields_in d) j) ds) (n ∙ sym (length-map ds (λ d. field_at (fields_in d) j))) at_field q (hosts_tree_at ts j (field j ∷ p) q h.1)
 
 mutual
@@ -168,26 +177,35 @@ mutual
       let own = own_column M p k (λ x. x) (λ x. []) ds (λ x. refl) n (known p ([], refl)) in own.1 q h
   populated (seq_tree t) p M ds n known q (inl h) =
       let own =
-      own_column M p length_kind length_entry (λ x. flat_map (walk t (element ∷ p)) (elements_in x)) ds (λ x. none_each p (walk t (element ∷ p)) (λ y. apart_none t (element ∷ p) y p (apart_above element p)) (elements_in x)) n (known p ([], refl)) in own.1 q h
+      own_column M p length_kind length_entry (λ x. flat_map (walk t (element ∷ p)) (elements_in x)) ds
+      (λ x. none_each p (walk t (element ∷ p)) (λ y. apart_none t (element ∷ p) y p (apart_above element p)) (elements_in x)) n (known p ([], refl)) in own.1 q h
   populated (seq_tree t) p M ds n known q (inr h) =
       let own =
-      own_column M p length_kind length_entry (λ x. flat_map (walk t (element ∷ p)) (elements_in x)) ds (λ x. none_each p (walk t (element ∷ p)) (λ y. apart_none t (element ∷ p) y p (apart_above element p)) (elements_in x)) n (known p ([], refl)) in
+      own_column M p length_kind length_entry (λ x. flat_map (walk t (element ∷ p)) (elements_in x)) ds
+      (λ x. none_each p (walk t (element ∷ p)) (λ y. apart_none t (element ∷ p) y p (apart_above element p)) (elements_in x)) n (known p ([], refl)) in
       let m : total (M p) ≡ length (flat_map elements_in ds) = ap total own.0 ∙ total_lengths ds in
       let below : Known M t (element ∷ p) (flat_map elements_in ds) =
-      λ r u. known r (under_step element p r u) ∙ skip_heads r p length_kind length_entry (λ x. flat_map (walk t (element ∷ p)) (elements_in x)) ds (under_not_above element p r u) ∙ ap (λ w. entries_at r w) (flat_map_flat (walk t (element ∷ p)) elements_in ds) in
+      λ r u. known r (under_step element p r u) ∙ skip_heads r p length_kind length_entry (λ x. flat_map (walk t (element ∷ p)) (elements_in x)) ds
+      (under_not_above element p r u) ∙ ap (λ w. entries_at r w) (flat_map_flat (walk t (element ∷ p)) elements_in ds) in
       populated t (element ∷ p) M (flat_map elements_in ds) m below q h
   populated (map_tree t v) p M ds n known q h =
       let f : Datum → List Use = λ e. walk t (key ∷ p) (first_in e) ++ walk v (value ∷ p) (second_in e) in
       let own =
-      own_column M p length_kind length_entry (λ x. flat_map f (elements_in x)) ds (λ x. none_each p f (λ y. none_both p _ _ (apart_none t (key ∷ p) (first_in y) p (apart_above key p)) (apart_none v (value ∷ p) (second_in y) p (apart_above value p))) (elements_in x)) n (known p ([], refl)) in
+      own_column M p length_kind length_entry (λ x. flat_map f (elements_in x)) ds
+      (λ x. none_each p f (λ y. none_both p _ _ (apart_none t (key ∷ p) (first_in y) p (apart_above key p))
+      (apart_none v (value ∷ p) (second_in y) p (apart_above value p))) (elements_in x)) n (known p ([], refl)) in
       let es = flat_map elements_in ds in
       let m : total (M p) ≡ length es = ap total own.0 ∙ total_lengths ds in
       let flat : (r : Place) → Under p r → (r ≡ p → ⊥) → M r ≡ entries_at r (flat_map f es) =
       λ r u a. known r u ∙ skip_heads r p length_kind length_entry (λ x. flat_map f (elements_in x)) ds a ∙ ap (λ w. entries_at r w) (flat_map_flat f elements_in ds) in
       let at_keys : Known M t (key ∷ p) (map first_in es) =
-      λ r u. flat r (under_step key p r u) (under_not_above key p r u) ∙ entries_ext r f (λ e. walk t (key ∷ p) (first_in e)) (λ e. only_first r _ _ (apart_none v (value ∷ p) (second_in e) r (apart_beside key value p r key_not_value u))) es ∙ ap (λ w. entries_at r w) (sym (flat_map-map (walk t (key ∷ p)) first_in es)) in
+      λ r u. flat r (under_step key p r u) (under_not_above key p r u) ∙ entries_ext r f (λ e. walk t (key ∷ p) (first_in e))
+      (λ e. only_first r _ _ (apart_none v (value ∷ p) (second_in e) r (apart_beside key value p r key_not_value u))) es ∙ ap (λ w. entries_at r w)
+      (sym (flat_map-map (walk t (key ∷ p)) first_in es)) in
       let at_values : Known M v (value ∷ p) (map second_in es) =
-      λ r u. flat r (under_step value p r u) (under_not_above value p r u) ∙ entries_ext r f (λ e. walk v (value ∷ p) (second_in e)) (λ e. only_second r _ _ (apart_none t (key ∷ p) (first_in e) r (apart_beside value key p r value_not_key u))) es ∙ ap (λ w. entries_at r w) (sym (flat_map-map (walk v (value ∷ p)) second_in es)) in
+      λ r u. flat r (under_step value p r u) (under_not_above value p r u) ∙ entries_ext r f (λ e. walk v (value ∷ p) (second_in e))
+      (λ e. only_second r _ _ (apart_none t (key ∷ p) (first_in e) r (apart_beside value key p r value_not_key u))) es ∙ ap (λ w. entries_at r w)
+      (sym (flat_map-map (walk v (value ∷ p)) second_in es)) in
       elim h [
         | inl e ↦ own.1 q e
         | inr (inl k) ↦ populated t (key ∷ p) M (map first_in es) (m ∙ sym (length-map es first_in)) at_keys q k
@@ -196,10 +214,13 @@ mutual
   populated (tuple_tree ts) p M ds n known q h = populated_tuple ts (populated_at ts) p M ds n known q h
   populated (choice_tree ts) p M ds n known q h =
       let own =
-      own_column M p index_kind variant_entry (λ x. walk_variant ts (variant_in x) (variant (variant_in x) ∷ p) (payload_in x)) ds (λ x. ap (λ w. entries_at p w) (walk_variant_at ts (variant_in x) (variant (variant_in x) ∷ p) (payload_in x)) ∙ apart_none (tree_at ts (variant_in x)) (variant (variant_in x) ∷ p) (payload_in x) p (apart_above (variant (variant_in x)) p)) n (known p ([], refl)) in
+      own_column M p index_kind variant_entry (λ x. walk_variant ts (variant_in x) (variant (variant_in x) ∷ p) (payload_in x)) ds
+      (λ x. ap (λ w. entries_at p w) (walk_variant_at ts (variant_in x) (variant (variant_in x) ∷ p) (payload_in x)) ∙ apart_none (tree_at ts (variant_in x))
+      (variant (variant_in x) ∷ p) (payload_in x) p (apart_above (variant (variant_in x)) p)) n (known p ([], refl)) in
       elim h [
         | inl e ↦ own.1 q e
-        | inr k ↦ populated_at ts k.0 (variant k.0 ∷ p) M (chosen k.0 ds) (ap (count_of k.0) own.0 ∙ count_chosen k.0 ds) (λ r u. known r (under_step (variant k.0) p r u) ∙ variants_at ts p r k.0 u ds) q (hosts_tree_at ts k.0 (variant k.0 ∷ p) q k.1)
+        | inr k ↦ populated_at ts k.0 (variant k.0 ∷ p) M (chosen k.0 ds) (ap (count_of k.0) own.0 ∙ count_chosen k.0 ds)
+            (λ r u. known r (under_step (variant k.0) p r u) ∙ variants_at ts p r k.0 u ds) q (hosts_tree_at ts k.0 (variant k.0 ∷ p) q k.1)
       ]
 
   pub populated_at : (ts : ShapeTrees) (j : ℕ) → Populated (tree_at ts j)

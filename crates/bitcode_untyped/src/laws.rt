@@ -1,6 +1,7 @@
 // What holds of untyped data and of the bytes that spell them. A call does nothing: its contract is the law.
 ghost use Rattle.bitcode_untyped.specs.ShapeTree.{ShapeTree, IsSound};
 ghost use Rattle.bitcode_untyped.specs.View.{tree_of};
+ghost use Rattle.bitcode_untyped.specs.Content.{DatumDecides};
 ghost use Rattle.bitcode_untyped.specs.declared.shape.Shape.{Shape};
 ghost use Rattle.bitcode_untyped.specs.Laws.{ColumnsDecide, SpellsOnce, DatumTakesAnEighth, ElementsAreBounded, ReadsBackDatum};
 
@@ -34,4 +35,13 @@ pub fn spelled_data()
 /// ```
 pub fn every_shape()
     ensures { (shape : Shape) → IsSound (tree_of shape) }
+{}
+
+/// A value of a shape is known by its datum: two values of one shape with one datum have the same cases, and hold the same.
+///
+/// ```
+/// one_value_of_a_datum();
+/// ```
+pub fn one_value_of_a_datum()
+    ensures { (shape : Shape) → DatumDecides shape }
 {}

@@ -1,20 +1,13 @@
 // What a writer keeps.
 #![tactic(auto)]
 
-ghost use Rattle.std.specs.Prelude.{◌≤◌, length, All};
-ghost use Rattle.bitcode_serde.specs.Reading.{AreApart};
-ghost use Rattle.bitcode_serde.specs.WrittenPlaces.{met, LieBelow};
+ghost use Rattle.std.specs.Prelude.{◌≤◌, length, map, All};
+ghost use Rattle.std.proofs.Props.{props};
+ghost use Rattle.bitcode_serde.specs.Links.{AreFiled};
 
-use crate::reader::Step;
+use crate::places::Places;
 use crate::written::WrittenColumn;
 use std::alloc::Global;
-
-/// A place below another.
-#[derive(Clone, Copy)]
-pub struct WrittenPlace {
-    pub(crate) above: usize,
-    pub(crate) step: Step,
-}
 
 /// A column, and the number of its place.
 #[derive(Drop)]
@@ -23,16 +16,13 @@ pub struct PlacedWritten {
     pub(crate) column: WrittenColumn,
 }
 
-/// The columns so far.
-///
-/// Places are numbered as they are met: 0 is the root, and each other lies below one before it.
+/// The columns so far, and the places that were met.
 #[derive(Drop)]
 pub struct Writer {
     pub(crate) alloc: Global,
-    pub(crate) below: Vec<WrittenPlace>,
+    pub(crate) places: Places,
     pub(crate) columns: Vec<PlacedWritten>,
 
-    ghost below_others: { LieBelow below.items },
-    ghost apart: { AreApart (met below.items) },
-    ghost inside: { All (λ c. c.place ≤ length below.items) columns.items },
+    ghost inside: { All (λ c. c.place ≤ length places.below.items) columns.items },
+    ghost filed: { AreFiled places.links.items (map (λ c. c.place) columns.items) } by { Prim.hlevel props },
 }

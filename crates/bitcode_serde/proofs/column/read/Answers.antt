@@ -7,3 +7,8 @@ pub returns-in_err-populate-clause-refused : goal.returns-in_err-populate-clause
 returns-in_err-populate-clause-refused g c =
     let y = err_from_is_err_and c.from_residual.result c.from_residual.ensures.1 in
     passed_on (λ e. IsReadingRefusal g.D.HoldsData.shape e.reason c.args.count c.args.input.now.now) c.from_residual.result c.in_err-populate.field-0.0 y.0 y.1 y.2 c.in_err-populate.ensures.refused
+
+pub returns-in_err-populate-clause-exact : goal.returns-in_err-populate-clause-exact
+returns-in_err-populate-clause-exact g c =
+    let y = err_from_is_err_and c.from_residual.result c.from_residual.ensures.1 in
+    passed_on (λ e. g.D.View.faults e.reason c.args.count c.args.input.now.now) c.from_residual.result c.in_err-populate.field-0.0 y.0 y.1 y.2 c.in_err-populate.ensures.exact

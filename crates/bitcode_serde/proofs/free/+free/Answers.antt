@@ -23,7 +23,8 @@ are_free-is_free-requires t c =
 pub is_free-is_free-requires : goal.is_free-is_free-requires
 is_free-is_free-requires t c =
     let h : 0 < c.args.left = omega arith in
-    let d = reference_falls c.args.left c.args.table.now c.in-Ref.i 0 c.in-Some.entry.now (found_entry c.args.table.now c.in-Ref.i c.in-Some.entry.now c.in-Some.ensures.lookup.3.0 (c.in-Some.ensures.lookup.3.1 c.in-Some.entry.now)) h in
+    let d = reference_falls c.args.left c.args.table.now c.in-Ref.i 0 c.in-Some.entry.now
+    (found_entry c.args.table.now c.in-Ref.i c.in-Some.entry.now c.in-Some.ensures.lookup.3.0 (c.in-Some.ensures.lookup.3.1 c.in-Some.entry.now)) h in
     search (rules, d)
 
 pub is_free-returns-then-left-eq0 : goal.is_free-returns-then-left-eq0
@@ -40,7 +41,8 @@ pub is_free-returns-in-Some : goal.is_free-returns-in-Some
 is_free-returns-in-Some t c =
     let left : 0 < c.args.left = omega arith in
     let e = followed_one c.args.left c.args.table.now c.in-Ref.i left in
-    let a = entry_there (followed (c.args.left - 1) c.args.table.now) c.args.table.now c.in-Ref.i c.in-Some.entry.now (found_entry c.args.table.now c.in-Ref.i c.in-Some.entry.now c.in-Some.ensures.lookup.3.0 (c.in-Some.ensures.lookup.3.1 c.in-Some.entry.now)) in
+    let a = entry_there (followed (c.args.left - 1) c.args.table.now) c.args.table.now c.in-Ref.i c.in-Some.entry.now
+    (found_entry c.args.table.now c.in-Ref.i c.in-Some.entry.now c.in-Some.ensures.lookup.3.0 (c.in-Some.ensures.lookup.3.1 c.in-Some.entry.now)) in
     rw (c.in-Ref.is, tree-Ref, e, a) c.is_free.ensures
 
 pub is_free-returns-in-Tuple : goal.is_free-returns-in-Tuple

@@ -5,6 +5,7 @@ use Rattle.bitcode_coder.specs.Spelling.{natural}
 use Rattle.bitcode_untyped.specs.Reads.{ReadsNoDatum}
 use Rattle.bitcode_untyped.specs.ShapeTree.{natural_tree, seq_tree}
 use Rattle.bitcode_untyped.specs.Walk.{length_kind}
+use Rattle.bitcode_untyped.proofs.FaultLemmas.{faults-Bytes}
 use Rattle.bitcode_untyped.proofs.ReadLemmas.{seq_stuck_length}
 use Rattle.bitcode_untyped.proofs.ViewLemmas.{datum-Bytes}
 use Rattle.bitcode_serde.specs.ReadingValues.{IsRefusalAt}
@@ -30,7 +31,8 @@ returns-in_err-bytes-clause-refused c =
 pub returns-clause-continues : goal.returns-clause-continues
 returns-clause-continues c =
     continues_on c.args.reader.now c.step.new.self _
-    (continues_stepped c.args.reader.now c.take_length.new.self c.step.new.self c.take_length.ensures.below c.in_ok-taken.ensures.sized c.step.ensures.columns c.in_ok-elements.ensures.rooted c.in_ok-elements.ensures.kept)
+    (continues_stepped c.args.reader.now c.take_length.new.self c.step.new.self c.take_length.ensures.below c.in_ok-taken.ensures.sized c.step.ensures.columns
+    c.in_ok-elements.ensures.kept)
     c.in_ok-bytes.ensures.continues
 
 pub returns-clause-read : goal.returns-clause-read
@@ -40,3 +42,6 @@ returns-clause-read c =
     rw (datum-Bytes c.in_ok-bytes.bytes)
     (seq_read_at (natural_tree 1) c.args.reader.now c.step.new.self _ c.args.place c.in_ok-elements.elements c.in_ok-taken.taken.length (map natural c.in_ok-bytes.bytes.items) enters
     (λ free. cc) c.in_ok-bytes.ensures.read)
+
+pub returns-clause-whole : goal.returns-clause-whole
+returns-clause-whole c = λ table left. faults-Bytes table left c.in_ok-bytes.bytes

@@ -6,6 +6,7 @@ use Rattle.bitcode_coder.specs.Spelling.{natural}
 use Rattle.bitcode_shapes.specs.Shape.{scalar}
 use Rattle.bitcode_untyped.specs.Reads.{ReadsNoDatum}
 use Rattle.bitcode_untyped.specs.ShapeTree.{char_tree}
+use Rattle.bitcode_untyped.proofs.FaultLemmas.{faults-Char}
 use Rattle.bitcode_untyped.proofs.ReadLemmas.{leaf_stuck, leaf_refused}
 use Rattle.bitcode_serde.specs.ReadingValues.{IsRefusalAt}
 use Rattle.bitcode_serde.proofs.ColumnLemmas.{passed_on}
@@ -27,3 +28,6 @@ returns-in-None-clause-refused c =
           let l = led_at c.args.reader.now c.take_code.new.self c.args.place (ints 4 false) (natural code) c.in_ok-code.ensures.leads p at a s in
           leaf_refused (ints 4 false) scalar p a (natural code) l.0 l.2.0 c.in-None.ensures.value,
     )
+
+pub returns-in-Some-clause-whole : goal.returns-in-Some-clause-whole
+returns-in-Some-clause-whole c = λ table left. faults-Char table left c.in-Some.c

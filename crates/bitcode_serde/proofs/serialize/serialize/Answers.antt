@@ -9,8 +9,9 @@ use Rattle.bitcode_untyped.specs.Spelling.{datum_text, SpellsDatum}
 use Rattle.bitcode_untyped.specs.View.{datum_of, tree_of, tree_of_node}
 use Rattle.bitcode_serde.specs.Writing.{IsWriterReason}
 use Rattle.bitcode_serde.proofs.ColumnLemmas.{passed_on}
-use Rattle.bitcode_serde.proofs.WholeLemmas.{root_is, root_faults, whole_written, whole_refused, read_back}
-use Rattle.bitcode_serde.proofs.WritingLemmas.{if_ok, on_all}
+use Rattle.bitcode_serde.proofs.WholeLemmas.{root_is}
+use Rattle.bitcode_serde.proofs.WholeWritingLemmas.{root_faults, whole_written, whole_refused, read_back}
+use Rattle.bitcode_serde.proofs.OutcomeLemmas.{if_ok, on_all}
 use Rattle.bitcode_serde.proofs.WrittenLemmas.{if_err}
 use Rattle.bitcode_serde.proofs.serialize.serialize.Goals as goal
 
@@ -18,7 +19,7 @@ pub returns-in_err-write-clause-refused : goal.returns-in_err-write-clause-refus
 returns-in_err-write-clause-refused c =
     let y = err_from_is_err_and c.from_residual.result c.from_residual.ensures.1 in
     passed_on (λ e. IsWriterReason e.reason (value_faults c.args.shape.now c.args.value.now)) c.from_residual.result c.in_err-write.field-0.0 y.0 y.1 y.2
-    (rw (root_faults c.args.shape.now c.table-table.result.now c.root.result c.index-table-root.result c.table-table.ensures c.root.ensures c.index-table-root.is c.args.value.now) (whole_refused (tree_of_node 128 c.table-table.result.now c.index-table-root.result) c.new-writer.result (faults_of c.table-table.result.now c.args.value.now 128 c.index-table-root.result) _ c.new-writer.ensures.empty c.in_err-write.ensures.refused))
+    (rw (root_faults c.args.shape.now c.table-table.result.now c.root.result c.index-table-root.result c.args.value.now c.table-table.ensures c.root.ensures c.index-table-root.is) (whole_refused (tree_of_node 128 c.table-table.result.now c.index-table-root.result) c.new-writer.result (faults_of c.table-table.result.now c.args.value.now 128 c.index-table-root.result) _ c.new-writer.ensures.empty c.in_err-write.ensures.refused))
 
 pub returns-clause-written : goal.returns-clause-written
 returns-clause-written c =
@@ -34,7 +35,7 @@ returns-clause-of_shape c =
 
 pub returns-clause-whole : goal.returns-clause-whole
 returns-clause-whole c =
-    on_all (value_faults c.args.shape.now c.args.value.now ≡ []) c.collect.result (root_faults c.args.shape.now c.table-table.result.now c.root.result c.index-table-root.result c.table-table.ensures c.root.ensures c.index-table-root.is c.args.value.now ∙ c.in_ok-write.ensures.whole)
+    on_all (value_faults c.args.shape.now c.args.value.now ≡ []) c.collect.result (root_faults c.args.shape.now c.table-table.result.now c.root.result c.index-table-root.result c.args.value.now c.table-table.ensures c.root.ensures c.index-table-root.is ∙ c.in_ok-write.ensures.whole)
 
 pub returns-clause-back : goal.returns-clause-back
 returns-clause-back c =

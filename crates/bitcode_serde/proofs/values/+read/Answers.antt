@@ -1,19 +1,26 @@
 -- By the node, and by what was taken.
-use Rattle.std.proofs.Common.{rules, arith, ◌≡◌, ◌<◌, ◌-◌, length, map, refl, ap, subst}
+use Rattle.std.proofs.Common.{rules, arith, ◌≡◌, ◌<◌, ◌-◌, [], ◌++◌, length, map, refl, ap, subst, sym, ◌∙◌}
 use Rattle.std.proofs.lemmas.List.{map-append}
-use Rattle.std.proofs.lemmas.Result.{err_from_is_err_and}
+use Rattle.std.proofs.lemmas.Result.{err_from_is_err_and, IfOk-weaker}
 use Rattle.bitcode_shapes.specs.Datum.{unit, choice, pair}
+use Rattle.bitcode_untyped.specs.Faults.{faults_of}
 use Rattle.bitcode_untyped.specs.Population.{total, count_of}
 use Rattle.bitcode_untyped.specs.Reads.{ReadsNoDatum}
 use Rattle.bitcode_untyped.specs.ShapeTree.{unit_tree, seq_tree, map_tree, tuple_tree, choice_tree, no_trees, tree_and, tree_at}
 use Rattle.bitcode_untyped.specs.View.{datum_of, followed, tree_of_node, trees_of}
 use Rattle.bitcode_untyped.specs.Walk.{length_kind, index_kind}
+use Rattle.bitcode_untyped.specs.declared.shape.ShapeNode.TheVariants as node
+use Rattle.bitcode_untyped.specs.declared.value.Value.TheVariants as value
+use Rattle.bitcode_untyped.proofs.FaultLemmas.{faults-Unit, faults-Bool, faults-U8, faults-U16, faults-U32, faults-U64, faults-U128, faults-I8, faults-I16, faults-I32, faults-I64, faults-I128, faults-Str, faults-None, faults-Some, faults-Seq, faults-Map, faults-Tuple}
 use Rattle.bitcode_untyped.proofs.FollowedLemmas.{followed-zero, followed_one, entry_there, entry_away}
 use Rattle.bitcode_untyped.proofs.ReadLemmas.{never_read, seq_stuck_length, seq_over_limit, map_stuck_length, map_over_limit, choice_stuck_index}
 use Rattle.bitcode_untyped.proofs.ViewLemmas.{tree-Bool, tree-U8, tree-U16, tree-U32, tree-U64, tree-U128, tree-I8, tree-I16, tree-I32, tree-I64, tree-I128, tree-Char, tree-Str, tree-Bytes, tree-Option, tree-Seq, tree-Map, tree-Tuple, tree-Enum, tree-Ref, datum-None, datum-Some, datum-Seq, datum-Map, datum-Tuple, datum-Enum}
 use Rattle.bitcode_coder.specs.Spelling.{natural}
-use Rattle.bitcode_serde.specs.Reading.{places, place_at}
-use Rattle.bitcode_serde.specs.ReadingValues.{ReadsAt, ReadsListAt, IsRefusalAt, IsListRefusalAt}
+use Rattle.bitcode_serde.specs.ReadColumns.{IsCaseOf}
+use Rattle.bitcode_serde.specs.declared.column.ColumnKind.TheVariants as kind
+use Rattle.bitcode_serde.specs.Places.{places, place_at}
+use Rattle.bitcode_serde.specs.ReadingValues.{ReadsAt, ReadsListAt, IsRefusalAt, IsListRefusalAt, IsOfChar, IsOfBytes, IsOfOption, IsOfSeq, IsOfMap, IsOfTuple, IsOfEnum}
+use Rattle.bitcode_serde.proofs.CaseLemmas.{nothing, one_more_whole, of_case, one_more_field_whole, all_fields_whole, enum_whole, reference_whole}
 use Rattle.bitcode_serde.proofs.ColumnLemmas.{passed_on}
 use Rattle.bitcode_serde.proofs.DepthLemmas.{entry_deep, reference_falls}
 use Rattle.bitcode_serde.proofs.EntryLemmas.{found_entry, no_entry}
@@ -118,10 +125,12 @@ pub read-returns-in-Seq-clause-refused : goal.read-returns-in-Seq-clause-refused
 read-returns-in-Seq-clause-refused t c = rw (c.in-Seq.is, tree-Seq (followed c.args.left c.args.table.now) c.in-Seq.element, ← c.deref-in-Seq.ensures) c.read_seq.ensures.refused
 
 pub read-returns-in-Map-clause-read : goal.read-returns-in-Map-clause-read
-read-returns-in-Map-clause-read t c = rw (c.in-Map.is, tree-Map (followed c.args.left c.args.table.now) c.in-Map.key c.in-Map.value, ← c.deref-in-Map.ensures, ← c.deref-in-Map-2.ensures) c.read_map.ensures.read
+read-returns-in-Map-clause-read t c =
+    rw (c.in-Map.is, tree-Map (followed c.args.left c.args.table.now) c.in-Map.key c.in-Map.value, ← c.deref-in-Map.ensures, ← c.deref-in-Map-2.ensures) c.read_map.ensures.read
 
 pub read-returns-in-Map-clause-refused : goal.read-returns-in-Map-clause-refused
-read-returns-in-Map-clause-refused t c = rw (c.in-Map.is, tree-Map (followed c.args.left c.args.table.now) c.in-Map.key c.in-Map.value, ← c.deref-in-Map.ensures, ← c.deref-in-Map-2.ensures) c.read_map.ensures.refused
+read-returns-in-Map-clause-refused t c =
+    rw (c.in-Map.is, tree-Map (followed c.args.left c.args.table.now) c.in-Map.key c.in-Map.value, ← c.deref-in-Map.ensures, ← c.deref-in-Map-2.ensures) c.read_map.ensures.refused
 
 pub read-returns-in-Tuple-clause-read : goal.read-returns-in-Tuple-clause-read
 read-returns-in-Tuple-clause-read t c = rw (c.in-Tuple.is, tree-Tuple (followed c.args.left c.args.table.now) c.in-Tuple.nodes, ← c.deref-in-Tuple.ensures.value) c.read_tuple.ensures.read
@@ -138,7 +147,8 @@ read-returns-in-Enum-clause-refused t c = rw (c.in-Enum.is, tree-Enum (followed 
 pub read-read-requires : goal.read-read-requires
 read-read-requires t c =
     let h : 0 < c.args.left = omega arith in
-    let d = reference_falls c.args.left c.args.table.now c.in-Ref.i 0 c.in-Some.entry.now (found_entry c.args.table.now c.in-Ref.i c.in-Some.entry.now c.in-Some.ensures.lookup.3.0 (c.in-Some.ensures.lookup.3.1 c.in-Some.entry.now)) h in
+    let d = reference_falls c.args.left c.args.table.now c.in-Ref.i 0 c.in-Some.entry.now
+    (found_entry c.args.table.now c.in-Ref.i c.in-Some.entry.now c.in-Some.ensures.lookup.3.0 (c.in-Some.ensures.lookup.3.1 c.in-Some.entry.now)) h in
     search (rules, d)
 
 pub read-returns-then-left-eq0-clause-refused : goal.read-returns-then-left-eq0-clause-refused
@@ -150,14 +160,16 @@ pub read-returns-in-Some-clause-read : goal.read-returns-in-Some-clause-read
 read-returns-in-Some-clause-read t c =
     let left : 0 < c.args.left = omega arith in
     let e = followed_one c.args.left c.args.table.now c.in-Ref.i left in
-    let f = entry_there (followed (c.args.left - 1) c.args.table.now) c.args.table.now c.in-Ref.i c.in-Some.entry.now (found_entry c.args.table.now c.in-Ref.i c.in-Some.entry.now c.in-Some.ensures.lookup.3.0 (c.in-Some.ensures.lookup.3.1 c.in-Some.entry.now)) in
+    let f = entry_there (followed (c.args.left - 1) c.args.table.now) c.args.table.now c.in-Ref.i c.in-Some.entry.now
+    (found_entry c.args.table.now c.in-Ref.i c.in-Some.entry.now c.in-Some.ensures.lookup.3.0 (c.in-Some.ensures.lookup.3.1 c.in-Some.entry.now)) in
     rw (c.in-Ref.is, tree-Ref, e, f) c.read.ensures.read
 
 pub read-returns-in-Some-clause-refused : goal.read-returns-in-Some-clause-refused
 read-returns-in-Some-clause-refused t c =
     let left : 0 < c.args.left = omega arith in
     let e = followed_one c.args.left c.args.table.now c.in-Ref.i left in
-    let f = entry_there (followed (c.args.left - 1) c.args.table.now) c.args.table.now c.in-Ref.i c.in-Some.entry.now (found_entry c.args.table.now c.in-Ref.i c.in-Some.entry.now c.in-Some.ensures.lookup.3.0 (c.in-Some.ensures.lookup.3.1 c.in-Some.entry.now)) in
+    let f = entry_there (followed (c.args.left - 1) c.args.table.now) c.args.table.now c.in-Ref.i c.in-Some.entry.now
+    (found_entry c.args.table.now c.in-Ref.i c.in-Some.entry.now c.in-Some.ensures.lookup.3.0 (c.in-Some.ensures.lookup.3.1 c.in-Some.entry.now)) in
     rw (c.in-Ref.is, tree-Ref, e, f) c.read.ensures.refused
 
 pub read-returns-in-None-clause-refused : goal.read-returns-in-None-clause-refused
@@ -176,16 +188,20 @@ read_elements-read-requires t c =
 
 pub read_elements-returns-in_err-value-clause-refused : goal.read_elements-returns-in_err-value-clause-refused
 read_elements-returns-in_err-value-clause-refused t c =
+    let tree = tree_of_node c.args.left c.args.table.now c.args.node.now in
     let y = err_from_is_err_and c.from_residual.result c.from_residual.ensures.1 in
     let lt : c.loop-i._i < c.args.count = omega arith in
-    passed_on (λ e. IsListRefusalAt (tree_of_node c.args.left c.args.table.now c.args.node.now) c.args.place c.args.reader.now c.args.count e.reason) c.from_residual.result c.in_err-value.field-0.0 y.0 y.1 y.2
-    (list_stuck (tree_of_node c.args.left c.args.table.now c.args.node.now) c.args.place c.args.reader.now c.loop-i.reader c.loop-i._i c.args.count _ _ c.loop-i.invariant.0 c.loop-i.invariant.1 lt c.in_err-value.ensures.refused)
+    passed_on (λ e. IsListRefusalAt tree c.args.place c.args.reader.now c.args.count e.reason) c.from_residual.result c.in_err-value.field-0.0 y.0 y.1 y.2
+    (list_stuck tree c.args.place c.args.reader.now c.loop-i.reader c.loop-i._i c.args.count _ _ c.loop-i.invariant.0 c.loop-i.invariant.1 lt c.in_err-value.ensures.refused)
 
 pub read_elements-loop-i-preserved : goal.read_elements-loop-i-preserved
 read_elements-loop-i-preserved t c = (
   continues_on c.args.reader.now c.loop-i.reader c.read.new.reader c.loop-i.invariant.0 c.in_ok-value.ensures.continues,
   rw (c.in_ok-push.ensures.items, map-append)
-      (one_more (tree_of_node c.args.left c.args.table.now c.args.node.now) c.args.place c.args.reader.now c.loop-i.reader c.read.new.reader c.loop-i._i _ (datum_of c.in_ok-value.value) c.loop-i.invariant.0 c.loop-i.invariant.1 c.in_ok-value.ensures.read),
+      (one_more (tree_of_node c.args.left c.args.table.now c.args.node.now) c.args.place c.args.reader.now c.loop-i.reader c.read.new.reader c.loop-i._i _
+      (datum_of c.in_ok-value.value) c.loop-i.invariant.0 c.loop-i.invariant.1 c.in_ok-value.ensures.read),
+  rw c.in_ok-push.ensures.items
+      (one_more_whole (λ v. faults_of c.args.table.now v c.args.left c.args.node.now) c.loop-i.values.items c.in_ok-value.value c.loop-i.invariant.2 c.in_ok-value.ensures.whole),
 )
 
 pub read_elements-returns-clause-read : goal.read_elements-returns-clause-read
@@ -195,22 +211,25 @@ read_elements-returns-clause-read t c =
 
 pub read_seq-returns-in_err-taken-clause-refused : goal.read_seq-returns-in_err-taken-clause-refused
 read_seq-returns-in_err-taken-clause-refused t c =
+    let tree = tree_of_node c.args.left c.args.table.now c.args.node.now in
     let y = err_from_is_err_and c.from_residual.result c.from_residual.ensures.1 in
-    passed_on (λ e. IsRefusalAt (seq_tree (tree_of_node c.args.left c.args.table.now c.args.node.now)) c.args.place c.args.reader.now e.reason) c.from_residual.result c.in_err-taken.field-0.0 y.0 y.1 y.2
-    (refused_entry c.args.reader.now c.args.place length_kind (ReadsNoDatum (seq_tree (tree_of_node c.args.left c.args.table.now c.args.node.now))) _ (λ p a stuck. seq_stuck_length (tree_of_node c.args.left c.args.table.now c.args.node.now) p a stuck) c.in_err-taken.ensures.refused)
+    passed_on (λ e. IsRefusalAt (seq_tree tree) c.args.place c.args.reader.now e.reason) c.from_residual.result c.in_err-taken.field-0.0 y.0 y.1 y.2
+    (refused_entry c.args.reader.now c.args.place length_kind (ReadsNoDatum (seq_tree tree)) _ (λ p a stuck. seq_stuck_length tree p a stuck) c.in_err-taken.ensures.refused)
 
 pub read_seq-returns-in_err-values-clause-refused : goal.read_seq-returns-in_err-values-clause-refused
 read_seq-returns-in_err-values-clause-refused t c =
+    let tree = tree_of_node c.args.left c.args.table.now c.args.node.now in
     let y = err_from_is_err_and c.from_residual-in_err-values.result c.from_residual-in_err-values.ensures.1 in
     let enters = enters_list c.args.reader.now c.take_length.new.self c.step.new.self c.args.place c.in_ok-elements.elements c.in_ok-taken.taken.length c.in_ok-taken.taken.total
     c.in_ok-taken.ensures.leads c.take_length.ensures.below c.in_ok-elements.ensures.found c.in_ok-elements.ensures.stands in
-    passed_on (λ e. IsRefusalAt (seq_tree (tree_of_node c.args.left c.args.table.now c.args.node.now)) c.args.place c.args.reader.now e.reason) c.from_residual-in_err-values.result c.in_err-values.field-0.0 y.0 y.1 y.2
-    (seq_refused (tree_of_node c.args.left c.args.table.now c.args.node.now) c.args.reader.now c.step.new.self c.args.place c.in_ok-elements.elements c.in_ok-taken.taken.length _ enters c.in_err-values.ensures.refused)
+    passed_on (λ e. IsRefusalAt (seq_tree tree) c.args.place c.args.reader.now e.reason) c.from_residual-in_err-values.result c.in_err-values.field-0.0 y.0 y.1 y.2
+    (seq_refused tree c.args.reader.now c.step.new.self c.args.place c.in_ok-elements.elements c.in_ok-taken.taken.length _ enters c.in_err-values.ensures.refused)
 
 pub read_seq-returns-clause-continues : goal.read_seq-returns-clause-continues
 read_seq-returns-clause-continues t c =
     continues_on c.args.reader.now c.step.new.self _
-    (continues_stepped c.args.reader.now c.take_length.new.self c.step.new.self c.take_length.ensures.below c.in_ok-taken.ensures.sized c.step.ensures.columns c.in_ok-elements.ensures.rooted c.in_ok-elements.ensures.kept)
+    (continues_stepped c.args.reader.now c.take_length.new.self c.step.new.self c.take_length.ensures.below c.in_ok-taken.ensures.sized c.step.ensures.columns
+    c.in_ok-elements.ensures.kept)
     c.in_ok-values.ensures.continues
 
 pub read_seq-returns-clause-read : goal.read_seq-returns-clause-read
@@ -218,129 +237,167 @@ read_seq-returns-clause-read t c =
     let enters = enters_list c.args.reader.now c.take_length.new.self c.step.new.self c.args.place c.in_ok-elements.elements c.in_ok-taken.taken.length c.in_ok-taken.taken.total
     c.in_ok-taken.ensures.leads c.take_length.ensures.below c.in_ok-elements.ensures.found c.in_ok-elements.ensures.stands in
     rw (datum-Seq c.in_ok-values.values)
-    (seq_read_at (tree_of_node c.args.left c.args.table.now c.args.node.now) c.args.reader.now c.step.new.self _ c.args.place c.in_ok-elements.elements c.in_ok-taken.taken.length (map datum_of c.in_ok-values.values.items) enters
+    (seq_read_at (tree_of_node c.args.left c.args.table.now c.args.node.now) c.args.reader.now c.step.new.self _ c.args.place c.in_ok-elements.elements
+    c.in_ok-taken.taken.length (map datum_of c.in_ok-values.values.items) enters
     c.if-is_over_limit.ensures c.in_ok-values.ensures.read)
 
 pub read_option-returns-in_err-taken-clause-refused : goal.read_option-returns-in_err-taken-clause-refused
 read_option-returns-in_err-taken-clause-refused t c =
+    let variants = tree_and unit_tree (tree_and (tree_of_node c.args.left c.args.table.now c.args.node.now) no_trees) in
     let y = err_from_is_err_and c.from_residual.result c.from_residual.ensures.1 in
-    passed_on (λ e. IsRefusalAt (choice_tree (tree_and unit_tree (tree_and (tree_of_node c.args.left c.args.table.now c.args.node.now) no_trees))) c.args.place c.args.reader.now e.reason) c.from_residual.result c.in_err-taken.field-0.0 y.0 y.1 y.2
-    (refused_entry c.args.reader.now c.args.place index_kind (ReadsNoDatum (choice_tree (tree_and unit_tree (tree_and (tree_of_node c.args.left c.args.table.now c.args.node.now) no_trees)))) _ (λ p a stuck. choice_stuck_index (tree_and unit_tree (tree_and (tree_of_node c.args.left c.args.table.now c.args.node.now) no_trees)) p a stuck) c.in_err-taken.ensures.refused)
+    passed_on (λ e. IsRefusalAt (choice_tree variants) c.args.place c.args.reader.now e.reason) c.from_residual.result c.in_err-taken.field-0.0 y.0 y.1 y.2
+    (refused_entry c.args.reader.now c.args.place index_kind (ReadsNoDatum (choice_tree variants)) _ (λ p a stuck. choice_stuck_index variants p a stuck) c.in_err-taken.ensures.refused)
 
 pub read_option-returns-then-taken-eq0-clause-read : goal.read_option-returns-then-taken-eq0-clause-read
 read_option-returns-then-taken-eq0-clause-read t c =
+    let variants = tree_and unit_tree (tree_and (tree_of_node c.args.left c.args.table.now c.args.node.now) no_trees) in
     let i = c.in_ok-taken.taken.index in
     let is : i ≡ 0 = omega arith in
     rw datum-None
-    (subst (λ k. ReadsAt (choice_tree (tree_and unit_tree (tree_and (tree_of_node c.args.left c.args.table.now c.args.node.now) no_trees))) c.args.place c.args.reader.now (choice k unit) c.take_index.new.self) is
-    (choice_of_unit (tree_and unit_tree (tree_and (tree_of_node c.args.left c.args.table.now c.args.node.now) no_trees)) i c.args.reader.now c.take_index.new.self c.args.place (λ entries. c.in_ok-taken.taken.count ≡ count_of i entries) (ap (tree_at (tree_and unit_tree (tree_and (tree_of_node c.args.left c.args.table.now c.args.node.now) no_trees))) is) c.in_ok-taken.ensures.leads))
+    (subst (λ k. ReadsAt (choice_tree variants) c.args.place c.args.reader.now (choice k unit) c.take_index.new.self) is
+    (choice_of_unit variants i c.args.reader.now c.take_index.new.self c.args.place (λ entries. c.in_ok-taken.taken.count ≡ count_of i entries) (ap (tree_at variants) is) c.in_ok-taken.ensures.leads))
 
 pub read_option-returns-then-taken-gt1-clause-refused : goal.read_option-returns-then-taken-gt1-clause-refused
 read_option-returns-then-taken-gt1-clause-refused t c =
+    let variants = tree_and unit_tree (tree_and (tree_of_node c.args.left c.args.table.now c.args.node.now) no_trees) in
     let i = c.in_ok-taken.taken.index in
-    passed_on (λ e. IsRefusalAt (choice_tree (tree_and unit_tree (tree_and (tree_of_node c.args.left c.args.table.now c.args.node.now) no_trees))) c.args.place c.args.reader.now e.reason) c.err.result _ _ c.err.ensures refl (
+    passed_on (λ e. IsRefusalAt (choice_tree variants) c.args.place c.args.reader.now e.reason) c.err.result _ _ c.err.ensures refl (
       tt,
-      λ other. no_choice (tree_and unit_tree (tree_and (tree_of_node c.args.left c.args.table.now c.args.node.now) no_trees)) i c.args.reader.now c.take_index.new.self c.args.place (λ entries. c.in_ok-taken.taken.count ≡ count_of i entries)
+      λ other. no_choice variants i c.args.reader.now c.take_index.new.self c.args.place (λ entries. c.in_ok-taken.taken.count ≡ count_of i entries)
           (no_third (tree_of_node c.args.left c.args.table.now c.args.node.now) i (omega arith)) c.in_ok-taken.ensures.leads,
     )
 
 pub read_option-returns-in_err-value-clause-refused : goal.read_option-returns-in_err-value-clause-refused
 read_option-returns-in_err-value-clause-refused t c =
+    let variants = tree_and unit_tree (tree_and (tree_of_node c.args.left c.args.table.now c.args.node.now) no_trees) in
     let y = err_from_is_err_and c.from_residual-in_err-value.result c.from_residual-in_err-value.ensures.1 in
     let i = c.in_ok-taken.taken.index in
     let enters = enters_choice c.args.reader.now c.take_index.new.self c.step.new.self c.args.place c.in_ok-inside.inside i c.in_ok-taken.taken.count
     c.in_ok-taken.ensures.leads c.take_index.ensures.below c.in_ok-inside.ensures.found c.in_ok-inside.ensures.stands in
     let one : i ≡ 1 = omega arith in
-    passed_on (λ e. IsRefusalAt (choice_tree (tree_and unit_tree (tree_and (tree_of_node c.args.left c.args.table.now c.args.node.now) no_trees))) c.args.place c.args.reader.now e.reason) c.from_residual-in_err-value.result c.in_err-value.field-0.0 y.0 y.1 y.2
-    (choice_refused (tree_and unit_tree (tree_and (tree_of_node c.args.left c.args.table.now c.args.node.now) no_trees)) i c.args.reader.now c.step.new.self c.args.place c.in_ok-inside.inside _ enters (rw (ap (tree_at (tree_and unit_tree (tree_and (tree_of_node c.args.left c.args.table.now c.args.node.now) no_trees))) one) c.in_err-value.ensures.refused))
+    passed_on (λ e. IsRefusalAt (choice_tree variants) c.args.place c.args.reader.now e.reason) c.from_residual-in_err-value.result c.in_err-value.field-0.0 y.0 y.1 y.2
+    (choice_refused variants i c.args.reader.now c.step.new.self c.args.place c.in_ok-inside.inside _ enters (rw (ap (tree_at variants) one) c.in_err-value.ensures.refused))
 
 pub read_option-returns-clause-continues : goal.read_option-returns-clause-continues
 read_option-returns-clause-continues t c =
     continues_on c.args.reader.now c.step.new.self _
-    (continues_stepped c.args.reader.now c.take_index.new.self c.step.new.self c.take_index.ensures.below c.in_ok-taken.ensures.sized c.step.ensures.columns c.in_ok-inside.ensures.rooted c.in_ok-inside.ensures.kept)
+    (continues_stepped c.args.reader.now c.take_index.new.self c.step.new.self c.take_index.ensures.below c.in_ok-taken.ensures.sized c.step.ensures.columns
+    c.in_ok-inside.ensures.kept)
     c.in_ok-value.ensures.continues
 
 pub read_option-returns-clause-read : goal.read_option-returns-clause-read
 read_option-returns-clause-read t c =
+    let variants = tree_and unit_tree (tree_and (tree_of_node c.args.left c.args.table.now c.args.node.now) no_trees) in
     let i = c.in_ok-taken.taken.index in
     let enters = enters_choice c.args.reader.now c.take_index.new.self c.step.new.self c.args.place c.in_ok-inside.inside i c.in_ok-taken.taken.count
     c.in_ok-taken.ensures.leads c.take_index.ensures.below c.in_ok-inside.ensures.found c.in_ok-inside.ensures.stands in
     let one : i ≡ 1 = omega arith in
-    let read = choice_read_at (tree_and unit_tree (tree_and (tree_of_node c.args.left c.args.table.now c.args.node.now) no_trees)) i (datum_of c.in_ok-value.value) c.args.reader.now c.step.new.self _ c.args.place c.in_ok-inside.inside enters (rw (ap (tree_at (tree_and unit_tree (tree_and (tree_of_node c.args.left c.args.table.now c.args.node.now) no_trees))) one) c.in_ok-value.ensures.read) in
-    rw (datum-Some c.in_ok-new.field-0, c.in_ok-new.ensures.ok) (subst (λ k. ReadsAt (choice_tree (tree_and unit_tree (tree_and (tree_of_node c.args.left c.args.table.now c.args.node.now) no_trees))) c.args.place c.args.reader.now (choice k (datum_of c.in_ok-value.value)) c.read.new.reader) one read)
+    let read = choice_read_at variants i (datum_of c.in_ok-value.value) c.args.reader.now c.step.new.self _ c.args.place c.in_ok-inside.inside enters
+    (rw (ap (tree_at variants) one) c.in_ok-value.ensures.read) in
+    rw (datum-Some c.in_ok-new.field-0, c.in_ok-new.ensures.ok)
+    (subst (λ k. ReadsAt (choice_tree variants) c.args.place c.args.reader.now (choice k (datum_of c.in_ok-value.value)) c.read.new.reader) one read)
 
 pub read_enum-returns-in_err-taken-clause-refused : goal.read_enum-returns-in_err-taken-clause-refused
 read_enum-returns-in_err-taken-clause-refused t c =
+    let trees = trees_of (map (tree_of_node c.args.left c.args.table.now) c.args.nodes.now) in
     let y = err_from_is_err_and c.from_residual.result c.from_residual.ensures.1 in
-    passed_on (λ e. IsRefusalAt (choice_tree (trees_of (map (tree_of_node c.args.left c.args.table.now) c.args.nodes.now))) c.args.place c.args.reader.now e.reason) c.from_residual.result c.in_err-taken.field-0.0 y.0 y.1 y.2
-    (refused_entry c.args.reader.now c.args.place index_kind (ReadsNoDatum (choice_tree (trees_of (map (tree_of_node c.args.left c.args.table.now) c.args.nodes.now)))) _ (λ p a stuck. choice_stuck_index (trees_of (map (tree_of_node c.args.left c.args.table.now) c.args.nodes.now)) p a stuck) c.in_err-taken.ensures.refused)
+    passed_on (λ e. IsRefusalAt (choice_tree trees) c.args.place c.args.reader.now e.reason) c.from_residual.result c.in_err-taken.field-0.0 y.0 y.1 y.2
+    (refused_entry c.args.reader.now c.args.place index_kind (ReadsNoDatum (choice_tree trees)) _ (λ p a stuck. choice_stuck_index trees p a stuck) c.in_err-taken.ensures.refused)
 
 pub read_enum-read-requires : goal.read_enum-read-requires
 read_enum-read-requires t c =
-    let d = entry_deep c.args.nodes.now c.in_ok-taken.taken.index c.in-Some.node.now (found_entry c.args.nodes.now c.in_ok-taken.taken.index c.in-Some.node.now c.in-Some.ensures.lookup.3.0 (c.in-Some.ensures.lookup.3.1 c.in-Some.node.now)) in
+    let d = entry_deep c.args.nodes.now c.in_ok-taken.taken.index c.in-Some.node.now
+    (found_entry c.args.nodes.now c.in_ok-taken.taken.index c.in-Some.node.now c.in-Some.ensures.lookup.3.0 (c.in-Some.ensures.lookup.3.1 c.in-Some.node.now)) in
     let h = c.in_ok-inside-in-Some.ensures.found.0 in
-    let s = (continues_stepped c.args.reader.now c.take_index.new.self c.step.new.self c.take_index.ensures.below c.in_ok-taken.ensures.sized c.step.ensures.columns c.in_ok-inside-in-Some.ensures.rooted c.in_ok-inside-in-Some.ensures.kept).steady in
+    let s = (continues_stepped c.args.reader.now c.take_index.new.self c.step.new.self c.take_index.ensures.below c.in_ok-taken.ensures.sized c.step.ensures.columns
+    c.in_ok-inside-in-Some.ensures.kept).steady in
     search (rules, d, h, s)
 
 pub read_enum-returns-in_err-value-in-Some-clause-refused : goal.read_enum-returns-in_err-value-in-Some-clause-refused
 read_enum-returns-in_err-value-in-Some-clause-refused t c =
+    let at_node = tree_of_node c.args.left c.args.table.now in
+    let trees = trees_of (map at_node c.args.nodes.now) in
     let y = err_from_is_err_and c.from_residual-in_err-value-in-Some.result c.from_residual-in_err-value-in-Some.ensures.1 in
     let i = c.in_ok-taken.taken.index in
     let enters = enters_choice c.args.reader.now c.take_index.new.self c.step.new.self c.args.place c.in_ok-inside-in-Some.inside i c.in_ok-taken.taken.count
     c.in_ok-taken.ensures.leads c.take_index.ensures.below c.in_ok-inside-in-Some.ensures.found c.in_ok-inside-in-Some.ensures.stands in
-    let is = tree_at_entry (tree_of_node c.args.left c.args.table.now) c.args.nodes.now i c.in-Some.node.now (found_entry c.args.nodes.now c.in_ok-taken.taken.index c.in-Some.node.now c.in-Some.ensures.lookup.3.0 (c.in-Some.ensures.lookup.3.1 c.in-Some.node.now)) in
-    passed_on (λ e. IsRefusalAt (choice_tree (trees_of (map (tree_of_node c.args.left c.args.table.now) c.args.nodes.now))) c.args.place c.args.reader.now e.reason) c.from_residual-in_err-value-in-Some.result c.in_err-value-in-Some.field-0.0 y.0 y.1 y.2
-    (choice_refused (trees_of (map (tree_of_node c.args.left c.args.table.now) c.args.nodes.now)) i c.args.reader.now c.step.new.self c.args.place c.in_ok-inside-in-Some.inside _ enters (rw is c.in_err-value-in-Some.ensures.refused))
+    let is = tree_at_entry at_node c.args.nodes.now i c.in-Some.node.now
+    (found_entry c.args.nodes.now c.in_ok-taken.taken.index c.in-Some.node.now c.in-Some.ensures.lookup.3.0 (c.in-Some.ensures.lookup.3.1 c.in-Some.node.now)) in
+    passed_on (λ e. IsRefusalAt (choice_tree trees) c.args.place c.args.reader.now e.reason) c.from_residual-in_err-value-in-Some.result c.in_err-value-in-Some.field-0.0 y.0 y.1 y.2
+    (choice_refused trees i c.args.reader.now c.step.new.self c.args.place c.in_ok-inside-in-Some.inside _ enters (rw is c.in_err-value-in-Some.ensures.refused))
 
 pub read_enum-returns-in_ok-new-in-Some-clause-continues : goal.read_enum-returns-in_ok-new-in-Some-clause-continues
 read_enum-returns-in_ok-new-in-Some-clause-continues t c =
     continues_on c.args.reader.now c.step.new.self _
-    (continues_stepped c.args.reader.now c.take_index.new.self c.step.new.self c.take_index.ensures.below c.in_ok-taken.ensures.sized c.step.ensures.columns c.in_ok-inside-in-Some.ensures.rooted c.in_ok-inside-in-Some.ensures.kept)
+    (continues_stepped c.args.reader.now c.take_index.new.self c.step.new.self c.take_index.ensures.below c.in_ok-taken.ensures.sized c.step.ensures.columns
+    c.in_ok-inside-in-Some.ensures.kept)
     c.in_ok-value-in-Some.ensures.continues
 
 pub read_enum-returns-in_ok-new-in-Some-clause-read : goal.read_enum-returns-in_ok-new-in-Some-clause-read
 read_enum-returns-in_ok-new-in-Some-clause-read t c =
+    let at_node = tree_of_node c.args.left c.args.table.now in
     let i = c.in_ok-taken.taken.index in
     let enters = enters_choice c.args.reader.now c.take_index.new.self c.step.new.self c.args.place c.in_ok-inside-in-Some.inside i c.in_ok-taken.taken.count
     c.in_ok-taken.ensures.leads c.take_index.ensures.below c.in_ok-inside-in-Some.ensures.found c.in_ok-inside-in-Some.ensures.stands in
-    let is = tree_at_entry (tree_of_node c.args.left c.args.table.now) c.args.nodes.now i c.in-Some.node.now (found_entry c.args.nodes.now c.in_ok-taken.taken.index c.in-Some.node.now c.in-Some.ensures.lookup.3.0 (c.in-Some.ensures.lookup.3.1 c.in-Some.node.now)) in
+    let is = tree_at_entry at_node c.args.nodes.now i c.in-Some.node.now
+    (found_entry c.args.nodes.now c.in_ok-taken.taken.index c.in-Some.node.now c.in-Some.ensures.lookup.3.0 (c.in-Some.ensures.lookup.3.1 c.in-Some.node.now)) in
     rw (datum-Enum i c.in_ok-new-in-Some.field-0, c.in_ok-new-in-Some.ensures.ok)
-    (choice_read_at (trees_of (map (tree_of_node c.args.left c.args.table.now) c.args.nodes.now)) i (datum_of c.in_ok-value-in-Some.value) c.args.reader.now c.step.new.self _ c.args.place c.in_ok-inside-in-Some.inside enters (rw is c.in_ok-value-in-Some.ensures.read))
+    (choice_read_at (trees_of (map at_node c.args.nodes.now)) i (datum_of c.in_ok-value-in-Some.value) c.args.reader.now c.step.new.self _ c.args.place
+    c.in_ok-inside-in-Some.inside enters (rw is c.in_ok-value-in-Some.ensures.read))
 
 pub read_enum-returns-in-None-clause-refused : goal.read_enum-returns-in-None-clause-refused
 read_enum-returns-in-None-clause-refused t c =
+    let at_node = tree_of_node c.args.left c.args.table.now in
+    let trees = trees_of (map at_node c.args.nodes.now) in
     let i = c.in_ok-taken.taken.index in
-    passed_on (λ e. IsRefusalAt (choice_tree (trees_of (map (tree_of_node c.args.left c.args.table.now) c.args.nodes.now))) c.args.place c.args.reader.now e.reason) c.err.result _ _ c.err.ensures refl (
+    passed_on (λ e. IsRefusalAt (choice_tree trees) c.args.place c.args.reader.now e.reason) c.err.result _ _ c.err.ensures refl (
       tt,
-      λ other. no_choice (trees_of (map (tree_of_node c.args.left c.args.table.now) c.args.nodes.now)) i c.args.reader.now c.take_index.new.self c.args.place (λ entries. c.in_ok-taken.taken.count ≡ count_of i entries)
-          (tree_at_none (tree_of_node c.args.left c.args.table.now) c.args.nodes.now i (no_entry c.args.nodes.now i c.in-None.ensures.lookup.3)) c.in_ok-taken.ensures.leads,
+      λ other. no_choice trees i c.args.reader.now c.take_index.new.self c.args.place (λ entries. c.in_ok-taken.taken.count ≡ count_of i entries)
+          (tree_at_none at_node c.args.nodes.now i (no_entry c.args.nodes.now i c.in-None.ensures.lookup.3)) c.in_ok-taken.ensures.leads,
     )
 
 pub read_map-returns-in_err-taken-clause-refused : goal.read_map-returns-in_err-taken-clause-refused
 read_map-returns-in_err-taken-clause-refused t c =
+    let key_tree = tree_of_node c.args.left c.args.table.now c.args.key.now in
+    let value_tree = tree_of_node c.args.left c.args.table.now c.args.value.now in
     let y = err_from_is_err_and c.from_residual.result c.from_residual.ensures.1 in
-    passed_on (λ e. IsRefusalAt (map_tree (tree_of_node c.args.left c.args.table.now c.args.key.now) (tree_of_node c.args.left c.args.table.now c.args.value.now)) c.args.place c.args.reader.now e.reason) c.from_residual.result c.in_err-taken.field-0.0 y.0 y.1 y.2
-    (refused_entry c.args.reader.now c.args.place length_kind (ReadsNoDatum (map_tree (tree_of_node c.args.left c.args.table.now c.args.key.now) (tree_of_node c.args.left c.args.table.now c.args.value.now))) _ (λ p a stuck. map_stuck_length (tree_of_node c.args.left c.args.table.now c.args.key.now) (tree_of_node c.args.left c.args.table.now c.args.value.now) p a stuck) c.in_err-taken.ensures.refused)
+    passed_on (λ e. IsRefusalAt (map_tree key_tree value_tree) c.args.place c.args.reader.now e.reason) c.from_residual.result c.in_err-taken.field-0.0 y.0 y.1 y.2
+    (refused_entry c.args.reader.now c.args.place length_kind (ReadsNoDatum (map_tree key_tree value_tree)) _ (λ p a stuck. map_stuck_length key_tree value_tree p a stuck)
+    c.in_err-taken.ensures.refused)
 
-pub read_map-step-requires-2-clause-above : goal.read_map-step-requires-2-clause-above
-read_map-step-requires-2-clause-above t c = still_there c.args.reader.now c.step.new.self c.args.place (continues_stepped c.args.reader.now c.take_length.new.self c.step.new.self c.take_length.ensures.below c.in_ok-taken.ensures.sized c.step.ensures.columns c.in_ok-keys.ensures.rooted c.in_ok-keys.ensures.kept) c.requires.place
+pub read_map-step-requires-2 : goal.read_map-step-requires-2
+read_map-step-requires-2 t c =
+    still_there c.args.reader.now c.step.new.self c.args.place
+    (continues_stepped c.args.reader.now c.take_length.new.self c.step.new.self c.take_length.ensures.below c.in_ok-taken.ensures.sized c.step.ensures.columns
+    c.in_ok-keys.ensures.kept) c.requires.place
 
 pub read_map-read-requires : goal.read_map-read-requires
 read_map-read-requires t c =
-    let k = still_there c.step.new.self c.step-2.new.self c.in_ok-keys.keys (continues_stepped c.step.new.self c.step.new.self c.step-2.new.self refl (continues_stepped c.args.reader.now c.take_length.new.self c.step.new.self c.take_length.ensures.below c.in_ok-taken.ensures.sized c.step.ensures.columns c.in_ok-keys.ensures.rooted c.in_ok-keys.ensures.kept).steady.sized c.step-2.ensures.columns c.in_ok-values.ensures.rooted c.in_ok-values.ensures.kept) c.in_ok-keys.ensures.found.0 in
+    let k = still_there c.step.new.self c.step-2.new.self c.in_ok-keys.keys
+    (continues_stepped c.step.new.self c.step.new.self c.step-2.new.self refl
+    (continues_stepped c.args.reader.now c.take_length.new.self c.step.new.self c.take_length.ensures.below c.in_ok-taken.ensures.sized c.step.ensures.columns
+    c.in_ok-keys.ensures.kept).steady.sized c.step-2.ensures.columns c.in_ok-values.ensures.kept) c.in_ok-keys.ensures.found.0 in
     let h = still_there c.step-2.new.self c.loop-i.reader c.in_ok-keys.keys c.loop-i.invariant.0 k in
     let s = c.loop-i.invariant.0.steady in
     search (rules, h, s)
 
 pub read_map-returns-in_err-first-clause-refused : goal.read_map-returns-in_err-first-clause-refused
 read_map-returns-in_err-first-clause-refused t c =
+    let key_tree = tree_of_node c.args.left c.args.table.now c.args.key.now in
+    let value_tree = tree_of_node c.args.left c.args.table.now c.args.value.now in
     let y = err_from_is_err_and c.from_residual-in_err-first.result c.from_residual-in_err-first.ensures.1 in
-    let enters = enters_map c.args.reader.now c.take_length.new.self c.step.new.self c.step-2.new.self c.args.place c.in_ok-keys.keys c.in_ok-values.values c.in_ok-taken.taken.length c.in_ok-taken.taken.total
+    let enters = enters_map c.args.reader.now c.take_length.new.self c.step.new.self c.step-2.new.self c.args.place c.in_ok-keys.keys c.in_ok-values.values
+    c.in_ok-taken.taken.length c.in_ok-taken.taken.total
     c.in_ok-taken.ensures.leads c.take_length.ensures.below c.in_ok-keys.ensures.found c.in_ok-keys.ensures.kept c.in_ok-keys.ensures.stands
     c.in_ok-values.ensures.found c.in_ok-values.ensures.kept c.in_ok-values.ensures.stands in
     let lt : c.loop-i._i < c.in_ok-taken.taken.length = omega arith in
-    passed_on (λ e. IsRefusalAt (map_tree (tree_of_node c.args.left c.args.table.now c.args.key.now) (tree_of_node c.args.left c.args.table.now c.args.value.now)) c.args.place c.args.reader.now e.reason) c.from_residual-in_err-first.result c.in_err-first.field-0.0 y.0 y.1 y.2
-    ((c.in_err-first.ensures.refused.0, λ other. map_stuck_at (tree_of_node c.args.left c.args.table.now c.args.key.now) (tree_of_node c.args.left c.args.table.now c.args.value.now) c.args.reader.now c.step-2.new.self c.args.place c.in_ok-keys.keys c.in_ok-values.values c.in_ok-taken.taken.length enters (key_stuck (tree_of_node c.args.left c.args.table.now c.args.key.now) (tree_of_node c.args.left c.args.table.now c.args.value.now) c.in_ok-keys.keys c.in_ok-values.values c.step-2.new.self c.loop-i.reader c.loop-i._i _ c.loop-i.invariant.0 c.loop-i.invariant.1 c.in_ok-taken.taken.length lt (c.in_err-first.ensures.refused.1 other))))
+    passed_on (λ e. IsRefusalAt (map_tree key_tree value_tree) c.args.place c.args.reader.now e.reason) c.from_residual-in_err-first.result c.in_err-first.field-0.0 y.0 y.1 y.2
+    ((
+      c.in_err-first.ensures.refused.0,
+      λ other. map_stuck_at key_tree value_tree c.args.reader.now c.step-2.new.self c.args.place c.in_ok-keys.keys c.in_ok-values.values
+          c.in_ok-taken.taken.length enters (key_stuck key_tree value_tree c.in_ok-keys.keys c.in_ok-values.values c.step-2.new.self c.loop-i.reader c.loop-i._i _
+          c.loop-i.invariant.0 c.loop-i.invariant.1 c.in_ok-taken.taken.length lt (c.in_err-first.ensures.refused.1 other)),
+    ))
 
 pub read_map-read-requires-in-loop-i : goal.read_map-read-requires-in-loop-i
 read_map-read-requires-in-loop-i t c =
@@ -351,40 +408,69 @@ read_map-read-requires-in-loop-i t c =
 
 pub read_map-returns-in_err-second-clause-refused : goal.read_map-returns-in_err-second-clause-refused
 read_map-returns-in_err-second-clause-refused t c =
+    let key_tree = tree_of_node c.args.left c.args.table.now c.args.key.now in
+    let value_tree = tree_of_node c.args.left c.args.table.now c.args.value.now in
     let y = err_from_is_err_and c.from_residual-in_err-second.result c.from_residual-in_err-second.ensures.1 in
-    let enters = enters_map c.args.reader.now c.take_length.new.self c.step.new.self c.step-2.new.self c.args.place c.in_ok-keys.keys c.in_ok-values.values c.in_ok-taken.taken.length c.in_ok-taken.taken.total
+    let enters = enters_map c.args.reader.now c.take_length.new.self c.step.new.self c.step-2.new.self c.args.place c.in_ok-keys.keys c.in_ok-values.values
+    c.in_ok-taken.taken.length c.in_ok-taken.taken.total
     c.in_ok-taken.ensures.leads c.take_length.ensures.below c.in_ok-keys.ensures.found c.in_ok-keys.ensures.kept c.in_ok-keys.ensures.stands
     c.in_ok-values.ensures.found c.in_ok-values.ensures.kept c.in_ok-values.ensures.stands in
     let lt : c.loop-i._i < c.in_ok-taken.taken.length = omega arith in
-    passed_on (λ e. IsRefusalAt (map_tree (tree_of_node c.args.left c.args.table.now c.args.key.now) (tree_of_node c.args.left c.args.table.now c.args.value.now)) c.args.place c.args.reader.now e.reason) c.from_residual-in_err-second.result c.in_err-second.field-0.0 y.0 y.1 y.2
-    ((c.in_err-second.ensures.refused.0, λ other. map_stuck_at (tree_of_node c.args.left c.args.table.now c.args.key.now) (tree_of_node c.args.left c.args.table.now c.args.value.now) c.args.reader.now c.step-2.new.self c.args.place c.in_ok-keys.keys c.in_ok-values.values c.in_ok-taken.taken.length enters (value_stuck (tree_of_node c.args.left c.args.table.now c.args.key.now) (tree_of_node c.args.left c.args.table.now c.args.value.now) c.in_ok-keys.keys c.in_ok-values.values c.step-2.new.self c.loop-i.reader c.loop-i._i _ c.loop-i.invariant.0 c.loop-i.invariant.1 c.in_ok-taken.taken.length c.read.new.reader (datum_of c.in_ok-first.first) lt c.in_ok-first.ensures.continues c.in_ok-first.ensures.read (c.in_err-second.ensures.refused.1 other))))
+    passed_on (λ e. IsRefusalAt (map_tree key_tree value_tree) c.args.place c.args.reader.now e.reason) c.from_residual-in_err-second.result c.in_err-second.field-0.0 y.0 y.1 y.2
+    ((
+      c.in_err-second.ensures.refused.0,
+      λ other. map_stuck_at key_tree value_tree c.args.reader.now c.step-2.new.self c.args.place c.in_ok-keys.keys c.in_ok-values.values
+          c.in_ok-taken.taken.length enters (value_stuck key_tree value_tree c.in_ok-keys.keys c.in_ok-values.values c.step-2.new.self c.loop-i.reader c.loop-i._i _
+          c.loop-i.invariant.0 c.loop-i.invariant.1 c.in_ok-taken.taken.length c.read.new.reader (datum_of c.in_ok-first.first) lt c.in_ok-first.ensures.continues
+          c.in_ok-first.ensures.read (c.in_err-second.ensures.refused.1 other)),
+    ))
 
 pub read_map-loop-i-preserved : goal.read_map-loop-i-preserved
 read_map-loop-i-preserved t c = (
-  continues_on c.step-2.new.self c.loop-i.reader c.read-in-loop-i.new.reader c.loop-i.invariant.0 (continues_on c.loop-i.reader c.read.new.reader c.read-in-loop-i.new.reader c.in_ok-first.ensures.continues c.in_ok-second.ensures.continues),
+  continues_on c.step-2.new.self c.loop-i.reader c.read-in-loop-i.new.reader c.loop-i.invariant.0
+      (continues_on c.loop-i.reader c.read.new.reader c.read-in-loop-i.new.reader c.in_ok-first.ensures.continues c.in_ok-second.ensures.continues),
   rw (c.in_ok-push.ensures.items, map-append)
-      (one_more_pair (tree_of_node c.args.left c.args.table.now c.args.key.now) (tree_of_node c.args.left c.args.table.now c.args.value.now) c.in_ok-keys.keys c.in_ok-values.values c.step-2.new.self c.loop-i.reader c.loop-i._i _ c.loop-i.invariant.0 c.loop-i.invariant.1 c.read.new.reader c.read-in-loop-i.new.reader (datum_of c.in_ok-first.first) (datum_of c.in_ok-second.second) c.in_ok-first.ensures.continues c.in_ok-first.ensures.read c.in_ok-second.ensures.read),
+      (one_more_pair (tree_of_node c.args.left c.args.table.now c.args.key.now) (tree_of_node c.args.left c.args.table.now c.args.value.now) c.in_ok-keys.keys
+      c.in_ok-values.values c.step-2.new.self c.loop-i.reader c.loop-i._i _ c.loop-i.invariant.0 c.loop-i.invariant.1 c.read.new.reader c.read-in-loop-i.new.reader
+      (datum_of c.in_ok-first.first) (datum_of c.in_ok-second.second) c.in_ok-first.ensures.continues c.in_ok-first.ensures.read c.in_ok-second.ensures.read),
+  rw c.in_ok-push.ensures.items
+      (one_more_whole (λ e. faults_of c.args.table.now e.0 c.args.left c.args.key.now ++ faults_of c.args.table.now e.1 c.args.left c.args.value.now)
+      c.loop-i.pairs.items (c.in_ok-first.first, c.in_ok-second.second) c.loop-i.invariant.2
+      (nothing (faults_of c.args.table.now c.in_ok-first.first c.args.left c.args.key.now) (faults_of c.args.table.now c.in_ok-second.second c.args.left c.args.value.now)
+      c.in_ok-first.ensures.whole c.in_ok-second.ensures.whole)),
 )
 
 pub read_map-returns-clause-continues : goal.read_map-returns-clause-continues
 read_map-returns-clause-continues t c =
-    continues_on c.args.reader.now c.step-2.new.self c.loop-i.reader (continues_on c.args.reader.now c.step.new.self c.step-2.new.self (continues_stepped c.args.reader.now c.take_length.new.self c.step.new.self c.take_length.ensures.below c.in_ok-taken.ensures.sized c.step.ensures.columns c.in_ok-keys.ensures.rooted c.in_ok-keys.ensures.kept) (continues_stepped c.step.new.self c.step.new.self c.step-2.new.self refl (continues_stepped c.args.reader.now c.take_length.new.self c.step.new.self c.take_length.ensures.below c.in_ok-taken.ensures.sized c.step.ensures.columns c.in_ok-keys.ensures.rooted c.in_ok-keys.ensures.kept).steady.sized c.step-2.ensures.columns c.in_ok-values.ensures.rooted c.in_ok-values.ensures.kept)) c.loop-i.invariant.0
+    continues_on c.args.reader.now c.step-2.new.self c.loop-i.reader
+    (continues_on c.args.reader.now c.step.new.self c.step-2.new.self
+    (continues_stepped c.args.reader.now c.take_length.new.self c.step.new.self c.take_length.ensures.below c.in_ok-taken.ensures.sized c.step.ensures.columns
+    c.in_ok-keys.ensures.kept) (continues_stepped c.step.new.self c.step.new.self c.step-2.new.self refl
+    (continues_stepped c.args.reader.now c.take_length.new.self c.step.new.self c.take_length.ensures.below c.in_ok-taken.ensures.sized c.step.ensures.columns
+    c.in_ok-keys.ensures.kept).steady.sized c.step-2.ensures.columns c.in_ok-values.ensures.kept)) c.loop-i.invariant.0
 
 pub read_map-returns-clause-read : goal.read_map-returns-clause-read
 read_map-returns-clause-read t c =
-    let enters = enters_map c.args.reader.now c.take_length.new.self c.step.new.self c.step-2.new.self c.args.place c.in_ok-keys.keys c.in_ok-values.values c.in_ok-taken.taken.length c.in_ok-taken.taken.total
+    let key_tree = tree_of_node c.args.left c.args.table.now c.args.key.now in
+    let value_tree = tree_of_node c.args.left c.args.table.now c.args.value.now in
+    let enters = enters_map c.args.reader.now c.take_length.new.self c.step.new.self c.step-2.new.self c.args.place c.in_ok-keys.keys c.in_ok-values.values
+    c.in_ok-taken.taken.length c.in_ok-taken.taken.total
     c.in_ok-taken.ensures.leads c.take_length.ensures.below c.in_ok-keys.ensures.found c.in_ok-keys.ensures.kept c.in_ok-keys.ensures.stands
     c.in_ok-values.ensures.found c.in_ok-values.ensures.kept c.in_ok-values.ensures.stands in
     let all : c.loop-i._i ≡ c.in_ok-taken.taken.length = omega arith in
     rw (datum-Map c.loop-i.pairs)
-    (map_read_at (tree_of_node c.args.left c.args.table.now c.args.key.now) (tree_of_node c.args.left c.args.table.now c.args.value.now) c.args.reader.now c.step-2.new.self c.loop-i.reader c.args.place c.in_ok-keys.keys c.in_ok-values.values c.in_ok-taken.taken.length _ enters c.if-is_over_limit.ensures
-    (subst (λ n. ReadsPairsAt (tree_of_node c.args.left c.args.table.now c.args.key.now) (tree_of_node c.args.left c.args.table.now c.args.value.now) c.in_ok-keys.keys c.in_ok-values.values c.step-2.new.self n (map (λ e. pair (datum_of e.0) (datum_of e.1)) c.loop-i.pairs.items) c.loop-i.reader) all c.loop-i.invariant.1))
+    (map_read_at key_tree value_tree c.args.reader.now c.step-2.new.self c.loop-i.reader c.args.place c.in_ok-keys.keys c.in_ok-values.values c.in_ok-taken.taken.length _
+    enters c.if-is_over_limit.ensures
+    (subst (λ n. ReadsPairsAt key_tree value_tree c.in_ok-keys.keys c.in_ok-values.values c.step-2.new.self n
+    (map (λ e. pair (datum_of e.0) (datum_of e.1)) c.loop-i.pairs.items) c.loop-i.reader) all c.loop-i.invariant.1))
 
 pub read_tuple-loop-i-init : goal.read_tuple-loop-i-init
-read_tuple-loop-i-init t c = (
-  record { steady = c.requires.steady; kept = λ i p at. at },
-  rw c.new-values.ensures.items (no_fields (tree_of_node c.args.left c.args.table.now) c.args.nodes.now c.args.place c.args.reader.now),
-)
+read_tuple-loop-i-init t c =
+    let at_node = tree_of_node c.args.left c.args.table.now in (
+      record { steady = c.requires.steady; kept = λ i p at. at },
+      rw c.new-values.ensures.items (no_fields at_node c.args.nodes.now c.args.place c.args.reader.now),
+      rw c.new-values.ensures.items refl,
+    )
 
 pub read_tuple-field-requires-clause-place : goal.read_tuple-field-requires-clause-place
 read_tuple-field-requires-clause-place t c = still_there c.args.reader.now c.loop-i.reader c.args.place c.loop-i.invariant.0 c.requires.place
@@ -392,41 +478,192 @@ read_tuple-field-requires-clause-place t c = still_there c.args.reader.now c.loo
 pub read_tuple-read-requires : goal.read_tuple-read-requires
 read_tuple-read-requires t c =
     let d = entry_deep c.args.nodes.now c.loop-i.i c.index-nodes-i.result (found_entry c.args.nodes.now c.loop-i.i c.index-nodes-i.result c.loop-i-test.true c.index-nodes-i.is) in
-    let h = (c.in_ok-inside.ensures.found _ (c.loop-i.invariant.0.kept c.args.place (place_at (places c.args.reader.now.below.items) c.args.place) (c.requires.place, refl))).0 in
+    let h = (c.in_ok-inside.ensures.found _ (c.loop-i.invariant.0.kept c.args.place (place_at (places c.args.reader.now.places.below.items) c.args.place) (c.requires.place, refl))).0 in
     let s = c.in_ok-inside.ensures.continues.steady in
     search (rules, d, h, s)
 
 pub read_tuple-returns-in_err-value-clause-refused : goal.read_tuple-returns-in_err-value-clause-refused
 read_tuple-returns-in_err-value-clause-refused t c =
+    let at_node = tree_of_node c.args.left c.args.table.now in
     let y = err_from_is_err_and c.from_residual-in_err-value.result c.from_residual-in_err-value.ensures.1 in
-    passed_on (λ e. IsRefusalAt (tuple_tree (trees_of (map (tree_of_node c.args.left c.args.table.now) c.args.nodes.now))) c.args.place c.args.reader.now e.reason) c.from_residual-in_err-value.result c.in_err-value.field-0.0 y.0 y.1 y.2
-    (field_refused (tree_of_node c.args.left c.args.table.now) c.args.nodes.now c.args.place c.args.reader.now c.loop-i.reader c.field.new.self c.in_ok-inside.inside c.loop-i.i c.index-nodes-i.result (map datum_of c.loop-i.values.items) c.loop-i.invariant.0 (found_entry c.args.nodes.now c.loop-i.i c.index-nodes-i.result c.loop-i-test.true c.index-nodes-i.is) c.in_ok-inside.ensures.found c.in_ok-inside.ensures.stands c.loop-i.invariant.1 _ c.in_err-value.ensures.refused)
+    passed_on (λ e. IsRefusalAt (tuple_tree (trees_of (map at_node c.args.nodes.now))) c.args.place c.args.reader.now e.reason) c.from_residual-in_err-value.result c.in_err-value.field-0.0 y.0 y.1 y.2
+    (field_refused at_node c.args.nodes.now c.args.place c.args.reader.now c.loop-i.reader c.field.new.self c.in_ok-inside.inside c.loop-i.i c.index-nodes-i.result
+    (map datum_of c.loop-i.values.items) c.loop-i.invariant.0 (found_entry c.args.nodes.now c.loop-i.i c.index-nodes-i.result c.loop-i-test.true c.index-nodes-i.is)
+    c.in_ok-inside.ensures.found c.in_ok-inside.ensures.stands c.loop-i.invariant.1 _ c.in_err-value.ensures.refused)
 
 pub read_tuple-loop-i-preserved : goal.read_tuple-loop-i-preserved
-read_tuple-loop-i-preserved t c = (
-  continues_on c.args.reader.now c.loop-i.reader c.read.new.reader c.loop-i.invariant.0 (continues_on c.loop-i.reader c.field.new.self c.read.new.reader c.in_ok-inside.ensures.continues c.in_ok-value.ensures.continues),
-  rw (c.in_ok-push.ensures.items, map-append) (one_more_field (tree_of_node c.args.left c.args.table.now) c.args.nodes.now c.args.place c.args.reader.now c.loop-i.reader c.field.new.self c.in_ok-inside.inside c.loop-i.i c.index-nodes-i.result (map datum_of c.loop-i.values.items) c.loop-i.invariant.0 (found_entry c.args.nodes.now c.loop-i.i c.index-nodes-i.result c.loop-i-test.true c.index-nodes-i.is) c.in_ok-inside.ensures.found c.in_ok-inside.ensures.stands c.loop-i.invariant.1 (datum_of c.in_ok-value.value) c.read.new.reader c.in_ok-value.ensures.read),
-)
+read_tuple-loop-i-preserved t c =
+    let at_node = tree_of_node c.args.left c.args.table.now in (
+      continues_on c.args.reader.now c.loop-i.reader c.read.new.reader c.loop-i.invariant.0
+          (continues_on c.loop-i.reader c.field.new.self c.read.new.reader c.in_ok-inside.ensures.continues c.in_ok-value.ensures.continues),
+      rw (c.in_ok-push.ensures.items, map-append) (one_more_field at_node c.args.nodes.now c.args.place c.args.reader.now c.loop-i.reader c.field.new.self
+          c.in_ok-inside.inside c.loop-i.i c.index-nodes-i.result (map datum_of c.loop-i.values.items) c.loop-i.invariant.0
+          (found_entry c.args.nodes.now c.loop-i.i c.index-nodes-i.result c.loop-i-test.true c.index-nodes-i.is) c.in_ok-inside.ensures.found
+          c.in_ok-inside.ensures.stands c.loop-i.invariant.1 (datum_of c.in_ok-value.value) c.read.new.reader c.in_ok-value.ensures.read),
+      rw c.in_ok-push.ensures.items
+          (one_more_field_whole c.args.table.now c.args.left c.args.nodes.now c.loop-i.values.items c.loop-i.i c.in_ok-value.value c.index-nodes-i.result c.loop-i.invariant.2
+          (found_entry c.args.nodes.now c.loop-i.i c.index-nodes-i.result c.loop-i-test.true c.index-nodes-i.is) c.in_ok-value.ensures.whole),
+    )
 
 pub read_tuple-returns-clause-read : goal.read_tuple-returns-clause-read
 read_tuple-returns-clause-read t c =
+    let at_node = tree_of_node c.args.left c.args.table.now in
     let last : c.loop-i.i ≡ length c.args.nodes.now = omega arith in
-    rw (datum-Tuple c.loop-i.values) (tuple_done (tree_of_node c.args.left c.args.table.now) c.args.nodes.now c.args.place c.args.reader.now c.loop-i.reader c.loop-i.i (map datum_of c.loop-i.values.items) last c.loop-i.invariant.1)
+    rw (datum-Tuple c.loop-i.values) (tuple_done at_node c.args.nodes.now c.args.place c.args.reader.now c.loop-i.reader c.loop-i.i (map datum_of c.loop-i.values.items) last c.loop-i.invariant.1)
 
 pub read_seq-returns-then-is_over_limit-clause-refused : goal.read_seq-returns-then-is_over_limit-clause-refused
 read_seq-returns-then-is_over_limit-clause-refused t c =
-    passed_on (λ e. IsRefusalAt (seq_tree (tree_of_node c.args.left c.args.table.now c.args.node.now)) c.args.place c.args.reader.now e.reason) c.err.result _ _ c.err.ensures refl (
+    let tree = tree_of_node c.args.left c.args.table.now c.args.node.now in
+    passed_on (λ e. IsRefusalAt (seq_tree tree) c.args.place c.args.reader.now e.reason) c.err.result _ _ c.err.ensures refl (
       tt,
       λ other p at a st.
-          let l = told_at c.args.reader.now c.take_length.new.self c.args.place length_kind (natural c.in_ok-taken.taken.length) (λ entries. c.in_ok-taken.taken.total ≡ total entries) c.in_ok-taken.ensures.leads p at a st in
-          seq_over_limit (tree_of_node c.args.left c.args.table.now c.args.node.now) p a c.in_ok-taken.taken.length l.0 l.2.takes c.if-is_over_limit.ensures.0 c.if-is_over_limit.ensures.1,
+          let l = told_at c.args.reader.now c.take_length.new.self c.args.place length_kind (natural c.in_ok-taken.taken.length)
+          (λ entries. c.in_ok-taken.taken.total ≡ total entries) c.in_ok-taken.ensures.leads p at a st in
+          seq_over_limit tree p a c.in_ok-taken.taken.length l.0 l.2.takes c.if-is_over_limit.ensures.0 c.if-is_over_limit.ensures.1,
     )
 
 pub read_map-returns-then-is_over_limit-clause-refused : goal.read_map-returns-then-is_over_limit-clause-refused
 read_map-returns-then-is_over_limit-clause-refused t c =
-    passed_on (λ e. IsRefusalAt (map_tree (tree_of_node c.args.left c.args.table.now c.args.key.now) (tree_of_node c.args.left c.args.table.now c.args.value.now)) c.args.place c.args.reader.now e.reason) c.err.result _ _ c.err.ensures refl (
+    let key_tree = tree_of_node c.args.left c.args.table.now c.args.key.now in
+    let value_tree = tree_of_node c.args.left c.args.table.now c.args.value.now in
+    passed_on (λ e. IsRefusalAt (map_tree key_tree value_tree) c.args.place c.args.reader.now e.reason) c.err.result _ _ c.err.ensures refl (
       tt,
       λ other p at a st.
-          let l = told_at c.args.reader.now c.take_length.new.self c.args.place length_kind (natural c.in_ok-taken.taken.length) (λ entries. c.in_ok-taken.taken.total ≡ total entries) c.in_ok-taken.ensures.leads p at a st in
-          map_over_limit (tree_of_node c.args.left c.args.table.now c.args.key.now) (tree_of_node c.args.left c.args.table.now c.args.value.now) p a c.in_ok-taken.taken.length l.0 l.2.takes c.if-is_over_limit.ensures.0 c.if-is_over_limit.ensures.1,
+          let l = told_at c.args.reader.now c.take_length.new.self c.args.place length_kind (natural c.in_ok-taken.taken.length)
+          (λ entries. c.in_ok-taken.taken.total ≡ total entries) c.in_ok-taken.ensures.leads p at a st in
+          map_over_limit key_tree value_tree p a c.in_ok-taken.taken.length l.0 l.2.takes c.if-is_over_limit.ensures.0 c.if-is_over_limit.ensures.1,
     )
+
+-- ---- the cases of values
+
+pub read-returns-in-Unit-clause-whole : goal.read-returns-in-Unit-clause-whole
+read-returns-in-Unit-clause-whole t c = rw c.in-Unit.is (faults-Unit c.args.table.now c.args.left)
+
+pub read-returns-in-Bool-clause-whole : goal.read-returns-in-Bool-clause-whole
+read-returns-in-Bool-clause-whole t c =
+    rw c.in-Bool.is (IfOk-weaker _ (IsCaseOf kind.Bools) (λ v. faults_of c.args.table.now v c.args.left node.Bool ≡ [])
+    (λ v h. of_case c.args.table.now c.args.left node.Bool v (λ b. value.Bool b) (faults-Bool c.args.table.now c.args.left) h) c.read_leaf.ensures.of_case)
+
+pub read-returns-in-U8-clause-whole : goal.read-returns-in-U8-clause-whole
+read-returns-in-U8-clause-whole t c =
+    rw c.in-U8.is (IfOk-weaker _ (IsCaseOf kind.Bytes) (λ v. faults_of c.args.table.now v c.args.left node.U8 ≡ [])
+    (λ v h. of_case c.args.table.now c.args.left node.U8 v (λ n. value.U8 n) (faults-U8 c.args.table.now c.args.left) h) c.read_leaf-in-U8.ensures.of_case)
+
+pub read-returns-in-U16-clause-whole : goal.read-returns-in-U16-clause-whole
+read-returns-in-U16-clause-whole t c =
+    rw c.in-U16.is (IfOk-weaker _ (IsCaseOf kind.U16) (λ v. faults_of c.args.table.now v c.args.left node.U16 ≡ [])
+    (λ v h. of_case c.args.table.now c.args.left node.U16 v (λ n. value.U16 n) (faults-U16 c.args.table.now c.args.left) h) c.read_leaf-in-U16.ensures.of_case)
+
+pub read-returns-in-U32-clause-whole : goal.read-returns-in-U32-clause-whole
+read-returns-in-U32-clause-whole t c =
+    rw c.in-U32.is (IfOk-weaker _ (IsCaseOf kind.U32) (λ v. faults_of c.args.table.now v c.args.left node.U32 ≡ [])
+    (λ v h. of_case c.args.table.now c.args.left node.U32 v (λ n. value.U32 n) (faults-U32 c.args.table.now c.args.left) h) c.read_leaf-in-U32.ensures.of_case)
+
+pub read-returns-in-U64-clause-whole : goal.read-returns-in-U64-clause-whole
+read-returns-in-U64-clause-whole t c =
+    rw c.in-U64.is (IfOk-weaker _ (IsCaseOf kind.U64) (λ v. faults_of c.args.table.now v c.args.left node.U64 ≡ [])
+    (λ v h. of_case c.args.table.now c.args.left node.U64 v (λ n. value.U64 n) (faults-U64 c.args.table.now c.args.left) h) c.read_leaf-in-U64.ensures.of_case)
+
+pub read-returns-in-U128-clause-whole : goal.read-returns-in-U128-clause-whole
+read-returns-in-U128-clause-whole t c =
+    rw c.in-U128.is (IfOk-weaker _ (IsCaseOf kind.U128) (λ v. faults_of c.args.table.now v c.args.left node.U128 ≡ [])
+    (λ v h. of_case c.args.table.now c.args.left node.U128 v (λ n. value.U128 n) (faults-U128 c.args.table.now c.args.left) h) c.read_leaf-in-U128.ensures.of_case)
+
+pub read-returns-in-I8-clause-whole : goal.read-returns-in-I8-clause-whole
+read-returns-in-I8-clause-whole t c =
+    rw c.in-I8.is (IfOk-weaker _ (IsCaseOf kind.I8) (λ v. faults_of c.args.table.now v c.args.left node.I8 ≡ [])
+    (λ v h. of_case c.args.table.now c.args.left node.I8 v (λ z. value.I8 z) (faults-I8 c.args.table.now c.args.left) h) c.read_leaf-in-I8.ensures.of_case)
+
+pub read-returns-in-I16-clause-whole : goal.read-returns-in-I16-clause-whole
+read-returns-in-I16-clause-whole t c =
+    rw c.in-I16.is (IfOk-weaker _ (IsCaseOf kind.I16) (λ v. faults_of c.args.table.now v c.args.left node.I16 ≡ [])
+    (λ v h. of_case c.args.table.now c.args.left node.I16 v (λ z. value.I16 z) (faults-I16 c.args.table.now c.args.left) h) c.read_leaf-in-I16.ensures.of_case)
+
+pub read-returns-in-I32-clause-whole : goal.read-returns-in-I32-clause-whole
+read-returns-in-I32-clause-whole t c =
+    rw c.in-I32.is (IfOk-weaker _ (IsCaseOf kind.I32) (λ v. faults_of c.args.table.now v c.args.left node.I32 ≡ [])
+    (λ v h. of_case c.args.table.now c.args.left node.I32 v (λ z. value.I32 z) (faults-I32 c.args.table.now c.args.left) h) c.read_leaf-in-I32.ensures.of_case)
+
+pub read-returns-in-I64-clause-whole : goal.read-returns-in-I64-clause-whole
+read-returns-in-I64-clause-whole t c =
+    rw c.in-I64.is (IfOk-weaker _ (IsCaseOf kind.I64) (λ v. faults_of c.args.table.now v c.args.left node.I64 ≡ [])
+    (λ v h. of_case c.args.table.now c.args.left node.I64 v (λ z. value.I64 z) (faults-I64 c.args.table.now c.args.left) h) c.read_leaf-in-I64.ensures.of_case)
+
+pub read-returns-in-I128-clause-whole : goal.read-returns-in-I128-clause-whole
+read-returns-in-I128-clause-whole t c =
+    rw c.in-I128.is (IfOk-weaker _ (IsCaseOf kind.I128) (λ v. faults_of c.args.table.now v c.args.left node.I128 ≡ [])
+    (λ v h. of_case c.args.table.now c.args.left node.I128 v (λ z. value.I128 z) (faults-I128 c.args.table.now c.args.left) h) c.read_leaf-in-I128.ensures.of_case)
+
+pub read-returns-in-Str-clause-whole : goal.read-returns-in-Str-clause-whole
+read-returns-in-Str-clause-whole t c =
+    rw c.in-Str.is (IfOk-weaker _ (IsCaseOf kind.Texts) (λ v. faults_of c.args.table.now v c.args.left node.Str ≡ [])
+    (λ v h. of_case c.args.table.now c.args.left node.Str v (λ s. value.Str s) (faults-Str c.args.table.now c.args.left) h) c.read_leaf-in-Str.ensures.of_case)
+
+pub read-returns-in-Char-clause-whole : goal.read-returns-in-Char-clause-whole
+read-returns-in-Char-clause-whole t c =
+    rw c.in-Char.is (IfOk-weaker _ IsOfChar (λ v. faults_of c.args.table.now v c.args.left node.Char ≡ []) (λ v h. h c.args.table.now c.args.left) c.read_char.ensures.whole)
+
+pub read-returns-in-Bytes-clause-whole : goal.read-returns-in-Bytes-clause-whole
+read-returns-in-Bytes-clause-whole t c =
+    rw c.in-Bytes.is (IfOk-weaker _ IsOfBytes (λ v. faults_of c.args.table.now v c.args.left node.Bytes ≡ []) (λ v h. h c.args.table.now c.args.left) c.read_bytes.ensures.whole)
+
+pub read-returns-in-Option-clause-whole : goal.read-returns-in-Option-clause-whole
+read-returns-in-Option-clause-whole t c =
+    rw c.in-Option.is (IfOk-weaker _ (IsOfOption c.args.table.now c.args.left _) (λ v. faults_of c.args.table.now v c.args.left (node.Option c.in-Option.some) ≡ [])
+    (λ v h. h c.in-Option.some (sym c.deref.ensures)) c.read_option.ensures.whole)
+
+pub read-returns-in-Seq-clause-whole : goal.read-returns-in-Seq-clause-whole
+read-returns-in-Seq-clause-whole t c =
+    rw c.in-Seq.is (IfOk-weaker _ (IsOfSeq c.args.table.now c.args.left _) (λ v. faults_of c.args.table.now v c.args.left (node.Seq c.in-Seq.element) ≡ [])
+    (λ v h. h c.in-Seq.element (sym c.deref-in-Seq.ensures)) c.read_seq.ensures.whole)
+
+pub read-returns-in-Map-clause-whole : goal.read-returns-in-Map-clause-whole
+read-returns-in-Map-clause-whole t c =
+    rw c.in-Map.is (IfOk-weaker _ (IsOfMap c.args.table.now c.args.left _ _) (λ v. faults_of c.args.table.now v c.args.left (node.Map c.in-Map.key c.in-Map.value) ≡ [])
+    (λ v h. h c.in-Map.key c.in-Map.value (sym c.deref-in-Map.ensures) (sym c.deref-in-Map-2.ensures)) c.read_map.ensures.whole)
+
+pub read-returns-in-Tuple-clause-whole : goal.read-returns-in-Tuple-clause-whole
+read-returns-in-Tuple-clause-whole t c =
+    rw c.in-Tuple.is (IfOk-weaker _ (IsOfTuple c.args.table.now c.args.left _) (λ v. faults_of c.args.table.now v c.args.left (node.Tuple c.in-Tuple.nodes) ≡ [])
+    (λ v h. h c.in-Tuple.nodes (sym c.deref-in-Tuple.ensures.value)) c.read_tuple.ensures.whole)
+
+pub read-returns-in-Enum-clause-whole : goal.read-returns-in-Enum-clause-whole
+read-returns-in-Enum-clause-whole t c =
+    rw c.in-Enum.is (IfOk-weaker _ (IsOfEnum c.args.table.now c.args.left _) (λ v. faults_of c.args.table.now v c.args.left (node.Enum c.in-Enum.nodes) ≡ [])
+    (λ v h. h c.in-Enum.nodes (sym c.deref-in-Enum.ensures.value)) c.read_enum.ensures.whole)
+
+pub read-returns-in-Some-clause-whole : goal.read-returns-in-Some-clause-whole
+read-returns-in-Some-clause-whole t c =
+    let some : 0 < c.args.left = omega arith in
+    let there = found_entry c.args.table.now c.in-Ref.i c.in-Some.entry.now c.in-Some.ensures.lookup.3.0 (c.in-Some.ensures.lookup.3.1 c.in-Some.entry.now) in
+    rw c.in-Ref.is (IfOk-weaker _ (λ v. faults_of c.args.table.now v (c.args.left - 1) c.in-Some.entry.now ≡ [])
+    (λ v. faults_of c.args.table.now v c.args.left (node.Ref c.in-Ref.i) ≡ [])
+    (λ v h. reference_whole c.args.table.now v c.args.left c.in-Ref.i c.in-Some.entry.now some there h) c.read.ensures.whole)
+
+pub read_option-returns-then-taken-eq0-clause-whole : goal.read_option-returns-then-taken-eq0-clause-whole
+read_option-returns-then-taken-eq0-clause-whole t c = λ b is. faults-None c.args.table.now c.args.left b
+
+pub read_option-returns-clause-whole : goal.read_option-returns-clause-whole
+read_option-returns-clause-whole t c = λ b is.
+    faults-Some c.args.table.now c.args.left c.in_ok-new.field-0 b ∙ rw (c.in_ok-new.ensures.ok, is) c.in_ok-value.ensures.whole
+
+pub read_seq-returns-clause-whole : goal.read_seq-returns-clause-whole
+read_seq-returns-clause-whole t c = λ b is.
+    faults-Seq c.args.table.now c.args.left c.in_ok-values.values b ∙ rw is c.in_ok-values.ensures.whole
+
+pub read_map-returns-clause-whole : goal.read_map-returns-clause-whole
+read_map-returns-clause-whole t c = λ k w is_key is_value.
+    faults-Map c.args.table.now c.args.left c.loop-i.pairs k w ∙ rw (is_key, is_value) c.loop-i.invariant.2
+
+pub read_tuple-returns-clause-whole : goal.read_tuple-returns-clause-whole
+read_tuple-returns-clause-whole t c = λ ns is.
+    let last : c.loop-i.i ≡ length c.args.nodes.now = omega arith in
+    faults-Tuple c.args.table.now c.args.left c.loop-i.values ns
+    ∙ rw is (all_fields_whole c.args.table.now c.args.left c.args.nodes.now c.loop-i.values.items c.loop-i.i last c.loop-i.invariant.2)
+
+pub read_enum-returns-in_ok-new-in-Some-clause-whole : goal.read_enum-returns-in_ok-new-in-Some-clause-whole
+read_enum-returns-in_ok-new-in-Some-clause-whole t c = λ ns is.
+    let i = c.in_ok-taken.taken.index in
+    let n = c.in-Some.node.now in
+    let there = found_entry c.args.nodes.now i n c.in-Some.ensures.lookup.3.0 (c.in-Some.ensures.lookup.3.1 n) in
+    enum_whole c.args.table.now c.args.left i c.in_ok-new-in-Some.field-0 ns n (omega arith) (rw is there) (rw c.in_ok-new-in-Some.ensures.ok c.in_ok-value-in-Some.ensures.whole)

@@ -161,7 +161,7 @@ write_seq-returns-in_err-put t c =
 
 pub write_seq-write-requires : goal.write_seq-write-requires
 write_seq-write-requires t c =
-    let h : c.in_ok-element.element ≤ length c.loop-value.writer.below.items = let g = c.loop-value.invariant.1.written.grows.size in let k = c.loop-value.invariant.0 in omega (arith, g, k) in
+    let h : c.in_ok-element.element ≤ length c.loop-value.writer.places.below.items = let g = c.loop-value.invariant.1.written.grows.size in let k = c.loop-value.invariant.0 in omega (arith, g, k) in
     search (rules, h)
 
 pub write_seq-returns-in_err-write : goal.write_seq-returns-in_err-write
@@ -210,12 +210,12 @@ write_map-returns-in_err-put t c =
 
 pub write_map-write-requires : goal.write_map-write-requires
 write_map-write-requires t c =
-    let h : c.in_ok-keys.keys ≤ length c.loop-first.writer.below.items = let g = c.loop-first.invariant.2.written.grows.size in let k = c.loop-first.invariant.0 in omega (arith, g, k) in
+    let h : c.in_ok-keys.keys ≤ length c.loop-first.writer.places.below.items = let g = c.loop-first.invariant.2.written.grows.size in let k = c.loop-first.invariant.0 in omega (arith, g, k) in
     search (rules, h)
 
 pub write_map-write-requires-in-loop-first : goal.write_map-write-requires-in-loop-first
 write_map-write-requires-in-loop-first t c =
-    let h : c.in_ok-values.values ≤ length c.write.new.writer.below.items =
+    let h : c.in_ok-values.values ≤ length c.write.new.writer.places.below.items =
     let g = c.loop-first.invariant.2.written.grows.size in let k = c.loop-first.invariant.1 in let m = c.in_ok-write.ensures.written.grows.size in omega (arith, g, k, m) in
     search (rules, h)
 

@@ -33,13 +33,13 @@ decreases-write_tuple l = 4 * left_below l.left l.table.now (deepest l.nodes.now
 
 abbrev pub invariant-write_seq-loop-value : goal.invariant-write_seq-loop-value
 invariant-write_seq-loop-value l =
-    (l.element ≤ length l.initial.writer.below.items)
+    (l.element ≤ length l.initial.writer.places.below.items)
     × EachWritten (λ v. walk (tree_of_node l.left l.table l.node) (place_in l.initial.writer l.element) (datum_of v))
     (λ v. IsOf (tree_of_node l.left l.table l.node) (datum_of v)) (λ v. faults_of l.table v l.left l.node) l.values l.initial.writer l.value-index l.writer
 
 abbrev pub invariant-write_map-loop-first : goal.invariant-write_map-loop-first
 invariant-write_map-loop-first l =
-    (l.keys ≤ length l.initial.writer.below.items) × (l.values ≤ length l.initial.writer.below.items)
+    (l.keys ≤ length l.initial.writer.places.below.items) × (l.values ≤ length l.initial.writer.places.below.items)
     × EachWritten (λ e. walk (tree_of_node l.left l.table l.key) (place_in l.initial.writer l.keys) (datum_of e.0) ++ walk (tree_of_node l.left l.table l.value) (place_in l.initial.writer l.values) (datum_of e.1))
     (λ e. IsOf (tree_of_node l.left l.table l.key) (datum_of e.0) × IsOf (tree_of_node l.left l.table l.value) (datum_of e.1))
     (λ e. faults_of l.table e.0 l.left l.key ++ faults_of l.table e.1 l.left l.value) l.pairs l.initial.writer l.first-index l.writer

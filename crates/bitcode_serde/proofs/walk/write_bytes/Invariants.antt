@@ -8,5 +8,5 @@ use Rattle.bitcode_serde.proofs.walk.write_bytes.Given as goal
 
 abbrev pub invariant-loop-byte : goal.invariant-loop-byte
 invariant-loop-byte l =
-    (l.element ≤ length l.initial.writer.below.items)
+    (l.element ≤ length l.initial.writer.places.below.items)
     × Writes l.initial.writer (flat_map (λ n. use_at (place_in l.initial.writer l.element) (ints 1 false) (natural n) ∷ []) (take l.byte-index l.bytes)) l.writer

@@ -13,79 +13,82 @@ pub returns-in_err-read-in-Bools-clause-refused : goal.returns-in_err-read-in-Bo
 returns-in_err-read-in-Bools-clause-refused c =
     let y = err_from_is_err_and c.from_residual.result c.from_residual.ensures.1 in
     rw c.in-Bools.is (passed_on (λ e. IsColumnRefusal (bools) e.reason c.args.count c.args.input.now.now) c.from_residual.result c.in_err-read-in-Bools.field-0.0 y.0 y.1 y.2
-    (bools_column_refused c.in_err-read-in-Bools.field-0.0.reason c.args.count c.args.input.now.now c.in_err-read-in-Bools.ensures.refused))
+    (bools_column_refused c.in_err-read-in-Bools.field-0.0.reason c.args.count c.args.input.now.now c.in_err-read-in-Bools.ensures.exact c.in_err-read-in-Bools.ensures.refused))
 
 pub returns-in_err-read_indices-in-Bytes-clause-refused : goal.returns-in_err-read_indices-in-Bytes-clause-refused
 returns-in_err-read_indices-in-Bytes-clause-refused c =
     let y = err_from_is_err_and c.from_residual-in_err-read_indices-in-Bytes.result c.from_residual-in_err-read_indices-in-Bytes.ensures.1 in
-    rw c.in-Bytes.is (passed_on (λ e. IsColumnRefusal (ints 1 false) e.reason c.args.count c.args.input.now.now) c.from_residual-in_err-read_indices-in-Bytes.result c.in_err-read_indices-in-Bytes.field-0.0 y.0 y.1 y.2
-    (ints_column_refused 1 false width_1 c.in_err-read_indices-in-Bytes.field-0.0.reason c.args.count c.args.input.now.now c.in_err-read_indices-in-Bytes.ensures.refused))
+    rw c.in-Bytes.is (passed_on (λ e. IsColumnRefusal (ints 1 false) e.reason c.args.count c.args.input.now.now) c.from_residual-in_err-read_indices-in-Bytes.result
+    c.in_err-read_indices-in-Bytes.field-0.0 y.0 y.1 y.2
+    (ints_column_refused 1 false width_1 c.in_err-read_indices-in-Bytes.field-0.0.reason c.args.count c.args.input.now.now c.in_err-read_indices-in-Bytes.ensures.exact
+    c.in_err-read_indices-in-Bytes.ensures.refused))
 
 pub returns-in_err-read-in-U16-clause-refused : goal.returns-in_err-read-in-U16-clause-refused
 returns-in_err-read-in-U16-clause-refused c =
     let y = err_from_is_err_and c.from_residual-in_err-read-in-U16.result c.from_residual-in_err-read-in-U16.ensures.1 in
     rw c.in-U16.is (passed_on (λ e. IsColumnRefusal (ints 2 false) e.reason c.args.count c.args.input.now.now) c.from_residual-in_err-read-in-U16.result c.in_err-read-in-U16.field-0.0 y.0 y.1 y.2
-    (ints_column_refused 2 false width_2 c.in_err-read-in-U16.field-0.0.reason c.args.count c.args.input.now.now c.in_err-read-in-U16.ensures.refused))
+    (ints_column_refused 2 false width_2 c.in_err-read-in-U16.field-0.0.reason c.args.count c.args.input.now.now c.in_err-read-in-U16.ensures.exact c.in_err-read-in-U16.ensures.refused))
 
 pub returns-in_err-read-in-U32-clause-refused : goal.returns-in_err-read-in-U32-clause-refused
 returns-in_err-read-in-U32-clause-refused c =
     let y = err_from_is_err_and c.from_residual-in_err-read-in-U32.result c.from_residual-in_err-read-in-U32.ensures.1 in
     rw c.in-U32.is (passed_on (λ e. IsColumnRefusal (ints 4 false) e.reason c.args.count c.args.input.now.now) c.from_residual-in_err-read-in-U32.result c.in_err-read-in-U32.field-0.0 y.0 y.1 y.2
-    (ints_column_refused 4 false width_4 c.in_err-read-in-U32.field-0.0.reason c.args.count c.args.input.now.now c.in_err-read-in-U32.ensures.refused))
+    (ints_column_refused 4 false width_4 c.in_err-read-in-U32.field-0.0.reason c.args.count c.args.input.now.now c.in_err-read-in-U32.ensures.exact c.in_err-read-in-U32.ensures.refused))
 
 pub returns-in_err-read-in-U64-clause-refused : goal.returns-in_err-read-in-U64-clause-refused
 returns-in_err-read-in-U64-clause-refused c =
     let y = err_from_is_err_and c.from_residual-in_err-read-in-U64.result c.from_residual-in_err-read-in-U64.ensures.1 in
     rw c.in-U64.is (passed_on (λ e. IsColumnRefusal (ints 8 false) e.reason c.args.count c.args.input.now.now) c.from_residual-in_err-read-in-U64.result c.in_err-read-in-U64.field-0.0 y.0 y.1 y.2
-    (ints_column_refused 8 false width_8 c.in_err-read-in-U64.field-0.0.reason c.args.count c.args.input.now.now c.in_err-read-in-U64.ensures.refused))
+    (ints_column_refused 8 false width_8 c.in_err-read-in-U64.field-0.0.reason c.args.count c.args.input.now.now c.in_err-read-in-U64.ensures.exact c.in_err-read-in-U64.ensures.refused))
 
 pub returns-in_err-read-in-U128-clause-refused : goal.returns-in_err-read-in-U128-clause-refused
 returns-in_err-read-in-U128-clause-refused c =
     let y = err_from_is_err_and c.from_residual-in_err-read-in-U128.result c.from_residual-in_err-read-in-U128.ensures.1 in
     rw c.in-U128.is (passed_on (λ e. IsColumnRefusal (ints 16 false) e.reason c.args.count c.args.input.now.now) c.from_residual-in_err-read-in-U128.result c.in_err-read-in-U128.field-0.0 y.0 y.1 y.2
-    (ints_column_refused 16 false width_16 c.in_err-read-in-U128.field-0.0.reason c.args.count c.args.input.now.now c.in_err-read-in-U128.ensures.refused))
+    (ints_column_refused 16 false width_16 c.in_err-read-in-U128.field-0.0.reason c.args.count c.args.input.now.now c.in_err-read-in-U128.ensures.exact c.in_err-read-in-U128.ensures.refused))
 
 pub returns-in_err-read-in-I8-clause-refused : goal.returns-in_err-read-in-I8-clause-refused
 returns-in_err-read-in-I8-clause-refused c =
     let y = err_from_is_err_and c.from_residual-in_err-read-in-I8.result c.from_residual-in_err-read-in-I8.ensures.1 in
     rw c.in-I8.is (passed_on (λ e. IsColumnRefusal (ints 1 true) e.reason c.args.count c.args.input.now.now) c.from_residual-in_err-read-in-I8.result c.in_err-read-in-I8.field-0.0 y.0 y.1 y.2
-    (ints_column_refused 1 true width_1 c.in_err-read-in-I8.field-0.0.reason c.args.count c.args.input.now.now c.in_err-read-in-I8.ensures.refused))
+    (ints_column_refused 1 true width_1 c.in_err-read-in-I8.field-0.0.reason c.args.count c.args.input.now.now c.in_err-read-in-I8.ensures.exact c.in_err-read-in-I8.ensures.refused))
 
 pub returns-in_err-read-in-I16-clause-refused : goal.returns-in_err-read-in-I16-clause-refused
 returns-in_err-read-in-I16-clause-refused c =
     let y = err_from_is_err_and c.from_residual-in_err-read-in-I16.result c.from_residual-in_err-read-in-I16.ensures.1 in
     rw c.in-I16.is (passed_on (λ e. IsColumnRefusal (ints 2 true) e.reason c.args.count c.args.input.now.now) c.from_residual-in_err-read-in-I16.result c.in_err-read-in-I16.field-0.0 y.0 y.1 y.2
-    (ints_column_refused 2 true width_2 c.in_err-read-in-I16.field-0.0.reason c.args.count c.args.input.now.now c.in_err-read-in-I16.ensures.refused))
+    (ints_column_refused 2 true width_2 c.in_err-read-in-I16.field-0.0.reason c.args.count c.args.input.now.now c.in_err-read-in-I16.ensures.exact c.in_err-read-in-I16.ensures.refused))
 
 pub returns-in_err-read-in-I32-clause-refused : goal.returns-in_err-read-in-I32-clause-refused
 returns-in_err-read-in-I32-clause-refused c =
     let y = err_from_is_err_and c.from_residual-in_err-read-in-I32.result c.from_residual-in_err-read-in-I32.ensures.1 in
     rw c.in-I32.is (passed_on (λ e. IsColumnRefusal (ints 4 true) e.reason c.args.count c.args.input.now.now) c.from_residual-in_err-read-in-I32.result c.in_err-read-in-I32.field-0.0 y.0 y.1 y.2
-    (ints_column_refused 4 true width_4 c.in_err-read-in-I32.field-0.0.reason c.args.count c.args.input.now.now c.in_err-read-in-I32.ensures.refused))
+    (ints_column_refused 4 true width_4 c.in_err-read-in-I32.field-0.0.reason c.args.count c.args.input.now.now c.in_err-read-in-I32.ensures.exact c.in_err-read-in-I32.ensures.refused))
 
 pub returns-in_err-read-in-I64-clause-refused : goal.returns-in_err-read-in-I64-clause-refused
 returns-in_err-read-in-I64-clause-refused c =
     let y = err_from_is_err_and c.from_residual-in_err-read-in-I64.result c.from_residual-in_err-read-in-I64.ensures.1 in
     rw c.in-I64.is (passed_on (λ e. IsColumnRefusal (ints 8 true) e.reason c.args.count c.args.input.now.now) c.from_residual-in_err-read-in-I64.result c.in_err-read-in-I64.field-0.0 y.0 y.1 y.2
-    (ints_column_refused 8 true width_8 c.in_err-read-in-I64.field-0.0.reason c.args.count c.args.input.now.now c.in_err-read-in-I64.ensures.refused))
+    (ints_column_refused 8 true width_8 c.in_err-read-in-I64.field-0.0.reason c.args.count c.args.input.now.now c.in_err-read-in-I64.ensures.exact c.in_err-read-in-I64.ensures.refused))
 
 pub returns-in_err-read-in-I128-clause-refused : goal.returns-in_err-read-in-I128-clause-refused
 returns-in_err-read-in-I128-clause-refused c =
     let y = err_from_is_err_and c.from_residual-in_err-read-in-I128.result c.from_residual-in_err-read-in-I128.ensures.1 in
     rw c.in-I128.is (passed_on (λ e. IsColumnRefusal (ints 16 true) e.reason c.args.count c.args.input.now.now) c.from_residual-in_err-read-in-I128.result c.in_err-read-in-I128.field-0.0 y.0 y.1 y.2
-    (ints_column_refused 16 true width_16 c.in_err-read-in-I128.field-0.0.reason c.args.count c.args.input.now.now c.in_err-read-in-I128.ensures.refused))
+    (ints_column_refused 16 true width_16 c.in_err-read-in-I128.field-0.0.reason c.args.count c.args.input.now.now c.in_err-read-in-I128.ensures.exact c.in_err-read-in-I128.ensures.refused))
 
 pub returns-in_err-read_lengths-in-Lengths-clause-refused : goal.returns-in_err-read_lengths-in-Lengths-clause-refused
 returns-in_err-read_lengths-in-Lengths-clause-refused c =
     let y = err_from_is_err_and c.from_residual-in_err-read_lengths-in-Lengths.result c.from_residual-in_err-read_lengths-in-Lengths.ensures.1 in
-    rw c.in-Lengths.is (passed_on (λ e. IsColumnRefusal (lengths None) e.reason c.args.count c.args.input.now.now) c.from_residual-in_err-read_lengths-in-Lengths.result c.in_err-read_lengths-in-Lengths.field-0.0 y.0 y.1 y.2
+    rw c.in-Lengths.is (passed_on (λ e. IsColumnRefusal (lengths None) e.reason c.args.count c.args.input.now.now) c.from_residual-in_err-read_lengths-in-Lengths.result
+    c.in_err-read_lengths-in-Lengths.field-0.0 y.0 y.1 y.2
     (lengths_column_refused c.in_err-read_lengths-in-Lengths.field-0.0.reason c.args.count c.args.input.now.now c.in_err-read_lengths-in-Lengths.ensures.refused))
 
 pub returns-in_err-read-in-Texts-clause-refused : goal.returns-in_err-read-in-Texts-clause-refused
 returns-in_err-read-in-Texts-clause-refused c =
     let y = err_from_is_err_and c.from_residual-in_err-read-in-Texts.result c.from_residual-in_err-read-in-Texts.ensures.1 in
     rw c.in-Texts.is (passed_on (λ e. IsColumnRefusal (texts None) e.reason c.args.count c.args.input.now.now) c.from_residual-in_err-read-in-Texts.result c.in_err-read-in-Texts.field-0.0 y.0 y.1 y.2
-    (texts_column_refused c.in_err-read-in-Texts.field-0.0.reason c.args.count c.args.input.now.now c.in_err-read-in-Texts.ensures.refused))
+    (texts_column_refused c.in_err-read-in-Texts.field-0.0.reason c.args.count c.args.input.now.now c.in_err-read-in-Texts.ensures.exact c.in_err-read-in-Texts.ensures.refused))
 
 pub returns-in_ok-read-in-Bools-clause-read : goal.returns-in_ok-read-in-Bools-clause-read
 returns-in_ok-read-in-Bools-clause-read c =
@@ -137,4 +140,5 @@ returns-in_ok-read_lengths-in-Lengths-clause-read c =
 
 pub returns-in_ok-new-in-Bytes-clause-read : goal.returns-in_ok-new-in-Bytes-clause-read
 returns-in_ok-new-in-Bytes-clause-read c =
-    rw (c.in-Bytes.is, c.in_ok-new-in-Bytes.ensures.ok) (column_read (ints 1 false) (int_shape 1 false) c.args.count c.args.input.now.now _ _ c.in_ok-read_indices-in-Bytes.ensures.read (λ piece s. s.columns))
+    rw (c.in-Bytes.is, c.in_ok-new-in-Bytes.ensures.ok) (column_read (ints 1 false) (int_shape 1 false) c.args.count c.args.input.now.now _ _
+    c.in_ok-read_indices-in-Bytes.ensures.read (λ piece s. s.columns))

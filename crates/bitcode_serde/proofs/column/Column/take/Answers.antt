@@ -1,5 +1,5 @@
 -- What was taken is the datum of the value.
-use Rattle.std.proofs.Common.{ap, pos, ◌∙◌}
+use Rattle.std.proofs.Common.{ap, pos, refl, ◌∙◌}
 use Rattle.bitcode_untyped.proofs.ViewLemmas.{datum-U16, datum-U32, datum-U64, datum-U128, datum-I8, datum-I16, datum-I32, datum-I64, datum-I128, datum-Str}
 use Rattle.bitcode_untyped.specs.View.{datum_of}
 use Rattle.bitcode_untyped.specs.declared.value.Value.TheVariants as value
@@ -55,3 +55,6 @@ returns-in-Lengths-clause-taken c =
 pub returns-in_ok-decode-in-Texts-clause-taken : goal.returns-in_ok-decode-in-Texts-clause-taken
 returns-in_ok-decode-in-Texts-clause-taken c =
     text_taken c.in_ok-decode-in-Texts.field-0 _ _ _ _ (ap left c.in-Texts.is) c.in_ok-decode-in-Texts.ensures.made (datum-Str c.in_ok-decode-in-Texts.field-0)
+
+pub returns-in_ok-decode-in-Texts-clause-of_case : goal.returns-in_ok-decode-in-Texts-clause-of_case
+returns-in_ok-decode-in-Texts-clause-of_case c = rw c.in-Texts.is (c.in_ok-decode-in-Texts.field-0, refl)

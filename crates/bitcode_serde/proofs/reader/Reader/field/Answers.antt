@@ -1,10 +1,11 @@
 -- A field stands at the tuple's place, or one step below it.
 use Rattle.std.proofs.Common.{map, sym, subst}
 use Rattle.bitcode_untyped.specs.Machine.{whole}
-use Rattle.bitcode_serde.specs.Reading.{Hosts, places, place_at}
-use Rattle.bitcode_serde.specs.declared.reader.Step.TheVariants as step
+use Rattle.bitcode_serde.specs.Reading.{Hosts}
+use Rattle.bitcode_serde.specs.Places.{places, place_at}
+use Rattle.bitcode_serde.specs.declared.step.Step.TheVariants as step
 use Rattle.bitcode_serde.proofs.FieldLemmas.{field_at_several}
-use Rattle.bitcode_serde.proofs.ReadingLemmas.{inside_places}
+use Rattle.bitcode_serde.proofs.PlaceLemmas.{inside_places}
 use Rattle.bitcode_serde.proofs.ValueLemmas.{below_it}
 use Rattle.bitcode_serde.proofs.reader.Reader.field.Goals as goal
 
@@ -18,6 +19,6 @@ returns-clause-found c = λ p at.
 
 pub returns-clause-stands : goal.returns-clause-stands
 returns-clause-stands c = λ a s.
-    let below = c.args.self.now.below.items in
+    let below = c.args.self.now.places.below.items in
     c.in_ok-inside.ensures.stands a s
     (subst (λ n. Hosts (map whole a.opened) (place_at (places below) c.args.place) n) (sym c.count_at-count.ensures) (s.hosts c.args.place (inside_places below c.args.place c.requires.place)))

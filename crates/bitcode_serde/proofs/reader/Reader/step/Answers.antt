@@ -1,32 +1,21 @@
--- A place is found, or is new.
-use Rattle.std.proofs.Common.{refl, ap, sym, subst, length, All, slice_get}
-use Rattle.std.specs.Prelude.{IsSomeAnd}
-use Rattle.bitcode_serde.specs.Reading.{IsPlace, IsRooted, IsStep}
-use Rattle.bitcode_serde.proofs.StepLemmas.{found_place, pushed_found, pushed_kept, pushed_stands, pushed_rooted}
+-- A place is found, or is new, and so many data stand at it.
+use Rattle.std.proofs.Common.{refl, arith}
+use Rattle.bitcode_serde.specs.declared.places.Below.{Below}
+use Rattle.bitcode_serde.proofs.PlaceLemmas.{grown_within}
+use Rattle.bitcode_serde.proofs.StepLemmas.{stands_stepped, kept_place}
 use Rattle.bitcode_serde.proofs.reader.Reader.step.Goals as goal
 
-pub returns-in-Some-clause-found : goal.returns-in-Some-clause-found
-returns-in-Some-clause-found c =
-    found_place c.args.self.now.below.items c.in-Some.i c.args.above c.args.step c.requires.rooted
-    (subst (λ bs. IsSomeAnd (slice_get bs c.in-Some.i) (λ b. IsStep b c.args.above c.args.step)) c.deref.ensures.value c.in-Some.ensures.some)
+pub returns-clause-kept : goal.returns-clause-kept
+returns-clause-kept c =
+    kept_place c.args.self.now.places.below.items c.below.new.self.below.items (record { above = c.args.above; step = c.args.step }) c.in_ok-place.place c.in_ok-place.ensures.grown
 
-pub returns-in_ok-push-in-None-clause-rooted : goal.returns-in_ok-push-in-None-clause-rooted
-returns-in_ok-push-in-None-clause-rooted c =
-    subst (IsRooted 1) (sym c.in_ok-push-in-None.ensures.items)
-    (pushed_rooted c.args.self.now.below.items (record { above = c.args.above; step = c.args.step; count = c.args.count }) c.requires.rooted c.requires.above)
-
-pub returns-in_ok-push-in-None-clause-found : goal.returns-in_ok-push-in-None-clause-found
-returns-in_ok-push-in-None-clause-found c =
-    pushed_found c.args.self.now.below.items (record { above = c.args.above; step = c.args.step; count = c.args.count }) c.requires.rooted c.requires.above
-    c.push.new.self.items (length c.as_slice.result.now) c.in_ok-push-in-None.ensures.items (ap length c.as_slice.ensures.value)
-
-pub returns-in_ok-push-in-None-clause-kept : goal.returns-in_ok-push-in-None-clause-kept
-returns-in_ok-push-in-None-clause-kept c = λ i p h.
-    subst (λ bs. IsPlace bs i p) (sym c.in_ok-push-in-None.ensures.items)
-    (pushed_kept c.args.self.now.below.items (record { above = c.args.above; step = c.args.step; count = c.args.count }) c.requires.rooted c.requires.above i p h)
-
-pub returns-in_ok-push-in-None-clause-stands : goal.returns-in_ok-push-in-None-clause-stands
-returns-in_ok-push-in-None-clause-stands c =
-    pushed_stands c.args.self.now.below.items (record { above = c.args.above; step = c.args.step; count = c.args.count }) c.requires.rooted c.requires.above
-    c.args.self.now _ refl c.in_ok-push-in-None.ensures.items refl refl
-    (subst (All (λ b. IsStep b c.args.above c.args.step → ⊥)) c.deref.ensures.value c.in-None.ensures.none)
+pub returns-clause-stands : goal.returns-clause-stands
+returns-clause-stands c =
+    let old = c.args.self.now in
+    let new : Below = record { above = c.args.above; step = c.args.step } in
+    let within = grown_within old.places.below.items c.below.new.self.below.items new c.in_ok-place.place c.in_ok-place.ensures.grown c.in_ok-place.ensures.found.0 in
+    let room = c.in_ok-make_room.ensures.room in
+    let size = c.len.ensures in
+    stands_stepped old.places.below.items c.below.new.self.below.items new c.in_ok-place.place c.args.count _
+    c.in_ok-place.ensures.grown c.in_ok-place.ensures.some c.in_ok-place.ensures.found
+    old.counts.items c.make_room.new.counts.items old.counted (omega (arith, within, room, size)) c.make_room.ensures.same old _ refl refl refl refl refl refl

@@ -2,6 +2,7 @@
 use Rattle.std.proofs.Common.{rules, arith, refl, ap, length, ◌-◌, false}
 use Rattle.bitcode_coder.specs.Columns.{ints}
 use Rattle.bitcode_coder.specs.Spelling.{natural}
+use Rattle.bitcode_serde.proofs.FiledLemmas.{filed_set}
 use Rattle.bitcode_serde.proofs.ReadingLemmas.{led, found_ready, ready_within, sized_at, sized_set}
 use Rattle.bitcode_serde.proofs.reader.Reader.take_code.Goals as goal
 
@@ -40,7 +41,7 @@ returns-clause-leads c =
     let some = h.1 in
     led c.args.self.now c.ready.new.self _ c.args.place c.in_ok-i.i (ints 4 false) there
     (record { place = there.place; left = there.left - 1; column = c.take_code-code.new.self })
-    (natural c.take_code-code.result) c.requires.place c.ready.ensures.below c.ready.ensures.below refl refl c.in_ok-i.ensures.found c.index_mut-open.ensures.value
+    (natural c.take_code-code.result) c.requires.place c.ready.ensures.below c.ready.ensures.below refl refl refl c.in_ok-i.ensures.found c.index_mut-open.ensures.value
     (record {
       place = refl;
       kind = c.take_code-code.ensures.kind;
@@ -49,3 +50,10 @@ returns-clause-leads c =
       tallies = c.take_code-code.ensures.tallies;
     })
     c.in_ok-i.ensures.prepared
+
+pub invariant_of-self-clause-filed : goal.invariant_of-self-clause-filed
+invariant_of-self-clause-filed c =
+    let r = c.ready.new.self in
+    let there = c.index_mut-open.result.now in
+    filed_set (λ c. c.place) r.places.links.items r.columns.items c.in_ok-i.i there (record { place = there.place; left = there.left - 1; column = c.take_code-code.new.self })
+    (ap (λ z. z.place) c.index_mut-open.ensures.value) r.filed

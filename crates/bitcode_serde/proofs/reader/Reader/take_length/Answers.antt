@@ -2,6 +2,7 @@
 use Rattle.std.proofs.Common.{rules, arith, refl, ap, length, ◌-◌, ◌∙◌, None}
 use Rattle.bitcode_coder.specs.Columns.{lengths}
 use Rattle.bitcode_coder.specs.Spelling.{natural}
+use Rattle.bitcode_serde.proofs.FiledLemmas.{filed_set}
 use Rattle.bitcode_serde.proofs.ReadingLemmas.{led_telling, found_ready, ready_within, sized_at, sized_set}
 use Rattle.bitcode_serde.proofs.reader.Reader.take_length.Goals as goal
 
@@ -44,7 +45,7 @@ returns-clause-leads c = λ a s.
     let some = h.1 in
     let led = led_telling c.args.self.now c.ready.new.self _ c.args.place c.in_ok-i.i (lengths None) there
     (record { place = there.place; left = there.left - 1; column = c.take_length-length.new.self })
-    (natural c.take_length-length.result) c.requires.place c.ready.ensures.below c.ready.ensures.below refl refl c.in_ok-i.ensures.found c.index_mut-open.ensures.value
+    (natural c.take_length-length.result) c.requires.place c.ready.ensures.below c.ready.ensures.below refl refl refl c.in_ok-i.ensures.found c.index_mut-open.ensures.value
     (record {
       place = refl;
       kind = c.take_length-length.ensures.kind;
@@ -54,3 +55,10 @@ returns-clause-leads c = λ a s.
     })
     c.in_ok-i.ensures.prepared a s in
     (led.0, led.1, led.2, led.3, c.total-total.ensures _ (c.take_length-length.ensures.tallies _ led.4), led.5)
+
+pub invariant_of-self-clause-filed : goal.invariant_of-self-clause-filed
+invariant_of-self-clause-filed c =
+    let r = c.ready.new.self in
+    let there = c.index_mut-open.result.now in
+    filed_set (λ c. c.place) r.places.links.items r.columns.items c.in_ok-i.i there (record { place = there.place; left = there.left - 1; column = c.take_length-length.new.self })
+    (ap (λ z. z.place) c.index_mut-open.ensures.value) r.filed

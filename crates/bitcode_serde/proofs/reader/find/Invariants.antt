@@ -1,5 +1,0 @@
-use Rattle.std.proofs.Common.{◌≢◌, All, take}
-use Rattle.bitcode_serde.proofs.reader.find.Given as goal
-
-abbrev pub invariant-loop-i : goal.invariant-loop-i
-invariant-loop-i l = All (λ c. c.place ≢ l.place) (take l.i l.columns)
