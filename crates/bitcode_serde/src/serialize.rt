@@ -21,7 +21,7 @@ use std::alloc::Global;
 /// It refuses a value that is not of the shape, and no other: with `enums with more than 256 variants are unsupported` only
 /// where an index is over 255, with `nested too deep` only where more than 128 references are followed on a path, and with
 /// `value is not of the shape` only where it is not in another way. Where it is not in several ways, any of them may be told.
-/// `out of memory` comes only where memory was refused.
+/// It also refuses with `out of memory`.
 ///
 /// ```
 /// let flags = Shape::new(vec![in alloc; ShapeNode::Seq(Box::new(alloc, ShapeNode::Bool)?)]?, 0)?;
