@@ -1,7 +1,7 @@
 -- Reading a value: what is read of its parts, reader by reader.
 use Rattle.std.proofs.Common.{◌≡◌, ◌≢◌, ℕ, zero, suc, ◌+◌, ◌<◌, ◌≤◌, List, [], ◌∷◌, ◌++◌, length, map, true, refl, sym, subst, arith, false, pos}
-use Rattle.bitcode_input.specs.declared.error.Reason.{Reason}
-use Rattle.bitcode_input.specs.declared.error.Reason.TheVariants as reason
+use Rattle.bitcode_columns.specs.declared.error.Reason.{Reason}
+use Rattle.bitcode_columns.specs.declared.error.Reason.TheVariants as reason
 use Rattle.bitcode_shapes.specs.Datum.{Datum, unit, list, choice, pair, data_of}
 use Rattle.bitcode_shapes.specs.Shape.{any_number, IsInWidth}
 use Rattle.bitcode_coder.specs.Columns.{Kind, IsEntryOf}

@@ -1,7 +1,7 @@
 // The rows of tuples, pointers, markers and UUIDs.
 use super::untyped;
-use bitcode_checks::tuples::writes_sixteen;
-use bitcode_checks::{Got, encodes};
+use bitcode_tests::expected::tuples::writes_sixteen;
+use bitcode_tests::{Got, encodes};
 use std::alloc::Global;
 use std::marker::PhantomData;
 use std::rc::RcStr;

@@ -1,5 +1,5 @@
 // The stored rows of the second format: values under shapes.
-use bitcode_checks::Got;
+use bitcode_tests::Got;
 use std::alloc::Global;
 
 pub mod choices;

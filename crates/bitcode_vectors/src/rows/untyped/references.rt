@@ -1,7 +1,7 @@
 // The stored rows of shapes that hold themselves.
 use bitcode::{Reason, Shape, ShapeNode, Value};
-use bitcode_checks::Got;
-use bitcode_checks::untyped::{
+use bitcode_tests::Got;
+use bitcode_tests::untyped::{
     is_not_read, option_of, seq_of, shape_of, some, variant, written_both_ways,
 };
 use std::alloc::Global;

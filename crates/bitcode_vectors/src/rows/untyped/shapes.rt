@@ -1,8 +1,8 @@
 // The stored row of tables that are a shape, and of those that are none.
 use super::leaves;
 use bitcode::{Reason, Shape, ShapeNode};
-use bitcode_checks::Got;
-use bitcode_checks::untyped::seq_of;
+use bitcode_tests::Got;
+use bitcode_tests::untyped::seq_of;
 use std::alloc::Global;
 
 /// A table of this entry alone is no shape.
