@@ -12,7 +12,7 @@ use std::process::ExitCode;
 use std::time::{Duration, Instant};
 
 /// How often each call is timed. The shortest time counts, since other work can only make a call take longer.
-const RUNS: usize = 15;
+const RUNS: usize = 25;
 
 /// How many entries the smaller value of a pair has.
 const ENTRIES: usize = 2_000;

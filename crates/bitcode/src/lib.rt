@@ -147,5 +147,7 @@ pub mod laws {
         borrowed_text, borrowed_texts, one_text, one_value, overflows_exactly, round_trip,
         short_text,
     };
-    pub use bitcode_untyped::laws::{columns_decide, every_shape, spelled_data};
+    pub use bitcode_untyped::laws::{
+        columns_decide, every_shape, one_value_of_a_datum, spelled_data,
+    };
 }

@@ -19,9 +19,10 @@ use std::alloc::Global;
 
 /// Writes a value of a shape: one column for each place that the value has, in the order of their first entries.
 ///
-/// It refuses a value that is not of the shape, and no other: with `too many variants` only where an index is over 255,
-/// with `nested too deep` only where more than 128 references are followed on a path, with `value is not of the shape` only
-/// where it is not in another way, and with `out of memory`. Where it is not in several ways, any of them may be told.
+/// It refuses a value that is not of the shape, and no other: with `enums with more than 256 variants are unsupported` only
+/// where an index is over 255, with `nested too deep` only where more than 128 references are followed on a path, and with
+/// `value is not of the shape` only where it is not in another way. Where it is not in several ways, any of them may be told.
+/// It also refuses with `out of memory`.
 ///
 /// `deserialize` reads the value back, where each column of lengths sums below 2251799813685247 and each list of elements
 /// without a column, and each map of keys without one, has at most 65536 of them.

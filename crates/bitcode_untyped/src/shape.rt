@@ -9,6 +9,11 @@ use bitcode_columns::error::{Error, Reason};
 /// Which values stand at one place: a value of a type, or several values of further nodes.
 ///
 /// `Ref(i)` stands for entry `i` of the table, so that a shape may hold itself.
+///
+/// ```
+/// let entry = ShapeNode::Tuple(vec![in alloc; ShapeNode::Str, ShapeNode::U64]?);
+/// let lists = ShapeNode::Seq(Box::new(alloc, entry)?);
+/// ```
 #[derive(Clone, Debug, Drop, PartialEq, Eq)]
 pub enum ShapeNode {
     Unit,

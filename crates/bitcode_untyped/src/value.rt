@@ -1,6 +1,11 @@
 // Values that carry what they are.
 
 /// A value of any shape.
+///
+/// ```
+/// let entry = Value::Tuple(vec![in alloc; Value::Bool(true), Value::U64(7)]?);
+/// let one = Value::Seq(vec![in alloc; entry]?);
+/// ```
 #[derive(Clone, Debug, Drop, PartialEq, Eq)]
 pub enum Value {
     Unit,
