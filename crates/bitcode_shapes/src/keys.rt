@@ -12,7 +12,7 @@ ghost use Rattle.bitcode_shapes.specs.KeyLaws.{ones_told, bools_told, naturals_t
 ghost use Rattle.bitcode_shapes.specs.LawfulNever.{from_never};
 ghost use Rattle.bitcode_shapes.specs.OrderedKeyLaws.{ordered_maps_told, ordered_sets_told};
 ghost use Rattle.bitcode_shapes.specs.Sets.{TellsSame};
-ghost use Rattle.bitcode_shapes.specs.Values.{IsValueOfWidth};
+ghost use Rattle.bitcode_shapes.specs.Ints.{IsValueOfWidth};
 
 mod tuples;
 

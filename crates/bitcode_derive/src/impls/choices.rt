@@ -1,7 +1,7 @@
 // Options and results are encoded and decoded.
 use crate::derive::{DecodeOwned, HasDecoder, HasEncoder};
-use bitcode_parts::option::{OptionDecoder, OptionEncoder};
-use bitcode_parts::result::{ResultDecoder, ResultEncoder};
+use bitcode_parts::choices::option::{OptionDecoder, OptionEncoder};
+use bitcode_parts::choices::result::{ResultDecoder, ResultEncoder};
 
 impl<T: HasEncoder> HasEncoder for Option<T> {
     type Encoder = OptionEncoder<T::Encoder>;
