@@ -4,7 +4,7 @@ use Rattle.bitcode_columns.specs.declared.error.Reason.{Reason}
 use Rattle.bitcode_columns.specs.declared.error.Reason.TheVariants as reason
 use Rattle.bitcode_shapes.specs.Datum.{Datum, unit, list, choice, pair, data_of}
 use Rattle.bitcode_shapes.specs.Shape.{any_number, IsInWidth}
-use Rattle.bitcode_coder.specs.Coding.{IsReadingReason}
+use Rattle.bitcode_coder.specs.Coder.{IsReadingReason}
 use Rattle.bitcode_coder.specs.Columns.{Kind, IsEntryOf}
 use Rattle.bitcode_coder.specs.Spelling.{natural}
 use Rattle.bitcode_untyped.specs.Machine.{State, Takes, whole, is_open, entries_of}

@@ -31,8 +31,8 @@ pub const REF_LIMIT: usize = 128;
 pub fn deserialize(alloc: Global, shape: &Shape, bytes: &[u8]) -> Result<Value, Error>
     ensures read { IfOk result (λ value. SpellsDatum (tree_of shape.now) bytes.now (datum_of value)) }
     ensures refused { IfErr result (λ e. IsValueReason e.reason × (e.reason ≢ Reason.OutOfMemory → (d : Datum) → SpellsDatum (tree_of shape.now) bytes.now d → ⊥)) }
-    ensures once { (d e : Datum) → SpellsDatum (tree_of shape.now) bytes.now d → SpellsDatum (tree_of shape.now) bytes.now e → d ≡ e }
-    ensures eighth { (d : Datum) → SpellsDatum (tree_of shape.now) bytes.now d → entry_count (columns_of (tree_of shape.now) d) ≤ 8 * length bytes.now }
+    ensures unambiguous { (d e : Datum) → SpellsDatum (tree_of shape.now) bytes.now d → SpellsDatum (tree_of shape.now) bytes.now e → d ≡ e }
+    ensures size_bound { (d : Datum) → SpellsDatum (tree_of shape.now) bytes.now d → entry_count (columns_of (tree_of shape.now) d) ≤ 8 * length bytes.now }
     ensures bounded { (d : Datum) → SpellsDatum (tree_of shape.now) bytes.now d → element_count d ≤ 524296 * length bytes.now }
 {
     let table = shape.table();

@@ -3,7 +3,7 @@ ghost use Rattle.std.specs.Prelude.{◌≡◌, ◌≢◌, ◌<◌, ◌≤◌, �
 ghost use Rattle.bitcode_coder.specs.Spelling.{natural};
 ghost use Rattle.bitcode_coder.specs.Columns.{ints};
 ghost use Rattle.bitcode_untyped.specs.Population.{total, count_of};
-ghost use Rattle.bitcode_coder.specs.Coding.{IsReadingReason};
+ghost use Rattle.bitcode_coder.specs.Coder.{IsReadingReason};
 ghost use Rattle.bitcode_untyped.specs.Machine.{State, start, whole};
 ghost use Rattle.bitcode_untyped.specs.View.{datum_of};
 ghost use Rattle.bitcode_untyped.specs.Walk.{Place, length_kind, index_kind};

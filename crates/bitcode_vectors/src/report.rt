@@ -37,7 +37,7 @@ fn print_rows_to_11(rt: &impl Print, alloc: Global) -> io::Result<bool> {
 /// Runs rows 12 to 25 in order, and answers whether all of them are ok.
 fn print_rows_to_25(rt: &impl Print, alloc: Global) -> io::Result<bool> {
     let mut all_ok = print_row(rt, 12, rows::fixed_capacity::two_bytes(alloc))?;
-    all_ok &= print_row(rt, 13, rows::collections::equal_keys(alloc))?;
+    all_ok &= print_row(rt, 13, rows::maps::equal_keys(alloc))?;
     all_ok &= print_row(rt, 17, rows::texts::durations(alloc))?;
     all_ok &= print_row(rt, 18, rows::sequences::many_bools(alloc))?;
     all_ok &= print_row(rt, 19, rows::tuples::identifier(alloc))?;
@@ -72,7 +72,7 @@ fn print_rows_to_45(rt: &impl Print, alloc: Global) -> io::Result<bool> {
     all_ok &= print_row(rt, 40, rows::variants::raw_variants(alloc))?;
     all_ok &= print_row(rt, 41, rows::composites(alloc))?;
     all_ok &= print_row(rt, 42, rows::arrays::more_units_than_a_length(alloc))?;
-    all_ok &= print_row(rt, 43, rows::collections::sets_and_heaps(alloc))?;
+    all_ok &= print_row(rt, 43, rows::sets_and_heaps(alloc))?;
     all_ok &= print_row(rt, 44, rows::fixed_capacity::two_letters(alloc))?;
     all_ok &= print_row(rt, 45, rows::buffers::one_after_the_other(alloc))?;
     Ok(all_ok)

@@ -2,7 +2,7 @@
 use Rattle.std.proofs.Common.{◌≢◌, refl, sym, arith, ap, length}
 use Rattle.std.proofs.lemmas.Result.{err_from_is_err_and}
 use Rattle.bitcode_columns.specs.declared.error.Reason.TheVariants.{OutOfMemory}
-use Rattle.bitcode_coder.specs.Coding.{IsReadingReason}
+use Rattle.bitcode_coder.specs.Coder.{IsReadingReason}
 use Rattle.bitcode_untyped.specs.Machine.{State}
 use Rattle.bitcode_serde.specs.Reading.{places, place_at, Stands, NothingAt}
 use Rattle.bitcode_serde.specs.ReadColumns.{kind_of, left}

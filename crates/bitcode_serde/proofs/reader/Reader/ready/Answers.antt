@@ -1,7 +1,7 @@
 -- A column is found, or opened.
 use Rattle.std.proofs.Common.{◌≢◌, refl, sym, ◌∙◌, arith, subst, inl, inr}
 use Rattle.bitcode_columns.specs.declared.error.Reason.TheVariants.{OutOfMemory}
-use Rattle.bitcode_coder.specs.Coding.{IsReadingReason}
+use Rattle.bitcode_coder.specs.Coder.{IsReadingReason}
 use Rattle.bitcode_untyped.specs.Machine.{State}
 use Rattle.bitcode_serde.specs.Reading.{places, place_at, Stands, NothingAt}
 use Rattle.bitcode_serde.specs.ReadColumns.{kind_of}
