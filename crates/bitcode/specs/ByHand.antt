@@ -18,6 +18,7 @@ pub use Rattle.bitcode_parts.specs.Payloads.{choices_of}
 pub use Rattle.bitcode_parts.specs.VariantCoders.{variant_room, variants_left, variants_owned}
 -- The laws of vectors, and what containers are made of:
 pub use Rattle.bitcode_shapes.specs.LawfulVectors.{vec_lawful, vec_makeable}
-pub use Rattle.bitcode_containers.specs.Elements.{MakesOfElements}
+pub use Rattle.bitcode_parts.specs.Elements.{MakesOfElements}
 -- What is read of bytes:
-pub use Rattle.bitcode_derive.specs.Whole.{IsDecodingOf}
+pub use Rattle.bitcode_shapes.specs.Datum.{Datum}
+pub use Rattle.bitcode_derive.specs.Whole.{IsDecodingOf, SpellsDatum}

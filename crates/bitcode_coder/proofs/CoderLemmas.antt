@@ -5,21 +5,21 @@ use Rattle.std.proofs.lemmas.List.{length-map, map-append}
 use Rattle.std.proofs.lemmas.List.Elements.{All-map}
 use Rattle.std.proofs.lemmas.Result.{IfErr-weaker}
 use Rattle.std.proofs.lemmas.Simd.{map-map}
-use Rattle.bitcode_input.specs.declared.error.Error.{Error}
-use Rattle.bitcode_input.specs.declared.error.Reason.{Reason}
-use Rattle.bitcode_input.specs.declared.error.Reason.TheVariants.{Eof, InvalidPacking, OutOfMemory}
+use Rattle.bitcode_columns.specs.declared.error.Error.{Error}
+use Rattle.bitcode_columns.specs.declared.error.Reason.{Reason}
+use Rattle.bitcode_columns.specs.declared.error.Reason.TheVariants.{Eof, InvalidPacking, OutOfMemory}
 use Rattle.bitcode_columns.specs.declared.pack.Base.TheVariants.{Two}
 use Rattle.bitcode_columns.specs.BoolColumn.{SpellsBools}
 use Rattle.bitcode_columns.specs.ByteColumn.{base_at_level, highest_byte_tag}
-use Rattle.bitcode_numbers.specs.Widths.{IsWidth}
+use Rattle.bitcode_columns.specs.Widths.{IsWidth}
 use Rattle.bitcode_columns.specs.IntColumn.{IntForm, bytes_form, bare_form, tagged_form, int_form, SpellsInts, highest_int_tag, width_at_level}
-use Rattle.bitcode_numbers.specs.Numbers.{IsNumber, number_of, bool_number}
+use Rattle.bitcode_columns.specs.Numbers.{IsNumber, number_of, bool_number}
 use Rattle.bitcode_columns.specs.Tagged.{level_of_tag}
 use Rattle.bitcode_columns.specs.Reading.{Reads, missing, digits_fault, bools_fault, tagged_fault, bytes_fault, narrow_fault, ints_fault_as, ints_fault, ints_stand_raw, Names}
 use Rattle.bitcode_columns.specs.Laws.{IsFaultOf}
 use Rattle.bitcode_columns.proofs.DigitLemmas.{digits_fault-refuses}
 use Rattle.bitcode_columns.proofs.IntLemmas.{ints_fault-refuses}
-use Rattle.bitcode_numbers.proofs.NumberLemmas.{IsNumber-number_of}
+use Rattle.bitcode_columns.proofs.NumberLemmas.{IsNumber-number_of}
 use Rattle.bitcode_shapes.specs.Datum.{Datum, number, natural_in, number_in}
 use Rattle.bitcode_shapes.specs.Shape.{Shape, Allowed, IsInWidth, IsAllowed, IsNumberOf, IsNaturalBelow, bool_shape, any_number}
 use Rattle.bitcode_shapes.specs.Values.{int_shape}

@@ -8,14 +8,14 @@ use Rattle.std.proofs.lemmas.Simd.{map-map}
 use Rattle.std.proofs.lemmas.List.Elements.{All-weaker, All-map}
 use Rattle.bitcode_columns.specs.Laws.{IsReadOnce}
 use Rattle.bitcode_columns.specs.declared.pack.Base.TheVariants.{Two}
-use Rattle.bitcode_numbers.specs.Numbers.{IsNumber, residue, number_of, bool_number}
+use Rattle.bitcode_columns.specs.Numbers.{IsNumber, residue, number_of, bool_number}
 use Rattle.bitcode_columns.specs.BoolColumn.{SpellsBools}
 use Rattle.bitcode_columns.specs.IntColumn.{SpellsInts}
 use Rattle.bitcode_columns.specs.VariantColumn.{SpellsVariants}
 use Rattle.bitcode_columns.proofs.ListLemmas.{append_split, map_further}
 use Rattle.bitcode_columns.proofs.DigitLemmas.{SpellsDigits-eighth}
 use Rattle.bitcode_columns.proofs.VariantLemmas.{SpellsVariants-once, SpellsVariants-eighth, variant_text-spells}
-use Rattle.bitcode_numbers.proofs.NumberLemmas.{number_of-residue, residue_below}
+use Rattle.bitcode_columns.proofs.NumberLemmas.{number_of-residue, residue_below}
 use Rattle.bitcode_columns.proofs.BoolLemmas.{SpellsBools-once, bool_text-spells}
 use Rattle.bitcode_columns.proofs.IntLemmas.{SpellsInts-once, SpellsInts-eighth, int_text-spells}
 use Rattle.bitcode_shapes.specs.Datum.{Datum, number, text, number_in, natural_in, text_in}

@@ -7,9 +7,9 @@ use Rattle.std.proofs.lemmas.List.Elements.{All-map, All-weaker, All-filter, All
 use Rattle.std.proofs.lemmas.List.Sums.{length-filter, get_or-le-sum_by}
 use Rattle.std.proofs.lemmas.Simd.{map-map}
 use Rattle.bitcode_columns.specs.Laws.{IsReadOnce, TakesAnEighth}
-use Rattle.bitcode_numbers.specs.Numbers.{IsNumber, residue}
+use Rattle.bitcode_columns.specs.Numbers.{IsNumber, residue}
 use Rattle.bitcode_columns.specs.ByteColumn.{SpellsBytes, byte_text}
-use Rattle.bitcode_numbers.specs.Widths.{IsWidth}
+use Rattle.bitcode_columns.specs.Widths.{IsWidth}
 use Rattle.bitcode_columns.specs.IntColumn.{SpellsInts, int_text}
 use Rattle.bitcode_columns.proofs.ByteLemmas.{SpellsBytes-once, SpellsBytes-eighth, byte_text-spells}
 use Rattle.bitcode_columns.proofs.IntLemmas.{SpellsInts-once, SpellsInts-eighth, int_text-spells}

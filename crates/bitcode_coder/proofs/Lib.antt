@@ -16,3 +16,4 @@ pub mod LawLemmas
 pub mod CountLemmas
 pub mod EachLemmas
 pub mod RefusalLemmas
+pub mod CheckedLemmas

@@ -1,7 +1,7 @@
 -- What a part of a value refuses, the whole value refuses.
 use Rattle.std.proofs.Common.{inl, inr}
 use Rattle.std.specs.Prelude.{Result, Ok, Err, IfErr}
-use Rattle.bitcode_input.specs.declared.error.Reason.{Reason}
+use Rattle.bitcode_columns.specs.declared.error.Reason.{Reason}
 use Rattle.bitcode_coder.specs.Coding.{IsWritingRefusal}
 
 pub refusal_weaker : {Passes Others : Type 0} (reason : Reason) → (Passes → Others) → IsWritingRefusal reason Passes → IsWritingRefusal reason Others

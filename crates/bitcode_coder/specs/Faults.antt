@@ -1,8 +1,8 @@
 -- Which fault a reader of a column names, and where it takes no memory: want of memory is one only of a reading that
 -- takes memory, where all that is looked at before is there.
 use Rattle.std.specs.Prelude.{◌≡◌, ◌≢◌, ℕ, List, IsTrue}
-use Rattle.bitcode_input.specs.declared.error.Reason.{Reason}
-use Rattle.bitcode_input.specs.declared.error.Reason.TheVariants.{OutOfMemory}
+use Rattle.bitcode_columns.specs.declared.error.Reason.{Reason}
+use Rattle.bitcode_columns.specs.declared.error.Reason.TheVariants.{OutOfMemory}
 use Rattle.bitcode_columns.specs.Reading.{Names, NamesVariantFault, bools_fault, bytes_fault, ints_fault, bytes_stand_raw, ints_stand_raw, variants_stand_raw}
 
 -- no bools take no memory

@@ -14,3 +14,5 @@ pub mod Coding
 pub mod Rows
 pub mod Vectors
 pub mod Laws
+pub mod CheckedColumn
+pub mod IntData

@@ -2,7 +2,7 @@
 #![tactic(auto, using(crate::proofs::CoderLemmas::truths_in, crate::proofs::CoderLemmas::bools_read, crate::proofs::CoderLemmas::bools_refused, crate::proofs::CoderLemmas::bools_exact))]
 
 ghost use Rattle.std.specs.Prelude.{◌≡◌, ◌≢◌, ◌≤◌, ◌++◌, map, true, refl, OnOk, IfErr, OnErr};
-ghost use Rattle.bitcode_input.specs.Fast.{fast_items, fast_room, cow_rest, fast_capacity, cow_owned};
+ghost use Rattle.bitcode_columns.specs.Fast.{fast_items, fast_room, cow_rest, fast_capacity, cow_owned};
 ghost use Rattle.bitcode_columns.specs.Reading.{Reads, IsEndOf};
 ghost use Rattle.bitcode_shapes.specs.Shape.{bool_shape};
 ghost use Rattle.bitcode_coder.specs.Columns.{bools, one};
@@ -11,9 +11,9 @@ ghost use Rattle.bitcode_coder.specs.Coding.{IsReadingRefusal};
 ghost use Rattle.bitcode_coder.specs.Faults.{NamesBoolsFault};
 
 use crate::coder::{Buffer, Decoder, Encoder, HoldsColumns, HoldsData, View};
+use bitcode_columns::error::{Error, Reason};
+use bitcode_columns::fast::{CowSlice, FastVec, PushUnchecked};
 use bitcode_columns::pack::{pack_bools, unpack_bools};
-use bitcode_input::error::{Error, Reason};
-use bitcode_input::fast::{CowSlice, FastVec, PushUnchecked};
 use std::alloc::Global;
 
 /// The column that bools are written to.

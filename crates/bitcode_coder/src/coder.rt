@@ -1,6 +1,6 @@
 // The four traits that coders of columns and of types meet.
 ghost use Rattle.std.specs.Prelude.{◌≡◌, ◌≢◌, ℕ, ◌+◌, ◌<◌, ◌≤◌, Bool, List, [], ◌∷◌, ◌++◌, length, map, IsTrue, IsOk, IfOk, OnOk, IfErr, OnErr, IsErrOf};
-ghost use Rattle.bitcode_input.specs.declared.error.Reason.{Reason};
+ghost use Rattle.bitcode_columns.specs.declared.error.Reason.{Reason};
 ghost use Rattle.bitcode_columns.specs.Reading.{Reads, IsEndOf};
 ghost use Rattle.bitcode_shapes.specs.Datum.{Datum};
 ghost use Rattle.bitcode_shapes.specs.Shape.{Shape};
@@ -8,7 +8,7 @@ ghost use Rattle.bitcode_coder.specs.Columns.{Columns, emptied};
 ghost use Rattle.bitcode_coder.specs.Spelling.{Spells, columns_text};
 ghost use Rattle.bitcode_coder.specs.Coding.{written_columns, BeginsWith, JoinsListing, PassesWithListing, JoinsEach, PassesWithEach, SurelyPasses, IsWritingRefusal, IsReadingRefusal, TakesDatum};
 
-use bitcode_input::error::{Error, Reason};
+use bitcode_columns::error::{Error, Reason};
 use bitcode_shapes::sequences::told_behind;
 use bitcode_shapes::shaped::{Made, Shaped};
 use std::alloc::Global;

@@ -1,8 +1,11 @@
-// Columns of data, and the coders of one column.
+// Columns of data, the traits of coders, and the coders of one column.
 #![tactic(auto)]
 
 pub mod bool;
+pub mod checked;
 pub mod coder;
+pub mod column_int;
+pub mod int;
 pub mod laws;
 pub mod length;
 pub mod result;

@@ -1,6 +1,6 @@
 // Bytes of texts, and their coder.
 ghost use Rattle.std.specs.Prelude.{◌≡◌, ◌++◌, map, pos, true, refl};
-ghost use Rattle.bitcode_input.specs.Fast.{fast_items, fast_room, fast_capacity};
+ghost use Rattle.bitcode_columns.specs.Fast.{fast_items, fast_room, fast_capacity};
 ghost use Rattle.bitcode_shapes.specs.SameArrays.{one_datum_same_arrays};
 ghost use Rattle.bitcode_shapes.specs.Shape.{raw_shape};
 ghost use Rattle.bitcode_shapes.specs.Values.{ListsNumber, SameNumber};
@@ -9,8 +9,8 @@ ghost use Rattle.bitcode_coder.specs.RawBytes.{IsRawByte, raw_lawful};
 ghost use Rattle.bitcode_coder.specs.Spelling.{natural};
 
 use crate::coder::{Buffer, Encoder, HoldsColumns};
-use bitcode_input::error::Error;
-use bitcode_input::fast::{FastVec, PushUnchecked};
+use bitcode_columns::error::Error;
+use bitcode_columns::fast::{FastVec, PushUnchecked};
 use bitcode_shapes::same_arrays::SameArrays;
 use bitcode_shapes::shaped::Shaped;
 use std::alloc::Global;

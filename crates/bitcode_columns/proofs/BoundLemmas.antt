@@ -8,7 +8,7 @@ use Rattle.std.proofs.lemmas.List.Sums.{fold_push}
 use Rattle.std.proofs.lemmas.Int.{ints}
 use Rattle.std.proofs.lemmas.List.Elements.{All-cons}
 use Rattle.std.proofs.Math.Seq.{take-suc}
-use Rattle.bitcode_numbers.specs.Numbers.{least, greatest}
+use Rattle.bitcode_columns.specs.Numbers.{least, greatest}
 
 fold_mapped : {X : Type 0} (op : ℤ → ℤ → ℤ) (f : X → ℤ) (first : ℤ) (xs : List X) (i : ℕ) (d : X) → i < length xs
     → fold op first (map f (take (i + 1) xs)) ≡ op (fold op first (map f (take i xs))) (f (get_or xs i d))

@@ -18,3 +18,7 @@ pub mod RoomLemmas
 pub mod BytePackingLemmas
 pub mod CountLemmas
 pub mod VariantLemmas
+pub mod ChunkLemmas
+pub mod NumberLemmas
+pub mod EndianLemmas
+pub mod UnalignedLemmas

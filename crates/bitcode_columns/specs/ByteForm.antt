@@ -1,7 +1,7 @@
 -- What the front of a byte column of more than two entries tells of the entries behind it.
 use Rattle.std.specs.Prelude.{◌≡◌, ℕ, ◌*◌, ◌%◌, ◌≤◌, List, ◌∷◌, ◌++◌, length}
 use Rattle.bitcode_columns.specs.declared.pack.Base.{Base}
-use Rattle.bitcode_numbers.specs.LittleEndian.{little_endian}
+use Rattle.bitcode_columns.specs.LittleEndian.{little_endian}
 use Rattle.bitcode_columns.specs.Tagged.{level_of_tag}
 use Rattle.bitcode_columns.specs.ByteColumn.{base_at_level, highest_byte_tag}
 

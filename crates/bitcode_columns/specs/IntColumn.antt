@@ -2,8 +2,8 @@
 -- entries, and one entry of 2 bytes stands bare. All else follows a tag, and each level halves the width of
 -- the numbers; those of one byte are an unsigned byte column of their own.
 use Rattle.std.specs.Prelude.{ℕ, ◌-◌, ◌*◌, ◌/◌, ◌^◌, ℤ, pos, List, length, map, nat_lt, MatchBool, ◌==◌, ◌||◌, ◌&&◌, if◌then◌else◌}
-use Rattle.bitcode_numbers.specs.LittleEndian.{SpellsRaw, raw_text}
-use Rattle.bitcode_numbers.specs.Numbers.{residue}
+use Rattle.bitcode_columns.specs.LittleEndian.{SpellsRaw, raw_text}
+use Rattle.bitcode_columns.specs.Numbers.{residue}
 use Rattle.bitcode_columns.specs.Tagged.{SpellsTagged, tagged_text}
 use Rattle.bitcode_columns.specs.ByteColumn.{SpellsBytes, byte_text}
 

@@ -1,6 +1,6 @@
 -- What the front of a tagged column tells of the narrow numbers behind it.
 use Rattle.std.specs.Prelude.{◌≡◌, ℕ, ◌+◌, ◌*◌, ◌%◌, ◌^◌, ◌≤◌, List, ◌∷◌, ◌++◌, length, map}
-use Rattle.bitcode_numbers.specs.LittleEndian.{little_endian}
+use Rattle.bitcode_columns.specs.LittleEndian.{little_endian}
 use Rattle.bitcode_columns.specs.Reading.{Reads}
 use Rattle.bitcode_columns.specs.Tagged.{level_of_tag}
 

@@ -1,7 +1,7 @@
 -- The laws that every kind of column keeps, each over what the kind accepts.
 use Rattle.std.specs.Prelude.{◌≡◌, ℕ, ◌+◌, ◌*◌, ◌≤◌, List, [], ◌++◌, length, Option, Some, map, All, Bool, ℤ}
-use Rattle.bitcode_input.specs.declared.error.Reason.{Reason}
-use Rattle.bitcode_numbers.specs.Numbers.{IsNumber, residue, number_of}
+use Rattle.bitcode_columns.specs.declared.error.Reason.{Reason}
+use Rattle.bitcode_columns.specs.Numbers.{IsNumber, residue, number_of}
 use Rattle.bitcode_columns.specs.Reading.{Reads}
 
 -- An input is read in at most one way: at one count there is one list of entries, and one rest.

@@ -13,3 +13,10 @@ pub mod AcceptedRows
 pub mod Vectors
 pub mod ByteForm
 pub mod IntHeader
+pub mod Fast
+pub mod Lending
+pub mod Reasons
+pub mod LittleEndian
+pub mod Numbers
+pub mod NumberRange
+pub mod Widths

@@ -5,10 +5,10 @@ ghost use Rattle.std.specs.Int.{div_ceil};
 ghost use Rattle.bitcode_columns.specs.Digits.{radix, digits_in_byte, digit, number_with_digits, SpellsDigits, digits_text};
 ghost use Rattle.bitcode_columns.specs.Reading.{Reads, IsEndOf, Names, digits_fault};
 
+use crate::consume::consume_bytes;
+use crate::digit::Digit;
+use crate::error::{Error, Reason};
 use crate::pack::Base;
-use bitcode_input::consume::consume_bytes;
-use bitcode_input::error::{Error, Reason};
-use bitcode_numbers::digit::Digit;
 use std::alloc::{AllocError, Global};
 
 // The number with these digits, the lowest first.

@@ -1,8 +1,14 @@
-// Numbers in, bytes out: the packers and unpackers of columns.
+// Errors, what is taken from the input, lists with room, the integers of columns, and their packers and unpackers.
 #![tactic(auto)]
 
+pub mod consume;
+pub mod digit;
 mod digits;
+pub mod error;
+pub mod fast;
 pub mod histogram;
+pub mod int_types;
 pub mod laws;
 pub mod pack;
 pub mod pack_ints;
+pub mod refuse;

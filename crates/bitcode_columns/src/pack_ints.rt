@@ -2,12 +2,12 @@
 ghost use Rattle.std.specs.Prelude.{◌≡◌, ◌+◌, ◌*◌, ◌<◌, ◌≤◌, [], ◌++◌, length, map, vec_len, vec_capacity, IsOk, OnOk, IfErr, OnErr};
 ghost use Rattle.bitcode_columns.specs.IntColumn.{int_text};
 ghost use Rattle.bitcode_columns.specs.Narrowing.{TakesNoScratch};
-ghost use Rattle.bitcode_numbers.specs.Numbers.{least, greatest};
+ghost use Rattle.bitcode_columns.specs.Numbers.{least, greatest};
 
+use crate::error::{Error, Reason};
+use crate::int_types::{Int, SizedInt};
 use crate::pack_ints::append::append_ints;
 use crate::pack_ints::bounds::bounds;
-use bitcode_input::error::{Error, Reason};
-use bitcode_numbers::int_types::{Int, SizedInt};
 use std::alloc::Global;
 
 mod append;

@@ -1,6 +1,6 @@
 -- What an encoder that began without entries holds after one value.
 use Rattle.std.proofs.Common.{◌≡◌, ℕ, List, [], ◌∷◌, refl, sym, ◌∙◌, ap, subst, arith, inl, inr}
-use Rattle.bitcode_input.specs.declared.error.Reason.{Reason}
+use Rattle.bitcode_columns.specs.declared.error.Reason.{Reason}
 use Rattle.std.proofs.lemmas.List.Elements.{All-cons, All-nil}
 use Rattle.bitcode_shapes.specs.Datum.{Datum}
 use Rattle.bitcode_shapes.specs.Shape.{Shape, IsOf}

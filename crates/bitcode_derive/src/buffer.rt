@@ -7,7 +7,7 @@ ghost use Rattle.bitcode_derive.specs.Whole.{IsEncodingOf, HasLongListing, IsDec
 use crate::derive::{HasDecoder, HasEncoder};
 use crate::whole;
 use bitcode_coder::coder::{Buffer as EncoderBuffer, Decoder, Encoder, View};
-use bitcode_input::error::{Error, Reason};
+use bitcode_columns::error::{Error, Reason};
 use bitcode_shapes::shaped::{Made, Shaped};
 use std::alloc::Global;
 

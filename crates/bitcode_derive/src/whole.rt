@@ -6,9 +6,9 @@ ghost use Rattle.bitcode_derive.specs.Whole.{IsEncodingOf, HasLongListing, IsDec
 
 use crate::derive::{HasDecoder, HasEncoder};
 use bitcode_coder::coder::{Buffer, Decoder, Encoder, View};
-use bitcode_input::consume::expect_eof;
-use bitcode_input::error::{Error, Reason};
-use bitcode_input::refuse::err;
+use bitcode_columns::consume::expect_eof;
+use bitcode_columns::error::{Error, Reason};
+use bitcode_columns::refuse::err;
 use bitcode_shapes::shaped::{Made, Shaped};
 use std::alloc::Global;
 

@@ -1,14 +1,15 @@
 // Generic code over values of any type.
-ghost use Rattle.std.specs.Prelude.{◌≡◌, IfOk};
-ghost use Rattle.bitcode.specs.ByHand.{IsDecodingOf};
+ghost use Rattle.std.specs.Prelude.{◌≡◌, ◌≢◌, IfOk, IfErr};
+ghost use Rattle.bitcode.specs.ByHand.{Datum, IsDecodingOf, SpellsDatum};
 
-use bitcode::{Decode, Error, decode};
+use bitcode::{Decode, Error, Reason, decode};
 use std::alloc::Global;
 use std::marker::PhantomData;
 
-/// Reads one value of any type.
+/// Reads one value of any type, and refuses bytes that spell none.
 pub fn load<'a, T: Decode<'a>>(alloc: Global, bytes: &'a [u8]) -> Result<T, Error>
-    ensures { IfOk result (λ t. IsDecodingOf T.makes T.shape bytes.now t) }
+    ensures found { IfOk result (λ t. IsDecodingOf T.makes T.shape bytes.now t) }
+    ensures refused { IfErr result (λ e. e.reason ≢ Reason.OutOfMemory → (d : Datum) → SpellsDatum T.shape bytes.now d → ⊥) }
 {
     decode(alloc, bytes)
 }
@@ -31,11 +32,12 @@ impl<T> Cache<T> {
         }
     }
 
-    /// Reads the value, which may be one that borrows its texts from the cache.
+    /// Reads the value, which may be one that borrows its texts from the cache. Bytes that spell none are refused.
     pub fn get<'a>(&'a self, alloc: Global) -> Result<T, Error>
     where
         T: Decode<'a>,
-        ensures { IfOk result (λ t. IsDecodingOf T.makes T.shape self.now.bytes.items t) }
+        ensures found { IfOk result (λ t. IsDecodingOf T.makes T.shape self.now.bytes.items t) }
+        ensures refused { IfErr result (λ e. e.reason ≢ Reason.OutOfMemory → (d : Datum) → SpellsDatum T.shape self.now.bytes.items d → ⊥) }
     {
         decode(alloc, self.bytes.as_slice())
     }

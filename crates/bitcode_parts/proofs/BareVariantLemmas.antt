@@ -2,7 +2,7 @@
 use Rattle.std.proofs.Common.{◌≡◌, ℕ, zero, suc, ◌<◌, List, [], ◌∷◌, map, refl, sym, ap, subst, ◌∙◌, arith}
 use Rattle.std.proofs.lemmas.List.{length-map, append-nil}
 use Rattle.std.proofs.lemmas.List.Elements.{All-map, All-weaker}
-use Rattle.bitcode_input.specs.declared.error.Reason.{Reason}
+use Rattle.bitcode_columns.specs.declared.error.Reason.{Reason}
 use Rattle.bitcode_columns.specs.Reading.{Reads, NamesVariantFault}
 use Rattle.bitcode_coder.specs.Faults.{NamesVariantsFault}
 use Rattle.bitcode_columns.specs.VariantColumn.{SpellsVariants}

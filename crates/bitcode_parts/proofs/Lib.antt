@@ -3,3 +3,12 @@ pub mod ChoiceReadingLemmas
 pub mod ChoiceWritingLemmas
 pub mod BareVariantLemmas
 pub mod TwoVariantLemmas
+pub mod ElementLemmas
+pub mod CapLemmas
+pub mod SequenceLemmas
+pub mod SequenceWritingLemmas
+pub mod MapLemmas
+pub mod MapWritingLemmas
+pub mod MapReadingLemmas
+pub mod ArrayLemmas
+pub mod ArrayReadingLemmas

@@ -5,3 +5,8 @@ pub mod TwoVariants
 pub mod TwoVariantLaws
 pub mod Conversion
 pub mod DurationData
+pub mod Elements
+pub mod Sequences
+pub mod Maps
+pub mod Arrays
+pub mod ArrayLaws

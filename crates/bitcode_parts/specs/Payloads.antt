@@ -1,8 +1,8 @@
 -- Choices as their variants, and for each variant the list of its payloads. How composites read them, one column
 -- behind the other, and write them.
 use Rattle.std.specs.Prelude.{◌≡◌, ◌≢◌, ℕ, suc, List, [], ◌∷◌, slice_index_or, slice_set}
-use Rattle.bitcode_input.specs.declared.error.Reason.{Reason}
-use Rattle.bitcode_input.specs.declared.error.Reason.TheVariants.{OutOfMemory}
+use Rattle.bitcode_columns.specs.declared.error.Reason.{Reason}
+use Rattle.bitcode_columns.specs.declared.error.Reason.TheVariants.{OutOfMemory}
 use Rattle.bitcode_columns.specs.Counts.{count_of}
 use Rattle.bitcode_columns.specs.Reading.{Reads}
 use Rattle.bitcode_columns.specs.VariantColumn.{SpellsVariants}

@@ -3,7 +3,7 @@ ghost use Rattle.std.specs.Prelude.{refl};
 ghost use Rattle.bitcode_parts.specs.DurationData.{duration_written_as};
 
 use crate::convert::{ConvertFrom, ConvertInto};
-use bitcode_integers::checked::Nanosecond;
+use bitcode_coder::checked::Nanosecond;
 use std::time::Duration;
 
 /// What a `Duration` is written as: its seconds, and its nanoseconds below one second.

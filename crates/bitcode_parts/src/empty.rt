@@ -6,7 +6,7 @@ ghost use Rattle.bitcode_coder.specs.Columns.{no_columns};
 ghost use Rattle.bitcode_coder.specs.Coding.{endless_room};
 
 use bitcode_coder::coder::{Buffer, Decoder, Encoder, HoldsColumns, HoldsData, View};
-use bitcode_input::error::Error;
+use bitcode_columns::error::Error;
 use std::alloc::Global;
 
 /// The encoder and the decoder of types that hold nothing, such as `()`.

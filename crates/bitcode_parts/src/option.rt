@@ -10,7 +10,7 @@ ghost use Rattle.bitcode_parts.specs.VariantCoders.{variant_room, variant_capaci
 use crate::empty::EmptyCoder;
 use crate::variant::{VariantDecoder, VariantEncoder, encode_payload};
 use bitcode_coder::coder::{Buffer, Decoder, Encoder, HoldsColumns, HoldsData, View};
-use bitcode_input::error::Error;
+use bitcode_columns::error::Error;
 use bitcode_shapes::shaped::{Made, Shaped};
 use std::alloc::Global;
 

@@ -10,17 +10,10 @@ use Rattle.bitcode_untyped.specs.declared.shape.ShapeNode.{ShapeNode}
 use Rattle.bitcode_untyped.specs.declared.shape.ShapeNode.TheVariants as node
 use Rattle.bitcode_untyped.specs.declared.value.Value.{Value}
 use Rattle.bitcode_untyped.specs.declared.value.Value.TheVariants as value
+use Rattle.bitcode_untyped.proofs.ContentLemmas.{no_first, no_last}
 use Rattle.bitcode_untyped.proofs.FaultLemmas.{faults-Enum, faults-Ref}
 
 -- ---- lists of faults
-
-nothing_first : {A : Type 0} (xs ys : List A) → xs ++ ys ≡ [] → xs ≡ []
-nothing_first [] ys h = refl
-nothing_first (x ∷ xs) ys h = cc
-
-nothing_last : {A : Type 0} (xs ys : List A) → xs ++ ys ≡ [] → ys ≡ []
-nothing_last [] ys h = h
-nothing_last (x ∷ xs) ys h = cc
 
 pub nothing : {A : Type 0} (xs ys : List A) → xs ≡ [] → ys ≡ [] → xs ++ ys ≡ []
 nothing xs ys h k = rw (h, k) refl
@@ -46,8 +39,8 @@ field_whole (j ∷ judges) left (m ∷ ns) zero judge n h there k = cc
 field_whole [] left (m ∷ ns) (suc i) judge n h there k = cc
 field_whole (j ∷ judges) left (m ∷ ns) (suc i) judge n h there k =
     nothing (j left m) (faults_of_fields (judges ++ judge ∷ []) left (take (suc i) ns))
-    (nothing_first (j left m) (faults_of_fields judges left (take i ns)) h)
-    (field_whole judges left ns i judge n (nothing_last (j left m) (faults_of_fields judges left (take i ns)) h) there k)
+    (no_first (j left m) (faults_of_fields judges left (take i ns)) h)
+    (field_whole judges left ns i judge n (no_last (j left m) (faults_of_fields judges left (take i ns)) h) there k)
 
 module _ (table : List ShapeNode) (left : ℕ) (ns : List ShapeNode) where
   -- the fields that were read, from the first on, are without fault

@@ -2,7 +2,7 @@
 use Rattle.std.proofs.Common.{ℕ, ◌<◌, ◌≡◌, ◌++◌, false, List, All, refl, sym, ◌∙◌, map, take, drop, ap, lit≤}
 use Rattle.std.proofs.lemmas.List.{map-append, take-append-drop}
 use Rattle.std.proofs.lemmas.List.Elements.{All-map}
-use Rattle.bitcode_input.specs.declared.error.Reason.{Reason}
+use Rattle.bitcode_columns.specs.declared.error.Reason.{Reason}
 use Rattle.bitcode_columns.specs.ByteColumn.{SpellsBytes}
 use Rattle.bitcode_columns.specs.Reading.{Reads, Names, bytes_fault}
 use Rattle.bitcode_shapes.specs.Shape.{IsNumberOf, any_number}

@@ -2,7 +2,7 @@
 use Rattle.std.proofs.Common.{◌≡◌, ℕ, List, [], sym, subst}
 use Rattle.std.specs.Prelude.{Result, IfOk, IfErr}
 use Rattle.std.proofs.lemmas.Result.{IfOk-weaker, IfErr-weaker}
-use Rattle.bitcode_input.specs.declared.error.Error.{Error}
+use Rattle.bitcode_columns.specs.declared.error.Error.{Error}
 use Rattle.bitcode_untyped.specs.Faults.{faults_of}
 use Rattle.bitcode_untyped.specs.ShapeTree.{ShapeTree}
 use Rattle.bitcode_untyped.specs.View.{datum_of, tree_by}

@@ -6,9 +6,9 @@ use Rattle.std.proofs.lemmas.Bool.{cases_Bool}
 use Rattle.std.proofs.lemmas.List.{append-nil}
 use Rattle.std.proofs.lemmas.Grind.{flat_map-append}
 use Rattle.std.proofs.Math.Seq.{take-suc, take-length}
-use Rattle.bitcode_input.specs.declared.error.Error.{Error}
-use Rattle.bitcode_input.specs.declared.error.Reason.{Reason}
-use Rattle.bitcode_input.specs.declared.error.Reason.TheVariants.{OutOfMemory}
+use Rattle.bitcode_columns.specs.declared.error.Error.{Error}
+use Rattle.bitcode_columns.specs.declared.error.Reason.{Reason}
+use Rattle.bitcode_columns.specs.declared.error.Reason.TheVariants.{OutOfMemory}
 use Rattle.bitcode_shapes.specs.Datum.{Datum, list, list_of, data_of}
 use Rattle.bitcode_coder.specs.Columns.{Kind}
 use Rattle.bitcode_untyped.specs.Growing.{put, put_all}

@@ -1,15 +1,15 @@
 -- The columns that a reader has open.
 use Rattle.std.specs.Prelude.{◌≡◌, ◌≢◌, ℕ, ℤ, ◌<◌, ◌+◌, ◌*◌, if◌then◌else◌, Bool, true, false, None, List, ◌++◌, length, map, String}
 use Rattle.std.specs.Global.{Global}
-use Rattle.bitcode_input.specs.Fast.{slice_rest, cow_rest}
-use Rattle.bitcode_input.specs.declared.error.Reason.{Reason}
-use Rattle.bitcode_input.specs.declared.error.Reason.TheVariants.{Eof, InvalidPacking, LengthOverflow, HugeLength, InvalidUtf8, OutOfMemory}
+use Rattle.bitcode_columns.specs.Fast.{slice_rest, cow_rest}
+use Rattle.bitcode_columns.specs.declared.error.Reason.{Reason}
+use Rattle.bitcode_columns.specs.declared.error.Reason.TheVariants.{Eof, InvalidPacking, LengthOverflow, HugeLength, InvalidUtf8, OutOfMemory}
 use Rattle.bitcode_shapes.specs.Datum.{Datum, text}
 use Rattle.bitcode_coder.specs.Columns.{Kind, bools, ints, lengths, texts}
 use Rattle.bitcode_coder.specs.Cutting.{cut}
 use Rattle.bitcode_coder.specs.LengthCoders.{lengths_left, lengths_sum}
 use Rattle.bitcode_coder.specs.Spelling.{SpellsColumn, natural, truth}
-use Rattle.bitcode_integers.specs.IntData.{bytes_data}
+use Rattle.bitcode_coder.specs.IntData.{bytes_data}
 use Rattle.bitcode_serde.specs.Indices.{indices_left, index_count}
 use Rattle.bitcode_untyped.specs.Population.{total, count_of}
 use Rattle.bitcode_untyped.specs.declared.value.Value.{Value}

@@ -1,12 +1,12 @@
 -- The columns that a writer fills.
 use Rattle.std.specs.Prelude.{List, map, pos, true, false, None}
-use Rattle.bitcode_input.specs.Fast.{fast_items}
+use Rattle.bitcode_columns.specs.Fast.{fast_items}
 use Rattle.bitcode_shapes.specs.Datum.{Datum, number, text}
 use Rattle.bitcode_coder.specs.Columns.{Kind, bools, ints, lengths, texts}
 use Rattle.bitcode_coder.specs.Cutting.{cut}
 use Rattle.bitcode_coder.specs.LengthCoders.{written_lengths}
 use Rattle.bitcode_coder.specs.Spelling.{natural, truth}
-use Rattle.bitcode_integers.specs.IntData.{int_data}
+use Rattle.bitcode_coder.specs.IntData.{int_data}
 use Rattle.bitcode_serde.specs.declared.written.Entry.{Entry}
 use Rattle.bitcode_serde.specs.declared.written.Entry.TheVariants as entry
 use Rattle.bitcode_serde.specs.declared.written.WrittenColumn.{WrittenColumn}

@@ -18,10 +18,10 @@ ghost use Rattle.bitcode_serde.specs.ReadColumns.{kind_of, kind_number, kind_in_
 use crate::serde::VariantDecoder;
 use bitcode_coder::bool::BoolDecoder;
 use bitcode_coder::coder::{Decoder, View};
+use bitcode_coder::int::IntDecoder;
 use bitcode_coder::length::LengthDecoder;
 use bitcode_coder::str::StrDecoder;
-use bitcode_input::error::{Error, Reason};
-use bitcode_integers::int::IntDecoder;
+use bitcode_columns::error::{Error, Reason};
 use bitcode_shapes::shaped::Made;
 use bitcode_untyped::value::Value;
 use std::alloc::Global;

@@ -11,8 +11,8 @@ ghost use Rattle.bitcode_serde.specs.ReadingValues.{IsValueReason};
 
 use crate::reader::Reader;
 use crate::values::read;
-use bitcode_input::error::{Error, Reason};
-use bitcode_input::refuse::err;
+use bitcode_columns::error::{Error, Reason};
+use bitcode_columns::refuse::err;
 use bitcode_untyped::shape::Shape;
 use bitcode_untyped::value::Value;
 use std::alloc::Global;

@@ -7,8 +7,8 @@ ghost use Rattle.bitcode_serde.specs.Serializing.{is_leaf, IsLeaf, IsEntryAt, Ha
 ghost use Rattle.bitcode_serde.specs.WrittenColumns.{kind_of_entry, datum_of_entry};
 
 use crate::written::Entry;
-use bitcode_input::error::{Error, Reason};
-use bitcode_input::refuse::err;
+use bitcode_columns::error::{Error, Reason};
+use bitcode_columns::refuse::err;
 use bitcode_untyped::shape::ShapeNode;
 use bitcode_untyped::value::Value;
 

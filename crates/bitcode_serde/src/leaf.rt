@@ -11,8 +11,8 @@ ghost use Rattle.bitcode_serde.specs.Serializing.{IsLeaf};
 use crate::column::ColumnKind;
 use crate::reader::Reader;
 use crate::step::Step;
-use bitcode_input::error::{Error, Reason};
-use bitcode_input::refuse::err;
+use bitcode_columns::error::{Error, Reason};
+use bitcode_columns::refuse::err;
 use bitcode_untyped::shape::ShapeNode;
 use bitcode_untyped::value::Value;
 

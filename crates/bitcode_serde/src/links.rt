@@ -6,7 +6,7 @@ ghost use Rattle.bitcode_serde.specs.declared.step.Step.{Step as CodeStep};
 ghost use Rattle.bitcode_serde.specs.Links.{link_of, HasRoom};
 
 use crate::step::Step;
-use bitcode_input::error::{Error, Reason};
+use bitcode_columns::error::{Error, Reason};
 use std::alloc::Global;
 
 /// Where a place leads: to its column, and to the places one step below it, each by its number.

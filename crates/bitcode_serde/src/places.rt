@@ -9,7 +9,7 @@ ghost use Rattle.bitcode_serde.specs.Places.{step_of, place_at, places, IsPlace,
 
 use crate::links::Links;
 use crate::step::Step;
-use bitcode_input::error::{Error, Reason};
+use bitcode_columns::error::{Error, Reason};
 use std::alloc::Global;
 
 /// A place below another.

@@ -14,8 +14,8 @@ ghost use Rattle.bitcode_serde.specs.Places.{step_of, IsPlace, places, place_at}
 use crate::column::{Column, ColumnKind};
 use crate::places::Places;
 use crate::step::Step;
-use bitcode_input::error::{Error, Reason};
-use bitcode_input::refuse::err;
+use bitcode_columns::error::{Error, Reason};
+use bitcode_columns::refuse::err;
 use bitcode_untyped::value::Value;
 use std::alloc::Global;
 

@@ -5,7 +5,7 @@ use crate::reader::Reader;
 use crate::serde::{VariantDecoder, VariantEncoder};
 use crate::step::Step;
 use bitcode_coder::coder::{Buffer, Decoder, Encoder, View};
-use bitcode_input::error::{Error, Reason};
+use bitcode_columns::error::{Error, Reason};
 use bitcode_untyped::shape::{Shape, ShapeNode};
 use bitcode_untyped::value::Value;
 use std::alloc::Global;

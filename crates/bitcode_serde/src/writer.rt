@@ -16,7 +16,7 @@ use crate::places::Places;
 use crate::step::Step;
 pub use crate::writer::state::{PlacedWritten, Writer};
 use crate::written::{Entry, WrittenColumn};
-use bitcode_input::error::{Error, Reason};
+use bitcode_columns::error::{Error, Reason};
 use std::alloc::Global;
 
 mod state;

@@ -6,7 +6,7 @@ use crate::step::Step;
 use crate::walk::write_bytes;
 use crate::writer::Writer;
 use crate::written::{Entry, WrittenColumn};
-use bitcode_input::error::{Error, Reason};
+use bitcode_columns::error::{Error, Reason};
 use bitcode_untyped::shape::{Shape, ShapeNode};
 use bitcode_untyped::value::Value;
 use std::alloc::Global;

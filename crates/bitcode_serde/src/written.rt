@@ -6,11 +6,11 @@ ghost use Rattle.bitcode_serde.specs.WrittenColumns.{kind_of_entry, datum_of_ent
 
 use bitcode_coder::bool::BoolEncoder;
 use bitcode_coder::coder::{Buffer, Encoder};
+use bitcode_coder::int::IntEncoder;
 use bitcode_coder::length::LengthEncoder;
 use bitcode_coder::str::StrEncoder;
-use bitcode_input::error::{Error, Reason};
-use bitcode_input::refuse::err;
-use bitcode_integers::int::IntEncoder;
+use bitcode_columns::error::{Error, Reason};
+use bitcode_columns::refuse::err;
 use bitcode_shapes::shaped::Shaped;
 use std::alloc::Global;
 

@@ -5,7 +5,7 @@ ghost use Rattle.bitcode_coder.specs.Coding.{JoinsListing, PassesWithListing, Is
 
 use crate::encoder::TupleEncoder;
 use bitcode_coder::coder::{Encoder, HoldsColumns};
-use bitcode_input::error::{Error, Reason};
+use bitcode_columns::error::{Error, Reason};
 use bitcode_shapes::shaped::Shaped;
 
 pub mod of_3_to_5;

@@ -1,10 +1,10 @@
 // Shapes, as a table of nodes that may refer to one another.
 ghost use Rattle.std.specs.Prelude.{◌≡◌, ◌↔◌, IsTrue, IfOk, IfErr};
 ghost use Rattle.std.specs.List.{list_all};
-ghost use Rattle.bitcode_input.specs.declared.error.Reason.TheVariants.{BadShape};
+ghost use Rattle.bitcode_columns.specs.declared.error.Reason.TheVariants.{BadShape};
 ghost use Rattle.bitcode_untyped.specs.References.{refers_soundly, IsSoundTable};
 
-use bitcode_input::error::{Error, Reason};
+use bitcode_columns::error::{Error, Reason};
 
 /// Which values stand at one place: a value of a type, or several values of further nodes.
 ///

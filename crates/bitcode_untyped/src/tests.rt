@@ -1,7 +1,7 @@
 // Which tables are shapes, and that values compare by what they hold.
 use crate::shape::{Shape, ShapeNode};
 use crate::value::Value;
-use bitcode_input::error::{Error, Reason};
+use bitcode_columns::error::{Error, Reason};
 use std::alloc::Global;
 
 fn one_in(alloc: Global, node: ShapeNode) -> Result<Vec<ShapeNode>, Error> {

@@ -1,6 +1,6 @@
 // What the program prints of its rows.
 use crate::rows;
-use bitcode_checks::Got;
+use bitcode_tests::Got;
 use std::alloc::Global;
 use std::io;
 

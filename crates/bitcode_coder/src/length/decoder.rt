@@ -2,18 +2,18 @@
 #![tactic(auto, unfolding(crate::specs::LengthCoders::short_left, crate::specs::LengthCoders::large_left, crate::specs::LengthCoders::lengths_left, crate::specs::LengthCoders::lengths_sum, crate::specs::LengthCoders::lengths_owned))]
 
 ghost use Rattle.std.specs.Prelude.{◌≡◌, ◌≢◌, ℕ, ◌+◌, ◌<◌, ◌≤◌, [], ◌∷◌, Some, None, length, drop, sum, All, MatchBool, IfOk, OnOk, IfErr, OnErr};
-ghost use Rattle.bitcode_input.specs.Fast.{cow_rest};
-ghost use Rattle.bitcode_numbers.specs.LittleEndian.{little_endian};
+ghost use Rattle.bitcode_columns.specs.Fast.{cow_rest};
+ghost use Rattle.bitcode_columns.specs.LittleEndian.{little_endian};
 ghost use Rattle.bitcode_columns.specs.Reading.{Reads, IsEndOf};
 ghost use Rattle.bitcode_coder.specs.LengthColumn.{SpellsLengths, KeepsCap, length_limit};
 ghost use Rattle.bitcode_coder.specs.LengthParts.{escapes, ReadsParts, sum_fault, NamesLengthFault};
 
 use crate::length::ESCAPE;
+use bitcode_columns::error::{Error, Reason};
+use bitcode_columns::fast::CowSlice;
 use bitcode_columns::pack::unpack_bytes;
 use bitcode_columns::pack_ints::unpack_ints;
-use bitcode_input::error::{Error, Reason};
-use bitcode_input::fast::CowSlice;
-use bitcode_input::refuse::err;
+use bitcode_columns::refuse::err;
 use std::alloc::Global;
 
 // Read lengths sum to less than this: what isize can hold, divided by 4096.

@@ -3,7 +3,7 @@
 
 ghost use Rattle.std.specs.Prelude.{◌≡◌, ◌+◌, ◌<◌, ◌++◌, [], ◌∷◌, None, map, pos, IsOk, OnOk, IfErr, OnErr};
 ghost use Rattle.bitcode_columns.specs.ByteColumn.{byte_text};
-ghost use Rattle.bitcode_input.specs.Fast.{fast_items};
+ghost use Rattle.bitcode_columns.specs.Fast.{fast_items};
 ghost use Rattle.bitcode_columns.specs.IntColumn.{int_text};
 ghost use Rattle.bitcode_coder.specs.Coding.{BeginsWith};
 ghost use Rattle.bitcode_coder.specs.Columns.{lengths, one};
@@ -12,10 +12,10 @@ ghost use Rattle.bitcode_coder.specs.Spelling.{natural};
 
 use crate::coder::{Buffer, HoldsColumns};
 use crate::length::ESCAPE;
+use bitcode_columns::error::{Error, Reason};
+use bitcode_columns::fast::{FastVec, PushUnchecked};
 use bitcode_columns::pack::pack_bytes;
 use bitcode_columns::pack_ints::pack_ints;
-use bitcode_input::error::{Error, Reason};
-use bitcode_input::fast::{FastVec, PushUnchecked};
 use std::alloc::Global;
 
 /// The column that lengths are written to.

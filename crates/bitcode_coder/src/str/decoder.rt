@@ -2,7 +2,7 @@
 ghost use Rattle.std.specs.Prelude.{◌≡◌, ◌≢◌, ℕ, ◌<◌, List, [], ◌∷◌, None, true, false, refl, length, map, sum, All, IsUtf8, MatchBool, IfOk, IfErr, OnErr};
 ghost use Rattle.std.specs.Str.{IsCharBoundary};
 ghost use Rattle.std.proofs.Props.{props};
-ghost use Rattle.bitcode_input.specs.Fast.{slice_rest};
+ghost use Rattle.bitcode_columns.specs.Fast.{slice_rest};
 ghost use Rattle.bitcode_columns.specs.Reading.{Reads, IsEndOf};
 ghost use Rattle.bitcode_shapes.specs.Datum.{text};
 ghost use Rattle.bitcode_shapes.specs.Shape.{text_shape};
@@ -15,10 +15,10 @@ ghost use Rattle.bitcode_coder.specs.TextParts.{NamesTextFault};
 
 use crate::coder::{Decoder, HoldsData, View};
 use crate::length::LengthDecoder;
-use bitcode_input::consume::consume_bytes;
-use bitcode_input::error::{Error, Reason};
-use bitcode_input::fast::{FastSlice, NextUnchecked};
-use bitcode_input::refuse::err;
+use bitcode_columns::consume::consume_bytes;
+use bitcode_columns::error::{Error, Reason};
+use bitcode_columns::fast::{FastSlice, NextUnchecked};
+use bitcode_columns::refuse::err;
 use std::alloc::Global;
 use std::boxed::BoxedStr;
 use std::rc::RcStr;

@@ -1,7 +1,7 @@
 // The coder that texts are written to.
 ghost use Rattle.std.specs.Prelude.{◌≡◌, ◌+◌, ◌++◌, [], None, false, length, map, sum, OnOk, IfErr};
 ghost use Rattle.std.proofs.Common.{sym};
-ghost use Rattle.bitcode_input.specs.Fast.{fast_items, fast_capacity};
+ghost use Rattle.bitcode_columns.specs.Fast.{fast_items, fast_capacity};
 ghost use Rattle.bitcode_shapes.specs.Datum.{text};
 ghost use Rattle.bitcode_coder.specs.Coding.{BeginsWith};
 ghost use Rattle.bitcode_coder.specs.Columns.{texts, one};
@@ -12,8 +12,8 @@ ghost use Rattle.bitcode_coder.specs.LengthColumn.{length_text};
 use crate::coder::{Buffer, Encoder, HoldsColumns};
 use crate::length::LengthEncoder;
 use crate::str::AsText;
-use bitcode_input::error::{Error, Reason};
-use bitcode_input::fast::FastVec;
+use bitcode_columns::error::{Error, Reason};
+use bitcode_columns::fast::FastVec;
 use std::alloc::Global;
 
 /// The column that texts are written to: their lengths, and then their bytes, joined.

@@ -1,21 +1,21 @@
 // Byte columns.
 ghost use Rattle.std.specs.Prelude.{◌≡◌, ◌≢◌, ℕ, ◌+◌, ◌%◌, ◌/◌, ◌<◌, ◌≤◌, ◌++◌, ◌-ℤ◌, ◌≤ℤ◌, pos, int_lt, unsigned_abs, vec_len, vec_capacity, if◌then◌else◌, List, Option, Some, All, length, map, IsTrue, OnOk, IfOk, IfErr, OnErr};
-ghost use Rattle.bitcode_input.specs.declared.error.Reason.{Reason};
+ghost use Rattle.bitcode_columns.specs.declared.error.Reason.{Reason};
 ghost use Rattle.bitcode_columns.specs.ByteColumn.{SpellsBytes, byte_text, highest_byte_tag};
 ghost use Rattle.bitcode_columns.specs.ByteForm.{TellsForm};
 ghost use Rattle.bitcode_columns.specs.Digits.{base_for};
-ghost use Rattle.bitcode_input.specs.Fast.{cow_rest};
-ghost use Rattle.bitcode_numbers.specs.Numbers.{residue};
+ghost use Rattle.bitcode_columns.specs.Fast.{cow_rest};
+ghost use Rattle.bitcode_columns.specs.Numbers.{residue};
 ghost use Rattle.bitcode_columns.specs.Reading.{Reads, IsEndOf, Names, tagged_fault, bytes_fault, bytes_stand_raw};
 
+use crate::consume::{consume_byte, consume_bytes};
 use crate::digits::{pack_digits, unpack_digits};
+use crate::error::{Error, Reason};
+use crate::fast::CowSlice;
+use crate::int_types::Byte;
 use crate::pack::Base;
 use crate::pack_ints::minmax;
-use bitcode_input::consume::{consume_byte, consume_bytes};
-use bitcode_input::error::{Error, Reason};
-use bitcode_input::fast::CowSlice;
-use bitcode_input::refuse::err;
-use bitcode_numbers::int_types::Byte;
+use crate::refuse::err;
 use std::alloc::Global;
 
 /// The tag of the highest level.

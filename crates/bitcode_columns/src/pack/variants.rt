@@ -3,18 +3,18 @@ ghost use Rattle.std.specs.Prelude.{◌≡◌, ◌≢◌, ℕ, ◌+◌, ◌-◌,
 ghost use Rattle.std.specs.List.{list_all};
 ghost use Rattle.bitcode_columns.specs.Counts.{AreCounts};
 ghost use Rattle.bitcode_columns.specs.Digits.{SpellsDigits, base_for};
-ghost use Rattle.bitcode_input.specs.Fast.{cow_rest};
+ghost use Rattle.bitcode_columns.specs.Fast.{cow_rest};
 ghost use Rattle.bitcode_columns.specs.Reading.{Reads, IsEndOf, Names, NamesVariantFault, digits_fault, variants_stand_raw};
 ghost use Rattle.bitcode_columns.specs.VariantColumn.{SpellsVariants, variant_text};
 
+use crate::consume::consume_bytes;
 use crate::digits::{pack_digits, unpack_digits};
+use crate::error::{Error, Reason};
+use crate::fast::CowSlice;
 use crate::histogram::counts_below;
 use crate::pack::Base;
 use crate::pack::bytes::borrow_bytes;
-use bitcode_input::consume::consume_bytes;
-use bitcode_input::error::{Error, Reason};
-use bitcode_input::fast::CowSlice;
-use bitcode_input::refuse::err;
+use crate::refuse::err;
 use std::alloc::Global;
 
 /// A variant is a byte, whatever `N` is.

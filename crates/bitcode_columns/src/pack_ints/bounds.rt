@@ -1,8 +1,8 @@
 // The least and the greatest of some integers.
 ghost use Rattle.std.specs.Prelude.{◌≡◌, ◌<◌, ◌↔◌, length, map, All, IsSome, IfSome};
-ghost use Rattle.bitcode_numbers.specs.Numbers.{IsNumber, least, greatest};
+ghost use Rattle.bitcode_columns.specs.Numbers.{IsNumber, least, greatest};
 
-use bitcode_numbers::int_types::Int;
+use crate::int_types::Int;
 
 // The least and the greatest of the entries, if there are any.
 pub(crate) fn bounds<T: Int>(entries: &[T]) -> Option<(T, T)>

@@ -1,23 +1,23 @@
 // Reading the numbers of a column.
 ghost use Rattle.std.specs.Prelude.{◌≡◌, ◌≢◌, ℕ, Option, Some, ◌+◌, ◌*◌, ◌%◌, ◌^◌, ◌<◌, ◌≤◌, List, ◌++◌, length, take, map, All, IsTrue, IsErr, IfOk, OnOk, IfErr, OnErr, ◌↔◌};
 ghost use Rattle.std.specs.Simd.{first_chunks};
-ghost use Rattle.bitcode_input.specs.declared.error.Reason.{Reason};
-ghost use Rattle.bitcode_input.specs.Fast.{cow_rest};
+ghost use Rattle.bitcode_columns.specs.declared.error.Reason.{Reason};
+ghost use Rattle.bitcode_columns.specs.Fast.{cow_rest};
 ghost use Rattle.bitcode_columns.specs.ByteColumn.{SpellsBytes};
-ghost use Rattle.bitcode_numbers.specs.Widths.{IsWidth};
+ghost use Rattle.bitcode_columns.specs.Widths.{IsWidth};
 ghost use Rattle.bitcode_columns.specs.IntColumn.{SpellsInts, SpellsNarrow, SpellsAtIntLevel, tagged_form, halvings, highest_int_tag, width_at_level};
 ghost use Rattle.bitcode_columns.specs.IntHeader.{TellsLevel, ReadsWidened};
-ghost use Rattle.bitcode_numbers.specs.LittleEndian.{SpellsRaw, little_endian};
+ghost use Rattle.bitcode_columns.specs.LittleEndian.{SpellsRaw, little_endian};
 ghost use Rattle.bitcode_columns.specs.Tagged.{SpellsTagged};
 ghost use Rattle.bitcode_columns.specs.Reading.{Reads, IsEndOf, Names, missing, tagged_fault, bytes_fault, narrow_fault, ints_fault_as, ints_fault, has_raw_tag, bytes_stand_raw, ints_stand_raw};
 
+use crate::consume::{consume_byte, consume_bytes};
+use crate::error::{Error, Reason};
+use crate::fast::CowSlice;
+use crate::int_types::{Int, SizedUInt, known_bytes};
 use crate::pack::unpack_bytes;
 use crate::pack_ints::width::halvings;
-use bitcode_input::consume::{consume_byte, consume_bytes};
-use bitcode_input::error::{Error, Reason};
-use bitcode_input::fast::CowSlice;
-use bitcode_input::refuse::err;
-use bitcode_numbers::int_types::{Int, SizedUInt, known_bytes};
+use crate::refuse::err;
 use std::alloc::Global;
 
 // At most so many bytes stand without a tag.

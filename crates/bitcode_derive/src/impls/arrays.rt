@@ -1,6 +1,6 @@
 // The coders of arrays.
 use crate::derive::{DecodeOwned, HasDecoder, HasEncoder};
-use bitcode_arrays::array::{ArrayDecoder, ArrayEncoder};
+use bitcode_parts::array::{ArrayDecoder, ArrayEncoder};
 
 impl<T: HasEncoder, const N: usize> HasEncoder for [T; N] {
     type Encoder = ArrayEncoder<T::Encoder, N>;

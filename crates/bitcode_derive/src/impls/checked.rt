@@ -1,7 +1,7 @@
 // The coders of integers that are not 0, and of chars.
 use crate::derive::{DecodeOwned, HasDecoder, HasEncoder};
-use bitcode_integers::checked::CheckedIntDecoder;
-use bitcode_integers::int::IntEncoder;
+use bitcode_coder::checked::CheckedIntDecoder;
+use bitcode_coder::int::IntEncoder;
 use std::num::{
     NonZeroI8, NonZeroI16, NonZeroI32, NonZeroI64, NonZeroI128, NonZeroIsize, NonZeroU8,
     NonZeroU16, NonZeroU32, NonZeroU64, NonZeroU128, NonZeroUsize,

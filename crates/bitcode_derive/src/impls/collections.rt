@@ -1,6 +1,6 @@
 // The coders of queues, lists, heaps and sets: those of sequences.
 use crate::derive::{DecodeOwned, HasDecoder, HasEncoder};
-use bitcode_containers::vec::{VecDecoder, VecEncoder};
+use bitcode_parts::vec::{VecDecoder, VecEncoder};
 use bitcode_shapes::keys::Key;
 use std::cmp::{Eq, Ord};
 use std::collections::{BTreeSet, BinaryHeap, HashSet, LinkedList, VecDeque};

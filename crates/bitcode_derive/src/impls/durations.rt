@@ -1,7 +1,7 @@
 // The coders of durations.
 use crate::derive::{DecodeOwned, HasDecoder, HasEncoder};
-use bitcode_integers::checked::{CheckedIntDecoder, Nanosecond};
-use bitcode_integers::int::{IntDecoder, IntEncoder};
+use bitcode_coder::checked::{CheckedIntDecoder, Nanosecond};
+use bitcode_coder::int::{IntDecoder, IntEncoder};
 use bitcode_parts::convert::{ConvertFromDecoder, ConvertIntoEncoder};
 use bitcode_parts::durations::{DurationDecode, DurationEncode};
 use bitcode_tuples::decoder::TupleDecoder;

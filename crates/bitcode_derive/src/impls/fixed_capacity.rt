@@ -2,8 +2,8 @@
 use crate::derive::{DecodeOwned, HasDecoder, HasEncoder};
 use arrayvec::{ArrayString, ArrayVec};
 use bitcode_coder::str::{ArrayStringDecoder, StrEncoder};
-use bitcode_containers::fixed_capacity::ArrayVecDecoder;
-use bitcode_containers::vec::VecEncoder;
+use bitcode_parts::fixed_capacity::ArrayVecDecoder;
+use bitcode_parts::vec::VecEncoder;
 use std::default::Default;
 
 impl<T: HasEncoder, const N: usize> HasEncoder for ArrayVec<T, N> {

@@ -1,6 +1,6 @@
 // The coders of integers.
 use crate::derive::{DecodeOwned, HasDecoder, HasEncoder};
-use bitcode_integers::int::{IntDecoder, IntEncoder};
+use bitcode_coder::int::{IntDecoder, IntEncoder};
 
 impl HasEncoder for u8 {
     type Encoder = IntEncoder<u8>;

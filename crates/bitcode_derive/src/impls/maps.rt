@@ -1,6 +1,6 @@
 // The coders of maps.
 use crate::derive::{DecodeOwned, HasDecoder, HasEncoder};
-use bitcode_containers::map::{MapDecoder, MapEncoder};
+use bitcode_parts::map::{MapDecoder, MapEncoder};
 use bitcode_shapes::keys::Key;
 use std::cmp::{Eq, Ord};
 use std::collections::{BTreeMap, HashMap};

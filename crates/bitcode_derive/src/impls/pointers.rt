@@ -1,8 +1,8 @@
 // The coders of boxes, shared pointers and their slices.
 use crate::derive::{DecodeOwned, HasDecoder, HasEncoder};
-use bitcode_containers::vec::{VecDecoder, VecEncoder};
-use bitcode_pointers::deref::DerefEncoder;
-use bitcode_pointers::from::FromDecoder;
+use bitcode_parts::deref::DerefEncoder;
+use bitcode_parts::from::FromDecoder;
+use bitcode_parts::vec::{VecDecoder, VecEncoder};
 use std::boxed::BoxedSlice;
 use std::rc::{Rc, RcSlice};
 

@@ -1,6 +1,6 @@
 // The coders of vectors and slices.
 use crate::derive::{DecodeOwned, HasDecoder, HasEncoder};
-use bitcode_containers::vec::{VecDecoder, VecEncoder};
+use bitcode_parts::vec::{VecDecoder, VecEncoder};
 
 impl<T: HasEncoder> HasEncoder for Vec<T> {
     type Encoder = VecEncoder<T::Encoder>;

@@ -1,7 +1,7 @@
 // The coders of UUIDs.
 use crate::derive::{DecodeOwned, HasDecoder, HasEncoder};
-use bitcode_arrays::array::{ArrayDecoder, ArrayEncoder};
-use bitcode_integers::int::{IntDecoder, IntEncoder};
+use bitcode_coder::int::{IntDecoder, IntEncoder};
+use bitcode_parts::array::{ArrayDecoder, ArrayEncoder};
 use bitcode_parts::convert::{ConvertFromDecoder, ConvertIntoEncoder};
 use bitcode_parts::uuids::UuidConversion;
 use uuid::Uuid;

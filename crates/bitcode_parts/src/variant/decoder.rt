@@ -10,9 +10,9 @@ ghost use Rattle.bitcode_parts.specs.VariantCoders.{variants_left, variant_count
 ghost use Rattle.bitcode_coder.specs.Faults.{NamesVariantsFault};
 
 use bitcode_coder::coder::{HoldsData, View};
+use bitcode_columns::error::Error;
+use bitcode_columns::fast::CowSlice;
 use bitcode_columns::pack::unpack_bytes_less_than;
-use bitcode_input::error::Error;
-use bitcode_input::fast::CowSlice;
 use std::alloc::Global;
 
 /// The column that the variants of an enum are read from, where it has `N` of them, 2 to 256.

@@ -2,14 +2,14 @@
 #![tactic(auto, unfolding(crate::specs::VariantCoders::written_variants, crate::specs::VariantCoders::variant_room, crate::specs::VariantCoders::variant_capacity))]
 
 ghost use Rattle.std.specs.Prelude.{◌≡◌, ◌+◌, ◌<◌, ◌≤◌, ◌++◌, [], ◌∷◌, length, map, All};
-ghost use Rattle.bitcode_input.specs.Fast.{fast_items};
+ghost use Rattle.bitcode_columns.specs.Fast.{fast_items};
 ghost use Rattle.bitcode_coder.specs.Columns.{variants, one};
 ghost use Rattle.bitcode_coder.specs.Spelling.{natural};
 
 use bitcode_coder::coder::{Buffer, HoldsColumns, MAX_VECTORED_CHUNK};
+use bitcode_columns::error::Error;
+use bitcode_columns::fast::{FastVec, PushUnchecked};
 use bitcode_columns::pack::pack_bytes_less_than;
-use bitcode_input::error::Error;
-use bitcode_input::fast::{FastVec, PushUnchecked};
 use std::alloc::Global;
 
 /// The column that the variants of an enum are written to, where it has `N` of them, 2 to 256.

@@ -4,7 +4,7 @@ ghost use Rattle.bitcode_coder.specs.Columns.{emptied};
 ghost use Rattle.bitcode_coder.specs.Coding.{JoinsListing, PassesWithListing, IsWritingRefusal};
 
 use bitcode_coder::coder::{Buffer, Encoder};
-use bitcode_input::error::Error;
+use bitcode_columns::error::Error;
 use bitcode_shapes::shaped::Shaped;
 
 /// Makes room for the payload of a variant, and joins its columns to those so far.

@@ -12,10 +12,10 @@ ghost use Rattle.bitcode_coder.specs.Coding.{IsReadingRefusal, TakesDatum};
 ghost use Rattle.bitcode_untyped.specs.Population.{count_of};
 
 use bitcode_coder::coder::{Decoder, HoldsData, View};
+use bitcode_columns::error::{Error, Reason};
+use bitcode_columns::fast::CowSlice;
 use bitcode_columns::histogram::histogram;
 use bitcode_columns::pack::unpack_bytes;
-use bitcode_input::error::{Error, Reason};
-use bitcode_input::fast::CowSlice;
 use std::alloc::Global;
 
 /// The column that the indices of variants are read from, whatever the number of variants: a column of bytes.

@@ -4,7 +4,7 @@ ghost use Rattle.bitcode_tuples.specs.PairLaws.{same_pair_shape};
 
 use crate::decoder::TupleDecoder;
 use bitcode_coder::coder::Decoder;
-use bitcode_input::error::Error;
+use bitcode_columns::error::Error;
 use bitcode_shapes::shaped::Made;
 
 impl<'a, T1: Made + Drop, T2: Made, T3: Made, A: Decoder<'a, T1>, B: Decoder<'a, (T2, T3)>> Decoder<

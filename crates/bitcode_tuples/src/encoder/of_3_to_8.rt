@@ -7,7 +7,7 @@ use crate::fields::FieldsEncoder;
 use crate::fields::of_3_to_5::{FieldsEncoder3, FieldsEncoder4, FieldsEncoder5};
 use crate::fields::of_6_to_8::{FieldsEncoder6, FieldsEncoder7, FieldsEncoder8};
 use bitcode_coder::coder::Encoder;
-use bitcode_input::error::Error;
+use bitcode_columns::error::Error;
 use bitcode_shapes::shaped::Shaped;
 
 impl<T1: Shaped, T2: Shaped, T3: Shaped, A: Encoder<T1>, B: Encoder<T2>, C: Encoder<T3>> Encoder<

@@ -5,7 +5,7 @@ ghost use Rattle.bitcode_coder.specs.Coding.{written_columns, JoinsListing, Pass
 
 use crate::fields::{Fields, FieldsEncoder};
 use bitcode_coder::coder::HoldsColumns;
-use bitcode_input::error::{Error, Reason};
+use bitcode_columns::error::{Error, Reason};
 use bitcode_shapes::shaped::Shaped;
 
 impl<'a, T1: Shaped, T2: Shaped, T3: Shaped> Fields for (&'a T1, &'a T2, &'a T3) {

@@ -1,6 +1,6 @@
 // The stored rows of sets, maps and heaps.
 use bitcode::decode;
-use bitcode_checks::{Got, decodes, encodes};
+use bitcode_tests::{Got, decodes, encodes};
 use std::alloc::Global;
 use std::collections::{BTreeMap, BTreeSet, BinaryHeap, HashMap};
 

@@ -1,7 +1,7 @@
 // The stored rows of texts, chars, checked integers and durations.
 use bitcode::{Reason, U8Char, decode};
 use bitcode_by_hand::foo::Foo;
-use bitcode_checks::{Got, decodes, encodes, refuses};
+use bitcode_tests::{Got, decodes, encodes, refuses};
 use std::alloc::Global;
 use std::num::NonZeroU32;
 use std::time::Duration;

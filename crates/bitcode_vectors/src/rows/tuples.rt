@@ -1,6 +1,5 @@
 // The rows of tuples, pointers, markers and UUIDs.
-use bitcode_checks::tuples::writes_sixteen;
-use bitcode_checks::{Got, encodes};
+use bitcode_tests::{Got, encodes};
 use std::alloc::Global;
 use std::marker::PhantomData;
 use std::rc::RcStr;
@@ -29,7 +28,7 @@ type Bytes = (
 /// A tuple is the columns of its fields in order.
 fn sixteen_bytes(alloc: Global) -> Result<(), Got> {
     let written: Bytes = (0, 1, 2, 3, 4, 5, 6, 7, 8, 9, 10, 11, 12, 13, 14, 15);
-    writes_sixteen(
+    encodes(
         alloc,
         &written,
         &[0, 1, 2, 3, 4, 5, 6, 7, 8, 9, 10, 11, 12, 13, 14, 15],

@@ -1,9 +1,9 @@
 -- The laws of integer columns.
 use Rattle.std.proofs.Common.{refl}
 use Rattle.std.proofs.lemmas.List.{length-map}
-use Rattle.bitcode_numbers.specs.Numbers.{residue}
+use Rattle.bitcode_columns.specs.Numbers.{residue}
 use Rattle.bitcode_columns.specs.IntColumn.{int_text}
-use Rattle.bitcode_numbers.proofs.NumberLemmas.{number_of-residue}
+use Rattle.bitcode_columns.proofs.NumberLemmas.{number_of-residue}
 use Rattle.bitcode_columns.proofs.IntLemmas.{SpellsInts-once, SpellsInts-eighth, ints_fault-refuses, int_text-spells, length-int_text}
 use Rattle.bitcode_columns.proofs.laws.int_columns.Goals as goal
 

@@ -1,6 +1,6 @@
 -- The text of the column is its bytes.
 use Rattle.std.proofs.Common.{◌++◌, ap, sym, ◌∙◌}
-use Rattle.bitcode_input.specs.Fast.{fast_items}
+use Rattle.bitcode_columns.specs.Fast.{fast_items}
 use Rattle.bitcode_coder.proofs.LengthPartLemmas.{naturals_in}
 use Rattle.bitcode_coder.proofs.u8_char.U8CharEncoderBuffer.collect_into.Goals as goal
 

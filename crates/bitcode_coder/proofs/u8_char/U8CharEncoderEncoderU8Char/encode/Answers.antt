@@ -1,6 +1,6 @@
 -- The byte joins its column.
 use Rattle.std.proofs.Common.{pos, refl}
-use Rattle.bitcode_input.specs.Fast.{fast_items}
+use Rattle.bitcode_columns.specs.Fast.{fast_items}
 use Rattle.bitcode_shapes.specs.Shape.{raw_shape}
 use Rattle.bitcode_shapes.specs.Values.{ListsNumber}
 use Rattle.bitcode_coder.specs.Columns.{raws}

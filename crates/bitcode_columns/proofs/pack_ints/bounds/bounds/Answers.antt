@@ -1,6 +1,6 @@
 use Rattle.std.proofs.Common.{true, false, ap, subst}
 use Rattle.bitcode_columns.proofs.BoundLemmas.{least_more, greatest_more, least_of, greatest_of, all_of}
-use Rattle.bitcode_numbers.specs.Numbers.{IsNumber}
+use Rattle.bitcode_columns.specs.Numbers.{IsNumber}
 use Rattle.std.proofs.lemmas.List.Elements.{All-more}
 use Rattle.bitcode_columns.proofs.pack_ints.bounds.bounds.Goals as goal
 use Rattle.bitcode_columns.proofs.pack_ints.bounds.bounds.Goals.{then-is_less, else-is_less, then-is_less-2, else-is_less-2}

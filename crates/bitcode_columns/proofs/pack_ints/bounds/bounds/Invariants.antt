@@ -1,7 +1,7 @@
 use Rattle.std.proofs.Common.{◌≡◌, take, map, All}
 use Rattle.std.specs.List.{fold}
 use Rattle.std.specs.Int.{int_min, int_max}
-use Rattle.bitcode_numbers.specs.Numbers.{IsNumber}
+use Rattle.bitcode_columns.specs.Numbers.{IsNumber}
 use Rattle.bitcode_columns.proofs.pack_ints.bounds.bounds.Given as goal
 
 abbrev pub invariant-loop-entry : goal.invariant-loop-entry

@@ -1,7 +1,7 @@
 -- A column refuses for want of memory, or an entry of another kind.
 use Rattle.std.proofs.Common.{◌≡◌, ◌≢◌, ◌⊎◌, inl, inr, refl, sym, subst, ◌∙◌, true, false, None}
 use Rattle.bitcode_coder.specs.Columns.{bools, ints, texts}
-use Rattle.bitcode_input.specs.declared.error.Reason.TheVariants.{OutOfMemory}
+use Rattle.bitcode_columns.specs.declared.error.Reason.TheVariants.{OutOfMemory}
 use Rattle.bitcode_serde.specs.WrittenColumns.{kind_of_entry, kind_of_written}
 use Rattle.bitcode_serde.proofs.ColumnLemmas.{passed_on}
 use Rattle.bitcode_serde.proofs.WrittenLemmas.{if_err, only_memory, other-Bool, other-Byte, other-U16, other-U32, other-U64, other-U128, other-I8, other-I16, other-I32, other-I64, other-I128, other-Length, other-Text}

@@ -1,7 +1,7 @@
 -- The first fields are read, and then the second ones from what is left.
 use Rattle.std.proofs.Common.{inl, inr}
 use Rattle.std.proofs.lemmas.Result.{err_from_is_err_and, IfErr-weaker, on_ok_weaker, on_err_weaker}
-use Rattle.bitcode_input.specs.declared.error.Error.{Error}
+use Rattle.bitcode_columns.specs.declared.error.Error.{Error}
 use Rattle.bitcode_coder.proofs.LengthPartLemmas.{ends_behind_read}
 use Rattle.bitcode_tuples.proofs.ReadingLemmas.{reads_pairs, refuses_first, refused_second}
 use Rattle.bitcode_tuples.proofs.decoder.TupleDecoderView.populate.Goals as goal

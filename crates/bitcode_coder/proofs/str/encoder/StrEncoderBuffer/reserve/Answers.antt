@@ -1,6 +1,6 @@
 -- The lengths are those that were there.
 use Rattle.std.proofs.Common.{sum, ap, ◌∙◌}
-use Rattle.bitcode_input.specs.Fast.{fast_items}
+use Rattle.bitcode_columns.specs.Fast.{fast_items}
 use Rattle.bitcode_coder.specs.LengthCoders.{written_lengths}
 use Rattle.bitcode_coder.proofs.TextCoderLemmas.{same_lengths, pieces_kept}
 use Rattle.bitcode_coder.proofs.str.encoder.StrEncoderBuffer.reserve.Goals as goal

@@ -1,6 +1,6 @@
 -- The text joins its column.
 use Rattle.std.proofs.Common.{◌++◌, sym, ap, ◌∙◌, subst, None}
-use Rattle.bitcode_input.specs.Fast.{fast_items}
+use Rattle.bitcode_columns.specs.Fast.{fast_items}
 use Rattle.bitcode_coder.specs.LengthCoders.{written_lengths}
 use Rattle.bitcode_coder.proofs.TextCoderLemmas.{pieces_pushed}
 use Rattle.bitcode_coder.proofs.CoderLemmas.{joins_entry}

@@ -1,6 +1,6 @@
 -- The tuple stands for a pair.
 use Rattle.std.proofs.lemmas.Result.{on_ok_weaker}
-use Rattle.bitcode_input.specs.declared.error.Error.{Error}
+use Rattle.bitcode_columns.specs.declared.error.Error.{Error}
 use Rattle.bitcode_shapes.specs.Tuples.{split_9}
 use Rattle.bitcode_coder.proofs.RefusalLemmas.{refused_weaker}
 use Rattle.bitcode_tuples.proofs.WritingLemmas.{joins_as, passes_as}

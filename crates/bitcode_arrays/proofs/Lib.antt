@@ -1,2 +1,0 @@
-pub mod ArrayLemmas
-pub mod ArrayReadingLemmas

@@ -1,4 +1,0 @@
-// The coders of arrays.
-#![tactic(auto)]
-
-pub mod array;

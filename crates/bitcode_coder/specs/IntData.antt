@@ -1,0 +1,14 @@
+-- The data that integers are, and those that the bytes of integers stand for.
+use Rattle.std.specs.Prelude.{ℕ, Bool, ℤ, List, map}
+use Rattle.bitcode_columns.specs.LittleEndian.{little_endian}
+use Rattle.bitcode_shapes.specs.Datum.{Datum, number}
+use Rattle.bitcode_coder.specs.Spelling.{number_of_residue}
+
+module _ {T : Type 0} where
+  -- the integers, each as a number
+  abbrev pub int_data : (T → ℤ) → List T → List Datum
+  int_data value ints = map (λ t. number (value t)) ints
+
+  -- integers of a width, signed (true) or not, of each of which the bytes are given, the lowest first
+  abbrev pub bytes_data : ℕ → Bool → (T → List ℕ) → List T → List Datum
+  bytes_data width signed bytes_of entries = map (λ entry. number_of_residue width signed (little_endian (bytes_of entry))) entries

@@ -1,0 +1,100 @@
+// Integers of which not all are allowed: what they stand for, and the coder that reads them.
+ghost use Rattle.std.specs.Prelude.{◌≡◌, ◌≢◌, [], true, All, MatchBool, MatchOption};
+ghost use Rattle.std.proofs.Common.{sym};
+ghost use Rattle.bitcode_columns.specs.Fast.{cow_rest, cow_owned};
+ghost use Rattle.bitcode_columns.specs.LittleEndian.{little_endian};
+ghost use Rattle.bitcode_columns.specs.Numbers.{number_of};
+ghost use Rattle.bitcode_shapes.specs.Datum.{number};
+ghost use Rattle.bitcode_shapes.specs.Shape.{Allowed, IsAllowed, number_shape};
+ghost use Rattle.bitcode_coder.specs.CheckedColumn.{numbers_of, checked_data, NamesCheckedFault};
+
+pub use crate::checked::nanosecond::Nanosecond;
+use crate::coder::{Decoder, HoldsData, View};
+use crate::column_int::ColumnInt;
+use bitcode_columns::error::{Error, Reason};
+use bitcode_columns::fast::CowSlice;
+use bitcode_columns::refuse::err;
+use bitcode_shapes::shaped::Made;
+use std::alloc::Global;
+use std::marker::PhantomData;
+
+mod nanosecond;
+mod types;
+
+/// A type whose values stand for some of the integers `I`, such as `char` for some `u32`.
+pub trait Checked<I: ColumnInt>: Made + Drop {
+    // which integers have a value
+    ghost allowed: { Allowed };
+
+    /// The value that an integer stands for, if it is allowed: 0 is no `NonZeroU8`.
+    fn from_bits(bits: I) -> Option<Self>
+        ensures { MatchOption result (IsAllowed allowed (I.number bits) → ⊥) (λ t. IsAllowed allowed (I.number bits) × Self.makes (number (I.number bits)) t) };
+
+    ghost checked_shape: { Self.shape ≡ number_shape I.width I.signed allowed };
+}
+
+/// The column that values of `C` are read from: integers `I`, each of which is allowed.
+///
+/// ```
+/// let mut column: CheckedIntDecoder<char, u32> = CheckedIntDecoder::new(alloc);
+/// column.populate(&mut input, 1)?; // [4, 97]
+/// let first: char = column.decode()?; // 'a'
+/// ```
+#[derive(Drop)]
+pub struct CheckedIntDecoder<'a, C: Checked<I>, I: ColumnInt> {
+    alloc: Global,
+    values: CowSlice<'a, I::Une>,
+    of: PhantomData<C>,
+}
+
+// Whether each of the integers is allowed.
+fn are_allowed<C: Checked<I>, I: ColumnInt>(entries: &[I::Une]) -> bool
+    ensures { MatchBool result (All (λ entry. IsAllowed C.allowed (number_of I.width I.signed (little_endian (I.une_bytes entry)))) entries.now)
+        (All (λ entry. IsAllowed C.allowed (number_of I.width I.signed (little_endian (I.une_bytes entry)))) entries.now → ⊥) }
+{
+    for entry in entries {
+        if C::from_bits(I::from_unaligned(*entry)).is_none() {
+            return false;
+        }
+    }
+    true
+}
+
+impl<'a, C: Checked<I>, I: ColumnInt> HoldsData for CheckedIntDecoder<'a, C, I> {
+    ghost shape = { number_shape I.width I.signed C.allowed };
+
+    ghost held = { λ d. checked_data C.allowed (numbers_of I.width I.signed I.une_bytes (cow_rest d.values)) };
+
+    ghost owned = { λ d. cow_owned d.values };
+}
+
+impl<'a, C: Checked<I>, I: ColumnInt> View<'a> for CheckedIntDecoder<'a, C, I> {
+    ghost faults = { NamesCheckedFault I.width I.signed C.allowed };
+
+    fn new(alloc: Global) -> Self {
+        CheckedIntDecoder {
+            alloc,
+            values: CowSlice::new(alloc),
+            of: PhantomData,
+        }
+    }
+
+    fn populate(&mut self, input: &mut &'a [u8], k: usize) -> Result<(), Error> {
+        I::unpack(self.alloc, input, k, &mut self.values)?;
+        if !are_allowed::<C, I>(self.values.as_slice()) {
+            return err(Reason::InvalidBitPattern);
+        }
+        Ok(())
+    }
+}
+
+impl<'a, C: Checked<I>, I: ColumnInt> Decoder<'a, C> for CheckedIntDecoder<'a, C, I> {
+    ghost makes_free = { true };
+
+    fn decode(&mut self) -> Result<C, Error> {
+        let bits = I::from_unaligned(self.values.next_unchecked());
+        Ok(C::from_bits(bits).unwrap())
+    }
+
+    ghost same_shape = { sym C.checked_shape };
+}

@@ -1,0 +1,63 @@
+// The integers, as the coders of their columns take them.
+ghost use Rattle.std.specs.Prelude.{◌≡◌, ◌≢◌, ℕ, ◌^◌, ◌<◌, ◌++◌, ℤ, Bool, List, map, All, IsTrue, OnOk, IfErr, OnErr};
+ghost use Rattle.bitcode_columns.specs.Fast.{cow_rest};
+ghost use Rattle.bitcode_columns.specs.Widths.{IsWidth};
+ghost use Rattle.bitcode_columns.specs.IntColumn.{SpellsInts, int_text};
+ghost use Rattle.bitcode_columns.specs.LittleEndian.{little_endian};
+ghost use Rattle.bitcode_columns.specs.Numbers.{number_of};
+ghost use Rattle.bitcode_columns.specs.Reading.{Reads, IsEndOf, Names, ints_fault, ints_stand_raw};
+
+use bitcode_columns::error::{Error, Reason};
+use bitcode_columns::fast::CowSlice;
+use std::alloc::Global;
+
+mod signed;
+mod unsigned;
+
+/// An integer with a column: what its coders ask of it.
+///
+/// It says no more than they need, so that code that names a coder at a type is checked fast: an
+/// [`Int`](bitcode_columns::int_types::Int) brings its arithmetic along.
+pub trait ColumnInt: Copy {
+    /// The number's bytes, the lowest first.
+    type Une: Copy;
+
+    // in bytes
+    ghost width: { ℕ };
+
+    ghost signed: { Bool };
+
+    ghost number: { Self → ℤ };
+
+    ghost une_bytes: { Self.Une → List ℕ };
+
+    /// Appends the column of the integers, as [`pack_ints`](bitcode_columns::pack_ints::pack_ints) does. The slice is scratch afterwards.
+    ///
+    /// A refused growth is `out of memory`, and then `out` is as it was.
+    fn pack(alloc: Global, ints: &mut [Self], out: &mut Vec<u8>) -> Result<(), Error>
+        ensures written { OnOk result (out.new.items ≡ out.old.items ++ int_text width (map number ints.old)) }
+        ensures unchanged { OnErr result (out.new.items ≡ out.old.items) }
+        ensures reason { IfErr result (λ e. e.reason ≡ Reason.OutOfMemory) };
+
+    /// Reads a column of so many integers from the front of the input into `out`, as
+    /// [`unpack_ints`](bitcode_columns::pack_ints::unpack_ints) does.
+    ///
+    /// Missing bytes are `EOF`, a tag that no column has is `invalid packing`, and a refused growth is `out of memory`.
+    fn unpack<'a>(
+        alloc: Global,
+        input: &mut &'a [u8],
+        count: usize,
+        out: &mut CowSlice<'a, Self::Une>,
+    ) -> Result<(), Error>
+        ensures read { OnOk result (Reads (SpellsInts width) count input.old.now (map (λ u. little_endian (une_bytes u)) (cow_rest out.new)) input.new.now) }
+        ensures in_width { OnOk result (All (λ n. n < 256 ^ width) (map (λ u. little_endian (une_bytes u)) (cow_rest out.new))) }
+        ensures refused { IfErr result (λ e. Names e.reason (ints_fault width count input.old.now)) }
+        ensures rest { OnErr result (IsEndOf input.old.now input.new.now) }
+        ensures raw { IsTrue (ints_stand_raw width count input.old.now) → IfErr result (λ e. e.reason ≢ Reason.OutOfMemory) };
+
+    /// The number of these bytes.
+    fn from_unaligned(unaligned: Self::Une) -> Self
+        ensures { number result ≡ number_of width signed (little_endian (une_bytes unaligned)) };
+
+    ghost width_law: { IsWidth width };
+}

@@ -1,0 +1,196 @@
+// The signed integers.
+ghost use Rattle.std.specs.Prelude.{true, refl};
+ghost use Rattle.std.proofs.Common.{inl, inr};
+
+use crate::column_int::ColumnInt;
+use bitcode_columns::error::Error;
+use bitcode_columns::fast::CowSlice;
+use bitcode_columns::int_types::Int;
+use bitcode_columns::pack_ints::{pack_ints, unpack_ints};
+use std::alloc::Global;
+
+impl ColumnInt for i8 {
+    type Une = [u8; 1];
+
+    ghost width = { 1 };
+
+    ghost signed = { true };
+
+    ghost number = { λ z. z };
+
+    ghost une_bytes = { λ bytes. bytes };
+
+    fn pack(alloc: Global, ints: &mut [i8], out: &mut Vec<u8>) -> Result<(), Error> {
+        pack_ints(alloc, ints, out)
+    }
+
+    fn unpack<'a>(
+        alloc: Global,
+        input: &mut &'a [u8],
+        count: usize,
+        out: &mut CowSlice<'a, [u8; 1]>,
+    ) -> Result<(), Error> {
+        unpack_ints::<i8>(alloc, input, count, out)
+    }
+
+    fn from_unaligned(unaligned: [u8; 1]) -> i8 {
+        <i8 as Int>::from_unaligned(unaligned)
+    }
+
+    ghost width_law = { inl refl };
+}
+
+impl ColumnInt for i16 {
+    type Une = [u8; 2];
+
+    ghost width = { 2 };
+
+    ghost signed = { true };
+
+    ghost number = { λ z. z };
+
+    ghost une_bytes = { λ bytes. bytes };
+
+    fn pack(alloc: Global, ints: &mut [i16], out: &mut Vec<u8>) -> Result<(), Error> {
+        pack_ints(alloc, ints, out)
+    }
+
+    fn unpack<'a>(
+        alloc: Global,
+        input: &mut &'a [u8],
+        count: usize,
+        out: &mut CowSlice<'a, [u8; 2]>,
+    ) -> Result<(), Error> {
+        unpack_ints::<i16>(alloc, input, count, out)
+    }
+
+    fn from_unaligned(unaligned: [u8; 2]) -> i16 {
+        <i16 as Int>::from_unaligned(unaligned)
+    }
+
+    ghost width_law = { inr (inl refl) };
+}
+
+impl ColumnInt for i32 {
+    type Une = [u8; 4];
+
+    ghost width = { 4 };
+
+    ghost signed = { true };
+
+    ghost number = { λ z. z };
+
+    ghost une_bytes = { λ bytes. bytes };
+
+    fn pack(alloc: Global, ints: &mut [i32], out: &mut Vec<u8>) -> Result<(), Error> {
+        pack_ints(alloc, ints, out)
+    }
+
+    fn unpack<'a>(
+        alloc: Global,
+        input: &mut &'a [u8],
+        count: usize,
+        out: &mut CowSlice<'a, [u8; 4]>,
+    ) -> Result<(), Error> {
+        unpack_ints::<i32>(alloc, input, count, out)
+    }
+
+    fn from_unaligned(unaligned: [u8; 4]) -> i32 {
+        <i32 as Int>::from_unaligned(unaligned)
+    }
+
+    ghost width_law = { inr (inr (inl refl)) };
+}
+
+impl ColumnInt for i64 {
+    type Une = [u8; 8];
+
+    ghost width = { 8 };
+
+    ghost signed = { true };
+
+    ghost number = { λ z. z };
+
+    ghost une_bytes = { λ bytes. bytes };
+
+    fn pack(alloc: Global, ints: &mut [i64], out: &mut Vec<u8>) -> Result<(), Error> {
+        pack_ints(alloc, ints, out)
+    }
+
+    fn unpack<'a>(
+        alloc: Global,
+        input: &mut &'a [u8],
+        count: usize,
+        out: &mut CowSlice<'a, [u8; 8]>,
+    ) -> Result<(), Error> {
+        unpack_ints::<i64>(alloc, input, count, out)
+    }
+
+    fn from_unaligned(unaligned: [u8; 8]) -> i64 {
+        <i64 as Int>::from_unaligned(unaligned)
+    }
+
+    ghost width_law = { inr (inr (inr (inl refl))) };
+}
+
+impl ColumnInt for i128 {
+    type Une = [u8; 16];
+
+    ghost width = { 16 };
+
+    ghost signed = { true };
+
+    ghost number = { λ z. z };
+
+    ghost une_bytes = { λ bytes. bytes };
+
+    fn pack(alloc: Global, ints: &mut [i128], out: &mut Vec<u8>) -> Result<(), Error> {
+        pack_ints(alloc, ints, out)
+    }
+
+    fn unpack<'a>(
+        alloc: Global,
+        input: &mut &'a [u8],
+        count: usize,
+        out: &mut CowSlice<'a, [u8; 16]>,
+    ) -> Result<(), Error> {
+        unpack_ints::<i128>(alloc, input, count, out)
+    }
+
+    fn from_unaligned(unaligned: [u8; 16]) -> i128 {
+        <i128 as Int>::from_unaligned(unaligned)
+    }
+
+    ghost width_law = { inr (inr (inr (inr refl))) };
+}
+
+impl ColumnInt for isize {
+    type Une = [u8; 8];
+
+    ghost width = { 8 };
+
+    ghost signed = { true };
+
+    ghost number = { λ z. z };
+
+    ghost une_bytes = { λ bytes. bytes };
+
+    fn pack(alloc: Global, ints: &mut [isize], out: &mut Vec<u8>) -> Result<(), Error> {
+        pack_ints(alloc, ints, out)
+    }
+
+    fn unpack<'a>(
+        alloc: Global,
+        input: &mut &'a [u8],
+        count: usize,
+        out: &mut CowSlice<'a, [u8; 8]>,
+    ) -> Result<(), Error> {
+        unpack_ints::<isize>(alloc, input, count, out)
+    }
+
+    fn from_unaligned(unaligned: [u8; 8]) -> isize {
+        <isize as Int>::from_unaligned(unaligned)
+    }
+
+    ghost width_law = { inr (inr (inr (inl refl))) };
+}

@@ -1,0 +1,152 @@
+// The coders of a column of integers.
+#![tactic(auto)]
+
+ghost use Rattle.std.specs.Prelude.{◌≡◌, ◌≢◌, ◌<◌, ◌≤◌, ◌++◌, List, [], true, OnOk, IfErr, OnErr};
+ghost use Rattle.std.proofs.Common.{sym};
+ghost use Rattle.bitcode_columns.specs.Fast.{fast_items, fast_room, cow_rest, fast_capacity, cow_owned};
+ghost use Rattle.bitcode_columns.specs.Reading.{Reads, IsEndOf};
+ghost use Rattle.bitcode_shapes.specs.Datum.{Datum, number};
+ghost use Rattle.bitcode_shapes.specs.Values.{int_shape};
+ghost use Rattle.bitcode_coder.specs.Columns.{ints, one};
+ghost use Rattle.bitcode_coder.specs.IntData.{int_data, bytes_data};
+ghost use Rattle.bitcode_coder.specs.Spelling.{Spells};
+ghost use Rattle.bitcode_coder.specs.Coding.{IsReadingRefusal, written_columns};
+ghost use Rattle.bitcode_coder.specs.Faults.{NamesIntsFault};
+
+use crate::coder::{Buffer, Decoder, Encoder, HoldsColumns, HoldsData, View};
+use crate::column_int::ColumnInt;
+use bitcode_columns::error::{Error, Reason};
+use bitcode_columns::fast::{CowSlice, FastVec, PushUnchecked};
+use bitcode_shapes::shaped::{Made, Shaped};
+use std::alloc::Global;
+
+mod types;
+
+/// A type whose values are written as integers `I`, such as `char` as `u32`.
+pub trait AsInt<I: ColumnInt>: Shaped {
+    /// The integer that stands for the value.
+    fn to_int(&self) -> I
+        ensures { Self.lists self.now (number (I.number result)) };
+
+    ghost as_int_columns: { (ds : List Datum) → written_columns Self.shape ds ≡ one (ints I.width I.signed) ds };
+}
+
+/// An integer whose values are made of what is read, as it is.
+pub trait Integer: ColumnInt + Made {
+    ghost integer_shape: { Self.shape ≡ int_shape Self.width Self.signed };
+
+    ghost integer_makes: { (t : Self) → Self.makes (number (Self.number t)) t };
+}
+
+/// The column that integers are written to.
+///
+/// ```
+/// let mut column: IntEncoder<u16> = IntEncoder::new(alloc);
+/// column.reserve(1)?;
+/// column.encode(&7)?;
+/// column.collect_into(&mut bytes)?;   // [7, 0]
+/// ```
+#[derive(Drop)]
+pub struct IntEncoder<T: ColumnInt> {
+    alloc: Global,
+    values: FastVec<T>,
+}
+
+impl<T: ColumnInt> HoldsColumns for IntEncoder<T> {
+    ghost columns = { λ e. one (ints T.width T.signed) (int_data T.number (fast_items e.values)) };
+
+    ghost room = { λ e. fast_room e.values };
+
+    ghost capacity = { λ e. fast_capacity e.values };
+
+    ghost surely_passes = { λ e n. ⊥ };
+
+    ghost overflows = { λ e n. ⊥ };
+}
+
+impl<T: ColumnInt> Buffer for IntEncoder<T> {
+    fn new(alloc: Global) -> Self {
+        IntEncoder {
+            alloc,
+            values: FastVec::new(alloc),
+        }
+    }
+
+    fn reserve(&mut self, n: usize) -> Result<(), Error> {
+        self.values.reserve(n)
+    }
+
+    fn collect_into(&mut self, out: &mut Vec<u8>) -> Result<(), Error> {
+        T::pack(self.alloc, self.values.as_mut_slice(), out)?;
+        self.values.clear();
+        Ok(())
+    }
+
+    fn clear(&mut self) {
+        self.values.clear();
+    }
+}
+
+impl<I: ColumnInt, P: AsInt<I>> Encoder<P> for IntEncoder<I> {
+    ghost writes_free = { true };
+
+    fn encode(&mut self, t: &P) -> Result<(), Error> {
+        self.values.push_unchecked(t.to_int());
+        Ok(())
+    }
+
+    ghost of_shape = { λ e. sym (P.as_int_columns []) };
+
+    ghost surely = { λ e n never. absurd never };
+}
+
+/// The column that integers are read from.
+///
+/// ```
+/// let mut column: IntDecoder<u16> = IntDecoder::new(alloc);
+/// column.populate(&mut input, 1)?;
+/// let first: u16 = column.decode()?;
+/// ```
+#[derive(Drop)]
+pub struct IntDecoder<'a, T: ColumnInt> {
+    alloc: Global,
+    values: CowSlice<'a, T::Une>,
+}
+
+impl<'a, T: ColumnInt> HoldsData for IntDecoder<'a, T> {
+    ghost shape = { int_shape T.width T.signed };
+
+    ghost held = { λ d. bytes_data T.width T.signed T.une_bytes (cow_rest d.values) };
+
+    ghost owned = { λ d. cow_owned d.values };
+}
+
+impl<'a, T: ColumnInt> View<'a> for IntDecoder<'a, T> {
+    ghost faults = { NamesIntsFault T.width };
+
+    fn new(alloc: Global) -> Self {
+        IntDecoder {
+            alloc,
+            values: CowSlice::new(alloc),
+        }
+    }
+
+    fn populate(&mut self, input: &mut &'a [u8], k: usize) -> Result<(), Error>
+        ensures read { OnOk result (Reads (Spells (int_shape T.width T.signed)) k input.old.now (bytes_data T.width T.signed T.une_bytes (cow_rest self.new.values)) input.new.now) }
+        ensures refused { IfErr result (λ e. IsReadingRefusal (int_shape T.width T.signed) e.reason k input.old.now) }
+        ensures rest { OnErr result (IsEndOf input.old.now input.new.now) }
+        ensures exact { IfErr result (λ e. NamesIntsFault T.width e.reason k input.old.now) }
+    {
+        T::unpack(self.alloc, input, k, &mut self.values)
+    }
+}
+
+impl<'a, T: Integer> Decoder<'a, T> for IntDecoder<'a, T> {
+    ghost makes_free = { true };
+
+    fn decode(&mut self) -> Result<T, Error> {
+        Ok(T::from_unaligned(self.values.next_unchecked()))
+    }
+
+    ghost same_shape = { sym T.integer_shape };
+}

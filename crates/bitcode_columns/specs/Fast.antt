@@ -1,0 +1,42 @@
+-- Lists with reserved room, and lists that are read from the front.
+use Rattle.std.specs.Prelude.{ℕ, ◌+◌, ◌-◌, List, length, drop, vec_len, vec_capacity}
+use Rattle.bitcode_columns.specs.declared.fast.FastVec.{FastVec}
+use Rattle.bitcode_columns.specs.declared.fast.FastSlice.{FastSlice}
+use Rattle.bitcode_columns.specs.declared.fast.CowSlice.{CowSlice}
+use Rattle.bitcode_columns.specs.declared.fast.Held.{Held}
+use Rattle.bitcode_columns.specs.declared.fast.Held.TheVariants.{Borrowed, Owned}
+
+module _ {T : Type 0} where
+  -- the items that were pushed
+  unfoldable pub fast_items : FastVec T → List T
+  fast_items v = v.vec.items
+
+  -- how many more items have their place already
+  unfoldable pub fast_room : FastVec T → ℕ
+  fast_room v = vec_capacity v.vec - vec_len v.vec
+
+  -- how many items it has memory for, those that were pushed included
+  abbrev pub fast_capacity : FastVec T → ℕ
+  fast_capacity v = fast_room v + length (fast_items v)
+
+  -- the items that are left
+  unfoldable pub slice_rest : FastSlice T → List T
+  slice_rest s = s.rest.now
+
+  -- all items, read or not
+  abbrev pub held_items : Held T → List T
+  held_items (Borrowed items) = items.now
+  held_items (Owned vec) = vec.items
+
+  -- the items that are left
+  unfoldable pub cow_rest : CowSlice T → List T
+  cow_rest c = drop c.position (held_items c.held)
+
+  -- for how many items it has memory of its own
+  abbrev pub held_owned : Held T → ℕ
+  held_owned (Borrowed items) = 0
+  held_owned (Owned vec) = vec_capacity vec
+
+  -- for how many items it has memory of its own, read or not
+  unfoldable pub cow_owned : CowSlice T → ℕ
+  cow_owned c = held_owned c.held

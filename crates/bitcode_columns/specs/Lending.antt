@@ -1,0 +1,26 @@
+-- What a list ends as, once the slice that it gave out is given back.
+use Rattle.std.specs.Prelude.{◌≡◌, ⊤, ℕ, List, [], drop}
+use Rattle.std.specs.Borrow.{Lends, follows_so, Fml, MutBor, RattleType, Array}
+use Rattle.std.specs.Vec.{with_items}
+use mathlib.Core.Option.{none}
+use mir.Syntax.{named}
+use Rattle.bitcode_columns.specs.declared.fast.FastVec.{FastVec}
+use Rattle.bitcode_columns.specs.declared.fast.CowSlice.{CowSlice}
+use Rattle.bitcode_columns.specs.contracts.fast.FastVec.{the_row as fast_row}
+use Rattle.bitcode_columns.specs.contracts.fast.CowSlice.{the_row as cow_row}
+use Rattle.bitcode_columns.specs.Fast.{cow_rest}
+
+-- v with these items in place of its own, as many
+unfoldable pub with_fast_items : {T : Type 0} → FastVec T → List T → FastVec T
+with_fast_items v items = record { vec = with_items v.vec items }
+
+module _ (T : RattleType) where
+  -- r is all items of v, to be written
+  abbrev pub LendsItems : MutBor (FastVec T.Denot) → MutBor (List T.Denot) → Fml
+  LendsItems v r = Lends (fast_row T) (Array T 0) v r (with_fast_items v.now)
+
+  -- n items were taken
+  abbrev pub EndsBehind : MutBor (CowSlice T.Denot) → ℕ → Fml
+  EndsBehind c n =
+      let row = cow_row (record { mir = named 1; lft = [] }) T in
+      follows_so row row c.ghost_name none (λ _ _. ⊤) (λ new. cow_rest new ≡ drop n (cow_rest c.now))

@@ -1,7 +1,0 @@
-pub mod ElementLemmas
-pub mod CapLemmas
-pub mod SequenceLemmas
-pub mod SequenceWritingLemmas
-pub mod MapLemmas
-pub mod MapWritingLemmas
-pub mod MapReadingLemmas

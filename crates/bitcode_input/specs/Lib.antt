@@ -1,3 +1,0 @@
-pub mod Fast
-pub mod Lending
-pub mod Reasons

@@ -1,2 +1,0 @@
-pub mod CheckedColumn
-pub mod IntData

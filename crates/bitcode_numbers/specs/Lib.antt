@@ -1,4 +1,0 @@
-pub mod LittleEndian
-pub mod Numbers
-pub mod NumberRange
-pub mod Widths

@@ -1,0 +1,10 @@
+use Rattle.std.proofs.Common.{◌≡◌}
+use Rattle.bitcode_coder.specs.LengthCoders.{lengths_left}
+use Rattle.bitcode_parts.specs.Elements.{TakesEach}
+use Rattle.bitcode_parts.proofs.fixed_capacity.ArrayVecDecoderDecoderArrayVec.decode.Given as goal
+
+abbrev pub invariant-loop-made : goal.invariant-loop-made
+invariant-loop-made g l = record {
+  each : TakesEach g.T.Made.makes l._made l.vec.items (g.D.HoldsData.held l.initial.self.elements) (g.D.HoldsData.held l.self.elements);
+  lengths : lengths_left l.self.lengths ≡ lengths_left l.initial.self.lengths;
+}

@@ -1,0 +1,85 @@
+// The decoder of vectors of a fixed capacity: as that of sequences, but no length passes the capacity.
+#![tactic(auto, unfolding(bitcode_coder::specs::LengthCoders::lengths_left, bitcode_coder::specs::LengthCoders::lengths_sum))]
+
+ghost use Rattle.std.specs.Prelude.{◌+◌, ◌≤◌, ◌⊎◌, Some, All, false};
+ghost use Rattle.std.proofs.Common.{ap};
+ghost use Rattle.std.proofs.Props.{props};
+ghost use Rattle.bitcode_shapes.specs.Shape.{seq_shape};
+ghost use Rattle.bitcode_coder.specs.LengthCoders.{lengths_left, lengths_owned};
+ghost use Rattle.bitcode_coder.specs.LengthParts.{NamesLengthFault};
+ghost use Rattle.bitcode_parts.specs.Sequences.{lists_of, BreaksLimit, FaultsInElements};
+
+use arrayvec::ArrayVec;
+use bitcode_coder::coder::{Decoder, HoldsData, View};
+use bitcode_coder::length::LengthDecoder;
+use bitcode_columns::error::{Error, Reason};
+use bitcode_columns::refuse::err;
+use bitcode_shapes::shaped::Made;
+use std::alloc::Global;
+use std::default::Default;
+
+/// The decoder of vectors of a fixed capacity: it reads the lengths of all, and then the elements of all.
+///
+/// It makes the elements by their decoder, front to back, and refuses as that one does. Where lengths and elements were
+/// read and a length is over `N`, that is `invalid ArrayVec`. For `N` below 255, any length that is written behind a byte
+/// 255 is over it.
+///
+/// ```
+/// let mut lists: ArrayVecDecoder<IntDecoder<u8>, 4> = ArrayVecDecoder::new(alloc);
+/// lists.populate(&mut input, 1)?;              // [3, 6, 57]
+/// let list: ArrayVec<u8, 4> = lists.decode()?; // 1, 2 and 3
+/// ```
+#[derive(Drop)]
+pub struct ArrayVecDecoder<'a, D, const N: usize> {
+    alloc: Global,
+    lengths: LengthDecoder<'a>,
+    elements: D,
+    ghost capped: { All (λ n. n ≤ N) (lengths_left lengths) } by { Prim.hlevel props },
+}
+
+impl<'a, D: HoldsData, const N: usize> HoldsData for ArrayVecDecoder<'a, D, N> {
+    ghost shape = { seq_shape (Some N) D.shape };
+
+    ghost held = { λ d. lists_of (lengths_left d.lengths) (D.held d.elements) };
+
+    ghost owned = { λ d. lengths_owned d.lengths + D.owned d.elements };
+}
+
+impl<'a, D: View<'a>, const N: usize> View<'a> for ArrayVecDecoder<'a, D, N> {
+    ghost faults = { λ reason k input. NamesLengthFault reason k input ⊎ (FaultsInElements D.faults reason k input ⊎ BreaksLimit N D.shape reason k input) };
+
+    fn new(alloc: Global) -> Self {
+        ArrayVecDecoder {
+            alloc,
+            lengths: LengthDecoder::new(alloc),
+            elements: D::new(alloc),
+        }
+    }
+
+    fn populate(&mut self, input: &mut &'a [u8], k: usize) -> Result<(), Error> {
+        let mut lengths = LengthDecoder::new(self.alloc);
+        lengths.populate(input, k)?;
+        self.elements.populate(input, lengths.length())?;
+        if lengths.any_greater_than::<N>() {
+            return err(Reason::InvalidArrayVec);
+        }
+        self.lengths = lengths;
+        Ok(())
+    }
+}
+
+impl<'a, T: Made + Default + Drop, D: Decoder<'a, T>, const N: usize> Decoder<'a, ArrayVec<T, N>>
+    for ArrayVecDecoder<'a, D, N> {
+    ghost makes_free = { false };
+
+    fn decode(&mut self) -> Result<ArrayVec<T, N>, Error> {
+        let count = self.lengths.decode();
+        let mut vec = ArrayVec::new();
+        for _made in 0..count {
+            vec.push(self.elements.decode()?);
+        }
+        Ok(vec)
+    }
+
+    ghost same_shape = { ap (seq_shape (Some N)) D.same_shape };
+}

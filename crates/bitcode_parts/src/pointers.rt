@@ -1,0 +1,90 @@
+// Boxes, shared pointers, their slices and tuples of one field, by way of what they hold.
+ghost use Rattle.std.specs.Prelude.{refl, true, false};
+
+use crate::deref::Points;
+use crate::from::FromValue;
+use bitcode_columns::error::Error;
+use bitcode_shapes::shaped::{Made, Shaped};
+use std::alloc::Global;
+use std::boxed::BoxedSlice;
+use std::rc::{Rc, RcSlice};
+
+impl<T: Shaped> Points for Box<T> {
+    type Target = T;
+
+    fn target(&self) -> &T {
+        self.as_ref()
+    }
+
+    ghost same_shape = { refl };
+}
+
+impl<T: Made + Drop> FromValue<T> for Box<T> {
+    ghost is_free = { false };
+
+    fn from_value(alloc: Global, value: T) -> Result<Self, Error> {
+        Ok(Box::new(alloc, value)?)
+    }
+
+    ghost same_shape = { refl };
+}
+
+impl<T: Shaped> Points for Rc<T> {
+    type Target = T;
+
+    fn target(&self) -> &T {
+        self.as_ref()
+    }
+
+    ghost same_shape = { refl };
+}
+
+impl<T: Made + Drop> FromValue<T> for Rc<T> {
+    ghost is_free = { false };
+
+    fn from_value(alloc: Global, value: T) -> Result<Self, Error> {
+        Ok(Rc::new(alloc, value)?)
+    }
+
+    ghost same_shape = { refl };
+}
+
+impl<T: Made + Drop> FromValue<Vec<T>> for BoxedSlice<T> {
+    ghost is_free = { true };
+
+    fn from_value(_alloc: Global, value: Vec<T>) -> Result<Self, Error> {
+        Ok(value.into_boxed_slice())
+    }
+
+    ghost same_shape = { refl };
+}
+
+impl<T: Made + Drop> FromValue<Vec<T>> for RcSlice<T> {
+    ghost is_free = { false };
+
+    fn from_value(_alloc: Global, value: Vec<T>) -> Result<Self, Error> {
+        Ok(RcSlice::from_vec(value)?)
+    }
+
+    ghost same_shape = { refl };
+}
+
+impl<T: Shaped> Points for (T,) {
+    type Target = T;
+
+    fn target(&self) -> &T {
+        &self.0
+    }
+
+    ghost same_shape = { refl };
+}
+
+impl<T: Made + Drop> FromValue<T> for (T,) {
+    ghost is_free = { true };
+
+    fn from_value(_alloc: Global, value: T) -> Result<Self, Error> {
+        Ok((value,))
+    }
+
+    ghost same_shape = { refl };
+}

@@ -1,0 +1,5 @@
+// Answers of the library, compared with those that are expected.
+pub mod byte_columns;
+pub mod got;
+pub mod lengths;
+pub mod values;

@@ -1,0 +1,9 @@
+// Answers of the library, compared with those that are expected: for the stored rows, and for the tests, which stand here.
+#![tactic(auto)]
+
+pub mod expected;
+#[cfg(test)]
+mod tests;
+
+pub use crate::expected::got::Got;
+pub use crate::expected::values::{both_ways, decodes, encodes, holds, refuses, written_and_read};
