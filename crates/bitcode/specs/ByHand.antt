@@ -1,7 +1,8 @@
 -- The words that types written by hand use in their ghost members, given out again in one place: docs/GUIDE.md.
 -- The laws of structs, of numbers and of texts:
 pub use Rattle.bitcode_shapes.specs.LawfulStructs.{struct_lawful, struct_makeable, u8_lawful, u8_makeable, i8_lawful, i8_makeable, u32_lawful, u32_makeable, str_lawful, str_makeable}
-pub use Rattle.bitcode_shapes.specs.LawfulValues.{bool_lawful, bool_makeable, unit_lawful, unit_makeable, int_lawful, int_makeable}
+pub use Rattle.bitcode_shapes.specs.LawfulInts.{bool_lawful, bool_makeable, int_lawful, int_makeable}
+pub use Rattle.bitcode_shapes.specs.LawfulEmpty.{unit_lawful, unit_makeable}
 pub use Rattle.bitcode_shapes.specs.LawfulTexts.{text_lawful, text_makeable}
 -- of types that stand for others, and of choices:
 pub use Rattle.bitcode_shapes.specs.LawfulImages.{image_lawful, image_makeable}
@@ -15,7 +16,7 @@ pub use Rattle.bitcode_shapes.specs.Choices.{IsVariantValue, ListsChoice, ListsV
 pub use Rattle.bitcode_coder.specs.Columns.{no_columns, two}
 pub use Rattle.bitcode_tuples.specs.Pairs.{pairs_of}
 pub use Rattle.bitcode_parts.specs.Payloads.{choices_of}
-pub use Rattle.bitcode_parts.specs.VariantCoders.{variant_room, variants_left, variants_owned}
+pub use Rattle.bitcode_parts.specs.Variants.{variant_room, variants_left, variants_owned}
 -- The laws of vectors, and what containers are made of:
 pub use Rattle.bitcode_shapes.specs.LawfulVectors.{vec_lawful, vec_makeable}
 pub use Rattle.bitcode_parts.specs.Elements.{MakesOfElements}

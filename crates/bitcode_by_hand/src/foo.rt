@@ -59,7 +59,7 @@ impl HoldsColumns for FooEncoder {
 
     ghost capacity = { λ e. ⟦<IntEncoder<u32> as HoldsColumns>⟧.capacity e.x + ⟦<StrEncoder as HoldsColumns>⟧.capacity e.y };
 
-    ghost surely_passes = { λ e n. ⊥ };
+    ghost surely_overflows = { λ e n. ⊥ };
 
     ghost overflows = { λ e n. ⊥ };
 }

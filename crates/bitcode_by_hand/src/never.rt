@@ -4,7 +4,7 @@ ghost use Rattle.bitcode_columns.specs.declared.error.Reason.TheVariants.{Invali
 ghost use Rattle.bitcode_shapes.specs.Datum.{unit};
 ghost use Rattle.bitcode_shapes.specs.Shape.{never_shape};
 ghost use Rattle.bitcode_coder.specs.Columns.{no_columns};
-ghost use Rattle.bitcode_coder.specs.Coding.{endless_room};
+ghost use Rattle.bitcode_coder.specs.Coder.{endless_room};
 
 use bitcode::coder::{Buffer, HoldsColumns, HoldsData, Result};
 use bitcode::{
@@ -32,7 +32,7 @@ impl HoldsColumns for NeverEncoder {
 
     ghost capacity = { λ e. 0 };
 
-    ghost surely_passes = { λ e n. ⊥ };
+    ghost surely_overflows = { λ e n. ⊥ };
 
     ghost overflows = { λ e n. ⊥ };
 }

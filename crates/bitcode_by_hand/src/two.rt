@@ -67,7 +67,7 @@ impl HoldsColumns for TwoEncoder {
 
     ghost capacity = { λ e. ⟦<VariantEncoder<2> as HoldsColumns>⟧.capacity e.variants + ⟦<IntEncoder<u8> as HoldsColumns>⟧.capacity e.a + ⟦<IntEncoder<i8> as HoldsColumns>⟧.capacity e.b };
 
-    ghost surely_passes = { λ e n. ⊥ };
+    ghost surely_overflows = { λ e n. ⊥ };
 
     ghost overflows = { λ e n. ⊥ };
 }

@@ -9,18 +9,19 @@ use Rattle.std.proofs.lemmas.List.Elements.{All-map, All-head, All-tail, All-nil
 use Rattle.std.proofs.lemmas.Simd.{map-map}
 use Rattle.bitcode_columns.specs.declared.error.Reason.{Reason}
 use Rattle.bitcode_columns.specs.declared.error.Reason.TheVariants.{OutOfMemory}
-use Rattle.bitcode_columns.specs.Widths.{IsWidth}
+use Rattle.bitcode_columns.specs.IntWidths.{IsWidth}
 use Rattle.bitcode_columns.specs.IntColumn.{SpellsInts}
-use Rattle.bitcode_columns.specs.Numbers.{number_of}
+use Rattle.bitcode_columns.specs.Ints.{number_of}
 use Rattle.bitcode_columns.specs.Reading.{Reads, Names, ints_fault}
-use Rattle.bitcode_columns.proofs.IntLemmas.{SpellsInts-once, ints_fault-refuses}
+use Rattle.bitcode_columns.proofs.IntColumnLemmas.{SpellsInts-unambiguous, ints_fault-refuses}
 use Rattle.bitcode_shapes.proofs.CheckedLemmas.{nonzero_unsigned, nonzero_signed}
 use Rattle.bitcode_shapes.specs.Datum.{Datum, number}
 use Rattle.bitcode_shapes.specs.Shape.{Allowed, any_number, nonzero, scalar, between, IsAllowed, IsNumberOf, number_shape}
 use Rattle.bitcode_coder.specs.CheckedColumn.{is_allowed, allowed_front, checked_data, NamesCheckedFault, in_column, not_allowed}
-use Rattle.bitcode_coder.specs.Coding.{IsReadingReason, IsReadingRefusal}
+use Rattle.bitcode_coder.specs.Coder.{IsReadingReason, IsReadingRefusal}
 use Rattle.bitcode_coder.specs.Spelling.{Spells, number_of_residue}
-use Rattle.bitcode_coder.proofs.CoderLemmas.{reads_of, ints_refused, number_is, some_width}
+use Rattle.bitcode_coder.proofs.OneColumnLemmas.{reads_of}
+use Rattle.bitcode_coder.proofs.IntLemmas.{ints_refused, number_is, some_width}
 use Rattle.bitcode_coder.proofs.LengthRefusalLemmas.{reads_once}
 
 -- ---- the test
@@ -111,7 +112,7 @@ module _ {width : ℕ} {signed : Bool} {allowed : Allowed} {count : ℕ} {input 
   checked_refused : (reason : Reason) → reason ≢ OutOfMemory → NamesCheckedFault width signed allowed reason count input → ⊥
   checked_refused reason other (in_column column) = column_refused reason other column.named
   checked_refused reason other (not_allowed entries left is read broken) =
-      let same = reads_once (SpellsInts-once width) read entries_read in
+      let same = reads_once (SpellsInts-unambiguous width) read entries_read in
       broken (subst (All (λ n. IsAllowed allowed (number_of width signed n))) (sym same.0) each_allowed)
 
 checked_reason : (width : ℕ) (signed : Bool) (allowed : Allowed) (reason : Reason) (count : ℕ) (input : List ℕ)

@@ -2,7 +2,7 @@
 use Rattle.std.proofs.Common.{◌≡◌, ℕ, zero, suc, ◌+◌, ◌<◌, pos, Bool, true, false, cond, List, [], ◌∷◌, length, map, filter, replicate, All, ◌==◌, refl, sym, ◌∙◌, ap, ap₂, subst, arith, length-append, eq-eqb, eqb-true}
 use Rattle.std.proofs.lemmas.List.{length-map}
 use Rattle.std.proofs.lemmas.List.Elements.{All-nil, All-head, All-tail, All-same, All-append, All-map, All-filter, All-weaker, filter_passes}
-use Rattle.bitcode_columns.proofs.ListLemmas.{append_split}
+use Rattle.bitcode_columns.proofs.FrontLemmas.{append_split}
 use Rattle.bitcode_shapes.specs.Datum.{Datum, list, choice, number, pair, data_of, list_of, elements_in, first_in, second_in, payload_in, variant_in}
 use Rattle.bitcode_shapes.specs.Shape.{Shape, Shapes, IsOf, no_shapes, shape_and, IsListOf, IsPairOf, IsChoiceOf, IsOfVariant, variant_count}
 use Rattle.bitcode_coder.specs.Transposition.{length_entry, variant_entry, joined, payloads}

@@ -5,8 +5,8 @@ use Rattle.std.specs.List.{AllZip}
 use Rattle.bitcode_shapes.specs.Datum.{Datum}
 use Rattle.bitcode_shapes.specs.Shape.{Shape}
 use Rattle.bitcode_coder.specs.Columns.{Columns, emptied, beside, CountsFit}
-use Rattle.bitcode_coder.specs.Coding.{written_columns, JoinsListing, PassesWithListing, JoinsEach, PassesWithEach}
-use Rattle.bitcode_coder.proofs.CountLemmas.{joined-append, joined-none, CountsFit-fewer}
+use Rattle.bitcode_coder.specs.Coder.{written_columns, JoinsListing, OverflowsWithListing, JoinsEach, OverflowsWithEach}
+use Rattle.bitcode_coder.proofs.ArrayCountLemmas.{joined-append, joined-none, CountsFit-fewer}
 
 pub AllZip-append : {A B : Type 0} (R : A → B → Type 0) (xs ys : List A) (us vs : List B) → AllZip R xs us → AllZip R ys vs → AllZip R (xs ++ ys) (us ++ vs)
 AllZip-append R [] ys [] vs h i = i
@@ -30,19 +30,19 @@ module _ {T : Type 0} (lists : T → Datum → Type 0) (shape : Shape) where
   }
 
   -- an element was refused, after some and before others
-  pub passes_at : (old now : Columns) (before : List T) (item : T) (after whole : List T) → emptied old ≡ written_columns shape []
-      → JoinsEach lists shape before old now → PassesWithListing lists shape item now → (others : List Datum) → AllZip lists after others
-      → whole ≡ before ++ item ∷ after → PassesWithEach lists shape whole old
-  passes_at old now before item after whole form front one others listed is = record {
+  pub overflows_at : (old now : Columns) (before : List T) (item : T) (after whole : List T) → emptied old ≡ written_columns shape []
+      → JoinsEach lists shape before old now → OverflowsWithListing lists shape item now → (others : List Datum) → AllZip lists after others
+      → whole ≡ before ++ item ∷ after → OverflowsWithEach lists shape whole old
+  overflows_at old now before item after whole form front one others listed is = record {
     parts = front.parts ++ one.datum ∷ others;
     listings =
         subst (λ items. AllZip lists items (front.parts ++ one.datum ∷ others)) (sym is)
         (AllZip-append lists before (item ∷ after) front.parts (one.datum ∷ others) front.listings (one.listing, listed));
-    passes = λ fits.
+    overflows = λ fits.
         let grouped : CountsFit (beside old (written_columns shape ((front.parts ++ one.datum ∷ []) ++ others))) =
         subst (λ ds. CountsFit (beside old (written_columns shape ds))) (sym (append_assoc front.parts (one.datum ∷ []) others)) fits in
         let fewer : CountsFit (beside old (written_columns shape (front.parts ++ one.datum ∷ []))) = CountsFit-fewer shape old form (front.parts ++ one.datum ∷ []) others grouped in
-        one.passes
+        one.overflows
         (subst CountsFit (joined-append shape old form front.parts (one.datum ∷ []) ∙ ap (λ a. beside a (written_columns shape (one.datum ∷ []))) (sym front.joined)) fewer);
   }
 
@@ -67,10 +67,10 @@ module _ {T : Type 0} (lists : T → Datum → Type 0) (shape : Shape) (old : Co
     joins = joins_one_more lists shape old now new front.done (front.done ++ item ∷ []) item form front.joins one refl;
   }
 
-  pub front_passes : (whole rest : List T) (item : T) (now : Columns) → JoinsFront lists shape whole (item ∷ rest) old now
-      → PassesWithListing lists shape item now → (others : List Datum) → AllZip lists rest others → PassesWithEach lists shape whole old
-  front_passes whole rest item now front one others listed =
-      passes_at lists shape old now front.done item rest whole form front.joins one others listed front.parted
+  pub front_overflows : (whole rest : List T) (item : T) (now : Columns) → JoinsFront lists shape whole (item ∷ rest) old now
+      → OverflowsWithListing lists shape item now → (others : List Datum) → AllZip lists rest others → OverflowsWithEach lists shape whole old
+  front_overflows whole rest item now front one others listed =
+      overflows_at lists shape old now front.done item rest whole form front.joins one others listed front.parted
 
   pub front_whole : (whole rest : List T) (now : Columns) → JoinsFront lists shape whole rest old now → rest ≡ [] → JoinsEach lists shape whole old now
   front_whole whole rest now front none =

@@ -4,23 +4,23 @@ use Rattle.bitcode_shapes.specs.Datum.{Datum}
 use Rattle.bitcode_shapes.specs.Shape.{Shape, IsSound}
 use Rattle.bitcode_coder.specs.Columns.{Kind, Column, Columns, no_columns, one, two, arrays, flat, beside, emptied, IsSoundKind}
 use Rattle.bitcode_coder.specs.Transposition.{columns_of, spread}
-use Rattle.bitcode_coder.specs.Spelling.{Spells, SpellsEach, column_text, columns_text, texts_of}
+use Rattle.bitcode_coder.specs.Spelling.{Spells, SpellsEach, column_bytes, columns_bytes, texts_of}
 use Rattle.bitcode_coder.specs.Laws.{ReadsBackColumn, ColumnTakesAnEighth, ReadsBackData, DataTakeAnEighth, column_by_column, JoinsColumnByColumn, TreeIsList}
-use Rattle.bitcode_coder.proofs.ColumnLemmas.{SpellsColumn-nothing, SpellsColumn-eighth, column_text-spells}
+use Rattle.bitcode_coder.proofs.ColumnLemmas.{SpellsColumn-nothing, SpellsColumn-size_bound, column_bytes-spells}
 use Rattle.bitcode_coder.proofs.TranspositionLemmas.{columns_of-append, columns_of-none, flat-columns_of, texts_of-flat, SpellsEach-flat}
-use Rattle.bitcode_coder.proofs.SpellingLemmas.{Spells-nothing, Spells-eighth, columns_text-spells}
+use Rattle.bitcode_coder.proofs.SpellingLemmas.{Spells-nothing, Spells-size_bound, columns_bytes-spells}
 
 pub column_read_back : (kind : Kind) → IsSoundKind kind → ReadsBackColumn kind
 column_read_back kind sound entries rest each below =
-    record { size = refl; piece = column_text kind entries; whole = refl; spelled = column_text-spells kind sound entries each below }
+    record { size = refl; piece = column_bytes kind entries; whole = refl; spelled = column_bytes-spells kind sound entries each below }
 
 pub column_takes_an_eighth : (kind : Kind) → IsSoundKind kind → ColumnTakesAnEighth kind
 column_takes_an_eighth kind sound = record {
   nothing = SpellsColumn-nothing kind sound;
-  eighth = SpellsColumn-eighth kind sound;
+  size_bound = SpellsColumn-size_bound kind sound;
 }
 
-pub texts_of-spread : (shape : Shape) (ds : List Datum) → columns_text (columns_of shape ds) ≡ texts_of (spread shape ds)
+pub texts_of-spread : (shape : Shape) (ds : List Datum) → columns_bytes (columns_of shape ds) ≡ texts_of (spread shape ds)
 texts_of-spread shape ds = sym (texts_of-flat (columns_of shape ds)) ∙ ap texts_of (flat-columns_of shape ds)
 
 pub data_read_back : (shape : Shape) → IsSound shape → ReadsBackData shape
@@ -28,11 +28,11 @@ data_read_back shape sound ds rest each counts below = record {
   size = refl;
   piece = texts_of (spread shape ds);
   whole = refl;
-  spelled = subst (λ bytes. Spells shape bytes ds) (texts_of-spread shape ds) (columns_text-spells shape sound ds each counts below);
+  spelled = subst (λ bytes. Spells shape bytes ds) (texts_of-spread shape ds) (columns_bytes-spells shape sound ds each counts below);
 }
 
 pub data_take_an_eighth : (shape : Shape) → IsSound shape → DataTakeAnEighth shape
-data_take_an_eighth shape sound = record { nothing = Spells-nothing shape sound; eighth = Spells-eighth shape sound }
+data_take_an_eighth shape sound = record { nothing = Spells-nothing shape sound; size_bound = Spells-size_bound shape sound }
 
 pub tree_is_list : (shape : Shape) (ds : List Datum) → TreeIsList shape ds
 tree_is_list shape ds = record {

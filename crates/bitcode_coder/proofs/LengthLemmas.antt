@@ -7,14 +7,14 @@ use Rattle.std.proofs.lemmas.List.Elements.{All-map, All-weaker, All-filter, All
 use Rattle.std.proofs.lemmas.List.Sums.{length-filter, get_or-le-sum_by}
 use Rattle.std.proofs.lemmas.Simd.{map-map}
 use Rattle.bitcode_columns.specs.Laws.{IsReadOnce, TakesAnEighth}
-use Rattle.bitcode_columns.specs.Numbers.{IsNumber, residue}
+use Rattle.bitcode_columns.specs.Ints.{IsNumber, residue}
 use Rattle.bitcode_columns.specs.ByteColumn.{SpellsBytes, byte_text}
-use Rattle.bitcode_columns.specs.Widths.{IsWidth}
+use Rattle.bitcode_columns.specs.IntWidths.{IsWidth}
 use Rattle.bitcode_columns.specs.IntColumn.{SpellsInts, int_text}
-use Rattle.bitcode_columns.proofs.ByteLemmas.{SpellsBytes-once, SpellsBytes-eighth, byte_text-spells}
-use Rattle.bitcode_columns.proofs.IntLemmas.{SpellsInts-once, SpellsInts-eighth, int_text-spells}
+use Rattle.bitcode_columns.proofs.ByteColumnLemmas.{SpellsBytes-unambiguous, SpellsBytes-size_bound, byte_text-spells}
+use Rattle.bitcode_columns.proofs.IntColumnLemmas.{SpellsInts-unambiguous, SpellsInts-size_bound, int_text-spells}
 use Rattle.bitcode_shapes.specs.Shape.{IsWithin}
-use Rattle.bitcode_coder.specs.LengthColumn.{SpellsLengths, KeepsCap, escape, lengths_from, first_large, other_large, length_text, length_limit}
+use Rattle.bitcode_coder.specs.LengthColumn.{SpellsLengths, KeepsCap, escape, lengths_from, first_large, other_large, length_bytes, length_limit}
 
 eight_bytes : IsWidth 8
 eight_bytes = inr (inr (inr (inl refl)))
@@ -33,32 +33,32 @@ length-lengths_from (byte ∷ bytes) large =
 as_many : (limit : Option ℕ) (piece lengths : List ℕ) (s : SpellsLengths limit piece lengths) → length lengths ≡ length s.short
 as_many limit piece lengths s = ap length s.joined ∙ length-lengths_from s.short s.large
 
-pub SpellsLengths-once : (limit : Option ℕ) → IsReadOnce (SpellsLengths limit)
-SpellsLengths-once limit = record {
-  once = λ piece other entries others rest left s t same e.
+pub SpellsLengths-unambiguous : (limit : Option ℕ) → IsReadOnce (SpellsLengths limit)
+SpellsLengths-unambiguous limit = record {
+  unambiguous = λ piece other entries others rest left s t same e.
       let split : s.short_piece ++ (s.large_piece ++ rest) ≡ t.short_piece ++ (t.large_piece ++ left) =
       sym (append_assoc s.short_piece s.large_piece rest)
       ∙ (ap (λ front. front ++ rest) (sym s.whole) ∙ (e ∙ (ap (λ front. front ++ left) t.whole ∙ append_assoc t.short_piece t.large_piece left))) in
-      let short = SpellsBytes-once.once s.short_piece t.short_piece s.short t.short (s.large_piece ++ rest) (t.large_piece ++ left)
+      let short = SpellsBytes-unambiguous.unambiguous s.short_piece t.short_piece s.short t.short (s.large_piece ++ rest) (t.large_piece ++ left)
       s.short_spelled t.short_spelled (sym (as_many limit piece entries s) ∙ (same ∙ as_many limit other others t)) split in
-      let large = (SpellsInts-once 8).once s.large_piece t.large_piece s.large t.large rest left s.large_spelled t.large_spelled
+      let large = (SpellsInts-unambiguous 8).unambiguous s.large_piece t.large_piece s.large t.large rest left s.large_spelled t.large_spelled
       (s.large_count ∙ (ap (count_by (λ byte. eqb byte escape)) short.0 ∙ sym t.large_count)) short.1 in
       (s.joined ∙ (ap (λ bytes. lengths_from bytes s.large) short.0 ∙ (ap (lengths_from t.short) large.0 ∙ sym t.joined)), large.1);
 }
 
-pub SpellsLengths-eighth : (limit : Option ℕ) → TakesAnEighth (SpellsLengths limit)
-SpellsLengths-eighth limit = record {
+pub SpellsLengths-size_bound : (limit : Option ℕ) → TakesAnEighth (SpellsLengths limit)
+SpellsLengths-size_bound limit = record {
   nothing = λ piece s.
       let no_short : s.short ≡ [] = nil_from_length s.short (sym (as_many limit piece [] s)) in
       let no_large : s.large ≡ [] = nil_from_length s.large (s.large_count ∙ ap (count_by (λ byte. eqb byte escape)) no_short) in
-      let short_none : s.short_piece ≡ [] = SpellsBytes-eighth.nothing s.short_piece (subst (SpellsBytes s.short_piece) no_short s.short_spelled) in
-      let large_none : s.large_piece ≡ [] = (SpellsInts-eighth 8 eight_bytes).nothing s.large_piece (subst (SpellsInts 8 s.large_piece) no_large s.large_spelled) in
+      let short_none : s.short_piece ≡ [] = SpellsBytes-size_bound.nothing s.short_piece (subst (SpellsBytes s.short_piece) no_short s.short_spelled) in
+      let large_none : s.large_piece ≡ [] = (SpellsInts-size_bound 8 eight_bytes).nothing s.large_piece (subst (SpellsInts 8 s.large_piece) no_large s.large_spelled) in
       s.whole ∙ (ap (λ front. front ++ s.large_piece) short_none ∙ large_none);
-  eighth = λ piece entries s.
+  size_bound = λ piece entries s.
       omega (
         arith,
         as_many limit piece entries s,
-        SpellsBytes-eighth.eighth s.short_piece s.short s.short_spelled,
+        SpellsBytes-size_bound.size_bound s.short_piece s.short s.short_spelled,
         ap length s.whole,
         length-append s.short_piece s.large_piece,
       );
@@ -107,10 +107,10 @@ keeps (Some limit) lengths within =
     (All-map (λ byte. byte ≤ limit) (λ n. min n escape) lengths (All-weaker (λ n. n ≤ limit) (λ n. min n escape ≤ limit) (λ n h. omega arith) lengths within))
     within
 
-pub length_text-spells : (limit : Option ℕ) (lengths : List ℕ) → sum lengths < length_limit → All (IsWithin limit) lengths
-    → SpellsLengths limit (length_text lengths) lengths
-unfolding length_text
-length_text-spells limit lengths below within = record {
+pub length_bytes-spells : (limit : Option ℕ) (lengths : List ℕ) → sum lengths < length_limit → All (IsWithin limit) lengths
+    → SpellsLengths limit (length_bytes lengths) lengths
+unfolding length_bytes
+length_bytes-spells limit lengths below within = record {
   short_piece = byte_text (map (λ n. pos (min n escape)) lengths);
   large_piece = int_text 8 (map pos (filter (λ n. leb escape n) lengths));
   short = map (λ n. min n escape) lengths;

@@ -13,9 +13,9 @@ use Rattle.bitcode_columns.specs.declared.error.Reason.{Reason}
 use Rattle.bitcode_columns.specs.Reading.{Reads, IsEndOf}
 use Rattle.bitcode_shapes.specs.Datum.{natural_in}
 use Rattle.bitcode_coder.specs.Spelling.{natural}
-use Rattle.bitcode_coder.specs.LengthColumn.{SpellsLengths, KeepsCap, escape, lengths_from, length_text, length_limit}
+use Rattle.bitcode_coder.specs.LengthColumn.{SpellsLengths, KeepsCap, escape, lengths_from, length_bytes, length_limit}
 use Rattle.bitcode_coder.specs.Faults.{NamesIntsFault}
-use Rattle.bitcode_coder.specs.LengthParts.{escapes, IsSplit, ReadsParts, NamesLengthFault, in_large}
+use Rattle.bitcode_coder.specs.LengthParts.{escapes, AreLengthParts, ReadsParts, NamesLengthFault, in_large}
 use Rattle.bitcode_coder.proofs.LengthLemmas.{length-lengths_from, found}
 
 -- ---- written
@@ -28,42 +28,42 @@ is_large n = leb escape n
 
 -- parts that are those of some lengths
 split_of : (lengths short large : List ℕ) → short ≡ map short_byte lengths → large ≡ filter is_large lengths
-    → (lengths_from short large ≡ lengths) × IsSplit short large
+    → (lengths_from short large ≡ lengths) × AreLengthParts short large
 split_of lengths short large shorts larges =
     let same : lengths_from short large ≡ lengths =
     ap (λ bytes. lengths_from bytes large) shorts ∙ (ap (lengths_from (map short_byte lengths)) larges ∙ found lengths) in
     (same, record { shorts = shorts ∙ sym (ap (map short_byte) same); larges = larges ∙ sym (ap (filter is_large) same) })
 
 -- a length was pushed
-pushed : (short large newer_short newer_large : List ℕ) (n : ℕ) → IsSplit short large → newer_short ≡ short ++ short_byte n ∷ []
+pushed : (short large newer_short newer_large : List ℕ) (n : ℕ) → AreLengthParts short large → newer_short ≡ short ++ short_byte n ∷ []
     → newer_large ≡ large ++ filter is_large (n ∷ [])
-    → (lengths_from newer_short newer_large ≡ lengths_from short large ++ n ∷ []) × IsSplit newer_short newer_large
+    → (lengths_from newer_short newer_large ≡ lengths_from short large ++ n ∷ []) × AreLengthParts newer_short newer_large
 pushed short large newer_short newer_large n split shorts larges =
     split_of (lengths_from short large ++ n ∷ []) newer_short newer_large
     (shorts ∙ (ap (λ front. front ++ short_byte n ∷ []) split.shorts ∙ sym (map-append short_byte (lengths_from short large) (n ∷ []))))
     (larges ∙ (ap (λ front. front ++ filter is_large (n ∷ [])) split.larges ∙ sym (filter-append is_large (lengths_from short large) (n ∷ []))))
 
-pub pushed_short : (short large newer_short : List ℕ) (n : ℕ) → n < escape → IsSplit short large → newer_short ≡ short ++ n ∷ []
-    → (lengths_from newer_short large ≡ lengths_from short large ++ n ∷ []) × IsSplit newer_short large
+pub pushed_short : (short large newer_short : List ℕ) (n : ℕ) → n < escape → AreLengthParts short large → newer_short ≡ short ++ n ∷ []
+    → (lengths_from newer_short large ≡ lengths_from short large ++ n ∷ []) × AreLengthParts newer_short large
 pushed_short short large newer_short n below split shorts =
     let same : short_byte n ≡ n = omega arith in
     let none_large : filter is_large (n ∷ []) ≡ [] = cond-false (leb escape n) (n ∷ []) [] (lt-leb escape n below) in
     pushed short large newer_short large n split (shorts ∙ ap (λ byte. short ++ byte ∷ []) (sym same))
     (sym (append-nil large) ∙ ap (λ more. large ++ more) (sym none_large))
 
-pub pushed_large : (short large newer_short newer_large : List ℕ) (n : ℕ) → escape ≤ n → IsSplit short large → newer_short ≡ short ++ escape ∷ []
+pub pushed_large : (short large newer_short newer_large : List ℕ) (n : ℕ) → escape ≤ n → AreLengthParts short large → newer_short ≡ short ++ escape ∷ []
     → newer_large ≡ large ++ n ∷ []
-    → (lengths_from newer_short newer_large ≡ lengths_from short large ++ n ∷ []) × IsSplit newer_short newer_large
+    → (lengths_from newer_short newer_large ≡ lengths_from short large ++ n ∷ []) × AreLengthParts newer_short newer_large
 pushed_large short large newer_short newer_large n above split shorts larges =
     let same : short_byte n ≡ escape = omega arith in
     let one_large : filter is_large (n ∷ []) ≡ n ∷ [] = cond-true (leb escape n) (n ∷ []) [] (le-leb escape n above) in
     pushed short large newer_short newer_large n split (shorts ∙ ap (λ byte. short ++ byte ∷ []) (sym same))
     (larges ∙ ap (λ more. large ++ more) (sym one_large))
 
-pub length_text-parts : (short large : List ℕ) → IsSplit short large
-    → byte_text (map pos short) ++ int_text 8 (map pos large) ≡ length_text (lengths_from short large)
-unfolding length_text
-length_text-parts short large split =
+pub length_bytes-parts : (short large : List ℕ) → AreLengthParts short large
+    → byte_text (map pos short) ++ int_text 8 (map pos large) ≡ length_bytes (lengths_from short large)
+unfolding length_bytes
+length_bytes-parts short large split =
     ap (λ bytes. byte_text bytes ++ int_text 8 (map pos large)) (ap (map pos) split.shorts ∙ map-map pos short_byte (lengths_from short large))
     ∙ ap (λ numbers. byte_text (map (λ n. pos (min n escape)) (lengths_from short large)) ++ int_text 8 (map pos numbers)) split.larges
 
@@ -71,14 +71,14 @@ pub naturals_in : (ns : List ℕ) → map natural_in (map natural ns) ≡ ns
 naturals_in ns = map-map natural_in natural ns ∙ map-id ns
 
 -- what a writer of both parts wrote
-pub written_parts : {T E : Type 0} (result : Result T E) (old new short large first second : List ℕ) → IsSplit short large → first ≡ short → second ≡ large
+pub written_parts : {T E : Type 0} (result : Result T E) (old new short large first second : List ℕ) → AreLengthParts short large → first ≡ short → second ≡ large
     → OnOk result (new ≡ old ++ (byte_text (map pos first) ++ int_text 8 (map pos second)))
-    → OnOk result (new ≡ old ++ length_text (map natural_in (map natural (lengths_from short large))))
+    → OnOk result (new ≡ old ++ length_bytes (map natural_in (map natural (lengths_from short large))))
 written_parts result old new short large first second split same_short same_large written =
-    let text : byte_text (map pos first) ++ int_text 8 (map pos second) ≡ length_text (map natural_in (map natural (lengths_from short large))) =
+    let text : byte_text (map pos first) ++ int_text 8 (map pos second) ≡ length_bytes (map natural_in (map natural (lengths_from short large))) =
     ap (λ bytes. byte_text (map pos bytes) ++ int_text 8 (map pos second)) same_short
     ∙ (ap (λ numbers. byte_text (map pos short) ++ int_text 8 (map pos numbers)) same_large
-    ∙ (length_text-parts short large split ∙ ap length_text (sym (naturals_in (lengths_from short large))))) in
+    ∙ (length_bytes-parts short large split ∙ ap length_bytes (sym (naturals_in (lengths_from short large))))) in
     on_ok_weaker result (λ (whole : new ≡ old ++ (byte_text (map pos first) ++ int_text 8 (map pos second))). whole ∙ ap (λ more. old ++ more) text) written
 
 -- ---- taken

@@ -8,19 +8,19 @@ use Rattle.bitcode_columns.specs.ByteColumn.{SpellsBytes}
 use Rattle.bitcode_columns.specs.IntColumn.{SpellsInts}
 use Rattle.bitcode_columns.specs.Laws.{IsReadOnce}
 use Rattle.bitcode_columns.specs.Reading.{Reads, Names, bytes_fault, ints_fault}
-use Rattle.bitcode_columns.proofs.ByteLemmas.{SpellsBytes-once, bytes_fault-refuses}
-use Rattle.bitcode_columns.proofs.IntLemmas.{SpellsInts-once, ints_fault-refuses}
-use Rattle.bitcode_coder.specs.Coding.{IsReadingReason}
+use Rattle.bitcode_columns.proofs.ByteColumnLemmas.{SpellsBytes-unambiguous, bytes_fault-refuses}
+use Rattle.bitcode_columns.proofs.IntColumnLemmas.{SpellsInts-unambiguous, ints_fault-refuses}
+use Rattle.bitcode_coder.specs.Coder.{IsReadingReason}
 use Rattle.bitcode_coder.specs.LengthColumn.{SpellsLengths, KeepsCap, lengths_from, length_limit}
 use Rattle.bitcode_coder.specs.LengthParts.{escapes, ReadsParts, sum_fault, NamesLengthFault, in_short, in_large, in_sum}
-use Rattle.bitcode_coder.proofs.CoderLemmas.{ints_refused}
+use Rattle.bitcode_coder.proofs.IntLemmas.{ints_refused}
 use Rattle.bitcode_coder.proofs.LengthLemmas.{length-lengths_from, other_limit}
 
 -- two readings of so many entries from one input
 pub reads_once : {Entry : Type 0} {Spelled : List ℕ → List Entry → Type 0} {count : ℕ} {input rest left : List ℕ} {entries others : List Entry}
     → IsReadOnce Spelled → Reads Spelled count input entries rest → Reads Spelled count input others left → (entries ≡ others) × (rest ≡ left)
 reads_once {rest = rest} {left = left} {entries = entries} {others = others} law r s =
-    law.once r.piece s.piece entries others rest left r.spelled s.spelled (r.size ∙ sym s.size) (sym r.whole ∙ s.whole)
+    law.unambiguous r.piece s.piece entries others rest left r.spelled s.spelled (r.size ∙ sym s.size) (sym r.whole ∙ s.whole)
 
 -- the parts of a reading of lengths
 parts_of : {limit : Option ℕ} {count : ℕ} {input lengths rest : List ℕ} (r : Reads (SpellsLengths limit) count input lengths rest)
@@ -42,11 +42,11 @@ parts_of {rest = rest} r =
 pub parts_once : {count : ℕ} {input short large rest others larges left : List ℕ} → ReadsParts count input short large rest
     → ReadsParts count input others larges left → (short ≡ others) × (large ≡ larges) × (rest ≡ left)
 parts_once {large = large} {rest = rest} {others = others} r s =
-    let same = reads_once SpellsBytes-once r.short_read s.short_read in
+    let same = reads_once SpellsBytes-unambiguous r.short_read s.short_read in
     let behind : Reads (SpellsInts 8) (escapes others) s.middle large rest =
     subst (λ middle. Reads (SpellsInts 8) (escapes others) middle large rest) same.1
     (subst (λ bytes. Reads (SpellsInts 8) (escapes bytes) r.middle large rest) same.0 r.large_read) in
-    let same_large = reads_once (SpellsInts-once 8) behind s.large_read in
+    let same_large = reads_once (SpellsInts-unambiguous 8) behind s.large_read in
     (same.0, same_large.0, same_large.1)
 
 sum_fault-none : (total : ℕ) → total < length_limit → sum_fault total ≡ None
@@ -65,7 +65,7 @@ module _ (limit : Option ℕ) (reason : Reason) (count : ℕ) (input : List ℕ)
   large_refused short middle read (inl memory) = other memory.0
   large_refused short middle read (inr fault) =
       let parts = parts_of r in
-      let same = reads_once SpellsBytes-once read parts.short_read in
+      let same = reads_once SpellsBytes-unambiguous read parts.short_read in
       (ints_fault-refuses 8).refused (escapes short) middle reason fault parts.large_read.piece r.spelled.large rest parts.large_read.spelled
       (parts.large_read.size ∙ ap escapes (sym same.0)) (same.1 ∙ parts.large_read.whole)
 

@@ -1,11 +1,13 @@
 pub mod CuttingLemmas
-pub mod CoderLemmas
+pub mod OneColumnLemmas
+pub mod BoolLemmas
+pub mod IntLemmas
 pub mod LengthLemmas
 pub mod LengthPartLemmas
 pub mod LengthRefusalLemmas
 pub mod TextLemmas
 pub mod JoinedTextLemmas
-pub mod TextCoderLemmas
+pub mod StrLemmas
 pub mod LimitedTextLemmas
 pub mod ColumnLemmas
 pub mod TranspositionLemmas
@@ -13,7 +15,7 @@ pub mod DatumLemmas
 pub mod SpellingLemmas
 pub mod RowLemmas
 pub mod LawLemmas
-pub mod CountLemmas
+pub mod ArrayCountLemmas
 pub mod EachLemmas
 pub mod RefusalLemmas
 pub mod CheckedLemmas

@@ -7,7 +7,7 @@ use Rattle.bitcode_columns.specs.declared.error.Reason.TheVariants.{InvalidArray
 use Rattle.bitcode_columns.specs.Reading.{Reads}
 use Rattle.bitcode_shapes.specs.Datum.{Datum, text, text_in}
 use Rattle.bitcode_shapes.specs.Shape.{IsTextOf, text_shape}
-use Rattle.bitcode_coder.specs.Coding.{IsReadingReason, IsReadingRefusal}
+use Rattle.bitcode_coder.specs.Coder.{IsReadingReason, IsReadingRefusal}
 use Rattle.bitcode_coder.specs.JoinedTexts.{lengths_of}
 use Rattle.bitcode_coder.specs.LengthColumn.{KeepsCap, lengths_from}
 use Rattle.bitcode_coder.specs.LengthParts.{ReadsParts}
@@ -15,7 +15,7 @@ use Rattle.bitcode_coder.specs.Spelling.{Spells}
 use Rattle.bitcode_coder.specs.TextParts.{NamesLimitedTextFault, in_texts, over_limit}
 use Rattle.bitcode_coder.proofs.LengthLemmas.{other_limit, SpellsLengths-within}
 use Rattle.bitcode_coder.proofs.LengthRefusalLemmas.{cap_kept, cap_refused}
-use Rattle.bitcode_coder.proofs.TextCoderLemmas.{lengths_of_reading, texts_of_reading, text_refusal}
+use Rattle.bitcode_coder.proofs.StrLemmas.{lengths_of_reading, texts_of_reading, text_refusal}
 
 -- a reading with a limit is one without
 unlimited : {limit : Option ℕ} {count : ℕ} {input rest : List ℕ} {ds : List Datum} → Reads (Spells (text_shape limit)) count input ds rest

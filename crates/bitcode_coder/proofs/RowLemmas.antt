@@ -5,8 +5,8 @@ use Rattle.std.proofs.lemmas.List.Elements.{All-nil, All-cons}
 use Rattle.bitcode_columns.specs.LittleEndian.{SpellsRaw, raw_text}
 use Rattle.bitcode_columns.specs.ByteColumn.{SpellsBytes}
 use Rattle.bitcode_columns.specs.IntColumn.{SpellsInts}
-use Rattle.bitcode_columns.proofs.ByteLemmas.{SpellsBytes-once}
-use Rattle.bitcode_columns.proofs.IntLemmas.{SpellsInts-once}
+use Rattle.bitcode_columns.proofs.ByteColumnLemmas.{SpellsBytes-unambiguous}
+use Rattle.bitcode_columns.proofs.IntColumnLemmas.{SpellsInts-unambiguous}
 use Rattle.bitcode_coder.specs.LengthColumn.{SpellsLengths, lengths_from, length_limit, escape}
 use Rattle.bitcode_coder.proofs.LengthLemmas.{length-lengths_from}
 
@@ -70,10 +70,10 @@ greatest_length = record {
 pub no_huge_length : (lengths : List ℕ) → length lengths ≡ 1 → SpellsLengths None (255 ∷ 0 ∷ 255 ∷ 255 ∷ 255 ∷ 255 ∷ 255 ∷ 255 ∷ 7 ∷ 0 ∷ []) lengths → ⊥
 no_huge_length lengths size s =
     let one : length s.short ≡ 1 = sym (length-lengths_from s.short s.large) ∙ (sym (ap length s.joined) ∙ size) in
-    let first = SpellsBytes-once.once s.short_piece (255 ∷ []) s.short (255 ∷ []) s.large_piece
+    let first = SpellsBytes-unambiguous.unambiguous s.short_piece (255 ∷ []) s.short (255 ∷ []) s.large_piece
     (0 ∷ 255 ∷ 255 ∷ 255 ∷ 255 ∷ 255 ∷ 255 ∷ 7 ∷ 0 ∷ []) s.short_spelled escape_read one (sym s.whole) in
     let count : length s.large ≡ 1 = s.large_count ∙ ap (λ bytes. count_by (λ byte. eqb byte escape) bytes) first.0 in
-    let second = (SpellsInts-once 8).once s.large_piece (0 ∷ 255 ∷ 255 ∷ 255 ∷ 255 ∷ 255 ∷ 255 ∷ 7 ∷ 0 ∷ []) s.large (2251799813685247 ∷ [])
+    let second = (SpellsInts-unambiguous 8).unambiguous s.large_piece (0 ∷ 255 ∷ 255 ∷ 255 ∷ 255 ∷ 255 ∷ 255 ∷ 7 ∷ 0 ∷ []) s.large (2251799813685247 ∷ [])
     [] [] s.large_spelled limit_read count (ap (λ bytes. bytes ++ []) first.1) in
     let are : lengths ≡ 2251799813685247 ∷ [] = s.joined ∙ (ap (λ bytes. lengths_from bytes s.large) first.0 ∙ ap (λ large. lengths_from (255 ∷ []) large) second.0) in
     let below : 2251799813685247 < length_limit = subst (λ ls. sum ls < length_limit) are s.below_limit in

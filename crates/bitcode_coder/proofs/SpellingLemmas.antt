@@ -6,8 +6,8 @@ use Rattle.bitcode_shapes.specs.Datum.{Datum, unit, elements_in, first_in, secon
 use Rattle.bitcode_shapes.specs.Shape.{Shape, Shapes, unit_shape, never_shape, bool_shape, number_shape, text_shape, raw_shape, seq_shape, map_shape, array_shape, pair_shape, choice_shape, no_shapes, shape_and, IsOf, IsOfVariant, IsSound, AreSound, IsWithin, IsListOf, IsPairOf, IsChoiceOf, IsNumberOf, any_number, variant_count}
 use Rattle.bitcode_coder.specs.Columns.{Kind, Columns, bools, ints, lengths, texts, raws, variants, no_columns, one, two, arrays, emptied, CountsFit, IsSoundKind, IsEntryOf, entry_count}
 use Rattle.bitcode_coder.specs.Transposition.{columns_of, payload_columns, array_columns, joined, payloads, length_entry, variant_entry}
-use Rattle.bitcode_coder.specs.Spelling.{Spells, SpellsColumns, columns_text, LengthsBelowLimit}
-use Rattle.bitcode_coder.proofs.ColumnLemmas.{SpellsColumn-once, SpellsColumn-nothing, SpellsColumn-eighth, column_text-spells}
+use Rattle.bitcode_coder.specs.Spelling.{Spells, SpellsColumns, columns_bytes, LengthsBelowLimit}
+use Rattle.bitcode_coder.proofs.ColumnLemmas.{SpellsColumn-unambiguous, SpellsColumn-nothing, SpellsColumn-size_bound, column_bytes-spells}
 use Rattle.bitcode_coder.proofs.TranspositionLemmas.{columns_of-none}
 use Rattle.bitcode_coder.proofs.DatumLemmas.{All-replicated, length-mapped, none_never, elements_count, joined_each, same_lists, length-joined, same_array_lengths, firsts_each, seconds_each, same_pairs, IsPayloadFrom, payloads_from_0, variant_below, first_payloads, later_payloads, length-payloads, same_choices}
 
@@ -34,7 +34,7 @@ record Fronts (a b : Columns) (rest left : List ℕ) : Type 0 where
 
 column_once : (kind : Kind) (ds es : List Datum) (rest left : List ℕ) → length ds ≡ length es → Fronts (one kind ds) (one kind es) rest left
     → (ds ≡ es) × (rest ≡ left)
-column_once kind ds es rest left n f = (SpellsColumn-once kind).once f.piece f.other ds es rest left f.spelled f.also n f.same
+column_once kind ds es rest left n f = (SpellsColumn-unambiguous kind).unambiguous f.piece f.other ds es rest left f.spelled f.also n f.same
 
 -- the front of the input goes to the first part, and the rest to the second
 in_turn : {a b c d : Columns} {rest left : List ℕ} (Known : Type 0) (f : Fronts (two a b) (two c d) rest left)
@@ -146,9 +146,9 @@ mutual
         b.1,
       )
 
-pub Spells-once : (shape : Shape) → IsReadOnce (Spells shape)
-Spells-once shape = record {
-  once = λ piece other ds es rest left s t n same.
+pub Spells-unambiguous : (shape : Shape) → IsReadOnce (Spells shape)
+Spells-unambiguous shape = record {
+  unambiguous = λ piece other ds es rest left s t n same.
       data_once shape ds es rest left s.of_shape t.of_shape n
       (record { piece = piece; other = other; spelled = s.columns; also = t.columns; same = same });
 }
@@ -176,22 +176,22 @@ SpellsColumns-nothing (two first second) sound bytes s =
     s.whole ∙ ap₂ (λ x y. x ++ y) (SpellsColumns-nothing first sound.0 s.front s.first) (SpellsColumns-nothing second sound.1 s.back s.second)
 SpellsColumns-nothing (arrays size count elements) sound bytes s = SpellsColumns-nothing elements sound bytes s
 
-pub SpellsColumns-eighth : (a : Columns) → AreSoundKinds a → (bytes : List ℕ) → SpellsColumns a bytes → entry_count a ≤ 8 * length bytes
-SpellsColumns-eighth no_columns sound bytes s = omega arith
-SpellsColumns-eighth (one kind entries) sound bytes s = SpellsColumn-eighth kind sound bytes entries s
-SpellsColumns-eighth (two first second) sound bytes s =
-    let a : entry_count first ≤ 8 * length s.front = SpellsColumns-eighth first sound.0 s.front s.first in
-    let b : entry_count second ≤ 8 * length s.back = SpellsColumns-eighth second sound.1 s.back s.second in
+pub SpellsColumns-size_bound : (a : Columns) → AreSoundKinds a → (bytes : List ℕ) → SpellsColumns a bytes → entry_count a ≤ 8 * length bytes
+SpellsColumns-size_bound no_columns sound bytes s = omega arith
+SpellsColumns-size_bound (one kind entries) sound bytes s = SpellsColumn-size_bound kind sound bytes entries s
+SpellsColumns-size_bound (two first second) sound bytes s =
+    let a : entry_count first ≤ 8 * length s.front = SpellsColumns-size_bound first sound.0 s.front s.first in
+    let b : entry_count second ≤ 8 * length s.back = SpellsColumns-size_bound second sound.1 s.back s.second in
     let c : length bytes ≡ length s.front + length s.back = ap length s.whole ∙ length-append s.front s.back in
     omega arith
-SpellsColumns-eighth (arrays size count elements) sound bytes s = SpellsColumns-eighth elements sound bytes s
+SpellsColumns-size_bound (arrays size count elements) sound bytes s = SpellsColumns-size_bound elements sound bytes s
 
-pub SpellsColumns-text : (a : Columns) → AreSoundKinds a → AreEntries a → LengthsBelowLimit a → SpellsColumns a (columns_text a)
+pub SpellsColumns-text : (a : Columns) → AreSoundKinds a → AreEntries a → LengthsBelowLimit a → SpellsColumns a (columns_bytes a)
 SpellsColumns-text no_columns sound each below = refl
-SpellsColumns-text (one kind entries) sound each below = column_text-spells kind sound entries each below
+SpellsColumns-text (one kind entries) sound each below = column_bytes-spells kind sound entries each below
 SpellsColumns-text (two first second) sound each below = record {
-  front = columns_text first;
-  back = columns_text second;
+  front = columns_bytes first;
+  back = columns_bytes second;
   whole = refl;
   first = SpellsColumns-text first sound.0 each.0 below.0;
   second = SpellsColumns-text second sound.1 each.1 below.1;
@@ -290,14 +290,14 @@ Spells-nothing shape sound bytes s =
     (subst (λ a. SpellsColumns a bytes) (columns_of-none shape []) s.columns)
 
 -- the entries of all columns together are at most eight times the bytes
-pub Spells-eighth : (shape : Shape) → IsSound shape → (bytes : List ℕ) (ds : List Datum) → Spells shape bytes ds
+pub Spells-size_bound : (shape : Shape) → IsSound shape → (bytes : List ℕ) (ds : List Datum) → Spells shape bytes ds
     → entry_count (columns_of shape ds) ≤ 8 * length bytes
-Spells-eighth shape sound bytes ds s = SpellsColumns-eighth (columns_of shape ds) (AreSoundKinds-columns_of shape sound ds) bytes s.columns
+Spells-size_bound shape sound bytes ds s = SpellsColumns-size_bound (columns_of shape ds) (AreSoundKinds-columns_of shape sound ds) bytes s.columns
 
 -- what is written is read back
-pub columns_text-spells : (shape : Shape) → IsSound shape → (ds : List Datum) → All (IsOf shape) ds → CountsFit (columns_of shape ds)
-    → LengthsBelowLimit (columns_of shape ds) → Spells shape (columns_text (columns_of shape ds)) ds
-columns_text-spells shape sound ds each counts below = record {
+pub columns_bytes-spells : (shape : Shape) → IsSound shape → (ds : List Datum) → All (IsOf shape) ds → CountsFit (columns_of shape ds)
+    → LengthsBelowLimit (columns_of shape ds) → Spells shape (columns_bytes (columns_of shape ds)) ds
+columns_bytes-spells shape sound ds each counts below = record {
   of_shape = each;
   counts = counts;
   columns = SpellsColumns-text (columns_of shape ds) (AreSoundKinds-columns_of shape sound ds) (AreEntries-columns_of shape ds each) below;

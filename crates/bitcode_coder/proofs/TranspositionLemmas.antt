@@ -8,7 +8,7 @@ use Rattle.bitcode_shapes.specs.Datum.{Datum, elements_in, first_in, second_in, 
 use Rattle.bitcode_shapes.specs.Shape.{Shape, Shapes, unit_shape, never_shape, bool_shape, number_shape, text_shape, raw_shape, seq_shape, map_shape, array_shape, pair_shape, choice_shape, no_shapes, shape_and, variant_count}
 use Rattle.bitcode_coder.specs.Columns.{Kind, Column, Columns, bools, ints, lengths, texts, raws, variants, no_columns, one, two, arrays, flat, beside, plain, plain_kind, emptied, CountsFit}
 use Rattle.bitcode_coder.specs.Transposition.{columns_of, payload_columns, spread, payload_spread, length_entry, variant_entry, joined, payloads, array_columns, column}
-use Rattle.bitcode_coder.specs.Spelling.{SpellsColumns, SpellsEach, IsSplit, SpellsColumn, columns_text, texts_of, column_text}
+use Rattle.bitcode_coder.specs.Spelling.{SpellsColumns, SpellsEach, IsSplit, SpellsColumn, columns_bytes, texts_of, column_bytes}
 
 joined-append : (ds es : List Datum) → joined (ds ++ es) ≡ joined ds ++ joined es
 joined-append ds es = flat_map-append elements_in ds es
@@ -118,19 +118,19 @@ CountsFit-plain (two first second) = (
 )
 CountsFit-plain (arrays size count elements) = (λ h. (h.0, (CountsFit-plain elements).0 h.1), λ h. (h.0, (CountsFit-plain elements).1 h.1))
 
-column_text-plain : (kind : Kind) (entries : List Datum) → column_text (plain_kind kind) entries ≡ column_text kind entries
-column_text-plain bools entries = refl
-column_text-plain (ints width signed) entries = refl
-column_text-plain (lengths limit) entries = refl
-column_text-plain (texts limit) entries = refl
-column_text-plain raws entries = refl
-column_text-plain (variants count) entries = refl
+column_bytes-plain : (kind : Kind) (entries : List Datum) → column_bytes (plain_kind kind) entries ≡ column_bytes kind entries
+column_bytes-plain bools entries = refl
+column_bytes-plain (ints width signed) entries = refl
+column_bytes-plain (lengths limit) entries = refl
+column_bytes-plain (texts limit) entries = refl
+column_bytes-plain raws entries = refl
+column_bytes-plain (variants count) entries = refl
 
-pub columns_text-plain : (a : Columns) → columns_text (plain a) ≡ columns_text a
-columns_text-plain no_columns = refl
-columns_text-plain (one kind entries) = column_text-plain kind entries
-columns_text-plain (two first second) = ap₂ (λ x y. x ++ y) (columns_text-plain first) (columns_text-plain second)
-columns_text-plain (arrays size count elements) = columns_text-plain elements
+pub columns_bytes-plain : (a : Columns) → columns_bytes (plain a) ≡ columns_bytes a
+columns_bytes-plain no_columns = refl
+columns_bytes-plain (one kind entries) = column_bytes-plain kind entries
+columns_bytes-plain (two first second) = ap₂ (λ x y. x ++ y) (columns_bytes-plain first) (columns_bytes-plain second)
+columns_bytes-plain (arrays size count elements) = columns_bytes-plain elements
 
 flat-array_columns : (size count : ℕ) (a : Columns) → flat (array_columns size count a) ≡ flat a
 flat-array_columns zero count a = refl
@@ -164,12 +164,12 @@ mutual
 texts_of-append : (xs ys : List Column) → texts_of (xs ++ ys) ≡ texts_of xs ++ texts_of ys
 texts_of-append [] ys = refl
 texts_of-append (x ∷ xs) ys =
-    ap (λ l. column_text x.kind x.entries ++ l) (texts_of-append xs ys)
-    ∙ sym (append_assoc (column_text x.kind x.entries) (texts_of xs) (texts_of ys))
+    ap (λ l. column_bytes x.kind x.entries ++ l) (texts_of-append xs ys)
+    ∙ sym (append_assoc (column_bytes x.kind x.entries) (texts_of xs) (texts_of ys))
 
-pub texts_of-flat : (a : Columns) → texts_of (flat a) ≡ columns_text a
+pub texts_of-flat : (a : Columns) → texts_of (flat a) ≡ columns_bytes a
 texts_of-flat no_columns = refl
-texts_of-flat (one kind entries) = append-nil (column_text kind entries)
+texts_of-flat (one kind entries) = append-nil (column_bytes kind entries)
 texts_of-flat (two first second) = texts_of-append (flat first) (flat second) ∙ ap₂ (λ x y. x ++ y) (texts_of-flat first) (texts_of-flat second)
 texts_of-flat (arrays size count elements) = texts_of-flat elements
 

@@ -6,7 +6,7 @@ use Rattle.bitcode_columns.specs.declared.error.Reason.{Reason}
 use Rattle.bitcode_columns.specs.declared.error.Reason.TheVariants.{InvalidBitPattern}
 use Rattle.bitcode_columns.specs.IntColumn.{SpellsInts}
 use Rattle.bitcode_columns.specs.LittleEndian.{little_endian}
-use Rattle.bitcode_columns.specs.Numbers.{number_of}
+use Rattle.bitcode_columns.specs.Ints.{number_of}
 use Rattle.bitcode_columns.specs.Reading.{Reads}
 use Rattle.bitcode_shapes.specs.Datum.{Datum, number}
 use Rattle.bitcode_coder.specs.Faults.{NamesIntsFault}

@@ -5,19 +5,19 @@ use Rattle.bitcode_shapes.specs.Datum.{Datum}
 use Rattle.bitcode_shapes.specs.Shape.{Shape, IsOf}
 use Rattle.bitcode_coder.specs.Columns.{Kind, Column, CountsFit, IsEntryOf, entry_count, entry_count_of, flat}
 use Rattle.bitcode_coder.specs.Transposition.{columns_of, spread}
-use Rattle.bitcode_coder.specs.Spelling.{Spells, SpellsColumn, SpellsColumns, SpellsEach, column_text, columns_text, texts_of, LengthsBelowLimit, LengthsBelowLimitOf}
+use Rattle.bitcode_coder.specs.Spelling.{Spells, SpellsColumn, SpellsColumns, SpellsEach, column_bytes, columns_bytes, texts_of, LengthsBelowLimit, LengthsBelowLimitOf}
 
 -- ---- of one column
 
 -- The text of entries is read back as the same entries, whatever follows it.
 abbrev pub ReadsBackColumn : Kind → Type 0
 ReadsBackColumn kind = (entries : List Datum) (rest : List ℕ) → All (IsEntryOf kind) entries → LengthsBelowLimitOf kind entries
-    → Reads (SpellsColumn kind) (length entries) (column_text kind entries ++ rest) entries rest
+    → Reads (SpellsColumn kind) (length entries) (column_bytes kind entries ++ rest) entries rest
 
 -- No entries take no bytes, and the entries are at most eight times the bytes.
 pub record ColumnTakesAnEighth (kind : Kind) : Type 0 where
   pub nothing : (piece : List ℕ) → SpellsColumn kind piece [] → piece ≡ []
-  pub eighth : (piece : List ℕ) (entries : List Datum) → SpellsColumn kind piece entries → entry_count_of kind entries ≤ 8 * length piece
+  pub size_bound : (piece : List ℕ) (entries : List Datum) → SpellsColumn kind piece entries → entry_count_of kind entries ≤ 8 * length piece
 
 -- ---- of all columns of a shape
 
@@ -29,7 +29,7 @@ ReadsBackData shape = (ds : List Datum) (rest : List ℕ) → All (IsOf shape) d
 -- No data take no bytes, and the entries of all columns together are at most eight times the bytes.
 pub record DataTakeAnEighth (shape : Shape) : Type 0 where
   pub nothing : (bytes : List ℕ) → Spells shape bytes [] → bytes ≡ []
-  pub eighth : (bytes : List ℕ) (ds : List Datum) → Spells shape bytes ds → entry_count (columns_of shape ds) ≤ 8 * length bytes
+  pub size_bound : (bytes : List ℕ) (ds : List Datum) → Spells shape bytes ds → entry_count (columns_of shape ds) ≤ 8 * length bytes
 
 -- each column of the first list with that of the second behind it
 abbrev pub column_by_column : List Column → List Column → List Column
@@ -44,5 +44,5 @@ JoinsColumnByColumn shape = (ds es : List Datum) → spread shape (ds ++ es) ≡
 -- The tree of the columns of data is the list of them: it has the same columns, texts and spellings.
 pub record TreeIsList (shape : Shape) (ds : List Datum) : Type 0 where
   pub columns : flat (columns_of shape ds) ≡ spread shape ds
-  pub written : columns_text (columns_of shape ds) ≡ texts_of (spread shape ds)
+  pub written : columns_bytes (columns_of shape ds) ≡ texts_of (spread shape ds)
   pub spelled : (bytes : List ℕ) → SpellsColumns (columns_of shape ds) bytes ↔ SpellsEach (spread shape ds) bytes

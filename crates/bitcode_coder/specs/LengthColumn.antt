@@ -46,6 +46,6 @@ pub record SpellsLengths (limit : Option ℕ) (piece lengths : List ℕ) : Type 
   pub keeps_cap : KeepsCap limit short lengths
 
 -- Written, whatever the sum is.
-unfoldable pub length_text : List ℕ → List ℕ
-length_text lengths =
+unfoldable pub length_bytes : List ℕ → List ℕ
+length_bytes lengths =
     byte_text (map (λ n. pos (min n escape)) lengths) ++ int_text 8 (map pos (filter (λ n. nat_le escape n) lengths))

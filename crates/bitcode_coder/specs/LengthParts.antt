@@ -13,7 +13,7 @@ abbrev pub escapes : List ℕ → ℕ
 escapes short = count_by (λ byte. byte == escape) short
 
 -- both parts are those that are written for their lengths
-pub record IsSplit (short large : List ℕ) : Type 0 where
+pub record AreLengthParts (short large : List ℕ) : Type 0 where
   pub shorts : short ≡ map (λ n. min n escape) (lengths_from short large)
   pub larges : large ≡ filter (λ n. nat_le escape n) (lengths_from short large)
 

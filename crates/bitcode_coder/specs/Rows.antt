@@ -8,12 +8,12 @@ use Rattle.bitcode_columns.specs.BoolColumn.{bool_text}
 use Rattle.bitcode_columns.specs.IntColumn.{int_text}
 use Rattle.bitcode_shapes.specs.Datum.{Datum, number, list, pair, data_of}
 use Rattle.bitcode_shapes.specs.Shape.{Shape, number_shape, seq_shape, array_shape, pair_shape, bool_shape, any_number}
-use Rattle.bitcode_coder.specs.LengthColumn.{length_text}
+use Rattle.bitcode_coder.specs.LengthColumn.{length_bytes}
 use Rattle.bitcode_coder.specs.Transposition.{columns_of}
-use Rattle.bitcode_coder.specs.Spelling.{columns_text}
+use Rattle.bitcode_coder.specs.Spelling.{columns_bytes}
 
 abbrev text_of : Shape → Datum → List ℕ
-text_of shape d = columns_text (columns_of shape (d ∷ []))
+text_of shape d = columns_bytes (columns_of shape (d ∷ []))
 
 abbrev n : ℕ → Datum
 n value = number (pos value)
@@ -28,8 +28,8 @@ abbrev bytes : List ℕ → Datum
 bytes values = list (data_of (map n values))
 
 -- 255 stands for the large length behind
-an_escape : length_text (1 ∷ 255 ∷ 2 ∷ []) ≡ 0 ∷ 1 ∷ 255 ∷ 2 ∷ 6 ∷ 255 ∷ []
-unfolding length_text int_text byte_text tagged_text digits_text raw_text
+an_escape : length_bytes (1 ∷ 255 ∷ 2 ∷ []) ≡ 0 ∷ 1 ∷ 255 ∷ 2 ∷ 6 ∷ 255 ∷ []
+unfolding length_bytes int_text byte_text tagged_text digits_text raw_text
 an_escape = refl
 
 array_of_three : text_of (array_shape 3 byte_shape) (bytes (0 ∷ 1 ∷ 2 ∷ [])) ≡ 8 ∷ 21 ∷ []
@@ -46,22 +46,22 @@ bool_and_short = refl
 
 seven_shorts : text_of (seq_shape None (number_shape 2 true any_number))
     (list (data_of (n 0 ∷ minus_one ∷ n 0 ∷ minus_one ∷ n 0 ∷ minus_one ∷ n 0 ∷ []))) ≡ 7 ∷ 1 ∷ 255 ∷ 255 ∷ 10 ∷ 85 ∷ []
-unfolding length_text int_text byte_text tagged_text digits_text raw_text
+unfolding length_bytes int_text byte_text tagged_text digits_text raw_text
 seven_shorts = refl
 
 five_shorts : text_of (seq_shape None (number_shape 2 true any_number)) (list (data_of (n 0 ∷ minus_one ∷ n 0 ∷ minus_one ∷ n 0 ∷ [])))
     ≡ 5 ∷ 0 ∷ 0 ∷ 0 ∷ 255 ∷ 255 ∷ 0 ∷ 0 ∷ 255 ∷ 255 ∷ 0 ∷ 0 ∷ []
-unfolding length_text int_text byte_text tagged_text digits_text raw_text
+unfolding length_bytes int_text byte_text tagged_text digits_text raw_text
 five_shorts = refl
 
 -- the least of all seventeen entries is the last one
 seventeen_shorts : text_of (seq_shape None (number_shape 2 false any_number))
     (list (data_of (n 300 ∷ n 300 ∷ n 300 ∷ n 300 ∷ n 300 ∷ n 300 ∷ n 300 ∷ n 300 ∷ n 300 ∷ n 300 ∷ n 300 ∷ n 300 ∷ n 300 ∷ n 300 ∷ n 300
     ∷ n 300 ∷ n 299 ∷ []))) ≡ 17 ∷ 1 ∷ 43 ∷ 1 ∷ 10 ∷ 255 ∷ 255 ∷ 0 ∷ []
-unfolding length_text int_text byte_text tagged_text digits_text raw_text
+unfolding length_bytes int_text byte_text tagged_text digits_text raw_text
 seventeen_shorts = refl
 
 lists_of_bytes : text_of (seq_shape None (seq_shape None byte_shape)) (list (data_of (bytes [] ∷ bytes (1 ∷ 2 ∷ 3 ∷ []) ∷ [])))
     ≡ 2 ∷ 0 ∷ 3 ∷ 6 ∷ 57 ∷ []
-unfolding length_text int_text byte_text tagged_text digits_text raw_text
+unfolding length_bytes int_text byte_text tagged_text digits_text raw_text
 lists_of_bytes = refl

@@ -1,13 +1,13 @@
 -- How bytes spell columns, and the bytes that are written for them.
 use Rattle.std.specs.Prelude.{◌≡◌, ℕ, ◌^◌, ◌<◌, pos, Bool, List, [], ◌∷◌, ◌++◌, length, map, All, sum, ◌==◌}
-use Rattle.bitcode_columns.specs.Numbers.{number_of, bool_number}
+use Rattle.bitcode_columns.specs.Ints.{number_of, bool_digit}
 use Rattle.bitcode_columns.specs.BoolColumn.{SpellsBools, bool_text}
 use Rattle.bitcode_columns.specs.IntColumn.{SpellsInts, int_text}
 use Rattle.bitcode_columns.specs.VariantColumn.{SpellsVariants, variant_text}
 use Rattle.bitcode_shapes.specs.Datum.{Datum, number, text, number_in, natural_in, text_in}
 use Rattle.bitcode_shapes.specs.Shape.{Shape, IsOf}
-use Rattle.bitcode_coder.specs.LengthColumn.{SpellsLengths, length_text, length_limit}
-use Rattle.bitcode_coder.specs.TextColumn.{SpellsTexts, texts_text}
+use Rattle.bitcode_coder.specs.LengthColumn.{SpellsLengths, length_bytes, length_limit}
+use Rattle.bitcode_coder.specs.TextColumn.{SpellsTexts, texts_bytes}
 use Rattle.bitcode_coder.specs.Columns.{Kind, Column, Columns, bools, ints, lengths, texts, raws, variants, no_columns, one, two, arrays, CountsFit}
 use Rattle.bitcode_coder.specs.Transposition.{columns_of}
 
@@ -15,7 +15,7 @@ abbrev pub natural : ℕ → Datum
 natural n = number (pos n)
 
 abbrev pub truth : Bool → Datum
-truth b = natural (bool_number b)
+truth b = natural (bool_digit b)
 
 abbrev pub number_of_residue : ℕ → Bool → ℕ → Datum
 number_of_residue width signed n = number (number_of width signed n)
@@ -69,24 +69,24 @@ pub record Spells (shape : Shape) (bytes : List ℕ) (ds : List Datum) : Type 0 
 
 -- ---- written
 
-abbrev pub column_text : Kind → List Datum → List ℕ
-column_text bools ds = bool_text (map (λ d. natural_in d == 1) ds)
-column_text (ints width signed) ds = int_text width (map number_in ds)
-column_text (lengths limit) ds = length_text (map natural_in ds)
-column_text (texts limit) ds = texts_text (map text_in ds)
-column_text raws ds = map natural_in ds
-column_text (variants count) ds = variant_text count (map natural_in ds)
+abbrev pub column_bytes : Kind → List Datum → List ℕ
+column_bytes bools ds = bool_text (map (λ d. natural_in d == 1) ds)
+column_bytes (ints width signed) ds = int_text width (map number_in ds)
+column_bytes (lengths limit) ds = length_bytes (map natural_in ds)
+column_bytes (texts limit) ds = texts_bytes (map text_in ds)
+column_bytes raws ds = map natural_in ds
+column_bytes (variants count) ds = variant_text count (map natural_in ds)
 
-abbrev pub columns_text : Columns → List ℕ
-columns_text no_columns = []
-columns_text (one kind entries) = column_text kind entries
-columns_text (two first second) = columns_text first ++ columns_text second
-columns_text (arrays size count elements) = columns_text elements
+abbrev pub columns_bytes : Columns → List ℕ
+columns_bytes no_columns = []
+columns_bytes (one kind entries) = column_bytes kind entries
+columns_bytes (two first second) = columns_bytes first ++ columns_bytes second
+columns_bytes (arrays size count elements) = columns_bytes elements
 
 -- the texts of a list of columns, joined
 abbrev pub texts_of : List Column → List ℕ
 texts_of [] = []
-texts_of (column ∷ columns) = column_text column.kind column.entries ++ texts_of columns
+texts_of (column ∷ columns) = column_bytes column.kind column.entries ++ texts_of columns
 
 -- What is written is read back where each column of lengths, those of texts too, sums below the limit.
 abbrev pub LengthsBelowLimitOf : Kind → List Datum → Type 0

@@ -1,7 +1,7 @@
 -- A text column is a length column and then the bytes of all texts, joined. Each text for itself is UTF-8.
 use Rattle.std.specs.Prelude.{◌≡◌, ℕ, Option, List, ◌++◌, length, map, All, IsUtf8}
 use Rattle.std.specs.List.{flat_map}
-use Rattle.bitcode_coder.specs.LengthColumn.{SpellsLengths, length_text}
+use Rattle.bitcode_coder.specs.LengthColumn.{SpellsLengths, length_bytes}
 
 -- Accepted.
 pub record SpellsTexts (limit : Option ℕ) (piece : List ℕ) (texts : List (List ℕ)) : Type 0 where
@@ -11,5 +11,5 @@ pub record SpellsTexts (limit : Option ℕ) (piece : List ℕ) (texts : List (Li
   pub utf8 : All IsUtf8 texts
 
 -- Written.
-unfoldable pub texts_text : List (List ℕ) → List ℕ
-texts_text texts = length_text (map (λ text. length text) texts) ++ flat_map (λ text. text) texts
+unfoldable pub texts_bytes : List (List ℕ) → List ℕ
+texts_bytes texts = length_bytes (map (λ text. length text) texts) ++ flat_map (λ text. text) texts

@@ -1,5 +1,5 @@
 // The coders of a column of bools.
-#![tactic(auto, using(crate::proofs::CoderLemmas::truths_in, crate::proofs::CoderLemmas::bools_read, crate::proofs::CoderLemmas::bools_refused, crate::proofs::CoderLemmas::bools_exact))]
+#![tactic(auto, using(crate::proofs::BoolLemmas::truths_in, crate::proofs::BoolLemmas::bools_read, crate::proofs::BoolLemmas::bools_refused, crate::proofs::BoolLemmas::bools_exact))]
 
 ghost use Rattle.std.specs.Prelude.{◌≡◌, ◌≢◌, ◌≤◌, ◌++◌, map, true, refl, OnOk, IfErr, OnErr};
 ghost use Rattle.bitcode_columns.specs.Fast.{fast_items, fast_room, cow_rest, fast_capacity, cow_owned};
@@ -7,7 +7,7 @@ ghost use Rattle.bitcode_columns.specs.Reading.{Reads, IsEndOf};
 ghost use Rattle.bitcode_shapes.specs.Shape.{bool_shape};
 ghost use Rattle.bitcode_coder.specs.Columns.{bools, one};
 ghost use Rattle.bitcode_coder.specs.Spelling.{Spells, truth};
-ghost use Rattle.bitcode_coder.specs.Coding.{IsReadingRefusal};
+ghost use Rattle.bitcode_coder.specs.Coder.{IsReadingRefusal};
 ghost use Rattle.bitcode_coder.specs.Faults.{NamesBoolsFault};
 
 use crate::coder::{Buffer, Decoder, Encoder, HoldsColumns, HoldsData, View};
@@ -29,7 +29,7 @@ impl HoldsColumns for BoolEncoder {
 
     ghost capacity = { λ e. fast_capacity e.values };
 
-    ghost surely_passes = { λ e n. ⊥ };
+    ghost surely_overflows = { λ e n. ⊥ };
 
     ghost overflows = { λ e n. ⊥ };
 }

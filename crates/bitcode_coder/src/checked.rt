@@ -3,7 +3,7 @@ ghost use Rattle.std.specs.Prelude.{◌≡◌, ◌≢◌, [], true, All, MatchBo
 ghost use Rattle.std.proofs.Common.{sym};
 ghost use Rattle.bitcode_columns.specs.Fast.{cow_rest, cow_owned};
 ghost use Rattle.bitcode_columns.specs.LittleEndian.{little_endian};
-ghost use Rattle.bitcode_columns.specs.Numbers.{number_of};
+ghost use Rattle.bitcode_columns.specs.Ints.{number_of};
 ghost use Rattle.bitcode_shapes.specs.Datum.{number};
 ghost use Rattle.bitcode_shapes.specs.Shape.{Allowed, IsAllowed, number_shape};
 ghost use Rattle.bitcode_coder.specs.CheckedColumn.{numbers_of, checked_data, NamesCheckedFault};

@@ -5,11 +5,11 @@ ghost use Rattle.bitcode_columns.specs.Reading.{Reads, IsEndOf};
 ghost use Rattle.bitcode_shapes.specs.Datum.{Datum};
 ghost use Rattle.bitcode_shapes.specs.Shape.{Shape};
 ghost use Rattle.bitcode_coder.specs.Columns.{Columns, emptied};
-ghost use Rattle.bitcode_coder.specs.Spelling.{Spells, columns_text};
-ghost use Rattle.bitcode_coder.specs.Coding.{written_columns, BeginsWith, JoinsListing, PassesWithListing, JoinsEach, PassesWithEach, SurelyPasses, IsWritingRefusal, IsReadingRefusal, TakesDatum};
+ghost use Rattle.bitcode_coder.specs.Spelling.{Spells, columns_bytes};
+ghost use Rattle.bitcode_coder.specs.Coder.{written_columns, BeginsWith, JoinsListing, OverflowsWithListing, JoinsEach, OverflowsWithEach, SurelyOverflows, IsWritingRefusal, IsReadingRefusal, TakesDatum};
 
 use bitcode_columns::error::{Error, Reason};
-use bitcode_shapes::sequences::told_behind;
+use bitcode_shapes::lists::told_behind;
 use bitcode_shapes::shaped::{Made, Shaped};
 use std::alloc::Global;
 
@@ -30,7 +30,7 @@ pub trait HoldsColumns {
     ghost capacity: { Self → ℕ };
 
     // so many more values make a number of arrays pass, whatever they are
-    ghost surely_passes: { Self → ℕ → Type 0 };
+    ghost surely_overflows: { Self → ℕ → Type 0 };
 
     // that so many more values make a number of arrays pass is found before memory is asked for
     ghost overflows: { Self → ℕ → Type 0 };
@@ -54,14 +54,14 @@ pub trait Buffer: HoldsColumns {
         ensures ok { OnOk result (n ≤ Self.room self.new) }
         ensures grows { Self.room self.old ≤ Self.room self.new }
         ensures succeeds { n ≤ Self.room self.old → IsOk result }
-        ensures refused { IfErr result (λ e. IsWritingRefusal e.reason (Self.surely_passes self.old n)) }
+        ensures refused { IfErr result (λ e. IsWritingRefusal e.reason (Self.surely_overflows self.old n)) }
         ensures overflow { Self.overflows self.old n → IsErrOf result (record { reason = Reason.LengthOverflow }) };
 
     /// Writes the columns behind `out`, and leaves them empty.
     ///
     /// A refused growth is `out of memory`; `out` then begins with what it held.
     fn collect_into(&mut self, out: &mut Vec<u8>) -> Result<(), Error>
-        ensures written { OnOk result (out.new.items ≡ out.old.items ++ columns_text (Self.columns self.old)) }
+        ensures written { OnOk result (out.new.items ≡ out.old.items ++ columns_bytes (Self.columns self.old)) }
         ensures empty { OnOk result (Self.columns self.new ≡ emptied (Self.columns self.old)) }
         ensures begins { BeginsWith out.old.items out.new.items }
         ensures form { emptied (Self.columns self.new) ≡ emptied (Self.columns self.old) }
@@ -76,7 +76,7 @@ pub trait Buffer: HoldsColumns {
     ///
     /// A refused growth is `out of memory`.
     final fn collect(&mut self, alloc: Global) -> Result<Vec<u8>, Error>
-        ensures written { IfOk result (λ bytes. bytes.items ≡ columns_text (Self.columns self.old)) }
+        ensures written { IfOk result (λ bytes. bytes.items ≡ columns_bytes (Self.columns self.old)) }
         ensures empty { OnOk result (Self.columns self.new ≡ emptied (Self.columns self.old)) }
         ensures form { emptied (Self.columns self.new) ≡ emptied (Self.columns self.old) }
         ensures refused { IfErr result (λ e. e.reason ≡ Reason.OutOfMemory) }
@@ -101,7 +101,7 @@ pub trait Encoder<T: Shaped>: HoldsColumns {
         ensures joined { OnOk result (JoinsListing T.lists T.shape t.now (Self.columns self.old) (Self.columns self.new)) }
         ensures room { OnOk result (Self.room self.old ≤ Self.room self.new + 1) }
         ensures form { emptied (Self.columns self.new) ≡ emptied (Self.columns self.old) }
-        ensures refused { IfErr result (λ e. IsWritingRefusal e.reason (PassesWithListing T.lists T.shape t.now (Self.columns self.old))) }
+        ensures refused { IfErr result (λ e. IsWritingRefusal e.reason (OverflowsWithListing T.lists T.shape t.now (Self.columns self.old))) }
         ensures free { IsTrue writes_free → IfErr result (λ e. e.reason ≢ Reason.OutOfMemory) };
 
     /// Joins the columns of 1 to [`MAX_VECTORED_CHUNK`] values to those so far, as [`Encoder::encode`] does one by one.
@@ -114,7 +114,7 @@ pub trait Encoder<T: Shaped>: HoldsColumns {
         ensures joined { OnOk result (JoinsEach T.lists T.shape (map (λ value. value.now) values.now) (Self.columns self.old) (Self.columns self.new)) }
         ensures room { OnOk result (Self.room self.old ≤ Self.room self.new + length values.now) }
         ensures form { emptied (Self.columns self.new) ≡ emptied (Self.columns self.old) }
-        ensures refused { IfErr result (λ e. IsWritingRefusal e.reason (PassesWithEach T.lists T.shape (map (λ value. value.now) values.now) (Self.columns self.old))) }
+        ensures refused { IfErr result (λ e. IsWritingRefusal e.reason (OverflowsWithEach T.lists T.shape (map (λ value. value.now) values.now) (Self.columns self.old))) }
         ensures free { IsTrue writes_free → IfErr result (λ e. e.reason ≢ Reason.OutOfMemory) }
     {
         told_behind(values);
@@ -127,7 +127,7 @@ pub trait Encoder<T: Shaped>: HoldsColumns {
     // the columns are those of the type's shape
     ghost of_shape: { (e : Self) → emptied (Self.columns e) ≡ written_columns T.shape [] };
 
-    ghost surely: { (e : Self) (n : ℕ) → Self.surely_passes e n → SurelyPasses T.shape (Self.columns e) n };
+    ghost surely: { (e : Self) (n : ℕ) → Self.surely_overflows e n → SurelyOverflows T.shape (Self.columns e) n };
 }
 
 /// The data that a decoder holds.

@@ -1,10 +1,10 @@
 // The integers, as the coders of their columns take them.
 ghost use Rattle.std.specs.Prelude.{◌≡◌, ◌≢◌, ℕ, ◌^◌, ◌<◌, ◌++◌, ℤ, Bool, List, map, All, IsTrue, OnOk, IfErr, OnErr};
 ghost use Rattle.bitcode_columns.specs.Fast.{cow_rest};
-ghost use Rattle.bitcode_columns.specs.Widths.{IsWidth};
+ghost use Rattle.bitcode_columns.specs.IntWidths.{IsWidth};
 ghost use Rattle.bitcode_columns.specs.IntColumn.{SpellsInts, int_text};
 ghost use Rattle.bitcode_columns.specs.LittleEndian.{little_endian};
-ghost use Rattle.bitcode_columns.specs.Numbers.{number_of};
+ghost use Rattle.bitcode_columns.specs.Ints.{number_of};
 ghost use Rattle.bitcode_columns.specs.Reading.{Reads, IsEndOf, Names, ints_fault, ints_stand_raw};
 
 use bitcode_columns::error::{Error, Reason};
@@ -17,7 +17,7 @@ mod unsigned;
 /// An integer with a column: what its coders ask of it.
 ///
 /// It says no more than they need, so that code that names a coder at a type is checked fast: an
-/// [`Int`](bitcode_columns::int_types::Int) brings its arithmetic along.
+/// [`Int`](bitcode_columns::ints::Int) brings its arithmetic along.
 pub trait ColumnInt: Copy {
     /// The number's bytes, the lowest first.
     type Une: Copy;

@@ -6,11 +6,11 @@ ghost use Rattle.std.proofs.Common.{sym};
 ghost use Rattle.bitcode_columns.specs.Fast.{fast_items, fast_room, cow_rest, fast_capacity, cow_owned};
 ghost use Rattle.bitcode_columns.specs.Reading.{Reads, IsEndOf};
 ghost use Rattle.bitcode_shapes.specs.Datum.{Datum, number};
-ghost use Rattle.bitcode_shapes.specs.Values.{int_shape};
+ghost use Rattle.bitcode_shapes.specs.Ints.{int_shape};
 ghost use Rattle.bitcode_coder.specs.Columns.{ints, one};
-ghost use Rattle.bitcode_coder.specs.IntData.{int_data, bytes_data};
+ghost use Rattle.bitcode_coder.specs.Int.{int_data, bytes_data};
 ghost use Rattle.bitcode_coder.specs.Spelling.{Spells};
-ghost use Rattle.bitcode_coder.specs.Coding.{IsReadingRefusal, written_columns};
+ghost use Rattle.bitcode_coder.specs.Coder.{IsReadingRefusal, written_columns};
 ghost use Rattle.bitcode_coder.specs.Faults.{NamesIntsFault};
 
 use crate::coder::{Buffer, Decoder, Encoder, HoldsColumns, HoldsData, View};
@@ -59,7 +59,7 @@ impl<T: ColumnInt> HoldsColumns for IntEncoder<T> {
 
     ghost capacity = { λ e. fast_capacity e.values };
 
-    ghost surely_passes = { λ e n. ⊥ };
+    ghost surely_overflows = { λ e n. ⊥ };
 
     ghost overflows = { λ e n. ⊥ };
 }

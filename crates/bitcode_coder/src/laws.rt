@@ -15,9 +15,9 @@ ghost use Rattle.bitcode_coder.specs.Laws.{ReadsBackColumn, ColumnTakesAnEighth,
 /// one_column();
 /// ```
 pub fn one_column()
-    ensures back { (kind : Kind) → IsSoundKind kind → ReadsBackColumn kind }
-    ensures once { (kind : Kind) → IsReadOnce (SpellsColumn kind) }
-    ensures eighth { (kind : Kind) → IsSoundKind kind → ColumnTakesAnEighth kind }
+    ensures round_trip { (kind : Kind) → IsSoundKind kind → ReadsBackColumn kind }
+    ensures unambiguous { (kind : Kind) → IsReadOnce (SpellsColumn kind) }
+    ensures size_bound { (kind : Kind) → IsSoundKind kind → ColumnTakesAnEighth kind }
 {}
 
 /// Data of any shape: the same of all their columns together.
@@ -26,9 +26,9 @@ pub fn one_column()
 /// all_columns();
 /// ```
 pub fn all_columns()
-    ensures back { (shape : Shape) → IsSound shape → ReadsBackData shape }
-    ensures once { (shape : Shape) → IsReadOnce (Spells shape) }
-    ensures eighth { (shape : Shape) → IsSound shape → DataTakeAnEighth shape }
+    ensures round_trip { (shape : Shape) → IsSound shape → ReadsBackData shape }
+    ensures unambiguous { (shape : Shape) → IsReadOnce (Spells shape) }
+    ensures size_bound { (shape : Shape) → IsSound shape → DataTakeAnEighth shape }
 {}
 
 /// The columns of two lists of data that are joined are the columns of the lists, joined column by column.

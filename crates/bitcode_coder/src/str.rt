@@ -1,7 +1,7 @@
 // Texts as the entries of a column.
 ghost use Rattle.std.specs.Prelude.{◌≡◌, List, None, refl};
 ghost use Rattle.bitcode_shapes.specs.Datum.{Datum, text};
-ghost use Rattle.bitcode_coder.specs.Coding.{written_columns};
+ghost use Rattle.bitcode_coder.specs.Coder.{written_columns};
 ghost use Rattle.bitcode_coder.specs.Columns.{texts, one};
 
 pub use crate::str::decoder::StrDecoder;

@@ -3,9 +3,9 @@ ghost use Rattle.std.specs.Prelude.{◌≡◌, ◌++◌, map, pos, true, refl};
 ghost use Rattle.bitcode_columns.specs.Fast.{fast_items, fast_room, fast_capacity};
 ghost use Rattle.bitcode_shapes.specs.SameArrays.{one_datum_same_arrays};
 ghost use Rattle.bitcode_shapes.specs.Shape.{raw_shape};
-ghost use Rattle.bitcode_shapes.specs.Values.{ListsNumber, SameNumber};
+ghost use Rattle.bitcode_shapes.specs.Ints.{ListsNumber, SameNumber};
 ghost use Rattle.bitcode_coder.specs.Columns.{raws, one};
-ghost use Rattle.bitcode_coder.specs.RawBytes.{IsRawByte, raw_lawful};
+ghost use Rattle.bitcode_coder.specs.U8Char.{IsRawByte, raw_lawful};
 ghost use Rattle.bitcode_coder.specs.Spelling.{natural};
 
 use crate::coder::{Buffer, Encoder, HoldsColumns};
@@ -64,7 +64,7 @@ impl HoldsColumns for U8CharEncoder {
 
     ghost capacity = { λ e. fast_capacity e.bytes };
 
-    ghost surely_passes = { λ e n. ⊥ };
+    ghost surely_overflows = { λ e n. ⊥ };
 
     ghost overflows = { λ e n. ⊥ };
 }

@@ -127,9 +127,9 @@ same_parts piece other rest left size whole =
     same : piece ≡ other
     same = sym (take_at piece rest (length piece) refl) ∙ ap (take (length piece)) whole ∙ take_at other left (length piece) (sym size)
 
-pub SpellsDigits-once : (base : Base) → IsReadOnce (SpellsDigits base)
-SpellsDigits-once base = record {
-  once = λ piece other entries others rest left s t counts split.
+pub SpellsDigits-unambiguous : (base : Base) → IsReadOnce (SpellsDigits base)
+SpellsDigits-unambiguous base = record {
+  unambiguous = λ piece other entries others rest left s t counts split.
       let parts = same_parts piece other rest left (s.size ∙ ap (λ n. div_ceil n (digits_in_byte base)) counts ∙ sym t.size) split in (
         same_number_lists entries others counts (λ i inside.
             s.each i inside
@@ -139,10 +139,10 @@ SpellsDigits-once base = record {
       );
 }
 
-pub SpellsDigits-eighth : (base : Base) → TakesAnEighth (SpellsDigits base)
-SpellsDigits-eighth base = record {
+pub SpellsDigits-size_bound : (base : Base) → TakesAnEighth (SpellsDigits base)
+SpellsDigits-size_bound base = record {
   nothing = λ piece s. nil_from_length piece (omega (arith, s.size, div_ceil_at_most 0 (digits_in_byte base) 0 (some_digits base).0 (omega arith)));
-  eighth = λ piece entries s.
+  size_bound = λ piece entries s.
       omega (
         arith,
         s.size,

@@ -9,14 +9,14 @@ use Rattle.bitcode_columns.specs.declared.error.Reason.{Reason}
 use Rattle.bitcode_columns.specs.declared.pack.Base.TheVariants.{Whole}
 use Rattle.bitcode_columns.specs.ByteColumn.{SpellsBytes, base_at_level}
 use Rattle.bitcode_columns.specs.ByteForm.{TellsForm}
-use Rattle.bitcode_columns.specs.Widths.{IsWidth}
+use Rattle.bitcode_columns.specs.IntWidths.{IsWidth}
 use Rattle.bitcode_columns.specs.IntColumn.{IntForm, bytes_form, bare_form, tagged_form, int_form, SpellsInts, SpellsIntsAs, SpellsNarrow, SpellsAtIntLevel, width_at_level, halvings}
 use Rattle.bitcode_columns.specs.IntHeader.{TellsLevel, ReadsWidened}
 use Rattle.bitcode_columns.specs.LittleEndian.{SpellsRaw, little_endian, number_bytes, raw_text}
 use Rattle.bitcode_columns.specs.Reading.{Reads, IsEndOf, missing, tagged_fault, narrow_fault, has_raw_tag}
 use Rattle.bitcode_columns.specs.Tagged.{SpellsTagged, level_of_tag}
 use Rattle.bitcode_columns.proofs.ByteReadingLemmas.{TellsForm-plain, whole_behind_form}
-use Rattle.bitcode_columns.proofs.IntLemmas.{at_width}
+use Rattle.bitcode_columns.proofs.IntColumnLemmas.{at_width}
 use Rattle.bitcode_columns.proofs.UnalignedLemmas.{first_chunks_spell}
 use Rattle.bitcode_columns.proofs.WideningLemmas.{some_numbers}
 

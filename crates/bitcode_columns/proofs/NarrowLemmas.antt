@@ -7,10 +7,10 @@ use Rattle.std.proofs.lemmas.Int.{ints}
 use Rattle.std.proofs.lemmas.List.{map-append, append-nil}
 use Rattle.std.proofs.lemmas.List.Concat.{flat_map-append}
 use Rattle.bitcode_columns.specs.LittleEndian.{number_bytes, raw_text}
-use Rattle.bitcode_columns.specs.Widths.{IsWidth}
-use Rattle.bitcode_columns.specs.Numbers.{IsNumber, residue}
+use Rattle.bitcode_columns.specs.IntWidths.{IsWidth}
+use Rattle.bitcode_columns.specs.Ints.{IsNumber, residue}
 use Rattle.bitcode_columns.specs.Narrowing.{above}
-use Rattle.bitcode_columns.proofs.NumberLemmas.{residue_below, even_residues}
+use Rattle.bitcode_columns.proofs.IntLemmas.{residue_below, even_residues}
 
 -- ---- distances
 

@@ -8,8 +8,8 @@ use Rattle.bitcode_columns.specs.declared.error.Reason.TheVariants.{Eof}
 use Rattle.bitcode_columns.specs.LittleEndian.{little_endian, number_bytes, raw_text, SpellsRaw}
 use Rattle.bitcode_columns.specs.Reading.{missing}
 use Rattle.bitcode_columns.specs.Laws.{IsReadOnce, TakesAnEighth, IsFaultOf}
-use Rattle.bitcode_columns.proofs.EndianLemmas.{length-number_bytes, little_endian-number_bytes}
-use Rattle.bitcode_columns.proofs.ListLemmas.{append_split}
+use Rattle.bitcode_columns.proofs.LittleEndianLemmas.{length-number_bytes, little_endian-number_bytes}
+use Rattle.bitcode_columns.proofs.FrontLemmas.{append_split}
 
 pub length-raw_text : (width : ℕ) (numbers : List ℕ) → length (raw_text width numbers) ≡ length numbers * width
 unfolding raw_text
@@ -35,17 +35,17 @@ raw_once width (n ∷ numbers) (m ∷ others) rest left h g same e =
     raw_once width numbers others rest left (All-tail P n numbers h) (All-tail P m others g) (omega arith) parts.1 in
     (cc, later.1)
 
-pub SpellsRaw-once : (width : ℕ) → IsReadOnce (SpellsRaw width)
-SpellsRaw-once width = record {
-  once = λ piece other entries others rest left s t same e.
+pub SpellsRaw-unambiguous : (width : ℕ) → IsReadOnce (SpellsRaw width)
+SpellsRaw-unambiguous width = record {
+  unambiguous = λ piece other entries others rest left s t same e.
       raw_once width entries others rest left s.fit t.fit same (ap (λ x. x ++ rest) (sym s.whole) ∙ (e ∙ ap (λ x. x ++ left) t.whole));
 }
 
-pub SpellsRaw-eighth : (width : ℕ) → 1 ≤ width → TakesAnEighth (SpellsRaw width)
+pub SpellsRaw-size_bound : (width : ℕ) → 1 ≤ width → TakesAnEighth (SpellsRaw width)
 unfolding raw_text
-SpellsRaw-eighth width positive = record {
+SpellsRaw-size_bound width positive = record {
   nothing = λ piece s. s.whole;
-  eighth = λ piece entries s. omega (arith, ap length s.whole, length-raw_text width entries, mul-le-mul_left (length entries) positive);
+  size_bound = λ piece entries s. omega (arith, ap length s.whole, length-raw_text width entries, mul-le-mul_left (length entries) positive);
 }
 
 -- where bytes are missing there are fewer than are wanted

@@ -7,13 +7,13 @@ use Rattle.std.proofs.lemmas.List.{length-map, drop_at}
 use Rattle.std.proofs.lemmas.List.Elements.{All-head, All-tail, All-contains, All-map}
 use Rattle.bitcode_columns.specs.declared.error.Reason.{Reason}
 use Rattle.bitcode_columns.specs.LittleEndian.{little_endian, number_bytes}
-use Rattle.bitcode_columns.specs.Numbers.{IsNumber, residue, least, greatest}
+use Rattle.bitcode_columns.specs.Ints.{IsNumber, residue, least, greatest}
 use Rattle.bitcode_columns.specs.Tagged.{level_of_tag, SpellsTagged, plain_level, shifted_level, is_shifted, plain_text, shifted_text, tagged_text}
 use Rattle.bitcode_columns.specs.Reading.{tagged_fault}
 use Rattle.bitcode_columns.specs.Laws.{IsReadOnce, IsFaultOf}
-use Rattle.bitcode_columns.proofs.ListLemmas.{append_split, map_further}
-use Rattle.bitcode_columns.proofs.NumberLemmas.{residue_below, residue_from, least_below, greatest_above, distances_below, residues_below}
-use Rattle.bitcode_columns.proofs.EndianLemmas.{length-number_bytes, little_endian-number_bytes}
+use Rattle.bitcode_columns.proofs.FrontLemmas.{append_split, map_further}
+use Rattle.bitcode_columns.proofs.IntLemmas.{residue_below, residue_from, least_below, greatest_above, distances_below, residues_below}
+use Rattle.bitcode_columns.proofs.LittleEndianLemmas.{length-number_bytes, little_endian-number_bytes}
 
 -- as many entries as narrow numbers
 length_tagged : (width highest : ℕ) (SpellsNarrow : ℕ → List ℕ → List ℕ → Type 0) (piece entries : List ℕ)
@@ -21,10 +21,10 @@ length_tagged : (width highest : ℕ) (SpellsNarrow : ℕ → List ℕ → List 
 length_tagged width highest SpellsNarrow piece entries s =
     ap length s.widened ∙ length-map s.narrow (λ n. (n + little_endian s.least_bytes) % 256 ^ width)
 
-pub SpellsTagged-once : (width highest : ℕ) (SpellsNarrow : ℕ → List ℕ → List ℕ → Type 0)
+pub SpellsTagged-unambiguous : (width highest : ℕ) (SpellsNarrow : ℕ → List ℕ → List ℕ → Type 0)
     → ((level : ℕ) → IsReadOnce (SpellsNarrow level)) → IsReadOnce (SpellsTagged width highest SpellsNarrow)
-SpellsTagged-once width highest SpellsNarrow narrow = record {
-  once = λ piece other entries others rest left s t same e.
+SpellsTagged-unambiguous width highest SpellsNarrow narrow = record {
+  unambiguous = λ piece other entries others rest left s t same e.
       let joined : s.tag ∷ ((s.least_bytes ++ s.body) ++ rest) ≡ t.tag ∷ ((t.least_bytes ++ t.body) ++ left) =
       ap (λ x. x ++ rest) (sym s.whole) ∙ (e ∙ ap (λ x. x ++ left) t.whole) in
       let tags : s.tag ≡ t.tag = cc joined in
@@ -37,15 +37,15 @@ SpellsTagged-once width highest SpellsNarrow narrow = record {
       let sizes : length s.narrow ≡ length t.narrow = sym (length_tagged width highest SpellsNarrow piece entries s)
       ∙ (same ∙ length_tagged width highest SpellsNarrow other others t) in
       let read : (s.narrow ≡ t.narrow) × (rest ≡ left) =
-      (narrow (level_of_tag t.tag)).once s.body t.body s.narrow t.narrow rest left at_level t.narrowed sizes parts.1 in
+      (narrow (level_of_tag t.tag)).unambiguous s.body t.body s.narrow t.narrow rest left at_level t.narrowed sizes parts.1 in
       let wide : (low : List ℕ) → List ℕ → List ℕ = λ low numbers. map (λ n. (n + little_endian low) % 256 ^ width) numbers in
       (s.widened ∙ (ap (wide s.least_bytes) read.0 ∙ (ap (λ low. wide low t.narrow) parts.0 ∙ sym t.widened)), read.1);
 }
 
-pub SpellsTagged-eighth : (width highest : ℕ) (SpellsNarrow : ℕ → List ℕ → List ℕ → Type 0)
+pub SpellsTagged-size_bound : (width highest : ℕ) (SpellsNarrow : ℕ → List ℕ → List ℕ → Type 0)
     → ((level : ℕ) (body narrow : List ℕ) → 2 * level ≤ highest + 1 → SpellsNarrow level body narrow → length narrow ≤ 8 * length body)
     → (piece entries : List ℕ) → SpellsTagged width highest SpellsNarrow piece entries → length entries ≤ 8 * length piece
-SpellsTagged-eighth width highest SpellsNarrow narrow piece entries s =
+SpellsTagged-size_bound width highest SpellsNarrow narrow piece entries s =
     let known : s.tag ≤ highest = s.known in
     let within : 2 * level_of_tag s.tag ≤ highest + 1 = omega arith in
     omega (

@@ -7,7 +7,7 @@ use Rattle.std.proofs.Math.Seq.{take-add}
 use Rattle.std.proofs.lemmas.List.{length-take, length-drop}
 use Rattle.std.proofs.lemmas.List.Elements.{All-take, All-drop, All-cons, All-nil}
 use Rattle.bitcode_columns.specs.LittleEndian.{little_endian, number_bytes, raw_text, SpellsRaw}
-use Rattle.bitcode_columns.proofs.EndianLemmas.{number_bytes-little_endian, little_endian_below}
+use Rattle.bitcode_columns.proofs.LittleEndianLemmas.{number_bytes-little_endian, little_endian_below}
 
 byte_of : (i n m : ℕ) → m ≡ n / 256 ^ i → byte_at i n ≡ m % 256
 byte_of zero n m e = ap (λ a. a % 256) (sym (e ∙ div-one n))

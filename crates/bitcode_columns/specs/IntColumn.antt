@@ -3,7 +3,7 @@
 -- the numbers; those of one byte are an unsigned byte column of their own.
 use Rattle.std.specs.Prelude.{ℕ, ◌-◌, ◌*◌, ◌/◌, ◌^◌, ℤ, pos, List, length, map, nat_lt, MatchBool, ◌==◌, ◌||◌, ◌&&◌, if◌then◌else◌}
 use Rattle.bitcode_columns.specs.LittleEndian.{SpellsRaw, raw_text}
-use Rattle.bitcode_columns.specs.Numbers.{residue}
+use Rattle.bitcode_columns.specs.Ints.{residue}
 use Rattle.bitcode_columns.specs.Tagged.{SpellsTagged, tagged_text}
 use Rattle.bitcode_columns.specs.ByteColumn.{SpellsBytes, byte_text}
 

@@ -1,18 +1,18 @@
 -- The laws that every kind of column keeps, each over what the kind accepts.
 use Rattle.std.specs.Prelude.{◌≡◌, ℕ, ◌+◌, ◌*◌, ◌≤◌, List, [], ◌++◌, length, Option, Some, map, All, Bool, ℤ}
 use Rattle.bitcode_columns.specs.declared.error.Reason.{Reason}
-use Rattle.bitcode_columns.specs.Numbers.{IsNumber, residue, number_of}
+use Rattle.bitcode_columns.specs.Ints.{IsNumber, residue, number_of}
 use Rattle.bitcode_columns.specs.Reading.{Reads}
 
 -- An input is read in at most one way: at one count there is one list of entries, and one rest.
 pub record IsReadOnce {Entry : Type 0} (Spells : List ℕ → List Entry → Type 0) : Type 0 where
-  pub once : (piece other : List ℕ) (entries others : List Entry) (rest left : List ℕ) → Spells piece entries → Spells other others
+  pub unambiguous : (piece other : List ℕ) (entries others : List Entry) (rest left : List ℕ) → Spells piece entries → Spells other others
       → length entries ≡ length others → piece ++ rest ≡ other ++ left → (entries ≡ others) × (rest ≡ left)
 
 -- No entries take no bytes, and so many entries take at least an eighth as many bytes.
 pub record TakesAnEighth {Entry : Type 0} (Spells : List ℕ → List Entry → Type 0) : Type 0 where
   pub nothing : (piece : List ℕ) → Spells piece [] → piece ≡ []
-  pub eighth : (piece : List ℕ) (entries : List Entry) → Spells piece entries → length entries ≤ 8 * length piece
+  pub size_bound : (piece : List ℕ) (entries : List Entry) → Spells piece entries → length entries ≤ 8 * length piece
 
 -- Where a fault is named no front of the input spells so many entries.
 pub record IsFaultOf {Entry : Type 0} (fault : ℕ → List ℕ → Option Reason) (Spells : List ℕ → List Entry → Type 0) : Type 0 where

@@ -3,7 +3,7 @@ pub mod Tagged
 pub mod BoolColumn
 pub mod ByteColumn
 pub mod VariantColumn
-pub mod Counts
+pub mod Histogram
 pub mod IntColumn
 pub mod Narrowing
 pub mod Reading
@@ -15,8 +15,8 @@ pub mod ByteForm
 pub mod IntHeader
 pub mod Fast
 pub mod Lending
-pub mod Reasons
+pub mod Error
 pub mod LittleEndian
-pub mod Numbers
-pub mod NumberRange
-pub mod Widths
+pub mod Ints
+pub mod IntRange
+pub mod IntWidths

@@ -1,8 +1,8 @@
 // Entries that can stand as the digits of bytes.
 ghost use Rattle.std.specs.Prelude.{◌≡◌, ℕ, ◌<◌};
-ghost use Rattle.bitcode_columns.specs.Numbers.{residue, bool_number};
+ghost use Rattle.bitcode_columns.specs.Ints.{residue, bool_digit};
 
-use crate::int_types::Byte;
+use crate::ints::Byte;
 
 /// An entry that can stand as a digit of a byte.
 pub trait Digit: Copy {
@@ -37,7 +37,7 @@ impl<T: Byte> Digit for T {
 }
 
 impl Digit for bool {
-    ghost digit_of = { bool_number };
+    ghost digit_of = { bool_digit };
 
     ghost limit = { 2 };
 

@@ -1,6 +1,6 @@
 // Why a call refuses.
 ghost use Rattle.std.specs.Prelude.{◌≡◌, ◌++◌, Some, codes};
-ghost use Rattle.bitcode_columns.specs.Reasons.{reason_text};
+ghost use Rattle.bitcode_columns.specs.Error.{reason_text};
 
 use std::alloc::{AllocError, AllocFailed};
 use std::fmt;

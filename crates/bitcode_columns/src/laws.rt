@@ -2,7 +2,7 @@
 ghost use Rattle.std.specs.Prelude.{ℕ, ◌<◌, ◌≤◌, Bool, List, ◌++◌, length, All};
 ghost use Rattle.bitcode_columns.specs.BoolColumn.{SpellsBools, bool_text};
 ghost use Rattle.bitcode_columns.specs.ByteColumn.{SpellsBytes, byte_text};
-ghost use Rattle.bitcode_columns.specs.Widths.{IsWidth};
+ghost use Rattle.bitcode_columns.specs.IntWidths.{IsWidth};
 ghost use Rattle.bitcode_columns.specs.IntColumn.{SpellsInts, int_text};
 ghost use Rattle.bitcode_columns.specs.Laws.{IsReadOnce, TakesAnEighth, IsFaultOf, TakesAtMostOneMore, ReadsBack, NumbersAreFound};
 ghost use Rattle.bitcode_columns.specs.Reading.{Reads, bools_fault, bytes_fault, variants_fault, ints_fault};
@@ -11,34 +11,34 @@ ghost use Rattle.bitcode_columns.specs.VariantColumn.{SpellsVariants, variant_te
 /// Bool columns: what is written is read back whatever follows it, an input is read in at most one way, no entries
 /// take no bytes and so many at least an eighth as many, and a fault is named only where nothing can be read.
 pub fn bool_columns()
-    ensures back { (entries : List Bool) (rest : List ℕ) → Reads SpellsBools (length entries) (bool_text entries ++ rest) entries rest }
-    ensures once { IsReadOnce SpellsBools }
-    ensures eighth { TakesAnEighth SpellsBools }
+    ensures round_trip { (entries : List Bool) (rest : List ℕ) → Reads SpellsBools (length entries) (bool_text entries ++ rest) entries rest }
+    ensures unambiguous { IsReadOnce SpellsBools }
+    ensures size_bound { TakesAnEighth SpellsBools }
     ensures refused { IsFaultOf bools_fault SpellsBools }
 {}
 
 /// Byte columns: the same, and the text takes at most the raw bytes and one more.
 pub fn byte_columns()
-    ensures back { ReadsBack 1 SpellsBytes byte_text }
-    ensures once { IsReadOnce SpellsBytes }
-    ensures eighth { TakesAnEighth SpellsBytes }
+    ensures round_trip { ReadsBack 1 SpellsBytes byte_text }
+    ensures unambiguous { IsReadOnce SpellsBytes }
+    ensures size_bound { TakesAnEighth SpellsBytes }
     ensures refused { IsFaultOf bytes_fault SpellsBytes }
     ensures at_most { TakesAtMostOneMore 1 byte_text }
 {}
 
 /// Columns of 2 to 256 variants: as of bool columns.
 pub fn variant_columns()
-    ensures back { (variants : ℕ) (entries rest : List ℕ) → 2 ≤ variants → variants ≤ 256 → All (λ entry. entry < variants) entries → Reads (SpellsVariants variants) (length entries) (variant_text variants entries ++ rest) entries rest }
-    ensures once { (variants : ℕ) → IsReadOnce (SpellsVariants variants) }
-    ensures eighth { (variants : ℕ) → TakesAnEighth (SpellsVariants variants) }
+    ensures round_trip { (variants : ℕ) (entries rest : List ℕ) → 2 ≤ variants → variants ≤ 256 → All (λ entry. entry < variants) entries → Reads (SpellsVariants variants) (length entries) (variant_text variants entries ++ rest) entries rest }
+    ensures unambiguous { (variants : ℕ) → IsReadOnce (SpellsVariants variants) }
+    ensures size_bound { (variants : ℕ) → TakesAnEighth (SpellsVariants variants) }
     ensures refused { (variants : ℕ) → IsFaultOf (variants_fault variants) (SpellsVariants variants) }
 {}
 
 /// Integer columns of 1, 2, 4, 8 and 16 bytes: the same, and the number of an entry is found from its residue.
 pub fn int_columns()
-    ensures back { (width : ℕ) → IsWidth width → ReadsBack width (SpellsInts width) (int_text width) }
-    ensures once { (width : ℕ) → IsReadOnce (SpellsInts width) }
-    ensures eighth { (width : ℕ) → IsWidth width → TakesAnEighth (SpellsInts width) }
+    ensures round_trip { (width : ℕ) → IsWidth width → ReadsBack width (SpellsInts width) (int_text width) }
+    ensures unambiguous { (width : ℕ) → IsReadOnce (SpellsInts width) }
+    ensures size_bound { (width : ℕ) → IsWidth width → TakesAnEighth (SpellsInts width) }
     ensures refused { (width : ℕ) → IsFaultOf (ints_fault width) (SpellsInts width) }
     ensures at_most { (width : ℕ) → IsWidth width → TakesAtMostOneMore width (int_text width) }
     ensures numbers { NumbersAreFound }

@@ -13,6 +13,9 @@ pub use crate::pack::bytes::{pack_bytes, unpack_bytes};
 pub use crate::pack::variants::{pack_bytes_less_than, unpack_bytes_less_than};
 use std::alloc::Global;
 
+// A byte column of at most so many entries stands without a tag.
+pub(crate) const MOST_WITHOUT_TAG: usize = 2;
+
 mod bytes;
 mod variants;
 

@@ -1,36 +1,18 @@
 // Integers, packed.
-ghost use Rattle.std.specs.Prelude.{◌≡◌, ◌+◌, ◌*◌, ◌<◌, ◌≤◌, [], ◌++◌, length, map, vec_len, vec_capacity, IsOk, OnOk, IfErr, OnErr};
+ghost use Rattle.std.specs.Prelude.{◌≡◌, ◌+◌, ◌*◌, ◌≤◌, ◌++◌, length, map, vec_len, vec_capacity, IsOk, OnOk, IfErr, OnErr};
 ghost use Rattle.bitcode_columns.specs.IntColumn.{int_text};
 ghost use Rattle.bitcode_columns.specs.Narrowing.{TakesNoScratch};
-ghost use Rattle.bitcode_columns.specs.Numbers.{least, greatest};
 
 use crate::error::{Error, Reason};
-use crate::int_types::{Int, SizedInt};
+use crate::ints::Int;
 use crate::pack_ints::append::append_ints;
-use crate::pack_ints::bounds::bounds;
+pub use crate::pack_ints::read::unpack_ints;
 use std::alloc::Global;
 
 mod append;
-mod bounds;
 mod read;
 mod width;
 mod write;
-
-pub use crate::pack_ints::read::unpack_ints;
-
-/// The least and the greatest of the values; of none the greatest and the least of the type.
-///
-/// Of `[3, -1, 2]` they are `(-1, 3)`. Takes no memory.
-pub fn minmax<T: SizedInt>(values: &[T]) -> (T, T)
-    ensures none { values.now ≡ [] → result ≡ (T.MAX, T.MIN) }
-    ensures least { 0 < length values.now → T.number result.0 ≡ least (map T.number values.now) }
-    ensures greatest { 0 < length values.now → T.number result.1 ≡ greatest (map T.number values.now) }
-{
-    match bounds(values) {
-        Some(bounds) => bounds,
-        None => (T::MAX, T::MIN),
-    }
-}
 
 /// Appends the column of the integers. The slice is scratch afterwards.
 ///

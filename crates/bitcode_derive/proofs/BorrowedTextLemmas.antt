@@ -11,9 +11,9 @@ use Rattle.bitcode_coder.specs.JoinedTexts.{join, lengths_of}
 use Rattle.bitcode_coder.specs.LengthColumn.{SpellsLengths}
 use Rattle.bitcode_coder.specs.Spelling.{Spells, SpellsColumn, SpellsEach}
 use Rattle.bitcode_coder.specs.Transposition.{spread}
-use Rattle.bitcode_coder.proofs.ColumnLemmas.{SpellsColumn-once}
+use Rattle.bitcode_coder.proofs.ColumnLemmas.{SpellsColumn-unambiguous}
 use Rattle.bitcode_coder.proofs.LawLemmas.{tree_is_list}
-use Rattle.bitcode_coder.proofs.TextCoderLemmas.{texts_in}
+use Rattle.bitcode_coder.proofs.StrLemmas.{texts_in}
 use Rattle.bitcode_derive.specs.BorrowedTexts.{size_of, IsCutIntoColumns, StandIn, TextsStandIn, IsBorrowedFrom}
 
 -- what stands between two parts
@@ -44,7 +44,7 @@ cut_alone (c ∷ columns) bytes (p ∷ pieces) [] cut other = absurd other.spell
 cut_alone (c ∷ columns) bytes (p ∷ pieces) (q ∷ others) cut other =
     let seam : p ++ join pieces ≡ q ++ join others = sym cut.whole ∙ other.whole in
     let behind : join pieces ≡ join others =
-    ((SpellsColumn-once c.kind).once p q c.entries c.entries (join pieces) (join others) cut.spelled.0 other.spelled.0 refl seam).1 in
+    ((SpellsColumn-unambiguous c.kind).unambiguous p q c.entries c.entries (join pieces) (join others) cut.spelled.0 other.spelled.0 refl seam).1 in
     let first : p ≡ q = append_cancel_right p q (join others) (ap (λ back. p ++ back) (sym behind) ∙ seam) in
     let more : pieces ≡ others =
     cut_alone columns (join pieces) pieces others (record { whole = refl; spelled = cut.spelled.1 }) (record { whole = behind; spelled = other.spelled.1 }) in

@@ -8,7 +8,7 @@ use Rattle.bitcode_columns.specs.Reading.{Reads}
 use Rattle.bitcode_shapes.specs.Datum.{Datum}
 use Rattle.bitcode_shapes.specs.Shape.{Shape, IsSound}
 use Rattle.bitcode_coder.specs.Spelling.{Spells}
-use Rattle.bitcode_coder.proofs.SpellingLemmas.{Spells-once, Spells-eighth}
+use Rattle.bitcode_coder.proofs.SpellingLemmas.{Spells-unambiguous, Spells-size_bound}
 use Rattle.bitcode_derive.specs.Whole.{SpellsDatum, SpellsAtMostOne, IsBoundedByBytes, NamesWholeFault, in_making}
 
 append_nil : (xs : List ℕ) → xs ≡ xs ++ []
@@ -19,10 +19,10 @@ cons_once : (d e : Datum) → d ∷ [] ≡ e ∷ [] → d ≡ e
 cons_once d e h = cc
 
 pub spells_at_most_one : (shape : Shape) (bytes : List ℕ) → SpellsAtMostOne shape bytes
-spells_at_most_one shape bytes d e s r = cons_once d e ((Spells-once shape).once bytes bytes (d ∷ []) (e ∷ []) [] [] s r refl refl).0
+spells_at_most_one shape bytes d e s r = cons_once d e ((Spells-unambiguous shape).unambiguous bytes bytes (d ∷ []) (e ∷ []) [] [] s r refl refl).0
 
 pub bounded_by_bytes : (shape : Shape) (bytes : List ℕ) → IsSound shape → IsBoundedByBytes shape bytes
-bounded_by_bytes shape bytes sound d s = Spells-eighth shape sound bytes (d ∷ []) s
+bounded_by_bytes shape bytes sound d s = Spells-size_bound shape sound bytes (d ∷ []) s
 
 module _ (own shape : Shape) (same : own ≡ shape) (bytes : List ℕ) where
   -- what the whole input spells is read from it
@@ -37,7 +37,7 @@ module _ (own shape : Shape) (same : own ≡ shape) (bytes : List ℕ) where
       → (d : Datum) → SpellsDatum shape bytes d → ⊥
   none_spelled-left rest ds r more d s =
       let e : rest ≡ [] =
-      ((Spells-once own).once r.piece bytes ds (d ∷ []) rest [] r.spelled (subst (λ x. Spells x bytes (d ∷ [])) (sym same) s) r.size
+      ((Spells-unambiguous own).unambiguous r.piece bytes ds (d ∷ []) rest [] r.spelled (subst (λ x. Spells x bytes (d ∷ [])) (sym same) s) r.size
       (sym r.whole ∙ append_nil bytes)).1 in
       let n : length rest ≡ 0 = ap (λ l. length l) e in
       absurd (omega arith)

@@ -6,9 +6,9 @@ use Rattle.bitcode_shapes.specs.Datum.{Datum}
 use Rattle.bitcode_shapes.specs.Shape.{Shape, IsOf}
 use Rattle.bitcode_coder.specs.Columns.{Columns, no_columns, one, two, arrays, beside, plain, emptied, CountsFit}
 use Rattle.bitcode_coder.specs.Transposition.{columns_of, spread}
-use Rattle.bitcode_coder.specs.Spelling.{columns_text, texts_of}
-use Rattle.bitcode_coder.specs.Coding.{written_columns, JoinsListing, PassesWithListing, SurelyPasses, IsWritingRefusal}
-use Rattle.bitcode_coder.proofs.TranspositionLemmas.{columns_of-append, columns_of-none, plain-beside, CountsFit-plain, columns_text-plain, flat-columns_of, texts_of-flat}
+use Rattle.bitcode_coder.specs.Spelling.{columns_bytes, texts_of}
+use Rattle.bitcode_coder.specs.Coder.{written_columns, JoinsListing, OverflowsWithListing, SurelyOverflows, IsWritingRefusal}
+use Rattle.bitcode_coder.proofs.TranspositionLemmas.{columns_of-append, columns_of-none, plain-beside, CountsFit-plain, columns_bytes-plain, flat-columns_of, texts_of-flat}
 use Rattle.bitcode_derive.specs.Whole.{columns_of_one, IsEncodingOf, HasLongListing}
 
 -- columns without entries have no arrays
@@ -26,9 +26,9 @@ pub beside-none : (shape : Shape) (ds : List Datum) → beside (written_columns 
 beside-none shape ds = sym (plain-beside (columns_of shape []) (columns_of shape ds)) ∙ ap plain (sym (columns_of-append shape [] ds))
 
 -- the text of a tree of columns is that of their list
-pub written_text : (shape : Shape) (ds : List Datum) → columns_text (written_columns shape ds) ≡ texts_of (spread shape ds)
+pub written_text : (shape : Shape) (ds : List Datum) → columns_bytes (written_columns shape ds) ≡ texts_of (spread shape ds)
 written_text shape ds =
-    columns_text-plain (columns_of shape ds) ∙ sym (texts_of-flat (columns_of shape ds)) ∙ ap texts_of (flat-columns_of shape ds)
+    columns_bytes-plain (columns_of shape ds) ∙ sym (texts_of-flat (columns_of shape ds)) ∙ ap texts_of (flat-columns_of shape ds)
 
 module _ {T : Type 0} (lists : T → Datum → Type 0) (shape : Shape) (t : T) (old : Columns) (none_yet : old ≡ written_columns shape []) where
   CountsFit-joined : (d : Datum) → CountsFit (beside old (written_columns shape (d ∷ []))) → CountsFit (columns_of_one shape d)
@@ -41,7 +41,7 @@ module _ {T : Type 0} (lists : T → Datum → Type 0) (shape : Shape) (t : T) (
       subst CountsFit (sym (ap (λ a. beside a (written_columns shape (d ∷ []))) none_yet ∙ beside-none shape (d ∷ [])))
       ((CountsFit-plain (columns_of_one shape d)).1 fits)
 
-  pub encoding_of-joined : (new : Columns) (bytes : List ℕ) → JoinsListing lists shape t old new → bytes ≡ columns_text new
+  pub encoding_of-joined : (new : Columns) (bytes : List ℕ) → JoinsListing lists shape t old new → bytes ≡ columns_bytes new
       → IsEncodingOf lists shape t bytes
   encoding_of-joined new bytes j text =
       let d = j.datum in
@@ -51,15 +51,15 @@ module _ {T : Type 0} (lists : T → Datum → Type 0) (shape : Shape) (t : T) (
         datum = d;
         listing = j.listing;
         counts = CountsFit-joined d (subst CountsFit j.joined (j.fits (subst CountsFit (sym none_yet) (CountsFit-none shape))));
-        written = text ∙ ap columns_text is ∙ written_text shape (d ∷ []);
+        written = text ∙ ap columns_bytes is ∙ written_text shape (d ∷ []);
       }
 
-  pub refusal-joined : {reason : Reason} → IsWritingRefusal reason (PassesWithListing lists shape t old) → IsWritingRefusal reason (HasLongListing lists shape t)
+  pub refusal-joined : {reason : Reason} → IsWritingRefusal reason (OverflowsWithListing lists shape t old) → IsWritingRefusal reason (HasLongListing lists shape t)
   refusal-joined (inl e) = inl e
   refusal-joined (inr (e, p)) =
-      inr (e, record { datum = p.datum; listing = p.listing; passes = λ fits. p.passes (CountsFit-to_joined p.datum fits) })
+      inr (e, record { datum = p.datum; listing = p.listing; overflows = λ fits. p.overflows (CountsFit-to_joined p.datum fits) })
 
-  pub refusal-surely : {reason : Reason} {Surely : Type 0} (d : Datum) → lists t d → IsOf shape d → (Surely → SurelyPasses shape old 1)
+  pub refusal-surely : {reason : Reason} {Surely : Type 0} (d : Datum) → lists t d → IsOf shape d → (Surely → SurelyOverflows shape old 1)
       → IsWritingRefusal reason Surely → IsWritingRefusal reason (HasLongListing lists shape t)
   refusal-surely d listing of_shape surely (inl e) = inl e
   refusal-surely d listing of_shape surely (inr (e, p)) =
@@ -68,6 +68,6 @@ module _ {T : Type 0} (lists : T → Datum → Type 0) (shape : Shape) (t : T) (
         record {
           datum = d;
           listing = listing;
-          passes = λ fits. surely p (d ∷ []) (All-cons (IsOf shape) d [] of_shape (All-nil (IsOf shape))) refl (CountsFit-to_joined d fits);
+          overflows = λ fits. surely p (d ∷ []) (All-cons (IsOf shape) d [] of_shape (All-nil (IsOf shape))) refl (CountsFit-to_joined d fits);
         },
       )

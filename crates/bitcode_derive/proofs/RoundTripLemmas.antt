@@ -7,7 +7,7 @@ use Rattle.bitcode_shapes.specs.Shape.{Shape, IsOf}
 use Rattle.bitcode_shapes.specs.Lawful.{Lawful, Makeable}
 use Rattle.bitcode_coder.specs.Transposition.{spread}
 use Rattle.bitcode_coder.specs.Spelling.{Spells, LengthsBelowLimit, texts_of}
-use Rattle.bitcode_coder.proofs.SpellingLemmas.{columns_text-spells}
+use Rattle.bitcode_coder.proofs.SpellingLemmas.{columns_bytes-spells}
 use Rattle.bitcode_coder.proofs.LawLemmas.{texts_of-spread}
 use Rattle.bitcode_derive.specs.Whole.{columns_of_one, IsEncodingOf, IsDecodingOf, SpellsDatum}
 use Rattle.bitcode_derive.proofs.DecodingLemmas.{spells_at_most_one}
@@ -19,7 +19,7 @@ module _ {T : Type 0} {shape : Shape} {is_value : T → Type 0} {lists : T → D
   written_spells t bytes v e below =
       let is_of : IsOf shape e.datum = lawful.of_shape t e.datum v e.listing in
       subst (λ b. Spells shape b (e.datum ∷ [])) (texts_of-spread shape (e.datum ∷ []) ∙ sym e.written)
-      (columns_text-spells shape lawful.sound (e.datum ∷ []) (All-cons (IsOf shape) e.datum [] is_of (All-nil (IsOf shape))) e.counts below)
+      (columns_bytes-spells shape lawful.sound (e.datum ∷ []) (All-cons (IsOf shape) e.datum [] is_of (All-nil (IsOf shape))) e.counts below)
 
   pub read_equal : {makes : Datum → T → Type 0} → Makeable shape is_value lists same makes → (t u : T) (bytes : List ℕ) → is_value t → is_value u
       → (e : IsEncodingOf lists shape t bytes) → LengthsBelowLimit (columns_of_one shape e.datum) → IsDecodingOf makes shape bytes u → same t u
@@ -37,4 +37,4 @@ pub read_once : {T : Type 0} {shape : Shape} {is_value : T → Type 0} {lists : 
     → IsDecodingOf makes shape bytes t → IsDecodingOf makes shape bytes u → same t u
 read_once {shape = shape} {makes = makes} makeable t u bytes v w e f =
     let is : e.datum ≡ f.datum = spells_at_most_one shape bytes e.datum f.datum e.spelled f.spelled in
-    makeable.once f.datum t u v w (subst (λ d. makes d t) is e.made) f.made
+    makeable.unambiguous f.datum t u v w (subst (λ d. makes d t) is e.made) f.made

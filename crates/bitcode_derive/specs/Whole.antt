@@ -25,7 +25,7 @@ pub record IsEncodingOf {T : Type 0} (lists : T → Datum → Type 0) (shape : S
 pub record HasLongListing {T : Type 0} (lists : T → Datum → Type 0) (shape : Shape) (t : T) : Type 0 where
   pub datum : Datum
   pub listing : lists t datum
-  pub passes : CountsFit (columns_of_one shape datum) → ⊥
+  pub overflows : CountsFit (columns_of_one shape datum) → ⊥
 
 -- the whole input spells the one datum
 abbrev pub SpellsDatum : Shape → List ℕ → Datum → Type 0

@@ -1,7 +1,7 @@
 // A buffer that values of one type are written to, one after the other.
 ghost use Rattle.std.specs.Prelude.{◌≡◌, ◌≢◌, IfOk, IfErr, vec_capacity};
 ghost use Rattle.bitcode_shapes.specs.Datum.{Datum};
-ghost use Rattle.bitcode_coder.specs.Coding.{IsWritingRefusal, IsReadingReason};
+ghost use Rattle.bitcode_coder.specs.Coder.{IsWritingRefusal, IsReadingReason};
 ghost use Rattle.bitcode_derive.specs.Whole.{IsEncodingOf, HasLongListing, IsDecodingOf, SpellsDatum, SpellsAtMostOne, IsBoundedByBytes, NamesWholeFault};
 
 use crate::derive::{HasDecoder, HasEncoder};
@@ -77,7 +77,7 @@ where
         T: HasDecoder<'a> + Made + Drop,
         T::Decoder: View<'a> + Decoder<'a, T> + Drop,
         ensures found { IfOk result (λ t. IsDecodingOf T.makes T.shape bytes.now t) }
-        ensures once { SpellsAtMostOne T.shape bytes.now }
+        ensures unambiguous { SpellsAtMostOne T.shape bytes.now }
         ensures bounded { IsBoundedByBytes T.shape bytes.now }
         ensures reasons { IfErr result (λ e. IsReadingReason e.reason) }
         ensures refused { IfErr result (λ e. e.reason ≢ Reason.OutOfMemory → (d : Datum) → SpellsDatum T.shape bytes.now d → ⊥) }

@@ -59,7 +59,7 @@ impl HoldsColumns for PlayerEncoder {
 
     ghost capacity = { λ e. ⟦<Columns as HoldsColumns>⟧.capacity e.fields };
 
-    ghost surely_passes = { λ e n. ⟦<Columns as HoldsColumns>⟧.surely_passes e.fields n };
+    ghost surely_overflows = { λ e n. ⟦<Columns as HoldsColumns>⟧.surely_overflows e.fields n };
 
     ghost overflows = { λ e n. ⟦<Columns as HoldsColumns>⟧.overflows e.fields n };
 }

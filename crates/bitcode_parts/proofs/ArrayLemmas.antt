@@ -3,11 +3,11 @@ use Rattle.std.proofs.Common.{◌≡◌, ℕ, zero, suc, ◌+◌, ◌-◌, ◌*�
 use Rattle.std.proofs.Math.Nat.{le-div_iff_mul-le}
 use Rattle.bitcode_shapes.specs.Datum.{Datum, list, data_of}
 use Rattle.bitcode_shapes.specs.Shape.{Shape, array_shape}
-use Rattle.bitcode_shapes.specs.Sequences.{ListsSequence}
-use Rattle.bitcode_shapes.specs.LawfulSequences.{list_of_data}
+use Rattle.bitcode_shapes.specs.Lists.{ListsSequence}
+use Rattle.bitcode_shapes.specs.LawfulLists.{list_of_data}
 use Rattle.bitcode_coder.specs.Columns.{Columns, arrays, beside, CountsFit}
 use Rattle.bitcode_coder.specs.Transposition.{array_columns, joined}
-use Rattle.bitcode_coder.specs.Coding.{written_columns, JoinsListing, PassesWithListing, JoinsEach, PassesWithEach}
+use Rattle.bitcode_coder.specs.Coder.{written_columns, JoinsListing, OverflowsWithListing, JoinsEach, OverflowsWithEach}
 use Rattle.bitcode_parts.specs.Arrays.{array_room}
 
 -- how many times a size goes into a number
@@ -83,15 +83,15 @@ module _ {T : Type 0} (lists : T → Datum → Type 0) (shape : Shape) (t : List
     fits = λ f. (small, h.fits f.1);
   }
 
-  pub array_passes : (size count : ℕ) (old : Columns) → PassesWithEach lists shape t old
-      → PassesWithListing (ListsSequence lists) (array_shape size shape) t (array_columns size count old)
-  array_passes zero count old h = record {
+  pub array_overflows : (size count : ℕ) (old : Columns) → OverflowsWithEach lists shape t old
+      → OverflowsWithListing (ListsSequence lists) (array_shape size shape) t (array_columns size count old)
+  array_overflows zero count old h = record {
     datum = list (data_of h.parts);
     listing = record { elements = h.parts; is = refl; each = h.listings };
-    passes = λ f. h.passes (subst (λ ds. CountsFit (beside old (written_columns shape ds))) (joined-one h.parts) f);
+    overflows = λ f. h.overflows (subst (λ ds. CountsFit (beside old (written_columns shape ds))) (joined-one h.parts) f);
   }
-  array_passes (suc size) count old h = record {
+  array_overflows (suc size) count old h = record {
     datum = list (data_of h.parts);
     listing = record { elements = h.parts; is = refl; each = h.listings };
-    passes = λ f. h.passes (subst (λ ds. CountsFit (beside old (written_columns shape ds))) (joined-one h.parts) f.1);
+    overflows = λ f. h.overflows (subst (λ ds. CountsFit (beside old (written_columns shape ds))) (joined-one h.parts) f.1);
   }

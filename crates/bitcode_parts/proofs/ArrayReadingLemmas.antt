@@ -8,12 +8,12 @@ use Rattle.bitcode_columns.specs.declared.error.Reason.{Reason}
 use Rattle.bitcode_columns.specs.Reading.{Reads}
 use Rattle.bitcode_shapes.specs.Datum.{Datum, list, data_of}
 use Rattle.bitcode_shapes.specs.Shape.{Shape, array_shape, IsOf, IsListOf}
-use Rattle.bitcode_shapes.specs.Sequences.{MakesSequence}
-use Rattle.bitcode_shapes.specs.LawfulSequences.{list_of_data, zip_length}
+use Rattle.bitcode_shapes.specs.Lists.{MakesSequence}
+use Rattle.bitcode_shapes.specs.LawfulLists.{list_of_data, zip_length}
 use Rattle.bitcode_coder.specs.Columns.{CountsFit}
 use Rattle.bitcode_coder.specs.Transposition.{columns_of, joined}
 use Rattle.bitcode_coder.specs.Spelling.{Spells, SpellsColumns}
-use Rattle.bitcode_coder.specs.Coding.{IsReadingRefusal, TakesDatum}
+use Rattle.bitcode_coder.specs.Coder.{IsReadingRefusal, TakesDatum}
 use Rattle.bitcode_coder.proofs.CuttingLemmas.{cut-enough, cut-few}
 use Rattle.bitcode_coder.proofs.DatumLemmas.{joined_each}
 use Rattle.bitcode_parts.specs.Elements.{TakesEach}

@@ -9,7 +9,7 @@ use Rattle.bitcode_columns.specs.VariantColumn.{SpellsVariants}
 use Rattle.bitcode_shapes.specs.Datum.{Datum, choice, unit}
 use Rattle.bitcode_shapes.specs.Shape.{IsChoiceOf, IsOfVariant, variant_count}
 use Rattle.bitcode_coder.specs.Columns.{CountsFit}
-use Rattle.bitcode_coder.specs.Coding.{IsReadingRefusal}
+use Rattle.bitcode_coder.specs.Coder.{IsReadingRefusal}
 use Rattle.bitcode_coder.specs.Spelling.{Spells, SpellsColumns, natural}
 use Rattle.bitcode_coder.specs.Transposition.{payload_columns, variant_entry}
 use Rattle.bitcode_parts.specs.BareVariants.{unit_shapes, bare_shape, bare_choices}

@@ -6,11 +6,11 @@ use Rattle.std.proofs.lemmas.List.{nil_from_length, get_or_past, length-map}
 use Rattle.std.proofs.lemmas.List.Elements.{All-nil, All-cons, All-head, All-tail}
 use Rattle.std.proofs.lemmas.List.Sums.{sum_by-cons, sum-map, length-filter}
 use Rattle.std.proofs.lemmas.Simd.{map-map}
-use Rattle.bitcode_columns.specs.Counts.{count_of}
+use Rattle.bitcode_columns.specs.Histogram.{count_of}
 use Rattle.bitcode_shapes.specs.Datum.{Datum, choice, variant_in, payload_in}
 use Rattle.bitcode_shapes.specs.Shape.{IsChoiceOf}
 use Rattle.bitcode_coder.specs.Transposition.{payloads}
-use Rattle.bitcode_coder.specs.Coding.{TakesDatum}
+use Rattle.bitcode_coder.specs.Coder.{TakesDatum}
 use Rattle.bitcode_parts.specs.Payloads.{payloads_of, next_choice, choices_of}
 
 -- ---- counts

@@ -8,7 +8,7 @@ use Rattle.std.proofs.lemmas.List.Elements.{All-nil, All-replicate}
 use Rattle.std.proofs.lemmas.Simd.{map-map}
 use Rattle.bitcode_columns.specs.declared.error.Reason.{Reason}
 use Rattle.bitcode_columns.specs.declared.error.Reason.TheVariants.{Eof, InvalidPacking, OutOfMemory}
-use Rattle.bitcode_columns.specs.Counts.{count_of}
+use Rattle.bitcode_columns.specs.Histogram.{count_of}
 use Rattle.bitcode_columns.specs.Reading.{Reads, NamesVariantFault, variants_fault, is_variant_at}
 use Rattle.bitcode_columns.specs.Digits.{digits_in_byte, base_for}
 use Rattle.bitcode_columns.specs.VariantColumn.{SpellsVariants}
@@ -17,12 +17,12 @@ use Rattle.bitcode_shapes.specs.Shape.{Shape, Shapes, no_shapes, shape_and, choi
 use Rattle.bitcode_coder.specs.Columns.{CountsFit}
 use Rattle.bitcode_coder.specs.Transposition.{columns_of, payload_columns, payloads, variant_entry}
 use Rattle.bitcode_coder.specs.Spelling.{Spells, SpellsColumns, natural}
-use Rattle.bitcode_coder.specs.Coding.{IsReadingReason, IsReadingRefusal}
+use Rattle.bitcode_coder.specs.Coder.{IsReadingReason, IsReadingRefusal}
 use Rattle.bitcode_coder.proofs.DatumLemmas.{IsPayloadFrom, payloads_from_0, first_payloads, later_payloads}
-use Rattle.bitcode_coder.proofs.SpellingLemmas.{Spells-once}
-use Rattle.bitcode_coder.proofs.CoderLemmas.{IsReadingFault}
+use Rattle.bitcode_coder.proofs.SpellingLemmas.{Spells-unambiguous}
+use Rattle.bitcode_coder.proofs.OneColumnLemmas.{IsReadingFault}
 use Rattle.bitcode_coder.proofs.LengthPartLemmas.{naturals_in}
-use Rattle.bitcode_columns.proofs.VariantLemmas.{SpellsVariants-once, variants_fault-refuses}
+use Rattle.bitcode_columns.proofs.VariantColumnLemmas.{SpellsVariants-unambiguous, variants_fault-refuses}
 use Rattle.bitcode_parts.specs.Payloads.{payloads_of, choices_of, ReadsPayloads, IsPayloadsRefusal}
 use Rattle.bitcode_parts.proofs.ChoiceLemmas.{Recovers, recovers, choices_each, length-payloads_of}
 
@@ -194,7 +194,7 @@ refuses_payloads shapes reason {k} {old} {middle} {entries} q h = (
   h.0,
   λ other ds rest r.
       let v = reads_behind_variants shapes k old rest ds r in
-      let same = (SpellsVariants-once (variant_count shapes)).once v.first.piece q.piece (map variant_in ds) entries v.middle middle v.first.spelled q.spelled
+      let same = (SpellsVariants-unambiguous (variant_count shapes)).unambiguous v.first.piece q.piece (map variant_in ds) entries v.middle middle v.first.spelled q.spelled
       (v.first.size ∙ sym q.size) (sym v.first.whole ∙ q.whole) in
       h.1 other v.lists rest
       (subst (λ x. ReadsPayloads shapes 0 entries x v.lists rest) same.1
@@ -218,5 +218,5 @@ module _ (s : Shape) (ss : Shapes) (index : ℕ) (entries : List ℕ) (reason : 
       refused : reason ≢ OutOfMemory → (lists : List (List Datum)) (rest : List ℕ) → ReadsPayloads (shape_and s ss) index entries input lists rest → ⊥
       refused other [] rest r = r
       refused other (es ∷ lists) rest r =
-          let same = (Spells-once s).once r.first.piece q.piece es ds r.middle middle r.first.spelled q.spelled (r.first.size ∙ sym q.size) (sym r.first.whole ∙ q.whole) in
+          let same = (Spells-unambiguous s).unambiguous r.first.piece q.piece es ds r.middle middle r.first.spelled q.spelled (r.first.size ∙ sym q.size) (sym r.first.whole ∙ q.whole) in
           h.1 other lists rest (subst (λ x. ReadsPayloads ss (suc index) entries x lists rest) same.1 r.behind)

@@ -7,8 +7,8 @@ use Rattle.bitcode_shapes.specs.Shape.{Shape, Shapes, no_shapes, shape_and, choi
 use Rattle.bitcode_coder.specs.Columns.{Columns, no_columns, one, two, arrays, variants, beside, emptied, plain, CountsFit}
 use Rattle.bitcode_coder.specs.Transposition.{columns_of, payload_columns, payloads}
 use Rattle.bitcode_coder.specs.Spelling.{natural}
-use Rattle.bitcode_coder.specs.Coding.{written_columns, JoinsListing, PassesWithListing, SurelyPasses}
-use Rattle.bitcode_parts.specs.Payloads.{written_payloads, HasPayloads, JoinsPayload, PassesPayload}
+use Rattle.bitcode_coder.specs.Coder.{written_columns, JoinsListing, OverflowsWithListing, SurelyOverflows}
+use Rattle.bitcode_parts.specs.Payloads.{written_payloads, HasPayloads, JoinsPayload, OverflowsAtPayload}
 use Rattle.bitcode_parts.proofs.ChoiceLemmas.{payloads-same, payloads-other}
 
 -- ---- the columns of payloads
@@ -53,12 +53,12 @@ module _ (s : Shape) (ss : Shapes) (index : ℕ) where
     fits = λ f. (f.0, h.fits f.1);
   }
 
-  pub passes_here : (d : Datum) (a rest : Columns) → (CountsFit (beside a (written_columns s (d ∷ []))) → ⊥) → PassesPayload (shape_and s ss) index index d (two a rest)
-  passes_here d a rest h = λ f. h (subst (λ ds. CountsFit (beside a (written_columns s ds))) (payloads-same index d []) f.0)
+  pub overflows_here : (d : Datum) (a rest : Columns) → (CountsFit (beside a (written_columns s (d ∷ []))) → ⊥) → OverflowsAtPayload (shape_and s ss) index index d (two a rest)
+  overflows_here d a rest h = λ f. h (subst (λ ds. CountsFit (beside a (written_columns s ds))) (payloads-same index d []) f.0)
 
-  pub passes_later : (variant : ℕ) (d : Datum) (a rest : Columns) → PassesPayload ss (suc index) variant d rest
-      → PassesPayload (shape_and s ss) index variant d (two a rest)
-  passes_later variant d a rest h = λ f. h f.1
+  pub overflows_later : (variant : ℕ) (d : Datum) (a rest : Columns) → OverflowsAtPayload ss (suc index) variant d rest
+      → OverflowsAtPayload (shape_and s ss) index variant d (two a rest)
+  overflows_later variant d a rest h = λ f. h f.1
 
 module _ {T : Type 0} (lists : T → Datum → Type 0) (shapes : Shapes) (t : T) (variant : ℕ) (d : Datum) (listing : lists t (choice variant d)) where
   -- the variant and then the payload were joined
@@ -73,12 +73,12 @@ module _ {T : Type 0} (lists : T → Datum → Type 0) (shapes : Shapes) (t : T)
   }
 
   -- with the payload some number of arrays is no length
-  pub passes_choice : (entries : List ℕ) (old : Columns) → PassesPayload shapes 0 variant d old
-      → PassesWithListing lists (choice_shape shapes) t (two (one (variants (variant_count shapes)) (map natural entries)) old)
-  passes_choice entries old h = record { datum = choice variant d; listing = listing; passes = λ f. h f.1 }
+  pub overflows_choice : (entries : List ℕ) (old : Columns) → OverflowsAtPayload shapes 0 variant d old
+      → OverflowsWithListing lists (choice_shape shapes) t (two (one (variants (variant_count shapes)) (map natural entries)) old)
+  overflows_choice entries old h = record { datum = choice variant d; listing = listing; overflows = λ f. h f.1 }
 
 -- ---- refused
 
 -- no room can be made for the payload, whatever it is
-pub passes_surely : (s : Shape) (a : Columns) (d : Datum) → IsOf s d → SurelyPasses s a 1 → CountsFit (beside a (written_columns s (d ∷ []))) → ⊥
-passes_surely s a d is surely = surely (d ∷ []) (All-cons (IsOf s) d [] is (All-nil (IsOf s))) refl
+pub overflows_surely : (s : Shape) (a : Columns) (d : Datum) → IsOf s d → SurelyOverflows s a 1 → CountsFit (beside a (written_columns s (d ∷ []))) → ⊥
+overflows_surely s a d is surely = surely (d ∷ []) (All-cons (IsOf s) d [] is (All-nil (IsOf s))) refl

@@ -2,8 +2,8 @@
 use Rattle.std.proofs.Common.{◌≡◌, ℕ, ◌+◌, List, [], ◌∷◌, ◌++◌, length, refl, sym, ◌∙◌, ap, subst, append_assoc, arith, length-append}
 use Rattle.std.specs.List.{AllZip}
 use Rattle.bitcode_shapes.specs.Datum.{Datum}
-use Rattle.bitcode_shapes.specs.LawfulSequences.{zip_length}
-use Rattle.bitcode_coder.specs.Coding.{TakesDatum}
+use Rattle.bitcode_shapes.specs.LawfulLists.{zip_length}
+use Rattle.bitcode_coder.specs.Coder.{TakesDatum}
 use Rattle.bitcode_coder.proofs.EachLemmas.{AllZip-append}
 use Rattle.bitcode_parts.specs.Elements.{TakesEach}
 

@@ -4,9 +4,9 @@ pub mod ChoiceWritingLemmas
 pub mod BareVariantLemmas
 pub mod TwoVariantLemmas
 pub mod ElementLemmas
-pub mod CapLemmas
-pub mod SequenceLemmas
-pub mod SequenceWritingLemmas
+pub mod ListLimitLemmas
+pub mod ListLemmas
+pub mod ListWritingLemmas
 pub mod MapLemmas
 pub mod MapWritingLemmas
 pub mod MapReadingLemmas

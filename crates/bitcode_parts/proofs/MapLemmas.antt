@@ -4,7 +4,7 @@ use Rattle.std.specs.Prelude.{All}
 use Rattle.std.specs.Map.{lookup, update, update_all}
 use Rattle.bitcode_shapes.specs.Datum.{Datum}
 use Rattle.bitcode_shapes.specs.Maps.{MakesMap}
-use Rattle.bitcode_shapes.specs.Values.{IsPairValue, MakesPair}
+use Rattle.bitcode_shapes.specs.Pairs.{IsPairValue, MakesPair}
 use Rattle.bitcode_parts.specs.Elements.{MakesOfElements}
 
 module _ {K X : Type 0} (eq : K → K → Bool) where

@@ -5,7 +5,7 @@ use Rattle.bitcode_columns.specs.Reading.{Reads}
 use Rattle.bitcode_shapes.specs.Datum.{Datum}
 use Rattle.bitcode_shapes.specs.Shape.{Shape, seq_shape, map_shape, pair_shape}
 use Rattle.bitcode_coder.specs.Spelling.{Spells}
-use Rattle.bitcode_coder.specs.Coding.{IsReadingRefusal}
+use Rattle.bitcode_coder.specs.Coder.{IsReadingRefusal}
 
 module _ (key value : Shape) (k : ℕ) (old : List ℕ) where
   pub reads_map : (new : List ℕ) (ds : List Datum) → Reads (Spells (seq_shape None (pair_shape key value))) k old ds new

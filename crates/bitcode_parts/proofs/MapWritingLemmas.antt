@@ -6,14 +6,14 @@ use Rattle.std.specs.Map.{keys_of, values_of}
 use Rattle.std.proofs.lemmas.List.{map-append, length-map}
 use Rattle.bitcode_shapes.specs.Datum.{Datum, list, data_of, first_in, second_in}
 use Rattle.bitcode_shapes.specs.Shape.{Shape, map_shape}
-use Rattle.bitcode_shapes.specs.Sequences.{ListsSequence}
-use Rattle.bitcode_shapes.specs.Values.{ListsPair}
-use Rattle.bitcode_shapes.specs.LawfulSequences.{list_of_data, zip_length}
+use Rattle.bitcode_shapes.specs.Lists.{ListsSequence}
+use Rattle.bitcode_shapes.specs.Pairs.{ListsPair}
+use Rattle.bitcode_shapes.specs.LawfulLists.{list_of_data, zip_length}
 use Rattle.bitcode_coder.specs.Columns.{Columns, lengths, one, two, beside, CountsFit}
 use Rattle.bitcode_coder.specs.Spelling.{natural}
-use Rattle.bitcode_coder.specs.Coding.{written_columns, JoinsListing, PassesWithListing, JoinsEach, PassesWithEach}
+use Rattle.bitcode_coder.specs.Coder.{written_columns, JoinsListing, OverflowsWithListing, JoinsEach, OverflowsWithEach}
 use Rattle.bitcode_parts.specs.Maps.{pairs_of}
-use Rattle.bitcode_parts.proofs.SequenceWritingLemmas.{elements_again}
+use Rattle.bitcode_parts.proofs.ListWritingLemmas.{elements_again}
 
 -- ---- keys and values, as pairs
 
@@ -97,19 +97,19 @@ module _ {K X U : Type 0} (key value : Shape) (lists_key : K → Datum → Type 
   }
 
   -- the keys pass, and so does the map
-  pub passes_keys : (vs : List Datum) → AllZip lists_value (values_of entries) vs → PassesWithEach lists_key key (keys_of entries) old_keys
-      → PassesWithListing lists_whole whole t old_map
-  passes_keys vs z ks = record {
+  pub overflows_keys : (vs : List Datum) → AllZip lists_value (values_of entries) vs → OverflowsWithEach lists_key key (keys_of entries) old_keys
+      → OverflowsWithListing lists_whole whole t old_map
+  overflows_keys vs z ks = record {
     datum = as_map ks.parts vs;
     listing = map_listed ks.parts vs ks.listings z;
-    passes = λ f. ks.passes (subst (λ added. CountsFit (beside old_map added)) (whole_columns ks.parts vs ks.listings z) f).1.0;
+    overflows = λ f. ks.overflows (subst (λ added. CountsFit (beside old_map added)) (whole_columns ks.parts vs ks.listings z) f).1.0;
   }
 
   -- the values pass, and so does the map
-  pub passes_values : (ks : List Datum) → AllZip lists_key (keys_of entries) ks → PassesWithEach lists_value value (values_of entries) old_values
-      → PassesWithListing lists_whole whole t old_map
-  passes_values ks y vs = record {
+  pub overflows_values : (ks : List Datum) → AllZip lists_key (keys_of entries) ks → OverflowsWithEach lists_value value (values_of entries) old_values
+      → OverflowsWithListing lists_whole whole t old_map
+  overflows_values ks y vs = record {
     datum = as_map ks vs.parts;
     listing = map_listed ks vs.parts y vs.listings;
-    passes = λ f. vs.passes (subst (λ added. CountsFit (beside old_map added)) (whole_columns ks vs.parts y vs.listings) f).1.1;
+    overflows = λ f. vs.overflows (subst (λ added. CountsFit (beside old_map added)) (whole_columns ks vs.parts y vs.listings) f).1.1;
   }

@@ -5,7 +5,7 @@ use Rattle.std.proofs.Common.{◌≡◌, ℕ, List, [], ◌∷◌, ◌++◌, get
 use Rattle.std.specs.Prelude.{◌⊎◌}
 use Rattle.std.specs.Result.{IsErrAnd, OnErr}
 use Rattle.bitcode_columns.specs.declared.error.Error.{Error}
-use Rattle.bitcode_columns.specs.Counts.{AreCounts}
+use Rattle.bitcode_columns.specs.Histogram.{AreCounts}
 use Rattle.bitcode_columns.specs.Reading.{Reads, IsEndOf}
 use Rattle.bitcode_columns.specs.VariantColumn.{SpellsVariants}
 use Rattle.bitcode_shapes.specs.Datum.{Datum, choice}
@@ -14,11 +14,11 @@ use Rattle.bitcode_shapes.specs.Choices.{ListsChoice, ListsLast, ListsVariant}
 use Rattle.bitcode_coder.specs.Columns.{Columns, no_columns, one, two, variants, emptied}
 use Rattle.bitcode_coder.specs.Faults.{NamesVariantsFault}
 use Rattle.bitcode_coder.specs.Spelling.{Spells, natural}
-use Rattle.bitcode_coder.specs.Coding.{written_columns, IsReadingRefusal, JoinsListing, PassesWithListing}
+use Rattle.bitcode_coder.specs.Coder.{written_columns, IsReadingRefusal, JoinsListing, OverflowsWithListing}
 use Rattle.bitcode_coder.proofs.LengthPartLemmas.{ends_behind_read}
 use Rattle.bitcode_parts.specs.Payloads.{choices_of}
 use Rattle.bitcode_parts.proofs.ChoiceReadingLemmas.{reads_choices, refuses_variants, refuses_payloads, refuses_first, refuses_later}
-use Rattle.bitcode_parts.proofs.ChoiceWritingLemmas.{joins_here, joins_later, joins_choice, passes_here, passes_later, passes_choice}
+use Rattle.bitcode_parts.proofs.ChoiceWritingLemmas.{joins_here, joins_later, joins_choice, overflows_here, overflows_later, overflows_choice}
 
 -- ---- populate
 
@@ -93,13 +93,13 @@ module _ {T A B : Type 0} (variant : T → A ⊎ B) {lists_a : A → Datum → T
         (first_listing lists_a lists_b (variant t) joins.datum x is joins.listing) entries more (two a (two b no_columns)) (two c (two b no_columns)) pushed
         (joins_here s (shape_and u no_shapes) 0 joins.datum a c (two b no_columns) joins.joined joins.fits (ap (λ y. two y no_columns) form))
 
-    pub first_passes : PassesWithListing lists_a s x a
-        → PassesWithListing (λ v d. ListsChoice (ListsVariant lists_a (ListsLast lists_b)) (variant v) d) (choice_shape (shape_and s (shape_and u no_shapes))) t
+    pub first_overflows : OverflowsWithListing lists_a s x a
+        → OverflowsWithListing (λ v d. ListsChoice (ListsVariant lists_a (ListsLast lists_b)) (variant v) d) (choice_shape (shape_and s (shape_and u no_shapes))) t
         (two (one (variants 2) (map natural entries)) (two a (two b no_columns)))
-    first_passes passes =
-        passes_choice (λ v d. ListsChoice (ListsVariant lists_a (ListsLast lists_b)) (variant v) d) (shape_and s (shape_and u no_shapes)) t 0 passes.datum
-        (first_listing lists_a lists_b (variant t) passes.datum x is passes.listing) entries (two a (two b no_columns))
-        (passes_here s (shape_and u no_shapes) 0 passes.datum a (two b no_columns) passes.passes)
+    first_overflows overflows =
+        overflows_choice (λ v d. ListsChoice (ListsVariant lists_a (ListsLast lists_b)) (variant v) d) (shape_and s (shape_and u no_shapes)) t 0 overflows.datum
+        (first_listing lists_a lists_b (variant t) overflows.datum x is overflows.listing) entries (two a (two b no_columns))
+        (overflows_here s (shape_and u no_shapes) 0 overflows.datum a (two b no_columns) overflows.overflows)
 
   -- the value is of the second variant
   module _ {y : B} (is : variant t ≡ inr y) where
@@ -112,10 +112,10 @@ module _ {T A B : Type 0} (variant : T → A ⊎ B) {lists_a : A → Datum → T
         (joins_later s (shape_and u no_shapes) 0 1 joins.datum a (two b no_columns) (two c no_columns) (lit< tt) form
         (joins_here u no_shapes 1 joins.datum b c no_columns joins.joined joins.fits refl))
 
-    pub second_passes : PassesWithListing lists_b u y b
-        → PassesWithListing (λ v d. ListsChoice (ListsVariant lists_a (ListsLast lists_b)) (variant v) d) (choice_shape (shape_and s (shape_and u no_shapes))) t
+    pub second_overflows : OverflowsWithListing lists_b u y b
+        → OverflowsWithListing (λ v d. ListsChoice (ListsVariant lists_a (ListsLast lists_b)) (variant v) d) (choice_shape (shape_and s (shape_and u no_shapes))) t
         (two (one (variants 2) (map natural entries)) (two a (two b no_columns)))
-    second_passes passes =
-        passes_choice (λ v d. ListsChoice (ListsVariant lists_a (ListsLast lists_b)) (variant v) d) (shape_and s (shape_and u no_shapes)) t 1 passes.datum
-        (second_listing lists_a lists_b (variant t) passes.datum y is passes.listing) entries (two a (two b no_columns))
-        (passes_later s (shape_and u no_shapes) 0 1 passes.datum a (two b no_columns) (passes_here u no_shapes 1 passes.datum b no_columns passes.passes))
+    second_overflows overflows =
+        overflows_choice (λ v d. ListsChoice (ListsVariant lists_a (ListsLast lists_b)) (variant v) d) (shape_and s (shape_and u no_shapes)) t 1 overflows.datum
+        (second_listing lists_a lists_b (variant t) overflows.datum y is overflows.listing) entries (two a (two b no_columns))
+        (overflows_later s (shape_and u no_shapes) 0 1 overflows.datum a (two b no_columns) (overflows_here u no_shapes 1 overflows.datum b no_columns overflows.overflows))

@@ -5,7 +5,7 @@ use Rattle.bitcode_shapes.specs.Datum.{Datum, elements_in}
 use Rattle.bitcode_shapes.specs.Shape.{Shape, array_shape, IsOf, IsListOf}
 use Rattle.bitcode_coder.specs.Columns.{Columns, arrays, emptied}
 use Rattle.bitcode_coder.specs.Transposition.{array_columns, joined}
-use Rattle.bitcode_coder.specs.Coding.{written_columns, SurelyPasses}
+use Rattle.bitcode_coder.specs.Coder.{written_columns, SurelyOverflows}
 use Rattle.bitcode_coder.proofs.DatumLemmas.{joined_each, elements_count}
 
 pub same_array_shape : (size : ℕ) {s t : Shape} → s ≡ t → array_shape size s ≡ array_shape size t
@@ -25,17 +25,17 @@ length-joined_arrays IsElement size (d ∷ ds) each =
     let more : length (joined ds) ≡ length ds * size = length-joined_arrays IsElement size ds (All-tail (IsListOf IsElement (λ n. n ≡ size)) d ds each) in
     length-append (elements_in d) (joined ds) ∙ grind (arith, one, more)
 
-module _ {Passes : Type 0} (shape : Shape) (elements : Columns) (n : ℕ) where
+module _ {Overflows : Type 0} (shape : Shape) (elements : Columns) (n : ℕ) where
   -- where the number of arrays passes, or their elements do, so do the arrays
-  pub arrays_pass : (size count : ℕ) → (Passes → SurelyPasses shape elements (n * size))
-      → (2 ^ 64 ≤ (count + n) * size) ⊎ Passes → SurelyPasses (array_shape size shape) (array_columns size count elements) n
-  arrays_pass zero count of_elements (inl h) ds each size fits = absurd (omega arith)
-  arrays_pass zero count of_elements (inr h) ds each size fits =
+  pub arrays_overflow : (size count : ℕ) → (Overflows → SurelyOverflows shape elements (n * size))
+      → (2 ^ 64 ≤ (count + n) * size) ⊎ Overflows → SurelyOverflows (array_shape size shape) (array_columns size count elements) n
+  arrays_overflow zero count of_elements (inl h) ds each size fits = absurd (omega arith)
+  arrays_overflow zero count of_elements (inr h) ds each size fits =
       of_elements h (joined ds) (joined_each (IsOf shape) (λ m. m ≡ 0) ds each)
       (length-joined_arrays (IsOf shape) 0 ds each ∙ ap (λ m. m * 0) size) fits
-  arrays_pass (suc less) count of_elements (inl h) ds each size fits =
+  arrays_overflow (suc less) count of_elements (inl h) ds each size fits =
       let few : (count + n) * suc less < 2 ^ 64 = rw size at fits.0 in
       absurd (omega arith)
-  arrays_pass (suc less) count of_elements (inr h) ds each size fits =
+  arrays_overflow (suc less) count of_elements (inr h) ds each size fits =
       of_elements h (joined ds) (joined_each (IsOf shape) (λ m. m ≡ suc less) ds each)
       (length-joined_arrays (IsOf shape) (suc less) ds each ∙ ap (λ m. m * suc less) size) fits.1

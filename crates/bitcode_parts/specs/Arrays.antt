@@ -3,8 +3,8 @@ use Rattle.std.specs.Prelude.{◌≡◌, ℕ, zero, suc, ◌+◌, ◌-◌, ◌*�
 use Rattle.bitcode_columns.specs.declared.error.Reason.{Reason}
 use Rattle.bitcode_columns.specs.declared.error.Reason.TheVariants.{LengthOverflow}
 use Rattle.bitcode_shapes.specs.Datum.{Datum}
-use Rattle.bitcode_coder.specs.Coding.{endless_room}
-use Rattle.bitcode_parts.specs.Sequences.{lists_of}
+use Rattle.bitcode_coder.specs.Coder.{endless_room}
+use Rattle.bitcode_parts.specs.Lists.{lists_of}
 
 -- Where so many elements of an array have their place, and so many arrays are there: how many more arrays surely have
 -- theirs. Their elements have to, and the number of arrays times their size has to stay a length. Arrays of no
@@ -15,8 +15,8 @@ array_room (suc size) count room = min (room / suc size) ((2 ^ 64 - 1) / suc siz
 
 -- So many more arrays surely pass: the number of all of them times their size is no length, or so many elements surely
 -- pass behind those that are there.
-abbrev pub ArraysPass : {E : Type 0} (size : ℕ) (passes : E → ℕ → Type 0) → E → (count more : ℕ) → Type 0
-ArraysPass size passes elements count more = (2 ^ 64 ≤ (count + more) * size) ⊎ passes elements (more * size)
+abbrev pub ArraysOverflow : {E : Type 0} (size : ℕ) (overflows : E → ℕ → Type 0) → E → (count more : ℕ) → Type 0
+ArraysOverflow size overflows elements count more = (2 ^ 64 ≤ (count + more) * size) ⊎ overflows elements (more * size)
 
 -- the elements of so many arrays, as arrays
 abbrev pub arrays_of : (size count : ℕ) → List Datum → List Datum

@@ -2,7 +2,7 @@
 use Rattle.std.specs.Prelude.{◌≡◌, ℕ, List, ◌++◌, length}
 use Rattle.std.specs.List.{AllZip}
 use Rattle.bitcode_shapes.specs.Datum.{Datum}
-use Rattle.bitcode_shapes.specs.Sequences.{MakesSequence}
+use Rattle.bitcode_shapes.specs.Lists.{MakesSequence}
 
 -- so many items are made of data that were taken from the front
 pub record TakesEach {T : Type 0} (makes : Datum → T → Type 0) (count : ℕ) (items : List T) (old new : List Datum) : Type 0 where

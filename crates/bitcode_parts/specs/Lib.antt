@@ -1,12 +1,12 @@
-pub mod VariantCoders
+pub mod Variants
 pub mod Payloads
 pub mod BareVariants
 pub mod TwoVariants
 pub mod TwoVariantLaws
-pub mod Conversion
-pub mod DurationData
+pub mod Convert
+pub mod Durations
 pub mod Elements
-pub mod Sequences
+pub mod Lists
 pub mod Maps
 pub mod Arrays
 pub mod ArrayLaws

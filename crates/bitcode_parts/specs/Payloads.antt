@@ -3,7 +3,7 @@
 use Rattle.std.specs.Prelude.{◌≡◌, ◌≢◌, ℕ, suc, List, [], ◌∷◌, slice_index_or, slice_set}
 use Rattle.bitcode_columns.specs.declared.error.Reason.{Reason}
 use Rattle.bitcode_columns.specs.declared.error.Reason.TheVariants.{OutOfMemory}
-use Rattle.bitcode_columns.specs.Counts.{count_of}
+use Rattle.bitcode_columns.specs.Histogram.{count_of}
 use Rattle.bitcode_columns.specs.Reading.{Reads}
 use Rattle.bitcode_columns.specs.VariantColumn.{SpellsVariants}
 use Rattle.bitcode_shapes.specs.Datum.{Datum, choice}
@@ -11,7 +11,7 @@ use Rattle.bitcode_shapes.specs.Shape.{Shape, Shapes, no_shapes, shape_and}
 use Rattle.bitcode_coder.specs.Columns.{Columns, beside, plain, emptied, CountsFit}
 use Rattle.bitcode_coder.specs.Transposition.{payload_columns}
 use Rattle.bitcode_coder.specs.Spelling.{Spells}
-use Rattle.bitcode_coder.specs.Coding.{IsReadingReason}
+use Rattle.bitcode_coder.specs.Coder.{IsReadingReason}
 
 -- ---- choices that a reader holds
 
@@ -82,5 +82,5 @@ pub record JoinsPayload (shapes : Shapes) (index variant : ℕ) (payload : Datum
   pub fits : CountsFit old → CountsFit new
 
 -- with that payload some number of arrays is no length
-abbrev pub PassesPayload : Shapes → (index variant : ℕ) → Datum → Columns → Type 0
-PassesPayload shapes index variant payload old = CountsFit (beside old (written_payloads shapes index (choice variant payload ∷ []))) → ⊥
+abbrev pub OverflowsAtPayload : Shapes → (index variant : ℕ) → Datum → Columns → Type 0
+OverflowsAtPayload shapes index variant payload old = CountsFit (beside old (written_payloads shapes index (choice variant payload ∷ []))) → ⊥

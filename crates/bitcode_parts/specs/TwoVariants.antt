@@ -1,7 +1,7 @@
 -- Reading the choices of two variants: which fault is first.
 use Rattle.std.specs.Prelude.{ℕ, List, ◌⊎◌}
 use Rattle.bitcode_columns.specs.declared.error.Reason.{Reason}
-use Rattle.bitcode_columns.specs.Counts.{count_of}
+use Rattle.bitcode_columns.specs.Histogram.{count_of}
 use Rattle.bitcode_shapes.specs.Shape.{Shape}
 use Rattle.bitcode_coder.specs.Faults.{NamesVariantsFault}
 use Rattle.bitcode_parts.specs.Payloads.{FaultsBehindVariants, FaultsBehindPayloads}

@@ -1,8 +1,8 @@
 // The coders of types whose values are written, or read, as values of another type.
 ghost use Rattle.std.specs.Prelude.{◌≡◌, []};
 ghost use Rattle.std.proofs.Common.{sym, ◌∙◌};
-ghost use Rattle.bitcode_coder.specs.Coding.{ListsAsToo, MakesToo};
-ghost use Rattle.bitcode_parts.specs.Conversion.{IsWrittenAs, surely_as};
+ghost use Rattle.bitcode_coder.specs.Coder.{ListsAsToo, MakesToo};
+ghost use Rattle.bitcode_parts.specs.Convert.{IsWrittenAs, surely_as};
 
 use bitcode_coder::coder::{Buffer, Decoder, Encoder, HoldsColumns, HoldsData, View};
 use bitcode_columns::error::Error;
@@ -65,7 +65,7 @@ impl<T: Drop, E: HoldsColumns> HoldsColumns for ConvertIntoEncoder<T, E> {
 
     ghost capacity = { λ e. E.capacity e.inner };
 
-    ghost surely_passes = { λ e n. E.surely_passes e.inner n };
+    ghost surely_overflows = { λ e n. E.surely_overflows e.inner n };
 
     ghost overflows = { λ e n. E.overflows e.inner n };
 }

@@ -1,6 +1,6 @@
 // Durations as seconds and nanoseconds.
 ghost use Rattle.std.specs.Prelude.{refl};
-ghost use Rattle.bitcode_parts.specs.DurationData.{duration_written_as};
+ghost use Rattle.bitcode_parts.specs.Durations.{duration_written_as};
 
 use crate::convert::{ConvertFrom, ConvertInto};
 use bitcode_coder::checked::Nanosecond;

@@ -3,7 +3,7 @@ ghost use Rattle.std.specs.Prelude.{◌≡◌, refl, true, replicate};
 ghost use Rattle.bitcode_shapes.specs.Datum.{unit};
 ghost use Rattle.bitcode_shapes.specs.Shape.{unit_shape};
 ghost use Rattle.bitcode_coder.specs.Columns.{no_columns};
-ghost use Rattle.bitcode_coder.specs.Coding.{endless_room};
+ghost use Rattle.bitcode_coder.specs.Coder.{endless_room};
 
 use bitcode_coder::coder::{Buffer, Decoder, Encoder, HoldsColumns, HoldsData, View};
 use bitcode_columns::error::Error;
@@ -25,7 +25,7 @@ impl HoldsColumns for EmptyCoder {
 
     ghost capacity = { λ e. 0 };
 
-    ghost surely_passes = { λ e n. ⊥ };
+    ghost surely_overflows = { λ e n. ⊥ };
 
     ghost overflows = { λ e n. ⊥ };
 }

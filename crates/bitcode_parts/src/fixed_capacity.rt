@@ -1,20 +1,22 @@
 // The decoder of vectors of a fixed capacity: as that of sequences, but no length passes the capacity.
-#![tactic(auto, unfolding(bitcode_coder::specs::LengthCoders::lengths_left, bitcode_coder::specs::LengthCoders::lengths_sum))]
+#![tactic(auto, unfolding(bitcode_coder::specs::Length::lengths_left, bitcode_coder::specs::Length::lengths_sum))]
 
-ghost use Rattle.std.specs.Prelude.{◌+◌, ◌≤◌, ◌⊎◌, Some, All, false};
+ghost use Rattle.std.specs.Prelude.{◌+◌, ◌≤◌, ◌⊎◌, Some, All, false, length, refl};
 ghost use Rattle.std.proofs.Common.{ap};
 ghost use Rattle.std.proofs.Props.{props};
 ghost use Rattle.bitcode_shapes.specs.Shape.{seq_shape};
-ghost use Rattle.bitcode_coder.specs.LengthCoders.{lengths_left, lengths_owned};
+ghost use Rattle.bitcode_coder.specs.Length.{lengths_left, lengths_owned};
 ghost use Rattle.bitcode_coder.specs.LengthParts.{NamesLengthFault};
-ghost use Rattle.bitcode_parts.specs.Sequences.{lists_of, BreaksLimit, FaultsInElements};
+ghost use Rattle.bitcode_parts.specs.Lists.{lists_of, BreaksLimit, FaultsInElements};
 
+use crate::lists::elements::encode_each;
+use crate::lists::sequence::Sequence;
 use arrayvec::ArrayVec;
-use bitcode_coder::coder::{Decoder, HoldsData, View};
+use bitcode_coder::coder::{Decoder, Encoder, HoldsData, View};
 use bitcode_coder::length::LengthDecoder;
 use bitcode_columns::error::{Error, Reason};
 use bitcode_columns::refuse::err;
-use bitcode_shapes::shaped::Made;
+use bitcode_shapes::shaped::{Made, Shaped};
 use std::alloc::Global;
 use std::default::Default;
 
@@ -82,4 +84,24 @@ impl<'a, T: Made + Default + Drop, D: Decoder<'a, T>, const N: usize> Decoder<'a
     }
 
     ghost same_shape = { ap (seq_shape (Some N)) D.same_shape };
+}
+
+impl<T: Shaped, const N: usize> Sequence for ArrayVec<T, N> {
+    type Element = T;
+
+    ghost items = { λ v. v.items };
+
+    fn element_count(&self) -> usize {
+        self.len()
+    }
+
+    fn encode_elements<E: Encoder<T>>(&self, elements: &mut E) -> Result<(), Error> {
+        encode_each(elements, self.as_slice())
+    }
+
+    ghost items_are = { λ t h. h.each };
+
+    ghost items_list = { λ t d l. l };
+
+    ghost items_columns = { λ ds. refl };
 }

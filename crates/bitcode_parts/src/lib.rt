@@ -2,22 +2,16 @@
 // what needs no columns.
 #![tactic(auto)]
 
-pub mod array;
+pub mod arrays;
+pub mod choices;
 pub mod convert;
-pub mod deref;
 pub mod durations;
-pub mod elements;
 pub mod empty;
 pub mod fixed_capacity;
-pub mod from;
-pub mod lends;
-pub mod map;
-pub mod mappings;
+pub mod heaps;
+pub mod lists;
+pub mod maps;
 pub mod markers;
-pub mod option;
 pub mod pointers;
-pub mod result;
-pub mod sequences;
+pub mod sets;
 pub mod uuids;
-pub mod variant;
-pub mod vec;

@@ -1,13 +1,16 @@
 // Boxes, shared pointers, their slices and tuples of one field, by way of what they hold.
 ghost use Rattle.std.specs.Prelude.{refl, true, false};
 
-use crate::deref::Points;
-use crate::from::FromValue;
+use crate::pointers::deref::Points;
+use crate::pointers::from::FromValue;
 use bitcode_columns::error::Error;
 use bitcode_shapes::shaped::{Made, Shaped};
 use std::alloc::Global;
 use std::boxed::BoxedSlice;
 use std::rc::{Rc, RcSlice};
+
+pub mod deref;
+pub mod from;
 
 impl<T: Shaped> Points for Box<T> {
     type Target = T;

@@ -11,19 +11,19 @@ use Rattle.bitcode_columns.specs.declared.error.Reason.{Reason}
 use Rattle.bitcode_columns.specs.Reading.{Reads}
 use Rattle.bitcode_shapes.specs.Datum.{Datum, number, text}
 use Rattle.bitcode_shapes.specs.Shape.{Shape, IsNumberOf, IsNaturalBelow, IsTextOf, any_number, bool_shape, text_shape}
-use Rattle.bitcode_shapes.specs.Values.{int_shape, MakesNumber}
-use Rattle.bitcode_shapes.specs.LawfulValues.{width_1, width_2, width_4, width_8, width_16}
+use Rattle.bitcode_shapes.specs.Ints.{int_shape, MakesNumber}
+use Rattle.bitcode_shapes.specs.LawfulInts.{width_1, width_2, width_4, width_8, width_16}
 use Rattle.bitcode_shapes.specs.Texts.{MakesText}
-use Rattle.bitcode_coder.specs.Coding.{TakesDatum, IsReadingRefusal}
+use Rattle.bitcode_coder.specs.Coder.{TakesDatum, IsReadingRefusal}
 use Rattle.bitcode_coder.specs.Columns.{Kind, ints, bools, texts, lengths, IsEntryOf}
 use Rattle.bitcode_coder.specs.Faults.{NamesBoolsFault, NamesIntsFault}
 use Rattle.bitcode_coder.specs.LengthColumn.{SpellsLengths}
 use Rattle.bitcode_coder.specs.LengthParts.{NamesLengthFault}
 use Rattle.bitcode_coder.specs.TextParts.{NamesTextFault}
 use Rattle.bitcode_coder.specs.Spelling.{Spells, SpellsColumn, natural, truth, number_of_residue}
-use Rattle.bitcode_coder.proofs.CoderLemmas.{number_is, some_width}
+use Rattle.bitcode_coder.proofs.IntLemmas.{number_is, some_width}
 use Rattle.bitcode_coder.proofs.LengthRefusalLemmas.{lengths_refused}
-use Rattle.bitcode_columns.specs.Widths.{IsWidth}
+use Rattle.bitcode_columns.specs.IntWidths.{IsWidth}
 use Rattle.bitcode_untyped.specs.View.{datum_of}
 use Rattle.bitcode_untyped.specs.declared.value.Value.{Value}
 use Rattle.bitcode_serde.specs.ReadColumns.{ReadsColumn, IsColumnReason, IsColumnRefusal, kind_of, kind_number}

@@ -6,13 +6,14 @@ use Rattle.bitcode_columns.specs.declared.error.Reason.{Reason}
 use Rattle.bitcode_columns.specs.ByteColumn.{SpellsBytes}
 use Rattle.bitcode_columns.specs.Reading.{Reads, Names, bytes_fault}
 use Rattle.bitcode_shapes.specs.Shape.{IsNumberOf, any_number}
-use Rattle.bitcode_shapes.specs.Values.{int_shape}
+use Rattle.bitcode_shapes.specs.Ints.{int_shape}
 use Rattle.bitcode_coder.specs.Spelling.{Spells, natural}
-use Rattle.bitcode_coder.specs.Coding.{IsReadingRefusal}
-use Rattle.bitcode_coder.proofs.CoderLemmas.{reads_of, ints_refused, number_is}
+use Rattle.bitcode_coder.specs.Coder.{IsReadingRefusal}
+use Rattle.bitcode_coder.proofs.OneColumnLemmas.{reads_of}
+use Rattle.bitcode_coder.proofs.IntLemmas.{ints_refused, number_is}
 use Rattle.bitcode_coder.proofs.LengthPartLemmas.{naturals_in}
 use Rattle.bitcode_untyped.specs.Population.{count_of}
-use Rattle.bitcode_columns.specs.Counts.{count_of as count_of_number}
+use Rattle.bitcode_columns.specs.Histogram.{count_of as count_of_number}
 
 pub indices_refused : (reason : Reason) (count : ℕ) (input : List ℕ) → Names reason (bytes_fault count input)
     → IsReadingRefusal (int_shape 1 false) reason count input

@@ -45,8 +45,8 @@ none_spelled s bytes old why first h =
 pub one_spelled : (s : ShapeTree) (bytes : List ℕ) (d e : Datum) → SpellsDatum s bytes d → SpellsDatum s bytes e → d ≡ e
 one_spelled s bytes d e h k = (spells_once s bytes bytes [] [] d e h k refl).0
 
-pub eighth : (shape : Shape) (bytes : List ℕ) (d : Datum) → SpellsDatum (tree_of shape) bytes d → entry_count (columns_of (tree_of shape) d) ≤ 8 * length bytes
-eighth shape bytes d h = datum_takes_an_eighth (tree_of shape) (sound_shape shape) bytes d h
+pub size_bound : (shape : Shape) (bytes : List ℕ) (d : Datum) → SpellsDatum (tree_of shape) bytes d → entry_count (columns_of (tree_of shape) d) ≤ 8 * length bytes
+size_bound shape bytes d h = datum_takes_an_eighth (tree_of shape) (sound_shape shape) bytes d h
 
 pub bounded : (shape : Shape) (bytes : List ℕ) (d : Datum) → SpellsDatum (tree_of shape) bytes d → element_count d ≤ 524296 * length bytes
 bounded shape bytes d h = (elements_are_bounded (tree_of shape) (sound_shape shape)).by_bytes bytes d h

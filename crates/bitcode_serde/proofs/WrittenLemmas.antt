@@ -5,7 +5,7 @@ use Rattle.bitcode_columns.specs.declared.error.Error.{Error}
 use Rattle.bitcode_columns.specs.declared.error.Reason.TheVariants.{OutOfMemory}
 use Rattle.bitcode_shapes.specs.Datum.{Datum}
 use Rattle.bitcode_shapes.specs.Shape.{Shape}
-use Rattle.bitcode_coder.specs.Coding.{written_columns, PassesWithListing}
+use Rattle.bitcode_coder.specs.Coder.{written_columns, OverflowsWithListing}
 use Rattle.bitcode_coder.specs.Columns.{Kind, bools, ints, lengths, texts, one, beside, CountsFit}
 use Rattle.bitcode_serde.specs.ReadColumns.{kind_number}
 use Rattle.bitcode_serde.specs.WrittenColumns.{kind_of_entry}
@@ -19,11 +19,11 @@ if_err P Q (Err e) f h = f e h
 -- a column that has no numbers of arrays refuses for want of memory alone
 pub only_memory : {T : Type 0} (lists : T → Datum → Type 0) (shape : Shape) (kind : Kind) (t : T) (entries : List Datum) (Other : Type 0) (e : Error)
     → ((ds : List Datum) → written_columns shape ds ≡ one kind ds)
-    → (e.reason ≡ OutOfMemory) ⊎ (⊥ ⊎ PassesWithListing lists shape t (one kind entries)) → (e.reason ≡ OutOfMemory) ⊎ Other
+    → (e.reason ≡ OutOfMemory) ⊎ (⊥ ⊎ OverflowsWithListing lists shape t (one kind entries)) → (e.reason ≡ OutOfMemory) ⊎ Other
 only_memory lists shape kind t entries Other e columns (inl m) = inl m
 only_memory lists shape kind t entries Other e columns (inr (inl never)) = absurd never
 only_memory lists shape kind t entries Other e columns (inr (inr p)) =
-    absurd (p.passes (subst (λ added. CountsFit (beside (one kind entries) added)) (sym (columns (p.datum ∷ []))) tt))
+    absurd (p.overflows (subst (λ added. CountsFit (beside (one kind entries) added)) (sym (columns (p.datum ∷ []))) tt))
 
 -- ---- an entry of another case has another kind
 

@@ -7,9 +7,9 @@ use Rattle.bitcode_columns.specs.declared.error.Reason.TheVariants.{Eof, Invalid
 use Rattle.bitcode_shapes.specs.Datum.{Datum, text}
 use Rattle.bitcode_coder.specs.Columns.{Kind, bools, ints, lengths, texts}
 use Rattle.bitcode_coder.specs.Cutting.{cut}
-use Rattle.bitcode_coder.specs.LengthCoders.{lengths_left, lengths_sum}
+use Rattle.bitcode_coder.specs.Length.{lengths_left, lengths_sum}
 use Rattle.bitcode_coder.specs.Spelling.{SpellsColumn, natural, truth}
-use Rattle.bitcode_coder.specs.IntData.{bytes_data}
+use Rattle.bitcode_coder.specs.Int.{bytes_data}
 use Rattle.bitcode_serde.specs.Indices.{indices_left, index_count}
 use Rattle.bitcode_untyped.specs.Population.{total, count_of}
 use Rattle.bitcode_untyped.specs.declared.value.Value.{Value}

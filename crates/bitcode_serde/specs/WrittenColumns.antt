@@ -4,9 +4,9 @@ use Rattle.bitcode_columns.specs.Fast.{fast_items}
 use Rattle.bitcode_shapes.specs.Datum.{Datum, number, text}
 use Rattle.bitcode_coder.specs.Columns.{Kind, bools, ints, lengths, texts}
 use Rattle.bitcode_coder.specs.Cutting.{cut}
-use Rattle.bitcode_coder.specs.LengthCoders.{written_lengths}
+use Rattle.bitcode_coder.specs.Length.{written_lengths}
 use Rattle.bitcode_coder.specs.Spelling.{natural, truth}
-use Rattle.bitcode_coder.specs.IntData.{int_data}
+use Rattle.bitcode_coder.specs.Int.{int_data}
 use Rattle.bitcode_serde.specs.declared.written.Entry.{Entry}
 use Rattle.bitcode_serde.specs.declared.written.Entry.TheVariants as entry
 use Rattle.bitcode_serde.specs.declared.written.WrittenColumn.{WrittenColumn}

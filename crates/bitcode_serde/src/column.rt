@@ -2,15 +2,15 @@
 ghost use Rattle.std.specs.Prelude.{◌≡◌, ◌≢◌, ℕ, ◌<◌, ◌≤◌, List, ◌∷◌, ◌++◌, None, false, length, map, sum, IsTrue, MatchBool, IfOk, IfErr};
 ghost use Rattle.bitcode_columns.specs.Reading.{Reads};
 ghost use Rattle.bitcode_coder.specs.LengthColumn.{SpellsLengths};
-ghost use Rattle.bitcode_coder.specs.LengthCoders.{lengths_left, lengths_sum};
+ghost use Rattle.bitcode_coder.specs.Length.{lengths_left, lengths_sum};
 ghost use Rattle.bitcode_coder.specs.LengthParts.{NamesLengthFault};
 ghost use Rattle.bitcode_shapes.specs.Datum.{Datum};
-ghost use Rattle.bitcode_shapes.specs.Values.{int_shape};
+ghost use Rattle.bitcode_shapes.specs.Ints.{int_shape};
 ghost use Rattle.bitcode_coder.specs.Columns.{ints, lengths};
 ghost use Rattle.bitcode_coder.specs.Spelling.{Spells, natural};
 ghost use Rattle.bitcode_untyped.specs.Population.{total, count_of};
 ghost use Rattle.bitcode_serde.specs.Indices.{indices_left, index_count};
-ghost use Rattle.bitcode_coder.specs.Coding.{IsReadingRefusal, TakesDatum};
+ghost use Rattle.bitcode_coder.specs.Coder.{IsReadingRefusal, TakesDatum};
 ghost use Rattle.bitcode_coder.specs.Faults.{NamesIntsFault};
 ghost use Rattle.bitcode_untyped.specs.View.{datum_of};
 ghost use Rattle.bitcode_serde.specs.ReadColumns.{kind_of, kind_number, kind_in_code, kind_of_column, left, Tallies, IsCaseOf, ReadsColumn, IsColumnRefusal};

@@ -35,8 +35,8 @@ pub fn deserialize(alloc: Global, shape: &Shape, bytes: &[u8]) -> Result<Value, 
     ensures whole { IfOk result (λ value. value_faults shape.now value ≡ []) }
     ensures only { IfOk result (λ value. IsOnlyContent shape.now (SpellsDatum (tree_of shape.now) bytes.now) (content_of value)) }
     ensures refused { IfErr result (λ e. IsValueReason e.reason × (e.reason ≢ Reason.OutOfMemory → (d : Datum) → SpellsDatum (tree_of shape.now) bytes.now d → ⊥)) }
-    ensures once { (d e : Datum) → SpellsDatum (tree_of shape.now) bytes.now d → SpellsDatum (tree_of shape.now) bytes.now e → d ≡ e }
-    ensures eighth { (d : Datum) → SpellsDatum (tree_of shape.now) bytes.now d → entry_count (columns_of (tree_of shape.now) d) ≤ 8 * length bytes.now }
+    ensures unambiguous { (d e : Datum) → SpellsDatum (tree_of shape.now) bytes.now d → SpellsDatum (tree_of shape.now) bytes.now e → d ≡ e }
+    ensures size_bound { (d : Datum) → SpellsDatum (tree_of shape.now) bytes.now d → entry_count (columns_of (tree_of shape.now) d) ≤ 8 * length bytes.now }
     ensures bounded { (d : Datum) → SpellsDatum (tree_of shape.now) bytes.now d → element_count d ≤ 524296 * length bytes.now }
 {
     let table = shape.table();

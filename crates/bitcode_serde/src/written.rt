@@ -1,7 +1,7 @@
 // The columns that a writer fills.
 ghost use Rattle.std.specs.Prelude.{◌≡◌, ◌≢◌, ◌⊎◌, [], ◌∷◌, ◌++◌, OnOk, IfOk, IfErr};
-ghost use Rattle.bitcode_coder.specs.Coding.{JoinsListing, PassesWithListing};
-ghost use Rattle.bitcode_coder.specs.Spelling.{column_text};
+ghost use Rattle.bitcode_coder.specs.Coder.{JoinsListing, OverflowsWithListing};
+ghost use Rattle.bitcode_coder.specs.Spelling.{column_bytes};
 ghost use Rattle.bitcode_serde.specs.WrittenColumns.{kind_of_entry, datum_of_entry, kind_of_written, entries_of};
 
 use bitcode_coder::bool::BoolEncoder;
@@ -55,7 +55,7 @@ pub enum WrittenColumn {
 // Makes room for an entry, and writes it.
 fn join<T: Shaped, E: Buffer + Encoder<T>>(column: &mut E, entry: &T) -> Result<(), Error>
     ensures joined { OnOk result (JoinsListing T.lists T.shape entry.now (E.columns column.old) (E.columns column.new)) }
-    ensures refused { IfErr result (λ e. (e.reason ≡ Reason.OutOfMemory) ⊎ E.surely_passes column.old 1 ⊎ PassesWithListing T.lists T.shape entry.now (E.columns column.old)) }
+    ensures refused { IfErr result (λ e. (e.reason ≡ Reason.OutOfMemory) ⊎ E.surely_overflows column.old 1 ⊎ OverflowsWithListing T.lists T.shape entry.now (E.columns column.old)) }
 {
     column.reserve(1)?;
     column.encode(entry)
@@ -117,7 +117,7 @@ impl WrittenColumn {
     ///
     /// A refused growth is `out of memory`.
     pub fn collect_into(&mut self, out: &mut Vec<u8>) -> Result<(), Error>
-        ensures written { OnOk result (out.new.items ≡ out.old.items ++ column_text (kind_of_written self.old) (entries_of self.old)) }
+        ensures written { OnOk result (out.new.items ≡ out.old.items ++ column_bytes (kind_of_written self.old) (entries_of self.old)) }
         ensures refused { IfErr result (λ e. e.reason ≡ Reason.OutOfMemory) }
     {
         match self {

@@ -3,7 +3,7 @@
 use Rattle.std.specs.Prelude.{List}
 use Rattle.std.specs.List.Sorted.{IsPermutation}
 use Rattle.bitcode_shapes.specs.Datum.{Datum}
-use Rattle.bitcode_shapes.specs.Sequences.{ListsSequence, MakesSequence, SameSequence}
+use Rattle.bitcode_shapes.specs.Lists.{ListsSequence, MakesSequence, SameSequence}
 
 -- the list of a listing of each element, in any order
 pub record ListsInAnyOrder {T : Type 0} (lists : T → Datum → Type 0) (values : List T) (d : Datum) : Type 0 where

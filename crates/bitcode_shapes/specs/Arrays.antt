@@ -4,8 +4,8 @@ use Rattle.std.specs.Prelude.{All}
 use Rattle.bitcode_shapes.specs.Datum.{Datum}
 use Rattle.bitcode_shapes.specs.Shape.{Shape, array_shape}
 use Rattle.bitcode_shapes.specs.Lawful.{Lawful, Makeable}
-use Rattle.bitcode_shapes.specs.Sequences.{ListsSequence, MakesSequence, SameSequence}
-use Rattle.bitcode_shapes.specs.LawfulSequences.{sequence_lawful, sequence_makeable}
+use Rattle.bitcode_shapes.specs.Lists.{ListsSequence, MakesSequence, SameSequence}
+use Rattle.bitcode_shapes.specs.LawfulLists.{sequence_lawful, sequence_makeable}
 
 -- the elements are values, and there are so many
 pub record IsArrayValue {T : Type 0} (size : ℕ) (is_value : T → Type 0) (values : List T) : Type 0 where

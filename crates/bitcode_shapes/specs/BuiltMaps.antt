@@ -6,7 +6,7 @@ use Rattle.std.specs.Ordering.{eq_by_cmp}
 use Rattle.std.specs.Cmp.{IsTotalOrder, IsEquivalence}
 use Rattle.std.specs.Map.{lookup, keys_of, values_of, update_all}
 use Rattle.std.proofs.lemmas.List.Elements.{All-nil, All-cons, All-head, All-tail}
-use Rattle.bitcode_shapes.specs.Values.{IsPairValue}
+use Rattle.bitcode_shapes.specs.Pairs.{IsPairValue}
 use Rattle.bitcode_shapes.specs.Maps.{IsOrderedMap, IsDistinctMap}
 use Rattle.bitcode_shapes.specs.BuiltOrdered as ordered
 use Rattle.bitcode_shapes.specs.BuiltDistinct as distinct

@@ -13,7 +13,7 @@ use Rattle.std.specs.Set.{is_member}
 use Rattle.std.proofs.lemmas.Cmp.{eq_by_cmp_equiv}
 use Rattle.std.proofs.lemmas.List.Elements.{All-nil, All-cons, All-head, All-tail}
 use Rattle.std.proofs.lemmas.Map.Made.{is_some-lookup, is_some-update_all}
-use Rattle.bitcode_shapes.specs.LawfulSequences.{vec_built}
+use Rattle.bitcode_shapes.specs.LawfulLists.{vec_built}
 use Rattle.bitcode_shapes.specs.Sets.{SameMembers, IsOrderedSet, IsDistinctSet}
 use Rattle.bitcode_shapes.specs.BuiltOrdered as ordered
 use Rattle.bitcode_shapes.specs.BuiltDistinct as distinct

@@ -4,7 +4,8 @@ use Rattle.std.specs.Duration.{as_nanos}
 use Rattle.std.specs.declared.time.Duration.{Duration}
 use Rattle.bitcode_shapes.specs.Datum.{Datum}
 use Rattle.bitcode_shapes.specs.Shape.{Shape, pair_shape}
-use Rattle.bitcode_shapes.specs.Values.{int_shape, ListsNumber, MakesNumber, SameNumber, IsValueOfWidth, IsPairValue, ListsPair, MakesPair, SamePair}
+use Rattle.bitcode_shapes.specs.Ints.{int_shape, ListsNumber, MakesNumber, SameNumber, IsValueOfWidth}
+use Rattle.bitcode_shapes.specs.Pairs.{IsPairValue, ListsPair, MakesPair, SamePair}
 use Rattle.bitcode_shapes.specs.Checked.{below_second, nanosecond_shape, IsCheckedValue}
 
 abbrev pub seconds_and_nanos : Duration → ℕ × ℕ

@@ -7,8 +7,8 @@ use Rattle.bitcode_shapes.specs.Datum.{Datum}
 use Rattle.bitcode_shapes.specs.Shape.{Shape, seq_shape, text_shape, IsWithin}
 use Rattle.bitcode_shapes.specs.Lawful.{Lawful, Makeable}
 use Rattle.bitcode_shapes.specs.Storable.{IsStorableSize}
-use Rattle.bitcode_shapes.specs.Sequences.{ListsSequence, MakesSequence, SameSequence}
-use Rattle.bitcode_shapes.specs.LawfulSequences.{sequence_lawful, sequence_makeable}
+use Rattle.bitcode_shapes.specs.Lists.{ListsSequence, MakesSequence, SameSequence}
+use Rattle.bitcode_shapes.specs.LawfulLists.{sequence_lawful, sequence_makeable}
 use Rattle.bitcode_shapes.specs.Texts.{ListsText, MakesText, SameText}
 use Rattle.bitcode_shapes.specs.LawfulTexts.{limited_lawful, limited_makeable}
 

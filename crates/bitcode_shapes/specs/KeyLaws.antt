@@ -10,10 +10,11 @@ use Rattle.std.proofs.lemmas.Bool.{and_from, and_parts}
 use Rattle.std.proofs.lemmas.List.Elements.{All-head, All-tail}
 use mathlib.Core.Bool.{beq}
 use Rattle.bitcode_shapes.specs.Choices.{IsVariantValue, SameVariant, option_variant, result_variant}
-use Rattle.bitcode_shapes.specs.Sequences.{SameSequence}
+use Rattle.bitcode_shapes.specs.Lists.{SameSequence}
 use Rattle.bitcode_shapes.specs.Sets.{TellsSame}
 use Rattle.bitcode_shapes.specs.Texts.{SameText}
-use Rattle.bitcode_shapes.specs.Values.{bool_number, SameNumber, IsPairValue, SamePair}
+use Rattle.bitcode_shapes.specs.Ints.{bool_number, SameNumber}
+use Rattle.bitcode_shapes.specs.Pairs.{IsPairValue, SamePair}
 
 -- of what is not the same, and of which `==` answers so
 apart : (⊥ → false ≡ true) × (false ≡ true → ⊥)

@@ -21,5 +21,5 @@ pub record Lawful {T : Type 0} (shape : Shape) (is_value : T → Type 0) (lists 
 -- and a value is equal to what a listing of it makes.
 pub record Makeable {T : Type 0} (shape : Shape) (is_value : T → Type 0) (lists : T → Datum → Type 0) (same : T → T → Type 0) (makes : Datum → T → Type 0) : Type 0 where
   pub made : Global → (d : Datum) → IsOf shape d → IsStorable shape d → (t : T) × (is_value t × makes d t)
-  pub once : (d : Datum) (t u : T) → is_value t → is_value u → makes d t → makes d u → same t u
+  pub unambiguous : (d : Datum) (t u : T) → is_value t → is_value u → makes d t → makes d u → same t u
   pub remade : (t u : T) (d : Datum) → is_value t → is_value u → lists t d → makes d u → same t u

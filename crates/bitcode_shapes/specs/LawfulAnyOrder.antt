@@ -8,7 +8,7 @@ use Rattle.std.proofs.lemmas.List.Sorted.{IsPermutation-refl, IsPermutation-sym,
 use Rattle.bitcode_shapes.specs.Datum.{Datum, list, data_of}
 use Rattle.bitcode_shapes.specs.Shape.{Shape, IsOf, IsListOf, IsSound, seq_shape}
 use Rattle.bitcode_shapes.specs.Lawful.{Lawful, Makeable}
-use Rattle.bitcode_shapes.specs.LawfulSequences.{zip_length, each_listed, each_of_shape, each_reflexive, each_symmetric, each_transitive, each_once, each_remade, elements_once, seq_makeable}
+use Rattle.bitcode_shapes.specs.LawfulLists.{zip_length, each_listed, each_of_shape, each_reflexive, each_symmetric, each_transitive, each_once, each_remade, elements_once, seq_makeable}
 use Rattle.bitcode_shapes.specs.AnyOrder.{ListsInAnyOrder, MakesInAnyOrder, SameInAnyOrder}
 
 -- ---- of two lists, one by one, when one is reordered
@@ -147,7 +147,7 @@ module _ {T : Type 0} (shape : Shape) (is_value : T → Type 0) (lists : T → D
         made = λ g d o s.
             let found = in_order.made g d o s in
             (found.0, (found.1.0, record { order = items found.0; reordered = IsPermutation-refl (items found.0); making = found.1.1 }));
-        once = λ d b c h i m n.
+        unambiguous = λ d b c h i m n.
             let one = elements_once m.making.elements n.making.elements (sym m.making.is ∙ n.making.is) in
             same_orders (items b) m.order (items c) n.order m.reordered n.reordered
             (each_once shape is_value lists same makes element n.making.elements m.order n.order

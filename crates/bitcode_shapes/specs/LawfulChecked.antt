@@ -4,9 +4,9 @@ use Rattle.std.specs.Prelude.{unsigned_abs}
 use Rattle.bitcode_shapes.specs.Datum.{number}
 use Rattle.bitcode_shapes.specs.Shape.{Allowed, nonzero, scalar, number_shape, IsInWidth, IsAllowed, IsNumberWidth}
 use Rattle.bitcode_shapes.specs.Lawful.{Lawful, Makeable}
-use Rattle.bitcode_shapes.specs.Values.{ListsNumber, MakesNumber, SameNumber}
+use Rattle.bitcode_shapes.specs.Ints.{ListsNumber, MakesNumber, SameNumber}
 use Rattle.bitcode_shapes.specs.Checked.{IsCheckedValue, nonzero_shape, char_shape}
-use Rattle.bitcode_shapes.specs.LawfulValues.{number_once}
+use Rattle.bitcode_shapes.specs.LawfulInts.{number_once}
 
 module _ {T : Type 0} (value : T → ℤ) (width : ℕ) (signed : Bool) (allowed : Allowed) where
   pub checked_lawful : IsNumberWidth width
@@ -33,7 +33,7 @@ module _ {T : Type 0} (value : T → ℤ) (width : ℕ) (signed : Bool) (allowed
             o.is ∙ ap number (sym found.1),
           ),
         );
-    once = λ d t u h i m n. number_once (sym m ∙ n);
+    unambiguous = λ d t u h i m n. number_once (sym m ∙ n);
     remade = λ t u d h i l m. number_once (sym l ∙ m);
   }
 

@@ -10,8 +10,9 @@ use Rattle.bitcode_shapes.specs.Shape.{Shape, Shapes, no_shapes, shape_and, choi
 use Rattle.bitcode_shapes.specs.Lawful.{Lawful, Makeable}
 use Rattle.bitcode_shapes.specs.Storable.{IsStorable, IsStorableVariant}
 use Rattle.bitcode_shapes.specs.LawfulImages.{image_lawful, image_makeable}
-use Rattle.bitcode_shapes.specs.LawfulValues.{unit_lawful, unit_makeable, both}
-use Rattle.bitcode_shapes.specs.Values.{ListsUnit, MakesUnit}
+use Rattle.bitcode_shapes.specs.LawfulEmpty.{unit_lawful, unit_makeable}
+use Rattle.bitcode_shapes.specs.LawfulPairs.{both}
+use Rattle.bitcode_shapes.specs.Empty.{ListsUnit, MakesUnit}
 use Rattle.bitcode_shapes.specs.Choices.{ListsChoice, MakesChoice, ListsLast, MakesLast, IsVariantValue, ListsVariant, MakesVariant, SameVariant, option_variant, result_variant}
 
 -- What a lawful type promises, of values that are listed by an index and a datum.
@@ -26,7 +27,7 @@ pub record LawfulVariants {T : Type 0} (shapes : Shapes) (is_value : T → Type 
 
 pub record MakeableVariants {T : Type 0} (shapes : Shapes) (is_value : T → Type 0) (lists : T → ℕ → Datum → Type 0) (same : T → T → Type 0) (makes : ℕ → Datum → T → Type 0) : Type 0 where
   pub made : Global → (index : ℕ) (d : Datum) → IsOfVariant shapes index d → IsStorableVariant shapes index d → (t : T) × (is_value t × makes index d t)
-  pub once : (index : ℕ) (d : Datum) (t u : T) → is_value t → is_value u → makes index d t → makes index d u → same t u
+  pub unambiguous : (index : ℕ) (d : Datum) (t u : T) → is_value t → is_value u → makes index d t → makes index d u → same t u
   pub remade : (t u : T) (index : ℕ) (d : Datum) → is_value t → is_value u → lists t index d → makes index d u → same t u
 
 -- ---- the last variant by itself
@@ -59,7 +60,7 @@ module _ {A : Type 0} {s : Shape} {is_a : A → Type 0} {lists_a : A → Datum �
     last_made g (suc index) d o stored = absurd o
 
     last_once : (index : ℕ) (d : Datum) (t u : A) → is_a t → is_a u → MakesLast makes_a index d t → MakesLast makes_a index d u → same_a t u
-    last_once zero d t u h i m n = last.once d t u h i m n
+    last_once zero d t u h i m n = last.unambiguous d t u h i m n
     last_once (suc index) d t u h i m n = absurd m
 
     last_remade : (t u : A) (index : ℕ) (d : Datum) → is_a t → is_a u → ListsLast lists_a t index d → MakesLast makes_a index d u → same_a t u
@@ -67,7 +68,7 @@ module _ {A : Type 0} {s : Shape} {is_a : A → Type 0} {lists_a : A → Datum �
     last_remade t u (suc index) d h i l m = absurd m
 
     pub last_makeable : MakeableVariants (shape_and s no_shapes) is_a (ListsLast lists_a) same_a (MakesLast makes_a)
-    last_makeable = record { made = last_made; once = last_once; remade = last_remade }
+    last_makeable = record { made = last_made; unambiguous = last_once; remade = last_remade }
 
 -- ---- the first variant beside the rest
 
@@ -134,12 +135,12 @@ module _ {A B : Type 0} {s : Shape} {ss : Shapes} {is_a : A → Type 0} {is_b : 
 
     variant_once : (index : ℕ) (d : Datum) (t u : A ⊎ B) → IsVariantValue is_a is_b t → IsVariantValue is_a is_b u
         → MakesVariant makes_a makes_b index d t → MakesVariant makes_a makes_b index d u → SameVariant same_a same_b t u
-    variant_once zero d (inl a) (inl b) h i m n = first.once d a b h i m n
+    variant_once zero d (inl a) (inl b) h i m n = first.unambiguous d a b h i m n
     variant_once zero d (inl a) (inr b) h i m n = absurd n
     variant_once zero d (inr a) u h i m n = absurd m
     variant_once (suc index) d (inl a) u h i m n = absurd m
     variant_once (suc index) d (inr a) (inl b) h i m n = absurd n
-    variant_once (suc index) d (inr a) (inr b) h i m n = rest.once index d a b h i m n
+    variant_once (suc index) d (inr a) (inr b) h i m n = rest.unambiguous index d a b h i m n
 
     variant_remade : (t u : A ⊎ B) (index : ℕ) (d : Datum) → IsVariantValue is_a is_b t → IsVariantValue is_a is_b u
         → ListsVariant lists_a lists_b t index d → MakesVariant makes_a makes_b index d u → SameVariant same_a same_b t u
@@ -151,7 +152,7 @@ module _ {A B : Type 0} {s : Shape} {ss : Shapes} {is_a : A → Type 0} {is_b : 
     variant_remade (inr a) (inr b) (suc index) d h i l m = rest.remade a b index d h i l m
 
     pub first_makeable : MakeableVariants (shape_and s ss) (IsVariantValue is_a is_b) (ListsVariant lists_a lists_b) (SameVariant same_a same_b) (MakesVariant makes_a makes_b)
-    first_makeable = record { made = variant_made; once = variant_once; remade = variant_remade }
+    first_makeable = record { made = variant_made; unambiguous = variant_once; remade = variant_remade }
 
 -- ---- choices
 
@@ -181,9 +182,9 @@ module _ {T : Type 0} {shapes : Shapes} {is_value : T → Type 0} {lists : T →
     made = λ g d o stored.
         let found = variants.made g o.index o.payload o.is_variant (subst (IsStorable (choice_shape shapes)) o.is stored) in
         (found.0, (found.1.0, record { index = o.index; payload = o.payload; is = o.is; makes_payload = found.1.1 }));
-    once = λ d t u h i m n.
+    unambiguous = λ d t u h i m n.
         let e = choice_once (sym m.is ∙ n.is) in
-        variants.once n.index n.payload t u h i (subst (λ x. makes n.index x t) e.1 (subst (λ x. makes x m.payload t) e.0 m.makes_payload)) n.makes_payload;
+        variants.unambiguous n.index n.payload t u h i (subst (λ x. makes n.index x t) e.1 (subst (λ x. makes x m.payload t) e.0 m.makes_payload)) n.makes_payload;
     remade = λ t u d h i l m.
         let e = choice_once (sym l.is ∙ m.is) in
         variants.remade t u m.index m.payload h i (subst (λ x. lists t m.index x) e.1 (subst (λ x. lists t x l.payload) e.0 l.lists_payload)) m.makes_payload;

@@ -4,10 +4,11 @@ use Rattle.std.proofs.lemmas.Int.{ints}
 use Rattle.std.specs.declared.time.Duration.{Duration}
 use Rattle.bitcode_shapes.specs.Shape.{IsInWidth, IsAllowed}
 use Rattle.bitcode_shapes.specs.Lawful.{Lawful, Makeable}
-use Rattle.bitcode_shapes.specs.Values.{int_shape, ListsNumber, MakesNumber, SameNumber, IsValueOfWidth}
+use Rattle.bitcode_shapes.specs.Ints.{int_shape, ListsNumber, MakesNumber, SameNumber, IsValueOfWidth}
 use Rattle.bitcode_shapes.specs.Checked.{below_second, nanosecond_shape, IsCheckedValue}
 use Rattle.bitcode_shapes.specs.Durations.{seconds_and_nanos, duration_shape, IsSpan, ListsSpan, MakesSpan, SameSpan}
-use Rattle.bitcode_shapes.specs.LawfulValues.{width_4, width_8, int_lawful, unsigned_makeable, pair_lawful, pair_makeable}
+use Rattle.bitcode_shapes.specs.LawfulInts.{width_4, width_8, int_lawful, unsigned_makeable}
+use Rattle.bitcode_shapes.specs.LawfulPairs.{pair_lawful, pair_makeable}
 use Rattle.bitcode_shapes.specs.LawfulChecked.{checked_lawful, checked_makeable}
 use Rattle.bitcode_shapes.specs.LawfulImages.{image_lawful, image_makeable}
 

@@ -28,6 +28,6 @@ module _ {T U : Type 0} (stands_for : T → U) {shape : Shape} {is_value : U →
         let inner = m.made g d o s in
         let found = find g inner.0 inner.1.0 in
         (found.0, (subst is_value (sym found.1) inner.1.0, subst (makes d) (sym found.1) inner.1.1));
-    once = λ d t u h i x y. m.once d (stands_for t) (stands_for u) h i x y;
+    unambiguous = λ d t u h i x y. m.unambiguous d (stands_for t) (stands_for u) h i x y;
     remade = λ t u d h i l x. m.remade (stands_for t) (stands_for u) d h i l x;
   }

@@ -18,10 +18,10 @@ use Rattle.std.proofs.lemmas.Map.Made.{update_all_none}
 use Rattle.bitcode_shapes.specs.Datum.{Datum}
 use Rattle.bitcode_shapes.specs.Shape.{Shape, map_shape, pair_shape}
 use Rattle.bitcode_shapes.specs.Lawful.{Lawful, Makeable}
-use Rattle.bitcode_shapes.specs.Values.{IsPairValue, ListsPair, MakesPair, SamePair}
-use Rattle.bitcode_shapes.specs.LawfulValues.{pair_lawful, pair_makeable}
-use Rattle.bitcode_shapes.specs.Sequences.{ListsSequence, MakesSequence}
-use Rattle.bitcode_shapes.specs.LawfulSequences.{sequence_lawful, seq_makeable, each_once, each_remade, elements_once}
+use Rattle.bitcode_shapes.specs.Pairs.{IsPairValue, ListsPair, MakesPair, SamePair}
+use Rattle.bitcode_shapes.specs.LawfulPairs.{pair_lawful, pair_makeable}
+use Rattle.bitcode_shapes.specs.Lists.{ListsSequence, MakesSequence}
+use Rattle.bitcode_shapes.specs.LawfulLists.{sequence_lawful, seq_makeable, each_once, each_remade, elements_once}
 use Rattle.bitcode_shapes.specs.AnyOrder.{ListsInAnyOrder}
 use Rattle.bitcode_shapes.specs.LawfulAnyOrder.{any_order_lawful}
 use Rattle.bitcode_shapes.specs.Sets.{TellsSame}
@@ -181,7 +181,7 @@ module _ {K X : Type 0} (key value : Shape) (is_key : K → Type 0) (is_value : 
                 let found = in_order.made g d o s in
                 let built = build g found.0 found.1.0 in
                 (built.0, (built.1.0, record { pairs = found.0; are = found.1.0; making = found.1.1; found = built.1.1 }));
-            once = λ d b c h i m n k.
+            unambiguous = λ d b c h i m n k.
                 let one = elements_once m.making.elements n.making.elements (sym m.making.is ∙ n.making.is) in
                 let alike = each_once (pair_shape key value) IsEntry (ListsPair lists_key lists_value) (SamePair same_key same_value) (MakesPair makes_key makes_value) of_pair
                 n.making.elements m.pairs n.pairs m.are n.are (subst (λ ds. AllZip (MakesPair makes_key makes_value) ds m.pairs) one m.making.each) n.making.each in

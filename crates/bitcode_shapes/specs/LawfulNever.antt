@@ -26,6 +26,6 @@ never_lawful never = record {
 pub never_makeable : {T : Type 0} → Makeable never_shape (λ (t : T). Unit {0}) (λ t d. ⊥) (λ t u. Unit {0}) (λ d t. ⊥)
 never_makeable = record {
   made = λ g d o s. absurd o;
-  once = λ d t u h i m n. absurd m;
+  unambiguous = λ d t u h i m n. absurd m;
   remade = λ t u d h i l m. absurd l;
 }

@@ -11,8 +11,8 @@ use Rattle.std.proofs.lemmas.List.Sorted.{list_any-IsPermutation, All-permutatio
 use Rattle.bitcode_shapes.specs.Datum.{Datum}
 use Rattle.bitcode_shapes.specs.Shape.{Shape, IsWithin, seq_shape}
 use Rattle.bitcode_shapes.specs.Lawful.{Lawful, Makeable}
-use Rattle.bitcode_shapes.specs.Sequences.{ListsSequence, MakesSequence}
-use Rattle.bitcode_shapes.specs.LawfulSequences.{sequence_lawful, seq_makeable, each_once, each_remade, elements_once}
+use Rattle.bitcode_shapes.specs.Lists.{ListsSequence, MakesSequence}
+use Rattle.bitcode_shapes.specs.LawfulLists.{sequence_lawful, seq_makeable, each_once, each_remade, elements_once}
 use Rattle.bitcode_shapes.specs.AnyOrder.{ListsInAnyOrder}
 use Rattle.bitcode_shapes.specs.LawfulAnyOrder.{any_order_lawful}
 use Rattle.bitcode_shapes.specs.Sets.{SameMembers, MakesSet, TellsSame}
@@ -76,7 +76,7 @@ module _ {T : Type 0} (shape : Shape) (is_value : T → Type 0) (lists : T → D
                 let found = in_order.made g d o s in
                 let built = build g found.0 found.1.0 in
                 (built.0, (built.1.0, record { values = found.0; are = found.1.0; making = found.1.1; members = built.1.1 }));
-            once = λ d b c h i m n key.
+            unambiguous = λ d b c h i m n key.
                 let one = elements_once m.making.elements n.making.elements (sym m.making.is ∙ n.making.is) in
                 let alike = each_once shape is_value lists same makes element n.making.elements m.values n.values m.are n.are
                 (subst (λ ds. AllZip makes ds m.values) one m.making.each) n.making.each in

@@ -5,8 +5,10 @@ use Rattle.std.specs.Prelude.{◌&&◌}
 use Rattle.bitcode_shapes.specs.Datum.{Datum}
 use Rattle.bitcode_shapes.specs.Shape.{Shape, pair_shape, text_shape}
 use Rattle.bitcode_shapes.specs.Lawful.{Lawful, Makeable}
-use Rattle.bitcode_shapes.specs.Values.{int_shape, ListsNumber, MakesNumber, SameNumber, IsValueOfWidth, IsPairValue, ListsPair, MakesPair, SamePair}
-use Rattle.bitcode_shapes.specs.LawfulValues.{int_lawful, unsigned_makeable, signed_makeable, pair_lawful, pair_makeable, width_1, width_4}
+use Rattle.bitcode_shapes.specs.Ints.{int_shape, ListsNumber, MakesNumber, SameNumber, IsValueOfWidth}
+use Rattle.bitcode_shapes.specs.Pairs.{IsPairValue, ListsPair, MakesPair, SamePair}
+use Rattle.bitcode_shapes.specs.LawfulInts.{int_lawful, unsigned_makeable, signed_makeable, width_1, width_4}
+use Rattle.bitcode_shapes.specs.LawfulPairs.{pair_lawful, pair_makeable}
 use Rattle.bitcode_shapes.specs.Texts.{IsTextValue, ListsText, MakesText, SameText}
 use Rattle.bitcode_shapes.specs.LawfulTexts.{text_lawful, text_makeable, str_built}
 use Rattle.bitcode_shapes.specs.LawfulImages.{image_lawful, image_makeable}

@@ -13,7 +13,7 @@ use Rattle.bitcode_shapes.specs.Datum.{text, text_in}
 use Rattle.bitcode_shapes.specs.Shape.{text_shape, IsWithin}
 use Rattle.bitcode_shapes.specs.Lawful.{Lawful, Makeable}
 use Rattle.bitcode_shapes.specs.Storable.{IsStorableSize}
-use Rattle.bitcode_shapes.specs.LawfulSequences.{vec_built}
+use Rattle.bitcode_shapes.specs.LawfulLists.{vec_built}
 use Rattle.bitcode_shapes.specs.Texts.{IsTextValue, ListsText, MakesText, SameText}
 
 text_once : {bytes others : List ℕ} → text bytes ≡ text others → bytes ≡ others
@@ -42,7 +42,7 @@ module _ {T : Type 0} (bytes : T → List ℕ) (limit : Option ℕ) (is_whole : 
     made = λ g d o s.
         let built = build g o.bytes (subst (λ x. IsStorableSize limit (length (text_in x))) o.is s) o.utf8 o.within in
         (built.0, (built.1.0, o.is ∙ ap text (sym built.1.1)));
-    once = λ d t u h i m n. text_once (sym m ∙ n);
+    unambiguous = λ d t u h i m n. text_once (sym m ∙ n);
     remade = λ t u d h i l m. text_once (sym l ∙ m);
   }
 

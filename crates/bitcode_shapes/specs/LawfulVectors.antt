@@ -7,8 +7,8 @@ use Rattle.std.specs.Vec.{vec_items}
 use Rattle.bitcode_shapes.specs.Datum.{Datum}
 use Rattle.bitcode_shapes.specs.Shape.{Shape, seq_shape}
 use Rattle.bitcode_shapes.specs.Lawful.{Lawful, Makeable}
-use Rattle.bitcode_shapes.specs.Sequences.{ListsSequence, MakesSequence, SameSequence}
-use Rattle.bitcode_shapes.specs.LawfulSequences.{seq_lawful, seq_makeable, vec_built}
+use Rattle.bitcode_shapes.specs.Lists.{ListsSequence, MakesSequence, SameSequence}
+use Rattle.bitcode_shapes.specs.LawfulLists.{seq_lawful, seq_makeable, vec_built}
 
 module _ {T : Type 0} {shape : Shape} {is_value : T → Type 0} {lists : T → Datum → Type 0} {same : T → T → Type 0} where
   pub vec_lawful : {order : Bool} → Lawful shape is_value lists same order

@@ -3,10 +3,14 @@ pub mod Shape
 pub mod Storable
 pub mod ArrayCounts
 pub mod Lawful
-pub mod Values
-pub mod LawfulValues
-pub mod Sequences
-pub mod LawfulSequences
+pub mod Ints
+pub mod Empty
+pub mod Pairs
+pub mod LawfulInts
+pub mod LawfulEmpty
+pub mod LawfulPairs
+pub mod Lists
+pub mod LawfulLists
 pub mod LawfulVectors
 pub mod LawfulImages
 pub mod Tuples
@@ -22,7 +26,7 @@ pub mod LawfulChecked
 pub mod Durations
 pub mod LawfulDurations
 pub mod Arrays
-pub mod Collections
+pub mod BuiltLists
 pub mod FixedCapacity
 pub mod AnyOrder
 pub mod LawfulAnyOrder

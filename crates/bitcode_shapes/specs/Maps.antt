@@ -6,8 +6,8 @@ use Rattle.std.specs.List.Sorted.{IsStrictlySortedBy}
 use Rattle.std.specs.declared.cmp.Ordering.{Ordering}
 use Rattle.std.specs.Map.{lookup, keys_of, update_all}
 use Rattle.bitcode_shapes.specs.Datum.{Datum}
-use Rattle.bitcode_shapes.specs.Sequences.{MakesSequence}
-use Rattle.bitcode_shapes.specs.Values.{IsPairValue, MakesPair}
+use Rattle.bitcode_shapes.specs.Lists.{MakesSequence}
+use Rattle.bitcode_shapes.specs.Pairs.{IsPairValue, MakesPair}
 
 -- both are nothing, or both a value, and the same
 abbrev pub SameFound : {X : Type 0} → (X → X → Type 0) → Option X → Option X → Type 0

@@ -17,7 +17,7 @@ use Rattle.std.proofs.lemmas.Map.Keys.{sorted_head, sorted_tail}
 use Rattle.std.proofs.lemmas.Map.Made.{is_some-lookup}
 use Rattle.bitcode_shapes.specs.Sets.{TellsSame, SameMembers, IsOrderedSet}
 use Rattle.bitcode_shapes.specs.Maps.{SameFound, SameEntries, IsOrderedMap}
-use Rattle.bitcode_shapes.specs.Values.{IsPairValue}
+use Rattle.bitcode_shapes.specs.Pairs.{IsPairValue}
 use Rattle.bitcode_shapes.specs.BuiltOrdered.{below_more}
 use Rattle.bitcode_shapes.specs.BuiltSets.{alone, keys_alone}
 

@@ -9,7 +9,7 @@ use Rattle.std.specs.Box.{box_value, boxed_slice_items}
 use Rattle.std.specs.Rc.{rc_value, rc_slice_items}
 use Rattle.std.specs.Vec.{vec_items}
 use denote.RawPtr.{block_ptr}
-use Rattle.bitcode_shapes.specs.LawfulSequences.{vec_built}
+use Rattle.bitcode_shapes.specs.LawfulLists.{vec_built}
 
 pub box_built : {T : Type 0} → Global → (value : T) → (b : Box T Global) × (box_value b ≡ value)
 box_built g value = (record { ptr = block_ptr 0 0; alloc = g; value = value }, refl)

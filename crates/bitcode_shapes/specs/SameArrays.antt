@@ -14,10 +14,12 @@ use Rattle.bitcode_shapes.specs.Datum.{Datum, list, choice, data_of, list_of, fi
 use Rattle.bitcode_shapes.specs.Shape.{Shape, Shapes, no_shapes, shape_and, unit_shape, text_shape, seq_shape, map_shape, array_shape, pair_shape, choice_shape}
 use Rattle.bitcode_shapes.specs.ArrayCounts.{arrays_at, arrays_in, ListsSameArrays, VariantsListSameArrays}
 use Rattle.bitcode_shapes.specs.Lawful.{Lawful}
-use Rattle.bitcode_shapes.specs.Values.{int_shape, IsValueOfWidth, ListsNumber, ListsUnit, IsPairValue, ListsPair}
+use Rattle.bitcode_shapes.specs.Ints.{int_shape, IsValueOfWidth, ListsNumber}
+use Rattle.bitcode_shapes.specs.Empty.{ListsUnit}
+use Rattle.bitcode_shapes.specs.Pairs.{IsPairValue, ListsPair}
 use Rattle.bitcode_shapes.specs.Texts.{IsTextValue, ListsText}
-use Rattle.bitcode_shapes.specs.Sequences.{ListsSequence}
-use Rattle.bitcode_shapes.specs.LawfulSequences.{list_of_data}
+use Rattle.bitcode_shapes.specs.Lists.{ListsSequence}
+use Rattle.bitcode_shapes.specs.LawfulLists.{list_of_data}
 use Rattle.bitcode_shapes.specs.AnyOrder.{ListsInAnyOrder}
 use Rattle.bitcode_shapes.specs.LawfulAnyOrder.{zip_follows}
 use Rattle.bitcode_shapes.specs.Choices.{ListsChoice, ListsLast, IsVariantValue, ListsVariant, option_variant, result_variant}

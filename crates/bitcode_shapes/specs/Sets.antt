@@ -5,7 +5,7 @@ use Rattle.std.specs.List.{IsDistinct}
 use Rattle.std.specs.List.Sorted.{IsStrictlySortedBy}
 use Rattle.std.specs.declared.cmp.Ordering.{Ordering}
 use Rattle.bitcode_shapes.specs.Datum.{Datum}
-use Rattle.bitcode_shapes.specs.Sequences.{MakesSequence}
+use Rattle.bitcode_shapes.specs.Lists.{MakesSequence}
 
 -- a key is equal to one of the first exactly where it is to one of the second
 abbrev pub SameMembers : {T : Type 0} → (T → T → Bool) → List T → List T → Type 0

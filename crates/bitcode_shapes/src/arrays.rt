@@ -1,9 +1,9 @@
 // Arrays hold the data of their elements.
 ghost use Rattle.bitcode_shapes.specs.Shape.{array_shape};
-ghost use Rattle.bitcode_shapes.specs.Sequences.{ListsSequence, MakesSequence, SameSequence};
+ghost use Rattle.bitcode_shapes.specs.Lists.{ListsSequence, MakesSequence, SameSequence};
 ghost use Rattle.bitcode_shapes.specs.Arrays.{IsArrayValue, array_lawful, array_makeable};
 
-use crate::sequences::told_each;
+use crate::lists::told_each;
 use crate::shaped::{Made, Shaped};
 
 impl<T: Shaped, const N: usize> Shaped for [T; N] {

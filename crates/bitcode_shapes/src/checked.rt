@@ -5,10 +5,10 @@
 ghost use Rattle.std.specs.Prelude.{true, false, pos, refl};
 ghost use Rattle.std.specs.Int.NonZero.{non_zero_u8_get, non_zero_u16_get, non_zero_u32_get, non_zero_u64_get, non_zero_u128_get, non_zero_usize_get, non_zero_i8_get, non_zero_i16_get, non_zero_i32_get, non_zero_i64_get, non_zero_i128_get, non_zero_isize_get};
 ghost use Rattle.bitcode_shapes.specs.Shape.{nonzero, scalar};
-ghost use Rattle.bitcode_shapes.specs.Values.{ListsNumber, MakesNumber, SameNumber};
+ghost use Rattle.bitcode_shapes.specs.Ints.{ListsNumber, MakesNumber, SameNumber};
 ghost use Rattle.bitcode_shapes.specs.Checked.{nonzero_shape, char_shape, IsCheckedValue};
 ghost use Rattle.bitcode_shapes.specs.KeyLaws.{naturals_told, integers_told};
-ghost use Rattle.bitcode_shapes.specs.LawfulValues.{width_1, width_2, width_4, width_8, width_16};
+ghost use Rattle.bitcode_shapes.specs.LawfulInts.{width_1, width_2, width_4, width_8, width_16};
 ghost use Rattle.bitcode_shapes.specs.LawfulChecked.{checked_lawful, unsigned_nonzero_makeable, signed_nonzero_makeable, char_makeable};
 ghost use Rattle.bitcode_shapes.specs.SameArrays.{one_datum_same_arrays};
 

@@ -1,7 +1,7 @@
 // Options and results hold the choice of a variant and of what is in it.
 ghost use Rattle.std.specs.Prelude.{◌&&◌};
 ghost use Rattle.bitcode_shapes.specs.Shape.{choice_shape, shape_and, no_shapes, unit_shape};
-ghost use Rattle.bitcode_shapes.specs.Values.{ListsUnit, MakesUnit};
+ghost use Rattle.bitcode_shapes.specs.Empty.{ListsUnit, MakesUnit};
 ghost use Rattle.bitcode_shapes.specs.Choices.{ListsChoice, MakesChoice, ListsLast, MakesLast, IsVariantValue, ListsVariant, MakesVariant, SameVariant, option_variant, result_variant};
 ghost use Rattle.bitcode_shapes.specs.LawfulChoices.{option_lawful, option_makeable, result_lawful, result_makeable};
 

@@ -1,13 +1,12 @@
-// A marker of a type holds nothing.
+// The unit holds nothing.
 ghost use Rattle.std.specs.Prelude.{true};
-ghost use Rattle.bitcode_shapes.specs.LawfulValues.{unit_lawful, unit_makeable};
 ghost use Rattle.bitcode_shapes.specs.Shape.{unit_shape};
-ghost use Rattle.bitcode_shapes.specs.Values.{ListsUnit, MakesUnit};
+ghost use Rattle.bitcode_shapes.specs.Empty.{ListsUnit, MakesUnit};
+ghost use Rattle.bitcode_shapes.specs.LawfulEmpty.{unit_lawful, unit_makeable};
 
 use crate::shaped::{Made, Shaped};
-use std::marker::PhantomData;
 
-impl<T> Shaped for PhantomData<T> {
+impl Shaped for () {
     ghost shape = { unit_shape };
 
     ghost is_value = { λ t. Unit {0} };
@@ -23,7 +22,7 @@ impl<T> Shaped for PhantomData<T> {
     ghost lawful = { unit_lawful };
 }
 
-impl<T> Made for PhantomData<T> {
+impl Made for () {
     ghost makes = { MakesUnit };
 
     ghost makeable = { unit_makeable (record {}) };

@@ -1,11 +1,11 @@
 // Vectors and texts of a fixed capacity hold their elements and their bytes.
 ghost use Rattle.std.specs.Prelude.{Some, true};
 ghost use Rattle.bitcode_shapes.specs.FixedCapacity.{IsWithinCapacity, IsTextWithin, array_vec_lawful, array_vec_makeable, array_string_lawful, array_string_makeable};
-ghost use Rattle.bitcode_shapes.specs.Sequences.{ListsSequence, MakesSequence, SameSequence};
+ghost use Rattle.bitcode_shapes.specs.Lists.{ListsSequence, MakesSequence, SameSequence};
 ghost use Rattle.bitcode_shapes.specs.Shape.{seq_shape, text_shape};
 ghost use Rattle.bitcode_shapes.specs.Texts.{ListsText, MakesText, SameText};
 
-use crate::sequences::told_each;
+use crate::lists::told_each;
 use crate::shaped::{Made, Shaped};
 use arrayvec::{ArrayString, ArrayVec};
 

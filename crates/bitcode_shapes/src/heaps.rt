@@ -6,7 +6,7 @@ ghost use Rattle.bitcode_shapes.specs.BuiltSets.{heap_built};
 ghost use Rattle.bitcode_shapes.specs.LawfulAnyOrder.{any_heap_lawful, any_order_makeable};
 ghost use Rattle.bitcode_shapes.specs.Shape.{seq_shape};
 
-use crate::sequences::told_each;
+use crate::lists::told_each;
 use crate::shaped::{Made, Shaped};
 use std::cmp::Ord;
 use std::collections::BinaryHeap;

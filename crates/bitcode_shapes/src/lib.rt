@@ -2,23 +2,23 @@
 #![tactic(auto)]
 
 pub mod arrays;
+pub mod bools;
 pub mod checked;
 pub mod choices;
-pub mod collections;
 pub mod durations;
 pub mod empty;
 pub mod fixed_capacity;
 pub mod heaps;
 pub mod ints;
 pub mod keys;
+pub mod lists;
 pub mod maps;
+pub mod markers;
 pub mod no_variants;
 pub mod pointers;
 pub mod same_arrays;
-pub mod sequences;
 pub mod sets;
 pub mod shaped;
 pub mod texts;
 pub mod tuples;
 pub mod uuids;
-pub mod values;

@@ -10,9 +10,9 @@ ghost use Rattle.bitcode_shapes.specs.BuiltMaps.{ordered_map_built, hashed_map_b
 ghost use Rattle.bitcode_shapes.specs.LawfulMaps.{ordered_map_lawful, ordered_map_makeable, hashed_map_lawful, hashed_map_makeable};
 ghost use Rattle.bitcode_shapes.specs.LawfulSets.{tells_by_order};
 ghost use Rattle.bitcode_shapes.specs.Maps.{IsOrderedMap, IsDistinctMap, MakesMap, SameEntries};
-ghost use Rattle.bitcode_shapes.specs.Sequences.{ListsSequence};
+ghost use Rattle.bitcode_shapes.specs.Lists.{ListsSequence};
 ghost use Rattle.bitcode_shapes.specs.Shape.{map_shape};
-ghost use Rattle.bitcode_shapes.specs.Values.{ListsPair};
+ghost use Rattle.bitcode_shapes.specs.Pairs.{ListsPair};
 
 use crate::keys::Key;
 use crate::shaped::{Made, Shaped};

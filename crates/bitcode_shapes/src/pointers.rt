@@ -4,12 +4,12 @@ ghost use Rattle.std.specs.Prelude.{None, All};
 ghost use Rattle.std.specs.Box.{box_value, boxed_slice_items};
 ghost use Rattle.std.specs.Rc.{rc_value, rc_slice_items};
 ghost use Rattle.bitcode_shapes.specs.LawfulImages.{image_lawful, image_makeable};
-ghost use Rattle.bitcode_shapes.specs.LawfulSequences.{seq_lawful, seq_makeable};
+ghost use Rattle.bitcode_shapes.specs.LawfulLists.{seq_lawful, seq_makeable};
 ghost use Rattle.bitcode_shapes.specs.Pointers.{box_built, rc_built, boxed_slice_built, rc_slice_built};
-ghost use Rattle.bitcode_shapes.specs.Sequences.{ListsSequence, MakesSequence, SameSequence};
+ghost use Rattle.bitcode_shapes.specs.Lists.{ListsSequence, MakesSequence, SameSequence};
 ghost use Rattle.bitcode_shapes.specs.Shape.{seq_shape};
 
-use crate::sequences::told_each;
+use crate::lists::told_each;
 use crate::shaped::{Made, Shaped};
 use std::boxed::BoxedSlice;
 use std::rc::{Rc, RcSlice};

@@ -6,7 +6,7 @@ ghost use Rattle.bitcode_shapes.specs.AnyOrder.{ListsInAnyOrder};
 ghost use Rattle.bitcode_shapes.specs.BuiltEntries.{hashed_set_of};
 ghost use Rattle.bitcode_shapes.specs.BuiltSets.{ordered_set_built, hashed_set_built};
 ghost use Rattle.bitcode_shapes.specs.LawfulSets.{ordered_set_lawful, ordered_set_makeable, hashed_set_lawful, hashed_set_makeable, tells_by_order};
-ghost use Rattle.bitcode_shapes.specs.Sequences.{ListsSequence};
+ghost use Rattle.bitcode_shapes.specs.Lists.{ListsSequence};
 ghost use Rattle.bitcode_shapes.specs.Sets.{IsOrderedSet, IsDistinctSet, MakesSet, SameMembers};
 ghost use Rattle.bitcode_shapes.specs.Shape.{seq_shape};
 

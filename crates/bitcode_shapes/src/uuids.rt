@@ -1,8 +1,8 @@
 // A UUID holds the array of its sixteen bytes.
 ghost use Rattle.std.specs.Prelude.{false, true, pos};
 ghost use Rattle.bitcode_shapes.specs.Arrays.{array_lawful, array_makeable};
-ghost use Rattle.bitcode_shapes.specs.LawfulValues.{width_1, int_lawful, unsigned_makeable};
-ghost use Rattle.bitcode_shapes.specs.Values.{int_shape, ListsNumber, MakesNumber, SameNumber, IsValueOfWidth};
+ghost use Rattle.bitcode_shapes.specs.LawfulInts.{width_1, int_lawful, unsigned_makeable};
+ghost use Rattle.bitcode_shapes.specs.Ints.{int_shape, ListsNumber, MakesNumber, SameNumber, IsValueOfWidth};
 
 use crate::shaped::{Made, Shaped};
 use uuid::Uuid;

@@ -7,4 +7,6 @@ mod tests;
 pub mod untyped;
 
 pub use crate::expected::got::Got;
-pub use crate::expected::values::{both_ways, decodes, encodes, holds, refuses, written_and_read};
+pub use crate::expected::values::{
+    agrees, both_ways, decodes, encodes, holds, refuses, written_and_read,
+};

@@ -10,10 +10,10 @@ use Rattle.bitcode_shapes.specs.Shape.{Shape, pair_shape, IsOf, IsPairOf}
 use Rattle.bitcode_coder.specs.Columns.{CountsFit}
 use Rattle.bitcode_coder.specs.Transposition.{columns_of}
 use Rattle.bitcode_coder.specs.Spelling.{Spells, SpellsColumns}
-use Rattle.bitcode_coder.specs.Coding.{IsReadingRefusal, TakesDatum}
+use Rattle.bitcode_coder.specs.Coder.{IsReadingRefusal, TakesDatum}
 use Rattle.bitcode_tuples.specs.Pairs.{pairs_of}
 use Rattle.bitcode_tuples.specs.PairLaws.{firsts_are, seconds_are}
-use Rattle.bitcode_coder.proofs.SpellingLemmas.{Spells-once}
+use Rattle.bitcode_coder.proofs.SpellingLemmas.{Spells-unambiguous}
 
 -- ---- lists of pairs
 
@@ -104,7 +104,7 @@ module _ (s t : Shape) (k : ℕ) where
     h.0,
     λ other es rest r.
         let both = reads_both old rest es r in
-        let same = (Spells-once s).once q.piece both.first.piece ds (map first_in es) middle both.middle q.spelled both.first.spelled
+        let same = (Spells-unambiguous s).unambiguous q.piece both.first.piece ds (map first_in es) middle both.middle q.spelled both.first.spelled
         (q.size ∙ sym both.first.size) (sym q.whole ∙ both.first.whole) in
         h.1 other (map second_in es) rest (subst (λ x. Reads (Spells t) k x (map second_in es) rest) (sym same.1) both.second),
   )

@@ -8,14 +8,14 @@ use Rattle.bitcode_columns.specs.declared.error.Reason.{Reason}
 use Rattle.bitcode_columns.specs.Reading.{Reads, IsEndOf}
 use Rattle.bitcode_shapes.specs.Datum.{Datum}
 use Rattle.bitcode_shapes.specs.Shape.{Shape, pair_shape}
-use Rattle.bitcode_shapes.specs.Values.{ListsPair}
+use Rattle.bitcode_shapes.specs.Pairs.{ListsPair}
 use Rattle.bitcode_coder.specs.Columns.{Columns, two}
 use Rattle.bitcode_coder.specs.Spelling.{Spells}
-use Rattle.bitcode_coder.specs.Coding.{IsReadingRefusal, JoinsListing, PassesWithListing}
+use Rattle.bitcode_coder.specs.Coder.{IsReadingRefusal, JoinsListing, OverflowsWithListing}
 use Rattle.bitcode_coder.proofs.LengthPartLemmas.{ends_behind_read}
 use Rattle.bitcode_tuples.specs.Pairs.{pairs_of, FaultsBehind}
 use Rattle.bitcode_tuples.proofs.ReadingLemmas.{reads_pairs, refuses_first, refuses_second}
-use Rattle.bitcode_tuples.proofs.WritingLemmas.{joins_pair, passes_with_first, passes_with_second}
+use Rattle.bitcode_tuples.proofs.WritingLemmas.{joins_pair, overflows_with_first, overflows_with_second}
 
 -- ---- populate
 
@@ -61,14 +61,14 @@ module _ {F P Q : Type 0} (fields : F → P × Q) (x : F) {lists_p : P → Datum
       record { datum = joined.datum; listing = joined.listing; joined = joined.joined; fits = joined.fits }
 
   -- where the first field passes, whatever the second one lists, and where the second one does
-  pub struct_passes_first : (e : Datum) → lists_q (fields x).1 e → PassesWithListing lists_p s (fields x).0 a
-      → PassesWithListing (λ y d. ListsPair lists_p lists_q (fields y) d) (pair_shape s t) x (two a b)
-  struct_passes_first e l h =
-      let passes = passes_with_first lists_p lists_q s t (fields x) a b e l h in
-      record { datum = passes.datum; listing = passes.listing; passes = passes.passes }
+  pub struct_overflows_first : (e : Datum) → lists_q (fields x).1 e → OverflowsWithListing lists_p s (fields x).0 a
+      → OverflowsWithListing (λ y d. ListsPair lists_p lists_q (fields y) d) (pair_shape s t) x (two a b)
+  struct_overflows_first e l h =
+      let overflows = overflows_with_first lists_p lists_q s t (fields x) a b e l h in
+      record { datum = overflows.datum; listing = overflows.listing; overflows = overflows.overflows }
 
-  pub struct_passes_second : (d : Datum) → lists_p (fields x).0 d → PassesWithListing lists_q t (fields x).1 b
-      → PassesWithListing (λ y e. ListsPair lists_p lists_q (fields y) e) (pair_shape s t) x (two a b)
-  struct_passes_second d l h =
-      let passes = passes_with_second lists_p lists_q s t (fields x) a b d l h in
-      record { datum = passes.datum; listing = passes.listing; passes = passes.passes }
+  pub struct_overflows_second : (d : Datum) → lists_p (fields x).0 d → OverflowsWithListing lists_q t (fields x).1 b
+      → OverflowsWithListing (λ y e. ListsPair lists_p lists_q (fields y) e) (pair_shape s t) x (two a b)
+  struct_overflows_second d l h =
+      let overflows = overflows_with_second lists_p lists_q s t (fields x) a b d l h in
+      record { datum = overflows.datum; listing = overflows.listing; overflows = overflows.overflows }

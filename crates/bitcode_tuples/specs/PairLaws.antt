@@ -34,11 +34,11 @@ pub both_of_shape : {A B : Type 0} {empty_a : A → Columns} {empty_b : B → Co
     → ((a : A) → empty_a a ≡ c) → ((b : B) → empty_b b ≡ d) → (e : TupleEncoder A B) → two (empty_a e.first) (empty_b e.second) ≡ two c d
 both_of_shape of_first of_second e = same_two (of_first e.first) (of_second e.second)
 
-pub both_surely : {A B : Type 0} {passes_a : A → ℕ → Type 0} {passes_b : B → ℕ → Type 0} {IsFirst IsSecond : Datum → Type 0}
+pub both_surely : {A B : Type 0} {overflows_a : A → ℕ → Type 0} {overflows_b : B → ℕ → Type 0} {IsFirst IsSecond : Datum → Type 0}
     {fits_a : A → List Datum → Type 0} {fits_b : B → List Datum → Type 0}
-    → ((a : A) (n : ℕ) → passes_a a n → (ds : List Datum) → All IsFirst ds → length ds ≡ n → fits_a a ds → ⊥)
-    → ((b : B) (n : ℕ) → passes_b b n → (ds : List Datum) → All IsSecond ds → length ds ≡ n → fits_b b ds → ⊥)
-    → (e : TupleEncoder A B) (n : ℕ) → passes_a e.first n ⊎ passes_b e.second n → (ds : List Datum) → All (IsPairOf IsFirst IsSecond) ds → length ds ≡ n
+    → ((a : A) (n : ℕ) → overflows_a a n → (ds : List Datum) → All IsFirst ds → length ds ≡ n → fits_a a ds → ⊥)
+    → ((b : B) (n : ℕ) → overflows_b b n → (ds : List Datum) → All IsSecond ds → length ds ≡ n → fits_b b ds → ⊥)
+    → (e : TupleEncoder A B) (n : ℕ) → overflows_a e.first n ⊎ overflows_b e.second n → (ds : List Datum) → All (IsPairOf IsFirst IsSecond) ds → length ds ≡ n
     → fits_a e.first (map first_in ds) × fits_b e.second (map second_in ds) → ⊥
 both_surely {IsFirst} {IsSecond} of_first of_second e n (inl h) ds each size fits =
     of_first e.first n h (map first_in ds) (firsts_are IsFirst IsSecond ds each) (length-map ds first_in ∙ size) fits.0

@@ -28,7 +28,7 @@ impl<A: HoldsColumns, B: HoldsColumns> HoldsColumns for TupleEncoder<A, B> {
 
     ghost capacity = { λ e. A.capacity e.first + B.capacity e.second };
 
-    ghost surely_passes = { λ e n. A.surely_passes e.first n ⊎ B.surely_passes e.second n };
+    ghost surely_overflows = { λ e n. A.surely_overflows e.first n ⊎ B.surely_overflows e.second n };
 
     ghost overflows = { λ e n. A.overflows e.first n ⊎ ((n ≤ A.room e.first) × B.overflows e.second n) };
 }

@@ -1,7 +1,7 @@
 // The fields of a tuple, borrowed one by one, and encoders that take them so.
 ghost use Rattle.std.specs.Prelude.{◌≡◌, ◌≢◌, ◌+◌, ◌<◌, ◌≤◌, Bool, ◌&&◌, IsTrue, OnOk, IfErr};
 ghost use Rattle.bitcode_coder.specs.Columns.{emptied};
-ghost use Rattle.bitcode_coder.specs.Coding.{JoinsListing, PassesWithListing, IsWritingRefusal};
+ghost use Rattle.bitcode_coder.specs.Coder.{JoinsListing, OverflowsWithListing, IsWritingRefusal};
 
 use crate::encoder::TupleEncoder;
 use bitcode_coder::coder::{Encoder, HoldsColumns};
@@ -65,7 +65,7 @@ pub trait FieldsEncoder<F: Fields>: HoldsColumns {
         ensures joined { OnOk result (JoinsListing F.Whole.lists F.Whole.shape (F.whole fields.now) (Self.columns self.old) (Self.columns self.new)) }
         ensures room { OnOk result (Self.room self.old ≤ Self.room self.new + 1) }
         ensures form { emptied (Self.columns self.new) ≡ emptied (Self.columns self.old) }
-        ensures refused { IfErr result (λ e. IsWritingRefusal e.reason (PassesWithListing F.Whole.lists F.Whole.shape (F.whole fields.now) (Self.columns self.old))) }
+        ensures refused { IfErr result (λ e. IsWritingRefusal e.reason (OverflowsWithListing F.Whole.lists F.Whole.shape (F.whole fields.now) (Self.columns self.old))) }
         ensures free { IsTrue writes_free → IfErr result (λ e. e.reason ≢ Reason.OutOfMemory) };
 }
 

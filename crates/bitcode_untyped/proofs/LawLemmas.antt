@@ -15,7 +15,7 @@ use Rattle.bitcode_untyped.proofs.CompleteLemmas.{complete}
 use Rattle.bitcode_untyped.proofs.OnceLemmas.{one_datum}
 use Rattle.bitcode_untyped.proofs.BoundLemmas.{bounded}
 use Rattle.bitcode_untyped.proofs.EntryLemmas.{sound_columns, entered, columns_entered}
-use Rattle.bitcode_untyped.proofs.SpellingLemmas.{each_from_spelled, spelled_from_each, count_entries, count-le-entry_count, count-columns, eighth, texts_spell}
+use Rattle.bitcode_untyped.proofs.SpellingLemmas.{each_from_spelled, spelled_from_each, count_entries, count-le-entry_count, count-columns, size_bound, texts_spell}
 
 -- ---- the machine
 
@@ -40,7 +40,7 @@ spells_once s piece other rest left d e h k same =
     one_datum s d e (piece ++ rest) rest left h.of_shape k.of_shape a (subst (λ x. Spelled x (columns_of s e) left) (sym same) b)
 
 pub datum_takes_an_eighth : (s : ShapeTree) → IsSound s → DatumTakesAnEighth s
-datum_takes_an_eighth s good bytes d h = eighth (columns_of s d) bytes (sound_columns s good d) h.columns
+datum_takes_an_eighth s good bytes d h = size_bound (columns_of s d) bytes (sound_columns s good d) h.columns
 
 pub count_bound : (s : ShapeTree) (d : Datum) → IsOf s d → IsLimited s d → element_count d ≤ 65537 * entry_count (columns_of s d)
 count_bound s d of limited =

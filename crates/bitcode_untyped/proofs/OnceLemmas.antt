@@ -10,7 +10,7 @@ use Rattle.bitcode_untyped.specs.Walk.{Place, Use, use_at}
 use Rattle.bitcode_untyped.proofs.OneRunLemmas.{TakesOne, one_run}
 use Rattle.bitcode_untyped.proofs.SoundLemmas.{Spelled}
 use Rattle.bitcode_untyped.proofs.CompleteLemmas.{complete}
-use Rattle.bitcode_coder.proofs.ColumnLemmas.{SpellsColumn-once}
+use Rattle.bitcode_coder.proofs.ColumnLemmas.{SpellsColumn-unambiguous}
 
 pub next_one : (cs : List Opened) (p : Place) (k : Kind) (e f : Datum) (bs ds : List Opened) → TakesNext cs (use_at p k e) bs
     → TakesNext cs (use_at p k f) ds → (e ≡ f) × (bs ≡ ds)
@@ -40,7 +40,7 @@ takes_one a b c p k e f (inl x) (inl y) =
 takes_one a b c p k e f (inl x) (inr y) = absurd (let h : true ≡ false = sym (next_open a.opened (use_at p k e) b.opened x.0) ∙ y.0 in cc)
 takes_one a b c p k e f (inr x) (inl y) = absurd (let h : true ≡ false = sym (next_open a.opened (use_at p k f) c.opened y.0) ∙ x.0 in cc)
 takes_one a b c p k e f (inr x) (inr y) =
-    let r = (SpellsColumn-once k).once x.3 y.3 (e ∷ x.2) (f ∷ y.2) b.rest c.rest x.6 y.6 (x.4 ∙ sym y.4) (sym x.5 ∙ y.5) in
+    let r = (SpellsColumn-unambiguous k).unambiguous x.3 y.3 (e ∷ x.2) (f ∷ y.2) b.rest c.rest x.6 y.6 (x.4 ∙ sym y.4) (sym x.5 ∙ y.5) in
     let es : e ∷ x.2 ≡ f ∷ y.2 = r.0 in
     let opened : b.opened ≡ c.opened =
     x.7 ∙ ap (λ (zs : List Datum). let o : Opened = record { place = p; kind = k; entries = zs; taken = 1 } in a.opened ++ o ∷ []) es ∙ sym y.7 in

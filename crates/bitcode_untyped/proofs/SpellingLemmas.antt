@@ -7,14 +7,14 @@ use Rattle.std.proofs.lemmas.List.Elements.{All-nil, All-cons}
 use Rattle.std.proofs.lemmas.Bool.{cases_Bool}
 use Rattle.bitcode_shapes.specs.Datum.{Datum}
 use Rattle.bitcode_coder.specs.Columns.{Kind, bools, ints, lengths, texts, raws, variants, IsEntryOf, IsSoundKind, entry_count_of}
-use Rattle.bitcode_coder.specs.Spelling.{SpellsEach, texts_of, column_text, LengthsBelowLimitOf}
+use Rattle.bitcode_coder.specs.Spelling.{SpellsEach, texts_of, column_bytes, LengthsBelowLimitOf}
 use Rattle.std.specs.List.{AllByRecursion}
 use Rattle.bitcode_untyped.specs.Growing.{put}
 use Rattle.bitcode_untyped.specs.PlacedColumns.{same_place, PlacedColumn, columns, unplaced, entry_count}
 use Rattle.bitcode_untyped.specs.Walk.{Use}
 use Rattle.bitcode_untyped.proofs.GrowingLemmas.{columns_snoc}
 use Rattle.bitcode_untyped.proofs.SoundLemmas.{Spelled, sound}
-use Rattle.bitcode_coder.proofs.ColumnLemmas.{SpellsColumn-eighth, column_text-spells}
+use Rattle.bitcode_coder.proofs.ColumnLemmas.{SpellsColumn-size_bound, column_bytes-spells}
 
 pub all_from_recursion : {A : Type 0} (P : A → Type 0) (xs : List A) → AllByRecursion P xs → All P xs
 all_from_recursion P [] h = All-nil P
@@ -74,13 +74,13 @@ count-columns (u ∷ v) w =
     ap (λ x. count_entries (columns x)) (sym (append_assoc w (u ∷ []) v)) ∙ count-columns v (w ++ u ∷ []) in
     omega (arith, e, step)
 
-pub eighth : (cs : List PlacedColumn) (bytes : List ℕ) → AllByRecursion (λ (c : PlacedColumn). IsSoundKind c.kind) cs
+pub size_bound : (cs : List PlacedColumn) (bytes : List ℕ) → AllByRecursion (λ (c : PlacedColumn). IsSoundKind c.kind) cs
     → SpellsEach (unplaced cs) bytes → entry_count cs ≤ 8 * length bytes
-eighth [] bytes sound s = omega arith
-eighth (c ∷ cs) bytes sound s =
+size_bound [] bytes sound s = omega arith
+size_bound (c ∷ cs) bytes sound s =
     let e = sum_by-cons (λ (x : PlacedColumn). entry_count_of x.kind x.entries) c cs in
-    let a = SpellsColumn-eighth c.kind sound.0 s.front c.entries s.first in
-    let b = eighth cs s.back sound.1 s.second in
+    let a = SpellsColumn-size_bound c.kind sound.0 s.front c.entries s.first in
+    let b = size_bound cs s.back sound.1 s.second in
     let l : length bytes ≡ length s.front + length s.back = ap length s.whole ∙ length-append s.front s.back in
     omega (arith, e, a, b, l)
 
@@ -91,9 +91,9 @@ pub texts_spell : (cs : List PlacedColumn) → AllByRecursion (λ (c : PlacedCol
     → AllByRecursion (λ (c : PlacedColumn). LengthsBelowLimitOf c.kind c.entries) cs → SpellsEach (unplaced cs) (texts_of (unplaced cs))
 texts_spell [] sound each below = refl
 texts_spell (c ∷ cs) sound each below = record {
-  front = column_text c.kind c.entries;
+  front = column_bytes c.kind c.entries;
   back = texts_of (unplaced cs);
   whole = refl;
-  first = column_text-spells c.kind sound.0 c.entries (all_from_recursion (IsEntryOf c.kind) c.entries each.0) below.0;
+  first = column_bytes-spells c.kind sound.0 c.entries (all_from_recursion (IsEntryOf c.kind) c.entries each.0) below.0;
   second = texts_spell cs sound.1 each.1 below.1;
 }

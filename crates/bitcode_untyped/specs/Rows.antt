@@ -8,8 +8,8 @@ use Rattle.bitcode_columns.specs.BoolColumn.{bool_text}
 use Rattle.bitcode_columns.specs.IntColumn.{int_text}
 use Rattle.bitcode_shapes.specs.Datum.{Datum, number, unit, text, list, tuple, choice, pair, data_of}
 use Rattle.bitcode_coder.specs.Columns.{bools, ints}
-use Rattle.bitcode_coder.specs.LengthColumn.{length_text}
-use Rattle.bitcode_coder.specs.TextColumn.{texts_text}
+use Rattle.bitcode_coder.specs.LengthColumn.{length_bytes}
+use Rattle.bitcode_coder.specs.TextColumn.{texts_bytes}
 use Rattle.bitcode_coder.specs.Spelling.{natural}
 use Rattle.bitcode_untyped.specs.ShapeTree.{ShapeTree, IsOf, unit_tree, never_tree, seq_tree, map_tree, tuple_tree, choice_tree, bool_tree, natural_tree, integer_tree, text_tree, option_tree}
 use Rattle.bitcode_untyped.specs.View.{trees_of}
@@ -54,37 +54,37 @@ first_uses : columns_of lists_and_bytes_tree lists_and_bytes
 first_uses = refl
 
 lists_and_bytes_text : datum_text lists_and_bytes_tree lists_and_bytes ≡ 2 ∷ 0 ∷ 1 ∷ 0 ∷ 1 ∷ 1 ∷ []
-unfolding bool_text length_text int_text byte_text tagged_text digits_text raw_text
+unfolding bool_text length_bytes int_text byte_text tagged_text digits_text raw_text
 lists_and_bytes_text = refl
 
 -- a byte that every element uses stands before the payloads that one of them uses later
 options_and_bytes_text : datum_text (seq_tree (pair_tree (option_tree (natural_tree 1)) (natural_tree 1)))
     (seq (pair none (natural 3) ∷ pair (some (natural 4)) (natural 5) ∷ [])) ≡ 2 ∷ 0 ∷ 1 ∷ 3 ∷ 5 ∷ 4 ∷ []
-unfolding length_text int_text byte_text tagged_text digits_text raw_text
+unfolding length_bytes int_text byte_text tagged_text digits_text raw_text
 options_and_bytes_text = refl
 
 -- variants come as they are met: the second one first
 results_text : datum_text (seq_tree (enum_tree (bool_tree ∷ natural_tree 4 ∷ [])))
     (seq (choice 1 (natural 1) ∷ choice 0 (natural 0) ∷ [])) ≡ 2 ∷ 1 ∷ 0 ∷ 4 ∷ 1 ∷ 0 ∷ []
-unfolding bool_text length_text int_text byte_text tagged_text digits_text raw_text
+unfolding bool_text length_bytes int_text byte_text tagged_text digits_text raw_text
 results_text = refl
 
 -- ---- all elements of a place stand together, those of several lists too
 
 lists_of_bytes_text : datum_text (seq_tree (seq_tree (natural_tree 1)))
     (seq (seq (natural 1 ∷ []) ∷ seq (natural 2 ∷ natural 3 ∷ []) ∷ [])) ≡ 2 ∷ 1 ∷ 2 ∷ 6 ∷ 57 ∷ []
-unfolding length_text int_text byte_text tagged_text digits_text raw_text
+unfolding length_bytes int_text byte_text tagged_text digits_text raw_text
 lists_of_bytes_text = refl
 
 signed_bytes_text : datum_text (seq_tree (integer_tree 1))
     (seq (natural 0 ∷ minus_one ∷ natural 0 ∷ minus_one ∷ natural 0 ∷ minus_one ∷ natural 0 ∷ [])) ≡ 7 ∷ 9 ∷ 255 ∷ 85 ∷ []
-unfolding length_text int_text byte_text tagged_text digits_text raw_text
+unfolding length_bytes int_text byte_text tagged_text digits_text raw_text
 signed_bytes_text = refl
 
 -- ---- maps, tuples, options, and the greatest index
 
 map_text : datum_text (map_tree (natural_tree 1) text_tree) (seq (pair (natural 1) (text (97 ∷ [])) ∷ [])) ≡ 1 ∷ 1 ∷ 1 ∷ 97 ∷ []
-unfolding texts_text length_text int_text byte_text tagged_text digits_text raw_text
+unfolding texts_bytes length_bytes int_text byte_text tagged_text digits_text raw_text
 map_text = refl
 
 -- the field of a tuple of one stands at the tuple's own place
@@ -104,13 +104,13 @@ unfolding int_text byte_text tagged_text digits_text raw_text
 greatest_index_text = refl
 
 no_elements_text : datum_text (seq_tree (enum_tree [])) (seq []) ≡ 0 ∷ []
-unfolding length_text int_text byte_text tagged_text digits_text raw_text
+unfolding length_bytes int_text byte_text tagged_text digits_text raw_text
 no_elements_text = refl
 
 -- ---- elements without a column: a length, whatever the limit on reading is
 
 units_text : datum_text (seq_tree unit_tree) (seq (replicate 65537 unit)) ≡ 255 ∷ 2 ∷ 1 ∷ 0 ∷ 1 ∷ 0 ∷ []
-unfolding length_text int_text byte_text tagged_text digits_text raw_text
+unfolding length_bytes int_text byte_text tagged_text digits_text raw_text
 units_text = refl
 
 -- ---- references, followed at most so often: each depth of a value has columns of its own
@@ -121,7 +121,7 @@ nested_tree zero = never_tree
 nested_tree (suc left) = seq_tree (nested_tree left)
 
 nested_text : datum_text (nested_tree 129) (seq (seq [] ∷ seq (seq [] ∷ []) ∷ [])) ≡ 2 ∷ 0 ∷ 1 ∷ 0 ∷ []
-unfolding length_text int_text byte_text tagged_text digits_text raw_text
+unfolding length_bytes int_text byte_text tagged_text digits_text raw_text
 nested_text = refl
 
 -- the table [Seq(Ref 1), Option(Ref 0)]
@@ -130,7 +130,7 @@ turn_tree zero = never_tree
 turn_tree (suc left) = seq_tree (option_tree (turn_tree left))
 
 turn_text : datum_text (turn_tree 65) (seq (some (seq []) ∷ none ∷ [])) ≡ 2 ∷ 1 ∷ 0 ∷ 0 ∷ []
-unfolding length_text int_text byte_text tagged_text digits_text raw_text
+unfolding length_bytes int_text byte_text tagged_text digits_text raw_text
 turn_text = refl
 
 -- the table [Enum(Unit, Tuple(U8, Ref 0))]

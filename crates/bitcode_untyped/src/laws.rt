@@ -22,9 +22,9 @@ pub fn columns_decide()
 /// spelled_data();
 /// ```
 pub fn spelled_data()
-    ensures back { (shape : ShapeTree) → IsSound shape → ReadsBackDatum shape }
-    ensures once { (shape : ShapeTree) → SpellsOnce shape }
-    ensures eighth { (shape : ShapeTree) → IsSound shape → DatumTakesAnEighth shape }
+    ensures round_trip { (shape : ShapeTree) → IsSound shape → ReadsBackDatum shape }
+    ensures unambiguous { (shape : ShapeTree) → SpellsOnce shape }
+    ensures size_bound { (shape : ShapeTree) → IsSound shape → DatumTakesAnEighth shape }
     ensures bounded { (shape : ShapeTree) → IsSound shape → ElementsAreBounded shape }
 {}
 

@@ -24,7 +24,7 @@ fn print_rows_to_11(rt: &impl Print, alloc: Global) -> io::Result<bool> {
     all_ok &= print_row(rt, 2, rows::bools(alloc))?;
     all_ok &= print_row(rt, 3, rows::texts::number_and_text(alloc))?;
     all_ok &= print_row(rt, 4, rows::arrays::three_bytes(alloc))?;
-    all_ok &= print_row(rt, 5, rows::sequences::shifted_integers(alloc))?;
+    all_ok &= print_row(rt, 5, rows::lists::shifted_integers(alloc))?;
     all_ok &= print_row(rt, 6, rows::lengths::lengths_written(alloc))?;
     all_ok &= print_row(rt, 7, rows::lengths::lengths_read(alloc))?;
     all_ok &= print_row(rt, 8, rows::arrays::more_bytes_than_a_length(alloc))?;
@@ -37,12 +37,12 @@ fn print_rows_to_11(rt: &impl Print, alloc: Global) -> io::Result<bool> {
 /// Runs rows 12 to 25 in order, and answers whether all of them are ok.
 fn print_rows_to_25(rt: &impl Print, alloc: Global) -> io::Result<bool> {
     let mut all_ok = print_row(rt, 12, rows::fixed_capacity::two_bytes(alloc))?;
-    all_ok &= print_row(rt, 13, rows::collections::equal_keys(alloc))?;
+    all_ok &= print_row(rt, 13, rows::maps::equal_keys(alloc))?;
     all_ok &= print_row(rt, 14, rows::untyped::lists::columns_by_first_use(alloc))?;
     all_ok &= print_row(rt, 15, rows::untyped::recursion(alloc))?;
     all_ok &= print_row(rt, 16, rows::untyped::limits(alloc))?;
     all_ok &= print_row(rt, 17, rows::texts::durations(alloc))?;
-    all_ok &= print_row(rt, 18, rows::sequences::many_bools(alloc))?;
+    all_ok &= print_row(rt, 18, rows::lists::many_bools(alloc))?;
     all_ok &= print_row(rt, 19, rows::tuples::identifier(alloc))?;
     all_ok &= print_row(rt, 20, rows::buffers::emptied_list(alloc))?;
     all_ok &= print_row(rt, 21, rows::pair(alloc))?;
@@ -68,15 +68,15 @@ fn print_rows_to_33(rt: &impl Print, alloc: Global) -> io::Result<bool> {
 
 /// Runs rows 35 to 45 in order, and answers whether all of them are ok.
 fn print_rows_to_45(rt: &impl Print, alloc: Global) -> io::Result<bool> {
-    let mut all_ok = print_row(rt, 35, rows::sequences::late_least(alloc))?;
-    all_ok &= print_row(rt, 36, rows::sequences::nested_lists(alloc))?;
+    let mut all_ok = print_row(rt, 35, rows::lists::late_least(alloc))?;
+    all_ok &= print_row(rt, 36, rows::lists::nested_lists(alloc))?;
     all_ok &= print_row(rt, 37, rows::texts::texts_read(alloc))?;
     all_ok &= print_row(rt, 38, rows::texts::texts_written(alloc))?;
     all_ok &= print_row(rt, 39, rows::choices::one_variant_and_none(alloc))?;
     all_ok &= print_row(rt, 40, rows::variants::raw_variants(alloc))?;
     all_ok &= print_row(rt, 41, rows::composites(alloc))?;
     all_ok &= print_row(rt, 42, rows::arrays::more_units_than_a_length(alloc))?;
-    all_ok &= print_row(rt, 43, rows::collections::sets_and_heaps(alloc))?;
+    all_ok &= print_row(rt, 43, rows::sets_and_heaps(alloc))?;
     all_ok &= print_row(rt, 44, rows::fixed_capacity::two_letters(alloc))?;
     all_ok &= print_row(rt, 45, rows::buffers::one_after_the_other(alloc))?;
     Ok(all_ok)

@@ -7,10 +7,12 @@ pub mod arrays;
 pub mod buffers;
 pub mod byte_columns;
 pub mod choices;
-pub mod collections;
 pub mod fixed_capacity;
+pub mod heaps;
 pub mod lengths;
-pub mod sequences;
+pub mod lists;
+pub mod maps;
+pub mod sets;
 pub mod texts;
 pub mod tuples;
 pub mod untyped;
@@ -62,4 +64,11 @@ pub fn words_read(alloc: Global) -> Result<(), Got> {
 pub fn composites(alloc: Global) -> Result<(), Got> {
     arrays::seven_signed_bytes(alloc)?;
     tuples::fields_and_pointers(alloc)
+}
+
+/// Equal elements in a set and in a heap, and a hashed map.
+pub fn sets_and_heaps(alloc: Global) -> Result<(), Got> {
+    sets::equal_elements(alloc)?;
+    heaps::heap_of_three(alloc)?;
+    maps::hashed_pair(alloc)
 }

@@ -2,8 +2,8 @@
 ghost use Rattle.std.specs.Prelude.{◌≡◌, ◌<◌, true, false, pos, refl};
 ghost use Rattle.bitcode_shapes.specs.Checked.{below_second, nanosecond_shape, IsCheckedValue};
 ghost use Rattle.bitcode_shapes.specs.SameArrays.{one_datum_same_arrays};
-ghost use Rattle.bitcode_shapes.specs.Values.{ListsNumber, MakesNumber, SameNumber};
-ghost use Rattle.bitcode_shapes.specs.LawfulValues.{width_4};
+ghost use Rattle.bitcode_shapes.specs.Ints.{ListsNumber, MakesNumber, SameNumber};
+ghost use Rattle.bitcode_shapes.specs.LawfulInts.{width_4};
 ghost use Rattle.bitcode_shapes.specs.LawfulChecked.{checked_lawful};
 ghost use Rattle.bitcode_shapes.specs.LawfulDurations.{nanosecond_makeable};
 

@@ -6,7 +6,7 @@ ghost use Rattle.std.proofs.Common.{inl, inr};
 use crate::column_int::ColumnInt;
 use bitcode_columns::error::Error;
 use bitcode_columns::fast::CowSlice;
-use bitcode_columns::int_types::Int;
+use bitcode_columns::ints::Int;
 use bitcode_columns::pack_ints::{pack_ints, unpack_ints};
 use std::alloc::Global;
 

@@ -1,5 +1,5 @@
 // The coder that lengths are read from.
-#![tactic(auto, unfolding(crate::specs::LengthCoders::short_left, crate::specs::LengthCoders::large_left, crate::specs::LengthCoders::lengths_left, crate::specs::LengthCoders::lengths_sum, crate::specs::LengthCoders::lengths_owned))]
+#![tactic(auto, unfolding(crate::specs::Length::short_left, crate::specs::Length::large_left, crate::specs::Length::lengths_left, crate::specs::Length::lengths_sum, crate::specs::Length::lengths_owned))]
 
 ghost use Rattle.std.specs.Prelude.{◌≡◌, ◌≢◌, ℕ, ◌+◌, ◌<◌, ◌≤◌, [], ◌∷◌, Some, None, length, drop, sum, All, MatchBool, IfOk, OnOk, IfErr, OnErr};
 ghost use Rattle.bitcode_columns.specs.Fast.{cow_rest};
@@ -58,7 +58,7 @@ fn any_byte_over(bytes: &[u8], limit: usize) -> bool
 }
 
 impl<'a> LengthDecoder<'a> {
-    ghost use Rattle.bitcode_coder.specs.LengthCoders.{short_left, large_left, lengths_left, lengths_sum, lengths_owned};
+    ghost use Rattle.bitcode_coder.specs.Length.{short_left, large_left, lengths_left, lengths_sum, lengths_owned};
 
     /// Holds no lengths. Takes no memory.
     pub fn new(alloc: Global) -> Self

@@ -1,13 +1,13 @@
 // The coder that lengths are written to.
-#![tactic(auto, unfolding(crate::specs::LengthCoders::written_lengths, crate::specs::LengthCoders::length_room, crate::specs::LengthCoders::length_capacity))]
+#![tactic(auto, unfolding(crate::specs::Length::written_lengths, crate::specs::Length::length_room, crate::specs::Length::length_capacity))]
 
 ghost use Rattle.std.specs.Prelude.{◌≡◌, ◌+◌, ◌<◌, ◌++◌, [], ◌∷◌, None, map, pos, IsOk, OnOk, IfErr, OnErr};
 ghost use Rattle.bitcode_columns.specs.ByteColumn.{byte_text};
 ghost use Rattle.bitcode_columns.specs.Fast.{fast_items};
 ghost use Rattle.bitcode_columns.specs.IntColumn.{int_text};
-ghost use Rattle.bitcode_coder.specs.Coding.{BeginsWith};
+ghost use Rattle.bitcode_coder.specs.Coder.{BeginsWith};
 ghost use Rattle.bitcode_coder.specs.Columns.{lengths, one};
-ghost use Rattle.bitcode_coder.specs.LengthParts.{IsSplit};
+ghost use Rattle.bitcode_coder.specs.LengthParts.{AreLengthParts};
 ghost use Rattle.bitcode_coder.specs.Spelling.{natural};
 
 use crate::coder::{Buffer, HoldsColumns};
@@ -27,7 +27,7 @@ pub struct LengthEncoder {
     alloc: Global,
     small: FastVec<u8>,
     large: Vec<u64>,
-    ghost split: { IsSplit (fast_items small) large.items },
+    ghost split: { AreLengthParts (fast_items small) large.items },
 }
 
 // Writes both parts of a column. They are scratch afterwards.
@@ -46,7 +46,7 @@ fn pack_parts(
 }
 
 impl HoldsColumns for LengthEncoder {
-    ghost use Rattle.bitcode_coder.specs.LengthCoders.{written_lengths, length_room, length_capacity};
+    ghost use Rattle.bitcode_coder.specs.Length.{written_lengths, length_room, length_capacity};
 
     ghost columns = { λ e. one (lengths None) (map natural (written_lengths e)) };
 
@@ -54,7 +54,7 @@ impl HoldsColumns for LengthEncoder {
 
     ghost capacity = { length_capacity };
 
-    ghost surely_passes = { λ e n. ⊥ };
+    ghost surely_overflows = { λ e n. ⊥ };
 
     ghost overflows = { λ e n. ⊥ };
 }
@@ -86,7 +86,7 @@ impl Buffer for LengthEncoder {
 }
 
 impl LengthEncoder {
-    ghost use Rattle.bitcode_coder.specs.LengthCoders.{written_lengths, length_room};
+    ghost use Rattle.bitcode_coder.specs.Length.{written_lengths, length_room};
 
     /// Writes a length. Room for it was reserved.
     ///

@@ -8,7 +8,7 @@ ghost use Rattle.bitcode_shapes.specs.Datum.{text};
 ghost use Rattle.bitcode_shapes.specs.Shape.{text_shape};
 ghost use Rattle.bitcode_coder.specs.Cutting.{cut};
 ghost use Rattle.bitcode_coder.specs.JoinedTexts.{ends_from};
-ghost use Rattle.bitcode_coder.specs.LengthCoders.{short_left, large_left, lengths_left, lengths_owned};
+ghost use Rattle.bitcode_coder.specs.Length.{short_left, large_left, lengths_left, lengths_owned};
 ghost use Rattle.bitcode_coder.specs.LengthParts.{ReadsParts};
 ghost use Rattle.bitcode_coder.specs.Spelling.{Spells};
 ghost use Rattle.bitcode_coder.specs.TextParts.{NamesTextFault};

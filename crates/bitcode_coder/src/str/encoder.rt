@@ -3,11 +3,11 @@ ghost use Rattle.std.specs.Prelude.{◌≡◌, ◌+◌, ◌++◌, [], None, fals
 ghost use Rattle.std.proofs.Common.{sym};
 ghost use Rattle.bitcode_columns.specs.Fast.{fast_items, fast_capacity};
 ghost use Rattle.bitcode_shapes.specs.Datum.{text};
-ghost use Rattle.bitcode_coder.specs.Coding.{BeginsWith};
+ghost use Rattle.bitcode_coder.specs.Coder.{BeginsWith};
 ghost use Rattle.bitcode_coder.specs.Columns.{texts, one};
 ghost use Rattle.bitcode_coder.specs.Cutting.{cut};
-ghost use Rattle.bitcode_coder.specs.LengthCoders.{written_lengths, length_room, length_capacity};
-ghost use Rattle.bitcode_coder.specs.LengthColumn.{length_text};
+ghost use Rattle.bitcode_coder.specs.Length.{written_lengths, length_room, length_capacity};
+ghost use Rattle.bitcode_coder.specs.LengthColumn.{length_bytes};
 
 use crate::coder::{Buffer, Encoder, HoldsColumns};
 use crate::length::LengthEncoder;
@@ -34,7 +34,7 @@ pub struct StrEncoder {
 
 // Writes both parts of a column. The lengths are to be cleared afterwards.
 fn pack_texts(lengths: &mut LengthEncoder, bytes: &[u8], out: &mut Vec<u8>) -> Result<(), Error>
-    ensures written { OnOk result (out.new.items ≡ out.old.items ++ (length_text (written_lengths lengths.old) ++ bytes.now)) }
+    ensures written { OnOk result (out.new.items ≡ out.old.items ++ (length_bytes (written_lengths lengths.old) ++ bytes.now)) }
     ensures begins { BeginsWith out.old.items out.new.items }
     ensures reason { IfErr result (λ e. e.reason ≡ Reason.OutOfMemory) }
 {
@@ -50,7 +50,7 @@ impl HoldsColumns for StrEncoder {
 
     ghost capacity = { λ e. length_capacity e.lengths + fast_capacity e.bytes };
 
-    ghost surely_passes = { λ e n. ⊥ };
+    ghost surely_overflows = { λ e n. ⊥ };
 
     ghost overflows = { λ e n. ⊥ };
 }

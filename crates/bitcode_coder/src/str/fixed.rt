@@ -5,7 +5,7 @@ ghost use Rattle.bitcode_columns.specs.Fast.{slice_rest};
 ghost use Rattle.bitcode_shapes.specs.Datum.{text};
 ghost use Rattle.bitcode_shapes.specs.Shape.{text_shape};
 ghost use Rattle.bitcode_coder.specs.Cutting.{cut};
-ghost use Rattle.bitcode_coder.specs.LengthCoders.{lengths_left, lengths_owned};
+ghost use Rattle.bitcode_coder.specs.Length.{lengths_left, lengths_owned};
 ghost use Rattle.bitcode_coder.specs.TextParts.{NamesLimitedTextFault};
 
 use crate::coder::{Decoder, HoldsData, View};

@@ -5,24 +5,21 @@ ghost use Rattle.bitcode_columns.specs.ByteColumn.{SpellsBytes, byte_text, highe
 ghost use Rattle.bitcode_columns.specs.ByteForm.{TellsForm};
 ghost use Rattle.bitcode_columns.specs.Digits.{base_for};
 ghost use Rattle.bitcode_columns.specs.Fast.{cow_rest};
-ghost use Rattle.bitcode_columns.specs.Numbers.{residue};
+ghost use Rattle.bitcode_columns.specs.Ints.{residue};
 ghost use Rattle.bitcode_columns.specs.Reading.{Reads, IsEndOf, Names, tagged_fault, bytes_fault, bytes_stand_raw};
 
 use crate::consume::{consume_byte, consume_bytes};
 use crate::digits::{pack_digits, unpack_digits};
 use crate::error::{Error, Reason};
 use crate::fast::CowSlice;
-use crate::int_types::Byte;
-use crate::pack::Base;
-use crate::pack_ints::minmax;
+use crate::ints::Byte;
+use crate::minmax::minmax;
+use crate::pack::{Base, MOST_WITHOUT_TAG};
 use crate::refuse::err;
 use std::alloc::Global;
 
 /// The tag of the highest level.
 const HIGHEST_TAG: u8 = 10;
-
-/// A column of at most so many bytes stands without a tag.
-const MOST_WITHOUT_TAG: usize = 2;
 
 /// At most so many bytes are never written as what lies above the least of them.
 const MOST_UNSHIFTED: usize = 5;

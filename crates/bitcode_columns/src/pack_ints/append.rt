@@ -1,15 +1,15 @@
 // Appending the column of some integers.
 ghost use Rattle.std.specs.Prelude.{◌≡◌, ◌≢◌, ◌+◌, ◌-◌, ◌*◌, ◌%◌, ◌^◌, ◌<◌, ◌≤◌, ◌∷◌, ◌++◌, true, false, length, map, vec_len, vec_capacity, IsOk, OnOk, IfErr};
 ghost use Rattle.bitcode_columns.specs.LittleEndian.{number_bytes};
-ghost use Rattle.bitcode_columns.specs.Numbers.{residue, least, greatest};
+ghost use Rattle.bitcode_columns.specs.Ints.{residue, least, greatest};
 ghost use Rattle.bitcode_columns.specs.Narrowing.{above, plain_width, shifted_width, narrow_width, TakesNoScratch, IsFrontOf};
-ghost use Rattle.bitcode_columns.specs.Widths.{IsWidth};
+ghost use Rattle.bitcode_columns.specs.IntWidths.{IsWidth};
 ghost use Rattle.bitcode_columns.specs.IntColumn.{halvings, narrow_text, int_level_for, text_at_int_level, int_text};
 ghost use Rattle.bitcode_columns.specs.Tagged.{tag_of, tagged_text};
 
 use crate::error::{Error, Reason};
-use crate::int_types::{Int, SizedUInt};
-use crate::pack_ints::bounds::bounds;
+use crate::ints::{Int, SizedUInt};
+use crate::minmax::bounds;
 use crate::pack_ints::width::{is_bare, is_shifted, plain_width, shifted_width, tag_for};
 use crate::pack_ints::write::{write_column, write_narrow, write_numbers};
 use std::alloc::Global;

@@ -4,7 +4,7 @@ ghost use Rattle.std.specs.Simd.{first_chunks};
 ghost use Rattle.bitcode_columns.specs.declared.error.Reason.{Reason};
 ghost use Rattle.bitcode_columns.specs.Fast.{cow_rest};
 ghost use Rattle.bitcode_columns.specs.ByteColumn.{SpellsBytes};
-ghost use Rattle.bitcode_columns.specs.Widths.{IsWidth};
+ghost use Rattle.bitcode_columns.specs.IntWidths.{IsWidth};
 ghost use Rattle.bitcode_columns.specs.IntColumn.{SpellsInts, SpellsNarrow, SpellsAtIntLevel, tagged_form, halvings, highest_int_tag, width_at_level};
 ghost use Rattle.bitcode_columns.specs.IntHeader.{TellsLevel, ReadsWidened};
 ghost use Rattle.bitcode_columns.specs.LittleEndian.{SpellsRaw, little_endian};
@@ -14,14 +14,11 @@ ghost use Rattle.bitcode_columns.specs.Reading.{Reads, IsEndOf, Names, missing, 
 use crate::consume::{consume_byte, consume_bytes};
 use crate::error::{Error, Reason};
 use crate::fast::CowSlice;
-use crate::int_types::{Int, SizedUInt, known_bytes};
-use crate::pack::unpack_bytes;
+use crate::ints::{Int, SizedUInt, known_bytes};
+use crate::pack::{MOST_WITHOUT_TAG, unpack_bytes};
 use crate::pack_ints::width::halvings;
 use crate::refuse::err;
 use std::alloc::Global;
-
-// At most so many bytes stand without a tag.
-const MOST_WITHOUT_TAG: usize = 2;
 
 // The bytes of a narrow number and the least entry together.
 fn widened<T: Int>(narrow: u128, least: T::Unsigned) -> T::Une

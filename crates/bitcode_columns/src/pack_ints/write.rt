@@ -1,14 +1,14 @@
 // Writing the numbers of a column at a width.
 ghost use Rattle.std.specs.Prelude.{◌≡◌, ◌≢◌, ◌+◌, ◌*◌, ◌%◌, ◌^◌, ◌≤◌, ◌++◌, length, map, All, vec_len, vec_capacity, IsOk, IfOk, OnOk, IfErr};
 ghost use Rattle.bitcode_columns.specs.ByteColumn.{byte_text};
-ghost use Rattle.bitcode_columns.specs.Widths.{IsWidth};
+ghost use Rattle.bitcode_columns.specs.IntWidths.{IsWidth};
 ghost use Rattle.bitcode_columns.specs.IntColumn.{narrow_text};
 ghost use Rattle.bitcode_columns.specs.LittleEndian.{raw_text};
 ghost use Rattle.bitcode_columns.specs.Narrowing.{above, IsFrontOf};
-ghost use Rattle.bitcode_columns.specs.Numbers.{IsNumber, number_of};
+ghost use Rattle.bitcode_columns.specs.Ints.{IsNumber, number_of};
 
 use crate::error::{Error, Reason};
-use crate::int_types::{Byte, Int, SizedUInt};
+use crate::ints::{Byte, Int, SizedUInt};
 use crate::pack::pack_bytes;
 use std::alloc::Global;
 

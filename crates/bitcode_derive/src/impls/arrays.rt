@@ -1,7 +1,7 @@
 // Written by scripts/tables/types.
 // The coders of arrays.
 use crate::derive::{DecodeOwned, HasDecoder, HasEncoder};
-use bitcode_parts::array::{ArrayDecoder, ArrayEncoder};
+use bitcode_parts::arrays::{ArrayDecoder, ArrayEncoder};
 
 impl<T: HasEncoder, const N: usize> HasEncoder for [T; N] {
     type Encoder = ArrayEncoder<T::Encoder, N>;

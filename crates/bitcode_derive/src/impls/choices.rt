@@ -1,8 +1,8 @@
 // Written by scripts/tables/types.
 // The coders of options and results.
 use crate::derive::{DecodeOwned, HasDecoder, HasEncoder};
-use bitcode_parts::option::{OptionDecoder, OptionEncoder};
-use bitcode_parts::result::{ResultDecoder, ResultEncoder};
+use bitcode_parts::choices::option::{OptionDecoder, OptionEncoder};
+use bitcode_parts::choices::result::{ResultDecoder, ResultEncoder};
 
 impl<T: HasEncoder> HasEncoder for Option<T> {
     type Encoder = OptionEncoder<T::Encoder>;

@@ -4,7 +4,7 @@ use crate::derive::{DecodeOwned, HasDecoder, HasEncoder};
 use arrayvec::{ArrayString, ArrayVec};
 use bitcode_coder::str::{ArrayStringDecoder, StrEncoder};
 use bitcode_parts::fixed_capacity::ArrayVecDecoder;
-use bitcode_parts::vec::VecEncoder;
+use bitcode_parts::lists::vec::VecEncoder;
 use std::default::Default;
 
 impl<const N: usize> HasEncoder for ArrayString<N> {

@@ -1,9 +1,9 @@
 // Written by scripts/tables/types.
 // The coders of boxes, shared pointers and their slices.
 use crate::derive::{DecodeOwned, HasDecoder, HasEncoder};
-use bitcode_parts::deref::DerefEncoder;
-use bitcode_parts::from::FromDecoder;
-use bitcode_parts::vec::{VecDecoder, VecEncoder};
+use bitcode_parts::lists::vec::{VecDecoder, VecEncoder};
+use bitcode_parts::pointers::deref::DerefEncoder;
+use bitcode_parts::pointers::from::FromDecoder;
 use std::boxed::BoxedSlice;
 use std::rc::{Rc, RcSlice};
 

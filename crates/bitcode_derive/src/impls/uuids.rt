@@ -2,7 +2,7 @@
 // The coders of UUIDs.
 use crate::derive::{DecodeOwned, HasDecoder, HasEncoder};
 use bitcode_coder::int::{IntDecoder, IntEncoder};
-use bitcode_parts::array::{ArrayDecoder, ArrayEncoder};
+use bitcode_parts::arrays::{ArrayDecoder, ArrayEncoder};
 use bitcode_parts::convert::{ConvertFromDecoder, ConvertIntoEncoder};
 use bitcode_parts::uuids::UuidConversion;
 use uuid::Uuid;

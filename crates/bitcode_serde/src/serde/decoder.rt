@@ -2,13 +2,13 @@
 #![tactic(auto, using(crate::proofs::IndexLemmas::indices_refused), unfolding(crate::specs::Indices::indices_left, crate::specs::Indices::indices_owned, crate::specs::Indices::index_count))]
 
 ghost use Rattle.std.specs.Prelude.{pos, ◌≡◌, ◌≢◌, ℕ, ◌<◌, ◌≤◌, [], length, true, false, refl, IsTrue, IsOk, All, ◌++◌, map, IfOk, OnOk, IfErr, OnErr, MatchOption};
-ghost use Rattle.bitcode_columns.specs.Counts.{AreCounts};
+ghost use Rattle.bitcode_columns.specs.Histogram.{AreCounts};
 ghost use Rattle.bitcode_columns.specs.Reading.{Reads, IsEndOf};
 ghost use Rattle.bitcode_coder.specs.Faults.{NamesIntsFault};
 ghost use Rattle.bitcode_shapes.specs.Datum.{Datum, number};
-ghost use Rattle.bitcode_shapes.specs.Values.{int_shape, MakesNumber};
+ghost use Rattle.bitcode_shapes.specs.Ints.{int_shape, MakesNumber};
 ghost use Rattle.bitcode_coder.specs.Spelling.{Spells};
-ghost use Rattle.bitcode_coder.specs.Coding.{IsReadingRefusal, TakesDatum};
+ghost use Rattle.bitcode_coder.specs.Coder.{IsReadingRefusal, TakesDatum};
 ghost use Rattle.bitcode_untyped.specs.Population.{count_of};
 
 use bitcode_coder::coder::{Decoder, HoldsData, View};

@@ -36,7 +36,7 @@ impl HoldsColumns for VariantEncoder {
 
     ghost capacity = { index_capacity };
 
-    ghost surely_passes = { λ e n. ⊥ };
+    ghost surely_overflows = { λ e n. ⊥ };
 
     ghost overflows = { λ e n. ⊥ };
 }

@@ -8,7 +8,7 @@ ghost use Rattle.std.specs.Vec.{vec_items};
 ghost use Rattle.std.specs.VecDeque.{deque_items};
 ghost use Rattle.bitcode_shapes.specs.KeyLaws.{ones_told, bools_told, naturals_told, texts_told, images_told, sequences_told, options_told, results_told};
 ghost use Rattle.bitcode_shapes.specs.OrderedKeyLaws.{ordered_maps_told, ordered_sets_told};
-ghost use Rattle.bitcode_shapes.specs.Values.{IsValueOfWidth};
+ghost use Rattle.bitcode_shapes.specs.Ints.{IsValueOfWidth};
 
 use crate::keys::Key;
 use crate::shaped::Shaped;

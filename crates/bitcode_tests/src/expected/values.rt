@@ -96,3 +96,8 @@ where
     encodes(alloc, t, bytes)?;
     Ok(decode(alloc, bytes)?)
 }
+
+/// What was read is this.
+pub fn agrees(same: bool) -> Result<(), Got> {
+    if same { Ok(()) } else { Err(Got::AnotherValue) }
+}

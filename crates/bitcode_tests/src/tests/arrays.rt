@@ -94,9 +94,9 @@ fn nested_arrays_are_counted(rt: HostRuntime) -> Result<(), Fail> {
     let mut fits: ArrayEncoder<ArrayEncoder<EmptyCoder, 4294967296>, 4294967295> =
         ArrayEncoder::new(alloc);
     fits.reserve(1)?;
-    let mut passes: ArrayEncoder<ArrayEncoder<EmptyCoder, 4294967296>, 4294967296> =
+    let mut overflows: ArrayEncoder<ArrayEncoder<EmptyCoder, 4294967296>, 4294967296> =
         ArrayEncoder::new(alloc);
-    assert_eq!(rt; passes.reserve(1), err(Reason::LengthOverflow));
+    assert_eq!(rt; overflows.reserve(1), err(Reason::LengthOverflow));
     Ok(())
 }
 

@@ -2,7 +2,7 @@
 // Encoders of three to five fields that lie apart.
 ghost use Rattle.std.specs.Prelude.{◌≡◌, ◌≢◌, ℕ, ◌+◌, ◌<◌, ◌≤◌, Bool, [], IsTrue, OnOk, IfErr};
 ghost use Rattle.bitcode_coder.specs.Columns.{emptied};
-ghost use Rattle.bitcode_coder.specs.Coding.{written_columns, JoinsListing, PassesWithListing, SurelyPasses, IsWritingRefusal};
+ghost use Rattle.bitcode_coder.specs.Coder.{written_columns, JoinsListing, OverflowsWithListing, SurelyOverflows, IsWritingRefusal};
 
 use crate::fields::{Fields, FieldsEncoder};
 use bitcode_coder::coder::HoldsColumns;
@@ -31,12 +31,12 @@ pub trait FieldsEncoder3<T1: Shaped, T2: Shaped, T3: Shaped>: HoldsColumns {
         ensures joined { OnOk result (JoinsListing ⟦<(T1, T2, T3) as Shaped>⟧.lists ⟦<(T1, T2, T3) as Shaped>⟧.shape (t1.now, t2.now, t3.now) (Self.columns self.old) (Self.columns self.new)) }
         ensures room { OnOk result (Self.room self.old ≤ Self.room self.new + 1) }
         ensures form { emptied (Self.columns self.new) ≡ emptied (Self.columns self.old) }
-        ensures refused { IfErr result (λ e. IsWritingRefusal e.reason (PassesWithListing ⟦<(T1, T2, T3) as Shaped>⟧.lists ⟦<(T1, T2, T3) as Shaped>⟧.shape (t1.now, t2.now, t3.now) (Self.columns self.old))) }
+        ensures refused { IfErr result (λ e. IsWritingRefusal e.reason (OverflowsWithListing ⟦<(T1, T2, T3) as Shaped>⟧.lists ⟦<(T1, T2, T3) as Shaped>⟧.shape (t1.now, t2.now, t3.now) (Self.columns self.old))) }
         ensures free { IsTrue writes_free → IfErr result (λ e. e.reason ≢ Reason.OutOfMemory) };
 
     ghost of_shape: { (e : Self) → emptied (Self.columns e) ≡ written_columns ⟦<(T1, T2, T3) as Shaped>⟧.shape [] };
 
-    ghost surely: { (e : Self) (n : ℕ) → Self.surely_passes e n → SurelyPasses ⟦<(T1, T2, T3) as Shaped>⟧.shape (Self.columns e) n };
+    ghost surely: { (e : Self) (n : ℕ) → Self.surely_overflows e n → SurelyOverflows ⟦<(T1, T2, T3) as Shaped>⟧.shape (Self.columns e) n };
 }
 
 impl<'a, T1: Shaped, T2: Shaped, T3: Shaped, E: FieldsEncoder3<T1, T2, T3>> FieldsEncoder<
@@ -73,12 +73,12 @@ pub trait FieldsEncoder4<T1: Shaped, T2: Shaped, T3: Shaped, T4: Shaped>: HoldsC
         ensures joined { OnOk result (JoinsListing ⟦<(T1, T2, T3, T4) as Shaped>⟧.lists ⟦<(T1, T2, T3, T4) as Shaped>⟧.shape (t1.now, t2.now, t3.now, t4.now) (Self.columns self.old) (Self.columns self.new)) }
         ensures room { OnOk result (Self.room self.old ≤ Self.room self.new + 1) }
         ensures form { emptied (Self.columns self.new) ≡ emptied (Self.columns self.old) }
-        ensures refused { IfErr result (λ e. IsWritingRefusal e.reason (PassesWithListing ⟦<(T1, T2, T3, T4) as Shaped>⟧.lists ⟦<(T1, T2, T3, T4) as Shaped>⟧.shape (t1.now, t2.now, t3.now, t4.now) (Self.columns self.old))) }
+        ensures refused { IfErr result (λ e. IsWritingRefusal e.reason (OverflowsWithListing ⟦<(T1, T2, T3, T4) as Shaped>⟧.lists ⟦<(T1, T2, T3, T4) as Shaped>⟧.shape (t1.now, t2.now, t3.now, t4.now) (Self.columns self.old))) }
         ensures free { IsTrue writes_free → IfErr result (λ e. e.reason ≢ Reason.OutOfMemory) };
 
     ghost of_shape: { (e : Self) → emptied (Self.columns e) ≡ written_columns ⟦<(T1, T2, T3, T4) as Shaped>⟧.shape [] };
 
-    ghost surely: { (e : Self) (n : ℕ) → Self.surely_passes e n → SurelyPasses ⟦<(T1, T2, T3, T4) as Shaped>⟧.shape (Self.columns e) n };
+    ghost surely: { (e : Self) (n : ℕ) → Self.surely_overflows e n → SurelyOverflows ⟦<(T1, T2, T3, T4) as Shaped>⟧.shape (Self.columns e) n };
 }
 
 impl<
@@ -121,12 +121,12 @@ pub trait FieldsEncoder5<T1: Shaped, T2: Shaped, T3: Shaped, T4: Shaped, T5: Sha
         ensures joined { OnOk result (JoinsListing ⟦<(T1, T2, T3, T4, T5) as Shaped>⟧.lists ⟦<(T1, T2, T3, T4, T5) as Shaped>⟧.shape (t1.now, t2.now, t3.now, t4.now, t5.now) (Self.columns self.old) (Self.columns self.new)) }
         ensures room { OnOk result (Self.room self.old ≤ Self.room self.new + 1) }
         ensures form { emptied (Self.columns self.new) ≡ emptied (Self.columns self.old) }
-        ensures refused { IfErr result (λ e. IsWritingRefusal e.reason (PassesWithListing ⟦<(T1, T2, T3, T4, T5) as Shaped>⟧.lists ⟦<(T1, T2, T3, T4, T5) as Shaped>⟧.shape (t1.now, t2.now, t3.now, t4.now, t5.now) (Self.columns self.old))) }
+        ensures refused { IfErr result (λ e. IsWritingRefusal e.reason (OverflowsWithListing ⟦<(T1, T2, T3, T4, T5) as Shaped>⟧.lists ⟦<(T1, T2, T3, T4, T5) as Shaped>⟧.shape (t1.now, t2.now, t3.now, t4.now, t5.now) (Self.columns self.old))) }
         ensures free { IsTrue writes_free → IfErr result (λ e. e.reason ≢ Reason.OutOfMemory) };
 
     ghost of_shape: { (e : Self) → emptied (Self.columns e) ≡ written_columns ⟦<(T1, T2, T3, T4, T5) as Shaped>⟧.shape [] };
 
-    ghost surely: { (e : Self) (n : ℕ) → Self.surely_passes e n → SurelyPasses ⟦<(T1, T2, T3, T4, T5) as Shaped>⟧.shape (Self.columns e) n };
+    ghost surely: { (e : Self) (n : ℕ) → Self.surely_overflows e n → SurelyOverflows ⟦<(T1, T2, T3, T4, T5) as Shaped>⟧.shape (Self.columns e) n };
 }
 
 impl<

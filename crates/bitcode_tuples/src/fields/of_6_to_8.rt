@@ -2,7 +2,7 @@
 // Encoders of six to eight fields that lie apart.
 ghost use Rattle.std.specs.Prelude.{◌≡◌, ◌≢◌, ℕ, ◌+◌, ◌<◌, ◌≤◌, Bool, [], IsTrue, OnOk, IfErr};
 ghost use Rattle.bitcode_coder.specs.Columns.{emptied};
-ghost use Rattle.bitcode_coder.specs.Coding.{written_columns, JoinsListing, PassesWithListing, SurelyPasses, IsWritingRefusal};
+ghost use Rattle.bitcode_coder.specs.Coder.{written_columns, JoinsListing, OverflowsWithListing, SurelyOverflows, IsWritingRefusal};
 
 use crate::fields::{Fields, FieldsEncoder};
 use bitcode_coder::coder::HoldsColumns;
@@ -50,12 +50,12 @@ pub trait FieldsEncoder6<
         ensures joined { OnOk result (JoinsListing ⟦<(T1, T2, T3, T4, T5, T6) as Shaped>⟧.lists ⟦<(T1, T2, T3, T4, T5, T6) as Shaped>⟧.shape (t1.now, t2.now, t3.now, t4.now, t5.now, t6.now) (Self.columns self.old) (Self.columns self.new)) }
         ensures room { OnOk result (Self.room self.old ≤ Self.room self.new + 1) }
         ensures form { emptied (Self.columns self.new) ≡ emptied (Self.columns self.old) }
-        ensures refused { IfErr result (λ e. IsWritingRefusal e.reason (PassesWithListing ⟦<(T1, T2, T3, T4, T5, T6) as Shaped>⟧.lists ⟦<(T1, T2, T3, T4, T5, T6) as Shaped>⟧.shape (t1.now, t2.now, t3.now, t4.now, t5.now, t6.now) (Self.columns self.old))) }
+        ensures refused { IfErr result (λ e. IsWritingRefusal e.reason (OverflowsWithListing ⟦<(T1, T2, T3, T4, T5, T6) as Shaped>⟧.lists ⟦<(T1, T2, T3, T4, T5, T6) as Shaped>⟧.shape (t1.now, t2.now, t3.now, t4.now, t5.now, t6.now) (Self.columns self.old))) }
         ensures free { IsTrue writes_free → IfErr result (λ e. e.reason ≢ Reason.OutOfMemory) };
 
     ghost of_shape: { (e : Self) → emptied (Self.columns e) ≡ written_columns ⟦<(T1, T2, T3, T4, T5, T6) as Shaped>⟧.shape [] };
 
-    ghost surely: { (e : Self) (n : ℕ) → Self.surely_passes e n → SurelyPasses ⟦<(T1, T2, T3, T4, T5, T6) as Shaped>⟧.shape (Self.columns e) n };
+    ghost surely: { (e : Self) (n : ℕ) → Self.surely_overflows e n → SurelyOverflows ⟦<(T1, T2, T3, T4, T5, T6) as Shaped>⟧.shape (Self.columns e) n };
 }
 
 impl<
@@ -122,12 +122,12 @@ pub trait FieldsEncoder7<
         ensures joined { OnOk result (JoinsListing ⟦<(T1, T2, T3, T4, T5, T6, T7) as Shaped>⟧.lists ⟦<(T1, T2, T3, T4, T5, T6, T7) as Shaped>⟧.shape (t1.now, t2.now, t3.now, t4.now, t5.now, t6.now, t7.now) (Self.columns self.old) (Self.columns self.new)) }
         ensures room { OnOk result (Self.room self.old ≤ Self.room self.new + 1) }
         ensures form { emptied (Self.columns self.new) ≡ emptied (Self.columns self.old) }
-        ensures refused { IfErr result (λ e. IsWritingRefusal e.reason (PassesWithListing ⟦<(T1, T2, T3, T4, T5, T6, T7) as Shaped>⟧.lists ⟦<(T1, T2, T3, T4, T5, T6, T7) as Shaped>⟧.shape (t1.now, t2.now, t3.now, t4.now, t5.now, t6.now, t7.now) (Self.columns self.old))) }
+        ensures refused { IfErr result (λ e. IsWritingRefusal e.reason (OverflowsWithListing ⟦<(T1, T2, T3, T4, T5, T6, T7) as Shaped>⟧.lists ⟦<(T1, T2, T3, T4, T5, T6, T7) as Shaped>⟧.shape (t1.now, t2.now, t3.now, t4.now, t5.now, t6.now, t7.now) (Self.columns self.old))) }
         ensures free { IsTrue writes_free → IfErr result (λ e. e.reason ≢ Reason.OutOfMemory) };
 
     ghost of_shape: { (e : Self) → emptied (Self.columns e) ≡ written_columns ⟦<(T1, T2, T3, T4, T5, T6, T7) as Shaped>⟧.shape [] };
 
-    ghost surely: { (e : Self) (n : ℕ) → Self.surely_passes e n → SurelyPasses ⟦<(T1, T2, T3, T4, T5, T6, T7) as Shaped>⟧.shape (Self.columns e) n };
+    ghost surely: { (e : Self) (n : ℕ) → Self.surely_overflows e n → SurelyOverflows ⟦<(T1, T2, T3, T4, T5, T6, T7) as Shaped>⟧.shape (Self.columns e) n };
 }
 
 impl<
@@ -219,12 +219,12 @@ pub trait FieldsEncoder8<
         ensures joined { OnOk result (JoinsListing ⟦<(T1, T2, T3, T4, T5, T6, T7, T8) as Shaped>⟧.lists ⟦<(T1, T2, T3, T4, T5, T6, T7, T8) as Shaped>⟧.shape (t1.now, t2.now, t3.now, t4.now, t5.now, t6.now, t7.now, t8.now) (Self.columns self.old) (Self.columns self.new)) }
         ensures room { OnOk result (Self.room self.old ≤ Self.room self.new + 1) }
         ensures form { emptied (Self.columns self.new) ≡ emptied (Self.columns self.old) }
-        ensures refused { IfErr result (λ e. IsWritingRefusal e.reason (PassesWithListing ⟦<(T1, T2, T3, T4, T5, T6, T7, T8) as Shaped>⟧.lists ⟦<(T1, T2, T3, T4, T5, T6, T7, T8) as Shaped>⟧.shape (t1.now, t2.now, t3.now, t4.now, t5.now, t6.now, t7.now, t8.now) (Self.columns self.old))) }
+        ensures refused { IfErr result (λ e. IsWritingRefusal e.reason (OverflowsWithListing ⟦<(T1, T2, T3, T4, T5, T6, T7, T8) as Shaped>⟧.lists ⟦<(T1, T2, T3, T4, T5, T6, T7, T8) as Shaped>⟧.shape (t1.now, t2.now, t3.now, t4.now, t5.now, t6.now, t7.now, t8.now) (Self.columns self.old))) }
         ensures free { IsTrue writes_free → IfErr result (λ e. e.reason ≢ Reason.OutOfMemory) };
 
     ghost of_shape: { (e : Self) → emptied (Self.columns e) ≡ written_columns ⟦<(T1, T2, T3, T4, T5, T6, T7, T8) as Shaped>⟧.shape [] };
 
-    ghost surely: { (e : Self) (n : ℕ) → Self.surely_passes e n → SurelyPasses ⟦<(T1, T2, T3, T4, T5, T6, T7, T8) as Shaped>⟧.shape (Self.columns e) n };
+    ghost surely: { (e : Self) (n : ℕ) → Self.surely_overflows e n → SurelyOverflows ⟦<(T1, T2, T3, T4, T5, T6, T7, T8) as Shaped>⟧.shape (Self.columns e) n };
 }
 
 impl<

@@ -3,7 +3,7 @@ use Rattle.std.proofs.Common.{All, subst, ◌∙◌, ap}
 use Rattle.std.proofs.lemmas.List.Elements.{All-more}
 use Rattle.std.proofs.lemmas.List.{take_all}
 use Rattle.bitcode_columns.specs.LittleEndian.{little_endian}
-use Rattle.bitcode_columns.specs.Numbers.{number_of}
+use Rattle.bitcode_columns.specs.Ints.{number_of}
 use Rattle.bitcode_shapes.specs.Datum.{number}
 use Rattle.bitcode_shapes.specs.Shape.{IsAllowed}
 use Rattle.bitcode_coder.proofs.CheckedLemmas.{value_allowed}

@@ -1,6 +1,6 @@
 use Rattle.std.proofs.Common.{All, take}
 use Rattle.bitcode_columns.specs.LittleEndian.{little_endian}
-use Rattle.bitcode_columns.specs.Numbers.{number_of}
+use Rattle.bitcode_columns.specs.Ints.{number_of}
 use Rattle.bitcode_shapes.specs.Shape.{IsAllowed}
 use Rattle.bitcode_coder.proofs.checked.are_allowed.Given as goal
 

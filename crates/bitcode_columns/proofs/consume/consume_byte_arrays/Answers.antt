@@ -1,7 +1,7 @@
 use Rattle.std.proofs.Common.{ap, ◌∙◌, arith}
 use Rattle.std.proofs.lemmas.List.{take-append-drop, take_rest}
 use Rattle.std.specs.List.{concat}
-use Rattle.bitcode_columns.proofs.ChunkLemmas.{take-first_chunks, concat-first_chunks}
+use Rattle.bitcode_columns.proofs.ConsumeLemmas.{take-first_chunks, concat-first_chunks}
 use Rattle.bitcode_columns.proofs.consume.consume_byte_arrays.Goals as goal
 
 pub returns-clause-taken : goal.returns-clause-taken

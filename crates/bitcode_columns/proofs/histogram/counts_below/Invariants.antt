@@ -1,5 +1,5 @@
 use Rattle.std.proofs.Common.{take}
-use Rattle.bitcode_columns.specs.Counts.{AreCounts}
+use Rattle.bitcode_columns.specs.Histogram.{AreCounts}
 use Rattle.bitcode_columns.proofs.histogram.counts_below.Given as goal
 
 abbrev pub invariant-loop-byte : goal.invariant-loop-byte

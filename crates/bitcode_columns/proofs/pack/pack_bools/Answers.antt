@@ -1,4 +1,4 @@
-use Rattle.bitcode_columns.proofs.BoolLemmas.{bool_text-is}
+use Rattle.bitcode_columns.proofs.BoolColumnLemmas.{bool_text-is}
 use Rattle.bitcode_columns.proofs.pack.pack_bools.Goals as goal
 
 pub returns-clause-written : goal.returns-clause-written

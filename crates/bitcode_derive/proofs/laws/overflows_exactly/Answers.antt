@@ -8,4 +8,4 @@ returns-clause-written g c written d listing =
 
 pub returns-clause-refused : goal.returns-clause-refused
 returns-clause-refused g c long d listing fits =
-    long.passes (counts_fit g.met.T.SameArrays.same_arrays c.args.t.now d long.datum c.told.ensures listing long.listing fits)
+    long.overflows (counts_fit g.met.T.SameArrays.same_arrays c.args.t.now d long.datum c.told.ensures listing long.listing fits)

@@ -1,7 +1,7 @@
 -- One value is written: the encoder began without entries.
 use Rattle.std.proofs.Common.{◌≡◌, [], ◌∙◌}
 use Rattle.std.proofs.lemmas.Result.{IfOk-weaker, err_from_is_err_and}
-use Rattle.bitcode_coder.specs.Coding.{written_columns}
+use Rattle.bitcode_coder.specs.Coder.{written_columns}
 use Rattle.bitcode_derive.proofs.EncodingLemmas.{encoding_of-joined, refusal-joined, refusal-surely}
 use Rattle.bitcode_derive.proofs.whole.encode.Goals as goal
 

@@ -1,7 +1,7 @@
 // The coders of tuples of one field, which are as their field.
 use crate::derive::{DecodeOwned, HasDecoder, HasEncoder};
-use bitcode_parts::deref::DerefEncoder;
-use bitcode_parts::from::FromDecoder;
+use bitcode_parts::pointers::deref::DerefEncoder;
+use bitcode_parts::pointers::from::FromDecoder;
 
 impl<A: HasEncoder> HasEncoder for (A,) {
     type Encoder = DerefEncoder<A::Encoder>;

@@ -7,32 +7,32 @@ use Rattle.bitcode_untyped.specs.Spelling.{SpellsDatum}
 use Rattle.bitcode_untyped.specs.View.{datum_of, tree_of, tree_of_node}
 use Rattle.bitcode_serde.specs.ReadingValues.{IsValueReason}
 use Rattle.bitcode_serde.proofs.ColumnLemmas.{passed_on}
-use Rattle.bitcode_serde.proofs.WholeLemmas.{spelled, more_behind, none_spelled, one_spelled, eighth, bounded, root_is, root_whole, only_value}
+use Rattle.bitcode_serde.proofs.WholeLemmas.{spelled, more_behind, none_spelled, one_spelled, size_bound, bounded, root_is, root_whole, only_value}
 use Rattle.bitcode_serde.proofs.deserialize.deserialize.Goals as goal
 
-pub returns-in_err-value-clause-once : goal.returns-in_err-value-clause-once
-returns-in_err-value-clause-once c = one_spelled (tree_of c.args.shape.now) c.args.bytes.now
+pub returns-in_err-value-clause-unambiguous : goal.returns-in_err-value-clause-unambiguous
+returns-in_err-value-clause-unambiguous c = one_spelled (tree_of c.args.shape.now) c.args.bytes.now
 
-pub returns-in_err-value-clause-eighth : goal.returns-in_err-value-clause-eighth
-returns-in_err-value-clause-eighth c = eighth c.args.shape.now c.args.bytes.now
+pub returns-in_err-value-clause-size_bound : goal.returns-in_err-value-clause-size_bound
+returns-in_err-value-clause-size_bound c = size_bound c.args.shape.now c.args.bytes.now
 
 pub returns-in_err-value-clause-bounded : goal.returns-in_err-value-clause-bounded
 returns-in_err-value-clause-bounded c = bounded c.args.shape.now c.args.bytes.now
 
-pub returns-then-not-is_at_end-clause-once : goal.returns-then-not-is_at_end-clause-once
-returns-then-not-is_at_end-clause-once c = one_spelled (tree_of c.args.shape.now) c.args.bytes.now
+pub returns-then-not-is_at_end-clause-unambiguous : goal.returns-then-not-is_at_end-clause-unambiguous
+returns-then-not-is_at_end-clause-unambiguous c = one_spelled (tree_of c.args.shape.now) c.args.bytes.now
 
-pub returns-then-not-is_at_end-clause-eighth : goal.returns-then-not-is_at_end-clause-eighth
-returns-then-not-is_at_end-clause-eighth c = eighth c.args.shape.now c.args.bytes.now
+pub returns-then-not-is_at_end-clause-size_bound : goal.returns-then-not-is_at_end-clause-size_bound
+returns-then-not-is_at_end-clause-size_bound c = size_bound c.args.shape.now c.args.bytes.now
 
 pub returns-then-not-is_at_end-clause-bounded : goal.returns-then-not-is_at_end-clause-bounded
 returns-then-not-is_at_end-clause-bounded c = bounded c.args.shape.now c.args.bytes.now
 
-pub returns-clause-once : goal.returns-clause-once
-returns-clause-once c = one_spelled (tree_of c.args.shape.now) c.args.bytes.now
+pub returns-clause-unambiguous : goal.returns-clause-unambiguous
+returns-clause-unambiguous c = one_spelled (tree_of c.args.shape.now) c.args.bytes.now
 
-pub returns-clause-eighth : goal.returns-clause-eighth
-returns-clause-eighth c = eighth c.args.shape.now c.args.bytes.now
+pub returns-clause-size_bound : goal.returns-clause-size_bound
+returns-clause-size_bound c = size_bound c.args.shape.now c.args.bytes.now
 
 pub returns-clause-bounded : goal.returns-clause-bounded
 returns-clause-bounded c = bounded c.args.shape.now c.args.bytes.now

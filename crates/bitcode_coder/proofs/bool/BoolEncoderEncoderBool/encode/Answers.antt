@@ -2,10 +2,10 @@
 use Rattle.std.proofs.Common.{refl}
 use Rattle.bitcode_columns.specs.Fast.{fast_items}
 use Rattle.bitcode_shapes.specs.Shape.{bool_shape}
-use Rattle.bitcode_shapes.specs.Values.{ListsNumber, bool_number}
+use Rattle.bitcode_shapes.specs.Ints.{ListsNumber, bool_number}
 use Rattle.bitcode_coder.specs.Columns.{bools}
 use Rattle.bitcode_coder.specs.Spelling.{truth}
-use Rattle.bitcode_coder.proofs.CoderLemmas.{joins_entry}
+use Rattle.bitcode_coder.proofs.OneColumnLemmas.{joins_entry}
 use Rattle.bitcode_coder.proofs.bool.BoolEncoderEncoderBool.encode.Goals as goal
 
 pub returns-clause-joined : goal.returns-clause-joined

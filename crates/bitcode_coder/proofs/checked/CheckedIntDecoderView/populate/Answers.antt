@@ -3,7 +3,7 @@ use Rattle.std.proofs.Common.{All, map, refl, subst}
 use Rattle.std.proofs.lemmas.Result.{err_from_is_err_and}
 use Rattle.bitcode_columns.specs.Fast.{cow_rest}
 use Rattle.bitcode_columns.specs.LittleEndian.{little_endian}
-use Rattle.bitcode_columns.specs.Numbers.{number_of}
+use Rattle.bitcode_columns.specs.Ints.{number_of}
 use Rattle.bitcode_shapes.specs.Shape.{IsAllowed}
 use Rattle.bitcode_coder.specs.CheckedColumn.{in_column, not_allowed}
 use Rattle.bitcode_coder.proofs.CheckedLemmas.{checked_read, checked_refusal, broken_entries}

@@ -3,8 +3,8 @@ use Rattle.std.proofs.Common.{map, drop, refl, subst, ◌+◌, ◌∙◌, arith}
 use Rattle.std.proofs.lemmas.List.{at_drop_all}
 use Rattle.std.proofs.lemmas.List.Elements.{All-drop, All-map}
 use Rattle.std.proofs.lemmas.Result.{err_from_is_err_and}
-use Rattle.bitcode_shapes.specs.LawfulSequences.{each_listed}
-use Rattle.bitcode_coder.proofs.EachLemmas.{JoinsFront, front_none, front_more, front_passes, front_whole, next_behind}
+use Rattle.bitcode_shapes.specs.LawfulLists.{each_listed}
+use Rattle.bitcode_coder.proofs.EachLemmas.{JoinsFront, front_none, front_more, front_overflows, front_whole, next_behind}
 use Rattle.bitcode_coder.proofs.RefusalLemmas.{refusal_weaker}
 use Rattle.bitcode_coder.proofs.coder.Encoder.encode_vectored.Goals as goal
 
@@ -34,7 +34,7 @@ returns-in_err-encode-clause-refused g c =
     (All-map g.T.Shaped.is_value (λ value. value.now) behind (All-drop (λ value. g.T.Shaped.is_value value.now) (c.loop-value.value-index + 1) c.args.values.now c.told_behind.ensures)) in
     rw (refused.1, refused.2) (
     refusal_weaker _ (λ one.
-    front_passes lists shape old (g.met.Self.Encoder.of_shape c.args.self.now) whole rest c.value-item.result.now now
+    front_overflows lists shape old (g.met.Self.Encoder.of_shape c.args.self.now) whole rest c.value-item.result.now now
     (subst (λ items. JoinsFront lists shape whole items old now) step c.loop-value.invariant.front) one others.0 others.1) c.in_err-encode.ensures.refused
     )
 

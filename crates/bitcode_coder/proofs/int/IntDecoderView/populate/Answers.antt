@@ -1,7 +1,7 @@
 -- The entries that were read, as data.
 use Rattle.bitcode_columns.specs.LittleEndian.{little_endian}
 use Rattle.bitcode_columns.specs.Fast.{cow_rest}
-use Rattle.bitcode_coder.proofs.CoderLemmas.{ints_read_ok, ints_refused_err, ints_exact}
+use Rattle.bitcode_coder.proofs.IntLemmas.{ints_read_ok, ints_refused_err, ints_exact}
 use Rattle.bitcode_coder.proofs.int.IntDecoderView.populate.Goals as goal
 
 pub returns-clause-read : goal.returns-clause-read

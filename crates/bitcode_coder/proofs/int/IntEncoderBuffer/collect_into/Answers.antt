@@ -2,7 +2,7 @@
 use Rattle.std.proofs.Common.{ap, sym, ◌∙◌, ◌++◌, map}
 use Rattle.bitcode_columns.specs.IntColumn.{int_text}
 use Rattle.bitcode_columns.specs.Fast.{fast_items}
-use Rattle.bitcode_coder.proofs.CoderLemmas.{numbers_in}
+use Rattle.bitcode_coder.proofs.IntLemmas.{numbers_in}
 use Rattle.bitcode_coder.proofs.int.IntEncoderBuffer.collect_into.Goals as goal
 
 pub returns-clause-written : goal.returns-clause-written

@@ -2,7 +2,7 @@
 use Rattle.bitcode_columns.specs.Fast.{fast_items}
 use Rattle.bitcode_shapes.specs.Datum.{number}
 use Rattle.bitcode_coder.specs.Columns.{ints}
-use Rattle.bitcode_coder.proofs.CoderLemmas.{joins_entry}
+use Rattle.bitcode_coder.proofs.OneColumnLemmas.{joins_entry}
 use Rattle.bitcode_coder.proofs.int.IntEncoderEncoder.encode.Goals as goal
 
 pub returns-clause-joined : goal.returns-clause-joined

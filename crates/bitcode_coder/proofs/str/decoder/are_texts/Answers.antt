@@ -2,7 +2,7 @@
 use Rattle.std.specs.Str.{IsCharBoundary}
 use Rattle.std.proofs.Common.{All, subst, sym}
 use Rattle.bitcode_coder.specs.JoinedTexts.{ends_from}
-use Rattle.bitcode_coder.specs.LengthCoders.{lengths_left}
+use Rattle.bitcode_coder.specs.Length.{lengths_left}
 use Rattle.bitcode_coder.proofs.JoinedTextLemmas.{pieces_are_utf8, cut_at_chars, same_answer}
 use Rattle.bitcode_coder.proofs.str.decoder.are_texts.Goals as goal
 

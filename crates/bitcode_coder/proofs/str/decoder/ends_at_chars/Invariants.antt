@@ -1,7 +1,7 @@
 use Rattle.std.proofs.Common.{◌≡◌, ◌+◌, length, sum, All}
 use Rattle.std.specs.Str.{IsCharBoundary}
 use Rattle.bitcode_coder.specs.JoinedTexts.{ends_from}
-use Rattle.bitcode_coder.specs.LengthCoders.{lengths_left}
+use Rattle.bitcode_coder.specs.Length.{lengths_left}
 use Rattle.bitcode_coder.proofs.str.decoder.ends_at_chars.Given as goal
 
 abbrev pub invariant-loop : goal.invariant-loop

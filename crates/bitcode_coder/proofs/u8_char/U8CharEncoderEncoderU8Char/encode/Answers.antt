@@ -2,10 +2,10 @@
 use Rattle.std.proofs.Common.{pos, refl}
 use Rattle.bitcode_columns.specs.Fast.{fast_items}
 use Rattle.bitcode_shapes.specs.Shape.{raw_shape}
-use Rattle.bitcode_shapes.specs.Values.{ListsNumber}
+use Rattle.bitcode_shapes.specs.Ints.{ListsNumber}
 use Rattle.bitcode_coder.specs.Columns.{raws}
 use Rattle.bitcode_coder.specs.Spelling.{natural}
-use Rattle.bitcode_coder.proofs.CoderLemmas.{joins_entry}
+use Rattle.bitcode_coder.proofs.OneColumnLemmas.{joins_entry}
 use Rattle.bitcode_coder.proofs.u8_char.U8CharEncoderEncoderU8Char.encode.Goals as goal
 
 pub returns-clause-joined : goal.returns-clause-joined

@@ -1,5 +1,5 @@
 use Rattle.std.proofs.Common.{◌≡◌, ◌+◌, length}
-use Rattle.bitcode_parts.specs.VariantCoders.{variants_left}
+use Rattle.bitcode_parts.specs.Variants.{variants_left}
 use Rattle.bitcode_column_tests.proofs.tests.variants.decodes.Given as goal
 
 abbrev pub invariant-loop-variant : goal.invariant-loop-variant

@@ -1,5 +1,5 @@
 use Rattle.std.proofs.lemmas.List.{map-id}
-use Rattle.bitcode_columns.proofs.VariantLemmas.{digits_text-variants}
+use Rattle.bitcode_columns.proofs.VariantColumnLemmas.{digits_text-variants}
 use Rattle.bitcode_columns.proofs.pack.variants.pack_bytes_less_than.Goals as goal
 
 pub returns-clause-written : goal.returns-clause-written

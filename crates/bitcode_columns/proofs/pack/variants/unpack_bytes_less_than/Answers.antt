@@ -1,7 +1,7 @@
 use Rattle.std.proofs.Common.{◌≡◌, ◌∙◌, ap, true, false, length, refl, rules}
-use Rattle.bitcode_columns.specs.Counts.{AreCounts}
-use Rattle.bitcode_columns.proofs.CountLemmas.{sum-counts}
-use Rattle.bitcode_columns.proofs.VariantLemmas.{are_variants, known_variants, names_unknown}
+use Rattle.bitcode_columns.specs.Histogram.{AreCounts}
+use Rattle.bitcode_columns.proofs.HistogramLemmas.{sum-counts}
+use Rattle.bitcode_columns.proofs.VariantColumnLemmas.{are_variants, known_variants, names_unknown}
 use Rattle.bitcode_columns.proofs.pack.variants.unpack_bytes_less_than.Goals as goal
 
 pub returns-then-not-are_variants-clause-refused : goal.returns-then-not-are_variants-clause-refused

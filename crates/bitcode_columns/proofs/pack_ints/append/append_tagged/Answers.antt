@@ -1,7 +1,7 @@
 use Rattle.std.proofs.Common.{◌≡◌, ◌∙◌, map, sym, arith}
 use Rattle.std.proofs.lemmas.Result.{on_ok_weaker}
 use Rattle.std.proofs.lemmas.List.{length-map}
-use Rattle.bitcode_columns.specs.Numbers.{least, greatest}
+use Rattle.bitcode_columns.specs.Ints.{least, greatest}
 use Rattle.bitcode_columns.proofs.AppendLemmas.{IfSome-at, ordered, tagged_shifted, tagged_plain}
 use Rattle.bitcode_columns.proofs.RoomLemmas.{shifted_takes, plain_takes}
 use Rattle.bitcode_columns.proofs.pack_ints.append.append_tagged.Goals as goal

@@ -1,7 +1,7 @@
 use Rattle.std.proofs.Common.{subst, arith}
 use Rattle.std.proofs.lemmas.Bool.{false≢true}
 use Rattle.std.proofs.lemmas.List.Elements.{All-more, All-nil}
-use Rattle.bitcode_columns.specs.Numbers.{IsNumber}
+use Rattle.bitcode_columns.specs.Ints.{IsNumber}
 use Rattle.bitcode_columns.proofs.NarrowLemmas.{narrowed, raw_none, raw_more}
 use Rattle.bitcode_columns.proofs.RoomLemmas.{next_len, next_fits}
 use Rattle.bitcode_columns.proofs.pack_ints.write.write_numbers.Goals as goal

@@ -1,6 +1,6 @@
 use Rattle.std.proofs.Common.{◌≡◌, ◌+◌, ◌*◌, ◌≤◌, vec_len, vec_capacity, ◌%◌, ◌^◌, ◌++◌, take, map, All}
 use Rattle.bitcode_columns.specs.LittleEndian.{raw_text}
-use Rattle.bitcode_columns.specs.Numbers.{IsNumber}
+use Rattle.bitcode_columns.specs.Ints.{IsNumber}
 use Rattle.bitcode_columns.specs.Narrowing.{above}
 use Rattle.bitcode_columns.proofs.pack_ints.write.write_numbers.Given as goal
 

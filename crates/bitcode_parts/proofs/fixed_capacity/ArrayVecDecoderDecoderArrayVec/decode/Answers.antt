@@ -1,10 +1,10 @@
 -- The next length, which is within the limit, and so many elements.
 use Rattle.std.proofs.Common.{◌≡◌, ◌∷◌, ◌≤◌, All, refl, sym, subst, arith}
 use Rattle.std.proofs.lemmas.List.Elements.{All-head, All-rest}
-use Rattle.bitcode_coder.specs.LengthCoders.{lengths_left}
+use Rattle.bitcode_coder.specs.Length.{lengths_left}
 use Rattle.bitcode_parts.specs.Elements.{TakesEach}
 use Rattle.bitcode_parts.proofs.ElementLemmas.{takes_none, takes_one_more, taken_and_left}
-use Rattle.bitcode_parts.proofs.SequenceLemmas.{takes_list, enough_elements}
+use Rattle.bitcode_parts.proofs.ListLemmas.{takes_list, enough_elements}
 use Rattle.bitcode_parts.proofs.fixed_capacity.ArrayVecDecoderDecoderArrayVec.decode.Goals as goal
 
 pub invariant_of-self : goal.invariant_of-self

@@ -1,5 +1,5 @@
 use Rattle.std.proofs.Common.{◌≡◌}
-use Rattle.bitcode_coder.specs.LengthCoders.{lengths_left}
+use Rattle.bitcode_coder.specs.Length.{lengths_left}
 use Rattle.bitcode_parts.specs.Elements.{TakesEach}
 use Rattle.bitcode_parts.proofs.fixed_capacity.ArrayVecDecoderDecoderArrayVec.decode.Given as goal
 

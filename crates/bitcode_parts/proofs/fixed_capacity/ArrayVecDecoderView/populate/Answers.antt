@@ -2,10 +2,10 @@
 use Rattle.std.proofs.Common.{None, Some, refl, inl, inr}
 use Rattle.std.proofs.lemmas.Result.{err_from_is_err_and}
 use Rattle.bitcode_columns.proofs.ReadingLemmas.{OnErr-always}
-use Rattle.bitcode_coder.specs.LengthCoders.{short_left, large_left, lengths_left}
+use Rattle.bitcode_coder.specs.Length.{short_left, large_left, lengths_left}
 use Rattle.bitcode_coder.proofs.LengthPartLemmas.{ends_behind_read, reads_lengths}
-use Rattle.bitcode_parts.proofs.CapLemmas.{lengths_within}
-use Rattle.bitcode_parts.proofs.SequenceLemmas.{reads_sequence, refuses_lengths, refuses_elements, refuses_cap}
+use Rattle.bitcode_parts.proofs.ListLimitLemmas.{lengths_within}
+use Rattle.bitcode_parts.proofs.ListLemmas.{reads_sequence, refuses_lengths, refuses_elements, refuses_cap}
 use Rattle.bitcode_parts.proofs.fixed_capacity.ArrayVecDecoderView.populate.Goals as goal
 
 pub returns-in_err-populate-clause-refused : goal.returns-in_err-populate-clause-refused

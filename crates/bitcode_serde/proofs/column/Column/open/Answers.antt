@@ -3,8 +3,8 @@ use Rattle.std.proofs.Common.{false, true, None}
 use Rattle.std.proofs.lemmas.Result.{err_from_is_err_and}
 use Rattle.bitcode_coder.specs.Columns.{bools, ints, lengths, texts}
 use Rattle.bitcode_shapes.specs.Shape.{bool_shape, text_shape}
-use Rattle.bitcode_shapes.specs.Values.{int_shape}
-use Rattle.bitcode_shapes.specs.LawfulValues.{width_1, width_2, width_4, width_8, width_16}
+use Rattle.bitcode_shapes.specs.Ints.{int_shape}
+use Rattle.bitcode_shapes.specs.LawfulInts.{width_1, width_2, width_4, width_8, width_16}
 use Rattle.bitcode_serde.specs.ReadColumns.{IsColumnRefusal}
 use Rattle.bitcode_serde.proofs.ColumnLemmas.{passed_on, column_read, lengths_column_read, bools_column_refused, ints_column_refused, lengths_column_refused, texts_column_refused}
 use Rattle.bitcode_serde.proofs.column.Column.open.Goals as goal

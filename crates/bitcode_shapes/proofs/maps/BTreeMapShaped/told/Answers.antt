@@ -1,6 +1,6 @@
 use Rattle.std.proofs.Common.{All, sym, subst}
 use Rattle.std.proofs.lemmas.List.Elements.{All-cons}
-use Rattle.bitcode_shapes.specs.Values.{IsPairValue}
+use Rattle.bitcode_shapes.specs.Pairs.{IsPairValue}
 use Rattle.bitcode_shapes.proofs.maps.BTreeMapShaped.told.Goals as goal
 
 -- src/maps.rt:35:9

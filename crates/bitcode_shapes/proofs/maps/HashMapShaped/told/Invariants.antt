@@ -1,5 +1,5 @@
 use Rattle.std.proofs.Common.{All}
-use Rattle.bitcode_shapes.specs.Values.{IsPairValue}
+use Rattle.bitcode_shapes.specs.Pairs.{IsPairValue}
 use Rattle.bitcode_shapes.proofs.maps.HashMapShaped.told.Given as goal
 
 -- the entries are values if what is left is

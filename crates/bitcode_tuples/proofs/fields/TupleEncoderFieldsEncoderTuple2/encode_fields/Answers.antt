@@ -2,7 +2,7 @@
 use Rattle.std.proofs.lemmas.Result.{err_from_is_err_and, on_ok_weaker}
 use Rattle.bitcode_columns.specs.declared.error.Error.{Error}
 use Rattle.bitcode_coder.proofs.RefusalLemmas.{refusal_weaker, refused_weaker}
-use Rattle.bitcode_tuples.proofs.WritingLemmas.{joins_pair, passes_with_first, passes_with_second}
+use Rattle.bitcode_tuples.proofs.WritingLemmas.{joins_pair, overflows_with_first, overflows_with_second}
 use Rattle.bitcode_tuples.proofs.fields.TupleEncoderFieldsEncoderTuple2.encode_fields.Goals as goal
 
 pub returns-in_err-encode_fields-clause-refused : goal.returns-in_err-encode_fields-clause-refused
@@ -12,7 +12,7 @@ returns-in_err-encode_fields-clause-refused g c =
     let listed = g.met.G.Whole.Shaped.lawful.listed (g.G.Fields.whole fields.1) c.told.ensures in
     rw (refused.1, refused.2) (
     refusal_weaker _ (
-    passes_with_first g.F.Whole.Shaped.lists g.G.Whole.Shaped.lists g.F.Whole.Shaped.shape g.G.Whole.Shaped.shape
+    overflows_with_first g.F.Whole.Shaped.lists g.G.Whole.Shaped.lists g.F.Whole.Shaped.shape g.G.Whole.Shaped.shape
     (g.F.Fields.whole fields.0, g.G.Fields.whole fields.1) (g.A.HoldsColumns.columns c.args.self.now.first) (g.B.HoldsColumns.columns c.args.self.now.second)
     listed.0 listed.1
     ) c.in_err-encode_fields.ensures.refused
@@ -32,7 +32,7 @@ returns-clause-refused g c =
     let fields = c.args.fields.now in
     let joined = c.in_ok-encode_fields.ensures.joined in
     refused_weaker (λ (e : Error). e.reason) c.encode_fields-2.result (
-    passes_with_second g.F.Whole.Shaped.lists g.G.Whole.Shaped.lists g.F.Whole.Shaped.shape g.G.Whole.Shaped.shape
+    overflows_with_second g.F.Whole.Shaped.lists g.G.Whole.Shaped.lists g.F.Whole.Shaped.shape g.G.Whole.Shaped.shape
     (g.F.Fields.whole fields.0, g.G.Fields.whole fields.1) (g.A.HoldsColumns.columns c.args.self.now.first) (g.B.HoldsColumns.columns c.args.self.now.second)
     joined.datum joined.listing
     ) c.encode_fields-2.ensures.refused

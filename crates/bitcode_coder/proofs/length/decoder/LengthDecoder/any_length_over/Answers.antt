@@ -1,7 +1,7 @@
 -- A length that keeps the limit changes nothing for those left.
 use Rattle.std.proofs.Common.{ℕ, ◌≤◌, All, subst, sym, arith}
 use Rattle.std.proofs.lemmas.List.Elements.{All-cons, All-tail}
-use Rattle.bitcode_coder.specs.LengthCoders.{lengths_left}
+use Rattle.bitcode_coder.specs.Length.{lengths_left}
 use Rattle.bitcode_coder.proofs.LengthPartLemmas.{taken_from}
 use Rattle.bitcode_coder.proofs.length.decoder.LengthDecoder.any_length_over.Goals as goal
 

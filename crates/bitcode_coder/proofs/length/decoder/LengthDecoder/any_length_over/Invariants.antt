@@ -1,5 +1,5 @@
 use Rattle.std.proofs.Common.{◌≡◌, ◌+◌, ◌≤◌, length, All}
-use Rattle.bitcode_coder.specs.LengthCoders.{lengths_left}
+use Rattle.bitcode_coder.specs.Length.{lengths_left}
 use Rattle.bitcode_coder.proofs.length.decoder.LengthDecoder.any_length_over.Given as goal
 
 abbrev pub invariant-loop : goal.invariant-loop

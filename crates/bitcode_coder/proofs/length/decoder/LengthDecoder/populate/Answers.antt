@@ -2,7 +2,7 @@
 use Rattle.std.proofs.Common.{None}
 use Rattle.std.proofs.lemmas.Result.{err_from_is_err_and}
 use Rattle.bitcode_columns.proofs.ReadingLemmas.{OnErr-always}
-use Rattle.bitcode_coder.specs.LengthCoders.{short_left, large_left, lengths_left}
+use Rattle.bitcode_coder.specs.Length.{short_left, large_left, lengths_left}
 use Rattle.bitcode_coder.specs.LengthParts.{in_sum}
 use Rattle.bitcode_coder.proofs.LengthPartLemmas.{ends_behind_parts, reads_lengths}
 use Rattle.bitcode_coder.proofs.length.decoder.LengthDecoder.populate.Goals as goal

@@ -1,7 +1,7 @@
 -- Each step moves a length from what is left to the sum.
 use Rattle.std.proofs.Common.{◌≡◌, sum, [], ap, arith}
 use Rattle.std.proofs.lemmas.List.{nil_from_length}
-use Rattle.bitcode_coder.specs.LengthCoders.{lengths_left}
+use Rattle.bitcode_coder.specs.Length.{lengths_left}
 use Rattle.bitcode_coder.proofs.LengthPartLemmas.{taken_from}
 use Rattle.bitcode_coder.proofs.length.decoder.LengthDecoder.total.Goals as goal
 

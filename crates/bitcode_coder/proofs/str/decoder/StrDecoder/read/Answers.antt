@@ -6,10 +6,10 @@ use Rattle.bitcode_coder.specs.Cutting.{cut}
 use Rattle.bitcode_coder.specs.LengthColumn.{SpellsLengths}
 use Rattle.std.proofs.lemmas.Result.{err_from_is_err_and}
 use Rattle.bitcode_columns.proofs.ReadingLemmas.{OnErr-always}
-use Rattle.bitcode_coder.specs.LengthCoders.{lengths_left}
+use Rattle.bitcode_coder.specs.Length.{lengths_left}
 use Rattle.bitcode_coder.specs.TextParts.{in_lengths, missing_bytes, not_texts}
 use Rattle.bitcode_coder.proofs.LengthPartLemmas.{ends_behind_read}
-use Rattle.bitcode_coder.proofs.TextCoderLemmas.{texts_read}
+use Rattle.bitcode_coder.proofs.StrLemmas.{texts_read}
 use Rattle.bitcode_coder.proofs.str.decoder.StrDecoder.read.Goals as goal
 
 pub returns-in_err-populate-clause-refused : goal.returns-in_err-populate-clause-refused

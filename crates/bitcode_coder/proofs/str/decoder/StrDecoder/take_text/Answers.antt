@@ -4,8 +4,8 @@ use Rattle.std.proofs.Common.{take, drop}
 use Rattle.std.proofs.lemmas.List.Elements.{All-rest}
 use Rattle.bitcode_columns.specs.Fast.{slice_rest}
 use Rattle.bitcode_coder.specs.Cutting.{cut}
-use Rattle.bitcode_coder.specs.LengthCoders.{lengths_left}
-use Rattle.bitcode_coder.proofs.TextCoderLemmas.{taken_piece}
+use Rattle.bitcode_coder.specs.Length.{lengths_left}
+use Rattle.bitcode_coder.proofs.StrLemmas.{taken_piece}
 use Rattle.bitcode_coder.proofs.str.decoder.StrDecoder.take_text.Goals as goal
 
 pub invariant_of-self : goal.invariant_of-self

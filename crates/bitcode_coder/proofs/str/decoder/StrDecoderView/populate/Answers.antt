@@ -1,6 +1,6 @@
 -- What reads a column refuses by the fault that it names.
 use Rattle.std.proofs.lemmas.Result.{err_from_is_err_and}
-use Rattle.bitcode_coder.proofs.TextCoderLemmas.{text_refusal}
+use Rattle.bitcode_coder.proofs.StrLemmas.{text_refusal}
 use Rattle.bitcode_coder.proofs.str.decoder.StrDecoderView.populate.Goals as goal
 
 pub returns-in_err-self-clause-refused : goal.returns-in_err-self-clause-refused

@@ -1,8 +1,8 @@
 -- The lengths are those that were there.
 use Rattle.std.proofs.Common.{sum, ap, ◌∙◌}
 use Rattle.bitcode_columns.specs.Fast.{fast_items}
-use Rattle.bitcode_coder.specs.LengthCoders.{written_lengths}
-use Rattle.bitcode_coder.proofs.TextCoderLemmas.{same_lengths, pieces_kept}
+use Rattle.bitcode_coder.specs.Length.{written_lengths}
+use Rattle.bitcode_coder.proofs.StrLemmas.{same_lengths, pieces_kept}
 use Rattle.bitcode_coder.proofs.str.encoder.StrEncoderBuffer.reserve.Goals as goal
 
 pub invariant_of-self : goal.invariant_of-self

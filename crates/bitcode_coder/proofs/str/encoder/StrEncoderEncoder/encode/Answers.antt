@@ -1,9 +1,9 @@
 -- The text joins its column.
 use Rattle.std.proofs.Common.{◌++◌, sym, ap, ◌∙◌, subst, None}
 use Rattle.bitcode_columns.specs.Fast.{fast_items}
-use Rattle.bitcode_coder.specs.LengthCoders.{written_lengths}
-use Rattle.bitcode_coder.proofs.TextCoderLemmas.{pieces_pushed}
-use Rattle.bitcode_coder.proofs.CoderLemmas.{joins_entry}
+use Rattle.bitcode_coder.specs.Length.{written_lengths}
+use Rattle.bitcode_coder.proofs.StrLemmas.{pieces_pushed}
+use Rattle.bitcode_coder.proofs.OneColumnLemmas.{joins_entry}
 use Rattle.bitcode_coder.specs.Columns.{texts}
 use Rattle.bitcode_coder.specs.Cutting.{cut}
 use Rattle.bitcode_shapes.specs.Datum.{text}

@@ -2,7 +2,7 @@
 use Rattle.std.proofs.lemmas.Result.{err_from_is_err_and}
 use Rattle.bitcode_columns.specs.Fast.{slice_rest}
 use Rattle.bitcode_coder.specs.Cutting.{cut}
-use Rattle.bitcode_coder.specs.LengthCoders.{short_left, large_left, lengths_left}
+use Rattle.bitcode_coder.specs.Length.{short_left, large_left, lengths_left}
 use Rattle.bitcode_coder.specs.TextParts.{in_texts}
 use Rattle.bitcode_coder.proofs.LimitedTextLemmas.{limited_read, limited_refusal, limit_named, texts_within}
 use Rattle.bitcode_coder.proofs.str.fixed.ArrayStringDecoderView.populate.Goals as goal

@@ -1,6 +1,6 @@
 use Rattle.std.proofs.Common.{ap, subst, All, sym, ◌∙◌, ◌<◌}
 use Rattle.bitcode_columns.specs.Fast.{cow_rest}
-use Rattle.bitcode_columns.specs.Counts.{count_of}
+use Rattle.bitcode_columns.specs.Histogram.{count_of}
 use Rattle.bitcode_serde.specs.Indices.{indices_left, index_count}
 use Rattle.bitcode_serde.proofs.IndexLemmas.{indices_read, indices_counted}
 use Rattle.bitcode_serde.proofs.serde.decoder.VariantDecoderView.populate.Goals as goal

@@ -2,7 +2,7 @@ use Rattle.std.proofs.Common.{refl, false}
 use Rattle.bitcode_columns.specs.Fast.{fast_items}
 use Rattle.bitcode_coder.specs.Columns.{ints}
 use Rattle.bitcode_coder.specs.Spelling.{natural}
-use Rattle.bitcode_coder.proofs.CoderLemmas.{joins_entry}
+use Rattle.bitcode_coder.proofs.OneColumnLemmas.{joins_entry}
 use Rattle.bitcode_serde.proofs.serde.encoder.VariantEncoderEncoderU8.encode.Goals as goal
 use Rattle.bitcode_serde.specs.Indices.{written_indices}
 

@@ -4,11 +4,11 @@ use Rattle.std.proofs.lemmas.Result.{on_ok_weaker}
 use Rattle.bitcode_columns.specs.declared.error.Error.{Error}
 use Rattle.bitcode_shapes.specs.Tuples.{split_8}
 use Rattle.bitcode_coder.proofs.RefusalLemmas.{refused_weaker}
-use Rattle.bitcode_tuples.proofs.WritingLemmas.{joins_as, passes_as}
+use Rattle.bitcode_tuples.proofs.WritingLemmas.{joins_as, overflows_as}
 use Rattle.bitcode_tuples.proofs.encoder.of_3_to_8.TupleEncoderFieldsEncoder8.encode_each.Goals as goal
 
 pub returns-clause-joined : goal.returns-clause-joined
 returns-clause-joined g c = on_ok_weaker c.encode_fields.result (joins_as split_8 (c.args.t1.now, c.args.t2.now, c.args.t3.now, c.args.t4.now, c.args.t5.now, c.args.t6.now, c.args.t7.now, c.args.t8.now)) c.encode_fields.ensures.joined
 
 pub returns-clause-refused : goal.returns-clause-refused
-returns-clause-refused g c = refused_weaker (λ (e : Error). e.reason) c.encode_fields.result (passes_as split_8 (c.args.t1.now, c.args.t2.now, c.args.t3.now, c.args.t4.now, c.args.t5.now, c.args.t6.now, c.args.t7.now, c.args.t8.now)) c.encode_fields.ensures.refused
+returns-clause-refused g c = refused_weaker (λ (e : Error). e.reason) c.encode_fields.result (overflows_as split_8 (c.args.t1.now, c.args.t2.now, c.args.t3.now, c.args.t4.now, c.args.t5.now, c.args.t6.now, c.args.t7.now, c.args.t8.now)) c.encode_fields.ensures.refused

@@ -4,11 +4,11 @@ use Rattle.std.proofs.lemmas.Result.{on_ok_weaker}
 use Rattle.bitcode_columns.specs.declared.error.Error.{Error}
 use Rattle.bitcode_shapes.specs.Tuples.{split_10}
 use Rattle.bitcode_coder.proofs.RefusalLemmas.{refused_weaker}
-use Rattle.bitcode_tuples.proofs.WritingLemmas.{joins_as, passes_as}
+use Rattle.bitcode_tuples.proofs.WritingLemmas.{joins_as, overflows_as}
 use Rattle.bitcode_tuples.proofs.encoder.of_9_to_16.TupleEncoderEncoderTuple10.encode.Goals as goal
 
 pub returns-clause-joined : goal.returns-clause-joined
 returns-clause-joined g c = on_ok_weaker c.encode_fields.result (joins_as split_10 c.args.t.now) c.encode_fields.ensures.joined
 
 pub returns-clause-refused : goal.returns-clause-refused
-returns-clause-refused g c = refused_weaker (λ (e : Error). e.reason) c.encode_fields.result (passes_as split_10 c.args.t.now) c.encode_fields.ensures.refused
+returns-clause-refused g c = refused_weaker (λ (e : Error). e.reason) c.encode_fields.result (overflows_as split_10 c.args.t.now) c.encode_fields.ensures.refused

@@ -1,0 +1,188 @@
+// The integers that columns are made of: as numbers, as residues and as bytes.
+ghost use Rattle.std.specs.Prelude.{◌≡◌, ℕ, ◌+◌, ◌-◌, ◌*◌, ◌%◌, ◌^◌, ◌<◌, ◌≤◌, ℤ, int_lt, ◌↔◌, Bool, List, ◌++◌, length, take, drop, map, All, vec_len, vec_capacity, IsOk, IsErr, IfOk, OnOk, IfErr, OnErr};
+ghost use Rattle.bitcode_columns.specs.IntWidths.{IsWidth};
+ghost use Rattle.bitcode_columns.specs.LittleEndian.{little_endian, number_bytes, SpellsRaw};
+ghost use Rattle.bitcode_columns.specs.IntRange.{least_number, greatest_number};
+ghost use Rattle.bitcode_columns.specs.Ints.{IsNumber, residue, number_of};
+
+use crate::consume::consume_byte_arrays;
+use crate::error::{Error, Reason};
+
+mod signed;
+mod sizes;
+mod unsigned;
+mod wide;
+
+/// An unsigned integer of a fixed width: what an [`Int`] of that width is modulo a power of 256.
+pub trait SizedUInt: Copy {
+    // in bytes
+    ghost width: { ℕ };
+
+    ghost value: { Self → ℕ };
+
+    /// The same number, among the widest.
+    fn to_wide(self) -> u128
+        ensures same { result ≡ value self }
+        ensures in_range { value self < 256 ^ width };
+
+    /// The lowest bytes of a number, as many as the type has: 258 gives the `u8` 2.
+    fn from_wide(wide: u128) -> Self
+        ensures { value result ≡ wide % 256 ^ width };
+
+    /// The sum, modulo the count of values of the type.
+    fn wrapping_add(self, right: Self) -> Self
+        ensures { value result ≡ (value self + value right) % 256 ^ width };
+
+    /// The difference, modulo the count of values of the type.
+    fn wrapping_sub(self, right: Self) -> Self
+        ensures { value result ≡ (value self + (256 ^ width - value right)) % 256 ^ width };
+
+    /// Takes a number from the front of the input, its lowest byte first.
+    ///
+    /// Fewer bytes than the type has are `EOF`, and the input stays as it is.
+    fn read(input: &mut &[u8]) -> Result<Self, Error>
+        ensures refused { IsErr result ↔ (length input.old.now < width) }
+        ensures reason { IfErr result (λ e. e.reason ≡ Reason.Eof) }
+        ensures unchanged { OnErr result (input.new.now ≡ input.old.now) }
+        ensures taken { IfOk result (λ number. value number ≡ little_endian (take width input.old.now)) }
+        ensures rest { OnOk result (input.new.now ≡ drop width input.old.now) };
+
+    /// Appends the bytes of the number, the lowest first.
+    ///
+    /// A refused growth is `out of memory`, and `out` stays as it is.
+    fn write(self, out: &mut Vec<u8>) -> Result<(), Error>
+        ensures written { OnOk result (out.new.items ≡ out.old.items ++ number_bytes width (value self)) }
+        ensures unchanged { OnErr result (out.new.items ≡ out.old.items) }
+        ensures reason { IfErr result (λ e. e.reason ≡ Reason.OutOfMemory) }
+        ensures succeeds { vec_len out.old + width ≤ vec_capacity out.old → IsOk result }
+        ensures len { OnOk result (vec_len out.new ≡ vec_len out.old + width) }
+        ensures capacity { vec_capacity out.old ≤ vec_capacity out.new };
+}
+
+/// An integer that a column can have as entries.
+pub trait Int: Copy {
+    /// The number's bytes, the lowest first.
+    type Une: Copy;
+
+    /// The unsigned integer of the same width.
+    type Unsigned: SizedUInt;
+
+    // in bytes
+    ghost width: { ℕ };
+
+    ghost signed: { Bool };
+
+    ghost number: { Self → ℤ };
+
+    ghost une_bytes: { Self.Une → List ℕ };
+
+    /// How many bytes a number takes.
+    fn width() -> usize
+        ensures { result ≡ width };
+
+    /// Whether the type has negative numbers.
+    fn is_signed() -> bool
+        ensures { result ≡ signed };
+
+    /// The number of these bytes.
+    fn from_unaligned(unaligned: Self::Une) -> Self
+        ensures { number result ≡ number_of width signed (little_endian (une_bytes unaligned)) };
+
+    /// The bytes of the number: those of the `u16` 258 are `[2, 1]`.
+    fn to_unaligned(self) -> Self::Une
+        ensures { une_bytes result ≡ number_bytes width (residue width (number self)) };
+
+    /// The number modulo the count of values of the type: the `i16` -1 gives 65535.
+    fn to_unsigned(self) -> Self::Unsigned
+        ensures value { Self.Unsigned.value result ≡ residue width (number self) }
+        ensures in_range { IsNumber width signed (number self) };
+
+    /// The number that [`Int::to_unsigned`] takes to this one.
+    fn from_unsigned(unsigned: Self::Unsigned) -> Self
+        ensures { number result ≡ number_of width signed (Self.Unsigned.value unsigned) };
+
+    /// Whether the number is less than the other.
+    fn is_less(self, other: Self) -> bool
+        ensures { result ≡ int_lt (number self) (number other) };
+
+    /// Takes so many numbers from the front of the input, as the bytes of each.
+    ///
+    /// Too few bytes are `EOF`, and the input stays as it is.
+    fn consume_unaligned<'a>(input: &mut &'a [u8], count: usize) -> Result<&'a [Self::Une], Error>
+        ensures refused { IsErr result ↔ (length input.old.now < count * width) }
+        ensures reason { IfErr result (λ e. e.reason ≡ Reason.Eof) }
+        ensures unchanged { OnErr result (input.new.now ≡ input.old.now) }
+        ensures size { IfOk result (λ entries. length entries.now ≡ count) }
+        ensures spelled { IfOk result (λ entries. SpellsRaw width (take (count * width) input.old.now) (map (λ e. little_endian (une_bytes e)) entries.now)) }
+        ensures rest { OnOk result (input.new.now ≡ drop (count * width) input.old.now) };
+
+    ghost width_law: { IsWidth width };
+
+    ghost unsigned_law: { Self.Unsigned.width ≡ width };
+}
+
+/// An [`Int`] whose least and greatest numbers are the same on every machine.
+pub trait SizedInt: Int {
+    /// The least number of the type.
+    const MIN: Self;
+
+    /// The greatest number of the type.
+    const MAX: Self;
+
+    ghost MIN: { Self };
+
+    ghost MAX: { Self };
+
+    ghost bounds_law: { (Self.number MIN ≡ least_number Self.width Self.signed) × (Self.number MAX ≡ greatest_number Self.width Self.signed) };
+}
+
+/// A [`SizedInt`] of one byte: `u8` or `i8`.
+pub trait Byte: SizedInt {
+    /// The byte that stands for the number.
+    fn to_byte(self) -> u8
+        ensures value { result ≡ residue 1 (Self.number self) }
+        ensures in_range { IsNumber 1 Self.signed (Self.number self) };
+
+    /// The number that the byte stands for.
+    fn from_byte(byte: u8) -> Self
+        ensures { Self.number result ≡ number_of 1 Self.signed byte };
+
+    ghost byte_law: { Self.width ≡ 1 };
+}
+
+/// Each byte is below 256.
+pub fn known_bytes(_bytes: &[u8])
+    ensures { All (λ byte. byte < 256) _bytes.now }
+{}
+
+// Takes `count` arrays of `N` bytes, which are the bytes of numbers.
+#[tactic(auto, using(crate::proofs::UnalignedLemmas::first_chunks_spell))]
+fn consume_numbers<'a, const N: usize>(
+    input: &mut &'a [u8],
+    count: usize,
+) -> Result<&'a [[u8; N]], Error>
+    requires { 0 < N }
+    ensures refused { IsErr result ↔ (length input.old.now < count * N) }
+    ensures reason { IfErr result (λ e. e.reason ≡ Reason.Eof) }
+    ensures unchanged { OnErr result (input.new.now ≡ input.old.now) }
+    ensures size { IfOk result (λ entries. length entries.now ≡ count) }
+    ensures spelled { IfOk result (λ entries. SpellsRaw N (take (count * N) input.old.now) (map little_endian entries.now)) }
+    ensures rest { OnOk result (input.new.now ≡ drop (count * N) input.old.now) }
+{
+    known_bytes(input);
+    let arrays = consume_byte_arrays(input, count)?;
+    Ok(arrays)
+}
+
+// Takes an array of `N` bytes.
+fn consume_array<const N: usize>(input: &mut &[u8]) -> Result<[u8; N], Error>
+    requires { 0 < N }
+    ensures refused { IsErr result ↔ (length input.old.now < N) }
+    ensures reason { IfErr result (λ e. e.reason ≡ Reason.Eof) }
+    ensures unchanged { OnErr result (input.new.now ≡ input.old.now) }
+    ensures taken { IfOk result (λ bytes. bytes ≡ take N input.old.now) }
+    ensures rest { OnOk result (input.new.now ≡ drop N input.old.now) }
+{
+    let arrays = consume_byte_arrays::<N>(input, 1)?;
+    Ok(arrays[0])
+}

@@ -1,0 +1,21 @@
+-- Each turn takes one datum.
+use Rattle.std.proofs.Common.{refl, arith}
+use Rattle.bitcode_parts.proofs.ElementLemmas.{takes_none, takes_one_more, taken_and_left}
+use Rattle.bitcode_parts.proofs.lists.elements.decode_each.Goals as goal
+
+pub loop-made-init : goal.loop-made-init
+loop-made-init g c = takes_none g.T.Made.makes (g.D.HoldsData.held c.args.elements.now) c.in_ok-items.items.items c.in_ok-items.ensures.items
+
+pub decode-requires : goal.decode-requires
+decode-requires g c κs = (
+  (refl, tt),
+  omega (
+    arith,
+    taken_and_left g.T.Made.makes c.loop-made._made (g.D.HoldsData.held c.args.elements.now) (g.D.HoldsData.held c.loop-made.elements) c.loop-made.items.items c.loop-made.invariant,
+  ),
+)
+
+pub loop-made-preserved : goal.loop-made-preserved
+loop-made-preserved g c =
+    takes_one_more g.T.Made.makes c.loop-made._made (g.D.HoldsData.held c.args.elements.now) (g.D.HoldsData.held c.loop-made.elements) (g.D.HoldsData.held c.decode.new.self)
+    c.loop-made.items.items c.push.new.self.items c.in_ok-decode.field-0 c.loop-made.invariant c.in_ok-decode.ensures.made c.in_ok-push.ensures.items

@@ -1,0 +1,168 @@
+// The coders of arrays.
+ghost use Rattle.std.specs.Prelude.{◌≡◌, ◌≢◌, ◌+◌, ◌*◌, ◌^◌, ◌<◌, ◌≤◌, ◌==◌, ◌||◌, IsOk, OnOk, IfErr, OnErr, IsErrOf};
+ghost use Rattle.bitcode_columns.specs.Reading.{Reads, IsEndOf};
+ghost use Rattle.bitcode_shapes.specs.Shape.{array_shape};
+ghost use Rattle.bitcode_coder.specs.Coder.{IsWritingRefusal, IsReadingRefusal};
+ghost use Rattle.bitcode_coder.specs.Spelling.{Spells};
+ghost use Rattle.bitcode_coder.specs.Transposition.{array_columns};
+ghost use Rattle.bitcode_parts.specs.Arrays.{array_room, ArraysOverflow, arrays_of, ArrayFaults};
+ghost use Rattle.bitcode_parts.specs.ArrayLaws.{arrays_of_shape, arrays_overflow, same_array_shape};
+
+use crate::lists::elements::{decode_each, encode_each};
+use bitcode_coder::coder::{Buffer, Decoder, Encoder, HoldsColumns, HoldsData, View};
+use bitcode_columns::consume::mul_length;
+use bitcode_columns::error::{Error, Reason};
+use bitcode_columns::refuse::err;
+use bitcode_shapes::shaped::{Made, Shaped};
+use std::alloc::Global;
+
+/// The encoder of arrays of `N` elements: the columns of the elements of all arrays.
+///
+/// It writes an array by the encoder of the elements, and refuses as that does. The number of arrays is not written: a
+/// reader knows it. That number times `N` has to be a length, and where it would not be, `reserve` answers
+/// `length overflow`.
+///
+/// ```
+/// let mut encoder: ArrayEncoder<IntEncoder<u8>, 3> = ArrayEncoder::new(alloc);
+/// encoder.reserve(1)?;
+/// encoder.encode(&[0, 1, 2])?;
+/// encoder.collect_into(&mut bytes)?; // [8, 21]
+/// ```
+#[derive(Drop)]
+pub struct ArrayEncoder<E, const N: usize> {
+    elements: E,
+    // how many arrays there are; of arrays of no elements there can be any number, and none is counted
+    count: usize,
+    ghost fits: { count * N < 2 ^ 64 },
+    ghost uncounted: { N ≡ 0 → count ≡ 0 },
+}
+
+impl<E: HoldsColumns, const N: usize> HoldsColumns for ArrayEncoder<E, N> {
+    ghost columns = { λ e. array_columns N e.count (E.columns e.elements) };
+
+    ghost room = { λ e. array_room N e.count (E.room e.elements) };
+
+    ghost capacity = { λ e. E.capacity e.elements };
+
+    ghost surely_overflows = { λ e n. ArraysOverflow N E.surely_overflows e.elements e.count n };
+
+    ghost overflows = { λ e n. ArraysOverflow N E.overflows e.elements e.count n };
+}
+
+impl<E: Buffer, const N: usize> Buffer for ArrayEncoder<E, N> {
+    fn new(alloc: Global) -> Self {
+        ArrayEncoder {
+            elements: E::new(alloc),
+            count: 0,
+        }
+    }
+
+    fn reserve(&mut self, n: usize) -> Result<(), Error>
+        ensures columns { array_columns N self.new.count (E.columns self.new.elements) ≡ array_columns N self.old.count (E.columns self.old.elements) }
+        ensures ok { OnOk result (n ≤ array_room N self.new.count (E.room self.new.elements)) }
+        ensures grows { array_room N self.old.count (E.room self.old.elements) ≤ array_room N self.new.count (E.room self.new.elements) }
+        ensures succeeds { n ≤ array_room N self.old.count (E.room self.old.elements) → IsOk result }
+        ensures refused { IfErr result (λ e. IsWritingRefusal e.reason (ArraysOverflow N E.surely_overflows self.old.elements self.old.count n)) }
+        ensures overflow { ArraysOverflow N E.overflows self.old.elements self.old.count n → IsErrOf result (record { reason = Reason.LengthOverflow }) }
+    {
+        let Some(count) = self.count.checked_add(n) else {
+            return err(Reason::LengthOverflow);
+        };
+        let _elements = mul_length(count, N)?;
+        self.elements.reserve(n * N)
+    }
+
+    fn collect_into(&mut self, out: &mut Vec<u8>) -> Result<(), Error> {
+        self.elements.collect_into(out)?;
+        self.count = 0;
+        Ok(())
+    }
+
+    fn clear(&mut self) {
+        self.elements.clear();
+        self.count = 0;
+    }
+}
+
+impl<T: Shaped, E: Encoder<T>, const N: usize> Encoder<[T; N]> for ArrayEncoder<E, N> {
+    ghost writes_free = { E.writes_free || N == 0 };
+
+    fn encode(&mut self, t: &[T; N]) -> Result<(), Error> {
+        encode_each(&mut self.elements, t.as_slice())?;
+        if N > 0 {
+            self.count += 1;
+        }
+        Ok(())
+    }
+
+    ghost of_shape = { λ e. arrays_of_shape N e.count T.shape (E.columns e.elements) (E.of_shape e.elements) };
+
+    ghost surely = { λ e n. arrays_overflow T.shape (E.columns e.elements) n N e.count (E.surely e.elements (n * N)) };
+}
+
+/// The decoder of arrays of `N` elements: it reads the elements of all arrays.
+///
+/// It makes an array by the decoder of the elements, one element after the other. Where the number of arrays times `N`
+/// is over 18446744073709551615, reading is `length overflow` and takes nothing from the input.
+///
+/// ```
+/// let mut decoder: ArrayDecoder<IntDecoder<u8>, 3> = ArrayDecoder::new(alloc);
+/// decoder.populate(&mut input, 1)?; // [8, 21]
+/// let first: [u8; 3] = decoder.decode()?; // [0, 1, 2]
+/// ```
+#[derive(Drop)]
+pub struct ArrayDecoder<D, const N: usize> {
+    alloc: Global,
+    elements: D,
+    // how many arrays are left
+    left: usize,
+}
+
+impl<D: HoldsData, const N: usize> HoldsData for ArrayDecoder<D, N> {
+    ghost shape = { array_shape N D.shape };
+
+    ghost held = { λ d. arrays_of N d.left (D.held d.elements) };
+
+    ghost owned = { λ d. D.owned d.elements };
+}
+
+impl<'a, D: View<'a>, const N: usize> View<'a> for ArrayDecoder<D, N> {
+    ghost faults = { ArrayFaults N D.faults };
+
+    fn new(alloc: Global) -> Self {
+        ArrayDecoder {
+            alloc,
+            elements: D::new(alloc),
+            left: 0,
+        }
+    }
+
+    fn populate(&mut self, input: &mut &'a [u8], k: usize) -> Result<(), Error>
+        ensures read { OnOk result (Reads (Spells (array_shape N D.shape)) k input.old.now (arrays_of N self.new.left (D.held self.new.elements)) input.new.now) }
+        ensures refused { IfErr result (λ e. IsReadingRefusal (array_shape N D.shape) e.reason k input.old.now) }
+        ensures exact { IfErr result (λ e. ArrayFaults N D.faults e.reason k input.old.now) }
+        ensures rest { OnErr result (IsEndOf input.old.now input.new.now) }
+        ensures unread { 2 ^ 64 ≤ k * N → input.new.now ≡ input.old.now }
+    {
+        let count = mul_length(k, N)?;
+        self.elements.populate(input, count)?;
+        self.left = k;
+        Ok(())
+    }
+}
+
+impl<'a, T: Made + Drop, D: Decoder<'a, T>, const N: usize> Decoder<'a, [T; N]>
+    for ArrayDecoder<D, N> {
+    ghost makes_free = { N == 0 };
+
+    fn decode(&mut self) -> Result<[T; N], Error> {
+        let items = decode_each(self.alloc, &mut self.elements, N)?;
+        self.left -= 1;
+        match <[T; N]>::try_from(items) {
+            Ok(array) => Ok(array),
+            Err(_items) => unreachable!(),
+        }
+    }
+
+    ghost same_shape = { same_array_shape N D.same_shape };
+}

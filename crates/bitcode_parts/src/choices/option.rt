@@ -1,0 +1,142 @@
+// The coders of options.
+ghost use Rattle.std.specs.Prelude.{◌≡◌, ◌+◌, refl, false, [], ◌∷◌};
+ghost use Rattle.bitcode_shapes.specs.Shape.{choice_shape, shape_and, no_shapes, unit_shape};
+ghost use Rattle.bitcode_coder.specs.Columns.{no_columns, two};
+ghost use Rattle.bitcode_parts.specs.Payloads.{choices_of};
+ghost use Rattle.bitcode_parts.specs.TwoVariants.{TwoVariantsFault};
+ghost use Rattle.bitcode_parts.specs.TwoVariantLaws.{same_two_variants, two_variants_form};
+ghost use Rattle.bitcode_parts.specs.Variants.{variant_room, variant_capacity, variants_left, variants_owned};
+
+use crate::choices::variant::{VariantDecoder, VariantEncoder, encode_payload};
+use crate::empty::EmptyCoder;
+use bitcode_coder::coder::{Buffer, Decoder, Encoder, HoldsColumns, HoldsData, View};
+use bitcode_columns::error::Error;
+use bitcode_shapes::shaped::{Made, Shaped};
+use std::alloc::Global;
+
+/// The encoder of options: which of them hold a value, then the columns of the values.
+///
+/// ```
+/// let mut options: OptionEncoder<IntEncoder<i16>> = OptionEncoder::new(alloc);
+/// options.reserve(3)?;
+/// options.encode(&None)?;
+/// options.encode(&Some(1i16))?;
+/// options.encode(&None)?;
+/// options.collect_into(&mut bytes)?; // [2, 1, 0]
+/// ```
+#[derive(Drop)]
+pub struct OptionEncoder<E> {
+    variants: VariantEncoder<2>,
+    some: E,
+}
+
+impl<E: HoldsColumns> HoldsColumns for OptionEncoder<E> {
+    ghost columns = { λ e. two (⟦<VariantEncoder<2> as HoldsColumns>⟧.columns e.variants) (two no_columns (two (E.columns e.some) no_columns)) };
+
+    ghost room = { λ e. variant_room e.variants };
+
+    ghost capacity = { λ e. variant_capacity e.variants + E.capacity e.some };
+
+    ghost surely_overflows = { λ e n. ⊥ };
+
+    ghost overflows = { λ e n. ⊥ };
+}
+
+impl<E: Buffer> Buffer for OptionEncoder<E> {
+    fn new(alloc: Global) -> Self {
+        OptionEncoder {
+            variants: VariantEncoder::new(alloc),
+            some: E::new(alloc),
+        }
+    }
+
+    fn reserve(&mut self, n: usize) -> Result<(), Error> {
+        self.variants.reserve(n)
+    }
+
+    fn collect_into(&mut self, out: &mut Vec<u8>) -> Result<(), Error> {
+        self.variants.collect_into(out)?;
+        self.some.collect_into(out)
+    }
+
+    fn clear(&mut self) {
+        self.variants.clear();
+        self.some.clear();
+    }
+}
+
+impl<T: Shaped, E: Buffer + Encoder<T>> Encoder<Option<T>> for OptionEncoder<E> {
+    ghost writes_free = { false };
+
+    fn encode(&mut self, t: &Option<T>) -> Result<(), Error> {
+        match t {
+            None => {
+                self.variants.encode(0);
+                Ok(())
+            }
+            Some(value) => {
+                self.variants.encode(1);
+                encode_payload(&mut self.some, value)
+            }
+        }
+    }
+
+    ghost of_shape = { λ e. two_variants_form refl (E.of_shape e.some) };
+
+    ghost surely = { λ e n h. absurd h };
+}
+
+/// The decoder of options: it reads which hold a value, and then all values.
+///
+/// ```
+/// let mut options: OptionDecoder<IntDecoder<i16>> = OptionDecoder::new(alloc);
+/// options.populate(&mut input, 3)?; // of [2, 1, 0]
+/// let first: Option<i16> = options.decode()?; // None
+/// ```
+#[derive(Drop)]
+pub struct OptionDecoder<'a, D> {
+    variants: VariantDecoder<'a, 2, false>,
+    none: EmptyCoder,
+    some: D,
+}
+
+impl<'a, D: HoldsData> HoldsData for OptionDecoder<'a, D> {
+    ghost shape = { choice_shape (shape_and unit_shape (shape_and D.shape no_shapes)) };
+
+    ghost held = { λ d. choices_of (variants_left d.variants) (⟦<EmptyCoder as HoldsData>⟧.held d.none ∷ D.held d.some ∷ []) };
+
+    ghost owned = { λ d. variants_owned d.variants + D.owned d.some };
+}
+
+impl<'a, D: View<'a>> View<'a> for OptionDecoder<'a, D> {
+    ghost faults = { TwoVariantsFault unit_shape ⟦<EmptyCoder as View<'a>>⟧.faults D.faults };
+
+    fn new(alloc: Global) -> Self {
+        OptionDecoder {
+            variants: VariantDecoder::new(alloc),
+            none: View::new(alloc),
+            some: D::new(alloc),
+        }
+    }
+
+    fn populate(&mut self, input: &mut &'a [u8], k: usize) -> Result<(), Error> {
+        self.variants.populate(input, k)?;
+        self.none.populate(input, self.variants.length(0))?;
+        self.some.populate(input, self.variants.length(1))
+    }
+}
+
+impl<'a, T: Made, D: Decoder<'a, T>> Decoder<'a, Option<T>> for OptionDecoder<'a, D> {
+    ghost makes_free = { D.makes_free };
+
+    fn decode(&mut self) -> Result<Option<T>, Error> {
+        if self.variants.decode() == 0 {
+            Decoder::<()>::decode(&mut self.none)?;
+            Ok(None)
+        } else {
+            Ok(Some(self.some.decode()?))
+        }
+    }
+
+    ghost same_shape = { same_two_variants refl D.same_shape };
+}

@@ -1,0 +1,145 @@
+// The coders of results.
+ghost use Rattle.std.specs.Prelude.{◌+◌, [], ◌∷◌, false, ◌&&◌};
+ghost use Rattle.bitcode_shapes.specs.Shape.{choice_shape, shape_and, no_shapes};
+ghost use Rattle.bitcode_coder.specs.Columns.{no_columns, two};
+ghost use Rattle.bitcode_parts.specs.Payloads.{choices_of};
+ghost use Rattle.bitcode_parts.specs.TwoVariants.{TwoVariantsFault};
+ghost use Rattle.bitcode_parts.specs.TwoVariantLaws.{same_two_variants, two_variants_form};
+ghost use Rattle.bitcode_parts.specs.Variants.{variant_room, variant_capacity, variants_left, variants_owned};
+
+use crate::choices::variant::{VariantDecoder, VariantEncoder, encode_payload};
+use bitcode_coder::coder::{Buffer, Decoder, Encoder, HoldsColumns, HoldsData, View};
+use bitcode_columns::error::Error;
+use bitcode_shapes::shaped::{Made, Shaped};
+use std::alloc::Global;
+
+/// The encoder of results: which of them are errors, then the columns of the values, then those of the errors.
+///
+/// ```
+/// let mut results: ResultEncoder<BoolEncoder, IntEncoder<u32>> = ResultEncoder::new(alloc);
+/// results.reserve(2)?;
+/// results.encode(&Err(1u32))?;
+/// results.encode(&Ok(false))?;
+/// results.collect_into(&mut bytes)?; // [1, 0, 4, 1]
+/// ```
+#[derive(Drop)]
+pub struct ResultEncoder<A, B> {
+    variants: VariantEncoder<2>,
+    ok: A,
+    err: B,
+}
+
+impl<A: HoldsColumns, B: HoldsColumns> HoldsColumns for ResultEncoder<A, B> {
+    ghost columns = { λ e. two (⟦<VariantEncoder<2> as HoldsColumns>⟧.columns e.variants) (two (A.columns e.ok) (two (B.columns e.err) no_columns)) };
+
+    ghost room = { λ e. variant_room e.variants };
+
+    ghost capacity = { λ e. variant_capacity e.variants + A.capacity e.ok + B.capacity e.err };
+
+    ghost surely_overflows = { λ e n. ⊥ };
+
+    ghost overflows = { λ e n. ⊥ };
+}
+
+impl<A: Buffer, B: Buffer> Buffer for ResultEncoder<A, B> {
+    fn new(alloc: Global) -> Self {
+        ResultEncoder {
+            variants: VariantEncoder::new(alloc),
+            ok: A::new(alloc),
+            err: B::new(alloc),
+        }
+    }
+
+    fn reserve(&mut self, n: usize) -> Result<(), Error> {
+        self.variants.reserve(n)
+    }
+
+    fn collect_into(&mut self, out: &mut Vec<u8>) -> Result<(), Error> {
+        self.variants.collect_into(out)?;
+        self.ok.collect_into(out)?;
+        self.err.collect_into(out)
+    }
+
+    fn clear(&mut self) {
+        self.variants.clear();
+        self.ok.clear();
+        self.err.clear();
+    }
+}
+
+impl<T: Shaped, E: Shaped, A: Buffer + Encoder<T>, B: Buffer + Encoder<E>> Encoder<Result<T, E>>
+    for ResultEncoder<A, B> {
+    ghost writes_free = { false };
+
+    fn encode(&mut self, t: &Result<T, E>) -> Result<(), Error> {
+        match t {
+            Ok(value) => {
+                self.variants.encode(0);
+                encode_payload(&mut self.ok, value)
+            }
+            Err(error) => {
+                self.variants.encode(1);
+                encode_payload(&mut self.err, error)
+            }
+        }
+    }
+
+    ghost of_shape = { λ e. two_variants_form (A.of_shape e.ok) (B.of_shape e.err) };
+
+    ghost surely = { λ e n h. absurd h };
+}
+
+/// The decoder of results: it reads which are errors, then all values, then all errors.
+///
+/// ```
+/// let mut results: ResultDecoder<BoolDecoder, IntDecoder<u32>> = ResultDecoder::new(alloc);
+/// results.populate(&mut input, 2)?; // of [1, 0, 4, 1]
+/// let first: Result<bool, u32> = results.decode()?; // Err(1)
+/// ```
+#[derive(Drop)]
+pub struct ResultDecoder<'a, A, B> {
+    variants: VariantDecoder<'a, 2, false>,
+    ok: A,
+    err: B,
+}
+
+impl<'a, A: HoldsData, B: HoldsData> HoldsData for ResultDecoder<'a, A, B> {
+    ghost shape = { choice_shape (shape_and A.shape (shape_and B.shape no_shapes)) };
+
+    ghost held = { λ d. choices_of (variants_left d.variants) (A.held d.ok ∷ B.held d.err ∷ []) };
+
+    ghost owned = { λ d. variants_owned d.variants + A.owned d.ok + B.owned d.err };
+}
+
+impl<'a, A: View<'a>, B: View<'a>> View<'a> for ResultDecoder<'a, A, B> {
+    ghost faults = { TwoVariantsFault A.shape A.faults B.faults };
+
+    fn new(alloc: Global) -> Self {
+        ResultDecoder {
+            variants: VariantDecoder::new(alloc),
+            ok: A::new(alloc),
+            err: B::new(alloc),
+        }
+    }
+
+    fn populate(&mut self, input: &mut &'a [u8], k: usize) -> Result<(), Error> {
+        self.variants.populate(input, k)?;
+        self.ok.populate(input, self.variants.length(0))?;
+        self.err.populate(input, self.variants.length(1))
+    }
+}
+
+impl<'a, T: Made, E: Made, A: Decoder<'a, T>, B: Decoder<'a, E>> Decoder<'a, Result<T, E>>
+    for ResultDecoder<'a, A, B> {
+    ghost makes_free = { A.makes_free && B.makes_free };
+
+    fn decode(&mut self) -> Result<Result<T, E>, Error> {
+        if self.variants.decode() == 0 {
+            Ok(Ok(self.ok.decode()?))
+        } else {
+            Ok(Err(self.err.decode()?))
+        }
+    }
+
+    ghost same_shape = { same_two_variants A.same_shape B.same_shape };
+}

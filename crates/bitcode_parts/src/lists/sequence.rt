@@ -1,0 +1,199 @@
+// Types that are written as the sequence of their elements, and made of it.
+ghost use Rattle.std.specs.Prelude.{◌≡◌, ◌+◌, ◌≤◌, List, None, length, All, refl, OnOk, IfOk, IfErr};
+ghost use Rattle.std.specs.VecDeque.{deque_items};
+ghost use Rattle.bitcode_shapes.specs.Datum.{Datum};
+ghost use Rattle.bitcode_shapes.specs.Shape.{seq_shape};
+ghost use Rattle.bitcode_shapes.specs.Lists.{ListsSequence};
+ghost use Rattle.bitcode_coder.specs.Columns.{emptied};
+ghost use Rattle.bitcode_coder.specs.Coder.{written_columns, JoinsEach, OverflowsWithEach, IsWritingRefusal};
+ghost use Rattle.bitcode_parts.specs.Elements.{MakesOfElements};
+
+use crate::lists::elements::{encode_each, encode_lent};
+use bitcode_coder::coder::Encoder;
+use bitcode_columns::error::{Error, Reason};
+use bitcode_shapes::shaped::{Made, Shaped};
+use std::alloc::Global;
+use std::collections::{LinkedList, VecDeque};
+
+/// A type that is written as the sequence of its elements: a vector front to back, a set in the order of its keys or in
+/// one of its own.
+///
+/// ```
+/// impl Sequence for Scores {
+///     type Element = u32;
+///
+///     fn element_count(&self) -> usize {
+///         self.0.len()
+///     }
+///
+///     fn encode_elements<E: Encoder<u32>>(&self, elements: &mut E) -> Result<(), Error> {
+///         encode_each(elements, self.0.as_slice())
+///     }
+/// }
+/// ```
+pub trait Sequence: Shaped {
+    type Element: Shaped;
+
+    // the elements, as they are written
+    ghost items: { Self → List Self.Element };
+
+    /// How many elements there are.
+    fn element_count(&self) -> usize
+        ensures { result ≡ length (items self.now) };
+
+    /// Writes the elements, one after the other. Room for them was reserved.
+    ///
+    /// It refuses as the encoder does: the elements up to the one at hand may have been written then.
+    fn encode_elements<E: Encoder<Self::Element>>(&self, elements: &mut E) -> Result<(), Error>
+        requires room { length (items self.now) ≤ E.room elements.old }
+        requires values { All Self.Element.is_value (items self.now) }
+        ensures joined { OnOk result (JoinsEach Self.Element.lists Self.Element.shape (items self.now) (E.columns elements.old) (E.columns elements.new)) }
+        ensures room { OnOk result (E.room elements.old ≤ E.room elements.new + length (items self.now)) }
+        ensures form { emptied (E.columns elements.new) ≡ emptied (E.columns elements.old) }
+        ensures refused { IfErr result (λ e. IsWritingRefusal e.reason (OverflowsWithEach Self.Element.lists Self.Element.shape (items self.now) (E.columns elements.old))) };
+
+    ghost items_are: { (t : Self) → Self.is_value t → All Self.Element.is_value (items t) };
+
+    ghost items_list: { (t : Self) (d : Datum) → ListsSequence Self.Element.lists (items t) d → Self.lists t d };
+
+    ghost items_columns: { (ds : List Datum) → written_columns Self.shape ds ≡ written_columns (seq_shape None Self.Element.shape) ds };
+}
+
+impl<T: Shaped> Sequence for Vec<T> {
+    type Element = T;
+
+    ghost items = { λ v. v.items };
+
+    fn element_count(&self) -> usize {
+        self.len()
+    }
+
+    fn encode_elements<E: Encoder<T>>(&self, elements: &mut E) -> Result<(), Error> {
+        encode_each(elements, self.as_slice())
+    }
+
+    ghost items_are = { λ t h. h };
+
+    ghost items_list = { λ t d l. l };
+
+    ghost items_columns = { λ ds. refl };
+}
+
+impl<'b, T: Shaped> Sequence for &'b [T] {
+    type Element = T;
+
+    ghost items = { λ s. s.now };
+
+    fn element_count(&self) -> usize {
+        self.len()
+    }
+
+    fn encode_elements<E: Encoder<T>>(&self, elements: &mut E) -> Result<(), Error> {
+        encode_each(elements, *self)
+    }
+
+    ghost items_are = { λ t h. h };
+
+    ghost items_list = { λ t d l. l };
+
+    ghost items_columns = { λ ds. refl };
+}
+
+impl<T: Shaped> Sequence for VecDeque<T> {
+    type Element = T;
+
+    ghost items = { λ q. deque_items q };
+
+    fn element_count(&self) -> usize {
+        self.len()
+    }
+
+    fn encode_elements<E: Encoder<T>>(&self, elements: &mut E) -> Result<(), Error> {
+        encode_lent(elements, self.iter())
+    }
+
+    ghost items_are = { λ t h. h };
+
+    ghost items_list = { λ t d l. l };
+
+    ghost items_columns = { λ ds. refl };
+}
+
+impl<T: Shaped> Sequence for LinkedList<T> {
+    type Element = T;
+
+    ghost items = { λ l. l };
+
+    fn element_count(&self) -> usize {
+        self.len()
+    }
+
+    fn encode_elements<E: Encoder<T>>(&self, elements: &mut E) -> Result<(), Error> {
+        encode_lent(elements, self.iter())
+    }
+
+    ghost items_are = { λ t h. h };
+
+    ghost items_list = { λ t d l. l };
+
+    ghost items_columns = { λ ds. refl };
+}
+
+/// A type that is made of its elements, one after the other.
+///
+/// ```
+/// impl FromElements for Scores {
+///     type Part = u32;
+///
+///     fn from_elements(_alloc: Global, elements: Vec<u32>) -> Result<Self, Error> {
+///         Ok(Scores(elements))
+///     }
+/// }
+/// ```
+pub trait FromElements: Made {
+    type Part: Made + Drop;
+
+    /// The value that is made of these elements.
+    ///
+    /// `out of memory` is the only refusal.
+    fn from_elements(alloc: Global, elements: Vec<Self::Part>) -> Result<Self, Error>
+        ensures made { IfOk result (λ t. MakesOfElements Self.makes Self.Part.makes t elements.items) }
+        ensures refused { IfErr result (λ e. e.reason ≡ Reason.OutOfMemory) };
+}
+
+impl<T: Made + Drop> FromElements for Vec<T> {
+    type Part = T;
+
+    fn from_elements(_alloc: Global, elements: Vec<T>) -> Result<Vec<T>, Error>
+        ensures made { IfOk result (λ t. MakesOfElements ⟦<Vec<T> as Made>⟧.makes T.makes t elements.items) }
+        ensures refused { IfErr result (λ e. e.reason ≡ Reason.OutOfMemory) }
+    {
+        Ok(elements)
+    }
+}
+
+impl<T: Made + Drop> FromElements for VecDeque<T> {
+    type Part = T;
+
+    fn from_elements(_alloc: Global, elements: Vec<T>) -> Result<VecDeque<T>, Error>
+        ensures made { IfOk result (λ t. MakesOfElements ⟦<VecDeque<T> as Made>⟧.makes T.makes t elements.items) }
+        ensures refused { IfErr result (λ e. e.reason ≡ Reason.OutOfMemory) }
+    {
+        Ok(VecDeque::from(elements))
+    }
+}
+
+impl<T: Made + Drop> FromElements for LinkedList<T> {
+    type Part = T;
+
+    fn from_elements(alloc: Global, elements: Vec<T>) -> Result<LinkedList<T>, Error>
+        ensures made { IfOk result (λ t. MakesOfElements ⟦<LinkedList<T> as Made>⟧.makes T.makes t elements.items) }
+        ensures refused { IfErr result (λ e. e.reason ≡ Reason.OutOfMemory) }
+    {
+        let mut list = LinkedList::new(alloc);
+        for element in elements {
+            list.push_back(element)?;
+        }
+        Ok(list)
+    }
+}

@@ -1,0 +1,119 @@
+// The encoder of types whose values point to one of another type.
+ghost use Rattle.std.specs.Prelude.{◌≡◌, [], None, false};
+ghost use Rattle.std.proofs.Common.{sym, ◌∙◌, ap, subst};
+ghost use Rattle.bitcode_coder.specs.Coder.{ListsAsToo, written_columns, SurelyOverflows};
+ghost use Rattle.bitcode_coder.specs.Columns.{lengths, one, two};
+
+use crate::lists::vec::VecEncoder;
+use bitcode_coder::coder::{Buffer, Encoder, HoldsColumns};
+use bitcode_columns::error::Error;
+use bitcode_shapes::shaped::Shaped;
+use std::alloc::Global;
+use std::boxed::BoxedSlice;
+use std::rc::RcSlice;
+
+/// A type whose values point to one value of another type, and are written as that one, as a `Box` is.
+///
+/// ```
+/// impl Points for Meters {
+///     type Target = u32;
+///
+///     fn target(&self) -> &u32 {
+///         &self.0
+///     }
+/// }
+/// ```
+pub trait Points: Shaped {
+    /// The type of the value that is written.
+    type Target: Shaped;
+
+    /// The value that is written.
+    fn target(&self) -> &Self::Target
+        ensures { ListsAsToo Self.lists Self.Target.lists self.now result.now };
+
+    ghost same_shape: { Self.shape ≡ Self.Target.shape };
+}
+
+/// The columns that pointers are written to: those of what they point to, by its encoder `E`.
+///
+/// It refuses as that encoder does, and takes no memory of its own.
+///
+/// ```
+/// let mut boxes: DerefEncoder<IntEncoder<u8>> = DerefEncoder::new(alloc);
+/// boxes.reserve(1)?;
+/// boxes.encode(&Box::new(alloc, 123u8)?)?;
+/// boxes.collect_into(&mut bytes)?; // [123]
+/// ```
+#[derive(Drop)]
+pub struct DerefEncoder<E> {
+    inner: E,
+}
+
+impl<E: HoldsColumns> HoldsColumns for DerefEncoder<E> {
+    ghost columns = { λ e. E.columns e.inner };
+
+    ghost room = { λ e. E.room e.inner };
+
+    ghost capacity = { λ e. E.capacity e.inner };
+
+    ghost surely_overflows = { λ e n. E.surely_overflows e.inner n };
+
+    ghost overflows = { λ e n. E.overflows e.inner n };
+}
+
+impl<E: Buffer> Buffer for DerefEncoder<E> {
+    fn new(alloc: Global) -> Self {
+        DerefEncoder {
+            inner: E::new(alloc),
+        }
+    }
+
+    fn reserve(&mut self, n: usize) -> Result<(), Error> {
+        self.inner.reserve(n)
+    }
+
+    fn collect_into(&mut self, out: &mut Vec<u8>) -> Result<(), Error> {
+        self.inner.collect_into(out)
+    }
+
+    fn clear(&mut self) {
+        self.inner.clear();
+    }
+}
+
+impl<P: Points, E: Encoder<P::Target>> Encoder<P> for DerefEncoder<E> {
+    ghost writes_free = { E.writes_free };
+
+    fn encode(&mut self, t: &P) -> Result<(), Error> {
+        self.inner.encode(t.target())
+    }
+
+    ghost of_shape = { λ e. E.of_shape e.inner ∙ ap (λ shape. written_columns shape []) (sym P.same_shape) };
+
+    ghost surely = { λ e n h. subst (λ shape. SurelyOverflows shape (E.columns e.inner) n) (sym P.same_shape) (E.surely e.inner n h) };
+}
+
+impl<T: Shaped, E: Buffer + Encoder<T>> Encoder<BoxedSlice<T>> for DerefEncoder<VecEncoder<E>> {
+    ghost writes_free = { false };
+
+    fn encode(&mut self, t: &BoxedSlice<T>) -> Result<(), Error> {
+        self.inner.encode(&t.as_slice())
+    }
+
+    ghost of_shape = { λ e. ap (two (one (lengths None) [])) (E.of_shape e.inner.elements) };
+
+    ghost surely = { λ e n never. absurd never };
+}
+
+impl<T: Shaped, E: Buffer + Encoder<T>> Encoder<RcSlice<T>> for DerefEncoder<VecEncoder<E>> {
+    ghost writes_free = { false };
+
+    fn encode(&mut self, t: &RcSlice<T>) -> Result<(), Error> {
+        let items = t.as_slice();
+        self.inner.encode(&items)
+    }
+
+    ghost of_shape = { λ e. ap (two (one (lengths None) [])) (E.of_shape e.inner.elements) };
+
+    ghost surely = { λ e n never. absurd never };
+}

@@ -1,0 +1,85 @@
+// The decoder of types whose values are made of one of another type.
+ghost use Rattle.std.specs.Prelude.{◌≡◌, Bool, IsTrue, IsOk, IfOk, IfErr, ◌&&◌};
+ghost use Rattle.std.proofs.Common.{sym, ◌∙◌};
+ghost use Rattle.bitcode_coder.specs.Coder.{MakesToo};
+
+use bitcode_coder::coder::{Decoder, HoldsData, View};
+use bitcode_columns::error::{Error, Reason};
+use bitcode_shapes::shaped::Made;
+use std::alloc::Global;
+use std::marker::PhantomData;
+
+/// A type whose values are made of values of `T`, as a `Box<T>` is, with memory of their own where they need it.
+///
+/// ```
+/// impl FromValue<u32> for Meters {
+///     fn from_value(_alloc: Global, value: u32) -> Result<Self, Error> {
+///         Ok(Meters(value))
+///     }
+/// }
+/// ```
+pub trait FromValue<T: Made>: Made {
+    // making it takes no memory
+    ghost is_free: { Bool };
+
+    /// The value that is made of the one that was read.
+    ///
+    /// `out of memory` is the only refusal.
+    fn from_value(alloc: Global, value: T) -> Result<Self, Error>
+        ensures made { IfOk result (λ t. MakesToo Self.makes T.makes t value) }
+        ensures refused { IfErr result (λ e. e.reason ≡ Reason.OutOfMemory) }
+        ensures free { IsTrue is_free → IsOk result };
+
+    ghost same_shape: { Self.shape ≡ T.shape };
+}
+
+/// The data that values are made of by way of values of `T`, read by the decoder `D` of these.
+///
+/// It refuses as that decoder does, and with `out of memory` where a value has no memory of its own.
+///
+/// ```
+/// let mut boxes: FromDecoder<u8, IntDecoder<u8>> = FromDecoder::new(alloc);
+/// boxes.populate(&mut input, 1)?; // [123]
+/// let first: Box<u8> = boxes.decode()?; // 123
+/// ```
+#[derive(Drop)]
+pub struct FromDecoder<T, D> {
+    alloc: Global,
+    inner: D,
+    of: PhantomData<T>,
+}
+
+impl<T: Drop, D: HoldsData> HoldsData for FromDecoder<T, D> {
+    ghost shape = { D.shape };
+
+    ghost held = { λ d. D.held d.inner };
+
+    ghost owned = { λ d. D.owned d.inner };
+}
+
+impl<'a, T: Drop, D: View<'a>> View<'a> for FromDecoder<T, D> {
+    ghost faults = { λ reason k input. D.faults reason k input };
+
+    fn new(alloc: Global) -> Self {
+        FromDecoder {
+            alloc,
+            inner: D::new(alloc),
+            of: PhantomData,
+        }
+    }
+
+    fn populate(&mut self, input: &mut &'a [u8], k: usize) -> Result<(), Error> {
+        self.inner.populate(input, k)
+    }
+}
+
+impl<'a, T: Made + Drop, F: FromValue<T>, D: Decoder<'a, T>> Decoder<'a, F> for FromDecoder<T, D> {
+    ghost makes_free = { D.makes_free && F.is_free };
+
+    fn decode(&mut self) -> Result<F, Error> {
+        let value = self.inner.decode()?;
+        F::from_value(self.alloc, value)
+    }
+
+    ghost same_shape = { D.same_shape ∙ sym F.same_shape };
+}

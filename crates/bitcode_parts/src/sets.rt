@@ -1,0 +1,130 @@
+// Sets as the sequences of their elements.
+ghost use Rattle.std.specs.Prelude.{◌≡◌, refl, IfOk, IfErr, None, false};
+ghost use Rattle.std.proofs.lemmas.List.Sorted.{IsPermutation-refl};
+ghost use Rattle.bitcode_parts.specs.Elements.{MakesOfElements};
+ghost use Rattle.std.proofs.Common.{ap};
+ghost use Rattle.bitcode_shapes.specs.Shape.{seq_shape};
+
+use crate::lists::elements::encode_lent;
+use crate::lists::lends::Lends;
+use crate::lists::sequence::{FromElements, Sequence};
+use crate::lists::vec::VecDecoder;
+use bitcode_coder::coder::{Decoder, Encoder};
+use bitcode_columns::error::{Error, Reason};
+use bitcode_shapes::keys::Key;
+use bitcode_shapes::lists::told_each;
+use bitcode_shapes::shaped::{Made, Shaped};
+use std::alloc::Global;
+use std::cmp::{Eq, Ord};
+use std::collections::{BTreeSet, HashSet, btree_set, hash_set};
+use std::hash::Hash;
+
+impl<T: Shaped + Ord> Sequence for BTreeSet<T> {
+    type Element = T;
+
+    ghost items = { λ s. s.keys };
+
+    fn element_count(&self) -> usize {
+        self.len()
+    }
+
+    fn encode_elements<E: Encoder<T>>(&self, elements: &mut E) -> Result<(), Error> {
+        encode_lent(elements, self.iter())
+    }
+
+    ghost items_are = { λ t h. h.each };
+
+    ghost items_list = { λ t d l. l };
+
+    ghost items_columns = { λ ds. refl };
+}
+
+impl<T: Shaped + Eq + Hash> Sequence for HashSet<T> {
+    type Element = T;
+
+    ghost items = { λ s. s.keys };
+
+    fn element_count(&self) -> usize {
+        self.len()
+    }
+
+    fn encode_elements<E: Encoder<T>>(&self, elements: &mut E) -> Result<(), Error> {
+        encode_lent(elements, self.iter())
+    }
+
+    ghost items_are = { λ t h. h.each };
+
+    ghost items_list = { λ t d l. record { order = t.keys; reordered = IsPermutation-refl t.keys; listing = l } };
+
+    ghost items_columns = { λ ds. refl };
+}
+
+impl<T: Key + Made + Ord + Drop> FromElements for BTreeSet<T> {
+    type Part = T;
+
+    fn from_elements(alloc: Global, elements: Vec<T>) -> Result<BTreeSet<T>, Error>
+        ensures made { IfOk result (λ t. MakesOfElements ⟦<BTreeSet<T> as Made>⟧.makes T.makes t elements.items) }
+        ensures refused { IfErr result (λ e. e.reason ≡ Reason.OutOfMemory) }
+    {
+        told_each(elements.as_slice());
+        let mut set = BTreeSet::new(alloc);
+        for element in elements {
+            let _added = set.insert(element)?;
+        }
+        Ok(set)
+    }
+}
+
+impl<T: Key + Made + Hash + Drop> FromElements for HashSet<T> {
+    type Part = T;
+
+    fn from_elements(alloc: Global, elements: Vec<T>) -> Result<HashSet<T>, Error>
+        ensures made { IfOk result (λ t. MakesOfElements ⟦<HashSet<T> as Made>⟧.makes T.makes t elements.items) }
+        ensures refused { IfErr result (λ e. e.reason ≡ Reason.OutOfMemory) }
+    {
+        told_each(elements.as_slice());
+        let mut set = HashSet::new(alloc);
+        for element in elements {
+            let _added = set.insert(element)?;
+        }
+        Ok(set)
+    }
+}
+
+impl<'b, T> Lends<'b, T> for btree_set::Iter<'b, T> {
+    ghost rest = { λ l. l };
+
+    fn lend(&mut self) -> Option<&'b T> {
+        self.next()
+    }
+}
+
+impl<'b, T> Lends<'b, T> for hash_set::Iter<'b, T> {
+    ghost rest = { λ l. l };
+
+    fn lend(&mut self) -> Option<&'b T> {
+        self.next()
+    }
+}
+
+impl<'a, T: Key + Made + Ord + Drop, D: Decoder<'a, T>> Decoder<'a, BTreeSet<T>>
+    for VecDecoder<'a, D> {
+    ghost makes_free = { false };
+
+    fn decode(&mut self) -> Result<BTreeSet<T>, Error> {
+        self.decode_as()
+    }
+
+    ghost same_shape = { ap (seq_shape None) D.same_shape };
+}
+
+impl<'a, T: Key + Made + Hash + Drop, D: Decoder<'a, T>> Decoder<'a, HashSet<T>>
+    for VecDecoder<'a, D> {
+    ghost makes_free = { false };
+
+    fn decode(&mut self) -> Result<HashSet<T>, Error> {
+        self.decode_as()
+    }
+
+    ghost same_shape = { ap (seq_shape None) D.same_shape };
+}
