@@ -1,5 +1,5 @@
 -- Columns that are found by the links of their places.
-use Rattle.std.proofs.Common.{◌≡◌, ◌≢◌, ℕ, zero, suc, ◌<◌, ◌≤◌, ◌⊎◌, inl, inr, List, [], ◌∷◌, ◌++◌, length, map, take, get_or, All, Option, None, Some, slice_get, refl, ap, sym, ◌∙◌, subst, arith}
+use Rattle.std.proofs.Common.{◌≡◌, ◌≢◌, ℕ, zero, suc, ◌<◌, ◌⊎◌, inl, inr, List, [], ◌∷◌, ◌++◌, length, map, take, get_or, All, Option, None, Some, slice_get, refl, ap, sym, ◌∙◌, subst, arith}
 use Rattle.std.specs.Prelude.{IsSomeAnd, IfSome, IfNone}
 use Rattle.std.proofs.Math.ListN.{set}
 use Rattle.bitcode_serde.specs.Links.{column_link, AreFiled}

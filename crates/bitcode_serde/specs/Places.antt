@@ -1,5 +1,5 @@
 -- Places by number: the root is number 0, and each other lies below one before it.
-use Rattle.std.specs.Prelude.{◌≡◌, ℕ, zero, suc, ◌+◌, ◌-◌, ◌<◌, ◌≤◌, ◌⊎◌, Some, slice_get, List, [], ◌∷◌, ◌++◌, length, get_or}
+use Rattle.std.specs.Prelude.{◌≡◌, ℕ, suc, ◌-◌, ◌<◌, ◌≤◌, ◌⊎◌, Some, slice_get, List, [], ◌∷◌, ◌++◌, length, get_or}
 use Rattle.bitcode_untyped.specs.Walk.{Step, element, key, value, variant, field, Place}
 use Rattle.bitcode_serde.specs.Links.{link}
 use Rattle.bitcode_serde.specs.declared.links.Links.{Links}

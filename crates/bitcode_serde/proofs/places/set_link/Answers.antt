@@ -1,4 +1,4 @@
-use Rattle.std.proofs.Common.{rules, refl, sym, subst}
+use Rattle.std.proofs.Common.{rules, subst}
 use Rattle.bitcode_serde.specs.Links.{HasRoom}
 use Rattle.bitcode_serde.proofs.LinkLemmas.{room_inside, room_there, link_set, link_set-others, column_set-same}
 use Rattle.bitcode_serde.proofs.places.set_link.Goals as goal

@@ -1,9 +1,8 @@
 -- A place is added, and linked from the one above it.
-use Rattle.std.proofs.Common.{◌≡◌, ◌⊎◌, ◌+◌, sym, subst, length, inl, inr, ℕ, ap, ◌∙◌}
+use Rattle.std.proofs.Common.{◌+◌, sym, subst, length, inl, inr, ap, ◌∙◌}
 use Rattle.bitcode_serde.specs.Links.{link}
 use Rattle.bitcode_serde.specs.Places.{AreLinked, LinkBelow}
 use Rattle.bitcode_serde.specs.declared.places.Below.{Below}
-use Rattle.bitcode_serde.specs.declared.step.Step.{Step}
 use Rattle.bitcode_serde.proofs.PlaceLemmas.{below_grown, new_place, apart_grown, linked_grown, others_grown, written_back, length_more}
 use Rattle.bitcode_serde.proofs.places.Places.add.Goals as goal
 

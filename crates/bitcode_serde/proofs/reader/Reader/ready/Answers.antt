@@ -1,12 +1,12 @@
 -- A column is found, or opened.
-use Rattle.std.proofs.Common.{◌≢◌, refl, sym, ◌∙◌, arith, subst, inl, inr}
+use Rattle.std.proofs.Common.{◌≢◌, refl, sym, ◌∙◌, arith, inl, inr}
 use Rattle.bitcode_columns.specs.declared.error.Reason.TheVariants.{OutOfMemory}
 use Rattle.bitcode_untyped.specs.Machine.{State}
 use Rattle.bitcode_serde.specs.Reading.{Stands, NothingAt}
 use Rattle.bitcode_serde.specs.Places.{places, place_at}
 use Rattle.bitcode_serde.specs.ReadColumns.{kind_of, IsColumnReason}
 use Rattle.bitcode_serde.proofs.ColumnLemmas.{passed_on}
-use Rattle.bitcode_serde.proofs.ReadingLemmas.{IsFirstAt, first_at, ready_at, stuck_here}
+use Rattle.bitcode_serde.proofs.ReadingLemmas.{first_at, ready_at, stuck_here}
 use Rattle.bitcode_serde.proofs.reader.Reader.ready.Goals as goal
 
 pub returns-then-not-is-clause-refused : goal.returns-then-not-is-clause-refused

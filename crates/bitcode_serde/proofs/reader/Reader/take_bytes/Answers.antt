@@ -1,5 +1,5 @@
 -- The machine takes the entries that the column gives.
-use Rattle.std.proofs.Common.{◌≢◌, rules, arith, refl, ap, sym, ◌∙◌, length, map, ◌-◌}
+use Rattle.std.proofs.Common.{◌≢◌, rules, arith, refl, ap, sym, ◌∙◌, map, ◌-◌}
 use Rattle.std.proofs.lemmas.List.{length-map}
 use Rattle.std.proofs.lemmas.Result.{err_from_is_err_and}
 use Rattle.bitcode_columns.specs.declared.error.Reason.TheVariants.{OutOfMemory}

@@ -1,5 +1,5 @@
 -- What is taken and what is left are what was left.
-use Rattle.std.proofs.Common.{◌++◌, ap, sym, ◌∙◌}
+use Rattle.std.proofs.Common.{◌++◌, ap, ◌∙◌}
 use Rattle.bitcode_serde.specs.Indices.{indices_left}
 use Rattle.bitcode_serde.proofs.IndexLemmas.{indices_cut}
 use Rattle.bitcode_serde.proofs.serde.decoder.VariantDecoder.take.Goals as goal

@@ -1,5 +1,5 @@
 -- A column is added, and linked from its place.
-use Rattle.std.proofs.Common.{◌≡◌, ◌∙◌, ◌≤◌, All, length, map, ap, arith, sym, subst, refl, inl, inr}
+use Rattle.std.proofs.Common.{◌∙◌, ◌≤◌, All, length, map, arith, sym, subst, refl, inl, inr}
 use Rattle.bitcode_serde.specs.Links.{AreFiled}
 use Rattle.bitcode_serde.specs.declared.writer.state.PlacedWritten.{PlacedWritten}
 use Rattle.bitcode_serde.proofs.FiledLemmas.{filed_same, filed_grown}

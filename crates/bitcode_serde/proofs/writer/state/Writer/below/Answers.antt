@@ -1,7 +1,6 @@
 -- A step down to a place that was met, or to a new one.
 use Rattle.std.proofs.Common.{◌≡◌, ◌≤◌, All, length, map, ap, arith}
 use Rattle.bitcode_serde.specs.Places.{IsGrown}
-use Rattle.bitcode_serde.specs.Writing.{Grows, written}
 use Rattle.bitcode_serde.specs.declared.places.Below.{Below}
 use Rattle.bitcode_serde.proofs.FiledLemmas.{filed_same}
 use Rattle.bitcode_serde.proofs.OutcomeLemmas.{told_ok, either_way}

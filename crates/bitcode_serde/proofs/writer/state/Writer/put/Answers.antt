@@ -1,5 +1,5 @@
 -- An entry goes to the column of its place.
-use Rattle.std.proofs.Common.{◌≡◌, ◌++◌, [], ◌∷◌, map, length, refl, ap, ◌∙◌}
+use Rattle.std.proofs.Common.{◌++◌, [], ◌∷◌, map, length, refl, ap, ◌∙◌}
 use Rattle.bitcode_serde.specs.Places.{places}
 use Rattle.bitcode_serde.specs.Writing.{placed}
 use Rattle.bitcode_serde.specs.WrittenColumns.{kind_of_entry, datum_of_entry}
