@@ -1,14 +1,14 @@
-// A columnar, bit-packing serializer: the names of the crates below, given out again.
-//
-// `encode` writes a value as few bytes, and `decode` reads it back or refuses the input:
-//
-//     let bytes = encode(alloc, &(true, 7u16))?;        // [1, 7, 0]
-//     let pair: (bool, u16) = decode(alloc, &bytes)?;   // (true, 7)
-//
-// `serialize` and `deserialize` do so with a `Value` that has no type of its own, under a `Shape`, which may hold itself:
-//
-//     let bytes = serialize(alloc, &shape, &value)?;
-//     let value = deserialize(alloc, &shape, &bytes)?;
+//! A columnar, bit-packing serializer: the names of the crates below, given out again.
+//!
+//! `encode` writes a value as few bytes, and `decode` reads it back or refuses the input:
+//!
+//!     let bytes = encode(alloc, &(true, 7u16))?;        // [1, 7, 0]
+//!     let pair: (bool, u16) = decode(alloc, &bytes)?;   // (true, 7)
+//!
+//! `serialize` and `deserialize` do so with a `Value` that has no type of its own, under a `Shape`, which may hold itself:
+//!
+//!     let bytes = serialize(alloc, &shape, &value)?;
+//!     let value = deserialize(alloc, &shape, &bytes)?;
 #![tactic(auto)]
 
 pub use bitcode_coder::bool::BoolDecoder;

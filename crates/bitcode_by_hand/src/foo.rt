@@ -1,4 +1,4 @@
-// A struct of two fields, written by hand.
+//! A struct of two fields, written by hand.
 ghost use Rattle.std.specs.Prelude.{true, min, refl, false, ◌+◌};
 ghost use Rattle.bitcode.specs.ByHand.{struct_lawful, struct_makeable, u32_lawful, u32_makeable, str_lawful, str_makeable, struct_same_arrays, u32_same_arrays, str_same_arrays, two, pairs_of};
 ghost use Rattle.bitcode_by_hand.specs.Foo.{foo_fields};

@@ -1,4 +1,4 @@
-// Types written by hand, as a user of the library writes them: their proofs look into no column and no byte.
+//! Types written by hand, as a user of the library writes them: their proofs look into no column and no byte.
 #![tactic(auto)]
 
 pub mod foo;

@@ -1,4 +1,4 @@
-// An enum without variants, written by hand. Its coders serve every type without values.
+//! An enum without variants, written by hand. Its coders serve every type without values.
 ghost use Rattle.std.specs.Prelude.{◌≡◌, ◌<◌, true, false, refl, replicate};
 ghost use Rattle.bitcode_columns.specs.declared.error.Reason.TheVariants.{InvalidEnumVariant};
 ghost use Rattle.bitcode_shapes.specs.Datum.{unit};

@@ -1,4 +1,4 @@
-// An enum of two variants, written by hand.
+//! An enum of two variants, written by hand.
 ghost use Rattle.std.specs.Prelude.{[], ◌∷◌, true, false, refl, ◌+◌};
 ghost use Rattle.std.proofs.Common.{lit≤};
 ghost use Rattle.bitcode.specs.ByHand.{choice_lawful, choice_makeable, first_lawful, first_makeable, last_lawful, last_makeable, image_lawful, image_makeable};

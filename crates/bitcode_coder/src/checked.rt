@@ -1,4 +1,4 @@
-// Integers of which not all are allowed: what they stand for, and the coder that reads them.
+//! Integers of which not all are allowed: what they stand for, and the coder that reads them.
 ghost use Rattle.std.specs.Prelude.{◌≡◌, ◌≢◌, [], true, All, MatchBool, MatchOption};
 ghost use Rattle.std.proofs.Common.{sym};
 ghost use Rattle.bitcode_columns.specs.Fast.{cow_rest, cow_owned};

@@ -1,4 +1,4 @@
-// The integers, as the coders of their columns take them.
+//! The integers, as the coders of their columns take them.
 ghost use Rattle.std.specs.Prelude.{◌≡◌, ◌≢◌, ℕ, ◌^◌, ◌<◌, ◌++◌, ℤ, Bool, List, map, All, IsTrue, OnOk, IfErr, OnErr};
 ghost use Rattle.bitcode_columns.specs.Fast.{cow_rest};
 ghost use Rattle.bitcode_columns.specs.IntWidths.{IsWidth};

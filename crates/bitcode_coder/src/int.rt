@@ -1,4 +1,4 @@
-// The coders of a column of integers.
+//! The coders of a column of integers.
 #![tactic(auto)]
 
 ghost use Rattle.std.specs.Prelude.{◌≡◌, ◌≢◌, ◌<◌, ◌≤◌, ◌++◌, List, [], true, OnOk, IfErr, OnErr};

@@ -1,4 +1,4 @@
-// What holds of the columns of data, whatever the data are. A call does nothing: its contract is the law.
+//! What holds of the columns of data, whatever the data are. A call does nothing: its contract is the law.
 ghost use Rattle.std.specs.Prelude.{ℕ, List};
 ghost use Rattle.bitcode_columns.specs.Laws.{IsReadOnce};
 ghost use Rattle.bitcode_shapes.specs.Datum.{Datum};

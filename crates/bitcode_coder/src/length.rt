@@ -1,4 +1,4 @@
-// Lengths as the entries of a column.
+//! Lengths as the entries of a column.
 ghost use Rattle.std.specs.Prelude.{◌≡◌, ℕ, length};
 
 pub use crate::length::decoder::LengthDecoder;

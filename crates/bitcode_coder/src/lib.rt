@@ -1,4 +1,4 @@
-// Columns of data, the traits of coders, and the coders of one column.
+//! Columns of data, the traits of coders, and the coders of one column.
 #![tactic(auto)]
 
 pub mod bool;

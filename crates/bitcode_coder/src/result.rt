@@ -1,4 +1,4 @@
-// The result of coders' calls.
+//! The result of coders' calls.
 use bitcode_columns::error::Error;
 
 /// What a coder's call gives, or why it refused.

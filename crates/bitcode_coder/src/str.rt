@@ -1,4 +1,4 @@
-// Texts as the entries of a column.
+//! Texts as the entries of a column.
 ghost use Rattle.std.specs.Prelude.{◌≡◌, List, None, refl};
 ghost use Rattle.bitcode_shapes.specs.Datum.{Datum, text};
 ghost use Rattle.bitcode_coder.specs.Coder.{written_columns};

@@ -1,4 +1,4 @@
-// Bytes of texts, and their coder.
+//! Bytes of texts, and their coder.
 ghost use Rattle.std.specs.Prelude.{◌≡◌, ◌++◌, map, pos, true, refl};
 ghost use Rattle.bitcode_columns.specs.Fast.{fast_items, fast_room, fast_capacity};
 ghost use Rattle.bitcode_shapes.specs.SameArrays.{one_datum_same_arrays};

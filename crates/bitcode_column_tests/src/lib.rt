@@ -1,4 +1,4 @@
-// Tests of columns by themselves: those of the Rust crate, and columns at the limits of their forms.
+//! Tests of columns by themselves: those of the Rust crate, and columns at the limits of their forms.
 #![tactic(auto)]
 
 #[cfg(test)]

@@ -1,4 +1,4 @@
-// Columns of each kind, written, read and refused.
+//! Columns of each kind, written, read and refused.
 mod byte_columns;
 mod coder_calls;
 mod fronts;

@@ -1,4 +1,4 @@
-// Entries that can stand as the digits of bytes.
+//! Entries that can stand as the digits of bytes.
 ghost use Rattle.std.specs.Prelude.{◌≡◌, ℕ, ◌<◌};
 ghost use Rattle.bitcode_columns.specs.Ints.{residue, bool_digit};
 

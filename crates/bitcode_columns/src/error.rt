@@ -1,4 +1,4 @@
-// Why a call refuses.
+//! Why a call refuses.
 ghost use Rattle.std.specs.Prelude.{◌≡◌, ◌++◌, Some, codes};
 ghost use Rattle.bitcode_columns.specs.Error.{reason_text};
 

@@ -1,4 +1,4 @@
-// Lists with reserved room, and lists that are read from the front.
+//! Lists with reserved room, and lists that are read from the front.
 #![tactic(auto, unfolding(crate::specs::Fast::fast_items, crate::specs::Fast::fast_room, crate::specs::Fast::slice_rest, crate::specs::Fast::cow_rest, crate::specs::Fast::cow_owned, crate::specs::Lending::with_fast_items))]
 
 ghost use Rattle.std.specs.Prelude.{◌≡◌, ℕ, ◌+◌, ◌<◌, ◌≤◌, List, [], ◌∷◌, ◌++◌, length, take, drop, vec_len, IsOk, IfOk, OnOk, IfErr, OnErr};

@@ -1,4 +1,4 @@
-// How often each byte occurs.
+//! How often each byte occurs.
 ghost use Rattle.bitcode_columns.specs.Histogram.{AreCounts};
 
 /// How many of the bytes are 0, how many are 1, and so on up to 255.

@@ -1,4 +1,4 @@
-// The integers that columns are made of: as numbers, as residues and as bytes.
+//! The integers that columns are made of: as numbers, as residues and as bytes.
 ghost use Rattle.std.specs.Prelude.{◌≡◌, ℕ, ◌+◌, ◌-◌, ◌*◌, ◌%◌, ◌^◌, ◌<◌, ◌≤◌, ℤ, int_lt, ◌↔◌, Bool, List, ◌++◌, length, take, drop, map, All, vec_len, vec_capacity, IsOk, IsErr, IfOk, OnOk, IfErr, OnErr};
 ghost use Rattle.bitcode_columns.specs.IntWidths.{IsWidth};
 ghost use Rattle.bitcode_columns.specs.LittleEndian.{little_endian, number_bytes, SpellsRaw};

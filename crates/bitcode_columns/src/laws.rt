@@ -1,4 +1,4 @@
-// What holds of columns whatever their entries are. A call does nothing: its contract is the law.
+//! What holds of columns whatever their entries are. A call does nothing: its contract is the law.
 ghost use Rattle.std.specs.Prelude.{ℕ, ◌<◌, ◌≤◌, Bool, List, ◌++◌, length, All};
 ghost use Rattle.bitcode_columns.specs.BoolColumn.{SpellsBools, bool_text};
 ghost use Rattle.bitcode_columns.specs.ByteColumn.{SpellsBytes, byte_text};

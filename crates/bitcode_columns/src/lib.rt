@@ -1,4 +1,4 @@
-// Errors, what is taken from the input, lists with room, the integers of columns, and their packers and unpackers.
+//! Errors, what is taken from the input, lists with room, the integers of columns, and their packers and unpackers.
 #![tactic(auto)]
 
 pub mod consume;

@@ -1,4 +1,4 @@
-// The least and the greatest of some integers.
+//! The least and the greatest of some integers.
 ghost use Rattle.std.specs.Prelude.{◌≡◌, ◌<◌, ◌↔◌, length, map, All, IsSome, IfSome, []};
 ghost use Rattle.bitcode_columns.specs.Ints.{IsNumber, least, greatest};
 

@@ -1,4 +1,4 @@
-// Bools and bytes, packed.
+//! Bools and bytes, packed.
 ghost use Rattle.std.specs.Prelude.{◌≡◌, ℕ, ◌+◌, ◌<◌, ◌++◌, length, vec_len, vec_capacity, IsOk, OnOk, IfErr, OnErr};
 ghost use Rattle.bitcode_columns.specs.BoolColumn.{SpellsBools, bool_text};
 ghost use Rattle.bitcode_columns.specs.ByteColumn.{level_of_base, base_at_level};

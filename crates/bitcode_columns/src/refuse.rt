@@ -1,4 +1,4 @@
-// Short ways to refuse.
+//! Short ways to refuse.
 ghost use Rattle.std.specs.Prelude.{◌≡◌, IsErrOf};
 
 use crate::error::{Error, Reason};

@@ -1,4 +1,4 @@
-// A buffer that values of one type are written to, one after the other.
+//! A buffer that values of one type are written to, one after the other.
 ghost use Rattle.std.specs.Prelude.{◌≡◌, ◌≢◌, IfOk, IfErr, vec_capacity};
 ghost use Rattle.bitcode_shapes.specs.Datum.{Datum};
 ghost use Rattle.bitcode_coder.specs.Coder.{IsWritingRefusal, IsReadingReason};

@@ -1,4 +1,4 @@
-// The types that have coders.
+//! The types that have coders.
 use bitcode_coder::coder::{Buffer, Decoder, Encoder, View};
 use bitcode_shapes::shaped::{Made, Shaped};
 

@@ -1,4 +1,4 @@
-// What follows from the contracts of the whole calls. A call only looks at its values: its contract is the law.
+//! What follows from the contracts of the whole calls. A call only looks at its values: its contract is the law.
 ghost use Rattle.std.specs.Prelude.{◌≡◌, ◌≢◌, ◌<◌, [], ◌∷◌, slice_index, IsTrue, IfOk, IfErr};
 ghost use Rattle.bitcode_shapes.specs.Datum.{Datum};
 ghost use Rattle.bitcode_coder.specs.Columns.{CountsFit};

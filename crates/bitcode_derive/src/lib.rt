@@ -1,4 +1,4 @@
-// Types that are encoded and decoded, and the whole calls.
+//! Types that are encoded and decoded, and the whole calls.
 #![tactic(auto)]
 
 pub mod buffer;

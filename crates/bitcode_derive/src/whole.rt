@@ -1,4 +1,4 @@
-// Whole calls: one value to bytes, and all bytes of an input to a value.
+//! Whole calls: one value to bytes, and all bytes of an input to a value.
 ghost use Rattle.std.specs.Prelude.{◌≡◌, ◌≢◌, IsErrOf, IfOk, IfErr};
 ghost use Rattle.bitcode_shapes.specs.Datum.{Datum};
 ghost use Rattle.bitcode_coder.specs.Coder.{IsWritingRefusal, IsReadingReason};
@@ -14,7 +14,7 @@ use std::alloc::Global;
 
 /// Writes a value: the texts of its columns, joined.
 ///
-/// Values that are equal may have several such texts only where hashed containers or heaps are inside.
+/// A value may have several such texts only where hashed containers or heaps are inside.
 /// The call keeps nothing.
 ///
 /// Errors: `length overflow` where some number of arrays in the value times their size passes

@@ -1,5 +1,5 @@
-// Calls at nested types, as programs make them. Each of these functions is proved, so a program that reads and writes its own
-// records is, however they nest.
+//! Calls at nested types, as programs make them. Each of these functions is proved, so a program that reads and writes its own
+//! records is, however they nest.
 #![tactic(auto)]
 
 use bitcode::{Decode, Encode, Error, decode, encode};

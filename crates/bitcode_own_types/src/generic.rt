@@ -1,4 +1,4 @@
-// Generic code over values of any type.
+//! Generic code over values of any type.
 ghost use Rattle.std.specs.Prelude.{◌≡◌, ◌≢◌, IfOk, IfErr};
 ghost use Rattle.bitcode.specs.ByHand.{Datum, IsDecodingOf, SpellsDatum};
 

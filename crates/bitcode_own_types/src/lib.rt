@@ -1,5 +1,5 @@
-// A struct and a container written by hand, and generic code, as a user of the library writes them: nothing but the library is
-// named.
+//! A struct and a container written by hand, and generic code, as a user of the library writes them: nothing but the library is
+//! named.
 #![tactic(auto)]
 
 pub mod generic;

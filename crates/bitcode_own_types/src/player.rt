@@ -1,4 +1,4 @@
-// A struct of three fields, written by hand over the coders of tuples.
+//! A struct of three fields, written by hand over the coders of tuples.
 ghost use Rattle.std.specs.Prelude.{true, false, refl};
 ghost use Rattle.std.proofs.Common.{⊎_elim};
 ghost use Rattle.bitcode.specs.ByHand.{struct_lawful, struct_makeable, str_lawful, str_makeable, u8_lawful, u8_makeable, u32_lawful, u32_makeable};

@@ -1,4 +1,4 @@
-// A container of numbers, written by hand: it is written as the sequence of its elements, and made of them.
+//! A container of numbers, written by hand: it is written as the sequence of its elements, and made of them.
 ghost use Rattle.std.specs.Prelude.{◌≡◌, true, false, refl, IfOk, IfErr};
 ghost use Rattle.bitcode.specs.ByHand.{image_lawful, image_makeable, u32_lawful, u32_makeable, vec_lawful, vec_makeable, MakesOfElements};
 ghost use Rattle.bitcode_own_types.specs.Scores.{scores_list};

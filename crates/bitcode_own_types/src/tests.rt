@@ -1,4 +1,4 @@
-// With ample memory a player and scores are written and read back, and generic code reads them.
+//! With ample memory a player and scores are written and read back, and generic code reads them.
 use crate::generic::{Cache, load};
 use crate::player::Player;
 use crate::scores::Scores;

@@ -1,4 +1,4 @@
-// The coders of arrays.
+//! The coders of arrays.
 ghost use Rattle.std.specs.Prelude.{◌≡◌, ◌≢◌, ◌+◌, ◌*◌, ◌^◌, ◌<◌, ◌≤◌, ◌==◌, ◌||◌, IsOk, OnOk, IfErr, OnErr, IsErrOf};
 ghost use Rattle.bitcode_columns.specs.Reading.{Reads, IsEndOf};
 ghost use Rattle.bitcode_shapes.specs.Shape.{array_shape};

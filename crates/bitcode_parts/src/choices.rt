@@ -1,4 +1,4 @@
-// Choices: options, results and the variants of enums.
+//! Choices: options, results and the variants of enums.
 pub mod option;
 pub mod result;
 pub mod variant;

@@ -1,4 +1,4 @@
-// The coders of types whose values are written, or read, as values of another type.
+//! The coders of types whose values are written, or read, as values of another type.
 ghost use Rattle.std.specs.Prelude.{◌≡◌, []};
 ghost use Rattle.std.proofs.Common.{sym, ◌∙◌};
 ghost use Rattle.bitcode_coder.specs.Coder.{ListsAsToo, MakesToo};

@@ -1,4 +1,4 @@
-// Durations as seconds and nanoseconds.
+//! Durations as seconds and nanoseconds.
 ghost use Rattle.std.specs.Prelude.{refl};
 ghost use Rattle.bitcode_parts.specs.Durations.{duration_written_as};
 

@@ -1,4 +1,4 @@
-// The coder of what has no column.
+//! The coder of what has no column.
 ghost use Rattle.std.specs.Prelude.{◌≡◌, refl, true, replicate};
 ghost use Rattle.bitcode_shapes.specs.Datum.{unit};
 ghost use Rattle.bitcode_shapes.specs.Shape.{unit_shape};

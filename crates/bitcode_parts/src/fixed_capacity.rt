@@ -1,4 +1,4 @@
-// The decoder of vectors of a fixed capacity: as that of sequences, but no length passes the capacity.
+//! The decoder of vectors of a fixed capacity: as that of sequences, but no length passes the capacity.
 #![tactic(auto, unfolding(bitcode_coder::specs::Length::lengths_left, bitcode_coder::specs::Length::lengths_sum))]
 
 ghost use Rattle.std.specs.Prelude.{◌+◌, ◌≤◌, ◌⊎◌, Some, All, false, length, refl};

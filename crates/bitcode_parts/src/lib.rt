@@ -1,5 +1,5 @@
-// Coders of the parts of which types are made: containers, arrays, pointers, choices, what is written as another type, and
-// what needs no columns.
+//! Coders of the parts of which types are made: containers, arrays, pointers, choices, what is written as another type, and
+//! what needs no columns.
 #![tactic(auto)]
 
 pub mod arrays;

@@ -1,4 +1,4 @@
-// Lists: what is written as the sequence of its elements, and made of it.
+//! Lists: what is written as the sequence of its elements, and made of it.
 pub mod elements;
 pub mod lends;
 pub mod sequence;

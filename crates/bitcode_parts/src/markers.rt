@@ -1,4 +1,4 @@
-// Markers of types have no column, as the unit.
+//! Markers of types have no column, as the unit.
 ghost use Rattle.std.specs.Prelude.{refl, true};
 
 use crate::empty::EmptyCoder;

@@ -1,4 +1,4 @@
-// Boxes, shared pointers, their slices and tuples of one field, by way of what they hold.
+//! Boxes, shared pointers, their slices and tuples of one field, by way of what they hold.
 ghost use Rattle.std.specs.Prelude.{refl, true, false};
 
 use crate::pointers::deref::Points;

@@ -1,4 +1,4 @@
-// Sets as the sequences of their elements.
+//! Sets as the sequences of their elements.
 ghost use Rattle.std.specs.Prelude.{◌≡◌, refl, IfOk, IfErr, None, false};
 ghost use Rattle.std.proofs.lemmas.List.Sorted.{IsPermutation-refl};
 ghost use Rattle.bitcode_parts.specs.Elements.{MakesOfElements};

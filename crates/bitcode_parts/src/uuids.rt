@@ -1,4 +1,4 @@
-// UUIDs as their sixteen bytes.
+//! UUIDs as their sixteen bytes.
 ghost use Rattle.std.specs.Prelude.{refl};
 
 use crate::convert::{ConvertFrom, ConvertInto};

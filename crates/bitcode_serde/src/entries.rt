@@ -1,4 +1,4 @@
-// The values that are entries of one column.
+//! The values that are entries of one column.
 #![tactic(auto)]
 
 ghost use Rattle.std.specs.Prelude.{◌≡◌, IfOk, IfErr};

@@ -1,4 +1,4 @@
-// Which nodes name data without a column.
+//! Which nodes name data without a column.
 ghost use Rattle.std.specs.Prelude.{◌≡◌, ◌<◌, ◌≤◌, true, MatchBool};
 ghost use Rattle.std.specs.List.{list_all};
 ghost use Rattle.bitcode_untyped.specs.Bounds.{column_free, free_limit};

@@ -1,4 +1,4 @@
-// Values that one column has, and lists of bytes.
+//! Values that one column has, and lists of bytes.
 ghost use Rattle.std.specs.Prelude.{◌≤◌, length, map, IfOk, IfErr, OnOk};
 ghost use Rattle.bitcode_coder.specs.Spelling.{natural};
 ghost use Rattle.bitcode_shapes.specs.Shape.{any_number};

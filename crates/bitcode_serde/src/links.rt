@@ -1,4 +1,4 @@
-// Where a place leads.
+//! Where a place leads.
 #![tactic(auto)]
 
 ghost use Rattle.std.specs.Prelude.{◌≡◌, ◌<◌, ◌⊎◌, ℕ, None, Some, length, get_or, OnOk, IfErr};

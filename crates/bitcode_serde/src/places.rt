@@ -1,4 +1,4 @@
-// The places that were met, by number.
+//! The places that were met, by number.
 #![tactic(auto)]
 
 ghost use Rattle.std.specs.Prelude.{◌≡◌, ◌<◌, ◌≤◌, ◌+◌, ◌⊎◌, ℕ, [], ◌∷◌, None, Some, length, IfOk, OnOk, IfErr, OnErr};

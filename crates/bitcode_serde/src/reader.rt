@@ -1,4 +1,4 @@
-// Columns as they are first reached, each at its place.
+//! Columns as they are first reached, each at its place.
 ghost use Rattle.std.specs.Prelude.{◌≡◌, ◌≢◌, ◌<◌, ◌≤◌, ℕ, [], ◌∷◌, false, take, length, map, All, slice_get, get_or, IfOk, OnOk, IfErr, IfSome, IfNone, IsSomeAnd, MatchBool};
 ghost use Rattle.bitcode_coder.specs.Spelling.{natural};
 ghost use Rattle.bitcode_coder.specs.Columns.{ints};

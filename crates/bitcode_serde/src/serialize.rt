@@ -1,4 +1,4 @@
-// A value to bytes of the second format.
+//! A value to bytes of the second format.
 ghost use Rattle.std.specs.Prelude.{◌≡◌, [], IfOk, IfErr, OnOk};
 ghost use Rattle.bitcode_untyped.specs.Bounds.{IsLimited};
 ghost use Rattle.bitcode_untyped.specs.Faults.{value_faults};

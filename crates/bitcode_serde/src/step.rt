@@ -1,4 +1,4 @@
-// The steps from a value to its parts.
+//! The steps from a value to its parts.
 
 /// From a value to a part of it.
 #[derive(Clone, Copy, PartialEq, Eq)]

@@ -1,4 +1,4 @@
-// Columns of the Rust crate.
+//! Columns of the Rust crate.
 use crate::column::{Column, ColumnKind};
 use crate::deserialize::deserialize;
 use crate::reader::Reader;

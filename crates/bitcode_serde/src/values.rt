@@ -1,4 +1,4 @@
-// Values under a shape.
+//! Values under a shape.
 ghost use Rattle.std.specs.Prelude.{◌≡◌, ◌≤◌, [], length, map, IfOk, IfErr, OnOk};
 ghost use Rattle.std.specs.List.{flat_map};
 ghost use Rattle.bitcode_untyped.specs.Faults.{faults_of};

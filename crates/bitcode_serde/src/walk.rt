@@ -1,4 +1,4 @@
-// Values are written along their walks.
+//! Values are written along their walks.
 #![tactic(auto)]
 
 ghost use Rattle.std.specs.Prelude.{◌≡◌, ℕ, ◌≤◌, List, [], ◌∷◌, ◌++◌, length, map, slice_get, nat_lt, if◌then◌else◌, IfOk, IfErr, OnOk};

@@ -1,4 +1,4 @@
-// Columns in the order of their first entries, each at its place.
+//! Columns in the order of their first entries, each at its place.
 #![tactic(auto)]
 
 ghost use Rattle.std.specs.Prelude.{◌≡◌, ◌≢◌, ◌≤◌, ◌<◌, [], ◌∷◌, ◌++◌, take, map, length, All, slice_get, get_or, IfOk, OnOk, IfErr, IfSome, IfNone, IsSomeAnd};

@@ -1,4 +1,4 @@
-// Columns are written in the order of their first entries.
+//! Columns are written in the order of their first entries.
 use crate::deserialize::deserialize;
 use crate::entries::leaf_entry;
 use crate::serialize::serialize;

@@ -1,4 +1,4 @@
-// The columns that a writer fills.
+//! The columns that a writer fills.
 ghost use Rattle.std.specs.Prelude.{◌≡◌, ◌≢◌, ◌⊎◌, [], ◌∷◌, ◌++◌, OnOk, IfOk, IfErr};
 ghost use Rattle.bitcode_coder.specs.Coder.{JoinsListing, OverflowsWithListing};
 ghost use Rattle.bitcode_coder.specs.Spelling.{column_bytes};

@@ -1,6 +1,6 @@
-// Keys of sets and maps: the types of this crate whose `==` says of two values whether they are the same. A duration is
-// none: its `==` compares the seconds and nanoseconds that it stores, and no contract says that it stores fewer than a
-// second's nanoseconds.
+//! Keys of sets and maps: the types of this crate whose `==` says of two values whether they are the same. A duration is
+//! none: its `==` compares the seconds and nanoseconds that it stores, and no contract says that it stores fewer than a
+//! second's nanoseconds.
 ghost use Rattle.bitcode_shapes.specs.LawfulNever.{from_never};
 ghost use Rattle.bitcode_shapes.specs.Sets.{TellsSame};
 

@@ -1,4 +1,4 @@
-// The data that types hold: their shapes, and what a lawful type promises.
+//! The data that types hold: their shapes, and what a lawful type promises.
 #![tactic(auto)]
 
 pub mod arrays;

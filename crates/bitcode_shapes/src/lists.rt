@@ -1,4 +1,4 @@
-// Slices, vectors, queues and linked lists hold the data of their elements, front to back.
+//! Slices, vectors, queues and linked lists hold the data of their elements, front to back.
 ghost use Rattle.std.specs.Prelude.{None, All};
 ghost use Rattle.std.specs.Vec.{vec_items};
 ghost use Rattle.bitcode_shapes.specs.Shape.{seq_shape};

@@ -1,4 +1,4 @@
-// Types without values, as an enum without variants, hold nothing.
+//! Types without values, as an enum without variants, hold nothing.
 ghost use Rattle.std.specs.Prelude.{ℕ, true};
 ghost use Rattle.bitcode_shapes.specs.Shape.{never_shape};
 ghost use Rattle.bitcode_shapes.specs.LawfulNever.{never_lawful, never_makeable};

@@ -1,4 +1,4 @@
-// Types each of whose values has the same numbers of arrays in all of its listings: every type of this crate.
+//! Types each of whose values has the same numbers of arrays in all of its listings: every type of this crate.
 ghost use Rattle.bitcode_shapes.specs.ArrayCounts.{ListsSameArrays};
 ghost use Rattle.bitcode_shapes.specs.SameArrays.{never_same_arrays};
 

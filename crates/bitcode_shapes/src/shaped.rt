@@ -1,4 +1,4 @@
-// Lawful types.
+//! Lawful types.
 ghost use Rattle.std.specs.Prelude.{◌≡◌, Bool};
 ghost use Rattle.bitcode_shapes.specs.Datum.{Datum};
 ghost use Rattle.bitcode_shapes.specs.Shape.{Shape};

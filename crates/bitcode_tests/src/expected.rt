@@ -1,4 +1,4 @@
-// Answers of the library, compared with those that are expected.
+//! Answers of the library, compared with those that are expected.
 pub mod byte_columns;
 pub mod got;
 pub mod lengths;

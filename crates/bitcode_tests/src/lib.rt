@@ -1,4 +1,4 @@
-// Answers of the library, compared with those that are expected: for the stored rows, and for the tests, which stand here.
+//! Answers of the library, compared with those that are expected: for the stored rows, and for the tests, which stand here.
 #![tactic(auto)]
 
 pub mod expected;

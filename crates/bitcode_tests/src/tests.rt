@@ -1,4 +1,4 @@
-// Tests that cross the crates: values and inputs of the Rust crate, and each public call once.
+//! Tests that cross the crates: values and inputs of the Rust crate, and each public call once.
 mod arrays;
 mod calls;
 mod checked;

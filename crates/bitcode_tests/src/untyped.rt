@@ -1,4 +1,4 @@
-// Values under shapes: how they are written, read and refused.
+//! Values under shapes: how they are written, read and refused.
 use crate::Got;
 use bitcode::{Reason, Shape, ShapeNode, Value, deserialize, serialize};
 use std::alloc::Global;

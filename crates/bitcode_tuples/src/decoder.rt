@@ -1,4 +1,4 @@
-// The decoder of pairs.
+//! The decoder of pairs.
 ghost use Rattle.std.specs.Prelude.{◌⊎◌, ◌&&◌, ℕ, ◌+◌};
 ghost use Rattle.bitcode_shapes.specs.Shape.{pair_shape};
 ghost use Rattle.bitcode_tuples.specs.Pairs.{pairs_of, FaultsBehind};

@@ -1,4 +1,4 @@
-// The encoder of pairs.
+//! The encoder of pairs.
 ghost use Rattle.std.specs.Prelude.{min, ◌+◌, ◌≤◌, ◌&&◌, ◌⊎◌};
 ghost use Rattle.bitcode_coder.specs.Columns.{two};
 ghost use Rattle.bitcode_tuples.specs.PairLaws.{both_of_shape, both_surely};

@@ -1,4 +1,4 @@
-// Coders of tuples.
+//! Coders of tuples.
 #![tactic(auto)]
 
 pub mod decoder;

@@ -1,4 +1,4 @@
-// What holds of untyped data and of the bytes that spell them. A call does nothing: its contract is the law.
+//! What holds of untyped data and of the bytes that spell them. A call does nothing: its contract is the law.
 ghost use Rattle.bitcode_untyped.specs.ShapeTree.{ShapeTree, IsSound};
 ghost use Rattle.bitcode_untyped.specs.View.{tree_of};
 ghost use Rattle.bitcode_untyped.specs.Content.{DatumDecides};

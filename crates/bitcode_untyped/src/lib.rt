@@ -1,4 +1,4 @@
-// Values that have no type of their own: what they are, which shapes they have, and what spells them.
+//! Values that have no type of their own: what they are, which shapes they have, and what spells them.
 #![tactic(auto)]
 
 pub mod laws;

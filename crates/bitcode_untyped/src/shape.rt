@@ -1,4 +1,4 @@
-// Shapes, as a table of nodes that may refer to one another.
+//! Shapes, as a table of nodes that may refer to one another.
 ghost use Rattle.std.specs.Prelude.{◌≡◌, ◌↔◌, IsTrue, IfOk, IfErr};
 ghost use Rattle.std.specs.List.{list_all};
 ghost use Rattle.bitcode_columns.specs.declared.error.Reason.TheVariants.{BadShape};

@@ -1,4 +1,4 @@
-// Which tables are shapes, and that values compare by what they hold.
+//! Which tables are shapes, and that values compare by what they hold.
 use crate::shape::{Shape, ShapeNode};
 use crate::value::Value;
 use bitcode_columns::error::{Error, Reason};

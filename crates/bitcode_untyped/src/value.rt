@@ -1,4 +1,4 @@
-// Values that carry what they are.
+//! Values that carry what they are.
 
 /// A value of any shape.
 ///

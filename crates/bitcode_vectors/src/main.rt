@@ -1,4 +1,4 @@
-// Runs the stored rows: values whose bytes are known from the Rust crate, and inputs with their values or refusals.
+//! Runs the stored rows: values whose bytes are known from the Rust crate, and inputs with their values or refusals.
 #![tactic(auto)]
 
 use std::alloc::Global;

@@ -1,4 +1,4 @@
-// What the program prints of its rows.
+//! What the program prints of its rows.
 use crate::rows;
 use bitcode_tests::Got;
 use std::alloc::Global;

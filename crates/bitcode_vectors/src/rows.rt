@@ -1,4 +1,4 @@
-// The stored rows. Each has one or more parts, and gives what the first wrong part gave.
+//! The stored rows. Each has one or more parts, and gives what the first wrong part gave.
 use bitcode::Reason;
 use bitcode_tests::{Got, decodes, encodes, holds, refuses};
 use std::alloc::Global;

@@ -1,4 +1,4 @@
-// Nanoseconds below one second.
+//! Nanoseconds below one second.
 ghost use Rattle.std.specs.Prelude.{◌≡◌, ◌<◌, true, false, pos, refl};
 ghost use Rattle.bitcode_shapes.specs.Checked.{below_second, nanosecond_shape, IsCheckedValue};
 ghost use Rattle.bitcode_shapes.specs.SameArrays.{one_datum_same_arrays};

@@ -1,5 +1,5 @@
 // Written by scripts/tables/integers.
-// The signed integers.
+//! The signed integers.
 ghost use Rattle.std.specs.Prelude.{true, refl};
 ghost use Rattle.std.proofs.Common.{inl, inr};
 

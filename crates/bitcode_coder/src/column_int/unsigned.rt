@@ -1,5 +1,5 @@
 // Written by scripts/tables/integers.
-// The unsigned integers.
+//! The unsigned integers.
 ghost use Rattle.std.specs.Prelude.{pos, false, refl};
 ghost use Rattle.std.proofs.Common.{inl, inr};
 

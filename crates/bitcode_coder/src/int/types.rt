@@ -1,5 +1,5 @@
 // Written by scripts/tables/integers.
-// The integers, which are written as they are.
+//! The integers, which are written as they are.
 ghost use Rattle.std.specs.Prelude.{refl};
 
 use crate::int::{AsInt, Integer};

@@ -1,4 +1,4 @@
-// The coder that lengths are read from.
+//! The coder that lengths are read from.
 #![tactic(auto, unfolding(crate::specs::Length::short_left, crate::specs::Length::large_left, crate::specs::Length::lengths_left, crate::specs::Length::lengths_sum, crate::specs::Length::lengths_owned))]
 
 ghost use Rattle.std.specs.Prelude.{◌≡◌, ◌≢◌, ℕ, ◌+◌, ◌<◌, ◌≤◌, [], ◌∷◌, Some, None, length, drop, sum, All, MatchBool, IfOk, OnOk, IfErr, OnErr};

@@ -1,4 +1,4 @@
-// The coder that lengths are written to.
+//! The coder that lengths are written to.
 #![tactic(auto, unfolding(crate::specs::Length::written_lengths, crate::specs::Length::length_room, crate::specs::Length::length_capacity))]
 
 ghost use Rattle.std.specs.Prelude.{◌≡◌, ◌+◌, ◌<◌, ◌++◌, [], ◌∷◌, None, map, pos, IsOk, OnOk, IfErr, OnErr};

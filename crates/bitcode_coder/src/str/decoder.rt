@@ -1,4 +1,4 @@
-// The coder that texts are read from.
+//! The coder that texts are read from.
 ghost use Rattle.std.specs.Prelude.{◌≡◌, ◌≢◌, ℕ, ◌<◌, List, [], ◌∷◌, None, true, false, refl, length, map, sum, All, IsUtf8, MatchBool, IfOk, IfErr, OnErr};
 ghost use Rattle.std.specs.Str.{IsCharBoundary};
 ghost use Rattle.std.proofs.Props.{props};

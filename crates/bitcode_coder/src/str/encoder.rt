@@ -1,4 +1,4 @@
-// The coder that texts are written to.
+//! The coder that texts are written to.
 ghost use Rattle.std.specs.Prelude.{◌≡◌, ◌+◌, ◌++◌, [], None, false, length, map, sum, OnOk, IfErr};
 ghost use Rattle.std.proofs.Common.{sym};
 ghost use Rattle.bitcode_columns.specs.Fast.{fast_items, fast_capacity};

@@ -1,4 +1,4 @@
-// The coder that texts of a fixed capacity are read from.
+//! The coder that texts of a fixed capacity are read from.
 ghost use Rattle.std.specs.Prelude.{◌≡◌, ◌≢◌, ◌≤◌, [], Some, true, refl, length, map, All};
 ghost use Rattle.std.proofs.Props.{props};
 ghost use Rattle.bitcode_columns.specs.Fast.{slice_rest};

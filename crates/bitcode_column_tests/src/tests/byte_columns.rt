@@ -1,4 +1,4 @@
-// Columns of bools and bytes that the Rust crate packed, and inputs that it unpacked.
+//! Columns of bools and bytes that the Rust crate packed, and inputs that it unpacked.
 use crate::tests::packing::{
     packs, packs_bools, unpack_refuses, unpacks, unpacks_bools, unpacks_bytes,
 };

@@ -1,4 +1,4 @@
-// Columns that the Rust crate packed, by the calls that the coders of integers make.
+//! Columns that the Rust crate packed, by the calls that the coders of integers make.
 use bitcode::{ColumnInt, CowSlice};
 use bitcode_tests::Got;
 use std::alloc::Global;

@@ -1,4 +1,4 @@
-// Every proper front of accepted bytes is `EOF`, and a byte behind them is refused, or left where a column was read.
+//! Every proper front of accepted bytes is `EOF`, and a byte behind them is refused, or left where a column was read.
 use crate::tests::packing::unpacks_bytes;
 use bitcode::{Decode, Reason, decode};
 use bitcode_tests::expected::byte_columns::unpack_bytes_refuses;

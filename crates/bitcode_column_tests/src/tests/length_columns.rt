@@ -1,4 +1,4 @@
-// Columns of lengths that the Rust crate wrote or read, and the limits of lengths and of their sum.
+//! Columns of lengths that the Rust crate wrote or read, and the limits of lengths and of their sum.
 use bitcode::{LengthDecoder, Reason};
 use bitcode_tests::Got;
 use bitcode_tests::expected::lengths::{reads_lengths, refuses_lengths, writes_lengths};

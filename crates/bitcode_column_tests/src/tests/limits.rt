@@ -1,4 +1,4 @@
-// Columns at the limits of their forms: of no entries, of one, where tags start, and where shifting starts.
+//! Columns at the limits of their forms: of no entries, of one, where tags start, and where shifting starts.
 use crate::tests::packing::{packs, unpacks};
 use bitcode::{Error, Int, SizedInt};
 use bitcode_tests::Got;

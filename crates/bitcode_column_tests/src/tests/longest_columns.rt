@@ -1,4 +1,4 @@
-// Columns of integers of 128 bits that the Rust crate packed, and inputs that it unpacked.
+//! Columns of integers of 128 bits that the Rust crate packed, and inputs that it unpacked.
 use crate::tests::packing::{packs, unpack_refuses, unpacks};
 use bitcode::Reason;
 use bitcode_tests::Got;

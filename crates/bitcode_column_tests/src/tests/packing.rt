@@ -1,4 +1,4 @@
-// How a test packs a column, and unpacks one.
+//! How a test packs a column, and unpacks one.
 use bitcode::{
     CowSlice, Int, Reason, pack_bools, pack_ints, unpack_bools, unpack_bytes, unpack_ints,
 };

@@ -1,4 +1,4 @@
-// Columns of `usize` and `isize` that the Rust crate packed, and inputs that it unpacked.
+//! Columns of `usize` and `isize` that the Rust crate packed, and inputs that it unpacked.
 use crate::tests::packing::{packs, unpack_refuses, unpacks};
 use bitcode::Reason;
 use bitcode_tests::Got;

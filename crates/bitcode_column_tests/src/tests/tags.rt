@@ -1,4 +1,4 @@
-// Each tag of integer columns, written and read, and those that no column has.
+//! Each tag of integer columns, written and read, and those that no column has.
 use crate::tests::packing::{packs, unpack_refuses, unpacks};
 use bitcode::{Error, Int, Reason, SizedUInt};
 use bitcode_tests::Got;

@@ -1,4 +1,4 @@
-// Columns of variants that the Rust crate packed and unpacked, and every last byte in every base.
+//! Columns of variants that the Rust crate packed and unpacked, and every last byte in every base.
 ghost use Rattle.std.specs.Prelude.{◌≡◌, ◌<◌, ◌≤◌, ◌⊎◌};
 
 use bitcode::coder::Buffer as _;

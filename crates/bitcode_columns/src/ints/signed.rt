@@ -1,5 +1,5 @@
 // Written by scripts/tables/integers.
-// The signed integers of 8 to 64 bits.
+//! The signed integers of 8 to 64 bits.
 ghost use Rattle.std.specs.Prelude.{◌-◌, ◌/◌, ◌^◌, pos, negsuc, true, refl};
 ghost use Rattle.std.proofs.Common.{inl, inr};
 

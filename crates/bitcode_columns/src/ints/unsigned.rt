@@ -1,5 +1,5 @@
 // Written by scripts/tables/integers.
-// The unsigned integers of 8 to 64 bits.
+//! The unsigned integers of 8 to 64 bits.
 ghost use Rattle.std.specs.Prelude.{◌-◌, ◌^◌, pos, false, refl};
 ghost use Rattle.std.proofs.Common.{inl, inr};
 

@@ -1,5 +1,5 @@
 // Written by scripts/tables/integers.
-// The integers of 128 bits.
+//! The integers of 128 bits.
 ghost use Rattle.std.specs.Prelude.{◌-◌, ◌/◌, ◌^◌, pos, negsuc, true, false, refl};
 ghost use Rattle.std.proofs.Common.{inr};
 

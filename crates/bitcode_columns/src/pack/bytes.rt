@@ -1,4 +1,4 @@
-// Byte columns.
+//! Byte columns.
 ghost use Rattle.std.specs.Prelude.{◌≡◌, ◌≢◌, ℕ, ◌+◌, ◌%◌, ◌/◌, ◌<◌, ◌≤◌, ◌++◌, ◌-ℤ◌, ◌≤ℤ◌, pos, int_lt, unsigned_abs, vec_len, vec_capacity, if◌then◌else◌, List, Option, Some, All, length, map, IsTrue, OnOk, IfOk, IfErr, OnErr};
 ghost use Rattle.bitcode_columns.specs.declared.error.Reason.{Reason};
 ghost use Rattle.bitcode_columns.specs.ByteColumn.{SpellsBytes, byte_text, highest_byte_tag};

@@ -1,4 +1,4 @@
-// Variant columns.
+//! Variant columns.
 ghost use Rattle.std.specs.Prelude.{◌≡◌, ◌≢◌, ℕ, ◌+◌, ◌-◌, ◌<◌, ◌≤◌, ◌⊎◌, ◌++◌, length, sum, nat_lt, All, IsTrue, IfOk, OnOk, IfErr, OnErr, vec_len, vec_capacity};
 ghost use Rattle.std.specs.List.{list_all};
 ghost use Rattle.bitcode_columns.specs.Histogram.{AreCounts};

@@ -1,4 +1,4 @@
-// Appending the column of some integers.
+//! Appending the column of some integers.
 ghost use Rattle.std.specs.Prelude.{◌≡◌, ◌≢◌, ◌+◌, ◌-◌, ◌*◌, ◌%◌, ◌^◌, ◌<◌, ◌≤◌, ◌∷◌, ◌++◌, true, false, length, map, vec_len, vec_capacity, IsOk, OnOk, IfErr};
 ghost use Rattle.bitcode_columns.specs.LittleEndian.{number_bytes};
 ghost use Rattle.bitcode_columns.specs.Ints.{residue, least, greatest};

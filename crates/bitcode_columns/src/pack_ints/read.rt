@@ -1,4 +1,4 @@
-// Reading the numbers of a column.
+//! Reading the numbers of a column.
 ghost use Rattle.std.specs.Prelude.{◌≡◌, ◌≢◌, ℕ, Option, Some, ◌+◌, ◌*◌, ◌%◌, ◌^◌, ◌<◌, ◌≤◌, List, ◌++◌, length, take, map, All, IsTrue, IsErr, IfOk, OnOk, IfErr, OnErr, ◌↔◌};
 ghost use Rattle.std.specs.Simd.{first_chunks};
 ghost use Rattle.bitcode_columns.specs.declared.error.Reason.{Reason};

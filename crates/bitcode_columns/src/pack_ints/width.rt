@@ -1,4 +1,4 @@
-// The widths of narrow numbers, and the tags that say them.
+//! The widths of narrow numbers, and the tags that say them.
 ghost use Rattle.std.specs.Prelude.{◌≡◌, ◌-◌, ◌*◌, ◌≤◌, ◌≤ℤ◌, ◌==◌, ◌||◌, ◌&&◌, nat_lt};
 ghost use Rattle.bitcode_columns.specs.IntColumn.{halvings, width_for};
 ghost use Rattle.bitcode_columns.specs.Narrowing.{plain_width, shifted_width};

@@ -1,4 +1,4 @@
-// Writing the numbers of a column at a width.
+//! Writing the numbers of a column at a width.
 ghost use Rattle.std.specs.Prelude.{◌≡◌, ◌≢◌, ◌+◌, ◌*◌, ◌%◌, ◌^◌, ◌≤◌, ◌++◌, length, map, All, vec_len, vec_capacity, IsOk, IfOk, OnOk, IfErr};
 ghost use Rattle.bitcode_columns.specs.ByteColumn.{byte_text};
 ghost use Rattle.bitcode_columns.specs.IntWidths.{IsWidth};

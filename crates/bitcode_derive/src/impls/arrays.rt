@@ -1,5 +1,5 @@
 // Written by scripts/tables/types.
-// The coders of arrays.
+//! The coders of arrays.
 use crate::derive::{DecodeOwned, HasDecoder, HasEncoder};
 use bitcode_parts::arrays::{ArrayDecoder, ArrayEncoder};
 

@@ -1,5 +1,5 @@
 // Written by scripts/tables/types.
-// The coders of options and results.
+//! The coders of options and results.
 use crate::derive::{DecodeOwned, HasDecoder, HasEncoder};
 use bitcode_parts::choices::option::{OptionDecoder, OptionEncoder};
 use bitcode_parts::choices::result::{ResultDecoder, ResultEncoder};

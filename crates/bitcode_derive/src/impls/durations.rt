@@ -1,5 +1,5 @@
 // Written by scripts/tables/types.
-// The coders of durations.
+//! The coders of durations.
 use crate::derive::{DecodeOwned, HasDecoder, HasEncoder};
 use bitcode_coder::checked::{CheckedIntDecoder, Nanosecond};
 use bitcode_coder::int::{IntDecoder, IntEncoder};

@@ -1,5 +1,5 @@
 // Written by scripts/tables/types.
-// The coders of vectors and texts of a fixed capacity.
+//! The coders of vectors and texts of a fixed capacity.
 use crate::derive::{DecodeOwned, HasDecoder, HasEncoder};
 use arrayvec::{ArrayString, ArrayVec};
 use bitcode_coder::str::{ArrayStringDecoder, StrEncoder};

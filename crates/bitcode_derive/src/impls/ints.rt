@@ -1,5 +1,5 @@
 // Written by scripts/tables/integers.
-// The coders of integers.
+//! The coders of integers.
 use crate::derive::{DecodeOwned, HasDecoder, HasEncoder};
 use bitcode_coder::int::{IntDecoder, IntEncoder};
 

@@ -1,5 +1,5 @@
 // Written by scripts/tables/types.
-// The coders of vectors, slices, queues and linked lists.
+//! The coders of vectors, slices, queues and linked lists.
 use crate::derive::{DecodeOwned, HasDecoder, HasEncoder};
 use bitcode_parts::lists::vec::{VecDecoder, VecEncoder};
 use std::collections::{LinkedList, VecDeque};

@@ -1,5 +1,5 @@
 // Written by scripts/tables/types.
-// The coders of maps.
+//! The coders of maps.
 use crate::derive::{DecodeOwned, HasDecoder, HasEncoder};
 use bitcode_parts::maps::map::{MapDecoder, MapEncoder};
 use bitcode_shapes::keys::Key;

@@ -1,5 +1,5 @@
 // Written by scripts/tables/types.
-// The coder of markers of types.
+//! The coder of markers of types.
 use crate::derive::{DecodeOwned, HasDecoder, HasEncoder};
 use bitcode_parts::empty::EmptyCoder;
 use std::marker::PhantomData;

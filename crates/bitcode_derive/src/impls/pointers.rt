@@ -1,5 +1,5 @@
 // Written by scripts/tables/types.
-// The coders of boxes, shared pointers and their slices.
+//! The coders of boxes, shared pointers and their slices.
 use crate::derive::{DecodeOwned, HasDecoder, HasEncoder};
 use bitcode_parts::lists::vec::{VecDecoder, VecEncoder};
 use bitcode_parts::pointers::deref::DerefEncoder;

@@ -1,5 +1,5 @@
 // Written by scripts/tables/types.
-// The coders of sets: those of lists.
+//! The coders of sets: those of lists.
 use crate::derive::{DecodeOwned, HasDecoder, HasEncoder};
 use bitcode_parts::lists::vec::{VecDecoder, VecEncoder};
 use bitcode_shapes::keys::Key;

@@ -1,5 +1,5 @@
 // Written by scripts/tables/types.
-// The coders of texts.
+//! The coders of texts.
 use crate::derive::{DecodeOwned, HasDecoder, HasEncoder};
 use bitcode_coder::str::{StrDecoder, StrEncoder};
 use bitcode_coder::u8_char::{U8Char, U8CharEncoder};

@@ -1,5 +1,5 @@
 // Written by scripts/tables/types.
-// The coders of UUIDs.
+//! The coders of UUIDs.
 use crate::derive::{DecodeOwned, HasDecoder, HasEncoder};
 use bitcode_coder::int::{IntDecoder, IntEncoder};
 use bitcode_parts::arrays::{ArrayDecoder, ArrayEncoder};

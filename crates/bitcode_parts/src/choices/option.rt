@@ -1,4 +1,4 @@
-// The coders of options.
+//! The coders of options.
 ghost use Rattle.std.specs.Prelude.{◌≡◌, ◌+◌, refl, false, [], ◌∷◌};
 ghost use Rattle.bitcode_shapes.specs.Shape.{choice_shape, shape_and, no_shapes, unit_shape};
 ghost use Rattle.bitcode_coder.specs.Columns.{no_columns, two};

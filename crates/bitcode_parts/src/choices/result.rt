@@ -1,4 +1,4 @@
-// The coders of results.
+//! The coders of results.
 ghost use Rattle.std.specs.Prelude.{◌+◌, [], ◌∷◌, false, ◌&&◌};
 ghost use Rattle.bitcode_shapes.specs.Shape.{choice_shape, shape_and, no_shapes};
 ghost use Rattle.bitcode_coder.specs.Columns.{no_columns, two};

@@ -1,4 +1,4 @@
-// The elements of sequences, written and read one by one, front to back.
+//! The elements of sequences, written and read one by one, front to back.
 ghost use Rattle.std.specs.Prelude.{◌≡◌, ◌≢◌, ◌+◌, ◌≤◌, length, All, IsTrue, IsOk, IfOk, OnOk, IfErr};
 ghost use Rattle.bitcode_columns.specs.declared.error.Reason.{Reason};
 ghost use Rattle.bitcode_coder.specs.Columns.{emptied};

@@ -1,4 +1,4 @@
-// What containers lend of their elements, one after the other.
+//! What containers lend of their elements, one after the other.
 ghost use Rattle.std.specs.Prelude.{◌≡◌, List, [], ◌∷◌, IfSome, IfNone};
 ghost use Rattle.std.specs.Slice.Iter.{iter_rest};
 ghost use Rattle.std.specs.VecDeque.Iter.{deque_iter_rest};

@@ -1,4 +1,4 @@
-// Types that are written as the sequence of their elements, and made of it.
+//! Types that are written as the sequence of their elements, and made of it.
 ghost use Rattle.std.specs.Prelude.{◌≡◌, ◌+◌, ◌≤◌, List, None, length, All, refl, OnOk, IfOk, IfErr};
 ghost use Rattle.std.specs.VecDeque.{deque_items};
 ghost use Rattle.bitcode_shapes.specs.Datum.{Datum};

@@ -1,4 +1,4 @@
-// The coders of sequences: the lengths of all, and behind them the columns of all elements.
+//! The coders of sequences: the lengths of all, and behind them the columns of all elements.
 #![tactic(auto, unfolding(bitcode_coder::specs::Length::lengths_left, bitcode_coder::specs::Length::lengths_sum))]
 
 ghost use Rattle.std.specs.Prelude.{◌≡◌, ◌+◌, ◌<◌, [], None, length, map, false, IfOk, IfErr, ◌⊎◌};

@@ -1,4 +1,4 @@
-// The coders of maps: the lengths of all, behind them the columns of all keys, and behind these those of all values.
+//! The coders of maps: the lengths of all, behind them the columns of all keys, and behind these those of all values.
 #![tactic(auto, unfolding(bitcode_coder::specs::Length::lengths_left, bitcode_coder::specs::Length::lengths_sum))]
 
 ghost use Rattle.std.specs.Prelude.{◌≡◌, ◌<◌, [], None, length, map, false, IfOk, IfErr, ◌+◌};

@@ -1,4 +1,4 @@
-// Types that are written as the pairs of their keys and values, and made of them.
+//! Types that are written as the pairs of their keys and values, and made of them.
 ghost use Rattle.std.specs.Prelude.{◌≡◌, ◌≤◌, List, length, All, refl, OnOk, IfOk, IfErr};
 ghost use Rattle.std.specs.Map.{keys_of, values_of};
 ghost use Rattle.std.proofs.lemmas.List.Sorted.{IsPermutation-refl};

@@ -1,4 +1,4 @@
-// The encoder of types whose values point to one of another type.
+//! The encoder of types whose values point to one of another type.
 ghost use Rattle.std.specs.Prelude.{◌≡◌, [], None, false};
 ghost use Rattle.std.proofs.Common.{sym, ◌∙◌, ap, subst};
 ghost use Rattle.bitcode_coder.specs.Coder.{ListsAsToo, written_columns, SurelyOverflows};

@@ -1,4 +1,4 @@
-// The decoder of types whose values are made of one of another type.
+//! The decoder of types whose values are made of one of another type.
 ghost use Rattle.std.specs.Prelude.{◌≡◌, Bool, IsTrue, IsOk, IfOk, IfErr, ◌&&◌};
 ghost use Rattle.std.proofs.Common.{sym, ◌∙◌};
 ghost use Rattle.bitcode_coder.specs.Coder.{MakesToo};

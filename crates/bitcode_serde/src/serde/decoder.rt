@@ -1,4 +1,4 @@
-// The column that indices are read from.
+//! The column that indices are read from.
 #![tactic(auto, using(crate::proofs::IndexLemmas::indices_refused), unfolding(crate::specs::Indices::indices_left, crate::specs::Indices::indices_owned, crate::specs::Indices::index_count))]
 
 ghost use Rattle.std.specs.Prelude.{pos, ◌≡◌, ◌≢◌, ℕ, ◌<◌, ◌≤◌, [], length, true, false, refl, IsTrue, IsOk, All, ◌++◌, map, IfOk, OnOk, IfErr, OnErr, MatchOption};

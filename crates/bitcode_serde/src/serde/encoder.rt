@@ -1,4 +1,4 @@
-// The column that indices are written to.
+//! The column that indices are written to.
 #![tactic(auto, unfolding(crate::specs::Indices::written_indices, crate::specs::Indices::index_room, crate::specs::Indices::index_capacity))]
 
 ghost use Rattle.std.specs.Prelude.{false, true, map, refl};

@@ -1,4 +1,4 @@
-// What a writer keeps.
+//! What a writer keeps.
 #![tactic(auto)]
 
 ghost use Rattle.std.specs.Prelude.{◌≤◌, length, map, All};

@@ -1,5 +1,5 @@
 // Written by scripts/tables/types.
-// Bools, the unit, texts, sequences, choices and ordered maps as keys.
+//! Bools, the unit, texts, sequences, choices and ordered maps as keys.
 ghost use Rattle.std.specs.Prelude.{false, pos};
 ghost use Rattle.std.specs.Box.{box_value, boxed_slice_items, boxed_str_bytes};
 ghost use Rattle.std.specs.Rc.{rc_value, rc_slice_items, rc_str_bytes};

@@ -1,4 +1,4 @@
-// Byte columns: how they are packed and refused.
+//! Byte columns: how they are packed and refused.
 use crate::Got;
 use bitcode::{Byte, CowSlice, Reason, pack_bytes, unpack_bytes};
 use std::alloc::Global;

@@ -1,4 +1,4 @@
-// What came in the place of what was expected.
+//! What came in the place of what was expected.
 use bitcode::{Error, Reason, error};
 use std::alloc::{AllocError, AllocFailed};
 use std::fmt;

@@ -1,4 +1,4 @@
-// Length columns: how they are written, read and refused.
+//! Length columns: how they are written, read and refused.
 use crate::Got;
 use bitcode::coder::Buffer as _;
 use bitcode::{Error, LengthDecoder, LengthEncoder, Reason};

@@ -1,4 +1,4 @@
-// Whole values: how they are written, read and refused.
+//! Whole values: how they are written, read and refused.
 use crate::Got;
 use bitcode::coder::Buffer;
 use bitcode::{

@@ -1,4 +1,4 @@
-// Arrays of no, one, some and many elements, and numbers of arrays about the largest.
+//! Arrays of no, one, some and many elements, and numbers of arrays about the largest.
 use crate::{Got, both_ways, holds};
 use bitcode::coder::Buffer as _;
 use bitcode::laws::overflows_exactly;

@@ -1,4 +1,4 @@
-// Each public call once, with ample memory.
+//! Each public call once, with ample memory.
 use bitcode::coder::Buffer as _;
 use bitcode::{
     BoolDecoder, BoolEncoder, Buffer, CowSlice, Decoder, Encoder, FastSlice, FastVec, IntEncoder,

@@ -1,4 +1,4 @@
-// Integers that are not 0, chars and durations: what the Rust crate wrote and read, and each public call once.
+//! Integers that are not 0, chars and durations: what the Rust crate wrote and read, and each public call once.
 use crate::{Got, both_ways, holds, refuses};
 use bitcode::{
     AsInt, Checked, CheckedIntDecoder, ConvertFrom, ConvertInto, Decoder, DurationDecode,

@@ -1,4 +1,4 @@
-// Values that are written in chunks, and columns that are collected into bytes of their own.
+//! Values that are written in chunks, and columns that are collected into bytes of their own.
 use bitcode::coder::Buffer as _;
 use bitcode::{BoolEncoder, Encoder, IntEncoder, MAX_VECTORED_CHUNK, TupleEncoder, VariantEncoder};
 use std::test::Fail;

@@ -1,4 +1,4 @@
-// Vectors and texts of a fixed capacity, both ways. `scripts/checks/vectors` has the refusals of the Rust crate.
+//! Vectors and texts of a fixed capacity, both ways. `scripts/checks/vectors` has the refusals of the Rust crate.
 use crate::{Got, refuses, written_and_read};
 use arrayvec::{ArrayString, ArrayVec};
 use bitcode::{Reason, decode};

@@ -1,4 +1,4 @@
-// The integers of each width, at their limits. `scripts/checks/vectors` runs many more of the values of the Rust crate.
+//! The integers of each width, at their limits. `scripts/checks/vectors` runs many more of the values of the Rust crate.
 use crate::{Got, both_ways};
 
 #[test]

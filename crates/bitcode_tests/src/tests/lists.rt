@@ -1,4 +1,4 @@
-// Vectors and slices that the Rust crate wrote and read, queues and linked lists.
+//! Vectors and slices that the Rust crate wrote and read, queues and linked lists.
 use crate::{Got, agrees, both_ways, decodes, encodes, written_and_read};
 use bitcode::encode;
 use std::collections::{LinkedList, VecDeque};

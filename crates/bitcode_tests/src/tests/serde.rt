@@ -1,4 +1,4 @@
-// The second format, as users meet it: each public call once, with ample memory, and values that hold values of their own kind.
+//! The second format, as users meet it: each public call once, with ample memory, and values that hold values of their own kind.
 use crate::Got;
 use crate::untyped::{is_not_written, map_of, seq_of, shape_of, variant, written_both_ways};
 use bitcode::coder::Buffer as _;

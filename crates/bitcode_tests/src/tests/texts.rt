@@ -1,4 +1,4 @@
-// Texts and chars: all of Unicode's boundary scalars, and what the Rust crate wrote and read.
+//! Texts and chars: all of Unicode's boundary scalars, and what the Rust crate wrote and read.
 use crate::{Got, both_ways, refuses};
 use bitcode::coder::Buffer as _;
 use bitcode::laws::{borrowed_text, borrowed_texts, joined_texts, short_text};

@@ -1,4 +1,4 @@
-// Tuples of one field, both ways, and of sixteen types, written. The tables of `scripts/vectors` have every number of fields.
+//! Tuples of one field, both ways, and of sixteen types, written. The tables of `scripts/vectors` have every number of fields.
 use crate::{Got, encodes, written_and_read};
 use std::time::Duration;
 

@@ -1,5 +1,5 @@
 // Written by scripts/tables/tuples.
-// The decoders of tuples of three to eight fields: of the first half of the fields, and of the second.
+//! The decoders of tuples of three to eight fields: of the first half of the fields, and of the second.
 ghost use Rattle.std.specs.Prelude.{◌&&◌};
 ghost use Rattle.bitcode_tuples.specs.PairLaws.{same_pair_shape};
 

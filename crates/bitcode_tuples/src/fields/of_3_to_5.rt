@@ -1,5 +1,5 @@
 // Written by scripts/tables/tuples.
-// Encoders of three to five fields that lie apart.
+//! Encoders of three to five fields that lie apart.
 ghost use Rattle.std.specs.Prelude.{◌≡◌, ◌≢◌, ℕ, ◌+◌, ◌<◌, ◌≤◌, Bool, [], IsTrue, OnOk, IfErr};
 ghost use Rattle.bitcode_coder.specs.Columns.{emptied};
 ghost use Rattle.bitcode_coder.specs.Coder.{written_columns, JoinsListing, OverflowsWithListing, SurelyOverflows, IsWritingRefusal};

@@ -1,4 +1,4 @@
-// The rows of arrays.
+//! The rows of arrays.
 use bitcode::coder::Buffer as _;
 use bitcode::{ArrayEncoder, EmptyCoder, Error, Reason};
 use bitcode_tests::{Got, decodes, encodes, refuses};

@@ -1,4 +1,4 @@
-// The stored rows of values that are written one after the other into one buffer.
+//! The stored rows of values that are written one after the other into one buffer.
 use bitcode::{Buffer, Decode, Encode};
 use bitcode_tests::Got;
 use std::alloc::Global;

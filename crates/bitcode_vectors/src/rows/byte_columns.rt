@@ -1,4 +1,4 @@
-// The rows of byte columns.
+//! The rows of byte columns.
 use bitcode::Reason;
 use bitcode_tests::Got;
 use bitcode_tests::expected::byte_columns::{packs_bytes, unpack_bytes_refuses};

@@ -1,4 +1,4 @@
-// The stored rows of options, results and types written by hand.
+//! The stored rows of options, results and types written by hand.
 use super::untyped;
 use bitcode::{Reason, decode};
 use bitcode_by_hand::never::Never;

@@ -1,4 +1,4 @@
-// The stored rows of vectors and texts of a fixed capacity.
+//! The stored rows of vectors and texts of a fixed capacity.
 use arrayvec::{ArrayString, ArrayVec};
 use bitcode::{Reason, decode};
 use bitcode_tests::{Got, decodes, encodes, refuses};

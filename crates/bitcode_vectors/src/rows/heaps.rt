@@ -1,4 +1,4 @@
-// The rows of heaps.
+//! The rows of heaps.
 use bitcode::decode;
 use bitcode_tests::Got;
 use std::alloc::Global;

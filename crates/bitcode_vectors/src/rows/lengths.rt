@@ -1,4 +1,4 @@
-// The rows of length columns.
+//! The rows of length columns.
 use bitcode::Reason;
 use bitcode_tests::Got;
 use bitcode_tests::expected::lengths::{reads_lengths, refuses_lengths, writes_lengths};

@@ -1,4 +1,4 @@
-// The stored rows of vectors and slices.
+//! The stored rows of vectors and slices.
 use bitcode::Reason;
 use bitcode_tests::{Got, encodes, refuses};
 use std::alloc::Global;

@@ -1,4 +1,4 @@
-// The rows of maps.
+//! The rows of maps.
 use bitcode_tests::{Got, decodes, encodes};
 use std::alloc::Global;
 use std::collections::{BTreeMap, HashMap};

@@ -1,4 +1,4 @@
-// The rows of sets.
+//! The rows of sets.
 use bitcode_tests::{Got, decodes, encodes};
 use std::alloc::Global;
 use std::collections::BTreeSet;

@@ -1,4 +1,4 @@
-// The stored rows of texts, chars, checked integers and durations.
+//! The stored rows of texts, chars, checked integers and durations.
 use super::untyped;
 use bitcode::{Reason, U8Char, decode};
 use bitcode_by_hand::foo::Foo;

@@ -1,4 +1,4 @@
-// The rows of tuples, pointers, markers and UUIDs.
+//! The rows of tuples, pointers, markers and UUIDs.
 use super::untyped;
 use bitcode_tests::{Got, encodes};
 use std::alloc::Global;

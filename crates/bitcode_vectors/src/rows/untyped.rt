@@ -1,4 +1,4 @@
-// The stored rows of the second format: values under shapes.
+//! The stored rows of the second format: values under shapes.
 use bitcode_tests::Got;
 use std::alloc::Global;
 

@@ -1,4 +1,4 @@
-// The rows of variants by themselves.
+//! The rows of variants by themselves.
 ghost use Rattle.std.specs.Prelude.{◌≤◌};
 
 use bitcode::coder::Buffer as _;

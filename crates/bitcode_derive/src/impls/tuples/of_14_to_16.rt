@@ -1,5 +1,5 @@
 // Written by scripts/tables/tuples.
-// The coders of tuples of fourteen to sixteen fields.
+//! The coders of tuples of fourteen to sixteen fields.
 use crate::derive::{DecodeOwned, HasDecoder, HasEncoder};
 use bitcode_tuples::decoder::TupleDecoder;
 use bitcode_tuples::encoder::TupleEncoder;

@@ -1,5 +1,5 @@
 // Written by scripts/tables/tuples.
-// The coders of tuples of three to eight fields.
+//! The coders of tuples of three to eight fields.
 use crate::derive::{DecodeOwned, HasDecoder, HasEncoder};
 use bitcode_tuples::decoder::TupleDecoder;
 use bitcode_tuples::encoder::TupleEncoder;

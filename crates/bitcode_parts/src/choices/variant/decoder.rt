@@ -1,4 +1,4 @@
-// The coder that variants are read from.
+//! The coder that variants are read from.
 #![tactic(auto, unfolding(crate::specs::Variants::variants_left, crate::specs::Variants::variant_counts, crate::specs::Variants::variants_owned))]
 
 ghost use Rattle.std.specs.Prelude.{◌≡◌, false, ◌<◌, [], ◌∷◌, length, slice_index, OnOk, IfErr, OnErr};

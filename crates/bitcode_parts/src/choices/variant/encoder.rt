@@ -1,4 +1,4 @@
-// The coder that variants are written to.
+//! The coder that variants are written to.
 #![tactic(auto, unfolding(crate::specs::Variants::written_variants, crate::specs::Variants::variant_room, crate::specs::Variants::variant_capacity))]
 
 ghost use Rattle.std.specs.Prelude.{◌≡◌, ◌+◌, ◌<◌, ◌≤◌, ◌++◌, [], ◌∷◌, length, map, All};

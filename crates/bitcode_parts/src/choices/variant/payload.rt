@@ -1,4 +1,4 @@
-// Writing the payload of a variant.
+//! Writing the payload of a variant.
 ghost use Rattle.std.specs.Prelude.{◌≡◌, OnOk, IfErr};
 ghost use Rattle.bitcode_coder.specs.Columns.{emptied};
 ghost use Rattle.bitcode_coder.specs.Coder.{JoinsListing, OverflowsWithListing, IsWritingRefusal};

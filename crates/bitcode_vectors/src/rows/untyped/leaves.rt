@@ -1,4 +1,4 @@
-// The stored rows of single entries under shapes.
+//! The stored rows of single entries under shapes.
 use bitcode::{Reason, ShapeNode, Value};
 use bitcode_tests::Got;
 use bitcode_tests::untyped::{is_not_read, is_not_written, shape_of};

@@ -1,4 +1,4 @@
-// The stored rows of sequences, maps and tuples under shapes.
+//! The stored rows of sequences, maps and tuples under shapes.
 use bitcode::{Reason, ShapeNode, Value};
 use bitcode_tests::Got;
 use bitcode_tests::untyped::{

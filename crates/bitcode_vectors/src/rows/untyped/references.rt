@@ -1,4 +1,4 @@
-// The stored rows of shapes that hold themselves.
+//! The stored rows of shapes that hold themselves.
 use bitcode::{Reason, Shape, ShapeNode, Value};
 use bitcode_tests::Got;
 use bitcode_tests::untyped::{

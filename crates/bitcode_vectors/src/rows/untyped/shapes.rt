@@ -1,4 +1,4 @@
-// The stored row of tables that are a shape, and of those that are none.
+//! The stored row of tables that are a shape, and of those that are none.
 use super::leaves;
 use bitcode::{Reason, Shape, ShapeNode};
 use bitcode_tests::Got;
