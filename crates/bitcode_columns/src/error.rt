@@ -32,7 +32,7 @@ pub enum Reason {
     InvalidOption,
     /// A number is the code of no `char`.
     InvalidChar,
-    /// A sequence without columns has more than 65536 elements.
+    /// A list has more than 65536 elements without a column, or a map so many keys without one.
     TooManyZeroSizedTypes,
     /// The index of a variant is over 255.
     TooManyVariants,

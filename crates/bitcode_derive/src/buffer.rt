@@ -66,7 +66,7 @@ where
 
     /// Reads the one value that all of the bytes spell, as `whole::decode` does.
     ///
-    /// Errors: one of the faults of the input, `expected EOF` where bytes are left behind the value, and
+    /// Errors: one of the faults of the input, `Expected EOF` where bytes are left behind the value, and
     /// `out of memory` where a growth was refused.
     ///
     /// ```

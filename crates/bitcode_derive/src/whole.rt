@@ -41,7 +41,7 @@ where
 ///
 /// Everything is checked before the value is made, and no byte may be left over. The call keeps nothing.
 ///
-/// Errors: one of the faults of the input, `expected EOF` where bytes are left behind the value, and
+/// Errors: one of the faults of the input, `Expected EOF` where bytes are left behind the value, and
 /// `out of memory` where a growth was refused: for a column that takes memory, once all its bytes are there, or for a
 /// value that takes memory, once the bytes are known to spell it. A refusal for another cause than want of memory comes
 /// only where the bytes spell no value.

@@ -24,9 +24,9 @@ use bitcode_untyped::value::Value;
 
 /// Writes a value of a node at a place, below which so many references may be followed.
 ///
-/// It refuses with `too many variants` only for an index over 255, with `nested too deep` only where one more reference
-/// would be followed, with `value is not of the shape` only where the value is not of the shape otherwise, and with
-/// `out of memory`.
+/// It refuses with `enums with more than 256 variants are unsupported` only for an index over 255, with
+/// `nested too deep` only where one more reference would be followed, with `value is not of the shape` only where the value
+/// is not of the shape otherwise, and with `out of memory`.
 #[cycle(write)]
 pub fn write(
     writer: &mut Writer,

@@ -92,7 +92,7 @@ impl Shape {
     /// The shape of the entry `root` of a table.
     ///
     /// Refuses with `bad shape` where `root` or a reference is out of the table, or where a reference has no `Option`,
-    /// `Seq`, `Map` or `Enum` above it in its own entry, as a value of it would have no end. The table is dropped then.
+    /// `Seq`, `Map` or `Enum` above it in its own entry, so that every cycle passes a node where a value may end. The table is dropped then.
     ///
     /// ```
     /// let lists = Shape::new(vec![in alloc; ShapeNode::Seq(Box::new(alloc, ShapeNode::Ref(0))?)]?, 0)?;
