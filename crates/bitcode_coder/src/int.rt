@@ -1,7 +1,7 @@
 //! The coders of a column of integers.
 #![tactic(auto)]
 
-ghost use Rattle.std.specs.Prelude.{◌≡◌, ◌≢◌, ◌<◌, ◌≤◌, ◌++◌, List, [], true, OnOk, IfErr, OnErr};
+ghost use Rattle.std.specs.Prelude.{◌≡◌, ◌≢◌, ◌+◌, ◌<◌, ◌≤◌, ◌++◌, List, [], length, true, OnOk, IfErr, OnErr};
 ghost use Rattle.std.proofs.Common.{sym};
 ghost use Rattle.bitcode_columns.specs.Fast.{fast_items, fast_room, cow_rest, fast_capacity, cow_owned};
 ghost use Rattle.bitcode_columns.specs.Reading.{Reads, IsEndOf};
@@ -84,6 +84,24 @@ impl<T: ColumnInt> Buffer for IntEncoder<T> {
 
     fn clear(&mut self) {
         self.values.clear();
+    }
+}
+
+impl<T: ColumnInt> IntEncoder<T> {
+    /// Writes integers behind the others, by one copy. Room for them was reserved.
+    ///
+    /// ```
+    /// let mut column: IntEncoder<u16> = IntEncoder::new(alloc);
+    /// column.reserve(2)?;
+    /// column.extend(&[7, 8]);
+    /// column.collect_into(&mut bytes)?;   // [7, 0, 8, 0]
+    /// ```
+    pub fn extend(&mut self, ints: &[T])
+        requires { length ints.now ≤ fast_room self.old.values }
+        ensures written { fast_items self.new.values ≡ fast_items self.old.values ++ ints.now }
+        ensures room { fast_room self.old.values ≤ fast_room self.new.values + length ints.now }
+    {
+        self.values.extend_unchecked(ints);
     }
 }
 

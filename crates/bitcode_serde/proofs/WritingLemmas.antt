@@ -7,11 +7,12 @@ use Rattle.bitcode_columns.specs.declared.error.Reason.{Reason}
 use Rattle.bitcode_columns.specs.declared.error.Reason.TheVariants.{OutOfMemory}
 use Rattle.bitcode_shapes.specs.Datum.{Datum}
 use Rattle.bitcode_coder.specs.Columns.{Kind}
-use Rattle.bitcode_untyped.specs.Growing.{put}
+use Rattle.bitcode_untyped.specs.Growing.{put_all}
 use Rattle.bitcode_untyped.specs.PlaceKinds.{HasKindFrom}
 use Rattle.bitcode_untyped.specs.PlacedColumns.{same_place, column_at}
 use Rattle.bitcode_untyped.specs.ShapeTree.{ShapeTree}
 use Rattle.bitcode_untyped.specs.Walk.{Place, use_at}
+use Rattle.bitcode_untyped.proofs.GrowingLemmas.{put_all_here, put_all_past, put_all_first}
 use Rattle.bitcode_untyped.proofs.KindLemmas.{one_kind}
 use Rattle.bitcode_untyped.proofs.PlaceLemmas.{same_place-refl, same_place-false}
 use Rattle.bitcode_serde.specs.Places.{place_at, AreApart, places, IsGrown}
@@ -78,44 +79,47 @@ first_at [] n i away here = absurd here
 first_at (c ∷ cs) n zero away here = here
 first_at (c ∷ cs) n (suc i) away here = (away 0 c (omega arith), first_at cs n i (λ k d h. away (suc k) d (omega arith)) here)
 
-module _ (ps : List Place) (apart : AreApart ps) (n : ℕ) (inside : n < length ps) (kind : Kind) (d : Datum) where
+module _ (ps : List Place) (apart : AreApart ps) (n : ℕ) (inside : n < length ps) (kind : Kind) (ds : List Datum) where
   other : (c : PlacedWritten) → c.place < length ps → c.place ≢ n → same_place (place_at ps n) (place_at ps c.place) ≡ false
   other c high away = same_place-false _ _ (λ e. away (sym (apart n c.place inside high e)))
 
   put_first : (cs : List PlacedWritten) (i : ℕ) (c after : PlacedWritten) → AllByRecursion (λ c. c.place < length ps) cs → FirstAt cs n i → c ≡ get_or cs i c
-      → after.place ≡ c.place → kind_of_written after.column ≡ kind_of_written c.column → entries_of after.column ≡ entries_of c.column ++ d ∷ []
-      → map (placed ps) (set cs i after) ≡ put (use_at (place_at ps n) kind d) (map (placed ps) cs)
+      → after.place ≡ c.place → kind_of_written after.column ≡ kind_of_written c.column → entries_of after.column ≡ entries_of c.column ++ ds
+      → map (placed ps) (set cs i after) ≡ put_all (map (use_at (place_at ps n) kind) ds) (map (placed ps) cs)
   put_first [] i c after all first is same_at same_kind more = absurd first
   put_first (x ∷ cs) zero c after all first is same_at same_kind more =
       let here : same_place (place_at ps n) (place_at ps x.place) ≡ true =
       subst (λ j. same_place (place_at ps n) (place_at ps j) ≡ true) (sym first) (same_place-refl (place_at ps n)) in
       let at : after.place ≡ x.place = same_at ∙ ap (λ z. z.place) is in
       let kinds : kind_of_written after.column ≡ kind_of_written x.column = same_kind ∙ ap (λ z. kind_of_written z.column) is in
-      let entries : entries_of after.column ≡ entries_of x.column ++ d ∷ [] = more ∙ ap (λ z. entries_of z.column ++ d ∷ []) is in
-      rw (here, at, kinds, entries) refl
+      let entries : entries_of after.column ≡ entries_of x.column ++ ds = more ∙ ap (λ z. entries_of z.column ++ ds) is in
+      rw (at, kinds, entries) (sym (put_all_here (place_at ps n) kind ds (placed ps x) (map (placed ps) cs) here))
   put_first (x ∷ cs) (suc i) c after all first is same_at same_kind more =
-      rw (other x all.0 first.0) (ap (λ xs. placed ps x ∷ xs) (put_first cs i c after all.1 first.1 is same_at same_kind more))
+      ap (λ xs. placed ps x ∷ xs) (put_first cs i c after all.1 first.1 is same_at same_kind more)
+      ∙ sym (put_all_past (place_at ps n) kind ds (placed ps x) (map (placed ps) cs) (other x all.0 first.0))
 
   put_last : (cs : List PlacedWritten) (c : PlacedWritten) → AllByRecursion (λ c. c.place < length ps) cs → AllByRecursion (λ c. c.place ≢ n) cs
-      → c.place ≡ n → kind_of_written c.column ≡ kind → entries_of c.column ≡ d ∷ []
-      → map (placed ps) (cs ++ c ∷ []) ≡ put (use_at (place_at ps n) kind d) (map (placed ps) cs)
-  put_last [] c all away at same one = rw (at, same, one) refl
-  put_last (x ∷ cs) c all away at same one =
-      rw (other x all.0 away.0) (ap (λ xs. placed ps x ∷ xs) (put_last cs c all.1 away.1 at same one))
+      → c.place ≡ n → kind_of_written c.column ≡ kind → entries_of c.column ≡ ds → 0 < length ds
+      → map (placed ps) (cs ++ c ∷ []) ≡ put_all (map (use_at (place_at ps n) kind) ds) (map (placed ps) cs)
+  put_last [] c all away at same one some = rw (at, same, one) (sym (put_all_first (place_at ps n) kind ds some))
+  put_last (x ∷ cs) c all away at same one some =
+      ap (λ xs. placed ps x ∷ xs) (put_last cs c all.1 away.1 at same one some)
+      ∙ sym (put_all_past (place_at ps n) kind ds (placed ps x) (map (placed ps) cs) (other x all.0 away.0))
 
-pub put_there : (bs : List Below) (cs : List PlacedWritten) (n i : ℕ) (kind : Kind) (d : Datum) (c after : PlacedWritten) → AreApart (places bs) → n ≤ length bs
-    → All (λ c. c.place ≤ length bs) cs → All (λ c. c.place ≢ n) (take i cs) → IsSomeAnd (slice_get cs i) (λ c. c.place ≡ n) → c ≡ get_or cs i c
-    → after.place ≡ c.place → kind_of_written after.column ≡ kind_of_written c.column → entries_of after.column ≡ entries_of c.column ++ d ∷ []
-    → map (placed (places bs)) (set cs i after) ≡ put (use_at (place_at (places bs) n) kind d) (map (placed (places bs)) cs)
-put_there bs cs n i kind d c after apart within inside away here is same_at same_kind more =
-    put_first (places bs) apart n (inside_places bs n within) kind d cs i c after (inside_each bs cs inside) (first_at cs n i away here) is same_at same_kind more
+pub put_there : (bs : List Below) (cs : List PlacedWritten) (n i : ℕ) (kind : Kind) (ds : List Datum) (c after : PlacedWritten) → AreApart (places bs)
+    → n ≤ length bs → All (λ c. c.place ≤ length bs) cs → All (λ c. c.place ≢ n) (take i cs) → IsSomeAnd (slice_get cs i) (λ c. c.place ≡ n) → c ≡ get_or cs i c
+    → after.place ≡ c.place → kind_of_written after.column ≡ kind_of_written c.column → entries_of after.column ≡ entries_of c.column ++ ds
+    → map (placed (places bs)) (set cs i after) ≡ put_all (map (use_at (place_at (places bs) n) kind) ds) (map (placed (places bs)) cs)
+put_there bs cs n i kind ds c after apart within inside away here is same_at same_kind more =
+    put_first (places bs) apart n (inside_places bs n within) kind ds cs i c after (inside_each bs cs inside) (first_at cs n i away here) is same_at same_kind more
 
-pub put_behind : (bs : List Below) (cs more : List PlacedWritten) (n : ℕ) (kind : Kind) (d : Datum) (c : PlacedWritten) → AreApart (places bs) → n ≤ length bs
-    → All (λ c. c.place ≤ length bs) cs → All (λ c. c.place ≢ n) cs → more ≡ cs ++ c ∷ []
-    → c.place ≡ n → kind_of_written c.column ≡ kind → entries_of c.column ≡ d ∷ []
-    → map (placed (places bs)) more ≡ put (use_at (place_at (places bs) n) kind d) (map (placed (places bs)) cs)
-put_behind bs cs more n kind d c apart within inside away e at same one =
-    ap (map (placed (places bs))) e ∙ put_last (places bs) apart n (inside_places bs n within) kind d cs c (inside_each bs cs inside) (all_each _ cs away) at same one
+pub put_behind : (bs : List Below) (cs more : List PlacedWritten) (n : ℕ) (kind : Kind) (ds : List Datum) (c : PlacedWritten) → AreApart (places bs)
+    → n ≤ length bs → All (λ c. c.place ≤ length bs) cs → All (λ c. c.place ≢ n) cs → more ≡ cs ++ c ∷ []
+    → c.place ≡ n → kind_of_written c.column ≡ kind → entries_of c.column ≡ ds → 0 < length ds
+    → map (placed (places bs)) more ≡ put_all (map (use_at (place_at (places bs) n) kind) ds) (map (placed (places bs)) cs)
+put_behind bs cs more n kind ds c apart within inside away e at same one some =
+    ap (map (placed (places bs))) e
+    ∙ put_last (places bs) apart n (inside_places bs n within) kind ds cs c (inside_each bs cs inside) (all_each _ cs away) at same one some
 
 -- a column of the shape at the place takes entries of the kind that the shape has there
 kind_there : (ps : List Place) (cs : List PlacedWritten) (n i : ℕ) (c : PlacedWritten) (root : ShapeTree)

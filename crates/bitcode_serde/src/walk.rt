@@ -78,17 +78,14 @@ pub fn write(
     }
 }
 
-/// Writes a list of bytes at a place: its length, and then its bytes, one after another.
+/// Writes a list of bytes at a place: its length, and then its bytes, by one copy.
 pub fn write_bytes(writer: &mut Writer, place: usize, bytes: &[u8]) -> Result<(), Error>
     requires { place ≤ length writer.old.places.below.items }
     ensures { Outcome writer.old (seq_tree (natural_tree 1)) place (list (data_of (map natural bytes.now))) [] result writer.new }
 {
     writer.put(place, Entry::Length(bytes.len()))?;
     let element = writer.below(place, Step::Element)?;
-    for byte in bytes {
-        writer.put(element, Entry::Byte(*byte))?;
-    }
-    Ok(())
+    writer.put_bytes(element, bytes)
 }
 
 // Writes a value of entry i of the table, as one more reference that is followed.

@@ -1,9 +1,10 @@
 //! Columns in the order of their first entries, each at its place.
 #![tactic(auto)]
 
-ghost use Rattle.std.specs.Prelude.{◌≡◌, ◌≢◌, ◌≤◌, ◌<◌, [], ◌∷◌, ◌++◌, take, map, length, All, slice_get, get_or, IfOk, OnOk, IfErr, IfSome, IfNone, IsSomeAnd};
-ghost use Rattle.bitcode_coder.specs.Spelling.{texts_of};
-ghost use Rattle.bitcode_untyped.specs.Growing.{put};
+ghost use Rattle.std.specs.Prelude.{◌≡◌, ◌≢◌, ◌≤◌, ◌<◌, [], ◌∷◌, ◌++◌, false, take, map, length, All, slice_get, get_or, IfOk, OnOk, IfErr, IfSome, IfNone, IsSomeAnd};
+ghost use Rattle.bitcode_coder.specs.Columns.{ints};
+ghost use Rattle.bitcode_coder.specs.Spelling.{natural, texts_of};
+ghost use Rattle.bitcode_untyped.specs.Growing.{put, put_all};
 ghost use Rattle.bitcode_untyped.specs.PlaceKinds.{HasKindFrom};
 ghost use Rattle.bitcode_untyped.specs.PlacedColumns.{unplaced};
 ghost use Rattle.bitcode_untyped.specs.ShapeTree.{ShapeTree};
@@ -16,6 +17,8 @@ use crate::places::Places;
 use crate::step::Step;
 pub use crate::writer::state::{PlacedWritten, Writer};
 use crate::written::{Entry, WrittenColumn};
+use bitcode_coder::coder::Buffer;
+use bitcode_coder::int::IntEncoder;
 use bitcode_columns::error::{Error, Reason};
 use std::alloc::Global;
 
@@ -97,6 +100,30 @@ impl Writer {
             None => {
                 let mut column = WrittenColumn::new(self.alloc, next);
                 column.push(next)?;
+                self.add(place, column)
+            }
+        }
+    }
+
+    /// Writes bytes to the column of a place, one after another: by one copy.
+    ///
+    /// Without bytes no column is begun. A refused growth is `out of memory`, and `value is not of the shape` comes only
+    /// where the column is for other entries.
+    pub fn put_bytes(&mut self, place: usize, bytes: &[u8]) -> Result<(), Error>
+        requires { place ≤ length self.old.places.below.items }
+        ensures below { OnOk result (self.new.places.below ≡ self.old.places.below) }
+        ensures written { OnOk result (written self.new ≡ put_all (map (use_at (place_in self.old place) (ints 1 false)) (map natural bytes.now)) (written self.old)) }
+        ensures refused { IfErr result (λ e. (root : ShapeTree) → AreOfShape root (written self.old)
+            → HasKindFrom root [] (place_in self.old place) (ints 1 false) → e.reason ≡ Reason.OutOfMemory) }
+    {
+        match self.column(place) {
+            Some(i) => self.columns[i].column.extend_bytes(bytes),
+            None => {
+                if bytes.is_empty() {
+                    return Ok(());
+                }
+                let mut column = WrittenColumn::Bytes(IntEncoder::new(self.alloc));
+                column.extend_bytes(bytes)?;
                 self.add(place, column)
             }
         }

@@ -1,7 +1,8 @@
 //! The columns that a writer fills.
-ghost use Rattle.std.specs.Prelude.{◌≡◌, ◌≢◌, ◌⊎◌, [], ◌∷◌, ◌++◌, OnOk, IfOk, IfErr};
+ghost use Rattle.std.specs.Prelude.{◌≡◌, ◌≢◌, ◌⊎◌, [], ◌∷◌, ◌++◌, map, false, OnOk, IfOk, IfErr};
 ghost use Rattle.bitcode_coder.specs.Coder.{JoinsListing, OverflowsWithListing};
-ghost use Rattle.bitcode_coder.specs.Spelling.{column_bytes};
+ghost use Rattle.bitcode_coder.specs.Columns.{ints};
+ghost use Rattle.bitcode_coder.specs.Spelling.{natural, column_bytes};
 ghost use Rattle.bitcode_serde.specs.WrittenColumns.{kind_of_entry, datum_of_entry, kind_of_written, entries_of};
 
 use bitcode_coder::bool::BoolEncoder;
@@ -109,6 +110,24 @@ impl WrittenColumn {
                 column.encode(n)
             }
             (WrittenColumn::Texts(column), Entry::Text(s)) => join(column, &s),
+            _ => err(Reason::NotOfTheShape),
+        }
+    }
+
+    /// Writes bytes behind the others, by one copy.
+    ///
+    /// A refused growth is `out of memory`, and `value is not of the shape` comes only where the column is for other entries.
+    pub fn extend_bytes(&mut self, bytes: &[u8]) -> Result<(), Error>
+        ensures kind { OnOk result ((kind_of_written self.new ≡ kind_of_written self.old) × (ints 1 false ≡ kind_of_written self.old)) }
+        ensures written { OnOk result (entries_of self.new ≡ entries_of self.old ++ map natural bytes.now) }
+        ensures refused { IfErr result (λ e. (e.reason ≡ Reason.OutOfMemory) ⊎ (ints 1 false ≢ kind_of_written self.old)) }
+    {
+        match self {
+            WrittenColumn::Bytes(column) => {
+                column.reserve(bytes.len())?;
+                column.extend(bytes);
+                Ok(())
+            }
             _ => err(Reason::NotOfTheShape),
         }
     }

@@ -1,12 +1,14 @@
 -- The columns of a walk that grows at its end.
-use Rattle.std.proofs.Common.{◌≡◌, inl, inr, List, [], ◌∷◌, ◌++◌, refl, ap, sym, ◌∙◌, append_assoc, subst, true, false}
+use Rattle.std.proofs.Common.{◌≡◌, ◌<◌, inl, inr, List, [], ◌∷◌, ◌++◌, length, map, refl, ap, sym, ◌∙◌, append_assoc, arith, subst, true, false}
 use Rattle.std.proofs.lemmas.Bool.{cases_Bool, false_from_ne_true}
 use Rattle.std.proofs.lemmas.List.{append-nil}
 use Rattle.std.specs.List.{AllByRecursion}
+use Rattle.bitcode_shapes.specs.Datum.{Datum}
+use Rattle.bitcode_coder.specs.Columns.{Kind}
 use Rattle.bitcode_untyped.specs.Machine.{entries_of}
 use Rattle.bitcode_untyped.specs.Growing.{put, put_all}
 use Rattle.bitcode_untyped.specs.PlacedColumns.{same_place, entries_at, PlacedColumn, without, columns}
-use Rattle.bitcode_untyped.specs.Walk.{Place, Use}
+use Rattle.bitcode_untyped.specs.Walk.{Place, Use, use_at}
 use Rattle.bitcode_untyped.proofs.PlaceLemmas.{same_place-true, same_place-refl, entries-append}
 
 pub same_place_sym : (p q : Place) → same_place p q ≡ true → same_place q p ≡ true
@@ -64,6 +66,29 @@ put_all-columns (u ∷ v) w =
 -- The columns of a walk are those that a writer makes use by use.
 pub put_all-none : (w : List Use) → put_all w [] ≡ columns w
 put_all-none w = put_all-columns w []
+
+-- Entries of one place stand behind the others of its column.
+pub put_all_here : (p : Place) (kind : Kind) (ds : List Datum) (c : PlacedColumn) (cs : List PlacedColumn) → same_place p c.place ≡ true
+    → put_all (map (use_at p kind) ds) (c ∷ cs) ≡ record c { entries = c.entries ++ ds } ∷ cs
+put_all_here p kind [] c cs h = ap (λ es. record c { entries = es } ∷ cs) (sym (append-nil c.entries))
+put_all_here p kind (d ∷ ds) c cs h =
+    let one : put (use_at p kind d) (c ∷ cs) ≡ record c { entries = c.entries ++ d ∷ [] } ∷ cs = rw h refl in
+    ap (put_all (map (use_at p kind) ds)) one
+    ∙ put_all_here p kind ds (record c { entries = c.entries ++ d ∷ [] }) cs h
+    ∙ ap (λ es. record c { entries = es } ∷ cs) (append_assoc c.entries (d ∷ []) ds)
+
+pub put_all_past : (p : Place) (kind : Kind) (ds : List Datum) (c : PlacedColumn) (cs : List PlacedColumn) → same_place p c.place ≡ false
+    → put_all (map (use_at p kind) ds) (c ∷ cs) ≡ c ∷ put_all (map (use_at p kind) ds) cs
+put_all_past p kind [] c cs h = refl
+put_all_past p kind (d ∷ ds) c cs h =
+    let one : put (use_at p kind d) (c ∷ cs) ≡ c ∷ put (use_at p kind d) cs = rw h refl in
+    ap (put_all (map (use_at p kind) ds)) one ∙ put_all_past p kind ds c (put (use_at p kind d) cs) h
+
+pub put_all_first : (p : Place) (kind : Kind) (ds : List Datum) → 0 < length ds
+    → put_all (map (use_at p kind) ds) [] ≡ record { place = p; kind = kind; entries = ds } ∷ []
+put_all_first p kind [] h = absurd (omega (arith, h))
+put_all_first p kind (d ∷ ds) h =
+    put_all_here p kind ds (record { place = p; kind = kind; entries = d ∷ [] }) [] (same_place-refl p)
 
 pub lookup_without : (p q : Place) (cs : List PlacedColumn) → same_place p q ≡ false → entries_of (without q cs) p ≡ entries_of cs p
 lookup_without p q [] h = refl

@@ -1,5 +1,5 @@
 -- An entry goes to the column of its place.
-use Rattle.std.proofs.Common.{◌++◌, [], ◌∷◌, map, length, refl, ap, ◌∙◌}
+use Rattle.std.proofs.Common.{◌++◌, [], ◌∷◌, map, length, refl, ap, ◌∙◌, arith}
 use Rattle.bitcode_serde.specs.Places.{places}
 use Rattle.bitcode_serde.specs.Writing.{placed}
 use Rattle.bitcode_serde.specs.WrittenColumns.{kind_of_entry, datum_of_entry}
@@ -27,7 +27,7 @@ returns-in-Some-clause-written c =
     let old = c.args.self.now in
     let there = c.index_mut.result.now in
     on_ok _ _ _ c.push.result c.push.ensures.kind c.push.ensures.written
-    (λ kinds entries. put_there old.places.below.items old.columns.items c.args.place c.in-Some.i (kind_of_entry c.args.next) (datum_of_entry c.args.next) there
+    (λ kinds entries. put_there old.places.below.items old.columns.items c.args.place c.in-Some.i (kind_of_entry c.args.next) (datum_of_entry c.args.next ∷ []) there
     (record { place = there.place; column = c.push.new.self }) old.places.apart c.requires old.inside c.in-Some.ensures.first c.in-Some.ensures.some c.index_mut.ensures.value refl kinds.0 entries)
 
 pub returns-in-Some-clause-refused : goal.returns-in-Some-clause-refused
@@ -44,7 +44,7 @@ returns-in_ok-push-in-None-clause-written c =
     let entries = c.in_ok-push-in-None.ensures.written ∙ ap (λ ds. ds ++ datum_of_entry c.args.next ∷ []) c.new-column.ensures.empty in
     when_ok c.add.result
     (λ items. ap (λ z. map (placed (places z.items)) c.add.new.self.columns.items) c.add.ensures.below
-    ∙ put_behind old.places.below.items old.columns.items c.add.new.self.columns.items c.args.place (kind_of_entry c.args.next) (datum_of_entry c.args.next)
+    ∙ put_behind old.places.below.items old.columns.items c.add.new.self.columns.items c.args.place (kind_of_entry c.args.next) (datum_of_entry c.args.next ∷ [])
     (record { place = c.args.place; column = c.push-in-None.new.self }) old.places.apart c.requires old.inside c.in-None.ensures.none items
-    refl (c.in_ok-push-in-None.ensures.kind.0 ∙ c.new-column.ensures.kind) entries)
+    refl (c.in_ok-push-in-None.ensures.kind.0 ∙ c.new-column.ensures.kind) entries (omega arith))
     c.add.ensures.columns
