@@ -17,8 +17,6 @@ use crate::places::Places;
 use crate::step::Step;
 pub use crate::writer::state::{PlacedWritten, Writer};
 use crate::written::{Entry, WrittenColumn};
-use bitcode_coder::coder::Buffer;
-use bitcode_coder::int::IntEncoder;
 use bitcode_columns::error::{Error, Reason};
 use std::alloc::Global;
 
@@ -122,7 +120,7 @@ impl Writer {
                 if bytes.is_empty() {
                     return Ok(());
                 }
-                let mut column = WrittenColumn::Bytes(IntEncoder::new(self.alloc));
+                let mut column = WrittenColumn::new(self.alloc, Entry::Byte(0));
                 column.extend_bytes(bytes)?;
                 self.add(place, column)
             }
