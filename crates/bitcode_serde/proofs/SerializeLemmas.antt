@@ -1,6 +1,6 @@
 -- What was written, piece by piece.
 use Rattle.std.proofs.Common.{◌≡◌, ℕ, zero, suc, ◌+◌, ◌<◌, ◌≤◌, inl, inr, List, [], ◌∷◌, ◌++◌, length, map, take, get_or, refl, ap, sym, subst, ◌∙◌, arith, add-one, append_assoc}
-use Rattle.std.specs.Prelude.{Result, Ok, Err}
+use Rattle.std.specs.Prelude.{Result, Ok, Err, OnOk, IfErr}
 use Rattle.std.specs.List.{AllByRecursion, flat_map}
 use Rattle.std.proofs.lemmas.Bool.{cases_Bool}
 use Rattle.std.proofs.lemmas.List.{append-nil}
@@ -10,11 +10,12 @@ use Rattle.bitcode_columns.specs.declared.error.Error.{Error}
 use Rattle.bitcode_columns.specs.declared.error.Reason.{Reason}
 use Rattle.bitcode_columns.specs.declared.error.Reason.TheVariants.{OutOfMemory}
 use Rattle.bitcode_shapes.specs.Datum.{Datum, list, list_of, data_of}
+use Rattle.bitcode_shapes.specs.Shape.{Allowed}
 use Rattle.bitcode_coder.specs.Columns.{Kind}
 use Rattle.bitcode_untyped.specs.Growing.{put, put_all}
 use Rattle.bitcode_untyped.specs.PlaceKinds.{HasKindFrom}
 use Rattle.bitcode_untyped.specs.PlacedColumns.{same_place, PlacedColumn}
-use Rattle.bitcode_untyped.specs.ShapeTree.{ShapeTree, seq_tree, IsOf}
+use Rattle.bitcode_untyped.specs.ShapeTree.{ShapeTree, leaf_tree, seq_tree, IsOf}
 use Rattle.bitcode_untyped.specs.Walk.{Step, element, Place, Use, use_at, length_kind, walk}
 use Rattle.bitcode_untyped.proofs.KindLemmas.{kinded}
 use Rattle.std.proofs.lemmas.List.{length-map}
@@ -218,6 +219,36 @@ refused_outcome old tree n d faults r new e y h g k =
 pub written_outcome : {A : Type 0} (old : Writer) (tree : ShapeTree) (n : ℕ) (d : Datum) (faults : List Reason) (a : A) (new : Writer)
     → Writes old (walk tree (place_in old n) d) new → IsOf tree d → faults ≡ [] → Outcome old tree n d faults (Ok a) new
 written_outcome old tree n d faults a new w of e = record { written = w; of_tree = of; whole = e; refused = tt }
+
+-- the walks of entries of one column are their uses
+leaf_uses : {A : Type 0} (kind : Kind) (allowed : Allowed) (datum : A → Datum) (p : Place) (xs : List A)
+    → map (use_at p kind) (map datum xs) ≡ flat_map (λ x. walk (leaf_tree kind allowed) p (datum x)) xs
+leaf_uses kind allowed datum p [] = refl
+leaf_uses kind allowed datum p (x ∷ xs) = ap (λ w. use_at p kind (datum x) ∷ w) (leaf_uses kind allowed datum p xs)
+
+-- a list of entries of one column, which were written at once
+pub entries_outcome : {A B : Type 0} (kind : Kind) (allowed : Allowed) (datum : A → Datum) (xs : List A) (old start now : Writer) (n m : ℕ) (r : Result B Error)
+    → Writes old (use_at (place_in old n) length_kind (natural (length xs)) ∷ []) start → place_in start m ≡ element ∷ place_in old n
+    → m ≤ length start.places.below.items → AllByRecursion (λ x. IsOf (leaf_tree kind allowed) (datum x)) xs
+    → OnOk r (now.places.below ≡ start.places.below)
+    → OnOk r (written now ≡ put_all (map (use_at (place_in start m) kind) (map datum xs)) (written start))
+    → IfErr r (λ e. (root : ShapeTree) → AreOfShape root (written start) → HasKindFrom root [] (place_in start m) kind → e.reason ≡ OutOfMemory)
+    → Outcome old (seq_tree (leaf_tree kind allowed)) n (list (data_of (map datum xs))) [] r now
+entries_outcome kind allowed datum xs old start now n m (Ok b) first at inside each below more refused =
+    let s = leaf_tree kind allowed in
+    let p = place_in start m in
+    let all : Writes start (flat_map (λ x. walk s p (datum x)) xs) now = record {
+      grows = grows_same start now below;
+      columns = more ∙ ap (λ w. put_all w (written start)) (leaf_uses kind allowed datum p xs);
+    } in
+    let so_far = subst (λ ys. Writes start (flat_map (λ x. walk s p (datum x)) ys) now) (sym (take-length xs)) all in
+    written_outcome old (seq_tree s) n _ [] b now (list_done s datum xs old start now n m (length xs) first at (omega arith) (omega arith) so_far)
+    (list_is s datum xs each) refl
+entries_outcome kind allowed datum xs old start now n m (Err e) first at inside each below more refused =
+    let s = leaf_tree kind allowed in
+    refused_outcome old (seq_tree s) n _ [] (Err e) now e e refl refl
+    (list_refused s datum xs old start start n m (length xs) 0 [] [] e.reason first at inside (writes_none start start (grows_same start start refl) refl) (λ h. h)
+    (refuses_use start s m [] e.reason (place_in start m) kind refused (refl, refl)))
 
 -- the same outcome, told otherwise
 pub same_outcome : {A : Type 0} (old : Writer) (tree other : ShapeTree) (n : ℕ) (d e : Datum) (faults reasons : List Reason) (r : Result A Error) (new : Writer)
