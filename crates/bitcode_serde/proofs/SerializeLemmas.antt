@@ -1,11 +1,10 @@
 -- What was written, piece by piece.
-use Rattle.std.proofs.Common.{◌≡◌, ℕ, zero, suc, ◌+◌, ◌<◌, ◌≤◌, inl, inr, List, [], ◌∷◌, ◌++◌, length, map, take, get_or, refl, ap, sym, subst, ◌∙◌, arith, add-one, append_assoc}
+use Rattle.std.proofs.Common.{◌≡◌, ℕ, zero, suc, ◌<◌, ◌≤◌, inl, inr, List, [], ◌∷◌, ◌++◌, length, map, take, get_or, refl, ap, sym, subst, ◌∙◌, arith, append_assoc}
 use Rattle.std.specs.Prelude.{Result, Ok, Err, OnOk, IfErr}
 use Rattle.std.specs.List.{AllByRecursion, flat_map}
 use Rattle.std.proofs.lemmas.Bool.{cases_Bool}
 use Rattle.std.proofs.lemmas.List.{append-nil}
-use Rattle.std.proofs.lemmas.Grind.{flat_map-append}
-use Rattle.std.proofs.Math.Seq.{take-suc, take-length}
+use Rattle.std.proofs.Math.Seq.{take-length}
 use Rattle.bitcode_columns.specs.declared.error.Error.{Error}
 use Rattle.bitcode_columns.specs.declared.error.Reason.{Reason}
 use Rattle.bitcode_columns.specs.declared.error.Reason.TheVariants.{OutOfMemory}
@@ -127,13 +126,6 @@ pub each_map : {A B : Type 0} (P : B → Type 0) (f : A → B) (xs : List A) →
 each_map P f [] h = tt
 each_map P f (x ∷ xs) h = (h.0, each_map P f xs h.1)
 
--- one element more, of those that were taken so far
-pub one_more : {A B : Type 0} (f : A → List B) (xs : List A) (i : ℕ) (x default : A) → i < length xs → x ≡ get_or xs i default
-    → flat_map f (take (i + 1) xs) ≡ flat_map f (take i xs) ++ f x
-one_more f xs i x default h e =
-    ap (λ j. flat_map f (take j xs)) (add-one i) ∙ ap (flat_map f) (take-suc xs i default h) ∙ flat_map-append f (take i xs) (get_or xs i default ∷ [])
-    ∙ ap (λ ys. flat_map f (take i xs) ++ ys) (append-nil (f (get_or xs i default)) ∙ ap f (sym e))
-
 -- ---- a list at its place
 
 -- the number of elements was written, and the place of the elements is known
@@ -146,13 +138,6 @@ begun old first now n m u s same put_there at grows rest = (
 )
 
 module _ {A : Type 0} (uses_of : Place → A → List Use) (xs : List A) where
-  pub grown : (start now new : Writer) (m i : ℕ) (x default : A) → m ≤ length start.places.below.items
-      → Writes start (flat_map (uses_of (place_in start m)) (take i xs)) now → Writes now (uses_of (place_in now m) x) new → i < length xs → x ≡ get_or xs i default
-      → Writes start (flat_map (uses_of (place_in start m)) (take (i + 1) xs)) new
-  grown start now new m i x default inside so_far step high is =
-      let here : Writes now (uses_of (place_in start m) x) new = subst (λ p. Writes now (uses_of p x) new) (kept start now m so_far.grows inside) step in
-      subst (λ w. Writes start w new) (sym (one_more (uses_of (place_in start m)) xs i x default high is)) (writes_then start now new _ _ so_far here)
-
   pub finished : (old start now : Writer) (u : Use) (p : Place) (i : ℕ) → Writes old (u ∷ []) start → i ≡ length xs
       → Writes start (flat_map (uses_of p) (take i xs)) now → Writes old (u ∷ flat_map (uses_of p) xs) now
   finished old start now u p i first e rest =

@@ -51,6 +51,21 @@ fn bytes_are_a_length_and_bytes(rt: HostRuntime) -> Result<(), Fail> {
 }
 
 #[test]
+fn bytes_join_the_column_of_their_place(rt: HostRuntime) -> Result<(), Fail> {
+    let mut writer = Writer::new(rt.alloc());
+    let without_bytes = writer.below(0, Step::Field(1))?;
+    let with_bytes = writer.below(0, Step::Field(0))?;
+    writer.put_bytes(without_bytes, &[])?;
+    writer.put_bytes(with_bytes, &[8])?;
+    writer.put_bytes(with_bytes, &[20, 77])?;
+    writer.put(without_bytes, Entry::U16(263))?;
+    assert!(rt; writer.put_bytes(without_bytes, &[8]).is_err());
+    let bytes = writer.collect()?;
+    assert_eq!(rt; bytes.as_slice(), [0, 8, 20, 77, 7, 1].as_slice());
+    Ok(())
+}
+
+#[test]
 fn leaves_are_entries(rt: HostRuntime) -> Result<(), Fail> {
     let mut writer = Writer::new(rt.alloc());
     let value = Value::I16(-2);

@@ -27,6 +27,18 @@ fn a_chunk_is_as_one_by_one(rt: HostRuntime) -> Result<(), Fail> {
 }
 
 #[test]
+fn a_slice_is_as_one_by_one(rt: HostRuntime) -> Result<(), Fail> {
+    let alloc = rt.alloc();
+    let mut encoder: IntEncoder<u16> = IntEncoder::new(alloc);
+    encoder.reserve(17)?;
+    encoder.extend(&[300u16; 16]);
+    encoder.encode(&299u16)?;
+    let bytes = encoder.collect(alloc)?;
+    assert_eq!(rt; bytes.as_slice(), [1, 43, 1, 10, 255, 255, 0].as_slice());
+    Ok(())
+}
+
+#[test]
 fn the_longest_chunk(rt: HostRuntime) -> Result<(), Fail> {
     let alloc = rt.alloc();
     let mut encoder = BoolEncoder::new(alloc);
