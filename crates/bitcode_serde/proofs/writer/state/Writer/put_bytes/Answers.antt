@@ -1,5 +1,5 @@
 -- Bytes go to the column of their place.
-use Rattle.std.proofs.Common.{◌≡◌, ◌<◌, ◌++◌, [], ◌∷◌, false, map, length, refl, ap, sym, subst, ◌∙◌, arith}
+use Rattle.std.proofs.Common.{◌<◌, ◌++◌, false, map, length, refl, ap, sym, subst, ◌∙◌, arith}
 use Rattle.std.proofs.lemmas.List.{length-map}
 use Rattle.bitcode_coder.specs.Columns.{ints}
 use Rattle.bitcode_coder.specs.Spelling.{natural}
