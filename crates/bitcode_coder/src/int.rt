@@ -91,10 +91,10 @@ impl<T: ColumnInt> IntEncoder<T> {
     /// Writes integers behind the others, by one copy. Room for them was reserved.
     ///
     /// ```
-    /// let mut column: IntEncoder<u16> = IntEncoder::new(alloc);
+    /// let mut column: IntEncoder<u8> = IntEncoder::new(alloc);
     /// column.reserve(2)?;
     /// column.extend(&[7, 8]);
-    /// column.collect_into(&mut bytes)?;   // [7, 0, 8, 0]
+    /// column.collect_into(&mut bytes)?;   // [7, 8]
     /// ```
     pub fn extend(&mut self, ints: &[T])
         requires { length ints.now ≤ fast_room self.old.values }
