@@ -11,7 +11,7 @@ use Rattle.bitcode_untyped.specs.View.{datum_of, tree_by}
 use Rattle.bitcode_untyped.specs.declared.shape.ShapeNode.{ShapeNode}
 use Rattle.bitcode_untyped.specs.declared.value.Value.{Value}
 use Rattle.bitcode_serde.specs.ReadColumns.{kind_of, IsCaseOf}
-use Rattle.bitcode_serde.specs.ReadingValues.{HasColumn, ReadsAt, IsRefusalAt, IsOfLeaf, ReadsLeafAt, IsLeafRefusalAt}
+use Rattle.bitcode_serde.specs.ReadingValues.{HasColumn, ReadsAt, IsRefusalAt, ReadsLeafAt, IsLeafRefusalAt}
 use Rattle.bitcode_serde.specs.declared.column.ColumnKind.{ColumnKind}
 use Rattle.bitcode_serde.specs.declared.reader.Reader.{Reader}
 use Rattle.bitcode_serde.proofs.CaseLemmas.{nothing, of_case}

@@ -1,5 +1,6 @@
 -- By the node, and by what was taken.
 use Rattle.std.proofs.Common.{rules, arith, ◌≡◌, ◌<◌, ◌-◌, [], ◌++◌, length, map, refl, ap, subst, sym, ◌∙◌}
+use Rattle.std.specs.List.{AllByRecursion, flat_map}
 use Rattle.std.proofs.lemmas.List.{map-append}
 use Rattle.std.proofs.lemmas.Result.{err_from_is_err_and, IfOk-weaker, IfErr-weaker}
 use Rattle.bitcode_shapes.specs.Datum.{unit, choice, pair}
@@ -16,6 +17,7 @@ use Rattle.bitcode_untyped.proofs.ReadLemmas.{never_read, seq_stuck_length, seq_
 use Rattle.bitcode_untyped.proofs.ViewLemmas.{tree-Bytes, tree-Option, tree-Seq, tree-Map, tree-Tuple, tree-Enum, tree-Ref, datum-None, datum-Some, datum-Seq, datum-Map, datum-Tuple, datum-Enum}
 use Rattle.bitcode_coder.specs.Spelling.{natural}
 use Rattle.bitcode_serde.specs.Places.{places, place_at}
+use Rattle.bitcode_serde.specs.ReadColumns.{IsCaseOf}
 use Rattle.bitcode_serde.specs.ReadingValues.{ReadsAt, ReadsListAt, IsRefusalAt, IsListRefusalAt, IsOfLeaf, IsOfBytes, ReadsLeafAt, IsLeafRefusalAt, IsOfOption, IsOfSeq, IsOfMap, IsOfTuple, IsOfEnum}
 use Rattle.bitcode_serde.proofs.CaseLemmas.{nothing, one_more_whole, one_more_field_whole, all_fields_whole, enum_whole, reference_whole}
 use Rattle.bitcode_serde.proofs.ColumnLemmas.{passed_on}
@@ -23,6 +25,7 @@ use Rattle.bitcode_serde.proofs.DepthLemmas.{entry_deep, reference_falls}
 use Rattle.bitcode_serde.proofs.EntryLemmas.{found_entry, no_entry}
 use Rattle.bitcode_serde.proofs.FieldLemmas.{tree_at_entry, tree_at_none, no_fields, one_more_field, field_refused, tuple_done}
 use Rattle.bitcode_serde.proofs.LeafEntryLemmas.{leaf_else}
+use Rattle.bitcode_serde.proofs.LeafLemmas.{leaves_whole}
 use Rattle.bitcode_serde.proofs.ValueLemmas.{refused_entry, still_there, continues_on, continues_stepped, one_more, list_stuck, enters_list, enters_choice, enters_map, seq_read_at, seq_refused, choice_read_at, choice_refused, choice_of_unit, no_choice, no_third, told_at, ReadsPairsAt, one_more_pair, key_stuck, value_stuck, map_read_at, map_stuck_at}
 use Rattle.bitcode_serde.proofs.values.+read.Goals as goal
 
@@ -103,6 +106,15 @@ read-returns-in-None-clause-refused t c =
     passed_on (λ e. IsRefusalAt (tree_of_node c.args.left c.args.table.now c.args.node.now) c.args.place c.args.reader.now e.reason) c.err-in-None.result _ _ c.err-in-None.ensures refl
     (tt, λ other. rw (c.in-Ref.is, tree-Ref, e, f) (λ p at a st. never_read p a))
 
+pub read_elements-returns-in-Some-clause-read : goal.read_elements-returns-in-Some-clause-read
+read_elements-returns-in-Some-clause-read t c = rw (c.in-Some.ensures.some.tree (followed c.args.left c.args.table.now)) c.read_leaves.ensures.read
+pub read_elements-returns-in-Some-clause-whole : goal.read_elements-returns-in-Some-clause-whole
+read_elements-returns-in-Some-clause-whole t c =
+    IfOk-weaker c.read_leaves.result (λ values. AllByRecursion (IsCaseOf c.in-Some.kind) values.items)
+    (λ values. flat_map (λ v. faults_of c.args.table.now v c.args.left c.args.node.now) values.items ≡ [])
+    (λ values h. leaves_whole c.args.node.now c.in-Some.kind c.args.table.now c.args.left c.in-Some.ensures.some values.items h) c.read_leaves.ensures.of_case
+pub read_elements-returns-in-Some-clause-refused : goal.read_elements-returns-in-Some-clause-refused
+read_elements-returns-in-Some-clause-refused t c = rw (c.in-Some.ensures.some.tree (followed c.args.left c.args.table.now)) c.read_leaves.ensures.refused
 pub read_elements-read-requires : goal.read_elements-read-requires
 read_elements-read-requires t c =
     let h = still_there _ c.loop-i.reader c.args.place c.loop-i.invariant.0 c.requires.place in
