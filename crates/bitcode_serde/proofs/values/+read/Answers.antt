@@ -34,56 +34,74 @@ read-read_entry-requires t c =
     let d = c.in_default in
     let leaf = leaf_else c.args.node.now d.not-Unit d.not-Bytes d.not-Option d.not-Seq d.not-Map d.not-Tuple d.not-Enum d.not-Ref in
     search (rules, leaf)
+
 pub read-returns-in_default-clause-read : goal.read-returns-in_default-clause-read
 read-returns-in_default-clause-read t c =
     IfOk-weaker c.read_entry.result (λ v. ReadsLeafAt c.args.node.now c.args.place c.args.reader.now (datum_of v) c.read_entry.new.reader)
     (λ v. ReadsAt (tree_of_node c.args.left c.args.table.now c.args.node.now) c.args.place c.args.reader.now (datum_of v) c.read_entry.new.reader)
     (λ v h. h (followed c.args.left c.args.table.now)) c.read_entry.ensures.read
+
 pub read-returns-in_default-clause-whole : goal.read-returns-in_default-clause-whole
 read-returns-in_default-clause-whole t c =
     IfOk-weaker c.read_entry.result (λ v. IsOfLeaf c.args.node.now v) (λ v. faults_of c.args.table.now v c.args.left c.args.node.now ≡ [])
     (λ v h. h c.args.table.now c.args.left) c.read_entry.ensures.whole
+
 pub read-returns-in_default-clause-refused : goal.read-returns-in_default-clause-refused
 read-returns-in_default-clause-refused t c =
     IfErr-weaker c.read_entry.result (λ e. IsLeafRefusalAt c.args.node.now c.args.place c.args.reader.now e.reason)
     (λ e. IsRefusalAt (tree_of_node c.args.left c.args.table.now c.args.node.now) c.args.place c.args.reader.now e.reason)
     (λ e h. h (followed c.args.left c.args.table.now)) c.read_entry.ensures.refused
+
 pub read-returns-in-Bytes-clause-read : goal.read-returns-in-Bytes-clause-read
 read-returns-in-Bytes-clause-read t c = rw (c.in-Bytes.is, tree-Bytes (followed c.args.left c.args.table.now)) c.read_bytes.ensures.read
+
 pub read-returns-in-Bytes-clause-refused : goal.read-returns-in-Bytes-clause-refused
 read-returns-in-Bytes-clause-refused t c = rw (c.in-Bytes.is, tree-Bytes (followed c.args.left c.args.table.now)) c.read_bytes.ensures.refused
+
 pub read-returns-in-Option-clause-read : goal.read-returns-in-Option-clause-read
 read-returns-in-Option-clause-read t c = rw (c.in-Option.is, tree-Option (followed c.args.left c.args.table.now) c.in-Option.some, ← c.deref.ensures) c.read_option.ensures.read
+
 pub read-returns-in-Option-clause-refused : goal.read-returns-in-Option-clause-refused
 read-returns-in-Option-clause-refused t c = rw (c.in-Option.is, tree-Option (followed c.args.left c.args.table.now) c.in-Option.some, ← c.deref.ensures) c.read_option.ensures.refused
+
 pub read-returns-in-Seq-clause-read : goal.read-returns-in-Seq-clause-read
 read-returns-in-Seq-clause-read t c = rw (c.in-Seq.is, tree-Seq (followed c.args.left c.args.table.now) c.in-Seq.element, ← c.deref-in-Seq.ensures) c.read_seq.ensures.read
+
 pub read-returns-in-Seq-clause-refused : goal.read-returns-in-Seq-clause-refused
 read-returns-in-Seq-clause-refused t c = rw (c.in-Seq.is, tree-Seq (followed c.args.left c.args.table.now) c.in-Seq.element, ← c.deref-in-Seq.ensures) c.read_seq.ensures.refused
+
 pub read-returns-in-Map-clause-read : goal.read-returns-in-Map-clause-read
 read-returns-in-Map-clause-read t c =
     rw (c.in-Map.is, tree-Map (followed c.args.left c.args.table.now) c.in-Map.key c.in-Map.value, ← c.deref-in-Map.ensures, ← c.deref-in-Map-2.ensures) c.read_map.ensures.read
+
 pub read-returns-in-Map-clause-refused : goal.read-returns-in-Map-clause-refused
 read-returns-in-Map-clause-refused t c =
     rw (c.in-Map.is, tree-Map (followed c.args.left c.args.table.now) c.in-Map.key c.in-Map.value, ← c.deref-in-Map.ensures, ← c.deref-in-Map-2.ensures) c.read_map.ensures.refused
+
 pub read-returns-in-Tuple-clause-read : goal.read-returns-in-Tuple-clause-read
 read-returns-in-Tuple-clause-read t c = rw (c.in-Tuple.is, tree-Tuple (followed c.args.left c.args.table.now) c.in-Tuple.nodes, ← c.deref-in-Tuple.ensures.value) c.read_tuple.ensures.read
+
 pub read-returns-in-Tuple-clause-refused : goal.read-returns-in-Tuple-clause-refused
 read-returns-in-Tuple-clause-refused t c = rw (c.in-Tuple.is, tree-Tuple (followed c.args.left c.args.table.now) c.in-Tuple.nodes, ← c.deref-in-Tuple.ensures.value) c.read_tuple.ensures.refused
+
 pub read-returns-in-Enum-clause-read : goal.read-returns-in-Enum-clause-read
 read-returns-in-Enum-clause-read t c = rw (c.in-Enum.is, tree-Enum (followed c.args.left c.args.table.now) c.in-Enum.nodes, ← c.deref-in-Enum.ensures.value) c.read_enum.ensures.read
+
 pub read-returns-in-Enum-clause-refused : goal.read-returns-in-Enum-clause-refused
 read-returns-in-Enum-clause-refused t c = rw (c.in-Enum.is, tree-Enum (followed c.args.left c.args.table.now) c.in-Enum.nodes, ← c.deref-in-Enum.ensures.value) c.read_enum.ensures.refused
+
 pub read-read-requires : goal.read-read-requires
 read-read-requires t c =
     let h : 0 < c.args.left = omega arith in
     let d = reference_falls c.args.left c.args.table.now c.in-Ref.i 0 c.in-Some.entry.now
     (found_entry c.args.table.now c.in-Ref.i c.in-Some.entry.now c.in-Some.ensures.lookup.3.0 (c.in-Some.ensures.lookup.3.1 c.in-Some.entry.now)) h in
     search (rules, d)
+
 pub read-returns-then-left-eq0-clause-refused : goal.read-returns-then-left-eq0-clause-refused
 read-returns-then-left-eq0-clause-refused t c =
     passed_on (λ e. IsRefusalAt (tree_of_node c.args.left c.args.table.now c.args.node.now) c.args.place c.args.reader.now e.reason) c.err.result _ _ c.err.ensures refl
     (tt, λ other. rw (c.in-Ref.is, tree-Ref, c.if-left-eq0.true, followed-zero) (λ p at a st. never_read p a))
+
 pub read-returns-in-Some-clause-read : goal.read-returns-in-Some-clause-read
 read-returns-in-Some-clause-read t c =
     let left : 0 < c.args.left = omega arith in
@@ -91,6 +109,7 @@ read-returns-in-Some-clause-read t c =
     let f = entry_there (followed (c.args.left - 1) c.args.table.now) c.args.table.now c.in-Ref.i c.in-Some.entry.now
     (found_entry c.args.table.now c.in-Ref.i c.in-Some.entry.now c.in-Some.ensures.lookup.3.0 (c.in-Some.ensures.lookup.3.1 c.in-Some.entry.now)) in
     rw (c.in-Ref.is, tree-Ref, e, f) c.read.ensures.read
+
 pub read-returns-in-Some-clause-refused : goal.read-returns-in-Some-clause-refused
 read-returns-in-Some-clause-refused t c =
     let left : 0 < c.args.left = omega arith in
@@ -98,6 +117,7 @@ read-returns-in-Some-clause-refused t c =
     let f = entry_there (followed (c.args.left - 1) c.args.table.now) c.args.table.now c.in-Ref.i c.in-Some.entry.now
     (found_entry c.args.table.now c.in-Ref.i c.in-Some.entry.now c.in-Some.ensures.lookup.3.0 (c.in-Some.ensures.lookup.3.1 c.in-Some.entry.now)) in
     rw (c.in-Ref.is, tree-Ref, e, f) c.read.ensures.refused
+
 pub read-returns-in-None-clause-refused : goal.read-returns-in-None-clause-refused
 read-returns-in-None-clause-refused t c =
     let left : 0 < c.args.left = omega arith in
@@ -108,18 +128,22 @@ read-returns-in-None-clause-refused t c =
 
 pub read_elements-returns-in-Some-clause-read : goal.read_elements-returns-in-Some-clause-read
 read_elements-returns-in-Some-clause-read t c = rw (c.in-Some.ensures.some.tree (followed c.args.left c.args.table.now)) c.read_leaves.ensures.read
+
 pub read_elements-returns-in-Some-clause-whole : goal.read_elements-returns-in-Some-clause-whole
 read_elements-returns-in-Some-clause-whole t c =
     IfOk-weaker c.read_leaves.result (λ values. AllByRecursion (IsCaseOf c.in-Some.kind) values.items)
     (λ values. flat_map (λ v. faults_of c.args.table.now v c.args.left c.args.node.now) values.items ≡ [])
     (λ values h. leaves_whole c.args.node.now c.in-Some.kind c.args.table.now c.args.left c.in-Some.ensures.some values.items h) c.read_leaves.ensures.of_case
+
 pub read_elements-returns-in-Some-clause-refused : goal.read_elements-returns-in-Some-clause-refused
 read_elements-returns-in-Some-clause-refused t c = rw (c.in-Some.ensures.some.tree (followed c.args.left c.args.table.now)) c.read_leaves.ensures.refused
+
 pub read_elements-read-requires : goal.read_elements-read-requires
 read_elements-read-requires t c =
     let h = still_there _ c.loop-i.reader c.args.place c.loop-i.invariant.0 c.requires.place in
     let s = c.loop-i.invariant.0.steady in
     search (rules, h, s)
+
 pub read_elements-returns-in_err-value-clause-refused : goal.read_elements-returns-in_err-value-clause-refused
 read_elements-returns-in_err-value-clause-refused t c =
     let tree = tree_of_node c.args.left c.args.table.now c.args.node.now in
@@ -127,6 +151,7 @@ read_elements-returns-in_err-value-clause-refused t c =
     let lt : c.loop-i._i < c.args.count = omega arith in
     passed_on (λ e. IsListRefusalAt tree c.args.place c.args.reader.now c.args.count e.reason) c.from_residual.result c.in_err-value.field-0.0 y.0 y.1 y.2
     (list_stuck tree c.args.place c.args.reader.now c.loop-i.reader c.loop-i._i c.args.count _ _ c.loop-i.invariant.0 c.loop-i.invariant.1 lt c.in_err-value.ensures.refused)
+
 pub read_elements-loop-i-preserved : goal.read_elements-loop-i-preserved
 read_elements-loop-i-preserved t c = (
   continues_on c.args.reader.now c.loop-i.reader c.read.new.reader c.loop-i.invariant.0 c.in_ok-value.ensures.continues,
@@ -136,6 +161,7 @@ read_elements-loop-i-preserved t c = (
   rw c.in_ok-push.ensures.items
       (one_more_whole (λ v. faults_of c.args.table.now v c.args.left c.args.node.now) c.loop-i.values.items c.in_ok-value.value c.loop-i.invariant.2 c.in_ok-value.ensures.whole),
 )
+
 pub read_elements-returns-clause-read : goal.read_elements-returns-clause-read
 read_elements-returns-clause-read t c =
     let e : c.loop-i._i ≡ c.args.count = omega arith in
@@ -147,6 +173,7 @@ read_seq-returns-in_err-taken-clause-refused t c =
     let y = err_from_is_err_and c.from_residual.result c.from_residual.ensures.1 in
     passed_on (λ e. IsRefusalAt (seq_tree tree) c.args.place c.args.reader.now e.reason) c.from_residual.result c.in_err-taken.field-0.0 y.0 y.1 y.2
     (refused_entry c.args.reader.now c.args.place length_kind (ReadsNoDatum (seq_tree tree)) _ (λ p a stuck. seq_stuck_length tree p a stuck) c.in_err-taken.ensures.refused)
+
 pub read_seq-returns-in_err-values-clause-refused : goal.read_seq-returns-in_err-values-clause-refused
 read_seq-returns-in_err-values-clause-refused t c =
     let tree = tree_of_node c.args.left c.args.table.now c.args.node.now in
@@ -155,12 +182,14 @@ read_seq-returns-in_err-values-clause-refused t c =
     c.in_ok-taken.ensures.leads c.take_length.ensures.below c.in_ok-elements.ensures.found c.in_ok-elements.ensures.stands in
     passed_on (λ e. IsRefusalAt (seq_tree tree) c.args.place c.args.reader.now e.reason) c.from_residual-in_err-values.result c.in_err-values.field-0.0 y.0 y.1 y.2
     (seq_refused tree c.args.reader.now c.step.new.self c.args.place c.in_ok-elements.elements c.in_ok-taken.taken.length _ enters c.in_err-values.ensures.refused)
+
 pub read_seq-returns-clause-continues : goal.read_seq-returns-clause-continues
 read_seq-returns-clause-continues t c =
     continues_on c.args.reader.now c.step.new.self _
     (continues_stepped c.args.reader.now c.take_length.new.self c.step.new.self c.take_length.ensures.below c.in_ok-taken.ensures.sized c.step.ensures.columns
     c.in_ok-elements.ensures.kept)
     c.in_ok-values.ensures.continues
+
 pub read_seq-returns-clause-read : goal.read_seq-returns-clause-read
 read_seq-returns-clause-read t c =
     let enters = enters_list c.args.reader.now c.take_length.new.self c.step.new.self c.args.place c.in_ok-elements.elements c.in_ok-taken.taken.length c.in_ok-taken.taken.total
@@ -176,6 +205,7 @@ read_option-returns-in_err-taken-clause-refused t c =
     let y = err_from_is_err_and c.from_residual.result c.from_residual.ensures.1 in
     passed_on (λ e. IsRefusalAt (choice_tree variants) c.args.place c.args.reader.now e.reason) c.from_residual.result c.in_err-taken.field-0.0 y.0 y.1 y.2
     (refused_entry c.args.reader.now c.args.place index_kind (ReadsNoDatum (choice_tree variants)) _ (λ p a stuck. choice_stuck_index variants p a stuck) c.in_err-taken.ensures.refused)
+
 pub read_option-returns-then-taken-eq0-clause-read : goal.read_option-returns-then-taken-eq0-clause-read
 read_option-returns-then-taken-eq0-clause-read t c =
     let variants = tree_and unit_tree (tree_and (tree_of_node c.args.left c.args.table.now c.args.node.now) no_trees) in
@@ -184,6 +214,7 @@ read_option-returns-then-taken-eq0-clause-read t c =
     rw datum-None
     (subst (λ k. ReadsAt (choice_tree variants) c.args.place c.args.reader.now (choice k unit) c.take_index.new.self) is
     (choice_of_unit variants i c.args.reader.now c.take_index.new.self c.args.place (λ entries. c.in_ok-taken.taken.count ≡ count_of i entries) (ap (tree_at variants) is) c.in_ok-taken.ensures.leads))
+
 pub read_option-returns-then-taken-gt1-clause-refused : goal.read_option-returns-then-taken-gt1-clause-refused
 read_option-returns-then-taken-gt1-clause-refused t c =
     let variants = tree_and unit_tree (tree_and (tree_of_node c.args.left c.args.table.now c.args.node.now) no_trees) in
@@ -193,6 +224,7 @@ read_option-returns-then-taken-gt1-clause-refused t c =
       λ other. no_choice variants i c.args.reader.now c.take_index.new.self c.args.place (λ entries. c.in_ok-taken.taken.count ≡ count_of i entries)
           (no_third (tree_of_node c.args.left c.args.table.now c.args.node.now) i (omega arith)) c.in_ok-taken.ensures.leads,
     )
+
 pub read_option-returns-in_err-value-clause-refused : goal.read_option-returns-in_err-value-clause-refused
 read_option-returns-in_err-value-clause-refused t c =
     let variants = tree_and unit_tree (tree_and (tree_of_node c.args.left c.args.table.now c.args.node.now) no_trees) in
@@ -203,12 +235,14 @@ read_option-returns-in_err-value-clause-refused t c =
     let one : i ≡ 1 = omega arith in
     passed_on (λ e. IsRefusalAt (choice_tree variants) c.args.place c.args.reader.now e.reason) c.from_residual-in_err-value.result c.in_err-value.field-0.0 y.0 y.1 y.2
     (choice_refused variants i c.args.reader.now c.step.new.self c.args.place c.in_ok-inside.inside _ enters (rw (ap (tree_at variants) one) c.in_err-value.ensures.refused))
+
 pub read_option-returns-clause-continues : goal.read_option-returns-clause-continues
 read_option-returns-clause-continues t c =
     continues_on c.args.reader.now c.step.new.self _
     (continues_stepped c.args.reader.now c.take_index.new.self c.step.new.self c.take_index.ensures.below c.in_ok-taken.ensures.sized c.step.ensures.columns
     c.in_ok-inside.ensures.kept)
     c.in_ok-value.ensures.continues
+
 pub read_option-returns-clause-read : goal.read_option-returns-clause-read
 read_option-returns-clause-read t c =
     let variants = tree_and unit_tree (tree_and (tree_of_node c.args.left c.args.table.now c.args.node.now) no_trees) in
@@ -227,6 +261,7 @@ read_enum-returns-in_err-taken-clause-refused t c =
     let y = err_from_is_err_and c.from_residual.result c.from_residual.ensures.1 in
     passed_on (λ e. IsRefusalAt (choice_tree trees) c.args.place c.args.reader.now e.reason) c.from_residual.result c.in_err-taken.field-0.0 y.0 y.1 y.2
     (refused_entry c.args.reader.now c.args.place index_kind (ReadsNoDatum (choice_tree trees)) _ (λ p a stuck. choice_stuck_index trees p a stuck) c.in_err-taken.ensures.refused)
+
 pub read_enum-read-requires : goal.read_enum-read-requires
 read_enum-read-requires t c =
     let d = entry_deep c.args.nodes.now c.in_ok-taken.taken.index c.in-Some.node.now
@@ -235,6 +270,7 @@ read_enum-read-requires t c =
     let s = (continues_stepped c.args.reader.now c.take_index.new.self c.step.new.self c.take_index.ensures.below c.in_ok-taken.ensures.sized c.step.ensures.columns
     c.in_ok-inside-in-Some.ensures.kept).steady in
     search (rules, d, h, s)
+
 pub read_enum-returns-in_err-value-in-Some-clause-refused : goal.read_enum-returns-in_err-value-in-Some-clause-refused
 read_enum-returns-in_err-value-in-Some-clause-refused t c =
     let at_node = tree_of_node c.args.left c.args.table.now in
@@ -247,12 +283,14 @@ read_enum-returns-in_err-value-in-Some-clause-refused t c =
     (found_entry c.args.nodes.now c.in_ok-taken.taken.index c.in-Some.node.now c.in-Some.ensures.lookup.3.0 (c.in-Some.ensures.lookup.3.1 c.in-Some.node.now)) in
     passed_on (λ e. IsRefusalAt (choice_tree trees) c.args.place c.args.reader.now e.reason) c.from_residual-in_err-value-in-Some.result c.in_err-value-in-Some.field-0.0 y.0 y.1 y.2
     (choice_refused trees i c.args.reader.now c.step.new.self c.args.place c.in_ok-inside-in-Some.inside _ enters (rw is c.in_err-value-in-Some.ensures.refused))
+
 pub read_enum-returns-in_ok-new-in-Some-clause-continues : goal.read_enum-returns-in_ok-new-in-Some-clause-continues
 read_enum-returns-in_ok-new-in-Some-clause-continues t c =
     continues_on c.args.reader.now c.step.new.self _
     (continues_stepped c.args.reader.now c.take_index.new.self c.step.new.self c.take_index.ensures.below c.in_ok-taken.ensures.sized c.step.ensures.columns
     c.in_ok-inside-in-Some.ensures.kept)
     c.in_ok-value-in-Some.ensures.continues
+
 pub read_enum-returns-in_ok-new-in-Some-clause-read : goal.read_enum-returns-in_ok-new-in-Some-clause-read
 read_enum-returns-in_ok-new-in-Some-clause-read t c =
     let at_node = tree_of_node c.args.left c.args.table.now in
@@ -264,6 +302,7 @@ read_enum-returns-in_ok-new-in-Some-clause-read t c =
     rw (datum-Enum i c.in_ok-new-in-Some.field-0, c.in_ok-new-in-Some.ensures.ok)
     (choice_read_at (trees_of (map at_node c.args.nodes.now)) i (datum_of c.in_ok-value-in-Some.value) c.args.reader.now c.step.new.self _ c.args.place
     c.in_ok-inside-in-Some.inside enters (rw is c.in_ok-value-in-Some.ensures.read))
+
 pub read_enum-returns-in-None-clause-refused : goal.read_enum-returns-in-None-clause-refused
 read_enum-returns-in-None-clause-refused t c =
     let at_node = tree_of_node c.args.left c.args.table.now in
@@ -283,11 +322,13 @@ read_map-returns-in_err-taken-clause-refused t c =
     passed_on (λ e. IsRefusalAt (map_tree key_tree value_tree) c.args.place c.args.reader.now e.reason) c.from_residual.result c.in_err-taken.field-0.0 y.0 y.1 y.2
     (refused_entry c.args.reader.now c.args.place length_kind (ReadsNoDatum (map_tree key_tree value_tree)) _ (λ p a stuck. map_stuck_length key_tree value_tree p a stuck)
     c.in_err-taken.ensures.refused)
+
 pub read_map-step-requires-2 : goal.read_map-step-requires-2
 read_map-step-requires-2 t c =
     still_there c.args.reader.now c.step.new.self c.args.place
     (continues_stepped c.args.reader.now c.take_length.new.self c.step.new.self c.take_length.ensures.below c.in_ok-taken.ensures.sized c.step.ensures.columns
     c.in_ok-keys.ensures.kept) c.requires.place
+
 pub read_map-read-requires : goal.read_map-read-requires
 read_map-read-requires t c =
     let k = still_there c.step.new.self c.step-2.new.self c.in_ok-keys.keys
@@ -297,6 +338,7 @@ read_map-read-requires t c =
     let h = still_there c.step-2.new.self c.loop-i.reader c.in_ok-keys.keys c.loop-i.invariant.0 k in
     let s = c.loop-i.invariant.0.steady in
     search (rules, h, s)
+
 pub read_map-returns-in_err-first-clause-refused : goal.read_map-returns-in_err-first-clause-refused
 read_map-returns-in_err-first-clause-refused t c =
     let key_tree = tree_of_node c.args.left c.args.table.now c.args.key.now in
@@ -314,12 +356,14 @@ read_map-returns-in_err-first-clause-refused t c =
           c.in_ok-taken.taken.length enters (key_stuck key_tree value_tree c.in_ok-keys.keys c.in_ok-values.values c.step-2.new.self c.loop-i.reader c.loop-i._i _
           c.loop-i.invariant.0 c.loop-i.invariant.1 c.in_ok-taken.taken.length lt (c.in_err-first.ensures.refused.1 other)),
     ))
+
 pub read_map-read-requires-in-loop-i : goal.read_map-read-requires-in-loop-i
 read_map-read-requires-in-loop-i t c =
     let k = still_there c.step-2.new.self c.loop-i.reader c.in_ok-values.values c.loop-i.invariant.0 c.in_ok-values.ensures.found.0 in
     let h = still_there c.loop-i.reader c.read.new.reader c.in_ok-values.values c.in_ok-first.ensures.continues k in
     let s = c.in_ok-first.ensures.continues.steady in
     search (rules, h, s)
+
 pub read_map-returns-in_err-second-clause-refused : goal.read_map-returns-in_err-second-clause-refused
 read_map-returns-in_err-second-clause-refused t c =
     let key_tree = tree_of_node c.args.left c.args.table.now c.args.key.now in
@@ -338,6 +382,7 @@ read_map-returns-in_err-second-clause-refused t c =
           c.loop-i.invariant.0 c.loop-i.invariant.1 c.in_ok-taken.taken.length c.read.new.reader (datum_of c.in_ok-first.first) lt c.in_ok-first.ensures.continues
           c.in_ok-first.ensures.read (c.in_err-second.ensures.refused.1 other)),
     ))
+
 pub read_map-loop-i-preserved : goal.read_map-loop-i-preserved
 read_map-loop-i-preserved t c = (
   continues_on c.step-2.new.self c.loop-i.reader c.read-in-loop-i.new.reader c.loop-i.invariant.0
@@ -352,6 +397,7 @@ read_map-loop-i-preserved t c = (
       (nothing (faults_of c.args.table.now c.in_ok-first.first c.args.left c.args.key.now) (faults_of c.args.table.now c.in_ok-second.second c.args.left c.args.value.now)
       c.in_ok-first.ensures.whole c.in_ok-second.ensures.whole)),
 )
+
 pub read_map-returns-clause-continues : goal.read_map-returns-clause-continues
 read_map-returns-clause-continues t c =
     continues_on c.args.reader.now c.step-2.new.self c.loop-i.reader
@@ -360,6 +406,7 @@ read_map-returns-clause-continues t c =
     c.in_ok-keys.ensures.kept) (continues_stepped c.step.new.self c.step.new.self c.step-2.new.self refl
     (continues_stepped c.args.reader.now c.take_length.new.self c.step.new.self c.take_length.ensures.below c.in_ok-taken.ensures.sized c.step.ensures.columns
     c.in_ok-keys.ensures.kept).steady.sized c.step-2.ensures.columns c.in_ok-values.ensures.kept)) c.loop-i.invariant.0
+
 pub read_map-returns-clause-read : goal.read_map-returns-clause-read
 read_map-returns-clause-read t c =
     let key_tree = tree_of_node c.args.left c.args.table.now c.args.key.now in
@@ -382,14 +429,17 @@ read_tuple-loop-i-init t c =
       rw c.new-values.ensures.items (no_fields at_node c.args.nodes.now c.args.place c.args.reader.now),
       rw c.new-values.ensures.items refl,
     )
+
 pub read_tuple-field-requires-clause-place : goal.read_tuple-field-requires-clause-place
 read_tuple-field-requires-clause-place t c = still_there c.args.reader.now c.loop-i.reader c.args.place c.loop-i.invariant.0 c.requires.place
+
 pub read_tuple-read-requires : goal.read_tuple-read-requires
 read_tuple-read-requires t c =
     let d = entry_deep c.args.nodes.now c.loop-i.i c.index-nodes-i.result (found_entry c.args.nodes.now c.loop-i.i c.index-nodes-i.result c.loop-i-test.true c.index-nodes-i.is) in
     let h = (c.in_ok-inside.ensures.found _ (c.loop-i.invariant.0.kept c.args.place (place_at (places c.args.reader.now.places.below.items) c.args.place) (c.requires.place, refl))).0 in
     let s = c.in_ok-inside.ensures.continues.steady in
     search (rules, d, h, s)
+
 pub read_tuple-returns-in_err-value-clause-refused : goal.read_tuple-returns-in_err-value-clause-refused
 read_tuple-returns-in_err-value-clause-refused t c =
     let at_node = tree_of_node c.args.left c.args.table.now in
@@ -398,6 +448,7 @@ read_tuple-returns-in_err-value-clause-refused t c =
     (field_refused at_node c.args.nodes.now c.args.place c.args.reader.now c.loop-i.reader c.field.new.self c.in_ok-inside.inside c.loop-i.i c.index-nodes-i.result
     (map datum_of c.loop-i.values.items) c.loop-i.invariant.0 (found_entry c.args.nodes.now c.loop-i.i c.index-nodes-i.result c.loop-i-test.true c.index-nodes-i.is)
     c.in_ok-inside.ensures.found c.in_ok-inside.ensures.stands c.loop-i.invariant.1 _ c.in_err-value.ensures.refused)
+
 pub read_tuple-loop-i-preserved : goal.read_tuple-loop-i-preserved
 read_tuple-loop-i-preserved t c =
     let at_node = tree_of_node c.args.left c.args.table.now in (
@@ -411,6 +462,7 @@ read_tuple-loop-i-preserved t c =
           (one_more_field_whole c.args.table.now c.args.left c.args.nodes.now c.loop-i.values.items c.loop-i.i c.in_ok-value.value c.index-nodes-i.result c.loop-i.invariant.2
           (found_entry c.args.nodes.now c.loop-i.i c.index-nodes-i.result c.loop-i-test.true c.index-nodes-i.is) c.in_ok-value.ensures.whole),
     )
+
 pub read_tuple-returns-clause-read : goal.read_tuple-returns-clause-read
 read_tuple-returns-clause-read t c =
     let at_node = tree_of_node c.args.left c.args.table.now in
@@ -444,29 +496,36 @@ read_map-returns-then-is_over_limit-clause-refused t c =
 
 pub read-returns-in-Unit-clause-whole : goal.read-returns-in-Unit-clause-whole
 read-returns-in-Unit-clause-whole t c = rw c.in-Unit.is (faults-Unit c.args.table.now c.args.left)
+
 pub read-returns-in-Bytes-clause-whole : goal.read-returns-in-Bytes-clause-whole
 read-returns-in-Bytes-clause-whole t c =
     rw c.in-Bytes.is (IfOk-weaker _ IsOfBytes (λ v. faults_of c.args.table.now v c.args.left node.Bytes ≡ []) (λ v h. h c.args.table.now c.args.left) c.read_bytes.ensures.whole)
+
 pub read-returns-in-Option-clause-whole : goal.read-returns-in-Option-clause-whole
 read-returns-in-Option-clause-whole t c =
     rw c.in-Option.is (IfOk-weaker _ (IsOfOption c.args.table.now c.args.left _) (λ v. faults_of c.args.table.now v c.args.left (node.Option c.in-Option.some) ≡ [])
     (λ v h. h c.in-Option.some (sym c.deref.ensures)) c.read_option.ensures.whole)
+
 pub read-returns-in-Seq-clause-whole : goal.read-returns-in-Seq-clause-whole
 read-returns-in-Seq-clause-whole t c =
     rw c.in-Seq.is (IfOk-weaker _ (IsOfSeq c.args.table.now c.args.left _) (λ v. faults_of c.args.table.now v c.args.left (node.Seq c.in-Seq.element) ≡ [])
     (λ v h. h c.in-Seq.element (sym c.deref-in-Seq.ensures)) c.read_seq.ensures.whole)
+
 pub read-returns-in-Map-clause-whole : goal.read-returns-in-Map-clause-whole
 read-returns-in-Map-clause-whole t c =
     rw c.in-Map.is (IfOk-weaker _ (IsOfMap c.args.table.now c.args.left _ _) (λ v. faults_of c.args.table.now v c.args.left (node.Map c.in-Map.key c.in-Map.value) ≡ [])
     (λ v h. h c.in-Map.key c.in-Map.value (sym c.deref-in-Map.ensures) (sym c.deref-in-Map-2.ensures)) c.read_map.ensures.whole)
+
 pub read-returns-in-Tuple-clause-whole : goal.read-returns-in-Tuple-clause-whole
 read-returns-in-Tuple-clause-whole t c =
     rw c.in-Tuple.is (IfOk-weaker _ (IsOfTuple c.args.table.now c.args.left _) (λ v. faults_of c.args.table.now v c.args.left (node.Tuple c.in-Tuple.nodes) ≡ [])
     (λ v h. h c.in-Tuple.nodes (sym c.deref-in-Tuple.ensures.value)) c.read_tuple.ensures.whole)
+
 pub read-returns-in-Enum-clause-whole : goal.read-returns-in-Enum-clause-whole
 read-returns-in-Enum-clause-whole t c =
     rw c.in-Enum.is (IfOk-weaker _ (IsOfEnum c.args.table.now c.args.left _) (λ v. faults_of c.args.table.now v c.args.left (node.Enum c.in-Enum.nodes) ≡ [])
     (λ v h. h c.in-Enum.nodes (sym c.deref-in-Enum.ensures.value)) c.read_enum.ensures.whole)
+
 pub read-returns-in-Some-clause-whole : goal.read-returns-in-Some-clause-whole
 read-returns-in-Some-clause-whole t c =
     let some : 0 < c.args.left = omega arith in
@@ -477,6 +536,7 @@ read-returns-in-Some-clause-whole t c =
 
 pub read_option-returns-then-taken-eq0-clause-whole : goal.read_option-returns-then-taken-eq0-clause-whole
 read_option-returns-then-taken-eq0-clause-whole t c = λ b is. faults-None c.args.table.now c.args.left b
+
 pub read_option-returns-clause-whole : goal.read_option-returns-clause-whole
 read_option-returns-clause-whole t c = λ b is.
     faults-Some c.args.table.now c.args.left c.in_ok-new.field-0 b ∙ rw (c.in_ok-new.ensures.ok, is) c.in_ok-value.ensures.whole
