@@ -5,7 +5,6 @@ use Rattle.std.proofs.lemmas.List.{append-nil, length-map}
 use Rattle.std.proofs.Math.ListN.{set}
 use Rattle.bitcode_shapes.specs.Datum.{Datum}
 use Rattle.bitcode_coder.specs.Columns.{Kind, IsEntryOf}
-use Rattle.bitcode_coder.specs.Spelling.{natural}
 use Rattle.bitcode_untyped.specs.Machine.{Opened, State, whole, next, is_open, TakesNext, Takes}
 use Rattle.bitcode_untyped.specs.PlacedColumns.{same_place}
 use Rattle.bitcode_untyped.specs.Runs.{Runs}
@@ -209,12 +208,13 @@ module _ (old ready : Reader) (n i : ℕ) (kind : Kind) (c : OpenColumn) (within
 
 -- ---- how many entries are left
 
-pub left_behind : (size count : ℕ) (taken : List ℕ) (all rest : List Datum) → size ≡ length all → length taken ≡ count → all ≡ map natural taken ++ rest
+pub left_behind : {A : Type 0} (datum : A → Datum) (size count : ℕ) (taken : List A) (all rest : List Datum) → size ≡ length all → length taken ≡ count
+    → all ≡ map datum taken ++ rest
     → size - count ≡ length rest
-left_behind size count taken all rest e f g =
+left_behind datum size count taken all rest e f g =
     let l = ap length g in
-    let m = length-append (map natural taken) rest in
-    let n = length-map taken natural in
+    let m = length-append (map datum taken) rest in
+    let n = length-map taken datum in
     omega (arith, e, f, l, m, n)
 
 pub same_entry : (cs : List OpenColumn) (i : ℕ) (c d : OpenColumn) → i < length cs → c ≡ get_or cs i c → d ≡ get_or cs i d → c ≡ d

@@ -61,6 +61,26 @@ leaf_away n leaf hBool hU8 hU16 hU32 hU64 hU128 hI8 hI16 hI32 hI64 hI128 hChar h
     by ShapeNode-F.Str e l = hStr (e ∙ node.rolls-Str)
     by _ e l = cc
 
+pub leaf_but_char : (n : ShapeNode) → (n ≡ node.Bool → ⊥) → (n ≡ node.U8 → ⊥) → (n ≡ node.U16 → ⊥) → (n ≡ node.U32 → ⊥) → (n ≡ node.U64 → ⊥) → (n ≡ node.U128 → ⊥)
+    → (n ≡ node.I8 → ⊥) → (n ≡ node.I16 → ⊥) → (n ≡ node.I32 → ⊥) → (n ≡ node.I64 → ⊥) → (n ≡ node.I128 → ⊥) → (n ≡ node.Str → ⊥) → IsLeaf n → n ≡ node.Char
+leaf_but_char n hBool hU8 hU16 hU32 hU64 hU128 hI8 hI16 hI32 hI64 hI128 hStr leaf = by (out-ShapeNode n) (sym (roll-out-ShapeNode n)) leaf
+  where
+    by : (w : ShapeNode-F ShapeNode) → n ≡ roll-ShapeNode w → is_leaf w ≡ true → n ≡ node.Char
+    by ShapeNode-F.Bool e l = absurd (hBool (e ∙ node.rolls-Bool))
+    by ShapeNode-F.U8 e l = absurd (hU8 (e ∙ node.rolls-U8))
+    by ShapeNode-F.U16 e l = absurd (hU16 (e ∙ node.rolls-U16))
+    by ShapeNode-F.U32 e l = absurd (hU32 (e ∙ node.rolls-U32))
+    by ShapeNode-F.U64 e l = absurd (hU64 (e ∙ node.rolls-U64))
+    by ShapeNode-F.U128 e l = absurd (hU128 (e ∙ node.rolls-U128))
+    by ShapeNode-F.I8 e l = absurd (hI8 (e ∙ node.rolls-I8))
+    by ShapeNode-F.I16 e l = absurd (hI16 (e ∙ node.rolls-I16))
+    by ShapeNode-F.I32 e l = absurd (hI32 (e ∙ node.rolls-I32))
+    by ShapeNode-F.I64 e l = absurd (hI64 (e ∙ node.rolls-I64))
+    by ShapeNode-F.I128 e l = absurd (hI128 (e ∙ node.rolls-I128))
+    by ShapeNode-F.Str e l = absurd (hStr (e ∙ node.rolls-Str))
+    by ShapeNode-F.Char e l = e ∙ node.rolls-Char
+    by _ e l = cc
+
 -- ---- numbers in their widths
 
 of_number : (width : ℕ) (signed : Bool) (allowed : Allowed) (z : ℤ) → IsInWidth width signed z → IsAllowed allowed z

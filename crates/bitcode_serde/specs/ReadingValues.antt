@@ -4,18 +4,20 @@ use Rattle.std.specs.Global.{Global}
 use Rattle.bitcode_columns.specs.declared.error.Reason.{Reason}
 use Rattle.bitcode_columns.specs.declared.error.Reason.TheVariants.{ExpectedEof, InvalidEnumVariant, OutOfMemory, InvalidOption, InvalidChar, TooManyZeroSizedTypes, NestedTooDeep}
 use Rattle.bitcode_shapes.specs.Datum.{Datum}
+use Rattle.bitcode_shapes.specs.Shape.{any_number}
 use Rattle.bitcode_untyped.specs.Faults.{faults_of}
 use Rattle.bitcode_untyped.specs.Machine.{State}
 use Rattle.bitcode_untyped.specs.Reads.{ReadsDatum, ReadsNoDatum, IsReadable, ReadsMany}
-use Rattle.bitcode_untyped.specs.ShapeTree.{ShapeTree}
+use Rattle.bitcode_untyped.specs.ShapeTree.{ShapeTree, leaf_tree}
 use Rattle.bitcode_untyped.specs.View.{tree_by}
 use Rattle.bitcode_untyped.specs.Walk.{field, Place, walk}
 use Rattle.bitcode_untyped.specs.declared.shape.ShapeNode.{ShapeNode}
 use Rattle.bitcode_untyped.specs.declared.shape.ShapeNode.TheVariants as node
 use Rattle.bitcode_untyped.specs.declared.value.Value.{Value}
-use Rattle.bitcode_serde.specs.ReadColumns.{IsColumnReason}
+use Rattle.bitcode_serde.specs.ReadColumns.{kind_of, IsCaseOf, IsColumnReason}
 use Rattle.bitcode_serde.specs.Reading.{AreSized, Stands}
 use Rattle.bitcode_serde.specs.Places.{IsPlace}
+use Rattle.bitcode_serde.specs.declared.column.ColumnKind.{ColumnKind}
 use Rattle.bitcode_serde.specs.declared.reader.Reader.{Reader}
 
 -- between two calls
@@ -82,6 +84,11 @@ field_at _ p i = field i ∷ p
 -- of a node that holds no others
 abbrev pub IsOfLeaf : ShapeNode → Value → Type 0
 IsOfLeaf n v = (table : List ShapeNode) (left : ℕ) → faults_of table v left n ≡ []
+
+-- the values of the node are all the entries of a column of the kind
+pub record HasColumn (n : ShapeNode) (kind : ColumnKind) : Type 0 where
+  pub tree : (follow : ℕ → ShapeTree) → tree_by follow n ≡ leaf_tree (kind_of kind) any_number
+  pub whole : (v : Value) → IsCaseOf kind v → IsOfLeaf n v
 
 abbrev pub IsOfChar : Value → Type 0
 IsOfChar = IsOfLeaf node.Char

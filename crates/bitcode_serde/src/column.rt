@@ -1,5 +1,6 @@
 //! The columns that a reader has open.
 ghost use Rattle.std.specs.Prelude.{◌≡◌, ◌≢◌, ℕ, ◌<◌, ◌≤◌, List, ◌∷◌, ◌++◌, None, false, length, map, sum, IsTrue, MatchBool, IfOk, IfErr};
+ghost use Rattle.std.specs.List.{AllByRecursion};
 ghost use Rattle.bitcode_columns.specs.Reading.{Reads};
 ghost use Rattle.bitcode_coder.specs.LengthColumn.{SpellsLengths};
 ghost use Rattle.bitcode_coder.specs.Length.{lengths_left, lengths_sum};
@@ -234,6 +235,26 @@ impl<'a> Column<'a> {
             Column::Lengths(column) => Ok(Value::U64(column.decode() as u64)),
             Column::Texts(column) => Ok(Value::Str(column.decode()?)),
         }
+    }
+
+    /// Takes so many of the next entries, one after another. So many are left.
+    ///
+    /// `out of memory` is the only refusal.
+    pub fn take_each(&mut self, alloc: Global, count: usize) -> Result<Vec<Value>, Error>
+        requires { count ≤ length (left self.old) }
+        ensures taken { IfOk result (λ values. left self.old ≡ map datum_of values.items ++ left self.new) }
+        ensures size { IfOk result (λ values. length values.items ≡ count) }
+        ensures of_case { IfOk result (λ values. AllByRecursion (IsCaseOf (kind_in_code self.old)) values.items) }
+        ensures kind { kind_of_column self.new ≡ kind_of_column self.old }
+        ensures tallies { (entries : List Datum) → Tallies self.old entries → Tallies self.new entries }
+        ensures refused { IfErr result (λ e. e.reason ≡ Reason.OutOfMemory) }
+    {
+        let mut values = Vec::with_capacity(alloc, count)?;
+        for _i in 0..count {
+            let value = self.take()?;
+            values.push(value)?;
+        }
+        Ok(values)
     }
 
     /// Takes the next length. One is left.

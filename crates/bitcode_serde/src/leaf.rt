@@ -1,11 +1,12 @@
 //! Values that one column has, and lists of bytes.
-ghost use Rattle.std.specs.Prelude.{◌≤◌, length, map, IfOk, IfErr, OnOk};
+ghost use Rattle.std.specs.Prelude.{◌≡◌, ◌≤◌, length, map, IfOk, IfErr, IfSome, IfNone, OnOk};
+ghost use Rattle.std.specs.List.{AllByRecursion};
 ghost use Rattle.bitcode_coder.specs.Spelling.{natural};
 ghost use Rattle.bitcode_shapes.specs.Shape.{any_number};
 ghost use Rattle.bitcode_untyped.specs.ShapeTree.{leaf_tree, char_tree, natural_tree, seq_tree};
 ghost use Rattle.bitcode_untyped.specs.View.{datum_of};
 ghost use Rattle.bitcode_serde.specs.ReadColumns.{kind_of, IsCaseOf};
-ghost use Rattle.bitcode_serde.specs.ReadingValues.{IsSteady, Continues, ReadsAt, ReadsListAt, IsRefusalAt, IsListRefusalAt, IsOfLeaf, IsOfChar, IsOfBytes, ReadsLeafAt, IsLeafRefusalAt};
+ghost use Rattle.bitcode_serde.specs.ReadingValues.{HasColumn, IsSteady, Continues, ReadsAt, ReadsListAt, IsRefusalAt, IsListRefusalAt, IsOfLeaf, IsOfChar, IsOfBytes, ReadsLeafAt, IsLeafRefusalAt};
 ghost use Rattle.bitcode_serde.specs.Serializing.{IsLeaf};
 
 use crate::column::ColumnKind;
@@ -15,6 +16,28 @@ use bitcode_columns::error::{Error, Reason};
 use bitcode_columns::refuse::err;
 use bitcode_untyped::shape::ShapeNode;
 use bitcode_untyped::value::Value;
+
+/// What a column holds whose entries are the values of a node, where each of its entries is one.
+pub fn column_kind(node: &ShapeNode) -> Option<ColumnKind>
+    ensures some { IfSome result (λ kind. HasColumn node.now kind) }
+    ensures none { IfNone result (IsLeaf node.now → node.now ≡ ShapeNode.Char) }
+{
+    match node {
+        ShapeNode::Bool => Some(ColumnKind::Bools),
+        ShapeNode::U8 => Some(ColumnKind::Bytes),
+        ShapeNode::U16 => Some(ColumnKind::U16),
+        ShapeNode::U32 => Some(ColumnKind::U32),
+        ShapeNode::U64 => Some(ColumnKind::U64),
+        ShapeNode::U128 => Some(ColumnKind::U128),
+        ShapeNode::I8 => Some(ColumnKind::I8),
+        ShapeNode::I16 => Some(ColumnKind::I16),
+        ShapeNode::I32 => Some(ColumnKind::I32),
+        ShapeNode::I64 => Some(ColumnKind::I64),
+        ShapeNode::I128 => Some(ColumnKind::I128),
+        ShapeNode::Str => Some(ColumnKind::Texts),
+        _ => None,
+    }
+}
 
 /// Reads a value of a column of a kind.
 pub fn read_leaf(reader: &mut Reader<'_>, place: usize, kind: ColumnKind) -> Result<Value, Error>
@@ -27,6 +50,24 @@ pub fn read_leaf(reader: &mut Reader<'_>, place: usize, kind: ColumnKind) -> Res
 {
     let value = reader.take(place, kind)?;
     Ok(value)
+}
+
+/// Reads so many values of a column of a kind, all at once.
+pub fn read_leaves(
+    reader: &mut Reader<'_>,
+    place: usize,
+    kind: ColumnKind,
+    count: usize,
+) -> Result<Vec<Value>, Error>
+    requires place { place ≤ length reader.old.places.below.items }
+    requires steady { IsSteady reader.old }
+    ensures continues { OnOk result (Continues reader.old reader.new) }
+    ensures read { IfOk result (λ values. ReadsListAt (leaf_tree (kind_of kind) any_number) place reader.old count (map datum_of values.items) reader.new) }
+    ensures of_case { IfOk result (λ values. AllByRecursion (IsCaseOf kind) values.items) }
+    ensures refused { IfErr result (λ e. IsListRefusalAt (leaf_tree (kind_of kind) any_number) place reader.old count e.reason) }
+{
+    let values = reader.take_each(place, kind, count)?;
+    Ok(values)
 }
 
 /// Reads a char. It refuses with `invalid char` where its number is the code of none.
@@ -86,20 +127,8 @@ pub fn read_entry(reader: &mut Reader<'_>, node: &ShapeNode, place: usize) -> Re
     ensures whole { IfOk result (λ value. IsOfLeaf node.now value) }
     ensures refused { IfErr result (λ e. IsLeafRefusalAt node.now place reader.old e.reason) }
 {
-    match node {
-        ShapeNode::Bool => read_leaf(reader, place, ColumnKind::Bools),
-        ShapeNode::U8 => read_leaf(reader, place, ColumnKind::Bytes),
-        ShapeNode::U16 => read_leaf(reader, place, ColumnKind::U16),
-        ShapeNode::U32 => read_leaf(reader, place, ColumnKind::U32),
-        ShapeNode::U64 => read_leaf(reader, place, ColumnKind::U64),
-        ShapeNode::U128 => read_leaf(reader, place, ColumnKind::U128),
-        ShapeNode::I8 => read_leaf(reader, place, ColumnKind::I8),
-        ShapeNode::I16 => read_leaf(reader, place, ColumnKind::I16),
-        ShapeNode::I32 => read_leaf(reader, place, ColumnKind::I32),
-        ShapeNode::I64 => read_leaf(reader, place, ColumnKind::I64),
-        ShapeNode::I128 => read_leaf(reader, place, ColumnKind::I128),
-        ShapeNode::Str => read_leaf(reader, place, ColumnKind::Texts),
-        ShapeNode::Char => read_char(reader, place),
-        _ => unreachable!(),
+    match column_kind(node) {
+        Some(kind) => read_leaf(reader, place, kind),
+        None => read_char(reader, place),
     }
 }

@@ -1,5 +1,6 @@
 //! Columns as they are first reached, each at its place.
 ghost use Rattle.std.specs.Prelude.{◌≡◌, ◌≢◌, ◌<◌, ◌≤◌, ℕ, [], ◌∷◌, false, take, length, map, All, slice_get, get_or, IfOk, OnOk, IfErr, IfSome, IfNone, IsSomeAnd, MatchBool};
+ghost use Rattle.std.specs.List.{AllByRecursion};
 ghost use Rattle.bitcode_coder.specs.Spelling.{natural};
 ghost use Rattle.bitcode_coder.specs.Columns.{ints};
 ghost use Rattle.bitcode_untyped.specs.Population.{total, count_of};
@@ -219,6 +220,37 @@ impl<'a> Reader<'a> {
         open.left -= 1;
         let value = open.column.take()?;
         Ok(value)
+    }
+
+    /// Takes so many of the next entries of the column of a place, one after another.
+    ///
+    /// It refuses as [`Reader::take`] does.
+    pub fn take_each(
+        &mut self,
+        place: usize,
+        kind: ColumnKind,
+        count: usize,
+    ) -> Result<Vec<Value>, Error>
+        requires place { place ≤ length self.old.places.below.items }
+        requires sized { AreSized self.old.columns.items }
+        ensures sized { OnOk result (AreSized self.new.columns.items) }
+        ensures leads { IfOk result (λ values. LeadsEach self.old (place_at (places self.old.places.below.items) place) (kind_of kind) (map datum_of values.items) self.new) }
+        ensures size { IfOk result (λ values. length values.items ≡ count) }
+        ensures of_case { IfOk result (λ values. AllByRecursion (IsCaseOf kind) values.items) }
+        ensures below { self.new.places.below ≡ self.old.places.below }
+        ensures refused { IfErr result (λ e. IsColumnReason e.reason × (e.reason ≢ Reason.OutOfMemory → (a : State) → Stands self.old a → NotSoMany a (place_at (places self.old.places.below.items) place) (kind_of kind) count)) }
+    {
+        if count == 0 {
+            return Ok(Vec::new(self.alloc));
+        }
+        let found = self.ready(place, kind)?;
+        if self.columns[found].left < count {
+            return err(Reason::Eof);
+        }
+        let open = &mut self.columns[found];
+        open.left -= count;
+        let values = open.column.take_each(self.alloc, count)?;
+        Ok(values)
     }
 
     /// Takes the next length of a place, and tells the sum of all of them.

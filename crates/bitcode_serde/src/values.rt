@@ -7,7 +7,7 @@ ghost use Rattle.bitcode_untyped.specs.View.{datum_of, tree_of_node, trees_of};
 ghost use Rattle.bitcode_serde.specs.ReadingValues.{IsSteady, Continues, ReadsAt, ReadsListAt, IsRefusalAt, IsListRefusalAt, IsOfOption, IsOfSeq, IsOfMap, IsOfTuple, IsOfEnum};
 
 use crate::free::is_over_limit;
-use crate::leaf::{read_bytes, read_entry};
+use crate::leaf::{column_kind, read_bytes, read_entry, read_leaves};
 use crate::reader::Reader;
 use crate::step::Step;
 use bitcode_columns::error::{Error, Reason};
@@ -127,6 +127,9 @@ fn read_elements(
     ensures whole { IfOk result (λ values. flat_map (λ value. faults_of table.now value left node.now) values.items ≡ []) }
     ensures refused { IfErr result (λ e. IsListRefusalAt (tree_of_node left table.now node.now) place reader.old count e.reason) }
 {
+    if let Some(kind) = column_kind(node) {
+        return read_leaves(reader, place, kind, count);
+    }
     let mut values = Vec::new(alloc);
     for _i in 0..count {
         let value = read(alloc, reader, table, node, left, place)?;

@@ -1,30 +1,35 @@
 -- By the node, and by what was taken.
-use Rattle.std.proofs.Common.{rules, arith, ◌≡◌, ◌<◌, ◌-◌, [], ◌++◌, length, map, refl, ap, subst, sym, ◌∙◌}
+use Rattle.std.proofs.Common.{rules, arith, ◌≡◌, ◌<◌, ◌-◌, [], length, map, refl, ap, subst, sym, ◌∙◌}
+use Rattle.std.specs.List.{AllByRecursion, flat_map}
 use Rattle.std.proofs.lemmas.List.{map-append}
 use Rattle.std.proofs.lemmas.Result.{err_from_is_err_and, IfOk-weaker, IfErr-weaker}
-use Rattle.bitcode_shapes.specs.Datum.{unit, choice, pair}
+use Rattle.bitcode_shapes.specs.Datum.{unit, choice}
 use Rattle.bitcode_untyped.specs.Faults.{faults_of}
 use Rattle.bitcode_untyped.specs.Population.{total, count_of}
 use Rattle.bitcode_untyped.specs.Reads.{ReadsNoDatum}
-use Rattle.bitcode_untyped.specs.ShapeTree.{unit_tree, seq_tree, map_tree, tuple_tree, choice_tree, no_trees, tree_and, tree_at}
+use Rattle.bitcode_untyped.specs.ShapeTree.{unit_tree, seq_tree, tuple_tree, choice_tree, no_trees, tree_and, tree_at}
 use Rattle.bitcode_untyped.specs.View.{datum_of, followed, tree_of_node, trees_of}
 use Rattle.bitcode_untyped.specs.Walk.{length_kind, index_kind}
 use Rattle.bitcode_untyped.specs.declared.shape.ShapeNode.TheVariants as node
-use Rattle.bitcode_untyped.proofs.FaultLemmas.{faults-Unit, faults-None, faults-Some, faults-Seq, faults-Map, faults-Tuple}
+use Rattle.bitcode_untyped.proofs.FaultLemmas.{faults-Unit, faults-None, faults-Some, faults-Seq, faults-Tuple}
 use Rattle.bitcode_untyped.proofs.FollowedLemmas.{followed-zero, followed_one, entry_there, entry_away}
-use Rattle.bitcode_untyped.proofs.ReadLemmas.{never_read, seq_stuck_length, seq_over_limit, map_stuck_length, map_over_limit, choice_stuck_index}
-use Rattle.bitcode_untyped.proofs.ViewLemmas.{tree-Bytes, tree-Option, tree-Seq, tree-Map, tree-Tuple, tree-Enum, tree-Ref, datum-None, datum-Some, datum-Seq, datum-Map, datum-Tuple, datum-Enum}
+use Rattle.bitcode_untyped.proofs.ReadLemmas.{never_read, seq_stuck_length, seq_over_limit, choice_stuck_index}
+use Rattle.bitcode_untyped.proofs.ViewLemmas.{tree-Bytes, tree-Option, tree-Seq, tree-Map, tree-Tuple, tree-Enum, tree-Ref, datum-None, datum-Some, datum-Seq, datum-Tuple, datum-Enum}
 use Rattle.bitcode_coder.specs.Spelling.{natural}
 use Rattle.bitcode_serde.specs.Places.{places, place_at}
+use Rattle.bitcode_serde.specs.ReadColumns.{IsCaseOf}
 use Rattle.bitcode_serde.specs.ReadingValues.{ReadsAt, ReadsListAt, IsRefusalAt, IsListRefusalAt, IsOfLeaf, IsOfBytes, ReadsLeafAt, IsLeafRefusalAt, IsOfOption, IsOfSeq, IsOfMap, IsOfTuple, IsOfEnum}
-use Rattle.bitcode_serde.proofs.CaseLemmas.{nothing, one_more_whole, one_more_field_whole, all_fields_whole, enum_whole, reference_whole}
+use Rattle.bitcode_serde.proofs.CaseLemmas.{one_more_whole, one_more_field_whole, all_fields_whole, enum_whole, reference_whole}
 use Rattle.bitcode_serde.proofs.ColumnLemmas.{passed_on}
 use Rattle.bitcode_serde.proofs.DepthLemmas.{entry_deep, reference_falls}
 use Rattle.bitcode_serde.proofs.EntryLemmas.{found_entry, no_entry}
 use Rattle.bitcode_serde.proofs.FieldLemmas.{tree_at_entry, tree_at_none, no_fields, one_more_field, field_refused, tuple_done}
 use Rattle.bitcode_serde.proofs.LeafEntryLemmas.{leaf_else}
-use Rattle.bitcode_serde.proofs.ValueLemmas.{refused_entry, still_there, continues_on, continues_stepped, one_more, list_stuck, enters_list, enters_choice, enters_map, seq_read_at, seq_refused, choice_read_at, choice_refused, choice_of_unit, no_choice, no_third, told_at, ReadsPairsAt, one_more_pair, key_stuck, value_stuck, map_read_at, map_stuck_at}
+use Rattle.bitcode_serde.proofs.LeafLemmas.{leaves_whole}
+use Rattle.bitcode_serde.proofs.ValueLemmas.{refused_entry, still_there, continues_on, continues_stepped, one_more, list_stuck, enters_list, enters_choice, seq_read_at, seq_refused, choice_read_at, choice_refused, choice_of_unit, no_choice, no_third, told_at}
+use Rattle.bitcode_serde.proofs.values.+read.Answers.Maps as map
 use Rattle.bitcode_serde.proofs.values.+read.Goals as goal
+mod Maps
 
 pub read-read_entry-requires : goal.read-read_entry-requires
 read-read_entry-requires t c =
@@ -122,6 +127,18 @@ read-returns-in-None-clause-refused t c =
     let f = entry_away (followed (c.args.left - 1) c.args.table.now) c.args.table.now c.in-Ref.i (no_entry c.args.table.now c.in-Ref.i c.in-None.ensures.lookup.3) in
     passed_on (λ e. IsRefusalAt (tree_of_node c.args.left c.args.table.now c.args.node.now) c.args.place c.args.reader.now e.reason) c.err-in-None.result _ _ c.err-in-None.ensures refl
     (tt, λ other. rw (c.in-Ref.is, tree-Ref, e, f) (λ p at a st. never_read p a))
+
+pub read_elements-returns-in-Some-clause-read : goal.read_elements-returns-in-Some-clause-read
+read_elements-returns-in-Some-clause-read t c = rw (c.in-Some.ensures.some.tree (followed c.args.left c.args.table.now)) c.read_leaves.ensures.read
+
+pub read_elements-returns-in-Some-clause-whole : goal.read_elements-returns-in-Some-clause-whole
+read_elements-returns-in-Some-clause-whole t c =
+    IfOk-weaker c.read_leaves.result (λ values. AllByRecursion (IsCaseOf c.in-Some.kind) values.items)
+    (λ values. flat_map (λ v. faults_of c.args.table.now v c.args.left c.args.node.now) values.items ≡ [])
+    (λ values h. leaves_whole c.args.node.now c.in-Some.kind c.args.table.now c.args.left c.in-Some.ensures.some values.items h) c.read_leaves.ensures.of_case
+
+pub read_elements-returns-in-Some-clause-refused : goal.read_elements-returns-in-Some-clause-refused
+read_elements-returns-in-Some-clause-refused t c = rw (c.in-Some.ensures.some.tree (followed c.args.left c.args.table.now)) c.read_leaves.ensures.refused
 
 pub read_elements-read-requires : goal.read_elements-read-requires
 read_elements-read-requires t c =
@@ -299,114 +316,6 @@ read_enum-returns-in-None-clause-refused t c =
           (tree_at_none at_node c.args.nodes.now i (no_entry c.args.nodes.now i c.in-None.ensures.lookup.3)) c.in_ok-taken.ensures.leads,
     )
 
-pub read_map-returns-in_err-taken-clause-refused : goal.read_map-returns-in_err-taken-clause-refused
-read_map-returns-in_err-taken-clause-refused t c =
-    let key_tree = tree_of_node c.args.left c.args.table.now c.args.key.now in
-    let value_tree = tree_of_node c.args.left c.args.table.now c.args.value.now in
-    let y = err_from_is_err_and c.from_residual.result c.from_residual.ensures.1 in
-    passed_on (λ e. IsRefusalAt (map_tree key_tree value_tree) c.args.place c.args.reader.now e.reason) c.from_residual.result c.in_err-taken.field-0.0 y.0 y.1 y.2
-    (refused_entry c.args.reader.now c.args.place length_kind (ReadsNoDatum (map_tree key_tree value_tree)) _ (λ p a stuck. map_stuck_length key_tree value_tree p a stuck)
-    c.in_err-taken.ensures.refused)
-
-pub read_map-step-requires-2 : goal.read_map-step-requires-2
-read_map-step-requires-2 t c =
-    still_there c.args.reader.now c.step.new.self c.args.place
-    (continues_stepped c.args.reader.now c.take_length.new.self c.step.new.self c.take_length.ensures.below c.in_ok-taken.ensures.sized c.step.ensures.columns
-    c.in_ok-keys.ensures.kept) c.requires.place
-
-pub read_map-read-requires : goal.read_map-read-requires
-read_map-read-requires t c =
-    let k = still_there c.step.new.self c.step-2.new.self c.in_ok-keys.keys
-    (continues_stepped c.step.new.self c.step.new.self c.step-2.new.self refl
-    (continues_stepped c.args.reader.now c.take_length.new.self c.step.new.self c.take_length.ensures.below c.in_ok-taken.ensures.sized c.step.ensures.columns
-    c.in_ok-keys.ensures.kept).steady.sized c.step-2.ensures.columns c.in_ok-values.ensures.kept) c.in_ok-keys.ensures.found.0 in
-    let h = still_there c.step-2.new.self c.loop-i.reader c.in_ok-keys.keys c.loop-i.invariant.0 k in
-    let s = c.loop-i.invariant.0.steady in
-    search (rules, h, s)
-
-pub read_map-returns-in_err-first-clause-refused : goal.read_map-returns-in_err-first-clause-refused
-read_map-returns-in_err-first-clause-refused t c =
-    let key_tree = tree_of_node c.args.left c.args.table.now c.args.key.now in
-    let value_tree = tree_of_node c.args.left c.args.table.now c.args.value.now in
-    let y = err_from_is_err_and c.from_residual-in_err-first.result c.from_residual-in_err-first.ensures.1 in
-    let enters = enters_map c.args.reader.now c.take_length.new.self c.step.new.self c.step-2.new.self c.args.place c.in_ok-keys.keys c.in_ok-values.values
-    c.in_ok-taken.taken.length c.in_ok-taken.taken.total
-    c.in_ok-taken.ensures.leads c.take_length.ensures.below c.in_ok-keys.ensures.found c.in_ok-keys.ensures.kept c.in_ok-keys.ensures.stands
-    c.in_ok-values.ensures.found c.in_ok-values.ensures.kept c.in_ok-values.ensures.stands in
-    let lt : c.loop-i._i < c.in_ok-taken.taken.length = omega arith in
-    passed_on (λ e. IsRefusalAt (map_tree key_tree value_tree) c.args.place c.args.reader.now e.reason) c.from_residual-in_err-first.result c.in_err-first.field-0.0 y.0 y.1 y.2
-    ((
-      c.in_err-first.ensures.refused.0,
-      λ other. map_stuck_at key_tree value_tree c.args.reader.now c.step-2.new.self c.args.place c.in_ok-keys.keys c.in_ok-values.values
-          c.in_ok-taken.taken.length enters (key_stuck key_tree value_tree c.in_ok-keys.keys c.in_ok-values.values c.step-2.new.self c.loop-i.reader c.loop-i._i _
-          c.loop-i.invariant.0 c.loop-i.invariant.1 c.in_ok-taken.taken.length lt (c.in_err-first.ensures.refused.1 other)),
-    ))
-
-pub read_map-read-requires-in-loop-i : goal.read_map-read-requires-in-loop-i
-read_map-read-requires-in-loop-i t c =
-    let k = still_there c.step-2.new.self c.loop-i.reader c.in_ok-values.values c.loop-i.invariant.0 c.in_ok-values.ensures.found.0 in
-    let h = still_there c.loop-i.reader c.read.new.reader c.in_ok-values.values c.in_ok-first.ensures.continues k in
-    let s = c.in_ok-first.ensures.continues.steady in
-    search (rules, h, s)
-
-pub read_map-returns-in_err-second-clause-refused : goal.read_map-returns-in_err-second-clause-refused
-read_map-returns-in_err-second-clause-refused t c =
-    let key_tree = tree_of_node c.args.left c.args.table.now c.args.key.now in
-    let value_tree = tree_of_node c.args.left c.args.table.now c.args.value.now in
-    let y = err_from_is_err_and c.from_residual-in_err-second.result c.from_residual-in_err-second.ensures.1 in
-    let enters = enters_map c.args.reader.now c.take_length.new.self c.step.new.self c.step-2.new.self c.args.place c.in_ok-keys.keys c.in_ok-values.values
-    c.in_ok-taken.taken.length c.in_ok-taken.taken.total
-    c.in_ok-taken.ensures.leads c.take_length.ensures.below c.in_ok-keys.ensures.found c.in_ok-keys.ensures.kept c.in_ok-keys.ensures.stands
-    c.in_ok-values.ensures.found c.in_ok-values.ensures.kept c.in_ok-values.ensures.stands in
-    let lt : c.loop-i._i < c.in_ok-taken.taken.length = omega arith in
-    passed_on (λ e. IsRefusalAt (map_tree key_tree value_tree) c.args.place c.args.reader.now e.reason) c.from_residual-in_err-second.result c.in_err-second.field-0.0 y.0 y.1 y.2
-    ((
-      c.in_err-second.ensures.refused.0,
-      λ other. map_stuck_at key_tree value_tree c.args.reader.now c.step-2.new.self c.args.place c.in_ok-keys.keys c.in_ok-values.values
-          c.in_ok-taken.taken.length enters (value_stuck key_tree value_tree c.in_ok-keys.keys c.in_ok-values.values c.step-2.new.self c.loop-i.reader c.loop-i._i _
-          c.loop-i.invariant.0 c.loop-i.invariant.1 c.in_ok-taken.taken.length c.read.new.reader (datum_of c.in_ok-first.first) lt c.in_ok-first.ensures.continues
-          c.in_ok-first.ensures.read (c.in_err-second.ensures.refused.1 other)),
-    ))
-
-pub read_map-loop-i-preserved : goal.read_map-loop-i-preserved
-read_map-loop-i-preserved t c = (
-  continues_on c.step-2.new.self c.loop-i.reader c.read-in-loop-i.new.reader c.loop-i.invariant.0
-      (continues_on c.loop-i.reader c.read.new.reader c.read-in-loop-i.new.reader c.in_ok-first.ensures.continues c.in_ok-second.ensures.continues),
-  rw (c.in_ok-push.ensures.items, map-append)
-      (one_more_pair (tree_of_node c.args.left c.args.table.now c.args.key.now) (tree_of_node c.args.left c.args.table.now c.args.value.now) c.in_ok-keys.keys
-      c.in_ok-values.values c.step-2.new.self c.loop-i.reader c.loop-i._i _ c.loop-i.invariant.0 c.loop-i.invariant.1 c.read.new.reader c.read-in-loop-i.new.reader
-      (datum_of c.in_ok-first.first) (datum_of c.in_ok-second.second) c.in_ok-first.ensures.continues c.in_ok-first.ensures.read c.in_ok-second.ensures.read),
-  rw c.in_ok-push.ensures.items
-      (one_more_whole (λ e. faults_of c.args.table.now e.0 c.args.left c.args.key.now ++ faults_of c.args.table.now e.1 c.args.left c.args.value.now)
-      c.loop-i.pairs.items (c.in_ok-first.first, c.in_ok-second.second) c.loop-i.invariant.2
-      (nothing (faults_of c.args.table.now c.in_ok-first.first c.args.left c.args.key.now) (faults_of c.args.table.now c.in_ok-second.second c.args.left c.args.value.now)
-      c.in_ok-first.ensures.whole c.in_ok-second.ensures.whole)),
-)
-
-pub read_map-returns-clause-continues : goal.read_map-returns-clause-continues
-read_map-returns-clause-continues t c =
-    continues_on c.args.reader.now c.step-2.new.self c.loop-i.reader
-    (continues_on c.args.reader.now c.step.new.self c.step-2.new.self
-    (continues_stepped c.args.reader.now c.take_length.new.self c.step.new.self c.take_length.ensures.below c.in_ok-taken.ensures.sized c.step.ensures.columns
-    c.in_ok-keys.ensures.kept) (continues_stepped c.step.new.self c.step.new.self c.step-2.new.self refl
-    (continues_stepped c.args.reader.now c.take_length.new.self c.step.new.self c.take_length.ensures.below c.in_ok-taken.ensures.sized c.step.ensures.columns
-    c.in_ok-keys.ensures.kept).steady.sized c.step-2.ensures.columns c.in_ok-values.ensures.kept)) c.loop-i.invariant.0
-
-pub read_map-returns-clause-read : goal.read_map-returns-clause-read
-read_map-returns-clause-read t c =
-    let key_tree = tree_of_node c.args.left c.args.table.now c.args.key.now in
-    let value_tree = tree_of_node c.args.left c.args.table.now c.args.value.now in
-    let enters = enters_map c.args.reader.now c.take_length.new.self c.step.new.self c.step-2.new.self c.args.place c.in_ok-keys.keys c.in_ok-values.values
-    c.in_ok-taken.taken.length c.in_ok-taken.taken.total
-    c.in_ok-taken.ensures.leads c.take_length.ensures.below c.in_ok-keys.ensures.found c.in_ok-keys.ensures.kept c.in_ok-keys.ensures.stands
-    c.in_ok-values.ensures.found c.in_ok-values.ensures.kept c.in_ok-values.ensures.stands in
-    let all : c.loop-i._i ≡ c.in_ok-taken.taken.length = omega arith in
-    rw (datum-Map c.loop-i.pairs)
-    (map_read_at key_tree value_tree c.args.reader.now c.step-2.new.self c.loop-i.reader c.args.place c.in_ok-keys.keys c.in_ok-values.values c.in_ok-taken.taken.length _
-    enters c.if-is_over_limit.ensures
-    (subst (λ n. ReadsPairsAt key_tree value_tree c.in_ok-keys.keys c.in_ok-values.values c.step-2.new.self n
-    (map (λ e. pair (datum_of e.0) (datum_of e.1)) c.loop-i.pairs.items) c.loop-i.reader) all c.loop-i.invariant.1))
-
 pub read_tuple-loop-i-init : goal.read_tuple-loop-i-init
 read_tuple-loop-i-init t c =
     let at_node = tree_of_node c.args.left c.args.table.now in (
@@ -465,20 +374,6 @@ read_seq-returns-then-is_over_limit-clause-refused t c =
           seq_over_limit tree p a c.in_ok-taken.taken.length l.0 l.2.takes c.if-is_over_limit.ensures.0 c.if-is_over_limit.ensures.1,
     )
 
-pub read_map-returns-then-is_over_limit-clause-refused : goal.read_map-returns-then-is_over_limit-clause-refused
-read_map-returns-then-is_over_limit-clause-refused t c =
-    let key_tree = tree_of_node c.args.left c.args.table.now c.args.key.now in
-    let value_tree = tree_of_node c.args.left c.args.table.now c.args.value.now in
-    passed_on (λ e. IsRefusalAt (map_tree key_tree value_tree) c.args.place c.args.reader.now e.reason) c.err.result _ _ c.err.ensures refl (
-      tt,
-      λ other p at a st.
-          let l = told_at c.args.reader.now c.take_length.new.self c.args.place length_kind (natural c.in_ok-taken.taken.length)
-          (λ entries. c.in_ok-taken.taken.total ≡ total entries) c.in_ok-taken.ensures.leads p at a st in
-          map_over_limit key_tree value_tree p a c.in_ok-taken.taken.length l.0 l.2.takes c.if-is_over_limit.ensures.0 c.if-is_over_limit.ensures.1,
-    )
-
--- ---- the cases of values
-
 pub read-returns-in-Unit-clause-whole : goal.read-returns-in-Unit-clause-whole
 read-returns-in-Unit-clause-whole t c = rw c.in-Unit.is (faults-Unit c.args.table.now c.args.left)
 
@@ -530,10 +425,6 @@ pub read_seq-returns-clause-whole : goal.read_seq-returns-clause-whole
 read_seq-returns-clause-whole t c = λ b is.
     faults-Seq c.args.table.now c.args.left c.in_ok-values.values b ∙ rw is c.in_ok-values.ensures.whole
 
-pub read_map-returns-clause-whole : goal.read_map-returns-clause-whole
-read_map-returns-clause-whole t c = λ k w is_key is_value.
-    faults-Map c.args.table.now c.args.left c.loop-i.pairs k w ∙ rw (is_key, is_value) c.loop-i.invariant.2
-
 pub read_tuple-returns-clause-whole : goal.read_tuple-returns-clause-whole
 read_tuple-returns-clause-whole t c = λ ns is.
     let last : c.loop-i.i ≡ length c.args.nodes.now = omega arith in
@@ -546,3 +437,36 @@ read_enum-returns-in_ok-new-in-Some-clause-whole t c = λ ns is.
     let n = c.in-Some.node.now in
     let there = found_entry c.args.nodes.now i n c.in-Some.ensures.lookup.3.0 (c.in-Some.ensures.lookup.3.1 n) in
     enum_whole c.args.table.now c.args.left i c.in_ok-new-in-Some.field-0 ns n (omega arith) (rw is there) (rw c.in_ok-new-in-Some.ensures.ok c.in_ok-value-in-Some.ensures.whole)
+
+pub read_map-returns-in_err-taken-clause-refused : goal.read_map-returns-in_err-taken-clause-refused
+read_map-returns-in_err-taken-clause-refused = map.read_map-returns-in_err-taken-clause-refused
+
+pub read_map-step-requires-2 : goal.read_map-step-requires-2
+read_map-step-requires-2 = map.read_map-step-requires-2
+
+pub read_map-read-requires : goal.read_map-read-requires
+read_map-read-requires = map.read_map-read-requires
+
+pub read_map-returns-in_err-first-clause-refused : goal.read_map-returns-in_err-first-clause-refused
+read_map-returns-in_err-first-clause-refused = map.read_map-returns-in_err-first-clause-refused
+
+pub read_map-read-requires-in-loop-i : goal.read_map-read-requires-in-loop-i
+read_map-read-requires-in-loop-i = map.read_map-read-requires-in-loop-i
+
+pub read_map-returns-in_err-second-clause-refused : goal.read_map-returns-in_err-second-clause-refused
+read_map-returns-in_err-second-clause-refused = map.read_map-returns-in_err-second-clause-refused
+
+pub read_map-loop-i-preserved : goal.read_map-loop-i-preserved
+read_map-loop-i-preserved = map.read_map-loop-i-preserved
+
+pub read_map-returns-clause-continues : goal.read_map-returns-clause-continues
+read_map-returns-clause-continues = map.read_map-returns-clause-continues
+
+pub read_map-returns-clause-read : goal.read_map-returns-clause-read
+read_map-returns-clause-read = map.read_map-returns-clause-read
+
+pub read_map-returns-then-is_over_limit-clause-refused : goal.read_map-returns-then-is_over_limit-clause-refused
+read_map-returns-then-is_over_limit-clause-refused = map.read_map-returns-then-is_over_limit-clause-refused
+
+pub read_map-returns-clause-whole : goal.read_map-returns-clause-whole
+read_map-returns-clause-whole = map.read_map-returns-clause-whole

@@ -65,7 +65,7 @@ returns-clause-sized c =
     let there = c.index_mut-open.result.now in
     let size = sized_at c.ready.new.self.columns.items c.args.place c.in_ok-i.i index_kind there c.in_ok-i.ensures.sized c.in_ok-i.ensures.found c.index_mut-open.ensures.value in
     sized_set c.ready.new.self.columns.items c.in_ok-i.i _ c.in_ok-i.ensures.sized
-    (left_behind there.left c.args.count c.in_ok-bytes.bytes.items _ _ size c.in_ok-bytes.ensures.size c.in_ok-bytes.ensures.taken)
+    (left_behind natural there.left c.args.count c.in_ok-bytes.bytes.items _ _ size c.in_ok-bytes.ensures.size c.in_ok-bytes.ensures.taken)
 
 pub returns-clause-leads : goal.returns-clause-leads
 returns-clause-leads c =
@@ -78,7 +78,7 @@ returns-clause-leads c =
     (record {
       place = refl;
       kind = c.take_bytes.ensures.kind;
-      size = left_behind there.left c.args.count c.in_ok-bytes.bytes.items _ _ size c.in_ok-bytes.ensures.size c.in_ok-bytes.ensures.taken;
+      size = left_behind natural there.left c.args.count c.in_ok-bytes.bytes.items _ _ size c.in_ok-bytes.ensures.size c.in_ok-bytes.ensures.taken;
       taken = c.in_ok-bytes.ensures.taken;
       tallies = c.take_bytes.ensures.tallies;
     })

@@ -1,0 +1,146 @@
+-- Maps are read pair by pair: by what was taken.
+use Rattle.std.proofs.Common.{rules, arith, ◌≡◌, ◌<◌, ◌++◌, map, refl, subst, ◌∙◌}
+use Rattle.std.proofs.lemmas.List.{map-append}
+use Rattle.std.proofs.lemmas.Result.{err_from_is_err_and}
+use Rattle.bitcode_shapes.specs.Datum.{pair}
+use Rattle.bitcode_untyped.specs.Faults.{faults_of}
+use Rattle.bitcode_untyped.specs.Population.{total}
+use Rattle.bitcode_untyped.specs.Reads.{ReadsNoDatum}
+use Rattle.bitcode_untyped.specs.ShapeTree.{map_tree}
+use Rattle.bitcode_untyped.specs.View.{datum_of, tree_of_node}
+use Rattle.bitcode_untyped.specs.Walk.{length_kind}
+use Rattle.bitcode_untyped.proofs.FaultLemmas.{faults-Map}
+use Rattle.bitcode_untyped.proofs.ReadLemmas.{map_stuck_length, map_over_limit}
+use Rattle.bitcode_untyped.proofs.ViewLemmas.{datum-Map}
+use Rattle.bitcode_coder.specs.Spelling.{natural}
+use Rattle.bitcode_serde.specs.ReadingValues.{IsRefusalAt}
+use Rattle.bitcode_serde.proofs.CaseLemmas.{nothing, one_more_whole}
+use Rattle.bitcode_serde.proofs.ColumnLemmas.{passed_on}
+use Rattle.bitcode_serde.proofs.ValueLemmas.{refused_entry, still_there, continues_on, continues_stepped, enters_map, told_at, ReadsPairsAt, one_more_pair, key_stuck, value_stuck, map_read_at, map_stuck_at}
+use Rattle.bitcode_serde.proofs.values.+read.Goals as goal
+
+pub read_map-returns-in_err-taken-clause-refused : goal.read_map-returns-in_err-taken-clause-refused
+read_map-returns-in_err-taken-clause-refused t c =
+    let key_tree = tree_of_node c.args.left c.args.table.now c.args.key.now in
+    let value_tree = tree_of_node c.args.left c.args.table.now c.args.value.now in
+    let y = err_from_is_err_and c.from_residual.result c.from_residual.ensures.1 in
+    passed_on (λ e. IsRefusalAt (map_tree key_tree value_tree) c.args.place c.args.reader.now e.reason) c.from_residual.result c.in_err-taken.field-0.0 y.0 y.1 y.2
+    (refused_entry c.args.reader.now c.args.place length_kind (ReadsNoDatum (map_tree key_tree value_tree)) _ (λ p a stuck. map_stuck_length key_tree value_tree p a stuck)
+    c.in_err-taken.ensures.refused)
+
+pub read_map-step-requires-2 : goal.read_map-step-requires-2
+read_map-step-requires-2 t c =
+    still_there c.args.reader.now c.step.new.self c.args.place
+    (continues_stepped c.args.reader.now c.take_length.new.self c.step.new.self c.take_length.ensures.below c.in_ok-taken.ensures.sized c.step.ensures.columns
+    c.in_ok-keys.ensures.kept) c.requires.place
+
+pub read_map-read-requires : goal.read_map-read-requires
+read_map-read-requires t c =
+    let k = still_there c.step.new.self c.step-2.new.self c.in_ok-keys.keys
+    (continues_stepped c.step.new.self c.step.new.self c.step-2.new.self refl
+    (continues_stepped c.args.reader.now c.take_length.new.self c.step.new.self c.take_length.ensures.below c.in_ok-taken.ensures.sized c.step.ensures.columns
+    c.in_ok-keys.ensures.kept).steady.sized c.step-2.ensures.columns c.in_ok-values.ensures.kept) c.in_ok-keys.ensures.found.0 in
+    let h = still_there c.step-2.new.self c.loop-i.reader c.in_ok-keys.keys c.loop-i.invariant.0 k in
+    let s = c.loop-i.invariant.0.steady in
+    search (rules, h, s)
+
+pub read_map-returns-in_err-first-clause-refused : goal.read_map-returns-in_err-first-clause-refused
+read_map-returns-in_err-first-clause-refused t c =
+    let key_tree = tree_of_node c.args.left c.args.table.now c.args.key.now in
+    let value_tree = tree_of_node c.args.left c.args.table.now c.args.value.now in
+    let y = err_from_is_err_and c.from_residual-in_err-first.result c.from_residual-in_err-first.ensures.1 in
+    let enters = enters_map c.args.reader.now c.take_length.new.self c.step.new.self c.step-2.new.self c.args.place c.in_ok-keys.keys c.in_ok-values.values
+    c.in_ok-taken.taken.length c.in_ok-taken.taken.total
+    c.in_ok-taken.ensures.leads c.take_length.ensures.below c.in_ok-keys.ensures.found c.in_ok-keys.ensures.kept c.in_ok-keys.ensures.stands
+    c.in_ok-values.ensures.found c.in_ok-values.ensures.kept c.in_ok-values.ensures.stands in
+    let lt : c.loop-i._i < c.in_ok-taken.taken.length = omega arith in
+    passed_on (λ e. IsRefusalAt (map_tree key_tree value_tree) c.args.place c.args.reader.now e.reason) c.from_residual-in_err-first.result c.in_err-first.field-0.0 y.0 y.1 y.2
+    ((
+      c.in_err-first.ensures.refused.0,
+      λ other. map_stuck_at key_tree value_tree c.args.reader.now c.step-2.new.self c.args.place c.in_ok-keys.keys c.in_ok-values.values
+          c.in_ok-taken.taken.length enters (key_stuck key_tree value_tree c.in_ok-keys.keys c.in_ok-values.values c.step-2.new.self c.loop-i.reader c.loop-i._i _
+          c.loop-i.invariant.0 c.loop-i.invariant.1 c.in_ok-taken.taken.length lt (c.in_err-first.ensures.refused.1 other)),
+    ))
+
+pub read_map-read-requires-in-loop-i : goal.read_map-read-requires-in-loop-i
+read_map-read-requires-in-loop-i t c =
+    let k = still_there c.step-2.new.self c.loop-i.reader c.in_ok-values.values c.loop-i.invariant.0 c.in_ok-values.ensures.found.0 in
+    let h = still_there c.loop-i.reader c.read.new.reader c.in_ok-values.values c.in_ok-first.ensures.continues k in
+    let s = c.in_ok-first.ensures.continues.steady in
+    search (rules, h, s)
+
+pub read_map-returns-in_err-second-clause-refused : goal.read_map-returns-in_err-second-clause-refused
+read_map-returns-in_err-second-clause-refused t c =
+    let key_tree = tree_of_node c.args.left c.args.table.now c.args.key.now in
+    let value_tree = tree_of_node c.args.left c.args.table.now c.args.value.now in
+    let y = err_from_is_err_and c.from_residual-in_err-second.result c.from_residual-in_err-second.ensures.1 in
+    let enters = enters_map c.args.reader.now c.take_length.new.self c.step.new.self c.step-2.new.self c.args.place c.in_ok-keys.keys c.in_ok-values.values
+    c.in_ok-taken.taken.length c.in_ok-taken.taken.total
+    c.in_ok-taken.ensures.leads c.take_length.ensures.below c.in_ok-keys.ensures.found c.in_ok-keys.ensures.kept c.in_ok-keys.ensures.stands
+    c.in_ok-values.ensures.found c.in_ok-values.ensures.kept c.in_ok-values.ensures.stands in
+    let lt : c.loop-i._i < c.in_ok-taken.taken.length = omega arith in
+    passed_on (λ e. IsRefusalAt (map_tree key_tree value_tree) c.args.place c.args.reader.now e.reason) c.from_residual-in_err-second.result c.in_err-second.field-0.0 y.0 y.1 y.2
+    ((
+      c.in_err-second.ensures.refused.0,
+      λ other. map_stuck_at key_tree value_tree c.args.reader.now c.step-2.new.self c.args.place c.in_ok-keys.keys c.in_ok-values.values
+          c.in_ok-taken.taken.length enters (value_stuck key_tree value_tree c.in_ok-keys.keys c.in_ok-values.values c.step-2.new.self c.loop-i.reader c.loop-i._i _
+          c.loop-i.invariant.0 c.loop-i.invariant.1 c.in_ok-taken.taken.length c.read.new.reader (datum_of c.in_ok-first.first) lt c.in_ok-first.ensures.continues
+          c.in_ok-first.ensures.read (c.in_err-second.ensures.refused.1 other)),
+    ))
+
+pub read_map-loop-i-preserved : goal.read_map-loop-i-preserved
+read_map-loop-i-preserved t c = (
+  continues_on c.step-2.new.self c.loop-i.reader c.read-in-loop-i.new.reader c.loop-i.invariant.0
+      (continues_on c.loop-i.reader c.read.new.reader c.read-in-loop-i.new.reader c.in_ok-first.ensures.continues c.in_ok-second.ensures.continues),
+  rw (c.in_ok-push.ensures.items, map-append)
+      (one_more_pair (tree_of_node c.args.left c.args.table.now c.args.key.now) (tree_of_node c.args.left c.args.table.now c.args.value.now) c.in_ok-keys.keys
+      c.in_ok-values.values c.step-2.new.self c.loop-i.reader c.loop-i._i _ c.loop-i.invariant.0 c.loop-i.invariant.1 c.read.new.reader c.read-in-loop-i.new.reader
+      (datum_of c.in_ok-first.first) (datum_of c.in_ok-second.second) c.in_ok-first.ensures.continues c.in_ok-first.ensures.read c.in_ok-second.ensures.read),
+  rw c.in_ok-push.ensures.items
+      (one_more_whole (λ e. faults_of c.args.table.now e.0 c.args.left c.args.key.now ++ faults_of c.args.table.now e.1 c.args.left c.args.value.now)
+      c.loop-i.pairs.items (c.in_ok-first.first, c.in_ok-second.second) c.loop-i.invariant.2
+      (nothing (faults_of c.args.table.now c.in_ok-first.first c.args.left c.args.key.now) (faults_of c.args.table.now c.in_ok-second.second c.args.left c.args.value.now)
+      c.in_ok-first.ensures.whole c.in_ok-second.ensures.whole)),
+)
+
+pub read_map-returns-clause-continues : goal.read_map-returns-clause-continues
+read_map-returns-clause-continues t c =
+    continues_on c.args.reader.now c.step-2.new.self c.loop-i.reader
+    (continues_on c.args.reader.now c.step.new.self c.step-2.new.self
+    (continues_stepped c.args.reader.now c.take_length.new.self c.step.new.self c.take_length.ensures.below c.in_ok-taken.ensures.sized c.step.ensures.columns
+    c.in_ok-keys.ensures.kept) (continues_stepped c.step.new.self c.step.new.self c.step-2.new.self refl
+    (continues_stepped c.args.reader.now c.take_length.new.self c.step.new.self c.take_length.ensures.below c.in_ok-taken.ensures.sized c.step.ensures.columns
+    c.in_ok-keys.ensures.kept).steady.sized c.step-2.ensures.columns c.in_ok-values.ensures.kept)) c.loop-i.invariant.0
+
+pub read_map-returns-clause-read : goal.read_map-returns-clause-read
+read_map-returns-clause-read t c =
+    let key_tree = tree_of_node c.args.left c.args.table.now c.args.key.now in
+    let value_tree = tree_of_node c.args.left c.args.table.now c.args.value.now in
+    let enters = enters_map c.args.reader.now c.take_length.new.self c.step.new.self c.step-2.new.self c.args.place c.in_ok-keys.keys c.in_ok-values.values
+    c.in_ok-taken.taken.length c.in_ok-taken.taken.total
+    c.in_ok-taken.ensures.leads c.take_length.ensures.below c.in_ok-keys.ensures.found c.in_ok-keys.ensures.kept c.in_ok-keys.ensures.stands
+    c.in_ok-values.ensures.found c.in_ok-values.ensures.kept c.in_ok-values.ensures.stands in
+    let all : c.loop-i._i ≡ c.in_ok-taken.taken.length = omega arith in
+    rw (datum-Map c.loop-i.pairs)
+    (map_read_at key_tree value_tree c.args.reader.now c.step-2.new.self c.loop-i.reader c.args.place c.in_ok-keys.keys c.in_ok-values.values c.in_ok-taken.taken.length _
+    enters c.if-is_over_limit.ensures
+    (subst (λ n. ReadsPairsAt key_tree value_tree c.in_ok-keys.keys c.in_ok-values.values c.step-2.new.self n
+    (map (λ e. pair (datum_of e.0) (datum_of e.1)) c.loop-i.pairs.items) c.loop-i.reader) all c.loop-i.invariant.1))
+
+pub read_map-returns-then-is_over_limit-clause-refused : goal.read_map-returns-then-is_over_limit-clause-refused
+read_map-returns-then-is_over_limit-clause-refused t c =
+    let key_tree = tree_of_node c.args.left c.args.table.now c.args.key.now in
+    let value_tree = tree_of_node c.args.left c.args.table.now c.args.value.now in
+    passed_on (λ e. IsRefusalAt (map_tree key_tree value_tree) c.args.place c.args.reader.now e.reason) c.err.result _ _ c.err.ensures refl (
+      tt,
+      λ other p at a st.
+          let l = told_at c.args.reader.now c.take_length.new.self c.args.place length_kind (natural c.in_ok-taken.taken.length)
+          (λ entries. c.in_ok-taken.taken.total ≡ total entries) c.in_ok-taken.ensures.leads p at a st in
+          map_over_limit key_tree value_tree p a c.in_ok-taken.taken.length l.0 l.2.takes c.if-is_over_limit.ensures.0 c.if-is_over_limit.ensures.1,
+    )
+
+-- ---- the cases of values
+
+pub read_map-returns-clause-whole : goal.read_map-returns-clause-whole
+read_map-returns-clause-whole t c = λ k w is_key is_value.
+    faults-Map c.args.table.now c.args.left c.loop-i.pairs k w ∙ rw (is_key, is_value) c.loop-i.invariant.2
