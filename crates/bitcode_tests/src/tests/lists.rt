@@ -52,6 +52,18 @@ fn a_million_integers_come_back(rt: HostRuntime) -> Result<(), Got> {
     decodes(alloc, bytes.as_slice(), list)
 }
 
+/// The README's example: the length takes 4 bytes, the numbers 2,001, the bools 125, the levels 501.
+#[test]
+fn a_thousand_records_are_small(rt: HostRuntime) -> Result<(), Got> {
+    let alloc = rt.alloc();
+    let mut records: Vec<(u32, bool, u8)> = Vec::with_capacity(alloc, 1_000)?;
+    for number in 0..1_000u32 {
+        let level = number.to_le_bytes()[0] % 16;
+        records.push((number, level == 7, level))?;
+    }
+    agrees(encode(alloc, &records)?.len() == 2_631)
+}
+
 #[test]
 fn a_hundred_thousand_lists_come_back(rt: HostRuntime) -> Result<(), Got> {
     let alloc = rt.alloc();
