@@ -1,8 +1,8 @@
 -- What the coders of variants hold.
 use Rattle.std.specs.Prelude.{ℕ, List}
 use Rattle.bitcode_columns.specs.Fast.{fast_items, fast_room, fast_capacity, cow_rest, cow_owned}
-use Rattle.bitcode_parts.specs.declared.choices.variant.encoder.VariantEncoder.{VariantEncoder}
-use Rattle.bitcode_parts.specs.declared.choices.variant.decoder.VariantDecoder.{VariantDecoder}
+use Rattle.bitcode_parts.specs.declared.choices.variant.VariantEncoder.{VariantEncoder}
+use Rattle.bitcode_parts.specs.declared.choices.variant.VariantDecoder.{VariantDecoder}
 
 module _ {N : ℕ} where
   -- the variants that were written

@@ -8,7 +8,7 @@ ghost use Rattle.bitcode_coder.specs.Transposition.{array_columns};
 ghost use Rattle.bitcode_parts.specs.Arrays.{array_room, ArraysOverflow, arrays_of, ArrayFaults};
 ghost use Rattle.bitcode_parts.specs.ArrayLaws.{arrays_of_shape, arrays_overflow, same_array_shape};
 
-use crate::lists::elements::{decode_each, encode_each};
+use crate::lists::sequence::{decode_each, encode_each};
 use bitcode_coder::coder::{Buffer, Decoder, Encoder, HoldsColumns, HoldsData, View};
 use bitcode_columns::consume::mul_length;
 use bitcode_columns::error::{Error, Reason};

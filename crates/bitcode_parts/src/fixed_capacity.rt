@@ -9,8 +9,7 @@ ghost use Rattle.bitcode_coder.specs.Length.{lengths_left, lengths_owned};
 ghost use Rattle.bitcode_coder.specs.LengthParts.{NamesLengthFault};
 ghost use Rattle.bitcode_parts.specs.Lists.{lists_of, BreaksLimit, FaultsInElements};
 
-use crate::lists::elements::encode_each;
-use crate::lists::sequence::Sequence;
+use crate::lists::sequence::{Sequence, encode_each};
 use arrayvec::ArrayVec;
 use bitcode_coder::coder::{Decoder, Encoder, HoldsData, View};
 use bitcode_coder::length::LengthDecoder;

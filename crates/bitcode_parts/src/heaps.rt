@@ -6,8 +6,7 @@ ghost use Rattle.bitcode_parts.specs.Elements.{MakesOfElements};
 ghost use Rattle.std.proofs.Common.{ap};
 ghost use Rattle.bitcode_shapes.specs.Shape.{seq_shape};
 
-use crate::lists::elements::encode_each;
-use crate::lists::sequence::{FromElements, Sequence};
+use crate::lists::sequence::{FromElements, Sequence, encode_each};
 use crate::lists::vec::VecDecoder;
 use bitcode_coder::coder::{Decoder, Encoder};
 use bitcode_columns::error::{Error, Reason};

@@ -1,5 +1,3 @@
 //! Lists: what is written as the sequence of its elements, and made of it.
-pub mod elements;
-pub mod lends;
 pub mod sequence;
 pub mod vec;

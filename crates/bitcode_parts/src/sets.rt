@@ -5,9 +5,7 @@ ghost use Rattle.bitcode_parts.specs.Elements.{MakesOfElements};
 ghost use Rattle.std.proofs.Common.{ap};
 ghost use Rattle.bitcode_shapes.specs.Shape.{seq_shape};
 
-use crate::lists::elements::encode_lent;
-use crate::lists::lends::Lends;
-use crate::lists::sequence::{FromElements, Sequence};
+use crate::lists::sequence::{FromElements, Lends, Sequence, encode_lent};
 use crate::lists::vec::VecDecoder;
 use bitcode_coder::coder::{Decoder, Encoder};
 use bitcode_columns::error::{Error, Reason};

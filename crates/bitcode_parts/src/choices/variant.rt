@@ -1,8 +1,219 @@
-//! The coders of the variants of enums.
-pub use crate::choices::variant::decoder::VariantDecoder;
-pub use crate::choices::variant::encoder::VariantEncoder;
-pub use crate::choices::variant::payload::encode_payload;
+//! The variants of enums: the coder that they are written to, the one that they are read from, and writing a payload.
+#![tactic(auto, unfolding(crate::specs::Variants::written_variants, crate::specs::Variants::variant_room, crate::specs::Variants::variant_capacity, crate::specs::Variants::variants_left, crate::specs::Variants::variant_counts, crate::specs::Variants::variants_owned))]
 
-mod decoder;
-mod encoder;
-mod payload;
+ghost use Rattle.std.specs.Prelude.{◌≡◌, false, ◌+◌, ◌<◌, ◌≤◌, ◌++◌, [], ◌∷◌, length, map, slice_index, All, OnOk, IfErr, OnErr};
+ghost use Rattle.bitcode_columns.specs.Fast.{fast_items};
+ghost use Rattle.bitcode_columns.specs.Histogram.{AreCounts};
+ghost use Rattle.bitcode_columns.specs.Reading.{Reads, IsEndOf};
+ghost use Rattle.bitcode_columns.specs.VariantColumn.{SpellsVariants};
+ghost use Rattle.bitcode_coder.specs.Columns.{variants, one, emptied};
+ghost use Rattle.bitcode_coder.specs.Coder.{JoinsListing, OverflowsWithListing, IsWritingRefusal};
+ghost use Rattle.bitcode_coder.specs.Faults.{NamesVariantsFault};
+ghost use Rattle.bitcode_coder.specs.Spelling.{natural};
+
+use bitcode_coder::coder::{Buffer, Encoder, HoldsColumns, HoldsData, MAX_VECTORED_CHUNK, View};
+use bitcode_columns::error::Error;
+use bitcode_columns::fast::{CowSlice, FastVec, PushUnchecked};
+use bitcode_columns::pack::{pack_bytes_less_than, unpack_bytes_less_than};
+use bitcode_shapes::shaped::Shaped;
+use std::alloc::Global;
+
+/// The column that the variants of an enum are written to, where it has `N` of them, 2 to 256.
+///
+/// A variant is its index, 0 for the first.
+///
+/// ```
+/// let mut variants = VariantEncoder::<3>::new(alloc);
+/// variants.reserve(2)?;
+/// variants.encode(2);
+/// variants.encode(1);
+/// variants.collect_into(&mut out)?; // [5]: the digits 2 and 1 in base 3
+/// ```
+#[derive(Drop)]
+pub struct VariantEncoder<const N: usize> {
+    variants: FastVec<u8>,
+    ghost known: { All (λ variant. variant < N) (fast_items variants) },
+}
+
+impl<const N: usize> HoldsColumns for VariantEncoder<N> {
+    ghost use Rattle.bitcode_parts.specs.Variants.{written_variants, variant_room, variant_capacity};
+
+    ghost columns = { λ e. one (variants N) (map natural (written_variants e)) };
+
+    ghost room = { variant_room };
+
+    ghost capacity = { variant_capacity };
+
+    ghost surely_overflows = { λ e n. ⊥ };
+
+    ghost overflows = { λ e n. ⊥ };
+}
+
+impl<const N: usize> Buffer for VariantEncoder<N> {
+    fn new(alloc: Global) -> Self {
+        VariantEncoder {
+            variants: FastVec::new(alloc),
+        }
+    }
+
+    fn reserve(&mut self, n: usize) -> Result<(), Error> {
+        self.variants.reserve(n)
+    }
+
+    fn collect_into(&mut self, out: &mut Vec<u8>) -> Result<(), Error> {
+        pack_bytes_less_than::<N>(self.variants.as_slice(), out)?;
+        self.variants.clear();
+        Ok(())
+    }
+
+    fn clear(&mut self) {
+        self.variants.clear();
+    }
+}
+
+impl<const N: usize> VariantEncoder<N> {
+    ghost use Rattle.bitcode_parts.specs.Variants.{written_variants, variant_room};
+
+    /// Writes a variant, which is below `N`. Room for it was reserved.
+    pub fn encode(&mut self, variant: u8)
+        requires room { 0 < variant_room self.old }
+        requires known { variant < N }
+        ensures written { written_variants self.new ≡ written_variants self.old ++ variant ∷ [] }
+        ensures room { variant_room self.new + 1 ≡ variant_room self.old }
+    {
+        self.variants.push_unchecked(variant);
+    }
+
+    /// Writes 1 to [`MAX_VECTORED_CHUNK`] variants, each of which is below `N`. Room for them was reserved.
+    ///
+    /// ```
+    /// variants.reserve(2)?;
+    /// variants.encode_vectored(&[2, 1]);
+    /// ```
+    pub fn encode_vectored(&mut self, several: &[u8])
+        requires chunk { (0 < length several.now) × (length several.now ≤ MAX_VECTORED_CHUNK) }
+        requires room { length several.now ≤ variant_room self.old }
+        requires known { All (λ variant. variant < N) several.now }
+        ensures written { written_variants self.new ≡ written_variants self.old ++ several.now }
+        ensures room { variant_room self.old ≤ variant_room self.new + length several.now }
+    {
+        self.variants.extend_unchecked(several);
+    }
+}
+
+/// The column that the variants of an enum are read from, where it has `N` of them, 2 to 256.
+///
+/// For `C_STYLE` false the variants are counted as they are read, so that their payloads can be read behind them. An
+/// enum whose variants all lack a payload needs no counts, and may be read with `C_STYLE` true.
+///
+/// ```
+/// let mut variants = VariantDecoder::<3, false>::new(alloc);
+/// variants.populate(&mut input, 3)?; // of [5]: 2, 1, 0
+/// variants.length(2) // 1
+/// variants.decode() // 2, then 1 and 0
+/// ```
+#[derive(Drop)]
+pub struct VariantDecoder<'a, const N: usize, const C_STYLE: bool> {
+    alloc: Global,
+    variants: CowSlice<'a, u8>,
+    counts: [usize; N],
+}
+
+impl<'a, const N: usize, const C_STYLE: bool> VariantDecoder<'a, N, C_STYLE> {
+    ghost use Rattle.bitcode_parts.specs.Variants.{variants_left, variant_counts, variants_owned};
+
+    /// Holds no variants. Takes no memory.
+    pub fn new(alloc: Global) -> Self
+        ensures left { variants_left result ≡ [] }
+        ensures counts { AreCounts N [] (variant_counts result) }
+        ensures owned { variants_owned result ≡ 0 }
+    {
+        VariantDecoder {
+            alloc,
+            variants: CowSlice::new(alloc),
+            counts: [0; N],
+        }
+    }
+
+    /// Reads `k` variants from the front of the input.
+    ///
+    /// Missing bytes are `EOF`, a variant of `N` or more is `invalid packing`, and a refused growth is
+    /// `out of memory`. From 17 variants on no memory is taken.
+    pub fn populate(&mut self, input: &mut &'a [u8], k: usize) -> Result<(), Error>
+        ensures read { OnOk result (Reads (SpellsVariants N) k input.old.now (variants_left self.new) input.new.now) }
+        ensures counts { OnOk result (C_STYLE ≡ false → AreCounts N (variants_left self.new) (variant_counts self.new)) }
+        ensures refused { IfErr result (λ e. NamesVariantsFault N e.reason k input.old.now) }
+        ensures rest { OnErr result (IsEndOf input.old.now input.new.now) }
+    {
+        if C_STYLE {
+            let [] = unpack_bytes_less_than::<N, 0>(self.alloc, input, k, &mut self.variants)?;
+        } else {
+            self.counts = unpack_bytes_less_than::<N, N>(self.alloc, input, k, &mut self.variants)?;
+        }
+        Ok(())
+    }
+
+    /// How many of the variants that were read are variant `i`, those that were taken since too.
+    pub fn length(&self, i: usize) -> usize
+        requires counted { C_STYLE ≡ false }
+        requires known { i < N }
+        ensures { result ≡ slice_index (variant_counts self.now) i }
+    {
+        self.counts[i]
+    }
+
+    /// Takes the next variant. One is left.
+    pub fn decode(&mut self) -> u8
+        requires { 0 < length (variants_left self.old) }
+        ensures taken { variants_left self.old ≡ result ∷ variants_left self.new }
+        ensures counts { variant_counts self.new ≡ variant_counts self.old }
+    {
+        self.variants.next_unchecked()
+    }
+}
+
+// The data of an enum whose variants all lack a payload.
+impl<'a, const N: usize, const C_STYLE: bool> HoldsData for VariantDecoder<'a, N, C_STYLE> {
+    ghost use Rattle.bitcode_parts.specs.BareVariants.{bare_shape, bare_choices};
+    ghost use Rattle.bitcode_parts.specs.Variants.{variants_left, variants_owned};
+
+    ghost shape = { bare_shape N };
+
+    ghost held = { λ d. bare_choices (variants_left d) };
+
+    ghost owned = { variants_owned };
+}
+
+impl<'a, const N: usize, const C_STYLE: bool> View<'a> for VariantDecoder<'a, N, C_STYLE> {
+    ghost faults = { λ reason k input. NamesVariantsFault N reason k input };
+
+    fn new(alloc: Global) -> Self {
+        VariantDecoder::new(alloc)
+    }
+
+    fn populate(&mut self, input: &mut &'a [u8], k: usize) -> Result<(), Error> {
+        self.populate(input, k)
+    }
+}
+
+/// Makes room for the payload of a variant, and joins its columns to those so far.
+///
+/// How many payloads of a variant come is not known before they come, so the encoder of an enum reserves room for its
+/// variants alone.
+///
+/// ```
+/// self.variants.encode(1);
+/// encode_payload(&mut self.some, t)
+/// ```
+pub fn encode_payload<T: Shaped, E: Buffer + Encoder<T>>(
+    encoder: &mut E,
+    t: &T,
+) -> Result<(), Error>
+    ensures joined { OnOk result (JoinsListing T.lists T.shape t.now (E.columns encoder.old) (E.columns encoder.new)) }
+    ensures form { emptied (E.columns encoder.new) ≡ emptied (E.columns encoder.old) }
+    ensures refused { IfErr result (λ e. IsWritingRefusal e.reason (OverflowsWithListing T.lists T.shape t.now (E.columns encoder.old))) }
+{
+    t.told();
+    encoder.reserve(1)?;
+    encoder.encode(t)
+}

@@ -11,8 +11,7 @@ ghost use Rattle.bitcode_coder.specs.LengthParts.{NamesLengthFault};
 ghost use Rattle.bitcode_coder.specs.Spelling.{natural};
 ghost use Rattle.bitcode_parts.specs.Lists.{lists_of, FaultsInElements};
 
-use crate::lists::elements::decode_each;
-use crate::lists::sequence::{FromElements, Sequence};
+use crate::lists::sequence::{FromElements, Sequence, decode_each};
 use bitcode_coder::coder::{Buffer, Decoder, Encoder, HoldsColumns, HoldsData, View};
 use bitcode_coder::length::{LengthDecoder, LengthEncoder};
 use bitcode_columns::error::{Error, Reason};

@@ -10,9 +10,7 @@ ghost use Rattle.bitcode_coder.specs.Columns.{emptied};
 ghost use Rattle.bitcode_coder.specs.Coder.{JoinsEach, OverflowsWithEach, IsWritingRefusal};
 ghost use Rattle.bitcode_parts.specs.Elements.{MakesOfElements};
 
-use crate::lists::elements::encode_lent;
-use crate::lists::lends::Lends;
-use crate::lists::sequence::FromElements;
+use crate::lists::sequence::{FromElements, Lends, encode_lent};
 use bitcode_coder::coder::Encoder;
 use bitcode_columns::error::{Error, Reason};
 use bitcode_shapes::keys::Key;

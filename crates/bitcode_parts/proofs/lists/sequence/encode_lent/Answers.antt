@@ -5,7 +5,7 @@ use Rattle.std.proofs.lemmas.Result.{err_from_is_err_and}
 use Rattle.bitcode_shapes.specs.LawfulLists.{each_listed}
 use Rattle.bitcode_coder.proofs.RefusalLemmas.{refusal_weaker}
 use Rattle.bitcode_coder.proofs.EachLemmas.{JoinsFront, front_none, front_more, front_overflows}
-use Rattle.bitcode_parts.proofs.lists.elements.encode_lent.Goals as goal
+use Rattle.bitcode_parts.proofs.lists.sequence.encode_lent.Goals as goal
 
 pub loop-item-init : goal.loop-item-init
 loop-item-init g c = record {

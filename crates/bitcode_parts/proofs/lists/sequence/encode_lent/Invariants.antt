@@ -1,7 +1,7 @@
 use Rattle.std.proofs.Common.{◌≡◌, ◌+◌, ◌≤◌, length, All}
 use Rattle.bitcode_coder.specs.Columns.{emptied}
 use Rattle.bitcode_coder.proofs.EachLemmas.{JoinsFront}
-use Rattle.bitcode_parts.proofs.lists.elements.encode_lent.Given as goal
+use Rattle.bitcode_parts.proofs.lists.sequence.encode_lent.Given as goal
 
 abbrev pub invariant-loop-item : goal.invariant-loop-item
 invariant-loop-item g l = record {

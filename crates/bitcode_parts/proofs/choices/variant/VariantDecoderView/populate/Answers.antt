@@ -1,7 +1,7 @@
 -- Variants without payloads are read as their column alone.
 use Rattle.std.proofs.lemmas.Result.{IfErr-weaker, on_ok_weaker}
 use Rattle.bitcode_parts.proofs.BareVariantLemmas.{reads_bare, refuses_bare}
-use Rattle.bitcode_parts.proofs.choices.variant.decoder.VariantDecoderView.populate.Goals as goal
+use Rattle.bitcode_parts.proofs.choices.variant.VariantDecoderView.populate.Goals as goal
 
 pub returns-clause-read : goal.returns-clause-read
 returns-clause-read g c = on_ok_weaker c.populate.result (reads_bare g.row.N c.args.k c.args.input.now.now c.populate.new.input.now _) c.populate.ensures.read

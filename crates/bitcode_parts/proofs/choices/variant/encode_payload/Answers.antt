@@ -2,7 +2,7 @@
 use Rattle.std.proofs.lemmas.Result.{err_from_is_err_and}
 use Rattle.bitcode_coder.proofs.RefusalLemmas.{refusal_weaker}
 use Rattle.bitcode_parts.proofs.ChoiceWritingLemmas.{overflows_surely}
-use Rattle.bitcode_parts.proofs.choices.variant.payload.encode_payload.Goals as goal
+use Rattle.bitcode_parts.proofs.choices.variant.encode_payload.Goals as goal
 
 pub returns-in_err-reserve-clause-refused : goal.returns-in_err-reserve-clause-refused
 returns-in_err-reserve-clause-refused g c =

@@ -1,7 +1,7 @@
 -- Each turn takes one datum.
 use Rattle.std.proofs.Common.{refl, arith}
 use Rattle.bitcode_parts.proofs.ElementLemmas.{takes_none, takes_one_more, taken_and_left}
-use Rattle.bitcode_parts.proofs.lists.elements.decode_each.Goals as goal
+use Rattle.bitcode_parts.proofs.lists.sequence.decode_each.Goals as goal
 
 pub loop-made-init : goal.loop-made-init
 loop-made-init g c = takes_none g.T.Made.makes (g.D.HoldsData.held c.args.elements.now) c.in_ok-items.items.items c.in_ok-items.ensures.items
