@@ -14,4 +14,5 @@ pub mod Spelling
 pub mod Reads
 pub mod Laws
 pub mod Rows
+pub mod ShapeRows
 pub mod PlaceKinds
