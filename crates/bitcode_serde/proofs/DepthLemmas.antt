@@ -1,25 +1,13 @@
 -- Nodes are deeper than their parts.
-use Rattle.std.proofs.Common.{◌≡◌, ℕ, zero, suc, ◌+◌, ◌-◌, ◌*◌, ◌<◌, ◌≤◌, max, List, [], ◌∷◌, Some, slice_get, Box, Vec, Global, arith, sub-one, sym, ap, ◌∙◌}
+use Rattle.std.proofs.Common.{◌≡◌, ℕ, zero, suc, ◌+◌, ◌-◌, ◌*◌, ◌<◌, ◌≤◌, List, [], ◌∷◌, Some, slice_get, Vec, Global, arith, sub-one, sym, ap, ◌∙◌}
 use Rattle.bitcode_untyped.specs.declared.shape.ShapeNode.{ShapeNode}
 use Rattle.bitcode_untyped.specs.declared.shape.ShapeNode.TheOpen.{ShapeNode-F}
 use Rattle.bitcode_untyped.specs.declared.shape.ShapeNode.TheFolds.{fold-roll-ShapeNode}
 use Rattle.bitcode_untyped.specs.declared.shape.ShapeNode.TheVariants as node
 use Rattle.bitcode_serde.specs.Depth.{depth_step, depth, deepest, left_below}
 
-pub depth-Option : (b : Box ShapeNode Global) → depth (node.Option b) ≡ depth b.value + 1
-depth-Option b = ap depth (sym (node.rolls-Option b)) ∙ fold-roll-ShapeNode _ depth_step (ShapeNode-F.Option b)
-
-pub depth-Seq : (b : Box ShapeNode Global) → depth (node.Seq b) ≡ depth b.value + 1
-depth-Seq b = ap depth (sym (node.rolls-Seq b)) ∙ fold-roll-ShapeNode _ depth_step (ShapeNode-F.Seq b)
-
-pub depth-Map : (k : Box ShapeNode Global) (v : Box ShapeNode Global) → depth (node.Map k v) ≡ max (depth k.value) (depth v.value) + 1
-depth-Map k v = ap depth (sym (node.rolls-Map k v)) ∙ fold-roll-ShapeNode _ depth_step (ShapeNode-F.Map k v)
-
 pub depth-Tuple : (v : Vec ShapeNode Global) → depth (node.Tuple v) ≡ deepest v.items + 1
 depth-Tuple v = ap depth (sym (node.rolls-Tuple v)) ∙ fold-roll-ShapeNode _ depth_step (ShapeNode-F.Tuple v)
-
-pub depth-Enum : (v : Vec ShapeNode Global) → depth (node.Enum v) ≡ deepest v.items + 1
-depth-Enum v = ap depth (sym (node.rolls-Enum v)) ∙ fold-roll-ShapeNode _ depth_step (ShapeNode-F.Enum v)
 
 pub entry_deep : (table : List ShapeNode) (i : ℕ) (n : ShapeNode) → slice_get table i ≡ Some n → depth n ≤ deepest table
 entry_deep [] i n h = cc

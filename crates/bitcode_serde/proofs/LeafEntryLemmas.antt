@@ -40,27 +40,6 @@ leaf_else n hUnit hBytes hOption hSeq hMap hTuple hEnum hRef = by (out-ShapeNode
     by (ShapeNode-F.Ref i) e = absurd (hRef i (e ∙ node.rolls-Ref i))
     by _ e = refl
 
-pub leaf_away : (n : ShapeNode) → IsLeaf n → (n ≡ node.Bool → ⊥) → (n ≡ node.U8 → ⊥) → (n ≡ node.U16 → ⊥) → (n ≡ node.U32 → ⊥) → (n ≡ node.U64 → ⊥)
-    → (n ≡ node.U128 → ⊥) → (n ≡ node.I8 → ⊥) → (n ≡ node.I16 → ⊥) → (n ≡ node.I32 → ⊥) → (n ≡ node.I64 → ⊥) → (n ≡ node.I128 → ⊥) → (n ≡ node.Char → ⊥)
-    → (n ≡ node.Str → ⊥) → ⊥
-leaf_away n leaf hBool hU8 hU16 hU32 hU64 hU128 hI8 hI16 hI32 hI64 hI128 hChar hStr = by (out-ShapeNode n) (sym (roll-out-ShapeNode n)) leaf
-  where
-    by : (w : ShapeNode-F ShapeNode) → n ≡ roll-ShapeNode w → is_leaf w ≡ true → ⊥
-    by ShapeNode-F.Bool e l = hBool (e ∙ node.rolls-Bool)
-    by ShapeNode-F.U8 e l = hU8 (e ∙ node.rolls-U8)
-    by ShapeNode-F.U16 e l = hU16 (e ∙ node.rolls-U16)
-    by ShapeNode-F.U32 e l = hU32 (e ∙ node.rolls-U32)
-    by ShapeNode-F.U64 e l = hU64 (e ∙ node.rolls-U64)
-    by ShapeNode-F.U128 e l = hU128 (e ∙ node.rolls-U128)
-    by ShapeNode-F.I8 e l = hI8 (e ∙ node.rolls-I8)
-    by ShapeNode-F.I16 e l = hI16 (e ∙ node.rolls-I16)
-    by ShapeNode-F.I32 e l = hI32 (e ∙ node.rolls-I32)
-    by ShapeNode-F.I64 e l = hI64 (e ∙ node.rolls-I64)
-    by ShapeNode-F.I128 e l = hI128 (e ∙ node.rolls-I128)
-    by ShapeNode-F.Char e l = hChar (e ∙ node.rolls-Char)
-    by ShapeNode-F.Str e l = hStr (e ∙ node.rolls-Str)
-    by _ e l = cc
-
 pub leaf_but_char : (n : ShapeNode) → (n ≡ node.Bool → ⊥) → (n ≡ node.U8 → ⊥) → (n ≡ node.U16 → ⊥) → (n ≡ node.U32 → ⊥) → (n ≡ node.U64 → ⊥) → (n ≡ node.U128 → ⊥)
     → (n ≡ node.I8 → ⊥) → (n ≡ node.I16 → ⊥) → (n ≡ node.I32 → ⊥) → (n ≡ node.I64 → ⊥) → (n ≡ node.I128 → ⊥) → (n ≡ node.Str → ⊥) → IsLeaf n → n ≡ node.Char
 leaf_but_char n hBool hU8 hU16 hU32 hU64 hU128 hI8 hI16 hI32 hI64 hI128 hStr leaf = by (out-ShapeNode n) (sym (roll-out-ShapeNode n)) leaf

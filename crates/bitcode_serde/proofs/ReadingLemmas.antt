@@ -285,9 +285,6 @@ stuck_here r n i kind c within first is why a s d b (inl t) =
 stuck_here r n i kind c within first is why a s d b (inr t) =
     let h : true ≡ false = sym (open_at (places r.places.below.items) r.places.apart n (inside_places r.places.below.items n within) r.columns.items a.opened i s.backs first) ∙ t.0 in cc
 
-pub same_prepared : (r : Reader) (p : Place) (kind : Kind) (a : State) → Stands r a → (m : State) × Stands r m × Prepares a p kind m
-same_prepared r p kind a s = (a, s, λ d b t same. inl (t, same))
-
 pub first_ready : (cs : List OpenColumn) (n i : ℕ) (kind : Kind) → IsReady cs n kind i → IsFirstAt cs n i
 first_ready [] n i kind ready = ready
 first_ready (x ∷ cs) n zero kind ready = ready.0

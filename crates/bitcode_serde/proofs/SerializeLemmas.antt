@@ -76,9 +76,6 @@ of_shape_all root (u ∷ w) cs h k = of_shape_all root w (put u cs) (of_shape_pu
 
 -- ---- refusals
 
-pub for_memory : (w : Writer) (tree : ShapeTree) (n : ℕ) (faults : List Reason) (reason : Reason) → reason ≡ OutOfMemory → RefusesAt w tree n faults reason
-for_memory w tree n faults reason e root of_shape part = inl e
-
 -- the use that was refused is one of the tree
 pub refuses_use : (w : Writer) (tree : ShapeTree) (n : ℕ) (faults : List Reason) (reason : Reason) (q : Place) (kind : Kind)
     → ((root : ShapeTree) → AreOfShape root (written w) → HasKindFrom root [] q kind → reason ≡ OutOfMemory) → HasKindFrom tree (place_in w n) q kind

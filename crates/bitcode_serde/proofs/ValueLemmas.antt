@@ -15,7 +15,7 @@ use Rattle.bitcode_untyped.specs.Runs.{Runs}
 use Rattle.bitcode_untyped.specs.ShapeTree.{ShapeTree, ShapeTrees, no_trees, tree_and, unit_tree, never_tree, leaf_tree, seq_tree, map_tree, choice_tree, tree_at, greatest_index}
 use Rattle.bitcode_untyped.specs.PlacedColumns.{PlacedColumn}
 use Rattle.bitcode_untyped.specs.Walk.{Step, element, key, value, variant, Place, use_at, length_kind, index_kind, walk}
-use Rattle.bitcode_untyped.proofs.ReadLemmas.{many_none, many_push, many_stuck, one_datum_read, unit_read, never_read, leaf_read, seq_read, seq_stuck, choice_read, choice_stuck, one_pair_read, pair_read, pair_stuck_key, pair_stuck_value, map_read, map_stuck}
+use Rattle.bitcode_untyped.proofs.ReadLemmas.{many_push, many_stuck, one_datum_read, unit_read, never_read, seq_read, seq_stuck, choice_read, choice_stuck, one_pair_read, pair_read, pair_stuck_key, pair_stuck_value, map_read, map_stuck}
 use Rattle.bitcode_serde.specs.ReadColumns.{IsColumnReason}
 use Rattle.bitcode_serde.specs.Reading.{Hosts, Stands, NothingAt, NotSoMany, Leads, LeadsEach, LeadsTelling, AreSized}
 use Rattle.bitcode_serde.specs.Places.{step_of, IsPlace, places_from, places, place_at}
@@ -46,9 +46,6 @@ value_reason reason.NotOfTheShape h = h
 value_reason reason.NestedTooDeep h = tt
 value_reason reason.OutOfMemory h = tt
 value_reason reason.BadShape h = h
-
-pub refused_memory : (r : Reader) (place : ℕ) (N : Place → State → Type 0) (why : Reason) → why ≡ reason.OutOfMemory → IsRefusalOf r place N why
-refused_memory r place N why e = (subst IsValueReason (sym e) tt, λ other. absurd (other e))
 
 -- nothing is there where no entry is to be taken
 pub refused_entry : (r : Reader) (place : ℕ) (kind : Kind) (N : Place → State → Type 0) (why : Reason)
@@ -101,12 +98,6 @@ told_at old new place kind d Told leads p at a s =
       subst (λ q. TakesTelling kind d Told q a l.0) at.1 (record { takes = l.1; open_at = l.3; told = l.4; entry = l.5 }),
     )
 
-pub leaf_told : (old new : Reader) (place : ℕ) (kind : Kind) (d : Datum) (Told : List Datum → Type 0)
-    → LeadsTelling old (place_at (places old.places.below.items) place) kind d new Told → ReadsAt (leaf_tree kind any_number) place old d new
-leaf_told old new place kind d Told leads p at a s =
-    let l = told_at old new place kind d Told leads p at a s in
-    (l.0, l.1, leaf_read kind any_number p a d l.0 (l.2.entry, tt) l.2.takes)
-
 -- ---- entries that are taken at once
 
 leaf_walks : (kind : Kind) (p : Place) (ds : List Datum) → flat_map (walk (leaf_tree kind any_number) p) ds ≡ map (use_at p kind) ds
@@ -134,9 +125,6 @@ leaves_refused r place count kind why h = (
 )
 
 -- ---- one after another
-
-pub none_yet : (s : ShapeTree) (place : ℕ) (r : Reader) → ReadsListAt s place r 0 [] r
-none_yet s place r p at a st = (a, st, many_none (IsReadable s) (walk s p) a)
 
 pub one_more : (s : ShapeTree) (place : ℕ) (old mid new : Reader) (i : ℕ) (ds : List Datum) (d : Datum) → Continues old mid
     → ReadsListAt s place old i ds mid → ReadsAt s place mid d new → ReadsListAt s place old (i + 1) (ds ++ d ∷ []) new
@@ -312,9 +300,6 @@ ReadsPairsAt k v keys values old count ds new =
     → (b : State) × Stands new b × ReadsPairs k v p a count ds b
 
 -- ---- pairs
-
-pub no_pairs : (k v : ShapeTree) (keys values : ℕ) (r : Reader) → ReadsPairsAt k v keys values r 0 [] r
-no_pairs k v keys values r p at_key at_value a st = (a, st, many_none _ _ a)
 
 module _ (k v : ShapeTree) (keys values : ℕ) (old mid : Reader) (i : ℕ) (ds : List Datum) (c : Continues old mid)
     (many : ReadsPairsAt k v keys values old i ds mid) where

@@ -61,12 +61,6 @@ Under p q = (r : Place) × (q ≡ r ++ p)
 abbrev pub Apart : Place → Place → Type 0
 Apart p q = (r : Place) → q ≡ r ++ p → ⊥
 
-pub apart_step : (s : Step) (p q : Place) → Apart p q → Apart (s ∷ p) q
-apart_step s p q h r e = h (r ++ s ∷ []) (e ∙ sym (append_assoc r (s ∷ []) p))
-
-pub apart_not_same : (p q : Place) → Apart p q → q ≡ p → ⊥
-apart_not_same p q h e = h [] e
-
 -- a place does not lie below a step from it
 pub apart_above : (s : Step) (p : Place) → Apart (s ∷ p) p
 apart_above s p r e =
