@@ -21,8 +21,8 @@ def in_its_crate(script, path, text):
     crate = path.split("/")[1]
     comment = "--" if path.endswith(".antt") else "//"
     own = re.sub(rf"^use {crate}::", "use crate::", text.lstrip("\n"), flags=re.M)
-    head = re.match("(// .*\n)*", own).group()
-    own = head.replace("// ", "//! ") + own[len(head):]
+    head = re.match("(//( .*)?\n)*", own).group()
+    own = re.sub("^// ?", "//! ", head, flags=re.M) + own[len(head):]
     return f"{comment} Written by scripts/tables/{script}.\n{own}"
 
 

@@ -1,9 +1,20 @@
 -- The words that types written by hand use in their ghost members, given out again in one place: docs/GUIDE.md.
--- The laws of structs, of numbers and of texts:
+-- The laws of structs and of the first numbers and texts:
 pub use Rattle.bitcode_shapes.specs.LawfulStructs.{struct_lawful, struct_makeable, u8_lawful, u8_makeable, i8_lawful, i8_makeable, u32_lawful, u32_makeable, str_lawful, str_makeable}
 pub use Rattle.bitcode_shapes.specs.LawfulInts.{bool_lawful, bool_makeable, int_lawful, int_makeable}
 pub use Rattle.bitcode_shapes.specs.LawfulEmpty.{unit_lawful, unit_makeable}
 pub use Rattle.bitcode_shapes.specs.LawfulTexts.{text_lawful, text_makeable}
+-- of the other integers, chars, texts, sequences, pointers and UUIDs; that what begins with what begins with a text begins
+-- with that text; and that a reason not other than want of memory is want of memory:
+pub use Rattle.bitcode.specs.Laws.{u16_lawful, u16_makeable, u64_lawful, u64_makeable, u128_lawful, u128_makeable, usize_lawful, usize_makeable, i16_lawful, i16_makeable, i32_lawful, i32_makeable, i64_lawful, i64_makeable, i128_lawful, i128_makeable, isize_lawful, isize_makeable, char_lawful, non_zero_u8_lawful, non_zero_u8_makeable, non_zero_u16_lawful, non_zero_u16_makeable, non_zero_u32_lawful, non_zero_u32_makeable, non_zero_u64_lawful, non_zero_u64_makeable, non_zero_u128_lawful, non_zero_u128_makeable, non_zero_usize_lawful, non_zero_usize_makeable, non_zero_i8_lawful, non_zero_i8_makeable, non_zero_i16_lawful, non_zero_i16_makeable, non_zero_i32_lawful, non_zero_i32_makeable, non_zero_i64_lawful, non_zero_i64_makeable, non_zero_i128_lawful, non_zero_i128_makeable, non_zero_isize_lawful, non_zero_isize_makeable, string_lawful, string_makeable, boxed_str_lawful, boxed_str_makeable, rc_str_lawful, rc_str_makeable, slice_lawful, boxed_slice_lawful, boxed_slice_makeable, rc_slice_lawful, rc_slice_makeable, vec_deque_lawful, vec_deque_makeable, linked_list_lawful, linked_list_makeable, binary_heap_lawful, binary_heap_makeable, box_lawful, box_makeable, rc_lawful, rc_makeable, uuid_lawful, uuid_makeable, begins_behind, want_of_memory}
+-- of containers and texts with a limit, of durations, of checked numbers, and of arrays:
+pub use Rattle.bitcode_shapes.specs.FixedCapacity.{array_vec_lawful, array_vec_makeable, array_string_lawful, array_string_makeable}
+pub use Rattle.bitcode_shapes.specs.LawfulDurations.{duration_lawful, duration_makeable}
+pub use Rattle.bitcode_shapes.specs.LawfulChecked.{checked_lawful, checked_makeable, unsigned_nonzero_makeable, signed_nonzero_makeable, char_makeable}
+pub use Rattle.bitcode_shapes.specs.Arrays.{array_lawful, array_makeable}
+-- of sets and maps:
+pub use Rattle.bitcode_shapes.specs.LawfulSets.{ordered_set_lawful, ordered_set_makeable, hashed_set_lawful, hashed_set_makeable}
+pub use Rattle.bitcode_shapes.specs.LawfulMaps.{ordered_map_lawful, ordered_map_makeable, hashed_map_lawful, hashed_map_makeable}
 -- of types that stand for others, and of choices:
 pub use Rattle.bitcode_shapes.specs.LawfulImages.{image_lawful, image_makeable}
 pub use Rattle.bitcode_shapes.specs.LawfulChoices.{option_lawful, option_makeable, result_lawful, result_makeable, choice_lawful, choice_makeable, first_lawful, first_makeable, last_lawful, last_makeable}

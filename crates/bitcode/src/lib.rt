@@ -1,3 +1,4 @@
+// Written by scripts/tables/names.
 //! A columnar, bit-packing serializer: the names of the crates below, given out again.
 //!
 //! `encode` writes a value as few bytes, and `decode` reads it back or refuses the input:
@@ -71,7 +72,9 @@ pub use bitcode_derive::derive::Encode;
 pub use bitcode_derive::derive::HasDecoder;
 pub use bitcode_derive::derive::HasEncoder;
 pub use bitcode_derive::whole::decode;
+pub use bitcode_derive::whole::decode_front;
 pub use bitcode_derive::whole::encode;
+pub use bitcode_derive::whole::encode_into;
 pub use bitcode_derive::whole::invalid_enum_variant;
 pub use bitcode_parts::arrays::ArrayDecoder;
 pub use bitcode_parts::arrays::ArrayEncoder;
@@ -148,6 +151,6 @@ pub mod laws {
         short_text,
     };
     pub use bitcode_untyped::laws::{
-        columns_decide, every_shape, one_value_of_a_datum, spelled_data,
+        columns_decide, every_shape, faults_tell, one_value_of_a_datum, spelled_data,
     };
 }

@@ -95,7 +95,7 @@ pub trait Encoder<T: Shaped>: HoldsColumns {
     /// Joins the columns of a value to those so far. Room for it was reserved.
     ///
     /// Want of memory inside the value is `out of memory`, and `length overflow` comes only where a number of
-    /// arrays times their size passes 18446744073709551615.
+    /// arrays times their size is over 18446744073709551615.
     fn encode(&mut self, t: &T) -> Result<(), Error>
         requires { 0 < Self.room self.old }
         ensures joined { OnOk result (JoinsListing T.lists T.shape t.now (Self.columns self.old) (Self.columns self.new)) }

@@ -9,10 +9,22 @@ ghost use Rattle.bitcode_columns.specs.Reading.{Reads, IsEndOf, Names, ints_faul
 
 use bitcode_columns::error::{Error, Reason};
 use bitcode_columns::fast::CowSlice;
+use bitcode_columns::ints::Byte;
+use bitcode_columns::pack::pack_bytes;
 use std::alloc::Global;
 
 mod signed;
 mod unsigned;
+
+// Appends the column of integers of one byte, which is a byte column: `pack_ints` would copy them first.
+#[tactic(auto, unfolding(bitcode_columns::specs::IntColumn::int_text))]
+fn pack_each_byte<T: Byte>(ints: &mut [T], out: &mut Vec<u8>) -> Result<(), Error>
+    ensures written { OnOk result (out.new.items ≡ out.old.items ++ int_text 1 (map T.number ints.old)) }
+    ensures unchanged { OnErr result (out.new.items ≡ out.old.items) }
+    ensures reason { IfErr result (λ e. e.reason ≡ Reason.OutOfMemory) }
+{
+    pack_bytes(ints, out)
+}
 
 /// An integer with a column: what its coders ask of it.
 ///

@@ -7,7 +7,7 @@ use Rattle.std.proofs.Math.Nat.{div-div-eq-div-mul, pow-suc, pow-le-pow_right}
 use Rattle.std.proofs.lemmas.Grind.{div_ceil_times}
 use Rattle.std.proofs.Math.Numerals.{add-one}
 use Rattle.std.proofs.Math.Nat.{add-zero}
-use Rattle.std.proofs.lemmas.List.{at_drop_more, get_or-map, length-map, map_push, append-nil, length-take, take-map, drop-map, take_min, drop_min, drop-drop}
+use Rattle.std.proofs.lemmas.List.{at_drop_more, get_or-map, length-map, map_push, append-nil, length-take, take-map, drop-map, drop-drop}
 use Rattle.std.proofs.lemmas.List.Elements.{All-take, All-drop, All-map}
 use Rattle.std.proofs.lemmas.List.FromFn.{map-range_with_len_more, length-map-range_with_len, get_or-map-range_with_len}
 use Rattle.bitcode_columns.proofs.DigitLemmas.{number_with_digits_below}
@@ -81,17 +81,15 @@ number_with_digits_is_byte base digits few h =
     let some : 0 < radix base = omega (arith, radix_at_least base) in
     omega (arith, number_with_digits_below (radix base) digits h, pow-le-pow_right some few, digits_fit base)
 
--- a part of entries that are digits makes a byte
-pub part_is_byte : {X : Type 0} (number : X → ℕ) (base : Base) (entries rest front : List X) (start count few : ℕ)
-    → All (λ entry. number entry < radix base) entries → rest ≡ drop start entries → front ≡ take count rest
-    → count ≡ min few (length rest) → few ≡ digits_in_byte base
-    → number_with_digits (radix base) (map number front) < 256
-part_is_byte {X} number base entries rest front start count few digits is_rest is_front is_count is_few =
+-- the first entries that are digits make a byte
+pub front_is_byte : {X : Type 0} (number : X → ℕ) (base : Base) (entries : List X) → All (λ entry. number entry < radix base) entries
+    → number_with_digits (radix base) (map number (take (digits_in_byte base) entries)) < 256
+front_is_byte {X} number base entries digits =
     let IsDigit : X → Type 0 = λ entry. number entry < radix base in
     let IsBelow : ℕ → Type 0 = λ d. d < radix base in
-    let of_rest : All IsDigit rest = rw is_rest (All-drop IsDigit start entries digits) in
-    let of_front : All IsDigit front = rw is_front (All-take IsDigit count rest of_rest) in
-    let size : length (map number front) ≤ digits_in_byte base = omega (arith, length-map front number, ap length is_front, length-take count rest) in
+    let front = take (digits_in_byte base) entries in
+    let of_front : All IsDigit front = All-take IsDigit (digits_in_byte base) entries digits in
+    let size : length (map number front) ≤ digits_in_byte base = omega (arith, length-map front number, length-take (digits_in_byte base) entries) in
     number_with_digits_is_byte base (map number front) size (All-map IsBelow number front of_front)
 
 -- the entries from a byte on
@@ -114,29 +112,26 @@ packed_so_far-whole number base entries bytes few is_all is_few =
     (is_all ∙ ap (div_ceil (length entries)) is_few ∙ ap (λ n. div_ceil n (digits_in_byte base)) (sym (length-map entries number)))
 
 -- one byte more: its entries are the front of the rest
-module _ {X : Type 0} (number : X → ℕ) (base : Base) (entries rest : List X) (byte count few : ℕ)
-    (is_rest : rest ≡ drop (byte * digits_in_byte base) entries) (is_count : count ≡ min few (length rest)) (is_few : few ≡ digits_in_byte base) where
-  pub rest-next : drop count rest ≡ drop ((byte + 1) * digits_in_byte base) entries
+module _ {X : Type 0} (number : X → ℕ) (base : Base) (entries rest : List X) (byte : ℕ) (is_rest : rest ≡ drop (byte * digits_in_byte base) entries) where
+  pub rest-next : drop (digits_in_byte base) rest ≡ drop ((byte + 1) * digits_in_byte base) entries
   rest-next =
       let next : byte * digits_in_byte base + digits_in_byte base ≡ (byte + 1) * digits_in_byte base = omega arith in
-      ap (λ n. drop n rest) is_count ∙ drop_min few rest ∙ ap (λ n. drop n rest) is_few ∙ ap (drop (digits_in_byte base)) is_rest
-      ∙ drop-drop (digits_in_byte base) (byte * digits_in_byte base) entries ∙ ap (λ n. drop n entries) next
+      ap (drop (digits_in_byte base)) is_rest ∙ drop-drop (digits_in_byte base) (byte * digits_in_byte base) entries ∙ ap (λ n. drop n entries) next
 
-  pub number_of_front : number_with_digits (radix base) (map number (take count rest)) ≡ number_of_chunk base (map number entries) byte
+  number_of_front : number_with_digits (radix base) (map number (take (digits_in_byte base) rest)) ≡ number_of_chunk base (map number entries) byte
   unfolding number_of_chunk
   number_of_front =
-      ap (λ xs. number_with_digits (radix base) (map number xs))
-      (ap (λ n. take n rest) is_count ∙ take_min few rest ∙ ap (λ n. take n rest) is_few ∙ ap (take (digits_in_byte base)) is_rest)
+      ap (λ xs. number_with_digits (radix base) (map number (take (digits_in_byte base) xs))) is_rest
       ∙ ap (number_with_digits (radix base)) (sym (take-map number (digits_in_byte base) (drop (byte * digits_in_byte base) entries))
       ∙ ap (take (digits_in_byte base)) (sym (drop-map number (byte * digits_in_byte base) entries)))
 
-  pub packed_push : (next : ℕ) (front : List X) (before now : List ℕ) → front ≡ take count rest → next ≡ number_with_digits (radix base) (map number front)
+  pub packed_push : (next : ℕ) (before now : List ℕ) → next ≡ number_with_digits (radix base) (map number (take (digits_in_byte base) rest))
       → now ≡ before ++ packed_so_far base (map number entries) byte
       → now ++ next ∷ [] ≡ before ++ packed_so_far base (map number entries) (byte + 1)
   unfolding packed_so_far
-  packed_push next front before now is_front is so_far =
+  packed_push next before now is so_far =
       let chunk = number_of_chunk base (map number entries) in
-      let here : next ≡ chunk byte = is ∙ ap (λ xs. number_with_digits (radix base) (map number xs)) is_front ∙ number_of_front in
+      let here : next ≡ chunk byte = is ∙ number_of_front in
       let more = map-range_with_len_more chunk 0 byte byte (omega arith) in
       rw (so_far, here, more, append_assoc)
 

@@ -1,5 +1,7 @@
--- The text of each reason, as an error prints it.
+-- The text of each reason, as an error prints it, and the kind of the I/O error that it becomes.
 use Rattle.std.specs.Prelude.{ℕ, List, codes}
+use Rattle.std.specs.declared.io.ErrorKind.{ErrorKind}
+use Rattle.std.specs.declared.io.ErrorKind.TheVariants.{UnexpectedEof, InvalidData, OutOfMemory as NoMemory}
 use Rattle.bitcode_columns.specs.declared.error.Reason.{Reason}
 use Rattle.bitcode_columns.specs.declared.error.Reason.TheVariants.{Eof, ExpectedEof, InvalidPacking, LengthOverflow, HugeLength, InvalidUtf8, InvalidBitPattern, InvalidArrayVec, InvalidArrayString, InvalidEnumVariant, InvalidOption, InvalidChar, TooManyZeroSizedTypes, TooManyVariants, NotOfTheShape, NestedTooDeep, OutOfMemory, BadShape}
 
@@ -22,3 +24,8 @@ reason_text NotOfTheShape = codes "value is not of the shape"
 reason_text NestedTooDeep = codes "nested too deep"
 reason_text OutOfMemory = codes "out of memory"
 reason_text BadShape = codes "bad shape"
+
+abbrev pub io_kind : Reason → ErrorKind
+io_kind Eof = UnexpectedEof
+io_kind OutOfMemory = NoMemory
+io_kind _ = InvalidData

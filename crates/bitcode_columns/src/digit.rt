@@ -1,5 +1,5 @@
 //! Entries that can stand as the digits of bytes.
-ghost use Rattle.std.specs.Prelude.{◌≡◌, ℕ, ◌<◌};
+ghost use Rattle.std.specs.Prelude.{◌≡◌, ℕ, ◌+◌, ◌<◌, ◌≤◌, ◌++◌, length, map, vec_len, vec_capacity};
 ghost use Rattle.bitcode_columns.specs.Ints.{residue, bool_digit};
 
 use crate::ints::Byte;
@@ -20,6 +20,11 @@ pub trait Digit: Copy {
     fn from_digit(digit: u8) -> Self
         requires { digit < limit }
         ensures { digit_of result ≡ digit };
+
+    /// Appends the entries, each in a byte of its own, in room that is there.
+    fn push_whole(entries: &[Self], out: &mut Vec<u8>)
+        requires { vec_len out.old + length entries.now ≤ vec_capacity out.old }
+        ensures { out.new.items ≡ out.old.items ++ map digit_of entries.now };
 }
 
 impl<T: Byte> Digit for T {
@@ -34,6 +39,10 @@ impl<T: Byte> Digit for T {
     fn from_digit(digit: u8) -> T {
         T::from_byte(digit)
     }
+
+    fn push_whole(entries: &[T], out: &mut Vec<u8>) {
+        T::push_bytes(entries, out);
+    }
 }
 
 impl Digit for bool {
@@ -47,5 +56,11 @@ impl Digit for bool {
 
     fn from_digit(digit: u8) -> bool {
         digit == 1
+    }
+
+    fn push_whole(entries: &[bool], out: &mut Vec<u8>) {
+        for entry in entries {
+            out.push_reserved(u8::from(*entry));
+        }
     }
 }

@@ -1,5 +1,5 @@
 //! Small entries as the digits of bytes.
-ghost use Rattle.std.specs.Prelude.{◌≡◌, ◌+◌, ◌*◌, ◌/◌, ◌%◌, ◌<◌, ◌≤◌, ◌++◌, length, map, vec_len, vec_capacity, All, ◌⊎◌, IsOk, IfOk, OnOk, IfErr, OnErr};
+ghost use Rattle.std.specs.Prelude.{◌≡◌, ◌+◌, ◌*◌, ◌/◌, ◌%◌, ◌<◌, ◌≤◌, ◌++◌, length, map, take, drop, min, vec_len, vec_capacity, All, ◌⊎◌, IsOk, IfOk, OnOk, IfErr, OnErr};
 ghost use Rattle.std.specs.List.{range_with_len};
 ghost use Rattle.std.specs.Int.{div_ceil};
 ghost use Rattle.bitcode_columns.specs.Digits.{radix, digits_in_byte, digit, number_with_digits, SpellsDigits, digits_text};
@@ -12,6 +12,7 @@ use crate::pack::Base;
 use std::alloc::{AllocError, Global};
 
 // The number with these digits, the lowest first.
+#[inline(always)]
 fn number_with_digits<T: Digit>(base: Base, digits: &[T]) -> u8
     requires { number_with_digits (radix base) (map T.digit_of digits.now) < 256 }
     ensures { result ≡ number_with_digits (radix base) (map T.digit_of digits.now) }
@@ -24,28 +25,49 @@ fn number_with_digits<T: Digit>(base: Base, digits: &[T]) -> u8
     number as u8
 }
 
+// The number whose digits are the first entries, as many as the base has in a byte, and the entries behind them.
+#[inline(always)]
+fn next_byte<T: Digit>(base: Base, entries: &[T]) -> (u8, &[T])
+    requires { All (λ entry. T.digit_of entry < radix base) entries.now }
+    ensures number { result.0 ≡ number_with_digits (radix base) (map T.digit_of (take (digits_in_byte base) entries.now)) }
+    ensures rest { result.1.now ≡ drop (digits_in_byte base) entries.now }
+{
+    let in_byte = base.digits_in_byte();
+    if entries.len() < in_byte {
+        return (number_with_digits(base, entries), &[]);
+    }
+    let (digits, rest) = entries.split_at(in_byte);
+    (number_with_digits(base, digits), rest)
+}
+
 // Appends the entries, so many of them to a byte as the base has digits in it.
+#[inline(always)]
+fn push_digits<T: Digit>(base: Base, entries: &[T], out: &mut Vec<u8>)
+    requires room { vec_len out.old + div_ceil (length entries.now) (digits_in_byte base) ≤ vec_capacity out.old }
+    requires digits { All (λ entry. T.digit_of entry < radix base) entries.now }
+    ensures { out.new.items ≡ out.old.items ++ digits_text base (map T.digit_of entries.now) }
+{
+    let mut rest = entries;
+    for _byte in 0..entries.len().div_ceil(base.digits_in_byte()) {
+        let (number, others) = next_byte(base, rest);
+        out.push_reserved(number);
+        rest = others;
+    }
+}
+
+// The same, by a loop for each base: the compiler then knows the radix, and divides and multiplies by no other number.
 fn push_packed<T: Digit>(base: Base, entries: &[T], out: &mut Vec<u8>)
     requires room { vec_len out.old + div_ceil (length entries.now) (digits_in_byte base) ≤ vec_capacity out.old }
     requires digits { All (λ entry. T.digit_of entry < radix base) entries.now }
     ensures { out.new.items ≡ out.old.items ++ digits_text base (map T.digit_of entries.now) }
 {
-    let in_byte = base.digits_in_byte();
-    let mut rest = entries;
-    for _byte in 0..entries.len().div_ceil(in_byte) {
-        let (digits, others) = rest.split_at(in_byte.min(rest.len()));
-        out.push_reserved(number_with_digits(base, digits));
-        rest = others;
-    }
-}
-
-// Appends the entries, each in a byte of its own.
-fn push_whole<T: Digit>(entries: &[T], out: &mut Vec<u8>)
-    requires { vec_len out.old + length entries.now ≤ vec_capacity out.old }
-    ensures { out.new.items ≡ out.old.items ++ map T.digit_of entries.now }
-{
-    for entry in entries {
-        out.push_reserved(entry.to_digit());
+    match base {
+        Base::Whole => push_digits(Base::Whole, entries, out),
+        Base::Sixteen => push_digits(Base::Sixteen, entries, out),
+        Base::Six => push_digits(Base::Six, entries, out),
+        Base::Four => push_digits(Base::Four, entries, out),
+        Base::Three => push_digits(Base::Three, entries, out),
+        Base::Two => push_digits(Base::Two, entries, out),
     }
 }
 
@@ -68,7 +90,7 @@ pub(crate) fn pack_digits<T: Digit>(
     out.reserve(packed.saturating_add(front.len()))?;
     out.extend_from_slice(front).unwrap();
     if base == Base::Whole {
-        push_whole(entries, out);
+        T::push_whole(entries, out);
     } else {
         push_packed(base, entries, out);
     }
@@ -76,6 +98,7 @@ pub(crate) fn pack_digits<T: Digit>(
 }
 
 // Appends the lowest digits of a byte.
+#[inline(always)]
 fn push_digits_of<T: Digit>(base: Base, byte: u8, count: usize, out: &mut Vec<T>)
     requires room { vec_len out.old + count ≤ vec_capacity out.old }
     requires in_limit { radix base ≤ T.limit }
@@ -90,8 +113,24 @@ fn push_digits_of<T: Digit>(base: Base, byte: u8, count: usize, out: &mut Vec<T>
     }
 }
 
+// Appends the lowest digits of a byte, as many as there are in one, or as are wanted.
+#[inline(always)]
+fn push_byte<T: Digit>(base: Base, byte: u8, wanted: usize, out: &mut Vec<T>)
+    requires room { vec_len out.old + wanted ≤ vec_capacity out.old }
+    requires in_limit { radix base ≤ T.limit }
+    ensures items { map T.digit_of out.new.items ≡ map T.digit_of out.old.items ++ map (digit (radix base) byte) (range_with_len 0 (min (digits_in_byte base) wanted)) }
+    ensures capacity { vec_capacity out.new ≡ vec_capacity out.old }
+{
+    if wanted < base.digits_in_byte() {
+        push_digits_of(base, byte, wanted, out);
+    } else {
+        push_digits_of(base, byte, base.digits_in_byte(), out);
+    }
+}
+
 // So many entries, from bytes that hold them and no more.
-fn unpacked<T: Digit>(
+#[inline(always)]
+fn unpacked_digits<T: Digit>(
     alloc: Global,
     base: Base,
     packed: &[u8],
@@ -103,11 +142,10 @@ fn unpacked<T: Digit>(
     ensures spelled { IfOk result (λ entries. SpellsDigits base packed.now (map T.digit_of entries.items)) }
     ensures empty { count ≡ 0 → IsOk result }
 {
-    let in_byte = base.digits_in_byte();
     let mut entries = Vec::with_capacity(alloc, count)?;
     for byte in packed {
         let left = count - entries.len();
-        push_digits_of(base, *byte, in_byte.min(left), &mut entries);
+        push_byte(base, *byte, left, &mut entries);
     }
     Ok(entries)
 }
@@ -128,5 +166,14 @@ pub(crate) fn unpack_digits<T: Digit>(
     ensures empty { count ≡ 0 → IsOk result }
 {
     let packed = consume_bytes(input, count.div_ceil(base.digits_in_byte()))?;
-    Ok(unpacked(alloc, base, packed, count)?)
+    // A loop for each base: the compiler then knows the radix, and divides by no other number.
+    let entries = match base {
+        Base::Whole => unpacked_digits(alloc, Base::Whole, packed, count),
+        Base::Sixteen => unpacked_digits(alloc, Base::Sixteen, packed, count),
+        Base::Six => unpacked_digits(alloc, Base::Six, packed, count),
+        Base::Four => unpacked_digits(alloc, Base::Four, packed, count),
+        Base::Three => unpacked_digits(alloc, Base::Three, packed, count),
+        Base::Two => unpacked_digits(alloc, Base::Two, packed, count),
+    };
+    Ok(entries?)
 }

@@ -1,9 +1,10 @@
 //! Why a call refuses.
 ghost use Rattle.std.specs.Prelude.{◌≡◌, ◌++◌, Some, codes};
-ghost use Rattle.bitcode_columns.specs.Error.{reason_text};
+ghost use Rattle.std.specs.IoError.{error_kind};
+ghost use Rattle.bitcode_columns.specs.Error.{reason_text, io_kind};
 
 use std::alloc::{AllocError, AllocFailed};
-use std::fmt;
+use std::{fmt, io};
 
 /// Why a call refused. Errors compare by it.
 #[derive(Clone, Copy, Debug, PartialEq, Eq)]
@@ -14,7 +15,7 @@ pub enum Reason {
     ExpectedEof,
     /// A column begins with a tag that no column has, or an entry is none of its column's variants.
     InvalidPacking,
-    /// A sum or product of lengths passes 18446744073709551615.
+    /// A sum or product of lengths is over 18446744073709551615.
     LengthOverflow,
     /// The lengths of one column sum to 2251799813685247 or more.
     HugeLength,
@@ -70,6 +71,18 @@ impl Reason {
             Reason::NestedTooDeep => "nested too deep",
             Reason::OutOfMemory => "out of memory",
             Reason::BadShape => "bad shape",
+        }
+    }
+
+    /// The kind of the I/O error that a refusal becomes: `UnexpectedEof` of `EOF`, `OutOfMemory` of `out of memory`, and
+    /// `InvalidData` of each other reason.
+    pub fn io_kind(self) -> io::ErrorKind
+        ensures { result ≡ io_kind self }
+    {
+        match self {
+            Reason::Eof => io::ErrorKind::UnexpectedEof,
+            Reason::OutOfMemory => io::ErrorKind::OutOfMemory,
+            _ => io::ErrorKind::InvalidData,
         }
     }
 }
@@ -132,5 +145,14 @@ impl<T: Drop> From<AllocFailed<T>> for Error {
         Error {
             reason: Reason::OutOfMemory,
         }
+    }
+}
+
+/// An I/O error with the reason's text, so that `?` passes a refusal on in a function that reads or writes files.
+impl From<Error> for io::Error {
+    ghost from_gives = { λ e io. error_kind io ≡ io_kind e.reason };
+
+    fn from(error: Error) -> io::Error {
+        io::Error::new(error.reason.io_kind(), error.reason.text())
     }
 }

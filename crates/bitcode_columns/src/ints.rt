@@ -147,6 +147,11 @@ pub trait Byte: SizedInt {
     fn from_byte(byte: u8) -> Self
         ensures { Self.number result ≡ number_of 1 Self.signed byte };
 
+    /// Appends the bytes of the numbers, in room that is there.
+    fn push_bytes(numbers: &[Self], out: &mut Vec<u8>)
+        requires { vec_len out.old + length numbers.now ≤ vec_capacity out.old }
+        ensures { out.new.items ≡ out.old.items ++ map (λ n. residue 1 (Self.number n)) numbers.now };
+
     ghost byte_law: { Self.width ≡ 1 };
 }
 

@@ -15,7 +15,7 @@ append_nil : (xs : List ℕ) → xs ≡ xs ++ []
 append_nil [] = refl
 append_nil (x ∷ xs) = ap (λ l. x ∷ l) (append_nil xs)
 
-cons_once : (d e : Datum) → d ∷ [] ≡ e ∷ [] → d ≡ e
+pub cons_once : (d e : Datum) → d ∷ [] ≡ e ∷ [] → d ≡ e
 cons_once d e h = cc
 
 pub spells_at_most_one : (shape : Shape) (bytes : List ℕ) → SpellsAtMostOne shape bytes

@@ -1,5 +1,5 @@
 -- What an encoder that began without entries holds after one value.
-use Rattle.std.proofs.Common.{◌≡◌, ℕ, List, [], ◌∷◌, refl, sym, ◌∙◌, ap, subst, arith, inl, inr}
+use Rattle.std.proofs.Common.{◌≡◌, ℕ, List, [], ◌∷◌, ◌++◌, refl, sym, ◌∙◌, ap, subst, arith, inl, inr}
 use Rattle.bitcode_columns.specs.declared.error.Reason.{Reason}
 use Rattle.std.proofs.lemmas.List.Elements.{All-cons, All-nil}
 use Rattle.bitcode_shapes.specs.Datum.{Datum}
@@ -10,6 +10,7 @@ use Rattle.bitcode_coder.specs.Spelling.{columns_bytes, texts_of}
 use Rattle.bitcode_coder.specs.Coder.{written_columns, JoinsListing, OverflowsWithListing, SurelyOverflows, IsWritingRefusal}
 use Rattle.bitcode_coder.proofs.TranspositionLemmas.{columns_of-append, columns_of-none, plain-beside, CountsFit-plain, columns_bytes-plain, flat-columns_of, texts_of-flat}
 use Rattle.bitcode_derive.specs.Whole.{columns_of_one, IsEncodingOf, HasLongListing}
+use Rattle.bitcode_derive.specs.Front.{IsWrittenBehind}
 
 -- columns without entries have no arrays
 pub CountsFit-emptied : (a : Columns) → CountsFit (emptied a)
@@ -71,3 +72,9 @@ module _ {T : Type 0} (lists : T → Datum → Type 0) (shape : Shape) (t : T) (
           overflows = λ fits. surely p (d ∷ []) (All-cons (IsOf shape) d [] of_shape (All-nil (IsOf shape))) refl (CountsFit-to_joined d fits);
         },
       )
+
+-- what was written behind nothing is all there is
+pub written_alone : {T : Type 0} (lists : T → Datum → Type 0) (shape : Shape) (t : T) (before after : List ℕ) → before ≡ [] → IsWrittenBehind lists shape t before after
+    → IsEncodingOf lists shape t after
+written_alone lists shape t before after none w =
+    subst (IsEncodingOf lists shape t) (sym (w.behind ∙ ap (λ front. front ++ w.encoding) none)) w.written

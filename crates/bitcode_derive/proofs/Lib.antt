@@ -4,3 +4,4 @@ pub mod RoundTripLemmas
 pub mod ArrayCountLemmas
 pub mod BorrowedTextLemmas
 pub mod ShortTextLemmas
+pub mod FrontLemmas

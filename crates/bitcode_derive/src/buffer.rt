@@ -45,7 +45,7 @@ where
 
     /// Writes a value: bytes that `whole::encode` may give for it.
     ///
-    /// Errors: `length overflow` where some number of arrays in the value times their size passes
+    /// Errors: `length overflow` where some number of arrays in the value times their size is over
     /// 18446744073709551615, and `out of memory` where a growth was refused.
     ///
     /// ```

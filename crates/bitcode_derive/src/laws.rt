@@ -62,10 +62,10 @@ pub fn one_value<'a, T: Made>(bytes: &'a [u8], t: &T, u: &T)
 }
 
 /// Want of memory aside, `encode` answers `length overflow` exactly where in a listing of the value, and so in each, a
-/// number of arrays times their size passes 18446744073709551615.
+/// number of arrays times their size is over 18446744073709551615.
 ///
 /// All listings of such a value have the same numbers of arrays: `SameArrays` promises it, which every type of this library
-/// is. So bytes are written only where in no listing such a product passes, and `length overflow` is answered only where in
+/// is. So bytes are written only where in no listing such a product overflows, and `length overflow` is answered only where in
 /// each listing one does.
 ///
 /// ```

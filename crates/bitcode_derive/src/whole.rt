@@ -1,7 +1,9 @@
-//! Whole calls: one value to bytes, and all bytes of an input to a value.
-ghost use Rattle.std.specs.Prelude.{◌≡◌, ◌≢◌, IsErrOf, IfOk, IfErr};
+//! Whole calls: one value to bytes, and all bytes of an input, or a front of them, to a value.
+ghost use Rattle.std.specs.Prelude.{◌≡◌, ◌≢◌, ℕ, List, IsErrOf, IfOk, OnOk, IfErr, OnErr};
+ghost use Rattle.bitcode_columns.specs.Reading.{IsEndOf};
 ghost use Rattle.bitcode_shapes.specs.Datum.{Datum};
-ghost use Rattle.bitcode_coder.specs.Coder.{IsWritingRefusal, IsReadingReason};
+ghost use Rattle.bitcode_coder.specs.Coder.{BeginsWith, IsWritingRefusal, IsReadingReason};
+ghost use Rattle.bitcode_derive.specs.Front.{IsWrittenBehind, BeginsWithDatum, IsDecodingOfFront, BeginsWithAtMostOne, IsBoundedByFront, NamesFrontFault};
 ghost use Rattle.bitcode_derive.specs.Whole.{IsEncodingOf, HasLongListing, IsDecodingOf, SpellsDatum, SpellsAtMostOne, IsBoundedByBytes, NamesWholeFault};
 
 use crate::derive::{HasDecoder, HasEncoder};
@@ -12,12 +14,42 @@ use bitcode_columns::refuse::err;
 use bitcode_shapes::shaped::{Made, Shaped};
 use std::alloc::Global;
 
+/// Writes a value behind the bytes that `out` holds, as `encode` would write it.
+///
+/// Several values so written are read again one by one, by `decode_front`.
+///
+/// Errors: `length overflow` where some number of arrays in the value times their size is over
+/// 18446744073709551615, and `out of memory` where a growth was refused. `out` then begins with what it held.
+///
+/// ```
+/// let mut out = Vec::new(alloc);
+/// encode_into(alloc, &true, &mut out)?;
+/// encode_into(alloc, &7u16, &mut out)?;   // [1, 7, 0]
+/// ```
+pub fn encode_into<T: HasEncoder + Shaped>(
+    alloc: Global,
+    t: &T,
+    out: &mut Vec<u8>,
+) -> Result<(), Error>
+where
+    T::Encoder: Buffer + Encoder<T> + Drop,
+    ensures written { OnOk result (IsWrittenBehind T.lists T.shape t.now out.old.items out.new.items) }
+    ensures begins { BeginsWith out.old.items out.new.items }
+    ensures refused { IfErr result (λ e. IsWritingRefusal e.reason (HasLongListing T.lists T.shape t.now)) }
+{
+    t.told();
+    let mut encoder = T::Encoder::new(alloc);
+    encoder.reserve(1)?;
+    encoder.encode(t)?;
+    encoder.collect_into(out)
+}
+
 /// Writes a value: the texts of its columns, joined.
 ///
 /// A value may have several such texts only where hashed containers or heaps are inside.
 /// The call keeps nothing.
 ///
-/// Errors: `length overflow` where some number of arrays in the value times their size passes
+/// Errors: `length overflow` where some number of arrays in the value times their size is over
 /// 18446744073709551615, and `out of memory` where a growth was refused.
 ///
 /// ```
@@ -30,11 +62,9 @@ where
     ensures written { IfOk result (λ bytes. IsEncodingOf T.lists T.shape t.now bytes.items) }
     ensures refused { IfErr result (λ e. IsWritingRefusal e.reason (HasLongListing T.lists T.shape t.now)) }
 {
-    t.told();
-    let mut encoder = T::Encoder::new(alloc);
-    encoder.reserve(1)?;
-    encoder.encode(t)?;
-    encoder.collect(alloc)
+    let mut bytes = Vec::new(alloc);
+    encode_into(alloc, t, &mut bytes)?;
+    Ok(bytes)
 }
 
 /// Reads the one value that all of the bytes spell.
@@ -67,6 +97,38 @@ where
     let mut decoder = T::Decoder::new(alloc);
     decoder.populate(&mut input, 1)?;
     expect_eof(input)?;
+    decoder.decode()
+}
+
+/// Reads the one value that a front of the input spells, and moves the input behind it.
+///
+/// All of the front is checked before the value is made.
+///
+/// Errors: one of the faults of the input, and `out of memory` where a growth was refused: for a column that takes
+/// memory, once all its bytes are there, or for a value that takes memory, once a front is known to spell it. The input is
+/// then an end part of what it was. A refusal for another cause than want of memory comes only where no front spells a value.
+///
+/// ```
+/// let mut input: &[u8] = &[1, 7, 0];
+/// let flag: bool = decode_front(alloc, &mut input)?;    // [7, 0] is left
+/// let number: u16 = decode_front(alloc, &mut input)?;   // nothing is left
+/// ```
+pub fn decode_front<'a, T: HasDecoder<'a> + Made + Drop>(
+    alloc: Global,
+    input: &mut &'a [u8],
+) -> Result<T, Error>
+where
+    T::Decoder: View<'a> + Decoder<'a, T> + Drop,
+    ensures found { IfOk result (λ t. IsDecodingOfFront T.makes T.shape input.old.now t input.new.now) }
+    ensures unambiguous { BeginsWithAtMostOne T.shape input.old.now }
+    ensures bounded { IsBoundedByFront T.shape input.old.now }
+    ensures reasons { IfErr result (λ e. IsReadingReason e.reason) }
+    ensures refused { IfErr result (λ e. e.reason ≢ Reason.OutOfMemory → (d : Datum) (rest : List ℕ) → BeginsWithDatum T.shape input.old.now d rest → ⊥) }
+    ensures exact { IfErr result (λ e. NamesFrontFault T.Decoder.faults T.Decoder.makes_free T.Decoder.shape e.reason input.old.now) }
+    ensures rest { OnErr result (IsEndOf input.old.now input.new.now) }
+{
+    let mut decoder = T::Decoder::new(alloc);
+    decoder.populate(input, 1)?;
     decoder.decode()
 }
 

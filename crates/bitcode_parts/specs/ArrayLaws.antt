@@ -26,7 +26,7 @@ length-joined_arrays IsElement size (d ∷ ds) each =
     length-append (elements_in d) (joined ds) ∙ grind (arith, one, more)
 
 module _ {Overflows : Type 0} (shape : Shape) (elements : Columns) (n : ℕ) where
-  -- where the number of arrays passes, or their elements do, so do the arrays
+  -- where the number of arrays overflows, or their elements do, so do the arrays
   pub arrays_overflow : (size count : ℕ) → (Overflows → SurelyOverflows shape elements (n * size))
       → (2 ^ 64 ≤ (count + n) * size) ⊎ Overflows → SurelyOverflows (array_shape size shape) (array_columns size count elements) n
   arrays_overflow zero count of_elements (inl h) ds each size fits = absurd (omega arith)

@@ -12,11 +12,7 @@ pub mod reader;
 pub mod serde;
 pub mod serialize;
 pub mod step;
-#[cfg(test)]
-mod tests;
 pub mod values;
 mod walk;
 pub mod writer;
-#[cfg(test)]
-mod writing_tests;
 pub mod written;

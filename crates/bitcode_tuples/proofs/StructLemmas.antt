@@ -60,7 +60,7 @@ module _ {F P Q : Type 0} (fields : F → P × Q) (x : F) {lists_p : P → Datum
       let joined = joins_pair lists_p lists_q s t (fields x) a b c d first second in
       record { datum = joined.datum; listing = joined.listing; joined = joined.joined; fits = joined.fits }
 
-  -- where the first field passes, whatever the second one lists, and where the second one does
+  -- where the first field overflows, whatever the second one lists, and where the second one does
   pub struct_overflows_first : (e : Datum) → lists_q (fields x).1 e → OverflowsWithListing lists_p s (fields x).0 a
       → OverflowsWithListing (λ y d. ListsPair lists_p lists_q (fields y) d) (pair_shape s t) x (two a b)
   struct_overflows_first e l h =

@@ -24,3 +24,6 @@ pub mod MismatchLemmas
 pub mod ContentLemmas
 pub mod ReadLemmas
 pub mod FollowedLemmas
+pub mod TypedLemmas
+pub mod ThereLemmas
+pub mod AgreementLemmas

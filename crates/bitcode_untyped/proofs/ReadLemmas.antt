@@ -36,9 +36,6 @@ runs_on (u ∷ v) w a b c r s = (r.0, r.1, runs_on v w r.0 b c r.2 s)
 -- ---- several, one after another
 
 module _ {A : Type 0} (P : A → Type 0) (uses : A → List Use) where
-  pub many_none : (a : State) → ReadsMany P uses a 0 [] a
-  many_none a = record { size = refl; each = tt; runs = refl }
-
   pub many_push : (a b c : State) (n : ℕ) (xs : List A) (x : A) → ReadsMany P uses a n xs b → ReadsOne P uses b x c
       → ReadsMany P uses a (n + 1) (xs ++ x ∷ []) c
   many_push a b c n xs x r h = record {
@@ -84,9 +81,6 @@ pub never_read : (p : Place) (a : State) → ReadsNoDatum never_tree p a
 never_read p a d b r = r.is.0
 
 module _ (k : Kind) (allowed : Allowed) (p : Place) (a : State) where
-  pub leaf_read : (d : Datum) (b : State) → IsOf (leaf_tree k allowed) d → Takes a (use_at p k d) b → ReadsDatum (leaf_tree k allowed) p a d b
-  leaf_read d b h t = record { is = (h, tt); runs = (b, t, refl) }
-
   pub leaf_stuck : ((d : Datum) (b : State) → Takes a (use_at p k d) b → ⊥) → ReadsNoDatum (leaf_tree k allowed) p a
   leaf_stuck stuck d b r = stuck d r.runs.0 r.runs.1
 

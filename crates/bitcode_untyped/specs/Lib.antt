@@ -8,6 +8,7 @@ pub mod Population
 pub mod Runs
 pub mod Machine
 pub mod Faults
+pub mod Cases
 pub mod Content
 pub mod Bounds
 pub mod Spelling

@@ -109,9 +109,17 @@ no_elements_text = refl
 
 -- ---- elements without a column: a length, whatever the limit on reading is
 
+fewer_units_text : datum_text (seq_tree unit_tree) (seq (replicate 65536 unit)) ≡ 255 ∷ 2 ∷ 0 ∷ 0 ∷ 1 ∷ 0 ∷ []
+unfolding length_bytes int_text byte_text tagged_text digits_text raw_text
+fewer_units_text = refl
+
 units_text : datum_text (seq_tree unit_tree) (seq (replicate 65537 unit)) ≡ 255 ∷ 2 ∷ 1 ∷ 0 ∷ 1 ∷ 0 ∷ []
 unfolding length_bytes int_text byte_text tagged_text digits_text raw_text
 units_text = refl
+
+lists_of_units_text : datum_text (seq_tree (seq_tree unit_tree)) (seq (seq [] ∷ seq (replicate 65537 unit) ∷ [])) ≡ 2 ∷ 0 ∷ 255 ∷ 2 ∷ 1 ∷ 0 ∷ 1 ∷ 0 ∷ []
+unfolding length_bytes int_text byte_text tagged_text digits_text raw_text
+lists_of_units_text = refl
 
 -- ---- references, followed at most so often: each depth of a value has columns of its own
 

@@ -97,6 +97,9 @@ no_third_variant_of_an_option h = h.2
 no_sixth_variant_of_two : IsOf (choice_tree (trees_of (unit_tree ∷ unit_tree ∷ []))) (choice 5 unit) → ⊥
 no_sixth_variant_of_two h = h.2
 
+nothing_of_no_variants : (d : Datum) → IsOf (choice_tree (trees_of [])) d → ⊥
+nothing_of_no_variants d h = h.2
+
 no_index_over_a_byte : IsOf (choice_tree (trees_of (replicate 300 unit_tree))) (choice 256 unit) → ⊥
 no_index_over_a_byte h = omega (arith, h.1)
 
@@ -136,3 +139,7 @@ at_the_limit = ((λ free. omega arith), each_unit (elements_in (units 65536)))
 
 past_the_limit : IsLimited (seq_tree unit_tree) (units 65537) → ⊥
 past_the_limit h = let within : 65537 ≤ 65536 = h.0 refl in omega (arith, within)
+
+-- each list has the limit, and not the first alone
+past_the_limit_later : IsLimited (seq_tree (seq_tree unit_tree)) (list (data_of (units 0 ∷ units 65537 ∷ []))) → ⊥
+past_the_limit_later h = past_the_limit h.1.1.0

@@ -1,6 +1,7 @@
 //! What holds of untyped data and of the bytes that spell them. A call does nothing: its contract is the law.
 ghost use Rattle.bitcode_untyped.specs.ShapeTree.{ShapeTree, IsSound};
 ghost use Rattle.bitcode_untyped.specs.View.{tree_of};
+ghost use Rattle.bitcode_untyped.specs.Cases.{FaultsTell};
 ghost use Rattle.bitcode_untyped.specs.Content.{DatumDecides};
 ghost use Rattle.bitcode_untyped.specs.declared.shape.Shape.{Shape};
 ghost use Rattle.bitcode_untyped.specs.Laws.{ColumnsDecide, SpellsOnce, DatumTakesAnEighth, ElementsAreBounded, ReadsBackDatum};
@@ -44,4 +45,13 @@ pub fn every_shape()
 /// ```
 pub fn one_value_of_a_datum()
     ensures { (shape : Shape) → DatumDecides shape }
+{}
+
+/// A value has no fault under a shape exactly where its cases are those of the shape, and its datum is of the shape.
+///
+/// ```
+/// faults_tell();
+/// ```
+pub fn faults_tell()
+    ensures { (shape : Shape) → FaultsTell shape }
 {}

@@ -3,6 +3,4 @@
 
 pub mod laws;
 pub mod shape;
-#[cfg(test)]
-mod tests;
 pub mod value;

@@ -53,8 +53,8 @@ fn print_rows_to_25(rt: &impl Print, alloc: Global) -> io::Result<bool> {
     Ok(all_ok)
 }
 
-/// Runs rows 26 to 33 in order, and answers whether all of them are ok.
-fn print_rows_to_33(rt: &impl Print, alloc: Global) -> io::Result<bool> {
+/// Runs rows 26 to 34 in order, and answers whether all of them are ok.
+fn print_rows_to_34(rt: &impl Print, alloc: Global) -> io::Result<bool> {
     let mut all_ok = print_row(rt, 26, rows::fixed_capacity::five_hundred_bytes(alloc))?;
     all_ok &= print_row(rt, 27, rows::arrays::sums_of_lengths(alloc))?;
     all_ok &= print_row(rt, 28, rows::texts::checked_numbers(alloc))?;
@@ -63,6 +63,7 @@ fn print_rows_to_33(rt: &impl Print, alloc: Global) -> io::Result<bool> {
     all_ok &= print_row(rt, 31, rows::byte_columns::bytes_packed(alloc))?;
     all_ok &= print_row(rt, 32, rows::byte_columns::bytes_unpacked(alloc))?;
     all_ok &= print_row(rt, 33, rows::choices::results(alloc))?;
+    all_ok &= print_row(rt, 34, rows::columns::one_number(alloc))?;
     Ok(all_ok)
 }
 
@@ -82,12 +83,13 @@ fn print_rows_to_45(rt: &impl Print, alloc: Global) -> io::Result<bool> {
     Ok(all_ok)
 }
 
-/// Runs rows 46 to 49 in order, and answers whether all of them are ok.
-fn print_rows_to_49(rt: &impl Print, alloc: Global) -> io::Result<bool> {
+/// Runs rows 46 to 49 and 58 in order, and answers whether all of them are ok.
+fn print_rows_to_58(rt: &impl Print, alloc: Global) -> io::Result<bool> {
     let mut all_ok = print_row(rt, 46, rows::untyped::lists::lists_of_bytes(alloc))?;
     all_ok &= print_row(rt, 47, rows::untyped::composites(alloc))?;
     all_ok &= print_row(rt, 48, rows::untyped::references::options_of_lists(alloc))?;
     all_ok &= print_row(rt, 49, rows::untyped::references::chain(alloc))?;
+    all_ok &= print_row(rt, 58, rows::columns::columns_of_each_kind(alloc))?;
     Ok(all_ok)
 }
 
@@ -95,8 +97,8 @@ fn print_rows_to_49(rt: &impl Print, alloc: Global) -> io::Result<bool> {
 pub fn print_rows(rt: &impl Print, alloc: Global) -> io::Result<bool> {
     let mut all_ok = print_rows_to_11(rt, alloc)?;
     all_ok &= print_rows_to_25(rt, alloc)?;
-    all_ok &= print_rows_to_33(rt, alloc)?;
+    all_ok &= print_rows_to_34(rt, alloc)?;
     all_ok &= print_rows_to_45(rt, alloc)?;
-    all_ok &= print_rows_to_49(rt, alloc)?;
+    all_ok &= print_rows_to_58(rt, alloc)?;
     Ok(all_ok)
 }

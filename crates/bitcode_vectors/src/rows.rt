@@ -7,6 +7,7 @@ pub mod arrays;
 pub mod buffers;
 pub mod byte_columns;
 pub mod choices;
+pub mod columns;
 pub mod fixed_capacity;
 pub mod heaps;
 pub mod lengths;

@@ -3,7 +3,7 @@
 ghost use Rattle.std.specs.Prelude.{true, refl};
 ghost use Rattle.std.proofs.Common.{inl, inr};
 
-use crate::column_int::ColumnInt;
+use crate::column_int::{ColumnInt, pack_each_byte};
 use bitcode_columns::error::Error;
 use bitcode_columns::fast::CowSlice;
 use bitcode_columns::ints::Int;
@@ -21,8 +21,8 @@ impl ColumnInt for i8 {
 
     ghost une_bytes = { λ bytes. bytes };
 
-    fn pack(alloc: Global, ints: &mut [i8], out: &mut Vec<u8>) -> Result<(), Error> {
-        pack_ints(alloc, ints, out)
+    fn pack(_alloc: Global, ints: &mut [i8], out: &mut Vec<u8>) -> Result<(), Error> {
+        pack_each_byte(ints, out)
     }
 
     fn unpack<'a>(

@@ -77,6 +77,12 @@ impl Byte for i8 {
         byte.cast_signed()
     }
 
+    fn push_bytes(numbers: &[i8], out: &mut Vec<u8>) {
+        for number in numbers {
+            out.push_reserved(number.cast_unsigned());
+        }
+    }
+
     ghost byte_law = { refl };
 }
 

@@ -109,6 +109,10 @@ impl Byte for u8 {
         byte
     }
 
+    fn push_bytes(numbers: &[u8], out: &mut Vec<u8>) {
+        out.extend_from_slice(numbers).unwrap();
+    }
+
     ghost byte_law = { refl };
 }
 

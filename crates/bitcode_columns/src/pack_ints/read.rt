@@ -58,7 +58,7 @@ fn widen_numbers<T: Int, N: SizedUInt>(
     let mut rest = bytes;
     for _i in 0..count {
         let narrow = N::read(&mut rest)?;
-        entries.push(widened::<T>(narrow.to_wide(), least))?;
+        entries.push_reserved(widened::<T>(narrow.to_wide(), least));
     }
     Ok(entries)
 }
@@ -93,7 +93,7 @@ fn widen_bytes<T: Int>(
 {
     let mut entries = Vec::with_capacity(alloc, bytes.len())?;
     for byte in bytes {
-        entries.push(widened::<T>(*byte as u128, least))?;
+        entries.push_reserved(widened::<T>(*byte as u128, least));
     }
     Ok(entries)
 }

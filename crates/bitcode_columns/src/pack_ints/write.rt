@@ -47,7 +47,7 @@ fn narrow_bytes<T: Int, B: Byte>(
     let mut bytes = Vec::with_capacity(alloc, entries.len())?;
     for entry in entries {
         let distance = entry.to_unsigned().wrapping_sub(base).to_wide();
-        bytes.push(B::from_byte((distance % 0x100) as u8))?;
+        bytes.push_reserved(B::from_byte((distance % 0x100) as u8));
     }
     Ok(bytes)
 }

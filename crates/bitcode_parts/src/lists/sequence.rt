@@ -126,7 +126,7 @@ pub fn decode_each<'a, T: Made + Drop, D: Decoder<'a, T>>(
 {
     let mut items = Vec::with_capacity(alloc, count)?;
     for _made in 0..count {
-        items.push(elements.decode()?)?;
+        items.push_reserved(elements.decode()?);
     }
     Ok(items)
 }

@@ -3,8 +3,10 @@ use bitcode::coder::Buffer as _;
 use bitcode::{
     BoolDecoder, BoolEncoder, Buffer, CowSlice, Decoder, Encoder, FastSlice, FastVec, IntEncoder,
     NextUnchecked, PushUnchecked, Reason, TupleEncoder, View, consume_byte, consume_byte_arrays,
-    consume_bytes, err, error, expect_eof, invalid_enum_variant, minmax, mul_length,
+    consume_bytes, decode_front, encode_into, err, error, expect_eof, invalid_enum_variant, minmax,
+    mul_length,
 };
+use std::io;
 use std::test::Fail;
 
 #[test]
@@ -33,6 +35,32 @@ fn errors_print_their_reason(rt: HostRuntime) -> Result<(), Fail> {
         invalid_enum_variant::<u8>(),
         err(Reason::InvalidEnumVariant)
     );
+    Ok(())
+}
+
+#[test]
+fn a_refusal_becomes_an_io_error(rt: HostRuntime) -> Result<(), Fail> {
+    let eof = io::Error::from(error(Reason::Eof));
+    assert!(rt; eof.kind() == io::ErrorKind::UnexpectedEof);
+    let memory = io::Error::from(error(Reason::OutOfMemory));
+    assert!(rt; memory.kind() == io::ErrorKind::OutOfMemory);
+    assert!(rt; Reason::InvalidUtf8.io_kind() == io::ErrorKind::InvalidData);
+    Ok(())
+}
+
+#[test]
+fn values_stand_one_behind_the_other(rt: HostRuntime) -> Result<(), Fail> {
+    let alloc = rt.alloc();
+    let mut out = Vec::new(alloc);
+    encode_into(alloc, &true, &mut out)?;
+    encode_into(alloc, &7u16, &mut out)?;
+    assert_eq!(rt; out.as_slice(), [1, 7, 0].as_slice());
+    let mut input = out.as_slice();
+    let flag: bool = decode_front(alloc, &mut input)?;
+    assert!(rt; flag && input.len() == 2);
+    let number: u16 = decode_front(alloc, &mut input)?;
+    assert!(rt; number == 7 && input.is_empty());
+    assert!(rt; decode_front::<u16>(alloc, &mut input) == err(Reason::Eof));
     Ok(())
 }
 

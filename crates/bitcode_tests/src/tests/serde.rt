@@ -2,7 +2,7 @@
 use crate::Got;
 use crate::untyped::{is_not_written, map_of, seq_of, shape_of, variant, written_both_ways};
 use bitcode::coder::Buffer as _;
-use bitcode::laws::{columns_decide, every_shape, one_value_of_a_datum, spelled_data};
+use bitcode::laws::{columns_decide, every_shape, faults_tell, one_value_of_a_datum, spelled_data};
 use bitcode::serde::{VariantDecoder, VariantEncoder};
 use bitcode::{
     Decoder, Encoder, REF_LIMIT, Reason, Shape, ShapeNode, Value, View, ZST_LIMIT, deserialize,
@@ -42,6 +42,7 @@ fn laws_are_called_for_what_they_say() {
     columns_decide();
     spelled_data();
     every_shape();
+    faults_tell();
     one_value_of_a_datum();
 }
 

@@ -21,8 +21,8 @@ pub fn three_bytes(alloc: Global) -> Result<(), Got> {
 
 /// So many arrays that their elements have no length, and one less.
 pub fn more_bytes_than_a_length(alloc: Global) -> Result<(), Got> {
-    let passes = [255, 0, 0, 0, 0, 0, 0, 0, 4, 0];
-    refuses::<Vec<[u8; 16384]>>(alloc, &passes, Reason::LengthOverflow)?;
+    let too_many = [255, 0, 0, 0, 0, 0, 0, 0, 4, 0];
+    refuses::<Vec<[u8; 16384]>>(alloc, &too_many, Reason::LengthOverflow)?;
     let fits = [255, 0, 255, 255, 255, 255, 255, 255, 3, 0];
     refuses::<Vec<[u8; 16384]>>(alloc, &fits, Reason::Eof)
 }
@@ -35,10 +35,10 @@ pub fn two_texts(alloc: Global) -> Result<(), Got> {
 
 /// Lengths whose sum no length is, a sum that is too large to be read, and a small one.
 pub fn sums_of_lengths(alloc: Global) -> Result<(), Got> {
-    let passes = [
+    let too_many = [
         255, 255, 0, 255, 255, 255, 255, 255, 255, 255, 255, 255, 255, 255, 255, 255, 255, 255, 255,
     ];
-    refuses::<[Vec<()>; 2]>(alloc, &passes, Reason::LengthOverflow)?;
+    refuses::<[Vec<()>; 2]>(alloc, &too_many, Reason::LengthOverflow)?;
     let huge = [255, 0, 255, 255, 255, 255, 255, 255, 255, 255];
     refuses::<Vec<()>>(alloc, &huge, Reason::HugeLength)?;
     let units: Vec<()> = vec![in alloc; (), (), ()]?;

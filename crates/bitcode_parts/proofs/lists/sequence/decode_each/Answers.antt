@@ -1,21 +1,29 @@
--- Each turn takes one datum.
+-- Each turn takes one datum, and its value has a place.
 use Rattle.std.proofs.Common.{refl, arith}
 use Rattle.bitcode_parts.proofs.ElementLemmas.{takes_none, takes_one_more, taken_and_left}
 use Rattle.bitcode_parts.proofs.lists.sequence.decode_each.Goals as goal
 
 pub loop-made-init : goal.loop-made-init
-loop-made-init g c = takes_none g.T.Made.makes (g.D.HoldsData.held c.args.elements.now) c.in_ok-items.items.items c.in_ok-items.ensures.items
+loop-made-init g c = record {
+  each = takes_none g.T.Made.makes (g.D.HoldsData.held c.args.elements.now) c.in_ok-items.items.items c.in_ok-items.ensures.items;
+  size = c.in_ok-items.ensures.len;
+  room = c.in_ok-items.ensures.capacity;
+}
 
 pub decode-requires : goal.decode-requires
 decode-requires g c κs = (
   (refl, tt),
   omega (
     arith,
-    taken_and_left g.T.Made.makes c.loop-made._made (g.D.HoldsData.held c.args.elements.now) (g.D.HoldsData.held c.loop-made.elements) c.loop-made.items.items c.loop-made.invariant,
+    taken_and_left g.T.Made.makes c.loop-made._made (g.D.HoldsData.held c.args.elements.now) (g.D.HoldsData.held c.loop-made.elements) c.loop-made.items.items c.loop-made.invariant.each,
   ),
 )
 
 pub loop-made-preserved : goal.loop-made-preserved
-loop-made-preserved g c =
-    takes_one_more g.T.Made.makes c.loop-made._made (g.D.HoldsData.held c.args.elements.now) (g.D.HoldsData.held c.loop-made.elements) (g.D.HoldsData.held c.decode.new.self)
-    c.loop-made.items.items c.push.new.self.items c.in_ok-decode.field-0 c.loop-made.invariant c.in_ok-decode.ensures.made c.in_ok-push.ensures.items
+loop-made-preserved g c = record {
+  each =
+      takes_one_more g.T.Made.makes c.loop-made._made (g.D.HoldsData.held c.args.elements.now) (g.D.HoldsData.held c.loop-made.elements) (g.D.HoldsData.held c.decode.new.self)
+      c.loop-made.items.items c.push_reserved.new.self.items c.in_ok-decode.field-0 c.loop-made.invariant.each c.in_ok-decode.ensures.made c.push_reserved.ensures.items;
+  size = omega (arith, c.push_reserved.ensures.len, c.loop-made.invariant.size);
+  room = omega (arith, c.push_reserved.ensures.capacity, c.loop-made.invariant.room);
+}

@@ -1,0 +1,95 @@
+-- Which cases a value has, beside those of its shape: a U8 and a U64 of one number have the same datum, and not the same
+-- case. How many fields there are, and which variants, is no matter of cases: that is said of the datum.
+use Rattle.std.specs.Prelude.{◌≡◌, ℕ, ◌<◌, ◌↔◌, pos, Bool, true, false, ◌&&◌, Option, Some, None, List, [], ◌∷◌, slice_get, string_bytes, IsUtf8}
+use Rattle.std.specs.Char.{IsScalar}
+use Rattle.std.specs.List.{list_all, AllByRecursion}
+use Rattle.bitcode_shapes.specs.Shape.{IsInWidth}
+use Rattle.bitcode_untyped.specs.Faults.{Followed, stands, follow, value_faults}
+use Rattle.bitcode_untyped.specs.ShapeTree.{IsOf}
+use Rattle.bitcode_untyped.specs.View.{datum_of, tree_of, reference_limit}
+use Rattle.bitcode_untyped.specs.declared.shape.Shape.{Shape}
+use Rattle.bitcode_untyped.specs.declared.shape.ShapeNode.{ShapeNode}
+use Rattle.bitcode_untyped.specs.declared.shape.ShapeNode.TheOpen.{ShapeNode-F}
+use Rattle.bitcode_untyped.specs.declared.value.Value.{Value, fold-Value}
+use Rattle.bitcode_untyped.specs.declared.value.Value.TheOpen.{Value-F}
+use Rattle.bitcode_untyped.specs.declared.value.Value.TheFolds.{every-Value}
+
+-- ---- the cases agree
+
+-- whether the cases of a value agree with a node, below which so many references may be followed
+abbrev pub Comparison : Type 0
+Comparison = ℕ → ShapeNode → Bool
+
+-- each field with its node, as far as there are both
+abbrev pub fields_agree : List Comparison → ℕ → List ShapeNode → Bool
+fields_agree (agrees ∷ fields) left (node ∷ nodes) = agrees left node && fields_agree fields left nodes
+fields_agree _ left _ = true
+
+abbrev pub agrees_if_there : Comparison → ℕ → Option ShapeNode → Bool
+agrees_if_there agrees left (Some node) = agrees left node
+agrees_if_there agrees left None = true
+
+-- one level, at a node that is no reference
+abbrev pub agrees_by : Value-F Comparison → ℕ → ShapeNode-F ShapeNode → Bool
+agrees_by Value-F.Unit left ShapeNode-F.Unit = true
+agrees_by (Value-F.Bool b) left ShapeNode-F.Bool = true
+agrees_by (Value-F.U8 n) left ShapeNode-F.U8 = true
+agrees_by (Value-F.U16 n) left ShapeNode-F.U16 = true
+agrees_by (Value-F.U32 n) left ShapeNode-F.U32 = true
+agrees_by (Value-F.U64 n) left ShapeNode-F.U64 = true
+agrees_by (Value-F.U128 n) left ShapeNode-F.U128 = true
+agrees_by (Value-F.I8 z) left ShapeNode-F.I8 = true
+agrees_by (Value-F.I16 z) left ShapeNode-F.I16 = true
+agrees_by (Value-F.I32 z) left ShapeNode-F.I32 = true
+agrees_by (Value-F.I64 z) left ShapeNode-F.I64 = true
+agrees_by (Value-F.I128 z) left ShapeNode-F.I128 = true
+agrees_by (Value-F.Char c) left ShapeNode-F.Char = true
+agrees_by (Value-F.Str s) left ShapeNode-F.Str = true
+agrees_by (Value-F.Bytes v) left ShapeNode-F.Bytes = true
+agrees_by (Value-F.Option None) left (ShapeNode-F.Option node) = true
+agrees_by (Value-F.Option (Some agrees)) left (ShapeNode-F.Option node) = agrees.value left node.value
+agrees_by (Value-F.Seq elements) left (ShapeNode-F.Seq node) = list_all (λ agrees. agrees left node.value) elements.items
+agrees_by (Value-F.Map pairs) left (ShapeNode-F.Map key value) = list_all (λ pair. pair.0 left key.value && pair.1 left value.value) pairs.items
+agrees_by (Value-F.Tuple fields) left (ShapeNode-F.Tuple nodes) = fields_agree fields.items left nodes.items
+agrees_by (Value-F.Enum i agrees) left (ShapeNode-F.Enum nodes) = agrees_if_there agrees.value left (slice_get nodes.items i)
+agrees_by _ left _ = false
+
+-- where a reference leads to no node, none disagrees
+abbrev pub agrees_at : Value-F Comparison → Followed → Bool
+agrees_at value (stands left node) = agrees_by value left node
+agrees_at value _ = true
+
+abbrev pub agrees_step : List ShapeNode → Value-F Comparison → Comparison
+agrees_step table value left node = agrees_at value (follow left table node)
+
+abbrev pub agrees_with : List ShapeNode → Value → Comparison
+agrees_with table = fold-Value Comparison (agrees_step table)
+
+-- The value has the cases of the shape.
+abbrev pub HasCasesOf : Shape → Value → Type 0
+HasCasesOf shape value = agrees_if_there (agrees_with shape.table.items value) reference_limit (slice_get shape.table.items shape.root) ≡ true
+
+-- ---- values that there are
+
+-- a number is one of its type, a char is a scalar value, and a text is UTF-8
+abbrev pub IsOfItsType : Value-F Value → Type 0
+IsOfItsType (Value-F.U8 n) = IsInWidth 1 false (pos n)
+IsOfItsType (Value-F.U16 n) = IsInWidth 2 false (pos n)
+IsOfItsType (Value-F.U32 n) = IsInWidth 4 false (pos n)
+IsOfItsType (Value-F.U64 n) = IsInWidth 8 false (pos n)
+IsOfItsType (Value-F.U128 n) = IsInWidth 16 false (pos n)
+IsOfItsType (Value-F.I8 z) = IsInWidth 1 true z
+IsOfItsType (Value-F.I16 z) = IsInWidth 2 true z
+IsOfItsType (Value-F.I32 z) = IsInWidth 4 true z
+IsOfItsType (Value-F.I64 z) = IsInWidth 8 true z
+IsOfItsType (Value-F.I128 z) = IsInWidth 16 true z
+IsOfItsType (Value-F.Char c) = IsScalar c
+IsOfItsType (Value-F.Str s) = IsUtf8 (string_bytes s)
+IsOfItsType (Value-F.Bytes v) = AllByRecursion (λ n. n < 256) v.items
+IsOfItsType _ = Unit {0}
+
+-- ---- the faults tell whether a value is of a shape
+
+-- A value has no fault just where it has the cases of the shape, and a datum of it.
+abbrev pub FaultsTell : Shape → Type 0
+FaultsTell shape = (v : Value) → every-Value IsOfItsType v → value_faults shape v ≡ [] ↔ (HasCasesOf shape v × IsOf (tree_of shape) (datum_of v))

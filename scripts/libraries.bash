@@ -1,0 +1,41 @@
+# For scripts that run a program of their own over this repository's libraries: to be sourced at the top of the repository.
+
+# copy_libraries FOLDER: a repository there, with the crates of this one.
+copy_libraries() {
+  local crate part
+  mkdir -p "$1/crates" && git -C "$1" init -q && cp crates.txt "$1" || return 2
+  for crate in crates/*/; do
+    mkdir "$1/$crate" && cp -r "$crate/src" "$1/$crate" || return 2
+    for part in specs proofs; do
+      [ ! -d "$crate/$part" ] || cp -r "$crate/$part" "$1/$crate" || return 2
+    done
+  done
+}
+
+# add_program FOLDER NAME TEXT LIBRARIES: a program of its own there, whose text is that file, over these crates.
+add_program() {
+  mkdir -p "$1/crates/$2/src" && cp "$3" "$1/crates/$2/src/main.rt" && echo "$2: $4" >>"$1/crates.txt"
+}
+
+# make_edit FOLDER EDIT: the edit, of the form of the must-fail edits, made in the crates there. A line `file:` names a file of the
+# crate that the edit is of, or, in an edit that is of none, one below crates/.
+make_edit() {
+  python3 - "$1" "$2" <<'PYTHON'
+import sys
+
+folder, edit = sys.argv[1:]
+crate = edit.split("/")[1] if edit.startswith("crates/") else "."
+path = old = None
+for line in open(edit).read().split("\n"):
+    if line.startswith("file: "):
+        path = f"{folder}/crates/{crate}/{line[6:]}"
+    elif line.startswith("old: "):
+        old = line[5:]
+    elif line.startswith("new: "):
+        text = open(path).read()
+        if text.count(old) != 1:
+            sys.exit(f"{edit}: the text {old!r} does not stand once")
+        with open(path, "w") as file:
+            file.write(text.replace(old, line[5:]))
+PYTHON
+}
