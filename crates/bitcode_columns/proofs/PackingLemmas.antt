@@ -8,7 +8,7 @@ use Rattle.std.proofs.lemmas.Grind.{div_ceil_times}
 use Rattle.std.proofs.Math.Numerals.{add-one}
 use Rattle.std.proofs.Math.Nat.{add-zero}
 use Rattle.std.proofs.lemmas.List.{at_drop_more, get_or-map, length-map, map_push, append-nil, length-take, take-map, drop-map, drop-drop}
-use Rattle.std.proofs.lemmas.List.Elements.{All-take, All-drop, All-map}
+use Rattle.std.proofs.lemmas.List.Elements.{All-take, All-map}
 use Rattle.std.proofs.lemmas.List.FromFn.{map-range_with_len_more, length-map-range_with_len, get_or-map-range_with_len}
 use Rattle.bitcode_columns.proofs.DigitLemmas.{number_with_digits_below}
 use Rattle.std.proofs.lemmas.Nat.{mul-le, div-mul-add, mod-mul-add, row_fits}

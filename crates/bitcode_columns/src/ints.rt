@@ -57,6 +57,17 @@ pub trait SizedUInt: Copy {
         ensures succeeds { vec_len out.old + width ≤ vec_capacity out.old → IsOk result }
         ensures len { OnOk result (vec_len out.new ≡ vec_len out.old + width) }
         ensures capacity { vec_capacity out.old ≤ vec_capacity out.new };
+
+    /// How many bytes a number takes.
+    fn size() -> usize
+        ensures { result ≡ width };
+
+    /// Appends the bytes of the number, the lowest first, in room that is there.
+    fn push(self, out: &mut Vec<u8>)
+        requires { vec_len out.old + width ≤ vec_capacity out.old }
+        ensures written { out.new.items ≡ out.old.items ++ number_bytes width (value self) }
+        ensures len { vec_len out.new ≡ vec_len out.old + width }
+        ensures capacity { vec_capacity out.new ≡ vec_capacity out.old };
 }
 
 /// An integer that a column can have as entries.
@@ -177,6 +188,19 @@ fn consume_numbers<'a, const N: usize>(
     known_bytes(input);
     let arrays = consume_byte_arrays(input, count)?;
     Ok(arrays)
+}
+
+// Appends the bytes in room that is there. It is inlined, so that the compiler knows how many they are.
+#[inline(always)]
+fn push_bytes(bytes: &[u8], out: &mut Vec<u8>)
+    requires { vec_len out.old + length bytes.now ≤ vec_capacity out.old }
+    ensures written { out.new.items ≡ out.old.items ++ bytes.now }
+    ensures len { vec_len out.new ≡ vec_len out.old + length bytes.now }
+    ensures capacity { vec_capacity out.new ≡ vec_capacity out.old }
+{
+    for byte in bytes {
+        out.push_reserved(*byte);
+    }
 }
 
 // Takes an array of `N` bytes.

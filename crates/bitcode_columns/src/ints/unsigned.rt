@@ -5,7 +5,7 @@ ghost use Rattle.std.proofs.Common.{inl, inr};
 
 use crate::consume::consume_byte;
 use crate::error::Error;
-use crate::ints::{Byte, Int, SizedInt, SizedUInt, consume_array, consume_numbers};
+use crate::ints::{Byte, Int, SizedInt, SizedUInt, consume_array, consume_numbers, push_bytes};
 
 impl SizedUInt for u8 {
     ghost width = { 1 };
@@ -35,6 +35,14 @@ impl SizedUInt for u8 {
     fn write(self, out: &mut Vec<u8>) -> Result<(), Error> {
         out.push(self)?;
         Ok(())
+    }
+
+    fn size() -> usize {
+        1
+    }
+
+    fn push(self, out: &mut Vec<u8>) {
+        out.push_reserved(self);
     }
 }
 
@@ -147,6 +155,14 @@ impl SizedUInt for u16 {
         out.extend_from_slice(&bytes)?;
         Ok(())
     }
+
+    fn size() -> usize {
+        2
+    }
+
+    fn push(self, out: &mut Vec<u8>) {
+        push_bytes(&self.to_le_bytes(), out);
+    }
 }
 
 impl Int for u16 {
@@ -242,6 +258,14 @@ impl SizedUInt for u32 {
         out.extend_from_slice(&bytes)?;
         Ok(())
     }
+
+    fn size() -> usize {
+        4
+    }
+
+    fn push(self, out: &mut Vec<u8>) {
+        push_bytes(&self.to_le_bytes(), out);
+    }
 }
 
 impl Int for u32 {
@@ -336,6 +360,14 @@ impl SizedUInt for u64 {
         let bytes = self.to_le_bytes();
         out.extend_from_slice(&bytes)?;
         Ok(())
+    }
+
+    fn size() -> usize {
+        8
+    }
+
+    fn push(self, out: &mut Vec<u8>) {
+        push_bytes(&self.to_le_bytes(), out);
     }
 }
 

@@ -4,7 +4,7 @@ ghost use Rattle.std.specs.Prelude.{◌-◌, ◌/◌, ◌^◌, pos, negsuc, true
 ghost use Rattle.std.proofs.Common.{inr};
 
 use crate::error::Error;
-use crate::ints::{Int, SizedInt, SizedUInt, consume_array, consume_numbers};
+use crate::ints::{Int, SizedInt, SizedUInt, consume_array, consume_numbers, push_bytes};
 
 impl SizedUInt for u128 {
     ghost width = { 16 };
@@ -36,6 +36,14 @@ impl SizedUInt for u128 {
         let bytes = self.to_le_bytes();
         out.extend_from_slice(&bytes)?;
         Ok(())
+    }
+
+    fn size() -> usize {
+        16
+    }
+
+    fn push(self, out: &mut Vec<u8>) {
+        push_bytes(&self.to_le_bytes(), out);
     }
 }
 

@@ -10,11 +10,29 @@ ghost use Rattle.bitcode_columns.specs.Ints.{IsNumber, number_of};
 use crate::error::{Error, Reason};
 use crate::ints::{Byte, Int, SizedUInt};
 use crate::pack::pack_bytes;
+use crate::refuse::err;
 use std::alloc::Global;
+use std::mem::replace;
+
+// Appends how far each entry lies above a base, in the bytes of a narrow type, in room that is there.
+//
+// The list is handed over and given back: what holds it is then known to lie apart from its bytes, and its length is
+// kept in a register while they are written.
+fn push_numbers<T: Int, N: SizedUInt>(entries: &[T], base: T::Unsigned, mut out: Vec<u8>) -> Vec<u8>
+    requires { vec_len out + length entries.now * N.width ≤ vec_capacity out }
+    ensures written { result.items ≡ out.items ++ raw_text N.width (map (λ e. above T.width (T.Unsigned.value base) (T.number e) % 256 ^ N.width) entries.now) }
+    ensures in_range { All (λ e. IsNumber T.width T.signed (T.number e)) entries.now }
+{
+    for entry in entries {
+        let distance = entry.to_unsigned().wrapping_sub(base);
+        N::from_wide(distance.to_wide()).push(&mut out);
+    }
+    out
+}
 
 // Appends how far each entry lies above a base, in the bytes of a narrow type.
 //
-// What was appended before a refusal stays.
+// A refused growth leaves `out` as it is.
 pub(crate) fn write_numbers<T: Int, N: SizedUInt>(
     entries: &[T],
     base: T::Unsigned,
@@ -26,10 +44,13 @@ pub(crate) fn write_numbers<T: Int, N: SizedUInt>(
     ensures reason { IfErr result (λ e. e.reason ≡ Reason.OutOfMemory) }
     ensures succeeds { vec_len out.old + length entries.now * N.width ≤ vec_capacity out.old → IsOk result }
 {
-    for entry in entries {
-        let distance = entry.to_unsigned().wrapping_sub(base);
-        N::from_wide(distance.to_wide()).write(out)?;
-    }
+    let Some(size) = entries.len().checked_mul(N::size()) else {
+        return err(Reason::OutOfMemory);
+    };
+    out.reserve(size)?;
+    let alloc = *out.allocator();
+    let held = replace(out, Vec::new(alloc));
+    *out = push_numbers::<T, N>(entries, base, held);
     Ok(())
 }
 

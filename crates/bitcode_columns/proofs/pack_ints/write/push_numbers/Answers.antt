@@ -1,10 +1,9 @@
 use Rattle.std.proofs.Common.{subst, arith}
-use Rattle.std.proofs.lemmas.Bool.{false≢true}
 use Rattle.std.proofs.lemmas.List.Elements.{All-more, All-nil}
 use Rattle.bitcode_columns.specs.Ints.{IsNumber}
 use Rattle.bitcode_columns.proofs.NarrowLemmas.{narrowed, raw_none, raw_more}
 use Rattle.bitcode_columns.proofs.RoomLemmas.{next_len, next_fits}
-use Rattle.bitcode_columns.proofs.pack_ints.write.write_numbers.Goals as goal
+use Rattle.bitcode_columns.proofs.pack_ints.write.push_numbers.Goals as goal
 
 pub loop-entry-init : goal.loop-entry-init
 loop-entry-init g c = record {
@@ -14,18 +13,17 @@ loop-entry-init g c = record {
   capacity = omega arith;
 }
 
+pub push-requires : goal.push-requires
+push-requires g c =
+    omega (arith, c.requires, next_fits g.N.SizedUInt.width _ _ _ _ c.loop-entry-test.true c.loop-entry.invariant.len, c.loop-entry.invariant.capacity)
+
 pub loop-entry-preserved : goal.loop-entry-preserved
 loop-entry-preserved g c = record {
   written = raw_more g.N.SizedUInt.width _ _ _ _ _ _ _ _ _ c.loop-entry-test.true c.entry-item.is c.loop-entry.invariant.written
       (narrowed _ _ _ _ _ _ _ _ (g.T.Int.number c.entry-item.result) g.met.T.Int.unsigned_law c.to_unsigned.ensures.value c.wrapping_sub-distance.ensures c.to_wide.ensures.same c.from_wide.ensures)
-      c.in_ok-write.ensures.written;
+      c.push.ensures.written;
   in_range = All-more (λ e. IsNumber g.T.Int.width g.T.Int.signed (g.T.Int.number e)) _ _ _ c.loop-entry-test.true c.loop-entry.invariant.in_range
       (subst (λ e. IsNumber g.T.Int.width g.T.Int.signed (g.T.Int.number e)) c.entry-item.is c.to_unsigned.ensures.in_range);
-  len = next_len g.N.SizedUInt.width _ _ _ _ c.loop-entry.invariant.len c.in_ok-write.ensures.len;
-  capacity = omega (arith, c.loop-entry.invariant.capacity, c.write.ensures.capacity);
+  len = next_len g.N.SizedUInt.width _ _ _ _ c.loop-entry.invariant.len c.push.ensures.len;
+  capacity = omega (arith, c.loop-entry.invariant.capacity, c.push.ensures.capacity);
 }
-
-pub returns-in_err-write-clause-succeeds : goal.returns-in_err-write-clause-succeeds
-returns-in_err-write-clause-succeeds g c room =
-    let fits = next_fits g.N.SizedUInt.width _ _ _ _ c.loop-entry-test.true c.loop-entry.invariant.len in
-    absurd (false≢true (c.in_err-write.ensures.succeeds (omega (arith, room, fits, c.loop-entry.invariant.capacity))))
