@@ -6,7 +6,7 @@ ghost use Rattle.bitcode_coder.specs.Coder.{JoinsListing, OverflowsWithListing, 
 use bitcode_coder::coder::{Buffer, Decoder, Encoder, HoldsColumns, HoldsData, View};
 use bitcode_columns::error::{Error, Reason};
 use bitcode_shapes::shaped::{Made, Shaped};
-use bitcode_shapes::stands_for::StandsFor;
+use bitcode_shapes::stands_for::{FromParts, StandsFor};
 use std::alloc::Global;
 use std::marker::PhantomData;
 
@@ -133,7 +133,7 @@ impl<'a, P: Drop, D: View<'a>> View<'a> for PartsDecoder<P, D> {
     }
 }
 
-impl<'a, P: Made + Drop, T: StandsFor<Parts = P>, D: Decoder<'a, P>> Decoder<'a, T>
+impl<'a, P: Made + Drop, T: FromParts<Parts = P>, D: Decoder<'a, P>> Decoder<'a, T>
     for PartsDecoder<P, D> {
     ghost makes_free = { D.makes_free };
 

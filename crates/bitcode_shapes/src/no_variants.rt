@@ -4,7 +4,7 @@ ghost use Rattle.bitcode_shapes.specs.Shape.{never_shape};
 ghost use Rattle.bitcode_shapes.specs.LawfulNever.{never_lawful, never_makeable};
 
 use crate::shaped::{Made, Shaped};
-use crate::stands_for::StandsFor;
+use crate::stands_for::{FromParts, StandsFor};
 
 /// A type without values, as an enum without variants.
 ///
@@ -36,7 +36,9 @@ impl<T: NoVariants> StandsFor for T {
     ghost of_parts = { λ p. (p.value, refl) };
 
     fn told_parts(&self) {}
+}
 
+impl<T: NoVariants> FromParts for T {
     fn from_parts(Absent { value }: Absent<T>) -> Self {
         value
     }

@@ -25,10 +25,6 @@ use crate::shaped::{Made, Shaped};
 ///         self.x.told();
 ///         self.y.told();
 ///     }
-///
-///     fn from_parts((x, y): (u32, u32)) -> Self {
-///         Point { x, y }
-///     }
 /// }
 /// ```
 pub trait StandsFor {
@@ -44,10 +40,21 @@ pub trait StandsFor {
     /// What a value in hand stands for is a value, as each field of a struct is.
     fn told_parts(&self)
         ensures { Self.Parts.is_value (parts self.now) };
+}
 
+/// A type each of whose values is made of what it stands for: a struct of its fields.
+///
+/// ```
+/// impl FromParts for Point {
+///     fn from_parts((x, y): (u32, u32)) -> Self {
+///         Point { x, y }
+///     }
+/// }
+/// ```
+pub trait FromParts: StandsFor<Parts: Made> {
     /// The value that stands for these.
     fn from_parts(whole: Self::Parts) -> Self
-        ensures { parts result ≡ whole };
+        ensures { Self.parts result ≡ whole };
 }
 
 impl<T: StandsFor> Shaped for T {
@@ -68,10 +75,7 @@ impl<T: StandsFor> Shaped for T {
     ghost lawful = { image_lawful T.parts T.Parts.lawful };
 }
 
-impl<T: StandsFor> Made for T
-where
-    T::Parts: Made,
-{
+impl<T: FromParts> Made for T {
     ghost makes = { λ d t. T.Parts.makes d (T.parts t) };
 
     ghost makeable = { image_makeable T.parts (λ g p h. T.of_parts p) T.Parts.makeable };
