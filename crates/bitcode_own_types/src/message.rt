@@ -3,8 +3,8 @@ ghost use Rattle.std.specs.Prelude.{refl};
 
 use bitcode::coder::Result;
 use bitcode::{
-    DecodeOwned, Encode, EncodeParts, FieldsEncoder, FromParts, HasDecoder, HasEncoder, Made, PartsDecoder,
-    PartsEncoder, Shaped, StandsFor,
+    DecodeOwned, Encode, EncodeParts, FieldsEncoder, FromParts, HasDecoder, HasEncoder, Made,
+    PartsDecoder, PartsEncoder, Shaped, StandsFor,
 };
 
 /// A text of the input, and who sent it.
@@ -127,7 +127,10 @@ impl<'a> FromParts for Talk<'a> {
 
 impl<'a> EncodeParts<TalkColumns<'a>> for Talk<'a> {
     fn encode_parts(&self, columns: &mut TalkColumns<'a>) -> Result<()> {
-        columns.encode_fields(&(&self.subject, &self.messages))
+        FieldsEncoder::<(&Option<&'a str>, &Vec<Dated<Message<'a>>>)>::encode_fields(
+            columns,
+            &(&self.subject, &self.messages),
+        )
     }
 }
 

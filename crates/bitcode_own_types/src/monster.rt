@@ -3,8 +3,8 @@ ghost use Rattle.std.specs.Prelude.{refl};
 
 use bitcode::coder::Result;
 use bitcode::{
-    DecodeOwned, EncodeParts, FieldsEncoder, FromParts, HasDecoder, HasEncoder, PartsDecoder, PartsEncoder,
-    Shaped, StandsFor,
+    DecodeOwned, EncodeParts, FieldsEncoder, FromParts, HasDecoder, HasEncoder, PartsDecoder,
+    PartsEncoder, Shaped, StandsFor,
 };
 
 /// What a player meets.
@@ -54,14 +54,17 @@ impl FromParts for Monster {
 
 impl EncodeParts<Columns> for Monster {
     fn encode_parts(&self, columns: &mut Columns) -> Result<()> {
-        columns.encode_fields(&(
-            &self.id,
-            &self.name,
-            &self.health,
-            &self.alive,
-            &self.position,
-            &self.loot,
-        ))
+        FieldsEncoder::<(&u64, &String, &i16, &bool, &(i32, i32), &Vec<u16>)>::encode_fields(
+            columns,
+            &(
+                &self.id,
+                &self.name,
+                &self.health,
+                &self.alive,
+                &self.position,
+                &self.loot,
+            ),
+        )
     }
 }
 
