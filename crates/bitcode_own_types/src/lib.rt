@@ -3,6 +3,8 @@
 #![tactic(auto)]
 
 pub mod generic;
+pub mod message;
+pub mod monster;
 pub mod player;
 pub mod scores;
 #[cfg(test)]

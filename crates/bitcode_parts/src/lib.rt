@@ -14,4 +14,5 @@ pub mod maps;
 pub mod markers;
 pub mod pointers;
 pub mod sets;
+pub mod stands_for;
 pub mod uuids;

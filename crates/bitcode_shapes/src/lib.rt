@@ -19,6 +19,7 @@ pub mod pointers;
 pub mod same_arrays;
 pub mod sets;
 pub mod shaped;
+pub mod stands_for;
 pub mod texts;
 pub mod tuples;
 pub mod uuids;

@@ -1,9 +1,10 @@
 //! Types without values, as an enum without variants, hold nothing.
-ghost use Rattle.std.specs.Prelude.{ℕ, true};
+ghost use Rattle.std.specs.Prelude.{ℕ, true, refl};
 ghost use Rattle.bitcode_shapes.specs.Shape.{never_shape};
 ghost use Rattle.bitcode_shapes.specs.LawfulNever.{never_lawful, never_makeable};
 
 use crate::shaped::{Made, Shaped};
+use crate::stands_for::{FromParts, StandsFor};
 
 /// A type without values, as an enum without variants.
 ///
@@ -22,24 +23,45 @@ pub trait NoVariants {
     ghost never: { (t : Self) (P : ℕ → Type 0) → P 0 → P 1 };
 }
 
-impl<T: NoVariants> Shaped for T {
+/// What a value of a type without values stands for: itself.
+pub struct Absent<T> {
+    value: T,
+}
+
+impl<T: NoVariants> StandsFor for T {
+    type Parts = Absent<T>;
+
+    ghost parts = { λ t. record { value = t } };
+
+    ghost of_parts = { λ p. (p.value, refl) };
+
+    fn told_parts(&self) {}
+}
+
+impl<T: NoVariants> FromParts for T {
+    fn from_parts(Absent { value }: Absent<T>) -> Self {
+        value
+    }
+}
+
+impl<T: NoVariants> Shaped for Absent<T> {
     ghost shape = { never_shape };
 
-    ghost is_value = { λ t. Unit {0} };
+    ghost is_value = { λ p. Unit {0} };
 
-    ghost lists = { λ t d. ⊥ };
+    ghost lists = { λ p d. ⊥ };
 
-    ghost same = { λ t u. Unit {0} };
+    ghost same = { λ p q. Unit {0} };
 
     ghost in_order = { true };
 
     fn told(&self) {}
 
-    ghost lawful = { never_lawful T.never };
+    ghost lawful = { never_lawful (λ p. T.never p.value) };
 }
 
-impl<T: NoVariants> Made for T {
-    ghost makes = { λ d t. ⊥ };
+impl<T: NoVariants> Made for Absent<T> {
+    ghost makes = { λ d p. ⊥ };
 
     ghost makeable = { never_makeable };
 }

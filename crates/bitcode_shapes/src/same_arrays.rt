@@ -1,12 +1,13 @@
 //! Types each of whose values has the same numbers of arrays in all of its listings: every type of this crate.
 ghost use Rattle.bitcode_shapes.specs.ArrayCounts.{ListsSameArrays};
-ghost use Rattle.bitcode_shapes.specs.SameArrays.{never_same_arrays};
+ghost use Rattle.bitcode_shapes.specs.SameArrays.{image_same_arrays, never_same_arrays};
 
 mod tuples;
 mod types;
 
-use crate::no_variants::NoVariants;
+use crate::no_variants::{Absent, NoVariants};
 use crate::shaped::Shaped;
+use crate::stands_for::StandsFor;
 
 /// A type of which all listings of a value have the same numbers of arrays. So whether a value can be written does not
 /// depend on the order in which it is listed.
@@ -24,6 +25,13 @@ pub trait SameArrays: Shaped {
     ghost same_arrays: { ListsSameArrays Self.shape Self.is_value Self.lists };
 }
 
-impl<T: NoVariants> SameArrays for T {
+impl<T: NoVariants> SameArrays for Absent<T> {
     ghost same_arrays = { never_same_arrays };
+}
+
+impl<T: StandsFor> SameArrays for T
+where
+    T::Parts: SameArrays,
+{
+    ghost same_arrays = { image_same_arrays T.parts T.Parts.same_arrays };
 }

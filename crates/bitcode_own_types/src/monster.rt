@@ -1,0 +1,79 @@
+//! A struct of six fields, which stands for the tuple of them.
+ghost use Rattle.std.specs.Prelude.{refl};
+
+use bitcode::coder::Result;
+use bitcode::{
+    DecodeOwned, EncodeParts, FieldsEncoder, FromParts, HasDecoder, HasEncoder, PartsDecoder,
+    PartsEncoder, Shaped, StandsFor,
+};
+
+/// What a player meets.
+#[derive(Debug, PartialEq, Drop)]
+pub struct Monster {
+    pub id: u64,
+    pub name: String,
+    pub health: i16,
+    pub alive: bool,
+    pub position: (i32, i32),
+    pub loot: Vec<u16>,
+}
+
+type Parts = (u64, String, i16, bool, (i32, i32), Vec<u16>);
+
+type Columns = <Parts as HasEncoder>::Encoder;
+
+impl StandsFor for Monster {
+    type Parts = Parts;
+
+    ghost parts = { λ t. (t.id, t.name, t.health, t.alive, t.position, t.loot) };
+
+    ghost of_parts = { λ p. (record { id = p.0; name = p.1; health = p.2; alive = p.3; position = p.4; loot = p.5 }, refl) };
+
+    fn told_parts(&self) {
+        self.id.told();
+        self.name.told();
+        self.health.told();
+        self.alive.told();
+        self.position.told();
+        self.loot.told();
+    }
+}
+
+impl FromParts for Monster {
+    fn from_parts((id, name, health, alive, position, loot): Parts) -> Self {
+        Monster {
+            id,
+            name,
+            health,
+            alive,
+            position,
+            loot,
+        }
+    }
+}
+
+impl EncodeParts<Columns> for Monster {
+    fn encode_parts(&self, columns: &mut Columns) -> Result<()> {
+        FieldsEncoder::<(&u64, &String, &i16, &bool, &(i32, i32), &Vec<u16>)>::encode_fields(
+            columns,
+            &(
+                &self.id,
+                &self.name,
+                &self.health,
+                &self.alive,
+                &self.position,
+                &self.loot,
+            ),
+        )
+    }
+}
+
+impl HasEncoder for Monster {
+    type Encoder = PartsEncoder<Columns>;
+}
+
+impl<'a> HasDecoder<'a> for Monster {
+    type Decoder = PartsDecoder<Parts, <Parts as HasDecoder<'a>>::Decoder>;
+}
+
+impl DecodeOwned for Monster {}
