@@ -1,3 +1,4 @@
+// Written by scripts/tables/containers.
 //! Sets as the sequences of their elements.
 ghost use Rattle.std.specs.Prelude.{◌≡◌, refl, IfOk, IfErr, None, false};
 ghost use Rattle.std.proofs.lemmas.List.Sorted.{IsPermutation-refl};

@@ -1,3 +1,4 @@
+// Written by scripts/tables/containers.
 //! Maps hold the data of their keys and values: an ordered map in the order of its keys, a hashed one in an order of its own.
 ghost use Rattle.std.specs.Prelude.{◌&&◌, false};
 ghost use Rattle.std.specs.Map.{keys_of};

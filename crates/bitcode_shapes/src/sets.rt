@@ -1,3 +1,4 @@
+// Written by scripts/tables/containers.
 //! Sets hold the data of their keys: an ordered set in their order, a hashed one in an order of its own.
 ghost use Rattle.std.specs.Prelude.{None, false};
 ghost use Rattle.std.specs.Ordering.{eq_by_cmp};
