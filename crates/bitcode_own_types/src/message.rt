@@ -1,4 +1,4 @@
-//! Structs with a lifetime, with a type parameter, and with another such struct inside, each standing for its fields.
+//! Structs with a lifetime and with a type parameter, each standing for the tuple of its fields.
 ghost use Rattle.std.specs.Prelude.{refl};
 
 use bitcode::coder::Result;
@@ -94,50 +94,3 @@ impl<'a, T: HasDecoder<'a>> HasDecoder<'a> for Dated<T> {
 }
 
 impl<T: DecodeOwned> DecodeOwned for Dated<T> {}
-
-/// A talk: its subject, and each message with its date.
-#[derive(Debug, PartialEq, Drop)]
-pub struct Talk<'a> {
-    pub subject: Option<&'a str>,
-    pub messages: Vec<Dated<Message<'a>>>,
-}
-
-type TalkParts<'a> = (Option<&'a str>, Vec<Dated<Message<'a>>>);
-
-type TalkColumns<'a> = <TalkParts<'a> as HasEncoder>::Encoder;
-
-impl<'a> StandsFor for Talk<'a> {
-    type Parts = TalkParts<'a>;
-
-    ghost parts = { λ t. (t.subject, t.messages) };
-
-    ghost of_parts = { λ p. (record { subject = p.0; messages = p.1 }, refl) };
-
-    fn told_parts(&self) {
-        self.subject.told();
-        self.messages.told();
-    }
-}
-
-impl<'a> FromParts for Talk<'a> {
-    fn from_parts((subject, messages): TalkParts<'a>) -> Self {
-        Talk { subject, messages }
-    }
-}
-
-impl<'a> EncodeParts<TalkColumns<'a>> for Talk<'a> {
-    fn encode_parts(&self, columns: &mut TalkColumns<'a>) -> Result<()> {
-        FieldsEncoder::<(&Option<&'a str>, &Vec<Dated<Message<'a>>>)>::encode_fields(
-            columns,
-            &(&self.subject, &self.messages),
-        )
-    }
-}
-
-impl<'a> HasEncoder for Talk<'a> {
-    type Encoder = PartsEncoder<TalkColumns<'a>>;
-}
-
-impl<'a> HasDecoder<'a> for Talk<'a> {
-    type Decoder = PartsDecoder<TalkParts<'a>, <TalkParts<'a> as HasDecoder<'a>>::Decoder>;
-}

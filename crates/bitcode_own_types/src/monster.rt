@@ -3,8 +3,8 @@ ghost use Rattle.std.specs.Prelude.{refl};
 
 use bitcode::coder::Result;
 use bitcode::{
-    DecodeOwned, EncodeParts, FieldsEncoder, FromParts, HasDecoder, HasEncoder, PartsDecoder,
-    PartsEncoder, Shaped, StandsFor,
+    EncodeParts, FieldsEncoder, FromParts, HasDecoder, HasEncoder, PartsDecoder, PartsEncoder,
+    Shaped, StandsFor,
 };
 
 /// What a player meets.
@@ -75,5 +75,3 @@ impl HasEncoder for Monster {
 impl<'a> HasDecoder<'a> for Monster {
     type Decoder = PartsDecoder<Parts, <Parts as HasDecoder<'a>>::Decoder>;
 }
-
-impl DecodeOwned for Monster {}
