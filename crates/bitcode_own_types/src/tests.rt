@@ -1,5 +1,7 @@
-//! With ample memory a player and scores are written and read back, and generic code reads them.
+//! With ample memory structs and scores are written and read back, and generic code reads them.
 use crate::generic::{Cache, load};
+use crate::message::{Dated, Message};
+use crate::monster::Monster;
 use crate::player::Player;
 use crate::scores::Scores;
 use bitcode::{Error, Reason, decode, encode};
@@ -16,6 +18,47 @@ fn a_player_comes_back(rt: HostRuntime) -> Result<(), Error> {
     assert!(rt; bytes.as_slice() == [2, 97, 98, 7, 2, 0, 128].as_slice());
     let again: Player<'_> = decode(alloc, bytes.as_slice())?;
     assert!(rt; again == player);
+    Ok(())
+}
+
+#[test]
+fn what_stands_for_its_fields_comes_back(rt: HostRuntime) -> Result<(), Error> {
+    let alloc = rt.alloc();
+    let message = Message {
+        from: 10,
+        text: "abc",
+    };
+    let bytes = encode(alloc, &message)?;
+    assert!(rt; bytes.as_slice() == [4, 10, 3, 97, 98, 99].as_slice());
+    let again: Message<'_> = decode(alloc, bytes.as_slice())?;
+    assert!(rt; again == message);
+    let dated = Dated {
+        year: 2026,
+        day: 7,
+        value: 9u8,
+    };
+    let bytes = encode(alloc, &dated)?;
+    assert!(rt; bytes.as_slice() == [234, 7, 7, 0, 9].as_slice());
+    let again: Dated<u8> = decode(alloc, bytes.as_slice())?;
+    assert!(rt; again == dated);
+    Ok(())
+}
+
+#[test]
+fn a_monster_comes_back(rt: HostRuntime) -> Result<(), Error> {
+    let alloc = rt.alloc();
+    let monster = Monster {
+        id: 7,
+        name: String::from_str(alloc, "ab")?,
+        health: -1,
+        alive: true,
+        position: (1, 2),
+        loot: Vec::new(alloc),
+    };
+    let bytes = encode(alloc, &monster)?;
+    assert!(rt; bytes.as_slice() == [6, 7, 2, 97, 98, 255, 255, 1, 4, 1, 4, 2, 0].as_slice());
+    let again: Monster = decode(alloc, bytes.as_slice())?;
+    assert!(rt; again == monster);
     Ok(())
 }
 
