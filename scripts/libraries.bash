@@ -18,8 +18,7 @@ add_program() {
 }
 
 # make_edit FOLDER EDIT: the edit, of the form of the must-fail edits, made in the crates there. A line `file:` names a file of the
-# crate that the edit is of, or, in an edit that is of none, one below crates/. A line `behind:` in the place of `old:` tells
-# the number of the line behind which the new text comes.
+# crate that the edit is of, or, in an edit that is of none, one below crates/.
 make_edit() {
   python3 - "$1" "$2" <<'PYTHON'
 import sys
@@ -27,19 +26,16 @@ import sys
 folder, edit = sys.argv[1:]
 crate = edit.split("/")[1] if edit.startswith("crates/") else "."
 path = old = None
-kept = ""
 for line in open(edit).read().split("\n"):
     if line.startswith("file: "):
         path = f"{folder}/crates/{crate}/{line[6:]}"
     elif line.startswith("old: "):
         old = line[5:]
-    elif line.startswith("behind: "):
-        old = kept = "".join(open(path).readlines()[: int(line[8:])])
     elif line.startswith("new: "):
         text = open(path).read()
         if text.count(old) != 1:
             sys.exit(f"{edit}: the text {old!r} does not stand once")
         with open(path, "w") as file:
-            file.write(text.replace(old, kept + line[5:] + ("\n" if kept else "")))
+            file.write(text.replace(old, line[5:]))
 PYTHON
 }

@@ -4,9 +4,14 @@ pub use Rattle.bitcode_shapes.specs.LawfulStructs.{struct_lawful, struct_makeabl
 pub use Rattle.bitcode_shapes.specs.LawfulInts.{bool_lawful, bool_makeable, int_lawful, int_makeable}
 pub use Rattle.bitcode_shapes.specs.LawfulEmpty.{unit_lawful, unit_makeable}
 pub use Rattle.bitcode_shapes.specs.LawfulTexts.{text_lawful, text_makeable}
--- of the other integers, chars, texts, sequences, pointers and UUIDs; that what begins with what begins with a text begins
--- with that text; and that a reason not other than want of memory is want of memory:
-pub use Rattle.bitcode.specs.Laws.{u16_lawful, u16_makeable, u64_lawful, u64_makeable, u128_lawful, u128_makeable, usize_lawful, usize_makeable, i16_lawful, i16_makeable, i32_lawful, i32_makeable, i64_lawful, i64_makeable, i128_lawful, i128_makeable, isize_lawful, isize_makeable, char_lawful, non_zero_u8_lawful, non_zero_u8_makeable, non_zero_u16_lawful, non_zero_u16_makeable, non_zero_u32_lawful, non_zero_u32_makeable, non_zero_u64_lawful, non_zero_u64_makeable, non_zero_u128_lawful, non_zero_u128_makeable, non_zero_usize_lawful, non_zero_usize_makeable, non_zero_i8_lawful, non_zero_i8_makeable, non_zero_i16_lawful, non_zero_i16_makeable, non_zero_i32_lawful, non_zero_i32_makeable, non_zero_i64_lawful, non_zero_i64_makeable, non_zero_i128_lawful, non_zero_i128_makeable, non_zero_isize_lawful, non_zero_isize_makeable, string_lawful, string_makeable, boxed_str_lawful, boxed_str_makeable, rc_str_lawful, rc_str_makeable, slice_lawful, boxed_slice_lawful, boxed_slice_makeable, rc_slice_lawful, rc_slice_makeable, vec_deque_lawful, vec_deque_makeable, linked_list_lawful, linked_list_makeable, binary_heap_lawful, binary_heap_makeable, box_lawful, box_makeable, rc_lawful, rc_makeable, uuid_lawful, uuid_makeable, begins_behind, want_of_memory}
+-- of the other integers, chars, texts, sequences, pointers, arrays, markers and UUIDs; and that what begins with what begins
+-- with a text begins with that text:
+pub use Rattle.bitcode.specs.Laws.{u16_lawful, u16_makeable, u64_lawful, u64_makeable, u128_lawful, u128_makeable, usize_lawful, usize_makeable, i16_lawful, i16_makeable, i32_lawful, i32_makeable, i64_lawful, i64_makeable, i128_lawful, i128_makeable, isize_lawful, isize_makeable, char_lawful, non_zero_u8_lawful, non_zero_u8_makeable, non_zero_u16_lawful, non_zero_u16_makeable, non_zero_u32_lawful, non_zero_u32_makeable, non_zero_u64_lawful, non_zero_u64_makeable, non_zero_u128_lawful, non_zero_u128_makeable, non_zero_usize_lawful, non_zero_usize_makeable, non_zero_i8_lawful, non_zero_i8_makeable, non_zero_i16_lawful, non_zero_i16_makeable, non_zero_i32_lawful, non_zero_i32_makeable, non_zero_i64_lawful, non_zero_i64_makeable, non_zero_i128_lawful, non_zero_i128_makeable, non_zero_isize_lawful, non_zero_isize_makeable, string_lawful, string_makeable, boxed_str_lawful, boxed_str_makeable, rc_str_lawful, rc_str_makeable, slice_lawful, boxed_slice_lawful, boxed_slice_makeable, rc_slice_lawful, rc_slice_makeable, vec_deque_lawful, vec_deque_makeable, linked_list_lawful, linked_list_makeable, binary_heap_lawful, binary_heap_makeable, box_lawful, box_makeable, rc_lawful, rc_makeable, array_of_lawful, array_of_makeable, phantom_data_lawful, phantom_data_makeable, uuid_lawful, uuid_makeable, begins_behind}
+-- of tuples of two and more fields: `struct_lawful split_3 a_lawful (struct_lawful split_2 b_lawful c_lawful)` is that of three,
+-- and `struct_makeable split_3 joined_3 ..` likewise, where the halves of each tuple are as `split_..` says:
+pub use Rattle.bitcode_shapes.specs.Tuples.{split_2, joined_2, split_3, joined_3, split_4, joined_4, split_5, joined_5, split_6, joined_6, split_7, joined_7, split_8, joined_8, split_9, joined_9, split_10, joined_10, split_11, joined_11, split_12, joined_12, split_13, joined_13, split_14, joined_14, split_15, joined_15, split_16, joined_16}
+-- of bytes of texts, which are only written:
+pub use Rattle.bitcode_coder.specs.U8Char.{raw_lawful}
 -- of containers and texts with a limit, of durations, of checked numbers, and of arrays:
 pub use Rattle.bitcode_shapes.specs.FixedCapacity.{array_vec_lawful, array_vec_makeable, array_string_lawful, array_string_makeable}
 pub use Rattle.bitcode_shapes.specs.LawfulDurations.{duration_lawful, duration_makeable}
@@ -31,6 +36,8 @@ pub use Rattle.bitcode_parts.specs.Variants.{variant_room, variants_left, varian
 -- The laws of vectors, and what containers are made of:
 pub use Rattle.bitcode_shapes.specs.LawfulVectors.{vec_lawful, vec_makeable}
 pub use Rattle.bitcode_parts.specs.Elements.{MakesOfElements}
--- What is read of bytes:
+-- What is written and read of bytes, the values that are surely read back, and that a reason not other than want of memory is
+-- want of memory:
 pub use Rattle.bitcode_shapes.specs.Datum.{Datum}
-pub use Rattle.bitcode_derive.specs.Whole.{IsDecodingOf, SpellsDatum}
+pub use Rattle.bitcode_coder.specs.Coder.{IsWritingRefusal}
+pub use Rattle.bitcode_derive.specs.Whole.{IsEncodingOf, HasLongListing, HasShortLengths, IsDecodingOf, SpellsDatum, want_of_memory}

@@ -1,7 +1,7 @@
 -- The laws of the types that the library writes and reads, each by its name: a type that is written by hand cites those of
 -- its fields. Of a type with parts the laws take those of the parts. What has limits, keys or an order of its own keeps the
 -- name that it has in `bitcode_shapes`.
-use Rattle.std.proofs.Common.{◌≡◌, ◌≢◌, ℕ, Bool, true, false, ℤ, pos, None, List, ◌++◌, Bor, refl, ◌∙◌, ap, append_assoc}
+use Rattle.std.proofs.Common.{ℕ, Bool, true, false, ℤ, pos, None, List, ◌++◌, Bor, refl, ◌∙◌, ap, append_assoc}
 use Rattle.std.specs.Prelude.{All, String}
 use Rattle.std.specs.Box.{boxed_str_bytes, boxed_slice_items, box_value}
 use Rattle.std.specs.Rc.{rc_str_bytes, rc_slice_items, rc_value}
@@ -18,11 +18,10 @@ use Rattle.std.specs.declared.rc.RcSlice.{RcSlice}
 use Rattle.std.specs.declared.rc.RcStr.{RcStr}
 use Rattle.std.specs.declared.collections.VecDeque.{VecDeque}
 use Rattle.std.specs.declared.collections.BinaryHeap.{BinaryHeap}
-use Rattle.bitcode_columns.specs.declared.error.Reason.{Reason}
-use Rattle.bitcode_columns.specs.declared.error.Reason.TheVariants.{OutOfMemory}
+use Rattle.std.specs.declared.marker.PhantomData.{PhantomData}
 use Rattle.bitcode_coder.specs.Coder.{BeginsWith}
 use Rattle.bitcode_shapes.specs.Datum.{Datum}
-use Rattle.bitcode_shapes.specs.Shape.{Shape, text_shape, seq_shape, array_shape, scalar, nonzero}
+use Rattle.bitcode_shapes.specs.Shape.{Shape, unit_shape, text_shape, seq_shape, array_shape, scalar, nonzero}
 use Rattle.bitcode_shapes.specs.Lawful.{Lawful, Makeable}
 use Rattle.bitcode_shapes.specs.Ints.{int_shape, ListsNumber, MakesNumber, SameNumber, IsValueOfWidth}
 use Rattle.bitcode_shapes.specs.LawfulInts.{int_lawful, unsigned_makeable, signed_makeable, width_1, width_2, width_4, width_8, width_16}
@@ -39,6 +38,8 @@ use Rattle.bitcode_shapes.specs.BuiltSets.{heap_built}
 use Rattle.bitcode_shapes.specs.Pointers.{box_built, rc_built, boxed_slice_built, rc_slice_built}
 use Rattle.bitcode_shapes.specs.LawfulImages.{image_lawful, image_makeable}
 use Rattle.bitcode_shapes.specs.Arrays.{IsArrayValue, array_lawful, array_makeable}
+use Rattle.bitcode_shapes.specs.Empty.{ListsUnit, MakesUnit}
+use Rattle.bitcode_shapes.specs.LawfulEmpty.{unit_lawful, unit_makeable}
 
 -- ---- integers and chars
 
@@ -285,6 +286,22 @@ module _ {T : Type 0} {shape : Shape} {is_value : T → Type 0} {lists : T → D
       → Makeable shape (λ (p : Rc T Global). is_value (rc_value p)) (λ p d. lists (rc_value p) d) (λ p q. same (rc_value p) (rc_value q)) (λ d p. makes d (rc_value p))
   rc_makeable inner = image_makeable rc_value (λ g t h. rc_built g t) inner
 
+  pub array_of_lawful : {order : Bool} (size : ℕ) → Lawful shape is_value lists same order
+      → Lawful (array_shape size shape) (IsArrayValue size is_value) (ListsSequence lists) (SameSequence same) order
+  array_of_lawful {order} size element = array_lawful size shape is_value lists same order element
+
+  pub array_of_makeable : {makes : Datum → T → Type 0} (size : ℕ) → Makeable shape is_value lists same makes
+      → Makeable (array_shape size shape) (IsArrayValue size is_value) (ListsSequence lists) (SameSequence same) (MakesSequence makes)
+  array_of_makeable {makes = makes} size element = array_makeable size shape is_value lists same makes element
+
+-- ---- markers of types: nothing
+
+pub phantom_data_lawful : {T : Type 0} → Lawful unit_shape (λ (t : PhantomData T). Unit {0}) ListsUnit (λ t u. Unit {0}) true
+phantom_data_lawful = unit_lawful
+
+pub phantom_data_makeable : {T : Type 0} → Makeable unit_shape (λ (t : PhantomData T). Unit {0}) ListsUnit (λ t u. Unit {0}) MakesUnit
+phantom_data_makeable = unit_makeable (record {})
+
 -- ---- UUIDs: their sixteen bytes
 
 pub uuid_lawful : Lawful (array_shape 16 (int_shape 1 false)) (IsArrayValue 16 (IsValueOfWidth 1 false pos)) (ListsSequence (ListsNumber pos)) (SameSequence (SameNumber pos)) true
@@ -294,7 +311,7 @@ pub uuid_makeable : Makeable (array_shape 16 (int_shape 1 false)) (IsArrayValue 
     (MakesSequence (MakesNumber pos))
 uuid_makeable = array_makeable 16 (int_shape 1 false) (IsValueOfWidth 1 false pos) (ListsNumber pos) (SameNumber pos) (MakesNumber pos) (unsigned_makeable 1)
 
--- ---- what begins with what, and refusals
+-- ---- what begins with what
 
 -- what begins with what begins with the first begins with the first
 pub begins_behind : {a b c : List ℕ} → BeginsWith a b → BeginsWith b c → BeginsWith a c
@@ -302,8 +319,3 @@ begins_behind {a} first second = record {
   more = first.more ++ second.more;
   whole = second.whole ∙ ap (λ x. x ++ second.more) first.whole ∙ append_assoc a first.more second.more;
 }
-
--- a reason that is not other than want of memory is want of memory
-pub want_of_memory : (reason : Reason) → (reason ≢ OutOfMemory → ⊥) → reason ≡ OutOfMemory
-want_of_memory OutOfMemory h = refl
-want_of_memory _ h = absurd (h (λ e. cc))

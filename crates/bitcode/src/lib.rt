@@ -78,6 +78,7 @@ pub use bitcode_derive::whole::encode_into;
 pub use bitcode_derive::whole::invalid_enum_variant;
 pub use bitcode_parts::arrays::ArrayDecoder;
 pub use bitcode_parts::arrays::ArrayEncoder;
+pub use bitcode_parts::choices::bare::BareEncoder;
 pub use bitcode_parts::choices::option::OptionDecoder;
 pub use bitcode_parts::choices::option::OptionEncoder;
 pub use bitcode_parts::choices::result::ResultDecoder;
@@ -116,6 +117,8 @@ pub use bitcode_serde::deserialize::REF_LIMIT;
 pub use bitcode_serde::deserialize::deserialize;
 pub use bitcode_serde::free::ZST_LIMIT;
 pub use bitcode_serde::serialize::serialize;
+pub use bitcode_shapes::bare_variants::Bare;
+pub use bitcode_shapes::bare_variants::BareVariants;
 pub use bitcode_shapes::keys::Key;
 pub use bitcode_shapes::lists::told_behind;
 pub use bitcode_shapes::lists::told_each;
@@ -123,7 +126,9 @@ pub use bitcode_shapes::no_variants::NoVariants;
 pub use bitcode_shapes::same_arrays::SameArrays;
 pub use bitcode_shapes::shaped::Made;
 pub use bitcode_shapes::shaped::Shaped;
+pub use bitcode_shapes::stands_for::FromHolder;
 pub use bitcode_shapes::stands_for::FromParts;
+pub use bitcode_shapes::stands_for::HeldIn;
 pub use bitcode_shapes::stands_for::StandsFor;
 pub use bitcode_tuples::decoder::TupleDecoder;
 pub use bitcode_tuples::encoder::TupleEncoder;
@@ -152,8 +157,8 @@ pub mod laws {
     };
     pub use bitcode_columns::laws::{bool_columns, byte_columns, int_columns, variant_columns};
     pub use bitcode_derive::laws::{
-        borrowed_text, borrowed_texts, one_text, one_value, overflows_exactly, round_trip,
-        short_text,
+        borrowed_text, borrowed_texts, comes_back, one_text, one_value, overflows_exactly,
+        round_trip, short_text,
     };
     pub use bitcode_untyped::laws::{
         columns_decide, every_shape, faults_tell, one_value_of_a_datum, spelled_data,

@@ -134,7 +134,7 @@ impl<'a> View<'a> for FooDecoder<'a> {
     }
 }
 
-impl<'a> Decoder<'a, Foo<'a>> for FooDecoder<'a> {
+impl<'a> Decoder<Foo<'a>> for FooDecoder<'a> {
     ghost makes_free = { true };
 
     fn decode(&mut self) -> Result<Foo<'a>> {

@@ -95,7 +95,7 @@ impl<'a> View<'a> for NeverDecoder {
     }
 }
 
-impl<'a, T: NoVariants> Decoder<'a, T> for NeverDecoder {
+impl<T: NoVariants> Decoder<T> for NeverDecoder {
     ghost makes_free = { false };
 
     // No reading leaves a value to make.

@@ -122,7 +122,7 @@ impl<'a> View<'a> for OneDecoder<'a> {
     }
 }
 
-impl<'a> Decoder<'a, One> for OneDecoder<'a> {
+impl<'a> Decoder<One> for OneDecoder<'a> {
     ghost makes_free = { true };
 
     fn decode(&mut self) -> Result<One> {

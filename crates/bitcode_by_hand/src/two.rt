@@ -154,7 +154,7 @@ impl<'a> View<'a> for TwoDecoder<'a> {
     }
 }
 
-impl<'a> Decoder<'a, Two> for TwoDecoder<'a> {
+impl<'a> Decoder<Two> for TwoDecoder<'a> {
     ghost makes_free = { true };
 
     fn decode(&mut self) -> Result<Two> {

@@ -1,5 +1,6 @@
 -- What is read and written of a column of bools, in terms of data.
-use Rattle.std.proofs.Common.{◌≡◌, ◌≢◌, ℕ, ◌<◌, Bool, true, false, ◌==◌, List, [], ◌∷◌, map, refl, ap, ◌∙◌, lit<, Result, IsOk, IfErr, Ok, Err}
+use Rattle.std.proofs.Common.{◌≡◌, ◌≢◌, ℕ, ◌<◌, ◌≤◌, Bool, true, false, ◌==◌, List, [], ◌∷◌, length, map, take, drop, refl, sym, subst, ap, ◌∙◌, lit<, Result, IsOk, IfErr, Ok, Err}
+use Rattle.std.specs.List.{AllZip}
 use Rattle.std.proofs.lemmas.Bool.{false≢true}
 use Rattle.std.proofs.lemmas.List.{length-map}
 use Rattle.std.proofs.lemmas.List.Elements.{All-map}
@@ -13,10 +14,12 @@ use Rattle.bitcode_columns.specs.Laws.{IsFaultOf}
 use Rattle.bitcode_columns.proofs.DigitLemmas.{digits_fault-refuses}
 use Rattle.bitcode_shapes.specs.Datum.{natural_in}
 use Rattle.bitcode_shapes.specs.Shape.{IsNaturalBelow, bool_shape}
+use Rattle.bitcode_shapes.specs.Ints.{MakesNumber, bool_number}
 use Rattle.bitcode_coder.specs.Spelling.{Spells, truth}
 use Rattle.bitcode_coder.specs.Faults.{NamesBoolsFault}
-use Rattle.bitcode_coder.specs.Coder.{IsReadingRefusal}
+use Rattle.bitcode_coder.specs.Coder.{IsReadingRefusal, TakesEach}
 use Rattle.bitcode_coder.proofs.OneColumnLemmas.{missing_known, reads_of, refusal_of}
+use Rattle.bitcode_coder.proofs.TakingLemmas.{takes_front, made_each}
 
 bools_fault-refuses : IsFaultOf bools_fault SpellsBools
 bools_fault-refuses = record {
@@ -52,3 +55,10 @@ pub truths_in : (bs : List Bool) → map (λ d. natural_in d == 1) (map truth bs
 truths_in [] = refl
 truths_in (true ∷ bs) = ap (λ more. true ∷ more) (truths_in bs)
 truths_in (false ∷ bs) = ap (λ more. false ∷ more) (truths_in bs)
+
+-- a front of the bools was taken
+pub takes_bools : (count : ℕ) (entries front left bools : List Bool) → count ≤ length (map truth entries) → front ≡ take count entries → left ≡ drop count entries → bools ≡ front
+    → TakesEach (MakesNumber bool_number) count bools (map truth entries) (map truth left)
+takes_bools count entries front left bools enough is behind same =
+    takes_front (MakesNumber bool_number) truth count entries front left bools enough is behind
+    (subst (AllZip (MakesNumber bool_number) (map truth front)) (sym same) (made_each (MakesNumber bool_number) truth (λ b. refl) front))

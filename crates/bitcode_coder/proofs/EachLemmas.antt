@@ -81,3 +81,7 @@ module _ {T : Type 0} (lists : T → Datum → Type 0) (shape : Shape) (old : Co
 pub next_behind : {A B : Type 0} (value : A → B) (xs : List A) (i : ℕ) (x : A) → i < length xs → x ≡ slice_index_or xs i x
     → map value (drop i xs) ≡ value x ∷ map value (drop (i + 1) xs)
 next_behind value xs i x here is = at_drop_more (map value) xs i x here ∙ ap (λ y. value y ∷ map value (drop (i + 1) xs)) (sym is)
+
+-- what is left of a list from one place on
+pub next_of : {A : Type 0} (xs : List A) (i : ℕ) (x : A) → i < length xs → x ≡ slice_index_or xs i x → drop i xs ≡ x ∷ drop (i + 1) xs
+next_of xs i x here is = at_drop_more (λ ys. ys) xs i x here ∙ ap (λ y. y ∷ drop (i + 1) xs) (sym is)

@@ -1,5 +1,6 @@
 -- What is read and written of a column of integers, in terms of data.
-use Rattle.std.proofs.Common.{◌≡◌, ◌≢◌, ℕ, ◌*◌, ◌%◌, ◌^◌, ◌<◌, ◌≤◌, Bool, true, false, ltb, leb, eqb, Option, Some, ℤ, pos, negsuc, List, [], ◌∷◌, length, map, drop, All, refl, subst, inl, inr, arith, Result, OnOk, IfErr, Ok, Err, IsTrue}
+use Rattle.std.proofs.Common.{◌≡◌, ◌≢◌, ℕ, ◌*◌, ◌%◌, ◌^◌, ◌<◌, ◌≤◌, Bool, true, false, ltb, leb, eqb, Option, Some, ℤ, pos, negsuc, List, [], ◌∷◌, length, map, drop, All, refl, sym, ◌∙◌, ap, subst, inl, inr, arith, Result, OnOk, IfErr, Ok, Err, IsTrue}
+use Rattle.std.specs.List.{AllZip}
 use Rattle.std.proofs.lemmas.Bool.{cond_both}
 use Rattle.std.proofs.lemmas.List.Elements.{All-map}
 use Rattle.std.proofs.lemmas.Result.{IfErr-weaker}
@@ -15,7 +16,7 @@ use Rattle.bitcode_columns.specs.Tagged.{level_of_tag}
 use Rattle.bitcode_columns.specs.Reading.{Reads, missing, digits_fault, tagged_fault, bytes_fault, narrow_fault, ints_fault_as, ints_fault, ints_stand_raw, Names}
 use Rattle.bitcode_columns.proofs.IntColumnLemmas.{ints_fault-refuses}
 use Rattle.bitcode_columns.proofs.IntLemmas.{IsNumber-number_of}
-use Rattle.bitcode_shapes.specs.Datum.{number, number_in}
+use Rattle.bitcode_shapes.specs.Datum.{Datum, number, number_in}
 use Rattle.bitcode_shapes.specs.Shape.{Allowed, IsInWidth, IsAllowed, IsNumberOf, any_number}
 use Rattle.bitcode_shapes.specs.Ints.{int_shape}
 use Rattle.bitcode_coder.specs.Columns.{one}
@@ -23,6 +24,7 @@ use Rattle.bitcode_coder.specs.Spelling.{Spells, number_of_residue}
 use Rattle.bitcode_coder.specs.Faults.{NamesIntsFault}
 use Rattle.bitcode_coder.specs.Coder.{IsReadingRefusal}
 use Rattle.bitcode_coder.proofs.OneColumnLemmas.{IsReadingFault, missing_known, reads_of, refusal_of}
+use Rattle.bitcode_coder.proofs.TakingLemmas.{made_each}
 
 tagged_known : (width highest : ℕ) (fault : ℕ → List ℕ → Option Reason) → ((level : ℕ) (input : List ℕ) → IsReadingFault (fault level input))
     → (input : List ℕ) → IsReadingFault (tagged_fault width highest fault input)
@@ -113,3 +115,10 @@ ints_read_ok (Err error) residue_of width signed count old entries new known rea
 
 pub numbers_in : {T : Type 0} (value : T → ℤ) (ts : List T) → map number_in (map (λ t. number (value t)) ts) ≡ map value ts
 numbers_in value ts = map-map number_in (λ t. number (value t)) ts
+
+-- integers of such numbers are made of these
+pub made_of_numbers : {T Entry : Type 0} (makes : Datum → T → Type 0) (value : T → ℤ) → ((t : T) → makes (number (value t)) t) → (value_of : Entry → ℤ)
+    → (ts : List T) (entries : List Entry) → map value ts ≡ map value_of entries → AllZip makes (map (λ entry. number (value_of entry)) entries) ts
+made_of_numbers makes value made value_of ts entries same =
+    subst (λ ds. AllZip makes ds ts) (sym (map-map number value ts) ∙ ap (map number) same ∙ map-map number value_of entries)
+    (made_each makes (λ t. number (value t)) made ts)

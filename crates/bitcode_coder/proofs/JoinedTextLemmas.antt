@@ -1,10 +1,10 @@
 -- Texts are UTF-8 exactly where their joined bytes are and are cut at characters.
 use Rattle.std.proofs.Common.{◌≡◌, ℕ, ◌+◌, ◌-◌, List, [], ◌∷◌, ◌++◌, length, take, drop, All, sum, Bool, true, false, MatchBool, refl, sym, ◌∙◌, ap, subst, arith, append_assoc, length-append}
-use Rattle.std.specs.Prelude.{IsUtf8}
-use Rattle.std.specs.Str.{IsCharBoundary}
+use Rattle.std.specs.Prelude.{IsUtf8, nat_le, if◌then◌else◌}
+use Rattle.std.specs.Str.{IsCharBoundary, IsAscii}
 use Rattle.std.proofs.Math.Seq.{take-append_seam, drop-append_seam}
 use Rattle.std.proofs.lemmas.List.Elements.{All-nil, All-cons, All-head, All-tail}
-use Rattle.std.proofs.lemmas.Str.{IsUtf8-nil, IsUtf8-append, IsUtf8-between, IsCharBoundary-at_seam, IsCharBoundary-start}
+use Rattle.std.proofs.lemmas.Str.{IsUtf8-nil, IsUtf8-from_ascii, IsAscii-take, IsAscii-drop, IsUtf8-append, IsUtf8-between, IsCharBoundary-at_seam, IsCharBoundary-start}
 use Rattle.bitcode_coder.specs.Cutting.{cut}
 use Rattle.bitcode_coder.specs.JoinedTexts.{join, lengths_of, ends_from, IsCutAtChars, AreUtf8AsJoined}
 use Rattle.bitcode_coder.proofs.CuttingLemmas.{joined-cut, lengths-cut}
@@ -68,3 +68,14 @@ cut_at_chars lengths bytes all each =
 pub same_answer : {P Q : Type 0} (answer : Bool) → (P → Q) → (Q → P) → MatchBool answer P (P → ⊥) → MatchBool answer Q (Q → ⊥)
 same_answer true there back p = there p
 same_answer false there back not_p = λ q. not_p (back q)
+
+cut_or_none : (fits : Bool) (texts : List (List ℕ)) → All IsUtf8 texts → All IsUtf8 (if fits then texts else [])
+cut_or_none true texts each = each
+cut_or_none false texts each = All-nil IsUtf8
+
+-- an ASCII text may be cut anywhere
+pub ascii_pieces : (lengths bytes : List ℕ) → IsAscii bytes → All IsUtf8 (cut lengths bytes)
+ascii_pieces [] bytes ascii = All-nil IsUtf8
+ascii_pieces (n ∷ ns) bytes ascii =
+    cut_or_none (nat_le n (length bytes)) (take n bytes ∷ cut ns (drop n bytes))
+    (All-cons IsUtf8 (take n bytes) (cut ns (drop n bytes)) (IsUtf8-from_ascii (take n bytes) (IsAscii-take bytes n ascii)) (ascii_pieces ns (drop n bytes) (IsAscii-drop bytes n ascii)))

@@ -1,8 +1,8 @@
 -- The two parts of a length column, as a writer keeps them and as a reader takes them.
-use Rattle.std.proofs.Common.{◌≡◌, ℕ, suc, ◌+◌, ◌<◌, ◌≤◌, min, Bool, leb, pos, Option, List, [], ◌∷◌, ◌++◌, length, map, sum, refl, sym, ap, ◌∙◌, subst, arith, Result, OnOk}
+use Rattle.std.proofs.Common.{◌≡◌, ℕ, suc, ◌+◌, ◌<◌, ◌≤◌, min, Bool, leb, pos, Option, List, [], ◌∷◌, ◌++◌, length, map, sum, take, slice_index_or, refl, sym, ap, ◌∙◌, subst, arith, Result, OnOk}
 use Rattle.std.specs.Prelude.{filter}
 use Rattle.std.proofs.lemmas.Bool.{cond-true, cond-false, le-leb, lt-leb}
-use Rattle.std.proofs.lemmas.List.{map-id, map-append, append_assoc, append-nil}
+use Rattle.std.proofs.lemmas.List.{map-id, map-append, append_assoc, append-nil, take_more, take_all}
 use Rattle.std.proofs.lemmas.List.Elements.{filter-append}
 use Rattle.std.proofs.lemmas.List.Sums.{sum_by-cons}
 use Rattle.std.proofs.lemmas.Result.{on_ok_weaker}
@@ -80,6 +80,17 @@ written_parts result old new short large first second split same_short same_larg
     ∙ (ap (λ numbers. byte_text (map pos short) ++ int_text 8 (map pos numbers)) same_large
     ∙ (length_bytes-parts short large split ∙ ap length_bytes (sym (naturals_in (lengths_from short large))))) in
     on_ok_weaker result (λ (whole : new ≡ old ++ (byte_text (map pos first) ++ int_text 8 (map pos second))). whole ∙ ap (λ more. old ++ more) text) written
+
+-- one size more was pushed, that of the next element
+pub sizes_more : {T : Type 0} (size : T → ℕ) (old now new : List ℕ) (xs : List T) (i : ℕ) (x : T) (n : ℕ) → i < length xs → x ≡ slice_index_or xs i x → n ≡ size x
+    → now ≡ old ++ map size (take i xs) → new ≡ now ++ n ∷ [] → new ≡ old ++ map size (take (i + 1) xs)
+sizes_more size old now new xs i x n here is same front pushed =
+    let grown : take (i + 1) xs ≡ take i xs ++ x ∷ [] = take_more xs i x here ∙ ap (λ y. take i xs ++ y ∷ []) (sym is) in
+    pushed ∙ ap (λ sizes. sizes ++ n ∷ []) front ∙ append_assoc old (map size (take i xs)) (n ∷ [])
+    ∙ ap (λ sizes. old ++ sizes) (ap (λ m. map size (take i xs) ++ m ∷ []) same ∙ sym (map-append size (take i xs) (x ∷ [])) ∙ ap (map size) (sym grown))
+
+pub sizes_whole : {T : Type 0} (size : T → ℕ) (old now : List ℕ) (xs : List T) (i : ℕ) → length xs ≤ i → now ≡ old ++ map size (take i xs) → now ≡ old ++ map size xs
+sizes_whole size old now xs i enough front = front ∙ ap (λ ys. old ++ map size ys) (take_all i xs enough)
 
 -- ---- taken
 

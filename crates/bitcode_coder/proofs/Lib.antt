@@ -17,5 +17,7 @@ pub mod RowLemmas
 pub mod LawLemmas
 pub mod ArrayCountLemmas
 pub mod EachLemmas
+pub mod PushingLemmas
+pub mod TakingLemmas
 pub mod RefusalLemmas
 pub mod CheckedLemmas

@@ -92,3 +92,10 @@ pub record TakesDatum {T : Type 0} (makes : Datum → T → Type 0) (t : T) (old
   pub datum : Datum
   pub taken : old ≡ datum ∷ new
   pub made : makes datum t
+
+-- so many items are made of data that were taken from the front, one of each
+pub record TakesEach {T : Type 0} (makes : Datum → T → Type 0) (count : ℕ) (items : List T) (old new : List Datum) : Type 0 where
+  pub size : length items ≡ count
+  pub parts : List Datum
+  pub taken : old ≡ parts ++ new
+  pub made : AllZip makes parts items

@@ -1,5 +1,6 @@
 -- The data that integers are, and those that the bytes of integers stand for.
-use Rattle.std.specs.Prelude.{ℕ, Bool, ℤ, List, map}
+use Rattle.std.specs.Prelude.{◌≡◌, ℕ, Bool, ℤ, List, ◌++◌, map}
+use Rattle.std.specs.List.{AllZip}
 use Rattle.bitcode_columns.specs.LittleEndian.{little_endian}
 use Rattle.bitcode_shapes.specs.Datum.{Datum, number}
 use Rattle.bitcode_coder.specs.Spelling.{number_of_residue}
@@ -12,3 +13,9 @@ module _ {T : Type 0} where
   -- integers of a width, signed (true) or not, of each of which the bytes are given, the lowest first
   abbrev pub bytes_data : ℕ → Bool → (T → List ℕ) → List T → List Datum
   bytes_data width signed bytes_of entries = map (λ entry. number_of_residue width signed (little_endian (bytes_of entry))) entries
+
+-- one integer for each value was pushed, that which stands for it
+pub record PushesInts {T I : Type 0} (lists : T → Datum → Type 0) (value : I → ℤ) (values : List T) (old new : List I) : Type 0 where
+  pub ints : List I
+  pub pushed : new ≡ old ++ ints
+  pub stand : AllZip (λ t int. lists t (number (value int))) values ints

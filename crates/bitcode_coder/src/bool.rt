@@ -64,6 +64,15 @@ impl Encoder<bool> for BoolEncoder {
         Ok(())
     }
 
+    fn is_primitive() -> bool {
+        true
+    }
+
+    fn encode_slice(&mut self, items: &[bool]) -> Result<(), Error> {
+        self.values.extend_unchecked(items);
+        Ok(())
+    }
+
     ghost of_shape = { λ e. refl };
 
     ghost surely = { λ e n never. absurd never };
@@ -104,11 +113,17 @@ impl<'a> View<'a> for BoolDecoder<'a> {
     }
 }
 
-impl<'a> Decoder<'a, bool> for BoolDecoder<'a> {
+impl<'a> Decoder<bool> for BoolDecoder<'a> {
     ghost makes_free = { true };
 
     fn decode(&mut self) -> Result<bool, Error> {
         Ok(self.values.next_unchecked())
+    }
+
+    fn decode_many(&mut self, alloc: Global, count: usize) -> Result<Vec<bool>, Error> {
+        let mut bools = Vec::with_capacity(alloc, count)?;
+        bools.extend_from_slice(self.values.chunk_unchecked(count))?;
+        Ok(bools)
     }
 
     ghost same_shape = { refl };

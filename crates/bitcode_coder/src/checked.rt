@@ -88,7 +88,7 @@ impl<'a, C: Checked<I>, I: ColumnInt> View<'a> for CheckedIntDecoder<'a, C, I> {
     }
 }
 
-impl<'a, C: Checked<I>, I: ColumnInt> Decoder<'a, C> for CheckedIntDecoder<'a, C, I> {
+impl<'a, C: Checked<I>, I: ColumnInt> Decoder<C> for CheckedIntDecoder<'a, C, I> {
     ghost makes_free = { true };
 
     fn decode(&mut self) -> Result<C, Error> {

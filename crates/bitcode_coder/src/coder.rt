@@ -6,10 +6,10 @@ ghost use Rattle.bitcode_shapes.specs.Datum.{Datum};
 ghost use Rattle.bitcode_shapes.specs.Shape.{Shape};
 ghost use Rattle.bitcode_coder.specs.Columns.{Columns, emptied};
 ghost use Rattle.bitcode_coder.specs.Spelling.{Spells, columns_bytes};
-ghost use Rattle.bitcode_coder.specs.Coder.{written_columns, BeginsWith, JoinsListing, OverflowsWithListing, JoinsEach, OverflowsWithEach, SurelyOverflows, IsWritingRefusal, IsReadingRefusal, TakesDatum};
+ghost use Rattle.bitcode_coder.specs.Coder.{written_columns, BeginsWith, JoinsListing, OverflowsWithListing, JoinsEach, OverflowsWithEach, SurelyOverflows, IsWritingRefusal, IsReadingRefusal, TakesDatum, TakesEach};
 
 use bitcode_columns::error::{Error, Reason};
-use bitcode_shapes::lists::told_behind;
+use bitcode_shapes::lists::{told_behind, told_each};
 use bitcode_shapes::shaped::{Made, Shaped};
 use std::alloc::Global;
 
@@ -124,6 +124,36 @@ pub trait Encoder<T: Shaped>: HoldsColumns {
         Ok(())
     }
 
+    /// Whether the values are written as they are, as bools, integers and the bytes of texts are: by
+    /// [`Encoder::encode_slice`] many of them at once.
+    ///
+    /// No such value takes memory of its own.
+    fn is_primitive() -> bool
+        ensures { IsTrue result → IsTrue writes_free }
+    {
+        false
+    }
+
+    /// Joins the columns of the values of a slice to those so far, as [`Encoder::encode`] does one by one. Room for them
+    /// was reserved.
+    ///
+    /// It refuses as that does: the values up to the one at hand may have been joined then.
+    fn encode_slice(&mut self, items: &[T]) -> Result<(), Error>
+        requires { length items.now ≤ Self.room self.old }
+        ensures joined { OnOk result (JoinsEach T.lists T.shape items.now (Self.columns self.old) (Self.columns self.new)) }
+        ensures room { OnOk result (Self.room self.old ≤ Self.room self.new + length items.now) }
+        ensures form { emptied (Self.columns self.new) ≡ emptied (Self.columns self.old) }
+        ensures refused { IfErr result (λ e. IsWritingRefusal e.reason (OverflowsWithEach T.lists T.shape items.now (Self.columns self.old))) }
+        ensures free { IsTrue writes_free → IfErr result (λ e. e.reason ≢ Reason.OutOfMemory) }
+        ensures none { length items.now ≡ 0 → IsOk result }
+    {
+        told_each(items);
+        for item in items {
+            self.encode(item)?;
+        }
+        Ok(())
+    }
+
     // the columns are those of the type's shape
     ghost of_shape: { (e : Self) → emptied (Self.columns e) ≡ written_columns T.shape [] };
 
@@ -167,7 +197,7 @@ pub trait View<'a>: HoldsData {
 }
 
 /// Data that values of `T` are made of.
-pub trait Decoder<'a, T: Made>: HoldsData {
+pub trait Decoder<T: Made>: HoldsData {
     // making a value takes no memory
     ghost makes_free: { Bool };
 
@@ -179,6 +209,24 @@ pub trait Decoder<'a, T: Made>: HoldsData {
         ensures made { IfOk result (λ t. TakesDatum T.makes t (Self.held self.old) (Self.held self.new)) }
         ensures refused { IfErr result (λ e. e.reason ≡ Reason.OutOfMemory) }
         ensures free { IsTrue makes_free → IsOk result };
+
+    /// Makes values of the next so many data, as [`Decoder::decode`] does one by one. So many are left.
+    ///
+    /// `out of memory` is its only refusal, and none comes where no value is wanted.
+    fn decode_many(&mut self, alloc: Global, count: usize) -> Result<Vec<T>, Error>
+    where
+        T: Drop,
+        requires { count ≤ length (Self.held self.old) }
+        ensures made { IfOk result (λ items. TakesEach T.makes count items.items (Self.held self.old) (Self.held self.new)) }
+        ensures refused { IfErr result (λ e. e.reason ≡ Reason.OutOfMemory) }
+        ensures none { count ≡ 0 → IsOk result }
+    {
+        let mut items = Vec::with_capacity(alloc, count)?;
+        for _made in 0..count {
+            items.push_reserved(self.decode()?);
+        }
+        Ok(items)
+    }
 
     ghost same_shape: { Self.shape ≡ T.shape };
 }

@@ -1,14 +1,16 @@
 //! The coders of a column of integers.
 #![tactic(auto)]
 
-ghost use Rattle.std.specs.Prelude.{◌≡◌, ◌≢◌, ◌+◌, ◌<◌, ◌≤◌, ◌++◌, List, [], length, true, OnOk, IfErr, OnErr};
+ghost use Rattle.std.specs.Prelude.{◌≡◌, ◌≢◌, ◌+◌, ◌<◌, ◌≤◌, ◌++◌, List, [], length, map, true, IsOk, IfOk, OnOk, IfErr, OnErr};
 ghost use Rattle.std.proofs.Common.{sym};
 ghost use Rattle.bitcode_columns.specs.Fast.{fast_items, fast_room, cow_rest, fast_capacity, cow_owned};
+ghost use Rattle.bitcode_columns.specs.Ints.{number_of};
+ghost use Rattle.bitcode_columns.specs.LittleEndian.{little_endian};
 ghost use Rattle.bitcode_columns.specs.Reading.{Reads, IsEndOf};
 ghost use Rattle.bitcode_shapes.specs.Datum.{Datum, number};
-ghost use Rattle.bitcode_shapes.specs.Ints.{int_shape};
+ghost use Rattle.bitcode_shapes.specs.Ints.{ListsNumber, int_shape};
 ghost use Rattle.bitcode_coder.specs.Columns.{ints, one};
-ghost use Rattle.bitcode_coder.specs.Int.{int_data, bytes_data};
+ghost use Rattle.bitcode_coder.specs.Int.{int_data, bytes_data, PushesInts};
 ghost use Rattle.bitcode_coder.specs.Spelling.{Spells};
 ghost use Rattle.bitcode_coder.specs.Coder.{IsReadingRefusal, written_columns};
 ghost use Rattle.bitcode_coder.specs.Faults.{NamesIntsFault};
@@ -28,7 +30,27 @@ pub trait AsInt<I: ColumnInt>: Shaped {
     fn to_int(&self) -> I
         ensures { Self.lists self.now (number (I.number result)) };
 
+    /// Pushes the integers that stand for the values of a slice. Room for them was reserved.
+    fn push_ints(values: &[Self], ints: &mut FastVec<I>)
+        requires { length values.now ≤ fast_room ints.old }
+        ensures written { PushesInts Self.lists I.number values.now (fast_items ints.old) (fast_items ints.new) }
+        ensures room { fast_room ints.old ≤ fast_room ints.new + length values.now }
+    {
+        for value in values {
+            ints.push_unchecked(value.to_int());
+        }
+    }
+
     ghost as_int_columns: { (ds : List Datum) → written_columns Self.shape ds ≡ one (ints I.width I.signed) ds };
+}
+
+// Pushes integers that stand for themselves, by one copy. Room for them was reserved.
+fn push_themselves<I: ColumnInt>(values: &[I], ints: &mut FastVec<I>)
+    requires { length values.now ≤ fast_room ints.old }
+    ensures written { PushesInts (ListsNumber I.number) I.number values.now (fast_items ints.old) (fast_items ints.new) }
+    ensures room { fast_room ints.old ≤ fast_room ints.new + length values.now }
+{
+    ints.extend_unchecked(values);
 }
 
 /// An integer whose values are made of what is read, as it is.
@@ -113,9 +135,31 @@ impl<I: ColumnInt, P: AsInt<I>> Encoder<P> for IntEncoder<I> {
         Ok(())
     }
 
+    fn is_primitive() -> bool {
+        true
+    }
+
+    fn encode_slice(&mut self, items: &[P]) -> Result<(), Error> {
+        P::push_ints(items, &mut self.values);
+        Ok(())
+    }
+
     ghost of_shape = { λ e. sym (P.as_int_columns []) };
 
     ghost surely = { λ e n never. absurd never };
+}
+
+// The integers of these bytes.
+fn ints_of<T: ColumnInt>(alloc: Global, unaligned: &[T::Une]) -> Result<Vec<T>, Error>
+    ensures numbers { IfOk result (λ ints. map T.number ints.items ≡ map (λ u. number_of T.width T.signed (little_endian (T.une_bytes u))) unaligned.now) }
+    ensures refused { IfErr result (λ e. e.reason ≡ Reason.OutOfMemory) }
+    ensures none { length unaligned.now ≡ 0 → IsOk result }
+{
+    let mut ints = Vec::with_capacity(alloc, unaligned.len())?;
+    for bytes in unaligned {
+        ints.push_reserved(T::from_unaligned(*bytes));
+    }
+    Ok(ints)
 }
 
 /// The column that integers are read from.
@@ -159,11 +203,15 @@ impl<'a, T: ColumnInt> View<'a> for IntDecoder<'a, T> {
     }
 }
 
-impl<'a, T: Integer> Decoder<'a, T> for IntDecoder<'a, T> {
+impl<'a, T: Integer> Decoder<T> for IntDecoder<'a, T> {
     ghost makes_free = { true };
 
     fn decode(&mut self) -> Result<T, Error> {
         Ok(T::from_unaligned(self.values.next_unchecked()))
+    }
+
+    fn decode_many(&mut self, alloc: Global, count: usize) -> Result<Vec<T>, Error> {
+        ints_of(alloc, self.values.chunk_unchecked(count))
     }
 
     ghost same_shape = { sym T.integer_shape };

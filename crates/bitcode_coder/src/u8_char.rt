@@ -99,6 +99,10 @@ impl Encoder<U8Char> for U8CharEncoder {
         Ok(())
     }
 
+    fn is_primitive() -> bool {
+        true
+    }
+
     ghost of_shape = { λ e. refl };
 
     ghost surely = { λ e n never. absurd never };

@@ -17,8 +17,14 @@ pub mod AppendLemmas
 pub mod RoomLemmas
 pub mod BytePackingLemmas
 pub mod HistogramLemmas
+pub mod TableLemmas
+pub mod DigitCountLemmas
+pub mod BlockLemmas
 pub mod VariantColumnLemmas
 pub mod ConsumeLemmas
 pub mod IntLemmas
 pub mod LittleEndianLemmas
 pub mod UnalignedLemmas
+pub mod MemoryLemmas
+pub mod MemoryLentLemmas
+pub mod PlacesLemmas

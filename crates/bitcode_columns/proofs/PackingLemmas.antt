@@ -1,17 +1,16 @@
 -- Packing and unpacking, a digit at a time.
-use Rattle.std.proofs.Common.{◌≡◌, ℕ, zero, suc, ◌+◌, ◌-◌, ◌*◌, ◌/◌, ◌%◌, ◌^◌, ◌<◌, ◌≤◌, min, List, [], ◌∷◌, ◌++◌, length, map, take, drop, get_or, All, sym, refl, ap, ◌∙◌, arith}
+use Rattle.std.proofs.Common.{◌≡◌, ℕ, zero, suc, ◌+◌, ◌-◌, ◌*◌, ◌/◌, ◌%◌, ◌^◌, ◌<◌, ◌≤◌, List, [], ◌∷◌, ◌++◌, length, map, take, drop, get_or, All, sym, refl, ap, ◌∙◌, arith}
 use Rattle.std.specs.List.{range_with_len}
 use Rattle.std.specs.Int.{div_ceil}
 use Rattle.std.proofs.Common.{append_assoc, subst, length-append}
-use Rattle.std.proofs.Math.Nat.{div-div-eq-div-mul, pow-suc, pow-le-pow_right}
-use Rattle.std.proofs.lemmas.Grind.{div_ceil_times}
+use Rattle.std.proofs.Math.Nat.{div-div-eq-div-mul, pow-suc, pow-le-pow_right, mod-lt}
 use Rattle.std.proofs.Math.Numerals.{add-one}
 use Rattle.std.proofs.Math.Nat.{add-zero}
-use Rattle.std.proofs.lemmas.List.{at_drop_more, get_or-map, length-map, map_push, append-nil, length-take, take-map, drop-map, drop-drop}
-use Rattle.std.proofs.lemmas.List.Elements.{All-take, All-map}
+use Rattle.std.proofs.lemmas.List.{at_drop_more, get_or-map, length-map, map_push, append-nil, length-take, length-drop, take_all, take-map, drop-map, drop-drop}
+use Rattle.std.proofs.lemmas.List.Elements.{All-take, All-drop, All-map}
 use Rattle.std.proofs.lemmas.List.FromFn.{map-range_with_len_more, length-map-range_with_len, get_or-map-range_with_len}
 use Rattle.bitcode_columns.proofs.DigitLemmas.{number_with_digits_below}
-use Rattle.std.proofs.lemmas.Nat.{mul-le, div-mul-add, mod-mul-add, row_fits}
+use Rattle.std.proofs.lemmas.Nat.{mul-le, div-mul-add, mod-mul-add, div-add-mod', row_fits}
 use Rattle.bitcode_columns.specs.declared.pack.Base.{Base}
 use Rattle.bitcode_columns.specs.declared.pack.Base.TheVariants.{Whole, Sixteen, Six, Four, Three, Two}
 use Rattle.bitcode_columns.specs.Digits.{radix, digits_in_byte, digit, number_with_digits, SpellsDigits, digits_text}
@@ -135,6 +134,49 @@ module _ {X : Type 0} (number : X → ℕ) (base : Base) (entries rest : List X)
       let more = map-range_with_len_more chunk 0 byte byte (omega arith) in
       rw (so_far, here, more, append_assoc)
 
+  left_digits : All (λ entry. number entry < radix base) entries → All (λ entry. number entry < radix base) rest
+  left_digits digits = rw is_rest (All-drop (λ entry. number entry < radix base) (byte * digits_in_byte base) entries digits)
+
+  pub group_digits : All (λ entry. number entry < radix base) entries → All (λ entry. number entry < radix base) (take (digits_in_byte base) rest)
+  group_digits digits = All-take (λ entry. number entry < radix base) (digits_in_byte base) rest (left_digits digits)
+
+  group_is_byte : All (λ entry. number entry < radix base) entries → number_with_digits (radix base) (map number (take (digits_in_byte base) rest)) < 256
+  group_is_byte digits = front_is_byte number base rest (left_digits digits)
+
+  -- behind the last whole byte
+  module _ (at_end : byte ≡ length entries / digits_in_byte base) where
+    pub length-left : length rest ≡ length entries % digits_in_byte base
+    length-left =
+        omega (
+          arith,
+          ap length is_rest,
+          length-drop (byte * digits_in_byte base) entries,
+          ap (λ n. n * digits_in_byte base) at_end,
+          div-add-mod' (length entries) (digits_in_byte base),
+        )
+
+    left_is_front : take (digits_in_byte base) rest ≡ rest
+    left_is_front = take_all (digits_in_byte base) rest (omega (arith, length-left, mod-lt (length entries) (digits_in_byte_at_least base)))
+
+    pub left_is_byte : All (λ entry. number entry < radix base) entries → number_with_digits (radix base) (map number rest) < 256
+    left_is_byte digits = subst (λ xs. number_with_digits (radix base) (map number xs) < 256) left_is_front (group_is_byte digits)
+
+    pub packed-none_left : length rest ≡ 0 → packed_so_far base (map number entries) byte ≡ digits_text base (map number entries)
+    packed-none_left none = packed_so_far-whole number base entries byte (digits_in_byte base) (omega (arith, none, length-left, at_end)) refl
+
+    pub packed-left : 0 < length rest → (next : ℕ) (before now : List ℕ) → next ≡ number_with_digits (radix base) (map number rest)
+        → now ≡ before ++ packed_so_far base (map number entries) byte
+        → now ++ next ∷ [] ≡ before ++ digits_text base (map number entries)
+    packed-left some next before now is so_far =
+        let front : next ≡ number_with_digits (radix base) (map number (take (digits_in_byte base) rest)) =
+        is ∙ ap (λ xs. number_with_digits (radix base) (map number xs)) (sym left_is_front) in
+        packed_push next before now front so_far
+        ∙ ap (λ text. before ++ text) (packed_so_far-whole number base entries (byte + 1) (digits_in_byte base) (omega (arith, some, length-left, at_end)) refl)
+
+-- a whole group of entries lies inside
+pub group_fits : (len size place : ℕ) → place < len / size → place * size + size ≤ len
+group_fits len size place inside = omega (arith, row_fits place size (len / size) size inside (omega arith), div-add-mod' len size)
+
 -- ---- reading
 
 -- the entry at a place of packed bytes
@@ -178,36 +220,29 @@ entries_so_far-spells base packed count size =
       each = λ i inside. get_or-map-range_with_len (entry_at base packed) 0 count i i 0 (rw same at inside) (omega arith);
     }
 
--- each byte that is there holds an entry
-pub byte_starts_inside : (count few bytes byte : ℕ) → 1 ≤ few → bytes ≡ div_ceil count few → byte < bytes → byte * few < count
-byte_starts_inside count few bytes byte some size inside =
-    omega (arith, div_ceil_times count few some, ap (λ n. n * few) size, row_fits byte few bytes few inside (omega arith))
-
-pub entries_fit : (count few bytes : ℕ) → 1 ≤ few → bytes ≡ div_ceil count few → count ≤ bytes * few
-entries_fit count few bytes some size = omega (arith, div_ceil_times count few some, ap (λ n. n * few) size)
-
--- the entries of one byte more
-module _ {X : Type 0} (number : X → ℕ) (base : Base) (packed : List ℕ) (count byte len few : ℕ)
-    (size : length packed ≡ div_ceil count (digits_in_byte base)) (inside : byte < length packed)
-    (is_len : len ≡ min (byte * digits_in_byte base) count) (is_few : few ≡ min (digits_in_byte base) (count - len)) where
-  pub len_is : len ≡ byte * digits_in_byte base
-  len_is = omega (arith, byte_starts_inside count (digits_in_byte base) (length packed) byte (digits_in_byte_at_least base) size inside)
-
-  pub entries_push : (before now : List X) → map number before ≡ entries_so_far base packed len
-      → map number now ≡ map number before ++ map (digit (radix base) (get_or packed byte 0)) (range_with_len 0 few)
-      → map number now ≡ entries_so_far base packed (len + few)
-  entries_push before now so_far pushed =
-      let more = entries_so_far-more base packed byte few (omega arith) in
-      let next : len + few ≡ byte * digits_in_byte base + few = ap (λ n. n + few) len_is in
-      pushed ∙ rw (so_far, next, more, len_is)
-
-  pub length_next : (before now : List X) → length before ≡ len
-      → map number now ≡ map number before ++ map (digit (radix base) (get_or packed byte 0)) (range_with_len 0 few)
-      → length now ≡ len + few
-  length_next before now was pushed =
+-- the digits of one byte more, as many as are entries
+module _ {X : Type 0} (number : X → ℕ) (base : Base) (packed : List ℕ) (byte len few item : ℕ) (fit : few ≤ digits_in_byte base)
+    (is_len : len ≡ byte * digits_in_byte base) (is : item ≡ get_or packed byte 0) (before now : List X) (was : length before ≡ len)
+    (pushed : map number now ≡ map number before ++ map (digit (radix base) item) (range_with_len 0 few)) where
+  pub length-pushed : length now ≡ len + few
+  length-pushed =
       let lengths : length (map number now) ≡ length (map number before) + few
-      = ap length pushed ∙ length-append (map number before) _ ∙ ap (λ n. length (map number before) + n) (length-map-range_with_len (digit (radix base) (get_or packed byte 0)) 0 few) in
-      omega (arith, lengths, length-map now number, length-map before number)
+      = ap length pushed ∙ length-append (map number before) _ ∙ ap (λ n. length (map number before) + n) (length-map-range_with_len (digit (radix base) item) 0 few) in
+      omega (arith, was, lengths, length-map now number, length-map before number)
 
-  pub next_is : len + few ≡ min ((byte + 1) * digits_in_byte base) count
-  next_is = omega (arith, len_is)
+  pub entries-pushed : map number before ≡ entries_so_far base packed len → map number now ≡ entries_so_far base packed (len + few)
+  entries-pushed so_far =
+      let more = entries_so_far-more base packed byte few fit in
+      pushed ∙ rw (so_far, is, is_len, more) refl
+
+-- behind the last whole byte: no entry is left, or as many as are left of the division
+module _ (base : Base) (packed : List ℕ) (count byte len : ℕ) (size : length packed ≡ div_ceil count (digits_in_byte base))
+    (at_end : byte ≡ count / digits_in_byte base) (is_len : len ≡ byte * digits_in_byte base) where
+  pub whole_and_left : len + count % digits_in_byte base ≡ count
+  whole_and_left = omega (arith, is_len, ap (λ n. n * digits_in_byte base) at_end, div-add-mod' count (digits_in_byte base))
+
+  pub all_whole : length packed ≡ byte → len ≡ count
+  all_whole none = omega (arith, whole_and_left, none, size, at_end)
+
+pub few_left : (base : Base) (count : ℕ) → count % digits_in_byte base ≤ digits_in_byte base
+few_left base count = omega (arith, mod-lt count (digits_in_byte_at_least base))

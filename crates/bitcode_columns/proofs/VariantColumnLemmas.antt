@@ -1,6 +1,9 @@
 -- Columns of variants are read and written as digits, and an entry that is no variant is refused.
-use Rattle.std.proofs.Common.{◌≡◌, ℕ, ◌-◌, ◌/◌, ◌%◌, ◌<◌, ◌≤◌, Bool, true, false, cond, ltb, Some, None, List, length, map, get_or, All, refl, sym, ap, ◌∙◌, inr, arith, length-append}
+use Rattle.std.proofs.Common.{◌≡◌, ℕ, ◌-◌, ◌/◌, ◌%◌, ◌^◌, ◌<◌, ◌≤◌, ◌++◌, Bool, true, false, cond, ltb, Some, None, List, length, map, take, get_or, All, refl, sym, ap, ◌∙◌, subst, inr, arith, length-append}
 use Rattle.std.proofs.Math.ListN.{get_or-append}
+use Rattle.std.proofs.Math.Nat.{mod-lt}
+use Rattle.std.proofs.Math.Seq.{take-append_seam}
+use Rattle.std.proofs.lemmas.List.{get_or_default}
 use Rattle.std.specs.Int.{div_ceil}
 use Rattle.std.specs.List.{list_all, range_with_len}
 use Rattle.std.proofs.lemmas.Bool.{cond-true, cond-false, ltb-true, lt-ltb, le-ltb}
@@ -49,6 +52,27 @@ variants_known : (variants : ℕ) (entries : List ℕ) → All (λ entry. entry 
 variants_known variants entries known =
     list_all-from_AllPass (λ entry. ltb entry variants) entries
     (All-weaker (λ entry. entry < variants) (λ entry. ltb entry variants ≡ true) (λ entry below. lt-ltb entry variants below) entries known)
+
+-- entries are digits of the base that they stand in
+pub entries_are_digits : (base : Base) (bytes entries : List ℕ) → SpellsDigits base bytes entries → All (λ entry. entry < radix base) entries
+entries_are_digits base bytes entries spelled = λ i d inside.
+    let few = digits_in_byte base in
+    let some : 0 < radix base = omega (arith, (some_digits base).2) in
+    subst (λ entry. entry < radix base) (sym (get_or_default entries i d 0 inside ∙ spelled.each i inside))
+    (mod-lt (get_or bytes (i / few) 0 / radix base ^ (i % few)) some)
+
+-- digits below a bound that none reaches
+pub digits_known : (variants radix : ℕ) (entries : List ℕ) → radix ≤ variants → All (λ entry. entry < radix) entries → are_variants variants entries ≡ true
+digits_known variants radix entries high digits =
+    variants_known variants entries (All-weaker (λ entry. entry < radix) (λ entry. entry < variants) (λ entry below. omega arith) entries digits)
+
+-- what was read are the bytes before the rest
+pub packed_spells : (base : Base) (count : ℕ) (old entries rest : List ℕ) → Reads (SpellsDigits base) count old entries rest → (size : ℕ)
+    → size ≡ length old - length rest → SpellsDigits base (take size old) entries
+packed_spells base count old entries rest read size is =
+    let piece : size ≡ length read.piece = omega (arith, ap length read.whole, length-append read.piece rest) in
+    subst (λ bytes. SpellsDigits base bytes entries)
+    (sym (ap (take size) read.whole ∙ ap (λ n. take n (read.piece ++ rest)) piece ∙ take-append_seam read.piece rest)) read.spelled
 
 module _ (variants count : ℕ) (input entries rest : List ℕ) (read : Reads (SpellsDigits (base_for (variants - 1))) count input entries rest) where
   base : Base

@@ -1,6 +1,6 @@
 -- Lists with reserved room, and lists that are read from the front.
-use Rattle.std.specs.Prelude.{ℕ, ◌+◌, ◌-◌, List, length, drop, vec_len, vec_capacity}
-use Rattle.bitcode_columns.specs.declared.fast.FastVec.{FastVec}
+use Rattle.std.specs.Prelude.{ℕ, ◌+◌, ◌-◌, List, length, take, drop, vec_capacity}
+use Rattle.bitcode_columns.specs.declared.fast.vec.FastVec.{FastVec}
 use Rattle.bitcode_columns.specs.declared.fast.FastSlice.{FastSlice}
 use Rattle.bitcode_columns.specs.declared.fast.CowSlice.{CowSlice}
 use Rattle.bitcode_columns.specs.declared.fast.Held.{Held}
@@ -9,11 +9,11 @@ use Rattle.bitcode_columns.specs.declared.fast.Held.TheVariants.{Borrowed, Owned
 module _ {T : Type 0} where
   -- the items that were pushed
   unfoldable pub fast_items : FastVec T → List T
-  fast_items v = v.vec.items
+  fast_items v = take v.len v.places.items
 
   -- how many more items have their place already
   unfoldable pub fast_room : FastVec T → ℕ
-  fast_room v = vec_capacity v.vec - vec_len v.vec
+  fast_room v = v.capacity - v.len
 
   -- how many items it has memory for, those that were pushed included
   abbrev pub fast_capacity : FastVec T → ℕ

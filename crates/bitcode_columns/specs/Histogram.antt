@@ -1,5 +1,5 @@
 -- How many entries of a list are each number.
-use Rattle.std.specs.Prelude.{◌≡◌, ℕ, ◌<◌, List, length, slice_index, count_by, ◌==◌}
+use Rattle.std.specs.Prelude.{◌≡◌, ℕ, ◌+◌, ◌<◌, List, length, slice_index, count_by, ◌==◌}
 
 abbrev pub count_of : ℕ → List ℕ → ℕ
 count_of value entries = count_by (λ entry. entry == value) entries
@@ -8,3 +8,7 @@ count_of value entries = count_by (λ entry. entry == value) entries
 pub record AreCounts (bound : ℕ) (entries counts : List ℕ) : Type 0 where
   pub size : length counts ≡ bound
   pub each : (value : ℕ) → value < bound → slice_index counts value ≡ count_of value entries
+
+-- what four tables of 256 counts, one behind another, count of a number together
+unfoldable pub counted : List ℕ → ℕ → ℕ
+counted tables value = slice_index tables value + slice_index tables (256 + value) + slice_index tables (512 + value) + slice_index tables (768 + value)

@@ -1,18 +1,28 @@
 -- What a list ends as, once the slice that it gave out is given back.
 use Rattle.std.specs.Prelude.{◌≡◌, ⊤, ℕ, List, [], drop}
 use Rattle.std.specs.Borrow.{Lends, follows_so, Fml, MutBor, RattleType, Array}
-use Rattle.std.specs.Vec.{with_items}
 use mathlib.Core.Option.{none}
 use mir.Syntax.{named}
-use Rattle.bitcode_columns.specs.declared.fast.FastVec.{FastVec}
+use Rattle.bitcode_columns.specs.declared.fast.vec.FastVec.{FastVec}
 use Rattle.bitcode_columns.specs.declared.fast.CowSlice.{CowSlice}
-use Rattle.bitcode_columns.specs.contracts.fast.FastVec.{the_row as fast_row}
+use Rattle.bitcode_columns.specs.contracts.fast.vec.FastVec.{the_row as fast_row}
 use Rattle.bitcode_columns.specs.contracts.fast.CowSlice.{the_row as cow_row}
 use Rattle.bitcode_columns.specs.Fast.{cow_rest}
+use Rattle.bitcode_columns.specs.Places.{with_front, front_counts}
 
 -- v with these items in place of its own, as many
 unfoldable pub with_fast_items : {T : Type 0} → FastVec T → List T → FastVec T
-with_fast_items v items = record { vec = with_items v.vec items }
+with_fast_items v items = record {
+  start = v.start;
+  capacity = v.capacity;
+  len = v.len;
+  places = with_front v.places v.len items;
+  lease = v.lease;
+  alloc = v.alloc;
+  block = v.block;
+  leased = v.leased;
+  counts = front_counts v.len v.capacity v.places.items items v.counts;
+}
 
 module _ (T : RattleType) where
   -- r is all items of v, to be written

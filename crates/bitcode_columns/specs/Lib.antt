@@ -4,6 +4,7 @@ pub mod BoolColumn
 pub mod ByteColumn
 pub mod VariantColumn
 pub mod Histogram
+pub mod DigitCounts
 pub mod IntColumn
 pub mod Narrowing
 pub mod Reading
@@ -13,6 +14,8 @@ pub mod AcceptedRows
 pub mod Vectors
 pub mod ByteForm
 pub mod IntHeader
+pub mod Memory
+pub mod Places
 pub mod Fast
 pub mod Lending
 pub mod Error

@@ -10,6 +10,15 @@ use crate::digit::Digit;
 use crate::error::{Error, Reason};
 use crate::pack::Base;
 use std::alloc::{AllocError, Global};
+use std::mem::replace;
+
+// What two or four bytes that are digits of base 16 or 4 are multiplied by, and four that are two digits of base 2 each, in
+// their lower and their upper half: the highest byte of the product is the number with these digits.
+const OF_TWO: u16 = 0x0110;
+
+const OF_FOUR: u32 = 0x0104_1040;
+
+const OF_EIGHT: u32 = 0x0102_0408;
 
 // The number with these digits, the lowest first.
 #[inline(always)]
@@ -25,41 +34,115 @@ fn number_with_digits<T: Digit>(base: Base, digits: &[T]) -> u8
     number as u8
 }
 
-// The number whose digits are the first entries, as many as the base has in a byte, and the entries behind them.
+// The number with two digits of base 16.
 #[inline(always)]
-fn next_byte<T: Digit>(base: Base, entries: &[T]) -> (u8, &[T])
-    requires { All (λ entry. T.digit_of entry < radix base) entries.now }
-    ensures number { result.0 ≡ number_with_digits (radix base) (map T.digit_of (take (digits_in_byte base) entries.now)) }
-    ensures rest { result.1.now ≡ drop (digits_in_byte base) entries.now }
+fn number_with_two<T: Digit>(digits: &[T]) -> u8
+    requires size { length digits.now ≡ 2 }
+    requires digits { All (λ entry. T.digit_of entry < 16) digits.now }
+    ensures { result ≡ number_with_digits 16 (map T.digit_of digits.now) }
 {
-    let in_byte = base.digits_in_byte();
-    if entries.len() < in_byte {
-        return (number_with_digits(base, entries), &[]);
-    }
-    let (digits, rest) = entries.split_at(in_byte);
-    (number_with_digits(base, digits), rest)
+    let bytes = [digits[0].to_digit(), digits[1].to_digit()];
+    (u16::from_le_bytes(bytes).wrapping_mul(OF_TWO) >> 8) as u8
 }
 
-// Appends the entries, so many of them to a byte as the base has digits in it.
+// The number with four digits of base 4.
 #[inline(always)]
-fn push_digits<T: Digit>(base: Base, entries: &[T], out: &mut Vec<u8>)
-    requires room { vec_len out.old + div_ceil (length entries.now) (digits_in_byte base) ≤ vec_capacity out.old }
-    requires digits { All (λ entry. T.digit_of entry < radix base) entries.now }
-    ensures { out.new.items ≡ out.old.items ++ digits_text base (map T.digit_of entries.now) }
+fn number_with_four<T: Digit>(digits: &[T]) -> u8
+    requires size { length digits.now ≡ 4 }
+    requires digits { All (λ entry. T.digit_of entry < 4) digits.now }
+    ensures { result ≡ number_with_digits 4 (map T.digit_of digits.now) }
 {
-    let mut rest = entries;
-    for _byte in 0..entries.len().div_ceil(base.digits_in_byte()) {
-        let (number, others) = next_byte(base, rest);
-        out.push_reserved(number);
-        rest = others;
+    let bytes = [
+        digits[0].to_digit(),
+        digits[1].to_digit(),
+        digits[2].to_digit(),
+        digits[3].to_digit(),
+    ];
+    (u32::from_le_bytes(bytes).wrapping_mul(OF_FOUR) >> 24) as u8
+}
+
+// The number with eight digits of base 2.
+#[inline(always)]
+fn number_with_eight<T: Digit>(digits: &[T]) -> u8
+    requires size { length digits.now ≡ 8 }
+    requires digits { All (λ entry. T.digit_of entry < 2) digits.now }
+    ensures { result ≡ number_with_digits 2 (map T.digit_of digits.now) }
+{
+    let low = u32::from_le_bytes([
+        digits[0].to_digit(),
+        digits[1].to_digit(),
+        digits[2].to_digit(),
+        digits[3].to_digit(),
+    ]);
+    let high = u32::from_le_bytes([
+        digits[4].to_digit(),
+        digits[5].to_digit(),
+        digits[6].to_digit(),
+        digits[7].to_digit(),
+    ]);
+    ((low + 16 * high).wrapping_mul(OF_EIGHT) >> 24) as u8
+}
+
+// The number whose digits are the entries, as many as there are in a byte.
+#[inline(always)]
+fn whole_byte<T: Digit>(base: Base, digits: &[T]) -> u8
+    requires size { length digits.now ≡ digits_in_byte base }
+    requires digits { All (λ entry. T.digit_of entry < radix base) digits.now }
+    ensures { result ≡ number_with_digits (radix base) (map T.digit_of digits.now) }
+{
+    match base {
+        Base::Sixteen => number_with_two(digits),
+        Base::Four => number_with_four(digits),
+        Base::Two => number_with_eight(digits),
+        _ => number_with_digits(base, digits),
     }
+}
+
+// A whole group of so many entries. It is found by its place: behind a slice that is cut shorter at each turn, the
+// compiler makes no loop that works on many groups at once.
+#[inline(always)]
+fn group<T: Digit>(entries: &[T], size: usize, place: usize) -> &[T]
+    requires { place < length entries.now / size }
+    ensures items { result.now ≡ take size (drop (place * size) entries.now) }
+    ensures len { length result.now ≡ size }
+{
+    let start = place * size;
+    let (_, rest) = entries.split_at(start);
+    let (front, _) = rest.split_at(size);
+    front
+}
+
+// Appends the entries, so many of them to a byte as the base has digits in it: whole bytes first, and then the entries
+// that are left.
+//
+// The list is handed over and given back: what holds it is then known to lie apart from its bytes, and its length is
+// kept in a register while they are written.
+#[inline(always)]
+fn push_digits<T: Digit>(base: Base, entries: &[T], mut out: Vec<u8>) -> Vec<u8>
+    requires room { vec_len out + div_ceil (length entries.now) (digits_in_byte base) ≤ vec_capacity out }
+    requires digits { All (λ entry. T.digit_of entry < radix base) entries.now }
+    ensures { result.items ≡ out.items ++ digits_text base (map T.digit_of entries.now) }
+{
+    let in_byte = base.digits_in_byte();
+    let whole = entries.len() / in_byte;
+    for byte in 0..whole {
+        let digits = group(entries, in_byte, byte);
+        out.push_reserved(whole_byte(base, digits));
+    }
+    let behind = whole * in_byte;
+    let (_, rest) = entries.split_at(behind);
+    if rest.is_empty() {
+        return out;
+    }
+    out.push_reserved(number_with_digits(base, rest));
+    out
 }
 
 // The same, by a loop for each base: the compiler then knows the radix, and divides and multiplies by no other number.
-fn push_packed<T: Digit>(base: Base, entries: &[T], out: &mut Vec<u8>)
-    requires room { vec_len out.old + div_ceil (length entries.now) (digits_in_byte base) ≤ vec_capacity out.old }
+fn push_packed<T: Digit>(base: Base, entries: &[T], out: Vec<u8>) -> Vec<u8>
+    requires room { vec_len out + div_ceil (length entries.now) (digits_in_byte base) ≤ vec_capacity out }
     requires digits { All (λ entry. T.digit_of entry < radix base) entries.now }
-    ensures { out.new.items ≡ out.old.items ++ digits_text base (map T.digit_of entries.now) }
+    ensures { result.items ≡ out.items ++ digits_text base (map T.digit_of entries.now) }
 {
     match base {
         Base::Whole => push_digits(Base::Whole, entries, out),
@@ -92,7 +175,9 @@ pub(crate) fn pack_digits<T: Digit>(
     if base == Base::Whole {
         T::push_whole(entries, out);
     } else {
-        push_packed(base, entries, out);
+        let alloc = *out.allocator();
+        let held = replace(out, Vec::new(alloc));
+        *out = push_packed(base, entries, held);
     }
     Ok(())
 }
@@ -113,22 +198,7 @@ fn push_digits_of<T: Digit>(base: Base, byte: u8, count: usize, out: &mut Vec<T>
     }
 }
 
-// Appends the lowest digits of a byte, as many as there are in one, or as are wanted.
-#[inline(always)]
-fn push_byte<T: Digit>(base: Base, byte: u8, wanted: usize, out: &mut Vec<T>)
-    requires room { vec_len out.old + wanted ≤ vec_capacity out.old }
-    requires in_limit { radix base ≤ T.limit }
-    ensures items { map T.digit_of out.new.items ≡ map T.digit_of out.old.items ++ map (digit (radix base) byte) (range_with_len 0 (min (digits_in_byte base) wanted)) }
-    ensures capacity { vec_capacity out.new ≡ vec_capacity out.old }
-{
-    if wanted < base.digits_in_byte() {
-        push_digits_of(base, byte, wanted, out);
-    } else {
-        push_digits_of(base, byte, base.digits_in_byte(), out);
-    }
-}
-
-// So many entries, from bytes that hold them and no more.
+// So many entries, from bytes that hold them and no more: those of whole bytes first.
 #[inline(always)]
 fn unpacked_digits<T: Digit>(
     alloc: Global,
@@ -142,11 +212,35 @@ fn unpacked_digits<T: Digit>(
     ensures spelled { IfOk result (λ entries. SpellsDigits base packed.now (map T.digit_of entries.items)) }
     ensures empty { count ≡ 0 → IsOk result }
 {
+    let in_byte = base.digits_in_byte();
     let mut entries = Vec::with_capacity(alloc, count)?;
-    for byte in packed {
-        let left = count - entries.len();
-        push_byte(base, *byte, left, &mut entries);
+    let (whole, last) = packed.split_at(count / in_byte);
+    for byte in whole {
+        push_digits_of(base, *byte, in_byte, &mut entries);
     }
+    if last.is_empty() {
+        return Ok(entries);
+    }
+    push_digits_of(base, last[0], count % in_byte, &mut entries);
+    Ok(entries)
+}
+
+// Reads so many entries from the front of the input.
+#[inline(always)]
+fn read_digits<T: Digit>(
+    alloc: Global,
+    base: Base,
+    input: &mut &[u8],
+    count: usize,
+) -> Result<Vec<T>, Error>
+    requires { radix base ≤ T.limit }
+    ensures read { IfOk result (λ entries. Reads (λ bytes read. SpellsDigits base bytes (map T.digit_of read)) count input.old.now entries.items input.new.now) }
+    ensures refused { IfErr result (λ e. Names e.reason (digits_fault base count input.old.now)) }
+    ensures rest { OnErr result (IsEndOf input.old.now input.new.now) }
+    ensures empty { count ≡ 0 → IsOk result }
+{
+    let packed = consume_bytes(input, count.div_ceil(base.digits_in_byte()))?;
+    let entries = unpacked_digits(alloc, base, packed, count)?;
     Ok(entries)
 }
 
@@ -165,15 +259,13 @@ pub(crate) fn unpack_digits<T: Digit>(
     ensures rest { OnErr result (IsEndOf input.old.now input.new.now) }
     ensures empty { count ≡ 0 → IsOk result }
 {
-    let packed = consume_bytes(input, count.div_ceil(base.digits_in_byte()))?;
     // A loop for each base: the compiler then knows the radix, and divides by no other number.
-    let entries = match base {
-        Base::Whole => unpacked_digits(alloc, Base::Whole, packed, count),
-        Base::Sixteen => unpacked_digits(alloc, Base::Sixteen, packed, count),
-        Base::Six => unpacked_digits(alloc, Base::Six, packed, count),
-        Base::Four => unpacked_digits(alloc, Base::Four, packed, count),
-        Base::Three => unpacked_digits(alloc, Base::Three, packed, count),
-        Base::Two => unpacked_digits(alloc, Base::Two, packed, count),
-    };
-    Ok(entries?)
+    match base {
+        Base::Whole => read_digits(alloc, Base::Whole, input, count),
+        Base::Sixteen => read_digits(alloc, Base::Sixteen, input, count),
+        Base::Six => read_digits(alloc, Base::Six, input, count),
+        Base::Four => read_digits(alloc, Base::Four, input, count),
+        Base::Three => read_digits(alloc, Base::Three, input, count),
+        Base::Two => read_digits(alloc, Base::Two, input, count),
+    }
 }

@@ -1,126 +1,25 @@
 //! Lists with reserved room, and lists that are read from the front.
-#![tactic(auto, unfolding(crate::specs::Fast::fast_items, crate::specs::Fast::fast_room, crate::specs::Fast::slice_rest, crate::specs::Fast::cow_rest, crate::specs::Fast::cow_owned, crate::specs::Lending::with_fast_items))]
+#![tactic(auto, unfolding(crate::specs::Fast::slice_rest, crate::specs::Fast::cow_rest, crate::specs::Fast::cow_owned))]
 
-ghost use Rattle.std.specs.Prelude.{◌≡◌, ℕ, ◌+◌, ◌<◌, ◌≤◌, List, [], ◌∷◌, ◌++◌, length, take, drop, vec_len, IsOk, IfOk, OnOk, IfErr, OnErr};
+ghost use Rattle.std.specs.Prelude.{◌≡◌, ℕ, ◌+◌, ◌<◌, ◌≤◌, List, [], ◌∷◌, ◌++◌, length, take, drop};
 ghost use Rattle.std.specs.Borrow.{sem};
-ghost use Rattle.bitcode_columns.specs.Fast.{fast_items, fast_room, slice_rest, held_items, cow_rest, cow_owned};
-ghost use Rattle.bitcode_columns.specs.Lending.{with_fast_items, LendsItems, EndsBehind};
+ghost use Rattle.bitcode_columns.specs.Fast.{slice_rest, held_items, cow_rest, cow_owned};
+ghost use Rattle.bitcode_columns.specs.Lending.{EndsBehind};
 
-use crate::error::{Error, Reason};
+mod memory;
+mod vec;
+
+// A crate can name a list in a contract only if the types of its fields are exported.
+#[doc(hidden)]
+pub use memory::{Lease, Places, Start};
 use std::alloc::Global;
+pub use vec::FastVec;
 
 /// The list that encoders push to.
 pub type VecImpl<T> = FastVec<T>;
 
 /// The slice that decoders read from.
 pub type SliceImpl<'a, T> = FastSlice<'a, T>;
-
-/// A list that is pushed to without a test, in room that was reserved before.
-///
-/// After `list.reserve(2)?` two calls of `push_unchecked`, or one of `extend_unchecked` with two items, can
-/// neither fail nor take memory. That the room is there is proved where they are called.
-#[derive(Drop)]
-pub struct FastVec<T: Copy> {
-    vec: Vec<T>,
-}
-
-impl<T: Copy> FastVec<T> {
-    /// An empty list. Takes no memory.
-    pub fn new(alloc: Global) -> Self
-        ensures items { fast_items result ≡ [] }
-        ensures room { fast_room result ≡ 0 }
-    {
-        FastVec {
-            vec: Vec::new(alloc),
-        }
-    }
-
-    /// How many items were pushed.
-    pub fn len(&self) -> usize
-        ensures { result ≡ length (fast_items self.now) }
-    {
-        self.vec.len()
-    }
-
-    /// The items, in the order in which they were pushed.
-    pub fn as_slice(&self) -> &[T]
-        ensures { result.now ≡ fast_items self.now }
-    {
-        self.vec.as_slice()
-    }
-
-    /// The items, to be written.
-    pub fn as_mut_slice(&mut self) -> &mut [T]
-        ensures* writes_back { sem 𝓛 (LendsItems T.row self.entry result) }
-        ensures value { result.now ≡ fast_items self.old }
-        ensures items { (written : List T) → length written ≡ length (fast_items self.old)
-            → fast_items (with_fast_items self.old written) ≡ written }
-        ensures room { (written : List T)
-            → fast_room (with_fast_items self.old written) ≡ fast_room self.old }
-    {
-        self.vec.as_mut_slice()
-    }
-
-    /// Drops the items. Their places are room again.
-    pub fn clear(&mut self)
-        ensures items { fast_items self.new ≡ [] }
-        ensures room { fast_room self.new ≡ fast_room self.old + length (fast_items self.old) }
-    {
-        self.vec.clear();
-    }
-
-    /// Makes room for `n` more items, unless it is there.
-    ///
-    /// A refused growth is `out of memory`, and nothing is changed.
-    pub fn reserve(&mut self, n: usize) -> Result<(), Error>
-        ensures items { fast_items self.new ≡ fast_items self.old }
-        ensures ok { OnOk result (n ≤ fast_room self.new) }
-        ensures grows { fast_room self.old ≤ fast_room self.new }
-        ensures succeeds { n ≤ fast_room self.old → IsOk result }
-        ensures reason { IfErr result (λ e. e.reason ≡ Reason.OutOfMemory) }
-        ensures unchanged { OnErr result (fast_room self.new ≡ fast_room self.old) }
-    {
-        self.vec.reserve(n)?;
-        Ok(())
-    }
-
-    /// Pushes the items of a slice, in room that was reserved.
-    pub fn extend_unchecked(&mut self, slice: &[T])
-        requires { length slice.now ≤ fast_room self.old }
-        ensures items { fast_items self.new ≡ fast_items self.old ++ slice.now }
-        ensures room { fast_room self.old ≤ fast_room self.new + length slice.now }
-    {
-        self.vec.extend_from_slice(slice).unwrap();
-    }
-
-    /// The items of a `Vec`, copied.
-    ///
-    /// A refused growth is `out of memory`.
-    pub fn from_vec(alloc: Global, vec: Vec<T>) -> Result<FastVec<T>, Error>
-        ensures items { IfOk result (λ v. fast_items v ≡ vec.items) }
-        ensures reason { IfErr result (λ e. e.reason ≡ Reason.OutOfMemory) }
-        ensures succeeds { vec_len vec ≡ 0 → IsOk result }
-    {
-        let mut copy = FastVec::new(alloc);
-        copy.reserve(vec.len())?;
-        copy.extend_unchecked(&vec);
-        Ok(copy)
-    }
-
-    /// The items as a `Vec`, copied.
-    ///
-    /// A refused growth is `out of memory`.
-    pub fn into_vec(self) -> Result<Vec<T>, Error>
-        ensures items { IfOk result (λ v. v.items ≡ fast_items self) }
-        ensures reason { IfErr result (λ e. e.reason ≡ Reason.OutOfMemory) }
-        ensures succeeds { length (fast_items self) ≡ 0 → IsOk result }
-    {
-        let alloc = *self.vec.allocator();
-        let mut copy = Vec::with_capacity(alloc, self.len())?;
-        copy.extend_from_slice(self.as_slice()).unwrap();
-        Ok(copy)
-    }
-}
 
 /// Pushing without a test, where room was reserved.
 pub trait PushUnchecked<T> {
@@ -133,16 +32,6 @@ pub trait PushUnchecked<T> {
         requires { 0 < room self.old }
         ensures items { items self.new ≡ items self.old ++ t ∷ [] }
         ensures room { room self.new + 1 ≡ room self.old };
-}
-
-impl<T: Copy> PushUnchecked<T> for FastVec<T> {
-    ghost items = { fast_items };
-
-    ghost room = { fast_room };
-
-    fn push_unchecked(&mut self, t: T) {
-        self.vec.push_reserved(t);
-    }
 }
 
 /// Reading from the front without a test, where so many items are left.

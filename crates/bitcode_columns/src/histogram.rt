@@ -1,5 +1,12 @@
 //! How often each byte occurs.
-ghost use Rattle.bitcode_columns.specs.Histogram.{AreCounts};
+ghost use Rattle.std.specs.Prelude.{◌≡◌, ℕ, ◌+◌, ◌^◌, ◌<◌, length, slice_index};
+ghost use Rattle.bitcode_columns.specs.Histogram.{AreCounts, count_of, counted};
+
+/// At most so many bytes are counted in one table, and more of them in four.
+pub(crate) const MOST_IN_ONE_TABLE: usize = 99;
+
+/// Four tables of 256 counts, one behind another.
+type Tables = [usize; 1024];
 
 /// How many of the bytes are 0, how many are 1, and so on up to 255.
 ///
@@ -11,7 +18,11 @@ ghost use Rattle.bitcode_columns.specs.Histogram.{AreCounts};
 pub fn histogram(bytes: &[u8]) -> [usize; 256]
     ensures { AreCounts 256 bytes.now result }
 {
-    counts_below(bytes)
+    if bytes.len() <= MOST_IN_ONE_TABLE {
+        counts_below(bytes)
+    } else {
+        count_in_tables(bytes)
+    }
 }
 
 /// How many of the bytes are each number below `N`. Other bytes count for nothing.
@@ -26,4 +37,45 @@ pub(crate) fn counts_below<const N: usize>(bytes: &[u8]) -> [usize; N]
         }
     }
     counts
+}
+
+/// The counts of the bytes, sixteen of them at a time.
+fn count_in_tables(bytes: &[u8]) -> [usize; 256]
+    ensures { AreCounts 256 bytes.now result }
+{
+    let mut tables = [0; 1024];
+    let (blocks, rest) = bytes.as_chunks::<16>();
+    for block in blocks {
+        count_each(block, &mut tables);
+    }
+    count_each(rest, &mut tables);
+    sums_of(&tables)
+}
+
+/// Counts each byte in the table of its place, so that the count of a byte does not wait for that of the one before it,
+/// where the two are equal. It is inlined, so that the compiler knows how many they are.
+#[inline(always)]
+fn count_each(bytes: &[u8], tables: &mut Tables)
+    requires { (value : ℕ) → value < 256 → counted tables.old value + length bytes.now < 2 ^ 64 }
+    ensures { (value : ℕ) → value < 256 → counted tables.new value ≡ counted tables.old value + count_of value bytes.now }
+{
+    for place in 0..bytes.len() {
+        let byte = bytes[place] as usize;
+        tables[place % 4 * 256 + byte] += 1;
+    }
+}
+
+/// What the four tables count together.
+fn sums_of(tables: &Tables) -> [usize; 256]
+    requires { (value : ℕ) → value < 256 → counted tables.now value < 2 ^ 64 }
+    ensures { (value : ℕ) → value < 256 → slice_index result value ≡ counted tables.now value }
+{
+    let mut sums = [0; 256];
+    for value in 0..256 {
+        sums[value] = tables[value]
+            + tables[256 + value]
+            + tables[512 + value]
+            + tables[768 + value];
+    }
+    sums
 }

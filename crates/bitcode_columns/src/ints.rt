@@ -7,6 +7,7 @@ ghost use Rattle.bitcode_columns.specs.Ints.{IsNumber, residue, number_of};
 
 use crate::consume::consume_byte_arrays;
 use crate::error::{Error, Reason};
+use std::mem::replace;
 
 mod signed;
 mod sizes;
@@ -68,6 +69,13 @@ pub trait SizedUInt: Copy {
         ensures written { out.new.items ≡ out.old.items ++ number_bytes width (value self) }
         ensures len { vec_len out.new ≡ vec_len out.old + width }
         ensures capacity { vec_capacity out.new ≡ vec_capacity out.old };
+
+    /// Writes the bytes of the number, the lowest first, over as many others.
+    fn put(self, bytes: &mut [u8])
+        requires { length bytes.old ≡ width }
+        ensures { bytes.new ≡ number_bytes width (value self) };
+
+    ghost width_law: { IsWidth width };
 }
 
 /// An integer that a column can have as entries.
@@ -201,6 +209,28 @@ fn push_bytes(bytes: &[u8], out: &mut Vec<u8>)
     for byte in bytes {
         out.push_reserved(*byte);
     }
+}
+
+// The list with the bytes of the numbers behind it, in room that is there. It is handed over and given back, so that its
+// length is kept in a register while they are written.
+fn with_signed(numbers: &[i8], mut out: Vec<u8>) -> Vec<u8>
+    requires { vec_len out + length numbers.now ≤ vec_capacity out }
+    ensures { result.items ≡ out.items ++ map (residue 1) numbers.now }
+{
+    for number in numbers {
+        out.push_reserved(number.cast_unsigned());
+    }
+    out
+}
+
+// Appends the bytes of the numbers in room that is there.
+fn push_signed(numbers: &[i8], out: &mut Vec<u8>)
+    requires { vec_len out.old + length numbers.now ≤ vec_capacity out.old }
+    ensures { out.new.items ≡ out.old.items ++ map (residue 1) numbers.now }
+{
+    let alloc = *out.allocator();
+    let held = replace(out, Vec::new(alloc));
+    *out = with_signed(numbers, held);
 }
 
 // Takes an array of `N` bytes.

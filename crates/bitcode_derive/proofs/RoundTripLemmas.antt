@@ -1,7 +1,9 @@
 -- What was written is read, and as an equal value.
-use Rattle.std.proofs.Common.{◌≡◌, ℕ, Bool, List, [], ◌∷◌, sym, ◌∙◌, ap, subst}
+use Rattle.std.proofs.Common.{◌≡◌, ◌≢◌, ℕ, Bool, List, [], ◌∷◌, sym, ◌∙◌, ap, subst}
 use Rattle.std.specs.Prelude.{IsTrue}
 use Rattle.std.proofs.lemmas.List.Elements.{All-cons, All-nil}
+use Rattle.bitcode_columns.specs.declared.error.Reason.{Reason}
+use Rattle.bitcode_columns.specs.declared.error.Reason.TheVariants.{OutOfMemory}
 use Rattle.bitcode_shapes.specs.Datum.{Datum}
 use Rattle.bitcode_shapes.specs.Shape.{Shape, IsOf}
 use Rattle.bitcode_shapes.specs.Lawful.{Lawful, Makeable}
@@ -9,7 +11,7 @@ use Rattle.bitcode_coder.specs.Transposition.{spread}
 use Rattle.bitcode_coder.specs.Spelling.{Spells, LengthsBelowLimit, texts_of}
 use Rattle.bitcode_coder.proofs.SpellingLemmas.{columns_bytes-spells}
 use Rattle.bitcode_coder.proofs.LawLemmas.{texts_of-spread}
-use Rattle.bitcode_derive.specs.Whole.{columns_of_one, IsEncodingOf, IsDecodingOf, SpellsDatum}
+use Rattle.bitcode_derive.specs.Whole.{columns_of_one, IsEncodingOf, HasShortLengths, IsDecodingOf, SpellsDatum, want_of_memory}
 use Rattle.bitcode_derive.proofs.DecodingLemmas.{spells_at_most_one}
 
 module _ {T : Type 0} {shape : Shape} {is_value : T → Type 0} {lists : T → Datum → Type 0} {same : T → T → Type 0} {in_order : Bool}
@@ -26,6 +28,12 @@ module _ {T : Type 0} {shape : Shape} {is_value : T → Type 0} {lists : T → D
   read_equal {makes = makes} makeable t u bytes v w e below f =
       let is : e.datum ≡ f.datum = spells_at_most_one shape bytes e.datum f.datum (written_spells t bytes v e below) f.spelled in
       makeable.remade t u e.datum v w e.listing (subst (λ d. makes d u) (sym is) f.made)
+
+  -- what is refused where no datum is spelled is refused for want of memory
+  pub refused_for_memory : (t : T) (bytes : List ℕ) → is_value t → IsEncodingOf lists shape t bytes → HasShortLengths lists shape t → (reason : Reason)
+      → (reason ≢ OutOfMemory → (d : Datum) → SpellsDatum shape bytes d → ⊥) → reason ≡ OutOfMemory
+  refused_for_memory t bytes v e short reason none =
+      want_of_memory reason (λ other. none other e.datum (written_spells t bytes v e (short e.datum e.listing)))
 
   pub written_once : IsTrue in_order → (t : T) (bytes again : List ℕ) → is_value t → IsEncodingOf lists shape t bytes → IsEncodingOf lists shape t again
       → bytes ≡ again

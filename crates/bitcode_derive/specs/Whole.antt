@@ -1,5 +1,5 @@
 -- What whole calls write and read: one value, and all of the input.
-use Rattle.std.specs.Prelude.{◌≡◌, ℕ, ◌*◌, ◌<◌, ◌≤◌, Bool, IsTrue, List, [], ◌∷◌, length}
+use Rattle.std.specs.Prelude.{◌≡◌, ◌≢◌, refl, ℕ, ◌*◌, ◌<◌, ◌≤◌, Bool, IsTrue, List, [], ◌∷◌, length}
 use Rattle.bitcode_columns.specs.declared.error.Reason.{Reason}
 use Rattle.bitcode_columns.specs.declared.error.Reason.TheVariants.{ExpectedEof, OutOfMemory}
 use Rattle.bitcode_columns.specs.Reading.{Reads}
@@ -7,7 +7,7 @@ use Rattle.bitcode_shapes.specs.Datum.{Datum}
 use Rattle.bitcode_shapes.specs.Shape.{Shape}
 use Rattle.bitcode_coder.specs.Columns.{Columns, CountsFit, entry_count}
 use Rattle.bitcode_coder.specs.Transposition.{columns_of, spread}
-use Rattle.bitcode_coder.specs.Spelling.{Spells, texts_of}
+use Rattle.bitcode_coder.specs.Spelling.{Spells, LengthsBelowLimit, texts_of}
 
 -- the columns of one datum, as a tree
 abbrev pub columns_of_one : Shape → Datum → Columns
@@ -26,6 +26,10 @@ pub record HasLongListing {T : Type 0} (lists : T → Datum → Type 0) (shape :
   pub datum : Datum
   pub listing : lists t datum
   pub overflows : CountsFit (columns_of_one shape datum) → ⊥
+
+-- in each listing of the value the lengths of each column sum below the limit
+abbrev pub HasShortLengths : {T : Type 0} → (T → Datum → Type 0) → Shape → T → Type 0
+HasShortLengths lists shape t = (d : Datum) → lists t d → LengthsBelowLimit (columns_of_one shape d)
 
 -- the whole input spells the one datum
 abbrev pub SpellsDatum : Shape → List ℕ → Datum → Type 0
@@ -58,3 +62,8 @@ pub data NamesWholeFault (faults : Reason → ℕ → List ℕ → Type 0) (make
   in_columns : faults reason 1 bytes → NamesWholeFault faults makes_free shape reason bytes
   bytes_left : reason ≡ ExpectedEof → LeavesBytes shape bytes → NamesWholeFault faults makes_free shape reason bytes
   in_making : reason ≡ OutOfMemory → (IsTrue makes_free → ⊥) → (d : Datum) → SpellsDatum shape bytes d → NamesWholeFault faults makes_free shape reason bytes
+
+-- a reason that is not other than want of memory is want of memory
+pub want_of_memory : (reason : Reason) → (reason ≢ OutOfMemory → ⊥) → reason ≡ OutOfMemory
+want_of_memory OutOfMemory h = refl
+want_of_memory _ h = absurd (h (λ e. cc))

@@ -75,7 +75,7 @@ where
     pub fn decode<'a>(&mut self, bytes: &'a [u8]) -> Result<T, Error>
     where
         T: HasDecoder<'a> + Made + Drop,
-        T::Decoder: View<'a> + Decoder<'a, T> + Drop,
+        T::Decoder: View<'a> + Decoder<T> + Drop,
         ensures found { IfOk result (λ t. IsDecodingOf T.makes T.shape bytes.now t) }
         ensures unambiguous { SpellsAtMostOne T.shape bytes.now }
         ensures bounded { IsBoundedByBytes T.shape bytes.now }

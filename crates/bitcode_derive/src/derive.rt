@@ -44,11 +44,11 @@ pub trait HasDecoder<'a> {
 /// A type whose values are read from an input that outlives `'a`: every lawful type whose decoder makes its values.
 ///
 /// It has no impls of its own. A whole call drops the value and what is left of the data.
-pub trait Decode<'a>: HasDecoder<'a, Decoder: View<'a> + Decoder<'a, Self> + Drop> + Made + Drop {}
+pub trait Decode<'a>: HasDecoder<'a, Decoder: View<'a> + Decoder<Self> + Drop> + Made + Drop {}
 
 impl<'a, T: HasDecoder<'a> + Made + Drop> Decode<'a> for T
 where
-    T::Decoder: View<'a> + Decoder<'a, T> + Drop,
+    T::Decoder: View<'a> + Decoder<T> + Drop,
 {}
 
 /// A type whose values borrow nothing from the input that they are read from.

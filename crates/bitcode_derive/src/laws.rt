@@ -1,10 +1,11 @@
 //! What follows from the contracts of the whole calls. A call only looks at its values: its contract is the law.
 ghost use Rattle.std.specs.Prelude.{◌≡◌, ◌≢◌, ◌<◌, [], ◌∷◌, slice_index, IsTrue, IfOk, IfErr};
 ghost use Rattle.bitcode_shapes.specs.Datum.{Datum};
+ghost use Rattle.bitcode_coder.specs.Coder.{IsReadingReason};
 ghost use Rattle.bitcode_coder.specs.Columns.{CountsFit};
 ghost use Rattle.bitcode_coder.specs.Spelling.{LengthsBelowLimit};
 ghost use Rattle.bitcode_derive.specs.BorrowedTexts.{TextsStandIn, IsBorrowedFrom};
-ghost use Rattle.bitcode_derive.specs.Whole.{columns_of_one, IsEncodingOf, HasLongListing, IsDecodingOf, SpellsDatum};
+ghost use Rattle.bitcode_derive.specs.Whole.{columns_of_one, IsEncodingOf, HasLongListing, HasShortLengths, IsDecodingOf, SpellsDatum};
 
 use crate::whole;
 use bitcode_columns::error::{Error, Reason};
@@ -31,6 +32,28 @@ pub fn round_trip<'a, T: Made>(t: &T, bytes: &'a [u8], u: &T)
 {
     t.told();
     u.told();
+}
+
+/// What `decode` gives for the bytes that were written for a value is equal to the value, or want of memory, where in each
+/// listing of the value each column of lengths sums below 2251799813685247.
+///
+/// ```
+/// let bytes = encode(alloc, &t)?;
+/// let again = decode(alloc, &bytes);
+/// comes_back(&t, &bytes, &again);
+/// again
+/// ```
+pub fn comes_back<'a, T: Made>(t: &T, bytes: &'a [u8], again: &Result<T, Error>)
+    ensures equal { IsEncodingOf T.lists T.shape t.now bytes.now → HasShortLengths T.lists T.shape t.now
+        → IfOk again.now (λ u. IsDecodingOf T.makes T.shape bytes.now u) → IfOk again.now (λ u. T.same t.now u) }
+    ensures refused { IsEncodingOf T.lists T.shape t.now bytes.now → HasShortLengths T.lists T.shape t.now
+        → IfErr again.now (λ e. e.reason ≢ Reason.OutOfMemory → (d : Datum) → SpellsDatum T.shape bytes.now d → ⊥)
+        → IfErr again.now (λ e. e.reason ≡ Reason.OutOfMemory) }
+{
+    t.told();
+    if let Ok(u) = again {
+        u.told();
+    }
 }
 
 /// A value that keeps nothing in an order of its own, as a hashed container or a heap does, is written as the same
@@ -112,6 +135,7 @@ pub fn borrowed_texts<'a, T: Made>(bytes: &'a [u8], t: &T)
 pub fn short_text<'a>(alloc: Global, bytes: &'a [u8]) -> Result<&'a str, Error>
     requires { slice_index bytes.now 0 < 255 }
     ensures found { IfOk result (λ text. IsDecodingOf ⟦<&'a str as Made>⟧.makes ⟦<&'a str as Shaped>⟧.shape bytes.now text) }
+    ensures reasons { IfErr result (λ e. IsReadingReason e.reason) }
     ensures refused { IfErr result (λ e. e.reason ≢ Reason.OutOfMemory → (d : Datum) → SpellsDatum ⟦<&'a str as Shaped>⟧.shape bytes.now d → ⊥) }
     ensures free { IfErr result (λ e. e.reason ≢ Reason.OutOfMemory) }
 {

@@ -85,7 +85,7 @@ pub fn decode<'a, T: HasDecoder<'a> + Made + Drop>(
     bytes: &'a [u8],
 ) -> Result<T, Error>
 where
-    T::Decoder: View<'a> + Decoder<'a, T> + Drop,
+    T::Decoder: View<'a> + Decoder<T> + Drop,
     ensures found { IfOk result (λ t. IsDecodingOf T.makes T.shape bytes.now t) }
     ensures unambiguous { SpellsAtMostOne T.shape bytes.now }
     ensures bounded { IsBoundedByBytes T.shape bytes.now }
@@ -118,7 +118,7 @@ pub fn decode_front<'a, T: HasDecoder<'a> + Made + Drop>(
     input: &mut &'a [u8],
 ) -> Result<T, Error>
 where
-    T::Decoder: View<'a> + Decoder<'a, T> + Drop,
+    T::Decoder: View<'a> + Decoder<T> + Drop,
     ensures found { IfOk result (λ t. IsDecodingOfFront T.makes T.shape input.old.now t input.new.now) }
     ensures unambiguous { BeginsWithAtMostOne T.shape input.old.now }
     ensures bounded { IsBoundedByFront T.shape input.old.now }

@@ -1,11 +1,15 @@
-//! A struct and a container written by hand, and generic code, as a user of the library writes them: nothing but the library is
-//! named.
+//! Structs written by `scripts/new_type`; enums, a struct and a container written by hand; and generic code, as a user of
+//! the library writes them: nothing but the library is named.
 #![tactic(auto)]
 
+pub mod amino_acid;
+pub mod dated;
 pub mod generic;
 pub mod message;
 pub mod monster;
+pub mod outcome;
 pub mod player;
+pub mod saved;
 pub mod scores;
 #[cfg(test)]
 mod tests;

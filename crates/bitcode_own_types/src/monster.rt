@@ -1,10 +1,9 @@
-//! A struct of six fields, which stands for the tuple of them.
+//! `Monster` stands for the tuple of its fields. What is below its declaration was written by `scripts/new_type`.
 ghost use Rattle.std.specs.Prelude.{refl};
 
-use bitcode::coder::Result;
 use bitcode::{
-    EncodeParts, FieldsEncoder, FromParts, HasDecoder, HasEncoder, PartsDecoder, PartsEncoder,
-    Shaped, StandsFor,
+    EncodeParts, Error, FieldsEncoder, FromParts, HasDecoder, HasEncoder, PartsDecoder,
+    PartsEncoder, Shaped, StandsFor,
 };
 
 /// What a player meets.
@@ -53,7 +52,7 @@ impl FromParts for Monster {
 }
 
 impl EncodeParts<Columns> for Monster {
-    fn encode_parts(&self, columns: &mut Columns) -> Result<()> {
+    fn encode_parts(&self, columns: &mut Columns) -> Result<(), Error> {
         FieldsEncoder::<(&u64, &String, &i16, &bool, &(i32, i32), &Vec<u16>)>::encode_fields(
             columns,
             &(

@@ -125,7 +125,7 @@ impl<'a> View<'a> for PlayerDecoder<'a> {
     }
 }
 
-impl<'a> Decoder<'a, Player<'a>> for PlayerDecoder<'a> {
+impl<'a> Decoder<Player<'a>> for PlayerDecoder<'a> {
     ghost makes_free = { true };
 
     fn decode(&mut self) -> Result<Player<'a>> {

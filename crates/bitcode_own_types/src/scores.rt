@@ -101,7 +101,7 @@ impl<'a> View<'a> for ScoresDecoder<'a> {
     }
 }
 
-impl<'a> Decoder<'a, Scores> for ScoresDecoder<'a> {
+impl<'a> Decoder<Scores> for ScoresDecoder<'a> {
     ghost makes_free = { false };
 
     fn decode(&mut self) -> Result<Scores> {

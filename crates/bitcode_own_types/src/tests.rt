@@ -1,8 +1,12 @@
 //! With ample memory structs and scores are written and read back, and generic code reads them.
+use crate::amino_acid::AminoAcid;
+use crate::dated::Dated;
 use crate::generic::{Cache, load};
-use crate::message::{Dated, Message};
+use crate::message::Message;
 use crate::monster::Monster;
+use crate::outcome::Outcome;
 use crate::player::Player;
+use crate::saved::saved_and_loaded;
 use crate::scores::Scores;
 use bitcode::{Error, Reason, decode, encode};
 
@@ -63,6 +67,28 @@ fn a_monster_comes_back(rt: HostRuntime) -> Result<(), Error> {
 }
 
 #[test]
+fn variants_come_back(rt: HostRuntime) -> Result<(), Error> {
+    let alloc = rt.alloc();
+    let bytes = encode(alloc, &Outcome::Drawn)?;
+    assert!(rt; bytes.as_slice() == [1].as_slice());
+    let again: Outcome = decode(alloc, bytes.as_slice())?;
+    assert!(rt; again == Outcome::Drawn);
+    let outcomes = vec![in alloc; Outcome::Lost, Outcome::Drawn, Outcome::Won]?;
+    let bytes = encode(alloc, &outcomes)?;
+    assert!(rt; bytes.as_slice() == [3, 5].as_slice());
+    let again: Vec<Outcome> = decode(alloc, bytes.as_slice())?;
+    assert!(rt; again == outcomes);
+    let acids = vec![in alloc; AminoAcid::Valine, AminoAcid::Alanine]?;
+    let bytes = encode(alloc, &acids)?;
+    assert!(rt; bytes.as_slice() == [2, 19, 0].as_slice());
+    let again: Vec<AminoAcid> = decode(alloc, bytes.as_slice())?;
+    assert!(rt; again == acids);
+    let refused: Result<AminoAcid, Error> = decode(alloc, &[20]);
+    assert!(rt; matches!(&refused, Err(error) if error.reason == Reason::InvalidPacking));
+    Ok(())
+}
+
+#[test]
 fn scores_come_back(rt: HostRuntime) -> Result<(), Error> {
     let alloc = rt.alloc();
     let scores = Scores {
@@ -72,6 +98,7 @@ fn scores_come_back(rt: HostRuntime) -> Result<(), Error> {
     assert!(rt; bytes.as_slice() == [6, 4, 6, 52, 7].as_slice());
     let again: Scores = decode(alloc, bytes.as_slice())?;
     assert!(rt; again == scores);
+    assert!(rt; saved_and_loaded(alloc, &scores)? == scores);
     Ok(())
 }
 

@@ -13,10 +13,9 @@ use Rattle.bitcode_shapes.specs.LawfulLists.{list_of_data, zip_length}
 use Rattle.bitcode_coder.specs.Columns.{CountsFit}
 use Rattle.bitcode_coder.specs.Transposition.{columns_of, joined}
 use Rattle.bitcode_coder.specs.Spelling.{Spells, SpellsColumns}
-use Rattle.bitcode_coder.specs.Coder.{IsReadingRefusal, TakesDatum}
+use Rattle.bitcode_coder.specs.Coder.{IsReadingRefusal, TakesDatum, TakesEach}
 use Rattle.bitcode_coder.proofs.CuttingLemmas.{cut-enough, cut-few}
 use Rattle.bitcode_coder.proofs.DatumLemmas.{joined_each}
-use Rattle.bitcode_parts.specs.Elements.{TakesEach}
 use Rattle.bitcode_parts.specs.Arrays.{arrays_of}
 use Rattle.bitcode_parts.specs.ArrayLaws.{length-joined_arrays}
 

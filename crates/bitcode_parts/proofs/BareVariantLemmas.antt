@@ -1,30 +1,33 @@
--- Variants without payloads are read as their column alone.
-use Rattle.std.proofs.Common.{◌≡◌, ℕ, zero, suc, ◌<◌, List, [], ◌∷◌, map, refl, sym, ap, subst, ◌∙◌, arith}
-use Rattle.std.proofs.lemmas.List.{length-map, append-nil}
-use Rattle.std.proofs.lemmas.List.Elements.{All-map, All-weaker}
+-- Variants without payloads are read and written as their column alone.
+use Rattle.std.proofs.Common.{◌≡◌, ℕ, zero, suc, ◌<◌, List, [], ◌∷◌, ◌++◌, length, map, All, refl, sym, ap, ap₂, subst, ◌∙◌, arith, ⊎_elim}
+use Rattle.std.proofs.lemmas.Bool.{cases_lt, cond-true, cond-false, lt-ltb, le-ltb}
+use Rattle.std.proofs.lemmas.List.{length-map, append-nil, map-append}
+use Rattle.std.proofs.lemmas.List.Elements.{All-map, All-weaker, All-head, All-tail}
 use Rattle.bitcode_columns.specs.declared.error.Reason.{Reason}
 use Rattle.bitcode_columns.specs.Reading.{Reads, NamesVariantFault}
 use Rattle.bitcode_coder.specs.Faults.{NamesVariantsFault}
 use Rattle.bitcode_columns.specs.VariantColumn.{SpellsVariants}
 use Rattle.bitcode_shapes.specs.Datum.{Datum, choice, unit}
-use Rattle.bitcode_shapes.specs.Shape.{IsChoiceOf, IsOfVariant, variant_count}
-use Rattle.bitcode_coder.specs.Columns.{CountsFit}
-use Rattle.bitcode_coder.specs.Coder.{IsReadingRefusal}
-use Rattle.bitcode_coder.specs.Spelling.{Spells, SpellsColumns, natural}
+use Rattle.bitcode_shapes.specs.Shape.{Shape, IsChoiceOf, IsOfVariant, variant_count}
+use Rattle.bitcode_coder.specs.Columns.{CountsFit, no_columns, one, two, variants, beside, emptied}
+use Rattle.bitcode_coder.specs.Coder.{IsReadingRefusal, JoinsListing, TakesDatum}
+use Rattle.bitcode_coder.specs.Spelling.{Spells, SpellsColumns, natural, columns_bytes}
 use Rattle.bitcode_coder.specs.Transposition.{payload_columns, variant_entry}
-use Rattle.bitcode_parts.specs.BareVariants.{unit_shapes, bare_shape, bare_choices}
+use Rattle.bitcode_shapes.specs.BareVariants.{unit_shapes, bare_shape, ListsBare, MakesBare}
+use Rattle.bitcode_shapes.specs.LawfulBareVariants.{count-unit_shapes, of_bare_variant}
+use Rattle.bitcode_parts.specs.BareVariants.{bare_choices, bare_payloads, bare_columns, emptied-bare_payloads, written-bare_payloads}
 use Rattle.bitcode_parts.proofs.ChoiceReadingLemmas.{refuses_variants}
 
-count-unit_shapes : (count : ℕ) → variant_count (unit_shapes count) ≡ count
-count-unit_shapes zero = refl
-count-unit_shapes (suc count) = ap suc (count-unit_shapes count)
+-- ---- the choices of variants
+
+-- of variants that are known
+pub known_choices : (count : ℕ) (them : List ℕ) → All (λ variant. variant < count) them → bare_choices count them ≡ map (λ variant. choice variant unit) them
+known_choices count [] known = refl
+known_choices count (variant ∷ more) known =
+    cond-true _ _ _ (lt-ltb variant count (All-head (λ v. v < count) variant more known))
+    ∙ ap (λ ds. choice variant unit ∷ ds) (known_choices count more (All-tail (λ v. v < count) variant more known))
 
 -- ---- their payloads have no columns
-
-of_variant : (count variant : ℕ) → variant < count → IsOfVariant (unit_shapes count) variant unit
-of_variant zero variant below = absurd (omega arith)
-of_variant (suc count) zero below = refl
-of_variant (suc count) (suc variant) below = of_variant count variant (omega arith)
 
 payloads_fit : (count index : ℕ) (ds : List Datum) → CountsFit (payload_columns (unit_shapes count) index ds)
 payloads_fit zero index ds = tt
@@ -34,38 +37,108 @@ payloads_spelled : (count index : ℕ) (ds : List Datum) → SpellsColumns (payl
 payloads_spelled zero index ds = refl
 payloads_spelled (suc count) index ds = record { front = []; back = []; whole = refl; first = refl; second = payloads_spelled count (suc index) ds }
 
-entries_are : (variants : List ℕ) → map variant_entry (bare_choices variants) ≡ map natural variants
+entries_are : (them : List ℕ) → map variant_entry (map (λ variant. choice variant unit) them) ≡ map natural them
 entries_are [] = refl
-entries_are (variant ∷ variants) = ap (λ entries. natural variant ∷ entries) (entries_are variants)
+entries_are (variant ∷ more) = ap (λ entries. natural variant ∷ entries) (entries_are more)
 
 -- ---- reading
 
 module _ (count k : ℕ) (old : List ℕ) where
-  pub reads_bare : (new variants : List ℕ) → Reads (SpellsVariants count) k old variants new → Reads (Spells (bare_shape count)) k old (bare_choices variants) new
-  reads_bare new variants r = record {
-    size = length-map variants (λ variant. choice variant unit) ∙ r.size;
+  reads_known : (new them : List ℕ) → Reads (SpellsVariants count) k old them new
+      → Reads (Spells (bare_shape count)) k old (map (λ variant. choice variant unit) them) new
+  reads_known new them r = record {
+    size = length-map them (λ variant. choice variant unit) ∙ r.size;
     piece = r.piece;
     whole = r.whole;
     spelled = record {
       of_shape =
-          All-map (IsChoiceOf (IsOfVariant (unit_shapes count))) (λ variant. choice variant unit) variants
+          All-map (IsChoiceOf (IsOfVariant (unit_shapes count))) (λ variant. choice variant unit) them
           (All-weaker (λ variant. variant < count) (λ variant. IsChoiceOf (IsOfVariant (unit_shapes count)) (choice variant unit))
-          (λ variant below. record { index = variant; payload = unit; is = refl; is_variant = of_variant count variant below }) variants r.spelled.known);
-      counts = (tt, payloads_fit count 0 (bare_choices variants));
+          (λ variant below. record { index = variant; payload = unit; is = refl; is_variant = of_bare_variant count variant below }) them r.spelled.known);
+      counts = (tt, payloads_fit count 0 (map (λ variant. choice variant unit) them));
       columns = record {
         front = r.piece;
         back = [];
         whole = sym (append-nil r.piece);
         first = record {
-          entries = variants;
-          are = entries_are variants;
-          spelled = subst (λ n. SpellsVariants n r.piece variants) (sym (count-unit_shapes count)) r.spelled;
+          entries = them;
+          are = entries_are them;
+          spelled = subst (λ n. SpellsVariants n r.piece them) (sym (count-unit_shapes count)) r.spelled;
         };
-        second = payloads_spelled count 0 (bare_choices variants);
+        second = payloads_spelled count 0 (map (λ variant. choice variant unit) them);
       };
     };
   }
 
+  pub reads_bare : (new them : List ℕ) → Reads (SpellsVariants count) k old them new → Reads (Spells (bare_shape count)) k old (bare_choices count them) new
+  reads_bare new them r =
+      subst (λ ds. Reads (Spells (bare_shape count)) k old ds new) (sym (known_choices count them r.spelled.known)) (reads_known new them r)
+
   pub refuses_bare : (reason : Reason) → NamesVariantsFault count reason k old → IsReadingRefusal (bare_shape count) reason k old
   refuses_bare reason fault =
       refuses_variants (unit_shapes count) reason k old (subst (λ n. NamesVariantFault reason n k old) (sym (count-unit_shapes count)) fault.named)
+
+-- ---- making a value
+
+-- where a choice is left, its variant is known
+pub bare_next : (count variant : ℕ) (more : List ℕ) → 0 < length (bare_choices count (variant ∷ more))
+    → (variant < count) × (bare_choices count (variant ∷ more) ≡ choice variant unit ∷ bare_choices count more)
+bare_next count variant more left = ⊎_elim
+    (λ below. (below, cond-true _ _ _ (lt-ltb variant count below)))
+    (λ past.
+    let none : bare_choices count (variant ∷ more) ≡ [] = cond-false _ _ _ (le-ltb variant count past) in
+    absurd (omega (arith, left, ap length none)))
+    (cases_lt variant count)
+
+pub some_variant : (count : ℕ) (entries : List ℕ) → 0 < length (bare_choices count entries) → 0 < length entries
+some_variant count [] left = left
+some_variant count (variant ∷ more) left = omega arith
+
+module _ (count : ℕ) {index : ℕ} {old new : List ℕ} (taken : old ≡ index ∷ new) (left : 0 < length (bare_choices count old)) where
+  next_here : (index < count) × (bare_choices count (index ∷ new) ≡ choice index unit ∷ bare_choices count new)
+  next_here = bare_next count index new (subst (λ entries. 0 < length (bare_choices count entries)) taken left)
+
+  pub bare_known : index < count
+  bare_known = next_here.0
+
+  pub takes_bare : {T : Type 0} (variant : T → ℕ) (makes : Datum → T → Type 0) → ((d : Datum) (t : T) → MakesBare variant d t → makes d t)
+      → (t : T) → variant t ≡ index → TakesDatum makes t (bare_choices count old) (bare_choices count new)
+  takes_bare variant makes makes_bare t is = record {
+    datum = choice index unit;
+    taken = ap (bare_choices count) taken ∙ next_here.1;
+    made = makes_bare (choice index unit) t (ap (λ i. choice i unit) (sym is));
+  }
+
+-- ---- writing a value
+
+beside-bare_payloads : (count : ℕ) → beside (bare_payloads count) (bare_payloads count) ≡ bare_payloads count
+beside-bare_payloads zero = refl
+beside-bare_payloads (suc count) = ap (two no_columns) (beside-bare_payloads count)
+
+bare_payloads_fit : (count : ℕ) → CountsFit (bare_payloads count)
+bare_payloads_fit zero = tt
+bare_payloads_fit (suc count) = (tt, bare_payloads_fit count)
+
+pub bytes-bare_payloads : (count : ℕ) → columns_bytes (bare_payloads count) ≡ []
+bytes-bare_payloads zero = refl
+bytes-bare_payloads (suc count) = bytes-bare_payloads count
+
+pub bare_bytes : (count : ℕ) (entries : List ℕ) → columns_bytes (bare_columns count entries) ≡ columns_bytes (one (variants count) (map natural entries))
+bare_bytes count entries =
+    ap (λ bytes. columns_bytes (one (variants count) (map natural entries)) ++ bytes) (bytes-bare_payloads count) ∙ append-nil _
+
+-- the column of the variants was emptied
+pub bare_cleared : (count : ℕ) (old new : List ℕ) → one (variants count) (map natural new) ≡ one (variants count) [] → bare_columns count new ≡ emptied (bare_columns count old)
+bare_cleared count old new empty = ap₂ two empty (sym (emptied-bare_payloads count))
+
+module _ {T : Type 0} (variant : T → ℕ) (lists : T → Datum → Type 0) (lists_bare : (t : T) (d : Datum) → ListsBare variant t d → lists t d)
+    (shape : Shape) (count : ℕ) (has_shape : shape ≡ bare_shape count) (t : T) where
+  pub joins_bare : (old new : List ℕ) → new ≡ old ++ variant t ∷ [] → JoinsListing lists shape t (bare_columns count old) (bare_columns count new)
+  joins_bare old new pushed = subst (λ s. JoinsListing lists s t (bare_columns count old) (bare_columns count new)) (sym has_shape) (record {
+    datum = choice (variant t) unit;
+    listing = lists_bare t (choice (variant t) unit) refl;
+    joined = ap₂ two
+        (ap (λ entries. one (variants count) (map natural entries)) pushed ∙ ap (one (variants count)) (map-append natural old (variant t ∷ [])))
+        (sym (ap (beside (bare_payloads count)) (written-bare_payloads count 0 (choice (variant t) unit ∷ [])) ∙ beside-bare_payloads count));
+    fits = λ f. (tt, bare_payloads_fit count);
+  })

@@ -3,7 +3,6 @@ pub mod ChoiceReadingLemmas
 pub mod ChoiceWritingLemmas
 pub mod BareVariantLemmas
 pub mod TwoVariantLemmas
-pub mod ElementLemmas
 pub mod ListLimitLemmas
 pub mod ListLemmas
 pub mod ListWritingLemmas

@@ -19,12 +19,12 @@ use Rattle.bitcode_coder.specs.Transposition.{columns_of, joined, length_entry}
 use Rattle.bitcode_coder.specs.LengthColumn.{SpellsLengths, KeepsCap, lengths_from}
 use Rattle.bitcode_coder.specs.LengthParts.{ReadsParts, NamesLengthFault}
 use Rattle.bitcode_coder.specs.Spelling.{Spells, SpellsColumns, natural}
-use Rattle.bitcode_coder.specs.Coder.{IsReadingRefusal, TakesDatum}
+use Rattle.bitcode_coder.specs.Coder.{IsReadingRefusal, TakesDatum, TakesEach}
 use Rattle.bitcode_coder.proofs.CuttingLemmas.{cut-enough, cut-few, joined-cut, lengths-cut}
 use Rattle.bitcode_coder.proofs.LengthLemmas.{SpellsLengths-unambiguous}
 use Rattle.bitcode_coder.proofs.LengthRefusalLemmas.{reads_once, lengths_refused, length_reason, cap_refused}
 use Rattle.bitcode_coder.proofs.DatumLemmas.{joined_each}
-use Rattle.bitcode_parts.specs.Elements.{TakesEach, MakesOfElements}
+use Rattle.bitcode_parts.specs.Elements.{MakesOfElements}
 use Rattle.bitcode_parts.specs.Lists.{lists_of}
 use Rattle.bitcode_parts.proofs.ListLimitLemmas.{spelled_within, reads_unlimited}
 

@@ -95,6 +95,10 @@ impl<T: Shaped, E: Encoder<T>, const N: usize> Encoder<[T; N]> for ArrayEncoder<
         Ok(())
     }
 
+    fn is_primitive() -> bool {
+        false
+    }
+
     ghost of_shape = { λ e. arrays_of_shape N e.count T.shape (E.columns e.elements) (E.of_shape e.elements) };
 
     ghost surely = { λ e n. arrays_overflow T.shape (E.columns e.elements) n N e.count (E.surely e.elements (n * N)) };
@@ -151,8 +155,7 @@ impl<'a, D: View<'a>, const N: usize> View<'a> for ArrayDecoder<D, N> {
     }
 }
 
-impl<'a, T: Made + Drop, D: Decoder<'a, T>, const N: usize> Decoder<'a, [T; N]>
-    for ArrayDecoder<D, N> {
+impl<T: Made + Drop, D: Decoder<T>, const N: usize> Decoder<[T; N]> for ArrayDecoder<D, N> {
     ghost makes_free = { N == 0 };
 
     fn decode(&mut self) -> Result<[T; N], Error> {

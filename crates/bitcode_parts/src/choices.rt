@@ -1,4 +1,5 @@
 //! Choices: options, results and the variants of enums.
+pub mod bare;
 pub mod option;
 pub mod result;
 pub mod variant;

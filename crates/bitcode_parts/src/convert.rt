@@ -139,8 +139,7 @@ impl<'a, T: Drop, D: View<'a>> View<'a> for ConvertFromDecoder<T, D> {
     }
 }
 
-impl<'a, T: Made + Drop, F: ConvertFrom<T>, D: Decoder<'a, T>> Decoder<'a, F>
-    for ConvertFromDecoder<T, D> {
+impl<T: Made + Drop, F: ConvertFrom<T>, D: Decoder<T>> Decoder<F> for ConvertFromDecoder<T, D> {
     ghost makes_free = { D.makes_free };
 
     fn decode(&mut self) -> Result<F, Error> {

@@ -79,7 +79,7 @@ impl<'a> View<'a> for EmptyCoder {
     }
 }
 
-impl<'a> Decoder<'a, ()> for EmptyCoder {
+impl Decoder<()> for EmptyCoder {
     ghost makes_free = { true };
 
     fn decode(&mut self) -> Result<(), Error> {

@@ -69,7 +69,7 @@ impl<'a, D: View<'a>, const N: usize> View<'a> for ArrayVecDecoder<'a, D, N> {
     }
 }
 
-impl<'a, T: Made + Default + Drop, D: Decoder<'a, T>, const N: usize> Decoder<'a, ArrayVec<T, N>>
+impl<'a, T: Made + Default + Drop, D: Decoder<T>, const N: usize> Decoder<ArrayVec<T, N>>
     for ArrayVecDecoder<'a, D, N> {
     ghost makes_free = { false };
 

@@ -46,7 +46,7 @@ impl<T: Made + Ord + Drop> FromElements for BinaryHeap<T> {
     }
 }
 
-impl<'a, T: Made + Ord + Drop, D: Decoder<'a, T>> Decoder<'a, BinaryHeap<T>> for VecDecoder<'a, D> {
+impl<'a, T: Made + Ord + Drop, D: Decoder<T>> Decoder<BinaryHeap<T>> for VecDecoder<'a, D> {
     ghost makes_free = { false };
 
     fn decode(&mut self) -> Result<BinaryHeap<T>, Error> {

@@ -18,7 +18,7 @@ impl<T> Encoder<PhantomData<T>> for EmptyCoder {
     ghost surely = { λ e n h. absurd h };
 }
 
-impl<'a, T> Decoder<'a, PhantomData<T>> for EmptyCoder {
+impl<T> Decoder<PhantomData<T>> for EmptyCoder {
     ghost makes_free = { true };
 
     fn decode(&mut self) -> Result<PhantomData<T>, Error> {

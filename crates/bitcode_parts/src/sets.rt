@@ -106,8 +106,7 @@ impl<'b, T> Lends<'b, T> for hash_set::Iter<'b, T> {
     }
 }
 
-impl<'a, T: Key + Made + Ord + Drop, D: Decoder<'a, T>> Decoder<'a, BTreeSet<T>>
-    for VecDecoder<'a, D> {
+impl<'a, T: Key + Made + Ord + Drop, D: Decoder<T>> Decoder<BTreeSet<T>> for VecDecoder<'a, D> {
     ghost makes_free = { false };
 
     fn decode(&mut self) -> Result<BTreeSet<T>, Error> {
@@ -117,8 +116,7 @@ impl<'a, T: Key + Made + Ord + Drop, D: Decoder<'a, T>> Decoder<'a, BTreeSet<T>>
     ghost same_shape = { ap (seq_shape None) D.same_shape };
 }
 
-impl<'a, T: Key + Made + Hash + Drop, D: Decoder<'a, T>> Decoder<'a, HashSet<T>>
-    for VecDecoder<'a, D> {
+impl<'a, T: Key + Made + Hash + Drop, D: Decoder<T>> Decoder<HashSet<T>> for VecDecoder<'a, D> {
     ghost makes_free = { false };
 
     fn decode(&mut self) -> Result<HashSet<T>, Error> {

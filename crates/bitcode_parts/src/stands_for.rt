@@ -133,8 +133,7 @@ impl<'a, P: Drop, D: View<'a>> View<'a> for PartsDecoder<P, D> {
     }
 }
 
-impl<'a, P: Made + Drop, T: FromParts<Parts = P>, D: Decoder<'a, P>> Decoder<'a, T>
-    for PartsDecoder<P, D> {
+impl<P: Made + Drop, T: FromParts<Parts = P>, D: Decoder<P>> Decoder<T> for PartsDecoder<P, D> {
     ghost makes_free = { D.makes_free };
 
     fn decode(&mut self) -> Result<T, Error> {

@@ -1,12 +1,12 @@
 -- Which entries a column takes.
-use Rattle.std.proofs.Common.{◌≡◌, ◌≢◌, ◌⊎◌, inl, inr, ℕ, ℤ, Bool, true, false, None, List, [], ◌∷◌, Bor, refl, ap, sym, subst, arith}
+use Rattle.std.proofs.Common.{◌≡◌, ◌≢◌, ◌⊎◌, inl, inr, ℕ, ℤ, Bool, true, false, None, List, [], ◌∷◌, ◌++◌, Bor, refl, ap, sym, subst, ◌∙◌, arith}
 use Rattle.std.specs.Prelude.{Result, Ok, Err, IfErr}
 use Rattle.bitcode_columns.specs.declared.error.Error.{Error}
 use Rattle.bitcode_columns.specs.declared.error.Reason.TheVariants.{OutOfMemory}
 use Rattle.bitcode_shapes.specs.Datum.{Datum}
 use Rattle.bitcode_shapes.specs.Shape.{Shape}
-use Rattle.bitcode_coder.specs.Coder.{written_columns, OverflowsWithListing}
-use Rattle.bitcode_coder.specs.Columns.{Kind, bools, ints, lengths, texts, one, beside, CountsFit}
+use Rattle.bitcode_coder.specs.Coder.{written_columns, JoinsListing, OverflowsWithListing}
+use Rattle.bitcode_coder.specs.Columns.{Columns, Kind, bools, ints, lengths, texts, one, beside, CountsFit}
 use Rattle.bitcode_serde.specs.ReadColumns.{kind_number}
 use Rattle.bitcode_serde.specs.WrittenColumns.{kind_of_entry}
 use Rattle.bitcode_serde.specs.declared.written.Entry.{Entry}
@@ -24,6 +24,19 @@ only_memory lists shape kind t entries Other e columns (inl m) = inl m
 only_memory lists shape kind t entries Other e columns (inr (inl never)) = absurd never
 only_memory lists shape kind t entries Other e columns (inr (inr p)) =
     absurd (p.overflows (subst (λ added. CountsFit (beside (one kind entries) added)) (sym (columns (p.datum ∷ []))) tt))
+
+-- the entries of a column
+abbrev pub entries_in : Columns → List Datum
+entries_in (one _ entries) = entries
+entries_in _ = []
+
+-- the one datum that a value lists was written behind the others
+pub joined_entry : {T : Type 0} (lists : T → Datum → Type 0) (shape : Shape) (kind : Kind) (t : T) (old new : List Datum) (datum : Datum)
+    → ((ds : List Datum) → written_columns shape ds ≡ one kind ds)
+    → ((d : Datum) → lists t d → d ≡ datum)
+    → JoinsListing lists shape t (one kind old) (one kind new) → new ≡ old ++ datum ∷ []
+joined_entry lists shape kind t old new datum columns only p =
+    ap entries_in (p.joined ∙ ap (beside (one kind old)) (columns (p.datum ∷ []))) ∙ ap (λ d. old ++ d ∷ []) (only p.datum p.listing)
 
 -- ---- an entry of another case has another kind
 

@@ -99,7 +99,7 @@ pub enum Column<'a> {
 }
 
 // Takes the next entry, where that takes no memory.
-fn next<'a, T: Made, D: Decoder<'a, T>>(column: &mut D) -> T
+fn next<T: Made, D: Decoder<T>>(column: &mut D) -> T
     requires some { 0 < length (D.held column.old) }
     requires free { IsTrue D.makes_free }
     ensures { TakesDatum T.makes result (D.held column.old) (D.held column.new) }

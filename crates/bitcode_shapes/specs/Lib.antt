@@ -17,6 +17,8 @@ pub mod Tuples
 pub mod Pointers
 pub mod Choices
 pub mod LawfulChoices
+pub mod BareVariants
+pub mod LawfulBareVariants
 pub mod LawfulStructs
 pub mod LawfulNever
 pub mod Texts

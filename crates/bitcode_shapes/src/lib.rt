@@ -2,6 +2,7 @@
 #![tactic(auto)]
 
 pub mod arrays;
+pub mod bare_variants;
 pub mod bools;
 pub mod checked;
 pub mod choices;

@@ -4,7 +4,7 @@ ghost use Rattle.bitcode_shapes.specs.Shape.{never_shape};
 ghost use Rattle.bitcode_shapes.specs.LawfulNever.{never_lawful, never_makeable};
 
 use crate::shaped::{Made, Shaped};
-use crate::stands_for::{FromParts, StandsFor};
+use crate::stands_for::{FromHolder, HeldIn, Holds};
 
 /// A type without values, as an enum without variants.
 ///
@@ -28,21 +28,26 @@ pub struct Absent<T> {
     value: T,
 }
 
-impl<T: NoVariants> StandsFor for T {
-    type Parts = Absent<T>;
+impl<T: NoVariants> Holds<T> for Absent<T> {
+    ghost holder = { λ t. record { value = t } };
 
-    ghost parts = { λ t. record { value = t } };
+    ghost value = { λ a. a.value };
 
-    ghost of_parts = { λ p. (p.value, refl) };
+    ghost holds = { λ a. refl };
 
-    fn told_parts(&self) {}
-}
+    fn told_value(_t: &T) {}
 
-impl<T: NoVariants> FromParts for T {
-    fn from_parts(Absent { value }: Absent<T>) -> Self {
+    fn into_value(self) -> T {
+        let Absent { value } = self;
         value
     }
 }
+
+impl<T: NoVariants> HeldIn for T {
+    type Holder = Absent<T>;
+}
+
+impl<T: NoVariants> FromHolder for T {}
 
 impl<T: NoVariants> Shaped for Absent<T> {
     ghost shape = { never_shape };

@@ -57,6 +57,62 @@ pub trait FromParts: StandsFor<Parts: Made> {
         ensures { Self.parts result ≡ whole };
 }
 
+/// A struct that holds one value of `T`: what an enum stands for whose laws follow from what it says of its variants.
+pub trait Holds<T>: Shaped {
+    // the struct that holds a value
+    ghost holder: { T → Self };
+
+    // the value that it holds
+    ghost value: { Self → T };
+
+    ghost holds: { (h : Self) → holder (value h) ≡ h };
+
+    /// What holds a value in hand is a value.
+    fn told_value(t: &T)
+        ensures { Self.is_value (holder t.now) };
+
+    /// The value that it holds.
+    fn into_value(self) -> T
+        ensures { holder result ≡ self };
+}
+
+/// A type each of whose values stands for the struct that holds it.
+///
+/// ```
+/// impl HeldIn for Light {
+///     type Holder = Bare<2, Light>;
+/// }
+/// ```
+pub trait HeldIn {
+    /// The struct that holds a value.
+    type Holder: Holds<Self>;
+}
+
+/// A type each of whose values is made of the struct that holds it. It is a mark alone, beside [`HeldIn`].
+///
+/// ```
+/// impl FromHolder for Light {}
+/// ```
+pub trait FromHolder: HeldIn<Holder: Made> {}
+
+impl<T: HeldIn> StandsFor for T {
+    type Parts = T::Holder;
+
+    ghost parts = { λ t. T.Holder.holder t };
+
+    ghost of_parts = { λ p. (T.Holder.value p, T.Holder.holds p) };
+
+    fn told_parts(&self) {
+        T::Holder::told_value(self);
+    }
+}
+
+impl<T: FromHolder> FromParts for T {
+    fn from_parts(whole: T::Holder) -> Self {
+        whole.into_value()
+    }
+}
+
 impl<T: StandsFor> Shaped for T {
     ghost shape = { T.Parts.shape };
 

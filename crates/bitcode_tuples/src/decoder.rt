@@ -45,8 +45,7 @@ impl<'a, A: View<'a>, B: View<'a>> View<'a> for TupleDecoder<A, B> {
     }
 }
 
-impl<'a, P: Made + Drop, Q: Made, A: Decoder<'a, P>, B: Decoder<'a, Q>> Decoder<'a, (P, Q)>
-    for TupleDecoder<A, B> {
+impl<P: Made + Drop, Q: Made, A: Decoder<P>, B: Decoder<Q>> Decoder<(P, Q)> for TupleDecoder<A, B> {
     ghost makes_free = { A.makes_free && B.makes_free };
 
     fn decode(&mut self) -> Result<(P, Q), Error> {

@@ -83,12 +83,20 @@ fn print_rows_to_45(rt: &impl Print, alloc: Global) -> io::Result<bool> {
     Ok(all_ok)
 }
 
-/// Runs rows 46 to 49 and 58 in order, and answers whether all of them are ok.
+/// Runs rows 46 to 58 in order, and answers whether all of them are ok.
 fn print_rows_to_58(rt: &impl Print, alloc: Global) -> io::Result<bool> {
     let mut all_ok = print_row(rt, 46, rows::untyped::lists::lists_of_bytes(alloc))?;
     all_ok &= print_row(rt, 47, rows::untyped::composites(alloc))?;
     all_ok &= print_row(rt, 48, rows::untyped::references::options_of_lists(alloc))?;
     all_ok &= print_row(rt, 49, rows::untyped::references::chain(alloc))?;
+    all_ok &= print_row(rt, 50, rows::room::pushed_items(alloc))?;
+    all_ok &= print_row(rt, 51, rows::variants::counts_in_base_three(alloc))?;
+    all_ok &= print_row(rt, 52, rows::variants::counts_in_base_six(alloc))?;
+    all_ok &= print_row(rt, 53, rows::variants::counts_of_bits(alloc))?;
+    all_ok &= print_row(rt, 54, rows::texts::long_texts(alloc))?;
+    all_ok &= print_row(rt, 55, rows::chunks::two_chunks_of_lists(alloc))?;
+    all_ok &= print_row(rt, 56, rows::chunks::longer_lists(alloc))?;
+    all_ok &= print_row(rt, 57, rows::chunks::no_huge_arrays(alloc))?;
     all_ok &= print_row(rt, 58, rows::columns::columns_of_each_kind(alloc))?;
     Ok(all_ok)
 }

@@ -2,11 +2,16 @@
 //! The integers, which are written as they are.
 ghost use Rattle.std.specs.Prelude.{refl};
 
-use crate::int::{AsInt, Integer};
+use crate::int::{AsInt, Integer, push_themselves};
+use bitcode_columns::fast::FastVec;
 
 impl AsInt<u8> for u8 {
     fn to_int(&self) -> u8 {
         *self
+    }
+
+    fn push_ints(values: &[u8], ints: &mut FastVec<u8>) {
+        push_themselves(values, ints);
     }
 
     ghost as_int_columns = { λ ds. refl };
@@ -23,6 +28,10 @@ impl AsInt<u16> for u16 {
         *self
     }
 
+    fn push_ints(values: &[u16], ints: &mut FastVec<u16>) {
+        push_themselves(values, ints);
+    }
+
     ghost as_int_columns = { λ ds. refl };
 }
 
@@ -35,6 +44,10 @@ impl Integer for u16 {
 impl AsInt<u32> for u32 {
     fn to_int(&self) -> u32 {
         *self
+    }
+
+    fn push_ints(values: &[u32], ints: &mut FastVec<u32>) {
+        push_themselves(values, ints);
     }
 
     ghost as_int_columns = { λ ds. refl };
@@ -51,6 +64,10 @@ impl AsInt<u64> for u64 {
         *self
     }
 
+    fn push_ints(values: &[u64], ints: &mut FastVec<u64>) {
+        push_themselves(values, ints);
+    }
+
     ghost as_int_columns = { λ ds. refl };
 }
 
@@ -63,6 +80,10 @@ impl Integer for u64 {
 impl AsInt<u128> for u128 {
     fn to_int(&self) -> u128 {
         *self
+    }
+
+    fn push_ints(values: &[u128], ints: &mut FastVec<u128>) {
+        push_themselves(values, ints);
     }
 
     ghost as_int_columns = { λ ds. refl };
@@ -79,6 +100,10 @@ impl AsInt<usize> for usize {
         *self
     }
 
+    fn push_ints(values: &[usize], ints: &mut FastVec<usize>) {
+        push_themselves(values, ints);
+    }
+
     ghost as_int_columns = { λ ds. refl };
 }
 
@@ -91,6 +116,10 @@ impl Integer for usize {
 impl AsInt<i8> for i8 {
     fn to_int(&self) -> i8 {
         *self
+    }
+
+    fn push_ints(values: &[i8], ints: &mut FastVec<i8>) {
+        push_themselves(values, ints);
     }
 
     ghost as_int_columns = { λ ds. refl };
@@ -107,6 +136,10 @@ impl AsInt<i16> for i16 {
         *self
     }
 
+    fn push_ints(values: &[i16], ints: &mut FastVec<i16>) {
+        push_themselves(values, ints);
+    }
+
     ghost as_int_columns = { λ ds. refl };
 }
 
@@ -119,6 +152,10 @@ impl Integer for i16 {
 impl AsInt<i32> for i32 {
     fn to_int(&self) -> i32 {
         *self
+    }
+
+    fn push_ints(values: &[i32], ints: &mut FastVec<i32>) {
+        push_themselves(values, ints);
     }
 
     ghost as_int_columns = { λ ds. refl };
@@ -135,6 +172,10 @@ impl AsInt<i64> for i64 {
         *self
     }
 
+    fn push_ints(values: &[i64], ints: &mut FastVec<i64>) {
+        push_themselves(values, ints);
+    }
+
     ghost as_int_columns = { λ ds. refl };
 }
 
@@ -149,6 +190,10 @@ impl AsInt<i128> for i128 {
         *self
     }
 
+    fn push_ints(values: &[i128], ints: &mut FastVec<i128>) {
+        push_themselves(values, ints);
+    }
+
     ghost as_int_columns = { λ ds. refl };
 }
 
@@ -161,6 +206,10 @@ impl Integer for i128 {
 impl AsInt<isize> for isize {
     fn to_int(&self) -> isize {
         *self
+    }
+
+    fn push_ints(values: &[isize], ints: &mut FastVec<isize>) {
+        push_themselves(values, ints);
     }
 
     ghost as_int_columns = { λ ds. refl };

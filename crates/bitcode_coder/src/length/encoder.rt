@@ -1,7 +1,7 @@
 //! The coder that lengths are written to.
 #![tactic(auto, unfolding(crate::specs::Length::written_lengths, crate::specs::Length::length_room, crate::specs::Length::length_capacity))]
 
-ghost use Rattle.std.specs.Prelude.{◌≡◌, ◌+◌, ◌<◌, ◌++◌, [], ◌∷◌, None, map, pos, IsOk, OnOk, IfErr, OnErr};
+ghost use Rattle.std.specs.Prelude.{◌≡◌, ◌+◌, ◌<◌, ◌≤◌, ◌++◌, [], ◌∷◌, None, length, map, All, pos, IsTrue, IsFalse, IsOk, OnOk, IfErr, OnErr};
 ghost use Rattle.bitcode_columns.specs.ByteColumn.{byte_text};
 ghost use Rattle.bitcode_columns.specs.Fast.{fast_items};
 ghost use Rattle.bitcode_columns.specs.IntColumn.{int_text};
@@ -11,7 +11,7 @@ ghost use Rattle.bitcode_coder.specs.LengthParts.{AreLengthParts};
 ghost use Rattle.bitcode_coder.specs.Spelling.{natural};
 
 use crate::coder::{Buffer, HoldsColumns};
-use crate::length::ESCAPE;
+use crate::length::{ESCAPE, Len};
 use bitcode_columns::error::{Error, Reason};
 use bitcode_columns::fast::{FastVec, PushUnchecked};
 use bitcode_columns::pack::pack_bytes;
@@ -43,6 +43,19 @@ fn pack_parts(
 {
     pack_bytes(small, out)?;
     pack_ints(alloc, large, out)
+}
+
+// Whether one of several lengths is over `max`.
+fn is_one_over<T: Len>(several: &[T], max: usize) -> bool
+    ensures over { IsTrue result → All (λ t. T.size t ≤ max) several.now → ⊥ }
+    ensures within { IsFalse result → All (λ t. T.size t ≤ max) several.now }
+{
+    for t in several {
+        if t.len() > max {
+            return true;
+        }
+    }
+    false
 }
 
 impl HoldsColumns for LengthEncoder {
@@ -101,10 +114,79 @@ impl LengthEncoder {
         ensures unchanged { OnErr result (written_lengths self.new ≡ written_lengths self.old) }
     {
         if length < ESCAPE as usize {
-            self.small.push_unchecked(length as u8);
+            self.encode_less_than_255(length);
         } else {
             self.large.push(length as u64)?;
             self.small.push_unchecked(ESCAPE);
+        }
+        Ok(())
+    }
+
+    /// Writes a length below 255. Room for it was reserved. Takes no memory.
+    ///
+    /// ```
+    /// lengths.reserve(1)?;
+    /// lengths.encode_less_than_255(3);
+    /// ```
+    pub fn encode_less_than_255(&mut self, length: usize)
+        requires room { 0 < length_room self.old }
+        requires below { length < 255 }
+        ensures written { written_lengths self.new ≡ written_lengths self.old ++ length ∷ [] }
+        ensures room { length_room self.new + 1 ≡ length_room self.old }
+    {
+        self.small.push_unchecked(length as u8);
+    }
+
+    /// Writes the lengths of a chunk, unless one of them is over `max`, which is at most 64. Room for them was reserved.
+    ///
+    /// Answers whether one is: nothing is written then. Takes no memory.
+    ///
+    /// ```
+    /// lengths.reserve(2)?;
+    /// lengths.encode_vectored_max_len(&[&[1u8, 2][..], &[]], 8) // false: 2 and 0 are written
+    /// ```
+    pub fn encode_vectored_max_len<T: Len>(&mut self, chunk: &[T], max: usize) -> bool
+        requires room { length chunk.now ≤ length_room self.old }
+        requires max { max ≤ 64 }
+        ensures over { IsTrue result → All (λ t. T.size t ≤ max) chunk.now → ⊥ }
+        ensures unchanged { IsTrue result → written_lengths self.new ≡ written_lengths self.old }
+        ensures room_kept { IsTrue result → length_room self.new ≡ length_room self.old }
+        ensures within { IsFalse result → All (λ t. T.size t ≤ max) chunk.now }
+        ensures written { IsFalse result → written_lengths self.new ≡ written_lengths self.old ++ map T.size chunk.now }
+        ensures room { length_room self.old ≤ length_room self.new + length chunk.now }
+    {
+        let over = is_one_over(chunk, max);
+        if !over {
+            self.push_each_short(chunk, max);
+        }
+        over
+    }
+
+    // Writes lengths of at most `max` each, which is at most 64. Room for them was reserved.
+    fn push_each_short<T: Len>(&mut self, chunk: &[T], max: usize)
+        requires room { length chunk.now ≤ length_room self.old }
+        requires max { max ≤ 64 }
+        requires within { All (λ t. T.size t ≤ max) chunk.now }
+        ensures written { written_lengths self.new ≡ written_lengths self.old ++ map T.size chunk.now }
+        ensures room { length_room self.old ≡ length_room self.new + length chunk.now }
+    {
+        for t in chunk {
+            self.encode_less_than_255(t.len());
+        }
+    }
+
+    /// Writes the lengths of a chunk, whatever they are. Room for them was reserved.
+    ///
+    /// A length of 255 or more may take memory: where none is to be had that is `out of memory`, and the lengths before
+    /// it may have been written.
+    pub fn encode_vectored_fallback<T: Len>(&mut self, chunk: &[T]) -> Result<(), Error>
+        requires { length chunk.now ≤ length_room self.old }
+        ensures written { OnOk result (written_lengths self.new ≡ written_lengths self.old ++ map T.size chunk.now) }
+        ensures room { OnOk result (length_room self.old ≡ length_room self.new + length chunk.now) }
+        ensures refused { IfErr result (λ e. e.reason ≡ Reason.OutOfMemory) }
+    {
+        for t in chunk {
+            self.encode(t.len())?;
         }
         Ok(())
     }

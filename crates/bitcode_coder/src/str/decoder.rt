@@ -63,6 +63,10 @@ fn are_texts(bytes: &[u8], lengths: &LengthDecoder<'_>) -> bool
     requires { sum (lengths_left lengths.now) ≡ length bytes.now }
     ensures { MatchBool result (All IsUtf8 (cut (lengths_left lengths.now) bytes.now)) (All IsUtf8 (cut (lengths_left lengths.now) bytes.now) → ⊥) }
 {
+    // An ASCII text is UTF-8 wherever it is cut.
+    if bytes.is_ascii() {
+        return true;
+    }
     match from_utf8(bytes) {
         Ok(whole) => ends_at_chars(whole, lengths),
         Err(_) => false,
@@ -131,7 +135,7 @@ impl<'a> View<'a> for StrDecoder<'a> {
     }
 }
 
-impl<'a> Decoder<'a, &'a str> for StrDecoder<'a> {
+impl<'a> Decoder<&'a str> for StrDecoder<'a> {
     ghost makes_free = { true };
 
     fn decode(&mut self) -> Result<&'a str, Error> {
@@ -141,7 +145,7 @@ impl<'a> Decoder<'a, &'a str> for StrDecoder<'a> {
     ghost same_shape = { refl };
 }
 
-impl<'a> Decoder<'a, String> for StrDecoder<'a> {
+impl<'a> Decoder<String> for StrDecoder<'a> {
     ghost makes_free = { false };
 
     fn decode(&mut self) -> Result<String, Error> {
@@ -152,7 +156,7 @@ impl<'a> Decoder<'a, String> for StrDecoder<'a> {
     ghost same_shape = { refl };
 }
 
-impl<'a> Decoder<'a, BoxedStr> for StrDecoder<'a> {
+impl<'a> Decoder<BoxedStr> for StrDecoder<'a> {
     ghost makes_free = { false };
 
     fn decode(&mut self) -> Result<BoxedStr, Error> {
@@ -163,7 +167,7 @@ impl<'a> Decoder<'a, BoxedStr> for StrDecoder<'a> {
     ghost same_shape = { refl };
 }
 
-impl<'a> Decoder<'a, RcStr> for StrDecoder<'a> {
+impl<'a> Decoder<RcStr> for StrDecoder<'a> {
     ghost makes_free = { false };
 
     fn decode(&mut self) -> Result<RcStr, Error> {

@@ -62,7 +62,7 @@ impl<'a, const N: usize> View<'a> for ArrayStringDecoder<'a, N> {
     }
 }
 
-impl<'a, const N: usize> Decoder<'a, ArrayString<N>> for ArrayStringDecoder<'a, N> {
+impl<'a, const N: usize> Decoder<ArrayString<N>> for ArrayStringDecoder<'a, N> {
     ghost makes_free = { true };
 
     fn decode(&mut self) -> Result<ArrayString<N>, Error> {

@@ -4,7 +4,7 @@ ghost use Rattle.std.specs.Prelude.{◌-◌, ◌/◌, ◌^◌, pos, negsuc, true
 ghost use Rattle.std.proofs.Common.{inl, inr};
 
 use crate::error::Error;
-use crate::ints::{Byte, Int, SizedInt, consume_numbers};
+use crate::ints::{Byte, Int, SizedInt, consume_numbers, push_signed};
 
 impl Int for i8 {
     type Une = [u8; 1];
@@ -78,9 +78,7 @@ impl Byte for i8 {
     }
 
     fn push_bytes(numbers: &[i8], out: &mut Vec<u8>) {
-        for number in numbers {
-            out.push_reserved(number.cast_unsigned());
-        }
+        push_signed(numbers, out);
     }
 
     ghost byte_law = { refl };

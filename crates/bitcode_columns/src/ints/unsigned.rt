@@ -44,6 +44,12 @@ impl SizedUInt for u8 {
     fn push(self, out: &mut Vec<u8>) {
         out.push_reserved(self);
     }
+
+    fn put(self, bytes: &mut [u8]) {
+        bytes.copy_from_slice(&self.to_le_bytes());
+    }
+
+    ghost width_law = { inl refl };
 }
 
 impl Int for u8 {
@@ -163,6 +169,12 @@ impl SizedUInt for u16 {
     fn push(self, out: &mut Vec<u8>) {
         push_bytes(&self.to_le_bytes(), out);
     }
+
+    fn put(self, bytes: &mut [u8]) {
+        bytes.copy_from_slice(&self.to_le_bytes());
+    }
+
+    ghost width_law = { inr (inl refl) };
 }
 
 impl Int for u16 {
@@ -266,6 +278,12 @@ impl SizedUInt for u32 {
     fn push(self, out: &mut Vec<u8>) {
         push_bytes(&self.to_le_bytes(), out);
     }
+
+    fn put(self, bytes: &mut [u8]) {
+        bytes.copy_from_slice(&self.to_le_bytes());
+    }
+
+    ghost width_law = { inr (inr (inl refl)) };
 }
 
 impl Int for u32 {
@@ -369,6 +387,12 @@ impl SizedUInt for u64 {
     fn push(self, out: &mut Vec<u8>) {
         push_bytes(&self.to_le_bytes(), out);
     }
+
+    fn put(self, bytes: &mut [u8]) {
+        bytes.copy_from_slice(&self.to_le_bytes());
+    }
+
+    ghost width_law = { inr (inr (inr (inl refl))) };
 }
 
 impl Int for u64 {

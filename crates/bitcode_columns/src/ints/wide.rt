@@ -45,6 +45,12 @@ impl SizedUInt for u128 {
     fn push(self, out: &mut Vec<u8>) {
         push_bytes(&self.to_le_bytes(), out);
     }
+
+    fn put(self, bytes: &mut [u8]) {
+        bytes.copy_from_slice(&self.to_le_bytes());
+    }
+
+    ghost width_law = { inr (inr (inr (inr refl))) };
 }
 
 impl Int for u128 {

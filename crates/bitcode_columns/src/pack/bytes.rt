@@ -12,7 +12,7 @@ use crate::consume::{consume_byte, consume_bytes};
 use crate::digits::{pack_digits, unpack_digits};
 use crate::error::{Error, Reason};
 use crate::fast::CowSlice;
-use crate::ints::Byte;
+use crate::ints::{Byte, known_bytes};
 use crate::minmax::minmax;
 use crate::pack::{Base, MOST_WITHOUT_TAG};
 use crate::refuse::err;
@@ -59,6 +59,10 @@ fn read_form(input: &mut &[u8]) -> Result<Form, Error>
 fn add_to_each(entries: &mut Vec<u8>, number: u8)
     ensures { entries.new.items ≡ map (λ entry. (entry + number) % 256) entries.old.items }
 {
+    if number == 0 {
+        known_bytes(entries);
+        return;
+    }
     for entry in entries.iter_mut() {
         *entry = entry.wrapping_add(number);
     }

@@ -2,7 +2,7 @@
 ghost use Rattle.std.specs.Prelude.{◌≡◌, ◌≢◌, ℕ, ◌+◌, ◌-◌, ◌<◌, ◌≤◌, ◌⊎◌, ◌++◌, length, sum, nat_lt, All, IsTrue, IfOk, OnOk, IfErr, OnErr, vec_len, vec_capacity};
 ghost use Rattle.std.specs.List.{list_all};
 ghost use Rattle.bitcode_columns.specs.Histogram.{AreCounts};
-ghost use Rattle.bitcode_columns.specs.Digits.{SpellsDigits, base_for};
+ghost use Rattle.bitcode_columns.specs.Digits.{SpellsDigits, base_for, radix};
 ghost use Rattle.bitcode_columns.specs.Fast.{cow_rest};
 ghost use Rattle.bitcode_columns.specs.Reading.{Reads, IsEndOf, Names, NamesVariantFault, digits_fault, variants_stand_raw};
 ghost use Rattle.bitcode_columns.specs.VariantColumn.{SpellsVariants, variant_text};
@@ -11,11 +11,13 @@ use crate::consume::consume_bytes;
 use crate::digits::{pack_digits, unpack_digits};
 use crate::error::{Error, Reason};
 use crate::fast::CowSlice;
-use crate::histogram::counts_below;
 use crate::pack::Base;
 use crate::pack::bytes::borrow_bytes;
+use crate::pack::variants::counts::packed_counts;
 use crate::refuse::err;
 use std::alloc::Global;
+
+mod counts;
 
 /// A variant is a byte, whatever `N` is.
 const HIGHEST_BYTE: usize = 255;
@@ -69,11 +71,13 @@ fn read_digits<'a, const N: usize>(
     Ok(())
 }
 
-/// Whether each entry is one of so many variants.
-fn are_variants(entries: &[u8], variants: usize) -> bool
+/// Whether each entry, a digit of the base, is one of so many variants. Where each digit is one, none is looked at.
+fn are_variants(base: Base, entries: &[u8], variants: usize) -> bool
+    requires { All (λ entry. entry < radix base) entries.now }
     ensures { result ≡ list_all (λ entry. nat_lt entry variants) entries.now }
 {
-    entries.iter().all(|entry| (*entry as usize) < variants)
+    usize::from(base.radix()) <= variants
+        || entries.iter().all(|entry| (*entry as usize) < variants)
 }
 
 /// Reads a column of so many variants from the front of the input into `out`.
@@ -106,10 +110,13 @@ pub fn unpack_bytes_less_than<'a, const N: usize, const H: usize>(
     ensures rest { OnErr result (IsEndOf input.old.now input.new.now) }
     ensures raw { IsTrue (variants_stand_raw N count) → IfErr result (λ e. e.reason ≢ Reason.OutOfMemory) }
 {
+    let before = *input;
     read_digits::<N>(alloc, input, count, out)?;
     let entries = out.as_slice();
-    if !are_variants(entries, N) {
+    let base = base_of_variants::<N>();
+    if !are_variants(base, entries, N) {
         return err(Reason::InvalidPacking);
     }
-    Ok(counts_below(entries))
+    let packed = &before[..before.len() - input.len()];
+    Ok(packed_counts(base, packed, entries))
 }

@@ -126,7 +126,7 @@ impl<'a, D: View<'a>> View<'a> for OptionDecoder<'a, D> {
     }
 }
 
-impl<'a, T: Made, D: Decoder<'a, T>> Decoder<'a, Option<T>> for OptionDecoder<'a, D> {
+impl<'a, T: Made, D: Decoder<T>> Decoder<Option<T>> for OptionDecoder<'a, D> {
     ghost makes_free = { D.makes_free };
 
     fn decode(&mut self) -> Result<Option<T>, Error> {

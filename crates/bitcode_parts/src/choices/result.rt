@@ -129,7 +129,7 @@ impl<'a, A: View<'a>, B: View<'a>> View<'a> for ResultDecoder<'a, A, B> {
     }
 }
 
-impl<'a, T: Made, E: Made, A: Decoder<'a, T>, B: Decoder<'a, E>> Decoder<'a, Result<T, E>>
+impl<'a, T: Made, E: Made, A: Decoder<T>, B: Decoder<E>> Decoder<Result<T, E>>
     for ResultDecoder<'a, A, B> {
     ghost makes_free = { A.makes_free && B.makes_free };
 

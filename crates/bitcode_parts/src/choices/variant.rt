@@ -174,12 +174,13 @@ impl<'a, const N: usize, const C_STYLE: bool> VariantDecoder<'a, N, C_STYLE> {
 
 // The data of an enum whose variants all lack a payload.
 impl<'a, const N: usize, const C_STYLE: bool> HoldsData for VariantDecoder<'a, N, C_STYLE> {
-    ghost use Rattle.bitcode_parts.specs.BareVariants.{bare_shape, bare_choices};
+    ghost use Rattle.bitcode_shapes.specs.BareVariants.{bare_shape};
+    ghost use Rattle.bitcode_parts.specs.BareVariants.{bare_choices};
     ghost use Rattle.bitcode_parts.specs.Variants.{variants_left, variants_owned};
 
     ghost shape = { bare_shape N };
 
-    ghost held = { λ d. bare_choices (variants_left d) };
+    ghost held = { λ d. bare_choices N (variants_left d) };
 
     ghost owned = { variants_owned };
 }

@@ -9,12 +9,11 @@ ghost use Rattle.bitcode_shapes.specs.Datum.{Datum};
 ghost use Rattle.bitcode_shapes.specs.Shape.{seq_shape};
 ghost use Rattle.bitcode_shapes.specs.Lists.{ListsSequence};
 ghost use Rattle.bitcode_coder.specs.Columns.{emptied};
-ghost use Rattle.bitcode_coder.specs.Coder.{written_columns, JoinsEach, OverflowsWithEach, IsWritingRefusal};
-ghost use Rattle.bitcode_parts.specs.Elements.{MakesOfElements, TakesEach};
+ghost use Rattle.bitcode_coder.specs.Coder.{written_columns, JoinsEach, OverflowsWithEach, IsWritingRefusal, TakesEach};
+ghost use Rattle.bitcode_parts.specs.Elements.{MakesOfElements};
 
 use bitcode_coder::coder::{Decoder, Encoder};
 use bitcode_columns::error::{Error, Reason};
-use bitcode_shapes::lists::told_each;
 use bitcode_shapes::shaped::{Made, Shaped};
 use std::alloc::Global;
 use std::collections::{LinkedList, VecDeque, linked_list, vec_deque};
@@ -103,18 +102,17 @@ pub fn encode_each<T: Shaped, E: Encoder<T>>(elements: &mut E, items: &[T]) -> R
     ensures free { IsTrue E.writes_free → IfErr result (λ e. e.reason ≢ Reason.OutOfMemory) }
     ensures none { length items.now ≡ 0 → IsOk result }
 {
-    told_each(items);
-    encode_lent(elements, items.iter())
+    elements.encode_slice(items)
 }
 
-/// Makes so many values, one after the other. So many data are left.
+/// Makes so many values, one after the other, by one call of the decoder. So many data are left.
 ///
 /// `out of memory` is its only refusal, and none comes where no value is wanted.
 ///
 /// ```
 /// let items: Vec<u8> = decode_each(alloc, &mut elements, 3)?;
 /// ```
-pub fn decode_each<'a, T: Made + Drop, D: Decoder<'a, T>>(
+pub fn decode_each<T: Made + Drop, D: Decoder<T>>(
     alloc: Global,
     elements: &mut D,
     count: usize,
@@ -124,11 +122,7 @@ pub fn decode_each<'a, T: Made + Drop, D: Decoder<'a, T>>(
     ensures refused { IfErr result (λ e. e.reason ≡ Reason.OutOfMemory) }
     ensures none { count ≡ 0 → IsOk result }
 {
-    let mut items = Vec::with_capacity(alloc, count)?;
-    for _made in 0..count {
-        items.push_reserved(elements.decode()?);
-    }
-    Ok(items)
+    elements.decode_many(alloc, count)
 }
 
 /// A type that is written as the sequence of its elements: a vector front to back, a set in the order of its keys or in

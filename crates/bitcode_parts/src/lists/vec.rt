@@ -137,7 +137,7 @@ impl<'a, D> VecDecoder<'a, D> {
     /// ```
     pub fn decode_as<C: FromElements>(&mut self) -> Result<C, Error>
     where
-        D: Decoder<'a, C::Part>,
+        D: Decoder<C::Part>,
         requires { 0 < length (lists_of (lengths_left self.old.lengths) (D.held self.old.elements)) }
         ensures made { IfOk result (λ t. TakesDatum C.makes t (lists_of (lengths_left self.old.lengths) (D.held self.old.elements)) (lists_of (lengths_left self.new.lengths) (D.held self.new.elements))) }
         ensures refused { IfErr result (λ e. e.reason ≡ Reason.OutOfMemory) }
@@ -148,7 +148,7 @@ impl<'a, D> VecDecoder<'a, D> {
     }
 }
 
-impl<'a, T: Made + Drop, D: Decoder<'a, T>> Decoder<'a, Vec<T>> for VecDecoder<'a, D> {
+impl<'a, T: Made + Drop, D: Decoder<T>> Decoder<Vec<T>> for VecDecoder<'a, D> {
     ghost makes_free = { false };
 
     fn decode(&mut self) -> Result<Vec<T>, Error> {
@@ -158,7 +158,7 @@ impl<'a, T: Made + Drop, D: Decoder<'a, T>> Decoder<'a, Vec<T>> for VecDecoder<'
     ghost same_shape = { ap (seq_shape None) D.same_shape };
 }
 
-impl<'a, T: Made + Drop, D: Decoder<'a, T>> Decoder<'a, VecDeque<T>> for VecDecoder<'a, D> {
+impl<'a, T: Made + Drop, D: Decoder<T>> Decoder<VecDeque<T>> for VecDecoder<'a, D> {
     ghost makes_free = { false };
 
     fn decode(&mut self) -> Result<VecDeque<T>, Error> {
@@ -168,7 +168,7 @@ impl<'a, T: Made + Drop, D: Decoder<'a, T>> Decoder<'a, VecDeque<T>> for VecDeco
     ghost same_shape = { ap (seq_shape None) D.same_shape };
 }
 
-impl<'a, T: Made + Drop, D: Decoder<'a, T>> Decoder<'a, LinkedList<T>> for VecDecoder<'a, D> {
+impl<'a, T: Made + Drop, D: Decoder<T>> Decoder<LinkedList<T>> for VecDecoder<'a, D> {
     ghost makes_free = { false };
 
     fn decode(&mut self) -> Result<LinkedList<T>, Error> {

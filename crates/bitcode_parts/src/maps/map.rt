@@ -144,7 +144,7 @@ impl<'a, K, V> MapDecoder<'a, K, V> {
     /// ```
     pub fn decode_as<C: FromElements>(&mut self) -> Result<C, Error>
     where
-        TupleDecoder<K, V>: Decoder<'a, C::Part>,
+        TupleDecoder<K, V>: Decoder<C::Part>,
         requires { 0 < length (⟦<VecDecoder<'a, TupleDecoder<K, V>> as HoldsData>⟧.held self.old.entries) }
         ensures made { IfOk result (λ t. TakesDatum C.makes t (⟦<VecDecoder<'a, TupleDecoder<K, V>> as HoldsData>⟧.held self.old.entries) (⟦<VecDecoder<'a, TupleDecoder<K, V>> as HoldsData>⟧.held self.new.entries)) }
         ensures refused { IfErr result (λ e. e.reason ≡ Reason.OutOfMemory) }
@@ -153,8 +153,7 @@ impl<'a, K, V> MapDecoder<'a, K, V> {
     }
 }
 
-impl<'a, P: Key + Made + Ord + Drop, Q: Made + Drop, K: Decoder<'a, P>, V: Decoder<'a, Q>> Decoder<
-    'a,
+impl<'a, P: Key + Made + Ord + Drop, Q: Made + Drop, K: Decoder<P>, V: Decoder<Q>> Decoder<
     BTreeMap<P, Q>,
 > for MapDecoder<'a, K, V> {
     ghost makes_free = { false };
@@ -166,8 +165,7 @@ impl<'a, P: Key + Made + Ord + Drop, Q: Made + Drop, K: Decoder<'a, P>, V: Decod
     ghost same_shape = { ap₂ map_shape K.same_shape V.same_shape };
 }
 
-impl<'a, P: Key + Made + Hash + Drop, Q: Made + Drop, K: Decoder<'a, P>, V: Decoder<'a, Q>> Decoder<
-    'a,
+impl<'a, P: Key + Made + Hash + Drop, Q: Made + Drop, K: Decoder<P>, V: Decoder<Q>> Decoder<
     HashMap<P, Q>,
 > for MapDecoder<'a, K, V> {
     ghost makes_free = { false };

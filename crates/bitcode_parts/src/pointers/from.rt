@@ -73,7 +73,7 @@ impl<'a, T: Drop, D: View<'a>> View<'a> for FromDecoder<T, D> {
     }
 }
 
-impl<'a, T: Made + Drop, F: FromValue<T>, D: Decoder<'a, T>> Decoder<'a, F> for FromDecoder<T, D> {
+impl<T: Made + Drop, F: FromValue<T>, D: Decoder<T>> Decoder<F> for FromDecoder<T, D> {
     ghost makes_free = { D.makes_free && F.is_free };
 
     fn decode(&mut self) -> Result<F, Error> {

@@ -86,7 +86,7 @@ impl<'a> View<'a> for VariantDecoder<'a> {
     }
 }
 
-impl<'a> Decoder<'a, u8> for VariantDecoder<'a> {
+impl<'a> Decoder<u8> for VariantDecoder<'a> {
     ghost use Rattle.bitcode_serde.specs.Indices.{indices_left, index_count};
 
     ghost makes_free = { true };

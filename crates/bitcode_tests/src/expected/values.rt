@@ -26,7 +26,7 @@ pub fn decodes<'a, T: HasDecoder<'a> + Made + Drop + PartialEq>(
     expected: T,
 ) -> Result<(), Got>
 where
-    T::Decoder: View<'a> + Decoder<'a, T> + Drop,
+    T::Decoder: View<'a> + Decoder<T> + Drop,
 {
     match decode::<T>(alloc, bytes) {
         Ok(t) if t == expected => Ok(()),
@@ -42,7 +42,7 @@ pub fn refuses<'a, T: HasDecoder<'a> + Made + Drop>(
     expected: Reason,
 ) -> Result<(), Got>
 where
-    T::Decoder: View<'a> + Decoder<'a, T> + Drop,
+    T::Decoder: View<'a> + Decoder<T> + Drop,
 {
     match decode::<T>(alloc, bytes) {
         Ok(_) => Err(Got::AnotherValue),
@@ -59,7 +59,7 @@ pub fn both_ways<'a, T: HasEncoder + HasDecoder<'a> + Made + Drop + PartialEq>(
 ) -> Result<(), Got>
 where
     T::Encoder: Buffer + Encoder<T> + Drop,
-    T::Decoder: View<'a> + Decoder<'a, T> + Drop,
+    T::Decoder: View<'a> + Decoder<T> + Drop,
 {
     encodes(alloc, &t, bytes)?;
     decodes(alloc, bytes, t)
@@ -74,7 +74,7 @@ pub fn holds<'a, T: HasEncoder + HasDecoder<'a> + Made + Drop + PartialEq>(
 ) -> Result<(), Got>
 where
     T::Encoder: Buffer + Encoder<T> + Drop,
-    T::Decoder: View<'a> + Decoder<'a, T> + Drop,
+    T::Decoder: View<'a> + Decoder<T> + Drop,
 {
     both_ways(alloc, t, bytes)?;
     for (other, reason) in refused {
@@ -91,7 +91,7 @@ pub fn written_and_read<'a, T: HasEncoder + HasDecoder<'a> + DecodeOwned + Drop>
 ) -> Result<T, Got>
 where
     T::Encoder: Buffer + Encoder<T> + Drop,
-    T::Decoder: View<'a> + Decoder<'a, T> + Drop,
+    T::Decoder: View<'a> + Decoder<T> + Drop,
 {
     encodes(alloc, t, bytes)?;
     Ok(decode(alloc, bytes)?)

@@ -1,10 +1,10 @@
 //! Each public call once, with ample memory.
 use bitcode::coder::Buffer as _;
 use bitcode::{
-    BoolDecoder, BoolEncoder, Buffer, CowSlice, Decoder, Encoder, FastSlice, FastVec, IntEncoder,
-    NextUnchecked, PushUnchecked, Reason, TupleEncoder, View, consume_byte, consume_byte_arrays,
-    consume_bytes, decode_front, encode_into, err, error, expect_eof, invalid_enum_variant, minmax,
-    mul_length,
+    BoolDecoder, BoolEncoder, Buffer, CowSlice, Decoder, Encoder, FastSlice, FastVec, IntDecoder,
+    IntEncoder, NextUnchecked, PushUnchecked, Reason, TupleDecoder, TupleEncoder, View,
+    consume_byte, consume_byte_arrays, consume_bytes, decode_front, encode_into, err, error,
+    expect_eof, invalid_enum_variant, minmax, mul_length,
 };
 use std::io;
 use std::test::Fail;
@@ -130,6 +130,27 @@ fn coders_are_used_by_themselves(rt: HostRuntime) -> Result<(), Fail> {
     decoder.populate(&mut input, 3)?;
     let first: bool = decoder.decode()?;
     assert!(rt; first);
+    Ok(())
+}
+
+#[test]
+fn values_are_made_at_once(rt: HostRuntime) -> Result<(), Fail> {
+    let alloc = rt.alloc();
+    let mut input: &[u8] = &[5];
+    let mut bools = BoolDecoder::new(alloc);
+    bools.populate(&mut input, 3)?;
+    let read: Vec<bool> = bools.decode_many(alloc, 3)?;
+    assert_eq!(rt; read.as_slice(), [true, false, true].as_slice());
+    let mut input: &[u8] = &[7, 0];
+    let mut ints: IntDecoder<u16> = IntDecoder::new(alloc);
+    ints.populate(&mut input, 1)?;
+    let read: Vec<u16> = ints.decode_many(alloc, 1)?;
+    assert_eq!(rt; read.as_slice(), [7].as_slice());
+    let mut input: &[u8] = &[1, 7, 0];
+    let mut pairs: TupleDecoder<BoolDecoder, IntDecoder<u16>> = TupleDecoder::new(alloc);
+    pairs.populate(&mut input, 1)?;
+    let read: Vec<(bool, u16)> = pairs.decode_many(alloc, 1)?;
+    assert_eq!(rt; read.as_slice(), [(true, 7)].as_slice());
     Ok(())
 }
 

@@ -1,6 +1,9 @@
 //! Values that are written in chunks, and columns that are collected into bytes of their own.
 use bitcode::coder::Buffer as _;
-use bitcode::{BoolEncoder, Encoder, IntEncoder, MAX_VECTORED_CHUNK, TupleEncoder, VariantEncoder};
+use bitcode::{
+    BoolEncoder, Encoder, IntEncoder, LengthEncoder, MAX_VECTORED_CHUNK, TupleEncoder,
+    VariantEncoder,
+};
 use std::test::Fail;
 
 #[test]
@@ -35,6 +38,49 @@ fn a_slice_is_as_one_by_one(rt: HostRuntime) -> Result<(), Fail> {
     encoder.encode(&299u16)?;
     let bytes = encoder.collect(alloc)?;
     assert_eq!(rt; bytes.as_slice(), [1, 43, 1, 10, 255, 255, 0].as_slice());
+    Ok(())
+}
+
+#[test]
+fn a_slice_of_chars_is_as_one_by_one(rt: HostRuntime) -> Result<(), Fail> {
+    let alloc = rt.alloc();
+    let chars = ['a', 'b', 'z'];
+    let mut by_slice: IntEncoder<u32> = IntEncoder::new(alloc);
+    by_slice.reserve(3)?;
+    by_slice.encode_slice(&chars)?;
+    let mut one_by_one: IntEncoder<u32> = IntEncoder::new(alloc);
+    one_by_one.reserve(3)?;
+    for char in &chars {
+        one_by_one.encode(char)?;
+    }
+    let expected = one_by_one.collect(alloc)?;
+    assert_eq!(rt; by_slice.collect(alloc)?.as_slice(), expected.as_slice());
+    Ok(())
+}
+
+#[test]
+fn a_slice_of_bools_is_as_one_by_one(rt: HostRuntime) -> Result<(), Fail> {
+    let alloc = rt.alloc();
+    let mut encoder = BoolEncoder::new(alloc);
+    encoder.reserve(3)?;
+    encoder.encode_slice(&[true, false, true])?;
+    assert_eq!(rt; encoder.collect(alloc)?.as_slice(), [5].as_slice());
+    Ok(())
+}
+
+#[test]
+fn lengths_of_a_chunk(rt: HostRuntime) -> Result<(), Fail> {
+    let alloc = rt.alloc();
+    let mut lengths = LengthEncoder::new(alloc);
+    lengths.reserve(3)?;
+    let chunk: [&[u8]; 2] = [&[1, 2], &[]];
+    assert_eq!(rt; lengths.encode_vectored_max_len(&chunk, 1), true);
+    assert_eq!(rt; lengths.encode_vectored_max_len(&chunk, 2), false);
+    lengths.encode_less_than_255(3);
+    assert_eq!(rt; lengths.collect(alloc)?.as_slice(), [6, 50].as_slice());
+    lengths.reserve(2)?;
+    lengths.encode_vectored_fallback(&chunk)?;
+    assert_eq!(rt; lengths.collect(alloc)?.as_slice(), [2, 0].as_slice());
     Ok(())
 }
 

@@ -8,8 +8,7 @@ use bitcode_coder::coder::Decoder;
 use bitcode_columns::error::Error;
 use bitcode_shapes::shaped::Made;
 
-impl<'a, T1: Made + Drop, T2: Made, T3: Made, A: Decoder<'a, T1>, B: Decoder<'a, (T2, T3)>> Decoder<
-    'a,
+impl<T1: Made + Drop, T2: Made, T3: Made, A: Decoder<T1>, B: Decoder<(T2, T3)>> Decoder<
     (T1, T2, T3),
 > for TupleDecoder<A, B> {
     ghost makes_free = { A.makes_free && B.makes_free };
@@ -23,14 +22,13 @@ impl<'a, T1: Made + Drop, T2: Made, T3: Made, A: Decoder<'a, T1>, B: Decoder<'a,
 }
 
 impl<
-    'a,
     T1: Made + Drop,
     T2: Made + Drop,
     T3: Made,
     T4: Made,
-    A: Decoder<'a, (T1, T2)>,
-    B: Decoder<'a, (T3, T4)>,
-> Decoder<'a, (T1, T2, T3, T4)> for TupleDecoder<A, B> {
+    A: Decoder<(T1, T2)>,
+    B: Decoder<(T3, T4)>,
+> Decoder<(T1, T2, T3, T4)> for TupleDecoder<A, B> {
     ghost makes_free = { A.makes_free && B.makes_free };
 
     fn decode(&mut self) -> Result<(T1, T2, T3, T4), Error> {
@@ -42,15 +40,14 @@ impl<
 }
 
 impl<
-    'a,
     T1: Made + Drop,
     T2: Made + Drop,
     T3: Made,
     T4: Made,
     T5: Made,
-    A: Decoder<'a, (T1, T2)>,
-    B: Decoder<'a, (T3, T4, T5)>,
-> Decoder<'a, (T1, T2, T3, T4, T5)> for TupleDecoder<A, B> {
+    A: Decoder<(T1, T2)>,
+    B: Decoder<(T3, T4, T5)>,
+> Decoder<(T1, T2, T3, T4, T5)> for TupleDecoder<A, B> {
     ghost makes_free = { A.makes_free && B.makes_free };
 
     fn decode(&mut self) -> Result<(T1, T2, T3, T4, T5), Error> {
@@ -62,16 +59,15 @@ impl<
 }
 
 impl<
-    'a,
     T1: Made + Drop,
     T2: Made + Drop,
     T3: Made + Drop,
     T4: Made,
     T5: Made,
     T6: Made,
-    A: Decoder<'a, (T1, T2, T3)>,
-    B: Decoder<'a, (T4, T5, T6)>,
-> Decoder<'a, (T1, T2, T3, T4, T5, T6)> for TupleDecoder<A, B> {
+    A: Decoder<(T1, T2, T3)>,
+    B: Decoder<(T4, T5, T6)>,
+> Decoder<(T1, T2, T3, T4, T5, T6)> for TupleDecoder<A, B> {
     ghost makes_free = { A.makes_free && B.makes_free };
 
     fn decode(&mut self) -> Result<(T1, T2, T3, T4, T5, T6), Error> {
@@ -83,7 +79,6 @@ impl<
 }
 
 impl<
-    'a,
     T1: Made + Drop,
     T2: Made + Drop,
     T3: Made + Drop,
@@ -91,9 +86,9 @@ impl<
     T5: Made,
     T6: Made,
     T7: Made,
-    A: Decoder<'a, (T1, T2, T3)>,
-    B: Decoder<'a, (T4, T5, T6, T7)>,
-> Decoder<'a, (T1, T2, T3, T4, T5, T6, T7)> for TupleDecoder<A, B> {
+    A: Decoder<(T1, T2, T3)>,
+    B: Decoder<(T4, T5, T6, T7)>,
+> Decoder<(T1, T2, T3, T4, T5, T6, T7)> for TupleDecoder<A, B> {
     ghost makes_free = { A.makes_free && B.makes_free };
 
     fn decode(&mut self) -> Result<(T1, T2, T3, T4, T5, T6, T7), Error> {
@@ -107,7 +102,6 @@ impl<
 }
 
 impl<
-    'a,
     T1: Made + Drop,
     T2: Made + Drop,
     T3: Made + Drop,
@@ -116,9 +110,9 @@ impl<
     T6: Made,
     T7: Made,
     T8: Made,
-    A: Decoder<'a, (T1, T2, T3, T4)>,
-    B: Decoder<'a, (T5, T6, T7, T8)>,
-> Decoder<'a, (T1, T2, T3, T4, T5, T6, T7, T8)> for TupleDecoder<A, B> {
+    A: Decoder<(T1, T2, T3, T4)>,
+    B: Decoder<(T5, T6, T7, T8)>,
+> Decoder<(T1, T2, T3, T4, T5, T6, T7, T8)> for TupleDecoder<A, B> {
     ghost makes_free = { A.makes_free && B.makes_free };
 
     fn decode(&mut self) -> Result<(T1, T2, T3, T4, T5, T6, T7, T8), Error> {

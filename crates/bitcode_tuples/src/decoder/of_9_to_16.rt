@@ -9,7 +9,6 @@ use bitcode_columns::error::Error;
 use bitcode_shapes::shaped::Made;
 
 impl<
-    'a,
     T1: Made + Drop,
     T2: Made + Drop,
     T3: Made + Drop,
@@ -19,9 +18,9 @@ impl<
     T7: Made,
     T8: Made,
     T9: Made,
-    A: Decoder<'a, (T1, T2, T3, T4)>,
-    B: Decoder<'a, (T5, T6, T7, T8, T9)>,
-> Decoder<'a, (T1, T2, T3, T4, T5, T6, T7, T8, T9)> for TupleDecoder<A, B> {
+    A: Decoder<(T1, T2, T3, T4)>,
+    B: Decoder<(T5, T6, T7, T8, T9)>,
+> Decoder<(T1, T2, T3, T4, T5, T6, T7, T8, T9)> for TupleDecoder<A, B> {
     ghost makes_free = { A.makes_free && B.makes_free };
 
     fn decode(&mut self) -> Result<(T1, T2, T3, T4, T5, T6, T7, T8, T9), Error> {
@@ -35,7 +34,6 @@ impl<
 }
 
 impl<
-    'a,
     T1: Made + Drop,
     T2: Made + Drop,
     T3: Made + Drop,
@@ -46,9 +44,9 @@ impl<
     T8: Made,
     T9: Made,
     T10: Made,
-    A: Decoder<'a, (T1, T2, T3, T4, T5)>,
-    B: Decoder<'a, (T6, T7, T8, T9, T10)>,
-> Decoder<'a, (T1, T2, T3, T4, T5, T6, T7, T8, T9, T10)> for TupleDecoder<A, B> {
+    A: Decoder<(T1, T2, T3, T4, T5)>,
+    B: Decoder<(T6, T7, T8, T9, T10)>,
+> Decoder<(T1, T2, T3, T4, T5, T6, T7, T8, T9, T10)> for TupleDecoder<A, B> {
     ghost makes_free = { A.makes_free && B.makes_free };
 
     fn decode(&mut self) -> Result<(T1, T2, T3, T4, T5, T6, T7, T8, T9, T10), Error> {
@@ -62,7 +60,6 @@ impl<
 }
 
 impl<
-    'a,
     T1: Made + Drop,
     T2: Made + Drop,
     T3: Made + Drop,
@@ -74,9 +71,9 @@ impl<
     T9: Made,
     T10: Made,
     T11: Made,
-    A: Decoder<'a, (T1, T2, T3, T4, T5)>,
-    B: Decoder<'a, (T6, T7, T8, T9, T10, T11)>,
-> Decoder<'a, (T1, T2, T3, T4, T5, T6, T7, T8, T9, T10, T11)> for TupleDecoder<A, B> {
+    A: Decoder<(T1, T2, T3, T4, T5)>,
+    B: Decoder<(T6, T7, T8, T9, T10, T11)>,
+> Decoder<(T1, T2, T3, T4, T5, T6, T7, T8, T9, T10, T11)> for TupleDecoder<A, B> {
     ghost makes_free = { A.makes_free && B.makes_free };
 
     fn decode(&mut self) -> Result<(T1, T2, T3, T4, T5, T6, T7, T8, T9, T10, T11), Error> {
@@ -90,7 +87,6 @@ impl<
 }
 
 impl<
-    'a,
     T1: Made + Drop,
     T2: Made + Drop,
     T3: Made + Drop,
@@ -103,9 +99,9 @@ impl<
     T10: Made,
     T11: Made,
     T12: Made,
-    A: Decoder<'a, (T1, T2, T3, T4, T5, T6)>,
-    B: Decoder<'a, (T7, T8, T9, T10, T11, T12)>,
-> Decoder<'a, (T1, T2, T3, T4, T5, T6, T7, T8, T9, T10, T11, T12)> for TupleDecoder<A, B> {
+    A: Decoder<(T1, T2, T3, T4, T5, T6)>,
+    B: Decoder<(T7, T8, T9, T10, T11, T12)>,
+> Decoder<(T1, T2, T3, T4, T5, T6, T7, T8, T9, T10, T11, T12)> for TupleDecoder<A, B> {
     ghost makes_free = { A.makes_free && B.makes_free };
 
     fn decode(&mut self) -> Result<(T1, T2, T3, T4, T5, T6, T7, T8, T9, T10, T11, T12), Error> {
@@ -119,7 +115,6 @@ impl<
 }
 
 impl<
-    'a,
     T1: Made + Drop,
     T2: Made + Drop,
     T3: Made + Drop,
@@ -133,9 +128,9 @@ impl<
     T11: Made,
     T12: Made,
     T13: Made,
-    A: Decoder<'a, (T1, T2, T3, T4, T5, T6)>,
-    B: Decoder<'a, (T7, T8, T9, T10, T11, T12, T13)>,
-> Decoder<'a, (T1, T2, T3, T4, T5, T6, T7, T8, T9, T10, T11, T12, T13)> for TupleDecoder<A, B> {
+    A: Decoder<(T1, T2, T3, T4, T5, T6)>,
+    B: Decoder<(T7, T8, T9, T10, T11, T12, T13)>,
+> Decoder<(T1, T2, T3, T4, T5, T6, T7, T8, T9, T10, T11, T12, T13)> for TupleDecoder<A, B> {
     ghost makes_free = { A.makes_free && B.makes_free };
 
     fn decode(
@@ -151,7 +146,6 @@ impl<
 }
 
 impl<
-    'a,
     T1: Made + Drop,
     T2: Made + Drop,
     T3: Made + Drop,
@@ -166,10 +160,9 @@ impl<
     T12: Made,
     T13: Made,
     T14: Made,
-    A: Decoder<'a, (T1, T2, T3, T4, T5, T6, T7)>,
-    B: Decoder<'a, (T8, T9, T10, T11, T12, T13, T14)>,
-> Decoder<'a, (T1, T2, T3, T4, T5, T6, T7, T8, T9, T10, T11, T12, T13, T14)>
-    for TupleDecoder<A, B> {
+    A: Decoder<(T1, T2, T3, T4, T5, T6, T7)>,
+    B: Decoder<(T8, T9, T10, T11, T12, T13, T14)>,
+> Decoder<(T1, T2, T3, T4, T5, T6, T7, T8, T9, T10, T11, T12, T13, T14)> for TupleDecoder<A, B> {
     ghost makes_free = { A.makes_free && B.makes_free };
 
     fn decode(
@@ -188,7 +181,6 @@ impl<
 }
 
 impl<
-    'a,
     T1: Made + Drop,
     T2: Made + Drop,
     T3: Made + Drop,
@@ -204,10 +196,9 @@ impl<
     T13: Made,
     T14: Made,
     T15: Made,
-    A: Decoder<'a, (T1, T2, T3, T4, T5, T6, T7)>,
-    B: Decoder<'a, (T8, T9, T10, T11, T12, T13, T14, T15)>,
+    A: Decoder<(T1, T2, T3, T4, T5, T6, T7)>,
+    B: Decoder<(T8, T9, T10, T11, T12, T13, T14, T15)>,
 > Decoder<
-    'a,
     (
         T1,
         T2,
@@ -265,7 +256,6 @@ impl<
 }
 
 impl<
-    'a,
     T1: Made + Drop,
     T2: Made + Drop,
     T3: Made + Drop,
@@ -282,10 +272,9 @@ impl<
     T14: Made,
     T15: Made,
     T16: Made,
-    A: Decoder<'a, (T1, T2, T3, T4, T5, T6, T7, T8)>,
-    B: Decoder<'a, (T9, T10, T11, T12, T13, T14, T15, T16)>,
+    A: Decoder<(T1, T2, T3, T4, T5, T6, T7, T8)>,
+    B: Decoder<(T9, T10, T11, T12, T13, T14, T15, T16)>,
 > Decoder<
-    'a,
     (
         T1,
         T2,

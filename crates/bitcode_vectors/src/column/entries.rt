@@ -10,7 +10,7 @@ use std::alloc::Global;
 use std::fmt::Debug;
 
 /// Reads so many values that one column holds.
-fn values<'a, T: Made + Drop, D: View<'a> + Decoder<'a, T> + Drop>(
+fn values<'a, T: Made + Drop, D: View<'a> + Decoder<T> + Drop>(
     alloc: Global,
     input: &mut &'a [u8],
     count: usize,
@@ -21,7 +21,7 @@ fn values<'a, T: Made + Drop, D: View<'a> + Decoder<'a, T> + Drop>(
 }
 
 /// Reads so many integers that one column holds, and lists them.
-fn integers<'a, T: Made + Drop + Debug, D: View<'a> + Decoder<'a, T> + Drop>(
+fn integers<'a, T: Made + Drop + Debug, D: View<'a> + Decoder<T> + Drop>(
     alloc: Global,
     input: &mut &'a [u8],
     count: usize,

@@ -63,3 +63,19 @@ pub fn texts_written(alloc: Global) -> Result<(), Got> {
     }
     encodes(alloc, &letters.as_str(), bytes.as_slice())
 }
+
+/// A long text is looked at to its last byte: one byte there is no letter, and two are.
+pub fn long_texts(alloc: Global) -> Result<(), Got> {
+    let mut bytes: Vec<u8> = vec![in alloc; 129]?;
+    let mut letters = String::new(alloc);
+    for _ in 0..127 {
+        bytes.push(97)?;
+        letters.push('a')?;
+    }
+    letters.push('é')?;
+    let mut text = Vec::from_slice(alloc, bytes.as_slice())?;
+    text.extend_from_slice(&[195, 169])?;
+    decodes(alloc, text.as_slice(), letters.as_str())?;
+    bytes.extend_from_slice(&[97, 255])?;
+    refuses::<&str>(alloc, bytes.as_slice(), Reason::InvalidUtf8)
+}

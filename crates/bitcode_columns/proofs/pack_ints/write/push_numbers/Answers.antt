@@ -1,29 +1,40 @@
-use Rattle.std.proofs.Common.{subst, arith}
-use Rattle.std.proofs.lemmas.List.Elements.{All-more, All-nil}
+use Rattle.std.proofs.Common.{◌≡◌, ◌+◌, ◌*◌, ◌/◌, ◌%◌, ◌^◌, ◌<◌, ◌≤◌, ◌++◌, length, take, drop, map, All, sym, ap, ◌∙◌, subst, arith}
+use Rattle.std.proofs.Math.Nat.{add-mul, div-mul-le_self, mul-le-mul_right}
+use Rattle.std.proofs.lemmas.List.Elements.{All-append}
 use Rattle.bitcode_columns.specs.Ints.{IsNumber}
-use Rattle.bitcode_columns.proofs.NarrowLemmas.{narrowed, raw_none, raw_more}
-use Rattle.bitcode_columns.proofs.RoomLemmas.{next_len, next_fits}
+use Rattle.bitcode_columns.specs.Narrowing.{above}
+use Rattle.bitcode_columns.proofs.BlockLemmas.{raw_joined}
 use Rattle.bitcode_columns.proofs.pack_ints.write.push_numbers.Goals as goal
 
-pub loop-entry-init : goal.loop-entry-init
-loop-entry-init g c = record {
-  written = raw_none g.N.SizedUInt.width _;
-  in_range = All-nil (λ e. IsNumber g.T.Int.width g.T.Int.signed (g.T.Int.number e));
-  len = omega arith;
-  capacity = omega arith;
+pub push_blocks-requires : goal.push_blocks-requires
+push_blocks-requires g c = record {
+  whole = omega (arith, c.split_at.ensures.front_len);
+  room = omega (arith, c.requires, mul-le-mul_right {m = length c.split_at.result.0.now} {n = length c.args.entries.now} g.N.SizedUInt.width (omega (arith, c.split_at.ensures.front_len)));
 }
 
-pub push-requires : goal.push-requires
-push-requires g c =
-    omega (arith, c.requires, next_fits g.N.SizedUInt.width _ _ _ _ c.loop-entry-test.true c.loop-entry.invariant.len, c.loop-entry.invariant.capacity)
+pub push_each-requires : goal.push_each-requires
+push_each-requires g c =
+    let front = c.split_at.result.0.now in
+    let back = c.split_at.result.1.now in
+    let both : length front + length back ≡ length c.args.entries.now = omega (arith, c.split_at.ensures.front_len, c.split_at.ensures.back_len) in
+    omega (
+      arith,
+      c.requires,
+      c.push_blocks.ensures.len,
+      c.push_blocks.ensures.capacity,
+      add-mul (length front) (length back) g.N.SizedUInt.width,
+      ap (λ n. n * g.N.SizedUInt.width) both,
+    )
 
-pub loop-entry-preserved : goal.loop-entry-preserved
-loop-entry-preserved g c = record {
-  written = raw_more g.N.SizedUInt.width _ _ _ _ _ _ _ _ _ c.loop-entry-test.true c.entry-item.is c.loop-entry.invariant.written
-      (narrowed _ _ _ _ _ _ _ _ (g.T.Int.number c.entry-item.result) g.met.T.Int.unsigned_law c.to_unsigned.ensures.value c.wrapping_sub-distance.ensures c.to_wide.ensures.same c.from_wide.ensures)
-      c.push.ensures.written;
-  in_range = All-more (λ e. IsNumber g.T.Int.width g.T.Int.signed (g.T.Int.number e)) _ _ _ c.loop-entry-test.true c.loop-entry.invariant.in_range
-      (subst (λ e. IsNumber g.T.Int.width g.T.Int.signed (g.T.Int.number e)) c.entry-item.is c.to_unsigned.ensures.in_range);
-  len = next_len g.N.SizedUInt.width _ _ _ _ c.loop-entry.invariant.len c.push.ensures.len;
-  capacity = omega (arith, c.loop-entry.invariant.capacity, c.push.ensures.capacity);
-}
+pub returns : goal.returns
+returns g c =
+    let width = g.N.SizedUInt.width in
+    let entries = c.args.entries.now in
+    let front = c.split_at.result.0.now in
+    let back = c.split_at.result.1.now in
+    let F = λ (e : g.row.T.Denot). above g.T.Int.width (g.T.Unsigned.SizedUInt.value c.args.base) (g.T.Int.number e) % 256 ^ width in
+    let P : g.row.T.Denot → Type 0 = λ e. IsNumber g.T.Int.width g.T.Int.signed (g.T.Int.number e) in
+    record {
+      written = raw_joined width F entries front back c.args.out.items c.push_blocks.new.out.items c.push_each.result.items c.split_at.ensures.by_index.0 c.push_blocks.ensures.written c.push_each.ensures.written;
+      in_range = subst (All P) (sym c.split_at.ensures.by_index.0) (All-append P front back c.push_blocks.ensures.in_range c.push_each.ensures.in_range);
+    }

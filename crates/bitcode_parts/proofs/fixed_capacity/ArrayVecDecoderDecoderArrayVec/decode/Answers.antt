@@ -2,8 +2,8 @@
 use Rattle.std.proofs.Common.{◌≡◌, ◌∷◌, ◌≤◌, All, refl, sym, subst, arith}
 use Rattle.std.proofs.lemmas.List.Elements.{All-head, All-rest}
 use Rattle.bitcode_coder.specs.Length.{lengths_left}
-use Rattle.bitcode_parts.specs.Elements.{TakesEach}
-use Rattle.bitcode_parts.proofs.ElementLemmas.{takes_none, takes_one_more, taken_and_left}
+use Rattle.bitcode_coder.specs.Coder.{TakesEach}
+use Rattle.bitcode_coder.proofs.TakingLemmas.{takes_none, takes_one_more, taken_and_left}
 use Rattle.bitcode_parts.proofs.ListLemmas.{takes_list, enough_elements}
 use Rattle.bitcode_parts.proofs.fixed_capacity.ArrayVecDecoderDecoderArrayVec.decode.Goals as goal
 
@@ -17,14 +17,14 @@ pub loop-made-init : goal.loop-made-init
 loop-made-init g c = record { each = takes_none g.T.Made.makes (g.D.HoldsData.held c.args.self.now.elements) c.new-vec.result.items c.new-vec.ensures; lengths = refl }
 
 pub decode-requires : goal.decode-requires
-decode-requires g c κs =
+decode-requires g c =
     let held = g.D.HoldsData.held c.args.self.now.elements in
     let left = g.D.HoldsData.held c.loop-made.self.elements in
     let old = lengths_left c.args.self.now.lengths in
     let new = lengths_left c.decode-count.new.self in
     let enough = enough_elements c.decode-count.result old new held c.decode-count.ensures.taken c.requires in
     let taken = taken_and_left g.T.Made.makes c.loop-made._made held left c.loop-made.vec.items c.loop-made.invariant.each in
-    ((refl, tt), omega (arith, enough, taken))
+    omega (arith, enough, taken, c.loop-made-test.true)
 
 pub push-requires : goal.push-requires
 push-requires g c =

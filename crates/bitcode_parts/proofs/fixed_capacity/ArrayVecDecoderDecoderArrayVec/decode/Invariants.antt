@@ -1,6 +1,6 @@
 use Rattle.std.proofs.Common.{◌≡◌}
 use Rattle.bitcode_coder.specs.Length.{lengths_left}
-use Rattle.bitcode_parts.specs.Elements.{TakesEach}
+use Rattle.bitcode_coder.specs.Coder.{TakesEach}
 use Rattle.bitcode_parts.proofs.fixed_capacity.ArrayVecDecoderDecoderArrayVec.decode.Given as goal
 
 abbrev pub invariant-loop-made : goal.invariant-loop-made

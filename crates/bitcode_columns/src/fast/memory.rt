@@ -1,0 +1,175 @@
+//! The memory of a list with room: places side by side, of which the first hold items.
+ghost use Rattle.std.specs.Prelude.{◌≡◌, ℕ, ◌+◌, ◌^◌, ◌<◌, ◌≤◌, List, [], ◌∷◌, ◌++◌, length, take, IfOk, ⊤};
+ghost use Rattle.std.specs.Borrow.{sem};
+ghost use Rattle.std.specs.Vec.Ownership.{FitsInBlock};
+ghost use base.Fml.{ftrue};
+ghost use denote.RawPtr.{Ptr};
+ghost use Rattle.bitcode_columns.specs.Memory.{places_own, places_lent, lease_owns};
+
+use std::alloc::{AllocError, Allocator};
+use std::marker::{Model, PhantomData, Send, Sync};
+use std::mem::{align_of, size_of};
+use std::slice;
+
+/// Where the places begin. It owns nothing.
+pub struct Start<T> {
+    ptr: *mut T,
+}
+
+impl<T> Clone for Start<T> {
+    ghost is_clone = { λ x y. y ≡ x };
+
+    ghost is_infallible = { λ _. ⊤ };
+
+    fn clone(&self) -> Result<Start<T>, AllocError> {
+        Ok(*self)
+    }
+}
+
+impl<T> Copy for Start<T> {}
+
+unsafe impl<T> Send for Start<T> {}
+
+unsafe impl<T> Sync for Start<T> {}
+
+/// The owner of the places. It takes no space: who holds it has the pointer and the counts.
+pub struct Places<T> {
+    mark: PhantomData<*const T>,
+    ghost at: { Ptr },
+    ghost capacity: { ℕ },
+    ghost items: { List T },
+}
+
+impl<T> Model for Places<T> {
+    ghost also_owns = { λ p. places_own T.row p.at p.capacity p.items };
+
+    ghost also_shares = { λ p _ κ. places_lent T.row p.at p.capacity p.items κ };
+}
+
+unsafe impl<T: Send> Send for Places<T> {}
+
+unsafe impl<T: Sync> Sync for Places<T> {}
+
+/// The right to give the block of the places back. It takes no space.
+pub struct Lease<T, A: Allocator> {
+    mark: PhantomData<*const (T, A)>,
+    ghost at: { Ptr },
+    ghost capacity: { ℕ },
+    ghost alloc: { A },
+}
+
+impl<T, A: Allocator> Model for Lease<T, A> {
+    ghost also_owns = { λ l. lease_owns T.row (A.dealloc_token l.alloc) l.at l.capacity };
+
+    ghost also_shares = { λ _ _ _. ftrue };
+}
+
+unsafe impl<T, A: Allocator + Send> Send for Lease<T, A> {}
+
+// A `&` to it holds nothing.
+unsafe impl<T, A: Allocator> Sync for Lease<T, A> {}
+
+/// No places, and no block.
+pub(crate) fn nowhere<T, A: Allocator>(alloc: &A) -> (Start<T>, Places<T>, Lease<T, A>)
+    ensures { (result.1.at ≡ result.0.ptr) × (result.1.capacity ≡ 0) × (result.1.items ≡ []) × (result.2.at ≡ result.0.ptr) × (result.2.capacity ≡ 0) × (result.2.alloc ≡ alloc.now) }
+{
+    let none: [T; 0] = [];
+    let start = Start {
+        ptr: &raw const none as *mut T,
+    };
+    (
+        start,
+        Places { mark: PhantomData },
+        Lease { mark: PhantomData },
+    )
+}
+
+/// A block of so many places.
+pub(crate) fn take_block<T, A: Allocator>(
+    alloc: &A,
+    capacity: usize,
+) -> Result<(Start<T>, Places<T>, Lease<T, A>), AllocError>
+    requires { FitsInBlock T.row capacity × (0 < capacity) }
+    ensures { IfOk result (λ r. (r.1.at ≡ r.0.ptr) × (r.1.capacity ≡ capacity) × (r.1.items ≡ []) × (r.2.at ≡ r.0.ptr) × (r.2.capacity ≡ capacity) × (r.2.alloc ≡ alloc.now)) }
+{
+    match alloc.allocate(capacity * size_of::<T>(), align_of::<T>()) {
+        Ok(block) => {
+            let start = Start {
+                ptr: block as *mut T,
+            };
+            Ok((
+                start,
+                Places { mark: PhantomData },
+                Lease { mark: PhantomData },
+            ))
+        }
+        Err(error) => Err(error),
+    }
+}
+
+/// Gives the block back, if there is one. The items are forgotten.
+pub(crate) fn give_back<T, A: Allocator>(
+    alloc: &A,
+    start: Start<T>,
+    capacity: usize,
+    places: Places<T>,
+    lease: Lease<T, A>,
+)
+    requires { (places.at ≡ start.ptr) × (places.capacity ≡ capacity) × (length places.items ≤ capacity) × (lease.at ≡ start.ptr) × (lease.capacity ≡ capacity) × (lease.alloc ≡ alloc.now) }
+{
+    let Places { mark: _ } = places;
+    let Lease { mark: _ } = lease;
+    if capacity != 0 {
+        unsafe {
+            alloc.deallocate(
+                start.ptr as *mut u8,
+                capacity * size_of::<T>(),
+                align_of::<T>(),
+            );
+        }
+    }
+}
+
+impl<T> Places<T> {
+    ghost use Rattle.bitcode_columns.specs.Places.{lends_front};
+
+    /// Writes an item behind the first `index` ones. Those behind it are forgotten.
+    pub(crate) fn write(&mut self, start: Start<T>, index: usize, item: T)
+        requires { (start.ptr ≡ self.old.at) × (index ≤ length self.old.items) × (length self.old.items ≤ self.old.capacity) × (index < self.old.capacity) }
+        ensures { (self.new.at ≡ self.old.at) × (self.new.capacity ≡ self.old.capacity) × (self.new.items ≡ take index self.old.items ++ item ∷ []) }
+    {
+        unsafe { start.ptr.add(index).write(item) }
+    }
+
+    /// Writes the items of a slice behind the first `index` ones. Those behind them are forgotten.
+    pub(crate) fn write_all(&mut self, start: Start<T>, index: usize, src: &[T])
+    where
+        T: Copy,
+        requires places { (start.ptr ≡ self.old.at) × (index ≤ length self.old.items) × (length self.old.items ≤ self.old.capacity) }
+        requires room { (index + length src.now ≤ self.old.capacity) × (self.old.capacity < 2 ^ 63) }
+        ensures places { (self.new.at ≡ self.old.at) × (self.new.capacity ≡ self.old.capacity) }
+        ensures counts { (index + length src.now ≤ length self.new.items) × (length self.new.items ≤ self.new.capacity) }
+        ensures items { take (index + length src.now) self.new.items ≡ take index self.old.items ++ src.now }
+    {
+        for i in 0..src.len() {
+            self.write(start, index + i, src[i]);
+        }
+    }
+
+    /// The first `len` items.
+    pub(crate) fn slice(&self, start: Start<T>, len: usize) -> &[T]
+        requires { (start.ptr ≡ self.now.at) × (len ≤ length self.now.items) × (length self.now.items ≤ self.now.capacity) }
+        ensures { result.now ≡ take len self.now.items }
+    {
+        unsafe { slice::from_raw_parts(start.ptr, len) }
+    }
+
+    /// The first `len` items, to be written. Those behind them are forgotten.
+    pub(crate) fn slice_mut(&mut self, start: Start<T>, len: usize) -> &mut [T]
+        requires { (start.ptr ≡ self.old.at) × (len ≤ length self.old.items) × (length self.old.items ≤ self.old.capacity) }
+        ensures* writes_back { sem 𝓛 (lends_front T.row self.entry len result) }
+        ensures value { result.now ≡ take len self.old.items }
+    {
+        unsafe { slice::from_raw_parts_mut(start.ptr, len) }
+    }
+}

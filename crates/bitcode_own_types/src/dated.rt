@@ -1,0 +1,58 @@
+//! `Dated` stands for the tuple of its fields. What is below its declaration was written by `scripts/new_type`.
+ghost use Rattle.std.specs.Prelude.{refl};
+
+use bitcode::{
+    DecodeOwned, Encode, EncodeParts, Error, FieldsEncoder, FromParts, HasDecoder, HasEncoder,
+    Made, PartsDecoder, PartsEncoder, Shaped, StandsFor,
+};
+
+/// A value and when it was made.
+#[derive(Debug, PartialEq, Drop)]
+pub struct Dated<T> {
+    pub year: u16,
+    pub day: u16,
+    pub value: T,
+}
+
+type Parts<T> = (u16, u16, T);
+
+type Columns<T> = <Parts<T> as HasEncoder>::Encoder;
+
+impl<T: Shaped> StandsFor for Dated<T> {
+    type Parts = Parts<T>;
+
+    ghost parts = { λ t. (t.year, t.day, t.value) };
+
+    ghost of_parts = { λ p. (record { year = p.0; day = p.1; value = p.2 }, refl) };
+
+    fn told_parts(&self) {
+        self.year.told();
+        self.day.told();
+        self.value.told();
+    }
+}
+
+impl<T: Made> FromParts for Dated<T> {
+    fn from_parts((year, day, value): Parts<T>) -> Self {
+        Dated { year, day, value }
+    }
+}
+
+impl<T: Encode> EncodeParts<Columns<T>> for Dated<T> {
+    fn encode_parts(&self, columns: &mut Columns<T>) -> Result<(), Error> {
+        FieldsEncoder::<(&u16, &u16, &T)>::encode_fields(
+            columns,
+            &(&self.year, &self.day, &self.value),
+        )
+    }
+}
+
+impl<T: HasEncoder> HasEncoder for Dated<T> {
+    type Encoder = PartsEncoder<Columns<T>>;
+}
+
+impl<'a, T: HasDecoder<'a>> HasDecoder<'a> for Dated<T> {
+    type Decoder = PartsDecoder<Parts<T>, <Parts<T> as HasDecoder<'a>>::Decoder>;
+}
+
+impl<T: DecodeOwned> DecodeOwned for Dated<T> {}

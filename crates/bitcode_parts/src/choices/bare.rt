@@ -1,0 +1,86 @@
+//! The coders of enums whose variants all lack a payload.
+#![tactic(auto, unfolding(crate::specs::Variants::written_variants, crate::specs::Variants::variants_left))]
+
+ghost use Rattle.std.proofs.Common.{sym};
+ghost use Rattle.std.specs.Prelude.{true};
+ghost use Rattle.bitcode_parts.specs.BareVariants.{bare_columns, bare_of_shape};
+ghost use Rattle.bitcode_parts.specs.Variants.{written_variants, variant_room, variant_capacity};
+
+use crate::choices::variant::{VariantDecoder, VariantEncoder};
+use bitcode_coder::coder::{Buffer, Decoder, Encoder, HoldsColumns};
+use bitcode_columns::error::Error;
+use bitcode_shapes::bare_variants::{BareMade, BareShaped};
+use std::alloc::Global;
+
+/// The columns of an enum of `N` variants, 2 to 256, all of which lack a payload: the column of the variants alone.
+///
+/// Its values are read by `VariantDecoder<'_, N, true>`.
+///
+/// ```
+/// let mut lights: BareEncoder<3> = BareEncoder::new(alloc);
+/// lights.reserve(2)?;
+/// lights.encode(&Light::Green)?;
+/// lights.encode(&Light::Amber)?;
+/// lights.collect_into(&mut bytes)?; // [5]: the digits 2 and 1 in base 3
+/// ```
+#[derive(Drop)]
+pub struct BareEncoder<const N: usize> {
+    variants: VariantEncoder<N>,
+}
+
+impl<const N: usize> HoldsColumns for BareEncoder<N> {
+    ghost columns = { λ e. bare_columns N (written_variants e.variants) };
+
+    ghost room = { λ e. variant_room e.variants };
+
+    ghost capacity = { λ e. variant_capacity e.variants };
+
+    ghost surely_overflows = { λ e n. ⊥ };
+
+    ghost overflows = { λ e n. ⊥ };
+}
+
+impl<const N: usize> Buffer for BareEncoder<N> {
+    fn new(alloc: Global) -> Self {
+        BareEncoder {
+            variants: VariantEncoder::new(alloc),
+        }
+    }
+
+    fn reserve(&mut self, n: usize) -> Result<(), Error> {
+        self.variants.reserve(n)
+    }
+
+    #[tactic(auto, using(crate::proofs::BareVariantLemmas::bare_bytes))]
+    fn collect_into(&mut self, out: &mut Vec<u8>) -> Result<(), Error> {
+        self.variants.collect_into(out)
+    }
+
+    fn clear(&mut self) {
+        self.variants.clear();
+    }
+}
+
+impl<const N: usize, T: BareShaped<N>> Encoder<T> for BareEncoder<N> {
+    ghost writes_free = { true };
+
+    fn encode(&mut self, t: &T) -> Result<(), Error> {
+        self.variants.encode(t.index());
+        Ok(())
+    }
+
+    ghost of_shape = { λ e. bare_of_shape N (written_variants e.variants) T.has_shape };
+
+    ghost surely = { λ e n h. absurd h };
+}
+
+impl<'a, const N: usize, const C_STYLE: bool, T: BareMade<N>> Decoder<T>
+    for VariantDecoder<'a, N, C_STYLE> {
+    ghost makes_free = { true };
+
+    fn decode(&mut self) -> Result<T, Error> {
+        Ok(T::from_index(self.decode()))
+    }
+
+    ghost same_shape = { sym T.has_shape };
+}

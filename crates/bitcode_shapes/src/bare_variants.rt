@@ -1,0 +1,142 @@
+//! Enums whose variants all lack a payload: they say which variant a value is, and which value a variant.
+ghost use Rattle.std.specs.Prelude.{◌≡◌, ◌<◌, ℕ, List, true, refl};
+ghost use Rattle.bitcode_shapes.specs.Datum.{Datum};
+ghost use Rattle.bitcode_shapes.specs.BareVariants.{bare_shape, ListsBare, MakesBare, SameBare, AreInOrder, AreSomeVariants};
+ghost use Rattle.bitcode_shapes.specs.LawfulBareVariants.{bare_lawful, bare_makeable};
+ghost use Rattle.bitcode_shapes.specs.LawfulImages.{image_lawful, image_makeable};
+ghost use Rattle.bitcode_shapes.specs.SameArrays.{one_datum_same_arrays};
+
+use crate::same_arrays::SameArrays;
+use crate::shaped::{Made, Shaped};
+use crate::stands_for::{FromHolder, HeldIn, Holds};
+
+/// An enum of `N` variants, 2 to 256, all of which lack a payload. They are numbered from 0 on in the order in which they
+/// stand.
+///
+/// ```
+/// pub enum Light {
+///     Red,
+///     Green,
+/// }
+///
+/// impl BareVariants<2> for Light {
+///     ghost variant = { elim [ Light.Red ↦ 0 | Light.Green ↦ 1 ] };
+///
+///     ghost values = { Light.Red ∷ Light.Green ∷ [] };
+///
+///     fn index(&self) -> u8 {
+///         *self as u8
+///     }
+///
+///     fn from_index(index: u8) -> Self {
+///         match index {
+///             0 => Light::Red,
+///             _ => Light::Green,
+///         }
+///     }
+///
+///     ghost in_order = { refl };
+///
+///     ghost some = { refl };
+/// }
+///
+/// impl HeldIn for Light {
+///     type Holder = Bare<2, Light>;
+/// }
+///
+/// impl FromHolder for Light {}
+/// ```
+pub trait BareVariants<const N: usize> {
+    // which variant a value is
+    ghost variant: { Self → ℕ };
+
+    // the value of each variant, in their order
+    ghost values: { List Self };
+
+    /// Which variant the value is.
+    fn index(&self) -> u8
+        ensures is { result ≡ variant self.now }
+        ensures known { result < N };
+
+    /// The value of a variant, which is below `N`.
+    fn from_index(index: u8) -> Self
+        requires { index < N }
+        ensures { variant result ≡ index };
+
+    ghost in_order: { AreInOrder variant values N };
+
+    ghost some: { AreSomeVariants N };
+}
+
+/// An enum whose variants all lack a payload, and that is lawful as such: it says so by `HeldIn`.
+pub trait BareShaped<const N: usize>: BareVariants<N> + Shaped {
+    ghost has_shape: { Self.shape ≡ bare_shape N };
+
+    ghost lists_bare: { (t : Self) (d : Datum) → ListsBare Self.variant t d → Self.lists t d };
+}
+
+/// An enum whose variants all lack a payload, each of whose values is made of its variant.
+pub trait BareMade<const N: usize>: BareShaped<N> + Made {
+    ghost makes_bare: { (d : Datum) (t : Self) → MakesBare Self.variant d t → Self.makes d t };
+}
+
+impl<const N: usize, T: BareVariants<N> + HeldIn<Holder = Bare<N, T>>> BareShaped<N> for T {
+    ghost has_shape = { refl };
+
+    ghost lists_bare = { λ t d h. h };
+}
+
+impl<const N: usize, T: BareVariants<N> + HeldIn<Holder = Bare<N, T>> + FromHolder> BareMade<N>
+    for T {
+    ghost makes_bare = { λ d t h. h };
+}
+
+/// What a value of an enum whose variants all lack a payload stands for: itself.
+pub struct Bare<const N: usize, T> {
+    value: T,
+}
+
+impl<const N: usize, T: BareVariants<N>> Holds<T> for Bare<N, T> {
+    ghost holder = { λ t. record { value = t } };
+
+    ghost value = { λ b. b.value };
+
+    ghost holds = { λ b. refl };
+
+    fn told_value(t: &T) {
+        let _index = t.index();
+    }
+
+    fn into_value(self) -> T {
+        let Bare { value } = self;
+        value
+    }
+}
+
+impl<const N: usize, T: BareVariants<N>> Shaped for Bare<N, T> {
+    ghost shape = { bare_shape N };
+
+    ghost is_value = { λ b. T.variant b.value < N };
+
+    ghost lists = { λ b d. ListsBare T.variant b.value d };
+
+    ghost same = { λ b c. SameBare T.variant b.value c.value };
+
+    ghost in_order = { true };
+
+    fn told(&self) {
+        let _index = self.value.index();
+    }
+
+    ghost lawful = { image_lawful (λ b. b.value) (bare_lawful T.variant T.some) };
+}
+
+impl<const N: usize, T: BareVariants<N>> Made for Bare<N, T> {
+    ghost makes = { λ d b. MakesBare T.variant d b.value };
+
+    ghost makeable = { image_makeable (λ b. b.value) (λ g t h. (record { value = t }, refl)) (bare_makeable T.variant T.values T.in_order) };
+}
+
+impl<const N: usize, T: BareVariants<N>> SameArrays for Bare<N, T> {
+    ghost same_arrays = { one_datum_same_arrays };
+}
