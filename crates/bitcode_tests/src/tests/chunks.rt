@@ -42,19 +42,15 @@ fn a_slice_is_as_one_by_one(rt: HostRuntime) -> Result<(), Fail> {
 }
 
 #[test]
-fn a_slice_of_chars_is_as_one_by_one(rt: HostRuntime) -> Result<(), Fail> {
+fn a_slice_of_chars_is_converted(rt: HostRuntime) -> Result<(), Fail> {
     let alloc = rt.alloc();
-    let chars = ['a', 'b', 'z'];
-    let mut by_slice: IntEncoder<u32> = IntEncoder::new(alloc);
-    by_slice.reserve(3)?;
-    by_slice.encode_slice(&chars)?;
-    let mut one_by_one: IntEncoder<u32> = IntEncoder::new(alloc);
-    one_by_one.reserve(3)?;
-    for char in &chars {
-        one_by_one.encode(char)?;
-    }
-    let expected = one_by_one.collect(alloc)?;
-    assert_eq!(rt; by_slice.collect(alloc)?.as_slice(), expected.as_slice());
+    let mut encoder: IntEncoder<u32> = IntEncoder::new(alloc);
+    encoder.reserve(3)?;
+    encoder.encode_slice(&['a', 'b', 'z'])?;
+    assert_eq!(rt;
+        encoder.collect(alloc)?.as_slice(),
+        [4, 0, 97, 98, 122].as_slice()
+    );
     Ok(())
 }
 
