@@ -1,14 +1,12 @@
 # For scripts that run a program of their own over this repository's libraries: to be sourced at the top of the repository.
 
-# copy_libraries FOLDER: a repository there, with the crates of this one.
+# copy_libraries FOLDER: a repository there, with the crates of this one, but for what proves them: `rt try` proves nothing, and the
+# check that it runs beside for its hints ends at once.
 copy_libraries() {
-  local crate part
+  local crate
   mkdir -p "$1/crates" && git -C "$1" init -q && cp crates.txt "$1" || return 2
   for crate in crates/*/; do
     mkdir "$1/$crate" && cp -r "$crate/src" "$1/$crate" || return 2
-    for part in specs proofs; do
-      [ ! -d "$crate/$part" ] || cp -r "$crate/$part" "$1/$crate" || return 2
-    done
   done
 }
 
