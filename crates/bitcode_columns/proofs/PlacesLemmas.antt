@@ -1,8 +1,8 @@
 -- The first items of places, after writes behind them.
-use Rattle.std.proofs.Common.{◌≡◌, ℕ, suc, ◌+◌, ◌<◌, ◌≤◌, List, [], ◌∷◌, ◌++◌, length, take, drop, get_or, sym, ap, ◌∙◌, arith, append_assoc, length-append, take_at}
+use Rattle.std.proofs.Common.{◌≡◌, refl, ℕ, suc, ◌+◌, ◌<◌, ◌≤◌, List, [], ◌∷◌, ◌++◌, length, take, drop, get_or, sym, ap, ◌∙◌, arith, append_assoc, length-append, take_at, take-append-drop}
 use Rattle.std.specs.List.{refill}
 use Rattle.std.proofs.Math.Seq.{take-suc}
-use Rattle.std.proofs.lemmas.List.{take_all, length-take}
+use Rattle.std.proofs.lemmas.List.{take_all, take-take, take-append-le, length-take, length-drop}
 
 module _ {X : Type 0} where
   -- nothing lies behind the item that was written last
@@ -27,3 +27,24 @@ module _ {X : Type 0} where
 
   pub length_front : (n : ℕ) (items : List X) → n ≤ length items → length (take n items) ≡ n
   length_front n items within = omega (arith, length-take n items)
+
+  -- a front that goes on with the first items of a list
+  front_more : (xs ys : List X) (n m : ℕ) → length xs ≡ n → take (n + m) (xs ++ ys) ≡ xs ++ take m ys
+  front_more [] ys n m size = ap (λ k. take k ys) (omega arith)
+  front_more (x ∷ xs) ys n m size =
+      let more : n + m ≡ suc (length xs + m) = omega arith in
+      ap (λ k. take k (x ∷ xs ++ ys)) more ∙ ap (λ l. x ∷ l) (front_more xs ys (length xs) m refl)
+
+  -- a front of a list was written, and then its end, over a part of the front
+  pub both_written : (old first last src front back : List X) (n m k : ℕ) → front ≡ take k src → back ≡ drop m src
+      → m ≤ k → k ≤ length src → n ≤ length old → take (n + length front) first ≡ take n old ++ front
+      → take (n + m + length back) last ≡ take (n + m) first ++ back → take (n + length src) last ≡ take n old ++ src
+  both_written old first last src front back n m k is_front is_back inside fits within written after =
+      let size : length (take n old) ≡ n = omega (arith, length-take n old) in
+      let long : length front ≡ k = omega (arith, ap length is_front, length-take k src) in
+      let all : n + length src ≡ n + m + length back = omega (arith, ap length is_back, length-drop m src) in
+      let kept : take (n + m) first ≡ take n old ++ take m src =
+      sym (take-take (n + m) (n + length front) first (omega arith)) ∙ ap (take (n + m)) written ∙ front_more (take n old) front n m size
+      ∙ ap (λ ys. take n old ++ ys) (ap (take m) is_front ∙ take-take m k src inside) in
+      ap (λ j. take j last) all ∙ after ∙ ap (λ ys. ys ++ back) kept ∙ append_assoc (take n old) (take m src) back
+      ∙ ap (λ ys. take n old ++ ys) (ap (λ ys. take m src ++ ys) is_back ∙ take-append-drop m src)

@@ -11,6 +11,9 @@ use std::marker::{Model, PhantomData, Send, Sync};
 use std::mem::{align_of, size_of};
 use std::slice;
 
+// More items than these are written one by one before the last so many.
+const LONG: usize = 32;
+
 /// Where the places begin. It owns nothing.
 pub struct Start<T> {
     ptr: *mut T,
@@ -142,7 +145,65 @@ impl<T> Places<T> {
     }
 
     /// Writes the items of a slice behind the first `index` ones. Those behind them are forgotten.
+    ///
+    /// Few items are written as two blocks of a size that the compiler knows, the second over a part of the first. A loop
+    /// over them would take longer, since how often it turns is guessed wrongly.
     pub(crate) fn write_all(&mut self, start: Start<T>, index: usize, src: &[T])
+    where
+        T: Copy,
+        requires places { (start.ptr ≡ self.old.at) × (index ≤ length self.old.items) × (length self.old.items ≤ self.old.capacity) }
+        requires room { (index + length src.now ≤ self.old.capacity) × (self.old.capacity < 2 ^ 63) }
+        ensures places { (self.new.at ≡ self.old.at) × (self.new.capacity ≡ self.old.capacity) }
+        ensures counts { (index + length src.now ≤ length self.new.items) × (length self.new.items ≤ self.new.capacity) }
+        ensures items { take (index + length src.now) self.new.items ≡ take index self.old.items ++ src.now }
+    {
+        match src.len() {
+            0..4 => self.write_each(start, index, src),
+            4..8 => self.write_ends::<4>(start, index, src),
+            8..16 => self.write_ends::<8>(start, index, src),
+            16..33 => self.write_ends::<16>(start, index, src),
+            _ => self.write_long(start, index, src),
+        }
+    }
+
+    // Writes the items of a slice, at least 32 of them: those of whole blocks one by one, and then the last 32.
+    fn write_long(&mut self, start: Start<T>, index: usize, src: &[T])
+    where
+        T: Copy,
+        requires size { 32 ≤ length src.now }
+        requires places { (start.ptr ≡ self.old.at) × (index ≤ length self.old.items) × (length self.old.items ≤ self.old.capacity) }
+        requires room { (index + length src.now ≤ self.old.capacity) × (self.old.capacity < 2 ^ 63) }
+        ensures places { (self.new.at ≡ self.old.at) × (self.new.capacity ≡ self.old.capacity) }
+        ensures counts { (index + length src.now ≤ length self.new.items) × (length self.new.items ≤ self.new.capacity) }
+        ensures items { take (index + length src.now) self.new.items ≡ take index self.old.items ++ src.now }
+    {
+        let (front, _) = src.split_at(src.len() / LONG * LONG);
+        let back = *src.last_chunk::<LONG>().unwrap();
+        self.write_each(start, index, front);
+        self.write_each(start, index + (src.len() - LONG), &back);
+    }
+
+    // Writes the items of a slice, of which there are `N` to twice as many. Both blocks are read before the first is
+    // written.
+    fn write_ends<const N: usize>(&mut self, start: Start<T>, index: usize, src: &[T])
+    where
+        T: Copy,
+        requires size { (N ≤ length src.now) × (length src.now ≤ N + N) }
+        requires places { (start.ptr ≡ self.old.at) × (index ≤ length self.old.items) × (length self.old.items ≤ self.old.capacity) }
+        requires room { (index + length src.now ≤ self.old.capacity) × (self.old.capacity < 2 ^ 63) }
+        ensures places { (self.new.at ≡ self.old.at) × (self.new.capacity ≡ self.old.capacity) }
+        ensures counts { (index + length src.now ≤ length self.new.items) × (length self.new.items ≤ self.new.capacity) }
+        ensures items { take (index + length src.now) self.new.items ≡ take index self.old.items ++ src.now }
+    {
+        let front = *src.first_chunk::<N>().unwrap();
+        let back = *src.last_chunk::<N>().unwrap();
+        self.write_each(start, index, &front);
+        self.write_each(start, index + (src.len() - N), &back);
+    }
+
+    // Writes the items of a slice one by one. It is inlined, so that the compiler knows how many they are.
+    #[inline(always)]
+    fn write_each(&mut self, start: Start<T>, index: usize, src: &[T])
     where
         T: Copy,
         requires places { (start.ptr ≡ self.old.at) × (index ≤ length self.old.items) × (length self.old.items ≤ self.old.capacity) }

@@ -1,5 +1,5 @@
 use Rattle.std.proofs.Common.{◌≡◌, ◌+◌, ◌≤◌, ◌++◌, take, length}
-use Rattle.bitcode_columns.proofs.fast.memory.Places.write_all.Given as goal
+use Rattle.bitcode_columns.proofs.fast.memory.Places.write_each.Given as goal
 
 abbrev pub invariant-loop-i : goal.invariant-loop-i
 invariant-loop-i g l = record {
