@@ -1,6 +1,6 @@
 //! Vectors and slices that the Rust crate wrote and read, queues and linked lists.
-use crate::{Got, agrees, both_ways, decodes, encodes, written_and_read};
 use bitcode::encode;
+use bitcode_tests::{Got, agrees, both_ways, decodes, encodes, written_and_read};
 use std::collections::{LinkedList, VecDeque};
 
 #[test]

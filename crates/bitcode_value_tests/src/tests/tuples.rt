@@ -1,5 +1,5 @@
 //! Tuples of one field, both ways, and of sixteen types, written. The tables of `scripts/vectors` have every number of fields.
-use crate::{Got, encodes, written_and_read};
+use bitcode_tests::{Got, encodes, written_and_read};
 use std::time::Duration;
 
 #[test]

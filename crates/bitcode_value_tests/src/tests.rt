@@ -1,0 +1,13 @@
+//! Values of each type, by the kind of the type.
+mod arrays;
+mod checked;
+mod choices;
+mod fixed_capacity;
+mod heaps;
+mod ints;
+mod lists;
+mod maps;
+mod pointers;
+mod sets;
+mod texts;
+mod tuples;
