@@ -16,3 +16,8 @@ index_first_or index (inr r) = suc (index r)
 pub first_or_found : {A R : Type 0} (u : A ⊎ R) → (v : FirstOr A R) × (first_or v ≡ u)
 first_or_found (inl a) = (First a, refl)
 first_or_found (inr r) = (Rest r, refl)
+
+-- the payload that other payloads make up
+abbrev pub first_or_of : {A B R S : Type 0} → (A → B) → (R → S) → FirstOr A R → FirstOr B S
+first_or_of of_first of_rest (First a) = First (of_first a)
+first_or_of of_first of_rest (Rest r) = Rest (of_rest r)
