@@ -162,6 +162,13 @@ impl<'a, const N: usize, const C_STYLE: bool> VariantDecoder<'a, N, C_STYLE> {
         self.counts[i]
     }
 
+    /// How many of each variant were read, place by place, those that were taken since too.
+    pub fn counts(&self) -> &[usize]
+        ensures { result.now ≡ variant_counts self.now }
+    {
+        &self.counts
+    }
+
     /// Takes the next variant. One is left.
     pub fn decode(&mut self) -> u8
         requires { 0 < length (variants_left self.old) }

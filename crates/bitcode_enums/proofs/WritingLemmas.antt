@@ -1,0 +1,130 @@
+-- A value is written as its variant, and its payload to the columns of that variant.
+use Rattle.std.proofs.Common.{◌≡◌, ℕ, suc, ◌+◌, ◌<◌, List, [], ◌∷◌, ◌++◌, map, refl, sym, ap, subst, ◌∙◌, inl, inr, arith}
+use Rattle.std.specs.Prelude.{◌⊎◌}
+use Rattle.bitcode_shapes.specs.Datum.{Datum, choice}
+use Rattle.bitcode_shapes.specs.Shape.{Shape, Shapes, no_shapes, shape_and, choice_shape, variant_count}
+use Rattle.bitcode_shapes.specs.Choices.{ListsChoice, ListsLast, ListsVariant}
+use Rattle.bitcode_coder.specs.Columns.{Columns, no_columns, one, two, variants, emptied}
+use Rattle.bitcode_coder.specs.Coder.{written_columns, JoinsListing, OverflowsWithListing}
+use Rattle.bitcode_coder.specs.Spelling.{natural}
+use Rattle.bitcode_parts.specs.Payloads.{HasPayloads, JoinsPayload, OverflowsAtPayload}
+use Rattle.bitcode_parts.proofs.ChoiceWritingLemmas.{joins_here, joins_later, joins_choice, overflows_here, overflows_later, overflows_choice}
+use Rattle.bitcode_enums.specs.Variants.{index_first_or}
+use Rattle.bitcode_enums.specs.Writing.{JoinsVariant, OverflowsWithVariant}
+
+from_first : (first : ℕ) → first ≡ first + 0
+from_first first = omega arith
+
+from_next : (first index : ℕ) → suc first + index ≡ first + suc index
+from_next first index = omega arith
+
+-- ---- the last variant
+
+module _ {V A : Type 0} (payload : V → A) (lists : A → Datum → Type 0) (s : Shape) (v : V) (old : Columns) where
+  pub last_joins : (new : Columns) → JoinsListing lists s (payload v) old new
+      → JoinsVariant (λ (w : V). 0) (λ w i d. ListsLast lists (payload w) i d) (shape_and s no_shapes) v (two old no_columns) (two new no_columns)
+  last_joins new h = record {
+    payload = h.datum;
+    listing = h.listing;
+    joined = λ first.
+        subst (λ n. JoinsPayload (shape_and s no_shapes) first n h.datum (two old no_columns) (two new no_columns)) (from_first first)
+        (joins_here s no_shapes first h.datum old new no_columns h.joined h.fits refl);
+  }
+
+  pub last_overflows : OverflowsWithListing lists s (payload v) old
+      → OverflowsWithVariant (λ (w : V). 0) (λ w i d. ListsLast lists (payload w) i d) (shape_and s no_shapes) v (two old no_columns)
+  last_overflows h = record {
+    payload = h.datum;
+    listing = h.listing;
+    overflows = λ first.
+        subst (λ n. OverflowsAtPayload (shape_and s no_shapes) first n h.datum (two old no_columns)) (from_first first)
+        (overflows_here s no_shapes first h.datum old no_columns h.overflows);
+  }
+
+-- ---- the first variant, and the rest
+
+module _ {V A R : Type 0} (variant : V → A ⊎ R) (lists_a : A → Datum → Type 0) (lists_r : R → ℕ → Datum → Type 0) (index : R → ℕ) (v : V) where
+  first_listing : (x : A) → variant v ≡ inl x → (d : Datum) → lists_a x d → ListsVariant lists_a lists_r (variant v) (index_first_or index (variant v)) d
+  first_listing x is d l = subst (λ w. ListsVariant lists_a lists_r w (index_first_or index w) d) (sym is) l
+
+  rest_listing : (y : R) → variant v ≡ inr y → (d : Datum) → lists_r y (index y) d → ListsVariant lists_a lists_r (variant v) (index_first_or index (variant v)) d
+  rest_listing y is d l = subst (λ w. ListsVariant lists_a lists_r w (index_first_or index w) d) (sym is) l
+
+  module _ (s : Shape) (ss : Shapes) (a rest : Columns) where
+    pub first_joins : (x : A) → variant v ≡ inl x → (new : Columns) → ((first : ℕ) → HasPayloads ss first rest) → JoinsListing lists_a s x a new
+        → JoinsVariant (λ w. index_first_or index (variant w)) (λ w i d. ListsVariant lists_a lists_r (variant w) i d) (shape_and s ss) v (two a rest) (two new rest)
+    first_joins x is new later h = record {
+      payload = h.datum;
+      listing = first_listing x is h.datum h.listing;
+      joined = λ first.
+          subst (λ w. JoinsPayload (shape_and s ss) first (first + index_first_or index w) h.datum (two a rest) (two new rest)) (sym is)
+          (subst (λ n. JoinsPayload (shape_and s ss) first n h.datum (two a rest) (two new rest)) (from_first first)
+          (joins_here s ss first h.datum a new rest h.joined h.fits (later (suc first))));
+    }
+
+    pub first_overflows : (x : A) → variant v ≡ inl x → OverflowsWithListing lists_a s x a
+        → OverflowsWithVariant (λ w. index_first_or index (variant w)) (λ w i d. ListsVariant lists_a lists_r (variant w) i d) (shape_and s ss) v (two a rest)
+    first_overflows x is h = record {
+      payload = h.datum;
+      listing = first_listing x is h.datum h.listing;
+      overflows = λ first.
+          subst (λ w. OverflowsAtPayload (shape_and s ss) first (first + index_first_or index w) h.datum (two a rest)) (sym is)
+          (subst (λ n. OverflowsAtPayload (shape_and s ss) first n h.datum (two a rest)) (from_first first)
+          (overflows_here s ss first h.datum a rest h.overflows));
+    }
+
+    pub rest_joins : (y : R) → variant v ≡ inr y → (new : Columns) → emptied a ≡ written_columns s [] → JoinsVariant index lists_r ss y rest new
+        → JoinsVariant (λ w. index_first_or index (variant w)) (λ w i d. ListsVariant lists_a lists_r (variant w) i d) (shape_and s ss) v (two a rest) (two a new)
+    rest_joins y is new form h = record {
+      payload = h.payload;
+      listing = rest_listing y is h.payload h.listing;
+      joined = λ first.
+          subst (λ w. JoinsPayload (shape_and s ss) first (first + index_first_or index w) h.payload (two a rest) (two a new)) (sym is)
+          (joins_later s ss first (first + suc (index y)) h.payload a rest new (omega arith) form
+          (subst (λ n. JoinsPayload ss (suc first) n h.payload rest new) (from_next first (index y)) (h.joined (suc first))));
+    }
+
+    pub rest_overflows : (y : R) → variant v ≡ inr y → OverflowsWithVariant index lists_r ss y rest
+        → OverflowsWithVariant (λ w. index_first_or index (variant w)) (λ w i d. ListsVariant lists_a lists_r (variant w) i d) (shape_and s ss) v (two a rest)
+    rest_overflows y is h = record {
+      payload = h.payload;
+      listing = rest_listing y is h.payload h.listing;
+      overflows = λ first.
+          subst (λ w. OverflowsAtPayload (shape_and s ss) first (first + index_first_or index w) h.payload (two a rest)) (sym is)
+          (overflows_later s ss first (first + suc (index y)) h.payload a rest
+          (subst (λ n. OverflowsAtPayload ss (suc first) n h.payload rest) (from_next first (index y)) (h.overflows (suc first))));
+    }
+
+-- ---- the whole enum
+
+module _ {V : Type 0} (index : V → ℕ) (lists : V → ℕ → Datum → Type 0) (v : V) (variant : ℕ) (is : variant ≡ 0 + index v) where
+  choice_listing : (d : Datum) → lists v (index v) d → ListsChoice lists v (choice variant d)
+  choice_listing d l = record { index = variant; payload = d; is = refl; lists_payload = subst (λ n. lists v n d) (let e : index v ≡ variant = omega (arith, is) in e) l }
+
+  at_variant : 0 + index v ≡ variant
+  at_variant = sym is
+
+  module _ (ss : Shapes) (count : ℕ) (counted : variant_count ss ≡ count) (entries : List ℕ) (old : Columns) where
+    pub enum_joins : (more : List ℕ) (new : Columns) → more ≡ entries ++ variant ∷ [] → JoinsVariant index lists ss v old new
+        → JoinsListing (ListsChoice lists) (choice_shape ss) v (two (one (variants count) (map natural entries)) old) (two (one (variants count) (map natural more)) new)
+    enum_joins more new pushed h =
+        subst (λ n. JoinsListing (ListsChoice lists) (choice_shape ss) v (two (one (variants n) (map natural entries)) old) (two (one (variants n) (map natural more)) new)) counted
+        (joins_choice (ListsChoice lists) ss v variant h.payload (choice_listing h.payload h.listing) entries more old new pushed
+        (subst (λ n. JoinsPayload ss 0 n h.payload old new) at_variant (h.joined 0)))
+
+    pub enum_overflows : OverflowsWithVariant index lists ss v old
+        → OverflowsWithListing (ListsChoice lists) (choice_shape ss) v (two (one (variants count) (map natural entries)) old)
+    enum_overflows h =
+        subst (λ n. OverflowsWithListing (ListsChoice lists) (choice_shape ss) v (two (one (variants n) (map natural entries)) old)) counted
+        (overflows_choice (ListsChoice lists) ss v variant h.payload (choice_listing h.payload h.listing) entries old
+        (subst (λ n. OverflowsAtPayload ss 0 n h.payload old) at_variant (h.overflows 0)))
+
+-- ---- a type that stands for its variants
+
+module _ {T V : Type 0} (variant : T → V) (lists_t : T → Datum → Type 0) (lists_v : V → ℕ → Datum → Type 0) (s : Shape) (ss : Shapes) (is : s ≡ choice_shape ss)
+    (lists : (t : T) (d : Datum) → ListsChoice lists_v (variant t) d → lists_t t d) (t : T) (old : Columns) where
+  pub joins_as_variant : (new : Columns) → JoinsListing (ListsChoice lists_v) (choice_shape ss) (variant t) old new → JoinsListing lists_t s t old new
+  joins_as_variant new h = subst (λ x. JoinsListing lists_t x t old new) (sym is) (record { datum = h.datum; listing = lists t h.datum h.listing; joined = h.joined; fits = h.fits })
+
+  pub overflows_as_variant : OverflowsWithListing (ListsChoice lists_v) (choice_shape ss) (variant t) old → OverflowsWithListing lists_t s t old
+  overflows_as_variant h = subst (λ x. OverflowsWithListing lists_t x t old) (sym is) (record { datum = h.datum; listing = lists t h.datum h.listing; overflows = h.overflows })
