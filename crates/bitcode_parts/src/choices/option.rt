@@ -7,12 +7,16 @@ ghost use Rattle.bitcode_parts.specs.TwoVariants.{TwoVariantsFault};
 ghost use Rattle.bitcode_parts.specs.TwoVariantLaws.{same_two_variants, two_variants_form};
 ghost use Rattle.bitcode_parts.specs.Variants.{variant_room, variant_capacity, variants_left, variants_owned};
 
-use crate::choices::variant::{VariantDecoder, VariantEncoder, encode_payload};
+use crate::choices::option::gathered::{gather_some, variant_of};
+use crate::choices::variant::{VariantDecoder, VariantEncoder, encode_payload, encode_payloads};
 use crate::empty::EmptyCoder;
+use bitcode_coder::chunk::references::gather_parts;
 use bitcode_coder::coder::{Buffer, Decoder, Encoder, HoldsColumns, HoldsData, View};
 use bitcode_columns::error::Error;
 use bitcode_shapes::shaped::{Made, Shaped};
 use std::alloc::Global;
+
+mod gathered;
 
 /// The encoder of options: which of them hold a value, then the columns of the values.
 ///
@@ -78,6 +82,15 @@ impl<T: Shaped, E: Buffer + Encoder<T>> Encoder<Option<T>> for OptionEncoder<E> 
                 self.variants.encode(1);
                 encode_payload(&mut self.some, value)
             }
+        }
+    }
+
+    fn encode_vectored(&mut self, values: &[&Option<T>]) -> Result<(), Error> {
+        let variants = gather_parts(values, |t| variant_of(t));
+        self.variants.encode_vectored(variants.as_slice());
+        match gather_some(values) {
+            None => Ok(()),
+            Some(several) => encode_payloads(&mut self.some, several.as_slice()),
         }
     }
 
