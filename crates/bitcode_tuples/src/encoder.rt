@@ -4,6 +4,7 @@ ghost use Rattle.bitcode_coder.specs.Columns.{two};
 ghost use Rattle.bitcode_tuples.specs.PairLaws.{both_of_shape, both_surely};
 
 use crate::fields::FieldsEncoder;
+use bitcode_coder::chunk::references::gather_parts;
 use bitcode_coder::coder::{Buffer, Encoder, HoldsColumns};
 use bitcode_columns::error::Error;
 use bitcode_shapes::shaped::Shaped;
@@ -62,6 +63,11 @@ impl<P: Shaped, Q: Shaped, A: Encoder<P>, B: Encoder<Q>> Encoder<(P, Q)> for Tup
 
     fn encode(&mut self, t: &(P, Q)) -> Result<(), Error> {
         self.encode_fields(&(&t.0, &t.1))
+    }
+
+    fn encode_vectored(&mut self, values: &[&(P, Q)]) -> Result<(), Error> {
+        let fields = gather_parts(values, |t| (&t.0, &t.1));
+        self.encode_fields_vectored(fields.as_slice())
     }
 
     ghost of_shape = { both_of_shape A.of_shape B.of_shape };

@@ -1,10 +1,11 @@
 //! The fields of a tuple, borrowed one by one, and encoders that take them so.
-ghost use Rattle.std.specs.Prelude.{◌≡◌, ◌≢◌, ◌+◌, ◌<◌, ◌≤◌, Bool, ◌&&◌, IsTrue, OnOk, IfErr};
+ghost use Rattle.std.specs.Prelude.{◌≡◌, ◌≢◌, ◌+◌, ◌<◌, ◌≤◌, Bool, ◌&&◌, length, map, All, IsTrue, OnOk, IfErr};
 ghost use Rattle.bitcode_coder.specs.Columns.{emptied};
-ghost use Rattle.bitcode_coder.specs.Coder.{JoinsListing, OverflowsWithListing, IsWritingRefusal};
+ghost use Rattle.bitcode_coder.specs.Coder.{JoinsListing, OverflowsWithListing, JoinsEach, OverflowsWithEach, IsWritingRefusal};
 
 use crate::encoder::TupleEncoder;
-use bitcode_coder::coder::{Encoder, HoldsColumns};
+use bitcode_coder::chunk::references::gather_parts;
+use bitcode_coder::coder::{Encoder, HoldsColumns, MAX_VECTORED_CHUNK};
 use bitcode_columns::error::{Error, Reason};
 use bitcode_shapes::shaped::Shaped;
 
@@ -16,7 +17,7 @@ pub mod of_6_to_8;
 /// ```
 /// let fields = (&player.name, (&player.level, &player.score));
 /// ```
-pub trait Fields {
+pub trait Fields: Copy {
     type Whole: Shaped;
 
     // what the fields make up
@@ -48,6 +49,15 @@ impl<F: Fields, G: Fields> Fields for (F, G) {
     }
 }
 
+/// What each of the fields in hand make up is a value.
+pub fn told_fields<F: Fields>(several: &[F])
+    ensures { All (λ fields. F.Whole.is_value (F.whole fields)) several.now }
+{
+    for fields in several {
+        fields.told();
+    }
+}
+
 /// As `Encoder`, for a value whose fields lie apart, as those of a struct do.
 pub trait FieldsEncoder<F: Fields>: HoldsColumns {
     // writing the fields takes no memory, where room for them was reserved
@@ -67,6 +77,24 @@ pub trait FieldsEncoder<F: Fields>: HoldsColumns {
         ensures form { emptied (Self.columns self.new) ≡ emptied (Self.columns self.old) }
         ensures refused { IfErr result (λ e. IsWritingRefusal e.reason (OverflowsWithListing F.Whole.lists F.Whole.shape (F.whole fields.now) (Self.columns self.old))) }
         ensures free { IsTrue writes_free → IfErr result (λ e. e.reason ≢ Reason.OutOfMemory) };
+
+    /// Joins the columns of what the fields of 1 to `MAX_VECTORED_CHUNK` values make up to those so far, as
+    /// `Encoder::encode_vectored` does. Room for them was reserved.
+    ///
+    /// It refuses as that does.
+    ///
+    /// ```
+    /// let fields = gather_parts(players, |player| (&player.name, (&player.level, &player.score)));
+    /// columns.encode_fields_vectored(fields.as_slice())?;
+    /// ```
+    fn encode_fields_vectored(&mut self, several: &[F]) -> Result<(), Error>
+        requires chunk { (0 < length several.now) × (length several.now ≤ MAX_VECTORED_CHUNK) }
+        requires room { length several.now ≤ Self.room self.old }
+        ensures joined { OnOk result (JoinsEach F.Whole.lists F.Whole.shape (map F.whole several.now) (Self.columns self.old) (Self.columns self.new)) }
+        ensures room { OnOk result (Self.room self.old ≤ Self.room self.new + length several.now) }
+        ensures form { emptied (Self.columns self.new) ≡ emptied (Self.columns self.old) }
+        ensures refused { IfErr result (λ e. IsWritingRefusal e.reason (OverflowsWithEach F.Whole.lists F.Whole.shape (map F.whole several.now) (Self.columns self.old))) }
+        ensures free { IsTrue writes_free → IfErr result (λ e. e.reason ≢ Reason.OutOfMemory) };
 }
 
 impl<'a, P: Shaped, E: Encoder<P>> FieldsEncoder<&'a P> for E {
@@ -74,6 +102,10 @@ impl<'a, P: Shaped, E: Encoder<P>> FieldsEncoder<&'a P> for E {
 
     fn encode_fields(&mut self, fields: &&'a P) -> Result<(), Error> {
         self.encode(*fields)
+    }
+
+    fn encode_fields_vectored(&mut self, several: &[&'a P]) -> Result<(), Error> {
+        self.encode_vectored(several)
     }
 }
 
@@ -85,5 +117,13 @@ impl<F: Fields, G: Fields, A: FieldsEncoder<F>, B: FieldsEncoder<G>> FieldsEncod
         fields.1.told();
         self.first.encode_fields(&fields.0)?;
         self.second.encode_fields(&fields.1)
+    }
+
+    fn encode_fields_vectored(&mut self, several: &[(F, G)]) -> Result<(), Error> {
+        let firsts = gather_parts(several, |fields| fields.0);
+        let seconds = gather_parts(several, |fields| fields.1);
+        told_fields(seconds.as_slice());
+        self.first.encode_fields_vectored(firsts.as_slice())?;
+        self.second.encode_fields_vectored(seconds.as_slice())
     }
 }

@@ -7,6 +7,7 @@ use crate::encoder::TupleEncoder;
 use crate::fields::FieldsEncoder;
 use crate::fields::of_3_to_5::{FieldsEncoder3, FieldsEncoder4, FieldsEncoder5};
 use crate::fields::of_6_to_8::{FieldsEncoder6, FieldsEncoder7, FieldsEncoder8};
+use bitcode_coder::chunk::references::gather_parts;
 use bitcode_coder::coder::Encoder;
 use bitcode_columns::error::Error;
 use bitcode_shapes::shaped::Shaped;
@@ -18,6 +19,11 @@ impl<T1: Shaped, T2: Shaped, T3: Shaped, A: Encoder<T1>, B: Encoder<T2>, C: Enco
 
     fn encode(&mut self, t: &(T1, T2, T3)) -> Result<(), Error> {
         FieldsEncoder::<(&T1, (&T2, &T3))>::encode_fields(self, &(&t.0, (&t.1, &t.2)))
+    }
+
+    fn encode_vectored(&mut self, values: &[&(T1, T2, T3)]) -> Result<(), Error> {
+        let fields = gather_parts(values, |t| (&t.0, (&t.1, &t.2)));
+        FieldsEncoder::<(&T1, (&T2, &T3))>::encode_fields_vectored(self, fields.as_slice())
     }
 
     ghost of_shape = { both_of_shape A.of_shape (both_of_shape B.of_shape C.of_shape) };
@@ -37,6 +43,11 @@ impl<
 
     fn encode_each(&mut self, t1: &T1, t2: &T2, t3: &T3) -> Result<(), Error> {
         FieldsEncoder::<(&T1, (&T2, &T3))>::encode_fields(self, &(t1, (t2, t3)))
+    }
+
+    fn encode_each_vectored(&mut self, several: &[(&T1, &T2, &T3)]) -> Result<(), Error> {
+        let fields = gather_parts(several, |t| (t.0, (t.1, t.2)));
+        FieldsEncoder::<(&T1, (&T2, &T3))>::encode_fields_vectored(self, fields.as_slice())
     }
 
     ghost of_shape = { both_of_shape A.of_shape (both_of_shape B.of_shape C.of_shape) };
@@ -63,6 +74,11 @@ impl<
         )
     }
 
+    fn encode_vectored(&mut self, values: &[&(T1, T2, T3, T4)]) -> Result<(), Error> {
+        let fields = gather_parts(values, |t| ((&t.0, &t.1), (&t.2, &t.3)));
+        FieldsEncoder::<((&T1, &T2), (&T3, &T4))>::encode_fields_vectored(self, fields.as_slice())
+    }
+
     ghost of_shape = { both_of_shape (both_of_shape A.of_shape B.of_shape) (both_of_shape C.of_shape D.of_shape) };
 
     ghost surely = { both_surely (both_surely A.surely B.surely) (both_surely C.surely D.surely) };
@@ -82,6 +98,11 @@ impl<
 
     fn encode_each(&mut self, t1: &T1, t2: &T2, t3: &T3, t4: &T4) -> Result<(), Error> {
         FieldsEncoder::<((&T1, &T2), (&T3, &T4))>::encode_fields(self, &((t1, t2), (t3, t4)))
+    }
+
+    fn encode_each_vectored(&mut self, several: &[(&T1, &T2, &T3, &T4)]) -> Result<(), Error> {
+        let fields = gather_parts(several, |t| ((t.0, t.1), (t.2, t.3)));
+        FieldsEncoder::<((&T1, &T2), (&T3, &T4))>::encode_fields_vectored(self, fields.as_slice())
     }
 
     ghost of_shape = { both_of_shape (both_of_shape A.of_shape B.of_shape) (both_of_shape C.of_shape D.of_shape) };
@@ -105,6 +126,14 @@ impl<
         FieldsEncoder::<((&T1, &T2), (&T3, &T4, &T5))>::encode_fields(
             self,
             &((&t.0, &t.1), (&t.2, &t.3, &t.4)),
+        )
+    }
+
+    fn encode_vectored(&mut self, values: &[&(T1, T2, T3, T4, T5)]) -> Result<(), Error> {
+        let fields = gather_parts(values, |t| ((&t.0, &t.1), (&t.2, &t.3, &t.4)));
+        FieldsEncoder::<((&T1, &T2), (&T3, &T4, &T5))>::encode_fields_vectored(
+            self,
+            fields.as_slice(),
         )
     }
 
@@ -132,6 +161,14 @@ impl<
         )
     }
 
+    fn encode_each_vectored(&mut self, several: &[(&T1, &T2, &T3, &T4, &T5)]) -> Result<(), Error> {
+        let fields = gather_parts(several, |t| ((t.0, t.1), (t.2, t.3, t.4)));
+        FieldsEncoder::<((&T1, &T2), (&T3, &T4, &T5))>::encode_fields_vectored(
+            self,
+            fields.as_slice(),
+        )
+    }
+
     ghost of_shape = { both_of_shape (both_of_shape A.of_shape B.of_shape) C.of_shape };
 
     ghost surely = { both_surely (both_surely A.surely B.surely) C.surely };
@@ -153,6 +190,14 @@ impl<
         FieldsEncoder::<((&T1, &T2, &T3), (&T4, &T5, &T6))>::encode_fields(
             self,
             &((&t.0, &t.1, &t.2), (&t.3, &t.4, &t.5)),
+        )
+    }
+
+    fn encode_vectored(&mut self, values: &[&(T1, T2, T3, T4, T5, T6)]) -> Result<(), Error> {
+        let fields = gather_parts(values, |t| ((&t.0, &t.1, &t.2), (&t.3, &t.4, &t.5)));
+        FieldsEncoder::<((&T1, &T2, &T3), (&T4, &T5, &T6))>::encode_fields_vectored(
+            self,
+            fields.as_slice(),
         )
     }
 
@@ -188,6 +233,17 @@ impl<
         )
     }
 
+    fn encode_each_vectored(
+        &mut self,
+        several: &[(&T1, &T2, &T3, &T4, &T5, &T6)],
+    ) -> Result<(), Error> {
+        let fields = gather_parts(several, |t| ((t.0, t.1, t.2), (t.3, t.4, t.5)));
+        FieldsEncoder::<((&T1, &T2, &T3), (&T4, &T5, &T6))>::encode_fields_vectored(
+            self,
+            fields.as_slice(),
+        )
+    }
+
     ghost of_shape = { both_of_shape A.of_shape B.of_shape };
 
     ghost surely = { both_surely A.surely B.surely };
@@ -210,6 +266,14 @@ impl<
         FieldsEncoder::<((&T1, &T2, &T3), (&T4, &T5, &T6, &T7))>::encode_fields(
             self,
             &((&t.0, &t.1, &t.2), (&t.3, &t.4, &t.5, &t.6)),
+        )
+    }
+
+    fn encode_vectored(&mut self, values: &[&(T1, T2, T3, T4, T5, T6, T7)]) -> Result<(), Error> {
+        let fields = gather_parts(values, |t| ((&t.0, &t.1, &t.2), (&t.3, &t.4, &t.5, &t.6)));
+        FieldsEncoder::<((&T1, &T2, &T3), (&T4, &T5, &T6, &T7))>::encode_fields_vectored(
+            self,
+            fields.as_slice(),
         )
     }
 
@@ -247,6 +311,17 @@ impl<
         )
     }
 
+    fn encode_each_vectored(
+        &mut self,
+        several: &[(&T1, &T2, &T3, &T4, &T5, &T6, &T7)],
+    ) -> Result<(), Error> {
+        let fields = gather_parts(several, |t| ((t.0, t.1, t.2), (t.3, t.4, t.5, t.6)));
+        FieldsEncoder::<((&T1, &T2, &T3), (&T4, &T5, &T6, &T7))>::encode_fields_vectored(
+            self,
+            fields.as_slice(),
+        )
+    }
+
     ghost of_shape = { both_of_shape A.of_shape B.of_shape };
 
     ghost surely = { both_surely A.surely B.surely };
@@ -270,6 +345,20 @@ impl<
         FieldsEncoder::<((&T1, &T2, &T3, &T4), (&T5, &T6, &T7, &T8))>::encode_fields(
             self,
             &((&t.0, &t.1, &t.2, &t.3), (&t.4, &t.5, &t.6, &t.7)),
+        )
+    }
+
+    fn encode_vectored(
+        &mut self,
+        values: &[&(T1, T2, T3, T4, T5, T6, T7, T8)],
+    ) -> Result<(), Error> {
+        let fields = gather_parts(
+            values,
+            |t| ((&t.0, &t.1, &t.2, &t.3), (&t.4, &t.5, &t.6, &t.7)),
+        );
+        FieldsEncoder::<((&T1, &T2, &T3, &T4), (&T5, &T6, &T7, &T8))>::encode_fields_vectored(
+            self,
+            fields.as_slice(),
         )
     }
 
@@ -306,6 +395,17 @@ impl<
         FieldsEncoder::<((&T1, &T2, &T3, &T4), (&T5, &T6, &T7, &T8))>::encode_fields(
             self,
             &((t1, t2, t3, t4), (t5, t6, t7, t8)),
+        )
+    }
+
+    fn encode_each_vectored(
+        &mut self,
+        several: &[(&T1, &T2, &T3, &T4, &T5, &T6, &T7, &T8)],
+    ) -> Result<(), Error> {
+        let fields = gather_parts(several, |t| ((t.0, t.1, t.2, t.3), (t.4, t.5, t.6, t.7)));
+        FieldsEncoder::<((&T1, &T2, &T3, &T4), (&T5, &T6, &T7, &T8))>::encode_fields_vectored(
+            self,
+            fields.as_slice(),
         )
     }
 

@@ -7,6 +7,7 @@ use crate::encoder::TupleEncoder;
 use crate::fields::FieldsEncoder;
 use crate::fields::of_3_to_5::{FieldsEncoder4, FieldsEncoder5};
 use crate::fields::of_6_to_8::{FieldsEncoder6, FieldsEncoder7, FieldsEncoder8};
+use bitcode_coder::chunk::references::gather_parts;
 use bitcode_coder::coder::Encoder;
 use bitcode_columns::error::Error;
 use bitcode_shapes::shaped::Shaped;
@@ -30,6 +31,20 @@ impl<
         FieldsEncoder::<((&T1, &T2, &T3, &T4), (&T5, &T6, &T7, &T8, &T9))>::encode_fields(
             self,
             &((&t.0, &t.1, &t.2, &t.3), (&t.4, &t.5, &t.6, &t.7, &t.8)),
+        )
+    }
+
+    fn encode_vectored(
+        &mut self,
+        values: &[&(T1, T2, T3, T4, T5, T6, T7, T8, T9)],
+    ) -> Result<(), Error> {
+        let fields = gather_parts(
+            values,
+            |t| ((&t.0, &t.1, &t.2, &t.3), (&t.4, &t.5, &t.6, &t.7, &t.8)),
+        );
+        FieldsEncoder::<((&T1, &T2, &T3, &T4), (&T5, &T6, &T7, &T8, &T9))>::encode_fields_vectored(
+            self,
+            fields.as_slice(),
         )
     }
 
@@ -64,6 +79,22 @@ impl<
         )
     }
 
+    fn encode_vectored(
+        &mut self,
+        values: &[&(T1, T2, T3, T4, T5, T6, T7, T8, T9, T10)],
+    ) -> Result<(), Error> {
+        let fields = gather_parts(
+            values,
+            |t| (
+                (&t.0, &t.1, &t.2, &t.3, &t.4),
+                (&t.5, &t.6, &t.7, &t.8, &t.9),
+            ),
+        );
+        FieldsEncoder::<
+            ((&T1, &T2, &T3, &T4, &T5), (&T6, &T7, &T8, &T9, &T10)),
+        >::encode_fields_vectored(self, fields.as_slice())
+    }
+
     ghost of_shape = { both_of_shape A.of_shape B.of_shape };
 
     ghost surely = { both_surely A.surely B.surely };
@@ -96,6 +127,22 @@ impl<
                 (&t.5, &t.6, &t.7, &t.8, &t.9, &t.10),
             ),
         )
+    }
+
+    fn encode_vectored(
+        &mut self,
+        values: &[&(T1, T2, T3, T4, T5, T6, T7, T8, T9, T10, T11)],
+    ) -> Result<(), Error> {
+        let fields = gather_parts(
+            values,
+            |t| (
+                (&t.0, &t.1, &t.2, &t.3, &t.4),
+                (&t.5, &t.6, &t.7, &t.8, &t.9, &t.10),
+            ),
+        );
+        FieldsEncoder::<
+            ((&T1, &T2, &T3, &T4, &T5), (&T6, &T7, &T8, &T9, &T10, &T11)),
+        >::encode_fields_vectored(self, fields.as_slice())
     }
 
     ghost of_shape = { both_of_shape A.of_shape B.of_shape };
@@ -137,6 +184,25 @@ impl<
                 (&t.6, &t.7, &t.8, &t.9, &t.10, &t.11),
             ),
         )
+    }
+
+    fn encode_vectored(
+        &mut self,
+        values: &[&(T1, T2, T3, T4, T5, T6, T7, T8, T9, T10, T11, T12)],
+    ) -> Result<(), Error> {
+        let fields = gather_parts(
+            values,
+            |t| (
+                (&t.0, &t.1, &t.2, &t.3, &t.4, &t.5),
+                (&t.6, &t.7, &t.8, &t.9, &t.10, &t.11),
+            ),
+        );
+        FieldsEncoder::<
+            (
+                (&T1, &T2, &T3, &T4, &T5, &T6),
+                (&T7, &T8, &T9, &T10, &T11, &T12),
+            ),
+        >::encode_fields_vectored(self, fields.as_slice())
     }
 
     ghost of_shape = { both_of_shape A.of_shape B.of_shape };
@@ -181,6 +247,25 @@ impl<
         )
     }
 
+    fn encode_vectored(
+        &mut self,
+        values: &[&(T1, T2, T3, T4, T5, T6, T7, T8, T9, T10, T11, T12, T13)],
+    ) -> Result<(), Error> {
+        let fields = gather_parts(
+            values,
+            |t| (
+                (&t.0, &t.1, &t.2, &t.3, &t.4, &t.5),
+                (&t.6, &t.7, &t.8, &t.9, &t.10, &t.11, &t.12),
+            ),
+        );
+        FieldsEncoder::<
+            (
+                (&T1, &T2, &T3, &T4, &T5, &T6),
+                (&T7, &T8, &T9, &T10, &T11, &T12, &T13),
+            ),
+        >::encode_fields_vectored(self, fields.as_slice())
+    }
+
     ghost of_shape = { both_of_shape A.of_shape B.of_shape };
 
     ghost surely = { both_surely A.surely B.surely };
@@ -222,6 +307,25 @@ impl<
                 (&t.7, &t.8, &t.9, &t.10, &t.11, &t.12, &t.13),
             ),
         )
+    }
+
+    fn encode_vectored(
+        &mut self,
+        values: &[&(T1, T2, T3, T4, T5, T6, T7, T8, T9, T10, T11, T12, T13, T14)],
+    ) -> Result<(), Error> {
+        let fields = gather_parts(
+            values,
+            |t| (
+                (&t.0, &t.1, &t.2, &t.3, &t.4, &t.5, &t.6),
+                (&t.7, &t.8, &t.9, &t.10, &t.11, &t.12, &t.13),
+            ),
+        );
+        FieldsEncoder::<
+            (
+                (&T1, &T2, &T3, &T4, &T5, &T6, &T7),
+                (&T8, &T9, &T10, &T11, &T12, &T13, &T14),
+            ),
+        >::encode_fields_vectored(self, fields.as_slice())
     }
 
     ghost of_shape = { both_of_shape A.of_shape B.of_shape };
@@ -300,6 +404,41 @@ impl<
                 (&t.7, &t.8, &t.9, &t.10, &t.11, &t.12, &t.13, &t.14),
             ),
         )
+    }
+
+    fn encode_vectored(
+        &mut self,
+        values: &[&(
+            T1,
+            T2,
+            T3,
+            T4,
+            T5,
+            T6,
+            T7,
+            T8,
+            T9,
+            T10,
+            T11,
+            T12,
+            T13,
+            T14,
+            T15,
+        )],
+    ) -> Result<(), Error> {
+        let fields = gather_parts(
+            values,
+            |t| (
+                (&t.0, &t.1, &t.2, &t.3, &t.4, &t.5, &t.6),
+                (&t.7, &t.8, &t.9, &t.10, &t.11, &t.12, &t.13, &t.14),
+            ),
+        );
+        FieldsEncoder::<
+            (
+                (&T1, &T2, &T3, &T4, &T5, &T6, &T7),
+                (&T8, &T9, &T10, &T11, &T12, &T13, &T14, &T15),
+            ),
+        >::encode_fields_vectored(self, fields.as_slice())
     }
 
     ghost of_shape = { both_of_shape A.of_shape B.of_shape };
@@ -381,6 +520,42 @@ impl<
                 (&t.8, &t.9, &t.10, &t.11, &t.12, &t.13, &t.14, &t.15),
             ),
         )
+    }
+
+    fn encode_vectored(
+        &mut self,
+        values: &[&(
+            T1,
+            T2,
+            T3,
+            T4,
+            T5,
+            T6,
+            T7,
+            T8,
+            T9,
+            T10,
+            T11,
+            T12,
+            T13,
+            T14,
+            T15,
+            T16,
+        )],
+    ) -> Result<(), Error> {
+        let fields = gather_parts(
+            values,
+            |t| (
+                (&t.0, &t.1, &t.2, &t.3, &t.4, &t.5, &t.6, &t.7),
+                (&t.8, &t.9, &t.10, &t.11, &t.12, &t.13, &t.14, &t.15),
+            ),
+        );
+        FieldsEncoder::<
+            (
+                (&T1, &T2, &T3, &T4, &T5, &T6, &T7, &T8),
+                (&T9, &T10, &T11, &T12, &T13, &T14, &T15, &T16),
+            ),
+        >::encode_fields_vectored(self, fields.as_slice())
     }
 
     ghost of_shape = { both_of_shape A.of_shape B.of_shape };

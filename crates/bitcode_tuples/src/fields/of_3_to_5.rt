@@ -1,11 +1,11 @@
 // Written by scripts/tables/tuples.
 //! Encoders of three to five fields that lie apart.
-ghost use Rattle.std.specs.Prelude.{◌≡◌, ◌≢◌, ℕ, ◌+◌, ◌<◌, ◌≤◌, Bool, [], IsTrue, OnOk, IfErr};
+ghost use Rattle.std.specs.Prelude.{◌≡◌, ◌≢◌, ℕ, ◌+◌, ◌<◌, ◌≤◌, Bool, [], length, map, IsTrue, OnOk, IfErr};
 ghost use Rattle.bitcode_coder.specs.Columns.{emptied};
-ghost use Rattle.bitcode_coder.specs.Coder.{written_columns, JoinsListing, OverflowsWithListing, SurelyOverflows, IsWritingRefusal};
+ghost use Rattle.bitcode_coder.specs.Coder.{written_columns, JoinsListing, OverflowsWithListing, JoinsEach, OverflowsWithEach, SurelyOverflows, IsWritingRefusal};
 
 use crate::fields::{Fields, FieldsEncoder};
-use bitcode_coder::coder::HoldsColumns;
+use bitcode_coder::coder::{HoldsColumns, MAX_VECTORED_CHUNK};
 use bitcode_columns::error::{Error, Reason};
 use bitcode_shapes::shaped::Shaped;
 
@@ -34,6 +34,15 @@ pub trait FieldsEncoder3<T1: Shaped, T2: Shaped, T3: Shaped>: HoldsColumns {
         ensures refused { IfErr result (λ e. IsWritingRefusal e.reason (OverflowsWithListing ⟦<(T1, T2, T3) as Shaped>⟧.lists ⟦<(T1, T2, T3) as Shaped>⟧.shape (t1.now, t2.now, t3.now) (Self.columns self.old))) }
         ensures free { IsTrue writes_free → IfErr result (λ e. e.reason ≢ Reason.OutOfMemory) };
 
+    fn encode_each_vectored(&mut self, several: &[(&T1, &T2, &T3)]) -> Result<(), Error>
+        requires chunk { (0 < length several.now) × (length several.now ≤ MAX_VECTORED_CHUNK) }
+        requires room { length several.now ≤ Self.room self.old }
+        ensures joined { OnOk result (JoinsEach ⟦<(T1, T2, T3) as Shaped>⟧.lists ⟦<(T1, T2, T3) as Shaped>⟧.shape (map (λ f. (f.0.now, f.1.now, f.2.now)) several.now) (Self.columns self.old) (Self.columns self.new)) }
+        ensures room { OnOk result (Self.room self.old ≤ Self.room self.new + length several.now) }
+        ensures form { emptied (Self.columns self.new) ≡ emptied (Self.columns self.old) }
+        ensures refused { IfErr result (λ e. IsWritingRefusal e.reason (OverflowsWithEach ⟦<(T1, T2, T3) as Shaped>⟧.lists ⟦<(T1, T2, T3) as Shaped>⟧.shape (map (λ f. (f.0.now, f.1.now, f.2.now)) several.now) (Self.columns self.old))) }
+        ensures free { IsTrue writes_free → IfErr result (λ e. e.reason ≢ Reason.OutOfMemory) };
+
     ghost of_shape: { (e : Self) → emptied (Self.columns e) ≡ written_columns ⟦<(T1, T2, T3) as Shaped>⟧.shape [] };
 
     ghost surely: { (e : Self) (n : ℕ) → Self.surely_overflows e n → SurelyOverflows ⟦<(T1, T2, T3) as Shaped>⟧.shape (Self.columns e) n };
@@ -46,6 +55,13 @@ impl<'a, T1: Shaped, T2: Shaped, T3: Shaped, E: FieldsEncoder3<T1, T2, T3>> Fiel
 
     fn encode_fields(&mut self, fields: &(&'a T1, &'a T2, &'a T3)) -> Result<(), Error> {
         self.encode_each(fields.0, fields.1, fields.2)
+    }
+
+    fn encode_fields_vectored(
+        &mut self,
+        several: &[(&'a T1, &'a T2, &'a T3)],
+    ) -> Result<(), Error> {
+        self.encode_each_vectored(several)
     }
 }
 
@@ -76,6 +92,15 @@ pub trait FieldsEncoder4<T1: Shaped, T2: Shaped, T3: Shaped, T4: Shaped>: HoldsC
         ensures refused { IfErr result (λ e. IsWritingRefusal e.reason (OverflowsWithListing ⟦<(T1, T2, T3, T4) as Shaped>⟧.lists ⟦<(T1, T2, T3, T4) as Shaped>⟧.shape (t1.now, t2.now, t3.now, t4.now) (Self.columns self.old))) }
         ensures free { IsTrue writes_free → IfErr result (λ e. e.reason ≢ Reason.OutOfMemory) };
 
+    fn encode_each_vectored(&mut self, several: &[(&T1, &T2, &T3, &T4)]) -> Result<(), Error>
+        requires chunk { (0 < length several.now) × (length several.now ≤ MAX_VECTORED_CHUNK) }
+        requires room { length several.now ≤ Self.room self.old }
+        ensures joined { OnOk result (JoinsEach ⟦<(T1, T2, T3, T4) as Shaped>⟧.lists ⟦<(T1, T2, T3, T4) as Shaped>⟧.shape (map (λ f. (f.0.now, f.1.now, f.2.now, f.3.now)) several.now) (Self.columns self.old) (Self.columns self.new)) }
+        ensures room { OnOk result (Self.room self.old ≤ Self.room self.new + length several.now) }
+        ensures form { emptied (Self.columns self.new) ≡ emptied (Self.columns self.old) }
+        ensures refused { IfErr result (λ e. IsWritingRefusal e.reason (OverflowsWithEach ⟦<(T1, T2, T3, T4) as Shaped>⟧.lists ⟦<(T1, T2, T3, T4) as Shaped>⟧.shape (map (λ f. (f.0.now, f.1.now, f.2.now, f.3.now)) several.now) (Self.columns self.old))) }
+        ensures free { IsTrue writes_free → IfErr result (λ e. e.reason ≢ Reason.OutOfMemory) };
+
     ghost of_shape: { (e : Self) → emptied (Self.columns e) ≡ written_columns ⟦<(T1, T2, T3, T4) as Shaped>⟧.shape [] };
 
     ghost surely: { (e : Self) (n : ℕ) → Self.surely_overflows e n → SurelyOverflows ⟦<(T1, T2, T3, T4) as Shaped>⟧.shape (Self.columns e) n };
@@ -93,6 +118,13 @@ impl<
 
     fn encode_fields(&mut self, fields: &(&'a T1, &'a T2, &'a T3, &'a T4)) -> Result<(), Error> {
         self.encode_each(fields.0, fields.1, fields.2, fields.3)
+    }
+
+    fn encode_fields_vectored(
+        &mut self,
+        several: &[(&'a T1, &'a T2, &'a T3, &'a T4)],
+    ) -> Result<(), Error> {
+        self.encode_each_vectored(several)
     }
 }
 
@@ -124,6 +156,15 @@ pub trait FieldsEncoder5<T1: Shaped, T2: Shaped, T3: Shaped, T4: Shaped, T5: Sha
         ensures refused { IfErr result (λ e. IsWritingRefusal e.reason (OverflowsWithListing ⟦<(T1, T2, T3, T4, T5) as Shaped>⟧.lists ⟦<(T1, T2, T3, T4, T5) as Shaped>⟧.shape (t1.now, t2.now, t3.now, t4.now, t5.now) (Self.columns self.old))) }
         ensures free { IsTrue writes_free → IfErr result (λ e. e.reason ≢ Reason.OutOfMemory) };
 
+    fn encode_each_vectored(&mut self, several: &[(&T1, &T2, &T3, &T4, &T5)]) -> Result<(), Error>
+        requires chunk { (0 < length several.now) × (length several.now ≤ MAX_VECTORED_CHUNK) }
+        requires room { length several.now ≤ Self.room self.old }
+        ensures joined { OnOk result (JoinsEach ⟦<(T1, T2, T3, T4, T5) as Shaped>⟧.lists ⟦<(T1, T2, T3, T4, T5) as Shaped>⟧.shape (map (λ f. (f.0.now, f.1.now, f.2.now, f.3.now, f.4.now)) several.now) (Self.columns self.old) (Self.columns self.new)) }
+        ensures room { OnOk result (Self.room self.old ≤ Self.room self.new + length several.now) }
+        ensures form { emptied (Self.columns self.new) ≡ emptied (Self.columns self.old) }
+        ensures refused { IfErr result (λ e. IsWritingRefusal e.reason (OverflowsWithEach ⟦<(T1, T2, T3, T4, T5) as Shaped>⟧.lists ⟦<(T1, T2, T3, T4, T5) as Shaped>⟧.shape (map (λ f. (f.0.now, f.1.now, f.2.now, f.3.now, f.4.now)) several.now) (Self.columns self.old))) }
+        ensures free { IsTrue writes_free → IfErr result (λ e. e.reason ≢ Reason.OutOfMemory) };
+
     ghost of_shape: { (e : Self) → emptied (Self.columns e) ≡ written_columns ⟦<(T1, T2, T3, T4, T5) as Shaped>⟧.shape [] };
 
     ghost surely: { (e : Self) (n : ℕ) → Self.surely_overflows e n → SurelyOverflows ⟦<(T1, T2, T3, T4, T5) as Shaped>⟧.shape (Self.columns e) n };
@@ -145,5 +186,12 @@ impl<
         fields: &(&'a T1, &'a T2, &'a T3, &'a T4, &'a T5),
     ) -> Result<(), Error> {
         self.encode_each(fields.0, fields.1, fields.2, fields.3, fields.4)
+    }
+
+    fn encode_fields_vectored(
+        &mut self,
+        several: &[(&'a T1, &'a T2, &'a T3, &'a T4, &'a T5)],
+    ) -> Result<(), Error> {
+        self.encode_each_vectored(several)
     }
 }

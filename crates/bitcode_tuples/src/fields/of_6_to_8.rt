@@ -1,11 +1,11 @@
 // Written by scripts/tables/tuples.
 //! Encoders of six to eight fields that lie apart.
-ghost use Rattle.std.specs.Prelude.{◌≡◌, ◌≢◌, ℕ, ◌+◌, ◌<◌, ◌≤◌, Bool, [], IsTrue, OnOk, IfErr};
+ghost use Rattle.std.specs.Prelude.{◌≡◌, ◌≢◌, ℕ, ◌+◌, ◌<◌, ◌≤◌, Bool, [], length, map, IsTrue, OnOk, IfErr};
 ghost use Rattle.bitcode_coder.specs.Columns.{emptied};
-ghost use Rattle.bitcode_coder.specs.Coder.{written_columns, JoinsListing, OverflowsWithListing, SurelyOverflows, IsWritingRefusal};
+ghost use Rattle.bitcode_coder.specs.Coder.{written_columns, JoinsListing, OverflowsWithListing, JoinsEach, OverflowsWithEach, SurelyOverflows, IsWritingRefusal};
 
 use crate::fields::{Fields, FieldsEncoder};
-use bitcode_coder::coder::HoldsColumns;
+use bitcode_coder::coder::{HoldsColumns, MAX_VECTORED_CHUNK};
 use bitcode_columns::error::{Error, Reason};
 use bitcode_shapes::shaped::Shaped;
 
@@ -53,6 +53,18 @@ pub trait FieldsEncoder6<
         ensures refused { IfErr result (λ e. IsWritingRefusal e.reason (OverflowsWithListing ⟦<(T1, T2, T3, T4, T5, T6) as Shaped>⟧.lists ⟦<(T1, T2, T3, T4, T5, T6) as Shaped>⟧.shape (t1.now, t2.now, t3.now, t4.now, t5.now, t6.now) (Self.columns self.old))) }
         ensures free { IsTrue writes_free → IfErr result (λ e. e.reason ≢ Reason.OutOfMemory) };
 
+    fn encode_each_vectored(
+        &mut self,
+        several: &[(&T1, &T2, &T3, &T4, &T5, &T6)],
+    ) -> Result<(), Error>
+        requires chunk { (0 < length several.now) × (length several.now ≤ MAX_VECTORED_CHUNK) }
+        requires room { length several.now ≤ Self.room self.old }
+        ensures joined { OnOk result (JoinsEach ⟦<(T1, T2, T3, T4, T5, T6) as Shaped>⟧.lists ⟦<(T1, T2, T3, T4, T5, T6) as Shaped>⟧.shape (map (λ f. (f.0.now, f.1.now, f.2.now, f.3.now, f.4.now, f.5.now)) several.now) (Self.columns self.old) (Self.columns self.new)) }
+        ensures room { OnOk result (Self.room self.old ≤ Self.room self.new + length several.now) }
+        ensures form { emptied (Self.columns self.new) ≡ emptied (Self.columns self.old) }
+        ensures refused { IfErr result (λ e. IsWritingRefusal e.reason (OverflowsWithEach ⟦<(T1, T2, T3, T4, T5, T6) as Shaped>⟧.lists ⟦<(T1, T2, T3, T4, T5, T6) as Shaped>⟧.shape (map (λ f. (f.0.now, f.1.now, f.2.now, f.3.now, f.4.now, f.5.now)) several.now) (Self.columns self.old))) }
+        ensures free { IsTrue writes_free → IfErr result (λ e. e.reason ≢ Reason.OutOfMemory) };
+
     ghost of_shape: { (e : Self) → emptied (Self.columns e) ≡ written_columns ⟦<(T1, T2, T3, T4, T5, T6) as Shaped>⟧.shape [] };
 
     ghost surely: { (e : Self) (n : ℕ) → Self.surely_overflows e n → SurelyOverflows ⟦<(T1, T2, T3, T4, T5, T6) as Shaped>⟧.shape (Self.columns e) n };
@@ -75,6 +87,13 @@ impl<
         fields: &(&'a T1, &'a T2, &'a T3, &'a T4, &'a T5, &'a T6),
     ) -> Result<(), Error> {
         self.encode_each(fields.0, fields.1, fields.2, fields.3, fields.4, fields.5)
+    }
+
+    fn encode_fields_vectored(
+        &mut self,
+        several: &[(&'a T1, &'a T2, &'a T3, &'a T4, &'a T5, &'a T6)],
+    ) -> Result<(), Error> {
+        self.encode_each_vectored(several)
     }
 }
 
@@ -125,6 +144,18 @@ pub trait FieldsEncoder7<
         ensures refused { IfErr result (λ e. IsWritingRefusal e.reason (OverflowsWithListing ⟦<(T1, T2, T3, T4, T5, T6, T7) as Shaped>⟧.lists ⟦<(T1, T2, T3, T4, T5, T6, T7) as Shaped>⟧.shape (t1.now, t2.now, t3.now, t4.now, t5.now, t6.now, t7.now) (Self.columns self.old))) }
         ensures free { IsTrue writes_free → IfErr result (λ e. e.reason ≢ Reason.OutOfMemory) };
 
+    fn encode_each_vectored(
+        &mut self,
+        several: &[(&T1, &T2, &T3, &T4, &T5, &T6, &T7)],
+    ) -> Result<(), Error>
+        requires chunk { (0 < length several.now) × (length several.now ≤ MAX_VECTORED_CHUNK) }
+        requires room { length several.now ≤ Self.room self.old }
+        ensures joined { OnOk result (JoinsEach ⟦<(T1, T2, T3, T4, T5, T6, T7) as Shaped>⟧.lists ⟦<(T1, T2, T3, T4, T5, T6, T7) as Shaped>⟧.shape (map (λ f. (f.0.now, f.1.now, f.2.now, f.3.now, f.4.now, f.5.now, f.6.now)) several.now) (Self.columns self.old) (Self.columns self.new)) }
+        ensures room { OnOk result (Self.room self.old ≤ Self.room self.new + length several.now) }
+        ensures form { emptied (Self.columns self.new) ≡ emptied (Self.columns self.old) }
+        ensures refused { IfErr result (λ e. IsWritingRefusal e.reason (OverflowsWithEach ⟦<(T1, T2, T3, T4, T5, T6, T7) as Shaped>⟧.lists ⟦<(T1, T2, T3, T4, T5, T6, T7) as Shaped>⟧.shape (map (λ f. (f.0.now, f.1.now, f.2.now, f.3.now, f.4.now, f.5.now, f.6.now)) several.now) (Self.columns self.old))) }
+        ensures free { IsTrue writes_free → IfErr result (λ e. e.reason ≢ Reason.OutOfMemory) };
+
     ghost of_shape: { (e : Self) → emptied (Self.columns e) ≡ written_columns ⟦<(T1, T2, T3, T4, T5, T6, T7) as Shaped>⟧.shape [] };
 
     ghost surely: { (e : Self) (n : ℕ) → Self.surely_overflows e n → SurelyOverflows ⟦<(T1, T2, T3, T4, T5, T6, T7) as Shaped>⟧.shape (Self.columns e) n };
@@ -150,6 +181,13 @@ impl<
         self.encode_each(
             fields.0, fields.1, fields.2, fields.3, fields.4, fields.5, fields.6,
         )
+    }
+
+    fn encode_fields_vectored(
+        &mut self,
+        several: &[(&'a T1, &'a T2, &'a T3, &'a T4, &'a T5, &'a T6, &'a T7)],
+    ) -> Result<(), Error> {
+        self.encode_each_vectored(several)
     }
 }
 
@@ -222,6 +260,18 @@ pub trait FieldsEncoder8<
         ensures refused { IfErr result (λ e. IsWritingRefusal e.reason (OverflowsWithListing ⟦<(T1, T2, T3, T4, T5, T6, T7, T8) as Shaped>⟧.lists ⟦<(T1, T2, T3, T4, T5, T6, T7, T8) as Shaped>⟧.shape (t1.now, t2.now, t3.now, t4.now, t5.now, t6.now, t7.now, t8.now) (Self.columns self.old))) }
         ensures free { IsTrue writes_free → IfErr result (λ e. e.reason ≢ Reason.OutOfMemory) };
 
+    fn encode_each_vectored(
+        &mut self,
+        several: &[(&T1, &T2, &T3, &T4, &T5, &T6, &T7, &T8)],
+    ) -> Result<(), Error>
+        requires chunk { (0 < length several.now) × (length several.now ≤ MAX_VECTORED_CHUNK) }
+        requires room { length several.now ≤ Self.room self.old }
+        ensures joined { OnOk result (JoinsEach ⟦<(T1, T2, T3, T4, T5, T6, T7, T8) as Shaped>⟧.lists ⟦<(T1, T2, T3, T4, T5, T6, T7, T8) as Shaped>⟧.shape (map (λ f. (f.0.now, f.1.now, f.2.now, f.3.now, f.4.now, f.5.now, f.6.now, f.7.now)) several.now) (Self.columns self.old) (Self.columns self.new)) }
+        ensures room { OnOk result (Self.room self.old ≤ Self.room self.new + length several.now) }
+        ensures form { emptied (Self.columns self.new) ≡ emptied (Self.columns self.old) }
+        ensures refused { IfErr result (λ e. IsWritingRefusal e.reason (OverflowsWithEach ⟦<(T1, T2, T3, T4, T5, T6, T7, T8) as Shaped>⟧.lists ⟦<(T1, T2, T3, T4, T5, T6, T7, T8) as Shaped>⟧.shape (map (λ f. (f.0.now, f.1.now, f.2.now, f.3.now, f.4.now, f.5.now, f.6.now, f.7.now)) several.now) (Self.columns self.old))) }
+        ensures free { IsTrue writes_free → IfErr result (λ e. e.reason ≢ Reason.OutOfMemory) };
+
     ghost of_shape: { (e : Self) → emptied (Self.columns e) ≡ written_columns ⟦<(T1, T2, T3, T4, T5, T6, T7, T8) as Shaped>⟧.shape [] };
 
     ghost surely: { (e : Self) (n : ℕ) → Self.surely_overflows e n → SurelyOverflows ⟦<(T1, T2, T3, T4, T5, T6, T7, T8) as Shaped>⟧.shape (Self.columns e) n };
@@ -268,5 +318,21 @@ impl<
         self.encode_each(
             fields.0, fields.1, fields.2, fields.3, fields.4, fields.5, fields.6, fields.7,
         )
+    }
+
+    fn encode_fields_vectored(
+        &mut self,
+        several: &[(
+            &'a T1,
+            &'a T2,
+            &'a T3,
+            &'a T4,
+            &'a T5,
+            &'a T6,
+            &'a T7,
+            &'a T8,
+        )],
+    ) -> Result<(), Error> {
+        self.encode_each_vectored(several)
     }
 }
