@@ -4,6 +4,7 @@
 
 pub mod amino_acid;
 pub mod dated;
+pub mod event;
 pub mod generic;
 pub mod message;
 pub mod monster;

@@ -1,6 +1,7 @@
 //! With ample memory structs and scores are written and read back, and generic code reads them.
 use crate::amino_acid::AminoAcid;
 use crate::dated::Dated;
+use crate::event::Event;
 use crate::generic::{Cache, load};
 use crate::message::Message;
 use crate::monster::Monster;
@@ -85,6 +86,22 @@ fn variants_come_back(rt: HostRuntime) -> Result<(), Error> {
     assert!(rt; again == acids);
     let refused: Result<AminoAcid, Error> = decode(alloc, &[20]);
     assert!(rt; matches!(&refused, Err(error) if error.reason == Reason::InvalidPacking));
+    Ok(())
+}
+
+#[test]
+fn events_come_back(rt: HostRuntime) -> Result<(), Error> {
+    let alloc = rt.alloc();
+    let events = vec![in alloc;
+        Event::Quit(Some(5)),
+        Event::Tick,
+        Event::Spawn(7, String::from_str(alloc, "ab")?),
+        Event::Move { id: 9, dx: 1, dy: -1 },
+        Event::Quit(None),
+    ]?;
+    let bytes = encode(alloc, &events)?;
+    let again: Vec<Event> = decode(alloc, bytes.as_slice())?;
+    assert!(rt; again == events);
     Ok(())
 }
 
