@@ -1,5 +1,7 @@
 //! Entries that can stand as the digits of bytes.
 ghost use Rattle.std.specs.Prelude.{◌≡◌, ℕ, ◌+◌, ◌<◌, ◌≤◌, ◌++◌, length, map, vec_len, vec_capacity};
+ghost use Rattle.std.specs.List.{range_with_len};
+ghost use Rattle.bitcode_columns.specs.Digits.{digit};
 ghost use Rattle.bitcode_columns.specs.Ints.{residue, bool_digit};
 
 use crate::ints::Byte;
@@ -21,6 +23,12 @@ pub trait Digit: Copy {
         requires { digit < limit }
         ensures { digit_of result ≡ digit };
 
+    /// The four digits of a number below 16 in base 2, the lowest first.
+    fn four_bits(number: u8) -> [Self; 4]
+        requires below { number < 16 }
+        requires in_limit { 2 ≤ limit }
+        ensures { map digit_of result ≡ map (digit 2 number) (range_with_len 0 4) };
+
     /// Appends the entries, each in a byte of its own, in room that is there.
     fn push_whole(entries: &[Self], out: &mut Vec<u8>)
         requires { vec_len out.old + length entries.now ≤ vec_capacity out.old }
@@ -40,10 +48,39 @@ impl<T: Byte> Digit for T {
         T::from_byte(digit)
     }
 
+    fn four_bits(number: u8) -> [T; 4] {
+        [
+            T::from_byte(number % 2),
+            T::from_byte(number / 2 % 2),
+            T::from_byte(number / 4 % 2),
+            T::from_byte(number / 8),
+        ]
+    }
+
     fn push_whole(entries: &[T], out: &mut Vec<u8>) {
         T::push_bytes(entries, out);
     }
 }
+
+// The bits of the numbers below 16, the lowest first.
+const FOUR_BITS: [[bool; 4]; 16] = [
+    [false, false, false, false],
+    [true, false, false, false],
+    [false, true, false, false],
+    [true, true, false, false],
+    [false, false, true, false],
+    [true, false, true, false],
+    [false, true, true, false],
+    [true, true, true, false],
+    [false, false, false, true],
+    [true, false, false, true],
+    [false, true, false, true],
+    [true, true, false, true],
+    [false, false, true, true],
+    [true, false, true, true],
+    [false, true, true, true],
+    [true, true, true, true],
+];
 
 impl Digit for bool {
     ghost digit_of = { bool_digit };
@@ -56,6 +93,10 @@ impl Digit for bool {
 
     fn from_digit(digit: u8) -> bool {
         digit == 1
+    }
+
+    fn four_bits(number: u8) -> [bool; 4] {
+        FOUR_BITS[number as usize]
     }
 
     fn push_whole(entries: &[bool], out: &mut Vec<u8>) {

@@ -198,6 +198,35 @@ fn push_digits_of<T: Digit>(base: Base, byte: u8, count: usize, out: &mut Vec<T>
     }
 }
 
+#[inline(always)]
+fn push_four<T: Digit>(digits: [T; 4], out: &mut Vec<T>)
+    requires room { vec_len out.old + 4 ≤ vec_capacity out.old }
+    ensures items { out.new.items ≡ out.old.items ++ digits }
+    ensures len { vec_len out.new ≡ vec_len out.old + 4 }
+    ensures capacity { vec_capacity out.new ≡ vec_capacity out.old }
+{
+    out.push_reserved(digits[0]);
+    out.push_reserved(digits[1]);
+    out.push_reserved(digits[2]);
+    out.push_reserved(digits[3]);
+}
+
+// Appends all digits of a byte.
+#[inline(always)]
+fn push_whole_byte<T: Digit>(base: Base, byte: u8, out: &mut Vec<T>)
+    requires room { vec_len out.old + digits_in_byte base ≤ vec_capacity out.old }
+    requires in_limit { radix base ≤ T.limit }
+    ensures items { map T.digit_of out.new.items ≡ map T.digit_of out.old.items ++ map (digit (radix base) byte) (range_with_len 0 (digits_in_byte base)) }
+    ensures capacity { vec_capacity out.new ≡ vec_capacity out.old }
+{
+    if base == Base::Two {
+        push_four(T::four_bits(byte % 16), out);
+        push_four(T::four_bits(byte / 16), out);
+    } else {
+        push_digits_of(base, byte, base.digits_in_byte(), out);
+    }
+}
+
 // So many entries, from bytes that hold them and no more: those of whole bytes first.
 #[inline(always)]
 fn unpacked_digits<T: Digit>(
@@ -216,7 +245,7 @@ fn unpacked_digits<T: Digit>(
     let mut entries = Vec::with_capacity(alloc, count)?;
     let (whole, last) = packed.split_at(count / in_byte);
     for byte in whole {
-        push_digits_of(base, *byte, in_byte, &mut entries);
+        push_whole_byte(base, *byte, &mut entries);
     }
     if last.is_empty() {
         return Ok(entries);

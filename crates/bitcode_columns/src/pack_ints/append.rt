@@ -61,6 +61,11 @@ fn append_tagged<T: Int>(alloc: Global, entries: &[T], out: &mut Vec<u8>) -> Res
         narrow_width (length entries.now) (plain_width T.width low high) (shifted_width low high) ≢ 1
         → vec_len out.old + (1 + length entries.now * T.width) ≤ vec_capacity out.old → IsOk result }
 {
+    let (sample, _) = entries.split_at(entries.len().min(16));
+    let (low, high) = bounds(sample).unwrap();
+    if shifted_width(low, high) == T::width() {
+        return append_plain(alloc, entries, T::width(), out);
+    }
     let (least, greatest) = bounds(entries).unwrap();
     let plain = plain_width(least, greatest);
     let shifted = shifted_width(least, greatest);

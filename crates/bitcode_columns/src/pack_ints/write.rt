@@ -15,9 +15,8 @@ use std::alloc::Global;
 use std::mem::replace;
 
 // So many numbers are written as one block, of at most so many bytes.
-const IN_BLOCK: usize = 64;
+const IN_BLOCK: usize = 512;
 
-const BLOCK: usize = 1024;
 
 // Writes how far each entry lies above a base over as many bytes as they take at a narrow type. It is inlined, so that the
 // compiler knows how many they are.
@@ -44,10 +43,10 @@ fn push_block<T: Int, N: SizedUInt>(entries: &[T], base: T::Unsigned, out: &mut 
     ensures len { vec_len out.new ≡ vec_len out.old + length entries.now * N.width }
     ensures capacity { vec_capacity out.old ≤ vec_capacity out.new }
 {
-    let mut block = [0; BLOCK];
-    let bytes = &mut block[..IN_BLOCK * N::size()];
-    put_numbers::<T, N>(entries, base, bytes);
-    out.extend_from_slice(bytes).unwrap();
+    let start = out.len();
+    out.resize(start + entries.len() * N::size(), 0).unwrap();
+    let bytes = out.as_mut_slice();
+    put_numbers::<T, N>(entries, base, &mut bytes[start..]);
 }
 
 // Appends how far each entry of whole blocks lies above a base, in room that is there.
@@ -92,7 +91,8 @@ fn push_numbers<T: Int, N: SizedUInt>(entries: &[T], base: T::Unsigned, mut out:
 {
     let (blocks, rest) = entries.split_at(entries.len() / IN_BLOCK * IN_BLOCK);
     push_blocks::<T, N>(blocks, base, &mut out);
-    push_each::<T, N>(rest, base, out)
+    push_block::<T, N>(rest, base, &mut out);
+    out
 }
 
 // Appends how far each entry lies above a base, in the bytes of a narrow type.
