@@ -63,7 +63,7 @@ impl<T: Byte> Digit for T {
 }
 
 // The bits of the numbers below 16, the lowest first.
-const FOUR_BITS: [[bool; 4]; 16] = [
+static FOUR_BITS: [[bool; 4]; 16] = [
     [false, false, false, false],
     [true, false, false, false],
     [false, true, false, false],

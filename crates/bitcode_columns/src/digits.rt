@@ -198,33 +198,33 @@ fn push_digits_of<T: Digit>(base: Base, byte: u8, count: usize, out: &mut Vec<T>
     }
 }
 
-#[inline(always)]
-fn push_four<T: Digit>(digits: [T; 4], out: &mut Vec<T>)
-    requires room { vec_len out.old + 4 ≤ vec_capacity out.old }
-    ensures items { out.new.items ≡ out.old.items ++ digits }
-    ensures len { vec_len out.new ≡ vec_len out.old + 4 }
-    ensures capacity { vec_capacity out.new ≡ vec_capacity out.old }
+// Writes the digits of the bytes over as many entries.
+fn put_bits<T: Digit>(packed: &[u8], entries: &mut [T])
+    requires size { length packed.now ≡ div_ceil (length entries.old) 8 }
+    requires in_limit { 2 ≤ T.limit }
+    ensures { SpellsDigits Base.Two packed.now (map T.digit_of entries.new) }
 {
-    out.push_reserved(digits[0]);
-    out.push_reserved(digits[1]);
-    out.push_reserved(digits[2]);
-    out.push_reserved(digits[3]);
+    let whole = entries.len() / 8;
+    for byte in 0..whole {
+        let start = byte * 8;
+        entries[start..start + 4].copy_from_slice(&T::four_bits(packed[byte] % 16));
+        entries[start + 4..start + 8].copy_from_slice(&T::four_bits(packed[byte] / 16));
+    }
+    for place in whole * 8..entries.len() {
+        entries[place] = T::from_digit((packed[whole] >> (place % 8)) % 2);
+    }
 }
 
-// Appends all digits of a byte.
-#[inline(always)]
-fn push_whole_byte<T: Digit>(base: Base, byte: u8, out: &mut Vec<T>)
-    requires room { vec_len out.old + digits_in_byte base ≤ vec_capacity out.old }
-    requires in_limit { radix base ≤ T.limit }
-    ensures items { map T.digit_of out.new.items ≡ map T.digit_of out.old.items ++ map (digit (radix base) byte) (range_with_len 0 (digits_in_byte base)) }
-    ensures capacity { vec_capacity out.new ≡ vec_capacity out.old }
+fn unpacked_bits<T: Digit>(
+    alloc: Global,
+    packed: &[u8],
+    count: usize,
+) -> Result<Vec<T>, AllocError>
 {
-    if base == Base::Two {
-        push_four(T::four_bits(byte % 16), out);
-        push_four(T::four_bits(byte / 16), out);
-    } else {
-        push_digits_of(base, byte, base.digits_in_byte(), out);
-    }
+    let mut entries = Vec::with_capacity(alloc, count)?;
+    entries.resize(count, T::from_digit(0)).unwrap();
+    put_bits(packed, entries.as_mut_slice());
+    Ok(entries)
 }
 
 // So many entries, from bytes that hold them and no more: those of whole bytes first.
@@ -245,7 +245,7 @@ fn unpacked_digits<T: Digit>(
     let mut entries = Vec::with_capacity(alloc, count)?;
     let (whole, last) = packed.split_at(count / in_byte);
     for byte in whole {
-        push_whole_byte(base, *byte, &mut entries);
+        push_digits_of(base, *byte, in_byte, &mut entries);
     }
     if last.is_empty() {
         return Ok(entries);
@@ -269,7 +269,11 @@ fn read_digits<T: Digit>(
     ensures empty { count ≡ 0 → IsOk result }
 {
     let packed = consume_bytes(input, count.div_ceil(base.digits_in_byte()))?;
-    let entries = unpacked_digits(alloc, base, packed, count)?;
+    let entries = if base == Base::Two {
+        unpacked_bits(alloc, packed, count)?
+    } else {
+        unpacked_digits(alloc, base, packed, count)?
+    };
     Ok(entries)
 }
 
