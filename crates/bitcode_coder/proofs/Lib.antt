@@ -17,7 +17,6 @@ pub mod RowLemmas
 pub mod LawLemmas
 pub mod ArrayCountLemmas
 pub mod EachLemmas
-pub mod ChunkLemmas
 pub mod PushingLemmas
 pub mod TakingLemmas
 pub mod RefusalLemmas

@@ -3,7 +3,6 @@
 
 pub mod bool;
 pub mod checked;
-pub mod chunk;
 pub mod coder;
 pub mod column_int;
 pub mod int;

@@ -1,11 +1,10 @@
 -- What the encoders of the fields do to their columns makes up what the encoder of the pair does.
-use Rattle.std.proofs.Common.{◌≡◌, List, [], ◌∷◌, map, refl, sym, ap, ◌∙◌, subst}
-use Rattle.std.specs.List.{AllZip}
-use Rattle.bitcode_shapes.specs.Datum.{Datum, pair, first_in, second_in}
+use Rattle.std.proofs.Common.{refl}
+use Rattle.bitcode_shapes.specs.Datum.{Datum, pair}
 use Rattle.bitcode_shapes.specs.Shape.{Shape, pair_shape}
 use Rattle.bitcode_shapes.specs.Pairs.{ListsPair}
-use Rattle.bitcode_coder.specs.Columns.{Columns, two, beside, CountsFit}
-use Rattle.bitcode_coder.specs.Coder.{written_columns, JoinsListing, OverflowsWithListing, JoinsEach, OverflowsWithEach}
+use Rattle.bitcode_coder.specs.Columns.{Columns, two}
+use Rattle.bitcode_coder.specs.Coder.{JoinsListing, OverflowsWithListing}
 use Rattle.bitcode_tuples.specs.PairLaws.{same_two}
 
 module _ {P Q : Type 0} (lists_p : P → Datum → Type 0) (lists_q : Q → Datum → Type 0) (s t : Shape) (x : P × Q) where
@@ -33,70 +32,6 @@ module _ {P Q : Type 0} (lists_p : P → Datum → Type 0) (lists_q : Q → Datu
     listing = record { first = d; second = h.datum; is = refl; lists_first = l; lists_second = h.listing };
     overflows = λ f. h.overflows f.1;
   }
-
--- ---- several pairs
-
-pairs_of : List Datum → List Datum → List Datum
-pairs_of [] es = []
-pairs_of (d ∷ ds) [] = []
-pairs_of (d ∷ ds) (e ∷ es) = pair d e ∷ pairs_of ds es
-
--- pairs of what two functions say
-module _ {X P Q : Type 0} (f : X → P) (g : X → Q) (lists_p : P → Datum → Type 0) (lists_q : Q → Datum → Type 0) where
-  pairs_listed : (xs : List X) (ds es : List Datum) → AllZip lists_p (map f xs) ds → AllZip lists_q (map g xs) es
-      → AllZip (ListsPair lists_p lists_q) (map (λ x. (f x, g x)) xs) (pairs_of ds es)
-  unfolding pairs_of
-  pairs_listed [] [] es h k = tt
-  pairs_listed [] (d ∷ ds) es h k = absurd h
-  pairs_listed (x ∷ xs) [] es h k = absurd h
-  pairs_listed (x ∷ xs) (d ∷ ds) [] h k = absurd k
-  pairs_listed (x ∷ xs) (d ∷ ds) (e ∷ es) h k =
-      (record { first = d; second = e; is = refl; lists_first = h.0; lists_second = k.0 }, pairs_listed xs ds es h.1 k.1)
-
-  firsts_of : (xs : List X) (ds es : List Datum) → AllZip lists_p (map f xs) ds → AllZip lists_q (map g xs) es → map first_in (pairs_of ds es) ≡ ds
-  unfolding pairs_of
-  firsts_of [] [] es h k = refl
-  firsts_of [] (d ∷ ds) es h k = absurd h
-  firsts_of (x ∷ xs) [] es h k = absurd h
-  firsts_of (x ∷ xs) (d ∷ ds) [] h k = absurd k
-  firsts_of (x ∷ xs) (d ∷ ds) (e ∷ es) h k = ap (λ rest. d ∷ rest) (firsts_of xs ds es h.1 k.1)
-
-  seconds_of : (xs : List X) (ds es : List Datum) → AllZip lists_p (map f xs) ds → AllZip lists_q (map g xs) es → map second_in (pairs_of ds es) ≡ es
-  unfolding pairs_of
-  seconds_of [] [] [] h k = refl
-  seconds_of [] [] (e ∷ es) h k = absurd k
-  seconds_of [] (d ∷ ds) es h k = absurd h
-  seconds_of (x ∷ xs) [] es h k = absurd h
-  seconds_of (x ∷ xs) (d ∷ ds) [] h k = absurd k
-  seconds_of (x ∷ xs) (d ∷ ds) (e ∷ es) h k = ap (λ rest. e ∷ rest) (seconds_of xs ds es h.1 k.1)
-
-  module _ (s t : Shape) (xs : List X) where
-    pub joins_pairs : (a b c d : Columns) → JoinsEach lists_p s (map f xs) a c → JoinsEach lists_q t (map g xs) b d
-        → JoinsEach (ListsPair lists_p lists_q) (pair_shape s t) (map (λ x. (f x, g x)) xs) (two a b) (two c d)
-    joins_pairs a b c d h k = record {
-      parts = pairs_of h.parts k.parts;
-      listings = pairs_listed xs h.parts k.parts h.listings k.listings;
-      joined =
-          same_two (h.joined ∙ ap (λ ds. beside a (written_columns s ds)) (sym (firsts_of xs h.parts k.parts h.listings k.listings)))
-          (k.joined ∙ ap (λ ds. beside b (written_columns t ds)) (sym (seconds_of xs h.parts k.parts h.listings k.listings)));
-      fits = λ fit. (h.fits fit.0, k.fits fit.1);
-    }
-
-    pub overflows_with_firsts : (a b : Columns) (es : List Datum) → AllZip lists_q (map g xs) es → OverflowsWithEach lists_p s (map f xs) a
-        → OverflowsWithEach (ListsPair lists_p lists_q) (pair_shape s t) (map (λ x. (f x, g x)) xs) (two a b)
-    overflows_with_firsts a b es l h = record {
-      parts = pairs_of h.parts es;
-      listings = pairs_listed xs h.parts es h.listings l;
-      overflows = λ fit. h.overflows (subst (λ ds. CountsFit (beside a (written_columns s ds))) (firsts_of xs h.parts es h.listings l) fit.0);
-    }
-
-    pub overflows_with_seconds : (a b : Columns) (ds : List Datum) → AllZip lists_p (map f xs) ds → OverflowsWithEach lists_q t (map g xs) b
-        → OverflowsWithEach (ListsPair lists_p lists_q) (pair_shape s t) (map (λ x. (f x, g x)) xs) (two a b)
-    overflows_with_seconds a b ds l h = record {
-      parts = pairs_of ds h.parts;
-      listings = pairs_listed xs ds h.parts l h.listings;
-      overflows = λ fit. h.overflows (subst (λ es. CountsFit (beside b (written_columns t es))) (seconds_of xs ds h.parts l h.listings) fit.1);
-    }
 
 -- ---- a value that stands for another one, as a tuple for a pair
 

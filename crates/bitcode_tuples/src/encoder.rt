@@ -4,10 +4,8 @@ ghost use Rattle.bitcode_coder.specs.Columns.{two};
 ghost use Rattle.bitcode_tuples.specs.PairLaws.{both_of_shape, both_surely};
 
 use crate::fields::FieldsEncoder;
-use bitcode_coder::chunk::references::gather_parts;
 use bitcode_coder::coder::{Buffer, Encoder, HoldsColumns};
 use bitcode_columns::error::Error;
-use bitcode_shapes::lists::told_behind;
 use bitcode_shapes::shaped::Shaped;
 use std::alloc::Global;
 
@@ -64,14 +62,6 @@ impl<P: Shaped, Q: Shaped, A: Encoder<P>, B: Encoder<Q>> Encoder<(P, Q)> for Tup
 
     fn encode(&mut self, t: &(P, Q)) -> Result<(), Error> {
         self.encode_fields(&(&t.0, &t.1))
-    }
-
-    fn encode_vectored(&mut self, values: &[&(P, Q)]) -> Result<(), Error> {
-        let firsts = gather_parts(values, |t| &t.0);
-        let seconds = gather_parts(values, |t| &t.1);
-        told_behind(seconds.as_slice());
-        self.first.encode_vectored(firsts.as_slice())?;
-        self.second.encode_vectored(seconds.as_slice())
     }
 
     ghost of_shape = { both_of_shape A.of_shape B.of_shape };

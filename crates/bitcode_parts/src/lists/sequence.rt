@@ -12,10 +12,8 @@ ghost use Rattle.bitcode_coder.specs.Columns.{emptied};
 ghost use Rattle.bitcode_coder.specs.Coder.{written_columns, JoinsEach, OverflowsWithEach, IsWritingRefusal, TakesEach};
 ghost use Rattle.bitcode_parts.specs.Elements.{MakesOfElements};
 
-use bitcode_coder::chunk::references::gather;
-use bitcode_coder::coder::{Decoder, Encoder, MAX_VECTORED_CHUNK};
+use bitcode_coder::coder::{Decoder, Encoder};
 use bitcode_columns::error::{Error, Reason};
-use bitcode_shapes::lists::told_each;
 use bitcode_shapes::shaped::{Made, Shaped};
 use std::alloc::Global;
 use std::collections::{LinkedList, VecDeque, linked_list, vec_deque};
@@ -104,31 +102,7 @@ pub fn encode_each<T: Shaped, E: Encoder<T>>(elements: &mut E, items: &[T]) -> R
     ensures free { IsTrue E.writes_free → IfErr result (λ e. e.reason ≢ Reason.OutOfMemory) }
     ensures none { length items.now ≡ 0 → IsOk result }
 {
-    if E::is_primitive() {
-        elements.encode_slice(items)
-    } else {
-        encode_in_chunks(elements, items)
-    }
-}
-
-// The same by `Encoder::encode_vectored`, at most `MAX_VECTORED_CHUNK` elements at a time.
-fn encode_in_chunks<T: Shaped, E: Encoder<T>>(elements: &mut E, items: &[T]) -> Result<(), Error>
-    requires { length items.now ≤ E.room elements.old }
-    ensures joined { OnOk result (JoinsEach T.lists T.shape items.now (E.columns elements.old) (E.columns elements.new)) }
-    ensures room { OnOk result (E.room elements.old ≤ E.room elements.new + length items.now) }
-    ensures form { emptied (E.columns elements.new) ≡ emptied (E.columns elements.old) }
-    ensures refused { IfErr result (λ e. IsWritingRefusal e.reason (OverflowsWithEach T.lists T.shape items.now (E.columns elements.old))) }
-    ensures free { IsTrue E.writes_free → IfErr result (λ e. e.reason ≢ Reason.OutOfMemory) }
-    ensures none { length items.now ≡ 0 → IsOk result }
-{
-    told_each(items);
-    let mut rest = items;
-    while !rest.is_empty() {
-        let (front, behind) = rest.split_at(rest.len().min(MAX_VECTORED_CHUNK));
-        elements.encode_vectored(gather(front).as_slice())?;
-        rest = behind;
-    }
-    Ok(())
+    elements.encode_slice(items)
 }
 
 /// Makes so many values, one after the other, by one call of the decoder. So many data are left.
