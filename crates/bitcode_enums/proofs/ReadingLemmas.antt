@@ -1,11 +1,9 @@
 -- Variants are read, and then the payloads of each; a value is made of the next payload of its variant.
-use Rattle.std.proofs.Common.{◌≡◌, ◌≢◌, ℕ, zero, suc, ◌+◌, ◌-◌, ◌<◌, List, [], ◌∷◌, length, set, get_or, refl, sym, ap, subst, ◌∙◌, inl, inr, arith, Result, Ok, Err}
+use Rattle.std.proofs.Common.{◌≡◌, ◌≢◌, ℕ, zero, suc, ◌+◌, ◌-◌, ◌<◌, List, [], ◌∷◌, length, set, get_or, refl, sym, ap, subst, ◌∙◌, inl, inr, arith}
 use Rattle.std.specs.Prelude.{◌⊎◌}
-use Rattle.std.specs.Result.{OnErr}
-use Rattle.bitcode_columns.specs.declared.error.Error.{Error}
 use Rattle.bitcode_columns.specs.declared.error.Reason.{Reason}
 use Rattle.bitcode_columns.specs.Histogram.{AreCounts, count_of}
-use Rattle.bitcode_columns.specs.Reading.{Reads, NamesVariantFault, IsEndOf}
+use Rattle.bitcode_columns.specs.Reading.{Reads, NamesVariantFault}
 use Rattle.bitcode_columns.specs.VariantColumn.{SpellsVariants}
 use Rattle.bitcode_shapes.specs.Datum.{Datum, choice}
 use Rattle.bitcode_shapes.specs.Shape.{Shape, Shapes, no_shapes, shape_and, choice_shape, variant_count}
@@ -13,7 +11,6 @@ use Rattle.bitcode_shapes.specs.Choices.{MakesChoice, MakesLast, MakesVariant}
 use Rattle.bitcode_coder.specs.Faults.{NamesVariantsFault}
 use Rattle.bitcode_coder.specs.Spelling.{Spells}
 use Rattle.bitcode_coder.specs.Coder.{IsReadingRefusal, TakesDatum}
-use Rattle.bitcode_coder.proofs.LengthPartLemmas.{ends_behind_read}
 use Rattle.bitcode_parts.specs.Payloads.{payloads_of, choices_of, ReadsPayloads, IsPayloadsRefusal, FaultsBehindPayloads}
 use Rattle.bitcode_parts.proofs.ChoiceLemmas.{choices_of-next, choices_of-none}
 use Rattle.bitcode_parts.proofs.ChoiceReadingLemmas.{reads_choices, refuses_variants, refuses_payloads, refuses_first, refuses_later}
@@ -54,11 +51,6 @@ module _ (s : Shape) (k i : ℕ) (entries old : List ℕ) (counted : k ≡ count
     faults_more first_fault rest_fault reason fault =
         inr (record { payloads = ds; rest = middle; read = read_here; fault = subst (λ n. rest_fault reason n entries middle) (next_is i) fault })
 
-pub ends_more : {T : Type 0} {s : Shape} {k : ℕ} {old : List ℕ} {ds : List Datum} (middle : List ℕ) → Reads (Spells s) k old ds middle
-    → (new : List ℕ) (r : Result T Error) → OnErr r (IsEndOf middle new) → OnErr r (IsEndOf old new)
-ends_more middle read new (Ok x) rest = tt
-ends_more middle read new (Err e) rest = ends_behind_read new read rest
-
 -- ---- the whole enum
 
 module _ (ss : Shapes) (count k : ℕ) (old : List ℕ) (counted : variant_count ss ≡ count) where
@@ -75,11 +67,6 @@ module _ (ss : Shapes) (count k : ℕ) (old : List ℕ) (counted : variant_count
 
     pub refuses_enum_payloads : (reason : Reason) → IsPayloadsRefusal ss 0 entries reason middle → IsReadingRefusal (choice_shape ss) reason k old
     refuses_enum_payloads reason refused = refuses_payloads ss reason variants_read refused
-
-pub ends_enum : {T : Type 0} {count k : ℕ} {old middle entries : List ℕ} (new : List ℕ) (r : Result T Error) → Reads (SpellsVariants count) k old entries middle
-    → OnErr r (IsEndOf middle new) → OnErr r (IsEndOf old new)
-ends_enum new (Ok x) read rest = tt
-ends_enum new (Err e) read rest = ends_behind_read new read rest
 
 -- ---- making a value
 

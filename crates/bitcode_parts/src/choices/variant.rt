@@ -164,6 +164,7 @@ impl<'a, const N: usize, const C_STYLE: bool> VariantDecoder<'a, N, C_STYLE> {
 
     /// How many of each variant were read, place by place, those that were taken since too.
     pub fn counts(&self) -> &[usize]
+        requires counted { C_STYLE ≡ false }
         ensures { result.now ≡ variant_counts self.now }
     {
         &self.counts

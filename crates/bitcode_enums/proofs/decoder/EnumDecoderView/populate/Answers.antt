@@ -1,8 +1,9 @@
 -- The variants are read, and then the payloads of each from what is left.
 use Rattle.std.proofs.Common.{◌∙◌, ap, refl, inr}
-use Rattle.std.proofs.lemmas.Result.{IfErr-weaker, on_ok_weaker, err_from_is_err_and}
+use Rattle.std.proofs.lemmas.Result.{IfErr-weaker, on_ok_weaker, on_err_weaker, err_from_is_err_and}
+use Rattle.bitcode_coder.proofs.LengthPartLemmas.{ends_behind_read}
 use Rattle.bitcode_shapes.specs.Shape.{variant_count}
-use Rattle.bitcode_enums.proofs.ReadingLemmas.{counts_each, refuses_enum_variants, reads_enum, refuses_enum_payloads, ends_enum}
+use Rattle.bitcode_enums.proofs.ReadingLemmas.{counts_each, refuses_enum_variants, reads_enum, refuses_enum_payloads}
 use Rattle.bitcode_enums.proofs.decoder.EnumDecoderView.populate.Goals as goal
 
 pub returns-in_err-populate-clause-refused : goal.returns-in_err-populate-clause-refused
@@ -33,4 +34,4 @@ returns-clause-exact g c =
     (c.populate-2.ensures.exact _ (counts_each _ _ _ _ (c.in_ok-populate.ensures.counts refl) c.counts.ensures))
 
 pub returns-clause-rest : goal.returns-clause-rest
-returns-clause-rest g c = ends_enum _ c.populate-2.result c.in_ok-populate.ensures.read c.populate-2.ensures.rest
+returns-clause-rest g c = on_err_weaker c.populate-2.result (ends_behind_read c.populate-2.new.input.now c.in_ok-populate.ensures.read) c.populate-2.ensures.rest

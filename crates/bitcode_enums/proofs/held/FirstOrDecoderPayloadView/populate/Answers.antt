@@ -1,7 +1,8 @@
 -- As many payloads are read as there are of the first variant, and then those of the rest from what is left.
 use Rattle.std.proofs.Common.{arith, subst, inl}
-use Rattle.std.proofs.lemmas.Result.{IfErr-weaker, on_ok_weaker, err_from_is_err_and}
-use Rattle.bitcode_enums.proofs.ReadingLemmas.{refuses_here, refuses_more, ends_more, reads_more, faults_more}
+use Rattle.std.proofs.lemmas.Result.{IfErr-weaker, on_ok_weaker, on_err_weaker, err_from_is_err_and}
+use Rattle.bitcode_coder.proofs.LengthPartLemmas.{ends_behind_read}
+use Rattle.bitcode_enums.proofs.ReadingLemmas.{refuses_here, refuses_more, reads_more, faults_more}
 use Rattle.bitcode_enums.proofs.held.FirstOrDecoderPayloadView.populate.Goals as goal
 
 pub returns-in_err-populate-clause-refused : goal.returns-in_err-populate-clause-refused
@@ -34,4 +35,4 @@ returns-clause-exact g c variants are =
     (c.populate-2.ensures.exact variants are)
 
 pub returns-clause-rest : goal.returns-clause-rest
-returns-clause-rest g c = ends_more _ c.in_ok-populate.ensures.read _ c.populate-2.result c.populate-2.ensures.rest
+returns-clause-rest g c = on_err_weaker c.populate-2.result (ends_behind_read c.populate-2.new.input.now c.in_ok-populate.ensures.read) c.populate-2.ensures.rest
