@@ -1,24 +1,14 @@
 -- Numbers of one width that are written block by block.
-use Rattle.std.proofs.Common.{◌≡◌, ℕ, zero, suc, ◌+◌, ◌*◌, ◌/◌, ◌%◌, ◌<◌, ◌≤◌, List, [], ◌∷◌, ◌++◌, length, map, take, drop, get_or, All, refl, sym, ap, ◌∙◌, subst, append_assoc, length-append, arith, inl, inr}
+use Rattle.std.proofs.Common.{◌≡◌, ℕ, ◌+◌, ◌*◌, ◌/◌, ◌<◌, ◌≤◌, List, [], ◌++◌, length, map, take, drop, get_or, sym, ap, ◌∙◌, append_assoc, length-append, arith}
 use borrow.Rule.Slice.PartMut.{put_mid}
 use Rattle.std.proofs.Math.Nat.{zero-mul, add-mul, mul-le-mul_right, div-mul-le_self}
 use Rattle.std.proofs.Math.Seq.{take-add}
 use Rattle.std.proofs.lemmas.List.{map-append, length-take, length-drop}
 use Rattle.std.proofs.lemmas.List.Concat.{flat_map-append}
 use Rattle.std.proofs.lemmas.Slice.{take-put_mid}
-use Rattle.bitcode_columns.specs.IntWidths.{IsWidth}
 use Rattle.bitcode_columns.specs.LittleEndian.{number_bytes, raw_text}
 use Rattle.bitcode_columns.proofs.LittleEndianLemmas.{length-number_bytes}
 use Rattle.bitcode_columns.proofs.NarrowLemmas.{raw_more}
-
-pub width_at_most : (width : ℕ) → IsWidth width → width ≤ 16
-width_at_most width of = elim of [
-  | inl e ↦ omega arith
-  | inr (inl e) ↦ omega arith
-  | inr (inr (inl e)) ↦ omega arith
-  | inr (inr (inr (inl e))) ↦ omega arith
-  | inr (inr (inr (inr e))) ↦ omega arith
-]
 
 pub front_none : (width : ℕ) (bytes : List ℕ) → take (0 * width) bytes ≡ raw_text width []
 unfolding raw_text
@@ -40,7 +30,7 @@ front_more width f xs i d entry a k before written value h at size so_far is put
     raw_more width f xs i d entry [] (take (i * width) before) (take ((i + 1) * width) (put_mid a k before written)) value h at so_far is
     (taken ∙ ap (λ n. take n before ++ written) start ∙ ap (λ b. take (i * width) before ++ b) put)
 
-pub put_size : (a k : ℕ) (xs ys : List ℕ) → a + k ≤ length xs → length ys ≡ k → length (put_mid a k xs ys) ≡ length xs
+pub put_size : {X : Type 0} (a k : ℕ) (xs ys : List X) → a + k ≤ length xs → length ys ≡ k → length (put_mid a k xs ys) ≡ length xs
 put_size a k xs ys fits size =
     let e : length (take a xs ++ (ys ++ drop k (drop a xs))) ≡ length xs =
     omega (
@@ -75,6 +65,3 @@ block_room width size i count before some =
     let next : (i + 1) * size ≤ count / size * size = mul-le-mul_right size (omega arith) in
     let fits : i * size + size ≤ count = omega (arith, next, add-mul i 1 size, div-mul-le_self count size) in
     omega (arith, mul-le-mul_right {m = i * size + size} {n = count} width fits, add-mul (i * size) size width)
-
-pub front_of_block : (n : ℕ) (block : List ℕ) → n ≤ 1024 → length block ≡ 1024 → length (take n block) ≡ n
-front_of_block n block few size = omega (arith, length-take n block)

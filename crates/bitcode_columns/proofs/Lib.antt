@@ -15,6 +15,8 @@ pub mod ByteReadingLemmas
 pub mod WrittenLemmas
 pub mod AppendLemmas
 pub mod RoomLemmas
+pub mod BitLemmas
+pub mod SampleLemmas
 pub mod BytePackingLemmas
 pub mod HistogramLemmas
 pub mod TableLemmas

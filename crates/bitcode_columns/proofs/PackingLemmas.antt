@@ -2,11 +2,15 @@
 use Rattle.std.proofs.Common.{◌≡◌, ℕ, zero, suc, ◌+◌, ◌-◌, ◌*◌, ◌/◌, ◌%◌, ◌^◌, ◌<◌, ◌≤◌, List, [], ◌∷◌, ◌++◌, length, map, take, drop, get_or, All, sym, refl, ap, ◌∙◌, arith}
 use Rattle.std.specs.List.{range_with_len}
 use Rattle.std.specs.Int.{div_ceil}
-use Rattle.std.proofs.Common.{append_assoc, subst, length-append}
+use Rattle.std.proofs.Common.{append_assoc, subst}
 use Rattle.std.proofs.Math.Nat.{div-div-eq-div-mul, pow-suc, pow-le-pow_right, mod-lt}
 use Rattle.std.proofs.Math.Numerals.{add-one}
 use Rattle.std.proofs.Math.Nat.{add-zero}
-use Rattle.std.proofs.lemmas.List.{at_drop_more, get_or-map, length-map, map_push, append-nil, length-take, length-drop, take_all, take-map, drop-map, drop-drop}
+use borrow.Rule.Slice.PartMut.{put_mid}
+use Rattle.std.proofs.Math.ListN.{set}
+use Rattle.std.proofs.lemmas.Slice.{take-put_mid}
+use Rattle.std.proofs.lemmas.List.{map-append}
+use Rattle.std.proofs.lemmas.List.{take_more_set, at_drop_more, get_or-map, length-map, map_push, append-nil, length-take, length-drop, take_all, take-map, drop-map, drop-drop}
 use Rattle.std.proofs.lemmas.List.Elements.{All-take, All-drop, All-map}
 use Rattle.std.proofs.lemmas.List.FromFn.{map-range_with_len_more, length-map-range_with_len, get_or-map-range_with_len}
 use Rattle.bitcode_columns.proofs.DigitLemmas.{number_with_digits_below}
@@ -56,14 +60,14 @@ pub div-pow_more : (byte radix place : ℕ) → byte / radix ^ place / radix ≡
 div-pow_more byte radix place = div-div-eq-div-mul byte (radix ^ place) radix ∙ rw (add-one, pow-suc)
 
 -- one digit more of a byte
-pub digits_push : {X : Type 0} (number : X → ℕ) (radix byte place rest : ℕ) (before : List ℕ) (now : List X) (next : X)
-    → map number now ≡ before ++ map (digit radix byte) (range_with_len 0 place) → rest ≡ byte / radix ^ place → number next ≡ rest % radix
-    → map number (now ++ next ∷ []) ≡ before ++ map (digit radix byte) (range_with_len 0 (place + 1))
-digits_push number radix byte place rest before now next so_far is here =
-    let digits = map (digit radix byte) (range_with_len 0 place) in
+pub digits_put : {X : Type 0} (number : X → ℕ) (radix byte place rest : ℕ) (entries : List X) (next : X) → place < length entries
+    → map number (take place entries) ≡ map (digit radix byte) (range_with_len 0 place) → rest ≡ byte / radix ^ place → number next ≡ rest % radix
+    → map number (take (place + 1) (set entries place next)) ≡ map (digit radix byte) (range_with_len 0 (place + 1))
+digits_put number radix byte place rest entries next inside so_far is here =
     let one : number next ≡ digit radix byte place = here ∙ ap (λ n. n % radix) is in
-    let more : map (digit radix byte) (range_with_len 0 (place + 1)) ≡ digits ++ digit radix byte place ∷ [] = map-range_with_len_more (digit radix byte) 0 place place (omega arith) in
-    rw (map_push number now next, so_far, one, more, append_assoc)
+    let more : map (digit radix byte) (range_with_len 0 (place + 1)) ≡ map (digit radix byte) (range_with_len 0 place) ++ digit radix byte place ∷ []
+    = map-range_with_len_more (digit radix byte) 0 place place (omega arith) in
+    ap (map number) (take_more_set entries place next inside) ∙ rw (map_push number (take place entries) next, so_far, one, more)
 
 pub digits_fit : (base : Base) → radix base ^ digits_in_byte base ≤ 256
 digits_fit Whole = omega arith
@@ -220,29 +224,41 @@ entries_so_far-spells base packed count size =
       each = λ i inside. get_or-map-range_with_len (entry_at base packed) 0 count i i 0 (rw same at inside) (omega arith);
     }
 
--- the digits of one byte more, as many as are entries
-module _ {X : Type 0} (number : X → ℕ) (base : Base) (packed : List ℕ) (byte len few item : ℕ) (fit : few ≤ digits_in_byte base)
-    (is_len : len ≡ byte * digits_in_byte base) (is : item ≡ get_or packed byte 0) (before now : List X) (was : length before ≡ len)
-    (pushed : map number now ≡ map number before ++ map (digit (radix base) item) (range_with_len 0 few)) where
-  pub length-pushed : length now ≡ len + few
-  length-pushed =
-      let lengths : length (map number now) ≡ length (map number before) + few
-      = ap length pushed ∙ length-append (map number before) _ ∙ ap (λ n. length (map number before) + n) (length-map-range_with_len (digit (radix base) item) 0 few) in
-      omega (arith, was, lengths, length-map now number, length-map before number)
+-- digits that were written are as many as were asked for
+pub length-put : {X : Type 0} (number : X → ℕ) (radix item few : ℕ) (written : List X) → map number written ≡ map (digit radix item) (range_with_len 0 few)
+    → length written ≡ few
+length-put number radix item few written put = sym (length-map written number) ∙ ap length put ∙ length-map-range_with_len (digit radix item) 0 few
 
-  pub entries-pushed : map number before ≡ entries_so_far base packed len → map number now ≡ entries_so_far base packed (len + few)
-  entries-pushed so_far =
-      let more = entries_so_far-more base packed byte few fit in
-      pushed ∙ rw (so_far, is, is_len, more) refl
+-- the digits of one byte more, written over as many entries
+pub entries-put : {X : Type 0} (number : X → ℕ) (base : Base) (packed : List ℕ) (byte few a k item : ℕ) (before written : List X) → few ≤ digits_in_byte base
+    → a ≡ byte * digits_in_byte base → a ≤ length before → item ≡ get_or packed byte 0 → map number written ≡ map (digit (radix base) item) (range_with_len 0 few)
+    → map number (take (byte * digits_in_byte base) before) ≡ entries_so_far base packed (byte * digits_in_byte base)
+    → map number (take (byte * digits_in_byte base + few) (put_mid a k before written)) ≡ entries_so_far base packed (byte * digits_in_byte base + few)
+entries-put number base packed byte few a k item before written fit start inside is put so_far =
+    let len : length written ≡ few = length-put number (radix base) item few written put in
+    let taken : take (byte * digits_in_byte base + few) (put_mid a k before written) ≡ take a before ++ written =
+    take-put_mid a k before written (byte * digits_in_byte base + few) (omega (arith, len, start)) inside in
+    ap (map number) taken ∙ map-append number (take a before) written ∙ ap (λ n. map number (take n before) ++ map number written) start
+    ∙ ap (λ xs. xs ++ map number written) so_far ∙ ap (λ xs. entries_so_far base packed (byte * digits_in_byte base) ++ xs) put
+    ∙ ap (λ n. entries_so_far base packed (byte * digits_in_byte base) ++ map (digit (radix base) n) (range_with_len 0 few)) is
+    ∙ sym (entries_so_far-more base packed byte few fit)
 
--- behind the last whole byte: no entry is left, or as many as are left of the division
-module _ (base : Base) (packed : List ℕ) (count byte len : ℕ) (size : length packed ≡ div_ceil count (digits_in_byte base))
-    (at_end : byte ≡ count / digits_in_byte base) (is_len : len ≡ byte * digits_in_byte base) where
-  pub whole_and_left : len + count % digits_in_byte base ≡ count
-  whole_and_left = omega (arith, is_len, ap (λ n. n * digits_in_byte base) at_end, div-add-mod' count (digits_in_byte base))
+-- the entries, once all are written
+pub entries-all : {X : Type 0} (number : X → ℕ) (base : Base) (packed : List ℕ) (count n : ℕ) (entries : List X) → length entries ≡ count → n ≡ count
+    → length packed ≡ div_ceil count (digits_in_byte base) → map number (take n entries) ≡ entries_so_far base packed n
+    → SpellsDigits base packed (map number entries)
+entries-all number base packed count n entries size all packed_size so_far =
+    let whole : map number entries ≡ entries_so_far base packed count =
+    ap (map number) (sym (take_all n entries (omega arith))) ∙ so_far ∙ ap (entries_so_far base packed) all in
+    subst (SpellsDigits base packed) (sym whole) (entries_so_far-spells base packed count packed_size)
 
-  pub all_whole : length packed ≡ byte → len ≡ count
-  all_whole none = omega (arith, whole_and_left, none, size, at_end)
+-- behind the last whole byte: as many entries as are left of the division
+pub whole_and_left : (base : Base) (count byte : ℕ) → byte ≡ count / digits_in_byte base → byte * digits_in_byte base + count % digits_in_byte base ≡ count
+whole_and_left base count byte at_end = omega (arith, ap (λ n. n * digits_in_byte base) at_end, div-add-mod' count (digits_in_byte base))
+
+pub none_left : (base : Base) (count byte : ℕ) (packed : List ℕ) → byte ≡ count / digits_in_byte base → length packed ≡ div_ceil count (digits_in_byte base)
+    → length packed ≤ byte → byte * digits_in_byte base ≡ count
+none_left base count byte packed at_end size none = omega (arith, whole_and_left base count byte at_end, size, none, digits_in_byte_at_least base)
 
 pub few_left : (base : Base) (count : ℕ) → count % digits_in_byte base ≤ digits_in_byte base
 few_left base count = omega (arith, mod-lt count (digits_in_byte_at_least base))

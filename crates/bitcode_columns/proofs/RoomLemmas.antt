@@ -1,7 +1,7 @@
 -- The raw bytes and one more are room for every form of a column, and only numbers of one byte take scratch.
 use Rattle.std.proofs.Common.{◌≡◌, ℕ, ◌+◌, ◌-◌, ◌*◌, ◌<◌, ◌≤◌, Bool, true, false, eqb, ◌||◌, ◌&&◌, ℤ, List, [], ◌∷◌, length, map, All, Result, Ok, Err, OnErr, IsOk, refl, sym, ap, ◌∙◌, subst, arith, inl, inr}
 use Rattle.std.specs.Prelude.{nat_lt}
-use Rattle.std.proofs.Math.Nat.{add-mul, mul-add, mul-le-mul_left, mul-le-mul_right}
+use Rattle.std.proofs.Math.Nat.{mul-add, mul-le-mul_left, mul-le-mul_right}
 use Rattle.std.proofs.lemmas.Bool.{cond-true, cond-false, eq-eqb, ne_eqb, and_parts, ltb-true}
 use Rattle.std.proofs.lemmas.List.{length-map}
 use Rattle.std.proofs.lemmas.List.Elements.{All-map}
@@ -20,14 +20,6 @@ pub no_bytes : (entries : List ℤ) → length entries ≡ 0 → length (byte_te
 unfolding byte_text
 no_bytes [] none = refl
 no_bytes (e ∷ entries) none = absurd (omega arith)
-
--- one more entry was written
-pub next_len : (width i start now next : ℕ) → now ≡ start + i * width → next ≡ now + width → next ≡ start + (i + 1) * width
-next_len width i start now next so_far more = omega (arith, add-mul i 1 width)
-
--- the next entry has its place where all have theirs
-pub next_fits : (width i count start now : ℕ) → i < count → now ≡ start + i * width → now + width ≤ start + count * width
-next_fits width i count start now before so_far = omega (arith, add-mul i 1 width, mul-le-mul_right {m = i + 1} {n = count} width (omega arith))
 
 half_width : (narrow width : ℕ) → IsWidth narrow → IsWidth width → narrow < width → 2 * narrow ≤ width
 half_width narrow width n w less = elim n [

@@ -182,24 +182,75 @@ pub(crate) fn pack_digits<T: Digit>(
     Ok(())
 }
 
-// Appends the lowest digits of a byte.
-#[inline(always)]
-fn push_digits_of<T: Digit>(base: Base, byte: u8, count: usize, out: &mut Vec<T>)
-    requires room { vec_len out.old + count ≤ vec_capacity out.old }
-    requires in_limit { radix base ≤ T.limit }
-    ensures items { map T.digit_of out.new.items ≡ map T.digit_of out.old.items ++ map (digit (radix base) byte) (range_with_len 0 count) }
-    ensures capacity { vec_capacity out.new ≡ vec_capacity out.old }
+// Writes the lowest digits of a byte over as many entries.
+fn put_digits_of<T: Digit, const RADIX: u16>(byte: u8, entries: &mut [T])
+    requires some { 0 < RADIX }
+    requires few { RADIX ≤ 256 }
+    requires in_limit { RADIX ≤ T.limit }
+    ensures { map T.digit_of entries.new ≡ map (digit RADIX byte) (range_with_len 0 (length entries.old)) }
 {
-    let radix = base.radix();
     let mut rest = u16::from(byte);
-    for _place in 0..count {
-        out.push_reserved(T::from_digit((rest % radix) as u8));
-        rest /= radix;
+    for place in 0..entries.len() {
+        entries[place] = T::from_digit((rest % RADIX) as u8);
+        rest /= RADIX;
     }
 }
 
-// So many entries, from bytes that hold them and no more: those of whole bytes first.
-#[inline(always)]
+// Writes all digits of a byte over as many entries.
+fn put_byte<T: Digit, const RADIX: u16>(byte: u8, entries: &mut [T])
+    requires some { 0 < RADIX }
+    requires few { RADIX ≤ 256 }
+    requires in_limit { RADIX ≤ T.limit }
+    requires bits { RADIX ≡ 2 → length entries.old ≡ 8 }
+    ensures { map T.digit_of entries.new ≡ map (digit RADIX byte) (range_with_len 0 (length entries.old)) }
+{
+    if RADIX == 2 {
+        T::put_bits(byte, entries);
+    } else {
+        put_digits_of::<T, RADIX>(byte, entries);
+    }
+}
+
+// Writes the digits of bytes that hold so many entries and no more over them: those of whole bytes first. The compiler
+// knows the radix and how many digits a byte has, and divides by no other number.
+fn put_groups<T: Digit, const RADIX: u16, const IN_BYTE: usize>(
+    _base: Base,
+    packed: &[u8],
+    entries: &mut [T],
+)
+    requires radix { RADIX ≡ radix _base }
+    requires in_byte { IN_BYTE ≡ digits_in_byte _base }
+    requires size { length packed.now ≡ div_ceil (length entries.old) (digits_in_byte _base) }
+    requires in_limit { radix _base ≤ T.limit }
+    ensures { SpellsDigits _base packed.now (map T.digit_of entries.new) }
+{
+    let whole = entries.len() / IN_BYTE;
+    for byte in 0..whole {
+        let start = byte * IN_BYTE;
+        put_byte::<T, RADIX>(packed[byte], &mut entries[start..start + IN_BYTE]);
+    }
+    if whole < packed.len() {
+        put_digits_of::<T, RADIX>(packed[whole], &mut entries[whole * IN_BYTE..]);
+    }
+}
+
+// The same at each base.
+fn put_digits<T: Digit>(base: Base, packed: &[u8], entries: &mut [T])
+    requires size { length packed.now ≡ div_ceil (length entries.old) (digits_in_byte base) }
+    requires in_limit { radix base ≤ T.limit }
+    ensures { SpellsDigits base packed.now (map T.digit_of entries.new) }
+{
+    match base {
+        Base::Whole => put_groups::<T, 256, 1>(base, packed, entries),
+        Base::Sixteen => put_groups::<T, 16, 2>(base, packed, entries),
+        Base::Six => put_groups::<T, 6, 3>(base, packed, entries),
+        Base::Four => put_groups::<T, 4, 4>(base, packed, entries),
+        Base::Three => put_groups::<T, 3, 5>(base, packed, entries),
+        Base::Two => put_groups::<T, 2, 8>(base, packed, entries),
+    }
+}
+
+// So many entries, from bytes that hold them and no more. They are written over zeros.
 fn unpacked_digits<T: Digit>(
     alloc: Global,
     base: Base,
@@ -212,35 +263,9 @@ fn unpacked_digits<T: Digit>(
     ensures spelled { IfOk result (λ entries. SpellsDigits base packed.now (map T.digit_of entries.items)) }
     ensures empty { count ≡ 0 → IsOk result }
 {
-    let in_byte = base.digits_in_byte();
     let mut entries = Vec::with_capacity(alloc, count)?;
-    let (whole, last) = packed.split_at(count / in_byte);
-    for byte in whole {
-        push_digits_of(base, *byte, in_byte, &mut entries);
-    }
-    if last.is_empty() {
-        return Ok(entries);
-    }
-    push_digits_of(base, last[0], count % in_byte, &mut entries);
-    Ok(entries)
-}
-
-// Reads so many entries from the front of the input.
-#[inline(always)]
-fn read_digits<T: Digit>(
-    alloc: Global,
-    base: Base,
-    input: &mut &[u8],
-    count: usize,
-) -> Result<Vec<T>, Error>
-    requires { radix base ≤ T.limit }
-    ensures read { IfOk result (λ entries. Reads (λ bytes read. SpellsDigits base bytes (map T.digit_of read)) count input.old.now entries.items input.new.now) }
-    ensures refused { IfErr result (λ e. Names e.reason (digits_fault base count input.old.now)) }
-    ensures rest { OnErr result (IsEndOf input.old.now input.new.now) }
-    ensures empty { count ≡ 0 → IsOk result }
-{
-    let packed = consume_bytes(input, count.div_ceil(base.digits_in_byte()))?;
-    let entries = unpacked_digits(alloc, base, packed, count)?;
+    entries.resize(count, T::from_digit(0)).unwrap();
+    put_digits(base, packed, entries.as_mut_slice());
     Ok(entries)
 }
 
@@ -259,13 +284,7 @@ pub(crate) fn unpack_digits<T: Digit>(
     ensures rest { OnErr result (IsEndOf input.old.now input.new.now) }
     ensures empty { count ≡ 0 → IsOk result }
 {
-    // A loop for each base: the compiler then knows the radix, and divides by no other number.
-    match base {
-        Base::Whole => read_digits(alloc, Base::Whole, input, count),
-        Base::Sixteen => read_digits(alloc, Base::Sixteen, input, count),
-        Base::Six => read_digits(alloc, Base::Six, input, count),
-        Base::Four => read_digits(alloc, Base::Four, input, count),
-        Base::Three => read_digits(alloc, Base::Three, input, count),
-        Base::Two => read_digits(alloc, Base::Two, input, count),
-    }
+    let packed = consume_bytes(input, count.div_ceil(base.digits_in_byte()))?;
+    let entries = unpacked_digits(alloc, base, packed, count)?;
+    Ok(entries)
 }

@@ -1,7 +1,7 @@
 //! Appending the column of some integers.
-ghost use Rattle.std.specs.Prelude.{◌≡◌, ◌≢◌, ◌+◌, ◌-◌, ◌*◌, ◌%◌, ◌^◌, ◌<◌, ◌≤◌, ◌∷◌, ◌++◌, true, false, length, map, vec_len, vec_capacity, IsOk, OnOk, IfErr};
+ghost use Rattle.std.specs.Prelude.{◌≡◌, ◌≢◌, ◌+◌, ◌-◌, ◌*◌, ◌%◌, ◌^◌, ◌<◌, ◌≤◌, ◌∷◌, ◌++◌, true, false, length, map, All, vec_len, vec_capacity, IsTrue, IsOk, OnOk, IfErr};
 ghost use Rattle.bitcode_columns.specs.LittleEndian.{number_bytes};
-ghost use Rattle.bitcode_columns.specs.Ints.{residue, least, greatest};
+ghost use Rattle.bitcode_columns.specs.Ints.{IsNumber, residue, least, greatest};
 ghost use Rattle.bitcode_columns.specs.Narrowing.{above, plain_width, shifted_width, narrow_width, TakesNoScratch, IsFrontOf};
 ghost use Rattle.bitcode_columns.specs.IntWidths.{IsWidth};
 ghost use Rattle.bitcode_columns.specs.IntColumn.{halvings, narrow_text, int_level_for, text_at_int_level, int_text};
@@ -13,6 +13,9 @@ use crate::minmax::bounds;
 use crate::pack_ints::width::{is_bare, is_shifted, plain_width, shifted_width, tag_for};
 use crate::pack_ints::write::{write_column, write_narrow, write_numbers};
 use std::alloc::Global;
+
+// So many entries are looked at before all are.
+const SAMPLE: usize = 16;
 
 // Appends the entries, each less the least one, at a narrow width, behind a tag and the least one.
 fn append_shifted<T: Int>(
@@ -51,6 +54,29 @@ fn append_plain<T: Int>(
     write_narrow(alloc, entries, T::Unsigned::from_wide(0), narrow, out)
 }
 
+// Each entry is a number of its type.
+fn known_numbers<T: Int>(entries: &[T])
+    ensures { All (λ e. IsNumber T.width T.signed (T.number e)) entries.now }
+{
+    for entry in entries {
+        let _in_range = entry.to_unsigned();
+    }
+}
+
+// Whether the first entries lie so far apart that all take the whole width, with the least one and without it. The others
+// need not be looked at then.
+fn take_whole_width<T: Int>(entries: &[T]) -> bool
+    requires { 0 < length entries.now }
+    ensures plain { IsTrue result → plain_width T.width (least (map T.number entries.now)) (greatest (map T.number entries.now)) ≡ T.width }
+    ensures shifted { IsTrue result → shifted_width (least (map T.number entries.now)) (greatest (map T.number entries.now)) ≡ T.width }
+    ensures in_range { All (λ e. IsNumber T.width T.signed (T.number e)) entries.now }
+{
+    known_numbers(entries);
+    let (sample, _) = entries.split_at(entries.len().min(SAMPLE));
+    let (least, greatest) = bounds(sample).unwrap();
+    shifted_width(least, greatest) == T::width()
+}
+
 // Appends the entries behind a tag, in the form that takes the narrower numbers.
 fn append_tagged<T: Int>(alloc: Global, entries: &[T], out: &mut Vec<u8>) -> Result<(), Error>
     requires { 0 < length entries.now }
@@ -61,6 +87,9 @@ fn append_tagged<T: Int>(alloc: Global, entries: &[T], out: &mut Vec<u8>) -> Res
         narrow_width (length entries.now) (plain_width T.width low high) (shifted_width low high) ≢ 1
         → vec_len out.old + (1 + length entries.now * T.width) ≤ vec_capacity out.old → IsOk result }
 {
+    if take_whole_width(entries) {
+        return append_plain(alloc, entries, T::width(), out);
+    }
     let (least, greatest) = bounds(entries).unwrap();
     let plain = plain_width(least, greatest);
     let shifted = shifted_width(least, greatest);

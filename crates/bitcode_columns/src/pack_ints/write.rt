@@ -12,16 +12,11 @@ use crate::ints::{Byte, Int, SizedUInt};
 use crate::pack::pack_bytes;
 use crate::refuse::err;
 use std::alloc::Global;
-use std::mem::replace;
 
-// So many numbers are written as one block, of at most so many bytes.
-const IN_BLOCK: usize = 64;
+// So many numbers are written as one block, over zeros that have just been made: those are then near the processor still.
+const IN_BLOCK: usize = 512;
 
-const BLOCK: usize = 1024;
-
-// Writes how far each entry lies above a base over as many bytes as they take at a narrow type. It is inlined, so that the
-// compiler knows how many they are.
-#[inline(always)]
+// Writes how far each entry lies above a base over as many bytes as they take at a narrow type.
 fn put_numbers<T: Int, N: SizedUInt>(entries: &[T], base: T::Unsigned, bytes: &mut [u8])
     requires { length bytes.old ≡ length entries.now * N.width }
     ensures written { bytes.new ≡ raw_text N.width (map (λ e. above T.width (T.Unsigned.value base) (T.number e) % 256 ^ N.width) entries.now) }
@@ -37,22 +32,20 @@ fn put_numbers<T: Int, N: SizedUInt>(entries: &[T], base: T::Unsigned, bytes: &m
 
 // Appends a block of entries, each as how far it lies above a base, in room that is there.
 fn push_block<T: Int, N: SizedUInt>(entries: &[T], base: T::Unsigned, out: &mut Vec<u8>)
-    requires size { length entries.now ≡ 64 }
-    requires room { vec_len out.old + length entries.now * N.width ≤ vec_capacity out.old }
+    requires { vec_len out.old + length entries.now * N.width ≤ vec_capacity out.old }
     ensures written { out.new.items ≡ out.old.items ++ raw_text N.width (map (λ e. above T.width (T.Unsigned.value base) (T.number e) % 256 ^ N.width) entries.now) }
     ensures in_range { All (λ e. IsNumber T.width T.signed (T.number e)) entries.now }
     ensures len { vec_len out.new ≡ vec_len out.old + length entries.now * N.width }
     ensures capacity { vec_capacity out.old ≤ vec_capacity out.new }
 {
-    let mut block = [0; BLOCK];
-    let bytes = &mut block[..IN_BLOCK * N::size()];
-    put_numbers::<T, N>(entries, base, bytes);
-    out.extend_from_slice(bytes).unwrap();
+    let start = out.len();
+    out.resize(start + entries.len() * N::size(), 0).unwrap();
+    put_numbers::<T, N>(entries, base, &mut out.as_mut_slice()[start..]);
 }
 
 // Appends how far each entry of whole blocks lies above a base, in room that is there.
 fn push_blocks<T: Int, N: SizedUInt>(entries: &[T], base: T::Unsigned, out: &mut Vec<u8>)
-    requires whole { length entries.now % 64 ≡ 0 }
+    requires whole { length entries.now % 512 ≡ 0 }
     requires room { vec_len out.old + length entries.now * N.width ≤ vec_capacity out.old }
     ensures written { out.new.items ≡ out.old.items ++ raw_text N.width (map (λ e. above T.width (T.Unsigned.value base) (T.number e) % 256 ^ N.width) entries.now) }
     ensures in_range { All (λ e. IsNumber T.width T.signed (T.number e)) entries.now }
@@ -67,32 +60,16 @@ fn push_blocks<T: Int, N: SizedUInt>(entries: &[T], base: T::Unsigned, out: &mut
     }
 }
 
-// Appends how far each entry lies above a base, in the bytes of a narrow type, one by one in room that is there.
-//
-// The list is handed over and given back: what holds it is then known to lie apart from its bytes, and its length is
-// kept in a register while they are written.
-fn push_each<T: Int, N: SizedUInt>(entries: &[T], base: T::Unsigned, mut out: Vec<u8>) -> Vec<u8>
-    requires { vec_len out + length entries.now * N.width ≤ vec_capacity out }
-    ensures written { result.items ≡ out.items ++ raw_text N.width (map (λ e. above T.width (T.Unsigned.value base) (T.number e) % 256 ^ N.width) entries.now) }
-    ensures in_range { All (λ e. IsNumber T.width T.signed (T.number e)) entries.now }
-{
-    for entry in entries {
-        let distance = entry.to_unsigned().wrapping_sub(base);
-        N::from_wide(distance.to_wide()).push(&mut out);
-    }
-    out
-}
-
 // Appends how far each entry lies above a base, in the bytes of a narrow type, in room that is there: whole blocks of them,
-// and the rest one by one.
-fn push_numbers<T: Int, N: SizedUInt>(entries: &[T], base: T::Unsigned, mut out: Vec<u8>) -> Vec<u8>
-    requires { vec_len out + length entries.now * N.width ≤ vec_capacity out }
-    ensures written { result.items ≡ out.items ++ raw_text N.width (map (λ e. above T.width (T.Unsigned.value base) (T.number e) % 256 ^ N.width) entries.now) }
+// and the rest.
+fn push_numbers<T: Int, N: SizedUInt>(entries: &[T], base: T::Unsigned, out: &mut Vec<u8>)
+    requires { vec_len out.old + length entries.now * N.width ≤ vec_capacity out.old }
+    ensures written { out.new.items ≡ out.old.items ++ raw_text N.width (map (λ e. above T.width (T.Unsigned.value base) (T.number e) % 256 ^ N.width) entries.now) }
     ensures in_range { All (λ e. IsNumber T.width T.signed (T.number e)) entries.now }
 {
     let (blocks, rest) = entries.split_at(entries.len() / IN_BLOCK * IN_BLOCK);
-    push_blocks::<T, N>(blocks, base, &mut out);
-    push_each::<T, N>(rest, base, out)
+    push_blocks::<T, N>(blocks, base, out);
+    push_block::<T, N>(rest, base, out);
 }
 
 // Appends how far each entry lies above a base, in the bytes of a narrow type.
@@ -113,9 +90,7 @@ pub(crate) fn write_numbers<T: Int, N: SizedUInt>(
         return err(Reason::OutOfMemory);
     };
     out.reserve(size)?;
-    let alloc = *out.allocator();
-    let held = replace(out, Vec::new(alloc));
-    *out = push_numbers::<T, N>(entries, base, held);
+    push_numbers::<T, N>(entries, base, out);
     Ok(())
 }
 

@@ -1,5 +1,5 @@
-use Rattle.std.proofs.Common.{◌≡◌, ◌+◌, ◌*◌, ◌/◌, ◌%◌, ◌^◌, ◌<◌, ◌≤◌, ◌++◌, length, take, drop, map, All, sym, ap, ◌∙◌, subst, arith}
-use Rattle.std.proofs.Math.Nat.{add-mul, div-mul-le_self, mul-le-mul_right}
+use Rattle.std.proofs.Common.{◌≡◌, ◌+◌, ◌*◌, ◌%◌, ◌^◌, length, All, sym, ap, subst, arith}
+use Rattle.std.proofs.Math.Nat.{add-mul, mul-le-mul_right}
 use Rattle.std.proofs.lemmas.List.Elements.{All-append}
 use Rattle.bitcode_columns.specs.Ints.{IsNumber}
 use Rattle.bitcode_columns.specs.Narrowing.{above}
@@ -12,8 +12,8 @@ push_blocks-requires g c = record {
   room = omega (arith, c.requires, mul-le-mul_right {m = length c.split_at.result.0.now} {n = length c.args.entries.now} g.N.SizedUInt.width (omega (arith, c.split_at.ensures.front_len)));
 }
 
-pub push_each-requires : goal.push_each-requires
-push_each-requires g c =
+pub push_block-requires : goal.push_block-requires
+push_block-requires g c =
     let front = c.split_at.result.0.now in
     let back = c.split_at.result.1.now in
     let both : length front + length back ≡ length c.args.entries.now = omega (arith, c.split_at.ensures.front_len, c.split_at.ensures.back_len) in
@@ -35,6 +35,6 @@ returns g c =
     let F = λ (e : g.row.T.Denot). above g.T.Int.width (g.T.Unsigned.SizedUInt.value c.args.base) (g.T.Int.number e) % 256 ^ width in
     let P : g.row.T.Denot → Type 0 = λ e. IsNumber g.T.Int.width g.T.Int.signed (g.T.Int.number e) in
     record {
-      written = raw_joined width F entries front back c.args.out.items c.push_blocks.new.out.items c.push_each.result.items c.split_at.ensures.by_index.0 c.push_blocks.ensures.written c.push_each.ensures.written;
-      in_range = subst (All P) (sym c.split_at.ensures.by_index.0) (All-append P front back c.push_blocks.ensures.in_range c.push_each.ensures.in_range);
+      written = raw_joined width F entries front back c.args.out.now.items c.push_blocks.new.out.items c.push_block.new.out.items c.split_at.ensures.by_index.0 c.push_blocks.ensures.written c.push_block.ensures.written;
+      in_range = subst (All P) (sym c.split_at.ensures.by_index.0) (All-append P front back c.push_blocks.ensures.in_range c.push_block.ensures.in_range);
     }
