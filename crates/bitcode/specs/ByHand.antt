@@ -28,6 +28,9 @@ pub use Rattle.bitcode_shapes.specs.SameArrays.{one_datum_same_arrays, one_listi
 -- Shapes of choices, and what they list and make:
 pub use Rattle.bitcode_shapes.specs.Shape.{choice_shape, shape_and, no_shapes}
 pub use Rattle.bitcode_shapes.specs.Choices.{IsVariantValue, ListsChoice, ListsVariant, ListsLast, MakesChoice, MakesVariant, MakesLast, SameVariant}
+-- The payloads of an enum's variants: that of the first one, or one of the rest; and which value stands for one:
+pub use Rattle.bitcode_enums.specs.declared.variants.FirstOr.{FirstOr}
+pub use Rattle.bitcode_enums.specs.Variants.{stood_for}
 -- The columns that encoders hold, and the data that decoders hold:
 pub use Rattle.bitcode_coder.specs.Columns.{no_columns, two}
 pub use Rattle.bitcode_tuples.specs.Pairs.{pairs_of}

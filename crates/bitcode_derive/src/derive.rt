@@ -1,6 +1,10 @@
 //! The types that have coders.
 use bitcode_coder::coder::{Buffer, Decoder, Encoder, View};
+use bitcode_parts::choices::bare::BareEncoder;
+use bitcode_parts::choices::variant::VariantDecoder;
+use bitcode_shapes::bare_variants::Bare;
 use bitcode_shapes::shaped::{Made, Shaped};
+use bitcode_shapes::stands_for::HeldIn;
 
 /// Names the encoder of a type.
 ///
@@ -59,3 +63,46 @@ where
 /// impl DecodeOwned for Meters {}
 /// ```
 pub trait DecodeOwned: Made {}
+
+/// A type whose coders are those of the struct that holds its values, as an enum's are.
+///
+/// It is a mark alone, in the place of [`HasEncoder`] and [`HasDecoder`]:
+///
+/// ```
+/// impl HasCoders for Light {}
+/// ```
+pub trait HasCoders: HeldIn {}
+
+/// Names the encoder of the values that a struct holds.
+pub trait HolderEncoder {
+    /// The columns that the values are written to.
+    type Encoder;
+}
+
+/// Names the decoder of the values that a struct holds, for an input that outlives `'a`.
+pub trait HolderDecoder<'a> {
+    /// The data that the values are made of.
+    type Decoder;
+}
+
+impl<T: HasCoders> HasEncoder for T
+where
+    T::Holder: HolderEncoder,
+{
+    type Encoder = <T::Holder as HolderEncoder>::Encoder;
+}
+
+impl<'a, T: HasCoders> HasDecoder<'a> for T
+where
+    T::Holder: HolderDecoder<'a>,
+{
+    type Decoder = <T::Holder as HolderDecoder<'a>>::Decoder;
+}
+
+impl<const N: usize, T> HolderEncoder for Bare<N, T> {
+    type Encoder = BareEncoder<N>;
+}
+
+impl<'a, const N: usize, T> HolderDecoder<'a> for Bare<N, T> {
+    type Decoder = VariantDecoder<'a, N, true>;
+}

@@ -14,7 +14,7 @@ use Rattle.bitcode_coder.specs.Coder.{IsReadingRefusal, TakesDatum}
 use Rattle.bitcode_parts.specs.Payloads.{payloads_of, choices_of, ReadsPayloads, IsPayloadsRefusal, FaultsBehindPayloads}
 use Rattle.bitcode_parts.proofs.ChoiceLemmas.{choices_of-next, choices_of-none}
 use Rattle.bitcode_parts.proofs.ChoiceReadingLemmas.{reads_choices, refuses_variants, refuses_payloads, refuses_first, refuses_later}
-use Rattle.bitcode_enums.specs.Reading.{TakesPayload, CountsEach, FirstOrFault}
+use Rattle.bitcode_enums.specs.Reading.{HoldsNone, TakesPayload, CountsEach, FirstOrFault}
 
 -- ---- the payloads of variants
 
@@ -22,6 +22,15 @@ use Rattle.bitcode_enums.specs.Reading.{TakesPayload, CountsEach, FirstOrFault}
 pub counts_each : (count : ℕ) (entries given counts : List ℕ) → AreCounts count entries counts → given ≡ counts → CountsEach entries given
 counts_each count entries given counts are is =
     subst (CountsEach entries) (sym is) (λ variant below. are.each variant (let size = are.size in omega (arith, size, below)))
+
+-- no payload of the variants is left
+pub holds_none_last : (ds : List Datum) → ds ≡ [] → HoldsNone (ds ∷ [])
+holds_none_last ds none zero = none
+holds_none_last ds none (suc i) = refl
+
+pub holds_none_first : (ds : List Datum) (lists : List (List Datum)) → ds ≡ [] → HoldsNone lists → HoldsNone (ds ∷ lists)
+holds_none_first ds lists none later zero = none
+holds_none_first ds lists none later (suc i) = later i
 
 next_is : (i : ℕ) → i + 1 ≡ suc i
 next_is i = omega arith

@@ -119,12 +119,12 @@ module _ {V : Type 0} (index : V → ℕ) (lists : V → ℕ → Datum → Type 
         (overflows_choice (ListsChoice lists) ss v variant h.payload (choice_listing h.payload h.listing) entries old
         (subst (λ n. OverflowsAtPayload ss 0 n h.payload old) at_variant (h.overflows 0)))
 
--- ---- a type that stands for its variants
+-- ---- a type that stands for what holds a payload
 
-module _ {T V : Type 0} (variant : T → V) (lists_t : T → Datum → Type 0) (lists_v : V → ℕ → Datum → Type 0) (s : Shape) (ss : Shapes) (is : s ≡ choice_shape ss)
-    (lists : (t : T) (d : Datum) → ListsChoice lists_v (variant t) d → lists_t t d) (t : T) (old : Columns) where
-  pub joins_as_variant : (new : Columns) → JoinsListing (ListsChoice lists_v) (choice_shape ss) (variant t) old new → JoinsListing lists_t s t old new
+module _ {T V : Type 0} (payload : T → V) (lists_t : T → Datum → Type 0) (lists_v : V → ℕ → Datum → Type 0) (s : Shape) (ss : Shapes) (is : s ≡ choice_shape ss)
+    (lists : (t : T) (d : Datum) → ListsChoice lists_v (payload t) d → lists_t t d) (t : T) (old : Columns) where
+  pub joins_as_variant : (new : Columns) → JoinsListing (ListsChoice lists_v) (choice_shape ss) (payload t) old new → JoinsListing lists_t s t old new
   joins_as_variant new h = subst (λ x. JoinsListing lists_t x t old new) (sym is) (record { datum = h.datum; listing = lists t h.datum h.listing; joined = h.joined; fits = h.fits })
 
-  pub overflows_as_variant : OverflowsWithListing (ListsChoice lists_v) (choice_shape ss) (variant t) old → OverflowsWithListing lists_t s t old
+  pub overflows_as_variant : OverflowsWithListing (ListsChoice lists_v) (choice_shape ss) (payload t) old → OverflowsWithListing lists_t s t old
   overflows_as_variant h = subst (λ x. OverflowsWithListing lists_t x t old) (sym is) (record { datum = h.datum; listing = lists t h.datum h.listing; overflows = h.overflows })

@@ -1,5 +1,5 @@
 -- The payloads of variants are read one variant after the other, and taken from the list of their variant.
-use Rattle.std.specs.Prelude.{◌≡◌, ℕ, suc, ◌<◌, List, ◌∷◌, length, slice_index, slice_set, ◌⊎◌}
+use Rattle.std.specs.Prelude.{◌≡◌, ℕ, suc, ◌<◌, List, [], ◌∷◌, length, slice_index, slice_set, ◌⊎◌}
 use Rattle.bitcode_columns.specs.declared.error.Reason.{Reason}
 use Rattle.bitcode_columns.specs.Histogram.{count_of}
 use Rattle.bitcode_shapes.specs.Datum.{Datum}
@@ -10,6 +10,10 @@ use Rattle.bitcode_parts.specs.Payloads.{payloads_of, FaultsBehindVariants, Faul
 -- of each variant that has a place there are so many
 abbrev pub CountsEach : (variants counts : List ℕ) → Type 0
 CountsEach variants counts = (variant : ℕ) → variant < length counts → slice_index counts variant ≡ count_of variant variants
+
+-- no payload of any variant is left
+abbrev pub HoldsNone : List (List Datum) → Type 0
+HoldsNone lists = (variant : ℕ) → payloads_of variant lists ≡ []
 
 -- the next payload of a variant was taken, and the value is made of it
 pub record TakesPayload {V : Type 0} (makes : ℕ → Datum → V → Type 0) (v : V) (variant : ℕ) (old new : List (List Datum)) : Type 0 where

@@ -21,3 +21,7 @@ first_or_found (inr r) = (Rest r, refl)
 abbrev pub first_or_of : {A B R S : Type 0} → (A → B) → (R → S) → FirstOr A R → FirstOr B S
 first_or_of of_first of_rest (First a) = First (of_first a)
 first_or_of of_first of_rest (Rest r) = Rest (of_rest r)
+
+-- what is made of some payload is stood for by what that payload is stood for by
+pub stood_for : {T V C : Type 0} {parts : T → C} (make : V → C) → ((v : V) → (t : T) × (parts t ≡ make v)) → (v : V) → (t : T) × (parts t ≡ make v)
+stood_for make found v = found v

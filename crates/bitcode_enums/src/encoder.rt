@@ -8,12 +8,13 @@ ghost use Rattle.bitcode_parts.specs.Variants.{written_variants, variant_room, v
 ghost use Rattle.bitcode_enums.specs.Writing.{variant_columns};
 ghost use Rattle.bitcode_enums.specs.WritingLaws.{enum_of_shape};
 
+use crate::choice::HoldsPayload;
 use crate::fields::VariantFields;
-use crate::one_of::{ShapedOneOf, StandsForVariant};
 use crate::payloads::{PayloadColumns, PayloadEncoder};
 use bitcode_coder::coder::{Buffer, Encoder, HoldsColumns};
 use bitcode_columns::error::Error;
 use bitcode_parts::choices::variant::VariantEncoder;
+use bitcode_shapes::stands_for::StandsFor;
 use std::alloc::Global;
 
 /// The columns of an enum of `N` variants, 2 to 256: its variants, and behind them the columns of its payloads.
@@ -104,7 +105,10 @@ pub fn encode_variant_fields<const N: usize, B: VariantFields, S: PayloadEncoder
 ///     }
 /// }
 /// ```
-pub trait EncodeVariant<const N: usize, S: PayloadColumns<Self::Variants>>: StandsForVariant<N> {
+pub trait EncodeVariant<
+    const N: usize,
+    S: PayloadColumns<<Self::Parts as HoldsPayload<N>>::Variants>,
+>: StandsFor<Parts: HoldsPayload<N>> {
     /// Writes the variant of the value, and joins the columns of its payload to those so far. Room for the variant was
     /// reserved.
     ///
@@ -115,17 +119,20 @@ pub trait EncodeVariant<const N: usize, S: PayloadColumns<Self::Variants>>: Stan
         payloads: &mut S,
     ) -> Result<(), Error>
         requires { 0 < variant_room variants.old }
-        ensures joined { OnOk result (JoinsListing (ListsChoice Self.Variants.lists) (choice_shape Self.Variants.shapes) (Self.variant self.now) (variant_columns N (written_variants variants.old) (S.columns payloads.old)) (variant_columns N (written_variants variants.new) (S.columns payloads.new))) }
+        ensures joined { OnOk result (JoinsListing (ListsChoice Self.Parts.Variants.lists) (choice_shape Self.Parts.Variants.shapes) (Self.Parts.payload (Self.parts self.now)) (variant_columns N (written_variants variants.old) (S.columns payloads.old)) (variant_columns N (written_variants variants.new) (S.columns payloads.new))) }
         ensures room { variant_room variants.new + 1 ≡ variant_room variants.old }
         ensures form { emptied (S.columns payloads.new) ≡ emptied (S.columns payloads.old) }
-        ensures refused { IfErr result (λ e. IsWritingRefusal e.reason (OverflowsWithListing (ListsChoice Self.Variants.lists) (choice_shape Self.Variants.shapes) (Self.variant self.now) (variant_columns N (written_variants variants.old) (S.columns payloads.old)))) };
+        ensures refused { IfErr result (λ e. IsWritingRefusal e.reason (OverflowsWithListing (ListsChoice Self.Parts.Variants.lists) (choice_shape Self.Parts.Variants.shapes) (Self.Parts.payload (Self.parts self.now)) (variant_columns N (written_variants variants.old) (S.columns payloads.old)))) };
 }
 
 impl<
     const N: usize,
-    T: ShapedOneOf<N> + EncodeVariant<N, S>,
-    S: Buffer + PayloadColumns<T::Variants>,
-> Encoder<T> for EnumEncoder<N, S> {
+    T: EncodeVariant<N, S>,
+    S: Buffer + PayloadColumns<<T::Parts as HoldsPayload<N>>::Variants>,
+> Encoder<T> for EnumEncoder<N, S>
+where
+    T::Parts: HoldsPayload<N>,
+{
     ghost writes_free = { false };
 
     fn encode(&mut self, t: &T) -> Result<(), Error> {
@@ -136,7 +143,7 @@ impl<
         false
     }
 
-    ghost of_shape = { λ e. enum_of_shape T.Variants.shapes T.shape N (S.columns e.payloads) T.count T.has_shape (S.of_shapes e.payloads 0) };
+    ghost of_shape = { λ e. enum_of_shape T.Parts.Variants.shapes T.Parts.shape N (S.columns e.payloads) T.Parts.count T.Parts.has_shape (S.of_shapes e.payloads 0) };
 
     ghost surely = { λ e n h. absurd h };
 }

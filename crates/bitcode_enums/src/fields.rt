@@ -2,7 +2,6 @@
 ghost use Rattle.std.specs.Prelude.{◌≡◌, ◌+◌, ◌≤◌};
 ghost use Rattle.bitcode_shapes.specs.Shape.{variant_count};
 
-use crate::one_of::StandsForVariant;
 use crate::variants::{FirstOr, Last, ShapedVariants};
 use bitcode_tuples::fields::Fields;
 
@@ -64,12 +63,14 @@ impl<F: Fields, R: VariantFields> VariantFields for FirstOr<F, R> {
     }
 }
 
-/// An enum of `N` variants whose values lend the fields of their payloads.
+/// An enum whose values lend the fields of their payloads, which are those of `V`.
 ///
 /// There is no reference to the tuple of a variant's fields, so it lends references to the fields:
 ///
 /// ```
-/// impl<'a> LendsVariant<'a, 2> for Shot {
+/// impl<'a> LendsVariant<'a, FirstOr<(), Last<u8>>> for Shot {
+///     ghost variant = { λ t. (⟦<Shot as StandsFor>⟧.parts t).payload };
+///
 ///     type Lent = FirstOr<&'a (), Last<&'a u8>>;
 ///
 ///     fn lent(&'a self) -> Self::Lent {
@@ -80,11 +81,14 @@ impl<F: Fields, R: VariantFields> VariantFields for FirstOr<F, R> {
 ///     }
 /// }
 /// ```
-pub trait LendsVariant<'a, const N: usize>: StandsForVariant<N> {
+pub trait LendsVariant<'a, V: ShapedVariants> {
+    // the payload that a value stands for
+    ghost variant: { Self → V };
+
     /// References to the fields of each variant.
-    type Lent: VariantFields<Whole = Self::Variants>;
+    type Lent: VariantFields<Whole = V>;
 
     /// References to the fields of this value.
     fn lent(&'a self) -> Self::Lent
-        ensures { Self.Lent.whole result ≡ Self.variant self.now };
+        ensures { Self.Lent.whole result ≡ variant self.now };
 }

@@ -6,7 +6,7 @@ ghost use Rattle.bitcode_columns.specs.Reading.{IsEndOf};
 ghost use Rattle.bitcode_shapes.specs.Datum.{Datum};
 ghost use Rattle.bitcode_shapes.specs.Shape.{Shapes, no_shapes, shape_and, variant_count};
 ghost use Rattle.bitcode_parts.specs.Payloads.{payloads_of, ReadsPayloads, IsPayloadsRefusal};
-ghost use Rattle.bitcode_enums.specs.Reading.{TakesPayload, CountsEach, FirstOrFault};
+ghost use Rattle.bitcode_enums.specs.Reading.{HoldsNone, TakesPayload, CountsEach, FirstOrFault};
 ghost use Rattle.bitcode_enums.specs.ReadingLaws.{same_last_shapes, same_first_shapes};
 
 use crate::variants::{FirstOr, Last, MadeVariants};
@@ -34,6 +34,7 @@ pub trait PayloadView<'a>: HoldsPayloads {
 
     /// Holds nothing. Takes no memory.
     fn new(alloc: Global) -> Self
+        ensures held { HoldsNone (Self.lists result) }
         ensures owned { Self.owned result ≡ 0 };
 
     /// Reads the payloads of variants, of which there are so many each. The index of the first one is `first`.

@@ -11,21 +11,21 @@ returns-in_err-populate-clause-refused g c =
     let refused = err_from_is_err_and c.from_residual.result c.from_residual.ensures.1 in
     rw (refused.1, refused.2) (
     refuses_enum_variants g.D.HoldsPayloads.shapes g.row.N c.args.k c.args.input.now.now
-    (ap variant_count g.met.D.PayloadDecoder.same_shapes ∙ g.met.T.StandsForVariant.count) _ c.in_err-populate.ensures.refused
+    (ap variant_count g.met.D.PayloadDecoder.same_shapes ∙ g.met.M.NamesVariants.count) _ c.in_err-populate.ensures.refused
     )
 
 pub returns-clause-read : goal.returns-clause-read
 returns-clause-read g c =
     on_ok_weaker c.populate-2.result
     (reads_enum g.D.HoldsPayloads.shapes g.row.N c.args.k c.args.input.now.now
-    (ap variant_count g.met.D.PayloadDecoder.same_shapes ∙ g.met.T.StandsForVariant.count) _ _ c.in_ok-populate.ensures.read _ _)
+    (ap variant_count g.met.D.PayloadDecoder.same_shapes ∙ g.met.M.NamesVariants.count) _ _ c.in_ok-populate.ensures.read _ _)
     (c.populate-2.ensures.read _ (counts_each _ _ _ _ (c.in_ok-populate.ensures.counts refl) c.counts.ensures))
 
 pub returns-clause-refused : goal.returns-clause-refused
 returns-clause-refused g c =
     IfErr-weaker c.populate-2.result _ _
     (λ e. refuses_enum_payloads g.D.HoldsPayloads.shapes g.row.N c.args.k c.args.input.now.now
-    (ap variant_count g.met.D.PayloadDecoder.same_shapes ∙ g.met.T.StandsForVariant.count) _ _ c.in_ok-populate.ensures.read e.reason)
+    (ap variant_count g.met.D.PayloadDecoder.same_shapes ∙ g.met.M.NamesVariants.count) _ _ c.in_ok-populate.ensures.read e.reason)
     (c.populate-2.ensures.refused _ (counts_each _ _ _ _ (c.in_ok-populate.ensures.counts refl) c.counts.ensures))
 
 pub returns-clause-exact : goal.returns-clause-exact

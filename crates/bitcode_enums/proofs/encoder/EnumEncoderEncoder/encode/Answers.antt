@@ -1,4 +1,4 @@
--- A value is written as the variant that it stands for.
+-- A value is written as the variant whose payload it stands for.
 use Rattle.std.proofs.lemmas.Result.{on_ok_weaker}
 use Rattle.bitcode_columns.specs.declared.error.Error.{Error}
 use Rattle.bitcode_coder.proofs.RefusalLemmas.{refused_weaker}
@@ -8,13 +8,15 @@ use Rattle.bitcode_enums.proofs.encoder.EnumEncoderEncoder.encode.Goals as goal
 pub returns-clause-joined : goal.returns-clause-joined
 returns-clause-joined g c =
     on_ok_weaker c.encode_variant.result
-    (joins_as_variant g.T.StandsForVariant.variant g.T.Shaped.lists g.T.Variants.ShapedVariants.lists g.T.Shaped.shape g.T.Variants.ShapedVariants.shapes g.met.T.ShapedOneOf.has_shape
-    g.met.T.ShapedOneOf.lists_variant c.args.t.now _ _)
+    (joins_as_variant (λ t. g.T.Parts.HoldsPayload.payload (g.T.StandsFor.parts t)) (λ t d. g.T.Parts.Shaped.lists (g.T.StandsFor.parts t) d) g.T.Parts.Variants.ShapedVariants.lists
+    g.T.Parts.Shaped.shape g.T.Parts.Variants.ShapedVariants.shapes g.met.T.Parts.HoldsPayload.has_shape
+    (λ t d h. g.met.T.Parts.HoldsPayload.lists_payload (g.T.StandsFor.parts t) d h) c.args.t.now _ _)
     c.encode_variant.ensures.joined
 
 pub returns-clause-refused : goal.returns-clause-refused
 returns-clause-refused g c =
     refused_weaker (λ (e : Error). e.reason) c.encode_variant.result
-    (overflows_as_variant g.T.StandsForVariant.variant g.T.Shaped.lists g.T.Variants.ShapedVariants.lists g.T.Shaped.shape g.T.Variants.ShapedVariants.shapes g.met.T.ShapedOneOf.has_shape
-    g.met.T.ShapedOneOf.lists_variant c.args.t.now _)
+    (overflows_as_variant (λ t. g.T.Parts.HoldsPayload.payload (g.T.StandsFor.parts t)) (λ t d. g.T.Parts.Shaped.lists (g.T.StandsFor.parts t) d) g.T.Parts.Variants.ShapedVariants.lists
+    g.T.Parts.Shaped.shape g.T.Parts.Variants.ShapedVariants.shapes g.met.T.Parts.HoldsPayload.has_shape
+    (λ t d h. g.met.T.Parts.HoldsPayload.lists_payload (g.T.StandsFor.parts t) d h) c.args.t.now _)
     c.encode_variant.ensures.refused

@@ -1,0 +1,117 @@
+//! The coders of types without values, as enums without variants: no columns.
+ghost use Rattle.std.specs.Prelude.{◌≡◌, ◌<◌, true, false, refl, replicate};
+ghost use Rattle.bitcode_columns.specs.declared.error.Reason.TheVariants.{InvalidEnumVariant};
+ghost use Rattle.bitcode_shapes.specs.Datum.{unit};
+ghost use Rattle.bitcode_shapes.specs.Shape.{never_shape};
+ghost use Rattle.bitcode_coder.specs.Columns.{no_columns};
+ghost use Rattle.bitcode_coder.specs.Coder.{endless_room};
+
+use crate::derive::{HolderDecoder, HolderEncoder};
+use bitcode_coder::coder::{Buffer, Decoder, Encoder, HoldsColumns, HoldsData, View};
+use bitcode_columns::error::{Error, Reason};
+use bitcode_columns::refuse::err;
+use bitcode_shapes::no_variants::{Absent, NoVariants};
+use std::alloc::Global;
+
+/// The columns of a type without values: none. No value is ever written.
+///
+/// ```
+/// let nothing: AbsentEncoder = AbsentEncoder::new(alloc);
+/// nothing.collect(alloc)?; // []
+/// ```
+#[derive(Drop)]
+pub struct AbsentEncoder {}
+
+impl HoldsColumns for AbsentEncoder {
+    ghost columns = { λ e. no_columns };
+
+    ghost room = { λ e. endless_room };
+
+    ghost capacity = { λ e. 0 };
+
+    ghost surely_overflows = { λ e n. ⊥ };
+
+    ghost overflows = { λ e n. ⊥ };
+}
+
+impl Buffer for AbsentEncoder {
+    fn new(_alloc: Global) -> Self {
+        AbsentEncoder {}
+    }
+
+    fn reserve(&mut self, _n: usize) -> Result<(), Error> {
+        Ok(())
+    }
+
+    fn collect_into(&mut self, _out: &mut Vec<u8>) -> Result<(), Error> {
+        Ok(())
+    }
+
+    fn clear(&mut self) {}
+}
+
+impl<T: NoVariants> Encoder<T> for AbsentEncoder {
+    ghost writes_free = { true };
+
+    fn encode(&mut self, _t: &T) -> Result<(), Error> {
+        Ok(())
+    }
+
+    ghost of_shape = { λ e. refl };
+
+    ghost surely = { λ e n h. absurd h };
+}
+
+/// The decoder of a type without values: one or more are `invalid enum variant`.
+///
+/// ```
+/// let mut nothing: AbsentDecoder = AbsentDecoder::new(alloc);
+/// nothing.populate(&mut input, 1)?; // `invalid enum variant`
+/// ```
+#[derive(Drop)]
+pub struct AbsentDecoder {
+    left: usize,
+}
+
+impl HoldsData for AbsentDecoder {
+    ghost shape = { never_shape };
+
+    ghost held = { λ d. replicate d.left unit };
+
+    ghost owned = { λ d. 0 };
+}
+
+impl<'a> View<'a> for AbsentDecoder {
+    ghost faults = { λ reason k input. (reason ≡ InvalidEnumVariant) × (0 < k) };
+
+    fn new(_alloc: Global) -> Self {
+        AbsentDecoder { left: 0 }
+    }
+
+    fn populate(&mut self, _input: &mut &'a [u8], k: usize) -> Result<(), Error> {
+        self.left = k;
+        if k > 0 {
+            return err(Reason::InvalidEnumVariant);
+        }
+        Ok(())
+    }
+}
+
+impl<T: NoVariants> Decoder<T> for AbsentDecoder {
+    ghost makes_free = { false };
+
+    // No reading leaves a value to make.
+    fn decode(&mut self) -> Result<T, Error> {
+        err(Reason::OutOfMemory)
+    }
+
+    ghost same_shape = { refl };
+}
+
+impl<T: NoVariants> HolderEncoder for Absent<T> {
+    type Encoder = AbsentEncoder;
+}
+
+impl<'a, T: NoVariants> HolderDecoder<'a> for Absent<T> {
+    type Decoder = AbsentDecoder;
+}
