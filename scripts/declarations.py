@@ -1,4 +1,4 @@
-"""Reads declarations of structs as one writes them in Rust: what scripts/new_type reads."""
+"""Reads declarations of structs and enums as one writes them in Rust: what scripts/new_type reads."""
 
 import re
 from collections import namedtuple
@@ -13,6 +13,9 @@ Token = namedtuple("Token", "kind text line")
 Type = namedtuple("Type", "kind name parts line")
 Field = namedtuple("Field", "docs seen name type line")
 Struct = namedtuple("Struct", "docs derives attributes seen name lifetime types fields kind line")
+# `kind` is unit, tuple or named; `number` what stands behind a variant's `=`.
+Variant = namedtuple("Variant", "docs attributes name fields kind number line")
+Enum = namedtuple("Enum", "docs derives attributes seen name lifetime types variants line")
 
 
 class Refused(Exception):
@@ -20,6 +23,16 @@ class Refused(Exception):
 
     def __init__(self, line, why):
         super().__init__(f"line {line}: {why}")
+
+
+def word_of(item):
+    """What the item is declared as."""
+    return "enum" if isinstance(item, Enum) else "struct"
+
+
+def fields_of(item):
+    """The fields of a struct, or of all variants of an enum."""
+    return item.fields if isinstance(item, Struct) else [field for variant in item.variants for field in variant.fields]
 
 
 def tokens(text):
@@ -140,9 +153,9 @@ class Parser:
         return Type("path", path[-1], self.listed(">", self.type) if self.take("<") else [], line)
 
     def generic(self):
-        """A lifetime or a type that a struct takes."""
+        """A lifetime or a type that an item takes."""
         if self.peek("const"):
-            raise Refused(self.line(), "a struct with a number as a parameter is not there: write the number itself, or use a `Vec`")
+            raise Refused(self.line(), "a type with a number as a parameter is not there: write the number itself, or use a `Vec`")
         text = self.next().text if self.tokens[self.at].kind == "lifetime" else self.name()
         if self.peek(":", "="):
             raise Refused(self.line(), "leave the bound or the default out: the impls have the bounds that they need")
@@ -162,25 +175,55 @@ class Parser:
             self.expect(":")
         return Field(docs, seen, name, self.type(), line)
 
-    def struct(self, docs, derives, attributes, seen):
+    def head(self, word):
+        """The name of an item, and the lifetime and the types that it takes."""
         line, name = self.line(), self.name()
         parameters = self.listed(">", self.generic) if self.take("<") else []
         types = [text for text in parameters if text[0] != "'"]
         if len(parameters) > len(types) + 1:
-            raise Refused(line, "a value is read from one input: give the struct one lifetime")
+            raise Refused(line, f"a value is read from one input: give the {word} one lifetime")
         self.no_where()
-        kind = "unit" if self.take(";") else "named" if self.take("{") else "tuple"
-        fields = []
-        if kind == "named":
-            fields = self.listed("}", lambda: self.field(True))
-        elif kind == "tuple":
-            self.expect("(")
+        return name, parameters[0] if len(parameters) > len(types) else "", types, line
+
+    def fields(self):
+        """The fields of a struct or a variant, and of which kind it is."""
+        if self.take("{"):
+            return self.listed("}", lambda: self.field(True)), "named"
+        if self.take("("):
             fields = self.listed(")", lambda: self.field(False))
-            fields = [field._replace(name=str(i)) for i, field in enumerate(fields)]
-            self.no_where()
+            return [field._replace(name=str(i)) for i, field in enumerate(fields)], "tuple"
+        return [], "unit"
+
+    def struct(self, docs, derives, attributes, seen):
+        name, lifetime, types, line = self.head("struct")
+        fields, kind = self.fields()
+        self.no_where()
+        if kind != "named":
             self.expect(";")
-        lifetime = parameters[0] if len(parameters) > len(types) else ""
         return Struct(docs, derives, attributes, seen, name, lifetime, types, fields, kind, line)
+
+    def variant(self):
+        docs, derives, attributes = self.heads()
+        if derives or set(attributes) - {"#[default]"}:
+            raise Refused(self.line(), "an attribute of a variant is not there, but `#[default]`: leave it out")
+        line, name = self.line(), self.name()
+        fields, kind = self.fields()
+        if any(field.seen for field in fields):
+            raise Refused(line, "the fields of a variant are seen where the enum is: leave the `pub` out")
+        return Variant(docs, attributes, name, fields, kind, self.number() if self.take("=") else None, line)
+
+    def number(self):
+        """The number of a variant."""
+        sign, line = "-" if self.take("-") else "", self.line()
+        token = self.next()
+        if token.kind != "number" or not self.peek(",", "}"):
+            raise Refused(line, "write the number of the variant itself, or leave it out: variants are written by their places")
+        return sign + token.text
+
+    def enum(self, docs, derives, attributes, seen):
+        name, lifetime, types, line = self.head("enum")
+        self.expect("{")
+        return Enum(docs, derives, attributes, seen, name, lifetime, types, self.listed("}", self.variant), line)
 
     def import_(self, imports):
         """The names of a `use` line: those of your own crate with the line that imports them alone."""
@@ -194,19 +237,19 @@ class Parser:
                 imports[path.split("::")[-1]] = path
 
     def file(self):
-        """The structs of the file, and the types of your own that it imports."""
-        structs, imports = [], {}
+        """The structs and enums of the file, and the types of your own that it imports."""
+        items, imports = [], {}
         while self.tokens[self.at].kind != "end":
             docs, derives, attributes = self.heads()
             seen = self.seen()
             if self.take("use"):
                 self.import_(imports)
             elif self.take("struct"):
-                structs.append(self.struct(docs, derives, attributes, seen))
-            elif self.peek("enum"):
-                raise Refused(self.line(), "enums are not there yet: write it by docs/GUIDE.md, \"An enum of 2 to 256 variants\", or as a struct of options")
+                items.append(self.struct(docs, derives, attributes, seen))
+            elif self.take("enum"):
+                items.append(self.enum(docs, derives, attributes, seen))
             elif self.peek("union"):
                 raise Refused(self.line(), "a union does not say which of its fields is there: write an enum")
             else:
-                raise Refused(self.line(), f"a struct is expected here, and not `{self.tokens[self.at].text}`")
-        return structs, imports
+                raise Refused(self.line(), f"a struct or an enum is expected here, and not `{self.tokens[self.at].text}`")
+        return items, imports

@@ -1,10 +1,7 @@
-//! An enum of so many variants that each takes a byte.
+//! `AminoAcid` numbers its variants. What is below its declaration was written by `scripts/new_type`.
 ghost use Rattle.std.specs.Prelude.{[], ◌∷◌, refl};
 
-use bitcode::{
-    Bare, BareEncoder, BareVariants, DecodeOwned, FromHolder, HasDecoder, HasEncoder, HeldIn,
-    VariantDecoder,
-};
+use bitcode::{Bare, BareVariants, DecodeOwned, FromHolder, HasCoders, HeldIn};
 
 /// What proteins are made of.
 #[derive(Debug, Clone, Copy, PartialEq)]
@@ -38,6 +35,10 @@ impl BareVariants<20> for AminoAcid {
 
     ghost values = { AminoAcid.Alanine ∷ AminoAcid.Arginine ∷ AminoAcid.Asparagine ∷ AminoAcid.AsparticAcid ∷ AminoAcid.Cysteine ∷ AminoAcid.GlutamicAcid ∷ AminoAcid.Glutamine ∷ AminoAcid.Glycine ∷ AminoAcid.Histidine ∷ AminoAcid.Isoleucine ∷ AminoAcid.Leucine ∷ AminoAcid.Lysine ∷ AminoAcid.Methionine ∷ AminoAcid.Phenylalanine ∷ AminoAcid.Proline ∷ AminoAcid.Serine ∷ AminoAcid.Threonine ∷ AminoAcid.Tryptophan ∷ AminoAcid.Tyrosine ∷ AminoAcid.Valine ∷ [] };
 
+    ghost in_order = { refl };
+
+    ghost some = { refl };
+
     fn index(&self) -> u8 {
         *self as u8
     }
@@ -66,10 +67,6 @@ impl BareVariants<20> for AminoAcid {
             _ => AminoAcid::Valine,
         }
     }
-
-    ghost in_order = { refl };
-
-    ghost some = { refl };
 }
 
 impl HeldIn for AminoAcid {
@@ -78,12 +75,6 @@ impl HeldIn for AminoAcid {
 
 impl FromHolder for AminoAcid {}
 
-impl HasEncoder for AminoAcid {
-    type Encoder = BareEncoder<20>;
-}
-
-impl<'a> HasDecoder<'a> for AminoAcid {
-    type Decoder = VariantDecoder<'a, 20, true>;
-}
+impl HasCoders for AminoAcid {}
 
 impl DecodeOwned for AminoAcid {}

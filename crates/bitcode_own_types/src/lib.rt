@@ -1,15 +1,20 @@
-//! Structs written by `scripts/new_type`; enums, a struct and a container written by hand; and generic code, as a user of
-//! the library writes them: nothing but the library is named.
+//! Structs and enums written by `scripts/new_type`; a struct and a container written by hand; and generic code, as a user
+//! of the library writes them: nothing but the library is named.
 #![tactic(auto)]
 
 pub mod amino_acid;
 pub mod dated;
+pub mod event;
+pub mod foo;
 pub mod generic;
 pub mod message;
 pub mod monster;
+pub mod never;
+pub mod one;
 pub mod outcome;
 pub mod player;
 pub mod saved;
 pub mod scores;
 #[cfg(test)]
 mod tests;
+pub mod two;

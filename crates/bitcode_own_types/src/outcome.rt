@@ -1,10 +1,7 @@
-//! Enums whose variants all lack a payload: they number their variants.
+//! `Outcome` numbers its variants. What is below its declaration was written by `scripts/new_type`.
 ghost use Rattle.std.specs.Prelude.{[], ◌∷◌, refl};
 
-use bitcode::{
-    Bare, BareEncoder, BareVariants, DecodeOwned, FromHolder, HasDecoder, HasEncoder, HeldIn,
-    VariantDecoder,
-};
+use bitcode::{Bare, BareVariants, DecodeOwned, FromHolder, HasCoders, HeldIn};
 
 /// How a game ended.
 #[derive(Debug, Clone, Copy, PartialEq)]
@@ -21,6 +18,10 @@ impl BareVariants<3> for Outcome {
 
     ghost values = { Outcome.Won ∷ Outcome.Drawn ∷ Outcome.Lost ∷ [] };
 
+    ghost in_order = { refl };
+
+    ghost some = { refl };
+
     fn index(&self) -> u8 {
         *self as u8
     }
@@ -32,10 +33,6 @@ impl BareVariants<3> for Outcome {
             _ => Outcome::Lost,
         }
     }
-
-    ghost in_order = { refl };
-
-    ghost some = { refl };
 }
 
 impl HeldIn for Outcome {
@@ -44,12 +41,6 @@ impl HeldIn for Outcome {
 
 impl FromHolder for Outcome {}
 
-impl HasEncoder for Outcome {
-    type Encoder = BareEncoder<3>;
-}
-
-impl<'a> HasDecoder<'a> for Outcome {
-    type Decoder = VariantDecoder<'a, 3, true>;
-}
+impl HasCoders for Outcome {}
 
 impl DecodeOwned for Outcome {}

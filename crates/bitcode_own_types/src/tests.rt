@@ -1,13 +1,18 @@
 //! With ample memory structs and scores are written and read back, and generic code reads them.
 use crate::amino_acid::AminoAcid;
 use crate::dated::Dated;
+use crate::event::Event;
+use crate::foo::Foo;
 use crate::generic::{Cache, load};
 use crate::message::Message;
 use crate::monster::Monster;
+use crate::never::Never;
+use crate::one::One;
 use crate::outcome::Outcome;
 use crate::player::Player;
 use crate::saved::saved_and_loaded;
 use crate::scores::Scores;
+use crate::two::Two;
 use bitcode::{Error, Reason, decode, encode};
 
 #[test]
@@ -85,6 +90,75 @@ fn variants_come_back(rt: HostRuntime) -> Result<(), Error> {
     assert!(rt; again == acids);
     let refused: Result<AminoAcid, Error> = decode(alloc, &[20]);
     assert!(rt; matches!(&refused, Err(error) if error.reason == Reason::InvalidPacking));
+    Ok(())
+}
+
+#[test]
+fn events_come_back(rt: HostRuntime) -> Result<(), Error> {
+    let alloc = rt.alloc();
+    let events = vec![in alloc;
+        Event::Quit(Some(5)),
+        Event::Tick,
+        Event::Spawn(7, String::from_str(alloc, "ab")?),
+        Event::Move {
+            id: 9,
+            dx: 1,
+            dy: -1
+        },
+        Event::Quit(None),
+    ]?;
+    let bytes = encode(alloc, &events)?;
+    // The length, the variants, and then the columns of each variant's payload.
+    let expected = [5, 147, 3, 6, 7, 2, 97, 98, 6, 9, 1, 255, 1, 5, 0];
+    assert!(rt; bytes.as_slice() == expected.as_slice());
+    let again: Vec<Event> = decode(alloc, bytes.as_slice())?;
+    assert!(rt; again == events);
+    Ok(())
+}
+
+#[test]
+fn twins_have_the_bytes_of_the_types_by_hand(rt: HostRuntime) -> Result<(), Error> {
+    let alloc = rt.alloc();
+    let foo = Foo {
+        x: 4294967295,
+        y: "Y_(",
+    };
+    let bytes = encode(alloc, &foo)?;
+    assert!(rt; bytes.as_slice() == [0, 255, 255, 255, 255, 3, 89, 95, 40].as_slice());
+    let again: Foo<'_> = decode(alloc, bytes.as_slice())?;
+    assert!(rt; again == foo);
+    let two = vec![in alloc;
+        Two::B(-2),
+        Two::B(39),
+        Two::B(11),
+        Two::B(85),
+        Two::B(110),
+        Two::B(8),
+        Two::B(68),
+        Two::B(73),
+        Two::B(109),
+    ]?;
+    let bytes = encode(alloc, &two)?;
+    assert!(rt;
+        bytes.as_slice() == [9, 255, 1, 0, 254, 39, 11, 85, 110, 8, 68, 73, 109].as_slice()
+    );
+    let again: Vec<Two> = decode(alloc, bytes.as_slice())?;
+    assert!(rt; again == two);
+    let bytes = encode(alloc, &One::A(7))?;
+    assert!(rt; bytes.as_slice() == [7].as_slice());
+    let again: One = decode(alloc, bytes.as_slice())?;
+    assert!(rt; again == One::A(7));
+    Ok(())
+}
+
+#[test]
+fn never_is_read(rt: HostRuntime) -> Result<(), Error> {
+    let alloc = rt.alloc();
+    let none: Vec<Never> = Vec::new(alloc);
+    let bytes = encode(alloc, &none)?;
+    assert!(rt; bytes.as_slice() == [0].as_slice());
+    let refused: Result<Vec<Never>, Error> = decode(alloc, &[106]);
+    assert!(rt; matches!(&refused, Err(error) if error.reason == Reason::InvalidEnumVariant));
     Ok(())
 }
 

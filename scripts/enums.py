@@ -1,0 +1,337 @@
+"""The file of an enum: of one that numbers its variants, of one that stands for their payloads, and of one or no variant."""
+
+from string import Template
+
+from declarations import Refused, fields_of
+from known_types import MOST_FIELDS, Checker, of_text, takes_memory
+from structs import NOT_DERIVED, bounds, encoded, halved, heads, initialized, parameter, places, quoted, tuple_text
+
+# Of 16 variants with payloads the compiler says in generic code that there are too many impls to go through; 12 compile.
+MOST_VARIANTS, MOST_PAYLOADS = 256, 12
+# The names of fields without a name.
+LETTERS = "abcdefghijklmnop"
+
+BARE = """//! `$name` numbers its variants. What is below its declaration was written by `scripts/new_type`.
+ghost use Rattle.std.specs.Prelude.{[], ◌∷◌, refl};
+
+use bitcode::{Bare, BareVariants, DecodeOwned, FromHolder, HasCoders, HeldIn};
+
+$declaration
+impl BareVariants<$count> for $name {
+    ghost use Rattle.$crate.specs.declared.$module.$ghost.{$ghost};
+
+    ghost variant = { elim [ $variant ] };
+
+    ghost values = { $values };
+
+    ghost in_order = { refl };
+
+    ghost some = { refl };
+
+    fn index(&self) -> u8 {
+        $index
+    }
+
+    fn from_index(index: u8) -> Self {
+        match index {$from_index}
+    }
+}
+
+impl HeldIn for $name {
+    type Holder = Bare<$count, $name>;
+}
+
+impl FromHolder for $name {}
+
+impl HasCoders for $name {}
+
+impl DecodeOwned for $name {}
+"""
+
+NEVER = """//! `$name` has no values, and is written and read as nothing. What is below its declaration was written by `scripts/new_type`.
+use bitcode::{DecodeOwned, HasCoders, NoVariants};
+
+$declaration
+impl NoVariants for $name {
+    ghost never = { λ t P h. elim t [ ] };
+}
+
+impl HasCoders for $name {}
+
+impl DecodeOwned for $name {}
+"""
+
+PAYLOADS = """//! `$simple` stands for the payload of one of its variants. What is below its declaration was written by `scripts/new_type`.
+ghost use Rattle.std.specs.Prelude.{refl};
+ghost use Rattle.bitcode.specs.ByHand.{FirstOr, stood_for};
+
+$uses
+$declaration
+/// Names the payloads of `$simple`.
+#[derive(Drop)]
+pub struct $mark$mark_fields
+
+type Variants$parameters = $variants;
+
+type Columns$parameters = <Variants$parameters as HasPayloadEncoder>::Encoder;
+
+type Lent$lent_parameters = $lent;
+
+impl$shaped NamesVariants<$count> for $mark {
+    type Variants = Variants$parameters;
+
+    ghost count = { refl };
+
+    ghost some = { refl };
+}
+
+impl$shaped StandsFor for $name {
+    ghost use Rattle.$crate.specs.declared.$module.$ghost.{$ghost};
+
+    type Parts = Choice<$count, $mark>;
+
+    ghost parts = { elim [ $parts ] };
+
+    ghost of_parts = { λ p. stood_for (λ v. record { payload = v }) (elim [ $of_parts ]) p.payload };
+
+    fn told_parts(&self) {
+        self.lent().told();
+    }
+}
+
+impl$made FromParts for $name {
+    fn from_parts(choice: Choice<$count, $mark>) -> Self {
+        match choice.payload {$from_parts}
+    }
+}
+
+impl$lending LendsVariant<$lend, Variants$parameters> for $name {
+    ghost variant = { λ t. (⟦<$name as StandsFor>⟧.parts t).payload };
+
+    type Lent = Lent$lent_parameters;
+
+    fn lent(&$lend self) -> Self::Lent {
+        match self {$lends}
+    }
+}
+
+impl$encode EncodeVariant<$count, Columns$parameters> for $name {
+    fn encode_variant(&self, variants: &mut VariantEncoder<$count>, payloads: &mut Columns$parameters) -> Result<(), Error> {
+        encode_variant_fields::<$count, Lent$any_parameters, Columns$parameters>(variants, payloads, &self.lent())
+    }
+}
+
+impl$has_encoder HasEncoder for $name {
+    type Encoder = EnumEncoder<$count, Columns$parameters>;
+}
+
+impl$has_decoder HasDecoder<$input> for $name {
+    type Decoder = PartsDecoder<
+        Choice<$count, $mark>,
+        EnumDecoder<$input, $count, $mark, <Variants$parameters as HasPayloadDecoder<$input>>::Decoder>,
+    >;
+}
+$owned"""
+OWNED = """
+impl$parameters DecodeOwned for $name {}
+"""
+
+
+def declaration(enum):
+    """The enum as it was declared, with what it has to derive."""
+    lines = [*heads(enum), f"{enum.seen}enum {enum.name}{bounds(enum, '')} {{"]
+    if not enum.variants:
+        return "\n".join([*lines[:-1], lines[-1] + "}", ""])
+    for variant in enum.variants:
+        lines += [*variant.docs, *variant.attributes]
+        fields = [(*field.docs, f"{field.name}: {of_text(field.type)}," if variant.kind == "named" else of_text(field.type) + ",") for field in variant.fields]
+        opening, closing = {"named": (" {", "}"), "tuple": ("(", ")"), "unit": ("", "")}[variant.kind]
+        number = f" = {variant.number}" if variant.number else ""
+        if any(field.docs for field in variant.fields):
+            lines += [variant.name + opening, *(line for field in fields for line in field), closing + ","]
+        else:
+            inner = " ".join(line for field in fields for line in field).removesuffix(",")
+            lines.append(f"{variant.name}{opening}{f' {inner} ' if variant.kind == 'named' else inner}{closing}{number},")
+    return "\n".join([*lines, "}", ""])
+
+
+def arms(enum, left, right):
+    """The arms of a match, of what is left and right of each variant's arrow."""
+    return "".join(f"\n            {left(place, variant)} => {right(place, variant)}," for place, variant in enumerate(enum.variants)) + "\n        "
+
+
+def names_of(variant):
+    """The names of a variant's fields in patterns."""
+    return [parameter(field.name) if variant.kind == "named" else LETTERS[i] for i, field in enumerate(variant.fields)]
+
+
+def value(enum, variant):
+    """The value of a variant, in a pattern or an expression."""
+    inner = {"named": f" {{ {', '.join(map(initialized, variant.fields))} }}", "tuple": f"({', '.join(names_of(variant))})", "unit": ""}[variant.kind]
+    return f"{enum.name}::{variant.name}{inner}"
+
+
+def one_text(enum, crate, module, imports, is_owned):
+    """The file of an enum of one variant, which stands for the tuple of its fields as a struct does."""
+    variant, ghost = enum.variants[0], quoted(enum.name)
+    letters, name = list(LETTERS[: len(variant.fields)]), f"{ghost}.{variant.name}"
+    inner = {"named": f" {{ {', '.join(f'{field.name}: {letter}' for field, letter in zip(variant.fields, letters))} }}", "tuple": f"({', '.join(letters)})", "unit": ""}
+    built = f"{enum.name}::{variant.name}{inner[variant.kind]}"
+    taken = f"\n        let {built} = self;" if letters else ""
+    return tuple_text(
+        enum,
+        imports,
+        is_owned,
+        about=f"`{enum.name}` stands for the tuple of its variant's fields. What is below its declaration was written by `scripts/new_type`.",
+        declaration=declaration(enum),
+        ghost_use=f"    ghost use Rattle.{crate}.specs.declared.{module}.{ghost}.{{{ghost}}};\n\n",
+        ghost_parts=f"elim [ {' '.join([name, *letters])} ↦ {payload(letters, 'tt')} ]",
+        ghost_made=" ".join([name, *places(len(letters))]) if letters else name,
+        told=taken + "".join(f"\n        {letter}.told();" for letter in letters) + ("\n    " if letters else ""),
+        pattern=payload(letters, "_nothing"),
+        built=built,
+        encoded=taken + "\n        " + encoded(enum, letters),
+    )
+
+
+def payload(items, nothing):
+    """The fields of one variant, or what stands for none, as text."""
+    return halved(items) if items else nothing
+
+
+def behind(place, inner):
+    """The payload that stands at the place, among the rest of those before it."""
+    return "FirstOr::Rest(" * place + inner + ")" * place
+
+
+def nested(enum, nothing, text):
+    """The type of the payloads, of what is said of their fields."""
+    parts = [payload([text(of_text(field.type)) for field in variant.fields], nothing) for variant in enum.variants]
+    return "".join(f"FirstOr<{part}, " for part in parts[:-1]) + f"Last<{parts[-1]}>" + ">" * (len(parts) - 1)
+
+
+def ghost_behind(place, inner):
+    """The same in a ghost member."""
+    return "FirstOr.Rest (" * place + inner + ")" * place
+
+
+def ghost_arms(enum):
+    """The arms of what payload a value stands for, and of which value a payload does."""
+    last, there, back = len(enum.variants) - 1, [], []
+    for place, variant in enumerate(enum.variants):
+        letters, name = list(LETTERS[: len(variant.fields)]), f"{quoted(enum.name)}.{variant.name}"
+        fields = payload(letters, "tt")
+        held = f"record {{ 0 = {fields} }}" if place == last else f"FirstOr.First {fields}"
+        there.append(f"{' '.join([name, *letters])} ↦ record {{ payload = {ghost_behind(place, held)} }}")
+        pattern = ghost_behind(place - 1, "FirstOr.Rest p") if place == last else ghost_behind(place, "FirstOr.First p")
+        found = places(len(letters), "p.0" if place == last else "p") if letters else []
+        back.append(f"{pattern} ↦ ({' '.join([name, *found])}, refl)")
+    return " | ".join(there), " | ".join(back)
+
+
+def bare_text(enum, crate, module):
+    """The file of an enum whose variants all lack fields."""
+    last, names = len(enum.variants) - 1, [f"{quoted(enum.name)}.{variant.name}" for variant in enum.variants]
+    is_cast = "Copy" in enum.derives and all(variant.kind == "unit" and not variant.number for variant in enum.variants)
+    row = {
+        "name": enum.name,
+        "ghost": quoted(enum.name),
+        "crate": crate,
+        "module": module,
+        "count": last + 1,
+        "declaration": declaration(enum),
+        "variant": " | ".join(f"{name} ↦ {place}" for place, name in enumerate(names)),
+        "values": " ∷ ".join([*names, "[]"]),
+        "index": "*self as u8" if is_cast else f"match self {{{arms(enum, lambda place, variant: value(enum, variant), lambda place, variant: place)}}}",
+        "from_index": arms(enum, lambda place, variant: "_" if place == last else place, lambda place, variant: value(enum, variant)),
+    }
+    return Template(BARE).substitute(row)
+
+
+def payloads_text(enum, crate, module, imports, is_owned):
+    """The file of an enum of whose variants some have fields."""
+    last, name, input = len(enum.variants) - 1, enum.name + bounds(enum, ""), enum.lifetime or "'a"
+    lend = "'b" if enum.lifetime != "'b" else "'c"
+    marked = ", ".join([*([f"&{enum.lifetime} ()"] if enum.lifetime else []), *enum.types])
+
+    def held(place, variant, nothing):
+        return behind(place, f"{'Last' if place == last else 'FirstOr::First'}({payload(names_of(variant), nothing)})")
+
+    used = set("Choice EncodeVariant EnumDecoder EnumEncoder Error FirstOr FromParts HasDecoder HasEncoder HasPayloadDecoder "
+               "HasPayloadEncoder Last LendsVariant NamesVariants PartsDecoder StandsFor VariantEncoder VariantFields "
+               "encode_variant_fields".split())
+    used |= {"Encode", "Made", "Shaped"} if enum.types else set()
+    imports = {*imports, "std::marker::PhantomData"} if marked else imports
+    used |= {"DecodeOwned"} if is_owned else set()
+    parts, of_parts = ghost_arms(enum)
+    row = {
+        "simple": enum.name,
+        "name": name,
+        "ghost": quoted(enum.name),
+        "crate": crate,
+        "module": module,
+        "count": last + 1,
+        "uses": "\n".join(sorted([f"use bitcode::{{{', '.join(sorted(used))}}};", *(f"use {path};" for path in imports)])) + "\n",
+        "declaration": declaration(enum),
+        "parameters": bounds(enum, ""),
+        "variants": nested(enum, "()", lambda text: text),
+        "shaped": bounds(enum, "Shaped"),
+        "made": bounds(enum, "Made"),
+        "encode": bounds(enum, "Encode"),
+        "mark": f"{enum.name}Variants{bounds(enum, '')}",
+        "mark_fields": f" {{\n    of: PhantomData<({marked},)>,\n}}" if marked else " {}",
+        "has_encoder": bounds(enum, "Shaped + HasEncoder"),
+        "has_decoder": bounds(enum, f"Shaped + HasDecoder<{input}>", input),
+        "input": input,
+        "parts": parts,
+        "of_parts": of_parts,
+        "from_parts": arms(enum, lambda place, variant: held(place, variant, "()"), lambda place, variant: value(enum, variant)),
+        "lend": lend,
+        "lending": bounds(enum, f"Shaped + {lend}", f"{lend}, {enum.lifetime}: {lend}" if enum.lifetime else lend),
+        "lent_parameters": bounds(enum, "", f"{lend}, {enum.lifetime}" if enum.lifetime else lend),
+        "any_parameters": bounds(enum, "", f"'_, {enum.lifetime}" if enum.lifetime else "'_"),
+        "lent": nested(enum, f"&{lend} ()", lambda text: f"&{lend} {text}"),
+        "lends": arms(enum, lambda place, variant: value(enum, variant), lambda place, variant: held(place, variant, "&()")),
+        "owned": Template(OWNED).substitute(parameters=bounds(enum, "DecodeOwned"), name=name) if is_owned else "",
+    }
+    return Template(PAYLOADS).substitute(row)
+
+
+def check_variants(enum):
+    """Stops at variants that cannot be written, or too many of them."""
+    count, fields = len(enum.variants), fields_of(enum)
+    derived = [name for name in enum.derives if name not in {"Clone", "Copy", *NOT_DERIVED}]
+    if count == 0 and derived:
+        raise Refused(enum.line, f"leave the `{derived[0]}` out: an enum without variants has no values, and no call could meet its contract")
+    if count > MOST_VARIANTS:
+        raise Refused(enum.line, f"{count} variants are more than 256: put some of them into an enum of their own")
+    if fields and count > MOST_PAYLOADS:
+        raise Refused(enum.variants[MOST_PAYLOADS].line, f"{count} variants, of which some have fields, are more than {MOST_PAYLOADS}: put some of them into an enum of their own")
+    if not fields and (enum.types or enum.lifetime):
+        raise Refused(enum.line, f"no variant has a field of `{[enum.lifetime, *enum.types][-1]}`: leave it out")
+    for variant in enum.variants:
+        if fields and variant.number:
+            raise Refused(variant.line, "a number is for an enum whose variants all lack fields: leave it out")
+        if variant.name in ("Below", "deriving"):
+            raise Refused(variant.line, f"`{variant.name}` cannot be the name of a variant in Rattle: choose another")
+        if len(variant.fields) > MOST_FIELDS:
+            raise Refused(variant.line, f"{len(variant.fields)} fields are more than 16: put some of them into a struct of their own")
+
+
+def enum_text(enum, own, crate, module):
+    """The file of an enum, and the crates that it needs."""
+    check_variants(enum)
+    checker = Checker(enum, own)
+    for field in fields_of(enum):
+        checker.check(field.type)
+    # The check cannot state yet that an enum which takes memory is `DecodeOwned`.
+    is_owned = not enum.lifetime and not any(takes_memory(field.type, own) for field in fields_of(enum))
+    if not enum.variants:
+        text = Template(NEVER).substitute(name=enum.name, declaration=declaration(enum))
+    elif len(enum.variants) == 1:
+        text = one_text(enum, crate, module, checker.imports, is_owned)
+    elif not fields_of(enum):
+        text = bare_text(enum, crate, module)
+    else:
+        text = payloads_text(enum, crate, module, checker.imports, is_owned)
+    return text, checker.crates

@@ -1,0 +1,184 @@
+"""The types of fields that scripts/new_type knows: which of them the library writes and reads."""
+
+import re
+from collections import namedtuple
+
+from declarations import Refused, fields_of, word_of
+
+# A type that the library writes and reads: where it is imported from, how many types and how many numbers it takes, and whether it
+# can be a set's element or a map's key ("parts": if what it holds can).
+Known = namedtuple("Known", "path types numbers key")
+INTEGERS = [f"{sign}{width}" for sign in "ui" for width in ("8", "16", "32", "64", "128", "size")]
+TYPES = {
+    **{name: Known(None, 0, 0, "yes") for name in ["bool", "char", "String", *INTEGERS]},
+    **{f"NonZero{name.capitalize()}": Known(f"std::num::NonZero{name.capitalize()}", 0, 0, "yes") for name in INTEGERS},
+    "BoxedStr": Known("std::boxed::BoxedStr", 0, 0, "yes"),
+    "RcStr": Known("std::rc::RcStr", 0, 0, "yes"),
+    "ArrayString": Known("arrayvec::ArrayString", 0, 1, "yes"),
+    "Vec": Known(None, 1, 0, "parts"),
+    "BoxedSlice": Known("std::boxed::BoxedSlice", 1, 0, "parts"),
+    "RcSlice": Known("std::rc::RcSlice", 1, 0, "parts"),
+    "VecDeque": Known("std::collections::VecDeque", 1, 0, "parts"),
+    "LinkedList": Known("std::collections::LinkedList", 1, 0, "parts"),
+    "ArrayVec": Known("arrayvec::ArrayVec", 1, 1, "parts"),
+    "BinaryHeap": Known("std::collections::BinaryHeap", 1, 0, "no"),
+    "BTreeSet": Known("std::collections::BTreeSet", 1, 0, "parts"),
+    "HashSet": Known("std::collections::HashSet", 1, 0, "no"),
+    "BTreeMap": Known("std::collections::BTreeMap", 2, 0, "parts"),
+    "HashMap": Known("std::collections::HashMap", 2, 0, "no"),
+    "Option": Known(None, 1, 0, "parts"),
+    "Result": Known(None, 2, 0, "parts"),
+    "Box": Known(None, 1, 0, "parts"),
+    "Rc": Known("std::rc::Rc", 1, 0, "parts"),
+    "PhantomData": Known("std::marker::PhantomData", 1, 0, "parts"),
+    "Duration": Known("std::time::Duration", 0, 0, "no"),
+    "Uuid": Known("uuid::Uuid", 0, 0, "yes"),
+}
+# The first type of these has to be a key.
+KEYED = {"BTreeSet", "HashSet", "BinaryHeap", "BTreeMap", "HashMap"}
+# These take no memory of their own.
+FREE = {"bool", "char", "ArrayString", "ArrayVec", "Option", "Result", "PhantomData", "Duration", "Uuid", *INTEGERS,
+        *(f"NonZero{name.capitalize()}" for name in INTEGERS)}
+INSTEAD = {
+    "f32": "keep its bits, `x.to_bits()`, in a `u32`",
+    "f64": "keep its bits, `x.to_bits()`, in a `u64`",
+    "str": "write `&'a str`, `String`, `BoxedStr` or `RcStr`",
+    "Cow": "write `&'a str` or `String`",
+    "Arc": "write `Rc<T>` or the value itself",
+    "Cell": "write the value itself",
+    "RefCell": "write the value itself",
+    "PathBuf": "write `String`",
+    "OsString": "write `String` or `Vec<u8>`",
+    "SystemTime": "write a `Duration` since a time of your choice",
+    "Instant": "write a `Duration` since a time of your choice",
+    "NonZero": "write `NonZeroU8` and so on",
+    "IndexMap": "write `Vec<(K, V)>`",
+}
+# A tuple, a struct and a variant have no more fields than these.
+MOST_FIELDS = 16
+
+def of_text(type):
+    """The type as Rattle writes it."""
+    if type.kind == "reference":
+        return f"&{type.name} {of_text(type.parts[0])}"
+    if type.kind == "tuple":
+        return "(" + ", ".join(map(of_text, type.parts)) + ("," if len(type.parts) == 1 else "") + ")"
+    if type.kind == "array":
+        return f"[{of_text(type.parts[0])}; {type.name}]"
+    return type.name + (f"<{', '.join(map(of_text, type.parts))}>" if type.parts else "")
+
+
+def can_be_key(type):
+    """Whether the type can be a set's element or a map's key."""
+    if type.kind == "tuple":
+        return len(type.parts) <= 12 and all(map(can_be_key, type.parts))
+    if type.kind != "path":
+        return type.kind in ("reference", "number") or all(map(can_be_key, type.parts))
+    known = TYPES.get(type.name)
+    return bool(known) and (known.key == "yes" or known.key == "parts" and all(map(can_be_key, type.parts)))
+
+
+def takes_memory(type, own):
+    """Whether a value of the type takes memory of its own, as a text or a list does; of what is imported that is not known."""
+    if type.kind != "path":
+        return any(takes_memory(part, own) for part in type.parts)
+    if type.name in own:
+        item = own[type.name][1]
+        inside = not item or any(takes_memory(field.type, own) for field in fields_of(item))
+    else:
+        inside = type.name in TYPES and type.name not in FREE
+    return inside or any(takes_memory(part, own) for part in type.parts)
+
+
+class Checker:
+    """Whether the library writes and reads the types of an item's fields; and what they are imported from."""
+
+    def __init__(self, item, own):
+        self.item, self.own, self.imports, self.crates = item, own, set(), set()
+
+    def check(self, type):
+        """Stops at a type that the library does not write and read."""
+        if type.kind == "reference":
+            self.reference(type)
+        elif type.kind == "slice":
+            raise Refused(type.line, "a slice cannot be read back: write `Vec<T>`, or `BoxedSlice<T>`")
+        elif type.kind == "array":
+            self.array(type)
+        elif type.kind == "tuple":
+            if len(type.parts) > MOST_FIELDS:
+                raise Refused(type.line, "a tuple has at most 16 fields: write a tuple of tuples")
+            for part in type.parts:
+                self.check(part)
+        elif type.kind == "path":
+            self.path(type)
+        else:
+            raise Refused(type.line, f"a type is expected here, and not `{type.name}`")
+
+    def reference(self, type):
+        inner = type.parts[0]
+        if inner.kind != "path" or inner.name != "str":
+            raise Refused(type.line, "a reference cannot be read back, but a text: write the value itself, `Box<T>`, `Vec<T>` or `&'a str`")
+        if type.name != self.item.lifetime or not type.name:
+            word, lifetime = word_of(self.item), self.item.lifetime or "'a"
+            raise Refused(type.line, f"the text is of the input that the {word} is read from: write `{word} {self.item.name}<{lifetime}>` and `&{lifetime} str`")
+
+    def array(self, type):
+        element = type.parts[0]
+        if not re.fullmatch(r"[0-9][0-9_]*(usize)?", type.name):
+            raise Refused(type.line, "write the array's length as a number")
+        if any(name in self.item.types for name in names_in(element)):
+            raise Refused(type.line, "an array of a type parameter is too large for some types: write `Vec<T>`")
+        self.check(element)
+
+    def path(self, type):
+        if type.name in self.item.types and not type.parts:
+            return
+        if type.name == self.item.name:
+            raise Refused(type.line, f"`{type.name}` holds itself: write a `Value` (docs/WHICH_FORMAT.md)")
+        if type.name in self.own:
+            self.own_type(type)
+            return
+        known = TYPES.get(type.name)
+        if not known:
+            instead = INSTEAD.get(type.name, f"a type of your own needs a line `use crate::..::{type.name};` or its declaration above")
+            raise Refused(type.line, f"`{type.name}` is no type that the library writes: {instead}")
+        for part, text in (("str", "Str"), ("slice", "Slice")):
+            if type.name in ("Box", "Rc") and type.parts and part in (type.parts[0].kind, type.parts[0].name):
+                of = f"<{of_text(type.parts[0].parts[0])}>" if text == "Slice" else ""
+                raise Refused(type.line, f"write `{'Boxed' if type.name == 'Box' else 'Rc'}{text}{of}`")
+        numbers = [part for part in type.parts if part.kind == "number"]
+        types = [part for part in type.parts if part.kind != "number"]
+        if (len(types), len(numbers)) != (known.types, known.numbers):
+            raise Refused(type.line, f"`{type.name}` takes {known.types} types and {known.numbers} numbers here")
+        if type.name in KEYED and not can_be_key(types[0]):
+            element = of_text(types[0] if len(types) == 1 else types[0]._replace(kind="tuple", parts=types))
+            raise Refused(type.line, f"`{of_text(types[0])}` is no key (docs/GUIDE.md, \"Keys\"): write `Vec<{element}>`")
+        if known.path:
+            self.imports.add(known.path)
+            self.crates |= {known.path.split("::")[0]} - {"std"}
+        for part in types if type.name != "PhantomData" else []:
+            self.check(part)
+
+    def own_type(self, type):
+        path, item = self.own[type.name]
+        taken = len(type.parts) if not item else len(item.types) + bool(item.lifetime)
+        if len(type.parts) != taken:
+            raise Refused(type.line, f"`{type.name}` takes {taken} parameters")
+        if item and takes_memory(type, self.own):
+            instead = {"struct": "write its fields here, or it by docs/GUIDE.md, \"A struct over the coders of tuples\"",
+                       "enum": "write its variants here, or it by docs/GUIDE.md, \"An enum of 2 to 256 variants\""}[word_of(item)]
+            raise Refused(type.line, f"`{type.name}` takes memory of its own, and no type with such a part can be proved yet: {instead}")
+        self.imports.add(path)
+        for part in type.parts:
+            if part.kind == "lifetime":
+                if part.name != self.item.lifetime:
+                    instead = f"`{self.item.lifetime}` for `{part.name}`" if self.item.lifetime else f"`{word_of(self.item)} {self.item.name}<{part.name}>`"
+                    raise Refused(type.line, f"write {instead}")
+            else:
+                self.check(part)
+
+
+def names_in(type):
+    """The names of types, lifetimes and numbers in the type."""
+    return [type.name, *(name for part in type.parts for name in names_in(part))]
+
