@@ -13,20 +13,17 @@ LETTERS = "abcdefghijklmnop"
 
 BARE = """//! `$name` numbers its variants. What is below its declaration was written by `scripts/new_type`.
 ghost use Rattle.std.specs.Prelude.{[], ◌∷◌, refl};
+ghost use Rattle.$crate.specs.declared.$module.$ghost.{$ghost};
 
-use bitcode::{Bare, BareVariants, DecodeOwned, FromHolder, HasCoders, HeldIn};
+use bitcode::{Bare, BareVariants, HasCoders, HeldIn};
 
 $declaration
 impl BareVariants<$count> for $name {
-    ghost use Rattle.$crate.specs.declared.$module.$ghost.{$ghost};
-
     ghost variant = { elim [ $variant ] };
 
     ghost values = { $values };
 
-    ghost in_order = { refl };
-
-    ghost some = { refl };
+    ghost in_order = { (refl, refl) };
 
     fn index(&self) -> u8 {
         $index
@@ -41,15 +38,11 @@ impl HeldIn for $name {
     type Holder = Bare<$count, $name>;
 }
 
-impl FromHolder for $name {}
-
 impl HasCoders for $name {}
-
-impl DecodeOwned for $name {}
 """
 
 NEVER = """//! `$name` has no values, and is written and read as nothing. What is below its declaration was written by `scripts/new_type`.
-use bitcode::{DecodeOwned, HasCoders, NoVariants};
+use bitcode::{HasCoders, NoVariants};
 
 $declaration
 impl NoVariants for $name {
@@ -57,8 +50,6 @@ impl NoVariants for $name {
 }
 
 impl HasCoders for $name {}
-
-impl DecodeOwned for $name {}
 """
 
 PAYLOADS = """//! `$simple` stands for the payload of one of its variants. What is below its declaration was written by `scripts/new_type`.

@@ -148,7 +148,6 @@ pub use bitcode_shapes::no_variants::NoVariants;
 pub use bitcode_shapes::same_arrays::SameArrays;
 pub use bitcode_shapes::shaped::Made;
 pub use bitcode_shapes::shaped::Shaped;
-pub use bitcode_shapes::stands_for::FromHolder;
 pub use bitcode_shapes::stands_for::FromParts;
 pub use bitcode_shapes::stands_for::HeldIn;
 pub use bitcode_shapes::stands_for::StandsFor;

@@ -1,5 +1,5 @@
 //! The integers, as the coders of their columns take them.
-ghost use Rattle.std.specs.Prelude.{◌≡◌, ◌≢◌, ℕ, ◌^◌, ◌<◌, ◌++◌, ℤ, Bool, List, map, All, IsTrue, OnOk, IfErr, OnErr};
+ghost use Rattle.std.specs.Prelude.{◌≡◌, ◌≢◌, ℕ, ◌^◌, ◌<◌, ◌++◌, ℤ, Bool, List, [], ◌∷◌, map, All, IsTrue, OnOk, IfErr, OnErr};
 ghost use Rattle.bitcode_columns.specs.Fast.{cow_rest};
 ghost use Rattle.bitcode_columns.specs.IntWidths.{IsWidth};
 ghost use Rattle.bitcode_columns.specs.IntColumn.{SpellsInts, int_text};
@@ -9,8 +9,8 @@ ghost use Rattle.bitcode_columns.specs.Reading.{Reads, IsEndOf, Names, ints_faul
 
 use bitcode_columns::error::{Error, Reason};
 use bitcode_columns::fast::CowSlice;
-use bitcode_columns::ints::Byte;
-use bitcode_columns::pack::pack_bytes;
+use bitcode_columns::ints::{Byte, known_bytes};
+use bitcode_columns::pack::{pack_bytes, unpack_bytes};
 use std::alloc::Global;
 
 mod signed;
@@ -24,6 +24,23 @@ fn pack_each_byte<T: Byte>(ints: &mut [T], out: &mut Vec<u8>) -> Result<(), Erro
     ensures reason { IfErr result (λ e. e.reason ≡ Reason.OutOfMemory) }
 {
     pack_bytes(ints, out)
+}
+
+// Reads the column of integers of one byte, which is a byte column: `unpack_ints` would copy what it unpacked.
+fn unpack_each_byte<'a>(
+    alloc: Global,
+    input: &mut &'a [u8],
+    count: usize,
+    out: &mut CowSlice<'a, u8>,
+) -> Result<(), Error>
+    ensures read { OnOk result (Reads (SpellsInts 1) count input.old.now (map (λ byte. little_endian (byte ∷ [])) (cow_rest out.new)) input.new.now) }
+    ensures in_width { OnOk result (All (λ n. n < 256 ^ 1) (map (λ byte. little_endian (byte ∷ [])) (cow_rest out.new))) }
+    ensures refused { IfErr result (λ e. Names e.reason (ints_fault 1 count input.old.now)) }
+    ensures rest { OnErr result (IsEndOf input.old.now input.new.now) }
+    ensures raw { IsTrue (ints_stand_raw 1 count input.old.now) → IfErr result (λ e. e.reason ≢ Reason.OutOfMemory) }
+{
+    known_bytes(input);
+    unpack_bytes(alloc, input, count, out)
 }
 
 /// An integer with a column: what its coders ask of it.

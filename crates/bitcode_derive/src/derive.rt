@@ -57,16 +57,17 @@ where
 
 /// A type whose values borrow nothing from the input that they are read from.
 ///
-/// It is a mark alone: each such type says so for itself.
+/// It is a mark alone: each such type says so for itself, or by [`HasCoders`].
 ///
 /// ```
 /// impl DecodeOwned for Meters {}
 /// ```
 pub trait DecodeOwned: Made {}
 
-/// A type whose coders are those of the struct that holds its values, as an enum's are.
+/// A type whose coders are those of the struct that holds its values, as those of an enum without payloads are, and whose values
+/// borrow nothing from the input that they are read from.
 ///
-/// It is a mark alone, in the place of [`HasEncoder`] and [`HasDecoder`]:
+/// It is a mark alone, in the place of [`HasEncoder`], [`HasDecoder`] and [`DecodeOwned`]:
 ///
 /// ```
 /// impl HasCoders for Light {}
@@ -98,6 +99,8 @@ where
 {
     type Decoder = <T::Holder as HolderDecoder<'a>>::Decoder;
 }
+
+impl<T: HasCoders> DecodeOwned for T {}
 
 impl<const N: usize, T> HolderEncoder for Bare<N, T> {
     type Encoder = BareEncoder<N>;

@@ -1,7 +1,8 @@
 //! `AminoAcid` numbers its variants. What is below its declaration was written by `scripts/new_type`.
 ghost use Rattle.std.specs.Prelude.{[], ◌∷◌, refl};
+ghost use Rattle.bitcode_own_types.specs.declared.amino_acid.AminoAcid.{AminoAcid};
 
-use bitcode::{Bare, BareVariants, DecodeOwned, FromHolder, HasCoders, HeldIn};
+use bitcode::{Bare, BareVariants, HasCoders, HeldIn};
 
 /// What proteins are made of.
 #[derive(Debug, Clone, Copy, PartialEq)]
@@ -29,15 +30,11 @@ pub enum AminoAcid {
 }
 
 impl BareVariants<20> for AminoAcid {
-    ghost use Rattle.bitcode_own_types.specs.declared.amino_acid.AminoAcid.{AminoAcid};
-
     ghost variant = { elim [ AminoAcid.Alanine ↦ 0 | AminoAcid.Arginine ↦ 1 | AminoAcid.Asparagine ↦ 2 | AminoAcid.AsparticAcid ↦ 3 | AminoAcid.Cysteine ↦ 4 | AminoAcid.GlutamicAcid ↦ 5 | AminoAcid.Glutamine ↦ 6 | AminoAcid.Glycine ↦ 7 | AminoAcid.Histidine ↦ 8 | AminoAcid.Isoleucine ↦ 9 | AminoAcid.Leucine ↦ 10 | AminoAcid.Lysine ↦ 11 | AminoAcid.Methionine ↦ 12 | AminoAcid.Phenylalanine ↦ 13 | AminoAcid.Proline ↦ 14 | AminoAcid.Serine ↦ 15 | AminoAcid.Threonine ↦ 16 | AminoAcid.Tryptophan ↦ 17 | AminoAcid.Tyrosine ↦ 18 | AminoAcid.Valine ↦ 19 ] };
 
     ghost values = { AminoAcid.Alanine ∷ AminoAcid.Arginine ∷ AminoAcid.Asparagine ∷ AminoAcid.AsparticAcid ∷ AminoAcid.Cysteine ∷ AminoAcid.GlutamicAcid ∷ AminoAcid.Glutamine ∷ AminoAcid.Glycine ∷ AminoAcid.Histidine ∷ AminoAcid.Isoleucine ∷ AminoAcid.Leucine ∷ AminoAcid.Lysine ∷ AminoAcid.Methionine ∷ AminoAcid.Phenylalanine ∷ AminoAcid.Proline ∷ AminoAcid.Serine ∷ AminoAcid.Threonine ∷ AminoAcid.Tryptophan ∷ AminoAcid.Tyrosine ∷ AminoAcid.Valine ∷ [] };
 
-    ghost in_order = { refl };
-
-    ghost some = { refl };
+    ghost in_order = { (refl, refl) };
 
     fn index(&self) -> u8 {
         *self as u8
@@ -73,8 +70,4 @@ impl HeldIn for AminoAcid {
     type Holder = Bare<20, AminoAcid>;
 }
 
-impl FromHolder for AminoAcid {}
-
 impl HasCoders for AminoAcid {}
-
-impl DecodeOwned for AminoAcid {}

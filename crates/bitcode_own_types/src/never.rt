@@ -1,5 +1,5 @@
 //! `Never` has no values, and is written and read as nothing. What is below its declaration was written by `scripts/new_type`.
-use bitcode::{DecodeOwned, HasCoders, NoVariants};
+use bitcode::{HasCoders, NoVariants};
 
 /// There is no value.
 #[derive(Clone, Copy)]
@@ -10,5 +10,3 @@ impl NoVariants for Never {
 }
 
 impl HasCoders for Never {}
-
-impl DecodeOwned for Never {}

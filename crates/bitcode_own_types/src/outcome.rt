@@ -1,7 +1,8 @@
 //! `Outcome` numbers its variants. What is below its declaration was written by `scripts/new_type`.
 ghost use Rattle.std.specs.Prelude.{[], ◌∷◌, refl};
+ghost use Rattle.bitcode_own_types.specs.declared.outcome.Outcome.{Outcome};
 
-use bitcode::{Bare, BareVariants, DecodeOwned, FromHolder, HasCoders, HeldIn};
+use bitcode::{Bare, BareVariants, HasCoders, HeldIn};
 
 /// How a game ended.
 #[derive(Debug, Clone, Copy, PartialEq)]
@@ -12,15 +13,11 @@ pub enum Outcome {
 }
 
 impl BareVariants<3> for Outcome {
-    ghost use Rattle.bitcode_own_types.specs.declared.outcome.Outcome.{Outcome};
-
     ghost variant = { elim [ Outcome.Won ↦ 0 | Outcome.Drawn ↦ 1 | Outcome.Lost ↦ 2 ] };
 
     ghost values = { Outcome.Won ∷ Outcome.Drawn ∷ Outcome.Lost ∷ [] };
 
-    ghost in_order = { refl };
-
-    ghost some = { refl };
+    ghost in_order = { (refl, refl) };
 
     fn index(&self) -> u8 {
         *self as u8
@@ -39,8 +36,4 @@ impl HeldIn for Outcome {
     type Holder = Bare<3, Outcome>;
 }
 
-impl FromHolder for Outcome {}
-
 impl HasCoders for Outcome {}
-
-impl DecodeOwned for Outcome {}

@@ -1,5 +1,5 @@
 -- The columns that a reader has open.
-use Rattle.std.specs.Prelude.{◌≡◌, ◌≢◌, ℕ, ℤ, ◌<◌, ◌+◌, ◌*◌, if◌then◌else◌, Bool, true, false, None, List, ◌++◌, length, map, String}
+use Rattle.std.specs.Prelude.{◌≡◌, ◌≢◌, ℕ, ℤ, ◌<◌, ◌+◌, ◌*◌, if◌then◌else◌, Bool, true, false, None, List, [], ◌∷◌, ◌++◌, length, map, String}
 use Rattle.std.specs.Global.{Global}
 use Rattle.bitcode_columns.specs.Fast.{slice_rest, cow_rest}
 use Rattle.bitcode_columns.specs.declared.error.Reason.{Reason}
@@ -68,7 +68,7 @@ left (column.U16 d) = bytes_data 2 false (λ bytes. bytes) (cow_rest d.values)
 left (column.U32 d) = bytes_data 4 false (λ bytes. bytes) (cow_rest d.values)
 left (column.U64 d) = bytes_data 8 false (λ bytes. bytes) (cow_rest d.values)
 left (column.U128 d) = bytes_data 16 false (λ bytes. bytes) (cow_rest d.values)
-left (column.I8 d) = bytes_data 1 true (λ bytes. bytes) (cow_rest d.values)
+left (column.I8 d) = bytes_data 1 true (λ byte. byte ∷ []) (cow_rest d.values)
 left (column.I16 d) = bytes_data 2 true (λ bytes. bytes) (cow_rest d.values)
 left (column.I32 d) = bytes_data 4 true (λ bytes. bytes) (cow_rest d.values)
 left (column.I64 d) = bytes_data 8 true (λ bytes. bytes) (cow_rest d.values)

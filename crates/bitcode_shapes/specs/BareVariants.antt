@@ -12,6 +12,10 @@ unit_shapes (suc count) = shape_and unit_shape (unit_shapes count)
 abbrev pub bare_shape : ℕ → Shape
 bare_shape count = choice_shape (unit_shapes count)
 
+-- enums have 2 to 256 variants
+abbrev pub AreSomeVariants : ℕ → Type 0
+AreSomeVariants count = IsTrue (leb 2 count && leb count 256)
+
 module _ {T : Type 0} (variant : T → ℕ) where
   abbrev pub ListsBare : T → Datum → Type 0
   ListsBare t d = d ≡ choice (variant t) unit
@@ -26,6 +30,6 @@ module _ {T : Type 0} (variant : T → ℕ) where
   abbrev pub AreInOrder : List T → ℕ → Type 0
   AreInOrder values count = map variant values ≡ range_with_len 0 count
 
--- enums have 2 to 256 variants
-abbrev pub AreSomeVariants : ℕ → Type 0
-AreSomeVariants count = IsTrue (leb 2 count && leb count 256)
+  -- and they are as many as enums have
+  abbrev pub AreSomeInOrder : List T → ℕ → Type 0
+  AreSomeInOrder values count = AreInOrder values count × AreSomeVariants count

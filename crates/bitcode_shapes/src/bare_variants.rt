@@ -1,14 +1,14 @@
 //! Enums whose variants all lack a payload: they say which variant a value is, and which value a variant.
 ghost use Rattle.std.specs.Prelude.{◌≡◌, ◌<◌, ℕ, List, true, refl};
 ghost use Rattle.bitcode_shapes.specs.Datum.{Datum};
-ghost use Rattle.bitcode_shapes.specs.BareVariants.{bare_shape, ListsBare, MakesBare, SameBare, AreInOrder, AreSomeVariants};
+ghost use Rattle.bitcode_shapes.specs.BareVariants.{bare_shape, ListsBare, MakesBare, SameBare, AreSomeInOrder};
 ghost use Rattle.bitcode_shapes.specs.LawfulBareVariants.{bare_lawful, bare_makeable};
 ghost use Rattle.bitcode_shapes.specs.LawfulImages.{image_lawful, image_makeable};
 ghost use Rattle.bitcode_shapes.specs.SameArrays.{one_datum_same_arrays};
 
 use crate::same_arrays::SameArrays;
 use crate::shaped::{Made, Shaped};
-use crate::stands_for::{FromHolder, HeldIn, Holds};
+use crate::stands_for::{HeldIn, Holds};
 
 /// An enum of `N` variants, 2 to 256, all of which lack a payload. They are numbered from 0 on in the order in which they
 /// stand.
@@ -35,16 +35,12 @@ use crate::stands_for::{FromHolder, HeldIn, Holds};
 ///         }
 ///     }
 ///
-///     ghost in_order = { refl };
-///
-///     ghost some = { refl };
+///     ghost in_order = { (refl, refl) };
 /// }
 ///
 /// impl HeldIn for Light {
 ///     type Holder = Bare<2, Light>;
 /// }
-///
-/// impl FromHolder for Light {}
 /// ```
 pub trait BareVariants<const N: usize> {
     // which variant a value is
@@ -63,9 +59,7 @@ pub trait BareVariants<const N: usize> {
         requires { index < N }
         ensures { variant result ≡ index };
 
-    ghost in_order: { AreInOrder variant values N };
-
-    ghost some: { AreSomeVariants N };
+    ghost in_order: { AreSomeInOrder variant values N };
 }
 
 /// An enum whose variants all lack a payload, and that is lawful as such: it says so by `HeldIn`.
@@ -86,8 +80,7 @@ impl<const N: usize, T: BareVariants<N> + HeldIn<Holder = Bare<N, T>>> BareShape
     ghost lists_bare = { λ t d h. h };
 }
 
-impl<const N: usize, T: BareVariants<N> + HeldIn<Holder = Bare<N, T>> + FromHolder> BareMade<N>
-    for T {
+impl<const N: usize, T: BareVariants<N> + HeldIn<Holder = Bare<N, T>>> BareMade<N> for T {
     ghost makes_bare = { λ d t h. h };
 }
 
@@ -128,13 +121,13 @@ impl<const N: usize, T: BareVariants<N>> Shaped for Bare<N, T> {
         let _index = self.value.index();
     }
 
-    ghost lawful = { image_lawful (λ b. b.value) (bare_lawful T.variant T.some) };
+    ghost lawful = { image_lawful (λ b. b.value) (bare_lawful T.variant T.in_order.1) };
 }
 
 impl<const N: usize, T: BareVariants<N>> Made for Bare<N, T> {
     ghost makes = { λ d b. MakesBare T.variant d b.value };
 
-    ghost makeable = { image_makeable (λ b. b.value) (λ g t h. (record { value = t }, refl)) (bare_makeable T.variant T.values T.in_order) };
+    ghost makeable = { image_makeable (λ b. b.value) (λ g t h. (record { value = t }, refl)) (bare_makeable T.variant T.values T.in_order.0) };
 }
 
 impl<const N: usize, T: BareVariants<N>> SameArrays for Bare<N, T> {

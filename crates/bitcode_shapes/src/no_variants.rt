@@ -4,7 +4,7 @@ ghost use Rattle.bitcode_shapes.specs.Shape.{never_shape};
 ghost use Rattle.bitcode_shapes.specs.LawfulNever.{never_lawful, never_makeable};
 
 use crate::shaped::{Made, Shaped};
-use crate::stands_for::{FromHolder, HeldIn, Holds};
+use crate::stands_for::{HeldIn, Holds};
 
 /// A type without values, as an enum without variants.
 ///
@@ -46,8 +46,6 @@ impl<T: NoVariants> Holds<T> for Absent<T> {
 impl<T: NoVariants> HeldIn for T {
     type Holder = Absent<T>;
 }
-
-impl<T: NoVariants> FromHolder for T {}
 
 impl<T: NoVariants> Shaped for Absent<T> {
     ghost shape = { never_shape };

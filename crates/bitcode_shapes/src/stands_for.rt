@@ -76,7 +76,7 @@ pub trait Holds<T>: Shaped {
         ensures { holder result ≡ self };
 }
 
-/// A type each of whose values stands for the struct that holds it.
+/// A type each of whose values stands for the struct that holds it, and is made of that.
 ///
 /// ```
 /// impl HeldIn for Light {
@@ -85,15 +85,8 @@ pub trait Holds<T>: Shaped {
 /// ```
 pub trait HeldIn {
     /// The struct that holds a value.
-    type Holder: Holds<Self>;
+    type Holder: Holds<Self> + Made;
 }
-
-/// A type each of whose values is made of the struct that holds it. It is a mark alone, beside [`HeldIn`].
-///
-/// ```
-/// impl FromHolder for Light {}
-/// ```
-pub trait FromHolder: HeldIn<Holder: Made> {}
 
 impl<T: HeldIn> StandsFor for T {
     type Parts = T::Holder;
@@ -107,7 +100,7 @@ impl<T: HeldIn> StandsFor for T {
     }
 }
 
-impl<T: FromHolder> FromParts for T {
+impl<T: HeldIn> FromParts for T {
     fn from_parts(whole: T::Holder) -> Self {
         whole.into_value()
     }

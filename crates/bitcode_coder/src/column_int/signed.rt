@@ -1,9 +1,9 @@
 // Written by scripts/tables/integers.
 //! The signed integers.
-ghost use Rattle.std.specs.Prelude.{true, refl};
+ghost use Rattle.std.specs.Prelude.{[], ◌∷◌, true, refl};
 ghost use Rattle.std.proofs.Common.{inl, inr};
 
-use crate::column_int::{ColumnInt, pack_each_byte};
+use crate::column_int::{ColumnInt, pack_each_byte, unpack_each_byte};
 use bitcode_columns::error::Error;
 use bitcode_columns::fast::CowSlice;
 use bitcode_columns::ints::Int;
@@ -11,7 +11,7 @@ use bitcode_columns::pack_ints::{pack_ints, unpack_ints};
 use std::alloc::Global;
 
 impl ColumnInt for i8 {
-    type Une = [u8; 1];
+    type Une = u8;
 
     ghost width = { 1 };
 
@@ -19,7 +19,7 @@ impl ColumnInt for i8 {
 
     ghost number = { λ z. z };
 
-    ghost une_bytes = { λ bytes. bytes };
+    ghost une_bytes = { λ byte. byte ∷ [] };
 
     fn pack(_alloc: Global, ints: &mut [i8], out: &mut Vec<u8>) -> Result<(), Error> {
         pack_each_byte(ints, out)
@@ -29,13 +29,13 @@ impl ColumnInt for i8 {
         alloc: Global,
         input: &mut &'a [u8],
         count: usize,
-        out: &mut CowSlice<'a, [u8; 1]>,
+        out: &mut CowSlice<'a, u8>,
     ) -> Result<(), Error> {
-        unpack_ints::<i8>(alloc, input, count, out)
+        unpack_each_byte(alloc, input, count, out)
     }
 
-    fn from_unaligned(unaligned: [u8; 1]) -> i8 {
-        <i8 as Int>::from_unaligned(unaligned)
+    fn from_unaligned(unaligned: u8) -> i8 {
+        <i8 as Int>::from_unaligned([unaligned])
     }
 
     ghost width_law = { inl refl };
