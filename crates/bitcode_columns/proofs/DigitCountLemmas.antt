@@ -1,9 +1,9 @@
 -- The digits of packed bytes, counted byte by byte.
-use Rattle.std.proofs.Common.{◌≡◌, ℕ, zero, suc, ◌+◌, ◌*◌, ◌/◌, ◌%◌, ◌^◌, ◌<◌, ◌≤◌, Bool, true, false, cond, eqb, ltb, List, [], ◌∷◌, ◌++◌, length, map, take, drop, min, get_or, set, All, refl, sym, ap, ◌∙◌, subst, arith}
-use Rattle.std.specs.List.{count_by, range_with_len, sum_by}
+use Rattle.std.proofs.Common.{◌≡◌, ℕ, zero, suc, ◌+◌, ◌*◌, ◌/◌, ◌%◌, ◌^◌, ◌<◌, ◌≤◌, Bool, true, false, cond, eqb, ltb, List, [], ◌∷◌, length, map, take, drop, min, get_or, set, All, refl, sym, ap, ◌∙◌, subst, arith}
+use Rattle.std.specs.List.{range_with_len, sum_by}
 use Rattle.std.proofs.Math.ListN.{length-set}
 use Rattle.std.proofs.Math.Seq.{take-add, take-suc}
-use Rattle.std.proofs.Math.Nat.{add-mul, mul-add, mul-le-mul_left, div-mul-le_self}
+use Rattle.std.proofs.Math.Nat.{add-mul, mul-add, mul_comm, mul-le-mul_left, div-mul-le_self}
 use Rattle.std.proofs.lemmas.Bool.Decides.{nat_tests}
 use Rattle.std.proofs.lemmas.Grind.{same_number_lists, get_or-set_at}
 use Rattle.std.proofs.lemmas.List.{get_or-take, get_or-drop, get_or-set_other, length-take, length-drop, take_all, take-append-drop}
@@ -189,6 +189,12 @@ module _ (base : Base) (value : ℕ) (bytes entries : List ℕ) (d whole : ℕ) 
 
   pub whole_behind : whole * d ≤ length entries
   whole_behind = subst (λ n. whole * n ≤ length entries) (sym d_is) fits
+
+  pub whole_digits : digits_in_byte base * length (take whole bytes) ≤ length entries
+  whole_digits =
+      let size : length (take whole bytes) ≡ whole = omega (arith, length-take whole bytes, whole_there) in
+      let product : digits_in_byte base * length (take whole bytes) ≡ whole * digits_in_byte base = ap (λ n. digits_in_byte base * n) size ∙ mul_comm (digits_in_byte base) whole in
+      omega (arith, product, fits)
 
   counted_front : count_of value (take (whole * digits_in_byte base) entries) ≡ digits_counted base value (take whole bytes)
   counted_front = whole_bytes_counted base value bytes entries whole spelled fits whole_there

@@ -21,6 +21,7 @@ pub mod BytePackingLemmas
 pub mod HistogramLemmas
 pub mod TableLemmas
 pub mod DigitCountLemmas
+pub mod BitCountLemmas
 pub mod BlockLemmas
 pub mod VariantColumnLemmas
 pub mod ConsumeLemmas
