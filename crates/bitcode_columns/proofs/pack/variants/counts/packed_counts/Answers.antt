@@ -13,8 +13,7 @@ use Rattle.bitcode_columns.proofs.pack.variants.counts.packed_counts.Goals.{then
 pub counts_of_whole-counts-requires : goal.counts_of_whole-counts-requires
 counts_of_whole-counts-requires g c =
     let in_byte = c.digits_in_byte-in_byte in
-    let entries = c.args.entries.now in
-    (
+    let entries = c.args.entries.now in (
       first_of (search rules, omega arith, grind (arith, common_steps)),
       (
         λ value below.
