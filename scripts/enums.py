@@ -8,6 +8,8 @@ from structs import NOT_DERIVED, bounds, encoded, halved, heads, initialized, pa
 
 # Of 16 variants with payloads the compiler says in generic code that there are too many impls to go through; 12 compile.
 MOST_VARIANTS, MOST_PAYLOADS = 256, 12
+# The borrow checker covers no pattern that goes deeper, where a payload takes memory.
+MOST_IN_ONE_MATCH = 4
 # The names of fields without a name.
 LETTERS = "abcdefghijklmnop"
 
@@ -92,7 +94,7 @@ impl$shaped StandsFor for $name {
 
 impl$made FromParts for $name {
     fn from_parts(choice: Choice<$count, $mark>) -> Self {
-        match choice.payload {$from_parts}
+        $from_parts
     }
 }
 
@@ -201,6 +203,17 @@ def nested(enum, nothing, text):
     return "".join(f"FirstOr<{part}, " for part in parts[:-1]) + f"Last<{parts[-1]}>" + ">" * (len(parts) - 1)
 
 
+def one_by_one(enum):
+    """The value that a payload stands for, found by one match for each variant."""
+    *before, last = enum.variants
+    matches = [
+        f"let rest = match {'rest' if place else 'choice.payload'} {{\n            FirstOr::First({payload(names_of(variant), '()')}) => return {value(enum, variant)},\n"
+        "            FirstOr::Rest(rest) => rest,\n        };\n        "
+        for place, variant in enumerate(before)
+    ]
+    return "".join(matches) + f"let Last({payload(names_of(last), '()')}) = rest;\n        {value(enum, last)}"
+
+
 def ghost_behind(place, inner):
     """The same in a ghost member."""
     return "FirstOr.Rest (" * place + inner + ")" * place
@@ -276,7 +289,8 @@ def payloads_text(enum, crate, module, imports, is_owned):
         "input": input,
         "parts": parts,
         "of_parts": of_parts,
-        "from_parts": arms(enum, lambda place, variant: held(place, variant, "()"), lambda place, variant: value(enum, variant)),
+        "from_parts": one_by_one(enum) if last + 1 > MOST_IN_ONE_MATCH
+        else f"match choice.payload {{{arms(enum, lambda place, variant: held(place, variant, '()'), lambda place, variant: value(enum, variant))}}}",
         "lend": lend,
         "lending": bounds(enum, f"Shaped + {lend}", f"{lend}, {enum.lifetime}: {lend}" if enum.lifetime else lend),
         "lent_parameters": bounds(enum, "", f"{lend}, {enum.lifetime}" if enum.lifetime else lend),
