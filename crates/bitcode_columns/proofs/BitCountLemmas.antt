@@ -1,5 +1,5 @@
 -- The bits of packed bytes, counted many at a time.
-use Rattle.std.proofs.Common.{◌≡◌, ℕ, zero, suc, ◌+◌, ◌-◌, ◌*◌, ◌/◌, ◌%◌, ◌<◌, ◌≤◌, Bool, true, ◌&&◌, T, List, [], ◌∷◌, ◌++◌, length, map, replicate, take, drop, get_or, set, All, eq-zero-or-pos, inl, inr, nat_eq, refl, sym, subst, ap, ◌∙◌, arith}
+use Rattle.std.proofs.Common.{◌≡◌, ℕ, zero, suc, ◌+◌, ◌-◌, ◌*◌, ◌/◌, ◌%◌, ◌<◌, ◌≤◌, List, [], ◌∷◌, ◌++◌, length, map, replicate, take, drop, get_or, set, All, nat_eq, refl, sym, ap, ◌∙◌, arith}
 use Rattle.std.specs.Prelude.{count_ones}
 use Rattle.std.specs.List.{range_with_len}
 use Rattle.std.specs.Simd.{first_chunks}
@@ -11,41 +11,38 @@ use Rattle.std.proofs.lemmas.List.Elements.{All-head, All-tail}
 use Rattle.std.proofs.lemmas.Nat.{ones_le_self}
 use Rattle.std.proofs.lemmas.List.Sums.{sum_by-cons, sum_by-append, sum_by_push}
 use lib.Pointwise.{pointwise}
-use lib.Ieee.Fits.{and_l, and_r}
 use lib.Ieee.Bits.{is_true}
 use Rattle.bitcode_columns.specs.declared.pack.Base.TheVariants.{Two}
 use Rattle.bitcode_columns.specs.Digits.{digit}
 use Rattle.bitcode_columns.specs.DigitCounts.{digits_of, digits_counted}
 use Rattle.bitcode_columns.specs.Histogram.{count_of}
 use Rattle.bitcode_columns.specs.LittleEndian.{little_endian}
+use Rattle.bitcode_columns.proofs.BitLemmas.{holds_below}
 use Rattle.bitcode_columns.proofs.TableLemmas.{get_or-first_chunks}
 
 -- ---- the bits of one byte
 
--- of each byte below a bound so many bits are 1, and all eight are 0 or 1
-abbrev are_bits : ℕ → Bool
-are_bits zero = true
-are_bits (suc byte) =
-    pointwise nat_eq (count_ones byte ∷ (count_of 0 (map (digit 2 byte) (range_with_len 0 8)) + count_of 1 (map (digit 2 byte) (range_with_len 0 8))) ∷ [])
-    (count_of 1 (map (digit 2 byte) (range_with_len 0 8)) ∷ 8 ∷ []) && are_bits byte
+-- the bits of a byte that are 0, and those that are 1
+abbrev zeros : ℕ → ℕ
+zeros byte = count_of 0 (map (digit 2 byte) (range_with_len 0 8))
 
-below : (n byte : ℕ) → T (are_bits n) → byte < n
-    → (count_ones byte ∷ (count_of 0 (map (digit 2 byte) (range_with_len 0 8)) + count_of 1 (map (digit 2 byte) (range_with_len 0 8))) ∷ [])
-    ≡ (count_of 1 (map (digit 2 byte) (range_with_len 0 8)) ∷ 8 ∷ [])
-below zero byte t h = absurd (omega arith)
-below (suc n) byte t h =
-    elim (eq-zero-or-pos (n - byte)) [
-      | inl z ↦ let e : byte ≡ n = omega arith in rw e (same_text _ _ (sym (is_true _ (and_l _ (are_bits n) t))))
-      | inr g ↦ below n byte (and_r _ (are_bits n) t) (omega arith)
-    ]
+abbrev ones : ℕ → ℕ
+ones byte = count_of 1 (map (digit 2 byte) (range_with_len 0 8))
+
+-- of each byte so many bits are 1, and all eight are 0 or 1
+bits_of_byte : (byte : ℕ) → byte < 256 → (count_ones byte ∷ (zeros byte + ones byte) ∷ []) ≡ (ones byte ∷ 8 ∷ [])
+unfolding lib.Count.ones
+bits_of_byte byte h =
+    same_text (count_ones byte ∷ (zeros byte + ones byte) ∷ []) (ones byte ∷ 8 ∷ [])
+    (sym (is_true _ (holds_below (λ b. pointwise nat_eq (count_ones b ∷ (zeros b + ones b) ∷ []) (ones b ∷ 8 ∷ [])) 256 byte tt h)))
 
 byte_ones : (byte : ℕ) → byte < 256 → count_ones byte ≡ count_of 1 (digits_of Two byte)
-unfolding digits_of lib.Count.ones
-byte_ones byte h = ap (λ xs. get_or xs 0 0) (below 256 byte tt h)
+unfolding digits_of
+byte_ones byte h = ap (λ xs. get_or xs 0 0) (bits_of_byte byte h)
 
 byte_bits : (byte : ℕ) → byte < 256 → count_of 0 (digits_of Two byte) + count_of 1 (digits_of Two byte) ≡ 8
-unfolding digits_of lib.Count.ones
-byte_bits byte h = ap (λ xs. get_or xs 1 0) (below 256 byte tt h)
+unfolding digits_of
+byte_bits byte h = ap (λ xs. get_or xs 1 0) (bits_of_byte byte h)
 
 -- ---- the bits of several
 
@@ -104,14 +101,14 @@ ones_in_front n bytes h =
     omega (arith, bits_counted bytes h, counted-append (take n bytes) (drop n bytes), ap (digits_counted Two 1) (take-append-drop n bytes))
 
 -- the byte behind those that are counted is counted
-pub one_byte_more : (i : ℕ) (bytes : List ℕ) (byte : ℕ) → i < length bytes → byte ≡ get_or bytes i 0 → byte < 256
-    → digits_counted Two 1 (take (i + 1) bytes) ≡ digits_counted Two 1 (take i bytes) + count_ones byte
+pub one_byte_more : (i : ℕ) (bytes : List ℕ) → i < length bytes → get_or bytes i 0 < 256
+    → digits_counted Two 1 (take (i + 1) bytes) ≡ digits_counted Two 1 (take i bytes) + count_ones (get_or bytes i 0)
 unfolding digits_counted
-one_byte_more i bytes byte inside is small =
+one_byte_more i bytes inside small =
     ap (λ n. digits_counted Two 1 (take n bytes)) {x = i + 1} {y = suc i} (omega arith)
     ∙ ap (digits_counted Two 1) (take-suc bytes i 0 inside)
     ∙ sum_by_push (λ b. count_of 1 (digits_of Two b)) (take i bytes) (get_or bytes i 0)
-    ∙ rw is (ap (λ n. digits_counted Two 1 (take i bytes) + n) (sym (byte_ones (get_or bytes i 0) (subst (λ x. x < 256) is small))))
+    ∙ ap (λ n. digits_counted Two 1 (take i bytes) + n) (sym (byte_ones (get_or bytes i 0) small))
 
 -- the block behind those that are counted is counted
 pub one_block_more : (size blocks i : ℕ) (bytes block : List ℕ) → i < blocks → block ≡ get_or (first_chunks size blocks bytes) i []

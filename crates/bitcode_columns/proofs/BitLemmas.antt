@@ -10,20 +10,23 @@ use Rattle.bitcode_columns.specs.Digits.{digit}
 use Rattle.bitcode_columns.specs.Ints.{bool_digit, residue, number_of}
 use Rattle.bitcode_columns.proofs.IntLemmas.{residue-number_of}
 
-abbrev are_bits : ℕ → Bool
-are_bits zero = true
-are_bits (suc byte) = pointwise nat_eq (map bool_digit (get_or BITS byte [])) (map (digit 2 byte) (range_with_len 0 8)) && are_bits byte
+-- what is so of each number below a bound, found by computing it for each
+abbrev pub all_below : (ℕ → Bool) → ℕ → Bool
+all_below p zero = true
+all_below p (suc n) = p n && all_below p n
 
-below : (n byte : ℕ) → T (are_bits n) → byte < n → map bool_digit (get_or BITS byte []) ≡ map (digit 2 byte) (range_with_len 0 8)
-below zero byte t h = absurd (omega arith)
-below (suc n) byte t h =
-    elim (eq-zero-or-pos (n - byte)) [
-      | inl z ↦ let e : byte ≡ n = omega arith in rw e (same_text (map bool_digit (get_or BITS n [])) (map (digit 2 n) (range_with_len 0 8)) (sym (is_true _ (and_l _ (are_bits n) t))))
-      | inr g ↦ below n byte (and_r _ (are_bits n) t) (omega arith)
+pub holds_below : (p : ℕ → Bool) (n k : ℕ) → T (all_below p n) → k < n → T (p k)
+holds_below p zero k t h = absurd (omega arith)
+holds_below p (suc n) k t h =
+    elim (eq-zero-or-pos (n - k)) [
+      | inl z ↦ let e : k ≡ n = omega arith in rw e (and_l _ (all_below p n) t)
+      | inr g ↦ holds_below p n k (and_r _ (all_below p n) t) (omega arith)
     ]
 
 pub BITS_at : (byte : ℕ) → byte < 256 → map bool_digit (get_or BITS byte []) ≡ map (digit 2 byte) (range_with_len 0 8)
-BITS_at byte h = below 256 byte tt h
+BITS_at byte h =
+    same_text (map bool_digit (get_or BITS byte [])) (map (digit 2 byte) (range_with_len 0 8))
+    (sym (is_true _ (holds_below (λ b. pointwise nat_eq (map bool_digit (get_or BITS b [])) (map (digit 2 b) (range_with_len 0 8))) 256 byte tt h)))
 
 -- a number below 256 that is a bit, as an integer of one byte
 pub bit_is : (signed : Bool) (n bit : ℕ) (z : ℤ) → z ≡ number_of 1 signed n → n ≡ bit → n < 256 → residue 1 z ≡ bit

@@ -2,7 +2,7 @@
 use Rattle.std.proofs.Common.{◌≡◌, refl, ℕ, suc, ◌+◌, ◌<◌, ◌≤◌, List, [], ◌∷◌, ◌++◌, length, take, drop, get_or, sym, ap, ◌∙◌, arith, append_assoc, length-append, take_at, take-append-drop}
 use Rattle.std.specs.List.{refill}
 use Rattle.std.proofs.Math.Seq.{take-suc}
-use Rattle.std.proofs.lemmas.List.{take_all, take-take, take-append-le, length-take, length-drop}
+use Rattle.std.proofs.lemmas.List.{take_all, take-take, length-take, length-drop}
 
 module _ {X : Type 0} where
   -- nothing lies behind the item that was written last

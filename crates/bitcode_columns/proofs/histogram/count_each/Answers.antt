@@ -1,7 +1,4 @@
-use Rattle.std.proofs.Common.{◌≡◌, ℕ, ◌+◌, ◌*◌, ◌%◌, ◌<◌, ◌≤◌, length, take, get_or, refl, arith}
-use Rattle.std.proofs.lemmas.List.Sums.{count_by-le-length}
-use Rattle.std.specs.Prelude.{◌==◌}
-use Rattle.bitcode_columns.specs.Histogram.{count_of, counted}
+use Rattle.std.proofs.Common.{◌+◌, ◌*◌, ◌%◌, ◌<◌, get_or, refl, arith}
 use Rattle.bitcode_columns.proofs.TableLemmas.{counted_more, count_of_more, in_one_place, count_of_front}
 use Rattle.bitcode_columns.proofs.histogram.count_each.Goals as goal
 

@@ -1,5 +1,5 @@
-use Rattle.std.proofs.Common.{◌≡◌, ℕ, ◌+◌, ◌*◌, ◌/◌, ◌<◌, length, take, get_or, [], rules, ap, sym, ◌∙◌, arith}
-use Rattle.bitcode_columns.specs.Histogram.{AreCounts, count_of, counted}
+use Rattle.std.proofs.Common.{◌≡◌, ◌*◌, ◌/◌, length, take, get_or, [], rules, ap, ◌∙◌, arith}
+use Rattle.bitcode_columns.specs.Histogram.{count_of, counted}
 use Rattle.bitcode_columns.proofs.TableLemmas.{no_counts, block_counted, rest_counted}
 use Rattle.bitcode_columns.proofs.histogram.count_in_tables.Goals as goal
 

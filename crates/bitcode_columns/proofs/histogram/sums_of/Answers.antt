@@ -1,4 +1,4 @@
-use Rattle.std.proofs.Common.{◌≡◌, ◌+◌, ◌<◌, arith, refl}
+use Rattle.std.proofs.Common.{arith, refl}
 use Rattle.std.proofs.lemmas.Grind.{common_steps}
 use Rattle.bitcode_columns.specs.Histogram.{counted}
 use Rattle.bitcode_columns.proofs.TableLemmas.{value_more}

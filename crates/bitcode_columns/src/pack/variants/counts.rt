@@ -62,6 +62,7 @@ fn ones_of_each(packed: &[u8]) -> usize
     requires { 8 * length packed.now < 2 ^ 64 }
     ensures { result ≡ digits_counted Base.Two 1 packed.now }
 {
+    known_bytes(packed);
     let mut ones = 0;
     for byte in packed {
         ones += byte.count_ones() as usize;
@@ -74,6 +75,7 @@ fn ones_of(packed: &[u8]) -> usize
     requires { 8 * length packed.now < 2 ^ 64 }
     ensures { result ≡ digits_counted Base.Two 1 packed.now }
 {
+    known_bytes(packed);
     let (blocks, rest) = packed.as_chunks::<8>();
     let mut ones = 0;
     for block in blocks {
@@ -88,6 +90,7 @@ fn counts_of_bits<const N: usize>(packed: &[u8]) -> [usize; N]
     requires few { 8 * length packed.now < 2 ^ 64 }
     ensures { (value : ℕ) → value < N → slice_index result value ≡ digits_counted Base.Two value packed.now }
 {
+    known_bytes(packed);
     let ones = ones_of(packed);
     let mut counts = [0; N];
     counts[0] = 8 * packed.len() - ones;

@@ -1,6 +1,5 @@
-use Rattle.std.proofs.Common.{◌≡◌, ℕ, ◌+◌, ◌*◌, ◌/◌, ◌%◌, ◌^◌, ◌<◌, ◌≤◌, take, get_or, ap, sym, ◌∙◌, arith}
+use Rattle.std.proofs.Common.{◌≡◌, ◌+◌, ◌*◌, ◌/◌, ◌%◌, ◌^◌, ◌<◌, ◌≤◌, get_or, ap, ◌∙◌, arith}
 use Rattle.bitcode_columns.specs.Digits.{radix, digits_in_byte}
-use Rattle.bitcode_columns.specs.DigitCounts.{digits_of}
 use Rattle.bitcode_columns.specs.Histogram.{count_of}
 use Rattle.bitcode_columns.proofs.PackingLemmas.{div-pow_more}
 use Rattle.bitcode_columns.proofs.DigitCountLemmas.{times_fit, times_more, added, added_size, not_added, all_places}

@@ -1,5 +1,4 @@
-use Rattle.std.proofs.Common.{◌+◌, ◌<◌, All, get_or, refl, arith}
-use Rattle.std.proofs.lemmas.List.{get_or_default}
+use Rattle.std.proofs.Common.{◌+◌, refl, arith}
 use Rattle.bitcode_columns.specs.DigitCounts.{digits_counted}
 use Rattle.bitcode_columns.proofs.BitCountLemmas.{ones_in_front, one_byte_more}
 use Rattle.bitcode_columns.proofs.pack.variants.counts.ones_of_each.Goals as goal
@@ -12,12 +11,11 @@ pub overflow_add-ones : goal.overflow_add-ones
 overflow_add-ones c =
     let packed = c.args.packed.now in
     let i = c.loop-byte.byte-index in
-    let bytes : All (λ byte. byte < 256) packed = λ k d inside. omega (arith, get_or_default packed k d 0 inside, c.type_inv.packed k) in
     omega (
       arith,
       c.loop-byte.invariant,
-      one_byte_more i packed (get_or packed i 0) (omega arith) refl (bytes i 0 (omega arith)),
-      ones_in_front (i + 1) packed bytes,
+      one_byte_more i packed (omega arith) (c.known_bytes.ensures i 0 (omega arith)),
+      ones_in_front (i + 1) packed c.known_bytes.ensures,
       c.requires,
     )
 
@@ -25,9 +23,8 @@ pub loop-byte-preserved : goal.loop-byte-preserved
 loop-byte-preserved c =
     let packed = c.args.packed.now in
     let i = c.loop-byte.byte-index in
-    let bytes : All (λ byte. byte < 256) packed = λ k d inside. omega (arith, get_or_default packed k d 0 inside, c.type_inv.packed k) in
     omega (
       arith,
       c.loop-byte.invariant,
-      one_byte_more i packed (get_or packed i 0) (omega arith) refl (bytes i 0 (omega arith)),
+      one_byte_more i packed (omega arith) (c.known_bytes.ensures i 0 (omega arith)),
     )
