@@ -3,7 +3,7 @@
 from string import Template
 
 from declarations import Refused, fields_of
-from known_types import MOST_FIELDS, Checker, of_text, takes_memory
+from known_types import MOST_FIELDS, Checker, inside, of_text
 from structs import NOT_DERIVED, bounds, encoded, halved, heads, initialized, parameter, places, quoted, tuple_text
 
 # Of 16 variants with payloads the compiler says in generic code that there are too many impls to go through; 12 compile.
@@ -72,6 +72,7 @@ type Lent$lent_parameters = $lent;
 
 impl$shaped NamesVariants<$count> for $mark {
     type Variants = Variants$parameters;
+    type Inside = $inside;
 
     ghost count = { refl };
 
@@ -82,6 +83,7 @@ impl$shaped StandsFor for $name {
     ghost use Rattle.$crate.specs.declared.$module.$ghost.{$ghost};
 
     type Parts = Choice<$count, $mark>;
+    type Inside = $inside;
 
     ghost parts = { elim [ $parts ] };
 
@@ -164,7 +166,7 @@ def value(enum, variant):
     return f"{enum.name}::{variant.name}{inner}"
 
 
-def one_text(enum, crate, module, imports, is_owned):
+def one_text(enum, crate, module, imports, own):
     """The file of an enum of one variant, which stands for the tuple of its fields as a struct does."""
     variant, ghost = enum.variants[0], quoted(enum.name)
     letters, name = list(LETTERS[: len(variant.fields)]), f"{ghost}.{variant.name}"
@@ -174,7 +176,7 @@ def one_text(enum, crate, module, imports, is_owned):
     return tuple_text(
         enum,
         imports,
-        is_owned,
+        own,
         about=f"`{enum.name}` stands for the tuple of its variant's fields. What is below its declaration was written by `scripts/new_type`.",
         declaration=declaration(enum),
         ghost_use=f"    ghost use Rattle.{crate}.specs.declared.{module}.{ghost}.{{{ghost}}};\n\n",
@@ -252,8 +254,9 @@ def bare_text(enum, crate, module):
     return Template(BARE).substitute(row)
 
 
-def payloads_text(enum, crate, module, imports, is_owned):
+def payloads_text(enum, crate, module, imports, own):
     """The file of an enum of whose variants some have fields."""
+    is_owned = not enum.lifetime
     last, name, input = len(enum.variants) - 1, enum.name + bounds(enum, ""), enum.lifetime or "'a"
     lend = "'b" if enum.lifetime != "'b" else "'c"
     marked = ", ".join([*([f"&{enum.lifetime} ()"] if enum.lifetime else []), *enum.types])
@@ -278,6 +281,7 @@ def payloads_text(enum, crate, module, imports, is_owned):
         "uses": "\n".join(sorted([f"use bitcode::{{{', '.join(sorted(used))}}};", *(f"use {path};" for path in imports)])) + "\n",
         "declaration": declaration(enum),
         "parameters": bounds(enum, ""),
+        "inside": inside(enum, own),
         "variants": nested(enum, "()", lambda text: text),
         "shaped": bounds(enum, "Shaped"),
         "made": bounds(enum, "Made"),
@@ -329,14 +333,12 @@ def enum_text(enum, own, crate, module):
     checker = Checker(enum, own)
     for field in fields_of(enum):
         checker.check(field.type)
-    # The check cannot state yet that an enum which takes memory is `DecodeOwned`.
-    is_owned = not enum.lifetime and not any(takes_memory(field.type, own) for field in fields_of(enum))
     if not enum.variants:
         text = Template(NEVER).substitute(name=enum.name, declaration=declaration(enum))
     elif len(enum.variants) == 1:
-        text = one_text(enum, crate, module, checker.imports, is_owned)
+        text = one_text(enum, crate, module, checker.imports, own)
     elif not fields_of(enum):
         text = bare_text(enum, crate, module)
     else:
-        text = payloads_text(enum, crate, module, checker.imports, is_owned)
+        text = payloads_text(enum, crate, module, checker.imports, own)
     return text, checker.crates

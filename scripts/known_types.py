@@ -5,6 +5,9 @@ from collections import namedtuple
 
 from declarations import Refused, fields_of, word_of
 
+# A type of one's own: where it is imported from, its declaration if that is in the file, and whether its impls are those of what it
+# stands for, as this script writes them.
+Own = namedtuple("Own", "path item stands")
 # A type that the library writes and reads: where it is imported from, how many types and how many numbers it takes, and whether it
 # can be a set's element or a map's key ("parts": if what it holds can).
 Known = namedtuple("Known", "path types numbers key")
@@ -83,11 +86,28 @@ def takes_memory(type, own):
     if type.kind != "path":
         return any(takes_memory(part, own) for part in type.parts)
     if type.name in own:
-        item = own[type.name][1]
+        item = own[type.name].item
         inside = not item or any(takes_memory(field.type, own) for field in fields_of(item))
     else:
         inside = type.name in TYPES and type.name not in FREE
     return inside or any(takes_memory(part, own) for part in type.parts)
+
+
+def inside(item, own):
+    """What the types of one's own in the item's fields stand for, of those that take memory: the toolchain states no impl without it."""
+    names = []
+
+    def collect(type):
+        if type.kind == "path" and type.name in own and own[type.name].stands and of_text(type) not in names:
+            if takes_memory(type, own) or set(names_in(type)) & set(item.types):
+                names.append(of_text(type))
+        for part in type.parts:
+            collect(part)
+
+    for field in fields_of(item):
+        collect(field.type)
+    pairs = [f"(<{name} as StandsFor>::Parts, <{name} as StandsFor>::Inside)" for name in names]
+    return pairs[0] if len(pairs) == 1 else f"({', '.join(pairs)})"
 
 
 class Checker:
@@ -160,14 +180,10 @@ class Checker:
             self.check(part)
 
     def own_type(self, type):
-        path, item = self.own[type.name]
+        path, item, _ = self.own[type.name]
         taken = len(type.parts) if not item else len(item.types) + bool(item.lifetime)
         if len(type.parts) != taken:
             raise Refused(type.line, f"`{type.name}` takes {taken} parameters")
-        if item and takes_memory(type, self.own):
-            instead = {"struct": "write its fields here, or it by docs/GUIDE.md, \"A struct over the coders of tuples\"",
-                       "enum": "write its variants here, or it by docs/GUIDE.md, \"An enum of 2 to 256 variants\""}[word_of(item)]
-            raise Refused(type.line, f"`{type.name}` takes memory of its own, and no type with such a part can be proved yet: {instead}")
         self.imports.add(path)
         for part in type.parts:
             if part.kind == "lifetime":

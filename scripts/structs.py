@@ -3,7 +3,7 @@
 from string import Template
 
 from declarations import Refused, fields_of
-from known_types import MOST_FIELDS, Checker, of_text, takes_memory
+from known_types import MOST_FIELDS, Checker, inside, of_text
 
 # The names of fields without a name.
 ORDINALS = "first second third fourth fifth sixth seventh eighth ninth tenth eleventh twelfth thirteenth fourteenth fifteenth sixteenth".split()
@@ -27,6 +27,7 @@ type Columns$parameters = <Parts$parameters as HasEncoder>::Encoder;
 
 impl$shaped StandsFor for $name {
 $ghost_use    type Parts = Parts$parameters;
+    type Inside = $inside;
 
     ghost parts = { $ghost_parts };
 
@@ -122,8 +123,9 @@ def initialized(field):
     return field.name if parameter(field.name) == field.name else f"{field.name}: {parameter(field.name)}"
 
 
-def tuple_text(item, imports, is_owned, **row):
+def tuple_text(item, imports, own, **row):
     """The file of what stands for the tuple of its fields, of what is said of these."""
+    is_owned = not item.lifetime
     fields, name, input = fields_of(item), item.name + bounds(item, ""), item.lifetime or "'a"
     used = {"EncodeParts", "Error", "FromParts", "HasDecoder", "HasEncoder", "PartsDecoder", "PartsEncoder", "StandsFor"}
     used |= {"Encoder"} if len(fields) < 2 else {"FieldsEncoder"}
@@ -135,6 +137,7 @@ def tuple_text(item, imports, is_owned, **row):
         "uses": "\n".join(sorted(lines)) + "\n",
         "name": name,
         "parameters": bounds(item, ""),
+        "inside": inside(item, own),
         "parts": halved([of_text(field.type) for field in fields]) if fields else "()",
         "shaped": bounds(item, "Shaped"),
         "made": bounds(item, "Made"),
@@ -155,7 +158,7 @@ def encoded(item, borrowed):
     return f"FieldsEncoder::<{types}>::encode_fields(columns, &{halved(borrowed)})"
 
 
-def file_text(struct, imports, is_owned):
+def file_text(struct, imports, own):
     """The file of the struct."""
     fields, count = struct.fields, len(struct.fields)
     names = [parameter(field.name) if struct.kind == "named" else ORDINALS[i] if count > 1 else "value" for i, field in enumerate(fields)]
@@ -164,7 +167,7 @@ def file_text(struct, imports, is_owned):
     return tuple_text(
         struct,
         imports,
-        is_owned,
+        own,
         about=f"`{struct.name}` stands for the tuple of its fields. What is below its declaration was written by `scripts/new_type`.",
         declaration=declaration(struct),
         ghost_use="",
@@ -184,7 +187,5 @@ def struct_text(struct, own):
     checker = Checker(struct, own)
     for field in struct.fields:
         checker.check(field.type)
-    # The check cannot state yet that a struct which takes memory is `DecodeOwned`.
-    is_owned = not struct.lifetime and not any(takes_memory(field.type, own) for field in struct.fields)
-    return file_text(struct, checker.imports, is_owned), checker.crates
+    return file_text(struct, checker.imports, own), checker.crates
 

@@ -62,7 +62,7 @@ where
 /// ```
 /// impl DecodeOwned for Meters {}
 /// ```
-pub trait DecodeOwned: Made {}
+pub trait DecodeOwned {}
 
 /// A type whose coders are those of the struct that holds its values, as those of an enum without payloads are, and whose values
 /// borrow nothing from the input that they are read from.

@@ -20,6 +20,7 @@ use bitcode_shapes::shaped::{Made, Shaped};
 ///
 /// impl NamesVariants<2> for ShotVariants {
 ///     type Variants = FirstOr<(), Last<u8>>;
+///     type Inside = ();
 ///
 ///     ghost count = { refl };
 ///
@@ -29,6 +30,9 @@ use bitcode_shapes::shaped::{Made, Shaped};
 pub trait NamesVariants<const N: usize> {
     /// The payloads of the variants.
     type Variants: ShapedVariants;
+
+    /// What types of one's own among the payloads stand for, as in [`StandsFor`](bitcode_shapes::stands_for::StandsFor).
+    type Inside;
 
     ghost count: { variant_count Self.Variants.shapes ≡ N };
 

@@ -3,6 +3,7 @@ ghost use Rattle.std.specs.Prelude.{◌≡◌, ◌+◌, ◌≤◌};
 ghost use Rattle.bitcode_shapes.specs.Shape.{variant_count};
 
 use crate::variants::{FirstOr, Last, ShapedVariants};
+use bitcode_shapes::stands_for::StandsFor;
 use bitcode_tuples::fields::Fields;
 
 /// References to the fields of the payload of one variant.
@@ -81,7 +82,7 @@ impl<F: Fields, R: VariantFields> VariantFields for FirstOr<F, R> {
 ///     }
 /// }
 /// ```
-pub trait LendsVariant<'a, V: ShapedVariants> {
+pub trait LendsVariant<'a, V: ShapedVariants>: StandsFor {
     // the payload that a value stands for
     ghost variant: { Self → V };
 

@@ -21,6 +21,8 @@ type Columns<T> = <Parts<T> as HasEncoder>::Encoder;
 impl<T: Shaped> StandsFor for Dated<T> {
     type Parts = Parts<T>;
 
+    type Inside = ();
+
     ghost parts = { λ t. (t.year, t.day, t.value) };
 
     ghost of_parts = { λ p. (record { year = p.0; day = p.1; value = p.2 }, refl) };

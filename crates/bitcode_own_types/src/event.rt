@@ -3,9 +3,9 @@ ghost use Rattle.std.specs.Prelude.{refl};
 ghost use Rattle.bitcode.specs.ByHand.{FirstOr, stood_for};
 
 use bitcode::{
-    Choice, EncodeVariant, EnumDecoder, EnumEncoder, Error, FirstOr, FromParts, HasDecoder,
-    HasEncoder, HasPayloadDecoder, HasPayloadEncoder, Last, LendsVariant, NamesVariants,
-    PartsDecoder, StandsFor, VariantEncoder, VariantFields, encode_variant_fields,
+    Choice, DecodeOwned, EncodeVariant, EnumDecoder, EnumEncoder, Error, FirstOr, FromParts,
+    HasDecoder, HasEncoder, HasPayloadDecoder, HasPayloadEncoder, Last, LendsVariant,
+    NamesVariants, PartsDecoder, StandsFor, VariantEncoder, VariantFields, encode_variant_fields,
 };
 
 /// What happens in a game.
@@ -33,6 +33,8 @@ type Lent<'b> = FirstOr<
 impl NamesVariants<4> for EventVariants {
     type Variants = Variants;
 
+    type Inside = ();
+
     ghost count = { refl };
 
     ghost some = { refl };
@@ -42,6 +44,8 @@ impl StandsFor for Event {
     ghost use Rattle.bitcode_own_types.specs.declared.event.Event.{Event};
 
     type Parts = Choice<4, EventVariants>;
+
+    type Inside = ();
 
     ghost parts = { elim [ Event.Tick ↦ record { payload = FirstOr.First tt } | Event.Spawn a b ↦ record { payload = FirstOr.Rest (FirstOr.First (a, b)) } | Event.Move a b c ↦ record { payload = FirstOr.Rest (FirstOr.Rest (FirstOr.First (a, b, c))) } | Event.Quit a ↦ record { payload = FirstOr.Rest (FirstOr.Rest (FirstOr.Rest (record { 0 = a }))) } ] };
 
@@ -104,3 +108,5 @@ impl<'a> HasDecoder<'a> for Event {
         EnumDecoder<'a, 4, EventVariants, <Variants as HasPayloadDecoder<'a>>::Decoder>,
     >;
 }
+
+impl DecodeOwned for Event {}

@@ -20,6 +20,8 @@ type Columns<'a> = <Parts<'a> as HasEncoder>::Encoder;
 impl<'a> StandsFor for Foo<'a> {
     type Parts = Parts<'a>;
 
+    type Inside = ();
+
     ghost parts = { λ t. (t.x, t.y) };
 
     ghost of_parts = { λ p. (record { x = p.0; y = p.1 }, refl) };

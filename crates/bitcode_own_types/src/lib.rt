@@ -7,6 +7,7 @@ pub mod dated;
 pub mod event;
 pub mod foo;
 pub mod generic;
+pub mod journal;
 pub mod message;
 pub mod monster;
 pub mod never;
@@ -15,6 +16,4 @@ pub mod outcome;
 pub mod player;
 pub mod saved;
 pub mod scores;
-#[cfg(test)]
-mod tests;
 pub mod two;

@@ -20,6 +20,8 @@ type Columns<'a> = <Parts<'a> as HasEncoder>::Encoder;
 impl<'a> StandsFor for Message<'a> {
     type Parts = Parts<'a>;
 
+    type Inside = ();
+
     ghost parts = { λ t. (t.from, t.text) };
 
     ghost of_parts = { λ p. (record { from = p.0; text = p.1 }, refl) };

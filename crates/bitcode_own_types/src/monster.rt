@@ -2,8 +2,8 @@
 ghost use Rattle.std.specs.Prelude.{refl};
 
 use bitcode::{
-    EncodeParts, Error, FieldsEncoder, FromParts, HasDecoder, HasEncoder, PartsDecoder,
-    PartsEncoder, Shaped, StandsFor,
+    DecodeOwned, EncodeParts, Error, FieldsEncoder, FromParts, HasDecoder, HasEncoder,
+    PartsDecoder, PartsEncoder, Shaped, StandsFor,
 };
 
 /// What a player meets.
@@ -23,6 +23,8 @@ type Columns = <Parts as HasEncoder>::Encoder;
 
 impl StandsFor for Monster {
     type Parts = Parts;
+
+    type Inside = ();
 
     ghost parts = { λ t. (t.id, t.name, t.health, t.alive, t.position, t.loot) };
 
@@ -74,3 +76,5 @@ impl HasEncoder for Monster {
 impl<'a> HasDecoder<'a> for Monster {
     type Decoder = PartsDecoder<Parts, <Parts as HasDecoder<'a>>::Decoder>;
 }
+
+impl DecodeOwned for Monster {}

@@ -21,6 +21,8 @@ impl StandsFor for One {
 
     type Parts = Parts;
 
+    type Inside = ();
+
     ghost parts = { elim [ One.A a ↦ a ] };
 
     ghost of_parts = { λ p. (One.A p, refl) };

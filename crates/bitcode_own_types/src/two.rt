@@ -28,6 +28,8 @@ type Lent<'b> = FirstOr<&'b u8, Last<&'b i8>>;
 impl NamesVariants<2> for TwoVariants {
     type Variants = Variants;
 
+    type Inside = ();
+
     ghost count = { refl };
 
     ghost some = { refl };
@@ -37,6 +39,8 @@ impl StandsFor for Two {
     ghost use Rattle.bitcode_own_types.specs.declared.two.Two.{Two};
 
     type Parts = Choice<2, TwoVariants>;
+
+    type Inside = ();
 
     ghost parts = { elim [ Two.A a ↦ record { payload = FirstOr.First a } | Two.B a ↦ record { payload = FirstOr.Rest (record { 0 = a }) } ] };
 

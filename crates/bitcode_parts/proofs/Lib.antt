@@ -7,7 +7,5 @@ pub mod ListLimitLemmas
 pub mod ListLemmas
 pub mod ListWritingLemmas
 pub mod MapLemmas
-pub mod MapWritingLemmas
-pub mod MapReadingLemmas
 pub mod ArrayLemmas
 pub mod ArrayReadingLemmas

@@ -7,6 +7,5 @@ pub mod Convert
 pub mod Durations
 pub mod Elements
 pub mod Lists
-pub mod Maps
 pub mod Arrays
 pub mod ArrayLaws

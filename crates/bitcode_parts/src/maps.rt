@@ -1,3 +1,182 @@
-//! Maps: what is written as the pairs of its keys and values, and made of them.
-pub mod map;
-pub mod mapping;
+//! Types that are written as the pairs of their keys and values, and made of them.
+ghost use Rattle.std.specs.Prelude.{◌≡◌, ◌≤◌, List, length, All, refl, OnOk, IfOk, IfErr};
+ghost use Rattle.std.specs.Map.{keys_of, values_of};
+ghost use Rattle.std.proofs.lemmas.List.Sorted.{IsPermutation-refl};
+ghost use Rattle.bitcode_shapes.specs.Datum.{Datum};
+ghost use Rattle.bitcode_shapes.specs.Shape.{map_shape};
+ghost use Rattle.bitcode_shapes.specs.Lists.{ListsSequence};
+ghost use Rattle.bitcode_shapes.specs.Pairs.{IsPairValue, ListsPair};
+ghost use Rattle.bitcode_coder.specs.Columns.{emptied};
+ghost use Rattle.bitcode_coder.specs.Coder.{JoinsEach, OverflowsWithEach, IsWritingRefusal};
+ghost use Rattle.bitcode_parts.specs.Elements.{MakesOfElements};
+
+use crate::lists::sequence::{FromElements, Lends, encode_lent};
+use bitcode_coder::coder::Encoder;
+use bitcode_columns::error::{Error, Reason};
+use bitcode_shapes::keys::Key;
+use bitcode_shapes::lists::told_each;
+use bitcode_shapes::shaped::{Made, Shaped};
+use std::alloc::Global;
+use std::cmp::{Eq, Ord};
+use std::collections::{BTreeMap, HashMap, btree_map, hash_map};
+use std::hash::Hash;
+
+/// A type that is written as the pairs of its keys and values: a map in the order of its keys, or in one of its own.
+///
+/// ```
+/// impl Mapping for Names {
+///     type Key = u8;
+///     type Value = String;
+///     ..
+/// }
+/// ```
+pub trait Mapping: Shaped {
+    type Key: Shaped;
+
+    type Value: Shaped;
+
+    // the pairs, as they are written
+    ghost entries: { Self → List (Self.Key × Self.Value) };
+
+    /// How many pairs there are.
+    fn entry_count(&self) -> usize
+        ensures { result ≡ length (entries self.now) };
+
+    /// Writes the keys, one after the other. Room for them was reserved.
+    fn encode_keys<E: Encoder<Self::Key>>(&self, keys: &mut E) -> Result<(), Error>
+        requires room { length (entries self.now) ≤ E.room keys.old }
+        requires values { All Self.Key.is_value (keys_of (entries self.now)) }
+        ensures joined { OnOk result (JoinsEach Self.Key.lists Self.Key.shape (keys_of (entries self.now)) (E.columns keys.old) (E.columns keys.new)) }
+        ensures form { emptied (E.columns keys.new) ≡ emptied (E.columns keys.old) }
+        ensures refused { IfErr result (λ e. IsWritingRefusal e.reason (OverflowsWithEach Self.Key.lists Self.Key.shape (keys_of (entries self.now)) (E.columns keys.old))) };
+
+    /// Writes the values, in the order of their keys. Room for them was reserved.
+    fn encode_values<E: Encoder<Self::Value>>(&self, values: &mut E) -> Result<(), Error>
+        requires room { length (entries self.now) ≤ E.room values.old }
+        requires values { All Self.Value.is_value (values_of (entries self.now)) }
+        ensures joined { OnOk result (JoinsEach Self.Value.lists Self.Value.shape (values_of (entries self.now)) (E.columns values.old) (E.columns values.new)) }
+        ensures form { emptied (E.columns values.new) ≡ emptied (E.columns values.old) }
+        ensures refused { IfErr result (λ e. IsWritingRefusal e.reason (OverflowsWithEach Self.Value.lists Self.Value.shape (values_of (entries self.now)) (E.columns values.old))) };
+
+    ghost entries_are: { (t : Self) → Self.is_value t → All (IsPairValue Self.Key.is_value Self.Value.is_value) (entries t) };
+
+    ghost entries_list: { (t : Self) (d : Datum) → ListsSequence (ListsPair Self.Key.lists Self.Value.lists) (entries t) d → Self.lists t d };
+
+    ghost entries_shape: { Self.shape ≡ map_shape Self.Key.shape Self.Value.shape };
+}
+
+impl<K: Shaped + Ord, V: Shaped> Mapping for BTreeMap<K, V> {
+    type Key = K;
+
+    type Value = V;
+
+    ghost entries = { λ m. m.entries };
+
+    fn entry_count(&self) -> usize {
+        self.len()
+    }
+
+    fn encode_keys<E: Encoder<K>>(&self, keys: &mut E) -> Result<(), Error> {
+        encode_lent(keys, self.keys())
+    }
+
+    fn encode_values<E: Encoder<V>>(&self, values: &mut E) -> Result<(), Error> {
+        encode_lent(values, self.values())
+    }
+
+    ghost entries_are = { λ t h. h.each };
+
+    ghost entries_list = { λ t d l. l };
+
+    ghost entries_shape = { refl };
+}
+
+impl<K: Shaped + Eq + Hash, V: Shaped> Mapping for HashMap<K, V> {
+    type Key = K;
+
+    type Value = V;
+
+    ghost entries = { λ m. m.entries };
+
+    fn entry_count(&self) -> usize {
+        self.len()
+    }
+
+    fn encode_keys<E: Encoder<K>>(&self, keys: &mut E) -> Result<(), Error> {
+        encode_lent(keys, self.keys())
+    }
+
+    fn encode_values<E: Encoder<V>>(&self, values: &mut E) -> Result<(), Error> {
+        encode_lent(values, self.values())
+    }
+
+    ghost entries_are = { λ t h. h.each };
+
+    ghost entries_list = { λ t d l. record { order = t.entries; reordered = IsPermutation-refl t.entries; listing = l } };
+
+    ghost entries_shape = { refl };
+}
+
+impl<K: Key + Made + Ord + Drop, V: Made + Drop> FromElements for BTreeMap<K, V> {
+    type Part = (K, V);
+
+    fn from_elements(alloc: Global, elements: Vec<(K, V)>) -> Result<BTreeMap<K, V>, Error>
+        ensures made { IfOk result (λ t. MakesOfElements ⟦<BTreeMap<K, V> as Made>⟧.makes ⟦<(K, V) as Made>⟧.makes t elements.items) }
+        ensures refused { IfErr result (λ e. e.reason ≡ Reason.OutOfMemory) }
+    {
+        told_each(elements.as_slice());
+        let mut map = BTreeMap::new(alloc);
+        for (key, value) in elements {
+            let _old = map.insert(key, value)?;
+        }
+        Ok(map)
+    }
+}
+
+impl<K: Key + Made + Hash + Drop, V: Made + Drop> FromElements for HashMap<K, V> {
+    type Part = (K, V);
+
+    fn from_elements(alloc: Global, elements: Vec<(K, V)>) -> Result<HashMap<K, V>, Error>
+        ensures made { IfOk result (λ t. MakesOfElements ⟦<HashMap<K, V> as Made>⟧.makes ⟦<(K, V) as Made>⟧.makes t elements.items) }
+        ensures refused { IfErr result (λ e. e.reason ≡ Reason.OutOfMemory) }
+    {
+        told_each(elements.as_slice());
+        let mut map = HashMap::new(alloc);
+        for (key, value) in elements {
+            let _old = map.insert(key, value)?;
+        }
+        Ok(map)
+    }
+}
+
+impl<'b, K, V> Lends<'b, K> for btree_map::Keys<'b, K, V> {
+    ghost rest = { λ l. l };
+
+    fn lend(&mut self) -> Option<&'b K> {
+        self.next()
+    }
+}
+
+impl<'b, K, V> Lends<'b, V> for btree_map::Values<'b, K, V> {
+    ghost rest = { λ l. l };
+
+    fn lend(&mut self) -> Option<&'b V> {
+        self.next()
+    }
+}
+
+impl<'b, K, V> Lends<'b, K> for hash_map::Keys<'b, K, V> {
+    ghost rest = { λ l. l };
+
+    fn lend(&mut self) -> Option<&'b K> {
+        self.next()
+    }
+}
+
+impl<'b, K, V> Lends<'b, V> for hash_map::Values<'b, K, V> {
+    ghost rest = { λ l. l };
+
+    fn lend(&mut self) -> Option<&'b V> {
+        self.next()
+    }
+}

@@ -16,6 +16,7 @@ use crate::shaped::{Made, Shaped};
 ///
 /// impl StandsFor for Point {
 ///     type Parts = (u32, u32);
+///     type Inside = ();
 ///
 ///     ghost parts = { λ t. (t.x, t.y) };
 ///
@@ -30,6 +31,11 @@ use crate::shaped::{Made, Shaped};
 pub trait StandsFor {
     /// The type of what a value stands for, as the tuple of a struct's fields.
     type Parts: Shaped;
+
+    /// Where types of one's own that take memory are among the parts, what these stand for and have inside:
+    /// `(<Item as StandsFor>::Parts, <Item as StandsFor>::Inside)`, or a tuple of such pairs. Otherwise `()`. It says nothing of the
+    /// values; the toolchain states an impl only over types that it names.
+    type Inside;
 
     // what a value stands for
     ghost parts: { Self → Self.Parts };
@@ -90,6 +96,7 @@ pub trait HeldIn {
 
 impl<T: HeldIn> StandsFor for T {
     type Parts = T::Holder;
+    type Inside = ();
 
     ghost parts = { λ t. T.Holder.holder t };
 

@@ -1,9 +1,7 @@
-//! Answers of the library, compared with those that are expected: for the stored rows, and for the tests, which stand here.
+//! Answers of the library, compared with those that are expected: for the stored rows and for the tests.
 #![tactic(auto)]
 
 pub mod expected;
-#[cfg(test)]
-mod tests;
 pub mod untyped;
 
 pub use crate::expected::got::Got;

@@ -84,7 +84,7 @@ where
 }
 
 /// What the bytes of a value are read as, which are these. Nothing of it is borrowed from them.
-pub fn written_and_read<'a, T: HasEncoder + HasDecoder<'a> + DecodeOwned + Drop>(
+pub fn written_and_read<'a, T: HasEncoder + HasDecoder<'a> + DecodeOwned + Made + Drop>(
     alloc: Global,
     t: &T,
     bytes: &'a [u8],

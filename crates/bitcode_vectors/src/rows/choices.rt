@@ -1,5 +1,5 @@
 //! The stored rows of options, results and types written by hand.
-use super::untyped;
+use bitcode_untyped_rows as untyped;
 use bitcode::{Reason, decode};
 use bitcode_by_hand::never::Never;
 use bitcode_by_hand::one::One;

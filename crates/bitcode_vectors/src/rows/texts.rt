@@ -1,5 +1,5 @@
 //! The stored rows of texts, chars, checked integers and durations.
-use super::untyped;
+use bitcode_untyped_rows as untyped;
 use bitcode::{Reason, U8Char, decode};
 use bitcode_by_hand::foo::Foo;
 use bitcode_tests::{Got, decodes, encodes, refuses};

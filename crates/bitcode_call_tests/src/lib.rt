@@ -1,0 +1,5 @@
+//! Tests of each public call.
+#![tactic(auto)]
+
+#[cfg(test)]
+mod tests;

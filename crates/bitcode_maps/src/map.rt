@@ -1,0 +1,178 @@
+//! The coders of maps: the lengths of all, behind them the columns of all keys, and behind these those of all values.
+#![tactic(auto, unfolding(bitcode_coder::specs::Length::lengths_left, bitcode_coder::specs::Length::lengths_sum))]
+
+ghost use Rattle.std.specs.Prelude.{◌≡◌, ◌<◌, [], None, length, map, false, IfOk, IfErr, ◌+◌};
+ghost use Rattle.std.proofs.Common.{sym, ap, ap₂, ◌∙◌};
+ghost use Rattle.bitcode_shapes.specs.Shape.{Shape, map_shape};
+ghost use Rattle.bitcode_coder.specs.Coder.{written_columns, TakesDatum};
+ghost use Rattle.bitcode_coder.specs.Columns.{lengths, one, two};
+ghost use Rattle.bitcode_coder.specs.Length.{written_lengths, length_room, length_capacity};
+ghost use Rattle.bitcode_coder.specs.Spelling.{natural};
+
+use bitcode_parts::lists::sequence::FromElements;
+use bitcode_parts::lists::vec::VecDecoder;
+use bitcode_parts::maps::Mapping;
+use bitcode_coder::coder::{Buffer, Decoder, Encoder, HoldsColumns, HoldsData, View};
+use bitcode_coder::length::LengthEncoder;
+use bitcode_columns::error::{Error, Reason};
+use bitcode_shapes::keys::Key;
+use bitcode_shapes::shaped::Made;
+use bitcode_tuples::decoder::TupleDecoder;
+use std::alloc::Global;
+use std::cmp::Ord;
+use std::collections::{BTreeMap, HashMap};
+use std::hash::Hash;
+
+/// The encoder of maps: a column of lengths, behind it the columns of all keys, and behind them those of all values.
+///
+/// It writes the keys and the values by their encoders, in one order, and refuses as these do.
+///
+/// ```
+/// let mut maps: MapEncoder<IntEncoder<u8>, IntEncoder<u8>> = MapEncoder::new(alloc);
+/// maps.reserve(1)?;
+/// maps.encode(&map)?;             // 1 to 6
+/// maps.collect_into(&mut bytes)?; // [1, 1, 6]
+/// ```
+#[derive(Drop)]
+pub struct MapEncoder<K, V> {
+    lengths: LengthEncoder,
+    keys: K,
+    values: V,
+}
+
+impl<K: HoldsColumns, V: HoldsColumns> HoldsColumns for MapEncoder<K, V> {
+    ghost columns = { λ e. two (one (lengths None) (map natural (written_lengths e.lengths))) (two (K.columns e.keys) (V.columns e.values)) };
+
+    ghost room = { λ e. length_room e.lengths };
+
+    ghost capacity = { λ e. length_capacity e.lengths + K.capacity e.keys + V.capacity e.values };
+
+    ghost surely_overflows = { λ e n. ⊥ };
+
+    ghost overflows = { λ e n. ⊥ };
+}
+
+impl<K: Buffer, V: Buffer> Buffer for MapEncoder<K, V> {
+    fn new(alloc: Global) -> Self {
+        MapEncoder {
+            lengths: LengthEncoder::new(alloc),
+            keys: K::new(alloc),
+            values: V::new(alloc),
+        }
+    }
+
+    fn reserve(&mut self, n: usize) -> Result<(), Error> {
+        self.lengths.reserve(n)
+    }
+
+    fn collect_into(&mut self, out: &mut Vec<u8>) -> Result<(), Error> {
+        self.lengths.collect_into(out)?;
+        self.keys.collect_into(out)?;
+        self.values.collect_into(out)
+    }
+
+    fn clear(&mut self) {
+        self.lengths.clear();
+        self.keys.clear();
+        self.values.clear();
+    }
+}
+
+impl<M: Mapping, K: Buffer + Encoder<M::Key>, V: Buffer + Encoder<M::Value>> Encoder<M>
+    for MapEncoder<K, V> {
+    ghost writes_free = { false };
+
+    fn encode(&mut self, t: &M) -> Result<(), Error> {
+        t.told();
+        let count = t.entry_count();
+        self.keys.reserve(count)?;
+        self.values.reserve(count)?;
+        self.lengths.encode(count)?;
+        t.encode_keys(&mut self.keys)?;
+        t.encode_values(&mut self.values)
+    }
+
+    ghost of_shape = { λ e. ap₂ (λ keys values. two (one (lengths None) []) (two keys values)) (K.of_shape e.keys) (V.of_shape e.values) ∙ ap (λ (shape : Shape). written_columns shape []) (sym M.entries_shape) };
+
+    ghost surely = { λ e n never. absurd never };
+}
+
+/// The decoder of maps: it reads the lengths of all, and then the keys and the values of all.
+///
+/// It makes the keys and the values by their decoders, and the map of their pairs: of two equal keys the last gives the
+/// value.
+///
+/// ```
+/// let mut maps: MapDecoder<IntDecoder<u8>, IntDecoder<u8>> = MapDecoder::new(alloc);
+/// maps.populate(&mut input, 1)?;              // [1, 1, 6]
+/// let map: BTreeMap<u8, u8> = maps.decode()?; // 1 to 6
+/// ```
+#[derive(Drop)]
+pub struct MapDecoder<'a, K, V> {
+    entries: VecDecoder<'a, TupleDecoder<K, V>>,
+}
+
+impl<'a, K: HoldsData, V: HoldsData> HoldsData for MapDecoder<'a, K, V> {
+    ghost shape = { map_shape K.shape V.shape };
+
+    ghost held = { λ d. ⟦<VecDecoder<'a, TupleDecoder<K, V>> as HoldsData>⟧.held d.entries };
+
+    ghost owned = { λ d. ⟦<VecDecoder<'a, TupleDecoder<K, V>> as HoldsData>⟧.owned d.entries };
+}
+
+impl<'a, K: View<'a>, V: View<'a>> View<'a> for MapDecoder<'a, K, V> {
+    ghost faults = { λ reason k input. ⟦<VecDecoder<'a, TupleDecoder<K, V>> as View<'a>>⟧.faults reason k input };
+
+    fn new(alloc: Global) -> Self {
+        MapDecoder {
+            entries: VecDecoder::new(alloc),
+        }
+    }
+
+    fn populate(&mut self, input: &mut &'a [u8], k: usize) -> Result<(), Error> {
+        self.entries.populate(input, k)
+    }
+}
+
+impl<'a, K, V> MapDecoder<'a, K, V> {
+    /// Makes a container of the next length and so many pairs. One length is left.
+    ///
+    /// A decoder of a map of one's own is this call. `out of memory` is its only refusal.
+    ///
+    /// ```
+    /// let names: Names = maps.decode_as()?; // of a `Names: FromElements<Part = (u8, String)>`
+    /// ```
+    pub fn decode_as<C: FromElements>(&mut self) -> Result<C, Error>
+    where
+        TupleDecoder<K, V>: Decoder<C::Part>,
+        requires { 0 < length (⟦<VecDecoder<'a, TupleDecoder<K, V>> as HoldsData>⟧.held self.old.entries) }
+        ensures made { IfOk result (λ t. TakesDatum C.makes t (⟦<VecDecoder<'a, TupleDecoder<K, V>> as HoldsData>⟧.held self.old.entries) (⟦<VecDecoder<'a, TupleDecoder<K, V>> as HoldsData>⟧.held self.new.entries)) }
+        ensures refused { IfErr result (λ e. e.reason ≡ Reason.OutOfMemory) }
+    {
+        self.entries.decode_as()
+    }
+}
+
+impl<'a, P: Key + Made + Ord + Drop, Q: Made + Drop, K: Decoder<P>, V: Decoder<Q>> Decoder<
+    BTreeMap<P, Q>,
+> for MapDecoder<'a, K, V> {
+    ghost makes_free = { false };
+
+    fn decode(&mut self) -> Result<BTreeMap<P, Q>, Error> {
+        self.decode_as()
+    }
+
+    ghost same_shape = { ap₂ map_shape K.same_shape V.same_shape };
+}
+
+impl<'a, P: Key + Made + Hash + Drop, Q: Made + Drop, K: Decoder<P>, V: Decoder<Q>> Decoder<
+    HashMap<P, Q>,
+> for MapDecoder<'a, K, V> {
+    ghost makes_free = { false };
+
+    fn decode(&mut self) -> Result<HashMap<P, Q>, Error> {
+        self.decode_as()
+    }
+
+    ghost same_shape = { ap₂ map_shape K.same_shape V.same_shape };
+}

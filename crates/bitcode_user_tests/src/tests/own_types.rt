@@ -1,0 +1,218 @@
+//! With ample memory structs and scores are written and read back, and generic code reads them.
+use bitcode_own_types::amino_acid::AminoAcid;
+use bitcode_own_types::dated::Dated;
+use bitcode_own_types::event::Event;
+use bitcode_own_types::foo::Foo;
+use bitcode_own_types::generic::{Cache, load};
+use bitcode_own_types::journal::Journal;
+use bitcode_own_types::message::Message;
+use bitcode_own_types::monster::Monster;
+use bitcode_own_types::never::Never;
+use bitcode_own_types::one::One;
+use bitcode_own_types::outcome::Outcome;
+use bitcode_own_types::player::Player;
+use bitcode_own_types::saved::saved_and_loaded;
+use bitcode_own_types::scores::Scores;
+use bitcode_own_types::two::Two;
+use bitcode::{Error, Reason, decode, encode};
+
+#[test]
+fn a_player_comes_back(rt: HostRuntime) -> Result<(), Error> {
+    let alloc = rt.alloc();
+    let player = Player {
+        name: "ab",
+        level: 7,
+        points: 32768,
+    };
+    let bytes = encode(alloc, &player)?;
+    assert!(rt; bytes.as_slice() == [2, 97, 98, 7, 2, 0, 128].as_slice());
+    let again: Player<'_> = decode(alloc, bytes.as_slice())?;
+    assert!(rt; again == player);
+    Ok(())
+}
+
+#[test]
+fn what_stands_for_its_fields_comes_back(rt: HostRuntime) -> Result<(), Error> {
+    let alloc = rt.alloc();
+    let message = Message {
+        from: 10,
+        text: "abc",
+    };
+    let bytes = encode(alloc, &message)?;
+    assert!(rt; bytes.as_slice() == [4, 10, 3, 97, 98, 99].as_slice());
+    let again: Message<'_> = decode(alloc, bytes.as_slice())?;
+    assert!(rt; again == message);
+    let dated = Dated {
+        year: 2026,
+        day: 7,
+        value: 9u8,
+    };
+    let bytes = encode(alloc, &dated)?;
+    assert!(rt; bytes.as_slice() == [234, 7, 7, 0, 9].as_slice());
+    let again: Dated<u8> = decode(alloc, bytes.as_slice())?;
+    assert!(rt; again == dated);
+    Ok(())
+}
+
+#[test]
+fn a_monster_comes_back(rt: HostRuntime) -> Result<(), Error> {
+    let alloc = rt.alloc();
+    let monster = Monster {
+        id: 7,
+        name: String::from_str(alloc, "ab")?,
+        health: -1,
+        alive: true,
+        position: (1, 2),
+        loot: Vec::new(alloc),
+    };
+    let bytes = encode(alloc, &monster)?;
+    assert!(rt; bytes.as_slice() == [6, 7, 2, 97, 98, 255, 255, 1, 4, 1, 4, 2, 0].as_slice());
+    let again: Monster = decode(alloc, bytes.as_slice())?;
+    assert!(rt; again == monster);
+    Ok(())
+}
+
+#[test]
+fn variants_come_back(rt: HostRuntime) -> Result<(), Error> {
+    let alloc = rt.alloc();
+    let bytes = encode(alloc, &Outcome::Drawn)?;
+    assert!(rt; bytes.as_slice() == [1].as_slice());
+    let again: Outcome = decode(alloc, bytes.as_slice())?;
+    assert!(rt; again == Outcome::Drawn);
+    let outcomes = vec![in alloc; Outcome::Lost, Outcome::Drawn, Outcome::Won]?;
+    let bytes = encode(alloc, &outcomes)?;
+    assert!(rt; bytes.as_slice() == [3, 5].as_slice());
+    let again: Vec<Outcome> = decode(alloc, bytes.as_slice())?;
+    assert!(rt; again == outcomes);
+    let acids = vec![in alloc; AminoAcid::Valine, AminoAcid::Alanine]?;
+    let bytes = encode(alloc, &acids)?;
+    assert!(rt; bytes.as_slice() == [2, 19, 0].as_slice());
+    let again: Vec<AminoAcid> = decode(alloc, bytes.as_slice())?;
+    assert!(rt; again == acids);
+    let refused: Result<AminoAcid, Error> = decode(alloc, &[20]);
+    assert!(rt; matches!(&refused, Err(error) if error.reason == Reason::InvalidPacking));
+    Ok(())
+}
+
+#[test]
+fn events_come_back(rt: HostRuntime) -> Result<(), Error> {
+    let alloc = rt.alloc();
+    let events = vec![in alloc;
+        Event::Quit(Some(5)),
+        Event::Tick,
+        Event::Spawn(7, String::from_str(alloc, "ab")?),
+        Event::Move {
+            id: 9,
+            dx: 1,
+            dy: -1
+        },
+        Event::Quit(None),
+    ]?;
+    let bytes = encode(alloc, &events)?;
+    // The length, the variants, and then the columns of each variant's payload.
+    let expected = [5, 147, 3, 6, 7, 2, 97, 98, 6, 9, 1, 255, 1, 5, 0];
+    assert!(rt; bytes.as_slice() == expected.as_slice());
+    let again: Vec<Event> = decode(alloc, bytes.as_slice())?;
+    assert!(rt; again == events);
+    Ok(())
+}
+
+#[test]
+fn twins_have_the_bytes_of_the_types_by_hand(rt: HostRuntime) -> Result<(), Error> {
+    let alloc = rt.alloc();
+    let foo = Foo {
+        x: 4294967295,
+        y: "Y_(",
+    };
+    let bytes = encode(alloc, &foo)?;
+    assert!(rt; bytes.as_slice() == [0, 255, 255, 255, 255, 3, 89, 95, 40].as_slice());
+    let again: Foo<'_> = decode(alloc, bytes.as_slice())?;
+    assert!(rt; again == foo);
+    let two = vec![in alloc;
+        Two::B(-2),
+        Two::B(39),
+        Two::B(11),
+        Two::B(85),
+        Two::B(110),
+        Two::B(8),
+        Two::B(68),
+        Two::B(73),
+        Two::B(109),
+    ]?;
+    let bytes = encode(alloc, &two)?;
+    assert!(rt;
+        bytes.as_slice() == [9, 255, 1, 0, 254, 39, 11, 85, 110, 8, 68, 73, 109].as_slice()
+    );
+    let again: Vec<Two> = decode(alloc, bytes.as_slice())?;
+    assert!(rt; again == two);
+    let bytes = encode(alloc, &One::A(7))?;
+    assert!(rt; bytes.as_slice() == [7].as_slice());
+    let again: One = decode(alloc, bytes.as_slice())?;
+    assert!(rt; again == One::A(7));
+    Ok(())
+}
+
+#[test]
+fn never_is_read(rt: HostRuntime) -> Result<(), Error> {
+    let alloc = rt.alloc();
+    let none: Vec<Never> = Vec::new(alloc);
+    let bytes = encode(alloc, &none)?;
+    assert!(rt; bytes.as_slice() == [0].as_slice());
+    let refused: Result<Vec<Never>, Error> = decode(alloc, &[106]);
+    assert!(rt; matches!(&refused, Err(error) if error.reason == Reason::InvalidEnumVariant));
+    Ok(())
+}
+
+#[test]
+fn scores_come_back(rt: HostRuntime) -> Result<(), Error> {
+    let alloc = rt.alloc();
+    let scores = Scores {
+        list: vec![in alloc; 0, 1, 3, 0, 3, 1]?,
+    };
+    let bytes = encode(alloc, &scores)?;
+    assert!(rt; bytes.as_slice() == [6, 4, 6, 52, 7].as_slice());
+    let again: Scores = decode(alloc, bytes.as_slice())?;
+    assert!(rt; again == scores);
+    assert!(rt; saved_and_loaded(alloc, &scores)? == scores);
+    Ok(())
+}
+
+#[test]
+fn generic_code_reads(rt: HostRuntime) -> Result<(), Error> {
+    let alloc = rt.alloc();
+    let level: u8 = load(alloc, &[7])?;
+    assert!(rt; level == 7);
+    let refused: Result<u8, Error> = load(alloc, &[]);
+    assert!(rt; matches!(&refused, Err(error) if error.reason == Reason::Eof));
+    let cache: Cache<Vec<u8>> = Cache::new(vec![in alloc; 2, 7, 9]?);
+    assert!(rt; cache.get(alloc)?.as_slice() == [7, 9].as_slice());
+    Ok(())
+}
+
+#[test]
+fn own_types_inside_another_come_back(rt: HostRuntime) -> Result<(), Error> {
+    let alloc = rt.alloc();
+    let hero = Monster {
+        id: 7,
+        name: String::from_str(alloc, "ab")?,
+        health: -1,
+        alive: true,
+        position: (1, 2),
+        loot: Vec::new(alloc),
+    };
+    let journal = Journal {
+        hero,
+        met: Vec::new(alloc),
+        last: Some(Event::Spawn(9, String::from_str(alloc, "c")?)),
+        days: vec![in alloc; Dated { year: 2026, day: 7, value: Event::Tick }]?,
+    };
+    let bytes = encode(alloc, &journal)?;
+    // The monster, no other, the event that is there, and a list of one day.
+    let expected = [
+        6, 7, 2, 97, 98, 255, 255, 1, 4, 1, 4, 2, 0, 0, 1, 1, 6, 9, 1, 99, 1, 234, 7, 7, 0, 0,
+    ];
+    assert!(rt; bytes.as_slice() == expected.as_slice());
+    let again: Journal = decode(alloc, bytes.as_slice())?;
+    assert!(rt; again == journal);
+    Ok(())
+}
