@@ -3,11 +3,12 @@
 #![tactic(auto)]
 
 pub mod amino_acid;
+pub mod chest;
 pub mod dated;
 pub mod event;
 pub mod foo;
 pub mod generic;
-pub mod journal;
+pub mod item;
 pub mod message;
 pub mod monster;
 pub mod never;

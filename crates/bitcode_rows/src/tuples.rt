@@ -1,6 +1,6 @@
 //! The rows of tuples, pointers, markers and UUIDs.
-use bitcode_untyped_rows as untyped;
 use bitcode_tests::{Got, encodes};
+use bitcode_untyped_rows as untyped;
 use std::alloc::Global;
 use std::marker::PhantomData;
 use std::rc::RcStr;

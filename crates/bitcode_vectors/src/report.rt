@@ -38,7 +38,11 @@ fn print_rows_to_11(rt: &impl Print, alloc: Global) -> io::Result<bool> {
 fn print_rows_to_25(rt: &impl Print, alloc: Global) -> io::Result<bool> {
     let mut all_ok = print_row(rt, 12, bitcode_rows::fixed_capacity::two_bytes(alloc))?;
     all_ok &= print_row(rt, 13, bitcode_rows::maps::equal_keys(alloc))?;
-    all_ok &= print_row(rt, 14, bitcode_untyped_rows::lists::columns_by_first_use(alloc))?;
+    all_ok &= print_row(
+        rt,
+        14,
+        bitcode_untyped_rows::lists::columns_by_first_use(alloc),
+    )?;
     all_ok &= print_row(rt, 15, bitcode_untyped_rows::recursion(alloc))?;
     all_ok &= print_row(rt, 16, bitcode_untyped_rows::limits(alloc))?;
     all_ok &= print_row(rt, 17, rows::texts::durations(alloc))?;
@@ -55,7 +59,11 @@ fn print_rows_to_25(rt: &impl Print, alloc: Global) -> io::Result<bool> {
 
 /// Runs rows 26 to 34 in order, and answers whether all of them are ok.
 fn print_rows_to_34(rt: &impl Print, alloc: Global) -> io::Result<bool> {
-    let mut all_ok = print_row(rt, 26, bitcode_rows::fixed_capacity::five_hundred_bytes(alloc))?;
+    let mut all_ok = print_row(
+        rt,
+        26,
+        bitcode_rows::fixed_capacity::five_hundred_bytes(alloc),
+    )?;
     all_ok &= print_row(rt, 27, bitcode_rows::arrays::sums_of_lengths(alloc))?;
     all_ok &= print_row(rt, 28, rows::texts::checked_numbers(alloc))?;
     all_ok &= print_row(rt, 29, rows::choices::unused_bits_of_an_option(alloc))?;
@@ -76,7 +84,11 @@ fn print_rows_to_45(rt: &impl Print, alloc: Global) -> io::Result<bool> {
     all_ok &= print_row(rt, 39, rows::choices::one_variant_and_none(alloc))?;
     all_ok &= print_row(rt, 40, bitcode_rows::variants::raw_variants(alloc))?;
     all_ok &= print_row(rt, 41, bitcode_rows::composites(alloc))?;
-    all_ok &= print_row(rt, 42, bitcode_rows::arrays::more_units_than_a_length(alloc))?;
+    all_ok &= print_row(
+        rt,
+        42,
+        bitcode_rows::arrays::more_units_than_a_length(alloc),
+    )?;
     all_ok &= print_row(rt, 43, bitcode_rows::sets_and_heaps(alloc))?;
     all_ok &= print_row(rt, 44, bitcode_rows::fixed_capacity::two_letters(alloc))?;
     all_ok &= print_row(rt, 45, bitcode_rows::buffers::one_after_the_other(alloc))?;
@@ -87,7 +99,11 @@ fn print_rows_to_45(rt: &impl Print, alloc: Global) -> io::Result<bool> {
 fn print_rows_to_58(rt: &impl Print, alloc: Global) -> io::Result<bool> {
     let mut all_ok = print_row(rt, 46, bitcode_untyped_rows::lists::lists_of_bytes(alloc))?;
     all_ok &= print_row(rt, 47, bitcode_untyped_rows::composites(alloc))?;
-    all_ok &= print_row(rt, 48, bitcode_untyped_rows::references::options_of_lists(alloc))?;
+    all_ok &= print_row(
+        rt,
+        48,
+        bitcode_untyped_rows::references::options_of_lists(alloc),
+    )?;
     all_ok &= print_row(rt, 49, bitcode_untyped_rows::references::chain(alloc))?;
     all_ok &= print_row(rt, 50, bitcode_rows::room::pushed_items(alloc))?;
     all_ok &= print_row(rt, 51, bitcode_rows::variants::counts_in_base_three(alloc))?;

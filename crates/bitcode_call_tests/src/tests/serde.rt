@@ -1,12 +1,14 @@
 //! The second format, as users meet it: each public call once, with ample memory, and values that hold values of their own kind.
-use bitcode_tests::Got;
-use bitcode_tests::untyped::{is_not_written, map_of, seq_of, shape_of, variant, written_both_ways};
 use bitcode::coder::Buffer as _;
 use bitcode::laws::{columns_decide, every_shape, faults_tell, one_value_of_a_datum, spelled_data};
 use bitcode::serde::{VariantDecoder, VariantEncoder};
 use bitcode::{
     Decoder, Encoder, REF_LIMIT, Reason, Shape, ShapeNode, Value, View, ZST_LIMIT, deserialize,
     serialize,
+};
+use bitcode_tests::Got;
+use bitcode_tests::untyped::{
+    is_not_written, map_of, seq_of, shape_of, variant, written_both_ways,
 };
 use std::alloc::Global;
 use std::test::Fail;

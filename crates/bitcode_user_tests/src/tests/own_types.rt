@@ -1,10 +1,12 @@
 //! With ample memory structs and scores are written and read back, and generic code reads them.
+use bitcode::{Error, Reason, decode, encode};
 use bitcode_own_types::amino_acid::AminoAcid;
+use bitcode_own_types::chest::Chest;
 use bitcode_own_types::dated::Dated;
 use bitcode_own_types::event::Event;
 use bitcode_own_types::foo::Foo;
 use bitcode_own_types::generic::{Cache, load};
-use bitcode_own_types::journal::Journal;
+use bitcode_own_types::item::Item;
 use bitcode_own_types::message::Message;
 use bitcode_own_types::monster::Monster;
 use bitcode_own_types::never::Never;
@@ -14,7 +16,6 @@ use bitcode_own_types::player::Player;
 use bitcode_own_types::saved::saved_and_loaded;
 use bitcode_own_types::scores::Scores;
 use bitcode_own_types::two::Two;
-use bitcode::{Error, Reason, decode, encode};
 
 #[test]
 fn a_player_comes_back(rt: HostRuntime) -> Result<(), Error> {
@@ -192,27 +193,21 @@ fn generic_code_reads(rt: HostRuntime) -> Result<(), Error> {
 #[test]
 fn own_types_inside_another_come_back(rt: HostRuntime) -> Result<(), Error> {
     let alloc = rt.alloc();
-    let hero = Monster {
-        id: 7,
-        name: String::from_str(alloc, "ab")?,
-        health: -1,
-        alive: true,
-        position: (1, 2),
-        loot: Vec::new(alloc),
+    let chest = Chest {
+        label: String::from_str(alloc, "a")?,
+        items: vec![in alloc;
+            Item {
+                name: String::from_str(alloc, "bc")?,
+                level: 7,
+            },
+        ]?,
+        best: None,
     };
-    let journal = Journal {
-        hero,
-        met: Vec::new(alloc),
-        last: Some(Event::Spawn(9, String::from_str(alloc, "c")?)),
-        days: vec![in alloc; Dated { year: 2026, day: 7, value: Event::Tick }]?,
-    };
-    let bytes = encode(alloc, &journal)?;
-    // The monster, no other, the event that is there, and a list of one day.
-    let expected = [
-        6, 7, 2, 97, 98, 255, 255, 1, 4, 1, 4, 2, 0, 0, 1, 1, 6, 9, 1, 99, 1, 234, 7, 7, 0, 0,
-    ];
+    let bytes = encode(alloc, &chest)?;
+    // The label, a list of one item, and no other item.
+    let expected = [1, 97, 1, 2, 98, 99, 7, 0];
     assert!(rt; bytes.as_slice() == expected.as_slice());
-    let again: Journal = decode(alloc, bytes.as_slice())?;
-    assert!(rt; again == journal);
+    let again: Chest = decode(alloc, bytes.as_slice())?;
+    assert!(rt; again == chest);
     Ok(())
 }

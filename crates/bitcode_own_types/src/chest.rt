@@ -1,0 +1,61 @@
+//! `Chest` stands for the tuple of its fields. What is below its declaration was written by `scripts/new_type`.
+ghost use Rattle.std.specs.Prelude.{refl};
+
+use crate::item::Item;
+use bitcode::{
+    DecodeOwned, EncodeParts, Error, FieldsEncoder, FromParts, HasDecoder, HasEncoder,
+    PartsDecoder, PartsEncoder, Shaped, StandsFor,
+};
+
+/// A type of one's own that takes memory, inside another.
+#[derive(Debug, PartialEq, Drop)]
+pub struct Chest {
+    pub label: String,
+    pub items: Vec<Item>,
+    pub best: Option<Item>,
+}
+
+type Parts = (String, Vec<Item>, Option<Item>);
+
+type Columns = <Parts as HasEncoder>::Encoder;
+
+impl StandsFor for Chest {
+    type Parts = Parts;
+
+    type Inside = (<Item as StandsFor>::Parts, <Item as StandsFor>::Inside);
+
+    ghost parts = { λ t. (t.label, t.items, t.best) };
+
+    ghost of_parts = { λ p. (record { label = p.0; items = p.1; best = p.2 }, refl) };
+
+    fn told_parts(&self) {
+        self.label.told();
+        self.items.told();
+        self.best.told();
+    }
+}
+
+impl FromParts for Chest {
+    fn from_parts((label, items, best): Parts) -> Self {
+        Chest { label, items, best }
+    }
+}
+
+impl EncodeParts<Columns> for Chest {
+    fn encode_parts(&self, columns: &mut Columns) -> Result<(), Error> {
+        FieldsEncoder::<(&String, &Vec<Item>, &Option<Item>)>::encode_fields(
+            columns,
+            &(&self.label, &self.items, &self.best),
+        )
+    }
+}
+
+impl HasEncoder for Chest {
+    type Encoder = PartsEncoder<Columns>;
+}
+
+impl<'a> HasDecoder<'a> for Chest {
+    type Decoder = PartsDecoder<Parts, <Parts as HasDecoder<'a>>::Decoder>;
+}
+
+impl DecodeOwned for Chest {}
