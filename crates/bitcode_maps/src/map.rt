@@ -9,12 +9,12 @@ ghost use Rattle.bitcode_coder.specs.Columns.{lengths, one, two};
 ghost use Rattle.bitcode_coder.specs.Length.{written_lengths, length_room, length_capacity};
 ghost use Rattle.bitcode_coder.specs.Spelling.{natural};
 
-use bitcode_parts::lists::sequence::FromElements;
-use bitcode_parts::lists::vec::VecDecoder;
-use bitcode_parts::maps::Mapping;
 use bitcode_coder::coder::{Buffer, Decoder, Encoder, HoldsColumns, HoldsData, View};
 use bitcode_coder::length::LengthEncoder;
 use bitcode_columns::error::{Error, Reason};
+use bitcode_parts::lists::sequence::FromElements;
+use bitcode_parts::lists::vec::VecDecoder;
+use bitcode_parts::maps::Mapping;
 use bitcode_shapes::keys::Key;
 use bitcode_shapes::shaped::Made;
 use bitcode_tuples::decoder::TupleDecoder;

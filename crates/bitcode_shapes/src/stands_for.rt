@@ -96,6 +96,7 @@ pub trait HeldIn {
 
 impl<T: HeldIn> StandsFor for T {
     type Parts = T::Holder;
+
     type Inside = ();
 
     ghost parts = { λ t. T.Holder.holder t };
