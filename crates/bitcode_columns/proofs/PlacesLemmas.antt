@@ -48,3 +48,9 @@ module _ {X : Type 0} where
       ∙ ap (λ ys. take n old ++ ys) (ap (take m) is_front ∙ take-take m k src inside) in
       ap (λ j. take j last) all ∙ after ∙ ap (λ ys. ys ++ back) kept ∙ append_assoc (take n old) (take m src) back
       ∙ ap (λ ys. take n old ++ ys) (ap (λ ys. take m src ++ ys) is_back ∙ take-append-drop m src)
+
+  -- what lies before the items that were written is what was there
+  pub front_kept : (old new block : List X) (n k : ℕ) → n ≤ length old → take (n + k) new ≡ take n old ++ block → take (n + 0) new ≡ take n old ++ []
+  front_kept old new block n k fits written =
+      sym (take-take (n + 0) (n + k) new (omega arith)) ∙ ap (take (n + 0)) written
+      ∙ front_more (take n old) block n 0 (omega (arith, length-take n old))

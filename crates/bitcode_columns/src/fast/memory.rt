@@ -133,6 +133,17 @@ pub(crate) fn give_back<T, A: Allocator>(
     }
 }
 
+// The first items of a slice, or others where it has fewer. Which of the two is one move and no branch.
+#[inline(always)]
+fn first_of<'a, T, const N: usize>(src: &'a [T], others: &'a [T; N]) -> &'a [T; N]
+    ensures { N ≤ length src.now → result.now ≡ take N src.now }
+{
+    match src.first_chunk::<N>() {
+        Some(front) => front,
+        None => others,
+    }
+}
+
 impl<T> Places<T> {
     ghost use Rattle.bitcode_columns.specs.Places.{lends_front};
 
@@ -164,6 +175,49 @@ impl<T> Places<T> {
             16..33 => self.write_ends::<16>(start, index, src),
             _ => self.write_long(start, index, src),
         }
+    }
+
+    /// Writes fewer than 16 items behind the first `index` ones, of which there are eight or more. Those behind them are
+    /// forgotten.
+    ///
+    /// Eight of them are written, then four, two and one. Where there are not so many, the first items of all are written in
+    /// their place, and the next ones come over them: so no branch depends on how many there are, which would be guessed wrongly.
+    pub(crate) fn write_short(&mut self, start: Start<T>, index: usize, src: &[T])
+    where
+        T: Copy,
+        requires size { length src.now < 16 }
+        requires places { (start.ptr ≡ self.old.at) × (8 ≤ index) × (index ≤ length self.old.items) × (length self.old.items ≤ self.old.capacity) }
+        requires room { (index + 15 ≤ self.old.capacity) × (self.old.capacity < 2 ^ 63) }
+        ensures places { (self.new.at ≡ self.old.at) × (self.new.capacity ≡ self.old.capacity) }
+        ensures counts { (index + length src.now ≤ length self.new.items) × (length self.new.items ≤ self.new.capacity) }
+        ensures items { take (index + length src.now) self.new.items ≡ take index self.old.items ++ src.now }
+    {
+        let eight = self.write_part::<8>(start, index, src);
+        let (_, rest) = src.split_at(eight);
+        let four = self.write_part::<4>(start, index + eight, rest);
+        let (_, rest) = rest.split_at(four);
+        let two = self.write_part::<2>(start, index + eight + four, rest);
+        let (_, rest) = rest.split_at(two);
+        self.write_part::<1>(start, index + eight + four + two, rest);
+    }
+
+    // Writes the first `N` items of a slice of fewer than twice as many, or `N` others where it has not so many. Answers
+    // how many items of the slice were written.
+    #[inline(always)]
+    fn write_part<const N: usize>(&mut self, start: Start<T>, index: usize, src: &[T]) -> usize
+    where
+        T: Copy,
+        requires size { length src.now < N + N }
+        requires places { (start.ptr ≡ self.old.at) × (N ≤ index) × (index ≤ length self.old.items) × (length self.old.items ≤ self.old.capacity) }
+        requires room { (index + N ≤ self.old.capacity) × (self.old.capacity < 2 ^ 63) }
+        ensures places { (self.new.at ≡ self.old.at) × (self.new.capacity ≡ self.old.capacity) }
+        ensures counts { (index + result ≤ length self.new.items) × (length self.new.items ≤ self.new.capacity) }
+        ensures left { (result ≤ N) × (result ≤ length src.now) × (length src.now < result + N) }
+        ensures items { take (index + result) self.new.items ≡ take index self.old.items ++ take result src.now }
+    {
+        let block = *first_of(src, self.slice(start, N).first_chunk::<N>().unwrap());
+        self.write_each(start, index, &block);
+        if src.len() < N { 0 } else { N }
     }
 
     // Writes the items of a slice, at least 32 of them: those of whole blocks one by one, and then the last 32.

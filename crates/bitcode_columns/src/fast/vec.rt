@@ -145,7 +145,12 @@ impl<T: Copy> FastVec<T> {
         ensures items { fast_items self.new ≡ fast_items self.old ++ slice.now }
         ensures room { fast_room self.old ≤ fast_room self.new + length slice.now }
     {
-        self.places.write_all(self.start, self.len, slice);
+        // what `write_short` asks for: few items, eight before them, and room for all that it writes
+        if slice.len() < 16 && self.len >= 8 && self.capacity - self.len >= 15 {
+            self.places.write_short(self.start, self.len, slice);
+        } else {
+            self.places.write_all(self.start, self.len, slice);
+        }
         self.len += slice.len();
     }
 
