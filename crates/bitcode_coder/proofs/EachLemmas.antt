@@ -15,35 +15,38 @@ AllZip-append R (x ∷ xs) ys [] vs h i = absurd h
 AllZip-append R (x ∷ xs) ys (u ∷ us) vs h i = (h.0, AllZip-append R xs ys us vs h.1 i)
 
 module _ {T : Type 0} (lists : T → Datum → Type 0) (shape : Shape) where
-  -- one element more was written
-  pub joins_one_more : (old now new : Columns) (before after : List T) (item : T) → emptied old ≡ written_columns shape []
-      → JoinsEach lists shape before old now → JoinsListing lists shape item now new → after ≡ before ++ item ∷ [] → JoinsEach lists shape after old new
-  joins_one_more old now new before after item form front one grown = record {
-    parts = front.parts ++ one.datum ∷ [];
-    listings =
-        subst (λ items. AllZip lists items (front.parts ++ one.datum ∷ [])) (sym grown)
-        (AllZip-append lists before (item ∷ []) front.parts (one.datum ∷ []) front.listings (one.listing, tt));
-    joined =
-        one.joined ∙ ap (λ a. beside a (written_columns shape (one.datum ∷ []))) front.joined
-        ∙ sym (joined-append shape old form front.parts (one.datum ∷ []));
-    fits = λ fit. one.fits (front.fits fit);
+  -- one element is a list of elements
+  each_of_one : (old new : Columns) (item : T) → JoinsListing lists shape item old new → JoinsEach lists shape (item ∷ []) old new
+  each_of_one old new item one = record { parts = one.datum ∷ []; listings = (one.listing, tt); joined = one.joined; fits = one.fits }
+
+  overflows_of_one : (old : Columns) (item : T) → OverflowsWithListing lists shape item old → OverflowsWithEach lists shape (item ∷ []) old
+  overflows_of_one old item one = record { parts = one.datum ∷ []; listings = (one.listing, tt); overflows = one.overflows }
+
+  -- some elements were written, and then others
+  pub joins_both : (old now new : Columns) (before after : List T) → emptied old ≡ written_columns shape []
+      → JoinsEach lists shape before old now → JoinsEach lists shape after now new → JoinsEach lists shape (before ++ after) old new
+  joins_both old now new before after form front back = record {
+    parts = front.parts ++ back.parts;
+    listings = AllZip-append lists before after front.parts back.parts front.listings back.listings;
+    joined = back.joined ∙ ap (λ a. beside a (written_columns shape back.parts)) front.joined ∙ sym (joined-append shape old form front.parts back.parts);
+    fits = λ fit. back.fits (front.fits fit);
   }
 
-  -- an element was refused, after some and before others
-  pub overflows_at : (old now : Columns) (before : List T) (item : T) (after whole : List T) → emptied old ≡ written_columns shape []
-      → JoinsEach lists shape before old now → OverflowsWithListing lists shape item now → (others : List Datum) → AllZip lists after others
-      → whole ≡ before ++ item ∷ after → OverflowsWithEach lists shape whole old
-  overflows_at old now before item after whole form front one others listed is = record {
-    parts = front.parts ++ one.datum ∷ others;
+  -- some elements were refused, after some and before others
+  pub overflows_within : (old now : Columns) (before middle after : List T) → emptied old ≡ written_columns shape []
+      → JoinsEach lists shape before old now → OverflowsWithEach lists shape middle now → (others : List Datum) → AllZip lists after others
+      → OverflowsWithEach lists shape (before ++ (middle ++ after)) old
+  overflows_within old now before middle after form front some others listed = record {
+    parts = front.parts ++ (some.parts ++ others);
     listings =
-        subst (λ items. AllZip lists items (front.parts ++ one.datum ∷ others)) (sym is)
-        (AllZip-append lists before (item ∷ after) front.parts (one.datum ∷ others) front.listings (one.listing, listed));
+        AllZip-append lists before (middle ++ after) front.parts (some.parts ++ others) front.listings
+        (AllZip-append lists middle after some.parts others some.listings listed);
     overflows = λ fits.
-        let grouped : CountsFit (beside old (written_columns shape ((front.parts ++ one.datum ∷ []) ++ others))) =
-        subst (λ ds. CountsFit (beside old (written_columns shape ds))) (sym (append_assoc front.parts (one.datum ∷ []) others)) fits in
-        let fewer : CountsFit (beside old (written_columns shape (front.parts ++ one.datum ∷ []))) = CountsFit-fewer shape old form (front.parts ++ one.datum ∷ []) others grouped in
-        one.overflows
-        (subst CountsFit (joined-append shape old form front.parts (one.datum ∷ []) ∙ ap (λ a. beside a (written_columns shape (one.datum ∷ []))) (sym front.joined)) fewer);
+        let grouped : CountsFit (beside old (written_columns shape ((front.parts ++ some.parts) ++ others))) =
+        subst (λ ds. CountsFit (beside old (written_columns shape ds))) (sym (append_assoc front.parts some.parts others)) fits in
+        let fewer : CountsFit (beside old (written_columns shape (front.parts ++ some.parts))) = CountsFit-fewer shape old form (front.parts ++ some.parts) others grouped in
+        some.overflows
+        (subst CountsFit (joined-append shape old form front.parts some.parts ∙ ap (λ a. beside a (written_columns shape some.parts)) (sym front.joined)) fewer);
   }
 
   pub joins_none : (old : Columns) → emptied old ≡ written_columns shape [] → JoinsEach lists shape [] old old
@@ -59,18 +62,30 @@ module _ {T : Type 0} (lists : T → Datum → Type 0) (shape : Shape) (old : Co
   pub front_none : (whole : List T) → JoinsFront lists shape whole whole old old
   front_none whole = record { done = []; parted = refl; joins = joins_none lists shape old form }
 
+  -- several elements more
+  pub front_more_each : (whole items rest : List T) (now new : Columns) → JoinsFront lists shape whole (items ++ rest) old now
+      → JoinsEach lists shape items now new → JoinsFront lists shape whole rest old new
+  front_more_each whole items rest now new front some = record {
+    done = front.done ++ items;
+    parted = front.parted ∙ sym (append_assoc front.done items rest);
+    joins = joins_both lists shape old now new front.done items form front.joins some;
+  }
+
+  -- and one
   pub front_more : (whole rest : List T) (item : T) (now new : Columns) → JoinsFront lists shape whole (item ∷ rest) old now
       → JoinsListing lists shape item now new → JoinsFront lists shape whole rest old new
-  front_more whole rest item now new front one = record {
-    done = front.done ++ item ∷ [];
-    parted = front.parted ∙ sym (append_assoc front.done (item ∷ []) rest);
-    joins = joins_one_more lists shape old now new front.done (front.done ++ item ∷ []) item form front.joins one refl;
-  }
+  front_more whole rest item now new front one = front_more_each whole (item ∷ []) rest now new front (each_of_one lists shape now new item one)
+
+  pub front_overflows_each : (whole items rest : List T) (now : Columns) → JoinsFront lists shape whole (items ++ rest) old now
+      → OverflowsWithEach lists shape items now → (others : List Datum) → AllZip lists rest others → OverflowsWithEach lists shape whole old
+  front_overflows_each whole items rest now front some others listed =
+      subst (λ ts. OverflowsWithEach lists shape ts old) (sym front.parted)
+      (overflows_within lists shape old now front.done items rest form front.joins some others listed)
 
   pub front_overflows : (whole rest : List T) (item : T) (now : Columns) → JoinsFront lists shape whole (item ∷ rest) old now
       → OverflowsWithListing lists shape item now → (others : List Datum) → AllZip lists rest others → OverflowsWithEach lists shape whole old
   front_overflows whole rest item now front one others listed =
-      overflows_at lists shape old now front.done item rest whole form front.joins one others listed front.parted
+      front_overflows_each whole (item ∷ []) rest now front (overflows_of_one lists shape now item one) others listed
 
   pub front_whole : (whole rest : List T) (now : Columns) → JoinsFront lists shape whole rest old now → rest ≡ [] → JoinsEach lists shape whole old now
   front_whole whole rest now front none =

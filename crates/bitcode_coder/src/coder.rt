@@ -8,8 +8,9 @@ ghost use Rattle.bitcode_coder.specs.Columns.{Columns, emptied};
 ghost use Rattle.bitcode_coder.specs.Spelling.{Spells, columns_bytes};
 ghost use Rattle.bitcode_coder.specs.Coder.{written_columns, BeginsWith, JoinsListing, OverflowsWithListing, JoinsEach, OverflowsWithEach, SurelyOverflows, IsWritingRefusal, IsReadingRefusal, TakesDatum, TakesEach};
 
+use crate::part::{Behind, Itself, Part, told_parts};
 use bitcode_columns::error::{Error, Reason};
-use bitcode_shapes::lists::{told_behind, told_each};
+use bitcode_shapes::lists::told_each;
 use bitcode_shapes::shaped::{Made, Shaped};
 use std::alloc::Global;
 
@@ -108,7 +109,7 @@ pub trait Encoder<T: Shaped>: HoldsColumns {
     /// Room for them was reserved.
     ///
     /// It refuses as that does: the values up to the one at hand may have been joined then.
-    fn encode_vectored(&mut self, values: &[&T]) -> Result<(), Error>
+    final fn encode_vectored(&mut self, values: &[&T]) -> Result<(), Error>
         requires chunk { (0 < length values.now) × (length values.now ≤ MAX_VECTORED_CHUNK) }
         requires room { length values.now ≤ Self.room self.old }
         ensures joined { OnOk result (JoinsEach T.lists T.shape (map (λ value. value.now) values.now) (Self.columns self.old) (Self.columns self.new)) }
@@ -117,9 +118,26 @@ pub trait Encoder<T: Shaped>: HoldsColumns {
         ensures refused { IfErr result (λ e. IsWritingRefusal e.reason (OverflowsWithEach T.lists T.shape (map (λ value. value.now) values.now) (Self.columns self.old))) }
         ensures free { IsTrue writes_free → IfErr result (λ e. e.reason ≢ Reason.OutOfMemory) }
     {
-        told_behind(values);
-        for value in values {
-            self.encode(*value)?;
+        self.encode_part_of_each(values, &Behind)
+    }
+
+    /// Joins the columns of a part of each of 1 to [`MAX_VECTORED_CHUNK`] items to those so far, as [`Encoder::encode`] does
+    /// one by one. Room for them was reserved.
+    ///
+    /// It refuses as that does: the parts up to the one at hand may have been joined then. An encoder that writes many
+    /// values at once has a body of its own.
+    fn encode_part_of_each<S, W: Part<S, T>>(&mut self, items: &[S], which: &W) -> Result<(), Error>
+        requires chunk { (0 < length items.now) × (length items.now ≤ MAX_VECTORED_CHUNK) }
+        requires room { length items.now ≤ Self.room self.old }
+        ensures joined { OnOk result (JoinsEach T.lists T.shape (map (W.of which.now) items.now) (Self.columns self.old) (Self.columns self.new)) }
+        ensures room { OnOk result (Self.room self.old ≤ Self.room self.new + length items.now) }
+        ensures form { emptied (Self.columns self.new) ≡ emptied (Self.columns self.old) }
+        ensures refused { IfErr result (λ e. IsWritingRefusal e.reason (OverflowsWithEach T.lists T.shape (map (W.of which.now) items.now) (Self.columns self.old))) }
+        ensures free { IsTrue writes_free → IfErr result (λ e. e.reason ≢ Reason.OutOfMemory) }
+    {
+        told_parts(items, which);
+        for item in items {
+            self.encode(which.part(item))?;
         }
         Ok(())
     }
@@ -148,8 +166,11 @@ pub trait Encoder<T: Shaped>: HoldsColumns {
         ensures none { length items.now ≡ 0 → IsOk result }
     {
         told_each(items);
-        for item in items {
-            self.encode(item)?;
+        let mut rest = items;
+        while !rest.is_empty() {
+            let (front, behind) = rest.split_at(rest.len().min(MAX_VECTORED_CHUNK));
+            self.encode_part_of_each(front, &Itself)?;
+            rest = behind;
         }
         Ok(())
     }

@@ -17,10 +17,12 @@ ghost use Rattle.bitcode_coder.specs.Faults.{NamesIntsFault};
 
 use crate::coder::{Buffer, Decoder, Encoder, HoldsColumns, HoldsData, View};
 use crate::column_int::ColumnInt;
+use crate::part::Part;
 use bitcode_columns::error::{Error, Reason};
 use bitcode_columns::fast::{CowSlice, FastVec, PushUnchecked};
 use bitcode_shapes::shaped::{Made, Shaped};
 use std::alloc::Global;
+use std::mem::replace;
 
 mod types;
 
@@ -51,6 +53,23 @@ fn push_themselves<I: ColumnInt>(values: &[I], ints: &mut FastVec<I>)
     ensures room { fast_room ints.old ≤ fast_room ints.new + length values.now }
 {
     ints.extend_unchecked(values);
+}
+
+// Pushes the integers that stand for a part of each item. Room for them was reserved. The list is taken and given back: behind
+// a reference its length would be read and written at each push.
+fn push_parts<S, P: AsInt<I>, I: ColumnInt, W: Part<S, P>>(
+    items: &[S],
+    which: &W,
+    mut ints: FastVec<I>,
+) -> FastVec<I>
+    requires { length items.now ≤ fast_room ints }
+    ensures written { PushesInts P.lists I.number (map (W.of which.now) items.now) (fast_items ints) (fast_items result) }
+    ensures room { fast_room ints ≤ fast_room result + length items.now }
+{
+    for item in items {
+        ints.push_unchecked(which.part(item).to_int());
+    }
+    ints
 }
 
 /// An integer whose values are made of what is read, as it is.
@@ -132,6 +151,16 @@ impl<I: ColumnInt, P: AsInt<I>> Encoder<P> for IntEncoder<I> {
 
     fn encode(&mut self, t: &P) -> Result<(), Error> {
         self.values.push_unchecked(t.to_int());
+        Ok(())
+    }
+
+    fn encode_part_of_each<S, W: Part<S, P>>(
+        &mut self,
+        items: &[S],
+        which: &W,
+    ) -> Result<(), Error> {
+        let ints = replace(&mut self.values, FastVec::new(self.alloc));
+        self.values = push_parts(items, which, ints);
         Ok(())
     }
 

@@ -8,6 +8,7 @@ pub mod column_int;
 pub mod int;
 pub mod laws;
 pub mod length;
+pub mod part;
 pub mod result;
 pub mod str;
 pub mod u8_char;

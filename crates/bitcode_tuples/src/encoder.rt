@@ -5,6 +5,7 @@ ghost use Rattle.bitcode_tuples.specs.PairLaws.{both_of_shape, both_surely};
 
 use crate::fields::FieldsEncoder;
 use bitcode_coder::coder::{Buffer, Encoder, HoldsColumns};
+use bitcode_coder::part::{First, Part, Second, told_parts};
 use bitcode_columns::error::Error;
 use bitcode_shapes::shaped::Shaped;
 use std::alloc::Global;
@@ -62,6 +63,13 @@ impl<P: Shaped, Q: Shaped, A: Encoder<P>, B: Encoder<Q>> Encoder<(P, Q)> for Tup
 
     fn encode(&mut self, t: &(P, Q)) -> Result<(), Error> {
         self.encode_fields(&(&t.0, &t.1))
+    }
+
+    fn encode_part_of_each<S, W: Part<S, (P, Q)>>(&mut self, items: &[S], which: &W) -> Result<(), Error> {
+        let second = Second::of(which);
+        told_parts(items, &second);
+        self.first.encode_part_of_each(items, &First::of(which))?;
+        self.second.encode_part_of_each(items, &second)
     }
 
     ghost of_shape = { both_of_shape A.of_shape B.of_shape };
