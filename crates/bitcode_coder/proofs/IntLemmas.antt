@@ -20,7 +20,6 @@ use Rattle.bitcode_columns.proofs.IntLemmas.{IsNumber-number_of}
 use Rattle.bitcode_shapes.specs.Datum.{Datum, number, number_in}
 use Rattle.bitcode_shapes.specs.Shape.{Allowed, IsInWidth, IsAllowed, IsNumberOf, any_number}
 use Rattle.bitcode_shapes.specs.Ints.{int_shape}
-use Rattle.bitcode_coder.specs.Columns.{one}
 use Rattle.bitcode_coder.specs.Spelling.{Spells, number_of_residue}
 use Rattle.bitcode_coder.specs.Faults.{NamesIntsFault}
 use Rattle.bitcode_coder.specs.Coder.{IsReadingRefusal}

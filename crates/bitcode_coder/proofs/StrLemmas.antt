@@ -46,6 +46,23 @@ pub pieces_pushed : (ns ms bytes more piece : List ℕ) → sum ns ≡ length by
     → cut ms more ≡ cut ns bytes ++ piece ∷ []
 pieces_pushed ns ms bytes more piece all sizes whole = ap₂ cut sizes whole ∙ cut-pushed ns bytes piece all
 
+-- several pieces more
+module _ (lengths bytes : List ℕ) (pieces : List (List ℕ)) (all : sum lengths ≡ length bytes) where
+  lengths_with : lengths ++ lengths_of pieces ≡ lengths_of (cut lengths bytes ++ pieces)
+  lengths_with =
+      sym (map-append (λ t. length t) (cut lengths bytes) pieces ∙ ap (λ front. front ++ lengths_of pieces) (lengths-cut lengths bytes (omega arith)))
+
+  bytes_with : bytes ++ join pieces ≡ join (cut lengths bytes ++ pieces)
+  bytes_with = sym (flat_map-append (λ t. t) (cut lengths bytes) pieces ∙ ap (λ front. front ++ join pieces) (joined-cut lengths bytes all))
+
+  pub each_pushed : (ns more : List ℕ) → ns ≡ lengths ++ lengths_of pieces → more ≡ bytes ++ join pieces → cut ns more ≡ cut lengths bytes ++ pieces
+  each_pushed ns more sizes whole = ap₂ cut (sizes ∙ lengths_with) (whole ∙ bytes_with) ∙ cut-joined (cut lengths bytes ++ pieces)
+
+  pub whole_with : (ns more : List ℕ) → ns ≡ lengths ++ lengths_of pieces → more ≡ bytes ++ join pieces → sum ns ≡ length more
+  whole_with ns more sizes whole =
+      let qs = cut lengths bytes ++ pieces in
+      ap sum (sizes ∙ lengths_with) ∙ sum-map (λ t. length t) qs ∙ sym (length-flat_map (λ t. t) qs) ∙ sym (ap length (whole ∙ bytes_with))
+
 -- the first of the pieces is taken
 pub taken_piece : (ns bytes : List ℕ) (n : ℕ) (ms : List ℕ) → ns ≡ n ∷ ms → 0 < length (cut ns bytes) → cut ns bytes ≡ take n bytes ∷ cut ms (drop n bytes)
 taken_piece ns bytes n ms taken some =

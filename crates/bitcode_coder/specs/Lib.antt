@@ -3,8 +3,10 @@ pub mod LengthColumn
 pub mod Faults
 pub mod LengthParts
 pub mod Length
+pub mod ChunkWidth
 pub mod TextColumn
 pub mod JoinedTexts
+pub mod PushedTexts
 pub mod TextParts
 pub mod U8Char
 pub mod Columns

@@ -3,9 +3,11 @@ ghost use Rattle.std.specs.Prelude.{◌≡◌, ℕ, length};
 
 pub use crate::length::decoder::LengthDecoder;
 pub use crate::length::encoder::LengthEncoder;
+pub use crate::length::width::ChunkWidth;
 
 mod decoder;
 mod encoder;
+mod width;
 
 // The byte that stands for a length of 255 or more.
 const ESCAPE: u8 = 255;

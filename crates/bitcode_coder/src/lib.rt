@@ -10,5 +10,6 @@ pub mod laws;
 pub mod length;
 pub mod part;
 pub mod result;
+pub mod slices;
 pub mod str;
 pub mod u8_char;

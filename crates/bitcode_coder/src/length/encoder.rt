@@ -11,7 +11,7 @@ ghost use Rattle.bitcode_coder.specs.LengthParts.{AreLengthParts};
 ghost use Rattle.bitcode_coder.specs.Spelling.{natural};
 
 use crate::coder::{Buffer, HoldsColumns};
-use crate::length::{ESCAPE, Len};
+use crate::length::{ChunkWidth, ESCAPE, Len};
 use bitcode_columns::error::{Error, Reason};
 use bitcode_columns::fast::{FastVec, PushUnchecked};
 use bitcode_columns::pack::pack_bytes;
@@ -189,5 +189,35 @@ impl LengthEncoder {
             self.encode(t.len())?;
         }
         Ok(())
+    }
+
+    /// Writes the lengths of a chunk of slices whose elements have `size` bytes each. Room for them was reserved.
+    ///
+    /// A chunk with a slice longer than the width is begun again with the width doubled, and in the end with the fallback. It refuses as
+    /// [`LengthEncoder::encode_vectored_fallback`] does.
+    ///
+    /// ```
+    /// let mut width = ChunkWidth::first(1);
+    /// lengths.reserve(2)?;
+    /// lengths.encode_chunk(&[&[1u8, 2][..], &[]], &mut width, 1)?;
+    /// ```
+    pub fn encode_chunk<T: Len>(
+        &mut self,
+        chunk: &[T],
+        width: &mut ChunkWidth,
+        size: usize,
+    ) -> Result<(), Error>
+        requires { length chunk.now ≤ length_room self.old }
+        ensures written { OnOk result (written_lengths self.new ≡ written_lengths self.old ++ map T.size chunk.now) }
+        ensures room { OnOk result (length_room self.old ≤ length_room self.new + length chunk.now) }
+        ensures refused { IfErr result (λ e. e.reason ≡ Reason.OutOfMemory) }
+    {
+        while let Some(max) = width.elements() {
+            if !self.encode_vectored_max_len(chunk, max) {
+                return Ok(());
+            }
+            *width = width.doubled(size);
+        }
+        self.encode_vectored_fallback(chunk)
     }
 }

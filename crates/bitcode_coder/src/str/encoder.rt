@@ -1,20 +1,25 @@
 //! The coder that texts are written to.
-ghost use Rattle.std.specs.Prelude.{◌≡◌, ◌+◌, ◌++◌, [], None, false, length, map, sum, OnOk, IfErr};
+ghost use Rattle.std.specs.Prelude.{◌≡◌, ◌+◌, ◌<◌, ◌≤◌, ◌++◌, [], None, false, length, map, take, sum, OnOk, IfErr};
+ghost use Rattle.std.specs.List.{AllZip};
 ghost use Rattle.std.proofs.Common.{sym};
 ghost use Rattle.bitcode_columns.specs.Fast.{fast_items, fast_capacity};
 ghost use Rattle.bitcode_shapes.specs.Datum.{text};
 ghost use Rattle.bitcode_coder.specs.Coder.{BeginsWith};
 ghost use Rattle.bitcode_coder.specs.Columns.{texts, one};
 ghost use Rattle.bitcode_coder.specs.Cutting.{cut};
+ghost use Rattle.bitcode_coder.specs.PushedTexts.{PushesTexts};
 ghost use Rattle.bitcode_coder.specs.Length.{written_lengths, length_room, length_capacity};
 ghost use Rattle.bitcode_coder.specs.LengthColumn.{length_bytes};
 
-use crate::coder::{Buffer, Encoder, HoldsColumns};
-use crate::length::LengthEncoder;
+use crate::coder::{Buffer, Encoder, HoldsColumns, MAX_VECTORED_CHUNK};
+use crate::length::{ChunkWidth, LengthEncoder};
+use crate::part::Part;
+use crate::slices::{joined_length, push_joined};
 use crate::str::AsText;
 use bitcode_columns::error::{Error, Reason};
 use bitcode_columns::fast::FastVec;
 use std::alloc::Global;
+use std::mem::replace;
 
 /// The column that texts are written to: their lengths, and then their bytes, joined.
 ///
@@ -27,7 +32,9 @@ use std::alloc::Global;
 /// ```
 #[derive(Drop)]
 pub struct StrEncoder {
+    alloc: Global,
     lengths: LengthEncoder,
+    width: ChunkWidth,
     bytes: FastVec<u8>,
     ghost whole: { sum (written_lengths lengths) ≡ length (fast_items bytes) },
 }
@@ -41,6 +48,59 @@ fn pack_texts(lengths: &mut LengthEncoder, bytes: &[u8], out: &mut Vec<u8>) -> R
     lengths.collect_into(out)?;
     out.extend_from_slice(bytes)?;
     Ok(())
+}
+
+// The bytes of the text that is a part of each item, before others that were there.
+fn gather_texts<'b, S, P: AsText + 'b, W: Part<S, P>>(
+    items: &'b [S],
+    which: &'b W,
+    texts: &mut [&'b [u8]; MAX_VECTORED_CHUNK],
+)
+    requires { length items.now ≤ MAX_VECTORED_CHUNK }
+    ensures size { length texts.new ≡ MAX_VECTORED_CHUNK }
+    ensures gathered { AllZip (λ t bytes. P.lists t (text bytes)) (map (W.of which.now) items.now) (map (λ bytes. bytes.now) (take (length items.now) texts.new)) }
+{
+    for i in 0..items.len() {
+        texts[i] = which.part(&items[i]).as_text().as_bytes();
+    }
+}
+
+impl StrEncoder {
+    // Writes the text that is a part of each item. Room for them was reserved.
+    fn encode_texts_in<'b, S, P: AsText + 'b, W: Part<S, P>>(
+        &mut self,
+        items: &'b [S],
+        which: &'b W,
+    ) -> Result<(), Error>
+        requires chunk { (0 < length items.now) × (length items.now ≤ MAX_VECTORED_CHUNK) }
+        requires room { length items.now ≤ length_room self.old.lengths }
+        ensures written { OnOk result (PushesTexts P.lists (map (W.of which.now) items.now) (cut (written_lengths self.old.lengths) (fast_items self.old.bytes)) (cut (written_lengths self.new.lengths) (fast_items self.new.bytes))) }
+        ensures room { OnOk result (length_room self.old.lengths ≤ length_room self.new.lengths + length items.now) }
+        ensures refused { IfErr result (λ e. e.reason ≡ Reason.OutOfMemory) }
+    {
+        let first = which.part(&items[0]).as_text().as_bytes();
+        let mut texts = [first; MAX_VECTORED_CHUNK];
+        gather_texts(items, which, &mut texts);
+        self.encode_texts(&texts[..items.len()])
+    }
+
+    // Writes texts, of which the bytes are given: the lengths of all, and then the bytes of all. Room for them was reserved.
+    fn encode_texts(&mut self, texts: &[&[u8]]) -> Result<(), Error>
+        requires { length texts.now ≤ length_room self.old.lengths }
+        ensures written { OnOk result (cut (written_lengths self.new.lengths) (fast_items self.new.bytes) ≡ cut (written_lengths self.old.lengths) (fast_items self.old.bytes) ++ map (λ bytes. bytes.now) texts.now) }
+        ensures room { OnOk result (length_room self.old.lengths ≤ length_room self.new.lengths + length texts.now) }
+        ensures refused { IfErr result (λ e. e.reason ≡ Reason.OutOfMemory) }
+    {
+        self.bytes.reserve(joined_length(texts)?)?;
+        if let Err(e) = self.lengths.encode_chunk(texts, &mut self.width, 1) {
+            self.lengths.clear();
+            self.bytes.clear();
+            return Err(e);
+        }
+        let bytes = replace(&mut self.bytes, FastVec::new(self.alloc));
+        self.bytes = push_joined(bytes, texts);
+        Ok(())
+    }
 }
 
 impl HoldsColumns for StrEncoder {
@@ -58,7 +118,9 @@ impl HoldsColumns for StrEncoder {
 impl Buffer for StrEncoder {
     fn new(alloc: Global) -> Self {
         StrEncoder {
+            alloc,
             lengths: LengthEncoder::new(alloc),
+            width: ChunkWidth::first(1),
             bytes: FastVec::new(alloc),
         }
     }
@@ -89,6 +151,14 @@ impl<P: AsText> Encoder<P> for StrEncoder {
         self.lengths.encode(bytes.len())?;
         self.bytes.extend_unchecked(bytes);
         Ok(())
+    }
+
+    fn encode_part_of_each<S, W: Part<S, P>>(
+        &mut self,
+        items: &[S],
+        which: &W,
+    ) -> Result<(), Error> {
+        self.encode_texts_in(items, which)
     }
 
     ghost of_shape = { λ e. sym (P.as_text_columns []) };

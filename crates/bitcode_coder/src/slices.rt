@@ -1,0 +1,39 @@
+//! Slices that are written one behind the other.
+ghost use Rattle.std.specs.Prelude.{◌≡◌, ◌+◌, ◌≤◌, ◌++◌, length, sum_by, IfOk, IfErr};
+ghost use Rattle.std.specs.List.{flat_map};
+ghost use Rattle.bitcode_columns.specs.declared.error.Reason.{Reason};
+ghost use Rattle.bitcode_columns.specs.Fast.{fast_items, fast_room};
+
+use bitcode_columns::error::{Error, Reason};
+use bitcode_columns::fast::FastVec;
+use bitcode_columns::refuse::err;
+
+/// How many items the slices have together.
+///
+/// More than a `usize` can count have no room: that is `out of memory`.
+pub fn joined_length<T>(slices: &[&[T]]) -> Result<usize, Error>
+    ensures sum { IfOk result (λ n. n ≡ sum_by (λ slice. length slice.now) slices.now) }
+    ensures refused { IfErr result (λ e. e.reason ≡ Reason.OutOfMemory) }
+{
+    let mut total = 0usize;
+    for slice in slices {
+        match total.checked_add(<[T]>::len(*slice)) {
+            Some(more) => total = more,
+            None => return err(Reason::OutOfMemory),
+        }
+    }
+    Ok(total)
+}
+
+/// Pushes the items of the slices, in room that was reserved. The list is taken and given back: behind a reference its length would
+/// be read and written at each slice.
+pub fn push_joined<T: Copy>(mut list: FastVec<T>, slices: &[&[T]]) -> FastVec<T>
+    requires { sum_by (λ slice. length slice.now) slices.now ≤ fast_room list }
+    ensures items { fast_items result ≡ fast_items list ++ flat_map (λ slice. slice.now) slices.now }
+    ensures room { fast_room list ≤ fast_room result + sum_by (λ slice. length slice.now) slices.now }
+{
+    for slice in slices {
+        list.extend_unchecked(*slice);
+    }
+    list
+}
