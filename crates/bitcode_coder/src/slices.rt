@@ -1,5 +1,5 @@
 //! Slices that are written one behind the other.
-ghost use Rattle.std.specs.Prelude.{◌≡◌, ◌+◌, ◌≤◌, ◌++◌, length, sum_by, IfOk, IfErr};
+ghost use Rattle.std.specs.Prelude.{◌≡◌, ◌+◌, ◌≤◌, ◌++◌, length, sum_by, All, IfOk, IfErr};
 ghost use Rattle.std.specs.List.{flat_map};
 ghost use Rattle.bitcode_columns.specs.declared.error.Reason.{Reason};
 ghost use Rattle.bitcode_columns.specs.Fast.{fast_items, fast_room};
@@ -7,6 +7,8 @@ ghost use Rattle.bitcode_columns.specs.Fast.{fast_items, fast_room};
 use bitcode_columns::error::{Error, Reason};
 use bitcode_columns::fast::FastVec;
 use bitcode_columns::refuse::err;
+use bitcode_shapes::lists::told_each;
+use bitcode_shapes::shaped::Shaped;
 
 /// How many items the slices have together.
 ///
@@ -36,4 +38,13 @@ pub fn push_joined<T: Copy>(mut list: FastVec<T>, slices: &[&[T]]) -> FastVec<T>
         list.extend_unchecked(*slice);
     }
     list
+}
+
+/// The items of the slices in hand are values of their type.
+pub fn told_slices<T: Shaped>(slices: &[&[T]])
+    ensures { All T.is_value (flat_map (λ slice. slice.now) slices.now) }
+{
+    for slice in slices {
+        told_each(*slice);
+    }
 }
