@@ -181,29 +181,6 @@ pub trait Encoder<T: Shaped>: HoldsColumns {
     ghost surely: { (e : Self) (n : ℕ) → Self.surely_overflows e n → SurelyOverflows T.shape (Self.columns e) n };
 }
 
-/// Joins the columns of a part of each item to those so far by [`Encoder::encode`], one by one. Room for them was reserved.
-///
-/// It refuses as that does: the parts up to the one at hand may have been joined then. An encoder that writes some values at
-/// once calls it for all others.
-pub fn encode_one_by_one<S, T: Shaped, W: Part<S, T>, E: Encoder<T>>(
-    encoder: &mut E,
-    items: &[S],
-    which: &W,
-) -> Result<(), Error>
-    requires { length items.now ≤ E.room encoder.old }
-    ensures joined { OnOk result (JoinsEach T.lists T.shape (map (W.of which.now) items.now) (E.columns encoder.old) (E.columns encoder.new)) }
-    ensures room { OnOk result (E.room encoder.old ≤ E.room encoder.new + length items.now) }
-    ensures form { emptied (E.columns encoder.new) ≡ emptied (E.columns encoder.old) }
-    ensures refused { IfErr result (λ e. IsWritingRefusal e.reason (OverflowsWithEach T.lists T.shape (map (W.of which.now) items.now) (E.columns encoder.old))) }
-    ensures free { IsTrue E.writes_free → IfErr result (λ e. e.reason ≢ Reason.OutOfMemory) }
-{
-    told_parts(items, which);
-    for item in items {
-        encoder.encode(which.part(item))?;
-    }
-    Ok(())
-}
-
 /// The data that a decoder holds.
 ///
 /// It has no functions: `View` and `Decoder` both speak of these data.

@@ -9,6 +9,17 @@ use bitcode_columns::fast::FastVec;
 use bitcode_columns::refuse::err;
 use bitcode_shapes::lists::told_each;
 use bitcode_shapes::shaped::Shaped;
+use std::mem::size_of;
+use std_alloc::room::may_hold;
+
+/// How many bytes an item takes, and `usize::MAX` if that is 2^63 or more.
+pub fn item_size<T>() -> usize {
+    if may_hold::<T>(1) {
+        1 * size_of::<T>()
+    } else {
+        usize::MAX
+    }
+}
 
 /// How many items the slices have together.
 ///

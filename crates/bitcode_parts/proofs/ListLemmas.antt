@@ -30,14 +30,14 @@ use Rattle.bitcode_parts.proofs.ListLimitLemmas.{spelled_within, reads_unlimited
 
 -- ---- lists of data
 
-abbrev as_list : List Datum → Datum
+abbrev pub as_list : List Datum → Datum
 as_list ds = list (data_of ds)
 
-joined-as_list : (pieces : List (List Datum)) → joined (map as_list pieces) ≡ flat_map (λ l. l) pieces
+pub joined-as_list : (pieces : List (List Datum)) → joined (map as_list pieces) ≡ flat_map (λ l. l) pieces
 joined-as_list [] = refl
 joined-as_list (p ∷ ps) = ap₂ (λ front back. front ++ back) (list_of_data p) (joined-as_list ps)
 
-lengths-as_list : (pieces : List (List Datum)) → map length_entry (map as_list pieces) ≡ map natural (map (λ l. length l) pieces)
+pub lengths-as_list : (pieces : List (List Datum)) → map length_entry (map as_list pieces) ≡ map natural (map (λ l. length l) pieces)
 lengths-as_list [] = refl
 lengths-as_list (p ∷ ps) = ap₂ (λ first rest. first ∷ rest) (ap (λ ds. natural (length ds)) (list_of_data p)) (lengths-as_list ps)
 

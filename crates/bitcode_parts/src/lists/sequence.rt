@@ -151,6 +151,13 @@ pub trait Sequence: Shaped {
     fn element_count(&self) -> usize
         ensures { result ≡ length (items self.now) };
 
+    /// The elements as a slice, where they lie side by side: several such sequences are written at once.
+    fn as_elements(&self) -> Option<&[Self::Element]>
+        ensures { IfSome result (λ slice. slice.now ≡ items self.now) }
+    {
+        None
+    }
+
     /// Writes the elements, one after the other. Room for them was reserved.
     ///
     /// It refuses as the encoder does: the elements up to the one at hand may have been written then.
@@ -178,6 +185,10 @@ impl<T: Shaped> Sequence for Vec<T> {
         self.len()
     }
 
+    fn as_elements(&self) -> Option<&[T]> {
+        Some(self.as_slice())
+    }
+
     fn encode_elements<E: Encoder<T>>(&self, elements: &mut E) -> Result<(), Error> {
         encode_each(elements, self.as_slice())
     }
@@ -196,6 +207,10 @@ impl<'b, T: Shaped> Sequence for &'b [T] {
 
     fn element_count(&self) -> usize {
         self.len()
+    }
+
+    fn as_elements(&self) -> Option<&[T]> {
+        Some(*self)
     }
 
     fn encode_elements<E: Encoder<T>>(&self, elements: &mut E) -> Result<(), Error> {

@@ -1,21 +1,26 @@
 //! The coders of sequences: the lengths of all, and behind them the columns of all elements.
 #![tactic(auto, unfolding(bitcode_coder::specs::Length::lengths_left, bitcode_coder::specs::Length::lengths_sum))]
 
-ghost use Rattle.std.specs.Prelude.{◌≡◌, ◌+◌, ◌<◌, [], None, length, map, false, IfOk, IfErr, ◌⊎◌};
+ghost use Rattle.std.specs.Prelude.{◌≡◌, ◌+◌, ◌<◌, ◌≤◌, ◌++◌, [], None, length, map, take, sum_by, All, false, IsTrue, IsFalse, IfOk, OnOk, IfErr, ◌⊎◌};
+ghost use Rattle.std.specs.List.{flat_map};
 ghost use Rattle.std.proofs.Common.{sym, ap, ◌∙◌};
 ghost use Rattle.bitcode_shapes.specs.Shape.{seq_shape};
-ghost use Rattle.bitcode_coder.specs.Coder.{TakesDatum};
-ghost use Rattle.bitcode_coder.specs.Columns.{lengths, one, two};
+ghost use Rattle.bitcode_coder.specs.Coder.{JoinsEach, OverflowsWithEach, IsWritingRefusal, TakesDatum};
+ghost use Rattle.bitcode_coder.specs.Columns.{emptied, lengths, one, two};
 ghost use Rattle.bitcode_coder.specs.Length.{written_lengths, length_room, lengths_left, length_capacity, lengths_owned};
 ghost use Rattle.bitcode_coder.specs.LengthParts.{NamesLengthFault};
 ghost use Rattle.bitcode_coder.specs.Spelling.{natural};
 ghost use Rattle.bitcode_parts.specs.Lists.{lists_of, FaultsInElements};
 
 use crate::lists::sequence::{FromElements, Sequence, decode_each};
-use bitcode_coder::coder::{Buffer, Decoder, Encoder, HoldsColumns, HoldsData, View};
-use bitcode_coder::length::{LengthDecoder, LengthEncoder};
+use bitcode_coder::coder::{
+    Buffer, Decoder, Encoder, HoldsColumns, HoldsData, MAX_VECTORED_CHUNK, View,
+};
+use bitcode_coder::length::{ChunkWidth, LengthDecoder, LengthEncoder};
+use bitcode_coder::part::{Part, told_parts};
+use bitcode_coder::slices::{item_size, joined_length, told_slices};
 use bitcode_columns::error::{Error, Reason};
-use bitcode_shapes::shaped::Made;
+use bitcode_shapes::shaped::{Made, Shaped};
 use std::alloc::Global;
 use std::collections::{LinkedList, VecDeque};
 
@@ -32,7 +37,115 @@ use std::collections::{LinkedList, VecDeque};
 #[derive(Drop)]
 pub struct VecEncoder<E> {
     lengths: LengthEncoder,
+    width: Option<ChunkWidth>,
     elements: E,
+}
+
+// The slice of elements that is a part of each item, before others that were there, if all have such a slice.
+fn gather_slices<'b, I, S: Sequence + 'b, W: Part<I, S>>(
+    items: &'b [I],
+    which: &'b W,
+    slices: &mut [&'b [S::Element]; MAX_VECTORED_CHUNK],
+) -> bool
+    requires { length items.now ≤ MAX_VECTORED_CHUNK }
+    ensures size { length slices.new ≡ MAX_VECTORED_CHUNK }
+    ensures gathered { IsTrue result → map (λ slice. slice.now) (take (length items.now) slices.new) ≡ map S.items (map (W.of which.now) items.now) }
+{
+    for i in 0..items.len() {
+        match which.part(&items[i]).as_elements() {
+            Some(slice) => slices[i] = slice,
+            None => return false,
+        }
+    }
+    true
+}
+
+// Writes the elements of the slices, slice by slice. Room for them was reserved.
+fn encode_each_slice<T: Shaped, E: Encoder<T>>(
+    elements: &mut E,
+    slices: &[&[T]],
+) -> Result<(), Error>
+    requires room { sum_by (λ slice. length slice.now) slices.now ≤ E.room elements.old }
+    requires values { All T.is_value (flat_map (λ slice. slice.now) slices.now) }
+    ensures joined { OnOk result (JoinsEach T.lists T.shape (flat_map (λ slice. slice.now) slices.now) (E.columns elements.old) (E.columns elements.new)) }
+    ensures form { emptied (E.columns elements.new) ≡ emptied (E.columns elements.old) }
+    ensures refused { IfErr result (λ e. IsWritingRefusal e.reason (OverflowsWithEach T.lists T.shape (flat_map (λ slice. slice.now) slices.now) (E.columns elements.old))) }
+{
+    for slice in slices {
+        elements.encode_slice(*slice)?;
+    }
+    Ok(())
+}
+
+impl<E> VecEncoder<E> {
+    // Writes slices of elements: the lengths of all, and then the elements of all. Room for them was reserved.
+    fn encode_slices<T: Shaped>(&mut self, slices: &[&[T]]) -> Result<(), Error>
+    where
+        E: Buffer + Encoder<T>,
+        requires { length slices.now ≤ length_room self.old.lengths }
+        ensures lengths { OnOk result (written_lengths self.new.lengths ≡ written_lengths self.old.lengths ++ map (λ slice. length slice.now) slices.now) }
+        ensures room { OnOk result (length_room self.old.lengths ≤ length_room self.new.lengths + length slices.now) }
+        ensures elements { OnOk result (JoinsEach T.lists T.shape (flat_map (λ slice. slice.now) slices.now) (E.columns self.old.elements) (E.columns self.new.elements)) }
+        ensures form { emptied (E.columns self.new.elements) ≡ emptied (E.columns self.old.elements) }
+        ensures refused { IfErr result (λ e. IsWritingRefusal e.reason (OverflowsWithEach T.lists T.shape (flat_map (λ slice. slice.now) slices.now) (E.columns self.old.elements))) }
+    {
+        told_slices(slices);
+        self.elements.reserve(joined_length(slices)?)?;
+        let size = item_size::<T>();
+        let mut width = self.width.unwrap_or(ChunkWidth::first(size));
+        self.lengths.encode_chunk(slices, &mut width, size)?;
+        self.width = Some(width);
+        encode_each_slice(&mut self.elements, slices)
+    }
+
+    // Writes the sequence that is a part of each item, one by one. Room for them was reserved.
+    fn encode_one_by_one<I, S: Sequence, W: Part<I, S>>(
+        &mut self,
+        items: &[I],
+        which: &W,
+    ) -> Result<(), Error>
+    where
+        E: Buffer + Encoder<S::Element>,
+        requires { length items.now ≤ length_room self.old.lengths }
+        ensures joined { OnOk result (JoinsEach S.lists S.shape (map (W.of which.now) items.now) (two (one (lengths None) (map natural (written_lengths self.old.lengths))) (E.columns self.old.elements)) (two (one (lengths None) (map natural (written_lengths self.new.lengths))) (E.columns self.new.elements))) }
+        ensures room { OnOk result (length_room self.old.lengths ≤ length_room self.new.lengths + length items.now) }
+        ensures form { emptied (E.columns self.new.elements) ≡ emptied (E.columns self.old.elements) }
+        ensures refused { IfErr result (λ e. IsWritingRefusal e.reason (OverflowsWithEach S.lists S.shape (map (W.of which.now) items.now) (two (one (lengths None) (map natural (written_lengths self.old.lengths))) (E.columns self.old.elements)))) }
+    {
+        told_parts(items, which);
+        for item in items {
+            Encoder::<S>::encode(self, which.part(item))?;
+        }
+        Ok(())
+    }
+
+    // The same for the slices that are a part of each item, if all have one. Answers whether they have: else nothing is written.
+    fn encode_slices_in<'b, I, S: Sequence + 'b, W: Part<I, S>>(
+        &mut self,
+        items: &'b [I],
+        which: &'b W,
+    ) -> Result<bool, Error>
+    where
+        E: Buffer + Encoder<S::Element>,
+        requires chunk { (0 < length items.now) × (length items.now ≤ MAX_VECTORED_CHUNK) }
+        requires room { length items.now ≤ length_room self.old.lengths }
+        ensures lengths { IfOk result (λ all. IsTrue all → written_lengths self.new.lengths ≡ written_lengths self.old.lengths ++ map (λ t. length (S.items (W.of which.now t))) items.now) }
+        ensures room { IfOk result (λ all. IsTrue all → length_room self.old.lengths ≤ length_room self.new.lengths + length items.now) }
+        ensures elements { IfOk result (λ all. IsTrue all → JoinsEach S.Element.lists S.Element.shape (flat_map (λ t. S.items (W.of which.now t)) items.now) (E.columns self.old.elements) (E.columns self.new.elements)) }
+        ensures unchanged { IfOk result (λ all. IsFalse all → self.new ≡ self.old) }
+        ensures form { emptied (E.columns self.new.elements) ≡ emptied (E.columns self.old.elements) }
+        ensures refused { IfErr result (λ e. IsWritingRefusal e.reason (OverflowsWithEach S.Element.lists S.Element.shape (flat_map (λ t. S.items (W.of which.now t)) items.now) (E.columns self.old.elements))) }
+    {
+        let Some(first) = which.part(&items[0]).as_elements() else {
+            return Ok(false);
+        };
+        let mut slices = [first; MAX_VECTORED_CHUNK];
+        if !gather_slices(items, which, &mut slices) {
+            return Ok(false);
+        }
+        self.encode_slices(&slices[..items.len()])?;
+        Ok(true)
+    }
 }
 
 impl<E: HoldsColumns> HoldsColumns for VecEncoder<E> {
@@ -51,6 +164,7 @@ impl<E: Buffer> Buffer for VecEncoder<E> {
     fn new(alloc: Global) -> Self {
         VecEncoder {
             lengths: LengthEncoder::new(alloc),
+            width: None,
             elements: E::new(alloc),
         }
     }
@@ -79,6 +193,20 @@ impl<S: Sequence, E: Buffer + Encoder<S::Element>> Encoder<S> for VecEncoder<E> 
         self.elements.reserve(count)?;
         self.lengths.encode(count)?;
         t.encode_elements(&mut self.elements)
+    }
+
+    fn encode_part_of_each<I, W: Part<I, S>>(
+        &mut self,
+        items: &[I],
+        which: &W,
+    ) -> Result<(), Error> {
+        if !E::is_primitive() {
+            return self.encode_one_by_one(items, which);
+        }
+        if self.encode_slices_in(items, which)? {
+            return Ok(());
+        }
+        self.encode_one_by_one(items, which)
     }
 
     ghost of_shape = { λ e. ap (two (one (lengths None) [])) (E.of_shape e.elements) ∙ sym (S.items_columns []) };
