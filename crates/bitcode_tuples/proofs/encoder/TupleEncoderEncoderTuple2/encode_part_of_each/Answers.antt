@@ -13,14 +13,13 @@ returns-in_err-encode_part_of_each-clause-refused g c =
     let refused = err_from_is_err_and c.from_residual.result c.from_residual.ensures.1 in
     let items = c.args.items.now in
     let a = g.A.HoldsColumns.columns c.args.self.now.first in
-    let b = g.B.HoldsColumns.columns c.args.self.now.second in
     let listed =
     each_listed g.Q.Shaped.shape g.Q.Shaped.is_value g.Q.Shaped.lists g.Q.Shaped.same g.Q.Shaped.in_order g.met.Q.Shaped.lawful
     (map (λ s. (g.W.Part.of c.args.which.now s).1) items)
     (subst (λ w. All g.Q.Shaped.is_value (map (λ s. (g.W.Part.of w s).1) items)) c.of-second.ensures c.told_parts.ensures) in
     rw (refused.1, refused.2) (
     refusal_weaker _ (λ some.
-    overflows_with_firsts (g.W.Part.of c.args.which.now) (λ t. t) g.P.Shaped.lists g.Q.Shaped.lists g.P.Shaped.shape g.Q.Shaped.shape items a b listed.0 listed.1
+    overflows_with_firsts (g.W.Part.of c.args.which.now) (λ t. t) items listed.0 listed.1
     (subst (λ w. OverflowsWithEach g.P.Shaped.lists g.P.Shaped.shape (map (λ s. (g.W.Part.of w s).0) items) a) c.of.ensures some)
     ) c.in_err-encode_part_of_each.ensures.refused
     )
@@ -33,7 +32,7 @@ returns-clause-joined g c =
     let new_a = g.A.HoldsColumns.columns c.encode_part_of_each.new.self in
     let new_b = g.B.HoldsColumns.columns c.encode_part_of_each-2.new.self in
     on_ok_weaker c.encode_part_of_each-2.result (λ later.
-    joins_pairs (g.W.Part.of c.args.which.now) (λ t. t) g.P.Shaped.lists g.Q.Shaped.lists g.P.Shaped.shape g.Q.Shaped.shape items a b new_a new_b
+    joins_pairs (g.W.Part.of c.args.which.now) (λ t. t) items
     (subst (λ w. JoinsEach g.P.Shaped.lists g.P.Shaped.shape (map (λ s. (g.W.Part.of w s).0) items) a new_a) c.of.ensures c.in_ok-encode_part_of_each.ensures.joined)
     (subst (λ w. JoinsEach g.Q.Shaped.lists g.Q.Shaped.shape (map (λ s. (g.W.Part.of w s).1) items) b new_b) c.of-second.ensures later)
     ) c.encode_part_of_each-2.ensures.joined
@@ -47,7 +46,6 @@ returns-clause-refused g c =
     let joined =
     subst (λ w. JoinsEach g.P.Shaped.lists g.P.Shaped.shape (map (λ s. (g.W.Part.of w s).0) items) a new_a) c.of.ensures c.in_ok-encode_part_of_each.ensures.joined in
     refused_weaker (λ (e : Error). e.reason) c.encode_part_of_each-2.result (λ some.
-    overflows_with_seconds (g.W.Part.of c.args.which.now) (λ t. t) g.P.Shaped.lists g.Q.Shaped.lists g.P.Shaped.shape g.Q.Shaped.shape items a b
-    joined.parts joined.listings
+    overflows_with_seconds (g.W.Part.of c.args.which.now) (λ t. t) items joined.parts joined.listings
     (subst (λ w. OverflowsWithEach g.Q.Shaped.lists g.Q.Shaped.shape (map (λ s. (g.W.Part.of w s).1) items) b) c.of-second.ensures some)
     ) c.encode_part_of_each-2.ensures.refused
