@@ -26,27 +26,27 @@ impl<'w, W> Drop for FieldsOf<'w, W> {
     }
 }
 
-/// Of the parts that make up a tuple those of its first half.
+/// Of all parts that make up a tuple those of its first half.
 pub(crate) struct Front<'w, W, Tuple> {
-    pub(crate) whole: &'w W,
+    pub(crate) all: &'w W,
     pub(crate) tuple: PhantomData<Tuple>,
 }
 
 impl<'w, W, Tuple> Drop for Front<'w, W, Tuple> {
     fn drop(self) {
-        let Front { whole: _, tuple: _ } = self;
+        let Front { all: _, tuple: _ } = self;
     }
 }
 
-/// Of the parts that make up a tuple those of its second half.
+/// Of all parts that make up a tuple those of its second half.
 pub(crate) struct Back<'w, W, Tuple> {
-    pub(crate) whole: &'w W,
+    pub(crate) all: &'w W,
     pub(crate) tuple: PhantomData<Tuple>,
 }
 
 impl<'w, W, Tuple> Drop for Back<'w, W, Tuple> {
     fn drop(self) {
-        let Back { whole: _, tuple: _ } = self;
+        let Back { all: _, tuple: _ } = self;
     }
 }
 
@@ -58,11 +58,14 @@ pub(crate) fn listed_parts<S, T: Shaped, W: Part<S, T>>(items: &[S], which: &W)
 }
 
 /// As `Encoder::encode_part_of_each`, for a pair whose fields lie apart.
-pub(crate) fn encode_two_of_each<S, P: Shaped, Q: Shaped, A: Encoder<P>, B: Encoder<Q>, W: Parts2<S, P, Q>>(
-    pair: &mut TupleEncoder<A, B>,
-    items: &[S],
-    which: &W,
-) -> Result<(), Error>
+pub(crate) fn encode_two_of_each<
+    S,
+    P: Shaped,
+    Q: Shaped,
+    A: Encoder<P>,
+    B: Encoder<Q>,
+    W: Parts2<S, P, Q>,
+>(pair: &mut TupleEncoder<A, B>, items: &[S], which: &W) -> Result<(), Error>
     requires chunk { (0 < length items.now) × (length items.now ≤ MAX_VECTORED_CHUNK) }
     requires room { length items.now ≤ ⟦<TupleEncoder<A, B> as HoldsColumns>⟧.room pair.old }
     requires listed { EachListed ⟦<(P, Q) as Shaped>⟧.lists (map (W.of which.now) items.now) }
@@ -73,6 +76,8 @@ pub(crate) fn encode_two_of_each<S, P: Shaped, Q: Shaped, A: Encoder<P>, B: Enco
     ensures free { IsTrue (A.writes_free && B.writes_free) → IfErr result (λ e. e.reason ≢ Reason.OutOfMemory) }
 {
     let tuple = PhantomData::<(P, Q)>;
-    pair.first.encode_part_of_each(items, &Front { whole: which, tuple })?;
-    pair.second.encode_part_of_each(items, &Back { whole: which, tuple })
+    pair.first
+        .encode_part_of_each(items, &Front { all: which, tuple })?;
+    pair.second
+        .encode_part_of_each(items, &Back { all: which, tuple })
 }

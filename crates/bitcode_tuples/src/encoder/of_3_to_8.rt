@@ -58,21 +58,9 @@ impl<
         which: &W,
     ) -> Result<(), Error> {
         let tuple = PhantomData::<(T1, T2, T3)>;
-        self.first.encode_part_of_each(
-            items,
-            &Front {
-                whole: which,
-                tuple,
-            },
-        )?;
-        encode_two_of_each(
-            &mut self.second,
-            items,
-            &Back {
-                whole: which,
-                tuple,
-            },
-        )
+        self.first
+            .encode_part_of_each(items, &Front { all: which, tuple })?;
+        encode_two_of_each(&mut self.second, items, &Back { all: which, tuple })
     }
 
     ghost of_shape = { both_of_shape A.of_shape (both_of_shape B.of_shape C.of_shape) };
@@ -139,22 +127,8 @@ impl<
         which: &W,
     ) -> Result<(), Error> {
         let tuple = PhantomData::<(T1, T2, T3, T4)>;
-        encode_two_of_each(
-            &mut self.first,
-            items,
-            &Front {
-                whole: which,
-                tuple,
-            },
-        )?;
-        encode_two_of_each(
-            &mut self.second,
-            items,
-            &Back {
-                whole: which,
-                tuple,
-            },
-        )
+        encode_two_of_each(&mut self.first, items, &Front { all: which, tuple })?;
+        encode_two_of_each(&mut self.second, items, &Back { all: which, tuple })
     }
 
     ghost of_shape = { both_of_shape (both_of_shape A.of_shape B.of_shape) (both_of_shape C.of_shape D.of_shape) };
@@ -224,21 +198,9 @@ impl<
         which: &W,
     ) -> Result<(), Error> {
         let tuple = PhantomData::<(T1, T2, T3, T4, T5)>;
-        encode_two_of_each(
-            &mut self.first,
-            items,
-            &Front {
-                whole: which,
-                tuple,
-            },
-        )?;
-        self.second.encode_parts_of_each(
-            items,
-            &Back {
-                whole: which,
-                tuple,
-            },
-        )
+        encode_two_of_each(&mut self.first, items, &Front { all: which, tuple })?;
+        self.second
+            .encode_parts_of_each(items, &Back { all: which, tuple })
     }
 
     ghost of_shape = { both_of_shape (both_of_shape A.of_shape B.of_shape) C.of_shape };
@@ -316,20 +278,10 @@ impl<
         which: &W,
     ) -> Result<(), Error> {
         let tuple = PhantomData::<(T1, T2, T3, T4, T5, T6)>;
-        self.first.encode_parts_of_each(
-            items,
-            &Front {
-                whole: which,
-                tuple,
-            },
-        )?;
-        self.second.encode_parts_of_each(
-            items,
-            &Back {
-                whole: which,
-                tuple,
-            },
-        )
+        self.first
+            .encode_parts_of_each(items, &Front { all: which, tuple })?;
+        self.second
+            .encode_parts_of_each(items, &Back { all: which, tuple })
     }
 
     ghost of_shape = { both_of_shape A.of_shape B.of_shape };
@@ -410,20 +362,10 @@ impl<
         which: &W,
     ) -> Result<(), Error> {
         let tuple = PhantomData::<(T1, T2, T3, T4, T5, T6, T7)>;
-        self.first.encode_parts_of_each(
-            items,
-            &Front {
-                whole: which,
-                tuple,
-            },
-        )?;
-        self.second.encode_parts_of_each(
-            items,
-            &Back {
-                whole: which,
-                tuple,
-            },
-        )
+        self.first
+            .encode_parts_of_each(items, &Front { all: which, tuple })?;
+        self.second
+            .encode_parts_of_each(items, &Back { all: which, tuple })
     }
 
     ghost of_shape = { both_of_shape A.of_shape B.of_shape };
@@ -507,20 +449,10 @@ impl<
         which: &W,
     ) -> Result<(), Error> {
         let tuple = PhantomData::<(T1, T2, T3, T4, T5, T6, T7, T8)>;
-        self.first.encode_parts_of_each(
-            items,
-            &Front {
-                whole: which,
-                tuple,
-            },
-        )?;
-        self.second.encode_parts_of_each(
-            items,
-            &Back {
-                whole: which,
-                tuple,
-            },
-        )
+        self.first
+            .encode_parts_of_each(items, &Front { all: which, tuple })?;
+        self.second
+            .encode_parts_of_each(items, &Back { all: which, tuple })
     }
 
     ghost of_shape = { both_of_shape A.of_shape B.of_shape };

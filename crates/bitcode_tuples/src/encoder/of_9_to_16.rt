@@ -43,20 +43,10 @@ impl<
     ) -> Result<(), Error> {
         listed_parts(items, which);
         let tuple = PhantomData::<(T1, T2, T3, T4, T5, T6, T7, T8, T9)>;
-        self.first.encode_parts_of_each(
-            items,
-            &Front {
-                whole: which,
-                tuple,
-            },
-        )?;
-        self.second.encode_parts_of_each(
-            items,
-            &Back {
-                whole: which,
-                tuple,
-            },
-        )
+        self.first
+            .encode_parts_of_each(items, &Front { all: which, tuple })?;
+        self.second
+            .encode_parts_of_each(items, &Back { all: which, tuple })
     }
 
     ghost of_shape = { both_of_shape A.of_shape B.of_shape };
@@ -97,20 +87,10 @@ impl<
     ) -> Result<(), Error> {
         listed_parts(items, which);
         let tuple = PhantomData::<(T1, T2, T3, T4, T5, T6, T7, T8, T9, T10)>;
-        self.first.encode_parts_of_each(
-            items,
-            &Front {
-                whole: which,
-                tuple,
-            },
-        )?;
-        self.second.encode_parts_of_each(
-            items,
-            &Back {
-                whole: which,
-                tuple,
-            },
-        )
+        self.first
+            .encode_parts_of_each(items, &Front { all: which, tuple })?;
+        self.second
+            .encode_parts_of_each(items, &Back { all: which, tuple })
     }
 
     ghost of_shape = { both_of_shape A.of_shape B.of_shape };
@@ -154,20 +134,10 @@ impl<
     ) -> Result<(), Error> {
         listed_parts(items, which);
         let tuple = PhantomData::<(T1, T2, T3, T4, T5, T6, T7, T8, T9, T10, T11)>;
-        self.first.encode_parts_of_each(
-            items,
-            &Front {
-                whole: which,
-                tuple,
-            },
-        )?;
-        self.second.encode_parts_of_each(
-            items,
-            &Back {
-                whole: which,
-                tuple,
-            },
-        )
+        self.first
+            .encode_parts_of_each(items, &Front { all: which, tuple })?;
+        self.second
+            .encode_parts_of_each(items, &Back { all: which, tuple })
     }
 
     ghost of_shape = { both_of_shape A.of_shape B.of_shape };
@@ -218,20 +188,10 @@ impl<
     ) -> Result<(), Error> {
         listed_parts(items, which);
         let tuple = PhantomData::<(T1, T2, T3, T4, T5, T6, T7, T8, T9, T10, T11, T12)>;
-        self.first.encode_parts_of_each(
-            items,
-            &Front {
-                whole: which,
-                tuple,
-            },
-        )?;
-        self.second.encode_parts_of_each(
-            items,
-            &Back {
-                whole: which,
-                tuple,
-            },
-        )
+        self.first
+            .encode_parts_of_each(items, &Front { all: which, tuple })?;
+        self.second
+            .encode_parts_of_each(items, &Back { all: which, tuple })
     }
 
     ghost of_shape = { both_of_shape A.of_shape B.of_shape };
@@ -283,20 +243,10 @@ impl<
     ) -> Result<(), Error> {
         listed_parts(items, which);
         let tuple = PhantomData::<(T1, T2, T3, T4, T5, T6, T7, T8, T9, T10, T11, T12, T13)>;
-        self.first.encode_parts_of_each(
-            items,
-            &Front {
-                whole: which,
-                tuple,
-            },
-        )?;
-        self.second.encode_parts_of_each(
-            items,
-            &Back {
-                whole: which,
-                tuple,
-            },
-        )
+        self.first
+            .encode_parts_of_each(items, &Front { all: which, tuple })?;
+        self.second
+            .encode_parts_of_each(items, &Back { all: which, tuple })
     }
 
     ghost of_shape = { both_of_shape A.of_shape B.of_shape };
@@ -348,20 +298,10 @@ impl<
     >(&mut self, items: &[S], which: &W) -> Result<(), Error> {
         listed_parts(items, which);
         let tuple = PhantomData::<(T1, T2, T3, T4, T5, T6, T7, T8, T9, T10, T11, T12, T13, T14)>;
-        self.first.encode_parts_of_each(
-            items,
-            &Front {
-                whole: which,
-                tuple,
-            },
-        )?;
-        self.second.encode_parts_of_each(
-            items,
-            &Back {
-                whole: which,
-                tuple,
-            },
-        )
+        self.first
+            .encode_parts_of_each(items, &Front { all: which, tuple })?;
+        self.second
+            .encode_parts_of_each(items, &Back { all: which, tuple })
     }
 
     ghost of_shape = { both_of_shape A.of_shape B.of_shape };
@@ -485,20 +425,10 @@ impl<
                 T15,
             ),
         >;
-        self.first.encode_parts_of_each(
-            items,
-            &Front {
-                whole: which,
-                tuple,
-            },
-        )?;
-        self.second.encode_parts_of_each(
-            items,
-            &Back {
-                whole: which,
-                tuple,
-            },
-        )
+        self.first
+            .encode_parts_of_each(items, &Front { all: which, tuple })?;
+        self.second
+            .encode_parts_of_each(items, &Back { all: which, tuple })
     }
 
     ghost of_shape = { both_of_shape A.of_shape B.of_shape };
@@ -627,20 +557,10 @@ impl<
                 T16,
             ),
         >;
-        self.first.encode_parts_of_each(
-            items,
-            &Front {
-                whole: which,
-                tuple,
-            },
-        )?;
-        self.second.encode_parts_of_each(
-            items,
-            &Back {
-                whole: which,
-                tuple,
-            },
-        )
+        self.first
+            .encode_parts_of_each(items, &Front { all: which, tuple })?;
+        self.second
+            .encode_parts_of_each(items, &Back { all: which, tuple })
     }
 
     ghost of_shape = { both_of_shape A.of_shape B.of_shape };

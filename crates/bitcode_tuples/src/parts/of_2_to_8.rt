@@ -17,19 +17,19 @@ pub trait Parts2<S, T1, T2> {
 }
 
 impl<'w, S, T1, T2, W: Parts2<S, T1, T2>> Part<S, T1> for Front<'w, W, (T1, T2)> {
-    ghost of = { λ w s. (split_2 (W.of w.whole.now s)).0 };
+    ghost of = { λ w s. (split_2 (W.of w.all.now s)).0 };
 
     fn part<'b>(&'b self, whole: &'b S) -> &'b T1 {
-        let parts = self.whole.parts(whole);
+        let parts = self.all.parts(whole);
         parts.0
     }
 }
 
 impl<'w, S, T1, T2, W: Parts2<S, T1, T2>> Part<S, T2> for Back<'w, W, (T1, T2)> {
-    ghost of = { λ w s. (split_2 (W.of w.whole.now s)).1 };
+    ghost of = { λ w s. (split_2 (W.of w.all.now s)).1 };
 
     fn part<'b>(&'b self, whole: &'b S) -> &'b T2 {
-        let parts = self.whole.parts(whole);
+        let parts = self.all.parts(whole);
         parts.1
     }
 }
@@ -54,19 +54,19 @@ impl<'w, S, T1, T2, T3, W: Part<S, (T1, T2, T3)>> Parts3<S, T1, T2, T3> for Fiel
 }
 
 impl<'w, S, T1, T2, T3, W: Parts3<S, T1, T2, T3>> Part<S, T1> for Front<'w, W, (T1, T2, T3)> {
-    ghost of = { λ w s. (split_3 (W.of w.whole.now s)).0 };
+    ghost of = { λ w s. (split_3 (W.of w.all.now s)).0 };
 
     fn part<'b>(&'b self, whole: &'b S) -> &'b T1 {
-        let parts = self.whole.parts(whole);
+        let parts = self.all.parts(whole);
         parts.0
     }
 }
 
 impl<'w, S, T1, T2, T3, W: Parts3<S, T1, T2, T3>> Parts2<S, T2, T3> for Back<'w, W, (T1, T2, T3)> {
-    ghost of = { λ w s. (split_3 (W.of w.whole.now s)).1 };
+    ghost of = { λ w s. (split_3 (W.of w.all.now s)).1 };
 
     fn parts<'b>(&'b self, whole: &'b S) -> (&'b T2, &'b T3) {
-        let parts = self.whole.parts(whole);
+        let parts = self.all.parts(whole);
         (parts.1, parts.2)
     }
 }
@@ -93,20 +93,20 @@ impl<'w, S, T1, T2, T3, T4, W: Part<S, (T1, T2, T3, T4)>> Parts4<S, T1, T2, T3, 
 
 impl<'w, S, T1, T2, T3, T4, W: Parts4<S, T1, T2, T3, T4>> Parts2<S, T1, T2>
     for Front<'w, W, (T1, T2, T3, T4)> {
-    ghost of = { λ w s. (split_4 (W.of w.whole.now s)).0 };
+    ghost of = { λ w s. (split_4 (W.of w.all.now s)).0 };
 
     fn parts<'b>(&'b self, whole: &'b S) -> (&'b T1, &'b T2) {
-        let parts = self.whole.parts(whole);
+        let parts = self.all.parts(whole);
         (parts.0, parts.1)
     }
 }
 
 impl<'w, S, T1, T2, T3, T4, W: Parts4<S, T1, T2, T3, T4>> Parts2<S, T3, T4>
     for Back<'w, W, (T1, T2, T3, T4)> {
-    ghost of = { λ w s. (split_4 (W.of w.whole.now s)).1 };
+    ghost of = { λ w s. (split_4 (W.of w.all.now s)).1 };
 
     fn parts<'b>(&'b self, whole: &'b S) -> (&'b T3, &'b T4) {
-        let parts = self.whole.parts(whole);
+        let parts = self.all.parts(whole);
         (parts.2, parts.3)
     }
 }
@@ -133,20 +133,20 @@ impl<'w, S, T1, T2, T3, T4, T5, W: Part<S, (T1, T2, T3, T4, T5)>> Parts5<S, T1, 
 
 impl<'w, S, T1, T2, T3, T4, T5, W: Parts5<S, T1, T2, T3, T4, T5>> Parts2<S, T1, T2>
     for Front<'w, W, (T1, T2, T3, T4, T5)> {
-    ghost of = { λ w s. (split_5 (W.of w.whole.now s)).0 };
+    ghost of = { λ w s. (split_5 (W.of w.all.now s)).0 };
 
     fn parts<'b>(&'b self, whole: &'b S) -> (&'b T1, &'b T2) {
-        let parts = self.whole.parts(whole);
+        let parts = self.all.parts(whole);
         (parts.0, parts.1)
     }
 }
 
 impl<'w, S, T1, T2, T3, T4, T5, W: Parts5<S, T1, T2, T3, T4, T5>> Parts3<S, T3, T4, T5>
     for Back<'w, W, (T1, T2, T3, T4, T5)> {
-    ghost of = { λ w s. (split_5 (W.of w.whole.now s)).1 };
+    ghost of = { λ w s. (split_5 (W.of w.all.now s)).1 };
 
     fn parts<'b>(&'b self, whole: &'b S) -> (&'b T3, &'b T4, &'b T5) {
-        let parts = self.whole.parts(whole);
+        let parts = self.all.parts(whole);
         (parts.2, parts.3, parts.4)
     }
 }
@@ -180,20 +180,20 @@ impl<'w, S, T1, T2, T3, T4, T5, T6, W: Part<S, (T1, T2, T3, T4, T5, T6)>> Parts6
 
 impl<'w, S, T1, T2, T3, T4, T5, T6, W: Parts6<S, T1, T2, T3, T4, T5, T6>> Parts3<S, T1, T2, T3>
     for Front<'w, W, (T1, T2, T3, T4, T5, T6)> {
-    ghost of = { λ w s. (split_6 (W.of w.whole.now s)).0 };
+    ghost of = { λ w s. (split_6 (W.of w.all.now s)).0 };
 
     fn parts<'b>(&'b self, whole: &'b S) -> (&'b T1, &'b T2, &'b T3) {
-        let parts = self.whole.parts(whole);
+        let parts = self.all.parts(whole);
         (parts.0, parts.1, parts.2)
     }
 }
 
 impl<'w, S, T1, T2, T3, T4, T5, T6, W: Parts6<S, T1, T2, T3, T4, T5, T6>> Parts3<S, T4, T5, T6>
     for Back<'w, W, (T1, T2, T3, T4, T5, T6)> {
-    ghost of = { λ w s. (split_6 (W.of w.whole.now s)).1 };
+    ghost of = { λ w s. (split_6 (W.of w.all.now s)).1 };
 
     fn parts<'b>(&'b self, whole: &'b S) -> (&'b T4, &'b T5, &'b T6) {
-        let parts = self.whole.parts(whole);
+        let parts = self.all.parts(whole);
         (parts.3, parts.4, parts.5)
     }
 }
@@ -237,10 +237,10 @@ impl<'w, S, T1, T2, T3, T4, T5, T6, T7, W: Parts7<S, T1, T2, T3, T4, T5, T6, T7>
     T2,
     T3,
 > for Front<'w, W, (T1, T2, T3, T4, T5, T6, T7)> {
-    ghost of = { λ w s. (split_7 (W.of w.whole.now s)).0 };
+    ghost of = { λ w s. (split_7 (W.of w.all.now s)).0 };
 
     fn parts<'b>(&'b self, whole: &'b S) -> (&'b T1, &'b T2, &'b T3) {
-        let parts = self.whole.parts(whole);
+        let parts = self.all.parts(whole);
         (parts.0, parts.1, parts.2)
     }
 }
@@ -252,10 +252,10 @@ impl<'w, S, T1, T2, T3, T4, T5, T6, T7, W: Parts7<S, T1, T2, T3, T4, T5, T6, T7>
     T6,
     T7,
 > for Back<'w, W, (T1, T2, T3, T4, T5, T6, T7)> {
-    ghost of = { λ w s. (split_7 (W.of w.whole.now s)).1 };
+    ghost of = { λ w s. (split_7 (W.of w.all.now s)).1 };
 
     fn parts<'b>(&'b self, whole: &'b S) -> (&'b T4, &'b T5, &'b T6, &'b T7) {
-        let parts = self.whole.parts(whole);
+        let parts = self.all.parts(whole);
         (parts.3, parts.4, parts.5, parts.6)
     }
 }
@@ -322,10 +322,10 @@ impl<'w, S, T1, T2, T3, T4, T5, T6, T7, T8, W: Parts8<S, T1, T2, T3, T4, T5, T6,
     T3,
     T4,
 > for Front<'w, W, (T1, T2, T3, T4, T5, T6, T7, T8)> {
-    ghost of = { λ w s. (split_8 (W.of w.whole.now s)).0 };
+    ghost of = { λ w s. (split_8 (W.of w.all.now s)).0 };
 
     fn parts<'b>(&'b self, whole: &'b S) -> (&'b T1, &'b T2, &'b T3, &'b T4) {
-        let parts = self.whole.parts(whole);
+        let parts = self.all.parts(whole);
         (parts.0, parts.1, parts.2, parts.3)
     }
 }
@@ -337,10 +337,10 @@ impl<'w, S, T1, T2, T3, T4, T5, T6, T7, T8, W: Parts8<S, T1, T2, T3, T4, T5, T6,
     T7,
     T8,
 > for Back<'w, W, (T1, T2, T3, T4, T5, T6, T7, T8)> {
-    ghost of = { λ w s. (split_8 (W.of w.whole.now s)).1 };
+    ghost of = { λ w s. (split_8 (W.of w.all.now s)).1 };
 
     fn parts<'b>(&'b self, whole: &'b S) -> (&'b T5, &'b T6, &'b T7, &'b T8) {
-        let parts = self.whole.parts(whole);
+        let parts = self.all.parts(whole);
         (parts.4, parts.5, parts.6, parts.7)
     }
 }
