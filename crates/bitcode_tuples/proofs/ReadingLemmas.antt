@@ -10,7 +10,7 @@ use Rattle.bitcode_shapes.specs.Shape.{Shape, pair_shape, IsOf, IsPairOf}
 use Rattle.bitcode_coder.specs.Columns.{CountsFit}
 use Rattle.bitcode_coder.specs.Transposition.{columns_of}
 use Rattle.bitcode_coder.specs.Spelling.{Spells, SpellsColumns}
-use Rattle.bitcode_coder.specs.Coder.{IsReadingRefusal, TakesDatum}
+use Rattle.bitcode_coder.specs.Coder.{IsReadingRefusal}
 use Rattle.bitcode_tuples.specs.Pairs.{pairs_of}
 use Rattle.bitcode_tuples.specs.PairLaws.{firsts_are, seconds_are}
 use Rattle.bitcode_coder.proofs.SpellingLemmas.{Spells-unambiguous}

@@ -1,5 +1,6 @@
 -- Lists of data, one for each field, as one list of pairs.
 use Rattle.std.specs.Prelude.{ℕ, List, [], ◌∷◌}
+use Rattle.std.specs.List.{AllZip}
 use Rattle.bitcode_columns.specs.declared.error.Reason.{Reason}
 use Rattle.bitcode_columns.specs.Reading.{Reads}
 use Rattle.bitcode_shapes.specs.Datum.{Datum, pair}
@@ -18,3 +19,7 @@ pub record FaultsBehind (shape : Shape) (faults : Reason → ℕ → List ℕ �
   pub rest : List ℕ
   pub read : Reads (Spells shape) k input firsts rest
   pub fault : faults reason k rest
+
+-- each of the values has a listing
+abbrev pub EachListed : {T : Type 0} → (T → Datum → Type 0) → List T → Type 0
+EachListed lists values = (ds : List Datum) × AllZip lists values ds

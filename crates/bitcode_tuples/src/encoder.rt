@@ -65,7 +65,11 @@ impl<P: Shaped, Q: Shaped, A: Encoder<P>, B: Encoder<Q>> Encoder<(P, Q)> for Tup
         self.encode_fields(&(&t.0, &t.1))
     }
 
-    fn encode_part_of_each<S, W: Part<S, (P, Q)>>(&mut self, items: &[S], which: &W) -> Result<(), Error> {
+    fn encode_part_of_each<S, W: Part<S, (P, Q)>>(
+        &mut self,
+        items: &[S],
+        which: &W,
+    ) -> Result<(), Error> {
         let second = Second::of(which);
         told_parts(items, &second);
         self.first.encode_part_of_each(items, &First::of(which))?;

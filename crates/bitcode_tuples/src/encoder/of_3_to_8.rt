@@ -7,9 +7,13 @@ use crate::encoder::TupleEncoder;
 use crate::fields::FieldsEncoder;
 use crate::fields::of_3_to_5::{FieldsEncoder3, FieldsEncoder4, FieldsEncoder5};
 use crate::fields::of_6_to_8::{FieldsEncoder6, FieldsEncoder7, FieldsEncoder8};
+use crate::parts::of_2_to_8::{Parts3, Parts4, Parts5, Parts6, Parts7, Parts8};
+use crate::parts::{Back, FieldsOf, Front, encode_two_of_each, listed_parts};
 use bitcode_coder::coder::Encoder;
+use bitcode_coder::part::Part;
 use bitcode_columns::error::Error;
 use bitcode_shapes::shaped::Shaped;
+use std::marker::PhantomData;
 
 impl<T1: Shaped, T2: Shaped, T3: Shaped, A: Encoder<T1>, B: Encoder<T2>, C: Encoder<T3>> Encoder<
     (T1, T2, T3),
@@ -18,6 +22,15 @@ impl<T1: Shaped, T2: Shaped, T3: Shaped, A: Encoder<T1>, B: Encoder<T2>, C: Enco
 
     fn encode(&mut self, t: &(T1, T2, T3)) -> Result<(), Error> {
         FieldsEncoder::<(&T1, (&T2, &T3))>::encode_fields(self, &(&t.0, (&t.1, &t.2)))
+    }
+
+    fn encode_part_of_each<S, W: Part<S, (T1, T2, T3)>>(
+        &mut self,
+        items: &[S],
+        which: &W,
+    ) -> Result<(), Error> {
+        listed_parts(items, which);
+        FieldsEncoder3::<T1, T2, T3>::encode_parts_of_each(self, items, &FieldsOf { tuple: which })
     }
 
     ghost of_shape = { both_of_shape A.of_shape (both_of_shape B.of_shape C.of_shape) };
@@ -37,6 +50,17 @@ impl<
 
     fn encode_each(&mut self, t1: &T1, t2: &T2, t3: &T3) -> Result<(), Error> {
         FieldsEncoder::<(&T1, (&T2, &T3))>::encode_fields(self, &(t1, (t2, t3)))
+    }
+
+    fn encode_parts_of_each<S, W: Parts3<S, T1, T2, T3>>(
+        &mut self,
+        items: &[S],
+        which: &W,
+    ) -> Result<(), Error> {
+        let tuple = PhantomData::<(T1, T2, T3)>;
+        self.first
+            .encode_part_of_each(items, &Front { all: which, tuple })?;
+        encode_two_of_each(&mut self.second, items, &Back { all: which, tuple })
     }
 
     ghost of_shape = { both_of_shape A.of_shape (both_of_shape B.of_shape C.of_shape) };
@@ -63,6 +87,19 @@ impl<
         )
     }
 
+    fn encode_part_of_each<S, W: Part<S, (T1, T2, T3, T4)>>(
+        &mut self,
+        items: &[S],
+        which: &W,
+    ) -> Result<(), Error> {
+        listed_parts(items, which);
+        FieldsEncoder4::<T1, T2, T3, T4>::encode_parts_of_each(
+            self,
+            items,
+            &FieldsOf { tuple: which },
+        )
+    }
+
     ghost of_shape = { both_of_shape (both_of_shape A.of_shape B.of_shape) (both_of_shape C.of_shape D.of_shape) };
 
     ghost surely = { both_surely (both_surely A.surely B.surely) (both_surely C.surely D.surely) };
@@ -82,6 +119,16 @@ impl<
 
     fn encode_each(&mut self, t1: &T1, t2: &T2, t3: &T3, t4: &T4) -> Result<(), Error> {
         FieldsEncoder::<((&T1, &T2), (&T3, &T4))>::encode_fields(self, &((t1, t2), (t3, t4)))
+    }
+
+    fn encode_parts_of_each<S, W: Parts4<S, T1, T2, T3, T4>>(
+        &mut self,
+        items: &[S],
+        which: &W,
+    ) -> Result<(), Error> {
+        let tuple = PhantomData::<(T1, T2, T3, T4)>;
+        encode_two_of_each(&mut self.first, items, &Front { all: which, tuple })?;
+        encode_two_of_each(&mut self.second, items, &Back { all: which, tuple })
     }
 
     ghost of_shape = { both_of_shape (both_of_shape A.of_shape B.of_shape) (both_of_shape C.of_shape D.of_shape) };
@@ -105,6 +152,19 @@ impl<
         FieldsEncoder::<((&T1, &T2), (&T3, &T4, &T5))>::encode_fields(
             self,
             &((&t.0, &t.1), (&t.2, &t.3, &t.4)),
+        )
+    }
+
+    fn encode_part_of_each<S, W: Part<S, (T1, T2, T3, T4, T5)>>(
+        &mut self,
+        items: &[S],
+        which: &W,
+    ) -> Result<(), Error> {
+        listed_parts(items, which);
+        FieldsEncoder5::<T1, T2, T3, T4, T5>::encode_parts_of_each(
+            self,
+            items,
+            &FieldsOf { tuple: which },
         )
     }
 
@@ -132,6 +192,17 @@ impl<
         )
     }
 
+    fn encode_parts_of_each<S, W: Parts5<S, T1, T2, T3, T4, T5>>(
+        &mut self,
+        items: &[S],
+        which: &W,
+    ) -> Result<(), Error> {
+        let tuple = PhantomData::<(T1, T2, T3, T4, T5)>;
+        encode_two_of_each(&mut self.first, items, &Front { all: which, tuple })?;
+        self.second
+            .encode_parts_of_each(items, &Back { all: which, tuple })
+    }
+
     ghost of_shape = { both_of_shape (both_of_shape A.of_shape B.of_shape) C.of_shape };
 
     ghost surely = { both_surely (both_surely A.surely B.surely) C.surely };
@@ -153,6 +224,19 @@ impl<
         FieldsEncoder::<((&T1, &T2, &T3), (&T4, &T5, &T6))>::encode_fields(
             self,
             &((&t.0, &t.1, &t.2), (&t.3, &t.4, &t.5)),
+        )
+    }
+
+    fn encode_part_of_each<S, W: Part<S, (T1, T2, T3, T4, T5, T6)>>(
+        &mut self,
+        items: &[S],
+        which: &W,
+    ) -> Result<(), Error> {
+        listed_parts(items, which);
+        FieldsEncoder6::<T1, T2, T3, T4, T5, T6>::encode_parts_of_each(
+            self,
+            items,
+            &FieldsOf { tuple: which },
         )
     }
 
@@ -188,6 +272,18 @@ impl<
         )
     }
 
+    fn encode_parts_of_each<S, W: Parts6<S, T1, T2, T3, T4, T5, T6>>(
+        &mut self,
+        items: &[S],
+        which: &W,
+    ) -> Result<(), Error> {
+        let tuple = PhantomData::<(T1, T2, T3, T4, T5, T6)>;
+        self.first
+            .encode_parts_of_each(items, &Front { all: which, tuple })?;
+        self.second
+            .encode_parts_of_each(items, &Back { all: which, tuple })
+    }
+
     ghost of_shape = { both_of_shape A.of_shape B.of_shape };
 
     ghost surely = { both_surely A.surely B.surely };
@@ -210,6 +306,19 @@ impl<
         FieldsEncoder::<((&T1, &T2, &T3), (&T4, &T5, &T6, &T7))>::encode_fields(
             self,
             &((&t.0, &t.1, &t.2), (&t.3, &t.4, &t.5, &t.6)),
+        )
+    }
+
+    fn encode_part_of_each<S, W: Part<S, (T1, T2, T3, T4, T5, T6, T7)>>(
+        &mut self,
+        items: &[S],
+        which: &W,
+    ) -> Result<(), Error> {
+        listed_parts(items, which);
+        FieldsEncoder7::<T1, T2, T3, T4, T5, T6, T7>::encode_parts_of_each(
+            self,
+            items,
+            &FieldsOf { tuple: which },
         )
     }
 
@@ -247,6 +356,18 @@ impl<
         )
     }
 
+    fn encode_parts_of_each<S, W: Parts7<S, T1, T2, T3, T4, T5, T6, T7>>(
+        &mut self,
+        items: &[S],
+        which: &W,
+    ) -> Result<(), Error> {
+        let tuple = PhantomData::<(T1, T2, T3, T4, T5, T6, T7)>;
+        self.first
+            .encode_parts_of_each(items, &Front { all: which, tuple })?;
+        self.second
+            .encode_parts_of_each(items, &Back { all: which, tuple })
+    }
+
     ghost of_shape = { both_of_shape A.of_shape B.of_shape };
 
     ghost surely = { both_surely A.surely B.surely };
@@ -270,6 +391,19 @@ impl<
         FieldsEncoder::<((&T1, &T2, &T3, &T4), (&T5, &T6, &T7, &T8))>::encode_fields(
             self,
             &((&t.0, &t.1, &t.2, &t.3), (&t.4, &t.5, &t.6, &t.7)),
+        )
+    }
+
+    fn encode_part_of_each<S, W: Part<S, (T1, T2, T3, T4, T5, T6, T7, T8)>>(
+        &mut self,
+        items: &[S],
+        which: &W,
+    ) -> Result<(), Error> {
+        listed_parts(items, which);
+        FieldsEncoder8::<T1, T2, T3, T4, T5, T6, T7, T8>::encode_parts_of_each(
+            self,
+            items,
+            &FieldsOf { tuple: which },
         )
     }
 
@@ -307,6 +441,18 @@ impl<
             self,
             &((t1, t2, t3, t4), (t5, t6, t7, t8)),
         )
+    }
+
+    fn encode_parts_of_each<S, W: Parts8<S, T1, T2, T3, T4, T5, T6, T7, T8>>(
+        &mut self,
+        items: &[S],
+        which: &W,
+    ) -> Result<(), Error> {
+        let tuple = PhantomData::<(T1, T2, T3, T4, T5, T6, T7, T8)>;
+        self.first
+            .encode_parts_of_each(items, &Front { all: which, tuple })?;
+        self.second
+            .encode_parts_of_each(items, &Back { all: which, tuple })
     }
 
     ghost of_shape = { both_of_shape A.of_shape B.of_shape };

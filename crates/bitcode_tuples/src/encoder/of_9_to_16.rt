@@ -7,9 +7,12 @@ use crate::encoder::TupleEncoder;
 use crate::fields::FieldsEncoder;
 use crate::fields::of_3_to_5::{FieldsEncoder4, FieldsEncoder5};
 use crate::fields::of_6_to_8::{FieldsEncoder6, FieldsEncoder7, FieldsEncoder8};
+use crate::parts::{Back, Front, listed_parts};
 use bitcode_coder::coder::Encoder;
+use bitcode_coder::part::Part;
 use bitcode_columns::error::Error;
 use bitcode_shapes::shaped::Shaped;
+use std::marker::PhantomData;
 
 impl<
     T1: Shaped,
@@ -31,6 +34,19 @@ impl<
             self,
             &((&t.0, &t.1, &t.2, &t.3), (&t.4, &t.5, &t.6, &t.7, &t.8)),
         )
+    }
+
+    fn encode_part_of_each<S, W: Part<S, (T1, T2, T3, T4, T5, T6, T7, T8, T9)>>(
+        &mut self,
+        items: &[S],
+        which: &W,
+    ) -> Result<(), Error> {
+        listed_parts(items, which);
+        let tuple = PhantomData::<(T1, T2, T3, T4, T5, T6, T7, T8, T9)>;
+        self.first
+            .encode_parts_of_each(items, &Front { all: which, tuple })?;
+        self.second
+            .encode_parts_of_each(items, &Back { all: which, tuple })
     }
 
     ghost of_shape = { both_of_shape A.of_shape B.of_shape };
@@ -62,6 +78,19 @@ impl<
                 (&t.5, &t.6, &t.7, &t.8, &t.9),
             ),
         )
+    }
+
+    fn encode_part_of_each<S, W: Part<S, (T1, T2, T3, T4, T5, T6, T7, T8, T9, T10)>>(
+        &mut self,
+        items: &[S],
+        which: &W,
+    ) -> Result<(), Error> {
+        listed_parts(items, which);
+        let tuple = PhantomData::<(T1, T2, T3, T4, T5, T6, T7, T8, T9, T10)>;
+        self.first
+            .encode_parts_of_each(items, &Front { all: which, tuple })?;
+        self.second
+            .encode_parts_of_each(items, &Back { all: which, tuple })
     }
 
     ghost of_shape = { both_of_shape A.of_shape B.of_shape };
@@ -96,6 +125,19 @@ impl<
                 (&t.5, &t.6, &t.7, &t.8, &t.9, &t.10),
             ),
         )
+    }
+
+    fn encode_part_of_each<S, W: Part<S, (T1, T2, T3, T4, T5, T6, T7, T8, T9, T10, T11)>>(
+        &mut self,
+        items: &[S],
+        which: &W,
+    ) -> Result<(), Error> {
+        listed_parts(items, which);
+        let tuple = PhantomData::<(T1, T2, T3, T4, T5, T6, T7, T8, T9, T10, T11)>;
+        self.first
+            .encode_parts_of_each(items, &Front { all: which, tuple })?;
+        self.second
+            .encode_parts_of_each(items, &Back { all: which, tuple })
     }
 
     ghost of_shape = { both_of_shape A.of_shape B.of_shape };
@@ -137,6 +179,19 @@ impl<
                 (&t.6, &t.7, &t.8, &t.9, &t.10, &t.11),
             ),
         )
+    }
+
+    fn encode_part_of_each<S, W: Part<S, (T1, T2, T3, T4, T5, T6, T7, T8, T9, T10, T11, T12)>>(
+        &mut self,
+        items: &[S],
+        which: &W,
+    ) -> Result<(), Error> {
+        listed_parts(items, which);
+        let tuple = PhantomData::<(T1, T2, T3, T4, T5, T6, T7, T8, T9, T10, T11, T12)>;
+        self.first
+            .encode_parts_of_each(items, &Front { all: which, tuple })?;
+        self.second
+            .encode_parts_of_each(items, &Back { all: which, tuple })
     }
 
     ghost of_shape = { both_of_shape A.of_shape B.of_shape };
@@ -181,6 +236,19 @@ impl<
         )
     }
 
+    fn encode_part_of_each<S, W: Part<S, (T1, T2, T3, T4, T5, T6, T7, T8, T9, T10, T11, T12, T13)>>(
+        &mut self,
+        items: &[S],
+        which: &W,
+    ) -> Result<(), Error> {
+        listed_parts(items, which);
+        let tuple = PhantomData::<(T1, T2, T3, T4, T5, T6, T7, T8, T9, T10, T11, T12, T13)>;
+        self.first
+            .encode_parts_of_each(items, &Front { all: which, tuple })?;
+        self.second
+            .encode_parts_of_each(items, &Back { all: which, tuple })
+    }
+
     ghost of_shape = { both_of_shape A.of_shape B.of_shape };
 
     ghost surely = { both_surely A.surely B.surely };
@@ -222,6 +290,18 @@ impl<
                 (&t.7, &t.8, &t.9, &t.10, &t.11, &t.12, &t.13),
             ),
         )
+    }
+
+    fn encode_part_of_each<
+        S,
+        W: Part<S, (T1, T2, T3, T4, T5, T6, T7, T8, T9, T10, T11, T12, T13, T14)>,
+    >(&mut self, items: &[S], which: &W) -> Result<(), Error> {
+        listed_parts(items, which);
+        let tuple = PhantomData::<(T1, T2, T3, T4, T5, T6, T7, T8, T9, T10, T11, T12, T13, T14)>;
+        self.first
+            .encode_parts_of_each(items, &Front { all: which, tuple })?;
+        self.second
+            .encode_parts_of_each(items, &Back { all: which, tuple })
     }
 
     ghost of_shape = { both_of_shape A.of_shape B.of_shape };
@@ -300,6 +380,55 @@ impl<
                 (&t.7, &t.8, &t.9, &t.10, &t.11, &t.12, &t.13, &t.14),
             ),
         )
+    }
+
+    fn encode_part_of_each<
+        S,
+        W: Part<
+            S,
+            (
+                T1,
+                T2,
+                T3,
+                T4,
+                T5,
+                T6,
+                T7,
+                T8,
+                T9,
+                T10,
+                T11,
+                T12,
+                T13,
+                T14,
+                T15,
+            ),
+        >,
+    >(&mut self, items: &[S], which: &W) -> Result<(), Error> {
+        listed_parts(items, which);
+        let tuple = PhantomData::<
+            (
+                T1,
+                T2,
+                T3,
+                T4,
+                T5,
+                T6,
+                T7,
+                T8,
+                T9,
+                T10,
+                T11,
+                T12,
+                T13,
+                T14,
+                T15,
+            ),
+        >;
+        self.first
+            .encode_parts_of_each(items, &Front { all: which, tuple })?;
+        self.second
+            .encode_parts_of_each(items, &Back { all: which, tuple })
     }
 
     ghost of_shape = { both_of_shape A.of_shape B.of_shape };
@@ -381,6 +510,57 @@ impl<
                 (&t.8, &t.9, &t.10, &t.11, &t.12, &t.13, &t.14, &t.15),
             ),
         )
+    }
+
+    fn encode_part_of_each<
+        S,
+        W: Part<
+            S,
+            (
+                T1,
+                T2,
+                T3,
+                T4,
+                T5,
+                T6,
+                T7,
+                T8,
+                T9,
+                T10,
+                T11,
+                T12,
+                T13,
+                T14,
+                T15,
+                T16,
+            ),
+        >,
+    >(&mut self, items: &[S], which: &W) -> Result<(), Error> {
+        listed_parts(items, which);
+        let tuple = PhantomData::<
+            (
+                T1,
+                T2,
+                T3,
+                T4,
+                T5,
+                T6,
+                T7,
+                T8,
+                T9,
+                T10,
+                T11,
+                T12,
+                T13,
+                T14,
+                T15,
+                T16,
+            ),
+        >;
+        self.first
+            .encode_parts_of_each(items, &Front { all: which, tuple })?;
+        self.second
+            .encode_parts_of_each(items, &Back { all: which, tuple })
     }
 
     ghost of_shape = { both_of_shape A.of_shape B.of_shape };

@@ -1,11 +1,13 @@
 // Written by scripts/tables/tuples.
 //! Encoders of three to five fields that lie apart.
-ghost use Rattle.std.specs.Prelude.{◌≡◌, ◌≢◌, ℕ, ◌+◌, ◌<◌, ◌≤◌, Bool, [], IsTrue, OnOk, IfErr};
+ghost use Rattle.std.specs.Prelude.{◌≡◌, ◌≢◌, ℕ, ◌+◌, ◌<◌, ◌≤◌, Bool, [], length, map, IsTrue, OnOk, IfErr};
 ghost use Rattle.bitcode_coder.specs.Columns.{emptied};
-ghost use Rattle.bitcode_coder.specs.Coder.{written_columns, JoinsListing, OverflowsWithListing, SurelyOverflows, IsWritingRefusal};
+ghost use Rattle.bitcode_coder.specs.Coder.{written_columns, JoinsListing, OverflowsWithListing, JoinsEach, OverflowsWithEach, SurelyOverflows, IsWritingRefusal};
+ghost use Rattle.bitcode_tuples.specs.Pairs.{EachListed};
 
 use crate::fields::{Fields, FieldsEncoder};
-use bitcode_coder::coder::HoldsColumns;
+use crate::parts::of_2_to_8::{Parts3, Parts4, Parts5};
+use bitcode_coder::coder::{HoldsColumns, MAX_VECTORED_CHUNK};
 use bitcode_columns::error::{Error, Reason};
 use bitcode_shapes::shaped::Shaped;
 
@@ -32,6 +34,21 @@ pub trait FieldsEncoder3<T1: Shaped, T2: Shaped, T3: Shaped>: HoldsColumns {
         ensures room { OnOk result (Self.room self.old ≤ Self.room self.new + 1) }
         ensures form { emptied (Self.columns self.new) ≡ emptied (Self.columns self.old) }
         ensures refused { IfErr result (λ e. IsWritingRefusal e.reason (OverflowsWithListing ⟦<(T1, T2, T3) as Shaped>⟧.lists ⟦<(T1, T2, T3) as Shaped>⟧.shape (t1.now, t2.now, t3.now) (Self.columns self.old))) }
+        ensures free { IsTrue writes_free → IfErr result (λ e. e.reason ≢ Reason.OutOfMemory) };
+
+    /// As `Encoder::encode_part_of_each`, of fields that lie apart and have listings.
+    fn encode_parts_of_each<S, W: Parts3<S, T1, T2, T3>>(
+        &mut self,
+        items: &[S],
+        which: &W,
+    ) -> Result<(), Error>
+        requires chunk { (0 < length items.now) × (length items.now ≤ MAX_VECTORED_CHUNK) }
+        requires room { length items.now ≤ Self.room self.old }
+        requires listed { EachListed ⟦<(T1, T2, T3) as Shaped>⟧.lists (map (W.of which.now) items.now) }
+        ensures joined { OnOk result (JoinsEach ⟦<(T1, T2, T3) as Shaped>⟧.lists ⟦<(T1, T2, T3) as Shaped>⟧.shape (map (W.of which.now) items.now) (Self.columns self.old) (Self.columns self.new)) }
+        ensures room { OnOk result (Self.room self.old ≤ Self.room self.new + length items.now) }
+        ensures form { emptied (Self.columns self.new) ≡ emptied (Self.columns self.old) }
+        ensures refused { IfErr result (λ e. IsWritingRefusal e.reason (OverflowsWithEach ⟦<(T1, T2, T3) as Shaped>⟧.lists ⟦<(T1, T2, T3) as Shaped>⟧.shape (map (W.of which.now) items.now) (Self.columns self.old))) }
         ensures free { IsTrue writes_free → IfErr result (λ e. e.reason ≢ Reason.OutOfMemory) };
 
     ghost of_shape: { (e : Self) → emptied (Self.columns e) ≡ written_columns ⟦<(T1, T2, T3) as Shaped>⟧.shape [] };
@@ -74,6 +91,21 @@ pub trait FieldsEncoder4<T1: Shaped, T2: Shaped, T3: Shaped, T4: Shaped>: HoldsC
         ensures room { OnOk result (Self.room self.old ≤ Self.room self.new + 1) }
         ensures form { emptied (Self.columns self.new) ≡ emptied (Self.columns self.old) }
         ensures refused { IfErr result (λ e. IsWritingRefusal e.reason (OverflowsWithListing ⟦<(T1, T2, T3, T4) as Shaped>⟧.lists ⟦<(T1, T2, T3, T4) as Shaped>⟧.shape (t1.now, t2.now, t3.now, t4.now) (Self.columns self.old))) }
+        ensures free { IsTrue writes_free → IfErr result (λ e. e.reason ≢ Reason.OutOfMemory) };
+
+    /// As `Encoder::encode_part_of_each`, of fields that lie apart and have listings.
+    fn encode_parts_of_each<S, W: Parts4<S, T1, T2, T3, T4>>(
+        &mut self,
+        items: &[S],
+        which: &W,
+    ) -> Result<(), Error>
+        requires chunk { (0 < length items.now) × (length items.now ≤ MAX_VECTORED_CHUNK) }
+        requires room { length items.now ≤ Self.room self.old }
+        requires listed { EachListed ⟦<(T1, T2, T3, T4) as Shaped>⟧.lists (map (W.of which.now) items.now) }
+        ensures joined { OnOk result (JoinsEach ⟦<(T1, T2, T3, T4) as Shaped>⟧.lists ⟦<(T1, T2, T3, T4) as Shaped>⟧.shape (map (W.of which.now) items.now) (Self.columns self.old) (Self.columns self.new)) }
+        ensures room { OnOk result (Self.room self.old ≤ Self.room self.new + length items.now) }
+        ensures form { emptied (Self.columns self.new) ≡ emptied (Self.columns self.old) }
+        ensures refused { IfErr result (λ e. IsWritingRefusal e.reason (OverflowsWithEach ⟦<(T1, T2, T3, T4) as Shaped>⟧.lists ⟦<(T1, T2, T3, T4) as Shaped>⟧.shape (map (W.of which.now) items.now) (Self.columns self.old))) }
         ensures free { IsTrue writes_free → IfErr result (λ e. e.reason ≢ Reason.OutOfMemory) };
 
     ghost of_shape: { (e : Self) → emptied (Self.columns e) ≡ written_columns ⟦<(T1, T2, T3, T4) as Shaped>⟧.shape [] };
@@ -122,6 +154,21 @@ pub trait FieldsEncoder5<T1: Shaped, T2: Shaped, T3: Shaped, T4: Shaped, T5: Sha
         ensures room { OnOk result (Self.room self.old ≤ Self.room self.new + 1) }
         ensures form { emptied (Self.columns self.new) ≡ emptied (Self.columns self.old) }
         ensures refused { IfErr result (λ e. IsWritingRefusal e.reason (OverflowsWithListing ⟦<(T1, T2, T3, T4, T5) as Shaped>⟧.lists ⟦<(T1, T2, T3, T4, T5) as Shaped>⟧.shape (t1.now, t2.now, t3.now, t4.now, t5.now) (Self.columns self.old))) }
+        ensures free { IsTrue writes_free → IfErr result (λ e. e.reason ≢ Reason.OutOfMemory) };
+
+    /// As `Encoder::encode_part_of_each`, of fields that lie apart and have listings.
+    fn encode_parts_of_each<S, W: Parts5<S, T1, T2, T3, T4, T5>>(
+        &mut self,
+        items: &[S],
+        which: &W,
+    ) -> Result<(), Error>
+        requires chunk { (0 < length items.now) × (length items.now ≤ MAX_VECTORED_CHUNK) }
+        requires room { length items.now ≤ Self.room self.old }
+        requires listed { EachListed ⟦<(T1, T2, T3, T4, T5) as Shaped>⟧.lists (map (W.of which.now) items.now) }
+        ensures joined { OnOk result (JoinsEach ⟦<(T1, T2, T3, T4, T5) as Shaped>⟧.lists ⟦<(T1, T2, T3, T4, T5) as Shaped>⟧.shape (map (W.of which.now) items.now) (Self.columns self.old) (Self.columns self.new)) }
+        ensures room { OnOk result (Self.room self.old ≤ Self.room self.new + length items.now) }
+        ensures form { emptied (Self.columns self.new) ≡ emptied (Self.columns self.old) }
+        ensures refused { IfErr result (λ e. IsWritingRefusal e.reason (OverflowsWithEach ⟦<(T1, T2, T3, T4, T5) as Shaped>⟧.lists ⟦<(T1, T2, T3, T4, T5) as Shaped>⟧.shape (map (W.of which.now) items.now) (Self.columns self.old))) }
         ensures free { IsTrue writes_free → IfErr result (λ e. e.reason ≢ Reason.OutOfMemory) };
 
     ghost of_shape: { (e : Self) → emptied (Self.columns e) ≡ written_columns ⟦<(T1, T2, T3, T4, T5) as Shaped>⟧.shape [] };

@@ -1,11 +1,13 @@
 // Written by scripts/tables/tuples.
 //! Encoders of six to eight fields that lie apart.
-ghost use Rattle.std.specs.Prelude.{◌≡◌, ◌≢◌, ℕ, ◌+◌, ◌<◌, ◌≤◌, Bool, [], IsTrue, OnOk, IfErr};
+ghost use Rattle.std.specs.Prelude.{◌≡◌, ◌≢◌, ℕ, ◌+◌, ◌<◌, ◌≤◌, Bool, [], length, map, IsTrue, OnOk, IfErr};
 ghost use Rattle.bitcode_coder.specs.Columns.{emptied};
-ghost use Rattle.bitcode_coder.specs.Coder.{written_columns, JoinsListing, OverflowsWithListing, SurelyOverflows, IsWritingRefusal};
+ghost use Rattle.bitcode_coder.specs.Coder.{written_columns, JoinsListing, OverflowsWithListing, JoinsEach, OverflowsWithEach, SurelyOverflows, IsWritingRefusal};
+ghost use Rattle.bitcode_tuples.specs.Pairs.{EachListed};
 
 use crate::fields::{Fields, FieldsEncoder};
-use bitcode_coder::coder::HoldsColumns;
+use crate::parts::of_2_to_8::{Parts6, Parts7, Parts8};
+use bitcode_coder::coder::{HoldsColumns, MAX_VECTORED_CHUNK};
 use bitcode_columns::error::{Error, Reason};
 use bitcode_shapes::shaped::Shaped;
 
@@ -51,6 +53,21 @@ pub trait FieldsEncoder6<
         ensures room { OnOk result (Self.room self.old ≤ Self.room self.new + 1) }
         ensures form { emptied (Self.columns self.new) ≡ emptied (Self.columns self.old) }
         ensures refused { IfErr result (λ e. IsWritingRefusal e.reason (OverflowsWithListing ⟦<(T1, T2, T3, T4, T5, T6) as Shaped>⟧.lists ⟦<(T1, T2, T3, T4, T5, T6) as Shaped>⟧.shape (t1.now, t2.now, t3.now, t4.now, t5.now, t6.now) (Self.columns self.old))) }
+        ensures free { IsTrue writes_free → IfErr result (λ e. e.reason ≢ Reason.OutOfMemory) };
+
+    /// As `Encoder::encode_part_of_each`, of fields that lie apart and have listings.
+    fn encode_parts_of_each<S, W: Parts6<S, T1, T2, T3, T4, T5, T6>>(
+        &mut self,
+        items: &[S],
+        which: &W,
+    ) -> Result<(), Error>
+        requires chunk { (0 < length items.now) × (length items.now ≤ MAX_VECTORED_CHUNK) }
+        requires room { length items.now ≤ Self.room self.old }
+        requires listed { EachListed ⟦<(T1, T2, T3, T4, T5, T6) as Shaped>⟧.lists (map (W.of which.now) items.now) }
+        ensures joined { OnOk result (JoinsEach ⟦<(T1, T2, T3, T4, T5, T6) as Shaped>⟧.lists ⟦<(T1, T2, T3, T4, T5, T6) as Shaped>⟧.shape (map (W.of which.now) items.now) (Self.columns self.old) (Self.columns self.new)) }
+        ensures room { OnOk result (Self.room self.old ≤ Self.room self.new + length items.now) }
+        ensures form { emptied (Self.columns self.new) ≡ emptied (Self.columns self.old) }
+        ensures refused { IfErr result (λ e. IsWritingRefusal e.reason (OverflowsWithEach ⟦<(T1, T2, T3, T4, T5, T6) as Shaped>⟧.lists ⟦<(T1, T2, T3, T4, T5, T6) as Shaped>⟧.shape (map (W.of which.now) items.now) (Self.columns self.old))) }
         ensures free { IsTrue writes_free → IfErr result (λ e. e.reason ≢ Reason.OutOfMemory) };
 
     ghost of_shape: { (e : Self) → emptied (Self.columns e) ≡ written_columns ⟦<(T1, T2, T3, T4, T5, T6) as Shaped>⟧.shape [] };
@@ -123,6 +140,21 @@ pub trait FieldsEncoder7<
         ensures room { OnOk result (Self.room self.old ≤ Self.room self.new + 1) }
         ensures form { emptied (Self.columns self.new) ≡ emptied (Self.columns self.old) }
         ensures refused { IfErr result (λ e. IsWritingRefusal e.reason (OverflowsWithListing ⟦<(T1, T2, T3, T4, T5, T6, T7) as Shaped>⟧.lists ⟦<(T1, T2, T3, T4, T5, T6, T7) as Shaped>⟧.shape (t1.now, t2.now, t3.now, t4.now, t5.now, t6.now, t7.now) (Self.columns self.old))) }
+        ensures free { IsTrue writes_free → IfErr result (λ e. e.reason ≢ Reason.OutOfMemory) };
+
+    /// As `Encoder::encode_part_of_each`, of fields that lie apart and have listings.
+    fn encode_parts_of_each<S, W: Parts7<S, T1, T2, T3, T4, T5, T6, T7>>(
+        &mut self,
+        items: &[S],
+        which: &W,
+    ) -> Result<(), Error>
+        requires chunk { (0 < length items.now) × (length items.now ≤ MAX_VECTORED_CHUNK) }
+        requires room { length items.now ≤ Self.room self.old }
+        requires listed { EachListed ⟦<(T1, T2, T3, T4, T5, T6, T7) as Shaped>⟧.lists (map (W.of which.now) items.now) }
+        ensures joined { OnOk result (JoinsEach ⟦<(T1, T2, T3, T4, T5, T6, T7) as Shaped>⟧.lists ⟦<(T1, T2, T3, T4, T5, T6, T7) as Shaped>⟧.shape (map (W.of which.now) items.now) (Self.columns self.old) (Self.columns self.new)) }
+        ensures room { OnOk result (Self.room self.old ≤ Self.room self.new + length items.now) }
+        ensures form { emptied (Self.columns self.new) ≡ emptied (Self.columns self.old) }
+        ensures refused { IfErr result (λ e. IsWritingRefusal e.reason (OverflowsWithEach ⟦<(T1, T2, T3, T4, T5, T6, T7) as Shaped>⟧.lists ⟦<(T1, T2, T3, T4, T5, T6, T7) as Shaped>⟧.shape (map (W.of which.now) items.now) (Self.columns self.old))) }
         ensures free { IsTrue writes_free → IfErr result (λ e. e.reason ≢ Reason.OutOfMemory) };
 
     ghost of_shape: { (e : Self) → emptied (Self.columns e) ≡ written_columns ⟦<(T1, T2, T3, T4, T5, T6, T7) as Shaped>⟧.shape [] };
@@ -220,6 +252,21 @@ pub trait FieldsEncoder8<
         ensures room { OnOk result (Self.room self.old ≤ Self.room self.new + 1) }
         ensures form { emptied (Self.columns self.new) ≡ emptied (Self.columns self.old) }
         ensures refused { IfErr result (λ e. IsWritingRefusal e.reason (OverflowsWithListing ⟦<(T1, T2, T3, T4, T5, T6, T7, T8) as Shaped>⟧.lists ⟦<(T1, T2, T3, T4, T5, T6, T7, T8) as Shaped>⟧.shape (t1.now, t2.now, t3.now, t4.now, t5.now, t6.now, t7.now, t8.now) (Self.columns self.old))) }
+        ensures free { IsTrue writes_free → IfErr result (λ e. e.reason ≢ Reason.OutOfMemory) };
+
+    /// As `Encoder::encode_part_of_each`, of fields that lie apart and have listings.
+    fn encode_parts_of_each<S, W: Parts8<S, T1, T2, T3, T4, T5, T6, T7, T8>>(
+        &mut self,
+        items: &[S],
+        which: &W,
+    ) -> Result<(), Error>
+        requires chunk { (0 < length items.now) × (length items.now ≤ MAX_VECTORED_CHUNK) }
+        requires room { length items.now ≤ Self.room self.old }
+        requires listed { EachListed ⟦<(T1, T2, T3, T4, T5, T6, T7, T8) as Shaped>⟧.lists (map (W.of which.now) items.now) }
+        ensures joined { OnOk result (JoinsEach ⟦<(T1, T2, T3, T4, T5, T6, T7, T8) as Shaped>⟧.lists ⟦<(T1, T2, T3, T4, T5, T6, T7, T8) as Shaped>⟧.shape (map (W.of which.now) items.now) (Self.columns self.old) (Self.columns self.new)) }
+        ensures room { OnOk result (Self.room self.old ≤ Self.room self.new + length items.now) }
+        ensures form { emptied (Self.columns self.new) ≡ emptied (Self.columns self.old) }
+        ensures refused { IfErr result (λ e. IsWritingRefusal e.reason (OverflowsWithEach ⟦<(T1, T2, T3, T4, T5, T6, T7, T8) as Shaped>⟧.lists ⟦<(T1, T2, T3, T4, T5, T6, T7, T8) as Shaped>⟧.shape (map (W.of which.now) items.now) (Self.columns self.old))) }
         ensures free { IsTrue writes_free → IfErr result (λ e. e.reason ≢ Reason.OutOfMemory) };
 
     ghost of_shape: { (e : Self) → emptied (Self.columns e) ≡ written_columns ⟦<(T1, T2, T3, T4, T5, T6, T7, T8) as Shaped>⟧.shape [] };
