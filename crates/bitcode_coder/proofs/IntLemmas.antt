@@ -20,7 +20,6 @@ use Rattle.bitcode_columns.proofs.IntLemmas.{IsNumber-number_of}
 use Rattle.bitcode_shapes.specs.Datum.{Datum, number, number_in}
 use Rattle.bitcode_shapes.specs.Shape.{Allowed, IsInWidth, IsAllowed, IsNumberOf, any_number}
 use Rattle.bitcode_shapes.specs.Ints.{int_shape}
-use Rattle.bitcode_coder.specs.Columns.{one}
 use Rattle.bitcode_coder.specs.Spelling.{Spells, number_of_residue}
 use Rattle.bitcode_coder.specs.Faults.{NamesIntsFault}
 use Rattle.bitcode_coder.specs.Coder.{IsReadingRefusal}
@@ -33,6 +32,10 @@ bytes_alone [] = refl
 bytes_alone (byte ∷ bytes) =
     let alone : byte + 256 * 0 ≡ byte = omega arith in
     ap₂ (λ b bs. b ∷ bs) alone (bytes_alone bytes)
+
+-- a byte is the number that it stands for by itself, of an integer without a sign
+pub bytes_themselves : (bytes : List ℕ) → map pos bytes ≡ map (λ byte. number_of 1 false (little_endian (byte ∷ []))) bytes
+bytes_themselves bytes = ap (map pos) (sym (bytes_alone bytes)) ∙ map-map pos (λ byte. little_endian (byte ∷ [])) bytes
 
 tagged_known : (width highest : ℕ) (fault : ℕ → List ℕ → Option Reason) → ((level : ℕ) (input : List ℕ) → IsReadingFault (fault level input))
     → (input : List ℕ) → IsReadingFault (tagged_fault width highest fault input)
