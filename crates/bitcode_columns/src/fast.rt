@@ -207,7 +207,7 @@ impl<'a, T: Drop> CowSlice<'a, T> {
         &from_position(self.held.items(), start)[..n]
     }
 
-    /// Takes the next `n` items as a list: the one that is held, if they are all its items, and else a copy.
+    /// Takes the next `n` items as a list: the one that is held, if it has no others, and else a copy.
     ///
     /// A refused growth is `out of memory`, and then they are taken too.
     pub fn list_unchecked(&mut self, alloc: Global, n: usize) -> Result<Vec<T>, Error>
@@ -219,10 +219,8 @@ impl<'a, T: Drop> CowSlice<'a, T> {
         ensures reason { IfErr result (λ e. e.reason ≡ Reason.OutOfMemory) }
         ensures none { n ≡ 0 → IsOk result }
     {
-        if self.position == 0 {
-            if let Some(list) = self.held.give_list(n) {
-                return Ok(list);
-            }
+        if let Some(list) = self.held.give_list(n) {
+            return Ok(list);
         }
         let items = self.chunk_unchecked(n);
         let mut copy = Vec::with_capacity(alloc, n)?;
