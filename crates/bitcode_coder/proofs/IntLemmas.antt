@@ -33,6 +33,10 @@ bytes_alone (byte ∷ bytes) =
     let alone : byte + 256 * 0 ≡ byte = omega arith in
     ap₂ (λ b bs. b ∷ bs) alone (bytes_alone bytes)
 
+-- a byte is the number that it stands for by itself, of an integer without a sign
+pub bytes_themselves : (bytes : List ℕ) → map pos bytes ≡ map (λ byte. number_of 1 false (little_endian (byte ∷ []))) bytes
+bytes_themselves bytes = ap (map pos) (sym (bytes_alone bytes)) ∙ map-map pos (λ byte. little_endian (byte ∷ [])) bytes
+
 tagged_known : (width highest : ℕ) (fault : ℕ → List ℕ → Option Reason) → ((level : ℕ) (input : List ℕ) → IsReadingFault (fault level input))
     → (input : List ℕ) → IsReadingFault (tagged_fault width highest fault input)
 tagged_known width highest fault known [] = tt

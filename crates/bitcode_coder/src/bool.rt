@@ -121,9 +121,7 @@ impl<'a> Decoder<bool> for BoolDecoder<'a> {
     }
 
     fn decode_many(&mut self, alloc: Global, count: usize) -> Result<Vec<bool>, Error> {
-        let mut bools = Vec::with_capacity(alloc, count)?;
-        bools.extend_from_slice(self.values.chunk_unchecked(count))?;
-        Ok(bools)
+        self.values.list_unchecked(alloc, count)
     }
 
     ghost same_shape = { refl };

@@ -1,7 +1,7 @@
 //! The coders of a column of integers.
 #![tactic(auto)]
 
-ghost use Rattle.std.specs.Prelude.{◌≡◌, ◌≢◌, ◌+◌, ◌<◌, ◌≤◌, ◌++◌, List, [], length, map, true, IsOk, IfOk, OnOk, IfErr, OnErr};
+ghost use Rattle.std.specs.Prelude.{◌≡◌, ◌≢◌, ◌+◌, ◌<◌, ◌≤◌, ◌++◌, List, [], ◌∷◌, length, map, take, drop, pos, true, false, IsOk, IfOk, OnOk, IfErr, OnErr};
 ghost use Rattle.std.proofs.Common.{sym};
 ghost use Rattle.bitcode_columns.specs.Fast.{fast_items, fast_room, cow_rest, fast_capacity, cow_owned};
 ghost use Rattle.bitcode_columns.specs.Ints.{number_of};
@@ -74,6 +74,23 @@ fn push_parts<S, P: AsInt<I>, I: ColumnInt, W: Part<S, P>>(
 
 /// An integer whose values are made of what is read, as it is.
 pub trait Integer: ColumnInt + Made {
+    /// Takes the next `n` integers from their bytes.
+    ///
+    /// A refused growth is `out of memory`.
+    fn list_unchecked<'a>(
+        alloc: Global,
+        bytes: &mut CowSlice<'a, Self::Une>,
+        n: usize,
+    ) -> Result<Vec<Self>, Error>
+        requires { n ≤ length (cow_rest bytes.old) }
+        ensures numbers { IfOk result (λ ints. map Self.number ints.items ≡ map (λ u. number_of Self.width Self.signed (little_endian (Self.une_bytes u))) (take n (cow_rest bytes.old))) }
+        ensures rest { cow_rest bytes.new ≡ drop n (cow_rest bytes.old) }
+        ensures refused { IfErr result (λ e. e.reason ≡ Reason.OutOfMemory) }
+        ensures none { n ≡ 0 → IsOk result }
+    {
+        ints_of(alloc, bytes.chunk_unchecked(n))
+    }
+
     ghost integer_shape: { Self.shape ≡ int_shape Self.width Self.signed };
 
     ghost integer_makes: { (t : Self) → Self.makes (number (Self.number t)) t };
@@ -191,6 +208,21 @@ fn ints_of<T: ColumnInt>(alloc: Global, unaligned: &[T::Une]) -> Result<Vec<T>, 
     Ok(ints)
 }
 
+// Takes the next `n` bytes, as the numbers that each of them is by itself.
+fn list_of_bytes<'a>(
+    alloc: Global,
+    bytes: &mut CowSlice<'a, u8>,
+    n: usize,
+) -> Result<Vec<u8>, Error>
+    requires { n ≤ length (cow_rest bytes.old) }
+    ensures numbers { IfOk result (λ ints. map pos ints.items ≡ map (λ byte. number_of 1 false (little_endian (byte ∷ []))) (take n (cow_rest bytes.old))) }
+    ensures rest { cow_rest bytes.new ≡ drop n (cow_rest bytes.old) }
+    ensures refused { IfErr result (λ e. e.reason ≡ Reason.OutOfMemory) }
+    ensures none { n ≡ 0 → IsOk result }
+{
+    bytes.list_unchecked(alloc, n)
+}
+
 /// The column that integers are read from.
 ///
 /// ```
@@ -240,7 +272,7 @@ impl<'a, T: Integer> Decoder<T> for IntDecoder<'a, T> {
     }
 
     fn decode_many(&mut self, alloc: Global, count: usize) -> Result<Vec<T>, Error> {
-        ints_of(alloc, self.values.chunk_unchecked(count))
+        T::list_unchecked(alloc, &mut self.values, count)
     }
 
     ghost same_shape = { sym T.integer_shape };

@@ -1,5 +1,5 @@
 -- Numbers of one width that are written block by block.
-use Rattle.std.proofs.Common.{◌≡◌, ℕ, ◌+◌, ◌*◌, ◌/◌, ◌<◌, ◌≤◌, List, [], ◌++◌, length, map, take, drop, get_or, sym, ap, ◌∙◌, append_assoc, length-append, arith}
+use Rattle.std.proofs.Common.{◌≡◌, ℕ, ◌+◌, ◌*◌, ◌/◌, ◌<◌, ◌≤◌, List, [], ◌++◌, length, map, take, drop, get_or, sym, ap, ◌∙◌, append_assoc, length-append, arith, lit≤}
 use borrow.Rule.Slice.PartMut.{put_mid}
 use Rattle.std.proofs.Math.Nat.{zero-mul, add-mul, mul-le-mul_right, div-mul-le_self}
 use Rattle.std.proofs.Math.Seq.{take-add}
@@ -7,6 +7,8 @@ use Rattle.std.proofs.lemmas.List.{map-append, length-take, length-drop}
 use Rattle.std.proofs.lemmas.List.Concat.{flat_map-append}
 use Rattle.std.proofs.lemmas.Slice.{take-put_mid}
 use Rattle.bitcode_columns.specs.LittleEndian.{number_bytes, raw_text}
+use Rattle.bitcode_columns.specs.IntWidths.{IsWidth}
+use Rattle.bitcode_columns.proofs.IntColumnLemmas.{at_width}
 use Rattle.bitcode_columns.proofs.LittleEndianLemmas.{length-number_bytes}
 use Rattle.bitcode_columns.proofs.NarrowLemmas.{raw_more}
 
@@ -65,3 +67,7 @@ block_room width size i count before some =
     let next : (i + 1) * size ≤ count / size * size = mul-le-mul_right size (omega arith) in
     let fits : i * size + size ≤ count = omega (arith, next, add-mul i 1 size, div-mul-le_self count size) in
     omega (arith, mul-le-mul_right {m = i * size + size} {n = count} width fits, add-mul (i * size) size width)
+
+-- a block has its place for some numbers of each width
+pub some_in_block : (width : ℕ) → IsWidth width → 1 ≤ 1024 / width
+some_in_block = at_width (λ width. 1 ≤ 1024 / width) (lit≤ tt) (lit≤ tt) (lit≤ tt) (lit≤ tt) (lit≤ tt)

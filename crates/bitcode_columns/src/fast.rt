@@ -1,7 +1,7 @@
 //! Lists with reserved room, and lists that are read from the front.
 #![tactic(auto, unfolding(crate::specs::Fast::slice_rest, crate::specs::Fast::cow_rest, crate::specs::Fast::cow_owned))]
 
-ghost use Rattle.std.specs.Prelude.{◌≡◌, ℕ, ◌+◌, ◌<◌, ◌≤◌, List, [], ◌∷◌, ◌++◌, length, take, drop};
+ghost use Rattle.std.specs.Prelude.{◌≡◌, ℕ, ◌+◌, ◌<◌, ◌≤◌, List, [], ◌∷◌, ◌++◌, length, take, drop, IsOk, IfOk, IfErr, MatchOption};
 ghost use Rattle.std.specs.Borrow.{sem};
 ghost use Rattle.bitcode_columns.specs.Fast.{slice_rest, held_items, cow_rest, cow_owned};
 ghost use Rattle.bitcode_columns.specs.Lending.{EndsBehind};
@@ -9,10 +9,13 @@ ghost use Rattle.bitcode_columns.specs.Lending.{EndsBehind};
 mod memory;
 mod vec;
 
+use crate::error::{Error, Reason};
+use std::alloc::Global;
+use std::mem::replace;
+
 // A crate can name a list in a contract only if the types of its fields are exported.
 #[doc(hidden)]
 pub use memory::{Lease, Places, Start};
-use std::alloc::Global;
 pub use vec::FastVec;
 
 /// The list that encoders push to.
@@ -113,6 +116,19 @@ impl<'a, T> Held<'a, T> {
             Held::Owned(vec) => vec.as_slice(),
         }
     }
+
+    // Gives out the list that is held, if there is one and it has so many items. Nothing is held then.
+    fn give_list(&mut self, len: usize) -> Option<Vec<T>>
+        ensures { MatchOption result (held_items self.new ≡ held_items self.old) (λ vec. (held_items self.new ≡ []) × (vec.items ≡ held_items self.old) × (length (held_items self.old) ≡ len)) }
+    {
+        match self {
+            Held::Owned(vec) if vec.len() == len => {
+                let alloc = *vec.allocator();
+                Some(replace(vec, Vec::new(alloc)))
+            }
+            _ => None,
+        }
+    }
 }
 
 // The items from a position on: none where it lies past the end.
@@ -189,6 +205,27 @@ impl<'a, T: Drop> CowSlice<'a, T> {
         let start = self.position;
         self.advance(n);
         &from_position(self.held.items(), start)[..n]
+    }
+
+    /// Takes the next `n` items as a list: the one that is held, if it has no others, and else a copy.
+    ///
+    /// A refused growth is `out of memory`, and then they are taken too.
+    pub fn list_unchecked(&mut self, alloc: Global, n: usize) -> Result<Vec<T>, Error>
+    where
+        T: Copy,
+        requires { n ≤ length (cow_rest self.old) }
+        ensures taken { IfOk result (λ vec. vec.items ≡ take n (cow_rest self.old)) }
+        ensures rest { cow_rest self.new ≡ drop n (cow_rest self.old) }
+        ensures reason { IfErr result (λ e. e.reason ≡ Reason.OutOfMemory) }
+        ensures none { n ≡ 0 → IsOk result }
+    {
+        if let Some(list) = self.held.give_list(n) {
+            return Ok(list);
+        }
+        let items = self.chunk_unchecked(n);
+        let mut copy = Vec::with_capacity(alloc, n)?;
+        copy.extend_from_slice(items)?;
+        Ok(copy)
     }
 
     fn advance(&mut self, n: usize)

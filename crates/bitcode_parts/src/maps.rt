@@ -125,11 +125,7 @@ impl<K: Key + Made + Ord + Drop, V: Made + Drop> FromElements for BTreeMap<K, V>
         ensures refused { IfErr result (λ e. e.reason ≡ Reason.OutOfMemory) }
     {
         told_each(elements.as_slice());
-        let mut map = BTreeMap::new(alloc);
-        for (key, value) in elements {
-            let _old = map.insert(key, value)?;
-        }
-        Ok(map)
+        Ok(BTreeMap::from_iter(alloc, elements)?)
     }
 }
 

@@ -66,11 +66,7 @@ impl<T: Key + Made + Ord + Drop> FromElements for BTreeSet<T> {
         ensures refused { IfErr result (λ e. e.reason ≡ Reason.OutOfMemory) }
     {
         told_each(elements.as_slice());
-        let mut set = BTreeSet::new(alloc);
-        for element in elements {
-            let _added = set.insert(element)?;
-        }
-        Ok(set)
+        Ok(BTreeSet::from_iter(alloc, elements)?)
     }
 }
 

@@ -2,8 +2,10 @@
 //! The integers, which are written as they are.
 ghost use Rattle.std.specs.Prelude.{refl};
 
-use crate::int::{AsInt, Integer, push_themselves};
-use bitcode_columns::fast::FastVec;
+use crate::int::{AsInt, Integer, list_of_bytes, push_themselves};
+use bitcode_columns::error::Error;
+use bitcode_columns::fast::{CowSlice, FastVec};
+use std::alloc::Global;
 
 impl AsInt<u8> for u8 {
     fn to_int(&self) -> u8 {
@@ -18,6 +20,14 @@ impl AsInt<u8> for u8 {
 }
 
 impl Integer for u8 {
+    fn list_unchecked<'a>(
+        alloc: Global,
+        bytes: &mut CowSlice<'a, u8>,
+        n: usize,
+    ) -> Result<Vec<u8>, Error> {
+        list_of_bytes(alloc, bytes, n)
+    }
+
     ghost integer_shape = { refl };
 
     ghost integer_makes = { λ t. refl };

@@ -1,5 +1,5 @@
 //! Writing the numbers of a column at a width.
-ghost use Rattle.std.specs.Prelude.{◌≡◌, ◌≢◌, ◌+◌, ◌*◌, ◌%◌, ◌^◌, ◌≤◌, ◌++◌, length, map, All, vec_len, vec_capacity, IsOk, IfOk, OnOk, IfErr};
+ghost use Rattle.std.specs.Prelude.{◌≡◌, ◌≢◌, ◌+◌, ◌*◌, ◌%◌, ◌^◌, ◌<◌, ◌≤◌, ◌++◌, length, map, All, vec_len, vec_capacity, IsOk, IfOk, OnOk, IfErr};
 ghost use Rattle.bitcode_columns.specs.ByteColumn.{byte_text};
 ghost use Rattle.bitcode_columns.specs.IntWidths.{IsWidth};
 ghost use Rattle.bitcode_columns.specs.IntColumn.{narrow_text};
@@ -13,8 +13,12 @@ use crate::pack::pack_bytes;
 use crate::refuse::err;
 use std::alloc::Global;
 
-// So many numbers are written as one block, over zeros that have just been made: those are then near the processor still.
-const IN_BLOCK: usize = 512;
+// So many bytes are one block, which is written over zeros that have just been made: those are then near the processor still. While
+// the zeros of a small block are on their way to memory, its numbers can be read already.
+const BLOCK: usize = 1024;
+
+// Fewer blocks than these are one block, since all of it stays near the processor.
+const FEW: usize = 16;
 
 // Writes how far each entry lies above a base over as many bytes as they take at a narrow type.
 fn put_numbers<T: Int, N: SizedUInt>(entries: &[T], base: T::Unsigned, bytes: &mut [u8])
@@ -43,9 +47,15 @@ fn push_block<T: Int, N: SizedUInt>(entries: &[T], base: T::Unsigned, out: &mut 
     put_numbers::<T, N>(entries, base, &mut out.as_mut_slice()[start..]);
 }
 
-// Appends how far each entry of whole blocks lies above a base, in room that is there.
-fn push_blocks<T: Int, N: SizedUInt>(entries: &[T], base: T::Unsigned, out: &mut Vec<u8>)
-    requires whole { length entries.now % 512 ≡ 0 }
+// Appends how far each entry of whole blocks of so many lies above a base, in room that is there.
+fn push_blocks<T: Int, N: SizedUInt>(
+    entries: &[T],
+    in_block: usize,
+    base: T::Unsigned,
+    out: &mut Vec<u8>,
+)
+    requires some { 0 < in_block }
+    requires whole { length entries.now % in_block ≡ 0 }
     requires room { vec_len out.old + length entries.now * N.width ≤ vec_capacity out.old }
     ensures written { out.new.items ≡ out.old.items ++ raw_text N.width (map (λ e. above T.width (T.Unsigned.value base) (T.number e) % 256 ^ N.width) entries.now) }
     ensures in_range { All (λ e. IsNumber T.width T.signed (T.number e)) entries.now }
@@ -53,22 +63,33 @@ fn push_blocks<T: Int, N: SizedUInt>(entries: &[T], base: T::Unsigned, out: &mut
     ensures capacity { vec_capacity out.old ≤ vec_capacity out.new }
 {
     let mut rest = entries;
-    for _block in 0..entries.len() / IN_BLOCK {
-        let (block, behind) = rest.split_at(IN_BLOCK);
+    for _block in 0..entries.len() / in_block {
+        let (block, behind) = rest.split_at(in_block);
         push_block::<T, N>(block, base, out);
         rest = behind;
     }
 }
 
-// Appends how far each entry lies above a base, in the bytes of a narrow type, in room that is there: whole blocks of them,
-// and the rest.
+// How many entries are written block by block: those of whole blocks, unless these are few.
+fn in_blocks(count: usize, in_block: usize) -> usize
+    requires { 0 < in_block }
+    ensures within { result ≤ count }
+    ensures whole { result % in_block ≡ 0 }
+{
+    let blocks = count / in_block;
+    if blocks < FEW { 0 } else { blocks * in_block }
+}
+
+// Appends how far each entry lies above a base, in the bytes of a narrow type, in room that is there: blocks of them, and the
+// rest.
 fn push_numbers<T: Int, N: SizedUInt>(entries: &[T], base: T::Unsigned, out: &mut Vec<u8>)
     requires { vec_len out.old + length entries.now * N.width ≤ vec_capacity out.old }
     ensures written { out.new.items ≡ out.old.items ++ raw_text N.width (map (λ e. above T.width (T.Unsigned.value base) (T.number e) % 256 ^ N.width) entries.now) }
     ensures in_range { All (λ e. IsNumber T.width T.signed (T.number e)) entries.now }
 {
-    let (blocks, rest) = entries.split_at(entries.len() / IN_BLOCK * IN_BLOCK);
-    push_blocks::<T, N>(blocks, base, out);
+    let in_block = BLOCK / N::size();
+    let (blocks, rest) = entries.split_at(in_blocks(entries.len(), in_block));
+    push_blocks::<T, N>(blocks, in_block, base, out);
     push_block::<T, N>(rest, base, out);
 }
 

@@ -1,4 +1,5 @@
 -- The integers are made of the numbers of the bytes that were taken.
+use Rattle.std.proofs.Common.{take, refl}
 use Rattle.std.proofs.lemmas.Result.{IfOk-weaker}
 use Rattle.bitcode_columns.specs.Fast.{cow_rest}
 use Rattle.bitcode_columns.specs.LittleEndian.{little_endian}
@@ -13,8 +14,9 @@ returns-clause-made g c =
     let residue_of = λ (u : g.row.T-Une.Denot). little_endian (g.T.ColumnInt.une_bytes u) in
     let width = g.T.ColumnInt.width in
     let signed = g.T.ColumnInt.signed in
-    IfOk-weaker c.ints_of.result _ _ (λ ints numbers.
-    takes_front g.T.Made.makes (λ u. number_of_residue width signed (residue_of u)) c.args.count (cow_rest c.args.self.now.values) c.chunk_unchecked.result.now _ ints.items
-    c.requires c.chunk_unchecked.ensures.taken c.chunk_unchecked.follows.holds-at-none
-    (made_of_numbers g.T.Made.makes g.T.ColumnInt.number g.met.T.Integer.integer_makes (λ u. number_of width signed (residue_of u)) ints.items c.chunk_unchecked.result.now numbers))
-    c.ints_of.ensures.numbers
+    let rest = cow_rest c.args.self.now.values in
+    IfOk-weaker c.list_unchecked.result _ _ (λ ints numbers.
+    takes_front g.T.Made.makes (λ u. number_of_residue width signed (residue_of u)) c.args.count rest (take c.args.count rest) _ ints.items
+    c.requires refl c.list_unchecked.ensures.rest
+    (made_of_numbers g.T.Made.makes g.T.ColumnInt.number g.met.T.Integer.integer_makes (λ u. number_of width signed (residue_of u)) ints.items (take c.args.count rest) numbers))
+    c.list_unchecked.ensures.numbers

@@ -1,15 +1,23 @@
-use Rattle.std.proofs.Common.{◌≡◌, ◌+◌, ◌*◌, ◌%◌, ◌^◌, length, All, sym, ap, subst, arith}
+use Rattle.std.proofs.Common.{◌≡◌, ◌≤◌, ◌+◌, ◌*◌, ◌/◌, ◌%◌, ◌∙◌, ◌^◌, length, All, sym, ap, subst, arith}
 use Rattle.std.proofs.Math.Nat.{add-mul, mul-le-mul_right}
 use Rattle.std.proofs.lemmas.List.Elements.{All-append}
 use Rattle.bitcode_columns.specs.Ints.{IsNumber}
 use Rattle.bitcode_columns.specs.Narrowing.{above}
-use Rattle.bitcode_columns.proofs.BlockLemmas.{raw_joined}
+use Rattle.bitcode_columns.proofs.IntColumnLemmas.{some_width}
+use Rattle.bitcode_columns.proofs.BlockLemmas.{raw_joined, some_in_block}
 use Rattle.bitcode_columns.proofs.pack_ints.write.push_numbers.Goals as goal
+
+pub nonzero_div-in_block : goal.nonzero_div-in_block
+nonzero_div-in_block g c = omega (arith, c.size-in_block.ensures, some_width g.N.SizedUInt.width g.met.N.SizedUInt.width_law)
+
+pub in_blocks-requires : goal.in_blocks-requires
+in_blocks-requires g c = subst (λ size. 1 ≤ 1024 / size) (sym c.size-in_block.ensures) (some_in_block g.N.SizedUInt.width g.met.N.SizedUInt.width_law)
 
 pub push_blocks-requires : goal.push_blocks-requires
 push_blocks-requires g c = record {
-  whole = omega (arith, c.split_at.ensures.front_len);
-  room = omega (arith, c.requires, mul-le-mul_right {m = length c.split_at.result.0.now} {n = length c.args.entries.now} g.N.SizedUInt.width (omega (arith, c.split_at.ensures.front_len)));
+  some = subst (λ size. 1 ≤ 1024 / size) (sym c.size-in_block.ensures) (some_in_block g.N.SizedUInt.width g.met.N.SizedUInt.width_law);
+  whole = ap (λ n. n % (1024 / c.size-in_block.result)) c.split_at.ensures.front_len ∙ c.in_blocks.ensures.whole;
+  room = omega (arith, c.requires, mul-le-mul_right {m = length c.split_at.result.0.now} {n = length c.args.entries.now} g.N.SizedUInt.width (omega (arith, c.split_at.ensures.front_len, c.in_blocks.ensures.within)));
 }
 
 pub push_block-requires : goal.push_block-requires

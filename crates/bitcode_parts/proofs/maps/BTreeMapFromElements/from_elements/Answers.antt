@@ -1,25 +1,17 @@
--- Each turn inserts one pair.
-use Rattle.std.proofs.Common.{sym, ◌∙◌, subst}
+-- The map is made of the pairs that are collected, which are all of them.
+use Rattle.std.proofs.Common.{◌≡◌, [], sym, ◌∙◌, subst}
 use Rattle.std.specs.Ordering.{eq_by_cmp}
-use Rattle.std.proofs.lemmas.List.{nil_from_length}
-use Rattle.std.specs.Vec.Iter.{into_iter_items}
-use Rattle.bitcode_parts.proofs.MapLemmas.{GivesWhole, pair_inserted, map_of_elements}
+use Rattle.std.proofs.lemmas.List.{map-id}
+use Rattle.std.proofs.lemmas.Iterator.{items_from_drains}
+use Rattle.std.proofs.lemmas.Iterator.Adapters.{YieldsList-from_vec}
+use Rattle.bitcode_parts.proofs.MapLemmas.{GivesWhole, map_of_elements}
 use Rattle.bitcode_parts.proofs.maps.BTreeMapFromElements.from_elements.Goals as goal
-
-pub loop-key-preserved-in_ok-_old : goal.loop-key-preserved-in_ok-_old
-loop-key-preserved-in_ok-_old g c =
-    pair_inserted (eq_by_cmp g.K.Ord.cmp) c.in-Some.key c.in-Some.value c.loop-key.map.entries c.insert.new.self.entries (into_iter_items c.next.new.self) c.args.elements.items
-    c.in_ok-_old.ensures.updates.0
-    (subst (λ rest. GivesWhole (eq_by_cmp g.K.Ord.cmp) c.loop-key.map.entries rest c.args.elements.items) c.in-Some.ensures.steps.0 c.loop-key.invariant)
-
-pub loop-key-preserved : goal.loop-key-preserved
-loop-key-preserved g c =
-    pair_inserted (eq_by_cmp g.K.Ord.cmp) c.in-Some.key c.in-Some.value c.loop-key.map.entries c.insert.new.self.entries (into_iter_items c.next.new.self) c.args.elements.items
-    c.in_ok-_old.ensures.updates.0
-    (subst (λ rest. GivesWhole (eq_by_cmp g.K.Ord.cmp) c.loop-key.map.entries rest c.args.elements.items) c.in-Some.ensures.steps.0 c.loop-key.invariant)
 
 pub returns-clause-made : goal.returns-clause-made
 returns-clause-made g c =
-    map_of_elements (eq_by_cmp g.K.Ord.cmp) (λ (m : _). m.entries) g.K.Shaped.is_value g.V.Shaped.is_value g.K.Made.makes g.V.Made.makes c.loop-key.map c.args.elements.items
+    let ran = c.in_ok-from_iter.ensures.ran in
+    let pairs = c.args.elements.items in
+    let all : ran.1 ≡ pairs = sym (map-id ran.1) ∙ items_from_drains ran.1 ran.3 (YieldsList-from_vec pairs ran.2.0 (ran.2.1 ∙ c.args.elements.ok.0)) in
+    map_of_elements (eq_by_cmp g.K.Ord.cmp) (λ (m : _). m.entries) g.K.Shaped.is_value g.V.Shaped.is_value g.K.Made.makes g.V.Made.makes c.in_ok-from_iter.field-0 pairs
     (rw c.as_slice.ensures.value at c.told_each.ensures)
-    (subst (λ rest. GivesWhole (eq_by_cmp g.K.Ord.cmp) c.loop-key.map.entries rest c.args.elements.items) (nil_from_length (into_iter_items c.loop-key.key-iterator) (sym c.loop-key.key-iterator.rest.ok.0 ∙ c.in-None.ensures.steps.0)) c.loop-key.invariant)
+    (subst (λ xs. GivesWhole (eq_by_cmp g.K.Ord.cmp) c.in_ok-from_iter.field-0.entries [] xs) all ran.4.0)
