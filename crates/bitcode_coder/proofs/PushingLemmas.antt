@@ -1,6 +1,6 @@
 -- Values whose entries are pushed behind those of a column, all of a slice at once.
-use Rattle.std.proofs.Common.{◌≡◌, ℤ, List, [], ◌∷◌, ◌++◌, map, refl, sym, ap, subst, ◌∙◌, append_assoc, append-nil}
-use Rattle.std.proofs.lemmas.List.{map-append}
+use Rattle.std.proofs.Common.{◌≡◌, ℕ, ℤ, ◌+◌, ◌<◌, List, [], ◌∷◌, ◌++◌, length, map, take, slice_index_or, refl, sym, ap, subst, ◌∙◌, append_assoc, append-nil}
+use Rattle.std.proofs.lemmas.List.{map-append, take_more}
 use Rattle.std.specs.List.{AllZip}
 use Rattle.bitcode_shapes.specs.Datum.{Datum, number}
 use Rattle.bitcode_shapes.specs.Ints.{ListsNumber}
@@ -40,6 +40,17 @@ pub joins_themselves : {T : Type 0} (lists : T → Datum → Type 0) (shape : Sh
 joins_themselves lists shape kind datum values old new columns listed pushed =
     joins_entries lists shape kind datum values values old new columns (zip_itself (λ t entry. lists t (datum entry)) listed values) pushed
 
+zip_made : {A B : Type 0} (R : A → B → Type 0) (made : A → B) → ((x : A) → R x (made x)) → (xs : List A) → AllZip R xs (map made xs)
+zip_made R made each [] = tt
+zip_made R made each (x ∷ xs) = (each x, zip_made R made each xs)
+
+-- an entry that is made of each value was pushed
+pub joins_made : {T Entry : Type 0} (lists : T → Datum → Type 0) (shape : Shape) (kind : Kind) (datum : Entry → Datum) (entry_of : T → Entry) (values : List T) (old new : List Entry)
+    → ((ds : List Datum) → written_columns shape ds ≡ one kind ds) → ((t : T) → lists t (datum (entry_of t))) → new ≡ old ++ map entry_of values
+    → JoinsEach lists shape values (one kind (map datum old)) (one kind (map datum new))
+joins_made lists shape kind datum entry_of values old new columns listed pushed =
+    joins_entries lists shape kind datum values (map entry_of values) old new columns (zip_made (λ t entry. lists t (datum entry)) entry_of listed values) pushed
+
 -- integers that stand for themselves
 pub pushes_themselves : {I : Type 0} (value : I → ℤ) (values old new : List I) → new ≡ old ++ values → PushesInts (ListsNumber value) value values old new
 pushes_themselves value values old new pushed = record {
@@ -61,3 +72,11 @@ module _ {T I : Type 0} (lists : T → Datum → Type 0) (value : I → ℤ) whe
         subst (λ all. AllZip (λ t int. lists t (number (value int))) all (front.ints ++ int ∷ [])) (sym grown)
         (AllZip-append (λ t int. lists t (number (value int))) before (t ∷ []) front.ints (int ∷ []) front.stand (listed, tt));
   }
+
+-- a part of one item more was pushed
+pub one_part_more : {A B : Type 0} (of : A → B) (items : List A) (i : ℕ) (item : A) (old now new : List B) → i < length items → item ≡ slice_index_or items i item
+    → now ≡ old ++ map of (take i items) → new ≡ now ++ of item ∷ [] → new ≡ old ++ map of (take (i + 1) items)
+one_part_more of items i item old now new here is front pushed =
+    pushed ∙ ap (λ all. all ++ of item ∷ []) front ∙ append_assoc old (map of (take i items)) (of item ∷ [])
+    ∙ ap (λ more. old ++ more)
+    (sym (ap (map of) (take_more items i item here ∙ ap (λ t. take i items ++ t ∷ []) (sym is)) ∙ map-append of (take i items) (item ∷ [])))

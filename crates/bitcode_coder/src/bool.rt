@@ -1,7 +1,7 @@
 //! The coders of a column of bools.
 #![tactic(auto, using(crate::proofs::BoolLemmas::truths_in, crate::proofs::BoolLemmas::bools_read, crate::proofs::BoolLemmas::bools_refused, crate::proofs::BoolLemmas::bools_exact))]
 
-ghost use Rattle.std.specs.Prelude.{◌≡◌, ◌≢◌, ◌≤◌, ◌++◌, map, true, refl, OnOk, IfErr, OnErr};
+ghost use Rattle.std.specs.Prelude.{◌≡◌, ◌≢◌, ◌+◌, ◌≤◌, ◌++◌, length, map, true, refl, OnOk, IfErr, OnErr};
 ghost use Rattle.bitcode_columns.specs.Fast.{fast_items, fast_room, cow_rest, fast_capacity, cow_owned};
 ghost use Rattle.bitcode_columns.specs.Reading.{Reads, IsEndOf};
 ghost use Rattle.bitcode_shapes.specs.Shape.{bool_shape};
@@ -11,14 +11,34 @@ ghost use Rattle.bitcode_coder.specs.Coder.{IsReadingRefusal};
 ghost use Rattle.bitcode_coder.specs.Faults.{NamesBoolsFault};
 
 use crate::coder::{Buffer, Decoder, Encoder, HoldsColumns, HoldsData, View};
+use crate::part::Part;
 use bitcode_columns::error::{Error, Reason};
 use bitcode_columns::fast::{CowSlice, FastVec, PushUnchecked};
 use bitcode_columns::pack::{pack_bools, unpack_bools};
 use std::alloc::Global;
+use std::mem::replace;
+
+// Pushes a part of each item. Room for them was reserved. The list is taken and given back: behind a reference its length
+// would be read and written at each push.
+fn push_parts<S, W: Part<S, bool>>(
+    items: &[S],
+    which: &W,
+    mut values: FastVec<bool>,
+) -> FastVec<bool>
+    requires { length items.now ≤ fast_room values }
+    ensures written { fast_items result ≡ fast_items values ++ map (W.of which.now) items.now }
+    ensures room { fast_room values ≤ fast_room result + length items.now }
+{
+    for item in items {
+        values.push_unchecked(*which.part(item));
+    }
+    values
+}
 
 /// The column that bools are written to.
 #[derive(Drop)]
 pub struct BoolEncoder {
+    alloc: Global,
     values: FastVec<bool>,
 }
 
@@ -37,6 +57,7 @@ impl HoldsColumns for BoolEncoder {
 impl Buffer for BoolEncoder {
     fn new(alloc: Global) -> Self {
         BoolEncoder {
+            alloc,
             values: FastVec::new(alloc),
         }
     }
@@ -61,6 +82,16 @@ impl Encoder<bool> for BoolEncoder {
 
     fn encode(&mut self, t: &bool) -> Result<(), Error> {
         self.values.push_unchecked(*t);
+        Ok(())
+    }
+
+    fn encode_part_of_each<S, W: Part<S, bool>>(
+        &mut self,
+        items: &[S],
+        which: &W,
+    ) -> Result<(), Error> {
+        let values = replace(&mut self.values, FastVec::new(self.alloc));
+        self.values = push_parts(items, which, values);
         Ok(())
     }
 

@@ -1,5 +1,5 @@
 //! Bytes of texts, and their coder.
-ghost use Rattle.std.specs.Prelude.{◌≡◌, ◌++◌, map, pos, true, refl};
+ghost use Rattle.std.specs.Prelude.{◌≡◌, ◌+◌, ◌≤◌, ◌++◌, length, map, pos, true, refl};
 ghost use Rattle.bitcode_columns.specs.Fast.{fast_items, fast_room, fast_capacity};
 ghost use Rattle.bitcode_shapes.specs.SameArrays.{one_datum_same_arrays};
 ghost use Rattle.bitcode_shapes.specs.Shape.{raw_shape};
@@ -9,11 +9,13 @@ ghost use Rattle.bitcode_coder.specs.U8Char.{IsRawByte, raw_lawful};
 ghost use Rattle.bitcode_coder.specs.Spelling.{natural};
 
 use crate::coder::{Buffer, Encoder, HoldsColumns};
+use crate::part::{Itself, Part};
 use bitcode_columns::error::Error;
 use bitcode_columns::fast::{FastVec, PushUnchecked};
 use bitcode_shapes::same_arrays::SameArrays;
 use bitcode_shapes::shaped::Shaped;
 use std::alloc::Global;
+use std::mem::replace;
 
 /// A byte of a text.
 ///
@@ -44,6 +46,19 @@ impl SameArrays for U8Char {
     ghost same_arrays = { one_datum_same_arrays };
 }
 
+// Pushes the byte of a part of each item. Room for them was reserved. The list is taken and given back: behind a reference
+// its length would be read and written at each push.
+fn push_parts<S, W: Part<S, U8Char>>(items: &[S], which: &W, mut bytes: FastVec<u8>) -> FastVec<u8>
+    requires { length items.now ≤ fast_room bytes }
+    ensures written { fast_items result ≡ fast_items bytes ++ map (λ item. (W.of which.now item).0) items.now }
+    ensures room { fast_room bytes ≤ fast_room result + length items.now }
+{
+    for item in items {
+        bytes.push_unchecked(which.part(item).0);
+    }
+    bytes
+}
+
 /// The column that bytes of texts are written to.
 ///
 /// ```
@@ -54,6 +69,7 @@ impl SameArrays for U8Char {
 /// ```
 #[derive(Drop)]
 pub struct U8CharEncoder {
+    alloc: Global,
     bytes: FastVec<u8>,
 }
 
@@ -72,6 +88,7 @@ impl HoldsColumns for U8CharEncoder {
 impl Buffer for U8CharEncoder {
     fn new(alloc: Global) -> Self {
         U8CharEncoder {
+            alloc,
             bytes: FastVec::new(alloc),
         }
     }
@@ -99,8 +116,24 @@ impl Encoder<U8Char> for U8CharEncoder {
         Ok(())
     }
 
+    fn encode_part_of_each<S, W: Part<S, U8Char>>(
+        &mut self,
+        items: &[S],
+        which: &W,
+    ) -> Result<(), Error> {
+        let bytes = replace(&mut self.bytes, FastVec::new(self.alloc));
+        self.bytes = push_parts(items, which, bytes);
+        Ok(())
+    }
+
     fn is_primitive() -> bool {
         true
+    }
+
+    fn encode_slice(&mut self, items: &[U8Char]) -> Result<(), Error> {
+        let bytes = replace(&mut self.bytes, FastVec::new(self.alloc));
+        self.bytes = push_parts(items, &Itself, bytes);
+        Ok(())
     }
 
     ghost of_shape = { λ e. refl };

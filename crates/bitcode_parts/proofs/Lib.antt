@@ -3,6 +3,8 @@ pub mod ChoiceReadingLemmas
 pub mod ChoiceWritingLemmas
 pub mod BareVariantLemmas
 pub mod TwoVariantLemmas
+pub mod OptionLemmas
+pub mod PointerLemmas
 pub mod ListLimitLemmas
 pub mod ListLemmas
 pub mod ListWritingLemmas

@@ -3,6 +3,7 @@ pub mod Payloads
 pub mod BareVariants
 pub mod TwoVariants
 pub mod TwoVariantLaws
+pub mod Options
 pub mod Convert
 pub mod Durations
 pub mod Elements

@@ -1,5 +1,7 @@
 //! Boxes, shared pointers, their slices and tuples of one field, by way of what they hold.
 ghost use Rattle.std.specs.Prelude.{refl, true, false};
+ghost use Rattle.std.specs.Box.{box_value};
+ghost use Rattle.std.specs.Rc.{rc_value};
 
 use crate::pointers::deref::Points;
 use crate::pointers::from::FromValue;
@@ -11,15 +13,20 @@ use std::rc::{Rc, RcSlice};
 
 pub mod deref;
 pub mod from;
+mod pointed;
 
 impl<T: Shaped> Points for Box<T> {
     type Target = T;
+
+    ghost points_to = { box_value };
 
     fn target(&self) -> &T {
         self.as_ref()
     }
 
     ghost same_shape = { refl };
+
+    ghost lists_too = { λ p d listed. listed };
 }
 
 impl<T: Made + Drop> FromValue<T> for Box<T> {
@@ -35,11 +42,15 @@ impl<T: Made + Drop> FromValue<T> for Box<T> {
 impl<T: Shaped> Points for Rc<T> {
     type Target = T;
 
+    ghost points_to = { rc_value };
+
     fn target(&self) -> &T {
         self.as_ref()
     }
 
     ghost same_shape = { refl };
+
+    ghost lists_too = { λ p d listed. listed };
 }
 
 impl<T: Made + Drop> FromValue<T> for Rc<T> {
@@ -75,11 +86,15 @@ impl<T: Made + Drop> FromValue<Vec<T>> for RcSlice<T> {
 impl<T: Shaped> Points for (T,) {
     type Target = T;
 
+    ghost points_to = { λ t. t.0 };
+
     fn target(&self) -> &T {
         &self.0
     }
 
     ghost same_shape = { refl };
+
+    ghost lists_too = { λ p d listed. listed };
 }
 
 impl<T: Made + Drop> FromValue<T> for (T,) {

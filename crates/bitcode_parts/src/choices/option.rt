@@ -7,12 +7,18 @@ ghost use Rattle.bitcode_parts.specs.TwoVariants.{TwoVariantsFault};
 ghost use Rattle.bitcode_parts.specs.TwoVariantLaws.{same_two_variants, two_variants_form};
 ghost use Rattle.bitcode_parts.specs.Variants.{variant_room, variant_capacity, variants_left, variants_owned};
 
+use crate::choices::option::gathered::{encode_values, gather_variants};
 use crate::choices::variant::{VariantDecoder, VariantEncoder, encode_payload};
 use crate::empty::EmptyCoder;
-use bitcode_coder::coder::{Buffer, Decoder, Encoder, HoldsColumns, HoldsData, View};
+use bitcode_coder::coder::{
+    Buffer, Decoder, Encoder, HoldsColumns, HoldsData, MAX_VECTORED_CHUNK, View,
+};
+use bitcode_coder::part::Part;
 use bitcode_columns::error::Error;
 use bitcode_shapes::shaped::{Made, Shaped};
 use std::alloc::Global;
+
+mod gathered;
 
 /// The encoder of options: which of them hold a value, then the columns of the values.
 ///
@@ -79,6 +85,17 @@ impl<T: Shaped, E: Buffer + Encoder<T>> Encoder<Option<T>> for OptionEncoder<E> 
                 encode_payload(&mut self.some, value)
             }
         }
+    }
+
+    fn encode_part_of_each<S, W: Part<S, Option<T>>>(
+        &mut self,
+        items: &[S],
+        which: &W,
+    ) -> Result<(), Error> {
+        let mut variants = [0; MAX_VECTORED_CHUNK];
+        gather_variants(items, which, &mut variants);
+        self.variants.encode_vectored(&variants[..items.len()]);
+        encode_values(&mut self.some, items, which)
     }
 
     ghost of_shape = { λ e. two_variants_form refl (E.of_shape e.some) };

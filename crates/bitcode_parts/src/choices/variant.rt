@@ -7,7 +7,7 @@ ghost use Rattle.bitcode_columns.specs.Histogram.{AreCounts};
 ghost use Rattle.bitcode_columns.specs.Reading.{Reads, IsEndOf};
 ghost use Rattle.bitcode_columns.specs.VariantColumn.{SpellsVariants};
 ghost use Rattle.bitcode_coder.specs.Columns.{variants, one, emptied};
-ghost use Rattle.bitcode_coder.specs.Coder.{JoinsListing, OverflowsWithListing, IsWritingRefusal};
+ghost use Rattle.bitcode_coder.specs.Coder.{JoinsListing, OverflowsWithListing, JoinsEach, OverflowsWithEach, IsWritingRefusal};
 ghost use Rattle.bitcode_coder.specs.Faults.{NamesVariantsFault};
 ghost use Rattle.bitcode_coder.specs.Spelling.{natural};
 
@@ -15,6 +15,7 @@ use bitcode_coder::coder::{Buffer, Encoder, HoldsColumns, HoldsData, MAX_VECTORE
 use bitcode_columns::error::Error;
 use bitcode_columns::fast::{CowSlice, FastVec, PushUnchecked};
 use bitcode_columns::pack::{pack_bytes_less_than, unpack_bytes_less_than};
+use bitcode_shapes::lists::told_behind;
 use bitcode_shapes::shaped::Shaped;
 use std::alloc::Global;
 
@@ -225,4 +226,24 @@ pub fn encode_payload<T: Shaped, E: Buffer + Encoder<T>>(
     t.told();
     encoder.reserve(1)?;
     encoder.encode(t)
+}
+
+/// Makes room for 1 to [`MAX_VECTORED_CHUNK`] payloads of a variant, and joins their columns to those so far.
+///
+/// ```
+/// self.variants.encode_vectored(&[1, 1]);
+/// encode_payloads(&mut self.some, &[first, second])
+/// ```
+pub fn encode_payloads<T: Shaped, E: Buffer + Encoder<T>>(
+    encoder: &mut E,
+    several: &[&T],
+) -> Result<(), Error>
+    requires { (0 < length several.now) × (length several.now ≤ MAX_VECTORED_CHUNK) }
+    ensures joined { OnOk result (JoinsEach T.lists T.shape (map (λ t. t.now) several.now) (E.columns encoder.old) (E.columns encoder.new)) }
+    ensures form { emptied (E.columns encoder.new) ≡ emptied (E.columns encoder.old) }
+    ensures refused { IfErr result (λ e. IsWritingRefusal e.reason (OverflowsWithEach T.lists T.shape (map (λ t. t.now) several.now) (E.columns encoder.old))) }
+{
+    told_behind(several);
+    encoder.reserve(several.len())?;
+    encoder.encode_vectored(several)
 }

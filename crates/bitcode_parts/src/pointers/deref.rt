@@ -5,7 +5,9 @@ ghost use Rattle.bitcode_coder.specs.Coder.{ListsAsToo, written_columns, SurelyO
 ghost use Rattle.bitcode_coder.specs.Columns.{lengths, one, two};
 
 use crate::lists::vec::VecEncoder;
+use crate::pointers::pointed::Pointed;
 use bitcode_coder::coder::{Buffer, Encoder, HoldsColumns};
+use bitcode_coder::part::Part;
 use bitcode_columns::error::Error;
 use bitcode_shapes::shaped::Shaped;
 use std::alloc::Global;
@@ -18,6 +20,8 @@ use std::rc::RcSlice;
 /// impl Points for Meters {
 ///     type Target = u32;
 ///
+///     ghost points_to = { λ meters. meters.0 };
+///
 ///     fn target(&self) -> &u32 {
 ///         &self.0
 ///     }
@@ -27,11 +31,17 @@ pub trait Points: Shaped {
     /// The type of the value that is written.
     type Target: Shaped;
 
+    // the value that is written
+    ghost points_to: { Self → Self.Target };
+
     /// The value that is written.
     fn target(&self) -> &Self::Target
-        ensures { ListsAsToo Self.lists Self.Target.lists self.now result.now };
+        ensures is { result.now ≡ points_to self.now }
+        ensures lists { ListsAsToo Self.lists Self.Target.lists self.now result.now };
 
     ghost same_shape: { Self.shape ≡ Self.Target.shape };
+
+    ghost lists_too: { (p : Self) → ListsAsToo Self.lists Self.Target.lists p (points_to p) };
 }
 
 /// The columns that pointers are written to: those of what they point to, by its encoder `E`.
@@ -86,6 +96,15 @@ impl<P: Points, E: Encoder<P::Target>> Encoder<P> for DerefEncoder<E> {
 
     fn encode(&mut self, t: &P) -> Result<(), Error> {
         self.inner.encode(t.target())
+    }
+
+    fn encode_part_of_each<S, W: Part<S, P>>(
+        &mut self,
+        items: &[S],
+        which: &W,
+    ) -> Result<(), Error> {
+        self.inner
+            .encode_part_of_each(items, &Pointed::<W, P>::by(which))
     }
 
     ghost of_shape = { λ e. E.of_shape e.inner ∙ ap (λ shape. written_columns shape []) (sym P.same_shape) };

@@ -1,0 +1,98 @@
+//! The variants of several options, and the values of those that have one.
+ghost use Rattle.std.specs.Prelude.{◌≡◌, ◌<◌, ◌≤◌, [], length, map, take, IfNone, OnSome, OnOk, IfErr};
+ghost use Rattle.bitcode_coder.specs.Columns.{emptied};
+ghost use Rattle.bitcode_coder.specs.Coder.{JoinsEach, OverflowsWithEach, IsWritingRefusal};
+ghost use Rattle.bitcode_parts.specs.Options.{option_index, values_in};
+
+use crate::choices::variant::encode_payloads;
+use bitcode_coder::coder::{Buffer, Encoder, MAX_VECTORED_CHUNK};
+use bitcode_coder::part::Part;
+use bitcode_columns::error::Error;
+use bitcode_shapes::shaped::Shaped;
+
+// Which variant a part of each item is: 0 for none, 1 for a value.
+pub(super) fn gather_variants<S, T, W: Part<S, Option<T>>>(
+    items: &[S],
+    which: &W,
+    variants: &mut [u8; MAX_VECTORED_CHUNK],
+)
+    requires { length items.now ≤ MAX_VECTORED_CHUNK }
+    ensures { take (length items.now) variants.new ≡ map option_index (map (W.of which.now) items.now) }
+{
+    for index in 0..items.len() {
+        variants[index] = match which.part(&items[index]) {
+            None => 0,
+            Some(_) => 1,
+        };
+    }
+}
+
+// The first value among a part of each item.
+fn first_value<'a, S, T, W: Part<S, Option<T>>>(items: &'a [S], which: &'a W) -> Option<&'a T>
+    ensures some { OnSome result (0 < length (values_in (map (W.of which.now) items.now))) }
+    ensures none { IfNone result (values_in (map (W.of which.now) items.now) ≡ []) }
+{
+    for item in items {
+        if let Some(value) = which.part(item) {
+            return Some(value);
+        }
+    }
+    None
+}
+
+// References to the values among a part of each item, and how many they are.
+fn gather_values<'a, S, T, W: Part<S, Option<T>>>(
+    items: &'a [S],
+    which: &'a W,
+    values: &mut [&'a T; MAX_VECTORED_CHUNK],
+) -> usize
+    requires { length items.now ≤ MAX_VECTORED_CHUNK }
+    ensures count { result ≤ MAX_VECTORED_CHUNK }
+    ensures long { length values.new ≡ MAX_VECTORED_CHUNK }
+    ensures values { map (λ value. value.now) (take result values.new) ≡ values_in (map (W.of which.now) items.now) }
+{
+    let mut count = 0;
+    for item in items {
+        if let Some(value) = which.part(item) {
+            values[count] = value;
+            count += 1;
+        }
+    }
+    count
+}
+
+// Makes room for the values among a part of each item, for no more than these, and joins their columns to those so far. The
+// array of references to them takes no memory: it is filled with one of them first.
+fn encode_from<'a, S, T: Shaped, W: Part<S, Option<T>>, E: Buffer + Encoder<T>>(
+    encoder: &mut E,
+    first: &'a T,
+    items: &'a [S],
+    which: &'a W,
+) -> Result<(), Error>
+    requires chunk { length items.now ≤ MAX_VECTORED_CHUNK }
+    requires any { 0 < length (values_in (map (W.of which.now) items.now)) }
+    ensures joined { OnOk result (JoinsEach T.lists T.shape (values_in (map (W.of which.now) items.now)) (E.columns encoder.old) (E.columns encoder.new)) }
+    ensures form { emptied (E.columns encoder.new) ≡ emptied (E.columns encoder.old) }
+    ensures refused { IfErr result (λ e. IsWritingRefusal e.reason (OverflowsWithEach T.lists T.shape (values_in (map (W.of which.now) items.now)) (E.columns encoder.old))) }
+{
+    let mut values = [first; MAX_VECTORED_CHUNK];
+    let count = gather_values(items, which, &mut values);
+    encode_payloads(encoder, &values[..count])
+}
+
+// Makes room for the values among a part of each item, if there are any.
+pub(super) fn encode_values<'a, S, T: Shaped, W: Part<S, Option<T>>, E: Buffer + Encoder<T>>(
+    encoder: &mut E,
+    items: &'a [S],
+    which: &'a W,
+) -> Result<(), Error>
+    requires { length items.now ≤ MAX_VECTORED_CHUNK }
+    ensures joined { OnOk result (JoinsEach T.lists T.shape (values_in (map (W.of which.now) items.now)) (E.columns encoder.old) (E.columns encoder.new)) }
+    ensures form { emptied (E.columns encoder.new) ≡ emptied (E.columns encoder.old) }
+    ensures refused { IfErr result (λ e. IsWritingRefusal e.reason (OverflowsWithEach T.lists T.shape (values_in (map (W.of which.now) items.now)) (E.columns encoder.old))) }
+{
+    match first_value(items, which) {
+        None => Ok(()),
+        Some(first) => encode_from(encoder, first, items, which),
+    }
+}
