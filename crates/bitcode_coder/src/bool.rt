@@ -89,6 +89,7 @@ impl Encoder<bool> for BoolEncoder {
         &mut self,
         items: &[S],
         which: &W,
+        _first: &bool,
     ) -> Result<(), Error> {
         let values = replace(&mut self.values, FastVec::new(self.alloc));
         self.values = push_parts(items, which, values);

@@ -118,15 +118,21 @@ pub trait Encoder<T: Shaped>: HoldsColumns {
         ensures refused { IfErr result (λ e. IsWritingRefusal e.reason (OverflowsWithEach T.lists T.shape (map (λ value. value.now) values.now) (Self.columns self.old))) }
         ensures free { IsTrue writes_free → IfErr result (λ e. e.reason ≢ Reason.OutOfMemory) }
     {
-        self.encode_part_of_each(values, &Behind)
+        self.encode_part_of_each(values, &Behind, values[0])
     }
 
     /// Joins the columns of a part of each of 1 to [`MAX_VECTORED_CHUNK`] items to those so far, as [`Encoder::encode`] does
     /// one by one. Room for them was reserved.
     ///
     /// It refuses as that does: the parts up to the one at hand may have been joined then. An encoder that writes many
-    /// values at once has a body of its own.
-    fn encode_part_of_each<S, W: Part<S, T>>(&mut self, items: &[S], which: &W) -> Result<(), Error>
+    /// values at once has a body of its own. `_first` is the first of them, or any value: a type that
+    /// an argument names has its place, and of arrays of a type parameter nothing else says so.
+    fn encode_part_of_each<S, W: Part<S, T>>(
+        &mut self,
+        items: &[S],
+        which: &W,
+        _first: &T,
+    ) -> Result<(), Error>
         requires chunk { (0 < length items.now) × (length items.now ≤ MAX_VECTORED_CHUNK) }
         requires room { length items.now ≤ Self.room self.old }
         ensures joined { OnOk result (JoinsEach T.lists T.shape (map (W.of which.now) items.now) (Self.columns self.old) (Self.columns self.new)) }
@@ -169,7 +175,7 @@ pub trait Encoder<T: Shaped>: HoldsColumns {
         let mut rest = items;
         while !rest.is_empty() {
             let (front, behind) = rest.split_at(rest.len().min(MAX_VECTORED_CHUNK));
-            self.encode_part_of_each(front, &Itself)?;
+            self.encode_part_of_each(front, &Itself, &front[0])?;
             rest = behind;
         }
         Ok(())

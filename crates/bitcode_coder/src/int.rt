@@ -175,6 +175,7 @@ impl<I: ColumnInt, P: AsInt<I>> Encoder<P> for IntEncoder<I> {
         &mut self,
         items: &[S],
         which: &W,
+        _first: &P,
     ) -> Result<(), Error> {
         let ints = replace(&mut self.values, FastVec::new(self.alloc));
         self.values = push_parts(items, which, ints);

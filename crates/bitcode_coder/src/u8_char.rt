@@ -120,6 +120,7 @@ impl Encoder<U8Char> for U8CharEncoder {
         &mut self,
         items: &[S],
         which: &W,
+        _first: &U8Char,
     ) -> Result<(), Error> {
         let bytes = replace(&mut self.bytes, FastVec::new(self.alloc));
         self.bytes = push_parts(items, which, bytes);

@@ -69,11 +69,13 @@ impl<P: Shaped, Q: Shaped, A: Encoder<P>, B: Encoder<Q>> Encoder<(P, Q)> for Tup
         &mut self,
         items: &[S],
         which: &W,
+        first: &(P, Q),
     ) -> Result<(), Error> {
         let second = Second::of(which);
         told_parts(items, &second);
-        self.first.encode_part_of_each(items, &First::of(which))?;
-        self.second.encode_part_of_each(items, &second)
+        self.first
+            .encode_part_of_each(items, &First::of(which), &first.0)?;
+        self.second.encode_part_of_each(items, &second, &first.1)
     }
 
     ghost of_shape = { both_of_shape A.of_shape B.of_shape };

@@ -76,8 +76,10 @@ pub(crate) fn encode_two_of_each<
     ensures free { IsTrue (A.writes_free && B.writes_free) → IfErr result (λ e. e.reason ≢ Reason.OutOfMemory) }
 {
     let tuple = PhantomData::<(P, Q)>;
+    let front = Front { all: which, tuple };
     pair.first
-        .encode_part_of_each(items, &Front { all: which, tuple })?;
+        .encode_part_of_each(items, &front, front.part(&items[0]))?;
+    let back = Back { all: which, tuple };
     pair.second
-        .encode_part_of_each(items, &Back { all: which, tuple })
+        .encode_part_of_each(items, &back, back.part(&items[0]))
 }

@@ -157,6 +157,7 @@ impl<P: AsText> Encoder<P> for StrEncoder {
         &mut self,
         items: &[S],
         which: &W,
+        _first: &P,
     ) -> Result<(), Error> {
         self.encode_texts_in(items, which)
     }

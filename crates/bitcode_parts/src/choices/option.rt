@@ -91,6 +91,7 @@ impl<T: Shaped, E: Buffer + Encoder<T>> Encoder<Option<T>> for OptionEncoder<E> 
         &mut self,
         items: &[S],
         which: &W,
+        _first: &Option<T>,
     ) -> Result<(), Error> {
         let mut variants = [0; MAX_VECTORED_CHUNK];
         gather_variants(items, which, &mut variants);

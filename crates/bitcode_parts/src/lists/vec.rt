@@ -199,6 +199,7 @@ impl<S: Sequence, E: Buffer + Encoder<S::Element>> Encoder<S> for VecEncoder<E> 
         &mut self,
         items: &[I],
         which: &W,
+        _first: &S,
     ) -> Result<(), Error> {
         if !E::is_primitive() {
             return self.encode_one_by_one(items, which);

@@ -102,9 +102,10 @@ impl<P: Points, E: Encoder<P::Target>> Encoder<P> for DerefEncoder<E> {
         &mut self,
         items: &[S],
         which: &W,
+        first: &P,
     ) -> Result<(), Error> {
         self.inner
-            .encode_part_of_each(items, &Pointed::<W, P>::by(which))
+            .encode_part_of_each(items, &Pointed::<W, P>::by(which), first.target())
     }
 
     ghost of_shape = { λ e. E.of_shape e.inner ∙ ap (λ shape. written_columns shape []) (sym P.same_shape) };

@@ -28,6 +28,7 @@ impl<T1: Shaped, T2: Shaped, T3: Shaped, A: Encoder<T1>, B: Encoder<T2>, C: Enco
         &mut self,
         items: &[S],
         which: &W,
+        _first: &(T1, T2, T3),
     ) -> Result<(), Error> {
         listed_parts(items, which);
         FieldsEncoder3::<T1, T2, T3>::encode_parts_of_each(self, items, &FieldsOf { tuple: which })
@@ -58,8 +59,9 @@ impl<
         which: &W,
     ) -> Result<(), Error> {
         let tuple = PhantomData::<(T1, T2, T3)>;
+        let front = Front { all: which, tuple };
         self.first
-            .encode_part_of_each(items, &Front { all: which, tuple })?;
+            .encode_part_of_each(items, &front, front.part(&items[0]))?;
         encode_two_of_each(&mut self.second, items, &Back { all: which, tuple })
     }
 
@@ -91,6 +93,7 @@ impl<
         &mut self,
         items: &[S],
         which: &W,
+        _first: &(T1, T2, T3, T4),
     ) -> Result<(), Error> {
         listed_parts(items, which);
         FieldsEncoder4::<T1, T2, T3, T4>::encode_parts_of_each(
@@ -159,6 +162,7 @@ impl<
         &mut self,
         items: &[S],
         which: &W,
+        _first: &(T1, T2, T3, T4, T5),
     ) -> Result<(), Error> {
         listed_parts(items, which);
         FieldsEncoder5::<T1, T2, T3, T4, T5>::encode_parts_of_each(
@@ -231,6 +235,7 @@ impl<
         &mut self,
         items: &[S],
         which: &W,
+        _first: &(T1, T2, T3, T4, T5, T6),
     ) -> Result<(), Error> {
         listed_parts(items, which);
         FieldsEncoder6::<T1, T2, T3, T4, T5, T6>::encode_parts_of_each(
@@ -313,6 +318,7 @@ impl<
         &mut self,
         items: &[S],
         which: &W,
+        _first: &(T1, T2, T3, T4, T5, T6, T7),
     ) -> Result<(), Error> {
         listed_parts(items, which);
         FieldsEncoder7::<T1, T2, T3, T4, T5, T6, T7>::encode_parts_of_each(
@@ -398,6 +404,7 @@ impl<
         &mut self,
         items: &[S],
         which: &W,
+        _first: &(T1, T2, T3, T4, T5, T6, T7, T8),
     ) -> Result<(), Error> {
         listed_parts(items, which);
         FieldsEncoder8::<T1, T2, T3, T4, T5, T6, T7, T8>::encode_parts_of_each(

@@ -40,6 +40,7 @@ impl<
         &mut self,
         items: &[S],
         which: &W,
+        _first: &(T1, T2, T3, T4, T5, T6, T7, T8, T9),
     ) -> Result<(), Error> {
         listed_parts(items, which);
         let tuple = PhantomData::<(T1, T2, T3, T4, T5, T6, T7, T8, T9)>;
@@ -84,6 +85,7 @@ impl<
         &mut self,
         items: &[S],
         which: &W,
+        _first: &(T1, T2, T3, T4, T5, T6, T7, T8, T9, T10),
     ) -> Result<(), Error> {
         listed_parts(items, which);
         let tuple = PhantomData::<(T1, T2, T3, T4, T5, T6, T7, T8, T9, T10)>;
@@ -131,6 +133,7 @@ impl<
         &mut self,
         items: &[S],
         which: &W,
+        _first: &(T1, T2, T3, T4, T5, T6, T7, T8, T9, T10, T11),
     ) -> Result<(), Error> {
         listed_parts(items, which);
         let tuple = PhantomData::<(T1, T2, T3, T4, T5, T6, T7, T8, T9, T10, T11)>;
@@ -185,6 +188,7 @@ impl<
         &mut self,
         items: &[S],
         which: &W,
+        _first: &(T1, T2, T3, T4, T5, T6, T7, T8, T9, T10, T11, T12),
     ) -> Result<(), Error> {
         listed_parts(items, which);
         let tuple = PhantomData::<(T1, T2, T3, T4, T5, T6, T7, T8, T9, T10, T11, T12)>;
@@ -240,6 +244,7 @@ impl<
         &mut self,
         items: &[S],
         which: &W,
+        _first: &(T1, T2, T3, T4, T5, T6, T7, T8, T9, T10, T11, T12, T13),
     ) -> Result<(), Error> {
         listed_parts(items, which);
         let tuple = PhantomData::<(T1, T2, T3, T4, T5, T6, T7, T8, T9, T10, T11, T12, T13)>;
@@ -295,7 +300,12 @@ impl<
     fn encode_part_of_each<
         S,
         W: Part<S, (T1, T2, T3, T4, T5, T6, T7, T8, T9, T10, T11, T12, T13, T14)>,
-    >(&mut self, items: &[S], which: &W) -> Result<(), Error> {
+    >(
+        &mut self,
+        items: &[S],
+        which: &W,
+        _first: &(T1, T2, T3, T4, T5, T6, T7, T8, T9, T10, T11, T12, T13, T14),
+    ) -> Result<(), Error> {
         listed_parts(items, which);
         let tuple = PhantomData::<(T1, T2, T3, T4, T5, T6, T7, T8, T9, T10, T11, T12, T13, T14)>;
         self.first
@@ -404,7 +414,28 @@ impl<
                 T15,
             ),
         >,
-    >(&mut self, items: &[S], which: &W) -> Result<(), Error> {
+    >(
+        &mut self,
+        items: &[S],
+        which: &W,
+        _first: &(
+            T1,
+            T2,
+            T3,
+            T4,
+            T5,
+            T6,
+            T7,
+            T8,
+            T9,
+            T10,
+            T11,
+            T12,
+            T13,
+            T14,
+            T15,
+        ),
+    ) -> Result<(), Error> {
         listed_parts(items, which);
         let tuple = PhantomData::<
             (
@@ -535,7 +566,29 @@ impl<
                 T16,
             ),
         >,
-    >(&mut self, items: &[S], which: &W) -> Result<(), Error> {
+    >(
+        &mut self,
+        items: &[S],
+        which: &W,
+        _first: &(
+            T1,
+            T2,
+            T3,
+            T4,
+            T5,
+            T6,
+            T7,
+            T8,
+            T9,
+            T10,
+            T11,
+            T12,
+            T13,
+            T14,
+            T15,
+            T16,
+        ),
+    ) -> Result<(), Error> {
         listed_parts(items, which);
         let tuple = PhantomData::<
             (
