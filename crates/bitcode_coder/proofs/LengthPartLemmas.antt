@@ -1,9 +1,9 @@
 -- The two parts of a length column, as a writer keeps them and as a reader takes them.
-use Rattle.std.proofs.Common.{◌≡◌, ℕ, suc, ◌+◌, ◌<◌, ◌≤◌, min, Bool, leb, pos, Option, List, [], ◌∷◌, ◌++◌, length, map, sum, take, slice_index_or, refl, sym, ap, ◌∙◌, subst, arith, Result, OnOk}
+use Rattle.std.proofs.Common.{◌≡◌, ℕ, suc, ◌+◌, ◌<◌, ◌≤◌, min, Bool, leb, pos, Option, List, [], ◌∷◌, ◌++◌, length, map, All, sum, take, slice_index_or, refl, sym, ap, ◌∙◌, subst, arith, Result, OnOk}
 use Rattle.std.specs.Prelude.{filter}
 use Rattle.std.proofs.lemmas.Bool.{cond-true, cond-false, le-leb, lt-leb}
 use Rattle.std.proofs.lemmas.List.{map-id, map-append, append_assoc, append-nil, take_more, take_all}
-use Rattle.std.proofs.lemmas.List.Elements.{filter-append}
+use Rattle.std.proofs.lemmas.List.Elements.{filter-append, All-head, All-tail}
 use Rattle.std.proofs.lemmas.List.Sums.{sum_by-cons}
 use Rattle.std.proofs.lemmas.Result.{on_ok_weaker}
 use Rattle.std.proofs.lemmas.Simd.{map-map}
@@ -50,6 +50,19 @@ pushed_short short large newer_short n below split shorts =
     let none_large : filter is_large (n ∷ []) ≡ [] = cond-false (leb escape n) (n ∷ []) [] (lt-leb escape n below) in
     pushed short large newer_short large n split (shorts ∙ ap (λ byte. short ++ byte ∷ []) (sym same))
     (sym (append-nil large) ∙ ap (λ more. large ++ more) (sym none_large))
+
+-- several short bytes more
+pub pushed_shorts : (short large ns : List ℕ) → All (λ n. n < escape) ns → AreLengthParts short large
+    → (lengths_from (short ++ ns) large ≡ lengths_from short large ++ ns) × AreLengthParts (short ++ ns) large
+pushed_shorts short large [] below split =
+    (ap (λ s. lengths_from s large) (append-nil short) ∙ sym (append-nil (lengths_from short large)), subst (λ s. AreLengthParts s large) (sym (append-nil short)) split)
+pushed_shorts short large (n ∷ ns) below split =
+    let one = pushed_short short large (short ++ n ∷ []) n (All-head (λ m. m < escape) n ns below) split refl in
+    let rest = pushed_shorts (short ++ n ∷ []) large ns (All-tail (λ m. m < escape) n ns below) one.1 in
+    let seam : (short ++ n ∷ []) ++ ns ≡ short ++ n ∷ ns = append_assoc short (n ∷ []) ns in (
+      ap (λ s. lengths_from s large) (sym seam) ∙ rest.0 ∙ ap (λ l. l ++ ns) one.0 ∙ append_assoc (lengths_from short large) (n ∷ []) ns,
+      subst (λ s. AreLengthParts s large) seam rest.1,
+    )
 
 pub pushed_large : (short large newer_short newer_large : List ℕ) (n : ℕ) → escape ≤ n → AreLengthParts short large → newer_short ≡ short ++ escape ∷ []
     → newer_large ≡ large ++ n ∷ []

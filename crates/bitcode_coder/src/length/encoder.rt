@@ -3,7 +3,7 @@
 
 ghost use Rattle.std.specs.Prelude.{◌≡◌, ◌+◌, ◌<◌, ◌≤◌, ◌++◌, [], ◌∷◌, None, length, map, All, pos, IsTrue, IsFalse, IsOk, OnOk, IfErr, OnErr};
 ghost use Rattle.bitcode_columns.specs.ByteColumn.{byte_text};
-ghost use Rattle.bitcode_columns.specs.Fast.{fast_items};
+ghost use Rattle.bitcode_columns.specs.Fast.{fast_items, fast_room};
 ghost use Rattle.bitcode_columns.specs.IntColumn.{int_text};
 ghost use Rattle.bitcode_coder.specs.Coder.{BeginsWith};
 ghost use Rattle.bitcode_coder.specs.Columns.{lengths, one};
@@ -17,6 +17,7 @@ use bitcode_columns::fast::{FastVec, PushUnchecked};
 use bitcode_columns::pack::pack_bytes;
 use bitcode_columns::pack_ints::pack_ints;
 use std::alloc::Global;
+use std::mem::replace;
 
 /// The column that lengths are written to.
 ///
@@ -56,6 +57,21 @@ fn is_one_over<T: Len>(several: &[T], max: usize) -> bool
         }
     }
     false
+}
+
+// Pushes lengths of at most `max` each, which is at most 64. Room for them was reserved. The list is taken and given back: behind a
+// reference its own length would be read and written at each push.
+fn push_short<T: Len>(mut small: FastVec<u8>, chunk: &[T], max: usize) -> FastVec<u8>
+    requires room { length chunk.now ≤ fast_room small }
+    requires max { max ≤ 64 }
+    requires within { All (λ t. T.size t ≤ max) chunk.now }
+    ensures written { fast_items result ≡ fast_items small ++ map T.size chunk.now }
+    ensures room { fast_room small ≡ fast_room result + length chunk.now }
+{
+    for t in chunk {
+        small.push_unchecked(t.len() as u8);
+    }
+    small
 }
 
 impl HoldsColumns for LengthEncoder {
@@ -170,9 +186,8 @@ impl LengthEncoder {
         ensures written { written_lengths self.new ≡ written_lengths self.old ++ map T.size chunk.now }
         ensures room { length_room self.old ≡ length_room self.new + length chunk.now }
     {
-        for t in chunk {
-            self.encode_less_than_255(t.len());
-        }
+        let small = replace(&mut self.small, FastVec::new(self.alloc));
+        self.small = push_short(small, chunk, max);
     }
 
     /// Writes the lengths of a chunk, whatever they are. Room for them was reserved.

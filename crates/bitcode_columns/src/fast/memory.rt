@@ -182,6 +182,7 @@ impl<T> Places<T> {
     ///
     /// Eight of them are written, then four, two and one. Where there are not so many, the first items of all are written in
     /// their place, and the next ones come over them: so no branch depends on how many there are, which would be guessed wrongly.
+    #[inline(always)]
     pub(crate) fn write_short(&mut self, start: Start<T>, index: usize, src: &[T])
     where
         T: Copy,

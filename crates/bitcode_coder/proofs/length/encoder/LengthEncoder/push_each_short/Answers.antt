@@ -1,38 +1,32 @@
--- One length more for each of the chunk.
-use Rattle.std.proofs.Common.{◌≤◌, sym, subst, append-nil, arith}
-use Rattle.std.proofs.lemmas.List.Elements.{All-get_or}
+-- The lengths are short bytes.
+use Rattle.std.proofs.Common.{◌<◌, ◌≤◌, ◌++◌, All, map, sym, subst, ap, ◌∙◌, arith}
+use Rattle.std.proofs.lemmas.List.Elements.{All-map, All-weaker}
+use Rattle.bitcode_columns.specs.Fast.{fast_items}
 use Rattle.bitcode_coder.specs.Length.{written_lengths}
-use Rattle.bitcode_coder.proofs.LengthPartLemmas.{sizes_more, sizes_whole}
+use Rattle.bitcode_coder.specs.LengthColumn.{escape, lengths_from}
+use Rattle.bitcode_coder.specs.LengthParts.{AreLengthParts}
+use Rattle.bitcode_coder.proofs.LengthPartLemmas.{pushed_shorts}
 use Rattle.bitcode_coder.proofs.length.encoder.LengthEncoder.push_each_short.Goals as goal
 
-pub loop-t-init : goal.loop-t-init
-loop-t-init g c = record {
-  written = sym (append-nil (written_lengths c.args.self.now));
-  room = omega arith;
-}
-
-pub encode_less_than_255-requires : goal.encode_less_than_255-requires
-encode_less_than_255-requires g c =
-    let within =
-    All-get_or (λ t. g.T.Len.size t ≤ c.args.max) c.args.chunk.now c.loop-t.t-index c.t-item.result c.loop-t-test.true c.requires.within in
-    omega (
-      arith,
-      c.requires.room,
-      c.requires.max,
-      c.loop-t.invariant.room,
-      c.loop-t-test.true,
-      c.len.ensures,
-      subst (λ t. g.T.Len.size t ≤ c.args.max) (sym c.t-item.is) within,
-    )
-
-pub loop-t-preserved : goal.loop-t-preserved
-loop-t-preserved g c = record {
-  written =
-      sizes_more g.T.Len.size (written_lengths c.args.self.now) (written_lengths c.loop-t.self) (written_lengths c.encode_less_than_255.new.self) c.args.chunk.now c.loop-t.t-index c.t-item.result
-      c.len.result c.loop-t-test.true c.t-item.is c.len.ensures c.loop-t.invariant.written c.encode_less_than_255.ensures.written;
-  room = omega (arith, c.loop-t.invariant.room, c.encode_less_than_255.ensures.room);
-}
+pub invariant_of-self : goal.invariant_of-self
+invariant_of-self g c =
+    let self = c.args.self.now in
+    let sizes = map g.T.Len.size c.args.chunk.now in
+    let below : All (λ n. n < escape) sizes =
+    All-map (λ n. n < escape) g.T.Len.size c.args.chunk.now
+    (All-weaker (λ t. g.T.Len.size t ≤ c.args.max) (λ t. g.T.Len.size t < escape) (λ t h. omega (arith, h, c.requires.max)) c.args.chunk.now c.requires.within) in
+    let pushed = c.push_short.ensures.written ∙ ap (λ v. fast_items v ++ sizes) c.replace-small.ensures.value in
+    record {
+      split = subst (λ s. AreLengthParts s self.large.items) (sym pushed) (pushed_shorts (fast_items self.small) self.large.items sizes below self.split).1;
+    }
 
 pub returns-clause-written : goal.returns-clause-written
+unfolding written_lengths
 returns-clause-written g c =
-    sizes_whole g.T.Len.size (written_lengths c.args.self.now) (written_lengths c.loop-t.self) c.args.chunk.now c.loop-t.t-index (omega (arith, c.loop-t-test.false)) c.loop-t.invariant.written
+    let self = c.args.self.now in
+    let sizes = map g.T.Len.size c.args.chunk.now in
+    let below : All (λ n. n < escape) sizes =
+    All-map (λ n. n < escape) g.T.Len.size c.args.chunk.now
+    (All-weaker (λ t. g.T.Len.size t ≤ c.args.max) (λ t. g.T.Len.size t < escape) (λ t h. omega (arith, h, c.requires.max)) c.args.chunk.now c.requires.within) in
+    let pushed = c.push_short.ensures.written ∙ ap (λ v. fast_items v ++ sizes) c.replace-small.ensures.value in
+    ap (λ s. lengths_from s self.large.items) pushed ∙ (pushed_shorts (fast_items self.small) self.large.items sizes below self.split).0
