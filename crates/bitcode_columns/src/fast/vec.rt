@@ -26,8 +26,7 @@ pub struct FastVec<T: Copy> {
 }
 
 impl<T: Copy> FastVec<T> {
-    ghost use Rattle.std.specs.Prelude.{[], ◌∷◌, ◌++◌, ◌+◌, vec_len, sum_by, All, IsOk, IfOk, OnOk, IfErr, OnErr};
-    ghost use Rattle.std.specs.List.{flat_map};
+    ghost use Rattle.std.specs.Prelude.{[], ◌∷◌, ◌++◌, ◌+◌, vec_len, IsOk, IfOk, OnOk, IfErr, OnErr};
     ghost use Rattle.std.specs.Borrow.{sem};
     ghost use Rattle.bitcode_columns.specs.Fast.{fast_items, fast_room};
     ghost use Rattle.bitcode_columns.specs.Lending.{with_fast_items, LendsItems};
@@ -154,23 +153,6 @@ impl<T: Copy> FastVec<T> {
         } else {
             self.extend_long(slice);
         }
-    }
-
-    /// Pushes the items of several slices of fewer than 16 each, behind eight items or more, in room that was reserved for
-    /// them and 15 more.
-    pub fn extend_with_short(&mut self, slices: &[&[T]])
-        requires short { All (λ slice. length slice.now < 16) slices.now }
-        requires before { 8 ≤ length (fast_items self.old) }
-        requires room { sum_by (λ slice. length slice.now) slices.now + 15 ≤ fast_room self.old }
-        ensures items { fast_items self.new ≡ fast_items self.old ++ flat_map (λ slice. slice.now) slices.now }
-        ensures room { fast_room self.old ≤ fast_room self.new + sum_by (λ slice. length slice.now) slices.now }
-    {
-        let (start, mut len) = (self.start, self.len);
-        for slice in slices {
-            self.places.write_short(start, len, *slice);
-            len += <[T]>::len(*slice);
-        }
-        self.len = len;
     }
 
     // The same for many items, and for few where `write_short` does not serve.
