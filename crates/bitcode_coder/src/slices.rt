@@ -38,13 +38,28 @@ pub fn joined_length<T>(slices: &[&[T]]) -> Result<usize, Error>
     Ok(total)
 }
 
+/// For how many items [`push_joined`] needs room: for all that the slices have, and 15 more.
+pub fn joined_room<T>(slices: &[&[T]]) -> Result<usize, Error>
+    ensures sum { IfOk result (λ n. n ≡ sum_by (λ slice. length slice.now) slices.now + 15) }
+    ensures refused { IfErr result (λ e. e.reason ≡ Reason.OutOfMemory) }
+{
+    match joined_length(slices)?.checked_add(15) {
+        Some(room) => Ok(room),
+        None => err(Reason::OutOfMemory),
+    }
+}
+
 /// Pushes the items of the slices, in room that was reserved. The list is taken and given back: behind a reference its length would
 /// be read and written at each slice.
 pub fn push_joined<T: Copy>(mut list: FastVec<T>, slices: &[&[T]]) -> FastVec<T>
-    requires { sum_by (λ slice. length slice.now) slices.now ≤ fast_room list }
+    requires { sum_by (λ slice. length slice.now) slices.now + 15 ≤ fast_room list }
     ensures items { fast_items result ≡ fast_items list ++ flat_map (λ slice. slice.now) slices.now }
     ensures room { fast_room list ≤ fast_room result + sum_by (λ slice. length slice.now) slices.now }
 {
+    if list.len() >= 8 {
+        list.extend_each_unchecked(slices);
+        return list;
+    }
     for slice in slices {
         list.extend_unchecked(*slice);
     }

@@ -14,7 +14,7 @@ ghost use Rattle.bitcode_coder.specs.LengthColumn.{length_bytes};
 use crate::coder::{Buffer, Encoder, HoldsColumns, MAX_VECTORED_CHUNK};
 use crate::length::{ChunkWidth, LengthEncoder};
 use crate::part::Part;
-use crate::slices::{joined_length, push_joined};
+use crate::slices::{joined_room, push_joined};
 use crate::str::AsText;
 use bitcode_columns::error::{Error, Reason};
 use bitcode_columns::fast::FastVec;
@@ -91,7 +91,7 @@ impl StrEncoder {
         ensures room { OnOk result (length_room self.old.lengths ≤ length_room self.new.lengths + length texts.now) }
         ensures refused { IfErr result (λ e. e.reason ≡ Reason.OutOfMemory) }
     {
-        self.bytes.reserve(joined_length(texts)?)?;
+        self.bytes.reserve(joined_room(texts)?)?;
         if let Err(e) = self.lengths.encode_chunk(texts, &mut self.width, 1) {
             self.lengths.clear();
             self.bytes.clear();

@@ -159,6 +159,7 @@ impl<T> Places<T> {
     ///
     /// Few items are written as two blocks of a size that the compiler knows, the second over a part of the first. A loop
     /// over them would take longer, since how often it turns is guessed wrongly.
+    #[inline(never)]
     pub(crate) fn write_all(&mut self, start: Start<T>, index: usize, src: &[T])
     where
         T: Copy,

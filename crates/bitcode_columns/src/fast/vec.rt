@@ -26,7 +26,8 @@ pub struct FastVec<T: Copy> {
 }
 
 impl<T: Copy> FastVec<T> {
-    ghost use Rattle.std.specs.Prelude.{[], ◌∷◌, ◌++◌, ◌+◌, vec_len, IsOk, IfOk, OnOk, IfErr, OnErr};
+    ghost use Rattle.std.specs.Prelude.{[], ◌∷◌, ◌++◌, ◌+◌, vec_len, sum_by, IsOk, IfOk, OnOk, IfErr, OnErr};
+    ghost use Rattle.std.specs.List.{flat_map};
     ghost use Rattle.std.specs.Borrow.{sem};
     ghost use Rattle.bitcode_columns.specs.Fast.{fast_items, fast_room};
     ghost use Rattle.bitcode_columns.specs.Lending.{with_fast_items, LendsItems};
@@ -153,6 +154,29 @@ impl<T: Copy> FastVec<T> {
         } else {
             self.extend_long(slice);
         }
+    }
+
+    /// Pushes the items of several slices, behind eight items or more, in room that was reserved for them and 15 more.
+    ///
+    /// Fewer than 16 items are copied without a look at the list. A loop that holds nothing but these copies would be given branches
+    /// by the compiler, which are guessed wrongly.
+    pub fn extend_each_unchecked(&mut self, slices: &[&[T]])
+        requires before { 8 ≤ length (fast_items self.old) }
+        requires room { sum_by (λ slice. length slice.now) slices.now + 15 ≤ fast_room self.old }
+        ensures items { fast_items self.new ≡ fast_items self.old ++ flat_map (λ slice. slice.now) slices.now }
+        ensures room { fast_room self.old ≤ fast_room self.new + sum_by (λ slice. length slice.now) slices.now }
+    {
+        let (start, mut len) = (self.start, self.len);
+        for slice in slices {
+            let count = <[T]>::len(*slice);
+            if count < 16 {
+                self.places.write_short(start, len, *slice);
+            } else {
+                self.places.write_all(start, len, *slice);
+            }
+            len += count;
+        }
+        self.len = len;
     }
 
     // The same for many items, and for few where `write_short` does not serve.
