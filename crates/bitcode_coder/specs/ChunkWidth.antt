@@ -1,5 +1,5 @@
 -- How often the width of a chunk can still be doubled, the fallback being the last step.
-use Rattle.std.specs.Prelude.{ℕ}
+use Rattle.std.specs.Prelude.{ℕ, Option, Some, None}
 use Rattle.bitcode_coder.specs.declared.length.width.ChunkWidth.{ChunkWidth}
 use Rattle.bitcode_coder.specs.declared.length.width.ChunkWidth.TheVariants.{One, Two, Four, Eight, Sixteen, ThirtyTwo, SixtyFour, Fallback}
 
@@ -12,3 +12,14 @@ widenings_left Sixteen = 3
 widenings_left ThirtyTwo = 2
 widenings_left SixtyFour = 1
 widenings_left Fallback = 0
+
+-- how many elements a slice may have, if that is bounded
+abbrev pub elements_of : ChunkWidth → Option ℕ
+elements_of One = Some 1
+elements_of Two = Some 2
+elements_of Four = Some 4
+elements_of Eight = Some 8
+elements_of Sixteen = Some 16
+elements_of ThirtyTwo = Some 32
+elements_of SixtyFour = Some 64
+elements_of Fallback = None

@@ -1,6 +1,6 @@
 //! How long the slices of a chunk may be, as an encoder of slices has learnt it from the chunks before.
-ghost use Rattle.std.specs.Prelude.{◌≤◌, ◌<◌, IfSome, IsNone};
-ghost use Rattle.bitcode_coder.specs.ChunkWidth.{widenings_left};
+ghost use Rattle.std.specs.Prelude.{◌≡◌, ◌≤◌, ◌<◌, IfSome};
+ghost use Rattle.bitcode_coder.specs.ChunkWidth.{elements_of, widenings_left};
 
 /// How many elements the slices of a chunk may have for their lengths to be written at once.
 ///
@@ -35,6 +35,7 @@ impl ChunkWidth {
 
     /// How many elements a slice may have, if that is bounded.
     pub fn elements(self) -> Option<usize>
+        ensures exact { result ≡ elements_of self }
         ensures bounded { IfSome result (λ elements. elements ≤ 64) }
         ensures more { IfSome result (λ elements. 0 < widenings_left self) }
     {
