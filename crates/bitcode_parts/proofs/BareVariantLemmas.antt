@@ -3,6 +3,7 @@ use Rattle.std.proofs.Common.{◌≡◌, ℕ, zero, suc, ◌<◌, List, [], ◌�
 use Rattle.std.proofs.lemmas.Bool.{cases_lt, cond-true, cond-false, lt-ltb, le-ltb}
 use Rattle.std.proofs.lemmas.List.{length-map, append-nil, map-append}
 use Rattle.std.proofs.lemmas.List.Elements.{All-map, All-weaker, All-head, All-tail}
+use Rattle.std.specs.List.{AllZip}
 use Rattle.bitcode_columns.specs.declared.error.Reason.{Reason}
 use Rattle.bitcode_columns.specs.Reading.{Reads, NamesVariantFault}
 use Rattle.bitcode_coder.specs.Faults.{NamesVariantsFault}
@@ -10,7 +11,7 @@ use Rattle.bitcode_columns.specs.VariantColumn.{SpellsVariants}
 use Rattle.bitcode_shapes.specs.Datum.{Datum, choice, unit}
 use Rattle.bitcode_shapes.specs.Shape.{Shape, IsChoiceOf, IsOfVariant, variant_count}
 use Rattle.bitcode_coder.specs.Columns.{CountsFit, no_columns, one, two, variants, beside, emptied}
-use Rattle.bitcode_coder.specs.Coder.{IsReadingRefusal, JoinsListing, TakesDatum}
+use Rattle.bitcode_coder.specs.Coder.{IsReadingRefusal, JoinsListing, JoinsEach, TakesDatum}
 use Rattle.bitcode_coder.specs.Spelling.{Spells, SpellsColumns, natural, columns_bytes}
 use Rattle.bitcode_coder.specs.Transposition.{payload_columns, variant_entry}
 use Rattle.bitcode_shapes.specs.BareVariants.{unit_shapes, bare_shape, ListsBare, MakesBare}
@@ -132,13 +133,38 @@ pub bare_cleared : (count : ℕ) (old new : List ℕ) → one (variants count) (
 bare_cleared count old new empty = ap₂ two empty (sym (emptied-bare_payloads count))
 
 module _ {T : Type 0} (variant : T → ℕ) (lists : T → Datum → Type 0) (lists_bare : (t : T) (d : Datum) → ListsBare variant t d → lists t d)
-    (shape : Shape) (count : ℕ) (has_shape : shape ≡ bare_shape count) (t : T) where
-  pub joins_bare : (old new : List ℕ) → new ≡ old ++ variant t ∷ [] → JoinsListing lists shape t (bare_columns count old) (bare_columns count new)
-  joins_bare old new pushed = subst (λ s. JoinsListing lists s t (bare_columns count old) (bare_columns count new)) (sym has_shape) (record {
+    (shape : Shape) (count : ℕ) (has_shape : shape ≡ bare_shape count) where
+  pub joins_bare : (t : T) (old new : List ℕ) → new ≡ old ++ variant t ∷ [] → JoinsListing lists shape t (bare_columns count old) (bare_columns count new)
+  joins_bare t old new pushed = subst (λ s. JoinsListing lists s t (bare_columns count old) (bare_columns count new)) (sym has_shape) (record {
     datum = choice (variant t) unit;
     listing = lists_bare t (choice (variant t) unit) refl;
     joined = ap₂ two
         (ap (λ entries. one (variants count) (map natural entries)) pushed ∙ ap (one (variants count)) (map-append natural old (variant t ∷ [])))
         (sym (ap (beside (bare_payloads count)) (written-bare_payloads count 0 (choice (variant t) unit ∷ [])) ∙ beside-bare_payloads count));
+    fits = λ f. (tt, bare_payloads_fit count);
+  })
+
+  -- and those of several
+  data_of_bare : List T → List Datum
+  data_of_bare ts = map (λ u. choice (variant u) unit) ts
+
+  bare_listed : (ts : List T) → AllZip lists ts (data_of_bare ts)
+  unfolding data_of_bare
+  bare_listed [] = tt
+  bare_listed (u ∷ ts) = (lists_bare u (choice (variant u) unit) refl, bare_listed ts)
+
+  bare_entries : (ts : List T) → map variant_entry (data_of_bare ts) ≡ map natural (map variant ts)
+  unfolding data_of_bare
+  bare_entries [] = refl
+  bare_entries (u ∷ ts) = ap (λ rest. natural (variant u) ∷ rest) (bare_entries ts)
+
+  pub joins_each_bare : (ts : List T) (old new : List ℕ) → new ≡ old ++ map variant ts → JoinsEach lists shape ts (bare_columns count old) (bare_columns count new)
+  joins_each_bare ts old new pushed = subst (λ s. JoinsEach lists s ts (bare_columns count old) (bare_columns count new)) (sym has_shape) (record {
+    parts = data_of_bare ts;
+    listings = bare_listed ts;
+    joined = ap₂ two
+        (ap (λ entries. one (variants count) (map natural entries)) pushed
+        ∙ ap (one (variants count)) (map-append natural old (map variant ts) ∙ ap (λ rest. map natural old ++ rest) (sym (bare_entries ts))))
+        (sym (ap (beside (bare_payloads count)) (written-bare_payloads count 0 (data_of_bare ts)) ∙ beside-bare_payloads count));
     fits = λ f. (tt, bare_payloads_fit count);
   })

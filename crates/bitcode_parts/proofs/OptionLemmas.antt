@@ -16,12 +16,6 @@ use Rattle.bitcode_coder.proofs.EachLemmas.{next_behind}
 use Rattle.bitcode_parts.specs.Options.{option_index, values_in}
 use Rattle.bitcode_parts.proofs.ChoiceLemmas.{payloads-same, payloads-other}
 
--- each variant is one of two
-pub indices_known : {A : Type 0} (os : List (Option A)) → All (λ n. n < 2) (map option_index os)
-indices_known [] = All-nil (λ n. n < 2)
-indices_known (None ∷ os) = All-cons (λ n. n < 2) 0 (map option_index os) (lit< tt) (indices_known os)
-indices_known (Some a ∷ os) = All-cons (λ n. n < 2) 1 (map option_index os) (lit< tt) (indices_known os)
-
 -- one item more
 pub parts_more : {S B : Type 0} (of : S → B) (items : List S) (i : ℕ) (item : S) → i < length items → item ≡ slice_index_or items i item
     → map of (take (i + 1) items) ≡ map of (take i items) ++ of item ∷ []

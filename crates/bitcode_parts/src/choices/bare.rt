@@ -6,10 +6,12 @@ ghost use Rattle.std.specs.Prelude.{true};
 ghost use Rattle.bitcode_parts.specs.BareVariants.{bare_columns, bare_of_shape};
 ghost use Rattle.bitcode_parts.specs.Variants.{written_variants, variant_room, variant_capacity};
 
+use crate::choices::gathered::{SaysVariant, gather_variants};
 use crate::choices::variant::{VariantDecoder, VariantEncoder};
-use bitcode_coder::coder::{Buffer, Decoder, Encoder, HoldsColumns};
+use bitcode_coder::coder::{Buffer, Decoder, Encoder, HoldsColumns, MAX_VECTORED_CHUNK};
+use bitcode_coder::part::Part;
 use bitcode_columns::error::Error;
-use bitcode_shapes::bare_variants::{BareMade, BareShaped};
+use bitcode_shapes::bare_variants::{BareMade, BareShaped, BareVariants};
 use std::alloc::Global;
 
 /// The columns of an enum of `N` variants, 2 to 256, all of which lack a payload: the column of the variants alone.
@@ -61,11 +63,36 @@ impl<const N: usize> Buffer for BareEncoder<N> {
     }
 }
 
+// Says which variant a value is of.
+struct BareVariant<const N: usize> {}
+
+impl<const N: usize, T: BareVariants<N>> SaysVariant<T> for BareVariant<N> {
+    ghost count = { N };
+
+    ghost variant = { λ t. T.variant t };
+
+    fn variant(t: &T) -> u8 {
+        t.index()
+    }
+}
+
 impl<const N: usize, T: BareShaped<N>> Encoder<T> for BareEncoder<N> {
     ghost writes_free = { true };
 
     fn encode(&mut self, t: &T) -> Result<(), Error> {
         self.variants.encode(t.index());
+        Ok(())
+    }
+
+    fn encode_part_of_each<S, W: Part<S, T>>(
+        &mut self,
+        items: &[S],
+        which: &W,
+        _first: &T,
+    ) -> Result<(), Error> {
+        let mut variants = [0; MAX_VECTORED_CHUNK];
+        gather_variants::<S, T, W, BareVariant<N>>(items, which, &mut variants);
+        self.variants.encode_vectored(&variants[..items.len()]);
         Ok(())
     }
 

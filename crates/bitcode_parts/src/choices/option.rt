@@ -7,7 +7,8 @@ ghost use Rattle.bitcode_parts.specs.TwoVariants.{TwoVariantsFault};
 ghost use Rattle.bitcode_parts.specs.TwoVariantLaws.{same_two_variants, two_variants_form};
 ghost use Rattle.bitcode_parts.specs.Variants.{variant_room, variant_capacity, variants_left, variants_owned};
 
-use crate::choices::option::gathered::{encode_values, gather_variants};
+use crate::choices::gathered::gather_variants;
+use crate::choices::option::gathered::{OptionVariant, encode_values};
 use crate::choices::variant::{VariantDecoder, VariantEncoder, encode_payload};
 use crate::empty::EmptyCoder;
 use bitcode_coder::coder::{
@@ -94,7 +95,7 @@ impl<T: Shaped, E: Buffer + Encoder<T>> Encoder<Option<T>> for OptionEncoder<E> 
         _first: &Option<T>,
     ) -> Result<(), Error> {
         let mut variants = [0; MAX_VECTORED_CHUNK];
-        gather_variants(items, which, &mut variants);
+        gather_variants::<S, Option<T>, W, OptionVariant>(items, which, &mut variants);
         self.variants.encode_vectored(&variants[..items.len()]);
         encode_values(&mut self.some, items, which)
     }

@@ -4,26 +4,26 @@ ghost use Rattle.bitcode_coder.specs.Columns.{emptied};
 ghost use Rattle.bitcode_coder.specs.Coder.{JoinsEach, OverflowsWithEach, IsWritingRefusal};
 ghost use Rattle.bitcode_parts.specs.Options.{option_index, values_in};
 
+use crate::choices::gathered::SaysVariant;
 use crate::choices::variant::encode_payloads;
 use bitcode_coder::coder::{Buffer, Encoder, MAX_VECTORED_CHUNK};
 use bitcode_coder::part::Part;
 use bitcode_columns::error::Error;
 use bitcode_shapes::shaped::Shaped;
 
-// Which variant a part of each item is: 0 for none, 1 for a value.
-pub(super) fn gather_variants<S, T, W: Part<S, Option<T>>>(
-    items: &[S],
-    which: &W,
-    variants: &mut [u8; MAX_VECTORED_CHUNK],
-)
-    requires { length items.now ≤ MAX_VECTORED_CHUNK }
-    ensures { take (length items.now) variants.new ≡ map option_index (map (W.of which.now) items.now) }
-{
-    for index in 0..items.len() {
-        variants[index] = match which.part(&items[index]) {
+// Says which variant an option is of: 0 for none, 1 for a value.
+pub(super) struct OptionVariant {}
+
+impl<T> SaysVariant<Option<T>> for OptionVariant {
+    ghost count = { 2 };
+
+    ghost variant = { option_index };
+
+    fn variant(option: &Option<T>) -> u8 {
+        match option {
             None => 0,
             Some(_) => 1,
-        };
+        }
     }
 }
 

@@ -1,12 +1,12 @@
 -- Options are written as the variants of all, and then the values of those that have one.
-use Rattle.std.proofs.Common.{◌≡◌, ◌<◌, map, take, length, All, sym, subst, ◌∙◌, ap, ◌++◌, lit<, arith}
+use Rattle.std.proofs.Common.{◌≡◌, map, take, length, ◌∙◌, ap, ◌++◌, lit<, arith}
 use Rattle.std.proofs.lemmas.List.{length-map}
 use Rattle.std.proofs.lemmas.Result.{on_ok_weaker}
 use Rattle.bitcode_columns.specs.declared.error.Error.{Error}
 use Rattle.bitcode_coder.proofs.RefusalLemmas.{refused_weaker}
 use Rattle.bitcode_parts.specs.Options.{option_index}
 use Rattle.bitcode_parts.specs.Variants.{written_variants}
-use Rattle.bitcode_parts.proofs.OptionLemmas.{indices_known, joins_options, overflows_options}
+use Rattle.bitcode_parts.proofs.OptionLemmas.{joins_options, overflows_options}
 use Rattle.bitcode_parts.proofs.choices.option.OptionEncoderEncoderOption.encode_part_of_each.Goals as goal
 
 pub encode_vectored-requires : goal.encode_vectored-requires
@@ -14,9 +14,8 @@ encode_vectored-requires g c =
     let os = map (g.W.Part.of c.args.which.now) c.args.items.now in
     let written = take (length c.args.items.now) c.gather_variants.new.variants in
     let size : length written ≡ length c.args.items.now =
-    ap length c.gather_variants.ensures ∙ length-map os option_index ∙ length-map c.args.items.now (g.W.Part.of c.args.which.now) in
-    let known : All (λ n. n < 2) written = subst (All (λ n. n < 2)) (sym c.gather_variants.ensures) (indices_known os) in
-    (lit< tt, ((omega (arith, size), omega (arith, size)), (omega (arith, size), known)))
+    ap length c.gather_variants.ensures.gathered ∙ length-map os option_index ∙ length-map c.args.items.now (g.W.Part.of c.args.which.now) in
+    (lit< tt, ((omega (arith, size), omega (arith, size)), (omega (arith, size), c.gather_variants.ensures.known)))
 
 pub returns-clause-joined : goal.returns-clause-joined
 returns-clause-joined g c =
@@ -24,7 +23,7 @@ returns-clause-joined g c =
     on_ok_weaker c.encode_values.result
     (joins_options g.T.Shaped.lists g.T.Shaped.shape os (written_variants c.args.self.now.variants) (g.E.HoldsColumns.columns c.args.self.now.some)
     (written_variants c.encode_vectored.new.self) (g.E.HoldsColumns.columns c.encode_values.new.encoder)
-    (c.encode_vectored.ensures.written ∙ ap (λ more. written_variants c.args.self.now.variants ++ more) c.gather_variants.ensures))
+    (c.encode_vectored.ensures.written ∙ ap (λ more. written_variants c.args.self.now.variants ++ more) c.gather_variants.ensures.gathered))
     c.encode_values.ensures.joined
 
 pub returns-clause-refused : goal.returns-clause-refused

@@ -1,0 +1,54 @@
+//! Which variants several values are of.
+ghost use Rattle.std.specs.Prelude.{◌≡◌, ℕ, ◌<◌, ◌≤◌, length, map, take, All};
+
+use bitcode_coder::coder::MAX_VECTORED_CHUNK;
+use bitcode_coder::part::Part;
+
+/// Says which variant a value of `T` is of, where the encoders of choices write several of them.
+///
+/// ```
+/// impl SaysVariant<Light> for LightVariant {
+///     ghost count = { 2 };
+///
+///     ghost variant = { elim [ Light.Red ↦ 0 | Light.Green ↦ 1 ] };
+///
+///     fn variant(light: &Light) -> u8 {
+///         match light {
+///             Light::Red => 0,
+///             Light::Green => 1,
+///         }
+///     }
+/// }
+/// ```
+pub trait SaysVariant<T> {
+    // how many variants there are
+    ghost count: { ℕ };
+
+    // which variant a value is of
+    ghost variant: { T → ℕ };
+
+    /// Which variant the value is of.
+    fn variant(t: &T) -> u8
+        ensures is { result ≡ variant t.now }
+        ensures known { result < count };
+}
+
+/// Puts the variant that a part of each of several items is of into the first places of `variants`.
+///
+/// ```
+/// let mut variants = [0; MAX_VECTORED_CHUNK];
+/// gather_variants::<Light, Light, Itself, LightVariant>(&lights, &Itself, &mut variants);
+/// ```
+pub fn gather_variants<S, T, W: Part<S, T>, V: SaysVariant<T>>(
+    items: &[S],
+    which: &W,
+    variants: &mut [u8; MAX_VECTORED_CHUNK],
+)
+    requires { length items.now ≤ MAX_VECTORED_CHUNK }
+    ensures gathered { take (length items.now) variants.new ≡ map V.variant (map (W.of which.now) items.now) }
+    ensures known { All (λ variant. variant < V.count) (take (length items.now) variants.new) }
+{
+    for index in 0..items.len() {
+        variants[index] = V::variant(which.part(&items[index]));
+    }
+}
