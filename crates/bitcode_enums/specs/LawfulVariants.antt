@@ -1,7 +1,6 @@
 -- Variants whose payloads stand for those of lawful variants are lawful, and an enum of some lawful variants is.
-use Rattle.std.proofs.Common.{◌≡◌, ℕ, zero, suc, ◌<◌, ◌≤◌, Bool, refl, sym, subst, inl, inr, lit<, arith}
+use Rattle.std.proofs.Common.{◌≡◌, ℕ, ◌<◌, ◌≤◌, Bool, sym, subst, inl, inr, lit<, arith}
 use Rattle.std.specs.Prelude.{◌⊎◌}
-use Rattle.std.specs.declared.alloc.Global.{Global}
 use Rattle.bitcode_shapes.specs.Datum.{Datum}
 use Rattle.bitcode_shapes.specs.Shape.{Shape, Shapes, no_shapes, shape_and, choice_shape, variant_count}
 use Rattle.bitcode_shapes.specs.BareVariants.{AreSomeVariants}

@@ -1,5 +1,5 @@
 -- The payload of a variant is joined to the columns of that variant.
-use Rattle.std.specs.Prelude.{◌≡◌, ℕ, ◌+◌, List, map}
+use Rattle.std.specs.Prelude.{ℕ, ◌+◌, List, map}
 use Rattle.bitcode_shapes.specs.Datum.{Datum}
 use Rattle.bitcode_shapes.specs.Shape.{Shapes}
 use Rattle.bitcode_coder.specs.Columns.{Columns, one, two, variants}

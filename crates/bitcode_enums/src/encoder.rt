@@ -1,21 +1,21 @@
 //! The encoder of enums: the variants, and behind them the payloads of each.
-ghost use Rattle.std.specs.Prelude.{◌≡◌, ◌+◌, ◌<◌, ◌≤◌, false, OnOk, IfErr};
-ghost use Rattle.bitcode_shapes.specs.Shape.{choice_shape, variant_count};
-ghost use Rattle.bitcode_shapes.specs.Choices.{ListsChoice};
+ghost use Rattle.std.specs.Prelude.{◌≡◌, ◌+◌, ◌<◌, false, OnOk, IfErr};
 ghost use Rattle.bitcode_coder.specs.Columns.{emptied};
-ghost use Rattle.bitcode_coder.specs.Coder.{JoinsListing, OverflowsWithListing, IsWritingRefusal};
+ghost use Rattle.bitcode_coder.specs.Coder.{IsWritingRefusal};
 ghost use Rattle.bitcode_parts.specs.Variants.{written_variants, variant_room, variant_capacity};
-ghost use Rattle.bitcode_enums.specs.Writing.{variant_columns};
+ghost use Rattle.bitcode_enums.specs.Writing.{JoinsVariant, OverflowsWithVariant, variant_columns};
 ghost use Rattle.bitcode_enums.specs.WritingLaws.{enum_of_shape};
 
 use crate::choice::HoldsPayload;
-use crate::fields::VariantFields;
-use crate::payloads::{PayloadColumns, PayloadEncoder};
-use bitcode_coder::coder::{Buffer, Encoder, HoldsColumns};
+use crate::payloads::PayloadColumns;
+use bitcode_coder::coder::{Buffer, Encoder, HoldsColumns, MAX_VECTORED_CHUNK};
+use bitcode_coder::part::{Part, told_parts};
 use bitcode_columns::error::Error;
+use bitcode_parts::choices::gathered::{SaysVariant, gather_variants};
 use bitcode_parts::choices::variant::VariantEncoder;
 use bitcode_shapes::stands_for::StandsFor;
 use std::alloc::Global;
+use std::marker::PhantomData;
 
 /// The columns of an enum of `N` variants, 2 to 256: its variants, and behind them the columns of its payloads.
 ///
@@ -67,41 +67,19 @@ impl<const N: usize, S: Buffer> Buffer for EnumEncoder<N, S> {
     }
 }
 
-/// Writes a variant, and joins the columns of its payload to those so far. Room for the variant was reserved.
-///
-/// Want of memory is `out of memory`, and `length overflow` comes only where a number of arrays times their size is
-/// over 18446744073709551615.
-///
-/// ```
-/// encode_variant_fields(&mut variants, &mut payloads, &shot.lent())?;
-/// ```
-pub fn encode_variant_fields<const N: usize, B: VariantFields, S: PayloadEncoder<B>>(
-    variants: &mut VariantEncoder<N>,
-    payloads: &mut S,
-    fields: &B,
-) -> Result<(), Error>
-    requires room { 0 < variant_room variants.old }
-    requires count { variant_count B.Whole.shapes ≡ N }
-    requires few { N ≤ 256 }
-    ensures joined { OnOk result (JoinsListing (ListsChoice B.Whole.lists) (choice_shape B.Whole.shapes) (B.whole fields.now) (variant_columns N (written_variants variants.old) (S.columns payloads.old)) (variant_columns N (written_variants variants.new) (S.columns payloads.new))) }
-    ensures room { variant_room variants.new + 1 ≡ variant_room variants.old }
-    ensures form { emptied (S.columns payloads.new) ≡ emptied (S.columns payloads.old) }
-    ensures refused { IfErr result (λ e. IsWritingRefusal e.reason (OverflowsWithListing (ListsChoice B.Whole.lists) (choice_shape B.Whole.shapes) (B.whole fields.now) (variant_columns N (written_variants variants.old) (S.columns payloads.old)))) }
-{
-    variants.encode(fields.index(0));
-    payloads.encode_payload(fields)
-}
-
 /// An enum of `N` variants whose values are written, their payloads by the encoders `S`.
 ///
 /// ```
 /// impl EncodeVariant<2, Payloads> for Shot {
-///     fn encode_variant(
-///         &self,
-///         variants: &mut VariantEncoder<2>,
-///         payloads: &mut Payloads,
-///     ) -> Result<(), Error> {
-///         encode_variant_fields(variants, payloads, &self.lent())
+///     fn variant(&self) -> u8 {
+///         match self {
+///             Shot::Missed => 0,
+///             Shot::Hit(_) => 1,
+///         }
+///     }
+///
+///     fn encode_payload(&self, payloads: &mut Payloads) -> Result<(), Error> {
+///         PayloadEncoder::<Lent<'_>>::encode_payload(payloads, &self.lent())
 ///     }
 /// }
 /// ```
@@ -109,20 +87,39 @@ pub trait EncodeVariant<
     const N: usize,
     S: PayloadColumns<<Self::Parts as HoldsPayload<N>>::Variants>,
 >: StandsFor<Parts: HoldsPayload<N>> {
-    /// Writes the variant of the value, and joins the columns of its payload to those so far. Room for the variant was
-    /// reserved.
+    /// Which variant the value is of.
+    fn variant(&self) -> u8
+        ensures { result ≡ Self.Parts.Variants.index (Self.Parts.payload (Self.parts self.now)) };
+
+    /// Makes room for the payload of the value in the columns of its variant, and joins its columns to those.
     ///
-    /// It refuses as [`encode_variant_fields`] does.
-    fn encode_variant(
-        &self,
-        variants: &mut VariantEncoder<N>,
-        payloads: &mut S,
-    ) -> Result<(), Error>
-        requires { 0 < variant_room variants.old }
-        ensures joined { OnOk result (JoinsListing (ListsChoice Self.Parts.Variants.lists) (choice_shape Self.Parts.Variants.shapes) (Self.Parts.payload (Self.parts self.now)) (variant_columns N (written_variants variants.old) (S.columns payloads.old)) (variant_columns N (written_variants variants.new) (S.columns payloads.new))) }
-        ensures room { variant_room variants.new + 1 ≡ variant_room variants.old }
+    /// It refuses as [`PayloadEncoder::encode_payload`](crate::payloads::PayloadEncoder::encode_payload) does.
+    fn encode_payload(&self, payloads: &mut S) -> Result<(), Error>
+        ensures joined { OnOk result (JoinsVariant Self.Parts.Variants.index Self.Parts.Variants.lists Self.Parts.Variants.shapes (Self.Parts.payload (Self.parts self.now)) (S.columns payloads.old) (S.columns payloads.new)) }
         ensures form { emptied (S.columns payloads.new) ≡ emptied (S.columns payloads.old) }
-        ensures refused { IfErr result (λ e. IsWritingRefusal e.reason (OverflowsWithListing (ListsChoice Self.Parts.Variants.lists) (choice_shape Self.Parts.Variants.shapes) (Self.Parts.payload (Self.parts self.now)) (variant_columns N (written_variants variants.old) (S.columns payloads.old)))) };
+        ensures refused { IfErr result (λ e. IsWritingRefusal e.reason (OverflowsWithVariant Self.Parts.Variants.index Self.Parts.Variants.lists Self.Parts.Variants.shapes (Self.Parts.payload (Self.parts self.now)) (S.columns payloads.old))) };
+}
+
+// Says which variant a value is of.
+struct EnumVariant<const N: usize, S> {
+    of: PhantomData<S>,
+}
+
+impl<
+    const N: usize,
+    T: EncodeVariant<N, S>,
+    S: PayloadColumns<<T::Parts as HoldsPayload<N>>::Variants>,
+> SaysVariant<T> for EnumVariant<N, S>
+where
+    T::Parts: HoldsPayload<N>,
+{
+    ghost count = { N };
+
+    ghost variant = { λ t. T.Parts.Variants.index (T.Parts.payload (T.parts t)) };
+
+    fn variant(t: &T) -> u8 {
+        t.variant()
+    }
 }
 
 impl<
@@ -136,7 +133,24 @@ where
     ghost writes_free = { false };
 
     fn encode(&mut self, t: &T) -> Result<(), Error> {
-        t.encode_variant(&mut self.variants, &mut self.payloads)
+        self.variants.encode(t.variant());
+        t.encode_payload(&mut self.payloads)
+    }
+
+    fn encode_part_of_each<I, W: Part<I, T>>(
+        &mut self,
+        items: &[I],
+        which: &W,
+        _first: &T,
+    ) -> Result<(), Error> {
+        told_parts(items, which);
+        let mut variants = [0; MAX_VECTORED_CHUNK];
+        gather_variants::<I, T, W, EnumVariant<N, S>>(items, which, &mut variants);
+        self.variants.encode_vectored(&variants[..items.len()]);
+        for item in items {
+            which.part(item).encode_payload(&mut self.payloads)?;
+        }
+        Ok(())
     }
 
     fn is_primitive() -> bool {

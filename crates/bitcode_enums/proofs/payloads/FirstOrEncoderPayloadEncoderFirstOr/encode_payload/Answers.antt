@@ -4,7 +4,7 @@ use Rattle.std.proofs.lemmas.Result.{on_ok_weaker}
 use Rattle.bitcode_columns.specs.declared.error.Error.{Error}
 use Rattle.bitcode_coder.proofs.RefusalLemmas.{refused_weaker}
 use Rattle.bitcode_enums.specs.Variants.{first_or, first_or_of}
-use Rattle.bitcode_enums.proofs.WritingLemmas.{first_joins, first_overflows, rest_joins, rest_overflows}
+use Rattle.bitcode_enums.proofs.WritingLemmas.{first_joins, rest_joins, rest_overflows}
 use Rattle.bitcode_enums.proofs.payloads.FirstOrEncoderPayloadEncoderFirstOr.encode_payload.Goals as goal
 
 pub returns-in-First-clause-joined : goal.returns-in-First-clause-joined
