@@ -111,8 +111,12 @@ impl$lending LendsVariant<$lend, Variants$parameters> for $name {
 }
 
 impl$encode EncodeVariant<$count, Columns$parameters> for $name {
-    fn encode_variant(&self, variants: &mut VariantEncoder<$count>, payloads: &mut Columns$parameters) -> Result<(), Error> {
-        encode_variant_fields::<$count, Lent$any_parameters, Columns$parameters>(variants, payloads, &self.lent())
+    fn variant(&self) -> u8 {
+        match self {$index}
+    }
+
+    fn encode_payload(&self, payloads: &mut Columns$parameters) -> Result<(), Error> {
+        PayloadEncoder::<Lent$any_parameters>::encode_payload(payloads, &self.lent())
     }
 }
 
@@ -158,6 +162,11 @@ def arms(enum, left, right):
 def names_of(variant):
     """The names of a variant's fields in patterns."""
     return [parameter(field.name) if variant.kind == "named" else LETTERS[i] for i, field in enumerate(variant.fields)]
+
+
+def told_apart(enum, variant):
+    """The pattern that tells a variant from the others."""
+    return f"{enum.name}::{variant.name}" + {"named": " { .. }", "tuple": "(..)", "unit": ""}[variant.kind]
 
 
 def value(enum, variant):
@@ -265,8 +274,7 @@ def payloads_text(enum, crate, module, imports, own):
         return behind(place, f"{'Last' if place == last else 'FirstOr::First'}({payload(names_of(variant), nothing)})")
 
     used = set("Choice EncodeVariant EnumDecoder EnumEncoder Error FirstOr FromParts HasDecoder HasEncoder HasPayloadDecoder "
-               "HasPayloadEncoder Last LendsVariant NamesVariants PartsDecoder StandsFor VariantEncoder VariantFields "
-               "encode_variant_fields".split())
+               "HasPayloadEncoder Last LendsVariant NamesVariants PartsDecoder PayloadEncoder StandsFor VariantFields".split())
     used |= {"Encode", "Made", "Shaped"} if enum.types else set()
     imports = {*imports, "std::marker::PhantomData"} if marked else imports
     used |= {"DecodeOwned"} if is_owned else set()
@@ -295,6 +303,7 @@ def payloads_text(enum, crate, module, imports, own):
         "of_parts": of_parts,
         "from_parts": one_by_one(enum) if last + 1 > MOST_IN_ONE_MATCH
         else f"match choice.payload {{{arms(enum, lambda place, variant: held(place, variant, '()'), lambda place, variant: value(enum, variant))}}}",
+        "index": arms(enum, lambda place, variant: told_apart(enum, variant), lambda place, variant: place),
         "lend": lend,
         "lending": bounds(enum, f"Shaped + {lend}", f"{lend}, {enum.lifetime}: {lend}" if enum.lifetime else lend),
         "lent_parameters": bounds(enum, "", f"{lend}, {enum.lifetime}" if enum.lifetime else lend),

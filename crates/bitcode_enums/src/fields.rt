@@ -1,6 +1,5 @@
 //! The payload of one variant whose fields are borrowed.
-ghost use Rattle.std.specs.Prelude.{◌≡◌, ◌+◌, ◌≤◌};
-ghost use Rattle.bitcode_shapes.specs.Shape.{variant_count};
+ghost use Rattle.std.specs.Prelude.{◌≡◌};
 
 use crate::variants::{FirstOr, Last, ShapedVariants};
 use bitcode_shapes::stands_for::StandsFor;
@@ -21,11 +20,6 @@ pub trait VariantFields {
     /// What the fields make up is a value.
     fn told(&self)
         ensures { Self.Whole.is_value (whole self.now) };
-
-    /// Which variant it is, where the first of them has the index `first`.
-    fn index(&self, first: u8) -> u8
-        requires { first + variant_count Self.Whole.shapes ≤ 256 }
-        ensures { result ≡ first + Self.Whole.index (whole self.now) };
 }
 
 impl<F: Fields> VariantFields for Last<F> {
@@ -35,10 +29,6 @@ impl<F: Fields> VariantFields for Last<F> {
 
     fn told(&self) {
         self.0.told();
-    }
-
-    fn index(&self, first: u8) -> u8 {
-        first
     }
 }
 
@@ -53,13 +43,6 @@ impl<F: Fields, R: VariantFields> VariantFields for FirstOr<F, R> {
         match self {
             FirstOr::First(fields) => fields.told(),
             FirstOr::Rest(rest) => rest.told(),
-        }
-    }
-
-    fn index(&self, first: u8) -> u8 {
-        match self {
-            FirstOr::First(_) => first,
-            FirstOr::Rest(rest) => rest.index(first + 1),
         }
     }
 }

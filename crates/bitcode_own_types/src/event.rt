@@ -5,7 +5,7 @@ ghost use Rattle.bitcode.specs.ByHand.{FirstOr, stood_for};
 use bitcode::{
     Choice, DecodeOwned, EncodeVariant, EnumDecoder, EnumEncoder, Error, FirstOr, FromParts,
     HasDecoder, HasEncoder, HasPayloadDecoder, HasPayloadEncoder, Last, LendsVariant,
-    NamesVariants, PartsDecoder, StandsFor, VariantEncoder, VariantFields, encode_variant_fields,
+    NamesVariants, PartsDecoder, PayloadEncoder, StandsFor, VariantFields,
 };
 
 /// What happens in a game.
@@ -89,12 +89,17 @@ impl<'b> LendsVariant<'b, Variants> for Event {
 }
 
 impl EncodeVariant<4, Columns> for Event {
-    fn encode_variant(
-        &self,
-        variants: &mut VariantEncoder<4>,
-        payloads: &mut Columns,
-    ) -> Result<(), Error> {
-        encode_variant_fields::<4, Lent<'_>, Columns>(variants, payloads, &self.lent())
+    fn variant(&self) -> u8 {
+        match self {
+            Event::Tick => 0,
+            Event::Spawn(..) => 1,
+            Event::Move { .. } => 2,
+            Event::Quit(..) => 3,
+        }
+    }
+
+    fn encode_payload(&self, payloads: &mut Columns) -> Result<(), Error> {
+        PayloadEncoder::<Lent<'_>>::encode_payload(payloads, &self.lent())
     }
 }
 

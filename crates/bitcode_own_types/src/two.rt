@@ -5,7 +5,7 @@ ghost use Rattle.bitcode.specs.ByHand.{FirstOr, stood_for};
 use bitcode::{
     Choice, DecodeOwned, EncodeVariant, EnumDecoder, EnumEncoder, Error, FirstOr, FromParts,
     HasDecoder, HasEncoder, HasPayloadDecoder, HasPayloadEncoder, Last, LendsVariant,
-    NamesVariants, PartsDecoder, StandsFor, VariantEncoder, VariantFields, encode_variant_fields,
+    NamesVariants, PartsDecoder, PayloadEncoder, StandsFor, VariantFields,
 };
 
 /// A byte without sign or one with a sign.
@@ -74,12 +74,15 @@ impl<'b> LendsVariant<'b, Variants> for Two {
 }
 
 impl EncodeVariant<2, Columns> for Two {
-    fn encode_variant(
-        &self,
-        variants: &mut VariantEncoder<2>,
-        payloads: &mut Columns,
-    ) -> Result<(), Error> {
-        encode_variant_fields::<2, Lent<'_>, Columns>(variants, payloads, &self.lent())
+    fn variant(&self) -> u8 {
+        match self {
+            Two::A(..) => 0,
+            Two::B(..) => 1,
+        }
+    }
+
+    fn encode_payload(&self, payloads: &mut Columns) -> Result<(), Error> {
+        PayloadEncoder::<Lent<'_>>::encode_payload(payloads, &self.lent())
     }
 }
 
