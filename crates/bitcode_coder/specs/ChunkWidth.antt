@@ -1,5 +1,5 @@
--- How often the width of a chunk can still be doubled, the fallback being the last step.
-use Rattle.std.specs.Prelude.{ℕ, Option, Some, None}
+-- How many elements the slices of a chunk may have, and how often that can still be doubled, the fallback being the last step.
+use Rattle.std.specs.Prelude.{ℕ, ◌*◌, ◌/◌, max, Option, Some, None, if◌then◌else◌, nat_le}
 use Rattle.bitcode_coder.specs.declared.length.width.ChunkWidth.{ChunkWidth}
 use Rattle.bitcode_coder.specs.declared.length.width.ChunkWidth.TheVariants.{One, Two, Four, Eight, Sixteen, ThirtyTwo, SixtyFour, Fallback}
 
@@ -23,3 +23,12 @@ elements_of Sixteen = Some 16
 elements_of ThirtyTwo = Some 32
 elements_of SixtyFour = Some 64
 elements_of Fallback = None
+
+-- as many elements, of so many bytes each, as take 8 bytes, and one at least; an element of no bytes counts as one of one
+abbrev pub first_elements : (size : ℕ) → Option ℕ
+first_elements size = Some (max 1 (8 / max 1 size))
+
+-- twice as many, if these take at most 64 bytes
+abbrev pub doubled_elements : (size : ℕ) → Option ℕ → Option ℕ
+doubled_elements size None = None
+doubled_elements size (Some elements) = if nat_le (2 * elements * max 1 size) 64 then Some (2 * elements) else None

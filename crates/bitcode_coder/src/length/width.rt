@@ -1,6 +1,6 @@
 //! How long the slices of a chunk may be, as an encoder of slices has learnt it from the chunks before.
 ghost use Rattle.std.specs.Prelude.{◌≡◌, ◌≤◌, ◌<◌, IfSome};
-ghost use Rattle.bitcode_coder.specs.ChunkWidth.{elements_of, widenings_left};
+ghost use Rattle.bitcode_coder.specs.ChunkWidth.{doubled_elements, elements_of, first_elements, widenings_left};
 
 /// How many elements the slices of a chunk may have for their lengths to be written at once.
 ///
@@ -24,7 +24,9 @@ impl ChunkWidth {
     /// ```
     /// let width = ChunkWidth::first(4); // of `u32`: two elements
     /// ```
-    pub fn first(size: usize) -> ChunkWidth {
+    pub fn first(size: usize) -> ChunkWidth
+        ensures { elements_of result ≡ first_elements size }
+    {
         match size {
             0..2 => ChunkWidth::Eight,
             2 => ChunkWidth::Four,
@@ -53,7 +55,8 @@ impl ChunkWidth {
 
     /// Twice the width, if so many elements of so many bytes take at most 64 bytes.
     pub fn doubled(self, size: usize) -> ChunkWidth
-        ensures { 0 < widenings_left self → widenings_left result < widenings_left self }
+        ensures exact { elements_of result ≡ doubled_elements size (elements_of self) }
+        ensures ends { 0 < widenings_left self → widenings_left result < widenings_left self }
     {
         match self {
             ChunkWidth::One if size <= 32 => ChunkWidth::Two,
