@@ -1,19 +1,16 @@
 //! The encoder of structs.
-ghost use Rattle.std.specs.Prelude.{◌&&◌};
-ghost use Rattle.bitcode_tuples.specs.PairLaws.{both_of_shape, both_surely};
-
-use crate::fields_in::{FieldsIn, listed_fields};
-use crate::lends::{LendsFields1, LendsFields2};
+use crate::fields_in::FieldsIn;
+use crate::lends::LendsFields1;
 use bitcode_coder::coder::{Buffer, Encoder, HoldsColumns};
 use bitcode_coder::part::Part;
 use bitcode_columns::error::Error;
 use bitcode_shapes::shaped::Shaped;
 use bitcode_shapes::stands_for::StandsFor;
-use bitcode_tuples::encoder::TupleEncoder;
-use bitcode_tuples::fields::FieldsEncoder;
-use bitcode_tuples::parts::encode_two_of_each;
 use std::alloc::Global;
 use std::marker::PhantomData;
+
+mod of_2_to_8;
+mod of_9_to_16;
 
 /// A number of fields.
 pub struct FieldCount<const N: usize> {}
@@ -103,36 +100,4 @@ impl<T1: Shaped, T: StandsFor<Parts = T1> + LendsFields1<T1>, E: Encoder<T1>> En
     ghost of_shape = { λ e. E.of_shape e.fields };
 
     ghost surely = { λ e n h. E.surely e.fields n h };
-}
-
-impl<
-    T1: Shaped,
-    T2: Shaped,
-    T: StandsFor<Parts = (T1, T2)> + LendsFields2<T1, T2>,
-    A: Encoder<T1>,
-    B: Encoder<T2>,
-> Encoder<T> for StructEncoder<FieldCount<2>, TupleEncoder<A, B>> {
-    ghost writes_free = { A.writes_free && B.writes_free };
-
-    fn encode(&mut self, t: &T) -> Result<(), Error> {
-        FieldsEncoder::<(&T1, &T2)>::encode_fields(&mut self.fields, &t.fields())
-    }
-
-    fn encode_part_of_each<S, W: Part<S, T>>(
-        &mut self,
-        items: &[S],
-        which: &W,
-        _first: &T,
-    ) -> Result<(), Error> {
-        listed_fields(items, which);
-        let fields = FieldsIn::<2, W, T> {
-            of: which,
-            whose: PhantomData,
-        };
-        encode_two_of_each(&mut self.fields, items, &fields)
-    }
-
-    ghost of_shape = { λ e. both_of_shape A.of_shape B.of_shape e.fields };
-
-    ghost surely = { λ e n h. both_surely A.surely B.surely e.fields n h };
 }

@@ -1,9 +1,10 @@
+-- Written by scripts/tables/structs.
 -- The structs stand for the tuples of their fields.
 use Rattle.std.proofs.lemmas.Result.{on_ok_weaker}
 use Rattle.bitcode_columns.specs.declared.error.Error.{Error}
 use Rattle.bitcode_coder.proofs.RefusalLemmas.{refused_weaker}
 use Rattle.bitcode_structs.proofs.FieldsLemmas.{joins_structs, overflows_with_structs}
-use Rattle.bitcode_structs.proofs.encoder.StructEncoderFieldCount2TupleEncoderEncoder.encode_part_of_each.Goals as goal
+use Rattle.bitcode_structs.proofs.encoder.of_2_to_8.StructEncoderFieldCount2TupleEncoderEncoder.encode_part_of_each.Goals as goal
 
 pub returns-clause-joined : goal.returns-clause-joined
 returns-clause-joined g c =
