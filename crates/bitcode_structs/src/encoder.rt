@@ -12,10 +12,21 @@ use std::marker::PhantomData;
 mod of_2_to_8;
 mod of_9_to_16;
 
-/// A number of fields.
+/// A number of fields. It has a type of its own since the impls of each number would overlap without it.
 pub struct FieldCount<const N: usize> {}
 
-/// The columns of structs of `K` fields, which are those of the tuple of the fields.
+/// The columns that structs are written to as the tuples of their fields, by the encoder `E` of these. `K` is the number of fields.
+///
+/// It refuses as that encoder does, and takes no memory of its own. The structs lend their fields by
+/// [`LendsFields1`] and its like; of nine and more fields `E` is the encoder of a pair of two tuples.
+///
+/// ```
+/// let mut points: StructEncoder<FieldCount<2>, TupleEncoder<IntEncoder<u32>, IntEncoder<u32>>> =
+///     StructEncoder::new(alloc);
+/// points.reserve(1)?;
+/// points.encode(&Point { x: 1, y: 2 })?;
+/// points.collect_into(&mut bytes)?; // [4, 1, 4, 2]
+/// ```
 pub struct StructEncoder<K, E> {
     fields: E,
     count: PhantomData<K>,
