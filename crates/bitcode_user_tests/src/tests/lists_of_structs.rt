@@ -13,6 +13,8 @@ const MANY: u8 = 130;
 
 type MonsterParts = (u64, String, i16, bool, (i32, i32), Vec<u16>);
 
+type FooParts = (u32, &'static str);
+
 type ItemParts = (String, u8);
 
 type ChestParts = (String, Vec<ItemParts>, Option<ItemParts>);
@@ -53,6 +55,15 @@ fn monster(alloc: Global, i: u8) -> Result<Monster, Error> {
         position,
         loot,
     })
+}
+
+fn foo_parts(i: u8) -> FooParts {
+    (u32::from(i), if i % 2 == 0 { "ab" } else { "" })
+}
+
+fn foo(i: u8) -> Foo<'static> {
+    let (x, y) = foo_parts(i);
+    Foo { x, y }
 }
 
 fn item(alloc: Global, i: u8) -> Result<Item, Error> {
@@ -108,12 +119,15 @@ fn lists_of_six_fields_come_back(rt: HostRuntime) -> Result<(), Error> {
 #[test]
 fn lists_and_options_of_two_fields_come_back(rt: HostRuntime) -> Result<(), Error> {
     let alloc = rt.alloc();
-    let mut structs = Vec::new(alloc);
-    let mut tuples = Vec::new(alloc);
+    let mut structs: Vec<(Foo<'static>, Option<Foo<'static>>)> = Vec::new(alloc);
+    let mut tuples: Vec<(FooParts, Option<FooParts>)> = Vec::new(alloc);
     for i in 0..MANY {
-        let (x, y) = (u32::from(i), if i % 2 == 0 { "ab" } else { "" });
-        structs.push((Foo { x, y }, (i % 3 == 0).then_some(Foo { x: 7, y })))?;
-        tuples.push(((x, y), (i % 3 == 0).then_some((7u32, y))))?;
+        let is_both = i % 3 == 0;
+        structs.push((foo(i), if is_both { Some(foo(7)) } else { None }))?;
+        tuples.push((
+            foo_parts(i),
+            if is_both { Some(foo_parts(7)) } else { None },
+        ))?;
     }
     let bytes = encode(alloc, &structs)?;
     assert!(rt; bytes.as_slice() == encode(alloc, &tuples)?.as_slice());
