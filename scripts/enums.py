@@ -4,7 +4,7 @@ from string import Template
 
 from declarations import Refused, fields_of
 from known_types import MOST_FIELDS, Checker, inside, of_text
-from structs import NOT_DERIVED, bounds, encoded, halved, heads, initialized, parameter, places, quoted, tuple_text
+from structs import NOT_DERIVED, bounds, halved, heads, initialized, parameter, places, quoted, tuple_text
 
 # Of 16 variants with payloads the compiler says in generic code that there are too many impls to go through; 12 compile.
 MOST_VARIANTS, MOST_PAYLOADS = 256, 12
@@ -186,6 +186,7 @@ def one_text(enum, crate, module, imports, own):
         enum,
         imports,
         own,
+        taken + "\n        " + payload(letters, ""),
         about=f"`{enum.name}` stands for the tuple of its variant's fields. What is below its declaration was written by `scripts/new_type`.",
         declaration=declaration(enum),
         ghost_use=f"    ghost use Rattle.{crate}.specs.declared.{module}.{ghost}.{{{ghost}}};\n\n",
@@ -194,7 +195,6 @@ def one_text(enum, crate, module, imports, own):
         told=taken + "".join(f"\n        {letter}.told();" for letter in letters) + ("\n    " if letters else ""),
         pattern=payload(letters, "_nothing"),
         built=built,
-        encoded=taken + "\n        " + encoded(enum, letters),
     )
 
 

@@ -23,8 +23,6 @@ $uses
 $declaration
 type Parts$parameters = $parts;
 
-type Columns$parameters = <Parts$parameters as HasEncoder>::Encoder;
-
 impl$shaped StandsFor for $name {
 $ghost_use    type Parts = Parts$parameters;
     type Inside = $inside;
@@ -42,20 +40,21 @@ impl$made FromParts for $name {
     }
 }
 
-impl$encode EncodeParts<Columns$parameters> for $name {
-    fn encode_parts(&self, columns: &mut Columns$parameters) -> Result<(), Error> {
-        $encoded
-    }
-}
-
-impl$has_encoder HasEncoder for $name {
-    type Encoder = PartsEncoder<Columns$parameters>;
+${lends}impl$has_encoder HasEncoder for $name {
+    type Encoder = StructEncoder<FieldCount<$count>, <Parts$parameters as HasEncoder>::Encoder>;
 }
 
 impl$has_decoder HasDecoder<$input> for $name {
     type Decoder = PartsDecoder<Parts$parameters, <Parts$parameters as HasDecoder<$input>>::Decoder>;
 }
 $owned"""
+LENDS = """impl$shaped LendsFields$count<$types> for $name {
+    fn fields(&self) -> $references {
+        $lent
+    }
+}
+
+"""
 OWNED = """
 impl$parameters DecodeOwned for $name {}
 """
@@ -123,14 +122,29 @@ def initialized(field):
     return field.name if parameter(field.name) == field.name else f"{field.name}: {parameter(field.name)}"
 
 
-def tuple_text(item, imports, own, **row):
+def lends(item, lent):
+    """How the fields are lent, of what is said of references to them."""
+    types = [of_text(field.type) for field in fields_of(item)]
+    if not types:
+        return ""
+    return Template(LENDS).substitute(
+        shaped=bounds(item, "Shaped"),
+        count=len(types),
+        types=", ".join(types),
+        name=item.name + bounds(item, ""),
+        references=halved(["&" + text for text in types]),
+        lent=lent,
+    )
+
+
+def tuple_text(item, imports, own, lent, **row):
     """The file of what stands for the tuple of its fields, of what is said of these."""
     is_owned = not item.lifetime
     fields, name, input = fields_of(item), item.name + bounds(item, ""), item.lifetime or "'a"
-    used = {"EncodeParts", "Error", "FromParts", "HasDecoder", "HasEncoder", "PartsDecoder", "PartsEncoder", "StandsFor"}
-    used |= {"Encoder"} if len(fields) < 2 else {"FieldsEncoder"}
+    used = {"FieldCount", "FromParts", "HasDecoder", "HasEncoder", "PartsDecoder", "StandsFor", "StructEncoder"}
+    used |= {f"LendsFields{len(fields)}"} if fields else set()
     used |= {"Shaped"} if fields or item.types else set()
-    used |= {"Encode", "Made"} if item.types else set()
+    used |= {"Made"} if item.types else set()
     used |= {"DecodeOwned"} if is_owned else set()
     lines = [f"use bitcode::{{{', '.join(sorted(used))}}};", *(f"use {path};" for path in sorted(imports))]
     row |= {
@@ -141,21 +155,14 @@ def tuple_text(item, imports, own, **row):
         "parts": halved([of_text(field.type) for field in fields]) if fields else "()",
         "shaped": bounds(item, "Shaped"),
         "made": bounds(item, "Made"),
-        "encode": bounds(item, "Encode"),
+        "count": len(fields),
         "has_encoder": bounds(item, "HasEncoder"),
         "has_decoder": bounds(item, f"HasDecoder<{input}>", input),
         "input": input,
+        "lends": lends(item, lent),
         "owned": Template(OWNED).substitute(parameters=bounds(item, "DecodeOwned"), name=name) if is_owned else "",
     }
     return Template(FILE).substitute(row)
-
-
-def encoded(item, borrowed):
-    """The call that writes the fields, of references to them."""
-    if len(borrowed) < 2:
-        return f"Encoder::<Parts{bounds(item, '')}>::encode(columns, {borrowed[0] if borrowed else '&()'})"
-    types = halved(["&" + of_text(field.type) for field in fields_of(item)])
-    return f"FieldsEncoder::<{types}>::encode_fields(columns, &{halved(borrowed)})"
 
 
 def file_text(struct, imports, own):
@@ -168,6 +175,7 @@ def file_text(struct, imports, own):
         struct,
         imports,
         own,
+        halved([f"&self.{field.name}" for field in fields]) if fields else "",
         about=f"`{struct.name}` stands for the tuple of its fields. What is below its declaration was written by `scripts/new_type`.",
         declaration=declaration(struct),
         ghost_use="",
@@ -176,7 +184,6 @@ def file_text(struct, imports, own):
         told="".join(f"\n        self.{field.name}.told();" for field in fields) + ("\n    " if fields else ""),
         pattern=halved(names) if fields else "_nothing",
         built=built[struct.kind] if fields or struct.kind != "named" else struct.name + " {}",
-        encoded=encoded(struct, [f"&self.{field.name}" for field in fields]),
     )
 
 

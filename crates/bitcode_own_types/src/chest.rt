@@ -3,8 +3,8 @@ ghost use Rattle.std.specs.Prelude.{refl};
 
 use crate::item::Item;
 use bitcode::{
-    DecodeOwned, EncodeParts, Error, FieldsEncoder, FromParts, HasDecoder, HasEncoder,
-    PartsDecoder, PartsEncoder, Shaped, StandsFor,
+    DecodeOwned, FieldCount, FromParts, HasDecoder, HasEncoder, LendsFields3, PartsDecoder, Shaped,
+    StandsFor, StructEncoder,
 };
 
 /// A type of one's own that takes memory, inside another.
@@ -16,8 +16,6 @@ pub struct Chest {
 }
 
 type Parts = (String, Vec<Item>, Option<Item>);
-
-type Columns = <Parts as HasEncoder>::Encoder;
 
 impl StandsFor for Chest {
     type Parts = Parts;
@@ -41,17 +39,14 @@ impl FromParts for Chest {
     }
 }
 
-impl EncodeParts<Columns> for Chest {
-    fn encode_parts(&self, columns: &mut Columns) -> Result<(), Error> {
-        FieldsEncoder::<(&String, &Vec<Item>, &Option<Item>)>::encode_fields(
-            columns,
-            &(&self.label, &self.items, &self.best),
-        )
+impl LendsFields3<String, Vec<Item>, Option<Item>> for Chest {
+    fn fields(&self) -> (&String, &Vec<Item>, &Option<Item>) {
+        (&self.label, &self.items, &self.best)
     }
 }
 
 impl HasEncoder for Chest {
-    type Encoder = PartsEncoder<Columns>;
+    type Encoder = StructEncoder<FieldCount<3>, <Parts as HasEncoder>::Encoder>;
 }
 
 impl<'a> HasDecoder<'a> for Chest {

@@ -2,8 +2,8 @@
 ghost use Rattle.std.specs.Prelude.{refl};
 
 use bitcode::{
-    DecodeOwned, Encode, EncodeParts, Error, FieldsEncoder, FromParts, HasDecoder, HasEncoder,
-    Made, PartsDecoder, PartsEncoder, Shaped, StandsFor,
+    DecodeOwned, FieldCount, FromParts, HasDecoder, HasEncoder, LendsFields3, Made, PartsDecoder,
+    Shaped, StandsFor, StructEncoder,
 };
 
 /// A value and when it was made.
@@ -15,8 +15,6 @@ pub struct Dated<T> {
 }
 
 type Parts<T> = (u16, u16, T);
-
-type Columns<T> = <Parts<T> as HasEncoder>::Encoder;
 
 impl<T: Shaped> StandsFor for Dated<T> {
     type Parts = Parts<T>;
@@ -40,17 +38,14 @@ impl<T: Made> FromParts for Dated<T> {
     }
 }
 
-impl<T: Encode> EncodeParts<Columns<T>> for Dated<T> {
-    fn encode_parts(&self, columns: &mut Columns<T>) -> Result<(), Error> {
-        FieldsEncoder::<(&u16, &u16, &T)>::encode_fields(
-            columns,
-            &(&self.year, &self.day, &self.value),
-        )
+impl<T: Shaped> LendsFields3<u16, u16, T> for Dated<T> {
+    fn fields(&self) -> (&u16, &u16, &T) {
+        (&self.year, &self.day, &self.value)
     }
 }
 
 impl<T: HasEncoder> HasEncoder for Dated<T> {
-    type Encoder = PartsEncoder<Columns<T>>;
+    type Encoder = StructEncoder<FieldCount<3>, <Parts<T> as HasEncoder>::Encoder>;
 }
 
 impl<'a, T: HasDecoder<'a>> HasDecoder<'a> for Dated<T> {

@@ -2,8 +2,8 @@
 ghost use Rattle.std.specs.Prelude.{refl};
 
 use bitcode::{
-    EncodeParts, Error, FieldsEncoder, FromParts, HasDecoder, HasEncoder, PartsDecoder,
-    PartsEncoder, Shaped, StandsFor,
+    FieldCount, FromParts, HasDecoder, HasEncoder, LendsFields2, PartsDecoder, Shaped, StandsFor,
+    StructEncoder,
 };
 
 /// A number and a text.
@@ -14,8 +14,6 @@ pub struct Foo<'a> {
 }
 
 type Parts<'a> = (u32, &'a str);
-
-type Columns<'a> = <Parts<'a> as HasEncoder>::Encoder;
 
 impl<'a> StandsFor for Foo<'a> {
     type Parts = Parts<'a>;
@@ -38,14 +36,14 @@ impl<'a> FromParts for Foo<'a> {
     }
 }
 
-impl<'a> EncodeParts<Columns<'a>> for Foo<'a> {
-    fn encode_parts(&self, columns: &mut Columns<'a>) -> Result<(), Error> {
-        FieldsEncoder::<(&u32, &&'a str)>::encode_fields(columns, &(&self.x, &self.y))
+impl<'a> LendsFields2<u32, &'a str> for Foo<'a> {
+    fn fields(&self) -> (&u32, &&'a str) {
+        (&self.x, &self.y)
     }
 }
 
 impl<'a> HasEncoder for Foo<'a> {
-    type Encoder = PartsEncoder<Columns<'a>>;
+    type Encoder = StructEncoder<FieldCount<2>, <Parts<'a> as HasEncoder>::Encoder>;
 }
 
 impl<'a> HasDecoder<'a> for Foo<'a> {

@@ -2,8 +2,8 @@
 ghost use Rattle.std.specs.Prelude.{refl};
 
 use bitcode::{
-    DecodeOwned, EncodeParts, Error, FieldsEncoder, FromParts, HasDecoder, HasEncoder,
-    PartsDecoder, PartsEncoder, Shaped, StandsFor,
+    DecodeOwned, FieldCount, FromParts, HasDecoder, HasEncoder, LendsFields2, PartsDecoder, Shaped,
+    StandsFor, StructEncoder,
 };
 
 /// What a player may find.
@@ -14,8 +14,6 @@ pub struct Item {
 }
 
 type Parts = (String, u8);
-
-type Columns = <Parts as HasEncoder>::Encoder;
 
 impl StandsFor for Item {
     type Parts = Parts;
@@ -38,14 +36,14 @@ impl FromParts for Item {
     }
 }
 
-impl EncodeParts<Columns> for Item {
-    fn encode_parts(&self, columns: &mut Columns) -> Result<(), Error> {
-        FieldsEncoder::<(&String, &u8)>::encode_fields(columns, &(&self.name, &self.level))
+impl LendsFields2<String, u8> for Item {
+    fn fields(&self) -> (&String, &u8) {
+        (&self.name, &self.level)
     }
 }
 
 impl HasEncoder for Item {
-    type Encoder = PartsEncoder<Columns>;
+    type Encoder = StructEncoder<FieldCount<2>, <Parts as HasEncoder>::Encoder>;
 }
 
 impl<'a> HasDecoder<'a> for Item {

@@ -2,8 +2,8 @@
 ghost use Rattle.std.specs.Prelude.{refl};
 
 use bitcode::{
-    EncodeParts, Error, FieldsEncoder, FromParts, HasDecoder, HasEncoder, PartsDecoder,
-    PartsEncoder, Shaped, StandsFor,
+    FieldCount, FromParts, HasDecoder, HasEncoder, LendsFields2, PartsDecoder, Shaped, StandsFor,
+    StructEncoder,
 };
 
 /// A text of the input, and who sent it.
@@ -14,8 +14,6 @@ pub struct Message<'a> {
 }
 
 type Parts<'a> = (u32, &'a str);
-
-type Columns<'a> = <Parts<'a> as HasEncoder>::Encoder;
 
 impl<'a> StandsFor for Message<'a> {
     type Parts = Parts<'a>;
@@ -38,14 +36,14 @@ impl<'a> FromParts for Message<'a> {
     }
 }
 
-impl<'a> EncodeParts<Columns<'a>> for Message<'a> {
-    fn encode_parts(&self, columns: &mut Columns<'a>) -> Result<(), Error> {
-        FieldsEncoder::<(&u32, &&'a str)>::encode_fields(columns, &(&self.from, &self.text))
+impl<'a> LendsFields2<u32, &'a str> for Message<'a> {
+    fn fields(&self) -> (&u32, &&'a str) {
+        (&self.from, &self.text)
     }
 }
 
 impl<'a> HasEncoder for Message<'a> {
-    type Encoder = PartsEncoder<Columns<'a>>;
+    type Encoder = StructEncoder<FieldCount<2>, <Parts<'a> as HasEncoder>::Encoder>;
 }
 
 impl<'a> HasDecoder<'a> for Message<'a> {

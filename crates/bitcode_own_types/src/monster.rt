@@ -2,8 +2,8 @@
 ghost use Rattle.std.specs.Prelude.{refl};
 
 use bitcode::{
-    DecodeOwned, EncodeParts, Error, FieldsEncoder, FromParts, HasDecoder, HasEncoder,
-    PartsDecoder, PartsEncoder, Shaped, StandsFor,
+    DecodeOwned, FieldCount, FromParts, HasDecoder, HasEncoder, LendsFields6, PartsDecoder, Shaped,
+    StandsFor, StructEncoder,
 };
 
 /// What a player meets.
@@ -18,8 +18,6 @@ pub struct Monster {
 }
 
 type Parts = (u64, String, i16, bool, (i32, i32), Vec<u16>);
-
-type Columns = <Parts as HasEncoder>::Encoder;
 
 impl StandsFor for Monster {
     type Parts = Parts;
@@ -53,24 +51,21 @@ impl FromParts for Monster {
     }
 }
 
-impl EncodeParts<Columns> for Monster {
-    fn encode_parts(&self, columns: &mut Columns) -> Result<(), Error> {
-        FieldsEncoder::<(&u64, &String, &i16, &bool, &(i32, i32), &Vec<u16>)>::encode_fields(
-            columns,
-            &(
-                &self.id,
-                &self.name,
-                &self.health,
-                &self.alive,
-                &self.position,
-                &self.loot,
-            ),
+impl LendsFields6<u64, String, i16, bool, (i32, i32), Vec<u16>> for Monster {
+    fn fields(&self) -> (&u64, &String, &i16, &bool, &(i32, i32), &Vec<u16>) {
+        (
+            &self.id,
+            &self.name,
+            &self.health,
+            &self.alive,
+            &self.position,
+            &self.loot,
         )
     }
 }
 
 impl HasEncoder for Monster {
-    type Encoder = PartsEncoder<Columns>;
+    type Encoder = StructEncoder<FieldCount<6>, <Parts as HasEncoder>::Encoder>;
 }
 
 impl<'a> HasDecoder<'a> for Monster {

@@ -2,8 +2,8 @@
 ghost use Rattle.std.specs.Prelude.{refl};
 
 use bitcode::{
-    DecodeOwned, EncodeParts, Encoder, Error, FromParts, HasDecoder, HasEncoder, PartsDecoder,
-    PartsEncoder, Shaped, StandsFor,
+    DecodeOwned, FieldCount, FromParts, HasDecoder, HasEncoder, LendsFields1, PartsDecoder, Shaped,
+    StandsFor, StructEncoder,
 };
 
 /// A byte.
@@ -13,8 +13,6 @@ pub enum One {
 }
 
 type Parts = u8;
-
-type Columns = <Parts as HasEncoder>::Encoder;
 
 impl StandsFor for One {
     ghost use Rattle.bitcode_own_types.specs.declared.one.One.{One};
@@ -39,15 +37,15 @@ impl FromParts for One {
     }
 }
 
-impl EncodeParts<Columns> for One {
-    fn encode_parts(&self, columns: &mut Columns) -> Result<(), Error> {
+impl LendsFields1<u8> for One {
+    fn fields(&self) -> &u8 {
         let One::A(a) = self;
-        Encoder::<Parts>::encode(columns, a)
+        a
     }
 }
 
 impl HasEncoder for One {
-    type Encoder = PartsEncoder<Columns>;
+    type Encoder = StructEncoder<FieldCount<1>, <Parts as HasEncoder>::Encoder>;
 }
 
 impl<'a> HasDecoder<'a> for One {

@@ -18,8 +18,10 @@ mod of_9_to_16;
 /// It writes a pair by the encoders of its fields, and refuses as they do.
 #[derive(Drop)]
 pub struct TupleEncoder<A, B> {
-    pub(crate) first: A,
-    pub(crate) second: B,
+    /// Writes the first field of each pair.
+    pub first: A,
+    /// Writes the second field of each pair.
+    pub second: B,
 }
 
 impl<A: HoldsColumns, B: HoldsColumns> HoldsColumns for TupleEncoder<A, B> {

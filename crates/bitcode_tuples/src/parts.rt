@@ -57,8 +57,8 @@ pub(crate) fn listed_parts<S, T: Shaped, W: Part<S, T>>(items: &[S], which: &W)
     told_parts(items, which);
 }
 
-/// As `Encoder::encode_part_of_each`, for a pair whose fields lie apart.
-pub(crate) fn encode_two_of_each<
+/// As `Encoder::encode_part_of_each`, for a pair whose fields lie apart and have listings.
+pub fn encode_two_of_each<
     S,
     P: Shaped,
     Q: Shaped,

@@ -1,0 +1,49 @@
+//! `Meters` stands for the tuple of its fields. What is below its declaration was written by `scripts/new_type`.
+ghost use Rattle.std.specs.Prelude.{refl};
+
+use bitcode::{
+    DecodeOwned, FieldCount, FromParts, HasDecoder, HasEncoder, LendsFields1, PartsDecoder, Shaped,
+    StandsFor, StructEncoder,
+};
+
+/// A length in meters.
+#[derive(Debug, Clone, Copy, PartialEq)]
+pub struct Meters(pub u32);
+
+type Parts = u32;
+
+impl StandsFor for Meters {
+    type Parts = Parts;
+
+    type Inside = ();
+
+    ghost parts = { λ t. t.0 };
+
+    ghost of_parts = { λ p. (record { 0 = p }, refl) };
+
+    fn told_parts(&self) {
+        self.0.told();
+    }
+}
+
+impl FromParts for Meters {
+    fn from_parts(value: Parts) -> Self {
+        Meters(value)
+    }
+}
+
+impl LendsFields1<u32> for Meters {
+    fn fields(&self) -> &u32 {
+        &self.0
+    }
+}
+
+impl HasEncoder for Meters {
+    type Encoder = StructEncoder<FieldCount<1>, <Parts as HasEncoder>::Encoder>;
+}
+
+impl<'a> HasDecoder<'a> for Meters {
+    type Decoder = PartsDecoder<Parts, <Parts as HasDecoder<'a>>::Decoder>;
+}
+
+impl DecodeOwned for Meters {}

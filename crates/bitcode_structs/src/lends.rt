@@ -1,0 +1,32 @@
+//! Structs that lend their fields.
+ghost use Rattle.std.specs.Prelude.{◌≡◌};
+
+use bitcode_shapes::stands_for::StandsFor;
+
+pub mod of_2_to_8;
+pub mod of_9_to_16;
+
+/// A struct that lends its only field.
+///
+/// ```
+/// impl LendsFields1<u32> for Meters {
+///     fn fields(&self) -> &u32 {
+///         &self.count
+///     }
+/// }
+/// ```
+///
+/// One of two fields is a `LendsFields2`, and so on:
+///
+/// ```
+/// impl LendsFields2<u32, u32> for Point {
+///     fn fields(&self) -> (&u32, &u32) {
+///         (&self.x, &self.y)
+///     }
+/// }
+/// ```
+pub trait LendsFields1<T1>: StandsFor<Parts = T1> {
+    /// A reference to the field.
+    fn fields<'b>(&'b self) -> &'b T1
+        ensures { result.now ≡ Self.parts self.now };
+}
