@@ -24,11 +24,11 @@ encode_vectored-requires g c =
 pub loop-item-init : goal.loop-item-init
 loop-item-init g c = record {
   front = written_none (λ t. g.T.Parts.HoldsPayload.payload (g.T.StandsFor.parts t)) (λ t d. g.T.Parts.Shaped.lists (g.T.StandsFor.parts t) d) g.T.Parts.Variants.ShapedVariants.index
-    g.T.Parts.Variants.ShapedVariants.lists g.T.Parts.Shaped.shape g.T.Parts.Variants.ShapedVariants.shapes g.met.T.Parts.HoldsPayload.has_shape
-    (λ t d h. g.met.T.Parts.HoldsPayload.lists_payload (g.T.StandsFor.parts t) d h) g.row.N g.met.T.Parts.HoldsPayload.count (g.W.Part.of c.args.which.now) c.args.items.now
-    (written_variants c.args.self.now.variants) (g.S.HoldsColumns.columns c.args.self.now.payloads)
-    (enum_of_shape g.T.Parts.Variants.ShapedVariants.shapes g.T.Parts.Shaped.shape g.row.N (g.S.HoldsColumns.columns c.args.self.now.payloads) g.met.T.Parts.HoldsPayload.count g.met.T.Parts.HoldsPayload.has_shape
-    (g.met.S.PayloadColumns.of_shapes c.args.self.now.payloads 0));
+      g.T.Parts.Variants.ShapedVariants.lists g.T.Parts.Shaped.shape g.T.Parts.Variants.ShapedVariants.shapes g.met.T.Parts.HoldsPayload.has_shape
+      (λ t d h. g.met.T.Parts.HoldsPayload.lists_payload (g.T.StandsFor.parts t) d h) g.row.N g.met.T.Parts.HoldsPayload.count (g.W.Part.of c.args.which.now) c.args.items.now
+      (written_variants c.args.self.now.variants) (g.S.HoldsColumns.columns c.args.self.now.payloads)
+      (enum_of_shape g.T.Parts.Variants.ShapedVariants.shapes g.T.Parts.Shaped.shape g.row.N (g.S.HoldsColumns.columns c.args.self.now.payloads) g.met.T.Parts.HoldsPayload.count g.met.T.Parts.HoldsPayload.has_shape
+      (g.met.S.PayloadColumns.of_shapes c.args.self.now.payloads 0));
   form = refl;
   variants = refl;
 }
@@ -59,11 +59,11 @@ returns-in_err-encode_payload-clause-refused g c =
 pub loop-item-preserved : goal.loop-item-preserved
 loop-item-preserved g c = record {
   front = written_more (λ t. g.T.Parts.HoldsPayload.payload (g.T.StandsFor.parts t)) (λ t d. g.T.Parts.Shaped.lists (g.T.StandsFor.parts t) d) g.T.Parts.Variants.ShapedVariants.index
-    g.T.Parts.Variants.ShapedVariants.lists g.T.Parts.Shaped.shape g.T.Parts.Variants.ShapedVariants.shapes g.met.T.Parts.HoldsPayload.has_shape
-    (λ t d h. g.met.T.Parts.HoldsPayload.lists_payload (g.T.StandsFor.parts t) d h) g.row.N g.met.T.Parts.HoldsPayload.count (g.W.Part.of c.args.which.now) c.args.items.now
-    (written_variants c.args.self.now.variants) (g.S.HoldsColumns.columns c.args.self.now.payloads)
-    (enum_of_shape g.T.Parts.Variants.ShapedVariants.shapes g.T.Parts.Shaped.shape g.row.N (g.S.HoldsColumns.columns c.args.self.now.payloads) g.met.T.Parts.HoldsPayload.count g.met.T.Parts.HoldsPayload.has_shape
-    (g.met.S.PayloadColumns.of_shapes c.args.self.now.payloads 0))
+      g.T.Parts.Variants.ShapedVariants.lists g.T.Parts.Shaped.shape g.T.Parts.Variants.ShapedVariants.shapes g.met.T.Parts.HoldsPayload.has_shape
+      (λ t d h. g.met.T.Parts.HoldsPayload.lists_payload (g.T.StandsFor.parts t) d h) g.row.N g.met.T.Parts.HoldsPayload.count (g.W.Part.of c.args.which.now) c.args.items.now
+      (written_variants c.args.self.now.variants) (g.S.HoldsColumns.columns c.args.self.now.payloads)
+      (enum_of_shape g.T.Parts.Variants.ShapedVariants.shapes g.T.Parts.Shaped.shape g.row.N (g.S.HoldsColumns.columns c.args.self.now.payloads) g.met.T.Parts.HoldsPayload.count g.met.T.Parts.HoldsPayload.has_shape
+      (g.met.S.PayloadColumns.of_shapes c.args.self.now.payloads 0))
       c.loop-item.item-index c.item-item.result c.loop-item-test.true c.item-item.is (g.S.HoldsColumns.columns c.loop-item.self.payloads) c.loop-item.invariant.front _
       (subst (λ t. JoinsVariant g.T.Parts.Variants.ShapedVariants.index g.T.Parts.Variants.ShapedVariants.lists g.T.Parts.Variants.ShapedVariants.shapes (g.T.Parts.HoldsPayload.payload (g.T.StandsFor.parts t)) (g.S.HoldsColumns.columns c.loop-item.self.payloads) (g.S.HoldsColumns.columns c.encode_payload.new.payloads)) c.part.ensures c.in_ok-encode_payload.ensures.joined);
   form = c.encode_payload.ensures.form ∙ c.loop-item.invariant.form;
