@@ -1,5 +1,3 @@
 //! Types of one's own, and calls at nested types.
-mod lists_of_enums;
-mod lists_of_structs;
 mod nested_calls;
 mod own_types;
