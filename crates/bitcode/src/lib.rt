@@ -129,8 +129,6 @@ pub use bitcode_maps::map::MapEncoder;
 pub use bitcode_parts::arrays::ArrayDecoder;
 pub use bitcode_parts::arrays::ArrayEncoder;
 pub use bitcode_parts::choices::bare::BareEncoder;
-pub use bitcode_parts::choices::gathered::SaysVariant;
-pub use bitcode_parts::choices::gathered::gather_variants;
 pub use bitcode_parts::choices::option::OptionDecoder;
 pub use bitcode_parts::choices::option::OptionEncoder;
 pub use bitcode_parts::choices::result::ResultDecoder;

@@ -1,6 +1,6 @@
 -- Values that are written one by one.
-use Rattle.std.proofs.Common.{◌≡◌, ℕ, ◌+◌, ◌<◌, List, [], ◌∷◌, ◌++◌, length, map, drop, slice_index_or, refl, sym, ◌∙◌, ap, subst, append_assoc, append-nil}
-use Rattle.std.proofs.lemmas.List.{at_drop_more}
+use Rattle.std.proofs.Common.{◌≡◌, ℕ, ◌+◌, ◌<◌, List, [], ◌∷◌, ◌++◌, length, map, take, drop, slice_index_or, refl, sym, ◌∙◌, ap, subst, append_assoc, append-nil}
+use Rattle.std.proofs.lemmas.List.{at_drop_more, map-append, take_more}
 use Rattle.std.specs.List.{AllZip}
 use Rattle.bitcode_shapes.specs.Datum.{Datum}
 use Rattle.bitcode_shapes.specs.Shape.{Shape}
@@ -100,3 +100,9 @@ next_behind value xs i x here is = at_drop_more (map value) xs i x here ∙ ap (
 -- what is left of a list from one place on
 pub next_of : {A : Type 0} (xs : List A) (i : ℕ) (x : A) → i < length xs → x ≡ slice_index_or xs i x → drop i xs ≡ x ∷ drop (i + 1) xs
 next_of xs i x here is = at_drop_more (λ ys. ys) xs i x here ∙ ap (λ y. y ∷ drop (i + 1) xs) (sym is)
+
+-- one item more
+pub parts_more : {S B : Type 0} (of : S → B) (items : List S) (i : ℕ) (item : S) → i < length items → item ≡ slice_index_or items i item
+    → map of (take (i + 1) items) ≡ map of (take i items) ++ of item ∷ []
+parts_more of items i item here is =
+    ap (map of) (take_more items i item here ∙ ap (λ t. take i items ++ t ∷ []) (sym is)) ∙ map-append of (take i items) (item ∷ [])

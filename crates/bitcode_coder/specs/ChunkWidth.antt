@@ -24,7 +24,7 @@ elements_of ThirtyTwo = Some 32
 elements_of SixtyFour = Some 64
 elements_of Fallback = None
 
--- as many elements, of so many bytes each, as take 8 bytes, and one at least; an element of no bytes counts as one of one
+-- as many elements, of so many bytes each, as take at most 8 bytes, and one at least; an element of no bytes counts as one of one
 abbrev pub first_elements : (size : ℕ) → Option ℕ
 first_elements size = Some (max 1 (8 / max 1 size))
 

@@ -9,9 +9,8 @@ use Rattle.bitcode_shapes.specs.Choices.{ListsChoice, ListsLast, ListsVariant}
 use Rattle.bitcode_coder.specs.Columns.{Columns, no_columns, one, two, variants, emptied}
 use Rattle.bitcode_coder.specs.Coder.{written_columns, JoinsListing, OverflowsWithListing, JoinsEach, OverflowsWithEach}
 use Rattle.bitcode_coder.specs.Spelling.{natural}
-use Rattle.bitcode_coder.proofs.EachLemmas.{JoinsFront, front_none, front_more, front_overflows, front_whole, next_behind}
+use Rattle.bitcode_coder.proofs.EachLemmas.{JoinsFront, front_none, front_more, front_overflows, front_whole, next_behind, parts_more}
 use Rattle.bitcode_parts.specs.Payloads.{HasPayloads, JoinsPayload, OverflowsAtPayload}
-use Rattle.bitcode_parts.proofs.OptionLemmas.{parts_more}
 use Rattle.bitcode_parts.proofs.ChoiceWritingLemmas.{joins_here, joins_later, joins_choice, overflows_here, overflows_later, overflows_choice}
 use Rattle.bitcode_enums.specs.Variants.{index_first_or}
 use Rattle.bitcode_enums.specs.Writing.{JoinsVariant, OverflowsWithVariant}
@@ -21,29 +20,6 @@ from_first first = omega arith
 
 from_next : (first index : ℕ) → suc first + index ≡ first + suc index
 from_next first index = omega arith
-
--- ---- the last variant
-
-module _ {V A : Type 0} (payload : V → A) (lists : A → Datum → Type 0) (s : Shape) (v : V) (old : Columns) where
-  pub last_joins : (new : Columns) → JoinsListing lists s (payload v) old new
-      → JoinsVariant (λ (w : V). 0) (λ w i d. ListsLast lists (payload w) i d) (shape_and s no_shapes) v (two old no_columns) (two new no_columns)
-  last_joins new h = record {
-    payload = h.datum;
-    listing = h.listing;
-    joined = λ first.
-        subst (λ n. JoinsPayload (shape_and s no_shapes) first n h.datum (two old no_columns) (two new no_columns)) (from_first first)
-        (joins_here s no_shapes first h.datum old new no_columns h.joined h.fits refl);
-  }
-
-  pub last_overflows : OverflowsWithListing lists s (payload v) old
-      → OverflowsWithVariant (λ (w : V). 0) (λ w i d. ListsLast lists (payload w) i d) (shape_and s no_shapes) v (two old no_columns)
-  last_overflows h = record {
-    payload = h.datum;
-    listing = h.listing;
-    overflows = λ first.
-        subst (λ n. OverflowsAtPayload (shape_and s no_shapes) first n h.datum (two old no_columns)) (from_first first)
-        (overflows_here s no_shapes first h.datum old no_columns h.overflows);
-  }
 
 -- ---- the first variant, and the rest
 
@@ -64,17 +40,6 @@ module _ {V A R : Type 0} (variant : V → A ⊎ R) (lists_a : A → Datum → T
           subst (λ w. JoinsPayload (shape_and s ss) first (first + index_first_or index w) h.datum (two a rest) (two new rest)) (sym is)
           (subst (λ n. JoinsPayload (shape_and s ss) first n h.datum (two a rest) (two new rest)) (from_first first)
           (joins_here s ss first h.datum a new rest h.joined h.fits (later (suc first))));
-    }
-
-    pub first_overflows : (x : A) → variant v ≡ inl x → OverflowsWithListing lists_a s x a
-        → OverflowsWithVariant (λ w. index_first_or index (variant w)) (λ w i d. ListsVariant lists_a lists_r (variant w) i d) (shape_and s ss) v (two a rest)
-    first_overflows x is h = record {
-      payload = h.datum;
-      listing = first_listing x is h.datum h.listing;
-      overflows = λ first.
-          subst (λ w. OverflowsAtPayload (shape_and s ss) first (first + index_first_or index w) h.datum (two a rest)) (sym is)
-          (subst (λ n. OverflowsAtPayload (shape_and s ss) first n h.datum (two a rest)) (from_first first)
-          (overflows_here s ss first h.datum a rest h.overflows));
     }
 
     pub rest_joins : (y : R) → variant v ≡ inr y → (new : Columns) → emptied a ≡ written_columns s [] → JoinsVariant index lists_r ss y rest new
@@ -101,22 +66,22 @@ module _ {V A R : Type 0} (variant : V → A ⊎ R) (lists_a : A → Datum → T
 
 -- ---- the whole enum
 
-module _ {V : Type 0} (index : V → ℕ) (lists : V → ℕ → Datum → Type 0) (v : V) (variant : ℕ) (is : variant ≡ 0 + index v) where
+module _ {V : Type 0} (index : V → ℕ) (lists : V → ℕ → Datum → Type 0) (v : V) (variant : ℕ) (is : variant ≡ index v) where
   choice_listing : (d : Datum) → lists v (index v) d → ListsChoice lists v (choice variant d)
-  choice_listing d l = record { index = variant; payload = d; is = refl; lists_payload = subst (λ n. lists v n d) (let e : index v ≡ variant = omega (arith, is) in e) l }
+  choice_listing d l = record { index = variant; payload = d; is = refl; lists_payload = subst (λ n. lists v n d) (sym is) l }
 
   at_variant : 0 + index v ≡ variant
-  at_variant = sym is
+  at_variant = omega (arith, is)
 
   module _ (ss : Shapes) (count : ℕ) (counted : variant_count ss ≡ count) (entries : List ℕ) (old : Columns) where
-    pub enum_joins : (more : List ℕ) (new : Columns) → more ≡ entries ++ variant ∷ [] → JoinsVariant index lists ss v old new
+    enum_joins : (more : List ℕ) (new : Columns) → more ≡ entries ++ variant ∷ [] → JoinsVariant index lists ss v old new
         → JoinsListing (ListsChoice lists) (choice_shape ss) v (two (one (variants count) (map natural entries)) old) (two (one (variants count) (map natural more)) new)
     enum_joins more new pushed h =
         subst (λ n. JoinsListing (ListsChoice lists) (choice_shape ss) v (two (one (variants n) (map natural entries)) old) (two (one (variants n) (map natural more)) new)) counted
         (joins_choice (ListsChoice lists) ss v variant h.payload (choice_listing h.payload h.listing) entries more old new pushed
         (subst (λ n. JoinsPayload ss 0 n h.payload old new) at_variant (h.joined 0)))
 
-    pub enum_overflows : OverflowsWithVariant index lists ss v old
+    enum_overflows : OverflowsWithVariant index lists ss v old
         → OverflowsWithListing (ListsChoice lists) (choice_shape ss) v (two (one (variants count) (map natural entries)) old)
     enum_overflows h =
         subst (λ n. OverflowsWithListing (ListsChoice lists) (choice_shape ss) v (two (one (variants n) (map natural entries)) old)) counted
@@ -131,13 +96,13 @@ module _ {T V : Type 0} (payload : T → V) (lists_t : T → Datum → Type 0) (
   pub value_joins : (more : List ℕ) (new : Columns) → more ≡ entries ++ variant ∷ [] → JoinsVariant index lists_v ss (payload t) old new
       → JoinsListing lists_t s t (two (one (variants count) (map natural entries)) old) (two (one (variants count) (map natural more)) new)
   value_joins more new pushed h =
-      let joins = enum_joins index lists_v (payload t) variant (let e : variant ≡ 0 + index (payload t) = omega (arith, of) in e) ss count counted entries old more new pushed h in
+      let joins = enum_joins index lists_v (payload t) variant of ss count counted entries old more new pushed h in
       subst (λ x. JoinsListing lists_t x t (two (one (variants count) (map natural entries)) old) (two (one (variants count) (map natural more)) new)) (sym is)
       (record { datum = joins.datum; listing = lists t joins.datum joins.listing; joined = joins.joined; fits = joins.fits })
 
   pub value_overflows : OverflowsWithVariant index lists_v ss (payload t) old → OverflowsWithListing lists_t s t (two (one (variants count) (map natural entries)) old)
   value_overflows h =
-      let overflows = enum_overflows index lists_v (payload t) variant (let e : variant ≡ 0 + index (payload t) = omega (arith, of) in e) ss count counted entries old h in
+      let overflows = enum_overflows index lists_v (payload t) variant of ss count counted entries old h in
       subst (λ x. OverflowsWithListing lists_t x t (two (one (variants count) (map natural entries)) old)) (sym is)
       (record { datum = overflows.datum; listing = lists t overflows.datum overflows.listing; overflows = overflows.overflows })
 
@@ -150,7 +115,7 @@ module _ {S T V : Type 0} (payload : T → V) (lists_t : T → Datum → Type 0)
   variants_to i payloads = two (one (variants count) (map natural (entries ++ map (λ t. index (payload t)) (map of (take i items))))) payloads
 
   -- the items up to a place were written
-  abbrev pub WrittenTo : ℕ → Columns → Type 0
+  abbrev WrittenTo : ℕ → Columns → Type 0
   WrittenTo i now = JoinsFront lists_t s (map of items) (map of (drop i items)) (two (one (variants count) (map natural entries)) old) (variants_to i now)
 
   variants_more : (i : ℕ) (item : S) → i < length items → item ≡ slice_index_or items i item

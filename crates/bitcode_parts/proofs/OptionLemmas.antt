@@ -1,10 +1,10 @@
 -- Several options are written as the variant of each, and then the values of those that have one.
-use Rattle.std.proofs.Common.{◌≡◌, ℕ, ◌+◌, ◌<◌, List, [], ◌∷◌, ◌++◌, length, map, take, drop, set, slice_index_or, All, refl, sym, ◌∙◌, ap, ap₂, subst, append-nil, length-append, lit<, arith}
+use Rattle.std.proofs.Common.{◌≡◌, ℕ, ◌+◌, ◌<◌, List, [], ◌∷◌, ◌++◌, length, map, take, drop, set, slice_index_or, refl, sym, ◌∙◌, ap, ap₂, subst, append-nil, length-append, arith}
 use Rattle.std.specs.Prelude.{Option, Some, None}
 use Rattle.std.specs.List.{AllZip}
 use Rattle.std.proofs.lemmas.List.{map-append, take-append-drop, take_more, take_more_set}
-use Rattle.std.proofs.lemmas.List.Elements.{All-nil, All-cons, filter_map-append}
-use Rattle.bitcode_shapes.specs.Datum.{Datum, unit, number, choice}
+use Rattle.std.proofs.lemmas.List.Elements.{filter_map-append}
+use Rattle.bitcode_shapes.specs.Datum.{Datum, unit, choice}
 use Rattle.bitcode_shapes.specs.Shape.{Shape, choice_shape, shape_and, no_shapes, unit_shape}
 use Rattle.bitcode_shapes.specs.Empty.{ListsUnit}
 use Rattle.bitcode_shapes.specs.Choices.{ListsChoice, ListsLast, ListsVariant, option_variant}
@@ -12,15 +12,9 @@ use Rattle.bitcode_coder.specs.Columns.{Columns, no_columns, one, two, variants,
 use Rattle.bitcode_coder.specs.Spelling.{natural}
 use Rattle.bitcode_coder.specs.Transposition.{payloads, variant_entry}
 use Rattle.bitcode_coder.specs.Coder.{written_columns, JoinsEach, OverflowsWithEach}
-use Rattle.bitcode_coder.proofs.EachLemmas.{next_behind}
+use Rattle.bitcode_coder.proofs.EachLemmas.{next_behind, parts_more}
 use Rattle.bitcode_parts.specs.Options.{option_index, values_in}
 use Rattle.bitcode_parts.proofs.ChoiceLemmas.{payloads-same, payloads-other}
-
--- one item more
-pub parts_more : {S B : Type 0} (of : S → B) (items : List S) (i : ℕ) (item : S) → i < length items → item ≡ slice_index_or items i item
-    → map of (take (i + 1) items) ≡ map of (take i items) ++ of item ∷ []
-parts_more of items i item here is =
-    ap (map of) (take_more items i item here ∙ ap (λ t. take i items ++ t ∷ []) (sym is)) ∙ map-append of (take i items) (item ∷ [])
 
 module _ {S A : Type 0} (of : S → Option A) (items : List S) (i : ℕ) (item : S) (here : i < length items) (is : item ≡ slice_index_or items i item) where
   pub no_value_more : of item ≡ None → values_in (map of (take (i + 1) items)) ≡ values_in (map of (take i items))

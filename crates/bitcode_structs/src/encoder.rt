@@ -32,6 +32,7 @@ pub struct StructEncoder<K, E> {
     count: PhantomData<K>,
 }
 
+// By hand, since a derive would ask that the number of fields is `Drop` too.
 impl<K, E: Drop> Drop for StructEncoder<K, E> {
     fn drop(self) {
         let StructEncoder {

@@ -1,5 +1,5 @@
 //! The fields of structs that are themselves parts.
-ghost use Rattle.std.specs.Prelude.{length, map};
+ghost use Rattle.std.specs.Prelude.{map};
 ghost use Rattle.bitcode_tuples.specs.Pairs.{EachListed};
 
 use crate::lends::LendsFields1;

@@ -53,7 +53,7 @@ impl ChunkWidth {
         }
     }
 
-    /// Twice the width, if so many elements of so many bytes take at most 64 bytes.
+    /// Twice the width, if so many elements of so many bytes take at most 64 bytes, and else the fallback.
     pub fn doubled(self, size: usize) -> ChunkWidth
         ensures exact { elements_of result ≡ doubled_elements size (elements_of self) }
         ensures ends { 0 < widenings_left self → widenings_left result < widenings_left self }

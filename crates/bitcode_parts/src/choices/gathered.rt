@@ -1,5 +1,5 @@
 //! Which variants several values are of.
-ghost use Rattle.std.specs.Prelude.{◌≡◌, ℕ, ◌<◌, ◌≤◌, length, map, take, All};
+ghost use Rattle.std.specs.Prelude.{◌≡◌, ℕ, ◌<◌, ◌≤◌, length, map, take, drop, All};
 
 use bitcode_coder::coder::MAX_VECTORED_CHUNK;
 use bitcode_coder::part::Part;
@@ -33,11 +33,12 @@ pub trait SaysVariant<T> {
         ensures known { result < count };
 }
 
-/// Puts the variant that a part of each of several items is of into the first places of `variants`.
+/// Puts the variant that a part of each of several items is of into the first places of `variants`. The places behind them stay.
 ///
 /// ```
 /// let mut variants = [0; MAX_VECTORED_CHUNK];
-/// gather_variants::<Light, Light, Itself, LightVariant>(&lights, &Itself, &mut variants);
+/// gather_variants::<S, Light, W, LightVariant>(items, which, &mut variants);
+/// self.variants.encode_vectored(&variants[..items.len()]);
 /// ```
 pub fn gather_variants<S, T, W: Part<S, T>, V: SaysVariant<T>>(
     items: &[S],
@@ -47,6 +48,7 @@ pub fn gather_variants<S, T, W: Part<S, T>, V: SaysVariant<T>>(
     requires { length items.now ≤ MAX_VECTORED_CHUNK }
     ensures gathered { take (length items.now) variants.new ≡ map V.variant (map (W.of which.now) items.now) }
     ensures known { All (λ variant. variant < V.count) (take (length items.now) variants.new) }
+    ensures rest { drop (length items.now) variants.new ≡ drop (length items.now) variants.old }
 {
     for index in 0..items.len() {
         variants[index] = V::variant(which.part(&items[index]));
