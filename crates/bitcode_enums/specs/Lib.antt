@@ -1,6 +1,2 @@
 pub mod Variants
 pub mod LawfulVariants
-pub mod Writing
-pub mod WritingLaws
-pub mod Reading
-pub mod ReadingLaws

@@ -1,27 +1,36 @@
--- The payload of the first variant beside those of the rest.
-use Rattle.std.proofs.Common.{◌≡◌, ℕ, zero, suc, refl, inl, inr}
-use Rattle.std.specs.Prelude.{◌⊎◌}
-use Rattle.bitcode_enums.specs.declared.variants.FirstOr.{FirstOr}
-use Rattle.bitcode_enums.specs.declared.variants.FirstOr.TheVariants.{First, Rest}
+-- One variant of an enum beside the rest of them: a value has the payload of this variant, or it is of one of the rest.
+use Rattle.std.proofs.Common.{◌≡◌, ℕ, zero, suc, ◌+◌, ◌<◌, ◌≤◌, Bool, true, false, Option, Some, None, inl, inr}
+use Rattle.std.specs.Prelude.{◌⊎◌, ◌==◌, IsTrue}
+use Rattle.bitcode_shapes.specs.Shape.{Shapes, variant_count}
+use Rattle.bitcode_shapes.specs.BareVariants.{AreSomeVariants}
 
-abbrev pub first_or : {A R : Type 0} → FirstOr A R → A ⊎ R
-first_or (First a) = inl a
-first_or (Rest r) = inr r
+-- the payload, or the value itself where it has none
+abbrev pub payload_or : {A T : Type 0} → Option A → T → A ⊎ T
+payload_or (Some a) t = inl a
+payload_or None t = inr t
 
--- which variant it is
-abbrev pub index_first_or : {A R : Type 0} → (R → ℕ) → A ⊎ R → ℕ
-index_first_or index (inl a) = zero
-index_first_or index (inr r) = suc (index r)
+-- which variant it is, where the payload is that of the first
+abbrev pub index_either : {A T : Type 0} → (T → ℕ) → A ⊎ T → ℕ
+index_either index (inl a) = zero
+index_either index (inr t) = suc (index t)
 
-pub first_or_found : {A R : Type 0} (u : A ⊎ R) → (v : FirstOr A R) × (first_or v ≡ u)
-first_or_found (inl a) = (First a, refl)
-first_or_found (inr r) = (Rest r, refl)
+-- a value that has the payload of a variant is numbered as that variant is
+abbrev pub IsNumbered : {A : Type 0} → (number index : ℕ) → Option A → Type 0
+IsNumbered number index (Some a) = index ≡ number
+IsNumbered number index None = Unit {0}
 
--- the payload that other payloads make up
-abbrev pub first_or_of : {A B R S : Type 0} → (A → B) → (R → S) → FirstOr A R → FirstOr B S
-first_or_of of_first of_rest (First a) = First (of_first a)
-first_or_of of_first of_rest (Rest r) = Rest (of_rest r)
+-- the payload of a variant without fields, by the number of the value
+abbrev pub unit_where : Bool → Option (Unit {0})
+unit_where true = Some tt
+unit_where false = None
 
--- what is made of some payload is stood for by what that payload is stood for by
-pub stood_for : {T V C : Type 0} {parts : T → C} (make : V → C) → ((v : V) → (t : T) × (parts t ≡ make v)) → (v : V) → (t : T) × (parts t ≡ make v)
-stood_for make found v = found v
+abbrev pub unit_at : (number index : ℕ) → Option (Unit {0})
+unit_at number index = unit_where (index == number)
+
+-- the number is one of so many from the first on
+abbrev pub IsAmong : (first count number : ℕ) → Type 0
+IsAmong first count number = (first ≤ number) × (number < first + count)
+
+-- the variants are numbered from 0 on, and they are as many as enums have
+abbrev pub AreNumbered : (count first : ℕ) (in_turn : Bool) → Shapes → Type 0
+AreNumbered count first in_turn shapes = (first ≡ 0) × IsTrue in_turn × (variant_count shapes ≡ count) × AreSomeVariants count

@@ -1,11 +1,6 @@
-//! Enums with payloads: what one stands for, which makes it lawful, and its coders.
+//! Enums of which some variants have fields: what makes them lawful, and their coders.
 #![tactic(auto)]
 
-pub mod choice;
-pub mod decoder;
-pub mod encoder;
-pub mod fields;
 pub mod held;
-pub mod named;
-pub mod payloads;
+pub mod variant;
 pub mod variants;

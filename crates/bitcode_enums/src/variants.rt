@@ -1,141 +1,139 @@
-//! The payloads of an enum's variants: a value is the payload of the first variant, or of one of the rest.
-ghost use Rattle.std.specs.Prelude.{◌≡◌, ℕ, ◌<◌, Bool, ◌&&◌};
-ghost use Rattle.bitcode_shapes.specs.Datum.{Datum};
-ghost use Rattle.bitcode_shapes.specs.Shape.{Shapes, no_shapes, shape_and, variant_count};
-ghost use Rattle.bitcode_shapes.specs.Choices.{IsVariantValue, ListsLast, ListsVariant, MakesLast, MakesVariant, SameVariant};
-ghost use Rattle.bitcode_shapes.specs.LawfulChoices.{LawfulVariants, MakeableVariants, first_lawful, first_makeable, last_lawful, last_makeable};
+//! The variants of an enum: the first of them, and the rest.
+ghost use Rattle.std.specs.Prelude.{◌≡◌, ℕ, suc, ◌<◌, ◌≤◌, Bool, true, ◌==◌, ◌&&◌, IsTrue};
 ghost use Rattle.bitcode_shapes.specs.ArrayCounts.{VariantsListSameArrays};
-ghost use Rattle.bitcode_shapes.specs.SameArrays.{first_same_arrays, last_same_arrays};
-ghost use Rattle.bitcode_enums.specs.LawfulVariants.{below_last, below_first_or, variants_image_lawful, variants_image_makeable, variants_image_same_arrays};
+ghost use Rattle.bitcode_shapes.specs.Choices.{IsVariantValue, ListsVariant, MakesVariant, SameVariant};
+ghost use Rattle.bitcode_shapes.specs.Datum.{Datum};
+ghost use Rattle.bitcode_shapes.specs.LawfulChoices.{LawfulVariants, MakeableVariants, first_lawful, first_makeable};
+ghost use Rattle.bitcode_shapes.specs.SameArrays.{first_same_arrays};
+ghost use Rattle.bitcode_shapes.specs.Shape.{Shapes, no_shapes, shape_and, variant_count};
+ghost use Rattle.bitcode_enums.specs.LawfulVariants.{variants_image_lawful, variants_image_makeable, variants_image_same_arrays, no_variants_lawful, no_variants_makeable, no_variants_same_arrays, turns_next, turns_later, numbered_above, variant_found, behind_next};
+ghost use Rattle.bitcode_enums.specs.Variants.{payload_or, IsAmong};
 
+use crate::variant::{Numbered, VariantOf};
 use bitcode_shapes::same_arrays::SameArrays;
 use bitcode_shapes::shaped::{Made, Shaped};
+use std::marker::PhantomData;
 
-/// The payload of the first variant, or that of one of the rest.
+/// Names the variant `M` of an enum, and behind it the rest of the variants, `R`.
 ///
-/// The payloads of an enum whose three variants hold a `u8`, nothing, and a pair, are
-/// `FirstOr<u8, FirstOr<(), Last<(u16, bool)>>>`.
-#[derive(Drop)]
-pub enum FirstOr<A, R> {
-    First(A),
-    Rest(R),
+/// The variants of `enum Shot { Missed, Hit(u8) }` are `FirstOr<Fields0<0>, FirstOr<Fields1<1, u8>, NoMore<2>>>`.
+pub struct FirstOr<M, R> {
+    of: PhantomData<(M, R)>,
 }
 
-/// The payload of the last variant.
-#[derive(Drop)]
-pub struct Last<A>(pub A);
+/// Names no variants: an enum has `N` of them, which have been named.
+pub struct NoMore<const N: usize> {}
 
-/// Variants whose payloads are lawful: a value is the payload of one of them.
-pub trait ShapedVariants {
+/// Variants of the enum `T` whose payloads are lawful and made of data.
+pub trait VariantsOf<T: Numbered> {
+    // the number of the first of them
+    ghost first: { ℕ };
+
+    // each is numbered behind the one before it
+    ghost in_turn: { Bool };
+
     // the shapes of the payloads
     ghost shapes: { Shapes };
 
-    // a value in hand, as of `Shaped`
-    ghost is_value: { Self → Type 0 };
+    // a value in hand of one of the variants, as of `Shaped`
+    ghost is_value: { T → Type 0 };
 
-    // what a value holds: its variant, and what the payload holds
-    ghost lists: { Self → ℕ → Datum → Type 0 };
+    // what such a value holds: its variant, counted from the first of these, and what the payload holds
+    ghost lists: { T → ℕ → Datum → Type 0 };
 
-    ghost same: { Self → Self → Type 0 };
+    ghost same: { T → T → Type 0 };
 
     ghost in_order: { Bool };
 
-    // which variant a value is
-    ghost index: { Self → ℕ };
+    // the value is made of the variant and the datum
+    ghost makes: { ℕ → Datum → T → Type 0 };
 
-    /// A value in hand is one.
-    fn told(&self)
-        ensures { is_value self.now };
+    /// A value in hand of one of the variants is one.
+    fn told(t: &T)
+        requires turn { IsTrue in_turn }
+        requires among { IsAmong first (variant_count shapes) (T.index t.now) }
+        ensures { is_value t.now };
 
     ghost lawful: { LawfulVariants shapes is_value lists same in_order };
 
-    ghost below: { (v : Self) → index v < variant_count shapes };
-}
+    ghost above: { IsTrue in_turn → (t : T) → is_value t → first ≤ T.index t };
 
-/// Variants whose payloads are made of data.
-pub trait MadeVariants: ShapedVariants {
-    // the value is made of the variant and the datum
-    ghost makes: { ℕ → Datum → Self → Type 0 };
-
-    ghost makeable: { MakeableVariants Self.shapes Self.is_value Self.lists Self.same makes };
+    ghost makeable: { IsTrue in_turn → MakeableVariants shapes is_value lists same makes };
 }
 
 /// Variants of whose payloads all listings have the same numbers of arrays.
-pub trait SameArraysVariants: ShapedVariants {
+pub trait SameArraysVariants<T: Numbered>: VariantsOf<T> {
     ghost same_arrays: { VariantsListSameArrays Self.shapes Self.is_value Self.lists };
 }
 
-impl<A: Shaped> ShapedVariants for Last<A> {
-    ghost shapes = { shape_and A.shape no_shapes };
+impl<const N: usize, T: Numbered> VariantsOf<T> for NoMore<N> {
+    ghost first = { N };
 
-    ghost is_value = { λ v. A.is_value v.0 };
+    ghost in_turn = { true };
 
-    ghost lists = { λ v i d. ListsLast A.lists v.0 i d };
+    ghost shapes = { no_shapes };
 
-    ghost same = { λ v w. A.same v.0 w.0 };
+    ghost is_value = { λ t. ⊥ };
 
-    ghost in_order = { A.in_order };
+    ghost lists = { λ t i d. ⊥ };
 
-    ghost index = { λ v. 0 };
+    ghost same = { λ t u. ⊥ };
 
-    fn told(&self) {
-        self.0.told();
+    ghost in_order = { true };
+
+    ghost makes = { λ i d t. ⊥ };
+
+    fn told(_t: &T) {
+        unreachable!()
     }
 
-    ghost lawful = { variants_image_lawful (λ v. v.0) (last_lawful A.lawful) };
+    ghost lawful = { no_variants_lawful };
 
-    ghost below = { λ v. below_last A.shape };
+    ghost above = { λ turn t h. absurd h };
+
+    ghost makeable = { λ turn. no_variants_makeable };
 }
 
-impl<A: Made> MadeVariants for Last<A> {
-    ghost use Rattle.std.specs.Prelude.{refl};
-
-    ghost makes = { λ i d v. MakesLast A.makes i d v.0 };
-
-    ghost makeable = { variants_image_makeable (λ v. v.0) (λ a. (record { 0 = a }, refl)) (last_makeable A.makeable) };
+impl<const N: usize, T: Numbered> SameArraysVariants<T> for NoMore<N> {
+    ghost same_arrays = { no_variants_same_arrays };
 }
 
-impl<A: SameArrays> SameArraysVariants for Last<A> {
-    ghost same_arrays = { variants_image_same_arrays (λ v. v.0) (last_same_arrays A.same_arrays) };
-}
+impl<T: Numbered, M: VariantOf<T>, R: VariantsOf<T>> VariantsOf<T> for FirstOr<M, R> {
+    ghost first = { M.NUMBER };
 
-impl<A: Shaped, R: ShapedVariants> ShapedVariants for FirstOr<A, R> {
-    ghost use Rattle.bitcode_enums.specs.Variants.{first_or, index_first_or};
+    ghost in_turn = { (R.first == suc M.NUMBER) && R.in_turn };
 
-    ghost shapes = { shape_and A.shape R.shapes };
+    ghost shapes = { shape_and M.Payload.shape R.shapes };
 
-    ghost is_value = { λ v. IsVariantValue A.is_value R.is_value (first_or v) };
+    ghost is_value = { λ t. IsVariantValue M.Payload.is_value R.is_value (payload_or (M.payload t) t) };
 
-    ghost lists = { λ v i d. ListsVariant A.lists R.lists (first_or v) i d };
+    ghost lists = { λ t i d. ListsVariant M.Payload.lists R.lists (payload_or (M.payload t) t) i d };
 
-    ghost same = { λ v w. SameVariant A.same R.same (first_or v) (first_or w) };
+    ghost same = { λ t u. SameVariant M.Payload.same R.same (payload_or (M.payload t) t) (payload_or (M.payload u) u) };
 
-    ghost in_order = { A.in_order && R.in_order };
+    ghost in_order = { M.Payload.in_order && R.in_order };
 
-    ghost index = { λ v. index_first_or R.index (first_or v) };
+    ghost makes = { λ i d t. MakesVariant M.Payload.makes R.makes i d (payload_or (M.payload t) t) };
 
-    fn told(&self) {
-        match self {
-            FirstOr::First(payload) => payload.told(),
-            FirstOr::Rest(rest) => rest.told(),
+    fn told(t: &T) {
+        if t.index() as usize == M::NUMBER {
+            M::told(t);
+        } else {
+            R::told(t);
         }
     }
 
-    ghost lawful = { variants_image_lawful first_or (first_lawful A.lawful R.lawful) };
+    ghost lawful = { variants_image_lawful (λ t. payload_or (M.payload t) t) (first_lawful M.Payload.lawful R.lawful) };
 
-    ghost below = { λ v. below_first_or A.shape R.shapes R.index R.below (first_or v) };
+    ghost above = { λ turn. numbered_above M.payload M.NUMBER T.index M.here M.Payload.is_value R.is_value (behind_next (turns_next R.first (suc M.NUMBER) R.in_turn turn) (R.above (turns_later R.first (suc M.NUMBER) R.in_turn turn))) };
+
+    ghost makeable = { λ turn. variants_image_makeable (λ t. payload_or (M.payload t) t) (variant_found M.payload M.NUMBER T.index M.here M.Payload.is_value R.is_value (behind_next (turns_next R.first (suc M.NUMBER) R.in_turn turn) (R.above (turns_later R.first (suc M.NUMBER) R.in_turn turn))) M.of_payload) (first_makeable M.Payload.makeable (R.makeable (turns_later R.first (suc M.NUMBER) R.in_turn turn))) };
 }
 
-impl<A: Made, R: MadeVariants> MadeVariants for FirstOr<A, R> {
-    ghost use Rattle.bitcode_enums.specs.Variants.{first_or, first_or_found};
-
-    ghost makes = { λ i d v. MakesVariant A.makes R.makes i d (first_or v) };
-
-    ghost makeable = { variants_image_makeable first_or first_or_found (first_makeable A.makeable R.makeable) };
-}
-
-impl<A: SameArrays, R: SameArraysVariants> SameArraysVariants for FirstOr<A, R> {
-    ghost use Rattle.bitcode_enums.specs.Variants.{first_or};
-
-    ghost same_arrays = { variants_image_same_arrays first_or (first_same_arrays A.same_arrays R.same_arrays) };
+impl<
+    T: Numbered,
+    M: VariantOf<T, Payload: SameArrays>,
+    R: SameArraysVariants<T>,
+> SameArraysVariants<T> for FirstOr<M, R> {
+    ghost same_arrays = { variants_image_same_arrays (λ t. payload_or (M.payload t) t) (first_same_arrays M.Payload.same_arrays R.same_arrays) };
 }
