@@ -1,2 +1,4 @@
 pub mod Variants
 pub mod LawfulVariants
+pub mod Writing
+pub mod WritingLaws

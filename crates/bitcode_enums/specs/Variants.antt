@@ -32,5 +32,6 @@ abbrev pub IsAmong : (first count number : ℕ) → Type 0
 IsAmong first count number = (first ≤ number) × (number < first + count)
 
 -- the variants are numbered from 0 on, and they are as many as enums have
-abbrev pub AreNumbered : (count first : ℕ) (in_turn : Bool) → Shapes → Type 0
-AreNumbered count first in_turn shapes = (first ≡ 0) × IsTrue in_turn × (variant_count shapes ≡ count) × AreSomeVariants count
+abbrev pub AreNumbered : (number count first : ℕ) (in_turn : Bool) → Shapes → Type 0
+AreNumbered number count first in_turn shapes =
+    (count ≡ number) × (first ≡ 0) × IsTrue in_turn × (variant_count shapes ≡ number) × AreSomeVariants number

@@ -1,5 +1,5 @@
 //! What holds a value of an enum by itself: what such an enum stands for, and lawful where the payloads are.
-ghost use Rattle.std.specs.Prelude.{◌≡◌, ℕ, ◌<◌, Bool, refl};
+ghost use Rattle.std.specs.Prelude.{◌≡◌, ℕ, Bool, refl};
 ghost use Rattle.bitcode_shapes.specs.Choices.{ListsChoice, MakesChoice};
 ghost use Rattle.bitcode_shapes.specs.LawfulChoices.{choice_makeable};
 ghost use Rattle.bitcode_shapes.specs.LawfulImages.{image_lawful, image_makeable};
@@ -20,9 +20,7 @@ use bitcode_shapes::stands_for::Holds;
 /// impl Enum<2> for Shot {
 ///     type Variants = FirstOr<Fields0<0>, FirstOr<Fields1<1, u8>, NoMore<2>>>;
 ///
-///     ghost numbered = { (refl, refl, refl, refl) };
-///
-///     ghost below = { elim [ Shot.Missed ↦ lit< tt | Shot.Hit a ↦ lit< tt ] };
+///     ghost numbered = { (refl, refl, refl, refl, refl) };
 /// }
 ///
 /// impl HeldIn for Shot {
@@ -33,9 +31,7 @@ pub trait Enum<const N: usize>: Numbered {
     /// The names of the variants, in their order.
     type Variants: VariantsOf<Self>;
 
-    ghost numbered: { AreNumbered N Self.Variants.first Self.Variants.in_turn Self.Variants.shapes };
-
-    ghost below: { (t : Self) → Self.index t < N };
+    ghost numbered: { AreNumbered N Self.count Self.Variants.first Self.Variants.in_turn Self.Variants.shapes };
 }
 
 /// A value of an enum of `N` variants, by itself: what the enum stands for.
@@ -75,13 +71,13 @@ impl<const N: usize, T: Enum<N>> Shaped for Held<N, T> {
         T::Variants::told(&self.value);
     }
 
-    ghost lawful = { image_lawful (λ h. h.value) (some_choices_lawful T.numbered.2 T.numbered.3 T.Variants.lawful) };
+    ghost lawful = { image_lawful (λ h. h.value) (some_choices_lawful T.numbered.3 T.numbered.4 T.Variants.lawful) };
 }
 
 impl<const N: usize, T: Enum<N>> Made for Held<N, T> {
     ghost makes = { λ d h. MakesChoice T.Variants.makes d h.value };
 
-    ghost makeable = { image_makeable (λ h. h.value) (λ g v h. (record { value = v }, refl)) (choice_makeable (T.Variants.makeable T.numbered.1)) };
+    ghost makeable = { image_makeable (λ h. h.value) (λ g v h. (record { value = v }, refl)) (choice_makeable (T.Variants.makeable T.numbered.2)) };
 }
 
 impl<const N: usize, T: Enum<N>> SameArrays for Held<N, T>

@@ -1,5 +1,5 @@
 //! One variant of an enum: its number, and the payload that a value of it has.
-ghost use Rattle.std.specs.Prelude.{◌≡◌, ℕ, Option, Some, IsSomeAnd};
+ghost use Rattle.std.specs.Prelude.{◌≡◌, ℕ, ◌<◌, Option, Some, IsSomeAnd};
 ghost use Rattle.bitcode_enums.specs.Variants.{IsNumbered};
 
 use bitcode_shapes::shaped::{Made, Shaped};
@@ -10,6 +10,8 @@ pub mod of_0_to_8;
 ///
 /// ```
 /// impl Numbered for Shot {
+///     ghost count = { 2 };
+///
 ///     ghost index = { elim [ Shot.Missed ↦ 0 | Shot.Hit a ↦ 1 ] };
 ///
 ///     fn index(&self) -> u8 {
@@ -18,15 +20,22 @@ pub mod of_0_to_8;
 ///             Shot::Hit(_) => 1,
 ///         }
 ///     }
+///
+///     ghost below = { elim [ Shot.Missed ↦ lit< tt | Shot.Hit a ↦ lit< tt ] };
 /// }
 /// ```
 pub trait Numbered {
+    // how many variants there are
+    ghost count: { ℕ };
+
     // the number of the variant that a value is of
     ghost index: { Self → ℕ };
 
     /// The number of the variant that the value is of.
     fn index(&self) -> u8
         ensures { result ≡ index self.now };
+
+    ghost below: { (t : Self) → index t < count };
 }
 
 /// A variant of the enum `T`, which a mark names: [`Fields0`](of_0_to_8::Fields0) to [`Fields16`](of_9_to_16::Fields16), by how many
