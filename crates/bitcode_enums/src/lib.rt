@@ -2,6 +2,8 @@
 #![tactic(auto)]
 
 pub mod columns;
+pub mod data;
+pub mod decoder;
 pub mod encoder;
 pub mod held;
 pub mod variant;
