@@ -22,14 +22,14 @@ use std::marker::PhantomData;
 ///
 /// ```
 /// impl<'a> DecodeEnum<'a, 2, <Variants as HasPayloadDecoder<'a, Shot>>::Decoder> for Shot {
-///     fn numbered() {}
+///     fn numbered(_data: &<Variants as HasPayloadDecoder<'a, Shot>>::Decoder) {}
 ///
 ///     ghost read = { (refl, λ d t h. h) };
 /// }
 /// ```
 pub trait DecodeEnum<'a, const N: usize, D: PayloadData<'a, Self>>: Numbered + Made {
     /// The payloads are those of so many variants.
-    fn numbered()
+    fn numbered(data: &D)
         ensures { AreNumbered N Self.Numbered.count D.first D.in_turn D.shapes };
 
     ghost read: { (Self.Shaped.shape ≡ choice_shape D.shapes) × ((d : Datum) (t : Self) → MakesChoice D.makes d t → Self.Made.makes d t) };
@@ -81,7 +81,7 @@ impl<'a, const N: usize, T: DecodeEnum<'a, N, D>, D: PayloadData<'a, T>> View<'a
     }
 
     fn populate(&mut self, input: &mut &'a [u8], k: usize) -> Result<(), Error> {
-        T::numbered();
+        T::numbered(&self.payloads);
         self.variants.populate(input, k)?;
         self.payloads.populate(input, self.variants.counts(), 0)
     }
@@ -92,7 +92,7 @@ impl<'a, const N: usize, T: DecodeEnum<'a, N, D>, D: PayloadData<'a, T>> Decoder
     ghost makes_free = { D.makes_free };
 
     fn decode(&mut self) -> Result<T, Error> {
-        T::numbered();
+        T::numbered(&self.payloads);
         let variant = self.variants.decode();
         self.payloads.decode_payload(variant)
     }

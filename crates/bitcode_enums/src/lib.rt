@@ -6,5 +6,6 @@ pub mod data;
 pub mod decoder;
 pub mod encoder;
 pub mod held;
+pub mod named;
 pub mod variant;
 pub mod variants;

@@ -1,0 +1,3 @@
+//! A user.
+#![tactic(auto)]
+pub mod event;
