@@ -35,3 +35,7 @@ IsAmong first count number = (first ≤ number) × (number < first + count)
 abbrev pub AreNumbered : (number count first : ℕ) (in_turn : Bool) → Shapes → Type 0
 AreNumbered number count first in_turn shapes =
     (count ≡ number) × (first ≡ 0) × IsTrue in_turn × (variant_count shapes ≡ number) × AreSomeVariants number
+
+-- the variants are as many as enums have, and each has a payload's shape
+abbrev pub AreCounted : (number count : ℕ) → Shapes → Type 0
+AreCounted number count shapes = (count ≡ number) × (variant_count shapes ≡ number) × AreSomeVariants number

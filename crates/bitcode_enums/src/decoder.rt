@@ -1,100 +1,137 @@
 //! The decoder of enums: all variants are read, and then the payloads of each.
-ghost use Rattle.std.specs.Prelude.{◌≡◌, ◌+◌};
-ghost use Rattle.bitcode_enums.specs.Reading.{VariantsFault};
-ghost use Rattle.bitcode_enums.specs.Variants.{AreNumbered};
-ghost use Rattle.bitcode_parts.specs.Payloads.{choices_of};
+ghost use Rattle.std.specs.Prelude.{◌≡◌, ℕ, ◌+◌, ◌<◌, ◌≤◌, Bool, List, length, IsTrue, IsOk, IfOk, OnOk, IfErr, OnErr};
+ghost use Rattle.bitcode_columns.specs.declared.error.Reason.{Reason};
+ghost use Rattle.bitcode_columns.specs.Reading.{IsEndOf};
+ghost use Rattle.bitcode_enums.specs.Reading.{HoldsNone, TakesPayload, CountsEach, VariantsFault};
+ghost use Rattle.bitcode_enums.specs.Variants.{AreCounted};
+ghost use Rattle.bitcode_parts.specs.Payloads.{payloads_of, choices_of, ReadsPayloads, IsPayloadsRefusal};
 ghost use Rattle.bitcode_parts.specs.Variants.{variants_left, variants_owned};
 ghost use Rattle.bitcode_shapes.specs.Choices.{MakesChoice};
 ghost use Rattle.bitcode_shapes.specs.Datum.{Datum};
-ghost use Rattle.bitcode_shapes.specs.Shape.{choice_shape};
+ghost use Rattle.bitcode_shapes.specs.Shape.{Shapes, choice_shape, variant_count};
 ghost use Rattle.std.proofs.Common.{sym};
 
-use crate::data::PayloadData;
 use crate::variant::Numbered;
 use bitcode_coder::coder::{Decoder, HoldsData, View};
-use bitcode_columns::error::Error;
+use bitcode_columns::error::{Error, Reason};
 use bitcode_parts::choices::variant::VariantDecoder;
 use bitcode_shapes::shaped::{Made, Shaped};
 use std::alloc::Global;
-use std::marker::PhantomData;
 
-/// An enum of `N` variants whose values are made of the payloads `D`, which name its variants as it does itself.
-///
-/// ```
-/// impl<'a> DecodeEnum<'a, 2, <Variants as HasPayloadDecoder<'a, Shot>>::Decoder> for Shot {
-///     fn numbered(_data: &<Variants as HasPayloadDecoder<'a, Shot>>::Decoder) {}
-///
-///     ghost read = { (refl, λ d t h. h) };
-/// }
-/// ```
-pub trait DecodeEnum<'a, const N: usize, D: PayloadData<'a, Self>>: Numbered + Made {
+/// An enum of `N` variants that names the payloads that its values are made of, read from an input, and passes on to them.
+pub trait ReadsEnum<'a, const N: usize>: Numbered + Made {
+    /// The payloads that values are made of.
+    type Payloads;
+
+    // the shapes of the payloads
+    ghost shapes: { Shapes };
+
+    // the payloads of each variant that are left to take
+    ghost left: { Self.Payloads → List (List Datum) };
+
+    // how many entries they have memory of their own for
+    ghost owned: { Self.Payloads → ℕ };
+
+    // the value is made of the variant and the datum
+    ghost payload_makes: { ℕ → Datum → Self → Type 0 };
+
+    // making a value takes no memory
+    ghost makes_free: { Bool };
+
+    // as of `PayloadData`
+    ghost faults: { Reason → ℕ → List ℕ → List ℕ → Type 0 };
+
+    /// Holds nothing. Takes no memory.
+    fn new_payloads(alloc: Global) -> Self::Payloads
+        ensures held { HoldsNone (left result) }
+        ensures owned { owned result ≡ 0 };
+
+    /// Reads the payloads of the variants, of which there are so many each.
+    ///
+    /// A refusal names what is first at fault.
+    fn populate_payloads(
+        payloads: &mut Self::Payloads,
+        input: &mut &'a [u8],
+        counts: &[usize],
+    ) -> Result<(), Error>
+        requires { variant_count shapes ≤ length counts.now }
+        ensures read { (variants : List ℕ) → CountsEach variants counts.now → OnOk result (ReadsPayloads shapes 0 variants input.old.now (left payloads.new) input.new.now) }
+        ensures refused { (variants : List ℕ) → CountsEach variants counts.now → IfErr result (λ e. IsPayloadsRefusal shapes 0 variants e.reason input.old.now) }
+        ensures exact { (variants : List ℕ) → CountsEach variants counts.now → IfErr result (λ e. faults e.reason 0 variants input.old.now) }
+        ensures rest { OnErr result (IsEndOf input.old.now input.new.now) };
+
+    /// Makes a value of a variant and of the next payload of that variant. One is left.
+    ///
+    /// `out of memory` is its only refusal.
+    fn decode_payload(payloads: &mut Self::Payloads, variant: u8) -> Result<Self, Error>
+        requires { 0 < length (payloads_of variant (left payloads.old)) }
+        ensures made { IfOk result (λ t. TakesPayload payload_makes t variant (left payloads.old) (left payloads.new)) }
+        ensures refused { IfErr result (λ e. e.reason ≡ Reason.OutOfMemory) }
+        ensures free { IsTrue makes_free → IsOk result };
+
+    /// Lets the payloads go.
+    fn drop_payloads(payloads: Self::Payloads);
+
     /// The payloads are those of so many variants.
-    fn numbered(data: &D)
-        ensures { AreNumbered N Self.Numbered.count D.first D.in_turn D.shapes };
+    fn counted()
+        ensures { AreCounted N Self.Numbered.count shapes };
 
-    ghost read: { (Self.Shaped.shape ≡ choice_shape D.shapes) × ((d : Datum) (t : Self) → MakesChoice D.makes d t → Self.Made.makes d t) };
+    ghost read: { (Self.Shaped.shape ≡ choice_shape shapes) × ((d : Datum) (t : Self) → MakesChoice payload_makes d t → Self.Made.makes d t) };
 }
 
 /// The decoder of an enum of `N` variants, 2 to 256: it reads the variants, and then the payloads of each.
 ///
 /// ```
-/// let mut shots: EnumDecoder<2, Shot, FirstOrDecoder<Fields0<0>, EmptyCoder, FirstOrDecoder<Fields1<1, u8>, U8Decoder, NoMoreDecoder<2>>>> =
-///     EnumDecoder::new(alloc);
+/// let mut shots: EnumDecoder<2, Shot> = EnumDecoder::new(alloc);
 /// shots.populate(&mut input, 1)?; // of [1, 7]
 /// let first: Shot = shots.decode()?; // Shot::Hit(7)
 /// ```
-pub struct EnumDecoder<'a, const N: usize, T, D> {
+pub struct EnumDecoder<'a, const N: usize, T: ReadsEnum<'a, N>> {
     variants: VariantDecoder<'a, N, false>,
-    payloads: D,
-    of: PhantomData<T>,
+    payloads: T::Payloads,
 }
 
-impl<'a, const N: usize, T, D: Drop> Drop for EnumDecoder<'a, N, T, D> {
+impl<'a, const N: usize, T: ReadsEnum<'a, N>> Drop for EnumDecoder<'a, N, T> {
     fn drop(self) {
         let EnumDecoder {
             variants: _,
-            payloads: _,
-            of: _,
+            payloads,
         } = self;
+        T::drop_payloads(payloads);
     }
 }
 
-impl<'a, const N: usize, T: Numbered, D: PayloadData<'a, T>> HoldsData
-    for EnumDecoder<'a, N, T, D> {
-    ghost shape = { choice_shape D.shapes };
+impl<'a, const N: usize, T: ReadsEnum<'a, N>> HoldsData for EnumDecoder<'a, N, T> {
+    ghost shape = { choice_shape T.shapes };
 
-    ghost held = { λ d. choices_of (variants_left d.variants) (D.lists d.payloads) };
+    ghost held = { λ d. choices_of (variants_left d.variants) (T.left d.payloads) };
 
-    ghost owned = { λ d. variants_owned d.variants + D.owned d.payloads };
+    ghost owned = { λ d. variants_owned d.variants + T.owned d.payloads };
 }
 
-impl<'a, const N: usize, T: DecodeEnum<'a, N, D>, D: PayloadData<'a, T>> View<'a>
-    for EnumDecoder<'a, N, T, D> {
-    ghost faults = { VariantsFault N D.faults };
+impl<'a, const N: usize, T: ReadsEnum<'a, N>> View<'a> for EnumDecoder<'a, N, T> {
+    ghost faults = { VariantsFault N T.faults };
 
     fn new(alloc: Global) -> Self {
         EnumDecoder {
             variants: VariantDecoder::new(alloc),
-            payloads: D::new(alloc),
-            of: PhantomData,
+            payloads: T::new_payloads(alloc),
         }
     }
 
     fn populate(&mut self, input: &mut &'a [u8], k: usize) -> Result<(), Error> {
-        T::numbered(&self.payloads);
+        T::counted();
         self.variants.populate(input, k)?;
-        self.payloads.populate(input, self.variants.counts(), 0)
+        T::populate_payloads(&mut self.payloads, input, self.variants.counts())
     }
 }
 
-impl<'a, const N: usize, T: DecodeEnum<'a, N, D>, D: PayloadData<'a, T>> Decoder<T>
-    for EnumDecoder<'a, N, T, D> {
-    ghost makes_free = { D.makes_free };
+impl<'a, const N: usize, T: ReadsEnum<'a, N>> Decoder<T> for EnumDecoder<'a, N, T> {
+    ghost makes_free = { T.makes_free };
 
     fn decode(&mut self) -> Result<T, Error> {
-        T::numbered(&self.payloads);
         let variant = self.variants.decode();
-        self.payloads.decode_payload(variant)
+        T::decode_payload(&mut self.payloads, variant)
     }
 
     ghost same_shape = { sym T.read.0 };

@@ -9,22 +9,24 @@ use Rattle.bitcode_enums.proofs.encoder.EnumEncoderEncoder.encode.Goals as goal
 
 pub returns-clause-joined : goal.returns-clause-joined
 returns-clause-joined g c =
-    let written = g.met.T.EncodeEnum.written in
-    let from = written.0.1 in
-    let number : c.index.result ≡ 0 + g.S.PayloadColumns.index c.args.t.now = omega (arith, from, c.index.ensures, c.encode_payload.ensures.number) in
+    let t = g.T.WritesEnum in
+    let counted = g.met.T.WritesEnum.counted in
+    let written = g.met.T.WritesEnum.written in
+    let number : c.index.result ≡ 0 + t.place c.args.t.now = omega (arith, c.index.ensures, c.encode_payload.ensures.number) in
     on_ok_weaker c.encode_payload.result
-    (λ joined. joins_as_variant (λ t. t) g.T.Shaped.lists g.S.PayloadColumns.lists g.T.Shaped.shape g.S.PayloadColumns.shapes written.1 written.2 c.args.t.now _ _
-    (enum_joins g.S.PayloadColumns.index g.S.PayloadColumns.lists c.args.t.now c.index.result number g.S.PayloadColumns.shapes g.row.N written.0.3
+    (λ joined. joins_as_variant (λ t. t) g.T.Shaped.lists t.payload_lists g.T.Shaped.shape t.shapes written.0 written.1 c.args.t.now _ _
+    (enum_joins t.place t.payload_lists c.args.t.now c.index.result number t.shapes g.row.N counted.1
     (written_variants c.args.self.now.variants) _ _ _ c.encode.ensures.written joined))
     c.encode_payload.ensures.joined
 
 pub returns-clause-refused : goal.returns-clause-refused
 returns-clause-refused g c =
-    let written = g.met.T.EncodeEnum.written in
-    let from = written.0.1 in
-    let number : c.index.result ≡ 0 + g.S.PayloadColumns.index c.args.t.now = omega (arith, from, c.index.ensures, c.encode_payload.ensures.number) in
+    let t = g.T.WritesEnum in
+    let counted = g.met.T.WritesEnum.counted in
+    let written = g.met.T.WritesEnum.written in
+    let number : c.index.result ≡ 0 + t.place c.args.t.now = omega (arith, c.index.ensures, c.encode_payload.ensures.number) in
     refused_weaker (λ (e : Error). e.reason) c.encode_payload.result
-    (λ overflows. overflows_as_variant (λ t. t) g.T.Shaped.lists g.S.PayloadColumns.lists g.T.Shaped.shape g.S.PayloadColumns.shapes written.1 written.2 c.args.t.now _
-    (enum_overflows g.S.PayloadColumns.index g.S.PayloadColumns.lists c.args.t.now c.index.result number g.S.PayloadColumns.shapes g.row.N written.0.3
+    (λ overflows. overflows_as_variant (λ t. t) g.T.Shaped.lists t.payload_lists g.T.Shaped.shape t.shapes written.0 written.1 c.args.t.now _
+    (enum_overflows t.place t.payload_lists c.args.t.now c.index.result number t.shapes g.row.N counted.1
     (written_variants c.args.self.now.variants) _ overflows))
     c.encode_payload.ensures.refused
