@@ -73,7 +73,7 @@ pub trait ReadsEnum<'a, const N: usize>: Numbered + Made {
     fn drop_payloads(payloads: Self::Payloads);
 
     /// The payloads are those of so many variants.
-    fn counted()
+    fn counted(payloads: &Self::Payloads)
         ensures { AreCounted N Self.Numbered.count shapes };
 
     ghost read: { (Self.Shaped.shape ≡ choice_shape shapes) × ((d : Datum) (t : Self) → MakesChoice payload_makes d t → Self.Made.makes d t) };
@@ -120,7 +120,7 @@ impl<'a, const N: usize, T: ReadsEnum<'a, N>> View<'a> for EnumDecoder<'a, N, T>
     }
 
     fn populate(&mut self, input: &mut &'a [u8], k: usize) -> Result<(), Error> {
-        T::counted();
+        T::counted(&self.payloads);
         self.variants.populate(input, k)?;
         T::populate_payloads(&mut self.payloads, input, self.variants.counts())
     }

@@ -1,3 +1,4 @@
 //! A user.
 #![tactic(auto)]
+
 pub mod event;
