@@ -248,8 +248,20 @@ impl FromParts for Event {{
 
 """
 out += {"leaf": LEAF, "laws": LEAF, "held": HELD, "stands": STANDS}[FORM_OF]
-out += f"""impl WritesEnum<{n}> for Event {{
-    type Columns = Columns;
+out += f"""/// The columns that payloads of `Event` are written to.
+#[derive(Drop)]
+pub struct EventColumns {{
+    columns: Columns,
+}}
+
+/// The payloads that values of `Event` are made of.
+#[derive(Drop)]
+pub struct EventPayloads<'a> {{
+    payloads: Data<'a>,
+}}
+
+impl WritesEnum<{n}> for Event {{
+    type Columns = EventColumns;
 
     ghost shapes = {{ {C}.shapes }};
 
@@ -257,26 +269,26 @@ out += f"""impl WritesEnum<{n}> for Event {{
 
     ghost payload_lists = {{ {C}.lists }};
 
-    ghost columns = {{ {C}.columns }};
+    ghost columns = {{ λ c. {C}.columns c.columns }};
 
-    ghost capacity = {{ {C}.capacity }};
+    ghost capacity = {{ λ c. {C}.capacity c.columns }};
 
-    fn new_columns(alloc: Global) -> Columns {{
-        PayloadColumns::<Event>::new(alloc)
+    fn new_columns(alloc: Global) -> EventColumns {{
+        EventColumns {{ columns: PayloadColumns::<Event>::new(alloc) }}
     }}
 
-    fn collect_columns(payloads: &mut Columns, out: &mut Vec<u8>) -> Result<(), Error> {{
-        PayloadColumns::<Event>::collect_into(payloads, out)
+    fn collect_columns(to: &mut EventColumns, out: &mut Vec<u8>) -> Result<(), Error> {{
+        PayloadColumns::<Event>::collect_into(&mut to.columns, out)
     }}
 
-    fn clear_columns(payloads: &mut Columns) {{
-        PayloadColumns::<Event>::clear(payloads);
+    fn clear_columns(to: &mut EventColumns) {{
+        PayloadColumns::<Event>::clear(&mut to.columns);
     }}
 
-    fn drop_columns(_payloads: Columns) {{}}
+    fn drop_columns(_to: EventColumns) {{}}
 
-    fn encode_payload(&self, payloads: &mut Columns) -> Result<(), Error> {{
-        payloads.encode_payload(self)
+    fn encode_payload(&self, to: &mut EventColumns) -> Result<(), Error> {{
+        to.columns.encode_payload(self)
     }}
 
     ghost counted = {{ (refl, refl, refl) }};
@@ -287,13 +299,13 @@ out += f"""impl WritesEnum<{n}> for Event {{
 }}
 
 impl<'a> ReadsEnum<'a, {n}> for Event {{
-    type Payloads = Data<'a>;
+    type Payloads = EventPayloads<'a>;
 
     ghost shapes = {{ {D}.shapes }};
 
-    ghost left = {{ {D}.lists }};
+    ghost left = {{ λ p. {D}.lists p.payloads }};
 
-    ghost owned = {{ {D}.owned }};
+    ghost owned = {{ λ p. {D}.owned p.payloads }};
 
     ghost payload_makes = {{ {D}.makes }};
 
@@ -301,25 +313,25 @@ impl<'a> ReadsEnum<'a, {n}> for Event {{
 
     ghost faults = {{ {D}.faults }};
 
-    fn new_payloads(alloc: Global) -> Data<'a> {{
-        PayloadData::<'a, Event>::new(alloc)
+    fn new_payloads(alloc: Global) -> EventPayloads<'a> {{
+        EventPayloads {{ payloads: PayloadData::<'a, Event>::new(alloc) }}
     }}
 
     fn populate_payloads(
-        payloads: &mut Data<'a>,
+        of: &mut EventPayloads<'a>,
         input: &mut &'a [u8],
         counts: &[usize],
     ) -> Result<(), Error> {{
-        PayloadData::<'a, Event>::populate(payloads, input, counts, 0)
+        PayloadData::<'a, Event>::populate(&mut of.payloads, input, counts, 0)
     }}
 
-    fn decode_payload(payloads: &mut Data<'a>, variant: u8) -> Result<Event, Error> {{
-        payloads.decode_payload(variant)
+    fn decode_payload(of: &mut EventPayloads<'a>, variant: u8) -> Result<Event, Error> {{
+        of.payloads.decode_payload(variant)
     }}
 
-    fn drop_payloads(_payloads: Data<'a>) {{}}
+    fn drop_payloads(_of: EventPayloads<'a>) {{}}
 
-    fn counted(_payloads: &Data<'a>) {{}}
+    fn counted(_of: &EventPayloads<'a>) {{}}
 
     ghost read = {{ (refl, λ d t h. h) }};
 }}

@@ -170,8 +170,20 @@ impl Made for Event {
     ghost makeable = { choice_makeable (variant_makeable (λ t. unit_numbered 0 (⟦<Event as Numbered>⟧.index t)) (unit_found 0 ⟦<Event as Numbered>⟧.index Event.V0 refl) (unit_makeable (record {})) (variant_makeable v1.here-law v1.of_payload-law (pair_makeable _ _ _ _ _ _ _ _ _ _ (unsigned_makeable 8) (text_makeable string_bytes string_built)) (variant_makeable v2.here-law v2.of_payload-law (signed_makeable 1) (variant_makeable v3.here-law v3.of_payload-law (pair_makeable _ _ _ _ _ _ _ _ _ _ (option_makeable (unsigned_makeable 2)) (unsigned_makeable 4)) none_makeable)))).makeable };
 }
 
+/// The columns that payloads of `Event` are written to.
+#[derive(Drop)]
+pub struct EventColumns {
+    columns: Columns,
+}
+
+/// The payloads that values of `Event` are made of.
+#[derive(Drop)]
+pub struct EventPayloads<'a> {
+    payloads: Data<'a>,
+}
+
 impl WritesEnum<4> for Event {
-    type Columns = Columns;
+    type Columns = EventColumns;
 
     ghost shapes = { ⟦<Columns as PayloadColumns<Event>>⟧.shapes };
 
@@ -179,26 +191,28 @@ impl WritesEnum<4> for Event {
 
     ghost payload_lists = { ⟦<Columns as PayloadColumns<Event>>⟧.lists };
 
-    ghost columns = { ⟦<Columns as PayloadColumns<Event>>⟧.columns };
+    ghost columns = { λ c. ⟦<Columns as PayloadColumns<Event>>⟧.columns c.columns };
 
-    ghost capacity = { ⟦<Columns as PayloadColumns<Event>>⟧.capacity };
+    ghost capacity = { λ c. ⟦<Columns as PayloadColumns<Event>>⟧.capacity c.columns };
 
-    fn new_columns(alloc: Global) -> Columns {
-        PayloadColumns::<Event>::new(alloc)
+    fn new_columns(alloc: Global) -> EventColumns {
+        EventColumns {
+            columns: PayloadColumns::<Event>::new(alloc),
+        }
     }
 
-    fn collect_columns(payloads: &mut Columns, out: &mut Vec<u8>) -> Result<(), Error> {
-        PayloadColumns::<Event>::collect_into(payloads, out)
+    fn collect_columns(to: &mut EventColumns, out: &mut Vec<u8>) -> Result<(), Error> {
+        PayloadColumns::<Event>::collect_into(&mut to.columns, out)
     }
 
-    fn clear_columns(payloads: &mut Columns) {
-        PayloadColumns::<Event>::clear(payloads);
+    fn clear_columns(to: &mut EventColumns) {
+        PayloadColumns::<Event>::clear(&mut to.columns);
     }
 
-    fn drop_columns(_payloads: Columns) {}
+    fn drop_columns(_to: EventColumns) {}
 
-    fn encode_payload(&self, payloads: &mut Columns) -> Result<(), Error> {
-        payloads.encode_payload(self)
+    fn encode_payload(&self, to: &mut EventColumns) -> Result<(), Error> {
+        to.columns.encode_payload(self)
     }
 
     ghost counted = { (refl, refl, refl) };
@@ -209,13 +223,13 @@ impl WritesEnum<4> for Event {
 }
 
 impl<'a> ReadsEnum<'a, 4> for Event {
-    type Payloads = Data<'a>;
+    type Payloads = EventPayloads<'a>;
 
     ghost shapes = { ⟦<Data<'a> as PayloadData<'a, Event>>⟧.shapes };
 
-    ghost left = { ⟦<Data<'a> as PayloadData<'a, Event>>⟧.lists };
+    ghost left = { λ p. ⟦<Data<'a> as PayloadData<'a, Event>>⟧.lists p.payloads };
 
-    ghost owned = { ⟦<Data<'a> as PayloadData<'a, Event>>⟧.owned };
+    ghost owned = { λ p. ⟦<Data<'a> as PayloadData<'a, Event>>⟧.owned p.payloads };
 
     ghost payload_makes = { ⟦<Data<'a> as PayloadData<'a, Event>>⟧.makes };
 
@@ -223,25 +237,27 @@ impl<'a> ReadsEnum<'a, 4> for Event {
 
     ghost faults = { ⟦<Data<'a> as PayloadData<'a, Event>>⟧.faults };
 
-    fn new_payloads(alloc: Global) -> Data<'a> {
-        PayloadData::<'a, Event>::new(alloc)
+    fn new_payloads(alloc: Global) -> EventPayloads<'a> {
+        EventPayloads {
+            payloads: PayloadData::<'a, Event>::new(alloc),
+        }
     }
 
     fn populate_payloads(
-        payloads: &mut Data<'a>,
+        of: &mut EventPayloads<'a>,
         input: &mut &'a [u8],
         counts: &[usize],
     ) -> Result<(), Error> {
-        PayloadData::<'a, Event>::populate(payloads, input, counts, 0)
+        PayloadData::<'a, Event>::populate(&mut of.payloads, input, counts, 0)
     }
 
-    fn decode_payload(payloads: &mut Data<'a>, variant: u8) -> Result<Event, Error> {
-        payloads.decode_payload(variant)
+    fn decode_payload(of: &mut EventPayloads<'a>, variant: u8) -> Result<Event, Error> {
+        of.payloads.decode_payload(variant)
     }
 
-    fn drop_payloads(_payloads: Data<'a>) {}
+    fn drop_payloads(_of: EventPayloads<'a>) {}
 
-    fn counted(_payloads: &Data<'a>) {}
+    fn counted(_of: &EventPayloads<'a>) {}
 
     ghost read = { (refl, λ d t h. h) };
 }
