@@ -47,7 +47,7 @@ use bitcode_columns::error::Error;
 use bitcode_derive::derive::{{DecodeOwned, HasDecoder, HasEncoder}};
 use bitcode_enums::columns::PayloadColumns;
 use bitcode_enums::data::PayloadData;
-use bitcode_enums::decoder::{{EnumDecoder, ReadsEnum}};
+use bitcode_enums::decoder::{{EnumDecoder, ReadForm, ReadsEnum}};
 use bitcode_enums::encoder::{{EnumEncoder, WritesEnum}};
 use bitcode_enums::named::{{HasPayloadDecoder, HasPayloadEncoder}};
 use bitcode_enums::variant::Numbered;
@@ -125,6 +125,7 @@ impl Variant{len(p)}<{", ".join([str(i), *p])}> for Event {{
 """
 V = "⟦<Variants as VariantsOf<Event>>⟧"
 C = "⟦<Columns as PayloadColumns<Event>>⟧"
+S = "⟦<Data<'static> as PayloadData<'static, Event>>⟧"
 D = "⟦<Data<'a> as PayloadData<'a, Event>>⟧"
 FORM_OF = sys.argv[2] if len(sys.argv) > 2 else "held"
 LAWFUL_TYPE = {
@@ -298,20 +299,26 @@ impl WritesEnum<{n}> for Event {{
     ghost of_shapes = {{ λ c. refl }};
 }}
 
+impl ReadForm<{n}> for Event {{
+    ghost shapes = {{ {S}.shapes }};
+
+    ghost payload_makes = {{ {S}.makes }};
+
+    ghost makes_free = {{ {S}.makes_free }};
+
+    ghost faults = {{ {S}.faults }};
+
+    ghost counted = {{ (refl, refl, refl) }};
+
+    ghost read = {{ (refl, λ d t h. h) }};
+}}
+
 impl<'a> ReadsEnum<'a, {n}> for Event {{
     type Payloads = EventPayloads<'a>;
-
-    ghost shapes = {{ {D}.shapes }};
 
     ghost left = {{ λ p. {D}.lists p.payloads }};
 
     ghost owned = {{ λ p. {D}.owned p.payloads }};
-
-    ghost payload_makes = {{ {D}.makes }};
-
-    ghost makes_free = {{ {D}.makes_free }};
-
-    ghost faults = {{ {D}.faults }};
 
     fn new_payloads(alloc: Global) -> EventPayloads<'a> {{
         EventPayloads {{ payloads: PayloadData::<'a, Event>::new(alloc) }}
@@ -330,10 +337,6 @@ impl<'a> ReadsEnum<'a, {n}> for Event {{
     }}
 
     fn drop_payloads(_of: EventPayloads<'a>) {{}}
-
-    fn counted(_of: &EventPayloads<'a>) {{}}
-
-    ghost read = {{ (refl, λ d t h. h) }};
 }}
 
 impl HasEncoder for Event {{

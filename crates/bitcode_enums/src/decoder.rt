@@ -18,19 +18,10 @@ use bitcode_parts::choices::variant::VariantDecoder;
 use bitcode_shapes::shaped::{Made, Shaped};
 use std::alloc::Global;
 
-/// An enum of `N` variants that names the payloads that its values are made of, read from an input, and passes on to them.
-pub trait ReadsEnum<'a, const N: usize>: Numbered + Made {
-    /// The payloads that values are made of.
-    type Payloads;
-
+/// What the payloads of an enum say whose values are read, whatever input they are read from.
+pub trait ReadForm<const N: usize>: Numbered + Made {
     // the shapes of the payloads
     ghost shapes: { Shapes };
-
-    // the payloads of each variant that are left to take
-    ghost left: { Self.Payloads → List (List Datum) };
-
-    // how many entries they have memory of their own for
-    ghost owned: { Self.Payloads → ℕ };
 
     // the value is made of the variant and the datum
     ghost payload_makes: { ℕ → Datum → Self → Type 0 };
@@ -40,6 +31,25 @@ pub trait ReadsEnum<'a, const N: usize>: Numbered + Made {
 
     // as of `PayloadData`
     ghost faults: { Reason → ℕ → List ℕ → List ℕ → Type 0 };
+
+    /// Nothing: what is below is a law.
+    fn stated() {}
+
+    ghost counted: { AreCounted N Self.Numbered.count shapes };
+
+    ghost read: { (Self.Shaped.shape ≡ choice_shape shapes) × ((d : Datum) (t : Self) → MakesChoice payload_makes d t → Self.Made.makes d t) };
+}
+
+/// An enum of `N` variants that names the payloads that its values are made of, read from an input, and passes on to them.
+pub trait ReadsEnum<'a, const N: usize>: ReadForm<N> {
+    /// The payloads that values are made of.
+    type Payloads;
+
+    // the payloads of each variant that are left to take
+    ghost left: { Self.Payloads → List (List Datum) };
+
+    // how many entries they have memory of their own for
+    ghost owned: { Self.Payloads → ℕ };
 
     /// Holds nothing. Takes no memory.
     fn new_payloads(alloc: Global) -> Self::Payloads
@@ -54,10 +64,10 @@ pub trait ReadsEnum<'a, const N: usize>: Numbered + Made {
         input: &mut &'a [u8],
         counts: &[usize],
     ) -> Result<(), Error>
-        requires { variant_count shapes ≤ length counts.now }
-        ensures read { (variants : List ℕ) → CountsEach variants counts.now → OnOk result (ReadsPayloads shapes 0 variants input.old.now (left payloads.new) input.new.now) }
-        ensures refused { (variants : List ℕ) → CountsEach variants counts.now → IfErr result (λ e. IsPayloadsRefusal shapes 0 variants e.reason input.old.now) }
-        ensures exact { (variants : List ℕ) → CountsEach variants counts.now → IfErr result (λ e. faults e.reason 0 variants input.old.now) }
+        requires { variant_count Self.shapes ≤ length counts.now }
+        ensures read { (variants : List ℕ) → CountsEach variants counts.now → OnOk result (ReadsPayloads Self.shapes 0 variants input.old.now (left payloads.new) input.new.now) }
+        ensures refused { (variants : List ℕ) → CountsEach variants counts.now → IfErr result (λ e. IsPayloadsRefusal Self.shapes 0 variants e.reason input.old.now) }
+        ensures exact { (variants : List ℕ) → CountsEach variants counts.now → IfErr result (λ e. Self.faults e.reason 0 variants input.old.now) }
         ensures rest { OnErr result (IsEndOf input.old.now input.new.now) };
 
     /// Makes a value of a variant and of the next payload of that variant. One is left.
@@ -65,18 +75,12 @@ pub trait ReadsEnum<'a, const N: usize>: Numbered + Made {
     /// `out of memory` is its only refusal.
     fn decode_payload(payloads: &mut Self::Payloads, variant: u8) -> Result<Self, Error>
         requires { 0 < length (payloads_of variant (left payloads.old)) }
-        ensures made { IfOk result (λ t. TakesPayload payload_makes t variant (left payloads.old) (left payloads.new)) }
+        ensures made { IfOk result (λ t. TakesPayload Self.payload_makes t variant (left payloads.old) (left payloads.new)) }
         ensures refused { IfErr result (λ e. e.reason ≡ Reason.OutOfMemory) }
-        ensures free { IsTrue makes_free → IsOk result };
+        ensures free { IsTrue Self.makes_free → IsOk result };
 
     /// Lets the payloads go.
     fn drop_payloads(payloads: Self::Payloads);
-
-    /// The payloads are those of so many variants.
-    fn counted(payloads: &Self::Payloads)
-        ensures { AreCounted N Self.Numbered.count shapes };
-
-    ghost read: { (Self.Shaped.shape ≡ choice_shape shapes) × ((d : Datum) (t : Self) → MakesChoice payload_makes d t → Self.Made.makes d t) };
 }
 
 /// The decoder of an enum of `N` variants, 2 to 256: it reads the variants, and then the payloads of each.
@@ -120,7 +124,6 @@ impl<'a, const N: usize, T: ReadsEnum<'a, N>> View<'a> for EnumDecoder<'a, N, T>
     }
 
     fn populate(&mut self, input: &mut &'a [u8], k: usize) -> Result<(), Error> {
-        T::counted(&self.payloads);
         self.variants.populate(input, k)?;
         T::populate_payloads(&mut self.payloads, input, self.variants.counts())
     }

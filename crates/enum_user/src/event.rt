@@ -10,7 +10,7 @@ use bitcode_derive::derive::{DecodeOwned, HasDecoder, HasEncoder};
 use bitcode_derive::whole::{decode, encode};
 use bitcode_enums::columns::PayloadColumns;
 use bitcode_enums::data::PayloadData;
-use bitcode_enums::decoder::{EnumDecoder, ReadsEnum};
+use bitcode_enums::decoder::{EnumDecoder, ReadForm, ReadsEnum};
 use bitcode_enums::encoder::{EnumEncoder, WritesEnum};
 use bitcode_enums::named::{HasPayloadDecoder, HasPayloadEncoder};
 use bitcode_enums::variant::Numbered;
@@ -222,20 +222,26 @@ impl WritesEnum<4> for Event {
     ghost of_shapes = { λ c. refl };
 }
 
+impl ReadForm<4> for Event {
+    ghost shapes = { ⟦<Data<'static> as PayloadData<'static, Event>>⟧.shapes };
+
+    ghost payload_makes = { ⟦<Data<'static> as PayloadData<'static, Event>>⟧.makes };
+
+    ghost makes_free = { ⟦<Data<'static> as PayloadData<'static, Event>>⟧.makes_free };
+
+    ghost faults = { ⟦<Data<'static> as PayloadData<'static, Event>>⟧.faults };
+
+    ghost counted = { (refl, refl, refl) };
+
+    ghost read = { (refl, λ d t h. h) };
+}
+
 impl<'a> ReadsEnum<'a, 4> for Event {
     type Payloads = EventPayloads<'a>;
-
-    ghost shapes = { ⟦<Data<'a> as PayloadData<'a, Event>>⟧.shapes };
 
     ghost left = { λ p. ⟦<Data<'a> as PayloadData<'a, Event>>⟧.lists p.payloads };
 
     ghost owned = { λ p. ⟦<Data<'a> as PayloadData<'a, Event>>⟧.owned p.payloads };
-
-    ghost payload_makes = { ⟦<Data<'a> as PayloadData<'a, Event>>⟧.makes };
-
-    ghost makes_free = { ⟦<Data<'a> as PayloadData<'a, Event>>⟧.makes_free };
-
-    ghost faults = { ⟦<Data<'a> as PayloadData<'a, Event>>⟧.faults };
 
     fn new_payloads(alloc: Global) -> EventPayloads<'a> {
         EventPayloads {
@@ -256,10 +262,6 @@ impl<'a> ReadsEnum<'a, 4> for Event {
     }
 
     fn drop_payloads(_of: EventPayloads<'a>) {}
-
-    fn counted(_of: &EventPayloads<'a>) {}
-
-    ghost read = { (refl, λ d t h. h) };
 }
 
 impl HasEncoder for Event {

@@ -9,22 +9,22 @@ pub returns-in_err-populate-clause-refused : goal.returns-in_err-populate-clause
 returns-in_err-populate-clause-refused g c =
     let refused = err_from_is_err_and c.from_residual.result c.from_residual.ensures.1 in
     rw (refused.1, refused.2) (
-    refuses_enum_variants g.T.ReadsEnum.shapes g.row.N c.args.k c.args.input.now.now
-    c.counted.ensures.1 _ c.in_err-populate.ensures.refused
+    refuses_enum_variants g.T.ReadForm.shapes g.row.N c.args.k c.args.input.now.now
+    g.met.T.ReadForm.counted.1 _ c.in_err-populate.ensures.refused
     )
 
 pub returns-clause-read : goal.returns-clause-read
 returns-clause-read g c =
     on_ok_weaker c.populate_payloads.result
-    (reads_enum g.T.ReadsEnum.shapes g.row.N c.args.k c.args.input.now.now
-    c.counted.ensures.1 _ _ c.in_ok-populate.ensures.read _ _)
+    (reads_enum g.T.ReadForm.shapes g.row.N c.args.k c.args.input.now.now
+    g.met.T.ReadForm.counted.1 _ _ c.in_ok-populate.ensures.read _ _)
     (c.populate_payloads.ensures.read _ (counts_each _ _ _ _ (c.in_ok-populate.ensures.counts refl) c.counts.ensures))
 
 pub returns-clause-refused : goal.returns-clause-refused
 returns-clause-refused g c =
     IfErr-weaker c.populate_payloads.result _ _
-    (λ e. refuses_enum_payloads g.T.ReadsEnum.shapes g.row.N c.args.k c.args.input.now.now
-    c.counted.ensures.1 _ _ c.in_ok-populate.ensures.read e.reason)
+    (λ e. refuses_enum_payloads g.T.ReadForm.shapes g.row.N c.args.k c.args.input.now.now
+    g.met.T.ReadForm.counted.1 _ _ c.in_ok-populate.ensures.read e.reason)
     (c.populate_payloads.ensures.refused _ (counts_each _ _ _ _ (c.in_ok-populate.ensures.counts refl) c.counts.ensures))
 
 pub returns-clause-exact : goal.returns-clause-exact
