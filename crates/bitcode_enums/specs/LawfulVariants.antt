@@ -60,3 +60,9 @@ pub some_choices_lawful : {T : Type 0} {shapes : Shapes} {is_value : T → Type 
     → Lawful (choice_shape shapes) is_value (ListsChoice lists) same order
 some_choices_lawful {count = count} is some variants =
     choice_lawful (subst (λ n. 2 ≤ n) (sym is) (at_least_two count some)) (subst (λ n. n ≤ 256) (sym is) (at_most_256 count some)) variants
+
+-- ---- what holds a value by itself
+
+-- it lists what the value lists
+pub held_lists : {H T : Type 0} (value : H → T) (lists : T → ℕ → Datum → Type 0) (h : H) (d : Datum) → ListsChoice (λ g i e. lists (value g) i e) h d → ListsChoice lists (value h) d
+held_lists value lists h d listed = record { index = listed.index; payload = listed.payload; is = listed.is; lists_payload = listed.lists_payload }

@@ -4,3 +4,6 @@ pub mod Writing
 pub mod WritingLaws
 pub mod Reading
 pub mod ReadingLaws
+pub mod Numbered
+pub mod NumberedLaws
+pub mod VariantsOf

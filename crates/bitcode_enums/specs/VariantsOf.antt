@@ -1,0 +1,132 @@
+-- What an enum says of its variants: of the last one, of the first beside the rest, and of a type whose values stand for payloads.
+use Rattle.std.proofs.Common.{◌≡◌, ℕ, ◌<◌, Bool, refl}
+use Rattle.std.specs.Prelude.{◌&&◌, List}
+use Rattle.bitcode_shapes.specs.Datum.{Datum}
+use Rattle.bitcode_shapes.specs.Shape.{Shape, Shapes, no_shapes, shape_and, variant_count}
+use Rattle.bitcode_shapes.specs.Choices.{IsVariantValue, ListsLast, ListsVariant, MakesLast, MakesVariant, SameVariant}
+use Rattle.bitcode_shapes.specs.ArrayCounts.{ListsSameArrays, VariantsListSameArrays}
+use Rattle.bitcode_shapes.specs.SameArrays.{first_same_arrays, last_same_arrays}
+use Rattle.bitcode_shapes.specs.Lawful.{Lawful, Makeable}
+use Rattle.bitcode_shapes.specs.LawfulChoices.{LawfulVariants, MakeableVariants, first_lawful, first_makeable, last_lawful, last_makeable}
+use Rattle.bitcode_coder.specs.Columns.{Columns}
+use Rattle.bitcode_coder.specs.Coder.{JoinsListing, OverflowsWithListing, TakesDatum}
+use Rattle.bitcode_enums.specs.declared.variants.FirstOr.{FirstOr}
+use Rattle.bitcode_enums.specs.declared.variants.Last.{Last}
+use Rattle.bitcode_enums.specs.LawfulVariants.{below_last, below_first_or, variants_image_lawful, variants_image_makeable, variants_image_same_arrays}
+use Rattle.bitcode_enums.specs.Numbered.{shape_at, joins_either, overflows_either, takes_either}
+use Rattle.bitcode_enums.specs.NumberedLaws.{last_joined, last_overflowed, last_taken, first_or_joined, first_or_overflowed, first_or_taken, image_joined, image_overflowed, image_taken}
+use Rattle.bitcode_enums.specs.Variants.{first_or, first_or_found, index_first_or}
+
+-- a lawful type whose values are made of data
+pub record PayloadOf (T : Type 0) : Type 1 where
+  pub shape : Shape
+  pub is_value : T → Type 0
+  pub lists : T → Datum → Type 0
+  pub same : T → T → Type 0
+  pub in_order : Bool
+  pub makes : Datum → T → Type 0
+  pub lawful : Lawful shape is_value lists same in_order
+  pub makeable : Makeable shape is_value lists same makes
+  -- all listings of a value have the same numbers of arrays
+  pub same_arrays : ListsSameArrays shape is_value lists
+
+abbrev pub payload_of : {T : Type 0} {shape : Shape} {is_value : T → Type 0} {lists : T → Datum → Type 0} {same : T → T → Type 0} {in_order : Bool} {makes : Datum → T → Type 0}
+    → Lawful shape is_value lists same in_order → Makeable shape is_value lists same makes → ListsSameArrays shape is_value lists → PayloadOf T
+payload_of {shape = shape} {is_value} {lists} {same} {in_order} {makes} lawful makeable same_arrays = record {
+  shape = shape;
+  is_value = is_value;
+  lists = lists;
+  same = same;
+  in_order = in_order;
+  makes = makes;
+  lawful = lawful;
+  makeable = makeable;
+  same_arrays = same_arrays;
+}
+
+-- values of several variants: which variant one is of, what its payload holds and is made of, and how it is written and read
+pub record VariantsOf (T : Type 0) : Type 1 where
+  pub shapes : Shapes
+  pub is_value : T → Type 0
+  pub lists : T → ℕ → Datum → Type 0
+  pub same : T → T → Type 0
+  pub in_order : Bool
+  pub index : T → ℕ
+  pub makes : ℕ → Datum → T → Type 0
+  -- the payload was joined to the columns of its variant
+  pub joins : T → Columns → Columns → Type 0
+  -- with the payload some number of arrays in those columns is no length
+  pub overflows : T → Columns → Type 0
+  -- the payload was taken from the data of its variant
+  pub takes : T → List Datum → List Datum → Type 0
+  pub below : (t : T) → index t < variant_count shapes
+  pub lawful : LawfulVariants shapes is_value lists same in_order
+  pub makeable : MakeableVariants shapes is_value lists same makes
+  pub same_arrays : VariantsListSameArrays shapes is_value lists
+  pub joined : (t : T) (old new : Columns) → joins t old new → JoinsListing (λ u d. lists u (index u) d) (shape_at (index t) shapes) t old new
+  pub overflowed : (t : T) (old : Columns) → overflows t old → OverflowsWithListing (λ u d. lists u (index u) d) (shape_at (index t) shapes) t old
+  pub taken : (t : T) (old new : List Datum) → takes t old new → TakesDatum (λ d u. makes (index t) d u) t old new
+
+abbrev pub last_variant : {A : Type 0} → PayloadOf A → VariantsOf (Last A)
+last_variant a = record {
+  shapes = shape_and a.shape no_shapes;
+  is_value = λ v. a.is_value v.0;
+  lists = λ v i d. ListsLast a.lists v.0 i d;
+  same = λ v w. a.same v.0 w.0;
+  in_order = a.in_order;
+  index = λ v. 0;
+  makes = λ i d v. MakesLast a.makes i d v.0;
+  joins = λ v. JoinsListing a.lists a.shape v.0;
+  overflows = λ v. OverflowsWithListing a.lists a.shape v.0;
+  takes = λ v. TakesDatum a.makes v.0;
+  below = λ v. below_last a.shape;
+  lawful = variants_image_lawful (λ v. v.0) (last_lawful a.lawful);
+  makeable = variants_image_makeable (λ v. v.0) (λ p. (record { 0 = p }, refl)) (last_makeable a.makeable);
+  same_arrays = variants_image_same_arrays (λ v. v.0) (last_same_arrays a.same_arrays);
+  joined = last_joined (λ v. v.0);
+  overflowed = last_overflowed (λ v. v.0);
+  taken = last_taken (λ v. v.0) a.makes;
+}
+
+abbrev pub first_variant : {A R : Type 0} → PayloadOf A → VariantsOf R → VariantsOf (FirstOr A R)
+first_variant a r = record {
+  shapes = shape_and a.shape r.shapes;
+  is_value = λ v. IsVariantValue a.is_value r.is_value (first_or v);
+  lists = λ v i d. ListsVariant a.lists r.lists (first_or v) i d;
+  same = λ v w. SameVariant a.same r.same (first_or v) (first_or w);
+  in_order = a.in_order && r.in_order;
+  index = λ v. index_first_or r.index (first_or v);
+  makes = λ i d v. MakesVariant a.makes r.makes i d (first_or v);
+  joins = λ v. joins_either (λ p. JoinsListing a.lists a.shape p) r.joins (first_or v);
+  overflows = λ v. overflows_either (λ p. OverflowsWithListing a.lists a.shape p) r.overflows (first_or v);
+  takes = λ v. takes_either (λ p. TakesDatum a.makes p) r.takes (first_or v);
+  below = λ v. below_first_or a.shape r.shapes r.index r.below (first_or v);
+  lawful = variants_image_lawful first_or (first_lawful a.lawful r.lawful);
+  makeable = variants_image_makeable first_or first_or_found (first_makeable a.makeable r.makeable);
+  same_arrays = variants_image_same_arrays first_or (first_same_arrays a.same_arrays r.same_arrays);
+  joined = first_or_joined first_or a.shape r.shapes a.lists r.lists r.index r.joins r.joined;
+  overflowed = first_or_overflowed first_or a.shape r.shapes a.lists r.lists r.index r.overflows r.overflowed;
+  taken = first_or_taken first_or r.index a.makes r.makes r.takes r.taken;
+}
+
+-- a type whose values stand for such payloads, one for one
+abbrev pub variants_of : {T V : Type 0} → VariantsOf V → (payload : T → V) → ((v : V) → (t : T) × (payload t ≡ v)) → VariantsOf T
+variants_of v payload find = record {
+  shapes = v.shapes;
+  is_value = λ t. v.is_value (payload t);
+  lists = λ t i d. v.lists (payload t) i d;
+  same = λ t u. v.same (payload t) (payload u);
+  in_order = v.in_order;
+  index = λ t. v.index (payload t);
+  makes = λ i d t. v.makes i d (payload t);
+  joins = λ t. v.joins (payload t);
+  overflows = λ t. v.overflows (payload t);
+  takes = λ t. v.takes (payload t);
+  below = λ t. v.below (payload t);
+  lawful = variants_image_lawful payload v.lawful;
+  makeable = variants_image_makeable payload find v.makeable;
+  same_arrays = variants_image_same_arrays payload v.same_arrays;
+  joined = λ t old new h. image_joined payload v.index v.lists t (v.joined (payload t) old new h);
+  overflowed = λ t old h. image_overflowed payload v.index v.lists t (v.overflowed (payload t) old h);
+  taken = λ t old new h. image_taken payload v.makes t (v.taken (payload t) old new h);
+}
