@@ -1,2 +1,4 @@
 pub mod WritingLemmas
 pub mod ReadingLemmas
+pub mod NumberedLemmas
+pub mod NumberedReadingLemmas

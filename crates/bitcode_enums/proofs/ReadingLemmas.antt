@@ -1,20 +1,18 @@
 -- Variants are read, and then the payloads of each; a value is made of the next payload of its variant.
-use Rattle.std.proofs.Common.{◌≡◌, ◌≢◌, ℕ, zero, suc, ◌+◌, ◌-◌, ◌<◌, List, [], ◌∷◌, length, refl, sym, ap, subst, ◌∙◌, inl, inr, arith}
-use Rattle.std.specs.Prelude.{◌⊎◌}
+use Rattle.std.proofs.Common.{◌≡◌, ℕ, zero, suc, ◌+◌, ◌<◌, List, [], ◌∷◌, length, refl, sym, ap, subst, inr, arith}
 use Rattle.bitcode_columns.specs.declared.error.Reason.{Reason}
 use Rattle.bitcode_columns.specs.Histogram.{AreCounts, count_of}
 use Rattle.bitcode_columns.specs.Reading.{Reads, NamesVariantFault}
 use Rattle.bitcode_columns.specs.VariantColumn.{SpellsVariants}
-use Rattle.bitcode_shapes.specs.Datum.{Datum, choice}
+use Rattle.bitcode_shapes.specs.Datum.{Datum}
 use Rattle.bitcode_shapes.specs.Shape.{Shape, Shapes, no_shapes, shape_and, choice_shape, variant_count}
-use Rattle.bitcode_shapes.specs.Choices.{MakesChoice, MakesLast, MakesVariant}
 use Rattle.bitcode_coder.specs.Faults.{NamesVariantsFault}
 use Rattle.bitcode_coder.specs.Spelling.{Spells}
-use Rattle.bitcode_coder.specs.Coder.{IsReadingRefusal, TakesDatum}
+use Rattle.bitcode_coder.specs.Coder.{IsReadingRefusal}
 use Rattle.bitcode_parts.specs.Payloads.{payloads_of, choices_of, ReadsPayloads, IsPayloadsRefusal}
-use Rattle.bitcode_parts.proofs.ChoiceLemmas.{choices_of-next, choices_of-none}
+use Rattle.bitcode_parts.proofs.ChoiceLemmas.{choices_of-none}
 use Rattle.bitcode_parts.proofs.ChoiceReadingLemmas.{reads_choices, refuses_variants, refuses_payloads, refuses_first, refuses_later}
-use Rattle.bitcode_enums.specs.Reading.{HoldsNone, TakesPayload, CountsEach, FirstOrFault}
+use Rattle.bitcode_enums.specs.Reading.{HoldsNone, CountsEach, FirstOrFault}
 
 -- ---- the payloads of variants
 
@@ -79,72 +77,10 @@ module _ (ss : Shapes) (count k : ℕ) (old : List ℕ) (counted : variant_count
 
 -- ---- making a value
 
--- a choice that is left has a variant, and a payload
-pub some_variant : (entries : List ℕ) (lists : List (List Datum)) → 0 < length (choices_of entries lists) → 0 < length entries
-some_variant [] lists left = left
-some_variant (variant ∷ entries) lists left = omega arith
-
+-- a choice that is left has a payload
 pub some_payload : (variant : ℕ) (entries : List ℕ) (lists : List (List Datum)) → 0 < length (choices_of (variant ∷ entries) lists) → 0 < length (payloads_of variant lists)
 some_payload variant entries lists left = split (payloads_of variant lists) refl
   where
     split : (ds : List Datum) → payloads_of variant lists ≡ ds → 0 < length (payloads_of variant lists)
     split [] is = absurd (omega (arith, left, ap length (choices_of-none variant entries lists is)))
     split (d ∷ ds) is = omega (arith, ap length is)
-
-pub takes_choice : {T V : Type 0} {variant_of : T → V} {makes : Datum → T → Type 0} {makes_variant : ℕ → Datum → V → Type 0} {variant : ℕ} {old new : List ℕ}
-    {lists left : List (List Datum)} {v : V} (t : T) → ((d : Datum) (u : T) → MakesChoice makes_variant d (variant_of u) → makes d u) → old ≡ variant ∷ new
-    → variant_of t ≡ v → TakesPayload makes_variant v variant lists left → TakesDatum makes t (choices_of old lists) (choices_of new left)
-takes_choice {makes_variant = makes_variant} {variant = variant} {new = new} {lists = lists} t makes taken is h = record {
-  datum = choice variant h.payload;
-  taken = ap (λ entries. choices_of entries lists) taken ∙ choices_of-next variant new lists h.payload h.rest h.taken
-      ∙ ap (λ ls. choice variant h.payload ∷ choices_of new ls) (sym h.left);
-  made = makes (choice variant h.payload) t (record { index = variant; payload = h.payload; is = refl; makes_payload = subst (makes_variant variant h.payload) (sym is) h.made });
-}
-
--- ---- taking a payload
-
--- of the last variant, which it is where one is left
-pub left_of_last : (variant : ℕ) (ds : List Datum) → 0 < length (payloads_of variant (ds ∷ [])) → 0 < length ds
-left_of_last zero ds left = left
-left_of_last (suc variant) ds left = absurd (omega (arith, left))
-
-module _ {V A : Type 0} (payload : V → A) {makes : Datum → A → Type 0} {old new : List Datum} where
-  pub takes_last : (variant : ℕ) (v : V) → 0 < length (payloads_of variant (old ∷ [])) → TakesDatum makes (payload v) old new
-      → TakesPayload (λ i d w. MakesLast makes i d (payload w)) v variant (old ∷ []) (new ∷ [])
-  takes_last zero v left h = record { payload = h.datum; rest = new; taken = h.taken; left = refl; made = h.made }
-  takes_last (suc variant) v left h = absurd (omega (arith, left))
-
--- of the first one
-pub left_of_first : {variant : ℕ} (ds : List Datum) (lists : List (List Datum)) → variant ≡ 0 → 0 < length (payloads_of variant (ds ∷ lists)) → 0 < length ds
-left_of_first ds lists is left = subst (λ n. 0 < length (payloads_of n (ds ∷ lists))) is left
-
-before : (variant : ℕ) → variant ≢ 0 → variant ≡ suc (variant - 1)
-before variant other = omega (arith, other)
-
--- of one of the rest
-pub left_of_rest : {variant : ℕ} (ds : List Datum) (lists : List (List Datum)) → variant ≢ 0 → 0 < length (payloads_of variant (ds ∷ lists))
-    → 0 < length (payloads_of (variant - 1) lists)
-left_of_rest {variant} ds lists other left = subst (λ n. 0 < length (payloads_of n (ds ∷ lists))) (before variant other) left
-
-module _ {V A R : Type 0} (either : V → A ⊎ R) {makes_a : Datum → A → Type 0} {makes_r : ℕ → Datum → R → Type 0} {variant : ℕ} (v : V) where
-  pub takes_first : {a : A} {old new : List Datum} {lists : List (List Datum)} → variant ≡ 0 → either v ≡ inl a → TakesDatum makes_a a old new
-      → TakesPayload (λ i d w. MakesVariant makes_a makes_r i d (either w)) v variant (old ∷ lists) (new ∷ lists)
-  takes_first {a} {old} {new} {lists} is at h =
-      subst (λ n. TakesPayload (λ i d w. MakesVariant makes_a makes_r i d (either w)) v n (old ∷ lists) (new ∷ lists)) (sym is) (record {
-        payload = h.datum;
-        rest = new;
-        taken = h.taken;
-        left = refl;
-        made = subst (MakesVariant makes_a makes_r 0 h.datum) (sym at) h.made;
-      })
-
-  pub takes_rest : {r : R} {ds : List Datum} {old new : List (List Datum)} → variant ≢ 0 → either v ≡ inr r → TakesPayload makes_r r (variant - 1) old new
-      → TakesPayload (λ i d w. MakesVariant makes_a makes_r i d (either w)) v variant (ds ∷ old) (ds ∷ new)
-  takes_rest {r} {ds} {old} {new} other at h =
-      subst (λ n. TakesPayload (λ i d w. MakesVariant makes_a makes_r i d (either w)) v n (ds ∷ old) (ds ∷ new)) (sym (before variant other)) (record {
-        payload = h.payload;
-        rest = h.rest;
-        taken = h.taken;
-        left = ap (λ lists. ds ∷ lists) h.left;
-        made = subst (MakesVariant makes_a makes_r (suc (variant - 1)) h.payload) (sym at) h.made;
-      })

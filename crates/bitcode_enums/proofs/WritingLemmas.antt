@@ -4,14 +4,14 @@ use Rattle.std.proofs.lemmas.List.{map-append, take_all, at_drop_all}
 use Rattle.std.specs.List.{AllZip}
 use Rattle.std.specs.Prelude.{◌⊎◌}
 use Rattle.bitcode_shapes.specs.Datum.{Datum, choice}
-use Rattle.bitcode_shapes.specs.Shape.{Shape, Shapes, no_shapes, shape_and, choice_shape, variant_count}
-use Rattle.bitcode_shapes.specs.Choices.{ListsChoice, ListsLast, ListsVariant}
-use Rattle.bitcode_coder.specs.Columns.{Columns, no_columns, one, two, variants, emptied}
+use Rattle.bitcode_shapes.specs.Shape.{Shape, Shapes, shape_and, choice_shape, variant_count}
+use Rattle.bitcode_shapes.specs.Choices.{ListsChoice, ListsVariant}
+use Rattle.bitcode_coder.specs.Columns.{Columns, one, two, variants, emptied}
 use Rattle.bitcode_coder.specs.Coder.{written_columns, JoinsListing, OverflowsWithListing, JoinsEach, OverflowsWithEach}
 use Rattle.bitcode_coder.specs.Spelling.{natural}
 use Rattle.bitcode_coder.proofs.EachLemmas.{JoinsFront, front_none, front_more, front_overflows, front_whole, next_behind, parts_more}
 use Rattle.bitcode_parts.specs.Payloads.{HasPayloads, JoinsPayload, OverflowsAtPayload}
-use Rattle.bitcode_parts.proofs.ChoiceWritingLemmas.{joins_here, joins_later, joins_choice, overflows_here, overflows_later, overflows_choice}
+use Rattle.bitcode_parts.proofs.ChoiceWritingLemmas.{joins_here, joins_later, joins_choice, overflows_later, overflows_choice}
 use Rattle.bitcode_enums.specs.Variants.{index_first_or}
 use Rattle.bitcode_enums.specs.Writing.{JoinsVariant, OverflowsWithVariant}
 

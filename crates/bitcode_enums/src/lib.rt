@@ -7,5 +7,6 @@ pub mod encoder;
 pub mod fields;
 pub mod held;
 pub mod named;
+pub mod numbered;
 pub mod payloads;
 pub mod variants;

@@ -1,0 +1,10 @@
+-- The columns of the variants up to the one at hand were written, and are without entries.
+use Rattle.std.proofs.Common.{◌≡◌, ◌++◌}
+use Rattle.bitcode_enums.proofs.NumberedLemmas.{emptied_to, bytes_to}
+use Rattle.bitcode_enums.proofs.numbered.encoder.NumberedColumnsBuffer.collect_into.Given as goal
+
+abbrev pub invariant-loop-number : goal.invariant-loop-number
+invariant-loop-number g l = record {
+  empty : g.T.Columns.VariantColumns.lists l.self.columns ≡ emptied_to l.number (g.T.Columns.VariantColumns.lists l.fn.self.columns);
+  written : l.out.items ≡ l.initial.out.items ++ bytes_to l.number (g.T.Columns.VariantColumns.lists l.fn.self.columns);
+}

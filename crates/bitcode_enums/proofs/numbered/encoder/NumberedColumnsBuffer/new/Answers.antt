@@ -1,0 +1,6 @@
+-- No columns have entries.
+use Rattle.bitcode_enums.proofs.NumberedLemmas.{bare_all}
+use Rattle.bitcode_enums.proofs.numbered.encoder.NumberedColumnsBuffer.new.Goals as goal
+
+pub returns-clause-empty : goal.returns-clause-empty
+returns-clause-empty g c = bare_all (g.T.Columns.VariantColumns.lists c.new.result) c.new.ensures.empty

@@ -1,0 +1,78 @@
+//! The decoder of enums by number: all variants are read, and then the payloads of each.
+ghost use Rattle.std.specs.Prelude.{◌+◌, refl};
+ghost use Rattle.bitcode_shapes.specs.Shape.{choice_shape};
+ghost use Rattle.bitcode_parts.specs.Payloads.{choices_of};
+ghost use Rattle.bitcode_parts.specs.Variants.{variants_left, variants_owned};
+ghost use Rattle.bitcode_enums.specs.Numbered.{PayloadsFault};
+ghost use Rattle.bitcode_enums.specs.Reading.{VariantsFault};
+
+use crate::numbered::held::{Enum, Held};
+use crate::numbered::payloads::{ReadsVariants, VariantPayloads};
+use bitcode_coder::coder::{Decoder, HoldsData, View};
+use bitcode_columns::error::Error;
+use bitcode_parts::choices::variant::VariantDecoder;
+use std::alloc::Global;
+use std::marker::PhantomData;
+
+/// The decoder of an enum of `N` variants, 2 to 256: it reads the variants, and then the payloads of each.
+///
+/// ```
+/// let mut shots: NumberedDecoder<2, Shot, ShotPayloads> = NumberedDecoder::new(alloc);
+/// shots.populate(&mut input, 1)?; // of [1, 7]
+/// let first: Held<2, Shot> = shots.decode()?; // of `Shot::Hit(7)`
+/// ```
+#[derive(Drop)]
+pub struct NumberedDecoder<'a, const N: usize, T, D> {
+    variants: VariantDecoder<'a, N, false>,
+    payloads: D,
+    of: PhantomData<T>,
+}
+
+impl<'a, const N: usize, T: Enum<N>, D: VariantPayloads<'a, N, T>> HoldsData
+    for NumberedDecoder<'a, N, T, D> {
+    ghost shape = { choice_shape T.variants.shapes };
+
+    ghost held = { λ d. choices_of (variants_left d.variants) (D.lists d.payloads) };
+
+    ghost owned = { λ d. variants_owned d.variants + D.owned d.payloads };
+}
+
+impl<'a, const N: usize, T: ReadsVariants<'a, N, D>, D: VariantPayloads<'a, N, T>> View<'a>
+    for NumberedDecoder<'a, N, T, D> {
+    ghost faults = { VariantsFault N (PayloadsFault T.variants.shapes D.faults) };
+
+    fn new(alloc: Global) -> Self {
+        NumberedDecoder {
+            variants: VariantDecoder::new(alloc),
+            payloads: D::new(alloc),
+            of: PhantomData,
+        }
+    }
+
+    fn populate(&mut self, input: &mut &'a [u8], k: usize) -> Result<(), Error> {
+        T::whole(&self.payloads);
+        self.payloads.sized();
+        self.variants.populate(input, k)?;
+        for number in 0..N {
+            let count = self.variants.length(number);
+            self.payloads.populate_payloads(number, input, count)?;
+        }
+        Ok(())
+    }
+}
+
+impl<'a, const N: usize, T: ReadsVariants<'a, N, D>, D: VariantPayloads<'a, N, T>> Decoder<
+    Held<N, T>,
+> for NumberedDecoder<'a, N, T, D> {
+    ghost makes_free = { D.makes_free };
+
+    fn decode(&mut self) -> Result<Held<N, T>, Error> {
+        T::whole(&self.payloads);
+        self.payloads.sized();
+        let variant = self.variants.decode();
+        let value = self.payloads.decode_payload(variant as usize)?;
+        Ok(Held::new(value))
+    }
+
+    ghost same_shape = { refl };
+}

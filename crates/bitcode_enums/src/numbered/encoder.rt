@@ -1,0 +1,96 @@
+//! The columns of the payloads of all variants of an enum, one variant behind the other.
+ghost use Rattle.std.specs.Prelude.{◌≡◌, OnOk, IfErr};
+ghost use Rattle.bitcode_coder.specs.Columns.{emptied};
+ghost use Rattle.bitcode_coder.specs.Coder.{endless_room, IsWritingRefusal};
+ghost use Rattle.bitcode_enums.specs.Numbered.{all_columns};
+ghost use Rattle.bitcode_enums.specs.NumberedLaws.{whole_has_payloads};
+ghost use Rattle.bitcode_enums.specs.Writing.{JoinsVariant, OverflowsWithVariant};
+
+use crate::encoder::EncodeVariant;
+use crate::numbered::columns::{HasVariantColumns, VariantColumns};
+use crate::numbered::held::{Enum, Held};
+use crate::payloads::PayloadColumns;
+use bitcode_coder::coder::{Buffer, HoldsColumns};
+use bitcode_columns::error::Error;
+use bitcode_shapes::stands_for::HeldIn;
+use std::alloc::Global;
+
+/// The columns of the payloads of `T`, those of the first variant first.
+///
+/// ```
+/// let mut payloads: NumberedColumns<2, Shot> = NumberedColumns::new(alloc);
+/// payloads.encode_payload(&Shot::Hit(7))?;
+/// payloads.collect_into(&mut bytes)?; // [7]
+/// ```
+#[derive(Drop)]
+pub struct NumberedColumns<const N: usize, T: HasVariantColumns<N>> {
+    columns: T::Columns,
+}
+
+impl<const N: usize, T: HasVariantColumns<N>> HoldsColumns for NumberedColumns<N, T> {
+    ghost columns = { λ e. all_columns (T.Columns.lists e.columns) };
+
+    ghost room = { λ e. endless_room };
+
+    ghost capacity = { λ e. T.Columns.capacity e.columns };
+
+    ghost surely_overflows = { λ e n. ⊥ };
+
+    ghost overflows = { λ e n. ⊥ };
+}
+
+impl<const N: usize, T: HasVariantColumns<N>> Buffer for NumberedColumns<N, T> {
+    fn new(alloc: Global) -> Self {
+        NumberedColumns {
+            columns: T::Columns::new(alloc),
+        }
+    }
+
+    // Room is made for each payload as it comes.
+    fn reserve(&mut self, _n: usize) -> Result<(), Error> {
+        Ok(())
+    }
+
+    fn collect_into(&mut self, out: &mut Vec<u8>) -> Result<(), Error> {
+        for number in 0..N {
+            self.columns.collect_payloads(number, out)?;
+        }
+        Ok(())
+    }
+
+    fn clear(&mut self) {
+        for number in 0..N {
+            self.columns.clear_payloads(number);
+        }
+    }
+}
+
+impl<const N: usize, T: HasVariantColumns<N>> PayloadColumns<Held<N, T>> for NumberedColumns<N, T> {
+    ghost of_shapes = { λ e. whole_has_payloads T.variants.shapes T.sized.0 T.whole.0 T.whole.1 (T.Columns.lists e.columns) (T.Columns.of_shapes T.whole.2 e.columns) };
+}
+
+impl<const N: usize, T: HasVariantColumns<N>> NumberedColumns<N, T> {
+    /// Makes room for the payload of a value in the columns of its variant, and joins its columns to those.
+    ///
+    /// It refuses as [`VariantColumns::encode_payload`] does.
+    pub fn encode_payload(&mut self, t: &T) -> Result<(), Error>
+        ensures joined { OnOk result (JoinsVariant T.variants.index T.variants.lists T.variants.shapes t.now (all_columns (T.Columns.lists self.old.columns)) (all_columns (T.Columns.lists self.new.columns))) }
+        ensures form { emptied (all_columns (T.Columns.lists self.new.columns)) ≡ emptied (all_columns (T.Columns.lists self.old.columns)) }
+        ensures refused { IfErr result (λ e. IsWritingRefusal e.reason (OverflowsWithVariant T.variants.index T.variants.lists T.variants.shapes t.now (all_columns (T.Columns.lists self.old.columns)))) }
+    {
+        self.columns.encode_payload(t)
+    }
+}
+
+impl<const N: usize, T: HasVariantColumns<N> + HeldIn<Holder = Held<N, T>>> EncodeVariant<
+    N,
+    NumberedColumns<N, T>,
+> for T {
+    fn variant(&self) -> u8 {
+        Enum::variant(self)
+    }
+
+    fn encode_payload(&self, payloads: &mut NumberedColumns<N, T>) -> Result<(), Error> {
+        payloads.encode_payload(self)
+    }
+}

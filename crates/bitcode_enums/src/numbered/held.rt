@@ -1,0 +1,152 @@
+//! What holds a value of an enum by itself: what such an enum stands for, and lawful where the payloads are.
+ghost use Rattle.std.specs.Prelude.{◌≡◌, refl};
+ghost use Rattle.bitcode_shapes.specs.BareVariants.{AreSomeVariants};
+ghost use Rattle.bitcode_shapes.specs.Choices.{ListsChoice, MakesChoice};
+ghost use Rattle.bitcode_shapes.specs.LawfulChoices.{choice_makeable};
+ghost use Rattle.bitcode_shapes.specs.LawfulImages.{image_lawful, image_makeable};
+ghost use Rattle.bitcode_shapes.specs.SameArrays.{choice_same_arrays, image_same_arrays};
+ghost use Rattle.bitcode_shapes.specs.Shape.{variant_count, choice_shape};
+ghost use Rattle.bitcode_enums.specs.LawfulVariants.{some_choices_lawful, variants_image_lawful, held_lists};
+ghost use Rattle.bitcode_enums.specs.VariantsOf.{VariantsOf};
+
+use crate::choice::HoldsPayload;
+use crate::variants::ShapedVariants;
+use bitcode_shapes::same_arrays::SameArrays;
+use bitcode_shapes::shaped::{Made, Shaped};
+use bitcode_shapes::stands_for::Holds;
+
+/// An enum of `N` variants, 2 to 256, which are numbered from 0 on in the order in which they stand.
+///
+/// ```
+/// impl Enum<2> for Shot {
+///     ghost variants = { variants_of (first_variant ⟦<() as Payload>⟧.payload (last_variant ⟦<u8 as Payload>⟧.payload)) (elim [ Shot.Missed ↦ FirstOr.First tt | Shot.Hit a ↦ FirstOr.Rest (record { 0 = a }) ]) (elim [ FirstOr.First p ↦ (Shot.Missed, refl) | FirstOr.Rest p ↦ (Shot.Hit p.0, refl) ]) };
+///
+///     fn variant(&self) -> u8 {
+///         match self {
+///             Shot::Missed => 0,
+///             Shot::Hit(_) => 1,
+///         }
+///     }
+///
+///     fn told_payload(&self) {
+///         match self {
+///             Shot::Missed => (),
+///             Shot::Hit(damage) => damage.told(),
+///         }
+///     }
+///
+///     ghost sized = { (refl, refl) };
+/// }
+///
+/// impl HeldIn for Shot {
+///     type Holder = Held<2, Shot>;
+/// }
+/// ```
+pub trait Enum<const N: usize> {
+    // what its variants are, what their payloads hold, and how they are written and read
+    ghost variants: { VariantsOf Self };
+
+    /// The number of the variant that the value is of.
+    fn variant(&self) -> u8
+        ensures { result ≡ variants.index self.now };
+
+    /// The payload of a value in hand is a value.
+    fn told_payload(&self)
+        ensures { variants.is_value self.now };
+
+    ghost sized: { (variant_count variants.shapes ≡ N) × AreSomeVariants N };
+}
+
+/// A value of an enum of `N` variants, by itself: what the enum stands for.
+#[derive(Drop)]
+pub struct Held<const N: usize, T> {
+    value: T,
+}
+
+impl<const N: usize, T> Held<N, T> {
+    /// Holds a value.
+    pub fn new(value: T) -> Self
+        ensures { result ≡ record { value = value } }
+    {
+        Held { value }
+    }
+}
+
+impl<const N: usize, T: Enum<N>> Holds<T> for Held<N, T> {
+    ghost holder = { λ t. record { value = t } };
+
+    ghost value = { λ h. h.value };
+
+    ghost holds = { λ h. refl };
+
+    fn told_value(t: &T) {
+        t.told_payload();
+    }
+
+    fn into_value(self) -> T {
+        let Held { value } = self;
+        value
+    }
+}
+
+impl<const N: usize, T: Enum<N>> Shaped for Held<N, T> {
+    ghost shape = { choice_shape T.variants.shapes };
+
+    ghost is_value = { λ h. T.variants.is_value h.value };
+
+    ghost lists = { λ h d. ListsChoice T.variants.lists h.value d };
+
+    ghost same = { λ h g. T.variants.same h.value g.value };
+
+    ghost in_order = { T.variants.in_order };
+
+    fn told(&self) {
+        self.value.told_payload();
+    }
+
+    ghost lawful = { image_lawful (λ h. h.value) (some_choices_lawful T.sized.0 T.sized.1 T.variants.lawful) };
+}
+
+impl<const N: usize, T: Enum<N>> Made for Held<N, T> {
+    ghost makes = { λ d h. MakesChoice T.variants.makes d h.value };
+
+    ghost makeable = { image_makeable (λ h. h.value) (λ g t h. (record { value = t }, refl)) (choice_makeable T.variants.makeable) };
+}
+
+impl<const N: usize, T: Enum<N>> ShapedVariants for Held<N, T> {
+    ghost shapes = { T.variants.shapes };
+
+    ghost is_value = { λ h. T.variants.is_value h.value };
+
+    ghost lists = { λ h i d. T.variants.lists h.value i d };
+
+    ghost same = { λ h g. T.variants.same h.value g.value };
+
+    ghost in_order = { T.variants.in_order };
+
+    ghost index = { λ h. T.variants.index h.value };
+
+    fn told(&self) {
+        self.value.told_payload();
+    }
+
+    ghost lawful = { variants_image_lawful (λ h. h.value) T.variants.lawful };
+
+    ghost below = { λ h. T.variants.below h.value };
+}
+
+impl<const N: usize, T: Enum<N>> HoldsPayload<N> for Held<N, T> {
+    type Variants = Held<N, T>;
+
+    ghost payload = { λ h. h };
+
+    ghost count = { T.sized.0 };
+
+    ghost has_shape = { refl };
+
+    ghost lists_payload = { held_lists (λ h. h.value) T.variants.lists };
+}
+
+impl<const N: usize, T: Enum<N>> SameArrays for Held<N, T> {
+    ghost same_arrays = { image_same_arrays (λ h. h.value) (choice_same_arrays T.variants.same_arrays) };
+}
