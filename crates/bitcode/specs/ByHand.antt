@@ -31,6 +31,9 @@ pub use Rattle.bitcode_shapes.specs.Choices.{IsVariantValue, ListsChoice, ListsV
 -- The payloads of an enum's variants: that of the first one, or one of the rest; and which value stands for one:
 pub use Rattle.bitcode_enums.specs.declared.variants.FirstOr.{FirstOr}
 pub use Rattle.bitcode_enums.specs.Variants.{stood_for}
+-- What an enum by the numbers of its variants says of them, and what may be at fault in each:
+pub use Rattle.bitcode_enums.specs.VariantsOf.{PayloadOf, payload_of, VariantsOf, variants_of, first_variant, last_variant}
+pub use Rattle.bitcode_enums.specs.Numbered.{fault_and, no_faults}
 -- The columns that encoders hold, and the data that decoders hold:
 pub use Rattle.bitcode_coder.specs.Columns.{no_columns, two}
 pub use Rattle.bitcode_tuples.specs.Pairs.{pairs_of}
