@@ -4,14 +4,16 @@ from string import Template
 
 from declarations import Refused, fields_of
 from known_types import MOST_FIELDS, Checker, inside, of_text
-from structs import NOT_DERIVED, bounds, halved, heads, initialized, parameter, places, quoted, tuple_text
+from numbered import Numbered
+from structs import NOT_DERIVED, bounds, quoted, places, tuple_text
+from variants import LETTERS, arms, declaration, ghost_arms, names_of, payload, told_apart, value
 
 # Of 16 variants with payloads the compiler says in generic code that there are too many impls to go through; 12 compile.
 MOST_VARIANTS, MOST_PAYLOADS = 256, 12
 # The borrow checker covers no pattern that goes deeper, where a payload takes memory.
 MOST_IN_ONE_MATCH = 4
-# The names of fields without a name.
-LETTERS = "abcdefghijklmnop"
+# The laws of these need those of their keys.
+KEYED_BY_LAWS = {"BTreeSet", "HashSet", "BTreeMap", "HashMap"}
 
 BARE = """//! `$name` numbers its variants. What is below its declaration was written by `scripts/new_type`.
 ghost use Rattle.std.specs.Prelude.{[], ◌∷◌, refl};
@@ -136,45 +138,6 @@ impl$parameters DecodeOwned for $name {}
 """
 
 
-def declaration(enum):
-    """The enum as it was declared, with what it has to derive."""
-    lines = [*heads(enum), f"{enum.seen}enum {enum.name}{bounds(enum, '')} {{"]
-    if not enum.variants:
-        return "\n".join([*lines[:-1], lines[-1] + "}", ""])
-    for variant in enum.variants:
-        lines += [*variant.docs, *variant.attributes]
-        fields = [(*field.docs, f"{field.name}: {of_text(field.type)}," if variant.kind == "named" else of_text(field.type) + ",") for field in variant.fields]
-        opening, closing = {"named": (" {", "}"), "tuple": ("(", ")"), "unit": ("", "")}[variant.kind]
-        number = f" = {variant.number}" if variant.number else ""
-        if any(field.docs for field in variant.fields):
-            lines += [variant.name + opening, *(line for field in fields for line in field), closing + ","]
-        else:
-            inner = " ".join(line for field in fields for line in field).removesuffix(",")
-            lines.append(f"{variant.name}{opening}{f' {inner} ' if variant.kind == 'named' else inner}{closing}{number},")
-    return "\n".join([*lines, "}", ""])
-
-
-def arms(enum, left, right):
-    """The arms of a match, of what is left and right of each variant's arrow."""
-    return "".join(f"\n            {left(place, variant)} => {right(place, variant)}," for place, variant in enumerate(enum.variants)) + "\n        "
-
-
-def names_of(variant):
-    """The names of a variant's fields in patterns."""
-    return [parameter(field.name) if variant.kind == "named" else LETTERS[i] for i, field in enumerate(variant.fields)]
-
-
-def told_apart(enum, variant):
-    """The pattern that tells a variant from the others."""
-    return f"{enum.name}::{variant.name}" + {"named": " { .. }", "tuple": "(..)", "unit": ""}[variant.kind]
-
-
-def value(enum, variant):
-    """The value of a variant, in a pattern or an expression."""
-    inner = {"named": f" {{ {', '.join(map(initialized, variant.fields))} }}", "tuple": f"({', '.join(names_of(variant))})", "unit": ""}[variant.kind]
-    return f"{enum.name}::{variant.name}{inner}"
-
-
 def one_text(enum, crate, module, imports, own):
     """The file of an enum of one variant, which stands for the tuple of its fields as a struct does."""
     variant, ghost = enum.variants[0], quoted(enum.name)
@@ -196,11 +159,6 @@ def one_text(enum, crate, module, imports, own):
         pattern=payload(letters, "_nothing"),
         built=built,
     )
-
-
-def payload(items, nothing):
-    """The fields of one variant, or what stands for none, as text."""
-    return halved(items) if items else nothing
 
 
 def behind(place, inner):
@@ -225,23 +183,13 @@ def one_by_one(enum):
     return "".join(matches) + f"let Last({payload(names_of(last), '()')}) = rest;\n        {value(enum, last)}"
 
 
-def ghost_behind(place, inner):
-    """The same in a ghost member."""
-    return "FirstOr.Rest (" * place + inner + ")" * place
+def is_numbered(enum, own):
+    """Whether the enum is written and read by the numbers of its variants: one of more variants than a nest is for, whose fields' types
+    say their laws as data, as sets, maps and types of one's own do not."""
+    def says_laws(type):
+        return type.kind != "reference" and type.name not in KEYED_BY_LAWS and type.name not in own and all(map(says_laws, type.parts))
 
-
-def ghost_arms(enum):
-    """The arms of what payload a value stands for, and of which value a payload does."""
-    last, there, back = len(enum.variants) - 1, [], []
-    for place, variant in enumerate(enum.variants):
-        letters, name = list(LETTERS[: len(variant.fields)]), f"{quoted(enum.name)}.{variant.name}"
-        fields = payload(letters, "tt")
-        held = f"record {{ 0 = {fields} }}" if place == last else f"FirstOr.First {fields}"
-        there.append(f"{' '.join([name, *letters])} ↦ record {{ payload = {ghost_behind(place, held)} }}")
-        pattern = ghost_behind(place - 1, "FirstOr.Rest p") if place == last else ghost_behind(place, "FirstOr.First p")
-        found = places(len(letters), "p.0" if place == last else "p") if letters else []
-        back.append(f"{pattern} ↦ ({' '.join([name, *found])}, refl)")
-    return " | ".join(there), " | ".join(back)
+    return len(enum.variants) > MOST_IN_ONE_MATCH and not enum.types and not enum.lifetime and all(says_laws(field.type) for field in fields_of(enum))
 
 
 def bare_text(enum, crate, module):
@@ -315,7 +263,7 @@ def payloads_text(enum, crate, module, imports, own):
     return Template(PAYLOADS).substitute(row)
 
 
-def check_variants(enum):
+def check_variants(enum, own):
     """Stops at variants that cannot be written, or too many of them."""
     count, fields = len(enum.variants), fields_of(enum)
     derived = [name for name in enum.derives if name not in {"Clone", "Copy", *NOT_DERIVED}]
@@ -323,7 +271,7 @@ def check_variants(enum):
         raise Refused(enum.line, f"leave the `{derived[0]}` out: an enum without variants has no values, and no call could meet its contract")
     if count > MOST_VARIANTS:
         raise Refused(enum.line, f"{count} variants are more than 256: put some of them into an enum of their own")
-    if fields and count > MOST_PAYLOADS:
+    if fields and count > MOST_PAYLOADS and not is_numbered(enum, own):
         raise Refused(enum.variants[MOST_PAYLOADS].line, f"{count} variants, of which some have fields, are more than {MOST_PAYLOADS}: put some of them into an enum of their own")
     if not fields and (enum.types or enum.lifetime):
         raise Refused(enum.line, f"no variant has a field of `{[enum.lifetime, *enum.types][-1]}`: leave it out")
@@ -337,8 +285,8 @@ def check_variants(enum):
 
 
 def enum_text(enum, own, crate, module):
-    """The file of an enum, and the crates that it needs."""
-    check_variants(enum)
+    """The files of an enum, by their paths where they are not that of its module, and the crates that it needs."""
+    check_variants(enum, own)
     checker = Checker(enum, own)
     for field in fields_of(enum):
         checker.check(field.type)
@@ -348,6 +296,9 @@ def enum_text(enum, own, crate, module):
         text = one_text(enum, crate, module, checker.imports, own)
     elif not fields_of(enum):
         text = bare_text(enum, crate, module)
+    elif is_numbered(enum, own):
+        numbered = Numbered(enum, crate, module)
+        return numbered.file(checker.imports), checker.crates, numbered.answers()
     else:
         text = payloads_text(enum, crate, module, checker.imports, own)
-    return text, checker.crates
+    return text, checker.crates, {}

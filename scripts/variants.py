@@ -1,0 +1,75 @@
+"""What the files of enums have of their variants, as text."""
+
+from known_types import of_text
+from structs import bounds, halved, heads, initialized, parameter, places, quoted
+
+# The names of fields without a name.
+LETTERS = "abcdefghijklmnop"
+
+
+def declaration(enum):
+    """The enum as it was declared, with what it has to derive."""
+    lines = [*heads(enum), f"{enum.seen}enum {enum.name}{bounds(enum, '')} {{"]
+    if not enum.variants:
+        return "\n".join([*lines[:-1], lines[-1] + "}", ""])
+    for variant in enum.variants:
+        lines += [*variant.docs, *variant.attributes]
+        fields = [(*field.docs, f"{field.name}: {of_text(field.type)}," if variant.kind == "named" else of_text(field.type) + ",") for field in variant.fields]
+        opening, closing = {"named": (" {", "}"), "tuple": ("(", ")"), "unit": ("", "")}[variant.kind]
+        number = f" = {variant.number}" if variant.number else ""
+        if any(field.docs for field in variant.fields):
+            lines += [variant.name + opening, *(line for field in fields for line in field), closing + ","]
+        else:
+            inner = " ".join(line for field in fields for line in field).removesuffix(",")
+            lines.append(f"{variant.name}{opening}{f' {inner} ' if variant.kind == 'named' else inner}{closing}{number},")
+    return "\n".join([*lines, "}", ""])
+
+
+def arms(enum, left, right):
+    """The arms of a match, of what is left and right of each variant's arrow."""
+    return "".join(f"\n            {left(place, variant)} => {right(place, variant)}," for place, variant in enumerate(enum.variants)) + "\n        "
+
+
+def names_of(variant):
+    """The names of a variant's fields in patterns."""
+    return [parameter(field.name) if variant.kind == "named" else LETTERS[i] for i, field in enumerate(variant.fields)]
+
+
+def told_apart(enum, variant):
+    """The pattern that tells a variant from the others."""
+    return f"{enum.name}::{variant.name}" + {"named": " { .. }", "tuple": "(..)", "unit": ""}[variant.kind]
+
+
+def value(enum, variant):
+    """The value of a variant, in a pattern or an expression."""
+    inner = {"named": f" {{ {', '.join(map(initialized, variant.fields))} }}", "tuple": f"({', '.join(names_of(variant))})", "unit": ""}[variant.kind]
+    return f"{enum.name}::{variant.name}{inner}"
+
+
+def payload(items, nothing):
+    """The fields of one variant, or what stands for none, as text."""
+    return halved(items) if items else nothing
+
+
+def held_type(variant):
+    """The type of what a value of the variant has: nothing, its field, or their tuple."""
+    return payload([of_text(field.type) for field in variant.fields], "()")
+
+
+def ghost_behind(place, inner):
+    """The same in a ghost member."""
+    return "FirstOr.Rest (" * place + inner + ")" * place
+
+
+def ghost_arms(enum, holder="record {{ payload = {} }}"):
+    """The arms of what payload a value stands for, and of which value a payload does."""
+    last, there, back = len(enum.variants) - 1, [], []
+    for place, variant in enumerate(enum.variants):
+        letters, name = list(LETTERS[: len(variant.fields)]), f"{quoted(enum.name)}.{variant.name}"
+        fields = payload(letters, "tt")
+        held = f"record {{ 0 = {fields} }}" if place == last else f"FirstOr.First {fields}"
+        there.append(f"{' '.join([name, *letters])} ↦ {holder.format(ghost_behind(place, held))}")
+        pattern = ghost_behind(place - 1, "FirstOr.Rest p") if place == last else ghost_behind(place, "FirstOr.First p")
+        found = places(len(letters), "p.0" if place == last else "p") if letters else []
+        back.append(f"{pattern} ↦ ({' '.join([name, *found])}, refl)")
+    return " | ".join(there), " | ".join(back)
