@@ -14,6 +14,7 @@ pub mod meters;
 pub mod monster;
 pub mod never;
 pub mod one;
+pub mod order;
 pub mod outcome;
 pub mod pause;
 pub mod player;

@@ -11,6 +11,7 @@ use bitcode_own_types::message::Message;
 use bitcode_own_types::monster::Monster;
 use bitcode_own_types::never::Never;
 use bitcode_own_types::one::One;
+use bitcode_own_types::order::Order;
 use bitcode_own_types::outcome::Outcome;
 use bitcode_own_types::player::Player;
 use bitcode_own_types::saved::saved_and_loaded;
@@ -115,6 +116,26 @@ fn events_come_back(rt: HostRuntime) -> Result<(), Error> {
     assert!(rt; bytes.as_slice() == expected.as_slice());
     let again: Vec<Event> = decode(alloc, bytes.as_slice())?;
     assert!(rt; again == events);
+    Ok(())
+}
+
+#[test]
+fn orders_come_back(rt: HostRuntime) -> Result<(), Error> {
+    let alloc = rt.alloc();
+    let orders = vec![in alloc;
+        Order::Open,
+        Order::Add(1, String::from_str(alloc, "a")?),
+        Order::Cancel,
+        Order::Remove { item: 7, count: 2 },
+    ]?;
+    let bytes = encode(alloc, &orders)?;
+    // The length, the variants in base 6, and then the columns of each variant's payload.
+    let expected = [4, 186, 2, 6, 1, 1, 97, 6, 7, 2, 0];
+    assert!(rt; bytes.as_slice() == expected.as_slice());
+    let again: Vec<Order> = decode(alloc, bytes.as_slice())?;
+    assert!(rt; again == orders);
+    let refused: Result<Vec<Order>, Error> = decode(alloc, &[1, 1]);
+    assert!(rt; matches!(&refused, Err(error) if error.reason == Reason::Eof));
     Ok(())
 }
 
