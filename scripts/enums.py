@@ -1,4 +1,4 @@
-"""The file of an enum: of one that numbers its variants, of one that stands for their payloads, and of one or no variant."""
+"""The file of an enum: of one that numbers its variants, of one that stands for their payloads, of one by number (numbered.py), and of one or no variant."""
 
 from string import Template
 
@@ -10,7 +10,7 @@ from variants import LETTERS, arms, declaration, ghost_arms, names_of, payload, 
 
 # Of 16 variants with payloads the compiler says in generic code that there are too many impls to go through; 12 compile.
 MOST_VARIANTS, MOST_PAYLOADS = 256, 12
-# The borrow checker covers no pattern that goes deeper, where a payload takes memory.
+# The borrow checker covers no pattern that goes deeper, where a payload takes memory. Enums of more are written by number where they can be.
 MOST_IN_ONE_MATCH = 4
 # The laws of these need those of their keys.
 KEYED_BY_LAWS = {"BTreeSet", "HashSet", "BTreeMap", "HashMap"}
@@ -285,7 +285,7 @@ def check_variants(enum, own):
 
 
 def enum_text(enum, own, crate, module):
-    """The files of an enum, by their paths where they are not that of its module, and the crates that it needs."""
+    """The file of an enum, the crates that it needs, and the files of its proofs by their paths."""
     check_variants(enum, own)
     checker = Checker(enum, own)
     for field in fields_of(enum):

@@ -187,9 +187,9 @@ class Numbered:
         """The name of the struct of such coders of these variants."""
         return f"{self.enum.name}{kind}" + (f"{numbers[0]}" if len(self.groups) > 1 else "")
 
-    def lines(self, numbers, line, is_some=False, behind="\n        "):
+    def lines(self, numbers, line, is_some=False):
         """A line for each variant, and one for the others where there are some."""
-        return "".join(f"\n            {line(n)}," for n in numbers) + ("\n            _ => unreachable!()," if is_some else "") + behind
+        return "".join(f"\n            {line(n)}," for n in numbers) + ("\n            _ => unreachable!()," if is_some else "") + "\n        "
 
     def row(self, kind, numbers):
         """What the templates of both kinds of structs want."""
@@ -236,7 +236,8 @@ class Numbered:
             pattern = payload(names_of(variant), "()")
             return f"{n} => {{ let {pattern}: {self.types[n]} = self.{self.places[n]}.decode()?; Ok({value(self.enum, variant)}) }}"
 
-        faults = "".join(f"fault_and {quote(n, chr(86) + 'iew<' + chr(39) + 'a>', 'faults')} (" for n in numbers) + "no_faults" + ")" * len(numbers)
+        view = "View<'a>"
+        faults = "".join(f"fault_and {quote(n, view, 'faults')} (" for n in numbers) + "no_faults" + ")" * len(numbers)
         return Template(PAYLOADS).substitute(
             self.row("Payloads", numbers),
             lists=" ∷ ".join([*(quote(n, "HoldsData", "held", f" d.{self.places[n]}") for n in numbers), "[]"]),

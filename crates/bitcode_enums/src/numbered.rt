@@ -1,4 +1,4 @@
-//! Enums whose variants are written and read by their numbers: of as many variants as there are.
+//! Enums that are written and read by the numbers of their variants, 2 to 256 of them.
 pub mod columns;
 pub mod decoder;
 pub mod encoder;

@@ -14,8 +14,8 @@ use std::alloc::Global;
 ///
 /// ```
 /// pub struct ShotColumns {
-///     missed: <() as HasEncoder>::Encoder,
-///     hit: <u8 as HasEncoder>::Encoder,
+///     of_missed: <() as HasEncoder>::Encoder,
+///     of_hit: <u8 as HasEncoder>::Encoder,
 /// }
 /// ```
 pub trait VariantColumns<const N: usize, T: Enum<N>> {
@@ -25,7 +25,7 @@ pub trait VariantColumns<const N: usize, T: Enum<N>> {
     // the number behind that of the last of them
     ghost end: { ℕ };
 
-    // all of them follow each other
+    // whether these variants follow each other without a gap
     ghost in_turn: { Bool };
 
     // the columns of each variant
@@ -81,7 +81,15 @@ pub trait VariantColumns<const N: usize, T: Enum<N>> {
     ghost of_shapes: { IsTrue in_turn → (e : Self) → map emptied (lists e) ≡ take (end - first) (drop first (bare_columns T.variants.shapes)) };
 }
 
-/// An enum whose payloads are written by number.
+/// An enum whose payloads are written by number: all its variants have columns.
+///
+/// ```
+/// impl HasVariantColumns<2> for Shot {
+///     type Columns = ShotColumns;
+///
+///     ghost whole = { (refl, refl, refl) };
+/// }
+/// ```
 pub trait HasVariantColumns<const N: usize>: Enum<N> {
     /// The columns of the payloads of all variants.
     type Columns: VariantColumns<N, Self>;

@@ -1,4 +1,4 @@
-//! What holds a value of an enum by itself: what such an enum stands for, and lawful where the payloads are.
+//! What an enum by number stands for: a struct that holds a value of it, lawful where its payloads are.
 ghost use Rattle.std.specs.Prelude.{◌≡◌, refl};
 ghost use Rattle.bitcode_shapes.specs.BareVariants.{AreSomeVariants};
 ghost use Rattle.bitcode_shapes.specs.Choices.{ListsChoice, MakesChoice};
@@ -50,7 +50,7 @@ pub trait Enum<const N: usize> {
     fn variant(&self) -> u8
         ensures { result ≡ variants.index self.now };
 
-    /// The payload of a value in hand is a value.
+    /// The payload of a value in hand is a value. Does nothing; its contract is for proofs.
     fn told_payload(&self)
         ensures { variants.is_value self.now };
 

@@ -1,5 +1,5 @@
 //! The payloads that values of an enum are made of, by the numbers of the variants.
-ghost use Rattle.std.specs.Prelude.{◌≡◌, ℕ, ◌-◌, ◌<◌, ◌≤◌, Bool, List, [], map, take, drop, length, IsTrue, IsOk, IfOk, OnOk, IfErr, OnErr};
+ghost use Rattle.std.specs.Prelude.{◌≡◌, ℕ, ◌-◌, ◌<◌, ◌≤◌, Bool, List, [], map, length, IsTrue, IsOk, IfOk, OnOk, IfErr, OnErr};
 ghost use Rattle.bitcode_columns.specs.declared.error.Reason.{Reason};
 ghost use Rattle.bitcode_columns.specs.Reading.{Reads, IsEndOf};
 ghost use Rattle.bitcode_coder.specs.Coder.{IsReadingRefusal};
@@ -17,8 +17,8 @@ use std::alloc::Global;
 ///
 /// ```
 /// pub struct ShotPayloads<'a> {
-///     missed: <() as HasDecoder<'a>>::Decoder,
-///     hit: <u8 as HasDecoder<'a>>::Decoder,
+///     of_missed: <() as HasDecoder<'a>>::Decoder,
+///     of_hit: <u8 as HasDecoder<'a>>::Decoder,
 /// }
 /// ```
 pub trait VariantPayloads<'a, const N: usize, T: Enum<N>> {
@@ -28,7 +28,7 @@ pub trait VariantPayloads<'a, const N: usize, T: Enum<N>> {
     // the number behind that of the last of them
     ghost end: { ℕ };
 
-    // all of them follow each other
+    // whether these variants follow each other without a gap
     ghost in_turn: { Bool };
 
     // the payloads of each variant that are left to take
@@ -67,7 +67,7 @@ pub trait VariantPayloads<'a, const N: usize, T: Enum<N>> {
         ensures exact { IfErr result (λ e. faults number e.reason k input.old.now) }
         ensures rest { OnErr result (IsEndOf input.old.now input.new.now) };
 
-    /// Makes a value of the variant of a number and of the next payload of that variant. One is left.
+    /// Makes a value of the variant of a number and of the next payload of that variant. At least one payload has to be left.
     ///
     /// `out of memory` is its only refusal.
     fn decode_payload(&mut self, number: usize) -> Result<T, Error>
@@ -80,16 +80,22 @@ pub trait VariantPayloads<'a, const N: usize, T: Enum<N>> {
         ensures refused { IfErr result (λ e. e.reason ≡ Reason.OutOfMemory) }
         ensures free { IsTrue makes_free → IsOk result };
 
-    /// There is a list of payloads for each of the variants.
+    /// There is a list of payloads for each of the variants. Does nothing; its contract is for proofs.
     fn sized(&self)
         requires turn { IsTrue in_turn }
         ensures ordered { first ≤ end }
         ensures sized { length (lists self.now) ≡ end - first };
 }
 
-/// An enum of whose variants the payloads are read by number, to be those of `D`.
+/// An enum whose payloads are read by number, by the struct `D`, which has the decoders of all variants.
+///
+/// ```
+/// impl<'a> ReadsVariants<'a, 2, ShotPayloads<'a>> for Shot {
+///     fn whole(_payloads: &ShotPayloads<'a>) {}
+/// }
+/// ```
 pub trait ReadsVariants<'a, const N: usize, D: VariantPayloads<'a, N, Self>>: Enum<N> {
-    /// They are the payloads of all variants.
+    /// They are those of all variants. Does nothing; its contract is for proofs.
     fn whole(payloads: &D)
         ensures count { variant_count Self.variants.shapes ≡ N }
         ensures first { D.first ≡ 0 }
