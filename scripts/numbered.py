@@ -108,7 +108,7 @@ impl VariantColumns<$count, $name> for $struct {
 
 PAYLOADS = """/// The payloads that values of `$name` are made of$some.
 #[derive(Drop)]
-pub struct $struct<'a> {$fields
+pub struct $struct<'a> {$fields$mark
 }
 
 impl<'a> VariantPayloads<'a, $count, $name> for $struct<'a> {
@@ -173,6 +173,11 @@ def halves(structs):
     return structs[0] if len(structs) == 1 else f"Halves<{halves(structs[:middle])}, {halves(structs[middle:])}>"
 
 
+def is_nothing(type):
+    """Whether values of the type have no columns, so that a decoder of them keeps no part of an input."""
+    return type.name == "PhantomData" or type.kind in ("tuple", "array") and all(map(is_nothing, type.parts)) or type.name in ("Box", "Rc") and is_nothing(type.parts[0])
+
+
 class Numbered:
     """The parts of the files of an enum."""
 
@@ -187,9 +192,9 @@ class Numbered:
         """The name of the struct of such coders of these variants."""
         return f"{self.enum.name}{kind}" + (f"{numbers[0]}" if len(self.groups) > 1 else "")
 
-    def lines(self, numbers, line, is_some=False):
+    def lines(self, numbers, line, is_some=False, behind="\n        "):
         """A line for each variant, and one for the others where there are some."""
-        return "".join(f"\n            {line(n)}," for n in numbers) + ("\n            _ => unreachable!()," if is_some else "") + "\n        "
+        return "".join(f"\n            {line(n)}," for n in numbers) + ("\n            _ => unreachable!()," if is_some else "") + behind
 
     def row(self, kind, numbers):
         """What the templates of both kinds of structs want."""
@@ -204,6 +209,10 @@ class Numbered:
             "end": last + 1,
             "fields": "".join(f"\n    {self.places[n]}: <{self.types[n]} as {coder}," for n in numbers),
         }
+
+    def is_marked(self, numbers):
+        """Whether none of the decoders of these variants keeps a part of the input."""
+        return all(is_nothing(field.type) for n in numbers for field in self.enum.variants[n].fields)
 
     def columns(self, numbers):
         """The struct of the encoders of these variants."""
@@ -236,6 +245,8 @@ class Numbered:
             pattern = payload(names_of(variant), "()")
             return f"{n} => {{ let {pattern}: {self.types[n]} = self.{self.places[n]}.decode()?; Ok({value(self.enum, variant)}) }}"
 
+        # A mark names the lifetime of the input where no decoder does.
+        is_marked = self.is_marked(numbers)
         view = "View<'a>"
         faults = "".join(f"fault_and {quote(n, view, 'faults')} (" for n in numbers) + "no_faults" + ")" * len(numbers)
         return Template(PAYLOADS).substitute(
@@ -244,7 +255,8 @@ class Numbered:
             owned=" + ".join(quote(n, "HoldsData", "owned", f" d.{self.places[n]}") for n in numbers),
             faults=faults if numbers[0] == 0 else f"λ n. ({faults}) (n - {numbers[0]})",
             makes_free=" && ".join(quote(n, f"Decoder<{self.types[n]}>", "makes_free") for n in numbers),
-            new=self.lines(numbers, lambda n: f"{self.places[n]}: View::new(alloc)"),
+            mark="\n    of: PhantomData<&'a ()>," if is_marked else "",
+            new=self.lines(numbers, lambda n: f"{self.places[n]}: View::new(alloc)", behind="\n            of: PhantomData,\n        " if is_marked else "\n        "),
             populate=self.lines(numbers, lambda n: f"{n} => self.{self.places[n]}.populate(input, k)", True),
             decode=self.lines(numbers, made, True).replace("},\n", "}\n"),
         )
@@ -266,6 +278,7 @@ class Numbered:
             return f"{value(self.enum, self.enum.variants[n])} => {payload(names, '()')}{'.told()' if names else ''}"
 
         every = range(self.count)
+        imports = {*imports, "std::marker::PhantomData"} if any(map(self.is_marked, self.groups)) else imports
         return Template(FILE).substitute(
             name=self.enum.name,
             ghost=quoted(self.enum.name),
