@@ -12,14 +12,9 @@ use Rattle.bitcode_parts.proofs.ChoiceWritingLemmas.{joins_here, joins_later, ov
 use Rattle.bitcode_enums.specs.Numbered.{shape_at, columns_at, all_columns, bare_columns, KeepsOthers}
 use Rattle.bitcode_enums.specs.NumberedLaws.{AreInTurn, in_turn, each_has_payloads}
 use Rattle.bitcode_enums.specs.Writing.{JoinsVariant, OverflowsWithVariant}
+use Rattle.bitcode_enums.proofs.WritingLemmas.{from_first, from_next}
 
 -- ---- one variant
-
-from_first : (first : ℕ) → first ≡ first + 0
-from_first first = omega arith
-
-from_next : (first place : ℕ) → suc first + place ≡ first + suc place
-from_next first place = omega arith
 
 -- the columns of the variant at a place are others
 module _ (d : Datum) (new : Columns) where

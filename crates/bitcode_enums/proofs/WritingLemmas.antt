@@ -15,10 +15,10 @@ use Rattle.bitcode_parts.proofs.ChoiceWritingLemmas.{joins_here, joins_later, jo
 use Rattle.bitcode_enums.specs.Variants.{index_first_or}
 use Rattle.bitcode_enums.specs.Writing.{JoinsVariant, OverflowsWithVariant}
 
-from_first : (first : ℕ) → first ≡ first + 0
+pub from_first : (first : ℕ) → first ≡ first + 0
 from_first first = omega arith
 
-from_next : (first index : ℕ) → suc first + index ≡ first + suc index
+pub from_next : (first index : ℕ) → suc first + index ≡ first + suc index
 from_next first index = omega arith
 
 -- ---- the first variant, and the rest

@@ -1,6 +1,6 @@
 -- What is said of a payload of some variant is said of the variants together.
 use Rattle.std.proofs.Common.{◌≡◌, ℕ, zero, suc, ◌+◌, ◌-◌, ◌<◌, ◌≤◌, Bool, List, [], ◌∷◌, ◌++◌, length, map, take, drop, inl, inr, refl, sym, ap, ap₂, ◌∙◌, arith}
-use Rattle.std.proofs.Math.Seq.{drop-nil}
+use Rattle.std.proofs.Math.Seq.{drop-nil, take-add}
 use Rattle.std.proofs.lemmas.Bool.{eqb-true}
 use Rattle.std.proofs.lemmas.List.{take_all, length-map, length-append, map-append}
 use Rattle.std.specs.Prelude.{◌⊎◌, ◌==◌, ◌&&◌, IsTrue}
@@ -124,13 +124,6 @@ drop_sum (suc n) m zero xs is = absurd (omega (arith, is))
 drop_sum (suc n) m (suc k) [] is = sym (drop-nil m)
 drop_sum (suc n) m (suc k) (x ∷ xs) is = drop_sum n m k xs (omega (arith, is))
 
-take_sum : {A : Type 0} (n m k : ℕ) (xs : List A) → k ≡ n + m → take k xs ≡ take n xs ++ take m (drop n xs)
-take_sum zero m k xs is = ap (λ j. take j xs) (let e : k ≡ m = omega (arith, is) in e)
-take_sum (suc n) m zero xs is = absurd (omega (arith, is))
-take_sum (suc n) zero (suc k) [] is = refl
-take_sum (suc n) (suc m) (suc k) [] is = refl
-take_sum (suc n) m (suc k) (x ∷ xs) is = ap (λ ys. x ∷ ys) (take_sum n m k xs (omega (arith, is)))
-
 -- what the two parts of the variants say of themselves, and that the second begins where the first ends
 module _ (first_start first_end second_start second_end : ℕ) (first second : Bool) (first_ordered : IsTrue first → first_start ≤ first_end) (second_ordered : IsTrue second → second_start ≤ second_end) where
   pub record AreInTurn : Type 0 where
@@ -173,7 +166,7 @@ module _ (first_start first_end second_start second_end : ℕ) (first second : B
         map-append emptied front behind
         ∙ ap₂ (λ xs ys. xs ++ ys) (of_front are.of_first)
         (of_behind are.of_second ∙ ap (take (second_end - second_start)) (drop_sum first_start (first_end - first_start) second_start shapes (omega (arith, f, o))))
-        ∙ sym (take_sum (first_end - first_start) (second_end - second_start) (second_end - first_start) (drop first_start shapes) sum)
+        ∙ sym (ap (λ n. take n (drop first_start shapes)) sum ∙ take-add (first_end - first_start) (second_end - second_start) (drop first_start shapes))
 
 pub fault_of_first : (number place : ℕ) (first_faults second_faults : ℕ → Reason → ℕ → List ℕ → Type 0) (reason : Reason) (k : ℕ) (input : List ℕ) → place < number
     → first_faults place reason k input → faults_behind number first_faults second_faults place reason k input
