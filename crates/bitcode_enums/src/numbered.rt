@@ -4,5 +4,4 @@ pub mod decoder;
 pub mod encoder;
 pub mod halves;
 pub mod held;
-pub mod payload;
 pub mod payloads;

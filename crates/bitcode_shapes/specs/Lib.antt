@@ -42,5 +42,6 @@ pub mod BuiltEntries
 pub mod BuiltSets
 pub mod BuiltMaps
 pub mod SameArrays
+pub mod PayloadOf
 pub mod KeyLaws
 pub mod OrderedKeyLaws

@@ -24,6 +24,8 @@ use crate::stands_for::{HeldIn, Holds};
 ///
 ///     ghost values = { Light.Red ∷ Light.Green ∷ [] };
 ///
+///     ghost in_order = { (refl, refl) };
+///
 ///     fn index(&self) -> u8 {
 ///         *self as u8
 ///     }
@@ -34,8 +36,6 @@ use crate::stands_for::{HeldIn, Holds};
 ///             _ => Light::Green,
 ///         }
 ///     }
-///
-///     ghost in_order = { (refl, refl) };
 /// }
 ///
 /// impl HeldIn for Light {
@@ -49,6 +49,8 @@ pub trait BareVariants<const N: usize> {
     // the value of each variant, in their order
     ghost values: { List Self };
 
+    ghost in_order: { AreSomeInOrder variant values N };
+
     /// Which variant the value is.
     fn index(&self) -> u8
         ensures is { result ≡ variant self.now }
@@ -58,8 +60,6 @@ pub trait BareVariants<const N: usize> {
     fn from_index(index: u8) -> Self
         requires { index < N }
         ensures { variant result ≡ index };
-
-    ghost in_order: { AreSomeInOrder variant values N };
 }
 
 /// An enum whose variants all lack a payload, and that is lawful as such: it says so by `HeldIn`.

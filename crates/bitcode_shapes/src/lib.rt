@@ -16,6 +16,7 @@ pub mod lists;
 pub mod maps;
 pub mod markers;
 pub mod no_variants;
+pub mod payload;
 pub mod pointers;
 pub mod same_arrays;
 pub mod sets;

@@ -1,13 +1,13 @@
 // Written by scripts/tables/payloads.
 //! Texts say their laws as data.
-ghost use Rattle.bitcode_enums.specs.VariantsOf.{payload_of};
+ghost use Rattle.bitcode_shapes.specs.PayloadOf.{payload_of};
 ghost use Rattle.std.specs.Box.{boxed_str_bytes};
 ghost use Rattle.std.specs.Rc.{rc_str_bytes};
 ghost use Rattle.bitcode_shapes.specs.SameArrays.{one_datum_same_arrays};
 ghost use Rattle.std.specs.String.{string_bytes};
 ghost use Rattle.bitcode_shapes.specs.LawfulTexts.{text_lawful, text_makeable, str_built, string_built, boxed_str_built, rc_str_built};
 
-use crate::numbered::payload::Payload;
+use crate::payload::Payload;
 use std::boxed::BoxedStr;
 use std::rc::RcStr;
 

@@ -1,6 +1,6 @@
 // Written by scripts/tables/payloads.
 //! Lists, heaps, arrays and what has a fixed capacity say their laws as data.
-ghost use Rattle.bitcode_enums.specs.VariantsOf.{payload_of};
+ghost use Rattle.bitcode_shapes.specs.PayloadOf.{payload_of};
 ghost use Rattle.std.specs.Prelude.{None, Some};
 ghost use Rattle.std.specs.BinaryHeap.{heap_items};
 ghost use Rattle.std.specs.Vec.{vec_items};
@@ -13,7 +13,7 @@ ghost use Rattle.bitcode_shapes.specs.LawfulAnyOrder.{any_heap_lawful, any_order
 ghost use Rattle.bitcode_shapes.specs.Arrays.{array_lawful, array_makeable};
 ghost use Rattle.bitcode_shapes.specs.FixedCapacity.{array_vec_lawful, array_vec_makeable, array_string_lawful, array_string_makeable};
 
-use crate::numbered::payload::Payload;
+use crate::payload::Payload;
 use arrayvec::{ArrayString, ArrayVec};
 use std::cmp::Ord;
 use std::collections::{BinaryHeap, LinkedList, VecDeque};

@@ -1,6 +1,6 @@
 // Written by scripts/tables/payloads.
 //! Numbers, chars, times and UUIDs say their laws as data.
-ghost use Rattle.bitcode_enums.specs.VariantsOf.{payload_of};
+ghost use Rattle.bitcode_shapes.specs.PayloadOf.{payload_of};
 ghost use Rattle.std.specs.Prelude.{true, false, ℤ, pos, refl};
 ghost use Rattle.bitcode_shapes.specs.LawfulDurations.{duration_lawful, duration_makeable};
 ghost use Rattle.bitcode_shapes.specs.SameArrays.{one_datum_same_arrays, one_listing_same_arrays, array_same_arrays};
@@ -11,8 +11,8 @@ ghost use Rattle.std.specs.Int.NonZero.{non_zero_u8_get, non_zero_u16_get, non_z
 ghost use Rattle.bitcode_shapes.specs.LawfulChecked.{checked_lawful, unsigned_nonzero_makeable, signed_nonzero_makeable, char_makeable};
 ghost use Rattle.bitcode_shapes.specs.Arrays.{array_lawful, array_makeable};
 
-use crate::numbered::payload::Payload;
-use bitcode_shapes::shaped::Shaped;
+use crate::payload::Payload;
+use crate::shaped::Shaped;
 use std::num::{
     NonZeroI8, NonZeroI16, NonZeroI32, NonZeroI64, NonZeroI128, NonZeroIsize, NonZeroU8,
     NonZeroU16, NonZeroU32, NonZeroU64, NonZeroU128, NonZeroUsize,

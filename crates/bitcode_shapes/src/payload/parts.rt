@@ -1,6 +1,6 @@
 // Written by scripts/tables/payloads.
 //! Options, results, nothing, markers and pointers say their laws as data.
-ghost use Rattle.bitcode_enums.specs.VariantsOf.{payload_of};
+ghost use Rattle.bitcode_shapes.specs.PayloadOf.{payload_of};
 ghost use Rattle.std.specs.Prelude.{None};
 ghost use Rattle.std.specs.Box.{box_value, boxed_slice_items};
 ghost use Rattle.std.specs.Rc.{rc_value, rc_slice_items};
@@ -11,7 +11,7 @@ ghost use Rattle.bitcode_shapes.specs.LawfulImages.{image_lawful, image_makeable
 ghost use Rattle.bitcode_shapes.specs.LawfulLists.{seq_lawful, seq_makeable};
 ghost use Rattle.bitcode_shapes.specs.Pointers.{box_built, rc_built, boxed_slice_built, rc_slice_built};
 
-use crate::numbered::payload::Payload;
+use crate::payload::Payload;
 use std::boxed::BoxedSlice;
 use std::marker::PhantomData;
 use std::rc::{Rc, RcSlice};

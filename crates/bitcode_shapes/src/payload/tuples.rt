@@ -1,6 +1,6 @@
 // Written by scripts/tables/payloads.
 //! Tuples of one to eight fields say their laws as data.
-ghost use Rattle.bitcode_enums.specs.VariantsOf.{payload_of};
+ghost use Rattle.bitcode_shapes.specs.PayloadOf.{payload_of};
 ghost use Rattle.std.specs.Prelude.{refl};
 ghost use Rattle.bitcode_shapes.specs.SameArrays.{image_same_arrays, pair_same_arrays, struct_same_arrays};
 ghost use Rattle.bitcode_shapes.specs.Tuples.{split_2, split_3, split_4, split_5, split_6, split_7, split_8, joined_2, joined_3, joined_4, joined_5, joined_6, joined_7, joined_8};
@@ -8,7 +8,7 @@ ghost use Rattle.bitcode_shapes.specs.LawfulImages.{image_lawful, image_makeable
 ghost use Rattle.bitcode_shapes.specs.LawfulPairs.{pair_lawful, pair_makeable};
 ghost use Rattle.bitcode_shapes.specs.LawfulStructs.{struct_lawful, struct_makeable};
 
-use crate::numbered::payload::Payload;
+use crate::payload::Payload;
 
 impl<A: Payload> Payload for (A,) {
     ghost payload = { payload_of (image_lawful (λ t. t.0) A.payload.lawful) (image_makeable (λ t. t.0) (λ g a h. (record { 0 = a }, refl)) A.payload.makeable) (image_same_arrays (λ t. t.0) A.payload.same_arrays) };

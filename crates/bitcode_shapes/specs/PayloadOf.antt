@@ -1,0 +1,33 @@
+-- What a lawful type whose values are made of data promises, as one record: a law has no name where another crate's impl is, data have.
+use Rattle.std.specs.Prelude.{Bool}
+use Rattle.bitcode_shapes.specs.Datum.{Datum}
+use Rattle.bitcode_shapes.specs.Shape.{Shape}
+use Rattle.bitcode_shapes.specs.ArrayCounts.{ListsSameArrays}
+use Rattle.bitcode_shapes.specs.Lawful.{Lawful, Makeable}
+
+-- a lawful type whose values are made of data
+pub record PayloadOf (T : Type 0) : Type 1 where
+  pub shape : Shape
+  pub is_value : T → Type 0
+  pub lists : T → Datum → Type 0
+  pub same : T → T → Type 0
+  pub in_order : Bool
+  pub makes : Datum → T → Type 0
+  pub lawful : Lawful shape is_value lists same in_order
+  pub makeable : Makeable shape is_value lists same makes
+  -- all listings of a value have the same numbers of arrays
+  pub same_arrays : ListsSameArrays shape is_value lists
+
+abbrev pub payload_of : {T : Type 0} {shape : Shape} {is_value : T → Type 0} {lists : T → Datum → Type 0} {same : T → T → Type 0} {in_order : Bool} {makes : Datum → T → Type 0}
+    → Lawful shape is_value lists same in_order → Makeable shape is_value lists same makes → ListsSameArrays shape is_value lists → PayloadOf T
+payload_of {shape = shape} {is_value} {lists} {same} {in_order} {makes} lawful makeable same_arrays = record {
+  shape = shape;
+  is_value = is_value;
+  lists = lists;
+  same = same;
+  in_order = in_order;
+  makes = makes;
+  lawful = lawful;
+  makeable = makeable;
+  same_arrays = same_arrays;
+}

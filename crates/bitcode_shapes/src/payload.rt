@@ -1,0 +1,41 @@
+//! Types that say their laws as data, so that an enum can quote them: those that the fields of its variants may have.
+ghost use Rattle.std.specs.Prelude.{refl};
+ghost use Rattle.bitcode_shapes.specs.LawfulBareVariants.{bare_lawful, bare_makeable};
+ghost use Rattle.bitcode_shapes.specs.LawfulImages.{image_lawful, image_makeable};
+ghost use Rattle.bitcode_shapes.specs.LawfulNever.{never_lawful, never_makeable};
+ghost use Rattle.bitcode_shapes.specs.PayloadOf.{PayloadOf, payload_of};
+ghost use Rattle.bitcode_shapes.specs.SameArrays.{image_same_arrays, never_same_arrays, one_datum_same_arrays};
+
+mod lists;
+mod numbers;
+mod parts;
+mod texts;
+mod tuples;
+mod tuples_of_9_to_16;
+
+use crate::bare_variants::{Bare, BareVariants};
+use crate::no_variants::{Absent, NoVariants};
+use crate::stands_for::StandsFor;
+
+/// A lawful type whose values are made of data, and that says so where an enum can quote it. It has no functions.
+///
+/// The laws of another crate's impl have no name that a ghost member could write; data have one: `⟦<(u8, String) as Payload>⟧.payload`.
+/// Types of one's own say theirs by what they stand for. Sets and maps are none of these, since their laws need those of their keys.
+pub trait Payload {
+    ghost payload: { PayloadOf Self };
+}
+
+impl<T: StandsFor> Payload for T
+where
+    T::Parts: Payload,
+{
+    ghost payload = { payload_of (image_lawful T.parts T.Parts.payload.lawful) (image_makeable T.parts (λ g p h. T.of_parts p) T.Parts.payload.makeable) (image_same_arrays T.parts T.Parts.payload.same_arrays) };
+}
+
+impl<const N: usize, T: BareVariants<N>> Payload for Bare<N, T> {
+    ghost payload = { payload_of (image_lawful (λ b. b.value) (bare_lawful T.variant T.in_order.1)) (image_makeable (λ b. b.value) (λ g t h. (record { value = t }, refl)) (bare_makeable T.variant T.values T.in_order.0)) (one_datum_same_arrays) };
+}
+
+impl<T: NoVariants> Payload for Absent<T> {
+    ghost payload = { payload_of (never_lawful (λ p. T.never p.value)) never_makeable never_same_arrays };
+}
