@@ -1,9 +1,11 @@
 -- What a lawful type whose values are made of data promises, as one record: a law has no name where another crate's impl is, data have.
-use Rattle.std.specs.Prelude.{Bool}
+use Rattle.std.specs.Prelude.{Bool, ◌≡◌}
 use Rattle.bitcode_shapes.specs.Datum.{Datum}
 use Rattle.bitcode_shapes.specs.Shape.{Shape}
 use Rattle.bitcode_shapes.specs.ArrayCounts.{ListsSameArrays}
 use Rattle.bitcode_shapes.specs.Lawful.{Lawful, Makeable}
+use Rattle.bitcode_shapes.specs.LawfulImages.{image_lawful, image_makeable}
+use Rattle.bitcode_shapes.specs.SameArrays.{image_same_arrays}
 
 -- a lawful type whose values are made of data
 pub record PayloadOf (T : Type 0) : Type 1 where
@@ -31,3 +33,7 @@ payload_of {shape = shape} {is_value} {lists} {same} {in_order} {makes} lawful m
   makeable = makeable;
   same_arrays = same_arrays;
 }
+
+-- of a type each of whose values stands for one of another, and of each of these some value
+abbrev pub stood_payload : {T P : Type 0} (parts : T → P) → ((p : P) → (t : T) × (parts t ≡ p)) → PayloadOf P → PayloadOf T
+stood_payload parts of_parts of = payload_of (image_lawful parts of.lawful) (image_makeable parts (λ g p h. of_parts p) of.makeable) (image_same_arrays parts of.same_arrays)

@@ -4,7 +4,7 @@ ghost use Rattle.bitcode_shapes.specs.LawfulBareVariants.{bare_lawful, bare_make
 ghost use Rattle.bitcode_shapes.specs.LawfulImages.{image_lawful, image_makeable};
 ghost use Rattle.bitcode_shapes.specs.LawfulNever.{never_lawful, never_makeable};
 ghost use Rattle.bitcode_shapes.specs.PayloadOf.{PayloadOf, payload_of};
-ghost use Rattle.bitcode_shapes.specs.SameArrays.{image_same_arrays, never_same_arrays, one_datum_same_arrays};
+ghost use Rattle.bitcode_shapes.specs.SameArrays.{never_same_arrays, one_datum_same_arrays};
 
 mod lists;
 mod numbers;
@@ -15,21 +15,20 @@ mod tuples_of_9_to_16;
 
 use crate::bare_variants::{Bare, BareVariants};
 use crate::no_variants::{Absent, NoVariants};
-use crate::stands_for::StandsFor;
 
 /// A lawful type whose values are made of data, and that says so where an enum can quote it. It has no functions.
 ///
 /// The laws of another crate's impl have no name that a ghost member could write; data have one: `⟦<(u8, String) as Payload>⟧.payload`.
-/// Types of one's own say theirs by what they stand for. Sets and maps are none of these, since their laws need those of their keys.
+/// Sets and maps are none of these, since their laws need those of their keys. A type of one's own says its laws by those of what it stands
+/// for:
+///
+/// ```
+/// impl Payload for Point {
+///     ghost payload = { stood_payload ⟦Point as StandsFor⟧.parts ⟦Point as StandsFor⟧.of_parts ⟦<(u32, u32) as Payload>⟧.payload };
+/// }
+/// ```
 pub trait Payload {
     ghost payload: { PayloadOf Self };
-}
-
-impl<T: StandsFor> Payload for T
-where
-    T::Parts: Payload,
-{
-    ghost payload = { payload_of (image_lawful T.parts T.Parts.payload.lawful) (image_makeable T.parts (λ g p h. T.of_parts p) T.Parts.payload.makeable) (image_same_arrays T.parts T.Parts.payload.same_arrays) };
 }
 
 impl<const N: usize, T: BareVariants<N>> Payload for Bare<N, T> {
