@@ -7,3 +7,6 @@ pub mod ReadingLaws
 pub mod Numbered
 pub mod NumberedLaws
 pub mod VariantsOf
+pub mod OneOf
+pub mod HeldColumns
+pub mod EachVariant

@@ -1,8 +1,7 @@
 -- What is said of a payload of some variant is said of the variants together.
-use Rattle.std.proofs.Common.{◌≡◌, ℕ, zero, suc, ◌+◌, ◌-◌, ◌<◌, ◌≤◌, Bool, List, [], ◌∷◌, ◌++◌, length, map, take, drop, inl, inr, refl, sym, ap, ap₂, ◌∙◌, arith}
-use Rattle.std.proofs.Math.Seq.{drop-nil, take-add}
+use Rattle.std.proofs.Common.{◌≡◌, ℕ, zero, suc, ◌+◌, ◌-◌, ◌<◌, ◌≤◌, Bool, List, [], ◌∷◌, ◌++◌, length, map, inl, inr, refl, sym, ap, ap₂, ◌∙◌, arith}
 use Rattle.std.proofs.lemmas.Bool.{eqb-true}
-use Rattle.std.proofs.lemmas.List.{take_all, length-map, length-append, map-append}
+use Rattle.std.proofs.lemmas.List.{length-map, length-append}
 use Rattle.std.specs.Prelude.{◌⊎◌, ◌==◌, ◌&&◌, IsTrue}
 use Rattle.bitcode_columns.specs.declared.error.Reason.{Reason}
 use Rattle.bitcode_shapes.specs.Datum.{Datum}
@@ -103,26 +102,18 @@ bare_count : (ss : Shapes) → length (bare_columns ss) ≡ variant_count ss
 bare_count no_shapes = refl
 bare_count (shape_and s ss) = ap suc (bare_count ss)
 
-module _ (ss : Shapes) {count total first : ℕ} (counted : variant_count ss ≡ count) (none_before : first ≡ 0) (all : total ≡ count) (lists : List Columns)
-    (form : map emptied lists ≡ take (total - first) (drop first (bare_columns ss))) where
-  pub whole_form : map emptied lists ≡ bare_columns ss
-  whole_form =
-      form ∙ ap₂ (λ n m. take n (drop m (bare_columns ss))) (let c = bare_count ss in let e : total - first ≡ length (bare_columns ss) = omega (arith, none_before, all, counted, c) in e) none_before
-      ∙ take_all (length (bare_columns ss)) (bare_columns ss) (omega arith)
+pub all_size : (ss : Shapes) {count : ℕ} → variant_count ss ≡ count → (lists : List Columns) → map emptied lists ≡ bare_columns ss → length lists ≡ count
+all_size ss counted lists form = sym (length-map lists emptied) ∙ ap length form ∙ bare_count ss ∙ counted
 
-  pub whole_size : length lists ≡ count
-  whole_size = sym (length-map lists emptied) ∙ ap length whole_form ∙ bare_count ss ∙ counted
+-- ---- variants that follow each other
 
-  pub whole_has_payloads : (first : ℕ) → HasPayloads ss first (all_columns lists)
-  whole_has_payloads = each_has_payloads ss lists whole_form
+pub not_past : (first count : ℕ) → first ≤ first + count
+not_past first count = omega arith
+
+pub size_between : (first count : ℕ) → count ≡ (first + count) - first
+size_between first count = omega arith
 
 -- ---- some variants, and others behind them
-
-drop_sum : {A : Type 0} (n m k : ℕ) (xs : List A) → k ≡ n + m → drop k xs ≡ drop m (drop n xs)
-drop_sum zero m k xs is = ap (λ j. drop j xs) (let e : k ≡ m = omega (arith, is) in e)
-drop_sum (suc n) m zero xs is = absurd (omega (arith, is))
-drop_sum (suc n) m (suc k) [] is = sym (drop-nil m)
-drop_sum (suc n) m (suc k) (x ∷ xs) is = drop_sum n m k xs (omega (arith, is))
 
 -- what the two parts of the variants say of themselves, and that the second begins where the first ends
 module _ (first_start first_end second_start second_end : ℕ) (first second : Bool) (first_ordered : IsTrue first → first_start ≤ first_end) (second_ordered : IsTrue second → second_start ≤ second_end) where
@@ -155,18 +146,6 @@ module _ (first_start first_end second_start second_end : ℕ) (first second : B
     pub parts_sized : {A : Type 0} (front behind : List A) → (IsTrue first → length front ≡ first_end - first_start) → (IsTrue second → length behind ≡ second_end - second_start)
         → length (front ++ behind) ≡ second_end - first_start
     parts_sized front behind f b = let are = in_turn turn in length-append front behind ∙ ap₂ (λ n m. n + m) (f are.of_first) (b are.of_second) ∙ sym sum
-
-    pub parts_of_shapes : (shapes front behind : List Columns) → (IsTrue first → map emptied front ≡ take (first_end - first_start) (drop first_start shapes))
-        → (IsTrue second → map emptied behind ≡ take (second_end - second_start) (drop second_start shapes))
-        → map emptied (front ++ behind) ≡ take (second_end - first_start) (drop first_start shapes)
-    parts_of_shapes shapes front behind of_front of_behind =
-        let are = in_turn turn in
-        let f = are.follows in
-        let o = are.first_order in
-        map-append emptied front behind
-        ∙ ap₂ (λ xs ys. xs ++ ys) (of_front are.of_first)
-        (of_behind are.of_second ∙ ap (take (second_end - second_start)) (drop_sum first_start (first_end - first_start) second_start shapes (omega (arith, f, o))))
-        ∙ sym (ap (λ n. take n (drop first_start shapes)) sum ∙ take-add (first_end - first_start) (second_end - second_start) (drop first_start shapes))
 
 pub fault_of_first : (number place : ℕ) (first_faults second_faults : ℕ → Reason → ℕ → List ℕ → Type 0) (reason : Reason) (k : ℕ) (input : List ℕ) → place < number
     → first_faults place reason k input → faults_behind number first_faults second_faults place reason k input

@@ -1,12 +1,13 @@
--- What an enum says of its variants: of the last one, of the first beside the rest, and of a type whose values stand for payloads.
+-- What an enum says of its variants: of the last one, of the first beside the rest, of a type whose values stand for payloads, and of
+-- the variant of a number.
 use Rattle.std.proofs.Common.{◌≡◌, ℕ, ◌<◌, Bool, refl}
 use Rattle.std.specs.Prelude.{◌&&◌, List}
 use Rattle.bitcode_shapes.specs.Datum.{Datum}
 use Rattle.bitcode_shapes.specs.Shape.{Shape, Shapes, no_shapes, shape_and, variant_count}
 use Rattle.bitcode_shapes.specs.Choices.{IsVariantValue, ListsLast, ListsVariant, MakesLast, MakesVariant, SameVariant}
-use Rattle.bitcode_shapes.specs.ArrayCounts.{ListsSameArrays, VariantsListSameArrays}
+use Rattle.bitcode_shapes.specs.ArrayCounts.{VariantsListSameArrays}
 use Rattle.bitcode_shapes.specs.SameArrays.{first_same_arrays, last_same_arrays}
-use Rattle.bitcode_shapes.specs.Lawful.{Lawful, Makeable}
+use Rattle.bitcode_shapes.specs.PayloadOf.{PayloadOf}
 use Rattle.bitcode_shapes.specs.LawfulChoices.{LawfulVariants, MakeableVariants, first_lawful, first_makeable, last_lawful, last_makeable}
 use Rattle.bitcode_coder.specs.Columns.{Columns}
 use Rattle.bitcode_coder.specs.Coder.{JoinsListing, OverflowsWithListing, TakesDatum}
@@ -102,4 +103,25 @@ variants_of v payload find = record {
   joined = λ t old new h. image_joined payload v.index v.lists t (v.joined (payload t) old new h);
   overflowed = λ t old h. image_overflowed payload v.index v.lists t (v.overflowed (payload t) old h);
   taken = λ t old new h. image_taken payload v.makes t (v.taken (payload t) old new h);
+}
+
+-- the variant of a number has payloads of such a shape; `value` is its value with a payload, and what is said of the payload is said of that
+pub record IsVariant {T P : Type 0} (vs : VariantsOf T) (number : ℕ) (shape : Shape) (lists : P → Datum → Type 0) (makes : Datum → P → Type 0) (value : P → T) : Type 0 where
+  pub has_shape : shape_at number vs.shapes ≡ shape
+  pub is_of : (p : P) → vs.index (value p) ≡ number
+  pub joins : (p : P) (old new : Columns) → JoinsListing lists shape p old new → vs.joins (value p) old new
+  pub overflows : (p : P) (old : Columns) → OverflowsWithListing lists shape p old → vs.overflows (value p) old
+  pub takes : (p : P) (old new : List Datum) → TakesDatum makes p old new → vs.takes (value p) old new
+
+abbrev pub is_variant : {T P : Type 0} {vs : VariantsOf T} {number : ℕ} {shape : Shape} {lists : P → Datum → Type 0} {makes : Datum → P → Type 0} {value : P → T}
+    → shape_at number vs.shapes ≡ shape → ((p : P) → vs.index (value p) ≡ number)
+    → ((p : P) (old new : Columns) → JoinsListing lists shape p old new → vs.joins (value p) old new)
+    → ((p : P) (old : Columns) → OverflowsWithListing lists shape p old → vs.overflows (value p) old)
+    → ((p : P) (old new : List Datum) → TakesDatum makes p old new → vs.takes (value p) old new) → IsVariant vs number shape lists makes value
+is_variant has_shape is_of joins overflows takes = record {
+  has_shape = has_shape;
+  is_of = is_of;
+  joins = joins;
+  overflows = overflows;
+  takes = takes;
 }
