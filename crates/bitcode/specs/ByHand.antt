@@ -31,8 +31,12 @@ pub use Rattle.bitcode_shapes.specs.Choices.{IsVariantValue, ListsChoice, ListsV
 -- The payloads of an enum's variants: that of the first one, or one of the rest; and which value stands for one:
 pub use Rattle.bitcode_enums.specs.declared.variants.FirstOr.{FirstOr}
 pub use Rattle.bitcode_enums.specs.Variants.{stood_for}
--- What an enum by the numbers of its variants says of them, and what may be at fault in each:
-pub use Rattle.bitcode_enums.specs.VariantsOf.{PayloadOf, payload_of, VariantsOf, variants_of, first_variant, last_variant}
+-- What an enum by the numbers of its variants says of them, and what their coders hold:
+pub use Rattle.bitcode_shapes.specs.PayloadOf.{PayloadOf, payload_of, stood_payload}
+pub use Rattle.bitcode_enums.specs.VariantsOf.{VariantsOf, variants_of, first_variant, last_variant, IsVariant, is_variant}
+pub use Rattle.bitcode_enums.specs.EachVariant.{Payloads, last_payload, payload_and, SomePayload, payload_at, each_variant}
+pub use Rattle.bitcode_enums.specs.OneOf.{of_one_of_2, of_one_of_3, of_one_of_4, of_one_of_5, of_one_of_6}
+pub use Rattle.bitcode_enums.specs.HeldColumns.{HeldColumns, HeldPayloads}
 pub use Rattle.bitcode_enums.specs.Numbered.{fault_and, no_faults}
 -- The columns that encoders hold, and the data that decoders hold:
 pub use Rattle.bitcode_coder.specs.Columns.{no_columns, two}

@@ -95,16 +95,46 @@ pub use bitcode_enums::held::FirstOrDecoder;
 pub use bitcode_enums::held::LastDecoder;
 pub use bitcode_enums::named::HasPayloadDecoder;
 pub use bitcode_enums::named::HasPayloadEncoder;
-pub use bitcode_enums::numbered::columns::HasVariantColumns;
 pub use bitcode_enums::numbered::columns::VariantColumns;
+pub use bitcode_enums::numbered::columns::WritesPayloads;
 pub use bitcode_enums::numbered::decoder::NumberedDecoder;
 pub use bitcode_enums::numbered::encoder::NumberedColumns;
 pub use bitcode_enums::numbered::halves::Halves;
 pub use bitcode_enums::numbered::held::Enum;
 pub use bitcode_enums::numbered::held::Held;
-pub use bitcode_enums::numbered::payload::Payload;
-pub use bitcode_enums::numbered::payloads::ReadsVariants;
+pub use bitcode_enums::numbered::held::told_as;
+pub use bitcode_enums::numbered::payloads::AllPayloads;
 pub use bitcode_enums::numbered::payloads::VariantPayloads;
+pub use bitcode_enums::numbered::variants::of_2::Decoders2;
+pub use bitcode_enums::numbered::variants::of_2::DecodersOf2;
+pub use bitcode_enums::numbered::variants::of_2::Encoders2;
+pub use bitcode_enums::numbered::variants::of_2::OneOf2;
+pub use bitcode_enums::numbered::variants::of_2::Variants2;
+pub use bitcode_enums::numbered::variants::of_2::WritesVariants2;
+pub use bitcode_enums::numbered::variants::of_3::Decoders3;
+pub use bitcode_enums::numbered::variants::of_3::DecodersOf3;
+pub use bitcode_enums::numbered::variants::of_3::Encoders3;
+pub use bitcode_enums::numbered::variants::of_3::OneOf3;
+pub use bitcode_enums::numbered::variants::of_3::Variants3;
+pub use bitcode_enums::numbered::variants::of_3::WritesVariants3;
+pub use bitcode_enums::numbered::variants::of_4::Decoders4;
+pub use bitcode_enums::numbered::variants::of_4::DecodersOf4;
+pub use bitcode_enums::numbered::variants::of_4::Encoders4;
+pub use bitcode_enums::numbered::variants::of_4::OneOf4;
+pub use bitcode_enums::numbered::variants::of_4::Variants4;
+pub use bitcode_enums::numbered::variants::of_4::WritesVariants4;
+pub use bitcode_enums::numbered::variants::of_5::Decoders5;
+pub use bitcode_enums::numbered::variants::of_5::DecodersOf5;
+pub use bitcode_enums::numbered::variants::of_5::Encoders5;
+pub use bitcode_enums::numbered::variants::of_5::OneOf5;
+pub use bitcode_enums::numbered::variants::of_5::Variants5;
+pub use bitcode_enums::numbered::variants::of_5::WritesVariants5;
+pub use bitcode_enums::numbered::variants::of_6::Decoders6;
+pub use bitcode_enums::numbered::variants::of_6::DecodersOf6;
+pub use bitcode_enums::numbered::variants::of_6::Encoders6;
+pub use bitcode_enums::numbered::variants::of_6::OneOf6;
+pub use bitcode_enums::numbered::variants::of_6::Variants6;
+pub use bitcode_enums::numbered::variants::of_6::WritesVariants6;
 pub use bitcode_enums::payloads::FirstOrEncoder;
 pub use bitcode_enums::payloads::LastEncoder;
 pub use bitcode_enums::payloads::PayloadEncoder;
@@ -181,6 +211,7 @@ pub use bitcode_shapes::keys::Key;
 pub use bitcode_shapes::lists::told_behind;
 pub use bitcode_shapes::lists::told_each;
 pub use bitcode_shapes::no_variants::NoVariants;
+pub use bitcode_shapes::payload::Payload;
 pub use bitcode_shapes::same_arrays::SameArrays;
 pub use bitcode_shapes::shaped::Made;
 pub use bitcode_shapes::shaped::Shaped;
@@ -212,6 +243,15 @@ pub use bitcode_tuples::fields::FieldsEncoder;
 pub use bitcode_untyped::shape::Shape;
 pub use bitcode_untyped::shape::ShapeNode;
 pub use bitcode_untyped::value::Value;
+
+/// The encoder of a struct of `K` fields, which stands for their tuple `P`.
+pub type EncoderOfFields<const K: usize, P> = StructEncoder<
+    FieldCount<K>,
+    <P as HasEncoder>::Encoder,
+>;
+
+/// The decoder of a struct, which stands for the tuple `P` of its fields.
+pub type DecoderOfFields<'a, P> = PartsDecoder<P, <P as HasDecoder<'a>>::Decoder>;
 
 /// The traits that coders meet, and the result of their calls.
 pub mod coder {

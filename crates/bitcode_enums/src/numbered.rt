@@ -5,3 +5,4 @@ pub mod encoder;
 pub mod halves;
 pub mod held;
 pub mod payloads;
+pub mod variants;

@@ -7,7 +7,7 @@ ghost use Rattle.bitcode_enums.specs.Numbered.{PayloadsFault};
 ghost use Rattle.bitcode_enums.specs.Reading.{VariantsFault};
 
 use crate::numbered::held::{Enum, Held};
-use crate::numbered::payloads::{ReadsVariants, VariantPayloads};
+use crate::numbered::payloads::AllPayloads;
 use bitcode_coder::coder::{Decoder, HoldsData, View};
 use bitcode_columns::error::Error;
 use bitcode_parts::choices::variant::VariantDecoder;
@@ -28,18 +28,18 @@ pub struct NumberedDecoder<'a, const N: usize, T, D> {
     of: PhantomData<T>,
 }
 
-impl<'a, const N: usize, T: Enum<N>, D: VariantPayloads<'a, N, T>> HoldsData
+impl<'a, const N: usize, T: Enum<N>, D: AllPayloads<'a, N, T>> HoldsData
     for NumberedDecoder<'a, N, T, D> {
     ghost shape = { choice_shape T.variants.shapes };
 
-    ghost held = { λ d. choices_of (variants_left d.variants) (D.lists d.payloads) };
+    ghost held = { λ d. choices_of (variants_left d.variants) (D.held.lists d.payloads) };
 
-    ghost owned = { λ d. variants_owned d.variants + D.owned d.payloads };
+    ghost owned = { λ d. variants_owned d.variants + D.held.owned d.payloads };
 }
 
-impl<'a, const N: usize, T: ReadsVariants<'a, N, D>, D: VariantPayloads<'a, N, T>> View<'a>
+impl<'a, const N: usize, T: Enum<N>, D: AllPayloads<'a, N, T>> View<'a>
     for NumberedDecoder<'a, N, T, D> {
-    ghost faults = { VariantsFault N (PayloadsFault T.variants.shapes D.faults) };
+    ghost faults = { VariantsFault N (PayloadsFault T.variants.shapes D.held.faults) };
 
     fn new(alloc: Global) -> Self {
         NumberedDecoder {
@@ -50,27 +50,24 @@ impl<'a, const N: usize, T: ReadsVariants<'a, N, D>, D: VariantPayloads<'a, N, T
     }
 
     fn populate(&mut self, input: &mut &'a [u8], k: usize) -> Result<(), Error> {
-        T::whole(&self.payloads);
         self.payloads.sized();
         self.variants.populate(input, k)?;
         for number in 0..N {
             let count = self.variants.length(number);
-            self.payloads.populate_payloads(number, input, count)?;
+            self.payloads.populate_at(number, input, count)?;
         }
         Ok(())
     }
 }
 
-impl<'a, const N: usize, T: ReadsVariants<'a, N, D>, D: VariantPayloads<'a, N, T>> Decoder<
-    Held<N, T>,
-> for NumberedDecoder<'a, N, T, D> {
-    ghost makes_free = { D.makes_free };
+impl<'a, const N: usize, T: Enum<N>, D: AllPayloads<'a, N, T>> Decoder<Held<N, T>>
+    for NumberedDecoder<'a, N, T, D> {
+    ghost makes_free = { D.held.makes_free };
 
     fn decode(&mut self) -> Result<Held<N, T>, Error> {
-        T::whole(&self.payloads);
         self.payloads.sized();
         let variant = self.variants.decode();
-        let value = self.payloads.decode_payload(variant as usize)?;
+        let value = self.payloads.decode_at(variant as usize)?;
         Ok(Held::new(value))
     }
 

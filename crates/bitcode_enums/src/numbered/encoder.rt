@@ -3,11 +3,11 @@ ghost use Rattle.std.specs.Prelude.{◌≡◌, OnOk, IfErr};
 ghost use Rattle.bitcode_coder.specs.Columns.{emptied};
 ghost use Rattle.bitcode_coder.specs.Coder.{endless_room, IsWritingRefusal};
 ghost use Rattle.bitcode_enums.specs.Numbered.{all_columns};
-ghost use Rattle.bitcode_enums.specs.NumberedLaws.{whole_has_payloads};
+ghost use Rattle.bitcode_enums.specs.NumberedLaws.{each_has_payloads};
 ghost use Rattle.bitcode_enums.specs.Writing.{JoinsVariant, OverflowsWithVariant};
 
 use crate::encoder::EncodeVariant;
-use crate::numbered::columns::{HasVariantColumns, VariantColumns};
+use crate::numbered::columns::WritesPayloads;
 use crate::numbered::held::{Enum, Held};
 use crate::payloads::PayloadColumns;
 use bitcode_coder::coder::{Buffer, HoldsColumns};
@@ -23,26 +23,26 @@ use std::alloc::Global;
 /// payloads.collect_into(&mut bytes)?; // [7]
 /// ```
 #[derive(Drop)]
-pub struct NumberedColumns<const N: usize, T: HasVariantColumns<N>> {
+pub struct NumberedColumns<const N: usize, T: WritesPayloads<N>> {
     columns: T::Columns,
 }
 
-impl<const N: usize, T: HasVariantColumns<N>> HoldsColumns for NumberedColumns<N, T> {
-    ghost columns = { λ e. all_columns (T.Columns.lists e.columns) };
+impl<const N: usize, T: WritesPayloads<N>> HoldsColumns for NumberedColumns<N, T> {
+    ghost columns = { λ e. all_columns (T.held.lists e.columns) };
 
     ghost room = { λ e. endless_room };
 
-    ghost capacity = { λ e. T.Columns.capacity e.columns };
+    ghost capacity = { λ e. T.held.capacity e.columns };
 
     ghost surely_overflows = { λ e n. ⊥ };
 
     ghost overflows = { λ e n. ⊥ };
 }
 
-impl<const N: usize, T: HasVariantColumns<N>> Buffer for NumberedColumns<N, T> {
+impl<const N: usize, T: WritesPayloads<N>> Buffer for NumberedColumns<N, T> {
     fn new(alloc: Global) -> Self {
         NumberedColumns {
-            columns: T::Columns::new(alloc),
+            columns: T::new_columns(alloc),
         }
     }
 
@@ -53,36 +53,36 @@ impl<const N: usize, T: HasVariantColumns<N>> Buffer for NumberedColumns<N, T> {
 
     fn collect_into(&mut self, out: &mut Vec<u8>) -> Result<(), Error> {
         for number in 0..N {
-            self.columns.collect_payloads(number, out)?;
+            T::collect(&mut self.columns, number, out)?;
         }
         Ok(())
     }
 
     fn clear(&mut self) {
         for number in 0..N {
-            self.columns.clear_payloads(number);
+            T::clear(&mut self.columns, number);
         }
     }
 }
 
-impl<const N: usize, T: HasVariantColumns<N>> PayloadColumns<Held<N, T>> for NumberedColumns<N, T> {
-    ghost of_shapes = { λ e. whole_has_payloads T.variants.shapes T.sized.0 T.whole.0 T.whole.1 (T.Columns.lists e.columns) (T.Columns.of_shapes T.whole.2 e.columns) };
+impl<const N: usize, T: WritesPayloads<N>> PayloadColumns<Held<N, T>> for NumberedColumns<N, T> {
+    ghost of_shapes = { λ e. each_has_payloads T.variants.shapes (T.held.lists e.columns) (T.of_shapes e.columns) };
 }
 
-impl<const N: usize, T: HasVariantColumns<N>> NumberedColumns<N, T> {
+impl<const N: usize, T: WritesPayloads<N>> NumberedColumns<N, T> {
     /// Makes room for the payload of a value in the columns of its variant, and joins its columns to those.
     ///
-    /// It refuses as [`VariantColumns::encode_payload`] does.
+    /// It refuses as [`WritesPayloads::write_payload`] does.
     pub fn encode_payload(&mut self, t: &T) -> Result<(), Error>
-        ensures joined { OnOk result (JoinsVariant T.variants.index T.variants.lists T.variants.shapes t.now (all_columns (T.Columns.lists self.old.columns)) (all_columns (T.Columns.lists self.new.columns))) }
-        ensures form { emptied (all_columns (T.Columns.lists self.new.columns)) ≡ emptied (all_columns (T.Columns.lists self.old.columns)) }
-        ensures refused { IfErr result (λ e. IsWritingRefusal e.reason (OverflowsWithVariant T.variants.index T.variants.lists T.variants.shapes t.now (all_columns (T.Columns.lists self.old.columns)))) }
+        ensures joined { OnOk result (JoinsVariant T.variants.index T.variants.lists T.variants.shapes t.now (all_columns (T.held.lists self.old.columns)) (all_columns (T.held.lists self.new.columns))) }
+        ensures form { emptied (all_columns (T.held.lists self.new.columns)) ≡ emptied (all_columns (T.held.lists self.old.columns)) }
+        ensures refused { IfErr result (λ e. IsWritingRefusal e.reason (OverflowsWithVariant T.variants.index T.variants.lists T.variants.shapes t.now (all_columns (T.held.lists self.old.columns)))) }
     {
-        self.columns.encode_payload(t)
+        t.write_payload(&mut self.columns)
     }
 }
 
-impl<const N: usize, T: HasVariantColumns<N> + HeldIn<Holder = Held<N, T>>> EncodeVariant<
+impl<const N: usize, T: WritesPayloads<N> + HeldIn<Holder = Held<N, T>>> EncodeVariant<
     N,
     NumberedColumns<N, T>,
 > for T {

@@ -1,7 +1,7 @@
 //! Variants that follow each other, as some of them and those behind these.
 ghost use Rattle.std.specs.Prelude.{◌+◌, ◌++◌, ◌&&◌, ◌==◌};
-ghost use Rattle.bitcode_enums.specs.Numbered.{bare_columns, faults_behind};
-ghost use Rattle.bitcode_enums.specs.NumberedLaws.{parts_ordered, parts_of_shapes, parts_sized};
+ghost use Rattle.bitcode_enums.specs.Numbered.{faults_behind};
+ghost use Rattle.bitcode_enums.specs.NumberedLaws.{parts_ordered, parts_sized};
 
 use crate::numbered::columns::VariantColumns;
 use crate::numbered::held::Enum;
@@ -11,7 +11,7 @@ use std::alloc::Global;
 
 /// The columns or the payloads of some variants, and of those behind them.
 ///
-/// An enum of many variants has a struct for each few of them, and these in twos: `Halves<Halves<A, B>, Halves<C, D>>`.
+/// An enum of many variants has coders for each few of them, and these in twos: `Halves<Halves<A, B>, Halves<C, D>>`.
 #[derive(Drop)]
 pub struct Halves<F, S> {
     first: F,
@@ -28,9 +28,7 @@ impl<const N: usize, T: Enum<N>, F: VariantColumns<N, T>, S: VariantColumns<N, T
 
     ghost in_turn = { (F.in_turn && S.in_turn) && (S.first == F.end) };
 
-    ghost lists = { λ e. F.lists e.first ++ S.lists e.second };
-
-    ghost capacity = { λ e. F.capacity e.first + S.capacity e.second };
+    ghost columns = { record { lists = λ e. F.columns.lists e.first ++ S.columns.lists e.second; capacity = λ e. F.columns.capacity e.first + S.columns.capacity e.second } };
 
     fn new(alloc: Global) -> Self {
         Halves {
@@ -69,9 +67,7 @@ impl<const N: usize, T: Enum<N>, F: VariantColumns<N, T>, S: VariantColumns<N, T
 
     ghost ordered = { parts_ordered F.first F.end S.first S.end F.in_turn S.in_turn F.ordered S.ordered };
 
-    ghost sized = { λ turn e. parts_sized F.first F.end S.first S.end F.in_turn S.in_turn F.ordered S.ordered turn (F.lists e.first) (S.lists e.second) (λ t. F.sized t e.first) (λ t. S.sized t e.second) };
-
-    ghost of_shapes = { λ turn e. parts_of_shapes F.first F.end S.first S.end F.in_turn S.in_turn F.ordered S.ordered turn (bare_columns T.variants.shapes) (F.lists e.first) (S.lists e.second) (λ t. F.of_shapes t e.first) (λ t. S.of_shapes t e.second) };
+    ghost sized = { λ turn e. parts_sized F.first F.end S.first S.end F.in_turn S.in_turn F.ordered S.ordered turn (F.columns.lists e.first) (S.columns.lists e.second) (λ t. F.sized t e.first) (λ t. S.sized t e.second) };
 }
 
 impl<
@@ -87,13 +83,7 @@ impl<
 
     ghost in_turn = { (F.in_turn && S.in_turn) && (S.first == F.end) };
 
-    ghost lists = { λ d. F.lists d.first ++ S.lists d.second };
-
-    ghost owned = { λ d. F.owned d.first + S.owned d.second };
-
-    ghost faults = { faults_behind S.first F.faults S.faults };
-
-    ghost makes_free = { F.makes_free && S.makes_free };
+    ghost held = { record { lists = λ d. F.held.lists d.first ++ S.held.lists d.second; owned = λ d. F.held.owned d.first + S.held.owned d.second; faults = faults_behind S.first F.held.faults S.held.faults; makes_free = F.held.makes_free && S.held.makes_free } };
 
     fn new(alloc: Global) -> Self {
         Halves {

@@ -4,6 +4,7 @@ ghost use Rattle.bitcode_shapes.specs.BareVariants.{AreSomeVariants};
 ghost use Rattle.bitcode_shapes.specs.Choices.{ListsChoice, MakesChoice};
 ghost use Rattle.bitcode_shapes.specs.LawfulChoices.{choice_makeable};
 ghost use Rattle.bitcode_shapes.specs.LawfulImages.{image_lawful, image_makeable};
+ghost use Rattle.bitcode_shapes.specs.PayloadOf.{payload_of};
 ghost use Rattle.bitcode_shapes.specs.SameArrays.{choice_same_arrays, image_same_arrays};
 ghost use Rattle.bitcode_shapes.specs.Shape.{variant_count, choice_shape};
 ghost use Rattle.bitcode_enums.specs.LawfulVariants.{some_choices_lawful, variants_image_lawful, held_lists};
@@ -11,31 +12,26 @@ ghost use Rattle.bitcode_enums.specs.VariantsOf.{VariantsOf};
 
 use crate::choice::HoldsPayload;
 use crate::variants::ShapedVariants;
+use bitcode_shapes::payload::Payload;
 use bitcode_shapes::same_arrays::SameArrays;
 use bitcode_shapes::shaped::{Made, Shaped};
 use bitcode_shapes::stands_for::Holds;
+use bitcode_tuples::fields::Fields;
 
 /// An enum of `N` variants, 2 to 256, which are numbered from 0 on in the order in which they stand.
 ///
 /// ```
 /// impl Enum<2> for Shot {
-///     ghost variants = { variants_of (first_variant ⟦<() as Payload>⟧.payload (last_variant ⟦<u8 as Payload>⟧.payload)) (elim [ Shot.Missed ↦ FirstOr.First tt | Shot.Hit a ↦ FirstOr.Rest (record { 0 = a }) ]) (elim [ FirstOr.First p ↦ (Shot.Missed, refl) | FirstOr.Rest p ↦ (Shot.Hit p.0, refl) ]) };
+///     ghost variants = { each_variant (payload_and ⟦<() as Payload>⟧.payload (last_payload ⟦<u8 as Payload>⟧.payload)) (λ at. elim [ Shot.Missed ↦ at 0 tt | Shot.Hit a ↦ at 1 a ]) ((λ p. (Shot.Missed, refl)), λ p. (Shot.Hit p, refl)) };
+///
+///     ghost sized = { (refl, refl) };
 ///
 ///     fn variant(&self) -> u8 {
 ///         match self {
 ///             Shot::Missed => 0,
-///             Shot::Hit(_) => 1,
+///             Shot::Hit(damage) => told_as(1, &damage),
 ///         }
 ///     }
-///
-///     fn told_payload(&self) {
-///         match self {
-///             Shot::Missed => (),
-///             Shot::Hit(damage) => damage.told(),
-///         }
-///     }
-///
-///     ghost sized = { (refl, refl) };
 /// }
 ///
 /// impl HeldIn for Shot {
@@ -46,15 +42,25 @@ pub trait Enum<const N: usize> {
     // what its variants are, what their payloads hold, and how they are written and read
     ghost variants: { VariantsOf Self };
 
-    /// The number of the variant that the value is of.
-    fn variant(&self) -> u8
-        ensures { result ≡ variants.index self.now };
-
-    /// The payload of a value in hand is a value. Does nothing; its contract is for proofs.
-    fn told_payload(&self)
-        ensures { variants.is_value self.now };
-
     ghost sized: { (variant_count variants.shapes ≡ N) × AreSomeVariants N };
+
+    /// The number of the variant that the value is of. A value in hand is one, as `told` of its fields says.
+    fn variant(&self) -> u8
+        ensures number { result ≡ variants.index self.now }
+        ensures value { variants.is_value self.now };
+}
+
+/// A number, of a variant whose fields are values.
+///
+/// ```
+/// Shot::Hit(damage) => told_as(1, &damage),
+/// ```
+pub fn told_as<F: Fields>(number: u8, fields: &F) -> u8
+    ensures number { result ≡ number }
+    ensures value { F.Whole.is_value (F.whole fields.now) }
+{
+    fields.told();
+    number
 }
 
 /// A value of an enum of `N` variants, by itself: what the enum stands for.
@@ -80,7 +86,7 @@ impl<const N: usize, T: Enum<N>> Holds<T> for Held<N, T> {
     ghost holds = { λ h. refl };
 
     fn told_value(t: &T) {
-        t.told_payload();
+        let _number = t.variant();
     }
 
     fn into_value(self) -> T {
@@ -101,7 +107,7 @@ impl<const N: usize, T: Enum<N>> Shaped for Held<N, T> {
     ghost in_order = { T.variants.in_order };
 
     fn told(&self) {
-        self.value.told_payload();
+        let _number = self.value.variant();
     }
 
     ghost lawful = { image_lawful (λ h. h.value) (some_choices_lawful T.sized.0 T.sized.1 T.variants.lawful) };
@@ -127,7 +133,7 @@ impl<const N: usize, T: Enum<N>> ShapedVariants for Held<N, T> {
     ghost index = { λ h. T.variants.index h.value };
 
     fn told(&self) {
-        self.value.told_payload();
+        let _number = self.value.variant();
     }
 
     ghost lawful = { variants_image_lawful (λ h. h.value) T.variants.lawful };
@@ -149,4 +155,8 @@ impl<const N: usize, T: Enum<N>> HoldsPayload<N> for Held<N, T> {
 
 impl<const N: usize, T: Enum<N>> SameArrays for Held<N, T> {
     ghost same_arrays = { image_same_arrays (λ h. h.value) (choice_same_arrays T.variants.same_arrays) };
+}
+
+impl<const N: usize, T: Enum<N>> Payload for Held<N, T> {
+    ghost payload = { payload_of (image_lawful (λ h. h.value) (some_choices_lawful T.sized.0 T.sized.1 T.variants.lawful)) (image_makeable (λ h. h.value) (λ g t h. (record { value = t }, refl)) (choice_makeable T.variants.makeable)) (image_same_arrays (λ h. h.value) (choice_same_arrays T.variants.same_arrays)) };
 }
