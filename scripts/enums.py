@@ -4,16 +4,12 @@ from string import Template
 
 from declarations import Refused, fields_of
 from known_types import MOST_FIELDS, Checker, inside, of_text
-from numbered import Numbered
+from numbered import MOST_IN_A_NEST, Numbered
 from structs import NOT_DERIVED, bounds, quoted, places, tuple_text
 from variants import LETTERS, arms, declaration, ghost_arms, names_of, payload, told_apart, value
 
 # Of 16 variants with payloads the compiler says in generic code that there are too many impls to go through; 12 compile.
 MOST_VARIANTS, MOST_PAYLOADS = 256, 12
-# The borrow checker covers no pattern that goes deeper, where a payload takes memory. Enums of more are written by number where they can be.
-MOST_IN_ONE_MATCH = 4
-# The laws of these need those of their keys.
-KEYED_BY_LAWS = {"BTreeSet", "HashSet", "BTreeMap", "HashMap"}
 
 BARE = """//! `$name` numbers its variants. What is below its declaration was written by `scripts/new_type`.
 ghost use Rattle.std.specs.Prelude.{[], ◌∷◌, refl};
@@ -183,15 +179,6 @@ def one_by_one(enum):
     return "".join(matches) + f"let Last({payload(names_of(last), '()')}) = rest;\n        {value(enum, last)}"
 
 
-def is_numbered(enum, own):
-    """Whether the enum is written and read by the numbers of its variants: one of more variants than a nest is for, whose fields' types
-    say their laws as data, as sets, maps and types of one's own do not."""
-    def says_laws(type):
-        return type.kind != "reference" and type.name not in KEYED_BY_LAWS and type.name not in own and all(map(says_laws, type.parts))
-
-    return len(enum.variants) > MOST_IN_ONE_MATCH and not enum.types and not enum.lifetime and all(says_laws(field.type) for field in fields_of(enum))
-
-
 def bare_text(enum, crate, module):
     """The file of an enum whose variants all lack fields."""
     last, names = len(enum.variants) - 1, [f"{quoted(enum.name)}.{variant.name}" for variant in enum.variants]
@@ -249,7 +236,7 @@ def payloads_text(enum, crate, module, imports, own):
         "input": input,
         "parts": parts,
         "of_parts": of_parts,
-        "from_parts": one_by_one(enum) if last + 1 > MOST_IN_ONE_MATCH
+        "from_parts": one_by_one(enum) if last + 1 > MOST_IN_A_NEST
         else f"match choice.payload {{{arms(enum, lambda place, variant: held(place, variant, '()'), lambda place, variant: value(enum, variant))}}}",
         "index": arms(enum, lambda place, variant: told_apart(enum, variant), lambda place, variant: place),
         "lend": lend,
@@ -263,7 +250,7 @@ def payloads_text(enum, crate, module, imports, own):
     return Template(PAYLOADS).substitute(row)
 
 
-def check_variants(enum, own):
+def check_variants(enum, is_numbered):
     """Stops at variants that cannot be written, or too many of them."""
     count, fields = len(enum.variants), fields_of(enum)
     derived = [name for name in enum.derives if name not in {"Clone", "Copy", *NOT_DERIVED}]
@@ -271,7 +258,7 @@ def check_variants(enum, own):
         raise Refused(enum.line, f"leave the `{derived[0]}` out: an enum without variants has no values, and no call could meet its contract")
     if count > MOST_VARIANTS:
         raise Refused(enum.line, f"{count} variants are more than 256: put some of them into an enum of their own")
-    if fields and count > MOST_PAYLOADS and not is_numbered(enum, own):
+    if fields and count > MOST_PAYLOADS and not is_numbered:
         raise Refused(enum.variants[MOST_PAYLOADS].line, f"{count} variants, of which some have fields, are more than {MOST_PAYLOADS}: put some of them into an enum of their own")
     if not fields and (enum.types or enum.lifetime):
         raise Refused(enum.line, f"no variant has a field of `{[enum.lifetime, *enum.types][-1]}`: leave it out")
@@ -284,9 +271,9 @@ def check_variants(enum, own):
             raise Refused(variant.line, f"{len(variant.fields)} fields are more than 16: put some of them into a struct of their own")
 
 
-def enum_text(enum, own, crate, module):
+def enum_text(enum, own, crate, module, is_numbered):
     """The file of an enum, the crates that it needs, and the files of its proofs by their paths."""
-    check_variants(enum, own)
+    check_variants(enum, is_numbered)
     checker = Checker(enum, own)
     for field in fields_of(enum):
         checker.check(field.type)
@@ -296,7 +283,7 @@ def enum_text(enum, own, crate, module):
         text = one_text(enum, crate, module, checker.imports, own)
     elif not fields_of(enum):
         text = bare_text(enum, crate, module)
-    elif is_numbered(enum, own):
+    elif is_numbered:
         numbered = Numbered(enum, crate, module)
         return numbered.file(checker.imports), checker.crates, numbered.answers()
     else:

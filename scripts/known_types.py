@@ -5,9 +5,9 @@ from collections import namedtuple
 
 from declarations import Refused, fields_of, word_of
 
-# A type of one's own: where it is imported from, its declaration if that is in the file, and whether its impls are those of what it
-# stands for, as this script writes them.
-Own = namedtuple("Own", "path item stands")
+# A type of one's own: where it is imported from, its declaration if that is in the file, whether its impls are those of what it
+# stands for, as this script writes them, and whether it is imported and says its laws as data.
+Own = namedtuple("Own", "path item stands says_laws")
 # A type that the library writes and reads: where it is imported from, how many types and how many numbers it takes, and whether it
 # can be a set's element or a map's key ("parts": if what it holds can).
 Known = namedtuple("Known", "path types numbers key")
@@ -180,7 +180,7 @@ class Checker:
             self.check(part)
 
     def own_type(self, type):
-        path, item, _ = self.own[type.name]
+        path, item, *_ = self.own[type.name]
         taken = len(type.parts) if not item else len(item.types) + bool(item.lifetime)
         if len(type.parts) != taken:
             raise Refused(type.line, f"`{type.name}` takes {taken} parameters")

@@ -1,54 +1,98 @@
-"""The files of an enum that is written and read by the numbers of its variants: what scripts/new_type writes of enums of many variants."""
+"""The file of an enum that is written and read by the numbers of its variants: what scripts/new_type writes of enums of many variants."""
 
 import re
 from string import Template
 
+from declarations import Enum, Struct, fields_of
 from known_types import of_text
-from structs import quoted
-from variants import arms, declaration, ghost_arms, held_type, names_of, payload, told_apart, value
+from structs import bounds, places, quoted
+from variants import LETTERS, arms, declaration, held_type, names_of, payload, value
 
-# So many variants have a struct of coders; of more, each so many have one, since a match's arms cost the more to prove the more there are.
-MOST_TOGETHER = 8
+# The borrow checker covers no pattern that goes deeper than this into the nest of the payloads, where one takes memory. So enums of more
+# variants are written by number, where they can be.
+MOST_IN_A_NEST = 4
+# The laws of these need those of their keys.
+KEYED_BY_LAWS = {"BTreeSet", "HashSet", "BTreeMap", "HashMap"}
+# So many variants that follow each other have their coders together, at the most: crates/bitcode_enums/src/numbered/variants.
+MOST_TOGETHER = 6
+ORDINALS = ["first", "second", "third", "fourth", "fifth", "sixth"]
+# Of more than so much text the type of a group's encoders has a name.
+MOST_IN_PLACE = 48
 # Of so many fields the compiler finds the types of what a coder takes.
 MOST_FOUND = 2
 
-FILE = """//! `$name` is written and read by the numbers of its variants. What is below its declaration was written by `scripts/new_type`.
-ghost use Rattle.std.specs.Prelude.{$prelude};
-ghost use Rattle.std.proofs.Common.{lit≤};
-ghost use Rattle.bitcode.specs.ByHand.{FirstOr, fault_and, first_variant, last_variant, no_faults, variants_of};
+FILE = """//! `$simple` is written and read by the numbers of its variants. What is below its declaration was written by `scripts/new_type`.
+ghost use Rattle.std.specs.Prelude.{◌≡◌, [], ◌∷◌, ◌+◌, ◌&&◌, refl};
+ghost use Rattle.bitcode.specs.ByHand.{$by_hand};
 ghost use Rattle.$crate.specs.declared.$module.$ghost.{$ghost};
 
-use bitcode::coder::{Buffer, HoldsColumns, HoldsData};
 $uses
 $declaration
 impl Enum<$count> for $name {
-    ghost variants = { variants_of ($variants) (elim [ $parts ]) (elim [ $of_parts ]) };
+    ghost variants = { each_variant ($payloads_of) (λ at. elim [ $payload ]) $values };
+
+    ghost sized = { (refl, refl) };
 
     fn variant(&self) -> u8 {
         match self {$index}
     }
-
-    fn told_payload(&self) {
-        match self {$told}
-    }
-
-    ghost sized = { (refl, refl) };
 }
 
 impl HeldIn for $name {
     type Holder = Held<$count, $name>;
 }
 
-$columns
-impl HasVariantColumns<$count> for $name {
-    type Columns = $all_columns;
+$groups
+${all_columns}impl WritesPayloads<$count> for $name {
+    type Columns = Columns;
 
-    ghost whole = { (refl, refl, refl) };
+    ghost held = { ⟦<Columns as VariantColumns<$count, $name>>⟧.columns };
+
+    fn new_columns(alloc: Global) -> Columns {
+        VariantColumns::<$count, $name>::new(alloc)
+    }
+
+    fn collect(columns: &mut Columns, number: usize, out: &mut Vec<u8>) -> Result<(), Error> {
+        VariantColumns::<$count, $name>::collect_payloads(columns, number, out)
+    }
+
+    fn clear(columns: &mut Columns, number: usize) {
+        VariantColumns::<$count, $name>::clear_payloads(columns, number);
+    }
+
+    fn write_payload(&self, columns: &mut Columns) -> Result<(), Error> {
+        columns.encode_payload(self)
+    }
+
+    ghost of_shapes = { λ e. refl };
 }
 
-$payloads
-impl<'a> ReadsVariants<'a, $count, $all_payloads> for $name {
-    fn whole(_payloads: &$all_payloads) {}
+/// The payloads that values of `$simple` are made of.
+#[derive(Drop)]
+pub struct $struct<'a> {$decoders$mark
+}
+
+impl<'a> AllPayloads<'a, $count, $name> for $struct<'a> {
+    ghost held = { record { lists = λ d. $lists; owned = λ d. $owned; faults = $faults; makes_free = $makes_free } };
+
+    fn new(alloc: Global) -> Self {
+        $struct {$views
+        }
+    }
+
+    fn populate_at(&mut self, number: usize, input: &mut &'a [u8], k: usize) -> Result<(), Error> {
+        match number {$populate
+            _ => unreachable!(),
+        }
+    }
+
+    fn decode_at(&mut self, number: usize) -> Result<$name, Error> {
+        match number {$decode
+            _ => unreachable!(),
+        }
+    }
+
+    fn sized(&self) {}
 }
 
 impl HasEncoder for $name {
@@ -56,101 +100,34 @@ impl HasEncoder for $name {
 }
 
 impl<'a> HasDecoder<'a> for $name {
-    type Decoder = PartsDecoder<Held<$count, $name>, NumberedDecoder<'a, $count, $name, $all_payloads>>;
+    type Decoder = PartsDecoder<Held<$count, $name>, NumberedDecoder<'a, $count, $name, $struct<'a>>>;
 }
 
 impl DecodeOwned for $name {}
 """
 
-COLUMNS = """/// The columns that payloads of `$name` are written to$some.
-#[derive(Drop)]
-pub struct $struct {$fields
+GROUP = """impl Variants$size<$count, $first, $types> for $name {
+    ghost values = { ($values) };
+
+    fn of_payload(payload: OneOf$size<$types>) -> Self
+        ensures { result ≡ of_one_of_$size $arms payload }
+    {
+        match payload {$made}
+    }
+
+    ghost are = { ($are) };
 }
 
-impl VariantColumns<$count, $name> for $struct {
-    ghost first = { $first };
-
-    ghost end = { $end };
-
-    ghost in_turn = { true };
-
-    ghost lists = { λ e. $lists };
-
-    ghost capacity = { λ e. $capacity };
-
-    fn new(alloc: Global) -> Self {
-        $struct {$new}
+${alias}impl WritesVariants$size<$count, $first, $types> for $name {
+    fn write(&self, to: &mut $encoders) -> Result<(), Error> {
+        match self {$encode}
     }
-
-    fn first(&self) -> usize {
-        $first
-    }
-
-    fn collect_payloads(&mut self, number: usize, out: &mut Vec<u8>) -> Result<(), Error> {
-        match number {$collect}
-    }
-
-    fn clear_payloads(&mut self, number: usize) {
-        match number {$clear}
-    }
-
-    fn encode_payload(&mut self, t: &$name) -> Result<(), Error> {
-        match t {$encode}
-    }
-
-    ghost ordered = { λ turn. lit≤ tt };
-
-    ghost sized = { λ turn e. refl };
-
-    ghost of_shapes = { λ turn e. refl };
 }
 """
+ARE = "is_variant refl (λ p. refl) (λ p old new h. h) (λ p old h. h) (λ p old new h. h)"
 
-PAYLOADS = """/// The payloads that values of `$name` are made of$some.
-#[derive(Drop)]
-pub struct $struct<'a> {$fields$mark
-}
 
-impl<'a> VariantPayloads<'a, $count, $name> for $struct<'a> {
-    ghost first = { $first };
-
-    ghost end = { $end };
-
-    ghost in_turn = { true };
-
-    ghost lists = { λ d. $lists };
-
-    ghost owned = { λ d. $owned };
-
-    ghost faults = { $faults };
-
-    ghost makes_free = { $makes_free };
-
-    fn new(alloc: Global) -> Self {
-        $struct {$new}
-    }
-
-    fn first(&self) -> usize {
-        $first
-    }
-
-    fn populate_payloads(&mut self, number: usize, input: &mut &'a [u8], k: usize) -> Result<(), Error> {
-        match number {$populate}
-    }
-
-    fn decode_payload(&mut self, number: usize) -> Result<$name, Error> {
-        match number {$decode}
-    }
-
-    fn sized(&self) {}
-}
-"""
-
-# What the search does not find: that a value of the variant, or the number, is in the clause what it is in the arm.
-WRITTEN = """
-pub returns-in-$variant-clause-joined : goal.returns-in-$variant-clause-joined
-returns-in-$variant-clause-joined c = rw c.in-$variant.is c.encode_payload_fields$arm.ensures.joined
-"""
+# What the search does not find: that the number is in the clause what it is in the arm.
 READ = """
 pub returns-in-$number-clause-$clause : goal.returns-in-$number-clause-$clause
 returns-in-$number-clause-$clause c = rw c.in-$number.is c.populate$arm.ensures.$clause
@@ -158,19 +135,8 @@ returns-in-$number-clause-$clause c = rw c.in-$number.is c.populate$arm.ensures.
 
 
 def place_of(variant):
-    """The name of the coder of a variant: that of `TwoWords` is `of_two_words`."""
+    """The name of the decoder of a variant: that of `TwoWords` is `of_two_words`."""
     return "of_" + re.sub(r"(?<=[a-z0-9])(?=[A-Z])|(?<=[A-Z])(?=[A-Z][a-z])", "_", variant.name).lower()
-
-
-def groups_of(count):
-    """The numbers of the variants that have a struct together, each with the first of them and the one behind the last."""
-    return [range(first, min(first + MOST_TOGETHER, count)) for first in range(0, count, MOST_TOGETHER)]
-
-
-def halves(structs):
-    """The type of all structs, in twos."""
-    middle = (len(structs) + 1) // 2
-    return structs[0] if len(structs) == 1 else f"Halves<{halves(structs[:middle])}, {halves(structs[middle:])}>"
 
 
 def is_nothing(type):
@@ -178,8 +144,59 @@ def is_nothing(type):
     return type.name == "PhantomData" or type.kind in ("tuple", "array") and all(map(is_nothing, type.parts)) or type.name in ("Box", "Rc") and is_nothing(type.parts[0])
 
 
+def says_laws(type, own, within=()):
+    """Whether the type says its laws as data, or could: sets and maps cannot, nor what is imported and does not."""
+    if type.kind == "reference" or type.name in KEYED_BY_LAWS or type.name in within:
+        return False
+    if type.kind == "path" and type.name in own and not (own[type.name].says_laws if not own[type.name].item else could_say_laws(own[type.name].item, own, within)):
+        return False
+    return all(says_laws(part, own, within) for part in type.parts)
+
+
+def could_say_laws(item, own, within=()):
+    """Whether a type of one's own could say its laws as data: one without a lifetime, all of whose fields could. An enum with fields is then written by number, which those with type parameters are not."""
+    can_be_written = not item.lifetime and (not item.types or isinstance(item, Struct) or len(item.variants) == 1)
+    return can_be_written and all(says_laws(field.type, own, (*within, item.name)) for field in fields_of(item))
+
+
+def numbered_and_told(items, own):
+    """The names of the enums that are written by number, and of all types of one's own that have to say their laws as data, since one of these holds them."""
+    numbered, told = set(), set()
+
+    def tell(type):
+        if type.kind == "path" and type.name in own and own[type.name].item and type.name not in told:
+            told.add(type.name)
+            number(own[type.name].item)
+        for part in type.parts:
+            tell(part)
+
+    def number(item):
+        if isinstance(item, Enum) and len(item.variants) > 1 and fields_of(item):
+            numbered.add(item.name)
+        for field in fields_of(item):
+            tell(field.type)
+
+    for item in items:
+        if isinstance(item, Enum) and len(item.variants) > MOST_IN_A_NEST and could_say_laws(item, own):
+            number(item)
+    return numbered, told
+
+
+def groups_of(count):
+    """The numbers of the variants that have their coders together, in as few groups as there can be, as even as they can be."""
+    groups = -(-count // MOST_TOGETHER)
+    ends = [count * (n + 1) // groups for n in range(groups)]
+    return [range(first, end) for first, end in zip([0, *ends], ends)]
+
+
+def halves(groups):
+    """The type of the coders of all groups, in twos."""
+    middle = (len(groups) + 1) // 2
+    return groups[0] if len(groups) == 1 else f"Halves<{halves(groups[:middle])}, {halves(groups[middle:])}>"
+
+
 class Numbered:
-    """The parts of the files of an enum."""
+    """The parts of the file of an enum."""
 
     def __init__(self, enum, crate, module):
         self.enum, self.crate, self.module = enum, crate, module
@@ -187,128 +204,147 @@ class Numbered:
         self.types = [held_type(variant) for variant in enum.variants]
         places = [place_of(variant) for variant in enum.variants]
         self.places = [place if places.count(place) == 1 else f"{place}_{n}" for n, place in enumerate(places)]
+        self.name = enum.name
 
-    def struct(self, kind, numbers):
-        """The name of the struct of such coders of these variants."""
-        return f"{self.enum.name}{kind}" + (f"{numbers[0]}" if len(self.groups) > 1 else "")
+    def types_of(self, numbers):
+        """The types of the payloads of these variants."""
+        return ", ".join(self.types[n] for n in numbers)
 
-    def lines(self, numbers, line, is_some=False, behind="\n        "):
-        """A line for each variant, and one for the others where there are some."""
-        return "".join(f"\n            {line(n)}," for n in numbers) + ("\n            _ => unreachable!()," if is_some else "") + behind
+    def encoders(self, numbers):
+        """The encoders of these variants: their type, and what names it where it is long or that of all columns."""
+        type = f"Encoders{len(numbers)}<{numbers[0]}, {self.types_of(numbers)}>"
+        if len(self.groups) > 1 and len(type) <= MOST_IN_PLACE:
+            return type, ""
+        name = "Columns" + (f"Of{numbers[0]}To{numbers[-1]}" if len(self.groups) > 1 else "")
+        return name, f"type {name} = {type};\n\n"
 
-    def row(self, kind, numbers):
-        """What the templates of both kinds of structs want."""
-        last, some = numbers[-1], len(self.groups) > 1
-        coder = {"Columns": "HasEncoder>::Encoder", "Payloads": "HasDecoder<'a>>::Decoder"}[kind]
-        return {
-            "name": self.enum.name,
-            "count": self.count,
-            "struct": self.struct(kind, numbers),
-            "some": f", those of the variants {numbers[0]} to {last}" if some else "",
-            "first": numbers[0],
-            "end": last + 1,
-            "fields": "".join(f"\n    {self.places[n]}: <{self.types[n]} as {coder}," for n in numbers),
-        }
+    def group(self, numbers):
+        """What the enum says of variants that have their coders together."""
+        rows = [(ORDINALS[place], self.enum.variants[n]) for place, n in enumerate(numbers)]
 
-    def is_marked(self, numbers):
-        """Whether none of the decoders of these variants keeps a part of the input."""
-        return all(is_nothing(field.type) for n in numbers for field in self.enum.variants[n].fields)
-
-    def columns(self, numbers):
-        """The struct of the encoders of these variants."""
-        def quote(n, member):
-            return f"⟦<<{self.types[n]} as HasEncoder>::Encoder as HoldsColumns>⟧.{member} e.{self.places[n]}"
-
-        def written(n):
-            variant = self.enum.variants[n]
+        def written(ordinal, variant):
             fields = payload(names_of(variant), "&()")
-            types = f"::<{payload([f'&{of_text(field.type)}' for field in variant.fields], '')}, _>" if len(variant.fields) > MOST_FOUND else ""
-            return f"{value(self.enum, variant)} => encode_payload_fields{types}(&mut self.{self.places[n]}, &{fields})"
+            types = f"::<{self.count}, _, {payload([f'&{of_text(field.type)}' for field in variant.fields], '')}>" if len(variant.fields) > MOST_FOUND else ""
+            return f"\n            {value(self.enum, variant)} => to.encode_{ordinal}{types}(self, &{fields}),"
 
-        return Template(COLUMNS).substitute(
-            self.row("Columns", numbers),
-            lists=" ∷ ".join([*(quote(n, "columns") for n in numbers), "[]"]),
-            capacity=" + ".join(quote(n, "capacity") for n in numbers),
-            new=self.lines(numbers, lambda n: f"{self.places[n]}: Buffer::new(alloc)"),
-            collect=self.lines(numbers, lambda n: f"{n} => self.{self.places[n]}.collect_into(out)", True),
-            clear=self.lines(numbers, lambda n: f"{n} => self.{self.places[n]}.clear()", True),
-            encode=self.lines(numbers, written, len(self.groups) > 1),
+        others = "\n            _ => unreachable!()," if len(self.groups) > 1 else ""
+        encoders, alias = self.encoders(numbers)
+        return Template(GROUP).substitute(
+            size=len(numbers),
+            encoders=encoders,
+            alias=alias,
+            count=self.count,
+            first=numbers[0],
+            types=self.types_of(numbers),
+            name=self.name,
+            values=", ".join(f"λ p. {self.built(variant)}" for _, variant in rows),
+            arms=" ".join(f"(λ p. {self.built(variant)})" for _, variant in rows),
+            are=", ".join([ARE] * len(rows)),
+            made="".join(f"\n            OneOf{len(numbers)}::{ordinal.capitalize()}({payload(names_of(variant), '()')}) => {value(self.enum, variant)}," for ordinal, variant in rows) + "\n        ",
+            encode="".join(written(ordinal, variant) for ordinal, variant in rows) + others + "\n        ",
         )
 
-    def payloads(self, numbers):
-        """The struct of the decoders of these variants."""
+    def built(self, variant):
+        """A function of a payload, which gives the value that has it, in a ghost member."""
+        found = places(len(variant.fields)) if variant.fields else []
+        return " ".join([f"{quoted(self.enum.name)}.{variant.name}", *found])
+
+    def is_marked(self):
+        """Whether the struct of the decoders has a mark of the input's lifetime, since none of them keeps a part of the input."""
+        return all(is_nothing(field.type) for field in fields_of(self.enum))
+
+    def payloads(self):
+        """What stands for the decoders of all variants."""
+        every = range(self.count)
+
         def quote(n, trait, member, of=""):
             return f"⟦<<{self.types[n]} as HasDecoder<'a>>::Decoder as {trait}>⟧.{member}{of}"
 
         def made(n):
             variant = self.enum.variants[n]
-            pattern = payload(names_of(variant), "()")
-            return f"{n} => {{ let {pattern}: {self.types[n]} = self.{self.places[n]}.decode()?; Ok({value(self.enum, variant)}) }}"
+            return f"{{ let {payload(names_of(variant), '()')}: {self.types[n]} = self.{self.places[n]}.decode()?; Ok({value(self.enum, variant)}) }}"
 
-        # A mark names the lifetime of the input where no decoder does.
-        is_marked = self.is_marked(numbers)
-        view = "View<'a>"
-        faults = "".join(f"fault_and {quote(n, view, 'faults')} (" for n in numbers) + "no_faults" + ")" * len(numbers)
-        return Template(PAYLOADS).substitute(
-            self.row("Payloads", numbers),
-            lists=" ∷ ".join([*(quote(n, "HoldsData", "held", f" d.{self.places[n]}") for n in numbers), "[]"]),
-            owned=" + ".join(quote(n, "HoldsData", "owned", f" d.{self.places[n]}") for n in numbers),
-            faults=faults if numbers[0] == 0 else f"λ n. ({faults}) (n - {numbers[0]})",
-            makes_free=" && ".join(quote(n, f"Decoder<{self.types[n]}>", "makes_free") for n in numbers),
-            mark="\n    of: PhantomData<&'a ()>," if is_marked else "",
-            new=self.lines(numbers, lambda n: f"{self.places[n]}: View::new(alloc)", behind="\n            of: PhantomData,\n        " if is_marked else "\n        "),
-            populate=self.lines(numbers, lambda n: f"{n} => self.{self.places[n]}.populate(input, k)", True),
-            decode=self.lines(numbers, made, True).replace("},\n", "}\n"),
-        )
+        is_marked = self.is_marked()
+        view = f"View<'a>"
+        return {
+            "decoders": "".join(f"\n    {self.places[n]}: <{self.types[n]} as HasDecoder<'a>>::Decoder," for n in every),
+            "mark": f"\n    of: PhantomData<&'a ()>," if is_marked else "",
+            "lists": " ∷ ".join([*(quote(n, "HoldsData", "held", f" d.{self.places[n]}") for n in every), "[]"]),
+            "owned": " + ".join(quote(n, "HoldsData", "owned", f" d.{self.places[n]}") for n in every),
+            "faults": "".join(f"fault_and {quote(n, view, 'faults')} (" for n in every) + "no_faults" + ")" * self.count,
+            "makes_free": " && ".join(quote(n, f"Decoder<{self.types[n]}>", "makes_free") for n in every),
+            "views": "".join(f"\n            {self.places[n]}: View::new(alloc)," for n in every) + ("\n            of: PhantomData," if is_marked else ""),
+            "populate": "".join(f"\n            {n} => self.{self.places[n]}.populate(input, k)," for n in every),
+            "decode": "".join(f"\n            {n} => {made(n)}" for n in every),
+        }
+
+    def answers(self):
+        """The file of what the search does not find, by its path in the crate."""
+        at = f"{self.module}/{self.enum.name}PayloadsAllPayloads{self.count}{self.enum.name}/populate_at"
+        rows = "".join(Template(READ).substitute(number=n, clause=clause, arm=f"-in-{n}" if n else "") for n in range(self.count) for clause in ("refused", "exact"))
+        return {f"proofs/{at}/Answers.antt": f"-- Written by scripts/new_type.\nuse Rattle.{self.crate}.proofs.{at.replace('/', '.')}.Goals as goal\n{rows}"}
 
     def variants(self):
-        """What the types of the payloads say of themselves, one behind the other."""
-        quotes = [f"⟦<{type} as Payload>⟧.payload" for type in self.types]
-        return "".join(f"first_variant {quote} (" for quote in quotes[:-1]) + f"last_variant {quotes[-1]}" + ")" * (len(quotes) - 1)
+        """What the enum says of its variants: the payloads of each, the payload of a value, and the value that has a payload."""
+        *before, last = [f"⟦<{type} as Payload>⟧.payload" for type in self.types]
+        payload_of = [(" ".join([f"{quoted(self.enum.name)}.{variant.name}", *LETTERS[: len(variant.fields)]]), payload(list(LETTERS[: len(variant.fields)]), "tt")) for variant in self.enum.variants]
+        *first, end = [f"λ p. ({self.built(variant)}, refl)" for variant in self.enum.variants]
+        return {
+            "payloads_of": "".join(f"payload_and {quote} (" for quote in before) + f"last_payload {last}" + ")" * len(before),
+            "payload": " | ".join(f"{value} ↦ at {number} {held}" for number, (value, held) in enumerate(payload_of)),
+            "values": "".join(f"(({value}), " for value in first) + end + ")" * len(first),
+        }
 
     def file(self, imports):
         """The file of the type."""
-        there, back = ghost_arms(self.enum, "{}")
-        used = set("DecodeOwned Decoder Enum EnumEncoder Error Fields HasDecoder HasEncoder HasVariantColumns Held HeldIn NumberedColumns NumberedDecoder PartsDecoder "
-                   "Payload ReadsVariants Shaped VariantColumns VariantPayloads View encode_payload_fields".split())
+        imports = {*imports, "std::marker::PhantomData"} if self.is_marked() else imports
+        used = set("AllPayloads DecodeOwned Decoder Enum EnumEncoder Error HasDecoder HasEncoder Held HeldIn NumberedColumns NumberedDecoder PartsDecoder "
+                   "Payload VariantColumns View WritesPayloads told_as".split())
+        used |= {f"{kind}{len(numbers)}" for numbers in self.groups for kind in ("Encoders", "OneOf", "Variants", "WritesVariants")}
         used |= {"Halves"} if len(self.groups) > 1 else set()
 
-        def told(n):
-            names = names_of(self.enum.variants[n])
-            return f"{value(self.enum, self.enum.variants[n])} => {payload(names, '()')}{'.told()' if names else ''}"
+        def numbered(number, variant):
+            names = names_of(variant)
+            return f"told_as({number}, &{payload(names, '')})" if names else number
 
-        every = range(self.count)
-        imports = {*imports, "std::marker::PhantomData"} if any(map(self.is_marked, self.groups)) else imports
         return Template(FILE).substitute(
-            name=self.enum.name,
+            simple=self.enum.name,
+            name=self.name,
+            struct=f"{self.enum.name}Payloads",
             ghost=quoted(self.enum.name),
             crate=self.crate,
             module=self.module,
             count=self.count,
-            prelude=", ".join(["[]", "◌∷◌", "◌+◌", *(["◌-◌"] if len(self.groups) > 1 else []), "◌&&◌", "true", "refl"]),
-            uses="\n".join(sorted([f"use bitcode::{{{', '.join(sorted(used))}}};", "use std::alloc::Global;", *(f"use {path};" for path in imports)])) + "\n",
+            uses="\n".join(sorted(["use bitcode::coder::HoldsData;", f"use bitcode::{{{', '.join(sorted(used))}}};", "use std::alloc::Global;", *(f"use {path};" for path in imports)])) + "\n",
             declaration=declaration(self.enum),
-            variants=self.variants(),
-            parts=there,
-            of_parts=back,
-            index=arms(self.enum, lambda place, variant: told_apart(self.enum, variant), lambda place, variant: place),
-            told=self.lines(every, told),
-            columns="\n".join(self.columns(numbers) for numbers in self.groups),
-            payloads="\n".join(self.payloads(numbers) for numbers in self.groups),
-            all_columns=halves([self.struct("Columns", numbers) for numbers in self.groups]),
-            all_payloads=halves([self.struct("Payloads", numbers) + "<'a>" for numbers in self.groups]),
+            by_hand=", ".join(sorted({"each_variant", "fault_and", "is_variant", "last_payload", "no_faults", "payload_and", *(f"of_one_of_{len(numbers)}" for numbers in self.groups)})),
+            **self.variants(),
+            index=arms(self.enum, lambda number, variant: value(self.enum, variant), numbered),
+            groups="\n".join(map(self.group, self.groups)),
+            all_columns=f"type Columns = {halves([self.encoders(numbers)[0] for numbers in self.groups])};\n\n" if len(self.groups) > 1 else "",
+            **self.payloads(),
         )
 
-    def answers(self):
-        """The files of what the search does not find, by their paths in the crate."""
-        files = {}
-        for numbers in self.groups:
-            for kind, trait, call, rows in [
-                ("Columns", "VariantColumns", "encode_payload", [
-                    Template(WRITTEN).substitute(variant=self.enum.variants[n].name, arm=f"-in-{self.enum.variants[n].name}" if n > numbers[0] else "") for n in numbers]),
-                ("Payloads", "VariantPayloads", "populate_payloads", [
-                    Template(READ).substitute(number=n, clause=clause, arm=f"-in-{n}" if n > numbers[0] else "") for n in numbers for clause in ("refused", "exact")]),
-            ]:
-                at = f"{self.module}/{self.struct(kind, numbers)}{trait}{self.count}{self.enum.name}/{call}"
-                files[f"proofs/{at}/Answers.antt"] = f"-- Written by scripts/new_type.\nuse Rattle.{self.crate}.proofs.{at.replace('/', '.')}.Goals as goal\n" + "".join(rows)
-        return files
+
+def saying_laws(text, item, is_numbered):
+    """The file of a type, which says its laws as data too, by those of what it stands for."""
+    name, count = item.name + bounds(item, ""), 0 if isinstance(item, Struct) else len(item.variants)
+    if count > 1:
+        parts = f"{'Held' if is_numbered else 'Bare'}<{count}, {name}>"
+    else:
+        parts = f"Absent<{name}>" if isinstance(item, Enum) and not count else re.search(r"type Parts = (.*?);\n\s*type Inside", text, re.S).group(1)
+    uses = {"Payload", "StandsFor", *({"Absent"} & {parts.split("<")[0]})}
+    uses |= {"Shaped"} if item.types else set()
+
+    def more(found):
+        names = {name.strip() for name in found.group(1).split(",") if name.strip()}
+        return f"use bitcode::{{{', '.join(sorted(names | uses))}}};"
+
+    text = re.sub(r"use bitcode::\{([^}]*)\};", more, text, count=1)
+    if "specs.ByHand.{" in text:
+        text = re.sub(r"specs\.ByHand\.\{([^}]*)\}", lambda found: f"specs.ByHand.{{{', '.join(sorted({*found.group(1).split(', '), 'stood_payload'}))}}}", text, count=1)
+    else:
+        text = re.sub(r"(?m)^(use bitcode::|ghost use Rattle\.(?!std))", r"ghost use Rattle.bitcode.specs.ByHand.{stood_payload};\n\1", text, count=1)
+        text = re.sub(r"(?m)^(ghost use [^\n]*;\n)(use )", r"\1\n\2", text, count=1)
+    laws = f"stood_payload ⟦<{name} as StandsFor>⟧.parts ⟦<{name} as StandsFor>⟧.of_parts ⟦<{parts} as Payload>⟧.payload"
+    return f"{text}\nimpl{bounds(item, 'Shaped + Payload')} Payload for {name} {{\n    ghost payload = {{ {laws} }};\n}}\n"

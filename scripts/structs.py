@@ -10,6 +10,9 @@ ORDINALS = "first second third fourth fifth sixth seventh eighth ninth tenth ele
 # Of more fields than these each half has a tuple.
 MOST_FLAT = 8
 
+# Of more than so much text the tuple of the types has a name.
+MOST_IN_LINE = 60
+
 # Words of clauses, which are quoted there.
 QUOTED = set("data record deriving module package open abbrev axiom unfold unfoldable unfolding ruleset mutual infix infixl infixr elim "
              "Type coe fcoe tcoe hcom com".split())
@@ -21,10 +24,8 @@ ghost use Rattle.std.specs.Prelude.{refl};
 
 $uses
 $declaration
-type Parts$parameters = $parts;
-
-impl$shaped StandsFor for $name {
-$ghost_use    type Parts = Parts$parameters;
+${alias}impl$shaped StandsFor for $name {
+$ghost_use    type Parts = $parts;
     type Inside = $inside;
 
     ghost parts = { $ghost_parts };
@@ -35,17 +36,17 @@ $ghost_use    type Parts = Parts$parameters;
 }
 
 impl$made FromParts for $name {
-    fn from_parts($pattern: Parts$parameters) -> Self {
+    fn from_parts($pattern: $parts) -> Self {
         $built
     }
 }
 
 ${lends}impl$has_encoder HasEncoder for $name {
-    type Encoder = StructEncoder<FieldCount<$count>, <Parts$parameters as HasEncoder>::Encoder>;
+    type Encoder = EncoderOfFields<$count, $parts>;
 }
 
 impl$has_decoder HasDecoder<$input> for $name {
-    type Decoder = PartsDecoder<Parts$parameters, <Parts$parameters as HasDecoder<$input>>::Decoder>;
+    type Decoder = DecoderOfFields<$input, $parts>;
 }
 $owned"""
 LENDS = """impl$shaped LendsFields$count<$types> for $name {
@@ -141,18 +142,20 @@ def tuple_text(item, imports, own, lent, **row):
     """The file of what stands for the tuple of its fields, of what is said of these."""
     is_owned = not item.lifetime
     fields, name, input = fields_of(item), item.name + bounds(item, ""), item.lifetime or "'a"
-    used = {"FieldCount", "FromParts", "HasDecoder", "HasEncoder", "PartsDecoder", "StandsFor", "StructEncoder"}
+    used = {"DecoderOfFields", "EncoderOfFields", "FromParts", "HasDecoder", "HasEncoder", "StandsFor"}
     used |= {f"LendsFields{len(fields)}"} if fields else set()
     used |= {"Shaped"} if fields or item.types else set()
     used |= {"Made"} if item.types else set()
     used |= {"DecodeOwned"} if is_owned else set()
     lines = [f"use bitcode::{{{', '.join(sorted(used))}}};", *(f"use {path};" for path in sorted(imports))]
+    parts, alias = halved([of_text(field.type) for field in fields]) if fields else "()", "Parts" + bounds(item, "")
+    is_long = len(row["pattern"]) + len(parts) > MOST_IN_LINE
     row |= {
+        "alias": f"type {alias} = {parts};\n\n" if is_long else "",
         "uses": "\n".join(sorted(lines)) + "\n",
         "name": name,
-        "parameters": bounds(item, ""),
         "inside": inside(item, own),
-        "parts": halved([of_text(field.type) for field in fields]) if fields else "()",
+        "parts": alias if is_long else parts,
         "shaped": bounds(item, "Shaped"),
         "made": bounds(item, "Made"),
         "count": len(fields),

@@ -61,14 +61,14 @@ def ghost_behind(place, inner):
     return "FirstOr.Rest (" * place + inner + ")" * place
 
 
-def ghost_arms(enum, holder="record {{ payload = {} }}"):
+def ghost_arms(enum):
     """The arms of what payload a value stands for, and of which value a payload does."""
     last, there, back = len(enum.variants) - 1, [], []
     for place, variant in enumerate(enum.variants):
         letters, name = list(LETTERS[: len(variant.fields)]), f"{quoted(enum.name)}.{variant.name}"
         fields = payload(letters, "tt")
         held = f"record {{ 0 = {fields} }}" if place == last else f"FirstOr.First {fields}"
-        there.append(f"{' '.join([name, *letters])} ↦ {holder.format(ghost_behind(place, held))}")
+        there.append(f"{' '.join([name, *letters])} ↦ record {{ payload = {ghost_behind(place, held)} }}")
         pattern = ghost_behind(place - 1, "FirstOr.Rest p") if place == last else ghost_behind(place, "FirstOr.First p")
         found = places(len(letters), "p.0" if place == last else "p") if letters else []
         back.append(f"{pattern} ↦ ({' '.join([name, *found])}, refl)")

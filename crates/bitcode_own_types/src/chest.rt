@@ -3,8 +3,8 @@ ghost use Rattle.std.specs.Prelude.{refl};
 
 use crate::item::Item;
 use bitcode::{
-    DecodeOwned, FieldCount, FromParts, HasDecoder, HasEncoder, LendsFields3, PartsDecoder, Shaped,
-    StandsFor, StructEncoder,
+    DecodeOwned, DecoderOfFields, EncoderOfFields, FromParts, HasDecoder, HasEncoder, LendsFields3,
+    Shaped, StandsFor,
 };
 
 /// A type of one's own that takes memory, inside another.
@@ -15,10 +15,8 @@ pub struct Chest {
     pub best: Option<Item>,
 }
 
-type Parts = (String, Vec<Item>, Option<Item>);
-
 impl StandsFor for Chest {
-    type Parts = Parts;
+    type Parts = (String, Vec<Item>, Option<Item>);
 
     type Inside = (<Item as StandsFor>::Parts, <Item as StandsFor>::Inside);
 
@@ -34,7 +32,7 @@ impl StandsFor for Chest {
 }
 
 impl FromParts for Chest {
-    fn from_parts((label, items, best): Parts) -> Self {
+    fn from_parts((label, items, best): (String, Vec<Item>, Option<Item>)) -> Self {
         Chest { label, items, best }
     }
 }
@@ -46,11 +44,11 @@ impl LendsFields3<String, Vec<Item>, Option<Item>> for Chest {
 }
 
 impl HasEncoder for Chest {
-    type Encoder = StructEncoder<FieldCount<3>, <Parts as HasEncoder>::Encoder>;
+    type Encoder = EncoderOfFields<3, (String, Vec<Item>, Option<Item>)>;
 }
 
 impl<'a> HasDecoder<'a> for Chest {
-    type Decoder = PartsDecoder<Parts, <Parts as HasDecoder<'a>>::Decoder>;
+    type Decoder = DecoderOfFields<'a, (String, Vec<Item>, Option<Item>)>;
 }
 
 impl DecodeOwned for Chest {}

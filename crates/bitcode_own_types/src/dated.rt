@@ -2,8 +2,8 @@
 ghost use Rattle.std.specs.Prelude.{refl};
 
 use bitcode::{
-    DecodeOwned, FieldCount, FromParts, HasDecoder, HasEncoder, LendsFields3, Made, PartsDecoder,
-    Shaped, StandsFor, StructEncoder,
+    DecodeOwned, DecoderOfFields, EncoderOfFields, FromParts, HasDecoder, HasEncoder, LendsFields3,
+    Made, Shaped, StandsFor,
 };
 
 /// A value and when it was made.
@@ -14,10 +14,8 @@ pub struct Dated<T> {
     pub value: T,
 }
 
-type Parts<T> = (u16, u16, T);
-
 impl<T: Shaped> StandsFor for Dated<T> {
-    type Parts = Parts<T>;
+    type Parts = (u16, u16, T);
 
     type Inside = ();
 
@@ -33,7 +31,7 @@ impl<T: Shaped> StandsFor for Dated<T> {
 }
 
 impl<T: Made> FromParts for Dated<T> {
-    fn from_parts((year, day, value): Parts<T>) -> Self {
+    fn from_parts((year, day, value): (u16, u16, T)) -> Self {
         Dated { year, day, value }
     }
 }
@@ -45,11 +43,11 @@ impl<T: Shaped> LendsFields3<u16, u16, T> for Dated<T> {
 }
 
 impl<T: HasEncoder> HasEncoder for Dated<T> {
-    type Encoder = StructEncoder<FieldCount<3>, <Parts<T> as HasEncoder>::Encoder>;
+    type Encoder = EncoderOfFields<3, (u16, u16, T)>;
 }
 
 impl<'a, T: HasDecoder<'a>> HasDecoder<'a> for Dated<T> {
-    type Decoder = PartsDecoder<Parts<T>, <Parts<T> as HasDecoder<'a>>::Decoder>;
+    type Decoder = DecoderOfFields<'a, (u16, u16, T)>;
 }
 
 impl<T: DecodeOwned> DecodeOwned for Dated<T> {}

@@ -2,8 +2,8 @@
 ghost use Rattle.std.specs.Prelude.{refl};
 
 use bitcode::{
-    FieldCount, FromParts, HasDecoder, HasEncoder, LendsFields2, PartsDecoder, Shaped, StandsFor,
-    StructEncoder,
+    DecoderOfFields, EncoderOfFields, FromParts, HasDecoder, HasEncoder, LendsFields2, Shaped,
+    StandsFor,
 };
 
 /// A number and a text.
@@ -13,10 +13,8 @@ pub struct Foo<'a> {
     pub y: &'a str,
 }
 
-type Parts<'a> = (u32, &'a str);
-
 impl<'a> StandsFor for Foo<'a> {
-    type Parts = Parts<'a>;
+    type Parts = (u32, &'a str);
 
     type Inside = ();
 
@@ -31,7 +29,7 @@ impl<'a> StandsFor for Foo<'a> {
 }
 
 impl<'a> FromParts for Foo<'a> {
-    fn from_parts((x, y): Parts<'a>) -> Self {
+    fn from_parts((x, y): (u32, &'a str)) -> Self {
         Foo { x, y }
     }
 }
@@ -43,9 +41,9 @@ impl<'a> LendsFields2<u32, &'a str> for Foo<'a> {
 }
 
 impl<'a> HasEncoder for Foo<'a> {
-    type Encoder = StructEncoder<FieldCount<2>, <Parts<'a> as HasEncoder>::Encoder>;
+    type Encoder = EncoderOfFields<2, (u32, &'a str)>;
 }
 
 impl<'a> HasDecoder<'a> for Foo<'a> {
-    type Decoder = PartsDecoder<Parts<'a>, <Parts<'a> as HasDecoder<'a>>::Decoder>;
+    type Decoder = DecoderOfFields<'a, (u32, &'a str)>;
 }

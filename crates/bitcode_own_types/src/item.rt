@@ -2,8 +2,8 @@
 ghost use Rattle.std.specs.Prelude.{refl};
 
 use bitcode::{
-    DecodeOwned, FieldCount, FromParts, HasDecoder, HasEncoder, LendsFields2, PartsDecoder, Shaped,
-    StandsFor, StructEncoder,
+    DecodeOwned, DecoderOfFields, EncoderOfFields, FromParts, HasDecoder, HasEncoder, LendsFields2,
+    Shaped, StandsFor,
 };
 
 /// What a player may find.
@@ -13,10 +13,8 @@ pub struct Item {
     pub level: u8,
 }
 
-type Parts = (String, u8);
-
 impl StandsFor for Item {
-    type Parts = Parts;
+    type Parts = (String, u8);
 
     type Inside = ();
 
@@ -31,7 +29,7 @@ impl StandsFor for Item {
 }
 
 impl FromParts for Item {
-    fn from_parts((name, level): Parts) -> Self {
+    fn from_parts((name, level): (String, u8)) -> Self {
         Item { name, level }
     }
 }
@@ -43,11 +41,11 @@ impl LendsFields2<String, u8> for Item {
 }
 
 impl HasEncoder for Item {
-    type Encoder = StructEncoder<FieldCount<2>, <Parts as HasEncoder>::Encoder>;
+    type Encoder = EncoderOfFields<2, (String, u8)>;
 }
 
 impl<'a> HasDecoder<'a> for Item {
-    type Decoder = PartsDecoder<Parts, <Parts as HasDecoder<'a>>::Decoder>;
+    type Decoder = DecoderOfFields<'a, (String, u8)>;
 }
 
 impl DecodeOwned for Item {}

@@ -2,8 +2,8 @@
 ghost use Rattle.std.specs.Prelude.{refl};
 
 use bitcode::{
-    FieldCount, FromParts, HasDecoder, HasEncoder, LendsFields2, PartsDecoder, Shaped, StandsFor,
-    StructEncoder,
+    DecoderOfFields, EncoderOfFields, FromParts, HasDecoder, HasEncoder, LendsFields2, Shaped,
+    StandsFor,
 };
 
 /// A text of the input, and who sent it.
@@ -13,10 +13,8 @@ pub struct Message<'a> {
     pub text: &'a str,
 }
 
-type Parts<'a> = (u32, &'a str);
-
 impl<'a> StandsFor for Message<'a> {
-    type Parts = Parts<'a>;
+    type Parts = (u32, &'a str);
 
     type Inside = ();
 
@@ -31,7 +29,7 @@ impl<'a> StandsFor for Message<'a> {
 }
 
 impl<'a> FromParts for Message<'a> {
-    fn from_parts((from, text): Parts<'a>) -> Self {
+    fn from_parts((from, text): (u32, &'a str)) -> Self {
         Message { from, text }
     }
 }
@@ -43,9 +41,9 @@ impl<'a> LendsFields2<u32, &'a str> for Message<'a> {
 }
 
 impl<'a> HasEncoder for Message<'a> {
-    type Encoder = StructEncoder<FieldCount<2>, <Parts<'a> as HasEncoder>::Encoder>;
+    type Encoder = EncoderOfFields<2, (u32, &'a str)>;
 }
 
 impl<'a> HasDecoder<'a> for Message<'a> {
-    type Decoder = PartsDecoder<Parts<'a>, <Parts<'a> as HasDecoder<'a>>::Decoder>;
+    type Decoder = DecoderOfFields<'a, (u32, &'a str)>;
 }

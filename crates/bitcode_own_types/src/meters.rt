@@ -2,18 +2,16 @@
 ghost use Rattle.std.specs.Prelude.{refl};
 
 use bitcode::{
-    DecodeOwned, FieldCount, FromParts, HasDecoder, HasEncoder, LendsFields1, PartsDecoder, Shaped,
-    StandsFor, StructEncoder,
+    DecodeOwned, DecoderOfFields, EncoderOfFields, FromParts, HasDecoder, HasEncoder, LendsFields1,
+    Shaped, StandsFor,
 };
 
 /// A length in meters.
 #[derive(Debug, Clone, Copy, PartialEq)]
 pub struct Meters(pub u32);
 
-type Parts = u32;
-
 impl StandsFor for Meters {
-    type Parts = Parts;
+    type Parts = u32;
 
     type Inside = ();
 
@@ -27,7 +25,7 @@ impl StandsFor for Meters {
 }
 
 impl FromParts for Meters {
-    fn from_parts(value: Parts) -> Self {
+    fn from_parts(value: u32) -> Self {
         Meters(value)
     }
 }
@@ -39,11 +37,11 @@ impl LendsFields1<u32> for Meters {
 }
 
 impl HasEncoder for Meters {
-    type Encoder = StructEncoder<FieldCount<1>, <Parts as HasEncoder>::Encoder>;
+    type Encoder = EncoderOfFields<1, u32>;
 }
 
 impl<'a> HasDecoder<'a> for Meters {
-    type Decoder = PartsDecoder<Parts, <Parts as HasDecoder<'a>>::Decoder>;
+    type Decoder = DecoderOfFields<'a, u32>;
 }
 
 impl DecodeOwned for Meters {}

@@ -2,8 +2,8 @@
 ghost use Rattle.std.specs.Prelude.{refl};
 
 use bitcode::{
-    DecodeOwned, FieldCount, FromParts, HasDecoder, HasEncoder, LendsFields6, PartsDecoder, Shaped,
-    StandsFor, StructEncoder,
+    DecodeOwned, DecoderOfFields, EncoderOfFields, FromParts, HasDecoder, HasEncoder, LendsFields6,
+    Shaped, StandsFor,
 };
 
 /// What a player meets.
@@ -65,11 +65,11 @@ impl LendsFields6<u64, String, i16, bool, (i32, i32), Vec<u16>> for Monster {
 }
 
 impl HasEncoder for Monster {
-    type Encoder = StructEncoder<FieldCount<6>, <Parts as HasEncoder>::Encoder>;
+    type Encoder = EncoderOfFields<6, Parts>;
 }
 
 impl<'a> HasDecoder<'a> for Monster {
-    type Decoder = PartsDecoder<Parts, <Parts as HasDecoder<'a>>::Decoder>;
+    type Decoder = DecoderOfFields<'a, Parts>;
 }
 
 impl DecodeOwned for Monster {}

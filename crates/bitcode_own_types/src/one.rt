@@ -2,8 +2,8 @@
 ghost use Rattle.std.specs.Prelude.{refl};
 
 use bitcode::{
-    DecodeOwned, FieldCount, FromParts, HasDecoder, HasEncoder, LendsFields1, PartsDecoder, Shaped,
-    StandsFor, StructEncoder,
+    DecodeOwned, DecoderOfFields, EncoderOfFields, FromParts, HasDecoder, HasEncoder, LendsFields1,
+    Shaped, StandsFor,
 };
 
 /// A byte.
@@ -12,12 +12,10 @@ pub enum One {
     A(u8),
 }
 
-type Parts = u8;
-
 impl StandsFor for One {
     ghost use Rattle.bitcode_own_types.specs.declared.one.One.{One};
 
-    type Parts = Parts;
+    type Parts = u8;
 
     type Inside = ();
 
@@ -32,7 +30,7 @@ impl StandsFor for One {
 }
 
 impl FromParts for One {
-    fn from_parts(a: Parts) -> Self {
+    fn from_parts(a: u8) -> Self {
         One::A(a)
     }
 }
@@ -45,11 +43,11 @@ impl LendsFields1<u8> for One {
 }
 
 impl HasEncoder for One {
-    type Encoder = StructEncoder<FieldCount<1>, <Parts as HasEncoder>::Encoder>;
+    type Encoder = EncoderOfFields<1, u8>;
 }
 
 impl<'a> HasDecoder<'a> for One {
-    type Decoder = PartsDecoder<Parts, <Parts as HasDecoder<'a>>::Decoder>;
+    type Decoder = DecoderOfFields<'a, u8>;
 }
 
 impl DecodeOwned for One {}

@@ -1,14 +1,13 @@
 //! `Order` is written and read by the numbers of its variants. What is below its declaration was written by `scripts/new_type`.
-ghost use Rattle.std.specs.Prelude.{[], ◌∷◌, ◌+◌, ◌&&◌, true, refl};
-ghost use Rattle.std.proofs.Common.{lit≤};
-ghost use Rattle.bitcode.specs.ByHand.{FirstOr, fault_and, first_variant, last_variant, no_faults, variants_of};
+ghost use Rattle.std.specs.Prelude.{◌≡◌, [], ◌∷◌, ◌+◌, ◌&&◌, refl};
+ghost use Rattle.bitcode.specs.ByHand.{each_variant, fault_and, is_variant, last_payload, no_faults, of_one_of_6, payload_and};
 ghost use Rattle.bitcode_own_types.specs.declared.order.Order.{Order};
 
-use bitcode::coder::{Buffer, HoldsColumns, HoldsData};
+use bitcode::coder::HoldsData;
 use bitcode::{
-    DecodeOwned, Decoder, Enum, EnumEncoder, Error, Fields, HasDecoder, HasEncoder,
-    HasVariantColumns, Held, HeldIn, NumberedColumns, NumberedDecoder, PartsDecoder, Payload,
-    ReadsVariants, Shaped, VariantColumns, VariantPayloads, View, encode_payload_fields,
+    AllPayloads, DecodeOwned, Decoder, Encoders6, Enum, EnumEncoder, Error, HasDecoder, HasEncoder,
+    Held, HeldIn, NumberedColumns, NumberedDecoder, OneOf6, PartsDecoder, Payload, VariantColumns,
+    Variants6, View, WritesPayloads, WritesVariants6, told_as,
 };
 use std::alloc::Global;
 
@@ -24,123 +23,85 @@ pub enum Order {
 }
 
 impl Enum<6> for Order {
-    ghost variants = { variants_of (first_variant ⟦<() as Payload>⟧.payload (first_variant ⟦<(u64, String) as Payload>⟧.payload (first_variant ⟦<(u64, u16) as Payload>⟧.payload (first_variant ⟦<Option<String> as Payload>⟧.payload (first_variant ⟦<(u32, Vec<u16>) as Payload>⟧.payload (last_variant ⟦<() as Payload>⟧.payload)))))) (elim [ Order.Open ↦ FirstOr.First tt | Order.Add a b ↦ FirstOr.Rest (FirstOr.First (a, b)) | Order.Remove a b ↦ FirstOr.Rest (FirstOr.Rest (FirstOr.First (a, b))) | Order.Note a ↦ FirstOr.Rest (FirstOr.Rest (FirstOr.Rest (FirstOr.First a))) | Order.Pay a b ↦ FirstOr.Rest (FirstOr.Rest (FirstOr.Rest (FirstOr.Rest (FirstOr.First (a, b))))) | Order.Cancel ↦ FirstOr.Rest (FirstOr.Rest (FirstOr.Rest (FirstOr.Rest (FirstOr.Rest (record { 0 = tt }))))) ]) (elim [ FirstOr.First p ↦ (Order.Open, refl) | FirstOr.Rest (FirstOr.First p) ↦ (Order.Add p.0 p.1, refl) | FirstOr.Rest (FirstOr.Rest (FirstOr.First p)) ↦ (Order.Remove p.0 p.1, refl) | FirstOr.Rest (FirstOr.Rest (FirstOr.Rest (FirstOr.First p))) ↦ (Order.Note p, refl) | FirstOr.Rest (FirstOr.Rest (FirstOr.Rest (FirstOr.Rest (FirstOr.First p)))) ↦ (Order.Pay p.0 p.1, refl) | FirstOr.Rest (FirstOr.Rest (FirstOr.Rest (FirstOr.Rest (FirstOr.Rest p)))) ↦ (Order.Cancel, refl) ]) };
+    ghost variants = { each_variant (payload_and ⟦<() as Payload>⟧.payload (payload_and ⟦<(u64, String) as Payload>⟧.payload (payload_and ⟦<(u64, u16) as Payload>⟧.payload (payload_and ⟦<Option<String> as Payload>⟧.payload (payload_and ⟦<(u32, Vec<u16>) as Payload>⟧.payload (last_payload ⟦<() as Payload>⟧.payload)))))) (λ at. elim [ Order.Open ↦ at 0 tt | Order.Add a b ↦ at 1 (a, b) | Order.Remove a b ↦ at 2 (a, b) | Order.Note a ↦ at 3 a | Order.Pay a b ↦ at 4 (a, b) | Order.Cancel ↦ at 5 tt ]) ((λ p. (Order.Open, refl)), ((λ p. (Order.Add p.0 p.1, refl)), ((λ p. (Order.Remove p.0 p.1, refl)), ((λ p. (Order.Note p, refl)), ((λ p. (Order.Pay p.0 p.1, refl)), λ p. (Order.Cancel, refl)))))) };
+
+    ghost sized = { (refl, refl) };
 
     fn variant(&self) -> u8 {
         match self {
             Order::Open => 0,
-            Order::Add(..) => 1,
-            Order::Remove { .. } => 2,
-            Order::Note(..) => 3,
-            Order::Pay(..) => 4,
+            Order::Add(a, b) => told_as(1, &(a, b)),
+            Order::Remove { item, count } => told_as(2, &(item, count)),
+            Order::Note(a) => told_as(3, &a),
+            Order::Pay(a, b) => told_as(4, &(a, b)),
             Order::Cancel => 5,
         }
     }
-
-    fn told_payload(&self) {
-        match self {
-            Order::Open => (),
-            Order::Add(a, b) => (a, b).told(),
-            Order::Remove { item, count } => (item, count).told(),
-            Order::Note(a) => a.told(),
-            Order::Pay(a, b) => (a, b).told(),
-            Order::Cancel => (),
-        }
-    }
-
-    ghost sized = { (refl, refl) };
 }
 
 impl HeldIn for Order {
     type Holder = Held<6, Order>;
 }
 
-/// The columns that payloads of `Order` are written to.
-#[derive(Drop)]
-pub struct OrderColumns {
-    of_open: <() as HasEncoder>::Encoder,
-    of_add: <(u64, String) as HasEncoder>::Encoder,
-    of_remove: <(u64, u16) as HasEncoder>::Encoder,
-    of_note: <Option<String> as HasEncoder>::Encoder,
-    of_pay: <(u32, Vec<u16>) as HasEncoder>::Encoder,
-    of_cancel: <() as HasEncoder>::Encoder,
+impl Variants6<6, 0, (), (u64, String), (u64, u16), Option<String>, (u32, Vec<u16>), ()> for Order {
+    ghost values = { (λ p. Order.Open, λ p. Order.Add p.0 p.1, λ p. Order.Remove p.0 p.1, λ p. Order.Note p, λ p. Order.Pay p.0 p.1, λ p. Order.Cancel) };
+
+    fn of_payload(
+        payload: OneOf6<(), (u64, String), (u64, u16), Option<String>, (u32, Vec<u16>), ()>,
+    ) -> Self
+        ensures { result ≡ of_one_of_6 (λ p. Order.Open) (λ p. Order.Add p.0 p.1) (λ p. Order.Remove p.0 p.1) (λ p. Order.Note p) (λ p. Order.Pay p.0 p.1) (λ p. Order.Cancel) payload }
+    {
+        match payload {
+            OneOf6::First(()) => Order::Open,
+            OneOf6::Second((a, b)) => Order::Add(a, b),
+            OneOf6::Third((item, count)) => Order::Remove { item, count },
+            OneOf6::Fourth(a) => Order::Note(a),
+            OneOf6::Fifth((a, b)) => Order::Pay(a, b),
+            OneOf6::Sixth(()) => Order::Cancel,
+        }
+    }
+
+    ghost are = { (is_variant refl (λ p. refl) (λ p old new h. h) (λ p old h. h) (λ p old new h. h), is_variant refl (λ p. refl) (λ p old new h. h) (λ p old h. h) (λ p old new h. h), is_variant refl (λ p. refl) (λ p old new h. h) (λ p old h. h) (λ p old new h. h), is_variant refl (λ p. refl) (λ p old new h. h) (λ p old h. h) (λ p old new h. h), is_variant refl (λ p. refl) (λ p old new h. h) (λ p old h. h) (λ p old new h. h), is_variant refl (λ p. refl) (λ p old new h. h) (λ p old h. h) (λ p old new h. h)) };
 }
 
-impl VariantColumns<6, Order> for OrderColumns {
-    ghost first = { 0 };
+type Columns = Encoders6<0, (), (u64, String), (u64, u16), Option<String>, (u32, Vec<u16>), ()>;
 
-    ghost end = { 6 };
-
-    ghost in_turn = { true };
-
-    ghost lists = { λ e. ⟦<<() as HasEncoder>::Encoder as HoldsColumns>⟧.columns e.of_open ∷ ⟦<<(u64, String) as HasEncoder>::Encoder as HoldsColumns>⟧.columns e.of_add ∷ ⟦<<(u64, u16) as HasEncoder>::Encoder as HoldsColumns>⟧.columns e.of_remove ∷ ⟦<<Option<String> as HasEncoder>::Encoder as HoldsColumns>⟧.columns e.of_note ∷ ⟦<<(u32, Vec<u16>) as HasEncoder>::Encoder as HoldsColumns>⟧.columns e.of_pay ∷ ⟦<<() as HasEncoder>::Encoder as HoldsColumns>⟧.columns e.of_cancel ∷ [] };
-
-    ghost capacity = { λ e. ⟦<<() as HasEncoder>::Encoder as HoldsColumns>⟧.capacity e.of_open + ⟦<<(u64, String) as HasEncoder>::Encoder as HoldsColumns>⟧.capacity e.of_add + ⟦<<(u64, u16) as HasEncoder>::Encoder as HoldsColumns>⟧.capacity e.of_remove + ⟦<<Option<String> as HasEncoder>::Encoder as HoldsColumns>⟧.capacity e.of_note + ⟦<<(u32, Vec<u16>) as HasEncoder>::Encoder as HoldsColumns>⟧.capacity e.of_pay + ⟦<<() as HasEncoder>::Encoder as HoldsColumns>⟧.capacity e.of_cancel };
-
-    fn new(alloc: Global) -> Self {
-        OrderColumns {
-            of_open: Buffer::new(alloc),
-            of_add: Buffer::new(alloc),
-            of_remove: Buffer::new(alloc),
-            of_note: Buffer::new(alloc),
-            of_pay: Buffer::new(alloc),
-            of_cancel: Buffer::new(alloc),
+impl WritesVariants6<6, 0, (), (u64, String), (u64, u16), Option<String>, (u32, Vec<u16>), ()>
+    for Order {
+    fn write(&self, to: &mut Columns) -> Result<(), Error> {
+        match self {
+            Order::Open => to.encode_first(self, &&()),
+            Order::Add(a, b) => to.encode_second(self, &(a, b)),
+            Order::Remove { item, count } => to.encode_third(self, &(item, count)),
+            Order::Note(a) => to.encode_fourth(self, &a),
+            Order::Pay(a, b) => to.encode_fifth(self, &(a, b)),
+            Order::Cancel => to.encode_sixth(self, &&()),
         }
     }
-
-    fn first(&self) -> usize {
-        0
-    }
-
-    fn collect_payloads(&mut self, number: usize, out: &mut Vec<u8>) -> Result<(), Error> {
-        match number {
-            0 => self.of_open.collect_into(out),
-            1 => self.of_add.collect_into(out),
-            2 => self.of_remove.collect_into(out),
-            3 => self.of_note.collect_into(out),
-            4 => self.of_pay.collect_into(out),
-            5 => self.of_cancel.collect_into(out),
-            _ => unreachable!(),
-        }
-    }
-
-    fn clear_payloads(&mut self, number: usize) {
-        match number {
-            0 => self.of_open.clear(),
-            1 => self.of_add.clear(),
-            2 => self.of_remove.clear(),
-            3 => self.of_note.clear(),
-            4 => self.of_pay.clear(),
-            5 => self.of_cancel.clear(),
-            _ => unreachable!(),
-        }
-    }
-
-    fn encode_payload(&mut self, t: &Order) -> Result<(), Error> {
-        match t {
-            Order::Open => encode_payload_fields(&mut self.of_open, &&()),
-            Order::Add(a, b) => encode_payload_fields(&mut self.of_add, &(a, b)),
-            Order::Remove { item, count } => encode_payload_fields(
-                &mut self.of_remove,
-                &(item, count),
-            ),
-            Order::Note(a) => encode_payload_fields(&mut self.of_note, &a),
-            Order::Pay(a, b) => encode_payload_fields(&mut self.of_pay, &(a, b)),
-            Order::Cancel => encode_payload_fields(&mut self.of_cancel, &&()),
-        }
-    }
-
-    ghost ordered = { λ turn. lit≤ tt };
-
-    ghost sized = { λ turn e. refl };
-
-    ghost of_shapes = { λ turn e. refl };
 }
 
-impl HasVariantColumns<6> for Order {
-    type Columns = OrderColumns;
+impl WritesPayloads<6> for Order {
+    type Columns = Columns;
 
-    ghost whole = { (refl, refl, refl) };
+    ghost held = { ⟦<Columns as VariantColumns<6, Order>>⟧.columns };
+
+    fn new_columns(alloc: Global) -> Columns {
+        VariantColumns::<6, Order>::new(alloc)
+    }
+
+    fn collect(columns: &mut Columns, number: usize, out: &mut Vec<u8>) -> Result<(), Error> {
+        VariantColumns::<6, Order>::collect_payloads(columns, number, out)
+    }
+
+    fn clear(columns: &mut Columns, number: usize) {
+        VariantColumns::<6, Order>::clear_payloads(columns, number);
+    }
+
+    fn write_payload(&self, columns: &mut Columns) -> Result<(), Error> {
+        columns.encode_payload(self)
+    }
+
+    ghost of_shapes = { λ e. refl };
 }
 
 /// The payloads that values of `Order` are made of.
@@ -154,20 +115,8 @@ pub struct OrderPayloads<'a> {
     of_cancel: <() as HasDecoder<'a>>::Decoder,
 }
 
-impl<'a> VariantPayloads<'a, 6, Order> for OrderPayloads<'a> {
-    ghost first = { 0 };
-
-    ghost end = { 6 };
-
-    ghost in_turn = { true };
-
-    ghost lists = { λ d. ⟦<<() as HasDecoder<'a>>::Decoder as HoldsData>⟧.held d.of_open ∷ ⟦<<(u64, String) as HasDecoder<'a>>::Decoder as HoldsData>⟧.held d.of_add ∷ ⟦<<(u64, u16) as HasDecoder<'a>>::Decoder as HoldsData>⟧.held d.of_remove ∷ ⟦<<Option<String> as HasDecoder<'a>>::Decoder as HoldsData>⟧.held d.of_note ∷ ⟦<<(u32, Vec<u16>) as HasDecoder<'a>>::Decoder as HoldsData>⟧.held d.of_pay ∷ ⟦<<() as HasDecoder<'a>>::Decoder as HoldsData>⟧.held d.of_cancel ∷ [] };
-
-    ghost owned = { λ d. ⟦<<() as HasDecoder<'a>>::Decoder as HoldsData>⟧.owned d.of_open + ⟦<<(u64, String) as HasDecoder<'a>>::Decoder as HoldsData>⟧.owned d.of_add + ⟦<<(u64, u16) as HasDecoder<'a>>::Decoder as HoldsData>⟧.owned d.of_remove + ⟦<<Option<String> as HasDecoder<'a>>::Decoder as HoldsData>⟧.owned d.of_note + ⟦<<(u32, Vec<u16>) as HasDecoder<'a>>::Decoder as HoldsData>⟧.owned d.of_pay + ⟦<<() as HasDecoder<'a>>::Decoder as HoldsData>⟧.owned d.of_cancel };
-
-    ghost faults = { fault_and ⟦<<() as HasDecoder<'a>>::Decoder as View<'a>>⟧.faults (fault_and ⟦<<(u64, String) as HasDecoder<'a>>::Decoder as View<'a>>⟧.faults (fault_and ⟦<<(u64, u16) as HasDecoder<'a>>::Decoder as View<'a>>⟧.faults (fault_and ⟦<<Option<String> as HasDecoder<'a>>::Decoder as View<'a>>⟧.faults (fault_and ⟦<<(u32, Vec<u16>) as HasDecoder<'a>>::Decoder as View<'a>>⟧.faults (fault_and ⟦<<() as HasDecoder<'a>>::Decoder as View<'a>>⟧.faults (no_faults)))))) };
-
-    ghost makes_free = { ⟦<<() as HasDecoder<'a>>::Decoder as Decoder<()>>⟧.makes_free && ⟦<<(u64, String) as HasDecoder<'a>>::Decoder as Decoder<(u64, String)>>⟧.makes_free && ⟦<<(u64, u16) as HasDecoder<'a>>::Decoder as Decoder<(u64, u16)>>⟧.makes_free && ⟦<<Option<String> as HasDecoder<'a>>::Decoder as Decoder<Option<String>>>⟧.makes_free && ⟦<<(u32, Vec<u16>) as HasDecoder<'a>>::Decoder as Decoder<(u32, Vec<u16>)>>⟧.makes_free && ⟦<<() as HasDecoder<'a>>::Decoder as Decoder<()>>⟧.makes_free };
+impl<'a> AllPayloads<'a, 6, Order> for OrderPayloads<'a> {
+    ghost held = { record { lists = λ d. ⟦<<() as HasDecoder<'a>>::Decoder as HoldsData>⟧.held d.of_open ∷ ⟦<<(u64, String) as HasDecoder<'a>>::Decoder as HoldsData>⟧.held d.of_add ∷ ⟦<<(u64, u16) as HasDecoder<'a>>::Decoder as HoldsData>⟧.held d.of_remove ∷ ⟦<<Option<String> as HasDecoder<'a>>::Decoder as HoldsData>⟧.held d.of_note ∷ ⟦<<(u32, Vec<u16>) as HasDecoder<'a>>::Decoder as HoldsData>⟧.held d.of_pay ∷ ⟦<<() as HasDecoder<'a>>::Decoder as HoldsData>⟧.held d.of_cancel ∷ []; owned = λ d. ⟦<<() as HasDecoder<'a>>::Decoder as HoldsData>⟧.owned d.of_open + ⟦<<(u64, String) as HasDecoder<'a>>::Decoder as HoldsData>⟧.owned d.of_add + ⟦<<(u64, u16) as HasDecoder<'a>>::Decoder as HoldsData>⟧.owned d.of_remove + ⟦<<Option<String> as HasDecoder<'a>>::Decoder as HoldsData>⟧.owned d.of_note + ⟦<<(u32, Vec<u16>) as HasDecoder<'a>>::Decoder as HoldsData>⟧.owned d.of_pay + ⟦<<() as HasDecoder<'a>>::Decoder as HoldsData>⟧.owned d.of_cancel; faults = fault_and ⟦<<() as HasDecoder<'a>>::Decoder as View<'a>>⟧.faults (fault_and ⟦<<(u64, String) as HasDecoder<'a>>::Decoder as View<'a>>⟧.faults (fault_and ⟦<<(u64, u16) as HasDecoder<'a>>::Decoder as View<'a>>⟧.faults (fault_and ⟦<<Option<String> as HasDecoder<'a>>::Decoder as View<'a>>⟧.faults (fault_and ⟦<<(u32, Vec<u16>) as HasDecoder<'a>>::Decoder as View<'a>>⟧.faults (fault_and ⟦<<() as HasDecoder<'a>>::Decoder as View<'a>>⟧.faults (no_faults)))))); makes_free = ⟦<<() as HasDecoder<'a>>::Decoder as Decoder<()>>⟧.makes_free && ⟦<<(u64, String) as HasDecoder<'a>>::Decoder as Decoder<(u64, String)>>⟧.makes_free && ⟦<<(u64, u16) as HasDecoder<'a>>::Decoder as Decoder<(u64, u16)>>⟧.makes_free && ⟦<<Option<String> as HasDecoder<'a>>::Decoder as Decoder<Option<String>>>⟧.makes_free && ⟦<<(u32, Vec<u16>) as HasDecoder<'a>>::Decoder as Decoder<(u32, Vec<u16>)>>⟧.makes_free && ⟦<<() as HasDecoder<'a>>::Decoder as Decoder<()>>⟧.makes_free } };
 
     fn new(alloc: Global) -> Self {
         OrderPayloads {
@@ -180,16 +129,7 @@ impl<'a> VariantPayloads<'a, 6, Order> for OrderPayloads<'a> {
         }
     }
 
-    fn first(&self) -> usize {
-        0
-    }
-
-    fn populate_payloads(
-        &mut self,
-        number: usize,
-        input: &mut &'a [u8],
-        k: usize,
-    ) -> Result<(), Error> {
+    fn populate_at(&mut self, number: usize, input: &mut &'a [u8], k: usize) -> Result<(), Error> {
         match number {
             0 => self.of_open.populate(input, k),
             1 => self.of_add.populate(input, k),
@@ -201,7 +141,7 @@ impl<'a> VariantPayloads<'a, 6, Order> for OrderPayloads<'a> {
         }
     }
 
-    fn decode_payload(&mut self, number: usize) -> Result<Order, Error> {
+    fn decode_at(&mut self, number: usize) -> Result<Order, Error> {
         match number {
             0 => {
                 let (): () = self.of_open.decode()?;
@@ -232,10 +172,6 @@ impl<'a> VariantPayloads<'a, 6, Order> for OrderPayloads<'a> {
     }
 
     fn sized(&self) {}
-}
-
-impl<'a> ReadsVariants<'a, 6, OrderPayloads<'a>> for Order {
-    fn whole(_payloads: &OrderPayloads<'a>) {}
 }
 
 impl HasEncoder for Order {

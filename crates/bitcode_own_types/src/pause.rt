@@ -2,18 +2,15 @@
 ghost use Rattle.std.specs.Prelude.{refl};
 
 use bitcode::{
-    DecodeOwned, FieldCount, FromParts, HasDecoder, HasEncoder, PartsDecoder, StandsFor,
-    StructEncoder,
+    DecodeOwned, DecoderOfFields, EncoderOfFields, FromParts, HasDecoder, HasEncoder, StandsFor,
 };
 
 /// Nothing happens.
 #[derive(Debug, Clone, Copy, PartialEq)]
 pub struct Pause;
 
-type Parts = ();
-
 impl StandsFor for Pause {
-    type Parts = Parts;
+    type Parts = ();
 
     type Inside = ();
 
@@ -25,17 +22,17 @@ impl StandsFor for Pause {
 }
 
 impl FromParts for Pause {
-    fn from_parts(_nothing: Parts) -> Self {
+    fn from_parts(_nothing: ()) -> Self {
         Pause
     }
 }
 
 impl HasEncoder for Pause {
-    type Encoder = StructEncoder<FieldCount<0>, <Parts as HasEncoder>::Encoder>;
+    type Encoder = EncoderOfFields<0, ()>;
 }
 
 impl<'a> HasDecoder<'a> for Pause {
-    type Decoder = PartsDecoder<Parts, <Parts as HasDecoder<'a>>::Decoder>;
+    type Decoder = DecoderOfFields<'a, ()>;
 }
 
 impl DecodeOwned for Pause {}

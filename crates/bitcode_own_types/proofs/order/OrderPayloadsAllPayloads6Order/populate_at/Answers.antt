@@ -1,5 +1,5 @@
 -- Written by scripts/new_type.
-use Rattle.bitcode_own_types.proofs.order.OrderPayloadsVariantPayloads6Order.populate_payloads.Goals as goal
+use Rattle.bitcode_own_types.proofs.order.OrderPayloadsAllPayloads6Order.populate_at.Goals as goal
 
 pub returns-in-0-clause-refused : goal.returns-in-0-clause-refused
 returns-in-0-clause-refused c = rw c.in-0.is c.populate.ensures.refused
