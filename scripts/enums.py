@@ -272,7 +272,7 @@ def check_variants(enum, is_numbered):
 
 
 def enum_text(enum, own, crate, module, is_numbered):
-    """The file of an enum, the crates that it needs, and the files of its proofs by their paths."""
+    """The file of an enum, and the crates that it needs."""
     check_variants(enum, is_numbered)
     checker = Checker(enum, own)
     for field in fields_of(enum):
@@ -284,8 +284,7 @@ def enum_text(enum, own, crate, module, is_numbered):
     elif not fields_of(enum):
         text = bare_text(enum, crate, module)
     elif is_numbered:
-        numbered = Numbered(enum, crate, module)
-        return numbered.file(checker.imports), checker.crates, numbered.answers()
+        text = Numbered(enum, crate, module).file(checker.imports)
     else:
         text = payloads_text(enum, crate, module, checker.imports, own)
-    return text, checker.crates, {}
+    return text, checker.crates

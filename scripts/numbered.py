@@ -22,95 +22,107 @@ MOST_IN_PLACE = 48
 MOST_FOUND = 2
 
 FILE = """//! `$simple` is written and read by the numbers of its variants. What is below its declaration was written by `scripts/new_type`.
-ghost use Rattle.std.specs.Prelude.{◌≡◌, [], ◌∷◌, ◌+◌, ◌&&◌, refl};
+ghost use Rattle.std.specs.Prelude.{◌≡◌, refl};
 ghost use Rattle.bitcode.specs.ByHand.{$by_hand};
 ghost use Rattle.$crate.specs.declared.$module.$ghost.{$ghost};
 
 $uses
 $declaration
-impl Enum<$count> for $name {
+impl$life Enum for $name {
     ghost variants = { each_variant ($payloads_of) (λ at. elim [ $payload ]) $values };
 
-    ghost sized = { (refl, refl) };
+    ghost sized = { refl };
 
     fn variant(&self) -> u8 {
         match self {$index}
     }
 }
 
-impl HeldIn for $name {
+impl$life EnumOf<$count> for $name {
+    ghost count = { refl };
+}
+
+impl$life HeldIn for $name {
     type Holder = Held<$count, $name>;
 }
 
 $groups
-${all_columns}impl WritesPayloads<$count> for $name {
-    type Columns = Columns;
+${all_columns}type Decoders<$input> = $decoders;
 
-    ghost held = { ⟦<Columns as VariantColumns<$count, $name>>⟧.columns };
+/// The columns of the payloads of `$simple`.
+#[derive(Drop)]
+pub struct $columns {
+    all: Columns,
+}
 
-    fn new_columns(alloc: Global) -> Columns {
-        VariantColumns::<$count, $name>::new(alloc)
+impl AllColumns<$count> for $columns {
+    ghost held = { columns_in (λ c. c.all) ⟦<Columns as VariantColumns>⟧.columns };
+
+    fn new(alloc: Global) -> Self {
+        $columns { all: VariantColumns::new(alloc) }
     }
 
-    fn collect(columns: &mut Columns, number: usize, out: &mut Vec<u8>) -> Result<(), Error> {
-        VariantColumns::<$count, $name>::collect_payloads(columns, number, out)
+    fn collect(&mut self, number: usize, out: &mut Vec<u8>) -> Result<(), Error> {
+        self.all.collect_payloads(number, out)
     }
 
-    fn clear(columns: &mut Columns, number: usize) {
-        VariantColumns::<$count, $name>::clear_payloads(columns, number);
+    fn clear(&mut self, number: usize) {
+        self.all.clear_payloads(number);
     }
 
-    fn write_payload(&self, columns: &mut Columns) -> Result<(), Error> {
-        columns.encode_payload(self)
+    ghost sized = { λ c. refl };
+}
+
+impl$life WritesPayloads<$count, $columns> for $name {
+    fn write_payload(&self, to: &mut $columns) -> Result<(), Error> {
+        WritesVariants::<Columns>::write(self, &mut to.all)
     }
 
-    ghost of_shapes = { λ e. refl };
+    ghost of_shapes = { λ c. refl };
 }
 
 /// The payloads that values of `$simple` are made of.
 #[derive(Drop)]
-pub struct $struct<'a> {$decoders$mark
+pub struct $payloads<$input> {
+    all: Decoders<$input>,
 }
 
-impl<'a> AllPayloads<'a, $count, $name> for $struct<'a> {
-    ghost held = { record { lists = λ d. $lists; owned = λ d. $owned; faults = $faults; makes_free = $makes_free } };
+impl<$input> AllPayloads<$input, $count, $name> for $payloads<$input> {
+    ghost held = { payloads_in (λ d. d.all) ⟦<Decoders<$input> as VariantPayloads<$input, $name>>⟧.held };
 
     fn new(alloc: Global) -> Self {
-        $struct {$views
-        }
+        $payloads { all: VariantPayloads::<$name>::new(alloc) }
     }
 
-    fn populate_at(&mut self, number: usize, input: &mut &'a [u8], k: usize) -> Result<(), Error> {
-        match number {$populate
-            _ => unreachable!(),
-        }
+    fn populate_at(&mut self, number: usize, input: &mut &$input [u8], k: usize) -> Result<(), Error> {
+        VariantPayloads::<$name>::populate_payloads(&mut self.all, number, input, k)
     }
 
     fn decode_at(&mut self, number: usize) -> Result<$name, Error> {
-        match number {$decode
-            _ => unreachable!(),
-        }
+        self.all.decode_payload(number)
     }
 
     fn sized(&self) {}
 }
 
-impl HasEncoder for $name {
-    type Encoder = EnumEncoder<$count, NumberedColumns<$count, $name>>;
+impl$life HasEncoder for $name {
+    type Encoder = EnumEncoder<$count, NumberedColumns<$count, $columns>>;
 }
 
-impl<'a> HasDecoder<'a> for $name {
-    type Decoder = PartsDecoder<Held<$count, $name>, NumberedDecoder<'a, $count, $name, $struct<'a>>>;
+impl<$input> HasDecoder<$input> for $name {
+    type Decoder = PartsDecoder<Held<$count, $name>, NumberedDecoder<$input, $count, $name, $payloads<$input>>>;
 }
+$owned"""
 
+OWNED = """
 impl DecodeOwned for $name {}
 """
 
-GROUP = """impl Variants$size<$count, $first, $types> for $name {
+GROUP = """impl$life Variants$size<At<$first>, $types> for $name {
     ghost values = { ($values) };
 
     fn of_payload(payload: OneOf$size<$types>) -> Self
-        ensures { result ≡ of_one_of_$size $arms payload }
+        ensures { result ≡ of_one_of_$size $arms $taken }
     {
         match payload {$made}
     }
@@ -118,7 +130,7 @@ GROUP = """impl Variants$size<$count, $first, $types> for $name {
     ghost are = { ($are) };
 }
 
-${alias}impl WritesVariants$size<$count, $first, $types> for $name {
+${alias}impl$life WritesVariants<$encoders> for $name {
     fn write(&self, to: &mut $encoders) -> Result<(), Error> {
         match self {$encode}
     }
@@ -127,26 +139,9 @@ ${alias}impl WritesVariants$size<$count, $first, $types> for $name {
 ARE = "is_variant refl (λ p. refl) (λ p old new h. h) (λ p old h. h) (λ p old new h. h)"
 
 
-# What the search does not find: that the number is in the clause what it is in the arm.
-READ = """
-pub returns-in-$number-clause-$clause : goal.returns-in-$number-clause-$clause
-returns-in-$number-clause-$clause c = rw c.in-$number.is c.populate$arm.ensures.$clause
-"""
-
-
-def place_of(variant):
-    """The name of the decoder of a variant: that of `TwoWords` is `of_two_words`."""
-    return "of_" + re.sub(r"(?<=[a-z0-9])(?=[A-Z])|(?<=[A-Z])(?=[A-Z][a-z])", "_", variant.name).lower()
-
-
-def is_nothing(type):
-    """Whether values of the type have no columns, so that a decoder of them keeps no part of an input."""
-    return type.name == "PhantomData" or type.kind in ("tuple", "array") and all(map(is_nothing, type.parts)) or type.name in ("Box", "Rc") and is_nothing(type.parts[0])
-
-
 def says_laws(type, own, within=()):
     """Whether the type says its laws as data, or could: sets and maps cannot, nor what is imported and does not."""
-    if type.kind == "reference" or type.name in KEYED_BY_LAWS or type.name in within:
+    if type.name in KEYED_BY_LAWS or type.name in within:
         return False
     if type.kind == "path" and type.name in own and not (own[type.name].says_laws if not own[type.name].item else could_say_laws(own[type.name].item, own, within)):
         return False
@@ -154,8 +149,8 @@ def says_laws(type, own, within=()):
 
 
 def could_say_laws(item, own, within=()):
-    """Whether a type of one's own could say its laws as data: one without a lifetime, all of whose fields could. An enum with fields is then written by number, which those with type parameters are not."""
-    can_be_written = not item.lifetime and (not item.types or isinstance(item, Struct) or len(item.variants) == 1)
+    """Whether a type of one's own could say its laws as data: one all of whose fields could. An enum with fields is then written by number, which those with type parameters are not."""
+    can_be_written = not item.types or isinstance(item, Struct) or len(item.variants) == 1
     return can_be_written and all(says_laws(field.type, own, (*within, item.name)) for field in fields_of(item))
 
 
@@ -202,17 +197,17 @@ class Numbered:
         self.enum, self.crate, self.module = enum, crate, module
         self.count, self.groups = len(enum.variants), groups_of(len(enum.variants))
         self.types = [held_type(variant) for variant in enum.variants]
-        places = [place_of(variant) for variant in enum.variants]
-        self.places = [place if places.count(place) == 1 else f"{place}_{n}" for n, place in enumerate(places)]
-        self.name = enum.name
+        self.life, self.input = bounds(enum, ""), enum.lifetime or "'a"
+        self.name = enum.name + self.life
 
     def types_of(self, numbers):
         """The types of the payloads of these variants."""
         return ", ".join(self.types[n] for n in numbers)
 
     def encoders(self, numbers):
-        """The encoders of these variants: their type, and what names it where it is long or that of all columns."""
-        type = f"Encoders{len(numbers)}<{numbers[0]}, {self.types_of(numbers)}>"
+        """The encoders of these variants: their type, and what names it where it is long or that of all columns. They borrow nothing."""
+        types = self.types_of(numbers).replace(self.enum.lifetime, "'static") if self.enum.lifetime else self.types_of(numbers)
+        type = f"EncodersOf{len(numbers)}<At<{numbers[0]}>, {types}>"
         if len(self.groups) > 1 and len(type) <= MOST_IN_PLACE:
             return type, ""
         name = "Columns" + (f"Of{numbers[0]}To{numbers[-1]}" if len(self.groups) > 1 else "")
@@ -220,27 +215,29 @@ class Numbered:
 
     def group(self, numbers):
         """What the enum says of variants that have their coders together."""
-        rows = [(ORDINALS[place], self.enum.variants[n]) for place, n in enumerate(numbers)]
+        rows, size = [(ORDINALS[place], self.enum.variants[n]) for place, n in enumerate(numbers)], len(numbers)
 
         def written(ordinal, variant):
             fields = payload(names_of(variant), "&()")
-            types = f"::<{self.count}, _, {payload([f'&{of_text(field.type)}' for field in variant.fields], '')}>" if len(variant.fields) > MOST_FOUND else ""
+            found = ", ".join(["_"] * (size + 1) + [payload([f"&{of_text(field.type)}" for field in variant.fields], "")])
+            types = f"::<{found}>" if len(variant.fields) > MOST_FOUND else ""
             return f"\n            {value(self.enum, variant)} => to.encode_{ordinal}{types}(self, &{fields}),"
 
         others = "\n            _ => unreachable!()," if len(self.groups) > 1 else ""
         encoders, alias = self.encoders(numbers)
         return Template(GROUP).substitute(
-            size=len(numbers),
+            life=self.life,
+            size=size,
             encoders=encoders,
             alias=alias,
-            count=self.count,
             first=numbers[0],
             types=self.types_of(numbers),
             name=self.name,
             values=", ".join(f"λ p. {self.built(variant)}" for _, variant in rows),
             arms=" ".join(f"(λ p. {self.built(variant)})" for _, variant in rows),
-            are=", ".join([ARE] * len(rows)),
-            made="".join(f"\n            OneOf{len(numbers)}::{ordinal.capitalize()}({payload(names_of(variant), '()')}) => {value(self.enum, variant)}," for ordinal, variant in rows) + "\n        ",
+            taken="payload.entry" if self.enum.lifetime else "payload",
+            are=", ".join([ARE] * size),
+            made="".join(f"\n            OneOf{size}::{ordinal.capitalize()}({payload(names_of(variant), '()')}) => {value(self.enum, variant)}," for ordinal, variant in rows) + "\n        ",
             encode="".join(written(ordinal, variant) for ordinal, variant in rows) + others + "\n        ",
         )
 
@@ -248,41 +245,6 @@ class Numbered:
         """A function of a payload, which gives the value that has it, in a ghost member."""
         found = places(len(variant.fields)) if variant.fields else []
         return " ".join([f"{quoted(self.enum.name)}.{variant.name}", *found])
-
-    def is_marked(self):
-        """Whether the struct of the decoders has a mark of the input's lifetime, since none of them keeps a part of the input."""
-        return all(is_nothing(field.type) for field in fields_of(self.enum))
-
-    def payloads(self):
-        """What stands for the decoders of all variants."""
-        every = range(self.count)
-
-        def quote(n, trait, member, of=""):
-            return f"⟦<<{self.types[n]} as HasDecoder<'a>>::Decoder as {trait}>⟧.{member}{of}"
-
-        def made(n):
-            variant = self.enum.variants[n]
-            return f"{{ let {payload(names_of(variant), '()')}: {self.types[n]} = self.{self.places[n]}.decode()?; Ok({value(self.enum, variant)}) }}"
-
-        is_marked = self.is_marked()
-        view = f"View<'a>"
-        return {
-            "decoders": "".join(f"\n    {self.places[n]}: <{self.types[n]} as HasDecoder<'a>>::Decoder," for n in every),
-            "mark": f"\n    of: PhantomData<&'a ()>," if is_marked else "",
-            "lists": " ∷ ".join([*(quote(n, "HoldsData", "held", f" d.{self.places[n]}") for n in every), "[]"]),
-            "owned": " + ".join(quote(n, "HoldsData", "owned", f" d.{self.places[n]}") for n in every),
-            "faults": "".join(f"fault_and {quote(n, view, 'faults')} (" for n in every) + "no_faults" + ")" * self.count,
-            "makes_free": " && ".join(quote(n, f"Decoder<{self.types[n]}>", "makes_free") for n in every),
-            "views": "".join(f"\n            {self.places[n]}: View::new(alloc)," for n in every) + ("\n            of: PhantomData," if is_marked else ""),
-            "populate": "".join(f"\n            {n} => self.{self.places[n]}.populate(input, k)," for n in every),
-            "decode": "".join(f"\n            {n} => {made(n)}" for n in every),
-        }
-
-    def answers(self):
-        """The file of what the search does not find, by its path in the crate."""
-        at = f"{self.module}/{self.enum.name}PayloadsAllPayloads{self.count}{self.enum.name}/populate_at"
-        rows = "".join(Template(READ).substitute(number=n, clause=clause, arm=f"-in-{n}" if n else "") for n in range(self.count) for clause in ("refused", "exact"))
-        return {f"proofs/{at}/Answers.antt": f"-- Written by scripts/new_type.\nuse Rattle.{self.crate}.proofs.{at.replace('/', '.')}.Goals as goal\n{rows}"}
 
     def variants(self):
         """What the enum says of its variants: the payloads of each, the payload of a value, and the value that has a payload."""
@@ -297,11 +259,10 @@ class Numbered:
 
     def file(self, imports):
         """The file of the type."""
-        imports = {*imports, "std::marker::PhantomData"} if self.is_marked() else imports
-        used = set("AllPayloads DecodeOwned Decoder Enum EnumEncoder Error HasDecoder HasEncoder Held HeldIn NumberedColumns NumberedDecoder PartsDecoder "
-                   "Payload VariantColumns View WritesPayloads told_as".split())
-        used |= {f"{kind}{len(numbers)}" for numbers in self.groups for kind in ("Encoders", "OneOf", "Variants", "WritesVariants")}
-        used |= {"Halves"} if len(self.groups) > 1 else set()
+        used = set("AllColumns AllPayloads At Enum EnumEncoder EnumOf Error HasDecoder HasEncoder Held HeldIn NumberedColumns NumberedDecoder PartsDecoder "
+                   "Payload VariantColumns VariantPayloads WritesPayloads WritesVariants told_as".split())
+        used |= {f"{kind}{len(numbers)}" for numbers in self.groups for kind in ("DecodersOf", "EncodersOf", "OneOf", "Variants")}
+        used |= ({"Halves"} if len(self.groups) > 1 else set()) | (set() if self.enum.lifetime else {"DecodeOwned"})
 
         def numbered(number, variant):
             names = names_of(variant)
@@ -310,19 +271,23 @@ class Numbered:
         return Template(FILE).substitute(
             simple=self.enum.name,
             name=self.name,
-            struct=f"{self.enum.name}Payloads",
+            life=self.life,
+            input=self.input,
+            columns=f"{self.enum.name}Columns",
+            payloads=f"{self.enum.name}Payloads",
             ghost=quoted(self.enum.name),
             crate=self.crate,
             module=self.module,
             count=self.count,
-            uses="\n".join(sorted(["use bitcode::coder::HoldsData;", f"use bitcode::{{{', '.join(sorted(used))}}};", "use std::alloc::Global;", *(f"use {path};" for path in imports)])) + "\n",
+            uses="\n".join(sorted([f"use bitcode::{{{', '.join(sorted(used))}}};", "use std::alloc::Global;", *(f"use {path};" for path in imports)])) + "\n",
             declaration=declaration(self.enum),
-            by_hand=", ".join(sorted({"each_variant", "fault_and", "is_variant", "last_payload", "no_faults", "payload_and", *(f"of_one_of_{len(numbers)}" for numbers in self.groups)})),
+            by_hand=", ".join(sorted({"columns_in", "each_variant", "is_variant", "last_payload", "payload_and", "payloads_in", *(f"of_one_of_{len(numbers)}" for numbers in self.groups)})),
             **self.variants(),
             index=arms(self.enum, lambda number, variant: value(self.enum, variant), numbered),
             groups="\n".join(map(self.group, self.groups)),
             all_columns=f"type Columns = {halves([self.encoders(numbers)[0] for numbers in self.groups])};\n\n" if len(self.groups) > 1 else "",
-            **self.payloads(),
+            decoders=halves([f"DecodersOf{len(numbers)}<{self.input}, At<{numbers[0]}>, {self.types_of(numbers)}>" for numbers in self.groups]),
+            owned="" if self.enum.lifetime else Template(OWNED).substitute(name=self.name),
         )
 
 

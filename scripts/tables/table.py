@@ -17,9 +17,9 @@ def filled(template, rows):
 
 
 def in_its_crate(script, path, text):
-    """The text as a file of its crate, which says in the first line where it is from, and calls its own crate by `crate`."""
+    """The text as a file of its crate or of edits, which says in the first line where it is from, and calls its own crate by `crate`."""
     crate = path.split("/")[1]
-    comment = "--" if path.endswith(".antt") else "//"
+    comment = {".antt": "--", ".edit": "#"}.get(os.path.splitext(path)[1], "//")
     own = re.sub(rf"^use {crate}::", "use crate::", text.lstrip("\n"), flags=re.M)
     head = re.match("(//( .*)?\n)*", own).group()
     own = re.sub("^// ?", "//! ", head, flags=re.M) + own[len(head):]

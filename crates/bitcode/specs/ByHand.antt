@@ -36,7 +36,7 @@ pub use Rattle.bitcode_shapes.specs.PayloadOf.{PayloadOf, payload_of, stood_payl
 pub use Rattle.bitcode_enums.specs.VariantsOf.{VariantsOf, variants_of, first_variant, last_variant, IsVariant, is_variant}
 pub use Rattle.bitcode_enums.specs.EachVariant.{Payloads, last_payload, payload_and, SomePayload, payload_at, each_variant}
 pub use Rattle.bitcode_enums.specs.OneOf.{of_one_of_2, of_one_of_3, of_one_of_4, of_one_of_5, of_one_of_6}
-pub use Rattle.bitcode_enums.specs.HeldColumns.{HeldColumns, HeldPayloads}
+pub use Rattle.bitcode_enums.specs.HeldColumns.{HeldColumns, columns_in, HeldPayloads, payloads_in}
 pub use Rattle.bitcode_enums.specs.Numbered.{fault_and, no_faults}
 -- The columns that encoders hold, and the data that decoders hold:
 pub use Rattle.bitcode_coder.specs.Columns.{no_columns, two}

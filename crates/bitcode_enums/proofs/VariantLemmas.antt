@@ -2,9 +2,9 @@
 use Rattle.std.proofs.Common.{◌≡◌, ℕ, ◌+◌, ◌-◌, ◌≤◌, List, sym, ap, subst, ◌∙◌, arith}
 use Rattle.bitcode_shapes.specs.Datum.{Datum}
 use Rattle.bitcode_shapes.specs.Shape.{Shape}
-use Rattle.bitcode_coder.specs.Columns.{Columns, emptied}
+use Rattle.bitcode_coder.specs.Columns.{Columns}
 use Rattle.bitcode_coder.specs.Coder.{JoinsListing, OverflowsWithListing}
-use Rattle.bitcode_enums.specs.Numbered.{shape_at, columns_at, KeepsOthers}
+use Rattle.bitcode_enums.specs.Numbered.{shape_at, columns_at}
 use Rattle.bitcode_enums.specs.VariantsOf.{VariantsOf, IsVariant}
 
 module _ {T P : Type 0} (vs : VariantsOf T) {number : ℕ} {shape : Shape} {lists : P → Datum → Type 0} {makes : Datum → P → Type 0} {value : P → T} (v : IsVariant vs number shape lists makes value) where
@@ -14,18 +14,11 @@ module _ {T P : Type 0} (vs : VariantsOf T) {number : ℕ} {shape : Shape} {list
     place_of : place ≡ vs.index t - first
     place_of = let of : vs.index t ≡ number = ap vs.index is ∙ v.is_of p in omega (arith, of, at)
 
-    pub keeps_others_of : {A : Type 0} (none : A) (old new : List A) → KeepsOthers none place old new → KeepsOthers none (vs.index t - first) old new
-    keeps_others_of none old new others = subst (λ n. KeepsOthers none n old new) place_of others
-
     pub joins_of : (old new : List Columns) → JoinsListing lists shape p (columns_at place old) (columns_at place new)
         → vs.joins t (columns_at (vs.index t - first) old) (columns_at (vs.index t - first) new)
     joins_of old new h =
         subst (λ n. vs.joins t (columns_at n old) (columns_at n new)) place_of
         (subst (λ u. vs.joins u (columns_at place old) (columns_at place new)) (sym is) (v.joins p (columns_at place old) (columns_at place new) h))
-
-    pub form_of : (old new : List Columns) → emptied (columns_at place new) ≡ emptied (columns_at place old)
-        → emptied (columns_at (vs.index t - first) new) ≡ emptied (columns_at (vs.index t - first) old)
-    form_of old new h = subst (λ n. emptied (columns_at n new) ≡ emptied (columns_at n old)) place_of h
 
     pub overflows_of : (old : List Columns) → OverflowsWithListing lists shape p (columns_at place old) → vs.overflows t (columns_at (vs.index t - first) old)
     overflows_of old h =
@@ -40,6 +33,3 @@ module _ {T P : Type 0} (vs : VariantsOf T) {number : ℕ} {shape : Shape} {list
 
     pub shape_of : {read : Shape} → read ≡ shape → read ≡ shape_at n vs.shapes
     shape_of same = same ∙ sym v.has_shape ∙ ap (λ m. shape_at m vs.shapes) number_of
-
-    pub index_of : (p : P) → vs.index (value p) ≡ n
-    index_of p = v.is_of p ∙ number_of

@@ -10,6 +10,13 @@ pub record HeldColumns (E : Type 0) : Type 0 where
   -- how many entries they have memory for
   pub capacity : E → ℕ
 
+-- of what has these as a part
+abbrev pub columns_in : {C E : Type 0} → (C → E) → HeldColumns E → HeldColumns C
+columns_in part held = record {
+  lists = λ c. held.lists (part c);
+  capacity = λ c. held.capacity (part c);
+}
+
 pub record HeldPayloads (D : Type 0) : Type 1 where
   -- the payloads of each variant that are left to take
   pub lists : D → List (List Datum)
@@ -21,8 +28,8 @@ pub record HeldPayloads (D : Type 0) : Type 1 where
   pub makes_free : Bool
 
 -- of what has these as a part
-abbrev pub held_in : {D E : Type 0} → (E → D) → HeldPayloads D → HeldPayloads E
-held_in part held = record {
+abbrev pub payloads_in : {D E : Type 0} → (E → D) → HeldPayloads D → HeldPayloads E
+payloads_in part held = record {
   lists = λ e. held.lists (part e);
   owned = λ e. held.owned (part e);
   faults = held.faults;

@@ -10,3 +10,4 @@ pub mod VariantsOf
 pub mod OneOf
 pub mod HeldColumns
 pub mod EachVariant
+pub mod NumberedRows

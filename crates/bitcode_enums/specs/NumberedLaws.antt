@@ -98,13 +98,6 @@ each_has_payloads (shape_and s ss) (c ∷ cs) form first =
     let later : map emptied cs ≡ bare_columns ss = cc in
     first_has_payloads s ss c (all_columns cs) here (each_has_payloads ss cs later) first
 
-bare_count : (ss : Shapes) → length (bare_columns ss) ≡ variant_count ss
-bare_count no_shapes = refl
-bare_count (shape_and s ss) = ap suc (bare_count ss)
-
-pub all_size : (ss : Shapes) {count : ℕ} → variant_count ss ≡ count → (lists : List Columns) → map emptied lists ≡ bare_columns ss → length lists ≡ count
-all_size ss counted lists form = sym (length-map lists emptied) ∙ ap length form ∙ bare_count ss ∙ counted
-
 -- ---- variants that follow each other
 
 pub not_past : (first count : ℕ) → first ≤ first + count

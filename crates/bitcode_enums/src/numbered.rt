@@ -5,4 +5,6 @@ pub mod encoder;
 pub mod halves;
 pub mod held;
 pub mod payloads;
+pub mod place;
 pub mod variants;
+pub mod writes;

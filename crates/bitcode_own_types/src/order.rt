@@ -1,13 +1,13 @@
 //! `Order` is written and read by the numbers of its variants. What is below its declaration was written by `scripts/new_type`.
-ghost use Rattle.std.specs.Prelude.{◌≡◌, [], ◌∷◌, ◌+◌, ◌&&◌, refl};
-ghost use Rattle.bitcode.specs.ByHand.{each_variant, fault_and, is_variant, last_payload, no_faults, of_one_of_6, payload_and};
+ghost use Rattle.std.specs.Prelude.{◌≡◌, refl};
+ghost use Rattle.bitcode.specs.ByHand.{columns_in, each_variant, is_variant, last_payload, of_one_of_6, payload_and, payloads_in};
 ghost use Rattle.bitcode_own_types.specs.declared.order.Order.{Order};
 
-use bitcode::coder::HoldsData;
 use bitcode::{
-    AllPayloads, DecodeOwned, Decoder, Encoders6, Enum, EnumEncoder, Error, HasDecoder, HasEncoder,
-    Held, HeldIn, NumberedColumns, NumberedDecoder, OneOf6, PartsDecoder, Payload, VariantColumns,
-    Variants6, View, WritesPayloads, WritesVariants6, told_as,
+    AllColumns, AllPayloads, At, DecodeOwned, DecodersOf6, EncodersOf6, Enum, EnumEncoder, EnumOf,
+    Error, HasDecoder, HasEncoder, Held, HeldIn, NumberedColumns, NumberedDecoder, OneOf6,
+    PartsDecoder, Payload, VariantColumns, VariantPayloads, Variants6, WritesPayloads,
+    WritesVariants, told_as,
 };
 use std::alloc::Global;
 
@@ -22,10 +22,10 @@ pub enum Order {
     Cancel,
 }
 
-impl Enum<6> for Order {
+impl Enum for Order {
     ghost variants = { each_variant (payload_and ⟦<() as Payload>⟧.payload (payload_and ⟦<(u64, String) as Payload>⟧.payload (payload_and ⟦<(u64, u16) as Payload>⟧.payload (payload_and ⟦<Option<String> as Payload>⟧.payload (payload_and ⟦<(u32, Vec<u16>) as Payload>⟧.payload (last_payload ⟦<() as Payload>⟧.payload)))))) (λ at. elim [ Order.Open ↦ at 0 tt | Order.Add a b ↦ at 1 (a, b) | Order.Remove a b ↦ at 2 (a, b) | Order.Note a ↦ at 3 a | Order.Pay a b ↦ at 4 (a, b) | Order.Cancel ↦ at 5 tt ]) ((λ p. (Order.Open, refl)), ((λ p. (Order.Add p.0 p.1, refl)), ((λ p. (Order.Remove p.0 p.1, refl)), ((λ p. (Order.Note p, refl)), ((λ p. (Order.Pay p.0 p.1, refl)), λ p. (Order.Cancel, refl)))))) };
 
-    ghost sized = { (refl, refl) };
+    ghost sized = { refl };
 
     fn variant(&self) -> u8 {
         match self {
@@ -39,11 +39,16 @@ impl Enum<6> for Order {
     }
 }
 
+impl EnumOf<6> for Order {
+    ghost count = { refl };
+}
+
 impl HeldIn for Order {
     type Holder = Held<6, Order>;
 }
 
-impl Variants6<6, 0, (), (u64, String), (u64, u16), Option<String>, (u32, Vec<u16>), ()> for Order {
+impl Variants6<At<0>, (), (u64, String), (u64, u16), Option<String>, (u32, Vec<u16>), ()>
+    for Order {
     ghost values = { (λ p. Order.Open, λ p. Order.Add p.0 p.1, λ p. Order.Remove p.0 p.1, λ p. Order.Note p, λ p. Order.Pay p.0 p.1, λ p. Order.Cancel) };
 
     fn of_payload(
@@ -64,10 +69,17 @@ impl Variants6<6, 0, (), (u64, String), (u64, u16), Option<String>, (u32, Vec<u1
     ghost are = { (is_variant refl (λ p. refl) (λ p old new h. h) (λ p old h. h) (λ p old new h. h), is_variant refl (λ p. refl) (λ p old new h. h) (λ p old h. h) (λ p old new h. h), is_variant refl (λ p. refl) (λ p old new h. h) (λ p old h. h) (λ p old new h. h), is_variant refl (λ p. refl) (λ p old new h. h) (λ p old h. h) (λ p old new h. h), is_variant refl (λ p. refl) (λ p old new h. h) (λ p old h. h) (λ p old new h. h), is_variant refl (λ p. refl) (λ p old new h. h) (λ p old h. h) (λ p old new h. h)) };
 }
 
-type Columns = Encoders6<0, (), (u64, String), (u64, u16), Option<String>, (u32, Vec<u16>), ()>;
+type Columns = EncodersOf6<
+    At<0>,
+    (),
+    (u64, String),
+    (u64, u16),
+    Option<String>,
+    (u32, Vec<u16>),
+    (),
+>;
 
-impl WritesVariants6<6, 0, (), (u64, String), (u64, u16), Option<String>, (u32, Vec<u16>), ()>
-    for Order {
+impl WritesVariants<Columns> for Order {
     fn write(&self, to: &mut Columns) -> Result<(), Error> {
         match self {
             Order::Open => to.encode_first(self, &&()),
@@ -80,102 +92,79 @@ impl WritesVariants6<6, 0, (), (u64, String), (u64, u16), Option<String>, (u32, 
     }
 }
 
-impl WritesPayloads<6> for Order {
-    type Columns = Columns;
+type Decoders<'a> = DecodersOf6<
+    'a,
+    At<0>,
+    (),
+    (u64, String),
+    (u64, u16),
+    Option<String>,
+    (u32, Vec<u16>),
+    (),
+>;
 
-    ghost held = { ⟦<Columns as VariantColumns<6, Order>>⟧.columns };
+/// The columns of the payloads of `Order`.
+#[derive(Drop)]
+pub struct OrderColumns {
+    all: Columns,
+}
 
-    fn new_columns(alloc: Global) -> Columns {
-        VariantColumns::<6, Order>::new(alloc)
+impl AllColumns<6> for OrderColumns {
+    ghost held = { columns_in (λ c. c.all) ⟦<Columns as VariantColumns>⟧.columns };
+
+    fn new(alloc: Global) -> Self {
+        OrderColumns {
+            all: VariantColumns::new(alloc),
+        }
     }
 
-    fn collect(columns: &mut Columns, number: usize, out: &mut Vec<u8>) -> Result<(), Error> {
-        VariantColumns::<6, Order>::collect_payloads(columns, number, out)
+    fn collect(&mut self, number: usize, out: &mut Vec<u8>) -> Result<(), Error> {
+        self.all.collect_payloads(number, out)
     }
 
-    fn clear(columns: &mut Columns, number: usize) {
-        VariantColumns::<6, Order>::clear_payloads(columns, number);
+    fn clear(&mut self, number: usize) {
+        self.all.clear_payloads(number);
     }
 
-    fn write_payload(&self, columns: &mut Columns) -> Result<(), Error> {
-        columns.encode_payload(self)
+    ghost sized = { λ c. refl };
+}
+
+impl WritesPayloads<6, OrderColumns> for Order {
+    fn write_payload(&self, to: &mut OrderColumns) -> Result<(), Error> {
+        WritesVariants::<Columns>::write(self, &mut to.all)
     }
 
-    ghost of_shapes = { λ e. refl };
+    ghost of_shapes = { λ c. refl };
 }
 
 /// The payloads that values of `Order` are made of.
 #[derive(Drop)]
 pub struct OrderPayloads<'a> {
-    of_open: <() as HasDecoder<'a>>::Decoder,
-    of_add: <(u64, String) as HasDecoder<'a>>::Decoder,
-    of_remove: <(u64, u16) as HasDecoder<'a>>::Decoder,
-    of_note: <Option<String> as HasDecoder<'a>>::Decoder,
-    of_pay: <(u32, Vec<u16>) as HasDecoder<'a>>::Decoder,
-    of_cancel: <() as HasDecoder<'a>>::Decoder,
+    all: Decoders<'a>,
 }
 
 impl<'a> AllPayloads<'a, 6, Order> for OrderPayloads<'a> {
-    ghost held = { record { lists = λ d. ⟦<<() as HasDecoder<'a>>::Decoder as HoldsData>⟧.held d.of_open ∷ ⟦<<(u64, String) as HasDecoder<'a>>::Decoder as HoldsData>⟧.held d.of_add ∷ ⟦<<(u64, u16) as HasDecoder<'a>>::Decoder as HoldsData>⟧.held d.of_remove ∷ ⟦<<Option<String> as HasDecoder<'a>>::Decoder as HoldsData>⟧.held d.of_note ∷ ⟦<<(u32, Vec<u16>) as HasDecoder<'a>>::Decoder as HoldsData>⟧.held d.of_pay ∷ ⟦<<() as HasDecoder<'a>>::Decoder as HoldsData>⟧.held d.of_cancel ∷ []; owned = λ d. ⟦<<() as HasDecoder<'a>>::Decoder as HoldsData>⟧.owned d.of_open + ⟦<<(u64, String) as HasDecoder<'a>>::Decoder as HoldsData>⟧.owned d.of_add + ⟦<<(u64, u16) as HasDecoder<'a>>::Decoder as HoldsData>⟧.owned d.of_remove + ⟦<<Option<String> as HasDecoder<'a>>::Decoder as HoldsData>⟧.owned d.of_note + ⟦<<(u32, Vec<u16>) as HasDecoder<'a>>::Decoder as HoldsData>⟧.owned d.of_pay + ⟦<<() as HasDecoder<'a>>::Decoder as HoldsData>⟧.owned d.of_cancel; faults = fault_and ⟦<<() as HasDecoder<'a>>::Decoder as View<'a>>⟧.faults (fault_and ⟦<<(u64, String) as HasDecoder<'a>>::Decoder as View<'a>>⟧.faults (fault_and ⟦<<(u64, u16) as HasDecoder<'a>>::Decoder as View<'a>>⟧.faults (fault_and ⟦<<Option<String> as HasDecoder<'a>>::Decoder as View<'a>>⟧.faults (fault_and ⟦<<(u32, Vec<u16>) as HasDecoder<'a>>::Decoder as View<'a>>⟧.faults (fault_and ⟦<<() as HasDecoder<'a>>::Decoder as View<'a>>⟧.faults (no_faults)))))); makes_free = ⟦<<() as HasDecoder<'a>>::Decoder as Decoder<()>>⟧.makes_free && ⟦<<(u64, String) as HasDecoder<'a>>::Decoder as Decoder<(u64, String)>>⟧.makes_free && ⟦<<(u64, u16) as HasDecoder<'a>>::Decoder as Decoder<(u64, u16)>>⟧.makes_free && ⟦<<Option<String> as HasDecoder<'a>>::Decoder as Decoder<Option<String>>>⟧.makes_free && ⟦<<(u32, Vec<u16>) as HasDecoder<'a>>::Decoder as Decoder<(u32, Vec<u16>)>>⟧.makes_free && ⟦<<() as HasDecoder<'a>>::Decoder as Decoder<()>>⟧.makes_free } };
+    ghost held = { payloads_in (λ d. d.all) ⟦<Decoders<'a> as VariantPayloads<'a, Order>>⟧.held };
 
     fn new(alloc: Global) -> Self {
         OrderPayloads {
-            of_open: View::new(alloc),
-            of_add: View::new(alloc),
-            of_remove: View::new(alloc),
-            of_note: View::new(alloc),
-            of_pay: View::new(alloc),
-            of_cancel: View::new(alloc),
+            all: VariantPayloads::<Order>::new(alloc),
         }
     }
 
     fn populate_at(&mut self, number: usize, input: &mut &'a [u8], k: usize) -> Result<(), Error> {
-        match number {
-            0 => self.of_open.populate(input, k),
-            1 => self.of_add.populate(input, k),
-            2 => self.of_remove.populate(input, k),
-            3 => self.of_note.populate(input, k),
-            4 => self.of_pay.populate(input, k),
-            5 => self.of_cancel.populate(input, k),
-            _ => unreachable!(),
-        }
+        VariantPayloads::<Order>::populate_payloads(&mut self.all, number, input, k)
     }
 
     fn decode_at(&mut self, number: usize) -> Result<Order, Error> {
-        match number {
-            0 => {
-                let (): () = self.of_open.decode()?;
-                Ok(Order::Open)
-            }
-            1 => {
-                let (a, b): (u64, String) = self.of_add.decode()?;
-                Ok(Order::Add(a, b))
-            }
-            2 => {
-                let (item, count): (u64, u16) = self.of_remove.decode()?;
-                Ok(Order::Remove { item, count })
-            }
-            3 => {
-                let a: Option<String> = self.of_note.decode()?;
-                Ok(Order::Note(a))
-            }
-            4 => {
-                let (a, b): (u32, Vec<u16>) = self.of_pay.decode()?;
-                Ok(Order::Pay(a, b))
-            }
-            5 => {
-                let (): () = self.of_cancel.decode()?;
-                Ok(Order::Cancel)
-            }
-            _ => unreachable!(),
-        }
+        self.all.decode_payload(number)
     }
 
     fn sized(&self) {}
 }
 
 impl HasEncoder for Order {
-    type Encoder = EnumEncoder<6, NumberedColumns<6, Order>>;
+    type Encoder = EnumEncoder<6, NumberedColumns<6, OrderColumns>>;
 }
 
 impl<'a> HasDecoder<'a> for Order {

@@ -6,7 +6,7 @@ ghost use Rattle.bitcode_parts.specs.Variants.{variants_left, variants_owned};
 ghost use Rattle.bitcode_enums.specs.Numbered.{PayloadsFault};
 ghost use Rattle.bitcode_enums.specs.Reading.{VariantsFault};
 
-use crate::numbered::held::{Enum, Held};
+use crate::numbered::held::{Enum, EnumOf, Held};
 use crate::numbered::payloads::AllPayloads;
 use bitcode_coder::coder::{Decoder, HoldsData, View};
 use bitcode_columns::error::Error;
@@ -28,7 +28,7 @@ pub struct NumberedDecoder<'a, const N: usize, T, D> {
     of: PhantomData<T>,
 }
 
-impl<'a, const N: usize, T: Enum<N>, D: AllPayloads<'a, N, T>> HoldsData
+impl<'a, const N: usize, T: EnumOf<N>, D: AllPayloads<'a, N, T>> HoldsData
     for NumberedDecoder<'a, N, T, D> {
     ghost shape = { choice_shape T.variants.shapes };
 
@@ -37,7 +37,7 @@ impl<'a, const N: usize, T: Enum<N>, D: AllPayloads<'a, N, T>> HoldsData
     ghost owned = { λ d. variants_owned d.variants + D.held.owned d.payloads };
 }
 
-impl<'a, const N: usize, T: Enum<N>, D: AllPayloads<'a, N, T>> View<'a>
+impl<'a, const N: usize, T: EnumOf<N>, D: AllPayloads<'a, N, T>> View<'a>
     for NumberedDecoder<'a, N, T, D> {
     ghost faults = { VariantsFault N (PayloadsFault T.variants.shapes D.held.faults) };
 
@@ -60,7 +60,7 @@ impl<'a, const N: usize, T: Enum<N>, D: AllPayloads<'a, N, T>> View<'a>
     }
 }
 
-impl<'a, const N: usize, T: Enum<N>, D: AllPayloads<'a, N, T>> Decoder<Held<N, T>>
+impl<'a, const N: usize, T: EnumOf<N>, D: AllPayloads<'a, N, T>> Decoder<Held<N, T>>
     for NumberedDecoder<'a, N, T, D> {
     ghost makes_free = { D.held.makes_free };
 

@@ -7,42 +7,43 @@ ghost use Rattle.bitcode_enums.specs.NumberedLaws.{each_has_payloads};
 ghost use Rattle.bitcode_enums.specs.Writing.{JoinsVariant, OverflowsWithVariant};
 
 use crate::encoder::EncodeVariant;
-use crate::numbered::columns::WritesPayloads;
+use crate::numbered::columns::AllColumns;
 use crate::numbered::held::{Enum, Held};
+use crate::numbered::writes::WritesPayloads;
 use crate::payloads::PayloadColumns;
 use bitcode_coder::coder::{Buffer, HoldsColumns};
 use bitcode_columns::error::Error;
 use bitcode_shapes::stands_for::HeldIn;
 use std::alloc::Global;
 
-/// The columns of the payloads of `T`, those of the first variant first.
+/// The columns of the payloads of an enum, those of the first variant first. `C` has them by the numbers of the variants.
 ///
 /// ```
-/// let mut payloads: NumberedColumns<2, Shot> = NumberedColumns::new(alloc);
+/// let mut payloads: NumberedColumns<2, ShotColumns> = NumberedColumns::new(alloc);
 /// payloads.encode_payload(&Shot::Hit(7))?;
 /// payloads.collect_into(&mut bytes)?; // [7]
 /// ```
 #[derive(Drop)]
-pub struct NumberedColumns<const N: usize, T: WritesPayloads<N>> {
-    columns: T::Columns,
+pub struct NumberedColumns<const N: usize, C> {
+    columns: C,
 }
 
-impl<const N: usize, T: WritesPayloads<N>> HoldsColumns for NumberedColumns<N, T> {
-    ghost columns = { λ e. all_columns (T.held.lists e.columns) };
+impl<const N: usize, C: AllColumns<N>> HoldsColumns for NumberedColumns<N, C> {
+    ghost columns = { λ e. all_columns (C.held.lists e.columns) };
 
     ghost room = { λ e. endless_room };
 
-    ghost capacity = { λ e. T.held.capacity e.columns };
+    ghost capacity = { λ e. C.held.capacity e.columns };
 
     ghost surely_overflows = { λ e n. ⊥ };
 
     ghost overflows = { λ e n. ⊥ };
 }
 
-impl<const N: usize, T: WritesPayloads<N>> Buffer for NumberedColumns<N, T> {
+impl<const N: usize, C: AllColumns<N>> Buffer for NumberedColumns<N, C> {
     fn new(alloc: Global) -> Self {
         NumberedColumns {
-            columns: T::new_columns(alloc),
+            columns: C::new(alloc),
         }
     }
 
@@ -53,44 +54,46 @@ impl<const N: usize, T: WritesPayloads<N>> Buffer for NumberedColumns<N, T> {
 
     fn collect_into(&mut self, out: &mut Vec<u8>) -> Result<(), Error> {
         for number in 0..N {
-            T::collect(&mut self.columns, number, out)?;
+            self.columns.collect(number, out)?;
         }
         Ok(())
     }
 
     fn clear(&mut self) {
         for number in 0..N {
-            T::clear(&mut self.columns, number);
+            self.columns.clear(number);
         }
     }
 }
 
-impl<const N: usize, T: WritesPayloads<N>> PayloadColumns<Held<N, T>> for NumberedColumns<N, T> {
-    ghost of_shapes = { λ e. each_has_payloads T.variants.shapes (T.held.lists e.columns) (T.of_shapes e.columns) };
+impl<const N: usize, C: AllColumns<N>, T: WritesPayloads<N, C>> PayloadColumns<Held<N, T>>
+    for NumberedColumns<N, C> {
+    ghost of_shapes = { λ e. each_has_payloads T.variants.shapes (C.held.lists e.columns) (T.of_shapes e.columns) };
 }
 
-impl<const N: usize, T: WritesPayloads<N>> NumberedColumns<N, T> {
+impl<const N: usize, C: AllColumns<N>> NumberedColumns<N, C> {
     /// Makes room for the payload of a value in the columns of its variant, and joins its columns to those.
     ///
     /// It refuses as [`WritesPayloads::write_payload`] does.
-    pub fn encode_payload(&mut self, t: &T) -> Result<(), Error>
-        ensures joined { OnOk result (JoinsVariant T.variants.index T.variants.lists T.variants.shapes t.now (all_columns (T.held.lists self.old.columns)) (all_columns (T.held.lists self.new.columns))) }
-        ensures form { emptied (all_columns (T.held.lists self.new.columns)) ≡ emptied (all_columns (T.held.lists self.old.columns)) }
-        ensures refused { IfErr result (λ e. IsWritingRefusal e.reason (OverflowsWithVariant T.variants.index T.variants.lists T.variants.shapes t.now (all_columns (T.held.lists self.old.columns)))) }
+    pub fn encode_payload<T: WritesPayloads<N, C>>(&mut self, t: &T) -> Result<(), Error>
+        ensures joined { OnOk result (JoinsVariant T.variants.index T.variants.lists T.variants.shapes t.now (all_columns (C.held.lists self.old.columns)) (all_columns (C.held.lists self.new.columns))) }
+        ensures form { emptied (all_columns (C.held.lists self.new.columns)) ≡ emptied (all_columns (C.held.lists self.old.columns)) }
+        ensures refused { IfErr result (λ e. IsWritingRefusal e.reason (OverflowsWithVariant T.variants.index T.variants.lists T.variants.shapes t.now (all_columns (C.held.lists self.old.columns)))) }
     {
         t.write_payload(&mut self.columns)
     }
 }
 
-impl<const N: usize, T: WritesPayloads<N> + HeldIn<Holder = Held<N, T>>> EncodeVariant<
-    N,
-    NumberedColumns<N, T>,
-> for T {
+impl<
+    const N: usize,
+    C: AllColumns<N>,
+    T: WritesPayloads<N, C> + HeldIn<Holder = Held<N, T>>,
+> EncodeVariant<N, NumberedColumns<N, C>> for T {
     fn variant(&self) -> u8 {
         Enum::variant(self)
     }
 
-    fn encode_payload(&self, payloads: &mut NumberedColumns<N, T>) -> Result<(), Error> {
+    fn encode_payload(&self, payloads: &mut NumberedColumns<N, C>) -> Result<(), Error> {
         payloads.encode_payload(self)
     }
 }

@@ -6,6 +6,7 @@ ghost use Rattle.bitcode_enums.specs.NumberedLaws.{parts_ordered, parts_sized};
 use crate::numbered::columns::VariantColumns;
 use crate::numbered::held::Enum;
 use crate::numbered::payloads::VariantPayloads;
+use crate::numbered::writes::WritesVariants;
 use bitcode_columns::error::Error;
 use std::alloc::Global;
 
@@ -18,10 +19,7 @@ pub struct Halves<F, S> {
     second: S,
 }
 
-impl<const N: usize, T: Enum<N>, F: VariantColumns<N, T>, S: VariantColumns<N, T>> VariantColumns<
-    N,
-    T,
-> for Halves<F, S> {
+impl<F: VariantColumns, S: VariantColumns> VariantColumns for Halves<F, S> {
     ghost first = { F.first };
 
     ghost end = { S.end };
@@ -57,26 +55,25 @@ impl<const N: usize, T: Enum<N>, F: VariantColumns<N, T>, S: VariantColumns<N, T
         }
     }
 
-    fn encode_payload(&mut self, t: &T) -> Result<(), Error> {
-        if (t.variant() as usize) < self.second.first() {
-            self.first.encode_payload(t)
-        } else {
-            self.second.encode_payload(t)
-        }
-    }
-
     ghost ordered = { parts_ordered F.first F.end S.first S.end F.in_turn S.in_turn F.ordered S.ordered };
 
     ghost sized = { λ turn e. parts_sized F.first F.end S.first S.end F.in_turn S.in_turn F.ordered S.ordered turn (F.columns.lists e.first) (S.columns.lists e.second) (λ t. F.sized t e.first) (λ t. S.sized t e.second) };
 }
 
-impl<
-    'a,
-    const N: usize,
-    T: Enum<N>,
-    F: VariantPayloads<'a, N, T>,
-    S: VariantPayloads<'a, N, T>,
-> VariantPayloads<'a, N, T> for Halves<F, S> {
+impl<F: VariantColumns, S: VariantColumns, T: WritesVariants<F> + WritesVariants<S>> WritesVariants<
+    Halves<F, S>,
+> for T {
+    fn write(&self, to: &mut Halves<F, S>) -> Result<(), Error> {
+        if (self.variant() as usize) < to.second.first() {
+            WritesVariants::<F>::write(self, &mut to.first)
+        } else {
+            WritesVariants::<S>::write(self, &mut to.second)
+        }
+    }
+}
+
+impl<'a, T: Enum, F: VariantPayloads<'a, T>, S: VariantPayloads<'a, T>> VariantPayloads<'a, T>
+    for Halves<F, S> {
     ghost first = { F.first };
 
     ghost end = { S.end };

@@ -18,13 +18,13 @@ use bitcode_shapes::shaped::{Made, Shaped};
 use bitcode_shapes::stands_for::Holds;
 use bitcode_tuples::fields::Fields;
 
-/// An enum of `N` variants, 2 to 256, which are numbered from 0 on in the order in which they stand.
+/// An enum of 2 to 256 variants, which are numbered from 0 on in the order in which they stand.
 ///
 /// ```
-/// impl Enum<2> for Shot {
+/// impl Enum for Shot {
 ///     ghost variants = { each_variant (payload_and ⟦<() as Payload>⟧.payload (last_payload ⟦<u8 as Payload>⟧.payload)) (λ at. elim [ Shot.Missed ↦ at 0 tt | Shot.Hit a ↦ at 1 a ]) ((λ p. (Shot.Missed, refl)), λ p. (Shot.Hit p, refl)) };
 ///
-///     ghost sized = { (refl, refl) };
+///     ghost sized = { refl };
 ///
 ///     fn variant(&self) -> u8 {
 ///         match self {
@@ -34,20 +34,29 @@ use bitcode_tuples::fields::Fields;
 ///     }
 /// }
 ///
+/// impl EnumOf<2> for Shot {
+///     ghost count = { refl };
+/// }
+///
 /// impl HeldIn for Shot {
 ///     type Holder = Held<2, Shot>;
 /// }
 /// ```
-pub trait Enum<const N: usize> {
+pub trait Enum {
     // what its variants are, what their payloads hold, and how they are written and read
     ghost variants: { VariantsOf Self };
 
-    ghost sized: { (variant_count variants.shapes ≡ N) × AreSomeVariants N };
+    ghost sized: { AreSomeVariants (variant_count variants.shapes) };
 
     /// The number of the variant that the value is of. A value in hand is one, as `told` of its fields says.
     fn variant(&self) -> u8
         ensures number { result ≡ variants.index self.now }
         ensures value { variants.is_value self.now };
+}
+
+/// An enum of `N` variants. It has no functions.
+pub trait EnumOf<const N: usize>: Enum {
+    ghost count: { variant_count Self.Enum.variants.shapes ≡ N };
 }
 
 /// A number, of a variant whose fields are values.
@@ -78,7 +87,7 @@ impl<const N: usize, T> Held<N, T> {
     }
 }
 
-impl<const N: usize, T: Enum<N>> Holds<T> for Held<N, T> {
+impl<const N: usize, T: Enum> Holds<T> for Held<N, T> {
     ghost holder = { λ t. record { value = t } };
 
     ghost value = { λ h. h.value };
@@ -95,7 +104,7 @@ impl<const N: usize, T: Enum<N>> Holds<T> for Held<N, T> {
     }
 }
 
-impl<const N: usize, T: Enum<N>> Shaped for Held<N, T> {
+impl<const N: usize, T: Enum> Shaped for Held<N, T> {
     ghost shape = { choice_shape T.variants.shapes };
 
     ghost is_value = { λ h. T.variants.is_value h.value };
@@ -110,16 +119,16 @@ impl<const N: usize, T: Enum<N>> Shaped for Held<N, T> {
         let _number = self.value.variant();
     }
 
-    ghost lawful = { image_lawful (λ h. h.value) (some_choices_lawful T.sized.0 T.sized.1 T.variants.lawful) };
+    ghost lawful = { image_lawful (λ h. h.value) (some_choices_lawful refl T.sized T.variants.lawful) };
 }
 
-impl<const N: usize, T: Enum<N>> Made for Held<N, T> {
+impl<const N: usize, T: Enum> Made for Held<N, T> {
     ghost makes = { λ d h. MakesChoice T.variants.makes d h.value };
 
     ghost makeable = { image_makeable (λ h. h.value) (λ g t h. (record { value = t }, refl)) (choice_makeable T.variants.makeable) };
 }
 
-impl<const N: usize, T: Enum<N>> ShapedVariants for Held<N, T> {
+impl<const N: usize, T: Enum> ShapedVariants for Held<N, T> {
     ghost shapes = { T.variants.shapes };
 
     ghost is_value = { λ h. T.variants.is_value h.value };
@@ -141,22 +150,22 @@ impl<const N: usize, T: Enum<N>> ShapedVariants for Held<N, T> {
     ghost below = { λ h. T.variants.below h.value };
 }
 
-impl<const N: usize, T: Enum<N>> HoldsPayload<N> for Held<N, T> {
+impl<const N: usize, T: EnumOf<N>> HoldsPayload<N> for Held<N, T> {
     type Variants = Held<N, T>;
 
     ghost payload = { λ h. h };
 
-    ghost count = { T.sized.0 };
+    ghost count = { T.count };
 
     ghost has_shape = { refl };
 
     ghost lists_payload = { held_lists (λ h. h.value) T.variants.lists };
 }
 
-impl<const N: usize, T: Enum<N>> SameArrays for Held<N, T> {
+impl<const N: usize, T: Enum> SameArrays for Held<N, T> {
     ghost same_arrays = { image_same_arrays (λ h. h.value) (choice_same_arrays T.variants.same_arrays) };
 }
 
-impl<const N: usize, T: Enum<N>> Payload for Held<N, T> {
-    ghost payload = { payload_of (image_lawful (λ h. h.value) (some_choices_lawful T.sized.0 T.sized.1 T.variants.lawful)) (image_makeable (λ h. h.value) (λ g t h. (record { value = t }, refl)) (choice_makeable T.variants.makeable)) (image_same_arrays (λ h. h.value) (choice_same_arrays T.variants.same_arrays)) };
+impl<const N: usize, T: Enum> Payload for Held<N, T> {
+    ghost payload = { payload_of (image_lawful (λ h. h.value) (some_choices_lawful refl T.sized T.variants.lawful)) (image_makeable (λ h. h.value) (λ g t h. (record { value = t }, refl)) (choice_makeable T.variants.makeable)) (image_same_arrays (λ h. h.value) (choice_same_arrays T.variants.same_arrays)) };
 }

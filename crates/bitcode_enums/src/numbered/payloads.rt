@@ -8,13 +8,13 @@ ghost use Rattle.bitcode_parts.specs.Payloads.{payloads_of};
 ghost use Rattle.bitcode_enums.specs.HeldColumns.{HeldPayloads};
 ghost use Rattle.bitcode_enums.specs.Numbered.{shape_at, KeepsOthers};
 
-use crate::numbered::held::Enum;
+use crate::numbered::held::{Enum, EnumOf};
 use bitcode_columns::error::{Error, Reason};
 use std::alloc::Global;
 
 /// The data of the payloads of variants of `T` that follow each other, a decoder for each variant: `Decoders2` to `Decoders6`, and
 /// [`Halves`](crate::numbered::halves::Halves) of these.
-pub trait VariantPayloads<'a, const N: usize, T: Enum<N>> {
+pub trait VariantPayloads<'a, T: Enum> {
     // the number of the first of these variants
     ghost first: { ℕ };
 
@@ -76,19 +76,22 @@ pub trait VariantPayloads<'a, const N: usize, T: Enum<N>> {
 /// Its functions are those of these data, called for one enum. So what reads values of it needs nothing of their payloads' types.
 ///
 /// ```
+/// type Decoders<'a> = DecodersOf2<'a, At<0>, (), u8>;
+///
+/// #[derive(Drop)]
 /// pub struct ShotPayloads<'a> {
-///     all: DecodersOf2<'a, 0, (), u8>,
+///     all: Decoders<'a>,
 /// }
 ///
 /// impl<'a> AllPayloads<'a, 2, Shot> for ShotPayloads<'a> {
-///     ghost held = { held_in (λ d. d.all) ⟦<DecodersOf2<'a, 0, (), u8> as VariantPayloads<'a, 2, Shot>>⟧.held };
+///     ghost held = { payloads_in (λ d. d.all) ⟦<Decoders<'a> as VariantPayloads<'a, Shot>>⟧.held };
 ///
 ///     fn new(alloc: Global) -> Self {
-///         ShotPayloads { all: VariantPayloads::<2, Shot>::new(alloc) }
+///         ShotPayloads { all: VariantPayloads::<Shot>::new(alloc) }
 ///     }
 ///
 ///     fn populate_at(&mut self, number: usize, input: &mut &'a [u8], k: usize) -> Result<(), Error> {
-///         VariantPayloads::<2, Shot>::populate_payloads(&mut self.all, number, input, k)
+///         VariantPayloads::<Shot>::populate_payloads(&mut self.all, number, input, k)
 ///     }
 ///
 ///     fn decode_at(&mut self, number: usize) -> Result<Shot, Error> {
@@ -98,7 +101,7 @@ pub trait VariantPayloads<'a, const N: usize, T: Enum<N>> {
 ///     fn sized(&self) {}
 /// }
 /// ```
-pub trait AllPayloads<'a, const N: usize, T: Enum<N>> {
+pub trait AllPayloads<'a, const N: usize, T: EnumOf<N>> {
     // what is left to take, and what may be at fault in it
     ghost held: { HeldPayloads Self };
 

@@ -11,6 +11,8 @@ ghost use Rattle.bitcode_enums.specs.NumberedLaws.{not_past, size_between};
 use crate::numbered::columns::VariantColumns;
 use crate::numbered::held::Enum;
 use crate::numbered::payloads::VariantPayloads;
+use crate::numbered::place::Place;
+use crate::numbered::writes::WritesVariants;
 use crate::payloads::encode_payload_fields;
 use bitcode_coder::coder::{Buffer, Decoder, Encoder, HoldsColumns, HoldsData, View};
 use bitcode_columns::error::Error;
@@ -20,26 +22,34 @@ use bitcode_tuples::fields::{Fields, FieldsEncoder};
 use std::alloc::Global;
 use std::marker::PhantomData;
 
-/// The encoders of two variants that follow each other, the first of which has the number `FIRST`. The type parameters are those of
-/// their payloads.
+/// The encoders of two variants that follow each other, from the number `O` on. The other type parameters are the encoders; `EncodersOf2`
+/// names it by the payloads.
 #[derive(Drop)]
-pub struct Encoders2<const FIRST: usize, P1: HasEncoder, P2: HasEncoder> {
-    first: P1::Encoder,
-    second: P2::Encoder,
+pub struct Encoders2<O, E1, E2> {
+    first: E1,
+    second: E2,
+    of: PhantomData<O>,
 }
 
-/// The decoders of two variants that follow each other, the first of which has the number `FIRST`. `P` is the tuple of their payloads, and
-/// the other type parameters are the decoders; `DecodersOf2` names it by the payloads alone.
+/// The encoders of two variants that follow each other, by the types of their payloads.
+pub type EncodersOf2<O, P1, P2> = Encoders2<
+    O,
+    <P1 as HasEncoder>::Encoder,
+    <P2 as HasEncoder>::Encoder,
+>;
+
+/// The decoders of two variants that follow each other, from the number `O` on. `P` is the tuple of their payloads, and the other type
+/// parameters are the decoders; `DecodersOf2` names it by the payloads alone.
 #[derive(Drop)]
-pub struct Decoders2<const FIRST: usize, P, D1, D2> {
+pub struct Decoders2<O, P, D1, D2> {
     first: D1,
     second: D2,
-    of: PhantomData<P>,
+    of: PhantomData<(O, P)>,
 }
 
 /// The decoders of two variants that follow each other, by the types of their payloads.
-pub type DecodersOf2<'a, const FIRST: usize, P1, P2> = Decoders2<
-    FIRST,
+pub type DecodersOf2<'a, O, P1, P2> = Decoders2<
+    O,
     (P1, P2),
     <P1 as HasDecoder<'a>>::Decoder,
     <P2 as HasDecoder<'a>>::Decoder,
@@ -51,9 +61,9 @@ pub enum OneOf2<P1, P2> {
     Second(P2),
 }
 
-/// An enum that has two variants that follow each other, the first of which has the number `FIRST`. The type parameters are those of their
-/// payloads: `()` for a variant without fields, the field where it is one, and else the tuple of the fields.
-pub trait Variants2<const N: usize, const FIRST: usize, P1: Made, P2: Made>: Enum<N> {
+/// An enum that has two variants that follow each other, from the number `O` on. The other type parameters are those of their payloads:
+/// `()` for a variant without fields, the field where it is one, and else the tuple of the fields.
+pub trait Variants2<O: Place, P1: Made, P2: Made>: Enum {
     // the value of each of these variants that has a payload
     ghost values: { (P1 → Self) × (P2 → Self) };
 
@@ -61,98 +71,73 @@ pub trait Variants2<const N: usize, const FIRST: usize, P1: Made, P2: Made>: Enu
     fn of_payload(payload: OneOf2<P1, P2>) -> Self
         ensures { result ≡ of_one_of_2 values.0 values.1 payload };
 
-    // these are the variants of the numbers from `FIRST` on
-    ghost are: { IsVariant Self.Enum.variants FIRST P1.shape P1.lists P1.makes values.0 × IsVariant Self.Enum.variants (FIRST + 1) P2.shape P2.lists P2.makes values.1 };
+    // these are the variants of the numbers from `O` on
+    ghost are: { IsVariant Self.Enum.variants O.first P1.shape P1.lists P1.makes values.0 × IsVariant Self.Enum.variants (O.first + 1) P2.shape P2.lists P2.makes values.1 };
 }
 
-/// An enum that writes the payloads of two such variants.
-pub trait WritesVariants2<
-    const N: usize,
-    const FIRST: usize,
-    P1: HasEncoder<Encoder: Buffer>,
-    P2: HasEncoder<Encoder: Buffer>,
->: Enum<N> {
-    /// Joins the payload of a value of these variants to the columns of its variant, by a call of `encode_first` and its like.
-    fn write(&self, to: &mut Encoders2<FIRST, P1, P2>) -> Result<(), Error>
-        requires among { (FIRST ≤ Self.variants.index self.now) × (Self.variants.index self.now < FIRST + 2) }
-        ensures others { KeepsOthers no_columns (Self.variants.index self.now - FIRST) (P1.Encoder.columns to.old.first ∷ P2.Encoder.columns to.old.second ∷ []) (P1.Encoder.columns to.new.first ∷ P2.Encoder.columns to.new.second ∷ []) }
-        ensures joined { OnOk result (Self.variants.joins self.now (columns_at (Self.variants.index self.now - FIRST) (P1.Encoder.columns to.old.first ∷ P2.Encoder.columns to.old.second ∷ [])) (columns_at (Self.variants.index self.now - FIRST) (P1.Encoder.columns to.new.first ∷ P2.Encoder.columns to.new.second ∷ []))) }
-        ensures form { emptied (columns_at (Self.variants.index self.now - FIRST) (P1.Encoder.columns to.new.first ∷ P2.Encoder.columns to.new.second ∷ [])) ≡ emptied (columns_at (Self.variants.index self.now - FIRST) (P1.Encoder.columns to.old.first ∷ P2.Encoder.columns to.old.second ∷ [])) }
-        ensures refused { IfErr result (λ e. IsWritingRefusal e.reason (Self.variants.overflows self.now (columns_at (Self.variants.index self.now - FIRST) (P1.Encoder.columns to.old.first ∷ P2.Encoder.columns to.old.second ∷ [])))) };
-}
-
-impl<
-    const FIRST: usize,
-    P1: HasEncoder<Encoder: Buffer> + Made,
-    P2: HasEncoder<Encoder: Buffer> + Made,
-> Encoders2<FIRST, P1, P2> {
+impl<O: Place, E1: Buffer, E2: Buffer> Encoders2<O, E1, E2> {
     /// Makes room for the payload of a value of the first of the variants, and joins its columns to those of the variant.
     ///
-    /// It refuses as [`VariantColumns::encode_payload`] does.
-    pub fn encode_first<const N: usize, T: Variants2<N, FIRST, P1, P2>, F: Fields<Whole = P1>>(
+    /// It refuses as [`WritesVariants::write`] does.
+    pub fn encode_first<P1: Made, P2: Made, T: Variants2<O, P1, P2>, F: Fields<Whole = P1>>(
         &mut self,
         t: &T,
         fields: &F,
     ) -> Result<(), Error>
     where
-        P1::Encoder: Encoder<P1> + FieldsEncoder<F>,
+        E1: Encoder<P1> + FieldsEncoder<F>,
         requires { t.now ≡ T.values.0 (F.whole fields.now) }
-        ensures others { KeepsOthers no_columns (T.variants.index t.now - FIRST) (P1.Encoder.columns self.old.first ∷ P2.Encoder.columns self.old.second ∷ []) (P1.Encoder.columns self.new.first ∷ P2.Encoder.columns self.new.second ∷ []) }
-        ensures joined { OnOk result (T.variants.joins t.now (columns_at (T.variants.index t.now - FIRST) (P1.Encoder.columns self.old.first ∷ P2.Encoder.columns self.old.second ∷ [])) (columns_at (T.variants.index t.now - FIRST) (P1.Encoder.columns self.new.first ∷ P2.Encoder.columns self.new.second ∷ []))) }
-        ensures form { emptied (columns_at (T.variants.index t.now - FIRST) (P1.Encoder.columns self.new.first ∷ P2.Encoder.columns self.new.second ∷ [])) ≡ emptied (columns_at (T.variants.index t.now - FIRST) (P1.Encoder.columns self.old.first ∷ P2.Encoder.columns self.old.second ∷ [])) }
-        ensures refused { IfErr result (λ e. IsWritingRefusal e.reason (T.variants.overflows t.now (columns_at (T.variants.index t.now - FIRST) (P1.Encoder.columns self.old.first ∷ P2.Encoder.columns self.old.second ∷ [])))) }
+        ensures others { KeepsOthers no_columns (T.variants.index t.now - O.first) (⟦<Encoders2<O, E1, E2> as VariantColumns>⟧.columns.lists self.old) (⟦<Encoders2<O, E1, E2> as VariantColumns>⟧.columns.lists self.new) }
+        ensures joined { OnOk result (T.variants.joins t.now (columns_at (T.variants.index t.now - O.first) (⟦<Encoders2<O, E1, E2> as VariantColumns>⟧.columns.lists self.old)) (columns_at (T.variants.index t.now - O.first) (⟦<Encoders2<O, E1, E2> as VariantColumns>⟧.columns.lists self.new))) }
+        ensures form { emptied (columns_at (T.variants.index t.now - O.first) (⟦<Encoders2<O, E1, E2> as VariantColumns>⟧.columns.lists self.new)) ≡ emptied (columns_at (T.variants.index t.now - O.first) (⟦<Encoders2<O, E1, E2> as VariantColumns>⟧.columns.lists self.old)) }
+        ensures refused { IfErr result (λ e. IsWritingRefusal e.reason (T.variants.overflows t.now (columns_at (T.variants.index t.now - O.first) (⟦<Encoders2<O, E1, E2> as VariantColumns>⟧.columns.lists self.old)))) }
     {
         encode_payload_fields(&mut self.first, fields)
     }
 
     /// Makes room for the payload of a value of the second of the variants, and joins its columns to those of the variant.
     ///
-    /// It refuses as [`VariantColumns::encode_payload`] does.
-    pub fn encode_second<const N: usize, T: Variants2<N, FIRST, P1, P2>, F: Fields<Whole = P2>>(
+    /// It refuses as [`WritesVariants::write`] does.
+    pub fn encode_second<P1: Made, P2: Made, T: Variants2<O, P1, P2>, F: Fields<Whole = P2>>(
         &mut self,
         t: &T,
         fields: &F,
     ) -> Result<(), Error>
     where
-        P2::Encoder: Encoder<P2> + FieldsEncoder<F>,
+        E2: Encoder<P2> + FieldsEncoder<F>,
         requires { t.now ≡ T.values.1 (F.whole fields.now) }
-        ensures others { KeepsOthers no_columns (T.variants.index t.now - FIRST) (P1.Encoder.columns self.old.first ∷ P2.Encoder.columns self.old.second ∷ []) (P1.Encoder.columns self.new.first ∷ P2.Encoder.columns self.new.second ∷ []) }
-        ensures joined { OnOk result (T.variants.joins t.now (columns_at (T.variants.index t.now - FIRST) (P1.Encoder.columns self.old.first ∷ P2.Encoder.columns self.old.second ∷ [])) (columns_at (T.variants.index t.now - FIRST) (P1.Encoder.columns self.new.first ∷ P2.Encoder.columns self.new.second ∷ []))) }
-        ensures form { emptied (columns_at (T.variants.index t.now - FIRST) (P1.Encoder.columns self.new.first ∷ P2.Encoder.columns self.new.second ∷ [])) ≡ emptied (columns_at (T.variants.index t.now - FIRST) (P1.Encoder.columns self.old.first ∷ P2.Encoder.columns self.old.second ∷ [])) }
-        ensures refused { IfErr result (λ e. IsWritingRefusal e.reason (T.variants.overflows t.now (columns_at (T.variants.index t.now - FIRST) (P1.Encoder.columns self.old.first ∷ P2.Encoder.columns self.old.second ∷ [])))) }
+        ensures others { KeepsOthers no_columns (T.variants.index t.now - O.first) (⟦<Encoders2<O, E1, E2> as VariantColumns>⟧.columns.lists self.old) (⟦<Encoders2<O, E1, E2> as VariantColumns>⟧.columns.lists self.new) }
+        ensures joined { OnOk result (T.variants.joins t.now (columns_at (T.variants.index t.now - O.first) (⟦<Encoders2<O, E1, E2> as VariantColumns>⟧.columns.lists self.old)) (columns_at (T.variants.index t.now - O.first) (⟦<Encoders2<O, E1, E2> as VariantColumns>⟧.columns.lists self.new))) }
+        ensures form { emptied (columns_at (T.variants.index t.now - O.first) (⟦<Encoders2<O, E1, E2> as VariantColumns>⟧.columns.lists self.new)) ≡ emptied (columns_at (T.variants.index t.now - O.first) (⟦<Encoders2<O, E1, E2> as VariantColumns>⟧.columns.lists self.old)) }
+        ensures refused { IfErr result (λ e. IsWritingRefusal e.reason (T.variants.overflows t.now (columns_at (T.variants.index t.now - O.first) (⟦<Encoders2<O, E1, E2> as VariantColumns>⟧.columns.lists self.old)))) }
     {
         encode_payload_fields(&mut self.second, fields)
     }
 }
 
-impl<
-    const N: usize,
-    const FIRST: usize,
-    P1: HasEncoder<Encoder: Buffer>,
-    P2: HasEncoder<Encoder: Buffer>,
-    T: WritesVariants2<N, FIRST, P1, P2>,
-> VariantColumns<N, T> for Encoders2<FIRST, P1, P2> {
-    ghost first = { FIRST };
+impl<O: Place, E1: Buffer, E2: Buffer> VariantColumns for Encoders2<O, E1, E2> {
+    ghost first = { O.first };
 
-    ghost end = { FIRST + 2 };
+    ghost end = { O.first + 2 };
 
     ghost in_turn = { true };
 
-    ghost columns = { record { lists = λ e. P1.Encoder.columns e.first ∷ P2.Encoder.columns e.second ∷ []; capacity = λ e. P1.Encoder.capacity e.first + P2.Encoder.capacity e.second } };
+    ghost columns = { record { lists = λ e. E1.columns e.first ∷ E2.columns e.second ∷ []; capacity = λ e. E1.capacity e.first + E2.capacity e.second } };
 
     fn new(alloc: Global) -> Self {
         Encoders2 {
-            first: P1::Encoder::new(alloc),
-            second: P2::Encoder::new(alloc),
+            first: E1::new(alloc),
+            second: E2::new(alloc),
+            of: PhantomData,
         }
     }
 
     fn first(&self) -> usize {
-        FIRST
+        O::first()
     }
 
     fn collect_payloads(&mut self, number: usize, out: &mut Vec<u8>) -> Result<(), Error> {
-        match number - FIRST {
+        match number - O::first() {
             0 => self.first.collect_into(out),
             1 => self.second.collect_into(out),
             _ => unreachable!(),
@@ -160,39 +145,34 @@ impl<
     }
 
     fn clear_payloads(&mut self, number: usize) {
-        match number - FIRST {
+        match number - O::first() {
             0 => self.first.clear(),
             1 => self.second.clear(),
             _ => unreachable!(),
         }
     }
 
-    fn encode_payload(&mut self, t: &T) -> Result<(), Error> {
-        t.write(self)
-    }
+    ghost ordered = { λ turn. not_past O.first 2 };
 
-    ghost ordered = { λ turn. not_past FIRST 2 };
-
-    ghost sized = { λ turn e. size_between FIRST 2 };
+    ghost sized = { λ turn e. size_between O.first 2 };
 }
 
 impl<
     'a,
-    const N: usize,
-    const FIRST: usize,
+    O: Place,
     P1: Made,
     P2: Made,
     D1: View<'a> + Decoder<P1>,
     D2: View<'a> + Decoder<P2>,
-    T: Variants2<N, FIRST, P1, P2>,
-> VariantPayloads<'a, N, T> for Decoders2<FIRST, (P1, P2), D1, D2> {
-    ghost first = { FIRST };
+    T: Variants2<O, P1, P2>,
+> VariantPayloads<'a, T> for Decoders2<O, (P1, P2), D1, D2> {
+    ghost first = { O.first };
 
-    ghost end = { FIRST + 2 };
+    ghost end = { O.first + 2 };
 
     ghost in_turn = { true };
 
-    ghost held = { record { lists = λ d. D1.held d.first ∷ D2.held d.second ∷ []; owned = λ d. D1.owned d.first + D2.owned d.second; faults = λ n. (fault_and D1.faults (fault_and D2.faults (no_faults))) (n - FIRST); makes_free = D1.makes_free && D2.makes_free } };
+    ghost held = { record { lists = λ d. D1.held d.first ∷ D2.held d.second ∷ []; owned = λ d. D1.owned d.first + D2.owned d.second; faults = λ n. (fault_and D1.faults (fault_and D2.faults (no_faults))) (n - O.first); makes_free = D1.makes_free && D2.makes_free } };
 
     fn new(alloc: Global) -> Self {
         Decoders2 {
@@ -203,7 +183,7 @@ impl<
     }
 
     fn first(&self) -> usize {
-        FIRST
+        O::first()
     }
 
     fn populate_payloads(
@@ -212,7 +192,7 @@ impl<
         input: &mut &'a [u8],
         k: usize,
     ) -> Result<(), Error> {
-        match number - FIRST {
+        match number - O::first() {
             0 => self.first.populate(input, k),
             1 => self.second.populate(input, k),
             _ => unreachable!(),
@@ -220,7 +200,7 @@ impl<
     }
 
     fn decode_payload(&mut self, number: usize) -> Result<T, Error> {
-        match number - FIRST {
+        match number - O::first() {
             0 => Ok(T::of_payload(OneOf2::First(self.first.decode()?))),
             1 => Ok(T::of_payload(OneOf2::Second(self.second.decode()?))),
             _ => unreachable!(),

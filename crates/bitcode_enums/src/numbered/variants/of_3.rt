@@ -11,6 +11,8 @@ ghost use Rattle.bitcode_enums.specs.NumberedLaws.{not_past, size_between};
 use crate::numbered::columns::VariantColumns;
 use crate::numbered::held::Enum;
 use crate::numbered::payloads::VariantPayloads;
+use crate::numbered::place::Place;
+use crate::numbered::writes::WritesVariants;
 use crate::payloads::encode_payload_fields;
 use bitcode_coder::coder::{Buffer, Decoder, Encoder, HoldsColumns, HoldsData, View};
 use bitcode_columns::error::Error;
@@ -20,28 +22,37 @@ use bitcode_tuples::fields::{Fields, FieldsEncoder};
 use std::alloc::Global;
 use std::marker::PhantomData;
 
-/// The encoders of three variants that follow each other, the first of which has the number `FIRST`. The type parameters are those of
-/// their payloads.
+/// The encoders of three variants that follow each other, from the number `O` on. The other type parameters are the encoders; `EncodersOf3`
+/// names it by the payloads.
 #[derive(Drop)]
-pub struct Encoders3<const FIRST: usize, P1: HasEncoder, P2: HasEncoder, P3: HasEncoder> {
-    first: P1::Encoder,
-    second: P2::Encoder,
-    third: P3::Encoder,
+pub struct Encoders3<O, E1, E2, E3> {
+    first: E1,
+    second: E2,
+    third: E3,
+    of: PhantomData<O>,
 }
 
-/// The decoders of three variants that follow each other, the first of which has the number `FIRST`. `P` is the tuple of their payloads, and
-/// the other type parameters are the decoders; `DecodersOf3` names it by the payloads alone.
+/// The encoders of three variants that follow each other, by the types of their payloads.
+pub type EncodersOf3<O, P1, P2, P3> = Encoders3<
+    O,
+    <P1 as HasEncoder>::Encoder,
+    <P2 as HasEncoder>::Encoder,
+    <P3 as HasEncoder>::Encoder,
+>;
+
+/// The decoders of three variants that follow each other, from the number `O` on. `P` is the tuple of their payloads, and the other type
+/// parameters are the decoders; `DecodersOf3` names it by the payloads alone.
 #[derive(Drop)]
-pub struct Decoders3<const FIRST: usize, P, D1, D2, D3> {
+pub struct Decoders3<O, P, D1, D2, D3> {
     first: D1,
     second: D2,
     third: D3,
-    of: PhantomData<P>,
+    of: PhantomData<(O, P)>,
 }
 
 /// The decoders of three variants that follow each other, by the types of their payloads.
-pub type DecodersOf3<'a, const FIRST: usize, P1, P2, P3> = Decoders3<
-    FIRST,
+pub type DecodersOf3<'a, O, P1, P2, P3> = Decoders3<
+    O,
     (P1, P2, P3),
     <P1 as HasDecoder<'a>>::Decoder,
     <P2 as HasDecoder<'a>>::Decoder,
@@ -55,9 +66,9 @@ pub enum OneOf3<P1, P2, P3> {
     Third(P3),
 }
 
-/// An enum that has three variants that follow each other, the first of which has the number `FIRST`. The type parameters are those of their
-/// payloads: `()` for a variant without fields, the field where it is one, and else the tuple of the fields.
-pub trait Variants3<const N: usize, const FIRST: usize, P1: Made, P2: Made, P3: Made>: Enum<N> {
+/// An enum that has three variants that follow each other, from the number `O` on. The other type parameters are those of their payloads:
+/// `()` for a variant without fields, the field where it is one, and else the tuple of the fields.
+pub trait Variants3<O: Place, P1: Made, P2: Made, P3: Made>: Enum {
     // the value of each of these variants that has a payload
     ghost values: { (P1 → Self) × (P2 → Self) × (P3 → Self) };
 
@@ -65,121 +76,99 @@ pub trait Variants3<const N: usize, const FIRST: usize, P1: Made, P2: Made, P3: 
     fn of_payload(payload: OneOf3<P1, P2, P3>) -> Self
         ensures { result ≡ of_one_of_3 values.0 values.1 values.2 payload };
 
-    // these are the variants of the numbers from `FIRST` on
-    ghost are: { IsVariant Self.Enum.variants FIRST P1.shape P1.lists P1.makes values.0 × IsVariant Self.Enum.variants (FIRST + 1) P2.shape P2.lists P2.makes values.1 × IsVariant Self.Enum.variants (FIRST + 2) P3.shape P3.lists P3.makes values.2 };
+    // these are the variants of the numbers from `O` on
+    ghost are: { IsVariant Self.Enum.variants O.first P1.shape P1.lists P1.makes values.0 × IsVariant Self.Enum.variants (O.first + 1) P2.shape P2.lists P2.makes values.1 × IsVariant Self.Enum.variants (O.first + 2) P3.shape P3.lists P3.makes values.2 };
 }
 
-/// An enum that writes the payloads of three such variants.
-pub trait WritesVariants3<
-    const N: usize,
-    const FIRST: usize,
-    P1: HasEncoder<Encoder: Buffer>,
-    P2: HasEncoder<Encoder: Buffer>,
-    P3: HasEncoder<Encoder: Buffer>,
->: Enum<N> {
-    /// Joins the payload of a value of these variants to the columns of its variant, by a call of `encode_first` and its like.
-    fn write(&self, to: &mut Encoders3<FIRST, P1, P2, P3>) -> Result<(), Error>
-        requires among { (FIRST ≤ Self.variants.index self.now) × (Self.variants.index self.now < FIRST + 3) }
-        ensures others { KeepsOthers no_columns (Self.variants.index self.now - FIRST) (P1.Encoder.columns to.old.first ∷ P2.Encoder.columns to.old.second ∷ P3.Encoder.columns to.old.third ∷ []) (P1.Encoder.columns to.new.first ∷ P2.Encoder.columns to.new.second ∷ P3.Encoder.columns to.new.third ∷ []) }
-        ensures joined { OnOk result (Self.variants.joins self.now (columns_at (Self.variants.index self.now - FIRST) (P1.Encoder.columns to.old.first ∷ P2.Encoder.columns to.old.second ∷ P3.Encoder.columns to.old.third ∷ [])) (columns_at (Self.variants.index self.now - FIRST) (P1.Encoder.columns to.new.first ∷ P2.Encoder.columns to.new.second ∷ P3.Encoder.columns to.new.third ∷ []))) }
-        ensures form { emptied (columns_at (Self.variants.index self.now - FIRST) (P1.Encoder.columns to.new.first ∷ P2.Encoder.columns to.new.second ∷ P3.Encoder.columns to.new.third ∷ [])) ≡ emptied (columns_at (Self.variants.index self.now - FIRST) (P1.Encoder.columns to.old.first ∷ P2.Encoder.columns to.old.second ∷ P3.Encoder.columns to.old.third ∷ [])) }
-        ensures refused { IfErr result (λ e. IsWritingRefusal e.reason (Self.variants.overflows self.now (columns_at (Self.variants.index self.now - FIRST) (P1.Encoder.columns to.old.first ∷ P2.Encoder.columns to.old.second ∷ P3.Encoder.columns to.old.third ∷ [])))) };
-}
-
-impl<
-    const FIRST: usize,
-    P1: HasEncoder<Encoder: Buffer> + Made,
-    P2: HasEncoder<Encoder: Buffer> + Made,
-    P3: HasEncoder<Encoder: Buffer> + Made,
-> Encoders3<FIRST, P1, P2, P3> {
+impl<O: Place, E1: Buffer, E2: Buffer, E3: Buffer> Encoders3<O, E1, E2, E3> {
     /// Makes room for the payload of a value of the first of the variants, and joins its columns to those of the variant.
     ///
-    /// It refuses as [`VariantColumns::encode_payload`] does.
-    pub fn encode_first<const N: usize, T: Variants3<N, FIRST, P1, P2, P3>, F: Fields<Whole = P1>>(
-        &mut self,
-        t: &T,
-        fields: &F,
-    ) -> Result<(), Error>
+    /// It refuses as [`WritesVariants::write`] does.
+    pub fn encode_first<
+        P1: Made,
+        P2: Made,
+        P3: Made,
+        T: Variants3<O, P1, P2, P3>,
+        F: Fields<Whole = P1>,
+    >(&mut self, t: &T, fields: &F) -> Result<(), Error>
     where
-        P1::Encoder: Encoder<P1> + FieldsEncoder<F>,
+        E1: Encoder<P1> + FieldsEncoder<F>,
         requires { t.now ≡ T.values.0 (F.whole fields.now) }
-        ensures others { KeepsOthers no_columns (T.variants.index t.now - FIRST) (P1.Encoder.columns self.old.first ∷ P2.Encoder.columns self.old.second ∷ P3.Encoder.columns self.old.third ∷ []) (P1.Encoder.columns self.new.first ∷ P2.Encoder.columns self.new.second ∷ P3.Encoder.columns self.new.third ∷ []) }
-        ensures joined { OnOk result (T.variants.joins t.now (columns_at (T.variants.index t.now - FIRST) (P1.Encoder.columns self.old.first ∷ P2.Encoder.columns self.old.second ∷ P3.Encoder.columns self.old.third ∷ [])) (columns_at (T.variants.index t.now - FIRST) (P1.Encoder.columns self.new.first ∷ P2.Encoder.columns self.new.second ∷ P3.Encoder.columns self.new.third ∷ []))) }
-        ensures form { emptied (columns_at (T.variants.index t.now - FIRST) (P1.Encoder.columns self.new.first ∷ P2.Encoder.columns self.new.second ∷ P3.Encoder.columns self.new.third ∷ [])) ≡ emptied (columns_at (T.variants.index t.now - FIRST) (P1.Encoder.columns self.old.first ∷ P2.Encoder.columns self.old.second ∷ P3.Encoder.columns self.old.third ∷ [])) }
-        ensures refused { IfErr result (λ e. IsWritingRefusal e.reason (T.variants.overflows t.now (columns_at (T.variants.index t.now - FIRST) (P1.Encoder.columns self.old.first ∷ P2.Encoder.columns self.old.second ∷ P3.Encoder.columns self.old.third ∷ [])))) }
+        ensures others { KeepsOthers no_columns (T.variants.index t.now - O.first) (⟦<Encoders3<O, E1, E2, E3> as VariantColumns>⟧.columns.lists self.old) (⟦<Encoders3<O, E1, E2, E3> as VariantColumns>⟧.columns.lists self.new) }
+        ensures joined { OnOk result (T.variants.joins t.now (columns_at (T.variants.index t.now - O.first) (⟦<Encoders3<O, E1, E2, E3> as VariantColumns>⟧.columns.lists self.old)) (columns_at (T.variants.index t.now - O.first) (⟦<Encoders3<O, E1, E2, E3> as VariantColumns>⟧.columns.lists self.new))) }
+        ensures form { emptied (columns_at (T.variants.index t.now - O.first) (⟦<Encoders3<O, E1, E2, E3> as VariantColumns>⟧.columns.lists self.new)) ≡ emptied (columns_at (T.variants.index t.now - O.first) (⟦<Encoders3<O, E1, E2, E3> as VariantColumns>⟧.columns.lists self.old)) }
+        ensures refused { IfErr result (λ e. IsWritingRefusal e.reason (T.variants.overflows t.now (columns_at (T.variants.index t.now - O.first) (⟦<Encoders3<O, E1, E2, E3> as VariantColumns>⟧.columns.lists self.old)))) }
     {
         encode_payload_fields(&mut self.first, fields)
     }
 
     /// Makes room for the payload of a value of the second of the variants, and joins its columns to those of the variant.
     ///
-    /// It refuses as [`VariantColumns::encode_payload`] does.
-    pub fn encode_second<const N: usize, T: Variants3<N, FIRST, P1, P2, P3>, F: Fields<Whole = P2>>(
-        &mut self,
-        t: &T,
-        fields: &F,
-    ) -> Result<(), Error>
+    /// It refuses as [`WritesVariants::write`] does.
+    pub fn encode_second<
+        P1: Made,
+        P2: Made,
+        P3: Made,
+        T: Variants3<O, P1, P2, P3>,
+        F: Fields<Whole = P2>,
+    >(&mut self, t: &T, fields: &F) -> Result<(), Error>
     where
-        P2::Encoder: Encoder<P2> + FieldsEncoder<F>,
+        E2: Encoder<P2> + FieldsEncoder<F>,
         requires { t.now ≡ T.values.1 (F.whole fields.now) }
-        ensures others { KeepsOthers no_columns (T.variants.index t.now - FIRST) (P1.Encoder.columns self.old.first ∷ P2.Encoder.columns self.old.second ∷ P3.Encoder.columns self.old.third ∷ []) (P1.Encoder.columns self.new.first ∷ P2.Encoder.columns self.new.second ∷ P3.Encoder.columns self.new.third ∷ []) }
-        ensures joined { OnOk result (T.variants.joins t.now (columns_at (T.variants.index t.now - FIRST) (P1.Encoder.columns self.old.first ∷ P2.Encoder.columns self.old.second ∷ P3.Encoder.columns self.old.third ∷ [])) (columns_at (T.variants.index t.now - FIRST) (P1.Encoder.columns self.new.first ∷ P2.Encoder.columns self.new.second ∷ P3.Encoder.columns self.new.third ∷ []))) }
-        ensures form { emptied (columns_at (T.variants.index t.now - FIRST) (P1.Encoder.columns self.new.first ∷ P2.Encoder.columns self.new.second ∷ P3.Encoder.columns self.new.third ∷ [])) ≡ emptied (columns_at (T.variants.index t.now - FIRST) (P1.Encoder.columns self.old.first ∷ P2.Encoder.columns self.old.second ∷ P3.Encoder.columns self.old.third ∷ [])) }
-        ensures refused { IfErr result (λ e. IsWritingRefusal e.reason (T.variants.overflows t.now (columns_at (T.variants.index t.now - FIRST) (P1.Encoder.columns self.old.first ∷ P2.Encoder.columns self.old.second ∷ P3.Encoder.columns self.old.third ∷ [])))) }
+        ensures others { KeepsOthers no_columns (T.variants.index t.now - O.first) (⟦<Encoders3<O, E1, E2, E3> as VariantColumns>⟧.columns.lists self.old) (⟦<Encoders3<O, E1, E2, E3> as VariantColumns>⟧.columns.lists self.new) }
+        ensures joined { OnOk result (T.variants.joins t.now (columns_at (T.variants.index t.now - O.first) (⟦<Encoders3<O, E1, E2, E3> as VariantColumns>⟧.columns.lists self.old)) (columns_at (T.variants.index t.now - O.first) (⟦<Encoders3<O, E1, E2, E3> as VariantColumns>⟧.columns.lists self.new))) }
+        ensures form { emptied (columns_at (T.variants.index t.now - O.first) (⟦<Encoders3<O, E1, E2, E3> as VariantColumns>⟧.columns.lists self.new)) ≡ emptied (columns_at (T.variants.index t.now - O.first) (⟦<Encoders3<O, E1, E2, E3> as VariantColumns>⟧.columns.lists self.old)) }
+        ensures refused { IfErr result (λ e. IsWritingRefusal e.reason (T.variants.overflows t.now (columns_at (T.variants.index t.now - O.first) (⟦<Encoders3<O, E1, E2, E3> as VariantColumns>⟧.columns.lists self.old)))) }
     {
         encode_payload_fields(&mut self.second, fields)
     }
 
     /// Makes room for the payload of a value of the third of the variants, and joins its columns to those of the variant.
     ///
-    /// It refuses as [`VariantColumns::encode_payload`] does.
-    pub fn encode_third<const N: usize, T: Variants3<N, FIRST, P1, P2, P3>, F: Fields<Whole = P3>>(
-        &mut self,
-        t: &T,
-        fields: &F,
-    ) -> Result<(), Error>
+    /// It refuses as [`WritesVariants::write`] does.
+    pub fn encode_third<
+        P1: Made,
+        P2: Made,
+        P3: Made,
+        T: Variants3<O, P1, P2, P3>,
+        F: Fields<Whole = P3>,
+    >(&mut self, t: &T, fields: &F) -> Result<(), Error>
     where
-        P3::Encoder: Encoder<P3> + FieldsEncoder<F>,
+        E3: Encoder<P3> + FieldsEncoder<F>,
         requires { t.now ≡ T.values.2 (F.whole fields.now) }
-        ensures others { KeepsOthers no_columns (T.variants.index t.now - FIRST) (P1.Encoder.columns self.old.first ∷ P2.Encoder.columns self.old.second ∷ P3.Encoder.columns self.old.third ∷ []) (P1.Encoder.columns self.new.first ∷ P2.Encoder.columns self.new.second ∷ P3.Encoder.columns self.new.third ∷ []) }
-        ensures joined { OnOk result (T.variants.joins t.now (columns_at (T.variants.index t.now - FIRST) (P1.Encoder.columns self.old.first ∷ P2.Encoder.columns self.old.second ∷ P3.Encoder.columns self.old.third ∷ [])) (columns_at (T.variants.index t.now - FIRST) (P1.Encoder.columns self.new.first ∷ P2.Encoder.columns self.new.second ∷ P3.Encoder.columns self.new.third ∷ []))) }
-        ensures form { emptied (columns_at (T.variants.index t.now - FIRST) (P1.Encoder.columns self.new.first ∷ P2.Encoder.columns self.new.second ∷ P3.Encoder.columns self.new.third ∷ [])) ≡ emptied (columns_at (T.variants.index t.now - FIRST) (P1.Encoder.columns self.old.first ∷ P2.Encoder.columns self.old.second ∷ P3.Encoder.columns self.old.third ∷ [])) }
-        ensures refused { IfErr result (λ e. IsWritingRefusal e.reason (T.variants.overflows t.now (columns_at (T.variants.index t.now - FIRST) (P1.Encoder.columns self.old.first ∷ P2.Encoder.columns self.old.second ∷ P3.Encoder.columns self.old.third ∷ [])))) }
+        ensures others { KeepsOthers no_columns (T.variants.index t.now - O.first) (⟦<Encoders3<O, E1, E2, E3> as VariantColumns>⟧.columns.lists self.old) (⟦<Encoders3<O, E1, E2, E3> as VariantColumns>⟧.columns.lists self.new) }
+        ensures joined { OnOk result (T.variants.joins t.now (columns_at (T.variants.index t.now - O.first) (⟦<Encoders3<O, E1, E2, E3> as VariantColumns>⟧.columns.lists self.old)) (columns_at (T.variants.index t.now - O.first) (⟦<Encoders3<O, E1, E2, E3> as VariantColumns>⟧.columns.lists self.new))) }
+        ensures form { emptied (columns_at (T.variants.index t.now - O.first) (⟦<Encoders3<O, E1, E2, E3> as VariantColumns>⟧.columns.lists self.new)) ≡ emptied (columns_at (T.variants.index t.now - O.first) (⟦<Encoders3<O, E1, E2, E3> as VariantColumns>⟧.columns.lists self.old)) }
+        ensures refused { IfErr result (λ e. IsWritingRefusal e.reason (T.variants.overflows t.now (columns_at (T.variants.index t.now - O.first) (⟦<Encoders3<O, E1, E2, E3> as VariantColumns>⟧.columns.lists self.old)))) }
     {
         encode_payload_fields(&mut self.third, fields)
     }
 }
 
-impl<
-    const N: usize,
-    const FIRST: usize,
-    P1: HasEncoder<Encoder: Buffer>,
-    P2: HasEncoder<Encoder: Buffer>,
-    P3: HasEncoder<Encoder: Buffer>,
-    T: WritesVariants3<N, FIRST, P1, P2, P3>,
-> VariantColumns<N, T> for Encoders3<FIRST, P1, P2, P3> {
-    ghost first = { FIRST };
+impl<O: Place, E1: Buffer, E2: Buffer, E3: Buffer> VariantColumns for Encoders3<O, E1, E2, E3> {
+    ghost first = { O.first };
 
-    ghost end = { FIRST + 3 };
+    ghost end = { O.first + 3 };
 
     ghost in_turn = { true };
 
-    ghost columns = { record { lists = λ e. P1.Encoder.columns e.first ∷ P2.Encoder.columns e.second ∷ P3.Encoder.columns e.third ∷ []; capacity = λ e. P1.Encoder.capacity e.first + P2.Encoder.capacity e.second + P3.Encoder.capacity e.third } };
+    ghost columns = { record { lists = λ e. E1.columns e.first ∷ E2.columns e.second ∷ E3.columns e.third ∷ []; capacity = λ e. E1.capacity e.first + E2.capacity e.second + E3.capacity e.third } };
 
     fn new(alloc: Global) -> Self {
         Encoders3 {
-            first: P1::Encoder::new(alloc),
-            second: P2::Encoder::new(alloc),
-            third: P3::Encoder::new(alloc),
+            first: E1::new(alloc),
+            second: E2::new(alloc),
+            third: E3::new(alloc),
+            of: PhantomData,
         }
     }
 
     fn first(&self) -> usize {
-        FIRST
+        O::first()
     }
 
     fn collect_payloads(&mut self, number: usize, out: &mut Vec<u8>) -> Result<(), Error> {
-        match number - FIRST {
+        match number - O::first() {
             0 => self.first.collect_into(out),
             1 => self.second.collect_into(out),
             2 => self.third.collect_into(out),
@@ -188,7 +177,7 @@ impl<
     }
 
     fn clear_payloads(&mut self, number: usize) {
-        match number - FIRST {
+        match number - O::first() {
             0 => self.first.clear(),
             1 => self.second.clear(),
             2 => self.third.clear(),
@@ -196,34 +185,29 @@ impl<
         }
     }
 
-    fn encode_payload(&mut self, t: &T) -> Result<(), Error> {
-        t.write(self)
-    }
+    ghost ordered = { λ turn. not_past O.first 3 };
 
-    ghost ordered = { λ turn. not_past FIRST 3 };
-
-    ghost sized = { λ turn e. size_between FIRST 3 };
+    ghost sized = { λ turn e. size_between O.first 3 };
 }
 
 impl<
     'a,
-    const N: usize,
-    const FIRST: usize,
+    O: Place,
     P1: Made,
     P2: Made,
     P3: Made,
     D1: View<'a> + Decoder<P1>,
     D2: View<'a> + Decoder<P2>,
     D3: View<'a> + Decoder<P3>,
-    T: Variants3<N, FIRST, P1, P2, P3>,
-> VariantPayloads<'a, N, T> for Decoders3<FIRST, (P1, P2, P3), D1, D2, D3> {
-    ghost first = { FIRST };
+    T: Variants3<O, P1, P2, P3>,
+> VariantPayloads<'a, T> for Decoders3<O, (P1, P2, P3), D1, D2, D3> {
+    ghost first = { O.first };
 
-    ghost end = { FIRST + 3 };
+    ghost end = { O.first + 3 };
 
     ghost in_turn = { true };
 
-    ghost held = { record { lists = λ d. D1.held d.first ∷ D2.held d.second ∷ D3.held d.third ∷ []; owned = λ d. D1.owned d.first + D2.owned d.second + D3.owned d.third; faults = λ n. (fault_and D1.faults (fault_and D2.faults (fault_and D3.faults (no_faults)))) (n - FIRST); makes_free = D1.makes_free && D2.makes_free && D3.makes_free } };
+    ghost held = { record { lists = λ d. D1.held d.first ∷ D2.held d.second ∷ D3.held d.third ∷ []; owned = λ d. D1.owned d.first + D2.owned d.second + D3.owned d.third; faults = λ n. (fault_and D1.faults (fault_and D2.faults (fault_and D3.faults (no_faults)))) (n - O.first); makes_free = D1.makes_free && D2.makes_free && D3.makes_free } };
 
     fn new(alloc: Global) -> Self {
         Decoders3 {
@@ -235,7 +219,7 @@ impl<
     }
 
     fn first(&self) -> usize {
-        FIRST
+        O::first()
     }
 
     fn populate_payloads(
@@ -244,7 +228,7 @@ impl<
         input: &mut &'a [u8],
         k: usize,
     ) -> Result<(), Error> {
-        match number - FIRST {
+        match number - O::first() {
             0 => self.first.populate(input, k),
             1 => self.second.populate(input, k),
             2 => self.third.populate(input, k),
@@ -253,7 +237,7 @@ impl<
     }
 
     fn decode_payload(&mut self, number: usize) -> Result<T, Error> {
-        match number - FIRST {
+        match number - O::first() {
             0 => Ok(T::of_payload(OneOf3::First(self.first.decode()?))),
             1 => Ok(T::of_payload(OneOf3::Second(self.second.decode()?))),
             2 => Ok(T::of_payload(OneOf3::Third(self.third.decode()?))),

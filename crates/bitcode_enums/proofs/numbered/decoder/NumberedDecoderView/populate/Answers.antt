@@ -18,7 +18,7 @@ use Rattle.bitcode_enums.proofs.numbered.decoder.NumberedDecoderView.populate.Go
 pub returns-in_err-populate-clause-refused : goal.returns-in_err-populate-clause-refused
 returns-in_err-populate-clause-refused g c =
     let refused = err_from_is_err_and c.from_residual.result c.from_residual.ensures.1 in
-    rw (refused.1, refused.2) (refuses_enum_variants g.T.Enum.variants.shapes g.row.N c.args.k c.args.input.now.now g.T.Enum.sized.0 _ c.in_err-populate.ensures.refused)
+    rw (refused.1, refused.2) (refuses_enum_variants g.T.Enum.variants.shapes g.row.N c.args.k c.args.input.now.now g.met.T.EnumOf.count _ c.in_err-populate.ensures.refused)
 
 pub loop-number-init : goal.loop-number-init
 loop-number-init g c = record {
@@ -32,12 +32,12 @@ pub returns-in_err-populate_at-clause-refused : goal.returns-in_err-populate_at-
 returns-in_err-populate_at-clause-refused g c =
     let refused = err_from_is_err_and c.from_residual-in_err-populate_at.result c.from_residual-in_err-populate_at.ensures.1 in
     let known = c.loop-number-test.true in
-    let below = g.T.Enum.sized.0 in
+    let below = g.met.T.EnumOf.count in
     let counted : c.length-count.result ≡ count_of c.loop-number.number (variants_left c.populate.new.self) =
     c.length-count.ensures ∙ ap (λ v. slice_index (variant_counts v) c.loop-number.number) c.loop-number.invariant.variants
     ∙ counts_each _ _ _ _ (c.in_ok-populate.ensures.counts refl) refl c.loop-number.number (let size = (c.in_ok-populate.ensures.counts refl).size in omega (arith, known, size)) in
     rw (refused.1, refused.2) (
-    refuses_enum_payloads g.T.Enum.variants.shapes g.row.N c.args.k c.args.input.now.now g.T.Enum.sized.0 _ _ c.in_ok-populate.ensures.read _
+    refuses_enum_payloads g.T.Enum.variants.shapes g.row.N c.args.k c.args.input.now.now g.met.T.EnumOf.count _ _ c.in_ok-populate.ensures.read _
     (refuses_there g.T.Enum.variants.shapes g.D.AllPayloads.held.faults (variants_left c.populate.new.self) c.populate.new.input.now c.loop-number.number (g.D.AllPayloads.held.lists c.loop-number.self.payloads) c.loop-number.input.now c.loop-number.invariant.read
     (omega (arith, known, below)) _ (subst (λ n. IsReadingRefusal (shape_at c.loop-number.number g.T.Enum.variants.shapes) c.in_err-populate_at.field-0.0.reason n c.loop-number.input.now) counted c.in_err-populate_at.ensures.refused))
     )
@@ -46,7 +46,7 @@ pub returns-in_err-populate_at-clause-exact : goal.returns-in_err-populate_at-cl
 returns-in_err-populate_at-clause-exact g c =
     let refused = err_from_is_err_and c.from_residual-in_err-populate_at.result c.from_residual-in_err-populate_at.ensures.1 in
     let known = c.loop-number-test.true in
-    let below = g.T.Enum.sized.0 in
+    let below = g.met.T.EnumOf.count in
     let counted : c.length-count.result ≡ count_of c.loop-number.number (variants_left c.populate.new.self) =
     c.length-count.ensures ∙ ap (λ v. slice_index (variant_counts v) c.loop-number.number) c.loop-number.invariant.variants
     ∙ counts_each _ _ _ _ (c.in_ok-populate.ensures.counts refl) refl c.loop-number.number (let size = (c.in_ok-populate.ensures.counts refl).size in omega (arith, known, size)) in
@@ -70,7 +70,7 @@ loop-number-preserved g c =
     let all = c.loop-number.invariant.size in
     let next : suc c.loop-number.number ≡ c.loop-number.number + 1 = omega arith in
     let known = c.loop-number-test.true in
-    let below = g.T.Enum.sized.0 in
+    let below = g.met.T.EnumOf.count in
     let counted : c.length-count.result ≡ count_of c.loop-number.number (variants_left c.populate.new.self) =
     c.length-count.ensures ∙ ap (λ v. slice_index (variant_counts v) c.loop-number.number) c.loop-number.invariant.variants
     ∙ counts_each _ _ _ _ (c.in_ok-populate.ensures.counts refl) refl c.loop-number.number (let size = (c.in_ok-populate.ensures.counts refl).size in omega (arith, known, size)) in
@@ -89,8 +89,8 @@ loop-number-preserved g c =
 pub returns-clause-read : goal.returns-clause-read
 returns-clause-read g c =
     let past = c.loop-number-test.false in
-    let below = g.T.Enum.sized.0 in
+    let below = g.met.T.EnumOf.count in
     let all = c.loop-number.invariant.size in
     subst (λ v. Reads (Spells (choice_shape g.T.Enum.variants.shapes)) c.args.k c.args.input.now.now (choices_of (variants_left v) (g.D.AllPayloads.held.lists c.loop-number.self.payloads)) c.loop-number.input.now) (sym c.loop-number.invariant.variants)
-    (reads_enum g.T.Enum.variants.shapes g.row.N c.args.k c.args.input.now.now g.T.Enum.sized.0 _ _ c.in_ok-populate.ensures.read _ _
+    (reads_enum g.T.Enum.variants.shapes g.row.N c.args.k c.args.input.now.now g.met.T.EnumOf.count _ _ c.in_ok-populate.ensures.read _ _
     (read_all g.T.Enum.variants.shapes g.D.AllPayloads.held.faults (variants_left c.populate.new.self) c.populate.new.input.now c.loop-number.number (g.D.AllPayloads.held.lists c.loop-number.self.payloads) c.loop-number.input.now c.loop-number.invariant.read (omega (arith, past, below)) (omega (arith, past, all))))

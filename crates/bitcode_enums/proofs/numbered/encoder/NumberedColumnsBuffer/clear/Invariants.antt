@@ -5,6 +5,6 @@ use Rattle.bitcode_enums.proofs.numbered.encoder.NumberedColumnsBuffer.clear.Giv
 
 abbrev pub invariant-loop-number : goal.invariant-loop-number
 invariant-loop-number g l = record {
-  empty : g.T.WritesPayloads.held.lists l.self.columns ≡ emptied_to l.number (g.T.WritesPayloads.held.lists l.fn.self.columns);
-  capacity : g.T.WritesPayloads.held.capacity l.self.columns ≤ g.T.WritesPayloads.held.capacity l.fn.self.columns;
+  empty : g.C.AllColumns.held.lists l.self.columns ≡ emptied_to l.number (g.C.AllColumns.held.lists l.fn.self.columns);
+  capacity : g.C.AllColumns.held.capacity l.self.columns ≤ g.C.AllColumns.held.capacity l.fn.self.columns;
 }

@@ -5,6 +5,6 @@ use Rattle.bitcode_enums.proofs.numbered.encoder.NumberedColumnsBuffer.collect_i
 
 abbrev pub invariant-loop-number : goal.invariant-loop-number
 invariant-loop-number g l = record {
-  empty : g.T.WritesPayloads.held.lists l.self.columns ≡ emptied_to l.number (g.T.WritesPayloads.held.lists l.fn.self.columns);
-  written : l.out.items ≡ l.initial.out.items ++ bytes_to l.number (g.T.WritesPayloads.held.lists l.fn.self.columns);
+  empty : g.C.AllColumns.held.lists l.self.columns ≡ emptied_to l.number (g.C.AllColumns.held.lists l.fn.self.columns);
+  written : l.out.items ≡ l.initial.out.items ++ bytes_to l.number (g.C.AllColumns.held.lists l.fn.self.columns);
 }
