@@ -3,6 +3,7 @@ ghost use Rattle.std.specs.Prelude.{refl};
 ghost use Rattle.bitcode_shapes.specs.LawfulBareVariants.{bare_lawful, bare_makeable};
 ghost use Rattle.bitcode_shapes.specs.LawfulImages.{image_lawful, image_makeable};
 ghost use Rattle.bitcode_shapes.specs.LawfulNever.{never_lawful, never_makeable};
+ghost use Rattle.bitcode_shapes.specs.KeyOf.{KeyOf};
 ghost use Rattle.bitcode_shapes.specs.PayloadOf.{PayloadOf, payload_of};
 ghost use Rattle.bitcode_shapes.specs.SameArrays.{never_same_arrays, one_datum_same_arrays};
 
@@ -37,4 +38,10 @@ impl<const N: usize, T: BareVariants<N>> Payload for Bare<N, T> {
 
 impl<T: NoVariants> Payload for Absent<T> {
     ghost payload = { payload_of (never_lawful (λ p. T.never p.value)) never_makeable never_same_arrays };
+}
+
+/// A type whose values can be the elements of sets and the keys of maps, and that says so where an enum can quote it: by this the sets and
+/// maps of such keys are `Payload`. It has no functions.
+pub trait KeyPayload {
+    ghost key: { KeyOf Self };
 }
