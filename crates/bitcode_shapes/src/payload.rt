@@ -7,9 +7,13 @@ ghost use Rattle.bitcode_shapes.specs.KeyOf.{KeyOf};
 ghost use Rattle.bitcode_shapes.specs.PayloadOf.{PayloadOf, payload_of};
 ghost use Rattle.bitcode_shapes.specs.SameArrays.{never_same_arrays, one_datum_same_arrays};
 
+mod key_numbers;
+mod key_tuples;
+mod key_types;
 mod lists;
 mod numbers;
 mod parts;
+mod sets_and_maps;
 mod texts;
 mod tuples;
 mod tuples_of_9_to_16;
