@@ -1,5 +1,5 @@
 -- `==` and `cmp` of each kind of type say the same: `cmp` is a total order, and `==` holds of what it does not tell apart.
-use Rattle.std.proofs.Common.{◌≡◌, ℕ, Bool, true, false, ℤ, Option, Some, None, Ok, Err, List, refl, sym, ◌∙◌, ap, true≢false}
+use Rattle.std.proofs.Common.{◌≡◌, ℕ, Bool, true, false, ℤ, Option, Some, None, Ok, Err, List, refl, sym, ◌∙◌, ap, subst, true≢false}
 use Rattle.std.specs.Prelude.{◌&&◌, nat_eq}
 use Rattle.std.specs.declared.cmp.Ordering.{Ordering}
 use Rattle.std.specs.declared.cmp.Ordering.TheVariants.{Less, Equal, Greater}
@@ -127,3 +127,23 @@ module _ {A B : Type 0} {eq_a : A → A → Bool} {eq_b : B → B → Bool} {cmp
 
   pub results_alike : CompareAlike (result_eq eq_a eq_b) Compared
   results_alike = record { total = record { antisymm = results_turned; trans = results_chain; congr = results_congr }; matches_eq = results_tied }
+
+-- ---- what answers as another `==` and another `cmp` do
+
+pub alike_as : {T : Type 0} {eq eq_of : T → T → Bool} {cmp cmp_of : T → T → Ordering} → CompareAlike eq_of cmp_of
+    → ((t u : T) → eq t u ≡ eq_of t u) → ((t u : T) → cmp t u ≡ cmp_of t u) → CompareAlike eq cmp
+alike_as alike same_eq same_cmp = record {
+  total = subst IsTotalOrder (λ i t u. sym (same_cmp t u) i) alike.total;
+  matches_eq = λ t u. same_eq t u ∙ alike.matches_eq t u ∙ ap is_eq (sym (same_cmp t u));
+}
+
+-- ---- of three in a row: a derive takes the last two together, a tuple the first two
+
+pub and_nested : (a b c : Bool) → (a && (b && c)) ≡ ((a && b) && c)
+and_nested true b c = refl
+and_nested false b c = refl
+
+pub then_nested : (p q r : Ordering) → ordering_then p (ordering_then q r) ≡ ordering_then (ordering_then p q) r
+then_nested Less q r = refl
+then_nested Equal q r = refl
+then_nested Greater q r = refl

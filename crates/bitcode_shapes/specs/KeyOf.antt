@@ -3,8 +3,8 @@ use Rattle.std.specs.Prelude.{Bool, ◌≡◌}
 use Rattle.std.specs.declared.cmp.Ordering.{Ordering}
 use Rattle.std.specs.Ordering.{is_eq}
 use Rattle.std.specs.Cmp.{IsEquivalence, IsTotalOrder}
-use Rattle.bitcode_shapes.specs.CompareAlike.{CompareAlike, equivalence_of, images_alike}
-use Rattle.bitcode_shapes.specs.KeyLaws.{images_told}
+use Rattle.bitcode_shapes.specs.CompareAlike.{CompareAlike, alike_as, equivalence_of, images_alike}
+use Rattle.bitcode_shapes.specs.KeyLaws.{images_told, told_as}
 use Rattle.bitcode_shapes.specs.PayloadOf.{PayloadOf, stood_payload}
 use Rattle.bitcode_shapes.specs.Sets.{TellsSame}
 
@@ -40,3 +40,9 @@ alike_of key = record { total = key.total; matches_eq = key.matches_eq }
 abbrev pub stood_key : {T P : Type 0} (parts : T → P) → ((p : P) → (t : T) × (parts t ≡ p)) → KeyOf P → KeyOf T
 stood_key parts of_parts of =
     key_of (stood_payload parts of_parts of.payload) (images_alike parts (alike_of of)) (images_told parts of.told)
+
+-- of a type whose `==` and order answer as those of a key do, and are written otherwise
+abbrev pub key_as : {T : Type 0} (of : KeyOf T) (eq : T → T → Bool) (cmp : T → T → Ordering) → ((t u : T) → eq t u ≡ of.eq t u)
+    → ((t u : T) → cmp t u ≡ of.cmp t u) → KeyOf T
+key_as of eq cmp same_eq same_cmp =
+    key_of of.payload (alike_as {eq = eq} {cmp = cmp} (alike_of of) same_eq same_cmp) (told_as {eq = eq} of.told same_eq)
