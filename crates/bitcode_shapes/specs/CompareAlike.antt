@@ -12,6 +12,7 @@ use Rattle.std.specs.Cmp.Lexicographic.{pointwise, slice_cmp, lists_ties, texts_
 use Rattle.std.proofs.lemmas.Cmp.{nat_cmp_total, int_cmp_total, nat_list_cmp_total, eq_by_cmp_equiv, on_total, then_total, lists_total}
 use mathlib.Core.Bool.{beq}
 
+-- what `==` and `cmp` promise of each other
 pub record CompareAlike {T : Type 0} (eq : T → T → Bool) (cmp : T → T → Ordering) : Type 0 where
   pub total : IsTotalOrder cmp
   pub matches_eq : (x y : T) → eq x y ≡ is_eq (cmp x y)
@@ -43,6 +44,7 @@ ones_alike = record {
   matches_eq = λ x y. refl;
 }
 
+-- `==` holds of what the order does not tell apart
 bools_tied : (b c : Bool) → beq b c ≡ is_eq (bool_cmp b c)
 bools_tied true true = refl
 bools_tied true false = refl
@@ -64,12 +66,14 @@ texts_alike bytes = images_alike bytes (record { total = nat_list_cmp_total; mat
 
 -- ---- values that hold elements one by one
 
+-- element by element from the first, and a sequence stands before what goes on after it
 pub sequences_alike : {T C : Type 0} {eq : T → T → Bool} {cmp : T → T → Ordering} (items : C → List T) → CompareAlike eq cmp
     → CompareAlike (λ b c. pointwise eq (items b) (items c)) (λ b c. slice_cmp cmp (items b) (items c))
 sequences_alike {cmp = cmp} items alike = images_alike items (record { total = lists_total alike.total; matches_eq = lists_ties cmp alike.matches_eq })
 
 -- ---- the fields of tuples and structs, from the first
 
+-- by the one, and what that does not tell apart by the next
 pub both_alike : {T : Type 0} {eq eq_next : T → T → Bool} {cmp cmp_next : T → T → Ordering} → CompareAlike eq cmp → CompareAlike eq_next cmp_next
     → CompareAlike (λ t u. eq t u && eq_next t u) (λ t u. ordering_then (cmp t u) (cmp_next t u))
 both_alike {eq = eq} {eq_next} {cmp} {cmp_next} alike next = record {
@@ -89,11 +93,13 @@ module _ {T : Type 0} {eq : T → T → Bool} {cmp : T → T → Ordering} (alik
   pub options_alike : CompareAlike (option_eq eq) (option_cmp cmp)
   options_alike = record { total = options_total alike.total; matches_eq = options_tied }
 
+-- what is greater is not less
 not_less : {A : Type 0} → Greater ≡ Less → A
 not_less e = absurd (true≢false (sym (ap is_lt e)))
 
 module _ {A B : Type 0} {eq_a : A → A → Bool} {eq_b : B → B → Bool} {cmp_a : A → A → Ordering} {cmp_b : B → B → Ordering}
     (ok : CompareAlike eq_a cmp_a) (err : CompareAlike eq_b cmp_b) where
+  -- each `Ok` is less than each `Err`
   abbrev Compared : Result A B → Result A B → Ordering
   Compared = result_cmp cmp_a cmp_b
 
@@ -130,6 +136,7 @@ module _ {A B : Type 0} {eq_a : A → A → Bool} {eq_b : B → B → Bool} {cmp
 
 -- ---- what answers as another `==` and another `cmp` do
 
+-- two that are written otherwise promise the same
 pub alike_as : {T : Type 0} {eq eq_of : T → T → Bool} {cmp cmp_of : T → T → Ordering} → CompareAlike eq_of cmp_of
     → ((t u : T) → eq t u ≡ eq_of t u) → ((t u : T) → cmp t u ≡ cmp_of t u) → CompareAlike eq cmp
 alike_as alike same_eq same_cmp = record {

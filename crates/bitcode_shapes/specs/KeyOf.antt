@@ -20,6 +20,7 @@ pub record KeyOf (T : Type 0) : Type 1 where
   -- `==` says of values whether they are the same
   pub told : TellsSame payload.is_value payload.same eq
 
+-- of a type that says its laws as data, from what its `==` and its order promise of each other, and what `==` tells of its values
 abbrev pub key_of : {T : Type 0} {eq : T → T → Bool} {cmp : T → T → Ordering} (payload : PayloadOf T) → CompareAlike eq cmp
     → TellsSame payload.is_value payload.same eq → KeyOf T
 key_of {eq = eq} {cmp} payload alike told = record {
