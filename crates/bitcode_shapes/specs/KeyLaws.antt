@@ -1,5 +1,5 @@
 -- What `==` tells of the values of each kind of type: whether they are the same.
-use Rattle.std.proofs.Common.{◌≡◌, ℕ, Bool, true, false, ℤ, pos, None, Some, Ok, Err, List, [], ◌∷◌, refl, sym, ap, true≢false}
+use Rattle.std.proofs.Common.{◌≡◌, ℕ, Bool, true, false, ℤ, pos, None, Some, Ok, Err, List, [], ◌∷◌, refl, sym, ◌∙◌, ap, true≢false}
 use Rattle.std.specs.Prelude.{All, ◌&&◌, nat_eq}
 use Rattle.std.specs.Cmp.{unsigned_Decides, signed_Decides}
 use Rattle.std.specs.Cmp.Lexicographic.{pointwise, bytes_decides}
@@ -9,6 +9,7 @@ use Rattle.std.specs.Result.{result_eq}
 use Rattle.std.proofs.lemmas.Bool.{and_from, and_parts}
 use Rattle.std.proofs.lemmas.List.Elements.{All-head, All-tail}
 use mathlib.Core.Bool.{beq}
+use Rattle.bitcode_shapes.specs.BareVariants.{SameBare}
 use Rattle.bitcode_shapes.specs.Choices.{IsVariantValue, SameVariant, option_variant, result_variant}
 use Rattle.bitcode_shapes.specs.Lists.{SameSequence}
 use Rattle.bitcode_shapes.specs.Sets.{TellsSame}
@@ -52,6 +53,20 @@ module _ {T : Type 0} (is_value : T → Type 0) where
   texts_told bytes t u h i =
       let decides = bytes_decides (bytes t) (bytes u) in
       (decides.1, decides.0)
+
+-- of an enum whose variants all lack a payload
+pub bares_told : {T : Type 0} (is_value : T → Type 0) (variant : T → ℕ) → TellsSame is_value (SameBare variant) (λ t u. nat_eq (variant t) (variant u))
+bares_told is_value variant t u h i =
+    let decides = unsigned_Decides (variant t) (variant u) in
+    (decides.1, decides.0)
+
+-- ---- what answers as another `==` does
+
+pub told_as : {T : Type 0} {is_value : T → Type 0} {same : T → T → Type 0} {eq eq_of : T → T → Bool} → TellsSame is_value same eq_of
+    → ((t u : T) → eq t u ≡ eq_of t u) → TellsSame is_value same eq
+told_as told same_eq t u h i =
+    let known = told t u h i in
+    (λ s. same_eq t u ∙ known.0 s, λ e. known.1 (sym (same_eq t u) ∙ e))
 
 -- ---- values that stand for those of another type
 

@@ -45,3 +45,5 @@ pub mod SameArrays
 pub mod PayloadOf
 pub mod KeyLaws
 pub mod OrderedKeyLaws
+pub mod CompareAlike
+pub mod KeyOf

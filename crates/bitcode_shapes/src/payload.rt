@@ -3,12 +3,17 @@ ghost use Rattle.std.specs.Prelude.{refl};
 ghost use Rattle.bitcode_shapes.specs.LawfulBareVariants.{bare_lawful, bare_makeable};
 ghost use Rattle.bitcode_shapes.specs.LawfulImages.{image_lawful, image_makeable};
 ghost use Rattle.bitcode_shapes.specs.LawfulNever.{never_lawful, never_makeable};
+ghost use Rattle.bitcode_shapes.specs.KeyOf.{KeyOf};
 ghost use Rattle.bitcode_shapes.specs.PayloadOf.{PayloadOf, payload_of};
 ghost use Rattle.bitcode_shapes.specs.SameArrays.{never_same_arrays, one_datum_same_arrays};
 
+mod key_numbers;
+mod key_tuples;
+mod key_types;
 mod lists;
 mod numbers;
 mod parts;
+mod sets_and_maps;
 mod texts;
 mod tuples;
 mod tuples_of_9_to_16;
@@ -19,8 +24,8 @@ use crate::no_variants::{Absent, NoVariants};
 /// A lawful type whose values are made of data, and that says so where an enum can quote it. It has no functions.
 ///
 /// The laws of another crate's impl have no name that a ghost member could write; data have one: `⟦<(u8, String) as Payload>⟧.payload`.
-/// Sets and maps are none of these, since their laws need those of their keys. A type of one's own says its laws by those of what it stands
-/// for:
+/// Sets and maps are among these where their elements and keys are a `KeyPayload`. A type of one's own says its laws by those of what it
+/// stands for:
 ///
 /// ```
 /// impl Payload for Point {
@@ -29,6 +34,36 @@ use crate::no_variants::{Absent, NoVariants};
 /// ```
 pub trait Payload {
     ghost payload: { PayloadOf Self };
+}
+
+/// A type whose values can be the elements of sets and the keys of maps, and that says as data what its `==` and its order promise: so
+/// the sets and maps of such keys are a `Payload`. It has no functions.
+///
+/// Every `Key` of this crate that has an order and is a `Payload` is one, if what it holds is. A type of one's own says it by a line of its
+/// own. The `==` and the order that it says are to be those of the type as they are written, and not only in what they answer: else its
+/// sets and maps are not what they say as data. A struct of one or two fields with a derived `Ord` is compared as the tuple of its fields:
+///
+/// ```
+/// impl KeyPayload for Point {
+///     ghost key = { stood_key ⟦<Point as StandsFor>⟧.parts ⟦<Point as StandsFor>⟧.of_parts ⟦<(u32, u32) as KeyPayload>⟧.key };
+/// }
+///
+/// impl Key for Point {
+///     ghost keyed = { ⟦<Point as KeyPayload>⟧.key.told };
+/// }
+/// ```
+///
+/// One of more fields answers as the tuple does, and is written otherwise. So is an enum whose variants all lack a payload, which answers
+/// as its variants do. They say so by `key_as`, with a proof that the two answer alike: for a struct by `and_nested` and `then_nested` of
+/// `specs/CompareAlike.antt`, for an enum by `refl` at each two of its variants:
+///
+/// ```
+/// impl KeyPayload for Light {
+///     ghost key = { key_as (key_of ⟦<Light as Payload>⟧.payload (naturals_alike ⟦<Light as BareVariants<2>>⟧.variant) (bares_told _ ⟦<Light as BareVariants<2>>⟧.variant)) ⟦<Light as PartialEq>⟧.eq ⟦<Light as Ord>⟧.cmp (elim [ Light.Red ↦ elim [ Light.Red ↦ refl | Light.Green ↦ refl ] | Light.Green ↦ elim [ Light.Red ↦ refl | Light.Green ↦ refl ] ]) (elim [ Light.Red ↦ elim [ Light.Red ↦ refl | Light.Green ↦ refl ] | Light.Green ↦ elim [ Light.Red ↦ refl | Light.Green ↦ refl ] ]) };
+/// }
+/// ```
+pub trait KeyPayload {
+    ghost key: { KeyOf Self };
 }
 
 impl<const N: usize, T: BareVariants<N>> Payload for Bare<N, T> {
