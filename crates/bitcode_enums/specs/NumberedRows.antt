@@ -19,16 +19,16 @@ data Shot : Type 0 where
   hit : ℕ → Shot
   fell : ℕ → Shot
 
-nothing : PayloadOf (Unit {0})
+abbrev nothing : PayloadOf (Unit {0})
 nothing = payload_of unit_lawful (unit_makeable (record {})) one_datum_same_arrays
 
-byte : PayloadOf ℕ
+abbrev byte : PayloadOf ℕ
 byte = payload_of (int_lawful pos 1 false width_1) (unsigned_makeable 1) one_datum_same_arrays
 
-payloads : Payloads
+abbrev payloads : Payloads
 payloads = payload_and nothing (payload_and byte (last_payload byte))
 
-shots : VariantsOf Shot
+abbrev shots : VariantsOf Shot
 shots = each_variant payloads (λ at. elim [ missed ↦ at 0 tt | hit a ↦ at 1 a | fell a ↦ at 2 a ]) ((λ p. (missed, refl)), ((λ p. (hit p, refl)), λ p. (fell p, refl)))
 
 -- ---- the numbers of the variants, and the shapes of their payloads
@@ -74,10 +74,10 @@ row_place c d = refl
 row_place_past : (c d : Columns) → columns_at 2 (c ∷ d ∷ []) ≡ no_columns
 row_place_past c d = refl
 
-row_keeps : KeepsOthers 0 1 (5 ∷ 6 ∷ 7 ∷ []) (5 ∷ 9 ∷ 7 ∷ [])
+row_keeps : KeepsOthers {A = ℕ} 0 1 (5 ∷ 6 ∷ 7 ∷ []) (5 ∷ 9 ∷ 7 ∷ [])
 row_keeps = refl
 
-row_changes : KeepsOthers 0 1 (5 ∷ 6 ∷ 7 ∷ []) (5 ∷ 9 ∷ 8 ∷ []) → ⊥
+row_changes : KeepsOthers {A = ℕ} 0 1 (5 ∷ 6 ∷ 7 ∷ []) (5 ∷ 9 ∷ 8 ∷ []) → ⊥
 row_changes e = cc
 
 row_fault : (first second : Reason → ℕ → List ℕ → Type 0) → fault_and first (fault_and second no_faults) 1 ≡ second
