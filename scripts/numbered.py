@@ -11,8 +11,6 @@ from variants import LETTERS, arms, declaration, held_type, names_of, payload, v
 # The borrow checker covers no pattern that goes deeper than this into the nest of the payloads, where one takes memory. So enums of more
 # variants are written by number, where they can be.
 MOST_IN_A_NEST = 4
-# The laws of these need those of their keys.
-KEYED_BY_LAWS = {"BTreeSet", "HashSet", "BTreeMap", "HashMap"}
 # So many variants that follow each other have their coders together, at the most: crates/bitcode_enums/src/numbered/variants.
 MOST_TOGETHER = 6
 ORDINALS = ["first", "second", "third", "fourth", "fifth", "sixth"]
@@ -140,8 +138,8 @@ ARE = "is_variant refl (λ p. refl) (λ p old new h. h) (λ p old h. h) (λ p ol
 
 
 def says_laws(type, own, within=()):
-    """Whether the type says its laws as data, or could: sets and maps cannot, nor what is imported and does not."""
-    if type.name in KEYED_BY_LAWS or type.name in within:
+    """Whether the type says its laws as data, or could: what is imported and does not cannot."""
+    if type.name in within:
         return False
     if type.kind == "path" and type.name in own and not (own[type.name].says_laws if not own[type.name].item else could_say_laws(own[type.name].item, own, within)):
         return False

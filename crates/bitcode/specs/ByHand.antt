@@ -33,6 +33,9 @@ pub use Rattle.bitcode_enums.specs.declared.variants.FirstOr.{FirstOr}
 pub use Rattle.bitcode_enums.specs.Variants.{stood_for}
 -- What an enum by the numbers of its variants says of them, and what their coders hold:
 pub use Rattle.bitcode_shapes.specs.PayloadOf.{PayloadOf, payload_of, stood_payload}
+pub use Rattle.bitcode_shapes.specs.KeyOf.{KeyOf, key_of, stood_key, key_as}
+pub use Rattle.bitcode_shapes.specs.CompareAlike.{naturals_alike, and_nested, then_nested}
+pub use Rattle.bitcode_shapes.specs.KeyLaws.{bares_told}
 pub use Rattle.bitcode_enums.specs.VariantsOf.{VariantsOf, variants_of, first_variant, last_variant, IsVariant, is_variant}
 pub use Rattle.bitcode_enums.specs.EachVariant.{Payloads, last_payload, payload_and, SomePayload, payload_at, each_variant}
 pub use Rattle.bitcode_enums.specs.OneOf.{of_one_of_2, of_one_of_3, of_one_of_4, of_one_of_5, of_one_of_6}

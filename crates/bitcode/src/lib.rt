@@ -216,6 +216,7 @@ pub use bitcode_shapes::keys::Key;
 pub use bitcode_shapes::lists::told_behind;
 pub use bitcode_shapes::lists::told_each;
 pub use bitcode_shapes::no_variants::NoVariants;
+pub use bitcode_shapes::payload::KeyPayload;
 pub use bitcode_shapes::payload::Payload;
 pub use bitcode_shapes::same_arrays::SameArrays;
 pub use bitcode_shapes::shaped::Made;

@@ -18,6 +18,7 @@ pub mod order;
 pub mod outcome;
 pub mod pause;
 pub mod player;
+pub mod reply;
 pub mod saved;
 pub mod scores;
 pub mod two;

@@ -1,9 +1,10 @@
 //! `Message` stands for the tuple of its fields. What is below its declaration was written by `scripts/new_type`.
 ghost use Rattle.std.specs.Prelude.{refl};
+ghost use Rattle.bitcode.specs.ByHand.{stood_payload};
 
 use bitcode::{
-    DecoderOfFields, EncoderOfFields, FromParts, HasDecoder, HasEncoder, LendsFields2, Shaped,
-    StandsFor,
+    DecoderOfFields, EncoderOfFields, FromParts, HasDecoder, HasEncoder, LendsFields2, Payload,
+    Shaped, StandsFor,
 };
 
 /// A text of the input, and who sent it.
@@ -46,4 +47,8 @@ impl<'a> HasEncoder for Message<'a> {
 
 impl<'a> HasDecoder<'a> for Message<'a> {
     type Decoder = DecoderOfFields<'a, (u32, &'a str)>;
+}
+
+impl<'a> Payload for Message<'a> {
+    ghost payload = { stood_payload ⟦<Message<'a> as StandsFor>⟧.parts ⟦<Message<'a> as StandsFor>⟧.of_parts ⟦<(u32, &'a str) as Payload>⟧.payload };
 }

@@ -14,6 +14,7 @@ use bitcode_own_types::one::One;
 use bitcode_own_types::order::Order;
 use bitcode_own_types::outcome::Outcome;
 use bitcode_own_types::player::Player;
+use bitcode_own_types::reply::Reply;
 use bitcode_own_types::saved::saved_and_loaded;
 use bitcode_own_types::scores::Scores;
 use bitcode_own_types::two::Two;
@@ -136,6 +137,22 @@ fn orders_come_back(rt: HostRuntime) -> Result<(), Error> {
     assert!(rt; again == orders);
     let refused: Result<Vec<Order>, Error> = decode(alloc, &[1, 1]);
     assert!(rt; matches!(&refused, Err(error) if error.reason == Reason::Eof));
+    Ok(())
+}
+
+#[test]
+fn replies_borrow_their_texts(rt: HostRuntime) -> Result<(), Error> {
+    let alloc = rt.alloc();
+    let told = Message { from: 7, text: "c" };
+    let replies = vec![in alloc; Reply::Text("ab"), Reply::Done, Reply::Told(told)]?;
+    let bytes = encode(alloc, &replies)?;
+    // The length, the variants in base 16, and then the columns of each variant's payload.
+    let expected = [3, 1, 5, 2, 97, 98, 4, 7, 1, 99];
+    assert!(rt; bytes.as_slice() == expected.as_slice());
+    let again: Vec<Reply<'_>> = decode(alloc, bytes.as_slice())?;
+    assert!(rt; again == replies);
+    let refused: Result<Vec<Reply<'_>>, Error> = decode(alloc, &[1, 8]);
+    assert!(rt; matches!(&refused, Err(error) if error.reason == Reason::InvalidPacking));
     Ok(())
 }
 

@@ -1,0 +1,212 @@
+//! `Reply` is written and read by the numbers of its variants. What is below its declaration was written by `scripts/new_type`.
+ghost use Rattle.std.specs.Prelude.{◌≡◌, refl};
+ghost use Rattle.bitcode.specs.ByHand.{columns_in, each_variant, is_variant, last_payload, of_one_of_4, payload_and, payloads_in};
+ghost use Rattle.bitcode_own_types.specs.declared.reply.Reply.{Reply};
+
+use crate::message::Message;
+use bitcode::{
+    AllColumns, AllPayloads, At, DecodersOf4, EncodersOf4, Enum, EnumEncoder, EnumOf, Error,
+    Halves, HasDecoder, HasEncoder, Held, HeldIn, NumberedColumns, NumberedDecoder, OneOf4,
+    PartsDecoder, Payload, VariantColumns, VariantPayloads, Variants4, WritesPayloads,
+    WritesVariants, told_as,
+};
+use std::alloc::Global;
+use std::collections::{BTreeMap, BTreeSet, HashMap};
+
+/// What a server answers.
+#[derive(Debug, PartialEq, Drop)]
+pub enum Reply<'a> {
+    Done,
+    Text(&'a str),
+    Names(Vec<&'a str>, Option<u32>),
+    Counts(BTreeMap<u32, String>),
+    Seen(BTreeSet<u16>),
+    Told(Message<'a>),
+    Found { by: HashMap<u16, String>, of: u64 },
+    Gone,
+}
+
+impl<'a> Enum for Reply<'a> {
+    ghost variants = { each_variant (payload_and ⟦<() as Payload>⟧.payload (payload_and ⟦<&'a str as Payload>⟧.payload (payload_and ⟦<(Vec<&'a str>, Option<u32>) as Payload>⟧.payload (payload_and ⟦<BTreeMap<u32, String> as Payload>⟧.payload (payload_and ⟦<BTreeSet<u16> as Payload>⟧.payload (payload_and ⟦<Message<'a> as Payload>⟧.payload (payload_and ⟦<(HashMap<u16, String>, u64) as Payload>⟧.payload (last_payload ⟦<() as Payload>⟧.payload)))))))) (λ at. elim [ Reply.Done ↦ at 0 tt | Reply.Text a ↦ at 1 a | Reply.Names a b ↦ at 2 (a, b) | Reply.Counts a ↦ at 3 a | Reply.Seen a ↦ at 4 a | Reply.Told a ↦ at 5 a | Reply.Found a b ↦ at 6 (a, b) | Reply.Gone ↦ at 7 tt ]) ((λ p. (Reply.Done, refl)), ((λ p. (Reply.Text p, refl)), ((λ p. (Reply.Names p.0 p.1, refl)), ((λ p. (Reply.Counts p, refl)), ((λ p. (Reply.Seen p, refl)), ((λ p. (Reply.Told p, refl)), ((λ p. (Reply.Found p.0 p.1, refl)), λ p. (Reply.Gone, refl)))))))) };
+
+    ghost sized = { refl };
+
+    fn variant(&self) -> u8 {
+        match self {
+            Reply::Done => 0,
+            Reply::Text(a) => told_as(1, &a),
+            Reply::Names(a, b) => told_as(2, &(a, b)),
+            Reply::Counts(a) => told_as(3, &a),
+            Reply::Seen(a) => told_as(4, &a),
+            Reply::Told(a) => told_as(5, &a),
+            Reply::Found { by, of } => told_as(6, &(by, of)),
+            Reply::Gone => 7,
+        }
+    }
+}
+
+impl<'a> EnumOf<8> for Reply<'a> {
+    ghost count = { refl };
+}
+
+impl<'a> HeldIn for Reply<'a> {
+    type Holder = Held<8, Reply<'a>>;
+}
+
+impl<'a> Variants4<At<0>, (), &'a str, (Vec<&'a str>, Option<u32>), BTreeMap<u32, String>>
+    for Reply<'a> {
+    ghost values = { (λ p. Reply.Done, λ p. Reply.Text p, λ p. Reply.Names p.0 p.1, λ p. Reply.Counts p) };
+
+    fn of_payload(
+        payload: OneOf4<(), &'a str, (Vec<&'a str>, Option<u32>), BTreeMap<u32, String>>,
+    ) -> Self
+        ensures { result ≡ of_one_of_4 (λ p. Reply.Done) (λ p. Reply.Text p) (λ p. Reply.Names p.0 p.1) (λ p. Reply.Counts p) payload.entry }
+    {
+        match payload {
+            OneOf4::First(()) => Reply::Done,
+            OneOf4::Second(a) => Reply::Text(a),
+            OneOf4::Third((a, b)) => Reply::Names(a, b),
+            OneOf4::Fourth(a) => Reply::Counts(a),
+        }
+    }
+
+    ghost are = { (is_variant refl (λ p. refl) (λ p old new h. h) (λ p old h. h) (λ p old new h. h), is_variant refl (λ p. refl) (λ p old new h. h) (λ p old h. h) (λ p old new h. h), is_variant refl (λ p. refl) (λ p old new h. h) (λ p old h. h) (λ p old new h. h), is_variant refl (λ p. refl) (λ p old new h. h) (λ p old h. h) (λ p old new h. h)) };
+}
+
+type ColumnsOf0To3 = EncodersOf4<
+    At<0>,
+    (),
+    &'static str,
+    (Vec<&'static str>, Option<u32>),
+    BTreeMap<u32, String>,
+>;
+
+impl<'a> WritesVariants<ColumnsOf0To3> for Reply<'a> {
+    fn write(&self, to: &mut ColumnsOf0To3) -> Result<(), Error> {
+        match self {
+            Reply::Done => to.encode_first(self, &&()),
+            Reply::Text(a) => to.encode_second(self, &a),
+            Reply::Names(a, b) => to.encode_third(self, &(a, b)),
+            Reply::Counts(a) => to.encode_fourth(self, &a),
+            _ => unreachable!(),
+        }
+    }
+}
+
+impl<'a> Variants4<At<4>, BTreeSet<u16>, Message<'a>, (HashMap<u16, String>, u64), ()>
+    for Reply<'a> {
+    ghost values = { (λ p. Reply.Seen p, λ p. Reply.Told p, λ p. Reply.Found p.0 p.1, λ p. Reply.Gone) };
+
+    fn of_payload(
+        payload: OneOf4<BTreeSet<u16>, Message<'a>, (HashMap<u16, String>, u64), ()>,
+    ) -> Self
+        ensures { result ≡ of_one_of_4 (λ p. Reply.Seen p) (λ p. Reply.Told p) (λ p. Reply.Found p.0 p.1) (λ p. Reply.Gone) payload.entry }
+    {
+        match payload {
+            OneOf4::First(a) => Reply::Seen(a),
+            OneOf4::Second(a) => Reply::Told(a),
+            OneOf4::Third((by, of)) => Reply::Found { by, of },
+            OneOf4::Fourth(()) => Reply::Gone,
+        }
+    }
+
+    ghost are = { (is_variant refl (λ p. refl) (λ p old new h. h) (λ p old h. h) (λ p old new h. h), is_variant refl (λ p. refl) (λ p old new h. h) (λ p old h. h) (λ p old new h. h), is_variant refl (λ p. refl) (λ p old new h. h) (λ p old h. h) (λ p old new h. h), is_variant refl (λ p. refl) (λ p old new h. h) (λ p old h. h) (λ p old new h. h)) };
+}
+
+type ColumnsOf4To7 = EncodersOf4<
+    At<4>,
+    BTreeSet<u16>,
+    Message<'static>,
+    (HashMap<u16, String>, u64),
+    (),
+>;
+
+impl<'a> WritesVariants<ColumnsOf4To7> for Reply<'a> {
+    fn write(&self, to: &mut ColumnsOf4To7) -> Result<(), Error> {
+        match self {
+            Reply::Seen(a) => to.encode_first(self, &a),
+            Reply::Told(a) => to.encode_second(self, &a),
+            Reply::Found { by, of } => to.encode_third(self, &(by, of)),
+            Reply::Gone => to.encode_fourth(self, &&()),
+            _ => unreachable!(),
+        }
+    }
+}
+
+type Columns = Halves<ColumnsOf0To3, ColumnsOf4To7>;
+
+type Decoders<'a> = Halves<
+    DecodersOf4<'a, At<0>, (), &'a str, (Vec<&'a str>, Option<u32>), BTreeMap<u32, String>>,
+    DecodersOf4<'a, At<4>, BTreeSet<u16>, Message<'a>, (HashMap<u16, String>, u64), ()>,
+>;
+
+/// The columns of the payloads of `Reply`.
+#[derive(Drop)]
+pub struct ReplyColumns {
+    all: Columns,
+}
+
+impl AllColumns<8> for ReplyColumns {
+    ghost held = { columns_in (λ c. c.all) ⟦<Columns as VariantColumns>⟧.columns };
+
+    fn new(alloc: Global) -> Self {
+        ReplyColumns {
+            all: VariantColumns::new(alloc),
+        }
+    }
+
+    fn collect(&mut self, number: usize, out: &mut Vec<u8>) -> Result<(), Error> {
+        self.all.collect_payloads(number, out)
+    }
+
+    fn clear(&mut self, number: usize) {
+        self.all.clear_payloads(number);
+    }
+
+    ghost sized = { λ c. refl };
+}
+
+impl<'a> WritesPayloads<8, ReplyColumns> for Reply<'a> {
+    fn write_payload(&self, to: &mut ReplyColumns) -> Result<(), Error> {
+        WritesVariants::<Columns>::write(self, &mut to.all)
+    }
+
+    ghost of_shapes = { λ c. refl };
+}
+
+/// The payloads that values of `Reply` are made of.
+#[derive(Drop)]
+pub struct ReplyPayloads<'a> {
+    all: Decoders<'a>,
+}
+
+impl<'a> AllPayloads<'a, 8, Reply<'a>> for ReplyPayloads<'a> {
+    ghost held = { payloads_in (λ d. d.all) ⟦<Decoders<'a> as VariantPayloads<'a, Reply<'a>>>⟧.held };
+
+    fn new(alloc: Global) -> Self {
+        ReplyPayloads {
+            all: VariantPayloads::<Reply<'a>>::new(alloc),
+        }
+    }
+
+    fn populate_at(&mut self, number: usize, input: &mut &'a [u8], k: usize) -> Result<(), Error> {
+        VariantPayloads::<Reply<'a>>::populate_payloads(&mut self.all, number, input, k)
+    }
+
+    fn decode_at(&mut self, number: usize) -> Result<Reply<'a>, Error> {
+        self.all.decode_payload(number)
+    }
+
+    fn sized(&self) {}
+}
+
+impl<'a> HasEncoder for Reply<'a> {
+    type Encoder = EnumEncoder<8, NumberedColumns<8, ReplyColumns>>;
+}
+
+impl<'a> HasDecoder<'a> for Reply<'a> {
+    type Decoder = PartsDecoder<
+        Held<8, Reply<'a>>,
+        NumberedDecoder<'a, 8, Reply<'a>, ReplyPayloads<'a>>,
+    >;
+}
