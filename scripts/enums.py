@@ -259,7 +259,7 @@ def check_variants(enum, is_numbered):
     if count > MOST_VARIANTS:
         raise Refused(enum.line, f"{count} variants are more than 256: put some of them into an enum of their own")
     if fields and count > MOST_PAYLOADS and not is_numbered:
-        raise Refused(enum.variants[MOST_PAYLOADS].line, f"{count} variants, of which some have fields, are more than {MOST_PAYLOADS}: put some of them into an enum of their own")
+        raise Refused(enum.variants[MOST_PAYLOADS].line, f"{count} variants, of which some have fields, are more than {MOST_PAYLOADS}: put some of them into an enum of their own, or declare all types of your own in one file, enums without type parameters")
     if not fields and (enum.types or enum.lifetime):
         raise Refused(enum.line, f"no variant has a field of `{[enum.lifetime, *enum.types][-1]}`: leave it out")
     for variant in enum.variants:
@@ -284,7 +284,7 @@ def enum_text(enum, own, crate, module, is_numbered):
     elif not fields_of(enum):
         text = bare_text(enum, crate, module)
     elif is_numbered:
-        text = Numbered(enum, crate, module).file(checker.imports)
+        text = Numbered(enum, own, crate, module).file(checker.imports)
     else:
         text = payloads_text(enum, crate, module, checker.imports, own)
     return text, checker.crates

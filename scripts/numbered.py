@@ -18,9 +18,12 @@ ORDINALS = ["first", "second", "third", "fourth", "fifth", "sixth"]
 MOST_IN_PLACE = 48
 # Of so many fields the compiler finds the types of what a coder takes.
 MOST_FOUND = 2
+# Of variants whose fields name more types than so many the borrow checker covers no struct that holds all their decoders in one type. A
+# struct in between ends that, so that there is one for each part of the variants.
+MOST_TYPES = 32
 
 FILE = """//! `$simple` is written and read by the numbers of its variants. What is below its declaration was written by `scripts/new_type`.
-ghost use Rattle.std.specs.Prelude.{◌≡◌, refl};
+ghost use Rattle.std.specs.Prelude.{$prelude};
 ghost use Rattle.bitcode.specs.ByHand.{$by_hand};
 ghost use Rattle.$crate.specs.declared.$module.$ghost.{$ghost};
 
@@ -79,17 +82,17 @@ impl$life WritesPayloads<$count, $columns> for $name {
     ghost of_shapes = { λ c. refl };
 }
 
-/// The payloads that values of `$simple` are made of.
+$parts/// The payloads that values of `$simple` are made of.
 #[derive(Drop)]
 pub struct $payloads<$input> {
-    all: Decoders<$input>,
+    all: Decoders<$input>,$mark
 }
 
 impl<$input> AllPayloads<$input, $count, $name> for $payloads<$input> {
     ghost held = { payloads_in (λ d. d.all) ⟦<Decoders<$input> as VariantPayloads<$input, $name>>⟧.held };
 
     fn new(alloc: Global) -> Self {
-        $payloads { all: VariantPayloads::<$name>::new(alloc) }
+        $payloads { all: VariantPayloads::<$name>::new(alloc),$marked }
     }
 
     fn populate_at(&mut self, number: usize, input: &mut &$input [u8], k: usize) -> Result<(), Error> {
@@ -134,7 +137,50 @@ ${alias}impl$life WritesVariants<$encoders> for $name {
     }
 }
 """
+PART = """type $alias<$input> = $decoders;
+
+/// The payloads of the variants $first to $last of `$simple`.
+#[derive(Drop)]
+pub struct $part<$input> {
+    all: $alias<$input>,$mark
+}
+
+impl<$input> VariantPayloads<$input, $name> for $part<$input> {
+    ghost first = { $first };
+
+    ghost end = { $end };
+
+    ghost in_turn = { true };
+
+    ghost held = { payloads_in (λ d. d.all) ⟦<$alias<$input> as VariantPayloads<$input, $name>>⟧.held };
+
+    fn new(alloc: Global) -> Self {
+        $part { all: VariantPayloads::<$name>::new(alloc),$marked }
+    }
+
+    fn first(&self) -> usize {
+        $first
+    }
+
+    fn populate_payloads(&mut self, number: usize, input: &mut &$input [u8], k: usize) -> Result<(), Error> {
+        VariantPayloads::<$name>::populate_payloads(&mut self.all, number, input, k)
+    }
+
+    fn decode_payload(&mut self, number: usize) -> Result<$name, Error> {
+        self.all.decode_payload(number)
+    }
+
+    fn sized(&self) {}
+}
+
+"""
+MARK, MARKED = "\n    of: PhantomData<&'a ()>,", "\n            of: PhantomData,"
 ARE = "is_variant refl (λ p. refl) (λ p old new h. h) (λ p old h. h) (λ p old new h. h)"
+
+
+def is_nothing(type):
+    """Whether values of the type have no columns, so that a decoder of them keeps no part of an input."""
+    return type.name == "PhantomData" or type.kind in ("tuple", "array") and all(map(is_nothing, type.parts)) or type.name in ("Box", "Rc") and is_nothing(type.parts[0])
 
 
 def says_laws(type, own, within=()):
@@ -147,7 +193,7 @@ def says_laws(type, own, within=()):
 
 
 def could_say_laws(item, own, within=()):
-    """Whether a type of one's own could say its laws as data: one all of whose fields could. An enum with fields is then written by number, which those with type parameters are not."""
+    """Whether a type of one's own could say its laws as data: one all of whose fields could. An enum of two variants and more, with fields, is then written by number, which those with type parameters are not."""
     can_be_written = not item.types or isinstance(item, Struct) or len(item.variants) == 1
     return can_be_written and all(says_laws(field.type, own, (*within, item.name)) for field in fields_of(item))
 
@@ -175,11 +221,36 @@ def numbered_and_told(items, own):
     return numbered, told
 
 
-def groups_of(count):
-    """The numbers of the variants that have their coders together, in as few groups as there can be, as even as they can be."""
-    groups = -(-count // MOST_TOGETHER)
-    ends = [count * (n + 1) // groups for n in range(groups)]
-    return [range(first, end) for first, end in zip([0, *ends], ends)]
+def types_in(type, own):
+    """How many types the type names, those that the fields of a type of one's own name among them."""
+    item = own[type.name].item if type.kind == "path" and type.name in own else None
+    here = 0 if type.kind in ("tuple", "number", "lifetime", "reference") else 1
+    return here + sum(types_in(part, own) for part in type.parts) + (sum(types_in(field.type, own) for field in fields_of(item)) if item else 0)
+
+
+def groups_of(weights):
+    """The numbers of the variants that have their coders together, in as few groups as there can be, as even as they can be; in more where the
+    variants of one name more types than a group may."""
+    count = len(weights)
+    for most in range(MOST_TOGETHER, 1, -1):
+        groups = min(-(-count // most), count // 2)
+        ends = [count * (n + 1) // groups for n in range(groups)]
+        found = [range(first, end) for first, end in zip([0, *ends], ends)]
+        if all(sum(weights[n] for n in group) <= MOST_TYPES for group in found):
+            break
+    return found
+
+
+def parts_of(groups, weights):
+    """The groups that a struct holds together."""
+    parts, room = [], 0
+    for group in groups:
+        weight = sum(weights[n] for n in group)
+        if weight > room:
+            parts, room = [*parts, []], MOST_TYPES
+        parts[-1].append(group)
+        room -= weight
+    return parts
 
 
 def halves(groups):
@@ -191,9 +262,11 @@ def halves(groups):
 class Numbered:
     """The parts of the file of an enum."""
 
-    def __init__(self, enum, crate, module):
-        self.enum, self.crate, self.module = enum, crate, module
-        self.count, self.groups = len(enum.variants), groups_of(len(enum.variants))
+    def __init__(self, enum, own, crate, module):
+        self.enum, self.crate, self.module, self.count = enum, crate, module, len(enum.variants)
+        weights = [sum(types_in(field.type, own) for field in variant.fields) for variant in enum.variants]
+        self.groups = groups_of(weights)
+        self.parts = parts_of(self.groups, weights)
         self.types = [held_type(variant) for variant in enum.variants]
         self.life, self.input = bounds(enum, ""), enum.lifetime or "'a"
         self.name = enum.name + self.life
@@ -239,6 +312,25 @@ class Numbered:
             encode="".join(written(ordinal, variant) for ordinal, variant in rows) + others + "\n        ",
         )
 
+    def decoders(self, groups):
+        """The decoders of these groups: their type, and a mark of the input's lifetime and its value where none of them keeps a part of the input."""
+        type = halves([f"DecodersOf{len(group)}<{self.input}, At<{group[0]}>, {self.types_of(group)}>" for group in groups])
+        borrows = self.enum.lifetime or not all(is_nothing(field.type) for group in groups for n in group for field in self.enum.variants[n].fields)
+        return {"decoders": type, "mark": "" if borrows else MARK, "marked": "" if borrows else MARKED}
+
+    def part(self, groups):
+        """The struct that holds the decoders of these groups, and its name."""
+        first, end = groups[0][0], groups[-1][-1] + 1
+        name, alias = f"{self.enum.name}Payloads{first}To{end - 1}", f"Decoders{first}To{end - 1}"
+        return Template(PART).substitute(self.decoders(groups), part=name, alias=alias, simple=self.enum.name, name=self.name, input=self.input, first=first, last=end - 1, end=end), name
+
+    def payloads(self):
+        """The decoders of all variants, which a struct for each part holds where there are several."""
+        if len(self.parts) == 1:
+            return {"parts": "", **self.decoders(self.groups)}
+        texts, names = zip(*map(self.part, self.parts))
+        return {"parts": "".join(texts), "decoders": halves([f"{name}<{self.input}>" for name in names]), "mark": "", "marked": ""}
+
     def built(self, variant):
         """A function of a payload, which gives the value that has it, in a ghost member."""
         found = places(len(variant.fields)) if variant.fields else []
@@ -257,6 +349,8 @@ class Numbered:
 
     def file(self, imports):
         """The file of the type."""
+        payloads = self.payloads()
+        imports = {*imports, "std::marker::PhantomData"} if MARK in payloads["parts"] + payloads["mark"] else imports
         used = set("AllColumns AllPayloads At Enum EnumEncoder EnumOf Error HasDecoder HasEncoder Held HeldIn NumberedColumns NumberedDecoder PartsDecoder "
                    "Payload VariantColumns VariantPayloads WritesPayloads WritesVariants told_as".split())
         used |= {f"{kind}{len(numbers)}" for numbers in self.groups for kind in ("DecodersOf", "EncodersOf", "OneOf", "Variants")}
@@ -272,19 +366,20 @@ class Numbered:
             life=self.life,
             input=self.input,
             columns=f"{self.enum.name}Columns",
-            payloads=f"{self.enum.name}Payloads",
             ghost=quoted(self.enum.name),
             crate=self.crate,
             module=self.module,
             count=self.count,
             uses="\n".join(sorted([f"use bitcode::{{{', '.join(sorted(used))}}};", "use std::alloc::Global;", *(f"use {path};" for path in imports)])) + "\n",
             declaration=declaration(self.enum),
+            prelude="◌≡◌, refl" + (", true" if payloads["parts"] else ""),
             by_hand=", ".join(sorted({"columns_in", "each_variant", "is_variant", "last_payload", "payload_and", "payloads_in", *(f"of_one_of_{len(numbers)}" for numbers in self.groups)})),
             **self.variants(),
             index=arms(self.enum, lambda number, variant: value(self.enum, variant), numbered),
             groups="\n".join(map(self.group, self.groups)),
             all_columns=f"type Columns = {halves([self.encoders(numbers)[0] for numbers in self.groups])};\n\n" if len(self.groups) > 1 else "",
-            decoders=halves([f"DecodersOf{len(numbers)}<{self.input}, At<{numbers[0]}>, {self.types_of(numbers)}>" for numbers in self.groups]),
+            payloads=f"{self.enum.name}Payloads",
+            **payloads,
             owned="" if self.enum.lifetime else Template(OWNED).substitute(name=self.name),
         )
 

@@ -31,16 +31,16 @@ pub use Rattle.bitcode_shapes.specs.Choices.{IsVariantValue, ListsChoice, ListsV
 -- The payloads of an enum's variants: that of the first one, or one of the rest; and which value stands for one:
 pub use Rattle.bitcode_enums.specs.declared.variants.FirstOr.{FirstOr}
 pub use Rattle.bitcode_enums.specs.Variants.{stood_for}
--- What an enum by the numbers of its variants says of them, and what their coders hold:
+-- What an enum by the numbers of its variants says of them, of its columns and of its payloads:
 pub use Rattle.bitcode_shapes.specs.PayloadOf.{PayloadOf, payload_of, stood_payload}
+pub use Rattle.bitcode_enums.specs.VariantsOf.{VariantsOf, IsVariant, is_variant}
+pub use Rattle.bitcode_enums.specs.EachVariant.{last_payload, payload_and, each_variant}
+pub use Rattle.bitcode_enums.specs.OneOf.{of_one_of_2, of_one_of_3, of_one_of_4, of_one_of_5, of_one_of_6}
+pub use Rattle.bitcode_enums.specs.HeldColumns.{columns_in, payloads_in}
+-- What keys of one's own promise as data:
 pub use Rattle.bitcode_shapes.specs.KeyOf.{KeyOf, key_of, stood_key, key_as}
 pub use Rattle.bitcode_shapes.specs.CompareAlike.{naturals_alike, and_nested, then_nested}
 pub use Rattle.bitcode_shapes.specs.KeyLaws.{bares_told}
-pub use Rattle.bitcode_enums.specs.VariantsOf.{VariantsOf, variants_of, first_variant, last_variant, IsVariant, is_variant}
-pub use Rattle.bitcode_enums.specs.EachVariant.{Payloads, last_payload, payload_and, SomePayload, payload_at, each_variant}
-pub use Rattle.bitcode_enums.specs.OneOf.{of_one_of_2, of_one_of_3, of_one_of_4, of_one_of_5, of_one_of_6}
-pub use Rattle.bitcode_enums.specs.HeldColumns.{HeldColumns, columns_in, HeldPayloads, payloads_in}
-pub use Rattle.bitcode_enums.specs.Numbered.{fault_and, no_faults}
 -- The columns that encoders hold, and the data that decoders hold:
 pub use Rattle.bitcode_coder.specs.Columns.{no_columns, two}
 pub use Rattle.bitcode_tuples.specs.Pairs.{pairs_of}

@@ -10,7 +10,7 @@ use Rattle.bitcode_shapes.specs.PayloadOf.{PayloadOf, payload_of}
 use Rattle.bitcode_shapes.specs.SameArrays.{one_datum_same_arrays}
 use Rattle.bitcode_coder.specs.Coder.{JoinsListing}
 use Rattle.bitcode_coder.specs.Columns.{Columns, no_columns}
-use Rattle.bitcode_enums.specs.EachVariant.{Payloads, last_payload, payload_and, PayloadAt, payload_at, each_variant}
+use Rattle.bitcode_enums.specs.EachVariant.{Payloads, last_payload, payload_and, PayloadAt, each_variant}
 use Rattle.bitcode_enums.specs.Numbered.{shape_at, columns_at, KeepsOthers, fault_and, no_faults}
 use Rattle.bitcode_enums.specs.VariantsOf.{VariantsOf}
 

@@ -1,5 +1,5 @@
 //! The columns that the payloads of an enum's variants are written to, by the numbers of the variants.
-ghost use Rattle.std.specs.Prelude.{◌≡◌, ℕ, ◌-◌, ◌<◌, ◌≤◌, ◌++◌, Bool, List, map, length, IsTrue, OnOk, IfErr};
+ghost use Rattle.std.specs.Prelude.{◌≡◌, ℕ, ◌-◌, ◌<◌, ◌≤◌, ◌++◌, Bool, map, length, IsTrue, OnOk, IfErr};
 ghost use Rattle.bitcode_columns.specs.declared.error.Reason.{Reason};
 ghost use Rattle.bitcode_coder.specs.Columns.{no_columns, emptied};
 ghost use Rattle.bitcode_coder.specs.Coder.{BeginsWith};
@@ -12,6 +12,12 @@ use std::alloc::Global;
 
 /// The columns of the payloads of variants that follow each other, an encoder for each variant: `Encoders2` to `Encoders6`, and
 /// [`Halves`](crate::numbered::halves::Halves) of these.
+///
+/// ```
+/// let mut columns: EncodersOf2<At<0>, (), u8> = VariantColumns::new(alloc);
+/// columns.encode_second(&Shot::Hit(7), &&7)?;
+/// columns.collect_payloads(1, &mut bytes)?; // [7]
+/// ```
 pub trait VariantColumns {
     // the number of the first of these variants
     ghost first: { ℕ };
@@ -53,8 +59,10 @@ pub trait VariantColumns {
         ensures empty { columns_at (number - first) (columns.lists self.new) ≡ emptied (columns_at (number - first) (columns.lists self.old)) }
         ensures capacity { columns.capacity self.new ≤ columns.capacity self.old };
 
+    // the last of them stands no earlier than the first
     ghost ordered: { IsTrue in_turn → first ≤ end };
 
+    // there are columns for each of them
     ghost sized: { IsTrue in_turn → (e : Self) → length (columns.lists e) ≡ end - first };
 }
 
@@ -114,5 +122,6 @@ pub trait AllColumns<const N: usize> {
         ensures empty { columns_at number (held.lists self.new) ≡ emptied (columns_at number (held.lists self.old)) }
         ensures capacity { held.capacity self.new ≤ held.capacity self.old };
 
+    // there are columns for each variant
     ghost sized: { (e : Self) → length (held.lists e) ≡ N };
 }

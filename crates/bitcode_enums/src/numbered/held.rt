@@ -46,6 +46,7 @@ pub trait Enum {
     // what its variants are, what their payloads hold, and how they are written and read
     ghost variants: { VariantsOf Self };
 
+    // there are 2 to 256 variants
     ghost sized: { AreSomeVariants (variant_count variants.shapes) };
 
     /// The number of the variant that the value is of. A value in hand is one, as `told` of its fields says.
@@ -56,6 +57,7 @@ pub trait Enum {
 
 /// An enum of `N` variants. It has no functions.
 pub trait EnumOf<const N: usize>: Enum {
+    // there are `N`
     ghost count: { variant_count Self.Enum.variants.shapes ≡ N };
 }
 

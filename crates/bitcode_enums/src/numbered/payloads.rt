@@ -1,5 +1,5 @@
 //! The payloads that values of an enum are made of, by the numbers of the variants.
-ghost use Rattle.std.specs.Prelude.{◌≡◌, ℕ, ◌-◌, ◌<◌, ◌≤◌, Bool, List, [], map, length, IsTrue, IsOk, IfOk, OnOk, IfErr, OnErr};
+ghost use Rattle.std.specs.Prelude.{◌≡◌, ℕ, ◌-◌, ◌<◌, ◌≤◌, Bool, [], map, length, IsTrue, IsOk, IfOk, OnOk, IfErr, OnErr};
 ghost use Rattle.bitcode_columns.specs.declared.error.Reason.{Reason};
 ghost use Rattle.bitcode_columns.specs.Reading.{Reads, IsEndOf};
 ghost use Rattle.bitcode_coder.specs.Coder.{IsReadingRefusal};
@@ -14,6 +14,12 @@ use std::alloc::Global;
 
 /// The data of the payloads of variants of `T` that follow each other, a decoder for each variant: `Decoders2` to `Decoders6`, and
 /// [`Halves`](crate::numbered::halves::Halves) of these.
+///
+/// ```
+/// let mut payloads: DecodersOf2<'_, At<0>, (), u8> = VariantPayloads::<Shot>::new(alloc);
+/// VariantPayloads::<Shot>::populate_payloads(&mut payloads, 1, &mut input, 1)?; // of [7]
+/// let shot: Shot = payloads.decode_payload(1)?; // `Shot::Hit(7)`
+/// ```
 pub trait VariantPayloads<'a, T: Enum> {
     // the number of the first of these variants
     ghost first: { ℕ };

@@ -2,6 +2,10 @@
 ghost use Rattle.std.specs.Prelude.{◌≡◌, ℕ};
 
 /// The number of the first of some variants, as a type: [`At`].
+///
+/// ```
+/// let first = O::first(); // of any `O: Place`
+/// ```
 pub trait Place {
     // the number
     ghost first: { ℕ };

@@ -7,6 +7,7 @@ use bitcode_own_types::event::Event;
 use bitcode_own_types::foo::Foo;
 use bitcode_own_types::generic::{Cache, load};
 use bitcode_own_types::item::Item;
+use bitcode_own_types::keys::lit_spots;
 use bitcode_own_types::message::Message;
 use bitcode_own_types::monster::Monster;
 use bitcode_own_types::never::Never;
@@ -18,6 +19,7 @@ use bitcode_own_types::reply::Reply;
 use bitcode_own_types::saved::saved_and_loaded;
 use bitcode_own_types::scores::Scores;
 use bitcode_own_types::two::Two;
+use std::collections::{BTreeMap, BTreeSet, HashMap};
 
 #[test]
 fn a_player_comes_back(rt: HostRuntime) -> Result<(), Error> {
@@ -153,6 +155,47 @@ fn replies_borrow_their_texts(rt: HostRuntime) -> Result<(), Error> {
     assert!(rt; again == replies);
     let refused: Result<Vec<Reply<'_>>, Error> = decode(alloc, &[1, 8]);
     assert!(rt; matches!(&refused, Err(error) if error.reason == Reason::InvalidPacking));
+    Ok(())
+}
+
+#[test]
+fn replies_hold_sets_and_maps(rt: HostRuntime) -> Result<(), Error> {
+    let alloc = rt.alloc();
+    let mut counts = BTreeMap::new(alloc);
+    counts.insert(7, String::from_str(alloc, "q")?)?;
+    let mut seen = BTreeSet::new(alloc);
+    seen.insert(2)?;
+    seen.insert(1)?;
+    let mut by = HashMap::new(alloc);
+    by.insert(5, String::from_str(alloc, "z")?)?;
+    let replies = vec![in alloc;
+        Reply::Found { by, of: 300 },
+        Reply::Names(vec![in alloc; "x", "y"]?, Some(9)),
+        Reply::Seen(seen),
+        Reply::Counts(counts),
+    ]?;
+    let bytes = encode(alloc, &replies)?;
+    let names = [2, 1, 1, 120, 121, 1, 4, 9];
+    let maps = [1, 4, 7, 1, 113, 2, 2, 1, 2, 1, 5, 0, 1, 122, 4, 44, 1];
+    let (head, rest) = bytes.as_slice().split_at(3);
+    let (front, back) = rest.split_at(8);
+    assert!(rt; head == [4, 38, 52].as_slice());
+    assert!(rt; front == names.as_slice());
+    assert!(rt; back == maps.as_slice());
+    let again: Vec<Reply<'_>> = decode(alloc, bytes.as_slice())?;
+    assert!(rt; again == replies);
+    Ok(())
+}
+
+#[test]
+fn spots_are_keys(rt: HostRuntime) -> Result<(), Error> {
+    let alloc = rt.alloc();
+    // The length, the lights as bits, the lengths of the sets, and the columns of the spots.
+    let written = [2, 2, 1, 1, 4, 1, 2, 4, 3, 4];
+    let lit = lit_spots(alloc, &written)?;
+    assert!(rt; lit.len() == 2);
+    let bytes = encode(alloc, &lit)?;
+    assert!(rt; bytes.as_slice() == written.as_slice());
     Ok(())
 }
 

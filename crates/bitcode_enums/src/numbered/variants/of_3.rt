@@ -1,6 +1,6 @@
 // Written by scripts/tables/variants.
 //! The coders of three variants that follow each other.
-ghost use Rattle.std.specs.Prelude.{◌≡◌, ◌+◌, ◌-◌, ◌≤◌, ◌<◌, ◌&&◌, [], ◌∷◌, true, OnOk, IfErr};
+ghost use Rattle.std.specs.Prelude.{◌≡◌, ◌+◌, ◌-◌, ◌&&◌, [], ◌∷◌, true, OnOk, IfErr};
 ghost use Rattle.bitcode_coder.specs.Columns.{no_columns, emptied};
 ghost use Rattle.bitcode_coder.specs.Coder.{IsWritingRefusal};
 ghost use Rattle.bitcode_enums.specs.Numbered.{columns_at, fault_and, no_faults, KeepsOthers};
@@ -67,7 +67,24 @@ pub enum OneOf3<P1, P2, P3> {
 }
 
 /// An enum that has three variants that follow each other, from the number `O` on. The other type parameters are those of their payloads:
-/// `()` for a variant without fields, the field where it is one, and else the tuple of the fields.
+/// `()` for a variant without fields, the field where it is one, and else the tuple of the fields. Of an enum of two variants:
+///
+/// ```
+/// impl Variants2<At<0>, (), u8> for Shot {
+///     ghost values = { (λ p. Shot.Missed, λ p. Shot.Hit p) };
+///
+///     fn of_payload(payload: OneOf2<(), u8>) -> Self
+///         ensures { result ≡ of_one_of_2 (λ p. Shot.Missed) (λ p. Shot.Hit p) payload }
+///     {
+///         match payload {
+///             OneOf2::First(()) => Shot::Missed,
+///             OneOf2::Second(damage) => Shot::Hit(damage),
+///         }
+///     }
+///
+///     ghost are = { (is_variant refl (λ p. refl) (λ p old new h. h) (λ p old h. h) (λ p old new h. h), is_variant refl (λ p. refl) (λ p old new h. h) (λ p old h. h) (λ p old new h. h)) };
+/// }
+/// ```
 pub trait Variants3<O: Place, P1: Made, P2: Made, P3: Made>: Enum {
     // the value of each of these variants that has a payload
     ghost values: { (P1 → Self) × (P2 → Self) × (P3 → Self) };
@@ -84,6 +101,10 @@ impl<O: Place, E1: Buffer, E2: Buffer, E3: Buffer> Encoders3<O, E1, E2, E3> {
     /// Makes room for the payload of a value of the first of the variants, and joins its columns to those of the variant.
     ///
     /// It refuses as [`WritesVariants::write`] does.
+    ///
+    /// ```
+    /// Order::First(field) => to.encode_first(self, &field),
+    /// ```
     pub fn encode_first<
         P1: Made,
         P2: Made,
@@ -105,6 +126,10 @@ impl<O: Place, E1: Buffer, E2: Buffer, E3: Buffer> Encoders3<O, E1, E2, E3> {
     /// Makes room for the payload of a value of the second of the variants, and joins its columns to those of the variant.
     ///
     /// It refuses as [`WritesVariants::write`] does.
+    ///
+    /// ```
+    /// Order::Second(field) => to.encode_second(self, &field),
+    /// ```
     pub fn encode_second<
         P1: Made,
         P2: Made,
@@ -126,6 +151,10 @@ impl<O: Place, E1: Buffer, E2: Buffer, E3: Buffer> Encoders3<O, E1, E2, E3> {
     /// Makes room for the payload of a value of the third of the variants, and joins its columns to those of the variant.
     ///
     /// It refuses as [`WritesVariants::write`] does.
+    ///
+    /// ```
+    /// Order::Third(field) => to.encode_third(self, &field),
+    /// ```
     pub fn encode_third<
         P1: Made,
         P2: Made,

@@ -1,6 +1,6 @@
 // Written by scripts/tables/variants.
 //! The coders of four variants that follow each other.
-ghost use Rattle.std.specs.Prelude.{◌≡◌, ◌+◌, ◌-◌, ◌≤◌, ◌<◌, ◌&&◌, [], ◌∷◌, true, OnOk, IfErr};
+ghost use Rattle.std.specs.Prelude.{◌≡◌, ◌+◌, ◌-◌, ◌&&◌, [], ◌∷◌, true, OnOk, IfErr};
 ghost use Rattle.bitcode_coder.specs.Columns.{no_columns, emptied};
 ghost use Rattle.bitcode_coder.specs.Coder.{IsWritingRefusal};
 ghost use Rattle.bitcode_enums.specs.Numbered.{columns_at, fault_and, no_faults, KeepsOthers};
@@ -72,7 +72,24 @@ pub enum OneOf4<P1, P2, P3, P4> {
 }
 
 /// An enum that has four variants that follow each other, from the number `O` on. The other type parameters are those of their payloads:
-/// `()` for a variant without fields, the field where it is one, and else the tuple of the fields.
+/// `()` for a variant without fields, the field where it is one, and else the tuple of the fields. Of an enum of two variants:
+///
+/// ```
+/// impl Variants2<At<0>, (), u8> for Shot {
+///     ghost values = { (λ p. Shot.Missed, λ p. Shot.Hit p) };
+///
+///     fn of_payload(payload: OneOf2<(), u8>) -> Self
+///         ensures { result ≡ of_one_of_2 (λ p. Shot.Missed) (λ p. Shot.Hit p) payload }
+///     {
+///         match payload {
+///             OneOf2::First(()) => Shot::Missed,
+///             OneOf2::Second(damage) => Shot::Hit(damage),
+///         }
+///     }
+///
+///     ghost are = { (is_variant refl (λ p. refl) (λ p old new h. h) (λ p old h. h) (λ p old new h. h), is_variant refl (λ p. refl) (λ p old new h. h) (λ p old h. h) (λ p old new h. h)) };
+/// }
+/// ```
 pub trait Variants4<O: Place, P1: Made, P2: Made, P3: Made, P4: Made>: Enum {
     // the value of each of these variants that has a payload
     ghost values: { (P1 → Self) × (P2 → Self) × (P3 → Self) × (P4 → Self) };
@@ -89,6 +106,10 @@ impl<O: Place, E1: Buffer, E2: Buffer, E3: Buffer, E4: Buffer> Encoders4<O, E1, 
     /// Makes room for the payload of a value of the first of the variants, and joins its columns to those of the variant.
     ///
     /// It refuses as [`WritesVariants::write`] does.
+    ///
+    /// ```
+    /// Order::First(field) => to.encode_first(self, &field),
+    /// ```
     pub fn encode_first<
         P1: Made,
         P2: Made,
@@ -111,6 +132,10 @@ impl<O: Place, E1: Buffer, E2: Buffer, E3: Buffer, E4: Buffer> Encoders4<O, E1, 
     /// Makes room for the payload of a value of the second of the variants, and joins its columns to those of the variant.
     ///
     /// It refuses as [`WritesVariants::write`] does.
+    ///
+    /// ```
+    /// Order::Second(field) => to.encode_second(self, &field),
+    /// ```
     pub fn encode_second<
         P1: Made,
         P2: Made,
@@ -133,6 +158,10 @@ impl<O: Place, E1: Buffer, E2: Buffer, E3: Buffer, E4: Buffer> Encoders4<O, E1, 
     /// Makes room for the payload of a value of the third of the variants, and joins its columns to those of the variant.
     ///
     /// It refuses as [`WritesVariants::write`] does.
+    ///
+    /// ```
+    /// Order::Third(field) => to.encode_third(self, &field),
+    /// ```
     pub fn encode_third<
         P1: Made,
         P2: Made,
@@ -155,6 +184,10 @@ impl<O: Place, E1: Buffer, E2: Buffer, E3: Buffer, E4: Buffer> Encoders4<O, E1, 
     /// Makes room for the payload of a value of the fourth of the variants, and joins its columns to those of the variant.
     ///
     /// It refuses as [`WritesVariants::write`] does.
+    ///
+    /// ```
+    /// Order::Fourth(field) => to.encode_fourth(self, &field),
+    /// ```
     pub fn encode_fourth<
         P1: Made,
         P2: Made,

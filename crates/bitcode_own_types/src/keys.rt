@@ -1,0 +1,35 @@
+//! A struct and an enum as keys of sets and maps, by hand: what `==` tells of them, and that as data.
+ghost use Rattle.std.specs.Prelude.{refl};
+ghost use Rattle.bitcode.specs.ByHand.{bares_told, key_as, key_of, naturals_alike, stood_key, stood_payload};
+ghost use Rattle.bitcode_own_types.specs.declared.light.Light.{Light};
+
+use crate::light::Light;
+use crate::spot::Spot;
+use bitcode::{Bare, BareVariants, Error, Key, KeyPayload, Payload, StandsFor, decode};
+use std::alloc::Global;
+use std::collections::{BTreeMap, BTreeSet};
+
+impl KeyPayload for Spot {
+    ghost key = { stood_key ⟦<Spot as StandsFor>⟧.parts ⟦<Spot as StandsFor>⟧.of_parts ⟦<(u32, u32) as KeyPayload>⟧.key };
+}
+
+impl Key for Spot {
+    ghost keyed = { ⟦<Spot as KeyPayload>⟧.key.told };
+}
+
+impl Payload for Light {
+    ghost payload = { stood_payload ⟦<Light as StandsFor>⟧.parts ⟦<Light as StandsFor>⟧.of_parts ⟦<Bare<2, Light> as Payload>⟧.payload };
+}
+
+impl KeyPayload for Light {
+    ghost key = { key_as (key_of ⟦<Light as Payload>⟧.payload (naturals_alike ⟦<Light as BareVariants<2>>⟧.variant) (bares_told _ ⟦<Light as BareVariants<2>>⟧.variant)) ⟦<Light as PartialEq>⟧.eq ⟦<Light as Ord>⟧.cmp (elim [ Light.Red ↦ elim [ Light.Red ↦ refl | Light.Green ↦ refl ] | Light.Green ↦ elim [ Light.Red ↦ refl | Light.Green ↦ refl ] ]) (elim [ Light.Red ↦ elim [ Light.Red ↦ refl | Light.Green ↦ refl ] | Light.Green ↦ elim [ Light.Red ↦ refl | Light.Green ↦ refl ] ]) };
+}
+
+impl Key for Light {
+    ghost keyed = { ⟦<Light as KeyPayload>⟧.key.told };
+}
+
+/// The spots that have each light, as they were written. It refuses as `decode` does.
+pub fn lit_spots(alloc: Global, input: &[u8]) -> Result<BTreeMap<Light, BTreeSet<Spot>>, Error> {
+    decode(alloc, input)
+}

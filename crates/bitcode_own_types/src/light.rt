@@ -1,0 +1,37 @@
+//! `Light` numbers its variants. What is below its declaration was written by `scripts/new_type`.
+ghost use Rattle.std.specs.Prelude.{[], ◌∷◌, refl};
+ghost use Rattle.bitcode_own_types.specs.declared.light.Light.{Light};
+
+use bitcode::{Bare, BareVariants, HasCoders, HeldIn};
+
+/// What a light shows.
+#[derive(Debug, Clone, Copy, PartialEq, Eq, PartialOrd, Ord)]
+pub enum Light {
+    Red,
+    Green,
+}
+
+impl BareVariants<2> for Light {
+    ghost variant = { elim [ Light.Red ↦ 0 | Light.Green ↦ 1 ] };
+
+    ghost values = { Light.Red ∷ Light.Green ∷ [] };
+
+    ghost in_order = { (refl, refl) };
+
+    fn index(&self) -> u8 {
+        *self as u8
+    }
+
+    fn from_index(index: u8) -> Self {
+        match index {
+            0 => Light::Red,
+            _ => Light::Green,
+        }
+    }
+}
+
+impl HeldIn for Light {
+    type Holder = Bare<2, Light>;
+}
+
+impl HasCoders for Light {}
