@@ -114,8 +114,8 @@ def bounds(item, bound, lifetime=None):
 
 
 def parameter(name):
-    """The field's name as that of a parameter: a contract calls what a function gives `result`."""
-    return "result_" if name == "result" else name
+    """The field's name as that of a parameter: a contract calls what a function gives `result`, and what is written has a parameter `to`."""
+    return f"{name}_" if name in ("result", "to") else name
 
 
 def initialized(field):
