@@ -19,7 +19,6 @@ use bitcode_own_types::reply::Reply;
 use bitcode_own_types::saved::saved_and_loaded;
 use bitcode_own_types::scores::Scores;
 use bitcode_own_types::two::Two;
-use std::collections::{BTreeMap, BTreeSet, HashMap};
 
 #[test]
 fn a_player_comes_back(rt: HostRuntime) -> Result<(), Error> {
@@ -143,47 +142,17 @@ fn orders_come_back(rt: HostRuntime) -> Result<(), Error> {
 }
 
 #[test]
-fn replies_borrow_their_texts(rt: HostRuntime) -> Result<(), Error> {
+fn replies_come_back(rt: HostRuntime) -> Result<(), Error> {
     let alloc = rt.alloc();
-    let told = Message { from: 7, text: "c" };
-    let replies = vec![in alloc; Reply::Text("ab"), Reply::Done, Reply::Told(told)]?;
-    let bytes = encode(alloc, &replies)?;
     // The length, the variants in base 16, and then the columns of each variant's payload.
-    let expected = [3, 1, 5, 2, 97, 98, 4, 7, 1, 99];
-    assert!(rt; bytes.as_slice() == expected.as_slice());
-    let again: Vec<Reply<'_>> = decode(alloc, bytes.as_slice())?;
-    assert!(rt; again == replies);
-    let refused: Result<Vec<Reply<'_>>, Error> = decode(alloc, &[1, 8]);
-    assert!(rt; matches!(&refused, Err(error) if error.reason == Reason::InvalidPacking));
-    Ok(())
-}
-
-#[test]
-fn replies_hold_sets_and_maps(rt: HostRuntime) -> Result<(), Error> {
-    let alloc = rt.alloc();
-    let mut counts = BTreeMap::new(alloc);
-    counts.insert(7, String::from_str(alloc, "q")?)?;
-    let mut seen = BTreeSet::new(alloc);
-    seen.insert(2)?;
-    seen.insert(1)?;
-    let mut by = HashMap::new(alloc);
-    by.insert(5, String::from_str(alloc, "z")?)?;
-    let replies = vec![in alloc;
-        Reply::Found { by, of: 300 },
-        Reply::Names(vec![in alloc; "x", "y"]?, Some(9)),
-        Reply::Seen(seen),
-        Reply::Counts(counts),
-    ]?;
+    let written = [
+        7, 1, 101, 66, 3, 2, 97, 98, 2, 1, 1, 120, 121, 1, 4, 9, 1, 4, 7, 1, 113, 2, 2, 1, 2, 4, 7,
+        1, 99, 1, 5, 0, 1, 122, 4, 44, 1,
+    ];
+    let replies: Vec<Reply<'_>> = decode(alloc, &written)?;
+    assert!(rt; replies.len() == 7);
     let bytes = encode(alloc, &replies)?;
-    let names = [2, 1, 1, 120, 121, 1, 4, 9];
-    let maps = [1, 4, 7, 1, 113, 2, 2, 1, 2, 1, 5, 0, 1, 122, 4, 44, 1];
-    let (head, rest) = bytes.as_slice().split_at(3);
-    let (front, back) = rest.split_at(8);
-    assert!(rt; head == [4, 38, 52].as_slice());
-    assert!(rt; front == names.as_slice());
-    assert!(rt; back == maps.as_slice());
-    let again: Vec<Reply<'_>> = decode(alloc, bytes.as_slice())?;
-    assert!(rt; again == replies);
+    assert!(rt; bytes.as_slice() == written.as_slice());
     Ok(())
 }
 
