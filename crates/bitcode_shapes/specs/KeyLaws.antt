@@ -62,9 +62,9 @@ bares_told is_value variant t u h i =
 
 -- ---- what answers as another `==` does
 
-pub told_as : {T : Type 0} {is_value : T → Type 0} {same : T → T → Type 0} {eq eq_of : T → T → Bool} → TellsSame is_value same eq_of
+pub tells_as : {T : Type 0} {is_value : T → Type 0} {same : T → T → Type 0} {eq eq_of : T → T → Bool} → TellsSame is_value same eq_of
     → ((t u : T) → eq t u ≡ eq_of t u) → TellsSame is_value same eq
-told_as told same_eq t u h i =
+tells_as told same_eq t u h i =
     let known = told t u h i in
     (λ s. same_eq t u ∙ known.0 s, λ e. known.1 (sym (same_eq t u) ∙ e))
 

@@ -29,7 +29,7 @@ use crate::no_variants::{Absent, NoVariants};
 ///
 /// ```
 /// impl Payload for Point {
-///     ghost payload = { stood_payload ⟦Point as StandsFor⟧.parts ⟦Point as StandsFor⟧.of_parts ⟦<(u32, u32) as Payload>⟧.payload };
+///     ghost payload = { stood_payload ⟦<Point as StandsFor>⟧.parts ⟦<Point as StandsFor>⟧.of_parts ⟦<(u32, u32) as Payload>⟧.payload };
 /// }
 /// ```
 pub trait Payload {
@@ -40,8 +40,9 @@ pub trait Payload {
 /// the sets and maps of such keys are a `Payload`. It has no functions.
 ///
 /// Every `Key` of this crate that has an order and is a `Payload` is one, if what it holds is. A type of one's own says it by a line of its
-/// own. The `==` and the order that it says are to be those of the type as they are written, and not only in what they answer: else its
-/// sets and maps are not what they say as data. A struct of one or two fields with a derived `Ord` is compared as the tuple of its fields:
+/// own. The `==` and the order that it says have to be those of the type as they are written, and not only in what they answer: else the
+/// check refuses each enum by number that has a set or a map of the type in a field. A struct of one or two fields with a derived `Ord` is
+/// compared as the tuple of its fields:
 ///
 /// ```
 /// impl KeyPayload for Point {

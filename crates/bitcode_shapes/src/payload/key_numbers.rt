@@ -1,5 +1,5 @@
 // Written by scripts/tables/payloads.
-//! Integers and chars say what they promise as keys as data.
+//! What integers and chars promise as keys, as data.
 ghost use Rattle.bitcode_shapes.specs.KeyOf.{key_of};
 ghost use Rattle.bitcode_shapes.specs.CompareAlike.{naturals_alike, integers_alike};
 ghost use Rattle.bitcode_shapes.specs.KeyLaws.{naturals_told, integers_told};

@@ -1,5 +1,5 @@
 // Written by scripts/tables/payloads.
-//! Lists, heaps, arrays and what has a fixed capacity say their laws as data.
+//! The laws of lists, heaps, arrays and what has a fixed capacity, as data.
 ghost use Rattle.bitcode_shapes.specs.PayloadOf.{payload_of};
 ghost use Rattle.std.specs.Prelude.{None, Some};
 ghost use Rattle.std.specs.BinaryHeap.{heap_items};

@@ -1,5 +1,5 @@
 // Written by scripts/tables/payloads.
-//! Numbers, chars, times and UUIDs say their laws as data.
+//! The laws of numbers, chars, times and UUIDs, as data.
 ghost use Rattle.bitcode_shapes.specs.PayloadOf.{payload_of};
 ghost use Rattle.std.specs.Prelude.{true, false, ℤ, pos, refl};
 ghost use Rattle.bitcode_shapes.specs.LawfulDurations.{duration_lawful, duration_makeable};

@@ -1,5 +1,5 @@
 // Written by scripts/tables/payloads.
-//! Options, results, nothing, markers and pointers say their laws as data.
+//! The laws of options, results, nothing, markers and pointers, as data.
 ghost use Rattle.bitcode_shapes.specs.PayloadOf.{payload_of};
 ghost use Rattle.std.specs.Prelude.{None};
 ghost use Rattle.std.specs.Box.{box_value, boxed_slice_items};

@@ -1,5 +1,5 @@
 // Written by scripts/tables/payloads.
-//! Texts say their laws as data.
+//! The laws of texts, as data.
 ghost use Rattle.bitcode_shapes.specs.PayloadOf.{payload_of};
 ghost use Rattle.std.specs.Box.{boxed_str_bytes};
 ghost use Rattle.std.specs.Rc.{rc_str_bytes};

@@ -1,5 +1,5 @@
 // Written by scripts/tables/payloads.
-//! Tuples of one to eight fields say their laws as data.
+//! The laws of tuples of one to eight fields, as data.
 ghost use Rattle.bitcode_shapes.specs.PayloadOf.{payload_of};
 ghost use Rattle.std.specs.Prelude.{refl};
 ghost use Rattle.bitcode_shapes.specs.SameArrays.{image_same_arrays, pair_same_arrays, struct_same_arrays};
