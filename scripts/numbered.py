@@ -30,7 +30,7 @@ ghost use Rattle.$crate.specs.declared.$module.$ghost.{$ghost};
 $uses
 $declaration
 impl$life Enum for $name {
-    ghost variants = { each_variant ($payloads_of) (λ at. elim [ $payload ]) $values };
+    ghost each = { each_variant ($payloads_of) (λ at. elim [ $payload ]) $values };
 
     ghost sized = { refl };
 

@@ -3,7 +3,7 @@ use Rattle.std.proofs.Common.{◌≡◌, ℕ, zero, suc}
 use Rattle.bitcode_shapes.specs.PayloadOf.{PayloadOf}
 use Rattle.bitcode_enums.specs.declared.variants.FirstOr.{FirstOr}
 use Rattle.bitcode_enums.specs.declared.variants.Last.{Last}
-use Rattle.bitcode_enums.specs.VariantsOf.{VariantsOf, first_variant, last_variant, variants_of}
+use Rattle.bitcode_enums.specs.VariantsOf.{VariantsOf, VariantLaws, first_variant_laws, first_variant, last_variant_laws, last_variant, laws_of, variants_of}
 
 -- the payloads of several variants, that of the first one first
 pub data Payloads : Type 1 where
@@ -32,17 +32,33 @@ abbrev pub variants_with : (payloads : Payloads) → VariantsOf (SomePayload pay
 variants_with (last_payload a) = last_variant a
 variants_with (payload_and a rest) = first_variant a (variants_with rest)
 
+pub laws_with : (payloads : Payloads) → VariantLaws (variants_with payloads)
+laws_with (last_payload a) = last_variant_laws a
+laws_with (payload_and a rest) = first_variant_laws a (variants_with rest) (laws_with rest)
+
+-- ---- an enum whose values stand for such payloads
+
 -- which value has a payload: of each variant a function of its payloads
 abbrev pub HasEach : {T V : Type 0} → (T → V) → (payloads : Payloads) → (SomePayload payloads → V) → Type 0
 HasEach {T = T} payload (last_payload {A} a) within = (p : A) → (t : T) × (payload t ≡ within (record { 0 = p }))
 HasEach {T = T} payload (payload_and {A} a rest) within = ((p : A) → (t : T) × (payload t ≡ within (FirstOr.First p))) × HasEach payload rest (λ r. within (FirstOr.Rest r))
 
-abbrev pub value_of : {T V : Type 0} (payload : T → V) (payloads : Payloads) (within : SomePayload payloads → V) → HasEach payload payloads within → (p : SomePayload payloads) → (t : T) × (payload t ≡ within p)
+value_of : {T V : Type 0} (payload : T → V) (payloads : Payloads) (within : SomePayload payloads → V) → HasEach payload payloads within → (p : SomePayload payloads) → (t : T) × (payload t ≡ within p)
 value_of payload (last_payload a) within each p = each p.0
 value_of payload (payload_and a rest) within each (FirstOr.First p) = each.0 p
 value_of payload (payload_and a rest) within each (FirstOr.Rest r) = value_of payload rest (λ s. within (FirstOr.Rest s)) each.1 r
 
+-- these are not unfolded: the laws of two enums are compared by what they are of
+pub each_laws : {T : Type 0} (payloads : Payloads) (payload : T → SomePayload payloads) → HasEach payload payloads (λ p. p) → VariantLaws (variants_of (variants_with payloads) payload)
+each_laws payloads payload each = laws_of (variants_with payloads) payload (value_of payload payloads (λ p. p) each) (laws_with payloads)
+
+pub record EachVariant (T : Type 0) : Type 1 where
+  pub variants : VariantsOf T
+  pub laws : VariantLaws variants
+
 abbrev pub each_variant : {T : Type 0} (payloads : Payloads) (payload : ((number : ℕ) → PayloadAt payloads number → SomePayload payloads) → T → SomePayload payloads)
-    → HasEach (payload (payload_at payloads)) payloads (λ p. p) → VariantsOf T
-each_variant payloads payload each =
-    variants_of (variants_with payloads) (payload (payload_at payloads)) (value_of (payload (payload_at payloads)) payloads (λ p. p) each)
+    → HasEach (payload (payload_at payloads)) payloads (λ p. p) → EachVariant T
+each_variant payloads payload each = record {
+  variants = variants_of (variants_with payloads) (payload (payload_at payloads));
+  laws = each_laws payloads (payload (payload_at payloads)) each;
+}

@@ -29,7 +29,7 @@ abbrev payloads : Payloads
 payloads = payload_and nothing (payload_and byte (last_payload byte))
 
 abbrev shots : VariantsOf Shot
-shots = each_variant payloads (λ at. elim [ missed ↦ at 0 tt | hit a ↦ at 1 a | fell a ↦ at 2 a ]) ((λ p. (missed, refl)), ((λ p. (hit p, refl)), λ p. (fell p, refl)))
+shots = (each_variant payloads (λ at. elim [ missed ↦ at 0 tt | hit a ↦ at 1 a | fell a ↦ at 2 a ]) ((λ p. (missed, refl)), ((λ p. (hit p, refl)), λ p. (fell p, refl)))).variants
 
 -- ---- the numbers of the variants, and the shapes of their payloads
 

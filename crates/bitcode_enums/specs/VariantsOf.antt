@@ -1,5 +1,5 @@
--- What an enum says of its variants: of the last one, of the first beside the rest, of a type whose values stand for payloads, and of
--- the variant of a number.
+-- What is said of the values of several variants, and what is promised of that: of the last variant, of the first beside the rest, and of
+-- a type whose values stand for payloads. And what is said of the variant of a number.
 use Rattle.std.proofs.Common.{◌≡◌, ℕ, ◌<◌, Bool, refl}
 use Rattle.std.specs.Prelude.{◌&&◌, List}
 use Rattle.bitcode_shapes.specs.Datum.{Datum}
@@ -33,13 +33,18 @@ pub record VariantsOf (T : Type 0) : Type 1 where
   pub overflows : T → Columns → Type 0
   -- the payload was taken from the data of its variant
   pub takes : T → List Datum → List Datum → Type 0
-  pub below : (t : T) → index t < variant_count shapes
-  pub lawful : LawfulVariants shapes is_value lists same in_order
-  pub makeable : MakeableVariants shapes is_value lists same makes
-  pub same_arrays : VariantsListSameArrays shapes is_value lists
-  pub joined : (t : T) (old new : Columns) → joins t old new → JoinsListing (λ u d. lists u (index u) d) (shape_at (index t) shapes) t old new
-  pub overflowed : (t : T) (old : Columns) → overflows t old → OverflowsWithListing (λ u d. lists u (index u) d) (shape_at (index t) shapes) t old
-  pub taken : (t : T) (old new : List Datum) → takes t old new → TakesDatum (λ d u. makes (index t) d u) t old new
+
+-- what is promised of them
+pub record VariantLaws {T : Type 0} (vs : VariantsOf T) : Type 0 where
+  pub below : (t : T) → vs.index t < variant_count vs.shapes
+  pub lawful : LawfulVariants vs.shapes vs.is_value vs.lists vs.same vs.in_order
+  pub makeable : MakeableVariants vs.shapes vs.is_value vs.lists vs.same vs.makes
+  pub same_arrays : VariantsListSameArrays vs.shapes vs.is_value vs.lists
+  pub joined : (t : T) (old new : Columns) → vs.joins t old new → JoinsListing (λ u d. vs.lists u (vs.index u) d) (shape_at (vs.index t) vs.shapes) t old new
+  pub overflowed : (t : T) (old : Columns) → vs.overflows t old → OverflowsWithListing (λ u d. vs.lists u (vs.index u) d) (shape_at (vs.index t) vs.shapes) t old
+  pub taken : (t : T) (old new : List Datum) → vs.takes t old new → TakesDatum (λ d u. vs.makes (vs.index t) d u) t old new
+
+-- ---- the last variant
 
 abbrev pub last_variant : {A : Type 0} → PayloadOf A → VariantsOf (Last A)
 last_variant a = record {
@@ -53,6 +58,10 @@ last_variant a = record {
   joins = λ v. JoinsListing a.lists a.shape v.0;
   overflows = λ v. OverflowsWithListing a.lists a.shape v.0;
   takes = λ v. TakesDatum a.makes v.0;
+}
+
+pub last_variant_laws : {A : Type 0} (a : PayloadOf A) → VariantLaws (last_variant a)
+last_variant_laws a = record {
   below = λ v. below_last a.shape;
   lawful = variants_image_lawful (λ v. v.0) (last_lawful a.lawful);
   makeable = variants_image_makeable (λ v. v.0) (λ p. (record { 0 = p }, refl)) (last_makeable a.makeable);
@@ -61,6 +70,8 @@ last_variant a = record {
   overflowed = last_overflowed (λ v. v.0);
   taken = last_taken (λ v. v.0) a.makes;
 }
+
+-- ---- the first variant, or one of the rest
 
 abbrev pub first_variant : {A R : Type 0} → PayloadOf A → VariantsOf R → VariantsOf (FirstOr A R)
 first_variant a r = record {
@@ -74,18 +85,23 @@ first_variant a r = record {
   joins = λ v. joins_either (λ p. JoinsListing a.lists a.shape p) r.joins (first_or v);
   overflows = λ v. overflows_either (λ p. OverflowsWithListing a.lists a.shape p) r.overflows (first_or v);
   takes = λ v. takes_either (λ p. TakesDatum a.makes p) r.takes (first_or v);
-  below = λ v. below_first_or a.shape r.shapes r.index r.below (first_or v);
-  lawful = variants_image_lawful first_or (first_lawful a.lawful r.lawful);
-  makeable = variants_image_makeable first_or first_or_found (first_makeable a.makeable r.makeable);
-  same_arrays = variants_image_same_arrays first_or (first_same_arrays a.same_arrays r.same_arrays);
-  joined = first_or_joined first_or a.shape r.shapes a.lists r.lists r.index r.joins r.joined;
-  overflowed = first_or_overflowed first_or a.shape r.shapes a.lists r.lists r.index r.overflows r.overflowed;
-  taken = first_or_taken first_or r.index a.makes r.makes r.takes r.taken;
 }
 
--- a type whose values stand for such payloads, one for one
-abbrev pub variants_of : {T V : Type 0} → VariantsOf V → (payload : T → V) → ((v : V) → (t : T) × (payload t ≡ v)) → VariantsOf T
-variants_of v payload find = record {
+pub first_variant_laws : {A R : Type 0} (a : PayloadOf A) (r : VariantsOf R) → VariantLaws r → VariantLaws (first_variant a r)
+first_variant_laws a r laws = record {
+  below = λ v. below_first_or a.shape r.shapes r.index laws.below (first_or v);
+  lawful = variants_image_lawful first_or (first_lawful a.lawful laws.lawful);
+  makeable = variants_image_makeable first_or first_or_found (first_makeable a.makeable laws.makeable);
+  same_arrays = variants_image_same_arrays first_or (first_same_arrays a.same_arrays laws.same_arrays);
+  joined = first_or_joined first_or a.shape r.shapes a.lists r.lists r.index r.joins laws.joined;
+  overflowed = first_or_overflowed first_or a.shape r.shapes a.lists r.lists r.index r.overflows laws.overflowed;
+  taken = first_or_taken first_or r.index a.makes r.makes r.takes laws.taken;
+}
+
+-- ---- a type whose values stand for such payloads, one for one
+
+abbrev pub variants_of : {T V : Type 0} → VariantsOf V → (payload : T → V) → VariantsOf T
+variants_of v payload = record {
   shapes = v.shapes;
   is_value = λ t. v.is_value (payload t);
   lists = λ t i d. v.lists (payload t) i d;
@@ -96,14 +112,20 @@ variants_of v payload find = record {
   joins = λ t. v.joins (payload t);
   overflows = λ t. v.overflows (payload t);
   takes = λ t. v.takes (payload t);
-  below = λ t. v.below (payload t);
-  lawful = variants_image_lawful payload v.lawful;
-  makeable = variants_image_makeable payload find v.makeable;
-  same_arrays = variants_image_same_arrays payload v.same_arrays;
-  joined = λ t old new h. image_joined payload v.index v.lists t (v.joined (payload t) old new h);
-  overflowed = λ t old h. image_overflowed payload v.index v.lists t (v.overflowed (payload t) old h);
-  taken = λ t old new h. image_taken payload v.makes t (v.taken (payload t) old new h);
 }
+
+pub laws_of : {T V : Type 0} (v : VariantsOf V) (payload : T → V) → ((p : V) → (t : T) × (payload t ≡ p)) → VariantLaws v → VariantLaws (variants_of v payload)
+laws_of v payload find laws = record {
+  below = λ t. laws.below (payload t);
+  lawful = variants_image_lawful payload laws.lawful;
+  makeable = variants_image_makeable payload find laws.makeable;
+  same_arrays = variants_image_same_arrays payload laws.same_arrays;
+  joined = λ t old new h. image_joined payload v.index v.lists t (laws.joined (payload t) old new h);
+  overflowed = λ t old h. image_overflowed payload v.index v.lists t (laws.overflowed (payload t) old h);
+  taken = λ t old new h. image_taken payload v.makes t (laws.taken (payload t) old new h);
+}
+
+-- ---- the variant of a number
 
 -- the variant of a number has payloads of such a shape; `value` is its value with a payload, and what is said of the payload is said of that
 pub record IsVariant {T P : Type 0} (vs : VariantsOf T) (number : ℕ) (shape : Shape) (lists : P → Datum → Type 0) (makes : Datum → P → Type 0) (value : P → T) : Type 0 where

@@ -23,7 +23,7 @@ pub enum Order {
 }
 
 impl Enum for Order {
-    ghost variants = { each_variant (payload_and ⟦<() as Payload>⟧.payload (payload_and ⟦<(u64, String) as Payload>⟧.payload (payload_and ⟦<(u64, u16) as Payload>⟧.payload (payload_and ⟦<Option<String> as Payload>⟧.payload (payload_and ⟦<(u32, Vec<u16>) as Payload>⟧.payload (last_payload ⟦<() as Payload>⟧.payload)))))) (λ at. elim [ Order.Open ↦ at 0 tt | Order.Add a b ↦ at 1 (a, b) | Order.Remove a b ↦ at 2 (a, b) | Order.Note a ↦ at 3 a | Order.Pay a b ↦ at 4 (a, b) | Order.Cancel ↦ at 5 tt ]) ((λ p. (Order.Open, refl)), ((λ p. (Order.Add p.0 p.1, refl)), ((λ p. (Order.Remove p.0 p.1, refl)), ((λ p. (Order.Note p, refl)), ((λ p. (Order.Pay p.0 p.1, refl)), λ p. (Order.Cancel, refl)))))) };
+    ghost each = { each_variant (payload_and ⟦<() as Payload>⟧.payload (payload_and ⟦<(u64, String) as Payload>⟧.payload (payload_and ⟦<(u64, u16) as Payload>⟧.payload (payload_and ⟦<Option<String> as Payload>⟧.payload (payload_and ⟦<(u32, Vec<u16>) as Payload>⟧.payload (last_payload ⟦<() as Payload>⟧.payload)))))) (λ at. elim [ Order.Open ↦ at 0 tt | Order.Add a b ↦ at 1 (a, b) | Order.Remove a b ↦ at 2 (a, b) | Order.Note a ↦ at 3 a | Order.Pay a b ↦ at 4 (a, b) | Order.Cancel ↦ at 5 tt ]) ((λ p. (Order.Open, refl)), ((λ p. (Order.Add p.0 p.1, refl)), ((λ p. (Order.Remove p.0 p.1, refl)), ((λ p. (Order.Note p, refl)), ((λ p. (Order.Pay p.0 p.1, refl)), λ p. (Order.Cancel, refl)))))) };
 
     ghost sized = { refl };
 

@@ -30,7 +30,7 @@ pub struct NumberedDecoder<'a, const N: usize, T, D> {
 
 impl<'a, const N: usize, T: EnumOf<N>, D: AllPayloads<'a, N, T>> HoldsData
     for NumberedDecoder<'a, N, T, D> {
-    ghost shape = { choice_shape T.variants.shapes };
+    ghost shape = { choice_shape T.each.variants.shapes };
 
     ghost held = { λ d. choices_of (variants_left d.variants) (D.held.lists d.payloads) };
 
@@ -39,7 +39,7 @@ impl<'a, const N: usize, T: EnumOf<N>, D: AllPayloads<'a, N, T>> HoldsData
 
 impl<'a, const N: usize, T: EnumOf<N>, D: AllPayloads<'a, N, T>> View<'a>
     for NumberedDecoder<'a, N, T, D> {
-    ghost faults = { VariantsFault N (PayloadsFault T.variants.shapes D.held.faults) };
+    ghost faults = { VariantsFault N (PayloadsFault T.each.variants.shapes D.held.faults) };
 
     fn new(alloc: Global) -> Self {
         NumberedDecoder {

@@ -68,7 +68,7 @@ impl<const N: usize, C: AllColumns<N>> Buffer for NumberedColumns<N, C> {
 
 impl<const N: usize, C: AllColumns<N>, T: WritesPayloads<N, C>> PayloadColumns<Held<N, T>>
     for NumberedColumns<N, C> {
-    ghost of_shapes = { λ e. each_has_payloads T.variants.shapes (C.held.lists e.columns) (T.of_shapes e.columns) };
+    ghost of_shapes = { λ e. each_has_payloads T.each.variants.shapes (C.held.lists e.columns) (T.of_shapes e.columns) };
 }
 
 impl<const N: usize, C: AllColumns<N>> NumberedColumns<N, C> {
@@ -76,9 +76,9 @@ impl<const N: usize, C: AllColumns<N>> NumberedColumns<N, C> {
     ///
     /// It refuses as [`WritesPayloads::write_payload`] does.
     pub fn encode_payload<T: WritesPayloads<N, C>>(&mut self, t: &T) -> Result<(), Error>
-        ensures joined { OnOk result (JoinsVariant T.variants.index T.variants.lists T.variants.shapes t.now (all_columns (C.held.lists self.old.columns)) (all_columns (C.held.lists self.new.columns))) }
+        ensures joined { OnOk result (JoinsVariant T.each.variants.index T.each.variants.lists T.each.variants.shapes t.now (all_columns (C.held.lists self.old.columns)) (all_columns (C.held.lists self.new.columns))) }
         ensures form { emptied (all_columns (C.held.lists self.new.columns)) ≡ emptied (all_columns (C.held.lists self.old.columns)) }
-        ensures refused { IfErr result (λ e. IsWritingRefusal e.reason (OverflowsWithVariant T.variants.index T.variants.lists T.variants.shapes t.now (all_columns (C.held.lists self.old.columns)))) }
+        ensures refused { IfErr result (λ e. IsWritingRefusal e.reason (OverflowsWithVariant T.each.variants.index T.each.variants.lists T.each.variants.shapes t.now (all_columns (C.held.lists self.old.columns)))) }
     {
         t.write_payload(&mut self.columns)
     }

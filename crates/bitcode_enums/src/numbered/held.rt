@@ -8,7 +8,7 @@ ghost use Rattle.bitcode_shapes.specs.PayloadOf.{payload_of};
 ghost use Rattle.bitcode_shapes.specs.SameArrays.{choice_same_arrays, image_same_arrays};
 ghost use Rattle.bitcode_shapes.specs.Shape.{variant_count, choice_shape};
 ghost use Rattle.bitcode_enums.specs.LawfulVariants.{some_choices_lawful, variants_image_lawful, held_lists};
-ghost use Rattle.bitcode_enums.specs.VariantsOf.{VariantsOf};
+ghost use Rattle.bitcode_enums.specs.EachVariant.{EachVariant};
 
 use crate::choice::HoldsPayload;
 use crate::variants::ShapedVariants;
@@ -22,7 +22,7 @@ use bitcode_tuples::fields::Fields;
 ///
 /// ```
 /// impl Enum for Shot {
-///     ghost variants = { each_variant (payload_and ⟦<() as Payload>⟧.payload (last_payload ⟦<u8 as Payload>⟧.payload)) (λ at. elim [ Shot.Missed ↦ at 0 tt | Shot.Hit a ↦ at 1 a ]) ((λ p. (Shot.Missed, refl)), λ p. (Shot.Hit p, refl)) };
+///     ghost each = { each_variant (payload_and ⟦<() as Payload>⟧.payload (last_payload ⟦<u8 as Payload>⟧.payload)) (λ at. elim [ Shot.Missed ↦ at 0 tt | Shot.Hit a ↦ at 1 a ]) ((λ p. (Shot.Missed, refl)), λ p. (Shot.Hit p, refl)) };
 ///
 ///     ghost sized = { refl };
 ///
@@ -43,22 +43,22 @@ use bitcode_tuples::fields::Fields;
 /// }
 /// ```
 pub trait Enum {
-    // what its variants are, what their payloads hold, and how they are written and read
-    ghost variants: { VariantsOf Self };
+    // what its variants are, what their payloads hold, how they are written and read, and what is promised of that
+    ghost each: { EachVariant Self };
 
     // there are 2 to 256 variants
-    ghost sized: { AreSomeVariants (variant_count variants.shapes) };
+    ghost sized: { AreSomeVariants (variant_count each.variants.shapes) };
 
     /// The number of the variant that the value is of. A value in hand is one, as `told` of its fields says.
     fn variant(&self) -> u8
-        ensures number { result ≡ variants.index self.now }
-        ensures value { variants.is_value self.now };
+        ensures number { result ≡ each.variants.index self.now }
+        ensures value { each.variants.is_value self.now };
 }
 
 /// An enum of `N` variants. It has no functions.
 pub trait EnumOf<const N: usize>: Enum {
     // there are `N`
-    ghost count: { variant_count Self.Enum.variants.shapes ≡ N };
+    ghost count: { variant_count Self.Enum.each.variants.shapes ≡ N };
 }
 
 /// A number, of a variant whose fields are values.
@@ -107,49 +107,49 @@ impl<const N: usize, T: Enum> Holds<T> for Held<N, T> {
 }
 
 impl<const N: usize, T: Enum> Shaped for Held<N, T> {
-    ghost shape = { choice_shape T.variants.shapes };
+    ghost shape = { choice_shape T.each.variants.shapes };
 
-    ghost is_value = { λ h. T.variants.is_value h.value };
+    ghost is_value = { λ h. T.each.variants.is_value h.value };
 
-    ghost lists = { λ h d. ListsChoice T.variants.lists h.value d };
+    ghost lists = { λ h d. ListsChoice T.each.variants.lists h.value d };
 
-    ghost same = { λ h g. T.variants.same h.value g.value };
+    ghost same = { λ h g. T.each.variants.same h.value g.value };
 
-    ghost in_order = { T.variants.in_order };
+    ghost in_order = { T.each.variants.in_order };
 
     fn told(&self) {
         let _number = self.value.variant();
     }
 
-    ghost lawful = { image_lawful (λ h. h.value) (some_choices_lawful refl T.sized T.variants.lawful) };
+    ghost lawful = { image_lawful (λ h. h.value) (some_choices_lawful refl T.sized T.each.laws.lawful) };
 }
 
 impl<const N: usize, T: Enum> Made for Held<N, T> {
-    ghost makes = { λ d h. MakesChoice T.variants.makes d h.value };
+    ghost makes = { λ d h. MakesChoice T.each.variants.makes d h.value };
 
-    ghost makeable = { image_makeable (λ h. h.value) (λ g t h. (record { value = t }, refl)) (choice_makeable T.variants.makeable) };
+    ghost makeable = { image_makeable (λ h. h.value) (λ g t h. (record { value = t }, refl)) (choice_makeable T.each.laws.makeable) };
 }
 
 impl<const N: usize, T: Enum> ShapedVariants for Held<N, T> {
-    ghost shapes = { T.variants.shapes };
+    ghost shapes = { T.each.variants.shapes };
 
-    ghost is_value = { λ h. T.variants.is_value h.value };
+    ghost is_value = { λ h. T.each.variants.is_value h.value };
 
-    ghost lists = { λ h i d. T.variants.lists h.value i d };
+    ghost lists = { λ h i d. T.each.variants.lists h.value i d };
 
-    ghost same = { λ h g. T.variants.same h.value g.value };
+    ghost same = { λ h g. T.each.variants.same h.value g.value };
 
-    ghost in_order = { T.variants.in_order };
+    ghost in_order = { T.each.variants.in_order };
 
-    ghost index = { λ h. T.variants.index h.value };
+    ghost index = { λ h. T.each.variants.index h.value };
 
     fn told(&self) {
         let _number = self.value.variant();
     }
 
-    ghost lawful = { variants_image_lawful (λ h. h.value) T.variants.lawful };
+    ghost lawful = { variants_image_lawful (λ h. h.value) T.each.laws.lawful };
 
-    ghost below = { λ h. T.variants.below h.value };
+    ghost below = { λ h. T.each.laws.below h.value };
 }
 
 impl<const N: usize, T: EnumOf<N>> HoldsPayload<N> for Held<N, T> {
@@ -161,13 +161,13 @@ impl<const N: usize, T: EnumOf<N>> HoldsPayload<N> for Held<N, T> {
 
     ghost has_shape = { refl };
 
-    ghost lists_payload = { held_lists (λ h. h.value) T.variants.lists };
+    ghost lists_payload = { held_lists (λ h. h.value) T.each.variants.lists };
 }
 
 impl<const N: usize, T: Enum> SameArrays for Held<N, T> {
-    ghost same_arrays = { image_same_arrays (λ h. h.value) (choice_same_arrays T.variants.same_arrays) };
+    ghost same_arrays = { image_same_arrays (λ h. h.value) (choice_same_arrays T.each.laws.same_arrays) };
 }
 
 impl<const N: usize, T: Enum> Payload for Held<N, T> {
-    ghost payload = { payload_of (image_lawful (λ h. h.value) (some_choices_lawful refl T.sized T.variants.lawful)) (image_makeable (λ h. h.value) (λ g t h. (record { value = t }, refl)) (choice_makeable T.variants.makeable)) (image_same_arrays (λ h. h.value) (choice_same_arrays T.variants.same_arrays)) };
+    ghost payload = { payload_of (image_lawful (λ h. h.value) (some_choices_lawful refl T.sized T.each.laws.lawful)) (image_makeable (λ h. h.value) (λ g t h. (record { value = t }, refl)) (choice_makeable T.each.laws.makeable)) (image_same_arrays (λ h. h.value) (choice_same_arrays T.each.laws.same_arrays)) };
 }

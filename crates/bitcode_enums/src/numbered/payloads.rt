@@ -52,8 +52,8 @@ pub trait VariantPayloads<'a, T: Enum> {
         requires turn { IsTrue in_turn }
         requires known { (first ≤ number) × (number < end) }
         ensures others { KeepsOthers [] (number - first) (held.lists self.old) (held.lists self.new) }
-        ensures read { OnOk result (Reads (Spells (shape_at number T.variants.shapes)) k input.old.now (payloads_of (number - first) (held.lists self.new)) input.new.now) }
-        ensures refused { IfErr result (λ e. IsReadingRefusal (shape_at number T.variants.shapes) e.reason k input.old.now) }
+        ensures read { OnOk result (Reads (Spells (shape_at number T.each.variants.shapes)) k input.old.now (payloads_of (number - first) (held.lists self.new)) input.new.now) }
+        ensures refused { IfErr result (λ e. IsReadingRefusal (shape_at number T.each.variants.shapes) e.reason k input.old.now) }
         ensures exact { IfErr result (λ e. held.faults number e.reason k input.old.now) }
         ensures rest { OnErr result (IsEndOf input.old.now input.new.now) };
 
@@ -65,8 +65,8 @@ pub trait VariantPayloads<'a, T: Enum> {
         requires known { (first ≤ number) × (number < end) }
         requires left { 0 < length (payloads_of (number - first) (held.lists self.old)) }
         ensures others { IsOk result → KeepsOthers [] (number - first) (held.lists self.old) (held.lists self.new) }
-        ensures number { IfOk result (λ t. T.variants.index t ≡ number) }
-        ensures made { IfOk result (λ t. T.variants.takes t (payloads_of (number - first) (held.lists self.old)) (payloads_of (number - first) (held.lists self.new))) }
+        ensures number { IfOk result (λ t. T.each.variants.index t ≡ number) }
+        ensures made { IfOk result (λ t. T.each.variants.takes t (payloads_of (number - first) (held.lists self.old)) (payloads_of (number - first) (held.lists self.new))) }
         ensures refused { IfErr result (λ e. e.reason ≡ Reason.OutOfMemory) }
         ensures free { IsTrue held.makes_free → IsOk result };
 
@@ -120,8 +120,8 @@ pub trait AllPayloads<'a, const N: usize, T: EnumOf<N>> {
     fn populate_at(&mut self, number: usize, input: &mut &'a [u8], k: usize) -> Result<(), Error>
         requires { number < N }
         ensures others { KeepsOthers [] number (held.lists self.old) (held.lists self.new) }
-        ensures read { OnOk result (Reads (Spells (shape_at number T.variants.shapes)) k input.old.now (payloads_of number (held.lists self.new)) input.new.now) }
-        ensures refused { IfErr result (λ e. IsReadingRefusal (shape_at number T.variants.shapes) e.reason k input.old.now) }
+        ensures read { OnOk result (Reads (Spells (shape_at number T.each.variants.shapes)) k input.old.now (payloads_of number (held.lists self.new)) input.new.now) }
+        ensures refused { IfErr result (λ e. IsReadingRefusal (shape_at number T.each.variants.shapes) e.reason k input.old.now) }
         ensures exact { IfErr result (λ e. held.faults number e.reason k input.old.now) }
         ensures rest { OnErr result (IsEndOf input.old.now input.new.now) };
 
@@ -132,8 +132,8 @@ pub trait AllPayloads<'a, const N: usize, T: EnumOf<N>> {
         requires known { number < N }
         requires left { 0 < length (payloads_of number (held.lists self.old)) }
         ensures others { IsOk result → KeepsOthers [] number (held.lists self.old) (held.lists self.new) }
-        ensures number { IfOk result (λ t. T.variants.index t ≡ number) }
-        ensures made { IfOk result (λ t. T.variants.takes t (payloads_of number (held.lists self.old)) (payloads_of number (held.lists self.new))) }
+        ensures number { IfOk result (λ t. T.each.variants.index t ≡ number) }
+        ensures made { IfOk result (λ t. T.each.variants.takes t (payloads_of number (held.lists self.old)) (payloads_of number (held.lists self.new))) }
         ensures refused { IfErr result (λ e. e.reason ≡ Reason.OutOfMemory) }
         ensures free { IsTrue held.makes_free → IsOk result };
 

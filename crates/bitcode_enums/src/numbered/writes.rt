@@ -57,5 +57,5 @@ pub trait WritesPayloads<const N: usize, C: AllColumns<N>>: EnumOf<N> {
         ensures refused { IfErr result (λ e. IsWritingRefusal e.reason (Self.variants.overflows self.now (columns_at (Self.variants.index self.now) (C.held.lists to.old)))) };
 
     // without entries they are the columns of what the payloads have
-    ghost of_shapes: { (c : C) → map emptied (C.held.lists c) ≡ bare_columns Self.Enum.variants.shapes };
+    ghost of_shapes: { (c : C) → map emptied (C.held.lists c) ≡ bare_columns Self.Enum.each.variants.shapes };
 }

@@ -104,7 +104,7 @@ pub trait Variants5<O: Place, P1: Made, P2: Made, P3: Made, P4: Made, P5: Made>:
         ensures { result ≡ of_one_of_5 values.0 values.1 values.2 values.3 values.4 payload };
 
     // these are the variants of the numbers from `O` on
-    ghost are: { IsVariant Self.Enum.variants O.first P1.shape P1.lists P1.makes values.0 × IsVariant Self.Enum.variants (O.first + 1) P2.shape P2.lists P2.makes values.1 × IsVariant Self.Enum.variants (O.first + 2) P3.shape P3.lists P3.makes values.2 × IsVariant Self.Enum.variants (O.first + 3) P4.shape P4.lists P4.makes values.3 × IsVariant Self.Enum.variants (O.first + 4) P5.shape P5.lists P5.makes values.4 };
+    ghost are: { IsVariant Self.Enum.each.variants O.first P1.shape P1.lists P1.makes values.0 × IsVariant Self.Enum.each.variants (O.first + 1) P2.shape P2.lists P2.makes values.1 × IsVariant Self.Enum.each.variants (O.first + 2) P3.shape P3.lists P3.makes values.2 × IsVariant Self.Enum.each.variants (O.first + 3) P4.shape P4.lists P4.makes values.3 × IsVariant Self.Enum.each.variants (O.first + 4) P5.shape P5.lists P5.makes values.4 };
 }
 
 impl<O: Place, E1: Buffer, E2: Buffer, E3: Buffer, E4: Buffer, E5: Buffer> Encoders5<
@@ -134,10 +134,10 @@ impl<O: Place, E1: Buffer, E2: Buffer, E3: Buffer, E4: Buffer, E5: Buffer> Encod
     where
         E1: Encoder<P1> + FieldsEncoder<F>,
         requires { t.now ≡ T.values.0 (F.whole fields.now) }
-        ensures others { KeepsOthers no_columns (T.variants.index t.now - O.first) (⟦<Encoders5<O, E1, E2, E3, E4, E5> as VariantColumns>⟧.columns.lists self.old) (⟦<Encoders5<O, E1, E2, E3, E4, E5> as VariantColumns>⟧.columns.lists self.new) }
-        ensures joined { OnOk result (T.variants.joins t.now (columns_at (T.variants.index t.now - O.first) (⟦<Encoders5<O, E1, E2, E3, E4, E5> as VariantColumns>⟧.columns.lists self.old)) (columns_at (T.variants.index t.now - O.first) (⟦<Encoders5<O, E1, E2, E3, E4, E5> as VariantColumns>⟧.columns.lists self.new))) }
-        ensures form { emptied (columns_at (T.variants.index t.now - O.first) (⟦<Encoders5<O, E1, E2, E3, E4, E5> as VariantColumns>⟧.columns.lists self.new)) ≡ emptied (columns_at (T.variants.index t.now - O.first) (⟦<Encoders5<O, E1, E2, E3, E4, E5> as VariantColumns>⟧.columns.lists self.old)) }
-        ensures refused { IfErr result (λ e. IsWritingRefusal e.reason (T.variants.overflows t.now (columns_at (T.variants.index t.now - O.first) (⟦<Encoders5<O, E1, E2, E3, E4, E5> as VariantColumns>⟧.columns.lists self.old)))) }
+        ensures others { KeepsOthers no_columns (T.each.variants.index t.now - O.first) (⟦<Encoders5<O, E1, E2, E3, E4, E5> as VariantColumns>⟧.columns.lists self.old) (⟦<Encoders5<O, E1, E2, E3, E4, E5> as VariantColumns>⟧.columns.lists self.new) }
+        ensures joined { OnOk result (T.each.variants.joins t.now (columns_at (T.each.variants.index t.now - O.first) (⟦<Encoders5<O, E1, E2, E3, E4, E5> as VariantColumns>⟧.columns.lists self.old)) (columns_at (T.each.variants.index t.now - O.first) (⟦<Encoders5<O, E1, E2, E3, E4, E5> as VariantColumns>⟧.columns.lists self.new))) }
+        ensures form { emptied (columns_at (T.each.variants.index t.now - O.first) (⟦<Encoders5<O, E1, E2, E3, E4, E5> as VariantColumns>⟧.columns.lists self.new)) ≡ emptied (columns_at (T.each.variants.index t.now - O.first) (⟦<Encoders5<O, E1, E2, E3, E4, E5> as VariantColumns>⟧.columns.lists self.old)) }
+        ensures refused { IfErr result (λ e. IsWritingRefusal e.reason (T.each.variants.overflows t.now (columns_at (T.each.variants.index t.now - O.first) (⟦<Encoders5<O, E1, E2, E3, E4, E5> as VariantColumns>⟧.columns.lists self.old)))) }
     {
         encode_payload_fields(&mut self.first, fields)
     }
@@ -161,10 +161,10 @@ impl<O: Place, E1: Buffer, E2: Buffer, E3: Buffer, E4: Buffer, E5: Buffer> Encod
     where
         E2: Encoder<P2> + FieldsEncoder<F>,
         requires { t.now ≡ T.values.1 (F.whole fields.now) }
-        ensures others { KeepsOthers no_columns (T.variants.index t.now - O.first) (⟦<Encoders5<O, E1, E2, E3, E4, E5> as VariantColumns>⟧.columns.lists self.old) (⟦<Encoders5<O, E1, E2, E3, E4, E5> as VariantColumns>⟧.columns.lists self.new) }
-        ensures joined { OnOk result (T.variants.joins t.now (columns_at (T.variants.index t.now - O.first) (⟦<Encoders5<O, E1, E2, E3, E4, E5> as VariantColumns>⟧.columns.lists self.old)) (columns_at (T.variants.index t.now - O.first) (⟦<Encoders5<O, E1, E2, E3, E4, E5> as VariantColumns>⟧.columns.lists self.new))) }
-        ensures form { emptied (columns_at (T.variants.index t.now - O.first) (⟦<Encoders5<O, E1, E2, E3, E4, E5> as VariantColumns>⟧.columns.lists self.new)) ≡ emptied (columns_at (T.variants.index t.now - O.first) (⟦<Encoders5<O, E1, E2, E3, E4, E5> as VariantColumns>⟧.columns.lists self.old)) }
-        ensures refused { IfErr result (λ e. IsWritingRefusal e.reason (T.variants.overflows t.now (columns_at (T.variants.index t.now - O.first) (⟦<Encoders5<O, E1, E2, E3, E4, E5> as VariantColumns>⟧.columns.lists self.old)))) }
+        ensures others { KeepsOthers no_columns (T.each.variants.index t.now - O.first) (⟦<Encoders5<O, E1, E2, E3, E4, E5> as VariantColumns>⟧.columns.lists self.old) (⟦<Encoders5<O, E1, E2, E3, E4, E5> as VariantColumns>⟧.columns.lists self.new) }
+        ensures joined { OnOk result (T.each.variants.joins t.now (columns_at (T.each.variants.index t.now - O.first) (⟦<Encoders5<O, E1, E2, E3, E4, E5> as VariantColumns>⟧.columns.lists self.old)) (columns_at (T.each.variants.index t.now - O.first) (⟦<Encoders5<O, E1, E2, E3, E4, E5> as VariantColumns>⟧.columns.lists self.new))) }
+        ensures form { emptied (columns_at (T.each.variants.index t.now - O.first) (⟦<Encoders5<O, E1, E2, E3, E4, E5> as VariantColumns>⟧.columns.lists self.new)) ≡ emptied (columns_at (T.each.variants.index t.now - O.first) (⟦<Encoders5<O, E1, E2, E3, E4, E5> as VariantColumns>⟧.columns.lists self.old)) }
+        ensures refused { IfErr result (λ e. IsWritingRefusal e.reason (T.each.variants.overflows t.now (columns_at (T.each.variants.index t.now - O.first) (⟦<Encoders5<O, E1, E2, E3, E4, E5> as VariantColumns>⟧.columns.lists self.old)))) }
     {
         encode_payload_fields(&mut self.second, fields)
     }
@@ -188,10 +188,10 @@ impl<O: Place, E1: Buffer, E2: Buffer, E3: Buffer, E4: Buffer, E5: Buffer> Encod
     where
         E3: Encoder<P3> + FieldsEncoder<F>,
         requires { t.now ≡ T.values.2 (F.whole fields.now) }
-        ensures others { KeepsOthers no_columns (T.variants.index t.now - O.first) (⟦<Encoders5<O, E1, E2, E3, E4, E5> as VariantColumns>⟧.columns.lists self.old) (⟦<Encoders5<O, E1, E2, E3, E4, E5> as VariantColumns>⟧.columns.lists self.new) }
-        ensures joined { OnOk result (T.variants.joins t.now (columns_at (T.variants.index t.now - O.first) (⟦<Encoders5<O, E1, E2, E3, E4, E5> as VariantColumns>⟧.columns.lists self.old)) (columns_at (T.variants.index t.now - O.first) (⟦<Encoders5<O, E1, E2, E3, E4, E5> as VariantColumns>⟧.columns.lists self.new))) }
-        ensures form { emptied (columns_at (T.variants.index t.now - O.first) (⟦<Encoders5<O, E1, E2, E3, E4, E5> as VariantColumns>⟧.columns.lists self.new)) ≡ emptied (columns_at (T.variants.index t.now - O.first) (⟦<Encoders5<O, E1, E2, E3, E4, E5> as VariantColumns>⟧.columns.lists self.old)) }
-        ensures refused { IfErr result (λ e. IsWritingRefusal e.reason (T.variants.overflows t.now (columns_at (T.variants.index t.now - O.first) (⟦<Encoders5<O, E1, E2, E3, E4, E5> as VariantColumns>⟧.columns.lists self.old)))) }
+        ensures others { KeepsOthers no_columns (T.each.variants.index t.now - O.first) (⟦<Encoders5<O, E1, E2, E3, E4, E5> as VariantColumns>⟧.columns.lists self.old) (⟦<Encoders5<O, E1, E2, E3, E4, E5> as VariantColumns>⟧.columns.lists self.new) }
+        ensures joined { OnOk result (T.each.variants.joins t.now (columns_at (T.each.variants.index t.now - O.first) (⟦<Encoders5<O, E1, E2, E3, E4, E5> as VariantColumns>⟧.columns.lists self.old)) (columns_at (T.each.variants.index t.now - O.first) (⟦<Encoders5<O, E1, E2, E3, E4, E5> as VariantColumns>⟧.columns.lists self.new))) }
+        ensures form { emptied (columns_at (T.each.variants.index t.now - O.first) (⟦<Encoders5<O, E1, E2, E3, E4, E5> as VariantColumns>⟧.columns.lists self.new)) ≡ emptied (columns_at (T.each.variants.index t.now - O.first) (⟦<Encoders5<O, E1, E2, E3, E4, E5> as VariantColumns>⟧.columns.lists self.old)) }
+        ensures refused { IfErr result (λ e. IsWritingRefusal e.reason (T.each.variants.overflows t.now (columns_at (T.each.variants.index t.now - O.first) (⟦<Encoders5<O, E1, E2, E3, E4, E5> as VariantColumns>⟧.columns.lists self.old)))) }
     {
         encode_payload_fields(&mut self.third, fields)
     }
@@ -215,10 +215,10 @@ impl<O: Place, E1: Buffer, E2: Buffer, E3: Buffer, E4: Buffer, E5: Buffer> Encod
     where
         E4: Encoder<P4> + FieldsEncoder<F>,
         requires { t.now ≡ T.values.3 (F.whole fields.now) }
-        ensures others { KeepsOthers no_columns (T.variants.index t.now - O.first) (⟦<Encoders5<O, E1, E2, E3, E4, E5> as VariantColumns>⟧.columns.lists self.old) (⟦<Encoders5<O, E1, E2, E3, E4, E5> as VariantColumns>⟧.columns.lists self.new) }
-        ensures joined { OnOk result (T.variants.joins t.now (columns_at (T.variants.index t.now - O.first) (⟦<Encoders5<O, E1, E2, E3, E4, E5> as VariantColumns>⟧.columns.lists self.old)) (columns_at (T.variants.index t.now - O.first) (⟦<Encoders5<O, E1, E2, E3, E4, E5> as VariantColumns>⟧.columns.lists self.new))) }
-        ensures form { emptied (columns_at (T.variants.index t.now - O.first) (⟦<Encoders5<O, E1, E2, E3, E4, E5> as VariantColumns>⟧.columns.lists self.new)) ≡ emptied (columns_at (T.variants.index t.now - O.first) (⟦<Encoders5<O, E1, E2, E3, E4, E5> as VariantColumns>⟧.columns.lists self.old)) }
-        ensures refused { IfErr result (λ e. IsWritingRefusal e.reason (T.variants.overflows t.now (columns_at (T.variants.index t.now - O.first) (⟦<Encoders5<O, E1, E2, E3, E4, E5> as VariantColumns>⟧.columns.lists self.old)))) }
+        ensures others { KeepsOthers no_columns (T.each.variants.index t.now - O.first) (⟦<Encoders5<O, E1, E2, E3, E4, E5> as VariantColumns>⟧.columns.lists self.old) (⟦<Encoders5<O, E1, E2, E3, E4, E5> as VariantColumns>⟧.columns.lists self.new) }
+        ensures joined { OnOk result (T.each.variants.joins t.now (columns_at (T.each.variants.index t.now - O.first) (⟦<Encoders5<O, E1, E2, E3, E4, E5> as VariantColumns>⟧.columns.lists self.old)) (columns_at (T.each.variants.index t.now - O.first) (⟦<Encoders5<O, E1, E2, E3, E4, E5> as VariantColumns>⟧.columns.lists self.new))) }
+        ensures form { emptied (columns_at (T.each.variants.index t.now - O.first) (⟦<Encoders5<O, E1, E2, E3, E4, E5> as VariantColumns>⟧.columns.lists self.new)) ≡ emptied (columns_at (T.each.variants.index t.now - O.first) (⟦<Encoders5<O, E1, E2, E3, E4, E5> as VariantColumns>⟧.columns.lists self.old)) }
+        ensures refused { IfErr result (λ e. IsWritingRefusal e.reason (T.each.variants.overflows t.now (columns_at (T.each.variants.index t.now - O.first) (⟦<Encoders5<O, E1, E2, E3, E4, E5> as VariantColumns>⟧.columns.lists self.old)))) }
     {
         encode_payload_fields(&mut self.fourth, fields)
     }
@@ -242,10 +242,10 @@ impl<O: Place, E1: Buffer, E2: Buffer, E3: Buffer, E4: Buffer, E5: Buffer> Encod
     where
         E5: Encoder<P5> + FieldsEncoder<F>,
         requires { t.now ≡ T.values.4 (F.whole fields.now) }
-        ensures others { KeepsOthers no_columns (T.variants.index t.now - O.first) (⟦<Encoders5<O, E1, E2, E3, E4, E5> as VariantColumns>⟧.columns.lists self.old) (⟦<Encoders5<O, E1, E2, E3, E4, E5> as VariantColumns>⟧.columns.lists self.new) }
-        ensures joined { OnOk result (T.variants.joins t.now (columns_at (T.variants.index t.now - O.first) (⟦<Encoders5<O, E1, E2, E3, E4, E5> as VariantColumns>⟧.columns.lists self.old)) (columns_at (T.variants.index t.now - O.first) (⟦<Encoders5<O, E1, E2, E3, E4, E5> as VariantColumns>⟧.columns.lists self.new))) }
-        ensures form { emptied (columns_at (T.variants.index t.now - O.first) (⟦<Encoders5<O, E1, E2, E3, E4, E5> as VariantColumns>⟧.columns.lists self.new)) ≡ emptied (columns_at (T.variants.index t.now - O.first) (⟦<Encoders5<O, E1, E2, E3, E4, E5> as VariantColumns>⟧.columns.lists self.old)) }
-        ensures refused { IfErr result (λ e. IsWritingRefusal e.reason (T.variants.overflows t.now (columns_at (T.variants.index t.now - O.first) (⟦<Encoders5<O, E1, E2, E3, E4, E5> as VariantColumns>⟧.columns.lists self.old)))) }
+        ensures others { KeepsOthers no_columns (T.each.variants.index t.now - O.first) (⟦<Encoders5<O, E1, E2, E3, E4, E5> as VariantColumns>⟧.columns.lists self.old) (⟦<Encoders5<O, E1, E2, E3, E4, E5> as VariantColumns>⟧.columns.lists self.new) }
+        ensures joined { OnOk result (T.each.variants.joins t.now (columns_at (T.each.variants.index t.now - O.first) (⟦<Encoders5<O, E1, E2, E3, E4, E5> as VariantColumns>⟧.columns.lists self.old)) (columns_at (T.each.variants.index t.now - O.first) (⟦<Encoders5<O, E1, E2, E3, E4, E5> as VariantColumns>⟧.columns.lists self.new))) }
+        ensures form { emptied (columns_at (T.each.variants.index t.now - O.first) (⟦<Encoders5<O, E1, E2, E3, E4, E5> as VariantColumns>⟧.columns.lists self.new)) ≡ emptied (columns_at (T.each.variants.index t.now - O.first) (⟦<Encoders5<O, E1, E2, E3, E4, E5> as VariantColumns>⟧.columns.lists self.old)) }
+        ensures refused { IfErr result (λ e. IsWritingRefusal e.reason (T.each.variants.overflows t.now (columns_at (T.each.variants.index t.now - O.first) (⟦<Encoders5<O, E1, E2, E3, E4, E5> as VariantColumns>⟧.columns.lists self.old)))) }
     {
         encode_payload_fields(&mut self.fifth, fields)
     }

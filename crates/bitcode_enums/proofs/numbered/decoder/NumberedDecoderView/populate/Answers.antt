@@ -18,13 +18,13 @@ use Rattle.bitcode_enums.proofs.numbered.decoder.NumberedDecoderView.populate.Go
 pub returns-in_err-populate-clause-refused : goal.returns-in_err-populate-clause-refused
 returns-in_err-populate-clause-refused g c =
     let refused = err_from_is_err_and c.from_residual.result c.from_residual.ensures.1 in
-    rw (refused.1, refused.2) (refuses_enum_variants g.T.Enum.variants.shapes g.row.N c.args.k c.args.input.now.now g.met.T.EnumOf.count _ c.in_err-populate.ensures.refused)
+    rw (refused.1, refused.2) (refuses_enum_variants g.T.Enum.each.variants.shapes g.row.N c.args.k c.args.input.now.now g.met.T.EnumOf.count _ c.in_err-populate.ensures.refused)
 
 pub loop-number-init : goal.loop-number-init
 loop-number-init g c = record {
   size = c.sized.ensures;
   variants = refl;
-  read = read_none g.T.Enum.variants.shapes g.D.AllPayloads.held.faults (variants_left c.populate.new.self) c.populate.new.input.now (g.D.AllPayloads.held.lists c.args.self.now.payloads);
+  read = read_none g.T.Enum.each.variants.shapes g.D.AllPayloads.held.faults (variants_left c.populate.new.self) c.populate.new.input.now (g.D.AllPayloads.held.lists c.args.self.now.payloads);
   rest = record { taken = []; whole = refl };
 }
 
@@ -37,9 +37,9 @@ returns-in_err-populate_at-clause-refused g c =
     c.length-count.ensures ∙ ap (λ v. slice_index (variant_counts v) c.loop-number.number) c.loop-number.invariant.variants
     ∙ counts_each _ _ _ _ (c.in_ok-populate.ensures.counts refl) refl c.loop-number.number (let size = (c.in_ok-populate.ensures.counts refl).size in omega (arith, known, size)) in
     rw (refused.1, refused.2) (
-    refuses_enum_payloads g.T.Enum.variants.shapes g.row.N c.args.k c.args.input.now.now g.met.T.EnumOf.count _ _ c.in_ok-populate.ensures.read _
-    (refuses_there g.T.Enum.variants.shapes g.D.AllPayloads.held.faults (variants_left c.populate.new.self) c.populate.new.input.now c.loop-number.number (g.D.AllPayloads.held.lists c.loop-number.self.payloads) c.loop-number.input.now c.loop-number.invariant.read
-    (omega (arith, known, below)) _ (subst (λ n. IsReadingRefusal (shape_at c.loop-number.number g.T.Enum.variants.shapes) c.in_err-populate_at.field-0.0.reason n c.loop-number.input.now) counted c.in_err-populate_at.ensures.refused))
+    refuses_enum_payloads g.T.Enum.each.variants.shapes g.row.N c.args.k c.args.input.now.now g.met.T.EnumOf.count _ _ c.in_ok-populate.ensures.read _
+    (refuses_there g.T.Enum.each.variants.shapes g.D.AllPayloads.held.faults (variants_left c.populate.new.self) c.populate.new.input.now c.loop-number.number (g.D.AllPayloads.held.lists c.loop-number.self.payloads) c.loop-number.input.now c.loop-number.invariant.read
+    (omega (arith, known, below)) _ (subst (λ n. IsReadingRefusal (shape_at c.loop-number.number g.T.Enum.each.variants.shapes) c.in_err-populate_at.field-0.0.reason n c.loop-number.input.now) counted c.in_err-populate_at.ensures.refused))
     )
 
 pub returns-in_err-populate_at-clause-exact : goal.returns-in_err-populate_at-clause-exact
@@ -55,7 +55,7 @@ returns-in_err-populate_at-clause-exact g c =
       variants = _;
       rest = _;
       read = c.in_ok-populate.ensures.read;
-      fault = fault_there g.T.Enum.variants.shapes g.D.AllPayloads.held.faults (variants_left c.populate.new.self) c.populate.new.input.now c.loop-number.number (g.D.AllPayloads.held.lists c.loop-number.self.payloads) c.loop-number.input.now c.loop-number.invariant.read
+      fault = fault_there g.T.Enum.each.variants.shapes g.D.AllPayloads.held.faults (variants_left c.populate.new.self) c.populate.new.input.now c.loop-number.number (g.D.AllPayloads.held.lists c.loop-number.self.payloads) c.loop-number.input.now c.loop-number.invariant.read
           (omega (arith, known, below)) _ (subst (λ n. g.D.AllPayloads.held.faults c.loop-number.number c.in_err-populate_at.field-0.0.reason n c.loop-number.input.now) counted c.in_err-populate_at.ensures.exact);
     })
     )
@@ -77,11 +77,11 @@ loop-number-preserved g c =
     record {
       size = ap length c.populate_at.ensures.others ∙ length-set (g.D.AllPayloads.held.lists c.loop-number.self.payloads) c.loop-number.number _ ∙ all;
       variants = c.loop-number.invariant.variants;
-      read = subst (λ n. ReadTo g.T.Enum.variants.shapes g.D.AllPayloads.held.faults (variants_left c.populate.new.self) c.populate.new.input.now n (g.D.AllPayloads.held.lists c.populate_at.new.self) c.populate_at.new.input.now) next
-          (read_next g.T.Enum.variants.shapes g.D.AllPayloads.held.faults (variants_left c.populate.new.self) c.populate.new.input.now c.loop-number.number (g.D.AllPayloads.held.lists c.loop-number.self.payloads) c.loop-number.input.now c.loop-number.invariant.read
+      read = subst (λ n. ReadTo g.T.Enum.each.variants.shapes g.D.AllPayloads.held.faults (variants_left c.populate.new.self) c.populate.new.input.now n (g.D.AllPayloads.held.lists c.populate_at.new.self) c.populate_at.new.input.now) next
+          (read_next g.T.Enum.each.variants.shapes g.D.AllPayloads.held.faults (variants_left c.populate.new.self) c.populate.new.input.now c.loop-number.number (g.D.AllPayloads.held.lists c.loop-number.self.payloads) c.loop-number.input.now c.loop-number.invariant.read
           (omega (arith, known, below)) (g.D.AllPayloads.held.lists c.populate_at.new.self) c.populate_at.new.input.now (omega (arith, known, all))
           c.populate_at.ensures.others
-          (subst (λ k. Reads (Spells (shape_at c.loop-number.number g.T.Enum.variants.shapes)) k c.loop-number.input.now (payloads_of c.loop-number.number (g.D.AllPayloads.held.lists c.populate_at.new.self)) c.populate_at.new.input.now) counted
+          (subst (λ k. Reads (Spells (shape_at c.loop-number.number g.T.Enum.each.variants.shapes)) k c.loop-number.input.now (payloads_of c.loop-number.number (g.D.AllPayloads.held.lists c.populate_at.new.self)) c.populate_at.new.input.now) counted
           c.in_ok-populate_at.ensures.read));
       rest = ends_further c.loop-number.invariant.rest (ends_read c.in_ok-populate_at.ensures.read);
     }
@@ -91,6 +91,6 @@ returns-clause-read g c =
     let past = c.loop-number-test.false in
     let below = g.met.T.EnumOf.count in
     let all = c.loop-number.invariant.size in
-    subst (λ v. Reads (Spells (choice_shape g.T.Enum.variants.shapes)) c.args.k c.args.input.now.now (choices_of (variants_left v) (g.D.AllPayloads.held.lists c.loop-number.self.payloads)) c.loop-number.input.now) (sym c.loop-number.invariant.variants)
-    (reads_enum g.T.Enum.variants.shapes g.row.N c.args.k c.args.input.now.now g.met.T.EnumOf.count _ _ c.in_ok-populate.ensures.read _ _
-    (read_all g.T.Enum.variants.shapes g.D.AllPayloads.held.faults (variants_left c.populate.new.self) c.populate.new.input.now c.loop-number.number (g.D.AllPayloads.held.lists c.loop-number.self.payloads) c.loop-number.input.now c.loop-number.invariant.read (omega (arith, past, below)) (omega (arith, past, all))))
+    subst (λ v. Reads (Spells (choice_shape g.T.Enum.each.variants.shapes)) c.args.k c.args.input.now.now (choices_of (variants_left v) (g.D.AllPayloads.held.lists c.loop-number.self.payloads)) c.loop-number.input.now) (sym c.loop-number.invariant.variants)
+    (reads_enum g.T.Enum.each.variants.shapes g.row.N c.args.k c.args.input.now.now g.met.T.EnumOf.count _ _ c.in_ok-populate.ensures.read _ _
+    (read_all g.T.Enum.each.variants.shapes g.D.AllPayloads.held.faults (variants_left c.populate.new.self) c.populate.new.input.now c.loop-number.number (g.D.AllPayloads.held.lists c.loop-number.self.payloads) c.loop-number.input.now c.loop-number.invariant.read (omega (arith, past, below)) (omega (arith, past, all))))

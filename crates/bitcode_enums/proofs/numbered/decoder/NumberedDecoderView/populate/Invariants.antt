@@ -9,6 +9,6 @@ abbrev pub invariant-loop-number : goal.invariant-loop-number
 invariant-loop-number g l = record {
   size : length (g.D.AllPayloads.held.lists l.self.payloads) ≡ g.row.N;
   variants : l.self.variants ≡ l.initial.self.variants;
-  read : ReadTo g.T.Enum.variants.shapes g.D.AllPayloads.held.faults (variants_left l.initial.self.variants) l.initial.input.now l.number (g.D.AllPayloads.held.lists l.self.payloads) l.input.now;
+  read : ReadTo g.T.Enum.each.variants.shapes g.D.AllPayloads.held.faults (variants_left l.initial.self.variants) l.initial.input.now l.number (g.D.AllPayloads.held.lists l.self.payloads) l.input.now;
   rest : IsEndOf l.initial.input.now l.input.now;
 }

@@ -9,11 +9,11 @@ use Rattle.bitcode_enums.proofs.numbered.encoder.AnyEncodeVariantNumberedColumns
 pub returns-clause-joined : goal.returns-clause-joined
 returns-clause-joined g c =
     on_ok_weaker c.encode_payload.result
-    (held_joins (λ h. h.value) g.T.Enum.variants.index g.T.Enum.variants.lists g.T.Enum.variants.shapes _ c.args.self.now refl)
+    (held_joins (λ h. h.value) g.T.Enum.each.variants.index g.T.Enum.each.variants.lists g.T.Enum.each.variants.shapes _ c.args.self.now refl)
     c.encode_payload.ensures.joined
 
 pub returns-clause-refused : goal.returns-clause-refused
 returns-clause-refused g c =
     refused_weaker (λ (e : Error). e.reason) c.encode_payload.result
-    (held_overflows (λ h. h.value) g.T.Enum.variants.index g.T.Enum.variants.lists g.T.Enum.variants.shapes _ c.args.self.now refl)
+    (held_overflows (λ h. h.value) g.T.Enum.each.variants.index g.T.Enum.each.variants.lists g.T.Enum.each.variants.shapes _ c.args.self.now refl)
     c.encode_payload.ensures.refused

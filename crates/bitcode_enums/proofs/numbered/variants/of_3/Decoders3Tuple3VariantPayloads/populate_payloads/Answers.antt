@@ -10,17 +10,17 @@ use Rattle.bitcode_enums.proofs.numbered.variants.of_3.Decoders3Tuple3VariantPay
 pub returns-in-0-clause-refused : goal.returns-in-0-clause-refused
 returns-in-0-clause-refused g c =
     subst (λ s. IfErr c.populate.result (λ (e : Error). IsReadingRefusal s e.reason c.args.k c.args.input.now.now))
-    (shape_of g.T.Enum.variants g.met.T.Variants3.are.0 (omega arith) (ap (λ f. c.args.number - f) (sym c.first.ensures) ∙ c.in-0.is) c.requires.known.0 g.met.D1.Decoder.same_shape)
+    (shape_of g.T.Enum.each.variants g.met.T.Variants3.are.0 (omega arith) (ap (λ f. c.args.number - f) (sym c.first.ensures) ∙ c.in-0.is) c.requires.known.0 g.met.D1.Decoder.same_shape)
     c.populate.ensures.refused
 
 pub returns-in-1-clause-refused : goal.returns-in-1-clause-refused
 returns-in-1-clause-refused g c =
     subst (λ s. IfErr c.populate-in-1.result (λ (e : Error). IsReadingRefusal s e.reason c.args.k c.args.input.now.now))
-    (shape_of g.T.Enum.variants g.met.T.Variants3.are.1 (omega arith) (ap (λ f. c.args.number - f) (sym c.first.ensures) ∙ c.in-1.is) c.requires.known.0 g.met.D2.Decoder.same_shape)
+    (shape_of g.T.Enum.each.variants g.met.T.Variants3.are.1 (omega arith) (ap (λ f. c.args.number - f) (sym c.first.ensures) ∙ c.in-1.is) c.requires.known.0 g.met.D2.Decoder.same_shape)
     c.populate-in-1.ensures.refused
 
 pub returns-in-2-clause-refused : goal.returns-in-2-clause-refused
 returns-in-2-clause-refused g c =
     subst (λ s. IfErr c.populate-in-2.result (λ (e : Error). IsReadingRefusal s e.reason c.args.k c.args.input.now.now))
-    (shape_of g.T.Enum.variants g.met.T.Variants3.are.2 (omega arith) (ap (λ f. c.args.number - f) (sym c.first.ensures) ∙ c.in-2.is) c.requires.known.0 g.met.D3.Decoder.same_shape)
+    (shape_of g.T.Enum.each.variants g.met.T.Variants3.are.2 (omega arith) (ap (λ f. c.args.number - f) (sym c.first.ensures) ∙ c.in-2.is) c.requires.known.0 g.met.D3.Decoder.same_shape)
     c.populate-in-2.ensures.refused

@@ -9,13 +9,13 @@ use Rattle.bitcode_enums.proofs.numbered.variants.of_6.Encoders6.encode_third.Go
 
 pub returns-clause-joined : goal.returns-clause-joined
 returns-clause-joined g c =
-    on_ok_weaker c.encode_payload_fields.result (joins_of g.T.Enum.variants g.met.T.Variants6.are.2 c.requires g.O.Place.first 2 (omega arith)
+    on_ok_weaker c.encode_payload_fields.result (joins_of g.T.Enum.each.variants g.met.T.Variants6.are.2 c.requires g.O.Place.first 2 (omega arith)
     (g.E1.HoldsColumns.columns c.args.self.now.first ∷ g.E2.HoldsColumns.columns c.args.self.now.second ∷ g.E3.HoldsColumns.columns c.args.self.now.third ∷ g.E4.HoldsColumns.columns c.args.self.now.fourth ∷ g.E5.HoldsColumns.columns c.args.self.now.fifth ∷ g.E6.HoldsColumns.columns c.args.self.now.sixth ∷ [])
     (g.E1.HoldsColumns.columns c.args.self.now.first ∷ g.E2.HoldsColumns.columns c.args.self.now.second ∷ g.E3.HoldsColumns.columns c.encode_payload_fields.new.columns ∷ g.E4.HoldsColumns.columns c.args.self.now.fourth ∷ g.E5.HoldsColumns.columns c.args.self.now.fifth ∷ g.E6.HoldsColumns.columns c.args.self.now.sixth ∷ []))
     c.encode_payload_fields.ensures.joined
 
 pub returns-clause-refused : goal.returns-clause-refused
 returns-clause-refused g c =
-    refused_weaker (λ (e : Error). e.reason) c.encode_payload_fields.result (overflows_of g.T.Enum.variants g.met.T.Variants6.are.2 c.requires g.O.Place.first 2 (omega arith)
+    refused_weaker (λ (e : Error). e.reason) c.encode_payload_fields.result (overflows_of g.T.Enum.each.variants g.met.T.Variants6.are.2 c.requires g.O.Place.first 2 (omega arith)
     (g.E1.HoldsColumns.columns c.args.self.now.first ∷ g.E2.HoldsColumns.columns c.args.self.now.second ∷ g.E3.HoldsColumns.columns c.args.self.now.third ∷ g.E4.HoldsColumns.columns c.args.self.now.fourth ∷ g.E5.HoldsColumns.columns c.args.self.now.fifth ∷ g.E6.HoldsColumns.columns c.args.self.now.sixth ∷ []))
     c.encode_payload_fields.ensures.refused
