@@ -1,9 +1,10 @@
-//! A struct and an enum as keys of sets and maps, by hand: what `==` tells of them, and that as data.
+//! Structs of two and of three fields and an enum as keys of sets and maps, by hand: what `==` tells of them, and that as data.
 ghost use Rattle.std.specs.Prelude.{refl};
-ghost use Rattle.bitcode.specs.ByHand.{bares_told, key_as, key_of, naturals_alike, stood_key, stood_payload};
+ghost use Rattle.bitcode.specs.ByHand.{and_nested, bares_told, key_as, key_of, naturals_alike, stood_key, stood_payload, then_nested};
 ghost use Rattle.bitcode_own_types.specs.declared.light.Light.{Light};
 
 use crate::light::Light;
+use crate::seat::Seat;
 use crate::spot::Spot;
 use bitcode::{Bare, BareVariants, Error, Key, KeyPayload, Payload, StandsFor, decode};
 use std::alloc::Global;
@@ -15,6 +16,14 @@ impl KeyPayload for Spot {
 
 impl Key for Spot {
     ghost keyed = { ⟦<Spot as KeyPayload>⟧.key.told };
+}
+
+impl KeyPayload for Seat {
+    ghost key = { key_as (stood_key ⟦<Seat as StandsFor>⟧.parts ⟦<Seat as StandsFor>⟧.of_parts ⟦<(u8, u16, u16) as KeyPayload>⟧.key) ⟦<Seat as PartialEq>⟧.eq ⟦<Seat as Ord>⟧.cmp (λ s t. and_nested _ _ _) (λ s t. then_nested _ _ _) };
+}
+
+impl Key for Seat {
+    ghost keyed = { ⟦<Seat as KeyPayload>⟧.key.told };
 }
 
 impl Payload for Light {
@@ -31,5 +40,10 @@ impl Key for Light {
 
 /// The spots that have each light, as they were written. It refuses as `decode` does.
 pub fn lit_spots(alloc: Global, input: &[u8]) -> Result<BTreeMap<Light, BTreeSet<Spot>>, Error> {
+    decode(alloc, input)
+}
+
+/// How often each seat was sold. It refuses as `decode` does.
+pub fn sold_seats(alloc: Global, input: &[u8]) -> Result<BTreeMap<Seat, u32>, Error> {
     decode(alloc, input)
 }

@@ -23,5 +23,6 @@ pub mod player;
 pub mod reply;
 pub mod saved;
 pub mod scores;
+pub mod seat;
 pub mod spot;
 pub mod two;

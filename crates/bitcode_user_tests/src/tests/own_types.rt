@@ -7,7 +7,7 @@ use bitcode_own_types::event::Event;
 use bitcode_own_types::foo::Foo;
 use bitcode_own_types::generic::{Cache, load};
 use bitcode_own_types::item::Item;
-use bitcode_own_types::keys::lit_spots;
+use bitcode_own_types::keys::{lit_spots, sold_seats};
 use bitcode_own_types::message::Message;
 use bitcode_own_types::monster::Monster;
 use bitcode_own_types::never::Never;
@@ -164,6 +164,18 @@ fn spots_are_keys(rt: HostRuntime) -> Result<(), Error> {
     let lit = lit_spots(alloc, &written)?;
     assert!(rt; lit.len() == 2);
     let bytes = encode(alloc, &lit)?;
+    assert!(rt; bytes.as_slice() == written.as_slice());
+    Ok(())
+}
+
+#[test]
+fn seats_are_keys(rt: HostRuntime) -> Result<(), Error> {
+    let alloc = rt.alloc();
+    // The length, the columns of the three fields, and that of how often each was sold.
+    let written = [1, 1, 2, 2, 2, 3, 4, 9];
+    let sold = sold_seats(alloc, &written)?;
+    assert!(rt; sold.len() == 1);
+    let bytes = encode(alloc, &sold)?;
     assert!(rt; bytes.as_slice() == written.as_slice());
     Ok(())
 }

@@ -1,0 +1,53 @@
+//! `Seat` stands for the tuple of its fields. What is below its declaration was written by `scripts/new_type`.
+ghost use Rattle.std.specs.Prelude.{refl};
+
+use bitcode::{
+    DecodeOwned, DecoderOfFields, EncoderOfFields, FromParts, HasDecoder, HasEncoder, LendsFields3,
+    Shaped, StandsFor,
+};
+
+/// A seat of a theatre.
+#[derive(Debug, Clone, Copy, PartialEq, Eq, PartialOrd, Ord)]
+pub struct Seat {
+    pub level: u8,
+    pub row: u16,
+    pub place: u16,
+}
+
+impl StandsFor for Seat {
+    type Parts = (u8, u16, u16);
+
+    type Inside = ();
+
+    ghost parts = { λ t. (t.level, t.row, t.place) };
+
+    ghost of_parts = { λ p. (record { level = p.0; row = p.1; place = p.2 }, refl) };
+
+    fn told_parts(&self) {
+        self.level.told();
+        self.row.told();
+        self.place.told();
+    }
+}
+
+impl FromParts for Seat {
+    fn from_parts((level, row, place): (u8, u16, u16)) -> Self {
+        Seat { level, row, place }
+    }
+}
+
+impl LendsFields3<u8, u16, u16> for Seat {
+    fn fields(&self) -> (&u8, &u16, &u16) {
+        (&self.level, &self.row, &self.place)
+    }
+}
+
+impl HasEncoder for Seat {
+    type Encoder = EncoderOfFields<3, (u8, u16, u16)>;
+}
+
+impl<'a> HasDecoder<'a> for Seat {
+    type Decoder = DecoderOfFields<'a, (u8, u16, u16)>;
+}
+
+impl DecodeOwned for Seat {}
