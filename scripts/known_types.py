@@ -59,6 +59,8 @@ INSTEAD = {
 }
 # A tuple, a struct and a variant have no more fields than these.
 MOST_FIELDS = 16
+# The borrow checker covers no struct of decoders whose types name more types than so many. A struct in between ends that.
+MOST_TYPES = 32
 
 def of_text(type):
     """The type as Rattle writes it."""

@@ -4,8 +4,8 @@ import re
 from string import Template
 
 from declarations import Enum, Struct, fields_of
-from known_types import of_text
-from structs import bounds, places, quoted
+from known_types import MOST_TYPES, of_text
+from structs import bounds, in_a_head, places, quoted, types_in
 from variants import LETTERS, arms, declaration, held_type, names_of, payload, value
 
 # The borrow checker covers no pattern that goes deeper than this into the nest of the payloads, where one takes memory. So enums of more
@@ -18,9 +18,6 @@ ORDINALS = ["first", "second", "third", "fourth", "fifth", "sixth"]
 MOST_IN_PLACE = 48
 # Of so many fields the compiler finds the types of what a coder takes.
 MOST_FOUND = 2
-# Of variants whose fields name more types than so many the borrow checker covers no struct that holds all their decoders in one type. A
-# struct in between ends that, so that there is one for each part of the variants.
-MOST_TYPES = 32
 
 FILE = """//! `$simple` is written and read by the numbers of its variants. What is below its declaration was written by `scripts/new_type`.
 ghost use Rattle.std.specs.Prelude.{$prelude};
@@ -119,7 +116,7 @@ OWNED = """
 impl DecodeOwned for $name {}
 """
 
-GROUP = """impl$life Variants$size<At<$first>, $types> for $name {
+GROUP = """${short_names}impl$life Variants$size<At<$first>, $short> for $name {
     ghost values = { ($values) };
 
     fn of_payload(payload: OneOf$size<$types>) -> Self
@@ -221,13 +218,6 @@ def numbered_and_told(items, own):
     return numbered, told
 
 
-def types_in(type, own):
-    """How many types the type names, those that the fields of a type of one's own name among them."""
-    item = own[type.name].item if type.kind == "path" and type.name in own else None
-    here = 0 if type.kind in ("tuple", "number", "lifetime", "reference") else 1
-    return here + sum(types_in(part, own) for part in type.parts) + (sum(types_in(field.type, own) for field in fields_of(item)) if item else 0)
-
-
 def groups_of(weights):
     """The numbers of the variants that have their coders together, in as few groups as there can be, as even as they can be; in more where the
     variants of one name more types than a group may."""
@@ -296,11 +286,14 @@ class Numbered:
 
         others = "\n            _ => unreachable!()," if len(self.groups) > 1 else ""
         encoders, alias = self.encoders(numbers)
+        short, short_names = in_a_head(self.enum, [self.types[n] for n in numbers], "Payload", numbers[0])
         return Template(GROUP).substitute(
             life=self.life,
             size=size,
             encoders=encoders,
             alias=alias,
+            short=", ".join(short),
+            short_names=short_names,
             first=numbers[0],
             types=self.types_of(numbers),
             name=self.name,

@@ -1,9 +1,10 @@
 """The file of a struct, which stands for the tuple of its fields: what scripts/new_type writes."""
 
+import re
 from string import Template
 
 from declarations import Refused, fields_of
-from known_types import MOST_FIELDS, Checker, inside, of_text
+from known_types import MOST_FIELDS, MOST_TYPES, Checker, inside, of_text
 
 # The names of fields without a name.
 ORDINALS = "first second third fourth fifth sixth seventh eighth ninth tenth eleventh twelfth thirteenth fourteenth fifteenth sixteenth".split()
@@ -12,6 +13,9 @@ MOST_FLAT = 8
 
 # Of more than so much text the tuple of the types has a name.
 MOST_IN_LINE = 60
+# The toolchain names a file after an impl and the types in its head, and a file's name has at most 250 bytes. Of longer ones the types
+# have shorter names there.
+MOST_IN_A_HEAD = 200
 
 # Words of clauses, which are quoted there.
 QUOTED = set("data record deriving module package open abbrev axiom unfold unfoldable unfolding ruleset mutual infix infixl infixr elim "
@@ -45,14 +49,52 @@ ${lends}impl$has_encoder HasEncoder for $name {
     type Encoder = EncoderOfFields<$count, $parts>;
 }
 
-impl$has_decoder HasDecoder<$input> for $name {
-    type Decoder = DecoderOfFields<$input, $parts>;
+${apart}impl$has_decoder HasDecoder<$input> for $name {
+    type Decoder = $decoder;
 }
 $owned"""
-LENDS = """impl$shaped LendsFields$count<$types> for $name {
+LENDS = """${aliases}impl$shaped LendsFields$count<$types> for $name {
     fn fields(&self) -> $references {
         $lent
     }
+}
+
+"""
+# The decoder of fields of one type by itself.
+APART = """/// The decoder of the fields of `$simple` of one type, by itself: the borrow checker covers no decoder that names as many types as all fields do.
+#[derive(Drop)]
+pub struct $apart<$input> {
+    field: $inner,
+}
+
+impl<$input> HoldsData for $apart<$input> {
+    ghost shape = { ⟦<$inner as HoldsData>⟧.shape };
+
+    ghost held = { λ d. ⟦<$inner as HoldsData>⟧.held d.field };
+
+    ghost owned = { λ d. ⟦<$inner as HoldsData>⟧.owned d.field };
+}
+
+impl<$input> View<$input> for $apart<$input> {
+    ghost faults = { ⟦<$inner as View<$input>>⟧.faults };
+
+    fn new(alloc: Global) -> Self {
+        $apart { field: View::new(alloc) }
+    }
+
+    fn populate(&mut self, input: &mut &$input [u8], k: usize) -> Result<(), Error> {
+        self.field.populate(input, k)
+    }
+}
+
+impl<$input> Decoder<$type> for $apart<$input> {
+    ghost makes_free = { ⟦<$inner as Decoder<$type>>⟧.makes_free };
+
+    fn decode(&mut self) -> Result<$type, Error> {
+        self.field.decode()
+    }
+
+    ghost same_shape = { refl };
 }
 
 """
@@ -123,34 +165,105 @@ def initialized(field):
     return field.name if parameter(field.name) == field.name else f"{field.name}: {parameter(field.name)}"
 
 
+def in_a_head(item, types, prefix, first=0):
+    """The types as the head of an impl has them, and lines that give short names to those that are too long together; these names have the numbers from the first on."""
+    text = "".join(types)
+    if len(re.sub(r"\W", "", text)) + len("Tuple") * len(re.findall(r"[(\[&]", text)) <= MOST_IN_A_HEAD:
+        return types, ""
+    names, aliases = {}, ""
+    for number, type in enumerate(types, first):
+        if type not in names and len(type) > len(prefix) + 3:
+            taken = [name for name in [item.lifetime, *item.types] if name and re.search(rf"{re.escape(name)}(?!\w)", type)]
+            names[type] = f"{prefix}{number}" + (f"<{', '.join(taken)}>" if taken else "")
+            aliases += f"type {names[type]} = {type};\n\n"
+    return [names.get(type, type) for type in types], aliases
+
+
 def lends(item, lent):
     """How the fields are lent, of what is said of references to them."""
     types = [of_text(field.type) for field in fields_of(item)]
     if not types:
         return ""
+    short, aliases = in_a_head(item, types, "Field")
     return Template(LENDS).substitute(
         shaped=bounds(item, "Shaped"),
         count=len(types),
-        types=", ".join(types),
+        types=", ".join(short),
+        aliases=aliases,
         name=item.name + bounds(item, ""),
         references=halved(["&" + text for text in types]),
         lent=lent,
     )
 
 
+def types_in(type, own):
+    """How many types the type's decoder names, those that the fields of a type of one's own name among them."""
+    if type.name == "PhantomData":
+        return 1
+    item = own[type.name].item if type.kind == "path" and type.name in own else None
+    here = 0 if type.kind in ("tuple", "number", "lifetime", "reference") else 1
+    return here + sum(types_in(part, own) for part in type.parts) + (types_left(item, own)[0] if item else 0)
+
+
+def types_left(item, own):
+    """How many types the decoder of the item names, and the types of fields that have a decoder by itself, so that these are no more than the borrow checker covers."""
+    saved, apart = {}, []
+    for field in fields_of(item):
+        saved[of_text(field.type)] = saved.get(of_text(field.type), 0) + types_in(field.type, own) - 1
+    left = sum(saved.values()) + len(fields_of(item))
+    for text in sorted(saved, key=lambda text: -saved[text]):
+        if left > MOST_TYPES:
+            apart.append(text)
+            left -= saved[text]
+    return left, apart
+
+
+def decoders(types, apart, input):
+    """The type of the decoder of a tuple of these types, some of which have one by itself."""
+    if not any(text in apart for text in types):
+        return f"<{halved(types)} as HasDecoder<{input}>>::Decoder"
+    if len(types) == 1:
+        return f"{apart[types[0]]}<{input}>"
+    half = len(types) // 2
+    return f"TupleDecoder<{decoders(types[:half], apart, input)}, {decoders(types[half:], apart, input)}>"
+
+
+def decoder(item, own, input, parts):
+    """The decoder of the item, and the decoders of fields that have one by itself."""
+    fields = fields_of(item)
+    _, found = types_left(item, own)
+    if not found:
+        return f"DecoderOfFields<{input}, {parts}>", ""
+    most, line = max((types_in(field.type, own), field.type.line) for field in fields)
+    if item.types or most > MOST_TYPES:
+        raise Refused(line, f"the fields name more than the {MOST_TYPES} types of which the borrow checker covers a decoder: put some of them into a struct of their own, without type parameters")
+    first = {of_text(field.type): field for field in reversed(fields)}
+    apart = {text: f"{item.name}{''.join(word.capitalize() for word in first[text].name.split('_'))}Decoder" for text in found}
+    texts = [
+        Template(APART).substitute(simple=item.name, apart=name, input=input, inner=f"<{text} as HasDecoder<{input}>>::Decoder", type=text)
+        for text, name in apart.items()
+    ]
+    return f"PartsDecoder<{parts}, {decoders([of_text(field.type) for field in fields], apart, input)}>", "".join(texts)
+
+
 def tuple_text(item, imports, own, lent, **row):
     """The file of what stands for the tuple of its fields, of what is said of these."""
     is_owned = not item.lifetime
     fields, name, input = fields_of(item), item.name + bounds(item, ""), item.lifetime or "'a"
-    used = {"DecoderOfFields", "EncoderOfFields", "FromParts", "HasDecoder", "HasEncoder", "StandsFor"}
+    used = {"EncoderOfFields", "FromParts", "HasDecoder", "HasEncoder", "StandsFor"}
     used |= {f"LendsFields{len(fields)}"} if fields else set()
     used |= {"Shaped"} if fields or item.types else set()
     used |= {"Made"} if item.types else set()
     used |= {"DecodeOwned"} if is_owned else set()
-    lines = [f"use bitcode::{{{', '.join(sorted(used))}}};", *(f"use {path};" for path in sorted(imports))]
     parts, alias = halved([of_text(field.type) for field in fields]) if fields else "()", "Parts" + bounds(item, "")
     is_long = len(row["pattern"]) + len(parts) > MOST_IN_LINE
+    type_of_decoder, apart = decoder(item, own, input, alias if is_long else parts)
+    used |= {"Error", "PartsDecoder", "TupleDecoder"} if apart else {"DecoderOfFields"}
+    imports = {*imports, *({"bitcode::coder::{Decoder, HoldsData, View}", "std::alloc::Global"} if apart else ())}
+    lines = [f"use bitcode::{{{', '.join(sorted(used))}}};", *(f"use {path};" for path in sorted(imports))]
     row |= {
+        "decoder": type_of_decoder,
+        "apart": apart,
         "alias": f"type {alias} = {parts};\n\n" if is_long else "",
         "uses": "\n".join(sorted(lines)) + "\n",
         "name": name,

@@ -28,11 +28,11 @@ pub trait WritesVariants<C: VariantColumns>: Enum {
     /// over 18446744073709551615.
     fn write(&self, to: &mut C) -> Result<(), Error>
         requires turn { IsTrue C.in_turn }
-        requires among { (C.first ≤ Self.variants.index self.now) × (Self.variants.index self.now < C.end) }
-        ensures others { KeepsOthers no_columns (Self.variants.index self.now - C.first) (C.columns.lists to.old) (C.columns.lists to.new) }
-        ensures joined { OnOk result (Self.variants.joins self.now (columns_at (Self.variants.index self.now - C.first) (C.columns.lists to.old)) (columns_at (Self.variants.index self.now - C.first) (C.columns.lists to.new))) }
-        ensures form { emptied (columns_at (Self.variants.index self.now - C.first) (C.columns.lists to.new)) ≡ emptied (columns_at (Self.variants.index self.now - C.first) (C.columns.lists to.old)) }
-        ensures refused { IfErr result (λ e. IsWritingRefusal e.reason (Self.variants.overflows self.now (columns_at (Self.variants.index self.now - C.first) (C.columns.lists to.old)))) };
+        requires among { (C.first ≤ Self.each.variants.index self.now) × (Self.each.variants.index self.now < C.end) }
+        ensures others { KeepsOthers no_columns (Self.each.variants.index self.now - C.first) (C.columns.lists to.old) (C.columns.lists to.new) }
+        ensures joined { OnOk result (Self.each.variants.joins self.now (columns_at (Self.each.variants.index self.now - C.first) (C.columns.lists to.old)) (columns_at (Self.each.variants.index self.now - C.first) (C.columns.lists to.new))) }
+        ensures form { emptied (columns_at (Self.each.variants.index self.now - C.first) (C.columns.lists to.new)) ≡ emptied (columns_at (Self.each.variants.index self.now - C.first) (C.columns.lists to.old)) }
+        ensures refused { IfErr result (λ e. IsWritingRefusal e.reason (Self.each.variants.overflows self.now (columns_at (Self.each.variants.index self.now - C.first) (C.columns.lists to.old)))) };
 }
 
 /// An enum that writes the payloads of all its variants, to columns of its own.
@@ -51,10 +51,10 @@ pub trait WritesPayloads<const N: usize, C: AllColumns<N>>: EnumOf<N> {
     ///
     /// It refuses as [`WritesVariants::write`] does.
     fn write_payload(&self, to: &mut C) -> Result<(), Error>
-        ensures others { KeepsOthers no_columns (Self.variants.index self.now) (C.held.lists to.old) (C.held.lists to.new) }
-        ensures joined { OnOk result (Self.variants.joins self.now (columns_at (Self.variants.index self.now) (C.held.lists to.old)) (columns_at (Self.variants.index self.now) (C.held.lists to.new))) }
-        ensures form { emptied (columns_at (Self.variants.index self.now) (C.held.lists to.new)) ≡ emptied (columns_at (Self.variants.index self.now) (C.held.lists to.old)) }
-        ensures refused { IfErr result (λ e. IsWritingRefusal e.reason (Self.variants.overflows self.now (columns_at (Self.variants.index self.now) (C.held.lists to.old)))) };
+        ensures others { KeepsOthers no_columns (Self.each.variants.index self.now) (C.held.lists to.old) (C.held.lists to.new) }
+        ensures joined { OnOk result (Self.each.variants.joins self.now (columns_at (Self.each.variants.index self.now) (C.held.lists to.old)) (columns_at (Self.each.variants.index self.now) (C.held.lists to.new))) }
+        ensures form { emptied (columns_at (Self.each.variants.index self.now) (C.held.lists to.new)) ≡ emptied (columns_at (Self.each.variants.index self.now) (C.held.lists to.old)) }
+        ensures refused { IfErr result (λ e. IsWritingRefusal e.reason (Self.each.variants.overflows self.now (columns_at (Self.each.variants.index self.now) (C.held.lists to.old)))) };
 
     // without entries they are the columns of what the payloads have
     ghost of_shapes: { (c : C) → map emptied (C.held.lists c) ≡ bare_columns Self.Enum.each.variants.shapes };
