@@ -19,7 +19,7 @@ impl Key for Spot {
 }
 
 impl KeyPayload for Seat {
-    ghost key = { key_as (stood_key ⟦<Seat as StandsFor>⟧.parts ⟦<Seat as StandsFor>⟧.of_parts ⟦<(u8, u16, u16) as KeyPayload>⟧.key) ⟦<Seat as PartialEq>⟧.eq ⟦<Seat as Ord>⟧.cmp (λ s t. and_nested _ _ _) (λ s t. then_nested _ _ _) };
+    ghost key = { key_as (stood_key ⟦<Seat as StandsFor>⟧.parts ⟦<Seat as StandsFor>⟧.of_parts ⟦<(u8, u16, u16) as KeyPayload>⟧.key) ⟦<Seat as PartialEq>⟧.eq ⟦<Seat as Ord>⟧.cmp (λ s t. and_nested (⟦<u8 as PartialEq>⟧.eq s.level t.level) (⟦<u16 as PartialEq>⟧.eq s.row t.row) (⟦<u16 as PartialEq>⟧.eq s.place t.place)) (λ s t. then_nested (⟦<u8 as Ord>⟧.cmp s.level t.level) (⟦<u16 as Ord>⟧.cmp s.row t.row) (⟦<u16 as Ord>⟧.cmp s.place t.place)) };
 }
 
 impl Key for Seat {
