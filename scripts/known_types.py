@@ -6,8 +6,9 @@ from collections import namedtuple
 from declarations import Refused, fields_of, word_of
 
 # A type of one's own: where it is imported from, its declaration if that is in the file, whether its impls are those of what it
-# stands for, as this script writes them, and whether it is imported and says its laws as data.
-Own = namedtuple("Own", "path item stands says_laws")
+# stands for, as this script writes them, whether it is imported and says its laws as data, and how many types its decoder names, one
+# where it is imported.
+Own = namedtuple("Own", "path item stands says_laws types")
 # A type that the library writes and reads: where it is imported from, how many types and how many numbers it takes, and whether it
 # can be a set's element or a map's key ("parts": if what it holds can).
 Known = namedtuple("Known", "path types numbers key")
@@ -59,8 +60,9 @@ INSTEAD = {
 }
 # A tuple, a struct and a variant have no more fields than these.
 MOST_FIELDS = 16
-# The borrow checker covers no struct of decoders whose types name more types than so many. A struct in between ends that.
-MOST_TYPES = 32
+# The borrow checker covers no decoder that names more types than so many. A struct in between ends that. Of a struct's decoder fewer are
+# left, so that a type which holds it in a list or an option can have a struct in between too.
+MOST_TYPES, MOST_LEFT = 32, 24
 
 def of_text(type):
     """The type as Rattle writes it."""
@@ -71,6 +73,14 @@ def of_text(type):
     if type.kind == "array":
         return f"[{of_text(type.parts[0])}; {type.name}]"
     return type.name + (f"<{', '.join(map(of_text, type.parts))}>" if type.parts else "")
+
+
+def types_in(type, own):
+    """How many types the type's decoder names."""
+    if type.name == "PhantomData":
+        return 1
+    here = own[type.name].types if type.kind == "path" and type.name in own else 0 if type.kind in ("tuple", "number", "lifetime", "reference") else 1
+    return here + sum(types_in(part, own) for part in type.parts)
 
 
 def can_be_key(type):

@@ -4,8 +4,8 @@ import re
 from string import Template
 
 from declarations import Enum, Struct, fields_of
-from known_types import MOST_TYPES, of_text
-from structs import bounds, in_a_head, places, quoted, types_in
+from known_types import MOST_TYPES, of_text, types_in
+from structs import bounds, in_a_head, places, quoted
 from variants import LETTERS, arms, declaration, held_type, names_of, payload, value
 
 # The borrow checker covers no pattern that goes deeper than this into the nest of the payloads, where one takes memory. So enums of more
@@ -79,25 +79,19 @@ impl$life WritesPayloads<$count, $columns> for $name {
     ghost of_shapes = { λ c. refl };
 }
 
-$parts/// The payloads that values of `$simple` are made of.
-#[derive(Drop)]
-pub struct $payloads<$input> {
-    all: Decoders<$input>,$mark
-}
-
-impl<$input> AllPayloads<$input, $count, $name> for $payloads<$input> {
-    ghost held = { payloads_in (λ d. d.all) ⟦<Decoders<$input> as VariantPayloads<$input, $name>>⟧.held };
+$parts${whole}impl<$input> AllPayloads<$input, $count, $name> for $holder {
+    ghost held = { $held };
 
     fn new(alloc: Global) -> Self {
-        $payloads { all: VariantPayloads::<$name>::new(alloc),$marked }
+        $made
     }
 
     fn populate_at(&mut self, number: usize, input: &mut &$input [u8], k: usize) -> Result<(), Error> {
-        VariantPayloads::<$name>::populate_payloads(&mut self.all, number, input, k)
+        VariantPayloads::<$name>::populate_payloads($lent, number, input, k)
     }
 
     fn decode_at(&mut self, number: usize) -> Result<$name, Error> {
-        self.all.decode_payload(number)
+        $inner.decode_payload(number)
     }
 
     fn sized(&self) {}
@@ -108,7 +102,7 @@ impl$life HasEncoder for $name {
 }
 
 impl<$input> HasDecoder<$input> for $name {
-    type Decoder = PartsDecoder<Held<$count, $name>, NumberedDecoder<$input, $count, $name, $payloads<$input>>>;
+    type Decoder = PartsDecoder<Held<$count, $name>, NumberedDecoder<$input, $count, $name, $holder>>;
 }
 $owned"""
 
@@ -168,6 +162,13 @@ impl<$input> VariantPayloads<$input, $name> for $part<$input> {
     }
 
     fn sized(&self) {}
+}
+
+"""
+WHOLE = """/// The payloads that values of `$simple` are made of.
+#[derive(Drop)]
+pub struct $payloads<$input> {
+    all: Decoders<$input>,$mark
 }
 
 """
@@ -261,6 +262,10 @@ class Numbered:
         self.life, self.input = bounds(enum, ""), enum.lifetime or "'a"
         self.name = enum.name + self.life
 
+    def types_named(self):
+        """How many types the decoder names: it ends at the structs of its parts."""
+        return 2 + 2 * len(self.parts)
+
     def types_of(self, numbers):
         """The types of the payloads of these variants."""
         return ", ".join(self.types[n] for n in numbers)
@@ -318,11 +323,19 @@ class Numbered:
         return Template(PART).substitute(self.decoders(groups), part=name, alias=alias, simple=self.enum.name, name=self.name, input=self.input, first=first, last=end - 1, end=end), name
 
     def payloads(self):
-        """The decoders of all variants, which a struct for each part holds where there are several."""
-        if len(self.parts) == 1:
-            return {"parts": "", **self.decoders(self.groups)}
-        texts, names = zip(*map(self.part, self.parts))
-        return {"parts": "".join(texts), "decoders": halves([f"{name}<{self.input}>" for name in names]), "mark": "", "marked": ""}
+        """The decoders of all variants: a struct holds them, or one each part of them."""
+        held = f"⟦<Decoders<{self.input}> as VariantPayloads<{self.input}, {self.name}>>⟧.held"
+        if len(self.parts) > 1:
+            texts, names = zip(*map(self.part, self.parts))
+            return {
+                "parts": "".join(texts), "decoders": halves([f"{name}<{self.input}>" for name in names]), "whole": "", "holder": f"Decoders<{self.input}>",
+                "held": held, "made": f"VariantPayloads::<{self.name}>::new(alloc)", "lent": "self", "inner": "self", "mark": "",
+            }
+        row, payloads = self.decoders(self.groups), f"{self.enum.name}Payloads"
+        return {
+            "parts": "", **row, "whole": Template(WHOLE).substitute(row, simple=self.enum.name, payloads=payloads, input=self.input), "holder": f"{payloads}<{self.input}>",
+            "held": f"payloads_in (λ d. d.all) {held}", "made": f"{payloads} {{ all: VariantPayloads::<{self.name}>::new(alloc),{row['marked']} }}", "lent": "&mut self.all", "inner": "self.all",
+        }
 
     def built(self, variant):
         """A function of a payload, which gives the value that has it, in a ghost member."""
@@ -371,10 +384,15 @@ class Numbered:
             index=arms(self.enum, lambda number, variant: value(self.enum, variant), numbered),
             groups="\n".join(map(self.group, self.groups)),
             all_columns=f"type Columns = {halves([self.encoders(numbers)[0] for numbers in self.groups])};\n\n" if len(self.groups) > 1 else "",
-            payloads=f"{self.enum.name}Payloads",
             **payloads,
             owned="" if self.enum.lifetime else Template(OWNED).substitute(name=self.name),
         )
+
+
+def parts_in(text):
+    """What the type stands for, as its impl of `StandsFor` has it."""
+    end = text.index("type Inside =")
+    return text[text.rindex("type Parts =", 0, end):end].removeprefix("type Parts =").strip().removesuffix(";")
 
 
 def saying_laws(text, item, is_numbered):
@@ -383,7 +401,7 @@ def saying_laws(text, item, is_numbered):
     if count > 1:
         parts = f"{'Held' if is_numbered else 'Bare'}<{count}, {name}>"
     else:
-        parts = f"Absent<{name}>" if isinstance(item, Enum) and not count else re.search(r"type Parts = (.*?);\n\s*type Inside", text, re.S).group(1)
+        parts = f"Absent<{name}>" if isinstance(item, Enum) and not count else parts_in(text)
     uses = {"Payload", "StandsFor", *({"Absent"} & {parts.split("<")[0]})}
     uses |= {"Shaped"} if item.types else set()
 

@@ -4,7 +4,7 @@ import re
 from string import Template
 
 from declarations import Refused, fields_of
-from known_types import MOST_FIELDS, MOST_TYPES, Checker, inside, of_text
+from known_types import MOST_FIELDS, MOST_LEFT, MOST_TYPES, Checker, inside, of_text, types_in
 
 # The names of fields without a name.
 ORDINALS = "first second third fourth fifth sixth seventh eighth ninth tenth eleventh twelfth thirteenth fourteenth fifteenth sixteenth".split()
@@ -13,8 +13,8 @@ MOST_FLAT = 8
 
 # Of more than so much text the tuple of the types has a name.
 MOST_IN_LINE = 60
-# The toolchain names a file after an impl and the types in its head, and a file's name has at most 250 bytes. Of longer ones the types
-# have shorter names there.
+# The toolchain names a file after an impl: by its type, its trait and the types that these take. A file's name has at most 250 bytes. So
+# heads with more than so many letters name the types by short aliases; the rest is for what the toolchain adds at a tuple or a reference.
 MOST_IN_A_HEAD = 200
 
 # Words of clauses, which are quoted there.
@@ -60,8 +60,8 @@ LENDS = """${aliases}impl$shaped LendsFields$count<$types> for $name {
 }
 
 """
-# The decoder of fields of one type by itself.
-APART = """/// The decoder of the fields of `$simple` of one type, by itself: the borrow checker covers no decoder that names as many types as all fields do.
+# The decoder struct of a type of fields.
+APART = """/// The decoder of each field of `$simple` that is a `$type`: the borrow checker covers no decoder that names as many types as all fields do.
 #[derive(Drop)]
 pub struct $apart<$input> {
     field: $inner,
@@ -166,14 +166,14 @@ def initialized(field):
 
 
 def in_a_head(item, types, prefix, first=0):
-    """The types as the head of an impl has them, and lines that give short names to those that are too long together; these names have the numbers from the first on."""
-    text = "".join(types)
-    if len(re.sub(r"\W", "", text)) + len("Tuple") * len(re.findall(r"[(\[&]", text)) <= MOST_IN_A_HEAD:
+    """The types as the head of an impl has them, and the aliases of those that would make a name of a file too long, numbered from the first on."""
+    text = "".join([item.name, "LendsFields16", *types])
+    if len(re.sub(r"\W", "", text)) + len("Tuple16") * len(re.findall(r"[(\[&]", text)) <= MOST_IN_A_HEAD:
         return types, ""
     names, aliases = {}, ""
     for number, type in enumerate(types, first):
         if type not in names and len(type) > len(prefix) + 3:
-            taken = [name for name in [item.lifetime, *item.types] if name and re.search(rf"{re.escape(name)}(?!\w)", type)]
+            taken = [name for name in [item.lifetime, *item.types] if name and re.search(rf"(?<![\w']){re.escape(name)}(?!\w)", type)]
             names[type] = f"{prefix}{number}" + (f"<{', '.join(taken)}>" if taken else "")
             aliases += f"type {names[type]} = {type};\n\n"
     return [names.get(type, type) for type in types], aliases
@@ -196,23 +196,17 @@ def lends(item, lent):
     )
 
 
-def types_in(type, own):
-    """How many types the type's decoder names, those that the fields of a type of one's own name among them."""
-    if type.name == "PhantomData":
-        return 1
-    item = own[type.name].item if type.kind == "path" and type.name in own else None
-    here = 0 if type.kind in ("tuple", "number", "lifetime", "reference") else 1
-    return here + sum(types_in(part, own) for part in type.parts) + (types_left(item, own)[0] if item else 0)
-
-
 def types_left(item, own):
-    """How many types the decoder of the item names, and the types of fields that have a decoder by itself, so that these are no more than the borrow checker covers."""
-    saved, apart = {}, []
-    for field in fields_of(item):
+    """How many types the decoder of the item names, and which types of fields have a decoder struct of their own so that these are few."""
+    fields = fields_of(item)
+    saved = {}
+    for field in fields:
         saved[of_text(field.type)] = saved.get(of_text(field.type), 0) + types_in(field.type, own) - 1
-    left = sum(saved.values()) + len(fields_of(item))
+    left, apart = len(fields) + sum(saved.values()), []
+    if item.types and left <= MOST_TYPES:
+        return left, apart
     for text in sorted(saved, key=lambda text: -saved[text]):
-        if left > MOST_TYPES:
+        if left > MOST_LEFT:
             apart.append(text)
             left -= saved[text]
     return left, apart
@@ -229,7 +223,7 @@ def decoders(types, apart, input):
 
 
 def decoder(item, own, input, parts):
-    """The decoder of the item, and the decoders of fields that have one by itself."""
+    """The decoder of the item, and the decoder structs of fields that have one."""
     fields = fields_of(item)
     _, found = types_left(item, own)
     if not found:
@@ -237,12 +231,8 @@ def decoder(item, own, input, parts):
     most, line = max((types_in(field.type, own), field.type.line) for field in fields)
     if item.types or most > MOST_TYPES:
         raise Refused(line, f"the fields name more than the {MOST_TYPES} types of which the borrow checker covers a decoder: put some of them into a struct of their own, without type parameters")
-    first = {of_text(field.type): field for field in reversed(fields)}
-    apart = {text: f"{item.name}{''.join(word.capitalize() for word in first[text].name.split('_'))}Decoder" for text in found}
-    texts = [
-        Template(APART).substitute(simple=item.name, apart=name, input=input, inner=f"<{text} as HasDecoder<{input}>>::Decoder", type=text)
-        for text, name in apart.items()
-    ]
+    apart = {text: f"{item.name}Decoder{number}" for number, text in enumerate(found)}
+    texts = [Template(APART).substitute(simple=item.name, apart=name, input=input, inner=f"<{text} as HasDecoder<{input}>>::Decoder", type=text) for text, name in apart.items()]
     return f"PartsDecoder<{parts}, {decoders([of_text(field.type) for field in fields], apart, input)}>", "".join(texts)
 
 
