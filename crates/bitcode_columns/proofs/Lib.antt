@@ -31,3 +31,5 @@ pub mod UnalignedLemmas
 pub mod MemoryLemmas
 pub mod MemoryLentLemmas
 pub mod PlacesLemmas
+pub mod StrictLemmas
+pub mod StrictIntLemmas

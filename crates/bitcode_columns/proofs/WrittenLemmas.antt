@@ -54,7 +54,7 @@ plain_fits width signed entries e =
 
 -- ---- the narrow numbers
 
-shifted_numbers : (width : ℕ) (signed : Bool) (entries : List ℤ) → Entries width signed entries
+pub shifted_numbers : (width : ℕ) (signed : Bool) (entries : List ℤ) → Entries width signed entries
     → map (λ e. unsigned_abs (e -ℤ least entries)) entries
     ≡ map (λ e. above width (residue width (least entries)) e % 256 ^ shifted_width (least entries) (greatest entries)) entries
 shifted_numbers width signed entries e =
@@ -87,7 +87,7 @@ plain_below width signed entries e z in_z low high =
     let at_most : residue width z ≤ unsigned_abs (greatest entries) = residue_at_most width (least entries) z (greatest entries) bottom low high in
     omega (arith, fits.1))
 
-plain_numbers : (width : ℕ) (signed : Bool) (entries : List ℤ) → Entries width signed entries
+pub plain_numbers : (width : ℕ) (signed : Bool) (entries : List ℤ) → Entries width signed entries
     → map (residue width) entries ≡ map (λ e. above width 0 e % 256 ^ plain_width width (least entries) (greatest entries)) entries
 plain_numbers width signed entries e =
     map_within (residue width) (λ z. above width 0 z % 256 ^ plain_width width (least entries) (greatest entries)) entries

@@ -3,7 +3,7 @@ use Rattle.std.specs.Prelude.{ℕ, List, codes}
 use Rattle.std.specs.declared.io.ErrorKind.{ErrorKind}
 use Rattle.std.specs.declared.io.ErrorKind.TheVariants.{UnexpectedEof, InvalidData, OutOfMemory as NoMemory}
 use Rattle.bitcode_columns.specs.declared.error.Reason.{Reason}
-use Rattle.bitcode_columns.specs.declared.error.Reason.TheVariants.{Eof, ExpectedEof, InvalidPacking, LengthOverflow, HugeLength, InvalidUtf8, InvalidBitPattern, InvalidArrayVec, InvalidArrayString, InvalidEnumVariant, InvalidOption, InvalidChar, TooManyZeroSizedTypes, TooManyVariants, NotOfTheShape, NestedTooDeep, OutOfMemory, BadShape}
+use Rattle.bitcode_columns.specs.declared.error.Reason.TheVariants.{Eof, ExpectedEof, InvalidPacking, LengthOverflow, HugeLength, InvalidUtf8, InvalidBitPattern, InvalidArrayVec, InvalidArrayString, InvalidEnumVariant, InvalidOption, InvalidChar, TooManyZeroSizedTypes, TooManyVariants, NotOfTheShape, NestedTooDeep, OutOfMemory, BadShape, NotTheWrittenText, TooManyNodes}
 
 abbrev pub reason_text : Reason → List ℕ
 reason_text Eof = codes "EOF"
@@ -24,6 +24,8 @@ reason_text NotOfTheShape = codes "value is not of the shape"
 reason_text NestedTooDeep = codes "nested too deep"
 reason_text OutOfMemory = codes "out of memory"
 reason_text BadShape = codes "bad shape"
+reason_text NotTheWrittenText = codes "not the written text"
+reason_text TooManyNodes = codes "too many nodes"
 
 abbrev pub io_kind : Reason → ErrorKind
 io_kind Eof = UnexpectedEof

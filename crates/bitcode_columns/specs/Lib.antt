@@ -23,3 +23,4 @@ pub mod LittleEndian
 pub mod Ints
 pub mod IntRange
 pub mod IntWidths
+pub mod WrittenDigits

@@ -45,6 +45,10 @@ pub enum Reason {
     OutOfMemory,
     /// A shape refers to an entry that is not there, or to itself without end.
     BadShape,
+    /// A column stands in other bytes than are written for its entries, where only these are accepted.
+    NotTheWrittenText,
+    /// A value has more nodes than its reader allows.
+    TooManyNodes,
 }
 
 impl Reason {
@@ -71,6 +75,8 @@ impl Reason {
             Reason::NestedTooDeep => "nested too deep",
             Reason::OutOfMemory => "out of memory",
             Reason::BadShape => "bad shape",
+            Reason::NotTheWrittenText => "not the written text",
+            Reason::TooManyNodes => "too many nodes",
         }
     }
 

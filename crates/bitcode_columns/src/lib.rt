@@ -13,3 +13,4 @@ pub mod minmax;
 pub mod pack;
 pub mod pack_ints;
 pub mod refuse;
+pub mod strict;

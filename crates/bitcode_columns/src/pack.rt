@@ -16,8 +16,8 @@ use std::alloc::Global;
 // A byte column of at most so many entries stands without a tag.
 pub(crate) const MOST_WITHOUT_TAG: usize = 2;
 
-mod bytes;
-mod variants;
+pub(crate) mod bytes;
+pub(crate) mod variants;
 
 /// How many values a digit of a packed byte has: two to sixteen, or all 256 of a whole byte.
 #[derive(Clone, Copy, PartialEq, Eq)]
@@ -66,7 +66,7 @@ impl Base {
     }
 
     /// The level of the base: a higher level has smaller digits.
-    fn level(self) -> u8
+    pub(crate) fn level(self) -> u8
         ensures { result ≡ level_of_base self }
     {
         match self {

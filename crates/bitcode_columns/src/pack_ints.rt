@@ -11,7 +11,7 @@ use std::alloc::Global;
 
 mod append;
 mod read;
-mod width;
+pub(crate) mod width;
 mod write;
 
 /// Appends the column of the integers. The slice is scratch afterwards.

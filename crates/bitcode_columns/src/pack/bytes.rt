@@ -22,7 +22,7 @@ use std::alloc::Global;
 const HIGHEST_TAG: u8 = 10;
 
 /// At most so many bytes are never written as what lies above the least of them.
-const MOST_UNSHIFTED: usize = 5;
+pub(crate) const MOST_UNSHIFTED: usize = 5;
 
 /// How the entries of a byte column stand behind its tag.
 #[derive(Clone, Copy)]
@@ -127,7 +127,7 @@ fn subtract_from_each<T: Byte>(bytes: &mut [T], least: T)
 }
 
 /// The base in which the entries stand as they are: negative ones are whole bytes.
-fn plain_base<T: Byte>(least: T, greatest: T) -> Base
+pub(crate) fn plain_base<T: Byte>(least: T, greatest: T) -> Base
     requires { T.number least ≤ℤ T.number greatest }
     ensures { result ≡ (if int_lt (T.number least) (pos 0) then Base.Whole else base_for (unsigned_abs (T.number greatest))) }
 {
@@ -139,7 +139,7 @@ fn plain_base<T: Byte>(least: T, greatest: T) -> Base
 }
 
 /// The base in which the entries stand without the least one.
-fn shifted_base<T: Byte>(least: T, greatest: T) -> Base
+pub(crate) fn shifted_base<T: Byte>(least: T, greatest: T) -> Base
     requires { T.number least ≤ℤ T.number greatest }
     ensures { result ≡ base_for (unsigned_abs (T.number greatest -ℤ T.number least)) }
 {

@@ -23,7 +23,7 @@ mod counts;
 const HIGHEST_BYTE: usize = 255;
 
 /// The base in which the variants below `N` are digits.
-fn base_of_variants<const N: usize>() -> Base
+pub(crate) fn base_of_variants<const N: usize>() -> Base
     ensures { result ≡ base_for (N - 1) }
 {
     Base::for_greatest(N.saturating_sub(1).min(HIGHEST_BYTE) as u8)
