@@ -1,0 +1,14 @@
+-- The payloads of the variants up to the one at hand were read.
+use Rattle.std.proofs.Common.{◌≡◌, length}
+use Rattle.bitcode_columns.specs.Reading.{IsEndOf}
+use Rattle.bitcode_parts.specs.Variants.{variants_left}
+use Rattle.bitcode_enums.proofs.PayloadReadingLemmas.{ReadTo}
+use Rattle.bitcode_enums.proofs.decoder.EnumDecoderView.populate.Given as goal
+
+abbrev pub invariant-loop-number : goal.invariant-loop-number
+invariant-loop-number g l = record {
+  size : length (g.D.AllPayloads.held.lists l.self.payloads) ≡ g.row.N;
+  variants : l.self.variants ≡ l.initial.self.variants;
+  read : ReadTo g.T.Enum.each.variants.shapes g.D.AllPayloads.held.faults (variants_left l.initial.self.variants) l.initial.input.now l.number (g.D.AllPayloads.held.lists l.self.payloads) l.input.now;
+  rest : IsEndOf l.initial.input.now l.input.now;
+}
