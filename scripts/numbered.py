@@ -82,8 +82,8 @@ $parts${whole}impl<$input> AllPayloads<$input, $count, $name> for $holder {
         $made
     }
 
-    fn populate_at(&mut self, number: usize, input: &mut &$input [u8], k: usize) -> Result<(), Error> {
-        VariantPayloads::<$name>::populate_payloads($lent, number, input, k)
+    fn read_at(&mut self, number: usize, input: &mut &$input [u8], k: usize, strict: bool) -> Result<bool, Error> {
+        VariantPayloads::<$name>::read_payloads($lent, number, input, k, strict)
     }
 
     fn decode_at(&mut self, number: usize) -> Result<$name, Error> {
@@ -149,8 +149,8 @@ impl<$input> VariantPayloads<$input, $name> for $part<$input> {
         $first
     }
 
-    fn populate_payloads(&mut self, number: usize, input: &mut &$input [u8], k: usize) -> Result<(), Error> {
-        VariantPayloads::<$name>::populate_payloads(&mut self.all, number, input, k)
+    fn read_payloads(&mut self, number: usize, input: &mut &$input [u8], k: usize, strict: bool) -> Result<bool, Error> {
+        VariantPayloads::<$name>::read_payloads(&mut self.all, number, input, k, strict)
     }
 
     fn decode_payload(&mut self, number: usize) -> Result<$name, Error> {

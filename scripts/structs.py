@@ -82,8 +82,8 @@ impl<$input> View<$input> for $apart<$input> {
         $apart { field: View::new(alloc) }
     }
 
-    fn populate(&mut self, input: &mut &$input [u8], k: usize) -> Result<(), Error> {
-        self.field.populate(input, k)
+    fn read(&mut self, input: &mut &$input [u8], k: usize, strict: bool) -> Result<bool, Error> {
+        self.field.read(input, k, strict)
     }
 }
 

@@ -3,3 +3,4 @@ pub mod ReadingLemmas
 pub mod ColumnLemmas
 pub mod PayloadReadingLemmas
 pub mod VariantLemmas
+pub mod StrictLemmas

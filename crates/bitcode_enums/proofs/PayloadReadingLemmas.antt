@@ -36,24 +36,24 @@ lists_to zero lists behind = behind
 lists_to (suc place) [] behind = behind
 lists_to (suc place) (ds ∷ lists) behind = ds ∷ lists_to place lists behind
 
-from_place : (place : ℕ) (ss : Shapes) → place < variant_count ss → shapes_from place ss ≡ shape_and (shape_at place ss) (shapes_from (suc place) ss)
+pub from_place : (place : ℕ) (ss : Shapes) → place < variant_count ss → shapes_from place ss ≡ shape_and (shape_at place ss) (shapes_from (suc place) ss)
 from_place place no_shapes below = absurd (omega (arith, below))
 from_place zero (shape_and s ss) below = refl
 from_place (suc place) (shape_and s ss) below = from_place place ss (omega (arith, below))
 
-from_last : (place : ℕ) (ss : Shapes) → variant_count ss ≤ place → shapes_from place ss ≡ no_shapes
+pub from_last : (place : ℕ) (ss : Shapes) → variant_count ss ≤ place → shapes_from place ss ≡ no_shapes
 from_last zero no_shapes past = refl
 from_last zero (shape_and s ss) past = absurd (omega (arith, past))
 from_last (suc place) no_shapes past = refl
 from_last (suc place) (shape_and s ss) past = from_last place ss (omega (arith, past))
 
-lists_next : (place : ℕ) (lists behind : List (List Datum)) (ds : List Datum) → place < length lists
+pub lists_next : (place : ℕ) (lists behind : List (List Datum)) (ds : List Datum) → place < length lists
     → lists_to place lists (ds ∷ behind) ≡ lists_to (suc place) (slice_set lists place ds) behind
 lists_next place [] behind ds below = absurd (omega (arith, below))
 lists_next zero (x ∷ lists) behind ds below = refl
 lists_next (suc place) (x ∷ lists) behind ds below = ap (λ xs. x ∷ xs) (lists_next place lists behind ds (omega (arith, below)))
 
-lists_whole : (place : ℕ) (lists : List (List Datum)) → length lists ≤ place → lists_to place lists [] ≡ lists
+pub lists_whole : (place : ℕ) (lists : List (List Datum)) → length lists ≤ place → lists_to place lists [] ≡ lists
 lists_whole zero [] past = refl
 lists_whole zero (x ∷ lists) past = absurd (omega (arith, past))
 lists_whole (suc place) [] past = refl

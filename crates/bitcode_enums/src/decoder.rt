@@ -8,7 +8,7 @@ ghost use Rattle.bitcode_enums.specs.Reading.{VariantsFault};
 
 use crate::held::{Enum, EnumOf, Held};
 use crate::payloads::AllPayloads;
-use bitcode_coder::coder::{Decoder, HoldsData, View};
+use bitcode_coder::coder::{Decoder, HoldsData, View, both};
 use bitcode_columns::error::Error;
 use bitcode_parts::choices::variant::VariantDecoder;
 use std::alloc::Global;
@@ -49,14 +49,15 @@ impl<'a, const N: usize, T: EnumOf<N>, D: AllPayloads<'a, N, T>> View<'a>
         }
     }
 
-    fn populate(&mut self, input: &mut &'a [u8], k: usize) -> Result<(), Error> {
+    fn read(&mut self, input: &mut &'a [u8], k: usize, strict: bool) -> Result<bool, Error> {
         self.payloads.sized();
-        self.variants.populate(input, k)?;
+        let mut written = self.variants.read(input, k, strict)?;
         for number in 0..N {
             let count = self.variants.length(number);
-            self.payloads.populate_at(number, input, count)?;
+            let payloads = self.payloads.read_at(number, input, count, strict)?;
+            written = both(written, payloads);
         }
-        Ok(())
+        Ok(written)
     }
 }
 

@@ -93,18 +93,19 @@ impl<'a, T: Enum, F: VariantPayloads<'a, T>, S: VariantPayloads<'a, T>> VariantP
         self.first.first()
     }
 
-    fn populate_payloads(
+    fn read_payloads(
         &mut self,
         number: usize,
         input: &mut &'a [u8],
         k: usize,
-    ) -> Result<(), Error> {
+        strict: bool,
+    ) -> Result<bool, Error> {
         self.first.sized();
         self.second.sized();
         if number < self.second.first() {
-            self.first.populate_payloads(number, input, k)
+            self.first.read_payloads(number, input, k, strict)
         } else {
-            self.second.populate_payloads(number, input, k)
+            self.second.read_payloads(number, input, k, strict)
         }
     }
 

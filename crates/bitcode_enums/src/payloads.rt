@@ -4,6 +4,7 @@ ghost use Rattle.bitcode_columns.specs.declared.error.Reason.{Reason};
 ghost use Rattle.bitcode_columns.specs.Reading.{Reads, IsEndOf};
 ghost use Rattle.bitcode_coder.specs.Coder.{IsReadingRefusal};
 ghost use Rattle.bitcode_coder.specs.Spelling.{Spells};
+ghost use Rattle.bitcode_coder.specs.Strict.{JudgesData};
 ghost use Rattle.bitcode_parts.specs.Payloads.{payloads_of};
 ghost use Rattle.bitcode_enums.specs.HeldColumns.{HeldPayloads};
 ghost use Rattle.bitcode_enums.specs.ByNumber.{shape_at, KeepsOthers};
@@ -17,7 +18,7 @@ use std::alloc::Global;
 ///
 /// ```
 /// let mut payloads: DecodersOf2<'_, At<0>, (), u8> = VariantPayloads::<Shot>::new(alloc);
-/// VariantPayloads::<Shot>::populate_payloads(&mut payloads, 1, &mut input, 1)?; // of [7]
+/// VariantPayloads::<Shot>::read_payloads(&mut payloads, 1, &mut input, 1, false)?; // of [7]
 /// let shot: Shot = payloads.decode_payload(1)?; // `Shot::Hit(7)`
 /// ```
 pub trait VariantPayloads<'a, T: Enum> {
@@ -42,17 +43,19 @@ pub trait VariantPayloads<'a, T: Enum> {
     fn first(&self) -> usize
         ensures { result ≡ first };
 
-    /// Reads `k` payloads of the variant of a number from the front of the input. As `View::populate`.
-    fn populate_payloads(
+    /// Reads `k` payloads of the variant of a number from the front of the input. As `View::read`.
+    fn read_payloads(
         &mut self,
         number: usize,
         input: &mut &'a [u8],
         k: usize,
-    ) -> Result<(), Error>
+        strict: bool,
+    ) -> Result<bool, Error>
         requires turn { IsTrue in_turn }
         requires known { (first ≤ number) × (number < end) }
         ensures others { KeepsOthers [] (number - first) (held.lists self.old) (held.lists self.new) }
         ensures read { OnOk result (Reads (Spells (shape_at number T.each.variants.shapes)) k input.old.now (payloads_of (number - first) (held.lists self.new)) input.new.now) }
+        ensures judged { IsTrue strict → IfOk result (λ written. JudgesData (shape_at number T.each.variants.shapes) (payloads_of (number - first) (held.lists self.new)) written input.old.now input.new.now) }
         ensures refused { IfErr result (λ e. IsReadingRefusal (shape_at number T.each.variants.shapes) e.reason k input.old.now) }
         ensures exact { IfErr result (λ e. held.faults number e.reason k input.old.now) }
         ensures rest { OnErr result (IsEndOf input.old.now input.new.now) };
@@ -96,8 +99,8 @@ pub trait VariantPayloads<'a, T: Enum> {
 ///         ShotPayloads { all: VariantPayloads::<Shot>::new(alloc) }
 ///     }
 ///
-///     fn populate_at(&mut self, number: usize, input: &mut &'a [u8], k: usize) -> Result<(), Error> {
-///         VariantPayloads::<Shot>::populate_payloads(&mut self.all, number, input, k)
+///     fn read_at(&mut self, number: usize, input: &mut &'a [u8], k: usize, strict: bool) -> Result<bool, Error> {
+///         VariantPayloads::<Shot>::read_payloads(&mut self.all, number, input, k, strict)
 ///     }
 ///
 ///     fn decode_at(&mut self, number: usize) -> Result<Shot, Error> {
@@ -116,11 +119,18 @@ pub trait AllPayloads<'a, const N: usize, T: EnumOf<N>> {
         ensures empty { held.lists result ≡ map (λ payloads. []) (held.lists result) }
         ensures owned { held.owned result ≡ 0 };
 
-    /// Reads `k` payloads of the variant of a number from the front of the input. As `View::populate`.
-    fn populate_at(&mut self, number: usize, input: &mut &'a [u8], k: usize) -> Result<(), Error>
+    /// Reads `k` payloads of the variant of a number from the front of the input. As `View::read`.
+    fn read_at(
+        &mut self,
+        number: usize,
+        input: &mut &'a [u8],
+        k: usize,
+        strict: bool,
+    ) -> Result<bool, Error>
         requires { number < N }
         ensures others { KeepsOthers [] number (held.lists self.old) (held.lists self.new) }
         ensures read { OnOk result (Reads (Spells (shape_at number T.each.variants.shapes)) k input.old.now (payloads_of number (held.lists self.new)) input.new.now) }
+        ensures judged { IsTrue strict → IfOk result (λ written. JudgesData (shape_at number T.each.variants.shapes) (payloads_of number (held.lists self.new)) written input.old.now input.new.now) }
         ensures refused { IfErr result (λ e. IsReadingRefusal (shape_at number T.each.variants.shapes) e.reason k input.old.now) }
         ensures exact { IfErr result (λ e. held.faults number e.reason k input.old.now) }
         ensures rest { OnErr result (IsEndOf input.old.now input.new.now) };

@@ -210,15 +210,16 @@ impl<
         O::first()
     }
 
-    fn populate_payloads(
+    fn read_payloads(
         &mut self,
         number: usize,
         input: &mut &'a [u8],
         k: usize,
-    ) -> Result<(), Error> {
+        strict: bool,
+    ) -> Result<bool, Error> {
         match number - O::first() {
-            0 => self.first.populate(input, k),
-            1 => self.second.populate(input, k),
+            0 => self.first.read(input, k, strict),
+            1 => self.second.read(input, k, strict),
             _ => unreachable!(),
         }
     }
