@@ -80,6 +80,7 @@ pub use bitcode_derive::derive::HolderDecoder;
 pub use bitcode_derive::derive::HolderEncoder;
 pub use bitcode_derive::whole::decode;
 pub use bitcode_derive::whole::decode_front;
+pub use bitcode_derive::whole::decode_strict;
 pub use bitcode_derive::whole::encode;
 pub use bitcode_derive::whole::encode_into;
 pub use bitcode_derive::whole::invalid_enum_variant;
@@ -191,6 +192,7 @@ pub use bitcode_parts::stands_for::PartsDecoder;
 pub use bitcode_parts::uuids::UuidConversion;
 pub use bitcode_serde::deserialize::REF_LIMIT;
 pub use bitcode_serde::deserialize::deserialize;
+pub use bitcode_serde::deserialize::deserialize_strict;
 pub use bitcode_serde::free::ZST_LIMIT;
 pub use bitcode_serde::serialize::serialize;
 pub use bitcode_shapes::bare_variants::Bare;
@@ -258,14 +260,15 @@ pub mod serde {
 /// contracts are the laws.
 pub mod laws {
     pub use bitcode_coder::laws::{
-        all_columns, joined_data, joined_texts, one_column, tree_and_list,
+        all_columns, joined_data, joined_texts, one_column, strict_data, tree_and_list,
     };
     pub use bitcode_columns::laws::{bool_columns, byte_columns, int_columns, variant_columns};
     pub use bitcode_derive::laws::{
         borrowed_text, borrowed_texts, comes_back, one_text, one_value, overflows_exactly,
-        round_trip, short_text,
+        round_trip, short_text, strictly_written,
     };
     pub use bitcode_untyped::laws::{
         columns_decide, every_shape, faults_tell, one_value_of_a_datum, spelled_data,
+        strictly_spelled_data,
     };
 }
