@@ -156,8 +156,14 @@ impl<'a> AllPayloads<'a, 6, Order> for OrderPayloads<'a> {
         }
     }
 
-    fn populate_at(&mut self, number: usize, input: &mut &'a [u8], k: usize) -> Result<(), Error> {
-        VariantPayloads::<Order>::populate_payloads(&mut self.all, number, input, k)
+    fn read_at(
+        &mut self,
+        number: usize,
+        input: &mut &'a [u8],
+        k: usize,
+        strict: bool,
+    ) -> Result<bool, Error> {
+        VariantPayloads::<Order>::read_payloads(&mut self.all, number, input, k, strict)
     }
 
     fn decode_at(&mut self, number: usize) -> Result<Order, Error> {

@@ -192,8 +192,14 @@ impl<'a> AllPayloads<'a, 8, Reply<'a>> for ReplyPayloads<'a> {
         }
     }
 
-    fn populate_at(&mut self, number: usize, input: &mut &'a [u8], k: usize) -> Result<(), Error> {
-        VariantPayloads::<Reply<'a>>::populate_payloads(&mut self.all, number, input, k)
+    fn read_at(
+        &mut self,
+        number: usize,
+        input: &mut &'a [u8],
+        k: usize,
+        strict: bool,
+    ) -> Result<bool, Error> {
+        VariantPayloads::<Reply<'a>>::read_payloads(&mut self.all, number, input, k, strict)
     }
 
     fn decode_at(&mut self, number: usize) -> Result<Reply<'a>, Error> {

@@ -120,8 +120,14 @@ impl<'a> AllPayloads<'a, 2, Two> for TwoPayloads<'a> {
         }
     }
 
-    fn populate_at(&mut self, number: usize, input: &mut &'a [u8], k: usize) -> Result<(), Error> {
-        VariantPayloads::<Two>::populate_payloads(&mut self.all, number, input, k)
+    fn read_at(
+        &mut self,
+        number: usize,
+        input: &mut &'a [u8],
+        k: usize,
+        strict: bool,
+    ) -> Result<bool, Error> {
+        VariantPayloads::<Two>::read_payloads(&mut self.all, number, input, k, strict)
     }
 
     fn decode_at(&mut self, number: usize) -> Result<Two, Error> {
