@@ -6,8 +6,8 @@ from collections import namedtuple
 from declarations import Refused, fields_of, word_of
 
 # A type of one's own: where it is imported from, its declaration if that is in the file, whether its impls are those of what it
-# stands for, as this script writes them, whether it is imported and says its laws as data, and how many types its decoder names, one
-# where it is imported.
+# stands for, as this script writes them, whether it says its laws as data, and how many types its decoder names, one where it is
+# imported.
 Own = namedtuple("Own", "path item stands says_laws types")
 # A type that the library writes and reads: where it is imported from, how many types and how many numbers it takes, and whether it
 # can be a set's element or a map's key ("parts": if what it holds can).
@@ -81,6 +81,11 @@ def types_in(type, own):
         return 1
     here = own[type.name].types if type.kind == "path" and type.name in own else 0 if type.kind in ("tuple", "number", "lifetime", "reference") else 1
     return here + sum(types_in(part, own) for part in type.parts)
+
+
+def says_laws(type, own):
+    """Whether the type says its laws as data: what is imported and was not written by this script may not."""
+    return (type.kind != "path" or type.name not in own or own[type.name].says_laws) and all(says_laws(part, own) for part in type.parts)
 
 
 def can_be_key(type):

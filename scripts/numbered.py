@@ -1,17 +1,12 @@
-"""The file of an enum that is written and read by the numbers of its variants: what scripts/new_type writes of enums of many variants."""
+"""The file of an enum of which some variants have fields: it is written and read by the numbers of its variants."""
 
-import re
 from string import Template
 
-from declarations import Enum, Struct, fields_of
 from known_types import MOST_TYPES, of_text, types_in
-from structs import bounds, in_a_head, places, quoted
+from structs import bounds, in_a_head, laws_as_data, places, quoted
 from variants import LETTERS, arms, declaration, held_type, names_of, payload, value
 
-# The borrow checker covers no pattern that goes deeper than this into the nest of the payloads, where one takes memory. So enums of more
-# variants are written by number, where they can be.
-MOST_IN_A_NEST = 4
-# So many variants that follow each other have their coders together, at the most: crates/bitcode_enums/src/numbered/variants.
+# So many variants that follow each other have their coders together, at the most: crates/bitcode_enums/src/variants.
 MOST_TOGETHER = 6
 ORDINALS = ["first", "second", "third", "fourth", "fifth", "sixth"]
 # Of more than so much text the type of a group's encoders has a name.
@@ -44,6 +39,7 @@ impl$life HeldIn for $name {
     type Holder = Held<$count, $name>;
 }
 
+$payload_of_all
 $groups
 ${all_columns}type Decoders<$input> = $decoders;
 
@@ -86,8 +82,8 @@ $parts${whole}impl<$input> AllPayloads<$input, $count, $name> for $holder {
         $made
     }
 
-    fn populate_at(&mut self, number: usize, input: &mut &$input [u8], k: usize) -> Result<(), Error> {
-        VariantPayloads::<$name>::populate_payloads($lent, number, input, k)
+    fn read_at(&mut self, number: usize, input: &mut &$input [u8], k: usize, strict: bool) -> Result<bool, Error> {
+        VariantPayloads::<$name>::read_payloads($lent, number, input, k, strict)
     }
 
     fn decode_at(&mut self, number: usize) -> Result<$name, Error> {
@@ -98,11 +94,11 @@ $parts${whole}impl<$input> AllPayloads<$input, $count, $name> for $holder {
 }
 
 impl$life HasEncoder for $name {
-    type Encoder = EnumEncoder<$count, NumberedColumns<$count, $columns>>;
+    type Encoder = EnumEncoder<$count, $columns>;
 }
 
 impl<$input> HasDecoder<$input> for $name {
-    type Decoder = PartsDecoder<Held<$count, $name>, NumberedDecoder<$input, $count, $name, $holder>>;
+    type Decoder = PartsDecoder<Held<$count, $name>, EnumDecoder<$input, $count, $name, $holder>>;
 }
 $owned"""
 
@@ -153,8 +149,8 @@ impl<$input> VariantPayloads<$input, $name> for $part<$input> {
         $first
     }
 
-    fn populate_payloads(&mut self, number: usize, input: &mut &$input [u8], k: usize) -> Result<(), Error> {
-        VariantPayloads::<$name>::populate_payloads(&mut self.all, number, input, k)
+    fn read_payloads(&mut self, number: usize, input: &mut &$input [u8], k: usize, strict: bool) -> Result<bool, Error> {
+        VariantPayloads::<$name>::read_payloads(&mut self.all, number, input, k, strict)
     }
 
     fn decode_payload(&mut self, number: usize) -> Result<$name, Error> {
@@ -179,44 +175,6 @@ ARE = "is_variant refl (λ p. refl) (λ p old new h. h) (λ p old h. h) (λ p ol
 def is_nothing(type):
     """Whether values of the type have no columns, so that a decoder of them keeps no part of an input."""
     return type.name == "PhantomData" or type.kind in ("tuple", "array") and all(map(is_nothing, type.parts)) or type.name in ("Box", "Rc") and is_nothing(type.parts[0])
-
-
-def says_laws(type, own, within=()):
-    """Whether the type says its laws as data, or could: what is imported and does not cannot."""
-    if type.name in within:
-        return False
-    if type.kind == "path" and type.name in own and not (own[type.name].says_laws if not own[type.name].item else could_say_laws(own[type.name].item, own, within)):
-        return False
-    return all(says_laws(part, own, within) for part in type.parts)
-
-
-def could_say_laws(item, own, within=()):
-    """Whether a type of one's own could say its laws as data: one all of whose fields could. An enum of two variants and more, with fields, is then written by number, which those with type parameters are not."""
-    can_be_written = not item.types or isinstance(item, Struct) or len(item.variants) == 1
-    return can_be_written and all(says_laws(field.type, own, (*within, item.name)) for field in fields_of(item))
-
-
-def numbered_and_told(items, own):
-    """The names of the enums that are written by number, and of all types of one's own that have to say their laws as data, since one of these holds them."""
-    numbered, told = set(), set()
-
-    def tell(type):
-        if type.kind == "path" and type.name in own and own[type.name].item and type.name not in told:
-            told.add(type.name)
-            number(own[type.name].item)
-        for part in type.parts:
-            tell(part)
-
-    def number(item):
-        if isinstance(item, Enum) and len(item.variants) > 1 and fields_of(item):
-            numbered.add(item.name)
-        for field in fields_of(item):
-            tell(field.type)
-
-    for item in items:
-        if isinstance(item, Enum) and len(item.variants) > MOST_IN_A_NEST and could_say_laws(item, own):
-            number(item)
-    return numbered, told
 
 
 def groups_of(weights):
@@ -357,8 +315,8 @@ class Numbered:
         """The file of the type."""
         payloads = self.payloads()
         imports = {*imports, "std::marker::PhantomData"} if MARK in payloads["parts"] + payloads["mark"] else imports
-        used = set("AllColumns AllPayloads At Enum EnumEncoder EnumOf Error HasDecoder HasEncoder Held HeldIn NumberedColumns NumberedDecoder PartsDecoder "
-                   "Payload VariantColumns VariantPayloads WritesPayloads WritesVariants told_as".split())
+        used = set("AllColumns AllPayloads At Enum EnumDecoder EnumEncoder EnumOf Error HasDecoder HasEncoder Held HeldIn PartsDecoder Payload "
+                   "StandsFor VariantColumns VariantPayloads WritesPayloads WritesVariants told_as".split())
         used |= {f"{kind}{len(numbers)}" for numbers in self.groups for kind in ("DecodersOf", "EncodersOf", "OneOf", "Variants")}
         used |= ({"Halves"} if len(self.groups) > 1 else set()) | (set() if self.enum.lifetime else {"DecodeOwned"})
 
@@ -379,41 +337,12 @@ class Numbered:
             uses="\n".join(sorted([f"use bitcode::{{{', '.join(sorted(used))}}};", "use std::alloc::Global;", *(f"use {path};" for path in imports)])) + "\n",
             declaration=declaration(self.enum),
             prelude="◌≡◌, refl" + (", true" if payloads["parts"] else ""),
-            by_hand=", ".join(sorted({"columns_in", "each_variant", "is_variant", "last_payload", "payload_and", "payloads_in", *(f"of_one_of_{len(numbers)}" for numbers in self.groups)})),
+            by_hand=", ".join(sorted({"columns_in", "each_variant", "is_variant", "last_payload", "payload_and", "payloads_in", "stood_payload", *(f"of_one_of_{len(numbers)}" for numbers in self.groups)})),
             **self.variants(),
+            payload_of_all=laws_as_data(self.enum, f"Held<{self.count}, {self.name}>"),
             index=arms(self.enum, lambda number, variant: value(self.enum, variant), numbered),
             groups="\n".join(map(self.group, self.groups)),
             all_columns=f"type Columns = {halves([self.encoders(numbers)[0] for numbers in self.groups])};\n\n" if len(self.groups) > 1 else "",
             **payloads,
             owned="" if self.enum.lifetime else Template(OWNED).substitute(name=self.name),
         )
-
-
-def parts_in(text):
-    """What the type stands for, as its impl of `StandsFor` has it."""
-    end = text.index("type Inside =")
-    return text[text.rindex("type Parts =", 0, end):end].removeprefix("type Parts =").strip().removesuffix(";")
-
-
-def saying_laws(text, item, is_numbered):
-    """The file of a type, which says its laws as data too, by those of what it stands for."""
-    name, count = item.name + bounds(item, ""), 0 if isinstance(item, Struct) else len(item.variants)
-    if count > 1:
-        parts = f"{'Held' if is_numbered else 'Bare'}<{count}, {name}>"
-    else:
-        parts = f"Absent<{name}>" if isinstance(item, Enum) and not count else parts_in(text)
-    uses = {"Payload", "StandsFor", *({"Absent"} & {parts.split("<")[0]})}
-    uses |= {"Shaped"} if item.types else set()
-
-    def more(found):
-        names = {name.strip() for name in found.group(1).split(",") if name.strip()}
-        return f"use bitcode::{{{', '.join(sorted(names | uses))}}};"
-
-    text = re.sub(r"use bitcode::\{([^}]*)\};", more, text, count=1)
-    if "specs.ByHand.{" in text:
-        text = re.sub(r"specs\.ByHand\.\{([^}]*)\}", lambda found: f"specs.ByHand.{{{', '.join(sorted({*found.group(1).split(', '), 'stood_payload'}))}}}", text, count=1)
-    else:
-        text = re.sub(r"(?m)^(use bitcode::|ghost use Rattle\.(?!std))", r"ghost use Rattle.bitcode.specs.ByHand.{stood_payload};\n\1", text, count=1)
-        text = re.sub(r"(?m)^(ghost use [^\n]*;\n)(use )", r"\1\n\2", text, count=1)
-    laws = f"stood_payload ⟦<{name} as StandsFor>⟧.parts ⟦<{name} as StandsFor>⟧.of_parts ⟦<{parts} as Payload>⟧.payload"
-    return f"{text}\nimpl{bounds(item, 'Shaped + Payload')} Payload for {name} {{\n    ghost payload = {{ {laws} }};\n}}\n"

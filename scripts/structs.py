@@ -4,7 +4,7 @@ import re
 from string import Template
 
 from declarations import Refused, fields_of
-from known_types import MOST_FIELDS, MOST_LEFT, MOST_TYPES, Checker, inside, of_text, types_in
+from known_types import MOST_FIELDS, MOST_LEFT, MOST_TYPES, Checker, inside, of_text, says_laws, types_in
 
 # The names of fields without a name.
 ORDINALS = "first second third fourth fifth sixth seventh eighth ninth tenth eleventh twelfth thirteenth fourteenth fifteenth sixteenth".split()
@@ -25,7 +25,7 @@ NOT_DERIVED = {"Encode", "Decode", "Serialize", "Deserialize", "Drop"}
 
 FILE = """//! $about
 ghost use Rattle.std.specs.Prelude.{refl};
-
+$by_hand
 $uses
 $declaration
 ${alias}impl$shaped StandsFor for $name {
@@ -45,7 +45,7 @@ impl$made FromParts for $name {
     }
 }
 
-${lends}impl$has_encoder HasEncoder for $name {
+$payload${lends}impl$has_encoder HasEncoder for $name {
     type Encoder = EncoderOfFields<$count, $parts>;
 }
 
@@ -82,8 +82,8 @@ impl<$input> View<$input> for $apart<$input> {
         $apart { field: View::new(alloc) }
     }
 
-    fn populate(&mut self, input: &mut &$input [u8], k: usize) -> Result<(), Error> {
-        self.field.populate(input, k)
+    fn read(&mut self, input: &mut &$input [u8], k: usize, strict: bool) -> Result<bool, Error> {
+        self.field.read(input, k, strict)
     }
 }
 
@@ -100,6 +100,11 @@ impl<$input> Decoder<$type> for $apart<$input> {
 """
 OWNED = """
 impl$parameters DecodeOwned for $name {}
+"""
+# The laws of a type as data, by those of what it stands for.
+PAYLOAD = """impl$parameters Payload for $name {
+    ghost payload = { stood_payload ⟦<$name as StandsFor>⟧.parts ⟦<$name as StandsFor>⟧.of_parts ⟦<$parts as Payload>⟧.payload };
+}
 """
 
 
@@ -196,6 +201,11 @@ def lends(item, lent):
     )
 
 
+def laws_as_data(item, parts):
+    """What a type says of its laws as data: those of what it stands for."""
+    return Template(PAYLOAD).substitute(parameters=bounds(item, "Shaped + Payload"), name=item.name + bounds(item, ""), parts=parts)
+
+
 def types_left(item, own):
     """How many types the decoder of the item names, and which types of fields have a decoder struct of their own so that these are few."""
     fields = fields_of(item)
@@ -245,6 +255,8 @@ def tuple_text(item, imports, own, lent, **row):
     used |= {"Shaped"} if fields or item.types else set()
     used |= {"Made"} if item.types else set()
     used |= {"DecodeOwned"} if is_owned else set()
+    tells = all(says_laws(field.type, own) for field in fields)
+    used |= {"Payload"} if tells else set()
     parts, alias = halved([of_text(field.type) for field in fields]) if fields else "()", "Parts" + bounds(item, "")
     is_long = len(row["pattern"]) + len(parts) > MOST_IN_LINE
     type_of_decoder, apart = decoder(item, own, input, alias if is_long else parts)
@@ -261,6 +273,8 @@ def tuple_text(item, imports, own, lent, **row):
         "parts": alias if is_long else parts,
         "shaped": bounds(item, "Shaped"),
         "made": bounds(item, "Made"),
+        "by_hand": "ghost use Rattle.bitcode.specs.ByHand.{stood_payload};\n" if tells else "",
+        "payload": laws_as_data(item, alias if is_long else parts) + "\n" if tells else "",
         "count": len(fields),
         "has_encoder": bounds(item, "HasEncoder"),
         "has_decoder": bounds(item, f"HasDecoder<{input}>", input),

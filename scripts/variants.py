@@ -1,7 +1,7 @@
 """What the files of enums have of their variants, as text."""
 
 from known_types import of_text
-from structs import bounds, halved, heads, initialized, parameter, places, quoted
+from structs import bounds, halved, heads, initialized, parameter
 
 # The names of fields without a name.
 LETTERS = "abcdefghijklmnop"
@@ -35,11 +35,6 @@ def names_of(variant):
     return [parameter(field.name) if variant.kind == "named" else LETTERS[i] for i, field in enumerate(variant.fields)]
 
 
-def told_apart(enum, variant):
-    """The pattern that tells a variant from the others."""
-    return f"{enum.name}::{variant.name}" + {"named": " { .. }", "tuple": "(..)", "unit": ""}[variant.kind]
-
-
 def value(enum, variant):
     """The value of a variant, in a pattern or an expression."""
     inner = {"named": f" {{ {', '.join(map(initialized, variant.fields))} }}", "tuple": f"({', '.join(names_of(variant))})", "unit": ""}[variant.kind]
@@ -54,22 +49,3 @@ def payload(items, nothing):
 def held_type(variant):
     """The type of what a value of the variant has: nothing, its field, or their tuple."""
     return payload([of_text(field.type) for field in variant.fields], "()")
-
-
-def ghost_behind(place, inner):
-    """The same in a ghost member."""
-    return "FirstOr.Rest (" * place + inner + ")" * place
-
-
-def ghost_arms(enum):
-    """The arms of what payload a value stands for, and of which value a payload does."""
-    last, there, back = len(enum.variants) - 1, [], []
-    for place, variant in enumerate(enum.variants):
-        letters, name = list(LETTERS[: len(variant.fields)]), f"{quoted(enum.name)}.{variant.name}"
-        fields = payload(letters, "tt")
-        held = f"record {{ 0 = {fields} }}" if place == last else f"FirstOr.First {fields}"
-        there.append(f"{' '.join([name, *letters])} ↦ record {{ payload = {ghost_behind(place, held)} }}")
-        pattern = ghost_behind(place - 1, "FirstOr.Rest p") if place == last else ghost_behind(place, "FirstOr.First p")
-        found = places(len(letters), "p.0" if place == last else "p") if letters else []
-        back.append(f"{pattern} ↦ ({' '.join([name, *found])}, refl)")
-    return " | ".join(there), " | ".join(back)

@@ -28,9 +28,6 @@ pub use Rattle.bitcode_shapes.specs.SameArrays.{one_datum_same_arrays, one_listi
 -- Shapes of choices, and what they list and make:
 pub use Rattle.bitcode_shapes.specs.Shape.{choice_shape, shape_and, no_shapes}
 pub use Rattle.bitcode_shapes.specs.Choices.{IsVariantValue, ListsChoice, ListsVariant, ListsLast, MakesChoice, MakesVariant, MakesLast, SameVariant}
--- The payloads of an enum's variants: that of the first one, or one of the rest; and which value stands for one:
-pub use Rattle.bitcode_enums.specs.declared.variants.FirstOr.{FirstOr}
-pub use Rattle.bitcode_enums.specs.Variants.{stood_for}
 -- What an enum by the numbers of its variants says of them, of its columns and of its payloads:
 pub use Rattle.bitcode_shapes.specs.PayloadOf.{PayloadOf, payload_of, stood_payload}
 pub use Rattle.bitcode_enums.specs.VariantsOf.{VariantsOf, IsVariant, is_variant}

@@ -128,9 +128,10 @@ impl<'a> View<'a> for FooDecoder<'a> {
     }
 
     #[tactic(auto, using(bitcode_tuples::proofs::StructLemmas::struct_reading))]
-    fn populate(&mut self, input: &mut &'a [u8], k: usize) -> Result<()> {
-        self.x.populate(input, k)?;
-        self.y.populate(input, k)
+    fn read(&mut self, input: &mut &'a [u8], k: usize, strict: bool) -> Result<bool> {
+        let x = self.x.read(input, k, strict)?;
+        let y = self.y.read(input, k, strict)?;
+        Ok(x && y)
     }
 }
 

@@ -86,12 +86,12 @@ impl<'a> View<'a> for NeverDecoder {
         NeverDecoder { left: 0 }
     }
 
-    fn populate(&mut self, _input: &mut &'a [u8], k: usize) -> Result<()> {
+    fn read(&mut self, _input: &mut &'a [u8], k: usize, _strict: bool) -> Result<bool> {
         self.left = k;
         if k > 0 {
             return invalid_enum_variant();
         }
-        Ok(())
+        Ok(true)
     }
 }
 

@@ -117,8 +117,8 @@ impl<'a> View<'a> for OneDecoder<'a> {
         }
     }
 
-    fn populate(&mut self, input: &mut &'a [u8], k: usize) -> Result<()> {
-        self.a.populate(input, k)
+    fn read(&mut self, input: &mut &'a [u8], k: usize, strict: bool) -> Result<bool> {
+        self.a.read(input, k, strict)
     }
 }
 

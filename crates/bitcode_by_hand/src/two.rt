@@ -147,10 +147,11 @@ impl<'a> View<'a> for TwoDecoder<'a> {
         }
     }
 
-    fn populate(&mut self, input: &mut &'a [u8], k: usize) -> Result<()> {
-        self.variants.populate(input, k)?;
-        self.a.populate(input, self.variants.length(0))?;
-        self.b.populate(input, self.variants.length(1))
+    fn read(&mut self, input: &mut &'a [u8], k: usize, strict: bool) -> Result<bool> {
+        let variants = self.variants.read(input, k, strict)?;
+        let a = self.a.read(input, self.variants.length(0), strict)?;
+        let b = self.b.read(input, self.variants.length(1), strict)?;
+        Ok(variants && a && b)
     }
 }
 

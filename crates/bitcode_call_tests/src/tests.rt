@@ -2,3 +2,4 @@
 mod calls;
 mod chunks;
 mod serde;
+mod strict;

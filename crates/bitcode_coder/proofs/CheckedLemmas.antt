@@ -15,7 +15,8 @@ use Rattle.bitcode_columns.specs.Ints.{number_of}
 use Rattle.bitcode_columns.specs.Reading.{Reads, Names, ints_fault}
 use Rattle.bitcode_columns.proofs.IntColumnLemmas.{SpellsInts-unambiguous, ints_fault-refuses}
 use Rattle.bitcode_shapes.proofs.CheckedLemmas.{nonzero_unsigned, nonzero_signed}
-use Rattle.bitcode_shapes.specs.Datum.{Datum, number}
+use Rattle.std.proofs.lemmas.List.{map-id}
+use Rattle.bitcode_shapes.specs.Datum.{Datum, number, number_in}
 use Rattle.bitcode_shapes.specs.Shape.{Allowed, any_number, nonzero, scalar, between, IsAllowed, IsNumberOf, number_shape}
 use Rattle.bitcode_coder.specs.CheckedColumn.{is_allowed, allowed_front, checked_data, NamesCheckedFault, in_column, not_allowed}
 use Rattle.bitcode_coder.specs.Coder.{IsReadingReason, IsReadingRefusal}
@@ -76,6 +77,13 @@ checked_read residue_of width signed allowed count old entries new known r below
       counts = tt;
       columns = record { entries = map residue_of entries; are = refl; spelled = record { spelled = s; in_width = below } };
     }))
+
+-- allowed numbers are those that stand in the data
+pub checked_numbers : {Entry : Type 0} (f : Entry → ℤ) (allowed : Allowed) (entries : List Entry) → All (λ e. IsAllowed allowed (f e)) entries
+    → map number_in (checked_data allowed (map f entries)) ≡ map f entries
+checked_numbers f allowed entries each =
+    let zs = map f entries in
+    map-map number_in number (allowed_front allowed zs) ∙ map-id (allowed_front allowed zs) ∙ all_in_front allowed zs (All-map (IsAllowed allowed) f entries each)
 
 -- ---- refused
 

@@ -21,3 +21,6 @@ pub mod PushingLemmas
 pub mod TakingLemmas
 pub mod RefusalLemmas
 pub mod CheckedLemmas
+pub mod StrictLemmas
+pub mod StrictColumnLemmas
+pub mod StrictLawLemmas

@@ -18,3 +18,4 @@ pub mod Vectors
 pub mod Laws
 pub mod CheckedColumn
 pub mod Int
+pub mod Strict

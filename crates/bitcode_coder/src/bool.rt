@@ -1,7 +1,7 @@
 //! The coders of a column of bools.
 #![tactic(auto, using(crate::proofs::BoolLemmas::truths_in, crate::proofs::BoolLemmas::bools_read, crate::proofs::BoolLemmas::bools_refused, crate::proofs::BoolLemmas::bools_exact))]
 
-ghost use Rattle.std.specs.Prelude.{◌≡◌, ◌≢◌, ◌+◌, ◌≤◌, ◌++◌, length, map, true, refl, OnOk, IfErr, OnErr};
+ghost use Rattle.std.specs.Prelude.{◌≡◌, ◌≢◌, ◌+◌, ◌≤◌, ◌++◌, length, map, true, refl, IsTrue, IfOk, OnOk, IfErr, OnErr};
 ghost use Rattle.bitcode_columns.specs.Fast.{fast_items, fast_room, cow_rest, fast_capacity, cow_owned};
 ghost use Rattle.bitcode_columns.specs.Reading.{Reads, IsEndOf};
 ghost use Rattle.bitcode_shapes.specs.Shape.{bool_shape};
@@ -9,12 +9,14 @@ ghost use Rattle.bitcode_coder.specs.Columns.{bools, one};
 ghost use Rattle.bitcode_coder.specs.Spelling.{Spells, truth};
 ghost use Rattle.bitcode_coder.specs.Coder.{IsReadingRefusal};
 ghost use Rattle.bitcode_coder.specs.Faults.{NamesBoolsFault};
+ghost use Rattle.bitcode_coder.specs.Strict.{JudgesData};
 
 use crate::coder::{Buffer, Decoder, Encoder, HoldsColumns, HoldsData, View};
 use crate::part::Part;
 use bitcode_columns::error::{Error, Reason};
 use bitcode_columns::fast::{CowSlice, FastVec, PushUnchecked};
-use bitcode_columns::pack::{pack_bools, unpack_bools};
+use bitcode_columns::pack::pack_bools;
+use bitcode_columns::strict::read_bools;
 use std::alloc::Global;
 use std::mem::replace;
 
@@ -135,13 +137,14 @@ impl<'a> View<'a> for BoolDecoder<'a> {
         }
     }
 
-    fn populate(&mut self, input: &mut &'a [u8], k: usize) -> Result<(), Error>
+    fn read(&mut self, input: &mut &'a [u8], k: usize, strict: bool) -> Result<bool, Error>
         ensures read { OnOk result (Reads (Spells bool_shape) k input.old.now (map truth (cow_rest self.new.values)) input.new.now) }
+        ensures judged { IsTrue strict → IfOk result (λ written. JudgesData bool_shape (map truth (cow_rest self.new.values)) written input.old.now input.new.now) }
         ensures refused { IfErr result (λ e. IsReadingRefusal bool_shape e.reason k input.old.now) }
         ensures rest { OnErr result (IsEndOf input.old.now input.new.now) }
         ensures exact { IfErr result (λ e. NamesBoolsFault e.reason k input.old.now) }
     {
-        unpack_bools(self.alloc, input, k, &mut self.values)
+        read_bools(self.alloc, input, k, &mut self.values, strict)
     }
 }
 

@@ -79,12 +79,12 @@ impl<'a, C: Checked<I>, I: ColumnInt> View<'a> for CheckedIntDecoder<'a, C, I> {
         }
     }
 
-    fn populate(&mut self, input: &mut &'a [u8], k: usize) -> Result<(), Error> {
-        I::unpack(self.alloc, input, k, &mut self.values)?;
+    fn read(&mut self, input: &mut &'a [u8], k: usize, strict: bool) -> Result<bool, Error> {
+        let written = I::unpack(self.alloc, input, k, &mut self.values, strict)?;
         if !are_allowed::<C, I>(self.values.as_slice()) {
             return err(Reason::InvalidBitPattern);
         }
-        Ok(())
+        Ok(written)
     }
 }
 

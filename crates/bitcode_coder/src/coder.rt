@@ -1,11 +1,12 @@
 //! The four traits that coders of columns and of types meet.
-ghost use Rattle.std.specs.Prelude.{◌≡◌, ◌≢◌, ℕ, ◌+◌, ◌<◌, ◌≤◌, Bool, List, [], ◌∷◌, ◌++◌, length, map, IsTrue, IsOk, IfOk, OnOk, IfErr, OnErr, IsErrOf};
+ghost use Rattle.std.specs.Prelude.{◌≡◌, ◌≢◌, ℕ, ◌+◌, ◌<◌, ◌≤◌, Bool, List, [], ◌∷◌, ◌++◌, length, map, IsTrue, ◌↔◌, ◌&&◌, IsOk, IfOk, OnOk, IfErr, OnErr, IsErrOf};
 ghost use Rattle.bitcode_columns.specs.declared.error.Reason.{Reason};
 ghost use Rattle.bitcode_columns.specs.Reading.{Reads, IsEndOf};
 ghost use Rattle.bitcode_shapes.specs.Datum.{Datum};
 ghost use Rattle.bitcode_shapes.specs.Shape.{Shape};
 ghost use Rattle.bitcode_coder.specs.Columns.{Columns, emptied};
 ghost use Rattle.bitcode_coder.specs.Spelling.{Spells, columns_bytes};
+ghost use Rattle.bitcode_coder.specs.Strict.{StrictlySpells, JudgesData};
 ghost use Rattle.bitcode_coder.specs.Coder.{written_columns, BeginsWith, JoinsListing, OverflowsWithListing, JoinsEach, OverflowsWithEach, SurelyOverflows, IsWritingRefusal, IsReadingRefusal, TakesDatum, TakesEach};
 
 use crate::part::{Behind, Itself, Part, told_parts};
@@ -200,9 +201,16 @@ pub trait HoldsData {
     ghost owned: { Self → ℕ };
 }
 
+/// The answer of two parts that were read one behind the other.
+pub fn both(first: bool, second: bool) -> bool
+    ensures { result ≡ (first && second) }
+{
+    first && second
+}
+
 /// Data that are read from an input.
 ///
-/// After a refusal only [`View::populate`] may follow.
+/// After a refusal only another reading may follow.
 pub trait View<'a>: HoldsData {
     // such a refusal names what is first at fault when so many data are read from such an input; want of memory is
     // one only where the column at hand takes memory and all its bytes are there
@@ -213,14 +221,41 @@ pub trait View<'a>: HoldsData {
         ensures held { Self.held result ≡ [] }
         ensures owned { Self.owned result ≡ 0 };
 
-    /// Reads `k` data from the front of the input, all checks included.
+    /// Reads `k` data from the front of the input, all checks included. Where `strict`, the answer is whether the bytes of
+    /// each column are its text; else it says nothing.
     ///
     /// A refusal names what is first at fault; `out of memory` is that only of a column that takes memory.
-    fn populate(&mut self, input: &mut &'a [u8], k: usize) -> Result<(), Error>
+    fn read(&mut self, input: &mut &'a [u8], k: usize, strict: bool) -> Result<bool, Error>
         ensures read { OnOk result (Reads (Spells Self.shape) k input.old.now (Self.held self.new) input.new.now) }
+        ensures judged { IsTrue strict → IfOk result (λ written. JudgesData Self.shape (Self.held self.new) written input.old.now input.new.now) }
         ensures refused { IfErr result (λ e. IsReadingRefusal Self.shape e.reason k input.old.now) }
         ensures exact { IfErr result (λ e. faults e.reason k input.old.now) }
         ensures rest { OnErr result (IsEndOf input.old.now input.new.now) };
+
+    /// Reads `k` data from the front of the input, all checks included.
+    ///
+    /// A refusal names what is first at fault; `out of memory` is that only of a column that takes memory.
+    final fn populate(&mut self, input: &mut &'a [u8], k: usize) -> Result<(), Error>
+        ensures read { OnOk result (Reads (Spells Self.shape) k input.old.now (Self.held self.new) input.new.now) }
+        ensures refused { IfErr result (λ e. IsReadingRefusal Self.shape e.reason k input.old.now) }
+        ensures exact { IfErr result (λ e. faults e.reason k input.old.now) }
+        ensures rest { OnErr result (IsEndOf input.old.now input.new.now) }
+    {
+        self.read(input, k, false)?;
+        Ok(())
+    }
+
+    /// Reads `k` data as [`View::populate`] does, and answers whether the bytes of each column are the text that is written
+    /// for its entries.
+    final fn populate_strict(&mut self, input: &mut &'a [u8], k: usize) -> Result<bool, Error>
+        ensures read { OnOk result (Reads (Spells Self.shape) k input.old.now (Self.held self.new) input.new.now) }
+        ensures strict { IfOk result (λ written. IsTrue written ↔ Reads (StrictlySpells Self.shape) k input.old.now (Self.held self.new) input.new.now) }
+        ensures refused { IfErr result (λ e. IsReadingRefusal Self.shape e.reason k input.old.now) }
+        ensures exact { IfErr result (λ e. faults e.reason k input.old.now) }
+        ensures rest { OnErr result (IsEndOf input.old.now input.new.now) }
+    {
+        self.read(input, k, true)
+    }
 }
 
 /// Data that values of `T` are made of.

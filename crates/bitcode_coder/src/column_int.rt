@@ -1,5 +1,5 @@
 //! The integers, as the coders of their columns take them.
-ghost use Rattle.std.specs.Prelude.{◌≡◌, ◌≢◌, ℕ, ◌^◌, ◌<◌, ◌++◌, ℤ, Bool, List, [], ◌∷◌, map, All, IsTrue, OnOk, IfErr, OnErr};
+ghost use Rattle.std.specs.Prelude.{◌≡◌, ◌≢◌, ℕ, ◌^◌, ◌<◌, ◌++◌, ℤ, Bool, List, [], ◌∷◌, map, All, IsTrue, ◌↔◌, IfOk, OnOk, IfErr, OnErr};
 ghost use Rattle.bitcode_columns.specs.Fast.{cow_rest};
 ghost use Rattle.bitcode_columns.specs.IntWidths.{IsWidth};
 ghost use Rattle.bitcode_columns.specs.IntColumn.{SpellsInts, int_text};
@@ -10,7 +10,8 @@ ghost use Rattle.bitcode_columns.specs.Reading.{Reads, IsEndOf, Names, ints_faul
 use bitcode_columns::error::{Error, Reason};
 use bitcode_columns::fast::CowSlice;
 use bitcode_columns::ints::{Byte, known_bytes};
-use bitcode_columns::pack::{pack_bytes, unpack_bytes};
+use bitcode_columns::pack::pack_bytes;
+use bitcode_columns::strict::read_bytes;
 use std::alloc::Global;
 
 mod signed;
@@ -26,21 +27,23 @@ fn pack_each_byte<T: Byte>(ints: &mut [T], out: &mut Vec<u8>) -> Result<(), Erro
     pack_bytes(ints, out)
 }
 
-// Reads the column of integers of one byte, which is a byte column: `unpack_ints` would copy what it unpacked.
-fn unpack_each_byte<'a>(
+// Reads the column of integers of one byte, which is a byte column: `read_ints` would copy what it unpacked.
+fn unpack_each_byte<'a, T: Byte>(
     alloc: Global,
     input: &mut &'a [u8],
     count: usize,
     out: &mut CowSlice<'a, u8>,
-) -> Result<(), Error>
+    strict: bool,
+) -> Result<bool, Error>
     ensures read { OnOk result (Reads (SpellsInts 1) count input.old.now (map (λ byte. little_endian (byte ∷ [])) (cow_rest out.new)) input.new.now) }
     ensures in_width { OnOk result (All (λ n. n < 256 ^ 1) (map (λ byte. little_endian (byte ∷ [])) (cow_rest out.new))) }
+    ensures judged { IsTrue strict → IfOk result (λ written. IsTrue written ↔ (input.old.now ≡ int_text 1 (map (λ byte. number_of 1 T.signed (little_endian (byte ∷ []))) (cow_rest out.new)) ++ input.new.now)) }
     ensures refused { IfErr result (λ e. Names e.reason (ints_fault 1 count input.old.now)) }
     ensures rest { OnErr result (IsEndOf input.old.now input.new.now) }
     ensures raw { IsTrue (ints_stand_raw 1 count input.old.now) → IfErr result (λ e. e.reason ≢ Reason.OutOfMemory) }
 {
     known_bytes(input);
-    unpack_bytes(alloc, input, count, out)
+    read_bytes::<T>(alloc, input, count, out, strict)
 }
 
 /// An integer with a column: what its coders ask of it.
@@ -69,7 +72,8 @@ pub trait ColumnInt: Copy {
         ensures reason { IfErr result (λ e. e.reason ≡ Reason.OutOfMemory) };
 
     /// Reads a column of so many integers from the front of the input into `out`, as
-    /// [`unpack_ints`](bitcode_columns::pack_ints::unpack_ints) does.
+    /// [`unpack_ints`](bitcode_columns::pack_ints::unpack_ints) does. Where `strict`, the answer is whether its bytes are
+    /// those that are written for the integers; else it says nothing.
     ///
     /// Missing bytes are `EOF`, a tag that no column has is `invalid packing`, and a refused growth is `out of memory`.
     fn unpack<'a>(
@@ -77,8 +81,10 @@ pub trait ColumnInt: Copy {
         input: &mut &'a [u8],
         count: usize,
         out: &mut CowSlice<'a, Self::Une>,
-    ) -> Result<(), Error>
+        strict: bool,
+    ) -> Result<bool, Error>
         ensures read { OnOk result (Reads (SpellsInts width) count input.old.now (map (λ u. little_endian (une_bytes u)) (cow_rest out.new)) input.new.now) }
+        ensures judged { IsTrue strict → IfOk result (λ written. IsTrue written ↔ (input.old.now ≡ int_text width (map (λ u. number_of width signed (little_endian (une_bytes u))) (cow_rest out.new)) ++ input.new.now)) }
         ensures in_width { OnOk result (All (λ n. n < 256 ^ width) (map (λ u. little_endian (une_bytes u)) (cow_rest out.new))) }
         ensures refused { IfErr result (λ e. Names e.reason (ints_fault width count input.old.now)) }
         ensures rest { OnErr result (IsEndOf input.old.now input.new.now) }

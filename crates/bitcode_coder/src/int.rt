@@ -1,7 +1,7 @@
 //! The coders of a column of integers.
 #![tactic(auto)]
 
-ghost use Rattle.std.specs.Prelude.{◌≡◌, ◌≢◌, ◌+◌, ◌<◌, ◌≤◌, ◌++◌, List, [], ◌∷◌, length, map, take, drop, pos, true, false, IsOk, IfOk, OnOk, IfErr, OnErr};
+ghost use Rattle.std.specs.Prelude.{◌≡◌, ◌≢◌, ◌+◌, ◌<◌, ◌≤◌, ◌++◌, List, [], ◌∷◌, length, map, take, drop, pos, true, false, IsTrue, IsOk, IfOk, OnOk, IfErr, OnErr};
 ghost use Rattle.std.proofs.Common.{sym};
 ghost use Rattle.bitcode_columns.specs.Fast.{fast_items, fast_room, cow_rest, fast_capacity, cow_owned};
 ghost use Rattle.bitcode_columns.specs.Ints.{number_of};
@@ -14,6 +14,7 @@ ghost use Rattle.bitcode_coder.specs.Int.{int_data, bytes_data, PushesInts};
 ghost use Rattle.bitcode_coder.specs.Spelling.{Spells};
 ghost use Rattle.bitcode_coder.specs.Coder.{IsReadingRefusal, written_columns};
 ghost use Rattle.bitcode_coder.specs.Faults.{NamesIntsFault};
+ghost use Rattle.bitcode_coder.specs.Strict.{JudgesData};
 
 use crate::coder::{Buffer, Decoder, Encoder, HoldsColumns, HoldsData, View};
 use crate::column_int::ColumnInt;
@@ -255,13 +256,14 @@ impl<'a, T: ColumnInt> View<'a> for IntDecoder<'a, T> {
         }
     }
 
-    fn populate(&mut self, input: &mut &'a [u8], k: usize) -> Result<(), Error>
+    fn read(&mut self, input: &mut &'a [u8], k: usize, strict: bool) -> Result<bool, Error>
         ensures read { OnOk result (Reads (Spells (int_shape T.width T.signed)) k input.old.now (bytes_data T.width T.signed T.une_bytes (cow_rest self.new.values)) input.new.now) }
+        ensures judged { IsTrue strict → IfOk result (λ written. JudgesData (int_shape T.width T.signed) (bytes_data T.width T.signed T.une_bytes (cow_rest self.new.values)) written input.old.now input.new.now) }
         ensures refused { IfErr result (λ e. IsReadingRefusal (int_shape T.width T.signed) e.reason k input.old.now) }
         ensures rest { OnErr result (IsEndOf input.old.now input.new.now) }
         ensures exact { IfErr result (λ e. NamesIntsFault T.width e.reason k input.old.now) }
     {
-        T::unpack(self.alloc, input, k, &mut self.values)
+        T::unpack(self.alloc, input, k, &mut self.values, strict)
     }
 }
 

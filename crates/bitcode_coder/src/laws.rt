@@ -1,10 +1,12 @@
 //! What holds of the columns of data, whatever the data are. A call does nothing: its contract is the law.
-ghost use Rattle.std.specs.Prelude.{ℕ, List};
+ghost use Rattle.std.specs.Prelude.{◌≡◌, ℕ, List, All};
 ghost use Rattle.bitcode_columns.specs.Laws.{IsReadOnce};
 ghost use Rattle.bitcode_shapes.specs.Datum.{Datum};
-ghost use Rattle.bitcode_shapes.specs.Shape.{Shape, IsSound};
-ghost use Rattle.bitcode_coder.specs.Columns.{Kind, IsSoundKind};
-ghost use Rattle.bitcode_coder.specs.Spelling.{Spells, SpellsColumn};
+ghost use Rattle.bitcode_shapes.specs.Shape.{Shape, IsSound, IsOf};
+ghost use Rattle.bitcode_coder.specs.Columns.{Kind, IsSoundKind, CountsFit};
+ghost use Rattle.bitcode_coder.specs.Spelling.{Spells, SpellsColumn, texts_of, LengthsBelowLimit};
+ghost use Rattle.bitcode_coder.specs.Transposition.{columns_of, spread};
+ghost use Rattle.bitcode_coder.specs.Strict.{StrictlySpells};
 ghost use Rattle.bitcode_coder.specs.JoinedTexts.{AreUtf8AsJoined};
 ghost use Rattle.bitcode_coder.specs.Laws.{ReadsBackColumn, ColumnTakesAnEighth, ReadsBackData, DataTakeAnEighth, JoinsColumnByColumn, TreeIsList};
 
@@ -58,4 +60,17 @@ pub fn tree_and_list()
 /// ```
 pub fn joined_texts()
     ensures { (texts : List (List ℕ)) → AreUtf8AsJoined texts }
+{}
+
+/// Data of any shape have one strict spelling at most: the texts of their columns, joined. So those that strictly spell are the
+/// bytes that are written, wherever these are read back.
+///
+/// ```
+/// strict_data();
+/// ```
+pub fn strict_data()
+    ensures once { (shape : Shape) (piece other : List ℕ) (ds : List Datum) → StrictlySpells shape piece ds → StrictlySpells shape other ds → piece ≡ other }
+    ensures text { (shape : Shape) (piece : List ℕ) (ds : List Datum) → StrictlySpells shape piece ds → Spells shape piece ds × (piece ≡ texts_of (spread shape ds)) }
+    ensures written { (shape : Shape) → IsSound shape → (ds : List Datum) → All (IsOf shape) ds → CountsFit (columns_of shape ds) → LengthsBelowLimit (columns_of shape ds)
+        → StrictlySpells shape (texts_of (spread shape ds)) ds }
 {}

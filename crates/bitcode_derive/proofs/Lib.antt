@@ -5,3 +5,4 @@ pub mod ArrayCountLemmas
 pub mod BorrowedTextLemmas
 pub mod ShortTextLemmas
 pub mod FrontLemmas
+pub mod StrictLemmas

@@ -88,12 +88,12 @@ impl<'a> View<'a> for AbsentDecoder {
         AbsentDecoder { left: 0 }
     }
 
-    fn populate(&mut self, _input: &mut &'a [u8], k: usize) -> Result<(), Error> {
+    fn read(&mut self, _input: &mut &'a [u8], k: usize, _strict: bool) -> Result<bool, Error> {
         self.left = k;
         if k > 0 {
             return err(Reason::InvalidEnumVariant);
         }
-        Ok(())
+        Ok(true)
     }
 }
 

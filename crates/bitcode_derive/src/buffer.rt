@@ -2,6 +2,7 @@
 ghost use Rattle.std.specs.Prelude.{◌≡◌, ◌≢◌, IfOk, IfErr, vec_capacity};
 ghost use Rattle.bitcode_shapes.specs.Datum.{Datum};
 ghost use Rattle.bitcode_coder.specs.Coder.{IsWritingRefusal, IsReadingReason};
+ghost use Rattle.bitcode_derive.specs.Strict.{IsStrictDecodingOf, IsStrictRefusal};
 ghost use Rattle.bitcode_derive.specs.Whole.{IsEncodingOf, HasLongListing, IsDecodingOf, SpellsDatum, SpellsAtMostOne, IsBoundedByBytes, NamesWholeFault};
 
 use crate::derive::{HasDecoder, HasEncoder};
@@ -84,5 +85,26 @@ where
         ensures exact { IfErr result (λ e. NamesWholeFault T.Decoder.faults T.Decoder.makes_free T.Decoder.shape e.reason bytes.now) }
     {
         whole::decode(self.alloc, bytes)
+    }
+
+    /// Reads the one value that all of the bytes spell, each column in the bytes that are written for it, as
+    /// `whole::decode_strict` does.
+    ///
+    /// Errors: those of [`Buffer::decode`], and `not the written text` where some column stands in other bytes.
+    ///
+    /// ```
+    /// let pair = buffer.decode_strict(&[1, 7, 0])?;
+    /// ```
+    pub fn decode_strict<'a>(&mut self, bytes: &'a [u8]) -> Result<T, Error>
+    where
+        T: HasDecoder<'a> + Made + Drop,
+        T::Decoder: View<'a> + Decoder<T> + Drop,
+        ensures found { IfOk result (λ t. IsStrictDecodingOf T.makes T.shape bytes.now t) }
+        ensures unambiguous { SpellsAtMostOne T.shape bytes.now }
+        ensures bounded { IsBoundedByBytes T.shape bytes.now }
+        ensures refused { IfErr result (λ e. IsStrictRefusal T.shape e.reason bytes.now) }
+        ensures exact { IfErr result (λ e. e.reason ≢ Reason.NotTheWrittenText → NamesWholeFault T.Decoder.faults T.Decoder.makes_free T.Decoder.shape e.reason bytes.now) }
+    {
+        whole::decode_strict(self.alloc, bytes)
     }
 }

@@ -5,6 +5,7 @@ ghost use Rattle.bitcode_coder.specs.Coder.{IsReadingReason};
 ghost use Rattle.bitcode_coder.specs.Columns.{CountsFit};
 ghost use Rattle.bitcode_coder.specs.Spelling.{LengthsBelowLimit};
 ghost use Rattle.bitcode_derive.specs.BorrowedTexts.{TextsStandIn, IsBorrowedFrom};
+ghost use Rattle.bitcode_derive.specs.Strict.{IsStrictDecodingOf, MakesWhatItLists};
 ghost use Rattle.bitcode_derive.specs.Whole.{columns_of_one, IsEncodingOf, HasLongListing, HasShortLengths, IsDecodingOf, SpellsDatum};
 
 use crate::whole;
@@ -54,6 +55,21 @@ pub fn comes_back<'a, T: Made>(t: &T, bytes: &'a [u8], again: &Result<T, Error>)
     if let Ok(u) = again {
         u.told();
     }
+}
+
+/// Of a type whose values list exactly the data that make them, `decode_strict` gives a value for the bytes that `encode` writes for
+/// it, and for no others: where the lengths of each of its columns are read back at all.
+///
+/// ```
+/// let bytes = encode(alloc, &t)?;
+/// strictly_written(&t, &bytes);
+/// ```
+pub fn strictly_written<'a, T: Made>(t: &T, bytes: &'a [u8])
+    ensures written { MakesWhatItLists T.lists T.makes → IsStrictDecodingOf T.makes T.shape bytes.now t.now → IsEncodingOf T.lists T.shape t.now bytes.now }
+    ensures read { MakesWhatItLists T.lists T.makes → HasShortLengths T.lists T.shape t.now → IsEncodingOf T.lists T.shape t.now bytes.now
+        → IsStrictDecodingOf T.makes T.shape bytes.now t.now }
+{
+    t.told();
 }
 
 /// A value that keeps nothing in an order of its own, as a hashed container or a heap does, is written as the same

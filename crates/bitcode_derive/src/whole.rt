@@ -4,6 +4,7 @@ ghost use Rattle.bitcode_columns.specs.Reading.{IsEndOf};
 ghost use Rattle.bitcode_shapes.specs.Datum.{Datum};
 ghost use Rattle.bitcode_coder.specs.Coder.{BeginsWith, IsWritingRefusal, IsReadingReason};
 ghost use Rattle.bitcode_derive.specs.Front.{IsWrittenBehind, BeginsWithDatum, IsDecodingOfFront, BeginsWithAtMostOne, IsBoundedByFront, NamesFrontFault};
+ghost use Rattle.bitcode_derive.specs.Strict.{IsStrictDecodingOf, IsStrictRefusal};
 ghost use Rattle.bitcode_derive.specs.Whole.{IsEncodingOf, HasLongListing, IsDecodingOf, SpellsDatum, SpellsAtMostOne, IsBoundedByBytes, NamesWholeFault};
 
 use crate::derive::{HasDecoder, HasEncoder};
@@ -97,6 +98,38 @@ where
     let mut decoder = T::Decoder::new(alloc);
     decoder.populate(&mut input, 1)?;
     expect_eof(input)?;
+    decoder.decode()
+}
+
+/// Reads the one value that all of the bytes spell, as [`decode`] does, where the bytes of each column are those that are written
+/// for its entries. So a list of columns is accepted in one form only.
+///
+/// Errors: those of `decode`, and `not the written text` where the bytes spell a value and some column stands in other bytes. That
+/// comes before memory is asked for the value, and after any other fault.
+///
+/// ```
+/// let flag: bool = decode_strict(alloc, &[1])?;
+/// let same: bool = decode(alloc, &[255])?; // its unused digits are not 0, so `decode_strict` refuses it
+/// ```
+pub fn decode_strict<'a, T: HasDecoder<'a> + Made + Drop>(
+    alloc: Global,
+    bytes: &'a [u8],
+) -> Result<T, Error>
+where
+    T::Decoder: View<'a> + Decoder<T> + Drop,
+    ensures found { IfOk result (λ t. IsStrictDecodingOf T.makes T.shape bytes.now t) }
+    ensures unambiguous { SpellsAtMostOne T.shape bytes.now }
+    ensures bounded { IsBoundedByBytes T.shape bytes.now }
+    ensures refused { IfErr result (λ e. IsStrictRefusal T.shape e.reason bytes.now) }
+    ensures exact { IfErr result (λ e. e.reason ≢ Reason.NotTheWrittenText → NamesWholeFault T.Decoder.faults T.Decoder.makes_free T.Decoder.shape e.reason bytes.now) }
+{
+    let mut input = bytes;
+    let mut decoder = T::Decoder::new(alloc);
+    let written = decoder.populate_strict(&mut input, 1)?;
+    expect_eof(input)?;
+    if !written {
+        return err(Reason::NotTheWrittenText);
+    }
     decoder.decode()
 }
 

@@ -1,5 +1,6 @@
 pub mod WritingLemmas
 pub mod ReadingLemmas
-pub mod NumberedLemmas
-pub mod NumberedReadingLemmas
+pub mod ColumnLemmas
+pub mod PayloadReadingLemmas
 pub mod VariantLemmas
+pub mod StrictLemmas

@@ -4,7 +4,7 @@ use Rattle.bitcode_shapes.specs.Datum.{Datum}
 use Rattle.bitcode_shapes.specs.Shape.{Shape}
 use Rattle.bitcode_coder.specs.Columns.{Columns}
 use Rattle.bitcode_coder.specs.Coder.{JoinsListing, OverflowsWithListing}
-use Rattle.bitcode_enums.specs.Numbered.{shape_at, columns_at}
+use Rattle.bitcode_enums.specs.ByNumber.{shape_at, columns_at}
 use Rattle.bitcode_enums.specs.VariantsOf.{VariantsOf, IsVariant}
 
 module _ {T P : Type 0} (vs : VariantsOf T) {number : ℕ} {shape : Shape} {lists : P → Datum → Type 0} {makes : Datum → P → Type 0} {value : P → T} (v : IsVariant vs number shape lists makes value) where

@@ -1,8 +1,7 @@
 -- What an enum says of its variants, one by one: the payloads of each, which payload a value has, and which value has a payload.
-use Rattle.std.proofs.Common.{◌≡◌, ℕ, zero, suc}
+use Rattle.std.proofs.Common.{◌≡◌, ℕ, zero, suc, inl, inr}
+use Rattle.std.specs.Prelude.{◌⊎◌}
 use Rattle.bitcode_shapes.specs.PayloadOf.{PayloadOf}
-use Rattle.bitcode_enums.specs.declared.variants.FirstOr.{FirstOr}
-use Rattle.bitcode_enums.specs.declared.variants.Last.{Last}
 use Rattle.bitcode_enums.specs.VariantsOf.{VariantsOf, VariantLaws, first_variant_laws, first_variant, last_variant_laws, last_variant, laws_of, variants_of}
 
 -- the payloads of several variants, that of the first one first
@@ -17,16 +16,16 @@ PayloadAt (last_payload a) (suc number) = ⊥
 PayloadAt (payload_and {A} a rest) zero = A
 PayloadAt (payload_and a rest) (suc number) = PayloadAt rest number
 
--- a payload of one of them
+-- a payload of one of them: of the first variant, or of one of the rest
 abbrev pub SomePayload : Payloads → Type 0
-SomePayload (last_payload {A} a) = Last A
-SomePayload (payload_and {A} a rest) = FirstOr A (SomePayload rest)
+SomePayload (last_payload {A} a) = A
+SomePayload (payload_and {A} a rest) = A ⊎ SomePayload rest
 
 abbrev pub payload_at : (payloads : Payloads) (number : ℕ) → PayloadAt payloads number → SomePayload payloads
-payload_at (last_payload a) zero p = record { 0 = p }
+payload_at (last_payload a) zero p = p
 payload_at (last_payload a) (suc number) p = absurd p
-payload_at (payload_and a rest) zero p = FirstOr.First p
-payload_at (payload_and a rest) (suc number) p = FirstOr.Rest (payload_at rest number p)
+payload_at (payload_and a rest) zero p = inl p
+payload_at (payload_and a rest) (suc number) p = inr (payload_at rest number p)
 
 abbrev pub variants_with : (payloads : Payloads) → VariantsOf (SomePayload payloads)
 variants_with (last_payload a) = last_variant a
@@ -40,13 +39,13 @@ laws_with (payload_and a rest) = first_variant_laws a (variants_with rest) (laws
 
 -- which value has a payload: of each variant a function of its payloads
 abbrev pub HasEach : {T V : Type 0} → (T → V) → (payloads : Payloads) → (SomePayload payloads → V) → Type 0
-HasEach {T = T} payload (last_payload {A} a) within = (p : A) → (t : T) × (payload t ≡ within (record { 0 = p }))
-HasEach {T = T} payload (payload_and {A} a rest) within = ((p : A) → (t : T) × (payload t ≡ within (FirstOr.First p))) × HasEach payload rest (λ r. within (FirstOr.Rest r))
+HasEach {T = T} payload (last_payload {A} a) within = (p : A) → (t : T) × (payload t ≡ within p)
+HasEach {T = T} payload (payload_and {A} a rest) within = ((p : A) → (t : T) × (payload t ≡ within (inl p))) × HasEach payload rest (λ r. within (inr r))
 
 value_of : {T V : Type 0} (payload : T → V) (payloads : Payloads) (within : SomePayload payloads → V) → HasEach payload payloads within → (p : SomePayload payloads) → (t : T) × (payload t ≡ within p)
-value_of payload (last_payload a) within each p = each p.0
-value_of payload (payload_and a rest) within each (FirstOr.First p) = each.0 p
-value_of payload (payload_and a rest) within each (FirstOr.Rest r) = value_of payload rest (λ s. within (FirstOr.Rest s)) each.1 r
+value_of payload (last_payload a) within each p = each p
+value_of payload (payload_and a rest) within each (inl p) = each.0 p
+value_of payload (payload_and a rest) within each (inr r) = value_of payload rest (λ s. within (inr s)) each.1 r
 
 -- these are not unfolded: the laws of two enums are compared by what they are of
 pub each_laws : {T : Type 0} (payloads : Payloads) (payload : T → SomePayload payloads) → HasEach payload payloads (λ p. p) → VariantLaws (variants_of (variants_with payloads) payload)

@@ -9,17 +9,17 @@ use Rattle.bitcode_shapes.specs.Lawful.{Lawful}
 use Rattle.bitcode_shapes.specs.LawfulBareVariants.{at_least_two, at_most_256}
 use Rattle.bitcode_shapes.specs.LawfulChoices.{LawfulVariants, MakeableVariants, choice_lawful}
 use Rattle.bitcode_shapes.specs.ArrayCounts.{VariantsListSameArrays}
-use Rattle.bitcode_enums.specs.Variants.{index_first_or}
+use Rattle.bitcode_enums.specs.ByNumber.{index_either}
 
 -- ---- variants are numbered below their count
 
 pub below_last : (s : Shape) → 0 < variant_count (shape_and s no_shapes)
 below_last s = lit< tt
 
-pub below_first_or : {A R : Type 0} (s : Shape) (ss : Shapes) (index : R → ℕ) → ((r : R) → index r < variant_count ss)
-    → (v : A ⊎ R) → index_first_or index v < variant_count (shape_and s ss)
-below_first_or s ss index below (inl a) = omega arith
-below_first_or s ss index below (inr r) = let later = below r in omega arith
+pub below_either : {A R : Type 0} (s : Shape) (ss : Shapes) (index : R → ℕ) → ((r : R) → index r < variant_count ss)
+    → (v : A ⊎ R) → index_either index v < variant_count (shape_and s ss)
+below_either s ss index below (inl a) = omega arith
+below_either s ss index below (inr r) = let later = below r in omega arith
 
 -- ---- payloads that stand for others
 
@@ -60,9 +60,3 @@ pub some_choices_lawful : {T : Type 0} {shapes : Shapes} {is_value : T → Type 
     → Lawful (choice_shape shapes) is_value (ListsChoice lists) same order
 some_choices_lawful {count = count} is some variants =
     choice_lawful (subst (λ n. 2 ≤ n) (sym is) (at_least_two count some)) (subst (λ n. n ≤ 256) (sym is) (at_most_256 count some)) variants
-
--- ---- what holds a value by itself
-
--- it lists what the value lists
-pub held_lists : {H T : Type 0} (value : H → T) (lists : T → ℕ → Datum → Type 0) (h : H) (d : Datum) → ListsChoice (λ g i e. lists (value g) i e) h d → ListsChoice lists (value h) d
-held_lists value lists h d listed = record { index = listed.index; payload = listed.payload; is = listed.is; lists_payload = listed.lists_payload }

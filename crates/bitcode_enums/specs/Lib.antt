@@ -1,13 +1,11 @@
-pub mod Variants
 pub mod LawfulVariants
 pub mod Writing
 pub mod WritingLaws
 pub mod Reading
-pub mod ReadingLaws
-pub mod Numbered
-pub mod NumberedLaws
+pub mod ByNumber
+pub mod ByNumberLaws
 pub mod VariantsOf
 pub mod OneOf
 pub mod HeldColumns
 pub mod EachVariant
-pub mod NumberedRows
+pub mod ByNumberRows

@@ -1,9 +1,9 @@
 -- What is made of the payload of one of a few variants.
-use Rattle.bitcode_enums.specs.declared.numbered.variants.of_2.OneOf2.{OneOf2}
-use Rattle.bitcode_enums.specs.declared.numbered.variants.of_3.OneOf3.{OneOf3}
-use Rattle.bitcode_enums.specs.declared.numbered.variants.of_4.OneOf4.{OneOf4}
-use Rattle.bitcode_enums.specs.declared.numbered.variants.of_5.OneOf5.{OneOf5}
-use Rattle.bitcode_enums.specs.declared.numbered.variants.of_6.OneOf6.{OneOf6}
+use Rattle.bitcode_enums.specs.declared.variants.of_2.OneOf2.{OneOf2}
+use Rattle.bitcode_enums.specs.declared.variants.of_3.OneOf3.{OneOf3}
+use Rattle.bitcode_enums.specs.declared.variants.of_4.OneOf4.{OneOf4}
+use Rattle.bitcode_enums.specs.declared.variants.of_5.OneOf5.{OneOf5}
+use Rattle.bitcode_enums.specs.declared.variants.of_6.OneOf6.{OneOf6}
 
 abbrev pub of_one_of_2 : {A B T : Type 0} → (A → T) → (B → T) → OneOf2 A B → T
 of_one_of_2 of_first of_second (OneOf2.First p) = of_first p

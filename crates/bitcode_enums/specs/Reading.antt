@@ -1,31 +1,18 @@
--- The payloads of variants are read one variant after the other, and taken from the list of their variant.
-use Rattle.std.specs.Prelude.{◌≡◌, ℕ, suc, ◌<◌, List, [], ◌∷◌, length, slice_index, slice_set, ◌⊎◌}
+-- What is at fault where the variants are read, and then the payloads of one variant after the other.
+use Rattle.std.specs.Prelude.{◌≡◌, ℕ, suc, ◌<◌, List, length, slice_index, ◌⊎◌}
 use Rattle.bitcode_columns.specs.declared.error.Reason.{Reason}
 use Rattle.bitcode_columns.specs.Histogram.{count_of}
-use Rattle.bitcode_shapes.specs.Datum.{Datum}
 use Rattle.bitcode_shapes.specs.Shape.{Shape}
 use Rattle.bitcode_coder.specs.Faults.{NamesVariantsFault}
-use Rattle.bitcode_parts.specs.Payloads.{payloads_of, FaultsBehindVariants, FaultsBehindPayloads}
+use Rattle.bitcode_parts.specs.Payloads.{FaultsBehindVariants, FaultsBehindPayloads}
 
 -- of each variant that has a place there are so many
 abbrev pub CountsEach : (variants counts : List ℕ) → Type 0
 CountsEach variants counts = (variant : ℕ) → variant < length counts → slice_index counts variant ≡ count_of variant variants
 
--- no payload of any variant is left
-abbrev pub HoldsNone : List (List Datum) → Type 0
-HoldsNone lists = (variant : ℕ) → payloads_of variant lists ≡ []
-
--- the next payload of a variant was taken, and the value is made of it
-pub record TakesPayload {V : Type 0} (makes : ℕ → Datum → V → Type 0) (v : V) (variant : ℕ) (old new : List (List Datum)) : Type 0 where
-  pub payload : Datum
-  pub rest : List Datum
-  pub taken : payloads_of variant old ≡ payload ∷ rest
-  pub left : new ≡ slice_set old variant rest
-  pub made : makes variant payload v
-
 -- the payloads of the first variant are at fault, or behind them those of the rest
-abbrev pub FirstOrFault : Shape → (Reason → ℕ → List ℕ → Type 0) → (Reason → ℕ → List ℕ → List ℕ → Type 0) → Reason → (first : ℕ) (variants input : List ℕ) → Type 0
-FirstOrFault shape first_fault rest_fault reason first variants input =
+abbrev pub EitherFault : Shape → (Reason → ℕ → List ℕ → Type 0) → (Reason → ℕ → List ℕ → List ℕ → Type 0) → Reason → (first : ℕ) (variants input : List ℕ) → Type 0
+EitherFault shape first_fault rest_fault reason first variants input =
     first_fault reason (count_of first variants) input
     ⊎ FaultsBehindPayloads shape (count_of first variants) (λ left. rest_fault reason (suc first) variants left) input
 

@@ -1,7 +1,7 @@
 -- What is said of the values of several variants, and what is promised of that: of the last variant, of the first beside the rest, and of
 -- a type whose values stand for payloads. And what is said of the variant of a number.
-use Rattle.std.proofs.Common.{◌≡◌, ℕ, ◌<◌, Bool, refl}
-use Rattle.std.specs.Prelude.{◌&&◌, List}
+use Rattle.std.proofs.Common.{◌≡◌, ℕ, ◌<◌, Bool}
+use Rattle.std.specs.Prelude.{◌&&◌, List, ◌⊎◌}
 use Rattle.bitcode_shapes.specs.Datum.{Datum}
 use Rattle.bitcode_shapes.specs.Shape.{Shape, Shapes, no_shapes, shape_and, variant_count}
 use Rattle.bitcode_shapes.specs.Choices.{IsVariantValue, ListsLast, ListsVariant, MakesLast, MakesVariant, SameVariant}
@@ -11,12 +11,9 @@ use Rattle.bitcode_shapes.specs.PayloadOf.{PayloadOf}
 use Rattle.bitcode_shapes.specs.LawfulChoices.{LawfulVariants, MakeableVariants, first_lawful, first_makeable, last_lawful, last_makeable}
 use Rattle.bitcode_coder.specs.Columns.{Columns}
 use Rattle.bitcode_coder.specs.Coder.{JoinsListing, OverflowsWithListing, TakesDatum}
-use Rattle.bitcode_enums.specs.declared.variants.FirstOr.{FirstOr}
-use Rattle.bitcode_enums.specs.declared.variants.Last.{Last}
-use Rattle.bitcode_enums.specs.LawfulVariants.{below_last, below_first_or, variants_image_lawful, variants_image_makeable, variants_image_same_arrays}
-use Rattle.bitcode_enums.specs.Numbered.{shape_at, joins_either, overflows_either, takes_either}
-use Rattle.bitcode_enums.specs.NumberedLaws.{last_joined, last_overflowed, last_taken, first_or_joined, first_or_overflowed, first_or_taken, image_joined, image_overflowed, image_taken}
-use Rattle.bitcode_enums.specs.Variants.{first_or, first_or_found, index_first_or}
+use Rattle.bitcode_enums.specs.LawfulVariants.{below_last, below_either, variants_image_lawful, variants_image_makeable, variants_image_same_arrays}
+use Rattle.bitcode_enums.specs.ByNumber.{shape_at, index_either, joins_either, overflows_either, takes_either}
+use Rattle.bitcode_enums.specs.ByNumberLaws.{last_joined, last_overflowed, last_taken, either_joined, either_overflowed, either_taken, image_joined, image_overflowed, image_taken}
 
 -- values of several variants: which variant one is of, what its payload holds and is made of, and how it is written and read
 pub record VariantsOf (T : Type 0) : Type 1 where
@@ -46,56 +43,56 @@ pub record VariantLaws {T : Type 0} (vs : VariantsOf T) : Type 0 where
 
 -- ---- the last variant
 
-abbrev pub last_variant : {A : Type 0} → PayloadOf A → VariantsOf (Last A)
+abbrev pub last_variant : {A : Type 0} → PayloadOf A → VariantsOf A
 last_variant a = record {
   shapes = shape_and a.shape no_shapes;
-  is_value = λ v. a.is_value v.0;
-  lists = λ v i d. ListsLast a.lists v.0 i d;
-  same = λ v w. a.same v.0 w.0;
+  is_value = a.is_value;
+  lists = ListsLast a.lists;
+  same = a.same;
   in_order = a.in_order;
   index = λ v. 0;
-  makes = λ i d v. MakesLast a.makes i d v.0;
-  joins = λ v. JoinsListing a.lists a.shape v.0;
-  overflows = λ v. OverflowsWithListing a.lists a.shape v.0;
-  takes = λ v. TakesDatum a.makes v.0;
+  makes = MakesLast a.makes;
+  joins = JoinsListing a.lists a.shape;
+  overflows = OverflowsWithListing a.lists a.shape;
+  takes = TakesDatum a.makes;
 }
 
 pub last_variant_laws : {A : Type 0} (a : PayloadOf A) → VariantLaws (last_variant a)
 last_variant_laws a = record {
   below = λ v. below_last a.shape;
-  lawful = variants_image_lawful (λ v. v.0) (last_lawful a.lawful);
-  makeable = variants_image_makeable (λ v. v.0) (λ p. (record { 0 = p }, refl)) (last_makeable a.makeable);
-  same_arrays = variants_image_same_arrays (λ v. v.0) (last_same_arrays a.same_arrays);
-  joined = last_joined (λ v. v.0);
-  overflowed = last_overflowed (λ v. v.0);
-  taken = last_taken (λ v. v.0) a.makes;
+  lawful = last_lawful a.lawful;
+  makeable = last_makeable a.makeable;
+  same_arrays = last_same_arrays a.same_arrays;
+  joined = last_joined;
+  overflowed = last_overflowed;
+  taken = last_taken a.makes;
 }
 
 -- ---- the first variant, or one of the rest
 
-abbrev pub first_variant : {A R : Type 0} → PayloadOf A → VariantsOf R → VariantsOf (FirstOr A R)
+abbrev pub first_variant : {A R : Type 0} → PayloadOf A → VariantsOf R → VariantsOf (A ⊎ R)
 first_variant a r = record {
   shapes = shape_and a.shape r.shapes;
-  is_value = λ v. IsVariantValue a.is_value r.is_value (first_or v);
-  lists = λ v i d. ListsVariant a.lists r.lists (first_or v) i d;
-  same = λ v w. SameVariant a.same r.same (first_or v) (first_or w);
+  is_value = IsVariantValue a.is_value r.is_value;
+  lists = ListsVariant a.lists r.lists;
+  same = SameVariant a.same r.same;
   in_order = a.in_order && r.in_order;
-  index = λ v. index_first_or r.index (first_or v);
-  makes = λ i d v. MakesVariant a.makes r.makes i d (first_or v);
-  joins = λ v. joins_either (λ p. JoinsListing a.lists a.shape p) r.joins (first_or v);
-  overflows = λ v. overflows_either (λ p. OverflowsWithListing a.lists a.shape p) r.overflows (first_or v);
-  takes = λ v. takes_either (λ p. TakesDatum a.makes p) r.takes (first_or v);
+  index = index_either r.index;
+  makes = MakesVariant a.makes r.makes;
+  joins = joins_either (JoinsListing a.lists a.shape) r.joins;
+  overflows = overflows_either (OverflowsWithListing a.lists a.shape) r.overflows;
+  takes = takes_either (TakesDatum a.makes) r.takes;
 }
 
 pub first_variant_laws : {A R : Type 0} (a : PayloadOf A) (r : VariantsOf R) → VariantLaws r → VariantLaws (first_variant a r)
 first_variant_laws a r laws = record {
-  below = λ v. below_first_or a.shape r.shapes r.index laws.below (first_or v);
-  lawful = variants_image_lawful first_or (first_lawful a.lawful laws.lawful);
-  makeable = variants_image_makeable first_or first_or_found (first_makeable a.makeable laws.makeable);
-  same_arrays = variants_image_same_arrays first_or (first_same_arrays a.same_arrays laws.same_arrays);
-  joined = first_or_joined first_or a.shape r.shapes a.lists r.lists r.index r.joins laws.joined;
-  overflowed = first_or_overflowed first_or a.shape r.shapes a.lists r.lists r.index r.overflows laws.overflowed;
-  taken = first_or_taken first_or r.index a.makes r.makes r.takes laws.taken;
+  below = below_either a.shape r.shapes r.index laws.below;
+  lawful = first_lawful a.lawful laws.lawful;
+  makeable = first_makeable a.makeable laws.makeable;
+  same_arrays = first_same_arrays a.same_arrays laws.same_arrays;
+  joined = either_joined a.shape r.shapes a.lists r.lists r.index r.joins laws.joined;
+  overflowed = either_overflowed a.shape r.shapes a.lists r.lists r.index r.overflows laws.overflowed;
+  taken = either_taken r.index a.makes r.makes r.takes laws.taken;
 }
 
 -- ---- a type whose values stand for such payloads, one for one

@@ -1,12 +1,9 @@
 -- The columns of payloads are those of the shapes.
 use Rattle.std.proofs.Common.{◌≡◌, ℕ, suc, [], sym, ◌∙◌, ap, ap₂}
-use Rattle.bitcode_shapes.specs.Shape.{Shape, Shapes, no_shapes, shape_and, choice_shape, variant_count}
-use Rattle.bitcode_coder.specs.Columns.{Columns, no_columns, one, two, variants, emptied}
+use Rattle.bitcode_shapes.specs.Shape.{Shape, Shapes, shape_and, choice_shape, variant_count}
+use Rattle.bitcode_coder.specs.Columns.{Columns, one, two, variants, emptied}
 use Rattle.bitcode_coder.specs.Coder.{written_columns}
 use Rattle.bitcode_parts.specs.Payloads.{HasPayloads}
-
-pub last_has_payloads : (s : Shape) (a : Columns) (first : ℕ) → emptied a ≡ written_columns s [] → HasPayloads (shape_and s no_shapes) first (two a no_columns)
-last_has_payloads s a first form = ap (λ c. two c no_columns) form
 
 pub first_has_payloads : (s : Shape) (ss : Shapes) (a b : Columns) → emptied a ≡ written_columns s [] → ((first : ℕ) → HasPayloads ss first b)
     → (first : ℕ) → HasPayloads (shape_and s ss) first (two a b)

@@ -1,54 +1,55 @@
 //! The encoder of enums: the variants, and behind them the payloads of each.
-ghost use Rattle.std.specs.Prelude.{◌≡◌, ◌+◌, ◌<◌, false, OnOk, IfErr};
-ghost use Rattle.bitcode_coder.specs.Columns.{emptied};
-ghost use Rattle.bitcode_coder.specs.Coder.{IsWritingRefusal};
+ghost use Rattle.std.specs.Prelude.{◌≡◌, ◌+◌, ◌<◌, false};
 ghost use Rattle.bitcode_parts.specs.Variants.{written_variants, variant_room, variant_capacity};
-ghost use Rattle.bitcode_enums.specs.Writing.{JoinsVariant, OverflowsWithVariant, variant_columns};
+ghost use Rattle.bitcode_enums.specs.ByNumber.{all_columns};
+ghost use Rattle.bitcode_enums.specs.ByNumberLaws.{each_has_payloads};
+ghost use Rattle.bitcode_enums.specs.Writing.{variant_columns};
 ghost use Rattle.bitcode_enums.specs.WritingLaws.{enum_of_shape};
 
-use crate::choice::HoldsPayload;
-use crate::payloads::PayloadColumns;
+use crate::columns::AllColumns;
+use crate::held::{Enum, EnumShaped};
+use crate::payload_columns::PayloadColumns;
+use crate::writes::WritesPayloads;
 use bitcode_coder::coder::{Buffer, Encoder, HoldsColumns, MAX_VECTORED_CHUNK};
 use bitcode_coder::part::{Part, told_parts};
 use bitcode_columns::error::Error;
 use bitcode_parts::choices::gathered::{SaysVariant, gather_variants};
 use bitcode_parts::choices::variant::VariantEncoder;
-use bitcode_shapes::stands_for::StandsFor;
 use std::alloc::Global;
-use std::marker::PhantomData;
 
-/// The columns of an enum of `N` variants, 2 to 256: its variants, and behind them the columns of its payloads.
+/// The columns of an enum of `N` variants, 2 to 256: its variants, and behind them the columns of its payloads, which `C` has by the numbers
+/// of the variants.
 ///
 /// ```
-/// let mut shots: EnumEncoder<2, FirstOrEncoder<EmptyCoder, LastEncoder<IntEncoder<u8>>>> = EnumEncoder::new(alloc);
+/// let mut shots: EnumEncoder<2, ShotColumns> = EnumEncoder::new(alloc);
 /// shots.reserve(2)?;
 /// shots.encode(&Shot::Hit(7))?;
 /// shots.encode(&Shot::Missed)?;
 /// shots.collect_into(&mut bytes)?; // [1, 7]
 /// ```
 #[derive(Drop)]
-pub struct EnumEncoder<const N: usize, S> {
+pub struct EnumEncoder<const N: usize, C> {
     variants: VariantEncoder<N>,
-    payloads: S,
+    payloads: PayloadColumns<N, C>,
 }
 
-impl<const N: usize, S: HoldsColumns> HoldsColumns for EnumEncoder<N, S> {
-    ghost columns = { λ e. variant_columns N (written_variants e.variants) (S.columns e.payloads) };
+impl<const N: usize, C: AllColumns<N>> HoldsColumns for EnumEncoder<N, C> {
+    ghost columns = { λ e. variant_columns N (written_variants e.variants) (all_columns (C.held.lists e.payloads.columns)) };
 
     ghost room = { λ e. variant_room e.variants };
 
-    ghost capacity = { λ e. variant_capacity e.variants + S.capacity e.payloads };
+    ghost capacity = { λ e. variant_capacity e.variants + C.held.capacity e.payloads.columns };
 
     ghost surely_overflows = { λ e n. ⊥ };
 
     ghost overflows = { λ e n. ⊥ };
 }
 
-impl<const N: usize, S: Buffer> Buffer for EnumEncoder<N, S> {
+impl<const N: usize, C: AllColumns<N>> Buffer for EnumEncoder<N, C> {
     fn new(alloc: Global) -> Self {
         EnumEncoder {
             variants: VariantEncoder::new(alloc),
-            payloads: S::new(alloc),
+            payloads: PayloadColumns::new(alloc),
         }
     }
 
@@ -67,74 +68,26 @@ impl<const N: usize, S: Buffer> Buffer for EnumEncoder<N, S> {
     }
 }
 
-/// An enum of `N` variants whose values are written, their payloads by the encoders `S`.
-///
-/// ```
-/// impl EncodeVariant<2, Payloads> for Shot {
-///     fn variant(&self) -> u8 {
-///         match self {
-///             Shot::Missed => 0,
-///             Shot::Hit(_) => 1,
-///         }
-///     }
-///
-///     fn encode_payload(&self, payloads: &mut Payloads) -> Result<(), Error> {
-///         PayloadEncoder::<Lent<'_>>::encode_payload(payloads, &self.lent())
-///     }
-/// }
-/// ```
-pub trait EncodeVariant<
-    const N: usize,
-    S: PayloadColumns<<Self::Parts as HoldsPayload<N>>::Variants>,
->: StandsFor<Parts: HoldsPayload<N>> {
-    /// Which variant the value is of.
-    fn variant(&self) -> u8
-        ensures { result ≡ Self.Parts.Variants.index (Self.Parts.payload (Self.parts self.now)) };
-
-    /// Makes room for the payload of the value in the columns of its variant, and joins its columns to those.
-    ///
-    /// It refuses as [`PayloadEncoder::encode_payload`](crate::payloads::PayloadEncoder::encode_payload) does.
-    fn encode_payload(&self, payloads: &mut S) -> Result<(), Error>
-        ensures joined { OnOk result (JoinsVariant Self.Parts.Variants.index Self.Parts.Variants.lists Self.Parts.Variants.shapes (Self.Parts.payload (Self.parts self.now)) (S.columns payloads.old) (S.columns payloads.new)) }
-        ensures form { emptied (S.columns payloads.new) ≡ emptied (S.columns payloads.old) }
-        ensures refused { IfErr result (λ e. IsWritingRefusal e.reason (OverflowsWithVariant Self.Parts.Variants.index Self.Parts.Variants.lists Self.Parts.Variants.shapes (Self.Parts.payload (Self.parts self.now)) (S.columns payloads.old))) };
-}
-
 // Says which variant a value is of.
-struct EnumVariant<const N: usize, S> {
-    of: PhantomData<S>,
-}
+struct EnumVariant<const N: usize> {}
 
-impl<
-    const N: usize,
-    T: EncodeVariant<N, S>,
-    S: PayloadColumns<<T::Parts as HoldsPayload<N>>::Variants>,
-> SaysVariant<T> for EnumVariant<N, S>
-where
-    T::Parts: HoldsPayload<N>,
-{
+impl<const N: usize, T: EnumShaped<N>> SaysVariant<T> for EnumVariant<N> {
     ghost count = { N };
 
-    ghost variant = { λ t. T.Parts.Variants.index (T.Parts.payload (T.parts t)) };
+    ghost variant = { T.each.variants.index };
 
     fn variant(t: &T) -> u8 {
-        t.variant()
+        Enum::variant(t)
     }
 }
 
-impl<
-    const N: usize,
-    T: EncodeVariant<N, S>,
-    S: Buffer + PayloadColumns<<T::Parts as HoldsPayload<N>>::Variants>,
-> Encoder<T> for EnumEncoder<N, S>
-where
-    T::Parts: HoldsPayload<N>,
-{
+impl<const N: usize, C: AllColumns<N>, T: EnumShaped<N> + WritesPayloads<N, C>> Encoder<T>
+    for EnumEncoder<N, C> {
     ghost writes_free = { false };
 
     fn encode(&mut self, t: &T) -> Result<(), Error> {
-        self.variants.encode(t.variant());
-        t.encode_payload(&mut self.payloads)
+        self.variants.encode(Enum::variant(t));
+        self.payloads.encode_payload(t)
     }
 
     fn encode_part_of_each<I, W: Part<I, T>>(
@@ -145,10 +98,10 @@ where
     ) -> Result<(), Error> {
         told_parts(items, which);
         let mut variants = [0; MAX_VECTORED_CHUNK];
-        gather_variants::<I, T, W, EnumVariant<N, S>>(items, which, &mut variants);
+        gather_variants::<I, T, W, EnumVariant<N>>(items, which, &mut variants);
         self.variants.encode_vectored(&variants[..items.len()]);
         for item in items {
-            which.part(item).encode_payload(&mut self.payloads)?;
+            self.payloads.encode_payload(which.part(item))?;
         }
         Ok(())
     }
@@ -157,7 +110,7 @@ where
         false
     }
 
-    ghost of_shape = { λ e. enum_of_shape T.Parts.Variants.shapes T.Parts.shape N (S.columns e.payloads) T.Parts.count T.Parts.has_shape (S.of_shapes e.payloads 0) };
+    ghost of_shape = { λ e. enum_of_shape T.each.variants.shapes T.shape N (all_columns (C.held.lists e.payloads.columns)) T.count T.has_shape (each_has_payloads T.each.variants.shapes (C.held.lists e.payloads.columns) (T.of_shapes e.payloads.columns) 0) };
 
     ghost surely = { λ e n h. absurd h };
 }

@@ -1,165 +1,152 @@
-//! The payloads that are left to take, those of the first variant first.
-ghost use Rattle.std.specs.Prelude.{◌≡◌, ℕ, ◌+◌, ◌<◌, ◌≤◌, Bool, ◌&&◌, List, [], ◌∷◌, length, IsTrue, IsOk, IfOk, OnOk, IfErr, OnErr};
-ghost use Rattle.bitcode_columns.specs.declared.error.Reason.{Reason};
-ghost use Rattle.bitcode_columns.specs.Histogram.{count_of};
-ghost use Rattle.bitcode_columns.specs.Reading.{IsEndOf};
+//! What an enum of which some variants have fields stands for: a struct that holds a value of it, lawful where its payloads are.
+ghost use Rattle.std.specs.Prelude.{◌≡◌, refl};
 ghost use Rattle.bitcode_shapes.specs.Datum.{Datum};
-ghost use Rattle.bitcode_shapes.specs.Shape.{Shapes, no_shapes, shape_and, variant_count};
-ghost use Rattle.bitcode_parts.specs.Payloads.{payloads_of, ReadsPayloads, IsPayloadsRefusal};
-ghost use Rattle.bitcode_enums.specs.Reading.{HoldsNone, TakesPayload, CountsEach, FirstOrFault};
-ghost use Rattle.bitcode_enums.specs.ReadingLaws.{same_last_shapes, same_first_shapes};
+ghost use Rattle.bitcode_shapes.specs.BareVariants.{AreSomeVariants};
+ghost use Rattle.bitcode_shapes.specs.Choices.{ListsChoice, MakesChoice};
+ghost use Rattle.bitcode_shapes.specs.LawfulChoices.{choice_makeable};
+ghost use Rattle.bitcode_shapes.specs.LawfulImages.{image_lawful, image_makeable};
+ghost use Rattle.bitcode_shapes.specs.PayloadOf.{payload_of};
+ghost use Rattle.bitcode_shapes.specs.SameArrays.{choice_same_arrays, image_same_arrays};
+ghost use Rattle.bitcode_shapes.specs.Shape.{variant_count, choice_shape};
+ghost use Rattle.bitcode_enums.specs.LawfulVariants.{some_choices_lawful};
+ghost use Rattle.bitcode_enums.specs.EachVariant.{EachVariant};
 
-use crate::variants::{FirstOr, Last, MadeVariants};
-use bitcode_coder::coder::{Decoder, HoldsData, View};
-use bitcode_columns::error::{Error, Reason};
-use bitcode_shapes::shaped::Made;
-use std::alloc::Global;
+use bitcode_shapes::payload::Payload;
+use bitcode_shapes::same_arrays::SameArrays;
+use bitcode_shapes::shaped::{Made, Shaped};
+use bitcode_shapes::stands_for::{HeldIn, Holds};
+use bitcode_tuples::fields::Fields;
 
-/// The payloads that the decoders of variants hold. It has no functions.
-pub trait HoldsPayloads {
-    ghost shapes: { Shapes };
+/// An enum of 2 to 256 variants, which are numbered from 0 on in the order in which they stand.
+///
+/// ```
+/// impl Enum for Shot {
+///     ghost each = { each_variant (payload_and ⟦<() as Payload>⟧.payload (last_payload ⟦<u8 as Payload>⟧.payload)) (λ at. elim [ Shot.Missed ↦ at 0 tt | Shot.Hit a ↦ at 1 a ]) ((λ p. (Shot.Missed, refl)), λ p. (Shot.Hit p, refl)) };
+///
+///     ghost sized = { refl };
+///
+///     fn variant(&self) -> u8 {
+///         match self {
+///             Shot::Missed => 0,
+///             Shot::Hit(damage) => told_as(1, &damage),
+///         }
+///     }
+/// }
+///
+/// impl EnumOf<2> for Shot {
+///     ghost count = { refl };
+/// }
+///
+/// impl HeldIn for Shot {
+///     type Holder = Held<2, Shot>;
+/// }
+/// ```
+pub trait Enum {
+    // what its variants are, what their payloads hold, how they are written and read, and what is promised of that
+    ghost each: { EachVariant Self };
 
-    // the payloads of each variant that are left to take
-    ghost lists: { Self → List (List Datum) };
+    // there are 2 to 256 variants
+    ghost sized: { AreSomeVariants (variant_count each.variants.shapes) };
 
-    // how many entries they have memory of their own for
-    ghost owned: { Self → ℕ };
+    /// The number of the variant that the value is of. A value in hand is one, as `told` of its fields says.
+    fn variant(&self) -> u8
+        ensures number { result ≡ each.variants.index self.now }
+        ensures value { each.variants.is_value self.now };
 }
 
-/// Payloads that are read from an input.
-pub trait PayloadView<'a>: HoldsPayloads {
-    // such a refusal names what is first at fault when the payloads of such variants are read from such an input, where
-    // the first of the variants has such an index
-    ghost faults: { Reason → ℕ → List ℕ → List ℕ → Type 0 };
-
-    /// Holds nothing. Takes no memory.
-    fn new(alloc: Global) -> Self
-        ensures held { HoldsNone (Self.lists result) }
-        ensures owned { Self.owned result ≡ 0 };
-
-    /// Reads the payloads of variants, of which there are so many each. The index of the first one is `first`.
-    ///
-    /// A refusal names what is first at fault.
-    fn populate(
-        &mut self,
-        input: &mut &'a [u8],
-        counts: &[usize],
-        first: usize,
-    ) -> Result<(), Error>
-        requires known { first + variant_count Self.shapes ≤ length counts.now }
-        ensures read { (variants : List ℕ) → CountsEach variants counts.now → OnOk result (ReadsPayloads Self.shapes first variants input.old.now (Self.lists self.new) input.new.now) }
-        ensures refused { (variants : List ℕ) → CountsEach variants counts.now → IfErr result (λ e. IsPayloadsRefusal Self.shapes first variants e.reason input.old.now) }
-        ensures exact { (variants : List ℕ) → CountsEach variants counts.now → IfErr result (λ e. faults e.reason first variants input.old.now) }
-        ensures rest { OnErr result (IsEndOf input.old.now input.new.now) };
+/// An enum of `N` variants: it says how many there are. It has no functions.
+pub trait EnumOf<const N: usize>: Enum {
+    // there are `N`
+    ghost count: { variant_count Self.Enum.each.variants.shapes ≡ N };
 }
 
-/// Payloads that values of `V` are made of.
-pub trait PayloadDecoder<V: MadeVariants>: HoldsPayloads {
-    // making a payload takes no memory
-    ghost makes_free: { Bool };
+/// An enum of `N` variants that is lawful as such: it says so by `HeldIn`. It has no functions.
+pub trait EnumShaped<const N: usize>: EnumOf<N> + Shaped {
+    ghost has_shape: { Self.shape ≡ choice_shape Self.Enum.each.variants.shapes };
 
-    /// Makes the next payload of a variant. One is left.
-    ///
-    /// `out of memory` is its only refusal.
-    fn decode_payload(&mut self, variant: u8) -> Result<V, Error>
-        requires { 0 < length (payloads_of variant (Self.lists self.old)) }
-        ensures made { IfOk result (λ v. TakesPayload V.makes v variant (Self.lists self.old) (Self.lists self.new)) }
-        ensures refused { IfErr result (λ e. e.reason ≡ Reason.OutOfMemory) }
-        ensures free { IsTrue makes_free → IsOk result };
-
-    ghost same_shapes: { Self.shapes ≡ V.shapes };
+    ghost lists_variants: { (t : Self) (d : Datum) → ListsChoice Self.Enum.each.variants.lists t d → Self.lists t d };
 }
 
-/// The payloads of the last variant.
+impl<const N: usize, T: EnumOf<N> + HeldIn<Holder = Held<N, T>>> EnumShaped<N> for T {
+    ghost has_shape = { refl };
+
+    ghost lists_variants = { λ t d listed. record { index = listed.index; payload = listed.payload; is = listed.is; lists_payload = listed.lists_payload } };
+}
+
+/// A number, of a variant whose fields are values.
+///
+/// ```
+/// Shot::Hit(damage) => told_as(1, &damage),
+/// ```
+pub fn told_as<F: Fields>(number: u8, fields: &F) -> u8
+    ensures number { result ≡ number }
+    ensures value { F.Whole.is_value (F.whole fields.now) }
+{
+    fields.told();
+    number
+}
+
+/// What an enum of `N` variants stands for: a struct that holds one value of it. Its laws follow from what the enum says of its variants, and the
+/// enum has them by `HeldIn`.
 #[derive(Drop)]
-pub struct LastDecoder<D> {
-    payload: D,
+pub struct Held<const N: usize, T> {
+    value: T,
 }
 
-impl<D: HoldsData> HoldsPayloads for LastDecoder<D> {
-    ghost shapes = { shape_and D.shape no_shapes };
-
-    ghost lists = { λ d. D.held d.payload ∷ [] };
-
-    ghost owned = { λ d. D.owned d.payload };
-}
-
-impl<'a, D: View<'a>> PayloadView<'a> for LastDecoder<D> {
-    ghost faults = { λ reason first variants input. D.faults reason (count_of first variants) input };
-
-    fn new(alloc: Global) -> Self {
-        LastDecoder {
-            payload: D::new(alloc),
-        }
-    }
-
-    fn populate(
-        &mut self,
-        input: &mut &'a [u8],
-        counts: &[usize],
-        first: usize,
-    ) -> Result<(), Error> {
-        self.payload.populate(input, counts[first])
+impl<const N: usize, T> Held<N, T> {
+    /// Holds a value.
+    pub fn new(value: T) -> Self
+        ensures { result ≡ record { value = value } }
+    {
+        Held { value }
     }
 }
 
-impl<A: Made, D: Decoder<A>> PayloadDecoder<Last<A>> for LastDecoder<D> {
-    ghost makes_free = { D.makes_free };
+impl<const N: usize, T: Enum> Holds<T> for Held<N, T> {
+    ghost holder = { λ t. record { value = t } };
 
-    fn decode_payload(&mut self, _variant: u8) -> Result<Last<A>, Error> {
-        Ok(Last(self.payload.decode()?))
+    ghost value = { λ h. h.value };
+
+    ghost holds = { λ h. refl };
+
+    fn told_value(t: &T) {
+        let _number = t.variant();
     }
 
-    ghost same_shapes = { same_last_shapes D.same_shape };
-}
-
-/// The payloads of the first variant, and those of the rest.
-#[derive(Drop)]
-pub struct FirstOrDecoder<D, S> {
-    first: D,
-    rest: S,
-}
-
-impl<D: HoldsData, S: HoldsPayloads> HoldsPayloads for FirstOrDecoder<D, S> {
-    ghost shapes = { shape_and D.shape S.shapes };
-
-    ghost lists = { λ d. D.held d.first ∷ S.lists d.rest };
-
-    ghost owned = { λ d. D.owned d.first + S.owned d.rest };
-}
-
-impl<'a, D: View<'a>, S: PayloadView<'a>> PayloadView<'a> for FirstOrDecoder<D, S> {
-    ghost faults = { FirstOrFault D.shape D.faults S.faults };
-
-    fn new(alloc: Global) -> Self {
-        FirstOrDecoder {
-            first: D::new(alloc),
-            rest: S::new(alloc),
-        }
-    }
-
-    fn populate(
-        &mut self,
-        input: &mut &'a [u8],
-        counts: &[usize],
-        first: usize,
-    ) -> Result<(), Error> {
-        self.first.populate(input, counts[first])?;
-        self.rest.populate(input, counts, first + 1)
+    fn into_value(self) -> T {
+        let Held { value } = self;
+        value
     }
 }
 
-impl<A: Made, R: MadeVariants, D: Decoder<A>, S: PayloadDecoder<R>> PayloadDecoder<FirstOr<A, R>>
-    for FirstOrDecoder<D, S> {
-    ghost makes_free = { D.makes_free && S.makes_free };
+impl<const N: usize, T: Enum> Shaped for Held<N, T> {
+    ghost shape = { choice_shape T.each.variants.shapes };
 
-    fn decode_payload(&mut self, variant: u8) -> Result<FirstOr<A, R>, Error> {
-        if variant == 0 {
-            Ok(FirstOr::First(self.first.decode()?))
-        } else {
-            Ok(FirstOr::Rest(self.rest.decode_payload(variant - 1)?))
-        }
+    ghost is_value = { λ h. T.each.variants.is_value h.value };
+
+    ghost lists = { λ h d. ListsChoice T.each.variants.lists h.value d };
+
+    ghost same = { λ h g. T.each.variants.same h.value g.value };
+
+    ghost in_order = { T.each.variants.in_order };
+
+    fn told(&self) {
+        let _number = self.value.variant();
     }
 
-    ghost same_shapes = { same_first_shapes D.same_shape S.same_shapes };
+    ghost lawful = { image_lawful (λ h. h.value) (some_choices_lawful refl T.sized T.each.laws.lawful) };
+}
+
+impl<const N: usize, T: Enum> Made for Held<N, T> {
+    ghost makes = { λ d h. MakesChoice T.each.variants.makes d h.value };
+
+    ghost makeable = { image_makeable (λ h. h.value) (λ g t h. (record { value = t }, refl)) (choice_makeable T.each.laws.makeable) };
+}
+
+impl<const N: usize, T: Enum> SameArrays for Held<N, T> {
+    ghost same_arrays = { image_same_arrays (λ h. h.value) (choice_same_arrays T.each.laws.same_arrays) };
+}
+
+impl<const N: usize, T: Enum> Payload for Held<N, T> {
+    ghost payload = { payload_of (image_lawful (λ h. h.value) (some_choices_lawful refl T.sized T.each.laws.lawful)) (image_makeable (λ h. h.value) (λ g t h. (record { value = t }, refl)) (choice_makeable T.each.laws.makeable)) (image_same_arrays (λ h. h.value) (choice_same_arrays T.each.laws.same_arrays)) };
 }

@@ -1,12 +1,13 @@
-//! Enums with payloads: what one stands for, which makes it lawful, and its coders.
+//! Enums of which some variants have fields: what one stands for, which makes it lawful, and its coders, by the numbers of the variants.
 #![tactic(auto)]
 
-pub mod choice;
+pub mod columns;
 pub mod decoder;
 pub mod encoder;
-pub mod fields;
+pub mod halves;
 pub mod held;
-pub mod named;
-pub mod numbered;
+pub mod payload_columns;
 pub mod payloads;
+pub mod place;
 pub mod variants;
+pub mod writes;

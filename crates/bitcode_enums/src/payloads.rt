@@ -1,163 +1,153 @@
-//! The columns of payloads, those of the first variant first.
-ghost use Rattle.std.specs.Prelude.{◌≡◌, ℕ, ◌+◌, OnOk, IfErr};
-ghost use Rattle.bitcode_coder.specs.Columns.{two, no_columns, emptied};
-ghost use Rattle.bitcode_coder.specs.Coder.{endless_room, JoinsListing, OverflowsWithListing, IsWritingRefusal};
-ghost use Rattle.bitcode_parts.specs.Payloads.{HasPayloads};
-ghost use Rattle.bitcode_enums.specs.Writing.{JoinsVariant, OverflowsWithVariant};
-ghost use Rattle.bitcode_enums.specs.WritingLaws.{last_has_payloads, first_has_payloads};
+//! The payloads that values of an enum are made of, by the numbers of the variants.
+ghost use Rattle.std.specs.Prelude.{◌≡◌, ℕ, ◌-◌, ◌<◌, ◌≤◌, Bool, [], map, length, IsTrue, IsOk, IfOk, OnOk, IfErr, OnErr};
+ghost use Rattle.bitcode_columns.specs.declared.error.Reason.{Reason};
+ghost use Rattle.bitcode_columns.specs.Reading.{Reads, IsEndOf};
+ghost use Rattle.bitcode_coder.specs.Coder.{IsReadingRefusal};
+ghost use Rattle.bitcode_coder.specs.Spelling.{Spells};
+ghost use Rattle.bitcode_coder.specs.Strict.{JudgesData};
+ghost use Rattle.bitcode_parts.specs.Payloads.{payloads_of};
+ghost use Rattle.bitcode_enums.specs.HeldColumns.{HeldPayloads};
+ghost use Rattle.bitcode_enums.specs.ByNumber.{shape_at, KeepsOthers};
 
-use crate::fields::VariantFields;
-use crate::variants::{FirstOr, Last, ShapedVariants};
-use bitcode_coder::coder::{Buffer, Encoder, HoldsColumns};
-use bitcode_columns::error::Error;
-use bitcode_shapes::shaped::Shaped;
-use bitcode_tuples::fields::{Fields, FieldsEncoder};
+use crate::held::{Enum, EnumOf};
+use bitcode_columns::error::{Error, Reason};
 use std::alloc::Global;
 
-/// The columns of the payloads of `V`. It has no functions.
-pub trait PayloadColumns<V: ShapedVariants>: HoldsColumns {
-    ghost of_shapes: { (e : Self) (first : ℕ) → HasPayloads V.shapes first (Self.columns e) };
-}
-
-/// The columns that payloads are written to whose fields are `B`.
-pub trait PayloadEncoder<B: VariantFields>: PayloadColumns<B::Whole> {
-    /// Makes room for the payload in the columns of its variant, and joins its columns to those.
-    ///
-    /// Want of memory is `out of memory`, and `length overflow` comes only where a number of arrays times their size is
-    /// over 18446744073709551615.
-    fn encode_payload(&mut self, variant: &B) -> Result<(), Error>
-        ensures joined { OnOk result (JoinsVariant B.Whole.index B.Whole.lists B.Whole.shapes (B.whole variant.now) (Self.columns self.old) (Self.columns self.new)) }
-        ensures form { emptied (Self.columns self.new) ≡ emptied (Self.columns self.old) }
-        ensures refused { IfErr result (λ e. IsWritingRefusal e.reason (OverflowsWithVariant B.Whole.index B.Whole.lists B.Whole.shapes (B.whole variant.now) (Self.columns self.old))) };
-}
-
-/// Makes room for a payload whose fields lie apart, and joins its columns to those so far.
+/// The data of the payloads of variants of `T` that follow each other, a decoder for each variant: `Decoders2` to `Decoders6`, and
+/// [`Halves`](crate::halves::Halves) of these.
 ///
 /// ```
-/// encode_payload_fields(&mut columns, &(&damage, &from))
+/// let mut payloads: DecodersOf2<'_, At<0>, (), u8> = VariantPayloads::<Shot>::new(alloc);
+/// VariantPayloads::<Shot>::read_payloads(&mut payloads, 1, &mut input, 1, false)?; // of [7]
+/// let shot: Shot = payloads.decode_payload(1)?; // `Shot::Hit(7)`
 /// ```
-pub fn encode_payload_fields<F: Fields, E: Buffer + Encoder<F::Whole> + FieldsEncoder<F>>(
-    columns: &mut E,
-    fields: &F,
-) -> Result<(), Error>
-    ensures joined { OnOk result (JoinsListing F.Whole.lists F.Whole.shape (F.whole fields.now) (E.HoldsColumns.columns columns.old) (E.HoldsColumns.columns columns.new)) }
-    ensures form { emptied (E.HoldsColumns.columns columns.new) ≡ emptied (E.HoldsColumns.columns columns.old) }
-    ensures refused { IfErr result (λ e. IsWritingRefusal e.reason (OverflowsWithListing F.Whole.lists F.Whole.shape (F.whole fields.now) (E.HoldsColumns.columns columns.old))) }
-{
-    fields.told();
-    columns.reserve(1)?;
-    columns.encode_fields(fields)
+pub trait VariantPayloads<'a, T: Enum> {
+    // the number of the first of these variants
+    ghost first: { ℕ };
+
+    // the number behind that of the last of them
+    ghost end: { ℕ };
+
+    // whether these variants follow each other without a gap
+    ghost in_turn: { Bool };
+
+    // what is left to take, and what may be at fault in it
+    ghost held: { HeldPayloads Self };
+
+    /// Holds nothing. Takes no memory.
+    fn new(alloc: Global) -> Self
+        ensures empty { held.lists result ≡ map (λ payloads. []) (held.lists result) }
+        ensures owned { held.owned result ≡ 0 };
+
+    /// The number of the first of these variants.
+    fn first(&self) -> usize
+        ensures { result ≡ first };
+
+    /// Reads `k` payloads of the variant of a number from the front of the input. As `View::read`.
+    fn read_payloads(
+        &mut self,
+        number: usize,
+        input: &mut &'a [u8],
+        k: usize,
+        strict: bool,
+    ) -> Result<bool, Error>
+        requires turn { IsTrue in_turn }
+        requires known { (first ≤ number) × (number < end) }
+        ensures others { KeepsOthers [] (number - first) (held.lists self.old) (held.lists self.new) }
+        ensures read { OnOk result (Reads (Spells (shape_at number T.each.variants.shapes)) k input.old.now (payloads_of (number - first) (held.lists self.new)) input.new.now) }
+        ensures judged { IsTrue strict → IfOk result (λ written. JudgesData (shape_at number T.each.variants.shapes) (payloads_of (number - first) (held.lists self.new)) written input.old.now input.new.now) }
+        ensures refused { IfErr result (λ e. IsReadingRefusal (shape_at number T.each.variants.shapes) e.reason k input.old.now) }
+        ensures exact { IfErr result (λ e. held.faults number e.reason k input.old.now) }
+        ensures rest { OnErr result (IsEndOf input.old.now input.new.now) };
+
+    /// Makes a value of the variant of a number and of the next payload of that variant. At least one payload has to be left.
+    ///
+    /// `out of memory` is its only refusal.
+    fn decode_payload(&mut self, number: usize) -> Result<T, Error>
+        requires turn { IsTrue in_turn }
+        requires known { (first ≤ number) × (number < end) }
+        requires left { 0 < length (payloads_of (number - first) (held.lists self.old)) }
+        ensures others { IsOk result → KeepsOthers [] (number - first) (held.lists self.old) (held.lists self.new) }
+        ensures number { IfOk result (λ t. T.each.variants.index t ≡ number) }
+        ensures made { IfOk result (λ t. T.each.variants.takes t (payloads_of (number - first) (held.lists self.old)) (payloads_of (number - first) (held.lists self.new))) }
+        ensures refused { IfErr result (λ e. e.reason ≡ Reason.OutOfMemory) }
+        ensures free { IsTrue held.makes_free → IsOk result };
+
+    /// There is a list of payloads for each of the variants. Does nothing; its contract is for proofs.
+    fn sized(&self)
+        requires turn { IsTrue in_turn }
+        ensures ordered { first ≤ end }
+        ensures sized { length (held.lists self.now) ≡ end - first };
 }
 
-/// The columns of the payload of the last variant.
-#[derive(Drop)]
-pub struct LastEncoder<E> {
-    payload: E,
-}
+/// The data of the payloads of all variants of `T`, by a struct of the enum's own.
+///
+/// Its functions are those of these data, called for one enum. So what reads values of it needs nothing of their payloads' types.
+///
+/// ```
+/// type Decoders<'a> = DecodersOf2<'a, At<0>, (), u8>;
+///
+/// #[derive(Drop)]
+/// pub struct ShotPayloads<'a> {
+///     all: Decoders<'a>,
+/// }
+///
+/// impl<'a> AllPayloads<'a, 2, Shot> for ShotPayloads<'a> {
+///     ghost held = { payloads_in (λ d. d.all) ⟦<Decoders<'a> as VariantPayloads<'a, Shot>>⟧.held };
+///
+///     fn new(alloc: Global) -> Self {
+///         ShotPayloads { all: VariantPayloads::<Shot>::new(alloc) }
+///     }
+///
+///     fn read_at(&mut self, number: usize, input: &mut &'a [u8], k: usize, strict: bool) -> Result<bool, Error> {
+///         VariantPayloads::<Shot>::read_payloads(&mut self.all, number, input, k, strict)
+///     }
+///
+///     fn decode_at(&mut self, number: usize) -> Result<Shot, Error> {
+///         self.all.decode_payload(number)
+///     }
+///
+///     fn sized(&self) {}
+/// }
+/// ```
+pub trait AllPayloads<'a, const N: usize, T: EnumOf<N>> {
+    // what is left to take, and what may be at fault in it
+    ghost held: { HeldPayloads Self };
 
-impl<E: HoldsColumns> HoldsColumns for LastEncoder<E> {
-    ghost columns = { λ e. two (E.columns e.payload) no_columns };
+    /// Holds nothing. Takes no memory.
+    fn new(alloc: Global) -> Self
+        ensures empty { held.lists result ≡ map (λ payloads. []) (held.lists result) }
+        ensures owned { held.owned result ≡ 0 };
 
-    ghost room = { λ e. endless_room };
+    /// Reads `k` payloads of the variant of a number from the front of the input. As `View::read`.
+    fn read_at(
+        &mut self,
+        number: usize,
+        input: &mut &'a [u8],
+        k: usize,
+        strict: bool,
+    ) -> Result<bool, Error>
+        requires { number < N }
+        ensures others { KeepsOthers [] number (held.lists self.old) (held.lists self.new) }
+        ensures read { OnOk result (Reads (Spells (shape_at number T.each.variants.shapes)) k input.old.now (payloads_of number (held.lists self.new)) input.new.now) }
+        ensures judged { IsTrue strict → IfOk result (λ written. JudgesData (shape_at number T.each.variants.shapes) (payloads_of number (held.lists self.new)) written input.old.now input.new.now) }
+        ensures refused { IfErr result (λ e. IsReadingRefusal (shape_at number T.each.variants.shapes) e.reason k input.old.now) }
+        ensures exact { IfErr result (λ e. held.faults number e.reason k input.old.now) }
+        ensures rest { OnErr result (IsEndOf input.old.now input.new.now) };
 
-    ghost capacity = { λ e. E.capacity e.payload };
+    /// Makes a value of the variant of a number and of the next payload of that variant. At least one payload has to be left.
+    ///
+    /// `out of memory` is its only refusal.
+    fn decode_at(&mut self, number: usize) -> Result<T, Error>
+        requires known { number < N }
+        requires left { 0 < length (payloads_of number (held.lists self.old)) }
+        ensures others { IsOk result → KeepsOthers [] number (held.lists self.old) (held.lists self.new) }
+        ensures number { IfOk result (λ t. T.each.variants.index t ≡ number) }
+        ensures made { IfOk result (λ t. T.each.variants.takes t (payloads_of number (held.lists self.old)) (payloads_of number (held.lists self.new))) }
+        ensures refused { IfErr result (λ e. e.reason ≡ Reason.OutOfMemory) }
+        ensures free { IsTrue held.makes_free → IsOk result };
 
-    ghost surely_overflows = { λ e n. ⊥ };
-
-    ghost overflows = { λ e n. ⊥ };
-}
-
-impl<E: Buffer> Buffer for LastEncoder<E> {
-    fn new(alloc: Global) -> Self {
-        LastEncoder {
-            payload: E::new(alloc),
-        }
-    }
-
-    // Room is made for each payload as it comes.
-    fn reserve(&mut self, _n: usize) -> Result<(), Error> {
-        Ok(())
-    }
-
-    fn collect_into(&mut self, out: &mut Vec<u8>) -> Result<(), Error> {
-        self.payload.collect_into(out)
-    }
-
-    fn clear(&mut self) {
-        self.payload.clear();
-    }
-}
-
-impl<A: Shaped, E: Encoder<A>> PayloadColumns<Last<A>> for LastEncoder<E> {
-    ghost of_shapes = { λ e first. last_has_payloads A.shape (E.columns e.payload) first (E.of_shape e.payload) };
-}
-
-impl<F: Fields, E: Buffer + Encoder<F::Whole> + FieldsEncoder<F>> PayloadEncoder<Last<F>>
-    for LastEncoder<E> {
-    fn encode_payload(&mut self, variant: &Last<F>) -> Result<(), Error> {
-        encode_payload_fields(&mut self.payload, &variant.0)
-    }
-}
-
-/// The columns of the payload of the first variant, and behind them those of the rest.
-#[derive(Drop)]
-pub struct FirstOrEncoder<E, S> {
-    first: E,
-    rest: S,
-}
-
-impl<E: HoldsColumns, S: HoldsColumns> HoldsColumns for FirstOrEncoder<E, S> {
-    ghost columns = { λ e. two (E.columns e.first) (S.columns e.rest) };
-
-    ghost room = { λ e. endless_room };
-
-    ghost capacity = { λ e. E.capacity e.first + S.capacity e.rest };
-
-    ghost surely_overflows = { λ e n. ⊥ };
-
-    ghost overflows = { λ e n. ⊥ };
-}
-
-impl<E: Buffer, S: Buffer> Buffer for FirstOrEncoder<E, S> {
-    fn new(alloc: Global) -> Self {
-        FirstOrEncoder {
-            first: E::new(alloc),
-            rest: S::new(alloc),
-        }
-    }
-
-    // Room is made for each payload as it comes.
-    fn reserve(&mut self, _n: usize) -> Result<(), Error> {
-        Ok(())
-    }
-
-    fn collect_into(&mut self, out: &mut Vec<u8>) -> Result<(), Error> {
-        self.first.collect_into(out)?;
-        self.rest.collect_into(out)
-    }
-
-    fn clear(&mut self) {
-        self.first.clear();
-        self.rest.clear();
-    }
-}
-
-impl<A: Shaped, R: ShapedVariants, E: Encoder<A>, S: PayloadColumns<R>> PayloadColumns<
-    FirstOr<A, R>,
-> for FirstOrEncoder<E, S> {
-    ghost of_shapes = { λ e first. first_has_payloads A.shape R.shapes (E.columns e.first) (S.columns e.rest) (E.of_shape e.first) (S.of_shapes e.rest) first };
-}
-
-impl<
-    F: Fields,
-    R: VariantFields,
-    E: Buffer + Encoder<F::Whole> + FieldsEncoder<F>,
-    S: PayloadEncoder<R>,
-> PayloadEncoder<FirstOr<F, R>> for FirstOrEncoder<E, S> {
-    fn encode_payload(&mut self, variant: &FirstOr<F, R>) -> Result<(), Error> {
-        match variant {
-            FirstOr::First(fields) => encode_payload_fields(&mut self.first, fields),
-            FirstOr::Rest(rest) => self.rest.encode_payload(rest),
-        }
-    }
+    /// There is a list of payloads for each variant. Does nothing; its contract is for proofs.
+    fn sized(&self)
+        ensures { length (held.lists self.now) ≡ N };
 }

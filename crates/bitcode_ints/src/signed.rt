@@ -111,8 +111,8 @@ impl<'a> View<'a> for I8Decoder<'a> {
         }
     }
 
-    fn populate(&mut self, input: &mut &'a [u8], k: usize) -> Result<(), Error> {
-        self.column.populate(input, k)
+    fn read(&mut self, input: &mut &'a [u8], k: usize, strict: bool) -> Result<bool, Error> {
+        self.column.read(input, k, strict)
     }
 }
 
@@ -233,8 +233,8 @@ impl<'a> View<'a> for I16Decoder<'a> {
         }
     }
 
-    fn populate(&mut self, input: &mut &'a [u8], k: usize) -> Result<(), Error> {
-        self.column.populate(input, k)
+    fn read(&mut self, input: &mut &'a [u8], k: usize, strict: bool) -> Result<bool, Error> {
+        self.column.read(input, k, strict)
     }
 }
 
@@ -355,8 +355,8 @@ impl<'a> View<'a> for I32Decoder<'a> {
         }
     }
 
-    fn populate(&mut self, input: &mut &'a [u8], k: usize) -> Result<(), Error> {
-        self.column.populate(input, k)
+    fn read(&mut self, input: &mut &'a [u8], k: usize, strict: bool) -> Result<bool, Error> {
+        self.column.read(input, k, strict)
     }
 }
 
@@ -477,8 +477,8 @@ impl<'a> View<'a> for I64Decoder<'a> {
         }
     }
 
-    fn populate(&mut self, input: &mut &'a [u8], k: usize) -> Result<(), Error> {
-        self.column.populate(input, k)
+    fn read(&mut self, input: &mut &'a [u8], k: usize, strict: bool) -> Result<bool, Error> {
+        self.column.read(input, k, strict)
     }
 }
 
@@ -599,8 +599,8 @@ impl<'a> View<'a> for I128Decoder<'a> {
         }
     }
 
-    fn populate(&mut self, input: &mut &'a [u8], k: usize) -> Result<(), Error> {
-        self.column.populate(input, k)
+    fn read(&mut self, input: &mut &'a [u8], k: usize, strict: bool) -> Result<bool, Error> {
+        self.column.read(input, k, strict)
     }
 }
 
@@ -721,8 +721,8 @@ impl<'a> View<'a> for IsizeDecoder<'a> {
         }
     }
 
-    fn populate(&mut self, input: &mut &'a [u8], k: usize) -> Result<(), Error> {
-        self.column.populate(input, k)
+    fn read(&mut self, input: &mut &'a [u8], k: usize, strict: bool) -> Result<bool, Error> {
+        self.column.read(input, k, strict)
     }
 }
 

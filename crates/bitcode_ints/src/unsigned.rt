@@ -111,8 +111,8 @@ impl<'a> View<'a> for U8Decoder<'a> {
         }
     }
 
-    fn populate(&mut self, input: &mut &'a [u8], k: usize) -> Result<(), Error> {
-        self.column.populate(input, k)
+    fn read(&mut self, input: &mut &'a [u8], k: usize, strict: bool) -> Result<bool, Error> {
+        self.column.read(input, k, strict)
     }
 }
 
@@ -233,8 +233,8 @@ impl<'a> View<'a> for U16Decoder<'a> {
         }
     }
 
-    fn populate(&mut self, input: &mut &'a [u8], k: usize) -> Result<(), Error> {
-        self.column.populate(input, k)
+    fn read(&mut self, input: &mut &'a [u8], k: usize, strict: bool) -> Result<bool, Error> {
+        self.column.read(input, k, strict)
     }
 }
 
@@ -355,8 +355,8 @@ impl<'a> View<'a> for U32Decoder<'a> {
         }
     }
 
-    fn populate(&mut self, input: &mut &'a [u8], k: usize) -> Result<(), Error> {
-        self.column.populate(input, k)
+    fn read(&mut self, input: &mut &'a [u8], k: usize, strict: bool) -> Result<bool, Error> {
+        self.column.read(input, k, strict)
     }
 }
 
@@ -477,8 +477,8 @@ impl<'a> View<'a> for U64Decoder<'a> {
         }
     }
 
-    fn populate(&mut self, input: &mut &'a [u8], k: usize) -> Result<(), Error> {
-        self.column.populate(input, k)
+    fn read(&mut self, input: &mut &'a [u8], k: usize, strict: bool) -> Result<bool, Error> {
+        self.column.read(input, k, strict)
     }
 }
 
@@ -599,8 +599,8 @@ impl<'a> View<'a> for U128Decoder<'a> {
         }
     }
 
-    fn populate(&mut self, input: &mut &'a [u8], k: usize) -> Result<(), Error> {
-        self.column.populate(input, k)
+    fn read(&mut self, input: &mut &'a [u8], k: usize, strict: bool) -> Result<bool, Error> {
+        self.column.read(input, k, strict)
     }
 }
 
@@ -721,8 +721,8 @@ impl<'a> View<'a> for UsizeDecoder<'a> {
         }
     }
 
-    fn populate(&mut self, input: &mut &'a [u8], k: usize) -> Result<(), Error> {
-        self.column.populate(input, k)
+    fn read(&mut self, input: &mut &'a [u8], k: usize, strict: bool) -> Result<bool, Error> {
+        self.column.read(input, k, strict)
     }
 }
 

@@ -129,8 +129,8 @@ impl<'a, K: View<'a>, V: View<'a>> View<'a> for MapDecoder<'a, K, V> {
         }
     }
 
-    fn populate(&mut self, input: &mut &'a [u8], k: usize) -> Result<(), Error> {
-        self.entries.populate(input, k)
+    fn read(&mut self, input: &mut &'a [u8], k: usize, strict: bool) -> Result<bool, Error> {
+        self.entries.read(input, k, strict)
     }
 }
 

@@ -1,8 +1,9 @@
 //! `AminoAcid` numbers its variants. What is below its declaration was written by `scripts/new_type`.
 ghost use Rattle.std.specs.Prelude.{[], ◌∷◌, refl};
+ghost use Rattle.bitcode.specs.ByHand.{stood_payload};
 ghost use Rattle.bitcode_own_types.specs.declared.amino_acid.AminoAcid.{AminoAcid};
 
-use bitcode::{Bare, BareVariants, HasCoders, HeldIn};
+use bitcode::{Bare, BareVariants, HasCoders, HeldIn, Payload, StandsFor};
 
 /// What proteins are made of.
 #[derive(Debug, Clone, Copy, PartialEq)]
@@ -68,6 +69,10 @@ impl BareVariants<20> for AminoAcid {
 
 impl HeldIn for AminoAcid {
     type Holder = Bare<20, AminoAcid>;
+}
+
+impl Payload for AminoAcid {
+    ghost payload = { stood_payload ⟦<AminoAcid as StandsFor>⟧.parts ⟦<AminoAcid as StandsFor>⟧.of_parts ⟦<Bare<20, AminoAcid> as Payload>⟧.payload };
 }
 
 impl HasCoders for AminoAcid {}

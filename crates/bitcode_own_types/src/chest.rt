@@ -1,10 +1,11 @@
 //! `Chest` stands for the tuple of its fields. What is below its declaration was written by `scripts/new_type`.
 ghost use Rattle.std.specs.Prelude.{refl};
+ghost use Rattle.bitcode.specs.ByHand.{stood_payload};
 
 use crate::item::Item;
 use bitcode::{
     DecodeOwned, DecoderOfFields, EncoderOfFields, FromParts, HasDecoder, HasEncoder, LendsFields3,
-    Shaped, StandsFor,
+    Payload, Shaped, StandsFor,
 };
 
 /// A type of one's own that takes memory, inside another.
@@ -35,6 +36,10 @@ impl FromParts for Chest {
     fn from_parts((label, items, best): (String, Vec<Item>, Option<Item>)) -> Self {
         Chest { label, items, best }
     }
+}
+
+impl Payload for Chest {
+    ghost payload = { stood_payload ⟦<Chest as StandsFor>⟧.parts ⟦<Chest as StandsFor>⟧.of_parts ⟦<(String, Vec<Item>, Option<Item>) as Payload>⟧.payload };
 }
 
 impl LendsFields3<String, Vec<Item>, Option<Item>> for Chest {

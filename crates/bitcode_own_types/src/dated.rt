@@ -1,9 +1,10 @@
 //! `Dated` stands for the tuple of its fields. What is below its declaration was written by `scripts/new_type`.
 ghost use Rattle.std.specs.Prelude.{refl};
+ghost use Rattle.bitcode.specs.ByHand.{stood_payload};
 
 use bitcode::{
     DecodeOwned, DecoderOfFields, EncoderOfFields, FromParts, HasDecoder, HasEncoder, LendsFields3,
-    Made, Shaped, StandsFor,
+    Made, Payload, Shaped, StandsFor,
 };
 
 /// A value and when it was made.
@@ -34,6 +35,10 @@ impl<T: Made> FromParts for Dated<T> {
     fn from_parts((year, day, value): (u16, u16, T)) -> Self {
         Dated { year, day, value }
     }
+}
+
+impl<T: Shaped + Payload> Payload for Dated<T> {
+    ghost payload = { stood_payload ⟦<Dated<T> as StandsFor>⟧.parts ⟦<Dated<T> as StandsFor>⟧.of_parts ⟦<(u16, u16, T) as Payload>⟧.payload };
 }
 
 impl<T: Shaped> LendsFields3<u16, u16, T> for Dated<T> {

@@ -1,12 +1,15 @@
-//! `Event` stands for the payload of one of its variants. What is below its declaration was written by `scripts/new_type`.
-ghost use Rattle.std.specs.Prelude.{refl};
-ghost use Rattle.bitcode.specs.ByHand.{FirstOr, stood_for};
+//! `Event` is written and read by the numbers of its variants. What is below its declaration was written by `scripts/new_type`.
+ghost use Rattle.std.specs.Prelude.{◌≡◌, refl};
+ghost use Rattle.bitcode.specs.ByHand.{columns_in, each_variant, is_variant, last_payload, of_one_of_4, payload_and, payloads_in, stood_payload};
+ghost use Rattle.bitcode_own_types.specs.declared.event.Event.{Event};
 
 use bitcode::{
-    Choice, DecodeOwned, EncodeVariant, EnumDecoder, EnumEncoder, Error, FirstOr, FromParts,
-    HasDecoder, HasEncoder, HasPayloadDecoder, HasPayloadEncoder, Last, LendsVariant,
-    NamesVariants, PartsDecoder, PayloadEncoder, StandsFor, VariantFields,
+    AllColumns, AllPayloads, At, DecodeOwned, DecodersOf4, EncodersOf4, Enum, EnumDecoder,
+    EnumEncoder, EnumOf, Error, HasDecoder, HasEncoder, Held, HeldIn, OneOf4, PartsDecoder,
+    Payload, StandsFor, VariantColumns, VariantPayloads, Variants4, WritesPayloads, WritesVariants,
+    told_as,
 };
+use std::alloc::Global;
 
 /// What happens in a game.
 #[derive(Debug, PartialEq, Drop)]
@@ -17,101 +20,140 @@ pub enum Event {
     Quit(Option<u16>),
 }
 
-/// Names the payloads of `Event`.
-#[derive(Drop)]
-pub struct EventVariants {}
+impl Enum for Event {
+    ghost each = { each_variant (payload_and ⟦<() as Payload>⟧.payload (payload_and ⟦<(u64, String) as Payload>⟧.payload (payload_and ⟦<(u64, i8, i8) as Payload>⟧.payload (last_payload ⟦<Option<u16> as Payload>⟧.payload)))) (λ at. elim [ Event.Tick ↦ at 0 tt | Event.Spawn a b ↦ at 1 (a, b) | Event.Move a b c ↦ at 2 (a, b, c) | Event.Quit a ↦ at 3 a ]) ((λ p. (Event.Tick, refl)), ((λ p. (Event.Spawn p.0 p.1, refl)), ((λ p. (Event.Move p.0 p.1 p.2, refl)), λ p. (Event.Quit p, refl)))) };
 
-type Variants = FirstOr<(), FirstOr<(u64, String), FirstOr<(u64, i8, i8), Last<Option<u16>>>>>;
+    ghost sized = { refl };
 
-type Columns = <Variants as HasPayloadEncoder>::Encoder;
-
-type Lent<'b> = FirstOr<
-    &'b (),
-    FirstOr<(&'b u64, &'b String), FirstOr<(&'b u64, &'b i8, &'b i8), Last<&'b Option<u16>>>>,
->;
-
-impl NamesVariants<4> for EventVariants {
-    type Variants = Variants;
-
-    type Inside = ();
-
-    ghost count = { refl };
-
-    ghost some = { refl };
-}
-
-impl StandsFor for Event {
-    ghost use Rattle.bitcode_own_types.specs.declared.event.Event.{Event};
-
-    type Parts = Choice<4, EventVariants>;
-
-    type Inside = ();
-
-    ghost parts = { elim [ Event.Tick ↦ record { payload = FirstOr.First tt } | Event.Spawn a b ↦ record { payload = FirstOr.Rest (FirstOr.First (a, b)) } | Event.Move a b c ↦ record { payload = FirstOr.Rest (FirstOr.Rest (FirstOr.First (a, b, c))) } | Event.Quit a ↦ record { payload = FirstOr.Rest (FirstOr.Rest (FirstOr.Rest (record { 0 = a }))) } ] };
-
-    ghost of_parts = { λ p. stood_for (λ v. record { payload = v }) (elim [ FirstOr.First p ↦ (Event.Tick, refl) | FirstOr.Rest (FirstOr.First p) ↦ (Event.Spawn p.0 p.1, refl) | FirstOr.Rest (FirstOr.Rest (FirstOr.First p)) ↦ (Event.Move p.0 p.1 p.2, refl) | FirstOr.Rest (FirstOr.Rest (FirstOr.Rest p)) ↦ (Event.Quit p.0, refl) ]) p.payload };
-
-    fn told_parts(&self) {
-        self.lent().told();
-    }
-}
-
-impl FromParts for Event {
-    fn from_parts(choice: Choice<4, EventVariants>) -> Self {
-        match choice.payload {
-            FirstOr::First(()) => Event::Tick,
-            FirstOr::Rest(FirstOr::First((a, b))) => Event::Spawn(a, b),
-            FirstOr::Rest(FirstOr::Rest(FirstOr::First((id, dx, dy)))) => Event::Move {
-                id,
-                dx,
-                dy,
-            },
-            FirstOr::Rest(FirstOr::Rest(FirstOr::Rest(Last(a)))) => Event::Quit(a),
-        }
-    }
-}
-
-impl<'b> LendsVariant<'b, Variants> for Event {
-    ghost variant = { λ t. (⟦<Event as StandsFor>⟧.parts t).payload };
-
-    type Lent = Lent<'b>;
-
-    fn lent(&'b self) -> Self::Lent {
-        match self {
-            Event::Tick => FirstOr::First(&()),
-            Event::Spawn(a, b) => FirstOr::Rest(FirstOr::First((a, b))),
-            Event::Move { id, dx, dy } => FirstOr::Rest(FirstOr::Rest(FirstOr::First((
-                id, dx, dy,
-            )))),
-            Event::Quit(a) => FirstOr::Rest(FirstOr::Rest(FirstOr::Rest(Last(a)))),
-        }
-    }
-}
-
-impl EncodeVariant<4, Columns> for Event {
     fn variant(&self) -> u8 {
         match self {
             Event::Tick => 0,
-            Event::Spawn(..) => 1,
-            Event::Move { .. } => 2,
-            Event::Quit(..) => 3,
+            Event::Spawn(a, b) => told_as(1, &(a, b)),
+            Event::Move { id, dx, dy } => told_as(2, &(id, dx, dy)),
+            Event::Quit(a) => told_as(3, &a),
+        }
+    }
+}
+
+impl EnumOf<4> for Event {
+    ghost count = { refl };
+}
+
+impl HeldIn for Event {
+    type Holder = Held<4, Event>;
+}
+
+impl Payload for Event {
+    ghost payload = { stood_payload ⟦<Event as StandsFor>⟧.parts ⟦<Event as StandsFor>⟧.of_parts ⟦<Held<4, Event> as Payload>⟧.payload };
+}
+
+impl Variants4<At<0>, (), (u64, String), (u64, i8, i8), Option<u16>> for Event {
+    ghost values = { (λ p. Event.Tick, λ p. Event.Spawn p.0 p.1, λ p. Event.Move p.0 p.1 p.2, λ p. Event.Quit p) };
+
+    fn of_payload(payload: OneOf4<(), (u64, String), (u64, i8, i8), Option<u16>>) -> Self
+        ensures { result ≡ of_one_of_4 (λ p. Event.Tick) (λ p. Event.Spawn p.0 p.1) (λ p. Event.Move p.0 p.1 p.2) (λ p. Event.Quit p) payload }
+    {
+        match payload {
+            OneOf4::First(()) => Event::Tick,
+            OneOf4::Second((a, b)) => Event::Spawn(a, b),
+            OneOf4::Third((id, dx, dy)) => Event::Move { id, dx, dy },
+            OneOf4::Fourth(a) => Event::Quit(a),
         }
     }
 
-    fn encode_payload(&self, payloads: &mut Columns) -> Result<(), Error> {
-        PayloadEncoder::<Lent<'_>>::encode_payload(payloads, &self.lent())
+    ghost are = { (is_variant refl (λ p. refl) (λ p old new h. h) (λ p old h. h) (λ p old new h. h), is_variant refl (λ p. refl) (λ p old new h. h) (λ p old h. h) (λ p old new h. h), is_variant refl (λ p. refl) (λ p old new h. h) (λ p old h. h) (λ p old new h. h), is_variant refl (λ p. refl) (λ p old new h. h) (λ p old h. h) (λ p old new h. h)) };
+}
+
+type Columns = EncodersOf4<At<0>, (), (u64, String), (u64, i8, i8), Option<u16>>;
+
+impl WritesVariants<Columns> for Event {
+    fn write(&self, to: &mut Columns) -> Result<(), Error> {
+        match self {
+            Event::Tick => to.encode_first(self, &&()),
+            Event::Spawn(a, b) => to.encode_second(self, &(a, b)),
+            Event::Move { id, dx, dy } => to.encode_third::<_, _, _, _, _, (&u64, &i8, &i8)>(
+                self,
+                &(id, dx, dy),
+            ),
+            Event::Quit(a) => to.encode_fourth(self, &a),
+        }
     }
 }
 
+type Decoders<'a> = DecodersOf4<'a, At<0>, (), (u64, String), (u64, i8, i8), Option<u16>>;
+
+/// The columns of the payloads of `Event`.
+#[derive(Drop)]
+pub struct EventColumns {
+    all: Columns,
+}
+
+impl AllColumns<4> for EventColumns {
+    ghost held = { columns_in (λ c. c.all) ⟦<Columns as VariantColumns>⟧.columns };
+
+    fn new(alloc: Global) -> Self {
+        EventColumns {
+            all: VariantColumns::new(alloc),
+        }
+    }
+
+    fn collect(&mut self, number: usize, out: &mut Vec<u8>) -> Result<(), Error> {
+        self.all.collect_payloads(number, out)
+    }
+
+    fn clear(&mut self, number: usize) {
+        self.all.clear_payloads(number);
+    }
+
+    ghost sized = { λ c. refl };
+}
+
+impl WritesPayloads<4, EventColumns> for Event {
+    fn write_payload(&self, to: &mut EventColumns) -> Result<(), Error> {
+        WritesVariants::<Columns>::write(self, &mut to.all)
+    }
+
+    ghost of_shapes = { λ c. refl };
+}
+
+/// The payloads that values of `Event` are made of.
+#[derive(Drop)]
+pub struct EventPayloads<'a> {
+    all: Decoders<'a>,
+}
+
+impl<'a> AllPayloads<'a, 4, Event> for EventPayloads<'a> {
+    ghost held = { payloads_in (λ d. d.all) ⟦<Decoders<'a> as VariantPayloads<'a, Event>>⟧.held };
+
+    fn new(alloc: Global) -> Self {
+        EventPayloads {
+            all: VariantPayloads::<Event>::new(alloc),
+        }
+    }
+
+    fn read_at(
+        &mut self,
+        number: usize,
+        input: &mut &'a [u8],
+        k: usize,
+        strict: bool,
+    ) -> Result<bool, Error> {
+        VariantPayloads::<Event>::read_payloads(&mut self.all, number, input, k, strict)
+    }
+
+    fn decode_at(&mut self, number: usize) -> Result<Event, Error> {
+        self.all.decode_payload(number)
+    }
+
+    fn sized(&self) {}
+}
+
 impl HasEncoder for Event {
-    type Encoder = EnumEncoder<4, Columns>;
+    type Encoder = EnumEncoder<4, EventColumns>;
 }
 
 impl<'a> HasDecoder<'a> for Event {
-    type Decoder = PartsDecoder<
-        Choice<4, EventVariants>,
-        EnumDecoder<'a, 4, EventVariants, <Variants as HasPayloadDecoder<'a>>::Decoder>,
-    >;
+    type Decoder = PartsDecoder<Held<4, Event>, EnumDecoder<'a, 4, Event, EventPayloads<'a>>>;
 }
 
 impl DecodeOwned for Event {}

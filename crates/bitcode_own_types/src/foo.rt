@@ -1,9 +1,10 @@
 //! `Foo` stands for the tuple of its fields. What is below its declaration was written by `scripts/new_type`.
 ghost use Rattle.std.specs.Prelude.{refl};
+ghost use Rattle.bitcode.specs.ByHand.{stood_payload};
 
 use bitcode::{
-    DecoderOfFields, EncoderOfFields, FromParts, HasDecoder, HasEncoder, LendsFields2, Shaped,
-    StandsFor,
+    DecoderOfFields, EncoderOfFields, FromParts, HasDecoder, HasEncoder, LendsFields2, Payload,
+    Shaped, StandsFor,
 };
 
 /// A number and a text.
@@ -32,6 +33,10 @@ impl<'a> FromParts for Foo<'a> {
     fn from_parts((x, y): (u32, &'a str)) -> Self {
         Foo { x, y }
     }
+}
+
+impl<'a> Payload for Foo<'a> {
+    ghost payload = { stood_payload ⟦<Foo<'a> as StandsFor>⟧.parts ⟦<Foo<'a> as StandsFor>⟧.of_parts ⟦<(u32, &'a str) as Payload>⟧.payload };
 }
 
 impl<'a> LendsFields2<u32, &'a str> for Foo<'a> {

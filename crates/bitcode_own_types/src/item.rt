@@ -1,9 +1,10 @@
 //! `Item` stands for the tuple of its fields. What is below its declaration was written by `scripts/new_type`.
 ghost use Rattle.std.specs.Prelude.{refl};
+ghost use Rattle.bitcode.specs.ByHand.{stood_payload};
 
 use bitcode::{
     DecodeOwned, DecoderOfFields, EncoderOfFields, FromParts, HasDecoder, HasEncoder, LendsFields2,
-    Shaped, StandsFor,
+    Payload, Shaped, StandsFor,
 };
 
 /// What a player may find.
@@ -32,6 +33,10 @@ impl FromParts for Item {
     fn from_parts((name, level): (String, u8)) -> Self {
         Item { name, level }
     }
+}
+
+impl Payload for Item {
+    ghost payload = { stood_payload ⟦<Item as StandsFor>⟧.parts ⟦<Item as StandsFor>⟧.of_parts ⟦<(String, u8) as Payload>⟧.payload };
 }
 
 impl LendsFields2<String, u8> for Item {

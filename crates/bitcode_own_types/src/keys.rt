@@ -1,12 +1,12 @@
 //! Structs of two and of three fields and an enum as keys of sets and maps, by hand: what `==` tells of them, and that as data.
 ghost use Rattle.std.specs.Prelude.{refl};
-ghost use Rattle.bitcode.specs.ByHand.{and_nested, bares_told, key_as, key_of, naturals_alike, stood_key, stood_payload, then_nested};
+ghost use Rattle.bitcode.specs.ByHand.{and_nested, bares_told, key_as, key_of, naturals_alike, stood_key, then_nested};
 ghost use Rattle.bitcode_own_types.specs.declared.light.Light.{Light};
 
 use crate::light::Light;
 use crate::seat::Seat;
 use crate::spot::Spot;
-use bitcode::{Bare, BareVariants, Error, Key, KeyPayload, Payload, StandsFor, decode};
+use bitcode::{BareVariants, Error, Key, KeyPayload, Payload, StandsFor, decode};
 use std::alloc::Global;
 use std::collections::{BTreeMap, BTreeSet};
 
@@ -24,10 +24,6 @@ impl KeyPayload for Seat {
 
 impl Key for Seat {
     ghost keyed = { ⟦<Seat as KeyPayload>⟧.key.told };
-}
-
-impl Payload for Light {
-    ghost payload = { stood_payload ⟦<Light as StandsFor>⟧.parts ⟦<Light as StandsFor>⟧.of_parts ⟦<Bare<2, Light> as Payload>⟧.payload };
 }
 
 impl KeyPayload for Light {

@@ -1,8 +1,9 @@
 //! `Light` numbers its variants. What is below its declaration was written by `scripts/new_type`.
 ghost use Rattle.std.specs.Prelude.{[], ◌∷◌, refl};
+ghost use Rattle.bitcode.specs.ByHand.{stood_payload};
 ghost use Rattle.bitcode_own_types.specs.declared.light.Light.{Light};
 
-use bitcode::{Bare, BareVariants, HasCoders, HeldIn};
+use bitcode::{Bare, BareVariants, HasCoders, HeldIn, Payload, StandsFor};
 
 /// What a light shows.
 #[derive(Debug, Clone, Copy, PartialEq, Eq, PartialOrd, Ord)]
@@ -32,6 +33,10 @@ impl BareVariants<2> for Light {
 
 impl HeldIn for Light {
     type Holder = Bare<2, Light>;
+}
+
+impl Payload for Light {
+    ghost payload = { stood_payload ⟦<Light as StandsFor>⟧.parts ⟦<Light as StandsFor>⟧.of_parts ⟦<Bare<2, Light> as Payload>⟧.payload };
 }
 
 impl HasCoders for Light {}

@@ -35,6 +35,10 @@ impl<'a> FromParts for Message<'a> {
     }
 }
 
+impl<'a> Payload for Message<'a> {
+    ghost payload = { stood_payload ⟦<Message<'a> as StandsFor>⟧.parts ⟦<Message<'a> as StandsFor>⟧.of_parts ⟦<(u32, &'a str) as Payload>⟧.payload };
+}
+
 impl<'a> LendsFields2<u32, &'a str> for Message<'a> {
     fn fields(&self) -> (&u32, &&'a str) {
         (&self.from, &self.text)
@@ -47,8 +51,4 @@ impl<'a> HasEncoder for Message<'a> {
 
 impl<'a> HasDecoder<'a> for Message<'a> {
     type Decoder = DecoderOfFields<'a, (u32, &'a str)>;
-}
-
-impl<'a> Payload for Message<'a> {
-    ghost payload = { stood_payload ⟦<Message<'a> as StandsFor>⟧.parts ⟦<Message<'a> as StandsFor>⟧.of_parts ⟦<(u32, &'a str) as Payload>⟧.payload };
 }

@@ -1,9 +1,10 @@
 //! `Meters` stands for the tuple of its fields. What is below its declaration was written by `scripts/new_type`.
 ghost use Rattle.std.specs.Prelude.{refl};
+ghost use Rattle.bitcode.specs.ByHand.{stood_payload};
 
 use bitcode::{
     DecodeOwned, DecoderOfFields, EncoderOfFields, FromParts, HasDecoder, HasEncoder, LendsFields1,
-    Shaped, StandsFor,
+    Payload, Shaped, StandsFor,
 };
 
 /// A length in meters.
@@ -28,6 +29,10 @@ impl FromParts for Meters {
     fn from_parts(value: u32) -> Self {
         Meters(value)
     }
+}
+
+impl Payload for Meters {
+    ghost payload = { stood_payload ⟦<Meters as StandsFor>⟧.parts ⟦<Meters as StandsFor>⟧.of_parts ⟦<u32 as Payload>⟧.payload };
 }
 
 impl LendsFields1<u32> for Meters {

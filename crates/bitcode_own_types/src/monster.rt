@@ -1,9 +1,10 @@
 //! `Monster` stands for the tuple of its fields. What is below its declaration was written by `scripts/new_type`.
 ghost use Rattle.std.specs.Prelude.{refl};
+ghost use Rattle.bitcode.specs.ByHand.{stood_payload};
 
 use bitcode::{
     DecodeOwned, DecoderOfFields, EncoderOfFields, FromParts, HasDecoder, HasEncoder, LendsFields6,
-    Shaped, StandsFor,
+    Payload, Shaped, StandsFor,
 };
 
 /// What a player meets.
@@ -49,6 +50,10 @@ impl FromParts for Monster {
             loot,
         }
     }
+}
+
+impl Payload for Monster {
+    ghost payload = { stood_payload ⟦<Monster as StandsFor>⟧.parts ⟦<Monster as StandsFor>⟧.of_parts ⟦<Parts as Payload>⟧.payload };
 }
 
 impl LendsFields6<u64, String, i16, bool, (i32, i32), Vec<u16>> for Monster {

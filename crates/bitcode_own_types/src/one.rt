@@ -1,9 +1,10 @@
 //! `One` stands for the tuple of its variant's fields. What is below its declaration was written by `scripts/new_type`.
 ghost use Rattle.std.specs.Prelude.{refl};
+ghost use Rattle.bitcode.specs.ByHand.{stood_payload};
 
 use bitcode::{
     DecodeOwned, DecoderOfFields, EncoderOfFields, FromParts, HasDecoder, HasEncoder, LendsFields1,
-    Shaped, StandsFor,
+    Payload, Shaped, StandsFor,
 };
 
 /// A byte.
@@ -33,6 +34,10 @@ impl FromParts for One {
     fn from_parts(a: u8) -> Self {
         One::A(a)
     }
+}
+
+impl Payload for One {
+    ghost payload = { stood_payload ⟦<One as StandsFor>⟧.parts ⟦<One as StandsFor>⟧.of_parts ⟦<u8 as Payload>⟧.payload };
 }
 
 impl LendsFields1<u8> for One {

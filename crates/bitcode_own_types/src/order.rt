@@ -1,13 +1,13 @@
 //! `Order` is written and read by the numbers of its variants. What is below its declaration was written by `scripts/new_type`.
 ghost use Rattle.std.specs.Prelude.{◌≡◌, refl};
-ghost use Rattle.bitcode.specs.ByHand.{columns_in, each_variant, is_variant, last_payload, of_one_of_6, payload_and, payloads_in};
+ghost use Rattle.bitcode.specs.ByHand.{columns_in, each_variant, is_variant, last_payload, of_one_of_6, payload_and, payloads_in, stood_payload};
 ghost use Rattle.bitcode_own_types.specs.declared.order.Order.{Order};
 
 use bitcode::{
-    AllColumns, AllPayloads, At, DecodeOwned, DecodersOf6, EncodersOf6, Enum, EnumEncoder, EnumOf,
-    Error, HasDecoder, HasEncoder, Held, HeldIn, NumberedColumns, NumberedDecoder, OneOf6,
-    PartsDecoder, Payload, VariantColumns, VariantPayloads, Variants6, WritesPayloads,
-    WritesVariants, told_as,
+    AllColumns, AllPayloads, At, DecodeOwned, DecodersOf6, EncodersOf6, Enum, EnumDecoder,
+    EnumEncoder, EnumOf, Error, HasDecoder, HasEncoder, Held, HeldIn, OneOf6, PartsDecoder,
+    Payload, StandsFor, VariantColumns, VariantPayloads, Variants6, WritesPayloads, WritesVariants,
+    told_as,
 };
 use std::alloc::Global;
 
@@ -45,6 +45,10 @@ impl EnumOf<6> for Order {
 
 impl HeldIn for Order {
     type Holder = Held<6, Order>;
+}
+
+impl Payload for Order {
+    ghost payload = { stood_payload ⟦<Order as StandsFor>⟧.parts ⟦<Order as StandsFor>⟧.of_parts ⟦<Held<6, Order> as Payload>⟧.payload };
 }
 
 impl Variants6<At<0>, (), (u64, String), (u64, u16), Option<String>, (u32, Vec<u16>), ()>
@@ -152,8 +156,14 @@ impl<'a> AllPayloads<'a, 6, Order> for OrderPayloads<'a> {
         }
     }
 
-    fn populate_at(&mut self, number: usize, input: &mut &'a [u8], k: usize) -> Result<(), Error> {
-        VariantPayloads::<Order>::populate_payloads(&mut self.all, number, input, k)
+    fn read_at(
+        &mut self,
+        number: usize,
+        input: &mut &'a [u8],
+        k: usize,
+        strict: bool,
+    ) -> Result<bool, Error> {
+        VariantPayloads::<Order>::read_payloads(&mut self.all, number, input, k, strict)
     }
 
     fn decode_at(&mut self, number: usize) -> Result<Order, Error> {
@@ -164,11 +174,11 @@ impl<'a> AllPayloads<'a, 6, Order> for OrderPayloads<'a> {
 }
 
 impl HasEncoder for Order {
-    type Encoder = EnumEncoder<6, NumberedColumns<6, OrderColumns>>;
+    type Encoder = EnumEncoder<6, OrderColumns>;
 }
 
 impl<'a> HasDecoder<'a> for Order {
-    type Decoder = PartsDecoder<Held<6, Order>, NumberedDecoder<'a, 6, Order, OrderPayloads<'a>>>;
+    type Decoder = PartsDecoder<Held<6, Order>, EnumDecoder<'a, 6, Order, OrderPayloads<'a>>>;
 }
 
 impl DecodeOwned for Order {}

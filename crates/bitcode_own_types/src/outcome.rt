@@ -1,8 +1,9 @@
 //! `Outcome` numbers its variants. What is below its declaration was written by `scripts/new_type`.
 ghost use Rattle.std.specs.Prelude.{[], ◌∷◌, refl};
+ghost use Rattle.bitcode.specs.ByHand.{stood_payload};
 ghost use Rattle.bitcode_own_types.specs.declared.outcome.Outcome.{Outcome};
 
-use bitcode::{Bare, BareVariants, HasCoders, HeldIn};
+use bitcode::{Bare, BareVariants, HasCoders, HeldIn, Payload, StandsFor};
 
 /// How a game ended.
 #[derive(Debug, Clone, Copy, PartialEq)]
@@ -34,6 +35,10 @@ impl BareVariants<3> for Outcome {
 
 impl HeldIn for Outcome {
     type Holder = Bare<3, Outcome>;
+}
+
+impl Payload for Outcome {
+    ghost payload = { stood_payload ⟦<Outcome as StandsFor>⟧.parts ⟦<Outcome as StandsFor>⟧.of_parts ⟦<Bare<3, Outcome> as Payload>⟧.payload };
 }
 
 impl HasCoders for Outcome {}

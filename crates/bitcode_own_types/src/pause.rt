@@ -1,8 +1,10 @@
 //! `Pause` stands for the tuple of its fields. What is below its declaration was written by `scripts/new_type`.
 ghost use Rattle.std.specs.Prelude.{refl};
+ghost use Rattle.bitcode.specs.ByHand.{stood_payload};
 
 use bitcode::{
-    DecodeOwned, DecoderOfFields, EncoderOfFields, FromParts, HasDecoder, HasEncoder, StandsFor,
+    DecodeOwned, DecoderOfFields, EncoderOfFields, FromParts, HasDecoder, HasEncoder, Payload,
+    StandsFor,
 };
 
 /// Nothing happens.
@@ -25,6 +27,10 @@ impl FromParts for Pause {
     fn from_parts(_nothing: ()) -> Self {
         Pause
     }
+}
+
+impl Payload for Pause {
+    ghost payload = { stood_payload ⟦<Pause as StandsFor>⟧.parts ⟦<Pause as StandsFor>⟧.of_parts ⟦<() as Payload>⟧.payload };
 }
 
 impl HasEncoder for Pause {

@@ -120,8 +120,8 @@ impl<'a> View<'a> for PlayerDecoder<'a> {
         }
     }
 
-    fn populate(&mut self, input: &mut &'a [u8], k: usize) -> Result<()> {
-        self.fields.populate(input, k)
+    fn read(&mut self, input: &mut &'a [u8], k: usize, strict: bool) -> Result<bool> {
+        self.fields.read(input, k, strict)
     }
 }
 

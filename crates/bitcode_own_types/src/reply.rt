@@ -1,14 +1,13 @@
 //! `Reply` is written and read by the numbers of its variants. What is below its declaration was written by `scripts/new_type`.
 ghost use Rattle.std.specs.Prelude.{◌≡◌, refl};
-ghost use Rattle.bitcode.specs.ByHand.{columns_in, each_variant, is_variant, last_payload, of_one_of_4, payload_and, payloads_in};
+ghost use Rattle.bitcode.specs.ByHand.{columns_in, each_variant, is_variant, last_payload, of_one_of_4, payload_and, payloads_in, stood_payload};
 ghost use Rattle.bitcode_own_types.specs.declared.reply.Reply.{Reply};
 
 use crate::message::Message;
 use bitcode::{
-    AllColumns, AllPayloads, At, DecodersOf4, EncodersOf4, Enum, EnumEncoder, EnumOf, Error,
-    Halves, HasDecoder, HasEncoder, Held, HeldIn, NumberedColumns, NumberedDecoder, OneOf4,
-    PartsDecoder, Payload, VariantColumns, VariantPayloads, Variants4, WritesPayloads,
-    WritesVariants, told_as,
+    AllColumns, AllPayloads, At, DecodersOf4, EncodersOf4, Enum, EnumDecoder, EnumEncoder, EnumOf,
+    Error, Halves, HasDecoder, HasEncoder, Held, HeldIn, OneOf4, PartsDecoder, Payload, StandsFor,
+    VariantColumns, VariantPayloads, Variants4, WritesPayloads, WritesVariants, told_as,
 };
 use std::alloc::Global;
 use std::collections::{BTreeMap, BTreeSet, HashMap};
@@ -51,6 +50,10 @@ impl<'a> EnumOf<8> for Reply<'a> {
 
 impl<'a> HeldIn for Reply<'a> {
     type Holder = Held<8, Reply<'a>>;
+}
+
+impl<'a> Payload for Reply<'a> {
+    ghost payload = { stood_payload ⟦<Reply<'a> as StandsFor>⟧.parts ⟦<Reply<'a> as StandsFor>⟧.of_parts ⟦<Held<8, Reply<'a>> as Payload>⟧.payload };
 }
 
 impl<'a> Variants4<At<0>, (), &'a str, (Vec<&'a str>, Option<u32>), BTreeMap<u32, String>>
@@ -189,8 +192,14 @@ impl<'a> AllPayloads<'a, 8, Reply<'a>> for ReplyPayloads<'a> {
         }
     }
 
-    fn populate_at(&mut self, number: usize, input: &mut &'a [u8], k: usize) -> Result<(), Error> {
-        VariantPayloads::<Reply<'a>>::populate_payloads(&mut self.all, number, input, k)
+    fn read_at(
+        &mut self,
+        number: usize,
+        input: &mut &'a [u8],
+        k: usize,
+        strict: bool,
+    ) -> Result<bool, Error> {
+        VariantPayloads::<Reply<'a>>::read_payloads(&mut self.all, number, input, k, strict)
     }
 
     fn decode_at(&mut self, number: usize) -> Result<Reply<'a>, Error> {
@@ -201,12 +210,12 @@ impl<'a> AllPayloads<'a, 8, Reply<'a>> for ReplyPayloads<'a> {
 }
 
 impl<'a> HasEncoder for Reply<'a> {
-    type Encoder = EnumEncoder<8, NumberedColumns<8, ReplyColumns>>;
+    type Encoder = EnumEncoder<8, ReplyColumns>;
 }
 
 impl<'a> HasDecoder<'a> for Reply<'a> {
     type Decoder = PartsDecoder<
         Held<8, Reply<'a>>,
-        NumberedDecoder<'a, 8, Reply<'a>, ReplyPayloads<'a>>,
+        EnumDecoder<'a, 8, Reply<'a>, ReplyPayloads<'a>>,
     >;
 }

@@ -96,8 +96,8 @@ impl<'a> View<'a> for ScoresDecoder<'a> {
         }
     }
 
-    fn populate(&mut self, input: &mut &'a [u8], k: usize) -> Result<()> {
-        self.lists.populate(input, k)
+    fn read(&mut self, input: &mut &'a [u8], k: usize, strict: bool) -> Result<bool> {
+        self.lists.read(input, k, strict)
     }
 }
 

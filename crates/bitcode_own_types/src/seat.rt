@@ -1,9 +1,10 @@
 //! `Seat` stands for the tuple of its fields. What is below its declaration was written by `scripts/new_type`.
 ghost use Rattle.std.specs.Prelude.{refl};
+ghost use Rattle.bitcode.specs.ByHand.{stood_payload};
 
 use bitcode::{
     DecodeOwned, DecoderOfFields, EncoderOfFields, FromParts, HasDecoder, HasEncoder, LendsFields3,
-    Shaped, StandsFor,
+    Payload, Shaped, StandsFor,
 };
 
 /// A seat of a theatre.
@@ -34,6 +35,10 @@ impl FromParts for Seat {
     fn from_parts((level, row, place): (u8, u16, u16)) -> Self {
         Seat { level, row, place }
     }
+}
+
+impl Payload for Seat {
+    ghost payload = { stood_payload ⟦<Seat as StandsFor>⟧.parts ⟦<Seat as StandsFor>⟧.of_parts ⟦<(u8, u16, u16) as Payload>⟧.payload };
 }
 
 impl LendsFields3<u8, u16, u16> for Seat {

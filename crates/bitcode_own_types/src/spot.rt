@@ -1,9 +1,10 @@
 //! `Spot` stands for the tuple of its fields. What is below its declaration was written by `scripts/new_type`.
 ghost use Rattle.std.specs.Prelude.{refl};
+ghost use Rattle.bitcode.specs.ByHand.{stood_payload};
 
 use bitcode::{
     DecodeOwned, DecoderOfFields, EncoderOfFields, FromParts, HasDecoder, HasEncoder, LendsFields2,
-    Shaped, StandsFor,
+    Payload, Shaped, StandsFor,
 };
 
 /// A place on a map, of which there are sets.
@@ -32,6 +33,10 @@ impl FromParts for Spot {
     fn from_parts((x, y): (u32, u32)) -> Self {
         Spot { x, y }
     }
+}
+
+impl Payload for Spot {
+    ghost payload = { stood_payload ⟦<Spot as StandsFor>⟧.parts ⟦<Spot as StandsFor>⟧.of_parts ⟦<(u32, u32) as Payload>⟧.payload };
 }
 
 impl LendsFields2<u32, u32> for Spot {

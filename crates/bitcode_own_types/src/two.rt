@@ -1,12 +1,15 @@
-//! `Two` stands for the payload of one of its variants. What is below its declaration was written by `scripts/new_type`.
-ghost use Rattle.std.specs.Prelude.{refl};
-ghost use Rattle.bitcode.specs.ByHand.{FirstOr, stood_for};
+//! `Two` is written and read by the numbers of its variants. What is below its declaration was written by `scripts/new_type`.
+ghost use Rattle.std.specs.Prelude.{◌≡◌, refl};
+ghost use Rattle.bitcode.specs.ByHand.{columns_in, each_variant, is_variant, last_payload, of_one_of_2, payload_and, payloads_in, stood_payload};
+ghost use Rattle.bitcode_own_types.specs.declared.two.Two.{Two};
 
 use bitcode::{
-    Choice, DecodeOwned, EncodeVariant, EnumDecoder, EnumEncoder, Error, FirstOr, FromParts,
-    HasDecoder, HasEncoder, HasPayloadDecoder, HasPayloadEncoder, Last, LendsVariant,
-    NamesVariants, PartsDecoder, PayloadEncoder, StandsFor, VariantFields,
+    AllColumns, AllPayloads, At, DecodeOwned, DecodersOf2, EncodersOf2, Enum, EnumDecoder,
+    EnumEncoder, EnumOf, Error, HasDecoder, HasEncoder, Held, HeldIn, OneOf2, PartsDecoder,
+    Payload, StandsFor, VariantColumns, VariantPayloads, Variants2, WritesPayloads, WritesVariants,
+    told_as,
 };
+use std::alloc::Global;
 
 /// A byte without sign or one with a sign.
 #[derive(Debug, Clone, Copy, PartialEq)]
@@ -15,86 +18,131 @@ pub enum Two {
     B(i8),
 }
 
-/// Names the payloads of `Two`.
-#[derive(Drop)]
-pub struct TwoVariants {}
+impl Enum for Two {
+    ghost each = { each_variant (payload_and ⟦<u8 as Payload>⟧.payload (last_payload ⟦<i8 as Payload>⟧.payload)) (λ at. elim [ Two.A a ↦ at 0 a | Two.B a ↦ at 1 a ]) ((λ p. (Two.A p, refl)), λ p. (Two.B p, refl)) };
 
-type Variants = FirstOr<u8, Last<i8>>;
+    ghost sized = { refl };
 
-type Columns = <Variants as HasPayloadEncoder>::Encoder;
-
-type Lent<'b> = FirstOr<&'b u8, Last<&'b i8>>;
-
-impl NamesVariants<2> for TwoVariants {
-    type Variants = Variants;
-
-    type Inside = ();
-
-    ghost count = { refl };
-
-    ghost some = { refl };
-}
-
-impl StandsFor for Two {
-    ghost use Rattle.bitcode_own_types.specs.declared.two.Two.{Two};
-
-    type Parts = Choice<2, TwoVariants>;
-
-    type Inside = ();
-
-    ghost parts = { elim [ Two.A a ↦ record { payload = FirstOr.First a } | Two.B a ↦ record { payload = FirstOr.Rest (record { 0 = a }) } ] };
-
-    ghost of_parts = { λ p. stood_for (λ v. record { payload = v }) (elim [ FirstOr.First p ↦ (Two.A p, refl) | FirstOr.Rest p ↦ (Two.B p.0, refl) ]) p.payload };
-
-    fn told_parts(&self) {
-        self.lent().told();
-    }
-}
-
-impl FromParts for Two {
-    fn from_parts(choice: Choice<2, TwoVariants>) -> Self {
-        match choice.payload {
-            FirstOr::First(a) => Two::A(a),
-            FirstOr::Rest(Last(a)) => Two::B(a),
-        }
-    }
-}
-
-impl<'b> LendsVariant<'b, Variants> for Two {
-    ghost variant = { λ t. (⟦<Two as StandsFor>⟧.parts t).payload };
-
-    type Lent = Lent<'b>;
-
-    fn lent(&'b self) -> Self::Lent {
-        match self {
-            Two::A(a) => FirstOr::First(a),
-            Two::B(a) => FirstOr::Rest(Last(a)),
-        }
-    }
-}
-
-impl EncodeVariant<2, Columns> for Two {
     fn variant(&self) -> u8 {
         match self {
-            Two::A(..) => 0,
-            Two::B(..) => 1,
+            Two::A(a) => told_as(0, &a),
+            Two::B(a) => told_as(1, &a),
+        }
+    }
+}
+
+impl EnumOf<2> for Two {
+    ghost count = { refl };
+}
+
+impl HeldIn for Two {
+    type Holder = Held<2, Two>;
+}
+
+impl Payload for Two {
+    ghost payload = { stood_payload ⟦<Two as StandsFor>⟧.parts ⟦<Two as StandsFor>⟧.of_parts ⟦<Held<2, Two> as Payload>⟧.payload };
+}
+
+impl Variants2<At<0>, u8, i8> for Two {
+    ghost values = { (λ p. Two.A p, λ p. Two.B p) };
+
+    fn of_payload(payload: OneOf2<u8, i8>) -> Self
+        ensures { result ≡ of_one_of_2 (λ p. Two.A p) (λ p. Two.B p) payload }
+    {
+        match payload {
+            OneOf2::First(a) => Two::A(a),
+            OneOf2::Second(a) => Two::B(a),
         }
     }
 
-    fn encode_payload(&self, payloads: &mut Columns) -> Result<(), Error> {
-        PayloadEncoder::<Lent<'_>>::encode_payload(payloads, &self.lent())
+    ghost are = { (is_variant refl (λ p. refl) (λ p old new h. h) (λ p old h. h) (λ p old new h. h), is_variant refl (λ p. refl) (λ p old new h. h) (λ p old h. h) (λ p old new h. h)) };
+}
+
+type Columns = EncodersOf2<At<0>, u8, i8>;
+
+impl WritesVariants<Columns> for Two {
+    fn write(&self, to: &mut Columns) -> Result<(), Error> {
+        match self {
+            Two::A(a) => to.encode_first(self, &a),
+            Two::B(a) => to.encode_second(self, &a),
+        }
     }
+}
+
+type Decoders<'a> = DecodersOf2<'a, At<0>, u8, i8>;
+
+/// The columns of the payloads of `Two`.
+#[derive(Drop)]
+pub struct TwoColumns {
+    all: Columns,
+}
+
+impl AllColumns<2> for TwoColumns {
+    ghost held = { columns_in (λ c. c.all) ⟦<Columns as VariantColumns>⟧.columns };
+
+    fn new(alloc: Global) -> Self {
+        TwoColumns {
+            all: VariantColumns::new(alloc),
+        }
+    }
+
+    fn collect(&mut self, number: usize, out: &mut Vec<u8>) -> Result<(), Error> {
+        self.all.collect_payloads(number, out)
+    }
+
+    fn clear(&mut self, number: usize) {
+        self.all.clear_payloads(number);
+    }
+
+    ghost sized = { λ c. refl };
+}
+
+impl WritesPayloads<2, TwoColumns> for Two {
+    fn write_payload(&self, to: &mut TwoColumns) -> Result<(), Error> {
+        WritesVariants::<Columns>::write(self, &mut to.all)
+    }
+
+    ghost of_shapes = { λ c. refl };
+}
+
+/// The payloads that values of `Two` are made of.
+#[derive(Drop)]
+pub struct TwoPayloads<'a> {
+    all: Decoders<'a>,
+}
+
+impl<'a> AllPayloads<'a, 2, Two> for TwoPayloads<'a> {
+    ghost held = { payloads_in (λ d. d.all) ⟦<Decoders<'a> as VariantPayloads<'a, Two>>⟧.held };
+
+    fn new(alloc: Global) -> Self {
+        TwoPayloads {
+            all: VariantPayloads::<Two>::new(alloc),
+        }
+    }
+
+    fn read_at(
+        &mut self,
+        number: usize,
+        input: &mut &'a [u8],
+        k: usize,
+        strict: bool,
+    ) -> Result<bool, Error> {
+        VariantPayloads::<Two>::read_payloads(&mut self.all, number, input, k, strict)
+    }
+
+    fn decode_at(&mut self, number: usize) -> Result<Two, Error> {
+        self.all.decode_payload(number)
+    }
+
+    fn sized(&self) {}
 }
 
 impl HasEncoder for Two {
-    type Encoder = EnumEncoder<2, Columns>;
+    type Encoder = EnumEncoder<2, TwoColumns>;
 }
 
 impl<'a> HasDecoder<'a> for Two {
-    type Decoder = PartsDecoder<
-        Choice<2, TwoVariants>,
-        EnumDecoder<'a, 2, TwoVariants, <Variants as HasPayloadDecoder<'a>>::Decoder>,
-    >;
+    type Decoder = PartsDecoder<Held<2, Two>, EnumDecoder<'a, 2, Two, TwoPayloads<'a>>>;
 }
 
 impl DecodeOwned for Two {}

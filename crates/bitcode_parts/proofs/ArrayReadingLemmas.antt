@@ -1,5 +1,5 @@
 -- Arrays are read as the elements of all, which are cut into arrays again.
-use Rattle.std.proofs.Common.{◌≡◌, ℕ, zero, suc, ◌-◌, ◌*◌, ◌^◌, ◌<◌, ◌≤◌, List, [], ◌∷◌, ◌++◌, length, map, take, drop, replicate, refl, sym, ◌∙◌, ap, ap₂, subst, arith}
+use Rattle.std.proofs.Common.{◌≡◌, Bool, ℕ, zero, suc, ◌-◌, ◌*◌, ◌^◌, ◌<◌, ◌≤◌, List, [], ◌∷◌, ◌++◌, length, map, take, drop, replicate, refl, sym, ◌∙◌, ap, ap₂, subst, arith}
 use Rattle.std.specs.Prelude.{All}
 use Rattle.std.proofs.Math.Seq.{take-append_seam, drop-append_seam}
 use Rattle.std.proofs.lemmas.List.{take-append-drop, length-take-le, length-drop, nil_from_length}
@@ -14,6 +14,7 @@ use Rattle.bitcode_coder.specs.Columns.{CountsFit}
 use Rattle.bitcode_coder.specs.Transposition.{columns_of, joined}
 use Rattle.bitcode_coder.specs.Spelling.{Spells, SpellsColumns}
 use Rattle.bitcode_coder.specs.Coder.{IsReadingRefusal, TakesDatum, TakesEach}
+use Rattle.bitcode_coder.specs.Strict.{JudgesData}
 use Rattle.bitcode_coder.proofs.CuttingLemmas.{cut-enough, cut-few}
 use Rattle.bitcode_coder.proofs.DatumLemmas.{joined_each}
 use Rattle.bitcode_parts.specs.Arrays.{arrays_of}
@@ -90,6 +91,11 @@ spelled_as_arrays : (size : ℕ) (shape : Shape) (ds : List Datum) (bytes : List
 spelled_as_arrays zero shape ds bytes s = s
 spelled_as_arrays (suc size) shape ds bytes s = s
 
+judged_as_arrays : (size : ℕ) (shape : Shape) (ds : List Datum) (written : Bool) (old new : List ℕ) → JudgesData shape (joined ds) written old new
+    → JudgesData (array_shape size shape) ds written old new
+judged_as_arrays zero shape ds written old new j = j
+judged_as_arrays (suc size) shape ds written old new j = j
+
 spelled_as_elements : (size : ℕ) (shape : Shape) (ds : List Datum) (bytes : List ℕ) → SpellsColumns (columns_of (array_shape size shape) ds) bytes
     → SpellsColumns (columns_of shape (joined ds)) bytes
 spelled_as_elements zero shape ds bytes s = s
@@ -114,6 +120,13 @@ module _ (size : ℕ) (shape : Shape) (k : ℕ) where
           columns = spelled_as_arrays size shape ds r.piece (subst (λ es. SpellsColumns (columns_of shape es) r.piece) are r.spelled.columns);
         };
       }
+
+  -- the answer of the elements is that of arrays
+  pub judges_arrays : (old new : List ℕ) (elements : List Datum) → Reads (Spells shape) (k * size) old elements new → (written : Bool)
+      → JudgesData shape elements written old new → JudgesData (array_shape size shape) (arrays_of size k elements) written old new
+  judges_arrays old new elements r written j =
+      judged_as_arrays size shape (arrays_of size k elements) written old new
+      (subst (λ es. JudgesData shape es written old new) (sym (joined-arrays_of size k elements r.size)) j)
 
   reads_elements : (old new : List ℕ) (ds : List Datum) → Reads (Spells (array_shape size shape)) k old ds new
       → Reads (Spells shape) (k * size) old (joined ds) new

@@ -1,19 +1,23 @@
 -- Variants without payloads are read and written as their column alone.
-use Rattle.std.proofs.Common.{◌≡◌, ℕ, zero, suc, ◌<◌, List, [], ◌∷◌, ◌++◌, length, map, All, refl, sym, ap, ap₂, subst, ◌∙◌, arith, ⊎_elim}
+use Rattle.std.proofs.Common.{◌≡◌, Bool, true, false, ◌&&◌, IsTrue, Result, Ok, Err, OnOk, IfOk, ℕ, zero, suc, ◌<◌, List, [], ◌∷◌, ◌++◌, length, map, All, refl, sym, ap, ap₂, subst, ◌∙◌, arith, ⊎_elim}
 use Rattle.std.proofs.lemmas.Bool.{cases_lt, cond-true, cond-false, lt-ltb, le-ltb}
 use Rattle.std.proofs.lemmas.List.{length-map, append-nil, map-append}
 use Rattle.std.proofs.lemmas.List.Elements.{All-map, All-weaker, All-head, All-tail}
 use Rattle.std.specs.List.{AllZip}
+use Rattle.std.specs.Prelude.{◌↔◌}
 use Rattle.bitcode_columns.specs.declared.error.Reason.{Reason}
 use Rattle.bitcode_columns.specs.Reading.{Reads, NamesVariantFault}
 use Rattle.bitcode_coder.specs.Faults.{NamesVariantsFault}
-use Rattle.bitcode_columns.specs.VariantColumn.{SpellsVariants}
-use Rattle.bitcode_shapes.specs.Datum.{Datum, choice, unit}
+use Rattle.bitcode_columns.specs.VariantColumn.{SpellsVariants, variant_text}
+use Rattle.bitcode_shapes.specs.Datum.{Datum, choice, unit, natural_in}
 use Rattle.bitcode_shapes.specs.Shape.{Shape, IsChoiceOf, IsOfVariant, variant_count}
-use Rattle.bitcode_coder.specs.Columns.{CountsFit, no_columns, one, two, variants, beside, emptied}
+use Rattle.bitcode_coder.specs.Columns.{CountsFit, no_columns, one, two, variants, plain, beside, emptied}
 use Rattle.bitcode_coder.specs.Coder.{IsReadingRefusal, JoinsListing, JoinsEach, TakesDatum}
 use Rattle.bitcode_coder.specs.Spelling.{Spells, SpellsColumns, natural, columns_bytes}
+use Rattle.bitcode_coder.specs.Strict.{Judges, JudgesData}
 use Rattle.bitcode_coder.specs.Transposition.{payload_columns, variant_entry}
+use Rattle.bitcode_coder.proofs.LengthPartLemmas.{naturals_in}
+use Rattle.bitcode_coder.proofs.StrictLemmas.{judges_column}
 use Rattle.bitcode_shapes.specs.BareVariants.{unit_shapes, bare_shape, ListsBare, MakesBare}
 use Rattle.bitcode_shapes.specs.LawfulBareVariants.{count-unit_shapes, of_bare_variant}
 use Rattle.bitcode_parts.specs.BareVariants.{bare_choices, bare_payloads, bare_columns, emptied-bare_payloads, written-bare_payloads}
@@ -37,6 +41,21 @@ payloads_fit (suc count) index ds = (tt, payloads_fit count (suc index) ds)
 payloads_spelled : (count index : ℕ) (ds : List Datum) → SpellsColumns (payload_columns (unit_shapes count) index ds) []
 payloads_spelled zero index ds = refl
 payloads_spelled (suc count) index ds = record { front = []; back = []; whole = refl; first = refl; second = payloads_spelled count (suc index) ds }
+
+payloads_judged : (count index : ℕ) (ds : List Datum) (rest : List ℕ) → Judges (plain (payload_columns (unit_shapes count) index ds)) true rest rest
+payloads_judged zero index ds rest = (refl, refl)
+payloads_judged (suc count) index ds rest = record {
+  middle = rest;
+  first_written = true;
+  second_written = true;
+  both = refl;
+  first = (refl, refl);
+  second = payloads_judged count (suc index) ds rest;
+}
+
+and_true : (a : Bool) → a ≡ (a && true)
+and_true true = refl
+and_true false = refl
 
 entries_are : (them : List ℕ) → map variant_entry (map (λ variant. choice variant unit) them) ≡ map natural them
 entries_are [] = refl
@@ -74,6 +93,28 @@ module _ (count k : ℕ) (old : List ℕ) where
   pub reads_bare : (new them : List ℕ) → Reads (SpellsVariants count) k old them new → Reads (Spells (bare_shape count)) k old (bare_choices count them) new
   reads_bare new them r =
       subst (λ ds. Reads (Spells (bare_shape count)) k old ds new) (sym (known_choices count them r.spelled.known)) (reads_known new them r)
+
+  judges_known : (new them : List ℕ) (written : Bool) → Reads (SpellsVariants count) k old them new → (IsTrue written ↔ (old ≡ variant_text count them ++ new))
+      → JudgesData (bare_shape count) (map (λ variant. choice variant unit) them) written old new
+  judges_known new them written r answer =
+      let ds = map (λ variant. choice variant unit) them in
+      let n = variant_count (unit_shapes count) in
+      record {
+        middle = new;
+        first_written = written;
+        second_written = true;
+        both = and_true written;
+        first = judges_column (variants n) written (map variant_entry ds) old new r.piece (variant_text count them) r.whole
+            (record { entries = them; are = entries_are them; spelled = subst (λ m. SpellsVariants m r.piece them) (sym (count-unit_shapes count)) r.spelled })
+            (ap (λ xs. variant_text n (map natural_in xs)) (entries_are them) ∙ ap (variant_text n) (naturals_in them) ∙ ap (λ m. variant_text m them) (count-unit_shapes count)) answer;
+        second = payloads_judged count 0 ds new;
+      }
+
+  pub judges_bare : {E : Type 0} (new them : List ℕ) (r : Result Bool E) → OnOk r (Reads (SpellsVariants count) k old them new)
+      → IfOk r (λ written. IsTrue written ↔ (old ≡ variant_text count them ++ new)) → IfOk r (λ written. JudgesData (bare_shape count) (bare_choices count them) written old new)
+  judges_bare new them (Ok written) read answer =
+      subst (λ ds. JudgesData (bare_shape count) ds written old new) (sym (known_choices count them read.spelled.known)) (judges_known new them written read answer)
+  judges_bare new them (Err e) read answer = tt
 
   pub refuses_bare : (reason : Reason) → NamesVariantsFault count reason k old → IsReadingRefusal (bare_shape count) reason k old
   refuses_bare reason fault =

@@ -11,3 +11,4 @@ pub mod ListWritingLemmas
 pub mod MapLemmas
 pub mod ArrayLemmas
 pub mod ArrayReadingLemmas
+pub mod StrictLemmas

@@ -1,6 +1,6 @@
 -- Data of lists are read as the lengths of all and then the elements of all.
-use Rattle.std.proofs.Common.{◌≡◌, ℕ, Option, List, [], ◌∷◌, ◌++◌, ◌<◌, ◌≤◌, length, map, sum, take, drop, refl, sym, ◌∙◌, ap, ap₂, subst, ⊎_elim, leb, arith, append_assoc, length-append}
-use Rattle.std.specs.Prelude.{None, All}
+use Rattle.std.proofs.Common.{◌≡◌, Bool, ◌&&◌, IsTrue, ℕ, Option, List, [], ◌∷◌, ◌++◌, ◌<◌, ◌≤◌, length, map, sum, take, drop, refl, sym, ◌∙◌, ap, ap₂, subst, ⊎_elim, leb, arith, append_assoc, length-append}
+use Rattle.std.specs.Prelude.{None, All, ◌↔◌}
 use Rattle.std.specs.List.{flat_map}
 use Rattle.std.proofs.Math.Seq.{take-append_seam, drop-append_seam}
 use Rattle.std.proofs.lemmas.List.{length-map, length-take-le}
@@ -9,14 +9,17 @@ use Rattle.std.proofs.lemmas.Bool.{cond_both, cases_Bool, leb-true, leb-false}
 use Rattle.std.proofs.lemmas.List.Sums.{sum_by-cons}
 use Rattle.bitcode_columns.specs.declared.error.Reason.{Reason}
 use Rattle.bitcode_columns.specs.Reading.{Reads}
-use Rattle.bitcode_shapes.specs.Datum.{Datum, list, data_of, elements_in}
+use Rattle.bitcode_shapes.specs.Datum.{Datum, list, data_of, elements_in, natural_in}
 use Rattle.bitcode_shapes.specs.Shape.{Shape, seq_shape, IsOf, IsListOf, IsWithin}
 use Rattle.bitcode_shapes.specs.Lists.{MakesSequence}
 use Rattle.bitcode_shapes.specs.LawfulLists.{list_of_data, zip_length}
-use Rattle.bitcode_coder.specs.Columns.{CountsFit}
+use Rattle.bitcode_coder.specs.Columns.{CountsFit, lengths as length_kind}
+use Rattle.bitcode_coder.specs.Strict.{JudgesData}
+use Rattle.bitcode_coder.proofs.LengthPartLemmas.{naturals_in}
+use Rattle.bitcode_coder.proofs.StrictLemmas.{judges_column}
 use Rattle.bitcode_coder.specs.Cutting.{cut}
 use Rattle.bitcode_coder.specs.Transposition.{columns_of, joined, length_entry}
-use Rattle.bitcode_coder.specs.LengthColumn.{SpellsLengths, KeepsCap, lengths_from}
+use Rattle.bitcode_coder.specs.LengthColumn.{SpellsLengths, KeepsCap, lengths_from, length_bytes}
 use Rattle.bitcode_coder.specs.LengthParts.{ReadsParts, NamesLengthFault}
 use Rattle.bitcode_coder.specs.Spelling.{Spells, SpellsColumns, natural}
 use Rattle.bitcode_coder.specs.Coder.{IsReadingRefusal, TakesDatum, TakesEach}
@@ -103,6 +106,24 @@ module _ (limit : Option ℕ) (s : Shape) (k : ℕ) where
             second = subst (λ ds. SpellsColumns (columns_of s ds) q.piece) same q.spelled.columns;
           };
         };
+      }
+
+  -- the answer of the lengths and the elements is that of lists
+  pub judges_sequence : {old middle : List ℕ} {lengths : List ℕ} (new : List ℕ) (elements : List Datum) (a b : Bool) → Reads (SpellsLengths None) k old lengths middle
+      → Reads (Spells s) (sum lengths) middle elements new → (IsTrue a ↔ (old ≡ length_bytes lengths ++ middle)) → JudgesData s elements b middle new
+      → JudgesData (seq_shape limit s) (lists_of lengths elements) (a && b) old new
+  judges_sequence {old} {middle} {lengths} new elements a b r q first second =
+      let all : sum lengths ≡ length elements = sym q.size in
+      let ds = lists_of lengths elements in
+      let are : map length_entry ds ≡ map natural lengths = lengths-lists_of lengths elements all in
+      record {
+        middle = middle;
+        first_written = a;
+        second_written = b;
+        both = refl;
+        first = judges_column (length_kind None) a (map length_entry ds) old middle r.piece (length_bytes lengths) r.whole
+            (record { entries = lengths; are = are; spelled = r.spelled }) (ap (λ xs. length_bytes (map natural_in xs)) are ∙ ap length_bytes (naturals_in lengths)) first;
+        second = subst (λ xs. JudgesData s xs b middle new) (sym (joined-lists_of lengths elements all)) second;
       }
 
   -- a reading of lists is a reading of their lengths and one of their elements

@@ -1,5 +1,5 @@
 -- An enum of two variants: what the coders of its variants and payloads do makes up what its own coder does. Each lemma
--- closes one goal that the check leaves of such an enum's `populate` or `encode`, from the clauses of the calls. The
+-- closes one goal that the check leaves of such an enum's `read` or `encode`, from the clauses of the calls. The
 -- values stand for those of A ⊎ B. (Of more variants the same follows by the lemmas that these cite.)
 use Rattle.std.proofs.Common.{◌≡◌, ℕ, List, [], ◌∷◌, ◌++◌, get_or, map, refl, sym, ◌∙◌, ap, subst, inl, inr, lit<, Result, Ok, Err, OnOk, IfErr}
 use Rattle.std.specs.Prelude.{◌⊎◌}
@@ -20,7 +20,7 @@ use Rattle.bitcode_parts.specs.Payloads.{choices_of}
 use Rattle.bitcode_parts.proofs.ChoiceReadingLemmas.{reads_choices, refuses_variants, refuses_payloads, refuses_first, refuses_later}
 use Rattle.bitcode_parts.proofs.ChoiceWritingLemmas.{joins_here, joins_later, joins_choice, overflows_here, overflows_later, overflows_choice}
 
--- ---- populate
+-- ---- read
 
 -- the variants were refused
 pub variants_stopped : {T : Type 0} (s u : Shape) (k : ℕ) (old : List ℕ) (e : Error) (r : Result T Error) → IsErrAnd r (λ f. f ≡ e) → NamesVariantsFault 2 e.reason k old
@@ -44,23 +44,24 @@ module _ (s u : Shape) {k k0 : ℕ} {old middle entries counts : List ℕ} (read
 
   -- they were read
   module _ {k1 : ℕ} {left : List ℕ} {ds : List Datum} (first : Reads (Spells s) k0 middle ds left) (second_count : k1 ≡ get_or counts 1 0) where
-    pub choice_read : {T : Type 0} (new : List ℕ) (es : List Datum) (r : Result T Error) → OnOk r (Reads (Spells u) k1 left es new)
-        → OnOk r (Reads (Spells (choice_shape (shape_and s (shape_and u no_shapes)))) k old (choices_of entries (ds ∷ es ∷ [])) new)
-    choice_read new es (Ok x) second =
+    pub choice_read : (new : List ℕ) (es : List Datum) → Reads (Spells u) k1 left es new
+        → Reads (Spells (choice_shape (shape_and s (shape_and u no_shapes)))) k old (choices_of entries (ds ∷ es ∷ [])) new
+    choice_read new es second =
         reads_choices (shape_and s (shape_and u no_shapes)) (ds ∷ es ∷ []) new read (record {
           middle = left;
           first = subst (λ n. Reads (Spells s) n middle ds left) (first_count ∙ are.each 0 (lit< tt)) first;
           behind = record { middle = new; first = subst (λ n. Reads (Spells u) n left es new) (second_count ∙ are.each 1 (lit< tt)) second; behind = refl };
         })
-    choice_read new es (Err e) second = tt
 
-    pub choice_refused : {T : Type 0} (r : Result T Error) → IfErr r (λ e. IsReadingRefusal u e.reason k1 left)
-        → IfErr r (λ e. IsReadingRefusal (choice_shape (shape_and s (shape_and u no_shapes))) e.reason k old)
-    choice_refused (Ok x) refused = tt
-    choice_refused (Err e) refused =
-        refuses_payloads (shape_and s (shape_and u no_shapes)) e.reason read
+    -- the payloads of the second variant were refused
+    pub second_stopped : {T : Type 0} (e : Error) (r : Result T Error) → IsErrAnd r (λ f. f ≡ e) → IsReadingRefusal u e.reason k1 left
+        → IfErr r (λ f. IsReadingRefusal (choice_shape (shape_and s (shape_and u no_shapes))) f.reason k old)
+    second_stopped e (Ok x) stopped refused = absurd stopped
+    second_stopped e (Err f) stopped refused =
+        subst (λ (x : Error). IsReadingRefusal (choice_shape (shape_and s (shape_and u no_shapes))) x.reason k old) (sym stopped)
+        (refuses_payloads (shape_and s (shape_and u no_shapes)) e.reason read
         (refuses_later s (shape_and u no_shapes) 0 entries e.reason (subst (λ n. Reads (Spells s) n middle ds left) (first_count ∙ are.each 0 (lit< tt)) first)
-        (refuses_first u no_shapes 1 entries e.reason (subst (λ n. IsReadingRefusal u e.reason n left) (second_count ∙ are.each 1 (lit< tt)) refused)))
+        (refuses_first u no_shapes 1 entries e.reason (subst (λ n. IsReadingRefusal u e.reason n left) (second_count ∙ are.each 1 (lit< tt)) refused))))
 
 -- what is left behind the variants and what stands behind the first payloads are ends of the input
 pub first_rest : {T : Type 0} {k : ℕ} {old middle entries : List ℕ} (new : List ℕ) (r : Result T Error) → Reads (SpellsVariants 2) k old entries middle
@@ -69,7 +70,7 @@ first_rest new (Ok x) read rest = tt
 first_rest new (Err e) read rest = ends_behind_read new read rest
 
 pub choice_rest : {T : Type 0} {s : Shape} {k k0 : ℕ} {old middle left entries : List ℕ} {ds : List Datum} (new : List ℕ) (r : Result T Error)
-    → Reads (SpellsVariants 2) k old entries middle → Reads (Spells s) k0 middle ds left → OnErr r (IsEndOf left new) → OnErr r (IsEndOf old new)
+    → Reads (SpellsVariants 2) k old entries middle → Reads (Spells s) k0 middle ds left → IsEndOf left new → OnErr r (IsEndOf old new)
 choice_rest new (Ok x) read first rest = tt
 choice_rest new (Err e) read first rest = ends_behind_read new read (ends_behind_read new first rest)
 

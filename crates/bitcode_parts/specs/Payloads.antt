@@ -1,6 +1,6 @@
 -- Choices as their variants, and for each variant the list of its payloads. How composites read them, one column
 -- behind the other, and write them.
-use Rattle.std.specs.Prelude.{◌≡◌, ◌≢◌, ℕ, suc, List, [], ◌∷◌, slice_index_or, slice_set}
+use Rattle.std.specs.Prelude.{◌≡◌, ◌≢◌, Bool, IsTrue, ℕ, suc, List, [], ◌∷◌, slice_index_or, slice_set}
 use Rattle.bitcode_columns.specs.declared.error.Reason.{Reason}
 use Rattle.bitcode_columns.specs.declared.error.Reason.TheVariants.{OutOfMemory}
 use Rattle.bitcode_columns.specs.Histogram.{count_of}
@@ -11,6 +11,7 @@ use Rattle.bitcode_shapes.specs.Shape.{Shape, Shapes, no_shapes, shape_and}
 use Rattle.bitcode_coder.specs.Columns.{Columns, beside, plain, emptied, CountsFit}
 use Rattle.bitcode_coder.specs.Transposition.{payload_columns}
 use Rattle.bitcode_coder.specs.Spelling.{Spells}
+use Rattle.bitcode_coder.specs.Strict.{JudgesBoth, JudgesData}
 use Rattle.bitcode_coder.specs.Coder.{IsReadingReason}
 
 -- ---- choices that a reader holds
@@ -44,6 +45,12 @@ ReadsPayloads no_shapes index variants old (ds ∷ lists) new = ⊥
 ReadsPayloads (shape_and s ss) index variants old [] new = ⊥
 ReadsPayloads (shape_and s ss) index variants old (ds ∷ lists) new =
     InTurn (Reads (Spells s) (count_of index variants) old ds) (λ middle. ReadsPayloads ss (suc index) variants middle lists new)
+
+-- the payloads of each variant were judged
+abbrev pub JudgesPayloads : Shapes → List (List Datum) → Bool → (old new : List ℕ) → Type 0
+JudgesPayloads no_shapes lists written old new = (old ≡ new) × IsTrue written
+JudgesPayloads (shape_and s ss) [] written old new = ⊥
+JudgesPayloads (shape_and s ss) (ds ∷ lists) written old new = JudgesBoth (JudgesData s ds) (JudgesPayloads ss lists) written old new
 
 -- a refusal other than want of memory comes only where the payloads from that index on cannot be read
 abbrev pub IsPayloadsRefusal : Shapes → (index : ℕ) (variants : List ℕ) → Reason → (input : List ℕ) → Type 0

@@ -1,9 +1,10 @@
 //! The coders of arrays.
-ghost use Rattle.std.specs.Prelude.{◌≡◌, ◌≢◌, ◌+◌, ◌*◌, ◌^◌, ◌<◌, ◌≤◌, ◌==◌, ◌||◌, IsOk, OnOk, IfErr, OnErr, IsErrOf};
+ghost use Rattle.std.specs.Prelude.{◌≡◌, ◌≢◌, ◌+◌, ◌*◌, ◌^◌, ◌<◌, ◌≤◌, ◌==◌, ◌||◌, IsTrue, IsOk, IfOk, OnOk, IfErr, OnErr, IsErrOf};
 ghost use Rattle.bitcode_columns.specs.Reading.{Reads, IsEndOf};
 ghost use Rattle.bitcode_shapes.specs.Shape.{array_shape};
 ghost use Rattle.bitcode_coder.specs.Coder.{IsWritingRefusal, IsReadingRefusal};
 ghost use Rattle.bitcode_coder.specs.Spelling.{Spells};
+ghost use Rattle.bitcode_coder.specs.Strict.{JudgesData};
 ghost use Rattle.bitcode_coder.specs.Transposition.{array_columns};
 ghost use Rattle.bitcode_parts.specs.Arrays.{array_room, ArraysOverflow, arrays_of, ArrayFaults};
 ghost use Rattle.bitcode_parts.specs.ArrayLaws.{arrays_of_shape, arrays_overflow, same_array_shape};
@@ -141,17 +142,18 @@ impl<'a, D: View<'a>, const N: usize> View<'a> for ArrayDecoder<D, N> {
         }
     }
 
-    fn populate(&mut self, input: &mut &'a [u8], k: usize) -> Result<(), Error>
+    fn read(&mut self, input: &mut &'a [u8], k: usize, strict: bool) -> Result<bool, Error>
         ensures read { OnOk result (Reads (Spells (array_shape N D.shape)) k input.old.now (arrays_of N self.new.left (D.held self.new.elements)) input.new.now) }
+        ensures judged { IsTrue strict → IfOk result (λ written. JudgesData (array_shape N D.shape) (arrays_of N self.new.left (D.held self.new.elements)) written input.old.now input.new.now) }
         ensures refused { IfErr result (λ e. IsReadingRefusal (array_shape N D.shape) e.reason k input.old.now) }
         ensures exact { IfErr result (λ e. ArrayFaults N D.faults e.reason k input.old.now) }
         ensures rest { OnErr result (IsEndOf input.old.now input.new.now) }
         ensures unread { 2 ^ 64 ≤ k * N → input.new.now ≡ input.old.now }
     {
         let count = mul_length(k, N)?;
-        self.elements.populate(input, count)?;
+        let written = self.elements.read(input, count, strict)?;
         self.left = k;
-        Ok(())
+        Ok(written)
     }
 }
 

@@ -134,8 +134,8 @@ impl<'a, T: Drop, D: View<'a>> View<'a> for ConvertFromDecoder<T, D> {
         }
     }
 
-    fn populate(&mut self, input: &mut &'a [u8], k: usize) -> Result<(), Error> {
-        self.inner.populate(input, k)
+    fn read(&mut self, input: &mut &'a [u8], k: usize, strict: bool) -> Result<bool, Error> {
+        self.inner.read(input, k, strict)
     }
 }
 

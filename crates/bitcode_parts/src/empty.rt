@@ -73,9 +73,9 @@ impl<'a> View<'a> for EmptyCoder {
         EmptyCoder { left: 0 }
     }
 
-    fn populate(&mut self, _input: &mut &'a [u8], k: usize) -> Result<(), Error> {
+    fn read(&mut self, _input: &mut &'a [u8], k: usize, _strict: bool) -> Result<bool, Error> {
         self.left = k;
-        Ok(())
+        Ok(true)
     }
 }
 

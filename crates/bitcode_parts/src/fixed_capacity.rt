@@ -11,7 +11,7 @@ ghost use Rattle.bitcode_parts.specs.Lists.{lists_of, BreaksLimit, FaultsInEleme
 
 use crate::lists::sequence::{Sequence, encode_each};
 use arrayvec::ArrayVec;
-use bitcode_coder::coder::{Decoder, Encoder, HoldsData, View};
+use bitcode_coder::coder::{Decoder, Encoder, HoldsData, View, both};
 use bitcode_coder::length::LengthDecoder;
 use bitcode_columns::error::{Error, Reason};
 use bitcode_columns::refuse::err;
@@ -57,15 +57,15 @@ impl<'a, D: View<'a>, const N: usize> View<'a> for ArrayVecDecoder<'a, D, N> {
         }
     }
 
-    fn populate(&mut self, input: &mut &'a [u8], k: usize) -> Result<(), Error> {
+    fn read(&mut self, input: &mut &'a [u8], k: usize, strict: bool) -> Result<bool, Error> {
         let mut lengths = LengthDecoder::new(self.alloc);
-        lengths.populate(input, k)?;
-        self.elements.populate(input, lengths.length())?;
+        let lengths_written = lengths.read(input, k, strict)?;
+        let elements_written = self.elements.read(input, lengths.length(), strict)?;
         if lengths.any_greater_than::<N>() {
             return err(Reason::InvalidArrayVec);
         }
         self.lengths = lengths;
-        Ok(())
+        Ok(both(lengths_written, elements_written))
     }
 }
 

@@ -39,8 +39,8 @@ impl<'a, P: Drop, D: View<'a>> View<'a> for PartsDecoder<P, D> {
         }
     }
 
-    fn populate(&mut self, input: &mut &'a [u8], k: usize) -> Result<(), Error> {
-        self.parts.populate(input, k)
+    fn read(&mut self, input: &mut &'a [u8], k: usize, strict: bool) -> Result<bool, Error> {
+        self.parts.read(input, k, strict)
     }
 }
 

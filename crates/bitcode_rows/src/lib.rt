@@ -16,6 +16,7 @@ pub mod lists;
 pub mod maps;
 pub mod room;
 pub mod sets;
+pub mod strict;
 pub mod tuples;
 pub mod variants;
 

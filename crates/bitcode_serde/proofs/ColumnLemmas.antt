@@ -1,6 +1,6 @@
 -- What is read of one column, in terms of its kind.
 use Rattle.std.proofs.Common.{ℕ, ◌≡◌, ◌<◌, false, true, None, ℤ, List, ◌∷◌, All, String, Global, string_bytes, length, map, refl, ap, sym, subst, ◌∙◌, lit<}
-use Rattle.std.specs.Prelude.{Bool, Result, Err, IfErr, ◌==◌, if◌then◌else◌}
+use Rattle.std.specs.Prelude.{Bool, IsTrue, ◌↔◌, ◌++◌, Result, Err, IfErr, ◌==◌, if◌then◌else◌}
 use Rattle.std.specs.Int.{w128}
 use Rattle.std.specs.Int.Signed.{mag}
 use Rattle.std.proofs.Common.{rules, to_z, of_z, w8, w16, w32, w64}
@@ -17,7 +17,10 @@ use Rattle.bitcode_shapes.specs.Texts.{MakesText}
 use Rattle.bitcode_coder.specs.Coder.{TakesDatum, IsReadingRefusal}
 use Rattle.bitcode_coder.specs.Columns.{Kind, ints, bools, texts, lengths, IsEntryOf}
 use Rattle.bitcode_coder.specs.Faults.{NamesBoolsFault, NamesIntsFault}
-use Rattle.bitcode_coder.specs.LengthColumn.{SpellsLengths}
+use Rattle.bitcode_coder.specs.LengthColumn.{SpellsLengths, length_bytes}
+use Rattle.bitcode_coder.specs.Strict.{JudgesColumn}
+use Rattle.bitcode_coder.proofs.LengthPartLemmas.{naturals_in}
+use Rattle.bitcode_coder.proofs.StrictLemmas.{judges_column}
 use Rattle.bitcode_coder.specs.LengthParts.{NamesLengthFault}
 use Rattle.bitcode_coder.specs.TextParts.{NamesTextFault}
 use Rattle.bitcode_coder.specs.Spelling.{Spells, SpellsColumn, natural, truth, number_of_residue}
@@ -55,6 +58,13 @@ pub lengths_column_read : (count : ℕ) (old ns new : List ℕ) → Reads (Spell
     → ReadsColumn (lengths None) count old (map natural ns) new
 lengths_column_read count old ns new r =
     record { size = length-map ns natural ∙ r.size; piece = r.piece; whole = r.whole; spelled = record { entries = ns; are = refl; spelled = r.spelled } }
+
+-- the answer of a column of lengths
+pub lengths_column_judged : (written : Bool) (count : ℕ) (old ns new : List ℕ) → Reads (SpellsLengths None) count old ns new
+    → (IsTrue written ↔ (old ≡ length_bytes ns ++ new)) → JudgesColumn written (lengths None) (map natural ns) old new
+lengths_column_judged written count old ns new r answer =
+    judges_column (lengths None) written (map natural ns) old new r.piece (length_bytes ns) r.whole (record { entries = ns; are = refl; spelled = r.spelled })
+    (ap length_bytes (naturals_in ns)) answer
 
 -- ---- refused
 

@@ -16,7 +16,7 @@ use Rattle.bitcode_serde.specs.Reading.{counts, Backs, Back, HostAll, Stands, Is
 use Rattle.bitcode_serde.specs.declared.reader.OpenColumn.{OpenColumn}
 use Rattle.bitcode_serde.specs.declared.reader.Reader.{Reader}
 use Rattle.bitcode_serde.proofs.PlaceLemmas.{inside_places}
-use Rattle.bitcode_serde.proofs.ReadingLemmas.{none_left, all_got, behind, elsewhere, here, open_at, first_ready}
+use Rattle.bitcode_serde.proofs.ReadingLemmas.{told_alike, none_left, all_got, behind, elsewhere, here, open_at, first_ready}
 
 -- ---- one column after another entry of it
 
@@ -165,10 +165,10 @@ module _ (old ready : Reader) (n i : ℕ) (kind : Kind) (c : OpenColumn) (within
   ready_back m s = subst (λ qs. Back qs ready.columns.items m.opened) (ap (λ z. places z.items) below_ready) s.backs
 
   pub led_each : (new : Reader) (after : OpenColumn) (ds : List Datum) → new.places.below ≡ old.places.below → new.counts ≡ ready.counts
-      → new.input.now ≡ ready.input.now → new.columns.items ≡ set ready.columns.items i after → TakesEach c ds after → length ds ≢ 0
+      → new.input.now ≡ ready.input.now → new.verdict ≡ ready.verdict → new.columns.items ≡ set ready.columns.items i after → TakesEach c ds after → length ds ≢ 0
       → LeadsEach old (place_at ps n) kind ds new
-  led_each new after [] below counted input columns t some a s = absurd (some refl)
-  led_each new after (d ∷ ds) below counted input columns t some a s =
+  led_each new after [] below counted input verdict columns t some a s = absurd (some refl)
+  led_each new after (d ∷ ds) below counted input verdict columns t some a s =
       let m = prepares a s in
       let r = each_at ps old.places.apart n (inside_places old.places.below.items n within) ready.columns.items m.0.opened i kind c (d ∷ ds) (left after.column)
       (ready_back m.0 m.1) is_ready is t.taken in
@@ -180,6 +180,7 @@ module _ (old ready : Reader) (n i : ℕ) (kind : Kind) (c : OpenColumn) (within
           hosts = subst (λ z. HostAll (map whole r.more) (places z.items) (counts new)) (sym below)
               (subst (λ z. HostAll (map whole r.more) ps (1 ∷ z.items)) (sym counted) (subst (λ ws. HostAll ws ps (counts ready)) (sym r.same) hosts));
           input = m.1.input ∙ sym input;
+          told = told_alike ready.verdict new.verdict (map whole m.0.opened) (map whole r.more) ready.input.now new.input.now verdict (sym r.same) (sym input) m.1.told;
         },
         r.are,
       )

@@ -1,5 +1,5 @@
 -- The reader goes along with the machine.
-use Rattle.std.proofs.Common.{◌≡◌, ◌≢◌, ℕ, zero, suc, ◌+◌, ◌-◌, ◌<◌, ◌≤◌, ◌⊎◌, inl, inr, List, [], ◌∷◌, ◌++◌, length, map, take, drop, get_or, All, refl, ap, sym, subst, ◌∙◌, true, false, Some, slice_get, arith, add-one, length-append}
+use Rattle.std.proofs.Common.{◌≡◌, ◌≢◌, ℕ, zero, suc, ◌+◌, ◌-◌, ◌<◌, ◌≤◌, ◌⊎◌, inl, inr, List, [], ◌∷◌, ◌++◌, length, map, take, drop, get_or, All, refl, ap, sym, subst, ◌∙◌, Bool, true, false, ◌&&◌, IsTrue, Some, slice_get, arith, add-one, length-append}
 use Rattle.std.specs.Prelude.{IsSomeAnd}
 use Rattle.std.proofs.lemmas.Bool.{or_left, or_right}
 use Rattle.std.proofs.lemmas.List.{map-append}
@@ -8,19 +8,23 @@ use Rattle.std.proofs.Math.ListN.{set}
 use Rattle.bitcode_columns.specs.declared.error.Reason.{Reason}
 use Rattle.bitcode_columns.specs.declared.error.Reason.TheVariants.{OutOfMemory}
 use Rattle.bitcode_shapes.specs.Datum.{Datum}
-use Rattle.bitcode_coder.specs.Columns.{Kind, IsEntryOf}
+use Rattle.bitcode_coder.specs.Columns.{Kind, Column, IsEntryOf}
 use Rattle.bitcode_coder.specs.Spelling.{SpellsColumn}
+use Rattle.bitcode_coder.specs.Strict.{JudgesColumn}
 use Rattle.bitcode_untyped.specs.Machine.{Opened, State, start, whole, next, is_open, entries_of, TakesNext}
-use Rattle.bitcode_untyped.specs.PlacedColumns.{PlacedColumn, same_place}
+use Rattle.bitcode_untyped.specs.PlacedColumns.{PlacedColumn, same_place, column_at, unplaced}
 use Rattle.bitcode_untyped.specs.Population.{population}
+use Rattle.bitcode_untyped.specs.Strict.{JudgesEach}
 use Rattle.bitcode_untyped.specs.Walk.{Place, Use, use_at}
+use Rattle.bitcode_untyped.proofs.StrictLemmas.{judges_more}
 use Rattle.bitcode_untyped.proofs.PlaceLemmas.{same_place-refl, same_place-false}
 use Rattle.bitcode_untyped.proofs.SoundLemmas.{grounded_append, population_append, takes_whole}
 use Rattle.bitcode_serde.specs.ReadColumns.{kind_of_column, left, Tallies, ReadsColumn, IsColumnReason, IsColumnRefusal}
-use Rattle.bitcode_serde.specs.Reading.{counts, AreSized, Backs, Back, Hosts, HostAll, Stands, IsReady, Prepares, NothingAt, Leads, LeadsTelling}
+use Rattle.bitcode_serde.specs.Reading.{counts, AreSized, Backs, Back, Hosts, HostAll, Told, Stands, IsReady, Prepares, NothingAt, Leads, LeadsTelling}
 use Rattle.bitcode_serde.specs.Places.{places, place_at, AreApart}
 use Rattle.bitcode_serde.specs.declared.reader.OpenColumn.{OpenColumn}
 use Rattle.bitcode_serde.specs.declared.reader.Reader.{Reader}
+use Rattle.bitcode_serde.specs.declared.reader.Verdict.{Verdict}
 use Rattle.bitcode_serde.proofs.PlaceLemmas.{inside_places}
 
 -- ---- the first column of a place
@@ -209,11 +213,32 @@ host_all_more : (ws vs : List PlacedColumn) (ps : List Place) (ns : List ℕ) �
 host_all_more ws vs ps ns h i inside =
     let k = h i inside in (grounded_append ws vs (place_at ps i) k.0, population_append ws vs (place_at ps i) k.0 ∙ k.1)
 
+-- the answer of one column more
+pub record TellsOn (old new : Verdict) (kind : Kind) (entries : List Datum) (before behind : List ℕ) : Type 0 where
+  pub answer : Bool
+  pub strict : new.strict ≡ old.strict
+  pub bytes : new.bytes.now ≡ old.bytes.now
+  pub written : new.written ≡ (old.written && answer)
+  pub judged : IsTrue old.strict → JudgesColumn answer kind entries before behind
+
+tells_on : (old new : Verdict) (kind : Kind) (entries : List Datum) (before behind : List ℕ) (cs : List Column)
+    → (IsTrue old.strict → JudgesEach cs old.written old.bytes.now before) → TellsOn old new kind entries before behind → IsTrue new.strict
+    → JudgesEach (cs ++ record { kind = kind; entries = entries } ∷ []) new.written new.bytes.now behind
+tells_on old new kind entries before behind cs told t strict =
+    let asked : IsTrue old.strict = subst IsTrue t.strict strict in
+    let column : Column = record { kind = kind; entries = entries } in
+    subst (λ w. JudgesEach (cs ++ column ∷ []) w new.bytes.now behind) (sym t.written)
+    (subst (λ b. JudgesEach (cs ++ column ∷ []) (old.written && t.answer) b behind) (sym t.bytes)
+    (judges_more cs column old.written t.answer old.bytes.now before behind (told asked) (t.judged asked)))
+
+unplaced-append : (ws vs : List PlacedColumn) → unplaced (ws ++ vs) ≡ unplaced ws ++ unplaced vs
+unplaced-append ws vs = map-append column_at ws vs
+
 pub stands_opened : (old new : Reader) (a : State) (n : ℕ) (kind : Kind) (entries : List Datum) (rest : List ℕ) (c : OpenColumn) → Stands old a
     → n < length (places old.places.below.items) → new.places.below ≡ old.places.below → new.counts ≡ old.counts → new.columns.items ≡ old.columns.items ++ c ∷ [] → new.input.now ≡ rest
     → c.place ≡ n → kind_of_column c.column ≡ kind → c.left ≡ length entries → left c.column ≡ entries → Tallies c.column entries → All (IsEntryOf kind) entries
-    → Stands new (with_column a (untouched (place_at (places old.places.below.items) n) kind entries) rest)
-stands_opened old new a n kind entries rest c s inside below counted columns input at same size all tallies are =
+    → TellsOn old.verdict new.verdict kind entries old.input.now rest → Stands new (with_column a (untouched (place_at (places old.places.below.items) n) kind entries) rest)
+stands_opened old new a n kind entries rest c s inside below counted columns input at same size all tallies are tells =
     let ps = places old.places.below.items in
     let o = untouched (place_at ps n) kind entries in
     let b : Backs ps c o = record {
@@ -226,6 +251,8 @@ stands_opened old new a n kind entries rest c s inside below counted columns inp
       are = are;
     } in
     let whole_is : map whole (a.opened ++ o ∷ []) ≡ map whole a.opened ++ whole o ∷ [] = map-append whole a.opened (o ∷ []) in
+    let unplaced_is : unplaced (map whole (a.opened ++ o ∷ [])) ≡ unplaced (map whole a.opened) ++ record { kind = kind; entries = entries } ∷ [] =
+    ap unplaced whole_is ∙ unplaced-append (map whole a.opened) (whole o ∷ []) in
     record {
       backs = subst (λ z. Back (places z.items) new.columns.items (a.opened ++ o ∷ [])) (sym below)
           (subst (λ cs. Back ps cs (a.opened ++ o ∷ [])) (sym columns) (back_last ps old.columns.items a.opened c o s.backs b));
@@ -233,6 +260,9 @@ stands_opened old new a n kind entries rest c s inside below counted columns inp
           (subst (λ z. HostAll (map whole (a.opened ++ o ∷ [])) ps (1 ∷ z.items)) (sym counted)
           (subst (λ ws. HostAll ws ps (counts old)) (sym whole_is) (host_all_more (map whole a.opened) (whole o ∷ []) ps (counts old) s.hosts)));
       input = sym input;
+      told = λ strict. subst (λ cs. JudgesEach cs new.verdict.written new.verdict.bytes.now new.input.now) (sym unplaced_is)
+          (subst (JudgesEach (unplaced (map whole a.opened) ++ record { kind = kind; entries = entries } ∷ []) new.verdict.written new.verdict.bytes.now) (sym input)
+          (tells_on old.verdict new.verdict kind entries old.input.now rest (unplaced (map whole a.opened)) s.told tells strict));
     }
 
 -- ---- what a reader tells of a place whose column is not open
@@ -260,11 +290,11 @@ module _ (r : Reader) (n : ℕ) (within : n ≤ length r.places.below.items) (aw
 
   pub prepared_here : (new : Reader) (kind : Kind) (entries : List Datum) (c : OpenColumn) → ReadsColumn kind count r.input.now entries new.input.now
       → new.places.below ≡ r.places.below → new.counts ≡ r.counts → new.columns.items ≡ r.columns.items ++ c ∷ [] → c.place ≡ n → kind_of_column c.column ≡ kind → c.left ≡ count
-      → left c.column ≡ entries → Tallies c.column entries → All (IsEntryOf kind) entries
+      → left c.column ≡ entries → Tallies c.column entries → All (IsEntryOf kind) entries → TellsOn r.verdict new.verdict kind entries r.input.now new.input.now
       → (a : State) → Stands r a → (m : State) × Stands new m × Prepares a (place_at (places r.places.below.items) n) kind m
-  prepared_here new kind entries c read below counts_same columns at same size all tallies are a s = (
+  prepared_here new kind entries c read below counts_same columns at same size all tallies are tells a s = (
     with_column a (untouched (place_at (places r.places.below.items) n) kind entries) new.input.now,
-    stands_opened r new a n kind entries new.input.now c s (inside_places r.places.below.items n within) below counts_same columns refl at same (size ∙ sym read.size) all tallies are,
+    stands_opened r new a n kind entries new.input.now c s (inside_places r.places.below.items n within) below counts_same columns refl at same (size ∙ sym read.size) all tallies are tells,
     prepared a (place_at (places r.places.below.items) n) kind count entries new.input.now (not_open a s) (hosted a s)
         (subst (λ bytes. ReadsColumn kind count bytes entries new.input.now) (sym s.input) read),
   )
@@ -290,13 +320,17 @@ first_ready [] n i kind ready = ready
 first_ready (x ∷ cs) n zero kind ready = ready.0
 first_ready (x ∷ cs) n (suc i) kind ready = (ready.0, first_ready cs n i kind ready.1)
 
+-- what was told of the columns is told of them still
+pub told_alike : (old new : Verdict) (ws vs : List PlacedColumn) (before behind : List ℕ) → new ≡ old → ws ≡ vs → before ≡ behind → Told old ws before → Told new vs behind
+told_alike old new ws vs before behind v w b told = subst (λ x. Told x vs behind) (sym v) (subst (Told old vs) b (subst (λ xs. Told old xs before) w told))
+
 -- the entry that was taken leads the reader on, and the column tells what was counted
 pub led_telling : (old ready new : Reader) (n i : ℕ) (kind : Kind) (c after : OpenColumn) (d : Datum) → n ≤ length old.places.below.items → ready.places.below ≡ old.places.below
-    → new.places.below ≡ old.places.below → new.counts ≡ ready.counts → new.input.now ≡ ready.input.now → new.columns.items ≡ set ready.columns.items i after → IsReady ready.columns.items n kind i
+    → new.places.below ≡ old.places.below → new.counts ≡ ready.counts → new.input.now ≡ ready.input.now → new.verdict ≡ ready.verdict → new.columns.items ≡ set ready.columns.items i after → IsReady ready.columns.items n kind i
     → c ≡ get_or ready.columns.items i c → TakesEntry c d after
     → ((a : State) → Stands old a → (m : State) × Stands ready m × Prepares a (place_at (places old.places.below.items) n) kind m)
     → LeadsTelling old (place_at (places old.places.below.items) n) kind d new (Tallies c.column)
-led_telling old ready new n i kind c after d within below_ready below counted input columns is_ready is t prepares a s =
+led_telling old ready new n i kind c after d within below_ready below counted input verdict columns is_ready is t prepares a s =
     let m = prepares a s in
     let ps = places old.places.below.items in
     let ready_places : places ready.places.below.items ≡ ps = ap (λ z. places z.items) below_ready in
@@ -312,6 +346,7 @@ led_telling old ready new n i kind c after d within below_ready below counted in
         hosts = subst (λ z. HostAll (map whole r.0) (places z.items) (counts new)) (sym below)
             (subst (λ z. HostAll (map whole r.0) ps (1 ∷ z.items)) (sym counted) (subst (λ ws. HostAll ws ps (counts ready)) (sym same) hosts));
         input = m.1.input ∙ sym input;
+        told = told_alike ready.verdict new.verdict (map whole m.0.opened) (map whole r.0) ready.input.now new.input.now verdict (sym same) (sym input) m.1.told;
       },
       subst (λ ws. is_open ws (place_at ps n) ≡ true) (sym same)
           (open_at ps old.places.apart n (inside_places old.places.below.items n within) ready.columns.items m.0.opened i backs (first_ready ready.columns.items n i kind is_ready)),
@@ -321,12 +356,12 @@ led_telling old ready new n i kind c after d within below_ready below counted in
     )
 
 pub led : (old ready new : Reader) (n i : ℕ) (kind : Kind) (c after : OpenColumn) (d : Datum) → n ≤ length old.places.below.items → ready.places.below ≡ old.places.below
-    → new.places.below ≡ old.places.below → new.counts ≡ ready.counts → new.input.now ≡ ready.input.now → new.columns.items ≡ set ready.columns.items i after → IsReady ready.columns.items n kind i
+    → new.places.below ≡ old.places.below → new.counts ≡ ready.counts → new.input.now ≡ ready.input.now → new.verdict ≡ ready.verdict → new.columns.items ≡ set ready.columns.items i after → IsReady ready.columns.items n kind i
     → c ≡ get_or ready.columns.items i c → TakesEntry c d after
     → ((a : State) → Stands old a → (m : State) × Stands ready m × Prepares a (place_at (places old.places.below.items) n) kind m)
     → Leads old (place_at (places old.places.below.items) n) kind d new
-led old ready new n i kind c after d within below_ready below counted input columns is_ready is t prepares a s =
-    let h = led_telling old ready new n i kind c after d within below_ready below counted input columns is_ready is t prepares a s in
+led old ready new n i kind c after d within below_ready below counted input verdict columns is_ready is t prepares a s =
+    let h = led_telling old ready new n i kind c after d within below_ready below counted input verdict columns is_ready is t prepares a s in
     (h.0, h.1, h.2, h.5)
 
 -- the column that is ready at the index
@@ -366,9 +401,11 @@ host_root : HostAll [] ([] ∷ []) (1 ∷ [])
 host_root zero inside = (tt, refl)
 host_root (suc i) inside = absurd (omega (arith, inside))
 
-pub stands_first : (r : Reader) (bytes : List ℕ) → r.places.below.items ≡ [] → r.counts.items ≡ [] → r.columns.items ≡ [] → r.input.now ≡ bytes → Stands r (start bytes)
-stands_first r bytes below counted columns input = record {
+pub stands_first : (r : Reader) (bytes : List ℕ) → r.places.below.items ≡ [] → r.counts.items ≡ [] → r.columns.items ≡ [] → r.input.now ≡ bytes → r.verdict.bytes.now ≡ bytes
+    → IsTrue r.verdict.written → Stands r (start bytes)
+stands_first r bytes below counted columns input all written = record {
   backs = subst (λ cs. Back (places r.places.below.items) cs []) (sym columns) tt;
   hosts = subst (λ bs. HostAll [] (places bs) (counts r)) (sym below) (subst (λ ns. HostAll [] ([] ∷ []) (1 ∷ ns)) (sym counted) host_root);
   input = sym input;
+  told = λ strict. (all ∙ sym input, written);
 }

@@ -9,6 +9,7 @@ use Rattle.bitcode_serde.specs.Places.{place_at, places, IsPlace, IsGrown}
 use Rattle.bitcode_serde.specs.declared.places.Below.{Below}
 use Rattle.bitcode_serde.specs.declared.reader.OpenColumn.{OpenColumn}
 use Rattle.bitcode_serde.specs.declared.reader.Reader.{Reader}
+use Rattle.bitcode_serde.proofs.ReadingLemmas.{told_alike}
 use Rattle.bitcode_serde.proofs.PlaceLemmas.{at_front, inside_places, within_or_last, places-length, grown_size, grown_places}
 
 same_or_other : (i n : ℕ) → (i ≡ n) ⊎ (i ≢ n)
@@ -99,8 +100,8 @@ module _ (bs more : List Below) (b : Below) (n count : ℕ) (q : Place) (grown :
       ]
 
   pub stands_stepped : (old new : Reader) → old.places.below.items ≡ bs → new.places.below.items ≡ more → old.counts.items ≡ ns → new.counts.items ≡ set mid (n - 1) count
-      → new.columns ≡ old.columns → new.input.now ≡ old.input.now → (a : State) → Stands old a → Hosts (map whole a.opened) q count → Stands new a
-  stands_stepped old new was is were are columns input a s one =
+      → new.columns ≡ old.columns → new.input.now ≡ old.input.now → new.verdict ≡ old.verdict → (a : State) → Stands old a → Hosts (map whole a.opened) q count → Stands new a
+  stands_stepped old new was is were are columns input verdict a s one =
       let g = grown_places bs more b n grown in
       let backs = subst (λ z. Back (places z) old.columns.items a.opened) was s.backs in
       let all = subst (λ z. HostAll (map whole a.opened) z (1 ∷ ns)) (ap places was) (subst (λ z. HostAll (map whole a.opened) (places old.places.below.items) (1 ∷ z)) were s.hosts) in
@@ -110,4 +111,5 @@ module _ (bs more : List Below) (b : Below) (n count : ℕ) (q : Place) (grown :
         hosts = subst (λ z. HostAll (map whole a.opened) (places z) (counts new)) (sym is)
             (subst (λ z. HostAll (map whole a.opened) (places more) (1 ∷ z)) (sym are) (hosts_stepped (map whole a.opened) all one));
         input = s.input ∙ sym input;
+        told = told_alike old.verdict new.verdict (map whole a.opened) (map whole a.opened) old.input.now new.input.now verdict refl (sym input) s.told;
       }

@@ -1,5 +1,5 @@
 -- Reading a value: what is read of its parts, reader by reader.
-use Rattle.std.proofs.Common.{◌≡◌, ◌≢◌, ℕ, zero, suc, ◌+◌, ◌<◌, ◌≤◌, List, [], ◌∷◌, ◌++◌, length, map, true, refl, ap, sym, subst, arith, false, pos}
+use Rattle.std.proofs.Common.{◌≡◌, ◌≢◌, ℕ, zero, suc, ◌+◌, ◌<◌, ◌≤◌, List, [], ◌∷◌, ◌++◌, length, map, true, refl, ap, sym, subst, arith, false, pos, ◌∙◌}
 use Rattle.std.specs.List.{AllByRecursion, flat_map}
 use Rattle.bitcode_columns.specs.declared.error.Reason.{Reason}
 use Rattle.bitcode_columns.specs.declared.error.Reason.TheVariants as reason
@@ -17,7 +17,7 @@ use Rattle.bitcode_untyped.specs.PlacedColumns.{PlacedColumn}
 use Rattle.bitcode_untyped.specs.Walk.{Step, element, key, value, variant, Place, use_at, length_kind, index_kind, walk}
 use Rattle.bitcode_untyped.proofs.ReadLemmas.{many_push, many_stuck, one_datum_read, unit_read, never_read, seq_read, seq_stuck, choice_read, choice_stuck, one_pair_read, pair_read, pair_stuck_key, pair_stuck_value, map_read, map_stuck}
 use Rattle.bitcode_serde.specs.ReadColumns.{IsColumnReason}
-use Rattle.bitcode_serde.specs.Reading.{Hosts, Stands, NothingAt, NotSoMany, Leads, LeadsEach, LeadsTelling, AreSized}
+use Rattle.bitcode_serde.specs.Reading.{IsAskedAs, Hosts, Stands, NothingAt, NotSoMany, Leads, LeadsEach, LeadsTelling, AreSized}
 use Rattle.bitcode_serde.specs.Places.{step_of, IsPlace, places_from, places, place_at}
 use Rattle.bitcode_serde.specs.ReadingValues.{IsSteady, Continues, GoesAlong, HasNone, ReadsAt, ReadsListAt, IsValueReason, IsRefusalOf, IsRefusalAt, IsListRefusalAt}
 use Rattle.bitcode_serde.specs.declared.reader.Reader.{Reader}
@@ -46,6 +46,8 @@ value_reason reason.NotOfTheShape h = h
 value_reason reason.NestedTooDeep h = tt
 value_reason reason.OutOfMemory h = tt
 value_reason reason.BadShape h = h
+value_reason reason.NotTheWrittenText h = h
+value_reason reason.TooManyNodes h = h
 
 -- nothing is there where no entry is to be taken
 pub refused_entry : (r : Reader) (place : ℕ) (kind : Kind) (N : Place → State → Type 0) (why : Reason)
@@ -60,14 +62,21 @@ refused_entry r place kind N why none h =
 pub same_places : (old new : Reader) (i : ℕ) (p : Place) → new.places.below ≡ old.places.below → IsPlace old.places.below.items i p → IsPlace new.places.below.items i p
 same_places old new i p e at = subst (λ b. IsPlace b.items i p) (sym e) at
 
-pub continues_here : (old new : Reader) → IsSteady old → new.places.below ≡ old.places.below → AreSized new.columns.items → Continues old new
-continues_here old new steady e sized = record {
+pub continues_here : (old new : Reader) → IsSteady old → new.places.below ≡ old.places.below → IsAskedAs old new → AreSized new.columns.items → Continues old new
+continues_here old new steady e asked sized = record {
   steady = record { sized = sized };
+  asked = asked;
   kept = λ i p at. same_places old new i p e at;
 }
 
+pub asked_alike : (r : Reader) → IsAskedAs r r
+asked_alike r = record { strict = refl; bytes = refl }
+
+pub asked_on : (old mid new : Reader) → IsAskedAs old mid → IsAskedAs mid new → IsAskedAs old new
+asked_on old mid new a b = record { strict = b.strict ∙ a.strict; bytes = b.bytes ∙ a.bytes }
+
 pub continues_on : (old mid new : Reader) → Continues old mid → Continues mid new → Continues old new
-continues_on old mid new c d = record { steady = d.steady; kept = λ i p at. d.kept i p (c.kept i p at) }
+continues_on old mid new c d = record { steady = d.steady; asked = asked_on old mid new c.asked d.asked; kept = λ i p at. d.kept i p (c.kept i p at) }
 
 root_from : (p : Place) (ps : List Place) (bs : List Below) → place_at (places_from (p ∷ ps) bs) 0 ≡ p
 root_from p ps [] = refl
@@ -157,10 +166,11 @@ below_it old new place i p way at there = subst (λ q. IsPlace new.places.below.
 pub still_there : (old new : Reader) (place : ℕ) → Continues old new → place ≤ length old.places.below.items → place ≤ length new.places.below.items
 still_there old new place c h = (c.kept place (place_at (places old.places.below.items) place) (h, refl)).0
 
-pub continues_stepped : (old mid new : Reader) → mid.places.below ≡ old.places.below → AreSized mid.columns.items → new.columns ≡ mid.columns
-    → ((i : ℕ) (p : Place) → IsPlace mid.places.below.items i p → IsPlace new.places.below.items i p) → Continues old new
-continues_stepped old mid new below sized columns kept = record {
+pub continues_stepped : (old mid new : Reader) → mid.places.below ≡ old.places.below → IsAskedAs old mid → AreSized mid.columns.items → new.columns ≡ mid.columns
+    → IsAskedAs mid new → ((i : ℕ) (p : Place) → IsPlace mid.places.below.items i p → IsPlace new.places.below.items i p) → Continues old new
+continues_stepped old mid new below asked sized columns again kept = record {
   steady = record { sized = subst (λ cs. AreSized cs.items) (sym columns) sized };
+  asked = asked_on old mid new asked again;
   kept = λ i p at. kept i p (same_places old mid i p below at);
 }
 

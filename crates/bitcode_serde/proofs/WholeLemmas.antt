@@ -1,15 +1,18 @@
 -- Reading a whole input.
-use Rattle.std.proofs.Common.{◌≡◌, ◌≢◌, ℕ, ◌*◌, ◌≤◌, List, [], length, get_or, slice_get, Some, refl, sym, subst, ap, ◌∙◌}
+use Rattle.std.proofs.Common.{◌≡◌, ◌≢◌, ◌⊎◌, inl, inr, Bool, true, false, not, IsTrue, map, ℕ, ◌*◌, ◌≤◌, List, [], length, get_or, slice_get, Some, refl, sym, subst, ap, ◌∙◌}
 use Rattle.bitcode_columns.specs.declared.error.Reason.{Reason}
 use Rattle.bitcode_columns.specs.declared.error.Reason.TheVariants as reason
 use Rattle.bitcode_shapes.specs.Datum.{Datum}
 use Rattle.bitcode_untyped.specs.Bounds.{element_count}
 use Rattle.bitcode_untyped.specs.Content.{content_of, IsOnlyContent}
 use Rattle.bitcode_untyped.specs.Faults.{faults_of, value_faults}
-use Rattle.bitcode_untyped.specs.Machine.{State, start}
-use Rattle.bitcode_untyped.specs.PlacedColumns.{columns_of, entry_count}
+use Rattle.std.specs.Prelude.{◌↔◌}
+use Rattle.std.proofs.lemmas.Bool.{false≢true}
+use Rattle.bitcode_untyped.specs.Machine.{State, start, whole}
+use Rattle.bitcode_untyped.specs.PlacedColumns.{columns_of, entry_count, unplaced}
 use Rattle.bitcode_untyped.specs.ShapeTree.{ShapeTree}
 use Rattle.bitcode_untyped.specs.Spelling.{SpellsDatum}
+use Rattle.bitcode_untyped.specs.Strict.{StrictlySpellsDatum, JudgesEach}
 use Rattle.bitcode_untyped.specs.View.{datum_of, tree_of, tree_of_node, reference_limit}
 use Rattle.bitcode_untyped.specs.declared.shape.Shape.{Shape}
 use Rattle.bitcode_untyped.specs.declared.shape.ShapeNode.{ShapeNode}
@@ -19,11 +22,17 @@ use Rattle.bitcode_untyped.proofs.FollowedLemmas.{root_tree}
 use Rattle.bitcode_untyped.proofs.LawLemmas.{spells_once, datum_takes_an_eighth, elements_are_bounded}
 use Rattle.bitcode_untyped.proofs.ReadLemmas.{whole_read, whole_stuck, whole_trailing}
 use Rattle.bitcode_untyped.proofs.SoundTreeLemmas.{sound_shape}
+use Rattle.bitcode_untyped.proofs.StrictLemmas.{whole_judged}
 use Rattle.bitcode_serde.specs.Reading.{Stands}
 use Rattle.bitcode_serde.specs.ReadingValues.{ReadsAt, IsValueReason, IsRefusalAt}
+use Rattle.bitcode_serde.specs.Strict.{IsStrictRefusal, no_memory, none_spelled}
 use Rattle.bitcode_serde.specs.declared.reader.Reader.{Reader}
 use Rattle.bitcode_serde.proofs.EntryLemmas.{found_entry}
 use Rattle.bitcode_serde.proofs.ValueLemmas.{root_place}
+
+memory_or_not : (why : Reason) → (why ≡ reason.OutOfMemory) ⊎ (why ≢ reason.OutOfMemory)
+memory_or_not reason.OutOfMemory = inl refl
+memory_or_not _ = inr (λ e. cc)
 
 pub spelled : (s : ShapeTree) (bytes : List ℕ) (d : Datum) (old new : Reader) → Stands old (start bytes) → ReadsAt s 0 old d new
     → ((a : State) → Stands new a → a.rest ≡ []) → SpellsDatum s bytes d
@@ -31,15 +40,37 @@ spelled s bytes d old new first read last =
     let r = read [] (root_place old.places.below.items) (start bytes) first in
     whole_read s bytes d r.0 r.2 (last r.0 r.1)
 
+pub strictly_told : (s : ShapeTree) (bytes : List ℕ) (d : Datum) (old new : Reader) → Stands old (start bytes) → ReadsAt s 0 old d new
+    → ((a : State) → Stands new a → a.rest ≡ []) → new.verdict.bytes.now ≡ bytes → IsTrue new.verdict.strict
+    → (IsTrue new.verdict.written ↔ StrictlySpellsDatum s bytes d)
+strictly_told s bytes d old new first read last same strict =
+    let r = read [] (root_place old.places.below.items) (start bytes) first in
+    let end : new.input.now ≡ [] = sym r.1.input ∙ last r.0 r.1 in
+    whole_judged s bytes d r.0 new.verdict.written r.2 (last r.0 r.1)
+    (subst (λ b. JudgesEach (unplaced (map whole r.0.opened)) new.verdict.written b []) same
+    (subst (JudgesEach (unplaced (map whole r.0.opened)) new.verdict.written new.verdict.bytes.now) end (r.1.told strict)))
+
+pub is_other : (written : Bool) → not written ≡ true → IsTrue written → ⊥
+is_other true h t = false≢true h
+is_other false h t = false≢true t
+
+pub is_written : (written : Bool) → not written ≡ false → IsTrue written
+is_written true h = refl
+is_written false h = absurd (false≢true (sym h))
+
+pub strictly_refused : (s : ShapeTree) (bytes : List ℕ) (why : Reason) → IsValueReason why × (why ≢ reason.OutOfMemory → (d : Datum) → SpellsDatum s bytes d → ⊥)
+    → IsStrictRefusal s why bytes
+strictly_refused s bytes why h = elim (memory_or_not why) [ inl memory ↦ no_memory memory | inr other ↦ none_spelled h.0 (h.1 other) ]
+
 pub more_behind : (s : ShapeTree) (bytes : List ℕ) (d : Datum) (old new : Reader) → Stands old (start bytes) → ReadsAt s 0 old d new
     → ((a : State) → Stands new a → a.rest ≢ []) → (e : Datum) → SpellsDatum s bytes e → ⊥
 more_behind s bytes d old new first read more =
     let r = read [] (root_place old.places.below.items) (start bytes) first in
     whole_trailing s bytes d r.0 r.2 (more r.0 r.1)
 
-pub none_spelled : (s : ShapeTree) (bytes : List ℕ) (old : Reader) (why : Reason) → Stands old (start bytes) → IsRefusalAt s 0 old why
+pub none_found : (s : ShapeTree) (bytes : List ℕ) (old : Reader) (why : Reason) → Stands old (start bytes) → IsRefusalAt s 0 old why
     → IsValueReason why × (why ≢ reason.OutOfMemory → (d : Datum) → SpellsDatum s bytes d → ⊥)
-none_spelled s bytes old why first h =
+none_found s bytes old why first h =
     (h.0, λ other. whole_stuck s bytes (h.1 other [] (root_place old.places.below.items) (start bytes) first))
 
 pub one_spelled : (s : ShapeTree) (bytes : List ℕ) (d e : Datum) → SpellsDatum s bytes d → SpellsDatum s bytes e → d ≡ e

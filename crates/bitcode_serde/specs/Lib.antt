@@ -8,3 +8,4 @@ pub mod Depth
 pub mod WrittenColumns
 pub mod Writing
 pub mod Serializing
+pub mod Strict

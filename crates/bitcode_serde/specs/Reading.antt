@@ -1,17 +1,19 @@
 -- What a reader stands for: the state of the machine that takes one entry after another.
-use Rattle.std.specs.Prelude.{◌≡◌, ◌≢◌, ℕ, zero, suc, ◌<◌, true, List, [], ◌∷◌, length, map, drop, get_or, All}
+use Rattle.std.specs.Prelude.{◌≡◌, ◌≢◌, ℕ, zero, suc, ◌<◌, true, IsTrue, List, [], ◌∷◌, length, map, drop, get_or, All}
 use Rattle.std.specs.List.{AllByRecursion}
 use Rattle.bitcode_shapes.specs.Datum.{Datum}
 use Rattle.bitcode_coder.specs.Columns.{Kind, IsEntryOf}
 use Rattle.bitcode_untyped.specs.Machine.{Opened, State, whole, is_open, entries_of, Grounded, TakesNext, Takes}
-use Rattle.bitcode_untyped.specs.PlacedColumns.{PlacedColumn}
+use Rattle.bitcode_untyped.specs.PlacedColumns.{PlacedColumn, unplaced}
 use Rattle.bitcode_untyped.specs.Population.{population}
 use Rattle.bitcode_untyped.specs.Runs.{Runs}
+use Rattle.bitcode_untyped.specs.Strict.{JudgesEach}
 use Rattle.bitcode_untyped.specs.Walk.{Place, use_at}
 use Rattle.bitcode_serde.specs.Places.{place_at, places}
 use Rattle.bitcode_serde.specs.ReadColumns.{kind_of_column, left, Tallies}
 use Rattle.bitcode_serde.specs.declared.reader.OpenColumn.{OpenColumn}
 use Rattle.bitcode_serde.specs.declared.reader.Reader.{Reader}
+use Rattle.bitcode_serde.specs.declared.reader.Verdict.{Verdict}
 
 -- how many data stand at each place: one at the root
 abbrev pub counts : Reader → List ℕ
@@ -47,11 +49,22 @@ Hosts ws p n = Grounded ws p × (population (entries_of ws) p ≡ n)
 abbrev pub HostAll : List PlacedColumn → List Place → List ℕ → Type 0
 HostAll ws ps ns = (i : ℕ) → i < length ps → Hosts ws (place_at ps i) (get_or ns i 0)
 
+-- the same is asked of the bytes of the same input
+pub record IsAskedAs (old new : Reader) : Type 0 where
+  pub strict : new.verdict.strict ≡ old.verdict.strict
+  pub bytes : new.verdict.bytes.now ≡ old.verdict.bytes.now
+
+-- The columns were read from the whole input up to what is left of it, and where that is asked, it is known whether the piece
+-- of each is its text.
+abbrev pub Told : Verdict → List PlacedColumn → List ℕ → Type 0
+Told v cs rest = IsTrue v.strict → JudgesEach (unplaced cs) v.written v.bytes.now rest
+
 -- The reader stands for the state.
 pub record Stands (r : Reader) (a : State) : Type 0 where
   pub backs : Back (places r.places.below.items) r.columns.items a.opened
   pub hosts : HostAll (map whole a.opened) (places r.places.below.items) (counts r)
   pub input : a.rest ≡ r.input.now
+  pub told : Told r.verdict (map whole a.opened) r.input.now
 
 -- ---- steps
 

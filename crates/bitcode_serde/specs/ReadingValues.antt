@@ -15,7 +15,7 @@ use Rattle.bitcode_untyped.specs.declared.shape.ShapeNode.{ShapeNode}
 use Rattle.bitcode_untyped.specs.declared.shape.ShapeNode.TheVariants as node
 use Rattle.bitcode_untyped.specs.declared.value.Value.{Value}
 use Rattle.bitcode_serde.specs.ReadColumns.{kind_of, IsCaseOf, IsColumnReason}
-use Rattle.bitcode_serde.specs.Reading.{AreSized, Stands}
+use Rattle.bitcode_serde.specs.Reading.{AreSized, IsAskedAs, Stands}
 use Rattle.bitcode_serde.specs.Places.{IsPlace}
 use Rattle.bitcode_serde.specs.declared.column.ColumnKind.{ColumnKind}
 use Rattle.bitcode_serde.specs.declared.reader.Reader.{Reader}
@@ -27,6 +27,7 @@ pub record IsSteady (r : Reader) : Type 0 where
 -- The places of the old reader are the new one's too, by the same numbers.
 pub record Continues (old new : Reader) : Type 0 where
   pub steady : IsSteady new
+  pub asked : IsAskedAs old new
   pub kept : (i : ℕ) (p : Place) → IsPlace old.places.below.items i p → IsPlace new.places.below.items i p
 
 -- The machine goes along with the reader, and what it does at the place is this.

@@ -1,14 +1,15 @@
 //! The columns that a reader has open.
-ghost use Rattle.std.specs.Prelude.{◌≡◌, ◌≢◌, ℕ, ◌<◌, ◌≤◌, List, ◌∷◌, ◌++◌, None, false, length, map, sum, IsTrue, MatchBool, IfOk, IfErr};
+ghost use Rattle.std.specs.Prelude.{◌≡◌, ◌≢◌, ℕ, ◌<◌, ◌≤◌, List, ◌∷◌, ◌++◌, None, false, length, map, sum, IsTrue, ◌↔◌, MatchBool, IfOk, IfErr};
 ghost use Rattle.std.specs.List.{AllByRecursion};
 ghost use Rattle.bitcode_columns.specs.Reading.{Reads};
-ghost use Rattle.bitcode_coder.specs.LengthColumn.{SpellsLengths};
+ghost use Rattle.bitcode_coder.specs.LengthColumn.{SpellsLengths, length_bytes};
 ghost use Rattle.bitcode_coder.specs.Length.{lengths_left, lengths_sum};
 ghost use Rattle.bitcode_coder.specs.LengthParts.{NamesLengthFault};
 ghost use Rattle.bitcode_shapes.specs.Datum.{Datum};
 ghost use Rattle.bitcode_shapes.specs.Ints.{int_shape};
 ghost use Rattle.bitcode_coder.specs.Columns.{ints, lengths};
 ghost use Rattle.bitcode_coder.specs.Spelling.{Spells, natural};
+ghost use Rattle.bitcode_coder.specs.Strict.{JudgesColumn, JudgesData};
 ghost use Rattle.bitcode_untyped.specs.Population.{total, count_of};
 ghost use Rattle.bitcode_serde.specs.Indices.{indices_left, index_count};
 ghost use Rattle.bitcode_coder.specs.Coder.{IsReadingRefusal, TakesDatum};
@@ -107,54 +108,61 @@ fn next<T: Made, D: Decoder<T>>(column: &mut D) -> T
     column.decode().unwrap()
 }
 
-// Reads a column of so many entries.
+// Reads a column of so many entries. Where `strict`, the answer is whether its bytes are its text.
 fn read<'a, D: View<'a> + Drop>(
     alloc: Global,
     input: &mut &'a [u8],
     count: usize,
-) -> Result<D, Error>
-    ensures read { IfOk result (λ d. Reads (Spells D.shape) count input.old.now (D.held d) input.new.now) }
+    strict: bool,
+) -> Result<(D, bool), Error>
+    ensures read { IfOk result (λ d. Reads (Spells D.shape) count input.old.now (D.held d.0) input.new.now) }
+    ensures judged { IsTrue strict → IfOk result (λ d. JudgesData D.shape (D.held d.0) d.1 input.old.now input.new.now) }
     ensures refused { IfErr result (λ e. IsReadingRefusal D.shape e.reason count input.old.now) }
     ensures exact { IfErr result (λ e. D.faults e.reason count input.old.now) }
 {
     let mut column = D::new(alloc);
-    column.populate(input, count)?;
-    Ok(column)
+    let written = column.read(input, count, strict)?;
+    Ok((column, written))
 }
 
-// Reads a column of so many indices, and counts them.
+// Reads a column of so many indices, and counts them. The answer is as that of `read`.
 fn read_indices<'a>(
     alloc: Global,
     input: &mut &'a [u8],
     count: usize,
-) -> Result<VariantDecoder<'a>, Error>
-    ensures read { IfOk result (λ d. Reads (Spells (int_shape 1 false)) count input.old.now (indices_left d) input.new.now) }
-    ensures counts { IfOk result (λ d. (index : ℕ) → index < 256 → index_count d index ≡ count_of index (indices_left d)) }
+    strict: bool,
+) -> Result<(VariantDecoder<'a>, bool), Error>
+    ensures read { IfOk result (λ d. Reads (Spells (int_shape 1 false)) count input.old.now (indices_left d.0) input.new.now) }
+    ensures judged { IsTrue strict → IfOk result (λ d. JudgesData (int_shape 1 false) (indices_left d.0) d.1 input.old.now input.new.now) }
+    ensures counts { IfOk result (λ d. (index : ℕ) → index < 256 → index_count d.0 index ≡ count_of index (indices_left d.0)) }
     ensures refused { IfErr result (λ e. IsReadingRefusal (int_shape 1 false) e.reason count input.old.now) }
     ensures exact { IfErr result (λ e. NamesIntsFault 1 e.reason count input.old.now) }
 {
     let mut column = VariantDecoder::new(alloc);
-    column.populate(input, count)?;
-    Ok(column)
+    let written = column.read(input, count, strict)?;
+    Ok((column, written))
 }
 
-// Reads a column of so many lengths.
+// Reads a column of so many lengths. The answer is as that of `read`.
 fn read_lengths<'a>(
     alloc: Global,
     input: &mut &'a [u8],
     count: usize,
-) -> Result<LengthDecoder<'a>, Error>
-    ensures read { IfOk result (λ d. Reads (SpellsLengths None) count input.old.now (lengths_left d) input.new.now) }
-    ensures sum { IfOk result (λ d. lengths_sum d ≡ sum (lengths_left d)) }
+    strict: bool,
+) -> Result<(LengthDecoder<'a>, bool), Error>
+    ensures read { IfOk result (λ d. Reads (SpellsLengths None) count input.old.now (lengths_left d.0) input.new.now) }
+    ensures judged { IsTrue strict → IfOk result (λ d. IsTrue d.1 ↔ (input.old.now ≡ length_bytes (lengths_left d.0) ++ input.new.now)) }
+    ensures sum { IfOk result (λ d. lengths_sum d.0 ≡ sum (lengths_left d.0)) }
     ensures refused { IfErr result (λ e. NamesLengthFault e.reason count input.old.now) }
 {
     let mut column = LengthDecoder::new(alloc);
-    column.populate(input, count)?;
-    Ok(column)
+    let written = column.read(input, count, strict)?;
+    Ok((column, written))
 }
 
 impl<'a> Column<'a> {
-    /// Reads a column of so many entries from the front of the input.
+    /// Reads a column of so many entries from the front of the input. Where `strict`, the answer is whether its bytes are those
+    /// that are written for them; else it says nothing.
     ///
     /// It refuses as the column's decoder does.
     pub fn open(
@@ -162,29 +170,67 @@ impl<'a> Column<'a> {
         alloc: Global,
         input: &mut &'a [u8],
         count: usize,
-    ) -> Result<Column<'a>, Error>
-        ensures read { IfOk result (λ column. ReadsColumn (kind_of kind) count input.old.now (left column) input.new.now) }
-        ensures kind { IfOk result (λ column. kind_of_column column ≡ kind_of kind) }
-        ensures tallies { IfOk result (λ column. Tallies column (left column)) }
+        strict: bool,
+    ) -> Result<(Column<'a>, bool), Error>
+        ensures read { IfOk result (λ column. ReadsColumn (kind_of kind) count input.old.now (left column.0) input.new.now) }
+        ensures judged { IsTrue strict → IfOk result (λ column. JudgesColumn column.1 (kind_of kind) (left column.0) input.old.now input.new.now) }
+        ensures kind { IfOk result (λ column. kind_of_column column.0 ≡ kind_of kind) }
+        ensures tallies { IfOk result (λ column. Tallies column.0 (left column.0)) }
         ensures refused { IfErr result (λ e. IsColumnRefusal (kind_of kind) e.reason count input.old.now) }
     {
         match kind {
-            ColumnKind::Bools => Ok(Column::Bools(read(alloc, input, count)?)),
-            ColumnKind::Bytes => Ok(Column::Bytes(Box::new(
-                alloc,
-                read_indices(alloc, input, count)?,
-            )?)),
-            ColumnKind::U16 => Ok(Column::U16(read(alloc, input, count)?)),
-            ColumnKind::U32 => Ok(Column::U32(read(alloc, input, count)?)),
-            ColumnKind::U64 => Ok(Column::U64(read(alloc, input, count)?)),
-            ColumnKind::U128 => Ok(Column::U128(read(alloc, input, count)?)),
-            ColumnKind::I8 => Ok(Column::I8(read(alloc, input, count)?)),
-            ColumnKind::I16 => Ok(Column::I16(read(alloc, input, count)?)),
-            ColumnKind::I32 => Ok(Column::I32(read(alloc, input, count)?)),
-            ColumnKind::I64 => Ok(Column::I64(read(alloc, input, count)?)),
-            ColumnKind::I128 => Ok(Column::I128(read(alloc, input, count)?)),
-            ColumnKind::Lengths => Ok(Column::Lengths(read_lengths(alloc, input, count)?)),
-            ColumnKind::Texts => Ok(Column::Texts(read(alloc, input, count)?)),
+            ColumnKind::Bools => {
+                let read = read(alloc, input, count, strict)?;
+                Ok((Column::Bools(read.0), read.1))
+            }
+            ColumnKind::Bytes => {
+                let read = read_indices(alloc, input, count, strict)?;
+                Ok((Column::Bytes(Box::new(alloc, read.0)?), read.1))
+            }
+            ColumnKind::U16 => {
+                let read = read(alloc, input, count, strict)?;
+                Ok((Column::U16(read.0), read.1))
+            }
+            ColumnKind::U32 => {
+                let read = read(alloc, input, count, strict)?;
+                Ok((Column::U32(read.0), read.1))
+            }
+            ColumnKind::U64 => {
+                let read = read(alloc, input, count, strict)?;
+                Ok((Column::U64(read.0), read.1))
+            }
+            ColumnKind::U128 => {
+                let read = read(alloc, input, count, strict)?;
+                Ok((Column::U128(read.0), read.1))
+            }
+            ColumnKind::I8 => {
+                let read = read(alloc, input, count, strict)?;
+                Ok((Column::I8(read.0), read.1))
+            }
+            ColumnKind::I16 => {
+                let read = read(alloc, input, count, strict)?;
+                Ok((Column::I16(read.0), read.1))
+            }
+            ColumnKind::I32 => {
+                let read = read(alloc, input, count, strict)?;
+                Ok((Column::I32(read.0), read.1))
+            }
+            ColumnKind::I64 => {
+                let read = read(alloc, input, count, strict)?;
+                Ok((Column::I64(read.0), read.1))
+            }
+            ColumnKind::I128 => {
+                let read = read(alloc, input, count, strict)?;
+                Ok((Column::I128(read.0), read.1))
+            }
+            ColumnKind::Lengths => {
+                let read = read_lengths(alloc, input, count, strict)?;
+                Ok((Column::Lengths(read.0), read.1))
+            }
+            ColumnKind::Texts => {
+                let read = read(alloc, input, count, strict)?;
+                Ok((Column::Texts(read.0), read.1))
+            }
         }
     }
 

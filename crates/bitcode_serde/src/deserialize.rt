@@ -1,13 +1,15 @@
 //! Bytes of the second format to a value.
-ghost use Rattle.std.specs.Prelude.{◌≡◌, ◌≢◌, ◌≤◌, ◌*◌, [], length, IfOk, IfErr};
+ghost use Rattle.std.specs.Prelude.{◌≡◌, ◌≢◌, ◌≤◌, ◌*◌, ◌↔◌, [], length, IsTrue, IfOk, IfErr};
 ghost use Rattle.bitcode_shapes.specs.Datum.{Datum};
 ghost use Rattle.bitcode_untyped.specs.Bounds.{element_count};
 ghost use Rattle.bitcode_untyped.specs.Content.{content_of, IsOnlyContent};
 ghost use Rattle.bitcode_untyped.specs.Faults.{value_faults};
 ghost use Rattle.bitcode_untyped.specs.PlacedColumns.{columns_of, entry_count};
 ghost use Rattle.bitcode_untyped.specs.Spelling.{SpellsDatum};
+ghost use Rattle.bitcode_untyped.specs.Strict.{StrictlySpellsDatum};
 ghost use Rattle.bitcode_untyped.specs.View.{datum_of, tree_of};
 ghost use Rattle.bitcode_serde.specs.ReadingValues.{IsValueReason};
+ghost use Rattle.bitcode_serde.specs.Strict.{IsStrictRefusal};
 
 use crate::reader::Reader;
 use crate::values::read;
@@ -19,6 +21,35 @@ use std::alloc::Global;
 
 /// How many references are followed on one path.
 pub const REF_LIMIT: usize = 128;
+
+// Reads a value of a shape from the whole input. Where `strict`, the answer is whether each column stands in the bytes that are
+// written for its entries; else it says nothing.
+fn read_whole(
+    alloc: Global,
+    shape: &Shape,
+    bytes: &[u8],
+    strict: bool,
+) -> Result<(Value, bool), Error>
+    ensures read { IfOk result (λ read. SpellsDatum (tree_of shape.now) bytes.now (datum_of read.0)) }
+    ensures judged { IsTrue strict → IfOk result (λ read. IsTrue read.1 ↔ StrictlySpellsDatum (tree_of shape.now) bytes.now (datum_of read.0)) }
+    ensures whole { IfOk result (λ read. value_faults shape.now read.0 ≡ []) }
+    ensures refused { IfErr result (λ e. IsValueReason e.reason × (e.reason ≢ Reason.OutOfMemory → (d : Datum) → SpellsDatum (tree_of shape.now) bytes.now d → ⊥)) }
+{
+    let table = shape.table();
+    let mut reader = Reader::new(alloc, bytes, strict);
+    let value = read(
+        alloc,
+        &mut reader,
+        table,
+        &table[shape.root()],
+        REF_LIMIT,
+        0,
+    )?;
+    if !reader.is_at_end() {
+        return err(Reason::ExpectedEof);
+    }
+    Ok((value, reader.is_written()))
+}
 
 /// Reads the one value of a shape that the whole input spells.
 ///
@@ -39,18 +70,33 @@ pub fn deserialize(alloc: Global, shape: &Shape, bytes: &[u8]) -> Result<Value, 
     ensures size_bound { (d : Datum) → SpellsDatum (tree_of shape.now) bytes.now d → entry_count (columns_of (tree_of shape.now) d) ≤ 8 * length bytes.now }
     ensures bounded { (d : Datum) → SpellsDatum (tree_of shape.now) bytes.now d → element_count d ≤ 524296 * length bytes.now }
 {
-    let table = shape.table();
-    let mut reader = Reader::new(alloc, bytes);
-    let value = read(
-        alloc,
-        &mut reader,
-        table,
-        &table[shape.root()],
-        REF_LIMIT,
-        0,
-    )?;
-    if !reader.is_at_end() {
-        return err(Reason::ExpectedEof);
+    let read = read_whole(alloc, shape, bytes, false)?;
+    Ok(read.0)
+}
+
+/// Reads the one value of a shape that the whole input spells, as [`deserialize`] does, where each column stands in the bytes that
+/// are written for its entries. So a value is accepted in the one form that `serialize` writes of it.
+///
+/// It refuses as `deserialize` does, and with `not the written text` where the input spells a value of the shape and some column
+/// stands in other bytes.
+///
+/// ```
+/// let flag = Shape::new(vec![in alloc; ShapeNode::Bool]?, 0)?;
+/// deserialize_strict(alloc, &flag, &[1])?; // Value::Bool(true)
+/// deserialize_strict(alloc, &flag, &[255])?; // `not the written text`: the unused digits are not 0
+/// ```
+pub fn deserialize_strict(alloc: Global, shape: &Shape, bytes: &[u8]) -> Result<Value, Error>
+    ensures read { IfOk result (λ value. StrictlySpellsDatum (tree_of shape.now) bytes.now (datum_of value)) }
+    ensures whole { IfOk result (λ value. value_faults shape.now value ≡ []) }
+    ensures only { IfOk result (λ value. IsOnlyContent shape.now (SpellsDatum (tree_of shape.now) bytes.now) (content_of value)) }
+    ensures refused { IfErr result (λ e. IsStrictRefusal (tree_of shape.now) e.reason bytes.now) }
+    ensures unambiguous { (d e : Datum) → SpellsDatum (tree_of shape.now) bytes.now d → SpellsDatum (tree_of shape.now) bytes.now e → d ≡ e }
+    ensures size_bound { (d : Datum) → SpellsDatum (tree_of shape.now) bytes.now d → entry_count (columns_of (tree_of shape.now) d) ≤ 8 * length bytes.now }
+    ensures bounded { (d : Datum) → SpellsDatum (tree_of shape.now) bytes.now d → element_count d ≤ 524296 * length bytes.now }
+{
+    let read = read_whole(alloc, shape, bytes, true)?;
+    if !read.1 {
+        return err(Reason::NotTheWrittenText);
     }
-    Ok(value)
+    Ok(read.0)
 }

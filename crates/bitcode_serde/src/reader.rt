@@ -15,6 +15,7 @@ ghost use Rattle.bitcode_serde.specs.Places.{step_of, IsPlace, places, place_at}
 use crate::column::{Column, ColumnKind};
 use crate::places::Places;
 use crate::step::Step;
+use bitcode_coder::coder::both;
 use bitcode_columns::error::{Error, Reason};
 use bitcode_columns::refuse::err;
 use bitcode_untyped::value::Value;
@@ -28,6 +29,17 @@ pub struct OpenColumn<'a> {
     column: Column<'a>,
 }
 
+/// What is asked of the bytes of the columns, and what is told of those so far.
+#[derive(Clone, Copy)]
+pub struct Verdict<'a> {
+    // all of the input
+    bytes: &'a [u8],
+    // whether it is asked if each column stands in the bytes that are written for its entries
+    strict: bool,
+    // whether each one so far does
+    written: bool,
+}
+
 /// The columns so far, and the bytes behind them; the places that were met, and how many data stand at each below the root.
 #[derive(Drop)]
 pub struct Reader<'a> {
@@ -36,6 +48,7 @@ pub struct Reader<'a> {
     places: Places,
     counts: Vec<usize>,
     columns: Vec<OpenColumn<'a>>,
+    verdict: Verdict<'a>,
 
     ghost counted: { length places.below.items ≤ length counts.items },
     ghost filed: { AreFiled places.links.items (map (λ c. c.place) columns.items) } by { Prim.hlevel props },
@@ -70,12 +83,15 @@ fn make_room(counts: &mut Vec<usize>, places: usize) -> Result<(), Error>
 }
 
 impl<'a> Reader<'a> {
-    ghost use Rattle.bitcode_serde.specs.Reading.{Hosts, counts, AreSized, Stands, IsReady, Prepares, NothingAt, NotSoMany, Leads, LeadsEach, LeadsTelling};
+    ghost use Rattle.bitcode_serde.specs.Reading.{Hosts, counts, AreSized, IsAskedAs, Stands, IsReady, Prepares, NothingAt, NotSoMany, Leads, LeadsEach, LeadsTelling};
     ghost use Rattle.bitcode_serde.specs.ReadingValues.{IsSteady, Continues, field_at};
 
-    /// Stands before the bytes, with no column open. Takes no memory.
-    pub fn new(alloc: Global, bytes: &'a [u8]) -> Self
+    /// Stands before the bytes, with no column open. Where `strict`, the reader tells whether the columns stand in the bytes that
+    /// are written for their entries. Takes no memory.
+    pub fn new(alloc: Global, bytes: &'a [u8], strict: bool) -> Self
         ensures stands { Stands result (start bytes.now) }
+        ensures strict { result.verdict.strict ≡ strict }
+        ensures bytes { result.verdict.bytes.now ≡ bytes.now }
         ensures sized { AreSized result.columns.items }
     {
         Reader {
@@ -84,7 +100,19 @@ impl<'a> Reader<'a> {
             places: Places::new(alloc),
             counts: Vec::new(alloc),
             columns: Vec::new(alloc),
+            verdict: Verdict {
+                bytes,
+                strict,
+                written: true,
+            },
         }
+    }
+
+    /// Whether each column so far stands in the bytes that are written for its entries, where that is asked.
+    pub fn is_written(&self) -> bool
+        ensures { result ≡ self.now.verdict.written }
+    {
+        self.verdict.written
     }
 
     /// Whether no byte is left behind the columns that were opened.
@@ -122,6 +150,7 @@ impl<'a> Reader<'a> {
         ensures sized { OnOk result (AreSized self.new.columns.items) }
         ensures found { IfOk result (λ i. IsReady self.new.columns.items place (kind_of kind) i) }
         ensures below { self.new.places.below ≡ self.old.places.below }
+        ensures asked { IsAskedAs self.old self.new }
         ensures prepared { OnOk result ((a : State) → Stands self.old a → (m : State) × Stands self.new m × Prepares a (place_at (places self.old.places.below.items) place) (kind_of kind) m) }
         ensures refused { IfErr result (λ e. IsColumnReason e.reason × (e.reason ≢ Reason.OutOfMemory → (a : State) → Stands self.old a → NothingAt a (place_at (places self.old.places.below.items) place) (kind_of kind))) }
     {
@@ -148,6 +177,7 @@ impl<'a> Reader<'a> {
         ensures sized { OnOk result (AreSized self.new.columns.items) }
         ensures found { IfOk result (λ i. IsReady self.new.columns.items place (kind_of kind) i) }
         ensures below { self.new.places.below ≡ self.old.places.below }
+        ensures asked { IsAskedAs self.old self.new }
         ensures prepared { OnOk result ((a : State) → Stands self.old a → (m : State) × Stands self.new m × Prepares a (place_at (places self.old.places.below.items) place) (kind_of kind) m) }
         ensures refused { IfErr result (λ e. IsColumnReason e.reason × (e.reason ≢ Reason.OutOfMemory → (a : State) → Stands self.old a → NothingAt a (place_at (places self.old.places.below.items) place) (kind_of kind))) }
     {
@@ -156,12 +186,14 @@ impl<'a> Reader<'a> {
             return err(Reason::Eof);
         }
         self.places.make_room(place)?;
-        let column = Column::open(kind, self.alloc, &mut self.input, count)?;
+        let strict = self.verdict.strict;
+        let read = Column::open(kind, self.alloc, &mut self.input, count, strict)?;
         self.columns.push(OpenColumn {
             place,
             left: count,
-            column,
+            column: read.0,
         })?;
+        self.verdict.written = both(self.verdict.written, read.1);
         let last = self.columns.len() - 1;
         self.places.set_column(place, last);
         Ok(last)
@@ -176,6 +208,7 @@ impl<'a> Reader<'a> {
         ensures kept { OnOk result ((i : ℕ) (p : Place) → IsPlace self.old.places.below.items i p → IsPlace self.new.places.below.items i p) }
         ensures stands { OnOk result ((a : State) → Stands self.old a → Hosts (map whole a.opened) (step_of step ∷ place_at (places self.old.places.below.items) above) count → Stands self.new a) }
         ensures columns { self.new.columns ≡ self.old.columns }
+        ensures asked { IsAskedAs self.old self.new }
         ensures refused { IfErr result (λ e. e.reason ≡ Reason.OutOfMemory) }
     {
         make_room(&mut self.counts, self.places.len())?;
@@ -213,6 +246,7 @@ impl<'a> Reader<'a> {
         ensures leads { IfOk result (λ value. Leads self.old (place_at (places self.old.places.below.items) place) (kind_of kind) (datum_of value) self.new) }
         ensures of_case { IfOk result (λ value. IsCaseOf kind value) }
         ensures below { self.new.places.below ≡ self.old.places.below }
+        ensures asked { IsAskedAs self.old self.new }
         ensures refused { IfErr result (λ e. IsColumnReason e.reason × (e.reason ≢ Reason.OutOfMemory → (a : State) → Stands self.old a → NothingAt a (place_at (places self.old.places.below.items) place) (kind_of kind))) }
     {
         let i = self.ready(place, kind)?;
@@ -238,6 +272,7 @@ impl<'a> Reader<'a> {
         ensures size { IfOk result (λ values. length values.items ≡ count) }
         ensures of_case { IfOk result (λ values. AllByRecursion (IsCaseOf kind) values.items) }
         ensures below { self.new.places.below ≡ self.old.places.below }
+        ensures asked { IsAskedAs self.old self.new }
         ensures refused { IfErr result (λ e. IsColumnReason e.reason × (e.reason ≢ Reason.OutOfMemory → (a : State) → Stands self.old a → NotSoMany a (place_at (places self.old.places.below.items) place) (kind_of kind) count)) }
     {
         if count == 0 {
@@ -263,6 +298,7 @@ impl<'a> Reader<'a> {
         ensures leads { IfOk result (λ taken. LeadsTelling self.old (place_at (places self.old.places.below.items) place) length_kind (natural taken.length) self.new
             (λ entries. taken.total ≡ total entries)) }
         ensures below { self.new.places.below ≡ self.old.places.below }
+        ensures asked { IsAskedAs self.old self.new }
         ensures refused { IfErr result (λ e. IsColumnReason e.reason × (e.reason ≢ Reason.OutOfMemory → (a : State) → Stands self.old a → NothingAt a (place_at (places self.old.places.below.items) place) length_kind)) }
     {
         let i = self.ready(place, ColumnKind::Lengths)?;
@@ -283,6 +319,7 @@ impl<'a> Reader<'a> {
         ensures leads { IfOk result (λ taken. LeadsTelling self.old (place_at (places self.old.places.below.items) place) index_kind (natural taken.index) self.new
             (λ entries. taken.count ≡ count_of taken.index entries)) }
         ensures below { self.new.places.below ≡ self.old.places.below }
+        ensures asked { IsAskedAs self.old self.new }
         ensures refused { IfErr result (λ e. IsColumnReason e.reason × (e.reason ≢ Reason.OutOfMemory → (a : State) → Stands self.old a → NothingAt a (place_at (places self.old.places.below.items) place) index_kind)) }
     {
         let i = self.ready(place, ColumnKind::Bytes)?;
@@ -303,6 +340,7 @@ impl<'a> Reader<'a> {
         ensures leads { IfOk result (λ bytes. LeadsEach self.old (place_at (places self.old.places.below.items) place) index_kind (map natural bytes.items) self.new) }
         ensures size { IfOk result (λ bytes. length bytes.items ≡ count) }
         ensures below { self.new.places.below ≡ self.old.places.below }
+        ensures asked { IsAskedAs self.old self.new }
         ensures refused { IfErr result (λ e. IsColumnReason e.reason × (e.reason ≢ Reason.OutOfMemory → (a : State) → Stands self.old a → NotSoMany a (place_at (places self.old.places.below.items) place) index_kind count)) }
     {
         if count == 0 {
@@ -327,6 +365,7 @@ impl<'a> Reader<'a> {
         ensures sized { OnOk result (AreSized self.new.columns.items) }
         ensures leads { IfOk result (λ code. Leads self.old (place_at (places self.old.places.below.items) place) (ints 4 false) (natural code) self.new) }
         ensures below { self.new.places.below ≡ self.old.places.below }
+        ensures asked { IsAskedAs self.old self.new }
         ensures refused { IfErr result (λ e. IsColumnReason e.reason × (e.reason ≢ Reason.OutOfMemory → (a : State) → Stands self.old a → NothingAt a (place_at (places self.old.places.below.items) place) (ints 4 false))) }
     {
         let i = self.ready(place, ColumnKind::U32)?;

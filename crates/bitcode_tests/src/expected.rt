@@ -2,4 +2,5 @@
 pub mod byte_columns;
 pub mod got;
 pub mod lengths;
+pub mod strict;
 pub mod values;

@@ -5,6 +5,7 @@ pub mod expected;
 pub mod untyped;
 
 pub use crate::expected::got::Got;
+pub use crate::expected::strict::{decodes_strictly, refuses_strictly};
 pub use crate::expected::values::{
     agrees, both_ways, decodes, encodes, holds, refuses, written_and_read,
 };

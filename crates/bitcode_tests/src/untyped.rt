@@ -1,6 +1,6 @@
 //! Values under shapes: how they are written, read and refused.
 use crate::Got;
-use bitcode::{Reason, Shape, ShapeNode, Value, deserialize, serialize};
+use bitcode::{Reason, Shape, ShapeNode, Value, deserialize, deserialize_strict, serialize};
 use std::alloc::Global;
 
 /// The shape of one node, which refers to nothing but maybe itself.
@@ -89,6 +89,34 @@ pub fn is_not_read(
     expected: Reason,
 ) -> Result<(), Got> {
     match deserialize(alloc, shape, bytes) {
+        Ok(_) => Err(Got::AnotherValue),
+        Err(error) if error.reason == expected => Ok(()),
+        Err(error) => Err(Got::Refused(error)),
+    }
+}
+
+/// Read strictly, the bytes are this value.
+pub fn deserializes_strictly(
+    alloc: Global,
+    shape: &Shape,
+    bytes: &[u8],
+    expected: &Value,
+) -> Result<(), Got> {
+    match deserialize_strict(alloc, shape, bytes) {
+        Ok(value) if value == *expected => Ok(()),
+        Ok(_) => Err(Got::AnotherValue),
+        Err(error) => Err(Got::Refused(error)),
+    }
+}
+
+/// Read strictly, the bytes are refused for this reason.
+pub fn is_not_read_strictly(
+    alloc: Global,
+    shape: &Shape,
+    bytes: &[u8],
+    expected: Reason,
+) -> Result<(), Got> {
+    match deserialize_strict(alloc, shape, bytes) {
         Ok(_) => Err(Got::AnotherValue),
         Err(error) if error.reason == expected => Ok(()),
         Err(error) => Err(Got::Refused(error)),

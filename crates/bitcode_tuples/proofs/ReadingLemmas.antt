@@ -1,5 +1,5 @@
 -- Data of pairs are read as the data of the first fields and then those of the second.
-use Rattle.std.proofs.Common.{◌≡◌, ℕ, suc, List, [], ◌∷◌, ◌++◌, length, map, refl, sym, ◌∙◌, ap, subst, arith, append_assoc}
+use Rattle.std.proofs.Common.{◌≡◌, Bool, ◌&&◌, ℕ, suc, List, [], ◌∷◌, ◌++◌, length, map, refl, sym, ◌∙◌, ap, subst, arith, append_assoc}
 use Rattle.std.specs.Prelude.{All, Result, Ok, Err, IfErr}
 use Rattle.std.proofs.lemmas.List.{length-map}
 use Rattle.std.proofs.lemmas.List.Elements.{All-nil, All-cons, All-head, All-tail}
@@ -11,6 +11,7 @@ use Rattle.bitcode_coder.specs.Columns.{CountsFit}
 use Rattle.bitcode_coder.specs.Transposition.{columns_of}
 use Rattle.bitcode_coder.specs.Spelling.{Spells, SpellsColumns}
 use Rattle.bitcode_coder.specs.Coder.{IsReadingRefusal}
+use Rattle.bitcode_coder.specs.Strict.{JudgesData}
 use Rattle.bitcode_tuples.specs.Pairs.{pairs_of}
 use Rattle.bitcode_tuples.specs.PairLaws.{firsts_are, seconds_are}
 use Rattle.bitcode_coder.proofs.SpellingLemmas.{Spells-unambiguous}
@@ -65,6 +66,21 @@ module _ (s t : Shape) (k : ℕ) where
             second = subst (λ xs. SpellsColumns (columns_of t xs) q.piece) seconds q.spelled.columns;
           };
         };
+      }
+
+  -- the answer of both parts is that of pairs
+  pub judges_pairs : {old middle : List ℕ} {ds : List Datum} (new : List ℕ) (es : List Datum) (a b : Bool) → Reads (Spells s) k old ds middle
+      → Reads (Spells t) k middle es new → JudgesData s ds a old middle → JudgesData t es b middle new
+      → JudgesData (pair_shape s t) (pairs_of ds es) (a && b) old new
+  judges_pairs {old} {middle} {ds} new es a b r q first second =
+      let same : length ds ≡ length es = r.size ∙ sym q.size in
+      record {
+        middle = middle;
+        first_written = a;
+        second_written = b;
+        both = refl;
+        first = subst (λ xs. JudgesData s xs a old middle) (sym (firsts-pairs_of ds es same)) first;
+        second = subst (λ xs. JudgesData t xs b middle new) (sym (seconds-pairs_of ds es same)) second;
       }
 
   -- a reading of pairs is a reading of the first fields and one of the second

@@ -1,6 +1,6 @@
 -- A struct written by hand: what the coders of its fields do makes up what its own coder does. Each lemma closes one goal
--- that the check leaves of such a struct's `populate` or `encode`, from the clauses of the fields' calls.
-use Rattle.std.proofs.Common.{◌≡◌, ℕ, List, Result, Ok, Err, OnOk, IfErr, subst, sym, inr}
+-- that the check leaves of such a struct's `read` or `encode`, from the clauses of the fields' calls.
+use Rattle.std.proofs.Common.{◌≡◌, ℕ, Bool, ◌&&◌, List, Result, Ok, Err, OnOk, IfErr, subst, sym, inr}
 use Rattle.std.specs.Prelude.{◌⊎◌}
 use Rattle.std.specs.Result.{IsErrAnd, OnErr}
 use Rattle.bitcode_columns.specs.declared.error.Error.{Error}
@@ -12,44 +12,53 @@ use Rattle.bitcode_shapes.specs.Pairs.{ListsPair}
 use Rattle.bitcode_coder.specs.Columns.{Columns, two}
 use Rattle.bitcode_coder.specs.Spelling.{Spells}
 use Rattle.bitcode_coder.specs.Coder.{IsReadingRefusal, JoinsListing, OverflowsWithListing}
+use Rattle.bitcode_coder.specs.Strict.{JudgesData}
 use Rattle.bitcode_coder.proofs.LengthPartLemmas.{ends_behind_read}
 use Rattle.bitcode_tuples.specs.Pairs.{pairs_of, FaultsBehind}
-use Rattle.bitcode_tuples.proofs.ReadingLemmas.{reads_pairs, refuses_first, refuses_second}
+use Rattle.bitcode_tuples.proofs.ReadingLemmas.{reads_pairs, judges_pairs, refuses_first, refuses_second}
 use Rattle.bitcode_tuples.proofs.WritingLemmas.{joins_pair, overflows_with_first, overflows_with_second}
 
--- ---- populate
+-- ---- read
 
-module _ {s : Shape} {k : ℕ} {old : List ℕ} {T : Type 0} (t : Shape) where
+module _ {s : Shape} {k : ℕ} {old : List ℕ} (t : Shape) where
   -- the first field was refused
-  pub struct_stopped : (e : Error) (r : Result T Error) → IsErrAnd r (λ f. f ≡ e) → IsReadingRefusal s e.reason k old
+  pub struct_stopped : {T : Type 0} (e : Error) (r : Result T Error) → IsErrAnd r (λ f. f ≡ e) → IsReadingRefusal s e.reason k old
       → IfErr r (λ f. IsReadingRefusal (pair_shape s t) f.reason k old)
   struct_stopped e (Ok x) stopped first = absurd stopped
   struct_stopped e (Err f) stopped first = subst (λ (x : Error). IsReadingRefusal (pair_shape s t) x.reason k old) (sym stopped) (refuses_first s t k e.reason old first)
 
   -- the first field was read
   module _ {middle : List ℕ} {ds : List Datum} where
-    pub struct_read : (new : List ℕ) (es : List Datum) (r : Result T Error) → Reads (Spells s) k old ds middle
-        → OnOk r (Reads (Spells t) k middle es new) → OnOk r (Reads (Spells (pair_shape s t)) k old (pairs_of ds es) new)
-    struct_read new es (Ok x) first second = reads_pairs s t k new es first second
-    struct_read new es (Err e) first second = tt
+    pub struct_read : (new : List ℕ) (es : List Datum) → Reads (Spells s) k old ds middle → Reads (Spells t) k middle es new
+        → Reads (Spells (pair_shape s t)) k old (pairs_of ds es) new
+    struct_read new es first second = reads_pairs s t k new es first second
 
-    pub struct_refused : (r : Result T Error) → Reads (Spells s) k old ds middle
-        → IfErr r (λ e. IsReadingRefusal t e.reason k middle) → IfErr r (λ e. IsReadingRefusal (pair_shape s t) e.reason k old)
-    struct_refused (Ok x) first second = tt
-    struct_refused (Err e) first second = refuses_second s t k e.reason old middle ds first second
+    -- the answer is that of both fields
+    pub struct_judged : (new : List ℕ) (es : List Datum) (a b : Bool) → Reads (Spells s) k old ds middle → Reads (Spells t) k middle es new
+        → JudgesData s ds a old middle → JudgesData t es b middle new → JudgesData (pair_shape s t) (pairs_of ds es) (a && b) old new
+    struct_judged new es a b first second told told_behind = judges_pairs s t k new es a b first second told told_behind
 
-pub struct_exact : {s : Shape} {k : ℕ} {old middle : List ℕ} {ds : List Datum} {T : Type 0} (FirstFault : Error → Type 0) (faults : Reason → ℕ → List ℕ → Type 0) (r : Result T Error)
-    → Reads (Spells s) k old ds middle → IfErr r (λ e. faults e.reason k middle) → IfErr r (λ e. FirstFault e ⊎ FaultsBehind s faults e.reason k old)
-struct_exact FirstFault faults (Ok x) first second = tt
-struct_exact FirstFault faults (Err e) first second = inr (record { firsts = _; rest = _; read = first; fault = second })
+    -- the second field was refused
+    pub struct_refused : {T : Type 0} (e : Error) (r : Result T Error) → IsErrAnd r (λ f. f ≡ e) → Reads (Spells s) k old ds middle → IsReadingRefusal t e.reason k middle
+        → IfErr r (λ f. IsReadingRefusal (pair_shape s t) f.reason k old)
+    struct_refused e (Ok x) stopped first second = absurd stopped
+    struct_refused e (Err f) stopped first second =
+        subst (λ (x : Error). IsReadingRefusal (pair_shape s t) x.reason k old) (sym stopped) (refuses_second s t k e.reason old middle ds first second)
+
+pub struct_exact : {s : Shape} {k : ℕ} {old middle : List ℕ} {ds : List Datum} {T : Type 0} (FirstFault : Error → Type 0) (faults : Reason → ℕ → List ℕ → Type 0)
+    (e : Error) (r : Result T Error) → IsErrAnd r (λ f. f ≡ e) → Reads (Spells s) k old ds middle → faults e.reason k middle
+    → IfErr r (λ f. FirstFault f ⊎ FaultsBehind s faults f.reason k old)
+struct_exact FirstFault faults e (Ok x) stopped first second = absurd stopped
+struct_exact {s} {k} {old} FirstFault faults e (Err f) stopped first second =
+    subst (λ (x : Error). FirstFault x ⊎ FaultsBehind s faults x.reason k old) (sym stopped) (inr (record { firsts = _; rest = _; read = first; fault = second }))
 
 pub struct_rest : {s : Shape} {k : ℕ} {old middle : List ℕ} {ds : List Datum} {T : Type 0} (new : List ℕ) (r : Result T Error)
-    → Reads (Spells s) k old ds middle → OnErr r (IsEndOf middle new) → OnErr r (IsEndOf old new)
+    → Reads (Spells s) k old ds middle → IsEndOf middle new → OnErr r (IsEndOf old new)
 struct_rest new (Ok x) first second = tt
 struct_rest new (Err e) first second = ends_behind_read new first second
 
 -- the lemmas that the check applies by itself where it is told to: #[tactic(auto, using(..::struct_reading))]
-pub ruleset struct_reading = (struct_read, struct_rest)
+pub ruleset struct_reading = (struct_read, struct_judged, struct_rest)
 
 -- ---- encode
 

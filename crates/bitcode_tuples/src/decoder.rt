@@ -4,7 +4,7 @@ ghost use Rattle.bitcode_shapes.specs.Shape.{pair_shape};
 ghost use Rattle.bitcode_tuples.specs.Pairs.{pairs_of, FaultsBehind};
 ghost use Rattle.bitcode_tuples.specs.PairLaws.{same_pair_shape};
 
-use bitcode_coder::coder::{Decoder, HoldsData, View};
+use bitcode_coder::coder::{Decoder, HoldsData, View, both};
 use bitcode_columns::error::Error;
 use bitcode_shapes::shaped::Made;
 use std::alloc::Global;
@@ -39,9 +39,10 @@ impl<'a, A: View<'a>, B: View<'a>> View<'a> for TupleDecoder<A, B> {
         }
     }
 
-    fn populate(&mut self, input: &mut &'a [u8], k: usize) -> Result<(), Error> {
-        self.first.populate(input, k)?;
-        self.second.populate(input, k)
+    fn read(&mut self, input: &mut &'a [u8], k: usize, strict: bool) -> Result<bool, Error> {
+        let first = self.first.read(input, k, strict)?;
+        let second = self.second.read(input, k, strict)?;
+        Ok(both(first, second))
     }
 }
 

@@ -23,6 +23,7 @@ pub mod FaultLemmas
 pub mod MismatchLemmas
 pub mod ContentLemmas
 pub mod ReadLemmas
+pub mod StrictLemmas
 pub mod FollowedLemmas
 pub mod TypedLemmas
 pub mod ThereLemmas

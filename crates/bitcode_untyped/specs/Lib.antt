@@ -12,6 +12,7 @@ pub mod Cases
 pub mod Content
 pub mod Bounds
 pub mod Spelling
+pub mod Strict
 pub mod Reads
 pub mod Laws
 pub mod Rows

@@ -1,10 +1,15 @@
 //! What holds of untyped data and of the bytes that spell them. A call does nothing: its contract is the law.
-ghost use Rattle.bitcode_untyped.specs.ShapeTree.{ShapeTree, IsSound};
+ghost use Rattle.std.specs.Prelude.{◌≡◌, ℕ, List};
+ghost use Rattle.bitcode_shapes.specs.Datum.{Datum};
+ghost use Rattle.bitcode_untyped.specs.Bounds.{IsLimited};
+ghost use Rattle.bitcode_untyped.specs.ShapeTree.{ShapeTree, IsOf, IsSound};
+ghost use Rattle.bitcode_untyped.specs.Spelling.{SpellsDatum, datum_text};
+ghost use Rattle.bitcode_untyped.specs.Strict.{StrictlySpellsDatum};
 ghost use Rattle.bitcode_untyped.specs.View.{tree_of};
 ghost use Rattle.bitcode_untyped.specs.Cases.{FaultsTell};
 ghost use Rattle.bitcode_untyped.specs.Content.{DatumDecides};
 ghost use Rattle.bitcode_untyped.specs.declared.shape.Shape.{Shape};
-ghost use Rattle.bitcode_untyped.specs.Laws.{ColumnsDecide, SpellsOnce, DatumTakesAnEighth, ElementsAreBounded, ReadsBackDatum};
+ghost use Rattle.bitcode_untyped.specs.Laws.{ColumnsDecide, SpellsOnce, DatumTakesAnEighth, ElementsAreBounded, LengthsBelowLimit, ReadsBackDatum};
 
 /// The columns of a datum so far decide the place, kind and count of the next one, and all of them decide the datum: so
 /// a reader always knows what it is to read next.
@@ -27,6 +32,18 @@ pub fn spelled_data()
     ensures unambiguous { (shape : ShapeTree) → SpellsOnce shape }
     ensures size_bound { (shape : ShapeTree) → IsSound shape → DatumTakesAnEighth shape }
     ensures bounded { (shape : ShapeTree) → IsSound shape → ElementsAreBounded shape }
+{}
+
+/// A datum of any shape has one strict spelling at most: the texts of its columns, joined. So the bytes that strictly spell it are
+/// those that are written for it, wherever these are read back.
+///
+/// ```
+/// strictly_spelled_data();
+/// ```
+pub fn strictly_spelled_data()
+    ensures once { (shape : ShapeTree) (piece other : List ℕ) (d : Datum) → StrictlySpellsDatum shape piece d → StrictlySpellsDatum shape other d → piece ≡ other }
+    ensures text { (shape : ShapeTree) (piece : List ℕ) (d : Datum) → StrictlySpellsDatum shape piece d → SpellsDatum shape piece d × (piece ≡ datum_text shape d) }
+    ensures written { (shape : ShapeTree) → IsSound shape → (d : Datum) → IsOf shape d → IsLimited shape d → LengthsBelowLimit shape d → StrictlySpellsDatum shape (datum_text shape d) d }
 {}
 
 /// Every shape has only columns that there are: what `spelled_data` says holds of each.

@@ -9,6 +9,7 @@ pub mod leaves;
 pub mod lists;
 pub mod references;
 pub mod shapes;
+pub mod strict;
 
 /// Lists of lists, and options in options as deep as references are followed.
 pub fn recursion(alloc: Global) -> Result<(), Got> {

@@ -117,6 +117,14 @@ fn print_rows_to_58(rt: &impl Print, alloc: Global) -> io::Result<bool> {
     Ok(all_ok)
 }
 
+/// Runs rows 59 to 61 in order, and answers whether all of them are ok.
+fn print_rows_to_61(rt: &impl Print, alloc: Global) -> io::Result<bool> {
+    let mut all_ok = print_row(rt, 59, bitcode_rows::strict::digits_and_widths(alloc))?;
+    all_ok &= print_row(rt, 60, bitcode_rows::strict::lists_and_maps(alloc))?;
+    all_ok &= print_row(rt, 61, bitcode_untyped_rows::strict::written_columns(alloc))?;
+    Ok(all_ok)
+}
+
 /// Runs all stored rows in order, and answers whether all of them are ok.
 pub fn print_rows(rt: &impl Print, alloc: Global) -> io::Result<bool> {
     let mut all_ok = print_rows_to_11(rt, alloc)?;
@@ -124,5 +132,6 @@ pub fn print_rows(rt: &impl Print, alloc: Global) -> io::Result<bool> {
     all_ok &= print_rows_to_34(rt, alloc)?;
     all_ok &= print_rows_to_45(rt, alloc)?;
     all_ok &= print_rows_to_58(rt, alloc)?;
+    all_ok &= print_rows_to_61(rt, alloc)?;
     Ok(all_ok)
 }

@@ -130,6 +130,9 @@ fn coders_are_used_by_themselves(rt: HostRuntime) -> Result<(), Fail> {
     decoder.populate(&mut input, 3)?;
     let first: bool = decoder.decode()?;
     assert!(rt; first);
+    let mut input: &[u8] = &[5, 13];
+    assert!(rt; decoder.populate_strict(&mut input, 3)?);
+    assert!(rt; !decoder.populate_strict(&mut input, 3)?);
     Ok(())
 }
 
@@ -161,5 +164,7 @@ fn a_buffer_starts_afresh(rt: HostRuntime) -> Result<(), Fail> {
     assert_eq!(rt; buffer.encode(&false)?, [0].as_slice());
     assert_eq!(rt; buffer.encode(&true)?, [1].as_slice());
     assert!(rt; buffer.decode(&[1])?);
+    assert!(rt; buffer.decode_strict(&[1])?);
+    assert!(rt; buffer.decode_strict(&[3]).is_err());
     Ok(())
 }

@@ -1,6 +1,9 @@
 //! The second format, as users meet it: each public call once, with ample memory, and values that hold values of their own kind.
 use bitcode::coder::Buffer as _;
-use bitcode::laws::{columns_decide, every_shape, faults_tell, one_value_of_a_datum, spelled_data};
+use bitcode::laws::{
+    columns_decide, every_shape, faults_tell, one_value_of_a_datum, spelled_data, strict_data,
+    strictly_spelled_data,
+};
 use bitcode::serde::{VariantDecoder, VariantEncoder};
 use bitcode::{
     Decoder, Encoder, REF_LIMIT, Reason, Shape, ShapeNode, Value, View, ZST_LIMIT, deserialize,
@@ -8,7 +11,8 @@ use bitcode::{
 };
 use bitcode_tests::Got;
 use bitcode_tests::untyped::{
-    is_not_written, map_of, seq_of, shape_of, variant, written_both_ways,
+    deserializes_strictly, is_not_read_strictly, is_not_written, map_of, seq_of, shape_of, variant,
+    written_both_ways,
 };
 use std::alloc::Global;
 use std::test::Fail;
@@ -43,6 +47,8 @@ fn the_limits_are_known(rt: HostRuntime) -> Result<(), Fail> {
 fn laws_are_called_for_what_they_say() {
     columns_decide();
     spelled_data();
+    strict_data();
+    strictly_spelled_data();
     every_shape();
     faults_tell();
     one_value_of_a_datum();
@@ -65,6 +71,15 @@ fn indices_are_written_and_read(rt: HostRuntime) -> Result<(), Fail> {
     assert_eq!(rt; read.length(1), 0);
     assert_eq!(rt; read.max_variant_index(), Some(200));
     Ok(())
+}
+
+#[test]
+fn a_value_is_read_strictly(rt: HostRuntime) -> Result<(), Got> {
+    let alloc = rt.alloc();
+    let flag = shape_of(alloc, ShapeNode::Bool)?;
+    deserializes_strictly(alloc, &flag, &[1], &Value::Bool(true))?;
+    is_not_read_strictly(alloc, &flag, &[3], Reason::NotTheWrittenText)?;
+    is_not_read_strictly(alloc, &flag, &[3, 0], Reason::ExpectedEof)
 }
 
 /// A comment: words, and the comments on it.

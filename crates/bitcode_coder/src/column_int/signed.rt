@@ -7,7 +7,8 @@ use crate::column_int::{ColumnInt, pack_each_byte, unpack_each_byte};
 use bitcode_columns::error::Error;
 use bitcode_columns::fast::CowSlice;
 use bitcode_columns::ints::Int;
-use bitcode_columns::pack_ints::{pack_ints, unpack_ints};
+use bitcode_columns::pack_ints::pack_ints;
+use bitcode_columns::strict::read_ints;
 use std::alloc::Global;
 
 impl ColumnInt for i8 {
@@ -30,8 +31,9 @@ impl ColumnInt for i8 {
         input: &mut &'a [u8],
         count: usize,
         out: &mut CowSlice<'a, u8>,
-    ) -> Result<(), Error> {
-        unpack_each_byte(alloc, input, count, out)
+        strict: bool,
+    ) -> Result<bool, Error> {
+        unpack_each_byte::<i8>(alloc, input, count, out, strict)
     }
 
     fn from_unaligned(unaligned: u8) -> i8 {
@@ -61,8 +63,9 @@ impl ColumnInt for i16 {
         input: &mut &'a [u8],
         count: usize,
         out: &mut CowSlice<'a, [u8; 2]>,
-    ) -> Result<(), Error> {
-        unpack_ints::<i16>(alloc, input, count, out)
+        strict: bool,
+    ) -> Result<bool, Error> {
+        read_ints::<i16>(alloc, input, count, out, strict)
     }
 
     fn from_unaligned(unaligned: [u8; 2]) -> i16 {
@@ -92,8 +95,9 @@ impl ColumnInt for i32 {
         input: &mut &'a [u8],
         count: usize,
         out: &mut CowSlice<'a, [u8; 4]>,
-    ) -> Result<(), Error> {
-        unpack_ints::<i32>(alloc, input, count, out)
+        strict: bool,
+    ) -> Result<bool, Error> {
+        read_ints::<i32>(alloc, input, count, out, strict)
     }
 
     fn from_unaligned(unaligned: [u8; 4]) -> i32 {
@@ -123,8 +127,9 @@ impl ColumnInt for i64 {
         input: &mut &'a [u8],
         count: usize,
         out: &mut CowSlice<'a, [u8; 8]>,
-    ) -> Result<(), Error> {
-        unpack_ints::<i64>(alloc, input, count, out)
+        strict: bool,
+    ) -> Result<bool, Error> {
+        read_ints::<i64>(alloc, input, count, out, strict)
     }
 
     fn from_unaligned(unaligned: [u8; 8]) -> i64 {
@@ -154,8 +159,9 @@ impl ColumnInt for i128 {
         input: &mut &'a [u8],
         count: usize,
         out: &mut CowSlice<'a, [u8; 16]>,
-    ) -> Result<(), Error> {
-        unpack_ints::<i128>(alloc, input, count, out)
+        strict: bool,
+    ) -> Result<bool, Error> {
+        read_ints::<i128>(alloc, input, count, out, strict)
     }
 
     fn from_unaligned(unaligned: [u8; 16]) -> i128 {
@@ -185,8 +191,9 @@ impl ColumnInt for isize {
         input: &mut &'a [u8],
         count: usize,
         out: &mut CowSlice<'a, [u8; 8]>,
-    ) -> Result<(), Error> {
-        unpack_ints::<isize>(alloc, input, count, out)
+        strict: bool,
+    ) -> Result<bool, Error> {
+        read_ints::<isize>(alloc, input, count, out, strict)
     }
 
     fn from_unaligned(unaligned: [u8; 8]) -> isize {

@@ -7,7 +7,8 @@ use crate::column_int::{ColumnInt, pack_each_byte, unpack_each_byte};
 use bitcode_columns::error::Error;
 use bitcode_columns::fast::CowSlice;
 use bitcode_columns::ints::Int;
-use bitcode_columns::pack_ints::{pack_ints, unpack_ints};
+use bitcode_columns::pack_ints::pack_ints;
+use bitcode_columns::strict::read_ints;
 use std::alloc::Global;
 
 impl ColumnInt for u8 {
@@ -30,8 +31,9 @@ impl ColumnInt for u8 {
         input: &mut &'a [u8],
         count: usize,
         out: &mut CowSlice<'a, u8>,
-    ) -> Result<(), Error> {
-        unpack_each_byte(alloc, input, count, out)
+        strict: bool,
+    ) -> Result<bool, Error> {
+        unpack_each_byte::<u8>(alloc, input, count, out, strict)
     }
 
     fn from_unaligned(unaligned: u8) -> u8 {
@@ -61,8 +63,9 @@ impl ColumnInt for u16 {
         input: &mut &'a [u8],
         count: usize,
         out: &mut CowSlice<'a, [u8; 2]>,
-    ) -> Result<(), Error> {
-        unpack_ints::<u16>(alloc, input, count, out)
+        strict: bool,
+    ) -> Result<bool, Error> {
+        read_ints::<u16>(alloc, input, count, out, strict)
     }
 
     fn from_unaligned(unaligned: [u8; 2]) -> u16 {
@@ -92,8 +95,9 @@ impl ColumnInt for u32 {
         input: &mut &'a [u8],
         count: usize,
         out: &mut CowSlice<'a, [u8; 4]>,
-    ) -> Result<(), Error> {
-        unpack_ints::<u32>(alloc, input, count, out)
+        strict: bool,
+    ) -> Result<bool, Error> {
+        read_ints::<u32>(alloc, input, count, out, strict)
     }
 
     fn from_unaligned(unaligned: [u8; 4]) -> u32 {
@@ -123,8 +127,9 @@ impl ColumnInt for u64 {
         input: &mut &'a [u8],
         count: usize,
         out: &mut CowSlice<'a, [u8; 8]>,
-    ) -> Result<(), Error> {
-        unpack_ints::<u64>(alloc, input, count, out)
+        strict: bool,
+    ) -> Result<bool, Error> {
+        read_ints::<u64>(alloc, input, count, out, strict)
     }
 
     fn from_unaligned(unaligned: [u8; 8]) -> u64 {
@@ -154,8 +159,9 @@ impl ColumnInt for u128 {
         input: &mut &'a [u8],
         count: usize,
         out: &mut CowSlice<'a, [u8; 16]>,
-    ) -> Result<(), Error> {
-        unpack_ints::<u128>(alloc, input, count, out)
+        strict: bool,
+    ) -> Result<bool, Error> {
+        read_ints::<u128>(alloc, input, count, out, strict)
     }
 
     fn from_unaligned(unaligned: [u8; 16]) -> u128 {
@@ -185,8 +191,9 @@ impl ColumnInt for usize {
         input: &mut &'a [u8],
         count: usize,
         out: &mut CowSlice<'a, [u8; 8]>,
-    ) -> Result<(), Error> {
-        unpack_ints::<usize>(alloc, input, count, out)
+        strict: bool,
+    ) -> Result<bool, Error> {
+        read_ints::<usize>(alloc, input, count, out, strict)
     }
 
     fn from_unaligned(unaligned: [u8; 8]) -> usize {

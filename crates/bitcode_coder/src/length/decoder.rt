@@ -1,19 +1,20 @@
 //! The coder that lengths are read from.
 #![tactic(auto, unfolding(crate::specs::Length::short_left, crate::specs::Length::large_left, crate::specs::Length::lengths_left, crate::specs::Length::lengths_sum, crate::specs::Length::lengths_owned))]
 
-ghost use Rattle.std.specs.Prelude.{◌≡◌, ◌≢◌, ℕ, ◌+◌, ◌<◌, ◌≤◌, [], ◌∷◌, Some, None, length, drop, sum, All, MatchBool, IfOk, OnOk, IfErr, OnErr};
+ghost use Rattle.std.specs.Prelude.{◌≡◌, ◌≢◌, ℕ, ◌+◌, ◌<◌, ◌≤◌, [], ◌∷◌, ◌++◌, ◌↔◌, IsTrue, Some, None, length, drop, sum, All, MatchBool, IfOk, OnOk, IfErr, OnErr};
 ghost use Rattle.bitcode_columns.specs.Fast.{cow_rest};
 ghost use Rattle.bitcode_columns.specs.LittleEndian.{little_endian};
 ghost use Rattle.bitcode_columns.specs.Reading.{Reads, IsEndOf};
-ghost use Rattle.bitcode_coder.specs.LengthColumn.{SpellsLengths, KeepsCap, length_limit};
+ghost use Rattle.bitcode_coder.specs.LengthColumn.{SpellsLengths, KeepsCap, length_limit, length_bytes, escape};
 ghost use Rattle.bitcode_coder.specs.LengthParts.{escapes, ReadsParts, sum_fault, NamesLengthFault};
 
+use crate::coder::both;
 use crate::length::ESCAPE;
 use bitcode_columns::error::{Error, Reason};
 use bitcode_columns::fast::CowSlice;
-use bitcode_columns::pack::unpack_bytes;
-use bitcode_columns::pack_ints::unpack_ints;
+use bitcode_columns::ints::known_bytes;
 use bitcode_columns::refuse::err;
+use bitcode_columns::strict::{read_bytes, read_ints};
 use std::alloc::Global;
 
 // Read lengths sum to less than this: what isize can hold, divided by 4096.
@@ -41,6 +42,15 @@ fn number_of_bytes(bytes: [u8; 8]) -> u64
     ensures { result ≡ little_endian bytes }
 {
     u64::from_le_bytes(bytes)
+}
+
+// Whether each of the numbers is a length for which an escape is written.
+fn are_large(large: &[[u8; 8]]) -> bool
+    ensures { MatchBool result (All (λ bytes. escape ≤ little_endian bytes) large.now) (All (λ bytes. escape ≤ little_endian bytes) large.now → ⊥) }
+{
+    large
+        .iter()
+        .all(|bytes| number_of_bytes(*bytes) >= u64::from(ESCAPE))
 }
 
 // How many large lengths follow the bytes.
@@ -88,9 +98,24 @@ impl<'a> LengthDecoder<'a> {
         ensures refused { IfErr result (λ e. NamesLengthFault e.reason k input.old.now) }
         ensures rest { OnErr result (IsEndOf input.old.now input.new.now) }
     {
-        *self = LengthDecoder::read_parts(self.alloc, input, k)?;
-        self.sum = self.checked_sum()?;
+        self.read(input, k, false)?;
         Ok(())
+    }
+
+    /// Reads `k` lengths as [`LengthDecoder::populate`] does. Where `strict`, the answer is whether the bytes of both parts are
+    /// those that are written for the lengths; else it says nothing.
+    pub fn read(&mut self, input: &mut &'a [u8], k: usize, strict: bool) -> Result<bool, Error>
+        ensures read { OnOk result (Reads (SpellsLengths None) k input.old.now (lengths_left self.new) input.new.now) }
+        ensures parts { OnOk result (ReadsParts k input.old.now (short_left self.new) (large_left self.new) input.new.now) }
+        ensures sum { OnOk result (lengths_sum self.new ≡ sum (lengths_left self.new)) }
+        ensures judged { IsTrue strict → IfOk result (λ written. IsTrue written ↔ (input.old.now ≡ length_bytes (lengths_left self.new) ++ input.new.now)) }
+        ensures refused { IfErr result (λ e. NamesLengthFault e.reason k input.old.now) }
+        ensures rest { OnErr result (IsEndOf input.old.now input.new.now) }
+    {
+        let parts = LengthDecoder::read_parts(self.alloc, input, k, strict)?;
+        *self = parts.0;
+        self.sum = self.checked_sum()?;
+        Ok(parts.1)
     }
 
     /// The sum of the lengths that were read, those that were taken since too.
@@ -129,22 +154,34 @@ impl<'a> LengthDecoder<'a> {
         }
     }
 
-    // Both parts of a column, whatever they sum to.
-    fn read_parts(alloc: Global, input: &mut &'a [u8], k: usize) -> Result<LengthDecoder<'a>, Error>
-        ensures read { IfOk result (λ d. ReadsParts k input.old.now (short_left d) (large_left d) input.new.now) }
+    // Both parts of a column, whatever they sum to. Where `strict`, the answer is whether they are those that are written.
+    fn read_parts(
+        alloc: Global,
+        input: &mut &'a [u8],
+        k: usize,
+        strict: bool,
+    ) -> Result<(LengthDecoder<'a>, bool), Error>
+        ensures read { IfOk result (λ d. ReadsParts k input.old.now (short_left d.0) (large_left d.0) input.new.now) }
+        ensures judged { IsTrue strict → IfOk result (λ d. IsTrue d.1 ↔ (input.old.now ≡ length_bytes (lengths_left d.0) ++ input.new.now)) }
         ensures refused { IfErr result (λ e. NamesLengthFault e.reason k input.old.now) }
         ensures rest { OnErr result (IsEndOf input.old.now input.new.now) }
     {
         let mut small = CowSlice::new(alloc);
-        unpack_bytes(alloc, input, k, &mut small)?;
+        let small_written = read_bytes::<u8>(alloc, input, k, &mut small, strict)?;
         let mut large = CowSlice::new(alloc);
-        unpack_ints::<u64>(alloc, input, count_escapes(small.as_slice()), &mut large)?;
-        Ok(LengthDecoder {
+        let shorts = small.as_slice();
+        known_bytes(shorts);
+        let count = count_escapes(shorts);
+        let large_written = read_ints::<u64>(alloc, input, count, &mut large, strict)?;
+        let enough = are_large(large.as_slice());
+        let written = both(both(small_written, large_written), enough);
+        let read = LengthDecoder {
             alloc,
             small,
             large,
             sum: 0,
-        })
+        };
+        Ok((read, written))
     }
 
     // The same lengths, to be taken without taking them here.

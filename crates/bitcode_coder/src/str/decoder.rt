@@ -1,5 +1,5 @@
 //! The coder that texts are read from.
-ghost use Rattle.std.specs.Prelude.{◌≡◌, ◌≢◌, ℕ, ◌<◌, List, [], ◌∷◌, None, true, false, refl, length, map, sum, All, IsUtf8, MatchBool, IfOk, IfErr, OnErr};
+ghost use Rattle.std.specs.Prelude.{◌≡◌, ◌≢◌, ℕ, ◌<◌, List, [], ◌∷◌, None, true, false, refl, length, map, sum, All, IsUtf8, MatchBool, IsTrue, IfOk, IfErr, OnErr};
 ghost use Rattle.std.specs.Str.{IsCharBoundary};
 ghost use Rattle.std.proofs.Props.{props};
 ghost use Rattle.bitcode_columns.specs.Fast.{slice_rest};
@@ -11,6 +11,7 @@ ghost use Rattle.bitcode_coder.specs.JoinedTexts.{ends_from};
 ghost use Rattle.bitcode_coder.specs.Length.{short_left, large_left, lengths_left, lengths_owned};
 ghost use Rattle.bitcode_coder.specs.LengthParts.{ReadsParts};
 ghost use Rattle.bitcode_coder.specs.Spelling.{Spells};
+ghost use Rattle.bitcode_coder.specs.Strict.{JudgesData};
 ghost use Rattle.bitcode_coder.specs.TextParts.{NamesTextFault};
 
 use crate::coder::{Decoder, HoldsData, View};
@@ -74,28 +75,31 @@ fn are_texts(bytes: &[u8], lengths: &LengthDecoder<'_>) -> bool
 }
 
 impl<'a> StrDecoder<'a> {
-    // Reads a column, all checks included.
-    pub(super) fn read(
+    // Reads a column, all checks included. Where `strict`, the answer is whether its bytes are its text.
+    pub(super) fn read_column(
         alloc: Global,
         input: &mut &'a [u8],
         k: usize,
-    ) -> Result<StrDecoder<'a>, Error>
-        ensures read { IfOk result (λ d. Reads (Spells (text_shape None)) k input.old.now (map text (cut (lengths_left d.lengths) (slice_rest d.bytes))) input.new.now) }
-        ensures parts { IfOk result (λ d. (middle : List ℕ) × ReadsParts k input.old.now (short_left d.lengths) (large_left d.lengths) middle) }
+        strict: bool,
+    ) -> Result<(StrDecoder<'a>, bool), Error>
+        ensures read { IfOk result (λ d. Reads (Spells (text_shape None)) k input.old.now (map text (cut (lengths_left d.0.lengths) (slice_rest d.0.bytes))) input.new.now) }
+        ensures judged { IsTrue strict → IfOk result (λ d. JudgesData (text_shape None) (map text (cut (lengths_left d.0.lengths) (slice_rest d.0.bytes))) d.1 input.old.now input.new.now) }
+        ensures parts { IfOk result (λ d. (middle : List ℕ) × ReadsParts k input.old.now (short_left d.0.lengths) (large_left d.0.lengths) middle) }
         ensures refused { IfErr result (λ e. NamesTextFault e.reason k input.old.now) }
         ensures rest { OnErr result (IsEndOf input.old.now input.new.now) }
     {
         let mut lengths = LengthDecoder::new(alloc);
-        lengths.populate(input, k)?;
+        let written = lengths.read(input, k, strict)?;
         let bytes = consume_bytes(input, lengths.length())?;
         if !are_texts(bytes, &lengths) {
             return err(Reason::InvalidUtf8);
         }
-        Ok(StrDecoder {
+        let column = StrDecoder {
             alloc,
             lengths,
             bytes: FastSlice::from(bytes),
-        })
+        };
+        Ok((column, written))
     }
 
     // Takes the next text, a slice of the input.
@@ -129,9 +133,10 @@ impl<'a> View<'a> for StrDecoder<'a> {
         }
     }
 
-    fn populate(&mut self, input: &mut &'a [u8], k: usize) -> Result<(), Error> {
-        *self = StrDecoder::read(self.alloc, input, k)?;
-        Ok(())
+    fn read(&mut self, input: &mut &'a [u8], k: usize, strict: bool) -> Result<bool, Error> {
+        let read = StrDecoder::read_column(self.alloc, input, k, strict)?;
+        *self = read.0;
+        Ok(read.1)
     }
 }
 

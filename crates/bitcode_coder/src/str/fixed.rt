@@ -52,13 +52,13 @@ impl<'a, const N: usize> View<'a> for ArrayStringDecoder<'a, N> {
         }
     }
 
-    fn populate(&mut self, input: &mut &'a [u8], k: usize) -> Result<(), Error> {
-        let column = StrDecoder::read(self.alloc, input, k)?;
-        if column.lengths.any_greater_than::<N>() {
+    fn read(&mut self, input: &mut &'a [u8], k: usize, strict: bool) -> Result<bool, Error> {
+        let read = StrDecoder::read_column(self.alloc, input, k, strict)?;
+        if read.0.lengths.any_greater_than::<N>() {
             return err(Reason::InvalidArrayString);
         }
-        self.column = column;
-        Ok(())
+        self.column = read.0;
+        Ok(read.1)
     }
 }
 

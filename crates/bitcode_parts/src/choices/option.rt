@@ -12,7 +12,7 @@ use crate::choices::option::gathered::{OptionVariant, encode_values};
 use crate::choices::variant::{VariantDecoder, VariantEncoder, encode_payload};
 use crate::empty::EmptyCoder;
 use bitcode_coder::coder::{
-    Buffer, Decoder, Encoder, HoldsColumns, HoldsData, MAX_VECTORED_CHUNK, View,
+    Buffer, Decoder, Encoder, HoldsColumns, HoldsData, MAX_VECTORED_CHUNK, View, both,
 };
 use bitcode_coder::part::Part;
 use bitcode_columns::error::Error;
@@ -138,10 +138,11 @@ impl<'a, D: View<'a>> View<'a> for OptionDecoder<'a, D> {
         }
     }
 
-    fn populate(&mut self, input: &mut &'a [u8], k: usize) -> Result<(), Error> {
-        self.variants.populate(input, k)?;
-        self.none.populate(input, self.variants.length(0))?;
-        self.some.populate(input, self.variants.length(1))
+    fn read(&mut self, input: &mut &'a [u8], k: usize, strict: bool) -> Result<bool, Error> {
+        let variants = self.variants.read(input, k, strict)?;
+        let none = self.none.read(input, self.variants.length(0), strict)?;
+        let some = self.some.read(input, self.variants.length(1), strict)?;
+        Ok(both(both(variants, none), some))
     }
 }
 

@@ -8,7 +8,7 @@ ghost use Rattle.bitcode_parts.specs.TwoVariantLaws.{same_two_variants, two_vari
 ghost use Rattle.bitcode_parts.specs.Variants.{variant_room, variant_capacity, variants_left, variants_owned};
 
 use crate::choices::variant::{VariantDecoder, VariantEncoder, encode_payload};
-use bitcode_coder::coder::{Buffer, Decoder, Encoder, HoldsColumns, HoldsData, View};
+use bitcode_coder::coder::{Buffer, Decoder, Encoder, HoldsColumns, HoldsData, View, both};
 use bitcode_columns::error::Error;
 use bitcode_shapes::shaped::{Made, Shaped};
 use std::alloc::Global;
@@ -122,10 +122,11 @@ impl<'a, A: View<'a>, B: View<'a>> View<'a> for ResultDecoder<'a, A, B> {
         }
     }
 
-    fn populate(&mut self, input: &mut &'a [u8], k: usize) -> Result<(), Error> {
-        self.variants.populate(input, k)?;
-        self.ok.populate(input, self.variants.length(0))?;
-        self.err.populate(input, self.variants.length(1))
+    fn read(&mut self, input: &mut &'a [u8], k: usize, strict: bool) -> Result<bool, Error> {
+        let variants = self.variants.read(input, k, strict)?;
+        let ok = self.ok.read(input, self.variants.length(0), strict)?;
+        let err = self.err.read(input, self.variants.length(1), strict)?;
+        Ok(both(both(variants, ok), err))
     }
 }
 

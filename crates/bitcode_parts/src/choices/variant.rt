@@ -1,11 +1,11 @@
 //! The variants of enums: the coder that they are written to, the one that they are read from, and writing a payload.
 #![tactic(auto, unfolding(crate::specs::Variants::written_variants, crate::specs::Variants::variant_room, crate::specs::Variants::variant_capacity, crate::specs::Variants::variants_left, crate::specs::Variants::variant_counts, crate::specs::Variants::variants_owned))]
 
-ghost use Rattle.std.specs.Prelude.{◌≡◌, false, ◌+◌, ◌<◌, ◌≤◌, ◌++◌, [], ◌∷◌, length, map, slice_index, All, OnOk, IfErr, OnErr};
+ghost use Rattle.std.specs.Prelude.{◌≡◌, false, ◌+◌, ◌<◌, ◌≤◌, ◌++◌, [], ◌∷◌, length, map, slice_index, All, IsTrue, ◌↔◌, IfOk, OnOk, IfErr, OnErr};
 ghost use Rattle.bitcode_columns.specs.Fast.{fast_items};
 ghost use Rattle.bitcode_columns.specs.Histogram.{AreCounts};
 ghost use Rattle.bitcode_columns.specs.Reading.{Reads, IsEndOf};
-ghost use Rattle.bitcode_columns.specs.VariantColumn.{SpellsVariants};
+ghost use Rattle.bitcode_columns.specs.VariantColumn.{SpellsVariants, variant_text};
 ghost use Rattle.bitcode_coder.specs.Columns.{variants, one, emptied};
 ghost use Rattle.bitcode_coder.specs.Coder.{JoinsListing, OverflowsWithListing, JoinsEach, OverflowsWithEach, IsWritingRefusal};
 ghost use Rattle.bitcode_coder.specs.Faults.{NamesVariantsFault};
@@ -14,7 +14,8 @@ ghost use Rattle.bitcode_coder.specs.Spelling.{natural};
 use bitcode_coder::coder::{Buffer, Encoder, HoldsColumns, HoldsData, MAX_VECTORED_CHUNK, View};
 use bitcode_columns::error::Error;
 use bitcode_columns::fast::{CowSlice, FastVec, PushUnchecked};
-use bitcode_columns::pack::{pack_bytes_less_than, unpack_bytes_less_than};
+use bitcode_columns::pack::pack_bytes_less_than;
+use bitcode_columns::strict::read_variants;
 use bitcode_shapes::lists::told_behind;
 use bitcode_shapes::shaped::Shaped;
 use std::alloc::Global;
@@ -146,12 +147,39 @@ impl<'a, const N: usize, const C_STYLE: bool> VariantDecoder<'a, N, C_STYLE> {
         ensures refused { IfErr result (λ e. NamesVariantsFault N e.reason k input.old.now) }
         ensures rest { OnErr result (IsEndOf input.old.now input.new.now) }
     {
-        if C_STYLE {
-            let [] = unpack_bytes_less_than::<N, 0>(self.alloc, input, k, &mut self.variants)?;
-        } else {
-            self.counts = unpack_bytes_less_than::<N, N>(self.alloc, input, k, &mut self.variants)?;
-        }
+        self.read(input, k, false)?;
         Ok(())
+    }
+
+    /// Reads `k` variants as [`VariantDecoder::populate`] does. Where `strict`, the answer is whether their bytes are those that
+    /// are written for them; else it says nothing.
+    pub fn read(&mut self, input: &mut &'a [u8], k: usize, strict: bool) -> Result<bool, Error>
+        ensures read { OnOk result (Reads (SpellsVariants N) k input.old.now (variants_left self.new) input.new.now) }
+        ensures judged { IsTrue strict → IfOk result (λ written. IsTrue written ↔ (input.old.now ≡ variant_text N (variants_left self.new) ++ input.new.now)) }
+        ensures counts { OnOk result (C_STYLE ≡ false → AreCounts N (variants_left self.new) (variant_counts self.new)) }
+        ensures refused { IfErr result (λ e. NamesVariantsFault N e.reason k input.old.now) }
+        ensures rest { OnErr result (IsEndOf input.old.now input.new.now) }
+    {
+        if C_STYLE {
+            let ([], written) = read_variants::<N, 0>(
+                self.alloc,
+                input,
+                k,
+                &mut self.variants,
+                strict,
+            )?;
+            Ok(written)
+        } else {
+            let (counts, written) = read_variants::<N, N>(
+                self.alloc,
+                input,
+                k,
+                &mut self.variants,
+                strict,
+            )?;
+            self.counts = counts;
+            Ok(written)
+        }
     }
 
     /// How many of the variants that were read are variant `i`, those that were taken since too.
@@ -201,8 +229,8 @@ impl<'a, const N: usize, const C_STYLE: bool> View<'a> for VariantDecoder<'a, N,
         VariantDecoder::new(alloc)
     }
 
-    fn populate(&mut self, input: &mut &'a [u8], k: usize) -> Result<(), Error> {
-        self.populate(input, k)
+    fn read(&mut self, input: &mut &'a [u8], k: usize, strict: bool) -> Result<bool, Error> {
+        self.read(input, k, strict)
     }
 }
 

@@ -14,7 +14,7 @@ ghost use Rattle.bitcode_parts.specs.Lists.{lists_of, FaultsInElements};
 
 use crate::lists::sequence::{FromElements, Sequence, decode_each};
 use bitcode_coder::coder::{
-    Buffer, Decoder, Encoder, HoldsColumns, HoldsData, MAX_VECTORED_CHUNK, View,
+    Buffer, Decoder, Encoder, HoldsColumns, HoldsData, MAX_VECTORED_CHUNK, View, both,
 };
 use bitcode_coder::length::{ChunkWidth, LengthDecoder, LengthEncoder};
 use bitcode_coder::part::{Part, told_parts};
@@ -250,9 +250,10 @@ impl<'a, D: View<'a>> View<'a> for VecDecoder<'a, D> {
         }
     }
 
-    fn populate(&mut self, input: &mut &'a [u8], k: usize) -> Result<(), Error> {
-        self.lengths.populate(input, k)?;
-        self.elements.populate(input, self.lengths.length())
+    fn read(&mut self, input: &mut &'a [u8], k: usize, strict: bool) -> Result<bool, Error> {
+        let lengths = self.lengths.read(input, k, strict)?;
+        let elements = self.elements.read(input, self.lengths.length(), strict)?;
+        Ok(both(lengths, elements))
     }
 }
 

@@ -9,13 +9,14 @@ ghost use Rattle.bitcode_shapes.specs.Datum.{Datum, number};
 ghost use Rattle.bitcode_shapes.specs.Ints.{int_shape, MakesNumber};
 ghost use Rattle.bitcode_coder.specs.Spelling.{Spells};
 ghost use Rattle.bitcode_coder.specs.Coder.{IsReadingRefusal, TakesDatum};
+ghost use Rattle.bitcode_coder.specs.Strict.{JudgesData};
 ghost use Rattle.bitcode_untyped.specs.Population.{count_of};
 
 use bitcode_coder::coder::{Decoder, HoldsData, View};
 use bitcode_columns::error::{Error, Reason};
 use bitcode_columns::fast::CowSlice;
 use bitcode_columns::histogram::histogram;
-use bitcode_columns::pack::unpack_bytes;
+use bitcode_columns::strict::read_bytes;
 use std::alloc::Global;
 
 /// The column that the indices of variants are read from, whatever the number of variants: a column of bytes.
@@ -73,16 +74,17 @@ impl<'a> View<'a> for VariantDecoder<'a> {
     /// Reads `k` indices from the front of the input, and counts them.
     ///
     /// Missing bytes are `EOF`, a tag that no column has is `invalid packing`, and a refused growth is `out of memory`.
-    fn populate(&mut self, input: &mut &'a [u8], k: usize) -> Result<(), Error>
+    fn read(&mut self, input: &mut &'a [u8], k: usize, strict: bool) -> Result<bool, Error>
         ensures read { OnOk result (Reads (Spells (int_shape 1 false)) k input.old.now (indices_left self.new) input.new.now) }
+        ensures judged { IsTrue strict → IfOk result (λ written. JudgesData (int_shape 1 false) (indices_left self.new) written input.old.now input.new.now) }
         ensures refused { IfErr result (λ e. IsReadingRefusal (int_shape 1 false) e.reason k input.old.now) }
         ensures rest { OnErr result (IsEndOf input.old.now input.new.now) }
         ensures exact { IfErr result (λ e. NamesIntsFault 1 e.reason k input.old.now) }
         ensures counts { OnOk result ((index : ℕ) → index < 256 → index_count self.new index ≡ count_of index (indices_left self.new)) }
     {
-        unpack_bytes(self.alloc, input, k, &mut self.indices)?;
+        let written = read_bytes::<u8>(self.alloc, input, k, &mut self.indices, strict)?;
         self.counts = counts_of_bytes(self.indices.as_slice());
-        Ok(())
+        Ok(written)
     }
 }
 
@@ -108,6 +110,24 @@ impl<'a> Decoder<u8> for VariantDecoder<'a> {
 impl<'a> VariantDecoder<'a> {
     ghost use Rattle.bitcode_coder.specs.Spelling.{natural};
     ghost use Rattle.bitcode_serde.specs.Indices.{indices_left, index_count};
+
+    /// Reads `k` indices from the front of the input, and counts them.
+    ///
+    /// Missing bytes are `EOF`, a tag that no column has is `invalid packing`, and a refused growth is `out of memory`.
+    ///
+    /// ```
+    /// indices.populate(&mut input, 3)?; // of [8, 20]: 2, 0 and 2
+    /// ```
+    pub fn populate(&mut self, input: &mut &'a [u8], k: usize) -> Result<(), Error>
+        ensures read { OnOk result (Reads (Spells (int_shape 1 false)) k input.old.now (indices_left self.new) input.new.now) }
+        ensures refused { IfErr result (λ e. IsReadingRefusal (int_shape 1 false) e.reason k input.old.now) }
+        ensures rest { OnErr result (IsEndOf input.old.now input.new.now) }
+        ensures exact { IfErr result (λ e. NamesIntsFault 1 e.reason k input.old.now) }
+        ensures counts { OnOk result ((index : ℕ) → index < 256 → index_count self.new index ≡ count_of index (indices_left self.new)) }
+    {
+        self.read(input, k, false)?;
+        Ok(())
+    }
 
     /// How many of the indices that were read are this one, those that were taken since too. It is 0 for an index that
     /// was not met.

@@ -31,7 +31,7 @@ returns-in_err-bytes-clause-refused c =
 pub returns-clause-continues : goal.returns-clause-continues
 returns-clause-continues c =
     continues_on c.args.reader.now c.step.new.self _
-    (continues_stepped c.args.reader.now c.take_length.new.self c.step.new.self c.take_length.ensures.below c.in_ok-taken.ensures.sized c.step.ensures.columns
+    (continues_stepped c.args.reader.now c.take_length.new.self c.step.new.self c.take_length.ensures.below c.take_length.ensures.asked c.in_ok-taken.ensures.sized c.step.ensures.columns c.step.ensures.asked
     c.in_ok-elements.ensures.kept)
     c.in_ok-bytes.ensures.continues
 

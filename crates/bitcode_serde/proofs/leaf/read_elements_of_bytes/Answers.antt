@@ -12,7 +12,7 @@ use Rattle.bitcode_serde.proofs.leaf.read_elements_of_bytes.Goals as goal
 
 pub returns-clause-continues : goal.returns-clause-continues
 returns-clause-continues c =
-    continues_here c.args.reader.now c.take_bytes.new.self c.requires.steady c.take_bytes.ensures.below c.in_ok-bytes.ensures.sized
+    continues_here c.args.reader.now c.take_bytes.new.self c.requires.steady c.take_bytes.ensures.below c.take_bytes.ensures.asked c.in_ok-bytes.ensures.sized
 
 pub returns-clause-read : goal.returns-clause-read
 returns-clause-read c =

@@ -13,7 +13,7 @@ use Rattle.bitcode_serde.proofs.leaf.read_leaves.Goals as goal
 
 pub returns-clause-continues : goal.returns-clause-continues
 returns-clause-continues c =
-    continues_here c.args.reader.now c.take_each.new.self c.requires.steady c.take_each.ensures.below c.in_ok-values.ensures.sized
+    continues_here c.args.reader.now c.take_each.new.self c.requires.steady c.take_each.ensures.below c.take_each.ensures.asked c.in_ok-values.ensures.sized
 
 pub returns-clause-read : goal.returns-clause-read
 returns-clause-read c =

@@ -26,7 +26,7 @@ use Rattle.bitcode_serde.proofs.EntryLemmas.{found_entry, no_entry}
 use Rattle.bitcode_serde.proofs.FieldLemmas.{tree_at_entry, tree_at_none, no_fields, one_more_field, field_refused, tuple_done}
 use Rattle.bitcode_serde.proofs.LeafEntryLemmas.{leaf_else}
 use Rattle.bitcode_serde.proofs.LeafLemmas.{leaves_whole}
-use Rattle.bitcode_serde.proofs.ValueLemmas.{refused_entry, still_there, continues_on, continues_stepped, one_more, list_stuck, enters_list, enters_choice, seq_read_at, seq_refused, choice_read_at, choice_refused, choice_of_unit, no_choice, no_third, told_at}
+use Rattle.bitcode_serde.proofs.ValueLemmas.{asked_alike, refused_entry, still_there, continues_on, continues_stepped, one_more, list_stuck, enters_list, enters_choice, seq_read_at, seq_refused, choice_read_at, choice_refused, choice_of_unit, no_choice, no_third, told_at}
 use Rattle.bitcode_serde.proofs.values.+read.Answers.Maps as map
 use Rattle.bitcode_serde.proofs.values.+read.Goals as goal
 mod Maps
@@ -188,7 +188,7 @@ read_seq-returns-in_err-values-clause-refused t c =
 pub read_seq-returns-clause-continues : goal.read_seq-returns-clause-continues
 read_seq-returns-clause-continues t c =
     continues_on c.args.reader.now c.step.new.self _
-    (continues_stepped c.args.reader.now c.take_length.new.self c.step.new.self c.take_length.ensures.below c.in_ok-taken.ensures.sized c.step.ensures.columns
+    (continues_stepped c.args.reader.now c.take_length.new.self c.step.new.self c.take_length.ensures.below c.take_length.ensures.asked c.in_ok-taken.ensures.sized c.step.ensures.columns c.step.ensures.asked
     c.in_ok-elements.ensures.kept)
     c.in_ok-values.ensures.continues
 
@@ -241,7 +241,7 @@ read_option-returns-in_err-value-clause-refused t c =
 pub read_option-returns-clause-continues : goal.read_option-returns-clause-continues
 read_option-returns-clause-continues t c =
     continues_on c.args.reader.now c.step.new.self _
-    (continues_stepped c.args.reader.now c.take_index.new.self c.step.new.self c.take_index.ensures.below c.in_ok-taken.ensures.sized c.step.ensures.columns
+    (continues_stepped c.args.reader.now c.take_index.new.self c.step.new.self c.take_index.ensures.below c.take_index.ensures.asked c.in_ok-taken.ensures.sized c.step.ensures.columns c.step.ensures.asked
     c.in_ok-inside.ensures.kept)
     c.in_ok-value.ensures.continues
 
@@ -269,7 +269,7 @@ read_enum-read-requires t c =
     let d = entry_deep c.args.nodes.now c.in_ok-taken.taken.index c.in-Some.node.now
     (found_entry c.args.nodes.now c.in_ok-taken.taken.index c.in-Some.node.now c.in-Some.ensures.lookup.3.0 (c.in-Some.ensures.lookup.3.1 c.in-Some.node.now)) in
     let h = c.in_ok-inside-in-Some.ensures.found.0 in
-    let s = (continues_stepped c.args.reader.now c.take_index.new.self c.step.new.self c.take_index.ensures.below c.in_ok-taken.ensures.sized c.step.ensures.columns
+    let s = (continues_stepped c.args.reader.now c.take_index.new.self c.step.new.self c.take_index.ensures.below c.take_index.ensures.asked c.in_ok-taken.ensures.sized c.step.ensures.columns c.step.ensures.asked
     c.in_ok-inside-in-Some.ensures.kept).steady in
     search (rules, d, h, s)
 
@@ -289,7 +289,7 @@ read_enum-returns-in_err-value-in-Some-clause-refused t c =
 pub read_enum-returns-in_ok-new-in-Some-clause-continues : goal.read_enum-returns-in_ok-new-in-Some-clause-continues
 read_enum-returns-in_ok-new-in-Some-clause-continues t c =
     continues_on c.args.reader.now c.step.new.self _
-    (continues_stepped c.args.reader.now c.take_index.new.self c.step.new.self c.take_index.ensures.below c.in_ok-taken.ensures.sized c.step.ensures.columns
+    (continues_stepped c.args.reader.now c.take_index.new.self c.step.new.self c.take_index.ensures.below c.take_index.ensures.asked c.in_ok-taken.ensures.sized c.step.ensures.columns c.step.ensures.asked
     c.in_ok-inside-in-Some.ensures.kept)
     c.in_ok-value-in-Some.ensures.continues
 
@@ -319,7 +319,7 @@ read_enum-returns-in-None-clause-refused t c =
 pub read_tuple-loop-i-init : goal.read_tuple-loop-i-init
 read_tuple-loop-i-init t c =
     let at_node = tree_of_node c.args.left c.args.table.now in (
-      record { steady = c.requires.steady; kept = λ i p at. at },
+      record { steady = c.requires.steady; asked = asked_alike c.args.reader.now; kept = λ i p at. at },
       rw c.new-values.ensures.items (no_fields at_node c.args.nodes.now c.args.place c.args.reader.now),
       rw c.new-values.ensures.items refl,
     )

@@ -3,10 +3,11 @@ use Rattle.std.proofs.Common.{◌≡◌, All, map, drop, take, length, refl, sub
 use Rattle.std.proofs.lemmas.List.{drop-map, length-map}
 use Rattle.std.proofs.lemmas.List.Elements.{All-drop}
 use Rattle.std.proofs.lemmas.Result.{err_from_is_err_and}
-use Rattle.bitcode_shapes.specs.LawfulImages.{image_lawful}
 use Rattle.bitcode_shapes.specs.LawfulLists.{each_listed}
 use Rattle.bitcode_coder.proofs.RefusalLemmas.{refusal_weaker}
 use Rattle.bitcode_parts.specs.Variants.{written_variants}
+use Rattle.bitcode_enums.specs.ByNumber.{all_columns}
+use Rattle.bitcode_enums.specs.ByNumberLaws.{each_has_payloads}
 use Rattle.bitcode_enums.specs.Writing.{JoinsVariant, OverflowsWithVariant}
 use Rattle.bitcode_enums.specs.WritingLaws.{enum_of_shape}
 use Rattle.bitcode_enums.proofs.WritingLemmas.{written_none, written_more, overflows_there, written_all}
@@ -14,7 +15,7 @@ use Rattle.bitcode_enums.proofs.encoder.EnumEncoderEncoder.encode_part_of_each.G
 
 pub encode_vectored-requires : goal.encode_vectored-requires
 encode_vectored-requires g c =
-    let index = λ (t : g.row.T.Denot). g.T.Parts.Variants.ShapedVariants.index (g.T.Parts.HoldsPayload.payload (g.T.StandsFor.parts t)) in
+    let index = g.T.Enum.each.variants.index in
     let ts = map (g.W.Part.of c.args.which.now) c.args.items.now in
     let written = take (length c.args.items.now) c.gather_variants.new.variants in
     let size : length written ≡ length c.args.items.now =
@@ -23,12 +24,12 @@ encode_vectored-requires g c =
 
 pub loop-item-init : goal.loop-item-init
 loop-item-init g c = record {
-  front = written_none (λ t. g.T.Parts.HoldsPayload.payload (g.T.StandsFor.parts t)) (λ t d. g.T.Parts.Shaped.lists (g.T.StandsFor.parts t) d) g.T.Parts.Variants.ShapedVariants.index
-      g.T.Parts.Variants.ShapedVariants.lists g.T.Parts.Shaped.shape g.T.Parts.Variants.ShapedVariants.shapes g.met.T.Parts.HoldsPayload.has_shape
-      (λ t d h. g.met.T.Parts.HoldsPayload.lists_payload (g.T.StandsFor.parts t) d h) g.row.N g.met.T.Parts.HoldsPayload.count (g.W.Part.of c.args.which.now) c.args.items.now
-      (written_variants c.args.self.now.variants) (g.S.HoldsColumns.columns c.args.self.now.payloads)
-      (enum_of_shape g.T.Parts.Variants.ShapedVariants.shapes g.T.Parts.Shaped.shape g.row.N (g.S.HoldsColumns.columns c.args.self.now.payloads) g.met.T.Parts.HoldsPayload.count g.met.T.Parts.HoldsPayload.has_shape
-      (g.met.S.PayloadColumns.of_shapes c.args.self.now.payloads 0));
+  front = written_none g.T.Shaped.lists g.T.Enum.each.variants.index
+      g.T.Enum.each.variants.lists g.T.Shaped.shape g.T.Enum.each.variants.shapes g.met.T.EnumShaped.has_shape
+      g.met.T.EnumShaped.lists_variants g.row.N g.met.T.EnumOf.count (g.W.Part.of c.args.which.now) c.args.items.now
+      (written_variants c.args.self.now.variants) (all_columns (g.C.AllColumns.held.lists c.args.self.now.payloads.columns))
+      (enum_of_shape g.T.Enum.each.variants.shapes g.T.Shaped.shape g.row.N (all_columns (g.C.AllColumns.held.lists c.args.self.now.payloads.columns)) g.met.T.EnumOf.count g.met.T.EnumShaped.has_shape
+      (each_has_payloads g.T.Enum.each.variants.shapes (g.C.AllColumns.held.lists c.args.self.now.payloads.columns) (g.met.T.WritesPayloads.of_shapes c.args.self.now.payloads.columns) 0));
   form = refl;
   variants = refl;
 }
@@ -38,45 +39,45 @@ returns-in_err-encode_payload-clause-refused g c =
     let refused = err_from_is_err_and c.from_residual.result c.from_residual.ensures.1 in
     let behind = drop (c.loop-item.item-index + 1) c.args.items.now in
     let rest = map (g.W.Part.of c.args.which.now) behind in
-    let is_value = λ (t : g.row.T.Denot). g.T.Parts.Shaped.is_value (g.T.StandsFor.parts t) in
+    let is_value = g.T.Shaped.is_value in
     let others =
-    each_listed g.T.Parts.Shaped.shape is_value (λ t d. g.T.Parts.Shaped.lists (g.T.StandsFor.parts t) d) (λ t u. g.T.Parts.Shaped.same (g.T.StandsFor.parts t) (g.T.StandsFor.parts u)) g.T.Parts.Shaped.in_order
-    (image_lawful g.T.StandsFor.parts g.met.T.Parts.Shaped.lawful) rest
+    each_listed g.T.Shaped.shape is_value g.T.Shaped.lists g.T.Shaped.same g.T.Shaped.in_order
+    g.met.T.Shaped.lawful rest
     (subst (All is_value) (drop-map (g.W.Part.of c.args.which.now) (c.loop-item.item-index + 1) c.args.items.now) (All-drop is_value (c.loop-item.item-index + 1) (map (g.W.Part.of c.args.which.now) c.args.items.now) c.told_parts.ensures)) in
     rw (refused.1, refused.2) (
     refusal_weaker _ (λ one.
-    overflows_there (λ t. g.T.Parts.HoldsPayload.payload (g.T.StandsFor.parts t)) (λ t d. g.T.Parts.Shaped.lists (g.T.StandsFor.parts t) d) g.T.Parts.Variants.ShapedVariants.index
-    g.T.Parts.Variants.ShapedVariants.lists g.T.Parts.Shaped.shape g.T.Parts.Variants.ShapedVariants.shapes g.met.T.Parts.HoldsPayload.has_shape
-    (λ t d h. g.met.T.Parts.HoldsPayload.lists_payload (g.T.StandsFor.parts t) d h) g.row.N g.met.T.Parts.HoldsPayload.count (g.W.Part.of c.args.which.now) c.args.items.now
-    (written_variants c.args.self.now.variants) (g.S.HoldsColumns.columns c.args.self.now.payloads)
-    (enum_of_shape g.T.Parts.Variants.ShapedVariants.shapes g.T.Parts.Shaped.shape g.row.N (g.S.HoldsColumns.columns c.args.self.now.payloads) g.met.T.Parts.HoldsPayload.count g.met.T.Parts.HoldsPayload.has_shape
-    (g.met.S.PayloadColumns.of_shapes c.args.self.now.payloads 0))
-    c.loop-item.item-index c.item-item.result c.loop-item-test.true c.item-item.is (g.S.HoldsColumns.columns c.loop-item.self.payloads) c.loop-item.invariant.front
-    (subst (λ t. OverflowsWithVariant g.T.Parts.Variants.ShapedVariants.index g.T.Parts.Variants.ShapedVariants.lists g.T.Parts.Variants.ShapedVariants.shapes (g.T.Parts.HoldsPayload.payload (g.T.StandsFor.parts t)) (g.S.HoldsColumns.columns c.loop-item.self.payloads)) c.part.ensures one)
+    overflows_there g.T.Shaped.lists g.T.Enum.each.variants.index
+    g.T.Enum.each.variants.lists g.T.Shaped.shape g.T.Enum.each.variants.shapes g.met.T.EnumShaped.has_shape
+    g.met.T.EnumShaped.lists_variants g.row.N g.met.T.EnumOf.count (g.W.Part.of c.args.which.now) c.args.items.now
+    (written_variants c.args.self.now.variants) (all_columns (g.C.AllColumns.held.lists c.args.self.now.payloads.columns))
+    (enum_of_shape g.T.Enum.each.variants.shapes g.T.Shaped.shape g.row.N (all_columns (g.C.AllColumns.held.lists c.args.self.now.payloads.columns)) g.met.T.EnumOf.count g.met.T.EnumShaped.has_shape
+    (each_has_payloads g.T.Enum.each.variants.shapes (g.C.AllColumns.held.lists c.args.self.now.payloads.columns) (g.met.T.WritesPayloads.of_shapes c.args.self.now.payloads.columns) 0))
+    c.loop-item.item-index c.item-item.result c.loop-item-test.true c.item-item.is (all_columns (g.C.AllColumns.held.lists c.loop-item.self.payloads.columns)) c.loop-item.invariant.front
+    (subst (λ t. OverflowsWithVariant g.T.Enum.each.variants.index g.T.Enum.each.variants.lists g.T.Enum.each.variants.shapes t (all_columns (g.C.AllColumns.held.lists c.loop-item.self.payloads.columns))) c.part.ensures one)
     others.0 others.1) c.in_err-encode_payload.ensures.refused
     )
 
 pub loop-item-preserved : goal.loop-item-preserved
 loop-item-preserved g c = record {
-  front = written_more (λ t. g.T.Parts.HoldsPayload.payload (g.T.StandsFor.parts t)) (λ t d. g.T.Parts.Shaped.lists (g.T.StandsFor.parts t) d) g.T.Parts.Variants.ShapedVariants.index
-      g.T.Parts.Variants.ShapedVariants.lists g.T.Parts.Shaped.shape g.T.Parts.Variants.ShapedVariants.shapes g.met.T.Parts.HoldsPayload.has_shape
-      (λ t d h. g.met.T.Parts.HoldsPayload.lists_payload (g.T.StandsFor.parts t) d h) g.row.N g.met.T.Parts.HoldsPayload.count (g.W.Part.of c.args.which.now) c.args.items.now
-      (written_variants c.args.self.now.variants) (g.S.HoldsColumns.columns c.args.self.now.payloads)
-      (enum_of_shape g.T.Parts.Variants.ShapedVariants.shapes g.T.Parts.Shaped.shape g.row.N (g.S.HoldsColumns.columns c.args.self.now.payloads) g.met.T.Parts.HoldsPayload.count g.met.T.Parts.HoldsPayload.has_shape
-      (g.met.S.PayloadColumns.of_shapes c.args.self.now.payloads 0))
-      c.loop-item.item-index c.item-item.result c.loop-item-test.true c.item-item.is (g.S.HoldsColumns.columns c.loop-item.self.payloads) c.loop-item.invariant.front _
-      (subst (λ t. JoinsVariant g.T.Parts.Variants.ShapedVariants.index g.T.Parts.Variants.ShapedVariants.lists g.T.Parts.Variants.ShapedVariants.shapes (g.T.Parts.HoldsPayload.payload (g.T.StandsFor.parts t)) (g.S.HoldsColumns.columns c.loop-item.self.payloads) (g.S.HoldsColumns.columns c.encode_payload.new.payloads)) c.part.ensures c.in_ok-encode_payload.ensures.joined);
+  front = written_more g.T.Shaped.lists g.T.Enum.each.variants.index
+      g.T.Enum.each.variants.lists g.T.Shaped.shape g.T.Enum.each.variants.shapes g.met.T.EnumShaped.has_shape
+      g.met.T.EnumShaped.lists_variants g.row.N g.met.T.EnumOf.count (g.W.Part.of c.args.which.now) c.args.items.now
+      (written_variants c.args.self.now.variants) (all_columns (g.C.AllColumns.held.lists c.args.self.now.payloads.columns))
+      (enum_of_shape g.T.Enum.each.variants.shapes g.T.Shaped.shape g.row.N (all_columns (g.C.AllColumns.held.lists c.args.self.now.payloads.columns)) g.met.T.EnumOf.count g.met.T.EnumShaped.has_shape
+      (each_has_payloads g.T.Enum.each.variants.shapes (g.C.AllColumns.held.lists c.args.self.now.payloads.columns) (g.met.T.WritesPayloads.of_shapes c.args.self.now.payloads.columns) 0))
+      c.loop-item.item-index c.item-item.result c.loop-item-test.true c.item-item.is (all_columns (g.C.AllColumns.held.lists c.loop-item.self.payloads.columns)) c.loop-item.invariant.front _
+      (subst (λ t. JoinsVariant g.T.Enum.each.variants.index g.T.Enum.each.variants.lists g.T.Enum.each.variants.shapes t (all_columns (g.C.AllColumns.held.lists c.loop-item.self.payloads.columns)) (all_columns (g.C.AllColumns.held.lists c.encode_payload.new.self.columns))) c.part.ensures c.in_ok-encode_payload.ensures.joined);
   form = c.encode_payload.ensures.form ∙ c.loop-item.invariant.form;
   variants = c.loop-item.invariant.variants;
 }
 
 pub returns-clause-joined : goal.returns-clause-joined
 returns-clause-joined g c =
-    written_all (λ t. g.T.Parts.HoldsPayload.payload (g.T.StandsFor.parts t)) (λ t d. g.T.Parts.Shaped.lists (g.T.StandsFor.parts t) d) g.T.Parts.Variants.ShapedVariants.index
-    g.T.Parts.Variants.ShapedVariants.lists g.T.Parts.Shaped.shape g.T.Parts.Variants.ShapedVariants.shapes g.met.T.Parts.HoldsPayload.has_shape
-    (λ t d h. g.met.T.Parts.HoldsPayload.lists_payload (g.T.StandsFor.parts t) d h) g.row.N g.met.T.Parts.HoldsPayload.count (g.W.Part.of c.args.which.now) c.args.items.now
-    (written_variants c.args.self.now.variants) (g.S.HoldsColumns.columns c.args.self.now.payloads)
-    (enum_of_shape g.T.Parts.Variants.ShapedVariants.shapes g.T.Parts.Shaped.shape g.row.N (g.S.HoldsColumns.columns c.args.self.now.payloads) g.met.T.Parts.HoldsPayload.count g.met.T.Parts.HoldsPayload.has_shape
-    (g.met.S.PayloadColumns.of_shapes c.args.self.now.payloads 0))
-    c.loop-item.item-index (g.S.HoldsColumns.columns c.loop-item.self.payloads) c.loop-item.invariant.front (omega (arith, c.loop-item-test.false)) _
+    written_all g.T.Shaped.lists g.T.Enum.each.variants.index
+    g.T.Enum.each.variants.lists g.T.Shaped.shape g.T.Enum.each.variants.shapes g.met.T.EnumShaped.has_shape
+    g.met.T.EnumShaped.lists_variants g.row.N g.met.T.EnumOf.count (g.W.Part.of c.args.which.now) c.args.items.now
+    (written_variants c.args.self.now.variants) (all_columns (g.C.AllColumns.held.lists c.args.self.now.payloads.columns))
+    (enum_of_shape g.T.Enum.each.variants.shapes g.T.Shaped.shape g.row.N (all_columns (g.C.AllColumns.held.lists c.args.self.now.payloads.columns)) g.met.T.EnumOf.count g.met.T.EnumShaped.has_shape
+    (each_has_payloads g.T.Enum.each.variants.shapes (g.C.AllColumns.held.lists c.args.self.now.payloads.columns) (g.met.T.WritesPayloads.of_shapes c.args.self.now.payloads.columns) 0))
+    c.loop-item.item-index (all_columns (g.C.AllColumns.held.lists c.loop-item.self.payloads.columns)) c.loop-item.invariant.front (omega (arith, c.loop-item-test.false)) _
     (ap written_variants c.loop-item.invariant.variants ∙ c.encode_vectored.ensures.written ∙ ap (λ more. written_variants c.args.self.now.variants ++ more) c.gather_variants.ensures.gathered)

@@ -6,7 +6,7 @@ use Rattle.bitcode_shapes.specs.Shape.{bool_shape, text_shape}
 use Rattle.bitcode_shapes.specs.Ints.{int_shape}
 use Rattle.bitcode_shapes.specs.LawfulInts.{width_1, width_2, width_4, width_8, width_16}
 use Rattle.bitcode_serde.specs.ReadColumns.{IsColumnRefusal}
-use Rattle.bitcode_serde.proofs.ColumnLemmas.{passed_on, column_read, lengths_column_read, bools_column_refused, ints_column_refused, lengths_column_refused, texts_column_refused}
+use Rattle.bitcode_serde.proofs.ColumnLemmas.{passed_on, column_read, lengths_column_read, lengths_column_judged, bools_column_refused, ints_column_refused, lengths_column_refused, texts_column_refused}
 use Rattle.bitcode_serde.proofs.column.Column.open.Goals as goal
 
 pub returns-in_err-read-in-Bools-clause-refused : goal.returns-in_err-read-in-Bools-clause-refused
@@ -15,13 +15,13 @@ returns-in_err-read-in-Bools-clause-refused c =
     rw c.in-Bools.is (passed_on (λ e. IsColumnRefusal (bools) e.reason c.args.count c.args.input.now.now) c.from_residual.result c.in_err-read-in-Bools.field-0.0 y.0 y.1 y.2
     (bools_column_refused c.in_err-read-in-Bools.field-0.0.reason c.args.count c.args.input.now.now c.in_err-read-in-Bools.ensures.exact c.in_err-read-in-Bools.ensures.refused))
 
-pub returns-in_err-read_indices-in-Bytes-clause-refused : goal.returns-in_err-read_indices-in-Bytes-clause-refused
-returns-in_err-read_indices-in-Bytes-clause-refused c =
-    let y = err_from_is_err_and c.from_residual-in_err-read_indices-in-Bytes.result c.from_residual-in_err-read_indices-in-Bytes.ensures.1 in
-    rw c.in-Bytes.is (passed_on (λ e. IsColumnRefusal (ints 1 false) e.reason c.args.count c.args.input.now.now) c.from_residual-in_err-read_indices-in-Bytes.result
-    c.in_err-read_indices-in-Bytes.field-0.0 y.0 y.1 y.2
-    (ints_column_refused 1 false width_1 c.in_err-read_indices-in-Bytes.field-0.0.reason c.args.count c.args.input.now.now c.in_err-read_indices-in-Bytes.ensures.exact
-    c.in_err-read_indices-in-Bytes.ensures.refused))
+pub returns-in_err-read-in-Bytes-clause-refused : goal.returns-in_err-read-in-Bytes-clause-refused
+returns-in_err-read-in-Bytes-clause-refused c =
+    let y = err_from_is_err_and c.from_residual-in_err-read-in-Bytes.result c.from_residual-in_err-read-in-Bytes.ensures.1 in
+    rw c.in-Bytes.is (passed_on (λ e. IsColumnRefusal (ints 1 false) e.reason c.args.count c.args.input.now.now) c.from_residual-in_err-read-in-Bytes.result
+    c.in_err-read-in-Bytes.field-0.0 y.0 y.1 y.2
+    (ints_column_refused 1 false width_1 c.in_err-read-in-Bytes.field-0.0.reason c.args.count c.args.input.now.now c.in_err-read-in-Bytes.ensures.exact
+    c.in_err-read-in-Bytes.ensures.refused))
 
 pub returns-in_err-read-in-U16-clause-refused : goal.returns-in_err-read-in-U16-clause-refused
 returns-in_err-read-in-U16-clause-refused c =
@@ -77,12 +77,12 @@ returns-in_err-read-in-I128-clause-refused c =
     rw c.in-I128.is (passed_on (λ e. IsColumnRefusal (ints 16 true) e.reason c.args.count c.args.input.now.now) c.from_residual-in_err-read-in-I128.result c.in_err-read-in-I128.field-0.0 y.0 y.1 y.2
     (ints_column_refused 16 true width_16 c.in_err-read-in-I128.field-0.0.reason c.args.count c.args.input.now.now c.in_err-read-in-I128.ensures.exact c.in_err-read-in-I128.ensures.refused))
 
-pub returns-in_err-read_lengths-in-Lengths-clause-refused : goal.returns-in_err-read_lengths-in-Lengths-clause-refused
-returns-in_err-read_lengths-in-Lengths-clause-refused c =
-    let y = err_from_is_err_and c.from_residual-in_err-read_lengths-in-Lengths.result c.from_residual-in_err-read_lengths-in-Lengths.ensures.1 in
-    rw c.in-Lengths.is (passed_on (λ e. IsColumnRefusal (lengths None) e.reason c.args.count c.args.input.now.now) c.from_residual-in_err-read_lengths-in-Lengths.result
-    c.in_err-read_lengths-in-Lengths.field-0.0 y.0 y.1 y.2
-    (lengths_column_refused c.in_err-read_lengths-in-Lengths.field-0.0.reason c.args.count c.args.input.now.now c.in_err-read_lengths-in-Lengths.ensures.refused))
+pub returns-in_err-read-in-Lengths-clause-refused : goal.returns-in_err-read-in-Lengths-clause-refused
+returns-in_err-read-in-Lengths-clause-refused c =
+    let y = err_from_is_err_and c.from_residual-in_err-read-in-Lengths.result c.from_residual-in_err-read-in-Lengths.ensures.1 in
+    rw c.in-Lengths.is (passed_on (λ e. IsColumnRefusal (lengths None) e.reason c.args.count c.args.input.now.now) c.from_residual-in_err-read-in-Lengths.result
+    c.in_err-read-in-Lengths.field-0.0 y.0 y.1 y.2
+    (lengths_column_refused c.in_err-read-in-Lengths.field-0.0.reason c.args.count c.args.input.now.now c.in_err-read-in-Lengths.ensures.refused))
 
 pub returns-in_err-read-in-Texts-clause-refused : goal.returns-in_err-read-in-Texts-clause-refused
 returns-in_err-read-in-Texts-clause-refused c =
@@ -134,11 +134,15 @@ pub returns-in_ok-read-in-Texts-clause-read : goal.returns-in_ok-read-in-Texts-c
 returns-in_ok-read-in-Texts-clause-read c =
     rw c.in-Texts.is (column_read (texts None) (text_shape None) c.args.count c.args.input.now.now _ _ c.in_ok-read-in-Texts.ensures.read (λ piece s. s.columns))
 
-pub returns-in_ok-read_lengths-in-Lengths-clause-read : goal.returns-in_ok-read_lengths-in-Lengths-clause-read
-returns-in_ok-read_lengths-in-Lengths-clause-read c =
-    rw c.in-Lengths.is (lengths_column_read c.args.count c.args.input.now.now _ _ c.in_ok-read_lengths-in-Lengths.ensures.read)
+pub returns-in_ok-read-in-Lengths-clause-read : goal.returns-in_ok-read-in-Lengths-clause-read
+returns-in_ok-read-in-Lengths-clause-read c =
+    rw c.in-Lengths.is (lengths_column_read c.args.count c.args.input.now.now _ _ c.in_ok-read-in-Lengths.ensures.read)
 
 pub returns-in_ok-new-in-Bytes-clause-read : goal.returns-in_ok-new-in-Bytes-clause-read
 returns-in_ok-new-in-Bytes-clause-read c =
     rw (c.in-Bytes.is, c.in_ok-new-in-Bytes.ensures.ok) (column_read (ints 1 false) (int_shape 1 false) c.args.count c.args.input.now.now _ _
-    c.in_ok-read_indices-in-Bytes.ensures.read (λ piece s. s.columns))
+    c.in_ok-read-in-Bytes.ensures.read (λ piece s. s.columns))
+
+pub returns-in_ok-read-in-Lengths-clause-judged : goal.returns-in_ok-read-in-Lengths-clause-judged
+returns-in_ok-read-in-Lengths-clause-judged c = λ strict.
+    rw c.in-Lengths.is (lengths_column_judged _ c.args.count c.args.input.now.now _ _ c.in_ok-read-in-Lengths.ensures.read (c.in_ok-read-in-Lengths.ensures.judged strict))

@@ -20,29 +20,30 @@ returns-then-count-eq0-clause-refused c =
     c.err.result _ _ c.err.ensures refl
     (tt, λ other. none_here r c.args.place c.requires.place c.requires.closed c.count_at-count.result c.count_at-count.ensures (kind_of c.args.kind) c.if-count-eq0.true)
 
-pub returns-in_err-column-clause-refused : goal.returns-in_err-column-clause-refused
-returns-in_err-column-clause-refused c =
+pub returns-in_err-read-clause-refused : goal.returns-in_err-read-clause-refused
+returns-in_err-read-clause-refused c =
     let r = c.args.self.now in
-    let y = err_from_is_err_and c.from_residual-in_err-column.result c.from_residual-in_err-column.ensures.1 in
+    let y = err_from_is_err_and c.from_residual-in_err-read.result c.from_residual-in_err-read.ensures.1 in
     passed_on (λ e. IsColumnReason e.reason × (e.reason ≢ OutOfMemory → (a : State) → Stands r a → NothingAt a (place_at (places r.places.below.items) c.args.place) (kind_of c.args.kind)))
-    c.from_residual-in_err-column.result c.in_err-column.field-0.0 y.0 y.1 y.2
-    (refused_here r c.args.place c.requires.place c.requires.closed c.count_at-count.result c.count_at-count.ensures (kind_of c.args.kind) c.in_err-column.field-0.0.reason
-    c.in_err-column.ensures.refused)
+    c.from_residual-in_err-read.result c.in_err-read.field-0.0 y.0 y.1 y.2
+    (refused_here r c.args.place c.requires.place c.requires.closed c.count_at-count.result c.count_at-count.ensures (kind_of c.args.kind) c.in_err-read.field-0.0.reason
+    c.in_err-read.ensures.refused)
 
 pub returns-clause-found : goal.returns-clause-found
 returns-clause-found c =
     ready_pushed c.args.self.now.columns.items c.push.new.self.items c.args.place c.len-last.result (kind_of c.args.kind) _ c.requires.closed
-    c.in_ok-push.ensures.items (c.len-last.ensures ∙ c.push.new.self.ok.0) refl c.in_ok-column.ensures.kind (omega (arith, c.if-count-eq0.false))
+    c.in_ok-push.ensures.items (c.len-last.ensures ∙ c.push.new.self.ok.0) refl c.in_ok-read.ensures.kind (omega (arith, c.if-count-eq0.false))
 
 pub returns-clause-prepared : goal.returns-clause-prepared
 returns-clause-prepared c =
     prepared_here c.args.self.now c.args.place c.requires.place c.requires.closed c.count_at-count.result c.count_at-count.ensures
-    _ (kind_of c.args.kind) (left c.in_ok-column.column) _ c.in_ok-column.ensures.read (c.set_column.ensures.below ∙ c.make_room.ensures.below) refl c.in_ok-push.ensures.items refl c.in_ok-column.ensures.kind refl refl
-    c.in_ok-column.ensures.tallies (entries_are c.args.kind _ _ c.in_ok-column.ensures.read.spelled)
+    _ (kind_of c.args.kind) (left c.in_ok-read.read.0) _ c.in_ok-read.ensures.read (c.set_column.ensures.below ∙ c.make_room.ensures.below) refl c.in_ok-push.ensures.items refl c.in_ok-read.ensures.kind refl refl
+    c.in_ok-read.ensures.tallies (entries_are c.args.kind _ _ c.in_ok-read.ensures.read.spelled)
+    (record { answer = c.in_ok-read.read.1; strict = refl; bytes = refl; written = c.both-self.ensures; judged = c.in_ok-read.ensures.judged })
 
 pub returns-clause-sized : goal.returns-clause-sized
 returns-clause-sized c =
-    sized_last c.args.self.now.columns.items c.push.new.self.items _ c.in_ok-push.ensures.items c.requires.sized (sym c.in_ok-column.ensures.read.size)
+    sized_last c.args.self.now.columns.items c.push.new.self.items _ c.in_ok-push.ensures.items c.requires.sized (sym c.in_ok-read.ensures.read.size)
 
 pub invariant_of-self-in-Break-branch-3 : goal.invariant_of-self-in-Break-branch-3
 invariant_of-self-in-Break-branch-3 c =
@@ -60,7 +61,7 @@ invariant_of-self-2-clause-counted c =
 pub invariant_of-self-2-clause-filed : goal.invariant_of-self-2-clause-filed
 invariant_of-self-2-clause-filed c =
     let old = c.args.self.now in
-    let new : OpenColumn = record { place = c.args.place; left = c.count_at-count.result; column = c.in_ok-column.column } in
+    let new : OpenColumn = record { place = c.args.place; left = c.count_at-count.result; column = c.in_ok-read.read.0 } in
     let len = c.len-last.ensures in
     let more = c.in_ok-push.ensures.len in
     let size = old.columns.ok.0 in

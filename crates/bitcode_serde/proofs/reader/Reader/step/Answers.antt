@@ -18,4 +18,4 @@ returns-clause-stands c =
     let size = c.len.ensures in
     stands_stepped old.places.below.items c.below.new.self.below.items new c.in_ok-place.place c.args.count _
     c.in_ok-place.ensures.grown c.in_ok-place.ensures.some c.in_ok-place.ensures.found
-    old.counts.items c.make_room.new.counts.items old.counted (omega (arith, within, room, size)) c.make_room.ensures.same old _ refl refl refl refl refl refl
+    old.counts.items c.make_room.new.counts.items old.counted (omega (arith, within, room, size)) c.make_room.ensures.same old _ refl refl refl refl refl refl refl

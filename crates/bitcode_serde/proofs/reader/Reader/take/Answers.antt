@@ -42,7 +42,7 @@ returns-clause-leads c =
     let some = h.1 in
     led c.args.self.now c.ready.new.self _ c.args.place c.in_ok-i.i (kind_of c.args.kind) there
     (record { place = there.place; left = there.left - 1; column = c.take.new.self })
-    (datum_of c.in_ok-value.value) c.requires.place c.ready.ensures.below c.ready.ensures.below refl refl refl c.in_ok-i.ensures.found c.index_mut-open.ensures.value
+    (datum_of c.in_ok-value.value) c.requires.place c.ready.ensures.below c.ready.ensures.below refl refl refl refl c.in_ok-i.ensures.found c.index_mut-open.ensures.value
     (record {
       place = refl;
       kind = c.take.ensures.kind;

@@ -74,7 +74,7 @@ returns-clause-leads c =
     let size = sized_at r.columns.items c.args.place c.in_ok-i.i index_kind there c.in_ok-i.ensures.sized c.in_ok-i.ensures.found c.index_mut-open.ensures.value in
     led_each c.args.self.now r c.args.place c.in_ok-i.i index_kind there c.requires.place c.ready.ensures.below c.in_ok-i.ensures.found c.index_mut-open.ensures.value
     c.in_ok-i.ensures.prepared _ (record { place = there.place; left = there.left - c.args.count; column = c.take_bytes.new.self }) (map natural c.in_ok-bytes.bytes.items)
-    c.ready.ensures.below refl refl refl
+    c.ready.ensures.below refl refl refl refl
     (record {
       place = refl;
       kind = c.take_bytes.ensures.kind;

@@ -41,7 +41,7 @@ returns-clause-leads c =
     let some = h.1 in
     led c.args.self.now c.ready.new.self _ c.args.place c.in_ok-i.i (ints 4 false) there
     (record { place = there.place; left = there.left - 1; column = c.take_code-code.new.self })
-    (natural c.take_code-code.result) c.requires.place c.ready.ensures.below c.ready.ensures.below refl refl refl c.in_ok-i.ensures.found c.index_mut-open.ensures.value
+    (natural c.take_code-code.result) c.requires.place c.ready.ensures.below c.ready.ensures.below refl refl refl refl c.in_ok-i.ensures.found c.index_mut-open.ensures.value
     (record {
       place = refl;
       kind = c.take_code-code.ensures.kind;

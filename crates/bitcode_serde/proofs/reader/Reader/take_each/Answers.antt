@@ -70,7 +70,7 @@ returns-clause-leads c =
     let size = sized_at r.columns.items c.args.place c.in_ok-found.found (kind_of c.args.kind) there c.in_ok-found.ensures.sized c.in_ok-found.ensures.found c.index_mut-open.ensures.value in
     led_each c.args.self.now r c.args.place c.in_ok-found.found (kind_of c.args.kind) there c.requires.place c.ready.ensures.below c.in_ok-found.ensures.found c.index_mut-open.ensures.value
     c.in_ok-found.ensures.prepared _ (record { place = there.place; left = there.left - c.args.count; column = c.take_each.new.self }) (map datum_of c.in_ok-values.values.items)
-    c.ready.ensures.below refl refl refl
+    c.ready.ensures.below refl refl refl refl
     (record {
       place = refl;
       kind = c.take_each.ensures.kind;

@@ -45,7 +45,7 @@ returns-clause-leads c = λ a s.
     let some = h.1 in
     let led = led_telling c.args.self.now c.ready.new.self _ c.args.place c.in_ok-i.i (lengths None) there
     (record { place = there.place; left = there.left - 1; column = c.take_length-length.new.self })
-    (natural c.take_length-length.result) c.requires.place c.ready.ensures.below c.ready.ensures.below refl refl refl c.in_ok-i.ensures.found c.index_mut-open.ensures.value
+    (natural c.take_length-length.result) c.requires.place c.ready.ensures.below c.ready.ensures.below refl refl refl refl c.in_ok-i.ensures.found c.index_mut-open.ensures.value
     (record {
       place = refl;
       kind = c.take_length-length.ensures.kind;

@@ -16,7 +16,7 @@ use Rattle.bitcode_coder.specs.Spelling.{natural}
 use Rattle.bitcode_serde.specs.ReadingValues.{IsRefusalAt}
 use Rattle.bitcode_serde.proofs.CaseLemmas.{nothing, one_more_whole}
 use Rattle.bitcode_serde.proofs.ColumnLemmas.{passed_on}
-use Rattle.bitcode_serde.proofs.ValueLemmas.{refused_entry, still_there, continues_on, continues_stepped, enters_map, told_at, ReadsPairsAt, one_more_pair, key_stuck, value_stuck, map_read_at, map_stuck_at}
+use Rattle.bitcode_serde.proofs.ValueLemmas.{asked_alike, refused_entry, still_there, continues_on, continues_stepped, enters_map, told_at, ReadsPairsAt, one_more_pair, key_stuck, value_stuck, map_read_at, map_stuck_at}
 use Rattle.bitcode_serde.proofs.values.+read.Goals as goal
 
 pub read_map-returns-in_err-taken-clause-refused : goal.read_map-returns-in_err-taken-clause-refused
@@ -31,15 +31,15 @@ read_map-returns-in_err-taken-clause-refused t c =
 pub read_map-step-requires-2 : goal.read_map-step-requires-2
 read_map-step-requires-2 t c =
     still_there c.args.reader.now c.step.new.self c.args.place
-    (continues_stepped c.args.reader.now c.take_length.new.self c.step.new.self c.take_length.ensures.below c.in_ok-taken.ensures.sized c.step.ensures.columns
+    (continues_stepped c.args.reader.now c.take_length.new.self c.step.new.self c.take_length.ensures.below c.take_length.ensures.asked c.in_ok-taken.ensures.sized c.step.ensures.columns c.step.ensures.asked
     c.in_ok-keys.ensures.kept) c.requires.place
 
 pub read_map-read-requires : goal.read_map-read-requires
 read_map-read-requires t c =
     let k = still_there c.step.new.self c.step-2.new.self c.in_ok-keys.keys
-    (continues_stepped c.step.new.self c.step.new.self c.step-2.new.self refl
-    (continues_stepped c.args.reader.now c.take_length.new.self c.step.new.self c.take_length.ensures.below c.in_ok-taken.ensures.sized c.step.ensures.columns
-    c.in_ok-keys.ensures.kept).steady.sized c.step-2.ensures.columns c.in_ok-values.ensures.kept) c.in_ok-keys.ensures.found.0 in
+    (continues_stepped c.step.new.self c.step.new.self c.step-2.new.self refl (asked_alike c.step.new.self)
+    (continues_stepped c.args.reader.now c.take_length.new.self c.step.new.self c.take_length.ensures.below c.take_length.ensures.asked c.in_ok-taken.ensures.sized c.step.ensures.columns c.step.ensures.asked
+    c.in_ok-keys.ensures.kept).steady.sized c.step-2.ensures.columns c.step-2.ensures.asked c.in_ok-values.ensures.kept) c.in_ok-keys.ensures.found.0 in
     let h = still_there c.step-2.new.self c.loop-i.reader c.in_ok-keys.keys c.loop-i.invariant.0 k in
     let s = c.loop-i.invariant.0.steady in
     search (rules, h, s)
@@ -107,10 +107,10 @@ pub read_map-returns-clause-continues : goal.read_map-returns-clause-continues
 read_map-returns-clause-continues t c =
     continues_on c.args.reader.now c.step-2.new.self c.loop-i.reader
     (continues_on c.args.reader.now c.step.new.self c.step-2.new.self
-    (continues_stepped c.args.reader.now c.take_length.new.self c.step.new.self c.take_length.ensures.below c.in_ok-taken.ensures.sized c.step.ensures.columns
-    c.in_ok-keys.ensures.kept) (continues_stepped c.step.new.self c.step.new.self c.step-2.new.self refl
-    (continues_stepped c.args.reader.now c.take_length.new.self c.step.new.self c.take_length.ensures.below c.in_ok-taken.ensures.sized c.step.ensures.columns
-    c.in_ok-keys.ensures.kept).steady.sized c.step-2.ensures.columns c.in_ok-values.ensures.kept)) c.loop-i.invariant.0
+    (continues_stepped c.args.reader.now c.take_length.new.self c.step.new.self c.take_length.ensures.below c.take_length.ensures.asked c.in_ok-taken.ensures.sized c.step.ensures.columns c.step.ensures.asked
+    c.in_ok-keys.ensures.kept) (continues_stepped c.step.new.self c.step.new.self c.step-2.new.self refl (asked_alike c.step.new.self)
+    (continues_stepped c.args.reader.now c.take_length.new.self c.step.new.self c.take_length.ensures.below c.take_length.ensures.asked c.in_ok-taken.ensures.sized c.step.ensures.columns c.step.ensures.asked
+    c.in_ok-keys.ensures.kept).steady.sized c.step-2.ensures.columns c.step-2.ensures.asked c.in_ok-values.ensures.kept)) c.loop-i.invariant.0
 
 pub read_map-returns-clause-read : goal.read_map-returns-clause-read
 read_map-returns-clause-read t c =

@@ -1,0 +1,11 @@
+use Rattle.bitcode_tuples.proofs.StructLemmas.{struct_stopped, struct_refused, struct_exact}
+use Rattle.bitcode_by_hand.proofs.foo.FooDecoderView.read.Goals as goal
+
+pub returns-in_err-x-clause-refused : goal.returns-in_err-x-clause-refused
+returns-in_err-x-clause-refused c = struct_stopped _ _ _ c.from_residual.ensures.1 c.in_err-x.ensures.refused
+
+pub returns-in_err-y-clause-refused : goal.returns-in_err-y-clause-refused
+returns-in_err-y-clause-refused c = struct_refused _ _ _ c.from_residual-in_err-y.ensures.1 c.in_ok-x.ensures.read c.in_err-y.ensures.refused
+
+pub returns-in_err-y-clause-exact : goal.returns-in_err-y-clause-exact
+returns-in_err-y-clause-exact c = struct_exact _ _ _ _ c.from_residual-in_err-y.ensures.1 c.in_ok-x.ensures.read c.in_err-y.ensures.exact

@@ -1,0 +1,78 @@
+-- What is known of an input that was read strictly.
+use Rattle.std.proofs.Common.{◌≡◌, Bool, ◌≢◌, ◌⊎◌, inl, inr, ℕ, ◌<◌, ◌≤◌, List, [], ◌∷◌, ◌++◌, length, refl, sym, ◌∙◌, ap, subst, arith, ⊎_elim}
+use Rattle.std.proofs.lemmas.Bool.{cases_lt}
+use Rattle.std.proofs.lemmas.List.{nil_from_length, append-nil}
+use Rattle.bitcode_columns.specs.declared.error.Reason.{Reason}
+use Rattle.bitcode_columns.specs.declared.error.Reason.TheVariants.{OutOfMemory}
+use Rattle.bitcode_columns.specs.Reading.{Reads}
+use Rattle.bitcode_shapes.specs.Datum.{Datum}
+use Rattle.bitcode_shapes.specs.Lawful.{Lawful}
+use Rattle.bitcode_shapes.specs.Shape.{Shape, IsOf}
+use Rattle.std.proofs.lemmas.List.Elements.{All-cons, All-nil}
+use Rattle.bitcode_coder.specs.Coder.{IsReadingReason, IsReadingRefusal, TakesDatum}
+use Rattle.bitcode_coder.specs.Spelling.{Spells}
+use Rattle.bitcode_coder.specs.Strict.{StrictlySpells}
+use Rattle.bitcode_coder.proofs.StrictLawLemmas.{strict_is_text, written_strictly}
+use Rattle.bitcode_derive.specs.Whole.{SpellsDatum, IsEncodingOf, HasShortLengths}
+use Rattle.bitcode_derive.specs.Strict.{StrictlySpellsDatum, IsStrictDecodingOf, SpellsOtherwise, IsStrictRefusal, no_memory, none_spelled, MakesWhatItLists}
+
+memory_or_not : (reason : Reason) → (reason ≡ OutOfMemory) ⊎ (reason ≢ OutOfMemory)
+memory_or_not OutOfMemory = inl refl
+memory_or_not _ = inr (λ e. cc)
+
+nothing_left : (rest : List ℕ) → (0 < length rest → ⊥) → rest ≡ []
+nothing_left rest none = nil_from_length rest (⊎_elim (λ some. absurd (none some)) (λ h. omega arith) (cases_lt 0 (length rest)))
+
+module _ (own shape : Shape) (same : own ≡ shape) (bytes : List ℕ) where
+  pub strictly_found : {T : Type 0} (makes : Datum → T → Type 0) (t : T) (ds left : List Datum) (rest : List ℕ) → Reads (StrictlySpells own) 1 bytes ds rest
+      → (0 < length rest → ⊥) → TakesDatum makes t ds left → IsStrictDecodingOf makes shape bytes t
+  strictly_found makes t ds left rest r none taken =
+      let whole : bytes ≡ r.piece = r.whole ∙ ap (λ l. r.piece ++ l) (nothing_left rest none) ∙ append-nil r.piece in
+      let last : left ≡ [] = nil_from_length left (omega (arith, ap length taken.taken, r.size)) in
+      record {
+        datum = taken.datum;
+        spelled = subst (λ s. StrictlySpells s bytes (taken.datum ∷ [])) same
+            (subst (StrictlySpells own bytes) (taken.taken ∙ ap (λ l. taken.datum ∷ l) last) (subst (λ p. StrictlySpells own p ds) (sym whole) r.spelled));
+        made = taken.made;
+      }
+
+  pub spelled_otherwise : (ds : List Datum) (rest : List ℕ) → Reads (Spells own) 1 bytes ds rest → (0 < length rest → ⊥)
+      → (Reads (StrictlySpells own) 1 bytes ds rest → ⊥) → SpellsOtherwise shape bytes
+  spelled_otherwise [] rest r none not = absurd (omega (arith, r.size))
+  spelled_otherwise (d ∷ e ∷ ds) rest r none not = absurd (omega (arith, r.size))
+  spelled_otherwise (d ∷ []) (x ∷ rest) r none not = absurd (none (omega arith))
+  spelled_otherwise (d ∷ []) [] r none not = record {
+    datum = d;
+    spelled = subst (λ s. Spells s bytes (d ∷ [])) same (subst (λ p. Spells own p (d ∷ [])) (sym (r.whole ∙ append-nil r.piece)) r.spelled);
+    other = λ s. not (record { size = refl; piece = bytes; whole = sym (append-nil bytes); spelled = subst (λ x. StrictlySpells x bytes (d ∷ [])) (sym same) s });
+  }
+
+  pub strictly_refused : (reason : Reason) → IsReadingRefusal own reason 1 bytes → IsStrictRefusal shape reason bytes
+  strictly_refused reason refused =
+      ⊎_elim (λ memory. no_memory memory)
+      (λ other. none_spelled refused.0 (λ d s. refused.1 other (d ∷ []) []
+      (record { size = refl; piece = bytes; whole = sym (append-nil bytes); spelled = subst (λ x. Spells x bytes (d ∷ [])) (sym same) s })))
+      (memory_or_not reason)
+
+-- ---- what is read strictly is what is written
+
+pub strictly_written : {T : Type 0} {shape : Shape} {lists : T → Datum → Type 0} {makes : Datum → T → Type 0} (t : T) (bytes : List ℕ) → MakesWhatItLists lists makes
+    → IsStrictDecodingOf makes shape bytes t → IsEncodingOf lists shape t bytes
+strictly_written {shape = shape} t bytes same s = record {
+  datum = s.datum;
+  listing = (same t s.datum).1 s.made;
+  counts = s.spelled.counts;
+  written = (strict_is_text shape bytes (s.datum ∷ []) s.spelled).1;
+}
+
+pub strictly_read : {T : Type 0} {shape : Shape} {is_value : T → Type 0} {lists : T → Datum → Type 0} {same : T → T → Type 0} {in_order : Bool} {makes : Datum → T → Type 0}
+    → Lawful shape is_value lists same in_order → (t : T) (bytes : List ℕ) → is_value t → MakesWhatItLists lists makes → HasShortLengths lists shape t
+    → IsEncodingOf lists shape t bytes → IsStrictDecodingOf makes shape bytes t
+strictly_read {shape = shape} lawful t bytes v same short e =
+    let is_of : IsOf shape e.datum = lawful.of_shape t e.datum v e.listing in
+    record {
+      datum = e.datum;
+      spelled = subst (λ b. StrictlySpells shape b (e.datum ∷ [])) (sym e.written)
+          (written_strictly shape lawful.sound (e.datum ∷ []) (All-cons (IsOf shape) e.datum [] is_of (All-nil (IsOf shape))) e.counts (short e.datum e.listing));
+      made = (same t e.datum).0 e.listing;
+    }

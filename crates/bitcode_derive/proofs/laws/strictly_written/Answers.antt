@@ -1,0 +1,9 @@
+-- The texts of the one listing.
+use Rattle.bitcode_derive.proofs.StrictLemmas.{strictly_written, strictly_read}
+use Rattle.bitcode_derive.proofs.laws.strictly_written.Goals as goal
+
+pub returns-clause-written : goal.returns-clause-written
+returns-clause-written g c = strictly_written c.args.t.now c.args.bytes.now
+
+pub returns-clause-read : goal.returns-clause-read
+returns-clause-read g c = strictly_read g.met.T.Shaped.lawful c.args.t.now c.args.bytes.now c.told.ensures

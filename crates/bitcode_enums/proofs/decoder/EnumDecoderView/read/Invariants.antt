@@ -1,0 +1,16 @@
+-- The payloads of the variants up to the one at hand were read.
+use Rattle.std.proofs.Common.{◌≡◌, IsTrue, length}
+use Rattle.bitcode_columns.specs.Reading.{IsEndOf}
+use Rattle.bitcode_parts.specs.Variants.{variants_left}
+use Rattle.bitcode_enums.proofs.PayloadReadingLemmas.{ReadTo}
+use Rattle.bitcode_enums.proofs.StrictLemmas.{JudgedTo}
+use Rattle.bitcode_enums.proofs.decoder.EnumDecoderView.read.Given as goal
+
+abbrev pub invariant-loop-number : goal.invariant-loop-number
+invariant-loop-number g l = record {
+  size : length (g.D.AllPayloads.held.lists l.self.payloads) ≡ g.row.N;
+  variants : l.self.variants ≡ l.initial.self.variants;
+  read : ReadTo g.T.Enum.each.variants.shapes g.D.AllPayloads.held.faults (variants_left l.initial.self.variants) l.initial.input.now l.number (g.D.AllPayloads.held.lists l.self.payloads) l.input.now;
+  rest : IsEndOf l.initial.input.now l.input.now;
+  judged : IsTrue l.strict → JudgedTo g.T.Enum.each.variants.shapes l.initial.input.now l.initial.written l.number (g.D.AllPayloads.held.lists l.self.payloads) l.written l.input.now;
+}

@@ -1,6 +1,0 @@
--- No columns have entries.
-use Rattle.bitcode_enums.proofs.NumberedLemmas.{bare_all}
-use Rattle.bitcode_enums.proofs.numbered.encoder.NumberedColumnsBuffer.new.Goals as goal
-
-pub returns-clause-empty : goal.returns-clause-empty
-returns-clause-empty g c = bare_all (g.C.AllColumns.held.lists c.new.result) c.new.ensures.empty

@@ -1,0 +1,19 @@
+-- Where no room can be made for a payload whatever it is, none can be made for this one.
+use Rattle.std.proofs.lemmas.Result.{err_from_is_err_and}
+use Rattle.bitcode_coder.proofs.RefusalLemmas.{refusal_weaker}
+use Rattle.bitcode_parts.proofs.ChoiceWritingLemmas.{overflows_surely}
+use Rattle.bitcode_enums.proofs.writes.encode_payload_fields.Goals as goal
+
+pub returns-in_err-reserve-clause-refused : goal.returns-in_err-reserve-clause-refused
+returns-in_err-reserve-clause-refused g c =
+    let refused = err_from_is_err_and c.from_residual.result c.from_residual.ensures.1 in
+    let whole = g.F.Fields.whole c.args.fields.now in
+    let listed = g.met.F.Whole.Shaped.lawful.listed whole c.told.ensures in
+    let of_shape = g.met.F.Whole.Shaped.lawful.of_shape whole listed.0 c.told.ensures listed.1 in
+    rw (refused.1, refused.2) (
+    refusal_weaker _ (λ surely. record {
+      datum = listed.0;
+      listing = listed.1;
+      overflows = overflows_surely g.F.Whole.Shaped.shape (g.E.HoldsColumns.columns c.args.columns.now) listed.0 of_shape (g.met.E.Encoder.surely c.args.columns.now 1 surely);
+    }) c.in_err-reserve.ensures.refused
+    )

@@ -1,0 +1,78 @@
+-- The columns and the payloads of variants that follow each other, by the place of a variant among them.
+use Rattle.std.specs.Prelude.{◌≡◌, ℕ, zero, suc, List, [], ◌∷◌, slice_index_or, slice_set, ◌⊎◌}
+use Rattle.std.proofs.Common.{inl, inr}
+use Rattle.bitcode_columns.specs.declared.error.Reason.{Reason}
+use Rattle.bitcode_shapes.specs.Datum.{Datum}
+use Rattle.bitcode_shapes.specs.Shape.{Shape, Shapes, no_shapes, shape_and, never_shape}
+use Rattle.bitcode_coder.specs.Columns.{Columns, no_columns, two}
+use Rattle.bitcode_coder.specs.Coder.{written_columns}
+use Rattle.bitcode_enums.specs.Reading.{EitherFault}
+
+-- ---- by place
+
+-- which of several variants a payload is of: the first one, or one of the rest
+abbrev pub index_either : {A R : Type 0} → (R → ℕ) → A ⊎ R → ℕ
+index_either index (inl a) = zero
+index_either index (inr r) = suc (index r)
+
+-- the shape of the variant at a place
+abbrev pub shape_at : ℕ → Shapes → Shape
+shape_at place no_shapes = never_shape
+shape_at zero (shape_and s ss) = s
+shape_at (suc place) (shape_and s ss) = shape_at place ss
+
+-- the columns of the variant at a place
+abbrev pub columns_at : ℕ → List Columns → Columns
+columns_at place lists = slice_index_or lists place no_columns
+
+-- nothing changed but what stands at a place
+abbrev pub KeepsOthers : {A : Type 0} → A → ℕ → (old new : List A) → Type 0
+KeepsOthers none place old new = new ≡ slice_set old place (slice_index_or new place none)
+
+-- ---- writing
+
+-- the columns of each variant, those of the first one first
+abbrev pub all_columns : List Columns → Columns
+all_columns [] = no_columns
+all_columns (c ∷ cs) = two c (all_columns cs)
+
+-- the columns of each variant, without entries
+abbrev pub bare_columns : Shapes → List Columns
+bare_columns no_shapes = []
+bare_columns (shape_and s ss) = written_columns s [] ∷ bare_columns ss
+
+-- what is said of the columns of the variant that a payload is of
+abbrev pub joins_either : {A R : Type 0} → (A → Columns → Columns → Type 0) → (R → Columns → Columns → Type 0) → A ⊎ R → Columns → Columns → Type 0
+joins_either joins_first joins_rest (inl a) = joins_first a
+joins_either joins_first joins_rest (inr r) = joins_rest r
+
+abbrev pub overflows_either : {A R : Type 0} → (A → Columns → Type 0) → (R → Columns → Type 0) → A ⊎ R → Columns → Type 0
+overflows_either overflows_first overflows_rest (inl a) = overflows_first a
+overflows_either overflows_first overflows_rest (inr r) = overflows_rest r
+
+-- ---- reading
+
+-- what is said of the data of the variant that a payload is of, from which it was taken
+abbrev pub takes_either : {A R : Type 0} → (A → List Datum → List Datum → Type 0) → (R → List Datum → List Datum → Type 0) → A ⊎ R → List Datum → List Datum → Type 0
+takes_either takes_first takes_rest (inl a) = takes_first a
+takes_either takes_first takes_rest (inr r) = takes_rest r
+
+-- what is at fault in the data of each variant
+abbrev pub fault_and : (Reason → ℕ → List ℕ → Type 0) → (ℕ → Reason → ℕ → List ℕ → Type 0) → ℕ → Reason → ℕ → List ℕ → Type 0
+fault_and first_fault rest_faults zero = first_fault
+fault_and first_fault rest_faults (suc place) = rest_faults place
+
+abbrev pub no_faults : ℕ → Reason → ℕ → List ℕ → Type 0
+no_faults place reason k input = ⊥
+
+-- those of the variants before a number, and those of the others
+abbrev pub faults_behind : (number : ℕ) → (first_faults second_faults : ℕ → Reason → ℕ → List ℕ → Type 0) → ℕ → Reason → ℕ → List ℕ → Type 0
+faults_behind zero first_faults second_faults place = second_faults place
+faults_behind (suc number) first_faults second_faults zero = first_faults zero
+faults_behind (suc number) first_faults second_faults (suc place) = faults_behind number (λ n. first_faults (suc n)) (λ n. second_faults (suc n)) place
+
+-- the payloads of a variant are at fault, behind those of the variants before it
+abbrev pub PayloadsFault : Shapes → (ℕ → Reason → ℕ → List ℕ → Type 0) → Reason → (first : ℕ) (variants input : List ℕ) → Type 0
+PayloadsFault no_shapes faults reason first variants input = ⊥
+PayloadsFault (shape_and s ss) faults reason first variants input =
+    EitherFault s (faults zero) (PayloadsFault ss (λ number. faults (suc number))) reason first variants input

@@ -1,0 +1,84 @@
+-- Worked rows: what an enum of three variants says of them, computed from the definitions.
+use Rattle.std.specs.Prelude.{◌≡◌, ℕ, List, [], ◌∷◌, false, pos, refl}
+use Rattle.bitcode_columns.specs.declared.error.Reason.{Reason}
+use Rattle.bitcode_shapes.specs.Datum.{number, unit}
+use Rattle.bitcode_shapes.specs.Shape.{variant_count}
+use Rattle.bitcode_shapes.specs.Ints.{int_shape}
+use Rattle.bitcode_shapes.specs.LawfulEmpty.{unit_lawful, unit_makeable}
+use Rattle.bitcode_shapes.specs.LawfulInts.{width_1, int_lawful, unsigned_makeable}
+use Rattle.bitcode_shapes.specs.PayloadOf.{PayloadOf, payload_of}
+use Rattle.bitcode_shapes.specs.SameArrays.{one_datum_same_arrays}
+use Rattle.bitcode_coder.specs.Coder.{JoinsListing}
+use Rattle.bitcode_coder.specs.Columns.{Columns, no_columns}
+use Rattle.bitcode_enums.specs.EachVariant.{Payloads, last_payload, payload_and, PayloadAt, each_variant}
+use Rattle.bitcode_enums.specs.ByNumber.{shape_at, columns_at, KeepsOthers, fault_and, no_faults}
+use Rattle.bitcode_enums.specs.VariantsOf.{VariantsOf}
+
+data Shot : Type 0 where
+  missed : Shot
+  hit : ℕ → Shot
+  fell : ℕ → Shot
+
+abbrev nothing : PayloadOf (Unit {0})
+nothing = payload_of unit_lawful (unit_makeable (record {})) one_datum_same_arrays
+
+abbrev byte : PayloadOf ℕ
+byte = payload_of (int_lawful pos 1 false width_1) (unsigned_makeable 1) one_datum_same_arrays
+
+abbrev payloads : Payloads
+payloads = payload_and nothing (payload_and byte (last_payload byte))
+
+abbrev shots : VariantsOf Shot
+shots = (each_variant payloads (λ at. elim [ missed ↦ at 0 tt | hit a ↦ at 1 a | fell a ↦ at 2 a ]) ((λ p. (missed, refl)), ((λ p. (hit p, refl)), λ p. (fell p, refl)))).variants
+
+-- ---- the numbers of the variants, and the shapes of their payloads
+
+row_count : variant_count shots.shapes ≡ 3
+row_count = refl
+
+row_missed : shots.index missed ≡ 0
+row_missed = refl
+
+row_hit : shots.index (hit 7) ≡ 1
+row_hit = refl
+
+row_fell : shots.index (fell 7) ≡ 2
+row_fell = refl
+
+row_shape : shape_at 1 shots.shapes ≡ int_shape 1 false
+row_shape = refl
+
+row_payload : PayloadAt payloads 2 ≡ ℕ
+row_payload = refl
+
+-- no variant has the number 3
+row_none : PayloadAt payloads 3 ≡ ⊥
+row_none = refl
+
+-- ---- what a value lists, and what it joins to the columns of its variant
+
+row_lists : shots.lists (hit 7) 1 (number (pos 7))
+row_lists = refl
+
+row_lists_nothing : shots.lists missed 0 unit
+row_lists_nothing = refl
+
+row_joins : (old new : Columns) → shots.joins (fell 7) old new ≡ JoinsListing byte.lists byte.shape 7 old new
+row_joins old new = refl
+
+-- ---- by place
+
+row_place : (c d : Columns) → columns_at 1 (c ∷ d ∷ []) ≡ d
+row_place c d = refl
+
+row_place_past : (c d : Columns) → columns_at 2 (c ∷ d ∷ []) ≡ no_columns
+row_place_past c d = refl
+
+row_keeps : KeepsOthers {A = ℕ} 0 1 (5 ∷ 6 ∷ 7 ∷ []) (5 ∷ 9 ∷ 7 ∷ [])
+row_keeps = refl
+
+row_changes : KeepsOthers {A = ℕ} 0 1 (5 ∷ 6 ∷ 7 ∷ []) (5 ∷ 9 ∷ 8 ∷ []) → ⊥
+row_changes e = cc
+
+row_fault : (first second : Reason → ℕ → List ℕ → Type 0) → fault_and first (fault_and second no_faults) 1 ≡ second
+row_fault first second = refl

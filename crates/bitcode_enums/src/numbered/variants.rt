@@ -1,6 +1,0 @@
-//! Two to six variants that follow each other: their encoders and their decoders.
-pub mod of_2;
-pub mod of_3;
-pub mod of_4;
-pub mod of_5;
-pub mod of_6;

@@ -1,0 +1,236 @@
+// Written by scripts/tables/variants.
+//! The coders of two variants that follow each other.
+ghost use Rattle.std.specs.Prelude.{◌≡◌, ◌+◌, ◌-◌, ◌&&◌, [], ◌∷◌, true, OnOk, IfErr};
+ghost use Rattle.bitcode_coder.specs.Columns.{no_columns, emptied};
+ghost use Rattle.bitcode_coder.specs.Coder.{IsWritingRefusal};
+ghost use Rattle.bitcode_enums.specs.ByNumber.{columns_at, fault_and, no_faults, KeepsOthers};
+ghost use Rattle.bitcode_enums.specs.VariantsOf.{IsVariant};
+ghost use Rattle.bitcode_enums.specs.OneOf.{of_one_of_2};
+ghost use Rattle.bitcode_enums.specs.ByNumberLaws.{not_past, size_between};
+
+use crate::columns::VariantColumns;
+use crate::held::Enum;
+use crate::payloads::VariantPayloads;
+use crate::place::Place;
+use crate::writes::{WritesVariants, encode_payload_fields};
+use bitcode_coder::coder::{Buffer, Decoder, Encoder, HoldsColumns, HoldsData, View};
+use bitcode_columns::error::Error;
+use bitcode_derive::derive::{HasDecoder, HasEncoder};
+use bitcode_shapes::shaped::{Made, Shaped};
+use bitcode_tuples::fields::{Fields, FieldsEncoder};
+use std::alloc::Global;
+use std::marker::PhantomData;
+
+/// The encoders of two variants that follow each other, from the number `O` on. The other type parameters are the encoders; `EncodersOf2`
+/// names it by the payloads.
+#[derive(Drop)]
+pub struct Encoders2<O, E1, E2> {
+    first: E1,
+    second: E2,
+    of: PhantomData<O>,
+}
+
+/// The encoders of two variants that follow each other, by the types of their payloads.
+pub type EncodersOf2<O, P1, P2> = Encoders2<
+    O,
+    <P1 as HasEncoder>::Encoder,
+    <P2 as HasEncoder>::Encoder,
+>;
+
+/// The decoders of two variants that follow each other, from the number `O` on. `P` is the tuple of their payloads, and the other type
+/// parameters are the decoders; `DecodersOf2` names it by the payloads alone.
+#[derive(Drop)]
+pub struct Decoders2<O, P, D1, D2> {
+    first: D1,
+    second: D2,
+    of: PhantomData<(O, P)>,
+}
+
+/// The decoders of two variants that follow each other, by the types of their payloads.
+pub type DecodersOf2<'a, O, P1, P2> = Decoders2<
+    O,
+    (P1, P2),
+    <P1 as HasDecoder<'a>>::Decoder,
+    <P2 as HasDecoder<'a>>::Decoder,
+>;
+
+/// The payload of one of two variants.
+pub enum OneOf2<P1, P2> {
+    First(P1),
+    Second(P2),
+}
+
+/// An enum that has two variants that follow each other, from the number `O` on. The other type parameters are those of their payloads:
+/// `()` for a variant without fields, the field where it is one, and else the tuple of the fields. Of an enum of two variants:
+///
+/// ```
+/// impl Variants2<At<0>, (), u8> for Shot {
+///     ghost values = { (λ p. Shot.Missed, λ p. Shot.Hit p) };
+///
+///     fn of_payload(payload: OneOf2<(), u8>) -> Self
+///         ensures { result ≡ of_one_of_2 (λ p. Shot.Missed) (λ p. Shot.Hit p) payload }
+///     {
+///         match payload {
+///             OneOf2::First(()) => Shot::Missed,
+///             OneOf2::Second(damage) => Shot::Hit(damage),
+///         }
+///     }
+///
+///     ghost are = { (is_variant refl (λ p. refl) (λ p old new h. h) (λ p old h. h) (λ p old new h. h), is_variant refl (λ p. refl) (λ p old new h. h) (λ p old h. h) (λ p old new h. h)) };
+/// }
+/// ```
+pub trait Variants2<O: Place, P1: Made, P2: Made>: Enum {
+    // the value of each of these variants that has a payload
+    ghost values: { (P1 → Self) × (P2 → Self) };
+
+    /// The value that has such a payload.
+    fn of_payload(payload: OneOf2<P1, P2>) -> Self
+        ensures { result ≡ of_one_of_2 values.0 values.1 payload };
+
+    // these are the variants of the numbers from `O` on
+    ghost are: { IsVariant Self.Enum.each.variants O.first P1.shape P1.lists P1.makes values.0 × IsVariant Self.Enum.each.variants (O.first + 1) P2.shape P2.lists P2.makes values.1 };
+}
+
+impl<O: Place, E1: Buffer, E2: Buffer> Encoders2<O, E1, E2> {
+    /// Makes room for the payload of a value of the first of the variants, and joins its columns to those of the variant.
+    ///
+    /// It refuses as [`WritesVariants::write`] does.
+    ///
+    /// ```
+    /// Order::First(field) => to.encode_first(self, &field),
+    /// ```
+    pub fn encode_first<P1: Made, P2: Made, T: Variants2<O, P1, P2>, F: Fields<Whole = P1>>(
+        &mut self,
+        t: &T,
+        fields: &F,
+    ) -> Result<(), Error>
+    where
+        E1: Encoder<P1> + FieldsEncoder<F>,
+        requires { t.now ≡ T.values.0 (F.whole fields.now) }
+        ensures others { KeepsOthers no_columns (T.each.variants.index t.now - O.first) (⟦<Encoders2<O, E1, E2> as VariantColumns>⟧.columns.lists self.old) (⟦<Encoders2<O, E1, E2> as VariantColumns>⟧.columns.lists self.new) }
+        ensures joined { OnOk result (T.each.variants.joins t.now (columns_at (T.each.variants.index t.now - O.first) (⟦<Encoders2<O, E1, E2> as VariantColumns>⟧.columns.lists self.old)) (columns_at (T.each.variants.index t.now - O.first) (⟦<Encoders2<O, E1, E2> as VariantColumns>⟧.columns.lists self.new))) }
+        ensures form { emptied (columns_at (T.each.variants.index t.now - O.first) (⟦<Encoders2<O, E1, E2> as VariantColumns>⟧.columns.lists self.new)) ≡ emptied (columns_at (T.each.variants.index t.now - O.first) (⟦<Encoders2<O, E1, E2> as VariantColumns>⟧.columns.lists self.old)) }
+        ensures refused { IfErr result (λ e. IsWritingRefusal e.reason (T.each.variants.overflows t.now (columns_at (T.each.variants.index t.now - O.first) (⟦<Encoders2<O, E1, E2> as VariantColumns>⟧.columns.lists self.old)))) }
+    {
+        encode_payload_fields(&mut self.first, fields)
+    }
+
+    /// Makes room for the payload of a value of the second of the variants, and joins its columns to those of the variant.
+    ///
+    /// It refuses as [`WritesVariants::write`] does.
+    ///
+    /// ```
+    /// Order::Second(field) => to.encode_second(self, &field),
+    /// ```
+    pub fn encode_second<P1: Made, P2: Made, T: Variants2<O, P1, P2>, F: Fields<Whole = P2>>(
+        &mut self,
+        t: &T,
+        fields: &F,
+    ) -> Result<(), Error>
+    where
+        E2: Encoder<P2> + FieldsEncoder<F>,
+        requires { t.now ≡ T.values.1 (F.whole fields.now) }
+        ensures others { KeepsOthers no_columns (T.each.variants.index t.now - O.first) (⟦<Encoders2<O, E1, E2> as VariantColumns>⟧.columns.lists self.old) (⟦<Encoders2<O, E1, E2> as VariantColumns>⟧.columns.lists self.new) }
+        ensures joined { OnOk result (T.each.variants.joins t.now (columns_at (T.each.variants.index t.now - O.first) (⟦<Encoders2<O, E1, E2> as VariantColumns>⟧.columns.lists self.old)) (columns_at (T.each.variants.index t.now - O.first) (⟦<Encoders2<O, E1, E2> as VariantColumns>⟧.columns.lists self.new))) }
+        ensures form { emptied (columns_at (T.each.variants.index t.now - O.first) (⟦<Encoders2<O, E1, E2> as VariantColumns>⟧.columns.lists self.new)) ≡ emptied (columns_at (T.each.variants.index t.now - O.first) (⟦<Encoders2<O, E1, E2> as VariantColumns>⟧.columns.lists self.old)) }
+        ensures refused { IfErr result (λ e. IsWritingRefusal e.reason (T.each.variants.overflows t.now (columns_at (T.each.variants.index t.now - O.first) (⟦<Encoders2<O, E1, E2> as VariantColumns>⟧.columns.lists self.old)))) }
+    {
+        encode_payload_fields(&mut self.second, fields)
+    }
+}
+
+impl<O: Place, E1: Buffer, E2: Buffer> VariantColumns for Encoders2<O, E1, E2> {
+    ghost first = { O.first };
+
+    ghost end = { O.first + 2 };
+
+    ghost in_turn = { true };
+
+    ghost columns = { record { lists = λ e. E1.columns e.first ∷ E2.columns e.second ∷ []; capacity = λ e. E1.capacity e.first + E2.capacity e.second } };
+
+    fn new(alloc: Global) -> Self {
+        Encoders2 {
+            first: E1::new(alloc),
+            second: E2::new(alloc),
+            of: PhantomData,
+        }
+    }
+
+    fn first(&self) -> usize {
+        O::first()
+    }
+
+    fn collect_payloads(&mut self, number: usize, out: &mut Vec<u8>) -> Result<(), Error> {
+        match number - O::first() {
+            0 => self.first.collect_into(out),
+            1 => self.second.collect_into(out),
+            _ => unreachable!(),
+        }
+    }
+
+    fn clear_payloads(&mut self, number: usize) {
+        match number - O::first() {
+            0 => self.first.clear(),
+            1 => self.second.clear(),
+            _ => unreachable!(),
+        }
+    }
+
+    ghost ordered = { λ turn. not_past O.first 2 };
+
+    ghost sized = { λ turn e. size_between O.first 2 };
+}
+
+impl<
+    'a,
+    O: Place,
+    P1: Made,
+    P2: Made,
+    D1: View<'a> + Decoder<P1>,
+    D2: View<'a> + Decoder<P2>,
+    T: Variants2<O, P1, P2>,
+> VariantPayloads<'a, T> for Decoders2<O, (P1, P2), D1, D2> {
+    ghost first = { O.first };
+
+    ghost end = { O.first + 2 };
+
+    ghost in_turn = { true };
+
+    ghost held = { record { lists = λ d. D1.held d.first ∷ D2.held d.second ∷ []; owned = λ d. D1.owned d.first + D2.owned d.second; faults = λ n. (fault_and D1.faults (fault_and D2.faults (no_faults))) (n - O.first); makes_free = D1.makes_free && D2.makes_free } };
+
+    fn new(alloc: Global) -> Self {
+        Decoders2 {
+            first: D1::new(alloc),
+            second: D2::new(alloc),
+            of: PhantomData,
+        }
+    }
+
+    fn first(&self) -> usize {
+        O::first()
+    }
+
+    fn read_payloads(
+        &mut self,
+        number: usize,
+        input: &mut &'a [u8],
+        k: usize,
+        strict: bool,
+    ) -> Result<bool, Error> {
+        match number - O::first() {
+            0 => self.first.read(input, k, strict),
+            1 => self.second.read(input, k, strict),
+            _ => unreachable!(),
+        }
+    }
+
+    fn decode_payload(&mut self, number: usize) -> Result<T, Error> {
+        match number - O::first() {
+            0 => Ok(T::of_payload(OneOf2::First(self.first.decode()?))),
+            1 => Ok(T::of_payload(OneOf2::Second(self.second.decode()?))),
+            _ => unreachable!(),
+        }
+    }
+
+    fn sized(&self) {}
+}

@@ -1,0 +1,82 @@
+//! Enums that write the payloads of their variants, by the numbers of these.
+ghost use Rattle.std.specs.Prelude.{◌≡◌, ◌-◌, ◌<◌, ◌≤◌, map, IsTrue, OnOk, IfErr};
+ghost use Rattle.bitcode_coder.specs.Columns.{no_columns, emptied};
+ghost use Rattle.bitcode_coder.specs.Coder.{IsWritingRefusal, JoinsListing, OverflowsWithListing};
+ghost use Rattle.bitcode_enums.specs.ByNumber.{columns_at, bare_columns, KeepsOthers};
+
+use crate::columns::{AllColumns, VariantColumns};
+use crate::held::{Enum, EnumOf};
+use bitcode_coder::coder::{Buffer, Encoder, HoldsColumns};
+use bitcode_columns::error::Error;
+use bitcode_shapes::shaped::Shaped;
+use bitcode_tuples::fields::{Fields, FieldsEncoder};
+
+/// An enum that writes the payloads of variants which follow each other, to the columns of these: it says how to each group of up to six variants, and
+/// the library to [`Halves`](crate::halves::Halves) of these.
+///
+/// ```
+/// impl WritesVariants<Columns> for Shot {
+///     fn write(&self, to: &mut Columns) -> Result<(), Error> {
+///         match self {
+///             Shot::Missed => to.encode_first(self, &&()),
+///             Shot::Hit(damage) => to.encode_second(self, &damage),
+///         }
+///     }
+/// }
+/// ```
+pub trait WritesVariants<C: VariantColumns>: Enum {
+    /// Makes room for the payload of a value of these variants in the columns of its variant, and joins its columns to those.
+    ///
+    /// Want of memory is `out of memory`, and `length overflow` comes only where a number of arrays times their size is
+    /// over 18446744073709551615.
+    fn write(&self, to: &mut C) -> Result<(), Error>
+        requires turn { IsTrue C.in_turn }
+        requires among { (C.first ≤ Self.each.variants.index self.now) × (Self.each.variants.index self.now < C.end) }
+        ensures others { KeepsOthers no_columns (Self.each.variants.index self.now - C.first) (C.columns.lists to.old) (C.columns.lists to.new) }
+        ensures joined { OnOk result (Self.each.variants.joins self.now (columns_at (Self.each.variants.index self.now - C.first) (C.columns.lists to.old)) (columns_at (Self.each.variants.index self.now - C.first) (C.columns.lists to.new))) }
+        ensures form { emptied (columns_at (Self.each.variants.index self.now - C.first) (C.columns.lists to.new)) ≡ emptied (columns_at (Self.each.variants.index self.now - C.first) (C.columns.lists to.old)) }
+        ensures refused { IfErr result (λ e. IsWritingRefusal e.reason (Self.each.variants.overflows self.now (columns_at (Self.each.variants.index self.now - C.first) (C.columns.lists to.old)))) };
+}
+
+/// An enum that writes the payloads of all its variants, to columns of its own.
+///
+/// ```
+/// impl WritesPayloads<2, ShotColumns> for Shot {
+///     fn write_payload(&self, to: &mut ShotColumns) -> Result<(), Error> {
+///         WritesVariants::<Columns>::write(self, &mut to.all)
+///     }
+///
+///     ghost of_shapes = { λ c. refl };
+/// }
+/// ```
+pub trait WritesPayloads<const N: usize, C: AllColumns<N>>: EnumOf<N> {
+    /// Makes room for the payload of the value in the columns of its variant, and joins its columns to those.
+    ///
+    /// It refuses as [`WritesVariants::write`] does.
+    fn write_payload(&self, to: &mut C) -> Result<(), Error>
+        ensures others { KeepsOthers no_columns (Self.each.variants.index self.now) (C.held.lists to.old) (C.held.lists to.new) }
+        ensures joined { OnOk result (Self.each.variants.joins self.now (columns_at (Self.each.variants.index self.now) (C.held.lists to.old)) (columns_at (Self.each.variants.index self.now) (C.held.lists to.new))) }
+        ensures form { emptied (columns_at (Self.each.variants.index self.now) (C.held.lists to.new)) ≡ emptied (columns_at (Self.each.variants.index self.now) (C.held.lists to.old)) }
+        ensures refused { IfErr result (λ e. IsWritingRefusal e.reason (Self.each.variants.overflows self.now (columns_at (Self.each.variants.index self.now) (C.held.lists to.old)))) };
+
+    // without entries they are the columns of what the payloads have
+    ghost of_shapes: { (c : C) → map emptied (C.held.lists c) ≡ bare_columns Self.Enum.each.variants.shapes };
+}
+
+/// Makes room for a payload whose fields lie apart, and joins its columns to those so far.
+///
+/// ```
+/// encode_payload_fields(&mut columns, &(&damage, &from))
+/// ```
+pub fn encode_payload_fields<F: Fields, E: Buffer + Encoder<F::Whole> + FieldsEncoder<F>>(
+    columns: &mut E,
+    fields: &F,
+) -> Result<(), Error>
+    ensures joined { OnOk result (JoinsListing F.Whole.lists F.Whole.shape (F.whole fields.now) (E.HoldsColumns.columns columns.old) (E.HoldsColumns.columns columns.new)) }
+    ensures form { emptied (E.HoldsColumns.columns columns.new) ≡ emptied (E.HoldsColumns.columns columns.old) }
+    ensures refused { IfErr result (λ e. IsWritingRefusal e.reason (OverflowsWithListing F.Whole.lists F.Whole.shape (F.whole fields.now) (E.HoldsColumns.columns columns.old))) }
+{
+    fields.told();
+    columns.reserve(1)?;
+    columns.encode_fields(fields)
+}

@@ -1,0 +1,13 @@
+-- A map is read as the list of its entries.
+use Rattle.std.proofs.lemmas.Result.{IfErr-weaker, on_ok_weaker}
+use Rattle.bitcode_maps.proofs.ReadingLemmas.{reads_map, refuses_map}
+use Rattle.bitcode_maps.proofs.map.MapDecoderView.read.Goals as goal
+
+pub returns-clause-read : goal.returns-clause-read
+returns-clause-read g c = on_ok_weaker c.read.result (reads_map g.K.HoldsData.shape g.V.HoldsData.shape c.args.k c.args.input.now.now c.read.new.input.now _) c.read.ensures.read
+
+pub returns-clause-refused : goal.returns-clause-refused
+returns-clause-refused g c = IfErr-weaker c.read.result _ _ (λ e h. refuses_map g.K.HoldsData.shape g.V.HoldsData.shape c.args.k c.args.input.now.now e.reason h) c.read.ensures.refused
+
+pub returns-clause-judged : goal.returns-clause-judged
+returns-clause-judged g c = c.read.ensures.judged
