@@ -9,5 +9,6 @@ pub mod ListLimitLemmas
 pub mod ListLemmas
 pub mod ListWritingLemmas
 pub mod MapLemmas
+pub mod GatheredPairLemmas
 pub mod ArrayLemmas
 pub mod ArrayReadingLemmas
