@@ -9,6 +9,7 @@ use Rattle.std.proofs.lemmas.Result.{on_ok_weaker}
 use Rattle.std.proofs.lemmas.Simd.{map-map}
 use Rattle.bitcode_columns.specs.ByteColumn.{SpellsBytes, byte_text}
 use Rattle.bitcode_columns.specs.IntColumn.{int_text}
+use Rattle.bitcode_columns.specs.LittleEndian.{raw_text}
 use Rattle.bitcode_columns.specs.declared.error.Reason.{Reason}
 use Rattle.bitcode_columns.specs.Reading.{Reads, IsEndOf}
 use Rattle.bitcode_shapes.specs.Datum.{natural_in}
@@ -79,6 +80,12 @@ unfolding length_bytes
 length_bytes-parts short large split =
     ap (λ bytes. byte_text bytes ++ int_text 8 (map pos large)) (ap (map pos) split.shorts ∙ map-map pos short_byte (lengths_from short large))
     ∙ ap (λ numbers. byte_text (map (λ n. pos (min n escape)) (lengths_from short large)) ++ int_text 8 (map pos numbers)) split.larges
+
+-- no large lengths take no bytes
+pub no_large : (large : List ℕ) → length large ≡ 0 → int_text 8 (map pos large) ≡ []
+unfolding int_text raw_text
+no_large [] none = refl
+no_large (n ∷ large) none = absurd (omega arith)
 
 pub naturals_in : (ns : List ℕ) → map natural_in (map natural ns) ≡ ns
 naturals_in ns = map-map natural_in natural ns ∙ map-id ns

@@ -208,11 +208,8 @@ module _ {X : Type 0} (number : X → ℤ) (bytes : List X) where
       let below : All (λ n. n ≤ apart) (map (λ entry. residue 1 (number entry)) written) = rw same (distances_below (map number bytes)) in
       digits_of_base (λ entry. residue 1 (number entry)) written apart shifted is below
 
-  pub text-bare : length bytes ≤ 2 → byte_text (map number bytes) ≡ digits_text Whole (map (λ entry. residue 1 (number entry)) bytes)
-  text-bare few =
-      byte_text-bare (map number bytes) (omega (arith, length-map bytes number))
-      ∙ map-map (residue 1) number bytes
-      ∙ sym (digits_text-whole_from (map (λ entry. residue 1 (number entry)) bytes))
+  pub text-bare : length bytes ≤ 2 → byte_text (map number bytes) ≡ map (λ entry. residue 1 (number entry)) bytes
+  text-bare few = byte_text-bare (map number bytes) (omega (arith, length-map bytes number)) ∙ map-map (residue 1) number bytes
 
   pub text-plain : (plain shifted : Base) (tag : ℕ) → 2 < length bytes
       → plain ≡ plain_base_of (least (map number bytes)) (greatest (map number bytes))

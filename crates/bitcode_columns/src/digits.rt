@@ -8,6 +8,7 @@ ghost use Rattle.bitcode_columns.specs.Reading.{Reads, IsEndOf, Names, digits_fa
 use crate::consume::consume_bytes;
 use crate::digit::Digit;
 use crate::error::{Error, Reason};
+use crate::ints::push_bytes;
 use crate::pack::Base;
 use std::alloc::{AllocError, Global};
 use std::mem::replace;
@@ -171,7 +172,7 @@ pub(crate) fn pack_digits<T: Digit>(
 {
     let packed = entries.len().div_ceil(base.digits_in_byte());
     out.reserve(packed.saturating_add(front.len()))?;
-    out.extend_from_slice(front).unwrap();
+    push_bytes(front, out);
     if base == Base::Whole {
         T::push_whole(entries, out);
     } else {

@@ -198,9 +198,10 @@ fn consume_numbers<'a, const N: usize>(
     Ok(arrays)
 }
 
-// Appends the bytes in room that is there. It is inlined, so that the compiler knows how many they are.
+// Appends the bytes in room that is there. It is inlined, so that the compiler knows how many they are; few of them are
+// there sooner one by one than by a call that copies them.
 #[inline(always)]
-fn push_bytes(bytes: &[u8], out: &mut Vec<u8>)
+pub(crate) fn push_bytes(bytes: &[u8], out: &mut Vec<u8>)
     requires { vec_len out.old + length bytes.now ≤ vec_capacity out.old }
     ensures written { out.new.items ≡ out.old.items ++ bytes.now }
     ensures len { vec_len out.new ≡ vec_len out.old + length bytes.now }

@@ -1,5 +1,5 @@
 -- Data of maps are written as the lengths of each, the keys of all and the values of all.
-use Rattle.std.proofs.Common.{◌≡◌, ℕ, suc, List, [], ◌∷◌, ◌++◌, length, map, refl, sym, ◌∙◌, ap, ap₂, subst}
+use Rattle.std.proofs.Common.{◌≡◌, ℕ, suc, List, [], ◌∷◌, ◌++◌, length, map, refl, sym, ◌∙◌, ap, ap₂, subst, Result, Ok, Err, OnOk}
 use Rattle.std.specs.Prelude.{None}
 use Rattle.std.specs.List.{AllZip}
 use Rattle.std.specs.Map.{keys_of, values_of}
@@ -14,6 +14,10 @@ use Rattle.bitcode_coder.specs.Spelling.{natural}
 use Rattle.bitcode_coder.specs.Coder.{written_columns, JoinsListing, OverflowsWithListing, JoinsEach, OverflowsWithEach}
 use Rattle.bitcode_tuples.specs.Pairs.{pairs_of}
 use Rattle.bitcode_parts.proofs.ListWritingLemmas.{elements_again}
+
+pub on_ok_both : {T E : Type 0} {A B C : Type 0} (result : Result T E) → (A → B → C) → OnOk result A → OnOk result B → OnOk result C
+on_ok_both (Ok t) f a b = f a b
+on_ok_both (Err e) f a b = tt
 
 -- ---- keys and values, as pairs
 

@@ -88,8 +88,7 @@ impl<M: Mapping, K: Buffer + Encoder<M::Key>, V: Buffer + Encoder<M::Value>> Enc
         self.keys.reserve(count)?;
         self.values.reserve(count)?;
         self.lengths.encode(count)?;
-        t.encode_keys(&mut self.keys)?;
-        t.encode_values(&mut self.values)
+        t.encode_pairs(&mut self.keys, &mut self.values)
     }
 
     ghost of_shape = { λ e. ap₂ (λ keys values. two (one (lengths None) []) (two keys values)) (K.of_shape e.keys) (V.of_shape e.values) ∙ ap (λ (shape : Shape). written_columns shape []) (sym M.entries_shape) };

@@ -9,6 +9,7 @@ pub mod ListLimitLemmas
 pub mod ListLemmas
 pub mod ListWritingLemmas
 pub mod MapLemmas
+pub mod GatheredPairLemmas
 pub mod ArrayLemmas
 pub mod ArrayReadingLemmas
 pub mod StrictLemmas

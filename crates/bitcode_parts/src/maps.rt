@@ -1,6 +1,7 @@
 //! Types that are written as the pairs of their keys and values, and made of them.
-ghost use Rattle.std.specs.Prelude.{◌≡◌, ◌≤◌, List, length, All, refl, OnOk, IfOk, IfErr};
+ghost use Rattle.std.specs.Prelude.{◌≡◌, ◌<◌, ◌≤◌, ◌++◌, ◌⊎◌, List, length, map, take, All, refl, OnOk, IfOk, IfErr};
 ghost use Rattle.std.specs.Map.{keys_of, values_of};
+ghost use Rattle.std.specs.Map.Iter.{deref_pair};
 ghost use Rattle.std.proofs.lemmas.List.Sorted.{IsPermutation-refl};
 ghost use Rattle.bitcode_shapes.specs.Datum.{Datum};
 ghost use Rattle.bitcode_shapes.specs.Shape.{map_shape};
@@ -12,6 +13,7 @@ ghost use Rattle.bitcode_parts.specs.Elements.{MakesOfElements};
 
 use crate::lists::sequence::{FromElements, Lends, encode_lent};
 use bitcode_coder::coder::Encoder;
+use bitcode_coder::part::Part;
 use bitcode_columns::error::{Error, Reason};
 use bitcode_shapes::keys::Key;
 use bitcode_shapes::lists::told_each;
@@ -58,11 +60,97 @@ pub trait Mapping: Shaped {
         ensures form { emptied (E.columns values.new) ≡ emptied (E.columns values.old) }
         ensures refused { IfErr result (λ e. IsWritingRefusal e.reason (OverflowsWithEach Self.Value.lists Self.Value.shape (values_of (entries self.now)) (E.columns values.old))) };
 
+    /// Writes the keys and the values, as [`Mapping::encode_keys`] and [`Mapping::encode_values`] do. Room for them was reserved.
+    ///
+    /// It refuses as the encoders do: the keys and values up to those at hand may have been written then. A map that is gone
+    /// through once for both has a body of its own.
+    fn encode_pairs<E: Encoder<Self::Key>, F: Encoder<Self::Value>>(
+        &self,
+        keys: &mut E,
+        values: &mut F,
+    ) -> Result<(), Error>
+        requires room { (length (entries self.now) ≤ E.room keys.old) × (length (entries self.now) ≤ F.room values.old) }
+        requires are { (All Self.Key.is_value (keys_of (entries self.now))) × (All Self.Value.is_value (values_of (entries self.now))) }
+        ensures keys { OnOk result (JoinsEach Self.Key.lists Self.Key.shape (keys_of (entries self.now)) (E.columns keys.old) (E.columns keys.new)) }
+        ensures values { OnOk result (JoinsEach Self.Value.lists Self.Value.shape (values_of (entries self.now)) (F.columns values.old) (F.columns values.new)) }
+        ensures form { (emptied (E.columns keys.new) ≡ emptied (E.columns keys.old)) × (emptied (F.columns values.new) ≡ emptied (F.columns values.old)) }
+        ensures refused { IfErr result (λ e. IsWritingRefusal e.reason (OverflowsWithEach Self.Key.lists Self.Key.shape (keys_of (entries self.now)) (E.columns keys.old) ⊎ OverflowsWithEach Self.Value.lists Self.Value.shape (values_of (entries self.now)) (F.columns values.old))) }
+    {
+        self.encode_keys(keys)?;
+        self.encode_values(values)
+    }
+
     ghost entries_are: { (t : Self) → Self.is_value t → All (IsPairValue Self.Key.is_value Self.Value.is_value) (entries t) };
 
     ghost entries_list: { (t : Self) (d : Datum) → ListsSequence (ListsPair Self.Key.lists Self.Value.lists) (entries t) d → Self.lists t d };
 
     ghost entries_shape: { Self.shape ≡ map_shape Self.Key.shape Self.Value.shape };
+}
+
+/// The key of a pair of references.
+struct KeyBehind;
+
+impl<'a, K, V> Part<(&'a K, &'a V), K> for KeyBehind {
+    ghost of = { λ w pair. pair.0.now };
+
+    fn part<'b>(&'b self, whole: &'b (&'a K, &'a V)) -> &'b K {
+        whole.0
+    }
+}
+
+/// The value of a pair of references.
+struct ValueBehind;
+
+impl<'a, K, V> Part<(&'a K, &'a V), V> for ValueBehind {
+    ghost of = { λ w pair. pair.1.now };
+
+    fn part<'b>(&'b self, whole: &'b (&'a K, &'a V)) -> &'b V {
+        whole.1
+    }
+}
+
+// So many pairs of a map are gathered, and their keys and values written at once.
+const MOST_PAIRS: usize = 32;
+
+// Takes pairs of a map behind the first of the array, until the array is full or none is left. Answers how many stand in it.
+fn gather_pairs<'b, K, V>(
+    rest: &mut btree_map::Iter<'b, K, V>,
+    pairs: &mut [(&'b K, &'b V); MOST_PAIRS],
+) -> usize
+    requires { length pairs.old ≡ MOST_PAIRS }
+    ensures count { (0 < result) × (result ≤ MOST_PAIRS) }
+    ensures size { length pairs.new ≡ MOST_PAIRS }
+    ensures taken { map deref_pair (take 1 pairs.old) ++ rest.old ≡ map deref_pair (take result pairs.new) ++ rest.new }
+{
+    for count in 1..MOST_PAIRS {
+        match rest.next() {
+            Some(pair) => pairs[count] = pair,
+            None => return count,
+        }
+    }
+    MOST_PAIRS
+}
+
+// Writes the keys and the values of the pairs of a map that are left, several of them at once. Room for them was reserved.
+fn encode_gathered<'b, K: Shaped + 'b, V: Shaped + 'b, E: Encoder<K>, F: Encoder<V>>(
+    mut rest: btree_map::Iter<'b, K, V>,
+    keys: &mut E,
+    values: &mut F,
+) -> Result<(), Error>
+    requires room { (length rest ≤ E.room keys.old) × (length rest ≤ F.room values.old) }
+    requires are { (All K.is_value (keys_of rest)) × (All V.is_value (values_of rest)) }
+    ensures keys { OnOk result (JoinsEach K.lists K.shape (keys_of rest.entry) (E.columns keys.old) (E.columns keys.new)) }
+    ensures values { OnOk result (JoinsEach V.lists V.shape (values_of rest.entry) (F.columns values.old) (F.columns values.new)) }
+    ensures form { (emptied (E.columns keys.new) ≡ emptied (E.columns keys.old)) × (emptied (F.columns values.new) ≡ emptied (F.columns values.old)) }
+    ensures refused { IfErr result (λ e. IsWritingRefusal e.reason (OverflowsWithEach K.lists K.shape (keys_of rest.entry) (E.columns keys.old) ⊎ OverflowsWithEach V.lists V.shape (values_of rest.entry) (F.columns values.old))) }
+{
+    while let Some(first) = rest.next() {
+        let mut pairs = [first; MOST_PAIRS];
+        let count = gather_pairs(&mut rest, &mut pairs);
+        keys.encode_part_of_each(&pairs[..count], &KeyBehind, first.0)?;
+        values.encode_part_of_each(&pairs[..count], &ValueBehind, first.1)?;
+    }
+    Ok(())
 }
 
 impl<K: Shaped + Ord, V: Shaped> Mapping for BTreeMap<K, V> {
@@ -82,6 +170,14 @@ impl<K: Shaped + Ord, V: Shaped> Mapping for BTreeMap<K, V> {
 
     fn encode_values<E: Encoder<V>>(&self, values: &mut E) -> Result<(), Error> {
         encode_lent(values, self.values())
+    }
+
+    fn encode_pairs<E: Encoder<K>, F: Encoder<V>>(
+        &self,
+        keys: &mut E,
+        values: &mut F,
+    ) -> Result<(), Error> {
+        encode_gathered(self.iter(), keys, values)
     }
 
     ghost entries_are = { λ t h. h.each };

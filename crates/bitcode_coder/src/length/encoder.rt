@@ -43,6 +43,9 @@ fn pack_parts(
     ensures reason { IfErr result (λ e. e.reason ≡ Reason.OutOfMemory) }
 {
     pack_bytes(small, out)?;
+    if large.is_empty() {
+        return Ok(());
+    }
     pack_ints(alloc, large, out)
 }
 

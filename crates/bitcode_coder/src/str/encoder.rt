@@ -46,7 +46,9 @@ fn pack_texts(lengths: &mut LengthEncoder, bytes: &[u8], out: &mut Vec<u8>) -> R
     ensures reason { IfErr result (λ e. e.reason ≡ Reason.OutOfMemory) }
 {
     lengths.collect_into(out)?;
-    out.extend_from_slice(bytes)?;
+    if !bytes.is_empty() {
+        out.extend_from_slice(bytes)?;
+    }
     Ok(())
 }
 

@@ -146,6 +146,20 @@ pub(crate) fn shifted_base<T: Byte>(least: T, greatest: T) -> Base
     Base::for_greatest(greatest.to_byte().wrapping_sub(least.to_byte()))
 }
 
+/// Appends bytes as they are, one by one: so few that a column of them has no tag.
+fn pack_untagged<T: Byte>(bytes: &[T], out: &mut Vec<u8>) -> Result<(), Error>
+    ensures written { OnOk result (out.new.items ≡ out.old.items ++ map (λ byte. residue 1 (T.number byte)) bytes.now) }
+    ensures reason { IfErr result (λ e. e.reason ≡ Reason.OutOfMemory) }
+    ensures unchanged { OnErr result (out.new.items ≡ out.old.items) }
+    ensures full { OnErr result (vec_capacity out.old < vec_len out.old + length bytes.now) }
+{
+    out.reserve(bytes.len())?;
+    for byte in bytes {
+        out.push_reserved(byte.to_byte());
+    }
+    Ok(())
+}
+
 /// Appends a column of bytes: as they are, or several to a byte where they are small, or where
 /// they lie close to the least one. `bytes` is scratch afterwards.
 ///
@@ -163,7 +177,7 @@ pub fn pack_bytes<T: Byte>(bytes: &mut [T], out: &mut Vec<u8>) -> Result<(), Err
     ensures full { OnErr result (vec_capacity out.old < vec_len out.old + length (byte_text (map T.number bytes.old))) }
 {
     if bytes.len() <= MOST_WITHOUT_TAG {
-        return pack_digits(&[], Base::Whole, bytes, out);
+        return pack_untagged(bytes, out);
     }
     let (least, greatest) = minmax(bytes);
     let plain = plain_base(least, greatest);

@@ -20,6 +20,9 @@ const BLOCK: usize = 1024;
 // Fewer blocks than these are one block, since all of it stays near the processor.
 const FEW: usize = 16;
 
+// So many entries are there sooner one by one than in a block, which is a call for its zeros.
+const MOST_ONE_BY_ONE: usize = 2;
+
 // Writes how far each entry lies above a base over as many bytes as they take at a narrow type.
 fn put_numbers<T: Int, N: SizedUInt>(entries: &[T], base: T::Unsigned, bytes: &mut [u8])
     requires { length bytes.old ≡ length entries.now * N.width }
@@ -80,13 +83,29 @@ fn in_blocks(count: usize, in_block: usize) -> usize
     if blocks < FEW { 0 } else { blocks * in_block }
 }
 
-// Appends how far each entry lies above a base, in the bytes of a narrow type, in room that is there: blocks of them, and the
-// rest.
+// Appends how far each entry lies above a base, one by one, in room that is there.
+fn push_each<T: Int, N: SizedUInt>(entries: &[T], base: T::Unsigned, out: &mut Vec<u8>)
+    requires { vec_len out.old + length entries.now * N.width ≤ vec_capacity out.old }
+    ensures written { out.new.items ≡ out.old.items ++ raw_text N.width (map (λ e. above T.width (T.Unsigned.value base) (T.number e) % 256 ^ N.width) entries.now) }
+    ensures in_range { All (λ e. IsNumber T.width T.signed (T.number e)) entries.now }
+{
+    for entry in entries {
+        let distance = entry.to_unsigned().wrapping_sub(base);
+        N::from_wide(distance.to_wide()).push(out);
+    }
+}
+
+// Appends how far each entry lies above a base, in the bytes of a narrow type, in room that is there: few one by one, more as
+// blocks of them and the rest.
 fn push_numbers<T: Int, N: SizedUInt>(entries: &[T], base: T::Unsigned, out: &mut Vec<u8>)
     requires { vec_len out.old + length entries.now * N.width ≤ vec_capacity out.old }
     ensures written { out.new.items ≡ out.old.items ++ raw_text N.width (map (λ e. above T.width (T.Unsigned.value base) (T.number e) % 256 ^ N.width) entries.now) }
     ensures in_range { All (λ e. IsNumber T.width T.signed (T.number e)) entries.now }
 {
+    if entries.len() <= MOST_ONE_BY_ONE {
+        push_each::<T, N>(entries, base, out);
+        return;
+    }
     let in_block = BLOCK / N::size();
     let (blocks, rest) = entries.split_at(in_blocks(entries.len(), in_block));
     push_blocks::<T, N>(blocks, in_block, base, out);

@@ -1,22 +1,22 @@
 -- The length joins its column, the keys theirs and the values theirs.
-use Rattle.std.proofs.Common.{◌∙◌, sym, length, subst}
+use Rattle.std.proofs.Common.{◌∙◌, sym, length, subst, ⊎_elim}
 use Rattle.std.specs.Map.{keys_of, values_of}
 use Rattle.std.proofs.lemmas.List.{length-map}
-use Rattle.std.proofs.lemmas.Result.{err_from_is_err_and, on_ok_weaker}
+use Rattle.std.proofs.lemmas.Result.{err_from_is_err_and}
 use Rattle.bitcode_columns.specs.declared.error.Error.{Error}
 use Rattle.bitcode_shapes.specs.BuiltMaps.{keys_are, values_are}
 use Rattle.bitcode_shapes.specs.LawfulLists.{each_listed}
 use Rattle.bitcode_coder.specs.Length.{written_lengths}
 use Rattle.bitcode_coder.proofs.RefusalLemmas.{refusal_weaker, refused_weaker}
 use Rattle.bitcode_parts.proofs.ListWritingLemmas.{overflows_surely}
-use Rattle.bitcode_maps.proofs.WritingLemmas.{joins_map, overflows_keys, overflows_values}
+use Rattle.bitcode_maps.proofs.WritingLemmas.{on_ok_both, joins_map, overflows_keys, overflows_values}
 use Rattle.bitcode_maps.proofs.map.MapEncoderEncoder.encode.Goals as goal
 
-pub encode_keys-requires-clause-values : goal.encode_keys-requires-clause-values
-encode_keys-requires-clause-values g c = keys_are g.M.Key.Shaped.is_value g.M.Value.Shaped.is_value (g.M.Mapping.entries c.args.t.now) (g.met.M.Mapping.entries_are c.args.t.now c.told.ensures)
-
-pub encode_values-requires-clause-values : goal.encode_values-requires-clause-values
-encode_values-requires-clause-values g c = values_are g.M.Key.Shaped.is_value g.M.Value.Shaped.is_value (g.M.Mapping.entries c.args.t.now) (g.met.M.Mapping.entries_are c.args.t.now c.told.ensures)
+pub encode_pairs-requires-clause-are : goal.encode_pairs-requires-clause-are
+encode_pairs-requires-clause-are g c =
+    let entries = g.M.Mapping.entries c.args.t.now in
+    let are = g.met.M.Mapping.entries_are c.args.t.now c.told.ensures in
+    (keys_are g.M.Key.Shaped.is_value g.M.Value.Shaped.is_value entries are, values_are g.M.Key.Shaped.is_value g.M.Value.Shaped.is_value entries are)
 
 pub returns-in_err-reserve-clause-refused : goal.returns-in_err-reserve-clause-refused
 returns-in_err-reserve-clause-refused g c =
@@ -59,38 +59,31 @@ returns-in_err-reserve-2-clause-refused g c =
     c.in_err-reserve-2.ensures.refused
     )
 
-pub returns-in_err-encode_keys-clause-refused : goal.returns-in_err-encode_keys-clause-refused
-returns-in_err-encode_keys-clause-refused g c =
-    let refused = err_from_is_err_and c.from_residual-in_err-encode_keys.result c.from_residual-in_err-encode_keys.ensures.1 in
-    let entries = g.M.Mapping.entries c.args.t.now in
-    let keys = g.M.Key.Shaped in
-    let values = g.M.Value.Shaped in
-    let old_keys = g.K.HoldsColumns.columns c.args.self.now.keys in
-    let old_values = g.V.HoldsColumns.columns c.args.self.now.values in
-    let are = g.met.M.Mapping.entries_are c.args.t.now c.told.ensures in
-    let others = each_listed values.shape values.is_value values.lists values.same values.in_order g.met.M.Value.Shaped.lawful (values_of entries) (values_are keys.is_value values.is_value entries are) in
-    rw (refused.1, refused.2) (
-    refusal_weaker _
-    (overflows_keys keys.shape values.shape keys.lists values.lists g.M.Shaped.lists g.M.Shaped.shape g.met.M.Mapping.entries_shape c.args.t.now entries
-    (g.met.M.Mapping.entries_list c.args.t.now) (written_lengths c.args.self.now.lengths) old_keys old_values others.0 others.1)
-    (rw c.in_ok-reserve.ensures.columns at c.in_err-encode_keys.ensures.refused)
-    )
-
 pub returns-clause-joined : goal.returns-clause-joined
 returns-clause-joined g c =
     let entries = g.M.Mapping.entries c.args.t.now in
-    on_ok_weaker c.encode_values.result (λ values.
+    on_ok_both c.encode_pairs.result (
     joins_map g.M.Key.Shaped.shape g.M.Value.Shaped.shape g.M.Key.Shaped.lists g.M.Value.Shaped.lists g.M.Shaped.lists g.M.Shaped.shape g.met.M.Mapping.entries_shape c.args.t.now entries
     (g.met.M.Mapping.entries_list c.args.t.now) (written_lengths c.args.self.now.lengths) (g.K.HoldsColumns.columns c.args.self.now.keys) (g.V.HoldsColumns.columns c.args.self.now.values)
-    (written_lengths c.encode.new.self) (g.K.HoldsColumns.columns c.encode_keys.new.keys) (g.V.HoldsColumns.columns c.encode_values.new.values)
-    (rw c.entry_count-count.ensures at c.in_ok-encode.ensures.written) (rw c.in_ok-reserve.ensures.columns at c.in_ok-encode_keys.ensures.joined) values
-    ) (rw c.in_ok-reserve-2.ensures.columns at c.encode_values.ensures.joined)
+    (written_lengths c.encode.new.self) (g.K.HoldsColumns.columns c.encode_pairs.new.keys) (g.V.HoldsColumns.columns c.encode_pairs.new.values)
+    (rw c.entry_count-count.ensures at c.in_ok-encode.ensures.written))
+    (rw c.in_ok-reserve.ensures.columns at c.encode_pairs.ensures.keys) (rw c.in_ok-reserve-2.ensures.columns at c.encode_pairs.ensures.values)
 
 pub returns-clause-refused : goal.returns-clause-refused
 returns-clause-refused g c =
     let entries = g.M.Mapping.entries c.args.t.now in
-    refused_weaker (λ (e : Error). e.reason) c.encode_values.result (
-    overflows_values g.M.Key.Shaped.shape g.M.Value.Shaped.shape g.M.Key.Shaped.lists g.M.Value.Shaped.lists g.M.Shaped.lists g.M.Shaped.shape g.met.M.Mapping.entries_shape c.args.t.now entries
-    (g.met.M.Mapping.entries_list c.args.t.now) (written_lengths c.args.self.now.lengths) (g.K.HoldsColumns.columns c.args.self.now.keys) (g.V.HoldsColumns.columns c.args.self.now.values)
-    c.in_ok-encode_keys.ensures.joined.parts c.in_ok-encode_keys.ensures.joined.listings
-    ) (rw c.in_ok-reserve-2.ensures.columns at c.encode_values.ensures.refused)
+    let keys = g.M.Key.Shaped in
+    let values = g.M.Value.Shaped in
+    let old_lengths = written_lengths c.args.self.now.lengths in
+    let old_keys = g.K.HoldsColumns.columns c.args.self.now.keys in
+    let old_values = g.V.HoldsColumns.columns c.args.self.now.values in
+    let are = g.met.M.Mapping.entries_are c.args.t.now c.told.ensures in
+    let other_keys = each_listed keys.shape keys.is_value keys.lists keys.same keys.in_order g.met.M.Key.Shaped.lawful (keys_of entries) (keys_are keys.is_value values.is_value entries are) in
+    let other_values = each_listed values.shape values.is_value values.lists values.same values.in_order g.met.M.Value.Shaped.lawful (values_of entries) (values_are keys.is_value values.is_value entries are) in
+    refused_weaker (λ (e : Error). e.reason) c.encode_pairs.result (
+    ⊎_elim
+    (overflows_keys keys.shape values.shape keys.lists values.lists g.M.Shaped.lists g.M.Shaped.shape g.met.M.Mapping.entries_shape c.args.t.now entries
+    (g.met.M.Mapping.entries_list c.args.t.now) old_lengths old_keys old_values other_values.0 other_values.1)
+    (overflows_values keys.shape values.shape keys.lists values.lists g.M.Shaped.lists g.M.Shaped.shape g.met.M.Mapping.entries_shape c.args.t.now entries
+    (g.met.M.Mapping.entries_list c.args.t.now) old_lengths old_keys old_values other_keys.0 other_keys.1)
+    ) (rw c.in_ok-reserve-2.ensures.columns at (rw c.in_ok-reserve.ensures.columns at c.encode_pairs.ensures.refused))

@@ -1,0 +1,20 @@
+use Rattle.std.proofs.Common.{◌≡◌, ◌≤◌, length, All}
+use Rattle.std.specs.Map.{keys_of, values_of}
+use Rattle.bitcode_coder.specs.Columns.{emptied}
+use Rattle.bitcode_coder.proofs.EachLemmas.{JoinsFront}
+use Rattle.bitcode_parts.proofs.maps.encode_gathered.Given as goal
+
+abbrev pub invariant-loop-first : goal.invariant-loop-first
+invariant-loop-first g l = record {
+  keys : JoinsFront g.K.Shaped.lists g.K.Shaped.shape (keys_of l.initial.rest) (keys_of l.rest) (g.E.HoldsColumns.columns l.initial.keys) (g.E.HoldsColumns.columns l.keys);
+  values : JoinsFront g.V.Shaped.lists g.V.Shaped.shape (values_of l.initial.rest) (values_of l.rest) (g.F.HoldsColumns.columns l.initial.values) (g.F.HoldsColumns.columns l.values);
+  are_keys : All g.K.Shaped.is_value (keys_of l.rest);
+  are_values : All g.V.Shaped.is_value (values_of l.rest);
+  keys_room : length l.rest ≤ g.E.HoldsColumns.room l.keys;
+  values_room : length l.rest ≤ g.F.HoldsColumns.room l.values;
+  keys_form : emptied (g.E.HoldsColumns.columns l.keys) ≡ emptied (g.E.HoldsColumns.columns l.initial.keys);
+  values_form : emptied (g.F.HoldsColumns.columns l.values) ≡ emptied (g.F.HoldsColumns.columns l.initial.values);
+}
+
+abbrev pub decreases-loop-first : goal.decreases-loop-first
+decreases-loop-first g l = length l.rest
