@@ -6,7 +6,7 @@ from declarations import Refused, fields_of
 from known_types import MOST_FIELDS, Checker, of_text, says_laws
 from numbered import Numbered
 from structs import NOT_DERIVED, laws_as_data, places, quoted, tuple_text
-from variants import LETTERS, arms, declaration, payload, value
+from variants import LETTERS, arms, declaration, one_to_one, payload, value
 
 MOST_VARIANTS = 256
 
@@ -32,6 +32,8 @@ impl BareVariants<$count> for $name {
     fn from_index(index: u8) -> Self {
         match index {$from_index}
     }
+
+    ghost one_to_one = { $one_to_one };
 }
 
 impl HeldIn for $name {
@@ -75,6 +77,7 @@ def one_text(enum, crate, module, imports, own):
         ghost_parts=f"elim [ {' '.join([name, *letters])} ↦ {payload(letters, 'tt')} ]",
         ghost_made=" ".join([name, *places(len(letters))]) if letters else name,
         told=taken + "".join(f"\n        {letter}.told();" for letter in letters) + ("\n    " if letters else ""),
+        one_to_one=one_to_one(enum),
         pattern=payload(letters, "_nothing"),
         built=built,
     )
@@ -95,6 +98,7 @@ def bare_text(enum, crate, module):
         "values": " ∷ ".join([*names, "[]"]),
         "index": "*self as u8" if is_cast else f"match self {{{arms(enum, lambda place, variant: value(enum, variant), lambda place, variant: place)}}}",
         "payload": laws_as_data(enum, f"Bare<{last + 1}, {enum.name}>"),
+        "one_to_one": one_to_one(enum),
         "from_index": arms(enum, lambda place, variant: "_" if place == last else place, lambda place, variant: value(enum, variant)),
     }
     return Template(BARE).substitute(row)

@@ -4,7 +4,7 @@ from string import Template
 
 from known_types import MOST_TYPES, of_text, types_in
 from structs import bounds, in_a_head, laws_as_data, places, quoted
-from variants import LETTERS, arms, declaration, held_type, names_of, payload, value
+from variants import LETTERS, arms, declaration, held_type, names_of, one_to_one, payload, value
 
 # So many variants that follow each other have their coders together, at the most: crates/bitcode_enums/src/variants.
 MOST_TOGETHER = 6
@@ -29,6 +29,8 @@ impl$life Enum for $name {
     fn variant(&self) -> u8 {
         match self {$index}
     }
+
+    ghost one_to_one = { $one_to_one };
 }
 
 impl$life EnumOf<$count> for $name {
@@ -339,6 +341,7 @@ class Numbered:
             prelude="◌≡◌, refl" + (", true" if payloads["parts"] else ""),
             by_hand=", ".join(sorted({"columns_in", "each_variant", "is_variant", "last_payload", "payload_and", "payloads_in", "stood_payload", *(f"of_one_of_{len(numbers)}" for numbers in self.groups)})),
             **self.variants(),
+            one_to_one=one_to_one(self.enum),
             payload_of_all=laws_as_data(self.enum, f"Held<{self.count}, {self.name}>"),
             index=arms(self.enum, lambda number, variant: value(self.enum, variant), numbered),
             groups="\n".join(map(self.group, self.groups)),

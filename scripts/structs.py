@@ -37,6 +37,8 @@ $ghost_use    type Parts = $parts;
     ghost of_parts = { λ p. ($ghost_made, refl) };
 
     fn told_parts(&self) {$told}
+
+    ghost one_to_one = { $one_to_one };
 }
 
 impl$made FromParts for $name {
@@ -302,6 +304,7 @@ def file_text(struct, imports, own):
         ghost_parts="λ t. " + (halved([f"t.{field.name}" for field in fields]) if fields else "tt"),
         ghost_made=f"record {{ {made} }}",
         told="".join(f"\n        self.{field.name}.told();" for field in fields) + ("\n    " if fields else ""),
+        one_to_one="λ t. refl",
         pattern=halved(names) if fields else "_nothing",
         built=built[struct.kind] if fields or struct.kind != "named" else struct.name + " {}",
     )

@@ -1,7 +1,7 @@
 """What the files of enums have of their variants, as text."""
 
 from known_types import of_text
-from structs import bounds, halved, heads, initialized, parameter
+from structs import bounds, halved, heads, initialized, parameter, quoted
 
 # The names of fields without a name.
 LETTERS = "abcdefghijklmnop"
@@ -49,3 +49,8 @@ def payload(items, nothing):
 def held_type(variant):
     """The type of what a value of the variant has: nothing, its field, or their tuple."""
     return payload([of_text(field.type) for field in variant.fields], "()")
+
+
+def one_to_one(enum):
+    """The proof that a value is the one found for what it stands for: at each variant that is so by computing."""
+    return f"elim [ {' | '.join(' '.join([f'{quoted(enum.name)}.{variant.name}', *LETTERS[: len(variant.fields)]]) + ' ↦ refl' for variant in enum.variants)} ]"

@@ -264,9 +264,12 @@ pub mod laws {
     };
     pub use bitcode_columns::laws::{bool_columns, byte_columns, int_columns, variant_columns};
     pub use bitcode_derive::laws::{
-        borrowed_text, borrowed_texts, comes_back, one_text, one_value, overflows_exactly,
-        round_trip, short_text, strictly_written,
+        borrowed_text, borrowed_texts, comes_back, comes_back_equal, one_text, one_value,
+        overflows_exactly, round_trip, short_text, strictly_written,
     };
+    pub use bitcode_enums::held::told_by_payload;
+    pub use bitcode_shapes::bare_variants::told_by_variant;
+    pub use bitcode_shapes::stands_for::told_by_parts;
     pub use bitcode_untyped::laws::{
         columns_decide, every_shape, faults_tell, one_value_of_a_datum, spelled_data,
         strictly_spelled_data,

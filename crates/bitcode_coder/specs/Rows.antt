@@ -1,5 +1,5 @@
 -- Worked rows: what is written for lengths and for data of some shapes, computed from the definitions.
-use Rattle.std.specs.Prelude.{◌≡◌, ℕ, true, false, pos, negsuc, List, [], ◌∷◌, None, map, refl}
+use Rattle.std.specs.Prelude.{◌≡◌, ℕ, true, false, pos, negsuc, List, [], ◌∷◌, Some, None, map, refl}
 use Rattle.bitcode_columns.specs.LittleEndian.{raw_text}
 use Rattle.bitcode_columns.specs.Digits.{digits_text}
 use Rattle.bitcode_columns.specs.Tagged.{tagged_text}
@@ -8,6 +8,7 @@ use Rattle.bitcode_columns.specs.BoolColumn.{bool_text}
 use Rattle.bitcode_columns.specs.IntColumn.{int_text}
 use Rattle.bitcode_shapes.specs.Datum.{Datum, number, list, pair, data_of}
 use Rattle.bitcode_shapes.specs.Shape.{Shape, number_shape, seq_shape, array_shape, pair_shape, bool_shape, any_number}
+use Rattle.bitcode_coder.specs.ChunkWidth.{doubled_elements, first_elements}
 use Rattle.bitcode_coder.specs.LengthColumn.{length_bytes}
 use Rattle.bitcode_coder.specs.Transposition.{columns_of}
 use Rattle.bitcode_coder.specs.Spelling.{columns_bytes}
@@ -65,3 +66,29 @@ lists_of_bytes : text_of (seq_shape None (seq_shape None byte_shape)) (list (dat
     ≡ 2 ∷ 0 ∷ 3 ∷ 6 ∷ 57 ∷ []
 unfolding length_bytes int_text byte_text tagged_text digits_text raw_text
 lists_of_bytes = refl
+
+-- slices begin with as many elements as take 8 bytes, and one at least; those of no bytes count as bytes
+first_of_bytes : first_elements 1 ≡ Some 8
+first_of_bytes = refl
+
+first_of_triples : first_elements 3 ≡ Some 2
+first_of_triples = refl
+
+first_of_large : first_elements 20 ≡ Some 1
+first_of_large = refl
+
+first_of_nothing : first_elements 0 ≡ Some 8
+first_of_nothing = refl
+
+-- and are doubled up to 64 bytes, and no more once these are passed
+doubled_to_64_bytes : doubled_elements 4 (Some 8) ≡ Some 16
+doubled_to_64_bytes = refl
+
+doubled_past_64_bytes : doubled_elements 4 (Some 16) ≡ None
+doubled_past_64_bytes = refl
+
+doubled_of_large : doubled_elements 20 (Some 1) ≡ Some 2
+doubled_of_large = refl
+
+never_doubled_again : doubled_elements 1 None ≡ None
+never_doubled_again = refl

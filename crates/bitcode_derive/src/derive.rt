@@ -55,24 +55,25 @@ where
     T::Decoder: View<'a> + Decoder<T> + Drop,
 {}
 
-/// A type whose values borrow nothing from the input that they are read from.
+/// A type whose values borrow nothing from the input that they are read from: its bound holds of no type that borrows for less than the whole run.
 ///
-/// It is a mark alone: each such type says so for itself, or by [`HasCoders`].
+/// It has no functions: each such type says so for itself, or by [`HasCoders`]. A struct that borrows, `Foo<'a>`, is refused, and
+/// `Foo<'static>` alone is not, which is read from an input that is never let go.
 ///
 /// ```
 /// impl DecodeOwned for Meters {}
 /// ```
-pub trait DecodeOwned {}
+pub trait DecodeOwned: 'static {}
 
 /// A type whose coders are those of the struct that holds its values, as those of an enum without payloads are, and whose values
 /// borrow nothing from the input that they are read from.
 ///
-/// It is a mark alone, in the place of [`HasEncoder`], [`HasDecoder`] and [`DecodeOwned`]:
+/// It has no functions, and stands in the place of [`HasEncoder`], [`HasDecoder`] and [`DecodeOwned`]:
 ///
 /// ```
 /// impl HasCoders for Light {}
 /// ```
-pub trait HasCoders: HeldIn {}
+pub trait HasCoders: HeldIn + 'static {}
 
 /// Names the encoder of the values that a struct holds.
 pub trait HolderEncoder {

@@ -10,6 +10,7 @@ ghost use Rattle.bitcode_derive.specs.Whole.{columns_of_one, IsEncodingOf, HasLo
 
 use crate::whole;
 use bitcode_columns::error::{Error, Reason};
+use bitcode_shapes::keys::Key;
 use bitcode_shapes::same_arrays::SameArrays;
 use bitcode_shapes::shaped::{Made, Shaped};
 use std::alloc::Global;
@@ -70,6 +71,25 @@ pub fn strictly_written<'a, T: Made>(t: &T, bytes: &'a [u8])
         → IsStrictDecodingOf T.makes T.shape bytes.now t.now }
 {
     t.told();
+}
+
+/// What `decode` gives for the bytes that were written for a value is `==` to the value, or want of memory, of a type whose `==` says whether
+/// two values are the same: of each that has [`Key`]. The lengths are as for [`comes_back`].
+///
+/// ```
+/// let bytes = encode(alloc, &t)?;
+/// let again = decode(alloc, &bytes);
+/// comes_back_equal(&t, &bytes, &again);
+/// again // Ok(u) with u == t
+/// ```
+pub fn comes_back_equal<'a, T: Made + Key>(t: &T, bytes: &'a [u8], again: &Result<T, Error>)
+    ensures { IsEncodingOf T.lists T.shape t.now bytes.now → HasShortLengths T.lists T.shape t.now
+        → IfOk again.now (λ u. IsDecodingOf T.makes T.shape bytes.now u) → IfOk again.now (λ u. IsTrue (T.eq t.now u)) }
+{
+    t.told();
+    if let Ok(u) = again {
+        u.told();
+    }
 }
 
 /// A value that keeps nothing in an order of its own, as a hashed container or a heap does, is written as the same

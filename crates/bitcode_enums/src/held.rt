@@ -31,6 +31,8 @@ use bitcode_tuples::fields::Fields;
 ///             Shot::Hit(damage) => told_as(1, &damage),
 ///         }
 ///     }
+///
+///     ghost one_to_one = { elim [ Shot.Missed ↦ refl | Shot.Hit a ↦ refl ] };
 /// }
 ///
 /// impl EnumOf<2> for Shot {
@@ -52,6 +54,9 @@ pub trait Enum {
     fn variant(&self) -> u8
         ensures number { result ≡ each.variants.index self.now }
         ensures value { each.variants.is_value self.now };
+
+    // a value is told by its payload: it is the one found for that
+    ghost one_to_one: { (t : Self) → each.found t ≡ t };
 }
 
 /// An enum of `N` variants: it says how many there are. It has no functions.
@@ -71,6 +76,14 @@ impl<const N: usize, T: EnumOf<N> + HeldIn<Holder = Held<N, T>>> EnumShaped<N> f
     ghost has_shape = { refl };
 
     ghost lists_variants = { λ t d listed. record { index = listed.index; payload = listed.payload; is = listed.is; lists_payload = listed.lists_payload } };
+}
+
+/// Two values that are the same are one, where payloads that are the same are one: what is read back of such an enum is the very value that
+/// was written.
+pub fn told_by_payload<T: Enum>(t: &T, u: &T)
+    ensures { T.each.payloads_are_one → T.each.variants.same t.now u.now → t.now ≡ u.now }
+{
+    let _numbers = (t.variant(), u.variant());
 }
 
 /// A number, of a variant whose fields are values.
@@ -117,6 +130,8 @@ impl<const N: usize, T: Enum> Holds<T> for Held<N, T> {
         let Held { value } = self;
         value
     }
+
+    ghost one_to_one = { λ t. refl };
 }
 
 impl<const N: usize, T: Enum> Shaped for Held<N, T> {

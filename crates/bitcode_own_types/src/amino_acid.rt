@@ -65,6 +65,8 @@ impl BareVariants<20> for AminoAcid {
             _ => AminoAcid::Valine,
         }
     }
+
+    ghost one_to_one = { elim [ AminoAcid.Alanine ↦ refl | AminoAcid.Arginine ↦ refl | AminoAcid.Asparagine ↦ refl | AminoAcid.AsparticAcid ↦ refl | AminoAcid.Cysteine ↦ refl | AminoAcid.GlutamicAcid ↦ refl | AminoAcid.Glutamine ↦ refl | AminoAcid.Glycine ↦ refl | AminoAcid.Histidine ↦ refl | AminoAcid.Isoleucine ↦ refl | AminoAcid.Leucine ↦ refl | AminoAcid.Lysine ↦ refl | AminoAcid.Methionine ↦ refl | AminoAcid.Phenylalanine ↦ refl | AminoAcid.Proline ↦ refl | AminoAcid.Serine ↦ refl | AminoAcid.Threonine ↦ refl | AminoAcid.Tryptophan ↦ refl | AminoAcid.Tyrosine ↦ refl | AminoAcid.Valine ↦ refl ] };
 }
 
 impl HeldIn for AminoAcid {

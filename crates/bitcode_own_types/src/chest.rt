@@ -30,6 +30,8 @@ impl StandsFor for Chest {
         self.items.told();
         self.best.told();
     }
+
+    ghost one_to_one = { λ t. refl };
 }
 
 impl FromParts for Chest {

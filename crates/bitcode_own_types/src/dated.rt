@@ -29,6 +29,8 @@ impl<T: Shaped> StandsFor for Dated<T> {
         self.day.told();
         self.value.told();
     }
+
+    ghost one_to_one = { λ t. refl };
 }
 
 impl<T: Made> FromParts for Dated<T> {

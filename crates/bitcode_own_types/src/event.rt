@@ -33,6 +33,8 @@ impl Enum for Event {
             Event::Quit(a) => told_as(3, &a),
         }
     }
+
+    ghost one_to_one = { elim [ Event.Tick ↦ refl | Event.Spawn a b ↦ refl | Event.Move a b c ↦ refl | Event.Quit a ↦ refl ] };
 }
 
 impl EnumOf<4> for Event {

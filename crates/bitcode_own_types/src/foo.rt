@@ -27,6 +27,8 @@ impl<'a> StandsFor for Foo<'a> {
         self.x.told();
         self.y.told();
     }
+
+    ghost one_to_one = { λ t. refl };
 }
 
 impl<'a> FromParts for Foo<'a> {

@@ -27,6 +27,8 @@ impl StandsFor for Item {
         self.name.told();
         self.level.told();
     }
+
+    ghost one_to_one = { λ t. refl };
 }
 
 impl FromParts for Item {

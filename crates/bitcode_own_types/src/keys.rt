@@ -1,12 +1,14 @@
 //! Structs of two and of three fields and an enum as keys of sets and maps, by hand: what `==` tells of them, and that as data.
-ghost use Rattle.std.specs.Prelude.{refl};
-ghost use Rattle.bitcode.specs.ByHand.{and_nested, bares_told, key_as, key_of, naturals_alike, stood_key, then_nested};
+ghost use Rattle.std.specs.Prelude.{◌≢◌, refl, IfOk, IfErr};
+ghost use Rattle.bitcode.specs.ByHand.{Datum, IsDecodingOf, SpellsDatum, and_nested, bares_told, key_as, key_of, naturals_alike, stood_key, then_nested};
 ghost use Rattle.bitcode_own_types.specs.declared.light.Light.{Light};
 
 use crate::light::Light;
 use crate::seat::Seat;
 use crate::spot::Spot;
-use bitcode::{BareVariants, Error, Key, KeyPayload, Payload, StandsFor, decode};
+use bitcode::{
+    BareVariants, Error, Key, KeyPayload, Made, Payload, Reason, Shaped, StandsFor, decode,
+};
 use std::alloc::Global;
 use std::collections::{BTreeMap, BTreeSet};
 
@@ -34,12 +36,24 @@ impl Key for Light {
     ghost keyed = { ⟦<Light as KeyPayload>⟧.key.told };
 }
 
+/// The spots that have each light.
+pub type LitSpots = BTreeMap<Light, BTreeSet<Spot>>;
+
+/// How often each seat was sold.
+pub type SoldSeats = BTreeMap<Seat, u32>;
+
 /// The spots that have each light, as they were written. It refuses as `decode` does.
-pub fn lit_spots(alloc: Global, input: &[u8]) -> Result<BTreeMap<Light, BTreeSet<Spot>>, Error> {
-    decode(alloc, input)
+pub fn lit_spots(alloc: Global, input: &[u8]) -> Result<LitSpots, Error>
+    ensures found { IfOk result (λ spots. IsDecodingOf ⟦<LitSpots as Made>⟧.makes ⟦<LitSpots as Shaped>⟧.shape input.now spots) }
+    ensures refused { IfErr result (λ e. e.reason ≢ Reason.OutOfMemory → (d : Datum) → SpellsDatum ⟦<LitSpots as Shaped>⟧.shape input.now d → ⊥) }
+{
+    decode::<LitSpots>(alloc, input)
 }
 
 /// How often each seat was sold. It refuses as `decode` does.
-pub fn sold_seats(alloc: Global, input: &[u8]) -> Result<BTreeMap<Seat, u32>, Error> {
-    decode(alloc, input)
+pub fn sold_seats(alloc: Global, input: &[u8]) -> Result<SoldSeats, Error>
+    ensures found { IfOk result (λ seats. IsDecodingOf ⟦<SoldSeats as Made>⟧.makes ⟦<SoldSeats as Shaped>⟧.shape input.now seats) }
+    ensures refused { IfErr result (λ e. e.reason ≢ Reason.OutOfMemory → (d : Datum) → SpellsDatum ⟦<SoldSeats as Shaped>⟧.shape input.now d → ⊥) }
+{
+    decode::<SoldSeats>(alloc, input)
 }

@@ -29,6 +29,8 @@ impl BareVariants<2> for Light {
             _ => Light::Green,
         }
     }
+
+    ghost one_to_one = { elim [ Light.Red ↦ refl | Light.Green ↦ refl ] };
 }
 
 impl HeldIn for Light {

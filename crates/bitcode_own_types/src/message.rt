@@ -27,6 +27,8 @@ impl<'a> StandsFor for Message<'a> {
         self.from.told();
         self.text.told();
     }
+
+    ghost one_to_one = { λ t. refl };
 }
 
 impl<'a> FromParts for Message<'a> {

@@ -23,6 +23,8 @@ impl StandsFor for Meters {
     fn told_parts(&self) {
         self.0.told();
     }
+
+    ghost one_to_one = { λ t. refl };
 }
 
 impl FromParts for Meters {

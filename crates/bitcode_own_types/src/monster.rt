@@ -37,6 +37,8 @@ impl StandsFor for Monster {
         self.position.told();
         self.loot.told();
     }
+
+    ghost one_to_one = { λ t. refl };
 }
 
 impl FromParts for Monster {

@@ -28,6 +28,8 @@ impl StandsFor for One {
         let One::A(a) = self;
         a.told();
     }
+
+    ghost one_to_one = { elim [ One.A a ↦ refl ] };
 }
 
 impl FromParts for One {

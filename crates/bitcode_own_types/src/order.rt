@@ -37,6 +37,8 @@ impl Enum for Order {
             Order::Cancel => 5,
         }
     }
+
+    ghost one_to_one = { elim [ Order.Open ↦ refl | Order.Add a b ↦ refl | Order.Remove a b ↦ refl | Order.Note a ↦ refl | Order.Pay a b ↦ refl | Order.Cancel ↦ refl ] };
 }
 
 impl EnumOf<6> for Order {

@@ -31,6 +31,8 @@ impl BareVariants<3> for Outcome {
             _ => Outcome::Lost,
         }
     }
+
+    ghost one_to_one = { elim [ Outcome.Won ↦ refl | Outcome.Drawn ↦ refl | Outcome.Lost ↦ refl ] };
 }
 
 impl HeldIn for Outcome {

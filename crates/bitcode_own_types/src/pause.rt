@@ -21,6 +21,8 @@ impl StandsFor for Pause {
     ghost of_parts = { λ p. (record {}, refl) };
 
     fn told_parts(&self) {}
+
+    ghost one_to_one = { λ t. refl };
 }
 
 impl FromParts for Pause {

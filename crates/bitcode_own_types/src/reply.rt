@@ -42,6 +42,8 @@ impl<'a> Enum for Reply<'a> {
             Reply::Gone => 7,
         }
     }
+
+    ghost one_to_one = { elim [ Reply.Done ↦ refl | Reply.Text a ↦ refl | Reply.Names a b ↦ refl | Reply.Counts a ↦ refl | Reply.Seen a ↦ refl | Reply.Told a ↦ refl | Reply.Found a b ↦ refl | Reply.Gone ↦ refl ] };
 }
 
 impl<'a> EnumOf<8> for Reply<'a> {

@@ -29,6 +29,8 @@ impl StandsFor for Seat {
         self.row.told();
         self.place.told();
     }
+
+    ghost one_to_one = { λ t. refl };
 }
 
 impl FromParts for Seat {

@@ -27,6 +27,8 @@ impl StandsFor for Spot {
         self.x.told();
         self.y.told();
     }
+
+    ghost one_to_one = { λ t. refl };
 }
 
 impl FromParts for Spot {

@@ -29,6 +29,8 @@ impl Enum for Two {
             Two::B(a) => told_as(1, &a),
         }
     }
+
+    ghost one_to_one = { elim [ Two.A a ↦ refl | Two.B a ↦ refl ] };
 }
 
 impl EnumOf<2> for Two {

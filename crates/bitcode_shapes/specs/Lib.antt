@@ -47,3 +47,4 @@ pub mod KeyLaws
 pub mod OrderedKeyLaws
 pub mod CompareAlike
 pub mod KeyOf
+pub mod SameIsOne

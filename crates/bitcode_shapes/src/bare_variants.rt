@@ -1,5 +1,5 @@
 //! Enums whose variants all lack a payload: they say which variant a value is, and which value a variant.
-ghost use Rattle.std.specs.Prelude.{◌≡◌, ◌<◌, ℕ, List, true, refl};
+ghost use Rattle.std.specs.Prelude.{◌≡◌, ◌<◌, ℕ, List, Some, true, refl, slice_get};
 ghost use Rattle.bitcode_shapes.specs.Datum.{Datum};
 ghost use Rattle.bitcode_shapes.specs.BareVariants.{bare_shape, ListsBare, MakesBare, SameBare, AreSomeInOrder};
 ghost use Rattle.bitcode_shapes.specs.LawfulBareVariants.{bare_lawful, bare_makeable};
@@ -36,6 +36,8 @@ use crate::stands_for::{HeldIn, Holds};
 ///             _ => Light::Green,
 ///         }
 ///     }
+///
+///     ghost one_to_one = { elim [ Light.Red ↦ refl | Light.Green ↦ refl ] };
 /// }
 ///
 /// impl HeldIn for Light {
@@ -60,6 +62,9 @@ pub trait BareVariants<const N: usize> {
     fn from_index(index: u8) -> Self
         requires { index < N }
         ensures { variant result ≡ index };
+
+    // a value is told by its variant: it is the one that stands at that place among the values
+    ghost one_to_one: { (t : Self) → slice_get values (variant t) ≡ Some t };
 }
 
 /// An enum whose variants all lack a payload, and that is lawful as such: it says so by `HeldIn`.
@@ -84,6 +89,11 @@ impl<const N: usize, T: BareVariants<N> + HeldIn<Holder = Bare<N, T>>> BareMade<
     ghost makes_bare = { λ d t h. h };
 }
 
+/// Two values of the same variant are one: what is read back of such an enum is the very value that was written.
+pub fn told_by_variant<const N: usize, T: BareVariants<N>>(t: &T, u: &T)
+    ensures { T.variant t.now ≡ T.variant u.now → t.now ≡ u.now }
+{}
+
 /// What a value of an enum whose variants all lack a payload stands for: itself.
 pub struct Bare<const N: usize, T> {
     value: T,
@@ -104,6 +114,8 @@ impl<const N: usize, T: BareVariants<N>> Holds<T> for Bare<N, T> {
         let Bare { value } = self;
         value
     }
+
+    ghost one_to_one = { λ t. refl };
 }
 
 impl<const N: usize, T: BareVariants<N>> Shaped for Bare<N, T> {

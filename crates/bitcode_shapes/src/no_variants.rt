@@ -41,6 +41,8 @@ impl<T: NoVariants> Holds<T> for Absent<T> {
         let Absent { value } = self;
         value
     }
+
+    ghost one_to_one = { λ t. refl };
 }
 
 impl<T: NoVariants> HeldIn for T {

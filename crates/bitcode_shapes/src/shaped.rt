@@ -6,7 +6,7 @@ ghost use Rattle.bitcode_shapes.specs.Lawful.{Lawful, Makeable};
 
 /// A type whose values hold data of one shape.
 ///
-/// A value of `(u8, bool)` holds the pair of a number and of 0 or 1. `crate::values` shows how types say so.
+/// A value of `(u8, bool)` holds the pair of a number and of 0 or 1. `crate::tuples` shows how types say so.
 pub trait Shaped {
     // which data its values hold
     ghost shape: { Shape };

@@ -1,12 +1,13 @@
 //! Types whose values stand for those of another type, one for one: a struct for the tuple of its fields.
 ghost use Rattle.std.specs.Prelude.{◌≡◌};
 ghost use Rattle.bitcode_shapes.specs.LawfulImages.{image_lawful, image_makeable};
+ghost use Rattle.bitcode_shapes.specs.SameIsOne.{SameIsOne};
 
 use crate::shaped::{Made, Shaped};
 
 /// A type each of whose values stands for one of another type: a struct for the tuple of its fields.
 ///
-/// It is lawful as that type is, with the same shape, and needs no laws of its own.
+/// It is lawful as that type is, with the same shape. Its one law says that nothing of a value is left out of what it stands for.
 ///
 /// ```
 /// pub struct Point {
@@ -26,6 +27,8 @@ use crate::shaped::{Made, Shaped};
 ///         self.x.told();
 ///         self.y.told();
 ///     }
+///
+///     ghost one_to_one = { λ t. refl };
 /// }
 /// ```
 pub trait StandsFor {
@@ -46,6 +49,27 @@ pub trait StandsFor {
     /// What a value in hand stands for is a value, as each field of a struct is.
     fn told_parts(&self)
         ensures { Self.Parts.is_value (parts self.now) };
+
+    // a value is told by what it stands for: it is the one that stands for that
+    ghost one_to_one: { (t : Self) → (of_parts (parts t)).0 ≡ t };
+}
+
+/// Two values that stand for the same are one, where what is the same among their parts is one: numbers are, and tuples of such types.
+///
+/// So what is read back of a type that stands for such a tuple is the very value that was written: `same` of the type says that they
+/// stand for the same.
+///
+/// ```
+/// comes_back(&spot, &bytes, &again);
+/// if let Ok(read) = &again {
+///     told_by_parts(&spot, read);
+/// }
+/// ```
+pub fn told_by_parts<T: StandsFor>(t: &T, u: &T)
+    ensures { SameIsOne T.Parts.is_value T.Parts.same → T.Parts.same (T.parts t.now) (T.parts u.now) → t.now ≡ u.now }
+{
+    t.told_parts();
+    u.told_parts();
 }
 
 /// A type each of whose values is made of what it stands for: a struct of its fields.
@@ -80,6 +104,9 @@ pub trait Holds<T>: Shaped {
     /// The value that it holds.
     fn into_value(self) -> T
         ensures { holder result ≡ self };
+
+    // what holds a value holds that very one
+    ghost one_to_one: { (t : T) → value (holder t) ≡ t };
 }
 
 /// A type each of whose values stands for the struct that holds it, and is made of that.
@@ -106,6 +133,8 @@ impl<T: HeldIn> StandsFor for T {
     fn told_parts(&self) {
         T::Holder::told_value(self);
     }
+
+    ghost one_to_one = { λ t. T.Holder.one_to_one t };
 }
 
 impl<T: HeldIn> FromParts for T {

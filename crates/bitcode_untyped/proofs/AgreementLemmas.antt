@@ -297,6 +297,8 @@ root_tells shape v =
     rw is_root (root_told table reference_limit (v, told table v) table shape.root)
 
 pub faults_tell : (shape : Shape) → FaultsTell shape
-faults_tell shape v typed =
-    let t = root_tells shape v in
-    ((λ h. (t.cases h, t.is_one typed h)), (λ h. t.none h.0 h.1))
+faults_tell shape = record {
+  cases = λ v h. (root_tells shape v).cases h;
+  datum = λ v typed h. (root_tells shape v).is_one typed h;
+  none = λ v cases is_one. (root_tells shape v).none cases is_one;
+}

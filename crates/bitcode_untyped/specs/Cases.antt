@@ -1,6 +1,6 @@
 -- Which cases a value has, beside those of its shape: a U8 and a U64 of one number have the same datum, and not the same
 -- case. How many fields there are, and which variants, is no matter of cases: that is said of the datum.
-use Rattle.std.specs.Prelude.{◌≡◌, ℕ, ◌<◌, ◌↔◌, pos, Bool, true, false, ◌&&◌, Option, Some, None, List, [], ◌∷◌, slice_get, string_bytes, IsUtf8}
+use Rattle.std.specs.Prelude.{◌≡◌, ℕ, ◌<◌, pos, Bool, true, false, ◌&&◌, Option, Some, None, List, [], ◌∷◌, slice_get, string_bytes, IsUtf8}
 use Rattle.std.specs.Char.{IsScalar}
 use Rattle.std.specs.List.{list_all, AllByRecursion}
 use Rattle.bitcode_shapes.specs.Shape.{IsInWidth}
@@ -90,6 +90,9 @@ IsOfItsType _ = Unit {0}
 
 -- ---- the faults tell whether a value is of a shape
 
--- A value has no fault just where it has the cases of the shape, and a datum of it.
-abbrev pub FaultsTell : Shape → Type 0
-FaultsTell shape = (v : Value) → every-Value IsOfItsType v → value_faults shape v ≡ [] ↔ (HasCasesOf shape v × IsOf (tree_of shape) (datum_of v))
+-- A value has no fault just where it has the cases of the shape, and a datum of it. Its numbers, chars and texts have to be of their
+-- types for a datum of the shape alone: no fault is one of these.
+pub record FaultsTell (shape : Shape) : Type 0 where
+  pub cases : (v : Value) → value_faults shape v ≡ [] → HasCasesOf shape v
+  pub datum : (v : Value) → every-Value IsOfItsType v → value_faults shape v ≡ [] → IsOf (tree_of shape) (datum_of v)
+  pub none : (v : Value) → HasCasesOf shape v → IsOf (tree_of shape) (datum_of v) → value_faults shape v ≡ []

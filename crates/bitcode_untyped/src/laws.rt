@@ -64,7 +64,8 @@ pub fn one_value_of_a_datum()
     ensures { (shape : Shape) → DatumDecides shape }
 {}
 
-/// A value has no fault under a shape exactly where its cases are those of the shape, and its datum is of the shape.
+/// A value has no fault under a shape exactly where its cases are those of the shape, and its datum is of the shape. A value in hand is of its
+/// type, and that is needed only for the datum of one without faults: `serialize` says of each value that it writes that its datum is of the shape.
 ///
 /// ```
 /// faults_tell();

@@ -12,4 +12,4 @@ impl<'a, T> HasDecoder<'a> for PhantomData<T> {
     type Decoder = EmptyCoder;
 }
 
-impl<T> DecodeOwned for PhantomData<T> {}
+impl<T: 'static> DecodeOwned for PhantomData<T> {}
