@@ -171,7 +171,7 @@ class Checker:
         if type.name in self.item.types and not type.parts:
             return
         if type.name == self.item.name:
-            raise Refused(type.line, f"`{type.name}` holds itself: write a `Value` (docs/WHICH_FORMAT.md)")
+            raise Refused(type.line, f"`{type.name}` holds itself: write a `Value` (docs/GUIDE.md)")
         if type.name in self.own:
             self.own_type(type)
             return
@@ -189,7 +189,7 @@ class Checker:
             raise Refused(type.line, f"`{type.name}` takes {known.types} types and {known.numbers} numbers here")
         if type.name in KEYED and not can_be_key(types[0]):
             element = of_text(types[0] if len(types) == 1 else types[0]._replace(kind="tuple", parts=types))
-            raise Refused(type.line, f"`{of_text(types[0])}` is no key (docs/GUIDE.md, \"Keys\"): write `Vec<{element}>`")
+            raise Refused(type.line, f"`{of_text(types[0])}` is no key (docs/CODERS.md, \"Keys\"): write `Vec<{element}>`")
         if known.path:
             self.imports.add(known.path)
             self.crates |= {known.path.split("::")[0]} - {"std"}

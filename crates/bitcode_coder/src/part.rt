@@ -7,10 +7,12 @@ use std::marker::PhantomData;
 /// A part of type `T` that each value of `S` has.
 ///
 /// ```
-/// impl Part<Player, u8> for Level {
-///     ghost of = { λ level player. player.level };
+/// pub struct Level {}
 ///
-///     fn part<'b>(&'b self, whole: &'b Player) -> &'b u8 {
+/// impl Part<Hero, u8> for Level {
+///     ghost of = { λ level hero. hero.level };
+///
+///     fn part<'b>(&'b self, whole: &'b Hero) -> &'b u8 {
 ///         &whole.level
 ///     }
 /// }

@@ -12,8 +12,8 @@ type Tables = [usize; 1024];
 ///
 /// ```rust
 /// let counts = histogram(&[3, 7, 3]);
-/// counts[3] // 2
-/// counts[4] // 0
+/// assert_eq!(rt; counts[3], 2);
+/// assert_eq!(rt; counts[4], 0);
 /// ```
 pub fn histogram(bytes: &[u8]) -> [usize; 256]
     ensures { AreCounts 256 bytes.now result }

@@ -115,7 +115,7 @@ impl Base {
 /// ```rust
 /// let mut out = Vec::new(alloc);
 /// pack_bools(&[true, false, true], &mut out)?;
-/// assert_eq!(rt; out.as_slice(), &[5]);
+/// assert_eq!(rt; out.as_slice(), [5].as_slice());
 /// ```
 pub fn pack_bools(bools: &[bool], out: &mut Vec<u8>) -> Result<(), Error>
     ensures written { OnOk result (out.new.items ≡ out.old.items ++ bool_text bools.now) }
@@ -135,8 +135,8 @@ pub fn pack_bools(bools: &[bool], out: &mut Vec<u8>) -> Result<(), Error>
 /// let mut input: &[u8] = &[5, 9];
 /// let mut bools = CowSlice::new(alloc);
 /// unpack_bools(alloc, &mut input, 3, &mut bools)?;
-/// assert_eq!(rt; bools.as_slice(), &[true, false, true]);
-/// assert_eq!(rt; input, &[9]);
+/// assert_eq!(rt; bools.as_slice(), [true, false, true].as_slice());
+/// assert_eq!(rt; input, [9].as_slice());
 /// ```
 pub fn unpack_bools<'a>(
     alloc: Global,

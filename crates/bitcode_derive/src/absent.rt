@@ -15,9 +15,9 @@ use std::alloc::Global;
 
 /// The columns of a type without values: none. No value is ever written.
 ///
-/// ```
-/// let nothing: AbsentEncoder = AbsentEncoder::new(alloc);
-/// nothing.collect(alloc)?; // []
+/// ```rust
+/// let mut nothing: AbsentEncoder = AbsentEncoder::new(alloc);
+/// assert!(rt; nothing.collect(alloc)?.is_empty());
 /// ```
 #[derive(Drop)]
 pub struct AbsentEncoder {}
@@ -64,9 +64,10 @@ impl<T: NoVariants> Encoder<T> for AbsentEncoder {
 
 /// The decoder of a type without values: one or more are `invalid enum variant`.
 ///
-/// ```
+/// ```rust
+/// let mut input: &[u8] = &[];
 /// let mut nothing: AbsentDecoder = AbsentDecoder::new(alloc);
-/// nothing.populate(&mut input, 1)?; // `invalid enum variant`
+/// assert_eq!(rt; nothing.populate(&mut input, 1), err(Reason::InvalidEnumVariant));
 /// ```
 #[derive(Drop)]
 pub struct AbsentDecoder {

@@ -16,10 +16,9 @@ use std::alloc::Global;
 ///
 /// Each call stands for itself: what came before it, refusals too, changes nothing of what is written.
 ///
-/// ```
+/// ```rust
 /// let mut buffer: Buffer<(bool, u16)> = Buffer::new(alloc);
-/// let bytes = buffer.encode(&(true, 7))?;
-/// prove!(bytes == [1, 7, 0]);
+/// assert_eq!(rt; buffer.encode(&(true, 7))?, [1, 7, 0].as_slice());
 /// ```
 #[derive(Drop)]
 pub struct Buffer<T: HasEncoder> {
@@ -49,7 +48,8 @@ where
     /// Errors: `length overflow` where some number of arrays in the value times their size is over
     /// 18446744073709551615, and `out of memory` where a growth was refused.
     ///
-    /// ```
+    /// ```rust
+    /// let mut buffer: Buffer<(bool, u16)> = Buffer::new(alloc);
     /// let bytes = buffer.encode(&(true, 7))?;
     /// ```
     pub fn encode(&mut self, t: &T) -> Result<&[u8], Error>
@@ -70,8 +70,10 @@ where
     /// Errors: one of the faults of the input, `Expected EOF` where bytes are left behind the value, and
     /// `out of memory` where a growth was refused.
     ///
-    /// ```
+    /// ```rust
+    /// let mut buffer: Buffer<(bool, u16)> = Buffer::new(alloc);
     /// let pair = buffer.decode(&[1, 7, 0])?;
+    /// assert!(rt; pair == (true, 7));
     /// ```
     pub fn decode<'a>(&mut self, bytes: &'a [u8]) -> Result<T, Error>
     where

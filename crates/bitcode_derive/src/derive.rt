@@ -11,9 +11,9 @@ use bitcode_shapes::stands_for::HeldIn;
 /// A type of your own names the encoder of its fields, as a wrapper of a `u32` that of `u32`. It is then an [`Encode`],
 /// where the encoder writes its values:
 ///
-/// ```
+/// ```rust,from:crates/bitcode_own_types/src/meters.rt
 /// impl HasEncoder for Meters {
-///     type Encoder = MetersEncoder;
+///     type Encoder = EncoderOfFields<1, u32>;
 /// }
 /// ```
 pub trait HasEncoder {
@@ -35,9 +35,9 @@ where
 ///
 /// The type is then a [`Decode`], where values of it are made of what the decoder holds:
 ///
-/// ```
+/// ```rust,from:crates/bitcode_own_types/src/meters.rt
 /// impl<'a> HasDecoder<'a> for Meters {
-///     type Decoder = MetersDecoder<'a>;
+///     type Decoder = DecoderOfFields<'a, u32>;
 /// }
 /// ```
 pub trait HasDecoder<'a> {
@@ -60,7 +60,7 @@ where
 /// It has no functions: each such type says so for itself, or by [`HasCoders`]. A struct that borrows, `Foo<'a>`, is refused, and
 /// `Foo<'static>` alone is not, which is read from an input that is never let go.
 ///
-/// ```
+/// ```rust,from:crates/bitcode_own_types/src/meters.rt
 /// impl DecodeOwned for Meters {}
 /// ```
 pub trait DecodeOwned: 'static {}
@@ -70,7 +70,7 @@ pub trait DecodeOwned: 'static {}
 ///
 /// It has no functions, and stands in the place of [`HasEncoder`], [`HasDecoder`] and [`DecodeOwned`]:
 ///
-/// ```
+/// ```rust,from:crates/bitcode_own_types/src/light.rt
 /// impl HasCoders for Light {}
 /// ```
 pub trait HasCoders: HeldIn + 'static {}

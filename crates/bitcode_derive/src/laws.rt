@@ -21,9 +21,10 @@ use std::alloc::Global;
 /// The bytes spell the listing that was written, so `decode` refuses them only for want of memory; and what it
 /// gives is equal to the value.
 ///
-/// ```
+/// ```rust
+/// let t = (true, 7u16);
 /// let bytes = encode(alloc, &t)?;
-/// let u: T = decode(alloc, &bytes)?;
+/// let u: (bool, u16) = decode(alloc, &bytes)?;
 /// round_trip(&t, &bytes, &u);
 /// ```
 pub fn round_trip<'a, T: Made>(t: &T, bytes: &'a [u8], u: &T)
@@ -39,11 +40,11 @@ pub fn round_trip<'a, T: Made>(t: &T, bytes: &'a [u8], u: &T)
 /// What `decode` gives for the bytes that were written for a value is equal to the value, or want of memory, where in each
 /// listing of the value each column of lengths sums below 2251799813685247.
 ///
-/// ```
+/// ```rust
+/// let t = (true, 7u16);
 /// let bytes = encode(alloc, &t)?;
-/// let again = decode(alloc, &bytes);
+/// let again: Result<(bool, u16), Error> = decode(alloc, &bytes);
 /// comes_back(&t, &bytes, &again);
-/// again
 /// ```
 pub fn comes_back<'a, T: Made>(t: &T, bytes: &'a [u8], again: &Result<T, Error>)
     ensures equal { IsEncodingOf T.lists T.shape t.now bytes.now → HasShortLengths T.lists T.shape t.now
@@ -95,7 +96,8 @@ pub fn comes_back_equal<'a, T: Made + Key>(t: &T, bytes: &'a [u8], again: &Resul
 /// A value that keeps nothing in an order of its own, as a hashed container or a heap does, is written as the same
 /// bytes each time.
 ///
-/// ```
+/// ```rust
+/// let t = (true, 7u16);
 /// let bytes = encode(alloc, &t)?;
 /// let again = encode(alloc, &t)?;
 /// one_text(&t, &bytes, &again);
@@ -108,9 +110,10 @@ pub fn one_text<T: Shaped>(t: &T, bytes: &[u8], again: &[u8])
 
 /// Two values that are read from the same bytes are equal.
 ///
-/// ```
-/// let t: T = decode(alloc, bytes)?;
-/// let u: T = decode(alloc, bytes)?;
+/// ```rust
+/// let bytes: &[u8] = &[1, 7, 0];
+/// let t: (bool, u16) = decode(alloc, bytes)?;
+/// let u: (bool, u16) = decode(alloc, bytes)?;
 /// one_value(bytes, &t, &u);
 /// ```
 pub fn one_value<'a, T: Made>(bytes: &'a [u8], t: &T, u: &T)
@@ -127,7 +130,8 @@ pub fn one_value<'a, T: Made>(bytes: &'a [u8], t: &T, u: &T)
 /// is. So bytes are written only where in no listing such a product overflows, and `length overflow` is answered only where in
 /// each listing one does.
 ///
-/// ```
+/// ```rust
+/// let t = (true, 7u16);
 /// let bytes = encode(alloc, &t)?;
 /// overflows_exactly(&t, &bytes);
 /// ```
@@ -142,8 +146,9 @@ pub fn overflows_exactly<T: SameArrays>(t: &T, bytes: &[u8])
 ///
 /// So a `&str` that `decode` gives is a slice of the input, for as long as that lives.
 ///
-/// ```
-/// let text: &str = decode(alloc, bytes)?; // [2, 97, 98]
+/// ```rust
+/// let bytes: &[u8] = &[2, 97, 98];
+/// let text: &str = decode(alloc, bytes)?;
 /// borrowed_text(bytes, &text); // the bytes from 1 to 3
 /// ```
 pub fn borrowed_text<'a>(bytes: &'a [u8], text: &&'a str)
@@ -153,8 +158,9 @@ pub fn borrowed_text<'a>(bytes: &'a [u8], text: &&'a str)
 /// The texts of a value that is read from bytes are slices of these bytes: each begins where the columns before its own, its
 /// column's lengths and the texts before it in its column end.
 ///
-/// ```
-/// let pair: (u8, &str) = decode(alloc, bytes)?; // [7, 2, 97, 98]
+/// ```rust
+/// let bytes: &[u8] = &[7, 2, 97, 98];
+/// let pair: (u8, &str) = decode(alloc, bytes)?;
 /// borrowed_texts(bytes, &pair); // "ab" is the bytes from 2 to 4
 /// ```
 pub fn borrowed_texts<'a, T: Made>(bytes: &'a [u8], t: &T)
@@ -165,8 +171,9 @@ pub fn borrowed_texts<'a, T: Made>(bytes: &'a [u8], t: &T)
 ///
 /// Errors: one of the faults of the input, and never `out of memory`.
 ///
-/// ```
+/// ```rust
 /// let text = short_text(alloc, &[2, 97, 98])?;
+/// assert_eq!(rt; text, "ab");
 /// ```
 pub fn short_text<'a>(alloc: Global, bytes: &'a [u8]) -> Result<&'a str, Error>
     requires { slice_index bytes.now 0 < 255 }

@@ -22,10 +22,11 @@ use std::alloc::Global;
 /// Errors: `length overflow` where some number of arrays in the value times their size is over
 /// 18446744073709551615, and `out of memory` where a growth was refused. `out` then begins with what it held.
 ///
-/// ```
+/// ```rust
 /// let mut out = Vec::new(alloc);
 /// encode_into(alloc, &true, &mut out)?;
-/// encode_into(alloc, &7u16, &mut out)?;   // [1, 7, 0]
+/// encode_into(alloc, &7u16, &mut out)?;
+/// assert_eq!(rt; out.as_slice(), [1, 7, 0].as_slice());
 /// ```
 pub fn encode_into<T: HasEncoder + Shaped>(
     alloc: Global,
@@ -53,9 +54,9 @@ where
 /// Errors: `length overflow` where some number of arrays in the value times their size is over
 /// 18446744073709551615, and `out of memory` where a growth was refused.
 ///
-/// ```
+/// ```rust
 /// let bytes = encode(alloc, &(true, 7u16))?;
-/// prove!(bytes.as_slice() == [1, 7, 0]);
+/// assert_eq!(rt; bytes.as_slice(), [1, 7, 0].as_slice());
 /// ```
 pub fn encode<T: HasEncoder + Shaped>(alloc: Global, t: &T) -> Result<Vec<u8>, Error>
 where
@@ -77,9 +78,9 @@ where
 /// value that takes memory, once the bytes are known to spell it. A refusal for another cause than want of memory comes
 /// only where the bytes spell no value.
 ///
-/// ```
+/// ```rust
 /// let pair: (bool, u16) = decode(alloc, &[1, 7, 0])?;
-/// prove!(pair.0 && pair.1 == 7);
+/// assert!(rt; pair == (true, 7));
 /// ```
 pub fn decode<'a, T: HasDecoder<'a> + Made + Drop>(
     alloc: Global,
@@ -141,10 +142,11 @@ where
 /// memory, once all its bytes are there, or for a value that takes memory, once a front is known to spell it. The input is
 /// then an end part of what it was. A refusal for another cause than want of memory comes only where no front spells a value.
 ///
-/// ```
+/// ```rust
 /// let mut input: &[u8] = &[1, 7, 0];
-/// let flag: bool = decode_front(alloc, &mut input)?;    // [7, 0] is left
-/// let number: u16 = decode_front(alloc, &mut input)?;   // nothing is left
+/// let flag: bool = decode_front(alloc, &mut input)?;
+/// let number: u16 = decode_front(alloc, &mut input)?;
+/// assert!(rt; flag && number == 7 && input.is_empty());
 /// ```
 pub fn decode_front<'a, T: HasDecoder<'a> + Made + Drop>(
     alloc: Global,

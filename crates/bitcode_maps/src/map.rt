@@ -27,11 +27,12 @@ use std::hash::Hash;
 ///
 /// It writes the keys and the values by their encoders, in one order, and refuses as these do.
 ///
-/// ```
+/// ```rust
+/// let map: BTreeMap<u8, u8> = decode(alloc, &[1, 1, 6])?; // 1 to 6
 /// let mut maps: MapEncoder<IntEncoder<u8>, IntEncoder<u8>> = MapEncoder::new(alloc);
 /// maps.reserve(1)?;
-/// maps.encode(&map)?;             // 1 to 6
-/// maps.collect_into(&mut bytes)?; // [1, 1, 6]
+/// maps.encode(&map)?;
+/// assert_eq!(rt; maps.collect(alloc)?.as_slice(), [1, 1, 6].as_slice());
 /// ```
 #[derive(Drop)]
 pub struct MapEncoder<K, V> {
@@ -138,7 +139,7 @@ impl<'a, K, V> MapDecoder<'a, K, V> {
     ///
     /// A decoder of a map of one's own is this call. `out of memory` is its only refusal.
     ///
-    /// ```
+    /// ```text
     /// let names: Names = maps.decode_as()?; // of a `Names: FromElements<Part = (u8, String)>`
     /// ```
     pub fn decode_as<C: FromElements>(&mut self) -> Result<C, Error>

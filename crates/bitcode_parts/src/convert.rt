@@ -12,11 +12,13 @@ use std::marker::PhantomData;
 
 /// A type whose values are written as values of `T`, as a `Duration` is as its seconds and nanoseconds.
 ///
-/// ```
-/// impl ConvertInto<u32> for Meters {
-///     fn convert_into(&self) -> u32 {
-///         self.0
+/// ```rust,from:crates/bitcode_parts/src/durations.rt
+/// impl ConvertInto<DurationEncode> for Duration {
+///     fn convert_into(&self) -> DurationEncode {
+///         (self.as_secs(), self.subsec_nanos())
 ///     }
+///
+///     ghost written_as = { duration_written_as };
 /// }
 /// ```
 pub trait ConvertInto<T: Shaped>: Shaped {
@@ -29,11 +31,13 @@ pub trait ConvertInto<T: Shaped>: Shaped {
 
 /// A type whose values are made of values of `T`, as a `Duration` is of its seconds and nanoseconds.
 ///
-/// ```
-/// impl ConvertFrom<u32> for Meters {
-///     fn convert_from(value: u32) -> Self {
-///         Meters(value)
+/// ```rust,from:crates/bitcode_parts/src/durations.rt
+/// impl ConvertFrom<DurationDecode> for Duration {
+///     fn convert_from(value: DurationDecode) -> Self {
+///         Duration::new(value.0, value.1.into_inner())
 ///     }
+///
+///     ghost shape_from = { refl };
 /// }
 /// ```
 pub trait ConvertFrom<T: Made>: Made {
@@ -46,11 +50,15 @@ pub trait ConvertFrom<T: Made>: Made {
 
 /// The columns that values are written to as values of `T`, by the encoder `E` of these.
 ///
-/// ```
-/// let mut lengths: ConvertIntoEncoder<u32, IntEncoder<u32>> = ConvertIntoEncoder::new(alloc);
-/// lengths.reserve(1)?;
-/// lengths.encode(&Meters(7))?;
-/// lengths.collect_into(&mut bytes)?; // [4, 7]
+/// ```rust
+/// use bitcode_parts::durations::{DurationDecode, DurationEncode};
+/// use std::time::Duration;
+///
+/// let mut times: ConvertIntoEncoder<DurationEncode, TupleEncoder<IntEncoder<u64>, IntEncoder<u32>>> =
+///     ConvertIntoEncoder::new(alloc);
+/// times.reserve(1)?;
+/// times.encode(&Duration::new(7, 9))?;
+/// assert_eq!(rt; times.collect(alloc)?.as_slice(), [6, 7, 4, 9].as_slice());
 /// ```
 #[derive(Drop)]
 pub struct ConvertIntoEncoder<T, E> {
@@ -105,10 +113,16 @@ impl<T: Shaped + Drop, D: ConvertInto<T>, E: Encoder<T>> Encoder<D> for ConvertI
 
 /// The data that values are made of by way of values of `T`, read by the decoder `D` of these.
 ///
-/// ```
-/// let mut lengths: ConvertFromDecoder<u32, IntDecoder<u32>> = ConvertFromDecoder::new(alloc);
-/// lengths.populate(&mut input, 1)?; // [4, 7]
-/// let first: Meters = lengths.decode()?; // Meters(7)
+/// ```rust
+/// use bitcode_parts::durations::{DurationDecode, DurationEncode};
+/// use std::time::Duration;
+///
+/// let mut input: &[u8] = &[6, 7, 4, 9];
+/// let mut times: ConvertFromDecoder<DurationDecode, TupleDecoder<IntDecoder<u64>, CheckedIntDecoder<Nanosecond, u32>>> =
+///     ConvertFromDecoder::new(alloc);
+/// times.populate(&mut input, 1)?;
+/// let first: Duration = times.decode()?;
+/// assert_eq!(rt; first, Duration::new(7, 9));
 /// ```
 #[derive(Drop)]
 pub struct ConvertFromDecoder<T, D> {

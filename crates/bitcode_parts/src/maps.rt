@@ -25,7 +25,7 @@ use std::hash::Hash;
 
 /// A type that is written as the pairs of its keys and values: a map in the order of its keys, or in one of its own.
 ///
-/// ```
+/// ```text
 /// impl Mapping for Names {
 ///     type Key = u8;
 ///     type Value = String;

@@ -10,11 +10,12 @@ use std::marker::PhantomData;
 ///
 /// It refuses as that decoder does, and takes no memory of its own.
 ///
-/// ```
-/// type Parts<'a> = TupleDecoder<IntDecoder<'a, u32>, IntDecoder<'a, u32>>;
-/// let mut points: PartsDecoder<(u32, u32), Parts<'_>> = View::new(alloc);
-/// points.populate(&mut input, 1)?; // [4, 1, 4, 2]
-/// let first: Point = points.decode()?; // Point { x: 1, y: 2 }
+/// ```rust
+/// let mut input: &[u8] = &[4, 1, 4, 2];
+/// let mut points: PartsDecoder<(u32, u32), TupleDecoder<IntDecoder<u32>, IntDecoder<u32>>> = PartsDecoder::new(alloc);
+/// points.populate(&mut input, 1)?;
+/// let first: Point = points.decode()?;
+/// assert!(rt; first == Point { x: 1, y: 2 });
 /// ```
 #[derive(Drop)]
 pub struct PartsDecoder<P, D> {

@@ -13,16 +13,11 @@ use crate::stands_for::{HeldIn, Holds};
 /// An enum of `N` variants, 2 to 256, all of which lack a payload. They are numbered from 0 on in the order in which they
 /// stand.
 ///
-/// ```
-/// pub enum Light {
-///     Red,
-///     Green,
-/// }
+/// ```rust,from:crates/bitcode_own_types/src/outcome.rt
+/// impl BareVariants<3> for Outcome {
+///     ghost variant = { elim [ Outcome.Won ↦ 0 | Outcome.Drawn ↦ 1 | Outcome.Lost ↦ 2 ] };
 ///
-/// impl BareVariants<2> for Light {
-///     ghost variant = { elim [ Light.Red ↦ 0 | Light.Green ↦ 1 ] };
-///
-///     ghost values = { Light.Red ∷ Light.Green ∷ [] };
+///     ghost values = { Outcome.Won ∷ Outcome.Drawn ∷ Outcome.Lost ∷ [] };
 ///
 ///     ghost in_order = { (refl, refl) };
 ///
@@ -32,16 +27,17 @@ use crate::stands_for::{HeldIn, Holds};
 ///
 ///     fn from_index(index: u8) -> Self {
 ///         match index {
-///             0 => Light::Red,
-///             _ => Light::Green,
+///             0 => Outcome::Won,
+///             1 => Outcome::Drawn,
+///             _ => Outcome::Lost,
 ///         }
 ///     }
 ///
-///     ghost one_to_one = { elim [ Light.Red ↦ refl | Light.Green ↦ refl ] };
+///     ghost one_to_one = { elim [ Outcome.Won ↦ refl | Outcome.Drawn ↦ refl | Outcome.Lost ↦ refl ] };
 /// }
 ///
-/// impl HeldIn for Light {
-///     type Holder = Bare<2, Light>;
+/// impl HeldIn for Outcome {
+///     type Holder = Bare<3, Outcome>;
 /// }
 /// ```
 pub trait BareVariants<const N: usize> {

@@ -16,9 +16,9 @@ use std::cmp::Eq;
 ///
 /// `specs/KeyLaws.antt` has the laws of numbers, texts, sequences and tuples.
 ///
-/// ```
-/// impl Key for Name {
-///     ghost keyed = { texts_told _ (λ n. n.text) };
+/// ```rust,from:crates/bitcode_own_types/src/keys.rt
+/// impl Key for Spot {
+///     ghost keyed = { ⟦<Spot as KeyPayload>⟧.key.told };
 /// }
 /// ```
 pub trait Key: Shaped + Eq {

@@ -27,9 +27,9 @@ use crate::no_variants::{Absent, NoVariants};
 /// Sets and maps are among these where their elements and keys are a `KeyPayload`. A type of one's own says its laws by those of what it
 /// stands for:
 ///
-/// ```
-/// impl Payload for Point {
-///     ghost payload = { stood_payload ⟦<Point as StandsFor>⟧.parts ⟦<Point as StandsFor>⟧.of_parts ⟦<(u32, u32) as Payload>⟧.payload };
+/// ```rust,from:crates/bitcode_own_types/src/message.rt
+/// impl<'a> Payload for Message<'a> {
+///     ghost payload = { stood_payload ⟦<Message<'a> as StandsFor>⟧.parts ⟦<Message<'a> as StandsFor>⟧.of_parts ⟦<(u32, &'a str) as Payload>⟧.payload };
 /// }
 /// ```
 pub trait Payload {
@@ -44,13 +44,13 @@ pub trait Payload {
 /// check refuses each enum by number that has a set or a map of the type in a field. A struct of one or two fields with a derived `Ord` is
 /// compared as the tuple of its fields:
 ///
-/// ```
-/// impl KeyPayload for Point {
-///     ghost key = { stood_key ⟦<Point as StandsFor>⟧.parts ⟦<Point as StandsFor>⟧.of_parts ⟦<(u32, u32) as KeyPayload>⟧.key };
+/// ```rust,from:crates/bitcode_own_types/src/keys.rt
+/// impl KeyPayload for Spot {
+///     ghost key = { stood_key ⟦<Spot as StandsFor>⟧.parts ⟦<Spot as StandsFor>⟧.of_parts ⟦<(u32, u32) as KeyPayload>⟧.key };
 /// }
 ///
-/// impl Key for Point {
-///     ghost keyed = { ⟦<Point as KeyPayload>⟧.key.told };
+/// impl Key for Spot {
+///     ghost keyed = { ⟦<Spot as KeyPayload>⟧.key.told };
 /// }
 /// ```
 ///
@@ -58,7 +58,7 @@ pub trait Payload {
 /// as its variants do. They say so by `key_as`, with a proof that the two answer alike: for a struct by `and_nested` and `then_nested` of
 /// `specs/CompareAlike.antt`, for an enum by `refl` at each two of its variants:
 ///
-/// ```
+/// ```rust,from:crates/bitcode_own_types/src/keys.rt
 /// impl KeyPayload for Light {
 ///     ghost key = { key_as (key_of ⟦<Light as Payload>⟧.payload (naturals_alike ⟦<Light as BareVariants<2>>⟧.variant) (bares_told _ ⟦<Light as BareVariants<2>>⟧.variant)) ⟦<Light as PartialEq>⟧.eq ⟦<Light as Ord>⟧.cmp (elim [ Light.Red ↦ elim [ Light.Red ↦ refl | Light.Green ↦ refl ] | Light.Green ↦ elim [ Light.Red ↦ refl | Light.Green ↦ refl ] ]) (elim [ Light.Red ↦ elim [ Light.Red ↦ refl | Light.Green ↦ refl ] | Light.Green ↦ elim [ Light.Red ↦ refl | Light.Green ↦ refl ] ]) };
 /// }

@@ -16,9 +16,9 @@ use crate::stands_for::StandsFor;
 /// when, of these types. A type of one's own can be written and read without this promise. `specs/SameArrays.antt` has its
 /// laws: of types whose values list one datum each, of structs, choices, sequences and maps.
 ///
-/// ```
-/// impl SameArrays for Name {
-///     ghost same_arrays = { one_datum_same_arrays };
+/// ```rust,from:crates/bitcode_by_hand/src/foo.rt
+/// impl<'a> SameArrays for Foo<'a> {
+///     ghost same_arrays = { struct_same_arrays foo_fields u32_same_arrays str_same_arrays };
 /// }
 /// ```
 pub trait SameArrays: Shaped {

@@ -111,9 +111,9 @@ pub trait Holds<T>: Shaped {
 
 /// A type each of whose values stands for the struct that holds it, and is made of that.
 ///
-/// ```
-/// impl HeldIn for Light {
-///     type Holder = Bare<2, Light>;
+/// ```rust,from:crates/bitcode_own_types/src/outcome.rt
+/// impl HeldIn for Outcome {
+///     type Holder = Bare<3, Outcome>;
 /// }
 /// ```
 pub trait HeldIn {

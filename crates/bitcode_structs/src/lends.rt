@@ -8,20 +8,20 @@ pub mod of_9_to_16;
 
 /// A struct that lends its only field.
 ///
-/// ```
+/// ```rust,from:crates/bitcode_own_types/src/meters.rt
 /// impl LendsFields1<u32> for Meters {
 ///     fn fields(&self) -> &u32 {
-///         &self.count
+///         &self.0
 ///     }
 /// }
 /// ```
 ///
 /// One of two fields is a `LendsFields2`, and so on:
 ///
-/// ```
-/// impl LendsFields2<u32, u32> for Point {
-///     fn fields(&self) -> (&u32, &u32) {
-///         (&self.x, &self.y)
+/// ```rust,from:crates/bitcode_own_types/src/message.rt
+/// impl<'a> LendsFields2<u32, &'a str> for Message<'a> {
+///     fn fields(&self) -> (&u32, &&'a str) {
+///         (&self.from, &self.text)
 ///     }
 /// }
 /// ```

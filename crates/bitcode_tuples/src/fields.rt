@@ -14,7 +14,8 @@ pub mod of_6_to_8;
 /// References to the fields of a value: to one of them, or a pair of one and the others.
 ///
 /// ```
-/// let fields = (&player.name, (&player.level, &player.score));
+/// let player = ("ab", 7u8, 9u32);
+/// let fields = (&player.0, (&player.1, &player.2));
 /// ```
 pub trait Fields {
     type Whole: Shaped;
@@ -57,8 +58,11 @@ pub trait FieldsEncoder<F: Fields>: HoldsColumns {
     ///
     /// It refuses as that does.
     ///
-    /// ```
-    /// columns.encode_fields(&(&player.name, (&player.level, &player.score)))?;
+    /// ```rust
+    /// let mut columns: TupleEncoder<IntEncoder<u8>, IntEncoder<u8>> = TupleEncoder::new(alloc);
+    /// columns.reserve(1)?;
+    /// columns.encode_fields(&(&1, &2))?;
+    /// assert_eq!(rt; columns.collect(alloc)?.as_slice(), [1, 2].as_slice());
     /// ```
     fn encode_fields(&mut self, fields: &F) -> Result<(), Error>
         requires { 0 < Self.room self.old }

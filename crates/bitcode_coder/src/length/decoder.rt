@@ -22,11 +22,12 @@ const LENGTH_LIMIT: u128 = 2251799813685247;
 
 /// The column that lengths are read from.
 ///
-/// ```
+/// ```rust
+/// let mut input: &[u8] = &[0, 1, 255, 2, 6, 255];
 /// let mut lengths = LengthDecoder::new(alloc);
-/// lengths.populate(&mut input, 3)?; // 0, 1, 255, 2, 6, 255
-/// lengths.length() // 258
-/// lengths.decode() // 1, then 255 and 2
+/// lengths.populate(&mut input, 3)?;
+/// assert_eq!(rt; lengths.length(), 258);
+/// assert_eq!(rt; lengths.decode(), 1);
 /// ```
 #[derive(Drop)]
 pub struct LengthDecoder<'a> {

@@ -143,7 +143,8 @@ impl LengthEncoder {
 
     /// Writes a length below 255. Room for it was reserved. Takes no memory.
     ///
-    /// ```
+    /// ```rust
+    /// let mut lengths = LengthEncoder::new(alloc);
     /// lengths.reserve(1)?;
     /// lengths.encode_less_than_255(3);
     /// ```
@@ -160,9 +161,10 @@ impl LengthEncoder {
     ///
     /// Answers whether one is: nothing is written then. Takes no memory.
     ///
-    /// ```
+    /// ```rust
+    /// let mut lengths = LengthEncoder::new(alloc);
     /// lengths.reserve(2)?;
-    /// lengths.encode_vectored_max_len(&[&[1u8, 2][..], &[]], 8) // false: 2 and 0 are written
+    /// assert!(rt; !lengths.encode_vectored_max_len(&[&[1u8, 2][..], &[]], 8)); // 2 and 0 are written
     /// ```
     pub fn encode_vectored_max_len<T: Len>(&mut self, chunk: &[T], max: usize) -> bool
         requires room { length chunk.now ≤ length_room self.old }
@@ -214,7 +216,8 @@ impl LengthEncoder {
     /// A chunk with a slice longer than the width is begun again with the width doubled, and in the end with the fallback. It refuses as
     /// [`LengthEncoder::encode_vectored_fallback`] does.
     ///
-    /// ```
+    /// ```rust
+    /// let mut lengths = LengthEncoder::new(alloc);
     /// let mut width = ChunkWidth::first(1);
     /// lengths.reserve(2)?;
     /// lengths.encode_chunk(&[&[1u8, 2][..], &[]], &mut width, 1)?;

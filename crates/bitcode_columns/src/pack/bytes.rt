@@ -87,7 +87,7 @@ pub(super) fn borrow_bytes<'a>(bytes: &'a [u8], out: &mut CowSlice<'a, u8>)
 /// let mut input: &[u8] = &[1, 201, 16, 50, 84, 6];
 /// let mut bytes = CowSlice::new(alloc);
 /// unpack_bytes(alloc, &mut input, 7, &mut bytes)?;
-/// assert_eq!(rt; bytes.as_slice(), &[201, 202, 203, 204, 205, 206, 207]);
+/// assert_eq!(rt; bytes.as_slice(), [201, 202, 203, 204, 205, 206, 207].as_slice());
 /// ```
 pub fn unpack_bytes<'a>(
     alloc: Global,
@@ -168,7 +168,7 @@ fn pack_untagged<T: Byte>(bytes: &[T], out: &mut Vec<u8>) -> Result<(), Error>
 /// ```rust
 /// let mut out = Vec::new(alloc);
 /// pack_bytes(&mut [201u8, 202, 203, 204, 205, 206, 207], &mut out)?;
-/// assert_eq!(rt; out.as_slice(), &[1, 201, 16, 50, 84, 6]);
+/// assert_eq!(rt; out.as_slice(), [1, 201, 16, 50, 84, 6].as_slice());
 /// ```
 pub fn pack_bytes<T: Byte>(bytes: &mut [T], out: &mut Vec<u8>) -> Result<(), Error>
     ensures written { OnOk result (out.new.items ≡ out.old.items ++ byte_text (map T.number bytes.old)) }

@@ -37,7 +37,7 @@ pub(crate) fn base_of_variants<const N: usize>() -> Base
 /// ```rust
 /// let mut out = Vec::new(alloc);
 /// pack_bytes_less_than::<3>(&[2, 0, 1, 2, 2], &mut out)?;
-/// assert_eq!(rt; out.as_slice(), &[227]);
+/// assert_eq!(rt; out.as_slice(), [227].as_slice());
 /// ```
 pub fn pack_bytes_less_than<const N: usize>(bytes: &[u8], out: &mut Vec<u8>) -> Result<(), Error>
     requires { All (λ entry. entry < N) bytes.now }
@@ -93,7 +93,7 @@ fn are_variants(base: Base, entries: &[u8], variants: usize) -> bool
 /// let mut input: &[u8] = &[227];
 /// let mut variants = CowSlice::new(alloc);
 /// let counts = unpack_bytes_less_than::<3, 3>(alloc, &mut input, 4, &mut variants)?;
-/// assert_eq!(rt; variants.as_slice(), &[2, 0, 1, 2]);
+/// assert_eq!(rt; variants.as_slice(), [2, 0, 1, 2].as_slice());
 /// assert_eq!(rt; counts, [1, 1, 2]);
 /// ```
 pub fn unpack_bytes_less_than<'a, const N: usize, const H: usize>(

@@ -7,15 +7,18 @@ use bitcode_coder::part::Part;
 /// Says which variant a value of `T` is of, where the encoders of choices write several of them.
 ///
 /// ```
-/// impl SaysVariant<Light> for LightVariant {
-///     ghost count = { 2 };
+/// pub struct LightVariant {}
 ///
-///     ghost variant = { elim [ Light.Red ↦ 0 | Light.Green ↦ 1 ] };
+/// impl SaysVariant<Light> for LightVariant {
+///     ghost count = { 3 };
+///
+///     ghost variant = { elim [ Light.Red ↦ 0 | Light.Amber ↦ 1 | Light.Green ↦ 2 ] };
 ///
 ///     fn variant(light: &Light) -> u8 {
 ///         match light {
 ///             Light::Red => 0,
-///             Light::Green => 1,
+///             Light::Amber => 1,
+///             Light::Green => 2,
 ///         }
 ///     }
 /// }
@@ -35,10 +38,12 @@ pub trait SaysVariant<T> {
 
 /// Puts the variant that a part of each of several items is of into the first places of `variants`. The places behind them stay.
 ///
-/// ```
+/// ```rust
+/// use bitcode_coder::part::Itself;
+///
 /// let mut variants = [0; MAX_VECTORED_CHUNK];
-/// gather_variants::<S, Light, W, LightVariant>(items, which, &mut variants);
-/// self.variants.encode_vectored(&variants[..items.len()]);
+/// gather_variants::<Light, Light, Itself, LightVariant>(&[Light::Red, Light::Green], &Itself, &mut variants);
+/// assert_eq!(rt; variants[1], 2);
 /// ```
 pub fn gather_variants<S, T, W: Part<S, T>, V: SaysVariant<T>>(
     items: &[S],

@@ -23,13 +23,13 @@ mod gathered;
 
 /// The encoder of options: which of them hold a value, then the columns of the values.
 ///
-/// ```
+/// ```rust
 /// let mut options: OptionEncoder<IntEncoder<i16>> = OptionEncoder::new(alloc);
 /// options.reserve(3)?;
-/// options.encode(&None)?;
+/// options.encode(&None::<i16>)?;
 /// options.encode(&Some(1i16))?;
-/// options.encode(&None)?;
-/// options.collect_into(&mut bytes)?; // [2, 1, 0]
+/// options.encode(&None::<i16>)?;
+/// assert_eq!(rt; options.collect(alloc)?.as_slice(), [2, 1, 0].as_slice());
 /// ```
 #[derive(Drop)]
 pub struct OptionEncoder<E> {

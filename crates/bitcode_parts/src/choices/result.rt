@@ -15,12 +15,12 @@ use std::alloc::Global;
 
 /// The encoder of results: which of them are errors, then the columns of the values, then those of the errors.
 ///
-/// ```
+/// ```rust
 /// let mut results: ResultEncoder<BoolEncoder, IntEncoder<u32>> = ResultEncoder::new(alloc);
 /// results.reserve(2)?;
-/// results.encode(&Err(1u32))?;
-/// results.encode(&Ok(false))?;
-/// results.collect_into(&mut bytes)?; // [1, 0, 4, 1]
+/// results.encode(&Err::<bool, u32>(1))?;
+/// results.encode(&Ok::<bool, u32>(false))?;
+/// assert_eq!(rt; results.collect(alloc)?.as_slice(), [1, 0, 4, 1].as_slice());
 /// ```
 #[derive(Drop)]
 pub struct ResultEncoder<A, B> {

@@ -88,7 +88,8 @@ impl<const N: usize> VariantEncoder<N> {
 
     /// Writes 1 to [`MAX_VECTORED_CHUNK`] variants, each of which is below `N`. Room for them was reserved.
     ///
-    /// ```
+    /// ```rust
+    /// let mut variants = VariantEncoder::<3>::new(alloc);
     /// variants.reserve(2)?;
     /// variants.encode_vectored(&[2, 1]);
     /// ```
@@ -108,11 +109,12 @@ impl<const N: usize> VariantEncoder<N> {
 /// For `C_STYLE` false the variants are counted as they are read, so that their payloads can be read behind them. An
 /// enum whose variants all lack a payload needs no counts, and may be read with `C_STYLE` true.
 ///
-/// ```
+/// ```rust
+/// let mut input: &[u8] = &[5];
 /// let mut variants = VariantDecoder::<3, false>::new(alloc);
-/// variants.populate(&mut input, 3)?; // of [5]: 2, 1, 0
-/// variants.length(2) // 1
-/// variants.decode() // 2, then 1 and 0
+/// variants.populate(&mut input, 3)?;
+/// assert_eq!(rt; variants.length(2), 1);
+/// assert_eq!(rt; variants.decode(), 2);
 /// ```
 #[derive(Drop)]
 pub struct VariantDecoder<'a, const N: usize, const C_STYLE: bool> {
@@ -239,9 +241,9 @@ impl<'a, const N: usize, const C_STYLE: bool> View<'a> for VariantDecoder<'a, N,
 /// How many payloads of a variant come is not known before they come, so the encoder of an enum reserves room for its
 /// variants alone.
 ///
-/// ```
-/// self.variants.encode(1);
-/// encode_payload(&mut self.some, t)
+/// ```rust
+/// let mut some: IntEncoder<u8> = IntEncoder::new(alloc);
+/// encode_payload(&mut some, &7)?;
 /// ```
 pub fn encode_payload<T: Shaped, E: Buffer + Encoder<T>>(
     encoder: &mut E,
@@ -258,9 +260,9 @@ pub fn encode_payload<T: Shaped, E: Buffer + Encoder<T>>(
 
 /// Makes room for 1 to [`MAX_VECTORED_CHUNK`] payloads of a variant, and joins their columns to those so far.
 ///
-/// ```
-/// self.variants.encode_vectored(&[1, 1]);
-/// encode_payloads(&mut self.some, &[first, second])
+/// ```rust
+/// let mut some: IntEncoder<u8> = IntEncoder::new(alloc);
+/// encode_payloads(&mut some, &[&7, &8])?;
 /// ```
 pub fn encode_payloads<T: Shaped, E: Buffer + Encoder<T>>(
     encoder: &mut E,

@@ -21,9 +21,11 @@ use std::slice;
 
 /// An iterator over elements that it lends, of which the list of those that are left is known.
 ///
-/// ```
+/// ```rust
+/// let queue = vec![in alloc; 7u8, 8]?;
 /// let mut lent = queue.iter();
 /// let first: Option<&u8> = lent.lend();
+/// assert_eq!(rt; first, Some(&7));
 /// ```
 pub trait Lends<'b, T>: Drop {
     ghost rest: { Self → List T };
@@ -62,9 +64,12 @@ impl<'b, T> Lends<'b, T> for linked_list::Iter<'b, T> {
 ///
 /// It refuses as the encoder does: the elements up to the one at hand may have been written then.
 ///
-/// ```
+/// ```rust
+/// let queue = vec![in alloc; 7u8, 8]?;
+/// let mut elements: IntEncoder<u8> = IntEncoder::new(alloc);
 /// elements.reserve(queue.len())?;
 /// encode_lent(&mut elements, queue.iter())?;
+/// assert_eq!(rt; elements.collect(alloc)?.as_slice(), [7, 8].as_slice());
 /// ```
 pub fn encode_lent<'b, T: Shaped + 'b, L: Lends<'b, T>, E: Encoder<T>>(
     elements: &mut E,
@@ -89,9 +94,11 @@ pub fn encode_lent<'b, T: Shaped + 'b, L: Lends<'b, T>, E: Encoder<T>>(
 ///
 /// It refuses as the encoder does: the elements up to the one at hand may have been written then.
 ///
-/// ```
-/// elements.reserve(items.len())?;
-/// encode_each(&mut elements, items)?;
+/// ```rust
+/// let mut elements: IntEncoder<u8> = IntEncoder::new(alloc);
+/// elements.reserve(2)?;
+/// encode_each(&mut elements, &[7, 8])?;
+/// assert_eq!(rt; elements.collect(alloc)?.as_slice(), [7, 8].as_slice());
 /// ```
 pub fn encode_each<T: Shaped, E: Encoder<T>>(elements: &mut E, items: &[T]) -> Result<(), Error>
     requires { length items.now ≤ E.room elements.old }
@@ -109,8 +116,12 @@ pub fn encode_each<T: Shaped, E: Encoder<T>>(elements: &mut E, items: &[T]) -> R
 ///
 /// `out of memory` is its only refusal, and none comes where no value is wanted.
 ///
-/// ```
+/// ```rust
+/// let mut input: &[u8] = &[6, 57];
+/// let mut elements: IntDecoder<u8> = IntDecoder::new(alloc);
+/// elements.populate(&mut input, 3)?;
 /// let items: Vec<u8> = decode_each(alloc, &mut elements, 3)?;
+/// assert_eq!(rt; items.as_slice(), [1, 2, 3].as_slice());
 /// ```
 pub fn decode_each<T: Made + Drop, D: Decoder<T>>(
     alloc: Global,
@@ -128,17 +139,18 @@ pub fn decode_each<T: Made + Drop, D: Decoder<T>>(
 /// A type that is written as the sequence of its elements: a vector front to back, a set in the order of its keys or in
 /// one of its own.
 ///
-/// ```
+/// ```rust,from:crates/bitcode_own_types/src/scores.rt
 /// impl Sequence for Scores {
 ///     type Element = u32;
-///
+///     // ..
 ///     fn element_count(&self) -> usize {
-///         self.0.len()
+///         self.list.len()
 ///     }
 ///
-///     fn encode_elements<E: Encoder<u32>>(&self, elements: &mut E) -> Result<(), Error> {
-///         encode_each(elements, self.0.as_slice())
+///     fn encode_elements<E: Encoder<u32>>(&self, elements: &mut E) -> Result<()> {
+///         encode_each(elements, self.list.as_slice())
 ///     }
+///     // ..
 /// }
 /// ```
 pub trait Sequence: Shaped {
@@ -266,12 +278,14 @@ impl<T: Shaped> Sequence for LinkedList<T> {
 
 /// A type that is made of its elements, one after the other.
 ///
-/// ```
+/// ```rust,from:crates/bitcode_own_types/src/scores.rt
 /// impl FromElements for Scores {
 ///     type Part = u32;
 ///
-///     fn from_elements(_alloc: Global, elements: Vec<u32>) -> Result<Self, Error> {
-///         Ok(Scores(elements))
+///     fn from_elements(_alloc: Global, elements: Vec<u32>) -> Result<Scores>
+///     // ..
+///     {
+///         Ok(Scores { list: elements })
 ///     }
 /// }
 /// ```

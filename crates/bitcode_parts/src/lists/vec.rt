@@ -28,11 +28,12 @@ use std::collections::{LinkedList, VecDeque};
 ///
 /// It writes the elements by their encoder, front to back, and refuses as that one does.
 ///
-/// ```
+/// ```rust
+/// let list = vec![in alloc; 1u8, 2, 3]?;
 /// let mut lists: VecEncoder<IntEncoder<u8>> = VecEncoder::new(alloc);
 /// lists.reserve(1)?;
-/// lists.encode(&list)?;            // 1, 2 and 3
-/// lists.collect_into(&mut bytes)?; // [3, 6, 57]
+/// lists.encode(&list)?;
+/// assert_eq!(rt; lists.collect(alloc)?.as_slice(), [3, 6, 57].as_slice());
 /// ```
 #[derive(Drop)]
 pub struct VecEncoder<E> {
@@ -262,8 +263,8 @@ impl<'a, D> VecDecoder<'a, D> {
     ///
     /// A decoder of a container of one's own is this call. `out of memory` is its only refusal.
     ///
-    /// ```
-    /// let scores: Scores = lists.decode_as()?; // of a `Scores: FromElements`
+    /// ```rust,from:crates/bitcode_own_types/src/scores.rt
+    /// self.lists.decode_as()
     /// ```
     pub fn decode_as<C: FromElements>(&mut self) -> Result<C, Error>
     where

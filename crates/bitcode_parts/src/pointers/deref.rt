@@ -16,15 +16,14 @@ use std::rc::RcSlice;
 
 /// A type whose values point to one value of another type, and are written as that one, as a `Box` is.
 ///
-/// ```
-/// impl Points for Meters {
-///     type Target = u32;
-///
-///     ghost points_to = { λ meters. meters.0 };
-///
-///     fn target(&self) -> &u32 {
-///         &self.0
+/// ```rust,from:crates/bitcode_parts/src/pointers.rt
+/// impl<T: Shaped> Points for Box<T> {
+///     type Target = T;
+///     // ..
+///     fn target(&self) -> &T {
+///         self.as_ref()
 ///     }
+///     // ..
 /// }
 /// ```
 pub trait Points: Shaped {
@@ -48,11 +47,11 @@ pub trait Points: Shaped {
 ///
 /// It refuses as that encoder does, and takes no memory of its own.
 ///
-/// ```
+/// ```rust
 /// let mut boxes: DerefEncoder<IntEncoder<u8>> = DerefEncoder::new(alloc);
 /// boxes.reserve(1)?;
 /// boxes.encode(&Box::new(alloc, 123u8)?)?;
-/// boxes.collect_into(&mut bytes)?; // [123]
+/// assert_eq!(rt; boxes.collect(alloc)?.as_slice(), [123].as_slice());
 /// ```
 #[derive(Drop)]
 pub struct DerefEncoder<E> {

@@ -11,12 +11,11 @@ use std::marker::PhantomData;
 
 /// A type whose values are made of values of `T`, as a `Box<T>` is, with memory of their own where they need it.
 ///
-/// ```
-/// impl FromValue<u32> for Meters {
-///     fn from_value(_alloc: Global, value: u32) -> Result<Self, Error> {
-///         Ok(Meters(value))
-///     }
-/// }
+/// ```rust,from:crates/bitcode_parts/src/pointers.rt
+/// impl<T: Made + Drop> FromValue<T> for Box<T> {
+///     ghost is_free = { false };
+///
+///     fn from_value(alloc: Global, value: T) -> Result<Self, Error> {
 /// ```
 pub trait FromValue<T: Made>: Made {
     // making it takes no memory

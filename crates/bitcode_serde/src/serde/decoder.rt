@@ -23,11 +23,14 @@ use std::alloc::Global;
 ///
 /// The indices are counted as they are read, so that the payloads of each variant can be read behind them.
 ///
-/// ```
+/// ```rust
+/// use bitcode::serde::VariantDecoder;
+///
+/// let mut input: &[u8] = &[8, 20]; // 2, 0 and 2
 /// let mut indices = VariantDecoder::new(alloc);
-/// indices.populate(&mut input, 3)?; // of [8, 20]: 2, 0 and 2
-/// indices.length(2) // 2
-/// indices.max_variant_index() // Some(2)
+/// indices.populate(&mut input, 3)?;
+/// assert_eq!(rt; indices.length(2), 2);
+/// assert_eq!(rt; indices.max_variant_index(), Some(2));
 /// ```
 #[derive(Drop)]
 pub struct VariantDecoder<'a> {
@@ -132,9 +135,12 @@ impl<'a> VariantDecoder<'a> {
     /// How many of the indices that were read are this one, those that were taken since too. It is 0 for an index that
     /// was not met.
     ///
-    /// ```
-    /// indices.length(2) // of 2, 0 and 2: 2
-    /// indices.length(7) // 0
+    /// ```rust
+    /// let mut input: &[u8] = &[8, 20]; // 2, 0 and 2
+    /// let mut indices = VariantDecoder::new(alloc);
+    /// indices.populate(&mut input, 3)?;
+    /// assert_eq!(rt; indices.length(2), 2);
+    /// assert_eq!(rt; indices.length(7), 0);
     /// ```
     pub fn length(&self, index: u8) -> usize
         ensures { result ≡ index_count self.now index }
@@ -157,8 +163,11 @@ impl<'a> VariantDecoder<'a> {
 
     /// The greatest of the indices that were read, those that were taken since too; `None` where there is none.
     ///
-    /// ```
-    /// indices.max_variant_index() // of 2, 0 and 2: Some(2)
+    /// ```rust
+    /// let mut input: &[u8] = &[8, 20]; // 2, 0 and 2
+    /// let mut indices = VariantDecoder::new(alloc);
+    /// indices.populate(&mut input, 3)?;
+    /// assert_eq!(rt; indices.max_variant_index(), Some(2));
     /// ```
     pub fn max_variant_index(&self) -> Option<u8>
         ensures { MatchOption result

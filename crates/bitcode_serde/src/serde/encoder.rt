@@ -13,13 +13,15 @@ use std::alloc::Global;
 
 /// The column that the indices of variants are written to, whatever the number of variants: a column of bytes.
 ///
-/// ```
+/// ```rust
+/// use bitcode::serde::VariantEncoder;
+///
 /// let mut indices = VariantEncoder::new(alloc);
 /// indices.reserve(3)?;
 /// indices.encode(&2)?;
 /// indices.encode(&0)?;
 /// indices.encode(&2)?;
-/// indices.collect_into(&mut out)?; // [8, 20]: the tag of base 3, and the digits 2, 0 and 2
+/// assert_eq!(rt; indices.collect(alloc)?.as_slice(), [8, 20].as_slice()); // the tag of base 3, and the digits 2, 0 and 2
 /// ```
 #[derive(Drop)]
 pub struct VariantEncoder {

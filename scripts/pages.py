@@ -1,0 +1,187 @@
+#!/usr/bin/env python3
+"""Checks the pages, for scripts/checks/pages: README.md, CONTRIBUTING.md, CHANGES.md and docs/.
+
+    scripts/pages.py            prints each fault with its page and line; the exit status is then 1
+    scripts/pages.py --write    writes the counts into docs/TESTING.md
+
+A link leads to a file, and to a heading of it. A page has at most its words, and a line of prose 120 columns. Dates are in
+CHANGES.md and at the head of docs/SPEED.md. What a script can count is written by this one. A word that only this
+repository uses is in italics where a page has it first, and is explained there or by a link.
+"""
+
+import glob
+import os
+import re
+import sys
+
+# The pages, and how many words each may have.
+WORDS = {
+    "README.md": 500,
+    "CONTRIBUTING.md": 600,
+    "docs/ARCHITECTURE.md": 1500,
+    "docs/CODERS.md": 2500,
+    "docs/DECISIONS.md": 2500,
+    "docs/DIFFERENCES.md": 1500,
+    "docs/FORMAT.md": 3500,
+    "docs/GUIDE.md": 2500,
+    "docs/PROMISES.md": 4000,
+    "docs/PROVING.md": 900,
+    "docs/SPEED.md": 700,
+    "docs/TESTING.md": 1300,
+    "docs/TOOLCHAIN.md": 1500,
+}
+WORDS_IN_ALL = 24000
+COLUMNS = 120
+COUNTED = "docs/TESTING.md"
+BEGIN, END = "<!-- scripts/pages.py --write -->\n", "<!-- end -->\n"
+DATE = re.compile(r"\b20\d\d-\d\d-\d\d\b")
+BY_HAND = re.compile(r"\b\d[\d,]* (?:tests|edits|must-fail edits|functions|crates)\b")
+OWN_WORDS = re.compile(r"\b(lawful|spells?|spelled|listings?)\b")
+STILTED = re.compile(r"\b(one's own|in turn|as (it|they) stands?|stands? (in|for|at|with|after|beside)|by itself|what is (more|left))\b", re.I)
+
+
+def read(path):
+    with open(path) as file:
+        return file.read()
+
+
+def rows(path):
+    """How many lines each of the tables of a folder of scripts/vectors has."""
+    return sum(len(read(file).splitlines()) for file in glob.glob(path) if ("/serde/" in file) == ("/serde/" in path))
+
+
+def count(pattern, paths):
+    return sum(len(re.findall(pattern, read(path), re.M)) for path in glob.glob(paths, recursive=True))
+
+
+def counts():
+    """The tables of what is counted."""
+    crates = [line.split(":")[0] for line in read("crates.txt").splitlines() if line and not line.startswith("#")]
+    lines = ["| Crate | Functions | Tests | Must-fail edits | Edits in `scripts/turns` |", "|---|---|---|---|---|"]
+    total = [0] * 4
+    for crate in crates:
+        numbers = [
+            count(r"^\s*(?:pub(?:\(\w+\))? )?(?:(?:const|unsafe) )*fn \w", f"crates/{crate}/src/**/*.rt"),
+            count(r"^\s*#\[test\]", f"crates/{crate}/src/**/*.rt"),
+            len(glob.glob(f"crates/{crate}/must-fail/*.edit")),
+            count(r"^turn: ", f"scripts/turns/{crate}/*.edit"),
+        ]
+        total = [a + b for a, b in zip(total, numbers)]
+        lines.append(f"| `{crate}` | " + " | ".join(str(number or "") for number in numbers) + " |")
+    lines.append("| all | " + " | ".join(map(str, total)) + " |")
+    types = {row.split("\t")[0] for path in glob.glob("scripts/vectors/*/*.tsv") if "/serde/" not in path and "/columns/" not in path
+             for row in read(path).splitlines()}
+    shapes = {row.split("\t")[0] for path in glob.glob("scripts/vectors/serde/*.tsv") for row in read(path).splitlines()}
+    lines += [
+        "",
+        "| From the Rust crate | First format | Second format |",
+        "|---|---|---|",
+        f"| types, or shapes | {len(types)} | {len(shapes)} |",
+        f"| values that are written | {rows('scripts/vectors/*/written.tsv')} | {rows('scripts/vectors/serde/written.tsv')} |",
+        f"| inputs that are read or rejected | {rows('scripts/vectors/*/read.tsv')} | {rows('scripts/vectors/serde/read.tsv')} |",
+        f"| columns of integers | {rows('scripts/vectors/columns/packed.tsv') + rows('scripts/vectors/columns/unpacked.tsv')} | |",
+        "",
+        f"`scripts/new_type` is tried on {count('^pub (?:struct|enum) ', 'scripts/own_types/tried.txt')} declarations, and on "
+        f"{count(' => ', 'scripts/own_types/refused.txt')} that it refuses.",
+    ]
+    return "\n".join(lines) + "\n"
+
+
+def slug(heading):
+    """The anchor of a heading, as GitHub makes it."""
+    plain = re.sub(r"\[([^]]*)\]\([^)]*\)", r"\1", heading).replace("`", "").strip().lower()
+    return re.sub(r"[^\w\- ]", "", plain).replace(" ", "-")
+
+
+def prose_of(text):
+    """The lines of a page, each with its number and whether it is prose: no block, no table."""
+    is_block = False
+    for number, line in enumerate(text.split("\n"), 1):
+        if re.match(r" *```", line):
+            is_block = not is_block
+            yield number, line, False
+        else:
+            yield number, line, not is_block and not line.startswith("|") and not line.startswith("    ")
+
+
+def headings(path):
+    return [line.lstrip("# ") for _number, line, is_prose in prose_of(read(path)) if is_prose and line.startswith("#")]
+
+
+def check_links(path, text, faults):
+    for number, line, _is_prose in prose_of(text):
+        for target in re.findall(r"\]\(([^)\s]+)\)", re.sub(r"`[^`]*`", "", line) if "](" not in line else line):
+            if re.match(r"https?:", target):
+                continue
+            file, _, anchor = target.partition("#")
+            file = os.path.normpath(os.path.join(os.path.dirname(path), file)) if file else path
+            if not os.path.exists(file):
+                faults.append(f"{path}:{number}: {target} leads to no file")
+            elif anchor and anchor not in [slug(heading) for heading in headings(file)]:
+                faults.append(f"{path}:{number}: {target} leads to no heading")
+
+
+def check_mentions(faults):
+    """What scripts and sources say of the pages: the path of one, or that and the name of a heading."""
+    for path in sorted(glob.glob("scripts/**/*", recursive=True) + glob.glob("crates/*/[sp]*/**/*", recursive=True)):
+        if not os.path.isfile(path) or path.endswith((".tsv", ".pyc")):
+            continue
+        for page, heading in re.findall(r"\b(docs/[A-Z_]+\.md)(?:, \"([^\"]+)\")?", " ".join(read(path).split())):
+            if not os.path.exists(page):
+                faults.append(f"{path}: there is no {page}")
+            elif heading and heading not in headings(page):
+                faults.append(f"{path}: {page} has no heading {heading!r}")
+
+
+def check_page(path, faults):
+    text = read(path)
+    check_links(path, text, faults)
+    written_by_hand = text
+    if path == COUNTED:
+        begin, end = text.index(BEGIN), text.index(END)
+        written_by_hand = text[:begin] + "\n" * text[begin:end].count("\n") + text[end:]
+        if text[begin + len(BEGIN):end] != counts():
+            faults.append(f"{path}: the counts are not those of today: scripts/pages.py --write")
+    for number, line, is_prose in prose_of(written_by_hand):
+        where = f"{path}:{number}"
+        if is_prose and len(line) > COLUMNS:
+            faults.append(f"{where}: {len(line)} columns")
+        if DATE.search(line) and path != "CHANGES.md" and not (path == "docs/SPEED.md" and number <= 5):
+            faults.append(f"{where}: a date, which belongs to CHANGES.md")
+        if is_prose and BY_HAND.search(line) and path != "CHANGES.md":
+            faults.append(f"{where}: `{BY_HAND.search(line)[0]}` is for scripts/pages.py to count")
+        if is_prose and STILTED.search(line):
+            faults.append(f"{where}: would you say `{STILTED.search(line)[0]}`?")
+    prose = "\n".join(re.sub(r"`[^`]*`|\([^)]*\)", "", line) for _number, line, is_prose in prose_of(text) if is_prose or line.startswith("|"))
+    for word in ("lawful", "spell", "listing"):
+        first = re.search(rf"\b{word}(s|ed)?\b", prose)
+        if first and path != "CHANGES.md" and not re.match(r"[*]", prose[first.start() - 1:first.start()]):
+            faults.append(f"{path}: `{word}` is not explained where it comes first")
+
+
+def main():
+    pages = sorted([*WORDS, "CHANGES.md"])
+    if sys.argv[1:] == ["--write"]:
+        text = read(COUNTED)
+        text = text[:text.index(BEGIN) + len(BEGIN)] + counts() + text[text.index(END):]
+        with open(COUNTED, "w") as file:
+            file.write(text)
+        return 0
+    faults = [f"{path} is not in the plan of scripts/pages.py" for path in glob.glob("docs/*") if path not in pages]
+    words = {path: len(read(path).split()) for path in pages if os.path.exists(path)}
+    for path in pages:
+        if path not in words:
+            faults.append(f"there is no {path}")
+            continue
+        check_page(path, faults)
+        if words[path] > WORDS.get(path, words[path]):
+            faults.append(f"{path}: {words[path]} words, and at most {WORDS[path]}")
+    in_all = sum(n for path, n in words.items() if path.startswith(("README", "docs/")))
+    if in_all > WORDS_IN_ALL:
+        faults.append(f"README.md and docs/ have {in_all} words, and at most {WORDS_IN_ALL}")
+    check_mentions(faults)
+    print("\n".join(faults), end="\n" if faults else "")
+    return 1 if faults else 0
+
+
+sys.exit(main())
