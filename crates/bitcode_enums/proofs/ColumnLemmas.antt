@@ -202,6 +202,9 @@ module _ {A : Type 0} (none : A) where
     behind_place : second_start ≤ number → (number - first_start) - length front ≡ number - second_start
     behind_place past = let f = are.follows in let o = are.first_order in let s = sized are.of_first in omega (arith, f, o, s, past)
 
+    pub at_first : first_start ≤ number → number < second_start → slice_index_or (front ++ behind) (number - first_start) none ≡ slice_index_or front (number - first_start) none
+    at_first from below = get_or_append_left front behind none (number - first_start) (among_front from below)
+
     pub at_second : second_start ≤ number → slice_index_or (front ++ behind) (number - first_start) none ≡ slice_index_or behind (number - second_start) none
     at_second past =
         get_or-append_right front behind (length front) (number - first_start) none refl (past_front past)
