@@ -3,19 +3,28 @@
 import re
 from collections import namedtuple
 
+# What std derives; what others derive of a type that the library writes, which the impls of scripts/new_type say; and the
+# attributes that change nothing of how a type is written and read.
+DERIVED = set("Clone Copy Debug Default Drop Eq Hash Ord PartialEq PartialOrd".split())
+SAID = set("Decode Deserialize Encode Serialize".split())
+ATTRIBUTES = set("allow doc must_use non_exhaustive repr".split())
+
 # What cannot be a name in Rust or in Rattle.
 KEYWORDS = set("abstract as async await become box break const continue crate do dyn else enum extern false final fn for gen ghost if "
                "impl in let loop macro match mod move mut override priv pub ref return self Self static struct super trait true try type "
                "typeof unsafe unsized use virtual where while yield".split())
 
 Token = namedtuple("Token", "kind text line")
-# A field's type: `kind` is path, reference, slice, array, tuple, or number; `name` that of a path, a lifetime or a length.
-Type = namedtuple("Type", "kind name parts line")
+# A field's type: `kind` is path, reference, slice, array, tuple, or number; `name` the last word of a path, a lifetime or a length;
+# `path` has the words of a path as it was written.
+Type = namedtuple("Type", "kind name parts line path", defaults=((),))
 Field = namedtuple("Field", "docs seen name type line")
 Struct = namedtuple("Struct", "docs derives attributes seen name lifetime types fields kind line")
 # `kind` is unit, tuple or named; `number` what stands behind a variant's `=`.
 Variant = namedtuple("Variant", "docs attributes name fields kind number line")
 Enum = namedtuple("Enum", "docs derives attributes seen name lifetime types variants line")
+# A name that a `use` line brings in, with the words of its path.
+Use = namedtuple("Use", "name path line")
 
 
 class Refused(Exception):
@@ -35,18 +44,31 @@ def fields_of(item):
     return item.fields if isinstance(item, Struct) else [field for variant in item.variants for field in variant.fields]
 
 
+def behind_comment(text, start):
+    """Where a comment ends that begins there, with the comments inside it."""
+    depth = 0
+    for mark in re.compile(r"/\*|\*/").finditer(text, start):
+        depth += 1 if mark.group() == "/*" else -1
+        if depth == 0:
+            return mark.end()
+    raise Refused(1 + text.count("\n", 0, start), "`*/` is missing: this comment does not end")
+
+
 def tokens(text):
     """The tokens of the text. Comments are dropped, and comments of documentation kept."""
-    found, line = [], 1
+    found, line, place = [], 1, 0
     forms = [
-        ("doc", r"///[^\n]*"), ("none", r"//[^\n]*|/\*.*?\*/|\s+"), ("raw", r"r#\w+"), ("lifetime", r"'\w+(?!')"),
+        ("doc", r"///(?!/)[^\n]*"), ("none", r"//[^\n]*|\s+"), ("comment", r"/\*"), ("raw", r"r#[A-Za-z_]\w*"), ("lifetime", r"'[A-Za-z_]\w*(?!')"),
         ("name", r"[A-Za-z_]\w*"), ("number", r"[0-9]\w*"), ("text", r'"(?:\\.|[^"\\])*"'), ("mark", r"::|->|."),
     ]
-    form = re.compile("|".join(f"(?P<{kind}>{pattern})" for kind, pattern in forms), re.S)
-    for match in form.finditer(text):
-        if match.lastgroup != "none":
+    form = re.compile("|".join(f"(?P<{kind}>{pattern})" for kind, pattern in forms), re.S | re.A)
+    while place < len(text):
+        match = form.match(text, place)
+        end = behind_comment(text, place) if match.lastgroup == "comment" else match.end()
+        if match.lastgroup not in ("none", "comment"):
             found.append(Token(match.lastgroup, match.group(), line))
-        line += match.group().count("\n")
+        line += text.count("\n", place, end)
+        place = end
     return found + [Token("end", "the end", line)]
 
 
@@ -60,8 +82,9 @@ class Parser:
         return self.tokens[self.at].text in texts
 
     def next(self):
-        self.at += 1
-        return self.tokens[self.at - 1]
+        token = self.tokens[self.at]
+        self.at = min(self.at + 1, len(self.tokens) - 1)
+        return token
 
     def line(self):
         return self.tokens[self.at].line
@@ -109,21 +132,51 @@ class Parser:
             if token.kind == "doc":
                 docs.append(token.text)
                 continue
+            if self.peek("!"):
+                raise Refused(token.line, "an attribute of the whole file is not there: leave it out")
             self.expect("[")
             inner = self.balanced("[", "]")
             if inner[:2] == ["derive", "("]:
-                derives += [text for text in re.split(r"\s*,\s*", "".join(inner[2:-1])) if text]
-            elif inner[0] in ("serde", "bitcode"):
-                raise Refused(token.line, f"`#[{inner[0]}(..)]` is not there: all fields are written, in their order. Leave it out")
+                derives += self.derived("".join(inner[2:-1]), token.line)
             else:
-                attributes.append("#[" + "".join(inner) + "]")
-        return docs, [name.split("::")[-1] for name in derives], attributes
+                attributes.append(self.attribute(inner, token.line))
+        return docs, derives, attributes
+
+    def derived(self, text, line):
+        """The names of a derive."""
+        names = []
+        for path in filter(None, text.split(",")):
+            *before, name = path.split("::")
+            if not (name in DERIVED and before[:1] in ([], ["std"], ["core"]) or name in SAID and before[:1] in ([], ["bitcode"], ["serde"])):
+                raise Refused(line, f"`{path}` is no derive of std: leave it out, and write its impl by hand")
+            names.append(name)
+        return names
+
+    def attribute(self, inner, line):
+        """An attribute of an item, as it is written again."""
+        name = inner[0] if inner else ""
+        text = "#[" + name + ("(..)" if len(inner) > 1 else "") + "]"
+        if name in ("serde", "bitcode"):
+            raise Refused(line, f"`{text}` is not there: all fields are written, in their order. Leave it out")
+        if name in ("cfg", "cfg_attr"):
+            raise Refused(line, f"`{text}` may take away what the impls below are of: leave it out")
+        if name == "repr" and not {"C", "transparent", "u8"} & set(inner):
+            raise Refused(line, f"`#[{''.join(inner)}]` is not there: leave it out, or write `#[repr(C)]` or `#[repr(u8)]`")
+        if name not in ATTRIBUTES and inner != ["default"]:
+            raise Refused(line, f"`{text}` is not there: leave it out")
+        return "#[" + "".join(inner) + "]"
 
     def seen(self):
-        """`pub`, `pub(crate)` or nothing."""
+        """`pub`, `pub(crate)` or nothing. In a struct of a tuple a `(` behind `pub` may begin the type."""
         if not self.take("pub"):
             return ""
-        return f"pub({' '.join(self.balanced('(', ')'))}) " if self.take("(") else "pub "
+        if not self.peek("(") or self.tokens[self.at + 1].text not in ("crate", "self", "super", "in"):
+            return "pub "
+        self.next()
+        line, words = self.line(), self.balanced("(", ")")
+        if len(words) > 1:
+            raise Refused(line, "write `pub(crate)`: the file stands right in src/")
+        return f"pub({words[0]}) "
 
     def type(self):
         line = self.line()
@@ -146,11 +199,17 @@ class Parser:
             return Type(self.tokens[self.at].kind, self.next().text, [], line)
         if self.peek("dyn", "impl", "fn", "*", "!"):
             raise Refused(line, f"a type with `{self.next().text}` has no values that could be written: write one that has")
+        if self.take("Self"):
+            raise Refused(line, "a type that holds itself is not there: write a `Value` (docs/GUIDE.md)")
         self.take("::")
-        path = [self.next().text if self.peek("crate", "self", "super") else self.name()]
-        while self.take("::"):
-            path.append(self.name())
-        return Type("path", path[-1], self.listed(">", self.type) if self.take("<") else [], line)
+        path = [self.word()]
+        while self.take("::") and not self.peek("<"):
+            path.append(self.word())
+        return Type("path", path[-1], self.listed(">", self.type) if self.take("<") else [], line, tuple(path))
+
+    def word(self):
+        """A word of a path."""
+        return self.next().text if self.peek("crate", "self", "super") else self.name()
 
     def generic(self):
         """A lifetime or a type that an item takes."""
@@ -179,16 +238,26 @@ class Parser:
         """The name of an item, and the lifetime and the types that it takes."""
         line, name = self.line(), self.name()
         parameters = self.listed(">", self.generic) if self.take("<") else []
+        self.no_twice(parameters, line)
+        if "'static" in parameters or "'_" in parameters:
+            raise Refused(line, f"the text is of the input that the {word} is read from: write `{word} {name}<'a>`")
         types = [text for text in parameters if text[0] != "'"]
         if len(parameters) > len(types) + 1:
             raise Refused(line, f"a value is read from one input: give the {word} one lifetime")
         self.no_where()
         return name, parameters[0] if len(parameters) > len(types) else "", types, line
 
+    def no_twice(self, names, line):
+        for place, name in enumerate(names):
+            if name in names[:place]:
+                raise Refused(line, f"`{name}` stands twice: choose another name for one of them")
+
     def fields(self):
         """The fields of a struct or a variant, and of which kind it is."""
         if self.take("{"):
-            return self.listed("}", lambda: self.field(True)), "named"
+            fields = self.listed("}", lambda: self.field(True))
+            self.no_twice([field.name for field in fields], fields[-1].line if fields else 0)
+            return fields, "named"
         if self.take("("):
             fields = self.listed(")", lambda: self.field(False))
             return [field._replace(name=str(i)) for i, field in enumerate(fields)], "tuple"
@@ -223,27 +292,38 @@ class Parser:
     def enum(self, docs, derives, attributes, seen):
         name, lifetime, types, line = self.head("enum")
         self.expect("{")
-        return Enum(docs, derives, attributes, seen, name, lifetime, types, self.listed("}", self.variant), line)
+        variants = self.listed("}", self.variant)
+        self.no_twice([variant.name for variant in variants], line)
+        if any(text.startswith("#[repr") for text in attributes) and any(variant.number for variant in variants):
+            raise Refused(line, "a `repr` beside numbers of variants is not there: leave one of them out")
+        return Enum(docs, derives, attributes, seen, name, lifetime, types, variants, line)
 
-    def import_(self, imports):
-        """The names of a `use` line: those of your own crate with the line that imports them alone."""
-        texts = []
-        while not self.take(";"):
-            texts.append(self.next().text)
-        if texts[0] in ("crate", "super", "self"):
-            whole = "".join(texts)
-            base, _, group = whole.partition("{")
-            for path in [base + name for name in group.rstrip("},").split(",")] if group else [whole]:
-                imports[path.split("::")[-1]] = path
+    def use(self, before=()):
+        """What a `use` line brings in, or a part of it behind these words."""
+        line, path = self.line(), list(before)
+        while True:
+            if self.take("{"):
+                return [use for uses in self.listed("}", lambda: self.use(path)) for use in uses]
+            if self.peek("*"):
+                raise Refused(line, "name each type that the `use` is for")
+            path.append(self.word())
+            if not self.take("::"):
+                break
+        if self.peek("as"):
+            raise Refused(line, f"leave the `as` out: `{path[-1]}` is the type's name here too")
+        path = path[:-1] if path[-1] == "self" and len(path) > 1 else path
+        return [Use(path[-1], tuple(path), line)]
 
     def file(self):
-        """The structs and enums of the file, and the types of your own that it imports."""
-        items, imports = [], {}
+        """The structs and enums of the file, and what its `use` lines bring in."""
+        items, uses = [], []
         while self.tokens[self.at].kind != "end":
             docs, derives, attributes = self.heads()
             seen = self.seen()
             if self.take("use"):
-                self.import_(imports)
+                self.take("::")
+                uses += self.use()
+                self.expect(";")
             elif self.take("struct"):
                 items.append(self.struct(docs, derives, attributes, seen))
             elif self.take("enum"):
@@ -252,4 +332,4 @@ class Parser:
                 raise Refused(self.line(), "a union does not say which of its fields is there: write an enum")
             else:
                 raise Refused(self.line(), f"a struct or an enum is expected here, and not `{self.tokens[self.at].text}`")
-        return items, imports
+        return items, uses

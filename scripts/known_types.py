@@ -6,9 +6,9 @@ from collections import namedtuple
 from declarations import Refused, fields_of, word_of
 
 # A type of one's own: where it is imported from, its declaration if that is in the file, whether its impls are those of what it
-# stands for, as this script writes them, whether it says its laws as data, and how many types its decoder names, one where it is
-# imported.
-Own = namedtuple("Own", "path item stands says_laws types")
+# stands for, as this script writes them, whether it says its laws as data, how many types its decoder names, one where it is imported,
+# and what it is as a key (keys.py).
+Own = namedtuple("Own", "path item stands says_laws types key", defaults=(frozenset(),))
 # A type that the library writes and reads: where it is imported from, how many types and how many numbers it takes, and whether it
 # can be a set's element or a map's key ("parts": if what it holds can).
 Known = namedtuple("Known", "path types numbers key")
@@ -38,8 +38,8 @@ TYPES = {
     "Duration": Known("std::time::Duration", 0, 0, "no"),
     "Uuid": Known("uuid::Uuid", 0, 0, "yes"),
 }
-# The first type of these has to be a key.
-KEYED = {"BTreeSet", "HashSet", "BinaryHeap", "BTreeMap", "HashMap"}
+# The first type of these has to be a key, and to have this derive.
+KEYED = {"BTreeSet": "Ord", "HashSet": "Hash", "BinaryHeap": "Ord", "BTreeMap": "Ord", "HashMap": "Hash"}
 # These take no memory of their own.
 FREE = {"bool", "char", "ArrayString", "ArrayVec", "Option", "Result", "PhantomData", "Duration", "Uuid", *INTEGERS,
         *(f"NonZero{name.capitalize()}" for name in INTEGERS)}
@@ -84,18 +84,38 @@ def types_in(type, own):
 
 
 def says_laws(type, own):
-    """Whether the type says its laws as data: what is imported and was not written by this script may not."""
-    return (type.kind != "path" or type.name not in own or own[type.name].says_laws) and all(says_laws(part, own) for part in type.parts)
+    """Whether the type says its laws as data: what is imported and was not written by this script may not. Keys do by what they promise as such."""
+    parts = type.parts[1:] if type.name in KEYED else type.parts
+    return (type.kind != "path" or type.name not in own or own[type.name].says_laws) and all(says_laws(part, own) for part in parts)
 
 
-def can_be_key(type):
-    """Whether the type can be a set's element or a map's key."""
+def can_be_key(type, own, words):
+    """Whether the type can be a set's element or a map's key; of one's own types those that are all this as keys."""
     if type.kind == "tuple":
-        return len(type.parts) <= 12 and all(map(can_be_key, type.parts))
+        return len(type.parts) <= 12 and all(can_be_key(part, own, words) for part in type.parts)
     if type.kind != "path":
-        return type.kind in ("reference", "number") or all(map(can_be_key, type.parts))
+        return type.kind in ("reference", "number", "lifetime") or all(can_be_key(part, own, words) for part in type.parts)
+    if type.name in own:
+        return words <= own[type.name].key
     known = TYPES.get(type.name)
-    return bool(known) and (known.key == "yes" or known.key == "parts" and all(map(can_be_key, type.parts)))
+    return bool(known) and (known.key == "yes" or known.key == "parts" and all(can_be_key(part, own, words) for part in type.parts))
+
+
+def no_key(type, own, derive):
+    """What to write where the type is no key, since one of one's own in it is none; nothing where that is not why."""
+    for part in type.parts:
+        if no_key(part, own, derive):
+            return no_key(part, own, derive)
+    item = own[type.name].item if type.kind == "path" and type.name in own else None
+    if not item or item.types:
+        return ""
+    missing = [word for word in ("PartialEq", "Eq", "PartialOrd", "Ord", *(("Hash",) if derive == "Hash" else ())) if word not in item.derives]
+    if missing:
+        return f"derive `{', '.join(missing)}` for `{type.name}` too"
+    if word_of(item) == "struct" and takes_memory(type, own):
+        fields = ", ".join(of_text(field.type) for field in item.fields)
+        return f"`{type.name}` takes memory, so write its fields themselves, `{fields if len(item.fields) == 1 else f'({fields})'}`"
+    return ""
 
 
 def takes_memory(type, own):
@@ -187,14 +207,29 @@ class Checker:
         types = [part for part in type.parts if part.kind != "number"]
         if (len(types), len(numbers)) != (known.types, known.numbers):
             raise Refused(type.line, f"`{type.name}` takes {known.types} types and {known.numbers} numbers here")
-        if type.name in KEYED and not can_be_key(types[0]):
+        if type.name in KEYED and not can_be_key(types[0], self.own, {"Key", KEYED[type.name]}):
             element = of_text(types[0] if len(types) == 1 else types[0]._replace(kind="tuple", parts=types))
-            raise Refused(type.line, f"`{of_text(types[0])}` is no key (docs/CODERS.md, \"Keys\"): write `Vec<{element}>`")
+            instead = no_key(types[0], self.own, KEYED[type.name]) or f"write `Vec<{element}>`"
+            raise Refused(type.line, f"`{of_text(types[0])}` is no key (docs/CODERS.md, \"Keys\"): {instead}")
         if known.path:
             self.imports.add(known.path)
             self.crates |= {known.path.split("::")[0]} - {"std"}
-        for part in types if type.name != "PhantomData" else []:
-            self.check(part)
+        for part in types:
+            (self.marked if type.name == "PhantomData" else self.check)(part)
+
+    def marked(self, type):
+        """Sees that what a marker names is there; nothing of it is written."""
+        if type.kind == "reference" and type.name not in (self.item.lifetime or "'static", "'static"):
+            raise Refused(type.line, "write a lifetime of the item, or `'static`")
+        if type.kind == "path" and type.name in self.own:
+            self.imports.add(self.own[type.name].path)
+        elif type.kind == "path" and type.name in TYPES:
+            self.imports |= {TYPES[type.name].path} - {None}
+            self.crates |= {(TYPES[type.name].path or "std").split("::")[0]} - {"std"}
+        elif type.kind == "path" and type.name not in ("f32", "f64", *self.item.types):
+            raise Refused(type.line, f"`{type.name}` is no type that is here: write one that is, or leave the marker out")
+        for part in type.parts:
+            self.marked(part)
 
     def own_type(self, type):
         path, item, *_ = self.own[type.name]
@@ -204,9 +239,9 @@ class Checker:
         self.imports.add(path)
         for part in type.parts:
             if part.kind == "lifetime":
+                lifetime, head = self.item.lifetime or "'a", "" if self.item.lifetime else f"`{word_of(self.item)} {self.item.name}<'a>` and "
                 if part.name != self.item.lifetime:
-                    instead = f"`{self.item.lifetime}` for `{part.name}`" if self.item.lifetime else f"`{word_of(self.item)} {self.item.name}<{part.name}>`"
-                    raise Refused(type.line, f"write {instead}")
+                    raise Refused(type.line, f"write {head}`{lifetime}` for `{part.name}`")
             else:
                 self.check(part)
 

@@ -38,6 +38,8 @@ pub use Rattle.bitcode_enums.specs.HeldColumns.{columns_in, payloads_in}
 pub use Rattle.bitcode_shapes.specs.KeyOf.{KeyOf, key_of, stood_key, key_as}
 pub use Rattle.bitcode_shapes.specs.CompareAlike.{naturals_alike, and_nested, then_nested}
 pub use Rattle.bitcode_shapes.specs.KeyLaws.{bares_told}
+pub use Rattle.bitcode.specs.FieldsInOrder.{ands_in_order, thens_in_order, ands_in_halves, thens_in_halves}
+pub use Rattle.bitcode.specs.BareKeys.{bare_key}
 -- Types of which two values that are the same are one, so that what is read back is the very value that was written:
 pub use Rattle.bitcode_shapes.specs.SameIsOne.{SameIsOne, naturals_are_one, integers_are_one, bools_are_one, pairs_are_one, bares_are_one, images_are_one}
 -- The columns that encoders hold, and the data that decoders hold:

@@ -1,2 +1,4 @@
+pub mod BareKeys
 pub mod ByHand
+pub mod FieldsInOrder
 pub mod Laws

@@ -1,9 +1,9 @@
 //! `Light` numbers its variants. What is below its declaration was written by `scripts/new_type`.
-ghost use Rattle.std.specs.Prelude.{[], ◌∷◌, refl};
-ghost use Rattle.bitcode.specs.ByHand.{stood_payload};
+ghost use Rattle.std.specs.Prelude.{[], refl, ◌∷◌};
+ghost use Rattle.bitcode.specs.ByHand.{bare_key, bares_told, stood_payload};
 ghost use Rattle.bitcode_own_types.specs.declared.light.Light.{Light};
 
-use bitcode::{Bare, BareVariants, HasCoders, HeldIn, Payload, StandsFor};
+use bitcode::{Bare, BareVariants, HasCoders, HeldIn, Key, KeyPayload, Payload, StandsFor};
 
 /// What a light shows.
 #[derive(Debug, Clone, Copy, PartialEq, Eq, PartialOrd, Ord)]
@@ -42,3 +42,11 @@ impl Payload for Light {
 }
 
 impl HasCoders for Light {}
+
+impl KeyPayload for Light {
+    ghost key = { bare_key ⟦<Light as BareVariants<2>>⟧.variant ⟦<Light as BareVariants<2>>⟧.values ⟦<Light as PartialEq>⟧.eq ⟦<Light as Ord>⟧.cmp refl refl (elim [ Light.Red ↦ refl | Light.Green ↦ refl ]) ⟦<Light as Payload>⟧.payload (bares_told _ ⟦<Light as BareVariants<2>>⟧.variant) };
+}
+
+impl Key for Light {
+    ghost keyed = { ⟦<Light as KeyPayload>⟧.key.told };
+}

@@ -1,10 +1,10 @@
 //! `Seat` stands for the tuple of its fields. What is below its declaration was written by `scripts/new_type`.
-ghost use Rattle.std.specs.Prelude.{refl};
-ghost use Rattle.bitcode.specs.ByHand.{stood_payload};
+ghost use Rattle.std.specs.Prelude.{[], refl, ◌∷◌};
+ghost use Rattle.bitcode.specs.ByHand.{ands_in_order, key_as, stood_key, stood_payload, thens_in_order};
 
 use bitcode::{
-    DecodeOwned, DecoderOfFields, EncoderOfFields, FromParts, HasDecoder, HasEncoder, LendsFields3,
-    Payload, Shaped, StandsFor,
+    DecodeOwned, DecoderOfFields, EncoderOfFields, FromParts, HasDecoder, HasEncoder, Key,
+    KeyPayload, LendsFields3, Payload, Shaped, StandsFor,
 };
 
 /// A seat of a theatre.
@@ -58,3 +58,11 @@ impl<'a> HasDecoder<'a> for Seat {
 }
 
 impl DecodeOwned for Seat {}
+
+impl KeyPayload for Seat {
+    ghost key = { key_as (stood_key ⟦<Seat as StandsFor>⟧.parts ⟦<Seat as StandsFor>⟧.of_parts ⟦<(u8, u16, u16) as KeyPayload>⟧.key) ⟦<Seat as PartialEq>⟧.eq ⟦<Seat as Ord>⟧.cmp (λ s t. ands_in_order (⟦<u8 as PartialEq>⟧.eq s.level t.level) ((⟦<u16 as PartialEq>⟧.eq s.row t.row) ∷ (⟦<u16 as PartialEq>⟧.eq s.place t.place) ∷ [])) (λ s t. thens_in_order (⟦<u8 as Ord>⟧.cmp s.level t.level) ((⟦<u16 as Ord>⟧.cmp s.row t.row) ∷ (⟦<u16 as Ord>⟧.cmp s.place t.place) ∷ [])) };
+}
+
+impl Key for Seat {
+    ghost keyed = { ⟦<Seat as KeyPayload>⟧.key.told };
+}

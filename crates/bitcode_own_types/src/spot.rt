@@ -1,10 +1,10 @@
 //! `Spot` stands for the tuple of its fields. What is below its declaration was written by `scripts/new_type`.
 ghost use Rattle.std.specs.Prelude.{refl};
-ghost use Rattle.bitcode.specs.ByHand.{stood_payload};
+ghost use Rattle.bitcode.specs.ByHand.{stood_key, stood_payload};
 
 use bitcode::{
-    DecodeOwned, DecoderOfFields, EncoderOfFields, FromParts, HasDecoder, HasEncoder, LendsFields2,
-    Payload, Shaped, StandsFor,
+    DecodeOwned, DecoderOfFields, EncoderOfFields, FromParts, HasDecoder, HasEncoder, Key,
+    KeyPayload, LendsFields2, Payload, Shaped, StandsFor,
 };
 
 /// A place on a map, of which there are sets.
@@ -56,3 +56,11 @@ impl<'a> HasDecoder<'a> for Spot {
 }
 
 impl DecodeOwned for Spot {}
+
+impl KeyPayload for Spot {
+    ghost key = { stood_key ⟦<Spot as StandsFor>⟧.parts ⟦<Spot as StandsFor>⟧.of_parts ⟦<(u32, u32) as KeyPayload>⟧.key };
+}
+
+impl Key for Spot {
+    ghost keyed = { ⟦<Spot as KeyPayload>⟧.key.told };
+}
