@@ -26,6 +26,7 @@ WORDS = {
     "docs/GUIDE.md": 2500,
     "docs/PROMISES.md": 4200,
     "docs/PROVING.md": 800,
+    "docs/SEALED.md": 600,
     "docs/SPEED.md": 700,
     "docs/TESTING.md": 1000,
     "docs/TOOLCHAIN.md": 1500,
