@@ -26,6 +26,7 @@ WORDS = {
     "docs/GUIDE.md": 2500,
     "docs/PROMISES.md": 4000,
     "docs/PROVING.md": 900,
+    "docs/SEALED.md": 600,
     "docs/SPEED.md": 700,
     "docs/TESTING.md": 1300,
     "docs/TOOLCHAIN.md": 1500,

@@ -1,0 +1,8 @@
+-- Written by scripts/tables/checksums.
+-- The table has what the byte becomes.
+use Rattle.std.proofs.Common.{arith}
+use Rattle.bitcode_sealed.proofs.CrcTableLemmas.{TABLE_6_at}
+use Rattle.bitcode_sealed.proofs.crc_tables.shifted_56.Goals as goal
+
+pub returns : goal.returns
+returns c = TABLE_6_at c.args.byte (omega arith)
