@@ -264,6 +264,16 @@ pub mod serde {
     pub use bitcode_serde::serde::{VariantDecoder, VariantEncoder};
 }
 
+/// Sealed bytes: a head in front of what `encode` writes, and a checksum behind it, for whatever leaves the program.
+pub mod sealed {
+    pub use bitcode_sealed::bytes::{seal_bytes, split_sealed};
+    pub use bitcode_sealed::crc::crc_32;
+    pub use bitcode_sealed::error::OpenError;
+    pub use bitcode_sealed::label::{Expected, Label};
+    pub use bitcode_sealed::laws::damage_is_seen;
+    pub use bitcode_sealed::values::{open, open_front, seal, seal_into};
+}
+
 /// The laws of columns, of data and of whole calls: calls that do nothing but `short_text`, which is `decode`, and whose
 /// contracts are the laws.
 pub mod laws {
