@@ -132,7 +132,7 @@ def enum_text(enum, own, crate, module):
     for field in fields_of(enum):
         checker.check(field.type)
         if len(enum.variants) > 1 and not says_laws(field.type, own):
-            raise Refused(field.type.line, f"`{of_text(field.type)}` does not say its laws as data (docs/GUIDE.md, \"An enum by the numbers of its variants\"): write an `impl Payload` for it")
+            raise Refused(field.type.line, f"`{of_text(field.type)}` does not say its laws as data (docs/CODERS.md, \"An enum with fields\"): write an `impl Payload` for it")
     if not enum.variants:
         text = Template(NEVER).substitute(name=enum.name, declaration=declaration(enum), payload=laws_as_data(enum, f"Absent<{enum.name}>"))
     elif len(enum.variants) == 1:

@@ -24,10 +24,10 @@ WORDS = {
     "docs/DIFFERENCES.md": 1500,
     "docs/FORMAT.md": 3500,
     "docs/GUIDE.md": 2500,
-    "docs/PROMISES.md": 4000,
-    "docs/PROVING.md": 900,
+    "docs/PROMISES.md": 4200,
+    "docs/PROVING.md": 800,
     "docs/SPEED.md": 700,
-    "docs/TESTING.md": 1300,
+    "docs/TESTING.md": 1000,
     "docs/TOOLCHAIN.md": 1500,
 }
 WORDS_IN_ALL = 24000
@@ -87,6 +87,15 @@ def counts():
     return "\n".join(lines) + "\n"
 
 
+def by_hand(path):
+    """The page without the counts, whose lines are empty."""
+    text = read(path)
+    if path != COUNTED:
+        return text
+    begin, end = text.index(BEGIN), text.index(END)
+    return text[:begin] + "\n" * text[begin:end].count("\n") + text[end:]
+
+
 def slug(heading):
     """The anchor of a heading, as GitHub makes it."""
     plain = re.sub(r"\[([^]]*)\]\([^)]*\)", r"\1", heading).replace("`", "").strip().lower()
@@ -136,13 +145,9 @@ def check_mentions(faults):
 def check_page(path, faults):
     text = read(path)
     check_links(path, text, faults)
-    written_by_hand = text
-    if path == COUNTED:
-        begin, end = text.index(BEGIN), text.index(END)
-        written_by_hand = text[:begin] + "\n" * text[begin:end].count("\n") + text[end:]
-        if text[begin + len(BEGIN):end] != counts():
-            faults.append(f"{path}: the counts are not those of today: scripts/pages.py --write")
-    for number, line, is_prose in prose_of(written_by_hand):
+    if path == COUNTED and text[text.index(BEGIN) + len(BEGIN):text.index(END)] != counts():
+        faults.append(f"{path}: the counts are not those of today: scripts/pages.py --write")
+    for number, line, is_prose in prose_of(by_hand(path)):
         where = f"{path}:{number}"
         if is_prose and len(line) > COLUMNS:
             faults.append(f"{where}: {len(line)} columns")
@@ -168,7 +173,7 @@ def main():
             file.write(text)
         return 0
     faults = [f"{path} is not in the plan of scripts/pages.py" for path in glob.glob("docs/*") if path not in pages]
-    words = {path: len(read(path).split()) for path in pages if os.path.exists(path)}
+    words = {path: len(by_hand(path).split()) for path in pages if os.path.exists(path)}
     for path in pages:
         if path not in words:
             faults.append(f"there is no {path}")

@@ -57,12 +57,12 @@ def single_uses(line):
 
 
 def statements(lines):
-    """The lines, with a `;` behind an expression whose value a comment tells, as `counts[3] // 2`."""
+    """The lines, with an expression whose value a comment tells, as `counts[3] // 2`, made a statement."""
     ended = []
     for line, after in zip(lines, [*lines[1:], ""]):
         code, mark, comment = line.partition(" //")
         is_whole = code.strip() and code.rstrip()[-1] not in ";{}(,[=" and not re.match(r"\s*[.)}\]?]", after)
-        ended.append(f"{code.rstrip()};{mark}{comment}" if is_whole else line)
+        ended.append(re.sub(r"^( *)(.*)$", r"\1let _ = \2;", code.rstrip()) + mark + comment if is_whole else line)
     return ended
 
 

@@ -16,7 +16,7 @@ use std::cmp::Eq;
 ///
 /// `specs/KeyLaws.antt` has the laws of numbers, texts, sequences and tuples.
 ///
-/// ```rust,from:crates/bitcode_own_types/src/keys.rt
+/// ```rust,from:crates/bitcode_own_types/src/spot.rt
 /// impl Key for Spot {
 ///     ghost keyed = { ⟦<Spot as KeyPayload>⟧.key.told };
 /// }

@@ -44,7 +44,7 @@ pub trait Payload {
 /// check refuses each enum by number that has a set or a map of the type in a field. A struct of one or two fields with a derived `Ord` is
 /// compared as the tuple of its fields:
 ///
-/// ```rust,from:crates/bitcode_own_types/src/keys.rt
+/// ```rust,from:crates/bitcode_own_types/src/spot.rt
 /// impl KeyPayload for Spot {
 ///     ghost key = { stood_key ⟦<Spot as StandsFor>⟧.parts ⟦<Spot as StandsFor>⟧.of_parts ⟦<(u32, u32) as KeyPayload>⟧.key };
 /// }
@@ -58,9 +58,9 @@ pub trait Payload {
 /// as its variants do. They say so by `key_as`, with a proof that the two answer alike: for a struct by `and_nested` and `then_nested` of
 /// `specs/CompareAlike.antt`, for an enum by `refl` at each two of its variants:
 ///
-/// ```rust,from:crates/bitcode_own_types/src/keys.rt
+/// ```rust,from:crates/bitcode_own_types/src/light.rt
 /// impl KeyPayload for Light {
-///     ghost key = { key_as (key_of ⟦<Light as Payload>⟧.payload (naturals_alike ⟦<Light as BareVariants<2>>⟧.variant) (bares_told _ ⟦<Light as BareVariants<2>>⟧.variant)) ⟦<Light as PartialEq>⟧.eq ⟦<Light as Ord>⟧.cmp (elim [ Light.Red ↦ elim [ Light.Red ↦ refl | Light.Green ↦ refl ] | Light.Green ↦ elim [ Light.Red ↦ refl | Light.Green ↦ refl ] ]) (elim [ Light.Red ↦ elim [ Light.Red ↦ refl | Light.Green ↦ refl ] | Light.Green ↦ elim [ Light.Red ↦ refl | Light.Green ↦ refl ] ]) };
+///     ghost key = { bare_key ⟦<Light as BareVariants<2>>⟧.variant ⟦<Light as BareVariants<2>>⟧.values ⟦<Light as PartialEq>⟧.eq ⟦<Light as Ord>⟧.cmp refl refl (elim [ Light.Red ↦ refl | Light.Green ↦ refl ]) ⟦<Light as Payload>⟧.payload (bares_told _ ⟦<Light as BareVariants<2>>⟧.variant) };
 /// }
 /// ```
 pub trait KeyPayload {
