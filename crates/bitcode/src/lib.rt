@@ -1,15 +1,23 @@
 // Written by scripts/tables/names.
-//! A columnar, bit-packing serializer: the names of the crates below, given out again.
+//! A columnar, bit-packing serializer. This crate re-exports the names of the crates below it.
 //!
-//! `encode` writes a value as few bytes, and `decode` reads it back or refuses the input:
+//! `encode` writes a value as few bytes, and `decode` reads it back or rejects the input:
 //!
-//!     let bytes = encode(alloc, &(true, 7u16))?;        // [1, 7, 0]
-//!     let pair: (bool, u16) = decode(alloc, &bytes)?;   // (true, 7)
+//! ```rust
+//! let bytes = encode(alloc, &(true, 7u16))?;
+//! assert_eq!(rt; bytes.as_slice(), [1, 7, 0].as_slice());
+//! let pair: (bool, u16) = decode(alloc, &bytes)?;
+//! assert!(rt; pair == (true, 7));
+//! ```
 //!
-//! `serialize` and `deserialize` do so with a `Value` that has no type of its own, under a `Shape`, which may hold itself:
+//! `serialize` and `deserialize` do so with a `Value` that has no Rust type of its own, under a `Shape`, which may refer to itself:
 //!
-//!     let bytes = serialize(alloc, &shape, &value)?;
-//!     let value = deserialize(alloc, &shape, &bytes)?;
+//! ```rust
+//! let shape = Shape::new(vec![in alloc; ShapeNode::Bool]?, 0)?;
+//! let bytes = serialize(alloc, &shape, &Value::Bool(true))?;
+//! let value = deserialize(alloc, &shape, &bytes)?;
+//! assert!(rt; value == Value::Bool(true));
+//! ```
 #![tactic(auto)]
 
 pub use bitcode_coder::bool::BoolDecoder;

@@ -70,19 +70,19 @@ pub trait VariantColumns {
 ///
 /// Its functions are those of these columns, called for one enum. So what writes values of it needs nothing of their payloads' types.
 ///
-/// ```
-/// type Columns = EncodersOf2<At<0>, (), u8>;
-///
+/// ```rust,from:crates/bitcode_own_types/src/two.rt
 /// #[derive(Drop)]
-/// pub struct ShotColumns {
+/// pub struct TwoColumns {
 ///     all: Columns,
 /// }
 ///
-/// impl AllColumns<2> for ShotColumns {
+/// impl AllColumns<2> for TwoColumns {
 ///     ghost held = { columns_in (λ c. c.all) ⟦<Columns as VariantColumns>⟧.columns };
 ///
 ///     fn new(alloc: Global) -> Self {
-///         ShotColumns { all: VariantColumns::new(alloc) }
+///         TwoColumns {
+///             all: VariantColumns::new(alloc),
+///         }
 ///     }
 ///
 ///     fn collect(&mut self, number: usize, out: &mut Vec<u8>) -> Result<(), Error> {

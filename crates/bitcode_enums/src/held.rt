@@ -19,28 +19,28 @@ use bitcode_tuples::fields::Fields;
 
 /// An enum of 2 to 256 variants, which are numbered from 0 on in the order in which they stand.
 ///
-/// ```
-/// impl Enum for Shot {
-///     ghost each = { each_variant (payload_and ⟦<() as Payload>⟧.payload (last_payload ⟦<u8 as Payload>⟧.payload)) (λ at. elim [ Shot.Missed ↦ at 0 tt | Shot.Hit a ↦ at 1 a ]) ((λ p. (Shot.Missed, refl)), λ p. (Shot.Hit p, refl)) };
+/// ```rust,from:crates/bitcode_own_types/src/two.rt
+/// impl Enum for Two {
+///     ghost each = { each_variant (payload_and ⟦<u8 as Payload>⟧.payload (last_payload ⟦<i8 as Payload>⟧.payload)) (λ at. elim [ Two.A a ↦ at 0 a | Two.B a ↦ at 1 a ]) ((λ p. (Two.A p, refl)), λ p. (Two.B p, refl)) };
 ///
 ///     ghost sized = { refl };
 ///
 ///     fn variant(&self) -> u8 {
 ///         match self {
-///             Shot::Missed => 0,
-///             Shot::Hit(damage) => told_as(1, &damage),
+///             Two::A(a) => told_as(0, &a),
+///             Two::B(a) => told_as(1, &a),
 ///         }
 ///     }
 ///
-///     ghost one_to_one = { elim [ Shot.Missed ↦ refl | Shot.Hit a ↦ refl ] };
+///     ghost one_to_one = { elim [ Two.A a ↦ refl | Two.B a ↦ refl ] };
 /// }
 ///
-/// impl EnumOf<2> for Shot {
+/// impl EnumOf<2> for Two {
 ///     ghost count = { refl };
 /// }
 ///
-/// impl HeldIn for Shot {
-///     type Holder = Held<2, Shot>;
+/// impl HeldIn for Two {
+///     type Holder = Held<2, Two>;
 /// }
 /// ```
 pub trait Enum {
@@ -88,8 +88,8 @@ pub fn told_by_payload<T: Enum>(t: &T, u: &T)
 
 /// A number, of a variant whose fields are values.
 ///
-/// ```
-/// Shot::Hit(damage) => told_as(1, &damage),
+/// ```rust,from:crates/bitcode_own_types/src/two.rt
+/// Two::B(a) => told_as(1, &a),
 /// ```
 pub fn told_as<F: Fields>(number: u8, fields: &F) -> u8
     ensures number { result ≡ number }

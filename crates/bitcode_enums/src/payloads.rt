@@ -84,26 +84,32 @@ pub trait VariantPayloads<'a, T: Enum> {
 ///
 /// Its functions are those of these data, called for one enum. So what reads values of it needs nothing of their payloads' types.
 ///
-/// ```
-/// type Decoders<'a> = DecodersOf2<'a, At<0>, (), u8>;
-///
+/// ```rust,from:crates/bitcode_own_types/src/two.rt
 /// #[derive(Drop)]
-/// pub struct ShotPayloads<'a> {
+/// pub struct TwoPayloads<'a> {
 ///     all: Decoders<'a>,
 /// }
 ///
-/// impl<'a> AllPayloads<'a, 2, Shot> for ShotPayloads<'a> {
-///     ghost held = { payloads_in (λ d. d.all) ⟦<Decoders<'a> as VariantPayloads<'a, Shot>>⟧.held };
+/// impl<'a> AllPayloads<'a, 2, Two> for TwoPayloads<'a> {
+///     ghost held = { payloads_in (λ d. d.all) ⟦<Decoders<'a> as VariantPayloads<'a, Two>>⟧.held };
 ///
 ///     fn new(alloc: Global) -> Self {
-///         ShotPayloads { all: VariantPayloads::<Shot>::new(alloc) }
+///         TwoPayloads {
+///             all: VariantPayloads::<Two>::new(alloc),
+///         }
 ///     }
 ///
-///     fn read_at(&mut self, number: usize, input: &mut &'a [u8], k: usize, strict: bool) -> Result<bool, Error> {
-///         VariantPayloads::<Shot>::read_payloads(&mut self.all, number, input, k, strict)
+///     fn read_at(
+///         &mut self,
+///         number: usize,
+///         input: &mut &'a [u8],
+///         k: usize,
+///         strict: bool,
+///     ) -> Result<bool, Error> {
+///         VariantPayloads::<Two>::read_payloads(&mut self.all, number, input, k, strict)
 ///     }
 ///
-///     fn decode_at(&mut self, number: usize) -> Result<Shot, Error> {
+///     fn decode_at(&mut self, number: usize) -> Result<Two, Error> {
 ///         self.all.decode_payload(number)
 ///     }
 ///

@@ -3,7 +3,7 @@ ghost use Rattle.std.specs.Prelude.{◌≡◌, ℕ};
 
 /// Says the number of the first of some variants, for their coders: [`At`].
 ///
-/// ```
+/// ```text
 /// let first = O::first(); // of any `O: Place`
 /// ```
 pub trait Place {
@@ -17,8 +17,8 @@ pub trait Place {
 
 /// Says that a group of variants begins with the one of the number `FIRST`. It is a type alone, and has no values.
 ///
-/// ```
-/// At::<7>::first() // 7
+/// ```rust
+/// assert_eq!(rt; At::<7>::first(), 7);
 /// ```
 pub struct At<const FIRST: usize> {}
 

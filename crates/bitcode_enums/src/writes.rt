@@ -14,12 +14,12 @@ use bitcode_tuples::fields::{Fields, FieldsEncoder};
 /// An enum that writes the payloads of variants which follow each other, to the columns of these: it says how to each group of up to six variants, and
 /// the library to [`Halves`](crate::halves::Halves) of these.
 ///
-/// ```
-/// impl WritesVariants<Columns> for Shot {
+/// ```rust,from:crates/bitcode_own_types/src/two.rt
+/// impl WritesVariants<Columns> for Two {
 ///     fn write(&self, to: &mut Columns) -> Result<(), Error> {
 ///         match self {
-///             Shot::Missed => to.encode_first(self, &&()),
-///             Shot::Hit(damage) => to.encode_second(self, &damage),
+///             Two::A(a) => to.encode_first(self, &a),
+///             Two::B(a) => to.encode_second(self, &a),
 ///         }
 ///     }
 /// }
@@ -40,9 +40,9 @@ pub trait WritesVariants<C: VariantColumns>: Enum {
 
 /// An enum that writes the payloads of all its variants, to columns of its own.
 ///
-/// ```
-/// impl WritesPayloads<2, ShotColumns> for Shot {
-///     fn write_payload(&self, to: &mut ShotColumns) -> Result<(), Error> {
+/// ```rust,from:crates/bitcode_own_types/src/two.rt
+/// impl WritesPayloads<2, TwoColumns> for Two {
+///     fn write_payload(&self, to: &mut TwoColumns) -> Result<(), Error> {
 ///         WritesVariants::<Columns>::write(self, &mut to.all)
 ///     }
 ///
@@ -65,8 +65,10 @@ pub trait WritesPayloads<const N: usize, C: AllColumns<N>>: EnumOf<N> {
 
 /// Makes room for a payload whose fields lie apart, and joins its columns to those so far.
 ///
-/// ```
-/// encode_payload_fields(&mut columns, &(&damage, &from))
+/// ```rust
+/// let mut columns: TupleEncoder<IntEncoder<u8>, IntEncoder<u16>> = TupleEncoder::new(alloc);
+/// encode_payload_fields(&mut columns, &(&7, &9))?;
+/// assert_eq!(rt; columns.collect(alloc)?.as_slice(), [7, 9, 0].as_slice());
 /// ```
 pub fn encode_payload_fields<F: Fields, E: Buffer + Encoder<F::Whole> + FieldsEncoder<F>>(
     columns: &mut E,

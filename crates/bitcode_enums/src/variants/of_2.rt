@@ -63,16 +63,16 @@ pub enum OneOf2<P1, P2> {
 /// An enum that has two variants that follow each other, from the number `O` on. The other type parameters are those of their payloads:
 /// `()` for a variant without fields, the field where it is one, and else the tuple of the fields. Of an enum of two variants:
 ///
-/// ```
-/// impl Variants2<At<0>, (), u8> for Shot {
-///     ghost values = { (λ p. Shot.Missed, λ p. Shot.Hit p) };
+/// ```rust,from:crates/bitcode_own_types/src/two.rt
+/// impl Variants2<At<0>, u8, i8> for Two {
+///     ghost values = { (λ p. Two.A p, λ p. Two.B p) };
 ///
-///     fn of_payload(payload: OneOf2<(), u8>) -> Self
-///         ensures { result ≡ of_one_of_2 (λ p. Shot.Missed) (λ p. Shot.Hit p) payload }
+///     fn of_payload(payload: OneOf2<u8, i8>) -> Self
+///         ensures { result ≡ of_one_of_2 (λ p. Two.A p) (λ p. Two.B p) payload }
 ///     {
 ///         match payload {
-///             OneOf2::First(()) => Shot::Missed,
-///             OneOf2::Second(damage) => Shot::Hit(damage),
+///             OneOf2::First(a) => Two::A(a),
+///             OneOf2::Second(a) => Two::B(a),
 ///         }
 ///     }
 ///
@@ -96,7 +96,7 @@ impl<O: Place, E1: Buffer, E2: Buffer> Encoders2<O, E1, E2> {
     ///
     /// It refuses as [`WritesVariants::write`] does.
     ///
-    /// ```
+    /// ```text
     /// Order::First(field) => to.encode_first(self, &field),
     /// ```
     pub fn encode_first<P1: Made, P2: Made, T: Variants2<O, P1, P2>, F: Fields<Whole = P1>>(
@@ -119,7 +119,7 @@ impl<O: Place, E1: Buffer, E2: Buffer> Encoders2<O, E1, E2> {
     ///
     /// It refuses as [`WritesVariants::write`] does.
     ///
-    /// ```
+    /// ```text
     /// Order::Second(field) => to.encode_second(self, &field),
     /// ```
     pub fn encode_second<P1: Made, P2: Made, T: Variants2<O, P1, P2>, F: Fields<Whole = P2>>(
