@@ -1,6 +1,7 @@
 //! Slices that are written one behind the other.
-ghost use Rattle.std.specs.Prelude.{◌≡◌, ◌+◌, ◌≤◌, ◌++◌, length, sum_by, All, IfOk, IfErr};
+ghost use Rattle.std.specs.Prelude.{◌≡◌, ◌⊎◌, ◌+◌, ◌≤◌, ◌++◌, length, sum_by, All, IfOk, IfErr};
 ghost use Rattle.std.specs.List.{flat_map};
+ghost use Rattle.std.specs.Mem.{type_size};
 ghost use Rattle.bitcode_columns.specs.declared.error.Reason.{Reason};
 ghost use Rattle.bitcode_columns.specs.Fast.{fast_items, fast_room};
 
@@ -13,7 +14,9 @@ use std::mem::size_of;
 use std_alloc::room::may_hold;
 
 /// How many bytes an item takes, and `usize::MAX` if that is 2^63 or more.
-pub fn item_size<T>() -> usize {
+pub fn item_size<T>() -> usize
+    ensures { (result ≡ type_size T.row) ⊎ (result ≡ 18446744073709551615) }
+{
     if may_hold::<T>(1) {
         1 * size_of::<T>()
     } else {
