@@ -20,7 +20,7 @@ use bitcode_untyped::value::Value;
 use std::alloc::Global;
 
 /// How many references are followed on one path.
-pub const REF_LIMIT: usize = 128;
+pub const REF_LIMIT: usize = 512;
 
 // Reads a value of a shape from the whole input. Where `strict`, the answer is whether each column stands in the bytes that are
 // written for its entries; else it says nothing.

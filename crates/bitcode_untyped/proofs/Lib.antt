@@ -14,6 +14,7 @@ pub mod NextColumnLemmas
 pub mod CompleteLemmas
 pub mod OnceLemmas
 pub mod BoundLemmas
+pub mod NodeLemmas
 pub mod EntryLemmas
 pub mod SpellingLemmas
 pub mod LawLemmas

@@ -39,7 +39,7 @@ fn a_table_is_a_shape(rt: HostRuntime) -> Result<(), Fail> {
 #[test]
 fn the_limits_are_known(rt: HostRuntime) -> Result<(), Fail> {
     assert_eq!(rt; ZST_LIMIT, 65536);
-    assert_eq!(rt; REF_LIMIT, 128);
+    assert_eq!(rt; REF_LIMIT, 512);
     Ok(())
 }
 
