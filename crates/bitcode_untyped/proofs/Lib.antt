@@ -25,6 +25,7 @@ pub mod MismatchLemmas
 pub mod ContentLemmas
 pub mod ReadLemmas
 pub mod StrictLemmas
+pub mod FreeLemmas
 pub mod FollowedLemmas
 pub mod TypedLemmas
 pub mod ThereLemmas

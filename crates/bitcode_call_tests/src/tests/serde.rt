@@ -7,7 +7,7 @@ use bitcode::laws::{
 use bitcode::serde::{VariantDecoder, VariantEncoder};
 use bitcode::{
     Decoder, Encoder, REF_LIMIT, Reason, Shape, ShapeNode, Value, View, ZST_LIMIT, deserialize,
-    serialize,
+    deserialize_within, serialize,
 };
 use bitcode_tests::Got;
 use bitcode_tests::untyped::{
@@ -33,6 +33,21 @@ fn a_table_is_a_shape(rt: HostRuntime) -> Result<(), Fail> {
     let value = deserialize(alloc, &shape, &bytes)?;
     assert_eq!(rt; value, Value::Bool(true).clone()?);
     assert_eq!(rt; format!(in alloc; "{value:?}")?.as_str(), "Bool(true)");
+    Ok(())
+}
+
+#[test]
+fn few_nodes_are_read_and_more_are_not(rt: HostRuntime) -> Result<(), Fail> {
+    let alloc = rt.alloc();
+    let nodes = vec![in alloc; ShapeNode::Bool, ShapeNode::U8]?;
+    let shape = Shape::new(vec![in alloc; ShapeNode::Tuple(nodes)]?, 0)?;
+    let value = deserialize_within(alloc, &shape, &[1, 7], 3)?;
+    let fields = vec![in alloc; Value::Bool(true), Value::U8(7)]?;
+    assert_eq!(rt; value, Value::Tuple(fields));
+    match deserialize_within(alloc, &shape, &[1, 7], 2) {
+        Ok(_) => assert!(rt; false),
+        Err(error) => assert_eq!(rt; error.reason, Reason::TooManyNodes),
+    }
     Ok(())
 }
 
