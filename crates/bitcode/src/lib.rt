@@ -201,6 +201,7 @@ pub use bitcode_parts::uuids::UuidConversion;
 pub use bitcode_serde::deserialize::REF_LIMIT;
 pub use bitcode_serde::deserialize::deserialize;
 pub use bitcode_serde::deserialize::deserialize_strict;
+pub use bitcode_serde::deserialize::deserialize_within;
 pub use bitcode_serde::free::ZST_LIMIT;
 pub use bitcode_serde::serialize::serialize;
 pub use bitcode_shapes::bare_variants::Bare;

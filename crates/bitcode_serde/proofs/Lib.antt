@@ -15,7 +15,10 @@ pub mod EntryLemmas
 pub mod FieldLemmas
 pub mod CaseLemmas
 pub mod LeafLemmas
+pub mod BudgetLemmas
+pub mod KeptLemmas
 pub mod WholeLemmas
+pub mod WithinLemmas
 pub mod WrittenLemmas
 pub mod WritingLemmas
 pub mod LeafEntryLemmas

@@ -3,6 +3,7 @@ pub mod ReadColumns
 pub mod Links
 pub mod Places
 pub mod Reading
+pub mod Budget
 pub mod ReadingValues
 pub mod Depth
 pub mod WrittenColumns

@@ -1,22 +1,25 @@
 -- What is read of a value, from one reader to the next.
-use Rattle.std.specs.Prelude.{◌≡◌, ◌≢◌, ℕ, zero, suc, List, [], ◌∷◌, Vec, Box}
+use Rattle.std.specs.Prelude.{◌≡◌, ◌≢◌, ◌<◌, ℕ, zero, suc, List, [], ◌∷◌, Vec, Box}
 use Rattle.std.specs.Global.{Global}
 use Rattle.bitcode_columns.specs.declared.error.Reason.{Reason}
-use Rattle.bitcode_columns.specs.declared.error.Reason.TheVariants.{ExpectedEof, InvalidEnumVariant, OutOfMemory, InvalidOption, InvalidChar, TooManyZeroSizedTypes, NestedTooDeep}
+use Rattle.bitcode_columns.specs.declared.error.Reason.TheVariants.{ExpectedEof, InvalidEnumVariant, OutOfMemory, InvalidOption, InvalidChar, TooManyZeroSizedTypes, NestedTooDeep, TooManyNodes}
 use Rattle.bitcode_shapes.specs.Datum.{Datum}
 use Rattle.bitcode_shapes.specs.Shape.{any_number}
 use Rattle.bitcode_untyped.specs.Faults.{faults_of}
 use Rattle.bitcode_untyped.specs.Machine.{State}
+use Rattle.bitcode_untyped.specs.Nodes.{node_count}
 use Rattle.bitcode_untyped.specs.Reads.{ReadsDatum, ReadsNoDatum, IsReadable, ReadsMany}
 use Rattle.bitcode_untyped.specs.ShapeTree.{ShapeTree, leaf_tree}
-use Rattle.bitcode_untyped.specs.View.{tree_by}
+use Rattle.bitcode_untyped.specs.View.{datum_of, tree_by}
 use Rattle.bitcode_untyped.specs.Walk.{field, Place, walk}
 use Rattle.bitcode_untyped.specs.declared.shape.ShapeNode.{ShapeNode}
 use Rattle.bitcode_untyped.specs.declared.shape.ShapeNode.TheVariants as node
 use Rattle.bitcode_untyped.specs.declared.value.Value.{Value}
 use Rattle.bitcode_serde.specs.ReadColumns.{kind_of, IsCaseOf, IsColumnReason}
+use Rattle.bitcode_serde.specs.Budget.{Keeps, KeepsEach}
 use Rattle.bitcode_serde.specs.Reading.{AreSized, IsAskedAs, Stands}
 use Rattle.bitcode_serde.specs.Places.{IsPlace}
+use Rattle.bitcode_serde.specs.declared.budget.Budget.{Budget}
 use Rattle.bitcode_serde.specs.declared.column.ColumnKind.{ColumnKind}
 use Rattle.bitcode_serde.specs.declared.reader.Reader.{Reader}
 
@@ -46,6 +49,13 @@ ReadsAt s place old d new = GoesAlong old place new (λ p a b. ReadsDatum s p a 
 -- so many data are read at the place, one after another
 abbrev pub ReadsListAt : ShapeTree → ℕ → Reader → ℕ → List Datum → Reader → Type 0
 ReadsListAt s place old count ds new = GoesAlong old place new (λ p a b. ReadsMany (IsReadable s) (walk s p) a count ds b)
+
+-- the same, as far as a budget of nodes keeps it
+abbrev pub ReadsWithin : ShapeTree → ℕ → Reader → Budget → Value → Reader → Budget → Type 0
+ReadsWithin s place old before v new after = Keeps datum_of (λ d. ReadsAt s place old d new) before v after
+
+abbrev pub ReadsListWithin : ShapeTree → ℕ → Reader → Budget → ℕ → List Value → Reader → Budget → Type 0
+ReadsListWithin s place old before count vs new after = KeepsEach datum_of (λ ds. ReadsListAt s place old count ds new) before vs after
 
 -- the reasons of refusals by a reader of values
 abbrev pub IsValueReason : Reason → Type 0
@@ -113,3 +123,11 @@ IsOfTuple table left nodes v = (ns : Vec ShapeNode Global) → ns.items ≡ node
 
 abbrev pub IsOfEnum : List ShapeNode → ℕ → List ShapeNode → Value → Type 0
 IsOfEnum table left nodes v = (ns : Vec ShapeNode Global) → ns.items ≡ nodes → faults_of table v left (node.Enum ns) ≡ []
+
+-- ---- a whole input, under a limit on nodes
+
+-- Why it is refused: it spells a datum with more nodes than the limit, or it spells none, or there is no memory.
+pub record IsRefusalWithin (limit : ℕ) (Spells : Datum → Type 0) (reason : Reason) : Type 0 where
+  pub known : reason ≢ TooManyNodes → IsValueReason reason
+  pub too_many : reason ≡ TooManyNodes → (d : Datum) × Spells d × (limit < node_count d)
+  pub none_spelled : reason ≢ TooManyNodes → reason ≢ OutOfMemory → (d : Datum) → Spells d → ⊥

@@ -3,12 +3,14 @@ ghost use Rattle.std.specs.Prelude.{◌≡◌, ◌≤◌, length, map, IfOk, IfE
 ghost use Rattle.std.specs.List.{AllByRecursion};
 ghost use Rattle.bitcode_coder.specs.Spelling.{natural};
 ghost use Rattle.bitcode_shapes.specs.Shape.{any_number};
+ghost use Rattle.bitcode_untyped.specs.Nodes.{node_count};
 ghost use Rattle.bitcode_untyped.specs.ShapeTree.{leaf_tree, char_tree, natural_tree, seq_tree};
 ghost use Rattle.bitcode_untyped.specs.View.{datum_of};
 ghost use Rattle.bitcode_serde.specs.ReadColumns.{kind_of, IsCaseOf};
-ghost use Rattle.bitcode_serde.specs.ReadingValues.{HasColumn, IsSteady, Continues, ReadsAt, ReadsListAt, IsRefusalAt, IsListRefusalAt, IsOfLeaf, IsOfChar, IsOfBytes, ReadsLeafAt, IsLeafRefusalAt};
+ghost use Rattle.bitcode_serde.specs.ReadingValues.{HasColumn, IsSteady, Continues, ReadsAt, ReadsWithin, ReadsListAt, IsRefusalAt, IsListRefusalAt, IsOfLeaf, IsOfChar, IsOfBytes, ReadsLeafAt, IsLeafRefusalAt};
 ghost use Rattle.bitcode_serde.specs.Serializing.{IsLeaf};
 
+use crate::budget::Budget;
 use crate::column::ColumnKind;
 use crate::reader::Reader;
 use crate::step::Step;
@@ -64,6 +66,7 @@ pub fn read_leaves(
     ensures continues { OnOk result (Continues reader.old reader.new) }
     ensures read { IfOk result (λ values. ReadsListAt (leaf_tree (kind_of kind) any_number) place reader.old count (map datum_of values.items) reader.new) }
     ensures of_case { IfOk result (λ values. AllByRecursion (IsCaseOf kind) values.items) }
+    ensures size { IfOk result (λ values. length values.items ≡ count) }
     ensures refused { IfErr result (λ e. IsListRefusalAt (leaf_tree (kind_of kind) any_number) place reader.old count e.reason) }
 {
     let values = reader.take_each(place, kind, count)?;
@@ -77,6 +80,7 @@ pub fn read_char(reader: &mut Reader<'_>, place: usize) -> Result<Value, Error>
     ensures continues { OnOk result (Continues reader.old reader.new) }
     ensures read { IfOk result (λ value. ReadsAt char_tree place reader.old (datum_of value) reader.new) }
     ensures whole { IfOk result (λ value. IsOfChar value) }
+    ensures single { IfOk result (λ value. node_count (datum_of value) ≡ 1) }
     ensures refused { IfErr result (λ e. IsRefusalAt char_tree place reader.old e.reason) }
 {
     let code = reader.take_code(place)?;
@@ -96,23 +100,30 @@ fn read_elements_of_bytes(
     requires steady { IsSteady reader.old }
     ensures continues { OnOk result (Continues reader.old reader.new) }
     ensures read { IfOk result (λ bytes. ReadsListAt (natural_tree 1) place reader.old count (map natural bytes.items) reader.new) }
+    ensures size { IfOk result (λ bytes. length bytes.items ≡ count) }
     ensures refused { IfErr result (λ e. IsListRefusalAt (natural_tree 1) place reader.old count e.reason) }
 {
     let bytes = reader.take_bytes(place, count)?;
     Ok(bytes)
 }
 
-/// Reads a list of bytes.
-pub fn read_bytes(reader: &mut Reader<'_>, place: usize) -> Result<Value, Error>
+/// Reads a list of bytes, each of which is a node.
+pub fn read_bytes(
+    reader: &mut Reader<'_>,
+    budget: &mut Budget,
+    place: usize,
+) -> Result<Value, Error>
     requires place { place ≤ length reader.old.places.below.items }
     requires steady { IsSteady reader.old }
     ensures continues { OnOk result (Continues reader.old reader.new) }
-    ensures read { IfOk result (λ value. ReadsAt (seq_tree (natural_tree 1)) place reader.old (datum_of value) reader.new) }
+    ensures read { IfOk result (λ value. ReadsWithin (seq_tree (natural_tree 1)) place reader.old budget.old value reader.new budget.new) }
     ensures whole { IfOk result (λ value. IsOfBytes value) }
     ensures refused { IfErr result (λ e. IsRefusalAt (seq_tree (natural_tree 1)) place reader.old e.reason) }
 {
+    budget.take(1);
     let taken = reader.take_length(place)?;
     let elements = reader.step(place, Step::Element, taken.total)?;
+    budget.take(taken.length);
     let bytes = read_elements_of_bytes(reader, elements, taken.length)?;
     Ok(Value::Bytes(bytes))
 }
@@ -125,6 +136,7 @@ pub fn read_entry(reader: &mut Reader<'_>, node: &ShapeNode, place: usize) -> Re
     ensures continues { OnOk result (Continues reader.old reader.new) }
     ensures read { IfOk result (λ value. ReadsLeafAt node.now place reader.old (datum_of value) reader.new) }
     ensures whole { IfOk result (λ value. IsOfLeaf node.now value) }
+    ensures single { IfOk result (λ value. node_count (datum_of value) ≡ 1) }
     ensures refused { IfErr result (λ e. IsLeafRefusalAt node.now place reader.old e.reason) }
 {
     match column_kind(node) {

@@ -1,6 +1,7 @@
 //! The second format: values of any shape, written and read under the shape.
 #![tactic(auto)]
 
+pub mod budget;
 pub mod column;
 pub mod deserialize;
 mod entries;

@@ -20,7 +20,7 @@ use std::alloc::Global;
 /// Writes a value of a shape: one column for each place that the value has, in the order of their first entries.
 ///
 /// It refuses a value that is not of the shape, and no other: with `enums with more than 256 variants are unsupported` only
-/// where an index is over 255, with `nested too deep` only where more than 128 references are followed on a path, and with
+/// where an index is over 255, with `nested too deep` only where more than 512 references are followed on a path, and with
 /// `value is not of the shape` only where it is not in another way. Where it is not in several ways, any of them may be told.
 /// It also refuses with `out of memory`.
 ///

@@ -3,10 +3,12 @@ ghost use Rattle.std.specs.Prelude.{◌≡◌, ◌≤◌, [], length, map, IfOk,
 ghost use Rattle.std.specs.List.{flat_map};
 ghost use Rattle.bitcode_untyped.specs.Faults.{faults_of};
 ghost use Rattle.bitcode_untyped.specs.ShapeTree.{option_tree, seq_tree, map_tree, tuple_tree, choice_tree};
-ghost use Rattle.bitcode_untyped.specs.View.{datum_of, tree_of_node, trees_of};
-ghost use Rattle.bitcode_serde.specs.ReadingValues.{IsSteady, Continues, ReadsAt, ReadsListAt, IsRefusalAt, IsListRefusalAt, IsOfOption, IsOfSeq, IsOfMap, IsOfTuple, IsOfEnum};
+ghost use Rattle.bitcode_untyped.specs.View.{tree_of_node, trees_of};
+ghost use Rattle.bitcode_serde.specs.Budget.{IsLeft};
+ghost use Rattle.bitcode_serde.specs.ReadingValues.{IsSteady, Continues, ReadsWithin, ReadsListWithin, IsRefusalAt, IsListRefusalAt, IsOfOption, IsOfSeq, IsOfMap, IsOfTuple, IsOfEnum};
 
-use crate::free::is_over_limit;
+use crate::budget::Budget;
+use crate::free::{is_free, is_over_limit};
 use crate::leaf::{column_kind, read_bytes, read_entry, read_leaves};
 use crate::reader::Reader;
 use crate::step::Step;
@@ -17,10 +19,13 @@ use bitcode_untyped::value::Value;
 use std::alloc::Global;
 
 /// Reads a value of a node at a place, below which so many references may be followed.
+///
+/// Its nodes are taken from the budget. Once that is spent, what is left is read for its faults alone, and the value is not to be used.
 #[cycle(read)]
 pub fn read(
     alloc: Global,
     reader: &mut Reader<'_>,
+    budget: &mut Budget,
     table: &[ShapeNode],
     node: &ShapeNode,
     left: usize,
@@ -29,28 +34,36 @@ pub fn read(
     requires place { place ≤ length reader.old.places.below.items }
     requires steady { IsSteady reader.old }
     ensures continues { OnOk result (Continues reader.old reader.new) }
-    ensures read { IfOk result (λ value. ReadsAt (tree_of_node left table.now node.now) place reader.old (datum_of value) reader.new) }
-    ensures whole { IfOk result (λ value. faults_of table.now value left node.now ≡ []) }
+    ensures read { IfOk result (λ value. ReadsWithin (tree_of_node left table.now node.now) place reader.old budget.old value reader.new budget.new) }
+    ensures whole { IfOk result (λ value. IsLeft budget.new → faults_of table.now value left node.now ≡ []) }
     ensures refused { IfErr result (λ e. IsRefusalAt (tree_of_node left table.now node.now) place reader.old e.reason) }
 {
     match node {
-        ShapeNode::Unit => Ok(Value::Unit),
-        ShapeNode::Bytes => read_bytes(reader, place),
-        ShapeNode::Option(some) => read_option(alloc, reader, table, some, left, place),
-        ShapeNode::Seq(element) => read_seq(alloc, reader, table, element, left, place),
-        ShapeNode::Map(key, value) => read_map(alloc, reader, table, key, value, left, place),
-        ShapeNode::Tuple(nodes) => read_tuple(alloc, reader, table, nodes, left, place),
-        ShapeNode::Enum(nodes) => read_enum(alloc, reader, table, nodes, left, place),
+        ShapeNode::Unit => {
+            budget.take(1);
+            Ok(Value::Unit)
+        }
+        ShapeNode::Bytes => read_bytes(reader, budget, place),
+        ShapeNode::Option(some) => read_option(alloc, reader, budget, table, some, left, place),
+        ShapeNode::Seq(element) => read_seq(alloc, reader, budget, table, element, left, place),
+        ShapeNode::Map(key, value) => read_map(
+            alloc, reader, budget, table, key, value, left, place,
+        ),
+        ShapeNode::Tuple(nodes) => read_tuple(alloc, reader, budget, table, nodes, left, place),
+        ShapeNode::Enum(nodes) => read_enum(alloc, reader, budget, table, nodes, left, place),
         ShapeNode::Ref(i) => {
             if left == 0 {
                 return err(Reason::NestedTooDeep);
             }
             match table.get(*i) {
-                Some(entry) => read(alloc, reader, table, entry, left - 1, place),
+                Some(entry) => read(alloc, reader, budget, table, entry, left - 1, place),
                 None => err(Reason::NestedTooDeep),
             }
         }
-        _ => read_entry(reader, node, place),
+        _ => {
+            budget.take(1);
+            read_entry(reader, node, place)
+        }
     }
 }
 
@@ -59,6 +72,7 @@ pub fn read(
 fn read_option(
     alloc: Global,
     reader: &mut Reader<'_>,
+    budget: &mut Budget,
     table: &[ShapeNode],
     node: &ShapeNode,
     left: usize,
@@ -67,19 +81,21 @@ fn read_option(
     requires place { place ≤ length reader.old.places.below.items }
     requires steady { IsSteady reader.old }
     ensures continues { OnOk result (Continues reader.old reader.new) }
-    ensures read { IfOk result (λ value. ReadsAt (option_tree (tree_of_node left table.now node.now)) place reader.old (datum_of value) reader.new) }
-    ensures whole { IfOk result (λ value. IsOfOption table.now left node.now value) }
+    ensures read { IfOk result (λ value. ReadsWithin (option_tree (tree_of_node left table.now node.now)) place reader.old budget.old value reader.new budget.new) }
+    ensures whole { IfOk result (λ value. IsLeft budget.new → IsOfOption table.now left node.now value) }
     ensures refused { IfErr result (λ e. IsRefusalAt (option_tree (tree_of_node left table.now node.now)) place reader.old e.reason) }
 {
+    budget.take(1);
     let taken = reader.take_index(place)?;
     if taken.index == 0 {
+        budget.take(1);
         return Ok(Value::Option(None));
     }
     if taken.index > 1 {
         return err(Reason::InvalidOption);
     }
     let inside = reader.step(place, Step::Variant(taken.index), taken.count)?;
-    let value = read(alloc, reader, table, node, left, inside)?;
+    let value = read(alloc, reader, budget, table, node, left, inside)?;
     Ok(Value::Option(Some(Box::new(alloc, value)?)))
 }
 
@@ -88,6 +104,7 @@ fn read_option(
 fn read_seq(
     alloc: Global,
     reader: &mut Reader<'_>,
+    budget: &mut Budget,
     table: &[ShapeNode],
     node: &ShapeNode,
     left: usize,
@@ -96,16 +113,26 @@ fn read_seq(
     requires place { place ≤ length reader.old.places.below.items }
     requires steady { IsSteady reader.old }
     ensures continues { OnOk result (Continues reader.old reader.new) }
-    ensures read { IfOk result (λ value. ReadsAt (seq_tree (tree_of_node left table.now node.now)) place reader.old (datum_of value) reader.new) }
-    ensures whole { IfOk result (λ value. IsOfSeq table.now left node.now value) }
+    ensures read { IfOk result (λ value. ReadsWithin (seq_tree (tree_of_node left table.now node.now)) place reader.old budget.old value reader.new budget.new) }
+    ensures whole { IfOk result (λ value. IsLeft budget.new → IsOfSeq table.now left node.now value) }
     ensures refused { IfErr result (λ e. IsRefusalAt (seq_tree (tree_of_node left table.now node.now)) place reader.old e.reason) }
 {
+    budget.take(1);
     let taken = reader.take_length(place)?;
     if is_over_limit(table, node, left, taken.length) {
         return err(Reason::TooManyZeroSizedTypes);
     }
     let elements = reader.step(place, Step::Element, taken.total)?;
-    let values = read_elements(alloc, reader, table, node, left, elements, taken.length)?;
+    let values = read_elements(
+        alloc,
+        reader,
+        budget,
+        table,
+        node,
+        left,
+        elements,
+        taken.length,
+    )?;
     Ok(Value::Seq(values))
 }
 
@@ -114,6 +141,7 @@ fn read_seq(
 fn read_elements(
     alloc: Global,
     reader: &mut Reader<'_>,
+    budget: &mut Budget,
     table: &[ShapeNode],
     node: &ShapeNode,
     left: usize,
@@ -123,17 +151,23 @@ fn read_elements(
     requires place { place ≤ length reader.old.places.below.items }
     requires steady { IsSteady reader.old }
     ensures continues { OnOk result (Continues reader.old reader.new) }
-    ensures read { IfOk result (λ values. ReadsListAt (tree_of_node left table.now node.now) place reader.old count (map datum_of values.items) reader.new) }
-    ensures whole { IfOk result (λ values. flat_map (λ value. faults_of table.now value left node.now) values.items ≡ []) }
+    ensures read { IfOk result (λ values. ReadsListWithin (tree_of_node left table.now node.now) place reader.old budget.old count values.items reader.new budget.new) }
+    ensures whole { IfOk result (λ values. IsLeft budget.new → flat_map (λ value. faults_of table.now value left node.now) values.items ≡ []) }
     ensures refused { IfErr result (λ e. IsListRefusalAt (tree_of_node left table.now node.now) place reader.old count e.reason) }
 {
     if let Some(kind) = column_kind(node) {
-        return read_leaves(reader, place, kind, count);
+        if budget.has(count) {
+            budget.take(count);
+            return read_leaves(reader, place, kind, count);
+        }
     }
     let mut values = Vec::new(alloc);
     for _i in 0..count {
-        let value = read(alloc, reader, table, node, left, place)?;
-        values.push(value)?;
+        if budget.is_spent() && is_free(table, node, left) {
+            return Ok(values);
+        }
+        let value = read(alloc, reader, budget, table, node, left, place)?;
+        budget.keep(&mut values, value)?;
     }
     Ok(values)
 }
@@ -143,6 +177,7 @@ fn read_elements(
 fn read_tuple(
     alloc: Global,
     reader: &mut Reader<'_>,
+    budget: &mut Budget,
     table: &[ShapeNode],
     nodes: &[ShapeNode],
     left: usize,
@@ -151,15 +186,16 @@ fn read_tuple(
     requires place { place ≤ length reader.old.places.below.items }
     requires steady { IsSteady reader.old }
     ensures continues { OnOk result (Continues reader.old reader.new) }
-    ensures read { IfOk result (λ value. ReadsAt (tuple_tree (trees_of (map (tree_of_node left table.now) nodes.now))) place reader.old (datum_of value) reader.new) }
-    ensures whole { IfOk result (λ value. IsOfTuple table.now left nodes.now value) }
+    ensures read { IfOk result (λ value. ReadsWithin (tuple_tree (trees_of (map (tree_of_node left table.now) nodes.now))) place reader.old budget.old value reader.new budget.new) }
+    ensures whole { IfOk result (λ value. IsLeft budget.new → IsOfTuple table.now left nodes.now value) }
     ensures refused { IfErr result (λ e. IsRefusalAt (tuple_tree (trees_of (map (tree_of_node left table.now) nodes.now))) place reader.old e.reason) }
 {
+    budget.take(1);
     let mut values = Vec::new(alloc);
     for i in 0..nodes.len() {
         let inside = reader.field(place, i, nodes.len())?;
-        let value = read(alloc, reader, table, &nodes[i], left, inside)?;
-        values.push(value)?;
+        let value = read(alloc, reader, budget, table, &nodes[i], left, inside)?;
+        budget.keep(&mut values, value)?;
     }
     Ok(Value::Tuple(values))
 }
@@ -169,6 +205,7 @@ fn read_tuple(
 fn read_enum(
     alloc: Global,
     reader: &mut Reader<'_>,
+    budget: &mut Budget,
     table: &[ShapeNode],
     nodes: &[ShapeNode],
     left: usize,
@@ -177,15 +214,16 @@ fn read_enum(
     requires place { place ≤ length reader.old.places.below.items }
     requires steady { IsSteady reader.old }
     ensures continues { OnOk result (Continues reader.old reader.new) }
-    ensures read { IfOk result (λ value. ReadsAt (choice_tree (trees_of (map (tree_of_node left table.now) nodes.now))) place reader.old (datum_of value) reader.new) }
-    ensures whole { IfOk result (λ value. IsOfEnum table.now left nodes.now value) }
+    ensures read { IfOk result (λ value. ReadsWithin (choice_tree (trees_of (map (tree_of_node left table.now) nodes.now))) place reader.old budget.old value reader.new budget.new) }
+    ensures whole { IfOk result (λ value. IsLeft budget.new → IsOfEnum table.now left nodes.now value) }
     ensures refused { IfErr result (λ e. IsRefusalAt (choice_tree (trees_of (map (tree_of_node left table.now) nodes.now))) place reader.old e.reason) }
 {
+    budget.take(1);
     let taken = reader.take_index(place)?;
     match nodes.get(taken.index as usize) {
         Some(node) => {
             let inside = reader.step(place, Step::Variant(taken.index), taken.count)?;
-            let value = read(alloc, reader, table, node, left, inside)?;
+            let value = read(alloc, reader, budget, table, node, left, inside)?;
             Ok(Value::Enum(taken.index as u32, Box::new(alloc, value)?))
         }
         None => err(Reason::InvalidEnumVariant),
@@ -197,6 +235,7 @@ fn read_enum(
 fn read_map(
     alloc: Global,
     reader: &mut Reader<'_>,
+    budget: &mut Budget,
     table: &[ShapeNode],
     key: &ShapeNode,
     value: &ShapeNode,
@@ -206,10 +245,11 @@ fn read_map(
     requires place { place ≤ length reader.old.places.below.items }
     requires steady { IsSteady reader.old }
     ensures continues { OnOk result (Continues reader.old reader.new) }
-    ensures read { IfOk result (λ made. ReadsAt (map_tree (tree_of_node left table.now key.now) (tree_of_node left table.now value.now)) place reader.old (datum_of made) reader.new) }
-    ensures whole { IfOk result (λ made. IsOfMap table.now left key.now value.now made) }
+    ensures read { IfOk result (λ made. ReadsWithin (map_tree (tree_of_node left table.now key.now) (tree_of_node left table.now value.now)) place reader.old budget.old made reader.new budget.new) }
+    ensures whole { IfOk result (λ made. IsLeft budget.new → IsOfMap table.now left key.now value.now made) }
     ensures refused { IfErr result (λ e. IsRefusalAt (map_tree (tree_of_node left table.now key.now) (tree_of_node left table.now value.now)) place reader.old e.reason) }
 {
+    budget.take(1);
     let taken = reader.take_length(place)?;
     if is_over_limit(table, key, left, taken.length) {
         return err(Reason::TooManyZeroSizedTypes);
@@ -218,9 +258,10 @@ fn read_map(
     let values = reader.step(place, Step::Value, taken.total)?;
     let mut pairs = Vec::new(alloc);
     for _i in 0..taken.length {
-        let first = read(alloc, reader, table, key, left, keys)?;
-        let second = read(alloc, reader, table, value, left, values)?;
-        pairs.push((first, second))?;
+        budget.take(1);
+        let first = read(alloc, reader, budget, table, key, left, keys)?;
+        let second = read(alloc, reader, budget, table, value, left, values)?;
+        budget.keep(&mut pairs, (first, second))?;
     }
     Ok(Value::Map(pairs))
 }

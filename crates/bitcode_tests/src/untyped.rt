@@ -1,6 +1,8 @@
 //! Values under shapes: how they are written, read and refused.
 use crate::Got;
-use bitcode::{Reason, Shape, ShapeNode, Value, deserialize, deserialize_strict, serialize};
+use bitcode::{
+    Reason, Shape, ShapeNode, Value, deserialize, deserialize_strict, deserialize_within, serialize,
+};
 use std::alloc::Global;
 
 /// The shape of one node, which refers to nothing but maybe itself.
@@ -109,6 +111,21 @@ pub fn deserializes_strictly(
     }
 }
 
+/// The bytes are read as this value under a limit on its nodes.
+pub fn is_read_within(
+    alloc: Global,
+    shape: &Shape,
+    bytes: &[u8],
+    limit: usize,
+    expected: &Value,
+) -> Result<(), Got> {
+    match deserialize_within(alloc, shape, bytes, limit) {
+        Ok(value) if value == *expected => Ok(()),
+        Ok(_) => Err(Got::AnotherValue),
+        Err(error) => Err(Got::Refused(error)),
+    }
+}
+
 /// Read strictly, the bytes are refused for this reason.
 pub fn is_not_read_strictly(
     alloc: Global,
@@ -117,6 +134,21 @@ pub fn is_not_read_strictly(
     expected: Reason,
 ) -> Result<(), Got> {
     match deserialize_strict(alloc, shape, bytes) {
+        Ok(_) => Err(Got::AnotherValue),
+        Err(error) if error.reason == expected => Ok(()),
+        Err(error) => Err(Got::Refused(error)),
+    }
+}
+
+/// The bytes are refused for this reason under a limit on nodes.
+pub fn is_not_read_within(
+    alloc: Global,
+    shape: &Shape,
+    bytes: &[u8],
+    limit: usize,
+    expected: Reason,
+) -> Result<(), Got> {
+    match deserialize_within(alloc, shape, bytes, limit) {
         Ok(_) => Err(Got::AnotherValue),
         Err(error) if error.reason == expected => Ok(()),
         Err(error) => Err(Got::Refused(error)),

@@ -7,7 +7,7 @@ use Rattle.bitcode_columns.specs.declared.error.Reason.TheVariants.{TooManyVaria
 use Rattle.bitcode_shapes.specs.Datum.{Datum, list, tuple, choice, pair, data_of, list_of, elements_in, fields_in, first_in, second_in, variant_in, payload_in}
 use Rattle.bitcode_untyped.specs.Content.{case_number, content_step, content_of, DatumDecides}
 use Rattle.bitcode_untyped.specs.Faults.{Followed, stands, too_deep, nowhere, follow, Judge, faults_of, faults_at, faults_by, faults_of_fields, faults_of_variant}
-use Rattle.bitcode_untyped.specs.View.{datum_of, datum_step}
+use Rattle.bitcode_untyped.specs.View.{datum_of, datum_step, reference_limit}
 use Rattle.bitcode_untyped.specs.declared.shape.Shape.{Shape}
 use Rattle.bitcode_untyped.specs.declared.shape.ShapeNode.{ShapeNode}
 use Rattle.bitcode_untyped.specs.declared.shape.ShapeNode.TheOpen.{ShapeNode-F}
@@ -275,4 +275,4 @@ module _ (table : List ShapeNode) where
 
 pub datum_decides : (shape : Shape) → DatumDecides shape
 datum_decides shape v w h k d =
-    variant_decided shape.table.items 128 (v, decided shape.table.items v) w (slice_get shape.table.items shape.root) h k d
+    variant_decided shape.table.items reference_limit (v, decided shape.table.items v) w (slice_get shape.table.items shape.root) h k d

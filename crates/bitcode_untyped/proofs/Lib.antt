@@ -14,6 +14,7 @@ pub mod NextColumnLemmas
 pub mod CompleteLemmas
 pub mod OnceLemmas
 pub mod BoundLemmas
+pub mod NodeLemmas
 pub mod EntryLemmas
 pub mod SpellingLemmas
 pub mod LawLemmas
@@ -24,6 +25,7 @@ pub mod MismatchLemmas
 pub mod ContentLemmas
 pub mod ReadLemmas
 pub mod StrictLemmas
+pub mod FreeLemmas
 pub mod FollowedLemmas
 pub mod TypedLemmas
 pub mod ThereLemmas

@@ -11,6 +11,7 @@ pub mod Faults
 pub mod Cases
 pub mod Content
 pub mod Bounds
+pub mod Nodes
 pub mod Spelling
 pub mod Strict
 pub mod Reads

@@ -15,6 +15,7 @@ use Rattle.bitcode_untyped.specs.ShapeTree.{ShapeTree, IsOf, unit_tree, never_tr
 use Rattle.bitcode_untyped.specs.View.{trees_of}
 use Rattle.bitcode_untyped.specs.Walk.{element, field, length_kind}
 use Rattle.bitcode_untyped.specs.PlacedColumns.{columns_of}
+use Rattle.bitcode_untyped.specs.Nodes.{node_count}
 use Rattle.bitcode_untyped.specs.Spelling.{datum_text}
 
 abbrev seq : List Datum → Datum
@@ -159,8 +160,8 @@ abbrev some_in : ℕ → Datum
 some_in zero = none
 some_in (suc depth) = some (some_in depth)
 
--- 128 references on the path
-deep_text : datum_text (optional_tree 129) (some_in 128) ≡ replicate 128 1 ++ 0 ∷ []
+-- 512 references on the path
+deep_text : datum_text (optional_tree 513) (some_in 512) ≡ replicate 512 1 ++ 0 ∷ []
 unfolding int_text byte_text tagged_text digits_text raw_text
 deep_text = refl
 
@@ -168,3 +169,25 @@ deep_text = refl
 too_deep : (left : ℕ) → IsOf (optional_tree left) (some_in left) → ⊥
 too_deep zero h = h
 too_deep (suc left) h = too_deep left h.2
+
+-- ---- nodes
+
+lists_in_lists_nodes : node_count (seq (seq [] ∷ seq (seq [] ∷ []) ∷ [])) ≡ 4
+lists_in_lists_nodes = refl
+
+some_nodes : node_count (some (natural 1)) ≡ 2
+some_nodes = refl
+
+none_nodes : node_count none ≡ 2
+none_nodes = refl
+
+unit_nodes : node_count unit ≡ 1
+unit_nodes = refl
+
+-- a map of one pair
+pair_nodes : node_count (seq (pair (natural 1) (natural 6) ∷ [])) ≡ 4
+pair_nodes = refl
+
+-- a list of two bytes
+bytes_nodes : node_count (seq (natural 7 ∷ natural 8 ∷ [])) ≡ 3
+bytes_nodes = refl

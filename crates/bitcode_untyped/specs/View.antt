@@ -84,7 +84,7 @@ followed (suc left) table i = entry_tree (followed left table) table i
 
 -- how many references are followed on one path
 abbrev pub reference_limit : ℕ
-reference_limit = 128
+reference_limit = 512
 
 -- the tree of a node, below which so many references may still be followed
 abbrev pub tree_of_node : ℕ → List ShapeNode → ShapeNode → ShapeTree

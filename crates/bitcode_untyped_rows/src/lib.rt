@@ -7,6 +7,7 @@ use std::alloc::Global;
 pub mod choices;
 pub mod leaves;
 pub mod lists;
+pub mod nodes;
 pub mod references;
 pub mod shapes;
 pub mod strict;

@@ -55,7 +55,7 @@ pub fn tuple_of_one(alloc: Global) -> Result<(), Got> {
 }
 
 /// A list of so many units.
-fn units(alloc: Global, count: usize) -> Result<Value, Got> {
+pub fn units(alloc: Global, count: usize) -> Result<Value, Got> {
     let mut units = Vec::new(alloc);
     for _ in 0..count {
         units.push(Value::Unit)?;

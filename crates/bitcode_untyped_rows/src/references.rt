@@ -25,16 +25,22 @@ fn nested_bytes(alloc: Global, count: usize) -> Result<Vec<u8>, Got> {
     Ok(bytes)
 }
 
-/// 128 references are followed on a path, and one more is refused.
-pub fn options_in_options(alloc: Global) -> Result<(), Got> {
-    let shape = shape_of(alloc, option_of(alloc, ShapeNode::Ref(0))?)?;
+/// So many options in one another, the last of them empty, are written and read back.
+fn nest(alloc: Global, shape: &Shape, count: usize) -> Result<(), Got> {
     let mut nested = Value::Option(None);
-    for _ in 0..128 {
+    for _ in 0..count {
         nested = some(alloc, nested)?;
     }
-    let bytes = nested_bytes(alloc, 128)?;
-    written_both_ways(alloc, &shape, &nested, &bytes)?;
-    let deeper = nested_bytes(alloc, 129)?;
+    let bytes = nested_bytes(alloc, count)?;
+    written_both_ways(alloc, shape, &nested, &bytes)
+}
+
+/// 512 references are followed on a path, and one more is refused.
+pub fn options_in_options(alloc: Global) -> Result<(), Got> {
+    let shape = shape_of(alloc, option_of(alloc, ShapeNode::Ref(0))?)?;
+    nest(alloc, &shape, 129)?;
+    nest(alloc, &shape, 512)?;
+    let deeper = nested_bytes(alloc, 513)?;
     is_not_read(alloc, &shape, &deeper, Reason::NestedTooDeep)
 }
 

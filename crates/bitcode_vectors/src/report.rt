@@ -125,6 +125,21 @@ fn print_rows_to_61(rt: &impl Print, alloc: Global) -> io::Result<bool> {
     Ok(all_ok)
 }
 
+/// Runs rows 62 and 63, and answers whether both are ok.
+fn print_rows_to_63(rt: &impl Print, alloc: Global) -> io::Result<bool> {
+    let mut all_ok = print_row(
+        rt,
+        62,
+        bitcode_untyped_rows::nodes::of_lists_and_options(alloc),
+    )?;
+    all_ok &= print_row(
+        rt,
+        63,
+        bitcode_untyped_rows::nodes::of_units_pairs_and_bytes(alloc),
+    )?;
+    Ok(all_ok)
+}
+
 /// Runs all stored rows in order, and answers whether all of them are ok.
 pub fn print_rows(rt: &impl Print, alloc: Global) -> io::Result<bool> {
     let mut all_ok = print_rows_to_11(rt, alloc)?;
@@ -133,5 +148,6 @@ pub fn print_rows(rt: &impl Print, alloc: Global) -> io::Result<bool> {
     all_ok &= print_rows_to_45(rt, alloc)?;
     all_ok &= print_rows_to_58(rt, alloc)?;
     all_ok &= print_rows_to_61(rt, alloc)?;
+    all_ok &= print_rows_to_63(rt, alloc)?;
     Ok(all_ok)
 }

@@ -7,7 +7,7 @@ use bitcode::laws::{
 use bitcode::serde::{VariantDecoder, VariantEncoder};
 use bitcode::{
     Decoder, Encoder, REF_LIMIT, Reason, Shape, ShapeNode, Value, View, ZST_LIMIT, deserialize,
-    serialize,
+    deserialize_within, serialize,
 };
 use bitcode_tests::Got;
 use bitcode_tests::untyped::{
@@ -37,9 +37,24 @@ fn a_table_is_a_shape(rt: HostRuntime) -> Result<(), Fail> {
 }
 
 #[test]
+fn few_nodes_are_read_and_more_are_not(rt: HostRuntime) -> Result<(), Fail> {
+    let alloc = rt.alloc();
+    let nodes = vec![in alloc; ShapeNode::Bool, ShapeNode::U8]?;
+    let shape = Shape::new(vec![in alloc; ShapeNode::Tuple(nodes)]?, 0)?;
+    let value = deserialize_within(alloc, &shape, &[1, 7], 3)?;
+    let fields = vec![in alloc; Value::Bool(true), Value::U8(7)]?;
+    assert_eq!(rt; value, Value::Tuple(fields));
+    match deserialize_within(alloc, &shape, &[1, 7], 2) {
+        Ok(_) => assert!(rt; false),
+        Err(error) => assert_eq!(rt; error.reason, Reason::TooManyNodes),
+    }
+    Ok(())
+}
+
+#[test]
 fn the_limits_are_known(rt: HostRuntime) -> Result<(), Fail> {
     assert_eq!(rt; ZST_LIMIT, 65536);
-    assert_eq!(rt; REF_LIMIT, 128);
+    assert_eq!(rt; REF_LIMIT, 512);
     Ok(())
 }
 

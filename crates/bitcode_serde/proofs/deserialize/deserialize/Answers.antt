@@ -6,6 +6,7 @@ use Rattle.bitcode_shapes.specs.Datum.{Datum}
 use Rattle.bitcode_untyped.specs.Spelling.{SpellsDatum}
 use Rattle.bitcode_untyped.specs.View.{tree_of}
 use Rattle.bitcode_serde.specs.ReadingValues.{IsValueReason}
+use Rattle.bitcode_serde.proofs.BudgetLemmas.{all_kept}
 use Rattle.bitcode_serde.proofs.ColumnLemmas.{passed_on}
 use Rattle.bitcode_serde.proofs.WholeLemmas.{one_spelled, size_bound, bounded, only_value}
 use Rattle.bitcode_serde.proofs.deserialize.deserialize.Goals as goal
@@ -34,5 +35,12 @@ returns-in_err-read-clause-refused c =
     passed_on (λ e. IsValueReason e.reason × (e.reason ≢ OutOfMemory → (d : Datum) → SpellsDatum (tree_of c.args.shape.now) c.args.bytes.now d → ⊥)) c.from_residual.result
     c.in_err-read.field-0.0 y.0 y.1 y.2 c.in_err-read.ensures.refused
 
+pub returns-clause-read : goal.returns-clause-read
+returns-clause-read c = (all_kept (SpellsDatum (tree_of c.args.shape.now) c.args.bytes.now) c.in_ok-read.read.0 _ c.in_ok-read.ensures.read).1
+
+pub returns-clause-whole : goal.returns-clause-whole
+returns-clause-whole c =
+    c.in_ok-read.ensures.whole (all_kept (SpellsDatum (tree_of c.args.shape.now) c.args.bytes.now) c.in_ok-read.read.0 _ c.in_ok-read.ensures.read).0
+
 pub returns-clause-only : goal.returns-clause-only
-returns-clause-only c = only_value c.args.shape.now c.args.bytes.now c.in_ok-read.read.0 c.in_ok-read.ensures.read c.in_ok-read.ensures.whole
+returns-clause-only c = only_value c.args.shape.now c.args.bytes.now c.in_ok-read.read.0 (returns-clause-read c) (returns-clause-whole c)

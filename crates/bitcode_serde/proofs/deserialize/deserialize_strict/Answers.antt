@@ -1,8 +1,10 @@
 -- What was read is the value, and its bytes are those that are written.
 use Rattle.std.proofs.Common.{refl}
 use Rattle.std.proofs.lemmas.Result.{err_from_is_err_and}
+use Rattle.bitcode_untyped.specs.Spelling.{SpellsDatum}
 use Rattle.bitcode_untyped.specs.View.{datum_of, tree_of}
 use Rattle.bitcode_serde.specs.Strict.{other_bytes}
+use Rattle.bitcode_serde.proofs.BudgetLemmas.{all_kept}
 use Rattle.bitcode_serde.proofs.WholeLemmas.{one_spelled, size_bound, bounded, only_value, is_other, is_written, strictly_refused}
 use Rattle.bitcode_serde.proofs.deserialize.deserialize_strict.Goals as goal
 
@@ -40,14 +42,23 @@ returns-in_err-read-clause-refused c =
 
 pub returns-then-not-read-clause-refused : goal.returns-then-not-read-clause-refused
 returns-then-not-read-clause-refused c =
+    let kept = all_kept (SpellsDatum (tree_of c.args.shape.now) c.args.bytes.now) c.in_ok-read.read.0 _ c.in_ok-read.ensures.read in
     rw c.err.ensures (other_bytes refl (record {
       datum = datum_of c.in_ok-read.read.0;
-      spelled = c.in_ok-read.ensures.read;
-      other = λ strict. is_other c.in_ok-read.read.1 c.if-not-read.true ((c.in_ok-read.ensures.judged refl).1 strict);
+      spelled = kept.1;
+      other = λ strict. is_other c.in_ok-read.read.1 c.if-not-read.true ((c.in_ok-read.ensures.judged refl kept.0).1 strict);
     }))
 
 pub returns-clause-read : goal.returns-clause-read
-returns-clause-read c = (c.in_ok-read.ensures.judged refl).0 (is_written c.in_ok-read.read.1 c.if-not-read.false)
+returns-clause-read c =
+    let kept = all_kept (SpellsDatum (tree_of c.args.shape.now) c.args.bytes.now) c.in_ok-read.read.0 _ c.in_ok-read.ensures.read in
+    (c.in_ok-read.ensures.judged refl kept.0).0 (is_written c.in_ok-read.read.1 c.if-not-read.false)
+
+pub returns-clause-whole : goal.returns-clause-whole
+returns-clause-whole c =
+    c.in_ok-read.ensures.whole (all_kept (SpellsDatum (tree_of c.args.shape.now) c.args.bytes.now) c.in_ok-read.read.0 _ c.in_ok-read.ensures.read).0
 
 pub returns-clause-only : goal.returns-clause-only
-returns-clause-only c = only_value c.args.shape.now c.args.bytes.now c.in_ok-read.read.0 c.in_ok-read.ensures.read c.in_ok-read.ensures.whole
+returns-clause-only c =
+    let kept = all_kept (SpellsDatum (tree_of c.args.shape.now) c.args.bytes.now) c.in_ok-read.read.0 _ c.in_ok-read.ensures.read in
+    only_value c.args.shape.now c.args.bytes.now c.in_ok-read.read.0 kept.1 (returns-clause-whole c)

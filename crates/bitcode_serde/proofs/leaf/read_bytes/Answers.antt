@@ -1,6 +1,7 @@
 -- The length, and then the bytes.
 use Rattle.std.proofs.Common.{map}
 use Rattle.std.proofs.lemmas.Result.{err_from_is_err_and}
+use Rattle.bitcode_shapes.specs.Datum.{list, data_of}
 use Rattle.bitcode_coder.specs.Spelling.{natural}
 use Rattle.bitcode_untyped.specs.Reads.{ReadsNoDatum}
 use Rattle.bitcode_untyped.specs.ShapeTree.{natural_tree, seq_tree}
@@ -11,6 +12,7 @@ use Rattle.bitcode_untyped.proofs.ViewLemmas.{datum-Bytes}
 use Rattle.bitcode_serde.specs.ReadingValues.{IsRefusalAt}
 use Rattle.bitcode_serde.proofs.ColumnLemmas.{passed_on}
 use Rattle.bitcode_serde.proofs.ValueLemmas.{refused_entry, continues_stepped, continues_on, enters_list, seq_read_at, seq_refused}
+use Rattle.bitcode_serde.proofs.KeptLemmas.{bytes_taken}
 use Rattle.bitcode_serde.proofs.leaf.read_bytes.Goals as goal
 
 pub returns-in_err-taken-clause-refused : goal.returns-in_err-taken-clause-refused
@@ -39,9 +41,14 @@ pub returns-clause-read : goal.returns-clause-read
 returns-clause-read c =
     let enters = enters_list c.args.reader.now c.take_length.new.self c.step.new.self c.args.place c.in_ok-elements.elements c.in_ok-taken.taken.length c.in_ok-taken.taken.total
     c.in_ok-taken.ensures.leads c.take_length.ensures.below c.in_ok-elements.ensures.found c.in_ok-elements.ensures.stands in
-    rw (datum-Bytes c.in_ok-bytes.bytes)
-    (seq_read_at (natural_tree 1) c.args.reader.now c.step.new.self _ c.args.place c.in_ok-elements.elements c.in_ok-taken.taken.length (map natural c.in_ok-bytes.bytes.items) enters
-    (λ free. cc) c.in_ok-bytes.ensures.read)
+    record {
+      datum = list (data_of (map natural c.in_ok-bytes.bytes.items));
+      read = seq_read_at (natural_tree 1) c.args.reader.now c.step.new.self _ c.args.place c.in_ok-elements.elements c.in_ok-taken.taken.length
+          (map natural c.in_ok-bytes.bytes.items) enters (λ free. cc) c.in_ok-bytes.ensures.read;
+      taken = bytes_taken c.args.budget.now c.take.new.self c.take-2.new.self c.in_ok-taken.taken.length c.in_ok-bytes.bytes.items c.take.ensures c.take-2.ensures
+          c.in_ok-bytes.ensures.size;
+      same = λ h. datum-Bytes c.in_ok-bytes.bytes;
+    }
 
 pub returns-clause-whole : goal.returns-clause-whole
 returns-clause-whole c = λ table left. faults-Bytes table left c.in_ok-bytes.bytes

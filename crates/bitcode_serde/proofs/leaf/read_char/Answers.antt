@@ -1,13 +1,15 @@
 -- A char is an entry that is a scalar value.
 use Rattle.std.proofs.lemmas.Result.{err_from_is_err_and}
-use Rattle.std.proofs.Common.{false, refl}
+use Rattle.std.proofs.Common.{false, refl, ap}
 use Rattle.bitcode_coder.specs.Columns.{ints}
 use Rattle.bitcode_coder.specs.Spelling.{natural}
 use Rattle.bitcode_shapes.specs.Shape.{scalar}
+use Rattle.bitcode_untyped.specs.Nodes.{node_count}
 use Rattle.bitcode_untyped.specs.Reads.{ReadsNoDatum}
 use Rattle.bitcode_untyped.specs.ShapeTree.{char_tree}
 use Rattle.bitcode_untyped.proofs.FaultLemmas.{faults-Char}
 use Rattle.bitcode_untyped.proofs.ReadLemmas.{leaf_stuck, leaf_refused}
+use Rattle.bitcode_untyped.proofs.ViewLemmas.{datum-Char}
 use Rattle.bitcode_serde.specs.ReadingValues.{IsRefusalAt}
 use Rattle.bitcode_serde.proofs.ColumnLemmas.{passed_on}
 use Rattle.bitcode_serde.proofs.ValueLemmas.{refused_entry, led_at}
@@ -31,3 +33,6 @@ returns-in-None-clause-refused c =
 
 pub returns-in-Some-clause-whole : goal.returns-in-Some-clause-whole
 returns-in-Some-clause-whole c = λ table left. faults-Char table left c.in-Some.c
+
+pub returns-in-Some-clause-single : goal.returns-in-Some-clause-single
+returns-in-Some-clause-single c = ap node_count (datum-Char c.in-Some.c)

@@ -6,7 +6,7 @@ use Rattle.bitcode_untyped.specs.Faults.{faults_of, value_faults}
 use Rattle.bitcode_untyped.specs.Laws.{LengthsBelowLimit}
 use Rattle.bitcode_untyped.specs.ShapeTree.{IsOf}
 use Rattle.bitcode_untyped.specs.Spelling.{datum_text}
-use Rattle.bitcode_untyped.specs.View.{datum_of, tree_of, tree_of_node}
+use Rattle.bitcode_untyped.specs.View.{datum_of, tree_of, tree_of_node, reference_limit}
 use Rattle.bitcode_serde.specs.Serializing.{IsReadAs}
 use Rattle.bitcode_serde.specs.Writing.{IsWriterReason}
 use Rattle.bitcode_serde.proofs.ColumnLemmas.{passed_on}
@@ -21,14 +21,14 @@ returns-in_err-write-clause-refused c =
     let y = err_from_is_err_and c.from_residual.result c.from_residual.ensures.1 in
     passed_on (λ e. IsWriterReason e.reason (value_faults c.args.shape.now c.args.value.now)) c.from_residual.result c.in_err-write.field-0.0 y.0 y.1 y.2
     (rw (root_faults c.args.shape.now c.table-table.result.now c.root.result c.index-table-root.result c.args.value.now c.table-table.ensures c.root.ensures
-    c.index-table-root.is) (whole_refused (tree_of_node 128 c.table-table.result.now c.index-table-root.result) c.new-writer.result
-    (faults_of c.table-table.result.now c.args.value.now 128 c.index-table-root.result) _ c.new-writer.ensures.empty c.in_err-write.ensures.refused))
+    c.index-table-root.is) (whole_refused (tree_of_node reference_limit c.table-table.result.now c.index-table-root.result) c.new-writer.result
+    (faults_of c.table-table.result.now c.args.value.now reference_limit c.index-table-root.result) _ c.new-writer.ensures.empty c.in_err-write.ensures.refused))
 
 pub returns-clause-written : goal.returns-clause-written
 returns-clause-written c =
     let is = root_is c.args.shape.now c.table-table.result.now c.root.result c.index-table-root.result c.table-table.ensures c.root.ensures c.index-table-root.is in
     if_ok _ (λ bytes. bytes.items ≡ datum_text (tree_of c.args.shape.now) (datum_of c.args.value.now)) c.collect.result
-    (λ bytes text. rw is (text ∙ whole_written (tree_of_node 128 c.table-table.result.now c.index-table-root.result) (datum_of c.args.value.now)
+    (λ bytes text. rw is (text ∙ whole_written (tree_of_node reference_limit c.table-table.result.now c.index-table-root.result) (datum_of c.args.value.now)
     c.new-writer.result c.write.new.writer c.new-writer.ensures.empty c.in_ok-write.ensures.written))
     c.collect.ensures.text
 
@@ -53,7 +53,7 @@ returns-clause-round_trip c =
     if_ok _ (λ bytes. IsLimited s (datum_of c.args.value.now) → LengthsBelowLimit s (datum_of c.args.value.now) → IsReadAs c.args.shape.now bytes.items
     c.args.value.now) c.collect.result
     (λ bytes text. read_back c.args.shape.now bytes.items c.args.value.now (rw is
-    (text ∙ whole_written (tree_of_node 128 c.table-table.result.now c.index-table-root.result) (datum_of c.args.value.now) c.new-writer.result
+    (text ∙ whole_written (tree_of_node reference_limit c.table-table.result.now c.index-table-root.result) (datum_of c.args.value.now) c.new-writer.result
     c.write.new.writer c.new-writer.ensures.empty c.in_ok-write.ensures.written)) of whole)
     c.collect.ensures.text
 

@@ -1,29 +1,35 @@
 -- By the node, and by what was taken.
-use Rattle.std.proofs.Common.{rules, arith, ◌≡◌, ◌<◌, ◌-◌, [], length, map, refl, ap, subst, sym, ◌∙◌}
+use Rattle.std.proofs.Common.{rules, arith, ◌≡◌, ◌<◌, ◌+◌, ◌-◌, [], length, map, true, refl, ap, subst, sym, ◌∙◌}
 use Rattle.std.specs.List.{AllByRecursion, flat_map}
-use Rattle.std.proofs.lemmas.List.{map-append}
 use Rattle.std.proofs.lemmas.Result.{err_from_is_err_and, IfOk-weaker, IfErr-weaker}
-use Rattle.bitcode_shapes.specs.Datum.{unit, choice}
+use Rattle.bitcode_shapes.specs.Datum.{unit, list, tuple, choice}
+use Rattle.bitcode_shapes.specs.Shape.{any_number}
+use Rattle.bitcode_untyped.specs.Bounds.{column_free}
 use Rattle.bitcode_untyped.specs.Faults.{faults_of}
+use Rattle.bitcode_untyped.specs.Nodes.{node_count}
 use Rattle.bitcode_untyped.specs.Population.{total, count_of}
 use Rattle.bitcode_untyped.specs.Reads.{ReadsNoDatum}
-use Rattle.bitcode_untyped.specs.ShapeTree.{unit_tree, seq_tree, tuple_tree, choice_tree, no_trees, tree_and, tree_at}
+use Rattle.bitcode_untyped.specs.ShapeTree.{unit_tree, leaf_tree, seq_tree, tuple_tree, choice_tree, no_trees, tree_and, tree_at}
 use Rattle.bitcode_untyped.specs.View.{datum_of, followed, tree_of_node, trees_of}
 use Rattle.bitcode_untyped.specs.Walk.{length_kind, index_kind}
 use Rattle.bitcode_untyped.specs.declared.shape.ShapeNode.TheVariants as node
 use Rattle.bitcode_untyped.proofs.FaultLemmas.{faults-Unit, faults-None, faults-Some, faults-Seq, faults-Tuple}
 use Rattle.bitcode_untyped.proofs.FollowedLemmas.{followed-zero, followed_one, entry_there, entry_away}
 use Rattle.bitcode_untyped.proofs.ReadLemmas.{never_read, seq_stuck_length, seq_over_limit, choice_stuck_index}
-use Rattle.bitcode_untyped.proofs.ViewLemmas.{tree-Bytes, tree-Option, tree-Seq, tree-Map, tree-Tuple, tree-Enum, tree-Ref, datum-None, datum-Some, datum-Seq, datum-Tuple, datum-Enum}
+use Rattle.bitcode_untyped.proofs.ViewLemmas.{tree-Unit, tree-Bytes, tree-Option, tree-Seq, tree-Map, tree-Tuple, tree-Enum, tree-Ref, datum-None, datum-Some, datum-Seq, datum-Tuple, datum-Enum}
 use Rattle.bitcode_coder.specs.Spelling.{natural}
+use Rattle.bitcode_serde.specs.Budget.{IsLeft, spend}
 use Rattle.bitcode_serde.specs.Places.{places, place_at}
-use Rattle.bitcode_serde.specs.ReadColumns.{IsCaseOf}
-use Rattle.bitcode_serde.specs.ReadingValues.{ReadsAt, ReadsListAt, IsRefusalAt, IsListRefusalAt, IsOfLeaf, IsOfBytes, ReadsLeafAt, IsLeafRefusalAt, IsOfOption, IsOfSeq, IsOfMap, IsOfTuple, IsOfEnum}
+use Rattle.bitcode_serde.specs.ReadColumns.{kind_of, IsCaseOf}
+use Rattle.bitcode_serde.specs.ReadingValues.{ReadsAt, ReadsListWithin, IsRefusalAt, IsListRefusalAt, IsOfLeaf, IsOfBytes, ReadsLeafAt, IsLeafRefusalAt, IsOfOption, IsOfSeq, IsOfMap, IsOfTuple, IsOfEnum}
+use Rattle.bitcode_serde.specs.declared.budget.Budget.TheVariants.{Spent}
+use Rattle.bitcode_serde.proofs.BudgetLemmas.{spend-then, left_before, keeps_more, keeps_all, keeps_choice}
 use Rattle.bitcode_serde.proofs.CaseLemmas.{one_more_whole, one_more_field_whole, all_fields_whole, enum_whole, reference_whole}
 use Rattle.bitcode_serde.proofs.ColumnLemmas.{passed_on}
 use Rattle.bitcode_serde.proofs.DepthLemmas.{entry_deep, reference_falls}
 use Rattle.bitcode_serde.proofs.EntryLemmas.{found_entry, no_entry}
 use Rattle.bitcode_serde.proofs.FieldLemmas.{tree_at_entry, tree_at_none, no_fields, one_more_field, field_refused, tuple_done}
+use Rattle.bitcode_serde.proofs.KeptLemmas.{unit_within, entry_within, leaves_within, rest_within}
 use Rattle.bitcode_serde.proofs.LeafEntryLemmas.{leaf_else}
 use Rattle.bitcode_serde.proofs.LeafLemmas.{leaves_whole}
 use Rattle.bitcode_serde.proofs.ValueLemmas.{asked_alike, refused_entry, still_there, continues_on, continues_stepped, one_more, list_stuck, enters_list, enters_choice, seq_read_at, seq_refused, choice_read_at, choice_refused, choice_of_unit, no_choice, no_third, told_at}
@@ -39,20 +45,23 @@ read-read_entry-requires t c =
 
 pub read-returns-in_default-clause-read : goal.read-returns-in_default-clause-read
 read-returns-in_default-clause-read t c =
-    IfOk-weaker c.read_entry.result (λ v. ReadsLeafAt c.args.node.now c.args.place c.args.reader.now (datum_of v) c.read_entry.new.reader)
-    (λ v. ReadsAt (tree_of_node c.args.left c.args.table.now c.args.node.now) c.args.place c.args.reader.now (datum_of v) c.read_entry.new.reader)
-    (λ v h. h (followed c.args.left c.args.table.now)) c.read_entry.ensures.read
+    entry_within c.args.node.now c.args.place c.args.reader.now c.read_entry.new.reader c.args.budget.now _ c.read_entry.result
+    (followed c.args.left c.args.table.now) c.take-in_default.ensures c.read_entry.ensures.read c.read_entry.ensures.single
 
 pub read-returns-in_default-clause-whole : goal.read-returns-in_default-clause-whole
 read-returns-in_default-clause-whole t c =
-    IfOk-weaker c.read_entry.result (λ v. IsOfLeaf c.args.node.now v) (λ v. faults_of c.args.table.now v c.args.left c.args.node.now ≡ [])
-    (λ v h. h c.args.table.now c.args.left) c.read_entry.ensures.whole
+    IfOk-weaker c.read_entry.result (λ v. IsOfLeaf c.args.node.now v) (λ v. IsLeft _ → faults_of c.args.table.now v c.args.left c.args.node.now ≡ [])
+    (λ v h left. h c.args.table.now c.args.left) c.read_entry.ensures.whole
 
 pub read-returns-in_default-clause-refused : goal.read-returns-in_default-clause-refused
 read-returns-in_default-clause-refused t c =
     IfErr-weaker c.read_entry.result (λ e. IsLeafRefusalAt c.args.node.now c.args.place c.args.reader.now e.reason)
     (λ e. IsRefusalAt (tree_of_node c.args.left c.args.table.now c.args.node.now) c.args.place c.args.reader.now e.reason)
     (λ e h. h (followed c.args.left c.args.table.now)) c.read_entry.ensures.refused
+
+pub read-returns-in-Unit-clause-read : goal.read-returns-in-Unit-clause-read
+read-returns-in-Unit-clause-read t c =
+    rw (c.in-Unit.is, tree-Unit (followed c.args.left c.args.table.now)) (unit_within c.args.place c.args.reader.now c.args.budget.now c.take.new.self c.take.ensures)
 
 pub read-returns-in-Bytes-clause-read : goal.read-returns-in-Bytes-clause-read
 read-returns-in-Bytes-clause-read t c = rw (c.in-Bytes.is, tree-Bytes (followed c.args.left c.args.table.now)) c.read_bytes.ensures.read
@@ -128,17 +137,32 @@ read-returns-in-None-clause-refused t c =
     passed_on (λ e. IsRefusalAt (tree_of_node c.args.left c.args.table.now c.args.node.now) c.args.place c.args.reader.now e.reason) c.err-in-None.result _ _ c.err-in-None.ensures refl
     (tt, λ other. rw (c.in-Ref.is, tree-Ref, e, f) (λ p at a st. never_read p a))
 
-pub read_elements-returns-in-Some-clause-read : goal.read_elements-returns-in-Some-clause-read
-read_elements-returns-in-Some-clause-read t c = rw (c.in-Some.ensures.some.tree (followed c.args.left c.args.table.now)) c.read_leaves.ensures.read
+pub read_elements-returns-then-has-clause-read : goal.read_elements-returns-then-has-clause-read
+read_elements-returns-then-has-clause-read t c =
+    rw (c.in-Some.ensures.some.tree (followed c.args.left c.args.table.now))
+    (leaves_within (leaf_tree (kind_of c.in-Some.kind) any_number) c.args.place c.args.count c.args.reader.now c.read_leaves.new.reader c.args.budget.now c.take.new.self c.in-Some.kind c.read_leaves.result
+    c.take.ensures c.read_leaves.ensures.read c.read_leaves.ensures.of_case c.read_leaves.ensures.size)
 
-pub read_elements-returns-in-Some-clause-whole : goal.read_elements-returns-in-Some-clause-whole
-read_elements-returns-in-Some-clause-whole t c =
+pub read_elements-returns-then-has-clause-whole : goal.read_elements-returns-then-has-clause-whole
+read_elements-returns-then-has-clause-whole t c =
     IfOk-weaker c.read_leaves.result (λ values. AllByRecursion (IsCaseOf c.in-Some.kind) values.items)
-    (λ values. flat_map (λ v. faults_of c.args.table.now v c.args.left c.args.node.now) values.items ≡ [])
-    (λ values h. leaves_whole c.args.node.now c.in-Some.kind c.args.table.now c.args.left c.in-Some.ensures.some values.items h) c.read_leaves.ensures.of_case
+    (λ values. IsLeft c.take.new.self → flat_map (λ v. faults_of c.args.table.now v c.args.left c.args.node.now) values.items ≡ [])
+    (λ values h left. leaves_whole c.args.node.now c.in-Some.kind c.args.table.now c.args.left c.in-Some.ensures.some values.items h) c.read_leaves.ensures.of_case
 
-pub read_elements-returns-in-Some-clause-refused : goal.read_elements-returns-in-Some-clause-refused
-read_elements-returns-in-Some-clause-refused t c = rw (c.in-Some.ensures.some.tree (followed c.args.left c.args.table.now)) c.read_leaves.ensures.refused
+pub read_elements-returns-then-has-clause-refused : goal.read_elements-returns-then-has-clause-refused
+read_elements-returns-then-has-clause-refused t c = rw (c.in-Some.ensures.some.tree (followed c.args.left c.args.table.now)) c.read_leaves.ensures.refused
+
+pub read_elements-returns-then-is_free-clause-read : goal.read_elements-returns-then-is_free-clause-read
+read_elements-returns-then-is_free-clause-read t c =
+    let tree = tree_of_node c.args.left c.args.table.now c.args.node.now in
+    let i = c.loop-i._i in
+    let gone : c.loop-i.budget ≡ Spent = c.if-is_spent.ensures in
+    let free : column_free tree ≡ true = sym c.is_free.ensures ∙ c.if-is_free.true in
+    let all : i + (c.args.count - i) ≡ c.args.count = omega arith in
+    let so_far = subst (λ b. ReadsListWithin tree c.args.place c.args.reader.now c.args.budget.now i c.loop-i.values.items c.loop-i.reader b) gone c.loop-i.invariant.1 in
+    let rest = rest_within tree c.args.place c.args.reader.now c.loop-i.reader c.args.budget.now c.loop-i.values.items (c.args.count - i) i c.loop-i.invariant.0 free so_far in
+    subst (λ b. ReadsListWithin tree c.args.place c.args.reader.now c.args.budget.now c.args.count c.loop-i.values.items c.loop-i.reader b) (sym gone)
+    (subst (λ n. ReadsListWithin tree c.args.place c.args.reader.now c.args.budget.now n c.loop-i.values.items c.loop-i.reader Spent) all rest)
 
 pub read_elements-read-requires : goal.read_elements-read-requires
 read_elements-read-requires t c =
@@ -152,22 +176,27 @@ read_elements-returns-in_err-value-clause-refused t c =
     let y = err_from_is_err_and c.from_residual.result c.from_residual.ensures.1 in
     let lt : c.loop-i._i < c.args.count = omega arith in
     passed_on (λ e. IsListRefusalAt tree c.args.place c.args.reader.now c.args.count e.reason) c.from_residual.result c.in_err-value.field-0.0 y.0 y.1 y.2
-    (list_stuck tree c.args.place c.args.reader.now c.loop-i.reader c.loop-i._i c.args.count _ _ c.loop-i.invariant.0 c.loop-i.invariant.1 lt c.in_err-value.ensures.refused)
+    (list_stuck tree c.args.place c.args.reader.now c.loop-i.reader c.loop-i._i c.args.count _ _ c.loop-i.invariant.0 c.loop-i.invariant.1.read lt c.in_err-value.ensures.refused)
 
 pub read_elements-loop-i-preserved : goal.read_elements-loop-i-preserved
-read_elements-loop-i-preserved t c = (
-  continues_on c.args.reader.now c.loop-i.reader c.read.new.reader c.loop-i.invariant.0 c.in_ok-value.ensures.continues,
-  rw (c.in_ok-push.ensures.items, map-append)
-      (one_more (tree_of_node c.args.left c.args.table.now c.args.node.now) c.args.place c.args.reader.now c.loop-i.reader c.read.new.reader c.loop-i._i _
-      (datum_of c.in_ok-value.value) c.loop-i.invariant.0 c.loop-i.invariant.1 c.in_ok-value.ensures.read),
-  rw c.in_ok-push.ensures.items
-      (one_more_whole (λ v. faults_of c.args.table.now v c.args.left c.args.node.now) c.loop-i.values.items c.in_ok-value.value c.loop-i.invariant.2 c.in_ok-value.ensures.whole),
-)
+read_elements-loop-i-preserved t c =
+    let tree = tree_of_node c.args.left c.args.table.now c.args.node.now in
+    let one = c.in_ok-value.ensures.read in
+    let many = c.loop-i.invariant.1 in (
+      continues_on c.args.reader.now c.loop-i.reader c.read.new.reader c.loop-i.invariant.0 c.in_ok-value.ensures.continues,
+      keeps_more datum_of _ _ c.args.budget.now c.loop-i.budget c.read.new.budget c.loop-i.values.items c.keep.new.items.items c.in_ok-value.value one.datum many
+          (one_more tree c.args.place c.args.reader.now c.loop-i.reader c.read.new.reader c.loop-i._i many.listing one.datum c.loop-i.invariant.0 many.read one.read)
+          one.taken one.same c.in_ok-keep.ensures.kept,
+      λ left. rw (c.in_ok-keep.ensures.kept left)
+          (one_more_whole (λ v. faults_of c.args.table.now v c.args.left c.args.node.now) c.loop-i.values.items c.in_ok-value.value
+          (c.loop-i.invariant.2 (left_before (node_count one.datum) c.loop-i.budget (subst IsLeft one.taken left))) (c.in_ok-value.ensures.whole left)),
+    )
 
 pub read_elements-returns-clause-read : goal.read_elements-returns-clause-read
 read_elements-returns-clause-read t c =
     let e : c.loop-i._i ≡ c.args.count = omega arith in
-    subst (λ n. ReadsListAt (tree_of_node c.args.left c.args.table.now c.args.node.now) c.args.place c.args.reader.now n (map datum_of c.loop-i.values.items) c.loop-i.reader) e c.loop-i.invariant.1
+    subst (λ n. ReadsListWithin (tree_of_node c.args.left c.args.table.now c.args.node.now) c.args.place c.args.reader.now c.args.budget.now n c.loop-i.values.items
+    c.loop-i.reader c.loop-i.budget) e c.loop-i.invariant.1
 
 pub read_seq-returns-in_err-taken-clause-refused : goal.read_seq-returns-in_err-taken-clause-refused
 read_seq-returns-in_err-taken-clause-refused t c =
@@ -196,10 +225,10 @@ pub read_seq-returns-clause-read : goal.read_seq-returns-clause-read
 read_seq-returns-clause-read t c =
     let enters = enters_list c.args.reader.now c.take_length.new.self c.step.new.self c.args.place c.in_ok-elements.elements c.in_ok-taken.taken.length c.in_ok-taken.taken.total
     c.in_ok-taken.ensures.leads c.take_length.ensures.below c.in_ok-elements.ensures.found c.in_ok-elements.ensures.stands in
-    rw (datum-Seq c.in_ok-values.values)
+    let k = c.in_ok-values.ensures.read in
+    keeps_all datum_of _ _ c.args.budget.now c.take.new.self _ c.in_ok-values.values.items _ (λ ds. list ds) (λ ds. refl) (datum-Seq c.in_ok-values.values) c.take.ensures k
     (seq_read_at (tree_of_node c.args.left c.args.table.now c.args.node.now) c.args.reader.now c.step.new.self _ c.args.place c.in_ok-elements.elements
-    c.in_ok-taken.taken.length (map datum_of c.in_ok-values.values.items) enters
-    c.if-is_over_limit.ensures c.in_ok-values.ensures.read)
+    c.in_ok-taken.taken.length k.listing enters c.if-is_over_limit.ensures k.read)
 
 pub read_option-returns-in_err-taken-clause-refused : goal.read_option-returns-in_err-taken-clause-refused
 read_option-returns-in_err-taken-clause-refused t c =
@@ -213,9 +242,14 @@ read_option-returns-then-taken-eq0-clause-read t c =
     let variants = tree_and unit_tree (tree_and (tree_of_node c.args.left c.args.table.now c.args.node.now) no_trees) in
     let i = c.in_ok-taken.taken.index in
     let is : i ≡ 0 = omega arith in
-    rw datum-None
-    (subst (λ k. ReadsAt (choice_tree variants) c.args.place c.args.reader.now (choice k unit) c.take_index.new.self) is
-    (choice_of_unit variants i c.args.reader.now c.take_index.new.self c.args.place (λ entries. c.in_ok-taken.taken.count ≡ count_of i entries) (ap (tree_at variants) is) c.in_ok-taken.ensures.leads))
+    record {
+      datum = choice 0 unit;
+      read = subst (λ k. ReadsAt (choice_tree variants) c.args.place c.args.reader.now (choice k unit) c.take_index.new.self) is
+          (choice_of_unit variants i c.args.reader.now c.take_index.new.self c.args.place (λ entries. c.in_ok-taken.taken.count ≡ count_of i entries)
+          (ap (tree_at variants) is) c.in_ok-taken.ensures.leads);
+      taken = c.take-then-taken-eq0.ensures ∙ ap (spend 1) c.take.ensures ∙ spend-then 1 1 c.args.budget.now;
+      same = λ left. datum-None;
+    }
 
 pub read_option-returns-then-taken-gt1-clause-refused : goal.read_option-returns-then-taken-gt1-clause-refused
 read_option-returns-then-taken-gt1-clause-refused t c =
@@ -252,10 +286,10 @@ read_option-returns-clause-read t c =
     let enters = enters_choice c.args.reader.now c.take_index.new.self c.step.new.self c.args.place c.in_ok-inside.inside i c.in_ok-taken.taken.count
     c.in_ok-taken.ensures.leads c.take_index.ensures.below c.in_ok-inside.ensures.found c.in_ok-inside.ensures.stands in
     let one : i ≡ 1 = omega arith in
-    let read = choice_read_at variants i (datum_of c.in_ok-value.value) c.args.reader.now c.step.new.self _ c.args.place c.in_ok-inside.inside enters
-    (rw (ap (tree_at variants) one) c.in_ok-value.ensures.read) in
-    rw (datum-Some c.in_ok-new.field-0, c.in_ok-new.ensures.ok)
-    (subst (λ k. ReadsAt (choice_tree variants) c.args.place c.args.reader.now (choice k (datum_of c.in_ok-value.value)) c.read.new.reader) one read)
+    let k = c.in_ok-value.ensures.read in
+    let read = choice_read_at variants i k.datum c.args.reader.now c.step.new.self _ c.args.place c.in_ok-inside.inside enters (rw (ap (tree_at variants) one) k.read) in
+    keeps_choice _ _ c.args.budget.now c.take.new.self _ 1 c.in_ok-value.value _ (datum-Some c.in_ok-new.field-0 ∙ rw c.in_ok-new.ensures.ok refl) c.take.ensures k
+    (subst (λ n. ReadsAt (choice_tree variants) c.args.place c.args.reader.now (choice n k.datum) c.read.new.reader) one read)
 
 pub read_enum-returns-in_err-taken-clause-refused : goal.read_enum-returns-in_err-taken-clause-refused
 read_enum-returns-in_err-taken-clause-refused t c =
@@ -301,9 +335,11 @@ read_enum-returns-in_ok-new-in-Some-clause-read t c =
     c.in_ok-taken.ensures.leads c.take_index.ensures.below c.in_ok-inside-in-Some.ensures.found c.in_ok-inside-in-Some.ensures.stands in
     let is = tree_at_entry at_node c.args.nodes.now i c.in-Some.node.now
     (found_entry c.args.nodes.now c.in_ok-taken.taken.index c.in-Some.node.now c.in-Some.ensures.lookup.3.0 (c.in-Some.ensures.lookup.3.1 c.in-Some.node.now)) in
-    rw (datum-Enum i c.in_ok-new-in-Some.field-0, c.in_ok-new-in-Some.ensures.ok)
-    (choice_read_at (trees_of (map at_node c.args.nodes.now)) i (datum_of c.in_ok-value-in-Some.value) c.args.reader.now c.step.new.self _ c.args.place
-    c.in_ok-inside-in-Some.inside enters (rw is c.in_ok-value-in-Some.ensures.read))
+    let k = c.in_ok-value-in-Some.ensures.read in
+    keeps_choice _ _ c.args.budget.now c.take.new.self _ i c.in_ok-value-in-Some.value _
+    (datum-Enum i c.in_ok-new-in-Some.field-0 ∙ rw c.in_ok-new-in-Some.ensures.ok refl) c.take.ensures k
+    (choice_read_at (trees_of (map at_node c.args.nodes.now)) i k.datum c.args.reader.now c.step.new.self _ c.args.place
+    c.in_ok-inside-in-Some.inside enters (rw is k.read))
 
 pub read_enum-returns-in-None-clause-refused : goal.read_enum-returns-in-None-clause-refused
 read_enum-returns-in-None-clause-refused t c =
@@ -320,8 +356,13 @@ pub read_tuple-loop-i-init : goal.read_tuple-loop-i-init
 read_tuple-loop-i-init t c =
     let at_node = tree_of_node c.args.left c.args.table.now in (
       record { steady = c.requires.steady; asked = asked_alike c.args.reader.now; kept = λ i p at. at },
-      rw c.new-values.ensures.items (no_fields at_node c.args.nodes.now c.args.place c.args.reader.now),
-      rw c.new-values.ensures.items refl,
+      record {
+        listing = [];
+        read = no_fields at_node c.args.nodes.now c.args.place c.args.reader.now;
+        taken = refl;
+        same = λ left. rw c.new-values.ensures.items refl;
+      },
+      λ left. rw c.new-values.ensures.items refl,
     )
 
 pub read_tuple-field-requires-clause-place : goal.read_tuple-field-requires-clause-place
@@ -340,28 +381,33 @@ read_tuple-returns-in_err-value-clause-refused t c =
     let y = err_from_is_err_and c.from_residual-in_err-value.result c.from_residual-in_err-value.ensures.1 in
     passed_on (λ e. IsRefusalAt (tuple_tree (trees_of (map at_node c.args.nodes.now))) c.args.place c.args.reader.now e.reason) c.from_residual-in_err-value.result c.in_err-value.field-0.0 y.0 y.1 y.2
     (field_refused at_node c.args.nodes.now c.args.place c.args.reader.now c.loop-i.reader c.field.new.self c.in_ok-inside.inside c.loop-i.i c.index-nodes-i.result
-    (map datum_of c.loop-i.values.items) c.loop-i.invariant.0 (found_entry c.args.nodes.now c.loop-i.i c.index-nodes-i.result c.loop-i-test.true c.index-nodes-i.is)
-    c.in_ok-inside.ensures.found c.in_ok-inside.ensures.stands c.loop-i.invariant.1 _ c.in_err-value.ensures.refused)
+    c.loop-i.invariant.1.listing c.loop-i.invariant.0 (found_entry c.args.nodes.now c.loop-i.i c.index-nodes-i.result c.loop-i-test.true c.index-nodes-i.is)
+    c.in_ok-inside.ensures.found c.in_ok-inside.ensures.stands c.loop-i.invariant.1.read _ c.in_err-value.ensures.refused)
 
 pub read_tuple-loop-i-preserved : goal.read_tuple-loop-i-preserved
 read_tuple-loop-i-preserved t c =
-    let at_node = tree_of_node c.args.left c.args.table.now in (
+    let at_node = tree_of_node c.args.left c.args.table.now in
+    let there = found_entry c.args.nodes.now c.loop-i.i c.index-nodes-i.result c.loop-i-test.true c.index-nodes-i.is in
+    let one = c.in_ok-value.ensures.read in
+    let many = c.loop-i.invariant.1 in (
       continues_on c.args.reader.now c.loop-i.reader c.read.new.reader c.loop-i.invariant.0
           (continues_on c.loop-i.reader c.field.new.self c.read.new.reader c.in_ok-inside.ensures.continues c.in_ok-value.ensures.continues),
-      rw (c.in_ok-push.ensures.items, map-append) (one_more_field at_node c.args.nodes.now c.args.place c.args.reader.now c.loop-i.reader c.field.new.self
-          c.in_ok-inside.inside c.loop-i.i c.index-nodes-i.result (map datum_of c.loop-i.values.items) c.loop-i.invariant.0
-          (found_entry c.args.nodes.now c.loop-i.i c.index-nodes-i.result c.loop-i-test.true c.index-nodes-i.is) c.in_ok-inside.ensures.found
-          c.in_ok-inside.ensures.stands c.loop-i.invariant.1 (datum_of c.in_ok-value.value) c.read.new.reader c.in_ok-value.ensures.read),
-      rw c.in_ok-push.ensures.items
-          (one_more_field_whole c.args.table.now c.args.left c.args.nodes.now c.loop-i.values.items c.loop-i.i c.in_ok-value.value c.index-nodes-i.result c.loop-i.invariant.2
-          (found_entry c.args.nodes.now c.loop-i.i c.index-nodes-i.result c.loop-i-test.true c.index-nodes-i.is) c.in_ok-value.ensures.whole),
+      keeps_more datum_of _ _ c.take.new.self c.loop-i.budget c.read.new.budget c.loop-i.values.items c.keep.new.items.items c.in_ok-value.value one.datum many
+          (one_more_field at_node c.args.nodes.now c.args.place c.args.reader.now c.loop-i.reader c.field.new.self c.in_ok-inside.inside c.loop-i.i
+          c.index-nodes-i.result many.listing c.loop-i.invariant.0 there c.in_ok-inside.ensures.found c.in_ok-inside.ensures.stands many.read one.datum
+          c.read.new.reader one.read) one.taken one.same c.in_ok-keep.ensures.kept,
+      λ left. rw (c.in_ok-keep.ensures.kept left)
+          (one_more_field_whole c.args.table.now c.args.left c.args.nodes.now c.loop-i.values.items c.loop-i.i c.in_ok-value.value c.index-nodes-i.result
+          (c.loop-i.invariant.2 (left_before (node_count one.datum) c.loop-i.budget (subst IsLeft one.taken left))) there (c.in_ok-value.ensures.whole left)),
     )
 
 pub read_tuple-returns-clause-read : goal.read_tuple-returns-clause-read
 read_tuple-returns-clause-read t c =
     let at_node = tree_of_node c.args.left c.args.table.now in
     let last : c.loop-i.i ≡ length c.args.nodes.now = omega arith in
-    rw (datum-Tuple c.loop-i.values) (tuple_done at_node c.args.nodes.now c.args.place c.args.reader.now c.loop-i.reader c.loop-i.i (map datum_of c.loop-i.values.items) last c.loop-i.invariant.1)
+    let k = c.loop-i.invariant.1 in
+    keeps_all datum_of _ _ c.args.budget.now c.take.new.self c.loop-i.budget c.loop-i.values.items _ (λ ds. tuple ds) (λ ds. refl) (datum-Tuple c.loop-i.values) c.take.ensures k
+    (tuple_done at_node c.args.nodes.now c.args.place c.args.reader.now c.loop-i.reader c.loop-i.i k.listing last k.read)
 
 pub read_seq-returns-then-is_over_limit-clause-refused : goal.read_seq-returns-then-is_over_limit-clause-refused
 read_seq-returns-then-is_over_limit-clause-refused t c =
@@ -375,68 +421,68 @@ read_seq-returns-then-is_over_limit-clause-refused t c =
     )
 
 pub read-returns-in-Unit-clause-whole : goal.read-returns-in-Unit-clause-whole
-read-returns-in-Unit-clause-whole t c = rw c.in-Unit.is (faults-Unit c.args.table.now c.args.left)
+read-returns-in-Unit-clause-whole t c = λ left. rw c.in-Unit.is (faults-Unit c.args.table.now c.args.left)
 
 pub read-returns-in-Bytes-clause-whole : goal.read-returns-in-Bytes-clause-whole
 read-returns-in-Bytes-clause-whole t c =
-    rw c.in-Bytes.is (IfOk-weaker _ IsOfBytes (λ v. faults_of c.args.table.now v c.args.left node.Bytes ≡ []) (λ v h. h c.args.table.now c.args.left) c.read_bytes.ensures.whole)
+    rw c.in-Bytes.is (IfOk-weaker _ IsOfBytes (λ v. IsLeft _ → faults_of c.args.table.now v c.args.left node.Bytes ≡ []) (λ v h left. h c.args.table.now c.args.left) c.read_bytes.ensures.whole)
 
 pub read-returns-in-Option-clause-whole : goal.read-returns-in-Option-clause-whole
 read-returns-in-Option-clause-whole t c =
-    rw c.in-Option.is (IfOk-weaker _ (IsOfOption c.args.table.now c.args.left _) (λ v. faults_of c.args.table.now v c.args.left (node.Option c.in-Option.some) ≡ [])
-    (λ v h. h c.in-Option.some (sym c.deref.ensures)) c.read_option.ensures.whole)
+    rw c.in-Option.is (IfOk-weaker _ (λ v. IsLeft _ → IsOfOption c.args.table.now c.args.left _ v) (λ v. IsLeft _ → faults_of c.args.table.now v c.args.left (node.Option c.in-Option.some) ≡ [])
+    (λ v h left. h left c.in-Option.some (sym c.deref.ensures)) c.read_option.ensures.whole)
 
 pub read-returns-in-Seq-clause-whole : goal.read-returns-in-Seq-clause-whole
 read-returns-in-Seq-clause-whole t c =
-    rw c.in-Seq.is (IfOk-weaker _ (IsOfSeq c.args.table.now c.args.left _) (λ v. faults_of c.args.table.now v c.args.left (node.Seq c.in-Seq.element) ≡ [])
-    (λ v h. h c.in-Seq.element (sym c.deref-in-Seq.ensures)) c.read_seq.ensures.whole)
+    rw c.in-Seq.is (IfOk-weaker _ (λ v. IsLeft _ → IsOfSeq c.args.table.now c.args.left _ v) (λ v. IsLeft _ → faults_of c.args.table.now v c.args.left (node.Seq c.in-Seq.element) ≡ [])
+    (λ v h left. h left c.in-Seq.element (sym c.deref-in-Seq.ensures)) c.read_seq.ensures.whole)
 
 pub read-returns-in-Map-clause-whole : goal.read-returns-in-Map-clause-whole
 read-returns-in-Map-clause-whole t c =
-    rw c.in-Map.is (IfOk-weaker _ (IsOfMap c.args.table.now c.args.left _ _) (λ v. faults_of c.args.table.now v c.args.left (node.Map c.in-Map.key c.in-Map.value) ≡ [])
-    (λ v h. h c.in-Map.key c.in-Map.value (sym c.deref-in-Map.ensures) (sym c.deref-in-Map-2.ensures)) c.read_map.ensures.whole)
+    rw c.in-Map.is (IfOk-weaker _ (λ v. IsLeft _ → IsOfMap c.args.table.now c.args.left _ _ v) (λ v. IsLeft _ → faults_of c.args.table.now v c.args.left (node.Map c.in-Map.key c.in-Map.value) ≡ [])
+    (λ v h left. h left c.in-Map.key c.in-Map.value (sym c.deref-in-Map.ensures) (sym c.deref-in-Map-2.ensures)) c.read_map.ensures.whole)
 
 pub read-returns-in-Tuple-clause-whole : goal.read-returns-in-Tuple-clause-whole
 read-returns-in-Tuple-clause-whole t c =
-    rw c.in-Tuple.is (IfOk-weaker _ (IsOfTuple c.args.table.now c.args.left _) (λ v. faults_of c.args.table.now v c.args.left (node.Tuple c.in-Tuple.nodes) ≡ [])
-    (λ v h. h c.in-Tuple.nodes (sym c.deref-in-Tuple.ensures.value)) c.read_tuple.ensures.whole)
+    rw c.in-Tuple.is (IfOk-weaker _ (λ v. IsLeft _ → IsOfTuple c.args.table.now c.args.left _ v) (λ v. IsLeft _ → faults_of c.args.table.now v c.args.left (node.Tuple c.in-Tuple.nodes) ≡ [])
+    (λ v h left. h left c.in-Tuple.nodes (sym c.deref-in-Tuple.ensures.value)) c.read_tuple.ensures.whole)
 
 pub read-returns-in-Enum-clause-whole : goal.read-returns-in-Enum-clause-whole
 read-returns-in-Enum-clause-whole t c =
-    rw c.in-Enum.is (IfOk-weaker _ (IsOfEnum c.args.table.now c.args.left _) (λ v. faults_of c.args.table.now v c.args.left (node.Enum c.in-Enum.nodes) ≡ [])
-    (λ v h. h c.in-Enum.nodes (sym c.deref-in-Enum.ensures.value)) c.read_enum.ensures.whole)
+    rw c.in-Enum.is (IfOk-weaker _ (λ v. IsLeft _ → IsOfEnum c.args.table.now c.args.left _ v) (λ v. IsLeft _ → faults_of c.args.table.now v c.args.left (node.Enum c.in-Enum.nodes) ≡ [])
+    (λ v h left. h left c.in-Enum.nodes (sym c.deref-in-Enum.ensures.value)) c.read_enum.ensures.whole)
 
 pub read-returns-in-Some-clause-whole : goal.read-returns-in-Some-clause-whole
 read-returns-in-Some-clause-whole t c =
     let some : 0 < c.args.left = omega arith in
     let there = found_entry c.args.table.now c.in-Ref.i c.in-Some.entry.now c.in-Some.ensures.lookup.3.0 (c.in-Some.ensures.lookup.3.1 c.in-Some.entry.now) in
-    rw c.in-Ref.is (IfOk-weaker _ (λ v. faults_of c.args.table.now v (c.args.left - 1) c.in-Some.entry.now ≡ [])
-    (λ v. faults_of c.args.table.now v c.args.left (node.Ref c.in-Ref.i) ≡ [])
-    (λ v h. reference_whole c.args.table.now v c.args.left c.in-Ref.i c.in-Some.entry.now some there h) c.read.ensures.whole)
+    rw c.in-Ref.is (IfOk-weaker _ (λ v. IsLeft _ → faults_of c.args.table.now v (c.args.left - 1) c.in-Some.entry.now ≡ [])
+    (λ v. IsLeft _ → faults_of c.args.table.now v c.args.left (node.Ref c.in-Ref.i) ≡ [])
+    (λ v h left. reference_whole c.args.table.now v c.args.left c.in-Ref.i c.in-Some.entry.now some there (h left)) c.read.ensures.whole)
 
 pub read_option-returns-then-taken-eq0-clause-whole : goal.read_option-returns-then-taken-eq0-clause-whole
-read_option-returns-then-taken-eq0-clause-whole t c = λ b is. faults-None c.args.table.now c.args.left b
+read_option-returns-then-taken-eq0-clause-whole t c = λ left b is. faults-None c.args.table.now c.args.left b
 
 pub read_option-returns-clause-whole : goal.read_option-returns-clause-whole
-read_option-returns-clause-whole t c = λ b is.
-    faults-Some c.args.table.now c.args.left c.in_ok-new.field-0 b ∙ rw (c.in_ok-new.ensures.ok, is) c.in_ok-value.ensures.whole
+read_option-returns-clause-whole t c = λ left b is.
+    faults-Some c.args.table.now c.args.left c.in_ok-new.field-0 b ∙ rw (c.in_ok-new.ensures.ok, is) (c.in_ok-value.ensures.whole left)
 
 pub read_seq-returns-clause-whole : goal.read_seq-returns-clause-whole
-read_seq-returns-clause-whole t c = λ b is.
-    faults-Seq c.args.table.now c.args.left c.in_ok-values.values b ∙ rw is c.in_ok-values.ensures.whole
+read_seq-returns-clause-whole t c = λ left b is.
+    faults-Seq c.args.table.now c.args.left c.in_ok-values.values b ∙ rw is (c.in_ok-values.ensures.whole left)
 
 pub read_tuple-returns-clause-whole : goal.read_tuple-returns-clause-whole
-read_tuple-returns-clause-whole t c = λ ns is.
+read_tuple-returns-clause-whole t c = λ left ns is.
     let last : c.loop-i.i ≡ length c.args.nodes.now = omega arith in
     faults-Tuple c.args.table.now c.args.left c.loop-i.values ns
-    ∙ rw is (all_fields_whole c.args.table.now c.args.left c.args.nodes.now c.loop-i.values.items c.loop-i.i last c.loop-i.invariant.2)
+    ∙ rw is (all_fields_whole c.args.table.now c.args.left c.args.nodes.now c.loop-i.values.items c.loop-i.i last (c.loop-i.invariant.2 left))
 
 pub read_enum-returns-in_ok-new-in-Some-clause-whole : goal.read_enum-returns-in_ok-new-in-Some-clause-whole
-read_enum-returns-in_ok-new-in-Some-clause-whole t c = λ ns is.
+read_enum-returns-in_ok-new-in-Some-clause-whole t c = λ left ns is.
     let i = c.in_ok-taken.taken.index in
     let n = c.in-Some.node.now in
     let there = found_entry c.args.nodes.now i n c.in-Some.ensures.lookup.3.0 (c.in-Some.ensures.lookup.3.1 n) in
-    enum_whole c.args.table.now c.args.left i c.in_ok-new-in-Some.field-0 ns n (omega arith) (rw is there) (rw c.in_ok-new-in-Some.ensures.ok c.in_ok-value-in-Some.ensures.whole)
+    enum_whole c.args.table.now c.args.left i c.in_ok-new-in-Some.field-0 ns n (omega arith) (rw is there) (rw c.in_ok-new-in-Some.ensures.ok (c.in_ok-value-in-Some.ensures.whole left))
 
 pub read_map-returns-in_err-taken-clause-refused : goal.read_map-returns-in_err-taken-clause-refused
 read_map-returns-in_err-taken-clause-refused = map.read_map-returns-in_err-taken-clause-refused

@@ -1,10 +1,11 @@
 -- A reference takes one from those that are left, and the parts of a node are less deep.
-use Rattle.std.proofs.Common.{◌≡◌, ◌+◌, ◌*◌, max, [], ◌++◌, map, flat_map}
+use Rattle.std.proofs.Common.{◌≡◌, ◌+◌, ◌*◌, max, [], ◌++◌, flat_map}
 use Rattle.bitcode_shapes.specs.Datum.{pair}
 use Rattle.bitcode_untyped.specs.Faults.{faults_of}
 use Rattle.bitcode_untyped.specs.View.{datum_of, tree_of_node}
+use Rattle.bitcode_serde.specs.Budget.{IsLeft, KeepsEach}
 use Rattle.bitcode_serde.specs.Depth.{depth, deepest, left_below}
-use Rattle.bitcode_serde.specs.ReadingValues.{Continues, ReadsListAt}
+use Rattle.bitcode_serde.specs.ReadingValues.{Continues, ReadsListWithin}
 use Rattle.bitcode_serde.proofs.CaseLemmas.{AreWhole}
 use Rattle.bitcode_serde.proofs.FieldLemmas.{FieldsAt}
 use Rattle.bitcode_serde.proofs.ValueLemmas.{ReadsPairsAt}
@@ -33,17 +34,20 @@ decreases-read_map l = 4 * left_below l.left l.table.now (max (depth l.key.now) 
 
 abbrev pub invariant-read_elements-loop-i : goal.invariant-read_elements-loop-i
 invariant-read_elements-loop-i l =
-    Continues l.initial.reader l.reader × ReadsListAt (tree_of_node l.left l.table l.node) l.place l.initial.reader l._i (map datum_of l.values.items) l.reader
-    × (flat_map (λ v. faults_of l.table v l.left l.node) l.values.items ≡ [])
+    Continues l.initial.reader l.reader
+    × ReadsListWithin (tree_of_node l.left l.table l.node) l.place l.initial.reader l.initial.budget l._i l.values.items l.reader l.budget
+    × (IsLeft l.budget → flat_map (λ v. faults_of l.table v l.left l.node) l.values.items ≡ [])
 
 abbrev pub invariant-read_tuple-loop-i : goal.invariant-read_tuple-loop-i
 invariant-read_tuple-loop-i l =
-    Continues l.initial.reader l.reader × FieldsAt (tree_of_node l.left l.table) l.nodes l.place l.initial.reader l.i (map datum_of l.values.items) l.reader
-    × AreWhole l.table l.left l.nodes l.i l.values.items
+    Continues l.initial.reader l.reader
+    × KeepsEach datum_of (λ ds. FieldsAt (tree_of_node l.left l.table) l.nodes l.place l.initial.reader l.i ds l.reader) l.initial.budget l.values.items l.budget
+    × (IsLeft l.budget → AreWhole l.table l.left l.nodes l.i l.values.items)
 
 abbrev pub invariant-read_map-loop-i : goal.invariant-read_map-loop-i
 invariant-read_map-loop-i l =
     Continues l.initial.reader l.reader
-    × ReadsPairsAt (tree_of_node l.left l.table l.key) (tree_of_node l.left l.table l.value) l.keys l.values l.initial.reader l._i
-    (map (λ e. pair (datum_of e.0) (datum_of e.1)) l.pairs.items) l.reader
-    × (flat_map (λ e. faults_of l.table e.0 l.left l.key ++ faults_of l.table e.1 l.left l.value) l.pairs.items ≡ [])
+    × KeepsEach (λ e. pair (datum_of e.0) (datum_of e.1))
+    (λ ds. ReadsPairsAt (tree_of_node l.left l.table l.key) (tree_of_node l.left l.table l.value) l.keys l.values l.initial.reader l._i ds l.reader)
+    l.initial.budget l.pairs.items l.budget
+    × (IsLeft l.budget → flat_map (λ e. faults_of l.table e.0 l.left l.key ++ faults_of l.table e.1 l.left l.value) l.pairs.items ≡ [])

@@ -1,9 +1,9 @@
 -- Maps are read pair by pair: by what was taken.
-use Rattle.std.proofs.Common.{rules, arith, ◌≡◌, ◌<◌, ◌++◌, map, refl, subst, ◌∙◌}
-use Rattle.std.proofs.lemmas.List.{map-append}
+use Rattle.std.proofs.Common.{rules, arith, ◌≡◌, ◌<◌, ◌++◌, refl, ap, subst, ◌∙◌}
 use Rattle.std.proofs.lemmas.Result.{err_from_is_err_and}
-use Rattle.bitcode_shapes.specs.Datum.{pair}
+use Rattle.bitcode_shapes.specs.Datum.{list, pair}
 use Rattle.bitcode_untyped.specs.Faults.{faults_of}
+use Rattle.bitcode_untyped.specs.Nodes.{node_count}
 use Rattle.bitcode_untyped.specs.Population.{total}
 use Rattle.bitcode_untyped.specs.Reads.{ReadsNoDatum}
 use Rattle.bitcode_untyped.specs.ShapeTree.{map_tree}
@@ -13,7 +13,9 @@ use Rattle.bitcode_untyped.proofs.FaultLemmas.{faults-Map}
 use Rattle.bitcode_untyped.proofs.ReadLemmas.{map_stuck_length, map_over_limit}
 use Rattle.bitcode_untyped.proofs.ViewLemmas.{datum-Map}
 use Rattle.bitcode_coder.specs.Spelling.{natural}
+use Rattle.bitcode_serde.specs.Budget.{IsLeft, spend}
 use Rattle.bitcode_serde.specs.ReadingValues.{IsRefusalAt}
+use Rattle.bitcode_serde.proofs.BudgetLemmas.{left_before, keeps_more, keeps_all, pair_taken}
 use Rattle.bitcode_serde.proofs.CaseLemmas.{nothing, one_more_whole}
 use Rattle.bitcode_serde.proofs.ColumnLemmas.{passed_on}
 use Rattle.bitcode_serde.proofs.ValueLemmas.{asked_alike, refused_entry, still_there, continues_on, continues_stepped, enters_map, told_at, ReadsPairsAt, one_more_pair, key_stuck, value_stuck, map_read_at, map_stuck_at}
@@ -59,7 +61,7 @@ read_map-returns-in_err-first-clause-refused t c =
       c.in_err-first.ensures.refused.0,
       λ other. map_stuck_at key_tree value_tree c.args.reader.now c.step-2.new.self c.args.place c.in_ok-keys.keys c.in_ok-values.values
           c.in_ok-taken.taken.length enters (key_stuck key_tree value_tree c.in_ok-keys.keys c.in_ok-values.values c.step-2.new.self c.loop-i.reader c.loop-i._i _
-          c.loop-i.invariant.0 c.loop-i.invariant.1 c.in_ok-taken.taken.length lt (c.in_err-first.ensures.refused.1 other)),
+          c.loop-i.invariant.0 c.loop-i.invariant.1.read c.in_ok-taken.taken.length lt (c.in_err-first.ensures.refused.1 other)),
     ))
 
 pub read_map-read-requires-in-loop-i : goal.read_map-read-requires-in-loop-i
@@ -84,24 +86,34 @@ read_map-returns-in_err-second-clause-refused t c =
       c.in_err-second.ensures.refused.0,
       λ other. map_stuck_at key_tree value_tree c.args.reader.now c.step-2.new.self c.args.place c.in_ok-keys.keys c.in_ok-values.values
           c.in_ok-taken.taken.length enters (value_stuck key_tree value_tree c.in_ok-keys.keys c.in_ok-values.values c.step-2.new.self c.loop-i.reader c.loop-i._i _
-          c.loop-i.invariant.0 c.loop-i.invariant.1 c.in_ok-taken.taken.length c.read.new.reader (datum_of c.in_ok-first.first) lt c.in_ok-first.ensures.continues
-          c.in_ok-first.ensures.read (c.in_err-second.ensures.refused.1 other)),
+          c.loop-i.invariant.0 c.loop-i.invariant.1.read c.in_ok-taken.taken.length c.read.new.reader c.in_ok-first.ensures.read.datum lt
+          c.in_ok-first.ensures.continues c.in_ok-first.ensures.read.read (c.in_err-second.ensures.refused.1 other)),
     ))
 
 pub read_map-loop-i-preserved : goal.read_map-loop-i-preserved
-read_map-loop-i-preserved t c = (
-  continues_on c.step-2.new.self c.loop-i.reader c.read-in-loop-i.new.reader c.loop-i.invariant.0
-      (continues_on c.loop-i.reader c.read.new.reader c.read-in-loop-i.new.reader c.in_ok-first.ensures.continues c.in_ok-second.ensures.continues),
-  rw (c.in_ok-push.ensures.items, map-append)
-      (one_more_pair (tree_of_node c.args.left c.args.table.now c.args.key.now) (tree_of_node c.args.left c.args.table.now c.args.value.now) c.in_ok-keys.keys
-      c.in_ok-values.values c.step-2.new.self c.loop-i.reader c.loop-i._i _ c.loop-i.invariant.0 c.loop-i.invariant.1 c.read.new.reader c.read-in-loop-i.new.reader
-      (datum_of c.in_ok-first.first) (datum_of c.in_ok-second.second) c.in_ok-first.ensures.continues c.in_ok-first.ensures.read c.in_ok-second.ensures.read),
-  rw c.in_ok-push.ensures.items
-      (one_more_whole (λ e. faults_of c.args.table.now e.0 c.args.left c.args.key.now ++ faults_of c.args.table.now e.1 c.args.left c.args.value.now)
-      c.loop-i.pairs.items (c.in_ok-first.first, c.in_ok-second.second) c.loop-i.invariant.2
-      (nothing (faults_of c.args.table.now c.in_ok-first.first c.args.left c.args.key.now) (faults_of c.args.table.now c.in_ok-second.second c.args.left c.args.value.now)
-      c.in_ok-first.ensures.whole c.in_ok-second.ensures.whole)),
-)
+read_map-loop-i-preserved t c =
+    let first = c.in_ok-first.ensures.read in
+    let second = c.in_ok-second.ensures.read in
+    let many = c.loop-i.invariant.1 in
+    let before : IsLeft c.read-in-loop-i.new.budget → IsLeft c.read.new.budget = λ left. left_before (node_count second.datum) c.read.new.budget (subst IsLeft second.taken left) in
+    let taken : c.read-in-loop-i.new.budget ≡ spend (node_count (pair first.datum second.datum)) c.loop-i.budget =
+    pair_taken c.loop-i.budget c.take-in-loop-i.new.self c.read.new.budget c.read-in-loop-i.new.budget first.datum second.datum c.take-in-loop-i.ensures first.taken second.taken in (
+      continues_on c.step-2.new.self c.loop-i.reader c.read-in-loop-i.new.reader c.loop-i.invariant.0
+          (continues_on c.loop-i.reader c.read.new.reader c.read-in-loop-i.new.reader c.in_ok-first.ensures.continues c.in_ok-second.ensures.continues),
+      keeps_more (λ e. pair (datum_of e.0) (datum_of e.1)) _ _ c.take.new.self c.loop-i.budget c.read-in-loop-i.new.budget c.loop-i.pairs.items c.keep.new.items.items
+          (c.in_ok-first.first, c.in_ok-second.second) (pair first.datum second.datum) many
+          (one_more_pair (tree_of_node c.args.left c.args.table.now c.args.key.now) (tree_of_node c.args.left c.args.table.now c.args.value.now) c.in_ok-keys.keys
+          c.in_ok-values.values c.step-2.new.self c.loop-i.reader c.loop-i._i many.listing c.loop-i.invariant.0 many.read c.read.new.reader c.read-in-loop-i.new.reader
+          first.datum second.datum c.in_ok-first.ensures.continues first.read second.read)
+          taken (λ left. ap (λ d. pair d (datum_of c.in_ok-second.second)) (first.same (before left)) ∙ ap (pair first.datum) (second.same left))
+          c.in_ok-keep.ensures.kept,
+      λ left. rw (c.in_ok-keep.ensures.kept left)
+          (one_more_whole (λ e. faults_of c.args.table.now e.0 c.args.left c.args.key.now ++ faults_of c.args.table.now e.1 c.args.left c.args.value.now)
+          c.loop-i.pairs.items (c.in_ok-first.first, c.in_ok-second.second)
+          (c.loop-i.invariant.2 (left_before (node_count (pair first.datum second.datum)) c.loop-i.budget (subst IsLeft taken left)))
+          (nothing (faults_of c.args.table.now c.in_ok-first.first c.args.left c.args.key.now) (faults_of c.args.table.now c.in_ok-second.second c.args.left c.args.value.now)
+          (c.in_ok-first.ensures.whole (before left)) (c.in_ok-second.ensures.whole left))),
+    )
 
 pub read_map-returns-clause-continues : goal.read_map-returns-clause-continues
 read_map-returns-clause-continues t c =
@@ -121,11 +133,12 @@ read_map-returns-clause-read t c =
     c.in_ok-taken.ensures.leads c.take_length.ensures.below c.in_ok-keys.ensures.found c.in_ok-keys.ensures.kept c.in_ok-keys.ensures.stands
     c.in_ok-values.ensures.found c.in_ok-values.ensures.kept c.in_ok-values.ensures.stands in
     let all : c.loop-i._i ≡ c.in_ok-taken.taken.length = omega arith in
-    rw (datum-Map c.loop-i.pairs)
-    (map_read_at key_tree value_tree c.args.reader.now c.step-2.new.self c.loop-i.reader c.args.place c.in_ok-keys.keys c.in_ok-values.values c.in_ok-taken.taken.length _
-    enters c.if-is_over_limit.ensures
-    (subst (λ n. ReadsPairsAt key_tree value_tree c.in_ok-keys.keys c.in_ok-values.values c.step-2.new.self n
-    (map (λ e. pair (datum_of e.0) (datum_of e.1)) c.loop-i.pairs.items) c.loop-i.reader) all c.loop-i.invariant.1))
+    let k = c.loop-i.invariant.1 in
+    keeps_all (λ e. pair (datum_of e.0) (datum_of e.1)) _ _ c.args.budget.now c.take.new.self c.loop-i.budget c.loop-i.pairs.items _ (λ ds. list ds) (λ ds. refl)
+    (datum-Map c.loop-i.pairs) c.take.ensures k
+    (map_read_at key_tree value_tree c.args.reader.now c.step-2.new.self c.loop-i.reader c.args.place c.in_ok-keys.keys c.in_ok-values.values c.in_ok-taken.taken.length
+    k.listing enters c.if-is_over_limit.ensures
+    (subst (λ n. ReadsPairsAt key_tree value_tree c.in_ok-keys.keys c.in_ok-values.values c.step-2.new.self n k.listing c.loop-i.reader) all k.read))
 
 pub read_map-returns-then-is_over_limit-clause-refused : goal.read_map-returns-then-is_over_limit-clause-refused
 read_map-returns-then-is_over_limit-clause-refused t c =
@@ -142,5 +155,5 @@ read_map-returns-then-is_over_limit-clause-refused t c =
 -- ---- the cases of values
 
 pub read_map-returns-clause-whole : goal.read_map-returns-clause-whole
-read_map-returns-clause-whole t c = λ k w is_key is_value.
-    faults-Map c.args.table.now c.args.left c.loop-i.pairs k w ∙ rw (is_key, is_value) c.loop-i.invariant.2
+read_map-returns-clause-whole t c = λ left k w is_key is_value.
+    faults-Map c.args.table.now c.args.left c.loop-i.pairs k w ∙ rw (is_key, is_value) (c.loop-i.invariant.2 left)
