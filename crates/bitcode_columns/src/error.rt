@@ -39,7 +39,7 @@ pub enum Reason {
     TooManyVariants,
     /// The value is not one of the shape that it is to be written under.
     NotOfTheShape,
-    /// More than 128 references follow one another on one path.
+    /// More than 512 references follow one another on one path.
     NestedTooDeep,
     /// No memory was to be had.
     OutOfMemory,
