@@ -20,10 +20,10 @@ and_true true = refl
 and_true false = refl
 
 -- the payloads of all variants were judged, and the answer is theirs and that of the variants
-record JudgedWith (ss : Shapes) (lists : List (List Datum)) (input rest : List ℕ) (variants whole : Bool) : Type 0 where
-  answer : Bool
-  judged : JudgesPayloads ss lists answer input rest
-  is : whole ≡ (variants && answer)
+pub record JudgedWith (ss : Shapes) (lists : List (List Datum)) (input rest : List ℕ) (variants whole : Bool) : Type 0 where
+  pub answer : Bool
+  pub judged : JudgesPayloads ss lists answer input rest
+  pub is : whole ≡ (variants && answer)
 
 module _ (ss : Shapes) (input : List ℕ) (variants : Bool) where
   -- The payloads of the variants up to a place were judged: with those from there on, all are.

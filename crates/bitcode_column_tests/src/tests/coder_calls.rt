@@ -23,9 +23,9 @@ fn reads<'a, T: ColumnInt + PartialEq + 'a>(
     expected: &[T],
 ) -> Result<(), Got> {
     let mut out = CowSlice::new(alloc);
-    match T::unpack(alloc, &mut bytes, expected.len(), &mut out) {
-        Ok(()) if bytes.is_empty() && are_numbers(out.as_slice(), expected) => Ok(()),
-        Ok(()) => Err(Got::AnotherValue),
+    match T::unpack(alloc, &mut bytes, expected.len(), &mut out, false) {
+        Ok(_) if bytes.is_empty() && are_numbers(out.as_slice(), expected) => Ok(()),
+        Ok(_) => Err(Got::AnotherValue),
         Err(error) => Err(Got::Refused(error)),
     }
 }

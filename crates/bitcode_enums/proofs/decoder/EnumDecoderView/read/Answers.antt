@@ -87,7 +87,7 @@ loop-number-preserved g c =
           (subst (λ k. Reads (Spells (shape_at c.loop-number.number g.T.Enum.each.variants.shapes)) k c.loop-number.input.now (payloads_of c.loop-number.number (g.D.AllPayloads.held.lists c.read_at.new.self)) c.read_at.new.input.now) counted
           c.in_ok-payloads.ensures.read));
       rest = ends_further c.loop-number.invariant.rest (ends_read c.in_ok-payloads.ensures.read);
-      judged = λ strict. subst (λ n. JudgedTo g.T.Enum.each.variants.shapes c.read.new.input.now c.in_ok-written.written n (g.D.AllPayloads.held.lists c.read_at.new.self) _ c.read_at.new.input.now) next
+      judged = λ strict. subst (λ n. JudgedTo g.T.Enum.each.variants.shapes c.read.new.input.now c.in_ok-written.written n (g.D.AllPayloads.held.lists c.read_at.new.self) c.both-written.result c.read_at.new.input.now) next
           (subst (λ w. JudgedTo g.T.Enum.each.variants.shapes c.read.new.input.now c.in_ok-written.written (suc c.loop-number.number) (g.D.AllPayloads.held.lists c.read_at.new.self) w c.read_at.new.input.now) (sym c.both-written.ensures)
           (judged_next g.T.Enum.each.variants.shapes c.read.new.input.now c.in_ok-written.written c.loop-number.number (g.D.AllPayloads.held.lists c.loop-number.self.payloads) c.loop-number.written c.loop-number.input.now
           (c.loop-number.invariant.judged strict) (omega (arith, known, below)) (g.D.AllPayloads.held.lists c.read_at.new.self) c.read_at.new.input.now (omega (arith, known, all))
