@@ -8,6 +8,7 @@ use bitcode::{
     Decoder, Encoder, HasDecoder, HasEncoder, IntDecoder, IntEncoder, Made, SameArrays, Shaped,
     StrDecoder, StrEncoder, TupleDecoder, View,
 };
+use bitcode_coder::coder::both;
 use std::alloc::Global;
 
 /// A number and a text.
@@ -131,7 +132,7 @@ impl<'a> View<'a> for FooDecoder<'a> {
     fn read(&mut self, input: &mut &'a [u8], k: usize, strict: bool) -> Result<bool> {
         let x = self.x.read(input, k, strict)?;
         let y = self.y.read(input, k, strict)?;
-        Ok(x && y)
+        Ok(both(x, y))
     }
 }
 

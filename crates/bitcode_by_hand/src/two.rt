@@ -12,6 +12,7 @@ use bitcode::{
     DecodeOwned, Decoder, Encoder, HasDecoder, HasEncoder, IntDecoder, IntEncoder, Made,
     ResultDecoder, SameArrays, Shaped, VariantDecoder, VariantEncoder, View, encode_payload,
 };
+use bitcode_coder::coder::both;
 use std::alloc::Global;
 
 /// A byte without sign or one with a sign.
@@ -151,7 +152,8 @@ impl<'a> View<'a> for TwoDecoder<'a> {
         let variants = self.variants.read(input, k, strict)?;
         let a = self.a.read(input, self.variants.length(0), strict)?;
         let b = self.b.read(input, self.variants.length(1), strict)?;
-        Ok(variants && a && b)
+        let first = both(variants, a);
+        Ok(both(first, b))
     }
 }
 

@@ -29,6 +29,7 @@ returns-clause-read c =
     c.in_ok-a.ensures.read c.length-2.ensures _ _ c.in_ok-b.ensures.read
 
 pub returns-clause-judged : goal.returns-clause-judged
-returns-clause-judged c = λ strict.
-    judges_two _ _ c.in_ok-variants.ensures.read (c.in_ok-variants.ensures.counts refl) c.length.ensures c.in_ok-a.ensures.read c.length-2.ensures c.in_ok-b.ensures.read
-    _ _ _ (c.in_ok-variants.ensures.judged strict) (c.in_ok-a.ensures.judged strict) (c.in_ok-b.ensures.judged strict)
+returns-clause-judged c strict =
+    rw (c.both.ensures, c.both-first.ensures)
+    (judges_two _ _ c.in_ok-variants.ensures.read (c.in_ok-variants.ensures.counts refl) c.length.ensures c.in_ok-a.ensures.read c.length-2.ensures c.in_ok-b.ensures.read
+    _ _ _ (c.in_ok-variants.ensures.judged strict) (c.in_ok-a.ensures.judged strict) (c.in_ok-b.ensures.judged strict))
