@@ -13,4 +13,4 @@ returns-in_err-y-clause-exact c = struct_exact _ _ _ _ c.from_residual-in_err-y.
 pub returns-clause-judged : goal.returns-clause-judged
 returns-clause-judged c strict =
     rw c.both.ensures
-    (struct_judged _ _ _ _ c.in_ok-x.ensures.read c.in_ok-y.ensures.read (c.in_ok-x.ensures.judged strict) (c.in_ok-y.ensures.judged strict))
+    (struct_judged _ _ _ _ _ c.in_ok-x.ensures.read c.in_ok-y.ensures.read (c.in_ok-x.ensures.judged strict) (c.in_ok-y.ensures.judged strict))
