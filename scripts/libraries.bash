@@ -15,16 +15,20 @@ add_program() {
   mkdir -p "$1/crates/$2/src" && cp "$3" "$1/crates/$2/src/main.rt" && echo "$2: $4" >>"$1/crates.txt"
 }
 
-# make_edit FOLDER EDIT: the edit, of the form of the must-fail edits, made in the crates there. A line `file:` names a file of the
-# crate that the edit is of, or, in an edit that is of none, one below crates/.
+# make_edit FOLDER EDIT [TURN]: the edit, of the form of the must-fail edits, made in the crates there, or the turn of that name in a
+# file of scripts/turns. A line `file:` names a file of the crate that the edit is of, or, in an edit that is of none, one below crates/.
 make_edit() {
-  python3 - "$1" "$2" <<'PYTHON'
+  python3 - "$@" <<'PYTHON'
+import re
 import sys
 
-folder, edit = sys.argv[1:]
-crate = edit.split("/")[1] if edit.startswith("crates/") else "."
+folder, edit, *turn = sys.argv[1:]
+crate = next(iter(re.findall(r"(?:crates|turns)/(\w+)/", edit)), ".")
+text = open(edit).read()
+if turn:
+    text = re.search(rf"^turn: {turn[0]}\n(.*?)(?=^turn: |\Z)", text, re.M | re.S)[1]
 path = old = None
-for line in open(edit).read().split("\n"):
+for line in text.split("\n"):
     if line.startswith("file: "):
         path = f"{folder}/crates/{crate}/{line[6:]}"
     elif line.startswith("old: "):

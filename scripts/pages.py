@@ -58,13 +58,14 @@ def count(pattern, paths):
 def counts():
     """The tables of what is counted."""
     crates = [line.split(":")[0] for line in read("crates.txt").splitlines() if line and not line.startswith("#")]
-    lines = ["| Crate | Functions | Tests | Must-fail edits | Edits in `scripts/turns` |", "|---|---|---|---|---|"]
-    total = [0] * 4
+    lines = ["| Crate | Functions | Tests | Must-fail edits | Turns of each run | All turns |", "|---|---|---|---|---|---|"]
+    total = [0] * 5
     for crate in crates:
         numbers = [
             count(r"^\s*(?:pub(?:\(\w+\))? )?(?:(?:const|unsafe) )*fn \w", f"crates/{crate}/src/**/*.rt"),
             count(r"^\s*#\[test\]", f"crates/{crate}/src/**/*.rt"),
             len(glob.glob(f"crates/{crate}/must-fail/*.edit")),
+            count(r"^turn: ", f"scripts/turns/{crate}/each_run.edit"),
             count(r"^turn: ", f"scripts/turns/{crate}/*.edit"),
         ]
         total = [a + b for a, b in zip(total, numbers)]

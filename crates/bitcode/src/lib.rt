@@ -88,6 +88,7 @@ pub use bitcode_derive::derive::HolderDecoder;
 pub use bitcode_derive::derive::HolderEncoder;
 pub use bitcode_derive::whole::decode;
 pub use bitcode_derive::whole::decode_front;
+pub use bitcode_derive::whole::decode_front_strict;
 pub use bitcode_derive::whole::decode_strict;
 pub use bitcode_derive::whole::encode;
 pub use bitcode_derive::whole::encode_into;

@@ -6,3 +6,4 @@ pub mod BorrowedTextLemmas
 pub mod ShortTextLemmas
 pub mod FrontLemmas
 pub mod StrictLemmas
+pub mod StrictFrontLemmas

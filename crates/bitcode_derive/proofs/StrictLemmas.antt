@@ -16,7 +16,7 @@ use Rattle.bitcode_coder.proofs.StrictLawLemmas.{strict_is_text, written_strictl
 use Rattle.bitcode_derive.specs.Whole.{SpellsDatum, IsEncodingOf, HasShortLengths}
 use Rattle.bitcode_derive.specs.Strict.{StrictlySpellsDatum, IsStrictDecodingOf, SpellsOtherwise, IsStrictRefusal, no_memory, none_spelled, MakesWhatItLists}
 
-memory_or_not : (reason : Reason) → (reason ≡ OutOfMemory) ⊎ (reason ≢ OutOfMemory)
+pub memory_or_not : (reason : Reason) → (reason ≡ OutOfMemory) ⊎ (reason ≢ OutOfMemory)
 memory_or_not OutOfMemory = inl refl
 memory_or_not _ = inr (λ e. cc)
 

@@ -5,6 +5,7 @@ ghost use Rattle.bitcode_shapes.specs.Datum.{Datum};
 ghost use Rattle.bitcode_coder.specs.Coder.{BeginsWith, IsWritingRefusal, IsReadingReason};
 ghost use Rattle.bitcode_derive.specs.Front.{IsWrittenBehind, BeginsWithDatum, IsDecodingOfFront, BeginsWithAtMostOne, IsBoundedByFront, NamesFrontFault};
 ghost use Rattle.bitcode_derive.specs.Strict.{IsStrictDecodingOf, IsStrictRefusal};
+ghost use Rattle.bitcode_derive.specs.StrictFront.{IsStrictDecodingOfFront, IsStrictFrontRefusal};
 ghost use Rattle.bitcode_derive.specs.Whole.{IsEncodingOf, HasLongListing, IsDecodingOf, SpellsDatum, SpellsAtMostOne, IsBoundedByBytes, NamesWholeFault};
 
 use crate::derive::{HasDecoder, HasEncoder};
@@ -164,6 +165,40 @@ where
 {
     let mut decoder = T::Decoder::new(alloc);
     decoder.populate(input, 1)?;
+    decoder.decode()
+}
+
+/// Reads the one value that a front of the input spells, as [`decode_front`] does, where the bytes of each column are those that
+/// are written for its entries, and moves the input behind it.
+///
+/// Errors: those of `decode_front`, and `not the written text` where a front spells a value and some column stands in other
+/// bytes. That comes before memory is asked for the value, and after any other fault, and the input then stands behind the value.
+///
+/// ```rust
+/// let mut input: &[u8] = &[1, 7, 0];
+/// let flag: bool = decode_front_strict(alloc, &mut input)?;
+/// let number: u16 = decode_front_strict(alloc, &mut input)?;
+/// assert!(rt; flag && number == 7 && input.is_empty());
+/// ```
+pub fn decode_front_strict<'a, T: HasDecoder<'a> + Made + Drop>(
+    alloc: Global,
+    input: &mut &'a [u8],
+) -> Result<T, Error>
+where
+    T::Decoder: View<'a> + Decoder<T> + Drop,
+    ensures found { IfOk result (λ t. IsStrictDecodingOfFront T.makes T.shape input.old.now t input.new.now) }
+    ensures unambiguous { BeginsWithAtMostOne T.shape input.old.now }
+    ensures bounded { IsBoundedByFront T.shape input.old.now }
+    ensures refused { IfErr result (λ e. IsStrictFrontRefusal T.shape e.reason input.old.now input.new.now) }
+    ensures exact { IfErr result (λ e. e.reason ≢ Reason.NotTheWrittenText
+        → NamesFrontFault T.Decoder.faults T.Decoder.makes_free T.Decoder.shape e.reason input.old.now) }
+    ensures rest { OnErr result (IsEndOf input.old.now input.new.now) }
+{
+    let mut decoder = T::Decoder::new(alloc);
+    let written = decoder.populate_strict(input, 1)?;
+    if !written {
+        return err(Reason::NotTheWrittenText);
+    }
     decoder.decode()
 }
 

@@ -1,10 +1,10 @@
 //! Each public call once, with ample memory.
 use bitcode::coder::Buffer as _;
 use bitcode::{
-    BoolDecoder, BoolEncoder, Buffer, CowSlice, Decoder, Encoder, FastSlice, FastVec, IntDecoder,
-    IntEncoder, NextUnchecked, PushUnchecked, Reason, TupleDecoder, TupleEncoder, View,
-    consume_byte, consume_byte_arrays, consume_bytes, decode_front, encode_into, err, error,
-    expect_eof, invalid_enum_variant, minmax, mul_length,
+    BoolDecoder, BoolEncoder, Buffer, CowSlice, Decoder, Encoder, Error, FastSlice, FastVec,
+    IntDecoder, IntEncoder, NextUnchecked, PushUnchecked, Reason, TupleDecoder, TupleEncoder, View,
+    consume_byte, consume_byte_arrays, consume_bytes, decode_front, decode_front_strict,
+    encode_into, err, error, expect_eof, invalid_enum_variant, minmax, mul_length,
 };
 use std::io;
 use std::test::Fail;
@@ -61,6 +61,16 @@ fn values_stand_one_behind_the_other(rt: HostRuntime) -> Result<(), Fail> {
     let number: u16 = decode_front(alloc, &mut input)?;
     assert!(rt; number == 7 && input.is_empty());
     assert!(rt; decode_front::<u16>(alloc, &mut input) == err(Reason::Eof));
+    Ok(())
+}
+
+#[test]
+fn the_front_is_read_strictly(rt: HostRuntime) -> Result<(), Fail> {
+    let alloc = rt.alloc();
+    let mut input: &[u8] = &[1, 3, 9];
+    assert!(rt; decode_front_strict(alloc, &mut input)?);
+    let other: Result<bool, Error> = decode_front_strict(alloc, &mut input);
+    assert!(rt; other == err(Reason::NotTheWrittenText) && input == [9].as_slice());
     Ok(())
 }
 
