@@ -2,6 +2,8 @@
 #![tactic(auto)]
 
 pub mod expected;
+#[cfg(test)]
+mod tests;
 pub mod untyped;
 
 pub use crate::expected::got::Got;

@@ -11,7 +11,7 @@ use Rattle.bitcode_coder.specs.Columns.{bools, ints}
 use Rattle.bitcode_coder.specs.LengthColumn.{length_bytes}
 use Rattle.bitcode_coder.specs.TextColumn.{texts_bytes}
 use Rattle.bitcode_coder.specs.Spelling.{natural}
-use Rattle.bitcode_untyped.specs.ShapeTree.{ShapeTree, IsOf, unit_tree, never_tree, seq_tree, map_tree, tuple_tree, choice_tree, bool_tree, natural_tree, integer_tree, text_tree, option_tree}
+use Rattle.bitcode_untyped.specs.ShapeTree.{ShapeTree, IsOf, unit_tree, never_tree, seq_tree, map_tree, tuple_tree, choice_tree, bool_tree, natural_tree, integer_tree, char_tree, text_tree, option_tree}
 use Rattle.bitcode_untyped.specs.View.{trees_of}
 use Rattle.bitcode_untyped.specs.Walk.{element, field, length_kind}
 use Rattle.bitcode_untyped.specs.PlacedColumns.{columns_of}
@@ -99,6 +99,11 @@ tuple_of_one_text = refl
 option_text : datum_text (option_tree bool_tree) (some (natural 1)) ≡ 1 ∷ 1 ∷ []
 unfolding bool_text int_text byte_text tagged_text digits_text raw_text
 option_text = refl
+
+-- in the fewest bytes that hold its number: a strict reading takes no others
+char_text : datum_text char_tree (natural 97) ≡ 4 ∷ 97 ∷ []
+unfolding int_text byte_text tagged_text digits_text raw_text
+char_text = refl
 
 greatest_index_text : datum_text (enum_tree (replicate 256 unit_tree)) (choice 255 unit) ≡ 255 ∷ []
 unfolding int_text byte_text tagged_text digits_text raw_text

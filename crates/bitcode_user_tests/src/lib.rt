@@ -1,4 +1,4 @@
-//! Tests of user code: of the types of `bitcode_own_types`, and of the calls of `bitcode_nested_calls`.
+//! Tests of user code: of the types of `bitcode_own_types`, of lists of them, and of calls at nested types.
 #![tactic(auto)]
 
 #[cfg(test)]

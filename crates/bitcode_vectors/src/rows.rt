@@ -1,5 +1,7 @@
-//! The stored rows that stand on types written by hand, or on the `column` command. The others are in `bitcode_rows` and, for the
-//! second format, in `bitcode_untyped_rows`.
+//! The stored rows: those of the first format, those of the second one, and those that stand on types written by hand or on the
+//! `column` command.
 pub mod choices;
 pub mod columns;
 pub mod texts;
+pub mod typed;
+pub mod untyped;

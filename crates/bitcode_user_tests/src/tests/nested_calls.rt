@@ -1,6 +1,6 @@
 //! With ample memory what is read of nested types is written again, as the same bytes.
 use bitcode::Error;
-use bitcode_nested_calls::{all_of, deep, options, records, sixteen, table, twelve};
+use bitcode_own_types::nested_calls::{all_of, deep, options, records, sixteen, table, twelve};
 
 #[test]
 fn tuples_come_back(rt: HostRuntime) -> Result<(), Error> {

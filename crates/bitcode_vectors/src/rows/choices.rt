@@ -1,10 +1,10 @@
 //! The stored rows of options, results and types written by hand.
+use crate::rows::untyped;
 use bitcode::{Reason, decode};
 use bitcode_by_hand::never::Never;
 use bitcode_by_hand::one::One;
 use bitcode_by_hand::two::Two;
 use bitcode_tests::{Got, decodes, encodes, refuses};
-use bitcode_untyped_rows as untyped;
 use std::alloc::Global;
 
 /// The variants of all options stand together, and then the values of those that have one.
@@ -12,7 +12,7 @@ pub fn options(alloc: Global) -> Result<(), Got> {
     let shorts: Vec<Option<i16>> = vec![in alloc; None, Some(1), None]?;
     encodes(alloc, &shorts, &[3, 2, 1, 0])?;
     options_in_pairs(alloc)?;
-    untyped::choices::options_in_pairs(alloc)
+    untyped::enums::options_in_pairs(alloc)
 }
 
 /// In pairs too, before the columns of the other fields.
@@ -34,7 +34,7 @@ pub fn two_variants(alloc: Global) -> Result<(), Got> {
 /// Under a shape another index is refused; in the first format unused bits of the last byte are ignored, so that no byte is
 /// another option.
 pub fn unused_bits_of_an_option(alloc: Global) -> Result<(), Got> {
-    untyped::choices::unknown_indices(alloc)?;
+    untyped::enums::unknown_indices(alloc)?;
     decodes::<Option<bool>>(alloc, &[2], None)
 }
 
@@ -42,7 +42,7 @@ pub fn unused_bits_of_an_option(alloc: Global) -> Result<(), Got> {
 pub fn results(alloc: Global) -> Result<(), Got> {
     let list: Vec<Result<bool, u32>> = vec![in alloc; Err(1), Ok(false)]?;
     encodes(alloc, &list, &[2, 1, 0, 4, 1])?;
-    untyped::choices::results(alloc)
+    untyped::enums::results(alloc)
 }
 
 /// An enum of one variant has no variant column; one of none has no values.

@@ -1,8 +1,8 @@
 //! The stored rows of texts, chars, checked integers and durations.
+use crate::rows::untyped;
 use bitcode::{Reason, U8Char, decode};
 use bitcode_by_hand::foo::Foo;
 use bitcode_tests::{Got, decodes, encodes, refuses};
-use bitcode_untyped_rows as untyped;
 use std::alloc::Global;
 use std::num::NonZeroU32;
 use std::time::Duration;

@@ -1,5 +1,0 @@
-//! Tests of each public call.
-#![tactic(auto)]
-
-#[cfg(test)]
-mod tests;

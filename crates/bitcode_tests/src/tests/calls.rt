@@ -1,0 +1,6 @@
+//! Each public call once: whole calls, coders used by themselves, chunks, sealed bytes, and the second format.
+mod chunks;
+mod once;
+mod sealed;
+mod serde;
+mod strict_calls;
