@@ -4,9 +4,10 @@ ghost use Rattle.bitcode.specs.ByHand.{struct_lawful, struct_makeable, u32_lawfu
 ghost use Rattle.bitcode_by_hand.specs.Foo.{foo_fields};
 
 use bitcode::coder::{Buffer, HoldsColumns, HoldsData, Result};
+use bitcode::own::SameArrays;
 use bitcode::{
-    Decoder, Encoder, HasDecoder, HasEncoder, IntDecoder, IntEncoder, Made, SameArrays, Shaped,
-    StrDecoder, StrEncoder, TupleDecoder, View,
+    Decoder, Encoder, HasDecoder, HasEncoder, IntDecoder, IntEncoder, Made, Shaped, StrDecoder,
+    StrEncoder, TupleDecoder, View,
 };
 use bitcode_coder::coder::both;
 use std::alloc::Global;

@@ -7,9 +7,9 @@ ghost use Rattle.bitcode_coder.specs.Columns.{no_columns};
 ghost use Rattle.bitcode_coder.specs.Coder.{endless_room};
 
 use bitcode::coder::{Buffer, HoldsColumns, HoldsData, Result};
+use bitcode::own::NoVariants;
 use bitcode::{
-    DecodeOwned, Decoder, Encoder, HasDecoder, HasEncoder, NoVariants, Reason, View, err,
-    invalid_enum_variant,
+    DecodeOwned, Decoder, Encoder, HasDecoder, HasEncoder, Reason, View, err, invalid_enum_variant,
 };
 use std::alloc::Global;
 

@@ -4,9 +4,10 @@ ghost use Rattle.bitcode.specs.ByHand.{image_lawful, image_makeable, image_same_
 ghost use Rattle.bitcode_by_hand.specs.One.{one_field, one_found};
 
 use bitcode::coder::{Buffer, HoldsColumns, HoldsData, Result};
+use bitcode::own::SameArrays;
 use bitcode::{
-    DecodeOwned, Decoder, Encoder, HasDecoder, HasEncoder, IntDecoder, IntEncoder, Made,
-    SameArrays, Shaped, View,
+    DecodeOwned, Decoder, Encoder, HasDecoder, HasEncoder, IntDecoder, IntEncoder, Made, Shaped,
+    View,
 };
 use std::alloc::Global;
 

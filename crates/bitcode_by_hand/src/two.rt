@@ -8,9 +8,10 @@ ghost use Rattle.bitcode.specs.ByHand.{no_columns, two, choices_of, variant_room
 ghost use Rattle.bitcode_by_hand.specs.Two.{two_variant, two_found};
 
 use bitcode::coder::{Buffer, HoldsColumns, HoldsData, Result};
+use bitcode::own::{SameArrays, encode_payload};
 use bitcode::{
     DecodeOwned, Decoder, Encoder, HasDecoder, HasEncoder, IntDecoder, IntEncoder, Made,
-    ResultDecoder, SameArrays, Shaped, VariantDecoder, VariantEncoder, View, encode_payload,
+    ResultDecoder, Shaped, VariantDecoder, VariantEncoder, View,
 };
 use bitcode_coder::coder::both;
 use std::alloc::Global;

@@ -3,10 +3,8 @@ ghost use Rattle.std.specs.Prelude.{refl};
 ghost use Rattle.bitcode.specs.ByHand.{stood_payload};
 
 use crate::item::Item;
-use bitcode::{
-    DecodeOwned, DecoderOfFields, EncoderOfFields, FromParts, HasDecoder, HasEncoder, LendsFields3,
-    Payload, Shaped, StandsFor,
-};
+use bitcode::own::{DecoderOfFields, EncoderOfFields, FromParts, LendsFields3, Payload, StandsFor};
+use bitcode::{DecodeOwned, HasDecoder, HasEncoder, Shaped};
 
 /// A type of one's own that takes memory, inside another.
 #[derive(Debug, PartialEq, Drop)]

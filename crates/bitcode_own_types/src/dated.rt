@@ -2,10 +2,8 @@
 ghost use Rattle.std.specs.Prelude.{refl};
 ghost use Rattle.bitcode.specs.ByHand.{stood_payload};
 
-use bitcode::{
-    DecodeOwned, DecoderOfFields, EncoderOfFields, FromParts, HasDecoder, HasEncoder, LendsFields3,
-    Made, Payload, Shaped, StandsFor,
-};
+use bitcode::own::{DecoderOfFields, EncoderOfFields, FromParts, LendsFields3, Payload, StandsFor};
+use bitcode::{DecodeOwned, HasDecoder, HasEncoder, Made, Shaped};
 
 /// A value and when it was made.
 #[derive(Debug, PartialEq, Drop)]

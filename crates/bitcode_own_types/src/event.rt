@@ -3,12 +3,12 @@ ghost use Rattle.std.specs.Prelude.{◌≡◌, refl};
 ghost use Rattle.bitcode.specs.ByHand.{columns_in, each_variant, is_variant, last_payload, of_one_of_4, payload_and, payloads_in, stood_payload};
 ghost use Rattle.bitcode_own_types.specs.declared.event.Event.{Event};
 
-use bitcode::{
-    AllColumns, AllPayloads, At, DecodeOwned, DecodersOf4, EncodersOf4, Enum, EnumDecoder,
-    EnumEncoder, EnumOf, Error, HasDecoder, HasEncoder, Held, HeldIn, OneOf4, PartsDecoder,
-    Payload, StandsFor, VariantColumns, VariantPayloads, Variants4, WritesPayloads, WritesVariants,
-    told_as,
+use bitcode::own::{
+    AllColumns, AllPayloads, At, DecodersOf4, EncodersOf4, Enum, EnumDecoder, EnumEncoder, EnumOf,
+    Held, HeldIn, OneOf4, PartsDecoder, Payload, StandsFor, VariantColumns, VariantPayloads,
+    Variants4, WritesPayloads, WritesVariants, told_as,
 };
+use bitcode::{DecodeOwned, Error, HasDecoder, HasEncoder};
 use std::alloc::Global;
 
 /// What happens in a game.

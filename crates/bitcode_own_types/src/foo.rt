@@ -2,10 +2,8 @@
 ghost use Rattle.std.specs.Prelude.{refl};
 ghost use Rattle.bitcode.specs.ByHand.{stood_payload};
 
-use bitcode::{
-    DecoderOfFields, EncoderOfFields, FromParts, HasDecoder, HasEncoder, LendsFields2, Payload,
-    Shaped, StandsFor,
-};
+use bitcode::own::{DecoderOfFields, EncoderOfFields, FromParts, LendsFields2, Payload, StandsFor};
+use bitcode::{HasDecoder, HasEncoder, Shaped};
 
 /// A number and a text.
 #[derive(Debug, Clone, Copy, PartialEq)]

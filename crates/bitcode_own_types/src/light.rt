@@ -3,7 +3,8 @@ ghost use Rattle.std.specs.Prelude.{[], refl, ◌∷◌};
 ghost use Rattle.bitcode.specs.ByHand.{bare_key, bares_told, stood_payload};
 ghost use Rattle.bitcode_own_types.specs.declared.light.Light.{Light};
 
-use bitcode::{Bare, BareVariants, HasCoders, HeldIn, Key, KeyPayload, Payload, StandsFor};
+use bitcode::Key;
+use bitcode::own::{Bare, BareVariants, HasCoders, HeldIn, KeyPayload, Payload, StandsFor};
 
 /// What a light shows.
 #[derive(Debug, Clone, Copy, PartialEq, Eq, PartialOrd, Ord)]

@@ -2,10 +2,8 @@
 ghost use Rattle.std.specs.Prelude.{refl};
 ghost use Rattle.bitcode.specs.ByHand.{stood_payload};
 
-use bitcode::{
-    DecodeOwned, DecoderOfFields, EncoderOfFields, FromParts, HasDecoder, HasEncoder, LendsFields1,
-    Payload, Shaped, StandsFor,
-};
+use bitcode::own::{DecoderOfFields, EncoderOfFields, FromParts, LendsFields1, Payload, StandsFor};
+use bitcode::{DecodeOwned, HasDecoder, HasEncoder, Shaped};
 
 /// A length in meters.
 #[derive(Debug, Clone, Copy, PartialEq)]

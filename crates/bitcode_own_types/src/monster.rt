@@ -2,10 +2,8 @@
 ghost use Rattle.std.specs.Prelude.{refl};
 ghost use Rattle.bitcode.specs.ByHand.{stood_payload};
 
-use bitcode::{
-    DecodeOwned, DecoderOfFields, EncoderOfFields, FromParts, HasDecoder, HasEncoder, LendsFields6,
-    Payload, Shaped, StandsFor,
-};
+use bitcode::own::{DecoderOfFields, EncoderOfFields, FromParts, LendsFields6, Payload, StandsFor};
+use bitcode::{DecodeOwned, HasDecoder, HasEncoder, Shaped};
 
 /// What a player meets.
 #[derive(Debug, PartialEq, Drop)]

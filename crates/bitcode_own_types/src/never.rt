@@ -1,7 +1,7 @@
 //! `Never` has no values, and is written and read as nothing. What is below its declaration was written by `scripts/new_type`.
 ghost use Rattle.bitcode.specs.ByHand.{stood_payload};
 
-use bitcode::{Absent, HasCoders, NoVariants, Payload, StandsFor};
+use bitcode::own::{Absent, HasCoders, NoVariants, Payload, StandsFor};
 
 /// There is no value.
 #[derive(Clone, Copy)]

@@ -3,12 +3,12 @@ ghost use Rattle.std.specs.Prelude.{◌≡◌, refl};
 ghost use Rattle.bitcode.specs.ByHand.{columns_in, each_variant, is_variant, last_payload, of_one_of_6, payload_and, payloads_in, stood_payload};
 ghost use Rattle.bitcode_own_types.specs.declared.order.Order.{Order};
 
-use bitcode::{
-    AllColumns, AllPayloads, At, DecodeOwned, DecodersOf6, EncodersOf6, Enum, EnumDecoder,
-    EnumEncoder, EnumOf, Error, HasDecoder, HasEncoder, Held, HeldIn, OneOf6, PartsDecoder,
-    Payload, StandsFor, VariantColumns, VariantPayloads, Variants6, WritesPayloads, WritesVariants,
-    told_as,
+use bitcode::own::{
+    AllColumns, AllPayloads, At, DecodersOf6, EncodersOf6, Enum, EnumDecoder, EnumEncoder, EnumOf,
+    Held, HeldIn, OneOf6, PartsDecoder, Payload, StandsFor, VariantColumns, VariantPayloads,
+    Variants6, WritesPayloads, WritesVariants, told_as,
 };
+use bitcode::{DecodeOwned, Error, HasDecoder, HasEncoder};
 use std::alloc::Global;
 
 /// What a shop is told.

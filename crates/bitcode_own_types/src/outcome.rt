@@ -3,7 +3,7 @@ ghost use Rattle.std.specs.Prelude.{[], ◌∷◌, refl};
 ghost use Rattle.bitcode.specs.ByHand.{stood_payload};
 ghost use Rattle.bitcode_own_types.specs.declared.outcome.Outcome.{Outcome};
 
-use bitcode::{Bare, BareVariants, HasCoders, HeldIn, Payload, StandsFor};
+use bitcode::own::{Bare, BareVariants, HasCoders, HeldIn, Payload, StandsFor};
 
 /// How a game ended.
 #[derive(Debug, Clone, Copy, PartialEq)]

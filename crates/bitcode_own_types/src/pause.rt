@@ -2,10 +2,8 @@
 ghost use Rattle.std.specs.Prelude.{refl};
 ghost use Rattle.bitcode.specs.ByHand.{stood_payload};
 
-use bitcode::{
-    DecodeOwned, DecoderOfFields, EncoderOfFields, FromParts, HasDecoder, HasEncoder, Payload,
-    StandsFor,
-};
+use bitcode::own::{DecoderOfFields, EncoderOfFields, FromParts, Payload, StandsFor};
+use bitcode::{DecodeOwned, HasDecoder, HasEncoder};
 
 /// Nothing happens.
 #[derive(Debug, Clone, Copy, PartialEq)]

@@ -5,9 +5,10 @@ ghost use Rattle.bitcode.specs.ByHand.{struct_lawful, struct_makeable, str_lawfu
 ghost use Rattle.bitcode_own_types.specs.Player.{player_fields};
 
 use bitcode::coder::{Buffer, HoldsColumns, HoldsData, Result};
+use bitcode::own::FieldsEncoder;
 use bitcode::{
-    Decoder, Encoder, FieldsEncoder, HasDecoder, HasEncoder, IntDecoder, IntEncoder, Made, Shaped,
-    StrDecoder, StrEncoder, TupleDecoder, TupleEncoder, View,
+    Decoder, Encoder, HasDecoder, HasEncoder, IntDecoder, IntEncoder, Made, Shaped, StrDecoder,
+    StrEncoder, TupleDecoder, TupleEncoder, View,
 };
 use std::alloc::Global;
 

@@ -4,11 +4,12 @@ ghost use Rattle.bitcode.specs.ByHand.{columns_in, each_variant, is_variant, las
 ghost use Rattle.bitcode_own_types.specs.declared.reply.Reply.{Reply};
 
 use crate::message::Message;
-use bitcode::{
+use bitcode::own::{
     AllColumns, AllPayloads, At, DecodersOf4, EncodersOf4, Enum, EnumDecoder, EnumEncoder, EnumOf,
-    Error, Halves, HasDecoder, HasEncoder, Held, HeldIn, OneOf4, PartsDecoder, Payload, StandsFor,
-    VariantColumns, VariantPayloads, Variants4, WritesPayloads, WritesVariants, told_as,
+    Halves, Held, HeldIn, OneOf4, PartsDecoder, Payload, StandsFor, VariantColumns,
+    VariantPayloads, Variants4, WritesPayloads, WritesVariants, told_as,
 };
+use bitcode::{Error, HasDecoder, HasEncoder};
 use std::alloc::Global;
 use std::collections::{BTreeMap, BTreeSet, HashMap};
 

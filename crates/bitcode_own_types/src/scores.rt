@@ -4,9 +4,10 @@ ghost use Rattle.bitcode.specs.ByHand.{image_lawful, image_makeable, u32_lawful,
 ghost use Rattle.bitcode_own_types.specs.Scores.{scores_list};
 
 use bitcode::coder::{HoldsData, Result};
+use bitcode::own::{FromElements, Sequence, encode_each};
 use bitcode::{
-    DecodeOwned, Decoder, Encoder, FromElements, HasDecoder, HasEncoder, IntDecoder, IntEncoder,
-    Made, Reason, Sequence, Shaped, VecDecoder, VecEncoder, View, encode_each,
+    DecodeOwned, Decoder, Encoder, HasDecoder, HasEncoder, IntDecoder, IntEncoder, Made, Reason,
+    Shaped, VecDecoder, VecEncoder, View,
 };
 use std::alloc::Global;
 

@@ -2,10 +2,10 @@
 ghost use Rattle.std.specs.Prelude.{[], refl, ◌∷◌};
 ghost use Rattle.bitcode.specs.ByHand.{ands_in_order, key_as, stood_key, stood_payload, thens_in_order};
 
-use bitcode::{
-    DecodeOwned, DecoderOfFields, EncoderOfFields, FromParts, HasDecoder, HasEncoder, Key,
-    KeyPayload, LendsFields3, Payload, Shaped, StandsFor,
+use bitcode::own::{
+    DecoderOfFields, EncoderOfFields, FromParts, KeyPayload, LendsFields3, Payload, StandsFor,
 };
+use bitcode::{DecodeOwned, HasDecoder, HasEncoder, Key, Shaped};
 
 /// A seat of a theatre.
 #[derive(Debug, Clone, Copy, PartialEq, Eq, PartialOrd, Ord)]

@@ -2,10 +2,10 @@
 ghost use Rattle.std.specs.Prelude.{refl};
 ghost use Rattle.bitcode.specs.ByHand.{stood_key, stood_payload};
 
-use bitcode::{
-    DecodeOwned, DecoderOfFields, EncoderOfFields, FromParts, HasDecoder, HasEncoder, Key,
-    KeyPayload, LendsFields2, Payload, Shaped, StandsFor,
+use bitcode::own::{
+    DecoderOfFields, EncoderOfFields, FromParts, KeyPayload, LendsFields2, Payload, StandsFor,
 };
+use bitcode::{DecodeOwned, HasDecoder, HasEncoder, Key, Shaped};
 
 /// A place on a map, of which there are sets.
 #[derive(Debug, Clone, Copy, PartialEq, Eq, PartialOrd, Ord)]

@@ -3,12 +3,12 @@ ghost use Rattle.std.specs.Prelude.{◌≡◌, refl};
 ghost use Rattle.bitcode.specs.ByHand.{columns_in, each_variant, is_variant, last_payload, of_one_of_2, payload_and, payloads_in, stood_payload};
 ghost use Rattle.bitcode_own_types.specs.declared.two.Two.{Two};
 
-use bitcode::{
-    AllColumns, AllPayloads, At, DecodeOwned, DecodersOf2, EncodersOf2, Enum, EnumDecoder,
-    EnumEncoder, EnumOf, Error, HasDecoder, HasEncoder, Held, HeldIn, OneOf2, PartsDecoder,
-    Payload, StandsFor, VariantColumns, VariantPayloads, Variants2, WritesPayloads, WritesVariants,
-    told_as,
+use bitcode::own::{
+    AllColumns, AllPayloads, At, DecodersOf2, EncodersOf2, Enum, EnumDecoder, EnumEncoder, EnumOf,
+    Held, HeldIn, OneOf2, PartsDecoder, Payload, StandsFor, VariantColumns, VariantPayloads,
+    Variants2, WritesPayloads, WritesVariants, told_as,
 };
+use bitcode::{DecodeOwned, Error, HasDecoder, HasEncoder};
 use std::alloc::Global;
 
 /// A byte without sign or one with a sign.

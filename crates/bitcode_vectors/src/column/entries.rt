@@ -2,9 +2,10 @@
 ghost use Rattle.std.specs.Prelude.{◌≤◌};
 
 use crate::column::kinds::Kind;
+use bitcode::own::decode_each;
 use bitcode::{
     BoolDecoder, CowSlice, Decoder, Error, IntDecoder, LengthDecoder, Made, StrDecoder, View,
-    decode_each, unpack_bytes_less_than,
+    unpack_bytes_less_than,
 };
 use std::alloc::Global;
 use std::fmt::Debug;

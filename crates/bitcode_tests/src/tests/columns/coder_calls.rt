@@ -1,6 +1,7 @@
 //! Columns that the Rust crate packed, by the calls that the coders of integers make.
 use crate::Got;
-use bitcode::{ColumnInt, CowSlice};
+use bitcode::CowSlice;
+use bitcode::own::ColumnInt;
 use std::alloc::Global;
 
 // Whether the bytes stand for these numbers.

@@ -1,8 +1,9 @@
 //! Integers that are not 0, chars and durations: what the Rust crate wrote and read, and each public call once.
 use crate::{Got, both_ways, holds, refuses};
+use bitcode::own::{AsInt, Checked};
 use bitcode::{
-    AsInt, Checked, CheckedIntDecoder, ConvertFrom, ConvertInto, Decoder, DurationDecode,
-    DurationEncode, Nanosecond, Reason, View, decode,
+    CheckedIntDecoder, ConvertFrom, ConvertInto, Decoder, DurationDecode, DurationEncode,
+    Nanosecond, Reason, View, decode,
 };
 use std::num::{NonZeroI64, NonZeroU8};
 use std::test::Fail;
