@@ -20,6 +20,8 @@ def with_own(text, own=None):
 
     def lines(found):
         names = {name.strip() for name in found[2].split(",") if name.strip()}
+        if not names & own:
+            return found[0]
         parts = (("bitcode::own", names & own), ("bitcode", names - own))
         return "\n".join(f"{found[1]}use {path}::{{{', '.join(sorted(part))}}};" for path, part in parts if part)
 
