@@ -150,12 +150,14 @@ def declaration(struct):
     head = f"{struct.seen}struct {struct.name}{bounds(struct, '')}"
     if struct.kind == "unit":
         return "\n".join([*lines, head + ";", ""])
-    if struct.kind == "tuple":
+    if struct.kind == "tuple" and not any(field.docs or field.attributes for field in struct.fields):
         return "\n".join([*lines, head + "(" + ", ".join(field.seen + of_text(field.type) for field in struct.fields) + ");", ""])
-    lines.append(head + " {")
+    opening, closing = ("(", ");") if struct.kind == "tuple" else (" {", "}")
+    lines.append(head + opening)
     for field in struct.fields:
-        lines += [f"    {text}" for text in (*field.docs, f"{field.seen}{field.name}: {of_text(field.type)},")]
-    return "\n".join([*lines, "}", ""])
+        name = "" if struct.kind == "tuple" else f"{field.name}: "
+        lines += [f"    {text}" for text in (*field.docs, *field.attributes, f"{field.seen}{name}{of_text(field.type)},")]
+    return "\n".join([*lines, closing, ""])
 
 
 def bounds(item, bound, lifetime=None):

@@ -108,6 +108,8 @@ impl$life HasEncoder for $name {
 """
 
 
+# What it declares beside the struct, each with a number behind.
+WIDE_PARTS = {"Part": "a struct", "Lent": "the references", "Columns": "the columns", "Decoder": "the decoder"}
 # What the file may use of the library, and of the traits of coders.
 USED = "DecodeOwned DecoderOfFields Error Fields FieldsEncoder FromParts HasDecoder HasEncoder PartsDecoder Payload StandsFor TupleDecoder TupleEncoder".split()
 CODER = "Buffer Decoder Encoder HoldsColumns HoldsData View".split()
