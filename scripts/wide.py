@@ -12,13 +12,14 @@ PART = """/// Fields of a `$simple` that follow each other.
 pub struct $part {$fields}
 
 $body
-/// References to the fields of a `$simple_part`.
+/// References to the fields of a `$simple_part`. It names the tuple of these, so that the toolchain states what it is for.
 #[derive(Drop)]
-pub struct $lent {
+pub struct $simple_lent<$lent_lives, P> {
     fields: $references,
+    of: PhantomData<P>,
 }
 
-impl$lives Fields for $lent {
+impl<$lent_lives> Fields for $lent {
     type Whole = $part;
 
     ghost whole = { λ l. record { $whole } };
@@ -28,12 +29,13 @@ impl$lives Fields for $lent {
     }
 }
 
-type ${fields_of}Columns = <$owned_parts as HasEncoder>::Encoder;
+${static}type ${fields_of}Columns = <$owned_parts as HasEncoder>::Encoder;
 
-/// The columns of a `$simple_part`.
+/// The columns of a `$simple_part`. It names the tuple of its fields, as the references to them do.
 #[derive(Drop)]
-pub struct $columns {
+pub struct $simple_columns<P> {
     fields: ${fields_of}Columns,
+    of: PhantomData<P>,
 }
 
 impl HoldsColumns for $columns {
@@ -50,7 +52,7 @@ impl HoldsColumns for $columns {
 
 impl Buffer for $columns {
     fn new(alloc: Global) -> Self {
-        $columns { fields: Buffer::new(alloc) }
+        $simple_columns { fields: Buffer::new(alloc), of: PhantomData }
     }
 
     fn reserve(&mut self, n: usize) -> Result<(), Error> {
@@ -66,7 +68,7 @@ impl Buffer for $columns {
     }
 }
 
-impl$lives FieldsEncoder<$lent> for $columns {
+impl<$lent_lives> FieldsEncoder<$lent> for $columns {
     ghost writes_free = { ⟦<${fields_of}Columns as Encoder<$parts>>⟧.writes_free };
 
     fn encode_fields(&mut self, fields: &$lent) -> Result<(), Error> {
@@ -164,12 +166,20 @@ class Wide:
     def lent(self, part):
         """The struct of references to the fields of the part: its name, and what it takes."""
         lives = [self.lent_life, *([part.lifetime] if part.lifetime else [])]
-        return part.name.replace("Part", "Lent"), lives
+        return self.called("Lent", part), lives
+
+    def number(self, part):
+        """The number of the part, as text."""
+        return part.name.removeprefix(f"{self.struct.name}Part")
+
+    def called(self, what, part):
+        """The name of what there is for the part."""
+        return f"{self.struct.name}{what}{self.number(part)}"
 
     def built(self, part, whole):
         """References to the fields of `t`, which are those of the part, or are called as the struct calls them."""
         names = [field.name for field in part.fields] if not whole else [self.outer(field.name) for field in part.fields]
-        return f"{self.lent(part)[0]} {{ fields: {halved([f'&t.{name}' for name in names])} }}"
+        return f"{self.lent(part)[0]} {{ fields: {halved([f'&t.{name}' for name in names])}, of: PhantomData }}"
 
     def outer(self, name):
         """What the struct calls the field of a part."""
@@ -178,7 +188,15 @@ class Wide:
     def found(self, part):
         """The type of the references, as a call names it."""
         name, lives = self.lent(part)
-        return f"{name}<{', '.join(['%s_' % chr(39)] * len(lives))}>"
+        return f"{name}<{', '.join([*(chr(39) + '_' for _ in lives), self.named(part)])}>"
+
+    def named(self, part):
+        """The tuple of the part's fields, in which nothing borrows for less than the whole run."""
+        return ("StaticFields" if part.lifetime else "Fields") + self.number(part)
+
+    def columns(self, part):
+        """The columns of the part."""
+        return f"{self.called('Columns', part)}<{self.named(part)}>"
 
     def part_text(self, number, part):
         """A part: its fields, what it stands for, and its coders."""
@@ -213,15 +231,18 @@ class Wide:
             part=part.name + bounds(part, ""),
             fields="".join(f"\n    {name}: {type}," for name, type in zip(names, types)) + "\n",
             body=text,
-            lent=f"{lent}<{', '.join(lives)}>",
-            lives=f"<{', '.join(lives)}>",
+            lent=f"{lent}<{', '.join([*lives, self.named(part)])}>",
+            simple_lent=lent,
+            lent_lives=", ".join(lives),
             life=bounds(part, ""),
             references=halved([f"&{self.lent_life} {type}" for type in types]),
             unnamed_references=halved(["&" + type for type in types]),
             whole="; ".join(f"{quoted(name)} = {place}.now" for name, place in zip(names, places(count, "l.fields"))),
             fields_of=alias,
-            owned_parts=re.sub(rf"{part.lifetime}\b", "'static", halved(types)) if part.lifetime else alias,
-            columns=part.name.replace("Part", "Columns"),
+            static=f"type {self.named(part)} = {re.sub(rf'{part.lifetime}%sb' % chr(92), chr(39) + 'static', halved(types))};\n\n" if part.lifetime else "",
+            owned_parts=self.named(part),
+            columns=self.columns(part),
+            simple_columns=self.called("Columns", part),
             parts=alias + bounds(part, ""),
             found=self.found(part),
             built=self.built(part, False),
@@ -258,9 +279,8 @@ class Wide:
 
     def encoder(self, parts):
         """The encoder of the struct: those of its parts, to which it lends its fields."""
-        columns = [part.name.replace("Part", "Columns") for part in self.parts]
         return Template(WHOLE).substitute(
-            columns=paired(columns).replace("(", "TupleEncoder<").replace(")", ">"),
+            columns=paired(list(map(self.columns, self.parts))).replace("(", "TupleEncoder<").replace(")", ">"),
             life=bounds(self.struct, ""),
             name=self.struct.name + bounds(self.struct, ""),
             parts=parts,
@@ -273,6 +293,7 @@ class Wide:
         text = "".join(self.part_text(number, part) for number, part in enumerate(self.parts, 1)) + self.whole()
         used = {"Shaped", *(name for name in USED if re.search(rf"\b{name}\b", text))}
         coder = {name for name in CODER if re.search(rf"\b{name}\b", text)}
+        imports = {*imports, "std::marker::PhantomData"}
         head = Template(HEAD).substitute(
             about=f"`{self.struct.name}` stands for structs of parts of its fields. What is below its declaration was written by `scripts/new_type`.",
             prelude="refl",

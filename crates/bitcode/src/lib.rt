@@ -254,9 +254,9 @@ pub type EncoderOfFields<const K: usize, P> = StructEncoder<
 /// The decoder of a struct, which stands for the tuple `P` of its fields.
 pub type DecoderOfFields<'a, P> = PartsDecoder<P, <P as HasDecoder<'a>>::Decoder>;
 
-/// The traits that coders meet, and the result of their calls.
+/// The traits that coders meet, the result of their calls, and `both`, which joins the answers of two reads.
 pub mod coder {
-    pub use bitcode_coder::coder::{Buffer, Decoder, Encoder, HoldsColumns, HoldsData, View};
+    pub use bitcode_coder::coder::{Buffer, Decoder, Encoder, HoldsColumns, HoldsData, View, both};
     pub use bitcode_coder::result::Result;
 }
 
