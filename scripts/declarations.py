@@ -3,22 +3,28 @@
 import re
 from collections import namedtuple
 
-# What std derives; what others derive of a type that the library writes, which the impls of scripts/new_type say; and the
-# attributes that change nothing of how a type is written and read.
+# What std derives, and what others derive of a type that the library writes, in whose place scripts/new_type writes impls.
 DERIVED = set("Clone Copy Debug Default Drop Eq Hash Ord PartialEq PartialOrd".split())
-SAID = set("Decode Deserialize Encode Serialize".split())
-ATTRIBUTES = set("allow doc must_use non_exhaustive repr".split())
+SAID = {"Decode": "bitcode", "Deserialize": "serde", "Encode": "bitcode", "Serialize": "serde"}
+# The attributes that change nothing of how a type is written and read, and that the toolchain knows: of fields, variants and types.
+OF_FIELDS = set("allow deny deprecated doc expect forbid warn".split())
+OF_VARIANTS = {*OF_FIELDS, "default", "non_exhaustive"}
+ATTRIBUTES = {*OF_FIELDS, "must_use", "non_exhaustive", "repr"}
+DOCS = set("hidden inline no_inline".split())
 
 # What cannot be a name in Rust or in Rattle.
 KEYWORDS = set("abstract as async await become box break const continue crate do dyn else enum extern false final fn for gen ghost if "
                "impl in let loop macro match mod move mut override priv pub ref return self Self static struct super trait true try type "
                "typeof unsafe unsized use virtual where while yield".split())
 
+# Other items that stand beside declarations.
+OTHERS = set("async const extern fn impl macro_rules static trait type unsafe".split())
+
 Token = namedtuple("Token", "kind text line")
 # A field's type: `kind` is path, reference, slice, array, tuple, or number; `name` the last word of a path, a lifetime or a length;
 # `path` has the words of a path as it was written.
 Type = namedtuple("Type", "kind name parts line path", defaults=((),))
-Field = namedtuple("Field", "docs seen name type line")
+Field = namedtuple("Field", "docs seen name type line attributes", defaults=((),))
 Struct = namedtuple("Struct", "docs derives attributes seen name lifetime types fields kind line")
 # `kind` is unit, tuple or named; `number` what stands behind a variant's `=`.
 Variant = namedtuple("Variant", "docs attributes name fields kind number line")
@@ -54,6 +60,12 @@ def behind_comment(text, start):
     raise Refused(1 + text.count("\n", 0, start), "`*/` is missing: this comment does not end")
 
 
+def documented(text):
+    """The lines of a comment of documentation between `/**` and `*/`."""
+    lines = [re.sub(r"^\s*\* ?", "", line).strip() for line in text.strip().split("\n")]
+    return [line for place, line in enumerate(lines) if line or 0 < place < len(lines) - 1]
+
+
 def tokens(text):
     """The tokens of the text. Comments are dropped, and comments of documentation kept."""
     found, line, place = [], 1, 0
@@ -65,7 +77,9 @@ def tokens(text):
     while place < len(text):
         match = form.match(text, place)
         end = behind_comment(text, place) if match.lastgroup == "comment" else match.end()
-        if match.lastgroup not in ("none", "comment"):
+        if match.lastgroup == "comment" and re.match(r"/\*\*(?![*/])", text[place:end]):
+            found += [Token("doc", f"/// {words}".rstrip(), line) for words in documented(text[place + 3 : end - 2])]
+        elif match.lastgroup not in ("none", "comment"):
             found.append(Token(match.lastgroup, match.group(), line))
         line += text.count("\n", place, end)
         place = end
@@ -77,6 +91,8 @@ class Parser:
 
     def __init__(self, text):
         self.tokens, self.at = tokens(text), 0
+        # What the script takes off, or writes otherwise.
+        self.notes = []
 
     def peek(self, *texts):
         return self.tokens[self.at].text in texts
@@ -124,8 +140,8 @@ class Parser:
             texts.append(token.text)
         return texts[:-1]
 
-    def heads(self):
-        """Comments of documentation, derives and other attributes before an item or a field."""
+    def heads(self, of, known):
+        """Comments of documentation, derives and other attributes before an item, a variant or a field, which may have the known ones."""
         docs, derives, attributes = [], [], []
         while self.tokens[self.at].kind == "doc" or self.peek("#"):
             token = self.next()
@@ -136,34 +152,44 @@ class Parser:
                 raise Refused(token.line, "an attribute of the whole file is not there: leave it out")
             self.expect("[")
             inner = self.balanced("[", "]")
-            if inner[:2] == ["derive", "("]:
-                derives += self.derived("".join(inner[2:-1]), token.line)
+            if inner[:2] != ["derive", "("]:
+                attributes.append(self.attribute(inner, token.line, of, known))
+            elif of != "type":
+                raise Refused(token.line, f"a {of} derives nothing: leave the `derive` out")
             else:
-                attributes.append(self.attribute(inner, token.line))
+                derives += self.derived("".join(inner[2:-1]), token.line)
         return docs, derives, attributes
 
     def derived(self, text, line):
-        """The names of a derive."""
-        names = []
+        """The names of a derive; what the script writes in its place is noted."""
+        names, taken = [], []
         for path in filter(None, text.split(",")):
             *before, name = path.split("::")
-            if not (name in DERIVED and before[:1] in ([], ["std"], ["core"]) or name in SAID and before[:1] in ([], ["bitcode"], ["serde"])):
+            if name in SAID and before in ([], ["bitcode"], ["serde"]):
+                taken.append(path)
+            elif name in DERIVED and before[:1] in ([], ["std"], ["core"]):
+                names.append(name)
+            else:
                 raise Refused(line, f"`{path}` is no derive of std: leave it out, and write its impl by hand")
-            names.append(name)
+        for crate in ("bitcode", "serde"):
+            own = [path for path in taken if SAID[path.split("::")[-1]] == crate]
+            why = "the impls below are in its place" if crate == "bitcode" else "the toolchain has no derive of serde (docs/DIFFERENCES.md)"
+            self.notes += [f"line {line}: `derive({', '.join(own)})` is taken off: {why}"] if own else []
         return names
 
-    def attribute(self, inner, line):
-        """An attribute of an item, as it is written again."""
+    def attribute(self, inner, line, of, known):
+        """An attribute, as it is written again."""
         name = inner[0] if inner else ""
         text = "#[" + name + ("(..)" if len(inner) > 1 else "") + "]"
         if name in ("serde", "bitcode"):
             raise Refused(line, f"`{text}` is not there: all fields are written, in their order. Leave it out")
         if name in ("cfg", "cfg_attr"):
             raise Refused(line, f"`{text}` may take away what the impls below are of: leave it out")
-        if name == "repr" and not {"C", "transparent", "u8"} & set(inner):
+        if name == "repr" and of == "type" and not {"C", "transparent", "u8"} & set(inner):
             raise Refused(line, f"`#[{''.join(inner)}]` is not there: leave it out, or write `#[repr(C)]` or `#[repr(u8)]`")
-        if name not in ATTRIBUTES and inner != ["default"]:
-            raise Refused(line, f"`{text}` is not there: leave it out")
+        is_known = name in known and (name != "doc" or inner[1:2] == ["="] or set(inner[2:-1]) <= DOCS)
+        if not is_known or name == "default" and len(inner) > 1:
+            raise Refused(line, f"`{text}` is not there{'' if of == 'type' else f' for a {of}'}: leave it out")
         return "#[" + "".join(inner) + "]"
 
     def seen(self):
@@ -225,14 +251,12 @@ class Parser:
             raise Refused(self.line(), "leave the `where` out: the impls have the bounds that they need")
 
     def field(self, named):
-        docs, derives, attributes = self.heads()
-        if derives or attributes:
-            raise Refused(self.line(), "an attribute of a field is not there: leave it out")
+        docs, _, attributes = self.heads("field", OF_FIELDS)
         seen, line = self.seen(), self.line()
         name = self.name() if named else None
         if named:
             self.expect(":")
-        return Field(docs, seen, name, self.type(), line)
+        return Field(docs, seen, name, self.type(), line, attributes)
 
     def head(self, word):
         """The name of an item, and the lifetime and the types that it takes."""
@@ -242,8 +266,10 @@ class Parser:
         if "'static" in parameters or "'_" in parameters:
             raise Refused(line, f"the text is of the input that the {word} is read from: write `{word} {name}<'a>`")
         types = [text for text in parameters if text[0] != "'"]
-        if len(parameters) > len(types) + 1:
-            raise Refused(line, f"a value is read from one input: give the {word} one lifetime")
+        lifetimes = [text for text in parameters if text[0] == "'"]
+        if len(lifetimes) > 1:
+            others = ", ".join(f"`{text}`" for text in lifetimes[1:])
+            raise Refused(line, f"a value is read from one input, and has one lifetime: write `{word} {name}<{', '.join([lifetimes[0], *types])}>`, and `{lifetimes[0]}` for {others}")
         self.no_where()
         return name, parameters[0] if len(parameters) > len(types) else "", types, line
 
@@ -272,9 +298,7 @@ class Parser:
         return Struct(docs, derives, attributes, seen, name, lifetime, types, fields, kind, line)
 
     def variant(self):
-        docs, derives, attributes = self.heads()
-        if derives or set(attributes) - {"#[default]"}:
-            raise Refused(self.line(), "an attribute of a variant is not there, but `#[default]`: leave it out")
+        docs, _, attributes = self.heads("variant", OF_VARIANTS)
         line, name = self.line(), self.name()
         fields, kind = self.fields()
         if any(field.seen for field in fields):
@@ -298,6 +322,13 @@ class Parser:
             raise Refused(line, "a `repr` beside numbers of variants is not there: leave one of them out")
         return Enum(docs, derives, attributes, seen, name, lifetime, types, variants, line)
 
+    def refuse_module(self):
+        """Each type that the script writes is in a file of its own, right in src/."""
+        line, name = self.line(), self.name()
+        if self.peek(";"):
+            raise Refused(line, f"leave `mod {name};` out, and write `use crate::{name}::..;` for a type that is there")
+        raise Refused(line, f"each type gets a module of its own, right in src/: write the declarations of `mod {name}` without the `mod` around them")
+
     def use(self, before=()):
         """What a `use` line brings in, or a part of it behind these words."""
         line, path = self.line(), list(before)
@@ -318,7 +349,7 @@ class Parser:
         """The structs and enums of the file, and what its `use` lines bring in."""
         items, uses = [], []
         while self.tokens[self.at].kind != "end":
-            docs, derives, attributes = self.heads()
+            docs, derives, attributes = self.heads("type", ATTRIBUTES)
             seen = self.seen()
             if self.take("use"):
                 self.take("::")
@@ -330,6 +361,10 @@ class Parser:
                 items.append(self.enum(docs, derives, attributes, seen))
             elif self.peek("union"):
                 raise Refused(self.line(), "a union does not say which of its fields is there: write an enum")
+            elif self.take("mod"):
+                self.refuse_module()
+            elif self.peek(*OTHERS):
+                raise Refused(self.line(), f"only structs, enums and `use` lines are read here: put the `{self.tokens[self.at].text}` into another file of your crate")
             else:
                 raise Refused(self.line(), f"a struct or an enum is expected here, and not `{self.tokens[self.at].text}`")
         return items, uses

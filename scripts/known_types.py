@@ -48,7 +48,10 @@ INSTEAD = {
     "f64": "keep its bits, `x.to_bits()`, in a `u64`",
     "str": "write `&'a str`, `String`, `BoxedStr` or `RcStr`",
     "Cow": "write `&'a str` or `String`",
+    "CowStr": "write `&'a str` or `String`",
     "Arc": "write `Rc<T>` or the value itself",
+    "ArcStr": "write `RcStr`",
+    "ArcSlice": "write `RcSlice<T>`",
     "Cell": "write the value itself",
     "RefCell": "write the value itself",
     "PathBuf": "write `String`",
@@ -58,8 +61,8 @@ INSTEAD = {
     "NonZero": "write `NonZeroU8` and so on",
     "IndexMap": "write `Vec<(K, V)>`",
 }
-# A tuple, a struct and a variant have no more fields than these.
-MOST_FIELDS = 16
+# A tuple and a variant have no more fields than these, and a struct no more than those.
+MOST_FIELDS, MOST_STRUCT_FIELDS = 16, 64
 # The borrow checker covers no decoder that names more types than so many. A struct in between ends that. Of a struct's decoder fewer are
 # left, so that a type which holds it in a list or an option can have a struct in between too.
 MOST_TYPES, MOST_LEFT = 32, 24
@@ -72,7 +75,14 @@ def of_text(type):
         return "(" + ", ".join(map(of_text, type.parts)) + ("," if len(type.parts) == 1 else "") + ")"
     if type.kind == "array":
         return f"[{of_text(type.parts[0])}; {type.name}]"
+    if type.kind == "slice":
+        return f"[{of_text(type.parts[0])}]"
     return type.name + (f"<{', '.join(map(of_text, type.parts))}>" if type.parts else "")
+
+
+def is_unsized(type):
+    """Whether this is a text or a slice, which only a pointer holds."""
+    return type.kind == "slice" or type.kind == "path" and type.name == "str"
 
 
 def types_in(type, own):
@@ -197,12 +207,7 @@ class Checker:
             return
         known = TYPES.get(type.name)
         if not known:
-            instead = INSTEAD.get(type.name, f"a type of your own needs a line `use crate::..::{type.name};` or its declaration above")
-            raise Refused(type.line, f"`{type.name}` is no type that the library writes: {instead}")
-        for part, text in (("str", "Str"), ("slice", "Slice")):
-            if type.name in ("Box", "Rc") and type.parts and part in (type.parts[0].kind, type.parts[0].name):
-                of = f"<{of_text(type.parts[0].parts[0])}>" if text == "Slice" else ""
-                raise Refused(type.line, f"write `{'Boxed' if type.name == 'Box' else 'Rc'}{text}{of}`")
+            raise Refused(type.line, f"`{type.name}` is no type that the library writes: {self.instead(type)}")
         numbers = [part for part in type.parts if part.kind == "number"]
         types = [part for part in type.parts if part.kind != "number"]
         if (len(types), len(numbers)) != (known.types, known.numbers):
@@ -230,6 +235,17 @@ class Checker:
             raise Refused(type.line, f"`{type.name}` is no type that is here: write one that is, or leave the marker out")
         for part in type.parts:
             self.marked(part)
+
+    def instead(self, type):
+        """What to write in the place of a type that the library does not write."""
+        held = [part for part in type.parts if part.kind != "lifetime"]
+        if type.name in ("Arc", "Cow") and held and held[0].kind == "slice":
+            return f"write `{'Rc' if type.name == 'Arc' else 'Boxed'}Slice<{of_text(held[0].parts[0])}>` or `Vec<{of_text(held[0].parts[0])}>`"
+        if type.name == "Arc" and held and is_unsized(held[0]):
+            return "write `RcStr` or `String`"
+        if type.name == "Cow" and held and not is_unsized(held[0]):
+            return "write the value itself"
+        return INSTEAD.get(type.name, f"a type of your own needs a line `use crate::..::{type.name};` or its declaration above")
 
     def own_type(self, type):
         path, item, *_ = self.own[type.name]

@@ -1,7 +1,7 @@
 """What the paths of a file name: types that the library writes and reads, and types of one's own."""
 
-from declarations import SAID, Refused, fields_of
-from known_types import TYPES
+from declarations import SAID, Refused, Struct, Type, Use, fields_of
+from known_types import TYPES, is_unsized, of_text
 
 # Where the types are that no `use` line has to bring in; those of them that are not named here are in std::primitive.
 MODULES = {"Box": "boxed", "Option": "option", "Result": "result", "String": "string", "Vec": "vec"}
@@ -52,9 +52,21 @@ def imports_of(uses):
     return own, named
 
 
-def resolve(items, own, named):
-    """Sees that each path in the items is that of the type that its last word names here."""
+def resolve(items, own, named, taken):
+    """Sees that each path in the items is that of the type that its last word names here. One from `crate` on is brought in."""
     declared = {item.name for item in items}
+
+    def bring_in(path, line, parameters):
+        name = path[-1]
+        if path[0] != "crate":
+            raise Refused(line, f"write the path of `{name}` from `crate` on: the file stands in src/")
+        if name in declared:
+            raise Refused(line, f"write `{name}`: it is declared here")
+        if name in taken or name in parameters:
+            raise Refused(line, f"`{name}` is the name of another type: choose one of its own")
+        if name in own and own[name].path != path:
+            raise Refused(line, f"`{name}` is `{'::'.join(own[name].path)}` already: choose another name for one of them")
+        own[name] = Use(name, path, line)
 
     def see(type, parameters):
         for part in type.parts:
@@ -64,10 +76,7 @@ def resolve(items, own, named):
         path = (*named[type.path[0]].path, *type.path[1:]) if type.path[0] in named else type.path
         name = path[-1]
         if path[0] in ("crate", "self", "super"):
-            if name in declared:
-                raise Refused(type.line, f"write `{name}`: it is declared here")
-            if name not in own or own[name].path != path:
-                raise Refused(type.line, f"write `use {'::'.join(path)};` above, and `{name}` here")
+            bring_in(path, type.line, parameters)
         elif not is_known(path) and (path[0] not in STD or name in TYPES or name in {*declared, *own, *parameters}):
             refuse(path, type.line)
         elif is_known(path) and name in {*declared, *own, *parameters}:
@@ -76,3 +85,25 @@ def resolve(items, own, named):
     for item in items:
         for field in fields_of(item):
             see(field.type, item.types)
+
+
+def sized(items, notes):
+    """The items with a type that has a size for each `Box` and `Rc` of a text or a slice, which the toolchain does not have."""
+
+    def of_type(type):
+        declared, type = of_text(type), type._replace(parts=[of_type(part) for part in type.parts])
+        if type.kind != "path" or type.name not in ("Box", "Rc") or len(type.parts) != 1 or not is_unsized(type.parts[0]):
+            return type
+        inner, head = type.parts[0], "Boxed" if type.name == "Box" else "Rc"
+        written = Type("path", head + ("Slice" if inner.kind == "slice" else "Str"), inner.parts, type.line)
+        notes.append(f"line {type.line}: `{declared}` is written `{of_text(written)}`")
+        return written
+
+    def of_fields(fields):
+        return [field._replace(type=of_type(field.type)) for field in fields]
+
+    return [
+        item._replace(fields=of_fields(item.fields)) if isinstance(item, Struct)
+        else item._replace(variants=[variant._replace(fields=of_fields(variant.fields)) for variant in item.variants])
+        for item in items
+    ]

@@ -14,10 +14,10 @@ def declaration(enum):
         return "\n".join([*lines[:-1], lines[-1] + "}", ""])
     for variant in enum.variants:
         lines += [*variant.docs, *variant.attributes]
-        fields = [(*field.docs, f"{field.name}: {of_text(field.type)}," if variant.kind == "named" else of_text(field.type) + ",") for field in variant.fields]
+        fields = [(*field.docs, *field.attributes, f"{field.name}: {of_text(field.type)}," if variant.kind == "named" else of_text(field.type) + ",") for field in variant.fields]
         opening, closing = {"named": (" {", "}"), "tuple": ("(", ")"), "unit": ("", "")}[variant.kind]
         number = f" = {variant.number}" if variant.number else ""
-        if any(field.docs for field in variant.fields):
+        if any(field.docs or field.attributes for field in variant.fields):
             lines += [variant.name + opening, *(line for field in fields for line in field), closing + ","]
         else:
             inner = " ".join(line for field in fields for line in field).removesuffix(",")

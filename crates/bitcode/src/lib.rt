@@ -218,9 +218,9 @@ pub mod own {
     pub type DecoderOfFields<'a, P> = PartsDecoder<P, <P as HasDecoder<'a>>::Decoder>;
 }
 
-/// The traits that coders meet, and the result of their calls.
+/// The traits that coders meet, the result of their calls, and `both`, which joins the answers of two reads.
 pub mod coder {
-    pub use bitcode_coder::coder::{Buffer, Decoder, Encoder, HoldsColumns, HoldsData, View};
+    pub use bitcode_coder::coder::{Buffer, Decoder, Encoder, HoldsColumns, HoldsData, View, both};
     pub use bitcode_coder::result::Result;
 }
 

@@ -3,13 +3,12 @@ ghost use Rattle.std.specs.Prelude.{true, min, refl, false, ◌+◌};
 ghost use Rattle.bitcode.specs.ByHand.{struct_lawful, struct_makeable, u32_lawful, u32_makeable, str_lawful, str_makeable, struct_same_arrays, u32_same_arrays, str_same_arrays, two, pairs_of};
 ghost use Rattle.bitcode_by_hand.specs.Foo.{foo_fields};
 
-use bitcode::coder::{Buffer, HoldsColumns, HoldsData, Result};
+use bitcode::coder::{Buffer, HoldsColumns, HoldsData, Result, both};
 use bitcode::own::SameArrays;
 use bitcode::{
     Decoder, Encoder, HasDecoder, HasEncoder, IntDecoder, IntEncoder, Made, Shaped, StrDecoder,
     StrEncoder, TupleDecoder, View,
 };
-use bitcode_coder::coder::both;
 use std::alloc::Global;
 
 /// A number and a text.

@@ -7,13 +7,12 @@ ghost use Rattle.bitcode.specs.ByHand.{IsVariantValue, ListsChoice, ListsVariant
 ghost use Rattle.bitcode.specs.ByHand.{no_columns, two, choices_of, variant_room, variants_left, image_same_arrays, choice_same_arrays, first_same_arrays, last_same_arrays, u8_same_arrays, i8_same_arrays, variants_owned};
 ghost use Rattle.bitcode_by_hand.specs.Two.{two_variant, two_found};
 
-use bitcode::coder::{Buffer, HoldsColumns, HoldsData, Result};
+use bitcode::coder::{Buffer, HoldsColumns, HoldsData, Result, both};
 use bitcode::own::{SameArrays, encode_payload};
 use bitcode::{
     DecodeOwned, Decoder, Encoder, HasDecoder, HasEncoder, IntDecoder, IntEncoder, Made,
     ResultDecoder, Shaped, VariantDecoder, VariantEncoder, View,
 };
-use bitcode_coder::coder::both;
 use std::alloc::Global;
 
 /// A byte without sign or one with a sign.
