@@ -25,7 +25,7 @@ WORDS = {
     "docs/DIFFERENCES.md": 1500,
     "docs/FORMAT.md": 3500,
     "docs/GUIDE.md": 2500,
-    "docs/PROMISES.md": 3350,
+    "docs/PROMISES.md": 3400,
     "docs/PROVING.md": 800,
     "docs/SEALED.md": 600,
     "docs/SPEED.md": 700,
