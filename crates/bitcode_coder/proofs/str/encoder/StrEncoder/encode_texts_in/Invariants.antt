@@ -1,4 +1,4 @@
-use Rattle.std.proofs.Common.{◌≡◌, ◌+◌, ◌-◌, ◌≤◌, length, map, take}
+use Rattle.std.proofs.Common.{◌+◌, ◌-◌, ◌≤◌, length, map, take}
 use Rattle.bitcode_columns.specs.Fast.{fast_items}
 use Rattle.bitcode_coder.specs.Cutting.{cut}
 use Rattle.bitcode_coder.specs.Length.{written_lengths, length_room}
