@@ -18,6 +18,7 @@ pub mod LawLemmas
 pub mod ArrayCountLemmas
 pub mod EachLemmas
 pub mod PushingLemmas
+pub mod PushedTextLemmas
 pub mod TakingLemmas
 pub mod RefusalLemmas
 pub mod CheckedLemmas

@@ -1,12 +1,10 @@
 //! Slices that are written one behind the other.
-ghost use Rattle.std.specs.Prelude.{◌≡◌, ◌⊎◌, ◌+◌, ◌≤◌, ◌++◌, length, sum_by, All, IfOk, IfErr};
+ghost use Rattle.std.specs.Prelude.{◌≡◌, ◌⊎◌, length, sum_by, All, IfOk, IfErr};
 ghost use Rattle.std.specs.List.{flat_map};
 ghost use Rattle.std.specs.Mem.{type_size};
 ghost use Rattle.bitcode_columns.specs.declared.error.Reason.{Reason};
-ghost use Rattle.bitcode_columns.specs.Fast.{fast_items, fast_room};
 
 use bitcode_columns::error::{Error, Reason};
-use bitcode_columns::fast::FastVec;
 use bitcode_columns::refuse::err;
 use bitcode_shapes::lists::told_each;
 use bitcode_shapes::shaped::Shaped;
@@ -39,34 +37,6 @@ pub fn joined_length<T>(slices: &[&[T]]) -> Result<usize, Error>
         }
     }
     Ok(total)
-}
-
-/// For how many items [`push_joined`] needs room: for all that the slices have, and 15 more.
-pub fn joined_room<T>(slices: &[&[T]]) -> Result<usize, Error>
-    ensures sum { IfOk result (λ n. n ≡ sum_by (λ slice. length slice.now) slices.now + 15) }
-    ensures refused { IfErr result (λ e. e.reason ≡ Reason.OutOfMemory) }
-{
-    match joined_length(slices)?.checked_add(15) {
-        Some(room) => Ok(room),
-        None => err(Reason::OutOfMemory),
-    }
-}
-
-/// Pushes the items of the slices, in room that was reserved. The list is taken and given back: behind a reference its length would
-/// be read and written at each slice.
-pub fn push_joined<T: Copy>(mut list: FastVec<T>, slices: &[&[T]]) -> FastVec<T>
-    requires { sum_by (λ slice. length slice.now) slices.now + 15 ≤ fast_room list }
-    ensures items { fast_items result ≡ fast_items list ++ flat_map (λ slice. slice.now) slices.now }
-    ensures room { fast_room list ≤ fast_room result + sum_by (λ slice. length slice.now) slices.now }
-{
-    if list.len() >= 8 {
-        list.extend_each_unchecked(slices);
-        return list;
-    }
-    for slice in slices {
-        list.extend_unchecked(*slice);
-    }
-    list
 }
 
 /// The items of the slices in hand are values of their type.

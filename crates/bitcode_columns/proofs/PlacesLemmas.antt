@@ -1,8 +1,8 @@
 -- The first items of places, after writes behind them.
-use Rattle.std.proofs.Common.{◌≡◌, refl, ℕ, suc, ◌+◌, ◌<◌, ◌≤◌, List, [], ◌∷◌, ◌++◌, length, take, drop, get_or, sym, ap, ◌∙◌, arith, append_assoc, length-append, take_at, take-append-drop}
+use Rattle.std.proofs.Common.{◌≡◌, refl, ◌⊎◌, inl, inr, subst, ℕ, suc, ◌+◌, ◌<◌, ◌≤◌, List, [], ◌∷◌, ◌++◌, length, take, drop, get_or, sym, ap, ◌∙◌, arith, append_assoc, length-append, take_at, take-append-drop}
 use Rattle.std.specs.List.{refill}
 use Rattle.std.proofs.Math.Seq.{take-suc}
-use Rattle.std.proofs.lemmas.List.{take_all, take-take, length-take, length-drop}
+use Rattle.std.proofs.lemmas.List.{take_all, take-take, length-take, length-drop, nil_from_length}
 
 module _ {X : Type 0} where
   -- nothing lies behind the item that was written last
@@ -54,3 +54,21 @@ module _ {X : Type 0} where
   front_kept old new block n k fits written =
       sym (take-take (n + 0) (n + k) new (omega arith)) ∙ ap (take (n + 0)) written
       ∙ front_more (take n old) block n 0 (omega (arith, length-take n old))
+
+  -- all items were written, or others where there are none
+  pub written_or : (old new block src : List X) (n k : ℕ) → (length src ≡ k) ⊎ (length src ≡ 0) → (k ≤ length src → block ≡ take k src)
+      → n ≤ length old → take (n + length block) new ≡ take n old ++ block → take (n + length src) new ≡ take n old ++ src
+  written_or old new block src n k (inl all) is_front fits written =
+      let same : block ≡ src = is_front (omega arith) ∙ take_all k src (omega arith) in
+      subst (λ items. take (n + length items) new ≡ take n old ++ items) same written
+  written_or old new block src n k (inr none) is_front fits written =
+      subst (λ items. take (n + length items) new ≡ take n old ++ items) (sym (nil_from_length src none))
+      (front_kept old new block n (length block) fits written)
+
+  -- some items were written, and then those behind them
+  pub then_written : (old first last src front back : List X) (n : ℕ) → src ≡ front ++ back → take (n + length front) first ≡ take n old ++ front
+      → take (n + length front + length back) last ≡ take (n + length front) first ++ back → take (n + length src) last ≡ take n old ++ src
+  then_written old first last src front back n parts written after =
+      let all : n + length src ≡ n + length front + length back = omega (arith, ap length parts, length-append front back) in
+      ap (λ k. take k last) all ∙ after ∙ ap (λ items. items ++ back) written ∙ append_assoc (take n old) front back
+      ∙ ap (λ items. take n old ++ items) (sym parts)

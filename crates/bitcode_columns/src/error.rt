@@ -45,7 +45,7 @@ pub enum Reason {
     OutOfMemory,
     /// A shape refers to an entry that is not there, or to itself without end.
     BadShape,
-    /// A column stands in other bytes than are written for its entries, where only these are accepted.
+    /// A column is not encoded as `encode` would: only a strict reading asks.
     NotTheWrittenText,
     /// A value has more nodes than its reader allows.
     TooManyNodes,

@@ -14,7 +14,7 @@ use std::alloc::Global;
 
 /// Writes values of one type, one after the other, into memory that it keeps.
 ///
-/// Each call stands for itself: what came before it, refusals too, changes nothing of what is written.
+/// Calls are independent: earlier ones, failed ones too, change nothing of what is written.
 ///
 /// ```rust
 /// let mut buffer: Buffer<(bool, u16)> = Buffer::new(alloc);

@@ -20,10 +20,10 @@ pub enum OpenError {
     /// The head is not one that was sealed, so nothing that it says is known, nor where the next sealed bytes begin.
     #[error("the head is damaged")]
     HeadDamaged,
-    /// The value is of another kind, this one.
+    /// The value has another kind: the one found.
     #[error("of another kind: {found}")]
     AnotherKind { found: u32 },
-    /// The value is of another version, this one.
+    /// The value has another version: the one found.
     #[error("of another version: {found}")]
     AnotherVersion { found: u16 },
     /// The value has so many bytes, more than the program would take.

@@ -39,9 +39,9 @@ pub trait Payload {
 /// A type whose values can be the elements of sets and the keys of maps, and that says as data what its `==` and its order promise: so
 /// the sets and maps of such keys are a `Payload`. It has no functions.
 ///
-/// Every `Key` of this crate that has an order and is a `Payload` is one, if what it holds is. A type of one's own says it by a line of its
-/// own. The `==` and the order that it says have to be those of the type as they are written, and not only in what they answer: else the
-/// check refuses each enum by number that has a set or a map of the type in a field. A struct of one or two fields with a derived `Ord` is
+/// Each `Key` of this crate with an order and a `Payload` has it, if its parts do. A type of a user says it by a line of its own. The
+/// `==` and the order that it says have to be those of the type as they are written, and not only in what they answer: else the check
+/// refuses each enum by number that has a set or a map of the type in a field. A struct of one or two fields with a derived `Ord` is
 /// compared as the tuple of its fields:
 ///
 /// ```rust,from:crates/bitcode_own_types/src/spot.rt

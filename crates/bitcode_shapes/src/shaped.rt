@@ -23,7 +23,7 @@ pub trait Shaped {
     // nothing in a value is kept in an order of its own, so that it has one listing
     ghost in_order: { Bool };
 
-    /// A value in hand is one.
+    /// Every value keeps what `is_value` says.
     fn told(&self)
         ensures { is_value self.now };
 

@@ -128,8 +128,8 @@ impl<'a> LengthDecoder<'a> {
 
     /// Whether the lengths that are left break the limit `N`. Takes no memory.
     ///
-    /// For `N` below 255 the bytes are asked, so that a 255 breaks it whatever length it stands for: 255, 6, 2 is the
-    /// one length 2, and is over 100. For a greater `N` the lengths are asked.
+    /// For `N` below 255 the bytes are compared with `N`, so that a 255 exceeds it whatever length follows: 255, 6, 2 is
+    /// the one length 2, and is over 100. For a greater `N` the lengths are compared.
     pub fn any_greater_than<const N: usize>(&self) -> bool
         ensures { MatchBool result (KeepsCap (Some N) (short_left self.now) (lengths_left self.now) → ⊥) (KeepsCap (Some N) (short_left self.now) (lengths_left self.now)) }
     {

@@ -1,8 +1,7 @@
 //! The coder that texts are written to.
-ghost use Rattle.std.specs.Prelude.{◌≡◌, ◌+◌, ◌<◌, ◌≤◌, ◌++◌, [], None, false, length, map, take, sum, OnOk, IfErr};
-ghost use Rattle.std.specs.List.{AllZip};
+ghost use Rattle.std.specs.Prelude.{◌≡◌, ◌+◌, ◌*◌, ◌<◌, ◌≤◌, ◌++◌, [], ◌∷◌, None, false, length, map, take, sum, IfOk, OnOk, IfErr};
 ghost use Rattle.std.proofs.Common.{sym};
-ghost use Rattle.bitcode_columns.specs.Fast.{fast_items, fast_capacity};
+ghost use Rattle.bitcode_columns.specs.Fast.{fast_items, fast_room, fast_capacity};
 ghost use Rattle.bitcode_shapes.specs.Datum.{text};
 ghost use Rattle.bitcode_coder.specs.Coder.{BeginsWith};
 ghost use Rattle.bitcode_coder.specs.Columns.{texts, one};
@@ -12,9 +11,8 @@ ghost use Rattle.bitcode_coder.specs.Length.{written_lengths, length_room, lengt
 ghost use Rattle.bitcode_coder.specs.LengthColumn.{length_bytes};
 
 use crate::coder::{Buffer, Encoder, HoldsColumns, MAX_VECTORED_CHUNK};
-use crate::length::{ChunkWidth, LengthEncoder};
+use crate::length::LengthEncoder;
 use crate::part::Part;
-use crate::slices::{joined_room, push_joined};
 use crate::str::AsText;
 use bitcode_columns::error::{Error, Reason};
 use bitcode_columns::fast::FastVec;
@@ -34,8 +32,8 @@ use std::mem::replace;
 pub struct StrEncoder {
     alloc: Global,
     lengths: LengthEncoder,
-    width: ChunkWidth,
     bytes: FastVec<u8>,
+    others: [u8; 8],
     ghost whole: { sum (written_lengths lengths) ≡ length (fast_items bytes) },
 }
 
@@ -52,55 +50,136 @@ fn pack_texts(lengths: &mut LengthEncoder, bytes: &[u8], out: &mut Vec<u8>) -> R
     Ok(())
 }
 
-// The bytes of the text that is a part of each item, before others that were there.
-fn gather_texts<'b, S, P: AsText + 'b, W: Part<S, P>>(
-    items: &'b [S],
-    which: &'b W,
-    texts: &mut [&'b [u8]; MAX_VECTORED_CHUNK],
-)
-    requires { length items.now ≤ MAX_VECTORED_CHUNK }
-    ensures size { length texts.new ≡ MAX_VECTORED_CHUNK }
-    ensures gathered { AllZip (λ t bytes. P.lists t (text bytes)) (map (W.of which.now) items.now) (map (λ bytes. bytes.now) (take (length items.now) texts.new)) }
+// Lengths and bytes of texts, behind those that were there, and how many texts were pushed.
+struct Pushed {
+    lengths: LengthEncoder,
+    bytes: FastVec<u8>,
+    count: usize,
+}
+
+// Pushes the text that is a part of each item, up to the first one of 16 bytes or more. The lists are taken and given back: behind a
+// reference their own lengths would be read and written at each text.
+fn push_short<S, P: AsText, W: Part<S, P>>(
+    mut lengths: LengthEncoder,
+    mut bytes: FastVec<u8>,
+    items: &[S],
+    which: &W,
+    others: &[u8; 8],
+) -> Pushed
+    requires whole { sum (written_lengths lengths) ≡ length (fast_items bytes) }
+    requires lengths { length items.now ≤ length_room lengths }
+    requires bytes { 15 * length items.now ≤ fast_room bytes }
+    ensures count { result.count ≤ length items.now }
+    ensures written { PushesTexts P.lists (map (W.of which.now) (take result.count items.now)) (cut (written_lengths lengths) (fast_items bytes)) (cut (written_lengths result.lengths) (fast_items result.bytes)) }
+    ensures whole { sum (written_lengths result.lengths) ≡ length (fast_items result.bytes) }
+    ensures room { length_room lengths ≡ length_room result.lengths + result.count }
 {
-    for i in 0..items.len() {
-        texts[i] = which.part(&items[i]).as_text().as_bytes();
+    let mut count = 0usize;
+    for item in items {
+        let text = which.part(item).as_text().as_bytes();
+        if text.len() >= 16 {
+            break;
+        }
+        lengths.encode_less_than_255(text.len());
+        bytes.extend_few(text, others);
+        count += 1;
+    }
+    Pushed {
+        lengths,
+        bytes,
+        count,
     }
 }
 
 impl StrEncoder {
     // Writes the text that is a part of each item. Room for them was reserved.
-    fn encode_texts_in<'b, S, P: AsText + 'b, W: Part<S, P>>(
+    fn encode_texts_in<S, P: AsText, W: Part<S, P>>(
         &mut self,
-        items: &'b [S],
-        which: &'b W,
+        items: &[S],
+        which: &W,
     ) -> Result<(), Error>
-        requires chunk { (0 < length items.now) × (length items.now ≤ MAX_VECTORED_CHUNK) }
+        requires chunk { length items.now ≤ MAX_VECTORED_CHUNK }
         requires room { length items.now ≤ length_room self.old.lengths }
         ensures written { OnOk result (PushesTexts P.lists (map (W.of which.now) items.now) (cut (written_lengths self.old.lengths) (fast_items self.old.bytes)) (cut (written_lengths self.new.lengths) (fast_items self.new.bytes))) }
         ensures room { OnOk result (length_room self.old.lengths ≤ length_room self.new.lengths + length items.now) }
         ensures refused { IfErr result (λ e. e.reason ≡ Reason.OutOfMemory) }
     {
-        let first = which.part(&items[0]).as_text().as_bytes();
-        let mut texts = [first; MAX_VECTORED_CHUNK];
-        gather_texts(items, which, &mut texts);
-        self.encode_texts(&texts[..items.len()])
+        let mut done = 0usize;
+        while done < items.len() {
+            done += self.encode_short(&items[done..], which)?;
+            done += self.encode_long(&items[done..], which)?;
+        }
+        Ok(())
     }
 
-    // Writes texts, of which the bytes are given: the lengths of all, and then the bytes of all. Room for them was reserved.
-    fn encode_texts(&mut self, texts: &[&[u8]]) -> Result<(), Error>
-        requires { length texts.now ≤ length_room self.old.lengths }
-        ensures written { OnOk result (cut (written_lengths self.new.lengths) (fast_items self.new.bytes) ≡ cut (written_lengths self.old.lengths) (fast_items self.old.bytes) ++ map (λ bytes. bytes.now) texts.now) }
-        ensures room { OnOk result (length_room self.old.lengths ≤ length_room self.new.lengths + length texts.now) }
+    // Writes the text that is a part of each item, up to the first one of 16 bytes or more. Answers how many were written.
+    fn encode_short<S, P: AsText, W: Part<S, P>>(
+        &mut self,
+        items: &[S],
+        which: &W,
+    ) -> Result<usize, Error>
+        requires chunk { length items.now ≤ MAX_VECTORED_CHUNK }
+        requires room { length items.now ≤ length_room self.old.lengths }
+        ensures count { IfOk result (λ n. n ≤ length items.now) }
+        ensures written { IfOk result (λ n. PushesTexts P.lists (map (W.of which.now) (take n items.now)) (cut (written_lengths self.old.lengths) (fast_items self.old.bytes)) (cut (written_lengths self.new.lengths) (fast_items self.new.bytes))) }
+        ensures room { IfOk result (λ n. length_room self.old.lengths ≤ length_room self.new.lengths + n) }
         ensures refused { IfErr result (λ e. e.reason ≡ Reason.OutOfMemory) }
     {
-        self.bytes.reserve(joined_room(texts)?)?;
-        if let Err(e) = self.lengths.encode_chunk(texts, &mut self.width, 1) {
-            self.lengths.clear();
-            self.bytes.clear();
-            return Err(e);
-        }
+        self.bytes.reserve(15 * items.len())?;
+        let lengths = replace(&mut self.lengths, LengthEncoder::new(self.alloc));
         let bytes = replace(&mut self.bytes, FastVec::new(self.alloc));
-        self.bytes = push_joined(bytes, texts);
+        let Pushed {
+            lengths,
+            bytes,
+            count,
+        } = push_short(lengths, bytes, items, which, &self.others);
+        self.lengths = lengths;
+        self.bytes = bytes;
+        Ok(count)
+    }
+
+    // Writes the text that is a part of the first item, and then those of 16 bytes and more. Answers how many were written.
+    #[inline(never)]
+    fn encode_long<S, P: AsText, W: Part<S, P>>(
+        &mut self,
+        items: &[S],
+        which: &W,
+    ) -> Result<usize, Error>
+        requires { length items.now ≤ length_room self.old.lengths }
+        ensures count { IfOk result (λ n. n ≤ length items.now) }
+        ensures some { IfOk result (λ n. 0 < length items.now → 0 < n) }
+        ensures written { IfOk result (λ n. PushesTexts P.lists (map (W.of which.now) (take n items.now)) (cut (written_lengths self.old.lengths) (fast_items self.old.bytes)) (cut (written_lengths self.new.lengths) (fast_items self.new.bytes))) }
+        ensures room { IfOk result (λ n. length_room self.old.lengths ≤ length_room self.new.lengths + n) }
+        ensures refused { IfErr result (λ e. e.reason ≡ Reason.OutOfMemory) }
+    {
+        let mut count = 0usize;
+        for item in items {
+            let text = which.part(item).as_text().as_bytes();
+            if count > 0 && text.len() < 16 {
+                break;
+            }
+            self.encode_text(text)?;
+            count += 1;
+        }
+        Ok(count)
+    }
+
+    // Writes a text, of which the bytes are given. Room for it was reserved.
+    fn encode_text(&mut self, bytes: &[u8]) -> Result<(), Error>
+        requires { 0 < length_room self.old.lengths }
+        ensures written { OnOk result (cut (written_lengths self.new.lengths) (fast_items self.new.bytes) ≡ cut (written_lengths self.old.lengths) (fast_items self.old.bytes) ++ bytes.now ∷ []) }
+        ensures room { OnOk result (length_room self.old.lengths ≤ length_room self.new.lengths + 1) }
+        ensures refused { IfErr result (λ e. e.reason ≡ Reason.OutOfMemory) }
+    {
+        if bytes.len() < 16 {
+            self.bytes.reserve(15)?;
+            self.lengths.encode_less_than_255(bytes.len());
+            self.bytes.extend_few(bytes, &self.others);
+            return Ok(());
+        }
+        self.bytes.reserve(bytes.len())?;
+        self.lengths.encode(bytes.len())?;
+        self.bytes.extend_unchecked(bytes);
         Ok(())
     }
 }
@@ -122,8 +201,8 @@ impl Buffer for StrEncoder {
         StrEncoder {
             alloc,
             lengths: LengthEncoder::new(alloc),
-            width: ChunkWidth::first(1),
             bytes: FastVec::new(alloc),
+            others: [0; 8],
         }
     }
 
@@ -148,11 +227,7 @@ impl<P: AsText> Encoder<P> for StrEncoder {
     ghost writes_free = { false };
 
     fn encode(&mut self, t: &P) -> Result<(), Error> {
-        let bytes = t.as_text().as_bytes();
-        self.bytes.reserve(bytes.len())?;
-        self.lengths.encode(bytes.len())?;
-        self.bytes.extend_unchecked(bytes);
-        Ok(())
+        self.encode_text(t.as_text().as_bytes())
     }
 
     fn encode_part_of_each<S, W: Part<S, P>>(

@@ -1,5 +1,5 @@
 //! The memory of a list with room: places side by side, of which the first hold items.
-ghost use Rattle.std.specs.Prelude.{◌≡◌, ℕ, ◌+◌, ◌^◌, ◌<◌, ◌≤◌, List, [], ◌∷◌, ◌++◌, length, take, IfOk, ⊤};
+ghost use Rattle.std.specs.Prelude.{◌≡◌, ◌⊎◌, ℕ, ◌+◌, ◌^◌, ◌<◌, ◌≤◌, List, [], ◌∷◌, ◌++◌, length, take, IfOk, ⊤};
 ghost use Rattle.std.specs.Borrow.{sem};
 ghost use Rattle.std.specs.Vec.Ownership.{FitsInBlock};
 ghost use base.Fml.{ftrue};
@@ -220,6 +220,55 @@ impl<T> Places<T> {
         let block = *first_of(src, self.slice(start, N).first_chunk::<N>().unwrap());
         self.write_each(start, index, &block);
         if src.len() < N { 0 } else { N }
+    }
+
+    /// Writes fewer than 16 items behind the first `index` ones. Those behind them are forgotten.
+    ///
+    /// One of them is written, then two, four and eight, where the count has that bit. Where it has not, as many others are
+    /// written, and what is next comes over them: so no branch depends on the count, which would be guessed wrongly.
+    #[inline(always)]
+    pub(crate) fn write_few(&mut self, start: Start<T>, index: usize, src: &[T], others: &[T; 8])
+    where
+        T: Copy,
+        requires size { length src.now < 16 }
+        requires places { (start.ptr ≡ self.old.at) × (index ≤ length self.old.items) × (length self.old.items ≤ self.old.capacity) }
+        requires room { (index + 15 ≤ self.old.capacity) × (self.old.capacity < 2 ^ 63) }
+        ensures places { (self.new.at ≡ self.old.at) × (self.new.capacity ≡ self.old.capacity) }
+        ensures counts { (index + length src.now ≤ length self.new.items) × (length self.new.items ≤ self.new.capacity) }
+        ensures items { take (index + length src.now) self.new.items ≡ take index self.old.items ++ src.now }
+    {
+        let (one, rest) = src.split_at(src.len() % 2);
+        self.write_or::<1>(start, index, one, others);
+        let (two, rest) = rest.split_at(rest.len() % 4);
+        let index = index + one.len();
+        self.write_or::<2>(start, index, two, others);
+        let (four, eight) = rest.split_at(rest.len() % 8);
+        let index = index + two.len();
+        self.write_or::<4>(start, index, four, others);
+        self.write_or::<8>(start, index + four.len(), eight, others);
+    }
+
+    // Writes `N` items, or as many others where the slice has none.
+    #[inline(always)]
+    fn write_or<const N: usize>(
+        &mut self,
+        start: Start<T>,
+        index: usize,
+        src: &[T],
+        others: &[T; 8],
+    )
+    where
+        T: Copy,
+        requires number { N ≤ 8 }
+        requires size { (length src.now ≡ N) ⊎ (length src.now ≡ 0) }
+        requires places { (start.ptr ≡ self.old.at) × (index ≤ length self.old.items) × (length self.old.items ≤ self.old.capacity) }
+        requires room { (index + N ≤ self.old.capacity) × (self.old.capacity < 2 ^ 63) }
+        ensures places { (self.new.at ≡ self.old.at) × (self.new.capacity ≡ self.old.capacity) }
+        ensures counts { (index + length src.now ≤ length self.new.items) × (length self.new.items ≤ self.new.capacity) }
+        ensures items { take (index + length src.now) self.new.items ≡ take index self.old.items ++ src.now }
+    {
+        let block = *first_of(src, others.first_chunk::<N>().unwrap());
+        self.write_each(start, index, &block);
     }
 
     // Writes the items of a slice, at least 32 of them: those of whole blocks one by one, and then the last 32.

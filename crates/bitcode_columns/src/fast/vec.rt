@@ -26,8 +26,7 @@ pub struct FastVec<T: Copy> {
 }
 
 impl<T: Copy> FastVec<T> {
-    ghost use Rattle.std.specs.Prelude.{[], ◌∷◌, ◌++◌, ◌+◌, vec_len, sum_by, IsOk, IfOk, OnOk, IfErr, OnErr};
-    ghost use Rattle.std.specs.List.{flat_map};
+    ghost use Rattle.std.specs.Prelude.{[], ◌∷◌, ◌++◌, ◌+◌, vec_len, IsOk, IfOk, OnOk, IfErr, OnErr};
     ghost use Rattle.std.specs.Borrow.{sem};
     ghost use Rattle.bitcode_columns.specs.Fast.{fast_items, fast_room};
     ghost use Rattle.bitcode_columns.specs.Lending.{with_fast_items, LendsItems};
@@ -156,27 +155,19 @@ impl<T: Copy> FastVec<T> {
         }
     }
 
-    /// Pushes the items of several slices, behind eight items or more, in room that was reserved for them and 15 more.
+    /// Pushes fewer than 16 items, in room for 15 that was reserved.
     ///
-    /// Fewer than 16 items are copied without a look at the list. A loop that holds nothing but these copies would be given branches
-    /// by the compiler, which are guessed wrongly.
-    pub fn extend_each_unchecked(&mut self, slices: &[&[T]])
-        requires before { 8 ≤ length (fast_items self.old) }
-        requires room { sum_by (λ slice. length slice.now) slices.now + 15 ≤ fast_room self.old }
-        ensures items { fast_items self.new ≡ fast_items self.old ++ flat_map (λ slice. slice.now) slices.now }
-        ensures room { fast_room self.old ≤ fast_room self.new + sum_by (λ slice. length slice.now) slices.now }
+    /// `others` are written for a time where the items end. What they are does not matter, but the compiler is not to know them: it
+    /// would look at the count instead.
+    #[inline(always)]
+    pub fn extend_few(&mut self, slice: &[T], others: &[T; 8])
+        requires size { length slice.now < 16 }
+        requires room { 15 ≤ fast_room self.old }
+        ensures items { fast_items self.new ≡ fast_items self.old ++ slice.now }
+        ensures room { fast_room self.old ≡ fast_room self.new + length slice.now }
     {
-        let (start, mut len) = (self.start, self.len);
-        for slice in slices {
-            let count = <[T]>::len(*slice);
-            if count < 16 {
-                self.places.write_short(start, len, *slice);
-            } else {
-                self.places.write_all(start, len, *slice);
-            }
-            len += count;
-        }
-        self.len = len;
+        self.places.write_few(self.start, self.len, slice, others);
+        self.len += slice.len();
     }
 
     // The same for many items, and for few where `write_short` does not serve.

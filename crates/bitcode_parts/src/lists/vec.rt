@@ -261,7 +261,7 @@ impl<'a, D: View<'a>> View<'a> for VecDecoder<'a, D> {
 impl<'a, D> VecDecoder<'a, D> {
     /// Makes a container of the next length and so many elements. One length is left.
     ///
-    /// A decoder of a container of one's own is this call. `out of memory` is its only refusal.
+    /// The decoder of a user-defined container calls this. `out of memory` is its only refusal.
     ///
     /// ```rust,from:crates/bitcode_own_types/src/scores.rt
     /// self.lists.decode_as()
