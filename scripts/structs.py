@@ -67,11 +67,11 @@ ENCODER = """impl$has_encoder HasEncoder for $name {
 # The decoder struct of a type of fields.
 APART = """/// The decoder of $what: the borrow checker covers no decoder that names as many types as all fields do.
 #[derive(Drop)]
-pub struct $apart<$input> {
-    field: $inner,
+pub struct $simple<$input$parameter> {
+    field: $inner,$mark
 }
 
-impl<$input> HoldsData for $apart<$input> {
+impl<$input> HoldsData for $apart {
     ghost shape = { ⟦<$inner as HoldsData>⟧.shape };
 
     ghost held = { λ d. ⟦<$inner as HoldsData>⟧.held d.field };
@@ -79,11 +79,11 @@ impl<$input> HoldsData for $apart<$input> {
     ghost owned = { λ d. ⟦<$inner as HoldsData>⟧.owned d.field };
 }
 
-impl<$input> View<$input> for $apart<$input> {
+impl<$input> View<$input> for $apart {
     ghost faults = { ⟦<$inner as View<$input>>⟧.faults };
 
     fn new(alloc: Global) -> Self {
-        $apart { field: View::new(alloc) }
+        $simple { field: View::new(alloc),$marked }
     }
 
     fn read(&mut self, input: &mut &$input [u8], k: usize, strict: bool) -> Result<bool, Error> {
@@ -91,7 +91,7 @@ impl<$input> View<$input> for $apart<$input> {
     }
 }
 
-impl<$input> Decoder<$type> for $apart<$input> {
+impl<$input> Decoder<$type> for $apart {
     ghost makes_free = { ⟦<$inner as Decoder<$type>>⟧.makes_free };
 
     fn decode(&mut self) -> Result<$type, Error> {
@@ -249,13 +249,15 @@ def decoder(item, own, input, parts):
     if item.types or most > MOST_TYPES:
         raise Refused(line, f"the fields name more than the {MOST_TYPES} types of which the borrow checker covers a decoder: put some of them into a struct of their own, without type parameters")
     apart = {text: f"{item.name}Decoder{number}" for number, text in enumerate(found)}
-    texts = [apart_text(f"each field of `{item.name}` that is a `{text}`", input, name, f"<{text} as HasDecoder<{input}>>::Decoder", text) for text, name in apart.items()]
+    texts = [apart_text(f"each field of `{item.name}` that is a `{text}`", input, name, "", f"<{text} as HasDecoder<{input}>>::Decoder", text) for text, name in apart.items()]
     return f"PartsDecoder<{parts}, {decoders([of_text(field.type) for field in fields], apart, input)}>", "".join(texts)
 
 
-def apart_text(what, input, name, inner, type):
-    """A decoder struct around another decoder, whose values are of the type."""
-    return Template(APART).substitute(what=what, apart=name, input=input, inner=inner, type=type)
+def apart_text(what, input, name, named, inner, type):
+    """A decoder struct around another decoder, whose values are of the type. It names what the toolchain needs to state that."""
+    apart = f"{name}<{input}{', ' + named if named else ''}>"
+    row = {"parameter": ", P", "mark": "\n    of: PhantomData<P>,", "marked": " of: PhantomData,"} if named else {"parameter": "", "mark": "", "marked": ""}
+    return Template(APART).substitute(row, what=what, simple=name, apart=apart, input=input, inner=inner, type=type)
 
 
 def body(item, own, alias, encoder, decoded=None, is_long=False, **row):

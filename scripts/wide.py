@@ -4,14 +4,14 @@ import re
 from string import Template
 
 from declarations import Field, Refused, Struct, Type
-from known_types import MOST_FIELDS, MOST_LEFT, MOST_STRUCT_FIELDS, Checker, Own, of_text, says_laws
+from known_types import MOST_FIELDS, MOST_LEFT, MOST_STRUCT_FIELDS, Checker, Own, inside, of_text, says_laws
 from structs import apart_text, body, bounds, by_hand, declaration, decoder, halved, initialized, owned, parameter, places, quoted, types_left, uses, HEAD
 
 PART = """/// Fields of a `$simple` that follow each other.
 #[derive(Drop)]
 pub struct $part {$fields}
 
-$body
+$aliases$body
 /// References to the fields of a `$simple_part`. It names the tuple of these, so that the toolchain states what it is for.
 #[derive(Drop)]
 pub struct $simple_lent<$lent_lives, P> {
@@ -29,7 +29,7 @@ impl<$lent_lives> Fields for $lent {
     }
 }
 
-${static}type ${fields_of}Columns = <$owned_parts as HasEncoder>::Encoder;
+type ${fields_of}Columns = <$owned_parts as HasEncoder>::Encoder;
 
 /// The columns of a `$simple_part`. It names the tuple of its fields, as the references to them do.
 #[derive(Drop)]
@@ -190,9 +190,21 @@ class Wide:
         name, lives = self.lent(part)
         return f"{name}<{', '.join([*(chr(39) + '_' for _ in lives), self.named(part)])}>"
 
-    def named(self, part):
+    def static(self, part):
         """The tuple of the part's fields, in which nothing borrows for less than the whole run."""
         return ("StaticFields" if part.lifetime else "Fields") + self.number(part)
+
+    def named(self, part):
+        """What the coders of the part name, so that the toolchain states what they are for: the tuple, and what is inside of it."""
+        return self.static(part) if inside(part, self.own) == "()" else f"Inside{self.number(part)}"
+
+    def aliases(self, part, types):
+        """The names of these types."""
+        def whole_run(text):
+            return re.sub(rf"{part.lifetime}\b", "'static", text) if part.lifetime else text
+
+        text = f"type {self.static(part)} = {whole_run(halved(types))};\n\n" if part.lifetime else ""
+        return text if self.named(part) == self.static(part) else f"{text}type {self.named(part)} = ({self.static(part)}, {whole_run(inside(part, self.own))});\n\n"
 
     def columns(self, part):
         """The columns of the part."""
@@ -209,7 +221,8 @@ class Wide:
             if not self.are_apart:
                 return type, texts
             name = f"{self.struct.name}Decoder{number}"
-            return f"{name}<{input}>", texts + apart_text(f"a `{item.name}`", input, name, type, item.name + bounds(item, ""))
+            apart = apart_text(f"a `{item.name}`", input, name, self.named(part), type, item.name + bounds(item, ""))
+            return f"{name}<{input}, {self.named(part)}>", texts + apart
 
         text, _ = body(
             part,
@@ -239,8 +252,8 @@ class Wide:
             unnamed_references=halved(["&" + type for type in types]),
             whole="; ".join(f"{quoted(name)} = {place}.now" for name, place in zip(names, places(count, "l.fields"))),
             fields_of=alias,
-            static=f"type {self.named(part)} = {re.sub(rf'{part.lifetime}%sb' % chr(92), chr(39) + 'static', halved(types))};\n\n" if part.lifetime else "",
-            owned_parts=self.named(part),
+            aliases=self.aliases(part, types),
+            owned_parts=self.static(part),
             columns=self.columns(part),
             simple_columns=self.called("Columns", part),
             parts=alias + bounds(part, ""),
