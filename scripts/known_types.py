@@ -61,8 +61,8 @@ INSTEAD = {
     "NonZero": "write `NonZeroU8` and so on",
     "IndexMap": "write `Vec<(K, V)>`",
 }
-# A tuple and a variant have no more fields than these, and a struct no more than those.
-MOST_FIELDS, MOST_STRUCT_FIELDS = 16, 64
+# A tuple, a struct and a variant have no more fields than these.
+MOST_FIELDS = 16
 # The borrow checker covers no decoder that names more types than so many. A struct in between ends that. Of a struct's decoder fewer are
 # left, so that a type which holds it in a list or an option can have a struct in between too.
 MOST_TYPES, MOST_LEFT = 32, 24

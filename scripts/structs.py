@@ -4,7 +4,7 @@ import re
 from string import Template
 
 from declarations import Refused, fields_of
-from known_types import MOST_LEFT, MOST_TYPES, Checker, inside, of_text, says_laws, types_in
+from known_types import MOST_FIELDS, MOST_LEFT, MOST_TYPES, Checker, inside, of_text, says_laws, types_in
 
 # The names of fields without a name.
 ORDINALS = "first second third fourth fifth sixth seventh eighth ninth tenth eleventh twelfth thirteenth fourteenth fifteenth sixteenth".split()
@@ -23,13 +23,12 @@ QUOTED = set("data record deriving module package open abbrev axiom unfold unfol
 # A derive of the Rust crate says what this script writes.
 NOT_DERIVED = {"Encode", "Decode", "Serialize", "Deserialize", "Drop"}
 
-HEAD = """//! $about
-ghost use Rattle.std.specs.Prelude.{$prelude};
+FILE = """//! $about
+ghost use Rattle.std.specs.Prelude.{refl};
 $by_hand
 $uses
 $declaration
-"""
-BODY = """${alias}impl$shaped StandsFor for $name {
+${alias}impl$shaped StandsFor for $name {
 $ghost_use    type Parts = $parts;
     type Inside = $inside;
 
@@ -48,7 +47,11 @@ impl$made FromParts for $name {
     }
 }
 
-$payload${encoder}${apart}impl$has_decoder HasDecoder<$input> for $name {
+$payload${lends}impl$has_encoder HasEncoder for $name {
+    type Encoder = EncoderOfFields<$count, $parts>;
+}
+
+${apart}impl$has_decoder HasDecoder<$input> for $name {
     type Decoder = $decoder;
 }
 $owned"""
@@ -59,13 +62,8 @@ LENDS = """${aliases}impl$shaped LendsFields$count<$types> for $name {
 }
 
 """
-ENCODER = """impl$has_encoder HasEncoder for $name {
-    type Encoder = EncoderOfFields<$count, $parts>;
-}
-
-"""
 # The decoder struct of a type of fields.
-APART = """/// The decoder of $what: the borrow checker covers no decoder that names as many types as all fields do.
+APART = """/// The decoder of each field of `$simple` that is a `$type`: the borrow checker covers no decoder that names as many types as all fields do.
 #[derive(Drop)]
 pub struct $apart<$input> {
     field: $inner,
@@ -133,8 +131,7 @@ def places(count, whole="p"):
         return [whole]
     if count <= MOST_FLAT:
         return [f"{whole}.{i}" for i in range(count)]
-    half = count // 2
-    return [*places(half, whole + ".0"), *places(count - half, whole + ".1")]
+    return [f"{whole}.{half}.{i}" for half, size in ((0, count // 2), (1, count - count // 2)) for i in range(size)]
 
 
 def heads(item):
@@ -249,71 +246,47 @@ def decoder(item, own, input, parts):
     if item.types or most > MOST_TYPES:
         raise Refused(line, f"the fields name more than the {MOST_TYPES} types of which the borrow checker covers a decoder: put some of them into a struct of their own, without type parameters")
     apart = {text: f"{item.name}Decoder{number}" for number, text in enumerate(found)}
-    texts = [apart_text(f"each field of `{item.name}` that is a `{text}`", input, name, f"<{text} as HasDecoder<{input}>>::Decoder", text) for text, name in apart.items()]
+    texts = [Template(APART).substitute(simple=item.name, apart=name, input=input, inner=f"<{text} as HasDecoder<{input}>>::Decoder", type=text) for text, name in apart.items()]
     return f"PartsDecoder<{parts}, {decoders([of_text(field.type) for field in fields], apart, input)}>", "".join(texts)
 
 
-def apart_text(what, input, name, inner, type):
-    """A decoder struct around another decoder, whose values are of the type."""
-    return Template(APART).substitute(what=what, apart=name, input=input, inner=inner, type=type)
-
-
-def body(item, own, alias, encoder, decoded=None, is_long=False, **row):
-    """What is said of what stands for the tuple of its fields, without its declaration; and what of the library that uses."""
+def tuple_text(item, imports, own, lent, **row):
+    """The file of what stands for the tuple of its fields, of what is said of these."""
+    is_owned = not item.lifetime
     fields, name, input = fields_of(item), item.name + bounds(item, ""), item.lifetime or "'a"
+    used = {"EncoderOfFields", "FromParts", "HasDecoder", "HasEncoder", "StandsFor"}
+    used |= {f"LendsFields{len(fields)}"} if fields else set()
+    used |= {"Shaped"} if fields or item.types else set()
+    used |= {"Made"} if item.types else set()
+    used |= {"DecodeOwned"} if is_owned else set()
     tells = all(says_laws(field.type, own) for field in fields)
-    parts, alias = halved([of_text(field.type) for field in fields]) if fields else "()", alias + bounds(item, "")
-    is_long = is_long or len(row["pattern"]) + len(parts) > MOST_IN_LINE
-    type_of_decoder, apart = (decoded or decoder)(item, own, input, alias if is_long else parts)
-    used = {"FromParts", "HasDecoder", "StandsFor", *(("Shaped",) if fields or item.types else ()), *(("Made",) if item.types else ())}
-    used |= ({"Payload"} if tells else set()) | ({"Error", "PartsDecoder", "TupleDecoder"} if apart else {"DecoderOfFields"})
+    used |= {"Payload"} if tells else set()
+    parts, alias = halved([of_text(field.type) for field in fields]) if fields else "()", "Parts" + bounds(item, "")
+    is_long = len(row["pattern"]) + len(parts) > MOST_IN_LINE
+    type_of_decoder, apart = decoder(item, own, input, alias if is_long else parts)
+    used |= {"Error", "PartsDecoder", "TupleDecoder"} if apart else {"DecoderOfFields"}
+    imports = {*imports, *({"bitcode::coder::{Decoder, HoldsData, View}", "std::alloc::Global"} if apart else ())}
+    lines = [f"use bitcode::{{{', '.join(sorted(used))}}};", *(f"use {path};" for path in sorted(imports))]
     row |= {
         "decoder": type_of_decoder,
         "apart": apart,
         "alias": f"type {alias} = {parts};\n\n" if is_long else "",
+        "uses": "\n".join(sorted(lines)) + "\n",
         "name": name,
         "inside": inside(item, own),
         "parts": alias if is_long else parts,
         "shaped": bounds(item, "Shaped"),
         "made": bounds(item, "Made"),
+        "by_hand": "ghost use Rattle.bitcode.specs.ByHand.{stood_payload};\n" if tells else "",
         "payload": laws_as_data(item, alias if is_long else parts) + "\n" if tells else "",
-        "encoder": encoder(alias if is_long else parts),
+        "count": len(fields),
+        "has_encoder": bounds(item, "HasEncoder"),
         "has_decoder": bounds(item, f"HasDecoder<{input}>", input),
         "input": input,
+        "lends": lends(item, lent),
+        "owned": Template(OWNED).substitute(parameters=bounds(item, "DecodeOwned"), name=name) if is_owned else "",
     }
-    return Template(BODY).substitute({"ghost_use": "", "owned": "", **row}), used
-
-
-def uses(used, coder, imports):
-    """The lines that bring in what a file uses of the library, of the traits of its coders and of other types."""
-    coder = {f"bitcode::coder::{{{', '.join(sorted(coder))}}}", "std::alloc::Global"} if coder else set()
-    lines = [f"use bitcode::{{{', '.join(sorted(used))}}};", *(f"use {path};" for path in {*imports, *coder})]
-    return "\n".join(sorted(lines)) + "\n"
-
-
-def owned(item):
-    """That values of the type borrow nothing, where that is so."""
-    return "" if item.lifetime else Template(OWNED).substitute(parameters=bounds(item, "DecodeOwned"), name=item.name + bounds(item, ""))
-
-
-def by_hand(used):
-    """The line that brings in how a type says its laws as data, where it does."""
-    return "ghost use Rattle.bitcode.specs.ByHand.{stood_payload};\n" if "Payload" in used else ""
-
-
-def tuple_text(item, imports, own, lent, about, declaration, **row):
-    """The file of what stands for the tuple of its fields, of what is said of these."""
-    fields, name = fields_of(item), item.name + bounds(item, "")
-
-    def encoder(parts):
-        coders = Template(ENCODER).substitute(has_encoder=bounds(item, "HasEncoder"), name=name, count=len(fields), parts=parts)
-        return lends(item, lent) + coders
-
-    text, used = body(item, own, "Parts", encoder, owned=owned(item), **row)
-    coder = {"Decoder", "HoldsData", "View"} if "TupleDecoder" in used else set()
-    used |= {"EncoderOfFields", "HasEncoder", *((f"LendsFields{len(fields)}",) if fields else ()), *(() if item.lifetime else ("DecodeOwned",))}
-    head = Template(HEAD).substitute(about=about, prelude="refl", by_hand=by_hand(used), uses=uses(used, coder, imports), declaration=declaration)
-    return head + text
+    return Template(FILE).substitute(row)
 
 
 def file_text(struct, imports, own):
@@ -329,6 +302,7 @@ def file_text(struct, imports, own):
         halved([f"&self.{field.name}" for field in fields]) if fields else "",
         about=f"`{struct.name}` stands for the tuple of its fields. What is below its declaration was written by `scripts/new_type`.",
         declaration=declaration(struct),
+        ghost_use="",
         ghost_parts="λ t. " + (halved([f"t.{field.name}" for field in fields]) if fields else "tt"),
         ghost_made=f"record {{ {made} }}",
         told="".join(f"\n        self.{field.name}.told();" for field in fields) + ("\n    " if fields else ""),
@@ -340,6 +314,8 @@ def file_text(struct, imports, own):
 
 def struct_text(struct, own):
     """The file of a struct, and the crates that it needs."""
+    if len(struct.fields) > MOST_FIELDS:
+        raise Refused(struct.line, f"{len(struct.fields)} fields are more than 16: put some of them into a struct of their own")
     checker = Checker(struct, own)
     for field in struct.fields:
         checker.check(field.type)
