@@ -1,6 +1,6 @@
 //! One column of a table, without its rows.
 ghost use Rattle.std.specs.Prelude.{◌≡◌, ℕ, List, length, IfOk};
-ghost use Rattle.bitcode_shapes.specs.Datum.{Datum};
+ghost use Rattle.bitcode.specs.ByHand.{Datum};
 ghost use Rattle.column_report.specs.Table.{HasLastColumn, total_of};
 
 use bitcode::coder::HoldsData;
@@ -34,7 +34,8 @@ pub fn sum<D: Decoder<u32>>(column: &mut D, count: usize) -> Result<u128, Error>
 {
     let mut total: u128 = 0;
     for _row in 0..count {
-        total += u128::from(column.decode()?);
+        let entry: u32 = column.decode()?;
+        total += u128::from(entry);
     }
     Ok(total)
 }

@@ -1,11 +1,12 @@
 //! A stream of sealed messages, of which some may be damaged or cut off.
-ghost use Rattle.std.specs.Prelude.{◌≡◌, ◌<◌, ◌≤◌, ℕ, ◌+◌, length, slice_index, IfOk, OnErr};
-ghost use Rattle.bitcode_sealed.specs.Opening.{IsOpeningOfFront};
+ghost use Rattle.std.specs.Prelude.{◌≡◌, ◌<◌, ◌≤◌, ℕ, ◌+◌, length, slice_index, IfOk, IfErr, OnErr};
+ghost use Rattle.bitcode.specs.ByHand.{IsOpeningOfFront, IsRefusalOfFront};
 
 use crate::message::Message;
 use anyhow::Result;
+use bitcode::coder::HoldsData;
 use bitcode::sealed::{Expected, Label, OpenError, open_front};
-use bitcode::{Made, Shaped};
+use bitcode::{Decoder, HasDecoder, Made, Shaped, View};
 use std::alloc::Global;
 use std::io::Read;
 
@@ -21,22 +22,28 @@ const EXPECTED: Expected = Expected {
     most_bytes: 1 << 16,
 };
 
+type MessageDecoder<'a> = <Message<'a> as HasDecoder<'a>>::Decoder;
+
 /// How many bytes are read at once.
 const CHUNK: usize = 4096;
 
 /// The message at the front of the input, which then begins behind it.
+///
+/// Errors: what is first at fault. The input is then as it was, and where it is cut off, it may be tried again once more bytes
+/// have come.
 pub fn next_message<'a>(
     alloc: Global,
     input: &mut &'a [u8],
 ) -> std::result::Result<Message<'a>, OpenError>
     ensures found { IfOk result (λ message. IsOpeningOfFront ⟦<Message<'a> as Made>⟧.makes ⟦<Message<'a> as Shaped>⟧.shape EXPECTED input.old.now message input.new.now) }
+    ensures refused { IfErr result (λ e. IsRefusalOfFront ⟦<MessageDecoder<'a> as View<'a>>⟧.faults ⟦<MessageDecoder<'a> as Decoder<Message<'a>>>⟧.makes_free ⟦<MessageDecoder<'a> as HoldsData>⟧.shape ⟦<Message<'a> as Shaped>⟧.shape EXPECTED input.old.now e) }
     ensures unchanged { OnErr result (input.new.now ≡ input.old.now) }
 {
     open_front(alloc, &EXPECTED, input)
 }
 
-/// Where behind the first byte a frame may begin: at the two bytes that frames begin with, or at the first of them at the
-/// end of what has come. Else all of the bytes are passed over.
+/// Where behind the first byte the next message may begin: at the first two bytes of a head, or at the first of them where
+/// no more have come. Without such a place it is the end of the bytes.
 pub fn next_head(bytes: &[u8]) -> usize
     requires { 0 < length bytes.now }
     ensures forward { 0 < result }

@@ -1,8 +1,6 @@
 //! The records of a cache as bytes, sealed with the version of their types.
 ghost use Rattle.std.specs.Prelude.{IfOk, IfErr};
-ghost use Rattle.bitcode.specs.ByHand.{IsWritingRefusal, HasLongListing};
-ghost use Rattle.bitcode_sealed.specs.Sealing.{IsSealingOf};
-ghost use Rattle.bitcode_sealed.specs.Opening.{IsOpeningOf, IsRefusal};
+ghost use Rattle.bitcode.specs.ByHand.{HasLongListing, IsOpeningOf, IsRefusal, IsSealingOf, IsWritingRefusal};
 
 use crate::file_id::FileId;
 use crate::file_record::FileRecord;
@@ -14,6 +12,8 @@ use std::collections::HashMap;
 
 /// The records of files.
 pub type Records = HashMap<FileId, FileRecord>;
+
+type RecordsDecoder<'a> = <Records as HasDecoder<'a>>::Decoder;
 
 /// What a cache is sealed under. The version goes up with each change of `FileId` or `FileRecord`: older files are then
 /// refused, and not read as something else.
@@ -37,8 +37,9 @@ pub fn to_bytes(alloc: Global, records: &Records) -> Result<Vec<u8>, Error>
 }
 
 /// The records that are kept in the bytes of a file. Older, damaged and cut-off ones are refused, with what is at fault.
-pub fn from_bytes(alloc: Global, bytes: &[u8]) -> Result<Records, OpenError>
+pub fn from_bytes<'a>(alloc: Global, bytes: &'a [u8]) -> Result<Records, OpenError>
     ensures found { IfOk result (λ records. IsOpeningOf ⟦<Records as Made>⟧.makes ⟦<Records as Shaped>⟧.shape EXPECTED bytes.now records) }
+    ensures refused { IfErr result (λ e. IsRefusal ⟦<RecordsDecoder<'a> as View<'a>>⟧.faults ⟦<RecordsDecoder<'a> as Decoder<Records>>⟧.makes_free ⟦<RecordsDecoder<'a> as HoldsData>⟧.shape ⟦<Records as Shaped>⟧.shape EXPECTED bytes.now e) }
 {
     open::<Records>(alloc, &EXPECTED, bytes)
 }
