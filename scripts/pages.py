@@ -22,6 +22,7 @@ WORDS = {
     "docs/CODERS.md": 2500,
     "docs/DECISIONS.md": 2500,
     "docs/DIFFERENCES.md": 1500,
+    "docs/EXAMPLES.md": 1200,
     "docs/FORMAT.md": 3500,
     "docs/GUIDE.md": 2500,
     "docs/PROMISES.md": 4200,
