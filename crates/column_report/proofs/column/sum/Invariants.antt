@@ -1,5 +1,5 @@
 -- What was added and what is left make up the sum, and each entry is below 2^32.
-use Rattle.std.proofs.Common.{◌≡◌, ℕ, ◌+◌, ◌*◌, ◌^◌, ◌≤◌, length}
+use Rattle.std.proofs.Common.{◌≡◌, ◌+◌, ◌*◌, ◌^◌, ◌≤◌, length}
 use Rattle.column_report.specs.Table.{total_of}
 use Rattle.column_report.proofs.column.sum.Given as goal
 
