@@ -52,6 +52,14 @@ pub use Rattle.bitcode_shapes.specs.LawfulVectors.{vec_lawful, vec_makeable}
 pub use Rattle.bitcode_parts.specs.Elements.{MakesOfElements}
 -- What is written and read of bytes, the values that are surely read back, and that a reason not other than want of memory is
 -- want of memory:
-pub use Rattle.bitcode_shapes.specs.Datum.{Datum}
+pub use Rattle.bitcode_shapes.specs.Datum.{Datum, natural_in}
 pub use Rattle.bitcode_coder.specs.Coder.{IsWritingRefusal}
 pub use Rattle.bitcode_derive.specs.Whole.{IsEncodingOf, HasLongListing, HasShortLengths, IsDecodingOf, SpellsDatum, want_of_memory}
+-- What is sealed, and what is opened and refused:
+pub use Rattle.bitcode_sealed.specs.Sealing.{IsSealingOf, IsSealedBehind}
+pub use Rattle.bitcode_sealed.specs.Opening.{IsOpeningOf, IsOpeningOfFront, IsRefusal, IsRefusalOfFront}
+-- What is read column by column: a front of the input, and the data or the lengths that it spells:
+pub use Rattle.bitcode_columns.specs.Reading.{Reads}
+pub use Rattle.bitcode_shapes.specs.Shape.{Shape}
+pub use Rattle.bitcode_coder.specs.Spelling.{Spells}
+pub use Rattle.bitcode_coder.specs.LengthColumn.{SpellsLengths}

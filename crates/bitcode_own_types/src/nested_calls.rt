@@ -1,9 +1,8 @@
-//! Calls at nested types, as programs make them. Each of these functions is proved, so a program that reads and writes its own
-//! records is, however they nest.
+//! Calls at types that nest further than those of the programs. Each of these functions is proved, so a program that reads and
+//! writes its own records is, however they nest.
 
 use bitcode::{Decode, Encode, Error, decode, encode};
 use std::alloc::Global;
-use std::collections::BTreeMap;
 
 pub type Twelve = (u8, u8, u8, u8, u8, u8, u8, u8, u8, u8, u8, u8);
 
@@ -28,10 +27,6 @@ pub type Sixteen = (
 
 pub type Options = Vec<Option<(u64, u64, u64, u64, u64, u64, u64, u64, u64)>>;
 
-pub type Records = Vec<(u64, String, bool, Option<u32>, Vec<u8>)>;
-
-pub type Table = BTreeMap<u32, (String, Option<u64>, Vec<u16>)>;
-
 pub type Deep = Vec<Vec<Vec<Vec<Vec<Vec<u8>>>>>>;
 
 /// Reads twelve bytes, and writes them again.
@@ -50,18 +45,6 @@ pub fn sixteen(alloc: Global, bytes: &[u8]) -> Result<Vec<u8>, Error> {
 pub fn options(alloc: Global, bytes: &[u8]) -> Result<Vec<u8>, Error> {
     let options: Options = decode(alloc, bytes)?;
     encode(alloc, &options)
-}
-
-/// Reads records, and writes them again.
-pub fn records(alloc: Global, bytes: &[u8]) -> Result<Vec<u8>, Error> {
-    let records: Records = decode(alloc, bytes)?;
-    encode(alloc, &records)
-}
-
-/// Reads records by their keys, and writes them again.
-pub fn table(alloc: Global, bytes: &[u8]) -> Result<Vec<u8>, Error> {
-    let table: Table = decode(alloc, bytes)?;
-    encode(alloc, &table)
 }
 
 /// Reads lists in lists, six deep, and writes them again.

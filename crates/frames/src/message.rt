@@ -1,0 +1,160 @@
+//! `Message` is written and read by the numbers of its variants. What is below its declaration was written by `scripts/new_type`.
+ghost use Rattle.std.specs.Prelude.{◌≡◌, refl};
+ghost use Rattle.bitcode.specs.ByHand.{columns_in, each_variant, is_variant, last_payload, of_one_of_4, payload_and, payloads_in, stood_payload};
+ghost use Rattle.frames.specs.declared.message.Message.{Message};
+
+use crate::level::Level;
+use bitcode::own::{
+    AllColumns, AllPayloads, At, DecodersOf4, EncodersOf4, Enum, EnumDecoder, EnumEncoder, EnumOf,
+    Held, HeldIn, OneOf4, PartsDecoder, Payload, StandsFor, VariantColumns, VariantPayloads,
+    Variants4, WritesPayloads, WritesVariants, told_as,
+};
+use bitcode::{Error, HasDecoder, HasEncoder};
+use std::alloc::Global;
+
+/// What a device sends.
+#[derive(Debug, Clone, Copy, PartialEq)]
+pub enum Message<'a> {
+    Hello { name: &'a str, version: u16 },
+    Measured { sensor: u32, value: i64 },
+    Log(Level, &'a str),
+    Bye,
+}
+
+impl<'a> Enum for Message<'a> {
+    ghost each = { each_variant (payload_and ⟦<(&'a str, u16) as Payload>⟧.payload (payload_and ⟦<(u32, i64) as Payload>⟧.payload (payload_and ⟦<(Level, &'a str) as Payload>⟧.payload (last_payload ⟦<() as Payload>⟧.payload)))) (λ at. elim [ Message.Hello a b ↦ at 0 (a, b) | Message.Measured a b ↦ at 1 (a, b) | Message.Log a b ↦ at 2 (a, b) | Message.Bye ↦ at 3 tt ]) ((λ p. (Message.Hello p.0 p.1, refl)), ((λ p. (Message.Measured p.0 p.1, refl)), ((λ p. (Message.Log p.0 p.1, refl)), λ p. (Message.Bye, refl)))) };
+
+    ghost sized = { refl };
+
+    fn variant(&self) -> u8 {
+        match self {
+            Message::Hello { name, version } => told_as(0, &(name, version)),
+            Message::Measured { sensor, value } => told_as(1, &(sensor, value)),
+            Message::Log(a, b) => told_as(2, &(a, b)),
+            Message::Bye => 3,
+        }
+    }
+
+    ghost one_to_one = { elim [ Message.Hello a b ↦ refl | Message.Measured a b ↦ refl | Message.Log a b ↦ refl | Message.Bye ↦ refl ] };
+}
+
+impl<'a> EnumOf<4> for Message<'a> {
+    ghost count = { refl };
+}
+
+impl<'a> HeldIn for Message<'a> {
+    type Holder = Held<4, Message<'a>>;
+}
+
+impl<'a> Payload for Message<'a> {
+    ghost payload = { stood_payload ⟦<Message<'a> as StandsFor>⟧.parts ⟦<Message<'a> as StandsFor>⟧.of_parts ⟦<Held<4, Message<'a>> as Payload>⟧.payload };
+}
+
+impl<'a> Variants4<At<0>, (&'a str, u16), (u32, i64), (Level, &'a str), ()> for Message<'a> {
+    ghost values = { (λ p. Message.Hello p.0 p.1, λ p. Message.Measured p.0 p.1, λ p. Message.Log p.0 p.1, λ p. Message.Bye) };
+
+    fn of_payload(payload: OneOf4<(&'a str, u16), (u32, i64), (Level, &'a str), ()>) -> Self
+        ensures { result ≡ of_one_of_4 (λ p. Message.Hello p.0 p.1) (λ p. Message.Measured p.0 p.1) (λ p. Message.Log p.0 p.1) (λ p. Message.Bye) payload.entry }
+    {
+        match payload {
+            OneOf4::First((name, version)) => Message::Hello { name, version },
+            OneOf4::Second((sensor, value)) => Message::Measured { sensor, value },
+            OneOf4::Third((a, b)) => Message::Log(a, b),
+            OneOf4::Fourth(()) => Message::Bye,
+        }
+    }
+
+    ghost are = { (is_variant refl (λ p. refl) (λ p old new h. h) (λ p old h. h) (λ p old new h. h), is_variant refl (λ p. refl) (λ p old new h. h) (λ p old h. h) (λ p old new h. h), is_variant refl (λ p. refl) (λ p old new h. h) (λ p old h. h) (λ p old new h. h), is_variant refl (λ p. refl) (λ p old new h. h) (λ p old h. h) (λ p old new h. h)) };
+}
+
+type Columns = EncodersOf4<At<0>, (&'static str, u16), (u32, i64), (Level, &'static str), ()>;
+
+impl<'a> WritesVariants<Columns> for Message<'a> {
+    fn write(&self, to: &mut Columns) -> Result<(), Error> {
+        match self {
+            Message::Hello { name, version } => to.encode_first(self, &(name, version)),
+            Message::Measured { sensor, value } => to.encode_second(self, &(sensor, value)),
+            Message::Log(a, b) => to.encode_third(self, &(a, b)),
+            Message::Bye => to.encode_fourth(self, &&()),
+        }
+    }
+}
+
+type Decoders<'a> = DecodersOf4<'a, At<0>, (&'a str, u16), (u32, i64), (Level, &'a str), ()>;
+
+/// The columns of the payloads of `Message`.
+#[derive(Drop)]
+pub struct MessageColumns {
+    all: Columns,
+}
+
+impl AllColumns<4> for MessageColumns {
+    ghost held = { columns_in (λ c. c.all) ⟦<Columns as VariantColumns>⟧.columns };
+
+    fn new(alloc: Global) -> Self {
+        MessageColumns {
+            all: VariantColumns::new(alloc),
+        }
+    }
+
+    fn collect(&mut self, number: usize, out: &mut Vec<u8>) -> Result<(), Error> {
+        self.all.collect_payloads(number, out)
+    }
+
+    fn clear(&mut self, number: usize) {
+        self.all.clear_payloads(number);
+    }
+
+    ghost sized = { λ c. refl };
+}
+
+impl<'a> WritesPayloads<4, MessageColumns> for Message<'a> {
+    fn write_payload(&self, to: &mut MessageColumns) -> Result<(), Error> {
+        WritesVariants::<Columns>::write(self, &mut to.all)
+    }
+
+    ghost of_shapes = { λ c. refl };
+}
+
+/// The payloads that values of `Message` are made of.
+#[derive(Drop)]
+pub struct MessagePayloads<'a> {
+    all: Decoders<'a>,
+}
+
+impl<'a> AllPayloads<'a, 4, Message<'a>> for MessagePayloads<'a> {
+    ghost held = { payloads_in (λ d. d.all) ⟦<Decoders<'a> as VariantPayloads<'a, Message<'a>>>⟧.held };
+
+    fn new(alloc: Global) -> Self {
+        MessagePayloads {
+            all: VariantPayloads::<Message<'a>>::new(alloc),
+        }
+    }
+
+    fn read_at(
+        &mut self,
+        number: usize,
+        input: &mut &'a [u8],
+        k: usize,
+        strict: bool,
+    ) -> Result<bool, Error> {
+        VariantPayloads::<Message<'a>>::read_payloads(&mut self.all, number, input, k, strict)
+    }
+
+    fn decode_at(&mut self, number: usize) -> Result<Message<'a>, Error> {
+        self.all.decode_payload(number)
+    }
+
+    fn sized(&self) {}
+}
+
+impl<'a> HasEncoder for Message<'a> {
+    type Encoder = EnumEncoder<4, MessageColumns>;
+}
+
+impl<'a> HasDecoder<'a> for Message<'a> {
+    type Decoder = PartsDecoder<
+        Held<4, Message<'a>>,
+        EnumDecoder<'a, 4, Message<'a>, MessagePayloads<'a>>,
+    >;
+}

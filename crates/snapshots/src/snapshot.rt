@@ -1,0 +1,41 @@
+//! Snapshots of the entities as bytes.
+ghost use Rattle.std.specs.Prelude.{◌≢◌, IfOk, IfErr};
+ghost use Rattle.bitcode.specs.ByHand.{Datum, HasLongListing, HasShortLengths, IsDecodingOf, IsEncodingOf, IsWritingRefusal, SpellsDatum};
+
+use crate::entity::Entity;
+use bitcode::laws::comes_back;
+use bitcode::{Buffer, Error, Made, Reason, Shaped, decode};
+use std::alloc::Global;
+
+/// All entities of a tick.
+pub type Entities = Vec<Entity>;
+
+/// The snapshot of the entities, in the memory of the buffer, until its next call.
+pub fn take<'a>(buffer: &'a mut Buffer<Entities>, entities: &Entities) -> Result<&'a [u8], Error>
+    ensures written { IfOk result (λ bytes. IsEncodingOf ⟦<Entities as Shaped>⟧.lists ⟦<Entities as Shaped>⟧.shape entities.now bytes.now) }
+    ensures refused { IfErr result (λ e. IsWritingRefusal e.reason (HasLongListing ⟦<Entities as Shaped>⟧.lists ⟦<Entities as Shaped>⟧.shape entities.now)) }
+{
+    buffer.encode(entities)
+}
+
+/// The entities of a snapshot. Bytes that are none are refused.
+pub fn restore(alloc: Global, bytes: &[u8]) -> Result<Entities, Error>
+    ensures found { IfOk result (λ entities. IsDecodingOf ⟦<Entities as Made>⟧.makes ⟦<Entities as Shaped>⟧.shape bytes.now entities) }
+    ensures refused { IfErr result (λ e. e.reason ≢ Reason.OutOfMemory → (d : Datum) → SpellsDatum ⟦<Entities as Shaped>⟧.shape bytes.now d → ⊥) }
+{
+    decode(alloc, bytes)
+}
+
+/// Takes a snapshot of the entities and restores them: they are the same.
+pub fn restored(
+    alloc: Global,
+    buffer: &mut Buffer<Entities>,
+    entities: &Entities,
+) -> Result<Entities, Error>
+    ensures same { HasShortLengths ⟦<Entities as Shaped>⟧.lists ⟦<Entities as Shaped>⟧.shape entities.now → IfOk result (λ again. ⟦<Entities as Shaped>⟧.same entities.now again) }
+{
+    let bytes = take(buffer, entities)?;
+    let again = restore(alloc, bytes);
+    comes_back(entities, bytes, &again);
+    again
+}
