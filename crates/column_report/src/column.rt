@@ -11,7 +11,9 @@ use std::alloc::Global;
 ///
 /// The columns come in the order of the fields of `Sale`, behind the number of the rows.
 pub fn cents<'a>(alloc: Global, table: &'a [u8]) -> Result<(usize, IntDecoder<'a, u32>), Error>
-    ensures found { IfOk result (λ found. HasLastColumn ⟦<StrDecoder<'a> as HoldsData>⟧.shape ⟦<IntDecoder<'a, u16> as HoldsData>⟧.shape ⟦<IntDecoder<'a, u32> as HoldsData>⟧.shape table.now found.0 (⟦<IntDecoder<'a, u32> as HoldsData>⟧.held found.1)) }
+    ensures found { IfOk result (λ found. HasLastColumn ⟦<StrDecoder<'a> as HoldsData>⟧.shape
+        ⟦<IntDecoder<'a, u16> as HoldsData>⟧.shape ⟦<IntDecoder<'a, u32> as HoldsData>⟧.shape
+        table.now found.0 (⟦<IntDecoder<'a, u32> as HoldsData>⟧.held found.1)) }
 {
     let mut input = table;
     let mut lengths = LengthDecoder::new(alloc);
@@ -42,7 +44,11 @@ pub fn sum<D: Decoder<u32>>(column: &mut D, count: usize) -> Result<u128, Error>
 
 /// The sum of the amounts of a table, in cents. No row of it is made.
 pub fn total<'a>(alloc: Global, table: &'a [u8]) -> Result<u128, Error>
-    ensures found { IfOk result (λ total. (count : ℕ) × (entries : List Datum) × HasLastColumn ⟦<StrDecoder<'a> as HoldsData>⟧.shape ⟦<IntDecoder<'a, u16> as HoldsData>⟧.shape ⟦<IntDecoder<'a, u32> as HoldsData>⟧.shape table.now count entries × (total ≡ total_of entries)) }
+    ensures found { IfOk result (λ total. (count : ℕ) × (entries : List Datum)
+        × HasLastColumn ⟦<StrDecoder<'a> as HoldsData>⟧.shape
+        ⟦<IntDecoder<'a, u16> as HoldsData>⟧.shape ⟦<IntDecoder<'a, u32> as HoldsData>⟧.shape
+        table.now count entries
+        × (total ≡ total_of entries)) }
 {
     let (count, mut column) = cents(alloc, table)?;
     sum(&mut column, count)

@@ -29,26 +29,31 @@ const CHUNK: usize = 4096;
 
 /// The message at the front of the input, which then begins behind it.
 ///
-/// Errors: what is first at fault. The input is then as it was, and where it is cut off, it may be tried again once more bytes
-/// have come.
+/// Errors: what is first at fault. The input is then as it was, and where it is cut off, it may be
+/// tried again once more bytes have come.
 pub fn next_message<'a>(
     alloc: Global,
     input: &mut &'a [u8],
 ) -> std::result::Result<Message<'a>, OpenError>
-    ensures found { IfOk result (λ message. IsOpeningOfFront ⟦<Message<'a> as Made>⟧.makes ⟦<Message<'a> as Shaped>⟧.shape EXPECTED input.old.now message input.new.now) }
-    ensures refused { IfErr result (λ e. IsRefusalOfFront ⟦<MessageDecoder<'a> as View<'a>>⟧.faults ⟦<MessageDecoder<'a> as Decoder<Message<'a>>>⟧.makes_free ⟦<MessageDecoder<'a> as HoldsData>⟧.shape ⟦<Message<'a> as Shaped>⟧.shape EXPECTED input.old.now e) }
+    ensures found { IfOk result (λ message. IsOpeningOfFront ⟦<Message<'a> as Made>⟧.makes
+        ⟦<Message<'a> as Shaped>⟧.shape EXPECTED input.old.now message input.new.now) }
+    ensures refused { IfErr result (λ e. IsRefusalOfFront ⟦<MessageDecoder<'a> as View<'a>>⟧.faults
+        ⟦<MessageDecoder<'a> as Decoder<Message<'a>>>⟧.makes_free
+        ⟦<MessageDecoder<'a> as HoldsData>⟧.shape ⟦<Message<'a> as Shaped>⟧.shape EXPECTED
+        input.old.now e) }
     ensures unchanged { OnErr result (input.new.now ≡ input.old.now) }
 {
     open_front(alloc, &EXPECTED, input)
 }
 
-/// Where behind the first byte the next message may begin: at the first two bytes of a head, or at the first of them where
-/// no more have come. Without such a place it is the end of the bytes.
+/// Where behind the first byte the next message may begin: at the first two bytes of a head, or at
+/// the first of them where no more have come. Without such a place it is the end of the bytes.
 pub fn next_head(bytes: &[u8]) -> usize
     requires { 0 < length bytes.now }
     ensures forward { 0 < result }
     ensures inside { result ≤ length bytes.now }
-    ensures first { (at : ℕ) → 0 < at → at < result → slice_index bytes.now at ≡ 0xBC → slice_index bytes.now (at + 1) ≡ 0xF5 → ⊥ }
+    ensures first { (at : ℕ) → 0 < at → at < result → slice_index bytes.now at ≡ 0xBC
+        → slice_index bytes.now (at + 1) ≡ 0xF5 → ⊥ }
 {
     for at in 1..bytes.len() {
         if bytes[at] == 0xBC && (at + 1 == bytes.len() || bytes[at + 1] == 0xF5) {
@@ -58,8 +63,8 @@ pub fn next_head(bytes: &[u8]) -> usize
     bytes.len()
 }
 
-/// Prints the message at the front of the bytes, or why there is none, and answers how many bytes are done with: none where
-/// more are to come.
+/// Prints the message at the front of the bytes, or why there is none, and answers how many bytes
+/// are done with: none where more are to come.
 fn print_front(
     rt: &impl Print,
     alloc: Global,

@@ -15,8 +15,8 @@ pub type Records = HashMap<FileId, FileRecord>;
 
 type RecordsDecoder<'a> = <Records as HasDecoder<'a>>::Decoder;
 
-/// What a cache is sealed under. The version goes up with each change of `FileId` or `FileRecord`: older files are then
-/// refused, and not read as something else.
+/// What a cache is sealed under. The version goes up with each change of `FileId` or `FileRecord`:
+/// older files are then refused, and not read as something else.
 pub const CACHE: Label = Label {
     kind: 0x4341_4348,
     version: 2,
@@ -30,16 +30,22 @@ pub const EXPECTED: Expected = Expected {
 
 /// The bytes of a file that keeps the records.
 pub fn to_bytes(alloc: Global, records: &Records) -> Result<Vec<u8>, Error>
-    ensures written { IfOk result (λ bytes. IsSealingOf ⟦<Records as Shaped>⟧.lists ⟦<Records as Shaped>⟧.shape CACHE records.now bytes.items) }
-    ensures refused { IfErr result (λ e. IsWritingRefusal e.reason (HasLongListing ⟦<Records as Shaped>⟧.lists ⟦<Records as Shaped>⟧.shape records.now)) }
+    ensures written { IfOk result (λ bytes. IsSealingOf ⟦<Records as Shaped>⟧.lists
+        ⟦<Records as Shaped>⟧.shape CACHE records.now bytes.items) }
+    ensures refused { IfErr result (λ e. IsWritingRefusal e.reason
+        (HasLongListing ⟦<Records as Shaped>⟧.lists ⟦<Records as Shaped>⟧.shape records.now)) }
 {
     seal(alloc, CACHE, records)
 }
 
-/// The records that are kept in the bytes of a file. Older, damaged and cut-off ones are refused, with what is at fault.
+/// The records that are kept in the bytes of a file. Older, damaged and cut-off ones are refused,
+/// with what is at fault.
 pub fn from_bytes<'a>(alloc: Global, bytes: &'a [u8]) -> Result<Records, OpenError>
-    ensures found { IfOk result (λ records. IsOpeningOf ⟦<Records as Made>⟧.makes ⟦<Records as Shaped>⟧.shape EXPECTED bytes.now records) }
-    ensures refused { IfErr result (λ e. IsRefusal ⟦<RecordsDecoder<'a> as View<'a>>⟧.faults ⟦<RecordsDecoder<'a> as Decoder<Records>>⟧.makes_free ⟦<RecordsDecoder<'a> as HoldsData>⟧.shape ⟦<Records as Shaped>⟧.shape EXPECTED bytes.now e) }
+    ensures found { IfOk result (λ records. IsOpeningOf ⟦<Records as Made>⟧.makes
+        ⟦<Records as Shaped>⟧.shape EXPECTED bytes.now records) }
+    ensures refused { IfErr result (λ e. IsRefusal ⟦<RecordsDecoder<'a> as View<'a>>⟧.faults
+        ⟦<RecordsDecoder<'a> as Decoder<Records>>⟧.makes_free
+        ⟦<RecordsDecoder<'a> as HoldsData>⟧.shape ⟦<Records as Shaped>⟧.shape EXPECTED bytes.now e) }
 {
     open::<Records>(alloc, &EXPECTED, bytes)
 }

@@ -1,5 +1,5 @@
-//! Puts the records of several cache files together, and keeps them in the first: a cache on disk that no crash leaves half
-//! written, and that refuses what is older, damaged or cut off.
+//! Puts the records of several cache files together, and keeps them in the first: a cache on disk
+//! that no crash leaves half written, and that refuses what is older, damaged or cut off.
 //!
 //!     record_cache FILE..
 #![tactic(auto)]
@@ -17,7 +17,8 @@ use std::collections::HashMap;
 use std::env;
 use std::rt::{Env, Files};
 
-/// The records of a file. A file that has none of use is named, with what is at fault, and the program goes on without it.
+/// The records of a file. A file that has none of use is named, with what is at fault, and the
+/// program goes on without it.
 fn load(rt: &(impl AllocGlobal + Files + Print), path: &str) -> Result<Records> {
     match store::load(rt, path) {
         Ok(records) => {

@@ -17,8 +17,8 @@ pub fn load(rt: &(impl AllocGlobal + Files), path: &str) -> Result<Records> {
 
 /// Keeps the records in a file.
 ///
-/// They are written to a new file beside it, which then takes its name in one step: whenever the program or the machine
-/// stops, the name leads to the old records or to the new ones.
+/// They are written to a new file beside it, which then takes its name in one step: whenever the
+/// program or the machine stops, the name leads to the old records or to the new ones.
 pub fn save(rt: &(impl AllocGlobal + Files), path: &str, records: &Records) -> Result<()> {
     let bytes = to_bytes(rt.alloc(), records)?;
     let beside = format!(in rt.alloc(); "{path}.new")?;

@@ -1,5 +1,6 @@
-//! Takes a snapshot of a game's entities at each tick, into memory that is used again, and prints how large it is: beside it is
-//! the size of the same entities as rows, one call of `encode` for each.
+//! Takes a snapshot of a game's entities at each tick, into memory that is used again, and prints
+//! how large it is: beside it is the size of the same entities as rows, one call of `encode` for
+//! each.
 #![tactic(auto)]
 
 pub mod entity;

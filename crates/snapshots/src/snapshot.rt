@@ -12,16 +12,20 @@ pub type Entities = Vec<Entity>;
 
 /// The snapshot of the entities, in the memory of the buffer, until its next call.
 pub fn take<'a>(buffer: &'a mut Buffer<Entities>, entities: &Entities) -> Result<&'a [u8], Error>
-    ensures written { IfOk result (λ bytes. IsEncodingOf ⟦<Entities as Shaped>⟧.lists ⟦<Entities as Shaped>⟧.shape entities.now bytes.now) }
-    ensures refused { IfErr result (λ e. IsWritingRefusal e.reason (HasLongListing ⟦<Entities as Shaped>⟧.lists ⟦<Entities as Shaped>⟧.shape entities.now)) }
+    ensures written { IfOk result (λ bytes. IsEncodingOf ⟦<Entities as Shaped>⟧.lists
+        ⟦<Entities as Shaped>⟧.shape entities.now bytes.now) }
+    ensures refused { IfErr result (λ e. IsWritingRefusal e.reason
+        (HasLongListing ⟦<Entities as Shaped>⟧.lists ⟦<Entities as Shaped>⟧.shape entities.now)) }
 {
     buffer.encode(entities)
 }
 
 /// The entities of a snapshot. Bytes that are none are refused.
 pub fn restore(alloc: Global, bytes: &[u8]) -> Result<Entities, Error>
-    ensures found { IfOk result (λ entities. IsDecodingOf ⟦<Entities as Made>⟧.makes ⟦<Entities as Shaped>⟧.shape bytes.now entities) }
-    ensures refused { IfErr result (λ e. e.reason ≢ Reason.OutOfMemory → (d : Datum) → SpellsDatum ⟦<Entities as Shaped>⟧.shape bytes.now d → ⊥) }
+    ensures found { IfOk result (λ entities. IsDecodingOf ⟦<Entities as Made>⟧.makes
+        ⟦<Entities as Shaped>⟧.shape bytes.now entities) }
+    ensures refused { IfErr result (λ e. e.reason ≢ Reason.OutOfMemory → (d : Datum)
+        → SpellsDatum ⟦<Entities as Shaped>⟧.shape bytes.now d → ⊥) }
 {
     decode(alloc, bytes)
 }
@@ -32,7 +36,9 @@ pub fn restored(
     buffer: &mut Buffer<Entities>,
     entities: &Entities,
 ) -> Result<Entities, Error>
-    ensures same { HasShortLengths ⟦<Entities as Shaped>⟧.lists ⟦<Entities as Shaped>⟧.shape entities.now → IfOk result (λ again. ⟦<Entities as Shaped>⟧.same entities.now again) }
+    ensures same { HasShortLengths ⟦<Entities as Shaped>⟧.lists ⟦<Entities as Shaped>⟧.shape
+        entities.now
+        → IfOk result (λ again. ⟦<Entities as Shaped>⟧.same entities.now again) }
 {
     let bytes = take(buffer, entities)?;
     let again = restore(alloc, bytes);
