@@ -231,8 +231,11 @@ write_variant-returns t c =
     variant_outcome c.args.writer.now c.below.new.self c.write.new.writer trees (tree_of_node c.args.left c.args.table.now c.args.node.now) c.args.index
     c.args.place c.in_ok-inside.inside (datum_of c.args.value.now) _ c.write.result is small b.0 b.1 c.write.ensures
 
-pub write_seq-returns-then-is_leaf : goal.write_seq-returns-then-is_leaf
-write_seq-returns-then-is_leaf t c = c.write_leaves.ensures c.args.table.now c.args.left
+pub write_seq-write_leaves-requires : goal.write_seq-write_leaves-requires
+write_seq-write_leaves-requires t c = record { place = c.requires; values = c.in-Some.ensures.some.values }
+
+pub write_seq-returns-in-Some : goal.write_seq-returns-in-Some
+write_seq-returns-in-Some t c = c.write_leaves.ensures c.args.node.now c.in-Some.ensures.some c.args.table.now c.args.left
 
 pub write_seq-returns-in_err-put : goal.write_seq-returns-in_err-put
 write_seq-returns-in_err-put t c =
