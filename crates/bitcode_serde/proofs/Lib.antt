@@ -22,6 +22,7 @@ pub mod WithinLemmas
 pub mod WrittenLemmas
 pub mod WritingLemmas
 pub mod JoiningLemmas
+pub mod TakenLemmas
 pub mod LeafEntryLemmas
 pub mod SerializeLemmas
 pub mod LeavesLemmas

@@ -15,11 +15,11 @@ ghost use Rattle.bitcode_serde.specs.ReadColumns.{kind_of, IsCaseOf};
 ghost use Rattle.bitcode_serde.specs.declared.column.ColumnKind.{ColumnKind};
 ghost use Rattle.bitcode_serde.specs.declared.column.ColumnKind.TheVariants as kind;
 
-use bitcode_shapes::shaped::Shaped;
+use bitcode_shapes::shaped::Made;
 use bitcode_untyped::value::Value;
 
 /// A type that one case of [`Value`] holds, and whose values are entries of one column.
-pub trait Case: Shaped {
+pub trait Case: Made {
     // what the column holds
     ghost kind: { ColumnKind };
 
@@ -31,6 +31,10 @@ pub trait Case: Shaped {
         ensures some { IfSome result (λ t. value.now ≡ Self.holder t.now) }
         ensures none { IfNone result (IsCaseOf Self.kind value.now → ⊥) };
 
+    /// The value that holds it.
+    fn into_value(self) -> Value
+        ensures { result ≡ Self.holder self };
+
     ghost of_case: { (t : Self) → IsCaseOf Self.kind (Self.holder t) };
 
     ghost one_column: { (ds : List Datum) → written_columns Self.shape ds ≡ one (kind_of Self.kind) ds };
@@ -38,6 +42,8 @@ pub trait Case: Shaped {
     ghost entry: { (d : Datum) → IsOf Self.shape d → IsEntryOf (kind_of Self.kind) d };
 
     ghost datum: { (t : Self) (d : Datum) → Self.lists t d → d ≡ datum_of (Self.holder t) };
+
+    ghost made: { (t : Self) (d : Datum) → Self.makes d t → d ≡ datum_of (Self.holder t) };
 }
 
 impl Case for bool {
@@ -52,6 +58,10 @@ impl Case for bool {
         }
     }
 
+    fn into_value(self) -> Value {
+        Value::Bool(self)
+    }
+
     ghost of_case = { λ t. (t, refl) };
 
     ghost one_column = { λ ds. refl };
@@ -59,6 +69,8 @@ impl Case for bool {
     ghost entry = { λ d is. is };
 
     ghost datum = { λ t d listed. listed ∙ sym (datum-Bool t) };
+
+    ghost made = { λ t d made. made ∙ sym (datum-Bool t) };
 }
 
 impl Case for u8 {
@@ -73,6 +85,10 @@ impl Case for u8 {
         }
     }
 
+    fn into_value(self) -> Value {
+        Value::U8(self)
+    }
+
     ghost of_case = { λ t. (t, refl) };
 
     ghost one_column = { λ ds. refl };
@@ -80,6 +96,8 @@ impl Case for u8 {
     ghost entry = { λ d is. is };
 
     ghost datum = { λ t d listed. listed ∙ sym (datum-U8 t) };
+
+    ghost made = { λ t d made. made ∙ sym (datum-U8 t) };
 }
 
 impl Case for u16 {
@@ -94,6 +112,10 @@ impl Case for u16 {
         }
     }
 
+    fn into_value(self) -> Value {
+        Value::U16(self)
+    }
+
     ghost of_case = { λ t. (t, refl) };
 
     ghost one_column = { λ ds. refl };
@@ -101,6 +123,8 @@ impl Case for u16 {
     ghost entry = { λ d is. is };
 
     ghost datum = { λ t d listed. listed ∙ sym (datum-U16 t) };
+
+    ghost made = { λ t d made. made ∙ sym (datum-U16 t) };
 }
 
 impl Case for u32 {
@@ -115,6 +139,10 @@ impl Case for u32 {
         }
     }
 
+    fn into_value(self) -> Value {
+        Value::U32(self)
+    }
+
     ghost of_case = { λ t. (t, refl) };
 
     ghost one_column = { λ ds. refl };
@@ -122,6 +150,8 @@ impl Case for u32 {
     ghost entry = { λ d is. is };
 
     ghost datum = { λ t d listed. listed ∙ sym (datum-U32 t) };
+
+    ghost made = { λ t d made. made ∙ sym (datum-U32 t) };
 }
 
 impl Case for u64 {
@@ -136,6 +166,10 @@ impl Case for u64 {
         }
     }
 
+    fn into_value(self) -> Value {
+        Value::U64(self)
+    }
+
     ghost of_case = { λ t. (t, refl) };
 
     ghost one_column = { λ ds. refl };
@@ -143,6 +177,8 @@ impl Case for u64 {
     ghost entry = { λ d is. is };
 
     ghost datum = { λ t d listed. listed ∙ sym (datum-U64 t) };
+
+    ghost made = { λ t d made. made ∙ sym (datum-U64 t) };
 }
 
 impl Case for u128 {
@@ -157,6 +193,10 @@ impl Case for u128 {
         }
     }
 
+    fn into_value(self) -> Value {
+        Value::U128(self)
+    }
+
     ghost of_case = { λ t. (t, refl) };
 
     ghost one_column = { λ ds. refl };
@@ -164,6 +204,8 @@ impl Case for u128 {
     ghost entry = { λ d is. is };
 
     ghost datum = { λ t d listed. listed ∙ sym (datum-U128 t) };
+
+    ghost made = { λ t d made. made ∙ sym (datum-U128 t) };
 }
 
 impl Case for i8 {
@@ -178,6 +220,10 @@ impl Case for i8 {
         }
     }
 
+    fn into_value(self) -> Value {
+        Value::I8(self)
+    }
+
     ghost of_case = { λ t. (t, refl) };
 
     ghost one_column = { λ ds. refl };
@@ -185,6 +231,8 @@ impl Case for i8 {
     ghost entry = { λ d is. is };
 
     ghost datum = { λ t d listed. listed ∙ sym (datum-I8 t) };
+
+    ghost made = { λ t d made. made ∙ sym (datum-I8 t) };
 }
 
 impl Case for i16 {
@@ -199,6 +247,10 @@ impl Case for i16 {
         }
     }
 
+    fn into_value(self) -> Value {
+        Value::I16(self)
+    }
+
     ghost of_case = { λ t. (t, refl) };
 
     ghost one_column = { λ ds. refl };
@@ -206,6 +258,8 @@ impl Case for i16 {
     ghost entry = { λ d is. is };
 
     ghost datum = { λ t d listed. listed ∙ sym (datum-I16 t) };
+
+    ghost made = { λ t d made. made ∙ sym (datum-I16 t) };
 }
 
 impl Case for i32 {
@@ -220,6 +274,10 @@ impl Case for i32 {
         }
     }
 
+    fn into_value(self) -> Value {
+        Value::I32(self)
+    }
+
     ghost of_case = { λ t. (t, refl) };
 
     ghost one_column = { λ ds. refl };
@@ -227,6 +285,8 @@ impl Case for i32 {
     ghost entry = { λ d is. is };
 
     ghost datum = { λ t d listed. listed ∙ sym (datum-I32 t) };
+
+    ghost made = { λ t d made. made ∙ sym (datum-I32 t) };
 }
 
 impl Case for i64 {
@@ -241,6 +301,10 @@ impl Case for i64 {
         }
     }
 
+    fn into_value(self) -> Value {
+        Value::I64(self)
+    }
+
     ghost of_case = { λ t. (t, refl) };
 
     ghost one_column = { λ ds. refl };
@@ -248,6 +312,8 @@ impl Case for i64 {
     ghost entry = { λ d is. is };
 
     ghost datum = { λ t d listed. listed ∙ sym (datum-I64 t) };
+
+    ghost made = { λ t d made. made ∙ sym (datum-I64 t) };
 }
 
 impl Case for i128 {
@@ -262,6 +328,10 @@ impl Case for i128 {
         }
     }
 
+    fn into_value(self) -> Value {
+        Value::I128(self)
+    }
+
     ghost of_case = { λ t. (t, refl) };
 
     ghost one_column = { λ ds. refl };
@@ -269,6 +339,8 @@ impl Case for i128 {
     ghost entry = { λ d is. is };
 
     ghost datum = { λ t d listed. listed ∙ sym (datum-I128 t) };
+
+    ghost made = { λ t d made. made ∙ sym (datum-I128 t) };
 }
 
 impl Case for String {
@@ -283,6 +355,10 @@ impl Case for String {
         }
     }
 
+    fn into_value(self) -> Value {
+        Value::Str(self)
+    }
+
     ghost of_case = { λ t. (t, refl) };
 
     ghost one_column = { λ ds. refl };
@@ -290,5 +366,7 @@ impl Case for String {
     ghost entry = { λ d is. is };
 
     ghost datum = { λ t d listed. listed ∙ sym (datum-Str t) };
+
+    ghost made = { λ t d made. made ∙ sym (datum-Str t) };
 }
 
