@@ -1,17 +1,17 @@
 -- Lists of values of one case, as entries of one column.
-use Rattle.std.proofs.Common.{◌≡◌, ◌⊎◌, ℕ, zero, suc, inl, inr, List, [], ◌∷◌, ◌++◌, Some, slice_get, map, All, refl, ap, sym, subst, ◌∙◌, append_assoc, append-nil}
+use Rattle.std.proofs.Common.{◌≡◌, ◌⊎◌, ℕ, zero, suc, inl, inr, List, [], ◌∷◌, ◌++◌, Some, slice_get, get_or, length, map, All, refl, ap, sym, subst, ◌∙◌, append_assoc, append-nil, arith}
 use Rattle.std.specs.List.{AllByRecursion, AllZip}
 use Rattle.std.proofs.lemmas.List.{map-append}
 use Rattle.bitcode_columns.specs.declared.error.Reason.{Reason}
 use Rattle.bitcode_shapes.specs.Datum.{Datum}
 use Rattle.bitcode_shapes.specs.Shape.{Shape, IsOf}
-use Rattle.bitcode_coder.specs.Coder.{written_columns, JoinsEach, OverflowsWithEach, IsWritingRefusal}
+use Rattle.bitcode_coder.specs.Coder.{written_columns, JoinsListing, OverflowsWithListing, JoinsEach, OverflowsWithEach, IsWritingRefusal}
 use Rattle.bitcode_columns.specs.declared.error.Reason.TheVariants.{OutOfMemory}
 use Rattle.bitcode_coder.specs.Columns.{Kind, Columns, no_columns, one, two, arrays, emptied, beside, CountsFit, IsEntryOf}
 use Rattle.bitcode_untyped.specs.View.{datum_of}
 use Rattle.bitcode_untyped.specs.declared.value.Value.{Value}
 use Rattle.bitcode_untyped.proofs.EachLemmas.{each_append}
-use Rattle.bitcode_serde.specs.Cases.{IsEntryIn, HasOther}
+use Rattle.bitcode_serde.specs.Leaves.{IsEntryIn, HasOther}
 use Rattle.bitcode_serde.specs.ReadColumns.{kind_of, IsCaseOf}
 use Rattle.bitcode_serde.specs.declared.column.ColumnKind.{ColumnKind}
 use Rattle.bitcode_serde.proofs.WritingLemmas.{all_each}
@@ -96,6 +96,31 @@ module _ {T : Type 0} (kind : ColumnKind) (value : T → Value) (is_value : T �
   memory_alone columns ts old reason Other (inl memory) = inl memory
   memory_alone columns ts old reason Other (inr (is, p)) =
       absurd (p.overflows (subst (λ added. CountsFit (beside old added)) (sym (columns p.parts)) (fits_beside old (kind_of kind) p.parts)))
+
+-- one value is a list of one
+pub joins_one : {T : Type 0} (lists : T → Datum → Type 0) (shape : Shape) (t : T) (old new : Columns) → JoinsListing lists shape t old new
+    → JoinsEach lists shape (t ∷ []) old new
+joins_one lists shape t old new joins =
+    record { parts = joins.datum ∷ []; listings = (joins.listing, tt); joined = joins.joined; fits = joins.fits }
+
+pub overflows_one : {T : Type 0} (lists : T → Datum → Type 0) (shape : Shape) (t : T) (old : Columns) (reason : Reason)
+    → IsWritingRefusal reason (OverflowsWithListing lists shape t old) → IsWritingRefusal reason (OverflowsWithEach lists shape (t ∷ []) old)
+overflows_one lists shape t old reason (inl memory) = inl memory
+overflows_one lists shape t old reason (inr (is, some)) =
+    inr (is, record { parts = some.datum ∷ []; listings = (some.listing, tt); overflows = some.overflows })
+
+pub all_one : {T : Type 0} (P : T → Type 0) (t : T) → P t → All P (t ∷ [])
+all_one P t h zero d inside = h
+all_one P t h (suc i) d inside = absurd (omega (arith, inside))
+
+pub only_one : {A : Type 0} (xs : List A) (x : A) → length xs ≡ 1 → x ≡ get_or xs 0 x → xs ≡ x ∷ []
+only_one [] x size is = absurd (omega (arith, size))
+only_one (y ∷ []) x size is = ap (λ z. z ∷ []) (sym is)
+only_one (y ∷ (z ∷ zs)) x size is = absurd (omega (arith, size))
+
+pub no_items : {A : Type 0} (xs : List A) → length xs ≡ 0 → xs ≡ []
+no_items [] size = refl
+no_items (x ∷ xs) size = absurd (omega (arith, size))
 
 -- ---- chunk by chunk
 

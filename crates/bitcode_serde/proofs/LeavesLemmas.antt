@@ -17,7 +17,7 @@ use Rattle.bitcode_untyped.specs.Walk.{element, length_kind, use_at}
 use Rattle.bitcode_untyped.specs.declared.shape.ShapeNode.{ShapeNode}
 use Rattle.bitcode_untyped.specs.declared.value.Value.{Value}
 use Rattle.bitcode_untyped.proofs.EachLemmas.{each_if}
-use Rattle.bitcode_serde.specs.Cases.{IsEntryIn, HasOther}
+use Rattle.bitcode_serde.specs.Leaves.{IsEntryIn, HasOther}
 use Rattle.bitcode_serde.specs.ReadColumns.{kind_of, IsCaseOf}
 use Rattle.bitcode_serde.specs.ReadingValues.{HasColumn}
 use Rattle.bitcode_serde.specs.Serializing.{Outcome}
@@ -25,6 +25,7 @@ use Rattle.bitcode_serde.specs.Writing.{written, place_in, Writes, AreOfShape, I
 use Rattle.bitcode_serde.specs.declared.column.ColumnKind.{ColumnKind}
 use Rattle.bitcode_serde.specs.declared.writer.state.Writer.{Writer}
 use Rattle.bitcode_serde.proofs.LeafLemmas.{leaves_whole}
+use Rattle.bitcode_serde.proofs.WalkLemmas.{use_outcome}
 use Rattle.bitcode_serde.proofs.SerializeLemmas.{grows_same, writes_none, list_refused, refused_outcome, entries_outcome, same_outcome, among_back}
 
 -- where one value of another case has one fault, that is one of all faults
@@ -65,3 +66,34 @@ leaves_outcome n kind vs old start now place m (Err e) has first at inside below
       | inr away ↦ inr (subst (λ reason. IsAmong reason faults) (sym away.0)
           (other_among kind (λ v. faults_of table v left n) NotOfTheShape (λ v h. has.other v h table left) vs away.1))
     ]))
+
+-- a value that was written by itself
+pub value_outcome : {B : Type 0} (n : ShapeNode) (kind : ColumnKind) (v : Value) (old now : Writer) (place : ℕ) (r : Result B Error)
+    → HasColumn n kind
+    → OnOk r (now.places.below ≡ old.places.below)
+    → OnOk r (written now ≡ put_all (map (use_at (place_in old place) (kind_of kind)) (map datum_of (v ∷ []))) (written old))
+    → OnOk r (AllByRecursion (IsEntryIn kind) (v ∷ []))
+    → IfErr r (λ e. (root : ShapeTree) → AreOfShape root (written old) → HasKindFrom root [] (place_in old place) (kind_of kind)
+    → (e.reason ≡ OutOfMemory) ⊎ ((e.reason ≡ NotOfTheShape) × HasOther kind (v ∷ [])))
+    → (table : List ShapeNode) (left : ℕ) → Outcome old (tree_of_node left table n) place (datum_of v) (faults_of table v left n) r now
+value_outcome n kind v old now place (Ok b) has below more entries refused table left =
+    let leaf = leaf_tree (kind_of kind) any_number in
+    same_outcome old (tree_of_node left table n) leaf place (datum_of v) (datum_of v) (faults_of table v left n) [] (Ok b) now
+    (has.tree (followed left table)) refl (has.whole v entries.0.case table left)
+    (use_outcome old now leaf place (datum_of v) (datum_of v) (kind_of kind) (Ok b) refl (refl, refl) (entries.0.entry, tt) below more tt)
+value_outcome n kind v old now place (Err e) has below more entries refused table left =
+    let p = place_in old place in
+    let s = tree_of_node left table n in
+    let there : HasKindFrom s p p (kind_of kind) = subst (λ t. HasKindFrom t p p (kind_of kind)) (sym (has.tree (followed left table))) (refl, refl) in
+    record {
+      written = tt;
+      of_tree = tt;
+      whole = tt;
+      refused = λ root of_shape part. elim (refused root of_shape (part p (kind_of kind) there)) [
+        | inl memory ↦ inl memory
+        | inr away ↦ elim away.1 [
+          | inl other ↦ inr (subst (IsAmong e.reason) (sym (has.other v other table left)) (inl away.0))
+          | inr never ↦ absurd never
+        ]
+      ];
+    }

@@ -17,7 +17,7 @@ use Rattle.bitcode_untyped.proofs.KindLemmas.{one_kind}
 use Rattle.bitcode_untyped.proofs.PlaceLemmas.{same_place-refl, same_place-false}
 use Rattle.bitcode_serde.specs.Places.{place_at, AreApart, places, IsGrown}
 use Rattle.bitcode_untyped.specs.declared.value.Value.{Value}
-use Rattle.bitcode_serde.specs.Cases.{HasOther}
+use Rattle.bitcode_serde.specs.Leaves.{HasOther}
 use Rattle.bitcode_serde.specs.ReadColumns.{kind_of}
 use Rattle.bitcode_serde.specs.declared.column.ColumnKind.{ColumnKind}
 use Rattle.bitcode_serde.specs.WrittenColumns.{kind_of_written, entries_of}

@@ -369,4 +369,3 @@ impl Case for String {
 
     ghost made = { λ t d made. made ∙ sym (datum-Str t) };
 }
-

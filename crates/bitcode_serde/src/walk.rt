@@ -10,7 +10,7 @@ ghost use Rattle.bitcode_untyped.specs.Faults.{faults_of, faults_of_fields, faul
 ghost use Rattle.bitcode_untyped.specs.ShapeTree.{ShapeTrees, natural_tree, seq_tree, map_tree, tuple_tree, choice_tree, greatest_index};
 ghost use Rattle.bitcode_untyped.specs.View.{datum_of, tree_of_node, trees_of};
 ghost use Rattle.bitcode_serde.specs.ReadingValues.{HasColumn, field_at};
-ghost use Rattle.bitcode_serde.specs.Serializing.{Outcome, IsVariant};
+ghost use Rattle.bitcode_serde.specs.Serializing.{Outcome, IsLeaf, IsVariant};
 ghost use Rattle.bitcode_serde.specs.Writing.{written, place_in, Grows};
 
 use crate::column::ColumnKind;
@@ -23,6 +23,7 @@ use bitcode_columns::error::{Error, Reason};
 use bitcode_columns::refuse::err;
 use bitcode_untyped::shape::ShapeNode;
 use bitcode_untyped::value::Value;
+use std::slice::from_ref;
 
 /// Writes a value of a node at a place, below which so many references may be followed.
 ///
@@ -76,7 +77,24 @@ pub fn write(
             _ => err(Reason::NotOfTheShape),
         },
         ShapeNode::Ref(i) => write_reference(writer, table, *i, value, left, place),
-        _ => writer.put(place, leaf_entry(node, value)?),
+        _ => write_leaf(writer, node, value, place),
+    }
+}
+
+// Writes a value of a node whose values are entries of one column.
+fn write_leaf(
+    writer: &mut Writer,
+    node: &ShapeNode,
+    value: &Value,
+    place: usize,
+) -> Result<(), Error>
+    requires place { place ≤ length writer.old.places.below.items }
+    requires leaf { IsLeaf node.now }
+    ensures { (table : List ShapeNode) (left : ℕ) → Outcome writer.old (tree_of_node left table node.now) place (datum_of value.now) (faults_of table value.now left node.now) result writer.new }
+{
+    match column_kind(node) {
+        Some(kind) => writer.put_each(place, kind, from_ref(value)),
+        None => writer.put(place, leaf_entry(node, value)?),
     }
 }
 

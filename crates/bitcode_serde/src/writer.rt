@@ -11,7 +11,7 @@ ghost use Rattle.bitcode_untyped.specs.PlacedColumns.{unplaced};
 ghost use Rattle.bitcode_untyped.specs.ShapeTree.{ShapeTree};
 ghost use Rattle.bitcode_untyped.specs.Walk.{use_at};
 ghost use Rattle.bitcode_untyped.specs.View.{datum_of};
-ghost use Rattle.bitcode_serde.specs.Cases.{IsEntryIn, HasOther};
+ghost use Rattle.bitcode_serde.specs.Leaves.{IsEntryIn, HasOther};
 ghost use Rattle.bitcode_serde.specs.ReadColumns.{kind_of};
 ghost use Rattle.bitcode_serde.specs.Places.{step_of, AreApart, places};
 ghost use Rattle.bitcode_serde.specs.WrittenColumns.{kind_of_entry, datum_of_entry};

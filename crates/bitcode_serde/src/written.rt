@@ -5,8 +5,8 @@ ghost use Rattle.bitcode_coder.specs.Coder.{JoinsListing, OverflowsWithListing};
 ghost use Rattle.bitcode_coder.specs.Columns.{ints, lengths, one, beside};
 ghost use Rattle.bitcode_coder.specs.Spelling.{natural, column_bytes};
 ghost use Rattle.bitcode_untyped.specs.View.{datum_of};
-ghost use Rattle.bitcode_serde.specs.Cases.{IsEntryIn, HasOther};
-ghost use Rattle.bitcode_serde.specs.ReadColumns.{kind_of};
+ghost use Rattle.bitcode_serde.specs.Leaves.{IsEntryIn, HasOther};
+ghost use Rattle.bitcode_serde.specs.ReadColumns.{kind_of, IsCaseOf};
 ghost use Rattle.bitcode_serde.specs.WrittenColumns.{kind_of_entry, datum_of_entry, kind_in_written, kind_of_written, entries_of};
 
 use crate::case::Case;
@@ -125,16 +125,32 @@ fn join_chunk<T: Case, E: Buffer + Encoder<T>>(
     }
 }
 
+// Writes a value of one case. Room for it was reserved.
+fn join_one<T: Case, E: Buffer + Encoder<T>>(column: &mut E, value: &Value) -> Result<(), Error>
+    requires { 0 < E.room column.old }
+    ensures joined { OnOk result (E.columns column.new ≡ beside (E.columns column.old) (one (kind_of T.kind) (datum_of value.now ∷ []))) }
+    ensures entry { OnOk result (IsEntryIn T.kind value.now) }
+    ensures refused { IfErr result (λ e. (e.reason ≡ Reason.OutOfMemory) ⊎ ((e.reason ≡ Reason.NotOfTheShape) × (IsCaseOf T.kind value.now → ⊥))) }
+{
+    match T::held(value) {
+        Some(t) => {
+            t.told();
+            column.encode(t)
+        }
+        None => err(Reason::NotOfTheShape),
+    }
+}
+
 // Makes room for values of one case, and writes them.
-fn join_each<T: Case, E: Buffer + Encoder<T>>(
-    column: &mut E,
-    values: &[Value],
-) -> Result<(), Error>
+fn join_each<T: Case, E: Buffer + Encoder<T>>(column: &mut E, values: &[Value]) -> Result<(), Error>
     ensures joined { OnOk result (E.columns column.new ≡ beside (E.columns column.old) (one (kind_of T.kind) (map datum_of values.now))) }
     ensures entries { OnOk result (AllByRecursion (IsEntryIn T.kind) values.now) }
     ensures refused { IfErr result (λ e. (e.reason ≡ Reason.OutOfMemory) ⊎ ((e.reason ≡ Reason.NotOfTheShape) × HasOther T.kind values.now) ⊎ E.surely_overflows column.old (length values.now)) }
 {
     column.reserve(values.len())?;
+    if values.len() == 1 {
+        return join_one(column, &values[0]);
+    }
     let mut rest = values;
     while !rest.is_empty() {
         let (front, behind) = rest.split_at(rest.len().min(MAX_VECTORED_CHUNK));

@@ -166,11 +166,8 @@ write-returns-in-Enum-value t c =
     )
     c.write_enum.ensures
 
-pub write-returns-in_ok-leaf_entry-in_default : goal.write-returns-in_ok-leaf_entry-in_default
-write-returns-in_ok-leaf_entry-in_default t c =
-    leaf_outcome c.args.writer.now c.put-in_default.new.self c.args.place c.args.node.now c.args.value.now _ _ c.put-in_default.result
-    c.in_ok-leaf_entry-in_default.ensures.entry
-    c.put-in_default.ensures.below c.put-in_default.ensures.written c.put-in_default.ensures.refused c.args.table.now c.args.left
+pub write-returns-in_default : goal.write-returns-in_default
+write-returns-in_default t c = c.write_leaf.ensures c.args.table.now c.args.left
 
 pub write_enum-write_variant-requires : goal.write_enum-write_variant-requires
 write_enum-write_variant-requires t c =

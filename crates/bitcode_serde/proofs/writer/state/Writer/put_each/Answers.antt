@@ -45,12 +45,12 @@ returns-in-Some-clause-refused c =
 pub returns-in_ok-push_each-in-None-clause-written : goal.returns-in_ok-push_each-in-None-clause-written
 returns-in_ok-push_each-in-None-clause-written c =
     let old = c.args.self.now in
-    let data = map datum_of c.args.values.now in
-    let entries = c.in_ok-push_each-in-None.ensures.written ∙ ap (λ ds. ds ++ data) c.of-column.ensures.empty in
+    let added = map datum_of c.args.values.now in
+    let entries = c.in_ok-push_each-in-None.ensures.written ∙ ap (λ ds. ds ++ added) c.of-column.ensures.empty in
     let some : 0 < length c.args.values.now = grind (arith, c.is_empty.ensures, c.if-is_empty.false) in
     when_ok c.add.result
     (λ items. ap (λ z. map (placed (places z.items)) c.add.new.self.columns.items) c.add.ensures.below
-    ∙ put_behind old.places.below.items old.columns.items c.add.new.self.columns.items c.args.place (kind_of c.args.kind) data
+    ∙ put_behind old.places.below.items old.columns.items c.add.new.self.columns.items c.args.place (kind_of c.args.kind) added
     (record { place = c.args.place; column = c.push_each-in-None.new.self }) old.places.apart c.requires.place old.inside c.in-None.ensures.none items
     refl (c.in_ok-push_each-in-None.ensures.kind.0 ∙ ap kind_of c.of-column.ensures.kind) entries (subst (λ n. 0 < n) (sym (length-map c.args.values.now datum_of)) some))
     c.add.ensures.columns
