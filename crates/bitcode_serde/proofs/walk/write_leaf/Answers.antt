@@ -16,6 +16,6 @@ returns-in-Some c =
 pub returns-in_ok-leaf_entry-in-None : goal.returns-in_ok-leaf_entry-in-None
 returns-in_ok-leaf_entry-in-None c =
     λ table left.
-    leaf_outcome c.args.writer.now c.put-in-None.new.self c.args.place c.args.node.now c.args.value.now _ _ c.put-in-None.result
+    leaf_outcome c.args.writer.now c.put.new.self c.args.place c.args.node.now c.args.value.now _ _ c.put.result
     c.in_ok-leaf_entry-in-None.ensures.entry
-    c.put-in-None.ensures.below c.put-in-None.ensures.written c.put-in-None.ensures.refused table left
+    c.put.ensures.below c.put.ensures.written c.put.ensures.refused table left

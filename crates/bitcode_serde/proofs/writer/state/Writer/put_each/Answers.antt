@@ -1,6 +1,7 @@
 -- Values go to the column of their place.
-use Rattle.std.proofs.Common.{◌<◌, ◌++◌, false, map, length, refl, ap, sym, subst, ◌∙◌, arith}
+use Rattle.std.proofs.Common.{inl, inr, ◌<◌, ◌++◌, false, map, length, refl, ap, sym, subst, ◌∙◌, arith}
 use Rattle.std.proofs.lemmas.List.{length-map}
+use Rattle.std.proofs.lemmas.Result.{err_from_is_err_and}
 use Rattle.bitcode_untyped.specs.View.{datum_of}
 use Rattle.bitcode_serde.specs.ReadColumns.{kind_of}
 use Rattle.bitcode_serde.specs.Places.{places}
@@ -56,4 +57,12 @@ returns-in_ok-push_each-in-None-clause-written c =
     c.add.ensures.columns
 
 pub returns-in_err-push_each-in-None-clause-refused : goal.returns-in_err-push_each-in-None-clause-refused
-returns-in_err-push_each-in-None-clause-refused c = ?
+returns-in_err-push_each-in-None-clause-refused c =
+    let y = err_from_is_err_and c.from_residual.result c.from_residual.ensures.1 in
+    rw (y.1, y.2) (λ root of_shape has. elim c.in_err-push_each-in-None.ensures.refused [
+      | inl memory ↦ inl memory
+      | inr others ↦ elim others [
+        | inl away ↦ inr away
+        | inr clash ↦ absurd (clash (sym (ap kind_of c.of-column.ensures.kind)))
+      ]
+    ])
