@@ -17,7 +17,7 @@ use Rattle.bitcode_serde.specs.Writing.{place_in}
 use Rattle.bitcode_serde.proofs.DepthLemmas.{entry_deep, reference_falls}
 use Rattle.bitcode_serde.proofs.EntryLemmas.{found_entry, no_entry}
 use Rattle.bitcode_serde.proofs.SerializeLemmas.{grows_same, writes_none, refuses_use, among_front, among_back, begun, list_done, list_is, list_refused, refused_outcome, written_outcome, same_outcome, one_fault}
-use Rattle.bitcode_serde.proofs.WalkLemmas.{leaf_outcome, among_entry, each_none, each_more, each_all, written_there, use_outcome, reference_there, faults_there, faults_nowhere, variant_there, variant_outcome, both_begun, pair_there, key_refused, value_refused, map_done, map_is, uneven_fault, fields_none, field_more, field_refused, fields_done}
+use Rattle.bitcode_serde.proofs.WalkLemmas.{among_entry, each_none, each_more, each_all, written_there, use_outcome, reference_there, faults_there, faults_nowhere, variant_there, variant_outcome, both_begun, pair_there, key_refused, value_refused, map_done, map_is, uneven_fault, fields_none, field_more, field_refused, fields_done}
 use Rattle.bitcode_serde.proofs.walk.+write.Goals as goal
 
 pub write-returns-in-Unit-value : goal.write-returns-in-Unit-value

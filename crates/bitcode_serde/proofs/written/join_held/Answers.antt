@@ -1,5 +1,5 @@
 -- What was gathered is what the values hold.
-use Rattle.std.proofs.Common.{map, take, length, refl, ap, sym, ◌∙◌}
+use Rattle.std.proofs.Common.{map, take, length, ◌∙◌}
 use Rattle.std.proofs.lemmas.Result.{on_ok_weaker}
 use Rattle.std.proofs.lemmas.Simd.{map-map}
 use Rattle.bitcode_serde.proofs.JoiningLemmas.{columns_joined, entries_joined, memory_alone}

@@ -1,7 +1,6 @@
 -- One value is a list of one.
-use Rattle.std.proofs.Common.{[], ◌∷◌, ◌⊎◌, ◌≡◌, refl, ap, sym}
+use Rattle.std.proofs.Common.{[], ◌∷◌, ap, sym}
 use Rattle.std.proofs.lemmas.Result.{on_ok_weaker}
-use Rattle.bitcode_untyped.specs.View.{datum_of}
 use Rattle.bitcode_serde.proofs.JoiningLemmas.{columns_joined, entries_joined, memory_alone, joins_one, overflows_one, all_one}
 use Rattle.bitcode_serde.proofs.WrittenLemmas.{if_err}
 use Rattle.bitcode_serde.proofs.written.join_one.Goals as goal

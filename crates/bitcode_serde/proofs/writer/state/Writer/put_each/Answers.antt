@@ -1,5 +1,5 @@
 -- Values go to the column of their place.
-use Rattle.std.proofs.Common.{inl, inr, ◌<◌, ◌++◌, false, map, length, refl, ap, sym, subst, ◌∙◌, arith}
+use Rattle.std.proofs.Common.{inl, inr, ◌<◌, ◌++◌, map, length, refl, ap, sym, subst, ◌∙◌, arith}
 use Rattle.std.proofs.lemmas.List.{length-map}
 use Rattle.std.proofs.lemmas.Result.{err_from_is_err_and}
 use Rattle.bitcode_untyped.specs.View.{datum_of}
