@@ -1,9 +1,10 @@
 -- Reading a value of a node that holds no others.
-use Rattle.std.proofs.Common.{◌≡◌, ℕ, List, [], ◌∷◌, refl, sym, subst}
+use Rattle.std.proofs.Common.{◌≡◌, ◌≢◌, ℕ, List, [], ◌∷◌, refl, sym, subst}
 use Rattle.std.specs.List.{AllByRecursion, flat_map}
 use Rattle.std.specs.Prelude.{Result, IfOk, IfErr}
 use Rattle.std.proofs.lemmas.Result.{IfOk-weaker, IfErr-weaker}
 use Rattle.bitcode_columns.specs.declared.error.Error.{Error}
+use Rattle.bitcode_columns.specs.declared.error.Reason.TheVariants.{NotOfTheShape}
 use Rattle.bitcode_shapes.specs.Shape.{any_number}
 use Rattle.bitcode_untyped.specs.Faults.{faults_of}
 use Rattle.bitcode_untyped.specs.ShapeTree.{ShapeTree, leaf_tree}
@@ -13,6 +14,7 @@ use Rattle.bitcode_untyped.specs.declared.value.Value.{Value}
 use Rattle.bitcode_serde.specs.ReadColumns.{kind_of, IsCaseOf}
 use Rattle.bitcode_serde.specs.ReadingValues.{HasColumn, ReadsAt, IsRefusalAt, ReadsLeafAt, IsLeafRefusalAt}
 use Rattle.bitcode_serde.specs.declared.column.ColumnKind.{ColumnKind}
+use Rattle.bitcode_serde.specs.declared.column.ColumnKind.TheVariants.{Lengths}
 use Rattle.bitcode_serde.specs.declared.reader.Reader.{Reader}
 use Rattle.bitcode_serde.proofs.CaseLemmas.{nothing, of_case}
 
@@ -30,9 +32,9 @@ module _ (n : ShapeNode) (tree : ShapeTree) (is : (follow : ℕ → ShapeTree) �
 -- the node of one case of values
 pub has_column : {A : Type 0} (n : ShapeNode) (kind : ColumnKind) (made : A → Value) → ((follow : ℕ → ShapeTree) → tree_by follow n ≡ leaf_tree (kind_of kind) any_number)
     → ((v : Value) → IsCaseOf kind v → (a : A) × (v ≡ made a)) → ((table : List ShapeNode) (left : ℕ) (a : A) → faults_of table (made a) left n ≡ [])
-    → HasColumn n kind
-has_column n kind made is of each =
-    record { tree = is; whole = λ v k table left. of_case table left n v made (each table left) (of v k) }
+    → kind ≢ Lengths → ((v : Value) → (IsCaseOf kind v → ⊥) → (table : List ShapeNode) (left : ℕ) → faults_of table v left n ≡ NotOfTheShape ∷ []) → HasColumn n kind
+has_column n kind made is of each values other =
+    record { tree = is; values = values; whole = λ v k table left. of_case table left n v made (each table left) (of v k); other = other }
 
 -- values of a node whose values are the entries of a column are without fault
 pub leaves_whole : (n : ShapeNode) (kind : ColumnKind) (table : List ShapeNode) (left : ℕ) → HasColumn n kind → (vs : List Value) → AllByRecursion (IsCaseOf kind) vs

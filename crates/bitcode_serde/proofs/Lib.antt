@@ -21,7 +21,10 @@ pub mod WholeLemmas
 pub mod WithinLemmas
 pub mod WrittenLemmas
 pub mod WritingLemmas
+pub mod JoiningLemmas
+pub mod TakenLemmas
 pub mod LeafEntryLemmas
 pub mod SerializeLemmas
+pub mod LeavesLemmas
 pub mod WalkLemmas
 pub mod WholeWritingLemmas

@@ -4,7 +4,7 @@ use Rattle.std.specs.Prelude.{IsSomeAnd}
 use Rattle.std.specs.List.{AllByRecursion}
 use Rattle.std.proofs.Math.ListN.{set}
 use Rattle.bitcode_columns.specs.declared.error.Reason.{Reason}
-use Rattle.bitcode_columns.specs.declared.error.Reason.TheVariants.{OutOfMemory}
+use Rattle.bitcode_columns.specs.declared.error.Reason.TheVariants.{OutOfMemory, NotOfTheShape}
 use Rattle.bitcode_shapes.specs.Datum.{Datum}
 use Rattle.bitcode_coder.specs.Columns.{Kind}
 use Rattle.bitcode_untyped.specs.Growing.{put_all}
@@ -16,6 +16,10 @@ use Rattle.bitcode_untyped.proofs.GrowingLemmas.{put_all_here, put_all_past, put
 use Rattle.bitcode_untyped.proofs.KindLemmas.{one_kind}
 use Rattle.bitcode_untyped.proofs.PlaceLemmas.{same_place-refl, same_place-false}
 use Rattle.bitcode_serde.specs.Places.{place_at, AreApart, places, IsGrown}
+use Rattle.bitcode_untyped.specs.declared.value.Value.{Value}
+use Rattle.bitcode_serde.specs.Leaves.{HasOther}
+use Rattle.bitcode_serde.specs.ReadColumns.{kind_of}
+use Rattle.bitcode_serde.specs.declared.column.ColumnKind.{ColumnKind}
 use Rattle.bitcode_serde.specs.WrittenColumns.{kind_of_written, entries_of}
 use Rattle.bitcode_serde.specs.Writing.{placed, column_of}
 use Rattle.bitcode_serde.specs.declared.places.Below.{Below}
@@ -138,3 +142,13 @@ pub memory_there : (ps : List Place) (cs : List PlacedWritten) (n i : ℕ) (kind
 memory_there ps cs n i kind c reason here is (inl m) root of_shape has = m
 memory_there ps cs n i kind c reason here is (inr clash) root of_shape has =
     absurd (clash (one_kind root [] (place_at ps n) kind (kind_of_written c.column) has (kind_there ps cs n i c root of_shape here is)))
+
+pub other_there : (ps : List Place) (cs : List PlacedWritten) (n i : ℕ) (kind : ColumnKind) (c : PlacedWritten) (vs : List Value) (reason : Reason)
+    → IsSomeAnd (slice_get cs i) (λ c. c.place ≡ n) → c ≡ get_or cs i c
+    → (reason ≡ OutOfMemory) ⊎ ((reason ≡ NotOfTheShape) × HasOther kind vs) ⊎ (kind_of kind ≢ kind_of_written c.column)
+    → (root : ShapeTree) → AllByRecursion (λ z. HasKindFrom root [] z.place z.kind) (map (placed ps) cs) → HasKindFrom root [] (place_at ps n) (kind_of kind)
+    → (reason ≡ OutOfMemory) ⊎ ((reason ≡ NotOfTheShape) × HasOther kind vs)
+other_there ps cs n i kind c vs reason here is (inl m) root of_shape has = inl m
+other_there ps cs n i kind c vs reason here is (inr (inl away)) root of_shape has = inr away
+other_there ps cs n i kind c vs reason here is (inr (inr clash)) root of_shape has =
+    inl (memory_there ps cs n i (kind_of kind) c reason here is (inr clash) root of_shape has)

@@ -1,5 +1,6 @@
 pub mod Indices
 pub mod ReadColumns
+pub mod Leaves
 pub mod Links
 pub mod Places
 pub mod Reading

@@ -2,7 +2,7 @@
 use Rattle.std.specs.Prelude.{◌≡◌, ◌≢◌, ◌<◌, ℕ, zero, suc, List, [], ◌∷◌, Vec, Box}
 use Rattle.std.specs.Global.{Global}
 use Rattle.bitcode_columns.specs.declared.error.Reason.{Reason}
-use Rattle.bitcode_columns.specs.declared.error.Reason.TheVariants.{ExpectedEof, InvalidEnumVariant, OutOfMemory, InvalidOption, InvalidChar, TooManyZeroSizedTypes, NestedTooDeep, TooManyNodes}
+use Rattle.bitcode_columns.specs.declared.error.Reason.TheVariants.{ExpectedEof, InvalidEnumVariant, OutOfMemory, InvalidOption, InvalidChar, TooManyZeroSizedTypes, NestedTooDeep, NotOfTheShape, TooManyNodes}
 use Rattle.bitcode_shapes.specs.Datum.{Datum}
 use Rattle.bitcode_shapes.specs.Shape.{any_number}
 use Rattle.bitcode_untyped.specs.Faults.{faults_of}
@@ -21,6 +21,7 @@ use Rattle.bitcode_serde.specs.Reading.{AreSized, IsAskedAs, Stands}
 use Rattle.bitcode_serde.specs.Places.{IsPlace}
 use Rattle.bitcode_serde.specs.declared.budget.Budget.{Budget}
 use Rattle.bitcode_serde.specs.declared.column.ColumnKind.{ColumnKind}
+use Rattle.bitcode_serde.specs.declared.column.ColumnKind.TheVariants.{Lengths}
 use Rattle.bitcode_serde.specs.declared.reader.Reader.{Reader}
 
 -- between two calls
@@ -99,7 +100,9 @@ IsOfLeaf n v = (table : List ShapeNode) (left : ℕ) → faults_of table v left 
 -- the values of the node are all the entries of a column of the kind
 pub record HasColumn (n : ShapeNode) (kind : ColumnKind) : Type 0 where
   pub tree : (follow : ℕ → ShapeTree) → tree_by follow n ≡ leaf_tree (kind_of kind) any_number
+  pub values : kind ≢ Lengths
   pub whole : (v : Value) → IsCaseOf kind v → IsOfLeaf n v
+  pub other : (v : Value) → (IsCaseOf kind v → ⊥) → (table : List ShapeNode) (left : ℕ) → faults_of table v left n ≡ NotOfTheShape ∷ []
 
 abbrev pub IsOfChar : Value → Type 0
 IsOfChar = IsOfLeaf node.Char

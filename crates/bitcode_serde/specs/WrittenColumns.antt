@@ -7,6 +7,9 @@ use Rattle.bitcode_coder.specs.Cutting.{cut}
 use Rattle.bitcode_coder.specs.Length.{written_lengths}
 use Rattle.bitcode_coder.specs.Spelling.{natural, truth}
 use Rattle.bitcode_coder.specs.Int.{int_data}
+use Rattle.bitcode_serde.specs.ReadColumns.{kind_of}
+use Rattle.bitcode_serde.specs.declared.column.ColumnKind.{ColumnKind}
+use Rattle.bitcode_serde.specs.declared.column.ColumnKind.TheVariants as kind
 use Rattle.bitcode_serde.specs.declared.written.Entry.{Entry}
 use Rattle.bitcode_serde.specs.declared.written.Entry.TheVariants as entry
 use Rattle.bitcode_serde.specs.declared.written.WrittenColumn.{WrittenColumn}
@@ -42,20 +45,24 @@ datum_of_entry (entry.I128 z) = number z
 datum_of_entry (entry.Length n) = natural n
 datum_of_entry (entry.Text s) = text s.now
 
+-- what the column holds, in the code's words
+abbrev pub kind_in_written : WrittenColumn → ColumnKind
+kind_in_written (column.Bools e) = kind.Bools
+kind_in_written (column.Bytes e) = kind.Bytes
+kind_in_written (column.U16 e) = kind.U16
+kind_in_written (column.U32 e) = kind.U32
+kind_in_written (column.U64 e) = kind.U64
+kind_in_written (column.U128 e) = kind.U128
+kind_in_written (column.I8 e) = kind.I8
+kind_in_written (column.I16 e) = kind.I16
+kind_in_written (column.I32 e) = kind.I32
+kind_in_written (column.I64 e) = kind.I64
+kind_in_written (column.I128 e) = kind.I128
+kind_in_written (column.Lengths e) = kind.Lengths
+kind_in_written (column.Texts e) = kind.Texts
+
 abbrev pub kind_of_written : WrittenColumn → Kind
-kind_of_written (column.Bools e) = bools
-kind_of_written (column.Bytes e) = ints 1 false
-kind_of_written (column.U16 e) = ints 2 false
-kind_of_written (column.U32 e) = ints 4 false
-kind_of_written (column.U64 e) = ints 8 false
-kind_of_written (column.U128 e) = ints 16 false
-kind_of_written (column.I8 e) = ints 1 true
-kind_of_written (column.I16 e) = ints 2 true
-kind_of_written (column.I32 e) = ints 4 true
-kind_of_written (column.I64 e) = ints 8 true
-kind_of_written (column.I128 e) = ints 16 true
-kind_of_written (column.Lengths e) = lengths None
-kind_of_written (column.Texts e) = texts None
+kind_of_written c = kind_of (kind_in_written c)
 
 -- what was written so far
 abbrev pub entries_of : WrittenColumn → List Datum

@@ -17,6 +17,7 @@ ghost use Rattle.bitcode_coder.specs.Faults.{NamesIntsFault};
 ghost use Rattle.bitcode_untyped.specs.View.{datum_of};
 ghost use Rattle.bitcode_serde.specs.ReadColumns.{kind_of, kind_number, kind_in_code, kind_of_column, left, Tallies, IsCaseOf, ReadsColumn, IsColumnRefusal};
 
+use crate::case::Case;
 use crate::serde::VariantDecoder;
 use bitcode_coder::bool::BoolDecoder;
 use bitcode_coder::coder::{Decoder, View};
@@ -106,6 +107,35 @@ fn next<T: Made, D: Decoder<T>>(column: &mut D) -> T
     ensures { TakesDatum T.makes result (D.held column.old) (D.held column.new) }
 {
     column.decode().unwrap()
+}
+
+// The values that hold these.
+fn values_of<T: Case + Drop>(alloc: Global, items: Vec<T>) -> Result<Vec<Value>, Error>
+    ensures held { IfOk result (λ values. values.items ≡ map T.holder items.items) }
+    ensures refused { IfErr result (λ e. e.reason ≡ Reason.OutOfMemory) }
+{
+    let mut values = Vec::with_capacity(alloc, items.len())?;
+    for item in items {
+        values.push_reserved(item.into_value());
+    }
+    Ok(values)
+}
+
+// Takes so many of the next entries, all at once, as values of one case. So many are left.
+fn take_values<T: Case + Drop, D: Decoder<T>>(
+    column: &mut D,
+    alloc: Global,
+    count: usize,
+) -> Result<Vec<Value>, Error>
+    requires { count ≤ length (D.held column.old) }
+    ensures taken { IfOk result (λ values. D.held column.old ≡ map datum_of values.items ++ D.held column.new) }
+    ensures size { IfOk result (λ values. length values.items ≡ count) }
+    ensures of_case { IfOk result (λ values. AllByRecursion (IsCaseOf T.kind) values.items) }
+    ensures refused { IfErr result (λ e. e.reason ≡ Reason.OutOfMemory) }
+{
+    let items = column.decode_many(alloc, count)?;
+    let values = values_of(alloc, items)?;
+    Ok(values)
 }
 
 // Reads a column of so many entries. Where `strict`, the answer is whether its bytes are its text.
@@ -283,10 +313,8 @@ impl<'a> Column<'a> {
         }
     }
 
-    /// Takes so many of the next entries, one after another. So many are left.
-    ///
-    /// `out of memory` is the only refusal.
-    pub fn take_each(&mut self, alloc: Global, count: usize) -> Result<Vec<Value>, Error>
+    // Takes so many of the next entries, one after another. So many are left.
+    fn take_in_turn(&mut self, alloc: Global, count: usize) -> Result<Vec<Value>, Error>
         requires { count ≤ length (left self.old) }
         ensures taken { IfOk result (λ values. left self.old ≡ map datum_of values.items ++ left self.new) }
         ensures size { IfOk result (λ values. length values.items ≡ count) }
@@ -301,6 +329,35 @@ impl<'a> Column<'a> {
             values.push(value)?;
         }
         Ok(values)
+    }
+
+    /// Takes so many of the next entries at once. So many are left.
+    ///
+    /// `out of memory` is the only refusal.
+    pub fn take_each(&mut self, alloc: Global, count: usize) -> Result<Vec<Value>, Error>
+        requires { count ≤ length (left self.old) }
+        ensures taken { IfOk result (λ values. left self.old ≡ map datum_of values.items ++ left self.new) }
+        ensures size { IfOk result (λ values. length values.items ≡ count) }
+        ensures of_case { IfOk result (λ values. AllByRecursion (IsCaseOf (kind_in_code self.old)) values.items) }
+        ensures kind { kind_of_column self.new ≡ kind_of_column self.old }
+        ensures tallies { (entries : List Datum) → Tallies self.old entries → Tallies self.new entries }
+        ensures refused { IfErr result (λ e. e.reason ≡ Reason.OutOfMemory) }
+    {
+        match self {
+            Column::Bools(column) => take_values::<bool, BoolDecoder<'a>>(column, alloc, count),
+            Column::Bytes(column) => values_of(alloc, column.take(count)?),
+            Column::U16(column) => take_values::<u16, IntDecoder<'a, u16>>(column, alloc, count),
+            Column::U32(column) => take_values::<u32, IntDecoder<'a, u32>>(column, alloc, count),
+            Column::U64(column) => take_values::<u64, IntDecoder<'a, u64>>(column, alloc, count),
+            Column::U128(column) => take_values::<u128, IntDecoder<'a, u128>>(column, alloc, count),
+            Column::I8(column) => take_values::<i8, IntDecoder<'a, i8>>(column, alloc, count),
+            Column::I16(column) => take_values::<i16, IntDecoder<'a, i16>>(column, alloc, count),
+            Column::I32(column) => take_values::<i32, IntDecoder<'a, i32>>(column, alloc, count),
+            Column::I64(column) => take_values::<i64, IntDecoder<'a, i64>>(column, alloc, count),
+            Column::I128(column) => take_values::<i128, IntDecoder<'a, i128>>(column, alloc, count),
+            Column::Lengths(_) => self.take_in_turn(alloc, count),
+            Column::Texts(column) => take_values::<String, StrDecoder<'a>>(column, alloc, count),
+        }
     }
 
     /// Takes the next length. One is left.

@@ -2,8 +2,7 @@
 #![tactic(auto)]
 
 ghost use Rattle.std.specs.Prelude.{◌≡◌, IfOk, IfErr};
-ghost use Rattle.bitcode_untyped.specs.declared.shape.ShapeNode.{out-ShapeNode};
-ghost use Rattle.bitcode_serde.specs.Serializing.{is_leaf, IsLeaf, IsEntryAt, HasOneFault};
+ghost use Rattle.bitcode_serde.specs.Serializing.{IsLeaf, IsEntryAt, HasOneFault};
 ghost use Rattle.bitcode_serde.specs.WrittenColumns.{kind_of_entry, datum_of_entry};
 
 use crate::written::Entry;
@@ -17,23 +16,6 @@ fn copied<T: Copy>(t: &T) -> T
     ensures { result ≡ t.now }
 {
     *t
-}
-
-/// Whether the values of a node are entries of one column.
-pub fn is_leaf(node: &ShapeNode) -> bool
-    ensures { result ≡ is_leaf (out-ShapeNode node.now) }
-{
-    match node {
-        ShapeNode::Unit => false,
-        ShapeNode::Bytes => false,
-        ShapeNode::Option(_) => false,
-        ShapeNode::Seq(_) => false,
-        ShapeNode::Map(_, _) => false,
-        ShapeNode::Tuple(_) => false,
-        ShapeNode::Enum(_) => false,
-        ShapeNode::Ref(_) => false,
-        _ => true,
-    }
 }
 
 /// The entry that a value is, under a node whose values are entries of one column.

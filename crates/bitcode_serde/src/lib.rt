@@ -2,6 +2,7 @@
 #![tactic(auto)]
 
 pub mod budget;
+mod case;
 pub mod column;
 pub mod deserialize;
 mod entries;

@@ -1,7 +1,7 @@
 //! Values are written along their walks.
 #![tactic(auto)]
 
-ghost use Rattle.std.specs.Prelude.{◌≡◌, ℕ, ◌≤◌, List, [], ◌∷◌, ◌++◌, length, map, slice_get, nat_lt, if◌then◌else◌, IfOk, IfErr, OnOk};
+ghost use Rattle.std.specs.Prelude.{◌≡◌, ◌≢◌, ℕ, ◌≤◌, List, [], ◌∷◌, ◌++◌, length, map, slice_get, nat_lt, if◌then◌else◌, IfOk, IfErr, OnOk};
 ghost use Rattle.std.specs.List.{flat_map};
 ghost use Rattle.bitcode_columns.specs.declared.error.Reason.TheVariants.{TooManyVariants};
 ghost use Rattle.bitcode_shapes.specs.Datum.{choice, list, tuple, pair, data_of};
@@ -9,11 +9,13 @@ ghost use Rattle.bitcode_coder.specs.Spelling.{natural};
 ghost use Rattle.bitcode_untyped.specs.Faults.{faults_of, faults_of_fields, faults_of_variant};
 ghost use Rattle.bitcode_untyped.specs.ShapeTree.{ShapeTrees, natural_tree, seq_tree, map_tree, tuple_tree, choice_tree, greatest_index};
 ghost use Rattle.bitcode_untyped.specs.View.{datum_of, tree_of_node, trees_of};
-ghost use Rattle.bitcode_serde.specs.ReadingValues.{field_at};
+ghost use Rattle.bitcode_serde.specs.ReadingValues.{HasColumn, field_at};
 ghost use Rattle.bitcode_serde.specs.Serializing.{Outcome, IsLeaf, IsVariant};
 ghost use Rattle.bitcode_serde.specs.Writing.{written, place_in, Grows};
 
-use crate::entries::{is_leaf, leaf_entry};
+use crate::column::ColumnKind;
+use crate::entries::leaf_entry;
+use crate::leaf::column_kind;
 use crate::step::Step;
 use crate::writer::Writer;
 use crate::written::Entry;
@@ -21,6 +23,7 @@ use bitcode_columns::error::{Error, Reason};
 use bitcode_columns::refuse::err;
 use bitcode_untyped::shape::ShapeNode;
 use bitcode_untyped::value::Value;
+use std::slice::from_ref;
 
 /// Writes a value of a node at a place, below which so many references may be followed.
 ///
@@ -74,7 +77,24 @@ pub fn write(
             _ => err(Reason::NotOfTheShape),
         },
         ShapeNode::Ref(i) => write_reference(writer, table, *i, value, left, place),
-        _ => writer.put(place, leaf_entry(node, value)?),
+        _ => write_leaf(writer, node, value, place),
+    }
+}
+
+// Writes a value of a node whose values are entries of one column.
+fn write_leaf(
+    writer: &mut Writer,
+    node: &ShapeNode,
+    value: &Value,
+    place: usize,
+) -> Result<(), Error>
+    requires place { place ≤ length writer.old.places.below.items }
+    requires leaf { IsLeaf node.now }
+    ensures { (table : List ShapeNode) (left : ℕ) → Outcome writer.old (tree_of_node left table node.now) place (datum_of value.now) (faults_of table value.now left node.now) result writer.new }
+{
+    match column_kind(node) {
+        Some(kind) => writer.put_each(place, kind, from_ref(value)),
+        None => writer.put(place, leaf_entry(node, value)?),
     }
 }
 
@@ -154,24 +174,22 @@ fn write_enum(
     }
 }
 
-// Writes a list of values that are entries of one column: how many there are, and then each, one after another.
+// Writes a list of values that are entries of one column: how many there are, and then all of them.
 fn write_leaves(
     writer: &mut Writer,
-    node: &ShapeNode,
+    kind: ColumnKind,
     values: &[Value],
     place: usize,
 ) -> Result<(), Error>
     requires place { place ≤ length writer.old.places.below.items }
-    requires leaf { IsLeaf node.now }
-    ensures { (table : List ShapeNode) (left : ℕ) → Outcome writer.old (seq_tree (tree_of_node left table node.now)) place (list (data_of (map datum_of values.now)))
-        (flat_map (λ value. faults_of table value left node.now) values.now) result writer.new }
+    requires values { kind ≢ ColumnKind.Lengths }
+    ensures { (n : ShapeNode) → HasColumn n kind → (table : List ShapeNode) (left : ℕ)
+        → Outcome writer.old (seq_tree (tree_of_node left table n)) place (list (data_of (map datum_of values.now)))
+        (flat_map (λ value. faults_of table value left n) values.now) result writer.new }
 {
     writer.put(place, Entry::Length(values.len()))?;
     let element = writer.below(place, Step::Element)?;
-    for value in values {
-        writer.put(element, leaf_entry(node, value)?)?;
-    }
-    Ok(())
+    writer.put_each(element, kind, values)
 }
 
 // Writes a list of values of a node: how many there are, and then each at the same place.
@@ -188,8 +206,8 @@ fn write_seq(
     ensures { Outcome writer.old (seq_tree (tree_of_node left table.now node.now)) place (list (data_of (map datum_of values.now)))
         (flat_map (λ value. faults_of table.now value left node.now) values.now) result writer.new }
 {
-    if is_leaf(node) {
-        return write_leaves(writer, node, values, place);
+    if let Some(kind) = column_kind(node) {
+        return write_leaves(writer, kind, values, place);
     }
     writer.put(place, Entry::Length(values.len()))?;
     let element = writer.below(place, Step::Element)?;

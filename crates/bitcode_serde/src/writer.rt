@@ -1,7 +1,8 @@
 //! Columns in the order of their first entries, each at its place.
 #![tactic(auto)]
 
-ghost use Rattle.std.specs.Prelude.{◌≡◌, ◌≢◌, ◌≤◌, ◌<◌, [], ◌∷◌, ◌++◌, false, take, map, length, All, slice_get, get_or, IfOk, OnOk, IfErr, IfSome, IfNone, IsSomeAnd};
+ghost use Rattle.std.specs.Prelude.{◌≡◌, ◌≢◌, ◌≤◌, ◌<◌, ◌⊎◌, [], ◌∷◌, ◌++◌, false, take, map, length, All, slice_get, get_or, IfOk, OnOk, IfErr, IfSome, IfNone, IsSomeAnd};
+ghost use Rattle.std.specs.List.{AllByRecursion};
 ghost use Rattle.bitcode_coder.specs.Columns.{ints};
 ghost use Rattle.bitcode_coder.specs.Spelling.{natural, texts_of};
 ghost use Rattle.bitcode_untyped.specs.Growing.{put, put_all};
@@ -9,15 +10,20 @@ ghost use Rattle.bitcode_untyped.specs.PlaceKinds.{HasKindFrom};
 ghost use Rattle.bitcode_untyped.specs.PlacedColumns.{unplaced};
 ghost use Rattle.bitcode_untyped.specs.ShapeTree.{ShapeTree};
 ghost use Rattle.bitcode_untyped.specs.Walk.{use_at};
+ghost use Rattle.bitcode_untyped.specs.View.{datum_of};
+ghost use Rattle.bitcode_serde.specs.Leaves.{IsEntryIn, HasOther};
+ghost use Rattle.bitcode_serde.specs.ReadColumns.{kind_of};
 ghost use Rattle.bitcode_serde.specs.Places.{step_of, AreApart, places};
 ghost use Rattle.bitcode_serde.specs.WrittenColumns.{kind_of_entry, datum_of_entry};
 ghost use Rattle.bitcode_serde.specs.Writing.{written, place_in, column_of, Grows, AreOfShape};
 
+use crate::column::ColumnKind;
 use crate::places::Places;
 use crate::step::Step;
 pub use crate::writer::state::{PlacedWritten, Writer};
 use crate::written::{Entry, WrittenColumn};
 use bitcode_columns::error::{Error, Reason};
+use bitcode_untyped::value::Value;
 use std::alloc::Global;
 
 mod state;
@@ -98,6 +104,38 @@ impl Writer {
             None => {
                 let mut column = WrittenColumn::new(self.alloc, next);
                 column.push(next)?;
+                self.add(place, column)
+            }
+        }
+    }
+
+    /// Writes values of one case to the column of a place, one after another.
+    ///
+    /// Without values no column is begun. A refused growth is `out of memory`, and `value is not of the shape` comes only
+    /// where a value is of another case, or the column is for other entries.
+    pub fn put_each(
+        &mut self,
+        place: usize,
+        kind: ColumnKind,
+        values: &[Value],
+    ) -> Result<(), Error>
+        requires place { place ≤ length self.old.places.below.items }
+        requires values { kind ≢ ColumnKind.Lengths }
+        ensures below { OnOk result (self.new.places.below ≡ self.old.places.below) }
+        ensures written { OnOk result (written self.new ≡ put_all (map (use_at (place_in self.old place) (kind_of kind)) (map datum_of values.now)) (written self.old)) }
+        ensures entries { OnOk result (AllByRecursion (IsEntryIn kind) values.now) }
+        ensures refused { IfErr result (λ e. (root : ShapeTree) → AreOfShape root (written self.old)
+            → HasKindFrom root [] (place_in self.old place) (kind_of kind)
+            → (e.reason ≡ Reason.OutOfMemory) ⊎ ((e.reason ≡ Reason.NotOfTheShape) × HasOther kind values.now)) }
+    {
+        match self.column(place) {
+            Some(i) => self.columns[i].column.push_each(kind, values),
+            None => {
+                if values.is_empty() {
+                    return Ok(());
+                }
+                let mut column = WrittenColumn::of(kind, self.alloc);
+                column.push_each(kind, values)?;
                 self.add(place, column)
             }
         }

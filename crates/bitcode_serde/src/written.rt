@@ -1,18 +1,26 @@
 //! The columns that a writer fills.
-ghost use Rattle.std.specs.Prelude.{◌≡◌, ◌≢◌, ◌⊎◌, [], ◌∷◌, ◌++◌, map, false, OnOk, IfOk, IfErr};
+ghost use Rattle.std.specs.Prelude.{◌≡◌, ◌≢◌, ◌⊎◌, ◌+◌, ◌<◌, ◌≤◌, [], ◌∷◌, ◌++◌, length, map, take, None, false, MatchBool, OnOk, IfOk, IfErr};
+ghost use Rattle.std.specs.List.{AllByRecursion};
 ghost use Rattle.bitcode_coder.specs.Coder.{JoinsListing, OverflowsWithListing};
-ghost use Rattle.bitcode_coder.specs.Columns.{ints};
+ghost use Rattle.bitcode_coder.specs.Columns.{ints, lengths, one, beside};
 ghost use Rattle.bitcode_coder.specs.Spelling.{natural, column_bytes};
-ghost use Rattle.bitcode_serde.specs.WrittenColumns.{kind_of_entry, datum_of_entry, kind_of_written, entries_of};
+ghost use Rattle.bitcode_untyped.specs.View.{datum_of};
+ghost use Rattle.bitcode_serde.specs.Leaves.{IsEntryIn, HasOther};
+ghost use Rattle.bitcode_serde.specs.ReadColumns.{kind_of, IsCaseOf};
+ghost use Rattle.bitcode_serde.specs.WrittenColumns.{kind_of_entry, datum_of_entry, kind_in_written, kind_of_written, entries_of};
 
+use crate::case::Case;
+use crate::column::ColumnKind;
 use bitcode_coder::bool::BoolEncoder;
-use bitcode_coder::coder::{Buffer, Encoder};
+use bitcode_coder::coder::{Buffer, Encoder, MAX_VECTORED_CHUNK};
 use bitcode_coder::int::IntEncoder;
 use bitcode_coder::length::LengthEncoder;
+use bitcode_coder::part::{Behind, told_parts};
 use bitcode_coder::str::StrEncoder;
 use bitcode_columns::error::{Error, Reason};
 use bitcode_columns::refuse::err;
 use bitcode_shapes::shaped::Shaped;
+use bitcode_untyped::value::Value;
 use std::alloc::Global;
 
 /// One entry of a column.
@@ -62,7 +70,181 @@ fn join<T: Shaped, E: Buffer + Encoder<T>>(column: &mut E, entry: &T) -> Result<
     column.encode(entry)
 }
 
+// Puts what each of several values holds into the first places of `held`. The answer is whether all are of the case.
+fn gather<'b, T: Case>(values: &'b [Value], held: &mut [&'b T; MAX_VECTORED_CHUNK]) -> bool
+    requires { length values.now ≤ MAX_VECTORED_CHUNK }
+    ensures size { length held.new ≡ MAX_VECTORED_CHUNK }
+    ensures gathered { MatchBool result (map (λ t. T.holder t.now) (take (length values.now) held.new) ≡ values.now) (HasOther T.kind values.now) }
+{
+    for i in 0..values.len() {
+        match T::held(&values[i]) {
+            Some(t) => held[i] = t,
+            None => return false,
+        }
+    }
+    true
+}
+
+// Writes 1 to 64 values of one case; the first one holds `first`. Room for them was reserved.
+fn join_held<'b, T: Case, E: Buffer + Encoder<T>>(
+    column: &mut E,
+    values: &'b [Value],
+    first: &'b T,
+) -> Result<(), Error>
+    requires chunk { (0 < length values.now) × (length values.now ≤ MAX_VECTORED_CHUNK) }
+    requires room { length values.now ≤ E.room column.old }
+    ensures joined { OnOk result (E.columns column.new ≡ beside (E.columns column.old) (one (kind_of T.kind) (map datum_of values.now))) }
+    ensures entries { OnOk result (AllByRecursion (IsEntryIn T.kind) values.now) }
+    ensures room { OnOk result (E.room column.old ≤ E.room column.new + length values.now) }
+    ensures refused { IfErr result (λ e. (e.reason ≡ Reason.OutOfMemory) ⊎ ((e.reason ≡ Reason.NotOfTheShape) × HasOther T.kind values.now)) }
+{
+    let mut held = [first; MAX_VECTORED_CHUNK];
+    if !gather(values, &mut held) {
+        return err(Reason::NotOfTheShape);
+    }
+    let held = &held[..values.len()];
+    told_parts(held, &Behind);
+    column.encode_vectored(held)
+}
+
+// Writes 1 to 64 values of one case. Room for them was reserved.
+fn join_chunk<T: Case, E: Buffer + Encoder<T>>(
+    column: &mut E,
+    values: &[Value],
+) -> Result<(), Error>
+    requires chunk { (0 < length values.now) × (length values.now ≤ MAX_VECTORED_CHUNK) }
+    requires room { length values.now ≤ E.room column.old }
+    ensures joined { OnOk result (E.columns column.new ≡ beside (E.columns column.old) (one (kind_of T.kind) (map datum_of values.now))) }
+    ensures entries { OnOk result (AllByRecursion (IsEntryIn T.kind) values.now) }
+    ensures room { OnOk result (E.room column.old ≤ E.room column.new + length values.now) }
+    ensures refused { IfErr result (λ e. (e.reason ≡ Reason.OutOfMemory) ⊎ ((e.reason ≡ Reason.NotOfTheShape) × HasOther T.kind values.now)) }
+{
+    match T::held(&values[0]) {
+        Some(first) => join_held(column, values, first),
+        None => err(Reason::NotOfTheShape),
+    }
+}
+
+// Writes a value of one case. Room for it was reserved.
+fn join_one<T: Case, E: Buffer + Encoder<T>>(column: &mut E, value: &Value) -> Result<(), Error>
+    requires { 0 < E.room column.old }
+    ensures joined { OnOk result (E.columns column.new ≡ beside (E.columns column.old) (one (kind_of T.kind) (datum_of value.now ∷ []))) }
+    ensures entry { OnOk result (IsEntryIn T.kind value.now) }
+    ensures refused { IfErr result (λ e. (e.reason ≡ Reason.OutOfMemory) ⊎ ((e.reason ≡ Reason.NotOfTheShape) × (IsCaseOf T.kind value.now → ⊥))) }
+{
+    match T::held(value) {
+        Some(t) => {
+            t.told();
+            column.encode(t)
+        }
+        None => err(Reason::NotOfTheShape),
+    }
+}
+
+// Makes room for values of one case, and writes them.
+fn join_each<T: Case, E: Buffer + Encoder<T>>(column: &mut E, values: &[Value]) -> Result<(), Error>
+    ensures joined { OnOk result (E.columns column.new ≡ beside (E.columns column.old) (one (kind_of T.kind) (map datum_of values.now))) }
+    ensures entries { OnOk result (AllByRecursion (IsEntryIn T.kind) values.now) }
+    ensures refused { IfErr result (λ e. (e.reason ≡ Reason.OutOfMemory) ⊎ ((e.reason ≡ Reason.NotOfTheShape) × HasOther T.kind values.now) ⊎ E.surely_overflows column.old (length values.now)) }
+{
+    column.reserve(values.len())?;
+    if values.len() == 1 {
+        return join_one(column, &values[0]);
+    }
+    let mut rest = values;
+    while !rest.is_empty() {
+        let (front, behind) = rest.split_at(rest.len().min(MAX_VECTORED_CHUNK));
+        join_chunk::<T, E>(column, front)?;
+        rest = behind;
+    }
+    Ok(())
+}
+
 impl WrittenColumn {
+    /// An empty column of a kind. Takes no memory.
+    pub fn of(kind: ColumnKind, alloc: Global) -> Self
+        ensures kind { kind_in_written result ≡ kind }
+        ensures empty { entries_of result ≡ [] }
+    {
+        match kind {
+            ColumnKind::Bools => WrittenColumn::Bools(BoolEncoder::new(alloc)),
+            ColumnKind::Bytes => WrittenColumn::Bytes(IntEncoder::new(alloc)),
+            ColumnKind::U16 => WrittenColumn::U16(IntEncoder::new(alloc)),
+            ColumnKind::U32 => WrittenColumn::U32(IntEncoder::new(alloc)),
+            ColumnKind::U64 => WrittenColumn::U64(IntEncoder::new(alloc)),
+            ColumnKind::U128 => WrittenColumn::U128(IntEncoder::new(alloc)),
+            ColumnKind::I8 => WrittenColumn::I8(IntEncoder::new(alloc)),
+            ColumnKind::I16 => WrittenColumn::I16(IntEncoder::new(alloc)),
+            ColumnKind::I32 => WrittenColumn::I32(IntEncoder::new(alloc)),
+            ColumnKind::I64 => WrittenColumn::I64(IntEncoder::new(alloc)),
+            ColumnKind::I128 => WrittenColumn::I128(IntEncoder::new(alloc)),
+            ColumnKind::Lengths => WrittenColumn::Lengths(LengthEncoder::new(alloc)),
+            ColumnKind::Texts => WrittenColumn::Texts(StrEncoder::new(alloc)),
+        }
+    }
+
+    /// What the column holds.
+    pub fn kind(&self) -> ColumnKind
+        ensures { result ≡ kind_in_written self.now }
+    {
+        match self {
+            WrittenColumn::Bools(_) => ColumnKind::Bools,
+            WrittenColumn::Bytes(_) => ColumnKind::Bytes,
+            WrittenColumn::U16(_) => ColumnKind::U16,
+            WrittenColumn::U32(_) => ColumnKind::U32,
+            WrittenColumn::U64(_) => ColumnKind::U64,
+            WrittenColumn::U128(_) => ColumnKind::U128,
+            WrittenColumn::I8(_) => ColumnKind::I8,
+            WrittenColumn::I16(_) => ColumnKind::I16,
+            WrittenColumn::I32(_) => ColumnKind::I32,
+            WrittenColumn::I64(_) => ColumnKind::I64,
+            WrittenColumn::I128(_) => ColumnKind::I128,
+            WrittenColumn::Lengths(_) => ColumnKind::Lengths,
+            WrittenColumn::Texts(_) => ColumnKind::Texts,
+        }
+    }
+
+    // Writes values behind the others, each of the case of the column's entries. No value is a length.
+    fn join_values(&mut self, values: &[Value]) -> Result<(), Error>
+        ensures kind { OnOk result (kind_in_written self.new ≡ kind_in_written self.old) }
+        ensures written { OnOk result (entries_of self.new ≡ entries_of self.old ++ map datum_of values.now) }
+        ensures entries { OnOk result (AllByRecursion (IsEntryIn (kind_in_written self.old)) values.now) }
+        ensures refused { IfErr result (λ e. (e.reason ≡ Reason.OutOfMemory) ⊎ ((e.reason ≡ Reason.NotOfTheShape) × HasOther (kind_in_written self.old) values.now) ⊎ (kind_in_written self.old ≡ ColumnKind.Lengths)) }
+    {
+        match self {
+            WrittenColumn::Bools(column) => join_each::<bool, BoolEncoder>(column, values),
+            WrittenColumn::Bytes(column) => join_each::<u8, IntEncoder<u8>>(column, values),
+            WrittenColumn::U16(column) => join_each::<u16, IntEncoder<u16>>(column, values),
+            WrittenColumn::U32(column) => join_each::<u32, IntEncoder<u32>>(column, values),
+            WrittenColumn::U64(column) => join_each::<u64, IntEncoder<u64>>(column, values),
+            WrittenColumn::U128(column) => join_each::<u128, IntEncoder<u128>>(column, values),
+            WrittenColumn::I8(column) => join_each::<i8, IntEncoder<i8>>(column, values),
+            WrittenColumn::I16(column) => join_each::<i16, IntEncoder<i16>>(column, values),
+            WrittenColumn::I32(column) => join_each::<i32, IntEncoder<i32>>(column, values),
+            WrittenColumn::I64(column) => join_each::<i64, IntEncoder<i64>>(column, values),
+            WrittenColumn::I128(column) => join_each::<i128, IntEncoder<i128>>(column, values),
+            WrittenColumn::Lengths(_) => err(Reason::NotOfTheShape),
+            WrittenColumn::Texts(column) => join_each::<String, StrEncoder>(column, values),
+        }
+    }
+
+    /// Writes values of the case of a kind behind the others.
+    ///
+    /// A refused growth is `out of memory`, and `value is not of the shape` comes only where a value is of another case, or
+    /// the column is for other entries.
+    pub fn push_each(&mut self, kind: ColumnKind, values: &[Value]) -> Result<(), Error>
+        requires { kind ≢ ColumnKind.Lengths }
+        ensures kind { OnOk result ((kind_of_written self.new ≡ kind_of_written self.old) × (kind_of kind ≡ kind_of_written self.old)) }
+        ensures written { OnOk result (entries_of self.new ≡ entries_of self.old ++ map datum_of values.now) }
+        ensures entries { OnOk result (AllByRecursion (IsEntryIn kind) values.now) }
+        ensures refused { IfErr result (λ e. (e.reason ≡ Reason.OutOfMemory) ⊎ ((e.reason ≡ Reason.NotOfTheShape) × HasOther kind values.now) ⊎ (kind_of kind ≢ kind_of_written self.old)) }
+    {
+        if !self.kind().is(kind) {
+            return err(Reason::NotOfTheShape);
+        }
+        self.join_values(values)
+    }
+
     /// An empty column for such an entry. Takes no memory.
     pub fn new(alloc: Global, next: Entry<'_>) -> Self
         ensures kind { kind_of_written result ≡ kind_of_entry next.entry }

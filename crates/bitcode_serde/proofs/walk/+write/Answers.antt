@@ -17,7 +17,7 @@ use Rattle.bitcode_serde.specs.Writing.{place_in}
 use Rattle.bitcode_serde.proofs.DepthLemmas.{entry_deep, reference_falls}
 use Rattle.bitcode_serde.proofs.EntryLemmas.{found_entry, no_entry}
 use Rattle.bitcode_serde.proofs.SerializeLemmas.{grows_same, writes_none, refuses_use, among_front, among_back, begun, list_done, list_is, list_refused, refused_outcome, written_outcome, same_outcome, one_fault}
-use Rattle.bitcode_serde.proofs.WalkLemmas.{leaf_outcome, among_entry, each_none, each_more, each_all, written_there, use_outcome, reference_there, faults_there, faults_nowhere, variant_there, variant_outcome, both_begun, pair_there, key_refused, value_refused, map_done, map_is, uneven_fault, fields_none, field_more, field_refused, fields_done}
+use Rattle.bitcode_serde.proofs.WalkLemmas.{among_entry, each_none, each_more, each_all, written_there, use_outcome, reference_there, faults_there, faults_nowhere, variant_there, variant_outcome, both_begun, pair_there, key_refused, value_refused, map_done, map_is, uneven_fault, fields_none, field_more, field_refused, fields_done}
 use Rattle.bitcode_serde.proofs.walk.+write.Goals as goal
 
 pub write-returns-in-Unit-value : goal.write-returns-in-Unit-value
@@ -166,11 +166,8 @@ write-returns-in-Enum-value t c =
     )
     c.write_enum.ensures
 
-pub write-returns-in_ok-leaf_entry-in_default : goal.write-returns-in_ok-leaf_entry-in_default
-write-returns-in_ok-leaf_entry-in_default t c =
-    leaf_outcome c.args.writer.now c.put-in_default.new.self c.args.place c.args.node.now c.args.value.now _ _ c.put-in_default.result
-    c.in_ok-leaf_entry-in_default.ensures.entry
-    c.put-in_default.ensures.below c.put-in_default.ensures.written c.put-in_default.ensures.refused c.args.table.now c.args.left
+pub write-returns-in_default : goal.write-returns-in_default
+write-returns-in_default t c = c.write_leaf.ensures c.args.table.now c.args.left
 
 pub write_enum-write_variant-requires : goal.write_enum-write_variant-requires
 write_enum-write_variant-requires t c =
@@ -231,8 +228,11 @@ write_variant-returns t c =
     variant_outcome c.args.writer.now c.below.new.self c.write.new.writer trees (tree_of_node c.args.left c.args.table.now c.args.node.now) c.args.index
     c.args.place c.in_ok-inside.inside (datum_of c.args.value.now) _ c.write.result is small b.0 b.1 c.write.ensures
 
-pub write_seq-returns-then-is_leaf : goal.write_seq-returns-then-is_leaf
-write_seq-returns-then-is_leaf t c = c.write_leaves.ensures c.args.table.now c.args.left
+pub write_seq-write_leaves-requires : goal.write_seq-write_leaves-requires
+write_seq-write_leaves-requires t c = record { place = c.requires; values = c.in-Some.ensures.some.values }
+
+pub write_seq-returns-in-Some : goal.write_seq-returns-in-Some
+write_seq-returns-in-Some t c = c.write_leaves.ensures c.args.node.now c.in-Some.ensures.some c.args.table.now c.args.left
 
 pub write_seq-returns-in_err-put : goal.write_seq-returns-in_err-put
 write_seq-returns-in_err-put t c =

@@ -3,7 +3,7 @@ use Rattle.std.specs.List.{AllByRecursion}
 use Rattle.bitcode_shapes.specs.Datum.{Datum}
 use Rattle.bitcode_untyped.specs.View.{datum_of}
 use Rattle.bitcode_serde.specs.ReadColumns.{kind_of_column, kind_in_code, left, Tallies, IsCaseOf}
-use Rattle.bitcode_serde.proofs.column.Column.take_each.Given as goal
+use Rattle.bitcode_serde.proofs.column.Column.take_in_turn.Given as goal
 
 abbrev pub invariant-loop-i : goal.invariant-loop-i
 invariant-loop-i l =

@@ -1,0 +1,21 @@
+-- A leaf is an entry of its column.
+use Rattle.bitcode_serde.proofs.LeavesLemmas.{value_outcome}
+use Rattle.bitcode_serde.proofs.WalkLemmas.{leaf_outcome}
+use Rattle.bitcode_serde.proofs.walk.write_leaf.Goals as goal
+
+pub put_each-requires : goal.put_each-requires
+put_each-requires c = record { place = c.requires.place; values = c.in-Some.ensures.some.values }
+
+pub returns-in-Some : goal.returns-in-Some
+returns-in-Some c =
+    λ table left.
+    value_outcome c.args.node.now c.in-Some.kind c.args.value.now c.args.writer.now c.put_each.new.self c.args.place c.put_each.result c.in-Some.ensures.some
+    c.put_each.ensures.below (rw c.from_ref.ensures.value at c.put_each.ensures.written) (rw c.from_ref.ensures.value at c.put_each.ensures.entries)
+    (rw c.from_ref.ensures.value at c.put_each.ensures.refused) table left
+
+pub returns-in_ok-leaf_entry-in-None : goal.returns-in_ok-leaf_entry-in-None
+returns-in_ok-leaf_entry-in-None c =
+    λ table left.
+    leaf_outcome c.args.writer.now c.put.new.self c.args.place c.args.node.now c.args.value.now _ _ c.put.result
+    c.in_ok-leaf_entry-in-None.ensures.entry
+    c.put.ensures.below c.put.ensures.written c.put.ensures.refused table left
