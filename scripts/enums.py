@@ -71,7 +71,7 @@ def one_text(enum, crate, module, imports, own):
         imports,
         own,
         taken + "\n        " + payload(letters, ""),
-        about=f"`{enum.name}` stands for the tuple of its variant's fields. What is below its declaration was written by `scripts/new_type`.",
+        about=f"`{enum.name}` corresponds to the tuple of its variant's fields. What is below its declaration was written by `scripts/new_type`.",
         declaration=declaration(enum),
         ghost_use=f"    ghost use Rattle.{crate}.specs.declared.{module}.{ghost}.{{{ghost}}};\n\n",
         ghost_parts=f"elim [ {' '.join([name, *letters])} ↦ {payload(letters, 'tt')} ]",

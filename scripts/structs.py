@@ -1,4 +1,4 @@
-"""The file of a struct, which stands for the tuple of its fields: what scripts/new_type writes."""
+"""The file of a struct, which corresponds to the tuple of its fields: what scripts/new_type writes."""
 
 import re
 from string import Template
@@ -300,7 +300,7 @@ def file_text(struct, imports, own):
         imports,
         own,
         halved([f"&self.{field.name}" for field in fields]) if fields else "",
-        about=f"`{struct.name}` stands for the tuple of its fields. What is below its declaration was written by `scripts/new_type`.",
+        about=f"`{struct.name}` corresponds to the tuple of its fields. What is below its declaration was written by `scripts/new_type`.",
         declaration=declaration(struct),
         ghost_use="",
         ghost_parts="λ t. " + (halved([f"t.{field.name}" for field in fields]) if fields else "tt"),

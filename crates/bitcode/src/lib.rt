@@ -208,13 +208,13 @@ pub mod own {
     pub use bitcode_tuples::fields::Fields;
     pub use bitcode_tuples::fields::FieldsEncoder;
 
-    /// The encoder of a struct of `K` fields, which stands for their tuple `P`.
+    /// The encoder of a struct of `K` fields, which corresponds to their tuple `P`.
     pub type EncoderOfFields<const K: usize, P> = StructEncoder<
         FieldCount<K>,
         <P as HasEncoder>::Encoder,
     >;
 
-    /// The decoder of a struct, which stands for the tuple `P` of its fields.
+    /// The decoder of a struct, which corresponds to the tuple `P` of its fields.
     pub type DecoderOfFields<'a, P> = PartsDecoder<P, <P as HasDecoder<'a>>::Decoder>;
 }
 

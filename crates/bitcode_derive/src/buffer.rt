@@ -92,7 +92,7 @@ where
     /// Reads the one value that all of the bytes spell, each column in the bytes that are written for it, as
     /// `whole::decode_strict` does.
     ///
-    /// Errors: those of [`Buffer::decode`], and `not the written text` where some column stands in other bytes.
+    /// Errors: those of [`Buffer::decode`], and `not the written text` where some column has other bytes.
     ///
     /// ```
     /// let pair = buffer.decode_strict(&[1, 7, 0])?;

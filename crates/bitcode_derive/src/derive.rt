@@ -47,7 +47,7 @@ pub trait HasDecoder<'a> {
 
 /// A type whose values are read from an input that outlives `'a`: every lawful type whose decoder makes its values.
 ///
-/// It has no impls of its own. A whole call drops the value and what is left of the data.
+/// It has no impls of its own. A whole call drops the value and the data that are left.
 pub trait Decode<'a>: HasDecoder<'a, Decoder: View<'a> + Decoder<Self> + Drop> + Made + Drop {}
 
 impl<'a, T: HasDecoder<'a> + Made + Drop> Decode<'a> for T
@@ -68,7 +68,7 @@ pub trait DecodeOwned: 'static {}
 /// A type whose coders are those of the struct that holds its values, as those of an enum without payloads are, and whose values
 /// borrow nothing from the input that they are read from.
 ///
-/// It has no functions, and stands in the place of [`HasEncoder`], [`HasDecoder`] and [`DecodeOwned`]:
+/// It has no functions, and replaces [`HasEncoder`], [`HasDecoder`] and [`DecodeOwned`]:
 ///
 /// ```rust,from:crates/bitcode_own_types/src/light.rt
 /// impl HasCoders for Light {}

@@ -106,7 +106,7 @@ where
 /// Reads the one value that all of the bytes spell, as [`decode`] does, where the bytes of each column are those that are written
 /// for its entries. So a list of columns is accepted in one form only.
 ///
-/// Errors: those of `decode`, and `not the written text` where the bytes spell a value and some column stands in other bytes. That
+/// Errors: those of `decode`, and `not the written text` where the bytes spell a value and some column has other bytes. That
 /// comes before memory is asked for the value, and after any other fault.
 ///
 /// ```
@@ -171,8 +171,8 @@ where
 /// Reads the one value that a front of the input spells, as [`decode_front`] does, where the bytes of each column are those that
 /// are written for its entries, and moves the input behind it.
 ///
-/// Errors: those of `decode_front`, and `not the written text` where a front spells a value and some column stands in other
-/// bytes. That comes before memory is asked for the value, and after any other fault, and the input then stands behind the value.
+/// Errors: those of `decode_front`, and `not the written text` where a front spells a value and some column has other bytes.
+/// That comes before memory is asked for the value, and after any other fault. The input then begins behind the value.
 ///
 /// ```rust
 /// let mut input: &[u8] = &[1, 7, 0];

@@ -1,4 +1,4 @@
-//! What an enum of which some variants have fields stands for: a struct that holds a value of it, lawful where its payloads are.
+//! What an enum with fields corresponds to: a struct that holds a value of it, lawful where its payloads are.
 ghost use Rattle.std.specs.Prelude.{◌≡◌, refl};
 ghost use Rattle.bitcode_shapes.specs.Datum.{Datum};
 ghost use Rattle.bitcode_shapes.specs.BareVariants.{AreSomeVariants};
@@ -99,7 +99,7 @@ pub fn told_as<F: Fields>(number: u8, fields: &F) -> u8
     number
 }
 
-/// What an enum of `N` variants stands for: a struct that holds one value of it. Its laws follow from what the enum says of its variants, and the
+/// What an enum of `N` variants corresponds to: a struct that holds one value of it. Its laws follow from what the enum says of its variants, and the
 /// enum has them by `HeldIn`.
 #[derive(Drop)]
 pub struct Held<const N: usize, T> {

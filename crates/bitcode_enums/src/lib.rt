@@ -1,4 +1,4 @@
-//! Enums of which some variants have fields: what one stands for, which makes it lawful, and its coders, by the numbers of the variants.
+//! Enums with fields: what one corresponds to, which makes it lawful, and its coders, by the numbers of the variants.
 #![tactic(auto)]
 
 pub mod columns;

@@ -137,7 +137,7 @@ impl<'a, K: View<'a>, V: View<'a>> View<'a> for MapDecoder<'a, K, V> {
 impl<'a, K, V> MapDecoder<'a, K, V> {
     /// Makes a container of the next length and so many pairs. One length is left.
     ///
-    /// A decoder of a map of one's own is this call. `out of memory` is its only refusal.
+    /// The decoder of a user-defined map calls this. `out of memory` is its only refusal.
     ///
     /// ```text
     /// let names: Names = maps.decode_as()?; // of a `Names: FromElements<Part = (u8, String)>`

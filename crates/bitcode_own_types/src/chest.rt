@@ -1,4 +1,4 @@
-//! `Chest` stands for the tuple of its fields. What is below its declaration was written by `scripts/new_type`.
+//! `Chest` corresponds to the tuple of its fields. What is below its declaration was written by `scripts/new_type`.
 ghost use Rattle.std.specs.Prelude.{refl};
 ghost use Rattle.bitcode.specs.ByHand.{stood_payload};
 
@@ -6,7 +6,7 @@ use crate::item::Item;
 use bitcode::own::{DecoderOfFields, EncoderOfFields, FromParts, LendsFields3, Payload, StandsFor};
 use bitcode::{DecodeOwned, HasDecoder, HasEncoder, Shaped};
 
-/// A type of one's own that takes memory, inside another.
+/// A user's type that allocates, inside another one.
 #[derive(Debug, PartialEq, Drop)]
 pub struct Chest {
     pub label: String,

@@ -1,4 +1,4 @@
-//! `One` stands for the tuple of its variant's fields. What is below its declaration was written by `scripts/new_type`.
+//! `One` corresponds to the tuple of its variant's fields. What is below its declaration was written by `scripts/new_type`.
 ghost use Rattle.std.specs.Prelude.{refl};
 ghost use Rattle.bitcode.specs.ByHand.{stood_payload};
 

@@ -26,7 +26,7 @@ pub fn saved_and_loaded(alloc: Global, scores: &Scores) -> Result<Scores, Error>
 
 /// Writes a spot and reads it back: what is read is the very spot that was written.
 ///
-/// A spot stands for its two numbers one for one, and numbers that are the same are one.
+/// A spot corresponds to its two numbers one to one, and equal numbers are identical.
 pub fn saved_spot(alloc: Global, spot: &Spot) -> Result<Spot, Error>
     ensures { HasShortLengths ⟦<Spot as Shaped>⟧.lists ⟦<Spot as Shaped>⟧.shape spot.now → IfOk result (λ again. spot.now ≡ again) }
 {

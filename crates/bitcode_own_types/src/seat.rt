@@ -1,4 +1,4 @@
-//! `Seat` stands for the tuple of its fields. What is below its declaration was written by `scripts/new_type`.
+//! `Seat` corresponds to the tuple of its fields. What is below its declaration was written by `scripts/new_type`.
 ghost use Rattle.std.specs.Prelude.{[], refl, ◌∷◌};
 ghost use Rattle.bitcode.specs.ByHand.{ands_in_order, key_as, stood_key, stood_payload, thens_in_order};
 

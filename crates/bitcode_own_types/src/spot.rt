@@ -1,4 +1,4 @@
-//! `Spot` stands for the tuple of its fields. What is below its declaration was written by `scripts/new_type`.
+//! `Spot` corresponds to the tuple of its fields. What is below its declaration was written by `scripts/new_type`.
 ghost use Rattle.std.specs.Prelude.{refl};
 ghost use Rattle.bitcode.specs.ByHand.{stood_key, stood_payload};
 

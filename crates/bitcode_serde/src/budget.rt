@@ -8,11 +8,11 @@ use bitcode_columns::error::{Error, Reason};
 /// How many more nodes of a value are kept, as it is read.
 #[derive(Clone, Copy)]
 pub enum Budget {
-    /// All that there are.
+    /// Without a limit.
     Endless,
-    /// So many.
+    /// At most this number.
     Nodes(usize),
-    /// None: there were more than so many. What is left to read is checked, and not kept.
+    /// The value has more nodes than the limit: the rest is validated, and nothing is kept.
     Spent,
 }
 

@@ -431,7 +431,7 @@ impl<'a> Column<'a> {
         }
     }
 
-    /// How many of the indices that were read are this one, those that were taken since too.
+    /// How often this index was read, including entries that were already taken.
     pub fn count(&self, index: u8) -> usize
         requires { kind_of_column self.now ≡ ints 1 false }
         ensures { (entries : List Datum) → Tallies self.now entries → result ≡ count_of index entries }

@@ -82,11 +82,11 @@ pub fn deserialize(alloc: Global, shape: &Shape, bytes: &[u8]) -> Result<Value, 
     Ok(read.0)
 }
 
-/// Reads the one value of a shape that the whole input spells, as [`deserialize`] does, where each column stands in the bytes that
-/// are written for its entries. So a value is accepted in the one form that `serialize` writes of it.
+/// Reads the one value of a shape that the whole input spells, as [`deserialize`] does, where each column has the bytes that
+/// `serialize` writes for its entries. So it accepts each value in one form only.
 ///
 /// It refuses as `deserialize` does, and with `not the written text` where the input spells a value of the shape and some column
-/// stands in other bytes.
+/// has other bytes.
 ///
 /// ```
 /// let flag = Shape::new(vec![in alloc; ShapeNode::Bool]?, 0)?;

@@ -40,7 +40,7 @@ pub struct Verdict<'a> {
     written: bool,
 }
 
-/// The columns so far, and the bytes behind them; the places that were met, and how many data stand at each below the root.
+/// The columns so far and the bytes behind them; the places that were met, and how many data each has below the root.
 #[derive(Drop)]
 pub struct Reader<'a> {
     alloc: Global,
@@ -86,8 +86,8 @@ impl<'a> Reader<'a> {
     ghost use Rattle.bitcode_serde.specs.Reading.{Hosts, counts, AreSized, IsAskedAs, Stands, IsReady, Prepares, NothingAt, NotSoMany, Leads, LeadsEach, LeadsTelling};
     ghost use Rattle.bitcode_serde.specs.ReadingValues.{IsSteady, Continues, field_at};
 
-    /// Stands before the bytes, with no column open. Where `strict`, the reader tells whether the columns stand in the bytes that
-    /// are written for their entries. Takes no memory.
+    /// Begins before the bytes, with no column open. If `strict`, the reader tells whether the columns have the bytes that are
+    /// written for their entries. Takes no memory.
     pub fn new(alloc: Global, bytes: &'a [u8], strict: bool) -> Self
         ensures stands { Stands result (start bytes.now) }
         ensures strict { result.verdict.strict ≡ strict }
@@ -108,7 +108,7 @@ impl<'a> Reader<'a> {
         }
     }
 
-    /// Whether each column so far stands in the bytes that are written for its entries, where that is asked.
+    /// Whether each column so far has the bytes that are written for its entries, where that is asked.
     pub fn is_written(&self) -> bool
         ensures { result ≡ self.now.verdict.written }
     {

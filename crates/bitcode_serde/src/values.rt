@@ -20,7 +20,7 @@ use std::alloc::Global;
 
 /// Reads a value of a node at a place, below which so many references may be followed.
 ///
-/// Its nodes are taken from the budget. Once that is spent, what is left is read for its faults alone, and the value is not to be used.
+/// Its nodes are taken from the budget. Once that is spent, the rest is read for its faults alone, and the value must not be used.
 #[cycle(read)]
 pub fn read(
     alloc: Global,

@@ -55,7 +55,7 @@ pub enum Answer {
     Column { entries: String, rest: String },
     /// The bytes are no such column, or want of memory came first.
     Refused(Error),
-    /// The words or the input are not written as they have to be: the usage line stands for it.
+    /// The words or the input are malformed: the program prints its usage line.
     Misuse,
 }
 

@@ -31,7 +31,7 @@ fn word<'a>(rt: &impl Env, place: usize, buffer: &'a mut [u8]) -> Option<&'a [u8
     Some(&buffer[..length])
 }
 
-/// Whether a word stands at a place, however long it is.
+/// Whether there is a word at a place, however long it is.
 fn has_word(rt: &impl Env, place: usize) -> bool {
     !matches!(rt.arg(place, &mut []), Err(FillError::NotPresent))
 }

@@ -9,7 +9,7 @@ fn is(same: bool) -> Result<(), Got> {
     if same { Ok(()) } else { Err(Got::AnotherValue) }
 }
 
-/// A vector of two is one of at most two, and of more at most; of a small capacity no length is an escape.
+/// A vector of two fits capacity two and more; below capacity 255 no length is an escape.
 pub fn two_bytes(alloc: Global) -> Result<(), Got> {
     let two: ArrayVec<u8, 2> = decode(alloc, &[2, 0, 1])?;
     is(two.as_slice() == [0, 1].as_slice())?;

@@ -6,7 +6,7 @@ use bitcode_tests::untyped::{
 };
 use std::alloc::Global;
 
-/// The columns of the fields stand in the order of their first entries.
+/// The columns of the fields come in the order of their first entries.
 pub fn columns_by_first_use(alloc: Global) -> Result<(), Got> {
     let flags = seq_of(alloc, ShapeNode::Bool)?;
     let pair = ShapeNode::Tuple(vec![in alloc; flags, ShapeNode::U8]?);
