@@ -17,7 +17,7 @@ fn sale(number: u32) -> Sale<'static> {
     Sale {
         product,
         region: (number % 16) as u16,
-        cents: 95 + number * 7 % 400,
+        cents: 95 + number % SALES * 7 % 400,
     }
 }
 
