@@ -15,8 +15,9 @@ add_program() {
   mkdir -p "$1/crates/$2/src" && cp "$3" "$1/crates/$2/src/main.rt" && echo "$2: $4" >>"$1/crates.txt"
 }
 
-# make_edit FOLDER EDIT [TURN]: the edit, of the form of the must-fail edits, made in the crates there, or the turn of that name in a
-# file of scripts/turns. A line `file:` names a file of the crate that the edit is of, or, in an edit that is of none, one below crates/.
+# make_edit FOLDER EDIT [TURN]: the edit, of the form of the must-fail edits, made in the crates there, or the turn of that
+# name in a file of scripts/turns. A line `file:` names a file of the crate that the edit is of, or, in an edit that is of
+# none, one below crates/.
 make_edit() {
   python3 - "$@" <<'PYTHON'
 import re

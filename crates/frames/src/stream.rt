@@ -54,6 +54,8 @@ pub fn next_head(bytes: &[u8]) -> usize
     ensures inside { result ≤ length bytes.now }
     ensures first { (at : ℕ) → 0 < at → at < result → slice_index bytes.now at ≡ 0xBC
         → slice_index bytes.now (at + 1) ≡ 0xF5 → ⊥ }
+    ensures begins { result < length bytes.now → slice_index bytes.now result ≡ 0xBC }
+    ensures goes_on { result + 1 < length bytes.now → slice_index bytes.now (result + 1) ≡ 0xF5 }
 {
     for at in 1..bytes.len() {
         if bytes[at] == 0xBC && (at + 1 == bytes.len() || bytes[at + 1] == 0xF5) {
