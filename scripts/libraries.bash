@@ -1,7 +1,11 @@
-# For scripts that run a program of their own over this repository's libraries: to be sourced at the top of the repository.
+# For scripts that run a program of their own over this repository's libraries: to be sourced at the top of the
+# repository.
 
-# copy_libraries FOLDER: a repository there, with the crates of this one, but for what proves them: `rt try` proves nothing, and the
-# check that it runs beside for its hints ends at once.
+# `rt try` without its hints.
+try=$PWD/scripts/try
+
+# copy_libraries FOLDER: a repository there, with the crates of this one, but for what proves them: a try proves
+# nothing.
 copy_libraries() {
   local crate
   mkdir -p "$1/crates" && git -C "$1" init -q && cp crates.txt "$1" || return 2
@@ -15,19 +19,19 @@ add_program() {
   mkdir -p "$1/crates/$2/src" && cp "$3" "$1/crates/$2/src/main.rt" && echo "$2: $4" >>"$1/crates.txt"
 }
 
-# make_edit FOLDER EDIT [TURN]: the edit, of the form of the must-fail edits, made in the crates there, or the turn of that
-# name in a file of scripts/turns. A line `file:` names a file of the crate that the edit is of, or, in an edit that is of
-# none, one below crates/.
+# make_edit FOLDER EDIT [MUTANT]: the edit, of the form of the must-fail edits, made in the crates there, or the mutant
+# of that name in a file of scripts/mutants. A line `file:` names a file of the crate that the edit is of, or, in an
+# edit that is of none, one below crates/.
 make_edit() {
   python3 - "$@" <<'PYTHON'
 import re
 import sys
 
-folder, edit, *turn = sys.argv[1:]
-crate = next(iter(re.findall(r"(?:crates|turns)/(\w+)/", edit)), ".")
+folder, edit, *mutant = sys.argv[1:]
+crate = next(iter(re.findall(r"(?:crates|mutants)/(\w+)/", edit)), ".")
 text = open(edit).read()
-if turn:
-    text = re.search(rf"^turn: {turn[0]}\n(.*?)(?=^turn: |\Z)", text, re.M | re.S)[1]
+if mutant:
+    text = re.search(rf"^mutant: {mutant[0]}\n(.*?)(?=^mutant: |\Z)", text, re.M | re.S)[1]
 path = old = None
 for line in text.split("\n"):
     if line.startswith("file: "):

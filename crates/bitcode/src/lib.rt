@@ -1,7 +1,7 @@
 // Written by scripts/tables/names.
 //! A columnar, bit-packing serializer. This crate re-exports the names of the crates below it.
 //!
-//! `encode` writes a value as few bytes, and `decode` reads it back or rejects the input:
+//! `encode` encodes a value compactly, and `decode` decodes it or rejects the input:
 //!
 //! ```rust
 //! let bytes = encode(alloc, &(true, 7u16))?;
@@ -10,7 +10,7 @@
 //! assert!(rt; pair == (true, 7));
 //! ```
 //!
-//! `serialize` and `deserialize` do so with a `Value` that has no Rust type of its own, under a `Shape`, which may refer to itself:
+//! `serialize` and `deserialize` do the same for a `Value` without a Rust type, under a `Shape`, which may be recursive:
 //!
 //! ```rust
 //! let shape = Shape::new(vec![in alloc; ShapeNode::Bool]?, 0)?;
@@ -76,7 +76,7 @@ pub use bitcode_tuples::encoder::TupleEncoder;
 pub use bitcode_untyped::shape::{Shape, ShapeNode};
 pub use bitcode_untyped::value::Value;
 
-/// What the coders of types of your own are made of: `scripts/new_type` writes them, and few programs name these by hand.
+/// The building blocks of coders for your own types. `scripts/new_type` uses them, and few programs need them directly.
 pub mod own {
     pub use bitcode_coder::checked::Checked;
     pub use bitcode_coder::column_int::ColumnInt;
@@ -218,29 +218,31 @@ pub mod own {
     pub type DecoderOfFields<'a, P> = PartsDecoder<P, <P as HasDecoder<'a>>::Decoder>;
 }
 
-/// The traits that coders meet, the result of their calls, and `both`, which joins the answers of two reads.
+/// The traits of coders, the result type of their calls, calls that write one value, and `both`, which combines the
+/// results of two reads.
 pub mod coder {
     pub use bitcode_coder::coder::{Buffer, Decoder, Encoder, HoldsColumns, HoldsData, View, both};
+    pub use bitcode_coder::one::{write_length, write_one};
     pub use bitcode_coder::result::Result;
 }
 
-/// The coders of the indices of variants in the second format: of any number of variants up to 256.
+/// The coders of variant indices in the second format, for up to 256 variants.
 pub mod serde {
     pub use bitcode_serde::serde::{VariantDecoder, VariantEncoder};
 }
 
-/// Sealed bytes: a head in front of what `encode` writes, and a checksum behind it, for whatever leaves the program.
+/// Sealed bytes: the bytes from `encode` with a header and a checksum, for all data that leaves the program.
 pub mod sealed {
     pub use bitcode_sealed::bytes::{seal_bytes, split_sealed};
     pub use bitcode_sealed::crc::crc_32;
     pub use bitcode_sealed::error::OpenError;
     pub use bitcode_sealed::label::{Expected, Label};
-    pub use bitcode_sealed::laws::damage_is_seen;
+    pub use bitcode_sealed::laws::{comes_back, damage_is_seen};
     pub use bitcode_sealed::values::{open, open_front, seal, seal_into};
 }
 
-/// The laws of columns, of data and of whole calls: calls that do nothing but `short_text`, which is `decode`, and whose
-/// contracts are the laws.
+/// The laws of columns, of data and of the calls for whole values. The functions do nothing, except `short_text`, which is
+/// `decode`: their contracts are the laws.
 pub mod laws {
     pub use bitcode_coder::laws::{
         all_columns, joined_data, joined_texts, one_column, strict_data, tree_and_list,

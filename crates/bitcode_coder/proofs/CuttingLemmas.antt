@@ -1,8 +1,8 @@
 -- Pieces that are cut at lengths.
-use Rattle.std.proofs.Common.{◌≡◌, ℕ, ◌+◌, ◌<◌, ◌≤◌, leb, List, [], ◌∷◌, ◌++◌, length, take, drop, map, sum, refl, sym, ◌∙◌, ap, ap₂, arith, length-append}
+use Rattle.std.proofs.Common.{◌≡◌, ℕ, ◌+◌, ◌<◌, ◌≤◌, leb, List, [], ◌∷◌, ◌++◌, length, take, drop, map, sum, refl, sym, ◌∙◌, ap, ap₂, arith, length-append, ⊎_elim}
 use Rattle.std.specs.List.{flat_map}
 use Rattle.std.proofs.Math.Seq.{take-append_seam, drop-append_seam}
-use Rattle.std.proofs.lemmas.Bool.{cond-true, cond-false, le-leb, lt-leb}
+use Rattle.std.proofs.lemmas.Bool.{cond-true, cond-false, cases_lt, le-leb, lt-leb}
 use Rattle.std.proofs.lemmas.List.Sums.{sum_by-cons}
 use Rattle.std.proofs.lemmas.List.{take-append-drop, length-take-le, length-drop, nil_from_length}
 use Rattle.bitcode_coder.specs.Cutting.{cut}
@@ -39,3 +39,12 @@ module _ {A : Type 0} where
       let total : sum (n ∷ ns) ≡ n + sum ns = sum_by-cons (λ x. x) n ns in
       ap (map (λ l. length l)) (cut-enough n ns items (omega arith))
       ∙ ap₂ (λ first more. first ∷ more) (length-take-le n items (omega arith)) (lengths-cut ns (drop n items) (omega (arith, length-drop n items)))
+
+  -- there are no more pieces than lengths
+  pub length-cut : (ns : List ℕ) (items : List A) → length (cut ns items) ≤ length ns
+  length-cut [] items = omega arith
+  length-cut (n ∷ ns) items =
+      ⊎_elim
+      (λ few. omega (arith, ap length (cut-few n ns items few)))
+      (λ enough. omega (arith, ap length (cut-enough n ns items enough), length-cut ns (drop n items)))
+      (cases_lt (length items) n)

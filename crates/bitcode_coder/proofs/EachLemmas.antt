@@ -1,5 +1,5 @@
 -- Values that are written one by one.
-use Rattle.std.proofs.Common.{◌≡◌, ℕ, ◌+◌, ◌<◌, List, [], ◌∷◌, ◌++◌, length, map, take, drop, slice_index_or, refl, sym, ◌∙◌, ap, subst, append_assoc, append-nil}
+use Rattle.std.proofs.Common.{◌≡◌, ℕ, ◌+◌, ◌<◌, List, [], ◌∷◌, ◌++◌, length, map, take, drop, slice_index_or, refl, sym, ◌∙◌, ap, subst, append_assoc, append-nil, take-append-drop}
 use Rattle.std.proofs.lemmas.List.{at_drop_more, map-append, take_more}
 use Rattle.std.specs.List.{AllZip}
 use Rattle.bitcode_shapes.specs.Datum.{Datum}
@@ -106,3 +106,22 @@ pub parts_more : {S B : Type 0} (of : S → B) (items : List S) (i : ℕ) (item 
     → map of (take (i + 1) items) ≡ map of (take i items) ++ of item ∷ []
 parts_more of items i item here is =
     ap (map of) (take_more items i item here ∙ ap (λ t. take i items ++ t ∷ []) (sym is)) ∙ map-append of (take i items) (item ∷ [])
+
+module _ {S T : Type 0} (lists : T → Datum → Type 0) (shape : Shape) (of : S → T) (items : List S) where
+  -- the part of one item more
+  pub each_more : (i : ℕ) (item : S) → i < length items → item ≡ slice_index_or items i item → (old now new : Columns) → emptied old ≡ written_columns shape []
+      → JoinsEach lists shape (map of (take i items)) old now → JoinsListing lists shape (of item) now new
+      → JoinsEach lists shape (map of (take (i + 1) items)) old new
+  each_more i item here is old now new form some one =
+      subst (λ ts. JoinsEach lists shape ts old new) (sym (parts_more of items i item here is))
+      (joins_both lists shape old now new (map of (take i items)) (of item ∷ []) form some (each_of_one lists shape now new (of item) one))
+
+  -- what lies before the others was written
+  pub front_of : (i : ℕ) (old now : Columns) (rest : List T) → map of (drop i items) ≡ rest → JoinsEach lists shape (map of (take i items)) old now
+      → JoinsFront lists shape (map of items) rest old now
+  front_of i old now rest behind some = record {
+    done = map of (take i items);
+    parted =
+        ap (map of) (sym (take-append-drop i items)) ∙ map-append of (take i items) (drop i items) ∙ ap (λ ts. map of (take i items) ++ ts) behind;
+    joins = some;
+  }

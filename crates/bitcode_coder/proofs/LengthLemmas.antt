@@ -1,10 +1,10 @@
 -- The laws of length columns.
-use Rattle.std.proofs.Common.{◌≡◌, ℕ, suc, ◌^◌, ◌<◌, ◌≤◌, min, Bool, true, false, eqb, leb, ltb, MatchBool, pos, Option, Some, None, List, [], ◌∷◌, ◌++◌, length, map, All, sum, refl, sym, ap, ◌∙◌, subst, inl, inr, ⊎_elim, arith}
+use Rattle.std.proofs.Common.{◌≡◌, ℕ, suc, ◌^◌, ◌<◌, ◌≤◌, min, Bool, true, false, eqb, leb, ltb, MatchBool, cond, pos, Option, Some, None, List, [], ◌∷◌, ◌++◌, length, map, drop, All, sum, refl, sym, ap, ◌∙◌, subst, inl, inr, ⊎_elim, arith}
 use Rattle.std.specs.Prelude.{filter, count_by}
 use Rattle.std.proofs.lemmas.Bool.{cond-true, cond-false, cases_Bool, eq-eqb, ne_eqb, leb-true, leb-false, ltb-true, MatchBool-at_true, MatchBool-at_false}
 use Rattle.std.proofs.lemmas.List.{map-id, append_assoc, length-append, nil_from_length}
 use Rattle.std.proofs.lemmas.List.Elements.{All-map, All-weaker, All-filter, All-head, All-tail}
-use Rattle.std.proofs.lemmas.List.Sums.{length-filter, get_or-le-sum_by}
+use Rattle.std.proofs.lemmas.List.Sums.{length-filter, get_or-le-sum_by, sum_by-cons, sum_by-take-drop}
 use Rattle.std.proofs.lemmas.Simd.{map-map}
 use Rattle.bitcode_columns.specs.Laws.{IsReadOnce, TakesAnEighth}
 use Rattle.bitcode_columns.specs.Ints.{IsNumber, residue}
@@ -129,6 +129,22 @@ length_bytes-spells limit lengths below within = record {
   below_limit = below;
   keeps_cap = keeps limit lengths within;
 }
+
+-- ---- without large lengths
+
+-- bytes none of which is an escape are the lengths
+pub no_escapes : (bytes large : List ℕ) → count_by (λ byte. eqb byte escape) bytes ≡ 0 → lengths_from bytes large ≡ bytes
+no_escapes [] large none = refl
+no_escapes (byte ∷ bytes) large none =
+    let counted = sum_by-cons (λ b. cond (eqb b escape) 1 0) byte bytes in
+    ⊎_elim
+    (λ is. absurd (omega (arith, none, counted, cond-true {A = ℕ} (eqb byte escape) 1 0 is)))
+    (λ not. cond-false (eqb byte escape) _ _ not ∙ ap (λ more. byte ∷ more) (no_escapes bytes large (omega (arith, none, counted, cond-false {A = ℕ} (eqb byte escape) 1 0 not))))
+    (cases_Bool (eqb byte escape))
+
+-- none is one behind some of them either
+pub no_escapes_behind : (n : ℕ) (bytes : List ℕ) → count_by (λ byte. eqb byte escape) bytes ≡ 0 → count_by (λ byte. eqb byte escape) (drop n bytes) ≡ 0
+no_escapes_behind n bytes none = omega (arith, none, sum_by-take-drop (λ b. cond (eqb b escape) 1 0) bytes n)
 
 -- ---- limited
 

@@ -8,7 +8,7 @@ use Rattle.std.proofs.lemmas.List.Sums.{sum_by-cons}
 use Rattle.std.proofs.lemmas.Result.{on_ok_weaker}
 use Rattle.std.proofs.lemmas.Simd.{map-map}
 use Rattle.bitcode_columns.specs.ByteColumn.{SpellsBytes, byte_text}
-use Rattle.bitcode_columns.specs.IntColumn.{int_text}
+use Rattle.bitcode_columns.specs.IntColumn.{SpellsInts, int_text}
 use Rattle.bitcode_columns.specs.LittleEndian.{raw_text}
 use Rattle.bitcode_columns.specs.declared.error.Reason.{Reason}
 use Rattle.bitcode_columns.specs.Reading.{Reads, IsEndOf}
@@ -86,6 +86,16 @@ pub no_large : (large : List ℕ) → length large ≡ 0 → int_text 8 (map pos
 unfolding int_text raw_text
 no_large [] none = refl
 no_large (n ∷ large) none = absurd (omega arith)
+
+-- and none are read without a byte
+pub reads_no_large : (count : ℕ) (input larges : List ℕ) → count ≡ 0 → larges ≡ [] → Reads (SpellsInts 8) count input larges input
+unfolding raw_text
+reads_no_large count input larges none is = record {
+  size = ap length is ∙ sym none;
+  piece = [];
+  whole = refl;
+  spelled = subst (SpellsInts 8 []) (sym is) (record { whole = refl; fit = λ k d inside. absurd (omega arith) });
+}
 
 pub naturals_in : (ns : List ℕ) → map natural_in (map natural ns) ≡ ns
 naturals_in ns = map-map natural_in natural ns ∙ map-id ns

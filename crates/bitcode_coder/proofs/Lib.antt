@@ -1,5 +1,6 @@
 pub mod CuttingLemmas
 pub mod OneColumnLemmas
+pub mod OneValueLemmas
 pub mod BoolLemmas
 pub mod IntLemmas
 pub mod LengthLemmas
@@ -20,6 +21,7 @@ pub mod EachLemmas
 pub mod PushingLemmas
 pub mod PushedTextLemmas
 pub mod TakingLemmas
+pub mod TakenTextLemmas
 pub mod RefusalLemmas
 pub mod CheckedLemmas
 pub mod StrictLemmas

@@ -71,6 +71,11 @@ taken_piece ns bytes n ms taken some =
     ⊎_elim (λ few. absurd (omega (arith, ap length same, ap length (cut-few n ms bytes few)))) (λ h. h) (cases_lt (length bytes) n) in
     same ∙ cut-enough n ms bytes enough
 
+-- it is among the bytes
+pub piece_fits : (ns bytes : List ℕ) (n : ℕ) (ms : List ℕ) → ns ≡ n ∷ ms → 0 < length (cut ns bytes) → n ≤ length bytes
+piece_fits ns bytes n ms taken some =
+    ⊎_elim (λ few. absurd (omega (arith, ap length (ap (λ sizes. cut sizes bytes) taken), ap length (cut-few n ms bytes few)))) (λ h. h) (cases_lt (length bytes) n)
+
 -- ---- written
 
 pub OnOk-always : {T E : Type 0} {P : Type 0} (result : Result T E) → P → OnOk result P

@@ -1,5 +1,5 @@
--- Columns of data. A column has a kind and its entries. The columns of a shape form a tree after the shape; read
--- from left to right they are the list of columns that the bytes follow.
+-- Columns of data. A column has a kind and entries. The columns of a shape form a tree that follows the shape. From
+-- left to right they form a list, and the bytes follow that list.
 use Rattle.std.specs.Prelude.{◌≡◌, ℕ, ◌+◌, ◌*◌, ◌<◌, ◌^◌, ◌≤◌, pos, Bool, Option, None, List, [], ◌∷◌, ◌++◌, length, sum_by}
 use Rattle.bitcode_shapes.specs.Datum.{Datum, number, text_in}
 use Rattle.bitcode_shapes.specs.Shape.{IsNumberWidth, IsNaturalBelow, IsNumberOf, IsTextOf, IsWithin, any_number}
@@ -8,7 +8,7 @@ pub data Kind : Type 0 where
   bools : Kind
   -- integers of a width in bytes, signed (true) or not
   ints : ℕ → Bool → Kind
-  -- lengths and texts, of at most so much where a reader is given a number
+  -- lengths and texts, limited to so much if a decoder has a limit
   lengths : Option ℕ → Kind
   texts : Option ℕ → Kind
   -- bytes of texts
@@ -34,7 +34,7 @@ flat (one kind entries) = record { kind = kind; entries = entries } ∷ []
 flat (two first second) = flat first ++ flat second
 flat (arrays size count elements) = flat elements
 
--- each column of the first with that of the second behind it; nothing, where the two are of different forms
+-- each column of the first, followed by that of the second; no columns if the two have different forms
 abbrev pub beside : Columns → Columns → Columns
 beside (one kind entries) (one _ more) = one kind (entries ++ more)
 beside (two first second) (two third fourth) = two (beside first third) (beside second fourth)
@@ -53,14 +53,14 @@ plain (one kind entries) = one (plain_kind kind) entries
 plain (two first second) = two (plain first) (plain second)
 plain (arrays size count elements) = arrays size count (plain elements)
 
--- the same columns, with no entries
+-- the same columns, without entries
 abbrev pub emptied : Columns → Columns
 emptied no_columns = no_columns
 emptied (one kind entries) = one kind []
 emptied (two first second) = two (emptied first) (emptied second)
 emptied (arrays size count elements) = arrays size 0 (emptied elements)
 
--- the number of arrays times their size is a length, at each node
+-- at each node, the number of arrays times their size fits in a length
 abbrev pub CountsFit : Columns → Type 0
 CountsFit no_columns = Unit {0}
 CountsFit (one kind entries) = Unit {0}
@@ -80,7 +80,7 @@ entry_count (arrays size count elements) = entry_count elements
 
 -- ---- what the entries of a column are
 
--- a kind whose width or number of variants a column has
+-- a kind with a possible width or number of variants
 abbrev pub IsSoundKind : Kind → Type 0
 IsSoundKind (ints width signed) = IsNumberWidth width
 IsSoundKind (variants count) = (2 ≤ count) × (count ≤ 256)

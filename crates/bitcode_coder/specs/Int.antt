@@ -1,4 +1,4 @@
--- The data that integers are, and those that the bytes of integers stand for.
+-- The data of integers, and the data of their bytes.
 use Rattle.std.specs.Prelude.{◌≡◌, ℕ, Bool, ℤ, List, ◌++◌, map}
 use Rattle.std.specs.List.{AllZip}
 use Rattle.bitcode_columns.specs.LittleEndian.{little_endian}
@@ -10,11 +10,11 @@ module _ {T : Type 0} where
   abbrev pub int_data : (T → ℤ) → List T → List Datum
   int_data value ints = map (λ t. number (value t)) ints
 
-  -- integers of a width, signed (true) or not, of each of which the bytes are given, the lowest first
+  -- integers of a width, signed (true) or not, that are given as bytes, the lowest first
   abbrev pub bytes_data : ℕ → Bool → (T → List ℕ) → List T → List Datum
   bytes_data width signed bytes_of entries = map (λ entry. number_of_residue width signed (little_endian (bytes_of entry))) entries
 
--- one integer for each value was pushed, that which stands for it
+-- one integer for each value was pushed
 pub record PushesInts {T I : Type 0} (lists : T → Datum → Type 0) (value : I → ℤ) (values : List T) (old new : List I) : Type 0 where
   pub ints : List I
   pub pushed : new ≡ old ++ ints

@@ -10,11 +10,11 @@ use Rattle.bitcode_coder.specs.LengthColumn.{lengths_from}
 unfoldable pub written_lengths : LengthEncoder → List ℕ
 written_lengths e = lengths_from (fast_items e.small) e.large.items
 
--- for how many more lengths there is room
+-- the room for more lengths
 unfoldable pub length_room : LengthEncoder → ℕ
 length_room e = fast_room e.small
 
--- how many entries both lists have memory for, those that they hold included
+-- how many entries fit in the memory of both lists, including those that they hold
 unfoldable pub length_capacity : LengthEncoder → ℕ
 length_capacity e = fast_capacity e.small + vec_capacity e.large
 
@@ -26,7 +26,7 @@ short_left d = cow_rest d.small
 unfoldable pub large_left : LengthDecoder → List ℕ
 large_left d = map little_endian (cow_rest d.large)
 
--- the lengths that are left to take
+-- the remaining lengths
 unfoldable pub lengths_left : LengthDecoder → List ℕ
 lengths_left d = lengths_from (cow_rest d.small) (map little_endian (cow_rest d.large))
 
@@ -34,6 +34,6 @@ lengths_left d = lengths_from (cow_rest d.small) (map little_endian (cow_rest d.
 unfoldable pub lengths_sum : LengthDecoder → ℕ
 lengths_sum d = d.sum
 
--- how many entries both parts have memory of their own for
+-- how many entries fit in the memory that both parts own
 unfoldable pub lengths_owned : LengthDecoder → ℕ
 lengths_owned d = cow_owned d.small + cow_owned d.large

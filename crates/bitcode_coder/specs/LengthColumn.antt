@@ -1,10 +1,10 @@
--- A length column is an unsigned byte column and then a 64-bit unsigned integer column. A byte below 255 is a
--- length; each 255 stands for the next of the large lengths behind, which a reader accepts whatever they are.
+-- A length column is an unsigned byte column, followed by a 64-bit unsigned integer column. A byte below 255 is a
+-- length. Each 255 refers to the next of the large lengths that follow, which a reader accepts whatever they are.
 use Rattle.std.specs.Prelude.{◌≡◌, ℕ, ◌<◌, ◌≤◌, min, pos, Option, Some, None, List, [], ◌∷◌, ◌++◌, length, map, filter, sum, All, MatchBool, nat_lt, nat_le, ◌==◌, if◌then◌else◌, count_by}
 use Rattle.bitcode_columns.specs.ByteColumn.{SpellsBytes, byte_text}
 use Rattle.bitcode_columns.specs.IntColumn.{SpellsInts, int_text}
 
--- the byte that stands for a large length
+-- the byte that announces a large length
 abbrev pub escape : ℕ
 escape = 255
 
@@ -20,13 +20,13 @@ abbrev pub other_large : List ℕ → List ℕ
 other_large [] = []
 other_large (n ∷ ns) = ns
 
--- the lengths of short bytes, with the large ones for the escapes, in order
+-- the lengths of short bytes, where the large ones replace the escapes in order
 abbrev pub lengths_from : List ℕ → List ℕ → List ℕ
 lengths_from [] large = []
 lengths_from (byte ∷ bytes) large =
     if byte == escape then first_large large ∷ lengths_from bytes (other_large large) else byte ∷ lengths_from bytes large
 
--- A limit below 255 is asked of the bytes, so that an escape passes none; a greater one is asked of the lengths.
+-- A limit below 255 applies to the bytes, so that every escape exceeds it; a greater limit applies to the lengths.
 abbrev pub KeepsCap : Option ℕ → List ℕ → List ℕ → Type 0
 KeepsCap None bytes lengths = Unit {0}
 KeepsCap (Some limit) bytes lengths = MatchBool (nat_lt limit escape) (All (λ byte. byte ≤ limit) bytes) (All (λ n. n ≤ limit) lengths)
@@ -45,7 +45,7 @@ pub record SpellsLengths (limit : Option ℕ) (piece lengths : List ℕ) : Type 
   pub below_limit : sum lengths < length_limit
   pub keeps_cap : KeepsCap limit short lengths
 
--- Written, whatever the sum is.
+-- Written, whatever the sum.
 unfoldable pub length_bytes : List ℕ → List ℕ
 length_bytes lengths =
     byte_text (map (λ n. pos (min n escape)) lengths) ++ int_text 8 (map pos (filter (λ n. nat_le escape n) lengths))

@@ -15,6 +15,7 @@ pub mod Spelling
 pub mod Coder
 pub mod Rows
 pub mod Vectors
+pub mod WrittenTexts
 pub mod Laws
 pub mod CheckedColumn
 pub mod Int

@@ -1,4 +1,4 @@
--- Worked rows: what is written for lengths and for data of some shapes, computed from the definitions.
+-- Worked examples: what is written for lengths and for data of some shapes, computed from the definitions.
 use Rattle.std.specs.Prelude.{◌≡◌, ℕ, true, false, pos, negsuc, List, [], ◌∷◌, Some, None, map, refl}
 use Rattle.bitcode_columns.specs.LittleEndian.{raw_text}
 use Rattle.bitcode_columns.specs.Digits.{digits_text}
@@ -28,7 +28,7 @@ byte_shape = number_shape 1 false any_number
 abbrev bytes : List ℕ → Datum
 bytes values = list (data_of (map n values))
 
--- 255 stands for the large length behind
+-- 255 refers to the large length that follows
 an_escape : length_bytes (1 ∷ 255 ∷ 2 ∷ []) ≡ 0 ∷ 1 ∷ 255 ∷ 2 ∷ 6 ∷ 255 ∷ []
 unfolding length_bytes int_text byte_text tagged_text digits_text raw_text
 an_escape = refl
@@ -67,7 +67,7 @@ lists_of_bytes : text_of (seq_shape None (seq_shape None byte_shape)) (list (dat
 unfolding length_bytes int_text byte_text tagged_text digits_text raw_text
 lists_of_bytes = refl
 
--- slices begin with as many elements as take 8 bytes, and one at least; those of no bytes count as bytes
+-- slices begin with as many elements as have 8 bytes together, and with at least one; empty elements count as one byte
 first_of_bytes : first_elements 1 ≡ Some 8
 first_of_bytes = refl
 
@@ -80,7 +80,7 @@ first_of_large = refl
 first_of_nothing : first_elements 0 ≡ Some 8
 first_of_nothing = refl
 
--- and are doubled up to 64 bytes, and no more once these are passed
+-- and are doubled up to 64 bytes, and no further
 doubled_to_64_bytes : doubled_elements 4 (Some 8) ≡ Some 16
 doubled_to_64_bytes = refl
 

@@ -40,7 +40,7 @@ SpellsColumn (texts limit) = SpellsAs text (SpellsTexts limit)
 SpellsColumn raws = SpellsAs natural (λ bytes entries. bytes ≡ entries)
 SpellsColumn (variants count) = SpellsAs natural (SpellsVariants count)
 
--- one piece and then another
+-- one piece, followed by another
 pub record IsSplit (First Second : List ℕ → Type 0) (bytes : List ℕ) : Type 0 where
   pub front : List ℕ
   pub back : List ℕ
@@ -60,8 +60,8 @@ abbrev pub SpellsEach : List Column → List ℕ → Type 0
 SpellsEach [] bytes = bytes ≡ []
 SpellsEach (column ∷ columns) bytes = IsSplit (λ front. SpellsColumn column.kind front column.entries) (SpellsEach columns) bytes
 
--- Bytes spell data of a shape: the data are of it, the counts of arrays are lengths, and the bytes are one
--- piece for each of the data's columns, in order, each piece spelling its column.
+-- Bytes spell data of a shape if the data have the shape, the counts of arrays fit in lengths, and the bytes are one
+-- piece for each of the data's columns, in order, where each piece spells its column.
 pub record Spells (shape : Shape) (bytes : List ℕ) (ds : List Datum) : Type 0 where
   pub of_shape : All (IsOf shape) ds
   pub counts : CountsFit (columns_of shape ds)
@@ -88,7 +88,7 @@ abbrev pub texts_of : List Column → List ℕ
 texts_of [] = []
 texts_of (column ∷ columns) = column_bytes column.kind column.entries ++ texts_of columns
 
--- What is written is read back where each column of lengths, those of texts too, sums below the limit.
+-- What is written is read back if each column of lengths, including those of texts, has a sum below the limit.
 abbrev pub LengthsBelowLimitOf : Kind → List Datum → Type 0
 LengthsBelowLimitOf (lengths limit) ds = sum (map natural_in ds) < length_limit
 LengthsBelowLimitOf (texts limit) ds = sum (map (λ d. length (text_in d)) ds) < length_limit

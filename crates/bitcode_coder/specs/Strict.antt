@@ -1,4 +1,4 @@
--- Strict reading: which of the bytes that spell data are the ones that are written for them.
+-- Strict reading: which of the bytes that spell data are those that are written for them.
 use Rattle.std.specs.Prelude.{◌≡◌, ℕ, Bool, IsTrue, ◌&&◌, ◌↔◌, List, [], ◌++◌, length, All}
 use Rattle.bitcode_columns.specs.Reading.{Reads}
 use Rattle.bitcode_shapes.specs.Datum.{Datum}
@@ -8,7 +8,7 @@ use Rattle.bitcode_coder.specs.Transposition.{columns_of}
 use Rattle.bitcode_coder.specs.Spelling.{SpellsColumn, IsSplit, column_bytes}
 use Rattle.bitcode_coder.specs.Coder.{written_columns}
 
--- a piece that spells its column, and is the text of it
+-- a piece that spells its column, and is the text that would be written
 pub record StrictlySpellsColumn (kind : Kind) (bytes : List ℕ) (entries : List Datum) : Type 0 where
   pub spelled : SpellsColumn kind bytes entries
   pub written : bytes ≡ column_bytes kind entries
@@ -20,7 +20,7 @@ StrictlySpellsColumns (one kind entries) bytes = StrictlySpellsColumn kind bytes
 StrictlySpellsColumns (two first second) bytes = IsSplit (StrictlySpellsColumns first) (StrictlySpellsColumns second) bytes
 StrictlySpellsColumns (arrays size count elements) bytes = StrictlySpellsColumns elements bytes
 
--- Bytes strictly spell data where they spell them, each piece being the text of its column.
+-- Bytes strictly spell data if they spell them and each piece is the text of its column.
 pub record StrictlySpells (shape : Shape) (bytes : List ℕ) (ds : List Datum) : Type 0 where
   pub of_shape : All (IsOf shape) ds
   pub counts : CountsFit (columns_of shape ds)
@@ -33,7 +33,7 @@ pub record JudgesColumn (written : Bool) (kind : Kind) (entries : List Datum) (o
   pub read : Reads (SpellsColumn kind) (length entries) old entries new
   pub answer : IsTrue written ↔ (old ≡ column_bytes kind entries ++ new)
 
--- two parts were read one behind the other, and the answer is that of both
+-- two parts were read one after the other, and the answer combines theirs
 pub record JudgesBoth (First Second : Bool → List ℕ → List ℕ → Type 0) (written : Bool) (old new : List ℕ) : Type 0 where
   pub middle : List ℕ
   pub first_written : Bool
@@ -42,13 +42,13 @@ pub record JudgesBoth (First Second : Bool → List ℕ → List ℕ → Type 0)
   pub first : First first_written old middle
   pub second : Second second_written middle new
 
--- The columns were read, one behind the other, and the answer is whether the piece of each is its text.
+-- The columns were read one after another, and the answer is whether each piece is the text of its column.
 abbrev pub Judges : Columns → Bool → List ℕ → List ℕ → Type 0
 Judges no_columns written old new = (old ≡ new) × IsTrue written
 Judges (one kind entries) written old new = JudgesColumn written kind entries old new
 Judges (two first second) written old new = JudgesBoth (Judges first) (Judges second) written old new
 Judges (arrays size count elements) written old new = Judges elements written old new
 
--- the same of data of a shape (what is asked of their lengths makes no difference to the texts)
+-- the same for data of a shape (limits on lengths do not change the texts)
 abbrev pub JudgesData : Shape → List Datum → Bool → List ℕ → List ℕ → Type 0
 JudgesData shape ds = Judges (written_columns shape ds)

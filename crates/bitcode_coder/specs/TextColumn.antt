@@ -1,4 +1,4 @@
--- A text column is a length column and then the bytes of all texts, joined. Each text for itself is UTF-8.
+-- A text column is a length column, followed by the concatenated bytes of all texts. Each single text is UTF-8.
 use Rattle.std.specs.Prelude.{◌≡◌, ℕ, Option, List, ◌++◌, length, map, All, IsUtf8}
 use Rattle.std.specs.List.{flat_map}
 use Rattle.bitcode_coder.specs.LengthColumn.{SpellsLengths, length_bytes}

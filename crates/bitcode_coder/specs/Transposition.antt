@@ -1,4 +1,4 @@
--- The columns of a list of data of a shape: all instances of a field stand together.
+-- The columns of a list of data of a shape: all instances of a field together.
 use Rattle.std.specs.Prelude.{ℕ, zero, suc, pos, List, [], ◌∷◌, ◌++◌, length, map, filter, None, ◌==◌}
 use Rattle.std.specs.List.{flat_map}
 use Rattle.bitcode_shapes.specs.Datum.{Datum, number, elements_in, first_in, second_in, variant_in, payload_in}
@@ -19,7 +19,7 @@ joined ds = flat_map elements_in ds
 abbrev pub payloads : ℕ → List Datum → List Datum
 payloads index ds = map payload_in (filter (λ d. variant_in d == index) ds)
 
--- arrays of no elements can be any number
+-- any number of arrays without elements is possible
 abbrev pub array_columns : ℕ → ℕ → Columns → Columns
 array_columns zero count elements = elements
 array_columns (suc size) count elements = arrays (suc size) count elements

@@ -1,4 +1,4 @@
--- A type whose values are bytes of texts. Such bytes are written as they are.
+-- A type whose values are bytes of texts. Such bytes are written unchanged.
 use Rattle.std.proofs.Common.{ℕ, ◌<◌, true, pos, refl, sym, ◌∙◌}
 use Rattle.bitcode_shapes.specs.Shape.{raw_shape}
 use Rattle.bitcode_shapes.specs.Datum.{number}

@@ -1,4 +1,4 @@
--- Columns of lengths and of texts that the Rust crate wrote: the definitions write the same.
+-- Columns of lengths and of texts that the Rust crate wrote. The definitions yield the same bytes.
 use Rattle.std.specs.Prelude.{◌≡◌, [], ◌∷◌, refl}
 use Rattle.bitcode_columns.specs.LittleEndian.{raw_text}
 use Rattle.bitcode_columns.specs.Digits.{digits_text}

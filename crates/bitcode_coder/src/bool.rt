@@ -20,8 +20,8 @@ use bitcode_columns::strict::read_bools;
 use std::alloc::Global;
 use std::mem::replace;
 
-// Pushes a part of each item. Room for them was reserved. The list is taken and given back: behind a reference its length
-// would be read and written at each push.
+// Pushes a part of each item. The caller must have reserved the room. The list is passed by value and returned: through
+// a reference, each push would load and store its length.
 fn push_parts<S, W: Part<S, bool>>(
     items: &[S],
     which: &W,
@@ -85,6 +85,11 @@ impl Encoder<bool> for BoolEncoder {
     fn encode(&mut self, t: &bool) -> Result<(), Error> {
         self.values.push_unchecked(*t);
         Ok(())
+    }
+
+    fn write_directly(&mut self, t: &bool, out: &mut Vec<u8>) -> Result<bool, Error> {
+        out.push(*t as u8)?;
+        Ok(true)
     }
 
     fn encode_part_of_each<S, W: Part<S, bool>>(

@@ -1,4 +1,4 @@
-//! Integers of which not all are allowed: what they stand for, and the coder that reads them.
+//! Types that allow only some integers, and their decoder.
 ghost use Rattle.std.specs.Prelude.{◌≡◌, ◌≢◌, [], true, All, MatchBool, MatchOption};
 ghost use Rattle.std.proofs.Common.{sym};
 ghost use Rattle.bitcode_columns.specs.Fast.{cow_rest, cow_owned};
@@ -21,19 +21,19 @@ use std::marker::PhantomData;
 mod nanosecond;
 mod types;
 
-/// A type whose values stand for some of the integers `I`, such as `char` for some `u32`.
+/// A type whose values are some of the integers `I`, as those of `char` are some `u32`.
 pub trait Checked<I: ColumnInt>: Made + Drop {
     // which integers have a value
     ghost allowed: { Allowed };
 
-    /// The value that an integer stands for, if it is allowed: 0 is no `NonZeroU8`.
+    /// The value of an integer, if the type allows it: `NonZeroU8` does not allow 0.
     fn from_bits(bits: I) -> Option<Self>
         ensures { MatchOption result (IsAllowed allowed (I.number bits) → ⊥) (λ t. IsAllowed allowed (I.number bits) × Self.makes (number (I.number bits)) t) };
 
     ghost checked_shape: { Self.shape ≡ number_shape I.width I.signed allowed };
 }
 
-/// The column that values of `C` are read from: integers `I`, each of which is allowed.
+/// The column that values of `C` are read from: integers `I`, each of which `C` allows.
 ///
 /// ```
 /// let mut column: CheckedIntDecoder<char, u32> = CheckedIntDecoder::new(alloc);

@@ -1,5 +1,5 @@
-//! The four traits that coders of columns and of types meet.
-ghost use Rattle.std.specs.Prelude.{◌≡◌, ◌≢◌, ℕ, ◌+◌, ◌<◌, ◌≤◌, Bool, List, [], ◌∷◌, ◌++◌, length, map, IsTrue, ◌↔◌, ◌&&◌, IsOk, IfOk, OnOk, IfErr, OnErr, IsErrOf};
+//! The four traits that encoders and decoders implement, for single columns and for types.
+ghost use Rattle.std.specs.Prelude.{◌≡◌, ◌≢◌, ℕ, ◌+◌, ◌<◌, ◌≤◌, Bool, List, [], ◌∷◌, ◌++◌, length, map, IsTrue, IsFalse, ◌↔◌, ◌&&◌, IsOk, IfOk, OnOk, IfErr, OnErr, IsErrOf};
 ghost use Rattle.bitcode_columns.specs.declared.error.Reason.{Reason};
 ghost use Rattle.bitcode_columns.specs.Reading.{Reads, IsEndOf};
 ghost use Rattle.bitcode_shapes.specs.Datum.{Datum};
@@ -7,7 +7,7 @@ ghost use Rattle.bitcode_shapes.specs.Shape.{Shape};
 ghost use Rattle.bitcode_coder.specs.Columns.{Columns, emptied};
 ghost use Rattle.bitcode_coder.specs.Spelling.{Spells, columns_bytes};
 ghost use Rattle.bitcode_coder.specs.Strict.{StrictlySpells, JudgesData};
-ghost use Rattle.bitcode_coder.specs.Coder.{written_columns, BeginsWith, JoinsListing, OverflowsWithListing, JoinsEach, OverflowsWithEach, SurelyOverflows, IsWritingRefusal, IsReadingRefusal, TakesDatum, TakesEach};
+ghost use Rattle.bitcode_coder.specs.Coder.{written_columns, BeginsWith, JoinsListing, WritesListing, OverflowsWithListing, JoinsEach, OverflowsWithEach, SurelyOverflows, IsWritingRefusal, IsReadingRefusal, TakesDatum, TakesEach};
 
 use crate::part::{Behind, Itself, Part, told_parts};
 use bitcode_columns::error::{Error, Reason};
@@ -15,12 +15,12 @@ use bitcode_shapes::lists::told_each;
 use bitcode_shapes::shaped::{Made, Shaped};
 use std::alloc::Global;
 
-/// The most references that [`Encoder::encode_vectored`] takes.
+/// The maximal number of references that [`Encoder::encode_vectored`] accepts.
 pub const MAX_VECTORED_CHUNK: usize = 64;
 
-/// The columns that an encoder holds.
+/// The columns of an encoder.
 ///
-/// It has no functions: `Buffer` and `Encoder` both speak of these columns.
+/// It has no functions: the contracts of `Buffer` and `Encoder` are stated in terms of these columns.
 pub trait HoldsColumns {
     // the columns so far
     ghost columns: { Self → Columns };
@@ -38,19 +38,19 @@ pub trait HoldsColumns {
     ghost overflows: { Self → ℕ → Type 0 };
 }
 
-/// Columns that grow, value by value.
+/// Columns to which values are added one by one.
 ///
-/// After a refusal only [`Buffer::clear`] may follow: it gives the columns back empty.
+/// After an error only [`Buffer::clear`] may follow, which empties the columns.
 pub trait Buffer: HoldsColumns {
-    /// Columns without entries. Takes no memory.
+    /// Creates empty columns without allocating.
     fn new(alloc: Global) -> Self
         ensures empty { Self.columns result ≡ emptied (Self.columns result) }
         ensures capacity { Self.capacity result ≡ 0 };
 
-    /// Makes room for `n` more values.
+    /// Reserves room for `n` more values.
     ///
-    /// A refused growth is `out of memory`, and `length overflow` comes only where no `n` values can follow. Where that
-    /// is found before memory is asked for, it is `length overflow` whatever memory there is.
+    /// If an allocation fails, the error is `out of memory`. The error `length overflow` means that no `n` values can
+    /// follow. A call that detects this before it allocates always returns `length overflow`.
     fn reserve(&mut self, n: usize) -> Result<(), Error>
         ensures columns { Self.columns self.new ≡ Self.columns self.old }
         ensures ok { OnOk result (n ≤ Self.room self.new) }
@@ -59,9 +59,9 @@ pub trait Buffer: HoldsColumns {
         ensures refused { IfErr result (λ e. IsWritingRefusal e.reason (Self.surely_overflows self.old n)) }
         ensures overflow { Self.overflows self.old n → IsErrOf result (record { reason = Reason.LengthOverflow }) };
 
-    /// Writes the columns behind `out`, and leaves them empty.
+    /// Appends the columns to `out`, and empties them.
     ///
-    /// A refused growth is `out of memory`; `out` then begins with what it held.
+    /// If an allocation fails, the error is `out of memory`, and `out` still begins with what it held before.
     fn collect_into(&mut self, out: &mut Vec<u8>) -> Result<(), Error>
         ensures written { OnOk result (out.new.items ≡ out.old.items ++ columns_bytes (Self.columns self.old)) }
         ensures empty { OnOk result (Self.columns self.new ≡ emptied (Self.columns self.old)) }
@@ -69,14 +69,14 @@ pub trait Buffer: HoldsColumns {
         ensures form { emptied (Self.columns self.new) ≡ emptied (Self.columns self.old) }
         ensures refused { IfErr result (λ e. e.reason ≡ Reason.OutOfMemory) };
 
-    /// Drops all entries. Takes no memory. Room is to be reserved anew.
+    /// Drops all entries without allocating. The caller must reserve room again.
     fn clear(&mut self)
         ensures empty { Self.columns self.new ≡ emptied (Self.columns self.old) }
         ensures capacity { Self.capacity self.new ≤ Self.capacity self.old };
 
-    /// Writes the columns as bytes of their own, and leaves them empty.
+    /// Returns the columns as new bytes, and empties them.
     ///
-    /// A refused growth is `out of memory`.
+    /// If an allocation fails, the error is `out of memory`.
     final fn collect(&mut self, alloc: Global) -> Result<Vec<u8>, Error>
         ensures written { IfOk result (λ bytes. bytes.items ≡ columns_bytes (Self.columns self.old)) }
         ensures empty { OnOk result (Self.columns self.new ≡ emptied (Self.columns self.old)) }
@@ -89,15 +89,15 @@ pub trait Buffer: HoldsColumns {
     }
 }
 
-/// Columns that values of `T` are written to.
+/// Columns that values of `T` can be added to.
 pub trait Encoder<T: Shaped>: HoldsColumns {
     // writing a value takes no memory, where room for it was reserved
     ghost writes_free: { Bool };
 
-    /// Joins the columns of a value to those so far. Room for it was reserved.
+    /// Adds a value to the columns. The caller must have reserved room for it.
     ///
-    /// Want of memory inside the value is `out of memory`, and `length overflow` comes only where a number of
-    /// arrays times their size is over 18446744073709551615.
+    /// If an allocation for a part of the value fails, the error is `out of memory`. The error `length overflow` means
+    /// that a number of arrays times their size exceeds 18446744073709551615.
     fn encode(&mut self, t: &T) -> Result<(), Error>
         requires { 0 < Self.room self.old }
         ensures joined { OnOk result (JoinsListing T.lists T.shape t.now (Self.columns self.old) (Self.columns self.new)) }
@@ -106,10 +106,27 @@ pub trait Encoder<T: Shaped>: HoldsColumns {
         ensures refused { IfErr result (λ e. IsWritingRefusal e.reason (OverflowsWithListing T.lists T.shape t.now (Self.columns self.old))) }
         ensures free { IsTrue writes_free → IfErr result (λ e. e.reason ≢ Reason.OutOfMemory) };
 
-    /// Joins the columns of 1 to [`MAX_VECTORED_CHUNK`] values to those so far, as [`Encoder::encode`] does one by one.
-    /// Room for them was reserved.
+    /// Appends the columns of one value to `out` and keeps none of them, if the encoder can do so without a list for each
+    /// column. The columns must be empty. Returns whether it did. If not, `out` is unchanged.
     ///
-    /// It refuses as that does: the values up to the one at hand may have been joined then.
+    /// Errors: those of [`Encoder::encode`]. `out` then begins with its old bytes. Call
+    /// [`write_one`](crate::one::write_one), which tries this first.
+    fn write_directly(&mut self, _t: &T, _out: &mut Vec<u8>) -> Result<bool, Error>
+        requires { Self.columns self.old ≡ emptied (Self.columns self.old) }
+        ensures written { IfOk result (λ done. IsTrue done → WritesListing T.lists T.shape _t.now (Self.columns self.old) _out.old.items _out.new.items) }
+        ensures unchanged { IfOk result (λ done. IsFalse done → _out.new.items ≡ _out.old.items) }
+        ensures empty { OnOk result (Self.columns self.new ≡ emptied (Self.columns self.old)) }
+        ensures begins { BeginsWith _out.old.items _out.new.items }
+        ensures form { emptied (Self.columns self.new) ≡ emptied (Self.columns self.old) }
+        ensures refused { IfErr result (λ e. IsWritingRefusal e.reason (OverflowsWithListing T.lists T.shape _t.now (Self.columns self.old))) }
+    {
+        Ok(false)
+    }
+
+    /// Adds 1 to [`MAX_VECTORED_CHUNK`] values to the columns, as calls of [`Encoder::encode`] would. The caller must
+    /// have reserved room for them.
+    ///
+    /// Errors: those of `encode`. Some of the first values may have been added by then.
     final fn encode_vectored(&mut self, values: &[&T]) -> Result<(), Error>
         requires chunk { (0 < length values.now) × (length values.now ≤ MAX_VECTORED_CHUNK) }
         requires room { length values.now ≤ Self.room self.old }
@@ -122,12 +139,12 @@ pub trait Encoder<T: Shaped>: HoldsColumns {
         self.encode_part_of_each(values, &Behind, values[0])
     }
 
-    /// Joins the columns of a part of each of 1 to [`MAX_VECTORED_CHUNK`] items to those so far, as [`Encoder::encode`] does
-    /// one by one. Room for them was reserved.
+    /// Adds a part of each of 1 to [`MAX_VECTORED_CHUNK`] items to the columns, as calls of [`Encoder::encode`] would.
+    /// The caller must have reserved room for them.
     ///
-    /// It refuses as that does: the parts up to the one at hand may have been joined then. An encoder that writes many
-    /// values at once has a body of its own. `_first` is the first of them, or any value: a type that
-    /// an argument names has its place, and of arrays of a type parameter nothing else says so.
+    /// Errors: those of `encode`. Some of the first parts may have been added by then. Encoders that write many values
+    /// at once override it. `_first` is the first part or any other value of `T`. It is there only because the
+    /// toolchain needs an argument of the type to know its layout.
     fn encode_part_of_each<S, W: Part<S, T>>(
         &mut self,
         items: &[S],
@@ -149,20 +166,20 @@ pub trait Encoder<T: Shaped>: HoldsColumns {
         Ok(())
     }
 
-    /// Whether the values are written as they are, as bools, integers and the bytes of texts are: by
-    /// [`Encoder::encode_slice`] many of them at once.
+    /// Whether the values are written unchanged, as bools, integers and the bytes of texts are.
+    /// [`Encoder::encode_slice`] then writes many of them at once.
     ///
-    /// No such value takes memory of its own.
+    /// Such a value does not allocate.
     fn is_primitive() -> bool
         ensures { IsTrue result → IsTrue writes_free }
     {
         false
     }
 
-    /// Joins the columns of the values of a slice to those so far, as [`Encoder::encode`] does one by one. Room for them
-    /// was reserved.
+    /// Adds the values of a slice to the columns, as calls of [`Encoder::encode`] would. The caller must have reserved
+    /// room for them.
     ///
-    /// It refuses as that does: the values up to the one at hand may have been joined then.
+    /// Errors: those of `encode`. Some of the first values may have been added by then.
     fn encode_slice(&mut self, items: &[T]) -> Result<(), Error>
         requires { length items.now ≤ Self.room self.old }
         ensures joined { OnOk result (JoinsEach T.lists T.shape items.now (Self.columns self.old) (Self.columns self.new)) }
@@ -188,9 +205,9 @@ pub trait Encoder<T: Shaped>: HoldsColumns {
     ghost surely: { (e : Self) (n : ℕ) → Self.surely_overflows e n → SurelyOverflows T.shape (Self.columns e) n };
 }
 
-/// The data that a decoder holds.
+/// The data of a decoder.
 ///
-/// It has no functions: `View` and `Decoder` both speak of these data.
+/// It has no functions: the contracts of `View` and `Decoder` are stated in terms of these data.
 pub trait HoldsData {
     ghost shape: { Shape };
 
@@ -201,7 +218,7 @@ pub trait HoldsData {
     ghost owned: { Self → ℕ };
 }
 
-/// The answer of two parts that were read one behind the other.
+/// Combines the answers of two parts that were read one after the other.
 pub fn both(first: bool, second: bool) -> bool
     ensures { result ≡ (first && second) }
 {
@@ -210,21 +227,21 @@ pub fn both(first: bool, second: bool) -> bool
 
 /// Data that are read from an input.
 ///
-/// After a refusal only another reading may follow.
+/// After an error, only another read may follow.
 pub trait View<'a>: HoldsData {
     // such a refusal names what is first at fault when so many data are read from such an input; want of memory is
     // one only where the column at hand takes memory and all its bytes are there
     ghost faults: { Reason → ℕ → List ℕ → Type 0 };
 
-    /// Holds nothing. Takes no memory.
+    /// Creates an empty decoder without allocating.
     fn new(alloc: Global) -> Self
         ensures held { Self.held result ≡ [] }
         ensures owned { Self.owned result ≡ 0 };
 
-    /// Reads `k` data from the front of the input, all checks included. Where `strict`, the answer is whether the bytes of
-    /// each column are its text; else it says nothing.
+    /// Reads `k` data from the front of the input and validates them completely. If `strict`, it returns whether the
+    /// bytes of each column are those that `encode` writes. Otherwise the returned bool has no meaning.
     ///
-    /// A refusal names what is first at fault; `out of memory` is that only of a column that takes memory.
+    /// The error is the first fault. It is `out of memory` only for a column that allocates.
     fn read(&mut self, input: &mut &'a [u8], k: usize, strict: bool) -> Result<bool, Error>
         ensures read { OnOk result (Reads (Spells Self.shape) k input.old.now (Self.held self.new) input.new.now) }
         ensures judged { IsTrue strict → IfOk result (λ written. JudgesData Self.shape (Self.held self.new) written input.old.now input.new.now) }
@@ -232,9 +249,9 @@ pub trait View<'a>: HoldsData {
         ensures exact { IfErr result (λ e. faults e.reason k input.old.now) }
         ensures rest { OnErr result (IsEndOf input.old.now input.new.now) };
 
-    /// Reads `k` data from the front of the input, all checks included.
+    /// Reads `k` data from the front of the input and validates them completely.
     ///
-    /// A refusal names what is first at fault; `out of memory` is that only of a column that takes memory.
+    /// The error is the first fault. It is `out of memory` only for a column that allocates.
     final fn populate(&mut self, input: &mut &'a [u8], k: usize) -> Result<(), Error>
         ensures read { OnOk result (Reads (Spells Self.shape) k input.old.now (Self.held self.new) input.new.now) }
         ensures refused { IfErr result (λ e. IsReadingRefusal Self.shape e.reason k input.old.now) }
@@ -245,8 +262,8 @@ pub trait View<'a>: HoldsData {
         Ok(())
     }
 
-    /// Reads `k` data as [`View::populate`] does, and answers whether the bytes of each column are the text that is written
-    /// for its entries.
+    /// Reads `k` data as [`View::populate`] does, and returns whether the bytes of each column are those that `encode`
+    /// writes.
     final fn populate_strict(&mut self, input: &mut &'a [u8], k: usize) -> Result<bool, Error>
         ensures read { OnOk result (Reads (Spells Self.shape) k input.old.now (Self.held self.new) input.new.now) }
         ensures strict { IfOk result (λ written. IsTrue written ↔ Reads (StrictlySpells Self.shape) k input.old.now (Self.held self.new) input.new.now) }
@@ -258,23 +275,23 @@ pub trait View<'a>: HoldsData {
     }
 }
 
-/// Data that values of `T` are made of.
+/// Data from which values of `T` can be made.
 pub trait Decoder<T: Made>: HoldsData {
     // making a value takes no memory
     ghost makes_free: { Bool };
 
-    /// Makes a value of the next datum. One is left.
+    /// Makes a value from the next datum. At least one must be left.
     ///
-    /// `out of memory` is its only refusal.
+    /// The only error is `out of memory`.
     fn decode(&mut self) -> Result<T, Error>
         requires { 0 < length (Self.held self.old) }
         ensures made { IfOk result (λ t. TakesDatum T.makes t (Self.held self.old) (Self.held self.new)) }
         ensures refused { IfErr result (λ e. e.reason ≡ Reason.OutOfMemory) }
         ensures free { IsTrue makes_free → IsOk result };
 
-    /// Makes values of the next so many data, as [`Decoder::decode`] does one by one. So many are left.
+    /// Makes values from the next `count` data, as calls of [`Decoder::decode`] would. At least as many must be left.
     ///
-    /// `out of memory` is its only refusal, and none comes where no value is wanted.
+    /// The only error is `out of memory`. It never occurs for a `count` of 0.
     fn decode_many(&mut self, alloc: Global, count: usize) -> Result<Vec<T>, Error>
     where
         T: Drop,

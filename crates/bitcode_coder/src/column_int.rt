@@ -1,4 +1,4 @@
-//! The integers, as the coders of their columns take them.
+//! Integers, as the coders of their columns see them.
 ghost use Rattle.std.specs.Prelude.{◌≡◌, ◌≢◌, ℕ, ◌^◌, ◌<◌, ◌++◌, ℤ, Bool, List, [], ◌∷◌, map, All, IsTrue, ◌↔◌, IfOk, OnOk, IfErr, OnErr};
 ghost use Rattle.bitcode_columns.specs.Fast.{cow_rest};
 ghost use Rattle.bitcode_columns.specs.IntWidths.{IsWidth};
@@ -46,10 +46,10 @@ fn unpack_each_byte<'a, T: Byte>(
     read_bytes::<T>(alloc, input, count, out, strict)
 }
 
-/// An integer with a column: what its coders ask of it.
+/// An integer type with a column, as its coders need it.
 ///
-/// It says no more than they need, so that code that names a coder at a type is checked fast: an
-/// [`Int`](bitcode_columns::ints::Int) brings its arithmetic along.
+/// It has no more members than the coders use, so that code with a coder in a type is checked quickly: an
+/// [`Int`](bitcode_columns::ints::Int) would add all its arithmetic.
 pub trait ColumnInt: Copy {
     /// The number's bytes, the lowest first.
     type Une: Copy;
@@ -63,19 +63,27 @@ pub trait ColumnInt: Copy {
 
     ghost une_bytes: { Self.Une → List ℕ };
 
-    /// Appends the column of the integers, as [`pack_ints`](bitcode_columns::pack_ints::pack_ints) does. The slice is scratch afterwards.
+    /// Appends the column of the integers, as [`pack_ints`](bitcode_columns::pack_ints::pack_ints) does. The slice is
+    /// scratch afterwards.
     ///
-    /// A refused growth is `out of memory`, and then `out` is as it was.
+    /// If an allocation fails, the error is `out of memory` and `out` is unchanged.
     fn pack(alloc: Global, ints: &mut [Self], out: &mut Vec<u8>) -> Result<(), Error>
         ensures written { OnOk result (out.new.items ≡ out.old.items ++ int_text width (map number ints.old)) }
         ensures unchanged { OnErr result (out.new.items ≡ out.old.items) }
         ensures reason { IfErr result (λ e. e.reason ≡ Reason.OutOfMemory) };
 
-    /// Reads a column of so many integers from the front of the input into `out`, as
-    /// [`unpack_ints`](bitcode_columns::pack_ints::unpack_ints) does. Where `strict`, the answer is whether its bytes are
-    /// those that are written for the integers; else it says nothing.
+    /// Appends the column of one integer, as [`ColumnInt::pack`] does for several.
+    fn pack_one(alloc: Global, int: Self, out: &mut Vec<u8>) -> Result<(), Error>
+        ensures written { OnOk result (out.new.items ≡ out.old.items ++ int_text width (number int ∷ [])) }
+        ensures unchanged { OnErr result (out.new.items ≡ out.old.items) }
+        ensures reason { IfErr result (λ e. e.reason ≡ Reason.OutOfMemory) };
+
+    /// Reads a column of `count` integers from the front of the input into `out`, as
+    /// [`unpack_ints`](bitcode_columns::pack_ints::unpack_ints) does. If `strict`, it returns whether the bytes are
+    /// those that would be written for the integers. Otherwise the returned bool has no meaning.
     ///
-    /// Missing bytes are `EOF`, a tag that no column has is `invalid packing`, and a refused growth is `out of memory`.
+    /// If bytes are missing, the error is `EOF`; for an unknown tag `invalid packing`; if an allocation fails,
+    /// `out of memory`.
     fn unpack<'a>(
         alloc: Global,
         input: &mut &'a [u8],
@@ -90,7 +98,7 @@ pub trait ColumnInt: Copy {
         ensures rest { OnErr result (IsEndOf input.old.now input.new.now) }
         ensures raw { IsTrue (ints_stand_raw width count input.old.now) → IfErr result (λ e. e.reason ≢ Reason.OutOfMemory) };
 
-    /// The number of these bytes.
+    /// The number with these bytes.
     fn from_unaligned(unaligned: Self::Une) -> Self
         ensures { number result ≡ number_of width signed (little_endian (une_bytes unaligned)) };
 

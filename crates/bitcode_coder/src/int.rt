@@ -29,11 +29,11 @@ mod types;
 
 /// A type whose values are written as integers `I`, such as `char` as `u32`.
 pub trait AsInt<I: ColumnInt>: Shaped {
-    /// The integer that stands for the value.
+    /// The integer that is written for the value.
     fn to_int(&self) -> I
         ensures { Self.lists self.now (number (I.number result)) };
 
-    /// Pushes the integers that stand for the values of a slice. Room for them was reserved.
+    /// Pushes the integers for the values of a slice. The caller must have reserved the room.
     fn push_ints(values: &[Self], ints: &mut FastVec<I>)
         requires { length values.now ≤ fast_room ints.old }
         ensures written { PushesInts Self.lists I.number values.now (fast_items ints.old) (fast_items ints.new) }
@@ -47,7 +47,7 @@ pub trait AsInt<I: ColumnInt>: Shaped {
     ghost as_int_columns: { (ds : List Datum) → written_columns Self.shape ds ≡ one (ints I.width I.signed) ds };
 }
 
-// Pushes integers that stand for themselves, by one copy. Room for them was reserved.
+// Pushes integers that are written unchanged, by one copy. The caller must have reserved the room.
 fn push_themselves<I: ColumnInt>(values: &[I], ints: &mut FastVec<I>)
     requires { length values.now ≤ fast_room ints.old }
     ensures written { PushesInts (ListsNumber I.number) I.number values.now (fast_items ints.old) (fast_items ints.new) }
@@ -56,8 +56,8 @@ fn push_themselves<I: ColumnInt>(values: &[I], ints: &mut FastVec<I>)
     ints.extend_unchecked(values);
 }
 
-// Pushes the integers that stand for a part of each item. Room for them was reserved. The list is taken and given back: behind
-// a reference its length would be read and written at each push.
+// Pushes the integers for a part of each item. The caller must have reserved the room. The list is passed by value and
+// returned: through a reference, each push would load and store its length.
 fn push_parts<S, P: AsInt<I>, I: ColumnInt, W: Part<S, P>>(
     items: &[S],
     which: &W,
@@ -73,11 +73,11 @@ fn push_parts<S, P: AsInt<I>, I: ColumnInt, W: Part<S, P>>(
     ints
 }
 
-/// An integer whose values are made of what is read, as it is.
+/// An integer type whose values are read unchanged.
 pub trait Integer: ColumnInt + Made {
-    /// Takes the next `n` integers from their bytes.
+    /// Takes the next `n` integers.
     ///
-    /// A refused growth is `out of memory`.
+    /// If an allocation fails, the error is `out of memory`.
     fn list_unchecked<'a>(
         alloc: Global,
         bytes: &mut CowSlice<'a, Self::Une>,
@@ -147,7 +147,7 @@ impl<T: ColumnInt> Buffer for IntEncoder<T> {
 }
 
 impl<T: ColumnInt> IntEncoder<T> {
-    /// Writes integers behind the others, by one copy. Room for them was reserved.
+    /// Adds integers to the column, by one copy. The caller must have reserved the room.
     ///
     /// ```
     /// let mut column: IntEncoder<u8> = IntEncoder::new(alloc);
@@ -170,6 +170,11 @@ impl<I: ColumnInt, P: AsInt<I>> Encoder<P> for IntEncoder<I> {
     fn encode(&mut self, t: &P) -> Result<(), Error> {
         self.values.push_unchecked(t.to_int());
         Ok(())
+    }
+
+    fn write_directly(&mut self, t: &P, out: &mut Vec<u8>) -> Result<bool, Error> {
+        I::pack_one(self.alloc, t.to_int(), out)?;
+        Ok(true)
     }
 
     fn encode_part_of_each<S, W: Part<S, P>>(
@@ -210,7 +215,7 @@ fn ints_of<T: ColumnInt>(alloc: Global, unaligned: &[T::Une]) -> Result<Vec<T>, 
     Ok(ints)
 }
 
-// Takes the next `n` bytes, as the numbers that each of them is by itself.
+// Takes the next `n` bytes as integers of one byte each.
 fn list_of_bytes<'a>(
     alloc: Global,
     bytes: &mut CowSlice<'a, u8>,

@@ -1,4 +1,4 @@
-//! What holds of the columns of data, whatever the data are. A call does nothing: its contract is the law.
+//! Laws of the columns of data, for all data. The functions do nothing: their contracts are the laws.
 ghost use Rattle.std.specs.Prelude.{◌≡◌, ℕ, List, All};
 ghost use Rattle.bitcode_columns.specs.Laws.{IsReadOnce};
 ghost use Rattle.bitcode_shapes.specs.Datum.{Datum};
@@ -10,8 +10,8 @@ ghost use Rattle.bitcode_coder.specs.Strict.{StrictlySpells};
 ghost use Rattle.bitcode_coder.specs.JoinedTexts.{AreUtf8AsJoined};
 ghost use Rattle.bitcode_coder.specs.Laws.{ReadsBackColumn, ColumnTakesAnEighth, ReadsBackData, DataTakeAnEighth, JoinsColumnByColumn, TreeIsList};
 
-/// A column of any kind: what is written is read back whatever follows it, an input is read in at most one way, no
-/// entries take no bytes, and entries are at most eight times the bytes.
+/// A column of any kind. What is written is read back, whatever follows. An input is read in at most one way. An empty
+/// column has no bytes, and there are at most eight times as many entries as bytes.
 ///
 /// ```
 /// one_column();
@@ -22,7 +22,7 @@ pub fn one_column()
     ensures size_bound { (kind : Kind) → IsSoundKind kind → ColumnTakesAnEighth kind }
 {}
 
-/// Data of any shape: the same of all their columns together.
+/// The same for all columns of data of any shape.
 ///
 /// ```
 /// all_columns();
@@ -33,7 +33,7 @@ pub fn all_columns()
     ensures size_bound { (shape : Shape) → IsSound shape → DataTakeAnEighth shape }
 {}
 
-/// The columns of two lists of data that are joined are the columns of the lists, joined column by column.
+/// The columns of two concatenated lists of data are the columns of the lists, joined column by column.
 ///
 /// ```
 /// joined_data();
@@ -42,8 +42,8 @@ pub fn joined_data()
     ensures { (shape : Shape) → JoinsColumnByColumn shape }
 {}
 
-/// The columns of data, as a tree after their shape and as a list, are one: proofs go by the tree, and the bytes
-/// follow the list.
+/// The columns of data form a tree that follows the shape, and the same columns form a list. Proofs follow the tree,
+/// and the bytes follow the list.
 ///
 /// ```
 /// tree_and_list();
@@ -52,8 +52,8 @@ pub fn tree_and_list()
     ensures { (shape : Shape) (ds : List Datum) → TreeIsList shape ds }
 {}
 
-/// Texts are UTF-8, each for itself, exactly where their joined bytes are and each text but for the last ends where a
-/// character begins: so a reader looks at the joined bytes once.
+/// Texts are all UTF-8 exactly if their concatenation is, and if each text except the last ends where a character
+/// begins. So a reader validates the concatenation once.
 ///
 /// ```
 /// joined_texts();
@@ -62,8 +62,8 @@ pub fn joined_texts()
     ensures { (texts : List (List ℕ)) → AreUtf8AsJoined texts }
 {}
 
-/// Data of any shape have one strict spelling at most: the texts of their columns, joined. So those that strictly spell are the
-/// bytes that are written, wherever these are read back.
+/// Data of any shape have at most one strict encoding: the concatenated texts of their columns. So a strict encoding
+/// consists of the bytes that are written, wherever these can be read back.
 ///
 /// ```
 /// strict_data();

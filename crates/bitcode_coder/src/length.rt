@@ -9,14 +9,14 @@ mod decoder;
 mod encoder;
 mod width;
 
-// The byte that stands for a length of 255 or more.
-const ESCAPE: u8 = 255;
+// The byte that announces a length of 255 or more.
+pub(crate) const ESCAPE: u8 = 255;
 
-/// What has a length.
+/// A value with a length.
 pub trait Len {
     ghost size: { Self → ℕ };
 
-    /// How many elements there are.
+    /// The number of elements.
     fn len(&self) -> usize
         ensures { result ≡ size self.now };
 }

@@ -1,4 +1,4 @@
-//! Columns of data, the traits of coders, and the coders of one column.
+//! Columns of data, the traits of encoders and decoders, and the coders of single columns.
 #![tactic(auto)]
 
 pub mod bool;
@@ -8,8 +8,8 @@ pub mod column_int;
 pub mod int;
 pub mod laws;
 pub mod length;
+pub mod one;
 pub mod part;
 pub mod result;
-pub mod slices;
 pub mod str;
 pub mod u8_char;

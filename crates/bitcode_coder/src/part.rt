@@ -1,4 +1,4 @@
-//! Which part of a value is written: the value itself, what a reference leads to, or a field of a pair.
+//! Which part of a value is written: the value itself, the target of a reference, or a field of a pair.
 ghost use Rattle.std.specs.Prelude.{◌≡◌, All, map};
 
 use bitcode_shapes::shaped::Shaped;
@@ -37,7 +37,7 @@ impl<T> Part<T, T> for Itself {
     }
 }
 
-/// What a reference leads to.
+/// The target of a reference.
 pub struct Behind;
 
 impl<'a, T> Part<&'a T, T> for Behind {
@@ -48,14 +48,14 @@ impl<'a, T> Part<&'a T, T> for Behind {
     }
 }
 
-/// The first field of a pair that is itself a part.
+/// The first field of a pair that is a part of another value.
 pub struct First<'w, W, Q> {
     pair: &'w W,
     second: PhantomData<Q>,
 }
 
 impl<'w, W, Q> First<'w, W, Q> {
-    /// The first field of the pair that `pair` says.
+    /// The first field of the pair that `pair` selects.
     pub fn of(pair: &'w W) -> Self
         ensures { result.pair.now ≡ pair.now }
     {
@@ -80,14 +80,14 @@ impl<'w, S, P, Q, W: Part<S, (P, Q)>> Part<S, P> for First<'w, W, Q> {
     }
 }
 
-/// The second field of a pair that is itself a part.
+/// The second field of a pair that is a part of another value.
 pub struct Second<'w, W, P> {
     pair: &'w W,
     first: PhantomData<P>,
 }
 
 impl<'w, W, P> Second<'w, W, P> {
-    /// The second field of the pair that `pair` says.
+    /// The second field of the pair that `pair` selects.
     pub fn of(pair: &'w W) -> Self
         ensures { result.pair.now ≡ pair.now }
     {
@@ -112,7 +112,7 @@ impl<'w, S, P, Q, W: Part<S, (P, Q)>> Part<S, Q> for Second<'w, W, P> {
     }
 }
 
-/// The part of each item in hand is a value of its type.
+/// The part of each item satisfies its type's invariant.
 pub fn told_parts<S, T: Shaped, W: Part<S, T>>(items: &[S], which: &W)
     ensures { All T.is_value (map (W.of which.now) items.now) }
 {

@@ -1,5 +1,5 @@
-//! The result of coders' calls.
+//! The result type of encoders and decoders.
 use bitcode_columns::error::Error;
 
-/// What a coder's call gives, or why it refused.
+/// The result of a call, or its error.
 pub type Result<T> = std::result::Result<T, Error>;

@@ -18,7 +18,7 @@ mod fixed;
 
 /// A type whose values are written as texts.
 pub trait AsText: Shaped {
-    /// The text that stands for the value.
+    /// The text that is written for the value.
     fn as_text(&self) -> &str
         ensures { Self.lists self.now (text result.now) };
 

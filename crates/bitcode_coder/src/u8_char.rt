@@ -1,4 +1,4 @@
-//! Bytes of texts, and their coder.
+//! Bytes of texts, and their encoder.
 ghost use Rattle.std.specs.Prelude.{◌≡◌, ◌+◌, ◌≤◌, ◌++◌, length, map, pos, true, refl};
 ghost use Rattle.bitcode_columns.specs.Fast.{fast_items, fast_room, fast_capacity};
 ghost use Rattle.bitcode_shapes.specs.SameArrays.{one_datum_same_arrays};
@@ -19,8 +19,8 @@ use std::mem::replace;
 
 /// A byte of a text.
 ///
-/// It is encoded only: its column is the bytes as they are, which need not be UTF-8. A `Vec` of the bytes of a text is
-/// written as the text is.
+/// It can only be encoded: its column is the unchanged bytes, which need not be UTF-8. A `Vec` of the bytes of a text
+/// is encoded as the text would be.
 #[derive(Clone, Copy)]
 pub struct U8Char(pub u8);
 
@@ -46,8 +46,8 @@ impl SameArrays for U8Char {
     ghost same_arrays = { one_datum_same_arrays };
 }
 
-// Pushes the byte of a part of each item. Room for them was reserved. The list is taken and given back: behind a reference
-// its length would be read and written at each push.
+// Pushes the byte of a part of each item. The caller must have reserved the room. The list is passed by value and
+// returned: through a reference, each push would load and store its length.
 fn push_parts<S, W: Part<S, U8Char>>(items: &[S], which: &W, mut bytes: FastVec<u8>) -> FastVec<u8>
     requires { length items.now ≤ fast_room bytes }
     ensures written { fast_items result ≡ fast_items bytes ++ map (λ item. (W.of which.now item).0) items.now }

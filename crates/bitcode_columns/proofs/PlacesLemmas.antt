@@ -1,7 +1,6 @@
 -- The first items of places, after writes behind them.
-use Rattle.std.proofs.Common.{◌≡◌, refl, ◌⊎◌, inl, inr, subst, ℕ, suc, ◌+◌, ◌<◌, ◌≤◌, List, [], ◌∷◌, ◌++◌, length, take, drop, get_or, sym, ap, ◌∙◌, arith, append_assoc, length-append, take_at, take-append-drop}
+use Rattle.std.proofs.Common.{◌≡◌, refl, ◌⊎◌, inl, inr, subst, ℕ, suc, ◌+◌, ◌≤◌, List, [], ◌∷◌, ◌++◌, length, take, drop, sym, ap, ◌∙◌, arith, append_assoc, length-append, take_at, take-append-drop}
 use Rattle.std.specs.List.{refill}
-use Rattle.std.proofs.Math.Seq.{take-suc}
 use Rattle.std.proofs.lemmas.List.{take_all, take-take, length-take, length-drop, nil_from_length}
 
 module _ {X : Type 0} where
@@ -10,13 +9,6 @@ module _ {X : Type 0} where
   last_written items n x within =
       let front = length-take n items in
       take_all (n + 1) (take n items ++ x ∷ []) (omega (arith, front, length-append (take n items) (x ∷ [])))
-
-  pub one_more_written : (items old src : List X) (n i : ℕ) (d : X) → n + i ≤ length items → i < length src → take (n + i) items ≡ take n old ++ take i src
-      → take (n + (i + 1)) (take (n + i) items ++ get_or src i d ∷ []) ≡ take n old ++ take (i + 1) src
-  one_more_written items old src n i d within less so_far =
-      let x = get_or src i d in let further : n + (i + 1) ≡ n + i + 1 = omega arith in let next : suc i ≡ i + 1 = omega arith in
-      ap (λ m. take m (take (n + i) items ++ x ∷ [])) further ∙ last_written items (n + i) x within ∙ ap (λ l. l ++ x ∷ []) so_far
-      ∙ append_assoc (take n old) (take i src) (x ∷ []) ∙ ap (λ l. take n old ++ l) (sym (take-suc src i d less) ∙ ap (λ m. take m src) next)
 
   -- as many items were written as there were
   pub all_written : (items ws : List X) (n : ℕ) → n ≤ length items → length ws ≡ length (take n items) → take n (refill n items ws) ≡ ws
@@ -64,11 +56,3 @@ module _ {X : Type 0} where
   written_or old new block src n k (inr none) is_front fits written =
       subst (λ items. take (n + length items) new ≡ take n old ++ items) (sym (nil_from_length src none))
       (front_kept old new block n (length block) fits written)
-
-  -- some items were written, and then those behind them
-  pub then_written : (old first last src front back : List X) (n : ℕ) → src ≡ front ++ back → take (n + length front) first ≡ take n old ++ front
-      → take (n + length front + length back) last ≡ take (n + length front) first ++ back → take (n + length src) last ≡ take n old ++ src
-  then_written old first last src front back n parts written after =
-      let all : n + length src ≡ n + length front + length back = omega (arith, ap length parts, length-append front back) in
-      ap (λ k. take k last) all ∙ after ∙ ap (λ items. items ++ back) written ∙ append_assoc (take n old) front back
-      ∙ ap (λ items. take n old ++ items) (sym parts)

@@ -1,4 +1,4 @@
--- Worked rows: what the definitions accept, and what they do not.
+-- Worked examples: what the definitions accept, and what they reject.
 use Rattle.std.specs.Prelude.{◌≡◌, ℕ, zero, suc, ◌/◌, ◌%◌, ◌<◌, [], ◌∷◌, refl, slice_index}
 use Rattle.std.proofs.Common.{arith, inl, lit<, lit≤, sym}
 use Rattle.std.proofs.lemmas.List.Elements.{All-nil, All-cons}

@@ -1,5 +1,5 @@
--- A byte column. At most two entries stand bare; more of them follow a tag and are digits in the base of the
--- tag's level. At level 0 that is base 256: the entries, raw.
+-- A byte column. At most two entries are written without a tag. More of them follow a tag, as digits in the base of the
+-- tag's level. Level 0 is base 256: the entries, raw.
 use Rattle.std.specs.Prelude.{◌≡◌, ℕ, ◌≤◌, ◌<◌, ℤ, List, length, map, nat_lt, nat_le, ◌⊎◌, if◌then◌else◌}
 use Rattle.bitcode_columns.specs.declared.pack.Base.{Base}
 use Rattle.bitcode_columns.specs.declared.pack.Base.TheVariants.{Whole, Sixteen, Six, Four, Three, Two}
@@ -26,7 +26,7 @@ highest_byte_tag = 10
 abbrev pub SpellsAtByteLevel : ℕ → List ℕ → List ℕ → Type 0
 SpellsAtByteLevel level = SpellsDigits (base_at_level level)
 
--- Accepted, the entries from 0 to 255: a signed column's as residues.
+-- Accepted: the entries from 0 to 255, those of a signed column as residues.
 abbrev pub SpellsBytes : List ℕ → List ℕ → Type 0
 SpellsBytes bytes entries =
     ((length entries ≤ 2) × (bytes ≡ entries))
@@ -38,7 +38,7 @@ byte_level_for number = level_of_base (base_for number)
 abbrev pub text_at_byte_level : ℕ → List ℕ → List ℕ
 text_at_byte_level level = digits_text (base_at_level level)
 
--- Written, the entries as numbers, signed or not.
+-- Written: the entries as numbers, signed or not.
 unfoldable pub byte_text : List ℤ → List ℕ
 byte_text entries =
     if nat_le (length entries) 2 then map (residue 1) entries else tagged_text 1 byte_level_for text_at_byte_level entries

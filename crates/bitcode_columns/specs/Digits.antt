@@ -1,5 +1,5 @@
--- Several small entries share a byte, as its digits in a base, the lowest digit first. An entry that takes a
--- byte of its own is the one digit of it in base 256.
+-- Several small entries share a byte, as its digits in a base, the lowest digit first. In base 256 each byte is one
+-- digit, which is one entry.
 use Rattle.std.specs.Prelude.{◌≡◌, ℕ, ◌+◌, ◌*◌, ◌/◌, ◌%◌, ◌^◌, ◌<◌, List, [], ◌∷◌, length, map, take, drop, slice_index, nat_lt, if◌then◌else◌}
 use Rattle.std.specs.List.{range_with_len}
 use Rattle.std.specs.Int.{div_ceil}
@@ -23,7 +23,7 @@ digits_in_byte Four = 4
 digits_in_byte Three = 5
 digits_in_byte Two = 8
 
--- the least base whose digits reach this number
+-- the smallest base that has a digit for this number
 abbrev pub base_for : ℕ → Base
 base_for greatest =
     if nat_lt greatest 2 then Two else if nat_lt greatest 3 then Three else if nat_lt greatest 4 then Four
@@ -38,14 +38,13 @@ abbrev pub number_with_digits : (radix : ℕ) → List ℕ → ℕ
 number_with_digits radix [] = 0
 number_with_digits radix (digit ∷ digits) = digit + radix * number_with_digits radix digits
 
--- Accepted: entry i is digit i mod d of byte i div d, for d digits a byte. A digit that no entry uses may be
--- anything.
+-- Accepted: entry i is digit i mod d of byte i div d, for d digits a byte. A digit that no entry uses may be anything.
 pub record SpellsDigits (base : Base) (bytes entries : List ℕ) : Type 0 where
   pub size : length bytes ≡ div_ceil (length entries) (digits_in_byte base)
   pub each : (i : ℕ) → i < length entries → slice_index entries i
       ≡ digit (radix base) (slice_index bytes (i / digits_in_byte base)) (i % digits_in_byte base)
 
--- Written: each byte is the number whose digits are its entries, and the digits left over are 0.
+-- Written: each byte is the number whose digits are its entries. Unused digits are 0.
 unfoldable pub digits_text : Base → List ℕ → List ℕ
 digits_text base entries =
     map (λ byte. number_with_digits (radix base) (take (digits_in_byte base) (drop (byte * digits_in_byte base) entries)))

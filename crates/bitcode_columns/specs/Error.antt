@@ -1,4 +1,4 @@
--- The text of each reason, as an error prints it, and the kind of the I/O error that it becomes.
+-- The text that an error with each reason prints, and the kind of its I/O error.
 use Rattle.std.specs.Prelude.{ℕ, List, codes}
 use Rattle.std.specs.declared.io.ErrorKind.{ErrorKind}
 use Rattle.std.specs.declared.io.ErrorKind.TheVariants.{UnexpectedEof, InvalidData, OutOfMemory as NoMemory}

@@ -1,4 +1,4 @@
--- Lists with reserved room, and lists that are read from the front.
+-- Lists with reserved room, and lists that are read front to back.
 use Rattle.std.specs.Prelude.{ℕ, ◌+◌, ◌-◌, List, length, take, drop, vec_capacity}
 use Rattle.bitcode_columns.specs.declared.fast.vec.FastVec.{FastVec}
 use Rattle.bitcode_columns.specs.declared.fast.FastSlice.{FastSlice}
@@ -11,11 +11,11 @@ module _ {T : Type 0} where
   unfoldable pub fast_items : FastVec T → List T
   fast_items v = take v.len v.places.items
 
-  -- how many more items have their place already
+  -- how many more items fit in the reserved room
   unfoldable pub fast_room : FastVec T → ℕ
   fast_room v = v.capacity - v.len
 
-  -- how many items it has memory for, those that were pushed included
+  -- how many items fit in its memory, including those that were pushed
   abbrev pub fast_capacity : FastVec T → ℕ
   fast_capacity v = fast_room v + length (fast_items v)
 
@@ -32,11 +32,11 @@ module _ {T : Type 0} where
   unfoldable pub cow_rest : CowSlice T → List T
   cow_rest c = drop c.position (held_items c.held)
 
-  -- for how many items it has memory of its own
+  -- how many items fit in the memory that it owns
   abbrev pub held_owned : Held T → ℕ
   held_owned (Borrowed items) = 0
   held_owned (Owned vec) = vec_capacity vec
 
-  -- for how many items it has memory of its own, read or not
+  -- how many items fit in the memory that it owns, read or not
   unfoldable pub cow_owned : CowSlice T → ℕ
   cow_owned c = held_owned c.held

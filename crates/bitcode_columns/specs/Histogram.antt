@@ -4,11 +4,11 @@ use Rattle.std.specs.Prelude.{◌≡◌, ℕ, ◌+◌, ◌<◌, List, length, sl
 abbrev pub count_of : ℕ → List ℕ → ℕ
 count_of value entries = count_by (λ entry. entry == value) entries
 
--- A place for each number below a bound: so many of the entries are that number. Other entries count for nothing.
+-- A count for each number below a bound: how many entries are that number. Other entries are ignored.
 pub record AreCounts (bound : ℕ) (entries counts : List ℕ) : Type 0 where
   pub size : length counts ≡ bound
   pub each : (value : ℕ) → value < bound → slice_index counts value ≡ count_of value entries
 
--- what four tables of 256 counts, one behind another, count of a number together
+-- how often four tables of 256 counts, one after another, count a number together
 unfoldable pub counted : List ℕ → ℕ → ℕ
 counted tables value = slice_index tables value + slice_index tables (256 + value) + slice_index tables (512 + value) + slice_index tables (768 + value)

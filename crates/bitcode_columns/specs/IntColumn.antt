@@ -1,6 +1,6 @@
--- A column of integers of a width of 1, 2, 4, 8 or 16 bytes. Width 1 is a byte column. Nothing stands for no
--- entries, and one entry of 2 bytes stands bare. All else follows a tag, and each level halves the width of
--- the numbers; those of one byte are an unsigned byte column of their own.
+-- A column of integers with a width of 1, 2, 4, 8 or 16 bytes. Width 1 is a byte column. An empty column has no bytes,
+-- and one entry of 2 bytes is written without a tag. Everything else follows a tag. Each level halves the width of the
+-- numbers, and numbers of one byte form an unsigned byte column of their own.
 use Rattle.std.specs.Prelude.{ℕ, ◌-◌, ◌*◌, ◌/◌, ◌^◌, ℤ, pos, List, length, map, nat_lt, MatchBool, ◌==◌, ◌||◌, ◌&&◌, if◌then◌else◌}
 use Rattle.bitcode_columns.specs.LittleEndian.{SpellsRaw, raw_text}
 use Rattle.bitcode_columns.specs.Ints.{residue}
@@ -27,7 +27,7 @@ abbrev pub int_form : (width count : ℕ) → IntForm
 int_form width count =
     if width == 1 then bytes_form else if count == 0 || (width == 2 && count == 1) then bare_form else tagged_form
 
--- narrow numbers of a width: raw, save those of one byte
+-- narrow numbers of a width: raw, except those of one byte
 abbrev pub SpellsNarrow : ℕ → List ℕ → List ℕ → Type 0
 SpellsNarrow width bytes numbers = MatchBool (width == 1) (SpellsBytes bytes numbers) (SpellsRaw width bytes numbers)
 
@@ -39,7 +39,7 @@ SpellsIntsAs bytes_form width bytes entries = SpellsBytes bytes entries
 SpellsIntsAs bare_form width bytes entries = SpellsRaw width bytes entries
 SpellsIntsAs tagged_form width bytes entries = SpellsTagged width (highest_int_tag width) (SpellsAtIntLevel width) bytes entries
 
--- Accepted, the entries as residues of the width.
+-- Accepted: the entries as residues of the width.
 abbrev pub SpellsInts : ℕ → List ℕ → List ℕ → Type 0
 SpellsInts width bytes entries = SpellsIntsAs (int_form width (length entries)) width bytes entries
 
@@ -63,6 +63,6 @@ int_text_as bytes_form width entries = byte_text entries
 int_text_as bare_form width entries = raw_text width (map (residue width) entries)
 int_text_as tagged_form width entries = tagged_text width (int_level_for width) (text_at_int_level width) entries
 
--- Written, the entries as numbers, signed or not.
+-- Written: the entries as numbers, signed or not.
 unfoldable pub int_text : ℕ → List ℤ → List ℕ
 int_text width entries = int_text_as (int_form width (length entries)) width entries

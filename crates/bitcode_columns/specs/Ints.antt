@@ -1,5 +1,5 @@
--- What the entries of a column are as numbers. An entry of a column of width w stands in its bytes as its
--- residue modulo 256 ^ w, a negative one in two's complement.
+-- The entries of a column as numbers. The bytes of an entry with a width of w bytes encode it modulo 256 ^ w: a
+-- negative entry in two's complement.
 use Rattle.std.specs.Prelude.{ℕ, suc, ◌-◌, ◌*◌, ◌^◌, ◌<◌, Bool, true, false, ℤ, pos, negsuc, List, [], ◌∷◌, fold, nat_lt, if◌then◌else◌}
 use Rattle.std.specs.Int.{int_min, int_max}
 
@@ -14,12 +14,12 @@ abbrev pub residue : ℕ → ℤ → ℕ
 residue width (pos n) = n
 residue width (negsuc n) = 256 ^ width - suc n
 
--- the number of a residue, at a signed type (true) or an unsigned one
+-- the number with a residue, for a signed type (true) or an unsigned one
 abbrev pub number_of : ℕ → Bool → ℕ → ℤ
 number_of width false n = pos n
 number_of width true n = if nat_lt (2 * n) (256 ^ width) then pos n else negsuc (256 ^ width - suc n)
 
--- the least and the greatest of all entries; 0 of none
+-- the least and the greatest of all entries, or 0 if there are none
 abbrev pub least : List ℤ → ℤ
 least [] = pos 0
 least (entry ∷ entries) = fold int_min entry entries

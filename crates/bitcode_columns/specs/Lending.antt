@@ -1,4 +1,4 @@
--- What a list ends as, once the slice that it gave out is given back.
+-- The final state of a list, once the slice that it lent is returned.
 use Rattle.std.specs.Prelude.{◌≡◌, ⊤, ℕ, List, [], drop}
 use Rattle.std.specs.Borrow.{Lends, follows_so, Fml, MutBor, RattleType, Array}
 use mathlib.Core.Option.{none}
@@ -10,7 +10,7 @@ use Rattle.bitcode_columns.specs.contracts.fast.CowSlice.{the_row as cow_row}
 use Rattle.bitcode_columns.specs.Fast.{cow_rest}
 use Rattle.bitcode_columns.specs.Places.{with_front, front_counts}
 
--- v with these items in place of its own, as many
+-- v with as many other items in place of its own
 unfoldable pub with_fast_items : {T : Type 0} → FastVec T → List T → FastVec T
 with_fast_items v items = record {
   start = v.start;
@@ -25,7 +25,7 @@ with_fast_items v items = record {
 }
 
 module _ (T : RattleType) where
-  -- r is all items of v, to be written
+  -- r is a mutable slice of all items of v
   abbrev pub LendsItems : MutBor (FastVec T.Denot) → MutBor (List T.Denot) → Fml
   LendsItems v r = Lends (fast_row T) (Array T 0) v r (with_fast_items v.now)
 

@@ -1,8 +1,8 @@
--- Numbers of several bytes stand with their lowest byte first.
+-- Numbers of several bytes are written with the lowest byte first.
 use Rattle.std.specs.Prelude.{◌≡◌, ℕ, zero, suc, ◌+◌, ◌*◌, ◌/◌, ◌%◌, ◌^◌, ◌<◌, List, [], ◌∷◌, All}
 use Rattle.std.specs.List.{flat_map}
 
--- the number that these bytes stand for
+-- the number with these bytes
 abbrev pub little_endian : List ℕ → ℕ
 little_endian [] = 0
 little_endian (byte ∷ bytes) = byte + 256 * little_endian bytes

@@ -1,4 +1,5 @@
--- What a list with room owns of its memory and lends, at items of the row R: places side by side, of which the first hold items.
+-- What a list with room owns of its memory and what it lends, for items of the row R: a block of places, of which the
+-- first hold items.
 use Rattle.std.specs.Prelude.{ℕ, ◌+◌, ◌-◌, ◌*◌, ◌^◌, List, [], ◌∷◌, length}
 use Rattle.std.specs.Mem.{type_size}
 use Rattle.std.specs.Vec.Ownership.{owns_if, has_block}
@@ -13,11 +14,11 @@ use denote.Sharing.{nothing, said, beside}
 use denote.RawPtr.{Ptr, block_ptr, null_ptr}
 
 module _ (R : RattleType) where
-  -- the room behind the items, o bytes into the block b
+  -- the room after the items, o bytes into the block b
   abbrev pub room_behind : ℕ → ℕ → ℕ → ℕ → Fml
   room_behind b o c n = froom (raw (ty_array (lone R.mir) (c - n))) b (o + n * type_size R)
 
-  -- the places take fewer than 2 ^ 63 bytes
+  -- the places occupy fewer than 2 ^ 63 bytes
   abbrev pub fit : ℕ → Fml
   fit c = flt (c * type_size R) (2 ^ 63)
 
@@ -33,6 +34,6 @@ module _ (R : RattleType) where
   places_lent (block_ptr b o) c xs = beside (said (fit c)) (items_lent b o xs)
   places_lent null_ptr c xs = said ffalse
 
-  -- the allocator's token for a block of c places, where there is one
+  -- the allocator's token for a block of c places, if there is one
   abbrev pub lease_owns : (Ty → Ptr → Fml) → Ptr → ℕ → Fml
   lease_owns token p c = owns_if (has_block c) (token (raw (ty_array (lone R.mir) c)) p)

@@ -1,4 +1,4 @@
--- What the places end as, once the slice that was lent is given back.
+-- The final state of the places, once the slice that was lent is returned.
 use Rattle.std.specs.Prelude.{ℕ, ◌^◌, ◌<◌, ◌≤◌, List, ◌++◌, length, drop}
 use native.Mathlib.Omega.{arith}
 use lib.ListN.{length-append, length-take, length-drop}

@@ -1,4 +1,4 @@
--- What a reader of a column does with its input, and which fault it names.
+-- What a reader of a column does with its input, and which fault it reports.
 use Rattle.std.specs.Prelude.{◌≡◌, ℕ, Bool, true, false, ◌||◌, ◌-◌, ◌*◌, ◌/◌, ◌%◌, List, [], ◌∷◌, ◌++◌, length, drop, slice_index, Option, Some, None, nat_lt, nat_le, ◌==◌, ◌⊎◌, if◌then◌else◌}
 use Rattle.std.specs.Int.{div_ceil}
 use Rattle.std.specs.List.{list_all, range_with_len}
@@ -11,19 +11,19 @@ use Rattle.bitcode_columns.specs.Tagged.{level_of_tag}
 use Rattle.bitcode_columns.specs.ByteColumn.{base_at_level, highest_byte_tag}
 use Rattle.bitcode_columns.specs.IntColumn.{IntForm, bytes_form, bare_form, tagged_form, int_form, highest_int_tag, width_at_level}
 
--- a front of the old input spells so many entries, and the new input is the rest
+-- a prefix of the old input spells so many entries, and the new input is the rest
 pub record Reads {Entry : Type 0} (Spells : List ℕ → List Entry → Type 0) (count : ℕ) (old : List ℕ) (entries : List Entry) (new : List ℕ) : Type 0 where
   pub size : length entries ≡ count
   pub piece : List ℕ
   pub whole : old ≡ piece ++ new
   pub spelled : Spells piece entries
 
--- the input after a refusal is an end part of what it was
+-- after an error the input is a suffix of what it was
 pub record IsEndOf (old new : List ℕ) : Type 0 where
   pub taken : List ℕ
   pub whole : old ≡ taken ++ new
 
--- the fault, if there is one, of an input in which so many bytes are wanted
+-- the fault, if there is one, of an input that must have so many bytes
 abbrev pub missing : ℕ → List ℕ → Option Reason
 missing wanted input = if nat_lt (length input) wanted then Some Eof else None
 
@@ -33,7 +33,7 @@ digits_fault base count input = missing (div_ceil count (digits_in_byte base)) i
 abbrev pub bools_fault : ℕ → List ℕ → Option Reason
 bools_fault = digits_fault Two
 
--- missing bytes first, then an entry that is no variant
+-- first missing bytes, then an entry that is not a variant
 abbrev pub is_variant_at : (variants : ℕ) → List ℕ → ℕ → Bool
 is_variant_at variants input i =
     nat_lt (digit (radix (base_for (variants - 1))) (slice_index input (i / digits_in_byte (base_for (variants - 1))))
@@ -44,7 +44,7 @@ variants_fault variants count input =
     if nat_lt (length input) (div_ceil count (digits_in_byte (base_for (variants - 1)))) then Some Eof
     else if list_all (is_variant_at variants input) (range_with_len 0 count) then None else Some InvalidPacking
 
--- the tag first, then the least entry, then the narrow numbers
+-- first the tag, then the least entry, then the narrow numbers
 abbrev pub tagged_fault : (width highest : ℕ) (narrow_fault : ℕ → List ℕ → Option Reason) → List ℕ → Option Reason
 tagged_fault width highest narrow_fault [] = Some Eof
 tagged_fault width highest narrow_fault (tag ∷ input) =
@@ -69,21 +69,21 @@ ints_fault_as tagged_form width count input =
 abbrev pub ints_fault : ℕ → ℕ → List ℕ → Option Reason
 ints_fault width count input = ints_fault_as (int_form width count) width count input
 
--- A refusal names the fault, and want of memory comes only where there is none.
+-- An error reports the fault, and an allocation fails only if there is none.
 abbrev pub Names : Reason → Option Reason → Type 0
 Names reason fault = ((reason ≡ OutOfMemory) × (fault ≡ None)) ⊎ (fault ≡ Some reason)
 
--- The same of a variant column: memory is wanted after the bytes are there, and before the entries are known.
+-- The same for a variant column: it allocates once the bytes are there, before it knows the entries.
 abbrev pub NamesVariantFault : Reason → (variants count : ℕ) → List ℕ → Type 0
 NamesVariantFault reason variants count input =
     ((reason ≡ OutOfMemory) × (digits_fault (base_for (variants - 1)) count input ≡ None)) ⊎ (variants_fault variants count input ≡ Some reason)
 
--- Entries that stand as they are in the input: their reader borrows them, and takes no memory.
+-- Entries that the input has unpacked: their reader borrows them without allocating.
 abbrev pub has_raw_tag : List ℕ → Bool
 has_raw_tag [] = false
 has_raw_tag (tag ∷ input) = tag == 0
 
--- from 17 variants on
+-- with 17 variants or more
 abbrev pub variants_stand_raw : (variants count : ℕ) → Bool
 variants_stand_raw variants count = nat_le 17 variants || count == 0
 

@@ -1,4 +1,4 @@
--- Worked rows: columns whose bytes are known, computed from the definitions.
+-- Worked examples: columns with known bytes, computed from the definitions.
 use Rattle.std.specs.Prelude.{◌≡◌, true, pos, negsuc, [], ◌∷◌, Some, None, refl}
 use Rattle.bitcode_columns.specs.declared.error.Reason.TheVariants.{Eof, InvalidPacking}
 use Rattle.bitcode_columns.specs.LittleEndian.{raw_text}
@@ -25,7 +25,7 @@ seven_from_201 : byte_text (pos 201 ∷ pos 202 ∷ pos 203 ∷ pos 204 ∷ pos 
 unfolding byte_text tagged_text digits_text
 seven_from_201 = refl
 
--- five entries are too few to shift
+-- five entries are too few for differences from the least one
 five_from_201 : byte_text (pos 201 ∷ pos 202 ∷ pos 203 ∷ pos 204 ∷ pos 205 ∷ []) ≡ 0 ∷ 201 ∷ 202 ∷ 203 ∷ 204 ∷ 205 ∷ []
 unfolding byte_text tagged_text digits_text
 five_from_201 = refl
@@ -81,7 +81,7 @@ true_once : bool_text (true ∷ []) ≡ 1 ∷ []
 unfolding bool_text digits_text
 true_once = refl
 
--- ---- refused
+-- ---- rejected
 
 unknown_tag : bytes_fault 5 (255 ∷ []) ≡ Some InvalidPacking
 unknown_tag = refl

@@ -1,6 +1,6 @@
--- A column may begin with a tag byte that says how its entries stand. Level 0 keeps them whole, and at each
--- higher level they are smaller numbers. The tag of a level is twice the level, or one less where every entry
--- is a sum with a least entry, which follows the tag.
+-- A column may begin with a tag byte, which says how its entries are written. Level 0 keeps them whole, and each higher
+-- level makes them smaller numbers. The tag of a level is twice the level, or one less if every entry is the sum of its
+-- number and a least entry, which follows the tag.
 use Rattle.std.specs.Prelude.{◌≡◌, ℕ, ◌+◌, ◌-◌, ◌*◌, ◌/◌, ◌%◌, ◌^◌, ◌≤◌, Bool, true, false, ℤ, pos, ◌-ℤ◌, int_lt, unsigned_abs, List, ◌∷◌, ◌++◌, length, map, nat_lt, ◌&&◌, if◌then◌else◌}
 use Rattle.bitcode_columns.specs.LittleEndian.{little_endian, number_bytes}
 use Rattle.bitcode_columns.specs.Ints.{residue, least, greatest}
@@ -13,8 +13,8 @@ abbrev pub tag_of : ℕ → Bool → ℕ
 tag_of level true = 2 * level - 1
 tag_of level false = 2 * level
 
--- Accepted, for entries of a width: a tag that is not too high, the least entry where the tag is odd, and the
--- narrow numbers as their level says. An entry is its narrow number and the least together.
+-- Accepted, for entries of a width: a tag that is not too high, the least entry if the tag is odd, and narrow numbers
+-- according to the level. An entry is the sum of its narrow number and the least entry.
 pub record SpellsTagged (width highest : ℕ) (SpellsNarrow : ℕ → List ℕ → List ℕ → Type 0) (bytes entries : List ℕ) : Type 0 where
   pub tag : ℕ
   pub least_bytes : List ℕ
@@ -26,15 +26,15 @@ pub record SpellsTagged (width highest : ℕ) (SpellsNarrow : ℕ → List ℕ �
   pub narrowed : SpellsNarrow (level_of_tag tag) body narrow
   pub widened : entries ≡ map (λ n. (n + little_endian least_bytes) % 256 ^ width) narrow
 
--- the level at which the entries stand as they are: negative ones need the whole width
+-- the level for the unshifted entries: negative ones need the whole width
 abbrev pub plain_level : (ℕ → ℕ) → List ℤ → ℕ
 plain_level level_for entries = if int_lt (least entries) (pos 0) then 0 else level_for (unsigned_abs (greatest entries))
 
--- the level at which they stand without the least one
+-- the level for their differences from the least entry
 abbrev pub shifted_level : (ℕ → ℕ) → List ℤ → ℕ
 shifted_level level_for entries = level_for (unsigned_abs (greatest entries -ℤ least entries))
 
--- they are shifted exactly where that makes them smaller and there are more than five
+-- they are shifted exactly if that makes them smaller and there are more than five
 abbrev pub is_shifted : (ℕ → ℕ) → List ℤ → Bool
 is_shifted level_for entries = nat_lt 5 (length entries) && nat_lt (plain_level level_for entries) (shifted_level level_for entries)
 
@@ -48,7 +48,7 @@ abbrev pub plain_text : (width : ℕ) (level_for : ℕ → ℕ) (narrow_text : �
 plain_text width level_for narrow_text entries =
     tag_of (plain_level level_for entries) false ∷ narrow_text (plain_level level_for entries) (map (residue width) entries)
 
--- Written. `level_for` is the highest level that holds a number, and `narrow_text` the text of numbers at a level.
+-- Written. `level_for` is the highest level that can hold a number, and `narrow_text` the text of numbers at a level.
 unfoldable pub tagged_text : (width : ℕ) (level_for : ℕ → ℕ) (narrow_text : ℕ → List ℕ → List ℕ) → List ℤ → List ℕ
 tagged_text width level_for narrow_text entries =
     if is_shifted level_for entries then shifted_text width level_for narrow_text entries

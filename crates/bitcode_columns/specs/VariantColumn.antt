@@ -1,5 +1,5 @@
--- A variant column of n variants is digits in the base of n - 1, without a tag, each below n. From n = 17 on
--- that base is 256: the entries, raw.
+-- A column of variants below n is digits in the base for n - 1, without a tag. For n = 17 and more that base is 256:
+-- the entries, raw.
 use Rattle.std.specs.Prelude.{ℕ, ◌-◌, ◌<◌, List, All}
 use Rattle.bitcode_columns.specs.Digits.{SpellsDigits, digits_text, base_for}
 

@@ -1,4 +1,4 @@
--- Columns that the Rust crate wrote: the definitions write the same.
+-- Columns that the Rust crate wrote. The definitions yield the same bytes.
 use Rattle.std.specs.Prelude.{◌≡◌, true, false, pos, negsuc, [], ◌∷◌, refl}
 use Rattle.bitcode_columns.specs.LittleEndian.{raw_text}
 use Rattle.bitcode_columns.specs.Digits.{digits_text}

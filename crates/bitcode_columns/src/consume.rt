@@ -1,4 +1,4 @@
-//! Taking bytes from the front of an input.
+//! Taking bytes off the front of the input.
 ghost use Rattle.std.specs.Prelude.{◌≡◌, ◌*◌, ◌^◌, ◌<◌, ◌≤◌, ◌↔◌, ◌∷◌, ◌++◌, length, take, drop, IsErr, IfOk, OnOk, IfErr, OnErr};
 ghost use Rattle.std.specs.List.{concat};
 ghost use Rattle.std.specs.Simd.{first_chunks};
@@ -6,10 +6,10 @@ ghost use Rattle.std.specs.Simd.{first_chunks};
 use crate::error::{Error, Reason};
 use crate::refuse::err;
 
-/// Takes the first `n` bytes of the input, which then goes on behind them.
+/// Takes the first `n` bytes off the front of the input.
 ///
-/// Of `[1, 2, 3]` two bytes are `[1, 2]`, and `[3]` is left. Fewer bytes than `n` are `EOF`, and the input
-/// stays as it is.
+/// From `[1, 2, 3]`, `consume_bytes` with `n` 2 takes `[1, 2]` and leaves `[3]`. If fewer than `n` bytes are left, the
+/// error is `EOF` and the input is unchanged.
 pub fn consume_bytes<'a>(input: &mut &'a [u8], n: usize) -> Result<&'a [u8], Error>
     ensures refused { IsErr result ↔ (length input.old.now < n) }
     ensures reason { IfErr result (λ e. e.reason ≡ Reason.Eof) }
@@ -28,9 +28,9 @@ pub fn consume_bytes<'a>(input: &mut &'a [u8], n: usize) -> Result<&'a [u8], Err
     Ok(front)
 }
 
-/// Takes the first byte of the input.
+/// Takes the first byte off the front of the input.
 ///
-/// An empty input is `EOF`, and stays as it is.
+/// If the input is empty, the error is `EOF` and the input is unchanged.
 pub fn consume_byte(input: &mut &[u8]) -> Result<u8, Error>
     ensures refused { IsErr result ↔ (length input.old.now ≡ 0) }
     ensures reason { IfErr result (λ e. e.reason ≡ Reason.Eof) }
@@ -45,10 +45,10 @@ pub fn consume_byte(input: &mut &[u8]) -> Result<u8, Error>
     Ok(*first)
 }
 
-/// Takes `k` arrays of `N` bytes each from the front of the input.
+/// Takes `k` arrays of `N` bytes each off the front of the input.
 ///
-/// Of `[1, 0, 2, 0, 3]` two arrays of two bytes are `[[1, 0], [2, 0]]`, and `[3]` is left. Fewer than `k`
-/// times `N` bytes are `EOF`, and the input stays as it is.
+/// From `[1, 0, 2, 0, 3]`, two arrays of two bytes are `[[1, 0], [2, 0]]`, and `[3]` is left. If fewer than `k * N`
+/// bytes are left, the error is `EOF` and the input is unchanged.
 pub fn consume_byte_arrays<'a, const N: usize>(
     input: &mut &'a [u8],
     k: usize,
@@ -72,7 +72,7 @@ pub fn consume_byte_arrays<'a, const N: usize>(
     Ok(&arrays[..k])
 }
 
-/// Is Ok where the input is at its end, and `Expected EOF` where a byte is left.
+/// Returns `Ok` at the end of the input, and the error `Expected EOF` if a byte is left.
 pub fn expect_eof(input: &[u8]) -> Result<(), Error>
     ensures refused { IsErr result ↔ (0 < length input.now) }
     ensures reason { IfErr result (λ e. e.reason ≡ Reason.ExpectedEof) }
@@ -83,9 +83,9 @@ pub fn expect_eof(input: &[u8]) -> Result<(), Error>
     Ok(())
 }
 
-/// The product of two lengths.
+/// Multiplies two lengths.
 ///
-/// A product over 18446744073709551615 is `length overflow`.
+/// If the product exceeds 18446744073709551615, the error is `length overflow`.
 pub fn mul_length(a: usize, b: usize) -> Result<usize, Error>
     ensures refused { IsErr result ↔ (2 ^ 64 ≤ a * b) }
     ensures reason { IfErr result (λ e. e.reason ≡ Reason.LengthOverflow) }

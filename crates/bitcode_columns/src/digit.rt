@@ -1,4 +1,4 @@
-//! Entries that can stand as the digits of bytes.
+//! Entries that can be digits of a byte.
 ghost use Rattle.std.specs.Prelude.{◌≡◌, ℕ, ◌+◌, ◌<◌, ◌≤◌, ◌++◌, length, map, vec_len, vec_capacity};
 ghost use Rattle.std.specs.List.{range_with_len};
 ghost use Rattle.bitcode_columns.specs.Digits.{digit};
@@ -6,7 +6,7 @@ ghost use Rattle.bitcode_columns.specs.Ints.{residue, bool_digit};
 
 use crate::ints::Byte;
 
-/// An entry that can stand as a digit of a byte.
+/// An entry that can be a digit of a byte.
 pub trait Digit: Copy {
     // The entry as a number.
     ghost digit_of: { Self → ℕ };
@@ -18,18 +18,18 @@ pub trait Digit: Copy {
     fn to_digit(self) -> u8
         ensures { result ≡ digit_of self };
 
-    /// The entry of a number.
+    /// The entry with this number.
     fn from_digit(digit: u8) -> Self
         requires { digit < limit }
         ensures { digit_of result ≡ digit };
 
-    /// Writes the eight digits of a byte in base 2, the lowest first, over as many entries.
+    /// Overwrites eight entries with the eight base-2 digits of a byte, the lowest first.
     fn put_bits(byte: u8, entries: &mut [Self])
         requires size { length entries.old ≡ 8 }
         requires in_limit { 2 ≤ limit }
         ensures { map digit_of entries.new ≡ map (digit 2 byte) (range_with_len 0 8) };
 
-    /// Appends the entries, each in a byte of its own, in room that is there.
+    /// Appends each entry as a byte of its own. The caller must have reserved the room.
     fn push_whole(entries: &[Self], out: &mut Vec<u8>)
         requires { vec_len out.old + length entries.now ≤ vec_capacity out.old }
         ensures { out.new.items ≡ out.old.items ++ map digit_of entries.now };
@@ -111,7 +111,7 @@ static BITS: [[bool; 8]; 256] = bits_from![
     0, 16, 32, 48, 64, 80, 96, 112, 128, 144, 160, 176, 192, 208, 224, 240
 ];
 
-// The bits of a byte, the lowest first. It is a copy, so that the compiler knows that they lie apart from where they are put.
+// The bits of a byte, the lowest first. It is a copy, so that the compiler knows that it does not overlap the output.
 fn bits_of(byte: u8) -> [bool; 8]
     ensures { map bool_digit result ≡ map (digit 2 byte) (range_with_len 0 8) }
 {

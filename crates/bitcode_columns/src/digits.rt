@@ -1,4 +1,4 @@
-//! Small entries as the digits of bytes.
+//! Packing small entries as digits of bytes.
 ghost use Rattle.std.specs.Prelude.{◌≡◌, ◌+◌, ◌*◌, ◌/◌, ◌%◌, ◌<◌, ◌≤◌, ◌++◌, length, map, take, drop, min, vec_len, vec_capacity, All, ◌⊎◌, IsOk, IfOk, OnOk, IfErr, OnErr};
 ghost use Rattle.std.specs.List.{range_with_len};
 ghost use Rattle.std.specs.Int.{div_ceil};
@@ -13,8 +13,8 @@ use crate::pack::Base;
 use std::alloc::{AllocError, Global};
 use std::mem::replace;
 
-// What two or four bytes that are digits of base 16 or 4 are multiplied by, and four that are two digits of base 2 each, in
-// their lower and their upper half: the highest byte of the product is the number with these digits.
+// The factors for two or four bytes that are digits of base 16 or 4, and for four bytes that are two digits of base 2
+// each, in their lower and their upper half. The highest byte of the product is the number with these digits.
 const OF_TWO: u16 = 0x0110;
 
 const OF_FOUR: u32 = 0x0104_1040;
@@ -155,9 +155,9 @@ fn push_packed<T: Digit>(base: Base, entries: &[T], out: Vec<u8>) -> Vec<u8>
     }
 }
 
-/// Appends a front and the entries behind it, whole bytes or digits of the base.
+/// Appends a header and then the entries, as whole bytes or as digits of the base.
 ///
-/// A refused growth is `out of memory`, and `out` holds what it held.
+/// If an allocation fails, the error is `out of memory`, and `out` still begins with what it held before.
 pub(crate) fn pack_digits<T: Digit>(
     front: &[u8],
     base: Base,
@@ -270,9 +270,9 @@ fn unpacked_digits<T: Digit>(
     Ok(entries)
 }
 
-/// Reads so many entries from the front of the input.
+/// Reads `count` entries from the front of the input.
 ///
-/// The bytes are claimed before memory is taken for the entries.
+/// Takes the bytes off the input before it allocates memory for the entries.
 pub(crate) fn unpack_digits<T: Digit>(
     alloc: Global,
     base: Base,

@@ -1,4 +1,4 @@
-//! Why a call refuses.
+//! Errors and their reasons.
 ghost use Rattle.std.specs.Prelude.{◌≡◌, ◌++◌, Some, codes};
 ghost use Rattle.std.specs.IoError.{error_kind};
 ghost use Rattle.bitcode_columns.specs.Error.{reason_text, io_kind};
@@ -6,53 +6,53 @@ ghost use Rattle.bitcode_columns.specs.Error.{reason_text, io_kind};
 use std::alloc::{AllocError, AllocFailed};
 use std::{fmt, io};
 
-/// Why a call refused. Errors compare by it.
+/// Why a call failed. Errors are equal if their reasons are.
 #[derive(Clone, Copy, Debug, PartialEq, Eq)]
 pub enum Reason {
-    /// The input ends before what is to be read from it.
+    /// The input ends too early.
     Eof,
-    /// Bytes are left where the input had to end.
+    /// Bytes are left after the end of the value.
     ExpectedEof,
-    /// A column begins with a tag that no column has, or an entry is none of its column's variants.
+    /// A column has an unknown tag, or an entry exceeds the number of variants.
     InvalidPacking,
-    /// A sum or product of lengths is over 18446744073709551615.
+    /// A sum or product of lengths exceeds 18446744073709551615.
     LengthOverflow,
     /// The lengths of one column sum to 2251799813685247 or more.
     HugeLength,
     /// The bytes of a text are not UTF-8.
     InvalidUtf8,
-    /// A number stands for no value of its type, as 0 at a `NonZeroU8`.
+    /// A number is not a value of its type, such as 0 for a `NonZeroU8`.
     InvalidBitPattern,
-    /// A sequence is longer than the `ArrayVec` that it is to fill.
+    /// A sequence is longer than the capacity of its `ArrayVec`.
     InvalidArrayVec,
-    /// A text is longer than the `ArrayString` that it is to fill.
+    /// A text is longer than the capacity of its `ArrayString`.
     InvalidArrayString,
-    /// An enum has no variant of that index.
+    /// The enum has no variant with this index.
     InvalidEnumVariant,
     /// The entry of an option is neither 0 nor 1.
     InvalidOption,
-    /// A number is the code of no `char`.
+    /// A number is not the code of a `char`.
     InvalidChar,
-    /// A list has more than 65536 elements without a column, or a map so many keys without one.
+    /// A list of elements without columns has more than 65536 elements, or a map of such keys as many keys.
     TooManyZeroSizedTypes,
-    /// The index of a variant is over 255.
+    /// The index of a variant exceeds 255.
     TooManyVariants,
-    /// The value is not one of the shape that it is to be written under.
+    /// The value does not match the shape that it is written under.
     NotOfTheShape,
     /// More than 512 references follow one another on one path.
     NestedTooDeep,
-    /// No memory was to be had.
+    /// An allocation failed.
     OutOfMemory,
-    /// A shape refers to an entry that is not there, or to itself without end.
+    /// A shape refers to a missing entry, or to itself without end.
     BadShape,
-    /// A column is not encoded as `encode` would: only a strict reading asks.
+    /// The bytes of a column differ from those that `encode` writes. Only strict decoding checks this.
     NotTheWrittenText,
-    /// A value has more nodes than its reader allows.
+    /// A value has more nodes than the decoder allows.
     TooManyNodes,
 }
 
 impl Reason {
-    /// The text that errors of this reason print.
+    /// The text that an error with this reason prints.
     pub fn text(self) -> &'static str
         ensures { result.now ≡ reason_text self }
     {
@@ -80,8 +80,8 @@ impl Reason {
         }
     }
 
-    /// The kind of the I/O error that a refusal becomes: `UnexpectedEof` of `EOF`, `OutOfMemory` of `out of memory`, and
-    /// `InvalidData` of each other reason.
+    /// The kind of the I/O error with this reason: `UnexpectedEof` for `EOF`, `OutOfMemory` for `out of memory`, and
+    /// `InvalidData` for every other reason.
     pub fn io_kind(self) -> io::ErrorKind
         ensures { result ≡ io_kind self }
     {
@@ -93,16 +93,16 @@ impl Reason {
     }
 }
 
-/// A refusal, with its reason.
+/// An error with its reason.
 ///
-/// It prints the reason's text: `{}` gives `EOF`, and `{:?}` gives `Error("EOF")`.
+/// It prints the text of the reason: `{}` prints `EOF`, and `{:?}` prints `Error("EOF")`.
 #[derive(Clone, Copy, PartialEq, Eq)]
 pub struct Error {
     pub reason: Reason,
 }
 
 impl Error {
-    /// The text of the reason, as `"EOF"`.
+    /// The text of the reason, such as `"EOF"`.
     pub fn reason(&self) -> &'static str
         ensures { result.now ≡ reason_text self.now.reason }
     {
@@ -154,7 +154,7 @@ impl<T: Drop> From<AllocFailed<T>> for Error {
     }
 }
 
-/// An I/O error with the reason's text, so that `?` passes a refusal on in a function that reads or writes files.
+/// Converts to an I/O error with the reason's text, so that functions that read or write files can use `?`.
 impl From<Error> for io::Error {
     ghost from_gives = { λ e io. error_kind io ≡ io_kind e.reason };
 

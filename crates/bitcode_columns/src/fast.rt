@@ -1,4 +1,4 @@
-//! Lists with reserved room, and lists that are read from the front.
+//! Lists with reserved room, and lists that are read front to back.
 #![tactic(auto, unfolding(crate::specs::Fast::slice_rest, crate::specs::Fast::cow_rest, crate::specs::Fast::cow_owned))]
 
 ghost use Rattle.std.specs.Prelude.{◌≡◌, ℕ, ◌+◌, ◌<◌, ◌≤◌, List, [], ◌∷◌, ◌++◌, length, take, drop, IsOk, IfOk, IfErr, MatchOption};
@@ -24,20 +24,20 @@ pub type VecImpl<T> = FastVec<T>;
 /// The slice that decoders read from.
 pub type SliceImpl<'a, T> = FastSlice<'a, T>;
 
-/// Pushing without a test, where room was reserved.
+/// Pushing without a capacity check, into reserved room.
 pub trait PushUnchecked<T> {
     ghost items: { Self → List T };
 
     ghost room: { Self → ℕ };
 
-    /// Pushes an item in room that was reserved.
+    /// Pushes an item. The caller must have reserved the room.
     fn push_unchecked(&mut self, t: T)
         requires { 0 < room self.old }
         ensures items { items self.new ≡ items self.old ++ t ∷ [] }
         ensures room { room self.new + 1 ≡ room self.old };
 }
 
-/// Reading from the front without a test, where so many items are left.
+/// Reading from the front without a bounds check, where enough items are left.
 pub trait NextUnchecked<'a, T: Copy> {
     ghost rest: { Self → List T };
 
@@ -53,7 +53,7 @@ pub trait NextUnchecked<'a, T: Copy> {
         ensures rest { rest self.new ≡ drop n (rest self.old) };
 }
 
-/// What is left of a slice that is read from the front.
+/// The remaining part of a slice that is read from the front.
 #[derive(Clone, Copy)]
 pub struct FastSlice<'a, T> {
     rest: &'a [T],
@@ -68,14 +68,14 @@ impl<'a, T> From<&'a [T]> for FastSlice<'a, T> {
 }
 
 impl<'a, T> FastSlice<'a, T> {
-    /// The items that are left.
+    /// The remaining items.
     pub fn as_slice(&self) -> &'a [T]
         ensures { result.now ≡ slice_rest self.now }
     {
         self.rest
     }
 
-    /// Passes over `n` items.
+    /// Skips `n` items.
     pub fn advance(&mut self, n: usize)
         requires { n ≤ length (slice_rest self.old) }
         ensures { slice_rest self.new ≡ drop n (slice_rest self.old) }
@@ -100,7 +100,7 @@ impl<'a, T: Copy> NextUnchecked<'a, T> for FastSlice<'a, T> {
     }
 }
 
-/// A slice of the input, or a list of its own.
+/// A borrowed slice of the input, or an owned list.
 #[derive(Drop)]
 enum Held<'a, T> {
     Borrowed(&'a [T]),
@@ -142,7 +142,7 @@ fn from_position<T>(items: &[T], position: usize) -> &[T]
     }
 }
 
-/// Items that are read from the front: a slice of the input, or a list of its own.
+/// Items that are read from the front: a borrowed slice of the input, or an owned list.
 #[derive(Drop)]
 pub struct CowSlice<'a, T> {
     held: Held<'a, T>,
@@ -150,7 +150,7 @@ pub struct CowSlice<'a, T> {
 }
 
 impl<'a, T: Drop> CowSlice<'a, T> {
-    /// Nothing is left. Takes no memory.
+    /// Creates an empty slice without allocating.
     pub fn new(alloc: Global) -> Self
         ensures rest { cow_rest result ≡ [] }
         ensures owned { cow_owned result ≡ 0 }
@@ -161,7 +161,7 @@ impl<'a, T: Drop> CowSlice<'a, T> {
         }
     }
 
-    /// Goes on with the items of a slice. What was held is dropped.
+    /// Continues with the items of a slice, and drops the previous ones.
     pub fn set_borrowed(&mut self, slice: &'a [T])
         ensures { cow_rest self.new ≡ slice.now }
     {
@@ -169,7 +169,7 @@ impl<'a, T: Drop> CowSlice<'a, T> {
         self.position = 0;
     }
 
-    /// Goes on with the items of a list. What was held is dropped.
+    /// Continues with the items of a list, and drops the previous ones.
     pub fn set_owned(&mut self, vec: Vec<T>)
         ensures { cow_rest self.new ≡ vec.items }
     {
@@ -177,7 +177,7 @@ impl<'a, T: Drop> CowSlice<'a, T> {
         self.position = 0;
     }
 
-    /// The items that are left.
+    /// The remaining items.
     pub fn as_slice(&self) -> &[T]
         ensures { result.now ≡ cow_rest self.now }
     {
@@ -207,9 +207,9 @@ impl<'a, T: Drop> CowSlice<'a, T> {
         &from_position(self.held.items(), start)[..n]
     }
 
-    /// Takes the next `n` items as a list: the one that is held, if it has no others, and else a copy.
+    /// Takes the next `n` items as a list: the owned list if it has no other items, otherwise a copy.
     ///
-    /// A refused growth is `out of memory`, and then they are taken too.
+    /// If the allocation fails, the error is `out of memory`, and the items are consumed all the same.
     pub fn list_unchecked(&mut self, alloc: Global, n: usize) -> Result<Vec<T>, Error>
     where
         T: Copy,

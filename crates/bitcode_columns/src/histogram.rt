@@ -1,14 +1,14 @@
-//! How often each byte occurs.
+//! Counting how often each byte occurs.
 ghost use Rattle.std.specs.Prelude.{◌≡◌, ℕ, ◌+◌, ◌^◌, ◌<◌, length, slice_index};
 ghost use Rattle.bitcode_columns.specs.Histogram.{AreCounts, count_of, counted};
 
-/// At most so many bytes are counted in one table, and more of them in four.
+/// Up to this many bytes are counted in one table, more in four.
 pub(crate) const MOST_IN_ONE_TABLE: usize = 99;
 
-/// Four tables of 256 counts, one behind another.
+/// Four tables of 256 counts, one after another.
 type Tables = [usize; 1024];
 
-/// How many of the bytes are 0, how many are 1, and so on up to 255.
+/// Counts the bytes that are 0, that are 1, and so on up to 255.
 ///
 /// ```rust
 /// let counts = histogram(&[3, 7, 3]);
@@ -25,7 +25,7 @@ pub fn histogram(bytes: &[u8]) -> [usize; 256]
     }
 }
 
-/// How many of the bytes are each number below `N`. Other bytes count for nothing.
+/// Counts the bytes that are each number below `N`. It ignores all other bytes.
 pub(crate) fn counts_below<const N: usize>(bytes: &[u8]) -> [usize; N]
     ensures { AreCounts N bytes.now result }
 {
@@ -39,7 +39,7 @@ pub(crate) fn counts_below<const N: usize>(bytes: &[u8]) -> [usize; N]
     counts
 }
 
-/// The counts of the bytes, sixteen of them at a time.
+/// Counts the bytes, sixteen at a time.
 fn count_in_tables(bytes: &[u8]) -> [usize; 256]
     ensures { AreCounts 256 bytes.now result }
 {
@@ -52,8 +52,8 @@ fn count_in_tables(bytes: &[u8]) -> [usize; 256]
     sums_of(&tables)
 }
 
-/// Counts each byte in the table of its place, so that the count of a byte does not wait for that of the one before it,
-/// where the two are equal. It is inlined, so that the compiler knows how many they are.
+/// Counts each byte in the table of its place, so that equal neighbors do not wait for each other's count. It is
+/// inlined so that the compiler knows the number of bytes.
 #[inline(always)]
 fn count_each(bytes: &[u8], tables: &mut Tables)
     requires { (value : ℕ) → value < 256 → counted tables.old value + length bytes.now < 2 ^ 64 }
@@ -65,7 +65,7 @@ fn count_each(bytes: &[u8], tables: &mut Tables)
     }
 }
 
-/// What the four tables count together.
+/// Adds the four tables up.
 fn sums_of(tables: &Tables) -> [usize; 256]
     requires { (value : ℕ) → value < 256 → counted tables.now value < 2 ^ 64 }
     ensures { (value : ℕ) → value < 256 → slice_index result value ≡ counted tables.now value }

@@ -1,4 +1,4 @@
-//! The integers that columns are made of: as numbers, as residues and as bytes.
+//! The integers that columns hold: as numbers, as residues and as bytes.
 ghost use Rattle.std.specs.Prelude.{◌≡◌, ℕ, ◌+◌, ◌-◌, ◌*◌, ◌%◌, ◌^◌, ◌<◌, ◌≤◌, ℤ, int_lt, ◌↔◌, Bool, List, ◌++◌, length, take, drop, map, All, vec_len, vec_capacity, IsOk, IsErr, IfOk, OnOk, IfErr, OnErr};
 ghost use Rattle.bitcode_columns.specs.IntWidths.{IsWidth};
 ghost use Rattle.bitcode_columns.specs.LittleEndian.{little_endian, number_bytes, SpellsRaw};
@@ -14,33 +14,33 @@ mod sizes;
 mod unsigned;
 mod wide;
 
-/// An unsigned integer of a fixed width: what an [`Int`] of that width is modulo a power of 256.
+/// An unsigned integer of a fixed width. An [`Int`] of that width becomes one modulo a power of 256.
 pub trait SizedUInt: Copy {
     // in bytes
     ghost width: { ℕ };
 
     ghost value: { Self → ℕ };
 
-    /// The same number, among the widest.
+    /// Converts to the widest type without changing the number.
     fn to_wide(self) -> u128
         ensures same { result ≡ value self }
         ensures in_range { value self < 256 ^ width };
 
-    /// The lowest bytes of a number, as many as the type has: 258 gives the `u8` 2.
+    /// Keeps the lowest bytes of a number, as many as the type has: 258 becomes the `u8` 2.
     fn from_wide(wide: u128) -> Self
         ensures { value result ≡ wide % 256 ^ width };
 
-    /// The sum, modulo the count of values of the type.
+    /// The sum modulo the number of values of the type.
     fn wrapping_add(self, right: Self) -> Self
         ensures { value result ≡ (value self + value right) % 256 ^ width };
 
-    /// The difference, modulo the count of values of the type.
+    /// The difference modulo the number of values of the type.
     fn wrapping_sub(self, right: Self) -> Self
         ensures { value result ≡ (value self + (256 ^ width - value right)) % 256 ^ width };
 
-    /// Takes a number from the front of the input, its lowest byte first.
+    /// Takes a number off the front of the input, its lowest byte first.
     ///
-    /// Fewer bytes than the type has are `EOF`, and the input stays as it is.
+    /// If fewer bytes are left than the type has, the error is `EOF` and the input is unchanged.
     fn read(input: &mut &[u8]) -> Result<Self, Error>
         ensures refused { IsErr result ↔ (length input.old.now < width) }
         ensures reason { IfErr result (λ e. e.reason ≡ Reason.Eof) }
@@ -50,7 +50,7 @@ pub trait SizedUInt: Copy {
 
     /// Appends the bytes of the number, the lowest first.
     ///
-    /// A refused growth is `out of memory`, and `out` stays as it is.
+    /// If an allocation fails, the error is `out of memory` and `out` is unchanged.
     fn write(self, out: &mut Vec<u8>) -> Result<(), Error>
         ensures written { OnOk result (out.new.items ≡ out.old.items ++ number_bytes width (value self)) }
         ensures unchanged { OnErr result (out.new.items ≡ out.old.items) }
@@ -59,18 +59,18 @@ pub trait SizedUInt: Copy {
         ensures len { OnOk result (vec_len out.new ≡ vec_len out.old + width) }
         ensures capacity { vec_capacity out.old ≤ vec_capacity out.new };
 
-    /// How many bytes a number takes.
+    /// The size of a number in bytes.
     fn size() -> usize
         ensures { result ≡ width };
 
-    /// Appends the bytes of the number, the lowest first, in room that is there.
+    /// Appends the bytes of the number, the lowest first. The caller must have reserved the room.
     fn push(self, out: &mut Vec<u8>)
         requires { vec_len out.old + width ≤ vec_capacity out.old }
         ensures written { out.new.items ≡ out.old.items ++ number_bytes width (value self) }
         ensures len { vec_len out.new ≡ vec_len out.old + width }
         ensures capacity { vec_capacity out.new ≡ vec_capacity out.old };
 
-    /// Writes the bytes of the number, the lowest first, over as many others.
+    /// Overwrites a slice of the same size with the bytes of the number, the lowest first.
     fn put(self, bytes: &mut [u8])
         requires { length bytes.old ≡ width }
         ensures { bytes.new ≡ number_bytes width (value self) };
@@ -78,7 +78,7 @@ pub trait SizedUInt: Copy {
     ghost width_law: { IsWidth width };
 }
 
-/// An integer that a column can have as entries.
+/// An integer that can be an entry of a column.
 pub trait Int: Copy {
     /// The number's bytes, the lowest first.
     type Une: Copy;
@@ -95,7 +95,7 @@ pub trait Int: Copy {
 
     ghost une_bytes: { Self.Une → List ℕ };
 
-    /// How many bytes a number takes.
+    /// The size of a number in bytes.
     fn width() -> usize
         ensures { result ≡ width };
 
@@ -103,20 +103,20 @@ pub trait Int: Copy {
     fn is_signed() -> bool
         ensures { result ≡ signed };
 
-    /// The number of these bytes.
+    /// The number with these bytes.
     fn from_unaligned(unaligned: Self::Une) -> Self
         ensures { number result ≡ number_of width signed (little_endian (une_bytes unaligned)) };
 
-    /// The bytes of the number: those of the `u16` 258 are `[2, 1]`.
+    /// The bytes of the number: the `u16` 258 has `[2, 1]`.
     fn to_unaligned(self) -> Self::Une
         ensures { une_bytes result ≡ number_bytes width (residue width (number self)) };
 
-    /// The number modulo the count of values of the type: the `i16` -1 gives 65535.
+    /// The number modulo the number of values of the type: the `i16` -1 becomes 65535.
     fn to_unsigned(self) -> Self::Unsigned
         ensures value { Self.Unsigned.value result ≡ residue width (number self) }
         ensures in_range { IsNumber width signed (number self) };
 
-    /// The number that [`Int::to_unsigned`] takes to this one.
+    /// The inverse of [`Int::to_unsigned`].
     fn from_unsigned(unsigned: Self::Unsigned) -> Self
         ensures { number result ≡ number_of width signed (Self.Unsigned.value unsigned) };
 
@@ -124,9 +124,9 @@ pub trait Int: Copy {
     fn is_less(self, other: Self) -> bool
         ensures { result ≡ int_lt (number self) (number other) };
 
-    /// Takes so many numbers from the front of the input, as the bytes of each.
+    /// Takes `count` numbers off the front of the input, each as its bytes.
     ///
-    /// Too few bytes are `EOF`, and the input stays as it is.
+    /// If too few bytes are left, the error is `EOF` and the input is unchanged.
     fn consume_unaligned<'a>(input: &mut &'a [u8], count: usize) -> Result<&'a [Self::Une], Error>
         ensures refused { IsErr result ↔ (length input.old.now < count * width) }
         ensures reason { IfErr result (λ e. e.reason ≡ Reason.Eof) }
@@ -140,7 +140,7 @@ pub trait Int: Copy {
     ghost unsigned_law: { Self.Unsigned.width ≡ width };
 }
 
-/// An [`Int`] whose least and greatest numbers are the same on every machine.
+/// An [`Int`] whose range is the same on every machine.
 pub trait SizedInt: Int {
     /// The least number of the type.
     const MIN: Self;
@@ -157,16 +157,16 @@ pub trait SizedInt: Int {
 
 /// A [`SizedInt`] of one byte: `u8` or `i8`.
 pub trait Byte: SizedInt {
-    /// The byte that stands for the number.
+    /// Converts the number to its byte.
     fn to_byte(self) -> u8
         ensures value { result ≡ residue 1 (Self.number self) }
         ensures in_range { IsNumber 1 Self.signed (Self.number self) };
 
-    /// The number that the byte stands for.
+    /// Converts the byte to its number.
     fn from_byte(byte: u8) -> Self
         ensures { Self.number result ≡ number_of 1 Self.signed byte };
 
-    /// Appends the bytes of the numbers, in room that is there.
+    /// Appends the bytes of the numbers. The caller must have reserved the room.
     fn push_bytes(numbers: &[Self], out: &mut Vec<u8>)
         requires { vec_len out.old + length numbers.now ≤ vec_capacity out.old }
         ensures { out.new.items ≡ out.old.items ++ map (λ n. residue 1 (Self.number n)) numbers.now };
@@ -174,7 +174,7 @@ pub trait Byte: SizedInt {
     ghost byte_law: { Self.width ≡ 1 };
 }
 
-/// Each byte is below 256.
+/// Each byte is below 256. It does nothing; its contract is for proofs.
 pub fn known_bytes(_bytes: &[u8])
     ensures { All (λ byte. byte < 256) _bytes.now }
 {}
@@ -212,8 +212,8 @@ pub(crate) fn push_bytes(bytes: &[u8], out: &mut Vec<u8>)
     }
 }
 
-// The list with the bytes of the numbers behind it, in room that is there. It is handed over and given back, so that its
-// length is kept in a register while they are written.
+// Appends the bytes of the numbers. The caller must have reserved the room. The list is passed by value and returned,
+// so that its length stays in a register.
 fn with_signed(numbers: &[i8], mut out: Vec<u8>) -> Vec<u8>
     requires { vec_len out + length numbers.now ≤ vec_capacity out }
     ensures { result.items ≡ out.items ++ map (residue 1) numbers.now }

@@ -1,4 +1,4 @@
-//! What holds of columns whatever their entries are. A call does nothing: its contract is the law.
+//! Laws of columns, for all entries. The functions do nothing: their contracts are the laws.
 ghost use Rattle.std.specs.Prelude.{ℕ, ◌<◌, ◌≤◌, Bool, List, ◌++◌, length, All};
 ghost use Rattle.bitcode_columns.specs.BoolColumn.{SpellsBools, bool_text};
 ghost use Rattle.bitcode_columns.specs.ByteColumn.{SpellsBytes, byte_text};
@@ -8,8 +8,8 @@ ghost use Rattle.bitcode_columns.specs.Laws.{IsReadOnce, TakesAnEighth, IsFaultO
 ghost use Rattle.bitcode_columns.specs.Reading.{Reads, bools_fault, bytes_fault, variants_fault, ints_fault};
 ghost use Rattle.bitcode_columns.specs.VariantColumn.{SpellsVariants, variant_text};
 
-/// Bool columns: what is written is read back whatever follows it, an input is read in at most one way, no entries
-/// take no bytes and so many at least an eighth as many, and a fault is named only where nothing can be read.
+/// Bool columns. What is written is read back, whatever follows. An input is read in at most one way. An empty column
+/// has no bytes, and `k` entries have at least `k / 8`. A fault is reported only where nothing can be read.
 pub fn bool_columns()
     ensures round_trip { (entries : List Bool) (rest : List ℕ) → Reads SpellsBools (length entries) (bool_text entries ++ rest) entries rest }
     ensures unambiguous { IsReadOnce SpellsBools }
@@ -17,7 +17,7 @@ pub fn bool_columns()
     ensures refused { IsFaultOf bools_fault SpellsBools }
 {}
 
-/// Byte columns: the same, and the text takes at most the raw bytes and one more.
+/// Byte columns: the same, and the text has at most one byte more than the raw bytes.
 pub fn byte_columns()
     ensures round_trip { ReadsBack 1 SpellsBytes byte_text }
     ensures unambiguous { IsReadOnce SpellsBytes }
@@ -26,7 +26,7 @@ pub fn byte_columns()
     ensures at_most { TakesAtMostOneMore 1 byte_text }
 {}
 
-/// Columns of 2 to 256 variants: as of bool columns.
+/// Columns of 2 to 256 variants: the same as bool columns.
 pub fn variant_columns()
     ensures round_trip { (variants : ℕ) (entries rest : List ℕ) → 2 ≤ variants → variants ≤ 256 → All (λ entry. entry < variants) entries → Reads (SpellsVariants variants) (length entries) (variant_text variants entries ++ rest) entries rest }
     ensures unambiguous { (variants : ℕ) → IsReadOnce (SpellsVariants variants) }
@@ -34,7 +34,7 @@ pub fn variant_columns()
     ensures refused { (variants : ℕ) → IsFaultOf (variants_fault variants) (SpellsVariants variants) }
 {}
 
-/// Integer columns of 1, 2, 4, 8 and 16 bytes: the same, and the number of an entry is found from its residue.
+/// Integer columns of 1, 2, 4, 8 and 16 bytes: the same as byte columns, and an entry's residue determines its number.
 pub fn int_columns()
     ensures round_trip { (width : ℕ) → IsWidth width → ReadsBack width (SpellsInts width) (int_text width) }
     ensures unambiguous { (width : ℕ) → IsReadOnce (SpellsInts width) }

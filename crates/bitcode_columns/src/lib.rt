@@ -1,4 +1,5 @@
-//! Errors, what is taken from the input, lists with room, the integers of columns, and their packers and unpackers.
+//! Errors, reading the input, lists with reserved room, the integers of columns, and the packing and unpacking of
+//! columns.
 #![tactic(auto)]
 
 pub mod consume;

@@ -1,4 +1,4 @@
-//! The least and the greatest of some integers.
+//! The least and the greatest of a list of integers.
 ghost use Rattle.std.specs.Prelude.{◌≡◌, ◌<◌, ◌↔◌, length, map, All, IsSome, IfSome, []};
 ghost use Rattle.bitcode_columns.specs.Ints.{IsNumber, least, greatest};
 
@@ -27,9 +27,9 @@ pub(crate) fn bounds<T: Int>(entries: &[T]) -> Option<(T, T)>
     Some((least, greatest))
 }
 
-/// The least and the greatest of the values; of none the greatest and the least of the type.
+/// The least and the greatest of the values. For an empty slice, the greatest and the least of the type.
 ///
-/// Of `[3, -1, 2]` they are `(-1, 3)`. Takes no memory.
+/// Of `[3, -1, 2]` they are `(-1, 3)`. It does not allocate.
 pub fn minmax<T: SizedInt>(values: &[T]) -> (T, T)
     ensures none { values.now ≡ [] → result ≡ (T.MAX, T.MIN) }
     ensures least { 0 < length values.now → T.number result.0 ≡ least (map T.number values.now) }

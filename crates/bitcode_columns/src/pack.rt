@@ -1,4 +1,4 @@
-//! Bools and bytes, packed.
+//! Packing bools and bytes.
 ghost use Rattle.std.specs.Prelude.{◌≡◌, ℕ, ◌+◌, ◌<◌, ◌++◌, length, vec_len, vec_capacity, IsOk, OnOk, IfErr, OnErr};
 ghost use Rattle.bitcode_columns.specs.BoolColumn.{SpellsBools, bool_text};
 ghost use Rattle.bitcode_columns.specs.ByteColumn.{level_of_base, base_at_level};
@@ -19,7 +19,7 @@ pub(crate) const MOST_WITHOUT_TAG: usize = 2;
 pub(crate) mod bytes;
 pub(crate) mod variants;
 
-/// How many values a digit of a packed byte has: two to sixteen, or all 256 of a whole byte.
+/// The number of values of a digit of a packed byte: two to sixteen, or all 256 of a whole byte.
 #[derive(Clone, Copy, PartialEq, Eq)]
 pub enum Base {
     /// One entry of 0 to 255.
@@ -37,7 +37,7 @@ pub enum Base {
 }
 
 impl Base {
-    /// What a digit is below.
+    /// The base as a number: each digit is below it.
     pub(crate) fn radix(self) -> u16
         ensures { result ≡ radix self }
     {
@@ -51,7 +51,7 @@ impl Base {
         }
     }
 
-    /// The least base whose digits reach this number.
+    /// The smallest base that has a digit for this number.
     fn for_greatest(greatest: u8) -> Base
         ensures { result ≡ base_for greatest }
     {
@@ -65,7 +65,7 @@ impl Base {
         }
     }
 
-    /// The level of the base: a higher level has smaller digits.
+    /// The level of the base: the higher the level, the smaller the digits.
     pub(crate) fn level(self) -> u8
         ensures { result ≡ level_of_base self }
     {
@@ -93,7 +93,7 @@ impl Base {
         }
     }
 
-    /// How many digits a byte has.
+    /// The number of digits in a byte.
     pub(crate) fn digits_in_byte(self) -> usize
         ensures { result ≡ digits_in_byte self }
     {
@@ -108,9 +108,9 @@ impl Base {
     }
 }
 
-/// Appends a column of bools: eight of them in each byte, the first in its lowest bit.
+/// Appends a column of bools, eight to a byte, the first in the lowest bit.
 ///
-/// A refused growth is `out of memory`, and `out` holds what it held.
+/// If an allocation fails, the error is `out of memory`, and `out` still begins with what it held before.
 ///
 /// ```rust
 /// let mut out = Vec::new(alloc);
@@ -126,10 +126,10 @@ pub fn pack_bools(bools: &[bool], out: &mut Vec<u8>) -> Result<(), Error>
     pack_digits(&[], Base::Two, bools, out)
 }
 
-/// Reads a column of so many bools from the front of the input into `out`, in memory of its own.
+/// Reads a column of `count` bools from the front of the input into `out`, in memory that `out` owns.
 ///
-/// Fewer bytes than they take are `EOF`, and a refused growth is `out of memory`. The input is then
-/// at an end part of what it was, and `out` is to be filled anew.
+/// If bytes are missing, the error is `EOF`; if an allocation fails, `out of memory`. After an error the input is a
+/// suffix of what it was, and `out` must be filled again before use.
 ///
 /// ```rust
 /// let mut input: &[u8] = &[5, 9];

@@ -1,4 +1,4 @@
-//! Integers, packed.
+//! Packing integers.
 ghost use Rattle.std.specs.Prelude.{◌≡◌, ◌+◌, ◌*◌, ◌≤◌, ◌++◌, length, map, vec_len, vec_capacity, IsOk, OnOk, IfErr, OnErr};
 ghost use Rattle.bitcode_columns.specs.IntColumn.{int_text};
 ghost use Rattle.bitcode_columns.specs.Narrowing.{TakesNoScratch};
@@ -16,10 +16,10 @@ mod write;
 
 /// Appends the column of the integers. The slice is scratch afterwards.
 ///
-/// The one `u32` 255 becomes `[4, 255]`: a tag, which says that numbers of one byte stand behind it, and the
-/// number. Room is made for the most that a text can take, the raw bytes and one more, before anything is
-/// appended. A refused growth is `out of memory`, and then `out` is as it was. None comes where `out` has that room and
-/// the numbers are not of one byte, since only those are packed once more, from scratch memory.
+/// The single `u32` 255 becomes `[4, 255]`: a tag, which says that numbers of one byte follow, and the number. Before
+/// it appends anything, it reserves room for the longest possible text: the raw bytes and one more. If an allocation
+/// fails, the error is `out of memory` and `out` is unchanged. If `out` has that room, only numbers of one byte
+/// need more memory, because they are packed once more.
 pub fn pack_ints<T: Int>(alloc: Global, ints: &mut [T], out: &mut Vec<u8>) -> Result<(), Error>
     ensures written { OnOk result (out.new.items ≡ out.old.items ++ int_text T.width (map T.number ints.old)) }
     ensures unchanged { OnErr result (out.new.items ≡ out.old.items) }

@@ -1,16 +1,16 @@
-//! Short ways to refuse.
+//! Shorthands for returning an error.
 ghost use Rattle.std.specs.Prelude.{◌≡◌, IsErrOf};
 
 use crate::error::{Error, Reason};
 
-/// The error of a reason.
+/// An error with this reason.
 pub fn error(reason: Reason) -> Error
     ensures { result ≡ record { reason = reason } }
 {
     Error { reason }
 }
 
-/// A refusal of that reason, at whatever type the call gives.
+/// An `Err` with this reason, of any result type.
 pub fn err<T>(reason: Reason) -> Result<T, Error>
     ensures { IsErrOf result (record { reason = reason }) }
 {

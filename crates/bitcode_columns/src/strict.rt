@@ -1,4 +1,4 @@
-//! Reading a column and judging its bytes: whether they are those that are written for its entries.
+//! Reading a column and checking whether its bytes are those that `encode` would write for its entries.
 ghost use Rattle.std.specs.Prelude.{◌≡◌, ◌≢◌, ◌↔◌, ℕ, ℤ, [], ◌∷◌, ◌+◌, ◌-◌, ◌*◌, ◌≤ℤ◌, IsSome, IfSome, ◌⊎◌, sum, ◌^◌, ◌<◌, ◌≤◌, ◌++◌, List, All, length, map, MatchBool, MatchOption, pos, IsTrue, IsOk, IfOk, OnOk, IfErr, OnErr};
 ghost use Rattle.std.specs.Int.{div_ceil};
 ghost use Rattle.bitcode_columns.specs.BoolColumn.{SpellsBools, bool_text};
@@ -92,8 +92,8 @@ fn stand_shifted(base: Base, least: u8, packed: &[u8], count: usize) -> bool
         && use_no_more(base, body, count)
 }
 
-// Whether bytes that spell a column of so many entries are those that are written for them. Of the entries only the least and
-// the greatest are asked.
+// Whether bytes that spell a column of `count` entries are those that are written for them. Of the entries it needs
+// only the least and the greatest.
 fn is_bytes_text<T: Byte>(packed: &[u8], count: usize, low: T, high: T) -> bool
     requires { T.number low ≤ℤ T.number high }
     ensures { (entries : List ℤ) → length entries ≡ count → All (IsNumber 1 T.signed) entries → least entries ≡ T.number low → greatest entries ≡ T.number high
@@ -111,7 +111,7 @@ fn is_bytes_text<T: Byte>(packed: &[u8], count: usize, low: T, high: T) -> bool
     }
 }
 
-// The least and the greatest of the numbers that bytes stand for, if there are any.
+// The least and the greatest of the numbers with these bytes, if there are any.
 fn byte_bounds<T: Byte>(bytes: &[u8]) -> Option<(T, T)>
     ensures variant { IsSome result ↔ (0 < length bytes.now) }
     ensures least { IfSome result (λ pair. T.number pair.0 ≡ least (map (number_of 1 T.signed) bytes.now)) }
@@ -140,8 +140,8 @@ fn taken<'a>(before: &'a [u8], rest: &[u8]) -> &'a [u8]
     &before[..before.len() - rest.len()]
 }
 
-/// Reads a column of bools as [`unpack_bools`] does. Where `strict`, the answer is whether its bytes are those that are
-/// written for the bools; else it says nothing.
+/// Reads a column of bools as [`unpack_bools`] does. If `strict`, it returns whether the bytes are those that would be
+/// written for the bools. Otherwise the returned bool has no meaning.
 pub fn read_bools<'a>(
     alloc: Global,
     input: &mut &'a [u8],
@@ -163,8 +163,8 @@ pub fn read_bools<'a>(
     Ok(is_digits_text(Base::Two, taken(before, input), out.as_slice()))
 }
 
-/// Reads a column of bytes as [`unpack_bytes`](crate::pack::unpack_bytes) does. Where `strict`, the answer is whether its bytes
-/// are those that are written for the `u8`s or `i8`s that they stand for; else it says nothing.
+/// Reads a column of bytes as [`unpack_bytes`](crate::pack::unpack_bytes) does. If `strict`, it returns whether the
+/// bytes are those that would be written for the `u8`s or `i8`s. Otherwise the returned bool has no meaning.
 pub fn read_bytes<'a, T: Byte>(
     alloc: Global,
     input: &mut &'a [u8],
@@ -192,8 +192,9 @@ pub fn read_bytes<'a, T: Byte>(
     Ok(is_bytes_text(packed, count, bounds.0, bounds.1))
 }
 
-/// Reads a column of variants as [`unpack_bytes_less_than`](crate::pack::unpack_bytes_less_than) does, with their counts for
-/// `H = N`. Where `strict`, the answer is whether its bytes are those that are written for the variants; else it says nothing.
+/// Reads a column of variants as [`unpack_bytes_less_than`](crate::pack::unpack_bytes_less_than) does, with their
+/// counts for `H = N`. If `strict`, it returns whether the bytes are those that would be written for the variants.
+/// Otherwise the returned bool has no meaning.
 pub fn read_variants<'a, const N: usize, const H: usize>(
     alloc: Global,
     input: &mut &'a [u8],
@@ -220,7 +221,7 @@ pub fn read_variants<'a, const N: usize, const H: usize>(
     Ok((counts, written))
 }
 
-// What stands behind a tag, where the bytes begin with it.
+// The bytes after a tag, if they begin with it.
 fn behind_tag(packed: &[u8], tag: u8) -> Option<&[u8]>
     ensures { MatchOption result ((body : List ℕ) → packed.now ≡ tag ∷ body → ⊥) (λ body. packed.now ≡ tag ∷ body.now) }
 {
@@ -228,7 +229,7 @@ fn behind_tag(packed: &[u8], tag: u8) -> Option<&[u8]>
     if *first == tag { Some(body) } else { None }
 }
 
-// What stands behind the least entry, where the bytes begin with it.
+// The bytes after the least entry, if they begin with it.
 fn behind_least<T: Int>(behind: &[u8], least: T) -> Option<&[u8]>
     ensures { MatchOption result ((body : List ℕ) → behind.now ≡ number_bytes T.width (residue T.width (T.number least)) ++ body → ⊥)
         (λ body. behind.now ≡ number_bytes T.width (residue T.width (T.number least)) ++ body.now) }
@@ -245,8 +246,8 @@ fn behind_least<T: Int>(behind: &[u8], least: T) -> Option<&[u8]>
     }
 }
 
-// Whether bytes that spell so many numbers of a width are those that are written for them. Of numbers of one byte the least and
-// the greatest are asked; others stand raw.
+// Whether bytes that spell `count` numbers of a width are those that are written for them. For numbers of one byte it
+// needs the least and the greatest; others are raw.
 fn is_narrow_text(body: &[u8], count: usize, width: usize, low: u128, high: u128) -> bool
     requires { width ≡ 1 → (low ≤ high) × (high < 256) }
     ensures { (numbers : List ℕ) → length numbers ≡ count → All (λ n. n < 256 ^ width) numbers
@@ -259,8 +260,8 @@ fn is_narrow_text(body: &[u8], count: usize, width: usize, low: u128, high: u128
     is_bytes_text::<u8>(body, count, (low % 0x100) as u8, (high % 0x100) as u8)
 }
 
-// Whether bytes that spell a column of so many integers are those that are written for them. Of the integers only the least and
-// the greatest are asked.
+// Whether bytes that spell a column of `count` integers are those that are written for them. Of the integers it needs
+// only the least and the greatest.
 fn is_ints_text<T: Int>(packed: &[u8], count: usize, low: T, high: T) -> bool
     requires order { T.number low ≤ℤ T.number high }
     requires wide { 2 ≤ T.width }
@@ -314,8 +315,9 @@ fn int_bounds<T: Int>(entries: &[T::Une]) -> Option<(T, T)>
     Some((least, greatest))
 }
 
-/// Reads a column of integers of more than one byte as [`unpack_ints`](crate::pack_ints::unpack_ints) does. Where `strict`, the
-/// answer is whether its bytes are those that are written for the integers; else it says nothing.
+/// Reads a column of integers of more than one byte as [`unpack_ints`](crate::pack_ints::unpack_ints) does. If
+/// `strict`, it returns whether the bytes are those that would be written for the integers. Otherwise the returned bool
+/// has no meaning.
 pub fn read_ints<'a, T: Int>(
     alloc: Global,
     input: &mut &'a [u8],

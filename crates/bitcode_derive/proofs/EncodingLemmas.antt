@@ -1,13 +1,11 @@
 -- What an encoder that began without entries holds after one value.
-use Rattle.std.proofs.Common.{◌≡◌, ℕ, List, [], ◌∷◌, ◌++◌, refl, sym, ◌∙◌, ap, subst, arith, inl, inr}
-use Rattle.bitcode_columns.specs.declared.error.Reason.{Reason}
-use Rattle.std.proofs.lemmas.List.Elements.{All-cons, All-nil}
+use Rattle.std.proofs.Common.{◌≡◌, ℕ, List, [], ◌∷◌, ◌++◌, sym, ◌∙◌, ap, subst, arith}
 use Rattle.bitcode_shapes.specs.Datum.{Datum}
-use Rattle.bitcode_shapes.specs.Shape.{Shape, IsOf}
+use Rattle.bitcode_shapes.specs.Shape.{Shape}
 use Rattle.bitcode_coder.specs.Columns.{Columns, no_columns, one, two, arrays, beside, plain, emptied, CountsFit}
 use Rattle.bitcode_coder.specs.Transposition.{columns_of, spread}
 use Rattle.bitcode_coder.specs.Spelling.{columns_bytes, texts_of}
-use Rattle.bitcode_coder.specs.Coder.{written_columns, JoinsListing, OverflowsWithListing, SurelyOverflows, IsWritingRefusal}
+use Rattle.bitcode_coder.specs.Coder.{written_columns, JoinsListing, OverflowsWithListing}
 use Rattle.bitcode_coder.proofs.TranspositionLemmas.{columns_of-append, columns_of-none, plain-beside, CountsFit-plain, columns_bytes-plain, flat-columns_of, texts_of-flat}
 use Rattle.bitcode_derive.specs.Whole.{columns_of_one, IsEncodingOf, HasLongListing}
 use Rattle.bitcode_derive.specs.Front.{IsWrittenBehind}
@@ -55,23 +53,8 @@ module _ {T : Type 0} (lists : T → Datum → Type 0) (shape : Shape) (t : T) (
         written = text ∙ ap columns_bytes is ∙ written_text shape (d ∷ []);
       }
 
-  pub refusal-joined : {reason : Reason} → IsWritingRefusal reason (OverflowsWithListing lists shape t old) → IsWritingRefusal reason (HasLongListing lists shape t)
-  refusal-joined (inl e) = inl e
-  refusal-joined (inr (e, p)) =
-      inr (e, record { datum = p.datum; listing = p.listing; overflows = λ fits. p.overflows (CountsFit-to_joined p.datum fits) })
-
-  pub refusal-surely : {reason : Reason} {Surely : Type 0} (d : Datum) → lists t d → IsOf shape d → (Surely → SurelyOverflows shape old 1)
-      → IsWritingRefusal reason Surely → IsWritingRefusal reason (HasLongListing lists shape t)
-  refusal-surely d listing of_shape surely (inl e) = inl e
-  refusal-surely d listing of_shape surely (inr (e, p)) =
-      inr (
-        e,
-        record {
-          datum = d;
-          listing = listing;
-          overflows = λ fits. surely p (d ∷ []) (All-cons (IsOf shape) d [] of_shape (All-nil (IsOf shape))) refl (CountsFit-to_joined d fits);
-        },
-      )
+  pub long_listing : OverflowsWithListing lists shape t old → HasLongListing lists shape t
+  long_listing p = record { datum = p.datum; listing = p.listing; overflows = λ fits. p.overflows (CountsFit-to_joined p.datum fits) }
 
 -- what was written behind nothing is all there is
 pub written_alone : {T : Type 0} (lists : T → Datum → Type 0) (shape : Shape) (t : T) (before after : List ℕ) → before ≡ [] → IsWrittenBehind lists shape t before after

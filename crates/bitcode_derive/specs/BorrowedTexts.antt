@@ -1,4 +1,4 @@
--- Where the texts that were read stand in the input.
+-- Where the decoded texts are in the input.
 use Rattle.std.specs.Prelude.{◌≡◌, ℕ, ◌+◌, Option, None, List, [], ◌∷◌, ◌++◌, length, map}
 use Rattle.std.specs.List.{slice_range, sum_by, AllZip}
 use Rattle.bitcode_shapes.specs.Datum.{Datum, text}
@@ -9,7 +9,7 @@ use Rattle.bitcode_coder.specs.LengthColumn.{SpellsLengths}
 use Rattle.bitcode_coder.specs.Spelling.{SpellsColumn}
 use Rattle.bitcode_coder.specs.Transposition.{spread}
 
--- how many bytes the pieces have together
+-- the total size of the pieces in bytes
 abbrev pub size_of : List (List ℕ) → ℕ
 size_of pieces = sum_by (λ piece. length piece) pieces
 
@@ -18,8 +18,8 @@ pub record IsCutIntoColumns (bytes : List ℕ) (columns : List Column) (pieces :
   pub whole : bytes ≡ join pieces
   pub spelled : AllZip (λ column piece. SpellsColumn column.kind piece column.entries) columns pieces
 
--- A column's own piece of the bytes: what stands behind the pieces of the columns before it. No other pieces are those of
--- the columns.
+-- A column's own piece of the bytes: what follows the pieces of the columns before it. The columns have no other
+-- pieces.
 pub record OwnPiece (bytes : List ℕ) (before : List Column) (column : Column) (after : List Column) : Type 0 where
   pub earlier_pieces : List (List ℕ)
   pub piece : List ℕ
@@ -28,8 +28,8 @@ pub record OwnPiece (bytes : List ℕ) (before : List Column) (column : Column) 
   pub as_many : length earlier_pieces ≡ length before
   pub alone : (pieces : List (List ℕ)) → IsCutIntoColumns bytes (before ++ column ∷ after) pieces → pieces ≡ earlier_pieces ++ piece ∷ later_pieces
 
--- The texts of a column stand in the column's own piece, behind their lengths, one after the other: each is the bytes from
--- where the columns before it, the column's lengths and the texts before it end, as many as its length.
+-- The texts of a column are in the column's own piece, after their lengths, one after another. Each begins where the
+-- columns before it, the column's lengths and the texts before it end, and has as many bytes as its length.
 pub record StandIn (bytes : List ℕ) (before after : List Column) (limit : Option ℕ) (entries : List Datum) : Type 0 where
   pub own : OwnPiece bytes before (record { kind = texts limit; entries = entries }) after
   pub all : List (List ℕ)
@@ -41,12 +41,12 @@ pub record StandIn (bytes : List ℕ) (before after : List Column) (limit : Opti
       → one ≡ slice_range bytes (size_of own.earlier_pieces + length lengths_piece + size_of earlier)
       (size_of own.earlier_pieces + length lengths_piece + size_of earlier + length one)
 
--- so do the texts of each text column of the data
+-- the same for each text column of the data
 abbrev pub TextsStandIn : Shape → List ℕ → List Datum → Type 0
 TextsStandIn shape bytes ds = (before after : List Column) (limit : Option ℕ) (entries : List Datum)
     → spread shape ds ≡ before ++ record { kind = texts limit; entries = entries } ∷ after → StandIn bytes before after limit entries
 
--- a text of its own is all that stands behind its length
+-- a single text is everything after its length
 pub record IsBorrowedFrom (bytes t : List ℕ) : Type 0 where
   pub lengths_piece : List ℕ
   pub whole : bytes ≡ lengths_piece ++ t

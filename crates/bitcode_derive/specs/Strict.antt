@@ -1,4 +1,4 @@
--- What a strict whole call reads: the texts that are written, and no other bytes.
+-- What the strict calls for whole values read: the texts that are written, and no other bytes.
 use Rattle.std.specs.Prelude.{◌≡◌, ◌↔◌, ℕ, List, [], ◌∷◌}
 use Rattle.bitcode_columns.specs.declared.error.Reason.{Reason}
 use Rattle.bitcode_columns.specs.declared.error.Reason.TheVariants.{OutOfMemory, NotTheWrittenText}
@@ -18,18 +18,18 @@ pub record IsStrictDecodingOf {T : Type 0} (makes : Datum → T → Type 0) (sha
   pub spelled : StrictlySpellsDatum shape bytes datum
   pub made : makes datum t
 
--- The data that make a value are those that it lists: it keeps nothing in an order of its own, and no two data make it.
+-- The data that make a value are those that it lists: it has no internal order, and no two data make it.
 abbrev pub MakesWhatItLists : {T : Type 0} → (T → Datum → Type 0) → (Datum → T → Type 0) → Type 0
 MakesWhatItLists {T} lists makes = (t : T) (d : Datum) → lists t d ↔ makes d t
 
--- the whole input spells a datum, in other bytes than are written for its columns
+-- the whole input spells a datum, in different bytes than would be written for its columns
 pub record SpellsOtherwise (shape : Shape) (bytes : List ℕ) : Type 0 where
   pub datum : Datum
   pub spelled : SpellsDatum shape bytes datum
   pub other : StrictlySpellsDatum shape bytes datum → ⊥
 
--- Why a strict reading is refused: want of memory; `not the written text` where the input spells a datum in other bytes; and
--- the reasons of other readings only where it spells none.
+-- Why a strict read fails: an allocation failed; `not the written text` if the input spells a datum in different bytes;
+-- and the other reasons only if the input spells no datum.
 pub data IsStrictRefusal (shape : Shape) (reason : Reason) (bytes : List ℕ) : Type 0 where
   no_memory : reason ≡ OutOfMemory → IsStrictRefusal shape reason bytes
   other_bytes : reason ≡ NotTheWrittenText → SpellsOtherwise shape bytes → IsStrictRefusal shape reason bytes

@@ -1,4 +1,5 @@
--- Worked rows: the one text of the columns of some data, which a strict reading accepts, computed from the definitions.
+-- Worked examples: the only text of the columns of some data, which a strict read accepts, computed from the
+-- definitions.
 use Rattle.std.specs.Prelude.{◌≡◌, ℕ, false, pos, List, [], ◌∷◌, None, map, refl}
 use Rattle.bitcode_columns.specs.LittleEndian.{raw_text}
 use Rattle.bitcode_columns.specs.Digits.{digits_text}
@@ -24,7 +25,7 @@ byte_shape = number_shape 1 false any_number
 abbrev bytes : List ℕ → Datum
 bytes values = list (data_of (map n values))
 
--- so [2] and [255] are other bytes
+-- so [2] and [255] are different bytes
 a_flag : text_of bool_shape (n 1) ≡ 1 ∷ []
 unfolding bool_text int_text byte_text tagged_text digits_text raw_text
 a_flag = refl
@@ -34,17 +35,17 @@ a_word : text_of (number_shape 4 false any_number) (n 255) ≡ 4 ∷ 255 ∷ []
 unfolding int_text byte_text tagged_text digits_text raw_text
 a_word = refl
 
--- the length is a byte of its own, and no large one behind an escape
+-- the length is a byte of its own, not a large length after an escape
 two_bytes : text_of (seq_shape None byte_shape) (bytes (0 ∷ 1 ∷ [])) ≡ 2 ∷ 0 ∷ 1 ∷ []
 unfolding length_bytes int_text byte_text tagged_text digits_text raw_text
 two_bytes = refl
 
--- in base two, and not in base three
+-- in base two, not in base three
 five_zeros : text_of (seq_shape None byte_shape) (bytes (0 ∷ 0 ∷ 0 ∷ 0 ∷ 0 ∷ [])) ≡ 5 ∷ 10 ∷ 0 ∷ []
 unfolding length_bytes int_text byte_text tagged_text digits_text raw_text
 five_zeros = refl
 
--- a key that stands twice is spelled as it is: what the pairs make is no matter of their columns
+-- a duplicate key is spelled as it is: what the pairs make does not matter to their columns
 one_key_twice : text_of (map_shape byte_shape byte_shape) (list (data_of (pair (n 1) (n 5) ∷ pair (n 1) (n 6) ∷ []))) ≡ 2 ∷ 1 ∷ 1 ∷ 5 ∷ 6 ∷ []
 unfolding length_bytes int_text byte_text tagged_text digits_text raw_text
 one_key_twice = refl

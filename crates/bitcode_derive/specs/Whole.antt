@@ -1,4 +1,4 @@
--- What whole calls write and read: one value, and all of the input.
+-- What the calls for whole values write and read: one value, and all of the input.
 use Rattle.std.specs.Prelude.{◌≡◌, ◌≢◌, refl, ℕ, ◌*◌, ◌<◌, ◌≤◌, Bool, IsTrue, List, [], ◌∷◌, length}
 use Rattle.bitcode_columns.specs.declared.error.Reason.{Reason}
 use Rattle.bitcode_columns.specs.declared.error.Reason.TheVariants.{ExpectedEof, OutOfMemory}
@@ -13,7 +13,7 @@ use Rattle.bitcode_coder.specs.Spelling.{Spells, LengthsBelowLimit, texts_of}
 abbrev pub columns_of_one : Shape → Datum → Columns
 columns_of_one shape d = columns_of shape (d ∷ [])
 
--- The bytes are the texts, joined, of the columns of one listing of the value, whose numbers of arrays are
+-- The bytes are the concatenated texts of the columns of one listing of the value, whose numbers of arrays fit in
 -- lengths.
 pub record IsEncodingOf {T : Type 0} (lists : T → Datum → Type 0) (shape : Shape) (t : T) (bytes : List ℕ) : Type 0 where
   pub datum : Datum
@@ -21,13 +21,13 @@ pub record IsEncodingOf {T : Type 0} (lists : T → Datum → Type 0) (shape : S
   pub counts : CountsFit (columns_of_one shape datum)
   pub written : bytes ≡ texts_of (spread shape (datum ∷ []))
 
--- in some listing of the value some number of arrays times their size is no length
+-- in some listing of the value some number of arrays times their size does not fit in a length
 pub record HasLongListing {T : Type 0} (lists : T → Datum → Type 0) (shape : Shape) (t : T) : Type 0 where
   pub datum : Datum
   pub listing : lists t datum
   pub overflows : CountsFit (columns_of_one shape datum) → ⊥
 
--- in each listing of the value the lengths of each column sum below the limit
+-- in each listing of the value the lengths of each column have a sum below the limit
 abbrev pub HasShortLengths : {T : Type 0} → (T → Datum → Type 0) → Shape → T → Type 0
 HasShortLengths lists shape t = (d : Datum) → lists t d → LengthsBelowLimit (columns_of_one shape d)
 
@@ -45,25 +45,25 @@ pub record IsDecodingOf {T : Type 0} (makes : Datum → T → Type 0) (shape : S
 abbrev pub SpellsAtMostOne : Shape → List ℕ → Type 0
 SpellsAtMostOne shape bytes = (d e : Datum) → SpellsDatum shape bytes d → SpellsDatum shape bytes e → d ≡ e
 
--- all entries of a datum's columns together are at most eight times the bytes that spell it
+-- all columns of a datum together have at most eight times as many entries as bytes
 abbrev pub IsBoundedByBytes : Shape → List ℕ → Type 0
 IsBoundedByBytes shape bytes = (d : Datum) → SpellsDatum shape bytes d → entry_count (columns_of_one shape d) ≤ 8 * length bytes
 
--- a front of the input spells one datum, and bytes are left behind it
+-- a prefix of the input spells one datum, and bytes are left after it
 pub record LeavesBytes (shape : Shape) (bytes : List ℕ) : Type 0 where
   pub read_data : List Datum
   pub rest : List ℕ
   pub read : Reads (Spells shape) 1 bytes read_data rest
   pub left : 0 < length rest
 
--- What a refusal of a whole input names: what is first at fault when one datum is read; where it is read, that bytes
--- are left behind it; and where the whole input spells it, want of memory for the value, unless making it takes none.
+-- What an error for a whole input reports: the first fault of reading one datum; if it can be read, that bytes are left
+-- after it; if the whole input spells it, a failed allocation for the value, unless making it does not allocate.
 pub data NamesWholeFault (faults : Reason → ℕ → List ℕ → Type 0) (makes_free : Bool) (shape : Shape) (reason : Reason) (bytes : List ℕ) : Type 0 where
   in_columns : faults reason 1 bytes → NamesWholeFault faults makes_free shape reason bytes
   bytes_left : reason ≡ ExpectedEof → LeavesBytes shape bytes → NamesWholeFault faults makes_free shape reason bytes
   in_making : reason ≡ OutOfMemory → (IsTrue makes_free → ⊥) → (d : Datum) → SpellsDatum shape bytes d → NamesWholeFault faults makes_free shape reason bytes
 
--- a reason that is not other than want of memory is want of memory
+-- a reason that cannot differ from a failed allocation is a failed allocation
 pub want_of_memory : (reason : Reason) → (reason ≢ OutOfMemory → ⊥) → reason ≡ OutOfMemory
 want_of_memory OutOfMemory h = refl
 want_of_memory _ h = absurd (h (λ e. cc))

@@ -1,4 +1,4 @@
-//! The coders of types without values, as enums without variants: no columns.
+//! The coders of types without values, such as enums without variants: no columns.
 ghost use Rattle.std.specs.Prelude.{◌≡◌, ◌<◌, true, false, refl, replicate};
 ghost use Rattle.bitcode_columns.specs.declared.error.Reason.TheVariants.{InvalidEnumVariant};
 ghost use Rattle.bitcode_shapes.specs.Datum.{unit};
@@ -13,7 +13,7 @@ use bitcode_columns::refuse::err;
 use bitcode_shapes::no_variants::{Absent, NoVariants};
 use std::alloc::Global;
 
-/// The columns of a type without values: none. No value is ever written.
+/// The columns of a type without values: none. Nothing is ever written.
 ///
 /// ```rust
 /// let mut nothing: AbsentEncoder = AbsentEncoder::new(alloc);
@@ -62,7 +62,7 @@ impl<T: NoVariants> Encoder<T> for AbsentEncoder {
     ghost surely = { λ e n h. absurd h };
 }
 
-/// The decoder of a type without values: one or more are `invalid enum variant`.
+/// The decoder of a type without values. Reading one or more values is the error `invalid enum variant`.
 ///
 /// ```rust
 /// let mut input: &[u8] = &[];

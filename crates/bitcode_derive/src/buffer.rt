@@ -1,4 +1,4 @@
-//! A buffer that values of one type are written to, one after the other.
+//! A buffer that encodes and decodes values of one type, one after another.
 ghost use Rattle.std.specs.Prelude.{◌≡◌, ◌≢◌, IfOk, IfErr, vec_capacity};
 ghost use Rattle.bitcode_shapes.specs.Datum.{Datum};
 ghost use Rattle.bitcode_coder.specs.Coder.{IsWritingRefusal, IsReadingReason};
@@ -8,13 +8,14 @@ ghost use Rattle.bitcode_derive.specs.Whole.{IsEncodingOf, HasLongListing, IsDec
 use crate::derive::{HasDecoder, HasEncoder};
 use crate::whole;
 use bitcode_coder::coder::{Buffer as EncoderBuffer, Decoder, Encoder, View};
+use bitcode_coder::one::write_one;
 use bitcode_columns::error::{Error, Reason};
 use bitcode_shapes::shaped::{Made, Shaped};
 use std::alloc::Global;
 
-/// Writes values of one type, one after the other, into memory that it keeps.
+/// Encodes values of one type, one after another, in memory that it keeps for the next call.
 ///
-/// Calls are independent: earlier ones, failed ones too, change nothing of what is written.
+/// The calls are independent: what they return does not depend on earlier calls, even failed ones.
 ///
 /// ```rust
 /// let mut buffer: Buffer<(bool, u16)> = Buffer::new(alloc);
@@ -31,7 +32,7 @@ impl<T: HasEncoder + Shaped> Buffer<T>
 where
     T::Encoder: EncoderBuffer + Encoder<T> + Drop,
 {
-    /// Holds nothing. Takes no memory.
+    /// Creates an empty buffer without allocating.
     pub fn new(alloc: Global) -> Self
         ensures columns { T.Encoder.capacity result.encoder ≡ 0 }
         ensures bytes { vec_capacity result.bytes ≡ 0 }
@@ -43,10 +44,10 @@ where
         }
     }
 
-    /// Writes a value: bytes that `whole::encode` may give for it.
+    /// Encodes a value, to bytes that `whole::encode` may return for it.
     ///
-    /// Errors: `length overflow` where some number of arrays in the value times their size is over
-    /// 18446744073709551615, and `out of memory` where a growth was refused.
+    /// Errors: `length overflow` if some number of arrays in the value times their size exceeds 18446744073709551615,
+    /// and `out of memory` if an allocation fails.
     ///
     /// ```rust
     /// let mut buffer: Buffer<(bool, u16)> = Buffer::new(alloc);
@@ -56,19 +57,16 @@ where
         ensures written { IfOk result (λ bytes. IsEncodingOf T.lists T.shape t.now bytes.now) }
         ensures refused { IfErr result (λ e. IsWritingRefusal e.reason (HasLongListing T.lists T.shape t.now)) }
     {
-        t.told();
         self.encoder.clear();
         self.bytes.clear();
-        self.encoder.reserve(1)?;
-        self.encoder.encode(t)?;
-        self.encoder.collect_into(&mut self.bytes)?;
+        write_one(&mut self.encoder, t, &mut self.bytes)?;
         Ok(self.bytes.as_slice())
     }
 
-    /// Reads the one value that all of the bytes spell, as `whole::decode` does.
+    /// Decodes the bytes, which must encode exactly one value, as `whole::decode` does.
     ///
-    /// Errors: one of the faults of the input, `Expected EOF` where bytes are left behind the value, and
-    /// `out of memory` where a growth was refused.
+    /// Errors: the first fault of the input, `Expected EOF` if bytes are left after the value, and `out of memory` if
+    /// an allocation fails.
     ///
     /// ```rust
     /// let mut buffer: Buffer<(bool, u16)> = Buffer::new(alloc);
@@ -89,10 +87,10 @@ where
         whole::decode(self.alloc, bytes)
     }
 
-    /// Reads the one value that all of the bytes spell, each column in the bytes that are written for it, as
+    /// Decodes the bytes, which must be exactly those that are written for the columns of one value, as
     /// `whole::decode_strict` does.
     ///
-    /// Errors: those of [`Buffer::decode`], and `not the written text` where some column has other bytes.
+    /// Errors: those of [`Buffer::decode`], and `not the written text` if some column has different bytes.
     ///
     /// ```
     /// let pair = buffer.decode_strict(&[1, 7, 0])?;

@@ -1,4 +1,4 @@
-//! The types that have coders.
+//! The types with encoders and decoders.
 use bitcode_coder::coder::{Buffer, Decoder, Encoder, View};
 use bitcode_parts::choices::bare::BareEncoder;
 use bitcode_parts::choices::variant::VariantDecoder;
@@ -8,8 +8,8 @@ use bitcode_shapes::stands_for::HeldIn;
 
 /// Names the encoder of a type.
 ///
-/// A type of your own names the encoder of its fields, as a wrapper of a `u32` that of `u32`. It is then an [`Encode`],
-/// where the encoder writes its values:
+/// A user-defined type names the encoder of its fields, as a wrapper of a `u32` names that of `u32`. If that encoder
+/// accepts its values, the type implements [`Encode`]:
 ///
 /// ```rust,from:crates/bitcode_own_types/src/meters.rt
 /// impl HasEncoder for Meters {
@@ -17,13 +17,13 @@ use bitcode_shapes::stands_for::HeldIn;
 /// }
 /// ```
 pub trait HasEncoder {
-    /// The columns that values are written to.
+    /// The columns of the values.
     type Encoder;
 }
 
-/// A type whose values are written: every lawful type whose encoder takes its values.
+/// A type that can be encoded: every lawful type whose encoder accepts its values.
 ///
-/// It has no impls of its own. A whole call drops the encoder.
+/// It has no impls of its own. The calls that encode whole values drop the encoder.
 pub trait Encode: HasEncoder<Encoder: Buffer + Encoder<Self> + Drop> + Shaped {}
 
 impl<T: HasEncoder + Shaped> Encode for T
@@ -33,7 +33,7 @@ where
 
 /// Names the decoder of a type, for an input that outlives `'a`.
 ///
-/// The type is then a [`Decode`], where values of it are made of what the decoder holds:
+/// If that decoder makes values of the type, the type implements [`Decode`]:
 ///
 /// ```rust,from:crates/bitcode_own_types/src/meters.rt
 /// impl<'a> HasDecoder<'a> for Meters {
@@ -41,13 +41,13 @@ where
 /// }
 /// ```
 pub trait HasDecoder<'a> {
-    /// The data that values are made of.
+    /// The data from which the values are made.
     type Decoder;
 }
 
-/// A type whose values are read from an input that outlives `'a`: every lawful type whose decoder makes its values.
+/// A type that can be decoded from an input that outlives `'a`: every lawful type whose decoder makes its values.
 ///
-/// It has no impls of its own. A whole call drops the value and the data that are left.
+/// It has no impls of its own. The calls that decode whole values drop the value and the remaining data.
 pub trait Decode<'a>: HasDecoder<'a, Decoder: View<'a> + Decoder<Self> + Drop> + Made + Drop {}
 
 impl<'a, T: HasDecoder<'a> + Made + Drop> Decode<'a> for T
@@ -55,18 +55,19 @@ where
     T::Decoder: View<'a> + Decoder<T> + Drop,
 {}
 
-/// A type whose values borrow nothing from the input that they are read from: its bound holds of no type that borrows for less than the whole run.
+/// A type whose values borrow nothing from the input. Its `'static` bound excludes every type that borrows for less
+/// than the whole run.
 ///
-/// It has no functions: each such type says so for itself, or by [`HasCoders`]. A struct that borrows, `Foo<'a>`, is refused, and
-/// `Foo<'static>` alone is not, which is read from an input that is never let go.
+/// It has no functions: each type implements it, directly or by [`HasCoders`]. The compiler rejects it for a borrowing
+/// struct `Foo<'a>`, and accepts only `Foo<'static>`, which borrows from an input that lives for the whole run.
 ///
 /// ```rust,from:crates/bitcode_own_types/src/meters.rt
 /// impl DecodeOwned for Meters {}
 /// ```
 pub trait DecodeOwned: 'static {}
 
-/// A type whose coders are those of the struct that holds its values, as those of an enum without payloads are, and whose values
-/// borrow nothing from the input that they are read from.
+/// A type that has the coders of the struct that holds its values, as enums without payloads do, and whose values
+/// borrow nothing from the input.
 ///
 /// It has no functions, and replaces [`HasEncoder`], [`HasDecoder`] and [`DecodeOwned`]:
 ///
@@ -75,15 +76,15 @@ pub trait DecodeOwned: 'static {}
 /// ```
 pub trait HasCoders: HeldIn + 'static {}
 
-/// Names the encoder of the values that a struct holds.
+/// Names the encoder of the values in a struct that holds them.
 pub trait HolderEncoder {
-    /// The columns that the values are written to.
+    /// The columns of the values.
     type Encoder;
 }
 
-/// Names the decoder of the values that a struct holds, for an input that outlives `'a`.
+/// Names the decoder of the values in a struct that holds them, for an input that outlives `'a`.
 pub trait HolderDecoder<'a> {
-    /// The data that the values are made of.
+    /// The data from which the values are made.
     type Decoder;
 }
 

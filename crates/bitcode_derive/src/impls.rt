@@ -1,4 +1,4 @@
-//! The coders of bools, the unit and pairs; those of other types stand in the modules by subject.
+//! The coders of bools, the unit and pairs. Those of other types are in the modules, by subject.
 use crate::derive::{DecodeOwned, HasDecoder, HasEncoder};
 use bitcode_coder::bool::{BoolDecoder, BoolEncoder};
 use bitcode_parts::empty::EmptyCoder;

@@ -1,4 +1,5 @@
-//! What follows from the contracts of the whole calls. A call only looks at its values: its contract is the law.
+//! Laws that follow from the contracts of the calls for whole values. The functions only look at their values: their
+//! contracts are the laws.
 ghost use Rattle.std.specs.Prelude.{◌≡◌, ◌≢◌, ◌<◌, [], ◌∷◌, slice_index, IsTrue, IfOk, IfErr};
 ghost use Rattle.bitcode_shapes.specs.Datum.{Datum};
 ghost use Rattle.bitcode_coder.specs.Coder.{IsReadingReason};
@@ -15,11 +16,11 @@ use bitcode_shapes::same_arrays::SameArrays;
 use bitcode_shapes::shaped::{Made, Shaped};
 use std::alloc::Global;
 
-/// What was written for a value is read, and as a value equal to it, where each column of lengths sums below
+/// The bytes that were written for a value decode to an equal value, if each column of lengths sums to less than
 /// 2251799813685247.
 ///
-/// The bytes spell the listing that was written, so `decode` refuses them only for want of memory; and what it
-/// gives is equal to the value.
+/// The bytes spell the listing that was written. So `decode` fails only if an allocation fails, and its result is equal
+/// to the value.
 ///
 /// ```rust
 /// let t = (true, 7u16);
@@ -37,8 +38,8 @@ pub fn round_trip<'a, T: Made>(t: &T, bytes: &'a [u8], u: &T)
     u.told();
 }
 
-/// What `decode` gives for the bytes that were written for a value is equal to the value, or want of memory, where in each
-/// listing of the value each column of lengths sums below 2251799813685247.
+/// For the bytes that were written for a value, `decode` returns an equal value or `out of memory`, if in each listing
+/// of the value each column of lengths sums to less than 2251799813685247.
 ///
 /// ```rust
 /// let t = (true, 7u16);
@@ -59,8 +60,8 @@ pub fn comes_back<'a, T: Made>(t: &T, bytes: &'a [u8], again: &Result<T, Error>)
     }
 }
 
-/// Of a type whose values list exactly the data that make them, `decode_strict` gives a value for the bytes that `encode` writes for
-/// it, and for no others: where the lengths of each of its columns are read back at all.
+/// For a type whose values list exactly the data that make them, `decode_strict` returns a value for the bytes that
+/// `encode` writes for it, and for no other bytes. The lengths of each column must be short enough to be read back.
 ///
 /// ```
 /// let bytes = encode(alloc, &t)?;
@@ -74,8 +75,8 @@ pub fn strictly_written<'a, T: Made>(t: &T, bytes: &'a [u8])
     t.told();
 }
 
-/// What `decode` gives for the bytes that were written for a value is `==` to the value, or want of memory, of a type whose `==` says whether
-/// two values are the same: of each that has [`Key`]. The lengths are as for [`comes_back`].
+/// For the bytes that were written for a value, `decode` returns a value that is `==` to it, or `out of memory`. The
+/// type must be a [`Key`]: its `==` decides whether two values are the same. The lengths are as for [`comes_back`].
 ///
 /// ```
 /// let bytes = encode(alloc, &t)?;
@@ -93,8 +94,7 @@ pub fn comes_back_equal<'a, T: Made + Key>(t: &T, bytes: &'a [u8], again: &Resul
     }
 }
 
-/// A value that keeps nothing in an order of its own, as a hashed container or a heap does, is written as the same
-/// bytes each time.
+/// A value without an internal order, such as a hashed container or a heap has, is encoded to the same bytes each time.
 ///
 /// ```rust
 /// let t = (true, 7u16);
@@ -108,7 +108,7 @@ pub fn one_text<T: Shaped>(t: &T, bytes: &[u8], again: &[u8])
     t.told();
 }
 
-/// Two values that are read from the same bytes are equal.
+/// Two values that are decoded from the same bytes are equal.
 ///
 /// ```rust
 /// let bytes: &[u8] = &[1, 7, 0];
@@ -123,12 +123,12 @@ pub fn one_value<'a, T: Made>(bytes: &'a [u8], t: &T, u: &T)
     u.told();
 }
 
-/// Want of memory aside, `encode` answers `length overflow` exactly where in a listing of the value, and so in each, a
-/// number of arrays times their size is over 18446744073709551615.
+/// Unless an allocation fails, `encode` returns `length overflow` exactly if in some listing of the value, and so in
+/// each, a number of arrays times their size exceeds 18446744073709551615.
 ///
-/// All listings of such a value have the same numbers of arrays: `SameArrays` promises it, which every type of this library
-/// is. So bytes are written only where in no listing such a product overflows, and `length overflow` is answered only where in
-/// each listing one does.
+/// All listings of such a value hold the same numbers of arrays: that is the law of `SameArrays`, which every type of
+/// this library implements. So if bytes are written, no listing has such an overflow, and if `length overflow` is
+/// returned, each listing has one.
 ///
 /// ```rust
 /// let t = (true, 7u16);
@@ -142,9 +142,9 @@ pub fn overflows_exactly<T: SameArrays>(t: &T, bytes: &[u8])
     t.told();
 }
 
-/// A text that is read from bytes is these bytes behind its length, up to their end.
+/// A text that was decoded is the rest of the bytes after its length.
 ///
-/// So a `&str` that `decode` gives is a slice of the input, for as long as that lives.
+/// So a `&str` that `decode` returns is a slice of the input, for as long as the input lives.
 ///
 /// ```rust
 /// let bytes: &[u8] = &[2, 97, 98];
@@ -155,8 +155,8 @@ pub fn borrowed_text<'a>(bytes: &'a [u8], text: &&'a str)
     ensures { IsDecodingOf ⟦<&'a str as Made>⟧.makes ⟦<&'a str as Shaped>⟧.shape bytes.now text.now → IsBorrowedFrom bytes.now text.now.now }
 {}
 
-/// The texts of a value that is read from bytes are slices of these bytes: each begins where the columns before its own, its
-/// column's lengths and the texts before it in its column end.
+/// The texts of a decoded value are slices of the input. Each begins where the columns before its own, the lengths of
+/// its column and the texts before it in its column end.
 ///
 /// ```rust
 /// let bytes: &[u8] = &[7, 2, 97, 98];
@@ -167,9 +167,9 @@ pub fn borrowed_texts<'a, T: Made>(bytes: &'a [u8], t: &T)
     ensures { (found : IsDecodingOf T.makes T.shape bytes.now t.now) → TextsStandIn T.shape bytes.now (found.datum ∷ []) }
 {}
 
-/// Reads a text whose first byte is below 255, as `decode` does: this takes no memory.
+/// Decodes a text whose first byte is below 255, as `decode` does, without allocating.
 ///
-/// Errors: one of the faults of the input, and never `out of memory`.
+/// Errors: the first fault of the input, and never `out of memory`.
 ///
 /// ```rust
 /// let text = short_text(alloc, &[2, 97, 98])?;

@@ -1,4 +1,4 @@
-//! Types that are encoded and decoded, and the whole calls.
+//! The types that can be encoded and decoded, and the calls for whole values.
 #![tactic(auto)]
 
 pub mod absent;

@@ -1,4 +1,4 @@
-//! Whole calls: one value to bytes, and all bytes of an input, or a front of them, to a value.
+//! Calls for whole values: encoding one value, and decoding all bytes of an input or a prefix of it.
 ghost use Rattle.std.specs.Prelude.{◌≡◌, ◌≢◌, ℕ, List, IsErrOf, IfOk, OnOk, IfErr, OnErr};
 ghost use Rattle.bitcode_columns.specs.Reading.{IsEndOf};
 ghost use Rattle.bitcode_shapes.specs.Datum.{Datum};
@@ -10,18 +10,19 @@ ghost use Rattle.bitcode_derive.specs.Whole.{IsEncodingOf, HasLongListing, IsDec
 
 use crate::derive::{HasDecoder, HasEncoder};
 use bitcode_coder::coder::{Buffer, Decoder, Encoder, View};
+use bitcode_coder::one::write_one;
 use bitcode_columns::consume::expect_eof;
 use bitcode_columns::error::{Error, Reason};
 use bitcode_columns::refuse::err;
 use bitcode_shapes::shaped::{Made, Shaped};
 use std::alloc::Global;
 
-/// Writes a value behind the bytes that `out` holds, as `encode` would write it.
+/// Appends the encoding of a value to `out`.
 ///
-/// Several values so written are read again one by one, by `decode_front`.
+/// Several values appended like this can be decoded one by one with `decode_front`.
 ///
-/// Errors: `length overflow` where some number of arrays in the value times their size is over
-/// 18446744073709551615, and `out of memory` where a growth was refused. `out` then begins with what it held.
+/// Errors: `length overflow` if some number of arrays in the value times their size exceeds 18446744073709551615, and
+/// `out of memory` if an allocation fails. `out` then still begins with what it held before.
 ///
 /// ```rust
 /// let mut out = Vec::new(alloc);
@@ -40,20 +41,16 @@ where
     ensures begins { BeginsWith out.old.items out.new.items }
     ensures refused { IfErr result (λ e. IsWritingRefusal e.reason (HasLongListing T.lists T.shape t.now)) }
 {
-    t.told();
     let mut encoder = T::Encoder::new(alloc);
-    encoder.reserve(1)?;
-    encoder.encode(t)?;
-    encoder.collect_into(out)
+    write_one(&mut encoder, t, out)
 }
 
-/// Writes a value: the texts of its columns, joined.
+/// Encodes a value: the concatenated texts of its columns.
 ///
-/// A value may have several such texts only where hashed containers or heaps are inside.
-/// The call keeps nothing.
+/// Only a value with hashed containers or heaps inside can have several encodings. The call keeps no memory.
 ///
-/// Errors: `length overflow` where some number of arrays in the value times their size is over
-/// 18446744073709551615, and `out of memory` where a growth was refused.
+/// Errors: `length overflow` if some number of arrays in the value times their size exceeds 18446744073709551615, and
+/// `out of memory` if an allocation fails.
 ///
 /// ```rust
 /// let bytes = encode(alloc, &(true, 7u16))?;
@@ -70,14 +67,14 @@ where
     Ok(bytes)
 }
 
-/// Reads the one value that all of the bytes spell.
+/// Decodes the bytes, which must encode exactly one value.
 ///
-/// Everything is checked before the value is made, and no byte may be left over. The call keeps nothing.
+/// It validates the input completely before it makes the value, and accepts no trailing bytes. The call keeps no
+/// memory.
 ///
-/// Errors: one of the faults of the input, `Expected EOF` where bytes are left behind the value, and
-/// `out of memory` where a growth was refused: for a column that takes memory, once all its bytes are there, or for a
-/// value that takes memory, once the bytes are known to spell it. A refusal for another cause than want of memory comes
-/// only where the bytes spell no value.
+/// Errors: the first fault of the input, `Expected EOF` if bytes are left after the value, and `out of memory` if an
+/// allocation fails: for a column, once all its bytes are there, or for the value, once the bytes are known to encode
+/// one. Every other error means that the bytes encode no value.
 ///
 /// ```rust
 /// let pair: (bool, u16) = decode(alloc, &[1, 7, 0])?;
@@ -103,11 +100,11 @@ where
     decoder.decode()
 }
 
-/// Reads the one value that all of the bytes spell, as [`decode`] does, where the bytes of each column are those that are written
-/// for its entries. So a list of columns is accepted in one form only.
+/// Decodes the bytes, which must encode exactly one value, as [`decode`] does, and must be those that are written for
+/// the entries of each column. So it accepts each list of columns in only one form.
 ///
-/// Errors: those of `decode`, and `not the written text` where the bytes spell a value and some column has other bytes. That
-/// comes before memory is asked for the value, and after any other fault.
+/// Errors: those of `decode`, and `not the written text` if the bytes encode a value but some column has different
+/// bytes. That error comes before any allocation for the value, and after any other fault.
 ///
 /// ```
 /// let flag: bool = decode_strict(alloc, &[1])?;
@@ -135,13 +132,13 @@ where
     decoder.decode()
 }
 
-/// Reads the one value that a front of the input spells, and moves the input behind it.
+/// Decodes the one value at the front of the input, and advances the input past it.
 ///
-/// All of the front is checked before the value is made.
+/// It validates all of that prefix before it makes the value.
 ///
-/// Errors: one of the faults of the input, and `out of memory` where a growth was refused: for a column that takes
-/// memory, once all its bytes are there, or for a value that takes memory, once a front is known to spell it. The input is
-/// then an end part of what it was. A refusal for another cause than want of memory comes only where no front spells a value.
+/// Errors: the first fault of the input, and `out of memory` if an allocation fails: for a column, once all its bytes
+/// are there, or for the value, once a prefix is known to encode one. The input is then a suffix of what it was. Every
+/// other error means that no prefix encodes a value.
 ///
 /// ```rust
 /// let mut input: &[u8] = &[1, 7, 0];
@@ -168,11 +165,12 @@ where
     decoder.decode()
 }
 
-/// Reads the one value that a front of the input spells, as [`decode_front`] does, where the bytes of each column are those that
-/// are written for its entries, and moves the input behind it.
+/// Decodes the one value at the front of the input, as [`decode_front`] does, and advances the input past it. The bytes
+/// must be those that are written for the entries of each column.
 ///
-/// Errors: those of `decode_front`, and `not the written text` where a front spells a value and some column has other bytes.
-/// That comes before memory is asked for the value, and after any other fault. The input then begins behind the value.
+/// Errors: those of `decode_front`, and `not the written text` if a prefix encodes a value but some column has
+/// different bytes. That error comes before any allocation for the value, and after any other fault. The input then
+/// begins after the value.
 ///
 /// ```rust
 /// let mut input: &[u8] = &[1, 7, 0];
@@ -202,7 +200,7 @@ where
     decoder.decode()
 }
 
-/// The refusal of a type that has no variant of the index that was read: `invalid enum variant`.
+/// The error for a type without a variant of the index that was read: `invalid enum variant`.
 ///
 /// ```
 /// let none: Result<u8, Error> = invalid_enum_variant();

@@ -1,4 +1,4 @@
--- The columns and the payloads of variants that follow each other, by the place of a variant among them.
+-- The columns and the payloads of consecutive variants, by the index of a variant among them.
 use Rattle.std.specs.Prelude.{◌≡◌, ℕ, zero, suc, List, [], ◌∷◌, slice_index_or, slice_set, ◌⊎◌}
 use Rattle.std.proofs.Common.{inl, inr}
 use Rattle.bitcode_columns.specs.declared.error.Reason.{Reason}
@@ -8,24 +8,24 @@ use Rattle.bitcode_coder.specs.Columns.{Columns, no_columns, two}
 use Rattle.bitcode_coder.specs.Coder.{written_columns}
 use Rattle.bitcode_enums.specs.Reading.{EitherFault}
 
--- ---- by place
+-- ---- by index
 
--- which of several variants a payload is of: the first one, or one of the rest
+-- the variant of a payload: the first one, or one of the rest
 abbrev pub index_either : {A R : Type 0} → (R → ℕ) → A ⊎ R → ℕ
 index_either index (inl a) = zero
 index_either index (inr r) = suc (index r)
 
--- the shape of the variant at a place
+-- the shape of the variant at an index
 abbrev pub shape_at : ℕ → Shapes → Shape
 shape_at place no_shapes = never_shape
 shape_at zero (shape_and s ss) = s
 shape_at (suc place) (shape_and s ss) = shape_at place ss
 
--- the columns of the variant at a place
+-- the columns of the variant at an index
 abbrev pub columns_at : ℕ → List Columns → Columns
 columns_at place lists = slice_index_or lists place no_columns
 
--- nothing changed but what stands at a place
+-- nothing changed except at one index
 abbrev pub KeepsOthers : {A : Type 0} → A → ℕ → (old new : List A) → Type 0
 KeepsOthers none place old new = new ≡ slice_set old place (slice_index_or new place none)
 
@@ -41,7 +41,7 @@ abbrev pub bare_columns : Shapes → List Columns
 bare_columns no_shapes = []
 bare_columns (shape_and s ss) = written_columns s [] ∷ bare_columns ss
 
--- what is said of the columns of the variant that a payload is of
+-- a statement about the columns of the variant of a payload
 abbrev pub joins_either : {A R : Type 0} → (A → Columns → Columns → Type 0) → (R → Columns → Columns → Type 0) → A ⊎ R → Columns → Columns → Type 0
 joins_either joins_first joins_rest (inl a) = joins_first a
 joins_either joins_first joins_rest (inr r) = joins_rest r
@@ -52,12 +52,12 @@ overflows_either overflows_first overflows_rest (inr r) = overflows_rest r
 
 -- ---- reading
 
--- what is said of the data of the variant that a payload is of, from which it was taken
+-- a statement about the data of the variant from which the payload was taken
 abbrev pub takes_either : {A R : Type 0} → (A → List Datum → List Datum → Type 0) → (R → List Datum → List Datum → Type 0) → A ⊎ R → List Datum → List Datum → Type 0
 takes_either takes_first takes_rest (inl a) = takes_first a
 takes_either takes_first takes_rest (inr r) = takes_rest r
 
--- what is at fault in the data of each variant
+-- the faults in the data of each variant
 abbrev pub fault_and : (Reason → ℕ → List ℕ → Type 0) → (ℕ → Reason → ℕ → List ℕ → Type 0) → ℕ → Reason → ℕ → List ℕ → Type 0
 fault_and first_fault rest_faults zero = first_fault
 fault_and first_fault rest_faults (suc place) = rest_faults place
@@ -71,7 +71,7 @@ faults_behind zero first_faults second_faults place = second_faults place
 faults_behind (suc number) first_faults second_faults zero = first_faults zero
 faults_behind (suc number) first_faults second_faults (suc place) = faults_behind number (λ n. first_faults (suc n)) (λ n. second_faults (suc n)) place
 
--- the payloads of a variant are at fault, behind those of the variants before it
+-- a fault in the payloads of a variant, after those of the variants before it
 abbrev pub PayloadsFault : Shapes → (ℕ → Reason → ℕ → List ℕ → Type 0) → Reason → (first : ℕ) (variants input : List ℕ) → Type 0
 PayloadsFault no_shapes faults reason first variants input = ⊥
 PayloadsFault (shape_and s ss) faults reason first variants input =

@@ -1,4 +1,4 @@
--- What is said of a payload of some variant is said of the variants together.
+-- A statement about the payload of one variant, as a statement about all variants.
 use Rattle.std.proofs.Common.{◌≡◌, ℕ, zero, suc, ◌+◌, ◌-◌, ◌<◌, ◌≤◌, Bool, List, [], ◌∷◌, ◌++◌, length, map, inl, inr, refl, sym, ap₂, ◌∙◌, arith}
 use Rattle.std.proofs.lemmas.Bool.{eqb-true}
 use Rattle.std.proofs.lemmas.List.{length-append}
@@ -58,7 +58,7 @@ either_taken index makes_a makes_r takes rest (inr r) old new h =
     let later = rest r old new h in
     record { datum = later.datum; taken = later.taken; made = later.made }
 
--- ---- values that stand for payloads
+-- ---- values that correspond to payloads
 
 module _ {T V : Type 0} (payload : T → V) where
   pub image_joined : (index : V → ℕ) (lists : V → ℕ → Datum → Type 0) (t : T) {s : Shape} {old new : Columns} → JoinsListing (λ v d. lists v (index v) d) s (payload t) old new
@@ -84,7 +84,7 @@ each_has_payloads (shape_and s ss) (c ∷ cs) form first =
     let later : map emptied cs ≡ bare_columns ss = cc in
     first_has_payloads s ss c (all_columns cs) here (each_has_payloads ss cs later) first
 
--- ---- variants that follow each other
+-- ---- consecutive variants
 
 pub not_past : (first count : ℕ) → first ≤ first + count
 not_past first count = omega arith
@@ -92,9 +92,9 @@ not_past first count = omega arith
 pub size_between : (first count : ℕ) → count ≡ (first + count) - first
 size_between first count = omega arith
 
--- ---- some variants, and others behind them
+-- ---- one group of variants, followed by another
 
--- what the two parts of the variants say of themselves, and that the second begins where the first ends
+-- what both groups state about themselves, and that the second begins where the first ends
 module _ (first_start first_end second_start second_end : ℕ) (first second : Bool) (first_ordered : IsTrue first → first_start ≤ first_end) (second_ordered : IsTrue second → second_start ≤ second_end) where
   pub record AreInTurn : Type 0 where
     pub of_first : IsTrue first

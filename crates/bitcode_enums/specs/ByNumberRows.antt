@@ -1,4 +1,4 @@
--- Worked rows: what an enum of three variants says of them, computed from the definitions.
+-- Worked examples: what an enum of three variants states about them, computed from the definitions.
 use Rattle.std.specs.Prelude.{◌≡◌, ℕ, List, [], ◌∷◌, false, pos, refl}
 use Rattle.bitcode_columns.specs.declared.error.Reason.{Reason}
 use Rattle.bitcode_shapes.specs.Datum.{number, unit}
@@ -55,7 +55,7 @@ row_payload = refl
 row_none : PayloadAt payloads 3 ≡ ⊥
 row_none = refl
 
--- ---- what a value lists, and what it joins to the columns of its variant
+-- ---- what a value lists, and what it adds to the columns of its variant
 
 row_lists : shots.lists (hit 7) 1 (number (pos 7))
 row_lists = refl
@@ -66,7 +66,7 @@ row_lists_nothing = refl
 row_joins : (old new : Columns) → shots.joins (fell 7) old new ≡ JoinsListing byte.lists byte.shape 7 old new
 row_joins old new = refl
 
--- ---- by place
+-- ---- by index
 
 row_place : (c d : Columns) → columns_at 1 (c ∷ d ∷ []) ≡ d
 row_place c d = refl

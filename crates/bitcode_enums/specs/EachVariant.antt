@@ -1,4 +1,5 @@
--- What an enum says of its variants, one by one: the payloads of each, which payload a value has, and which value has a payload.
+-- What an enum states about its variants, one by one: the payloads of each, the payload of a value, and the value of a
+-- payload.
 use Rattle.std.proofs.Common.{◌≡◌, ℕ, zero, suc, inl, inr, ap}
 use Rattle.std.specs.Prelude.{◌⊎◌}
 use Rattle.bitcode_shapes.specs.Choices.{IsVariantValue, SameVariant}
@@ -11,7 +12,7 @@ pub data Payloads : Type 1 where
   last_payload : {A : Type 0} → PayloadOf A → Payloads
   payload_and : {A : Type 0} → PayloadOf A → Payloads → Payloads
 
--- the payloads of the variant of a number
+-- the payloads of the variant with a number
 abbrev pub PayloadAt : Payloads → ℕ → Type 0
 PayloadAt (last_payload {A} a) zero = A
 PayloadAt (last_payload a) (suc number) = ⊥
@@ -37,7 +38,7 @@ pub laws_with : (payloads : Payloads) → VariantLaws (variants_with payloads)
 laws_with (last_payload a) = last_variant_laws a
 laws_with (payload_and a rest) = first_variant_laws a (variants_with rest) (laws_with rest)
 
--- payloads of each variant that are the same are one
+-- for each variant, payloads that are the same are equal in every respect
 abbrev pub EachIsOne : Payloads → Type 0
 EachIsOne (last_payload a) = SameIsOne a.is_value a.same
 EachIsOne (payload_and a rest) = SameIsOne a.is_value a.same × EachIsOne rest
@@ -53,20 +54,20 @@ pub some_payload_is_one : (payloads : Payloads) → EachIsOne payloads → SameI
 some_payload_is_one (last_payload a) one = one
 some_payload_is_one (payload_and a rest) one = some_is_one one.0 (some_payload_is_one rest one.1)
 
--- ---- an enum whose values stand for such payloads
+-- ---- an enum whose values correspond to such payloads
 
--- which value has a payload: of each variant a function of its payloads
+-- the value with a payload: for each variant a function of its payloads
 abbrev pub HasEach : {T V : Type 0} → (T → V) → (payloads : Payloads) → (SomePayload payloads → V) → Type 0
 HasEach {T = T} payload (last_payload {A} a) within = (p : A) → (t : T) × (payload t ≡ within p)
 HasEach {T = T} payload (payload_and {A} a rest) within = ((p : A) → (t : T) × (payload t ≡ within (inl p))) × HasEach payload rest (λ r. within (inr r))
 
--- the value that has a payload
+-- the value with a payload
 abbrev pub value_of : {T V : Type 0} (payload : T → V) (payloads : Payloads) (within : SomePayload payloads → V) → HasEach payload payloads within → (p : SomePayload payloads) → (t : T) × (payload t ≡ within p)
 value_of payload (last_payload a) within each p = each p
 value_of payload (payload_and a rest) within each (inl p) = each.0 p
 value_of payload (payload_and a rest) within each (inr r) = value_of payload rest (λ s. within (inr s)) each.1 r
 
--- these are not unfolded: the laws of two enums are compared by what they are of
+-- these are not unfolded: the laws of two enums are compared by their arguments
 pub each_laws : {T : Type 0} (payloads : Payloads) (payload : T → SomePayload payloads) → HasEach payload payloads (λ p. p) → VariantLaws (variants_of (variants_with payloads) payload)
 each_laws payloads payload each = laws_of (variants_with payloads) payload (value_of payload payloads (λ p. p) each) (laws_with payloads)
 
@@ -81,7 +82,7 @@ pub record EachVariant (T : Type 0) : Type 1 where
   pub laws : VariantLaws variants
   -- the value found for the payload of a value
   pub found : T → T
-  -- payloads that are the same are one, for each variant
+  -- payloads that are the same are equal in every respect, for each variant
   pub payloads_are_one : Type 0
   pub one_found : payloads_are_one → (t u : T) → variants.is_value t → variants.is_value u → variants.same t u → found t ≡ found u
 

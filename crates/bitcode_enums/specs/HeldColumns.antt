@@ -7,10 +7,10 @@ use Rattle.bitcode_coder.specs.Columns.{Columns}
 pub record HeldColumns (E : Type 0) : Type 0 where
   -- the columns of each variant
   pub lists : E → List Columns
-  -- how many entries they have memory for
+  -- how many entries fit in their memory
   pub capacity : E → ℕ
 
--- of what has these as a part
+-- for a type that contains these
 abbrev pub columns_in : {C E : Type 0} → (C → E) → HeldColumns E → HeldColumns C
 columns_in part held = record {
   lists = λ c. held.lists (part c);
@@ -18,16 +18,16 @@ columns_in part held = record {
 }
 
 pub record HeldPayloads (D : Type 0) : Type 1 where
-  -- the payloads of each variant that are left to take
+  -- the remaining payloads of each variant
   pub lists : D → List (List Datum)
-  -- how many entries they have memory of their own for
+  -- how many entries fit in the memory that they own
   pub owned : D → ℕ
-  -- such a refusal names what is first at fault when so many payloads of the variant of a number are read from such an input
+  -- such an error reports the first fault of reading so many payloads, of the variant with a number, from such an input
   pub faults : ℕ → Reason → ℕ → List ℕ → Type 0
-  -- making a value takes no memory
+  -- making a value does not allocate
   pub makes_free : Bool
 
--- of what has these as a part
+-- for a type that contains these
 abbrev pub payloads_in : {D E : Type 0} → (E → D) → HeldPayloads D → HeldPayloads E
 payloads_in part held = record {
   lists = λ e. held.lists (part e);

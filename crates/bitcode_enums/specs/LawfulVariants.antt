@@ -1,4 +1,4 @@
--- Variants whose payloads stand for those of lawful variants are lawful, and an enum of some lawful variants is.
+-- Variants whose payloads correspond to those of lawful variants are lawful, and so is an enum of some lawful variants.
 use Rattle.std.proofs.Common.{◌≡◌, ℕ, ◌<◌, ◌≤◌, Bool, sym, subst, inl, inr, lit<, arith}
 use Rattle.std.specs.Prelude.{◌⊎◌}
 use Rattle.bitcode_shapes.specs.Datum.{Datum}
@@ -21,7 +21,7 @@ pub below_either : {A R : Type 0} (s : Shape) (ss : Shapes) (index : R → ℕ) 
 below_either s ss index below (inl a) = omega arith
 below_either s ss index below (inr r) = let later = below r in omega arith
 
--- ---- payloads that stand for others
+-- ---- payloads that correspond to others
 
 module _ {T U : Type 0} (stands_for : T → U) {shapes : Shapes} {is_value : U → Type 0} {lists : U → ℕ → Datum → Type 0} {same : U → U → Type 0} where
   pub variants_image_lawful : {order : Bool} → LawfulVariants shapes is_value lists same order
@@ -53,7 +53,7 @@ pub variants_image_same_arrays : {T U : Type 0} (stands_for : T → U) {shapes :
     → VariantsListSameArrays shapes (λ t. is_value (stands_for t)) (λ t i d. lists (stands_for t) i d)
 variants_image_same_arrays stands_for of_image = record { at = λ t i j d e h l m. of_image.at (stands_for t) i j d e h l m }
 
--- ---- choices of a number of variants that enums have
+-- ---- choices with a number of variants that enums may have
 
 pub some_choices_lawful : {T : Type 0} {shapes : Shapes} {is_value : T → Type 0} {lists : T → ℕ → Datum → Type 0} {same : T → T → Type 0} {order : Bool} {count : ℕ}
     → variant_count shapes ≡ count → AreSomeVariants count → LawfulVariants shapes is_value lists same order

@@ -1,4 +1,4 @@
--- What is made of the payload of one of a few variants.
+-- What the payload of one of a few variants makes.
 use Rattle.bitcode_enums.specs.declared.variants.of_2.OneOf2.{OneOf2}
 use Rattle.bitcode_enums.specs.declared.variants.of_3.OneOf3.{OneOf3}
 use Rattle.bitcode_enums.specs.declared.variants.of_4.OneOf4.{OneOf4}

@@ -1,5 +1,6 @@
--- What is said of the values of several variants, and what is promised of that: of the last variant, of the first beside the rest, and of
--- a type whose values stand for payloads. And what is said of the variant of a number.
+-- What is stated about the values of several variants, and the laws of these statements: for the last variant, for the
+-- first one and the rest, and for a type whose values correspond to payloads. And what is stated about the variant with
+-- a number.
 use Rattle.std.proofs.Common.{◌≡◌, ℕ, ◌<◌, Bool}
 use Rattle.std.specs.Prelude.{◌&&◌, List, ◌⊎◌}
 use Rattle.bitcode_shapes.specs.Datum.{Datum}
@@ -15,7 +16,8 @@ use Rattle.bitcode_enums.specs.LawfulVariants.{below_last, below_either, variant
 use Rattle.bitcode_enums.specs.ByNumber.{shape_at, index_either, joins_either, overflows_either, takes_either}
 use Rattle.bitcode_enums.specs.ByNumberLaws.{last_joined, last_overflowed, last_taken, either_joined, either_overflowed, either_taken, image_joined, image_overflowed, image_taken}
 
--- values of several variants: which variant one is of, what its payload holds and is made of, and how it is written and read
+-- values of several variants: the variant of a value, what its payload holds and is made from, and how it is written
+-- and read
 pub record VariantsOf (T : Type 0) : Type 1 where
   pub shapes : Shapes
   pub is_value : T → Type 0
@@ -24,14 +26,14 @@ pub record VariantsOf (T : Type 0) : Type 1 where
   pub in_order : Bool
   pub index : T → ℕ
   pub makes : ℕ → Datum → T → Type 0
-  -- the payload was joined to the columns of its variant
+  -- the payload was added to the columns of its variant
   pub joins : T → Columns → Columns → Type 0
-  -- with the payload some number of arrays in those columns is no length
+  -- with the payload some number of arrays in those columns does not fit in a length
   pub overflows : T → Columns → Type 0
   -- the payload was taken from the data of its variant
   pub takes : T → List Datum → List Datum → Type 0
 
--- what is promised of them
+-- their laws
 pub record VariantLaws {T : Type 0} (vs : VariantsOf T) : Type 0 where
   pub below : (t : T) → vs.index t < variant_count vs.shapes
   pub lawful : LawfulVariants vs.shapes vs.is_value vs.lists vs.same vs.in_order
@@ -95,7 +97,7 @@ first_variant_laws a r laws = record {
   taken = either_taken r.index a.makes r.makes r.takes laws.taken;
 }
 
--- ---- a type whose values stand for such payloads, one for one
+-- ---- a type whose values correspond to such payloads, one to one
 
 abbrev pub variants_of : {T V : Type 0} → VariantsOf V → (payload : T → V) → VariantsOf T
 variants_of v payload = record {
@@ -122,9 +124,10 @@ laws_of v payload find laws = record {
   taken = λ t old new h. image_taken payload v.makes t (laws.taken (payload t) old new h);
 }
 
--- ---- the variant of a number
+-- ---- the variant with a number
 
--- the variant of a number has payloads of such a shape; `value` is its value with a payload, and what is said of the payload is said of that
+-- the variant with a number has payloads of such a shape; `value` is its value with a payload, and a statement about
+-- the payload holds for that value
 pub record IsVariant {T P : Type 0} (vs : VariantsOf T) (number : ℕ) (shape : Shape) (lists : P → Datum → Type 0) (makes : Datum → P → Type 0) (value : P → T) : Type 0 where
   pub has_shape : shape_at number vs.shapes ≡ shape
   pub is_of : (p : P) → vs.index (value p) ≡ number

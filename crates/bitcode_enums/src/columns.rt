@@ -1,4 +1,4 @@
-//! The columns that the payloads of an enum's variants are written to, by the numbers of the variants.
+//! The columns of the payloads of an enum, by the numbers of the variants.
 ghost use Rattle.std.specs.Prelude.{◌≡◌, ℕ, ◌-◌, ◌<◌, ◌≤◌, ◌++◌, Bool, map, length, IsTrue, OnOk, IfErr};
 ghost use Rattle.bitcode_columns.specs.declared.error.Reason.{Reason};
 ghost use Rattle.bitcode_coder.specs.Columns.{no_columns, emptied};
@@ -10,8 +10,8 @@ ghost use Rattle.bitcode_enums.specs.ByNumber.{columns_at, KeepsOthers};
 use bitcode_columns::error::{Error, Reason};
 use std::alloc::Global;
 
-/// The columns of the payloads of variants that follow each other, an encoder for each variant: `Encoders2` to `Encoders6`, and
-/// [`Halves`](crate::halves::Halves) of these.
+/// The columns of the payloads of consecutive variants, with one encoder for each variant: `Encoders2` to `Encoders6`,
+/// and [`Halves`](crate::halves::Halves) of these.
 ///
 /// ```
 /// let mut columns: EncodersOf2<At<0>, (), u8> = VariantColumns::new(alloc);
@@ -31,7 +31,7 @@ pub trait VariantColumns {
     // what they hold
     ghost columns: { HeldColumns Self };
 
-    /// Columns without entries. Takes no memory.
+    /// Creates empty columns without allocating.
     fn new(alloc: Global) -> Self
         ensures empty { columns.lists result ≡ map emptied (columns.lists result) }
         ensures capacity { columns.capacity result ≡ 0 };
@@ -40,7 +40,7 @@ pub trait VariantColumns {
     fn first(&self) -> usize
         ensures { result ≡ first };
 
-    /// Writes the columns of the variant of a number behind `out`, and leaves them empty. As `Buffer::collect_into`.
+    /// Appends the columns of the variant with this number to `out`, and empties them, as `Buffer::collect_into` does.
     fn collect_payloads(&mut self, number: usize, out: &mut Vec<u8>) -> Result<(), Error>
         requires turn { IsTrue in_turn }
         requires known { (first ≤ number) × (number < end) }
@@ -51,7 +51,7 @@ pub trait VariantColumns {
         ensures form { emptied (columns_at (number - first) (columns.lists self.new)) ≡ emptied (columns_at (number - first) (columns.lists self.old)) }
         ensures refused { IfErr result (λ e. e.reason ≡ Reason.OutOfMemory) };
 
-    /// Drops all entries of the variant of a number. Takes no memory.
+    /// Drops all entries of the variant with this number without allocating.
     fn clear_payloads(&mut self, number: usize)
         requires turn { IsTrue in_turn }
         requires known { (first ≤ number) × (number < end) }
@@ -66,9 +66,9 @@ pub trait VariantColumns {
     ghost sized: { IsTrue in_turn → (e : Self) → length (columns.lists e) ≡ end - first };
 }
 
-/// The columns of the payloads of all `N` variants of an enum, by a struct of the enum's own.
+/// The columns of the payloads of all `N` variants of an enum, as a struct that belongs to this enum.
 ///
-/// Its functions are those of these columns, called for one enum. So what writes values of it needs nothing of their payloads' types.
+/// It forwards each call to the columns of the enum. So code that writes values does not depend on the payload types.
 ///
 /// ```rust,from:crates/bitcode_own_types/src/two.rt
 /// #[derive(Drop)]
@@ -100,12 +100,12 @@ pub trait AllColumns<const N: usize> {
     // what they hold
     ghost held: { HeldColumns Self };
 
-    /// Columns without entries. Takes no memory.
+    /// Creates empty columns without allocating.
     fn new(alloc: Global) -> Self
         ensures empty { held.lists result ≡ map emptied (held.lists result) }
         ensures capacity { held.capacity result ≡ 0 };
 
-    /// Writes the columns of the variant of a number behind `out`, and leaves them empty. As `Buffer::collect_into`.
+    /// Appends the columns of the variant with this number to `out`, and empties them, as `Buffer::collect_into` does.
     fn collect(&mut self, number: usize, out: &mut Vec<u8>) -> Result<(), Error>
         requires { number < N }
         ensures others { KeepsOthers no_columns number (held.lists self.old) (held.lists self.new) }
@@ -115,7 +115,7 @@ pub trait AllColumns<const N: usize> {
         ensures form { emptied (columns_at number (held.lists self.new)) ≡ emptied (columns_at number (held.lists self.old)) }
         ensures refused { IfErr result (λ e. e.reason ≡ Reason.OutOfMemory) };
 
-    /// Drops all entries of the variant of a number. Takes no memory.
+    /// Drops all entries of the variant with this number without allocating.
     fn clear(&mut self, number: usize)
         requires { number < N }
         ensures others { KeepsOthers no_columns number (held.lists self.old) (held.lists self.new) }

@@ -1,4 +1,4 @@
-//! The decoder of enums by number: all variants are read, and then the payloads of each.
+//! The decoder of enums: it reads all variants, and then the payloads of each variant.
 ghost use Rattle.std.specs.Prelude.{◌+◌, refl};
 ghost use Rattle.bitcode_shapes.specs.Shape.{choice_shape};
 ghost use Rattle.bitcode_parts.specs.Payloads.{choices_of};
@@ -14,7 +14,7 @@ use bitcode_parts::choices::variant::VariantDecoder;
 use std::alloc::Global;
 use std::marker::PhantomData;
 
-/// The decoder of an enum of `N` variants, 2 to 256: it reads the variants, and then the payloads of each.
+/// The decoder of an enum of `N` variants, 2 to 256. It reads the variants, and then the payloads of each variant.
 ///
 /// ```
 /// let mut shots: EnumDecoder<2, Shot, ShotPayloads> = EnumDecoder::new(alloc);

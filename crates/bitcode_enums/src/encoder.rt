@@ -1,4 +1,4 @@
-//! The encoder of enums: the variants, and behind them the payloads of each.
+//! The encoder of enums: the variants, followed by the payloads of each variant.
 ghost use Rattle.std.specs.Prelude.{◌≡◌, ◌+◌, ◌<◌, false};
 ghost use Rattle.bitcode_parts.specs.Variants.{written_variants, variant_room, variant_capacity};
 ghost use Rattle.bitcode_enums.specs.ByNumber.{all_columns};
@@ -17,8 +17,8 @@ use bitcode_parts::choices::gathered::{SaysVariant, gather_variants};
 use bitcode_parts::choices::variant::VariantEncoder;
 use std::alloc::Global;
 
-/// The columns of an enum of `N` variants, 2 to 256: its variants, and behind them the columns of its payloads, which `C` has by the numbers
-/// of the variants.
+/// The columns of an enum of `N` variants, 2 to 256: the variants, followed by the columns of the payloads, which `C`
+/// holds by variant number.
 ///
 /// ```
 /// let mut shots: EnumEncoder<2, ShotColumns> = EnumEncoder::new(alloc);

@@ -1,4 +1,4 @@
-//! The coders of variants that follow each other, as those of some of them and of those behind these.
+//! The coders of consecutive variants, as two groups.
 ghost use Rattle.std.specs.Prelude.{◌+◌, ◌++◌, ◌&&◌, ◌==◌};
 ghost use Rattle.bitcode_enums.specs.ByNumber.{faults_behind};
 ghost use Rattle.bitcode_enums.specs.ByNumberLaws.{parts_ordered, parts_sized};
@@ -10,9 +10,11 @@ use crate::writes::WritesVariants;
 use bitcode_columns::error::Error;
 use std::alloc::Global;
 
-/// Puts the coders of some variants and those of the variants behind them together: the columns of both, or the payloads of both.
+/// Combines the coders of some variants with those of the next ones: the columns of both groups, or the payloads of
+/// both.
 ///
-/// An enum of many variants has coders for each few of them, and these in twos: `Halves<Halves<A, B>, Halves<C, D>>`.
+/// An enum of many variants has coders for small groups of them, combined two by two:
+/// `Halves<Halves<A, B>, Halves<C, D>>`.
 #[derive(Drop)]
 pub struct Halves<F, S> {
     first: F,

@@ -1,4 +1,4 @@
-//! What an enum with fields corresponds to: a struct that holds a value of it, lawful where its payloads are.
+//! The struct that an enum with fields corresponds to. It holds one value, and is lawful if the payloads are.
 ghost use Rattle.std.specs.Prelude.{◌≡◌, refl};
 ghost use Rattle.bitcode_shapes.specs.Datum.{Datum};
 ghost use Rattle.bitcode_shapes.specs.BareVariants.{AreSomeVariants};
@@ -17,7 +17,7 @@ use bitcode_shapes::shaped::{Made, Shaped};
 use bitcode_shapes::stands_for::{HeldIn, Holds};
 use bitcode_tuples::fields::Fields;
 
-/// An enum of 2 to 256 variants, which are numbered from 0 on in the order in which they stand.
+/// An enum of 2 to 256 variants, numbered from 0 in the order of their declaration.
 ///
 /// ```rust,from:crates/bitcode_own_types/src/two.rt
 /// impl Enum for Two {
@@ -50,7 +50,7 @@ pub trait Enum {
     // there are 2 to 256 variants
     ghost sized: { AreSomeVariants (variant_count each.variants.shapes) };
 
-    /// The number of the variant that the value is of. A value in hand is one, as `told` of its fields says.
+    /// The number of the value's variant. The value satisfies its type's invariant, by `told` of its fields.
     fn variant(&self) -> u8
         ensures number { result ≡ each.variants.index self.now }
         ensures value { each.variants.is_value self.now };
@@ -59,13 +59,13 @@ pub trait Enum {
     ghost one_to_one: { (t : Self) → each.found t ≡ t };
 }
 
-/// An enum of `N` variants: it says how many there are. It has no functions.
+/// An enum of `N` variants. It states this number, and has no functions.
 pub trait EnumOf<const N: usize>: Enum {
     // there are `N`
     ghost count: { variant_count Self.Enum.each.variants.shapes ≡ N };
 }
 
-/// An enum of `N` variants that is lawful as such: it says so by `HeldIn`. It has no functions.
+/// An enum of `N` variants that gets its laws from `HeldIn`. It has no functions.
 pub trait EnumShaped<const N: usize>: EnumOf<N> + Shaped {
     ghost has_shape: { Self.shape ≡ choice_shape Self.Enum.each.variants.shapes };
 
@@ -78,15 +78,15 @@ impl<const N: usize, T: EnumOf<N> + HeldIn<Holder = Held<N, T>>> EnumShaped<N> f
     ghost lists_variants = { λ t d listed. record { index = listed.index; payload = listed.payload; is = listed.is; lists_payload = listed.lists_payload } };
 }
 
-/// Two values that are the same are one, where payloads that are the same are one: what is read back of such an enum is the very value that
-/// was written.
+/// Two values that are the same are equal in every respect, if that is true for their payloads. Then decoding such an
+/// enum gives exactly the value that was encoded.
 pub fn told_by_payload<T: Enum>(t: &T, u: &T)
     ensures { T.each.payloads_are_one → T.each.variants.same t.now u.now → t.now ≡ u.now }
 {
     let _numbers = (t.variant(), u.variant());
 }
 
-/// A number, of a variant whose fields are values.
+/// Returns the number of a variant whose fields satisfy their types' invariants.
 ///
 /// ```rust,from:crates/bitcode_own_types/src/two.rt
 /// Two::B(a) => told_as(1, &a),
@@ -99,8 +99,8 @@ pub fn told_as<F: Fields>(number: u8, fields: &F) -> u8
     number
 }
 
-/// What an enum of `N` variants corresponds to: a struct that holds one value of it. Its laws follow from what the enum says of its variants, and the
-/// enum has them by `HeldIn`.
+/// The struct that an enum of `N` variants corresponds to. It holds one value. Its laws follow from what the enum
+/// states about its variants, and the enum gets them by `HeldIn`.
 #[derive(Drop)]
 pub struct Held<const N: usize, T> {
     value: T,

@@ -1,4 +1,4 @@
-//! Enums with fields: what one corresponds to, which makes it lawful, and its coders, by the numbers of the variants.
+//! Enums with fields: the struct that makes one lawful, and its coders, by the numbers of the variants.
 #![tactic(auto)]
 
 pub mod columns;

@@ -1,4 +1,4 @@
-//! The columns of the payloads of all variants of an enum, one variant behind the other.
+//! The columns of the payloads of all variants of an enum, one variant after another.
 ghost use Rattle.std.specs.Prelude.{◌≡◌, OnOk, IfErr};
 ghost use Rattle.bitcode_coder.specs.Columns.{emptied};
 ghost use Rattle.bitcode_coder.specs.Coder.{endless_room, IsWritingRefusal};
@@ -12,7 +12,7 @@ use bitcode_coder::coder::{Buffer, HoldsColumns};
 use bitcode_columns::error::Error;
 use std::alloc::Global;
 
-/// The columns of the payloads of an enum, those of the first variant first. `C` has them by the numbers of the variants.
+/// The columns of the payloads of an enum, those of the first variant first. `C` holds them by variant number.
 ///
 /// ```
 /// let mut payloads: PayloadColumns<2, ShotColumns> = PayloadColumns::new(alloc);
@@ -63,9 +63,9 @@ impl<const N: usize, C: AllColumns<N>> Buffer for PayloadColumns<N, C> {
 }
 
 impl<const N: usize, C: AllColumns<N>> PayloadColumns<N, C> {
-    /// Makes room for the payload of a value in the columns of its variant, and joins its columns to those.
+    /// Reserves room for the payload of a value in the columns of its variant, and adds the payload to them.
     ///
-    /// It refuses as [`WritesPayloads::write_payload`] does.
+    /// Errors: those of [`WritesPayloads::write_payload`].
     pub fn encode_payload<T: WritesPayloads<N, C>>(&mut self, t: &T) -> Result<(), Error>
         ensures joined { OnOk result (JoinsVariant T.each.variants.index T.each.variants.lists T.each.variants.shapes t.now (all_columns (C.held.lists self.old.columns)) (all_columns (C.held.lists self.new.columns))) }
         ensures form { emptied (all_columns (C.held.lists self.new.columns)) ≡ emptied (all_columns (C.held.lists self.old.columns)) }

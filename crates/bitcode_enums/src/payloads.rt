@@ -1,4 +1,4 @@
-//! The payloads that values of an enum are made of, by the numbers of the variants.
+//! The payloads from which values of an enum are made, by the numbers of the variants.
 ghost use Rattle.std.specs.Prelude.{◌≡◌, ℕ, ◌-◌, ◌<◌, ◌≤◌, Bool, [], map, length, IsTrue, IsOk, IfOk, OnOk, IfErr, OnErr};
 ghost use Rattle.bitcode_columns.specs.declared.error.Reason.{Reason};
 ghost use Rattle.bitcode_columns.specs.Reading.{Reads, IsEndOf};
@@ -13,8 +13,8 @@ use crate::held::{Enum, EnumOf};
 use bitcode_columns::error::{Error, Reason};
 use std::alloc::Global;
 
-/// The data of the payloads of variants of `T` that follow each other, a decoder for each variant: `Decoders2` to `Decoders6`, and
-/// [`Halves`](crate::halves::Halves) of these.
+/// The data of the payloads of consecutive variants of `T`, with one decoder for each variant: `Decoders2` to
+/// `Decoders6`, and [`Halves`](crate::halves::Halves) of these.
 ///
 /// ```
 /// let mut payloads: DecodersOf2<'_, At<0>, (), u8> = VariantPayloads::<Shot>::new(alloc);
@@ -31,10 +31,10 @@ pub trait VariantPayloads<'a, T: Enum> {
     // whether these variants follow each other without a gap
     ghost in_turn: { Bool };
 
-    // what is left to take, and what may be at fault in it
+    // the remaining payloads, and the possible faults
     ghost held: { HeldPayloads Self };
 
-    /// Holds nothing. Takes no memory.
+    /// Creates an empty decoder without allocating.
     fn new(alloc: Global) -> Self
         ensures empty { held.lists result ≡ map (λ payloads. []) (held.lists result) }
         ensures owned { held.owned result ≡ 0 };
@@ -43,7 +43,7 @@ pub trait VariantPayloads<'a, T: Enum> {
     fn first(&self) -> usize
         ensures { result ≡ first };
 
-    /// Reads `k` payloads of the variant of a number from the front of the input. As `View::read`.
+    /// Reads `k` payloads of the variant with this number from the front of the input, as `View::read` does.
     fn read_payloads(
         &mut self,
         number: usize,
@@ -60,9 +60,9 @@ pub trait VariantPayloads<'a, T: Enum> {
         ensures exact { IfErr result (λ e. held.faults number e.reason k input.old.now) }
         ensures rest { OnErr result (IsEndOf input.old.now input.new.now) };
 
-    /// Makes a value of the variant of a number and of the next payload of that variant. At least one payload has to be left.
+    /// Makes a value of the variant with this number from its next payload. At least one must be left.
     ///
-    /// `out of memory` is its only refusal.
+    /// The only error is `out of memory`.
     fn decode_payload(&mut self, number: usize) -> Result<T, Error>
         requires turn { IsTrue in_turn }
         requires known { (first ≤ number) × (number < end) }
@@ -73,16 +73,16 @@ pub trait VariantPayloads<'a, T: Enum> {
         ensures refused { IfErr result (λ e. e.reason ≡ Reason.OutOfMemory) }
         ensures free { IsTrue held.makes_free → IsOk result };
 
-    /// There is a list of payloads for each of the variants. Does nothing; its contract is for proofs.
+    /// There is a list of payloads for each of the variants. It does nothing; its contract is for proofs.
     fn sized(&self)
         requires turn { IsTrue in_turn }
         ensures ordered { first ≤ end }
         ensures sized { length (held.lists self.now) ≡ end - first };
 }
 
-/// The data of the payloads of all variants of `T`, by a struct of the enum's own.
+/// The data of the payloads of all variants of `T`, as a struct that belongs to this enum.
 ///
-/// Its functions are those of these data, called for one enum. So what reads values of it needs nothing of their payloads' types.
+/// It forwards each call to the payloads of the enum. So code that reads values does not depend on the payload types.
 ///
 /// ```rust,from:crates/bitcode_own_types/src/two.rt
 /// #[derive(Drop)]
@@ -117,15 +117,15 @@ pub trait VariantPayloads<'a, T: Enum> {
 /// }
 /// ```
 pub trait AllPayloads<'a, const N: usize, T: EnumOf<N>> {
-    // what is left to take, and what may be at fault in it
+    // the remaining payloads, and the possible faults
     ghost held: { HeldPayloads Self };
 
-    /// Holds nothing. Takes no memory.
+    /// Creates an empty decoder without allocating.
     fn new(alloc: Global) -> Self
         ensures empty { held.lists result ≡ map (λ payloads. []) (held.lists result) }
         ensures owned { held.owned result ≡ 0 };
 
-    /// Reads `k` payloads of the variant of a number from the front of the input. As `View::read`.
+    /// Reads `k` payloads of the variant with this number from the front of the input, as `View::read` does.
     fn read_at(
         &mut self,
         number: usize,
@@ -141,9 +141,9 @@ pub trait AllPayloads<'a, const N: usize, T: EnumOf<N>> {
         ensures exact { IfErr result (λ e. held.faults number e.reason k input.old.now) }
         ensures rest { OnErr result (IsEndOf input.old.now input.new.now) };
 
-    /// Makes a value of the variant of a number and of the next payload of that variant. At least one payload has to be left.
+    /// Makes a value of the variant with this number from its next payload. At least one must be left.
     ///
-    /// `out of memory` is its only refusal.
+    /// The only error is `out of memory`.
     fn decode_at(&mut self, number: usize) -> Result<T, Error>
         requires known { number < N }
         requires left { 0 < length (payloads_of number (held.lists self.old)) }
@@ -153,7 +153,7 @@ pub trait AllPayloads<'a, const N: usize, T: EnumOf<N>> {
         ensures refused { IfErr result (λ e. e.reason ≡ Reason.OutOfMemory) }
         ensures free { IsTrue held.makes_free → IsOk result };
 
-    /// There is a list of payloads for each variant. Does nothing; its contract is for proofs.
+    /// There is a list of payloads for each variant. It does nothing; its contract is for proofs.
     fn sized(&self)
         ensures { length (held.lists self.now) ≡ N };
 }

@@ -1,7 +1,7 @@
-//! Numbers of variants, as types: coders say by them which variants they are of.
+//! Variant numbers as types, which tell coders the numbers of their variants.
 ghost use Rattle.std.specs.Prelude.{◌≡◌, ℕ};
 
-/// Says the number of the first of some variants, for their coders: [`At`].
+/// The number of the first variant of a group, as a type for the coders of the group: [`At`].
 ///
 /// ```text
 /// let first = O::first(); // of any `O: Place`
@@ -15,7 +15,7 @@ pub trait Place {
         ensures { result ≡ first };
 }
 
-/// Says that a group of variants begins with the one of the number `FIRST`. It is a type alone, and has no values.
+/// A group of variants that begins with the number `FIRST`. The type has no values.
 ///
 /// ```rust
 /// assert_eq!(rt; At::<7>::first(), 7);

@@ -1,4 +1,4 @@
-//! Two to six variants that follow each other: their encoders and their decoders.
+//! Groups of two to six consecutive variants: their encoders and their decoders.
 pub mod of_2;
 pub mod of_3;
 pub mod of_4;

@@ -1,4 +1,4 @@
-//! Enums that write the payloads of their variants, by the numbers of these.
+//! Enums that write the payloads of their variants, by variant number.
 ghost use Rattle.std.specs.Prelude.{◌≡◌, ◌-◌, ◌<◌, ◌≤◌, map, IsTrue, OnOk, IfErr};
 ghost use Rattle.bitcode_coder.specs.Columns.{no_columns, emptied};
 ghost use Rattle.bitcode_coder.specs.Coder.{IsWritingRefusal, JoinsListing, OverflowsWithListing};
@@ -11,8 +11,8 @@ use bitcode_columns::error::Error;
 use bitcode_shapes::shaped::Shaped;
 use bitcode_tuples::fields::{Fields, FieldsEncoder};
 
-/// An enum that writes the payloads of variants which follow each other, to the columns of these: it says how to each group of up to six variants, and
-/// the library to [`Halves`](crate::halves::Halves) of these.
+/// An enum that writes the payloads of consecutive variants to their columns. The enum implements it for each group of
+/// up to six variants, and the library for [`Halves`](crate::halves::Halves) of these.
 ///
 /// ```rust,from:crates/bitcode_own_types/src/two.rt
 /// impl WritesVariants<Columns> for Two {
@@ -25,10 +25,10 @@ use bitcode_tuples::fields::{Fields, FieldsEncoder};
 /// }
 /// ```
 pub trait WritesVariants<C: VariantColumns>: Enum {
-    /// Makes room for the payload of a value of these variants in the columns of its variant, and joins its columns to those.
+    /// Reserves room for the payload of a value of these variants, and adds the payload to the columns of its variant.
     ///
-    /// Want of memory is `out of memory`, and `length overflow` comes only where a number of arrays times their size is
-    /// over 18446744073709551615.
+    /// If an allocation fails, the error is `out of memory`. The error `length overflow` means that a number of arrays
+    /// times their size exceeds 18446744073709551615.
     fn write(&self, to: &mut C) -> Result<(), Error>
         requires turn { IsTrue C.in_turn }
         requires among { (C.first ≤ Self.each.variants.index self.now) × (Self.each.variants.index self.now < C.end) }
@@ -50,9 +50,9 @@ pub trait WritesVariants<C: VariantColumns>: Enum {
 /// }
 /// ```
 pub trait WritesPayloads<const N: usize, C: AllColumns<N>>: EnumOf<N> {
-    /// Makes room for the payload of the value in the columns of its variant, and joins its columns to those.
+    /// Reserves room for the payload of the value, and adds the payload to the columns of its variant.
     ///
-    /// It refuses as [`WritesVariants::write`] does.
+    /// Errors: those of [`WritesVariants::write`].
     fn write_payload(&self, to: &mut C) -> Result<(), Error>
         ensures others { KeepsOthers no_columns (Self.each.variants.index self.now) (C.held.lists to.old) (C.held.lists to.new) }
         ensures joined { OnOk result (Self.each.variants.joins self.now (columns_at (Self.each.variants.index self.now) (C.held.lists to.old)) (columns_at (Self.each.variants.index self.now) (C.held.lists to.new))) }
@@ -63,7 +63,7 @@ pub trait WritesPayloads<const N: usize, C: AllColumns<N>>: EnumOf<N> {
     ghost of_shapes: { (c : C) → map emptied (C.held.lists c) ≡ bare_columns Self.Enum.each.variants.shapes };
 }
 
-/// Makes room for a payload whose fields lie apart, and joins its columns to those so far.
+/// Reserves room for a payload whose fields are borrowed separately, and adds it to the columns.
 ///
 /// ```rust
 /// let mut columns: TupleEncoder<IntEncoder<u8>, IntEncoder<u16>> = TupleEncoder::new(alloc);

@@ -1,5 +1,5 @@
-//! Coders of integers that are structs without parameters: `IntEncoder` and `IntDecoder` at each integer, by a name of its own. They
-//! do what these do; code that names one is checked in less time.
+//! Coders of integers as structs without parameters: each is `IntEncoder` or `IntDecoder` for one integer type, under its own
+//! name. Code that names one of these is checked faster.
 #![tactic(auto)]
 
 pub mod signed;

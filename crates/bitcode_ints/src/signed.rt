@@ -60,6 +60,10 @@ impl Encoder<i8> for I8Encoder {
         self.column.encode(t)
     }
 
+    fn write_directly(&mut self, t: &i8, out: &mut Vec<u8>) -> Result<bool, Error> {
+        self.column.write_directly(t, out)
+    }
+
     fn encode_part_of_each<S, W: Part<S, i8>>(
         &mut self,
         items: &[S],
@@ -180,6 +184,10 @@ impl Encoder<i16> for I16Encoder {
 
     fn encode(&mut self, t: &i16) -> Result<(), Error> {
         self.column.encode(t)
+    }
+
+    fn write_directly(&mut self, t: &i16, out: &mut Vec<u8>) -> Result<bool, Error> {
+        self.column.write_directly(t, out)
     }
 
     fn encode_part_of_each<S, W: Part<S, i16>>(
@@ -304,6 +312,10 @@ impl Encoder<i32> for I32Encoder {
         self.column.encode(t)
     }
 
+    fn write_directly(&mut self, t: &i32, out: &mut Vec<u8>) -> Result<bool, Error> {
+        self.column.write_directly(t, out)
+    }
+
     fn encode_part_of_each<S, W: Part<S, i32>>(
         &mut self,
         items: &[S],
@@ -424,6 +436,10 @@ impl Encoder<i64> for I64Encoder {
 
     fn encode(&mut self, t: &i64) -> Result<(), Error> {
         self.column.encode(t)
+    }
+
+    fn write_directly(&mut self, t: &i64, out: &mut Vec<u8>) -> Result<bool, Error> {
+        self.column.write_directly(t, out)
     }
 
     fn encode_part_of_each<S, W: Part<S, i64>>(
@@ -548,6 +564,10 @@ impl Encoder<i128> for I128Encoder {
         self.column.encode(t)
     }
 
+    fn write_directly(&mut self, t: &i128, out: &mut Vec<u8>) -> Result<bool, Error> {
+        self.column.write_directly(t, out)
+    }
+
     fn encode_part_of_each<S, W: Part<S, i128>>(
         &mut self,
         items: &[S],
@@ -668,6 +688,10 @@ impl Encoder<isize> for IsizeEncoder {
 
     fn encode(&mut self, t: &isize) -> Result<(), Error> {
         self.column.encode(t)
+    }
+
+    fn write_directly(&mut self, t: &isize, out: &mut Vec<u8>) -> Result<bool, Error> {
+        self.column.write_directly(t, out)
     }
 
     fn encode_part_of_each<S, W: Part<S, isize>>(

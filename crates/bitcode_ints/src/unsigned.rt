@@ -60,6 +60,10 @@ impl Encoder<u8> for U8Encoder {
         self.column.encode(t)
     }
 
+    fn write_directly(&mut self, t: &u8, out: &mut Vec<u8>) -> Result<bool, Error> {
+        self.column.write_directly(t, out)
+    }
+
     fn encode_part_of_each<S, W: Part<S, u8>>(
         &mut self,
         items: &[S],
@@ -180,6 +184,10 @@ impl Encoder<u16> for U16Encoder {
 
     fn encode(&mut self, t: &u16) -> Result<(), Error> {
         self.column.encode(t)
+    }
+
+    fn write_directly(&mut self, t: &u16, out: &mut Vec<u8>) -> Result<bool, Error> {
+        self.column.write_directly(t, out)
     }
 
     fn encode_part_of_each<S, W: Part<S, u16>>(
@@ -304,6 +312,10 @@ impl Encoder<u32> for U32Encoder {
         self.column.encode(t)
     }
 
+    fn write_directly(&mut self, t: &u32, out: &mut Vec<u8>) -> Result<bool, Error> {
+        self.column.write_directly(t, out)
+    }
+
     fn encode_part_of_each<S, W: Part<S, u32>>(
         &mut self,
         items: &[S],
@@ -424,6 +436,10 @@ impl Encoder<u64> for U64Encoder {
 
     fn encode(&mut self, t: &u64) -> Result<(), Error> {
         self.column.encode(t)
+    }
+
+    fn write_directly(&mut self, t: &u64, out: &mut Vec<u8>) -> Result<bool, Error> {
+        self.column.write_directly(t, out)
     }
 
     fn encode_part_of_each<S, W: Part<S, u64>>(
@@ -548,6 +564,10 @@ impl Encoder<u128> for U128Encoder {
         self.column.encode(t)
     }
 
+    fn write_directly(&mut self, t: &u128, out: &mut Vec<u8>) -> Result<bool, Error> {
+        self.column.write_directly(t, out)
+    }
+
     fn encode_part_of_each<S, W: Part<S, u128>>(
         &mut self,
         items: &[S],
@@ -668,6 +688,10 @@ impl Encoder<usize> for UsizeEncoder {
 
     fn encode(&mut self, t: &usize) -> Result<(), Error> {
         self.column.encode(t)
+    }
+
+    fn write_directly(&mut self, t: &usize, out: &mut Vec<u8>) -> Result<bool, Error> {
+        self.column.write_directly(t, out)
     }
 
     fn encode_part_of_each<S, W: Part<S, usize>>(

@@ -1,4 +1,4 @@
-//! Coders of maps: those of sequences, whose elements are pairs of a key and a value.
+//! Coders of maps, as sequences of pairs of a key and a value.
 #![tactic(auto)]
 
 pub mod map;

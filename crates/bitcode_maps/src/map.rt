@@ -1,4 +1,4 @@
-//! The coders of maps: the lengths of all, behind them the columns of all keys, and behind these those of all values.
+//! The coders of maps: the lengths of all maps, then the columns of all keys, and then those of all values.
 #![tactic(auto, unfolding(bitcode_coder::specs::Length::lengths_left, bitcode_coder::specs::Length::lengths_sum))]
 
 ghost use Rattle.std.specs.Prelude.{◌≡◌, ◌<◌, [], None, length, map, false, IfOk, IfErr, ◌+◌};
@@ -23,9 +23,9 @@ use std::cmp::Ord;
 use std::collections::{BTreeMap, HashMap};
 use std::hash::Hash;
 
-/// The encoder of maps: a column of lengths, behind it the columns of all keys, and behind them those of all values.
+/// The encoder of maps: a column of lengths, followed by the columns of all keys, and then those of all values.
 ///
-/// It writes the keys and the values by their encoders, in one order, and refuses as these do.
+/// It writes the keys and the values with their encoders, in the same order, and returns the errors of these.
 ///
 /// ```rust
 /// let map: BTreeMap<u8, u8> = decode(alloc, &[1, 1, 6])?; // 1 to 6
@@ -97,10 +97,10 @@ impl<M: Mapping, K: Buffer + Encoder<M::Key>, V: Buffer + Encoder<M::Value>> Enc
     ghost surely = { λ e n never. absurd never };
 }
 
-/// The decoder of maps: it reads the lengths of all, and then the keys and the values of all.
+/// The decoder of maps. It reads the lengths of all maps, and then all keys and all values.
 ///
-/// It makes the keys and the values by their decoders, and the map of their pairs: of two equal keys the last gives the
-/// value.
+/// It makes the keys and the values with their decoders, and the map from their pairs: of two equal keys, the last one
+/// gives the value.
 ///
 /// ```
 /// let mut maps: MapDecoder<IntDecoder<u8>, IntDecoder<u8>> = MapDecoder::new(alloc);
@@ -135,9 +135,9 @@ impl<'a, K: View<'a>, V: View<'a>> View<'a> for MapDecoder<'a, K, V> {
 }
 
 impl<'a, K, V> MapDecoder<'a, K, V> {
-    /// Makes a container of the next length and so many pairs. One length is left.
+    /// Makes a container from the next length and as many pairs. At least one length must be left.
     ///
-    /// The decoder of a user-defined map calls this. `out of memory` is its only refusal.
+    /// The decoder of a user-defined map calls this. The only error is `out of memory`.
     ///
     /// ```text
     /// let names: Names = maps.decode_as()?; // of a `Names: FromElements<Part = (u8, String)>`

@@ -13,3 +13,5 @@ pub mod GatheredPairLemmas
 pub mod ArrayLemmas
 pub mod ArrayReadingLemmas
 pub mod StrictLemmas
+pub mod OneOptionLemmas
+pub mod OneListLemmas

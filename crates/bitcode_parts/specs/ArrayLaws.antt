@@ -16,7 +16,7 @@ pub arrays_of_shape : (size count : ℕ) (shape : Shape) (elements : Columns) �
 arrays_of_shape zero count shape elements form = form
 arrays_of_shape (suc size) count shape elements form = ap (arrays (suc size) 0) form
 
--- how many elements arrays have together
+-- the total number of elements of arrays
 pub length-joined_arrays : (IsElement : Datum → Type 0) (size : ℕ) (ds : List Datum) → All (IsListOf IsElement (λ n. n ≡ size)) ds
     → length (joined ds) ≡ length ds * size
 length-joined_arrays IsElement size [] each = omega arith
@@ -26,7 +26,7 @@ length-joined_arrays IsElement size (d ∷ ds) each =
     length-append (elements_in d) (joined ds) ∙ grind (arith, one, more)
 
 module _ {Overflows : Type 0} (shape : Shape) (elements : Columns) (n : ℕ) where
-  -- where the number of arrays overflows, or their elements do, so do the arrays
+  -- if the number of arrays overflows, or their elements do, so do the arrays
   pub arrays_overflow : (size count : ℕ) → (Overflows → SurelyOverflows shape elements (n * size))
       → (2 ^ 64 ≤ (count + n) * size) ⊎ Overflows → SurelyOverflows (array_shape size shape) (array_columns size count elements) n
   arrays_overflow zero count of_elements (inl h) ds each size fits = absurd (omega arith)

@@ -1,4 +1,4 @@
--- What the coders of enums hold whose variants all lack a payload.
+-- What the coders of enums without payloads hold.
 use Rattle.std.specs.Prelude.{◌≡◌, ℕ, zero, suc, List, [], ◌∷◌, map, cond, ltb}
 use Rattle.std.proofs.Common.{refl, ap, ap₂, sym, ◌∙◌}
 use Rattle.bitcode_shapes.specs.Datum.{Datum, choice, unit}
@@ -10,12 +10,12 @@ use Rattle.bitcode_coder.specs.Coder.{written_columns}
 use Rattle.bitcode_coder.specs.Spelling.{natural}
 use Rattle.bitcode_coder.specs.Transposition.{payload_columns}
 
--- the choices of so many variants, up to the first variant that is none of them
+-- the choices among so many variants, up to the first one that is no such variant
 abbrev pub bare_choices : ℕ → List ℕ → List Datum
 bare_choices count [] = []
 bare_choices count (variant ∷ more) = cond (ltb variant count) (choice variant unit ∷ bare_choices count more) []
 
--- the columns of so many payloads that have none
+-- the columns of so many variants without payloads
 abbrev pub bare_payloads : ℕ → Columns
 bare_payloads zero = no_columns
 bare_payloads (suc count) = two no_columns (bare_payloads count)

@@ -1,4 +1,4 @@
--- Durations are written as seconds and nanoseconds, which are of a wider shape.
+-- Durations are written as seconds and nanoseconds, which have a wider shape.
 use Rattle.std.proofs.Common.{false, refl}
 use Rattle.bitcode_shapes.specs.Datum.{Datum}
 use Rattle.bitcode_shapes.specs.Durations.{duration_shape}

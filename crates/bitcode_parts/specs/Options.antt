@@ -1,4 +1,4 @@
--- Options as they are written: which variant each is, and the values of those that have one.
+-- Options as they are written: the variant of each, and the values of those that have one.
 use Rattle.std.specs.Prelude.{ℕ, List, Option, Some, None}
 use Rattle.std.specs.List.{filter_map}
 

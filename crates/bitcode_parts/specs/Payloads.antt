@@ -1,5 +1,5 @@
--- Choices as their variants, and for each variant the list of its payloads. How composites read them, one column
--- behind the other, and write them.
+-- Choices as their variants, with a list of payloads for each variant. How composite coders read them and write them,
+-- one column after another.
 use Rattle.std.specs.Prelude.{◌≡◌, ◌≢◌, Bool, IsTrue, ℕ, suc, List, [], ◌∷◌, slice_index_or, slice_set}
 use Rattle.bitcode_columns.specs.declared.error.Reason.{Reason}
 use Rattle.bitcode_columns.specs.declared.error.Reason.TheVariants.{OutOfMemory}
@@ -24,7 +24,7 @@ abbrev pub next_choice : ℕ → List Datum → (List Datum → List Datum) → 
 next_choice variant [] later = []
 next_choice variant (d ∷ ds) later = choice variant d ∷ later ds
 
--- each variant with the next of its payloads, as far as there are payloads
+-- each variant with the next of its payloads, as long as there are payloads
 abbrev pub choices_of : List ℕ → List (List Datum) → List Datum
 choices_of [] lists = []
 choices_of (variant ∷ variants) lists =
@@ -32,13 +32,13 @@ choices_of (variant ∷ variants) lists =
 
 -- ---- reading
 
--- one reading, and another one behind it
+-- one read, followed by another
 pub record InTurn (First Then : List ℕ → Type 0) : Type 0 where
   pub middle : List ℕ
   pub first : First middle
   pub behind : Then middle
 
--- The payloads of the variants from an index on were read: of each variant as many as there are of it.
+-- The payloads of the variants from an index on were read: for each variant as many as it has.
 abbrev pub ReadsPayloads : Shapes → (index : ℕ) (variants old : List ℕ) → List (List Datum) → (new : List ℕ) → Type 0
 ReadsPayloads no_shapes index variants old [] new = old ≡ new
 ReadsPayloads no_shapes index variants old (ds ∷ lists) new = ⊥
@@ -46,27 +46,27 @@ ReadsPayloads (shape_and s ss) index variants old [] new = ⊥
 ReadsPayloads (shape_and s ss) index variants old (ds ∷ lists) new =
     InTurn (Reads (Spells s) (count_of index variants) old ds) (λ middle. ReadsPayloads ss (suc index) variants middle lists new)
 
--- the payloads of each variant were judged
+-- the payloads of each variant were compared with the bytes that would be written
 abbrev pub JudgesPayloads : Shapes → List (List Datum) → Bool → (old new : List ℕ) → Type 0
 JudgesPayloads no_shapes lists written old new = (old ≡ new) × IsTrue written
 JudgesPayloads (shape_and s ss) [] written old new = ⊥
 JudgesPayloads (shape_and s ss) (ds ∷ lists) written old new = JudgesBoth (JudgesData s ds) (JudgesPayloads ss lists) written old new
 
--- a refusal other than want of memory comes only where the payloads from that index on cannot be read
+-- an error other than a failed allocation comes only if the payloads from that index on cannot be read
 abbrev pub IsPayloadsRefusal : Shapes → (index : ℕ) (variants : List ℕ) → Reason → (input : List ℕ) → Type 0
 IsPayloadsRefusal shapes index variants reason input =
     IsReadingReason reason × (reason ≢ OutOfMemory → (lists : List (List Datum)) (rest : List ℕ) → ReadsPayloads shapes index variants input lists rest → ⊥)
 
 -- ---- faults
 
--- the variants are read, and what is left is at fault
+-- the variants can be read, and the rest of the input has a fault
 pub record FaultsBehindVariants (count k : ℕ) (Fault : (variants rest : List ℕ) → Type 0) (input : List ℕ) : Type 0 where
   pub variants : List ℕ
   pub rest : List ℕ
   pub read : Reads (SpellsVariants count) k input variants rest
   pub fault : Fault variants rest
 
--- so many payloads are read, and what is left is at fault
+-- so many payloads can be read, and the rest of the input has a fault
 pub record FaultsBehindPayloads (shape : Shape) (k : ℕ) (Fault : (rest : List ℕ) → Type 0) (input : List ℕ) : Type 0 where
   pub payloads : List Datum
   pub rest : List ℕ
@@ -83,11 +83,11 @@ written_payloads shapes index ds = plain (payload_columns shapes index ds)
 abbrev pub HasPayloads : Shapes → (index : ℕ) → Columns → Type 0
 HasPayloads shapes index columns = emptied columns ≡ written_payloads shapes index []
 
--- The payload of a choice was joined to the columns of its variant, which is one from that index on.
+-- The payload of a choice was added to the columns of its variant, which has an index of at least that.
 pub record JoinsPayload (shapes : Shapes) (index variant : ℕ) (payload : Datum) (old new : Columns) : Type 0 where
   pub joined : new ≡ beside old (written_payloads shapes index (choice variant payload ∷ []))
   pub fits : CountsFit old → CountsFit new
 
--- with that payload some number of arrays is no length
+-- with that payload a number of arrays does not fit in a length
 abbrev pub OverflowsAtPayload : Shapes → (index variant : ℕ) → Datum → Columns → Type 0
 OverflowsAtPayload shapes index variant payload old = CountsFit (beside old (written_payloads shapes index (choice variant payload ∷ []))) → ⊥

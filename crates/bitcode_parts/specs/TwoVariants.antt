@@ -1,4 +1,4 @@
--- Reading the choices of two variants: which fault is first.
+-- Reading choices of two variants: which fault comes first.
 use Rattle.std.specs.Prelude.{ℕ, List, ◌⊎◌}
 use Rattle.bitcode_columns.specs.declared.error.Reason.{Reason}
 use Rattle.bitcode_columns.specs.Histogram.{count_of}
@@ -6,7 +6,8 @@ use Rattle.bitcode_shapes.specs.Shape.{Shape}
 use Rattle.bitcode_coder.specs.Faults.{NamesVariantsFault}
 use Rattle.bitcode_parts.specs.Payloads.{FaultsBehindVariants, FaultsBehindPayloads}
 
--- the variants are at fault, or behind them the payloads of the first variant, or behind those the payloads of the second
+-- a fault of the variants, or after them of the payloads of the first variant, or after those of the payloads of the
+-- second
 abbrev pub TwoVariantsFault : Shape → (first second : Reason → ℕ → List ℕ → Type 0) → Reason → ℕ → List ℕ → Type 0
 TwoVariantsFault shape first second reason k input =
     NamesVariantsFault 2 reason k input

@@ -9,24 +9,24 @@ module _ {N : ℕ} where
   unfoldable pub written_variants : VariantEncoder N → List ℕ
   written_variants e = fast_items e.variants
 
-  -- for how many more variants there is room
+  -- the room for more variants
   unfoldable pub variant_room : VariantEncoder N → ℕ
   variant_room e = fast_room e.variants
 
-  -- how many variants there is memory for, those that were written included
+  -- how many variants fit in its memory, including those that it holds
   unfoldable pub variant_capacity : VariantEncoder N → ℕ
   variant_capacity e = fast_capacity e.variants
 
 -- (a const argument that is a bool is its bit)
 module _ {N C_STYLE : ℕ} where
-  -- the variants that are left to take
+  -- the remaining variants
   unfoldable pub variants_left : VariantDecoder N C_STYLE → List ℕ
   variants_left d = cow_rest d.variants
 
-  -- how many variants it has memory of its own for
+  -- how many variants fit in the memory that it owns
   unfoldable pub variants_owned : VariantDecoder N C_STYLE → ℕ
   variants_owned d = cow_owned d.variants
 
-  -- how many of each variant were read, place by place
+  -- how many of each variant were read, by index
   unfoldable pub variant_counts : VariantDecoder N C_STYLE → List ℕ
   variant_counts d = d.counts

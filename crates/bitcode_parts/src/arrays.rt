@@ -17,10 +17,10 @@ use bitcode_columns::refuse::err;
 use bitcode_shapes::shaped::{Made, Shaped};
 use std::alloc::Global;
 
-/// The encoder of arrays of `N` elements: the columns of the elements of all arrays.
+/// The encoder of arrays of `N` elements: the columns of all elements of all arrays.
 ///
-/// It writes an array by the encoder of the elements, and refuses as that does. The number of arrays is not written: a
-/// reader knows it. That number times `N` has to be a length, and where it would not be, `reserve` answers
+/// It writes each array with the encoder of its elements, and returns that encoder's errors. The number of arrays is
+/// not written, since the decoder knows it. If that number times `N` does not fit in a `usize`, `reserve` returns
 /// `length overflow`.
 ///
 /// ```
@@ -105,10 +105,10 @@ impl<T: Shaped, E: Encoder<T>, const N: usize> Encoder<[T; N]> for ArrayEncoder<
     ghost surely = { λ e n. arrays_overflow T.shape (E.columns e.elements) n N e.count (E.surely e.elements (n * N)) };
 }
 
-/// The decoder of arrays of `N` elements: it reads the elements of all arrays.
+/// The decoder of arrays of `N` elements. It reads the elements of all arrays.
 ///
-/// It makes an array by the decoder of the elements, one element after the other. Where the number of arrays times `N`
-/// is over 18446744073709551615, reading is `length overflow` and takes nothing from the input.
+/// It makes each array with the decoder of its elements, one element after another. If the number of arrays times `N`
+/// exceeds 18446744073709551615, reading returns `length overflow` and leaves the input unchanged.
 ///
 /// ```
 /// let mut decoder: ArrayDecoder<IntDecoder<u8>, 3> = ArrayDecoder::new(alloc);

@@ -10,7 +10,7 @@ use bitcode_shapes::shaped::{Made, Shaped};
 use std::alloc::Global;
 use std::marker::PhantomData;
 
-/// A type whose values are written as values of `T`, as a `Duration` is as its seconds and nanoseconds.
+/// A type whose values are written as values of `T`, such as a `Duration` as its seconds and nanoseconds.
 ///
 /// ```rust,from:crates/bitcode_parts/src/durations.rt
 /// impl ConvertInto<DurationEncode> for Duration {
@@ -29,7 +29,7 @@ pub trait ConvertInto<T: Shaped>: Shaped {
     ghost written_as: { IsWrittenAs Self.shape T.shape };
 }
 
-/// A type whose values are made of values of `T`, as a `Duration` is of its seconds and nanoseconds.
+/// A type whose values can be made from values of `T`, such as a `Duration` from its seconds and nanoseconds.
 ///
 /// ```rust,from:crates/bitcode_parts/src/durations.rt
 /// impl ConvertFrom<DurationDecode> for Duration {
@@ -41,14 +41,14 @@ pub trait ConvertInto<T: Shaped>: Shaped {
 /// }
 /// ```
 pub trait ConvertFrom<T: Made>: Made {
-    /// The value that is made of the one that was read.
+    /// Makes the value from the one that was read.
     fn convert_from(value: T) -> Self
         ensures { MakesToo Self.makes T.makes result value };
 
     ghost shape_from: { Self.shape ≡ T.shape };
 }
 
-/// The columns that values are written to as values of `T`, by the encoder `E` of these.
+/// The columns of values that are written as values of `T`, with the encoder `E` of `T`.
 ///
 /// ```rust
 /// use bitcode_parts::durations::{DurationDecode, DurationEncode};
@@ -111,7 +111,7 @@ impl<T: Shaped + Drop, D: ConvertInto<T>, E: Encoder<T>> Encoder<D> for ConvertI
     ghost surely = { λ e n h. surely_as D.shape T.shape D.written_as (E.columns e.inner) n (E.surely e.inner n h) };
 }
 
-/// The data that values are made of by way of values of `T`, read by the decoder `D` of these.
+/// The data of values that are made from values of `T`, with the decoder `D` of `T`.
 ///
 /// ```rust
 /// use bitcode_parts::durations::{DurationDecode, DurationEncode};

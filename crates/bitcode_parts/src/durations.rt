@@ -6,10 +6,10 @@ use crate::convert::{ConvertFrom, ConvertInto};
 use bitcode_coder::checked::Nanosecond;
 use std::time::Duration;
 
-/// What a `Duration` is written as: its seconds, and its nanoseconds below one second.
+/// How a `Duration` is written: its seconds, and its nanoseconds below one second.
 pub type DurationEncode = (u64, u32);
 
-/// What a `Duration` is made of.
+/// What a `Duration` is made from.
 pub type DurationDecode = (u64, Nanosecond);
 
 impl ConvertInto<DurationEncode> for Duration {

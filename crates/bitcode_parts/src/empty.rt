@@ -1,4 +1,4 @@
-//! The coder of what has no column.
+//! The coder of types without columns.
 ghost use Rattle.std.specs.Prelude.{◌≡◌, refl, true, replicate};
 ghost use Rattle.bitcode_shapes.specs.Datum.{unit};
 ghost use Rattle.bitcode_shapes.specs.Shape.{unit_shape};
@@ -9,10 +9,10 @@ use bitcode_coder::coder::{Buffer, Decoder, Encoder, HoldsColumns, HoldsData, Vi
 use bitcode_columns::error::Error;
 use std::alloc::Global;
 
-/// The encoder and the decoder of types that hold nothing, such as `()`.
+/// The encoder and decoder of types without data, such as `()`.
 ///
-/// Their values take no bytes. So the encoder keeps nothing, and the decoder counts how many are left. Neither
-/// takes memory.
+/// Their values have no bytes. So the encoder keeps nothing, and the decoder counts the remaining values. Neither
+/// allocates.
 #[derive(Drop)]
 pub struct EmptyCoder {
     left: usize,

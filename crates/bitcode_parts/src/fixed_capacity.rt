@@ -1,4 +1,4 @@
-//! The decoder of vectors of a fixed capacity: as that of sequences, but no length passes the capacity.
+//! The decoder of vectors with a fixed capacity: the decoder of sequences, with a limit on the lengths.
 #![tactic(auto, unfolding(bitcode_coder::specs::Length::lengths_left, bitcode_coder::specs::Length::lengths_sum))]
 
 ghost use Rattle.std.specs.Prelude.{◌+◌, ◌≤◌, ◌⊎◌, Some, All, false, length, refl};
@@ -19,11 +19,12 @@ use bitcode_shapes::shaped::{Made, Shaped};
 use std::alloc::Global;
 use std::default::Default;
 
-/// The decoder of vectors of a fixed capacity: it reads the lengths of all, and then the elements of all.
+/// The decoder of vectors with a fixed capacity. It reads the lengths of all of them, and then the elements of all of
+/// them.
 ///
-/// It makes the elements by their decoder, front to back, and refuses as that one does. Where lengths and elements were
-/// read and a length is over `N`, that is `invalid ArrayVec`. For `N` below 255, any length that is written behind a byte
-/// 255 is over it.
+/// It makes the elements with their decoder, front to back, and returns that decoder's errors. If lengths and elements
+/// are valid and a length exceeds `N`, the error is `invalid ArrayVec`. For `N` below 255, every length after an escape
+/// byte 255 exceeds it.
 ///
 /// ```
 /// let mut lists: ArrayVecDecoder<IntDecoder<u8>, 4> = ArrayVecDecoder::new(alloc);

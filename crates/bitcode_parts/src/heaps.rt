@@ -1,4 +1,4 @@
-//! Heaps as the sequences of their elements.
+//! Heaps, as the sequences of their elements.
 ghost use Rattle.std.specs.Prelude.{◌≡◌, refl, IfOk, IfErr, None, false};
 ghost use Rattle.std.specs.BinaryHeap.{heap_items};
 ghost use Rattle.std.proofs.lemmas.List.Sorted.{IsPermutation-refl};

@@ -1,5 +1,4 @@
-//! Coders of the parts of which types are made: containers, arrays, pointers, choices, what is written as another type, and
-//! what needs no columns.
+//! Coders of containers, arrays, pointers, choices, converted types, and types without columns.
 #![tactic(auto)]
 
 pub mod arrays;

@@ -1,3 +1,3 @@
-//! Lists: what is written as the sequence of its elements, and made of it.
+//! Lists: types that are written as, and made from, the sequence of their elements.
 pub mod sequence;
 pub mod vec;

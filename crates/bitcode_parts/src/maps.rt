@@ -1,4 +1,4 @@
-//! Types that are written as the pairs of their keys and values, and made of them.
+//! Types that are written as, and made from, pairs of keys and values.
 ghost use Rattle.std.specs.Prelude.{◌≡◌, ◌<◌, ◌≤◌, ◌++◌, ◌⊎◌, List, length, map, take, All, refl, OnOk, IfOk, IfErr};
 ghost use Rattle.std.specs.Map.{keys_of, values_of};
 ghost use Rattle.std.specs.Map.Iter.{deref_pair};
@@ -23,7 +23,7 @@ use std::cmp::{Eq, Ord};
 use std::collections::{BTreeMap, HashMap, btree_map, hash_map};
 use std::hash::Hash;
 
-/// A type that is written as the pairs of its keys and values: a map in the order of its keys, or in one of its own.
+/// A type that is written as its pairs of keys and values: a map in the order of its keys or in an internal order.
 ///
 /// ```text
 /// impl Mapping for Names {
@@ -40,11 +40,11 @@ pub trait Mapping: Shaped {
     // the pairs, as they are written
     ghost entries: { Self → List (Self.Key × Self.Value) };
 
-    /// How many pairs there are.
+    /// The number of pairs.
     fn entry_count(&self) -> usize
         ensures { result ≡ length (entries self.now) };
 
-    /// Writes the keys, one after the other. Room for them was reserved.
+    /// Writes the keys, one after another. The caller must have reserved room for them.
     fn encode_keys<E: Encoder<Self::Key>>(&self, keys: &mut E) -> Result<(), Error>
         requires room { length (entries self.now) ≤ E.room keys.old }
         requires values { All Self.Key.is_value (keys_of (entries self.now)) }
@@ -52,7 +52,7 @@ pub trait Mapping: Shaped {
         ensures form { emptied (E.columns keys.new) ≡ emptied (E.columns keys.old) }
         ensures refused { IfErr result (λ e. IsWritingRefusal e.reason (OverflowsWithEach Self.Key.lists Self.Key.shape (keys_of (entries self.now)) (E.columns keys.old))) };
 
-    /// Writes the values, in the order of their keys. Room for them was reserved.
+    /// Writes the values, in the order of their keys. The caller must have reserved room for them.
     fn encode_values<E: Encoder<Self::Value>>(&self, values: &mut E) -> Result<(), Error>
         requires room { length (entries self.now) ≤ E.room values.old }
         requires values { All Self.Value.is_value (values_of (entries self.now)) }
@@ -60,10 +60,11 @@ pub trait Mapping: Shaped {
         ensures form { emptied (E.columns values.new) ≡ emptied (E.columns values.old) }
         ensures refused { IfErr result (λ e. IsWritingRefusal e.reason (OverflowsWithEach Self.Value.lists Self.Value.shape (values_of (entries self.now)) (E.columns values.old))) };
 
-    /// Writes the keys and the values, as [`Mapping::encode_keys`] and [`Mapping::encode_values`] do. Room for them was reserved.
+    /// Writes the keys and the values, as [`Mapping::encode_keys`] and [`Mapping::encode_values`] do. The caller must
+    /// have reserved room for them.
     ///
-    /// It refuses as the encoders do: the keys and values up to those at hand may have been written then. A map that is gone
-    /// through once for both has a body of its own.
+    /// Errors: those of the encoders. Some of the first keys and values may have been written by then. Maps that can do
+    /// this in one iteration override it.
     fn encode_pairs<E: Encoder<Self::Key>, F: Encoder<Self::Value>>(
         &self,
         keys: &mut E,
@@ -112,7 +113,8 @@ impl<'a, K, V> Part<(&'a K, &'a V), V> for ValueBehind {
 // So many pairs of a map are gathered, and their keys and values written at once.
 const MOST_PAIRS: usize = 32;
 
-// Takes pairs of a map behind the first of the array, until the array is full or none is left. Answers how many stand in it.
+// Takes pairs of a map and puts them after the first ones of the array, until the array is full or none is left.
+// Returns how many the array then has.
 fn gather_pairs<'b, K, V>(
     rest: &mut btree_map::Iter<'b, K, V>,
     pairs: &mut [(&'b K, &'b V); MOST_PAIRS],
@@ -131,7 +133,7 @@ fn gather_pairs<'b, K, V>(
     MOST_PAIRS
 }
 
-// Writes the keys and the values of the pairs of a map that are left, several of them at once. Room for them was reserved.
+// Writes the keys and values of the remaining pairs, several of them at once. The caller must have reserved the room.
 fn encode_gathered<'b, K: Shaped + 'b, V: Shaped + 'b, E: Encoder<K>, F: Encoder<V>>(
     mut rest: btree_map::Iter<'b, K, V>,
     keys: &mut E,

@@ -1,4 +1,4 @@
-//! Markers of types have no column, as the unit.
+//! Type markers, which have no column, as the unit has none.
 ghost use Rattle.std.specs.Prelude.{refl, true};
 
 use crate::empty::EmptyCoder;

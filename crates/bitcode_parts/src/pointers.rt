@@ -1,4 +1,4 @@
-//! Boxes, shared pointers, their slices and tuples of one field, by way of what they hold.
+//! Boxes, shared pointers, boxed and shared slices, and tuples of one field: the coders of what they contain.
 ghost use Rattle.std.specs.Prelude.{refl, true, false};
 ghost use Rattle.std.specs.Box.{box_value};
 ghost use Rattle.std.specs.Rc.{rc_value};

@@ -1,4 +1,4 @@
-//! The decoder of types whose values stand for those of another type: a struct is read as the tuple of its fields.
+//! The decoder of types that correspond to another type: it reads a struct as the tuple of its fields.
 use bitcode_coder::coder::{Decoder, HoldsData, View};
 use bitcode_columns::error::Error;
 use bitcode_shapes::shaped::Made;
@@ -6,9 +6,9 @@ use bitcode_shapes::stands_for::FromParts;
 use std::alloc::Global;
 use std::marker::PhantomData;
 
-/// The data that values are made of by way of what they stand for, read by its decoder `D`.
+/// The data of values that are made from their parts, with the decoder `D` of the parts.
 ///
-/// It refuses as that decoder does, and takes no memory of its own.
+/// It returns that decoder's errors, and allocates nothing itself.
 ///
 /// ```rust
 /// let mut input: &[u8] = &[4, 1, 4, 2];

@@ -1,10 +1,10 @@
-//! UUIDs as their sixteen bytes.
+//! UUIDs, as their sixteen bytes.
 ghost use Rattle.std.specs.Prelude.{refl};
 
 use crate::convert::{ConvertFrom, ConvertInto};
 use uuid::Uuid;
 
-/// What a `Uuid` is written as and made of: its sixteen bytes, in their order.
+/// What a `Uuid` is written as and made from: its sixteen bytes, in their order.
 pub type UuidConversion = [u8; 16];
 
 impl ConvertInto<UuidConversion> for Uuid {

@@ -1,3 +1,4 @@
+pub mod AgainLemmas
 pub mod CrcLemmas
 pub mod CrcTableLemmas
 pub mod CrcStepLemmas

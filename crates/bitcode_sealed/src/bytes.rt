@@ -1,4 +1,4 @@
-//! Bytes are sealed, and taken from the front of an input again.
+//! Sealing bytes, and taking sealed bytes off the front of an input.
 ghost use Rattle.std.specs.Prelude.{◌≡◌, ◌++◌, IfOk, OnOk, IfErr, OnErr};
 ghost use Rattle.bitcode_sealed.specs.Layout.{sealed, BeginsWithHead};
 ghost use Rattle.bitcode_sealed.specs.Faults.{Admits, IsMismatch, HasValueBehind, IsValueFault, IsSealedFront, IsFault};
@@ -13,11 +13,11 @@ use bitcode_columns::ints::Int;
 // The bytes of a value's checksum.
 const SUM_BYTES: usize = 4;
 
-/// Seals bytes behind those that `out` holds.
+/// Appends sealed bytes to `out`.
 ///
-/// They may be a value's as `encode` writes it, or as `serialize` does, or no value's.
+/// The bytes may come from `encode`, from `serialize`, or from anywhere else.
 ///
-/// Errors: `out of memory` where `out` could not grow. It is then as it was.
+/// Errors: `out of memory` if `out` cannot grow. Then `out` is unchanged.
 ///
 /// ```text
 /// let mut out = Vec::new(alloc);
@@ -84,11 +84,11 @@ fn split_value<'a>(head: Head, input: &'a [u8]) -> Result<(&'a [u8], &'a [u8]), 
     Ok((value, rest))
 }
 
-/// The bytes of the value that is sealed at the front of the input, and what stands behind the sealed bytes.
+/// The bytes of the value that is sealed at the front of the input, and the rest after the sealed bytes.
 ///
-/// The value is not decoded. A reader of many sealed values skips one that it cannot use by this.
+/// It does not decode the value. A reader of many sealed values can skip an unusable one with it.
 ///
-/// Errors: each `OpenError` but `BytesLeftOver` and `Value`.
+/// Errors: each `OpenError` except `BytesLeftOver` and `Value`.
 ///
 /// ```text
 /// let (value, rest) = split_sealed(&EXPECTED, input)?;

@@ -31,7 +31,7 @@ fn eight_steps(register: u32, bytes: &[u8; 8]) -> u32
         ^ shifted_8(b7)
 }
 
-/// The CRC-32 of the bytes, as zlib, gzip and PNG have it.
+/// The CRC-32 of the bytes, as zlib, gzip and PNG compute it.
 ///
 /// ```text
 /// let sum = crc_32(b"123456789");

@@ -1,42 +1,42 @@
-//! Why sealed bytes are not opened.
+//! Errors of opening sealed bytes.
 
 use bitcode_columns::error::Error;
 
-/// Why sealed bytes are not opened: what is at fault first, in this order.
+/// Why opening failed: the first fault, in this order.
 ///
-/// An input that ends within its head, of 20 bytes, is cut off if the bytes that are there begin as sealed ones do. What a
-/// whole head says is believed only once its checksum holds, so whether the value is cut off is asked last of all that
-/// the head tells.
+/// An input that ends within the header, which has 20 bytes, is cut off if its bytes begin like sealed ones. The
+/// content of a complete header is trusted only after its checksum was verified. So whether the value is cut off is
+/// checked after everything else that the header says.
 #[derive(Clone, Copy, Debug, PartialEq, Eq, thiserror::Error)]
 pub enum OpenError {
-    /// The input does not begin as sealed bytes do.
+    /// The input does not begin like sealed bytes.
     #[error("not sealed")]
     NotSealed,
-    /// The input ends too early: `present` bytes are there, and `wanted` are known to be needed, 20 for the head, and 24 more
-    /// than the value's once the head is there. A reader of a stream waits for them. Where 24 more are over
-    /// 18446744073709551615, `wanted` is that.
+    /// The input ends too early: it has `present` bytes and needs `wanted`. For an incomplete header, `wanted` is 20;
+    /// for a complete one, the size of the value and 24 more, but at most 18446744073709551615. A reader of a stream
+    /// waits for them.
     #[error("cut off: {present} bytes of {wanted}")]
     CutOff { present: u64, wanted: u64 },
-    /// The head is not one that was sealed, so nothing that it says is known, nor where the next sealed bytes begin.
+    /// The header is damaged. So nothing in it is known, nor where the next sealed bytes begin.
     #[error("the head is damaged")]
     HeadDamaged,
-    /// The value has another kind: the one found.
+    /// The value has a different kind: `found`.
     #[error("of another kind: {found}")]
     AnotherKind { found: u32 },
-    /// The value has another version: the one found.
+    /// The value has a different version: `found`.
     #[error("of another version: {found}")]
     AnotherVersion { found: u16 },
-    /// The value has so many bytes, more than the program would take.
+    /// The value has this many bytes, more than the program allows.
     #[error("too long: {bytes} bytes")]
     TooLong { bytes: u64 },
-    /// The value's bytes are not those that were sealed: their checksum is `computed`, and `stored` is behind them.
+    /// The value is damaged: its checksum is `computed`, but `stored` follows it.
     #[error("the value is damaged: its checksum is {computed:08x}, not {stored:08x}")]
     ValueDamaged { stored: u32, computed: u32 },
-    /// Behind the sealed bytes so many others are left.
+    /// This many bytes follow the sealed bytes.
     #[error("{count} bytes are left over")]
     BytesLeftOver { count: u64 },
-    /// The bytes are those that were sealed, and they spell no value of the type, or there is no memory for it: the reason of
-    /// `decode`.
+    /// The value is undamaged, but `decode` failed with this error: the bytes spell no value of the type, or an
+    /// allocation failed.
     #[error("{0}")]
     Value(Error),
 }

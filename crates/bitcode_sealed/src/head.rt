@@ -1,4 +1,4 @@
-//! The head of sealed bytes.
+//! The header of sealed bytes.
 ghost use Rattle.std.specs.Prelude.{◌≡◌, ◌≤◌, ◌↔◌, IsTrue, List, [], ◌∷◌, length, take, slice_index, IfOk, IfErr};
 ghost use Rattle.bitcode_columns.specs.LittleEndian.{little_endian};
 ghost use Rattle.bitcode_sealed.specs.Layout.{magic, head_bytes, BeginsWithHead, BeginsAsSealed};
@@ -9,7 +9,7 @@ use crate::error::OpenError;
 use crate::label::Label;
 use bitcode_columns::ints::Int;
 
-/// The bytes of a head.
+/// The size of the header in bytes.
 pub const HEAD_BYTES: usize = 20;
 
 // What sealed bytes begin with. No text begins so: neither byte is ASCII, the first only goes on with a character of UTF-8,
@@ -70,9 +70,9 @@ fn begins_as_sealed(input: &[u8]) -> bool
     &input[..count] == &MAGIC[..count]
 }
 
-/// The head that the input begins with.
+/// Reads the header at the front of the input.
 ///
-/// Errors: `NotSealed`, `CutOff` within the head, and `HeadDamaged`.
+/// Errors: `NotSealed`, `CutOff` within the header, and `HeadDamaged`.
 pub fn read_head(input: &[u8]) -> Result<Head, OpenError>
     ensures found { IfOk result (λ head. BeginsWithHead head input.now) }
     ensures refused { IfErr result (λ e. IsHeadFault input.now e) }

@@ -1,6 +1,6 @@
-//! What sealed bytes say of the value in them, and what a program expects of them.
+//! The label of sealed bytes, and what a program expects.
 
-/// What a program seals: its own number for the type of the value, and the version of that type.
+/// The label under which a program seals a value: its own number for the type, and the version of that type.
 ///
 /// ```text
 /// const RECORDS: Label = Label { kind: 0x5245_4353, version: 2 };
@@ -11,9 +11,9 @@ pub struct Label {
     pub version: u16,
 }
 
-/// What a program expects of sealed bytes: their label, and the most bytes that the value may have.
+/// What a program expects of sealed bytes: their label, and the maximal size of the value in bytes.
 ///
-/// The limit is there for inputs that others write: no reader waits for more bytes than it would take.
+/// The limit is for untrusted input: no reader waits for more bytes than it would accept.
 ///
 /// ```text
 /// const EXPECTED: Expected = Expected { label: RECORDS, most_bytes: 1 << 20 };

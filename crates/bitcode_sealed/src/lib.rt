@@ -1,4 +1,4 @@
-//! Sealed bytes: a head in front of what `encode` writes, and a checksum behind it, for whatever leaves the program.
+//! Sealed bytes: the bytes from `encode` with a header and a checksum, for all data that leaves the program.
 #![tactic(auto)]
 
 pub mod bytes;

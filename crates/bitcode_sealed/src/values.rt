@@ -1,4 +1,4 @@
-//! Values are sealed and opened: one in all of an input, or at its front.
+//! Sealing and opening values: one in the whole input, or one at its front.
 ghost use Rattle.std.specs.Prelude.{◌≡◌, IfOk, OnOk, IfErr, OnErr};
 ghost use Rattle.bitcode_coder.specs.Coder.{IsWritingRefusal};
 ghost use Rattle.bitcode_derive.specs.Whole.{HasLongListing, IsDecodingOf};
@@ -15,11 +15,11 @@ use bitcode_derive::whole::{decode, encode};
 use bitcode_shapes::shaped::{Made, Shaped};
 use std::alloc::Global;
 
-/// Seals a value behind the bytes that `out` holds, as `seal` would.
+/// Appends a sealed value to `out`, as `seal` would return it.
 ///
-/// Several values so sealed are opened again one by one, by `open_front`.
+/// `open_front` opens several values that were sealed like this one by one.
 ///
-/// Errors: as of `encode`, and `out of memory` where `out` could not grow. `out` is then as it was.
+/// Errors: those of `encode`, and `out of memory` if `out` cannot grow. Then `out` is unchanged.
 ///
 /// ```text
 /// let mut out = Vec::new(alloc);
@@ -42,12 +42,12 @@ where
     seal_bytes(label, &value, out)
 }
 
-/// Seals a value: what `encode` writes, with a head in front of it that says what it is, and a checksum behind it.
+/// Seals a value: the bytes from `encode`, with a header that identifies them and a checksum.
 ///
-/// These are 24 bytes beside the value. `open` takes them from a file or from the net, and refuses them where they are
-/// cut off, damaged or of another label.
+/// This adds 24 bytes. `open` accepts bytes from a file or a network, and rejects them if they are cut off, damaged or
+/// have another label.
 ///
-/// Errors: as of `encode`, and `out of memory` where the bytes have no room.
+/// Errors: those of `encode`, and `out of memory` if the allocation for the bytes fails.
 ///
 /// ```text
 /// let bytes = seal(alloc, RECORDS, &record)?;
@@ -79,12 +79,12 @@ where
     }
 }
 
-/// Opens sealed bytes: reads the one value that is sealed in all of the input.
+/// Opens sealed bytes: decodes the one value that is sealed in the whole input.
 ///
-/// Nothing of the value is read before its checksum holds. The call keeps nothing.
+/// It reads the value only after its checksum was verified. The call keeps no memory.
 ///
-/// Errors: an `OpenError`, of all that are at fault the first, in the order in which they are declared. `Value` has the error
-/// of `decode`, and comes last.
+/// Errors: the first `OpenError` that applies, in the order of their declaration. `Value` contains the error of
+/// `decode`, and comes last.
 ///
 /// ```text
 /// let record: Record = open(alloc, &EXPECTED, &bytes)?;
@@ -108,14 +108,14 @@ where
     decode_value(alloc, value)
 }
 
-/// Opens the sealed bytes at the front of the input, and moves the input behind them.
+/// Opens the sealed bytes at the front of the input, and advances the input past them.
 ///
-/// So values that were sealed one behind the other are opened one by one. Nothing of the value is read before its checksum
-/// holds.
+/// So values that were sealed one after another can be opened one by one. It reads the value only after its checksum
+/// was verified.
 ///
-/// Errors: an `OpenError`, of all that are at fault the first, in the order in which they are declared, but never
-/// `BytesLeftOver`. The input is then as it was: a reader of a stream adds to it after `CutOff`, and [`split_sealed`] skips
-/// a value that `decode` refuses.
+/// Errors: the first `OpenError` that applies, in the order of their declaration, but never `BytesLeftOver`. The input
+/// is then unchanged: a reader of a stream appends to it after `CutOff`, and [`split_sealed`] skips a value that
+/// `decode` rejects.
 ///
 /// ```text
 /// let mut input = bytes.as_slice();

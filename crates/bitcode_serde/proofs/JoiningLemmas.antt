@@ -1,5 +1,5 @@
 -- Lists of values of one case, as entries of one column.
-use Rattle.std.proofs.Common.{◌≡◌, ◌⊎◌, ℕ, zero, suc, inl, inr, List, [], ◌∷◌, ◌++◌, Some, slice_get, get_or, length, map, All, refl, ap, sym, subst, ◌∙◌, append_assoc, append-nil, arith}
+use Rattle.std.proofs.Common.{◌≡◌, ◌⊎◌, ℕ, zero, suc, inl, inr, List, [], ◌∷◌, ◌++◌, Some, slice_get, length, map, All, refl, ap, sym, subst, ◌∙◌, append_assoc, append-nil, arith}
 use Rattle.std.specs.List.{AllByRecursion, AllZip}
 use Rattle.std.proofs.lemmas.List.{map-append}
 use Rattle.bitcode_columns.specs.declared.error.Reason.{Reason}
@@ -20,6 +20,11 @@ pub no_third : {A B C : Type 0} → A ⊎ B ⊎ ⊥ → A ⊎ B ⊎ C
 no_third (inl a) = inl a
 no_third (inr (inl b)) = inr (inl b)
 no_third (inr (inr never)) = absurd never
+
+pub one_refused : {A B C O : Type 0} → A ⊎ B ⊎ O → (O → ⊥) → A ⊎ C ⊎ B
+one_refused (inl a) never = inl a
+one_refused (inr (inl b)) never = inr (inr b)
+one_refused (inr (inr o)) never = absurd (never o)
 
 -- ---- one column beside others
 
@@ -97,26 +102,21 @@ module _ {T : Type 0} (kind : ColumnKind) (value : T → Value) (is_value : T �
   memory_alone columns ts old reason Other (inr (is, p)) =
       absurd (p.overflows (subst (λ added. CountsFit (beside old added)) (sym (columns p.parts)) (fits_beside old (kind_of kind) p.parts)))
 
+pub never_overflows : {T : Type 0} (kind : ColumnKind) (lists : T → Datum → Type 0) (shape : Shape)
+    → ((ds : List Datum) → written_columns shape ds ≡ one (kind_of kind) ds) → (t : T) (old : Columns) → OverflowsWithListing lists shape t old → ⊥
+never_overflows kind lists shape columns t old some =
+    let ds = some.datum ∷ [] in
+    some.overflows (subst (λ added. CountsFit (beside old added)) (sym (columns ds)) (fits_beside old (kind_of kind) ds))
+
 -- one value is a list of one
 pub joins_one : {T : Type 0} (lists : T → Datum → Type 0) (shape : Shape) (t : T) (old new : Columns) → JoinsListing lists shape t old new
     → JoinsEach lists shape (t ∷ []) old new
 joins_one lists shape t old new joins =
     record { parts = joins.datum ∷ []; listings = (joins.listing, tt); joined = joins.joined; fits = joins.fits }
 
-pub overflows_one : {T : Type 0} (lists : T → Datum → Type 0) (shape : Shape) (t : T) (old : Columns) (reason : Reason)
-    → IsWritingRefusal reason (OverflowsWithListing lists shape t old) → IsWritingRefusal reason (OverflowsWithEach lists shape (t ∷ []) old)
-overflows_one lists shape t old reason (inl memory) = inl memory
-overflows_one lists shape t old reason (inr (is, some)) =
-    inr (is, record { parts = some.datum ∷ []; listings = (some.listing, tt); overflows = some.overflows })
-
 pub all_one : {T : Type 0} (P : T → Type 0) (t : T) → P t → All P (t ∷ [])
 all_one P t h zero d inside = h
 all_one P t h (suc i) d inside = absurd (omega (arith, inside))
-
-pub only_one : {A : Type 0} (xs : List A) (x : A) → length xs ≡ 1 → x ≡ get_or xs 0 x → xs ≡ x ∷ []
-only_one [] x size is = absurd (omega (arith, size))
-only_one (y ∷ []) x size is = ap (λ z. z ∷ []) (sym is)
-only_one (y ∷ (z ∷ zs)) x size is = absurd (omega (arith, size))
 
 pub no_items : {A : Type 0} (xs : List A) → length xs ≡ 0 → xs ≡ []
 no_items [] size = refl

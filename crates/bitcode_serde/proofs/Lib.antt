@@ -1,6 +1,7 @@
 pub mod IndexLemmas
 pub mod ReasonLemmas
 pub mod ColumnLemmas
+pub mod KindLemmas
 pub mod ReadingLemmas
 pub mod EachTakenLemmas
 pub mod StepLemmas
@@ -10,6 +11,7 @@ pub mod FreeLemmas
 pub mod OutcomeLemmas
 pub mod LinkLemmas
 pub mod PlaceLemmas
+pub mod MetLemmas
 pub mod FiledLemmas
 pub mod EntryLemmas
 pub mod FieldLemmas

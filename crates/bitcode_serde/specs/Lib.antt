@@ -1,4 +1,5 @@
 pub mod Indices
+pub mod Kinds
 pub mod ReadColumns
 pub mod Leaves
 pub mod Links

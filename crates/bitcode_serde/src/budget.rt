@@ -1,23 +1,25 @@
-//! How many nodes of a value are kept, as it is read.
-ghost use Rattle.std.specs.Prelude.{◌≡◌, ◌++◌, ◌∷◌, [], OnOk, IfErr, MatchBool};
+//! The number of nodes that decoding may keep.
+ghost use Rattle.std.specs.Prelude.{◌≡◌, ◌++◌, ◌∷◌, [], OnOk, IfOk, IfErr, MatchBool};
 ghost use Rattle.bitcode_serde.specs.Budget.{IsLeft, spend};
 ghost use Rattle.bitcode_serde.specs.declared.budget.Budget.TheVariants.{Spent};
 
 use bitcode_columns::error::{Error, Reason};
+use std::alloc::Global;
 
-/// How many more nodes of a value are kept, as it is read.
+/// How many more nodes of a value may be kept.
 #[derive(Clone, Copy)]
 pub enum Budget {
-    /// Without a limit.
+    /// There is no limit.
     Endless,
     /// At most this number.
     Nodes(usize),
-    /// The value has more nodes than the limit: the rest is validated, and nothing is kept.
+    /// The value has more nodes than the limit. The rest is validated, but not kept.
     Spent,
 }
 
 impl Budget {
-    /// Takes so many nodes. Where there are fewer left, nothing is left.
+    /// Takes `count` nodes. If fewer are left, the budget is spent.
+    #[inline(always)]
     pub fn take(&mut self, count: usize)
         ensures { self.new ≡ spend count self.old }
     {
@@ -29,14 +31,15 @@ impl Budget {
         }
     }
 
-    /// Whether more nodes were taken than there were.
+    /// Whether more nodes were taken than the budget had.
+    #[inline(always)]
     pub fn is_spent(&self) -> bool
         ensures { MatchBool result (self.now ≡ Spent) (IsLeft self.now) }
     {
         matches!(self, Budget::Spent)
     }
 
-    /// Whether so many nodes can be taken.
+    /// Whether `count` nodes can be taken.
     pub fn has(&self, count: usize) -> bool
         ensures { MatchBool result (IsLeft (spend count self.now)) (spend count self.now ≡ Spent) }
     {
@@ -45,9 +48,23 @@ impl Budget {
         !after.is_spent()
     }
 
-    /// Adds an item to those that are kept, unless the budget is spent.
+    /// An empty list for `count` items. Without a limit it has room for all of them; with one it grows.
     ///
-    /// A refused growth is `out of memory`.
+    /// If an allocation fails, the error is `out of memory`.
+    pub fn room<T>(&self, alloc: Global, count: usize) -> Result<Vec<T>, Error>
+        ensures empty { IfOk result (λ items. items.items ≡ []) }
+        ensures refused { IfErr result (λ e. e.reason ≡ Reason.OutOfMemory) }
+    {
+        match self {
+            Budget::Endless => Ok(Vec::with_capacity(alloc, count)?),
+            _ => Ok(Vec::new(alloc)),
+        }
+    }
+
+    /// Adds an item to the list, unless the budget is spent.
+    ///
+    /// If an allocation fails, the error is `out of memory`.
+    #[inline(always)]
     pub fn keep<T: Drop>(&self, items: &mut Vec<T>, item: T) -> Result<(), Error>
         ensures kept { IsLeft self.now → OnOk result (items.new.items ≡ items.old.items ++ item ∷ []) }
         ensures refused { IfErr result (λ e. e.reason ≡ Reason.OutOfMemory) }

@@ -1,4 +1,4 @@
-//! The types that a case of `Value` holds, where the values of that case are entries of one column.
+//! The payload types of those cases of `Value` that are entries of one column.
 #![tactic(auto)]
 
 ghost use Rattle.std.specs.Prelude.{◌≡◌, List, IfSome, IfNone, refl};
@@ -18,7 +18,7 @@ ghost use Rattle.bitcode_serde.specs.declared.column.ColumnKind.TheVariants as k
 use bitcode_shapes::shaped::Made;
 use bitcode_untyped::value::Value;
 
-/// A type that one case of [`Value`] holds, and whose values are entries of one column.
+/// The payload type of a case of [`Value`] whose values are entries of one column.
 pub trait Case: Made {
     // what the column holds
     ghost kind: { ColumnKind };
@@ -26,12 +26,12 @@ pub trait Case: Made {
     // the value that holds it
     ghost holder: { Self → Value };
 
-    /// What a value of this case holds.
+    /// The payload, if the value has this case.
     fn held(value: &Value) -> Option<&Self>
         ensures some { IfSome result (λ t. value.now ≡ Self.holder t.now) }
         ensures none { IfNone result (IsCaseOf Self.kind value.now → ⊥) };
 
-    /// The value that holds it.
+    /// The value with this payload.
     fn into_value(self) -> Value
         ensures { result ≡ Self.holder self };
 

@@ -1,4 +1,4 @@
-//! The columns that a reader has open.
+//! The columns that a reader has opened.
 ghost use Rattle.std.specs.Prelude.{◌≡◌, ◌≢◌, ℕ, ◌<◌, ◌≤◌, List, ◌∷◌, ◌++◌, None, false, length, map, sum, IsTrue, ◌↔◌, MatchBool, IfOk, IfErr};
 ghost use Rattle.std.specs.List.{AllByRecursion};
 ghost use Rattle.bitcode_columns.specs.Reading.{Reads};
@@ -15,7 +15,8 @@ ghost use Rattle.bitcode_serde.specs.Indices.{indices_left, index_count};
 ghost use Rattle.bitcode_coder.specs.Coder.{IsReadingRefusal, TakesDatum};
 ghost use Rattle.bitcode_coder.specs.Faults.{NamesIntsFault};
 ghost use Rattle.bitcode_untyped.specs.View.{datum_of};
-ghost use Rattle.bitcode_serde.specs.ReadColumns.{kind_of, kind_number, kind_in_code, kind_of_column, left, Tallies, IsCaseOf, ReadsColumn, IsColumnRefusal};
+ghost use Rattle.bitcode_serde.specs.Kinds.{kind_index};
+ghost use Rattle.bitcode_serde.specs.ReadColumns.{kind_of, kind_in_code, kind_of_column, left, Tallies, IsCaseOf, ReadsColumn, IsColumnRefusal};
 
 use crate::case::Case;
 use crate::serde::VariantDecoder;
@@ -29,14 +30,14 @@ use bitcode_shapes::shaped::Made;
 use bitcode_untyped::value::Value;
 use std::alloc::Global;
 
-/// What a column holds.
+/// What a column contains.
 #[derive(Clone, Copy, PartialEq, Eq)]
 pub enum ColumnKind {
     Bools,
-    /// Numbers of one byte, and the indices of variants.
+    /// Numbers of one byte, and indices of variants.
     Bytes,
     U16,
-    /// Numbers of four bytes, and the codes of chars.
+    /// Numbers of four bytes, and codes of chars.
     U32,
     U64,
     U128,
@@ -50,28 +51,15 @@ pub enum ColumnKind {
 }
 
 impl ColumnKind {
-    // A number of its own for each kind.
+    // Where the kind stands among all kinds.
     fn number(self) -> u8
-        ensures { result ≡ kind_number (kind_of self) }
+        ensures { result ≡ kind_index self }
     {
-        match self {
-            ColumnKind::Bools => 0,
-            ColumnKind::Bytes => 12,
-            ColumnKind::U16 => 14,
-            ColumnKind::U32 => 18,
-            ColumnKind::U64 => 26,
-            ColumnKind::U128 => 42,
-            ColumnKind::I8 => 13,
-            ColumnKind::I16 => 15,
-            ColumnKind::I32 => 19,
-            ColumnKind::I64 => 27,
-            ColumnKind::I128 => 43,
-            ColumnKind::Lengths => 1,
-            ColumnKind::Texts => 2,
-        }
+        self as u8
     }
 
-    /// Whether the two kinds are one.
+    /// Whether the two kinds are equal.
+    #[tactic(auto, using(crate::proofs::KindLemmas::same_index, crate::proofs::KindLemmas::other_index))]
     pub fn is(self, other: ColumnKind) -> bool
         ensures { MatchBool result (kind_of self ≡ kind_of other) (kind_of self ≢ kind_of other) }
     {
@@ -82,7 +70,7 @@ impl ColumnKind {
     }
 }
 
-/// An open column: the entries that are left to take.
+/// An open column: its remaining entries.
 #[derive(Drop)]
 pub enum Column<'a> {
     Bools(BoolDecoder<'a>),
@@ -121,6 +109,49 @@ fn values_of<T: Case + Drop>(alloc: Global, items: Vec<T>) -> Result<Vec<Value>,
     Ok(values)
 }
 
+// Takes the next entry as a value, where that takes no memory.
+#[inline(always)]
+fn next_value<T: Case, D: Decoder<T>>(column: &mut D) -> Value
+    requires some { 0 < length (D.held column.old) }
+    requires free { IsTrue D.makes_free }
+    ensures taken { D.held column.old ≡ datum_of result ∷ D.held column.new }
+    ensures of_case { IsCaseOf T.kind result }
+{
+    let item: T = next(column);
+    item.into_value()
+}
+
+// Takes the next number of one byte as a value.
+#[inline(always)]
+fn next_byte(column: &mut VariantDecoder<'_>) -> Value
+    requires { 0 < length (indices_left column.old) }
+    ensures taken { indices_left column.old ≡ datum_of result ∷ indices_left column.new }
+    ensures of_case { IsCaseOf ColumnKind.Bytes result }
+    ensures counts { (index : ℕ) → index_count column.new index ≡ index_count column.old index }
+{
+    Value::U8(column.decode().unwrap())
+}
+
+// Takes so many of the next entries as values of one case, where each takes no memory by itself. So many are left.
+fn take_free<T: Case + Drop, D: Decoder<T>>(
+    column: &mut D,
+    alloc: Global,
+    count: usize,
+) -> Result<Vec<Value>, Error>
+    requires some { count ≤ length (D.held column.old) }
+    requires free { IsTrue D.makes_free }
+    ensures taken { IfOk result (λ values. D.held column.old ≡ map datum_of values.items ++ D.held column.new) }
+    ensures size { IfOk result (λ values. length values.items ≡ count) }
+    ensures of_case { IfOk result (λ values. AllByRecursion (IsCaseOf T.kind) values.items) }
+    ensures refused { IfErr result (λ e. e.reason ≡ Reason.OutOfMemory) }
+{
+    let mut values = Vec::with_capacity(alloc, count)?;
+    for _taken in 0..count {
+        values.push_reserved(next_value::<T, D>(column));
+    }
+    Ok(values)
+}
+
 // Takes so many of the next entries, all at once, as values of one case. So many are left.
 fn take_values<T: Case + Drop, D: Decoder<T>>(
     column: &mut D,
@@ -135,6 +166,26 @@ fn take_values<T: Case + Drop, D: Decoder<T>>(
 {
     let items = column.decode_many(alloc, count)?;
     let values = values_of(alloc, items)?;
+    Ok(values)
+}
+
+// Takes so many of the next numbers of one byte as values. So many are left.
+fn take_indices(
+    column: &mut VariantDecoder<'_>,
+    alloc: Global,
+    count: usize,
+) -> Result<Vec<Value>, Error>
+    requires { count ≤ length (indices_left column.old) }
+    ensures taken { IfOk result (λ values. indices_left column.old ≡ map datum_of values.items ++ indices_left column.new) }
+    ensures size { IfOk result (λ values. length values.items ≡ count) }
+    ensures of_case { IfOk result (λ values. AllByRecursion (IsCaseOf ColumnKind.Bytes) values.items) }
+    ensures counts { (index : ℕ) → index_count column.new index ≡ index_count column.old index }
+    ensures refused { IfErr result (λ e. e.reason ≡ Reason.OutOfMemory) }
+{
+    let mut values = Vec::with_capacity(alloc, count)?;
+    for _taken in 0..count {
+        values.push_reserved(next_byte(column));
+    }
     Ok(values)
 }
 
@@ -191,10 +242,10 @@ fn read_lengths<'a>(
 }
 
 impl<'a> Column<'a> {
-    /// Reads a column of so many entries from the front of the input. Where `strict`, the answer is whether its bytes are those
-    /// that are written for them; else it says nothing.
+    /// Reads a column of `count` entries from the front of the input. If `strict`, it returns whether the bytes are
+    /// those that would be written for them. Otherwise the returned bool has no meaning.
     ///
-    /// It refuses as the column's decoder does.
+    /// Errors: those of the column's decoder.
     pub fn open(
         kind: ColumnKind,
         alloc: Global,
@@ -264,7 +315,7 @@ impl<'a> Column<'a> {
         }
     }
 
-    /// What the column holds.
+    /// What the column contains.
     pub fn kind(&self) -> ColumnKind
         ensures { kind_of result ≡ kind_of_column self.now }
     {
@@ -285,9 +336,9 @@ impl<'a> Column<'a> {
         }
     }
 
-    /// Takes the next entry. One is left.
+    /// Takes the next entry. At least one must be left.
     ///
-    /// `out of memory` is the only refusal: a text is copied.
+    /// The only error is `out of memory`, because a text is copied.
     pub fn take(&mut self) -> Result<Value, Error>
         requires { 0 < length (left self.old) }
         ensures taken { IfOk result (λ value. left self.old ≡ datum_of value ∷ left self.new) }
@@ -298,7 +349,7 @@ impl<'a> Column<'a> {
     {
         match self {
             Column::Bools(column) => Ok(Value::Bool(next(column))),
-            Column::Bytes(column) => Ok(Value::U8(column.decode().unwrap())),
+            Column::Bytes(column) => Ok(next_byte(column)),
             Column::U16(column) => Ok(Value::U16(next(column))),
             Column::U32(column) => Ok(Value::U32(next(column))),
             Column::U64(column) => Ok(Value::U64(next(column))),
@@ -331,9 +382,9 @@ impl<'a> Column<'a> {
         Ok(values)
     }
 
-    /// Takes so many of the next entries at once. So many are left.
+    /// Takes the next `count` entries at once. At least as many must be left.
     ///
-    /// `out of memory` is the only refusal.
+    /// The only error is `out of memory`.
     pub fn take_each(&mut self, alloc: Global, count: usize) -> Result<Vec<Value>, Error>
         requires { count ≤ length (left self.old) }
         ensures taken { IfOk result (λ values. left self.old ≡ map datum_of values.items ++ left self.new) }
@@ -344,23 +395,23 @@ impl<'a> Column<'a> {
         ensures refused { IfErr result (λ e. e.reason ≡ Reason.OutOfMemory) }
     {
         match self {
-            Column::Bools(column) => take_values::<bool, BoolDecoder<'a>>(column, alloc, count),
-            Column::Bytes(column) => values_of(alloc, column.take(count)?),
-            Column::U16(column) => take_values::<u16, IntDecoder<'a, u16>>(column, alloc, count),
-            Column::U32(column) => take_values::<u32, IntDecoder<'a, u32>>(column, alloc, count),
-            Column::U64(column) => take_values::<u64, IntDecoder<'a, u64>>(column, alloc, count),
-            Column::U128(column) => take_values::<u128, IntDecoder<'a, u128>>(column, alloc, count),
-            Column::I8(column) => take_values::<i8, IntDecoder<'a, i8>>(column, alloc, count),
-            Column::I16(column) => take_values::<i16, IntDecoder<'a, i16>>(column, alloc, count),
-            Column::I32(column) => take_values::<i32, IntDecoder<'a, i32>>(column, alloc, count),
-            Column::I64(column) => take_values::<i64, IntDecoder<'a, i64>>(column, alloc, count),
-            Column::I128(column) => take_values::<i128, IntDecoder<'a, i128>>(column, alloc, count),
+            Column::Bools(column) => take_free::<bool, BoolDecoder<'a>>(column, alloc, count),
+            Column::Bytes(column) => take_indices(column, alloc, count),
+            Column::U16(column) => take_free::<u16, IntDecoder<'a, u16>>(column, alloc, count),
+            Column::U32(column) => take_free::<u32, IntDecoder<'a, u32>>(column, alloc, count),
+            Column::U64(column) => take_free::<u64, IntDecoder<'a, u64>>(column, alloc, count),
+            Column::U128(column) => take_free::<u128, IntDecoder<'a, u128>>(column, alloc, count),
+            Column::I8(column) => take_free::<i8, IntDecoder<'a, i8>>(column, alloc, count),
+            Column::I16(column) => take_free::<i16, IntDecoder<'a, i16>>(column, alloc, count),
+            Column::I32(column) => take_free::<i32, IntDecoder<'a, i32>>(column, alloc, count),
+            Column::I64(column) => take_free::<i64, IntDecoder<'a, i64>>(column, alloc, count),
+            Column::I128(column) => take_free::<i128, IntDecoder<'a, i128>>(column, alloc, count),
             Column::Lengths(_) => self.take_in_turn(alloc, count),
             Column::Texts(column) => take_values::<String, StrDecoder<'a>>(column, alloc, count),
         }
     }
 
-    /// Takes the next length. One is left.
+    /// Takes the next length. At least one must be left.
     pub fn take_length(&mut self) -> usize
         requires lengths { kind_of_column self.old ≡ lengths None }
         requires some { 0 < length (left self.old) }
@@ -374,7 +425,7 @@ impl<'a> Column<'a> {
         }
     }
 
-    /// Takes the next index. One is left.
+    /// Takes the next index. At least one must be left.
     pub fn take_index(&mut self) -> u8
         requires bytes { kind_of_column self.old ≡ ints 1 false }
         requires some { 0 < length (left self.old) }
@@ -388,9 +439,9 @@ impl<'a> Column<'a> {
         }
     }
 
-    /// Takes so many of the next numbers of one byte. So many are left.
+    /// Takes the next `count` numbers of one byte. At least as many must be left.
     ///
-    /// A refused growth is `out of memory`.
+    /// If an allocation fails, the error is `out of memory`.
     pub fn take_bytes(&mut self, count: usize) -> Result<Vec<u8>, Error>
         requires bytes { kind_of_column self.old ≡ ints 1 false }
         requires some { count ≤ length (left self.old) }
@@ -406,7 +457,7 @@ impl<'a> Column<'a> {
         }
     }
 
-    /// Takes the next number of four bytes. One is left.
+    /// Takes the next number of four bytes. At least one must be left.
     pub fn take_code(&mut self) -> u32
         requires codes { kind_of_column self.old ≡ ints 4 false }
         requires some { 0 < length (left self.old) }
@@ -420,7 +471,7 @@ impl<'a> Column<'a> {
         }
     }
 
-    /// The sum of the lengths that were read, those that were taken since too.
+    /// The sum of all lengths that were read, including those already taken.
     pub fn total(&self) -> usize
         requires { kind_of_column self.now ≡ lengths None }
         ensures { (entries : List Datum) → Tallies self.now entries → result ≡ total entries }

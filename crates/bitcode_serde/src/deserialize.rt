@@ -1,4 +1,4 @@
-//! Bytes of the second format to a value.
+//! Decoding the second format.
 ghost use Rattle.std.specs.Prelude.{◌≡◌, ◌≢◌, ◌≤◌, ◌*◌, ◌↔◌, [], length, IsTrue, IfOk, IfErr};
 ghost use Rattle.bitcode_shapes.specs.Datum.{Datum};
 ghost use Rattle.bitcode_untyped.specs.Bounds.{element_count};
@@ -22,7 +22,7 @@ use bitcode_untyped::shape::Shape;
 use bitcode_untyped::value::Value;
 use std::alloc::Global;
 
-/// How many references are followed on one path.
+/// The maximal number of references on one path.
 pub const REF_LIMIT: usize = 512;
 
 // Reads a value of a shape from the whole input, as far as a budget of nodes keeps it. Where `strict`, the answer is whether each column stands in the bytes that are
@@ -56,13 +56,13 @@ fn read_whole(
     Ok((value, reader.is_written()))
 }
 
-/// Reads the one value of a shape that the whole input spells.
+/// Decodes the bytes, which must spell exactly one value of the shape.
 ///
-/// It refuses with `EOF`, `Expected EOF`, `invalid packing`, `length overflow`, `huge length`, `invalid utf8`,
-/// `invalid enum variant`, `invalid option`, `invalid char`, `too many zero sized types` and `nested too deep`, each only
-/// where the input spells no value of the shape, and with `out of memory`.
+/// Errors: `EOF`, `Expected EOF`, `invalid packing`, `length overflow`, `huge length`, `invalid utf8`,
+/// `invalid enum variant`, `invalid option`, `invalid char`, `too many zero sized types` and `nested too deep`, each
+/// only if the input spells no value of the shape, and `out of memory`.
 ///
-/// A byte may spell up to 524296 elements, and each takes memory: read bytes from strangers by [`deserialize_within`].
+/// A byte may spell up to 524296 elements, and each is allocated: decode untrusted input with [`deserialize_within`].
 ///
 /// ```
 /// let flags = Shape::new(vec![in alloc; ShapeNode::Seq(Box::new(alloc, ShapeNode::Bool)?)]?, 0)?;
@@ -82,11 +82,11 @@ pub fn deserialize(alloc: Global, shape: &Shape, bytes: &[u8]) -> Result<Value, 
     Ok(read.0)
 }
 
-/// Reads the one value of a shape that the whole input spells, as [`deserialize`] does, where each column has the bytes that
-/// `serialize` writes for its entries. So it accepts each value in one form only.
+/// Decodes the bytes as [`deserialize`] does, but accepts only the bytes that `serialize` writes for the entries of
+/// each column. So it accepts each value in only one form.
 ///
-/// It refuses as `deserialize` does, and with `not the written text` where the input spells a value of the shape and some column
-/// has other bytes.
+/// Errors: those of `deserialize`, and `not the written text` if the input spells a value of the shape but some column
+/// has different bytes.
 ///
 /// ```
 /// let flag = Shape::new(vec![in alloc; ShapeNode::Bool]?, 0)?;
@@ -110,14 +110,14 @@ pub fn deserialize_strict(alloc: Global, shape: &Shape, bytes: &[u8]) -> Result<
     Ok(read.0)
 }
 
-/// Reads the one value of a shape that the whole input spells, if it has no more nodes than a limit.
+/// Decodes the bytes as [`deserialize`] does, if the value has at most `limit` nodes.
 ///
-/// Each unit, number, text, list, tuple and variant in the value is a node, and so is the value itself: `[[], [[]]]` has
-/// 4 nodes, `Some(true)` and `None` have 2 each. A few bytes may spell millions of them, so this is the call for bytes
-/// from strangers: it takes memory for the input's columns and for at most `limit` nodes.
+/// Each unit, number, text, list, tuple and variant in the value is a node, and so is the value itself: `[[], [[]]]`
+/// has 4 nodes, `Some(true)` and `None` have 2 each. A few bytes may spell millions of nodes. So use this call for
+/// untrusted input: it allocates only for the input's columns and for at most `limit` nodes.
 ///
-/// It refuses as [`deserialize`] does, and with `too many nodes` where the input spells a value of the shape with more
-/// nodes than `limit`.
+/// Errors: those of [`deserialize`], and `too many nodes` if the input spells a value of the shape with more than
+/// `limit` nodes.
 ///
 /// ```
 /// let flags = Shape::new(vec![in alloc; ShapeNode::Seq(Box::new(alloc, ShapeNode::Bool)?)]?, 0)?;

@@ -1,4 +1,4 @@
-//! The values that are entries of one column.
+//! Values that are entries of one column.
 #![tactic(auto)]
 
 ghost use Rattle.std.specs.Prelude.{◌≡◌, IfOk, IfErr};
@@ -18,9 +18,9 @@ fn copied<T: Copy>(t: &T) -> T
     *t
 }
 
-/// The entry that a value is, under a node whose values are entries of one column.
+/// The entry for a value, under a node whose values are entries of one column.
 ///
-/// Refuses with `value is not of the shape` where the value is of another type.
+/// If the value has another type, the error is `value is not of the shape`.
 pub fn leaf_entry<'a>(node: &ShapeNode, value: &'a Value) -> Result<Entry<'a>, Error>
     requires { IsLeaf node.now }
     ensures entry { IfOk result (λ entry. IsEntryAt node.now value.now (kind_of_entry entry) (datum_of_entry entry)) }

@@ -1,4 +1,4 @@
-//! Which nodes name data without a column.
+//! Nodes whose data have no column.
 ghost use Rattle.std.specs.Prelude.{◌≡◌, ◌<◌, ◌≤◌, true, MatchBool};
 ghost use Rattle.std.specs.List.{list_all};
 ghost use Rattle.bitcode_untyped.specs.Bounds.{column_free, free_limit};
@@ -6,10 +6,10 @@ ghost use Rattle.bitcode_untyped.specs.View.{tree_of_node};
 
 use bitcode_untyped::shape::ShapeNode;
 
-/// How many elements or keys without a column are read, in one list or map.
+/// The maximal number of elements or keys without a column in one list or map.
 pub const ZST_LIMIT: usize = 65536;
 
-/// Whether so many data of a node are more than are read, since they have no entry in any column.
+/// Whether `count` data of a node exceed the limit for data without an entry in any column.
 pub fn is_over_limit(table: &[ShapeNode], node: &ShapeNode, left: usize, count: usize) -> bool
     ensures { MatchBool result ((column_free (tree_of_node left table.now node.now) ≡ true) × (free_limit < count)) (column_free (tree_of_node left table.now node.now) ≡ true → count ≤ free_limit) }
 {
@@ -22,7 +22,7 @@ pub fn is_over_limit(table: &[ShapeNode], node: &ShapeNode, left: usize, count: 
     false
 }
 
-/// Whether the data of a node have no entry in any column, where so many references may be followed.
+/// Whether the data of a node have no entry in any column, if so many references may be followed.
 #[cycle(free)]
 pub fn is_free(table: &[ShapeNode], node: &ShapeNode, left: usize) -> bool
     ensures { result ≡ column_free (tree_of_node left table.now node.now) }

@@ -1,4 +1,4 @@
-//! Values that one column has, and lists of bytes.
+//! Values that are entries of one column, and lists of bytes.
 ghost use Rattle.std.specs.Prelude.{◌≡◌, ◌≤◌, length, map, IfOk, IfErr, IfSome, IfNone, OnOk};
 ghost use Rattle.std.specs.List.{AllByRecursion};
 ghost use Rattle.bitcode_coder.specs.Spelling.{natural};
@@ -19,7 +19,8 @@ use bitcode_columns::refuse::err;
 use bitcode_untyped::shape::ShapeNode;
 use bitcode_untyped::value::Value;
 
-/// What a column holds whose entries are the values of a node, where each of its entries is one.
+/// The kind of the column whose entries are the values of a node, if there is one.
+#[inline(always)]
 pub fn column_kind(node: &ShapeNode) -> Option<ColumnKind>
     ensures some { IfSome result (λ kind. HasColumn node.now kind) }
     ensures none { IfNone result (IsLeaf node.now → node.now ≡ ShapeNode.Char) }
@@ -41,7 +42,8 @@ pub fn column_kind(node: &ShapeNode) -> Option<ColumnKind>
     }
 }
 
-/// Reads a value of a column of a kind.
+/// Reads a value from a column of this kind.
+#[inline(always)]
 pub fn read_leaf(reader: &mut Reader<'_>, place: usize, kind: ColumnKind) -> Result<Value, Error>
     requires place { place ≤ length reader.old.places.below.items }
     requires steady { IsSteady reader.old }
@@ -54,7 +56,7 @@ pub fn read_leaf(reader: &mut Reader<'_>, place: usize, kind: ColumnKind) -> Res
     Ok(value)
 }
 
-/// Reads so many values of a column of a kind, all at once.
+/// Reads `count` values from a column of this kind, all at once.
 pub fn read_leaves(
     reader: &mut Reader<'_>,
     place: usize,
@@ -73,7 +75,7 @@ pub fn read_leaves(
     Ok(values)
 }
 
-/// Reads a char. It refuses with `invalid char` where its number is the code of none.
+/// Reads a char. If its number is not the code of a char, the error is `invalid char`.
 pub fn read_char(reader: &mut Reader<'_>, place: usize) -> Result<Value, Error>
     requires place { place ≤ length reader.old.places.below.items }
     requires steady { IsSteady reader.old }
@@ -107,7 +109,7 @@ fn read_elements_of_bytes(
     Ok(bytes)
 }
 
-/// Reads a list of bytes, each of which is a node.
+/// Reads a list of bytes. Each byte is a node.
 pub fn read_bytes(
     reader: &mut Reader<'_>,
     budget: &mut Budget,

@@ -1,4 +1,4 @@
-//! The second format: values of any shape, written and read under the shape.
+//! The second format: encoding and decoding values under a shape.
 #![tactic(auto)]
 
 pub mod budget;

@@ -1,4 +1,4 @@
-//! Where a place leads.
+//! Links from a place to the places below it.
 #![tactic(auto)]
 
 ghost use Rattle.std.specs.Prelude.{◌≡◌, ◌<◌, ◌⊎◌, ℕ, None, Some, length, get_or, OnOk, IfErr};
@@ -9,7 +9,7 @@ use crate::step::Step;
 use bitcode_columns::error::{Error, Reason};
 use std::alloc::Global;
 
-/// Where a place leads: to its column, and to the places one step below it, each by its number.
+/// The links of a place: the number of its column, and the numbers of the places one step below it.
 #[derive(Drop)]
 pub struct Links {
     pub(crate) column: Option<usize>,
@@ -21,6 +21,7 @@ pub struct Links {
 }
 
 // The link at an index, if there is one.
+#[inline(always)]
 fn link_at(links: &[Option<usize>], i: usize) -> Option<usize>
     ensures { result ≡ get_or links.now i None }
 {
@@ -40,7 +41,7 @@ fn make_room(links: &mut Vec<Option<usize>>, i: usize) -> Result<(), Error>
 }
 
 impl Links {
-    /// Leads nowhere. Takes no memory.
+    /// Creates links to nothing, without allocating.
     pub fn new(alloc: Global) -> Self
         ensures column { result.column ≡ None }
         ensures none { (step : CodeStep) → link_of result step ≡ None }
@@ -55,7 +56,8 @@ impl Links {
         }
     }
 
-    /// The number of the place one step below, if it was met.
+    /// The number of the place one step below, if it was reached before.
+    #[inline(always)]
     pub fn get(&self, step: Step) -> Option<usize>
         ensures { result ≡ link_of self.now step }
     {
@@ -68,9 +70,9 @@ impl Links {
         }
     }
 
-    /// Makes room for the number of the place one step below.
+    /// Reserves room for the number of the place one step below.
     ///
-    /// A refused growth is `out of memory`.
+    /// If an allocation fails, the error is `out of memory`.
     pub fn make_room(&mut self, step: Step) -> Result<(), Error>
         ensures same { (s : CodeStep) → link_of self.new s ≡ link_of self.old s }
         ensures column { self.new.column ≡ self.old.column }
@@ -84,7 +86,7 @@ impl Links {
         }
     }
 
-    /// Sets the number of the place one step below, for which there is room.
+    /// Sets the number of the place one step below. The caller must have reserved the room.
     pub fn set(&mut self, step: Step, place: usize)
         requires { HasRoom self.old step }
         ensures there { link_of self.new step ≡ Some place }

@@ -1,7 +1,7 @@
-//! The places that were met, by number.
+//! The places that were reached, by number.
 #![tactic(auto)]
 
-ghost use Rattle.std.specs.Prelude.{◌≡◌, ◌<◌, ◌≤◌, ◌+◌, ◌⊎◌, ℕ, [], ◌∷◌, None, Some, length, IfOk, OnOk, IfErr, OnErr};
+ghost use Rattle.std.specs.Prelude.{◌≡◌, ◌<◌, ◌≤◌, ◌+◌, ◌⊎◌, ℕ, [], ◌∷◌, None, Some, length, IfOk, OnOk, IfErr, IfSome, OnErr};
 ghost use Rattle.std.proofs.Props.{props};
 ghost use Rattle.bitcode_serde.specs.declared.step.Step.{Step as CodeStep};
 ghost use Rattle.bitcode_serde.specs.Links.{link, column_link, HasRoomAt};
@@ -19,10 +19,10 @@ pub struct Below {
     pub(crate) step: Step,
 }
 
-/// The places that were met, and where each leads.
+/// The places that were reached, and their links.
 ///
-/// Places are numbered as they are met: 0 is the root, and each other lies below one before it. A step from one to the
-/// next, or to its column, costs the same however many there are.
+/// Places are numbered in the order in which they are reached. 0 is the root, and each other place is below an earlier
+/// one. A step from a place to the next one, or to its column, takes the same time for any number of places.
 #[derive(Drop)]
 pub struct Places {
     alloc: Global,
@@ -85,7 +85,7 @@ fn set_column(links: &mut [Links], place: usize, column: usize)
 }
 
 impl Places {
-    /// Has met the root. Takes no memory.
+    /// Starts with the root, without allocating.
     pub fn new(alloc: Global) -> Self
         ensures root { result.below.items ≡ [] }
         ensures columns { (n : ℕ) → column_link result.links.items n ≡ None }
@@ -97,7 +97,7 @@ impl Places {
         }
     }
 
-    /// How many places were met below the root.
+    /// How many places were reached below the root.
     pub fn len(&self) -> usize
         ensures { result ≡ length self.now.below.items }
     {
@@ -105,6 +105,7 @@ impl Places {
     }
 
     /// The number of the column of a place, if it has one.
+    #[inline(always)]
     pub fn column(&self, place: usize) -> Option<usize>
         ensures { result ≡ column_link self.now.links.items place }
     {
@@ -115,6 +116,7 @@ impl Places {
     }
 
     // The place one step below another, if it was met.
+    #[inline(always)]
     fn find(&self, above: usize, step: Step) -> Option<usize>
         ensures { result ≡ link self.now.links.items above step }
     {
@@ -124,9 +126,18 @@ impl Places {
         }
     }
 
+    /// The number of the place one step below another, if it was met.
+    #[inline(always)]
+    pub fn met(&self, above: usize, step: Step) -> Option<usize>
+        ensures { IfSome result (λ n. IsPlace self.now.below.items n (step_of step ∷ place_at (places self.now.below.items) above)) }
+    {
+        self.find(above, step)
+    }
+
     /// The number of the place one step below another.
     ///
-    /// A refused growth is `out of memory`.
+    /// If an allocation fails, the error is `out of memory`.
+    #[inline(always)]
     pub fn below(&mut self, above: usize, step: Step) -> Result<usize, Error>
         requires { above ≤ length self.old.below.items }
         ensures some { IfOk result (λ n. 0 < n) }
@@ -143,6 +154,8 @@ impl Places {
     }
 
     // Adds the place one step below another, which was not met.
+    #[cold]
+    #[inline(never)]
     fn add(&mut self, above: usize, step: Step) -> Result<usize, Error>
         requires above { above ≤ length self.old.below.items }
         requires fresh { link self.old.links.items above step ≡ None }
@@ -160,9 +173,9 @@ impl Places {
         Ok(place)
     }
 
-    /// Makes room for the number of a place's column.
+    /// Reserves room for the number of a place's column.
     ///
-    /// A refused growth is `out of memory`.
+    /// If an allocation fails, the error is `out of memory`.
     pub fn make_room(&mut self, place: usize) -> Result<(), Error>
         ensures below { self.new.below ≡ self.old.below }
         ensures columns { (n : ℕ) → column_link self.new.links.items n ≡ column_link self.old.links.items n }
@@ -172,7 +185,7 @@ impl Places {
         make_room(self.alloc, &mut self.links, place)
     }
 
-    /// Sets the number of the column of a place, for which there is room.
+    /// Sets the number of a place's column. The caller must have reserved the room.
     pub fn set_column(&mut self, place: usize, column: usize)
         requires { place < length self.old.links.items }
         ensures below { self.new.below ≡ self.old.below }

@@ -1,4 +1,4 @@
-//! Columns as they are first reached, each at its place.
+//! Columns in the order in which they are first reached, each at its place.
 ghost use Rattle.std.specs.Prelude.{◌≡◌, ◌≢◌, ◌<◌, ◌≤◌, ℕ, [], ◌∷◌, false, take, length, map, All, slice_get, get_or, IfOk, OnOk, IfErr, IfSome, IfNone, IsSomeAnd, MatchBool};
 ghost use Rattle.std.specs.List.{AllByRecursion};
 ghost use Rattle.bitcode_coder.specs.Spelling.{natural};
@@ -21,7 +21,7 @@ use bitcode_columns::refuse::err;
 use bitcode_untyped::value::Value;
 use std::alloc::Global;
 
-/// An open column, the number of its place, and how many of its entries are left.
+/// An open column, the number of its place, and the number of its remaining entries.
 #[derive(Drop)]
 pub struct OpenColumn<'a> {
     place: usize,
@@ -29,7 +29,7 @@ pub struct OpenColumn<'a> {
     column: Column<'a>,
 }
 
-/// What is asked of the bytes of the columns, and what is told of those so far.
+/// Whether to compare the bytes of the columns with those that would be written, and the result so far.
 #[derive(Clone, Copy)]
 pub struct Verdict<'a> {
     // all of the input
@@ -40,7 +40,8 @@ pub struct Verdict<'a> {
     written: bool,
 }
 
-/// The columns so far and the bytes behind them; the places that were met, and how many data each has below the root.
+/// The columns so far, the bytes after them, the places that were reached, and the number of data below the root at
+/// each place.
 #[derive(Drop)]
 pub struct Reader<'a> {
     alloc: Global,
@@ -54,14 +55,14 @@ pub struct Reader<'a> {
     ghost filed: { AreFiled places.links.items (map (λ c. c.place) columns.items) } by { Prim.hlevel props },
 }
 
-/// A length that was taken, and the sum of all lengths of its column.
+/// A length that was taken, and the sum of all lengths in its column.
 #[derive(Clone, Copy)]
 pub struct Length {
     pub length: usize,
     pub total: usize,
 }
 
-/// An index that was taken, and how many indices of its column are the same.
+/// An index that was taken, and the number of equal indices in its column.
 #[derive(Clone, Copy)]
 pub struct Index {
     pub index: u8,
@@ -86,8 +87,8 @@ impl<'a> Reader<'a> {
     ghost use Rattle.bitcode_serde.specs.Reading.{Hosts, counts, AreSized, IsAskedAs, Stands, IsReady, Prepares, NothingAt, NotSoMany, Leads, LeadsEach, LeadsTelling};
     ghost use Rattle.bitcode_serde.specs.ReadingValues.{IsSteady, Continues, field_at};
 
-    /// Begins before the bytes, with no column open. If `strict`, the reader tells whether the columns have the bytes that are
-    /// written for their entries. Takes no memory.
+    /// Starts before the bytes, without open columns and without allocating. If `strict`, the reader determines whether
+    /// the columns have the bytes that would be written for their entries.
     pub fn new(alloc: Global, bytes: &'a [u8], strict: bool) -> Self
         ensures stands { Stands result (start bytes.now) }
         ensures strict { result.verdict.strict ≡ strict }
@@ -108,14 +109,14 @@ impl<'a> Reader<'a> {
         }
     }
 
-    /// Whether each column so far has the bytes that are written for its entries, where that is asked.
+    /// Whether each column so far has the bytes that would be written for its entries, if the reader is strict.
     pub fn is_written(&self) -> bool
         ensures { result ≡ self.now.verdict.written }
     {
         self.verdict.written
     }
 
-    /// Whether no byte is left behind the columns that were opened.
+    /// Whether no byte is left after the columns that were opened.
     pub fn is_at_end(&self) -> bool
         ensures { MatchBool result ((a : State) → Stands self.now a → a.rest ≡ []) ((a : State) → Stands self.now a → a.rest ≢ []) }
     {
@@ -123,6 +124,7 @@ impl<'a> Reader<'a> {
     }
 
     // The column of a place, if it is open.
+    #[inline(always)]
     fn column(&self, place: usize) -> Option<usize>
         ensures none { IfNone result (All (λ c. c.place ≢ place) self.now.columns.items) }
         ensures some { IfSome result (λ i. IsSomeAnd (slice_get self.now.columns.items i) (λ c. c.place ≡ place)) }
@@ -132,6 +134,7 @@ impl<'a> Reader<'a> {
     }
 
     // How many data stand at a place.
+    #[inline(always)]
     fn count_at(&self, place: usize) -> usize
         requires { place ≤ length self.now.places.below.items }
         ensures { result ≡ get_or (counts self.now) place 0 }
@@ -144,6 +147,7 @@ impl<'a> Reader<'a> {
     }
 
     // Opens the column of a place, unless it is open, and finds it. An entry is left.
+    #[inline(always)]
     fn ready(&mut self, place: usize, kind: ColumnKind) -> Result<usize, Error>
         requires place { place ≤ length self.old.places.below.items }
         requires sized { AreSized self.old.columns.items }
@@ -170,6 +174,8 @@ impl<'a> Reader<'a> {
     }
 
     // Opens the column of a place that has none.
+    #[cold]
+    #[inline(never)]
     fn open(&mut self, place: usize, kind: ColumnKind) -> Result<usize, Error>
         requires place { place ≤ length self.old.places.below.items }
         requires closed { All (λ c. c.place ≢ place) self.old.columns.items }
@@ -199,10 +205,29 @@ impl<'a> Reader<'a> {
         Ok(last)
     }
 
-    /// The number of the place one step below another, at which so many data stand.
+    /// The number of the place one step below another, with the number of data at it.
     ///
-    /// A refused growth is `out of memory`.
+    /// If an allocation fails, the error is `out of memory`.
+    #[inline(always)]
     pub fn step(&mut self, above: usize, step: Step, count: usize) -> Result<usize, Error>
+        requires { above ≤ length self.old.places.below.items }
+        ensures found { IfOk result (λ i. IsPlace self.new.places.below.items i (step_of step ∷ place_at (places self.old.places.below.items) above)) }
+        ensures kept { OnOk result ((i : ℕ) (p : Place) → IsPlace self.old.places.below.items i p → IsPlace self.new.places.below.items i p) }
+        ensures stands { OnOk result ((a : State) → Stands self.old a → Hosts (map whole a.opened) (step_of step ∷ place_at (places self.old.places.below.items) above) count → Stands self.new a) }
+        ensures columns { self.new.columns ≡ self.old.columns }
+        ensures asked { IsAskedAs self.old self.new }
+        ensures refused { IfErr result (λ e. e.reason ≡ Reason.OutOfMemory) }
+    {
+        match self.places.met(above, step) {
+            Some(place) => Ok(place),
+            None => self.meet(above, step, count),
+        }
+    }
+
+    // The number of the place one step below another, which may be a new one, and at which so many data stand.
+    #[cold]
+    #[inline(never)]
+    fn meet(&mut self, above: usize, step: Step, count: usize) -> Result<usize, Error>
         requires { above ≤ length self.old.places.below.items }
         ensures found { IfOk result (λ i. IsPlace self.new.places.below.items i (step_of step ∷ place_at (places self.old.places.below.items) above)) }
         ensures kept { OnOk result ((i : ℕ) (p : Place) → IsPlace self.old.places.below.items i p → IsPlace self.new.places.below.items i p) }
@@ -217,9 +242,11 @@ impl<'a> Reader<'a> {
         Ok(place)
     }
 
-    /// The number of the place of a field of a tuple of so many: a tuple of one stands where its field does.
+    /// The number of the place of field `i` of a tuple with `fields` fields. The field of a one-field tuple has the
+    /// tuple's place.
     ///
-    /// A refused growth is `out of memory`.
+    /// If an allocation fails, the error is `out of memory`.
+    #[inline(always)]
     pub fn field(&mut self, place: usize, i: usize, fields: usize) -> Result<usize, Error>
         requires place { place ≤ length self.old.places.below.items }
         requires steady { IsSteady self.old }
@@ -236,9 +263,10 @@ impl<'a> Reader<'a> {
         Ok(inside)
     }
 
-    /// Takes the next entry of the column of a place, which is opened where it is first reached.
+    /// Takes the next entry of the column of a place, which it opens when it first reaches the place.
     ///
-    /// It refuses as the column's decoder does, and with `EOF` where no entry is left.
+    /// Errors: those of the column's decoder, and `EOF` if no entry is left.
+    #[inline(always)]
     pub fn take(&mut self, place: usize, kind: ColumnKind) -> Result<Value, Error>
         requires place { place ≤ length self.old.places.below.items }
         requires sized { AreSized self.old.columns.items }
@@ -256,9 +284,9 @@ impl<'a> Reader<'a> {
         Ok(value)
     }
 
-    /// Takes so many of the next entries of the column of a place, one after another.
+    /// Takes the next `count` entries of the column of a place, one after another.
     ///
-    /// It refuses as [`Reader::take`] does.
+    /// Errors: those of [`Reader::take`].
     pub fn take_each(
         &mut self,
         place: usize,
@@ -288,9 +316,9 @@ impl<'a> Reader<'a> {
         Ok(values)
     }
 
-    /// Takes the next length of a place, and tells the sum of all of them.
+    /// Takes the next length of a place, and returns the sum of all its lengths too.
     ///
-    /// It refuses as [`Reader::take`] does.
+    /// Errors: those of [`Reader::take`].
     pub fn take_length(&mut self, place: usize) -> Result<Length, Error>
         requires place { place ≤ length self.old.places.below.items }
         requires sized { AreSized self.old.columns.items }
@@ -309,9 +337,9 @@ impl<'a> Reader<'a> {
         Ok(Length { length, total })
     }
 
-    /// Takes the next index of a place, and tells how many of its indices are the same.
+    /// Takes the next index of a place, and returns the number of its equal indices too.
     ///
-    /// It refuses as [`Reader::take`] does.
+    /// Errors: those of [`Reader::take`].
     pub fn take_index(&mut self, place: usize) -> Result<Index, Error>
         requires place { place ≤ length self.old.places.below.items }
         requires sized { AreSized self.old.columns.items }
@@ -330,9 +358,9 @@ impl<'a> Reader<'a> {
         Ok(Index { index, count })
     }
 
-    /// Takes so many of the next numbers of one byte of a place, all at once.
+    /// Takes the next `count` numbers of one byte of a place, all at once.
     ///
-    /// It refuses as [`Reader::take`] does.
+    /// Errors: those of [`Reader::take`].
     pub fn take_bytes(&mut self, place: usize, count: usize) -> Result<Vec<u8>, Error>
         requires place { place ≤ length self.old.places.below.items }
         requires sized { AreSized self.old.columns.items }
@@ -358,7 +386,7 @@ impl<'a> Reader<'a> {
 
     /// Takes the next number of four bytes of a place.
     ///
-    /// It refuses as [`Reader::take`] does.
+    /// Errors: those of [`Reader::take`].
     pub fn take_code(&mut self, place: usize) -> Result<u32, Error>
         requires place { place ≤ length self.old.places.below.items }
         requires sized { AreSized self.old.columns.items }

@@ -1,4 +1,4 @@
-//! The coders of the indices of variants, of any number of them.
+//! The coders of variant indices, for any number of variants.
 pub use crate::serde::decoder::VariantDecoder;
 pub use crate::serde::encoder::VariantEncoder;
 

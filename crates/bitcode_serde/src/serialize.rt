@@ -1,4 +1,4 @@
-//! A value to bytes of the second format.
+//! Encoding the second format.
 ghost use Rattle.std.specs.Prelude.{◌≡◌, [], IfOk, IfErr, OnOk};
 ghost use Rattle.bitcode_untyped.specs.Bounds.{IsLimited};
 ghost use Rattle.bitcode_untyped.specs.Faults.{value_faults};
@@ -17,15 +17,15 @@ use bitcode_untyped::shape::Shape;
 use bitcode_untyped::value::Value;
 use std::alloc::Global;
 
-/// Writes a value of a shape: one column for each place that the value has, in the order of their first entries.
+/// Encodes a value of a shape: one column for each place of the value, in the order of their first entries.
 ///
-/// It refuses a value that is not of the shape, and no other: with `enums with more than 256 variants are unsupported` only
-/// where an index is over 255, with `nested too deep` only where more than 512 references are followed on a path, and with
-/// `value is not of the shape` only where it is not in another way. Where it is not in several ways, any of them may be told.
-/// It also refuses with `out of memory`.
+/// Errors: `enums with more than 256 variants are unsupported` only if an index exceeds 255, `nested too deep` only if
+/// a path has more than 512 references, and `value is not of the shape` only for other faults. A value with one of
+/// these faults is always rejected, and no other value is. If it has several faults, any of them may be reported. The
+/// other error is `out of memory`.
 ///
-/// `deserialize` reads the value back, where each column of lengths sums below 2251799813685247 and each list of elements
-/// without a column, and each map of keys without one, has at most 65536 of them.
+/// `deserialize` reads the value back, if each column of lengths sums to less than 2251799813685247, and if each list
+/// of elements without a column, and each map of keys without one, has at most 65536 of them.
 ///
 /// ```
 /// let flags = Shape::new(vec![in alloc; ShapeNode::Seq(Box::new(alloc, ShapeNode::Bool)?)]?, 0)?;

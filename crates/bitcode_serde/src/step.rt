@@ -1,6 +1,6 @@
 //! The steps from a value to its parts.
 
-/// From a value to a part of it.
+/// A step from a value to one of its parts.
 #[derive(Clone, Copy, PartialEq, Eq)]
 pub enum Step {
     Element,

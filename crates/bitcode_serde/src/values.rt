@@ -1,4 +1,4 @@
-//! Values under a shape.
+//! Reading values under a shape.
 ghost use Rattle.std.specs.Prelude.{◌≡◌, ◌≤◌, [], length, map, IfOk, IfErr, OnOk};
 ghost use Rattle.std.specs.List.{flat_map};
 ghost use Rattle.bitcode_untyped.specs.Faults.{faults_of};
@@ -9,7 +9,7 @@ ghost use Rattle.bitcode_serde.specs.ReadingValues.{IsSteady, Continues, ReadsWi
 
 use crate::budget::Budget;
 use crate::free::{is_free, is_over_limit};
-use crate::leaf::{column_kind, read_bytes, read_entry, read_leaves};
+use crate::leaf::{column_kind, read_bytes, read_entry, read_leaf, read_leaves};
 use crate::reader::Reader;
 use crate::step::Step;
 use bitcode_columns::error::{Error, Reason};
@@ -20,9 +20,38 @@ use std::alloc::Global;
 
 /// Reads a value of a node at a place, below which so many references may be followed.
 ///
-/// Its nodes are taken from the budget. Once that is spent, the rest is read for its faults alone, and the value must not be used.
+/// It takes the nodes of the value from the budget. Once the budget is spent, it reads the rest only for faults, and
+/// the value must not be used.
 #[cycle(read)]
+#[inline(always)]
 pub fn read(
+    alloc: Global,
+    reader: &mut Reader<'_>,
+    budget: &mut Budget,
+    table: &[ShapeNode],
+    node: &ShapeNode,
+    left: usize,
+    place: usize,
+) -> Result<Value, Error>
+    requires place { place ≤ length reader.old.places.below.items }
+    requires steady { IsSteady reader.old }
+    ensures continues { OnOk result (Continues reader.old reader.new) }
+    ensures read { IfOk result (λ value. ReadsWithin (tree_of_node left table.now node.now) place reader.old budget.old value reader.new budget.new) }
+    ensures whole { IfOk result (λ value. IsLeft budget.new → faults_of table.now value left node.now ≡ []) }
+    ensures refused { IfErr result (λ e. IsRefusalAt (tree_of_node left table.now node.now) place reader.old e.reason) }
+{
+    match column_kind(node) {
+        Some(kind) => {
+            budget.take(1);
+            read_leaf(reader, place, kind)
+        }
+        None => read_node(alloc, reader, budget, table, node, left, place),
+    }
+}
+
+// The same, for any node.
+#[cycle(read)]
+fn read_node(
     alloc: Global,
     reader: &mut Reader<'_>,
     budget: &mut Budget,
@@ -191,7 +220,7 @@ fn read_tuple(
     ensures refused { IfErr result (λ e. IsRefusalAt (tuple_tree (trees_of (map (tree_of_node left table.now) nodes.now))) place reader.old e.reason) }
 {
     budget.take(1);
-    let mut values = Vec::new(alloc);
+    let mut values = budget.room(alloc, nodes.len())?;
     for i in 0..nodes.len() {
         let inside = reader.field(place, i, nodes.len())?;
         let value = read(alloc, reader, budget, table, &nodes[i], left, inside)?;

@@ -1,4 +1,4 @@
-//! Values are written along their walks.
+//! Writing a value along its walk.
 #![tactic(auto)]
 
 ghost use Rattle.std.specs.Prelude.{◌≡◌, ◌≢◌, ℕ, ◌≤◌, List, [], ◌∷◌, ◌++◌, length, map, slice_get, nat_lt, if◌then◌else◌, IfOk, IfErr, OnOk};
@@ -23,15 +23,33 @@ use bitcode_columns::error::{Error, Reason};
 use bitcode_columns::refuse::err;
 use bitcode_untyped::shape::ShapeNode;
 use bitcode_untyped::value::Value;
-use std::slice::from_ref;
 
 /// Writes a value of a node at a place, below which so many references may be followed.
 ///
-/// It refuses with `enums with more than 256 variants are unsupported` only for an index over 255, with
-/// `nested too deep` only where one more reference would be followed, with `value is not of the shape` only where the value
-/// is not of the shape otherwise, and with `out of memory`.
+/// Errors: `enums with more than 256 variants are unsupported` only for an index over 255, `nested too deep` only for
+/// one reference too many, `value is not of the shape` only for other faults, and `out of memory`.
 #[cycle(write)]
+#[inline(always)]
 pub fn write(
+    writer: &mut Writer,
+    table: &[ShapeNode],
+    node: &ShapeNode,
+    value: &Value,
+    left: usize,
+    place: usize,
+) -> Result<(), Error>
+    requires { place ≤ length writer.old.places.below.items }
+    ensures { Outcome writer.old (tree_of_node left table.now node.now) place (datum_of value.now) (faults_of table.now value.now left node.now) result writer.new }
+{
+    match column_kind(node) {
+        Some(kind) => writer.put_one(place, kind, value),
+        None => write_node(writer, table, node, value, left, place),
+    }
+}
+
+// The same, for any node.
+#[cycle(write)]
+fn write_node(
     writer: &mut Writer,
     table: &[ShapeNode],
     node: &ShapeNode,
@@ -93,7 +111,7 @@ fn write_leaf(
     ensures { (table : List ShapeNode) (left : ℕ) → Outcome writer.old (tree_of_node left table node.now) place (datum_of value.now) (faults_of table value.now left node.now) result writer.new }
 {
     match column_kind(node) {
-        Some(kind) => writer.put_each(place, kind, from_ref(value)),
+        Some(kind) => writer.put_one(place, kind, value),
         None => writer.put(place, leaf_entry(node, value)?),
     }
 }
@@ -244,6 +262,7 @@ fn write_map(
 }
 
 // The place of a field: a tuple of one has no place of its own.
+#[inline(always)]
 fn field_below(
     writer: &mut Writer,
     place: usize,

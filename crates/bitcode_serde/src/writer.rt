@@ -25,6 +25,7 @@ use crate::written::{Entry, WrittenColumn};
 use bitcode_columns::error::{Error, Reason};
 use bitcode_untyped::value::Value;
 use std::alloc::Global;
+use std::slice::from_ref;
 
 mod state;
 
@@ -40,7 +41,7 @@ fn collect_columns(columns: &mut [PlacedWritten], out: &mut Vec<u8>) -> Result<(
 }
 
 impl Writer {
-    /// Has met the root, and written nothing. Takes no memory.
+    /// Starts at the root with nothing written, without allocating.
     pub fn new(alloc: Global) -> Self
         ensures empty { written result ≡ [] }
     {
@@ -51,9 +52,10 @@ impl Writer {
         }
     }
 
-    /// The number of the place that is a step below another.
+    /// The number of the place one step below another.
     ///
-    /// A refused growth is `out of memory`.
+    /// If an allocation fails, the error is `out of memory`.
+    #[inline(always)]
     pub fn below(&mut self, place: usize, step: Step) -> Result<usize, Error>
         requires { place ≤ length self.old.places.below.items }
         ensures inside { IfOk result (λ n. n ≤ length self.new.places.below.items) }
@@ -66,6 +68,7 @@ impl Writer {
     }
 
     // The column of a place, if it has one.
+    #[inline(always)]
     fn column(&self, place: usize) -> Option<usize>
         ensures none { IfNone result (All (λ c. c.place ≢ place) self.now.columns.items) }
         ensures some { IfSome result (λ i. IsSomeAnd (slice_get self.now.columns.items i) (λ c. c.place ≡ place)) }
@@ -75,6 +78,8 @@ impl Writer {
     }
 
     // Adds the column of a place that has none.
+    #[cold]
+    #[inline(never)]
     fn add(&mut self, place: usize, column: WrittenColumn) -> Result<(), Error>
         requires place { place ≤ length self.old.places.below.items }
         requires fresh { All (λ c. c.place ≢ place) self.old.columns.items }
@@ -91,7 +96,9 @@ impl Writer {
 
     /// Writes an entry to the column of a place.
     ///
-    /// A refused growth is `out of memory`, and `value is not of the shape` comes only where the column is for other entries.
+    /// If an allocation fails, the error is `out of memory`. If the column has other entries, it is
+    /// `value is not of the shape`.
+    #[inline(always)]
     pub fn put(&mut self, place: usize, next: Entry<'_>) -> Result<(), Error>
         requires { place ≤ length self.old.places.below.items }
         ensures below { OnOk result (self.new.places.below ≡ self.old.places.below) }
@@ -109,10 +116,29 @@ impl Writer {
         }
     }
 
+    /// Writes a value of one case to the column of a place.
+    ///
+    /// Errors: those of [`Writer::put_each`].
+    pub fn put_one(&mut self, place: usize, kind: ColumnKind, value: &Value) -> Result<(), Error>
+        requires place { place ≤ length self.old.places.below.items }
+        requires values { kind ≢ ColumnKind.Lengths }
+        ensures below { OnOk result (self.new.places.below ≡ self.old.places.below) }
+        ensures written { OnOk result (written self.new ≡ put_all (map (use_at (place_in self.old place) (kind_of kind)) (map datum_of (value.now ∷ []))) (written self.old)) }
+        ensures entries { OnOk result (AllByRecursion (IsEntryIn kind) (value.now ∷ [])) }
+        ensures refused { IfErr result (λ e. (root : ShapeTree) → AreOfShape root (written self.old)
+            → HasKindFrom root [] (place_in self.old place) (kind_of kind)
+            → (e.reason ≡ Reason.OutOfMemory) ⊎ ((e.reason ≡ Reason.NotOfTheShape) × HasOther kind (value.now ∷ []))) }
+    {
+        match self.column(place) {
+            Some(i) => self.columns[i].column.push_one(kind, value),
+            None => self.put_each(place, kind, from_ref(value)),
+        }
+    }
+
     /// Writes values of one case to the column of a place, one after another.
     ///
-    /// Without values no column is begun. A refused growth is `out of memory`, and `value is not of the shape` comes only
-    /// where a value is of another case, or the column is for other entries.
+    /// Without values it starts no column. If an allocation fails, the error is `out of memory`. If a value has another
+    /// case or the column has other entries, it is `value is not of the shape`.
     pub fn put_each(
         &mut self,
         place: usize,
@@ -141,10 +167,10 @@ impl Writer {
         }
     }
 
-    /// Writes bytes to the column of a place, one after another: by one copy.
+    /// Writes bytes to the column of a place, by one copy.
     ///
-    /// Without bytes no column is begun. A refused growth is `out of memory`, and `value is not of the shape` comes only
-    /// where the column is for other entries.
+    /// Without bytes it starts no column. If an allocation fails, the error is `out of memory`. If the column has other
+    /// entries, it is `value is not of the shape`.
     pub fn put_bytes(&mut self, place: usize, bytes: &[u8]) -> Result<(), Error>
         requires { place ≤ length self.old.places.below.items }
         ensures below { OnOk result (self.new.places.below ≡ self.old.places.below) }
@@ -165,9 +191,9 @@ impl Writer {
         }
     }
 
-    /// Writes all columns as bytes, in the order of their first entries.
+    /// Returns the bytes of all columns, in the order of their first entries.
     ///
-    /// A refused growth is `out of memory`.
+    /// If an allocation fails, the error is `out of memory`.
     pub fn collect(self) -> Result<Vec<u8>, Error>
         ensures text { IfOk result (λ bytes. bytes.items ≡ texts_of (unplaced (written self))) }
         ensures refused { IfErr result (λ e. e.reason ≡ Reason.OutOfMemory) }

@@ -62,6 +62,7 @@ pub enum WrittenColumn {
 }
 
 // Makes room for an entry, and writes it.
+#[inline(always)]
 fn join<T: Shaped, E: Buffer + Encoder<T>>(column: &mut E, entry: &T) -> Result<(), Error>
     ensures joined { OnOk result (JoinsListing T.lists T.shape entry.now (E.columns column.old) (E.columns column.new)) }
     ensures refused { IfErr result (λ e. (e.reason ≡ Reason.OutOfMemory) ⊎ E.surely_overflows column.old 1 ⊎ OverflowsWithListing T.lists T.shape entry.now (E.columns column.old)) }
@@ -108,6 +109,7 @@ fn join_held<'b, T: Case, E: Buffer + Encoder<T>>(
 }
 
 // Writes 1 to 64 values of one case. Room for them was reserved.
+#[inline(never)]
 fn join_chunk<T: Case, E: Buffer + Encoder<T>>(
     column: &mut E,
     values: &[Value],
@@ -125,17 +127,17 @@ fn join_chunk<T: Case, E: Buffer + Encoder<T>>(
     }
 }
 
-// Writes a value of one case. Room for it was reserved.
+// Makes room for a value of one case, and writes it.
+#[inline(always)]
 fn join_one<T: Case, E: Buffer + Encoder<T>>(column: &mut E, value: &Value) -> Result<(), Error>
-    requires { 0 < E.room column.old }
-    ensures joined { OnOk result (E.columns column.new ≡ beside (E.columns column.old) (one (kind_of T.kind) (datum_of value.now ∷ []))) }
-    ensures entry { OnOk result (IsEntryIn T.kind value.now) }
-    ensures refused { IfErr result (λ e. (e.reason ≡ Reason.OutOfMemory) ⊎ ((e.reason ≡ Reason.NotOfTheShape) × (IsCaseOf T.kind value.now → ⊥))) }
+    ensures joined { OnOk result (E.columns column.new ≡ beside (E.columns column.old) (one (kind_of T.kind) (map datum_of (value.now ∷ [])))) }
+    ensures entries { OnOk result (AllByRecursion (IsEntryIn T.kind) (value.now ∷ [])) }
+    ensures refused { IfErr result (λ e. (e.reason ≡ Reason.OutOfMemory) ⊎ ((e.reason ≡ Reason.NotOfTheShape) × HasOther T.kind (value.now ∷ [])) ⊎ E.surely_overflows column.old 1) }
 {
     match T::held(value) {
         Some(t) => {
             t.told();
-            column.encode(t)
+            join(column, t)
         }
         None => err(Reason::NotOfTheShape),
     }
@@ -148,9 +150,6 @@ fn join_each<T: Case, E: Buffer + Encoder<T>>(column: &mut E, values: &[Value]) 
     ensures refused { IfErr result (λ e. (e.reason ≡ Reason.OutOfMemory) ⊎ ((e.reason ≡ Reason.NotOfTheShape) × HasOther T.kind values.now) ⊎ E.surely_overflows column.old (length values.now)) }
 {
     column.reserve(values.len())?;
-    if values.len() == 1 {
-        return join_one(column, &values[0]);
-    }
     let mut rest = values;
     while !rest.is_empty() {
         let (front, behind) = rest.split_at(rest.len().min(MAX_VECTORED_CHUNK));
@@ -161,7 +160,9 @@ fn join_each<T: Case, E: Buffer + Encoder<T>>(column: &mut E, values: &[Value]) 
 }
 
 impl WrittenColumn {
-    /// An empty column of a kind. Takes no memory.
+    /// Creates an empty column of a kind, without allocating.
+    #[cold]
+    #[inline(never)]
     pub fn of(kind: ColumnKind, alloc: Global) -> Self
         ensures kind { kind_in_written result ≡ kind }
         ensures empty { entries_of result ≡ [] }
@@ -183,7 +184,7 @@ impl WrittenColumn {
         }
     }
 
-    /// What the column holds.
+    /// What the column contains.
     pub fn kind(&self) -> ColumnKind
         ensures { result ≡ kind_in_written self.now }
     {
@@ -228,10 +229,52 @@ impl WrittenColumn {
         }
     }
 
-    /// Writes values of the case of a kind behind the others.
+    // Appends a value, which must be of the case of the column's entries. No value is a length.
+    #[inline(always)]
+    fn join_value(&mut self, value: &Value) -> Result<(), Error>
+        ensures kind { OnOk result (kind_in_written self.new ≡ kind_in_written self.old) }
+        ensures written { OnOk result (entries_of self.new ≡ entries_of self.old ++ map datum_of (value.now ∷ [])) }
+        ensures entries { OnOk result (AllByRecursion (IsEntryIn (kind_in_written self.old)) (value.now ∷ [])) }
+        ensures refused { IfErr result (λ e. (e.reason ≡ Reason.OutOfMemory) ⊎ ((e.reason ≡ Reason.NotOfTheShape) × HasOther (kind_in_written self.old) (value.now ∷ [])) ⊎ (kind_in_written self.old ≡ ColumnKind.Lengths)) }
+    {
+        match self {
+            WrittenColumn::Bools(column) => join_one::<bool, BoolEncoder>(column, value),
+            WrittenColumn::Bytes(column) => join_one::<u8, IntEncoder<u8>>(column, value),
+            WrittenColumn::U16(column) => join_one::<u16, IntEncoder<u16>>(column, value),
+            WrittenColumn::U32(column) => join_one::<u32, IntEncoder<u32>>(column, value),
+            WrittenColumn::U64(column) => join_one::<u64, IntEncoder<u64>>(column, value),
+            WrittenColumn::U128(column) => join_one::<u128, IntEncoder<u128>>(column, value),
+            WrittenColumn::I8(column) => join_one::<i8, IntEncoder<i8>>(column, value),
+            WrittenColumn::I16(column) => join_one::<i16, IntEncoder<i16>>(column, value),
+            WrittenColumn::I32(column) => join_one::<i32, IntEncoder<i32>>(column, value),
+            WrittenColumn::I64(column) => join_one::<i64, IntEncoder<i64>>(column, value),
+            WrittenColumn::I128(column) => join_one::<i128, IntEncoder<i128>>(column, value),
+            WrittenColumn::Lengths(_) => err(Reason::NotOfTheShape),
+            WrittenColumn::Texts(column) => join_one::<String, StrEncoder>(column, value),
+        }
+    }
+
+    /// Appends a value of the kind's case to the column.
     ///
-    /// A refused growth is `out of memory`, and `value is not of the shape` comes only where a value is of another case, or
-    /// the column is for other entries.
+    /// Errors: those of [`WrittenColumn::push_each`].
+    #[inline(always)]
+    pub fn push_one(&mut self, kind: ColumnKind, value: &Value) -> Result<(), Error>
+        requires { kind ≢ ColumnKind.Lengths }
+        ensures kind { OnOk result ((kind_of_written self.new ≡ kind_of_written self.old) × (kind_of kind ≡ kind_of_written self.old)) }
+        ensures written { OnOk result (entries_of self.new ≡ entries_of self.old ++ map datum_of (value.now ∷ [])) }
+        ensures entries { OnOk result (AllByRecursion (IsEntryIn kind) (value.now ∷ [])) }
+        ensures refused { IfErr result (λ e. (e.reason ≡ Reason.OutOfMemory) ⊎ ((e.reason ≡ Reason.NotOfTheShape) × HasOther kind (value.now ∷ [])) ⊎ (kind_of kind ≢ kind_of_written self.old)) }
+    {
+        if !self.kind().is(kind) {
+            return err(Reason::NotOfTheShape);
+        }
+        self.join_value(value)
+    }
+
+    /// Appends values of the kind's case to the column.
+    ///
+    /// If an allocation fails, the error is `out of memory`. If a value has another case or the column has other
+    /// entries, it is `value is not of the shape`.
     pub fn push_each(&mut self, kind: ColumnKind, values: &[Value]) -> Result<(), Error>
         requires { kind ≢ ColumnKind.Lengths }
         ensures kind { OnOk result ((kind_of_written self.new ≡ kind_of_written self.old) × (kind_of kind ≡ kind_of_written self.old)) }
@@ -245,7 +288,9 @@ impl WrittenColumn {
         self.join_values(values)
     }
 
-    /// An empty column for such an entry. Takes no memory.
+    /// Creates an empty column for such an entry, without allocating.
+    #[cold]
+    #[inline(never)]
     pub fn new(alloc: Global, next: Entry<'_>) -> Self
         ensures kind { kind_of_written result ≡ kind_of_entry next.entry }
         ensures empty { entries_of result ≡ [] }
@@ -267,9 +312,11 @@ impl WrittenColumn {
         }
     }
 
-    /// Writes an entry behind the others.
+    /// Appends an entry to the column.
     ///
-    /// A refused growth is `out of memory`, and `value is not of the shape` comes only where the column is for other entries.
+    /// If an allocation fails, the error is `out of memory`. If the column has other entries, it is
+    /// `value is not of the shape`.
+    #[inline(always)]
     pub fn push(&mut self, next: Entry<'_>) -> Result<(), Error>
         ensures kind { OnOk result ((kind_of_written self.new ≡ kind_of_written self.old) × (kind_of_entry next.entry ≡ kind_of_written self.old)) }
         ensures written { OnOk result (entries_of self.new ≡ entries_of self.old ++ datum_of_entry next.entry ∷ []) }
@@ -296,9 +343,10 @@ impl WrittenColumn {
         }
     }
 
-    /// Writes bytes behind the others, by one copy.
+    /// Appends bytes to the column, by one copy.
     ///
-    /// A refused growth is `out of memory`, and `value is not of the shape` comes only where the column is for other entries.
+    /// If an allocation fails, the error is `out of memory`. If the column has other entries, it is
+    /// `value is not of the shape`.
     pub fn extend_bytes(&mut self, bytes: &[u8]) -> Result<(), Error>
         ensures kind { OnOk result ((kind_of_written self.new ≡ kind_of_written self.old) × (ints 1 false ≡ kind_of_written self.old)) }
         ensures written { OnOk result (entries_of self.new ≡ entries_of self.old ++ map natural bytes.now) }
@@ -314,9 +362,9 @@ impl WrittenColumn {
         }
     }
 
-    /// Writes the column behind `out`. The column is scratch afterwards.
+    /// Appends the text of the column to `out`. The column is scratch afterwards.
     ///
-    /// A refused growth is `out of memory`.
+    /// If an allocation fails, the error is `out of memory`.
     pub fn collect_into(&mut self, out: &mut Vec<u8>) -> Result<(), Error>
         ensures written { OnOk result (out.new.items ≡ out.old.items ++ column_bytes (kind_of_written self.old) (entries_of self.old)) }
         ensures refused { IfErr result (λ e. e.reason ≡ Reason.OutOfMemory) }

@@ -1,5 +1,5 @@
--- The listings, making and equality of values that hold elements in an order of their own, as heaps and hashed sets do:
--- the order says nothing, and each element counts as often as it is held.
+-- The listings, making and equality of values with an internal order, such as heaps and hashed sets: the order does not
+-- matter, and each element counts as often as it occurs.
 use Rattle.std.specs.Prelude.{List}
 use Rattle.std.specs.List.Sorted.{IsPermutation}
 use Rattle.bitcode_shapes.specs.Datum.{Datum}
@@ -11,7 +11,7 @@ pub record ListsInAnyOrder {T : Type 0} (lists : T → Datum → Type 0) (values
   pub reordered : IsPermutation values order
   pub listing : ListsSequence lists order d
 
--- the values, in some order, are made of the elements one by one
+-- the values, in some order, are made from the elements one by one
 pub record MakesInAnyOrder {T : Type 0} (makes : Datum → T → Type 0) (d : Datum) (values : List T) : Type 0 where
   pub order : List T
   pub reordered : IsPermutation values order

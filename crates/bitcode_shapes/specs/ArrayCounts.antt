@@ -1,5 +1,5 @@
--- How many arrays a datum holds at a node of its shape. A way leads to the node: the elements of a list are no step, those
--- of an array are one, keys and values, fields and variants are one by their place.
+-- How many arrays a datum holds at a node of its shape. A path leads to the node. Each step names an array's elements,
+-- a map's keys or values, a field or a variant; a list's elements take no step.
 use Rattle.std.specs.Prelude.{◌≡◌, ℕ, zero, suc, List, [], ◌∷◌, ◌==◌, cond, sum_by}
 use Rattle.bitcode_shapes.specs.Datum.{Datum, elements_in, first_in, second_in, variant_in, payload_in}
 use Rattle.bitcode_shapes.specs.Shape.{Shape, Shapes, seq_shape, map_shape, array_shape, pair_shape, choice_shape, no_shapes, shape_and}
@@ -25,11 +25,12 @@ abbrev mutual
   arrays_in (shape_and s ss) zero way d = arrays_at s way d
   arrays_in (shape_and s ss) (suc place) way d = arrays_in ss place way d
 
--- all listings of a value have the same numbers of arrays, at each node
+-- all listings of a value hold the same numbers of arrays, at each node
 pub record ListsSameArrays {T : Type 0} (shape : Shape) (is_value : T → Type 0) (lists : T → Datum → Type 0) : Type 0 where
   pub at : (t : T) (d e : Datum) → is_value t → lists t d → lists t e → (way : List ℕ) → arrays_at shape way d ≡ arrays_at shape way e
 
--- Of values that are listed by an index and a datum: all have one index, and payloads with the same numbers of arrays.
+-- For values that are listed by an index and a datum: all listings have one index, and payloads with the same numbers
+-- of arrays.
 pub record VariantsListSameArrays {T : Type 0} (shapes : Shapes) (is_value : T → Type 0) (lists : T → ℕ → Datum → Type 0) : Type 0 where
   pub at : (t : T) (i j : ℕ) (d e : Datum) → is_value t → lists t i d → lists t j e
       → (i ≡ j) × ((way : List ℕ) → arrays_in shapes i way d ≡ arrays_in shapes i way e)

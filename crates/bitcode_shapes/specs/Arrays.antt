@@ -1,4 +1,4 @@
--- Arrays hold the data of their elements, and are lawful where the elements are.
+-- Arrays hold the data of their elements, and are lawful if the elements are.
 use Rattle.std.proofs.Common.{◌≡◌, ℕ, Bool, List, length, refl}
 use Rattle.std.specs.Prelude.{All}
 use Rattle.bitcode_shapes.specs.Datum.{Datum}
@@ -7,7 +7,7 @@ use Rattle.bitcode_shapes.specs.Lawful.{Lawful, Makeable}
 use Rattle.bitcode_shapes.specs.Lists.{ListsSequence, MakesSequence, SameSequence}
 use Rattle.bitcode_shapes.specs.LawfulLists.{sequence_lawful, sequence_makeable}
 
--- the elements are values, and there are so many
+-- the elements satisfy their invariant, and there are so many
 pub record IsArrayValue {T : Type 0} (size : ℕ) (is_value : T → Type 0) (values : List T) : Type 0 where
   pub each : All is_value values
   pub count : length values ≡ size

@@ -1,4 +1,4 @@
--- An enum whose variants all lack a payload. A value holds the choice of its variant, and of nothing in it.
+-- An enum without payloads. A value holds the choice of its variant, with no data in it.
 use Rattle.std.specs.Prelude.{◌≡◌, ℕ, zero, suc, IsTrue, ◌&&◌, leb, List, map}
 use Rattle.std.specs.List.{range_with_len}
 use Rattle.bitcode_shapes.specs.Datum.{Datum, choice, unit}
@@ -30,6 +30,6 @@ module _ {T : Type 0} (variant : T → ℕ) where
   abbrev pub AreInOrder : List T → ℕ → Type 0
   AreInOrder values count = map variant values ≡ range_with_len 0 count
 
-  -- and they are as many as enums have
+  -- and there are as many as enums may have
   abbrev pub AreSomeInOrder : List T → ℕ → Type 0
   AreSomeInOrder values count = AreInOrder values count × AreSomeVariants count

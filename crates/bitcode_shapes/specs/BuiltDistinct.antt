@@ -1,4 +1,4 @@
--- Entries with distinct keys, built one by one: a pair takes the place of the entry with an equal key.
+-- Entries with distinct keys, built one by one: a pair replaces the entry with an equal key.
 use Rattle.std.proofs.Common.{◌≡◌, Bool, true, false, cond, Option, Some, List, [], ◌∷◌, refl, ◌∙◌, ap}
 use Rattle.std.specs.Prelude.{All}
 use Rattle.std.specs.Cmp.{IsEquivalence}
@@ -39,7 +39,7 @@ module _ {K X : Type 0} (eq : K → K → Bool) where
         cond_both (eq k e.0) (without k es) (e ∷ without k es) (All P)
         (λ same. kept_without k es (All-tail P e es h)) (λ other. All-cons P e (without k es) (All-head P e es h) (kept_without k es (All-tail P e es h)))
 
-  -- the pairs put in turn
+  -- the pairs, put one after another
   abbrev pub all_put : List (K × X) → List (K × X) → List (K × X)
   all_put es [] = es
   all_put es (p ∷ ps) = all_put (p ∷ without p.0 es) ps
@@ -59,7 +59,7 @@ unfolding IsDistinct
 none_distinct eq = tt
 
 module _ {K X : Type 0} {eq : K → K → Bool} (laws : IsEquivalence eq) where
-  -- a query for another key finds what it found
+  -- a lookup of another key finds what it found before
   found_without : (k q : K) (es : List (K × X)) → eq k q ≡ false → lookup (eq q) (without eq k es) ≡ lookup (eq q) es
   found_without k q [] other = refl
   found_without k q (e ∷ es) other = by (eq k e.0) (eq q e.0) refl refl (found_without k q es other)

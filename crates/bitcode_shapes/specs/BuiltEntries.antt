@@ -1,6 +1,6 @@
--- For every list of entries there is an ordered map and a hashed map with exactly these, and for every list of keys a hashed
--- set. They are written down as the standard library lays such values out: here, and nowhere else, what is proved stands on
--- its layout, and so on crates below `std` that `crates.txt` names. Of the layout nothing is asked but that there is one.
+-- For every list of entries there is an ordered map and a hashed map with exactly these, and for every list of keys a
+-- hashed set. The proof writes such values down in the layout of the standard library. Only here do proofs depend on
+-- that layout, and so on crates below `std` that `crates.txt` names. They use only that such a layout exists.
 use Rattle.std.proofs.Common.{◌≡◌, List, refl, inl}
 use Rattle.core.specs.declared.hash.build.BuildHasherDefault.{BuildHasherDefault}
 use Rattle.core.specs.declared.hash.fold.FoldHasher.{FoldHasher}
@@ -8,7 +8,7 @@ use Rattle.std_collections.specs.Layout.BTreeMap.{BTreeMap, btree_map}
 use Rattle.std_collections.specs.Layout.HashMap.{HashMap, hash_map}
 use Rattle.std_collections.specs.Layout.HashSet.{HashSet, hash_set}
 
--- what hashes the keys
+-- the hasher of the keys
 some_hasher : BuildHasherDefault FoldHasher
 some_hasher = record { initial = record { state = 0 } }
 

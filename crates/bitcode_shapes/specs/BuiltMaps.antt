@@ -1,4 +1,4 @@
--- Maps of any pairs can be built, where a map of any entries is at hand.
+-- Maps of any pairs can be built, given that maps of any entries exist.
 use Rattle.std.proofs.Common.{◌≡◌, Bool, None, List, [], ◌∷◌, refl, sym, ◌∙◌, ap, subst}
 use Rattle.std.specs.Prelude.{All}
 use Rattle.std.specs.declared.cmp.Ordering.{Ordering}

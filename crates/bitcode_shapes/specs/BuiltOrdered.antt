@@ -44,7 +44,7 @@ module _ {K : Type 0} {R : K → K → Ordering} (o : IsTotalOrder R) where
 
 -- ---- entries
 
--- the two tests of one query, of which the other key stands first
+-- the two comparisons of one lookup, with the other key first
 one_of_two : {X : Type 0} (a b : Bool) (v w : X) (rest : Option X) → (a ≡ true → b ≡ true → ⊥) → cond b (Some w) (cond a (Some v) rest) ≡ cond a (Some v) (cond b (Some w) rest)
 one_of_two true true v w rest apart = absurd (apart refl refl)
 one_of_two true false v w rest apart = refl

@@ -62,7 +62,7 @@ module _ {T : Type 0} (is_value : T → Type 0) where
         ),
       )
 
-  -- where a hashed set of any keys is at hand
+  -- given that a hashed set of any keys exists
   pub hashed_set_built : {C : Type 0} (keys : C → List T) {eq : T → T → Bool} → IsEquivalence eq → ((ts : List T) → (c : C) × (keys c ≡ ts))
       → (values : List T) → All is_value values → (c : C) × (IsDistinctSet is_value eq (keys c) × SameMembers eq (keys c) values)
   hashed_set_built keys {eq} laws find values h =

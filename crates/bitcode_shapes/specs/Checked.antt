@@ -1,5 +1,4 @@
--- The listings of types whose values stand for numbers of which not all are allowed. They list and make their numbers
--- as integers do.
+-- The listings of types that allow only some numbers. They list and make their numbers as integers do.
 use Rattle.std.specs.Prelude.{ℕ, Bool, false, ℤ, pos}
 use Rattle.bitcode_shapes.specs.Shape.{Shape, Allowed, nonzero, scalar, between, number_shape, IsInWidth, IsAllowed}
 

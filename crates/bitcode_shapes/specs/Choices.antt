@@ -1,6 +1,6 @@
--- A value that is one of several variants holds the choice of its index and of what its payload holds. Several
--- variants are the first one beside the rest, and the last one by itself: they stand for a value of A ⊎ (B ⊎ C), which
--- is listed by an index and a datum.
+-- A value of one of several variants holds its index and the data of its payload. Several variants are the first one
+-- and the rest, down to the last one alone. Their values correspond to those of A ⊎ (B ⊎ C), which are listed by an
+-- index and a datum.
 use Rattle.std.specs.Prelude.{◌≡◌, ℕ, zero, suc, Option, Some, None, Result, Ok, Err, ◌⊎◌}
 use Rattle.std.proofs.Common.{inl, inr}
 use Rattle.bitcode_shapes.specs.Datum.{Datum, choice}
@@ -17,7 +17,7 @@ pub record MakesChoice {T : Type 0} (makes : ℕ → Datum → T → Type 0) (d 
   pub is : d ≡ choice index payload
   pub makes_payload : makes index payload t
 
--- ---- the last variant by itself
+-- ---- the last variant alone
 
 abbrev pub ListsLast : {A : Type 0} → (A → Datum → Type 0) → A → ℕ → Datum → Type 0
 ListsLast lists t zero d = lists t d
@@ -27,7 +27,7 @@ abbrev pub MakesLast : {A : Type 0} → (Datum → A → Type 0) → ℕ → Dat
 MakesLast makes zero d t = makes d t
 MakesLast makes (suc index) d t = ⊥
 
--- ---- the first variant beside the rest
+-- ---- the first variant and the rest
 
 abbrev pub IsVariantValue : {A B : Type 0} → (A → Type 0) → (B → Type 0) → A ⊎ B → Type 0
 IsVariantValue is_first is_rest (inl a) = is_first a

@@ -1,4 +1,4 @@
--- `==` and `cmp` of each kind of type say the same: `cmp` is a total order, and `==` holds of what it does not tell apart.
+-- `==` and `cmp` of each kind of type agree: `cmp` is a total order, and `==` holds exactly if `cmp` answers `Equal`.
 use Rattle.std.proofs.Common.{◌≡◌, ℕ, Bool, true, false, ℤ, Option, Some, None, Ok, Err, List, refl, sym, ◌∙◌, ap, subst, true≢false}
 use Rattle.std.specs.Prelude.{◌&&◌, nat_eq}
 use Rattle.std.specs.declared.cmp.Ordering.{Ordering}
@@ -12,7 +12,7 @@ use Rattle.std.specs.Cmp.Lexicographic.{pointwise, slice_cmp, lists_ties, texts_
 use Rattle.std.proofs.lemmas.Cmp.{nat_cmp_total, int_cmp_total, nat_list_cmp_total, eq_by_cmp_equiv, on_total, then_total, lists_total}
 use mathlib.Core.Bool.{beq}
 
--- what `==` and `cmp` promise of each other
+-- what `==` and `cmp` promise about each other
 pub record CompareAlike {T : Type 0} (eq : T → T → Bool) (cmp : T → T → Ordering) : Type 0 where
   pub total : IsTotalOrder cmp
   pub matches_eq : (x y : T) → eq x y ≡ is_eq (cmp x y)
@@ -27,7 +27,7 @@ equivalence_of alike =
       congr = λ x y z e. alike.matches_eq x z ∙ tied.congr x y z (sym (alike.matches_eq x y) ∙ e) ∙ sym (alike.matches_eq y z);
     }
 
--- ---- values that stand for those of another type
+-- ---- values that correspond to those of another type
 
 pub images_alike : {T U : Type 0} {eq : U → U → Bool} {cmp : U → U → Ordering} (stands_for : T → U) → CompareAlike eq cmp
     → CompareAlike (λ t u. eq (stands_for t) (stands_for u)) (λ t u. cmp (stands_for t) (stands_for u))
@@ -44,7 +44,7 @@ ones_alike = record {
   matches_eq = λ x y. refl;
 }
 
--- `==` holds of what the order does not tell apart
+-- `==` holds exactly if the order answers `Equal`
 bools_tied : (b c : Bool) → beq b c ≡ is_eq (bool_cmp b c)
 bools_tied true true = refl
 bools_tied true false = refl
@@ -66,14 +66,14 @@ texts_alike bytes = images_alike bytes (record { total = nat_list_cmp_total; mat
 
 -- ---- values that hold elements one by one
 
--- element by element from the first, and a sequence stands before what goes on after it
+-- element by element from the first, and a sequence is less than its extensions
 pub sequences_alike : {T C : Type 0} {eq : T → T → Bool} {cmp : T → T → Ordering} (items : C → List T) → CompareAlike eq cmp
     → CompareAlike (λ b c. pointwise eq (items b) (items c)) (λ b c. slice_cmp cmp (items b) (items c))
 sequences_alike {cmp = cmp} items alike = images_alike items (record { total = lists_total alike.total; matches_eq = lists_ties cmp alike.matches_eq })
 
 -- ---- the fields of tuples and structs, from the first
 
--- by the one, and what that does not tell apart by the next
+-- by the first field, and if that is equal, by the next
 pub both_alike : {T : Type 0} {eq eq_next : T → T → Bool} {cmp cmp_next : T → T → Ordering} → CompareAlike eq cmp → CompareAlike eq_next cmp_next
     → CompareAlike (λ t u. eq t u && eq_next t u) (λ t u. ordering_then (cmp t u) (cmp_next t u))
 both_alike {eq = eq} {eq_next} {cmp} {cmp_next} alike next = record {
@@ -93,7 +93,7 @@ module _ {T : Type 0} {eq : T → T → Bool} {cmp : T → T → Ordering} (alik
   pub options_alike : CompareAlike (option_eq eq) (option_cmp cmp)
   options_alike = record { total = options_total alike.total; matches_eq = options_tied }
 
--- what is greater is not less
+-- if one is greater, it is not less
 not_less : {A : Type 0} → Greater ≡ Less → A
 not_less e = absurd (true≢false (sym (ap is_lt e)))
 
@@ -134,9 +134,9 @@ module _ {A B : Type 0} {eq_a : A → A → Bool} {eq_b : B → B → Bool} {cmp
   pub results_alike : CompareAlike (result_eq eq_a eq_b) Compared
   results_alike = record { total = record { antisymm = results_turned; trans = results_chain; congr = results_congr }; matches_eq = results_tied }
 
--- ---- what answers as another `==` and another `cmp` do
+-- ---- types whose `==` and `cmp` give the answers of another `==` and `cmp`
 
--- two that are written otherwise promise the same
+-- two that are written differently promise the same
 pub alike_as : {T : Type 0} {eq eq_of : T → T → Bool} {cmp cmp_of : T → T → Ordering} → CompareAlike eq_of cmp_of
     → ((t u : T) → eq t u ≡ eq_of t u) → ((t u : T) → cmp t u ≡ cmp_of t u) → CompareAlike eq cmp
 alike_as alike same_eq same_cmp = record {
@@ -144,7 +144,7 @@ alike_as alike same_eq same_cmp = record {
   matches_eq = λ t u. same_eq t u ∙ alike.matches_eq t u ∙ ap is_eq (sym (same_cmp t u));
 }
 
--- ---- of three in a row: a derive takes the last two together, a tuple the first two
+-- ---- three fields: a derive groups the last two, a tuple the first two
 
 pub and_nested : (a b c : Bool) → (a && (b && c)) ≡ ((a && b) && c)
 and_nested true b c = refl

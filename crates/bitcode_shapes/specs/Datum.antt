@@ -1,5 +1,5 @@
--- A datum is what a value holds, whatever type held it. A bool is the number 0 or 1, a char its scalar value,
--- a map a list of tuples of two.
+-- A datum is the content of a value, whatever its type. A bool is the number 0 or 1, a char its scalar value, a map a
+-- list of tuples of two.
 use Rattle.std.specs.Prelude.{ℕ, ℤ, pos, unsigned_abs, List, [], ◌∷◌}
 
 mutual
@@ -29,7 +29,7 @@ list_of (datum_and d ds) = d ∷ list_of ds
 abbrev pub pair : Datum → Datum → Datum
 pair first second = tuple (datum_and first (datum_and second no_data))
 
--- ---- the parts of a datum; what has no such part gives a harmless one
+-- ---- the parts of a datum; if it has no such part, a harmless default
 
 abbrev pub number_in : Datum → ℤ
 number_in (number z) = z

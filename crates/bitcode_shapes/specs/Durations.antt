@@ -1,4 +1,4 @@
--- A duration is the pair of its whole seconds and of the nanoseconds that are left.
+-- A duration is the pair of its whole seconds and its remaining nanoseconds.
 use Rattle.std.specs.Prelude.{ℕ, ◌/◌, ◌%◌, false, pos}
 use Rattle.std.specs.Duration.{as_nanos}
 use Rattle.std.specs.declared.time.Duration.{Duration}

@@ -1,8 +1,8 @@
--- The listings and making of the unit: it holds nothing.
+-- The listings and making of the unit: it holds no data.
 use Rattle.std.specs.Prelude.{◌≡◌}
 use Rattle.bitcode_shapes.specs.Datum.{Datum, unit}
 
--- of the unit: it holds nothing
+-- the unit holds no data
 abbrev pub ListsUnit : {T : Type 0} → T → Datum → Type 0
 ListsUnit t d = d ≡ unit
 

@@ -1,4 +1,4 @@
--- Vectors and texts of a fixed capacity are lawful, and can be built up to it.
+-- Vectors and texts with a fixed capacity are lawful, and can be built up to that capacity.
 use Rattle.std.proofs.Common.{ℕ, ◌≤◌, Bool, true, Some, List, [], length, refl}
 use Rattle.std.specs.Prelude.{All, IsUtf8}
 use Rattle.arrayvec.specs.ArrayVec.{ArrayVec}
@@ -12,7 +12,7 @@ use Rattle.bitcode_shapes.specs.LawfulLists.{sequence_lawful, sequence_makeable}
 use Rattle.bitcode_shapes.specs.Texts.{ListsText, MakesText, SameText}
 use Rattle.bitcode_shapes.specs.LawfulTexts.{limited_lawful, limited_makeable}
 
--- the elements are values, and no more than fit
+-- the elements satisfy their invariant, and there are no more than fit
 pub record IsWithinCapacity {T : Type 0} (capacity : ℕ) (is_value : T → Type 0) (values : List T) : Type 0 where
   pub each : All is_value values
   pub count : length values ≤ capacity
@@ -33,7 +33,7 @@ module _ {T : Type 0} (capacity : ℕ) (shape : Shape) (is_value : T → Type 0)
       (seq_shape (Some capacity) shape) (IsWithin (Some capacity)) makes (IsStorableSize (Some capacity)) (λ d is. is) (λ d s. s)
       (λ g values any each count. (record { items = values }, (record { each = each; count = count }, refl))) element
 
--- the bytes are those of a text, and no more than fit
+-- the bytes are those of a text, and there are no more than fit
 pub record IsTextWithin (capacity : ℕ) (bytes : List ℕ) : Type 0 where
   pub utf8 : IsUtf8 bytes
   pub size : length bytes ≤ capacity

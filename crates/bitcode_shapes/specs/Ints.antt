@@ -1,4 +1,4 @@
--- The shapes, listings and making of bools and integers: they stand for numbers.
+-- The shapes, listings and making of bools and integers: their data are numbers.
 use Rattle.std.specs.Prelude.{◌≡◌, ℕ, Bool, ℤ, pos, if◌then◌else◌}
 use Rattle.bitcode_shapes.specs.Datum.{Datum, number}
 use Rattle.bitcode_shapes.specs.Shape.{Shape, number_shape, any_number, IsInWidth}
@@ -9,7 +9,7 @@ bool_number b = pos (if b then 1 else 0)
 abbrev pub int_shape : ℕ → Bool → Shape
 int_shape width signed = number_shape width signed any_number
 
--- of a type whose values stand for numbers
+-- for a type whose data are numbers
 abbrev pub ListsNumber : {T : Type 0} → (T → ℤ) → T → Datum → Type 0
 ListsNumber value t d = d ≡ number (value t)
 

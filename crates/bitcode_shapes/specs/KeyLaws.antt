@@ -1,4 +1,4 @@
--- What `==` tells of the values of each kind of type: whether they are the same.
+-- What `==` says about the values of each kind of type: whether they are the same.
 use Rattle.std.proofs.Common.{◌≡◌, ℕ, Bool, true, false, ℤ, pos, None, Some, Ok, Err, List, [], ◌∷◌, refl, sym, ◌∙◌, ap, true≢false}
 use Rattle.std.specs.Prelude.{All, ◌&&◌, nat_eq}
 use Rattle.std.specs.Cmp.{unsigned_Decides, signed_Decides}
@@ -17,7 +17,7 @@ use Rattle.bitcode_shapes.specs.Texts.{SameText}
 use Rattle.bitcode_shapes.specs.Ints.{bool_number, SameNumber}
 use Rattle.bitcode_shapes.specs.Pairs.{IsPairValue, SamePair}
 
--- of what is not the same, and of which `==` answers so
+-- for values that are not the same, and a `==` that says so
 apart : (⊥ → false ≡ true) × (false ≡ true → ⊥)
 apart = (λ s. absurd s, λ e. true≢false (sym e))
 
@@ -54,13 +54,13 @@ module _ {T : Type 0} (is_value : T → Type 0) where
       let decides = bytes_decides (bytes t) (bytes u) in
       (decides.1, decides.0)
 
--- of an enum whose variants all lack a payload
+-- for an enum without payloads
 pub bares_told : {T : Type 0} (is_value : T → Type 0) (variant : T → ℕ) → TellsSame is_value (SameBare variant) (λ t u. nat_eq (variant t) (variant u))
 bares_told is_value variant t u h i =
     let decides = unsigned_Decides (variant t) (variant u) in
     (decides.1, decides.0)
 
--- ---- what answers as another `==` does
+-- ---- types whose `==` gives the answers of another `==`
 
 pub tells_as : {T : Type 0} {is_value : T → Type 0} {same : T → T → Type 0} {eq eq_of : T → T → Bool} → TellsSame is_value same eq_of
     → ((t u : T) → eq t u ≡ eq_of t u) → TellsSame is_value same eq
@@ -68,7 +68,7 @@ tells_as told same_eq t u h i =
     let known = told t u h i in
     (λ s. same_eq t u ∙ known.0 s, λ e. known.1 (sym (same_eq t u) ∙ e))
 
--- ---- values that stand for those of another type
+-- ---- values that correspond to those of another type
 
 pub images_told : {T U : Type 0} {is_value : U → Type 0} {same : U → U → Type 0} {eq : U → U → Bool} (stands_for : T → U) → TellsSame is_value same eq
     → TellsSame (λ t. is_value (stands_for t)) (λ t u. same (stands_for t) (stands_for u)) (λ t u. eq (stands_for t) (stands_for u))
@@ -109,9 +109,9 @@ results_told told_a told_b (Ok a) (Err b) h i = apart
 results_told told_a told_b (Err a) (Ok b) h i = apart
 results_told told_a told_b (Err a) (Err b) h i = told_b a b h i
 
--- ---- tuples and structs: `==` of a tuple goes over the fields from the first, and what is the same goes by halves
+-- ---- tuples and structs: `==` compares the fields from the first on, and sameness goes by halves
 
--- `answer` goes on from the answer so far: that holds and the values are the same
+-- `answer` extends the answer so far: that is true, and these values are the same
 abbrev pub TellsMore : {T : Type 0} → (T → Type 0) → (T → T → Type 0) → (T → T → Bool → Bool) → Type 0
 TellsMore {T} is_value same answer =
     (t u : T) → is_value t → is_value u → (so_far : Bool)
@@ -138,7 +138,7 @@ module _ {A B : Type 0} {is_a : A → Type 0} {is_b : B → Type 0} {same_a : A 
         λ e. let more = second.1 e in let so = first.1 more.0 in (so.0, (so.1, more.1)),
       )
 
-  -- `==` of a struct is that of its first field and of the rest
+  -- `==` of a struct compares its first field and then the rest
   pub structs_told : {eq_a : A → A → Bool} {eq_b : B → B → Bool} {T : Type 0} (fields : T → A × B) → TellsSame is_a same_a eq_a → TellsSame is_b same_b eq_b
       → TellsSame (λ t. IsPairValue is_a is_b (fields t)) (λ t u. SamePair same_a same_b (fields t) (fields u))
       (λ t u. eq_a (fields t).0 (fields u).0 && eq_b (fields t).1 (fields u).1)

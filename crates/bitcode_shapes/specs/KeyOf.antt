@@ -1,4 +1,4 @@
--- What a lawful type promises whose values can be the elements of sets and the keys of maps, as one record.
+-- The laws of a type whose values can be elements of sets and keys of maps, as one record.
 use Rattle.std.specs.Prelude.{Bool, ◌≡◌}
 use Rattle.std.specs.declared.cmp.Ordering.{Ordering}
 use Rattle.std.specs.Cmp.{IsEquivalence}
@@ -7,18 +7,19 @@ use Rattle.bitcode_shapes.specs.KeyLaws.{images_told, tells_as}
 use Rattle.bitcode_shapes.specs.PayloadOf.{PayloadOf, stood_payload}
 use Rattle.bitcode_shapes.specs.Sets.{TellsSame}
 
--- a lawful type whose values are made of data, and that has an `==` and an order
+-- a lawful type whose values can be made from data, with an `==` and an order
 pub record KeyOf (T : Type 0) : Type 1 where
   pub payload : PayloadOf T
   pub eq : T → T → Bool
   pub cmp : T → T → Ordering
   pub equiv : IsEquivalence eq
-  -- the order is total, and `==` holds of what it does not tell apart
+  -- the order is total, and `==` holds exactly if it answers `Equal`
   pub alike : CompareAlike eq cmp
-  -- `==` says of values whether they are the same
+  -- `==` decides whether two values are the same
   pub told : TellsSame payload.is_value payload.same eq
 
--- of a type that says its laws as data, from what its `==` and its order promise of each other, and what `==` tells of its values
+-- for a type that states its laws as data, from what its `==` and its order promise about each other, and what `==`
+-- says about values
 abbrev pub key_of : {T : Type 0} {eq : T → T → Bool} {cmp : T → T → Ordering} (payload : PayloadOf T) → CompareAlike eq cmp
     → TellsSame payload.is_value payload.same eq → KeyOf T
 key_of {eq = eq} {cmp} payload alike told = record {
@@ -30,12 +31,12 @@ key_of {eq = eq} {cmp} payload alike told = record {
   told = told;
 }
 
--- of a type each of whose values stands for one of another, and of each of these some value, and that is compared by what they stand for
+-- for a type whose values correspond one to one to those of another type, and are compared as those
 abbrev pub stood_key : {T P : Type 0} (parts : T → P) → ((p : P) → (t : T) × (parts t ≡ p)) → KeyOf P → KeyOf T
 stood_key parts of_parts of =
     key_of (stood_payload parts of_parts of.payload) (images_alike parts of.alike) (images_told parts of.told)
 
--- of a type whose `==` and order answer as those of a key do, and are written otherwise
+-- for a type whose `==` and order give the answers of a key's, but are written differently
 abbrev pub key_as : {T : Type 0} (of : KeyOf T) (eq : T → T → Bool) (cmp : T → T → Ordering) → ((t u : T) → eq t u ≡ of.eq t u)
     → ((t u : T) → cmp t u ≡ of.cmp t u) → KeyOf T
 key_as of eq cmp same_eq same_cmp =

@@ -1,13 +1,13 @@
--- What a lawful type promises. T is the type; a value of it meets is_value (the numbers and chars in it are in
--- their types' ranges).
+-- The laws of a lawful type T. A value of it satisfies is_value (the numbers and chars in it are within the ranges of
+-- their types).
 use Rattle.std.specs.Prelude.{◌≡◌, Bool, IsTrue}
 use Rattle.std.specs.declared.alloc.Global.{Global}
 use Rattle.bitcode_shapes.specs.Datum.{Datum}
 use Rattle.bitcode_shapes.specs.Shape.{Shape, IsOf, IsSound}
 use Rattle.bitcode_shapes.specs.Storable.{IsStorable}
 
--- Each value has a listing, each listing is of the shape, and `same` is an equivalence. Where nothing in the
--- value is kept in an order of its own, as in a hashed container or a heap, it has one listing.
+-- Each value has a listing, each listing has the shape, and `same` is an equivalence. If nothing in the value has an
+-- internal order, as hashed containers and heaps do, it has only one listing.
 pub record Lawful {T : Type 0} (shape : Shape) (is_value : T → Type 0) (lists : T → Datum → Type 0) (same : T → T → Type 0) (in_order : Bool) : Type 0 where
   pub sound : IsSound shape
   pub listed : (t : T) → is_value t → (d : Datum) × lists t d
@@ -17,8 +17,8 @@ pub record Lawful {T : Type 0} (shape : Shape) (is_value : T → Type 0) (lists 
   pub symmetric : (t u : T) → is_value t → is_value u → same t u → same u t
   pub transitive : (t u v : T) → is_value t → is_value u → is_value v → same t u → same u v → same t v
 
--- Each datum of the shape that containers can hold makes some value, given an allocator; what one datum makes is equal,
--- and a value is equal to what a listing of it makes.
+-- Each datum of the shape that containers can hold makes some value, given an allocator. All values that one datum
+-- makes are equal, and a value is equal to what a listing of it makes.
 pub record Makeable {T : Type 0} (shape : Shape) (is_value : T → Type 0) (lists : T → Datum → Type 0) (same : T → T → Type 0) (makes : Datum → T → Type 0) : Type 0 where
   pub made : Global → (d : Datum) → IsOf shape d → IsStorable shape d → (t : T) × (is_value t × makes d t)
   pub unambiguous : (d : Datum) (t u : T) → is_value t → is_value u → makes d t → makes d u → same t u

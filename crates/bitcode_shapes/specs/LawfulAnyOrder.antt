@@ -1,4 +1,4 @@
--- Values that hold elements of a lawful type in an order of their own are lawful.
+-- Values that hold elements of a lawful type in an internal order are lawful.
 use Rattle.std.proofs.Common.{◌≡◌, ℕ, zero, suc, ◌^◌, ◌<◌, Bool, false, None, List, [], ◌∷◌, length, get_or, refl, sym, ◌∙◌, subst, arith}
 use Rattle.std.specs.Prelude.{All, slice_set}
 use Rattle.std.specs.declared.alloc.Global.{Global}
@@ -11,7 +11,7 @@ use Rattle.bitcode_shapes.specs.Lawful.{Lawful, Makeable}
 use Rattle.bitcode_shapes.specs.LawfulLists.{zip_length, each_listed, each_of_shape, each_reflexive, each_symmetric, each_transitive, each_once, each_remade, elements_once, seq_makeable}
 use Rattle.bitcode_shapes.specs.AnyOrder.{ListsInAnyOrder, MakesInAnyOrder, SameInAnyOrder}
 
--- ---- of two lists, one by one, when one is reordered
+-- ---- two lists that match one by one, if one is reordered
 
 module _ {A B : Type 0} (R : A → B → Type 0) where
   zip_at : (xs : List A) (ys : List B) (i : ℕ) (d : A) (e : B) → AllZip R xs ys → i < length xs → R (get_or xs i d) (get_or ys i e)
@@ -63,7 +63,7 @@ zip_flip R (x ∷ xs) (y ∷ ys) z = (z.0, zip_flip R xs ys z.1)
 -- ---- the elements of a lawful type
 
 module _ {T : Type 0} (shape : Shape) (is_value : T → Type 0) (lists : T → Datum → Type 0) (same : T → T → Type 0) where
-  -- orders of two lists that are the same one by one
+  -- orders of two lists that match one by one
   same_orders : (values order others order_too : List T) → IsPermutation values order → IsPermutation others order_too
       → AllZip same order order_too → SameInAnyOrder same values others
   same_orders values order others order_too moved moved_too z =
@@ -100,8 +100,8 @@ module _ {T : Type 0} (shape : Shape) (is_value : T → Type 0) (lists : T → D
               (zip_flip (λ u t. same t u) r.order back.others back.zipped) r.each;
         }
 
-    -- a container of elements: `items` lists them in some order, `is_whole` is what its values meet, and `whole` is the
-    -- shape of lists of them
+    -- a container of elements: `items` lists them, `is_whole` is the container's invariant, and `whole` is the shape of
+    -- lists of them
     pub any_order_lawful : {C : Type 0} (items : C → List T) (is_whole : C → Type 0) → ((c : C) → is_whole c → All is_value (items c))
         → (whole : Shape) → (IsSound shape → IsSound whole)
         → ((d : Datum) → IsListOf (IsOf shape) (λ n. Unit {0}) d → IsOf whole d)
@@ -130,7 +130,7 @@ module _ {T : Type 0} (shape : Shape) (is_value : T → Type 0) (lists : T → D
       transitive = λ a b c h i j s r. any_transitive (items a) (items b) (items c) (each a h) (each b i) (each c j) s r;
     }
 
-  -- a container of any number of elements, of which nothing else is asked
+  -- a container of any number of elements, with no further condition
   pub any_heap_lawful : (order : Bool) → Lawful shape is_value lists same order → {C : Type 0} (items : C → List T)
       → Lawful (seq_shape None shape) (λ c. All is_value (items c)) (λ c d. ListsInAnyOrder lists (items c) d) (λ b c. SameInAnyOrder same (items b) (items c)) false
   any_heap_lawful order element items =

@@ -1,4 +1,4 @@
--- An enum whose variants all lack a payload is lawful where its variants are numbered from 0 on.
+-- An enum without payloads is lawful if its variants are numbered from 0.
 use Rattle.std.proofs.Common.{◌≡◌, ℕ, zero, suc, ◌+◌, ◌<◌, ◌≤◌, true, List, [], ◌∷◌, map, refl, sym, ◌∙◌, ap, subst, arith}
 use Rattle.std.specs.Prelude.{leb}
 use Rattle.std.specs.List.{range_with_len}
@@ -39,7 +39,7 @@ pub at_most_256 : (count : ℕ) → AreSomeVariants count → count ≤ 256
 at_most_256 count some = leb-true count 256 (both (leb 2 count) (leb count 256) some).1
 
 module _ {T : Type 0} (variant : T → ℕ) where
-  -- the value of a variant, in values whose variants are numbered on from some first one
+  -- the value of a variant, in a list of values whose variants are consecutive
   found_from : (values : List T) (first count i : ℕ) → map variant values ≡ range_with_len first count → i < count → (t : T) × (variant t ≡ first + i)
   found_from values first zero i are below = absurd (omega arith)
   found_from [] first (suc count) i are below = absurd cc

@@ -1,4 +1,4 @@
--- Types whose values stand for allowed numbers are lawful.
+-- Types that allow only some numbers are lawful.
 use Rattle.std.proofs.Common.{◌≡◌, ◌≢◌, ℕ, zero, suc, ◌<◌, Bool, true, false, ℤ, pos, negsuc, refl, sym, ◌∙◌, ap, subst, arith}
 use Rattle.std.specs.Prelude.{unsigned_abs}
 use Rattle.bitcode_shapes.specs.Datum.{number}
@@ -21,7 +21,7 @@ module _ {T : Type 0} (value : T → ℤ) (width : ℕ) (signed : Bool) (allowed
     transitive = λ t u v h i j s r. s ∙ r;
   }
 
-  -- each allowed number is that of some value
+  -- each allowed number belongs to some value
   pub checked_makeable : ((z : ℤ) → IsInWidth width signed z → IsAllowed allowed z → (t : T) × (value t ≡ z))
       → Makeable (number_shape width signed allowed) (IsCheckedValue width signed allowed value) (ListsNumber value) (SameNumber value) (MakesNumber value)
   checked_makeable find = record {

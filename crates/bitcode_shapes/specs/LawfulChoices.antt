@@ -1,5 +1,5 @@
--- A value that is one of several variants is lawful where each payload is. Of a type of one's own with variants A, B
--- and C, whose values stand for those of A ⊎ (B ⊎ C):
+-- A value of one of several variants is lawful if each payload is. For a user-defined type with variants A, B and C,
+-- whose values correspond to those of A ⊎ (B ⊎ C):
 --
 --     image_lawful stands_for (choice_lawful (lit≤ tt) (lit≤ tt) (first_lawful a_lawful (first_lawful b_lawful (last_lawful c_lawful))))
 use Rattle.std.proofs.Common.{◌≡◌, ℕ, zero, suc, ◌≤◌, Bool, Option, Some, None, Result, Ok, Err, refl, sym, ◌∙◌, ap, subst, inl, inr, lit≤}
@@ -15,7 +15,7 @@ use Rattle.bitcode_shapes.specs.LawfulPairs.{both}
 use Rattle.bitcode_shapes.specs.Empty.{ListsUnit, MakesUnit}
 use Rattle.bitcode_shapes.specs.Choices.{ListsChoice, MakesChoice, ListsLast, MakesLast, IsVariantValue, ListsVariant, MakesVariant, SameVariant, option_variant, result_variant}
 
--- What a lawful type promises, of values that are listed by an index and a datum.
+-- The laws of a lawful type, for values that are listed by an index and a datum.
 pub record LawfulVariants {T : Type 0} (shapes : Shapes) (is_value : T → Type 0) (lists : T → ℕ → Datum → Type 0) (same : T → T → Type 0) (in_order : Bool) : Type 0 where
   pub sound : AreSound shapes
   pub listed : (t : T) → is_value t → (index : ℕ) × ((d : Datum) × lists t index d)
@@ -30,7 +30,7 @@ pub record MakeableVariants {T : Type 0} (shapes : Shapes) (is_value : T → Typ
   pub unambiguous : (index : ℕ) (d : Datum) (t u : T) → is_value t → is_value u → makes index d t → makes index d u → same t u
   pub remade : (t u : T) (index : ℕ) (d : Datum) → is_value t → is_value u → lists t index d → makes index d u → same t u
 
--- ---- the last variant by itself
+-- ---- the last variant alone
 
 module _ {A : Type 0} {s : Shape} {is_a : A → Type 0} {lists_a : A → Datum → Type 0} {same_a : A → A → Type 0} where
   module _ {order : Bool} (last : Lawful s is_a lists_a same_a order) where
@@ -70,7 +70,7 @@ module _ {A : Type 0} {s : Shape} {is_a : A → Type 0} {lists_a : A → Datum �
     pub last_makeable : MakeableVariants (shape_and s no_shapes) is_a (ListsLast lists_a) same_a (MakesLast makes_a)
     last_makeable = record { made = last_made; unambiguous = last_once; remade = last_remade }
 
--- ---- the first variant beside the rest
+-- ---- the first variant and the rest
 
 module _ {A B : Type 0} {s : Shape} {ss : Shapes} {is_a : A → Type 0} {is_b : B → Type 0} {lists_a : A → Datum → Type 0} {lists_b : B → ℕ → Datum → Type 0}
     {same_a : A → A → Type 0} {same_b : B → B → Type 0} where

@@ -26,7 +26,7 @@ nanos_found : {T : Type 0} (value : T → ℕ) → ((n : ℕ) → n < 1_000_000_
 nanos_found value build (pos n) h below = let built = build n (omega (arith, ints, below.1)) in (built.0, ap pos built.1)
 nanos_found value build (negsuc n) h below = absurd h
 
--- a type whose values stand for the nanoseconds below one second
+-- a type whose data are the nanoseconds below one second
 pub nanosecond_makeable : {T : Type 0} (value : T → ℕ) → ((n : ℕ) → n < 1_000_000_000 → (t : T) × (value t ≡ n))
     → Makeable nanosecond_shape (IsCheckedValue 4 false below_second (λ t. pos (value t))) (ListsNumber (λ t. pos (value t)))
     (SameNumber (λ t. pos (value t))) (MakesNumber (λ t. pos (value t)))

@@ -1,5 +1,5 @@
--- A type whose values stand for those of a lawful type, one for one, is lawful: a struct for the pair of its fields, a
--- box for what is in it.
+-- A type whose values correspond one to one to those of a lawful type is lawful: a struct, by the pair of its fields; a
+-- box, by its content.
 use Rattle.std.proofs.Common.{◌≡◌, Bool, sym, subst}
 use Rattle.std.specs.declared.alloc.Global.{Global}
 use Rattle.bitcode_shapes.specs.Datum.{Datum}
@@ -19,7 +19,7 @@ module _ {T U : Type 0} (stands_for : T → U) {shape : Shape} {is_value : U →
     transitive = λ t u v h i j s r. l.transitive (stands_for t) (stands_for u) (stands_for v) h i j s r;
   }
 
-  -- each value of the lawful type is stood for
+  -- each value of the lawful type belongs to some value
   pub image_makeable : {makes : Datum → U → Type 0} → (Global → (u : U) → is_value u → (t : T) × (stands_for t ≡ u))
       → Makeable shape is_value lists same makes
       → Makeable shape (λ t. is_value (stands_for t)) (λ t d. lists (stands_for t) d) (λ t u. same (stands_for t) (stands_for u)) (λ d t. makes d (stands_for t))

@@ -123,8 +123,8 @@ module _ {T : Type 0} (shape : Shape) (is_value : T → Type 0) (lists : T → D
       each_remade ts us ds (All-tail is_value t ts h) (All-tail is_value u us i) y.1 z.1,
     )
 
-  -- ---- A container of elements in their order: `items` lists them, `is_whole` is what its values meet, and `whole`
-  -- is the shape of lists whose length meets `is_count`.
+  -- ---- A container of elements in order: `items` lists them, `is_whole` is the container's invariant, and `whole` is
+  -- the shape of lists whose length satisfies `is_count`.
   module _ {C : Type 0} (items : C → List T) (is_whole : C → Type 0) (each : (c : C) → is_whole c → All is_value (items c))
       (whole : Shape) (is_count : ℕ → Type 0) where
     pub sequence_lawful : (order : Bool) → (IsSound shape → IsSound whole)
@@ -151,7 +151,7 @@ module _ {T : Type 0} (shape : Shape) (is_value : T → Type 0) (lists : T → D
       transitive = λ a b c h i j s r. each_transitive order element (items a) (items b) (items c) (each a h) (each b i) (each c j) s r;
     }
 
-    -- a container of the values that the elements of a datum make is made of the datum
+    -- a container of the values that a datum's elements make is made from the datum
     made_whole : (makes : Datum → T → Type 0) (d : Datum) (elements : List Datum) → d ≡ list (data_of elements) → (values : List T) → AllZip makes elements values
         → (c : C) × (is_whole c × (items c ≡ values)) → (c : C) × (is_whole c × MakesSequence makes d (items c))
     made_whole makes d elements is values making built = (
@@ -159,7 +159,7 @@ module _ {T : Type 0} (shape : Shape) (is_value : T → Type 0) (lists : T → D
       (built.1.0, record { elements = elements; is = is; each = subst (AllZip makes elements) (sym built.1.1) making }),
     )
 
-    -- `is_size` is what the container asks of how many elements it holds
+    -- `is_size` is the container's condition on the number of its elements
     pub sequence_makeable : (makes : Datum → T → Type 0) (is_size : ℕ → Type 0)
         → ((d : Datum) → IsOf whole d → IsListOf (IsOf shape) is_count d)
         → ((d : Datum) → IsStorable whole d → is_size (length (elements_in d)) × All (IsStorable shape) (elements_in d))
@@ -187,7 +187,7 @@ module _ {T : Type 0} (shape : Shape) (is_value : T → Type 0) (lists : T → D
           (subst (λ ds. AllZip lists (items b) ds) one l.each) m.each;
     }
 
-  -- ---- A container of any number of elements, of which nothing else is asked
+  -- ---- A container of any number of elements, with no further condition
   module _ {C : Type 0} (items : C → List T) where
     pub seq_lawful : (order : Bool) → Lawful shape is_value lists same order
         → Lawful (seq_shape None shape) (λ c. All is_value (items c)) (λ c d. ListsSequence lists (items c) d)

@@ -1,5 +1,5 @@
--- Maps between lawful types are lawful: those whose entries are in order of their keys, and those that keep an order of
--- their own.
+-- Maps between lawful types are lawful: those with their entries in the order of the keys, and those with an internal
+-- order.
 use Rattle.std.proofs.Common.{◌≡◌, suc, Bool, true, false, cond, Option, Some, None, List, [], ◌∷◌, refl, sym, ◌∙◌, ap, subst, arith}
 use Rattle.std.specs.Prelude.{◌&&◌, All, IfSome}
 use Rattle.std.specs.declared.alloc.Global.{Global}
@@ -31,7 +31,7 @@ use Rattle.bitcode_shapes.specs.Maps.{SameFound, SameEntries, MakesMap}
 -- ---- looking up
 
 module _ {K X : Type 0} {eq : K → K → Bool} (laws : IsEquivalence eq) where
-  -- what is found stands beside an equal key
+  -- the entry that is found has an equal key
   pub record FindsAt (k : K) (v : X) (es : List (K × X)) : Type 0 where
     pub stored : K
     pub entry : Contains es (stored, v)
@@ -97,7 +97,7 @@ module _ {K X : Type 0} (key value : Shape) (is_key : K → Type 0) (is_value : 
     found_transitive (Some x) (Some y) None h i j s r = absurd r
     found_transitive (Some x) (Some y) (Some z) h i j s r = of_value.transitive x y z h i j s r
 
-  -- ---- a container of entries: `entries` lists them, and `is_whole` is what its values meet
+  -- ---- a container of entries: `entries` lists them, and `is_whole` is the container's invariant
 
   module _ {C : Type 0} (entries : C → List (K × X)) (is_whole : C → Type 0) (each : (c : C) → is_whole c → All IsEntry (entries c)) where
     by_entries : {order order_value : Bool} {lists_whole : C → Datum → Type 0} {same_whole : C → C → Type 0} → Lawful value is_value lists_value same_value order_value
@@ -113,7 +113,7 @@ module _ {K X : Type 0} (key value : Shape) (is_key : K → Type 0) (is_value : 
         (found_is (entries b) k (each b i)) (found_is (entries c) k (each c j)) (s k) (r k))
 
     module _ (order_key order_value : Bool) (of_key : Lawful key is_key lists_key same_key order_key) (of_value : Lawful value is_value lists_value same_value order_value) where
-      -- the entries stand in an order that is that of the listing
+      -- the order of the entries is that of the listing
       pub ordered_map_lawful : Lawful (map_shape key value) is_whole (λ c d. ListsSequence (ListsPair lists_key lists_value) (entries c) d)
           (λ b c. SameEntries eq same_value (entries b) (entries c)) (order_key && order_value)
       ordered_map_lawful =
@@ -122,7 +122,7 @@ module _ {K X : Type 0} (key value : Shape) (is_key : K → Type 0) (is_value : 
           (map_shape key value) (λ n. Unit {0}) (order_key && order_value) (λ s. s) (λ d l. l) (λ c h. tt)
           (pair_lawful key value is_key is_value lists_key lists_value same_key same_value order_key order_value of_key of_value))
 
-      -- the map has an order of its own
+      -- the map has an internal order
       pub hashed_map_lawful : Lawful (map_shape key value) is_whole (λ c d. ListsInAnyOrder (ListsPair lists_key lists_value) (entries c) d)
           (λ b c. SameEntries eq same_value (entries b) (entries c)) false
       hashed_map_lawful =
@@ -134,7 +134,7 @@ module _ {K X : Type 0} (key value : Shape) (is_key : K → Type 0) (is_value : 
   -- ---- making
 
   module _ (laws : IsEquivalence eq) (tells : TellsSame is_key same_key eq) where
-    -- pairs that are the same one by one, inserted in turn, give the same
+    -- inserting pairs that match one by one gives the same map
     same_updates : (k : K) (f g : K → Option X) (xs ys : List (K × X)) → All IsEntry xs → All IsEntry ys → AllZip (SamePair same_key same_value) xs ys
         → SameFound same_value (f k) (g k) → SameFound same_value (update_all eq f xs k) (update_all eq g ys k)
     same_updates k f g [] [] h i z s = s
@@ -156,7 +156,7 @@ module _ {K X : Type 0} (key value : Shape) (is_key : K → Type 0) (is_value : 
       of_pair : Makeable (pair_shape key value) IsEntry (ListsPair lists_key lists_value) (SamePair same_key same_value) (MakesPair makes_key makes_value)
       of_pair = pair_makeable key value is_key is_value lists_key lists_value same_key same_value makes_key makes_value of_key of_value
 
-      -- entries in an order that lists the elements which the pairs are made of
+      -- entries in an order that lists the elements from which the pairs are made
       relisted : (order pairs : List (K × X)) (d : Datum) (k : K) → All IsEntry order → All IsEntry pairs → IsDistinct eq (keys_of order)
           → ListsSequence (ListsPair lists_key lists_value) order d → MakesSequence (MakesPair makes_key makes_value) d pairs
           → SameFound same_value (lookup (eq k) order) (update_all eq (λ _. None) pairs k)

@@ -1,4 +1,4 @@
--- A type without values is lawful: no datum is of its shape.
+-- A type without values is lawful: no datum has its shape.
 use Rattle.std.proofs.Common.{ℕ, zero, suc, true}
 use Rattle.bitcode_shapes.specs.Shape.{never_shape}
 use Rattle.bitcode_shapes.specs.Lawful.{Lawful, Makeable}

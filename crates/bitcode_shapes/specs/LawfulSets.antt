@@ -1,4 +1,4 @@
--- Sets of a lawful type are lawful: those whose keys are in order, and those that keep an order of their own.
+-- Sets of a lawful type are lawful: those with their keys in order, and those with an internal order.
 use Rattle.std.proofs.Common.{◌≡◌, Bool, true, false, None, List, [], ◌∷◌, refl, sym, ◌∙◌, ap₂, subst}
 use Rattle.std.specs.Prelude.{All, ◌||◌}
 use Rattle.std.specs.declared.alloc.Global.{Global}
@@ -41,20 +41,20 @@ module _ {T : Type 0} (shape : Shape) (is_value : T → Type 0) (lists : T → D
     by_members whole =
         under_equality whole (λ b c. SameMembers eq (keys b) (keys c)) (λ c h key. refl) (λ b c h i s key. sym (s key)) (λ a b c h i j s r key. s key ∙ r key)
 
-    -- the keys stand in an order that is that of the listing
+    -- the order of the keys is that of the listing
     pub ordered_set_lawful : (order : Bool) → Lawful shape is_value lists same order
         → Lawful (seq_shape None shape) is_whole (λ c d. ListsSequence lists (keys c) d) (λ b c. SameMembers eq (keys b) (keys c)) order
     ordered_set_lawful order element =
         by_members (sequence_lawful shape is_value lists same keys is_whole each (seq_shape None shape) (IsWithin None) order (λ s. s) (λ d l. l) (λ c h. tt) element)
 
-    -- the set has an order of its own
+    -- the set has an internal order
     pub hashed_set_lawful : (order : Bool) → Lawful shape is_value lists same order
         → Lawful (seq_shape None shape) is_whole (λ c d. ListsInAnyOrder lists (keys c) d) (λ b c. SameMembers eq (keys b) (keys c)) false
     hashed_set_lawful order element =
         by_members (any_order_lawful shape is_value lists same order element keys is_whole each (seq_shape None shape) (λ s. s) (λ d l. l))
 
   module _ (eq : T → T → Bool) (laws : IsEquivalence eq) (tells : TellsSame is_value same eq) where
-    -- values that are the same one by one have the same members
+    -- values that match one by one have the same members
     pub members_alike : (ts us : List T) → All is_value ts → All is_value us → AllZip same ts us → SameMembers eq ts us
     members_alike [] [] h i z key = refl
     members_alike [] (u ∷ us) h i z key = absurd z
@@ -105,7 +105,7 @@ module _ {T : Type 0} (shape : Shape) (is_value : T → Type 0) (lists : T → D
           list_any-IsPermutation (eq key) (keys c) l.order l.reordered
           ∙ relisted_in_order element l.order d values (All-permutation is_value (keys c) l.order l.reordered (each c h)) i l.listing m key) element
 
--- what says of values whether they are the same, says it by the order too
+-- if a function decides whether two values are the same, the order decides it too
 pub tells_by_order : {T : Type 0} (is_value : T → Type 0) (same : T → T → Type 0) (eq : T → T → Bool) (cmp : T → T → Ordering)
     → ((x y : T) → eq x y ≡ is_eq (cmp x y)) → TellsSame is_value same eq → TellsSame is_value same (eq_by_cmp cmp)
 tells_by_order is_value same eq cmp tied tells t u h i = (λ s. sym (tied t u) ∙ (tells t u h i).0 s, λ e. (tells t u h i).1 (tied t u ∙ e))

@@ -1,5 +1,6 @@
--- A struct whose values stand for the pairs of its two fields is lawful where the fields are. Of three and more fields
--- the second is the pair of the rest. The laws of numbers and texts stand here by name, for structs and enums to cite.
+-- A struct whose values correspond to the pairs of its two fields is lawful if the fields are. With three or more
+-- fields the second is the pair of the rest. The laws of numbers and texts have names here, for structs and enums to
+-- cite.
 use Rattle.std.proofs.Common.{◌≡◌, ℕ, Bool, true, false, ℤ, pos, List, None, Bor}
 use Rattle.std.specs.Prelude.{◌&&◌}
 use Rattle.bitcode_shapes.specs.Datum.{Datum}
@@ -21,7 +22,7 @@ module _ {T A B : Type 0} {shape_a shape_b : Shape} {is_a : A → Type 0} {is_b 
   struct_lawful {order_a} {order_b} first second =
       image_lawful fields (pair_lawful shape_a shape_b is_a is_b lists_a lists_b same_a same_b order_a order_b first second)
 
-  -- each pair is that of some value's fields
+  -- each pair belongs to the fields of some value
   pub struct_makeable : {makes_a : Datum → A → Type 0} {makes_b : Datum → B → Type 0} → ((a : A) (b : B) → (t : T) × (fields t ≡ (a, b)))
       → Makeable shape_a is_a lists_a same_a makes_a → Makeable shape_b is_b lists_b same_b makes_b
       → Makeable (pair_shape shape_a shape_b) (λ t. IsPairValue is_a is_b (fields t)) (λ t d. ListsPair lists_a lists_b (fields t) d)

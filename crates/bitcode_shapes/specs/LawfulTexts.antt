@@ -19,7 +19,7 @@ use Rattle.bitcode_shapes.specs.Texts.{IsTextValue, ListsText, MakesText, SameTe
 text_once : {bytes others : List ℕ} → text bytes ≡ text others → bytes ≡ others
 text_once e = cc
 
--- ---- A text of a limited size: `is_whole` is what the values meet.
+-- ---- A text of a limited size: `is_whole` is the invariant of its values.
 
 module _ {T : Type 0} (bytes : T → List ℕ) (limit : Option ℕ) (is_whole : T → Type 0) where
   pub limited_lawful : ((t : T) → is_whole t → IsUtf8 (bytes t) × IsWithin limit (length (bytes t)))
@@ -34,7 +34,7 @@ module _ {T : Type 0} (bytes : T → List ℕ) (limit : Option ℕ) (is_whole : 
     transitive = λ t u v h i j s r. s ∙ r;
   }
 
-  -- each text that can be stored is the bytes of some value
+  -- each text that can be stored is the content of some value
   pub limited_makeable : (Global → (whole : List ℕ) → IsStorableSize limit (length whole) → IsUtf8 whole → IsWithin limit (length whole)
       → (t : T) × (is_whole t × (bytes t ≡ whole)))
       → Makeable (text_shape limit) is_whole (ListsText bytes) (SameText bytes) (MakesText bytes)

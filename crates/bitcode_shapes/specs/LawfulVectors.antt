@@ -1,4 +1,4 @@
--- Vectors are lawful where their elements are. The laws stand here by name, for types that stand for a vector to cite.
+-- Vectors are lawful if their elements are. The laws have names here, for types that correspond to a vector to cite.
 use Rattle.std.proofs.Common.{Bool, None}
 use Rattle.std.specs.Prelude.{All}
 use Rattle.std.specs.declared.alloc.Global.{Global}

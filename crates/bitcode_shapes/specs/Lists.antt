@@ -1,5 +1,5 @@
--- The listings and making of values that hold elements one by one, front to back, as slices and vectors do.
--- Each is said of the list of the elements.
+-- The listings and making of values that hold elements one by one, front to back, as slices and vectors do. The
+-- definitions speak about the list of the elements.
 use Rattle.std.specs.Prelude.{◌≡◌, List}
 use Rattle.std.specs.List.{AllZip}
 use Rattle.bitcode_shapes.specs.Datum.{Datum, list, data_of}

@@ -1,5 +1,5 @@
--- What `==` tells of ordered sets and maps: whether they are the same. It goes over the keys in their order, one by one, while
--- two are the same where each key finds the same in both.
+-- `==` decides whether two ordered sets or maps are the same. It compares the keys in their order, one by one, while
+-- two are the same if each key finds the same value in both.
 use Rattle.std.proofs.Common.{◌≡◌, Bool, true, cond, Option, Some, None, List, [], ◌∷◌, map, refl, sym, ◌∙◌, ap, subst, true≢false}
 use Rattle.std.specs.Prelude.{All, ◌&&◌, is_some}
 use Rattle.std.specs.declared.cmp.Ordering.{Ordering}
@@ -40,7 +40,7 @@ module _ {K X : Type 0} {R : K → K → Ordering} (o : IsTotalOrder R) where
   below_first : (q : K) (e : K × X) (es : List (K × X)) → IsStrictlySortedBy R (keys_of (e ∷ es)) → R q e.0 ≡ Less → lookup (eq_by_cmp R q) (e ∷ es) ≡ None
   below_first q e es ascending less = found_below q (e ∷ es) (less, below_more o q e.0 (keys_of es) less (sorted_head R e.0 (keys_of es) ascending))
 
-  -- one that is equal to the first is below the others
+  -- a key equal to the first is below the others
   below_rest : (q : K) (e : K × X) (es : List (K × X)) → IsStrictlySortedBy R (keys_of (e ∷ es)) → R q e.0 ≡ Equal → lookup (eq_by_cmp R q) es ≡ None
   below_rest q e es ascending equal = found_below q es (below_equal o q e.0 (keys_of es) equal (sorted_head R e.0 (keys_of es) ascending))
 
@@ -60,7 +60,7 @@ module _ {K X : Type 0} {R : K → K → Ordering} (o : IsTotalOrder R) {eq : K 
   found_as : {a b c d : Option X} → a ≡ c → b ≡ d → SameFound same a b → SameFound same c d
   found_as {b = b} {c = c} p r s = subst (SameFound same c) r (subst (λ x. SameFound same x b) p s)
 
-  -- two whose first keys are equal: what a key finds in the rest
+  -- two with equal first keys: what a key finds in the rest
   in_rest : (e f : K × X) (es fs : List (K × X)) → IsStrictlySortedBy R (keys_of (e ∷ es)) → IsStrictlySortedBy R (keys_of (f ∷ fs)) → R e.0 f.0 ≡ Equal
       → (q : K) → Found q (e ∷ es) (f ∷ fs) → Found q es fs
   in_rest e f es fs up_e up_f equal q s =
@@ -133,7 +133,7 @@ module _ {K X : Type 0} {R : K → K → Ordering} (o : IsTotalOrder R) {eq : K 
 -- ---- keys, as those of entries without values
 
 module _ {T : Type 0} {R : T → T → Ordering} (o : IsTotalOrder R) {eq : T → T → Bool} (tied : (t u : T) → eq t u ≡ is_eq (R t u)) (is_value : T → Type 0) where
-  -- of entries whose values say nothing
+  -- for entries whose values hold no data
   abbrev eq_key : T × Unit {0} → T × Unit {0} → Bool
   eq_key e f = eq e.0 f.0 && true
 

@@ -1,8 +1,8 @@
--- The listings and making of pairs: each field by its own type.
+-- The listings and making of pairs: each field according to its own type.
 use Rattle.std.specs.Prelude.{◌≡◌}
 use Rattle.bitcode_shapes.specs.Datum.{Datum, pair}
 
--- of a pair: each field by its own type
+-- for a pair: each field according to its own type
 abbrev pub IsPairValue : {A B : Type 0} → (A → Type 0) → (B → Type 0) → A × B → Type 0
 IsPairValue is_first is_second t = is_first t.0 × is_second t.1
 

@@ -1,4 +1,5 @@
--- What a lawful type whose values are made of data promises, as one record: a law has no name where another crate's impl is, data have.
+-- The laws of a lawful type whose values can be made from data, as one record. Another crate's impl cannot be named,
+-- but data can.
 use Rattle.std.specs.Prelude.{Bool, ◌≡◌}
 use Rattle.bitcode_shapes.specs.Datum.{Datum}
 use Rattle.bitcode_shapes.specs.Shape.{Shape}
@@ -7,7 +8,7 @@ use Rattle.bitcode_shapes.specs.Lawful.{Lawful, Makeable}
 use Rattle.bitcode_shapes.specs.LawfulImages.{image_lawful, image_makeable}
 use Rattle.bitcode_shapes.specs.SameArrays.{image_same_arrays}
 
--- a lawful type whose values are made of data
+-- a lawful type whose values can be made from data
 pub record PayloadOf (T : Type 0) : Type 1 where
   pub shape : Shape
   pub is_value : T → Type 0
@@ -17,7 +18,7 @@ pub record PayloadOf (T : Type 0) : Type 1 where
   pub makes : Datum → T → Type 0
   pub lawful : Lawful shape is_value lists same in_order
   pub makeable : Makeable shape is_value lists same makes
-  -- all listings of a value have the same numbers of arrays
+  -- all listings of a value hold the same numbers of arrays
   pub same_arrays : ListsSameArrays shape is_value lists
 
 abbrev pub payload_of : {T : Type 0} {shape : Shape} {is_value : T → Type 0} {lists : T → Datum → Type 0} {same : T → T → Type 0} {in_order : Bool} {makes : Datum → T → Type 0}
@@ -34,6 +35,6 @@ payload_of {shape = shape} {is_value} {lists} {same} {in_order} {makes} lawful m
   same_arrays = same_arrays;
 }
 
--- of a type each of whose values stands for one of another, and of each of these some value
+-- for a type whose values correspond one to one to those of another type
 abbrev pub stood_payload : {T P : Type 0} (parts : T → P) → ((p : P) → (t : T) × (parts t ≡ p)) → PayloadOf P → PayloadOf T
 stood_payload parts of_parts of = payload_of (image_lawful parts of.lawful) (image_makeable parts (λ g p h. of_parts p) of.makeable) (image_same_arrays parts of.same_arrays)

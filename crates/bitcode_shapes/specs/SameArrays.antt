@@ -1,5 +1,5 @@
--- That all listings of a value have the same numbers of arrays: where a value has one listing, and of values that hold
--- others, where it holds of these. So a type of one's own promises it as it promises to be lawful:
+-- All listings of a value hold the same numbers of arrays: if the value has only one listing, or if this is true for
+-- the values in it. A user-defined type proves this law as it proves that it is lawful:
 --
 --     image_same_arrays stands_for (pair_same_arrays first second)
 use Rattle.std.proofs.Common.{◌≡◌, ℕ, zero, suc, ◌+◌, true, false, ℤ, pos, Bor, Option, None, List, [], ◌∷◌, Result, refl, sym, ◌∙◌, ap, ap₂}
@@ -24,7 +24,7 @@ use Rattle.bitcode_shapes.specs.AnyOrder.{ListsInAnyOrder}
 use Rattle.bitcode_shapes.specs.LawfulAnyOrder.{zip_follows}
 use Rattle.bitcode_shapes.specs.Choices.{ListsChoice, ListsLast, IsVariantValue, ListsVariant, option_variant, result_variant}
 
--- ---- values with one listing, and values that stand for others
+-- ---- values with one listing, and values that correspond to others
 
 pub one_listing_same_arrays : {T : Type 0} {shape : Shape} {is_value : T → Type 0} {lists : T → Datum → Type 0} {same : T → T → Type 0}
     → Lawful shape is_value lists same true → ListsSameArrays shape is_value lists
@@ -32,11 +32,11 @@ one_listing_same_arrays {shape = shape} lawful = record {
   at = λ t d e h l m way. ap (arrays_at shape way) (lawful.one_listing refl t d e h l m);
 }
 
--- of a type each of whose values lists one datum, as numbers and texts do
+-- for a type whose values list one datum each, as numbers and texts do
 pub one_datum_same_arrays : {T : Type 0} {datum : T → Datum} {shape : Shape} {is_value : T → Type 0} → ListsSameArrays shape is_value (λ t d. d ≡ datum t)
 one_datum_same_arrays {shape = shape} = record { at = λ t d e h l m way. ap (arrays_at shape way) (l ∙ sym m) }
 
--- of a type without values
+-- for a type without values
 pub never_same_arrays : {T : Type 0} {shape : Shape} {is_value : T → Type 0} → ListsSameArrays shape is_value (λ t d. ⊥)
 never_same_arrays = record { at = λ t d e h l m way. absurd l }
 
@@ -82,11 +82,11 @@ struct_same_arrays fields first second = image_same_arrays fields (pair_same_arr
 
 -- ---- lists of data
 
--- the two hold as many arrays at each node
+-- the two hold equally many arrays at each node
 abbrev pub HoldSameArrays : Shape → List Datum → List Datum → Type 0
 HoldSameArrays shape ds es = (way : List ℕ) → sum_by (arrays_at shape way) ds ≡ sum_by (arrays_at shape way) es
 
--- lists of the shape `whole` hold as many arrays where their elements, of the shape, do
+-- lists of the shape `whole` hold equally many arrays if their elements, of the shape, do
 abbrev pub FollowElements : Shape → Shape → Type 0
 FollowElements whole shape =
     (ds es : List Datum) → HoldSameArrays shape ds es → (way : List ℕ) → arrays_at whole way (list (data_of ds)) ≡ arrays_at whole way (list (data_of es))
@@ -108,7 +108,7 @@ map_follows key value ds es same [] = refl
 map_follows key value ds es same (zero ∷ way) = in_elements (pair_shape key value) (zero ∷ way) ds es same
 map_follows key value ds es same (suc place ∷ way) = in_elements (pair_shape key value) (suc place ∷ way) ds es same
 
--- ---- values that hold elements: `items` lists them, and `is_whole` is what the values meet
+-- ---- values that hold elements: `items` lists them, and `is_whole` is the invariant
 
 module _ {T : Type 0} {shape : Shape} {is_value : T → Type 0} {lists : T → Datum → Type 0} (element : ListsSameArrays shape is_value lists) where
   each_same_arrays : (way : List ℕ) (values : List T) (ds es : List Datum) → All is_value values → AllZip lists values ds → AllZip lists values es
@@ -141,7 +141,7 @@ module _ {T : Type 0} {shape : Shape} {is_value : T → Type 0} {lists : T → D
           ∙ ap (arrays_at whole way) (sym m.is);
     }
 
-    -- in an order of their own
+    -- in an internal order
     in_any_order_same_arrays : (whole : Shape) → FollowElements whole shape → ListsSameArrays whole is_whole (λ c d. ListsInAnyOrder lists (items c) d)
     in_any_order_same_arrays whole follows = record {
       at = λ c d e h l m way.
@@ -170,7 +170,7 @@ module _ {K X C : Type 0} {key value : Shape} {is_key : K → Type 0} {is_value 
   pub hashed_map_same_arrays : ListsSameArrays (map_shape key value) is_whole (λ c d. ListsInAnyOrder (ListsPair lists_key lists_value) (entries c) d)
   hashed_map_same_arrays = in_any_order_same_arrays (pair_same_arrays of_key of_value) entries is_whole each (map_shape key value) (map_follows key value)
 
--- ---- variants: the last by itself, and the first beside the rest
+-- ---- variants: the last alone, and the first with the rest
 
 module _ {A : Type 0} {s : Shape} {is_a : A → Type 0} {lists_a : A → Datum → Type 0} (last : ListsSameArrays s is_a lists_a) where
   in_last : (t : A) (i j : ℕ) (d e : Datum) → is_a t → ListsLast lists_a t i d → ListsLast lists_a t j e

@@ -1,12 +1,12 @@
--- Types of which two values that are the same are one: numbers, tuples of such types, enums whose variants all lack a payload, and what
--- stands for such a type one for one. A text is none, since two that are equal can have room for unlike numbers of bytes.
+-- Types for which `same` implies equality in every respect: numbers, tuples of such types, enums without payloads, and
+-- types that correspond to one of these. Texts are not among them: two equal texts can have different capacities.
 use Rattle.std.proofs.Common.{◌≡◌, ℕ, Bool, true, false, ℤ, pos, Some, List, refl, sym, ◌∙◌, ap}
 use Rattle.std.specs.Prelude.{slice_get}
 use Rattle.bitcode_shapes.specs.BareVariants.{SameBare}
 use Rattle.bitcode_shapes.specs.Ints.{bool_number, SameNumber}
 use Rattle.bitcode_shapes.specs.Pairs.{IsPairValue, SamePair}
 
--- values that are the same are one
+-- values that are the same are equal in every respect
 abbrev pub SameIsOne : {T : Type 0} → (T → Type 0) → (T → T → Type 0) → Type 0
 SameIsOne {T} is_value same = (t u : T) → is_value t → is_value u → same t u → t ≡ u
 
@@ -35,13 +35,13 @@ pairs_are_one first second t u h i same =
 some_once : {T : Type 0} {t u : T} → Some t ≡ Some u → t ≡ u
 some_once e = cc
 
--- of an enum whose variants all lack a payload: a value is the one that stands at its variant's place
+-- for an enum without payloads: a value is the one at the index of its variant
 pub bares_are_one : {T : Type 0} (is_value : T → Type 0) (variant : T → ℕ) (values : List T) → ((t : T) → slice_get values (variant t) ≡ Some t)
     → SameIsOne is_value (SameBare variant)
 bares_are_one is_value variant values one_to_one t u h i same =
     some_once (sym (one_to_one t) ∙ ap (slice_get values) same ∙ one_to_one u)
 
--- of a type whose values stand for those of another one for one: `value_of` gives the one that stands for some of these
+-- for a type whose values correspond one to one to those of another: `value_of` gives the value for given parts
 pub images_are_one : {T P : Type 0} (parts : T → P) (value_of : P → T) → ((t : T) → value_of (parts t) ≡ t)
     → {is_value : P → Type 0} {same : P → P → Type 0} → SameIsOne is_value same
     → SameIsOne (λ t. is_value (parts t)) (λ t u. same (parts t) (parts u))

@@ -7,7 +7,7 @@ use Rattle.std.specs.declared.cmp.Ordering.{Ordering}
 use Rattle.bitcode_shapes.specs.Datum.{Datum}
 use Rattle.bitcode_shapes.specs.Lists.{MakesSequence}
 
--- a key is equal to one of the first exactly where it is to one of the second
+-- a key is equal to one of the first if and only if it is equal to one of the second
 abbrev pub SameMembers : {T : Type 0} → (T → T → Bool) → List T → List T → Type 0
 SameMembers {T} eq keys others = (key : T) → is_member eq keys key ≡ is_member eq others key
 
@@ -18,16 +18,16 @@ pub record MakesSet {T : Type 0} (is_value : T → Type 0) (eq : T → T → Boo
   pub making : MakesSequence makes d values
   pub members : SameMembers eq keys values
 
--- `==` says of values whether they are the same
+-- `==` decides whether two values are the same
 abbrev pub TellsSame : {T : Type 0} → (T → Type 0) → (T → T → Type 0) → (T → T → Bool) → Type 0
 TellsSame {T} is_value same eq = (t u : T) → is_value t → is_value u → (same t u → eq t u ≡ true) × (eq t u ≡ true → same t u)
 
--- a set whose keys are values in order
+-- a set whose keys satisfy their invariant and are in order
 pub record IsOrderedSet {T : Type 0} (is_value : T → Type 0) (cmp : T → T → Ordering) (keys : List T) : Type 0 where
   pub each : All is_value keys
   pub ascending : IsStrictlySortedBy cmp keys
 
--- a set whose keys are values of which no two are equal
+-- a set whose keys satisfy their invariant, no two of them equal
 pub record IsDistinctSet {T : Type 0} (is_value : T → Type 0) (eq : T → T → Bool) (keys : List T) : Type 0 where
   pub each : All is_value keys
   pub apart : IsDistinct eq keys

@@ -1,9 +1,9 @@
--- A shape says which data a type has, and so which columns.
+-- A shape says which data a type has, and therefore which columns.
 use Rattle.std.specs.Prelude.{◌≡◌, ℕ, zero, suc, ◌*◌, ◌^◌, ◌<◌, ◌≤◌, Bool, true, false, ℤ, pos, negsuc, ◌≤ℤ◌, ◌≢◌, Option, Some, None, List, length, All, IsUtf8, ◌⊎◌}
 use Rattle.std.specs.Char.{IsScalar}
 use Rattle.bitcode_shapes.specs.Datum.{Datum, number, text, list, choice, unit, data_of, pair}
 
--- which numbers of a width an entry may be
+-- the numbers of a width that an entry may be
 pub data Allowed : Type 0 where
   any_number : Allowed
   nonzero : Allowed
@@ -14,16 +14,16 @@ mutual
   pub data Shape : Type 0 where
     -- no columns
     unit_shape : Shape
-    -- nothing is of it
+    -- no datum has it
     never_shape : Shape
     bool_shape : Shape
     -- a number of a width in bytes, signed (true) or not
     number_shape : ℕ → Bool → Allowed → Shape
-    -- a UTF-8 text, of at most so many bytes where a number is given
+    -- a UTF-8 text, of at most so many bytes if a number is given
     text_shape : Option ℕ → Shape
     -- a byte of a text
     raw_shape : Shape
-    -- a list, of at most so many elements where a number is given
+    -- a list, of at most so many elements if a number is given
     seq_shape : Option ℕ → Shape → Shape
     -- keys and values
     map_shape : Shape → Shape → Shape
@@ -42,7 +42,7 @@ abbrev pub variant_count : Shapes → ℕ
 variant_count no_shapes = 0
 variant_count (shape_and s ss) = suc (variant_count ss)
 
--- z is a number of so many bytes
+-- z fits in so many bytes
 abbrev pub IsInWidth : ℕ → Bool → ℤ → Type 0
 IsInWidth width false (pos n) = n < 256 ^ width
 IsInWidth width false (negsuc n) = ⊥
@@ -120,12 +120,12 @@ abbrev mutual
   IsOfVariant (shape_and s ss) zero d = IsOf s d
   IsOfVariant (shape_and s ss) (suc index) d = IsOfVariant ss index d
 
--- a width in bytes that numbers have
+-- a width that numbers may have, in bytes
 abbrev pub IsNumberWidth : ℕ → Type 0
 IsNumberWidth width = (width ≡ 1) ⊎ ((width ≡ 2) ⊎ ((width ≡ 4) ⊎ ((width ≡ 8) ⊎ (width ≡ 16))))
 
 abbrev mutual
-  -- numbers have one of the widths, and a choice is one of 2 to 256 variants
+  -- numbers have one of the widths, and a choice has 2 to 256 variants
   pub IsSound : Shape → Type 0
   IsSound unit_shape = Unit {0}
   IsSound never_shape = Unit {0}

@@ -1,5 +1,5 @@
--- What containers can hold: a list, a map or a text of no given limit has less than 2 ^ 63 elements or bytes. One with a limit
--- holds as many as that, and an array as many as its shape says.
+-- What containers can hold. A list, a map or a text without a limit has fewer than 2 ^ 63 elements or bytes. One with a
+-- limit holds at most that many, and an array exactly as many as its shape says.
 use Rattle.std.specs.Prelude.{ℕ, zero, suc, ◌<◌, ◌^◌, Option, Some, None, length, All}
 use Rattle.bitcode_shapes.specs.Datum.{Datum, text_in, elements_in, first_in, second_in, variant_in, payload_in}
 use Rattle.bitcode_shapes.specs.Shape.{Shape, Shapes, text_shape, seq_shape, map_shape, array_shape, pair_shape, choice_shape, no_shapes, shape_and}
@@ -19,7 +19,7 @@ abbrev mutual
   IsStorable (choice_shape shapes) d = IsStorableVariant shapes (variant_in d) (payload_in d)
   IsStorable _ d = Unit {0}
 
-  -- of the payload of a variant
+  -- for the payload of a variant
   pub IsStorableVariant : Shapes → ℕ → Datum → Type 0
   IsStorableVariant no_shapes index d = Unit {0}
   IsStorableVariant (shape_and s ss) zero d = IsStorable s d

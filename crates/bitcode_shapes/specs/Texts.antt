@@ -1,8 +1,8 @@
--- The listings and making of texts, by the bytes of each. No text is kept in an order of its own.
+-- The listings and making of texts, by their bytes. No text has an internal order.
 use Rattle.std.specs.Prelude.{◌≡◌, ℕ, List, IsUtf8}
 use Rattle.bitcode_shapes.specs.Datum.{Datum, text}
 
--- of a type whose values have bytes
+-- for a type whose values have bytes
 abbrev pub IsTextValue : {T : Type 0} → (T → List ℕ) → T → Type 0
 IsTextValue bytes t = IsUtf8 (bytes t)
 

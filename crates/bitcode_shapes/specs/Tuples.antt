@@ -1,7 +1,7 @@
 -- Written by scripts/tables/tuples.
--- A tuple of three or more fields stands for the pair of its first half and its second, the longer one last; a half of one
--- field is that field. Each such pair is stood for. In proofs a tuple of more than twelve fields is a nest of pairs that ends
--- in the unit.
+-- A tuple of three or more fields corresponds to the pair of its first half and its second, the longer one last. A half
+-- with one field is that field. Each such pair belongs to a tuple. In proofs a tuple of more than twelve fields is a
+-- nest of pairs that ends in the unit.
 use Rattle.std.proofs.Common.{◌≡◌, refl}
 
 abbrev pub split_2 : {A B : Type 0} → A × B → A × B

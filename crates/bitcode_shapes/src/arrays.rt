@@ -1,4 +1,4 @@
-//! Arrays hold the data of their elements.
+//! Arrays: their data are those of their elements.
 ghost use Rattle.bitcode_shapes.specs.Shape.{array_shape};
 ghost use Rattle.bitcode_shapes.specs.Lists.{ListsSequence, MakesSequence, SameSequence};
 ghost use Rattle.bitcode_shapes.specs.Arrays.{IsArrayValue, array_lawful, array_makeable};

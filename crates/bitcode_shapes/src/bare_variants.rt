@@ -1,4 +1,4 @@
-//! Enums whose variants all lack a payload: they say which variant a value is, and which value a variant.
+//! Enums without payloads: the variant of each value, and the value of each variant.
 ghost use Rattle.std.specs.Prelude.{◌≡◌, ◌<◌, ℕ, List, Some, true, refl, slice_get};
 ghost use Rattle.bitcode_shapes.specs.Datum.{Datum};
 ghost use Rattle.bitcode_shapes.specs.BareVariants.{bare_shape, ListsBare, MakesBare, SameBare, AreSomeInOrder};
@@ -10,8 +10,8 @@ use crate::same_arrays::SameArrays;
 use crate::shaped::{Made, Shaped};
 use crate::stands_for::{HeldIn, Holds};
 
-/// An enum of `N` variants, 2 to 256, all of which lack a payload. They are numbered from 0 on in the order in which they
-/// stand.
+/// An enum of `N` variants, 2 to 256, none of which has a payload. The variants are numbered from 0 in the order of
+/// their declaration.
 ///
 /// ```rust,from:crates/bitcode_own_types/src/outcome.rt
 /// impl BareVariants<3> for Outcome {
@@ -49,7 +49,7 @@ pub trait BareVariants<const N: usize> {
 
     ghost in_order: { AreSomeInOrder variant values N };
 
-    /// Which variant the value is.
+    /// The number of the value's variant.
     fn index(&self) -> u8
         ensures is { result ≡ variant self.now }
         ensures known { result < N };
@@ -59,18 +59,18 @@ pub trait BareVariants<const N: usize> {
         requires { index < N }
         ensures { variant result ≡ index };
 
-    // a value is told by its variant: it is the one that stands at that place among the values
+    // its number determines a value: the one at that index of the values
     ghost one_to_one: { (t : Self) → slice_get values (variant t) ≡ Some t };
 }
 
-/// An enum whose variants all lack a payload, and that is lawful as such: it says so by `HeldIn`.
+/// An enum without payloads that gets its laws from `HeldIn`.
 pub trait BareShaped<const N: usize>: BareVariants<N> + Shaped {
     ghost has_shape: { Self.shape ≡ bare_shape N };
 
     ghost lists_bare: { (t : Self) (d : Datum) → ListsBare Self.variant t d → Self.lists t d };
 }
 
-/// An enum whose variants all lack a payload, each of whose values is made of its variant.
+/// An enum without payloads whose values can be made from data.
 pub trait BareMade<const N: usize>: BareShaped<N> + Made {
     ghost makes_bare: { (d : Datum) (t : Self) → MakesBare Self.variant d t → Self.makes d t };
 }
@@ -85,12 +85,13 @@ impl<const N: usize, T: BareVariants<N> + HeldIn<Holder = Bare<N, T>>> BareMade<
     ghost makes_bare = { λ d t h. h };
 }
 
-/// Two values of the same variant are one: what is read back of such an enum is the very value that was written.
+/// Two values with the same variant are equal in every respect: decoding such an enum gives exactly the value that was
+/// encoded.
 pub fn told_by_variant<const N: usize, T: BareVariants<N>>(t: &T, u: &T)
     ensures { T.variant t.now ≡ T.variant u.now → t.now ≡ u.now }
 {}
 
-/// What a value of an enum whose variants all lack a payload stands for: itself.
+/// What a value of an enum without payloads corresponds to: a struct with that value.
 pub struct Bare<const N: usize, T> {
     value: T,
 }

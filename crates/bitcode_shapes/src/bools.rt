@@ -1,4 +1,4 @@
-//! A bool holds the number 0 or 1.
+//! Bools: the number 0 or 1.
 ghost use Rattle.std.specs.Prelude.{true};
 ghost use Rattle.bitcode_shapes.specs.Shape.{bool_shape};
 ghost use Rattle.bitcode_shapes.specs.Ints.{bool_number, ListsNumber, MakesNumber, SameNumber};

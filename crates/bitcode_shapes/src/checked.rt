@@ -1,5 +1,5 @@
 // Written by scripts/tables/integers.
-//! Numbers of which not all are allowed: integers that are not 0, and chars.
+//! Types that allow only some numbers: nonzero integers, and chars.
 #![tactic(auto, using(crate::proofs::CheckedLemmas::nonzero_unsigned, crate::proofs::CheckedLemmas::nonzero_signed))]
 
 ghost use Rattle.std.specs.Prelude.{true, false, pos, refl};

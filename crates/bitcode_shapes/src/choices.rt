@@ -1,4 +1,4 @@
-//! Options and results hold the choice of a variant and of what is in it.
+//! Options and results: the index of a variant, and its payload.
 ghost use Rattle.std.specs.Prelude.{◌&&◌};
 ghost use Rattle.bitcode_shapes.specs.Shape.{choice_shape, shape_and, no_shapes, unit_shape};
 ghost use Rattle.bitcode_shapes.specs.Empty.{ListsUnit, MakesUnit};

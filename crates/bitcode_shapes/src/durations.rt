@@ -1,4 +1,4 @@
-//! Durations hold seconds and nanoseconds.
+//! Durations: seconds and nanoseconds.
 ghost use Rattle.std.specs.Prelude.{true};
 ghost use Rattle.bitcode_shapes.specs.Durations.{seconds_and_nanos, duration_shape, IsSpan, ListsSpan, MakesSpan, SameSpan};
 ghost use Rattle.bitcode_shapes.specs.LawfulDurations.{duration_lawful, duration_makeable};

@@ -1,4 +1,4 @@
-//! The unit holds nothing.
+//! The unit: no data.
 ghost use Rattle.std.specs.Prelude.{true};
 ghost use Rattle.bitcode_shapes.specs.Shape.{unit_shape};
 ghost use Rattle.bitcode_shapes.specs.Empty.{ListsUnit, MakesUnit};

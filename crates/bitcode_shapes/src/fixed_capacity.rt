@@ -1,4 +1,4 @@
-//! Vectors and texts of a fixed capacity hold their elements and their bytes.
+//! Vectors and texts with a fixed capacity: their elements or bytes.
 ghost use Rattle.std.specs.Prelude.{Some, true};
 ghost use Rattle.bitcode_shapes.specs.FixedCapacity.{IsWithinCapacity, IsTextWithin, array_vec_lawful, array_vec_makeable, array_string_lawful, array_string_makeable};
 ghost use Rattle.bitcode_shapes.specs.Lists.{ListsSequence, MakesSequence, SameSequence};

@@ -1,4 +1,4 @@
-//! Heaps hold the data of their elements, in an order of their own.
+//! Heaps: their elements, in the heap's internal order.
 ghost use Rattle.std.specs.Prelude.{None, All, false};
 ghost use Rattle.std.specs.BinaryHeap.{heap_items};
 ghost use Rattle.bitcode_shapes.specs.AnyOrder.{ListsInAnyOrder, MakesInAnyOrder, SameInAnyOrder};

@@ -1,5 +1,5 @@
 // Written by scripts/tables/integers.
-//! The integers hold their numbers. As keys they are compared by them, and a value lists no arrays.
+//! Integers: their numbers. As keys they compare by number, and they hold no arrays.
 ghost use Rattle.std.specs.Prelude.{true, false, ℤ, pos};
 ghost use Rattle.bitcode_shapes.specs.KeyLaws.{naturals_told, integers_told};
 ghost use Rattle.bitcode_shapes.specs.LawfulInts.{width_1, width_2, width_4, width_8, width_16, int_lawful, unsigned_makeable, signed_makeable};

@@ -1,6 +1,6 @@
-//! Keys of sets and maps: the types of this crate whose `==` says of two values whether they are the same. A duration is
-//! none: its `==` compares the seconds and nanoseconds that it stores, and no contract says that it stores fewer than a
-//! second's nanoseconds.
+//! Keys of sets and maps: the types of this crate whose `==` decides whether two values are the same. `Duration` is
+//! missing: its `==` compares the stored seconds and nanoseconds, and no contract says that the stored nanoseconds are
+//! below one second.
 ghost use Rattle.bitcode_shapes.specs.LawfulNever.{from_never};
 ghost use Rattle.bitcode_shapes.specs.Sets.{TellsSame};
 
@@ -11,8 +11,8 @@ use crate::no_variants::NoVariants;
 use crate::shaped::Shaped;
 use std::cmp::Eq;
 
-/// A type whose values can be the elements of a decoded set and the keys of a decoded map: `==` says of two values
-/// whether they are the same.
+/// A type whose values can be elements of a decoded set and keys of a decoded map: its `==` decides whether two values
+/// are the same.
 ///
 /// `specs/KeyLaws.antt` has the laws of numbers, texts, sequences and tuples.
 ///

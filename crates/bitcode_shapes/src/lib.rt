@@ -1,4 +1,4 @@
-//! The data that types hold: their shapes, and what a lawful type promises.
+//! The data of each type: its shape, and the laws that make a type lawful.
 #![tactic(auto)]
 
 pub mod arrays;

@@ -1,4 +1,4 @@
-//! Slices, vectors, queues and linked lists hold the data of their elements, front to back.
+//! Slices, vectors, queues and linked lists: their elements, front to back.
 ghost use Rattle.std.specs.Prelude.{None, All};
 ghost use Rattle.std.specs.Vec.{vec_items};
 ghost use Rattle.bitcode_shapes.specs.Shape.{seq_shape};
@@ -10,7 +10,7 @@ ghost use Rattle.bitcode_shapes.specs.BuiltLists.{deque_built, list_built};
 use crate::shaped::{Made, Shaped};
 use std::collections::{LinkedList, VecDeque};
 
-/// Each element in hand is a value of its type.
+/// Each element satisfies its type's invariant.
 pub fn told_each<T: Shaped>(items: &[T])
     ensures { All T.is_value items.now }
 {
@@ -19,7 +19,7 @@ pub fn told_each<T: Shaped>(items: &[T])
     }
 }
 
-/// What each reference in hand leads to is a value of its type.
+/// The target of each reference satisfies its type's invariant.
 pub fn told_behind<T: Shaped>(references: &[&T])
     ensures { All (λ reference. T.is_value reference.now) references.now }
 {

@@ -1,5 +1,5 @@
 // Written by scripts/tables/containers.
-//! Maps hold the data of their keys and values: an ordered map in the order of its keys, a hashed one in an order of its own.
+//! Maps: the data of their keys and values, in key order for an ordered map and in an internal order for a hashed one.
 ghost use Rattle.std.specs.Prelude.{◌&&◌, false};
 ghost use Rattle.std.specs.Map.{keys_of};
 ghost use Rattle.std.specs.Ordering.{eq_by_cmp};

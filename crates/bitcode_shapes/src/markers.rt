@@ -1,4 +1,4 @@
-//! A marker of a type holds nothing.
+//! Type markers: no data.
 ghost use Rattle.std.specs.Prelude.{true};
 ghost use Rattle.bitcode_shapes.specs.LawfulEmpty.{unit_lawful, unit_makeable};
 ghost use Rattle.bitcode_shapes.specs.Shape.{unit_shape};

@@ -1,4 +1,4 @@
-//! Types without values, as an enum without variants, hold nothing.
+//! Types without values, such as an enum without variants: no data.
 ghost use Rattle.std.specs.Prelude.{ℕ, true, refl};
 ghost use Rattle.bitcode_shapes.specs.Shape.{never_shape};
 ghost use Rattle.bitcode_shapes.specs.LawfulNever.{never_lawful, never_makeable};
@@ -6,10 +6,10 @@ ghost use Rattle.bitcode_shapes.specs.LawfulNever.{never_lawful, never_makeable}
 use crate::shaped::{Made, Shaped};
 use crate::stands_for::{HeldIn, Holds};
 
-/// A type without values, as an enum without variants.
+/// A type without values, such as an enum without variants.
 ///
-/// Its one member says that there is no value. Such a type is lawful: no datum is of its shape, and so it is written
-/// and read nowhere.
+/// Its one member proves that there is no value. Such a type is lawful: no datum has its shape, so nothing is ever
+/// encoded or decoded as it.
 ///
 /// ```
 /// enum Never {}
@@ -23,7 +23,7 @@ pub trait NoVariants {
     ghost never: { (t : Self) (P : ℕ → Type 0) → P 0 → P 1 };
 }
 
-/// What a value of a type without values stands for: itself.
+/// What a value of a type without values corresponds to: a struct with that value.
 pub struct Absent<T> {
     value: T,
 }

@@ -1,4 +1,4 @@
-//! Types that say their laws as data, so that an enum can quote them: those that the fields of its variants may have.
+//! Types that state their laws as data, so that an enum can cite them: the types that a variant's fields may have.
 ghost use Rattle.std.specs.Prelude.{refl};
 ghost use Rattle.bitcode_shapes.specs.LawfulBareVariants.{bare_lawful, bare_makeable};
 ghost use Rattle.bitcode_shapes.specs.LawfulImages.{image_lawful, image_makeable};
@@ -21,11 +21,11 @@ mod tuples_of_9_to_16;
 use crate::bare_variants::{Bare, BareVariants};
 use crate::no_variants::{Absent, NoVariants};
 
-/// A lawful type whose values are made of data, and that says so where an enum can quote it. It has no functions.
+/// A lawful type that states its laws as data, so that an enum can cite them. It has no functions.
 ///
-/// The laws of another crate's impl have no name that a ghost member could write; data have one: `⟦<(u8, String) as Payload>⟧.payload`.
-/// Sets and maps are among these where their elements and keys are a `KeyPayload`. A type of one's own says its laws by those of what it
-/// stands for:
+/// A ghost member cannot name the laws of another crate's impl, but it can name data:
+/// `⟦<(u8, String) as Payload>⟧.payload`. Sets and maps are payloads if their elements and keys are a `KeyPayload`. A
+/// user-defined type cites the laws of the type that it corresponds to:
 ///
 /// ```rust,from:crates/bitcode_own_types/src/message.rt
 /// impl<'a> Payload for Message<'a> {
@@ -36,13 +36,13 @@ pub trait Payload {
     ghost payload: { PayloadOf Self };
 }
 
-/// A type whose values can be the elements of sets and the keys of maps, and that says as data what its `==` and its order promise: so
-/// the sets and maps of such keys are a `Payload`. It has no functions.
+/// A type that can be an element of sets and a key of maps, and that states the laws of its `==` and its order as data.
+/// This makes its sets and maps a `Payload`. It has no functions.
 ///
-/// Each `Key` of this crate with an order and a `Payload` has it, if its parts do. A type of a user says it by a line of its own. The
-/// `==` and the order that it says have to be those of the type as they are written, and not only in what they answer: else the check
-/// refuses each enum by number that has a set or a map of the type in a field. A struct of one or two fields with a derived `Ord` is
-/// compared as the tuple of its fields:
+/// Every `Key` of this crate with an order and a `Payload` implements it, if its parts do. A user-defined type adds one
+/// line. The `==` and the order in that line must be written as the type's own are: giving the same answers is not
+/// enough. Otherwise the checker rejects each enum by number that has a set or map of the type in a field. A struct of
+/// one or two fields with a derived `Ord` is compared as the tuple of its fields:
 ///
 /// ```rust,from:crates/bitcode_own_types/src/spot.rt
 /// impl KeyPayload for Spot {
@@ -54,9 +54,10 @@ pub trait Payload {
 /// }
 /// ```
 ///
-/// One of more fields answers as the tuple does, and is written otherwise. So is an enum whose variants all lack a payload, which answers
-/// as its variants do. They say so by `key_as`, with a proof that the two answer alike: for a struct by `and_nested` and `then_nested` of
-/// `specs/CompareAlike.antt`, for an enum by `refl` at each two of its variants:
+/// A struct with more fields compares as its tuple does, but its comparison is written differently. The same is true
+/// for an enum without payloads, which compares as its variant numbers do. These use `key_as`, with a proof that the
+/// two comparisons agree: for a struct by `and_nested` and `then_nested` of `specs/CompareAlike.antt`, for an enum by
+/// `refl` for each pair of variants:
 ///
 /// ```rust,from:crates/bitcode_own_types/src/light.rt
 /// impl KeyPayload for Light {

@@ -1,5 +1,5 @@
 // Written by scripts/tables/types.
-//! Pointers hold the data of what they own: a box and a shared pointer those of the value, slices those of a sequence.
+//! Pointers: the data of what they own, a value or, for a boxed or shared slice, a sequence.
 ghost use Rattle.std.specs.Prelude.{None, All};
 ghost use Rattle.std.specs.Box.{box_value, boxed_slice_items};
 ghost use Rattle.std.specs.Rc.{rc_value, rc_slice_items};

@@ -1,4 +1,4 @@
-//! Types each of whose values has the same numbers of arrays in all of its listings: every type of this crate.
+//! Types whose values hold the same numbers of arrays in all their listings: every type of this crate.
 ghost use Rattle.bitcode_shapes.specs.ArrayCounts.{ListsSameArrays};
 ghost use Rattle.bitcode_shapes.specs.SameArrays.{image_same_arrays, never_same_arrays};
 
@@ -9,12 +9,12 @@ use crate::no_variants::{Absent, NoVariants};
 use crate::shaped::Shaped;
 use crate::stands_for::StandsFor;
 
-/// A type of which all listings of a value have the same numbers of arrays. So whether a value can be written does not
-/// depend on the order in which it is listed.
+/// A type for which all listings of a value hold the same numbers of arrays. So whether a value can be encoded does not
+/// depend on the order of its listing.
 ///
-/// An encoder refuses a value whose arrays are too many to be counted, and `overflows_exactly` of `bitcode_derive::laws` says
-/// when, of these types. A type of one's own can be written and read without this promise. `specs/SameArrays.antt` has its
-/// laws: of types whose values list one datum each, of structs, choices, sequences and maps.
+/// An encoder rejects a value with too many arrays to count, and `overflows_exactly` of `bitcode_derive::laws` says
+/// when, for these types. A user-defined type can be encoded and decoded without this law. `specs/SameArrays.antt` has
+/// the laws for types whose values have one listing, and for structs, choices, sequences and maps.
 ///
 /// ```rust,from:crates/bitcode_by_hand/src/foo.rt
 /// impl<'a> SameArrays for Foo<'a> {

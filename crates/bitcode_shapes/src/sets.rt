@@ -1,5 +1,5 @@
 // Written by scripts/tables/containers.
-//! Sets hold the data of their keys: an ordered set in their order, a hashed one in an order of its own.
+//! Sets: the data of their keys, in key order for an ordered set and in an internal order for a hashed one.
 ghost use Rattle.std.specs.Prelude.{None, false};
 ghost use Rattle.std.specs.Ordering.{eq_by_cmp};
 ghost use Rattle.std.proofs.lemmas.Cmp.{eq_by_cmp_equiv};

@@ -6,12 +6,12 @@ ghost use Rattle.bitcode_shapes.specs.Lawful.{Lawful, Makeable};
 
 /// A type whose values hold data of one shape.
 ///
-/// A value of `(u8, bool)` holds the pair of a number and of 0 or 1. `crate::tuples` shows how types say so.
+/// A value of `(u8, bool)` holds the pair of a number and of 0 or 1. See `crate::tuples` for an implementation.
 pub trait Shaped {
     // which data its values hold
     ghost shape: { Shape };
 
-    // a value whose numbers and chars are in their types' ranges, as every value in hand is
+    // the invariant: the numbers and chars of the value are within the ranges of their types
     ghost is_value: { Self → Type 0 };
 
     // what a value holds; a hashed container or a heap may be listed in more than one order
@@ -23,14 +23,14 @@ pub trait Shaped {
     // nothing in a value is kept in an order of its own, so that it has one listing
     ghost in_order: { Bool };
 
-    /// Every value keeps what `is_value` says.
+    /// Every value satisfies its type's invariant, `is_value`.
     fn told(&self)
         ensures { is_value self.now };
 
     ghost lawful: { Lawful shape is_value lists same in_order };
 }
 
-/// A type whose values are made of data.
+/// A type whose values can be made from data.
 pub trait Made: Shaped {
     // the value is made of the datum
     ghost makes: { Datum → Self → Type 0 };

@@ -1,13 +1,13 @@
-//! Types whose values stand for those of another type, one for one: a struct for the tuple of its fields.
+//! Types whose values correspond one to one to those of another type, as a struct's to the tuples of its fields.
 ghost use Rattle.std.specs.Prelude.{◌≡◌};
 ghost use Rattle.bitcode_shapes.specs.LawfulImages.{image_lawful, image_makeable};
 ghost use Rattle.bitcode_shapes.specs.SameIsOne.{SameIsOne};
 
 use crate::shaped::{Made, Shaped};
 
-/// A type each of whose values stands for one of another type: a struct for the tuple of its fields.
+/// A type whose values correspond one to one to those of another type, as a struct's to the tuples of its fields.
 ///
-/// It is lawful as that type is, with the same shape. Its one law says that nothing of a value is left out of what it stands for.
+/// It is lawful if that type is, and has the same shape. Its one law says that the other value determines this one.
 ///
 /// ```
 /// pub struct Point {
@@ -32,32 +32,33 @@ use crate::shaped::{Made, Shaped};
 /// }
 /// ```
 pub trait StandsFor {
-    /// The type of what a value stands for, as the tuple of a struct's fields.
+    /// The other type: for a struct, the tuple of its fields.
     type Parts: Shaped;
 
-    /// Where types of one's own that take memory are among the parts, what these stand for and have inside:
-    /// `(<Item as StandsFor>::Parts, <Item as StandsFor>::Inside)`, or a tuple of such pairs. Otherwise `()`. It says nothing of the
-    /// values; the toolchain states an impl only over types that it names.
+    /// If some parts are user-defined types that own memory:
+    /// `(<Item as StandsFor>::Parts, <Item as StandsFor>::Inside)` for one of them, and a tuple of such pairs for
+    /// several. Otherwise `()`. It says nothing about the values. It is there because the toolchain accepts an impl
+    /// only for types that it names.
     type Inside;
 
-    // what a value stands for
+    // the value that this one corresponds to
     ghost parts: { Self → Self.Parts };
 
-    // each of these is stood for by some value
+    // each such value belongs to some value of this type
     ghost of_parts: { (p : Self.Parts) → (t : Self) × (parts t ≡ p) };
 
-    /// What a value in hand stands for is a value, as each field of a struct is.
+    /// The parts satisfy their type's invariant, as each field of a struct does.
     fn told_parts(&self)
         ensures { Self.Parts.is_value (parts self.now) };
 
-    // a value is told by what it stands for: it is the one that stands for that
+    // the parts determine the value
     ghost one_to_one: { (t : Self) → (of_parts (parts t)).0 ≡ t };
 }
 
-/// Two values that stand for the same are one, where what is the same among their parts is one: numbers are, and tuples of such types.
+/// Two values with the same parts are equal in every respect, if that is true for the parts, as for numbers and their
+/// tuples.
 ///
-/// So what is read back of a type that stands for such a tuple is the very value that was written: `same` of the type says that they
-/// stand for the same.
+/// So decoding such a type gives exactly the value that was encoded.
 ///
 /// ```
 /// comes_back(&spot, &bytes, &again);
@@ -72,7 +73,7 @@ pub fn told_by_parts<T: StandsFor>(t: &T, u: &T)
     u.told_parts();
 }
 
-/// A type each of whose values is made of what it stands for: a struct of its fields.
+/// A type whose values can be made from their parts, as a struct from its fields.
 ///
 /// ```
 /// impl FromParts for Point {
@@ -82,12 +83,13 @@ pub fn told_by_parts<T: StandsFor>(t: &T, u: &T)
 /// }
 /// ```
 pub trait FromParts: StandsFor<Parts: Made> {
-    /// The value that stands for these.
+    /// The value with these parts.
     fn from_parts(whole: Self::Parts) -> Self
         ensures { Self.parts result ≡ whole };
 }
 
-/// A struct that holds one value of `T`: what an enum stands for whose laws follow from what it says of its variants.
+/// A struct that holds one value of `T`. An enum corresponds to such a struct, whose laws follow from what the enum
+/// states about its variants.
 pub trait Holds<T>: Shaped {
     // the struct that holds a value
     ghost holder: { T → Self };
@@ -97,19 +99,19 @@ pub trait Holds<T>: Shaped {
 
     ghost holds: { (h : Self) → holder (value h) ≡ h };
 
-    /// What holds a value in hand is a value.
+    /// The struct that holds a value satisfies its invariant.
     fn told_value(t: &T)
         ensures { Self.is_value (holder t.now) };
 
-    /// The value that it holds.
+    /// Takes the value out.
     fn into_value(self) -> T
         ensures { holder result ≡ self };
 
-    // what holds a value holds that very one
+    // the holder determines the value
     ghost one_to_one: { (t : T) → value (holder t) ≡ t };
 }
 
-/// A type each of whose values stands for the struct that holds it, and is made of that.
+/// A type whose values correspond to the struct that holds them.
 ///
 /// ```rust,from:crates/bitcode_own_types/src/outcome.rt
 /// impl HeldIn for Outcome {

@@ -1,5 +1,5 @@
 // Written by scripts/tables/types.
-//! Texts hold their bytes.
+//! Texts: their bytes.
 ghost use Rattle.std.specs.Prelude.{None, true};
 ghost use Rattle.std.specs.Box.{boxed_str_bytes};
 ghost use Rattle.std.specs.Rc.{rc_str_bytes};

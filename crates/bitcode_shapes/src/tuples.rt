@@ -1,5 +1,5 @@
-//! Tuples of one to sixteen fields: a tuple of one field is as its field, and one of three or more as the pair of its
-//! first half and its second.
+//! Tuples of one to sixteen fields. A tuple of one field is treated as its field, and one of three or more as the pair
+//! of its first half and its second.
 mod of_1;
 mod of_2;
 mod of_3_to_8;

@@ -1,4 +1,4 @@
-//! A UUID holds the array of its sixteen bytes.
+//! UUIDs: the array of their sixteen bytes.
 ghost use Rattle.std.specs.Prelude.{false, true, pos};
 ghost use Rattle.bitcode_shapes.specs.Arrays.{array_lawful, array_makeable};
 ghost use Rattle.bitcode_shapes.specs.LawfulInts.{width_1, int_lawful, unsigned_makeable};

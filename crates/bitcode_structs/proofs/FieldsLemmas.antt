@@ -1,16 +1,19 @@
 -- What is written of the tuple of a struct's fields is written of the struct.
-use Rattle.std.proofs.Common.{◌≡◌, List, [], ◌∷◌, map, subst}
+use Rattle.std.proofs.Common.{◌≡◌, ℕ, List, [], ◌∷◌, map, subst}
 use Rattle.std.specs.List.{AllZip}
 use Rattle.bitcode_shapes.specs.Datum.{Datum}
 use Rattle.bitcode_shapes.specs.Shape.{Shape}
 use Rattle.bitcode_coder.specs.Columns.{Columns}
-use Rattle.bitcode_coder.specs.Coder.{JoinsListing, OverflowsWithListing, JoinsEach, OverflowsWithEach}
+use Rattle.bitcode_coder.specs.Coder.{JoinsListing, WritesListing, OverflowsWithListing, JoinsEach, OverflowsWithEach}
 
 -- ---- one struct, which lends its fields
 
 module _ {T U : Type 0} (parts : T → U) {lists : U → Datum → Type 0} {s : Shape} {t : T} {u : U} (lent : u ≡ parts t) {a : Columns} where
   pub joins_struct : {b : Columns} → JoinsListing lists s u a b → JoinsListing (λ t d. lists (parts t) d) s t a b
   joins_struct h = record { datum = h.datum; listing = subst (λ v. lists v h.datum) lent h.listing; joined = h.joined; fits = h.fits }
+
+  pub writes_struct : {before after : List ℕ} → WritesListing lists s u a before after → WritesListing (λ t d. lists (parts t) d) s t a before after
+  writes_struct w = record { new = w.new; joined = joins_struct w.joined; written = w.written }
 
   pub overflows_with_struct : OverflowsWithListing lists s u a → OverflowsWithListing (λ t d. lists (parts t) d) s t a
   overflows_with_struct h = record { datum = h.datum; listing = subst (λ v. lists v h.datum) lent h.listing; overflows = h.overflows }

@@ -12,13 +12,14 @@ use std::marker::PhantomData;
 mod of_2_to_8;
 mod of_9_to_16;
 
-/// A number of fields. It has a type of its own since the impls of each number would overlap without it.
+/// The number of fields, as a type. Without it the impls for the different numbers would overlap.
 pub struct FieldCount<const N: usize> {}
 
-/// The columns that structs are written to as the tuples of their fields, by the encoder `E` of these. `K` is the number of fields.
+/// The columns of structs that are written as the tuples of their fields, with the tuples' encoder `E`. `K` is the
+/// number of fields.
 ///
-/// It refuses as that encoder does, and takes no memory of its own. The structs lend their fields by
-/// [`LendsFields1`] and its like; of nine and more fields `E` is the encoder of a pair of two tuples.
+/// It returns that encoder's errors, and allocates nothing itself. The structs lend their fields by [`LendsFields1`] to
+/// `LendsFields16`. For nine or more fields, `E` is the encoder of a pair of two tuples.
 ///
 /// ```
 /// let mut points: StructEncoder<FieldCount<2>, TupleEncoder<IntEncoder<u32>, IntEncoder<u32>>> =
@@ -93,6 +94,10 @@ impl<T1: Shaped, T: StandsFor<Parts = T1> + LendsFields1<T1>, E: Encoder<T1>> En
 
     fn encode(&mut self, t: &T) -> Result<(), Error> {
         self.fields.encode(t.fields())
+    }
+
+    fn write_directly(&mut self, t: &T, out: &mut Vec<u8>) -> Result<bool, Error> {
+        self.fields.write_directly(t.fields(), out)
     }
 
     fn encode_part_of_each<S, W: Part<S, T>>(

@@ -1,4 +1,4 @@
-//! The fields of structs that are themselves parts.
+//! The fields of structs that are parts of other values.
 ghost use Rattle.std.specs.Prelude.{map};
 ghost use Rattle.bitcode_tuples.specs.Pairs.{EachListed};
 
@@ -10,7 +10,7 @@ use std::marker::PhantomData;
 mod of_2_to_8;
 mod of_9_to_16;
 
-/// The fields of a struct of `K` fields that is itself a part.
+/// The fields of a struct with `K` fields that is a part of another value.
 pub(crate) struct FieldsIn<'w, const K: usize, W, T> {
     pub(crate) of: &'w W,
     pub(crate) whose: PhantomData<T>,
@@ -22,7 +22,7 @@ impl<'w, const K: usize, W, T> Drop for FieldsIn<'w, K, W, T> {
     }
 }
 
-/// Of the fields of a struct that is itself a part, and stands for a pair `P` of tuples, those of the first one.
+/// The fields of the first half, of a struct that is a part of another value and corresponds to a pair `P` of tuples.
 pub(crate) struct FrontIn<'w, W, T, P> {
     pub(crate) of: &'w W,
     pub(crate) whose: PhantomData<(T, P)>,
@@ -34,7 +34,7 @@ impl<'w, W, T, P> Drop for FrontIn<'w, W, T, P> {
     }
 }
 
-/// Of the fields of a struct that is itself a part, and stands for a pair `P` of tuples, those of the second one.
+/// The fields of the second half, of a struct that is a part of another value and corresponds to a pair `P` of tuples.
 pub(crate) struct BackIn<'w, W, T, P> {
     pub(crate) of: &'w W,
     pub(crate) whose: PhantomData<(T, P)>,
@@ -46,7 +46,7 @@ impl<'w, W, T, P> Drop for BackIn<'w, W, T, P> {
     }
 }
 
-/// What each item in hand stands for has a listing.
+/// The tuple of fields of each item has a listing.
 pub(crate) fn listed_fields<S, T: StandsFor, W: Part<S, T>>(items: &[S], which: &W)
     ensures { EachListed T.Parts.lists (map (λ s. T.parts (W.of which.now s)) items.now) }
 {

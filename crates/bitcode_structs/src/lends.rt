@@ -16,7 +16,7 @@ pub mod of_9_to_16;
 /// }
 /// ```
 ///
-/// One of two fields is a `LendsFields2`, and so on:
+/// A struct with two fields implements `LendsFields2`, and so on:
 ///
 /// ```rust,from:crates/bitcode_own_types/src/message.rt
 /// impl<'a> LendsFields2<u32, &'a str> for Message<'a> {

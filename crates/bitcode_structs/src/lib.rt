@@ -1,4 +1,4 @@
-//! Encoders of structs, which stand for the tuples of their fields.
+//! Encoders of structs, as the tuples of their fields.
 #![tactic(auto)]
 
 pub mod encoder;

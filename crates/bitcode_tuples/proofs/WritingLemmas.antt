@@ -1,13 +1,26 @@
 -- What the encoders of the fields do to their columns makes up what the encoder of the pair does.
-use Rattle.std.proofs.Common.{◌≡◌, List, [], ◌∷◌, map, refl, sym, ap, ◌∙◌, subst}
+use Rattle.std.proofs.Common.{◌≡◌, ℕ, List, [], ◌∷◌, ◌++◌, map, refl, sym, ap, ◌∙◌, subst, append_assoc}
 use Rattle.std.specs.List.{AllZip}
 use Rattle.bitcode_shapes.specs.Datum.{Datum, pair, first_in, second_in}
 use Rattle.bitcode_shapes.specs.Shape.{Shape, pair_shape}
 use Rattle.bitcode_shapes.specs.Pairs.{ListsPair}
-use Rattle.bitcode_coder.specs.Columns.{Columns, two, beside, CountsFit}
-use Rattle.bitcode_coder.specs.Coder.{written_columns, JoinsListing, OverflowsWithListing, JoinsEach, OverflowsWithEach}
+use Rattle.bitcode_coder.specs.Columns.{Columns, no_columns, two, emptied, beside, CountsFit}
+use Rattle.bitcode_coder.specs.Spelling.{columns_bytes}
+use Rattle.bitcode_coder.specs.Coder.{written_columns, JoinsListing, WritesListing, OverflowsWithListing, JoinsEach, OverflowsWithEach}
 use Rattle.bitcode_tuples.specs.Pairs.{pairs_of, EachListed}
 use Rattle.bitcode_tuples.specs.PairLaws.{same_two}
+
+abbrev first_columns : Columns → Columns
+first_columns (two first second) = first
+first_columns _ = no_columns
+
+abbrev second_columns : Columns → Columns
+second_columns (two first second) = second
+second_columns _ = no_columns
+
+-- where a pair of columns has no entries, neither has one of them
+pub none_in_both : (a b : Columns) → two a b ≡ emptied (two a b) → (a ≡ emptied a) × (b ≡ emptied b)
+none_in_both a b none = (ap first_columns none, ap second_columns none)
 
 module _ {P Q : Type 0} (lists_p : P → Datum → Type 0) (lists_q : Q → Datum → Type 0) (s t : Shape) (x : P × Q) where
   pub joins_pair : (a b c d : Columns) → JoinsListing lists_p s x.0 a c → JoinsListing lists_q t x.1 b d
@@ -17,6 +30,15 @@ module _ {P Q : Type 0} (lists_p : P → Datum → Type 0) (lists_q : Q → Datu
     listing = record { first = h.datum; second = k.datum; is = refl; lists_first = h.listing; lists_second = k.listing };
     joined = same_two h.joined k.joined;
     fits = λ f. (h.fits f.0, k.fits f.1);
+  }
+
+  -- the bytes of the second columns stand behind those of the first
+  pub writes_pair : (a b : Columns) (before middle after : List ℕ) → WritesListing lists_p s x.0 a before middle → WritesListing lists_q t x.1 b middle after
+      → WritesListing (ListsPair lists_p lists_q) (pair_shape s t) x (two a b) before after
+  writes_pair a b before middle after h k = record {
+    new = two h.new k.new;
+    joined = joins_pair a b h.new k.new h.joined k.joined;
+    written = k.written ∙ (ap (λ front. front ++ columns_bytes k.new) h.written ∙ append_assoc before (columns_bytes h.new) (columns_bytes k.new));
   }
 
   pub overflows_with_first : (a b : Columns) (e : Datum) → lists_q x.1 e → OverflowsWithListing lists_p s x.0 a
@@ -40,6 +62,9 @@ module _ {P Q : Type 0} (lists_p : P → Datum → Type 0) (lists_q : Q → Datu
 module _ {T U : Type 0} {lists : U → Datum → Type 0} {s : Shape} (split : T → U) (t : T) where
   pub joins_as : {a b : Columns} → JoinsListing lists s (split t) a b → JoinsListing (λ u d. lists (split u) d) s t a b
   joins_as h = record { datum = h.datum; listing = h.listing; joined = h.joined; fits = h.fits }
+
+  pub writes_as : {a : Columns} {before after : List ℕ} → WritesListing lists s (split t) a before after → WritesListing (λ u d. lists (split u) d) s t a before after
+  writes_as w = record { new = w.new; joined = joins_as w.joined; written = w.written }
 
   pub overflows_as : {a : Columns} → OverflowsWithListing lists s (split t) a → OverflowsWithListing (λ u d. lists (split u) d) s t a
   overflows_as h = record { datum = h.datum; listing = h.listing; overflows = h.overflows }

@@ -14,7 +14,7 @@ same_pair_shape {s} {t} {u} {v} e f = ap (λ x. pair_shape x t) e ∙ ap (λ y. 
 pub same_two : {a b c d : Columns} → a ≡ c → b ≡ d → two a b ≡ two c d
 same_two {a} {b} {c} {d} e f = ap (λ x. two x b) e ∙ ap (λ y. two c y) f
 
--- the fields of pairs are each of their own shape
+-- each field of a pair has its own shape
 module _ (IsFirst IsSecond : Datum → Type 0) where
   pub first_is : (d : Datum) → IsPairOf IsFirst IsSecond d → IsFirst (first_in d)
   first_is d h = subst IsFirst (sym (ap first_in h.is)) h.is_first
@@ -28,8 +28,8 @@ module _ (IsFirst IsSecond : Datum → Type 0) where
   pub seconds_are : (ds : List Datum) → All (IsPairOf IsFirst IsSecond) ds → All IsSecond (map second_in ds)
   seconds_are ds each = All-map IsSecond second_in ds (All-weaker (IsPairOf IsFirst IsSecond) (λ d. IsSecond (second_in d)) second_is ds each)
 
--- The laws of an encoder of pairs follow from those of the encoders of the fields, whatever is said of a field: that its
--- columns without entries are those of its shape, and that so many values surely pass.
+-- The laws of an encoder of pairs follow from those of the encoders of the fields, for each law of a field: that its
+-- empty columns are those of its shape, and that so many values surely overflow.
 pub both_of_shape : {A B : Type 0} {empty_a : A → Columns} {empty_b : B → Columns} {c d : Columns}
     → ((a : A) → empty_a a ≡ c) → ((b : B) → empty_b b ≡ d) → (e : TupleEncoder A B) → two (empty_a e.first) (empty_b e.second) ≡ two c d
 both_of_shape of_first of_second e = same_two (of_first e.first) (of_second e.second)

@@ -7,13 +7,13 @@ use Rattle.bitcode_shapes.specs.Datum.{Datum, pair}
 use Rattle.bitcode_shapes.specs.Shape.{Shape}
 use Rattle.bitcode_coder.specs.Spelling.{Spells}
 
--- the first of each list together, then the second of each, and so on; what has no partner is left out
+-- the first element of each list together, then the second of each, and so on; elements without a partner are left out
 abbrev pub pairs_of : List Datum → List Datum → List Datum
 pairs_of [] _ = []
 pairs_of (d ∷ ds) [] = []
 pairs_of (d ∷ ds) (e ∷ es) = pair d e ∷ pairs_of ds es
 
--- the first fields are read, and what is left is at fault for the second
+-- the first fields can be read, and the rest of the input has a fault in the second
 pub record FaultsBehind (shape : Shape) (faults : Reason → ℕ → List ℕ → Type 0) (reason : Reason) (k : ℕ) (input : List ℕ) : Type 0 where
   pub firsts : List Datum
   pub rest : List ℕ

@@ -12,9 +12,9 @@ use std::alloc::Global;
 mod of_3_to_8;
 mod of_9_to_16;
 
-/// The decoder of pairs: it reads the first fields of all pairs, and then the second ones.
+/// The decoder of pairs. It reads the first fields of all pairs, and then their second fields.
 ///
-/// It makes a pair by the decoders of its fields, and refuses as they do.
+/// It makes a pair with the decoders of its fields, and returns their errors.
 #[derive(Drop)]
 pub struct TupleDecoder<A, B> {
     pub(crate) first: A,

@@ -13,9 +13,9 @@ use std::alloc::Global;
 mod of_3_to_8;
 mod of_9_to_16;
 
-/// The encoder of pairs: the columns of the first fields, and behind them those of the second.
+/// The encoder of pairs: the columns of the first fields, followed by those of the second.
 ///
-/// It writes a pair by the encoders of its fields, and refuses as they do.
+/// It writes a pair with the encoders of its fields, and returns their errors.
 #[derive(Drop)]
 pub struct TupleEncoder<A, B> {
     /// Writes the first field of each pair.
@@ -60,11 +60,17 @@ impl<A: Buffer, B: Buffer> Buffer for TupleEncoder<A, B> {
     }
 }
 
-impl<P: Shaped, Q: Shaped, A: Encoder<P>, B: Encoder<Q>> Encoder<(P, Q)> for TupleEncoder<A, B> {
+impl<P: Shaped, Q: Shaped, A: Buffer + Encoder<P>, B: Buffer + Encoder<Q>> Encoder<(P, Q)>
+    for TupleEncoder<A, B> {
     ghost writes_free = { A.writes_free && B.writes_free };
 
     fn encode(&mut self, t: &(P, Q)) -> Result<(), Error> {
         self.encode_fields(&(&t.0, &t.1))
+    }
+
+    fn write_directly(&mut self, t: &(P, Q), out: &mut Vec<u8>) -> Result<bool, Error> {
+        self.write_fields(&(&t.0, &t.1), out)?;
+        Ok(true)
     }
 
     fn encode_part_of_each<S, W: Part<S, (P, Q)>>(

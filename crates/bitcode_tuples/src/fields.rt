@@ -1,17 +1,18 @@
-//! The fields of a tuple, borrowed one by one, and encoders that take them so.
+//! The fields of a tuple, borrowed separately, and encoders that accept them like this.
 ghost use Rattle.std.specs.Prelude.{◌≡◌, ◌≢◌, ◌+◌, ◌<◌, ◌≤◌, Bool, ◌&&◌, IsTrue, OnOk, IfErr};
 ghost use Rattle.bitcode_coder.specs.Columns.{emptied};
-ghost use Rattle.bitcode_coder.specs.Coder.{JoinsListing, OverflowsWithListing, IsWritingRefusal};
+ghost use Rattle.bitcode_coder.specs.Coder.{BeginsWith, JoinsListing, WritesListing, OverflowsWithListing, IsWritingRefusal};
 
 use crate::encoder::TupleEncoder;
-use bitcode_coder::coder::{Encoder, HoldsColumns};
+use bitcode_coder::coder::{Buffer, Encoder, HoldsColumns};
+use bitcode_coder::one::write_one;
 use bitcode_columns::error::{Error, Reason};
 use bitcode_shapes::shaped::Shaped;
 
 pub mod of_3_to_5;
 pub mod of_6_to_8;
 
-/// References to the fields of a value: to one of them, or a pair of one and the others.
+/// References to the fields of a value: to its only field, or a pair of the first one and the rest.
 ///
 /// ```
 /// let player = ("ab", 7u8, 9u32);
@@ -23,7 +24,7 @@ pub trait Fields {
     // what the fields make up
     ghost whole: { Self → Self.Whole };
 
-    /// What the fields make up is a value.
+    /// The value with these fields satisfies its type's invariant.
     fn told(&self)
         ensures { Self.Whole.is_value (whole self.now) };
 }
@@ -49,14 +50,15 @@ impl<F: Fields, G: Fields> Fields for (F, G) {
     }
 }
 
-/// As `Encoder`, for a value whose fields lie apart, as those of a struct do.
+/// Like `Encoder`, for values whose fields are borrowed separately, as those of a struct are.
 pub trait FieldsEncoder<F: Fields>: HoldsColumns {
     // writing the fields takes no memory, where room for them was reserved
     ghost writes_free: { Bool };
 
-    /// Joins the columns of what the fields make up to those so far, as `Encoder::encode` does. Room for it was reserved.
+    /// Adds the value with these fields to the columns, as `Encoder::encode` does. The caller must have reserved room
+    /// for it.
     ///
-    /// It refuses as that does.
+    /// Errors: those of `encode`.
     ///
     /// ```rust
     /// let mut columns: TupleEncoder<IntEncoder<u8>, IntEncoder<u8>> = TupleEncoder::new(alloc);
@@ -71,6 +73,19 @@ pub trait FieldsEncoder<F: Fields>: HoldsColumns {
         ensures form { emptied (Self.columns self.new) ≡ emptied (Self.columns self.old) }
         ensures refused { IfErr result (λ e. IsWritingRefusal e.reason (OverflowsWithListing F.Whole.lists F.Whole.shape (F.whole fields.now) (Self.columns self.old))) }
         ensures free { IsTrue writes_free → IfErr result (λ e. e.reason ≢ Reason.OutOfMemory) };
+
+    /// Appends the columns of the fields to `out`, like `write_one`. The encoder has no entries before and after.
+    ///
+    /// Errors: those of [`FieldsEncoder::encode_fields`]. `out` then begins with what it held.
+    fn write_fields(&mut self, fields: &F, out: &mut Vec<u8>) -> Result<(), Error>
+    where
+        Self: Buffer,
+        requires { Self.columns self.old ≡ emptied (Self.columns self.old) }
+        ensures written { OnOk result (WritesListing F.Whole.lists F.Whole.shape (F.whole fields.now) (Self.columns self.old) out.old.items out.new.items) }
+        ensures empty { OnOk result (Self.columns self.new ≡ emptied (Self.columns self.old)) }
+        ensures begins { BeginsWith out.old.items out.new.items }
+        ensures form { emptied (Self.columns self.new) ≡ emptied (Self.columns self.old) }
+        ensures refused { IfErr result (λ e. IsWritingRefusal e.reason (OverflowsWithListing F.Whole.lists F.Whole.shape (F.whole fields.now) (Self.columns self.old))) };
 }
 
 impl<'a, P: Shaped, E: Encoder<P>> FieldsEncoder<&'a P> for E {
@@ -79,15 +94,32 @@ impl<'a, P: Shaped, E: Encoder<P>> FieldsEncoder<&'a P> for E {
     fn encode_fields(&mut self, fields: &&'a P) -> Result<(), Error> {
         self.encode(*fields)
     }
+
+    fn write_fields(&mut self, fields: &&'a P, out: &mut Vec<u8>) -> Result<(), Error>
+    where
+        Self: Buffer,
+    {
+        write_one(self, *fields, out)
+    }
 }
 
-impl<F: Fields, G: Fields, A: FieldsEncoder<F>, B: FieldsEncoder<G>> FieldsEncoder<(F, G)>
-    for TupleEncoder<A, B> {
+impl<
+    F: Fields,
+    G: Fields,
+    A: Buffer + FieldsEncoder<F>,
+    B: Buffer + FieldsEncoder<G>,
+> FieldsEncoder<(F, G)> for TupleEncoder<A, B> {
     ghost writes_free = { A.writes_free && B.writes_free };
 
     fn encode_fields(&mut self, fields: &(F, G)) -> Result<(), Error> {
         fields.1.told();
         self.first.encode_fields(&fields.0)?;
         self.second.encode_fields(&fields.1)
+    }
+
+    fn write_fields(&mut self, fields: &(F, G), out: &mut Vec<u8>) -> Result<(), Error> {
+        fields.1.told();
+        self.first.write_fields(&fields.0, out)?;
+        self.second.write_fields(&fields.1, out)
     }
 }

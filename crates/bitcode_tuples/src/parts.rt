@@ -1,4 +1,4 @@
-//! Parts of a value that lie apart, as the fields of a tuple do, and which of them the halves of the tuple are.
+//! Separate parts of a value, such as the fields of a tuple, and the halves of the tuple among them.
 ghost use Rattle.std.specs.Prelude.{◌≡◌, ◌≢◌, ◌+◌, ◌<◌, ◌≤◌, length, map, ◌&&◌, IsTrue, OnOk, IfErr};
 ghost use Rattle.bitcode_coder.specs.Columns.{emptied};
 ghost use Rattle.bitcode_coder.specs.Coder.{JoinsEach, OverflowsWithEach, IsWritingRefusal};
@@ -15,7 +15,7 @@ use std::marker::PhantomData;
 pub mod of_2_to_8;
 mod of_9_to_16;
 
-/// The fields of a tuple that is itself a part.
+/// The fields of a tuple that is a part of another value.
 pub(crate) struct FieldsOf<'w, W> {
     pub(crate) tuple: &'w W,
 }
@@ -26,7 +26,7 @@ impl<'w, W> Drop for FieldsOf<'w, W> {
     }
 }
 
-/// Of all parts that make up a tuple those of its first half.
+/// The parts that make up the first half of a tuple.
 pub(crate) struct Front<'w, W, Tuple> {
     pub(crate) all: &'w W,
     pub(crate) tuple: PhantomData<Tuple>,
@@ -38,7 +38,7 @@ impl<'w, W, Tuple> Drop for Front<'w, W, Tuple> {
     }
 }
 
-/// Of all parts that make up a tuple those of its second half.
+/// The parts that make up the second half of a tuple.
 pub(crate) struct Back<'w, W, Tuple> {
     pub(crate) all: &'w W,
     pub(crate) tuple: PhantomData<Tuple>,
@@ -50,14 +50,14 @@ impl<'w, W, Tuple> Drop for Back<'w, W, Tuple> {
     }
 }
 
-/// The part of each item in hand has a listing.
+/// The part of each item has a listing.
 pub(crate) fn listed_parts<S, T: Shaped, W: Part<S, T>>(items: &[S], which: &W)
     ensures { EachListed T.lists (map (W.of which.now) items.now) }
 {
     told_parts(items, which);
 }
 
-/// As `Encoder::encode_part_of_each`, for a pair whose fields lie apart and have listings.
+/// Like `Encoder::encode_part_of_each`, for a pair whose fields are borrowed separately and have listings.
 pub fn encode_two_of_each<
     S,
     P: Shaped,

@@ -1,4 +1,4 @@
-//! What holds of untyped data and of the bytes that spell them. A call does nothing: its contract is the law.
+//! Laws of untyped data and of the bytes that spell them. The functions do nothing: their contracts are the laws.
 ghost use Rattle.std.specs.Prelude.{◌≡◌, ℕ, List};
 ghost use Rattle.bitcode_shapes.specs.Datum.{Datum};
 ghost use Rattle.bitcode_untyped.specs.Bounds.{IsLimited};
@@ -11,8 +11,8 @@ ghost use Rattle.bitcode_untyped.specs.Content.{DatumDecides};
 ghost use Rattle.bitcode_untyped.specs.declared.shape.Shape.{Shape};
 ghost use Rattle.bitcode_untyped.specs.Laws.{ColumnsDecide, SpellsOnce, DatumTakesAnEighth, ElementsAreBounded, LengthsBelowLimit, ReadsBackDatum};
 
-/// The columns of a datum so far decide the place, kind and count of the next one, and all of them decide the datum: so
-/// a reader always knows what it is to read next.
+/// The columns of a datum so far determine the place, kind and count of the next column, and all columns together
+/// determine the datum. So a decoder always knows what to read next.
 ///
 /// ```
 /// columns_decide();
@@ -21,8 +21,8 @@ pub fn columns_decide()
     ensures { (shape : ShapeTree) → ColumnsDecide shape }
 {}
 
-/// The bytes of a datum of any shape: what is written for it spells it, an input spells at most one, its columns have at
-/// most eight entries a byte, and it has at most 65537 elements and pairs an entry.
+/// The bytes of a datum of any shape. The text of a datum spells it, an input spells at most one datum, its columns
+/// have at most eight entries per byte, and it has at most 65537 elements and pairs per entry.
 ///
 /// ```
 /// spelled_data();
@@ -34,8 +34,8 @@ pub fn spelled_data()
     ensures bounded { (shape : ShapeTree) → IsSound shape → ElementsAreBounded shape }
 {}
 
-/// A datum of any shape has one strict spelling at most: the texts of its columns, joined. So the bytes that strictly spell it are
-/// those that are written for it, wherever these are read back.
+/// A datum of any shape has at most one strict spelling: the concatenated texts of its columns. So the bytes that
+/// strictly spell it are those that are written for it, wherever these can be read back.
 ///
 /// ```
 /// strictly_spelled_data();
@@ -46,7 +46,7 @@ pub fn strictly_spelled_data()
     ensures written { (shape : ShapeTree) → IsSound shape → (d : Datum) → IsOf shape d → IsLimited shape d → LengthsBelowLimit shape d → StrictlySpellsDatum shape (datum_text shape d) d }
 {}
 
-/// Every shape has only columns that there are: what `spelled_data` says holds of each.
+/// Every shape has only possible kinds of columns, so `spelled_data` holds for each shape.
 ///
 /// ```
 /// every_shape();
@@ -55,7 +55,8 @@ pub fn every_shape()
     ensures { (shape : Shape) → IsSound (tree_of shape) }
 {}
 
-/// A value of a shape is known by its datum: two values of one shape with one datum have the same cases, and hold the same.
+/// The datum determines a value of a shape: two values of one shape with the same datum have the same cases and
+/// contents.
 ///
 /// ```
 /// one_value_of_a_datum();
@@ -64,8 +65,9 @@ pub fn one_value_of_a_datum()
     ensures { (shape : Shape) → DatumDecides shape }
 {}
 
-/// A value has no fault under a shape exactly where its cases are those of the shape, and its datum is of the shape. A value in hand is of its
-/// type, and that is needed only for the datum of one without faults: `serialize` says of each value that it writes that its datum is of the shape.
+/// A value has no fault under a shape exactly if its cases are those of the shape and its datum is of the shape. The
+/// type's invariant is needed only for the datum of a value without faults. `serialize` states for each value that it
+/// writes that its datum is of the shape.
 ///
 /// ```
 /// faults_tell();

@@ -1,4 +1,4 @@
-//! Values that have no type of their own: what they are, which shapes they have, and what spells them.
+//! Values without a Rust type of their own, their shapes, and the bytes that spell them.
 #![tactic(auto)]
 
 pub mod laws;

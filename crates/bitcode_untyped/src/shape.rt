@@ -1,4 +1,4 @@
-//! Shapes, as a table of nodes that may refer to one another.
+//! Shapes: tables of nodes that may refer to each other.
 ghost use Rattle.std.specs.Prelude.{◌≡◌, ◌↔◌, IsTrue, IfOk, IfErr};
 ghost use Rattle.std.specs.List.{list_all};
 ghost use Rattle.bitcode_columns.specs.declared.error.Reason.TheVariants.{BadShape};
@@ -6,9 +6,9 @@ ghost use Rattle.bitcode_untyped.specs.References.{refers_soundly, IsSoundTable}
 
 use bitcode_columns::error::{Error, Reason};
 
-/// Which values stand at one place: a value of a type, or several values of further nodes.
+/// The values at one place: values of one type, or composite values whose parts have further nodes.
 ///
-/// `Ref(i)` stands for entry `i` of the table, so that a shape may hold itself.
+/// `Ref(i)` refers to entry `i` of the table, so a shape may contain itself.
 ///
 /// ```
 /// let entry = ShapeNode::Tuple(vec![in alloc; ShapeNode::Str, ShapeNode::U64]?);
@@ -30,7 +30,7 @@ pub enum ShapeNode {
     I128,
     Char,
     Str,
-    /// A list of `U8`, kept as bytes.
+    /// A list of `U8`, stored as bytes.
     Bytes,
     Option(Box<ShapeNode>),
     Seq(Box<ShapeNode>),
@@ -79,7 +79,7 @@ fn is_sound_table(table: &[ShapeNode], root: usize) -> bool
     root < table.len() && all_refer_soundly(table, table.len(), false)
 }
 
-/// A table of nodes, and the entry that a value has.
+/// A table of nodes, and the index of the entry for the whole value.
 #[derive(Debug, Drop)]
 pub struct Shape {
     table: Vec<ShapeNode>,
@@ -89,10 +89,11 @@ pub struct Shape {
 }
 
 impl Shape {
-    /// The shape of the entry `root` of a table.
+    /// Creates the shape of the entry `root` of a table.
     ///
-    /// Refuses with `bad shape` where `root` or a reference is out of the table, or where a reference has no `Option`,
-    /// `Seq`, `Map` or `Enum` above it in its own entry, so that every cycle passes a node where a value may end. The table is dropped then.
+    /// The error is `bad shape` if `root` or a reference is not an index of the table, or if a reference has no
+    /// `Option`, `Seq`, `Map` or `Enum` above it in its own entry. So every cycle passes a node at which a value may
+    /// end. After an error the table is dropped.
     ///
     /// ```
     /// let lists = Shape::new(vec![in alloc; ShapeNode::Seq(Box::new(alloc, ShapeNode::Ref(0))?)]?, 0)?;
@@ -109,14 +110,14 @@ impl Shape {
         Ok(Shape { table, root })
     }
 
-    /// The entries, which references name by their index.
+    /// The entries of the table. References are indices of it.
     pub fn table(&self) -> &[ShapeNode]
         ensures { result.now ≡ self.now.table.items }
     {
         &self.table
     }
 
-    /// The entry that a whole value has.
+    /// The index of the entry for the whole value.
     pub fn root(&self) -> usize
         ensures { result ≡ self.now.root }
     {

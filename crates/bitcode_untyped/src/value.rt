@@ -1,4 +1,4 @@
-//! Values that carry what they are.
+//! Values that carry their type.
 
 /// A value of any shape.
 ///
@@ -25,9 +25,9 @@ pub enum Value {
     Bytes(Vec<u8>),
     Option(Option<Box<Value>>),
     Seq(Vec<Value>),
-    /// The pairs as they stand: none is sorted, and keys may repeat.
+    /// The pairs in the given order: they are not sorted, and keys may repeat.
     Map(Vec<(Value, Value)>),
     Tuple(Vec<Value>),
-    /// Which variant, counted from 0, and what it holds.
+    /// The index of a variant, from 0, and its payload.
     Enum(u32, Box<Value>),
 }

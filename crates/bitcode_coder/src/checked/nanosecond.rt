@@ -13,7 +13,7 @@ use bitcode_shapes::shaped::{Made, Shaped};
 
 const NANOSECONDS_IN_SECOND: u32 = 1_000_000_000;
 
-/// Nanoseconds below one second: those of a `Duration`.
+/// The nanoseconds of a `Duration`, below one second.
 #[derive(Clone, Copy)]
 pub struct Nanosecond {
     nanos: u32,
@@ -21,7 +21,7 @@ pub struct Nanosecond {
 }
 
 impl Nanosecond {
-    /// How many nanoseconds these are.
+    /// The number of nanoseconds.
     pub fn into_inner(self) -> u32
         ensures value { result ≡ self.nanos }
         ensures below { result < 1000000000 }

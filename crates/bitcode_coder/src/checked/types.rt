@@ -1,5 +1,5 @@
 // Written by scripts/tables/integers.
-//! The types whose values stand for some of the integers: those that are not 0, and chars.
+//! Types that allow only some integers: nonzero integers, and chars.
 #![tactic(auto, using(crate::proofs::CheckedLemmas::unsigned_from_bits, crate::proofs::CheckedLemmas::signed_from_bits))]
 
 ghost use Rattle.std.specs.Prelude.{refl};

@@ -26,6 +26,10 @@ impl ColumnInt for i8 {
         pack_each_byte(ints, out)
     }
 
+    fn pack_one(alloc: Global, int: i8, out: &mut Vec<u8>) -> Result<(), Error> {
+        <i8 as ColumnInt>::pack(alloc, &mut [int], out)
+    }
+
     fn unpack<'a>(
         alloc: Global,
         input: &mut &'a [u8],
@@ -56,6 +60,10 @@ impl ColumnInt for i16 {
 
     fn pack(alloc: Global, ints: &mut [i16], out: &mut Vec<u8>) -> Result<(), Error> {
         pack_ints(alloc, ints, out)
+    }
+
+    fn pack_one(alloc: Global, int: i16, out: &mut Vec<u8>) -> Result<(), Error> {
+        <i16 as ColumnInt>::pack(alloc, &mut [int], out)
     }
 
     fn unpack<'a>(
@@ -90,6 +98,10 @@ impl ColumnInt for i32 {
         pack_ints(alloc, ints, out)
     }
 
+    fn pack_one(alloc: Global, int: i32, out: &mut Vec<u8>) -> Result<(), Error> {
+        <i32 as ColumnInt>::pack(alloc, &mut [int], out)
+    }
+
     fn unpack<'a>(
         alloc: Global,
         input: &mut &'a [u8],
@@ -120,6 +132,10 @@ impl ColumnInt for i64 {
 
     fn pack(alloc: Global, ints: &mut [i64], out: &mut Vec<u8>) -> Result<(), Error> {
         pack_ints(alloc, ints, out)
+    }
+
+    fn pack_one(alloc: Global, int: i64, out: &mut Vec<u8>) -> Result<(), Error> {
+        <i64 as ColumnInt>::pack(alloc, &mut [int], out)
     }
 
     fn unpack<'a>(
@@ -154,6 +170,10 @@ impl ColumnInt for i128 {
         pack_ints(alloc, ints, out)
     }
 
+    fn pack_one(alloc: Global, int: i128, out: &mut Vec<u8>) -> Result<(), Error> {
+        <i128 as ColumnInt>::pack(alloc, &mut [int], out)
+    }
+
     fn unpack<'a>(
         alloc: Global,
         input: &mut &'a [u8],
@@ -184,6 +204,10 @@ impl ColumnInt for isize {
 
     fn pack(alloc: Global, ints: &mut [isize], out: &mut Vec<u8>) -> Result<(), Error> {
         pack_ints(alloc, ints, out)
+    }
+
+    fn pack_one(alloc: Global, int: isize, out: &mut Vec<u8>) -> Result<(), Error> {
+        <isize as ColumnInt>::pack(alloc, &mut [int], out)
     }
 
     fn unpack<'a>(

@@ -26,6 +26,10 @@ impl ColumnInt for u8 {
         pack_each_byte(ints, out)
     }
 
+    fn pack_one(alloc: Global, int: u8, out: &mut Vec<u8>) -> Result<(), Error> {
+        <u8 as ColumnInt>::pack(alloc, &mut [int], out)
+    }
+
     fn unpack<'a>(
         alloc: Global,
         input: &mut &'a [u8],
@@ -56,6 +60,10 @@ impl ColumnInt for u16 {
 
     fn pack(alloc: Global, ints: &mut [u16], out: &mut Vec<u8>) -> Result<(), Error> {
         pack_ints(alloc, ints, out)
+    }
+
+    fn pack_one(alloc: Global, int: u16, out: &mut Vec<u8>) -> Result<(), Error> {
+        <u16 as ColumnInt>::pack(alloc, &mut [int], out)
     }
 
     fn unpack<'a>(
@@ -90,6 +98,10 @@ impl ColumnInt for u32 {
         pack_ints(alloc, ints, out)
     }
 
+    fn pack_one(alloc: Global, int: u32, out: &mut Vec<u8>) -> Result<(), Error> {
+        <u32 as ColumnInt>::pack(alloc, &mut [int], out)
+    }
+
     fn unpack<'a>(
         alloc: Global,
         input: &mut &'a [u8],
@@ -120,6 +132,10 @@ impl ColumnInt for u64 {
 
     fn pack(alloc: Global, ints: &mut [u64], out: &mut Vec<u8>) -> Result<(), Error> {
         pack_ints(alloc, ints, out)
+    }
+
+    fn pack_one(alloc: Global, int: u64, out: &mut Vec<u8>) -> Result<(), Error> {
+        <u64 as ColumnInt>::pack(alloc, &mut [int], out)
     }
 
     fn unpack<'a>(
@@ -154,6 +170,10 @@ impl ColumnInt for u128 {
         pack_ints(alloc, ints, out)
     }
 
+    fn pack_one(alloc: Global, int: u128, out: &mut Vec<u8>) -> Result<(), Error> {
+        <u128 as ColumnInt>::pack(alloc, &mut [int], out)
+    }
+
     fn unpack<'a>(
         alloc: Global,
         input: &mut &'a [u8],
@@ -184,6 +204,10 @@ impl ColumnInt for usize {
 
     fn pack(alloc: Global, ints: &mut [usize], out: &mut Vec<u8>) -> Result<(), Error> {
         pack_ints(alloc, ints, out)
+    }
+
+    fn pack_one(alloc: Global, int: usize, out: &mut Vec<u8>) -> Result<(), Error> {
+        <usize as ColumnInt>::pack(alloc, &mut [int], out)
     }
 
     fn unpack<'a>(

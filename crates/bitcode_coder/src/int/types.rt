@@ -1,5 +1,5 @@
 // Written by scripts/tables/integers.
-//! The integers, which are written as they are.
+//! Integers, which are written unchanged.
 ghost use Rattle.std.specs.Prelude.{refl};
 
 use crate::int::{AsInt, Integer, list_of_bytes, push_themselves};

@@ -1,11 +1,13 @@
-//! The coder that lengths are read from.
+//! The decoder of lengths.
 #![tactic(auto, unfolding(crate::specs::Length::short_left, crate::specs::Length::large_left, crate::specs::Length::lengths_left, crate::specs::Length::lengths_sum, crate::specs::Length::lengths_owned))]
 
-ghost use Rattle.std.specs.Prelude.{◌≡◌, ◌≢◌, ℕ, ◌+◌, ◌<◌, ◌≤◌, [], ◌∷◌, ◌++◌, ◌↔◌, IsTrue, Some, None, length, drop, sum, All, MatchBool, IfOk, OnOk, IfErr, OnErr};
+ghost use Rattle.std.specs.Prelude.{◌≡◌, ◌≢◌, ℕ, ◌+◌, ◌<◌, ◌≤◌, [], ◌∷◌, ◌++◌, ◌↔◌, IsTrue, Some, None, ◌^◌, pos, length, map, drop, sum, All, MatchBool, IfSome, IfOk, OnOk, IfErr, OnErr};
 ghost use Rattle.bitcode_columns.specs.Fast.{cow_rest};
+ghost use Rattle.bitcode_columns.specs.IntColumn.{SpellsInts, int_text};
 ghost use Rattle.bitcode_columns.specs.LittleEndian.{little_endian};
 ghost use Rattle.bitcode_columns.specs.Reading.{Reads, IsEndOf};
-ghost use Rattle.bitcode_coder.specs.LengthColumn.{SpellsLengths, KeepsCap, length_limit, length_bytes, escape};
+ghost use Rattle.bitcode_coder.specs.Faults.{NamesIntsFault};
+ghost use Rattle.bitcode_coder.specs.LengthColumn.{SpellsLengths, KeepsCap, length_limit, length_bytes, lengths_from, escape};
 ghost use Rattle.bitcode_coder.specs.LengthParts.{escapes, ReadsParts, sum_fault, NamesLengthFault};
 
 use crate::coder::both;
@@ -19,6 +21,9 @@ use std::alloc::Global;
 
 // Read lengths sum to less than this: what isize can hold, divided by 4096.
 const LENGTH_LIMIT: u128 = 2251799813685247;
+
+// The sum of fewer bytes is less than 2^64.
+const MANY: usize = 1 << 56;
 
 /// The column that lengths are read from.
 ///
@@ -38,7 +43,7 @@ pub struct LengthDecoder<'a> {
     ghost enough: { length (cow_rest large) ≡ escapes (cow_rest small) },
 }
 
-// The number that eight bytes stand for, the lowest first.
+// The number with these eight bytes, the lowest first.
 fn number_of_bytes(bytes: [u8; 8]) -> u64
     ensures { result ≡ little_endian bytes }
 {
@@ -61,6 +66,64 @@ fn count_escapes(small: &[u8]) -> usize
     small.iter().filter(|byte| **byte == ESCAPE).count()
 }
 
+// The sum of bytes.
+fn sum_of_bytes(bytes: &[u8]) -> u64
+    requires { length bytes.now < 2 ^ 56 }
+    ensures { result ≡ sum bytes.now }
+{
+    let mut total = 0;
+    for byte in bytes {
+        total += u64::from(*byte);
+    }
+    total
+}
+
+// Reads so many large lengths as a column of integers. Of none nothing is read.
+fn read_large<'a>(
+    alloc: Global,
+    input: &mut &'a [u8],
+    count: usize,
+    large: &mut CowSlice<'a, [u8; 8]>,
+    strict: bool,
+) -> Result<bool, Error>
+    ensures read { OnOk result (Reads (SpellsInts 8) count input.old.now (map little_endian (cow_rest large.new)) input.new.now) }
+    ensures judged { IsTrue strict → IfOk result (λ written. IsTrue written
+        ↔ (input.old.now ≡ int_text 8 (map pos (map little_endian (cow_rest large.new))) ++ input.new.now)) }
+    ensures refused { IfErr result (λ e. NamesIntsFault 8 e.reason count input.old.now) }
+    ensures rest { OnErr result (IsEndOf input.old.now input.new.now) }
+{
+    if count == 0 {
+        large.set_borrowed(&[]);
+        return Ok(true);
+    }
+    read_ints::<u64>(alloc, input, count, large, strict)
+}
+
+// Reads both parts of a column, whatever they sum to. Where `strict`, the answer is whether they are those that are
+// written.
+fn read_parts<'a>(
+    alloc: Global,
+    input: &mut &'a [u8],
+    k: usize,
+    small: &mut CowSlice<'a, u8>,
+    large: &mut CowSlice<'a, [u8; 8]>,
+    strict: bool,
+) -> Result<bool, Error>
+    ensures read { OnOk result (ReadsParts k input.old.now (cow_rest small.new) (map little_endian (cow_rest large.new)) input.new.now) }
+    ensures judged { IsTrue strict → IfOk result (λ written. IsTrue written
+        ↔ (input.old.now ≡ length_bytes (lengths_from (cow_rest small.new) (map little_endian (cow_rest large.new))) ++ input.new.now)) }
+    ensures refused { IfErr result (λ e. NamesLengthFault e.reason k input.old.now) }
+    ensures rest { OnErr result (IsEndOf input.old.now input.new.now) }
+{
+    let small_written = read_bytes::<u8>(alloc, input, k, small, strict)?;
+    let shorts = small.as_slice();
+    known_bytes(shorts);
+    let count = count_escapes(shorts);
+    let large_written = read_large(alloc, input, count, large, strict)?;
+    let enough = are_large(large.as_slice());
+    Ok(both(both(small_written, large_written), enough))
+}
+
 // Whether a byte is over the limit.
 fn any_byte_over(bytes: &[u8], limit: usize) -> bool
     ensures { MatchBool result (All (λ byte. byte ≤ limit) bytes.now → ⊥) (All (λ byte. byte ≤ limit) bytes.now) }
@@ -71,7 +134,7 @@ fn any_byte_over(bytes: &[u8], limit: usize) -> bool
 impl<'a> LengthDecoder<'a> {
     ghost use Rattle.bitcode_coder.specs.Length.{short_left, large_left, lengths_left, lengths_sum, lengths_owned};
 
-    /// Holds no lengths. Takes no memory.
+    /// Creates an empty decoder without allocating.
     pub fn new(alloc: Global) -> Self
         ensures left { lengths_left result ≡ [] }
         ensures sum { lengths_sum result ≡ 0 }
@@ -87,11 +150,11 @@ impl<'a> LengthDecoder<'a> {
 
     /// Reads `k` lengths from the front of the input.
     ///
-    /// The short bytes refuse first, as a byte column does, and then the large lengths, as an integer column of
-    /// 64 bits does. Where both were read, a sum over 18446744073709551615 is `length overflow`, and any other sum
-    /// from 2251799813685247 on is `huge length`.
+    /// The short bytes are validated first, with the errors of a byte column, and then the large lengths, with the
+    /// errors of a 64-bit integer column. If both are valid, a sum over 18446744073709551615 is the error
+    /// `length overflow`, and any other sum of 2251799813685247 or more is `huge length`.
     ///
-    /// No memory is taken where both parts stand in the input as they are.
+    /// If the input has both parts unpacked, they are borrowed from it without allocating.
     pub fn populate(&mut self, input: &mut &'a [u8], k: usize) -> Result<(), Error>
         ensures read { OnOk result (Reads (SpellsLengths None) k input.old.now (lengths_left self.new) input.new.now) }
         ensures parts { OnOk result (ReadsParts k input.old.now (short_left self.new) (large_left self.new) input.new.now) }
@@ -103,8 +166,8 @@ impl<'a> LengthDecoder<'a> {
         Ok(())
     }
 
-    /// Reads `k` lengths as [`LengthDecoder::populate`] does. Where `strict`, the answer is whether the bytes of both parts are
-    /// those that are written for the lengths; else it says nothing.
+    /// Reads `k` lengths as [`LengthDecoder::populate`] does. If `strict`, it returns whether the bytes of both parts
+    /// are those that would be written for the lengths. Otherwise the returned bool has no meaning.
     pub fn read(&mut self, input: &mut &'a [u8], k: usize, strict: bool) -> Result<bool, Error>
         ensures read { OnOk result (Reads (SpellsLengths None) k input.old.now (lengths_left self.new) input.new.now) }
         ensures parts { OnOk result (ReadsParts k input.old.now (short_left self.new) (large_left self.new) input.new.now) }
@@ -113,23 +176,38 @@ impl<'a> LengthDecoder<'a> {
         ensures refused { IfErr result (λ e. NamesLengthFault e.reason k input.old.now) }
         ensures rest { OnErr result (IsEndOf input.old.now input.new.now) }
     {
-        let parts = LengthDecoder::read_parts(self.alloc, input, k, strict)?;
-        *self = parts.0;
-        self.sum = self.checked_sum()?;
-        Ok(parts.1)
+        let parts = read_parts(
+            self.alloc,
+            input,
+            k,
+            &mut self.small,
+            &mut self.large,
+            strict,
+        );
+        match parts {
+            Ok(written) => {
+                self.sum = self.checked_sum()?;
+                Ok(written)
+            }
+            Err(error) => {
+                self.small.set_borrowed(&[]);
+                self.large.set_borrowed(&[]);
+                Err(error)
+            }
+        }
     }
 
-    /// The sum of the lengths that were read, those that were taken since too.
+    /// The sum of all lengths that were read, including those already taken.
     pub fn length(&self) -> usize
         ensures { result ≡ lengths_sum self.now }
     {
         self.sum
     }
 
-    /// Whether the lengths that are left break the limit `N`. Takes no memory.
+    /// Whether one of the remaining lengths exceeds the limit `N`. It does not allocate.
     ///
-    /// For `N` below 255 the bytes are compared with `N`, so that a 255 exceeds it whatever length follows: 255, 6, 2 is
-    /// the one length 2, and is over 100. For a greater `N` the lengths are compared.
+    /// For `N` below 255 it compares the short bytes with `N`. So a byte 255 exceeds the limit, whatever length
+    /// follows: 255, 6, 2 is the single length 2, and still exceeds 100. For a greater `N` it compares the lengths.
     pub fn any_greater_than<const N: usize>(&self) -> bool
         ensures { MatchBool result (KeepsCap (Some N) (short_left self.now) (lengths_left self.now) → ⊥) (KeepsCap (Some N) (short_left self.now) (lengths_left self.now)) }
     {
@@ -140,7 +218,7 @@ impl<'a> LengthDecoder<'a> {
         }
     }
 
-    /// Takes the next length, and its short byte with it: `any_greater_than` then asks those behind. One is left.
+    /// Takes the next length and its short byte. At least one must be left.
     pub fn decode(&mut self) -> usize
         requires { 0 < length (lengths_left self.old) }
         ensures taken { lengths_left self.old ≡ result ∷ lengths_left self.new }
@@ -153,36 +231,6 @@ impl<'a> LengthDecoder<'a> {
         } else {
             byte as usize
         }
-    }
-
-    // Both parts of a column, whatever they sum to. Where `strict`, the answer is whether they are those that are written.
-    fn read_parts(
-        alloc: Global,
-        input: &mut &'a [u8],
-        k: usize,
-        strict: bool,
-    ) -> Result<(LengthDecoder<'a>, bool), Error>
-        ensures read { IfOk result (λ d. ReadsParts k input.old.now (short_left d.0) (large_left d.0) input.new.now) }
-        ensures judged { IsTrue strict → IfOk result (λ d. IsTrue d.1 ↔ (input.old.now ≡ length_bytes (lengths_left d.0) ++ input.new.now)) }
-        ensures refused { IfErr result (λ e. NamesLengthFault e.reason k input.old.now) }
-        ensures rest { OnErr result (IsEndOf input.old.now input.new.now) }
-    {
-        let mut small = CowSlice::new(alloc);
-        let small_written = read_bytes::<u8>(alloc, input, k, &mut small, strict)?;
-        let mut large = CowSlice::new(alloc);
-        let shorts = small.as_slice();
-        known_bytes(shorts);
-        let count = count_escapes(shorts);
-        let large_written = read_ints::<u64>(alloc, input, count, &mut large, strict)?;
-        let enough = are_large(large.as_slice());
-        let written = both(both(small_written, large_written), enough);
-        let read = LengthDecoder {
-            alloc,
-            small,
-            large,
-            sum: 0,
-        };
-        Ok((read, written))
     }
 
     // The same lengths, to be taken without taking them here.
@@ -209,8 +257,39 @@ impl<'a> LengthDecoder<'a> {
         self.small.as_slice().len()
     }
 
+    // The bytes of the lengths that are left, if none of them is large.
+    pub(crate) fn as_short(&self) -> Option<&[u8]>
+        ensures lengths { IfSome result (λ bytes. bytes.now ≡ lengths_left self.now) }
+        ensures no_large { IfSome result (λ bytes. large_left self.now ≡ []) }
+    {
+        if self.large.as_slice().is_empty() {
+            Some(self.small.as_slice())
+        } else {
+            None
+        }
+    }
+
+    // Passes over `n` lengths, none of which is large.
+    pub(crate) fn pass_short(&mut self, n: usize)
+        requires short { large_left self.old ≡ [] }
+        requires left { n ≤ length (lengths_left self.old) }
+        ensures { lengths_left self.new ≡ drop n (lengths_left self.old) }
+    {
+        let _passed = self.small.chunk_unchecked(n);
+    }
+
     // The sum of the lengths that are left.
     fn total(&self) -> u128
+        ensures { result ≡ sum (lengths_left self.now) }
+    {
+        match self.as_short() {
+            Some(bytes) if bytes.len() < MANY => u128::from(sum_of_bytes(bytes)),
+            _ => self.total_of_each(),
+        }
+    }
+
+    // The same, one by one.
+    fn total_of_each(&self) -> u128
         ensures { result ≡ sum (lengths_left self.now) }
     {
         let mut lengths = self.borrowed_clone();

@@ -1,4 +1,4 @@
-//! The coder that lengths are written to.
+//! The encoder of lengths.
 #![tactic(auto, unfolding(crate::specs::Length::written_lengths, crate::specs::Length::length_room, crate::specs::Length::length_capacity))]
 
 ghost use Rattle.std.specs.Prelude.{◌≡◌, ◌+◌, ◌<◌, ◌≤◌, ◌++◌, [], ◌∷◌, None, length, map, All, pos, IsTrue, IsFalse, IsOk, OnOk, IfErr, OnErr};
@@ -7,11 +7,13 @@ ghost use Rattle.bitcode_columns.specs.Fast.{fast_items, fast_room};
 ghost use Rattle.bitcode_columns.specs.IntColumn.{int_text};
 ghost use Rattle.bitcode_coder.specs.Coder.{BeginsWith};
 ghost use Rattle.bitcode_coder.specs.Columns.{lengths, one};
+ghost use Rattle.bitcode_coder.specs.LengthColumn.{length_bytes};
 ghost use Rattle.bitcode_coder.specs.LengthParts.{AreLengthParts};
 ghost use Rattle.bitcode_coder.specs.Spelling.{natural};
 
 use crate::coder::{Buffer, HoldsColumns};
 use crate::length::{ChunkWidth, ESCAPE, Len};
+use crate::one::write_length;
 use bitcode_columns::error::{Error, Reason};
 use bitcode_columns::fast::{FastVec, PushUnchecked};
 use bitcode_columns::pack::pack_bytes;
@@ -21,8 +23,8 @@ use std::mem::replace;
 
 /// The column that lengths are written to.
 ///
-/// A length below 255 is a byte. A greater one is the byte 255, and stands among the large lengths behind the bytes:
-/// 1, 255 and 2 are written as 0, 1, 255, 2, 6, 255.
+/// A length below 255 is written as one byte. A greater one is written as the byte 255, and again among the large
+/// lengths after all those bytes: 1, 255 and 2 become 0, 1, 255, 2, 6, 255.
 #[derive(Drop)]
 pub struct LengthEncoder {
     alloc: Global,
@@ -62,8 +64,8 @@ fn is_one_over<T: Len>(several: &[T], max: usize) -> bool
     false
 }
 
-// Pushes lengths of at most `max` each, which is at most 64. Room for them was reserved. The list is taken and given back: behind a
-// reference its own length would be read and written at each push.
+// Pushes lengths of at most `max`, which is at most 64. The caller must have reserved the room. The list is passed by
+// value and returned: through a reference, each push would load and store its length.
 fn push_short<T: Len>(mut small: FastVec<u8>, chunk: &[T], max: usize) -> FastVec<u8>
     requires room { length chunk.now ≤ fast_room small }
     requires max { max ≤ 64 }
@@ -120,10 +122,25 @@ impl Buffer for LengthEncoder {
 impl LengthEncoder {
     ghost use Rattle.bitcode_coder.specs.Length.{written_lengths, length_room};
 
-    /// Writes a length. Room for it was reserved.
+    /// Appends the column of one length to `out`, whatever lengths the encoder has.
     ///
-    /// A length of 255 or more may take memory: where none is to be had that is `out of memory`, and nothing is
-    /// written.
+    /// Errors: `out of memory`. `out` then begins with its old bytes.
+    ///
+    /// ```
+    /// let lengths = LengthEncoder::new(alloc);
+    /// lengths.write_one(3, &mut bytes)?; // [3]
+    /// ```
+    pub fn write_one(&self, length: usize, out: &mut Vec<u8>) -> Result<(), Error>
+        ensures written { OnOk result (out.new.items ≡ out.old.items ++ length_bytes (length ∷ [])) }
+        ensures begins { BeginsWith out.old.items out.new.items }
+        ensures refused { IfErr result (λ e. e.reason ≡ Reason.OutOfMemory) }
+    {
+        write_length(self.alloc, length, out)
+    }
+
+    /// Adds a length. The caller must have reserved room for it.
+    ///
+    /// A length of 255 or more may allocate. If that fails, the error is `out of memory`, and nothing is added.
     pub fn encode(&mut self, length: usize) -> Result<(), Error>
         requires { 0 < length_room self.old }
         ensures written { OnOk result (written_lengths self.new ≡ written_lengths self.old ++ length ∷ []) }
@@ -141,7 +158,7 @@ impl LengthEncoder {
         Ok(())
     }
 
-    /// Writes a length below 255. Room for it was reserved. Takes no memory.
+    /// Adds a length below 255 without allocating. The caller must have reserved room for it.
     ///
     /// ```rust
     /// let mut lengths = LengthEncoder::new(alloc);
@@ -157,9 +174,10 @@ impl LengthEncoder {
         self.small.push_unchecked(length as u8);
     }
 
-    /// Writes the lengths of a chunk, unless one of them is over `max`, which is at most 64. Room for them was reserved.
+    /// Adds the lengths of a chunk, unless one of them exceeds `max`, which is at most 64. The caller must have
+    /// reserved room.
     ///
-    /// Answers whether one is: nothing is written then. Takes no memory.
+    /// Returns whether one exceeds it. In this case it adds nothing. It does not allocate.
     ///
     /// ```rust
     /// let mut lengths = LengthEncoder::new(alloc);
@@ -195,10 +213,10 @@ impl LengthEncoder {
         self.small = push_short(small, chunk, max);
     }
 
-    /// Writes the lengths of a chunk, whatever they are. Room for them was reserved.
+    /// Adds the lengths of a chunk, whatever they are. The caller must have reserved room for them.
     ///
-    /// A length of 255 or more may take memory: where none is to be had that is `out of memory`, and the lengths before
-    /// it may have been written.
+    /// A length of 255 or more may allocate. If that fails, the error is `out of memory`, and the lengths before it may
+    /// have been added.
     pub fn encode_vectored_fallback<T: Len>(&mut self, chunk: &[T]) -> Result<(), Error>
         requires { length chunk.now ≤ length_room self.old }
         ensures written { OnOk result (written_lengths self.new ≡ written_lengths self.old ++ map T.size chunk.now) }
@@ -211,10 +229,11 @@ impl LengthEncoder {
         Ok(())
     }
 
-    /// Writes the lengths of a chunk of slices whose elements have `size` bytes each. Room for them was reserved.
+    /// Adds the lengths of a chunk of slices with elements of `size` bytes. The caller must have reserved room for
+    /// them.
     ///
-    /// A chunk with a slice longer than the width is begun again with the width doubled, and in the end with the fallback. It refuses as
-    /// [`LengthEncoder::encode_vectored_fallback`] does.
+    /// If a slice is longer than the width, it starts again with twice the width, and finally with the fallback.
+    /// Errors: those of [`LengthEncoder::encode_vectored_fallback`].
     ///
     /// ```rust
     /// let mut lengths = LengthEncoder::new(alloc);

@@ -1,11 +1,11 @@
-//! How long the slices of a chunk may be, as an encoder of slices has learnt it from the chunks before.
+//! The maximal length of the slices in a chunk, which an encoder adapts from chunk to chunk.
 ghost use Rattle.std.specs.Prelude.{◌≡◌, ◌≤◌, ◌<◌, IfSome};
 ghost use Rattle.bitcode_coder.specs.ChunkWidth.{doubled_elements, elements_of, first_elements, widenings_left};
 
-/// How many elements the slices of a chunk may have for their lengths to be written at once.
+/// The maximal number of elements of a slice, for chunks whose lengths are written at once.
 ///
-/// It begins with as many elements as take 8 bytes, and is doubled at a chunk that has a longer slice, up to 64 bytes. From a chunk
-/// on that has one still longer each length is written by itself. It is kept from call to call, and never changes the bytes.
+/// It starts at 8 bytes of elements. A chunk with a longer slice doubles it, up to 64 bytes. After a chunk with an even
+/// longer slice, every length is written separately. Encoders keep it from call to call. It never changes the bytes.
 #[derive(Clone, Copy)]
 pub enum ChunkWidth {
     One,
@@ -19,7 +19,7 @@ pub enum ChunkWidth {
 }
 
 impl ChunkWidth {
-    /// The width for slices before any was met, whose elements have so many bytes.
+    /// The width before the first slice, for elements of `size` bytes.
     ///
     /// ```
     /// let width = ChunkWidth::first(4); // of `u32`: two elements
@@ -35,7 +35,7 @@ impl ChunkWidth {
         }
     }
 
-    /// How many elements a slice may have, if that is bounded.
+    /// The maximal number of elements of a slice, if there is one.
     pub fn elements(self) -> Option<usize>
         ensures exact { result ≡ elements_of self }
         ensures bounded { IfSome result (λ elements. elements ≤ 64) }
@@ -53,7 +53,7 @@ impl ChunkWidth {
         }
     }
 
-    /// Twice the width, if so many elements of so many bytes take at most 64 bytes, and else the fallback.
+    /// Twice the width if its elements, of `size` bytes each, have at most 64 bytes together. Otherwise the fallback.
     pub fn doubled(self, size: usize) -> ChunkWidth
         ensures exact { elements_of result ≡ doubled_elements size (elements_of self) }
         ensures ends { 0 < widenings_left self → widenings_left result < widenings_left self }

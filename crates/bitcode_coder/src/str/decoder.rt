@@ -1,6 +1,6 @@
-//! The coder that texts are read from.
-ghost use Rattle.std.specs.Prelude.{◌≡◌, ◌≢◌, ℕ, ◌<◌, List, [], ◌∷◌, None, true, false, refl, length, map, sum, All, IsUtf8, MatchBool, IsTrue, IfOk, IfErr, OnErr};
-ghost use Rattle.std.specs.Str.{IsCharBoundary};
+//! The decoder of texts.
+ghost use Rattle.std.specs.Prelude.{◌≡◌, ◌≢◌, ℕ, ◌+◌, ◌<◌, ◌≤◌, List, [], ◌∷◌, ◌++◌, None, true, false, refl, length, drop, map, sum, vec_len, vec_capacity, All, IsUtf8, MatchBool, IsTrue, IfOk, OnOk, IfErr, OnErr};
+ghost use Rattle.std.specs.Str.{IsAscii, IsCharBoundary};
 ghost use Rattle.std.proofs.Props.{props};
 ghost use Rattle.bitcode_columns.specs.Fast.{slice_rest};
 ghost use Rattle.bitcode_columns.specs.Reading.{Reads, IsEndOf};
@@ -25,9 +25,12 @@ use std::boxed::BoxedStr;
 use std::rc::RcStr;
 use std::str::{from_utf8, from_utf8_unchecked};
 
+// Fewer bytes are looked at one by one.
+const FEW: usize = 64;
+
 /// The column that texts are read from.
 ///
-/// A `&str` is a slice of the input, and takes no memory; the other texts are copies.
+/// A `&str` borrows from the input without allocating. The other types of texts are copies.
 ///
 /// ```
 /// let mut column = StrDecoder::new(alloc);
@@ -59,13 +62,69 @@ fn ends_at_chars(whole: &str, lengths: &LengthDecoder<'_>) -> bool
     true
 }
 
+// The greater of two bytes.
+#[inline(always)]
+fn greater(a: u8, b: u8) -> u8
+    ensures first { a ≤ result }
+    ensures second { b ≤ result }
+{
+    if a < b { b } else { a }
+}
+
+// The greatest of the bytes, and 0 of none: the compiler compares many at once.
+fn greatest_byte(bytes: &[u8]) -> u8
+    ensures { All (λ byte. byte ≤ result) bytes.now }
+{
+    let mut greatest = 0;
+    for byte in bytes {
+        greatest = greater(greatest, *byte);
+    }
+    greatest
+}
+
+// Whether all bytes are ASCII.
+fn are_ascii(bytes: &[u8]) -> bool
+    ensures { IsTrue result → IsAscii bytes.now }
+{
+    if bytes.len() < FEW {
+        bytes.is_ascii()
+    } else {
+        greatest_byte(bytes) < 128
+    }
+}
+
+// Cuts the first `count` texts of such lengths off the bytes, and pushes them. Room for them was reserved. The list is
+// taken and given back: behind a reference its length would be read and written at each push.
+fn push_texts<'a>(
+    lengths: &[u8],
+    count: usize,
+    bytes: &'a [u8],
+    mut texts: Vec<&'a str>,
+) -> (Vec<&'a str>, &'a [u8])
+    requires left { count ≤ length (cut lengths.now bytes.now) }
+    requires utf8 { All IsUtf8 (cut lengths.now bytes.now) }
+    requires room { vec_len texts + count ≤ vec_capacity texts }
+    ensures joined { map (λ t. t.now) result.0.items ++ cut (drop count lengths.now) result.1.now
+        ≡ map (λ t. t.now) texts.entry.items ++ cut lengths.now bytes.now }
+    ensures size { vec_len result.0 ≡ vec_len texts.entry + count }
+    ensures utf8 { All IsUtf8 (cut (drop count lengths.now) result.1.now) }
+{
+    let mut rest = bytes;
+    for place in 0..count {
+        let (text, behind) = rest.split_at(lengths[place] as usize);
+        texts.push_reserved(unsafe { from_utf8_unchecked(text) });
+        rest = behind;
+    }
+    (texts, rest)
+}
+
 // Whether each text of such lengths is UTF-8: the bytes are, and they are cut at characters.
 fn are_texts(bytes: &[u8], lengths: &LengthDecoder<'_>) -> bool
     requires { sum (lengths_left lengths.now) ≡ length bytes.now }
     ensures { MatchBool result (All IsUtf8 (cut (lengths_left lengths.now) bytes.now)) (All IsUtf8 (cut (lengths_left lengths.now) bytes.now) → ⊥) }
 {
     // An ASCII text is UTF-8 wherever it is cut.
-    if bytes.is_ascii() {
+    if are_ascii(bytes) {
         return true;
     }
     match from_utf8(bytes) {
@@ -77,29 +136,26 @@ fn are_texts(bytes: &[u8], lengths: &LengthDecoder<'_>) -> bool
 impl<'a> StrDecoder<'a> {
     // Reads a column, all checks included. Where `strict`, the answer is whether its bytes are its text.
     pub(super) fn read_column(
-        alloc: Global,
+        &mut self,
         input: &mut &'a [u8],
         k: usize,
         strict: bool,
-    ) -> Result<(StrDecoder<'a>, bool), Error>
-        ensures read { IfOk result (λ d. Reads (Spells (text_shape None)) k input.old.now (map text (cut (lengths_left d.0.lengths) (slice_rest d.0.bytes))) input.new.now) }
-        ensures judged { IsTrue strict → IfOk result (λ d. JudgesData (text_shape None) (map text (cut (lengths_left d.0.lengths) (slice_rest d.0.bytes))) d.1 input.old.now input.new.now) }
-        ensures parts { IfOk result (λ d. (middle : List ℕ) × ReadsParts k input.old.now (short_left d.0.lengths) (large_left d.0.lengths) middle) }
+    ) -> Result<bool, Error>
+        ensures read { OnOk result (Reads (Spells (text_shape None)) k input.old.now (map text (cut (lengths_left self.new.lengths) (slice_rest self.new.bytes))) input.new.now) }
+        ensures judged { IsTrue strict → IfOk result (λ written. JudgesData (text_shape None) (map text (cut (lengths_left self.new.lengths) (slice_rest self.new.bytes))) written input.old.now input.new.now) }
+        ensures parts { OnOk result ((middle : List ℕ) × ReadsParts k input.old.now (short_left self.new.lengths) (large_left self.new.lengths) middle) }
         ensures refused { IfErr result (λ e. NamesTextFault e.reason k input.old.now) }
         ensures rest { OnErr result (IsEndOf input.old.now input.new.now) }
     {
-        let mut lengths = LengthDecoder::new(alloc);
-        let written = lengths.read(input, k, strict)?;
-        let bytes = consume_bytes(input, lengths.length())?;
-        if !are_texts(bytes, &lengths) {
+        let none: &[u8] = &[];
+        self.bytes = FastSlice::from(none);
+        let written = self.lengths.read(input, k, strict)?;
+        let bytes = consume_bytes(input, self.lengths.length())?;
+        if !are_texts(bytes, &self.lengths) {
             return err(Reason::InvalidUtf8);
         }
-        let column = StrDecoder {
-            alloc,
-            lengths,
-            bytes: FastSlice::from(bytes),
-        };
-        Ok((column, written))
+        self.bytes = FastSlice::from(bytes);
+        Ok(written)
     }
 
     // Takes the next text, a slice of the input.
@@ -110,6 +166,20 @@ impl<'a> StrDecoder<'a> {
         let length = self.lengths.decode();
         let bytes = self.bytes.chunk_unchecked(length);
         unsafe { from_utf8_unchecked(bytes) }
+    }
+
+    // Takes the next texts one by one, and pushes them. Room for them was reserved.
+    fn take_each(&mut self, mut texts: Vec<&'a str>, count: usize) -> Vec<&'a str>
+        requires left { count ≤ length (cut (lengths_left self.old.lengths) (slice_rest self.old.bytes)) }
+        requires room { vec_len texts + count ≤ vec_capacity texts }
+        ensures joined { map (λ t. t.now) result.items ++ cut (lengths_left self.new.lengths) (slice_rest self.new.bytes)
+            ≡ map (λ t. t.now) texts.entry.items ++ cut (lengths_left self.old.lengths) (slice_rest self.old.bytes) }
+        ensures size { vec_len result ≡ vec_len texts.entry + count }
+    {
+        for _taken in 0..count {
+            texts.push_reserved(self.take_text());
+        }
+        texts
     }
 }
 
@@ -134,9 +204,7 @@ impl<'a> View<'a> for StrDecoder<'a> {
     }
 
     fn read(&mut self, input: &mut &'a [u8], k: usize, strict: bool) -> Result<bool, Error> {
-        let read = StrDecoder::read_column(self.alloc, input, k, strict)?;
-        *self = read.0;
-        Ok(read.1)
+        self.read_column(input, k, strict)
     }
 }
 
@@ -145,6 +213,17 @@ impl<'a> Decoder<&'a str> for StrDecoder<'a> {
 
     fn decode(&mut self) -> Result<&'a str, Error> {
         Ok(self.take_text())
+    }
+
+    fn decode_many(&mut self, alloc: Global, count: usize) -> Result<Vec<&'a str>, Error> {
+        let texts = Vec::with_capacity(alloc, count)?;
+        let Some(lengths) = self.lengths.as_short() else {
+            return Ok(self.take_each(texts, count));
+        };
+        let (texts, rest) = push_texts(lengths, count, self.bytes.as_slice(), texts);
+        self.bytes = FastSlice::from(rest);
+        self.lengths.pass_short(count);
+        Ok(texts)
     }
 
     ghost same_shape = { refl };

@@ -1,17 +1,17 @@
-//! The coder that texts are written to.
+//! The encoder of texts.
 ghost use Rattle.std.specs.Prelude.{◌≡◌, ◌+◌, ◌*◌, ◌<◌, ◌≤◌, ◌++◌, [], ◌∷◌, None, false, length, map, take, sum, IfOk, OnOk, IfErr};
 ghost use Rattle.std.proofs.Common.{sym};
 ghost use Rattle.bitcode_columns.specs.Fast.{fast_items, fast_room, fast_capacity};
 ghost use Rattle.bitcode_shapes.specs.Datum.{text};
 ghost use Rattle.bitcode_coder.specs.Coder.{BeginsWith};
 ghost use Rattle.bitcode_coder.specs.Columns.{texts, one};
-ghost use Rattle.bitcode_coder.specs.Cutting.{cut};
-ghost use Rattle.bitcode_coder.specs.PushedTexts.{PushesTexts};
+ghost use Rattle.bitcode_coder.specs.PushedTexts.{PushesTexts, texts_in};
 ghost use Rattle.bitcode_coder.specs.Length.{written_lengths, length_room, length_capacity};
 ghost use Rattle.bitcode_coder.specs.LengthColumn.{length_bytes};
 
 use crate::coder::{Buffer, Encoder, HoldsColumns, MAX_VECTORED_CHUNK};
 use crate::length::LengthEncoder;
+use crate::one::write_length;
 use crate::part::Part;
 use crate::str::AsText;
 use bitcode_columns::error::{Error, Reason};
@@ -19,7 +19,7 @@ use bitcode_columns::fast::FastVec;
 use std::alloc::Global;
 use std::mem::replace;
 
-/// The column that texts are written to: their lengths, and then their bytes, joined.
+/// The column that texts are written to: their lengths, and then their concatenated bytes.
 ///
 /// ```
 /// let mut column = StrEncoder::new(alloc);
@@ -57,8 +57,8 @@ struct Pushed {
     count: usize,
 }
 
-// Pushes the text that is a part of each item, up to the first one of 16 bytes or more. The lists are taken and given back: behind a
-// reference their own lengths would be read and written at each text.
+// Pushes the text that is a part of each item, up to the first one of 16 bytes or more. The lists are passed by value
+// and returned: through a reference, each text would load and store their lengths.
 fn push_short<S, P: AsText, W: Part<S, P>>(
     mut lengths: LengthEncoder,
     mut bytes: FastVec<u8>,
@@ -70,7 +70,7 @@ fn push_short<S, P: AsText, W: Part<S, P>>(
     requires lengths { length items.now ≤ length_room lengths }
     requires bytes { 15 * length items.now ≤ fast_room bytes }
     ensures count { result.count ≤ length items.now }
-    ensures written { PushesTexts P.lists (map (W.of which.now) (take result.count items.now)) (cut (written_lengths lengths) (fast_items bytes)) (cut (written_lengths result.lengths) (fast_items result.bytes)) }
+    ensures written { PushesTexts P.lists (map (W.of which.now) (take result.count items.now)) (texts_in lengths bytes) (texts_in result.lengths result.bytes) }
     ensures whole { sum (written_lengths result.lengths) ≡ length (fast_items result.bytes) }
     ensures room { length_room lengths ≡ length_room result.lengths + result.count }
 {
@@ -92,6 +92,8 @@ fn push_short<S, P: AsText, W: Part<S, P>>(
 }
 
 impl StrEncoder {
+    ghost use Rattle.bitcode_coder.specs.WrittenTexts.{written_texts};
+
     // Writes the text that is a part of each item. Room for them was reserved.
     fn encode_texts_in<S, P: AsText, W: Part<S, P>>(
         &mut self,
@@ -100,7 +102,7 @@ impl StrEncoder {
     ) -> Result<(), Error>
         requires chunk { length items.now ≤ MAX_VECTORED_CHUNK }
         requires room { length items.now ≤ length_room self.old.lengths }
-        ensures written { OnOk result (PushesTexts P.lists (map (W.of which.now) items.now) (cut (written_lengths self.old.lengths) (fast_items self.old.bytes)) (cut (written_lengths self.new.lengths) (fast_items self.new.bytes))) }
+        ensures written { OnOk result (PushesTexts P.lists (map (W.of which.now) items.now) (written_texts self.old) (written_texts self.new)) }
         ensures room { OnOk result (length_room self.old.lengths ≤ length_room self.new.lengths + length items.now) }
         ensures refused { IfErr result (λ e. e.reason ≡ Reason.OutOfMemory) }
     {
@@ -112,7 +114,7 @@ impl StrEncoder {
         Ok(())
     }
 
-    // Writes the text that is a part of each item, up to the first one of 16 bytes or more. Answers how many were written.
+    // Writes the text that is a part of each item, up to the first one of 16 bytes or more. Returns their number.
     fn encode_short<S, P: AsText, W: Part<S, P>>(
         &mut self,
         items: &[S],
@@ -121,7 +123,7 @@ impl StrEncoder {
         requires chunk { length items.now ≤ MAX_VECTORED_CHUNK }
         requires room { length items.now ≤ length_room self.old.lengths }
         ensures count { IfOk result (λ n. n ≤ length items.now) }
-        ensures written { IfOk result (λ n. PushesTexts P.lists (map (W.of which.now) (take n items.now)) (cut (written_lengths self.old.lengths) (fast_items self.old.bytes)) (cut (written_lengths self.new.lengths) (fast_items self.new.bytes))) }
+        ensures written { IfOk result (λ n. PushesTexts P.lists (map (W.of which.now) (take n items.now)) (written_texts self.old) (written_texts self.new)) }
         ensures room { IfOk result (λ n. length_room self.old.lengths ≤ length_room self.new.lengths + n) }
         ensures refused { IfErr result (λ e. e.reason ≡ Reason.OutOfMemory) }
     {
@@ -138,7 +140,7 @@ impl StrEncoder {
         Ok(count)
     }
 
-    // Writes the text that is a part of the first item, and then those of 16 bytes and more. Answers how many were written.
+    // Writes the text that is a part of the first item, and then those of 16 bytes and more. Returns their number.
     #[inline(never)]
     fn encode_long<S, P: AsText, W: Part<S, P>>(
         &mut self,
@@ -148,7 +150,7 @@ impl StrEncoder {
         requires { length items.now ≤ length_room self.old.lengths }
         ensures count { IfOk result (λ n. n ≤ length items.now) }
         ensures some { IfOk result (λ n. 0 < length items.now → 0 < n) }
-        ensures written { IfOk result (λ n. PushesTexts P.lists (map (W.of which.now) (take n items.now)) (cut (written_lengths self.old.lengths) (fast_items self.old.bytes)) (cut (written_lengths self.new.lengths) (fast_items self.new.bytes))) }
+        ensures written { IfOk result (λ n. PushesTexts P.lists (map (W.of which.now) (take n items.now)) (written_texts self.old) (written_texts self.new)) }
         ensures room { IfOk result (λ n. length_room self.old.lengths ≤ length_room self.new.lengths + n) }
         ensures refused { IfErr result (λ e. e.reason ≡ Reason.OutOfMemory) }
     {
@@ -167,7 +169,7 @@ impl StrEncoder {
     // Writes a text, of which the bytes are given. Room for it was reserved.
     fn encode_text(&mut self, bytes: &[u8]) -> Result<(), Error>
         requires { 0 < length_room self.old.lengths }
-        ensures written { OnOk result (cut (written_lengths self.new.lengths) (fast_items self.new.bytes) ≡ cut (written_lengths self.old.lengths) (fast_items self.old.bytes) ++ bytes.now ∷ []) }
+        ensures written { OnOk result (written_texts self.new ≡ written_texts self.old ++ bytes.now ∷ []) }
         ensures room { OnOk result (length_room self.old.lengths ≤ length_room self.new.lengths + 1) }
         ensures refused { IfErr result (λ e. e.reason ≡ Reason.OutOfMemory) }
     {
@@ -185,7 +187,9 @@ impl StrEncoder {
 }
 
 impl HoldsColumns for StrEncoder {
-    ghost columns = { λ e. one (texts None) (map text (cut (written_lengths e.lengths) (fast_items e.bytes))) };
+    ghost use Rattle.bitcode_coder.specs.WrittenTexts.{written_texts};
+
+    ghost columns = { λ e. one (texts None) (map text (written_texts e)) };
 
     ghost room = { λ e. length_room e.lengths };
 
@@ -228,6 +232,13 @@ impl<P: AsText> Encoder<P> for StrEncoder {
 
     fn encode(&mut self, t: &P) -> Result<(), Error> {
         self.encode_text(t.as_text().as_bytes())
+    }
+
+    fn write_directly(&mut self, t: &P, out: &mut Vec<u8>) -> Result<bool, Error> {
+        let text = t.as_text().as_bytes();
+        write_length(self.alloc, text.len(), out)?;
+        out.extend_from_slice(text)?;
+        Ok(true)
     }
 
     fn encode_part_of_each<S, W: Part<S, P>>(

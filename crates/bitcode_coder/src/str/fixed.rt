@@ -1,4 +1,4 @@
-//! The coder that texts of a fixed capacity are read from.
+//! The decoder of texts with a fixed capacity.
 ghost use Rattle.std.specs.Prelude.{◌≡◌, ◌≢◌, ◌≤◌, [], Some, true, refl, length, map, All};
 ghost use Rattle.std.proofs.Props.{props};
 ghost use Rattle.bitcode_columns.specs.Fast.{slice_rest};
@@ -15,11 +15,11 @@ use bitcode_columns::error::{Error, Reason};
 use bitcode_columns::refuse::err;
 use std::alloc::Global;
 
-/// The column that texts of at most `N` bytes each are read from. Making a value takes no memory.
+/// The column that texts of at most `N` bytes each are read from. Making a value does not allocate.
 ///
-/// [`View::populate`] refuses as that of [`StrDecoder`] does. Where it would not, `invalid ArrayString` is the refusal
-/// of a text that is over `N` bytes. For `N` below 255 the bytes of the length column are asked, so that a 255 there is
-/// over it whatever length it stands for.
+/// [`View::populate`] returns the errors of [`StrDecoder`], and `invalid ArrayString` for a valid column with a text
+/// over `N` bytes. For `N` below 255 it looks at the bytes of the length column, so that a byte 255 there exceeds `N`,
+/// whatever length it announces.
 ///
 /// ```
 /// let mut column: ArrayStringDecoder<2> = ArrayStringDecoder::new(alloc);
@@ -53,12 +53,13 @@ impl<'a, const N: usize> View<'a> for ArrayStringDecoder<'a, N> {
     }
 
     fn read(&mut self, input: &mut &'a [u8], k: usize, strict: bool) -> Result<bool, Error> {
-        let read = StrDecoder::read_column(self.alloc, input, k, strict)?;
-        if read.0.lengths.any_greater_than::<N>() {
+        let mut column = StrDecoder::new(self.alloc);
+        let written = column.read_column(input, k, strict)?;
+        if column.lengths.any_greater_than::<N>() {
             return err(Reason::InvalidArrayString);
         }
-        self.column = read.0;
-        Ok(read.1)
+        self.column = column;
+        Ok(written)
     }
 }
 

@@ -1,4 +1,4 @@
-//! The memory of a list with room: places side by side, of which the first hold items.
+//! The memory of a list with reserved room: a block of places, of which the first hold items.
 ghost use Rattle.std.specs.Prelude.{◌≡◌, ◌⊎◌, ℕ, ◌+◌, ◌^◌, ◌<◌, ◌≤◌, List, [], ◌∷◌, ◌++◌, length, take, IfOk, ⊤};
 ghost use Rattle.std.specs.Borrow.{sem};
 ghost use Rattle.std.specs.Vec.Ownership.{FitsInBlock};
@@ -14,7 +14,7 @@ use std::slice;
 // More items than these are written one by one before the last so many.
 const LONG: usize = 32;
 
-/// Where the places begin. It owns nothing.
+/// A pointer to the first place. It owns nothing.
 pub struct Start<T> {
     ptr: *mut T,
 }
@@ -35,7 +35,7 @@ unsafe impl<T> Send for Start<T> {}
 
 unsafe impl<T> Sync for Start<T> {}
 
-/// The owner of the places. It takes no space: who holds it has the pointer and the counts.
+/// The owner of the places. It is zero-sized: its holder has the pointer and the counts.
 pub struct Places<T> {
     mark: PhantomData<*const T>,
     ghost at: { Ptr },
@@ -53,7 +53,7 @@ unsafe impl<T: Send> Send for Places<T> {}
 
 unsafe impl<T: Sync> Sync for Places<T> {}
 
-/// The right to give the block of the places back. It takes no space.
+/// The right to free the block of places. It is zero-sized.
 pub struct Lease<T, A: Allocator> {
     mark: PhantomData<*const (T, A)>,
     ghost at: { Ptr },
@@ -72,7 +72,7 @@ unsafe impl<T, A: Allocator + Send> Send for Lease<T, A> {}
 // A `&` to it holds nothing.
 unsafe impl<T, A: Allocator> Sync for Lease<T, A> {}
 
-/// No places, and no block.
+/// No places and no block.
 pub(crate) fn nowhere<T, A: Allocator>(alloc: &A) -> (Start<T>, Places<T>, Lease<T, A>)
     ensures { (result.1.at ≡ result.0.ptr) × (result.1.capacity ≡ 0) × (result.1.items ≡ []) × (result.2.at ≡ result.0.ptr) × (result.2.capacity ≡ 0) × (result.2.alloc ≡ alloc.now) }
 {
@@ -87,7 +87,7 @@ pub(crate) fn nowhere<T, A: Allocator>(alloc: &A) -> (Start<T>, Places<T>, Lease
     )
 }
 
-/// A block of so many places.
+/// Allocates a block with `capacity` places.
 pub(crate) fn take_block<T, A: Allocator>(
     alloc: &A,
     capacity: usize,
@@ -110,7 +110,7 @@ pub(crate) fn take_block<T, A: Allocator>(
     }
 }
 
-/// Gives the block back, if there is one. The items are forgotten.
+/// Frees the block, if there is one. The items are not dropped.
 pub(crate) fn give_back<T, A: Allocator>(
     alloc: &A,
     start: Start<T>,
@@ -147,7 +147,7 @@ fn first_of<'a, T, const N: usize>(src: &'a [T], others: &'a [T; N]) -> &'a [T; 
 impl<T> Places<T> {
     ghost use Rattle.bitcode_columns.specs.Places.{lends_front};
 
-    /// Writes an item behind the first `index` ones. Those behind it are forgotten.
+    /// Writes an item after the first `index` ones. Any later items are forgotten.
     pub(crate) fn write(&mut self, start: Start<T>, index: usize, item: T)
         requires { (start.ptr ≡ self.old.at) × (index ≤ length self.old.items) × (length self.old.items ≤ self.old.capacity) × (index < self.old.capacity) }
         ensures { (self.new.at ≡ self.old.at) × (self.new.capacity ≡ self.old.capacity) × (self.new.items ≡ take index self.old.items ++ item ∷ []) }
@@ -155,10 +155,10 @@ impl<T> Places<T> {
         unsafe { start.ptr.add(index).write(item) }
     }
 
-    /// Writes the items of a slice behind the first `index` ones. Those behind them are forgotten.
+    /// Writes the items of a slice after the first `index` ones. Any later items are forgotten.
     ///
-    /// Few items are written as two blocks of a size that the compiler knows, the second over a part of the first. A loop
-    /// over them would take longer, since how often it turns is guessed wrongly.
+    /// A few items are written as two overlapping blocks whose size the compiler knows. A loop over them would be
+    /// slower, because the processor mispredicts its number of rounds.
     #[inline(never)]
     pub(crate) fn write_all(&mut self, start: Start<T>, index: usize, src: &[T])
     where
@@ -178,11 +178,12 @@ impl<T> Places<T> {
         }
     }
 
-    /// Writes fewer than 16 items behind the first `index` ones, of which there are eight or more. Those behind them are
+    /// Writes fewer than 16 items after the first `index` ones, of which there are at least eight. Any later items are
     /// forgotten.
     ///
-    /// Eight of them are written, then four, two and one. Where there are not so many, the first items of all are written in
-    /// their place, and the next ones come over them: so no branch depends on how many there are, which would be guessed wrongly.
+    /// It writes eight of them, then four, two and one. Where fewer are left, it writes a copy of the list's first
+    /// items instead, and the next write overwrites them. So no branch depends on the count, which the processor would
+    /// mispredict.
     #[inline(always)]
     pub(crate) fn write_short(&mut self, start: Start<T>, index: usize, src: &[T])
     where
@@ -203,8 +204,8 @@ impl<T> Places<T> {
         self.write_part::<1>(start, index + eight + four + two, rest);
     }
 
-    // Writes the first `N` items of a slice of fewer than twice as many, or `N` others where it has not so many. Answers
-    // how many items of the slice were written.
+    // Writes the first `N` items of a slice with fewer than twice as many, or `N` other items if it has fewer than `N`.
+    // Returns how many items of the slice it wrote.
     #[inline(always)]
     fn write_part<const N: usize>(&mut self, start: Start<T>, index: usize, src: &[T]) -> usize
     where
@@ -222,10 +223,11 @@ impl<T> Places<T> {
         if src.len() < N { 0 } else { N }
     }
 
-    /// Writes fewer than 16 items behind the first `index` ones. Those behind them are forgotten.
+    /// Writes fewer than 16 items after the first `index` ones. Any later items are forgotten.
     ///
-    /// One of them is written, then two, four and eight, where the count has that bit. Where it has not, as many others are
-    /// written, and what is next comes over them: so no branch depends on the count, which would be guessed wrongly.
+    /// It writes one of them, then two, four and eight, for each bit that the count has. For the other bits it writes
+    /// as many other items, which the next write overwrites. So no branch depends on the count, which the processor
+    /// would mispredict.
     #[inline(always)]
     pub(crate) fn write_few(&mut self, start: Start<T>, index: usize, src: &[T], others: &[T; 8])
     where
@@ -330,7 +332,7 @@ impl<T> Places<T> {
         unsafe { slice::from_raw_parts(start.ptr, len) }
     }
 
-    /// The first `len` items, to be written. Those behind them are forgotten.
+    /// The first `len` items, mutably. Any later items are forgotten.
     pub(crate) fn slice_mut(&mut self, start: Start<T>, len: usize) -> &mut [T]
         requires { (start.ptr ≡ self.old.at) × (len ≤ length self.old.items) × (length self.old.items ≤ self.old.capacity) }
         ensures* writes_back { sem 𝓛 (lends_front T.row self.entry len result) }

@@ -1,4 +1,4 @@
-//! The list that encoders push to, over memory of its own.
+//! The list that encoders push to, in memory of its own.
 #![tactic(auto, using(crate::proofs::PlacesLemmas::length_front, crate::proofs::PlacesLemmas::last_written, crate::proofs::PlacesLemmas::all_written), unfolding(crate::specs::Fast::fast_items, crate::specs::Fast::fast_room, crate::specs::Lending::with_fast_items))]
 
 ghost use Rattle.std.specs.Prelude.{◌≡◌, ◌^◌, ◌<◌, ◌≤◌, List, length};
@@ -9,10 +9,10 @@ use crate::error::{Error, Reason};
 use std::alloc::{AllocError, Global};
 use std_alloc::room::may_hold;
 
-/// A list that is pushed to without a test, in room that was reserved before.
+/// A list with unchecked pushes into room that was reserved before.
 ///
-/// After `list.reserve(2)?` two calls of `push_unchecked`, or one of `extend_unchecked` with two items, can
-/// neither fail nor take memory. That the room is there is proved where they are called.
+/// After `list.reserve(2)?`, two calls of `push_unchecked`, or one of `extend_unchecked` with two items, neither fail
+/// nor allocate. The checker proves at each call that the room is there.
 pub struct FastVec<T: Copy> {
     start: Start<T>,
     capacity: usize,
@@ -31,7 +31,7 @@ impl<T: Copy> FastVec<T> {
     ghost use Rattle.bitcode_columns.specs.Fast.{fast_items, fast_room};
     ghost use Rattle.bitcode_columns.specs.Lending.{with_fast_items, LendsItems};
 
-    /// An empty list. Takes no memory.
+    /// Creates an empty list without allocating.
     pub fn new(alloc: Global) -> Self
         ensures items { fast_items result ≡ [] }
         ensures room { fast_room result ≡ 0 }
@@ -67,21 +67,21 @@ impl<T: Copy> FastVec<T> {
         })
     }
 
-    /// How many items were pushed.
+    /// The number of items.
     pub fn len(&self) -> usize
         ensures { result ≡ length (fast_items self.now) }
     {
         self.len
     }
 
-    /// The items, in the order in which they were pushed.
+    /// The items, in the order of their pushes.
     pub fn as_slice(&self) -> &[T]
         ensures { result.now ≡ fast_items self.now }
     {
         self.places.slice(self.start, self.len)
     }
 
-    /// The items, to be written.
+    /// The items, mutably.
     pub fn as_mut_slice(&mut self) -> &mut [T]
         ensures* writes_back { sem 𝓛 (LendsItems T.row self.entry result) }
         ensures value { result.now ≡ fast_items self.old }
@@ -94,7 +94,7 @@ impl<T: Copy> FastVec<T> {
         self.places.slice_mut(start, len)
     }
 
-    /// Drops the items. Their places are room again.
+    /// Drops the items and keeps their room.
     pub fn clear(&mut self)
         ensures items { fast_items self.new ≡ [] }
         ensures room { fast_room self.new ≡ fast_room self.old + length (fast_items self.old) }
@@ -102,9 +102,9 @@ impl<T: Copy> FastVec<T> {
         self.len = 0;
     }
 
-    /// Makes room for `n` more items, unless it is there.
+    /// Reserves room for `n` more items, if it is not there yet.
     ///
-    /// A refused growth is `out of memory`, and nothing is changed.
+    /// If the allocation fails, the error is `out of memory`, and nothing changes.
     pub fn reserve(&mut self, n: usize) -> Result<(), Error>
         ensures items { fast_items self.new ≡ fast_items self.old }
         ensures ok { OnOk result (n ≤ fast_room self.new) }
@@ -139,7 +139,7 @@ impl<T: Copy> FastVec<T> {
         Ok(())
     }
 
-    /// Pushes the items of a slice, in room that was reserved.
+    /// Pushes the items of a slice. The caller must have reserved the room.
     #[inline(always)]
     pub fn extend_unchecked(&mut self, slice: &[T])
         requires { length slice.now ≤ fast_room self.old }
@@ -155,10 +155,10 @@ impl<T: Copy> FastVec<T> {
         }
     }
 
-    /// Pushes fewer than 16 items, in room for 15 that was reserved.
+    /// Pushes fewer than 16 items. The caller must have reserved room for 15.
     ///
-    /// `others` are written for a time where the items end. What they are does not matter, but the compiler is not to know them: it
-    /// would look at the count instead.
+    /// `others` are written past the end for a moment. Their values do not matter, but the compiler must not know them,
+    /// or it would branch on the count.
     #[inline(always)]
     pub fn extend_few(&mut self, slice: &[T], others: &[T; 8])
         requires size { length slice.now < 16 }
@@ -181,9 +181,9 @@ impl<T: Copy> FastVec<T> {
         self.len += slice.len();
     }
 
-    /// The items of a `Vec`, copied.
+    /// Copies the items of a `Vec`.
     ///
-    /// A refused growth is `out of memory`.
+    /// If the allocation fails, the error is `out of memory`.
     pub fn from_vec(alloc: Global, vec: Vec<T>) -> Result<FastVec<T>, Error>
         ensures items { IfOk result (λ v. fast_items v ≡ vec.items) }
         ensures reason { IfErr result (λ e. e.reason ≡ Reason.OutOfMemory) }
@@ -195,9 +195,9 @@ impl<T: Copy> FastVec<T> {
         Ok(copy)
     }
 
-    /// The items as a `Vec`, copied.
+    /// Copies the items into a `Vec`.
     ///
-    /// A refused growth is `out of memory`.
+    /// If the allocation fails, the error is `out of memory`.
     pub fn into_vec(self) -> Result<Vec<T>, Error>
         ensures items { IfOk result (λ v. v.items ≡ fast_items self) }
         ensures reason { IfErr result (λ e. e.reason ≡ Reason.OutOfMemory) }

@@ -1,5 +1,5 @@
 // Written by scripts/tables/integers.
-//! The integers of the machine's own width, which are written as 64 bits.
+//! `usize` and `isize`, which are written as 64 bits.
 ghost use Rattle.std.specs.Prelude.{pos, true, false, refl};
 ghost use Rattle.std.proofs.Common.{inl, inr};
 

@@ -21,19 +21,19 @@ use std::alloc::Global;
 /// The tag of the highest level.
 const HIGHEST_TAG: u8 = 10;
 
-/// At most so many bytes are never written as what lies above the least of them.
+/// A column of at most this many bytes is never written as differences from its least entry.
 pub(crate) const MOST_UNSHIFTED: usize = 5;
 
-/// How the entries of a byte column stand behind its tag.
+/// How the entries of a byte column follow its tag.
 #[derive(Clone, Copy)]
 struct Form {
-    /// The base whose digits they are.
+    /// The base of the digits.
     base: Base,
-    /// What is added to each.
+    /// The number that is added to each digit.
     least: u8,
 }
 
-/// Reads the tag of a column, and the least entry where the tag says that there is one.
+/// Reads the tag of a column, and its least entry if the tag announces one.
 fn read_form(input: &mut &[u8]) -> Result<Form, Error>
     ensures read { IfOk result (λ form. TellsForm input.old.now form.base form.least input.new.now) }
     ensures refused { IfErr result (λ e. (narrow : ℕ → List ℕ → Option Reason) → tagged_fault 1 highest_byte_tag narrow input.old.now ≡ Some e.reason) }
@@ -68,7 +68,7 @@ fn add_to_each(entries: &mut Vec<u8>, number: u8)
     }
 }
 
-/// Lets `out` go on with a slice of the input, whose bytes are below 256 as all are.
+/// Makes `out` borrow a slice of the input. Its bytes are below 256, as all bytes are.
 pub(super) fn borrow_bytes<'a>(bytes: &'a [u8], out: &mut CowSlice<'a, u8>)
     ensures rest { cow_rest out.new ≡ bytes.now }
     ensures below { All (λ byte. byte < 256) bytes.now }
@@ -76,12 +76,12 @@ pub(super) fn borrow_bytes<'a>(bytes: &'a [u8], out: &mut CowSlice<'a, u8>)
     out.set_borrowed(bytes);
 }
 
-/// Reads a column of so many bytes from the front of the input into `out`.
+/// Reads a column of `count` bytes from the front of the input into `out`.
 ///
-/// At most two entries, and entries behind the tag 0, are a slice of the input and take no memory.
+/// A column of at most two entries, or one with the tag 0, is borrowed from the input without allocating.
 ///
-/// Missing bytes are `EOF`, a tag that no column has is `invalid packing`, and a refused growth is
-/// `out of memory`. The input is then at an end part of what it was, and `out` is to be filled anew.
+/// If bytes are missing, the error is `EOF`; for an unknown tag `invalid packing`; if an allocation fails,
+/// `out of memory`. After an error the input is a suffix of what it was, and `out` must be filled again before use.
 ///
 /// ```rust
 /// let mut input: &[u8] = &[1, 201, 16, 50, 84, 6];
@@ -115,7 +115,7 @@ pub fn unpack_bytes<'a>(
     Ok(())
 }
 
-/// Takes the least number off each, so that it is the digit of what is left.
+/// Subtracts the least number from each, so that the difference can be a digit.
 fn subtract_from_each<T: Byte>(bytes: &mut [T], least: T)
     requires { All (λ entry. T.number least ≤ℤ T.number entry) bytes.old }
     ensures { map (λ entry. residue 1 (T.number entry)) bytes.new ≡ map (λ entry. unsigned_abs (T.number entry -ℤ T.number least)) bytes.old }
@@ -126,7 +126,7 @@ fn subtract_from_each<T: Byte>(bytes: &mut [T], least: T)
     }
 }
 
-/// The base in which the entries stand as they are: negative ones are whole bytes.
+/// The base for unshifted entries: negative ones need whole bytes.
 pub(crate) fn plain_base<T: Byte>(least: T, greatest: T) -> Base
     requires { T.number least ≤ℤ T.number greatest }
     ensures { result ≡ (if int_lt (T.number least) (pos 0) then Base.Whole else base_for (unsigned_abs (T.number greatest))) }
@@ -138,7 +138,7 @@ pub(crate) fn plain_base<T: Byte>(least: T, greatest: T) -> Base
     }
 }
 
-/// The base in which the entries stand without the least one.
+/// The base for the differences from the least entry.
 pub(crate) fn shifted_base<T: Byte>(least: T, greatest: T) -> Base
     requires { T.number least ≤ℤ T.number greatest }
     ensures { result ≡ base_for (unsigned_abs (T.number greatest -ℤ T.number least)) }
@@ -146,7 +146,7 @@ pub(crate) fn shifted_base<T: Byte>(least: T, greatest: T) -> Base
     Base::for_greatest(greatest.to_byte().wrapping_sub(least.to_byte()))
 }
 
-/// Appends bytes as they are, one by one: so few that a column of them has no tag.
+/// Appends bytes one by one, without a tag: the column is too short to have one.
 fn pack_untagged<T: Byte>(bytes: &[T], out: &mut Vec<u8>) -> Result<(), Error>
     ensures written { OnOk result (out.new.items ≡ out.old.items ++ map (λ byte. residue 1 (T.number byte)) bytes.now) }
     ensures reason { IfErr result (λ e. e.reason ≡ Reason.OutOfMemory) }
@@ -160,10 +160,10 @@ fn pack_untagged<T: Byte>(bytes: &[T], out: &mut Vec<u8>) -> Result<(), Error>
     Ok(())
 }
 
-/// Appends a column of bytes: as they are, or several to a byte where they are small, or where
-/// they lie close to the least one. `bytes` is scratch afterwards.
+/// Appends a column of bytes: unchanged, several to a byte if they are small, or as differences from the least one if
+/// they are close to it. `bytes` is scratch afterwards.
 ///
-/// A refused growth is `out of memory`, and `out` holds what it held.
+/// If an allocation fails, the error is `out of memory`, and `out` still begins with what it held before.
 ///
 /// ```rust
 /// let mut out = Vec::new(alloc);

@@ -22,17 +22,17 @@ mod counts;
 /// A variant is a byte, whatever `N` is.
 const HIGHEST_BYTE: usize = 255;
 
-/// The base in which the variants below `N` are digits.
+/// The base whose digits are the variants below `N`.
 pub(crate) fn base_of_variants<const N: usize>() -> Base
     ensures { result ≡ base_for (N - 1) }
 {
     Base::for_greatest(N.saturating_sub(1).min(HIGHEST_BYTE) as u8)
 }
 
-/// Appends a column of variants, each below `N`: as many of them to a byte as the base for `N - 1` has digits in it,
-/// and from 17 variants on as they are.
+/// Appends a column of variants, each below `N`. The base for `N - 1` says how many share a byte; with 17 variants or
+/// more, each has a byte of its own.
 ///
-/// A refused growth is `out of memory`, and `out` holds what it held.
+/// If an allocation fails, the error is `out of memory`, and `out` still begins with what it held before.
 ///
 /// ```rust
 /// let mut out = Vec::new(alloc);
@@ -49,8 +49,8 @@ pub fn pack_bytes_less_than<const N: usize>(bytes: &[u8], out: &mut Vec<u8>) -> 
     pack_digits(&[], base_of_variants::<N>(), bytes, out)
 }
 
-/// Reads the digits of a column of so many variants from the front of the input into `out`. From 17 variants on they
-/// are a slice of the input.
+/// Reads the digits of a column of `count` variants from the front of the input into `out`. With 17 variants or more,
+/// `out` borrows them from the input.
 fn read_digits<'a, const N: usize>(
     alloc: Global,
     input: &mut &'a [u8],
@@ -71,7 +71,8 @@ fn read_digits<'a, const N: usize>(
     Ok(())
 }
 
-/// Whether each entry, a digit of the base, is one of so many variants. Where each digit is one, none is looked at.
+/// Whether each entry, a digit of the base, is below the number of variants. If every digit is, it does not look at
+/// them.
 fn are_variants(base: Base, entries: &[u8], variants: usize) -> bool
     requires { All (λ entry. entry < radix base) entries.now }
     ensures { result ≡ list_all (λ entry. nat_lt entry variants) entries.now }
@@ -80,14 +81,14 @@ fn are_variants(base: Base, entries: &[u8], variants: usize) -> bool
         || entries.iter().all(|entry| (*entry as usize) < variants)
 }
 
-/// Reads a column of so many variants from the front of the input into `out`.
+/// Reads a column of `count` variants from the front of the input into `out`.
 ///
-/// For `H = N` the result counts the entries: how many are variant 0, how many are variant 1, and so on. For `H = 0`
-/// nothing is counted. From 17 variants on the entries are a slice of the input and take no memory, and no entries
-/// take none either.
+/// For `H = N` the result counts the entries: how many are variant 0, how many are variant 1, and so on. For `H = 0` it
+/// counts nothing. With 17 variants or more, `out` borrows the entries from the input without allocating. Nor does it
+/// allocate for no entries.
 ///
-/// Missing bytes are `EOF`, an entry of `N` or more is `invalid packing`, and a refused growth is `out of memory`. The
-/// input is then at an end part of what it was, and `out` is to be filled anew.
+/// If bytes are missing, the error is `EOF`; if an entry is not below `N`, `invalid packing`; if an allocation fails,
+/// `out of memory`. After an error the input is a suffix of what it was, and `out` must be filled again before use.
 ///
 /// ```rust
 /// let mut input: &[u8] = &[227];

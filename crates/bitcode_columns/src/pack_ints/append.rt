@@ -1,4 +1,4 @@
-//! Appending the column of some integers.
+//! Appending the column of a list of integers.
 ghost use Rattle.std.specs.Prelude.{◌≡◌, ◌≢◌, ◌+◌, ◌-◌, ◌*◌, ◌%◌, ◌^◌, ◌<◌, ◌≤◌, ◌∷◌, ◌++◌, true, false, length, map, All, vec_len, vec_capacity, IsTrue, IsOk, OnOk, IfErr};
 ghost use Rattle.bitcode_columns.specs.LittleEndian.{number_bytes};
 ghost use Rattle.bitcode_columns.specs.Ints.{IsNumber, residue, least, greatest};
@@ -63,8 +63,8 @@ fn known_numbers<T: Int>(entries: &[T])
     }
 }
 
-// Whether the first entries lie so far apart that all take the whole width, with the least one and without it. The others
-// need not be looked at then.
+// Whether the first entries are so far apart that all need the whole width, with and without the least one. Then there
+// is no need to look at the others.
 fn take_whole_width<T: Int>(entries: &[T]) -> bool
     requires { 0 < length entries.now }
     ensures plain { IsTrue result → plain_width T.width (least (map T.number entries.now)) (greatest (map T.number entries.now)) ≡ T.width }

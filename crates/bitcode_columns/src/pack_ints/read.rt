@@ -137,7 +137,7 @@ fn read_narrow<'a, T: Int>(
     }
 }
 
-// How the narrow numbers of a column stand behind its tag.
+// How the narrow numbers of a column follow its tag.
 struct Header<T: Int> {
     // in bytes
     width: usize,
@@ -267,12 +267,12 @@ fn read_ints<'a, T: Int>(
     read_tagged::<T>(alloc, input, count, out)
 }
 
-/// Reads a column of so many integers from the front of the input into `out`, as the bytes of each.
+/// Reads a column of `count` integers from the front of the input into `out`, as the bytes of each.
 ///
-/// Entries that stand as they are, behind the tag 0 or without a tag, are a slice of the input and take no memory.
+/// A column without a tag, or with the tag 0, is borrowed from the input without allocating.
 ///
-/// Of `[1, 255, 255, 10, 85]` seven `i16` are the bytes of 0, -1, 0, -1, 0, -1 and 0. Missing bytes are `EOF`, a tag
-/// that no column has is `invalid packing`, and a refused growth is `out of memory`.
+/// From `[1, 255, 255, 10, 85]`, seven `i16` are the bytes of 0, -1, 0, -1, 0, -1 and 0. If bytes are missing, the
+/// error is `EOF`; for an unknown tag `invalid packing`; if an allocation fails, `out of memory`.
 pub fn unpack_ints<'a, T: Int>(
     alloc: Global,
     input: &mut &'a [u8],

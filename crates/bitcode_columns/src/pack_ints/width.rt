@@ -1,4 +1,4 @@
-//! The widths of narrow numbers, and the tags that say them.
+//! The widths of narrow numbers, and their tags.
 ghost use Rattle.std.specs.Prelude.{◌≡◌, ◌-◌, ◌*◌, ◌≤◌, ◌≤ℤ◌, ◌==◌, ◌||◌, ◌&&◌, nat_lt};
 ghost use Rattle.bitcode_columns.specs.IntColumn.{halvings, width_for};
 ghost use Rattle.bitcode_columns.specs.Narrowing.{plain_width, shifted_width};
@@ -39,7 +39,7 @@ pub(crate) fn tag_for(width: usize, narrow: usize) -> u8
     2 * halvings(width).saturating_sub(halvings(narrow))
 }
 
-// The width of the entries as they stand, negative ones needing the whole.
+// The width of the unshifted entries: negative ones need the whole width.
 pub(crate) fn plain_width<T: Int>(least: T, greatest: T) -> usize
     requires { T.number least ≤ℤ T.number greatest }
     ensures { result ≡ plain_width T.width (T.number least) (T.number greatest) }

@@ -13,8 +13,8 @@ use crate::pack::pack_bytes;
 use crate::refuse::err;
 use std::alloc::Global;
 
-// So many bytes are one block, which is written over zeros that have just been made: those are then near the processor still. While
-// the zeros of a small block are on their way to memory, its numbers can be read already.
+// This many bytes form a block, which is written over new zeros. The processor still has these in its cache. While the
+// zeros of a small block are on their way to memory, it can already read the numbers.
 const BLOCK: usize = 1024;
 
 // Fewer blocks than these are one block, since all of it stays near the processor.
@@ -95,8 +95,8 @@ fn push_each<T: Int, N: SizedUInt>(entries: &[T], base: T::Unsigned, out: &mut V
     }
 }
 
-// Appends how far each entry lies above a base, in the bytes of a narrow type, in room that is there: few one by one, more as
-// blocks of them and the rest.
+// Appends the distance of each entry from a base, in the bytes of a narrow type. The caller must have reserved the
+// room. It writes a few one by one, and more as blocks and a rest.
 fn push_numbers<T: Int, N: SizedUInt>(entries: &[T], base: T::Unsigned, out: &mut Vec<u8>)
     requires { vec_len out.old + length entries.now * N.width ≤ vec_capacity out.old }
     ensures written { out.new.items ≡ out.old.items ++ raw_text N.width (map (λ e. above T.width (T.Unsigned.value base) (T.number e) % 256 ^ N.width) entries.now) }

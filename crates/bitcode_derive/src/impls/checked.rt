@@ -1,5 +1,5 @@
 // Written by scripts/tables/integers.
-//! The coders of integers that are not 0, and of chars.
+//! The coders of nonzero integers and of chars.
 use crate::derive::{DecodeOwned, HasDecoder, HasEncoder};
 use bitcode_coder::checked::CheckedIntDecoder;
 use bitcode_coder::int::IntEncoder;

@@ -1,5 +1,5 @@
 // Written by scripts/tables/variants.
-//! The coders of two variants that follow each other.
+//! The coders of two consecutive variants.
 ghost use Rattle.std.specs.Prelude.{◌≡◌, ◌+◌, ◌-◌, ◌&&◌, [], ◌∷◌, true, OnOk, IfErr};
 ghost use Rattle.bitcode_coder.specs.Columns.{no_columns, emptied};
 ghost use Rattle.bitcode_coder.specs.Coder.{IsWritingRefusal};
@@ -21,8 +21,8 @@ use bitcode_tuples::fields::{Fields, FieldsEncoder};
 use std::alloc::Global;
 use std::marker::PhantomData;
 
-/// The encoders of two variants that follow each other, from the number `O` on. The other type parameters are the encoders; `EncodersOf2`
-/// names it by the payloads.
+/// The encoders of two consecutive variants, starting with the number `O`. The other type parameters are the
+/// encoders; `EncodersOf2` derives them from the payloads.
 #[derive(Drop)]
 pub struct Encoders2<O, E1, E2> {
     first: E1,
@@ -30,15 +30,15 @@ pub struct Encoders2<O, E1, E2> {
     of: PhantomData<O>,
 }
 
-/// The encoders of two variants that follow each other, by the types of their payloads.
+/// The encoders of two consecutive variants, given the types of their payloads.
 pub type EncodersOf2<O, P1, P2> = Encoders2<
     O,
     <P1 as HasEncoder>::Encoder,
     <P2 as HasEncoder>::Encoder,
 >;
 
-/// The decoders of two variants that follow each other, from the number `O` on. `P` is the tuple of their payloads, and the other type
-/// parameters are the decoders; `DecodersOf2` names it by the payloads alone.
+/// The decoders of two consecutive variants, starting with the number `O`. `P` is the tuple of their
+/// payloads, and the other type parameters are the decoders; `DecodersOf2` derives all of these from the payloads.
 #[derive(Drop)]
 pub struct Decoders2<O, P, D1, D2> {
     first: D1,
@@ -46,7 +46,7 @@ pub struct Decoders2<O, P, D1, D2> {
     of: PhantomData<(O, P)>,
 }
 
-/// The decoders of two variants that follow each other, by the types of their payloads.
+/// The decoders of two consecutive variants, given the types of their payloads.
 pub type DecodersOf2<'a, O, P1, P2> = Decoders2<
     O,
     (P1, P2),
@@ -60,8 +60,9 @@ pub enum OneOf2<P1, P2> {
     Second(P2),
 }
 
-/// An enum that has two variants that follow each other, from the number `O` on. The other type parameters are those of their payloads:
-/// `()` for a variant without fields, the field where it is one, and else the tuple of the fields. Of an enum of two variants:
+/// An enum with two consecutive variants, starting with the number `O`. The other type parameters are their
+/// payloads: `()` for a variant without fields, the field for a variant with one, and otherwise the tuple of the
+/// fields. For an enum with two variants:
 ///
 /// ```rust,from:crates/bitcode_own_types/src/two.rt
 /// impl Variants2<At<0>, u8, i8> for Two {
@@ -80,21 +81,21 @@ pub enum OneOf2<P1, P2> {
 /// }
 /// ```
 pub trait Variants2<O: Place, P1: Made, P2: Made>: Enum {
-    // the value of each of these variants that has a payload
+    // the value with a payload, for each of these variants
     ghost values: { (P1 → Self) × (P2 → Self) };
 
-    /// The value that has such a payload.
+    /// The value with this payload.
     fn of_payload(payload: OneOf2<P1, P2>) -> Self
         ensures { result ≡ of_one_of_2 values.0 values.1 payload };
 
-    // these are the variants of the numbers from `O` on
+    // these are the variants with the numbers from `O` on
     ghost are: { IsVariant Self.Enum.each.variants O.first P1.shape P1.lists P1.makes values.0 × IsVariant Self.Enum.each.variants (O.first + 1) P2.shape P2.lists P2.makes values.1 };
 }
 
 impl<O: Place, E1: Buffer, E2: Buffer> Encoders2<O, E1, E2> {
-    /// Makes room for the payload of a value of the first of the variants, and joins its columns to those of the variant.
+    /// Reserves room for the payload of a value of the first variant, and appends it to that variant's columns.
     ///
-    /// It refuses as [`WritesVariants::write`] does.
+    /// Errors: those of [`WritesVariants::write`].
     ///
     /// ```text
     /// Order::First(field) => to.encode_first(self, &field),
@@ -115,9 +116,9 @@ impl<O: Place, E1: Buffer, E2: Buffer> Encoders2<O, E1, E2> {
         encode_payload_fields(&mut self.first, fields)
     }
 
-    /// Makes room for the payload of a value of the second of the variants, and joins its columns to those of the variant.
+    /// Reserves room for the payload of a value of the second variant, and appends it to that variant's columns.
     ///
-    /// It refuses as [`WritesVariants::write`] does.
+    /// Errors: those of [`WritesVariants::write`].
     ///
     /// ```text
     /// Order::Second(field) => to.encode_second(self, &field),

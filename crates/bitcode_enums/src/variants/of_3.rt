@@ -1,5 +1,5 @@
 // Written by scripts/tables/variants.
-//! The coders of three variants that follow each other.
+//! The coders of three consecutive variants.
 ghost use Rattle.std.specs.Prelude.{◌≡◌, ◌+◌, ◌-◌, ◌&&◌, [], ◌∷◌, true, OnOk, IfErr};
 ghost use Rattle.bitcode_coder.specs.Columns.{no_columns, emptied};
 ghost use Rattle.bitcode_coder.specs.Coder.{IsWritingRefusal};
@@ -21,8 +21,8 @@ use bitcode_tuples::fields::{Fields, FieldsEncoder};
 use std::alloc::Global;
 use std::marker::PhantomData;
 
-/// The encoders of three variants that follow each other, from the number `O` on. The other type parameters are the encoders; `EncodersOf3`
-/// names it by the payloads.
+/// The encoders of three consecutive variants, starting with the number `O`. The other type parameters are the
+/// encoders; `EncodersOf3` derives them from the payloads.
 #[derive(Drop)]
 pub struct Encoders3<O, E1, E2, E3> {
     first: E1,
@@ -31,7 +31,7 @@ pub struct Encoders3<O, E1, E2, E3> {
     of: PhantomData<O>,
 }
 
-/// The encoders of three variants that follow each other, by the types of their payloads.
+/// The encoders of three consecutive variants, given the types of their payloads.
 pub type EncodersOf3<O, P1, P2, P3> = Encoders3<
     O,
     <P1 as HasEncoder>::Encoder,
@@ -39,8 +39,8 @@ pub type EncodersOf3<O, P1, P2, P3> = Encoders3<
     <P3 as HasEncoder>::Encoder,
 >;
 
-/// The decoders of three variants that follow each other, from the number `O` on. `P` is the tuple of their payloads, and the other type
-/// parameters are the decoders; `DecodersOf3` names it by the payloads alone.
+/// The decoders of three consecutive variants, starting with the number `O`. `P` is the tuple of their
+/// payloads, and the other type parameters are the decoders; `DecodersOf3` derives all of these from the payloads.
 #[derive(Drop)]
 pub struct Decoders3<O, P, D1, D2, D3> {
     first: D1,
@@ -49,7 +49,7 @@ pub struct Decoders3<O, P, D1, D2, D3> {
     of: PhantomData<(O, P)>,
 }
 
-/// The decoders of three variants that follow each other, by the types of their payloads.
+/// The decoders of three consecutive variants, given the types of their payloads.
 pub type DecodersOf3<'a, O, P1, P2, P3> = Decoders3<
     O,
     (P1, P2, P3),
@@ -65,8 +65,9 @@ pub enum OneOf3<P1, P2, P3> {
     Third(P3),
 }
 
-/// An enum that has three variants that follow each other, from the number `O` on. The other type parameters are those of their payloads:
-/// `()` for a variant without fields, the field where it is one, and else the tuple of the fields. Of an enum of two variants:
+/// An enum with three consecutive variants, starting with the number `O`. The other type parameters are their
+/// payloads: `()` for a variant without fields, the field for a variant with one, and otherwise the tuple of the
+/// fields. For an enum with two variants:
 ///
 /// ```rust,from:crates/bitcode_own_types/src/two.rt
 /// impl Variants2<At<0>, u8, i8> for Two {
@@ -85,21 +86,21 @@ pub enum OneOf3<P1, P2, P3> {
 /// }
 /// ```
 pub trait Variants3<O: Place, P1: Made, P2: Made, P3: Made>: Enum {
-    // the value of each of these variants that has a payload
+    // the value with a payload, for each of these variants
     ghost values: { (P1 → Self) × (P2 → Self) × (P3 → Self) };
 
-    /// The value that has such a payload.
+    /// The value with this payload.
     fn of_payload(payload: OneOf3<P1, P2, P3>) -> Self
         ensures { result ≡ of_one_of_3 values.0 values.1 values.2 payload };
 
-    // these are the variants of the numbers from `O` on
+    // these are the variants with the numbers from `O` on
     ghost are: { IsVariant Self.Enum.each.variants O.first P1.shape P1.lists P1.makes values.0 × IsVariant Self.Enum.each.variants (O.first + 1) P2.shape P2.lists P2.makes values.1 × IsVariant Self.Enum.each.variants (O.first + 2) P3.shape P3.lists P3.makes values.2 };
 }
 
 impl<O: Place, E1: Buffer, E2: Buffer, E3: Buffer> Encoders3<O, E1, E2, E3> {
-    /// Makes room for the payload of a value of the first of the variants, and joins its columns to those of the variant.
+    /// Reserves room for the payload of a value of the first variant, and appends it to that variant's columns.
     ///
-    /// It refuses as [`WritesVariants::write`] does.
+    /// Errors: those of [`WritesVariants::write`].
     ///
     /// ```text
     /// Order::First(field) => to.encode_first(self, &field),
@@ -122,9 +123,9 @@ impl<O: Place, E1: Buffer, E2: Buffer, E3: Buffer> Encoders3<O, E1, E2, E3> {
         encode_payload_fields(&mut self.first, fields)
     }
 
-    /// Makes room for the payload of a value of the second of the variants, and joins its columns to those of the variant.
+    /// Reserves room for the payload of a value of the second variant, and appends it to that variant's columns.
     ///
-    /// It refuses as [`WritesVariants::write`] does.
+    /// Errors: those of [`WritesVariants::write`].
     ///
     /// ```text
     /// Order::Second(field) => to.encode_second(self, &field),
@@ -147,9 +148,9 @@ impl<O: Place, E1: Buffer, E2: Buffer, E3: Buffer> Encoders3<O, E1, E2, E3> {
         encode_payload_fields(&mut self.second, fields)
     }
 
-    /// Makes room for the payload of a value of the third of the variants, and joins its columns to those of the variant.
+    /// Reserves room for the payload of a value of the third variant, and appends it to that variant's columns.
     ///
-    /// It refuses as [`WritesVariants::write`] does.
+    /// Errors: those of [`WritesVariants::write`].
     ///
     /// ```text
     /// Order::Third(field) => to.encode_third(self, &field),

@@ -1,5 +1,5 @@
 // Written by scripts/tables/variants.
-//! The coders of four variants that follow each other.
+//! The coders of four consecutive variants.
 ghost use Rattle.std.specs.Prelude.{◌≡◌, ◌+◌, ◌-◌, ◌&&◌, [], ◌∷◌, true, OnOk, IfErr};
 ghost use Rattle.bitcode_coder.specs.Columns.{no_columns, emptied};
 ghost use Rattle.bitcode_coder.specs.Coder.{IsWritingRefusal};
@@ -21,8 +21,8 @@ use bitcode_tuples::fields::{Fields, FieldsEncoder};
 use std::alloc::Global;
 use std::marker::PhantomData;
 
-/// The encoders of four variants that follow each other, from the number `O` on. The other type parameters are the encoders; `EncodersOf4`
-/// names it by the payloads.
+/// The encoders of four consecutive variants, starting with the number `O`. The other type parameters are the
+/// encoders; `EncodersOf4` derives them from the payloads.
 #[derive(Drop)]
 pub struct Encoders4<O, E1, E2, E3, E4> {
     first: E1,
@@ -32,7 +32,7 @@ pub struct Encoders4<O, E1, E2, E3, E4> {
     of: PhantomData<O>,
 }
 
-/// The encoders of four variants that follow each other, by the types of their payloads.
+/// The encoders of four consecutive variants, given the types of their payloads.
 pub type EncodersOf4<O, P1, P2, P3, P4> = Encoders4<
     O,
     <P1 as HasEncoder>::Encoder,
@@ -41,8 +41,8 @@ pub type EncodersOf4<O, P1, P2, P3, P4> = Encoders4<
     <P4 as HasEncoder>::Encoder,
 >;
 
-/// The decoders of four variants that follow each other, from the number `O` on. `P` is the tuple of their payloads, and the other type
-/// parameters are the decoders; `DecodersOf4` names it by the payloads alone.
+/// The decoders of four consecutive variants, starting with the number `O`. `P` is the tuple of their
+/// payloads, and the other type parameters are the decoders; `DecodersOf4` derives all of these from the payloads.
 #[derive(Drop)]
 pub struct Decoders4<O, P, D1, D2, D3, D4> {
     first: D1,
@@ -52,7 +52,7 @@ pub struct Decoders4<O, P, D1, D2, D3, D4> {
     of: PhantomData<(O, P)>,
 }
 
-/// The decoders of four variants that follow each other, by the types of their payloads.
+/// The decoders of four consecutive variants, given the types of their payloads.
 pub type DecodersOf4<'a, O, P1, P2, P3, P4> = Decoders4<
     O,
     (P1, P2, P3, P4),
@@ -70,8 +70,9 @@ pub enum OneOf4<P1, P2, P3, P4> {
     Fourth(P4),
 }
 
-/// An enum that has four variants that follow each other, from the number `O` on. The other type parameters are those of their payloads:
-/// `()` for a variant without fields, the field where it is one, and else the tuple of the fields. Of an enum of two variants:
+/// An enum with four consecutive variants, starting with the number `O`. The other type parameters are their
+/// payloads: `()` for a variant without fields, the field for a variant with one, and otherwise the tuple of the
+/// fields. For an enum with two variants:
 ///
 /// ```rust,from:crates/bitcode_own_types/src/two.rt
 /// impl Variants2<At<0>, u8, i8> for Two {
@@ -90,21 +91,21 @@ pub enum OneOf4<P1, P2, P3, P4> {
 /// }
 /// ```
 pub trait Variants4<O: Place, P1: Made, P2: Made, P3: Made, P4: Made>: Enum {
-    // the value of each of these variants that has a payload
+    // the value with a payload, for each of these variants
     ghost values: { (P1 → Self) × (P2 → Self) × (P3 → Self) × (P4 → Self) };
 
-    /// The value that has such a payload.
+    /// The value with this payload.
     fn of_payload(payload: OneOf4<P1, P2, P3, P4>) -> Self
         ensures { result ≡ of_one_of_4 values.0 values.1 values.2 values.3 payload };
 
-    // these are the variants of the numbers from `O` on
+    // these are the variants with the numbers from `O` on
     ghost are: { IsVariant Self.Enum.each.variants O.first P1.shape P1.lists P1.makes values.0 × IsVariant Self.Enum.each.variants (O.first + 1) P2.shape P2.lists P2.makes values.1 × IsVariant Self.Enum.each.variants (O.first + 2) P3.shape P3.lists P3.makes values.2 × IsVariant Self.Enum.each.variants (O.first + 3) P4.shape P4.lists P4.makes values.3 };
 }
 
 impl<O: Place, E1: Buffer, E2: Buffer, E3: Buffer, E4: Buffer> Encoders4<O, E1, E2, E3, E4> {
-    /// Makes room for the payload of a value of the first of the variants, and joins its columns to those of the variant.
+    /// Reserves room for the payload of a value of the first variant, and appends it to that variant's columns.
     ///
-    /// It refuses as [`WritesVariants::write`] does.
+    /// Errors: those of [`WritesVariants::write`].
     ///
     /// ```text
     /// Order::First(field) => to.encode_first(self, &field),
@@ -128,9 +129,9 @@ impl<O: Place, E1: Buffer, E2: Buffer, E3: Buffer, E4: Buffer> Encoders4<O, E1, 
         encode_payload_fields(&mut self.first, fields)
     }
 
-    /// Makes room for the payload of a value of the second of the variants, and joins its columns to those of the variant.
+    /// Reserves room for the payload of a value of the second variant, and appends it to that variant's columns.
     ///
-    /// It refuses as [`WritesVariants::write`] does.
+    /// Errors: those of [`WritesVariants::write`].
     ///
     /// ```text
     /// Order::Second(field) => to.encode_second(self, &field),
@@ -154,9 +155,9 @@ impl<O: Place, E1: Buffer, E2: Buffer, E3: Buffer, E4: Buffer> Encoders4<O, E1, 
         encode_payload_fields(&mut self.second, fields)
     }
 
-    /// Makes room for the payload of a value of the third of the variants, and joins its columns to those of the variant.
+    /// Reserves room for the payload of a value of the third variant, and appends it to that variant's columns.
     ///
-    /// It refuses as [`WritesVariants::write`] does.
+    /// Errors: those of [`WritesVariants::write`].
     ///
     /// ```text
     /// Order::Third(field) => to.encode_third(self, &field),
@@ -180,9 +181,9 @@ impl<O: Place, E1: Buffer, E2: Buffer, E3: Buffer, E4: Buffer> Encoders4<O, E1, 
         encode_payload_fields(&mut self.third, fields)
     }
 
-    /// Makes room for the payload of a value of the fourth of the variants, and joins its columns to those of the variant.
+    /// Reserves room for the payload of a value of the fourth variant, and appends it to that variant's columns.
     ///
-    /// It refuses as [`WritesVariants::write`] does.
+    /// Errors: those of [`WritesVariants::write`].
     ///
     /// ```text
     /// Order::Fourth(field) => to.encode_fourth(self, &field),

@@ -1,5 +1,5 @@
 // Written by scripts/tables/variants.
-//! The coders of six variants that follow each other.
+//! The coders of six consecutive variants.
 ghost use Rattle.std.specs.Prelude.{◌≡◌, ◌+◌, ◌-◌, ◌&&◌, [], ◌∷◌, true, OnOk, IfErr};
 ghost use Rattle.bitcode_coder.specs.Columns.{no_columns, emptied};
 ghost use Rattle.bitcode_coder.specs.Coder.{IsWritingRefusal};
@@ -21,8 +21,8 @@ use bitcode_tuples::fields::{Fields, FieldsEncoder};
 use std::alloc::Global;
 use std::marker::PhantomData;
 
-/// The encoders of six variants that follow each other, from the number `O` on. The other type parameters are the encoders; `EncodersOf6`
-/// names it by the payloads.
+/// The encoders of six consecutive variants, starting with the number `O`. The other type parameters are the
+/// encoders; `EncodersOf6` derives them from the payloads.
 #[derive(Drop)]
 pub struct Encoders6<O, E1, E2, E3, E4, E5, E6> {
     first: E1,
@@ -34,7 +34,7 @@ pub struct Encoders6<O, E1, E2, E3, E4, E5, E6> {
     of: PhantomData<O>,
 }
 
-/// The encoders of six variants that follow each other, by the types of their payloads.
+/// The encoders of six consecutive variants, given the types of their payloads.
 pub type EncodersOf6<O, P1, P2, P3, P4, P5, P6> = Encoders6<
     O,
     <P1 as HasEncoder>::Encoder,
@@ -45,8 +45,8 @@ pub type EncodersOf6<O, P1, P2, P3, P4, P5, P6> = Encoders6<
     <P6 as HasEncoder>::Encoder,
 >;
 
-/// The decoders of six variants that follow each other, from the number `O` on. `P` is the tuple of their payloads, and the other type
-/// parameters are the decoders; `DecodersOf6` names it by the payloads alone.
+/// The decoders of six consecutive variants, starting with the number `O`. `P` is the tuple of their
+/// payloads, and the other type parameters are the decoders; `DecodersOf6` derives all of these from the payloads.
 #[derive(Drop)]
 pub struct Decoders6<O, P, D1, D2, D3, D4, D5, D6> {
     first: D1,
@@ -58,7 +58,7 @@ pub struct Decoders6<O, P, D1, D2, D3, D4, D5, D6> {
     of: PhantomData<(O, P)>,
 }
 
-/// The decoders of six variants that follow each other, by the types of their payloads.
+/// The decoders of six consecutive variants, given the types of their payloads.
 pub type DecodersOf6<'a, O, P1, P2, P3, P4, P5, P6> = Decoders6<
     O,
     (P1, P2, P3, P4, P5, P6),
@@ -80,8 +80,9 @@ pub enum OneOf6<P1, P2, P3, P4, P5, P6> {
     Sixth(P6),
 }
 
-/// An enum that has six variants that follow each other, from the number `O` on. The other type parameters are those of their payloads:
-/// `()` for a variant without fields, the field where it is one, and else the tuple of the fields. Of an enum of two variants:
+/// An enum with six consecutive variants, starting with the number `O`. The other type parameters are their
+/// payloads: `()` for a variant without fields, the field for a variant with one, and otherwise the tuple of the
+/// fields. For an enum with two variants:
 ///
 /// ```rust,from:crates/bitcode_own_types/src/two.rt
 /// impl Variants2<At<0>, u8, i8> for Two {
@@ -100,14 +101,14 @@ pub enum OneOf6<P1, P2, P3, P4, P5, P6> {
 /// }
 /// ```
 pub trait Variants6<O: Place, P1: Made, P2: Made, P3: Made, P4: Made, P5: Made, P6: Made>: Enum {
-    // the value of each of these variants that has a payload
+    // the value with a payload, for each of these variants
     ghost values: { (P1 → Self) × (P2 → Self) × (P3 → Self) × (P4 → Self) × (P5 → Self) × (P6 → Self) };
 
-    /// The value that has such a payload.
+    /// The value with this payload.
     fn of_payload(payload: OneOf6<P1, P2, P3, P4, P5, P6>) -> Self
         ensures { result ≡ of_one_of_6 values.0 values.1 values.2 values.3 values.4 values.5 payload };
 
-    // these are the variants of the numbers from `O` on
+    // these are the variants with the numbers from `O` on
     ghost are: { IsVariant Self.Enum.each.variants O.first P1.shape P1.lists P1.makes values.0 × IsVariant Self.Enum.each.variants (O.first + 1) P2.shape P2.lists P2.makes values.1 × IsVariant Self.Enum.each.variants (O.first + 2) P3.shape P3.lists P3.makes values.2 × IsVariant Self.Enum.each.variants (O.first + 3) P4.shape P4.lists P4.makes values.3 × IsVariant Self.Enum.each.variants (O.first + 4) P5.shape P5.lists P5.makes values.4 × IsVariant Self.Enum.each.variants (O.first + 5) P6.shape P6.lists P6.makes values.5 };
 }
 
@@ -120,9 +121,9 @@ impl<O: Place, E1: Buffer, E2: Buffer, E3: Buffer, E4: Buffer, E5: Buffer, E6: B
     E5,
     E6,
 > {
-    /// Makes room for the payload of a value of the first of the variants, and joins its columns to those of the variant.
+    /// Reserves room for the payload of a value of the first variant, and appends it to that variant's columns.
     ///
-    /// It refuses as [`WritesVariants::write`] does.
+    /// Errors: those of [`WritesVariants::write`].
     ///
     /// ```text
     /// Order::First(field) => to.encode_first(self, &field),
@@ -148,9 +149,9 @@ impl<O: Place, E1: Buffer, E2: Buffer, E3: Buffer, E4: Buffer, E5: Buffer, E6: B
         encode_payload_fields(&mut self.first, fields)
     }
 
-    /// Makes room for the payload of a value of the second of the variants, and joins its columns to those of the variant.
+    /// Reserves room for the payload of a value of the second variant, and appends it to that variant's columns.
     ///
-    /// It refuses as [`WritesVariants::write`] does.
+    /// Errors: those of [`WritesVariants::write`].
     ///
     /// ```text
     /// Order::Second(field) => to.encode_second(self, &field),
@@ -176,9 +177,9 @@ impl<O: Place, E1: Buffer, E2: Buffer, E3: Buffer, E4: Buffer, E5: Buffer, E6: B
         encode_payload_fields(&mut self.second, fields)
     }
 
-    /// Makes room for the payload of a value of the third of the variants, and joins its columns to those of the variant.
+    /// Reserves room for the payload of a value of the third variant, and appends it to that variant's columns.
     ///
-    /// It refuses as [`WritesVariants::write`] does.
+    /// Errors: those of [`WritesVariants::write`].
     ///
     /// ```text
     /// Order::Third(field) => to.encode_third(self, &field),
@@ -204,9 +205,9 @@ impl<O: Place, E1: Buffer, E2: Buffer, E3: Buffer, E4: Buffer, E5: Buffer, E6: B
         encode_payload_fields(&mut self.third, fields)
     }
 
-    /// Makes room for the payload of a value of the fourth of the variants, and joins its columns to those of the variant.
+    /// Reserves room for the payload of a value of the fourth variant, and appends it to that variant's columns.
     ///
-    /// It refuses as [`WritesVariants::write`] does.
+    /// Errors: those of [`WritesVariants::write`].
     ///
     /// ```text
     /// Order::Fourth(field) => to.encode_fourth(self, &field),
@@ -232,9 +233,9 @@ impl<O: Place, E1: Buffer, E2: Buffer, E3: Buffer, E4: Buffer, E5: Buffer, E6: B
         encode_payload_fields(&mut self.fourth, fields)
     }
 
-    /// Makes room for the payload of a value of the fifth of the variants, and joins its columns to those of the variant.
+    /// Reserves room for the payload of a value of the fifth variant, and appends it to that variant's columns.
     ///
-    /// It refuses as [`WritesVariants::write`] does.
+    /// Errors: those of [`WritesVariants::write`].
     ///
     /// ```text
     /// Order::Fifth(field) => to.encode_fifth(self, &field),
@@ -260,9 +261,9 @@ impl<O: Place, E1: Buffer, E2: Buffer, E3: Buffer, E4: Buffer, E5: Buffer, E6: B
         encode_payload_fields(&mut self.fifth, fields)
     }
 
-    /// Makes room for the payload of a value of the sixth of the variants, and joins its columns to those of the variant.
+    /// Reserves room for the payload of a value of the sixth variant, and appends it to that variant's columns.
     ///
-    /// It refuses as [`WritesVariants::write`] does.
+    /// Errors: those of [`WritesVariants::write`].
     ///
     /// ```text
     /// Order::Sixth(field) => to.encode_sixth(self, &field),

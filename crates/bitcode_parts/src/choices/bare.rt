@@ -1,4 +1,4 @@
-//! The coders of enums whose variants all lack a payload.
+//! The encoder of enums without payloads.
 #![tactic(auto, unfolding(crate::specs::Variants::written_variants, crate::specs::Variants::variants_left))]
 
 ghost use Rattle.std.proofs.Common.{sym};
@@ -14,9 +14,9 @@ use bitcode_columns::error::Error;
 use bitcode_shapes::bare_variants::{BareMade, BareShaped, BareVariants};
 use std::alloc::Global;
 
-/// The columns of an enum of `N` variants, 2 to 256, all of which lack a payload: the column of the variants alone.
+/// The columns of an enum of `N` variants without payloads, 2 to 256 of them: only the column of the variants.
 ///
-/// Its values are read by `VariantDecoder<'_, N, true>`.
+/// Its values are decoded by `VariantDecoder<'_, N, true>`.
 ///
 /// ```
 /// let mut lights: BareEncoder<3> = BareEncoder::new(alloc);

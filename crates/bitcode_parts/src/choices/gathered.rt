@@ -1,10 +1,10 @@
-//! Which variants several values are of.
+//! Collecting the variants of several values.
 ghost use Rattle.std.specs.Prelude.{◌≡◌, ℕ, ◌<◌, ◌≤◌, length, map, take, drop, All};
 
 use bitcode_coder::coder::MAX_VECTORED_CHUNK;
 use bitcode_coder::part::Part;
 
-/// Says which variant a value of `T` is of, where the encoders of choices write several of them.
+/// Determines the variant of a value of `T`, for encoders of choices that write several values at once.
 ///
 /// ```
 /// pub struct LightVariant {}
@@ -30,13 +30,13 @@ pub trait SaysVariant<T> {
     // which variant a value is of
     ghost variant: { T → ℕ };
 
-    /// Which variant the value is of.
+    /// The variant of the value.
     fn variant(t: &T) -> u8
         ensures is { result ≡ variant t.now }
         ensures known { result < count };
 }
 
-/// Puts the variant that a part of each of several items is of into the first places of `variants`. The places behind them stay.
+/// Writes the variants of a part of each item into the first places of `variants`. The other places do not change.
 ///
 /// ```rust
 /// use bitcode_coder::part::Itself;

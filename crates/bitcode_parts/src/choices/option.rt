@@ -14,6 +14,7 @@ use crate::empty::EmptyCoder;
 use bitcode_coder::coder::{
     Buffer, Decoder, Encoder, HoldsColumns, HoldsData, MAX_VECTORED_CHUNK, View, both,
 };
+use bitcode_coder::one::write_one;
 use bitcode_coder::part::Part;
 use bitcode_columns::error::Error;
 use bitcode_shapes::shaped::{Made, Shaped};
@@ -21,7 +22,7 @@ use std::alloc::Global;
 
 mod gathered;
 
-/// The encoder of options: which of them hold a value, then the columns of the values.
+/// The encoder of options: which of them have a value, followed by the columns of the values.
 ///
 /// ```rust
 /// let mut options: OptionEncoder<IntEncoder<i16>> = OptionEncoder::new(alloc);
@@ -88,6 +89,21 @@ impl<T: Shaped, E: Buffer + Encoder<T>> Encoder<Option<T>> for OptionEncoder<E> 
         }
     }
 
+    fn write_directly(&mut self, t: &Option<T>, out: &mut Vec<u8>) -> Result<bool, Error> {
+        match t {
+            None => {
+                out.push(0)?;
+                self.some.collect_into(out)?;
+                Ok(true)
+            }
+            Some(value) => {
+                out.push(1)?;
+                write_one(&mut self.some, value, out)?;
+                Ok(true)
+            }
+        }
+    }
+
     fn encode_part_of_each<S, W: Part<S, Option<T>>>(
         &mut self,
         items: &[S],
@@ -105,7 +121,7 @@ impl<T: Shaped, E: Buffer + Encoder<T>> Encoder<Option<T>> for OptionEncoder<E> 
     ghost surely = { λ e n h. absurd h };
 }
 
-/// The decoder of options: it reads which hold a value, and then all values.
+/// The decoder of options. It reads which of them have a value, and then all values.
 ///
 /// ```
 /// let mut options: OptionDecoder<IntDecoder<i16>> = OptionDecoder::new(alloc);

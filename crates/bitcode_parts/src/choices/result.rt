@@ -13,7 +13,7 @@ use bitcode_columns::error::Error;
 use bitcode_shapes::shaped::{Made, Shaped};
 use std::alloc::Global;
 
-/// The encoder of results: which of them are errors, then the columns of the values, then those of the errors.
+/// The encoder of results: which of them are errors, followed by the columns of the values, and then of the errors.
 ///
 /// ```rust
 /// let mut results: ResultEncoder<BoolEncoder, IntEncoder<u32>> = ResultEncoder::new(alloc);
@@ -89,7 +89,7 @@ impl<T: Shaped, E: Shaped, A: Buffer + Encoder<T>, B: Buffer + Encoder<E>> Encod
     ghost surely = { λ e n h. absurd h };
 }
 
-/// The decoder of results: it reads which are errors, then all values, then all errors.
+/// The decoder of results. It reads which of them are errors, then all values, then all errors.
 ///
 /// ```
 /// let mut results: ResultDecoder<BoolDecoder, IntDecoder<u32>> = ResultDecoder::new(alloc);

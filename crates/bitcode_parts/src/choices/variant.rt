@@ -1,4 +1,4 @@
-//! The variants of enums: the coder that they are written to, the one that they are read from, and writing a payload.
+//! The variants of enums: their encoder, their decoder, and encoding a payload.
 #![tactic(auto, unfolding(crate::specs::Variants::written_variants, crate::specs::Variants::variant_room, crate::specs::Variants::variant_capacity, crate::specs::Variants::variants_left, crate::specs::Variants::variant_counts, crate::specs::Variants::variants_owned))]
 
 ghost use Rattle.std.specs.Prelude.{◌≡◌, false, ◌+◌, ◌<◌, ◌≤◌, ◌++◌, [], ◌∷◌, length, map, slice_index, All, IsTrue, ◌↔◌, IfOk, OnOk, IfErr, OnErr};
@@ -20,9 +20,9 @@ use bitcode_shapes::lists::told_behind;
 use bitcode_shapes::shaped::Shaped;
 use std::alloc::Global;
 
-/// The column that the variants of an enum are written to, where it has `N` of them, 2 to 256.
+/// The column of the variants of an enum with `N` variants, 2 to 256.
 ///
-/// A variant is its index, 0 for the first.
+/// A variant is written as its index, 0 for the first.
 ///
 /// ```
 /// let mut variants = VariantEncoder::<3>::new(alloc);
@@ -76,7 +76,7 @@ impl<const N: usize> Buffer for VariantEncoder<N> {
 impl<const N: usize> VariantEncoder<N> {
     ghost use Rattle.bitcode_parts.specs.Variants.{written_variants, variant_room};
 
-    /// Writes a variant, which is below `N`. Room for it was reserved.
+    /// Adds a variant, which is below `N`. The caller must have reserved room for it.
     pub fn encode(&mut self, variant: u8)
         requires room { 0 < variant_room self.old }
         requires known { variant < N }
@@ -86,7 +86,7 @@ impl<const N: usize> VariantEncoder<N> {
         self.variants.push_unchecked(variant);
     }
 
-    /// Writes 1 to [`MAX_VECTORED_CHUNK`] variants, each of which is below `N`. Room for them was reserved.
+    /// Adds 1 to [`MAX_VECTORED_CHUNK`] variants, each below `N`. The caller must have reserved room for them.
     ///
     /// ```rust
     /// let mut variants = VariantEncoder::<3>::new(alloc);
@@ -104,10 +104,10 @@ impl<const N: usize> VariantEncoder<N> {
     }
 }
 
-/// The column that the variants of an enum are read from, where it has `N` of them, 2 to 256.
+/// The column from which the variants of an enum with `N` variants, 2 to 256, are read.
 ///
-/// For `C_STYLE` false the variants are counted as they are read, so that their payloads can be read behind them. An
-/// enum whose variants all lack a payload needs no counts, and may be read with `C_STYLE` true.
+/// With `C_STYLE` false it counts the variants as it reads them, so that their payloads can be read next. An enum
+/// without payloads needs no counts, and can use `C_STYLE` true.
 ///
 /// ```rust
 /// let mut input: &[u8] = &[5];
@@ -126,7 +126,7 @@ pub struct VariantDecoder<'a, const N: usize, const C_STYLE: bool> {
 impl<'a, const N: usize, const C_STYLE: bool> VariantDecoder<'a, N, C_STYLE> {
     ghost use Rattle.bitcode_parts.specs.Variants.{variants_left, variant_counts, variants_owned};
 
-    /// Holds no variants. Takes no memory.
+    /// Creates an empty decoder without allocating.
     pub fn new(alloc: Global) -> Self
         ensures left { variants_left result ≡ [] }
         ensures counts { AreCounts N [] (variant_counts result) }
@@ -141,8 +141,8 @@ impl<'a, const N: usize, const C_STYLE: bool> VariantDecoder<'a, N, C_STYLE> {
 
     /// Reads `k` variants from the front of the input.
     ///
-    /// Missing bytes are `EOF`, a variant of `N` or more is `invalid packing`, and a refused growth is
-    /// `out of memory`. From 17 variants on no memory is taken.
+    /// If bytes are missing, the error is `EOF`; if a variant is not below `N`, `invalid packing`; if an allocation
+    /// fails, `out of memory`. With 17 variants or more it does not allocate.
     pub fn populate(&mut self, input: &mut &'a [u8], k: usize) -> Result<(), Error>
         ensures read { OnOk result (Reads (SpellsVariants N) k input.old.now (variants_left self.new) input.new.now) }
         ensures counts { OnOk result (C_STYLE ≡ false → AreCounts N (variants_left self.new) (variant_counts self.new)) }
@@ -153,8 +153,8 @@ impl<'a, const N: usize, const C_STYLE: bool> VariantDecoder<'a, N, C_STYLE> {
         Ok(())
     }
 
-    /// Reads `k` variants as [`VariantDecoder::populate`] does. Where `strict`, the answer is whether their bytes are those that
-    /// are written for them; else it says nothing.
+    /// Reads `k` variants as [`VariantDecoder::populate`] does. If `strict`, it returns whether their bytes are those
+    /// that would be written for them. Otherwise the returned bool has no meaning.
     pub fn read(&mut self, input: &mut &'a [u8], k: usize, strict: bool) -> Result<bool, Error>
         ensures read { OnOk result (Reads (SpellsVariants N) k input.old.now (variants_left self.new) input.new.now) }
         ensures judged { IsTrue strict → IfOk result (λ written. IsTrue written ↔ (input.old.now ≡ variant_text N (variants_left self.new) ++ input.new.now)) }
@@ -184,7 +184,7 @@ impl<'a, const N: usize, const C_STYLE: bool> VariantDecoder<'a, N, C_STYLE> {
         }
     }
 
-    /// How many of the variants that were read are variant `i`, those that were taken since too.
+    /// The number of variants `i` among all that were read, including those already taken.
     pub fn length(&self, i: usize) -> usize
         requires counted { C_STYLE ≡ false }
         requires known { i < N }
@@ -193,7 +193,7 @@ impl<'a, const N: usize, const C_STYLE: bool> VariantDecoder<'a, N, C_STYLE> {
         self.counts[i]
     }
 
-    /// How many of each variant were read, place by place, those that were taken since too.
+    /// The number of each variant, by index, among all that were read, including those already taken.
     pub fn counts(&self) -> &[usize]
         requires counted { C_STYLE ≡ false }
         ensures { result.now ≡ variant_counts self.now }
@@ -201,7 +201,7 @@ impl<'a, const N: usize, const C_STYLE: bool> VariantDecoder<'a, N, C_STYLE> {
         &self.counts
     }
 
-    /// Takes the next variant. One is left.
+    /// Takes the next variant. At least one must be left.
     pub fn decode(&mut self) -> u8
         requires { 0 < length (variants_left self.old) }
         ensures taken { variants_left self.old ≡ result ∷ variants_left self.new }
@@ -236,10 +236,10 @@ impl<'a, const N: usize, const C_STYLE: bool> View<'a> for VariantDecoder<'a, N,
     }
 }
 
-/// Makes room for the payload of a variant, and joins its columns to those so far.
+/// Reserves room for the payload of a variant, and adds the payload to its columns.
 ///
-/// How many payloads of a variant come is not known before they come, so the encoder of an enum reserves room for its
-/// variants alone.
+/// The number of payloads of each variant is not known in advance. So the encoder of an enum reserves room only for the
+/// variants.
 ///
 /// ```rust
 /// let mut some: IntEncoder<u8> = IntEncoder::new(alloc);
@@ -258,7 +258,7 @@ pub fn encode_payload<T: Shaped, E: Buffer + Encoder<T>>(
     encoder.encode(t)
 }
 
-/// Makes room for 1 to [`MAX_VECTORED_CHUNK`] payloads of a variant, and joins their columns to those so far.
+/// Reserves room for 1 to [`MAX_VECTORED_CHUNK`] payloads of a variant, and adds them to its columns.
 ///
 /// ```rust
 /// let mut some: IntEncoder<u8> = IntEncoder::new(alloc);

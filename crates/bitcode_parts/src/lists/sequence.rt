@@ -1,5 +1,5 @@
-//! Sequences: what lends its elements, the elements written and read one by one, and the types that are written as the
-//! sequence of their elements and made of it.
+//! Sequences: iterators that lend elements, encoding and decoding elements one by one, and the types that are written
+//! as, and made from, the sequence of their elements.
 ghost use Rattle.std.specs.Prelude.{◌≡◌, ◌≢◌, ◌+◌, ◌≤◌, List, [], ◌∷◌, None, length, All, refl, IsTrue, IsOk, IfOk, OnOk, IfErr, IfSome, IfNone};
 ghost use Rattle.std.specs.Slice.Iter.{iter_rest};
 ghost use Rattle.std.specs.VecDeque.{deque_items};
@@ -19,7 +19,7 @@ use std::alloc::Global;
 use std::collections::{LinkedList, VecDeque, linked_list, vec_deque};
 use std::slice;
 
-/// An iterator over elements that it lends, of which the list of those that are left is known.
+/// An iterator that lends elements. Its contract knows the list of the remaining ones.
 ///
 /// ```rust
 /// let queue = vec![in alloc; 7u8, 8]?;
@@ -60,9 +60,9 @@ impl<'b, T> Lends<'b, T> for linked_list::Iter<'b, T> {
     }
 }
 
-/// Writes the elements that are lent, one after the other. Room for them was reserved.
+/// Writes the elements that are lent, one after another. The caller must have reserved room for them.
 ///
-/// It refuses as the encoder does: the elements up to the one at hand may have been written then.
+/// Errors: those of the encoder. Some of the first elements may have been written by then.
 ///
 /// ```rust
 /// let queue = vec![in alloc; 7u8, 8]?;
@@ -90,9 +90,9 @@ pub fn encode_lent<'b, T: Shaped + 'b, L: Lends<'b, T>, E: Encoder<T>>(
     Ok(())
 }
 
-/// Writes the elements of a slice, front to back. Room for them was reserved.
+/// Writes the elements of a slice, front to back. The caller must have reserved room for them.
 ///
-/// It refuses as the encoder does: the elements up to the one at hand may have been written then.
+/// Errors: those of the encoder. Some of the first elements may have been written by then.
 ///
 /// ```rust
 /// let mut elements: IntEncoder<u8> = IntEncoder::new(alloc);
@@ -112,9 +112,9 @@ pub fn encode_each<T: Shaped, E: Encoder<T>>(elements: &mut E, items: &[T]) -> R
     elements.encode_slice(items)
 }
 
-/// Makes so many values, one after the other, by one call of the decoder. So many data are left.
+/// Makes `count` values, one after another, with one call of the decoder. At least as many data must be left.
 ///
-/// `out of memory` is its only refusal, and none comes where no value is wanted.
+/// The only error is `out of memory`. It never occurs if no value is wanted.
 ///
 /// ```rust
 /// let mut input: &[u8] = &[6, 57];
@@ -137,7 +137,7 @@ pub fn decode_each<T: Made + Drop, D: Decoder<T>>(
 }
 
 /// A type that is written as the sequence of its elements: a vector front to back, a set in the order of its keys or in
-/// one of its own.
+/// an internal order.
 ///
 /// ```rust,from:crates/bitcode_own_types/src/scores.rt
 /// impl Sequence for Scores {
@@ -159,20 +159,13 @@ pub trait Sequence: Shaped {
     // the elements, as they are written
     ghost items: { Self → List Self.Element };
 
-    /// How many elements there are.
+    /// The number of elements.
     fn element_count(&self) -> usize
         ensures { result ≡ length (items self.now) };
 
-    /// The elements as a slice, where they lie side by side: several such sequences are written at once.
-    fn as_elements(&self) -> Option<&[Self::Element]>
-        ensures { IfSome result (λ slice. slice.now ≡ items self.now) }
-    {
-        None
-    }
-
-    /// Writes the elements, one after the other. Room for them was reserved.
+    /// Writes the elements, one after another. The caller must have reserved room for them.
     ///
-    /// It refuses as the encoder does: the elements up to the one at hand may have been written then.
+    /// Errors: those of the encoder. Some of the first elements may have been written by then.
     fn encode_elements<E: Encoder<Self::Element>>(&self, elements: &mut E) -> Result<(), Error>
         requires room { length (items self.now) ≤ E.room elements.old }
         requires values { All Self.Element.is_value (items self.now) }
@@ -197,10 +190,6 @@ impl<T: Shaped> Sequence for Vec<T> {
         self.len()
     }
 
-    fn as_elements(&self) -> Option<&[T]> {
-        Some(self.as_slice())
-    }
-
     fn encode_elements<E: Encoder<T>>(&self, elements: &mut E) -> Result<(), Error> {
         encode_each(elements, self.as_slice())
     }
@@ -219,10 +208,6 @@ impl<'b, T: Shaped> Sequence for &'b [T] {
 
     fn element_count(&self) -> usize {
         self.len()
-    }
-
-    fn as_elements(&self) -> Option<&[T]> {
-        Some(*self)
     }
 
     fn encode_elements<E: Encoder<T>>(&self, elements: &mut E) -> Result<(), Error> {
@@ -276,7 +261,7 @@ impl<T: Shaped> Sequence for LinkedList<T> {
     ghost items_columns = { λ ds. refl };
 }
 
-/// A type that is made of its elements, one after the other.
+/// A type that is made from its elements, one after another.
 ///
 /// ```rust,from:crates/bitcode_own_types/src/scores.rt
 /// impl FromElements for Scores {
@@ -292,9 +277,9 @@ impl<T: Shaped> Sequence for LinkedList<T> {
 pub trait FromElements: Made {
     type Part: Made + Drop;
 
-    /// The value that is made of these elements.
+    /// Makes the value from these elements.
     ///
-    /// `out of memory` is the only refusal.
+    /// The only error is `out of memory`.
     fn from_elements(alloc: Global, elements: Vec<Self::Part>) -> Result<Self, Error>
         ensures made { IfOk result (λ t. MakesOfElements Self.makes Self.Part.makes t elements.items) }
         ensures refused { IfErr result (λ e. e.reason ≡ Reason.OutOfMemory) };

@@ -1,32 +1,30 @@
-//! The coders of sequences: the lengths of all, and behind them the columns of all elements.
+//! The coders of sequences: the lengths of all sequences, followed by the columns of all elements.
 #![tactic(auto, unfolding(bitcode_coder::specs::Length::lengths_left, bitcode_coder::specs::Length::lengths_sum))]
 
-ghost use Rattle.std.specs.Prelude.{◌≡◌, ◌+◌, ◌<◌, ◌≤◌, ◌++◌, [], None, length, map, take, sum_by, All, false, IsTrue, IsFalse, IfOk, OnOk, IfErr, ◌⊎◌};
-ghost use Rattle.std.specs.List.{flat_map};
+ghost use Rattle.std.specs.Prelude.{◌≡◌, ◌+◌, ◌*◌, ◌<◌, ◌≤◌, [], None, length, map, take, false, IfOk, OnOk, IfErr, ◌⊎◌};
 ghost use Rattle.std.proofs.Common.{sym, ap, ◌∙◌};
 ghost use Rattle.bitcode_shapes.specs.Shape.{seq_shape};
 ghost use Rattle.bitcode_coder.specs.Coder.{JoinsEach, OverflowsWithEach, IsWritingRefusal, TakesDatum};
 ghost use Rattle.bitcode_coder.specs.Columns.{emptied, lengths, one, two};
 ghost use Rattle.bitcode_coder.specs.Length.{written_lengths, length_room, lengths_left, length_capacity, lengths_owned};
 ghost use Rattle.bitcode_coder.specs.LengthParts.{NamesLengthFault};
-ghost use Rattle.bitcode_coder.specs.Spelling.{natural};
-ghost use Rattle.bitcode_parts.specs.Lists.{lists_of, FaultsInElements};
+ghost use Rattle.bitcode_parts.specs.Lists.{lists_of, list_columns, FaultsInElements};
 
 use crate::lists::sequence::{FromElements, Sequence, decode_each};
 use bitcode_coder::coder::{
     Buffer, Decoder, Encoder, HoldsColumns, HoldsData, MAX_VECTORED_CHUNK, View, both,
 };
-use bitcode_coder::length::{ChunkWidth, LengthDecoder, LengthEncoder};
+use bitcode_coder::length::{LengthDecoder, LengthEncoder};
 use bitcode_coder::part::{Part, told_parts};
-use bitcode_coder::slices::{item_size, joined_length, told_slices};
 use bitcode_columns::error::{Error, Reason};
-use bitcode_shapes::shaped::{Made, Shaped};
+use bitcode_shapes::shaped::Made;
 use std::alloc::Global;
 use std::collections::{LinkedList, VecDeque};
+use std::mem::replace;
 
-/// The encoder of sequences: a column of lengths, and behind it the columns of all elements.
+/// The encoder of sequences: a column of lengths, followed by the columns of all elements.
 ///
-/// It writes the elements by their encoder, front to back, and refuses as that one does.
+/// It writes the elements with their encoder, front to back, and returns that encoder's errors.
 ///
 /// ```rust
 /// let list = vec![in alloc; 1u8, 2, 3]?;
@@ -37,68 +35,58 @@ use std::collections::{LinkedList, VecDeque};
 /// ```
 #[derive(Drop)]
 pub struct VecEncoder<E> {
+    alloc: Global,
     lengths: LengthEncoder,
-    width: Option<ChunkWidth>,
     elements: E,
 }
 
-// The slice of elements that is a part of each item, before others that were there, if all have such a slice.
-fn gather_slices<'b, I, S: Sequence + 'b, W: Part<I, S>>(
-    items: &'b [I],
-    which: &'b W,
-    slices: &mut [&'b [S::Element]; MAX_VECTORED_CHUNK],
-) -> bool
-    requires { length items.now ≤ MAX_VECTORED_CHUNK }
-    ensures size { length slices.new ≡ MAX_VECTORED_CHUNK }
-    ensures gathered { IsTrue result → map (λ slice. slice.now) (take (length items.now) slices.new) ≡ map S.items (map (W.of which.now) items.now) }
-{
-    for i in 0..items.len() {
-        match which.part(&items[i]).as_elements() {
-            Some(slice) => slices[i] = slice,
-            None => return false,
-        }
-    }
-    true
+// Lengths behind those that were there, and of how many sequences they are.
+struct Pushed {
+    lengths: LengthEncoder,
+    count: usize,
 }
 
-// Writes the elements of the slices, slice by slice. Room for them was reserved.
-fn encode_each_slice<T: Shaped, E: Encoder<T>>(
+// Writes the sequence that is a part of each item, up to the first one of 16 elements or more. Room for them was
+// reserved. The list of lengths is passed by value and returned: through a reference, each sequence would load and
+// store its length.
+fn push_short<I, S: Sequence, W: Part<I, S>, E: Encoder<S::Element>>(
+    mut sizes: LengthEncoder,
     elements: &mut E,
-    slices: &[&[T]],
-) -> Result<(), Error>
-    requires room { sum_by (λ slice. length slice.now) slices.now ≤ E.room elements.old }
-    requires values { All T.is_value (flat_map (λ slice. slice.now) slices.now) }
-    ensures joined { OnOk result (JoinsEach T.lists T.shape (flat_map (λ slice. slice.now) slices.now) (E.columns elements.old) (E.columns elements.new)) }
+    items: &[I],
+    which: &W,
+) -> Result<Pushed, Error>
+    requires sizes { length items.now ≤ length_room sizes }
+    requires elements { 15 * length items.now ≤ E.room elements.old }
+    ensures count { IfOk result (λ p. p.count ≤ length items.now) }
+    ensures joined { IfOk result (λ p. JoinsEach S.lists S.shape (map (W.of which.now) (take p.count items.now))
+        (list_columns (written_lengths sizes) (E.columns elements.old))
+        (list_columns (written_lengths p.lengths) (E.columns elements.new))) }
+    ensures room { IfOk result (λ p. length_room sizes ≡ length_room p.lengths + p.count) }
     ensures form { emptied (E.columns elements.new) ≡ emptied (E.columns elements.old) }
-    ensures refused { IfErr result (λ e. IsWritingRefusal e.reason (OverflowsWithEach T.lists T.shape (flat_map (λ slice. slice.now) slices.now) (E.columns elements.old))) }
+    ensures refused { IfErr result (λ e. IsWritingRefusal e.reason
+        (OverflowsWithEach S.lists S.shape (map (W.of which.now) items.now)
+        (list_columns (written_lengths sizes) (E.columns elements.old)))) }
 {
-    for slice in slices {
-        elements.encode_slice(*slice)?;
+    told_parts(items, which);
+    let mut count = 0usize;
+    for item in items {
+        let sequence = which.part(item);
+        let size = sequence.element_count();
+        if size >= 16 {
+            break;
+        }
+        sequence.told();
+        sequence.encode_elements(elements)?;
+        sizes.encode_less_than_255(size);
+        count += 1;
     }
-    Ok(())
+    Ok(Pushed {
+        lengths: sizes,
+        count,
+    })
 }
 
 impl<E> VecEncoder<E> {
-    // Writes slices of elements: the lengths of all, and then the elements of all. Room for them was reserved.
-    fn encode_slices<T: Shaped>(&mut self, slices: &[&[T]]) -> Result<(), Error>
-    where
-        E: Buffer + Encoder<T>,
-        requires { length slices.now ≤ length_room self.old.lengths }
-        ensures lengths { OnOk result (written_lengths self.new.lengths ≡ written_lengths self.old.lengths ++ map (λ slice. length slice.now) slices.now) }
-        ensures room { OnOk result (length_room self.old.lengths ≤ length_room self.new.lengths + length slices.now) }
-        ensures elements { OnOk result (JoinsEach T.lists T.shape (flat_map (λ slice. slice.now) slices.now) (E.columns self.old.elements) (E.columns self.new.elements)) }
-        ensures form { emptied (E.columns self.new.elements) ≡ emptied (E.columns self.old.elements) }
-        ensures refused { IfErr result (λ e. IsWritingRefusal e.reason (OverflowsWithEach T.lists T.shape (flat_map (λ slice. slice.now) slices.now) (E.columns self.old.elements))) }
-    {
-        told_slices(slices);
-        self.elements.reserve(joined_length(slices)?)?;
-        let size = item_size::<T>();
-        let mut width = self.width.unwrap_or(ChunkWidth::first(size));
-        self.lengths.encode_chunk(slices, &mut width, size)?;
-        self.width = Some(width);
-        encode_each_slice(&mut self.elements, slices)
-    }
-
     // Writes the sequence that is a part of each item, one by one. Room for them was reserved.
     fn encode_one_by_one<I, S: Sequence, W: Part<I, S>>(
         &mut self,
@@ -108,10 +96,14 @@ impl<E> VecEncoder<E> {
     where
         E: Buffer + Encoder<S::Element>,
         requires { length items.now ≤ length_room self.old.lengths }
-        ensures joined { OnOk result (JoinsEach S.lists S.shape (map (W.of which.now) items.now) (two (one (lengths None) (map natural (written_lengths self.old.lengths))) (E.columns self.old.elements)) (two (one (lengths None) (map natural (written_lengths self.new.lengths))) (E.columns self.new.elements))) }
+        ensures joined { OnOk result (JoinsEach S.lists S.shape (map (W.of which.now) items.now)
+            (list_columns (written_lengths self.old.lengths) (E.columns self.old.elements))
+            (list_columns (written_lengths self.new.lengths) (E.columns self.new.elements))) }
         ensures room { OnOk result (length_room self.old.lengths ≤ length_room self.new.lengths + length items.now) }
         ensures form { emptied (E.columns self.new.elements) ≡ emptied (E.columns self.old.elements) }
-        ensures refused { IfErr result (λ e. IsWritingRefusal e.reason (OverflowsWithEach S.lists S.shape (map (W.of which.now) items.now) (two (one (lengths None) (map natural (written_lengths self.old.lengths))) (E.columns self.old.elements)))) }
+        ensures refused { IfErr result (λ e. IsWritingRefusal e.reason
+            (OverflowsWithEach S.lists S.shape (map (W.of which.now) items.now)
+            (list_columns (written_lengths self.old.lengths) (E.columns self.old.elements)))) }
     {
         told_parts(items, which);
         for item in items {
@@ -120,37 +112,44 @@ impl<E> VecEncoder<E> {
         Ok(())
     }
 
-    // The same for the slices that are a part of each item, if all have one. Answers whether they have: else nothing is written.
-    fn encode_slices_in<'b, I, S: Sequence + 'b, W: Part<I, S>>(
+    // The same for the first items, up to a sequence of 16 elements or more. Returns how many were written: none if
+    // there is no room for so many elements.
+    fn encode_short<I, S: Sequence, W: Part<I, S>>(
         &mut self,
-        items: &'b [I],
-        which: &'b W,
-    ) -> Result<bool, Error>
+        items: &[I],
+        which: &W,
+    ) -> Result<usize, Error>
     where
         E: Buffer + Encoder<S::Element>,
-        requires chunk { (0 < length items.now) × (length items.now ≤ MAX_VECTORED_CHUNK) }
+        requires chunk { length items.now ≤ MAX_VECTORED_CHUNK }
         requires room { length items.now ≤ length_room self.old.lengths }
-        ensures lengths { IfOk result (λ all. IsTrue all → written_lengths self.new.lengths ≡ written_lengths self.old.lengths ++ map (λ t. length (S.items (W.of which.now t))) items.now) }
-        ensures room { IfOk result (λ all. IsTrue all → length_room self.old.lengths ≤ length_room self.new.lengths + length items.now) }
-        ensures elements { IfOk result (λ all. IsTrue all → JoinsEach S.Element.lists S.Element.shape (flat_map (λ t. S.items (W.of which.now t)) items.now) (E.columns self.old.elements) (E.columns self.new.elements)) }
-        ensures unchanged { IfOk result (λ all. IsFalse all → self.new ≡ self.old) }
+        ensures count { IfOk result (λ n. n ≤ length items.now) }
+        ensures joined { IfOk result (λ n. JoinsEach S.lists S.shape (map (W.of which.now) (take n items.now))
+            (list_columns (written_lengths self.old.lengths) (E.columns self.old.elements))
+            (list_columns (written_lengths self.new.lengths) (E.columns self.new.elements))) }
+        ensures room { IfOk result (λ n. length_room self.old.lengths ≤ length_room self.new.lengths + n) }
         ensures form { emptied (E.columns self.new.elements) ≡ emptied (E.columns self.old.elements) }
-        ensures refused { IfErr result (λ e. IsWritingRefusal e.reason (OverflowsWithEach S.Element.lists S.Element.shape (flat_map (λ t. S.items (W.of which.now t)) items.now) (E.columns self.old.elements))) }
+        ensures refused { IfErr result (λ e. IsWritingRefusal e.reason
+            (OverflowsWithEach S.lists S.shape (map (W.of which.now) items.now)
+            (list_columns (written_lengths self.old.lengths) (E.columns self.old.elements)))) }
     {
-        let Some(first) = which.part(&items[0]).as_elements() else {
-            return Ok(false);
-        };
-        let mut slices = [first; MAX_VECTORED_CHUNK];
-        if !gather_slices(items, which, &mut slices) {
-            return Ok(false);
+        if self.elements.reserve(15 * items.len()).is_err() {
+            return Ok(0);
         }
-        self.encode_slices(&slices[..items.len()])?;
-        Ok(true)
+        let sizes = replace(&mut self.lengths, LengthEncoder::new(self.alloc));
+        let Pushed { lengths, count } = push_short::<I, S, W, E>(
+            sizes,
+            &mut self.elements,
+            items,
+            which,
+        )?;
+        self.lengths = lengths;
+        Ok(count)
     }
 }
 
 impl<E: HoldsColumns> HoldsColumns for VecEncoder<E> {
-    ghost columns = { λ e. two (one (lengths None) (map natural (written_lengths e.lengths))) (E.columns e.elements) };
+    ghost columns = { λ e. list_columns (written_lengths e.lengths) (E.columns e.elements) };
 
     ghost room = { λ e. length_room e.lengths };
 
@@ -164,8 +163,8 @@ impl<E: HoldsColumns> HoldsColumns for VecEncoder<E> {
 impl<E: Buffer> Buffer for VecEncoder<E> {
     fn new(alloc: Global) -> Self {
         VecEncoder {
+            alloc,
             lengths: LengthEncoder::new(alloc),
-            width: None,
             elements: E::new(alloc),
         }
     }
@@ -196,6 +195,16 @@ impl<S: Sequence, E: Buffer + Encoder<S::Element>> Encoder<S> for VecEncoder<E> 
         t.encode_elements(&mut self.elements)
     }
 
+    fn write_directly(&mut self, t: &S, out: &mut Vec<u8>) -> Result<bool, Error> {
+        t.told();
+        let count = t.element_count();
+        self.lengths.write_one(count, out)?;
+        self.elements.reserve(count)?;
+        t.encode_elements(&mut self.elements)?;
+        self.elements.collect_into(out)?;
+        Ok(true)
+    }
+
     fn encode_part_of_each<I, W: Part<I, S>>(
         &mut self,
         items: &[I],
@@ -205,10 +214,8 @@ impl<S: Sequence, E: Buffer + Encoder<S::Element>> Encoder<S> for VecEncoder<E> 
         if !E::is_primitive() {
             return self.encode_one_by_one(items, which);
         }
-        if self.encode_slices_in(items, which)? {
-            return Ok(());
-        }
-        self.encode_one_by_one(items, which)
+        let done = self.encode_short(items, which)?;
+        self.encode_one_by_one(&items[done..], which)
     }
 
     ghost of_shape = { λ e. ap (two (one (lengths None) [])) (E.of_shape e.elements) ∙ sym (S.items_columns []) };
@@ -216,9 +223,9 @@ impl<S: Sequence, E: Buffer + Encoder<S::Element>> Encoder<S> for VecEncoder<E> 
     ghost surely = { λ e n never. absurd never };
 }
 
-/// The decoder of sequences: it reads the lengths of all, and then the elements of all.
+/// The decoder of sequences. It reads the lengths of all of them, and then the elements of all of them.
 ///
-/// It makes the elements by their decoder, front to back, and refuses as that one does.
+/// It makes the elements with their decoder, front to back, and returns that decoder's errors.
 ///
 /// ```
 /// let mut lists: VecDecoder<IntDecoder<u8>> = VecDecoder::new(alloc);
@@ -259,9 +266,9 @@ impl<'a, D: View<'a>> View<'a> for VecDecoder<'a, D> {
 }
 
 impl<'a, D> VecDecoder<'a, D> {
-    /// Makes a container of the next length and so many elements. One length is left.
+    /// Makes a container from the next length and as many elements. At least one length must be left.
     ///
-    /// The decoder of a user-defined container calls this. `out of memory` is its only refusal.
+    /// The decoder of a user-defined container calls this. The only error is `out of memory`.
     ///
     /// ```rust,from:crates/bitcode_own_types/src/scores.rt
     /// self.lists.decode_as()

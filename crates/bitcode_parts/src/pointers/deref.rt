@@ -1,4 +1,4 @@
-//! The encoder of types whose values point to one of another type.
+//! The encoder of types whose values point to a value of another type.
 ghost use Rattle.std.specs.Prelude.{◌≡◌, [], None, false};
 ghost use Rattle.std.proofs.Common.{sym, ◌∙◌, ap, subst};
 ghost use Rattle.bitcode_coder.specs.Coder.{ListsAsToo, written_columns, SurelyOverflows};
@@ -14,7 +14,7 @@ use std::alloc::Global;
 use std::boxed::BoxedSlice;
 use std::rc::RcSlice;
 
-/// A type whose values point to one value of another type, and are written as that one, as a `Box` is.
+/// A type whose values point to one value of another type and are written as that value, such as `Box`.
 ///
 /// ```rust,from:crates/bitcode_parts/src/pointers.rt
 /// impl<T: Shaped> Points for Box<T> {
@@ -43,9 +43,9 @@ pub trait Points: Shaped {
     ghost lists_too: { (p : Self) → ListsAsToo Self.lists Self.Target.lists p (points_to p) };
 }
 
-/// The columns that pointers are written to: those of what they point to, by its encoder `E`.
+/// The columns of pointers: the columns of their targets, with the targets' encoder `E`.
 ///
-/// It refuses as that encoder does, and takes no memory of its own.
+/// It returns that encoder's errors, and allocates nothing itself.
 ///
 /// ```rust
 /// let mut boxes: DerefEncoder<IntEncoder<u8>> = DerefEncoder::new(alloc);
@@ -95,6 +95,10 @@ impl<P: Points, E: Encoder<P::Target>> Encoder<P> for DerefEncoder<E> {
 
     fn encode(&mut self, t: &P) -> Result<(), Error> {
         self.inner.encode(t.target())
+    }
+
+    fn write_directly(&mut self, t: &P, out: &mut Vec<u8>) -> Result<bool, Error> {
+        self.inner.write_directly(t.target(), out)
     }
 
     fn encode_part_of_each<S, W: Part<S, P>>(

@@ -1,4 +1,4 @@
-//! The decoder of types whose values are made of one of another type.
+//! The decoder of types whose values are made from a value of another type.
 ghost use Rattle.std.specs.Prelude.{◌≡◌, Bool, IsTrue, IsOk, IfOk, IfErr, ◌&&◌};
 ghost use Rattle.std.proofs.Common.{sym, ◌∙◌};
 ghost use Rattle.bitcode_coder.specs.Coder.{MakesToo};
@@ -9,7 +9,7 @@ use bitcode_shapes::shaped::Made;
 use std::alloc::Global;
 use std::marker::PhantomData;
 
-/// A type whose values are made of values of `T`, as a `Box<T>` is, with memory of their own where they need it.
+/// A type whose values are made from values of `T`, such as a `Box<T>`. It may allocate for that.
 ///
 /// ```rust,from:crates/bitcode_parts/src/pointers.rt
 /// impl<T: Made + Drop> FromValue<T> for Box<T> {
@@ -21,9 +21,9 @@ pub trait FromValue<T: Made>: Made {
     // making it takes no memory
     ghost is_free: { Bool };
 
-    /// The value that is made of the one that was read.
+    /// Makes the value from the one that was read.
     ///
-    /// `out of memory` is the only refusal.
+    /// The only error is `out of memory`.
     fn from_value(alloc: Global, value: T) -> Result<Self, Error>
         ensures made { IfOk result (λ t. MakesToo Self.makes T.makes t value) }
         ensures refused { IfErr result (λ e. e.reason ≡ Reason.OutOfMemory) }
@@ -32,9 +32,9 @@ pub trait FromValue<T: Made>: Made {
     ghost same_shape: { Self.shape ≡ T.shape };
 }
 
-/// The data that values are made of by way of values of `T`, read by the decoder `D` of these.
+/// The data of values that are made from values of `T`, with the decoder `D` of `T`.
 ///
-/// It refuses as that decoder does, and with `out of memory` where a value has no memory of its own.
+/// It returns that decoder's errors, and `out of memory` if the allocation for a value fails.
 ///
 /// ```
 /// let mut boxes: FromDecoder<u8, IntDecoder<u8>> = FromDecoder::new(alloc);

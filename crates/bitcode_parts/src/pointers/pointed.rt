@@ -1,4 +1,4 @@
-//! The part of a value that a pointer in it points to.
+//! A part of a value that is the target of a pointer in it.
 ghost use Rattle.std.specs.Prelude.{◌≡◌};
 
 use crate::pointers::deref::Points;

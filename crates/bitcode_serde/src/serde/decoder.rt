@@ -1,4 +1,4 @@
-//! The column that indices are read from.
+//! The decoder of variant indices.
 #![tactic(auto, using(crate::proofs::IndexLemmas::indices_refused), unfolding(crate::specs::Indices::indices_left, crate::specs::Indices::indices_owned, crate::specs::Indices::index_count))]
 
 ghost use Rattle.std.specs.Prelude.{pos, ◌≡◌, ◌≢◌, ℕ, ◌<◌, ◌≤◌, [], length, true, false, refl, IsTrue, IsOk, All, ◌++◌, map, IfOk, OnOk, IfErr, OnErr, MatchOption};
@@ -19,9 +19,9 @@ use bitcode_columns::histogram::histogram;
 use bitcode_columns::strict::read_bytes;
 use std::alloc::Global;
 
-/// The column that the indices of variants are read from, whatever the number of variants: a column of bytes.
+/// The column from which variant indices are read, for any number of variants: a column of bytes.
 ///
-/// The indices are counted as they are read, so that the payloads of each variant can be read behind them.
+/// It counts the indices as it reads them, so that the payloads of each variant can be read next.
 ///
 /// ```rust
 /// use bitcode::serde::VariantDecoder;
@@ -76,7 +76,8 @@ impl<'a> View<'a> for VariantDecoder<'a> {
 
     /// Reads `k` indices from the front of the input, and counts them.
     ///
-    /// Missing bytes are `EOF`, a tag that no column has is `invalid packing`, and a refused growth is `out of memory`.
+    /// If bytes are missing, the error is `EOF`; for an unknown tag `invalid packing`; if an allocation fails,
+    /// `out of memory`.
     fn read(&mut self, input: &mut &'a [u8], k: usize, strict: bool) -> Result<bool, Error>
         ensures read { OnOk result (Reads (Spells (int_shape 1 false)) k input.old.now (indices_left self.new) input.new.now) }
         ensures judged { IsTrue strict → IfOk result (λ written. JudgesData (int_shape 1 false) (indices_left self.new) written input.old.now input.new.now) }
@@ -96,7 +97,7 @@ impl<'a> Decoder<u8> for VariantDecoder<'a> {
 
     ghost makes_free = { true };
 
-    /// Takes the next index. One is left.
+    /// Takes the next index. At least one must be left.
     fn decode(&mut self) -> Result<u8, Error>
         requires { 0 < length (indices_left self.old) }
         ensures made { IfOk result (λ index. TakesDatum (MakesNumber (λ n. pos n)) index (indices_left self.old) (indices_left self.new)) }
@@ -116,7 +117,8 @@ impl<'a> VariantDecoder<'a> {
 
     /// Reads `k` indices from the front of the input, and counts them.
     ///
-    /// Missing bytes are `EOF`, a tag that no column has is `invalid packing`, and a refused growth is `out of memory`.
+    /// If bytes are missing, the error is `EOF`; for an unknown tag `invalid packing`; if an allocation fails,
+    /// `out of memory`.
     ///
     /// ```
     /// indices.populate(&mut input, 3)?; // of [8, 20]: 2, 0 and 2
@@ -132,8 +134,8 @@ impl<'a> VariantDecoder<'a> {
         Ok(())
     }
 
-    /// How many of the indices that were read are this one, those that were taken since too. It is 0 for an index that
-    /// was not met.
+    /// How often this index was read, including entries that were already taken. For an index that was never read it is
+    /// 0.
     ///
     /// ```rust
     /// let mut input: &[u8] = &[8, 20]; // 2, 0 and 2
@@ -161,7 +163,7 @@ impl<'a> VariantDecoder<'a> {
         Ok(taken)
     }
 
-    /// The greatest of the indices that were read, those that were taken since too; `None` where there is none.
+    /// The greatest index that was read, including those already taken, or `None` if there is none.
     ///
     /// ```rust
     /// let mut input: &[u8] = &[8, 20]; // 2, 0 and 2

@@ -1,4 +1,4 @@
-//! The column that indices are written to.
+//! The encoder of variant indices.
 #![tactic(auto, unfolding(crate::specs::Indices::written_indices, crate::specs::Indices::index_room, crate::specs::Indices::index_capacity))]
 
 ghost use Rattle.std.specs.Prelude.{false, true, map, refl};
@@ -11,7 +11,7 @@ use bitcode_columns::error::Error;
 use bitcode_columns::fast::{FastVec, PushUnchecked};
 use std::alloc::Global;
 
-/// The column that the indices of variants are written to, whatever the number of variants: a column of bytes.
+/// The column to which variant indices are written, for any number of variants: a column of bytes.
 ///
 /// ```rust
 /// use bitcode::serde::VariantEncoder;

@@ -1,4 +1,4 @@
-//! What a writer keeps.
+//! The state of a writer.
 #![tactic(auto)]
 
 ghost use Rattle.std.specs.Prelude.{◌≤◌, length, map, All};
@@ -16,7 +16,7 @@ pub struct PlacedWritten {
     pub(crate) column: WrittenColumn,
 }
 
-/// The columns so far, and the places that were met.
+/// The columns so far, and the places that were reached.
 #[derive(Drop)]
 pub struct Writer {
     pub(crate) alloc: Global,

@@ -1,5 +1,5 @@
 // Written by scripts/tables/tuples.
-//! Tuples of one field to twelve as keys: longer ones have no `==`.
+//! Tuples of one to twelve fields as keys: longer tuples have no `==`.
 ghost use Rattle.bitcode_shapes.specs.KeyLaws.{field_told, halves_told, images_told, structs_told, tuples_told};
 ghost use Rattle.bitcode_shapes.specs.Tuples.{split_2, split_3, split_4, split_5, split_6, split_7, split_8, split_9, split_10, split_11, split_12};
 

@@ -1,5 +1,5 @@
 // Written by scripts/tables/tuples.
-//! Tuples of one field to sixteen: a tuple of three and more stands for the pair of its halves.
+//! Tuples of one to sixteen fields: a tuple of three or more corresponds to the pair of its halves.
 ghost use Rattle.bitcode_shapes.specs.SameArrays.{image_same_arrays, pair_same_arrays, struct_same_arrays};
 ghost use Rattle.bitcode_shapes.specs.Tuples.{split_2, split_3, split_4, split_5, split_6, split_7, split_8, split_9, split_10, split_11, split_12, split_13, split_14, split_15, split_16};
 

@@ -1,5 +1,5 @@
 // Written by scripts/tables/types.
-//! The types of which all listings of a value have the same numbers of arrays, apart from numbers and tuples.
+//! Types whose values hold the same numbers of arrays in all listings, apart from numbers and tuples.
 ghost use Rattle.std.specs.Prelude.{None, Some};
 ghost use Rattle.std.specs.BinaryHeap.{heap_items};
 ghost use Rattle.std.specs.Box.{box_value, boxed_slice_items};

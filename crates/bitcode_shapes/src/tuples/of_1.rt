@@ -1,4 +1,4 @@
-//! A tuple of one field holds the data of its field.
+//! A tuple of one field: the data of its field.
 ghost use Rattle.std.specs.Prelude.{refl};
 ghost use Rattle.bitcode_shapes.specs.LawfulImages.{image_lawful, image_makeable};
 

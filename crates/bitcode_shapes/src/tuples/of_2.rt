@@ -1,4 +1,4 @@
-//! A pair holds the data of its two fields.
+//! A pair: the data of its two fields.
 ghost use Rattle.std.specs.Prelude.{◌&&◌};
 ghost use Rattle.bitcode_shapes.specs.Shape.{pair_shape};
 ghost use Rattle.bitcode_shapes.specs.Pairs.{IsPairValue, ListsPair, MakesPair, SamePair};

@@ -1,5 +1,5 @@
 // Written by scripts/tables/tuples.
-//! Tuples of three to eight fields hold the data of their fields.
+//! Tuples of three to eight fields: the data of their fields.
 ghost use Rattle.bitcode_shapes.specs.LawfulStructs.{struct_lawful, struct_makeable};
 ghost use Rattle.bitcode_shapes.specs.Tuples.{split_2, split_3, split_4, split_5, split_6, split_7, split_8, joined_2, joined_3, joined_4, joined_5, joined_6, joined_7, joined_8};
 

@@ -1,5 +1,5 @@
 // Written by scripts/tables/tuples.
-//! Tuples of nine to sixteen fields hold the data of their fields.
+//! Tuples of nine to sixteen fields: the data of their fields.
 ghost use Rattle.bitcode_shapes.specs.LawfulStructs.{struct_lawful, struct_makeable};
 ghost use Rattle.bitcode_shapes.specs.Tuples.{split_2, split_3, split_4, split_5, split_6, split_7, split_8, split_9, split_10, split_11, split_12, split_13, split_14, split_15, split_16, joined_2, joined_3, joined_4, joined_5, joined_6, joined_7, joined_8, joined_9, joined_10, joined_11, joined_12, joined_13, joined_14, joined_15, joined_16};
 

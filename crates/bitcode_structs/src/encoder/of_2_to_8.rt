@@ -9,7 +9,7 @@ use crate::lends::of_2_to_8::{
     LendsFields2, LendsFields3, LendsFields4, LendsFields5, LendsFields6, LendsFields7,
     LendsFields8,
 };
-use bitcode_coder::coder::Encoder;
+use bitcode_coder::coder::{Buffer, Encoder};
 use bitcode_coder::part::Part;
 use bitcode_columns::error::Error;
 use bitcode_shapes::shaped::Shaped;
@@ -25,13 +25,18 @@ impl<
     T1: Shaped,
     T2: Shaped,
     T: StandsFor<Parts = (T1, T2)> + LendsFields2<T1, T2>,
-    A: Encoder<T1>,
-    B: Encoder<T2>,
+    A: Buffer + Encoder<T1>,
+    B: Buffer + Encoder<T2>,
 > Encoder<T> for StructEncoder<FieldCount<2>, TupleEncoder<A, B>> {
     ghost writes_free = { A.writes_free && B.writes_free };
 
     fn encode(&mut self, t: &T) -> Result<(), Error> {
         FieldsEncoder::<(&T1, &T2)>::encode_fields(&mut self.fields, &t.fields())
+    }
+
+    fn write_directly(&mut self, t: &T, out: &mut Vec<u8>) -> Result<bool, Error> {
+        FieldsEncoder::<(&T1, &T2)>::write_fields(&mut self.fields, &t.fields(), out)?;
+        Ok(true)
     }
 
     fn encode_part_of_each<S, W: Part<S, T>>(
@@ -58,13 +63,19 @@ impl<
     T2: Shaped,
     T3: Shaped,
     T: StandsFor<Parts = (T1, T2, T3)> + LendsFields3<T1, T2, T3>,
-    E: FieldsEncoder3<T1, T2, T3>,
+    E: Buffer + FieldsEncoder3<T1, T2, T3>,
 > Encoder<T> for StructEncoder<FieldCount<3>, E> {
     ghost writes_free = { E.writes_free };
 
     fn encode(&mut self, t: &T) -> Result<(), Error> {
         let lent = t.fields();
         self.fields.encode_each(lent.0, lent.1, lent.2)
+    }
+
+    fn write_directly(&mut self, t: &T, out: &mut Vec<u8>) -> Result<bool, Error> {
+        let lent = t.fields();
+        self.fields.write_each(lent.0, lent.1, lent.2, out)?;
+        Ok(true)
     }
 
     fn encode_part_of_each<S, W: Part<S, T>>(
@@ -92,13 +103,19 @@ impl<
     T3: Shaped,
     T4: Shaped,
     T: StandsFor<Parts = (T1, T2, T3, T4)> + LendsFields4<T1, T2, T3, T4>,
-    E: FieldsEncoder4<T1, T2, T3, T4>,
+    E: Buffer + FieldsEncoder4<T1, T2, T3, T4>,
 > Encoder<T> for StructEncoder<FieldCount<4>, E> {
     ghost writes_free = { E.writes_free };
 
     fn encode(&mut self, t: &T) -> Result<(), Error> {
         let lent = t.fields();
         self.fields.encode_each(lent.0, lent.1, lent.2, lent.3)
+    }
+
+    fn write_directly(&mut self, t: &T, out: &mut Vec<u8>) -> Result<bool, Error> {
+        let lent = t.fields();
+        self.fields.write_each(lent.0, lent.1, lent.2, lent.3, out)?;
+        Ok(true)
     }
 
     fn encode_part_of_each<S, W: Part<S, T>>(
@@ -127,7 +144,7 @@ impl<
     T4: Shaped,
     T5: Shaped,
     T: StandsFor<Parts = (T1, T2, T3, T4, T5)> + LendsFields5<T1, T2, T3, T4, T5>,
-    E: FieldsEncoder5<T1, T2, T3, T4, T5>,
+    E: Buffer + FieldsEncoder5<T1, T2, T3, T4, T5>,
 > Encoder<T> for StructEncoder<FieldCount<5>, E> {
     ghost writes_free = { E.writes_free };
 
@@ -135,6 +152,13 @@ impl<
         let lent = t.fields();
         self.fields
             .encode_each(lent.0, lent.1, lent.2, lent.3, lent.4)
+    }
+
+    fn write_directly(&mut self, t: &T, out: &mut Vec<u8>) -> Result<bool, Error> {
+        let lent = t.fields();
+        self.fields
+            .write_each(lent.0, lent.1, lent.2, lent.3, lent.4, out)?;
+        Ok(true)
     }
 
     fn encode_part_of_each<S, W: Part<S, T>>(
@@ -164,7 +188,7 @@ impl<
     T5: Shaped,
     T6: Shaped,
     T: StandsFor<Parts = (T1, T2, T3, T4, T5, T6)> + LendsFields6<T1, T2, T3, T4, T5, T6>,
-    E: FieldsEncoder6<T1, T2, T3, T4, T5, T6>,
+    E: Buffer + FieldsEncoder6<T1, T2, T3, T4, T5, T6>,
 > Encoder<T> for StructEncoder<FieldCount<6>, E> {
     ghost writes_free = { E.writes_free };
 
@@ -172,6 +196,13 @@ impl<
         let lent = t.fields();
         self.fields
             .encode_each(lent.0, lent.1, lent.2, lent.3, lent.4, lent.5)
+    }
+
+    fn write_directly(&mut self, t: &T, out: &mut Vec<u8>) -> Result<bool, Error> {
+        let lent = t.fields();
+        self.fields
+            .write_each(lent.0, lent.1, lent.2, lent.3, lent.4, lent.5, out)?;
+        Ok(true)
     }
 
     fn encode_part_of_each<S, W: Part<S, T>>(
@@ -202,7 +233,7 @@ impl<
     T6: Shaped,
     T7: Shaped,
     T: StandsFor<Parts = (T1, T2, T3, T4, T5, T6, T7)> + LendsFields7<T1, T2, T3, T4, T5, T6, T7>,
-    E: FieldsEncoder7<T1, T2, T3, T4, T5, T6, T7>,
+    E: Buffer + FieldsEncoder7<T1, T2, T3, T4, T5, T6, T7>,
 > Encoder<T> for StructEncoder<FieldCount<7>, E> {
     ghost writes_free = { E.writes_free };
 
@@ -210,6 +241,12 @@ impl<
         let lent = t.fields();
         self.fields
             .encode_each(lent.0, lent.1, lent.2, lent.3, lent.4, lent.5, lent.6)
+    }
+
+    fn write_directly(&mut self, t: &T, out: &mut Vec<u8>) -> Result<bool, Error> {
+        let lent = t.fields();
+        self.fields.write_each(lent.0, lent.1, lent.2, lent.3, lent.4, lent.5, lent.6, out)?;
+        Ok(true)
     }
 
     fn encode_part_of_each<S, W: Part<S, T>>(
@@ -242,7 +279,7 @@ impl<
     T8: Shaped,
     T: StandsFor<Parts = (T1, T2, T3, T4, T5, T6, T7, T8)>
         + LendsFields8<T1, T2, T3, T4, T5, T6, T7, T8>,
-    E: FieldsEncoder8<T1, T2, T3, T4, T5, T6, T7, T8>,
+    E: Buffer + FieldsEncoder8<T1, T2, T3, T4, T5, T6, T7, T8>,
 > Encoder<T> for StructEncoder<FieldCount<8>, E> {
     ghost writes_free = { E.writes_free };
 
@@ -251,6 +288,14 @@ impl<
         self.fields.encode_each(
             lent.0, lent.1, lent.2, lent.3, lent.4, lent.5, lent.6, lent.7,
         )
+    }
+
+    fn write_directly(&mut self, t: &T, out: &mut Vec<u8>) -> Result<bool, Error> {
+        let lent = t.fields();
+        self.fields.write_each(
+            lent.0, lent.1, lent.2, lent.3, lent.4, lent.5, lent.6, lent.7, out,
+        )?;
+        Ok(true)
     }
 
     fn encode_part_of_each<S, W: Part<S, T>>(

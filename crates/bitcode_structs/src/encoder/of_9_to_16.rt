@@ -1,5 +1,5 @@
 // Written by scripts/tables/structs.
-//! The encoders of structs of nine to sixteen fields: of the first half of the fields, and of the second.
+//! The encoders of structs of nine to sixteen fields: pairs of encoders, one for each half of the fields.
 ghost use Rattle.std.specs.Prelude.{◌&&◌};
 ghost use Rattle.bitcode_tuples.specs.PairLaws.{both_of_shape, both_surely};
 
@@ -9,7 +9,7 @@ use crate::lends::of_9_to_16::{
     LendsFields9, LendsFields10, LendsFields11, LendsFields12, LendsFields13, LendsFields14,
     LendsFields15, LendsFields16,
 };
-use bitcode_coder::coder::Encoder;
+use bitcode_coder::coder::{Buffer, Encoder};
 use bitcode_coder::part::Part;
 use bitcode_columns::error::Error;
 use bitcode_shapes::shaped::Shaped;
@@ -32,8 +32,8 @@ impl<
     T9: Shaped,
     T: StandsFor<Parts = ((T1, T2, T3, T4), (T5, T6, T7, T8, T9))>
         + LendsFields9<T1, T2, T3, T4, T5, T6, T7, T8, T9>,
-    A: FieldsEncoder4<T1, T2, T3, T4>,
-    B: FieldsEncoder5<T5, T6, T7, T8, T9>,
+    A: Buffer + FieldsEncoder4<T1, T2, T3, T4>,
+    B: Buffer + FieldsEncoder5<T5, T6, T7, T8, T9>,
 > Encoder<T> for StructEncoder<FieldCount<9>, TupleEncoder<A, B>> {
     ghost writes_free = { A.writes_free && B.writes_free };
 
@@ -42,6 +42,15 @@ impl<
             &mut self.fields,
             &t.fields(),
         )
+    }
+
+    fn write_directly(&mut self, t: &T, out: &mut Vec<u8>) -> Result<bool, Error> {
+        FieldsEncoder::<((&T1, &T2, &T3, &T4), (&T5, &T6, &T7, &T8, &T9))>::write_fields(
+            &mut self.fields,
+            &t.fields(),
+            out,
+        )?;
+        Ok(true)
     }
 
     fn encode_part_of_each<S, W: Part<S, T>>(
@@ -78,8 +87,8 @@ impl<
     T10: Shaped,
     T: StandsFor<Parts = ((T1, T2, T3, T4, T5), (T6, T7, T8, T9, T10))>
         + LendsFields10<T1, T2, T3, T4, T5, T6, T7, T8, T9, T10>,
-    A: FieldsEncoder5<T1, T2, T3, T4, T5>,
-    B: FieldsEncoder5<T6, T7, T8, T9, T10>,
+    A: Buffer + FieldsEncoder5<T1, T2, T3, T4, T5>,
+    B: Buffer + FieldsEncoder5<T6, T7, T8, T9, T10>,
 > Encoder<T> for StructEncoder<FieldCount<10>, TupleEncoder<A, B>> {
     ghost writes_free = { A.writes_free && B.writes_free };
 
@@ -88,6 +97,15 @@ impl<
             &mut self.fields,
             &t.fields(),
         )
+    }
+
+    fn write_directly(&mut self, t: &T, out: &mut Vec<u8>) -> Result<bool, Error> {
+        FieldsEncoder::<((&T1, &T2, &T3, &T4, &T5), (&T6, &T7, &T8, &T9, &T10))>::write_fields(
+            &mut self.fields,
+            &t.fields(),
+            out,
+        )?;
+        Ok(true)
     }
 
     fn encode_part_of_each<S, W: Part<S, T>>(
@@ -125,8 +143,8 @@ impl<
     T11: Shaped,
     T: StandsFor<Parts = ((T1, T2, T3, T4, T5), (T6, T7, T8, T9, T10, T11))>
         + LendsFields11<T1, T2, T3, T4, T5, T6, T7, T8, T9, T10, T11>,
-    A: FieldsEncoder5<T1, T2, T3, T4, T5>,
-    B: FieldsEncoder6<T6, T7, T8, T9, T10, T11>,
+    A: Buffer + FieldsEncoder5<T1, T2, T3, T4, T5>,
+    B: Buffer + FieldsEncoder6<T6, T7, T8, T9, T10, T11>,
 > Encoder<T> for StructEncoder<FieldCount<11>, TupleEncoder<A, B>> {
     ghost writes_free = { A.writes_free && B.writes_free };
 
@@ -134,6 +152,13 @@ impl<
         FieldsEncoder::<
             ((&T1, &T2, &T3, &T4, &T5), (&T6, &T7, &T8, &T9, &T10, &T11)),
         >::encode_fields(&mut self.fields, &t.fields())
+    }
+
+    fn write_directly(&mut self, t: &T, out: &mut Vec<u8>) -> Result<bool, Error> {
+        FieldsEncoder::<
+            ((&T1, &T2, &T3, &T4, &T5), (&T6, &T7, &T8, &T9, &T10, &T11)),
+        >::write_fields(&mut self.fields, &t.fields(), out)?;
+        Ok(true)
     }
 
     fn encode_part_of_each<S, W: Part<S, T>>(
@@ -172,8 +197,8 @@ impl<
     T12: Shaped,
     T: StandsFor<Parts = ((T1, T2, T3, T4, T5, T6), (T7, T8, T9, T10, T11, T12))>
         + LendsFields12<T1, T2, T3, T4, T5, T6, T7, T8, T9, T10, T11, T12>,
-    A: FieldsEncoder6<T1, T2, T3, T4, T5, T6>,
-    B: FieldsEncoder6<T7, T8, T9, T10, T11, T12>,
+    A: Buffer + FieldsEncoder6<T1, T2, T3, T4, T5, T6>,
+    B: Buffer + FieldsEncoder6<T7, T8, T9, T10, T11, T12>,
 > Encoder<T> for StructEncoder<FieldCount<12>, TupleEncoder<A, B>> {
     ghost writes_free = { A.writes_free && B.writes_free };
 
@@ -184,6 +209,16 @@ impl<
                 (&T7, &T8, &T9, &T10, &T11, &T12),
             ),
         >::encode_fields(&mut self.fields, &t.fields())
+    }
+
+    fn write_directly(&mut self, t: &T, out: &mut Vec<u8>) -> Result<bool, Error> {
+        FieldsEncoder::<
+            (
+                (&T1, &T2, &T3, &T4, &T5, &T6),
+                (&T7, &T8, &T9, &T10, &T11, &T12),
+            ),
+        >::write_fields(&mut self.fields, &t.fields(), out)?;
+        Ok(true)
     }
 
     fn encode_part_of_each<S, W: Part<S, T>>(
@@ -223,8 +258,8 @@ impl<
     T13: Shaped,
     T: StandsFor<Parts = ((T1, T2, T3, T4, T5, T6), (T7, T8, T9, T10, T11, T12, T13))>
         + LendsFields13<T1, T2, T3, T4, T5, T6, T7, T8, T9, T10, T11, T12, T13>,
-    A: FieldsEncoder6<T1, T2, T3, T4, T5, T6>,
-    B: FieldsEncoder7<T7, T8, T9, T10, T11, T12, T13>,
+    A: Buffer + FieldsEncoder6<T1, T2, T3, T4, T5, T6>,
+    B: Buffer + FieldsEncoder7<T7, T8, T9, T10, T11, T12, T13>,
 > Encoder<T> for StructEncoder<FieldCount<13>, TupleEncoder<A, B>> {
     ghost writes_free = { A.writes_free && B.writes_free };
 
@@ -235,6 +270,16 @@ impl<
                 (&T7, &T8, &T9, &T10, &T11, &T12, &T13),
             ),
         >::encode_fields(&mut self.fields, &t.fields())
+    }
+
+    fn write_directly(&mut self, t: &T, out: &mut Vec<u8>) -> Result<bool, Error> {
+        FieldsEncoder::<
+            (
+                (&T1, &T2, &T3, &T4, &T5, &T6),
+                (&T7, &T8, &T9, &T10, &T11, &T12, &T13),
+            ),
+        >::write_fields(&mut self.fields, &t.fields(), out)?;
+        Ok(true)
     }
 
     fn encode_part_of_each<S, W: Part<S, T>>(
@@ -285,8 +330,8 @@ impl<
         ),
     >
         + LendsFields14<T1, T2, T3, T4, T5, T6, T7, T8, T9, T10, T11, T12, T13, T14>,
-    A: FieldsEncoder7<T1, T2, T3, T4, T5, T6, T7>,
-    B: FieldsEncoder7<T8, T9, T10, T11, T12, T13, T14>,
+    A: Buffer + FieldsEncoder7<T1, T2, T3, T4, T5, T6, T7>,
+    B: Buffer + FieldsEncoder7<T8, T9, T10, T11, T12, T13, T14>,
 > Encoder<T> for StructEncoder<FieldCount<14>, TupleEncoder<A, B>> {
     ghost writes_free = { A.writes_free && B.writes_free };
 
@@ -297,6 +342,16 @@ impl<
                 (&T8, &T9, &T10, &T11, &T12, &T13, &T14),
             ),
         >::encode_fields(&mut self.fields, &t.fields())
+    }
+
+    fn write_directly(&mut self, t: &T, out: &mut Vec<u8>) -> Result<bool, Error> {
+        FieldsEncoder::<
+            (
+                (&T1, &T2, &T3, &T4, &T5, &T6, &T7),
+                (&T8, &T9, &T10, &T11, &T12, &T13, &T14),
+            ),
+        >::write_fields(&mut self.fields, &t.fields(), out)?;
+        Ok(true)
     }
 
     fn encode_part_of_each<S, W: Part<S, T>>(
@@ -351,8 +406,8 @@ impl<
         ),
     >
         + LendsFields15<T1, T2, T3, T4, T5, T6, T7, T8, T9, T10, T11, T12, T13, T14, T15>,
-    A: FieldsEncoder7<T1, T2, T3, T4, T5, T6, T7>,
-    B: FieldsEncoder8<T8, T9, T10, T11, T12, T13, T14, T15>,
+    A: Buffer + FieldsEncoder7<T1, T2, T3, T4, T5, T6, T7>,
+    B: Buffer + FieldsEncoder8<T8, T9, T10, T11, T12, T13, T14, T15>,
 > Encoder<T> for StructEncoder<FieldCount<15>, TupleEncoder<A, B>> {
     ghost writes_free = { A.writes_free && B.writes_free };
 
@@ -363,6 +418,16 @@ impl<
                 (&T8, &T9, &T10, &T11, &T12, &T13, &T14, &T15),
             ),
         >::encode_fields(&mut self.fields, &t.fields())
+    }
+
+    fn write_directly(&mut self, t: &T, out: &mut Vec<u8>) -> Result<bool, Error> {
+        FieldsEncoder::<
+            (
+                (&T1, &T2, &T3, &T4, &T5, &T6, &T7),
+                (&T8, &T9, &T10, &T11, &T12, &T13, &T14, &T15),
+            ),
+        >::write_fields(&mut self.fields, &t.fields(), out)?;
+        Ok(true)
     }
 
     fn encode_part_of_each<S, W: Part<S, T>>(
@@ -418,8 +483,8 @@ impl<
         ),
     >
         + LendsFields16<T1, T2, T3, T4, T5, T6, T7, T8, T9, T10, T11, T12, T13, T14, T15, T16>,
-    A: FieldsEncoder8<T1, T2, T3, T4, T5, T6, T7, T8>,
-    B: FieldsEncoder8<T9, T10, T11, T12, T13, T14, T15, T16>,
+    A: Buffer + FieldsEncoder8<T1, T2, T3, T4, T5, T6, T7, T8>,
+    B: Buffer + FieldsEncoder8<T9, T10, T11, T12, T13, T14, T15, T16>,
 > Encoder<T> for StructEncoder<FieldCount<16>, TupleEncoder<A, B>> {
     ghost writes_free = { A.writes_free && B.writes_free };
 
@@ -430,6 +495,16 @@ impl<
                 (&T9, &T10, &T11, &T12, &T13, &T14, &T15, &T16),
             ),
         >::encode_fields(&mut self.fields, &t.fields())
+    }
+
+    fn write_directly(&mut self, t: &T, out: &mut Vec<u8>) -> Result<bool, Error> {
+        FieldsEncoder::<
+            (
+                (&T1, &T2, &T3, &T4, &T5, &T6, &T7, &T8),
+                (&T9, &T10, &T11, &T12, &T13, &T14, &T15, &T16),
+            ),
+        >::write_fields(&mut self.fields, &t.fields(), out)?;
+        Ok(true)
     }
 
     fn encode_part_of_each<S, W: Part<S, T>>(

@@ -1,5 +1,5 @@
 // Written by scripts/tables/structs.
-//! The two to eight fields of structs that are themselves parts.
+//! The two to eight fields of structs that are parts of other values.
 use crate::fields_in::FieldsIn;
 use crate::lends::of_2_to_8::{
     LendsFields2, LendsFields3, LendsFields4, LendsFields5, LendsFields6, LendsFields7,

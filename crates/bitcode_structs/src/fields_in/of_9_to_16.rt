@@ -1,5 +1,5 @@
 // Written by scripts/tables/structs.
-//! The nine to sixteen fields of structs that are themselves parts.
+//! The nine to sixteen fields of structs that are parts of other values.
 use crate::fields_in::{BackIn, FrontIn};
 use crate::lends::of_9_to_16::{
     LendsFields9, LendsFields10, LendsFields11, LendsFields12, LendsFields13, LendsFields14,

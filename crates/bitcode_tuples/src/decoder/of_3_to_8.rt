@@ -1,5 +1,5 @@
 // Written by scripts/tables/tuples.
-//! The decoders of tuples of three to eight fields: of the first half of the fields, and of the second.
+//! The decoders of tuples of three to eight fields: pairs of decoders, one for each half of the fields.
 ghost use Rattle.std.specs.Prelude.{◌&&◌};
 ghost use Rattle.bitcode_tuples.specs.PairLaws.{same_pair_shape};
 

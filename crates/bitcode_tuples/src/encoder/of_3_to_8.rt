@@ -1,5 +1,5 @@
 // Written by scripts/tables/tuples.
-//! The encoders of tuples of three to eight fields: of the first half of the fields, and of the second.
+//! The encoders of tuples of three to eight fields: pairs of encoders, one for each half of the fields.
 ghost use Rattle.std.specs.Prelude.{◌&&◌};
 ghost use Rattle.bitcode_tuples.specs.PairLaws.{both_of_shape, both_surely};
 
@@ -9,19 +9,29 @@ use crate::fields::of_3_to_5::{FieldsEncoder3, FieldsEncoder4, FieldsEncoder5};
 use crate::fields::of_6_to_8::{FieldsEncoder6, FieldsEncoder7, FieldsEncoder8};
 use crate::parts::of_2_to_8::{Parts3, Parts4, Parts5, Parts6, Parts7, Parts8};
 use crate::parts::{Back, FieldsOf, Front, encode_two_of_each, listed_parts};
-use bitcode_coder::coder::Encoder;
+use bitcode_coder::coder::{Buffer, Encoder};
 use bitcode_coder::part::Part;
 use bitcode_columns::error::Error;
 use bitcode_shapes::shaped::Shaped;
 use std::marker::PhantomData;
 
-impl<T1: Shaped, T2: Shaped, T3: Shaped, A: Encoder<T1>, B: Encoder<T2>, C: Encoder<T3>> Encoder<
-    (T1, T2, T3),
-> for TupleEncoder<A, TupleEncoder<B, C>> {
+impl<
+    T1: Shaped,
+    T2: Shaped,
+    T3: Shaped,
+    A: Buffer + Encoder<T1>,
+    B: Buffer + Encoder<T2>,
+    C: Buffer + Encoder<T3>,
+> Encoder<(T1, T2, T3)> for TupleEncoder<A, TupleEncoder<B, C>> {
     ghost writes_free = { A.writes_free && (B.writes_free && C.writes_free) };
 
     fn encode(&mut self, t: &(T1, T2, T3)) -> Result<(), Error> {
         FieldsEncoder::<(&T1, (&T2, &T3))>::encode_fields(self, &(&t.0, (&t.1, &t.2)))
+    }
+
+    fn write_directly(&mut self, t: &(T1, T2, T3), out: &mut Vec<u8>) -> Result<bool, Error> {
+        FieldsEncoder::<(&T1, (&T2, &T3))>::write_fields(self, &(&t.0, (&t.1, &t.2)), out)?;
+        Ok(true)
     }
 
     fn encode_part_of_each<S, W: Part<S, (T1, T2, T3)>>(
@@ -43,14 +53,18 @@ impl<
     T1: Shaped,
     T2: Shaped,
     T3: Shaped,
-    A: Encoder<T1>,
-    B: Encoder<T2>,
-    C: Encoder<T3>,
+    A: Buffer + Encoder<T1>,
+    B: Buffer + Encoder<T2>,
+    C: Buffer + Encoder<T3>,
 > FieldsEncoder3<T1, T2, T3> for TupleEncoder<A, TupleEncoder<B, C>> {
     ghost writes_free = { A.writes_free && (B.writes_free && C.writes_free) };
 
     fn encode_each(&mut self, t1: &T1, t2: &T2, t3: &T3) -> Result<(), Error> {
         FieldsEncoder::<(&T1, (&T2, &T3))>::encode_fields(self, &(t1, (t2, t3)))
+    }
+
+    fn write_each(&mut self, t1: &T1, t2: &T2, t3: &T3, out: &mut Vec<u8>) -> Result<(), Error> {
+        FieldsEncoder::<(&T1, (&T2, &T3))>::write_fields(self, &(t1, (t2, t3)), out)
     }
 
     fn encode_parts_of_each<S, W: Parts3<S, T1, T2, T3>>(
@@ -75,10 +89,10 @@ impl<
     T2: Shaped,
     T3: Shaped,
     T4: Shaped,
-    A: Encoder<T1>,
-    B: Encoder<T2>,
-    C: Encoder<T3>,
-    D: Encoder<T4>,
+    A: Buffer + Encoder<T1>,
+    B: Buffer + Encoder<T2>,
+    C: Buffer + Encoder<T3>,
+    D: Buffer + Encoder<T4>,
 > Encoder<(T1, T2, T3, T4)> for TupleEncoder<TupleEncoder<A, B>, TupleEncoder<C, D>> {
     ghost writes_free = { (A.writes_free && B.writes_free) && (C.writes_free && D.writes_free) };
 
@@ -87,6 +101,15 @@ impl<
             self,
             &((&t.0, &t.1), (&t.2, &t.3)),
         )
+    }
+
+    fn write_directly(&mut self, t: &(T1, T2, T3, T4), out: &mut Vec<u8>) -> Result<bool, Error> {
+        FieldsEncoder::<((&T1, &T2), (&T3, &T4))>::write_fields(
+            self,
+            &((&t.0, &t.1), (&t.2, &t.3)),
+            out,
+        )?;
+        Ok(true)
     }
 
     fn encode_part_of_each<S, W: Part<S, (T1, T2, T3, T4)>>(
@@ -113,15 +136,26 @@ impl<
     T2: Shaped,
     T3: Shaped,
     T4: Shaped,
-    A: Encoder<T1>,
-    B: Encoder<T2>,
-    C: Encoder<T3>,
-    D: Encoder<T4>,
+    A: Buffer + Encoder<T1>,
+    B: Buffer + Encoder<T2>,
+    C: Buffer + Encoder<T3>,
+    D: Buffer + Encoder<T4>,
 > FieldsEncoder4<T1, T2, T3, T4> for TupleEncoder<TupleEncoder<A, B>, TupleEncoder<C, D>> {
     ghost writes_free = { (A.writes_free && B.writes_free) && (C.writes_free && D.writes_free) };
 
     fn encode_each(&mut self, t1: &T1, t2: &T2, t3: &T3, t4: &T4) -> Result<(), Error> {
         FieldsEncoder::<((&T1, &T2), (&T3, &T4))>::encode_fields(self, &((t1, t2), (t3, t4)))
+    }
+
+    fn write_each(
+        &mut self,
+        t1: &T1,
+        t2: &T2,
+        t3: &T3,
+        t4: &T4,
+        out: &mut Vec<u8>,
+    ) -> Result<(), Error> {
+        FieldsEncoder::<((&T1, &T2), (&T3, &T4))>::write_fields(self, &((t1, t2), (t3, t4)), out)
     }
 
     fn encode_parts_of_each<S, W: Parts4<S, T1, T2, T3, T4>>(
@@ -145,9 +179,9 @@ impl<
     T3: Shaped,
     T4: Shaped,
     T5: Shaped,
-    A: Encoder<T1>,
-    B: Encoder<T2>,
-    C: FieldsEncoder3<T3, T4, T5>,
+    A: Buffer + Encoder<T1>,
+    B: Buffer + Encoder<T2>,
+    C: Buffer + FieldsEncoder3<T3, T4, T5>,
 > Encoder<(T1, T2, T3, T4, T5)> for TupleEncoder<TupleEncoder<A, B>, C> {
     ghost writes_free = { (A.writes_free && B.writes_free) && C.writes_free };
 
@@ -156,6 +190,19 @@ impl<
             self,
             &((&t.0, &t.1), (&t.2, &t.3, &t.4)),
         )
+    }
+
+    fn write_directly(
+        &mut self,
+        t: &(T1, T2, T3, T4, T5),
+        out: &mut Vec<u8>,
+    ) -> Result<bool, Error> {
+        FieldsEncoder::<((&T1, &T2), (&T3, &T4, &T5))>::write_fields(
+            self,
+            &((&t.0, &t.1), (&t.2, &t.3, &t.4)),
+            out,
+        )?;
+        Ok(true)
     }
 
     fn encode_part_of_each<S, W: Part<S, (T1, T2, T3, T4, T5)>>(
@@ -183,9 +230,9 @@ impl<
     T3: Shaped,
     T4: Shaped,
     T5: Shaped,
-    A: Encoder<T1>,
-    B: Encoder<T2>,
-    C: FieldsEncoder3<T3, T4, T5>,
+    A: Buffer + Encoder<T1>,
+    B: Buffer + Encoder<T2>,
+    C: Buffer + FieldsEncoder3<T3, T4, T5>,
 > FieldsEncoder5<T1, T2, T3, T4, T5> for TupleEncoder<TupleEncoder<A, B>, C> {
     ghost writes_free = { (A.writes_free && B.writes_free) && C.writes_free };
 
@@ -193,6 +240,22 @@ impl<
         FieldsEncoder::<((&T1, &T2), (&T3, &T4, &T5))>::encode_fields(
             self,
             &((t1, t2), (t3, t4, t5)),
+        )
+    }
+
+    fn write_each(
+        &mut self,
+        t1: &T1,
+        t2: &T2,
+        t3: &T3,
+        t4: &T4,
+        t5: &T5,
+        out: &mut Vec<u8>,
+    ) -> Result<(), Error> {
+        FieldsEncoder::<((&T1, &T2), (&T3, &T4, &T5))>::write_fields(
+            self,
+            &((t1, t2), (t3, t4, t5)),
+            out,
         )
     }
 
@@ -219,8 +282,8 @@ impl<
     T4: Shaped,
     T5: Shaped,
     T6: Shaped,
-    A: FieldsEncoder3<T1, T2, T3>,
-    B: FieldsEncoder3<T4, T5, T6>,
+    A: Buffer + FieldsEncoder3<T1, T2, T3>,
+    B: Buffer + FieldsEncoder3<T4, T5, T6>,
 > Encoder<(T1, T2, T3, T4, T5, T6)> for TupleEncoder<A, B> {
     ghost writes_free = { A.writes_free && B.writes_free };
 
@@ -229,6 +292,19 @@ impl<
             self,
             &((&t.0, &t.1, &t.2), (&t.3, &t.4, &t.5)),
         )
+    }
+
+    fn write_directly(
+        &mut self,
+        t: &(T1, T2, T3, T4, T5, T6),
+        out: &mut Vec<u8>,
+    ) -> Result<bool, Error> {
+        FieldsEncoder::<((&T1, &T2, &T3), (&T4, &T5, &T6))>::write_fields(
+            self,
+            &((&t.0, &t.1, &t.2), (&t.3, &t.4, &t.5)),
+            out,
+        )?;
+        Ok(true)
     }
 
     fn encode_part_of_each<S, W: Part<S, (T1, T2, T3, T4, T5, T6)>>(
@@ -257,8 +333,8 @@ impl<
     T4: Shaped,
     T5: Shaped,
     T6: Shaped,
-    A: FieldsEncoder3<T1, T2, T3>,
-    B: FieldsEncoder3<T4, T5, T6>,
+    A: Buffer + FieldsEncoder3<T1, T2, T3>,
+    B: Buffer + FieldsEncoder3<T4, T5, T6>,
 > FieldsEncoder6<T1, T2, T3, T4, T5, T6> for TupleEncoder<A, B> {
     ghost writes_free = { A.writes_free && B.writes_free };
 
@@ -274,6 +350,23 @@ impl<
         FieldsEncoder::<((&T1, &T2, &T3), (&T4, &T5, &T6))>::encode_fields(
             self,
             &((t1, t2, t3), (t4, t5, t6)),
+        )
+    }
+
+    fn write_each(
+        &mut self,
+        t1: &T1,
+        t2: &T2,
+        t3: &T3,
+        t4: &T4,
+        t5: &T5,
+        t6: &T6,
+        out: &mut Vec<u8>,
+    ) -> Result<(), Error> {
+        FieldsEncoder::<((&T1, &T2, &T3), (&T4, &T5, &T6))>::write_fields(
+            self,
+            &((t1, t2, t3), (t4, t5, t6)),
+            out,
         )
     }
 
@@ -302,8 +395,8 @@ impl<
     T5: Shaped,
     T6: Shaped,
     T7: Shaped,
-    A: FieldsEncoder3<T1, T2, T3>,
-    B: FieldsEncoder4<T4, T5, T6, T7>,
+    A: Buffer + FieldsEncoder3<T1, T2, T3>,
+    B: Buffer + FieldsEncoder4<T4, T5, T6, T7>,
 > Encoder<(T1, T2, T3, T4, T5, T6, T7)> for TupleEncoder<A, B> {
     ghost writes_free = { A.writes_free && B.writes_free };
 
@@ -312,6 +405,19 @@ impl<
             self,
             &((&t.0, &t.1, &t.2), (&t.3, &t.4, &t.5, &t.6)),
         )
+    }
+
+    fn write_directly(
+        &mut self,
+        t: &(T1, T2, T3, T4, T5, T6, T7),
+        out: &mut Vec<u8>,
+    ) -> Result<bool, Error> {
+        FieldsEncoder::<((&T1, &T2, &T3), (&T4, &T5, &T6, &T7))>::write_fields(
+            self,
+            &((&t.0, &t.1, &t.2), (&t.3, &t.4, &t.5, &t.6)),
+            out,
+        )?;
+        Ok(true)
     }
 
     fn encode_part_of_each<S, W: Part<S, (T1, T2, T3, T4, T5, T6, T7)>>(
@@ -341,8 +447,8 @@ impl<
     T5: Shaped,
     T6: Shaped,
     T7: Shaped,
-    A: FieldsEncoder3<T1, T2, T3>,
-    B: FieldsEncoder4<T4, T5, T6, T7>,
+    A: Buffer + FieldsEncoder3<T1, T2, T3>,
+    B: Buffer + FieldsEncoder4<T4, T5, T6, T7>,
 > FieldsEncoder7<T1, T2, T3, T4, T5, T6, T7> for TupleEncoder<A, B> {
     ghost writes_free = { A.writes_free && B.writes_free };
 
@@ -359,6 +465,24 @@ impl<
         FieldsEncoder::<((&T1, &T2, &T3), (&T4, &T5, &T6, &T7))>::encode_fields(
             self,
             &((t1, t2, t3), (t4, t5, t6, t7)),
+        )
+    }
+
+    fn write_each(
+        &mut self,
+        t1: &T1,
+        t2: &T2,
+        t3: &T3,
+        t4: &T4,
+        t5: &T5,
+        t6: &T6,
+        t7: &T7,
+        out: &mut Vec<u8>,
+    ) -> Result<(), Error> {
+        FieldsEncoder::<((&T1, &T2, &T3), (&T4, &T5, &T6, &T7))>::write_fields(
+            self,
+            &((t1, t2, t3), (t4, t5, t6, t7)),
+            out,
         )
     }
 
@@ -388,8 +512,8 @@ impl<
     T6: Shaped,
     T7: Shaped,
     T8: Shaped,
-    A: FieldsEncoder4<T1, T2, T3, T4>,
-    B: FieldsEncoder4<T5, T6, T7, T8>,
+    A: Buffer + FieldsEncoder4<T1, T2, T3, T4>,
+    B: Buffer + FieldsEncoder4<T5, T6, T7, T8>,
 > Encoder<(T1, T2, T3, T4, T5, T6, T7, T8)> for TupleEncoder<A, B> {
     ghost writes_free = { A.writes_free && B.writes_free };
 
@@ -398,6 +522,19 @@ impl<
             self,
             &((&t.0, &t.1, &t.2, &t.3), (&t.4, &t.5, &t.6, &t.7)),
         )
+    }
+
+    fn write_directly(
+        &mut self,
+        t: &(T1, T2, T3, T4, T5, T6, T7, T8),
+        out: &mut Vec<u8>,
+    ) -> Result<bool, Error> {
+        FieldsEncoder::<((&T1, &T2, &T3, &T4), (&T5, &T6, &T7, &T8))>::write_fields(
+            self,
+            &((&t.0, &t.1, &t.2, &t.3), (&t.4, &t.5, &t.6, &t.7)),
+            out,
+        )?;
+        Ok(true)
     }
 
     fn encode_part_of_each<S, W: Part<S, (T1, T2, T3, T4, T5, T6, T7, T8)>>(
@@ -428,8 +565,8 @@ impl<
     T6: Shaped,
     T7: Shaped,
     T8: Shaped,
-    A: FieldsEncoder4<T1, T2, T3, T4>,
-    B: FieldsEncoder4<T5, T6, T7, T8>,
+    A: Buffer + FieldsEncoder4<T1, T2, T3, T4>,
+    B: Buffer + FieldsEncoder4<T5, T6, T7, T8>,
 > FieldsEncoder8<T1, T2, T3, T4, T5, T6, T7, T8> for TupleEncoder<A, B> {
     ghost writes_free = { A.writes_free && B.writes_free };
 
@@ -447,6 +584,25 @@ impl<
         FieldsEncoder::<((&T1, &T2, &T3, &T4), (&T5, &T6, &T7, &T8))>::encode_fields(
             self,
             &((t1, t2, t3, t4), (t5, t6, t7, t8)),
+        )
+    }
+
+    fn write_each(
+        &mut self,
+        t1: &T1,
+        t2: &T2,
+        t3: &T3,
+        t4: &T4,
+        t5: &T5,
+        t6: &T6,
+        t7: &T7,
+        t8: &T8,
+        out: &mut Vec<u8>,
+    ) -> Result<(), Error> {
+        FieldsEncoder::<((&T1, &T2, &T3, &T4), (&T5, &T6, &T7, &T8))>::write_fields(
+            self,
+            &((t1, t2, t3, t4), (t5, t6, t7, t8)),
+            out,
         )
     }
 

@@ -1,5 +1,5 @@
 // Written by scripts/tables/tuples.
-//! The encoders of tuples of nine to sixteen fields: of the first half of the fields, and of the second.
+//! The encoders of tuples of nine to sixteen fields: pairs of encoders, one for each half of the fields.
 ghost use Rattle.std.specs.Prelude.{◌&&◌};
 ghost use Rattle.bitcode_tuples.specs.PairLaws.{both_of_shape, both_surely};
 
@@ -8,7 +8,7 @@ use crate::fields::FieldsEncoder;
 use crate::fields::of_3_to_5::{FieldsEncoder4, FieldsEncoder5};
 use crate::fields::of_6_to_8::{FieldsEncoder6, FieldsEncoder7, FieldsEncoder8};
 use crate::parts::{Back, Front, listed_parts};
-use bitcode_coder::coder::Encoder;
+use bitcode_coder::coder::{Buffer, Encoder};
 use bitcode_coder::part::Part;
 use bitcode_columns::error::Error;
 use bitcode_shapes::shaped::Shaped;
@@ -24,8 +24,8 @@ impl<
     T7: Shaped,
     T8: Shaped,
     T9: Shaped,
-    A: FieldsEncoder4<T1, T2, T3, T4>,
-    B: FieldsEncoder5<T5, T6, T7, T8, T9>,
+    A: Buffer + FieldsEncoder4<T1, T2, T3, T4>,
+    B: Buffer + FieldsEncoder5<T5, T6, T7, T8, T9>,
 > Encoder<(T1, T2, T3, T4, T5, T6, T7, T8, T9)> for TupleEncoder<A, B> {
     ghost writes_free = { A.writes_free && B.writes_free };
 
@@ -34,6 +34,19 @@ impl<
             self,
             &((&t.0, &t.1, &t.2, &t.3), (&t.4, &t.5, &t.6, &t.7, &t.8)),
         )
+    }
+
+    fn write_directly(
+        &mut self,
+        t: &(T1, T2, T3, T4, T5, T6, T7, T8, T9),
+        out: &mut Vec<u8>,
+    ) -> Result<bool, Error> {
+        FieldsEncoder::<((&T1, &T2, &T3, &T4), (&T5, &T6, &T7, &T8, &T9))>::write_fields(
+            self,
+            &((&t.0, &t.1, &t.2, &t.3), (&t.4, &t.5, &t.6, &t.7, &t.8)),
+            out,
+        )?;
+        Ok(true)
     }
 
     fn encode_part_of_each<S, W: Part<S, (T1, T2, T3, T4, T5, T6, T7, T8, T9)>>(
@@ -66,8 +79,8 @@ impl<
     T8: Shaped,
     T9: Shaped,
     T10: Shaped,
-    A: FieldsEncoder5<T1, T2, T3, T4, T5>,
-    B: FieldsEncoder5<T6, T7, T8, T9, T10>,
+    A: Buffer + FieldsEncoder5<T1, T2, T3, T4, T5>,
+    B: Buffer + FieldsEncoder5<T6, T7, T8, T9, T10>,
 > Encoder<(T1, T2, T3, T4, T5, T6, T7, T8, T9, T10)> for TupleEncoder<A, B> {
     ghost writes_free = { A.writes_free && B.writes_free };
 
@@ -79,6 +92,22 @@ impl<
                 (&t.5, &t.6, &t.7, &t.8, &t.9),
             ),
         )
+    }
+
+    fn write_directly(
+        &mut self,
+        t: &(T1, T2, T3, T4, T5, T6, T7, T8, T9, T10),
+        out: &mut Vec<u8>,
+    ) -> Result<bool, Error> {
+        FieldsEncoder::<((&T1, &T2, &T3, &T4, &T5), (&T6, &T7, &T8, &T9, &T10))>::write_fields(
+            self,
+            &(
+                (&t.0, &t.1, &t.2, &t.3, &t.4),
+                (&t.5, &t.6, &t.7, &t.8, &t.9),
+            ),
+            out,
+        )?;
+        Ok(true)
     }
 
     fn encode_part_of_each<S, W: Part<S, (T1, T2, T3, T4, T5, T6, T7, T8, T9, T10)>>(
@@ -112,8 +141,8 @@ impl<
     T9: Shaped,
     T10: Shaped,
     T11: Shaped,
-    A: FieldsEncoder5<T1, T2, T3, T4, T5>,
-    B: FieldsEncoder6<T6, T7, T8, T9, T10, T11>,
+    A: Buffer + FieldsEncoder5<T1, T2, T3, T4, T5>,
+    B: Buffer + FieldsEncoder6<T6, T7, T8, T9, T10, T11>,
 > Encoder<(T1, T2, T3, T4, T5, T6, T7, T8, T9, T10, T11)> for TupleEncoder<A, B> {
     ghost writes_free = { A.writes_free && B.writes_free };
 
@@ -127,6 +156,24 @@ impl<
                 (&t.5, &t.6, &t.7, &t.8, &t.9, &t.10),
             ),
         )
+    }
+
+    fn write_directly(
+        &mut self,
+        t: &(T1, T2, T3, T4, T5, T6, T7, T8, T9, T10, T11),
+        out: &mut Vec<u8>,
+    ) -> Result<bool, Error> {
+        FieldsEncoder::<
+            ((&T1, &T2, &T3, &T4, &T5), (&T6, &T7, &T8, &T9, &T10, &T11)),
+        >::write_fields(
+            self,
+            &(
+                (&t.0, &t.1, &t.2, &t.3, &t.4),
+                (&t.5, &t.6, &t.7, &t.8, &t.9, &t.10),
+            ),
+            out,
+        )?;
+        Ok(true)
     }
 
     fn encode_part_of_each<S, W: Part<S, (T1, T2, T3, T4, T5, T6, T7, T8, T9, T10, T11)>>(
@@ -161,8 +208,8 @@ impl<
     T10: Shaped,
     T11: Shaped,
     T12: Shaped,
-    A: FieldsEncoder6<T1, T2, T3, T4, T5, T6>,
-    B: FieldsEncoder6<T7, T8, T9, T10, T11, T12>,
+    A: Buffer + FieldsEncoder6<T1, T2, T3, T4, T5, T6>,
+    B: Buffer + FieldsEncoder6<T7, T8, T9, T10, T11, T12>,
 > Encoder<(T1, T2, T3, T4, T5, T6, T7, T8, T9, T10, T11, T12)> for TupleEncoder<A, B> {
     ghost writes_free = { A.writes_free && B.writes_free };
 
@@ -182,6 +229,27 @@ impl<
                 (&t.6, &t.7, &t.8, &t.9, &t.10, &t.11),
             ),
         )
+    }
+
+    fn write_directly(
+        &mut self,
+        t: &(T1, T2, T3, T4, T5, T6, T7, T8, T9, T10, T11, T12),
+        out: &mut Vec<u8>,
+    ) -> Result<bool, Error> {
+        FieldsEncoder::<
+            (
+                (&T1, &T2, &T3, &T4, &T5, &T6),
+                (&T7, &T8, &T9, &T10, &T11, &T12),
+            ),
+        >::write_fields(
+            self,
+            &(
+                (&t.0, &t.1, &t.2, &t.3, &t.4, &t.5),
+                (&t.6, &t.7, &t.8, &t.9, &t.10, &t.11),
+            ),
+            out,
+        )?;
+        Ok(true)
     }
 
     fn encode_part_of_each<S, W: Part<S, (T1, T2, T3, T4, T5, T6, T7, T8, T9, T10, T11, T12)>>(
@@ -217,8 +285,8 @@ impl<
     T11: Shaped,
     T12: Shaped,
     T13: Shaped,
-    A: FieldsEncoder6<T1, T2, T3, T4, T5, T6>,
-    B: FieldsEncoder7<T7, T8, T9, T10, T11, T12, T13>,
+    A: Buffer + FieldsEncoder6<T1, T2, T3, T4, T5, T6>,
+    B: Buffer + FieldsEncoder7<T7, T8, T9, T10, T11, T12, T13>,
 > Encoder<(T1, T2, T3, T4, T5, T6, T7, T8, T9, T10, T11, T12, T13)> for TupleEncoder<A, B> {
     ghost writes_free = { A.writes_free && B.writes_free };
 
@@ -238,6 +306,27 @@ impl<
                 (&t.6, &t.7, &t.8, &t.9, &t.10, &t.11, &t.12),
             ),
         )
+    }
+
+    fn write_directly(
+        &mut self,
+        t: &(T1, T2, T3, T4, T5, T6, T7, T8, T9, T10, T11, T12, T13),
+        out: &mut Vec<u8>,
+    ) -> Result<bool, Error> {
+        FieldsEncoder::<
+            (
+                (&T1, &T2, &T3, &T4, &T5, &T6),
+                (&T7, &T8, &T9, &T10, &T11, &T12, &T13),
+            ),
+        >::write_fields(
+            self,
+            &(
+                (&t.0, &t.1, &t.2, &t.3, &t.4, &t.5),
+                (&t.6, &t.7, &t.8, &t.9, &t.10, &t.11, &t.12),
+            ),
+            out,
+        )?;
+        Ok(true)
     }
 
     fn encode_part_of_each<S, W: Part<S, (T1, T2, T3, T4, T5, T6, T7, T8, T9, T10, T11, T12, T13)>>(
@@ -274,8 +363,8 @@ impl<
     T12: Shaped,
     T13: Shaped,
     T14: Shaped,
-    A: FieldsEncoder7<T1, T2, T3, T4, T5, T6, T7>,
-    B: FieldsEncoder7<T8, T9, T10, T11, T12, T13, T14>,
+    A: Buffer + FieldsEncoder7<T1, T2, T3, T4, T5, T6, T7>,
+    B: Buffer + FieldsEncoder7<T8, T9, T10, T11, T12, T13, T14>,
 > Encoder<(T1, T2, T3, T4, T5, T6, T7, T8, T9, T10, T11, T12, T13, T14)> for TupleEncoder<A, B> {
     ghost writes_free = { A.writes_free && B.writes_free };
 
@@ -295,6 +384,27 @@ impl<
                 (&t.7, &t.8, &t.9, &t.10, &t.11, &t.12, &t.13),
             ),
         )
+    }
+
+    fn write_directly(
+        &mut self,
+        t: &(T1, T2, T3, T4, T5, T6, T7, T8, T9, T10, T11, T12, T13, T14),
+        out: &mut Vec<u8>,
+    ) -> Result<bool, Error> {
+        FieldsEncoder::<
+            (
+                (&T1, &T2, &T3, &T4, &T5, &T6, &T7),
+                (&T8, &T9, &T10, &T11, &T12, &T13, &T14),
+            ),
+        >::write_fields(
+            self,
+            &(
+                (&t.0, &t.1, &t.2, &t.3, &t.4, &t.5, &t.6),
+                (&t.7, &t.8, &t.9, &t.10, &t.11, &t.12, &t.13),
+            ),
+            out,
+        )?;
+        Ok(true)
     }
 
     fn encode_part_of_each<
@@ -335,8 +445,8 @@ impl<
     T13: Shaped,
     T14: Shaped,
     T15: Shaped,
-    A: FieldsEncoder7<T1, T2, T3, T4, T5, T6, T7>,
-    B: FieldsEncoder8<T8, T9, T10, T11, T12, T13, T14, T15>,
+    A: Buffer + FieldsEncoder7<T1, T2, T3, T4, T5, T6, T7>,
+    B: Buffer + FieldsEncoder8<T8, T9, T10, T11, T12, T13, T14, T15>,
 > Encoder<
     (
         T1,
@@ -390,6 +500,43 @@ impl<
                 (&t.7, &t.8, &t.9, &t.10, &t.11, &t.12, &t.13, &t.14),
             ),
         )
+    }
+
+    fn write_directly(
+        &mut self,
+        t: &(
+            T1,
+            T2,
+            T3,
+            T4,
+            T5,
+            T6,
+            T7,
+            T8,
+            T9,
+            T10,
+            T11,
+            T12,
+            T13,
+            T14,
+            T15,
+        ),
+        out: &mut Vec<u8>,
+    ) -> Result<bool, Error> {
+        FieldsEncoder::<
+            (
+                (&T1, &T2, &T3, &T4, &T5, &T6, &T7),
+                (&T8, &T9, &T10, &T11, &T12, &T13, &T14, &T15),
+            ),
+        >::write_fields(
+            self,
+            &(
+                (&t.0, &t.1, &t.2, &t.3, &t.4, &t.5, &t.6),
+                (&t.7, &t.8, &t.9, &t.10, &t.11, &t.12, &t.13, &t.14),
+            ),
+            out,
+        )?;
+        Ok(true)
     }
 
     fn encode_part_of_each<
@@ -484,8 +631,8 @@ impl<
     T14: Shaped,
     T15: Shaped,
     T16: Shaped,
-    A: FieldsEncoder8<T1, T2, T3, T4, T5, T6, T7, T8>,
-    B: FieldsEncoder8<T9, T10, T11, T12, T13, T14, T15, T16>,
+    A: Buffer + FieldsEncoder8<T1, T2, T3, T4, T5, T6, T7, T8>,
+    B: Buffer + FieldsEncoder8<T9, T10, T11, T12, T13, T14, T15, T16>,
 > Encoder<
     (
         T1,
@@ -541,6 +688,44 @@ impl<
                 (&t.8, &t.9, &t.10, &t.11, &t.12, &t.13, &t.14, &t.15),
             ),
         )
+    }
+
+    fn write_directly(
+        &mut self,
+        t: &(
+            T1,
+            T2,
+            T3,
+            T4,
+            T5,
+            T6,
+            T7,
+            T8,
+            T9,
+            T10,
+            T11,
+            T12,
+            T13,
+            T14,
+            T15,
+            T16,
+        ),
+        out: &mut Vec<u8>,
+    ) -> Result<bool, Error> {
+        FieldsEncoder::<
+            (
+                (&T1, &T2, &T3, &T4, &T5, &T6, &T7, &T8),
+                (&T9, &T10, &T11, &T12, &T13, &T14, &T15, &T16),
+            ),
+        >::write_fields(
+            self,
+            &(
+                (&t.0, &t.1, &t.2, &t.3, &t.4, &t.5, &t.6, &t.7),
+                (&t.8, &t.9, &t.10, &t.11, &t.12, &t.13, &t.14, &t.15),
+            ),
+            out,
+        )?;
+        Ok(true)
     }
 
     fn encode_part_of_each<

@@ -1,13 +1,13 @@
 // Written by scripts/tables/tuples.
-//! Encoders of three to five fields that lie apart.
+//! Encoders of three to five fields that are borrowed separately.
 ghost use Rattle.std.specs.Prelude.{◌≡◌, ◌≢◌, ℕ, ◌+◌, ◌<◌, ◌≤◌, Bool, [], length, map, IsTrue, OnOk, IfErr};
 ghost use Rattle.bitcode_coder.specs.Columns.{emptied};
-ghost use Rattle.bitcode_coder.specs.Coder.{written_columns, JoinsListing, OverflowsWithListing, JoinsEach, OverflowsWithEach, SurelyOverflows, IsWritingRefusal};
+ghost use Rattle.bitcode_coder.specs.Coder.{written_columns, BeginsWith, JoinsListing, WritesListing, OverflowsWithListing, JoinsEach, OverflowsWithEach, SurelyOverflows, IsWritingRefusal};
 ghost use Rattle.bitcode_tuples.specs.Pairs.{EachListed};
 
 use crate::fields::{Fields, FieldsEncoder};
 use crate::parts::of_2_to_8::{Parts3, Parts4, Parts5};
-use bitcode_coder::coder::{HoldsColumns, MAX_VECTORED_CHUNK};
+use bitcode_coder::coder::{Buffer, HoldsColumns, MAX_VECTORED_CHUNK};
 use bitcode_columns::error::{Error, Reason};
 use bitcode_shapes::shaped::Shaped;
 
@@ -23,9 +23,9 @@ impl<'a, T1: Shaped, T2: Shaped, T3: Shaped> Fields for (&'a T1, &'a T2, &'a T3)
     }
 }
 
-/// As `Encoder`, for a tuple whose three fields lie apart.
+/// Like `Encoder`, for a tuple whose three fields are borrowed separately.
 pub trait FieldsEncoder3<T1: Shaped, T2: Shaped, T3: Shaped>: HoldsColumns {
-    // writing the fields takes no memory, where room for them was reserved
+    // with the room reserved, writing the fields does not allocate
     ghost writes_free: { Bool };
 
     fn encode_each(&mut self, t1: &T1, t2: &T2, t3: &T3) -> Result<(), Error>
@@ -36,7 +36,17 @@ pub trait FieldsEncoder3<T1: Shaped, T2: Shaped, T3: Shaped>: HoldsColumns {
         ensures refused { IfErr result (λ e. IsWritingRefusal e.reason (OverflowsWithListing ⟦<(T1, T2, T3) as Shaped>⟧.lists ⟦<(T1, T2, T3) as Shaped>⟧.shape (t1.now, t2.now, t3.now) (Self.columns self.old))) }
         ensures free { IsTrue writes_free → IfErr result (λ e. e.reason ≢ Reason.OutOfMemory) };
 
-    /// As `Encoder::encode_part_of_each`, of fields that lie apart and have listings.
+    fn write_each(&mut self, t1: &T1, t2: &T2, t3: &T3, out: &mut Vec<u8>) -> Result<(), Error>
+    where
+        Self: Buffer,
+        requires { Self.columns self.old ≡ emptied (Self.columns self.old) }
+        ensures written { OnOk result (WritesListing ⟦<(T1, T2, T3) as Shaped>⟧.lists ⟦<(T1, T2, T3) as Shaped>⟧.shape (t1.now, t2.now, t3.now) (Self.columns self.old) out.old.items out.new.items) }
+        ensures empty { OnOk result (Self.columns self.new ≡ emptied (Self.columns self.old)) }
+        ensures begins { BeginsWith out.old.items out.new.items }
+        ensures form { emptied (Self.columns self.new) ≡ emptied (Self.columns self.old) }
+        ensures refused { IfErr result (λ e. IsWritingRefusal e.reason (OverflowsWithListing ⟦<(T1, T2, T3) as Shaped>⟧.lists ⟦<(T1, T2, T3) as Shaped>⟧.shape (t1.now, t2.now, t3.now) (Self.columns self.old))) };
+
+    /// Like `Encoder::encode_part_of_each`, for fields that are borrowed separately and have listings.
     fn encode_parts_of_each<S, W: Parts3<S, T1, T2, T3>>(
         &mut self,
         items: &[S],
@@ -64,6 +74,17 @@ impl<'a, T1: Shaped, T2: Shaped, T3: Shaped, E: FieldsEncoder3<T1, T2, T3>> Fiel
     fn encode_fields(&mut self, fields: &(&'a T1, &'a T2, &'a T3)) -> Result<(), Error> {
         self.encode_each(fields.0, fields.1, fields.2)
     }
+
+    fn write_fields(
+        &mut self,
+        fields: &(&'a T1, &'a T2, &'a T3),
+        out: &mut Vec<u8>,
+    ) -> Result<(), Error>
+    where
+        Self: Buffer,
+    {
+        self.write_each(fields.0, fields.1, fields.2, out)
+    }
 }
 
 impl<'a, T1: Shaped, T2: Shaped, T3: Shaped, T4: Shaped> Fields
@@ -80,9 +101,9 @@ impl<'a, T1: Shaped, T2: Shaped, T3: Shaped, T4: Shaped> Fields
     }
 }
 
-/// As `Encoder`, for a tuple whose four fields lie apart.
+/// Like `Encoder`, for a tuple whose four fields are borrowed separately.
 pub trait FieldsEncoder4<T1: Shaped, T2: Shaped, T3: Shaped, T4: Shaped>: HoldsColumns {
-    // writing the fields takes no memory, where room for them was reserved
+    // with the room reserved, writing the fields does not allocate
     ghost writes_free: { Bool };
 
     fn encode_each(&mut self, t1: &T1, t2: &T2, t3: &T3, t4: &T4) -> Result<(), Error>
@@ -93,7 +114,24 @@ pub trait FieldsEncoder4<T1: Shaped, T2: Shaped, T3: Shaped, T4: Shaped>: HoldsC
         ensures refused { IfErr result (λ e. IsWritingRefusal e.reason (OverflowsWithListing ⟦<(T1, T2, T3, T4) as Shaped>⟧.lists ⟦<(T1, T2, T3, T4) as Shaped>⟧.shape (t1.now, t2.now, t3.now, t4.now) (Self.columns self.old))) }
         ensures free { IsTrue writes_free → IfErr result (λ e. e.reason ≢ Reason.OutOfMemory) };
 
-    /// As `Encoder::encode_part_of_each`, of fields that lie apart and have listings.
+    fn write_each(
+        &mut self,
+        t1: &T1,
+        t2: &T2,
+        t3: &T3,
+        t4: &T4,
+        out: &mut Vec<u8>,
+    ) -> Result<(), Error>
+    where
+        Self: Buffer,
+        requires { Self.columns self.old ≡ emptied (Self.columns self.old) }
+        ensures written { OnOk result (WritesListing ⟦<(T1, T2, T3, T4) as Shaped>⟧.lists ⟦<(T1, T2, T3, T4) as Shaped>⟧.shape (t1.now, t2.now, t3.now, t4.now) (Self.columns self.old) out.old.items out.new.items) }
+        ensures empty { OnOk result (Self.columns self.new ≡ emptied (Self.columns self.old)) }
+        ensures begins { BeginsWith out.old.items out.new.items }
+        ensures form { emptied (Self.columns self.new) ≡ emptied (Self.columns self.old) }
+        ensures refused { IfErr result (λ e. IsWritingRefusal e.reason (OverflowsWithListing ⟦<(T1, T2, T3, T4) as Shaped>⟧.lists ⟦<(T1, T2, T3, T4) as Shaped>⟧.shape (t1.now, t2.now, t3.now, t4.now) (Self.columns self.old))) };
+
+    /// Like `Encoder::encode_part_of_each`, for fields that are borrowed separately and have listings.
     fn encode_parts_of_each<S, W: Parts4<S, T1, T2, T3, T4>>(
         &mut self,
         items: &[S],
@@ -126,6 +164,17 @@ impl<
     fn encode_fields(&mut self, fields: &(&'a T1, &'a T2, &'a T3, &'a T4)) -> Result<(), Error> {
         self.encode_each(fields.0, fields.1, fields.2, fields.3)
     }
+
+    fn write_fields(
+        &mut self,
+        fields: &(&'a T1, &'a T2, &'a T3, &'a T4),
+        out: &mut Vec<u8>,
+    ) -> Result<(), Error>
+    where
+        Self: Buffer,
+    {
+        self.write_each(fields.0, fields.1, fields.2, fields.3, out)
+    }
 }
 
 impl<'a, T1: Shaped, T2: Shaped, T3: Shaped, T4: Shaped, T5: Shaped> Fields
@@ -143,9 +192,9 @@ impl<'a, T1: Shaped, T2: Shaped, T3: Shaped, T4: Shaped, T5: Shaped> Fields
     }
 }
 
-/// As `Encoder`, for a tuple whose five fields lie apart.
+/// Like `Encoder`, for a tuple whose five fields are borrowed separately.
 pub trait FieldsEncoder5<T1: Shaped, T2: Shaped, T3: Shaped, T4: Shaped, T5: Shaped>: HoldsColumns {
-    // writing the fields takes no memory, where room for them was reserved
+    // with the room reserved, writing the fields does not allocate
     ghost writes_free: { Bool };
 
     fn encode_each(&mut self, t1: &T1, t2: &T2, t3: &T3, t4: &T4, t5: &T5) -> Result<(), Error>
@@ -156,7 +205,25 @@ pub trait FieldsEncoder5<T1: Shaped, T2: Shaped, T3: Shaped, T4: Shaped, T5: Sha
         ensures refused { IfErr result (λ e. IsWritingRefusal e.reason (OverflowsWithListing ⟦<(T1, T2, T3, T4, T5) as Shaped>⟧.lists ⟦<(T1, T2, T3, T4, T5) as Shaped>⟧.shape (t1.now, t2.now, t3.now, t4.now, t5.now) (Self.columns self.old))) }
         ensures free { IsTrue writes_free → IfErr result (λ e. e.reason ≢ Reason.OutOfMemory) };
 
-    /// As `Encoder::encode_part_of_each`, of fields that lie apart and have listings.
+    fn write_each(
+        &mut self,
+        t1: &T1,
+        t2: &T2,
+        t3: &T3,
+        t4: &T4,
+        t5: &T5,
+        out: &mut Vec<u8>,
+    ) -> Result<(), Error>
+    where
+        Self: Buffer,
+        requires { Self.columns self.old ≡ emptied (Self.columns self.old) }
+        ensures written { OnOk result (WritesListing ⟦<(T1, T2, T3, T4, T5) as Shaped>⟧.lists ⟦<(T1, T2, T3, T4, T5) as Shaped>⟧.shape (t1.now, t2.now, t3.now, t4.now, t5.now) (Self.columns self.old) out.old.items out.new.items) }
+        ensures empty { OnOk result (Self.columns self.new ≡ emptied (Self.columns self.old)) }
+        ensures begins { BeginsWith out.old.items out.new.items }
+        ensures form { emptied (Self.columns self.new) ≡ emptied (Self.columns self.old) }
+        ensures refused { IfErr result (λ e. IsWritingRefusal e.reason (OverflowsWithListing ⟦<(T1, T2, T3, T4, T5) as Shaped>⟧.lists ⟦<(T1, T2, T3, T4, T5) as Shaped>⟧.shape (t1.now, t2.now, t3.now, t4.now, t5.now) (Self.columns self.old))) };
+
+    /// Like `Encoder::encode_part_of_each`, for fields that are borrowed separately and have listings.
     fn encode_parts_of_each<S, W: Parts5<S, T1, T2, T3, T4, T5>>(
         &mut self,
         items: &[S],
@@ -192,5 +259,16 @@ impl<
         fields: &(&'a T1, &'a T2, &'a T3, &'a T4, &'a T5),
     ) -> Result<(), Error> {
         self.encode_each(fields.0, fields.1, fields.2, fields.3, fields.4)
+    }
+
+    fn write_fields(
+        &mut self,
+        fields: &(&'a T1, &'a T2, &'a T3, &'a T4, &'a T5),
+        out: &mut Vec<u8>,
+    ) -> Result<(), Error>
+    where
+        Self: Buffer,
+    {
+        self.write_each(fields.0, fields.1, fields.2, fields.3, fields.4, out)
     }
 }

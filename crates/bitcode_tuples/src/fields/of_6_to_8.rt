@@ -1,13 +1,13 @@
 // Written by scripts/tables/tuples.
-//! Encoders of six to eight fields that lie apart.
+//! Encoders of six to eight fields that are borrowed separately.
 ghost use Rattle.std.specs.Prelude.{◌≡◌, ◌≢◌, ℕ, ◌+◌, ◌<◌, ◌≤◌, Bool, [], length, map, IsTrue, OnOk, IfErr};
 ghost use Rattle.bitcode_coder.specs.Columns.{emptied};
-ghost use Rattle.bitcode_coder.specs.Coder.{written_columns, JoinsListing, OverflowsWithListing, JoinsEach, OverflowsWithEach, SurelyOverflows, IsWritingRefusal};
+ghost use Rattle.bitcode_coder.specs.Coder.{written_columns, BeginsWith, JoinsListing, WritesListing, OverflowsWithListing, JoinsEach, OverflowsWithEach, SurelyOverflows, IsWritingRefusal};
 ghost use Rattle.bitcode_tuples.specs.Pairs.{EachListed};
 
 use crate::fields::{Fields, FieldsEncoder};
 use crate::parts::of_2_to_8::{Parts6, Parts7, Parts8};
-use bitcode_coder::coder::{HoldsColumns, MAX_VECTORED_CHUNK};
+use bitcode_coder::coder::{Buffer, HoldsColumns, MAX_VECTORED_CHUNK};
 use bitcode_columns::error::{Error, Reason};
 use bitcode_shapes::shaped::Shaped;
 
@@ -27,7 +27,7 @@ impl<'a, T1: Shaped, T2: Shaped, T3: Shaped, T4: Shaped, T5: Shaped, T6: Shaped>
     }
 }
 
-/// As `Encoder`, for a tuple whose six fields lie apart.
+/// Like `Encoder`, for a tuple whose six fields are borrowed separately.
 pub trait FieldsEncoder6<
     T1: Shaped,
     T2: Shaped,
@@ -36,7 +36,7 @@ pub trait FieldsEncoder6<
     T5: Shaped,
     T6: Shaped,
 >: HoldsColumns {
-    // writing the fields takes no memory, where room for them was reserved
+    // with the room reserved, writing the fields does not allocate
     ghost writes_free: { Bool };
 
     fn encode_each(
@@ -55,7 +55,26 @@ pub trait FieldsEncoder6<
         ensures refused { IfErr result (λ e. IsWritingRefusal e.reason (OverflowsWithListing ⟦<(T1, T2, T3, T4, T5, T6) as Shaped>⟧.lists ⟦<(T1, T2, T3, T4, T5, T6) as Shaped>⟧.shape (t1.now, t2.now, t3.now, t4.now, t5.now, t6.now) (Self.columns self.old))) }
         ensures free { IsTrue writes_free → IfErr result (λ e. e.reason ≢ Reason.OutOfMemory) };
 
-    /// As `Encoder::encode_part_of_each`, of fields that lie apart and have listings.
+    fn write_each(
+        &mut self,
+        t1: &T1,
+        t2: &T2,
+        t3: &T3,
+        t4: &T4,
+        t5: &T5,
+        t6: &T6,
+        out: &mut Vec<u8>,
+    ) -> Result<(), Error>
+    where
+        Self: Buffer,
+        requires { Self.columns self.old ≡ emptied (Self.columns self.old) }
+        ensures written { OnOk result (WritesListing ⟦<(T1, T2, T3, T4, T5, T6) as Shaped>⟧.lists ⟦<(T1, T2, T3, T4, T5, T6) as Shaped>⟧.shape (t1.now, t2.now, t3.now, t4.now, t5.now, t6.now) (Self.columns self.old) out.old.items out.new.items) }
+        ensures empty { OnOk result (Self.columns self.new ≡ emptied (Self.columns self.old)) }
+        ensures begins { BeginsWith out.old.items out.new.items }
+        ensures form { emptied (Self.columns self.new) ≡ emptied (Self.columns self.old) }
+        ensures refused { IfErr result (λ e. IsWritingRefusal e.reason (OverflowsWithListing ⟦<(T1, T2, T3, T4, T5, T6) as Shaped>⟧.lists ⟦<(T1, T2, T3, T4, T5, T6) as Shaped>⟧.shape (t1.now, t2.now, t3.now, t4.now, t5.now, t6.now) (Self.columns self.old))) };
+
+    /// Like `Encoder::encode_part_of_each`, for fields that are borrowed separately and have listings.
     fn encode_parts_of_each<S, W: Parts6<S, T1, T2, T3, T4, T5, T6>>(
         &mut self,
         items: &[S],
@@ -93,6 +112,19 @@ impl<
     ) -> Result<(), Error> {
         self.encode_each(fields.0, fields.1, fields.2, fields.3, fields.4, fields.5)
     }
+
+    fn write_fields(
+        &mut self,
+        fields: &(&'a T1, &'a T2, &'a T3, &'a T4, &'a T5, &'a T6),
+        out: &mut Vec<u8>,
+    ) -> Result<(), Error>
+    where
+        Self: Buffer,
+    {
+        self.write_each(
+            fields.0, fields.1, fields.2, fields.3, fields.4, fields.5, out,
+        )
+    }
 }
 
 impl<'a, T1: Shaped, T2: Shaped, T3: Shaped, T4: Shaped, T5: Shaped, T6: Shaped, T7: Shaped> Fields
@@ -112,7 +144,7 @@ impl<'a, T1: Shaped, T2: Shaped, T3: Shaped, T4: Shaped, T5: Shaped, T6: Shaped,
     }
 }
 
-/// As `Encoder`, for a tuple whose seven fields lie apart.
+/// Like `Encoder`, for a tuple whose seven fields are borrowed separately.
 pub trait FieldsEncoder7<
     T1: Shaped,
     T2: Shaped,
@@ -122,7 +154,7 @@ pub trait FieldsEncoder7<
     T6: Shaped,
     T7: Shaped,
 >: HoldsColumns {
-    // writing the fields takes no memory, where room for them was reserved
+    // with the room reserved, writing the fields does not allocate
     ghost writes_free: { Bool };
 
     fn encode_each(
@@ -142,7 +174,27 @@ pub trait FieldsEncoder7<
         ensures refused { IfErr result (λ e. IsWritingRefusal e.reason (OverflowsWithListing ⟦<(T1, T2, T3, T4, T5, T6, T7) as Shaped>⟧.lists ⟦<(T1, T2, T3, T4, T5, T6, T7) as Shaped>⟧.shape (t1.now, t2.now, t3.now, t4.now, t5.now, t6.now, t7.now) (Self.columns self.old))) }
         ensures free { IsTrue writes_free → IfErr result (λ e. e.reason ≢ Reason.OutOfMemory) };
 
-    /// As `Encoder::encode_part_of_each`, of fields that lie apart and have listings.
+    fn write_each(
+        &mut self,
+        t1: &T1,
+        t2: &T2,
+        t3: &T3,
+        t4: &T4,
+        t5: &T5,
+        t6: &T6,
+        t7: &T7,
+        out: &mut Vec<u8>,
+    ) -> Result<(), Error>
+    where
+        Self: Buffer,
+        requires { Self.columns self.old ≡ emptied (Self.columns self.old) }
+        ensures written { OnOk result (WritesListing ⟦<(T1, T2, T3, T4, T5, T6, T7) as Shaped>⟧.lists ⟦<(T1, T2, T3, T4, T5, T6, T7) as Shaped>⟧.shape (t1.now, t2.now, t3.now, t4.now, t5.now, t6.now, t7.now) (Self.columns self.old) out.old.items out.new.items) }
+        ensures empty { OnOk result (Self.columns self.new ≡ emptied (Self.columns self.old)) }
+        ensures begins { BeginsWith out.old.items out.new.items }
+        ensures form { emptied (Self.columns self.new) ≡ emptied (Self.columns self.old) }
+        ensures refused { IfErr result (λ e. IsWritingRefusal e.reason (OverflowsWithListing ⟦<(T1, T2, T3, T4, T5, T6, T7) as Shaped>⟧.lists ⟦<(T1, T2, T3, T4, T5, T6, T7) as Shaped>⟧.shape (t1.now, t2.now, t3.now, t4.now, t5.now, t6.now, t7.now) (Self.columns self.old))) };
+
+    /// Like `Encoder::encode_part_of_each`, for fields that are borrowed separately and have listings.
     fn encode_parts_of_each<S, W: Parts7<S, T1, T2, T3, T4, T5, T6, T7>>(
         &mut self,
         items: &[S],
@@ -181,6 +233,19 @@ impl<
     ) -> Result<(), Error> {
         self.encode_each(
             fields.0, fields.1, fields.2, fields.3, fields.4, fields.5, fields.6,
+        )
+    }
+
+    fn write_fields(
+        &mut self,
+        fields: &(&'a T1, &'a T2, &'a T3, &'a T4, &'a T5, &'a T6, &'a T7),
+        out: &mut Vec<u8>,
+    ) -> Result<(), Error>
+    where
+        Self: Buffer,
+    {
+        self.write_each(
+            fields.0, fields.1, fields.2, fields.3, fields.4, fields.5, fields.6, out,
         )
     }
 }
@@ -222,7 +287,7 @@ impl<
     }
 }
 
-/// As `Encoder`, for a tuple whose eight fields lie apart.
+/// Like `Encoder`, for a tuple whose eight fields are borrowed separately.
 pub trait FieldsEncoder8<
     T1: Shaped,
     T2: Shaped,
@@ -233,7 +298,7 @@ pub trait FieldsEncoder8<
     T7: Shaped,
     T8: Shaped,
 >: HoldsColumns {
-    // writing the fields takes no memory, where room for them was reserved
+    // with the room reserved, writing the fields does not allocate
     ghost writes_free: { Bool };
 
     fn encode_each(
@@ -254,7 +319,28 @@ pub trait FieldsEncoder8<
         ensures refused { IfErr result (λ e. IsWritingRefusal e.reason (OverflowsWithListing ⟦<(T1, T2, T3, T4, T5, T6, T7, T8) as Shaped>⟧.lists ⟦<(T1, T2, T3, T4, T5, T6, T7, T8) as Shaped>⟧.shape (t1.now, t2.now, t3.now, t4.now, t5.now, t6.now, t7.now, t8.now) (Self.columns self.old))) }
         ensures free { IsTrue writes_free → IfErr result (λ e. e.reason ≢ Reason.OutOfMemory) };
 
-    /// As `Encoder::encode_part_of_each`, of fields that lie apart and have listings.
+    fn write_each(
+        &mut self,
+        t1: &T1,
+        t2: &T2,
+        t3: &T3,
+        t4: &T4,
+        t5: &T5,
+        t6: &T6,
+        t7: &T7,
+        t8: &T8,
+        out: &mut Vec<u8>,
+    ) -> Result<(), Error>
+    where
+        Self: Buffer,
+        requires { Self.columns self.old ≡ emptied (Self.columns self.old) }
+        ensures written { OnOk result (WritesListing ⟦<(T1, T2, T3, T4, T5, T6, T7, T8) as Shaped>⟧.lists ⟦<(T1, T2, T3, T4, T5, T6, T7, T8) as Shaped>⟧.shape (t1.now, t2.now, t3.now, t4.now, t5.now, t6.now, t7.now, t8.now) (Self.columns self.old) out.old.items out.new.items) }
+        ensures empty { OnOk result (Self.columns self.new ≡ emptied (Self.columns self.old)) }
+        ensures begins { BeginsWith out.old.items out.new.items }
+        ensures form { emptied (Self.columns self.new) ≡ emptied (Self.columns self.old) }
+        ensures refused { IfErr result (λ e. IsWritingRefusal e.reason (OverflowsWithListing ⟦<(T1, T2, T3, T4, T5, T6, T7, T8) as Shaped>⟧.lists ⟦<(T1, T2, T3, T4, T5, T6, T7, T8) as Shaped>⟧.shape (t1.now, t2.now, t3.now, t4.now, t5.now, t6.now, t7.now, t8.now) (Self.columns self.old))) };
+
+    /// Like `Encoder::encode_part_of_each`, for fields that are borrowed separately and have listings.
     fn encode_parts_of_each<S, W: Parts8<S, T1, T2, T3, T4, T5, T6, T7, T8>>(
         &mut self,
         items: &[S],
@@ -314,6 +400,28 @@ impl<
     ) -> Result<(), Error> {
         self.encode_each(
             fields.0, fields.1, fields.2, fields.3, fields.4, fields.5, fields.6, fields.7,
+        )
+    }
+
+    fn write_fields(
+        &mut self,
+        fields: &(
+            &'a T1,
+            &'a T2,
+            &'a T3,
+            &'a T4,
+            &'a T5,
+            &'a T6,
+            &'a T7,
+            &'a T8,
+        ),
+        out: &mut Vec<u8>,
+    ) -> Result<(), Error>
+    where
+        Self: Buffer,
+    {
+        self.write_each(
+            fields.0, fields.1, fields.2, fields.3, fields.4, fields.5, fields.6, fields.7, out,
         )
     }
 }

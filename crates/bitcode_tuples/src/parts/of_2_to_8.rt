@@ -1,12 +1,12 @@
 // Written by scripts/tables/tuples.
-//! Two to eight parts that lie apart, and which of them are the halves of a tuple of so many fields.
+//! Two to eight separate parts of a value, and the halves of a tuple of so many fields.
 ghost use Rattle.std.specs.Prelude.{◌≡◌};
 ghost use Rattle.bitcode_shapes.specs.Tuples.{split_2, split_3, split_4, split_5, split_6, split_7, split_8};
 
 use crate::parts::{Back, FieldsOf, Front};
 use bitcode_coder::part::Part;
 
-/// The two parts that each value of `S` has: they may lie apart.
+/// The two parts that each value of `S` has. They may be stored separately.
 pub trait Parts2<S, T1, T2> {
     // what the parts make up
     ghost of: { Self → S → T1 × T2 };
@@ -34,7 +34,7 @@ impl<'w, S, T1, T2, W: Parts2<S, T1, T2>> Part<S, T2> for Back<'w, W, (T1, T2)> 
     }
 }
 
-/// The three parts that each value of `S` has: they may lie apart.
+/// The three parts that each value of `S` has. They may be stored separately.
 pub trait Parts3<S, T1, T2, T3> {
     // what the parts make up
     ghost of: { Self → S → T1 × T2 × T3 };
@@ -71,7 +71,7 @@ impl<'w, S, T1, T2, T3, W: Parts3<S, T1, T2, T3>> Parts2<S, T2, T3> for Back<'w,
     }
 }
 
-/// The four parts that each value of `S` has: they may lie apart.
+/// The four parts that each value of `S` has. They may be stored separately.
 pub trait Parts4<S, T1, T2, T3, T4> {
     // what the parts make up
     ghost of: { Self → S → T1 × T2 × T3 × T4 };
@@ -111,7 +111,7 @@ impl<'w, S, T1, T2, T3, T4, W: Parts4<S, T1, T2, T3, T4>> Parts2<S, T3, T4>
     }
 }
 
-/// The five parts that each value of `S` has: they may lie apart.
+/// The five parts that each value of `S` has. They may be stored separately.
 pub trait Parts5<S, T1, T2, T3, T4, T5> {
     // what the parts make up
     ghost of: { Self → S → T1 × T2 × T3 × T4 × T5 };
@@ -151,7 +151,7 @@ impl<'w, S, T1, T2, T3, T4, T5, W: Parts5<S, T1, T2, T3, T4, T5>> Parts3<S, T3, 
     }
 }
 
-/// The six parts that each value of `S` has: they may lie apart.
+/// The six parts that each value of `S` has. They may be stored separately.
 pub trait Parts6<S, T1, T2, T3, T4, T5, T6> {
     // what the parts make up
     ghost of: { Self → S → T1 × T2 × T3 × T4 × T5 × T6 };
@@ -198,7 +198,7 @@ impl<'w, S, T1, T2, T3, T4, T5, T6, W: Parts6<S, T1, T2, T3, T4, T5, T6>> Parts3
     }
 }
 
-/// The seven parts that each value of `S` has: they may lie apart.
+/// The seven parts that each value of `S` has. They may be stored separately.
 pub trait Parts7<S, T1, T2, T3, T4, T5, T6, T7> {
     // what the parts make up
     ghost of: { Self → S → T1 × T2 × T3 × T4 × T5 × T6 × T7 };
@@ -260,7 +260,7 @@ impl<'w, S, T1, T2, T3, T4, T5, T6, T7, W: Parts7<S, T1, T2, T3, T4, T5, T6, T7>
     }
 }
 
-/// The eight parts that each value of `S` has: they may lie apart.
+/// The eight parts that each value of `S` has. They may be stored separately.
 pub trait Parts8<S, T1, T2, T3, T4, T5, T6, T7, T8> {
     // what the parts make up
     ghost of: { Self → S → T1 × T2 × T3 × T4 × T5 × T6 × T7 × T8 };

@@ -1,4 +1,4 @@
-//! The counts of variants, taken from the bytes whose digits they are.
+//! Counting variants from their packed bytes.
 ghost use Rattle.std.specs.Prelude.{◌≡◌, ℕ, ◌+◌, ◌*◌, ◌^◌, ◌<◌, length, slice_index};
 ghost use Rattle.bitcode_columns.specs.Digits.{digits_in_byte, SpellsDigits};
 ghost use Rattle.bitcode_columns.specs.DigitCounts.{digits_of, digits_counted};
@@ -9,8 +9,8 @@ use crate::histogram::{MOST_IN_ONE_TABLE, counts_below, histogram};
 use crate::ints::known_bytes;
 use crate::pack::Base;
 
-/// Adds the digits of a byte that stands so many times to the counts of the numbers below `N`. Other digits count for
-/// nothing.
+/// Adds the digits of a byte that occurs `times` times to the counts of the numbers below `N`. It ignores all other
+/// digits.
 fn count_digits<const N: usize>(base: Base, byte: u8, times: usize, counts: &mut [usize; N])
     requires { (value : ℕ) → value < N → slice_index counts.old value + times * count_of value (digits_of base byte) < 2 ^ 64 }
     ensures { (value : ℕ) → value < N → slice_index counts.new value ≡ slice_index counts.old value + times * count_of value (digits_of base byte) }
@@ -26,8 +26,8 @@ fn count_digits<const N: usize>(base: Base, byte: u8, times: usize, counts: &mut
     }
 }
 
-/// How many digits of the bytes are each number below `N`: each of the 256 bytes stands for its digits, as often as it is
-/// there.
+/// Counts the digits of the bytes that are each number below `N`: for each of the 256 bytes its digits, times the
+/// number of its occurrences.
 fn counts_of_digits<const N: usize>(base: Base, packed: &[u8]) -> [usize; N]
     requires { (value : ℕ) → value < N → digits_counted base value packed.now < 2 ^ 64 }
     ensures { (value : ℕ) → value < N → slice_index result value ≡ digits_counted base value packed.now }
@@ -40,7 +40,7 @@ fn counts_of_digits<const N: usize>(base: Base, packed: &[u8]) -> [usize; N]
     counts
 }
 
-/// The bits of eight bytes, those of the first byte the lowest.
+/// Eight bytes as one integer, with the first byte lowest.
 #[inline(always)]
 fn bits_of_eight(bytes: [u8; 8]) -> u64
     ensures { result ≡ little_endian bytes }
@@ -48,7 +48,7 @@ fn bits_of_eight(bytes: [u8; 8]) -> u64
     u64::from_le_bytes(bytes)
 }
 
-/// How many bits of eight bytes are 1.
+/// The number of 1 bits in eight bytes.
 #[inline(always)]
 fn ones_of_eight(bytes: [u8; 8]) -> usize
     ensures { result ≡ digits_counted Base.Two 1 bytes }
@@ -57,7 +57,7 @@ fn ones_of_eight(bytes: [u8; 8]) -> usize
     bits_of_eight(bytes).count_ones() as usize
 }
 
-/// How many bits of the bytes are 1, byte by byte.
+/// The number of 1 bits in the bytes, byte by byte.
 fn ones_of_each(packed: &[u8]) -> usize
     requires { 8 * length packed.now < 2 ^ 64 }
     ensures { result ≡ digits_counted Base.Two 1 packed.now }
@@ -70,7 +70,7 @@ fn ones_of_each(packed: &[u8]) -> usize
     ones
 }
 
-/// How many bits of the bytes are 1, eight bytes at a time.
+/// The number of 1 bits in the bytes, eight bytes at a time.
 fn ones_of(packed: &[u8]) -> usize
     requires { 8 * length packed.now < 2 ^ 64 }
     ensures { result ≡ digits_counted Base.Two 1 packed.now }
@@ -84,7 +84,7 @@ fn ones_of(packed: &[u8]) -> usize
     ones + ones_of_each(rest)
 }
 
-/// How many bits of the bytes are 0, and how many are 1.
+/// The numbers of 0 bits and of 1 bits in the bytes.
 fn counts_of_bits<const N: usize>(packed: &[u8]) -> [usize; N]
     requires two { N ≡ 2 }
     requires few { 8 * length packed.now < 2 ^ 64 }
@@ -98,7 +98,7 @@ fn counts_of_bits<const N: usize>(packed: &[u8]) -> [usize; N]
     counts
 }
 
-/// How many digits of the bytes are each number below `N`: of two numbers that are bits by counting bits.
+/// Counts the digits of the bytes that are each number below `N`. For base 2 and `N = 2` it counts bits.
 fn counts_of_whole<const N: usize>(base: Base, packed: &[u8]) -> [usize; N]
     requires counts { (value : ℕ) → value < N → digits_counted base value packed.now < 2 ^ 64 }
     requires digits { digits_in_byte base * length packed.now < 2 ^ 64 }
@@ -111,8 +111,8 @@ fn counts_of_whole<const N: usize>(base: Base, packed: &[u8]) -> [usize; N]
     }
 }
 
-/// How many of the entries are each number below `N`. They are the digits of the bytes: bits, and from 100 whole bytes on
-/// other digits too, are counted by the bytes, save those in the last one.
+/// Counts the entries that are each number below `N`. The entries are the digits of the bytes. It counts bits, and from
+/// 100 whole bytes on also other digits, by the byte, except those in the last byte.
 pub(super) fn packed_counts<const N: usize>(base: Base, packed: &[u8], entries: &[u8]) -> [usize; N]
     requires { SpellsDigits base packed.now entries.now }
     ensures { AreCounts N entries.now result }

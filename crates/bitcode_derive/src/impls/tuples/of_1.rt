@@ -1,4 +1,4 @@
-//! The coders of tuples of one field, which are as their field.
+//! The coders of tuples of one field: the coders of the field.
 use crate::derive::{DecodeOwned, HasDecoder, HasEncoder};
 use bitcode_parts::pointers::deref::DerefEncoder;
 use bitcode_parts::pointers::from::FromDecoder;

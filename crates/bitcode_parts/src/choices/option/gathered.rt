@@ -1,4 +1,4 @@
-//! The variants of several options, and the values of those that have one.
+//! Collecting the variants of several options, and their values.
 ghost use Rattle.std.specs.Prelude.{◌≡◌, ◌<◌, ◌≤◌, [], length, map, take, IfNone, OnSome, OnOk, IfErr};
 ghost use Rattle.bitcode_coder.specs.Columns.{emptied};
 ghost use Rattle.bitcode_coder.specs.Coder.{JoinsEach, OverflowsWithEach, IsWritingRefusal};
@@ -61,8 +61,8 @@ fn gather_values<'a, S, T, W: Part<S, Option<T>>>(
     count
 }
 
-// Makes room for the values among a part of each item, for no more than these, and joins their columns to those so far. The
-// array of references to them takes no memory: it is filled with one of them first.
+// Reserves room for exactly the values among a part of each item, and adds them to the columns. The array of references
+// to them is not allocated: it is first filled with one of them.
 fn encode_from<'a, S, T: Shaped, W: Part<S, Option<T>>, E: Buffer + Encoder<T>>(
     encoder: &mut E,
     first: &'a T,

@@ -29,108 +29,124 @@ use Rattle.bitcode_serde.proofs.ColumnLemmas.{passed_on}
 use Rattle.bitcode_serde.proofs.DepthLemmas.{entry_deep, reference_falls}
 use Rattle.bitcode_serde.proofs.EntryLemmas.{found_entry, no_entry}
 use Rattle.bitcode_serde.proofs.FieldLemmas.{tree_at_entry, tree_at_none, no_fields, one_more_field, field_refused, tuple_done}
-use Rattle.bitcode_serde.proofs.KeptLemmas.{unit_within, entry_within, leaves_within, rest_within}
+use Rattle.bitcode_serde.proofs.KeptLemmas.{one_node, unit_within, entry_within, leaves_within, rest_within}
 use Rattle.bitcode_serde.proofs.LeafEntryLemmas.{leaf_else}
-use Rattle.bitcode_serde.proofs.LeafLemmas.{leaves_whole}
+use Rattle.bitcode_serde.proofs.LeafLemmas.{leaf_read_at, leaves_whole}
 use Rattle.bitcode_serde.proofs.ValueLemmas.{asked_alike, refused_entry, still_there, continues_on, continues_stepped, one_more, list_stuck, enters_list, enters_choice, seq_read_at, seq_refused, choice_read_at, choice_refused, choice_of_unit, no_choice, no_third, told_at}
 use Rattle.bitcode_serde.proofs.values.+read.Answers.Maps as map
 use Rattle.bitcode_serde.proofs.values.+read.Goals as goal
 mod Maps
 
-pub read-read_entry-requires : goal.read-read_entry-requires
-read-read_entry-requires t c =
+pub read-returns-in-Some-clause-read : goal.read-returns-in-Some-clause-read
+read-returns-in-Some-clause-read t c =
+    let leaf = leaf_tree (kind_of c.in-Some.kind) any_number in
+    entry_within c.args.node.now c.args.place c.args.reader.now c.read_leaf.new.reader c.args.budget.now _ c.read_leaf.result
+    (followed c.args.left c.args.table.now) c.take.ensures
+    (leaf_read_at c.args.node.now leaf c.in-Some.ensures.some.tree c.read_leaf.result c.args.place c.args.reader.now c.read_leaf.new.reader c.read_leaf.ensures.read)
+    (IfOk-weaker c.read_leaf.result (IsCaseOf c.in-Some.kind) (λ v. node_count (datum_of v) ≡ 1) (one_node c.in-Some.kind) c.read_leaf.ensures.of_case)
+
+pub read-returns-in-Some-clause-whole : goal.read-returns-in-Some-clause-whole
+read-returns-in-Some-clause-whole t c =
+    IfOk-weaker c.read_leaf.result (IsCaseOf c.in-Some.kind) (λ v. IsLeft _ → faults_of c.args.table.now v c.args.left c.args.node.now ≡ [])
+    (λ v h left. c.in-Some.ensures.some.whole v h c.args.table.now c.args.left) c.read_leaf.ensures.of_case
+
+pub read-returns-in-Some-clause-refused : goal.read-returns-in-Some-clause-refused
+read-returns-in-Some-clause-refused t c = rw (c.in-Some.ensures.some.tree (followed c.args.left c.args.table.now)) c.read_leaf.ensures.refused
+
+pub read_node-read_entry-requires : goal.read_node-read_entry-requires
+read_node-read_entry-requires t c =
     let d = c.in_default in
     let leaf = leaf_else c.args.node.now d.not-Unit d.not-Bytes d.not-Option d.not-Seq d.not-Map d.not-Tuple d.not-Enum d.not-Ref in
     search (rules, leaf)
 
-pub read-returns-in_default-clause-read : goal.read-returns-in_default-clause-read
-read-returns-in_default-clause-read t c =
+pub read_node-returns-in_default-clause-read : goal.read_node-returns-in_default-clause-read
+read_node-returns-in_default-clause-read t c =
     entry_within c.args.node.now c.args.place c.args.reader.now c.read_entry.new.reader c.args.budget.now _ c.read_entry.result
     (followed c.args.left c.args.table.now) c.take-in_default.ensures c.read_entry.ensures.read c.read_entry.ensures.single
 
-pub read-returns-in_default-clause-whole : goal.read-returns-in_default-clause-whole
-read-returns-in_default-clause-whole t c =
+pub read_node-returns-in_default-clause-whole : goal.read_node-returns-in_default-clause-whole
+read_node-returns-in_default-clause-whole t c =
     IfOk-weaker c.read_entry.result (λ v. IsOfLeaf c.args.node.now v) (λ v. IsLeft _ → faults_of c.args.table.now v c.args.left c.args.node.now ≡ [])
     (λ v h left. h c.args.table.now c.args.left) c.read_entry.ensures.whole
 
-pub read-returns-in_default-clause-refused : goal.read-returns-in_default-clause-refused
-read-returns-in_default-clause-refused t c =
+pub read_node-returns-in_default-clause-refused : goal.read_node-returns-in_default-clause-refused
+read_node-returns-in_default-clause-refused t c =
     IfErr-weaker c.read_entry.result (λ e. IsLeafRefusalAt c.args.node.now c.args.place c.args.reader.now e.reason)
     (λ e. IsRefusalAt (tree_of_node c.args.left c.args.table.now c.args.node.now) c.args.place c.args.reader.now e.reason)
     (λ e h. h (followed c.args.left c.args.table.now)) c.read_entry.ensures.refused
 
-pub read-returns-in-Unit-clause-read : goal.read-returns-in-Unit-clause-read
-read-returns-in-Unit-clause-read t c =
+pub read_node-returns-in-Unit-clause-read : goal.read_node-returns-in-Unit-clause-read
+read_node-returns-in-Unit-clause-read t c =
     rw (c.in-Unit.is, tree-Unit (followed c.args.left c.args.table.now)) (unit_within c.args.place c.args.reader.now c.args.budget.now c.take.new.self c.take.ensures)
 
-pub read-returns-in-Bytes-clause-read : goal.read-returns-in-Bytes-clause-read
-read-returns-in-Bytes-clause-read t c = rw (c.in-Bytes.is, tree-Bytes (followed c.args.left c.args.table.now)) c.read_bytes.ensures.read
+pub read_node-returns-in-Bytes-clause-read : goal.read_node-returns-in-Bytes-clause-read
+read_node-returns-in-Bytes-clause-read t c = rw (c.in-Bytes.is, tree-Bytes (followed c.args.left c.args.table.now)) c.read_bytes.ensures.read
 
-pub read-returns-in-Bytes-clause-refused : goal.read-returns-in-Bytes-clause-refused
-read-returns-in-Bytes-clause-refused t c = rw (c.in-Bytes.is, tree-Bytes (followed c.args.left c.args.table.now)) c.read_bytes.ensures.refused
+pub read_node-returns-in-Bytes-clause-refused : goal.read_node-returns-in-Bytes-clause-refused
+read_node-returns-in-Bytes-clause-refused t c = rw (c.in-Bytes.is, tree-Bytes (followed c.args.left c.args.table.now)) c.read_bytes.ensures.refused
 
-pub read-returns-in-Option-clause-read : goal.read-returns-in-Option-clause-read
-read-returns-in-Option-clause-read t c = rw (c.in-Option.is, tree-Option (followed c.args.left c.args.table.now) c.in-Option.some, ← c.deref.ensures) c.read_option.ensures.read
+pub read_node-returns-in-Option-clause-read : goal.read_node-returns-in-Option-clause-read
+read_node-returns-in-Option-clause-read t c = rw (c.in-Option.is, tree-Option (followed c.args.left c.args.table.now) c.in-Option.some, ← c.deref.ensures) c.read_option.ensures.read
 
-pub read-returns-in-Option-clause-refused : goal.read-returns-in-Option-clause-refused
-read-returns-in-Option-clause-refused t c = rw (c.in-Option.is, tree-Option (followed c.args.left c.args.table.now) c.in-Option.some, ← c.deref.ensures) c.read_option.ensures.refused
+pub read_node-returns-in-Option-clause-refused : goal.read_node-returns-in-Option-clause-refused
+read_node-returns-in-Option-clause-refused t c = rw (c.in-Option.is, tree-Option (followed c.args.left c.args.table.now) c.in-Option.some, ← c.deref.ensures) c.read_option.ensures.refused
 
-pub read-returns-in-Seq-clause-read : goal.read-returns-in-Seq-clause-read
-read-returns-in-Seq-clause-read t c = rw (c.in-Seq.is, tree-Seq (followed c.args.left c.args.table.now) c.in-Seq.element, ← c.deref-in-Seq.ensures) c.read_seq.ensures.read
+pub read_node-returns-in-Seq-clause-read : goal.read_node-returns-in-Seq-clause-read
+read_node-returns-in-Seq-clause-read t c = rw (c.in-Seq.is, tree-Seq (followed c.args.left c.args.table.now) c.in-Seq.element, ← c.deref-in-Seq.ensures) c.read_seq.ensures.read
 
-pub read-returns-in-Seq-clause-refused : goal.read-returns-in-Seq-clause-refused
-read-returns-in-Seq-clause-refused t c = rw (c.in-Seq.is, tree-Seq (followed c.args.left c.args.table.now) c.in-Seq.element, ← c.deref-in-Seq.ensures) c.read_seq.ensures.refused
+pub read_node-returns-in-Seq-clause-refused : goal.read_node-returns-in-Seq-clause-refused
+read_node-returns-in-Seq-clause-refused t c = rw (c.in-Seq.is, tree-Seq (followed c.args.left c.args.table.now) c.in-Seq.element, ← c.deref-in-Seq.ensures) c.read_seq.ensures.refused
 
-pub read-returns-in-Map-clause-read : goal.read-returns-in-Map-clause-read
-read-returns-in-Map-clause-read t c =
+pub read_node-returns-in-Map-clause-read : goal.read_node-returns-in-Map-clause-read
+read_node-returns-in-Map-clause-read t c =
     rw (c.in-Map.is, tree-Map (followed c.args.left c.args.table.now) c.in-Map.key c.in-Map.value, ← c.deref-in-Map.ensures, ← c.deref-in-Map-2.ensures) c.read_map.ensures.read
 
-pub read-returns-in-Map-clause-refused : goal.read-returns-in-Map-clause-refused
-read-returns-in-Map-clause-refused t c =
+pub read_node-returns-in-Map-clause-refused : goal.read_node-returns-in-Map-clause-refused
+read_node-returns-in-Map-clause-refused t c =
     rw (c.in-Map.is, tree-Map (followed c.args.left c.args.table.now) c.in-Map.key c.in-Map.value, ← c.deref-in-Map.ensures, ← c.deref-in-Map-2.ensures) c.read_map.ensures.refused
 
-pub read-returns-in-Tuple-clause-read : goal.read-returns-in-Tuple-clause-read
-read-returns-in-Tuple-clause-read t c = rw (c.in-Tuple.is, tree-Tuple (followed c.args.left c.args.table.now) c.in-Tuple.nodes, ← c.deref-in-Tuple.ensures.value) c.read_tuple.ensures.read
+pub read_node-returns-in-Tuple-clause-read : goal.read_node-returns-in-Tuple-clause-read
+read_node-returns-in-Tuple-clause-read t c = rw (c.in-Tuple.is, tree-Tuple (followed c.args.left c.args.table.now) c.in-Tuple.nodes, ← c.deref-in-Tuple.ensures.value) c.read_tuple.ensures.read
 
-pub read-returns-in-Tuple-clause-refused : goal.read-returns-in-Tuple-clause-refused
-read-returns-in-Tuple-clause-refused t c = rw (c.in-Tuple.is, tree-Tuple (followed c.args.left c.args.table.now) c.in-Tuple.nodes, ← c.deref-in-Tuple.ensures.value) c.read_tuple.ensures.refused
+pub read_node-returns-in-Tuple-clause-refused : goal.read_node-returns-in-Tuple-clause-refused
+read_node-returns-in-Tuple-clause-refused t c = rw (c.in-Tuple.is, tree-Tuple (followed c.args.left c.args.table.now) c.in-Tuple.nodes, ← c.deref-in-Tuple.ensures.value) c.read_tuple.ensures.refused
 
-pub read-returns-in-Enum-clause-read : goal.read-returns-in-Enum-clause-read
-read-returns-in-Enum-clause-read t c = rw (c.in-Enum.is, tree-Enum (followed c.args.left c.args.table.now) c.in-Enum.nodes, ← c.deref-in-Enum.ensures.value) c.read_enum.ensures.read
+pub read_node-returns-in-Enum-clause-read : goal.read_node-returns-in-Enum-clause-read
+read_node-returns-in-Enum-clause-read t c = rw (c.in-Enum.is, tree-Enum (followed c.args.left c.args.table.now) c.in-Enum.nodes, ← c.deref-in-Enum.ensures.value) c.read_enum.ensures.read
 
-pub read-returns-in-Enum-clause-refused : goal.read-returns-in-Enum-clause-refused
-read-returns-in-Enum-clause-refused t c = rw (c.in-Enum.is, tree-Enum (followed c.args.left c.args.table.now) c.in-Enum.nodes, ← c.deref-in-Enum.ensures.value) c.read_enum.ensures.refused
+pub read_node-returns-in-Enum-clause-refused : goal.read_node-returns-in-Enum-clause-refused
+read_node-returns-in-Enum-clause-refused t c = rw (c.in-Enum.is, tree-Enum (followed c.args.left c.args.table.now) c.in-Enum.nodes, ← c.deref-in-Enum.ensures.value) c.read_enum.ensures.refused
 
-pub read-read-requires : goal.read-read-requires
-read-read-requires t c =
+pub read_node-read-requires : goal.read_node-read-requires
+read_node-read-requires t c =
     let h : 0 < c.args.left = omega arith in
     let d = reference_falls c.args.left c.args.table.now c.in-Ref.i 0 c.in-Some.entry.now
     (found_entry c.args.table.now c.in-Ref.i c.in-Some.entry.now c.in-Some.ensures.lookup.3.0 (c.in-Some.ensures.lookup.3.1 c.in-Some.entry.now)) h in
     search (rules, d)
 
-pub read-returns-then-left-eq0-clause-refused : goal.read-returns-then-left-eq0-clause-refused
-read-returns-then-left-eq0-clause-refused t c =
+pub read_node-returns-then-left-eq0-clause-refused : goal.read_node-returns-then-left-eq0-clause-refused
+read_node-returns-then-left-eq0-clause-refused t c =
     passed_on (λ e. IsRefusalAt (tree_of_node c.args.left c.args.table.now c.args.node.now) c.args.place c.args.reader.now e.reason) c.err.result _ _ c.err.ensures refl
     (tt, λ other. rw (c.in-Ref.is, tree-Ref, c.if-left-eq0.true, followed-zero) (λ p at a st. never_read p a))
 
-pub read-returns-in-Some-clause-read : goal.read-returns-in-Some-clause-read
-read-returns-in-Some-clause-read t c =
+pub read_node-returns-in-Some-clause-read : goal.read_node-returns-in-Some-clause-read
+read_node-returns-in-Some-clause-read t c =
     let left : 0 < c.args.left = omega arith in
     let e = followed_one c.args.left c.args.table.now c.in-Ref.i left in
     let f = entry_there (followed (c.args.left - 1) c.args.table.now) c.args.table.now c.in-Ref.i c.in-Some.entry.now
     (found_entry c.args.table.now c.in-Ref.i c.in-Some.entry.now c.in-Some.ensures.lookup.3.0 (c.in-Some.ensures.lookup.3.1 c.in-Some.entry.now)) in
     rw (c.in-Ref.is, tree-Ref, e, f) c.read.ensures.read
 
-pub read-returns-in-Some-clause-refused : goal.read-returns-in-Some-clause-refused
-read-returns-in-Some-clause-refused t c =
+pub read_node-returns-in-Some-clause-refused : goal.read_node-returns-in-Some-clause-refused
+read_node-returns-in-Some-clause-refused t c =
     let left : 0 < c.args.left = omega arith in
     let e = followed_one c.args.left c.args.table.now c.in-Ref.i left in
     let f = entry_there (followed (c.args.left - 1) c.args.table.now) c.args.table.now c.in-Ref.i c.in-Some.entry.now
     (found_entry c.args.table.now c.in-Ref.i c.in-Some.entry.now c.in-Some.ensures.lookup.3.0 (c.in-Some.ensures.lookup.3.1 c.in-Some.entry.now)) in
     rw (c.in-Ref.is, tree-Ref, e, f) c.read.ensures.refused
 
-pub read-returns-in-None-clause-refused : goal.read-returns-in-None-clause-refused
-read-returns-in-None-clause-refused t c =
+pub read_node-returns-in-None-clause-refused : goal.read_node-returns-in-None-clause-refused
+read_node-returns-in-None-clause-refused t c =
     let left : 0 < c.args.left = omega arith in
     let e = followed_one c.args.left c.args.table.now c.in-Ref.i left in
     let f = entry_away (followed (c.args.left - 1) c.args.table.now) c.args.table.now c.in-Ref.i (no_entry c.args.table.now c.in-Ref.i c.in-None.ensures.lookup.3) in
@@ -360,9 +376,9 @@ read_tuple-loop-i-init t c =
         listing = [];
         read = no_fields at_node c.args.nodes.now c.args.place c.args.reader.now;
         taken = refl;
-        same = λ left. rw c.new-values.ensures.items refl;
+        same = λ left. rw c.in_ok-values.ensures.empty refl;
       },
-      λ left. rw c.new-values.ensures.items refl,
+      λ left. rw c.in_ok-values.ensures.empty refl,
     )
 
 pub read_tuple-field-requires-clause-place : goal.read_tuple-field-requires-clause-place
@@ -420,40 +436,40 @@ read_seq-returns-then-is_over_limit-clause-refused t c =
           seq_over_limit tree p a c.in_ok-taken.taken.length l.0 l.2.takes c.if-is_over_limit.ensures.0 c.if-is_over_limit.ensures.1,
     )
 
-pub read-returns-in-Unit-clause-whole : goal.read-returns-in-Unit-clause-whole
-read-returns-in-Unit-clause-whole t c = λ left. rw c.in-Unit.is (faults-Unit c.args.table.now c.args.left)
+pub read_node-returns-in-Unit-clause-whole : goal.read_node-returns-in-Unit-clause-whole
+read_node-returns-in-Unit-clause-whole t c = λ left. rw c.in-Unit.is (faults-Unit c.args.table.now c.args.left)
 
-pub read-returns-in-Bytes-clause-whole : goal.read-returns-in-Bytes-clause-whole
-read-returns-in-Bytes-clause-whole t c =
+pub read_node-returns-in-Bytes-clause-whole : goal.read_node-returns-in-Bytes-clause-whole
+read_node-returns-in-Bytes-clause-whole t c =
     rw c.in-Bytes.is (IfOk-weaker _ IsOfBytes (λ v. IsLeft _ → faults_of c.args.table.now v c.args.left node.Bytes ≡ []) (λ v h left. h c.args.table.now c.args.left) c.read_bytes.ensures.whole)
 
-pub read-returns-in-Option-clause-whole : goal.read-returns-in-Option-clause-whole
-read-returns-in-Option-clause-whole t c =
+pub read_node-returns-in-Option-clause-whole : goal.read_node-returns-in-Option-clause-whole
+read_node-returns-in-Option-clause-whole t c =
     rw c.in-Option.is (IfOk-weaker _ (λ v. IsLeft _ → IsOfOption c.args.table.now c.args.left _ v) (λ v. IsLeft _ → faults_of c.args.table.now v c.args.left (node.Option c.in-Option.some) ≡ [])
     (λ v h left. h left c.in-Option.some (sym c.deref.ensures)) c.read_option.ensures.whole)
 
-pub read-returns-in-Seq-clause-whole : goal.read-returns-in-Seq-clause-whole
-read-returns-in-Seq-clause-whole t c =
+pub read_node-returns-in-Seq-clause-whole : goal.read_node-returns-in-Seq-clause-whole
+read_node-returns-in-Seq-clause-whole t c =
     rw c.in-Seq.is (IfOk-weaker _ (λ v. IsLeft _ → IsOfSeq c.args.table.now c.args.left _ v) (λ v. IsLeft _ → faults_of c.args.table.now v c.args.left (node.Seq c.in-Seq.element) ≡ [])
     (λ v h left. h left c.in-Seq.element (sym c.deref-in-Seq.ensures)) c.read_seq.ensures.whole)
 
-pub read-returns-in-Map-clause-whole : goal.read-returns-in-Map-clause-whole
-read-returns-in-Map-clause-whole t c =
+pub read_node-returns-in-Map-clause-whole : goal.read_node-returns-in-Map-clause-whole
+read_node-returns-in-Map-clause-whole t c =
     rw c.in-Map.is (IfOk-weaker _ (λ v. IsLeft _ → IsOfMap c.args.table.now c.args.left _ _ v) (λ v. IsLeft _ → faults_of c.args.table.now v c.args.left (node.Map c.in-Map.key c.in-Map.value) ≡ [])
     (λ v h left. h left c.in-Map.key c.in-Map.value (sym c.deref-in-Map.ensures) (sym c.deref-in-Map-2.ensures)) c.read_map.ensures.whole)
 
-pub read-returns-in-Tuple-clause-whole : goal.read-returns-in-Tuple-clause-whole
-read-returns-in-Tuple-clause-whole t c =
+pub read_node-returns-in-Tuple-clause-whole : goal.read_node-returns-in-Tuple-clause-whole
+read_node-returns-in-Tuple-clause-whole t c =
     rw c.in-Tuple.is (IfOk-weaker _ (λ v. IsLeft _ → IsOfTuple c.args.table.now c.args.left _ v) (λ v. IsLeft _ → faults_of c.args.table.now v c.args.left (node.Tuple c.in-Tuple.nodes) ≡ [])
     (λ v h left. h left c.in-Tuple.nodes (sym c.deref-in-Tuple.ensures.value)) c.read_tuple.ensures.whole)
 
-pub read-returns-in-Enum-clause-whole : goal.read-returns-in-Enum-clause-whole
-read-returns-in-Enum-clause-whole t c =
+pub read_node-returns-in-Enum-clause-whole : goal.read_node-returns-in-Enum-clause-whole
+read_node-returns-in-Enum-clause-whole t c =
     rw c.in-Enum.is (IfOk-weaker _ (λ v. IsLeft _ → IsOfEnum c.args.table.now c.args.left _ v) (λ v. IsLeft _ → faults_of c.args.table.now v c.args.left (node.Enum c.in-Enum.nodes) ≡ [])
     (λ v h left. h left c.in-Enum.nodes (sym c.deref-in-Enum.ensures.value)) c.read_enum.ensures.whole)
 
-pub read-returns-in-Some-clause-whole : goal.read-returns-in-Some-clause-whole
-read-returns-in-Some-clause-whole t c =
+pub read_node-returns-in-Some-clause-whole : goal.read_node-returns-in-Some-clause-whole
+read_node-returns-in-Some-clause-whole t c =
     let some : 0 < c.args.left = omega arith in
     let there = found_entry c.args.table.now c.in-Ref.i c.in-Some.entry.now c.in-Some.ensures.lookup.3.0 (c.in-Some.ensures.lookup.3.1 c.in-Some.entry.now) in
     rw c.in-Ref.is (IfOk-weaker _ (λ v. IsLeft _ → faults_of c.args.table.now v (c.args.left - 1) c.in-Some.entry.now ≡ [])

@@ -12,25 +12,28 @@ use Rattle.bitcode_serde.proofs.ValueLemmas.{ReadsPairsAt}
 use Rattle.bitcode_serde.proofs.values.+read.Given as goal
 
 abbrev pub decreases-read : goal.decreases-read
-decreases-read l = 4 * left_below l.left l.table.now (depth l.node.now)
+decreases-read l = 5 * left_below l.left l.table.now (depth l.node.now) + 1
+
+abbrev pub decreases-read_node : goal.decreases-read_node
+decreases-read_node l = 5 * left_below l.left l.table.now (depth l.node.now)
 
 abbrev pub decreases-read_option : goal.decreases-read_option
-decreases-read_option l = 4 * left_below l.left l.table.now (depth l.node.now) + 1
+decreases-read_option l = 5 * left_below l.left l.table.now (depth l.node.now) + 2
 
 abbrev pub decreases-read_seq : goal.decreases-read_seq
-decreases-read_seq l = 4 * left_below l.left l.table.now (depth l.node.now) + 2
+decreases-read_seq l = 5 * left_below l.left l.table.now (depth l.node.now) + 3
 
 abbrev pub decreases-read_elements : goal.decreases-read_elements
-decreases-read_elements l = 4 * left_below l.left l.table.now (depth l.node.now) + 1
+decreases-read_elements l = 5 * left_below l.left l.table.now (depth l.node.now) + 2
 
 abbrev pub decreases-read_tuple : goal.decreases-read_tuple
-decreases-read_tuple l = 4 * left_below l.left l.table.now (deepest l.nodes.now) + 1
+decreases-read_tuple l = 5 * left_below l.left l.table.now (deepest l.nodes.now) + 2
 
 abbrev pub decreases-read_enum : goal.decreases-read_enum
-decreases-read_enum l = 4 * left_below l.left l.table.now (deepest l.nodes.now) + 1
+decreases-read_enum l = 5 * left_below l.left l.table.now (deepest l.nodes.now) + 2
 
 abbrev pub decreases-read_map : goal.decreases-read_map
-decreases-read_map l = 4 * left_below l.left l.table.now (max (depth l.key.now) (depth l.value.now)) + 1
+decreases-read_map l = 5 * left_below l.left l.table.now (max (depth l.key.now) (depth l.value.now)) + 2
 
 abbrev pub invariant-read_elements-loop-i : goal.invariant-read_elements-loop-i
 invariant-read_elements-loop-i l =

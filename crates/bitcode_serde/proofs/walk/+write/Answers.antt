@@ -16,18 +16,27 @@ use Rattle.bitcode_untyped.proofs.ViewLemmas.{tree-Unit, tree-Bytes, tree-Option
 use Rattle.bitcode_serde.specs.Writing.{place_in}
 use Rattle.bitcode_serde.proofs.DepthLemmas.{entry_deep, reference_falls}
 use Rattle.bitcode_serde.proofs.EntryLemmas.{found_entry, no_entry}
+use Rattle.bitcode_serde.proofs.LeavesLemmas.{value_outcome}
 use Rattle.bitcode_serde.proofs.SerializeLemmas.{grows_same, writes_none, refuses_use, among_front, among_back, begun, list_done, list_is, list_refused, refused_outcome, written_outcome, same_outcome, one_fault}
 use Rattle.bitcode_serde.proofs.WalkLemmas.{among_entry, each_none, each_more, each_all, written_there, use_outcome, reference_there, faults_there, faults_nowhere, variant_there, variant_outcome, both_begun, pair_there, key_refused, value_refused, map_done, map_is, uneven_fault, fields_none, field_more, field_refused, fields_done}
 use Rattle.bitcode_serde.proofs.walk.+write.Goals as goal
 
-pub write-returns-in-Unit-value : goal.write-returns-in-Unit-value
-write-returns-in-Unit-value t c =
+pub write-put_one-requires : goal.write-put_one-requires
+write-put_one-requires t c = record { place = c.requires; values = c.in-Some.ensures.some.values }
+
+pub write-returns-in-Some : goal.write-returns-in-Some
+write-returns-in-Some t c =
+    value_outcome c.args.node.now c.in-Some.kind c.args.value.now c.args.writer.now c.put_one.new.self c.args.place c.put_one.result c.in-Some.ensures.some
+    c.put_one.ensures.below c.put_one.ensures.written c.put_one.ensures.entries c.put_one.ensures.refused c.args.table.now c.args.left
+
+pub write_node-returns-in-Unit-value : goal.write_node-returns-in-Unit-value
+write_node-returns-in-Unit-value t c =
     rw (c.in-Unit.is, c.in-Unit-value.is, tree-Unit (followed c.args.left c.args.table.now), datum-Unit, faults-Unit c.args.table.now c.args.left)
     (written_outcome c.args.writer.now unit_tree c.args.place unit [] tt c.args.writer.now
     (writes_none c.args.writer.now c.args.writer.now (grows_same c.args.writer.now c.args.writer.now refl) refl) refl refl)
 
-pub write-returns-in-Bytes-value : goal.write-returns-in-Bytes-value
-write-returns-in-Bytes-value t c =
+pub write_node-returns-in-Bytes-value : goal.write_node-returns-in-Bytes-value
+write_node-returns-in-Bytes-value t c =
     rw (
       c.in-Bytes.is,
       c.in-Bytes-value.is,
@@ -39,8 +48,8 @@ write-returns-in-Bytes-value t c =
     )
     c.write_bytes.ensures
 
-pub write-returns-in-None : goal.write-returns-in-None
-write-returns-in-None t c =
+pub write_node-returns-in-None : goal.write_node-returns-in-None
+write_node-returns-in-None t c =
     rw (
       c.in-Option.is,
       c.in-Option-value.is,
@@ -53,8 +62,8 @@ write-returns-in-None t c =
     (use_outcome c.args.writer.now c.put.new.self _ c.args.place _ (natural 0) index_kind c.put.result refl (inl (refl, refl)) (refl, omega arith, refl)
     c.put.ensures.below c.put.ensures.written c.put.ensures.refused)
 
-pub write-returns-in-Some : goal.write-returns-in-Some
-write-returns-in-Some t c =
+pub write_node-returns-in-Some : goal.write_node-returns-in-Some
+write_node-returns-in-Some t c =
     rw (
       c.in-Option.is,
       c.in-Option-value.is,
@@ -67,50 +76,50 @@ write-returns-in-Some t c =
     )
     (c.write_variant.ensures (tree_and unit_tree (tree_and (tree_of_node c.args.left c.args.table.now c.deref-in-Some.result.now) no_trees)) refl)
 
-pub write-returns-in_default-value : goal.write-returns-in_default-value
-write-returns-in_default-value t c =
+pub write_node-returns-in_default-value : goal.write_node-returns-in_default-value
+write_node-returns-in_default-value t c =
     one_fault c.args.writer.now _ c.args.place _ _ NotOfTheShape c.err.result _ c.args.writer.now c.err.ensures refl
     (ap (faults_of c.args.table.now c.args.value.now c.args.left) c.in-Unit.is ∙ other-Unit c.args.table.now c.args.value.now c.args.left
     c.in_default-value.not-Unit)
 
-pub write-returns-in_default-value-2 : goal.write-returns-in_default-value-2
-write-returns-in_default-value-2 t c =
+pub write_node-returns-in_default-value-2 : goal.write_node-returns-in_default-value-2
+write_node-returns-in_default-value-2 t c =
     one_fault c.args.writer.now _ c.args.place _ _ NotOfTheShape c.err-in_default-value-2.result _ c.args.writer.now c.err-in_default-value-2.ensures refl
     (ap (faults_of c.args.table.now c.args.value.now c.args.left) c.in-Bytes.is ∙ other-Bytes c.args.table.now c.args.value.now c.args.left
     c.in_default-value-2.not-Bytes)
 
-pub write-returns-in_default-value-3 : goal.write-returns-in_default-value-3
-write-returns-in_default-value-3 t c =
+pub write_node-returns-in_default-value-3 : goal.write_node-returns-in_default-value-3
+write_node-returns-in_default-value-3 t c =
     one_fault c.args.writer.now _ c.args.place _ _ NotOfTheShape c.err-in_default-value-3.result _ c.args.writer.now c.err-in_default-value-3.ensures refl
     (ap (faults_of c.args.table.now c.args.value.now c.args.left) c.in-Option.is ∙ other-Option c.args.table.now c.args.value.now c.args.left c.in-Option.some
     c.in_default-value-3.not-Option)
 
-pub write-returns-in_default-value-4 : goal.write-returns-in_default-value-4
-write-returns-in_default-value-4 t c =
+pub write_node-returns-in_default-value-4 : goal.write_node-returns-in_default-value-4
+write_node-returns-in_default-value-4 t c =
     one_fault c.args.writer.now _ c.args.place _ _ NotOfTheShape c.err-in_default-value-4.result _ c.args.writer.now c.err-in_default-value-4.ensures refl
     (ap (faults_of c.args.table.now c.args.value.now c.args.left) c.in-Seq.is ∙ other-Seq c.args.table.now c.args.value.now c.args.left c.in-Seq.element
     c.in_default-value-4.not-Seq)
 
-pub write-returns-in_default-value-5 : goal.write-returns-in_default-value-5
-write-returns-in_default-value-5 t c =
+pub write_node-returns-in_default-value-5 : goal.write_node-returns-in_default-value-5
+write_node-returns-in_default-value-5 t c =
     one_fault c.args.writer.now _ c.args.place _ _ NotOfTheShape c.err-in_default-value-5.result _ c.args.writer.now c.err-in_default-value-5.ensures refl
     (ap (faults_of c.args.table.now c.args.value.now c.args.left) c.in-Map.is ∙ other-Map c.args.table.now c.args.value.now c.args.left c.in-Map.key
     c.in-Map.entry c.in_default-value-5.not-Map)
 
-pub write-returns-in_default-value-6 : goal.write-returns-in_default-value-6
-write-returns-in_default-value-6 t c =
+pub write_node-returns-in_default-value-6 : goal.write_node-returns-in_default-value-6
+write_node-returns-in_default-value-6 t c =
     one_fault c.args.writer.now _ c.args.place _ _ NotOfTheShape c.err-in_default-value-6.result _ c.args.writer.now c.err-in_default-value-6.ensures refl
     (ap (faults_of c.args.table.now c.args.value.now c.args.left) c.in-Tuple.is ∙ other-Tuple c.args.table.now c.args.value.now c.args.left c.in-Tuple.nodes
     c.in_default-value-6.not-Tuple)
 
-pub write-returns-in_default-value-7 : goal.write-returns-in_default-value-7
-write-returns-in_default-value-7 t c =
+pub write_node-returns-in_default-value-7 : goal.write_node-returns-in_default-value-7
+write_node-returns-in_default-value-7 t c =
     one_fault c.args.writer.now _ c.args.place _ _ NotOfTheShape c.err-in_default-value-7.result _ c.args.writer.now c.err-in_default-value-7.ensures refl
     (ap (faults_of c.args.table.now c.args.value.now c.args.left) c.in-Enum.is ∙ other-Enum c.args.table.now c.args.value.now c.args.left c.in-Enum.nodes
     c.in_default-value-7.not-Enum)
 
-pub write-returns-in-Seq-value : goal.write-returns-in-Seq-value
-write-returns-in-Seq-value t c =
+pub write_node-returns-in-Seq-value : goal.write_node-returns-in-Seq-value
+write_node-returns-in-Seq-value t c =
     rw (
       c.in-Seq.is,
       c.in-Seq-value.is,
@@ -123,8 +132,8 @@ write-returns-in-Seq-value t c =
     )
     c.write_seq.ensures
 
-pub write-returns-in-Map-value : goal.write-returns-in-Map-value
-write-returns-in-Map-value t c =
+pub write_node-returns-in-Map-value : goal.write_node-returns-in-Map-value
+write_node-returns-in-Map-value t c =
     rw (
       c.in-Map.is,
       c.in-Map-value.is,
@@ -137,8 +146,8 @@ write-returns-in-Map-value t c =
     )
     c.write_map.ensures
 
-pub write-returns-in-Tuple-value : goal.write-returns-in-Tuple-value
-write-returns-in-Tuple-value t c =
+pub write_node-returns-in-Tuple-value : goal.write_node-returns-in-Tuple-value
+write_node-returns-in-Tuple-value t c =
     rw (
       c.in-Tuple.is,
       c.in-Tuple-value.is,
@@ -151,8 +160,8 @@ write-returns-in-Tuple-value t c =
     )
     c.write_tuple.ensures
 
-pub write-returns-in-Enum-value : goal.write-returns-in-Enum-value
-write-returns-in-Enum-value t c =
+pub write_node-returns-in-Enum-value : goal.write_node-returns-in-Enum-value
+write_node-returns-in-Enum-value t c =
     rw (
       c.in-Enum.is,
       c.in-Enum-value.is,
@@ -166,8 +175,8 @@ write-returns-in-Enum-value t c =
     )
     c.write_enum.ensures
 
-pub write-returns-in_default : goal.write-returns-in_default
-write-returns-in_default t c = c.write_leaf.ensures c.args.table.now c.args.left
+pub write_node-returns-in_default : goal.write_node-returns-in_default
+write_node-returns-in_default t c = c.write_leaf.ensures c.args.table.now c.args.left
 
 pub write_enum-write_variant-requires : goal.write_enum-write_variant-requires
 write_enum-write_variant-requires t c =

@@ -11,25 +11,28 @@ use Rattle.bitcode_serde.proofs.WalkLemmas.{EachWritten, FieldsWritten}
 use Rattle.bitcode_serde.proofs.walk.+write.Given as goal
 
 abbrev pub decreases-write : goal.decreases-write
-decreases-write l = 4 * left_below l.left l.table.now (depth l.node.now) + 1
+decreases-write l = 5 * left_below l.left l.table.now (depth l.node.now) + 2
+
+abbrev pub decreases-write_node : goal.decreases-write_node
+decreases-write_node l = 5 * left_below l.left l.table.now (depth l.node.now) + 1
 
 abbrev pub decreases-write_reference : goal.decreases-write_reference
-decreases-write_reference l = 4 * left_below l.left l.table.now 0
+decreases-write_reference l = 5 * left_below l.left l.table.now 0
 
 abbrev pub decreases-write_variant : goal.decreases-write_variant
-decreases-write_variant l = 4 * left_below l.left l.table.now (depth l.node.now) + 2
+decreases-write_variant l = 5 * left_below l.left l.table.now (depth l.node.now) + 3
 
 abbrev pub decreases-write_enum : goal.decreases-write_enum
-decreases-write_enum l = 4 * left_below l.left l.table.now (deepest l.nodes.now) + 3
+decreases-write_enum l = 5 * left_below l.left l.table.now (deepest l.nodes.now) + 4
 
 abbrev pub decreases-write_seq : goal.decreases-write_seq
-decreases-write_seq l = 4 * left_below l.left l.table.now (depth l.node.now) + 2
+decreases-write_seq l = 5 * left_below l.left l.table.now (depth l.node.now) + 3
 
 abbrev pub decreases-write_map : goal.decreases-write_map
-decreases-write_map l = 4 * left_below l.left l.table.now (max (depth l.key.now) (depth l.value.now)) + 2
+decreases-write_map l = 5 * left_below l.left l.table.now (max (depth l.key.now) (depth l.value.now)) + 3
 
 abbrev pub decreases-write_tuple : goal.decreases-write_tuple
-decreases-write_tuple l = 4 * left_below l.left l.table.now (deepest l.nodes.now) + 2
+decreases-write_tuple l = 5 * left_below l.left l.table.now (deepest l.nodes.now) + 3
 
 abbrev pub invariant-write_seq-loop-value : goal.invariant-write_seq-loop-value
 invariant-write_seq-loop-value l =

@@ -3,15 +3,15 @@ use Rattle.bitcode_serde.proofs.LeavesLemmas.{value_outcome}
 use Rattle.bitcode_serde.proofs.WalkLemmas.{leaf_outcome}
 use Rattle.bitcode_serde.proofs.walk.write_leaf.Goals as goal
 
-pub put_each-requires : goal.put_each-requires
-put_each-requires c = record { place = c.requires.place; values = c.in-Some.ensures.some.values }
+pub put_one-requires : goal.put_one-requires
+put_one-requires c = record { place = c.requires.place; values = c.in-Some.ensures.some.values }
 
 pub returns-in-Some : goal.returns-in-Some
 returns-in-Some c =
     λ table left.
-    value_outcome c.args.node.now c.in-Some.kind c.args.value.now c.args.writer.now c.put_each.new.self c.args.place c.put_each.result c.in-Some.ensures.some
-    c.put_each.ensures.below (rw c.from_ref.ensures.value at c.put_each.ensures.written) (rw c.from_ref.ensures.value at c.put_each.ensures.entries)
-    (rw c.from_ref.ensures.value at c.put_each.ensures.refused) table left
+    value_outcome c.args.node.now c.in-Some.kind c.args.value.now c.args.writer.now c.put_one.new.self c.args.place c.put_one.result c.in-Some.ensures.some
+    c.put_one.ensures.below c.put_one.ensures.written c.put_one.ensures.entries
+    c.put_one.ensures.refused table left
 
 pub returns-in_ok-leaf_entry-in-None : goal.returns-in_ok-leaf_entry-in-None
 returns-in_ok-leaf_entry-in-None c =

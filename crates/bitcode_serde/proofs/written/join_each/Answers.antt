@@ -1,13 +1,10 @@
 -- The values up to the chunk at hand were written.
-use Rattle.std.proofs.Common.{◌≡◌, ◌∷◌, [], length, refl, subst, sym, ap, map, ◌∙◌, inl, inr, arith}
-use Rattle.std.specs.List.{AllByRecursion}
-use Rattle.std.proofs.lemmas.Result.{err_from_is_err_and, on_ok_weaker}
+use Rattle.std.proofs.Common.{◌≡◌, [], length, refl, subst, ap, map, ◌∙◌, inl, inr, arith}
+use Rattle.std.proofs.lemmas.Result.{err_from_is_err_and}
 use Rattle.bitcode_coder.specs.Columns.{one, beside}
-use Rattle.bitcode_serde.proofs.JoiningLemmas.{JoinsSome, some_none, some_more, some_other, all_joined, all_entries, only_one, no_items}
+use Rattle.bitcode_serde.proofs.JoiningLemmas.{JoinsSome, some_none, some_more, some_other, all_joined, all_entries, no_items}
 use Rattle.bitcode_untyped.specs.View.{datum_of}
-use Rattle.bitcode_serde.specs.Leaves.{IsEntryIn, HasOther}
 use Rattle.bitcode_serde.specs.ReadColumns.{kind_of}
-use Rattle.bitcode_serde.proofs.WrittenLemmas.{if_err}
 use Rattle.bitcode_serde.proofs.written.join_each.Goals as goal
 
 pub loop-rest-init : goal.loop-rest-init
@@ -32,28 +29,6 @@ returns-in_err-reserve-clause-refused g c =
       | inl memory ↦ inl memory
       | inr h ↦ inr (inr h.1)
     ])
-
-pub returns-then-values-eq1-clause-joined : goal.returns-then-values-eq1-clause-joined
-returns-then-values-eq1-clause-joined g c =
-    let one_value = only_one c.args.values.now c.index-values-0.result c.if-values-eq1.true c.index-values-0.is in
-    on_ok_weaker c.join_one.result
-    (λ joined. joined ∙ ap (λ k. beside k (one (kind_of g.T.Case.kind) (datum_of c.index-values-0.result ∷ []))) c.reserve.ensures.columns
-    ∙ ap (λ vs. beside (g.E.HoldsColumns.columns c.args.column.now) (one (kind_of g.T.Case.kind) (map datum_of vs))) (sym one_value))
-    c.join_one.ensures.joined
-
-pub returns-then-values-eq1-clause-entries : goal.returns-then-values-eq1-clause-entries
-returns-then-values-eq1-clause-entries g c =
-    let one_value = only_one c.args.values.now c.index-values-0.result c.if-values-eq1.true c.index-values-0.is in
-    on_ok_weaker c.join_one.result (λ entry. subst (AllByRecursion (IsEntryIn g.T.Case.kind)) (sym one_value) (entry, tt)) c.join_one.ensures.entry
-
-pub returns-then-values-eq1-clause-refused : goal.returns-then-values-eq1-clause-refused
-returns-then-values-eq1-clause-refused g c =
-    let one_value = only_one c.args.values.now c.index-values-0.result c.if-values-eq1.true c.index-values-0.is in
-    if_err _ _ c.join_one.result
-    (λ e h. elim h [
-      | inl memory ↦ inl memory
-      | inr away ↦ inr (inl (away.0, subst (HasOther g.T.Case.kind) (sym one_value) (inl away.1)))
-    ]) c.join_one.ensures.refused
 
 pub returns-in_err-join_chunk-clause-refused : goal.returns-in_err-join_chunk-clause-refused
 returns-in_err-join_chunk-clause-refused g c =

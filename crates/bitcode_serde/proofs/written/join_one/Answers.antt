@@ -1,27 +1,27 @@
 -- One value is a list of one.
 use Rattle.std.proofs.Common.{[], ◌∷◌, ap, sym}
 use Rattle.std.proofs.lemmas.Result.{on_ok_weaker}
-use Rattle.bitcode_serde.proofs.JoiningLemmas.{columns_joined, entries_joined, memory_alone, joins_one, overflows_one, all_one}
+use Rattle.bitcode_serde.proofs.JoiningLemmas.{columns_joined, entries_joined, never_overflows, one_refused, joins_one, all_one}
 use Rattle.bitcode_serde.proofs.WrittenLemmas.{if_err}
 use Rattle.bitcode_serde.proofs.written.join_one.Goals as goal
 
 pub returns-in-Some-clause-joined : goal.returns-in-Some-clause-joined
 returns-in-Some-clause-joined g c =
-    on_ok_weaker c.encode.result
+    on_ok_weaker c.join.result
     (λ one. columns_joined g.T.Case.kind g.T.Case.holder g.T.Shaped.is_value g.T.Shaped.lists g.T.Shaped.shape g.met.T.Case.datum g.met.T.Case.one_column
     (c.in-Some.t.now ∷ []) (c.args.value.now ∷ []) _ _ (ap (λ v. v ∷ []) (sym c.in-Some.ensures.some)) (joins_one _ _ _ _ _ one))
-    c.encode.ensures.joined
+    c.join.ensures.joined
 
-pub returns-in-Some-clause-entry : goal.returns-in-Some-clause-entry
-returns-in-Some-clause-entry g c =
-    on_ok_weaker c.encode.result
-    (λ one. (entries_joined g.T.Case.kind g.T.Case.holder g.T.Shaped.is_value g.T.Shaped.lists g.T.Shaped.shape g.met.T.Case.datum g.met.T.Case.of_case
+pub returns-in-Some-clause-entries : goal.returns-in-Some-clause-entries
+returns-in-Some-clause-entries g c =
+    on_ok_weaker c.join.result
+    (λ one. entries_joined g.T.Case.kind g.T.Case.holder g.T.Shaped.is_value g.T.Shaped.lists g.T.Shaped.shape g.met.T.Case.datum g.met.T.Case.of_case
     g.met.T.Case.entry g.met.T.Shaped.lawful.of_shape (c.in-Some.t.now ∷ []) (c.args.value.now ∷ []) _ _ (ap (λ v. v ∷ []) (sym c.in-Some.ensures.some))
-    (all_one g.T.Shaped.is_value c.in-Some.t.now c.told.ensures) (joins_one _ _ _ _ _ one)).0)
-    c.encode.ensures.joined
+    (all_one g.T.Shaped.is_value c.in-Some.t.now c.told.ensures) (joins_one _ _ _ _ _ one))
+    c.join.ensures.joined
 
 pub returns-in-Some-clause-refused : goal.returns-in-Some-clause-refused
 returns-in-Some-clause-refused g c =
-    if_err _ _ c.encode.result
-    (λ e h. memory_alone g.T.Case.kind g.T.Case.holder g.T.Shaped.is_value g.T.Shaped.lists g.T.Shaped.shape g.met.T.Case.datum g.met.T.Case.one_column
-    (c.in-Some.t.now ∷ []) _ e.reason _ (overflows_one _ _ _ _ e.reason h)) c.encode.ensures.refused
+    if_err _ _ c.join.result
+    (λ e h. one_refused h (never_overflows g.T.Case.kind g.T.Shaped.lists g.T.Shaped.shape g.met.T.Case.one_column c.in-Some.t.now _))
+    c.join.ensures.refused

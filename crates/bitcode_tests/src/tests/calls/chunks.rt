@@ -1,5 +1,5 @@
-//! Values that are written in chunks, and columns that are collected into bytes of their own.
-use bitcode::coder::Buffer as _;
+//! Values that are written in chunks and one by one, and columns that are collected into bytes of their own.
+use bitcode::coder::{Buffer as _, write_length, write_one};
 use bitcode::{
     BoolEncoder, Encoder, IntEncoder, LengthEncoder, MAX_VECTORED_CHUNK, TupleEncoder,
     VariantEncoder,
@@ -14,6 +14,21 @@ fn one_value_is_a_chunk(rt: HostRuntime) -> Result<(), Fail> {
     encoder.encode_vectored(&[&(true, 7u16)])?;
     assert_eq!(rt; encoder.collect(alloc)?.as_slice(), [1, 7, 0].as_slice());
     assert_eq!(rt; encoder.collect(alloc)?.len(), 0);
+    Ok(())
+}
+
+#[test]
+fn one_value_is_written_without_lists(rt: HostRuntime) -> Result<(), Fail> {
+    let alloc = rt.alloc();
+    let mut bytes = Vec::new(alloc);
+    let mut pair: TupleEncoder<BoolEncoder, IntEncoder<u16>> = TupleEncoder::new(alloc);
+    write_one(&mut pair, &(true, 7u16), &mut bytes)?;
+    assert_eq!(rt; bytes.as_slice(), [1, 7, 0].as_slice());
+    let mut flag = BoolEncoder::new(alloc);
+    assert!(rt; flag.write_directly(&true, &mut bytes)?);
+    write_length(alloc, 3, &mut bytes)?;
+    LengthEncoder::new(alloc).write_one(256, &mut bytes)?;
+    assert_eq!(rt; bytes.as_slice(), [1, 7, 0, 1, 3, 255, 4, 0, 1].as_slice());
     Ok(())
 }
 

@@ -1,6 +1,6 @@
 //! Sealed values: with ample memory each call once, and each refusal.
 use bitcode::sealed::{
-    Expected, Label, OpenError, crc_32, open, open_front, seal, seal_into, split_sealed,
+    Expected, Label, OpenError, comes_back, crc_32, open, open_front, seal, seal_into, split_sealed,
 };
 use std::test::Fail;
 
@@ -29,11 +29,12 @@ fn a_checksum_is_that_of_zlib(rt: HostRuntime) {
 #[test]
 fn a_value_is_sealed_and_opened(rt: HostRuntime) -> Result<(), Fail> {
     let alloc = rt.alloc();
-    let text = String::from_str(alloc, "hi")?;
-    let bytes = seal(alloc, LABEL, &(7u32, text))?;
+    let value = (7u32, String::from_str(alloc, "hi")?);
+    let bytes = seal(alloc, LABEL, &value)?;
     assert_eq!(rt; bytes.as_slice(), BYTES.as_slice());
-    let (number, text): (u32, String) = open(alloc, &EXPECTED, bytes.as_slice())?;
-    assert!(rt; number == 7 && text.as_str() == "hi");
+    let again: (u32, String) = open(alloc, &EXPECTED, bytes.as_slice())?;
+    assert!(rt; again == value);
+    comes_back(&value, LABEL, &EXPECTED, bytes.as_slice(), &again);
     Ok(())
 }
 

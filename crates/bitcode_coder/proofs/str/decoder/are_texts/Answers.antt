@@ -1,6 +1,6 @@
 -- The pieces are UTF-8 exactly where the bytes are and are cut at characters.
 use Rattle.std.specs.Str.{IsCharBoundary}
-use Rattle.std.proofs.Common.{All, subst, sym}
+use Rattle.std.proofs.Common.{All, rules, subst, sym}
 use Rattle.bitcode_coder.specs.JoinedTexts.{ends_from}
 use Rattle.bitcode_coder.specs.Length.{lengths_left}
 use Rattle.bitcode_coder.proofs.JoinedTextLemmas.{pieces_are_utf8, cut_at_chars, same_answer, ascii_pieces}
@@ -19,5 +19,5 @@ returns-in-Ok c =
 pub returns-in-Err : goal.returns-in-Err
 returns-in-Err c each = c.in-Err.ensures.cases.0 (cut_at_chars (lengths_left c.args.lengths.now) c.args.bytes.now c.requires each).whole
 
-pub returns-then-is_ascii : goal.returns-then-is_ascii
-returns-then-is_ascii c = ascii_pieces (lengths_left c.args.lengths.now) c.args.bytes.now c.if-is_ascii.ensures.cases
+pub returns-then-are_ascii : goal.returns-then-are_ascii
+returns-then-are_ascii c = ascii_pieces (lengths_left c.args.lengths.now) c.args.bytes.now (c.are_ascii.ensures (search rules))

@@ -50,7 +50,7 @@ returns-in-I128-clause-taken c =
 
 pub returns-in-Lengths-clause-taken : goal.returns-in-Lengths-clause-taken
 returns-in-Lengths-clause-taken c =
-    length_taken c.decode-in-Lengths.result _ _ _ _ (ap left c.in-Lengths.is) c.decode-in-Lengths.ensures.taken (datum-U64 c.decode-in-Lengths.result)
+    length_taken c.decode.result _ _ _ _ (ap left c.in-Lengths.is) c.decode.ensures.taken (datum-U64 c.decode.result)
 
 pub returns-in_ok-decode-in-Texts-clause-taken : goal.returns-in_ok-decode-in-Texts-clause-taken
 returns-in_ok-decode-in-Texts-clause-taken c =

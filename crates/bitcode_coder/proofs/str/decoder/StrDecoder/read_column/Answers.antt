@@ -1,13 +1,16 @@
 -- The lengths are read, then the bytes that they sum to, and then these are looked at.
-use Rattle.std.proofs.Common.{None, ◌<◌, length, All, refl, sym, subst, ◌∙◌}
+use Rattle.std.proofs.Common.{◌≡◌, ℕ, None, ◌<◌, List, [], length, All, refl, sym, subst, ◌∙◌}
 use Rattle.std.specs.Prelude.{IsUtf8}
+use Rattle.bitcode_columns.specs.Fast.{slice_rest}
 use Rattle.bitcode_columns.specs.Reading.{Reads}
 use Rattle.bitcode_coder.specs.Cutting.{cut}
 use Rattle.bitcode_coder.specs.LengthColumn.{SpellsLengths}
 use Rattle.std.proofs.lemmas.Result.{err_from_is_err_and}
+use Rattle.std.proofs.lemmas.Str.Ascii.{IsAscii-nil}
 use Rattle.bitcode_columns.proofs.ReadingLemmas.{OnErr-always}
 use Rattle.bitcode_coder.specs.Length.{lengths_left}
 use Rattle.bitcode_coder.specs.TextParts.{in_lengths, missing_bytes, not_texts}
+use Rattle.bitcode_coder.proofs.JoinedTextLemmas.{ascii_pieces}
 use Rattle.bitcode_coder.proofs.LengthPartLemmas.{ends_behind_read}
 use Rattle.bitcode_coder.proofs.StrLemmas.{texts_read}
 use Rattle.bitcode_coder.proofs.StrictColumnLemmas.{texts_judged}
@@ -42,9 +45,22 @@ returns-then-not-are_texts-clause-rest c =
     (ends_behind_read c.consume_bytes.new.input.now c.in_ok-written.ensures.read
     (record { taken = c.in_ok-bytes.bytes.now; whole = c.in_ok-bytes.ensures.whole }))
 
-pub invariant_of-column : goal.invariant_of-column
-invariant_of-column c = record {
-  utf8 = subst (λ bytes. All IsUtf8 (cut (lengths_left c.read.new.self) bytes)) (sym c.from.ensures) c.if-not-are_texts.ensures;
+-- no pieces of no bytes are broken
+nothing_broken : (ns bytes : List ℕ) → bytes ≡ [] → All IsUtf8 (cut ns bytes)
+nothing_broken ns bytes none = subst (λ bs. All IsUtf8 (cut ns bs)) (sym none) (ascii_pieces ns [] IsAscii-nil)
+
+pub invariant_of-self : goal.invariant_of-self
+invariant_of-self c = record { utf8 = nothing_broken (lengths_left c.read.new.self) (slice_rest c.from-self.result) c.from-self.ensures }
+
+pub invariant_of-self-in-Break-branch-2 : goal.invariant_of-self-in-Break-branch-2
+invariant_of-self-in-Break-branch-2 c = record { utf8 = nothing_broken (lengths_left c.read.new.self) (slice_rest c.from-self.result) c.from-self.ensures }
+
+pub invariant_of-self-then-not-are_texts : goal.invariant_of-self-then-not-are_texts
+invariant_of-self-then-not-are_texts c = record { utf8 = nothing_broken (lengths_left c.read.new.self) (slice_rest c.from-self.result) c.from-self.ensures }
+
+pub invariant_of-self-2 : goal.invariant_of-self-2
+invariant_of-self-2 c = record {
+  utf8 = subst (λ bytes. All IsUtf8 (cut (lengths_left c.read.new.self) bytes)) (sym c.from-self-2.ensures) c.if-not-are_texts.ensures;
 }
 
 pub returns-clause-read : goal.returns-clause-read
@@ -52,7 +68,7 @@ returns-clause-read c =
     let ns = lengths_left c.read.new.self in
     let bytes = c.in_ok-bytes.bytes.now in
     let all = c.length.ensures ∙ c.in_ok-written.ensures.sum in
-    rw c.from.ensures
+    rw c.from-self-2.ensures
     (texts_read bytes
     (subst (λ input. Reads (SpellsLengths None) c.args.k c.args.input.now.now ns input) c.in_ok-bytes.ensures.whole c.in_ok-written.ensures.read)
     (c.in_ok-bytes.ensures.size ∙ all) c.if-not-are_texts.ensures)
@@ -62,6 +78,6 @@ returns-clause-judged c strict =
     let ns = lengths_left c.read.new.self in
     let bytes = c.in_ok-bytes.bytes.now in
     let all = c.length.ensures ∙ c.in_ok-written.ensures.sum in
-    rw c.from.ensures
-    (texts_judged _ c.args.k c.args.input.now.now ns bytes c.consume_bytes.new.input.now (c.in_ok-bytes.ensures.size ∙ all) (rw c.from.ensures at (returns-clause-read c))
+    rw c.from-self-2.ensures
+    (texts_judged _ c.args.k c.args.input.now.now ns bytes c.consume_bytes.new.input.now (c.in_ok-bytes.ensures.size ∙ all) (rw c.from-self-2.ensures at (returns-clause-read c))
     (rw c.in_ok-bytes.ensures.whole at (c.in_ok-written.ensures.judged strict)))

@@ -1,0 +1,50 @@
+-- A value goes to the column of its place.
+use Rattle.std.proofs.Common.{[], ◌∷◌, length, map, refl, ap}
+use Rattle.bitcode_untyped.specs.View.{datum_of}
+use Rattle.bitcode_serde.specs.ReadColumns.{kind_of}
+use Rattle.bitcode_serde.specs.Places.{places}
+use Rattle.bitcode_serde.proofs.FiledLemmas.{filed_set}
+use Rattle.bitcode_serde.proofs.OutcomeLemmas.{on_ok}
+use Rattle.bitcode_serde.proofs.WritingLemmas.{put_there, other_there, within_set}
+use Rattle.bitcode_serde.proofs.WrittenLemmas.{if_err}
+use Rattle.bitcode_serde.proofs.writer.state.Writer.put_one.Goals as goal
+
+pub invariant_of-self-clause-inside : goal.invariant_of-self-clause-inside
+invariant_of-self-clause-inside c =
+    let old = c.args.self.now in
+    let there = c.index_mut.result.now in
+    within_set old.columns.items c.in-Some.i (length old.places.below.items) there (record { place = there.place; column = c.push_one.new.self })
+    c.index_mut.ensures.value refl old.inside
+
+pub invariant_of-self-clause-filed : goal.invariant_of-self-clause-filed
+invariant_of-self-clause-filed c =
+    let old = c.args.self.now in
+    let there = c.index_mut.result.now in
+    filed_set (λ c. c.place) old.places.links.items old.columns.items c.in-Some.i there (record { place = there.place; column = c.push_one.new.self })
+    (ap (λ z. z.place) c.index_mut.ensures.value) old.filed
+
+pub returns-in-Some-clause-written : goal.returns-in-Some-clause-written
+returns-in-Some-clause-written c =
+    let old = c.args.self.now in
+    let there = c.index_mut.result.now in
+    on_ok _ _ _ c.push_one.result c.push_one.ensures.kind c.push_one.ensures.written
+    (λ kinds entries. put_there old.places.below.items old.columns.items c.args.place c.in-Some.i (kind_of c.args.kind) (map datum_of (c.args.value.now ∷ [])) there
+    (record { place = there.place; column = c.push_one.new.self }) old.places.apart c.requires.place old.inside c.in-Some.ensures.first c.in-Some.ensures.some
+    c.index_mut.ensures.value refl kinds.0 entries)
+
+pub returns-in-Some-clause-refused : goal.returns-in-Some-clause-refused
+returns-in-Some-clause-refused c =
+    let old = c.args.self.now in
+    if_err _ _ c.push_one.result
+    (λ e h. other_there (places old.places.below.items) old.columns.items c.args.place c.in-Some.i c.args.kind c.index_mut.result.now (c.args.value.now ∷ []) e.reason
+    c.in-Some.ensures.some c.index_mut.ensures.value h)
+    c.push_one.ensures.refused
+
+pub returns-in-None-clause-written : goal.returns-in-None-clause-written
+returns-in-None-clause-written c = rw c.from_ref.ensures.value at c.put_each.ensures.written
+
+pub returns-in-None-clause-entries : goal.returns-in-None-clause-entries
+returns-in-None-clause-entries c = rw c.from_ref.ensures.value at c.put_each.ensures.entries
+
+pub returns-in-None-clause-refused : goal.returns-in-None-clause-refused
+returns-in-None-clause-refused c = rw c.from_ref.ensures.value at c.put_each.ensures.refused
