@@ -42,6 +42,7 @@ BY_SCRIPT = re.compile(r"^<!-- scripts/.*?^<!-- end -->$", re.M | re.S)
 NO_PAGES = ["docs/speed.svg", "docs/speed.tsv"]
 DATE = re.compile(r"\b20\d\d-\d\d-\d\d\b")
 BY_HAND = re.compile(r"\b\d[\d,]* (?:tests|edits|must-fail edits|functions|crates)\b")
+TEST = r"^#\[test\]"
 OWN_WORDS = re.compile(r"\b(lawful|spells?|spelled|listings?)\b")
 STILTED = re.compile(r"\b(one's own|in turn|as (it|they) stands?|stands? (in|for|at|with|after|beside)|by itself|what is (more|left))\b", re.I)
 
@@ -63,12 +64,11 @@ def count(pattern, paths):
 def counts():
     """The tables of what is counted."""
     crates = [line.split(":")[0] for line in read("crates.txt").splitlines() if line and not line.startswith("#")]
-    lines = ["| Crate | Functions | Tests | Edits in `must-fail/` | Edits in `scripts/mutants` that CI tries | All edits in `scripts/mutants` |", "|---|---|---|---|---|---|"]
-    total = [0] * 5
+    lines = ["| Crate | Functions | Edits in `must-fail/` | Edits in `scripts/mutants` that CI tries | All edits in `scripts/mutants` |", "|---|---|---|---|---|"]
+    total = [0] * 4
     for crate in crates:
         numbers = [
             count(r"^\s*(?:pub(?:\(\w+\))? )?(?:(?:const|unsafe) )*fn \w", f"crates/{crate}/src/**/*.rt"),
-            count(r"^\s*#\[test\]", f"crates/{crate}/src/**/*.rt"),
             len(glob.glob(f"crates/{crate}/must-fail/*.edit")),
             count(r"^mutant: ", f"scripts/mutants/{crate}/each_run.edit"),
             count(r"^mutant: ", f"scripts/mutants/{crate}/*.edit"),
@@ -87,6 +87,8 @@ def counts():
         f"| encoded values | {rows('scripts/vectors/*/written.tsv')} | {rows('scripts/vectors/serde/written.tsv')} |",
         f"| decoded or rejected inputs | {rows('scripts/vectors/*/read.tsv')} | {rows('scripts/vectors/serde/read.tsv')} |",
         f"| integer columns | {rows('scripts/vectors/columns/packed.tsv') + rows('scripts/vectors/columns/unpacked.tsv')} | |",
+        "",
+        f"`tests/` has {count(TEST, 'tests/library/**/*.rt')} tests of the library and {count(TEST, 'tests/own_types/**/*.rt')} of user-defined types.",
         "",
         f"The tests run `scripts/new_type` on {count('^pub (?:struct|enum) ', 'scripts/own_types/tried.txt')} declarations that it accepts, and on "
         f"{count(' => ', 'scripts/own_types/refused.txt')} that it rejects.",

@@ -1,7 +1,7 @@
 //! What the program prints of its rows.
 use crate::rows;
 use crate::rows::{typed, untyped};
-use bitcode_tests::Got;
+use bitcode_expected::Got;
 use std::alloc::Global;
 use std::io;
 

@@ -4,7 +4,7 @@ use bitcode::{Reason, decode};
 use bitcode_by_hand::never::Never;
 use bitcode_by_hand::one::One;
 use bitcode_by_hand::two::Two;
-use bitcode_tests::{Got, decodes, encodes, refuses};
+use bitcode_expected::{Got, decodes, encodes, refuses};
 use std::alloc::Global;
 
 /// The variants of all options stand together, and then the values of those that have one.

@@ -2,7 +2,7 @@
 use crate::rows::untyped;
 use bitcode::{Reason, U8Char, decode};
 use bitcode_by_hand::foo::Foo;
-use bitcode_tests::{Got, decodes, encodes, refuses};
+use bitcode_expected::{Got, decodes, encodes, refuses};
 use std::alloc::Global;
 use std::num::NonZeroU32;
 use std::time::Duration;

@@ -1,6 +1,6 @@
 //! The rows of heaps.
 use bitcode::decode;
-use bitcode_tests::Got;
+use bitcode_expected::Got;
 use std::alloc::Global;
 use std::collections::BinaryHeap;
 

@@ -1,6 +1,6 @@
 //! The stored row of lists with reserved room.
 use bitcode::{FastVec, PushUnchecked};
-use bitcode_tests::Got;
+use bitcode_expected::Got;
 use std::alloc::Global;
 
 /// The items are these.

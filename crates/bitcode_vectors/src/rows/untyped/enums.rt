@@ -1,7 +1,7 @@
 //! The stored rows of options and enums under shapes.
 use bitcode::{Reason, ShapeNode, Value};
-use bitcode_tests::Got;
-use bitcode_tests::untyped::{
+use bitcode_expected::Got;
+use bitcode_expected::untyped::{
     deserializes, is_not_read, is_not_written, option_of, seq_of, serializes, shape_of, some,
     variant,
 };

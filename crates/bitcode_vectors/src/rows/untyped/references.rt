@@ -1,7 +1,7 @@
 //! The stored rows of shapes that hold themselves.
 use bitcode::{Reason, Shape, ShapeNode, Value};
-use bitcode_tests::Got;
-use bitcode_tests::untyped::{
+use bitcode_expected::Got;
+use bitcode_expected::untyped::{
     is_not_read, option_of, seq_of, shape_of, some, variant, written_both_ways,
 };
 use std::alloc::Global;
