@@ -97,7 +97,9 @@ where
     let mut decoder = T::Decoder::new(alloc);
     decoder.populate(&mut input, 1)?;
     expect_eof(input)?;
-    decoder.decode()
+    // Nothing else refers to the moved decoder, so its positions can stay in registers.
+    let mut unshared = decoder;
+    unshared.decode()
 }
 
 /// Decodes the bytes, which must encode exactly one value, as [`decode`] does, and must be those that are written for
@@ -129,7 +131,8 @@ where
     if !written {
         return err(Reason::NotTheWrittenText);
     }
-    decoder.decode()
+    let mut unshared = decoder;
+    unshared.decode()
 }
 
 /// Decodes the one value at the front of the input, and advances the input past it.
@@ -162,7 +165,8 @@ where
 {
     let mut decoder = T::Decoder::new(alloc);
     decoder.populate(input, 1)?;
-    decoder.decode()
+    let mut unshared = decoder;
+    unshared.decode()
 }
 
 /// Decodes the one value at the front of the input, as [`decode_front`] does, and advances the input past it. The bytes
@@ -197,7 +201,8 @@ where
     if !written {
         return err(Reason::NotTheWrittenText);
     }
-    decoder.decode()
+    let mut unshared = decoder;
+    unshared.decode()
 }
 
 /// The error for a type without a variant of the index that was read: `invalid enum variant`.
