@@ -106,7 +106,7 @@ where
 /// the entries of each column. So it accepts each list of columns in only one form.
 ///
 /// Errors: those of `decode`, and `not the written text` if the bytes encode a value but some column has different
-/// bytes. That error comes before any allocation for the value, and after any other fault.
+/// bytes. If the bytes have another fault, the error is that fault.
 ///
 /// ```
 /// let flag: bool = decode_strict(alloc, &[1])?;
@@ -173,7 +173,7 @@ where
 /// must be those that are written for the entries of each column.
 ///
 /// Errors: those of `decode_front`, and `not the written text` if a prefix encodes a value but some column has
-/// different bytes. That error comes before any allocation for the value, and after any other fault. The input then
+/// different bytes. If the bytes have another fault, the error is that fault. After `not the written text`, the input
 /// begins after the value.
 ///
 /// ```rust
