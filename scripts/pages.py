@@ -26,7 +26,7 @@ WORDS = {
     "docs/EXAMPLES.md": 1200,
     "docs/FORMAT.md": 3500,
     "docs/GUIDE.md": 2600,
-    "docs/PROMISES.md": 3400,
+    "docs/PROMISES.md": 3500,
     "docs/PROVING.md": 800,
     "docs/SEALED.md": 600,
     "docs/SPEED.md": 700,
