@@ -160,9 +160,9 @@ drop_at (w ∷ vs) (suc i) v there = drop_at vs i v there
 pub none_left : (vs : List Value) (i : ℕ) → length vs ≡ i → drop i vs ≡ []
 none_left vs i all = subst (λ n. drop n vs ≡ []) all (none_behind vs)
   where
-  none_behind : (ws : List Value) → drop (length ws) ws ≡ []
-  none_behind [] = refl
-  none_behind (w ∷ ws) = none_behind ws
+    none_behind : (ws : List Value) → drop (length ws) ws ≡ []
+    none_behind [] = refl
+    none_behind (w ∷ ws) = none_behind ws
 
 next_there : (kind : ColumnKind) (all : List Value) (i : ℕ) (v : Value) (old now : Columns) → slice_get all i ≡ Some v
     → JoinsSome kind all (drop i all) old now → JoinsSome kind all ((v ∷ []) ++ drop (i + 1) all) old now
