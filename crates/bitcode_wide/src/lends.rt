@@ -1,4 +1,5 @@
-//! The parts of five to eight fields that a struct lends.
+// Written by scripts/tables/wide.
+//! The parts of five to eight fields that a struct lends, and their encoders.
 ghost use Rattle.std.specs.Prelude.{◌≡◌};
 
 use crate::encoder::WideEncoder;
@@ -26,7 +27,7 @@ impl<'w, W, T, P> Drop for LentIn<'w, W, T, P> {
     }
 }
 
-/// A part of five fields of `T`, which lends them.
+/// A part of five fields of a struct `T`, which lends them.
 pub trait LendsPart5<T, T1, T2, T3, T4, T5>: PartOf<T> + StandsFor<Parts = (T1, T2, T3, T4, T5)> {
     /// References to the fields in `whole`.
     fn lend<'b>(whole: &'b T) -> (&'b T1, &'b T2, &'b T3, &'b T4, &'b T5)
@@ -93,7 +94,7 @@ impl<
     ghost surely = { λ e n h. E.surely e.fields n h };
 }
 
-/// A part of six fields of `T`, which lends them.
+/// A part of six fields of a struct `T`, which lends them.
 pub trait LendsPart6<T, T1, T2, T3, T4, T5, T6>: PartOf<T>
     + StandsFor<Parts = (T1, T2, T3, T4, T5, T6)> {
     /// References to the fields in `whole`.
@@ -163,7 +164,7 @@ impl<
     ghost surely = { λ e n h. E.surely e.fields n h };
 }
 
-/// A part of seven fields of `T`, which lends them.
+/// A part of seven fields of a struct `T`, which lends them.
 pub trait LendsPart7<T, T1, T2, T3, T4, T5, T6, T7>: PartOf<T>
     + StandsFor<Parts = (T1, T2, T3, T4, T5, T6, T7)> {
     /// References to the fields in `whole`.
@@ -237,7 +238,7 @@ impl<
     ghost surely = { λ e n h. E.surely e.fields n h };
 }
 
-/// A part of eight fields of `T`, which lends them.
+/// A part of eight fields of a struct `T`, which lends them.
 pub trait LendsPart8<T, T1, T2, T3, T4, T5, T6, T7, T8>: PartOf<T>
     + StandsFor<Parts = (T1, T2, T3, T4, T5, T6, T7, T8)> {
     /// References to the fields in `whole`.

@@ -1,3 +1,4 @@
+-- Written by scripts/tables/wide.
 -- The part corresponds to the tuple of its fields.
 use Rattle.std.proofs.lemmas.Result.{on_ok_weaker}
 use Rattle.bitcode_columns.specs.declared.error.Error.{Error}

@@ -1,3 +1,4 @@
+-- Written by scripts/tables/wide.
 -- The parts correspond to the tuples of their fields.
 use Rattle.std.proofs.lemmas.Result.{on_ok_weaker}
 use Rattle.bitcode_columns.specs.declared.error.Error.{Error}
