@@ -2,12 +2,12 @@
 
 from string import Template
 
-from declarations import Field, Refused, Type
-from known_types import MOST_LEFT, Checker, Own, inside, names_in, of_text, says_laws
+from declarations import Refused
+from known_types import MOST_LEFT, MOST_TYPES, Checker, inside, names_in, of_text, says_laws, takes_memory, types_in
 from structs import APART, BODY, HEAD, OWNED, bounds, declaration, decoder, decoder_of_parts, halved, in_a_head, initialized, laws_as_data, parameter, places, quoted, types_left
 
-# A struct has no more fields than these.
-MOST_WIDE = 64
+# A struct has no more fields than these, which name no more types: of more the borrow checker covers no encoder.
+MOST_WIDE = MOST_ENCODED = 48
 # A part has no more fields than these: they have one tuple.
 MOST_IN_PART = 8
 
@@ -17,7 +17,7 @@ PART_OF = """impl$shaped PartOf<$whole> for $name {
 }
 
 ${aliases}impl$shaped LendsPart$count<$whole, $types> for $name {
-    fn lend(whole: &$whole) -> $references {
+    fn lend<$lent_for>(whole: &$lent_for $whole) -> $references {
         $lent
     }
 }
@@ -63,15 +63,21 @@ def record_of(fields, place):
     return "; ".join(f"{quoted(field.name)} = {place}.{field.name}" for field in fields)
 
 
-def own_part(part, own):
-    """What is known of a part, as of a type of one's own."""
-    return Own(part.name, part, True, all(says_laws(field.type, own) for field in part.fields), 1)
+def inside_of(parts, own):
+    """What the parts stand for, of those that take memory or types, as `inside` says it."""
+    names = [part.name + bounds(part, "") for part in parts if part.types or any(takes_memory(field.type, own) for field in part.fields)]
+    pairs = [f"(<{name} as StandsFor>::Parts, <{name} as StandsFor>::Inside)" for name in names]
+    return pairs[0] if len(pairs) == 1 else f"({', '.join(pairs)})"
 
 
-def inside_of(parts, known):
-    """What the parts stand for, of those that take memory, as `inside` says it."""
-    types = [Type("path", part.name, [], part.line) for part in parts]
-    return inside(parts[0]._replace(types=[], fields=[Field([], "", "x", type, part.line, []) for type, part in zip(types, parts)]), known)
+def has_inside(part, own):
+    """Whether types of one's own in the part take memory: the toolchain states no bound with a tuple of these."""
+    return inside(part, own) != "()"
+
+
+def types_named(parts, own, is_apart):
+    """How many types the decoder of the parts names, where those that may be have a decoder struct of their own."""
+    return sum(1 if is_apart and not has_inside(part, own) else types_left(part, own)[0] for part in parts)
 
 
 def part_text(part, struct, number, first, own, is_apart):
@@ -85,9 +91,10 @@ def part_text(part, struct, number, first, own, is_apart):
         apart += Template(APART).substitute(simple=struct.name, apart=f"{struct.name}Decoder{number}", input=input, inner=inner, type=alias)
         type_of_decoder = f"PartsDecoder<{alias}, {struct.name}Decoder{number}<{input}>>"
     short, aliases = in_a_head(part, types, "Field", first, struct.name)
+    lent_for = "'c" if struct.lifetime == "'b" else "'b"
     part_of = Template(PART_OF).substitute(
         shaped=bounds(struct, "Shaped"), whole=whole, name=name, ghost_fields=record_of(fields, "t"), aliases=aliases, count=len(fields), types=", ".join(short),
-        references=halved(["&" + text for text in types]), lent=halved([f"&whole.{field.name}" for field in fields]),
+        lent_for=lent_for, references=halved([f"&{lent_for} {text}" for text in types]), lent=halved([f"&whole.{field.name}" for field in fields]),
     )
     made = "; ".join(f"{quoted(field.name)} = {place}" for field, place in zip(fields, places(len(fields))))
     tells = all(says_laws(field.type, own) for field in fields)
@@ -112,33 +119,38 @@ def wide_text(struct, own):
     for field in struct.fields:
         checker.check(field.type)
     parts, input, name = parts_of(struct), struct.lifetime or "'a", struct.name + bounds(struct, "")
-    known = own | {part.name: own_part(part, own) for part in parts}
-    is_apart = sum(types_left(part, own)[0] for part in parts) > MOST_LEFT
+    is_apart = types_named(parts, own, False) > MOST_LEFT
+    if types_named(parts, own, is_apart) > MOST_TYPES:
+        raise Refused(struct.line, f"the fields name more than the {MOST_TYPES} types of which the borrow checker covers a decoder: put those of your own types that take memory into a struct of their own")
+    if sum(types_in(field.type, own) for field in struct.fields) > MOST_ENCODED:
+        raise Refused(struct.line, f"the fields name more than the {MOST_ENCODED} types of which the borrow checker covers an encoder: write fewer fields")
     texts, first, uses_apart = [], 0, False
     for number, part in enumerate(parts):
-        text, has_apart = part_text(part, struct, number, first, own, is_apart)
+        text, has_apart = part_text(part, struct, number, first, own, is_apart and not has_inside(part, own))
         texts.append(text)
         first += len(part.fields)
         uses_apart |= has_apart
     tells, alias = all(says_laws(field.type, own) for field in struct.fields), "Parts" + bounds(struct, "")
     whole = [part.name + bounds(part, "") for part in parts]
     found = [(field, f"{place}.{field.name}") for part, place in zip(parts, paths(len(parts))) for field in part.fields]
-    held = [f"part{number}" for number in range(len(parts))]
-    moved = [f"{field.name}: {own_name}.{field.name}" for part, own_name in zip(parts, held) for field in part.fields]
+    names = {field.name for field in struct.fields}
+    held = [f"part{number}{'_' * any(name.startswith('part') for name in names)}" for number in range(len(parts))]
+    moved = "".join(f"let {part.name} {{ {', '.join(map(initialized, part.fields))} }} = {own_name};" for part, own_name in zip(parts, held))
     used = {"DecoderOfFields", "EncoderOfPart", "EncoderOfParts", "FromParts", "HasDecoder", "HasEncoder", "InParts", "PartOf", "Shaped", "StandsFor"}
     used |= {f"LendsPart{len(part.fields)}" for part in parts}
     used |= {"Made"} if struct.types else set()
     used |= set() if struct.lifetime else {"DecodeOwned"}
     used |= {"Payload"} if tells else set()
-    used |= {"Error", "PartsDecoder", "TupleDecoder"} if uses_apart else set()
+    used |= {"Error", "PartsDecoder"} if uses_apart else set()
+    used |= {"TupleDecoder"} if any("TupleDecoder<" in text for text in texts) else set()
     imports = {*checker.imports, *({"bitcode::coder::{Decoder, HoldsData, View}", "std::alloc::Global"} if uses_apart else ())}
     uses = sorted([f"use bitcode::{{{', '.join(sorted(used))}}};", *(f"use {path};" for path in imports)])
     body = Template(BODY).substitute(
         declaration="", alias=f"type {alias} = {paired(whole)};\n\n", shaped=bounds(struct, "Shaped"), name=name, ghost_use="", parts=alias,
-        inside=inside_of(parts, known), ghost_parts=f"λ t. {paired([f'record {{ {record_of(part.fields, chr(116))} }}' for part in parts])}",
+        inside=inside_of(parts, own), ghost_parts=f"λ t. {paired([f'record {{ {record_of(part.fields, chr(116))} }}' for part in parts])}",
         ghost_made="record { " + "; ".join(f"{quoted(field.name)} = {place}" for field, place in found) + " }",
         told="".join(f"\n        self.{field.name}.told();" for field in struct.fields) + "\n    ", one_to_one="λ t. refl", made=bounds(struct, "Made"),
-        pattern=paired(held), built=f"{struct.name} {{ {', '.join(moved)} }}", payload=laws_as_data(struct, alias) + "\n" if tells else "",
+        pattern=paired(held), built=f"{moved} {struct.name} {{ {', '.join(map(initialized, struct.fields))} }}", payload=laws_as_data(struct, alias) + "\n" if tells else "",
         lends=Template(IN_PARTS).substitute(shaped=bounds(struct, "Shaped"), name=name), has_encoder=bounds(struct, "HasEncoder"),
         encoder=f"EncoderOfParts<{alias}>", apart="", has_decoder=bounds(struct, f"HasDecoder<{input}>", input), input=input,
         decoder=f"DecoderOfFields<{input}, {alias}>",
