@@ -2,7 +2,7 @@
 
 from string import Template
 
-from declarations import Refused
+from declarations import Refused, fields_of
 from known_types import MOST_LEFT, MOST_TYPES, Checker, inside, names_in, of_text, says_laws, takes_memory, types_in
 from structs import APART, BODY, HEAD, OWNED, bounds, declaration, decoder, decoder_of_parts, halved, in_a_head, initialized, laws_as_data, parameter, places, quoted, types_left
 
@@ -80,6 +80,14 @@ def types_named(parts, own, is_apart):
     return sum(1 if is_apart and not has_inside(part, own) else types_left(part, own)[0] for part in parts)
 
 
+def types_encoded(type, own):
+    """How many types the type's encoder names: a struct of one's own names those of its fields."""
+    item = own[type.name].item if type.kind == "path" and type.name in own else None
+    if not item:
+        return types_in(type, own)
+    return sum(types_encoded(field.type, own) for field in fields_of(item)) + sum(types_encoded(part, own) for part in type.parts if part.kind != "lifetime") or 1
+
+
 def part_text(part, struct, number, first, own, is_apart):
     """What is written of a part."""
     input, name, whole = part.lifetime or "'a", part.name + bounds(part, ""), struct.name + bounds(struct, "")
@@ -112,9 +120,11 @@ def part_text(part, struct, number, first, own, is_apart):
 def wide_text(struct, own):
     """The file of the struct, and the crates that it needs."""
     if len(struct.fields) > MOST_WIDE:
-        raise Refused(struct.line, f"{len(struct.fields)} fields are more than {MOST_WIDE}: put some of them into a struct of their own")
+        raise Refused(struct.line, f"{len(struct.fields)} fields are more than {MOST_WIDE}: put some of them into a struct of their own, which is written by itself")
     if struct.kind != "named":
         raise Refused(struct.line, f"{len(struct.fields)} fields are more than 16, so they need names")
+    if struct.types:
+        raise Refused(struct.line, f"a struct with more than 16 fields takes no type: write the type itself for `{struct.types[0]}`")
     checker = Checker(struct, own)
     for field in struct.fields:
         checker.check(field.type)
@@ -122,8 +132,8 @@ def wide_text(struct, own):
     is_apart = types_named(parts, own, False) > MOST_LEFT
     if types_named(parts, own, is_apart) > MOST_TYPES:
         raise Refused(struct.line, f"the fields name more than the {MOST_TYPES} types of which the borrow checker covers a decoder: put those of your own types that take memory into a struct of their own")
-    if sum(types_in(field.type, own) for field in struct.fields) > MOST_ENCODED:
-        raise Refused(struct.line, f"the fields name more than the {MOST_ENCODED} types of which the borrow checker covers an encoder: write fewer fields")
+    if sum(types_encoded(field.type, own) for field in struct.fields) > MOST_ENCODED:
+        raise Refused(struct.line, f"the fields name more than the {MOST_ENCODED} types of which the borrow checker covers an encoder: put some of them into a struct of their own, which is written by itself")
     texts, first, uses_apart = [], 0, False
     for number, part in enumerate(parts):
         text, has_apart = part_text(part, struct, number, first, own, is_apart and not has_inside(part, own))
