@@ -97,14 +97,16 @@ where
     let mut decoder = T::Decoder::new(alloc);
     decoder.populate(&mut input, 1)?;
     expect_eof(input)?;
-    decoder.decode()
+    // Nothing else refers to the moved decoder, so its positions can stay in registers.
+    let mut unshared = decoder;
+    unshared.decode()
 }
 
 /// Decodes the bytes, which must encode exactly one value, as [`decode`] does, and must be those that are written for
 /// the entries of each column. So it accepts each list of columns in only one form.
 ///
 /// Errors: those of `decode`, and `not the written text` if the bytes encode a value but some column has different
-/// bytes. That error comes before any allocation for the value, and after any other fault.
+/// bytes. If the bytes have another fault, the error is that fault.
 ///
 /// ```
 /// let flag: bool = decode_strict(alloc, &[1])?;
@@ -129,7 +131,8 @@ where
     if !written {
         return err(Reason::NotTheWrittenText);
     }
-    decoder.decode()
+    let mut unshared = decoder;
+    unshared.decode()
 }
 
 /// Decodes the one value at the front of the input, and advances the input past it.
@@ -162,14 +165,15 @@ where
 {
     let mut decoder = T::Decoder::new(alloc);
     decoder.populate(input, 1)?;
-    decoder.decode()
+    let mut unshared = decoder;
+    unshared.decode()
 }
 
 /// Decodes the one value at the front of the input, as [`decode_front`] does, and advances the input past it. The bytes
 /// must be those that are written for the entries of each column.
 ///
 /// Errors: those of `decode_front`, and `not the written text` if a prefix encodes a value but some column has
-/// different bytes. That error comes before any allocation for the value, and after any other fault. The input then
+/// different bytes. If the bytes have another fault, the error is that fault. After `not the written text`, the input
 /// begins after the value.
 ///
 /// ```rust
@@ -197,7 +201,8 @@ where
     if !written {
         return err(Reason::NotTheWrittenText);
     }
-    decoder.decode()
+    let mut unshared = decoder;
+    unshared.decode()
 }
 
 /// The error for a type without a variant of the index that was read: `invalid enum variant`.
