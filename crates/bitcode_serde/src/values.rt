@@ -49,7 +49,7 @@ pub fn read(
     }
 }
 
-// The same, but puts the value behind others, unless the budget is spent.
+// Reads a value as `read` does, and puts it behind others, unless the budget is spent.
 #[cycle(read)]
 #[inline(always)]
 fn read_behind(
@@ -80,7 +80,7 @@ fn read_behind(
     Ok(())
 }
 
-// The same, for any node.
+// Reads a value as `read` does, of any node.
 #[cycle(read)]
 fn read_node(
     alloc: Global,
