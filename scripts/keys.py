@@ -4,7 +4,7 @@ import re
 from string import Template
 
 from declarations import Enum, fields_of
-from known_types import can_be_key, of_text, takes_memory
+from known_types import MOST_FIELDS, can_be_key, of_text, takes_memory
 from structs import MOST_FLAT, bounds, halved, quoted
 
 # The check compares each two variants of an enum; of so many it still takes seconds.
@@ -32,7 +32,7 @@ def key_words(item, own):
     if isinstance(item, Enum):
         is_key = not fields_of(item) and 2 <= len(item.variants) <= MOST_VARIANTS
     else:
-        is_key = all(can_be_key(field.type, own, words) and not takes_memory(field.type, own) for field in item.fields)
+        is_key = len(item.fields) <= MOST_FIELDS and all(can_be_key(field.type, own, words) and not takes_memory(field.type, own) for field in item.fields)
     return frozenset(words) if is_key else frozenset()
 
 

@@ -4,7 +4,7 @@ import re
 from string import Template
 
 from declarations import Refused, fields_of
-from known_types import MOST_FIELDS, MOST_LEFT, MOST_TYPES, Checker, inside, of_text, says_laws, types_in
+from known_types import MOST_LEFT, MOST_TYPES, Checker, inside, of_text, says_laws, types_in
 
 # The names of fields without a name.
 ORDINALS = "first second third fourth fifth sixth seventh eighth ninth tenth eleventh twelfth thirteenth fourteenth fifteenth sixteenth".split()
@@ -23,11 +23,12 @@ QUOTED = set("data record deriving module package open abbrev axiom unfold unfol
 # A derive of the Rust crate says what this script writes.
 NOT_DERIVED = {"Encode", "Decode", "Serialize", "Deserialize", "Drop"}
 
-FILE = """//! $about
+HEAD = """//! $about
 ghost use Rattle.std.specs.Prelude.{refl};
 $by_hand
 $uses
-$declaration
+"""
+BODY = """$declaration
 ${alias}impl$shaped StandsFor for $name {
 $ghost_use    type Parts = $parts;
     type Inside = $inside;
@@ -48,7 +49,7 @@ impl$made FromParts for $name {
 }
 
 $payload${lends}impl$has_encoder HasEncoder for $name {
-    type Encoder = EncoderOfFields<$count, $parts>;
+    type Encoder = $encoder;
 }
 
 ${apart}impl$has_decoder HasDecoder<$input> for $name {
@@ -174,9 +175,10 @@ def initialized(field):
     return field.name if parameter(field.name) == field.name else f"{field.name}: {parameter(field.name)}"
 
 
-def in_a_head(item, types, prefix, first=0):
-    """The types as the head of an impl has them, and the aliases of those that would make a name of a file too long, numbered from the first on."""
-    text = "".join([item.name, "LendsFields16", *types])
+def in_a_head(item, types, prefix, first=0, other=""):
+    """The types as the head of an impl has them, and the aliases of those that would make a name of a file too long, numbered from the
+    first on. The head names another type too, if one is given."""
+    text = "".join([item.name, other, "LendsFields16", *types])
     if len(re.sub(r"\W", "", text)) + len("Tuple16") * len(re.findall(r"[(\[&]", text)) <= MOST_IN_A_HEAD:
         return types, ""
     names, aliases = {}, ""
@@ -238,16 +240,22 @@ def decoders(types, apart, input):
 
 def decoder(item, own, input, parts):
     """The decoder of the item, and the decoder structs of fields that have one."""
+    inner, apart = decoder_of_parts(item, own, input, parts)
+    return f"PartsDecoder<{parts}, {inner}>" if apart else f"DecoderOfFields<{input}, {parts}>", apart
+
+
+def decoder_of_parts(item, own, input, parts):
+    """The decoder of what the item corresponds to, and the decoder structs of fields that have one."""
     fields = fields_of(item)
     _, found = types_left(item, own)
     if not found:
-        return f"DecoderOfFields<{input}, {parts}>", ""
+        return f"<{parts} as HasDecoder<{input}>>::Decoder", ""
     most, line = max((types_in(field.type, own), field.type.line) for field in fields)
     if item.types or most > MOST_TYPES:
         raise Refused(line, f"the fields name more than the {MOST_TYPES} types of which the borrow checker covers a decoder: put some of them into a struct of their own, without type parameters")
     apart = {text: f"{item.name}Decoder{number}" for number, text in enumerate(found)}
     texts = [Template(APART).substitute(simple=item.name, apart=name, input=input, inner=f"<{text} as HasDecoder<{input}>>::Decoder", type=text) for text, name in apart.items()]
-    return f"PartsDecoder<{parts}, {decoders([of_text(field.type) for field in fields], apart, input)}>", "".join(texts)
+    return decoders([of_text(field.type) for field in fields], apart, input), "".join(texts)
 
 
 def tuple_text(item, imports, own, lent, **row):
@@ -279,14 +287,14 @@ def tuple_text(item, imports, own, lent, **row):
         "made": bounds(item, "Made"),
         "by_hand": "ghost use Rattle.bitcode.specs.ByHand.{stood_payload};\n" if tells else "",
         "payload": laws_as_data(item, alias if is_long else parts) + "\n" if tells else "",
-        "count": len(fields),
+        "encoder": f"EncoderOfFields<{len(fields)}, {alias if is_long else parts}>",
         "has_encoder": bounds(item, "HasEncoder"),
         "has_decoder": bounds(item, f"HasDecoder<{input}>", input),
         "input": input,
         "lends": lends(item, lent),
         "owned": Template(OWNED).substitute(parameters=bounds(item, "DecodeOwned"), name=name) if is_owned else "",
     }
-    return Template(FILE).substitute(row)
+    return Template(HEAD + BODY).substitute(row)
 
 
 def file_text(struct, imports, own):
@@ -314,8 +322,6 @@ def file_text(struct, imports, own):
 
 def struct_text(struct, own):
     """The file of a struct, and the crates that it needs."""
-    if len(struct.fields) > MOST_FIELDS:
-        raise Refused(struct.line, f"{len(struct.fields)} fields are more than 16: put some of them into a struct of their own")
     checker = Checker(struct, own)
     for field in struct.fields:
         checker.check(field.type)

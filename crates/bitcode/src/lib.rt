@@ -207,12 +207,30 @@ pub mod own {
     pub use bitcode_structs::lends::of_9_to_16::LendsFields16;
     pub use bitcode_tuples::fields::Fields;
     pub use bitcode_tuples::fields::FieldsEncoder;
+    pub use bitcode_wide::encoder::AllFields;
+    pub use bitcode_wide::encoder::WideEncoder;
+    pub use bitcode_wide::lends::LendsPart5;
+    pub use bitcode_wide::lends::LendsPart6;
+    pub use bitcode_wide::lends::LendsPart7;
+    pub use bitcode_wide::lends::LendsPart8;
+    pub use bitcode_wide::parts::InParts;
+    pub use bitcode_wide::parts::PartEncoder;
+    pub use bitcode_wide::parts::PartOf;
 
     /// The encoder of a struct of `K` fields, which corresponds to their tuple `P`.
     pub type EncoderOfFields<const K: usize, P> = StructEncoder<
         FieldCount<K>,
         <P as HasEncoder>::Encoder,
     >;
+
+    /// The encoder of a part of `K` fields, which corresponds to their tuple `P`.
+    pub type EncoderOfPart<const K: usize, P> = WideEncoder<
+        FieldCount<K>,
+        <P as HasEncoder>::Encoder,
+    >;
+
+    /// The encoder of a struct with more than 16 fields, which corresponds to the pairs `P` of its parts.
+    pub type EncoderOfParts<P> = WideEncoder<AllFields, <P as HasEncoder>::Encoder>;
 
     /// The decoder of a struct, which corresponds to the tuple `P` of its fields.
     pub type DecoderOfFields<'a, P> = PartsDecoder<P, <P as HasDecoder<'a>>::Decoder>;

@@ -2,6 +2,7 @@
 //! nested types, as a user of the library writes them: nothing but the library is named.
 #![tactic(auto)]
 
+pub mod account;
 pub mod amino_acid;
 pub mod chest;
 pub mod dated;

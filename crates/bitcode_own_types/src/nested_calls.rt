@@ -1,6 +1,7 @@
 //! Calls at types that nest further than those of the programs. Each of these functions is proved, so a program that reads and
 //! writes its own records is, however they nest.
 
+use crate::account::Account;
 use bitcode::{Decode, Encode, Error, decode, encode};
 use std::alloc::Global;
 
@@ -51,6 +52,12 @@ pub fn options(alloc: Global, bytes: &[u8]) -> Result<Vec<u8>, Error> {
 pub fn deep(alloc: Global, bytes: &[u8]) -> Result<Vec<u8>, Error> {
     let lists: Deep = decode(alloc, bytes)?;
     encode(alloc, &lists)
+}
+
+/// Reads structs of 17 fields, and writes them again.
+pub fn accounts<'a>(alloc: Global, bytes: &'a [u8]) -> Result<Vec<u8>, Error> {
+    let accounts: Vec<Account<'a>> = decode(alloc, bytes)?;
+    encode(alloc, &accounts)
 }
 
 /// Reads records of any type, and writes them again.

@@ -1,5 +1,5 @@
 -- Lists of values of one case, as entries of one column.
-use Rattle.std.proofs.Common.{◌≡◌, ◌⊎◌, ℕ, zero, suc, inl, inr, List, [], ◌∷◌, ◌++◌, Some, slice_get, length, map, All, refl, ap, sym, subst, ◌∙◌, append_assoc, append-nil, arith}
+use Rattle.std.proofs.Common.{◌≡◌, ◌⊎◌, ℕ, zero, suc, inl, inr, List, [], ◌∷◌, ◌++◌, Some, slice_get, length, map, drop, All, refl, ap, sym, subst, ◌∙◌, append_assoc, append-nil, add-one, ◌+◌, arith}
 use Rattle.std.specs.List.{AllByRecursion, AllZip}
 use Rattle.std.proofs.lemmas.List.{map-append}
 use Rattle.bitcode_columns.specs.declared.error.Reason.{Reason}
@@ -25,6 +25,10 @@ pub one_refused : {A B C O : Type 0} → A ⊎ B ⊎ O → (O → ⊥) → A ⊎
 one_refused (inl a) never = inl a
 one_refused (inr (inl b)) never = inr (inr b)
 one_refused (inr (inr o)) never = absurd (never o)
+
+pub memory_of_one : {A B C : Type 0} {reason : Reason} → (reason ≡ OutOfMemory) ⊎ (B × C) → (C → ⊥) → (reason ≡ OutOfMemory) ⊎ A
+memory_of_one (inl memory) never = inl memory
+memory_of_one (inr away) never = absurd (never away.1)
 
 -- ---- one column beside others
 
@@ -147,10 +151,37 @@ some_more kind all front rest old now new some joined entries = record {
   entries = each_append (IsEntryIn kind) some.done front some.entries entries;
 }
 
+-- one value after another
+drop_at : (vs : List Value) (i : ℕ) (v : Value) → slice_get vs i ≡ Some v → drop i vs ≡ v ∷ drop (suc i) vs
+drop_at [] i v there = cc
+drop_at (w ∷ vs) zero v there = let e : w ≡ v = cc in ap (λ x. x ∷ vs) e
+drop_at (w ∷ vs) (suc i) v there = drop_at vs i v there
+
+pub none_left : (vs : List Value) (i : ℕ) → length vs ≡ i → drop i vs ≡ []
+none_left vs i all = subst (λ n. drop n vs ≡ []) all (none_behind vs)
+  where
+    none_behind : (ws : List Value) → drop (length ws) ws ≡ []
+    none_behind [] = refl
+    none_behind (w ∷ ws) = none_behind ws
+
+next_there : (kind : ColumnKind) (all : List Value) (i : ℕ) (v : Value) (old now : Columns) → slice_get all i ≡ Some v
+    → JoinsSome kind all (drop i all) old now → JoinsSome kind all ((v ∷ []) ++ drop (i + 1) all) old now
+next_there kind all i v old now there some = subst (λ vs. JoinsSome kind all vs old now) (rw add-one (drop_at all i v there)) some
+
+pub some_next : (kind : ColumnKind) (all : List Value) (i : ℕ) (v : Value) (old now new : Columns) → slice_get all i ≡ Some v
+    → JoinsSome kind all (drop i all) old now → new ≡ beside now (one (kind_of kind) (map datum_of (v ∷ []))) → AllByRecursion (IsEntryIn kind) (v ∷ [])
+    → JoinsSome kind all (drop (i + 1) all) old new
+some_next kind all i v old now new there some joined entries =
+    some_more kind all (v ∷ []) (drop (i + 1) all) old now new (next_there kind all i v old now there some) joined entries
+
 pub some_other : (kind : ColumnKind) (all front rest : List Value) (old now : Columns) → JoinsSome kind all (front ++ rest) old now → HasOther kind front
     → HasOther kind all
 some_other kind all front rest old now some h =
     subst (HasOther kind) (sym some.parted) (other_back kind some.done (front ++ rest) (other_front kind front rest h))
+
+pub some_other_next : (kind : ColumnKind) (all : List Value) (i : ℕ) (v : Value) (old now : Columns) → slice_get all i ≡ Some v
+    → JoinsSome kind all (drop i all) old now → HasOther kind (v ∷ []) → HasOther kind all
+some_other_next kind all i v old now there some h = some_other kind all (v ∷ []) (drop (i + 1) all) old now (next_there kind all i v old now there some) h
 
 module _ (kind : ColumnKind) (all rest : List Value) (old now : Columns) (some : JoinsSome kind all rest old now) (none : rest ≡ []) where
   all_done : some.done ≡ all

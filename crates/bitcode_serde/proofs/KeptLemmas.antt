@@ -7,9 +7,10 @@ use Rattle.bitcode_columns.specs.declared.error.Error.{Error}
 use Rattle.bitcode_shapes.specs.Datum.{Datum, unit, list, data_of}
 use Rattle.bitcode_coder.specs.Spelling.{natural}
 use Rattle.bitcode_untyped.specs.Bounds.{column_free}
+use Rattle.bitcode_untyped.specs.Faults.{faults_of}
 use Rattle.bitcode_untyped.specs.Nodes.{node_count, node_counts}
 use Rattle.bitcode_untyped.specs.ShapeTree.{ShapeTree, unit_tree}
-use Rattle.bitcode_untyped.specs.View.{datum_of, tree_by}
+use Rattle.bitcode_untyped.specs.View.{datum_of, followed, tree_by, tree_of_node}
 use Rattle.bitcode_untyped.specs.declared.shape.ShapeNode.{ShapeNode}
 use Rattle.bitcode_untyped.specs.declared.value.Value.{Value}
 use Rattle.bitcode_untyped.specs.declared.value.Value.TheVariants as value
@@ -18,7 +19,7 @@ use Rattle.bitcode_untyped.proofs.ReadLemmas.{unit_read}
 use Rattle.bitcode_untyped.proofs.ViewLemmas.{datum-Unit, datum-Bool, datum-U8, datum-U16, datum-U32, datum-U64, datum-U128, datum-I8, datum-I16, datum-I32, datum-I64, datum-I128, datum-Str}
 use Rattle.bitcode_serde.specs.Budget.{spend}
 use Rattle.bitcode_serde.specs.ReadColumns.{IsCaseOf}
-use Rattle.bitcode_serde.specs.ReadingValues.{Continues, ReadsListAt, ReadsLeafAt, ReadsWithin, ReadsListWithin}
+use Rattle.bitcode_serde.specs.ReadingValues.{HasColumn, Continues, ReadsAt, ReadsListAt, ReadsLeafAt, AddsRead, ReadsWithin, ReadsListWithin, AddsWithin}
 use Rattle.bitcode_serde.specs.declared.budget.Budget.{Budget}
 use Rattle.bitcode_serde.specs.declared.budget.Budget.TheVariants.{Spent}
 use Rattle.bitcode_serde.specs.declared.column.ColumnKind.{ColumnKind}
@@ -68,6 +69,21 @@ pub entry_within : (n : ShapeNode) (place : ℕ) (old new : Reader) (before afte
 entry_within n place old new before after (Ok v) follow taken read single =
     record { datum = datum_of v; read = read follow; taken = taken ∙ ap (λ k. spend k before) (sym single); same = λ h. refl }
 entry_within n place old new before after (Err e) follow taken read single = tt
+
+pub leaf_adds : (n : ShapeNode) (kind : ColumnKind) (table : List ShapeNode) (left place : ℕ) (old new : Reader) (before after : Budget) (those all : List Value)
+    → HasColumn n kind → after ≡ spend 1 before → AddsRead kind place old new those all
+    → AddsWithin (tree_of_node left table n) (λ v. faults_of table v left n ≡ []) place old before those new after all
+leaf_adds n kind table left place old new before after those all has taken one = record {
+  value = one.value;
+  read = record {
+    datum = datum_of one.value;
+    read = subst (λ s. ReadsAt s place old (datum_of one.value) new) (sym (has.tree (followed left table))) one.read;
+    taken = taken ∙ ap (λ k. spend k before) (sym (one_node kind one.value one.of_case));
+    same = λ h. refl;
+  };
+  whole = λ h. has.whole one.value one.of_case table left;
+  added = λ h. one.added;
+}
 
 pub leaves_within : (s : ShapeTree) (place count : ℕ) (old new : Reader) (before after : Budget) (k : ColumnKind) (r : Result (Vec Value Global) Error)
     → after ≡ spend count before → IfOk r (λ vs. ReadsListAt s place old count (map datum_of vs.items) new) → IfOk r (λ vs. AllByRecursion (IsCaseOf k) vs.items)

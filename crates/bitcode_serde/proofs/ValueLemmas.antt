@@ -16,10 +16,13 @@ use Rattle.bitcode_untyped.specs.ShapeTree.{ShapeTree, ShapeTrees, no_trees, tre
 use Rattle.bitcode_untyped.specs.PlacedColumns.{PlacedColumn}
 use Rattle.bitcode_untyped.specs.Walk.{Step, element, key, value, variant, Place, use_at, length_kind, index_kind, walk}
 use Rattle.bitcode_untyped.proofs.ReadLemmas.{many_push, many_stuck, one_datum_read, unit_read, never_read, seq_read, seq_stuck, choice_read, choice_stuck, one_pair_read, pair_read, pair_stuck_key, pair_stuck_value, map_read, map_stuck}
-use Rattle.bitcode_serde.specs.ReadColumns.{IsColumnReason}
-use Rattle.bitcode_serde.specs.Reading.{IsAskedAs, Hosts, Stands, NothingAt, NotSoMany, Leads, LeadsEach, LeadsTelling, AreSized}
+use Rattle.bitcode_untyped.specs.View.{datum_of}
+use Rattle.bitcode_untyped.specs.declared.value.Value.{Value}
+use Rattle.bitcode_serde.specs.ReadColumns.{kind_of, IsColumnReason}
+use Rattle.bitcode_serde.specs.Reading.{IsAskedAs, Hosts, Stands, NothingAt, NotSoMany, Leads, LeadsEach, LeadsTelling, AddsLed, AreSized}
 use Rattle.bitcode_serde.specs.Places.{step_of, IsPlace, places_from, places, place_at}
-use Rattle.bitcode_serde.specs.ReadingValues.{IsSteady, Continues, GoesAlong, HasNone, ReadsAt, ReadsListAt, IsValueReason, IsRefusalOf, IsRefusalAt, IsListRefusalAt}
+use Rattle.bitcode_serde.specs.ReadingValues.{IsSteady, Continues, GoesAlong, HasNone, ReadsAt, ReadsListAt, AddsRead, IsValueReason, IsRefusalOf, IsRefusalAt, IsListRefusalAt}
+use Rattle.bitcode_serde.specs.declared.column.ColumnKind.{ColumnKind}
 use Rattle.bitcode_serde.specs.declared.reader.Reader.{Reader}
 use Rattle.bitcode_serde.specs.declared.places.Below.{Below}
 use Rattle.bitcode_serde.specs.declared.step.Step.{Step as CodeStep}
@@ -123,6 +126,18 @@ leaves_read old new place count kind ds leads size p at a s =
     let l = leads a s in
     let runs = subst (λ q. Runs Takes a (map (use_at q kind) ds) l.0) at.1 l.1 in
     (l.0, l.2, record { size = size; each = leaves_are kind ds l.3; runs = subst (λ us. Runs Takes a us l.0) (sym (leaf_walks kind p ds)) runs })
+
+pub leaf_added : (old new : Reader) (place : ℕ) (kind : ColumnKind) (those all : List Value)
+    → AddsLed old (place_at (places old.places.below.items) place) kind new those all → AddsRead kind place old new those all
+leaf_added old new place kind those all one = record {
+  value = one.value;
+  added = one.added;
+  read = λ p at a s.
+      let l = one.leads a s in
+      let takes = subst (λ q. Takes a (use_at q (kind_of kind) (datum_of one.value)) l.0) at.1 l.1 in
+      (l.0, l.2, record { is = ((l.3, tt), tt); runs = (l.0, takes, refl) });
+  of_case = one.of_case;
+}
 
 pub leaves_refused : (r : Reader) (place count : ℕ) (kind : Kind) (why : Reason)
     → IsColumnReason why × (why ≢ reason.OutOfMemory → (a : State) → Stands r a → NotSoMany a (place_at (places r.places.below.items) place) kind count)

@@ -12,6 +12,7 @@ use Rattle.bitcode_coder.specs.Spelling.{SpellsColumn, natural, truth}
 use Rattle.bitcode_coder.specs.Int.{bytes_data}
 use Rattle.bitcode_serde.specs.Indices.{indices_left, index_count}
 use Rattle.bitcode_untyped.specs.Population.{total, count_of}
+use Rattle.bitcode_untyped.specs.View.{datum_of}
 use Rattle.bitcode_untyped.specs.declared.value.Value.{Value}
 use Rattle.bitcode_untyped.specs.declared.value.Value.TheVariants as value
 use Rattle.bitcode_serde.specs.declared.column.ColumnKind.{ColumnKind}
@@ -119,3 +120,10 @@ IsColumnReason _ = ⊥
 abbrev pub IsColumnRefusal : Kind → Reason → ℕ → List ℕ → Type 0
 IsColumnRefusal kind reason count input =
     IsColumnReason reason × (reason ≢ OutOfMemory → (entries : List Datum) (rest : List ℕ) → ReadsColumn kind count input entries rest → ⊥)
+
+-- The first of the entries that were left was taken, and its value stands behind the others.
+pub record AddsTaken (kind : ColumnKind) (left_before left_after : List Datum) (old new : List Value) : Type 0 where
+  pub value : Value
+  pub added : new ≡ old ++ value ∷ []
+  pub taken : left_before ≡ datum_of value ∷ left_after
+  pub of_case : IsCaseOf kind value

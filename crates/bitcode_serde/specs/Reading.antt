@@ -1,5 +1,5 @@
 -- What a reader stands for: the state of the machine that takes one entry after another.
-use Rattle.std.specs.Prelude.{◌≡◌, ◌≢◌, ℕ, zero, suc, ◌<◌, true, IsTrue, List, [], ◌∷◌, length, map, drop, get_or, All}
+use Rattle.std.specs.Prelude.{◌≡◌, ◌≢◌, ℕ, zero, suc, ◌<◌, true, IsTrue, List, [], ◌∷◌, ◌++◌, length, map, drop, get_or, All}
 use Rattle.std.specs.List.{AllByRecursion}
 use Rattle.bitcode_shapes.specs.Datum.{Datum}
 use Rattle.bitcode_coder.specs.Columns.{Kind, IsEntryOf}
@@ -8,9 +8,12 @@ use Rattle.bitcode_untyped.specs.PlacedColumns.{PlacedColumn, unplaced}
 use Rattle.bitcode_untyped.specs.Population.{population}
 use Rattle.bitcode_untyped.specs.Runs.{Runs}
 use Rattle.bitcode_untyped.specs.Strict.{JudgesEach}
+use Rattle.bitcode_untyped.specs.View.{datum_of}
 use Rattle.bitcode_untyped.specs.Walk.{Place, use_at}
+use Rattle.bitcode_untyped.specs.declared.value.Value.{Value}
 use Rattle.bitcode_serde.specs.Places.{place_at, places}
-use Rattle.bitcode_serde.specs.ReadColumns.{kind_of_column, left, Tallies}
+use Rattle.bitcode_serde.specs.ReadColumns.{kind_of, kind_of_column, left, Tallies, IsCaseOf}
+use Rattle.bitcode_serde.specs.declared.column.ColumnKind.{ColumnKind}
 use Rattle.bitcode_serde.specs.declared.reader.OpenColumn.{OpenColumn}
 use Rattle.bitcode_serde.specs.declared.reader.Reader.{Reader}
 use Rattle.bitcode_serde.specs.declared.reader.Verdict.{Verdict}
@@ -100,3 +103,10 @@ LeadsEach old p kind ds new =
 -- so many entries of the place can't be taken
 abbrev pub NotSoMany : State → Place → Kind → ℕ → Type 0
 NotSoMany a p kind count = (ds : List Datum) (b : State) → length ds ≡ count → Runs Takes a (map (use_at p kind) ds) b → ⊥
+
+-- The machine takes an entry, the reader goes along, and the entry's value stands behind the others.
+pub record AddsLed (old : Reader) (p : Place) (kind : ColumnKind) (new : Reader) (those all : List Value) : Type 0 where
+  pub value : Value
+  pub added : all ≡ those ++ value ∷ []
+  pub leads : Leads old p (kind_of kind) (datum_of value) new
+  pub of_case : IsCaseOf kind value

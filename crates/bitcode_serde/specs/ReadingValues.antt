@@ -1,5 +1,5 @@
 -- What is read of a value, from one reader to the next.
-use Rattle.std.specs.Prelude.{◌≡◌, ◌≢◌, ◌<◌, ℕ, zero, suc, List, [], ◌∷◌, Vec, Box}
+use Rattle.std.specs.Prelude.{◌≡◌, ◌≢◌, ◌<◌, ℕ, zero, suc, List, [], ◌∷◌, ◌++◌, Vec, Box}
 use Rattle.std.specs.Global.{Global}
 use Rattle.bitcode_columns.specs.declared.error.Reason.{Reason}
 use Rattle.bitcode_columns.specs.declared.error.Reason.TheVariants.{ExpectedEof, InvalidEnumVariant, OutOfMemory, InvalidOption, InvalidChar, TooManyZeroSizedTypes, NestedTooDeep, NotOfTheShape, TooManyNodes}
@@ -16,7 +16,7 @@ use Rattle.bitcode_untyped.specs.declared.shape.ShapeNode.{ShapeNode}
 use Rattle.bitcode_untyped.specs.declared.shape.ShapeNode.TheVariants as node
 use Rattle.bitcode_untyped.specs.declared.value.Value.{Value}
 use Rattle.bitcode_serde.specs.ReadColumns.{kind_of, IsCaseOf, IsColumnReason}
-use Rattle.bitcode_serde.specs.Budget.{Keeps, KeepsEach}
+use Rattle.bitcode_serde.specs.Budget.{Keeps, KeepsEach, IsLeft}
 use Rattle.bitcode_serde.specs.Reading.{AreSized, IsAskedAs, Stands}
 use Rattle.bitcode_serde.specs.Places.{IsPlace}
 use Rattle.bitcode_serde.specs.declared.budget.Budget.{Budget}
@@ -57,6 +57,21 @@ ReadsWithin s place old before v new after = Keeps datum_of (λ d. ReadsAt s pla
 
 abbrev pub ReadsListWithin : ShapeTree → ℕ → Reader → Budget → ℕ → List Value → Reader → Budget → Type 0
 ReadsListWithin s place old before count vs new after = KeepsEach datum_of (λ ds. ReadsListAt s place old count ds new) before vs after
+
+-- a value is read at the place from a column of the kind, and stands behind the others
+pub record AddsRead (kind : ColumnKind) (place : ℕ) (old new : Reader) (those all : List Value) : Type 0 where
+  pub value : Value
+  pub added : all ≡ those ++ value ∷ []
+  pub read : ReadsAt (leaf_tree (kind_of kind) any_number) place old (datum_of value) new
+  pub of_case : IsCaseOf kind value
+
+-- A value is read at the place, as far as a budget keeps it. Unless that is spent, the value stands behind the others.
+pub record AddsWithin (s : ShapeTree) (IsWhole : Value → Type 0) (place : ℕ) (old : Reader) (before : Budget) (those : List Value) (new : Reader) (after : Budget)
+    (all : List Value) : Type 0 where
+  pub value : Value
+  pub read : ReadsWithin s place old before value new after
+  pub whole : IsLeft after → IsWhole value
+  pub added : IsLeft after → all ≡ those ++ value ∷ []
 
 -- the reasons of refusals by a reader of values
 abbrev pub IsValueReason : Reason → Type 0

@@ -1,5 +1,5 @@
 //! The columns that a reader has opened.
-ghost use Rattle.std.specs.Prelude.{◌≡◌, ◌≢◌, ℕ, ◌<◌, ◌≤◌, List, ◌∷◌, ◌++◌, None, false, length, map, sum, IsTrue, ◌↔◌, MatchBool, IfOk, IfErr};
+ghost use Rattle.std.specs.Prelude.{◌≡◌, ◌≢◌, ℕ, ◌<◌, ◌≤◌, List, ◌∷◌, ◌++◌, None, false, length, map, sum, IsTrue, ◌↔◌, MatchBool, vec_len, vec_capacity, IfOk, OnOk, IfErr};
 ghost use Rattle.std.specs.List.{AllByRecursion};
 ghost use Rattle.bitcode_columns.specs.Reading.{Reads};
 ghost use Rattle.bitcode_coder.specs.LengthColumn.{SpellsLengths, length_bytes};
@@ -16,7 +16,7 @@ ghost use Rattle.bitcode_coder.specs.Coder.{IsReadingRefusal, TakesDatum};
 ghost use Rattle.bitcode_coder.specs.Faults.{NamesIntsFault};
 ghost use Rattle.bitcode_untyped.specs.View.{datum_of};
 ghost use Rattle.bitcode_serde.specs.Kinds.{kind_index};
-ghost use Rattle.bitcode_serde.specs.ReadColumns.{kind_of, kind_in_code, kind_of_column, left, Tallies, IsCaseOf, ReadsColumn, IsColumnRefusal};
+ghost use Rattle.bitcode_serde.specs.ReadColumns.{kind_of, kind_in_code, kind_of_column, left, Tallies, IsCaseOf, AddsTaken, ReadsColumn, IsColumnRefusal};
 
 use crate::case::Case;
 use crate::serde::VariantDecoder;
@@ -130,6 +130,48 @@ fn next_byte(column: &mut VariantDecoder<'_>) -> Value
     ensures counts { (index : ℕ) → index_count column.new index ≡ index_count column.old index }
 {
     Value::U8(column.decode().unwrap())
+}
+
+// Takes the next entry, where that takes no memory, and puts its value behind others. Room for it was reserved.
+#[inline(always)]
+fn push_next<T: Case, D: Decoder<T>>(column: &mut D, values: &mut Vec<Value>) -> Result<(), Error>
+    requires room { vec_len values.old < vec_capacity values.old }
+    requires some { 0 < length (D.held column.old) }
+    requires free { IsTrue D.makes_free }
+    ensures taken { OnOk result (AddsTaken T.kind (D.held column.old) (D.held column.new) values.old.items values.new.items) }
+    ensures refused { IfErr result (λ e. e.reason ≡ Reason.OutOfMemory) }
+{
+    let value = next_value::<T, D>(column);
+    values.push_reserved(value);
+    Ok(())
+}
+
+// The same for the next number of one byte.
+#[inline(always)]
+fn push_next_byte(column: &mut VariantDecoder<'_>, values: &mut Vec<Value>) -> Result<(), Error>
+    requires room { vec_len values.old < vec_capacity values.old }
+    requires some { 0 < length (indices_left column.old) }
+    ensures taken { OnOk result (AddsTaken ColumnKind.Bytes (indices_left column.old) (indices_left column.new) values.old.items values.new.items) }
+    ensures counts { (index : ℕ) → index_count column.new index ≡ index_count column.old index }
+    ensures refused { IfErr result (λ e. e.reason ≡ Reason.OutOfMemory) }
+{
+    let value = next_byte(column);
+    values.push_reserved(value);
+    Ok(())
+}
+
+// The same for an entry that may take memory.
+#[inline(always)]
+fn push_made<T: Case, D: Decoder<T>>(column: &mut D, values: &mut Vec<Value>) -> Result<(), Error>
+    requires room { vec_len values.old < vec_capacity values.old }
+    requires some { 0 < length (D.held column.old) }
+    ensures taken { OnOk result (AddsTaken T.kind (D.held column.old) (D.held column.new) values.old.items values.new.items) }
+    ensures refused { IfErr result (λ e. e.reason ≡ Reason.OutOfMemory) }
+{
+    let item: T = column.decode()?;
+    let value = item.into_value();
+    values.push_reserved(value);
+    Ok(())
 }
 
 // Takes so many of the next entries as values of one case, where each takes no memory by itself. So many are left.
@@ -361,6 +403,38 @@ impl<'a> Column<'a> {
             Column::I128(column) => Ok(Value::I128(next(column))),
             Column::Lengths(column) => Ok(Value::U64(column.decode() as u64)),
             Column::Texts(column) => Ok(Value::Str(column.decode()?)),
+        }
+    }
+
+    /// Takes the next entry, and puts its value behind others. At least one must be left.
+    ///
+    /// The only error is `out of memory`.
+    pub fn take_behind(&mut self, values: &mut Vec<Value>) -> Result<(), Error>
+        requires { 0 < length (left self.old) }
+        ensures taken { OnOk result (AddsTaken (kind_in_code self.old) (left self.old) (left self.new) values.old.items values.new.items) }
+        ensures kind { kind_of_column self.new ≡ kind_of_column self.old }
+        ensures tallies { (entries : List Datum) → Tallies self.old entries → Tallies self.new entries }
+        ensures refused { IfErr result (λ e. e.reason ≡ Reason.OutOfMemory) }
+    {
+        values.reserve(1)?;
+        match self {
+            Column::Bools(column) => push_next::<bool, BoolDecoder<'a>>(column, values),
+            Column::Bytes(column) => push_next_byte(column, values),
+            Column::U16(column) => push_next::<u16, IntDecoder<'a, u16>>(column, values),
+            Column::U32(column) => push_next::<u32, IntDecoder<'a, u32>>(column, values),
+            Column::U64(column) => push_next::<u64, IntDecoder<'a, u64>>(column, values),
+            Column::U128(column) => push_next::<u128, IntDecoder<'a, u128>>(column, values),
+            Column::I8(column) => push_next::<i8, IntDecoder<'a, i8>>(column, values),
+            Column::I16(column) => push_next::<i16, IntDecoder<'a, i16>>(column, values),
+            Column::I32(column) => push_next::<i32, IntDecoder<'a, i32>>(column, values),
+            Column::I64(column) => push_next::<i64, IntDecoder<'a, i64>>(column, values),
+            Column::I128(column) => push_next::<i128, IntDecoder<'a, i128>>(column, values),
+            Column::Lengths(_) => {
+                let value = self.take()?;
+                values.push_reserved(value);
+                Ok(())
+            }
+            Column::Texts(column) => push_made::<String, StrDecoder<'a>>(column, values),
         }
     }
 

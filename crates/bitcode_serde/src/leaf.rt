@@ -7,7 +7,7 @@ ghost use Rattle.bitcode_untyped.specs.Nodes.{node_count};
 ghost use Rattle.bitcode_untyped.specs.ShapeTree.{leaf_tree, char_tree, natural_tree, seq_tree};
 ghost use Rattle.bitcode_untyped.specs.View.{datum_of};
 ghost use Rattle.bitcode_serde.specs.ReadColumns.{kind_of, IsCaseOf};
-ghost use Rattle.bitcode_serde.specs.ReadingValues.{HasColumn, IsSteady, Continues, ReadsAt, ReadsWithin, ReadsListAt, IsRefusalAt, IsListRefusalAt, IsOfLeaf, IsOfChar, IsOfBytes, ReadsLeafAt, IsLeafRefusalAt};
+ghost use Rattle.bitcode_serde.specs.ReadingValues.{HasColumn, IsSteady, Continues, ReadsAt, ReadsWithin, ReadsListAt, AddsRead, IsRefusalAt, IsListRefusalAt, IsOfLeaf, IsOfChar, IsOfBytes, ReadsLeafAt, IsLeafRefusalAt};
 ghost use Rattle.bitcode_serde.specs.Serializing.{IsLeaf};
 
 use crate::budget::Budget;
@@ -54,6 +54,24 @@ pub fn read_leaf(reader: &mut Reader<'_>, place: usize, kind: ColumnKind) -> Res
 {
     let value = reader.take(place, kind)?;
     Ok(value)
+}
+
+/// Reads a value from a column of this kind, and puts it behind others.
+#[inline(always)]
+pub fn read_leaf_behind(
+    reader: &mut Reader<'_>,
+    place: usize,
+    kind: ColumnKind,
+    values: &mut Vec<Value>,
+) -> Result<(), Error>
+    requires place { place ≤ length reader.old.places.below.items }
+    requires steady { IsSteady reader.old }
+    ensures continues { OnOk result (Continues reader.old reader.new) }
+    ensures read { OnOk result (AddsRead kind place reader.old reader.new values.old.items values.new.items) }
+    ensures refused { IfErr result (λ e. IsRefusalAt (leaf_tree (kind_of kind) any_number) place reader.old e.reason) }
+{
+    reader.take_behind(place, kind, values)?;
+    Ok(())
 }
 
 /// Reads `count` values from a column of this kind, all at once.

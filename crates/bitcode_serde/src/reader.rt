@@ -84,7 +84,7 @@ fn make_room(counts: &mut Vec<usize>, places: usize) -> Result<(), Error>
 }
 
 impl<'a> Reader<'a> {
-    ghost use Rattle.bitcode_serde.specs.Reading.{Hosts, counts, AreSized, IsAskedAs, Stands, IsReady, Prepares, NothingAt, NotSoMany, Leads, LeadsEach, LeadsTelling};
+    ghost use Rattle.bitcode_serde.specs.Reading.{Hosts, counts, AreSized, IsAskedAs, Stands, IsReady, Prepares, NothingAt, NotSoMany, Leads, LeadsEach, LeadsTelling, AddsLed};
     ghost use Rattle.bitcode_serde.specs.ReadingValues.{IsSteady, Continues, field_at};
 
     /// Starts before the bytes, without open columns and without allocating. If `strict`, the reader determines whether
@@ -258,8 +258,26 @@ impl<'a> Reader<'a> {
         if fields == 1 {
             return Ok(place);
         }
+        match self.places.met(place, Step::Field(i)) {
+            Some(inside) => Ok(inside),
+            None => self.meet_field(place, i),
+        }
+    }
+
+    // The number of the place of field `i` of a tuple with several fields, which may be a new one.
+    #[cold]
+    #[inline(never)]
+    fn meet_field(&mut self, place: usize, i: usize) -> Result<usize, Error>
+        requires place { place ≤ length self.old.places.below.items }
+        requires steady { IsSteady self.old }
+        ensures continues { OnOk result (Continues self.old self.new) }
+        ensures found { IfOk result (λ inside. IsPlace self.new.places.below.items inside
+            (step_of (Step.Field i) ∷ place_at (places self.old.places.below.items) place)) }
+        ensures stands { OnOk result ((a : State) → Stands self.old a → Stands self.new a) }
+        ensures refused { IfErr result (λ e. e.reason ≡ Reason.OutOfMemory) }
+    {
         let count = self.count_at(place);
-        let inside = self.step(place, Step::Field(i), count)?;
+        let inside = self.meet(place, Step::Field(i), count)?;
         Ok(inside)
     }
 
@@ -282,6 +300,32 @@ impl<'a> Reader<'a> {
         open.left -= 1;
         let value = open.column.take()?;
         Ok(value)
+    }
+
+    /// Takes the next entry of the column of a place, and puts its value behind others.
+    ///
+    /// Errors: those of [`Reader::take`].
+    #[inline(always)]
+    pub fn take_behind(
+        &mut self,
+        place: usize,
+        kind: ColumnKind,
+        values: &mut Vec<Value>,
+    ) -> Result<(), Error>
+        requires place { place ≤ length self.old.places.below.items }
+        requires sized { AreSized self.old.columns.items }
+        ensures sized { OnOk result (AreSized self.new.columns.items) }
+        ensures leads { OnOk result (AddsLed self.old (place_at (places self.old.places.below.items) place) kind self.new values.old.items values.new.items) }
+        ensures below { self.new.places.below ≡ self.old.places.below }
+        ensures asked { IsAskedAs self.old self.new }
+        ensures refused { IfErr result (λ e. IsColumnReason e.reason × (e.reason ≢ Reason.OutOfMemory
+            → (a : State) → Stands self.old a → NothingAt a (place_at (places self.old.places.below.items) place) (kind_of kind))) }
+    {
+        let at = self.ready(place, kind)?;
+        let open = &mut self.columns[at];
+        open.left -= 1;
+        open.column.take_behind(values)?;
+        Ok(())
     }
 
     /// Takes the next `count` entries of the column of a place, one after another.

@@ -5,11 +5,11 @@ ghost use Rattle.bitcode_untyped.specs.Faults.{faults_of};
 ghost use Rattle.bitcode_untyped.specs.ShapeTree.{option_tree, seq_tree, map_tree, tuple_tree, choice_tree};
 ghost use Rattle.bitcode_untyped.specs.View.{tree_of_node, trees_of};
 ghost use Rattle.bitcode_serde.specs.Budget.{IsLeft};
-ghost use Rattle.bitcode_serde.specs.ReadingValues.{IsSteady, Continues, ReadsWithin, ReadsListWithin, IsRefusalAt, IsListRefusalAt, IsOfOption, IsOfSeq, IsOfMap, IsOfTuple, IsOfEnum};
+ghost use Rattle.bitcode_serde.specs.ReadingValues.{IsSteady, Continues, ReadsWithin, ReadsListWithin, AddsWithin, IsRefusalAt, IsListRefusalAt, IsOfOption, IsOfSeq, IsOfMap, IsOfTuple, IsOfEnum};
 
 use crate::budget::Budget;
 use crate::free::{is_free, is_over_limit};
-use crate::leaf::{column_kind, read_bytes, read_entry, read_leaf, read_leaves};
+use crate::leaf::{column_kind, read_bytes, read_entry, read_leaf, read_leaf_behind, read_leaves};
 use crate::reader::Reader;
 use crate::step::Step;
 use bitcode_columns::error::{Error, Reason};
@@ -49,7 +49,38 @@ pub fn read(
     }
 }
 
-// The same, for any node.
+// Reads a value as `read` does, and puts it behind others, unless the budget is spent.
+#[cycle(read)]
+#[inline(always)]
+fn read_behind(
+    alloc: Global,
+    reader: &mut Reader<'_>,
+    budget: &mut Budget,
+    table: &[ShapeNode],
+    node: &ShapeNode,
+    left: usize,
+    place: usize,
+    values: &mut Vec<Value>,
+) -> Result<(), Error>
+    requires place { place ≤ length reader.old.places.below.items }
+    requires steady { IsSteady reader.old }
+    ensures continues { OnOk result (Continues reader.old reader.new) }
+    ensures read { OnOk result (AddsWithin (tree_of_node left table.now node.now) (λ value. faults_of table.now value left node.now ≡ []) place
+        reader.old budget.old values.old.items reader.new budget.new values.new.items) }
+    ensures refused { IfErr result (λ e. IsRefusalAt (tree_of_node left table.now node.now) place reader.old e.reason) }
+{
+    if let Some(kind) = column_kind(node) {
+        if budget.has(1) {
+            budget.take(1);
+            return read_leaf_behind(reader, place, kind, values);
+        }
+    }
+    let value = read(alloc, reader, budget, table, node, left, place)?;
+    budget.keep(values, value)?;
+    Ok(())
+}
+
+// Reads a value as `read` does, of any node.
 #[cycle(read)]
 fn read_node(
     alloc: Global,
@@ -223,8 +254,16 @@ fn read_tuple(
     let mut values = budget.room(alloc, nodes.len())?;
     for i in 0..nodes.len() {
         let inside = reader.field(place, i, nodes.len())?;
-        let value = read(alloc, reader, budget, table, &nodes[i], left, inside)?;
-        budget.keep(&mut values, value)?;
+        read_behind(
+            alloc,
+            reader,
+            budget,
+            table,
+            &nodes[i],
+            left,
+            inside,
+            &mut values,
+        )?;
     }
     Ok(Value::Tuple(values))
 }

@@ -108,12 +108,23 @@ impl Writer {
     {
         match self.column(place) {
             Some(i) => self.columns[i].column.push(next),
-            None => {
-                let mut column = WrittenColumn::new(self.alloc, next);
-                column.push(next)?;
-                self.add(place, column)
-            }
+            None => self.put_first(place, next),
         }
+    }
+
+    // Writes an entry to the column of a place that has none.
+    #[cold]
+    #[inline(never)]
+    fn put_first(&mut self, place: usize, next: Entry<'_>) -> Result<(), Error>
+        requires place { place ≤ length self.old.places.below.items }
+        requires fresh { All (λ c. c.place ≢ place) self.old.columns.items }
+        ensures below { OnOk result (self.new.places.below ≡ self.old.places.below) }
+        ensures written { OnOk result (written self.new ≡ put (use_at (place_in self.old place) (kind_of_entry next.entry) (datum_of_entry next.entry)) (written self.old)) }
+        ensures refused { IfErr result (λ e. e.reason ≡ Reason.OutOfMemory) }
+    {
+        let mut column = WrittenColumn::new(self.alloc, next);
+        column.push(next)?;
+        self.add(place, column)
     }
 
     /// Writes a value of one case to the column of a place.
@@ -156,15 +167,33 @@ impl Writer {
     {
         match self.column(place) {
             Some(i) => self.columns[i].column.push_each(kind, values),
-            None => {
-                if values.is_empty() {
-                    return Ok(());
-                }
-                let mut column = WrittenColumn::of(kind, self.alloc);
-                column.push_each(kind, values)?;
-                self.add(place, column)
-            }
+            None => self.put_first_each(place, kind, values),
         }
+    }
+
+    // Writes values of one case to the column of a place that has none. Without values it starts no column.
+    #[cold]
+    #[inline(never)]
+    fn put_first_each(
+        &mut self,
+        place: usize,
+        kind: ColumnKind,
+        values: &[Value],
+    ) -> Result<(), Error>
+        requires place { place ≤ length self.old.places.below.items }
+        requires values { kind ≢ ColumnKind.Lengths }
+        requires fresh { All (λ c. c.place ≢ place) self.old.columns.items }
+        ensures below { OnOk result (self.new.places.below ≡ self.old.places.below) }
+        ensures written { OnOk result (written self.new ≡ put_all (map (use_at (place_in self.old place) (kind_of kind)) (map datum_of values.now)) (written self.old)) }
+        ensures entries { OnOk result (AllByRecursion (IsEntryIn kind) values.now) }
+        ensures refused { IfErr result (λ e. (e.reason ≡ Reason.OutOfMemory) ⊎ ((e.reason ≡ Reason.NotOfTheShape) × HasOther kind values.now)) }
+    {
+        if values.is_empty() {
+            return Ok(());
+        }
+        let mut column = WrittenColumn::of(kind, self.alloc);
+        column.push_each(kind, values)?;
+        self.add(place, column)
     }
 
     /// Writes bytes to the column of a place, by one copy.

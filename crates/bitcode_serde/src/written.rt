@@ -61,6 +61,9 @@ pub enum WrittenColumn {
     Texts(StrEncoder),
 }
 
+// Fewer values than these are written one by one: to gather them would take longer.
+const FEW: usize = 16;
+
 // Makes room for an entry, and writes it.
 #[inline(always)]
 fn join<T: Shaped, E: Buffer + Encoder<T>>(column: &mut E, entry: &T) -> Result<(), Error>
@@ -108,6 +111,40 @@ fn join_held<'b, T: Case, E: Buffer + Encoder<T>>(
     column.encode_vectored(held)
 }
 
+// Writes a value of one case. Room for it was reserved.
+#[inline(always)]
+fn join_next<T: Case, E: Buffer + Encoder<T>>(column: &mut E, value: &Value) -> Result<(), Error>
+    requires { 0 < E.room column.old }
+    ensures joined { OnOk result (E.columns column.new ≡ beside (E.columns column.old) (one (kind_of T.kind) (map datum_of (value.now ∷ [])))) }
+    ensures entries { OnOk result (AllByRecursion (IsEntryIn T.kind) (value.now ∷ [])) }
+    ensures room { OnOk result (E.room column.old ≤ E.room column.new + 1) }
+    ensures refused { IfErr result (λ e. (e.reason ≡ Reason.OutOfMemory) ⊎ ((e.reason ≡ Reason.NotOfTheShape) × HasOther T.kind (value.now ∷ []))) }
+{
+    match T::held(value) {
+        Some(t) => {
+            t.told();
+            column.encode(t)
+        }
+        None => err(Reason::NotOfTheShape),
+    }
+}
+
+// Writes values of one case, one after another. Room for them was reserved.
+fn join_in_turn<T: Case, E: Buffer + Encoder<T>>(
+    column: &mut E,
+    values: &[Value],
+) -> Result<(), Error>
+    requires { length values.now ≤ E.room column.old }
+    ensures joined { OnOk result (E.columns column.new ≡ beside (E.columns column.old) (one (kind_of T.kind) (map datum_of values.now))) }
+    ensures entries { OnOk result (AllByRecursion (IsEntryIn T.kind) values.now) }
+    ensures refused { IfErr result (λ e. (e.reason ≡ Reason.OutOfMemory) ⊎ ((e.reason ≡ Reason.NotOfTheShape) × HasOther T.kind values.now)) }
+{
+    for value in values {
+        join_next::<T, E>(column, value)?;
+    }
+    Ok(())
+}
+
 // Writes 1 to 64 values of one case. Room for them was reserved.
 #[inline(never)]
 fn join_chunk<T: Case, E: Buffer + Encoder<T>>(
@@ -150,6 +187,9 @@ fn join_each<T: Case, E: Buffer + Encoder<T>>(column: &mut E, values: &[Value]) 
     ensures refused { IfErr result (λ e. (e.reason ≡ Reason.OutOfMemory) ⊎ ((e.reason ≡ Reason.NotOfTheShape) × HasOther T.kind values.now) ⊎ E.surely_overflows column.old (length values.now)) }
 {
     column.reserve(values.len())?;
+    if values.len() < FEW {
+        return join_in_turn::<T, E>(column, values);
+    }
     let mut rest = values;
     while !rest.is_empty() {
         let (front, behind) = rest.split_at(rest.len().min(MAX_VECTORED_CHUNK));

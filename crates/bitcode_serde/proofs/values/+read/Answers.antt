@@ -1,7 +1,7 @@
 -- By the node, and by what was taken.
 use Rattle.std.proofs.Common.{rules, arith, ◌≡◌, ◌<◌, ◌+◌, ◌-◌, [], length, map, true, refl, ap, subst, sym, ◌∙◌}
 use Rattle.std.specs.List.{AllByRecursion, flat_map}
-use Rattle.std.proofs.lemmas.Result.{err_from_is_err_and, IfOk-weaker, IfErr-weaker}
+use Rattle.std.proofs.lemmas.Result.{err_from_is_err_and, on_ok_weaker, IfOk-weaker, IfErr-weaker}
 use Rattle.bitcode_shapes.specs.Datum.{unit, list, tuple, choice}
 use Rattle.bitcode_shapes.specs.Shape.{any_number}
 use Rattle.bitcode_untyped.specs.Bounds.{column_free}
@@ -29,7 +29,7 @@ use Rattle.bitcode_serde.proofs.ColumnLemmas.{passed_on}
 use Rattle.bitcode_serde.proofs.DepthLemmas.{entry_deep, reference_falls}
 use Rattle.bitcode_serde.proofs.EntryLemmas.{found_entry, no_entry}
 use Rattle.bitcode_serde.proofs.FieldLemmas.{tree_at_entry, tree_at_none, no_fields, one_more_field, field_refused, tuple_done}
-use Rattle.bitcode_serde.proofs.KeptLemmas.{one_node, unit_within, entry_within, leaves_within, rest_within}
+use Rattle.bitcode_serde.proofs.KeptLemmas.{one_node, unit_within, entry_within, leaf_adds, leaves_within, rest_within}
 use Rattle.bitcode_serde.proofs.LeafEntryLemmas.{leaf_else}
 use Rattle.bitcode_serde.proofs.LeafLemmas.{leaf_read_at, leaves_whole}
 use Rattle.bitcode_serde.proofs.ValueLemmas.{asked_alike, refused_entry, still_there, continues_on, continues_stepped, one_more, list_stuck, enters_list, enters_choice, seq_read_at, seq_refused, choice_read_at, choice_refused, choice_of_unit, no_choice, no_third, told_at}
@@ -52,6 +52,24 @@ read-returns-in-Some-clause-whole t c =
 
 pub read-returns-in-Some-clause-refused : goal.read-returns-in-Some-clause-refused
 read-returns-in-Some-clause-refused t c = rw (c.in-Some.ensures.some.tree (followed c.args.left c.args.table.now)) c.read_leaf.ensures.refused
+
+pub read_behind-returns-then-has-clause-read : goal.read_behind-returns-then-has-clause-read
+read_behind-returns-then-has-clause-read t c =
+    on_ok_weaker c.read_leaf_behind.result
+    (λ one. leaf_adds c.args.node.now c.in-Some.kind c.args.table.now c.args.left c.args.place c.args.reader.now c.read_leaf_behind.new.reader c.args.budget.now
+    c.take.new.self c.args.values.now.items c.read_leaf_behind.new.values.items c.in-Some.ensures.some c.take.ensures one)
+    c.read_leaf_behind.ensures.read
+
+pub read_behind-returns-then-has-clause-refused : goal.read_behind-returns-then-has-clause-refused
+read_behind-returns-then-has-clause-refused t c = rw (c.in-Some.ensures.some.tree (followed c.args.left c.args.table.now)) c.read_leaf_behind.ensures.refused
+
+pub read_behind-returns-clause-read : goal.read_behind-returns-clause-read
+read_behind-returns-clause-read t c = record {
+  value = c.in_ok-value.value;
+  read = c.in_ok-value.ensures.read;
+  whole = c.in_ok-value.ensures.whole;
+  added = c.in_ok-keep.ensures.kept;
+}
 
 pub read_node-read_entry-requires : goal.read_node-read_entry-requires
 read_node-read_entry-requires t c =
@@ -384,37 +402,37 @@ read_tuple-loop-i-init t c =
 pub read_tuple-field-requires-clause-place : goal.read_tuple-field-requires-clause-place
 read_tuple-field-requires-clause-place t c = still_there c.args.reader.now c.loop-i.reader c.args.place c.loop-i.invariant.0 c.requires.place
 
-pub read_tuple-read-requires : goal.read_tuple-read-requires
-read_tuple-read-requires t c =
+pub read_tuple-read_behind-requires : goal.read_tuple-read_behind-requires
+read_tuple-read_behind-requires t c =
     let d = entry_deep c.args.nodes.now c.loop-i.i c.index-nodes-i.result (found_entry c.args.nodes.now c.loop-i.i c.index-nodes-i.result c.loop-i-test.true c.index-nodes-i.is) in
     let h = (c.in_ok-inside.ensures.found _ (c.loop-i.invariant.0.kept c.args.place (place_at (places c.args.reader.now.places.below.items) c.args.place) (c.requires.place, refl))).0 in
     let s = c.in_ok-inside.ensures.continues.steady in
     search (rules, d, h, s)
 
-pub read_tuple-returns-in_err-value-clause-refused : goal.read_tuple-returns-in_err-value-clause-refused
-read_tuple-returns-in_err-value-clause-refused t c =
+pub read_tuple-returns-in_err-read_behind-clause-refused : goal.read_tuple-returns-in_err-read_behind-clause-refused
+read_tuple-returns-in_err-read_behind-clause-refused t c =
     let at_node = tree_of_node c.args.left c.args.table.now in
-    let y = err_from_is_err_and c.from_residual-in_err-value.result c.from_residual-in_err-value.ensures.1 in
-    passed_on (λ e. IsRefusalAt (tuple_tree (trees_of (map at_node c.args.nodes.now))) c.args.place c.args.reader.now e.reason) c.from_residual-in_err-value.result c.in_err-value.field-0.0 y.0 y.1 y.2
+    let y = err_from_is_err_and c.from_residual-in_err-read_behind.result c.from_residual-in_err-read_behind.ensures.1 in
+    passed_on (λ e. IsRefusalAt (tuple_tree (trees_of (map at_node c.args.nodes.now))) c.args.place c.args.reader.now e.reason) c.from_residual-in_err-read_behind.result c.in_err-read_behind.field-0.0 y.0 y.1 y.2
     (field_refused at_node c.args.nodes.now c.args.place c.args.reader.now c.loop-i.reader c.field.new.self c.in_ok-inside.inside c.loop-i.i c.index-nodes-i.result
     c.loop-i.invariant.1.listing c.loop-i.invariant.0 (found_entry c.args.nodes.now c.loop-i.i c.index-nodes-i.result c.loop-i-test.true c.index-nodes-i.is)
-    c.in_ok-inside.ensures.found c.in_ok-inside.ensures.stands c.loop-i.invariant.1.read _ c.in_err-value.ensures.refused)
+    c.in_ok-inside.ensures.found c.in_ok-inside.ensures.stands c.loop-i.invariant.1.read _ c.in_err-read_behind.ensures.refused)
 
 pub read_tuple-loop-i-preserved : goal.read_tuple-loop-i-preserved
 read_tuple-loop-i-preserved t c =
     let at_node = tree_of_node c.args.left c.args.table.now in
     let there = found_entry c.args.nodes.now c.loop-i.i c.index-nodes-i.result c.loop-i-test.true c.index-nodes-i.is in
-    let one = c.in_ok-value.ensures.read in
+    let one = c.in_ok-read_behind.ensures.read in
     let many = c.loop-i.invariant.1 in (
-      continues_on c.args.reader.now c.loop-i.reader c.read.new.reader c.loop-i.invariant.0
-          (continues_on c.loop-i.reader c.field.new.self c.read.new.reader c.in_ok-inside.ensures.continues c.in_ok-value.ensures.continues),
-      keeps_more datum_of _ _ c.take.new.self c.loop-i.budget c.read.new.budget c.loop-i.values.items c.keep.new.items.items c.in_ok-value.value one.datum many
+      continues_on c.args.reader.now c.loop-i.reader c.read_behind.new.reader c.loop-i.invariant.0
+          (continues_on c.loop-i.reader c.field.new.self c.read_behind.new.reader c.in_ok-inside.ensures.continues c.in_ok-read_behind.ensures.continues),
+      keeps_more datum_of _ _ c.take.new.self c.loop-i.budget c.read_behind.new.budget c.loop-i.values.items c.read_behind.new.values.items one.value one.read.datum many
           (one_more_field at_node c.args.nodes.now c.args.place c.args.reader.now c.loop-i.reader c.field.new.self c.in_ok-inside.inside c.loop-i.i
-          c.index-nodes-i.result many.listing c.loop-i.invariant.0 there c.in_ok-inside.ensures.found c.in_ok-inside.ensures.stands many.read one.datum
-          c.read.new.reader one.read) one.taken one.same c.in_ok-keep.ensures.kept,
-      λ left. rw (c.in_ok-keep.ensures.kept left)
-          (one_more_field_whole c.args.table.now c.args.left c.args.nodes.now c.loop-i.values.items c.loop-i.i c.in_ok-value.value c.index-nodes-i.result
-          (c.loop-i.invariant.2 (left_before (node_count one.datum) c.loop-i.budget (subst IsLeft one.taken left))) there (c.in_ok-value.ensures.whole left)),
+          c.index-nodes-i.result many.listing c.loop-i.invariant.0 there c.in_ok-inside.ensures.found c.in_ok-inside.ensures.stands many.read one.read.datum
+          c.read_behind.new.reader one.read.read) one.read.taken one.read.same one.added,
+      λ left. rw (one.added left)
+          (one_more_field_whole c.args.table.now c.args.left c.args.nodes.now c.loop-i.values.items c.loop-i.i one.value c.index-nodes-i.result
+          (c.loop-i.invariant.2 (left_before (node_count one.read.datum) c.loop-i.budget (subst IsLeft one.read.taken left))) there (one.whole left)),
     )
 
 pub read_tuple-returns-clause-read : goal.read_tuple-returns-clause-read

@@ -14,6 +14,9 @@ use Rattle.bitcode_serde.proofs.values.+read.Given as goal
 abbrev pub decreases-read : goal.decreases-read
 decreases-read l = 5 * left_below l.left l.table.now (depth l.node.now) + 1
 
+abbrev pub decreases-read_behind : goal.decreases-read_behind
+decreases-read_behind l = 5 * left_below l.left l.table.now (depth l.node.now) + 2
+
 abbrev pub decreases-read_node : goal.decreases-read_node
 decreases-read_node l = 5 * left_below l.left l.table.now (depth l.node.now)
 
@@ -27,7 +30,7 @@ abbrev pub decreases-read_elements : goal.decreases-read_elements
 decreases-read_elements l = 5 * left_below l.left l.table.now (depth l.node.now) + 2
 
 abbrev pub decreases-read_tuple : goal.decreases-read_tuple
-decreases-read_tuple l = 5 * left_below l.left l.table.now (deepest l.nodes.now) + 2
+decreases-read_tuple l = 5 * left_below l.left l.table.now (deepest l.nodes.now) + 3
 
 abbrev pub decreases-read_enum : goal.decreases-read_enum
 decreases-read_enum l = 5 * left_below l.left l.table.now (deepest l.nodes.now) + 2

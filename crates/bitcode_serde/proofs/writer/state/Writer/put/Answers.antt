@@ -1,11 +1,10 @@
 -- An entry goes to the column of its place.
-use Rattle.std.proofs.Common.{◌++◌, [], ◌∷◌, map, length, refl, ap, ◌∙◌, arith}
+use Rattle.std.proofs.Common.{[], ◌∷◌, length, refl, ap}
 use Rattle.bitcode_serde.specs.Places.{places}
-use Rattle.bitcode_serde.specs.Writing.{placed}
 use Rattle.bitcode_serde.specs.WrittenColumns.{kind_of_entry, datum_of_entry}
 use Rattle.bitcode_serde.proofs.FiledLemmas.{filed_set}
-use Rattle.bitcode_serde.proofs.OutcomeLemmas.{when_ok, on_ok}
-use Rattle.bitcode_serde.proofs.WritingLemmas.{put_there, put_behind, memory_there, within_set}
+use Rattle.bitcode_serde.proofs.OutcomeLemmas.{on_ok}
+use Rattle.bitcode_serde.proofs.WritingLemmas.{put_there, memory_there, within_set}
 use Rattle.bitcode_serde.proofs.WrittenLemmas.{if_err}
 use Rattle.bitcode_serde.proofs.writer.state.Writer.put.Goals as goal
 
@@ -38,13 +37,5 @@ returns-in-Some-clause-refused c =
     c.in-Some.ensures.some c.index_mut.ensures.value h)
     c.push.ensures.refused
 
-pub returns-in_ok-push-in-None-clause-written : goal.returns-in_ok-push-in-None-clause-written
-returns-in_ok-push-in-None-clause-written c =
-    let old = c.args.self.now in
-    let entries = c.in_ok-push-in-None.ensures.written ∙ ap (λ ds. ds ++ datum_of_entry c.args.next ∷ []) c.new-column.ensures.empty in
-    when_ok c.add.result
-    (λ items. ap (λ z. map (placed (places z.items)) c.add.new.self.columns.items) c.add.ensures.below
-    ∙ put_behind old.places.below.items old.columns.items c.add.new.self.columns.items c.args.place (kind_of_entry c.args.next) (datum_of_entry c.args.next ∷ [])
-    (record { place = c.args.place; column = c.push-in-None.new.self }) old.places.apart c.requires old.inside c.in-None.ensures.none items
-    refl (c.in_ok-push-in-None.ensures.kind.0 ∙ c.new-column.ensures.kind) entries (omega arith))
-    c.add.ensures.columns
+pub returns-in-None-clause-refused : goal.returns-in-None-clause-refused
+returns-in-None-clause-refused c = if_err _ _ c.put_first.result (λ e memory root of_shape has. memory) c.put_first.ensures.refused

@@ -1,0 +1,173 @@
+"""The file of a struct with more than 16 fields, which corresponds to pairs of parts: what scripts/new_type writes."""
+
+from string import Template
+
+from declarations import Refused, fields_of
+from known_types import MOST_LEFT, MOST_TYPES, Checker, inside, names_in, of_text, says_laws, takes_memory, types_in
+from structs import APART, BODY, HEAD, OWNED, bounds, declaration, decoder, decoder_of_parts, halved, in_a_head, initialized, laws_as_data, parameter, places, quoted, types_left
+
+# A struct has no more fields than these, which name no more types: of more the borrow checker covers no encoder.
+MOST_WIDE = MOST_ENCODED = 48
+# A part has no more fields than these: they have one tuple.
+MOST_IN_PART = 8
+
+# What a part of the fields has beside what a struct has.
+PART_OF = """impl$shaped PartOf<$whole> for $name {
+    ghost of = { λ t. record { $ghost_fields } };
+}
+
+${aliases}impl$shaped LendsPart$count<$whole, $types> for $name {
+    fn lend<$lent_for>(whole: &$lent_for $whole) -> $references {
+        $lent
+    }
+}
+
+"""
+IN_PARTS = """impl$shaped InParts for $name {
+    ghost in_parts = { λ t. refl };
+}
+
+"""
+
+
+def paired(items):
+    """One item for itself, or a pair of those of the first half and of those of the second, as text."""
+    half = len(items) // 2
+    return items[0] if len(items) == 1 else f"({paired(items[:half])}, {paired(items[half:])})"
+
+
+def paths(count, whole="p"):
+    """Where in the pairs the parts stand."""
+    half = count // 2
+    return [whole] if count == 1 else paths(half, f"{whole}.0") + paths(count - half, f"{whole}.1")
+
+
+def parts_of(struct):
+    """The parts of the struct: structs of five to eight fields, each with the parameters of the whole that these name."""
+    count = len(struct.fields)
+    number = -(-count // MOST_IN_PART)
+    parts = []
+    for i in range(number):
+        fields = struct.fields[count * i // number:count * (i + 1) // number]
+        used = {name for field in fields for name in names_in(field.type)}
+        parts.append(struct._replace(
+            docs=[f"/// Fields of `{struct.name}`, from `{fields[0].name}` to `{fields[-1].name}`."], derives=[], attributes=[], name=f"{struct.name}Part{i}",
+            lifetime=struct.lifetime if struct.lifetime in used else None, types=[name for name in struct.types if name in used],
+            fields=[field._replace(docs=[], attributes=[]) for field in fields],
+        ))
+    return parts
+
+
+def record_of(fields, place):
+    """The record of these fields in a clause, as they are found in that place."""
+    return "; ".join(f"{quoted(field.name)} = {place}.{field.name}" for field in fields)
+
+
+def inside_of(parts, own):
+    """What the parts stand for, of those that take memory or types, as `inside` says it."""
+    names = [part.name + bounds(part, "") for part in parts if part.types or any(takes_memory(field.type, own) for field in part.fields)]
+    pairs = [f"(<{name} as StandsFor>::Parts, <{name} as StandsFor>::Inside)" for name in names]
+    return pairs[0] if len(pairs) == 1 else f"({', '.join(pairs)})"
+
+
+def has_inside(part, own):
+    """Whether types of one's own in the part take memory: the toolchain states no bound with a tuple of these."""
+    return inside(part, own) != "()"
+
+
+def types_named(parts, own, is_apart):
+    """How many types the decoder of the parts names, where those that may be have a decoder struct of their own."""
+    return sum(1 if is_apart and not has_inside(part, own) else types_left(part, own)[0] for part in parts)
+
+
+def types_encoded(type, own):
+    """How many types the type's encoder names: a struct of one's own names those of its fields."""
+    item = own[type.name].item if type.kind == "path" and type.name in own else None
+    if not item:
+        return types_in(type, own)
+    return sum(types_encoded(field.type, own) for field in fields_of(item)) + sum(types_encoded(part, own) for part in type.parts if part.kind != "lifetime") or 1
+
+
+def part_text(part, struct, number, first, own, is_apart):
+    """What is written of a part."""
+    input, name, whole = part.lifetime or "'a", part.name + bounds(part, ""), struct.name + bounds(struct, "")
+    fields, types = part.fields, [of_text(field.type) for field in part.fields]
+    alias = f"Fields{number}" + bounds(part, "")
+    inner, apart = decoder_of_parts(part, own, input, alias)
+    type_of_decoder = decoder(part, own, input, alias)[0]
+    if is_apart:
+        apart += Template(APART).substitute(simple=struct.name, apart=f"{struct.name}Decoder{number}", input=input, inner=inner, type=alias)
+        type_of_decoder = f"PartsDecoder<{alias}, {struct.name}Decoder{number}<{input}>>"
+    short, aliases = in_a_head(part, types, "Field", first, struct.name)
+    lent_for = "'c" if struct.lifetime == "'b" else "'b"
+    part_of = Template(PART_OF).substitute(
+        shaped=bounds(struct, "Shaped"), whole=whole, name=name, ghost_fields=record_of(fields, "t"), aliases=aliases, count=len(fields), types=", ".join(short),
+        lent_for=lent_for, references=halved([f"&{lent_for} {text}" for text in types]), lent=halved([f"&whole.{field.name}" for field in fields]),
+    )
+    made = "; ".join(f"{quoted(field.name)} = {place}" for field, place in zip(fields, places(len(fields))))
+    tells = all(says_laws(field.type, own) for field in fields)
+    return Template(BODY).substitute(
+        declaration=declaration(part), alias=f"type {alias} = {halved(types)};\n\n", shaped=bounds(part, "Shaped"), name=name, ghost_use="", parts=alias,
+        inside=inside(part, own), ghost_parts=f"λ t. {halved([f't.{field.name}' for field in fields])}", ghost_made=f"record {{ {made} }}",
+        told="".join(f"\n        self.{field.name}.told();" for field in fields) + "\n    ", one_to_one="λ t. refl", made=bounds(part, "Made"),
+        pattern=halved([parameter(field.name) for field in fields]), built=f"{part.name} {{ {', '.join(map(initialized, fields))} }}",
+        payload=laws_as_data(part, alias) + "\n" if tells else "", lends=part_of, has_encoder=bounds(part, "HasEncoder"),
+        encoder=f"EncoderOfPart<{len(fields)}, {alias}>", apart=apart, has_decoder=bounds(part, f"HasDecoder<{input}>", input), input=input,
+        decoder=type_of_decoder, owned="\n",
+    ), bool(apart)
+
+
+def wide_text(struct, own):
+    """The file of the struct, and the crates that it needs."""
+    if len(struct.fields) > MOST_WIDE:
+        raise Refused(struct.line, f"{len(struct.fields)} fields are more than {MOST_WIDE}: put some of them into a struct of their own, which is written by itself")
+    if struct.kind != "named":
+        raise Refused(struct.line, f"{len(struct.fields)} fields are more than 16, so they need names")
+    if struct.types:
+        raise Refused(struct.line, f"a struct with more than 16 fields takes no type: write the type itself for `{struct.types[0]}`")
+    checker = Checker(struct, own)
+    for field in struct.fields:
+        checker.check(field.type)
+    parts, input, name = parts_of(struct), struct.lifetime or "'a", struct.name + bounds(struct, "")
+    is_apart = types_named(parts, own, False) > MOST_LEFT
+    if types_named(parts, own, is_apart) > MOST_TYPES:
+        raise Refused(struct.line, f"the fields name more than the {MOST_TYPES} types of which the borrow checker covers a decoder: put those of your own types that take memory into a struct of their own")
+    if sum(types_encoded(field.type, own) for field in struct.fields) > MOST_ENCODED:
+        raise Refused(struct.line, f"the fields name more than the {MOST_ENCODED} types of which the borrow checker covers an encoder: put some of them into a struct of their own, which is written by itself")
+    texts, first, uses_apart = [], 0, False
+    for number, part in enumerate(parts):
+        text, has_apart = part_text(part, struct, number, first, own, is_apart and not has_inside(part, own))
+        texts.append(text)
+        first += len(part.fields)
+        uses_apart |= has_apart
+    tells, alias = all(says_laws(field.type, own) for field in struct.fields), "Parts" + bounds(struct, "")
+    whole = [part.name + bounds(part, "") for part in parts]
+    found = [(field, f"{place}.{field.name}") for part, place in zip(parts, paths(len(parts))) for field in part.fields]
+    names = {field.name for field in struct.fields}
+    held = [f"part{number}{'_' * any(name.startswith('part') for name in names)}" for number in range(len(parts))]
+    moved = "".join(f"let {part.name} {{ {', '.join(map(initialized, part.fields))} }} = {own_name};" for part, own_name in zip(parts, held))
+    used = {"DecoderOfFields", "EncoderOfPart", "EncoderOfParts", "FromParts", "HasDecoder", "HasEncoder", "InParts", "PartOf", "Shaped", "StandsFor"}
+    used |= {f"LendsPart{len(part.fields)}" for part in parts}
+    used |= {"Made"} if struct.types else set()
+    used |= set() if struct.lifetime else {"DecodeOwned"}
+    used |= {"Payload"} if tells else set()
+    used |= {"Error", "PartsDecoder"} if uses_apart else set()
+    used |= {"TupleDecoder"} if any("TupleDecoder<" in text for text in texts) else set()
+    imports = {*checker.imports, *({"bitcode::coder::{Decoder, HoldsData, View}", "std::alloc::Global"} if uses_apart else ())}
+    uses = sorted([f"use bitcode::{{{', '.join(sorted(used))}}};", *(f"use {path};" for path in imports)])
+    body = Template(BODY).substitute(
+        declaration="", alias=f"type {alias} = {paired(whole)};\n\n", shaped=bounds(struct, "Shaped"), name=name, ghost_use="", parts=alias,
+        inside=inside_of(parts, own), ghost_parts=f"λ t. {paired([f'record {{ {record_of(part.fields, chr(116))} }}' for part in parts])}",
+        ghost_made="record { " + "; ".join(f"{quoted(field.name)} = {place}" for field, place in found) + " }",
+        told="".join(f"\n        self.{field.name}.told();" for field in struct.fields) + "\n    ", one_to_one="λ t. refl", made=bounds(struct, "Made"),
+        pattern=paired(held), built=f"{moved} {struct.name} {{ {', '.join(map(initialized, struct.fields))} }}", payload=laws_as_data(struct, alias) + "\n" if tells else "",
+        lends=Template(IN_PARTS).substitute(shaped=bounds(struct, "Shaped"), name=name), has_encoder=bounds(struct, "HasEncoder"),
+        encoder=f"EncoderOfParts<{alias}>", apart="", has_decoder=bounds(struct, f"HasDecoder<{input}>", input), input=input,
+        decoder=f"DecoderOfFields<{input}, {alias}>",
+        owned="" if struct.lifetime else Template(OWNED).substitute(parameters=bounds(struct, "DecodeOwned"), name=name),
+    )
+    head = Template(HEAD).substitute(
+        about=f"`{struct.name}` corresponds to pairs of parts of its fields. What is below its declaration was written by `scripts/new_type`.",
+        by_hand="ghost use Rattle.bitcode.specs.ByHand.{stood_payload};\n" if tells else "", uses="\n".join(uses) + "\n",
+    )
+    return head + declaration(struct) + "\n" + "\n".join(texts) + body, checker.crates
