@@ -25,13 +25,13 @@ WORDS = {
     "docs/DIFFERENCES.md": 1500,
     "docs/EXAMPLES.md": 1200,
     "docs/FORMAT.md": 3500,
-    "docs/GUIDE.md": 2600,
+    "docs/GUIDE.md": 2650,
     "docs/PROMISES.md": 3500,
     "docs/PROVING.md": 800,
     "docs/SEALED.md": 600,
     "docs/SPEED.md": 700,
     "docs/TESTING.md": 1100,
-    "docs/TOOLCHAIN.md": 1600,
+    "docs/TOOLCHAIN.md": 1650,
 }
 WORDS_IN_ALL = 24000
 COLUMNS = 120
