@@ -88,6 +88,12 @@ def types_encoded(type, own):
     return sum(types_encoded(field.type, own) for field in fields_of(item)) + sum(types_encoded(part, own) for part in type.parts if part.kind != "lifetime") or 1
 
 
+def types_of_wide(struct, own):
+    """How many types the decoder of the struct names."""
+    parts = parts_of(struct)
+    return types_named(parts, own, types_named(parts, own, False) > MOST_LEFT)
+
+
 def part_text(part, struct, number, first, own, is_apart):
     """What is written of a part."""
     input, name, whole = part.lifetime or "'a", part.name + bounds(part, ""), struct.name + bounds(struct, "")
@@ -130,7 +136,7 @@ def wide_text(struct, own):
         checker.check(field.type)
     parts, input, name = parts_of(struct), struct.lifetime or "'a", struct.name + bounds(struct, "")
     is_apart = types_named(parts, own, False) > MOST_LEFT
-    if types_named(parts, own, is_apart) > MOST_TYPES:
+    if types_of_wide(struct, own) > MOST_TYPES:
         raise Refused(struct.line, f"the fields name more than the {MOST_TYPES} types of which the borrow checker covers a decoder: put those of your own types that take memory into a struct of their own")
     if sum(types_encoded(field.type, own) for field in struct.fields) > MOST_ENCODED:
         raise Refused(struct.line, f"the fields name more than the {MOST_ENCODED} types of which the borrow checker covers an encoder: put some of them into a struct of their own, which is written by itself")
