@@ -88,7 +88,7 @@ def counts():
         f"| decoded or rejected inputs | {rows('scripts/vectors/*/read.tsv')} | {rows('scripts/vectors/serde/read.tsv')} |",
         f"| integer columns | {rows('scripts/vectors/columns/packed.tsv') + rows('scripts/vectors/columns/unpacked.tsv')} | |",
         "",
-        f"`tests/` has {count(TEST, 'tests/library/**/*.rt')} tests of the library and {count(TEST, 'tests/own_types/**/*.rt')} of user-defined types.",
+        f"`tests/` has {count(TEST, 'tests/library/**/*.rs')} tests of the library and {count(TEST, 'tests/own_types/**/*.rs')} of user-defined types.",
         "",
         f"The tests run `scripts/new_type` on {count('^pub (?:struct|enum) ', 'scripts/own_types/tried.txt')} declarations that it accepts, and on "
         f"{count(' => ', 'scripts/own_types/refused.txt')} that it rejects.",
