@@ -11,6 +11,4 @@ pub mod values;
 
 pub use crate::got::Got;
 pub use crate::strict::{decodes_strictly, refuses_strictly};
-pub use crate::values::{
-    agrees, both_ways, decodes, encodes, holds, refuses, written_and_read,
-};
+pub use crate::values::{agrees, both_ways, decodes, encodes, holds, refuses, written_and_read};
