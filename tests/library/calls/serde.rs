@@ -1,9 +1,4 @@
 //! The second format, as users meet it: each public call once, with ample memory, and values that hold values of their own kind.
-use bitcode_expected::Got;
-use bitcode_expected::untyped::{
-    deserializes_strictly, is_not_read_strictly, is_not_written, map_of, seq_of, shape_of, variant,
-    written_both_ways,
-};
 use bitcode::coder::Buffer as _;
 use bitcode::laws::{
     columns_decide, every_shape, faults_tell, one_value_of_a_datum, spelled_data, strict_data,
@@ -13,6 +8,11 @@ use bitcode::serde::{VariantDecoder, VariantEncoder};
 use bitcode::{
     Decoder, Encoder, REF_LIMIT, Reason, Shape, ShapeNode, Value, View, ZST_LIMIT, deserialize,
     deserialize_within, serialize,
+};
+use bitcode_expected::Got;
+use bitcode_expected::untyped::{
+    deserializes_strictly, is_not_read_strictly, is_not_written, map_of, seq_of, shape_of, variant,
+    written_both_ways,
 };
 use std::alloc::Global;
 use std::test::Fail;

@@ -1,8 +1,8 @@
 //! How a test packs a column, and unpacks one.
-use bitcode_expected::Got;
 use bitcode::{
     CowSlice, Int, Reason, pack_bools, pack_ints, unpack_bools, unpack_bytes, unpack_ints,
 };
+use bitcode_expected::Got;
 use std::alloc::Global;
 
 /// The integers are packed as these bytes.

@@ -1,10 +1,10 @@
 //! Columns of variants that the Rust crate packed and unpacked, and every last byte in every base.
-use bitcode_expected::Got;
 use bitcode::coder::Buffer as _;
 use bitcode::{
     CowSlice, Error, Reason, VariantDecoder, VariantEncoder, View, histogram, pack_bytes_less_than,
     unpack_bytes_less_than,
 };
+use bitcode_expected::Got;
 use std::alloc::Global;
 use std::test::Fail;
 
@@ -33,8 +33,7 @@ fn unpacks<const N: usize, const H: usize>(
     mut bytes: &[u8],
     expected: &[u8],
     counts: &[usize],
-) -> Result<(), Got>
-{
+) -> Result<(), Got> {
     let mut out = CowSlice::new(alloc);
     match unpack_bytes_less_than::<N, H>(alloc, &mut bytes, expected.len(), &mut out) {
         Ok(found) if bytes.is_empty() && out.as_slice() == expected && found.as_slice() == counts =>
@@ -49,8 +48,7 @@ fn decodes<const N: usize, const C_STYLE: bool>(
     alloc: Global,
     mut bytes: &[u8],
     expected: &[u8],
-) -> Result<(), Got>
-{
+) -> Result<(), Got> {
     let mut variants = VariantDecoder::<N, C_STYLE>::new(alloc);
     if let Err(error) = variants.populate(&mut bytes, expected.len()) {
         return Err(Got::Refused(error));
@@ -69,8 +67,7 @@ fn reads<const N: usize>(
     bytes: &[u8],
     expected: &[u8],
     counts: &[usize],
-) -> Result<(), Got>
-{
+) -> Result<(), Got> {
     unpacks::<N, N>(alloc, bytes, expected, counts)?;
     unpacks::<N, 0>(alloc, bytes, expected, &[])?;
     decodes::<N, false>(alloc, bytes, expected)?;
@@ -83,8 +80,7 @@ fn refuses<const N: usize>(
     bytes: &[u8],
     count: usize,
     reason: Reason,
-) -> Result<(), Got>
-{
+) -> Result<(), Got> {
     let expected = Err(Error { reason });
     let mut counted = VariantDecoder::<N, false>::new(alloc);
     let mut input = bytes;
@@ -115,8 +111,7 @@ fn counts<const N: usize>(
     mut bytes: &[u8],
     count: usize,
     expected: &[usize],
-) -> Result<(), Got>
-{
+) -> Result<(), Got> {
     let mut out = CowSlice::new(alloc);
     match unpack_bytes_less_than::<N, N>(alloc, &mut bytes, count, &mut out) {
         Ok(found) if found.as_slice() == expected => Ok(()),
@@ -132,8 +127,7 @@ fn digits(
     radix: u16,
     in_byte: usize,
     count: usize,
-) -> Result<Vec<u8>, Error>
-{
+) -> Result<Vec<u8>, Error> {
     let mut entries = Vec::new(alloc);
     for byte in bytes {
         let mut rest = u16::from(*byte);
@@ -179,8 +173,7 @@ fn reads_digits<const N: usize>(
     radix: u16,
     in_byte: usize,
     count: usize,
-) -> Result<(), Fail>
-{
+) -> Result<(), Fail> {
     let expected = digits(alloc, bytes, radix, in_byte, count)?;
     if expected.iter().all(|variant| (*variant as usize) < N) {
         let counts = counts_of(alloc, &expected, N)?;
@@ -193,8 +186,7 @@ fn reads_digits<const N: usize>(
 
 /// Columns of `N` variants of up to two bytes, the last of them any byte, are read by their digits, whatever the digits
 /// are that are left over.
-fn every_last_byte<const N: usize>(alloc: Global, radix: u16, in_byte: usize) -> Result<(), Fail>
-{
+fn every_last_byte<const N: usize>(alloc: Global, radix: u16, in_byte: usize) -> Result<(), Fail> {
     for count in 0..=2 * in_byte {
         for last in 0..=255u8 {
             let bytes = [16, last];

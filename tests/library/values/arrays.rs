@@ -1,11 +1,11 @@
 //! Arrays of no, one, some and many elements, and numbers of arrays about the largest.
-use bitcode_expected::{Got, both_ways, holds};
 use bitcode::coder::Buffer as _;
 use bitcode::laws::overflows_exactly;
 use bitcode::{
     ArrayDecoder, ArrayEncoder, DecodeOwned, Decoder, EmptyCoder, Encoder, IntDecoder, IntEncoder,
     Reason, View, encode, err,
 };
+use bitcode_expected::{Got, both_ways, holds};
 use std::test::Fail;
 
 #[test]

@@ -1,10 +1,10 @@
 //! Integers that are not 0, chars and durations: what the Rust crate wrote and read, and each public call once.
-use bitcode_expected::{Got, both_ways, holds, refuses};
 use bitcode::own::{AsInt, Checked};
 use bitcode::{
     CheckedIntDecoder, ConvertFrom, ConvertInto, Decoder, DurationDecode, DurationEncode,
     Nanosecond, Reason, View, decode,
 };
+use bitcode_expected::{Got, both_ways, holds, refuses};
 use std::num::{NonZeroI64, NonZeroU8};
 use std::test::Fail;
 use std::time::Duration;

@@ -1,10 +1,10 @@
 //! Texts and chars: all of Unicode's boundary scalars, and what the Rust crate wrote and read.
-use bitcode_expected::{Got, both_ways, refuses};
 use bitcode::coder::Buffer as _;
 use bitcode::laws::{borrowed_text, borrowed_texts, joined_texts, short_text};
 use bitcode::{
     Decoder, Encoder, Reason, StrDecoder, StrEncoder, U8Char, U8CharEncoder, View, decode,
 };
+use bitcode_expected::{Got, both_ways, refuses};
 use std::alloc::Global;
 use std::boxed::BoxedStr;
 use std::rc::RcStr;
