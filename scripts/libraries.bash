@@ -37,12 +37,12 @@ for line in text.split("\n"):
     if line.startswith("file: "):
         path = f"{folder}/crates/{crate}/{line[6:]}"
     elif line.startswith("old: "):
-        old = line[5:]
+        old = line[5:].replace("\\n", "\n")
     elif line.startswith("new: "):
         text = open(path).read()
         if text.count(old) != 1:
             sys.exit(f"{edit}: the text {old!r} does not stand once")
         with open(path, "w") as file:
-            file.write(text.replace(old, line[5:]))
+            file.write(text.replace(old, line[5:].replace("\\n", "\n")))
 PYTHON
 }

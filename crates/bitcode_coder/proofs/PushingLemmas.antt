@@ -2,19 +2,20 @@
 use Rattle.std.proofs.Common.{◌≡◌, ℕ, ℤ, ◌+◌, ◌<◌, List, [], ◌∷◌, ◌++◌, length, map, take, slice_index_or, refl, sym, ap, subst, ◌∙◌, append_assoc, append-nil}
 use Rattle.std.proofs.lemmas.List.{map-append, take_more}
 use Rattle.std.specs.List.{AllZip}
+use Rattle.bitcode_columns.specs.IntColumn.{int_text}
 use Rattle.bitcode_shapes.specs.Datum.{Datum, number}
 use Rattle.bitcode_shapes.specs.Ints.{ListsNumber}
 use Rattle.bitcode_shapes.specs.Shape.{Shape}
 use Rattle.bitcode_coder.specs.Columns.{Kind, one, beside}
 use Rattle.bitcode_coder.specs.Coder.{JoinsEach, written_columns}
-use Rattle.bitcode_coder.specs.Int.{PushesInts}
+use Rattle.bitcode_coder.specs.Int.{PushesInts, WritesInts}
 use Rattle.bitcode_coder.proofs.EachLemmas.{AllZip-append}
 
 zip_itself : {A : Type 0} (R : A → A → Type 0) → ((x : A) → R x x) → (xs : List A) → AllZip R xs xs
 zip_itself R same [] = tt
 zip_itself R same (x ∷ xs) = (same x, zip_itself R same xs)
 
-listed_as_data : {T Entry : Type 0} (lists : T → Datum → Type 0) (datum : Entry → Datum) (values : List T) (entries : List Entry)
+pub listed_as_data : {T Entry : Type 0} (lists : T → Datum → Type 0) (datum : Entry → Datum) (values : List T) (entries : List Entry)
     → AllZip (λ t entry. lists t (datum entry)) values entries → AllZip lists values (map datum entries)
 listed_as_data lists datum [] [] h = tt
 listed_as_data lists datum [] (entry ∷ entries) h = absurd h
@@ -57,6 +58,15 @@ pushes_themselves value values old new pushed = record {
   ints = values;
   pushed = pushed;
   stand = zip_itself (λ t int. ListsNumber value t (number (value int))) (λ t. refl) values;
+}
+
+-- the column of integers that stand for themselves
+pub writes_themselves : {I : Type 0} (width : ℕ) (value : I → ℤ) (values : List I) (before after : List ℕ) → after ≡ before ++ int_text width (map value values)
+    → WritesInts (ListsNumber value) width value values before after
+writes_themselves width value values before after written = record {
+  ints = values;
+  stand = zip_itself (λ t int. ListsNumber value t (number (value int))) (λ t. refl) values;
+  written = written;
 }
 
 module _ {T I : Type 0} (lists : T → Datum → Type 0) (value : I → ℤ) where

@@ -51,6 +51,12 @@ pub record JoinsEach {T : Type 0} (lists : T → Datum → Type 0) (shape : Shap
   pub joined : new ≡ beside old (written_columns shape parts)
   pub fits : CountsFit old → CountsFit new
 
+-- The bytes of a listing of each value, added to the old columns, follow the bytes from before.
+pub record WritesEach {T : Type 0} (lists : T → Datum → Type 0) (shape : Shape) (values : List T) (old : Columns) (before after : List ℕ) : Type 0 where
+  pub new : Columns
+  pub joined : JoinsEach lists shape values old new
+  pub written : after ≡ before ++ columns_bytes new
+
 -- with some listing of each value, a number of arrays does not fit in a length
 pub record OverflowsWithEach {T : Type 0} (lists : T → Datum → Type 0) (shape : Shape) (values : List T) (old : Columns) : Type 0 where
   pub parts : List Datum

@@ -1,6 +1,7 @@
 -- The data of integers, and the data of their bytes.
 use Rattle.std.specs.Prelude.{◌≡◌, ℕ, Bool, ℤ, List, ◌++◌, map}
 use Rattle.std.specs.List.{AllZip}
+use Rattle.bitcode_columns.specs.IntColumn.{int_text}
 use Rattle.bitcode_columns.specs.LittleEndian.{little_endian}
 use Rattle.bitcode_shapes.specs.Datum.{Datum, number}
 use Rattle.bitcode_coder.specs.Spelling.{number_of_residue}
@@ -19,3 +20,9 @@ pub record PushesInts {T I : Type 0} (lists : T → Datum → Type 0) (value : I
   pub ints : List I
   pub pushed : new ≡ old ++ ints
   pub stand : AllZip (λ t int. lists t (number (value int))) values ints
+
+-- the column of one integer for each value was written
+pub record WritesInts {T I : Type 0} (lists : T → Datum → Type 0) (width : ℕ) (value : I → ℤ) (values : List T) (before after : List ℕ) : Type 0 where
+  pub ints : List I
+  pub stand : AllZip (λ t int. lists t (number (value int))) values ints
+  pub written : after ≡ before ++ int_text width (map value ints)

@@ -7,7 +7,7 @@ ghost use Rattle.bitcode_shapes.specs.Shape.{Shape};
 ghost use Rattle.bitcode_coder.specs.Columns.{Columns, emptied};
 ghost use Rattle.bitcode_coder.specs.Spelling.{Spells, columns_bytes};
 ghost use Rattle.bitcode_coder.specs.Strict.{StrictlySpells, JudgesData};
-ghost use Rattle.bitcode_coder.specs.Coder.{written_columns, BeginsWith, JoinsListing, WritesListing, OverflowsWithListing, JoinsEach, OverflowsWithEach, SurelyOverflows, IsWritingRefusal, IsReadingRefusal, TakesDatum, TakesEach};
+ghost use Rattle.bitcode_coder.specs.Coder.{written_columns, BeginsWith, JoinsListing, WritesListing, WritesEach, OverflowsWithListing, JoinsEach, OverflowsWithEach, SurelyOverflows, IsWritingRefusal, IsReadingRefusal, TakesDatum, TakesEach};
 
 use crate::part::{Behind, Itself, Part, told_parts};
 use bitcode_columns::error::{Error, Reason};
@@ -197,6 +197,20 @@ pub trait Encoder<T: Shaped>: HoldsColumns {
             rest = behind;
         }
         Ok(())
+    }
+
+    /// Appends the columns of the values of a slice to `out`, if the encoder can do so without a copy of the values. The
+    /// columns must be empty. Returns whether it did. If not, `out` is unchanged.
+    ///
+    /// The only error is `out of memory`. `out` then begins with its old bytes.
+    fn write_slice_directly(&self, _items: &[T], _out: &mut Vec<u8>) -> Result<bool, Error>
+        requires { Self.columns self.now ≡ emptied (Self.columns self.now) }
+        ensures written { IfOk result (λ done. IsTrue done → WritesEach T.lists T.shape _items.now (Self.columns self.now) _out.old.items _out.new.items) }
+        ensures unchanged { IfOk result (λ done. IsFalse done → _out.new.items ≡ _out.old.items) }
+        ensures begins { BeginsWith _out.old.items _out.new.items }
+        ensures refused { IfErr result (λ e. e.reason ≡ Reason.OutOfMemory) }
+    {
+        Ok(false)
     }
 
     // the columns are those of the type's shape

@@ -1,5 +1,5 @@
 //! Integers, as the coders of their columns see them.
-ghost use Rattle.std.specs.Prelude.{◌≡◌, ◌≢◌, ℕ, ◌^◌, ◌<◌, ◌++◌, ℤ, Bool, List, [], ◌∷◌, map, All, IsTrue, ◌↔◌, IfOk, OnOk, IfErr, OnErr};
+ghost use Rattle.std.specs.Prelude.{◌≡◌, ◌≢◌, ℕ, ◌^◌, ◌<◌, ◌++◌, ℤ, Bool, List, [], ◌∷◌, map, All, IsTrue, IsFalse, ◌↔◌, IfOk, OnOk, IfErr, OnErr};
 ghost use Rattle.bitcode_columns.specs.Fast.{cow_rest};
 ghost use Rattle.bitcode_columns.specs.IntWidths.{IsWidth};
 ghost use Rattle.bitcode_columns.specs.IntColumn.{SpellsInts, int_text};
@@ -71,6 +71,19 @@ pub trait ColumnInt: Copy {
         ensures written { OnOk result (out.new.items ≡ out.old.items ++ int_text width (map number ints.old)) }
         ensures unchanged { OnErr result (out.new.items ≡ out.old.items) }
         ensures reason { IfErr result (λ e. e.reason ≡ Reason.OutOfMemory) };
+
+    /// Appends the column of the integers, as [`ColumnInt::pack`] does, if they stay unchanged then. Returns whether it
+    /// did. If not, `out` is unchanged.
+    ///
+    /// If an allocation fails, the error is `out of memory` and `out` is unchanged.
+    fn pack_slice(_alloc: Global, _ints: &[Self], _out: &mut Vec<u8>) -> Result<bool, Error>
+        ensures written { IfOk result (λ done. IsTrue done → _out.new.items ≡ _out.old.items ++ int_text width (map number _ints.now)) }
+        ensures not_done { IfOk result (λ done. IsFalse done → _out.new.items ≡ _out.old.items) }
+        ensures unchanged { OnErr result (_out.new.items ≡ _out.old.items) }
+        ensures reason { IfErr result (λ e. e.reason ≡ Reason.OutOfMemory) }
+    {
+        Ok(false)
+    }
 
     /// Appends the column of one integer, as [`ColumnInt::pack`] does for several.
     fn pack_one(alloc: Global, int: Self, out: &mut Vec<u8>) -> Result<(), Error>

@@ -1,7 +1,7 @@
 //! The coders of a column of integers.
 #![tactic(auto)]
 
-ghost use Rattle.std.specs.Prelude.{◌≡◌, ◌≢◌, ◌+◌, ◌<◌, ◌≤◌, ◌++◌, List, [], ◌∷◌, length, map, take, drop, pos, true, false, IsTrue, IsOk, IfOk, OnOk, IfErr, OnErr};
+ghost use Rattle.std.specs.Prelude.{◌≡◌, ◌≢◌, ◌+◌, ◌<◌, ◌≤◌, ◌++◌, List, [], ◌∷◌, length, map, take, drop, pos, true, false, IsTrue, IsFalse, IsOk, IfOk, OnOk, IfErr, OnErr};
 ghost use Rattle.std.proofs.Common.{sym};
 ghost use Rattle.bitcode_columns.specs.Fast.{fast_items, fast_room, cow_rest, fast_capacity, cow_owned};
 ghost use Rattle.bitcode_columns.specs.Ints.{number_of};
@@ -10,7 +10,7 @@ ghost use Rattle.bitcode_columns.specs.Reading.{Reads, IsEndOf};
 ghost use Rattle.bitcode_shapes.specs.Datum.{Datum, number};
 ghost use Rattle.bitcode_shapes.specs.Ints.{ListsNumber, int_shape};
 ghost use Rattle.bitcode_coder.specs.Columns.{ints, one};
-ghost use Rattle.bitcode_coder.specs.Int.{int_data, bytes_data, PushesInts};
+ghost use Rattle.bitcode_coder.specs.Int.{int_data, bytes_data, PushesInts, WritesInts};
 ghost use Rattle.bitcode_coder.specs.Spelling.{Spells};
 ghost use Rattle.bitcode_coder.specs.Coder.{IsReadingRefusal, written_columns};
 ghost use Rattle.bitcode_coder.specs.Faults.{NamesIntsFault};
@@ -44,6 +44,19 @@ pub trait AsInt<I: ColumnInt>: Shaped {
         }
     }
 
+    /// Appends the column of the integers for the values of a slice, if that needs no copy of the values. Returns
+    /// whether it did. If not, `out` is unchanged.
+    ///
+    /// The only error is `out of memory`. `out` is then unchanged.
+    fn write_ints(_alloc: Global, _values: &[Self], _out: &mut Vec<u8>) -> Result<bool, Error>
+        ensures written { IfOk result (λ done. IsTrue done → WritesInts Self.lists I.width I.number _values.now _out.old.items _out.new.items) }
+        ensures not_done { IfOk result (λ done. IsFalse done → _out.new.items ≡ _out.old.items) }
+        ensures unchanged { OnErr result (_out.new.items ≡ _out.old.items) }
+        ensures refused { IfErr result (λ e. e.reason ≡ Reason.OutOfMemory) }
+    {
+        Ok(false)
+    }
+
     ghost as_int_columns: { (ds : List Datum) → written_columns Self.shape ds ≡ one (ints I.width I.signed) ds };
 }
 
@@ -54,6 +67,20 @@ fn push_themselves<I: ColumnInt>(values: &[I], ints: &mut FastVec<I>)
     ensures room { fast_room ints.old ≤ fast_room ints.new + length values.now }
 {
     ints.extend_unchecked(values);
+}
+
+// Appends the column of integers that are written unchanged, if that needs no copy of them. Returns whether it did.
+fn write_themselves<I: ColumnInt>(
+    alloc: Global,
+    values: &[I],
+    out: &mut Vec<u8>,
+) -> Result<bool, Error>
+    ensures written { IfOk result (λ done. IsTrue done → WritesInts (ListsNumber I.number) I.width I.number values.now out.old.items out.new.items) }
+    ensures not_done { IfOk result (λ done. IsFalse done → out.new.items ≡ out.old.items) }
+    ensures unchanged { OnErr result (out.new.items ≡ out.old.items) }
+    ensures refused { IfErr result (λ e. e.reason ≡ Reason.OutOfMemory) }
+{
+    I::pack_slice(alloc, values, out)
 }
 
 // Pushes the integers for a part of each item. The caller must have reserved the room. The list is passed by value and
@@ -195,6 +222,10 @@ impl<I: ColumnInt, P: AsInt<I>> Encoder<P> for IntEncoder<I> {
     fn encode_slice(&mut self, items: &[P]) -> Result<(), Error> {
         P::push_ints(items, &mut self.values);
         Ok(())
+    }
+
+    fn write_slice_directly(&self, items: &[P], out: &mut Vec<u8>) -> Result<bool, Error> {
+        P::write_ints(self.alloc, items, out)
     }
 
     ghost of_shape = { λ e. sym (P.as_int_columns []) };

@@ -26,6 +26,16 @@ pub fn pack_ints<T: Int>(alloc: Global, ints: &mut [T], out: &mut Vec<u8>) -> Re
     ensures reason { IfErr result (λ e. e.reason ≡ Reason.OutOfMemory) }
     ensures succeeds { TakesNoScratch T.width (map T.number ints.old) → vec_len out.old + (1 + length ints.old * T.width) ≤ vec_capacity out.old → IsOk result }
 {
+    pack_int_slice(alloc, ints, out)
+}
+
+/// Appends the column of the integers, as [`pack_ints`] does, and leaves the slice unchanged.
+pub fn pack_int_slice<T: Int>(alloc: Global, ints: &[T], out: &mut Vec<u8>) -> Result<(), Error>
+    ensures written { OnOk result (out.new.items ≡ out.old.items ++ int_text T.width (map T.number ints.now)) }
+    ensures unchanged { OnErr result (out.new.items ≡ out.old.items) }
+    ensures reason { IfErr result (λ e. e.reason ≡ Reason.OutOfMemory) }
+    ensures succeeds { TakesNoScratch T.width (map T.number ints.now) → vec_len out.old + (1 + length ints.now * T.width) ≤ vec_capacity out.old → IsOk result }
+{
     let start = out.len();
     out.reserve(ints.len().saturating_mul(T::width()).saturating_add(1))?;
     let packed = append_ints(alloc, ints, out);

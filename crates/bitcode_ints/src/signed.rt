@@ -81,6 +81,10 @@ impl Encoder<i8> for I8Encoder {
         self.column.encode_slice(items)
     }
 
+    fn write_slice_directly(&self, items: &[i8], out: &mut Vec<u8>) -> Result<bool, Error> {
+        self.column.write_slice_directly(items, out)
+    }
+
     ghost of_shape = { λ e. refl };
 
     ghost surely = { λ e n never. absurd never };
@@ -205,6 +209,10 @@ impl Encoder<i16> for I16Encoder {
 
     fn encode_slice(&mut self, items: &[i16]) -> Result<(), Error> {
         self.column.encode_slice(items)
+    }
+
+    fn write_slice_directly(&self, items: &[i16], out: &mut Vec<u8>) -> Result<bool, Error> {
+        self.column.write_slice_directly(items, out)
     }
 
     ghost of_shape = { λ e. refl };
@@ -333,6 +341,10 @@ impl Encoder<i32> for I32Encoder {
         self.column.encode_slice(items)
     }
 
+    fn write_slice_directly(&self, items: &[i32], out: &mut Vec<u8>) -> Result<bool, Error> {
+        self.column.write_slice_directly(items, out)
+    }
+
     ghost of_shape = { λ e. refl };
 
     ghost surely = { λ e n never. absurd never };
@@ -457,6 +469,10 @@ impl Encoder<i64> for I64Encoder {
 
     fn encode_slice(&mut self, items: &[i64]) -> Result<(), Error> {
         self.column.encode_slice(items)
+    }
+
+    fn write_slice_directly(&self, items: &[i64], out: &mut Vec<u8>) -> Result<bool, Error> {
+        self.column.write_slice_directly(items, out)
     }
 
     ghost of_shape = { λ e. refl };
@@ -585,6 +601,10 @@ impl Encoder<i128> for I128Encoder {
         self.column.encode_slice(items)
     }
 
+    fn write_slice_directly(&self, items: &[i128], out: &mut Vec<u8>) -> Result<bool, Error> {
+        self.column.write_slice_directly(items, out)
+    }
+
     ghost of_shape = { λ e. refl };
 
     ghost surely = { λ e n never. absurd never };
@@ -709,6 +729,10 @@ impl Encoder<isize> for IsizeEncoder {
 
     fn encode_slice(&mut self, items: &[isize]) -> Result<(), Error> {
         self.column.encode_slice(items)
+    }
+
+    fn write_slice_directly(&self, items: &[isize], out: &mut Vec<u8>) -> Result<bool, Error> {
+        self.column.write_slice_directly(items, out)
     }
 
     ghost of_shape = { λ e. refl };

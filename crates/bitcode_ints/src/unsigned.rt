@@ -81,6 +81,10 @@ impl Encoder<u8> for U8Encoder {
         self.column.encode_slice(items)
     }
 
+    fn write_slice_directly(&self, items: &[u8], out: &mut Vec<u8>) -> Result<bool, Error> {
+        self.column.write_slice_directly(items, out)
+    }
+
     ghost of_shape = { λ e. refl };
 
     ghost surely = { λ e n never. absurd never };
@@ -205,6 +209,10 @@ impl Encoder<u16> for U16Encoder {
 
     fn encode_slice(&mut self, items: &[u16]) -> Result<(), Error> {
         self.column.encode_slice(items)
+    }
+
+    fn write_slice_directly(&self, items: &[u16], out: &mut Vec<u8>) -> Result<bool, Error> {
+        self.column.write_slice_directly(items, out)
     }
 
     ghost of_shape = { λ e. refl };
@@ -333,6 +341,10 @@ impl Encoder<u32> for U32Encoder {
         self.column.encode_slice(items)
     }
 
+    fn write_slice_directly(&self, items: &[u32], out: &mut Vec<u8>) -> Result<bool, Error> {
+        self.column.write_slice_directly(items, out)
+    }
+
     ghost of_shape = { λ e. refl };
 
     ghost surely = { λ e n never. absurd never };
@@ -457,6 +469,10 @@ impl Encoder<u64> for U64Encoder {
 
     fn encode_slice(&mut self, items: &[u64]) -> Result<(), Error> {
         self.column.encode_slice(items)
+    }
+
+    fn write_slice_directly(&self, items: &[u64], out: &mut Vec<u8>) -> Result<bool, Error> {
+        self.column.write_slice_directly(items, out)
     }
 
     ghost of_shape = { λ e. refl };
@@ -585,6 +601,10 @@ impl Encoder<u128> for U128Encoder {
         self.column.encode_slice(items)
     }
 
+    fn write_slice_directly(&self, items: &[u128], out: &mut Vec<u8>) -> Result<bool, Error> {
+        self.column.write_slice_directly(items, out)
+    }
+
     ghost of_shape = { λ e. refl };
 
     ghost surely = { λ e n never. absurd never };
@@ -709,6 +729,10 @@ impl Encoder<usize> for UsizeEncoder {
 
     fn encode_slice(&mut self, items: &[usize]) -> Result<(), Error> {
         self.column.encode_slice(items)
+    }
+
+    fn write_slice_directly(&self, items: &[usize], out: &mut Vec<u8>) -> Result<bool, Error> {
+        self.column.write_slice_directly(items, out)
     }
 
     ghost of_shape = { λ e. refl };

@@ -7,7 +7,7 @@ use crate::column_int::{ColumnInt, pack_each_byte, unpack_each_byte};
 use bitcode_columns::error::Error;
 use bitcode_columns::fast::CowSlice;
 use bitcode_columns::ints::Int;
-use bitcode_columns::pack_ints::pack_ints;
+use bitcode_columns::pack_ints::{pack_int_slice, pack_ints};
 use bitcode_columns::strict::read_ints;
 use std::alloc::Global;
 
@@ -66,6 +66,11 @@ impl ColumnInt for i16 {
         <i16 as ColumnInt>::pack(alloc, &mut [int], out)
     }
 
+    fn pack_slice(alloc: Global, ints: &[i16], out: &mut Vec<u8>) -> Result<bool, Error> {
+        pack_int_slice(alloc, ints, out)?;
+        Ok(true)
+    }
+
     fn unpack<'a>(
         alloc: Global,
         input: &mut &'a [u8],
@@ -100,6 +105,11 @@ impl ColumnInt for i32 {
 
     fn pack_one(alloc: Global, int: i32, out: &mut Vec<u8>) -> Result<(), Error> {
         <i32 as ColumnInt>::pack(alloc, &mut [int], out)
+    }
+
+    fn pack_slice(alloc: Global, ints: &[i32], out: &mut Vec<u8>) -> Result<bool, Error> {
+        pack_int_slice(alloc, ints, out)?;
+        Ok(true)
     }
 
     fn unpack<'a>(
@@ -138,6 +148,11 @@ impl ColumnInt for i64 {
         <i64 as ColumnInt>::pack(alloc, &mut [int], out)
     }
 
+    fn pack_slice(alloc: Global, ints: &[i64], out: &mut Vec<u8>) -> Result<bool, Error> {
+        pack_int_slice(alloc, ints, out)?;
+        Ok(true)
+    }
+
     fn unpack<'a>(
         alloc: Global,
         input: &mut &'a [u8],
@@ -174,6 +189,11 @@ impl ColumnInt for i128 {
         <i128 as ColumnInt>::pack(alloc, &mut [int], out)
     }
 
+    fn pack_slice(alloc: Global, ints: &[i128], out: &mut Vec<u8>) -> Result<bool, Error> {
+        pack_int_slice(alloc, ints, out)?;
+        Ok(true)
+    }
+
     fn unpack<'a>(
         alloc: Global,
         input: &mut &'a [u8],
@@ -208,6 +228,11 @@ impl ColumnInt for isize {
 
     fn pack_one(alloc: Global, int: isize, out: &mut Vec<u8>) -> Result<(), Error> {
         <isize as ColumnInt>::pack(alloc, &mut [int], out)
+    }
+
+    fn pack_slice(alloc: Global, ints: &[isize], out: &mut Vec<u8>) -> Result<bool, Error> {
+        pack_int_slice(alloc, ints, out)?;
+        Ok(true)
     }
 
     fn unpack<'a>(

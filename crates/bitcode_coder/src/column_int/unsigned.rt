@@ -7,7 +7,7 @@ use crate::column_int::{ColumnInt, pack_each_byte, unpack_each_byte};
 use bitcode_columns::error::Error;
 use bitcode_columns::fast::CowSlice;
 use bitcode_columns::ints::Int;
-use bitcode_columns::pack_ints::pack_ints;
+use bitcode_columns::pack_ints::{pack_int_slice, pack_ints};
 use bitcode_columns::strict::read_ints;
 use std::alloc::Global;
 
@@ -66,6 +66,11 @@ impl ColumnInt for u16 {
         <u16 as ColumnInt>::pack(alloc, &mut [int], out)
     }
 
+    fn pack_slice(alloc: Global, ints: &[u16], out: &mut Vec<u8>) -> Result<bool, Error> {
+        pack_int_slice(alloc, ints, out)?;
+        Ok(true)
+    }
+
     fn unpack<'a>(
         alloc: Global,
         input: &mut &'a [u8],
@@ -100,6 +105,11 @@ impl ColumnInt for u32 {
 
     fn pack_one(alloc: Global, int: u32, out: &mut Vec<u8>) -> Result<(), Error> {
         <u32 as ColumnInt>::pack(alloc, &mut [int], out)
+    }
+
+    fn pack_slice(alloc: Global, ints: &[u32], out: &mut Vec<u8>) -> Result<bool, Error> {
+        pack_int_slice(alloc, ints, out)?;
+        Ok(true)
     }
 
     fn unpack<'a>(
@@ -138,6 +148,11 @@ impl ColumnInt for u64 {
         <u64 as ColumnInt>::pack(alloc, &mut [int], out)
     }
 
+    fn pack_slice(alloc: Global, ints: &[u64], out: &mut Vec<u8>) -> Result<bool, Error> {
+        pack_int_slice(alloc, ints, out)?;
+        Ok(true)
+    }
+
     fn unpack<'a>(
         alloc: Global,
         input: &mut &'a [u8],
@@ -174,6 +189,11 @@ impl ColumnInt for u128 {
         <u128 as ColumnInt>::pack(alloc, &mut [int], out)
     }
 
+    fn pack_slice(alloc: Global, ints: &[u128], out: &mut Vec<u8>) -> Result<bool, Error> {
+        pack_int_slice(alloc, ints, out)?;
+        Ok(true)
+    }
+
     fn unpack<'a>(
         alloc: Global,
         input: &mut &'a [u8],
@@ -208,6 +228,11 @@ impl ColumnInt for usize {
 
     fn pack_one(alloc: Global, int: usize, out: &mut Vec<u8>) -> Result<(), Error> {
         <usize as ColumnInt>::pack(alloc, &mut [int], out)
+    }
+
+    fn pack_slice(alloc: Global, ints: &[usize], out: &mut Vec<u8>) -> Result<bool, Error> {
+        pack_int_slice(alloc, ints, out)?;
+        Ok(true)
     }
 
     fn unpack<'a>(

@@ -2,7 +2,7 @@
 //! Integers, which are written unchanged.
 ghost use Rattle.std.specs.Prelude.{refl};
 
-use crate::int::{AsInt, Integer, list_of_bytes, push_themselves};
+use crate::int::{AsInt, Integer, list_of_bytes, push_themselves, write_themselves};
 use bitcode_columns::error::Error;
 use bitcode_columns::fast::{CowSlice, FastVec};
 use std::alloc::Global;
@@ -14,6 +14,10 @@ impl AsInt<u8> for u8 {
 
     fn push_ints(values: &[u8], ints: &mut FastVec<u8>) {
         push_themselves(values, ints);
+    }
+
+    fn write_ints(alloc: Global, values: &[u8], out: &mut Vec<u8>) -> Result<bool, Error> {
+        write_themselves(alloc, values, out)
     }
 
     ghost as_int_columns = { λ ds. refl };
@@ -42,6 +46,10 @@ impl AsInt<u16> for u16 {
         push_themselves(values, ints);
     }
 
+    fn write_ints(alloc: Global, values: &[u16], out: &mut Vec<u8>) -> Result<bool, Error> {
+        write_themselves(alloc, values, out)
+    }
+
     ghost as_int_columns = { λ ds. refl };
 }
 
@@ -58,6 +66,10 @@ impl AsInt<u32> for u32 {
 
     fn push_ints(values: &[u32], ints: &mut FastVec<u32>) {
         push_themselves(values, ints);
+    }
+
+    fn write_ints(alloc: Global, values: &[u32], out: &mut Vec<u8>) -> Result<bool, Error> {
+        write_themselves(alloc, values, out)
     }
 
     ghost as_int_columns = { λ ds. refl };
@@ -78,6 +90,10 @@ impl AsInt<u64> for u64 {
         push_themselves(values, ints);
     }
 
+    fn write_ints(alloc: Global, values: &[u64], out: &mut Vec<u8>) -> Result<bool, Error> {
+        write_themselves(alloc, values, out)
+    }
+
     ghost as_int_columns = { λ ds. refl };
 }
 
@@ -94,6 +110,10 @@ impl AsInt<u128> for u128 {
 
     fn push_ints(values: &[u128], ints: &mut FastVec<u128>) {
         push_themselves(values, ints);
+    }
+
+    fn write_ints(alloc: Global, values: &[u128], out: &mut Vec<u8>) -> Result<bool, Error> {
+        write_themselves(alloc, values, out)
     }
 
     ghost as_int_columns = { λ ds. refl };
@@ -114,6 +134,10 @@ impl AsInt<usize> for usize {
         push_themselves(values, ints);
     }
 
+    fn write_ints(alloc: Global, values: &[usize], out: &mut Vec<u8>) -> Result<bool, Error> {
+        write_themselves(alloc, values, out)
+    }
+
     ghost as_int_columns = { λ ds. refl };
 }
 
@@ -130,6 +154,10 @@ impl AsInt<i8> for i8 {
 
     fn push_ints(values: &[i8], ints: &mut FastVec<i8>) {
         push_themselves(values, ints);
+    }
+
+    fn write_ints(alloc: Global, values: &[i8], out: &mut Vec<u8>) -> Result<bool, Error> {
+        write_themselves(alloc, values, out)
     }
 
     ghost as_int_columns = { λ ds. refl };
@@ -150,6 +178,10 @@ impl AsInt<i16> for i16 {
         push_themselves(values, ints);
     }
 
+    fn write_ints(alloc: Global, values: &[i16], out: &mut Vec<u8>) -> Result<bool, Error> {
+        write_themselves(alloc, values, out)
+    }
+
     ghost as_int_columns = { λ ds. refl };
 }
 
@@ -166,6 +198,10 @@ impl AsInt<i32> for i32 {
 
     fn push_ints(values: &[i32], ints: &mut FastVec<i32>) {
         push_themselves(values, ints);
+    }
+
+    fn write_ints(alloc: Global, values: &[i32], out: &mut Vec<u8>) -> Result<bool, Error> {
+        write_themselves(alloc, values, out)
     }
 
     ghost as_int_columns = { λ ds. refl };
@@ -186,6 +222,10 @@ impl AsInt<i64> for i64 {
         push_themselves(values, ints);
     }
 
+    fn write_ints(alloc: Global, values: &[i64], out: &mut Vec<u8>) -> Result<bool, Error> {
+        write_themselves(alloc, values, out)
+    }
+
     ghost as_int_columns = { λ ds. refl };
 }
 
@@ -204,6 +244,10 @@ impl AsInt<i128> for i128 {
         push_themselves(values, ints);
     }
 
+    fn write_ints(alloc: Global, values: &[i128], out: &mut Vec<u8>) -> Result<bool, Error> {
+        write_themselves(alloc, values, out)
+    }
+
     ghost as_int_columns = { λ ds. refl };
 }
 
@@ -220,6 +264,10 @@ impl AsInt<isize> for isize {
 
     fn push_ints(values: &[isize], ints: &mut FastVec<isize>) {
         push_themselves(values, ints);
+    }
+
+    fn write_ints(alloc: Global, values: &[isize], out: &mut Vec<u8>) -> Result<bool, Error> {
+        write_themselves(alloc, values, out)
     }
 
     ghost as_int_columns = { λ ds. refl };

@@ -1,6 +1,6 @@
 //! Sequences: iterators that lend elements, encoding and decoding elements one by one, and the types that are written
 //! as, and made from, the sequence of their elements.
-ghost use Rattle.std.specs.Prelude.{◌≡◌, ◌≢◌, ◌+◌, ◌≤◌, List, [], ◌∷◌, None, length, All, refl, IsTrue, IsOk, IfOk, OnOk, IfErr, IfSome, IfNone};
+ghost use Rattle.std.specs.Prelude.{◌≡◌, ◌≢◌, ◌+◌, ◌≤◌, List, [], ◌∷◌, None, length, All, refl, IsTrue, IsFalse, IsOk, IfOk, OnOk, IfErr, IfSome, IfNone};
 ghost use Rattle.std.specs.Slice.Iter.{iter_rest};
 ghost use Rattle.std.specs.VecDeque.{deque_items};
 ghost use Rattle.std.specs.VecDeque.Iter.{deque_iter_rest};
@@ -9,7 +9,7 @@ ghost use Rattle.bitcode_shapes.specs.Datum.{Datum};
 ghost use Rattle.bitcode_shapes.specs.Shape.{seq_shape};
 ghost use Rattle.bitcode_shapes.specs.Lists.{ListsSequence};
 ghost use Rattle.bitcode_coder.specs.Columns.{emptied};
-ghost use Rattle.bitcode_coder.specs.Coder.{written_columns, JoinsEach, OverflowsWithEach, IsWritingRefusal, TakesEach};
+ghost use Rattle.bitcode_coder.specs.Coder.{written_columns, BeginsWith, JoinsEach, WritesEach, OverflowsWithEach, IsWritingRefusal, TakesEach};
 ghost use Rattle.bitcode_parts.specs.Elements.{MakesOfElements};
 
 use bitcode_coder::coder::{Decoder, Encoder};
@@ -174,6 +174,24 @@ pub trait Sequence: Shaped {
         ensures form { emptied (E.columns elements.new) ≡ emptied (E.columns elements.old) }
         ensures refused { IfErr result (λ e. IsWritingRefusal e.reason (OverflowsWithEach Self.Element.lists Self.Element.shape (items self.now) (E.columns elements.old))) };
 
+    /// Appends the columns of the elements to `out`, if the elements form a slice and their encoder can do so without a
+    /// copy of them. The columns of the encoder must be empty. Returns whether it did. If not, `out` is unchanged.
+    ///
+    /// The only error is `out of memory`. `out` then begins with its old bytes.
+    fn write_elements<E: Encoder<Self::Element>>(
+        &self,
+        _elements: &E,
+        _out: &mut Vec<u8>,
+    ) -> Result<bool, Error>
+        requires { E.columns _elements.now ≡ emptied (E.columns _elements.now) }
+        ensures written { IfOk result (λ done. IsTrue done → WritesEach Self.Element.lists Self.Element.shape (items self.now) (E.columns _elements.now) _out.old.items _out.new.items) }
+        ensures unchanged { IfOk result (λ done. IsFalse done → _out.new.items ≡ _out.old.items) }
+        ensures begins { BeginsWith _out.old.items _out.new.items }
+        ensures refused { IfErr result (λ e. e.reason ≡ Reason.OutOfMemory) }
+    {
+        Ok(false)
+    }
+
     ghost items_are: { (t : Self) → Self.is_value t → All Self.Element.is_value (items t) };
 
     ghost items_list: { (t : Self) (d : Datum) → ListsSequence Self.Element.lists (items t) d → Self.lists t d };
@@ -194,6 +212,14 @@ impl<T: Shaped> Sequence for Vec<T> {
         encode_each(elements, self.as_slice())
     }
 
+    fn write_elements<E: Encoder<T>>(
+        &self,
+        elements: &E,
+        out: &mut Vec<u8>,
+    ) -> Result<bool, Error> {
+        elements.write_slice_directly(self.as_slice(), out)
+    }
+
     ghost items_are = { λ t h. h };
 
     ghost items_list = { λ t d l. l };
@@ -212,6 +238,14 @@ impl<'b, T: Shaped> Sequence for &'b [T] {
 
     fn encode_elements<E: Encoder<T>>(&self, elements: &mut E) -> Result<(), Error> {
         encode_each(elements, *self)
+    }
+
+    fn write_elements<E: Encoder<T>>(
+        &self,
+        elements: &E,
+        out: &mut Vec<u8>,
+    ) -> Result<bool, Error> {
+        elements.write_slice_directly(*self, out)
     }
 
     ghost items_are = { λ t h. h };

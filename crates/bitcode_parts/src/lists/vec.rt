@@ -199,6 +199,9 @@ impl<S: Sequence, E: Buffer + Encoder<S::Element>> Encoder<S> for VecEncoder<E> 
         t.told();
         let count = t.element_count();
         self.lengths.write_one(count, out)?;
+        if t.write_elements(&self.elements, out)? {
+            return Ok(true);
+        }
         self.elements.reserve(count)?;
         t.encode_elements(&mut self.elements)?;
         self.elements.collect_into(out)?;

@@ -1,0 +1,165 @@
+#!/usr/bin/env python3
+"""Breaks the clauses of .rt files into lines of at most 100 columns.
+
+    scripts/clauses.py [--write] [FILE..]
+
+Without files it takes all .rt files of the repository. Without `--write` it names each clause and each import that is
+longer, and each comment of more than 120 columns, and exits with status 1 if there are any.
+"""
+
+import os
+import re
+import subprocess
+import sys
+import textwrap
+
+WIDEST = 100
+WIDEST_COMMENT = 120
+STEP = 4
+OPENING, CLOSING = "({[", ")}]"
+CONNECTIVES = ["→", "↔", "×", "⊎", "in", "then", "else"]
+OPERATORS = ["≡", "≢", "≤", "<", "++", "∷", "+", "-", "*", "%", "^"]
+
+
+def gaps(text):
+    """The places where a line may break, inside the clause's braces, each with the number of brackets that are open there and
+    whether a connective follows."""
+    found, depth, in_code = [], 0, 0
+    for at, char in enumerate(text):
+        depth += (char in OPENING) - (char in CLOSING)
+        in_code += (char == "⟦") - (char == "⟧")
+        word = re.match(r"[^ ]+", text[at + 1:])
+        if char != " " or in_code or not word or word[0][0] in "}{" and depth < 1 or word[0].startswith("}"):
+            continue
+        before = text[:at].rsplit(" ", 1)[-1]
+        # an operator keeps what follows it, and a λ its parameters
+        if before in CONNECTIVES + OPERATORS + ["=", ":", "{", "if", "let"] or re.search(r"λ [^.]*$", text[:at]):
+            continue
+        found.append((at, depth, word[0] in CONNECTIVES))
+    return found
+
+
+def broken(line):
+    """The line, broken where as few brackets as possible are open."""
+    indent = len(line) - len(line.lstrip())
+    rest, lines = line, []
+    while len(rest) > WIDEST:
+        margin = len(rest) - len(rest.lstrip())
+        room = WIDEST - margin
+        is_first = not lines and is_clause(rest)
+        fits = [gap for gap in gaps(rest) if margin + room // 8 < gap[0] <= WIDEST and (gap[1] > 0 or not is_first)]
+        if not fits:
+            break
+        depth = min(gap[1] for gap in fits)
+        fits = [gap for gap in fits if gap[1] == depth]
+        connected = [gap for gap in fits if gap[2] and gap[0] > margin + room // 3]
+        at = (connected or fits)[-1][0]
+        lines.append(rest[:at])
+        rest = " " * (indent + STEP) + rest[at + 1:]
+    return [*lines, rest]
+
+
+def imported(line):
+    """An import, as several imports of the same module."""
+    head, names = re.match(r"( *ghost use [^{]*\{)(.*)\};$", line).groups()
+    lines, now = [], head
+    for name in names.split(", "):
+        if now != head and len(now) + len(name) + 4 > WIDEST_COMMENT:
+            lines.append(now + "};")
+            now = head
+        now += name if now == head else f", {name}"
+    return [*lines, now + "};"]
+
+
+def commented(lines):
+    """The lines of a paragraph of a comment, filled anew."""
+    prefix = re.match(r" *//[/!]? ?", lines[0])[0]
+    text = " ".join(line[len(prefix):].strip() for line in lines)
+    return textwrap.wrap(text, WIDEST_COMMENT, initial_indent=prefix, subsequent_indent=prefix, break_long_words=False, break_on_hyphens=False)
+
+
+def paragraph(lines, at):
+    """How many lines, from this one on, are the rest of a paragraph of a comment."""
+    prefix = re.match(r" *//[/!]? ?", lines[at])[0]
+    end = at + 1
+    while end < len(lines) and lines[end].startswith(prefix) and re.match(r"[^ \-#|/`]|`[^`]", lines[end][len(prefix):]):
+        end += 1
+    return end - at
+
+
+def is_clause(line):
+    return re.match(r" *(requires\b|ensures\b|ghost (?!use))", line) is not None and "{" in line
+
+
+class Reader:
+    """Tells, line by line, whether the line belongs to a clause, and whether it is code in a comment."""
+
+    def __init__(self):
+        self.open, self.is_code = 0, False
+
+    def reads(self, line):
+        self.in_clause = self.open > 0 or is_clause(line)
+        if re.match(r" *//[/!] ?```", line):
+            self.is_code = not self.is_code
+        if self.in_clause:
+            self.open = max(0, self.open + line.count("{") - line.count("}"))
+
+    def is_long_clause(self, line):
+        return self.in_clause and len(line) > WIDEST
+
+    def is_long_comment(self, line):
+        return not self.is_code and len(line) > WIDEST_COMMENT and line.lstrip().startswith("//")
+
+
+def wrapped(text):
+    """The text of a file, with its long clauses, imports and comments broken."""
+    lines, new, reader, at = text.split("\n"), [], Reader(), 0
+    while at < len(lines):
+        line, taken = lines[at], 1
+        reader.reads(line)
+        if len(line) > WIDEST_COMMENT and re.match(r" *ghost use [^{]*\{.*\};$", line):
+            new += imported(line)
+        elif reader.is_long_clause(line):
+            new += broken(line)
+        elif reader.is_long_comment(line):
+            taken = paragraph(lines, at)
+            new += commented(lines[at:at + taken])
+        else:
+            new.append(line)
+        at += taken
+    return "\n".join(new)
+
+
+def long_lines(text):
+    reader = Reader()
+    for number, line in enumerate(text.split("\n"), 1):
+        reader.reads(line)
+        if reader.is_long_clause(line) or reader.is_long_comment(line):
+            yield number, line
+
+
+def main():
+    words = sys.argv[1:]
+    top = os.path.dirname(os.path.dirname(os.path.abspath(__file__)))
+    paths = [word for word in words if word != "--write"]
+    if not paths:
+        os.chdir(top)
+        paths = subprocess.run(["git", "ls-files", "*.rt"], stdout=subprocess.PIPE, text=True, check=True).stdout.split()
+    status = 0
+    for path in paths:
+        with open(path) as file:
+            text = file.read()
+        if "--write" in words:
+            new = wrapped(text)
+            if new != text:
+                with open(path, "w") as file:
+                    file.write(new)
+        else:
+            for number, line in long_lines(text):
+                print(f"{path}:{number}: {len(line)} columns")
+                status = 1
+    sys.exit(status)
+
+
+if __name__ == "__main__":
+    main()
