@@ -39,8 +39,24 @@ def gaps(text):
     return found
 
 
+def fields_in(text):
+    """The fields of a record, which semicolons part."""
+    parts, depth, start = [], 0, 0
+    for at, char in enumerate(text):
+        depth += (char in OPENING) - (char in CLOSING)
+        if char == ";" and depth == 0:
+            parts.append(text[start:at].strip())
+            start = at + 1
+    return [part for part in [*parts, text[start:].strip()] if part]
+
+
 def broken(line):
-    """The line, broken where as few brackets as possible are open."""
+    """The line, broken where as few brackets as possible are open. The fields of a record have lines of their own."""
+    record = re.match(r"( *)(ghost \w+ = \{ record \{) (.*) (\} \};)$", line)
+    if record:
+        margin, head, text, tail = record.groups()
+        fields = [f"{margin}  {field};" for field in fields_in(text)]
+        return [margin + head, *(part for field in fields for part in broken(field)), margin + tail]
     indent = len(line) - len(line.lstrip())
     rest, lines = line, []
     while len(rest) > WIDEST:
@@ -134,8 +150,32 @@ def long_lines(text):
     reader = Reader()
     for number, line in enumerate(text.split("\n"), 1):
         reader.reads(line)
-        if reader.is_long_clause(line) or reader.is_long_comment(line):
+        # a name in brackets stays on its line
+        if reader.is_long_clause(line) and len(broken(line)) > 1 or reader.is_long_comment(line):
             yield number, line
+
+
+def lays_out(folder):
+    """Lays out the crate in the folder as `rt fmt` does, with its long clauses broken. Returns what `rt fmt` says if it fails."""
+    changed = True
+    while changed:
+        ran = subprocess.run(["rt", "fmt"], cwd=folder, stdout=subprocess.PIPE, stderr=subprocess.STDOUT, text=True)
+        if ran.returncode != 0:
+            return ran.stdout
+        paths = [f"{root}/{name}" for root, _, names in os.walk(f"{folder}/src") for name in names if name.endswith(".rt")]
+        changed = any([breaks(path) for path in paths])
+    return None
+
+
+def breaks(path):
+    """Breaks the long clauses of a file. Returns whether there were any."""
+    with open(path) as file:
+        text = file.read()
+    new = wrapped(text)
+    if new != text:
+        with open(path, "w") as file:
+            file.write(new)
+    return new != text
 
 
 def main():
@@ -147,15 +187,11 @@ def main():
         paths = subprocess.run(["git", "ls-files", "*.rt"], stdout=subprocess.PIPE, text=True, check=True).stdout.split()
     status = 0
     for path in paths:
-        with open(path) as file:
-            text = file.read()
         if "--write" in words:
-            new = wrapped(text)
-            if new != text:
-                with open(path, "w") as file:
-                    file.write(new)
-        else:
-            for number, line in long_lines(text):
+            breaks(path)
+            continue
+        with open(path) as file:
+            for number, line in long_lines(file.read()):
                 print(f"{path}:{number}: {len(line)} columns")
                 status = 1
     sys.exit(status)

@@ -3,12 +3,13 @@
 import os
 import re
 import shutil
-import subprocess
 import sys
 import tempfile
 from string import Template
 
 TOP = os.path.dirname(os.path.dirname(os.path.dirname(os.path.abspath(__file__))))
+sys.path.append(f"{TOP}/scripts")
+from clauses import lays_out
 
 
 def filled(template, rows):
@@ -27,14 +28,11 @@ def in_its_crate(script, path, text):
 
 
 def laid_out(folder):
-    """Lays out what stands in the crates of the folder, as `rt fmt` does."""
+    """Lays out what stands in the crates of the folder, as `rt fmt` does, with long clauses broken."""
     for crate in os.listdir(f"{folder}/crates"):
-        ran = subprocess.run(
-            ["rt", "fmt"], cwd=f"{folder}/crates/{crate}",
-            stdout=subprocess.PIPE, stderr=subprocess.STDOUT, text=True,
-        )
-        if ran.returncode != 0:
-            sys.exit(ran.stdout)
+        said = lays_out(f"{folder}/crates/{crate}")
+        if said:
+            sys.exit(said)
 
 
 def write(script, texts):

@@ -10,7 +10,8 @@
 //! assert!(rt; pair == (true, 7));
 //! ```
 //!
-//! `serialize` and `deserialize` do the same for a `Value` without a Rust type, under a `Shape`, which may be recursive:
+//! `serialize` and `deserialize` do the same for a `Value` without a Rust type, under a `Shape`, which may be
+//! recursive:
 //!
 //! ```rust
 //! let shape = Shape::new(vec![in alloc; ShapeNode::Bool]?, 0)?;
@@ -259,8 +260,8 @@ pub mod sealed {
     pub use bitcode_sealed::values::{open, open_front, seal, seal_into};
 }
 
-/// The laws of columns, of data and of the calls for whole values. The functions do nothing, except `short_text`, which is
-/// `decode`: their contracts are the laws.
+/// The laws of columns, of data and of the calls for whole values. The functions do nothing, except `short_text`, which
+/// is `decode`: their contracts are the laws.
 pub mod laws {
     pub use bitcode_coder::laws::{
         all_columns, joined_data, joined_texts, one_column, strict_data, tree_and_list,

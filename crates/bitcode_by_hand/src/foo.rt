@@ -1,6 +1,8 @@
 //! A struct of two fields, written by hand.
 ghost use Rattle.std.specs.Prelude.{true, min, refl, false, ◌+◌};
-ghost use Rattle.bitcode.specs.ByHand.{struct_lawful, struct_makeable, u32_lawful, u32_makeable, str_lawful, str_makeable, struct_same_arrays, u32_same_arrays, str_same_arrays, two, pairs_of};
+ghost use Rattle.bitcode.specs.ByHand.{struct_lawful, struct_makeable, u32_lawful, u32_makeable, str_lawful};
+ghost use Rattle.bitcode.specs.ByHand.{str_makeable, struct_same_arrays, u32_same_arrays, str_same_arrays, two};
+ghost use Rattle.bitcode.specs.ByHand.{pairs_of};
 ghost use Rattle.bitcode_by_hand.specs.Foo.{foo_fields};
 
 use bitcode::coder::{Buffer, HoldsColumns, HoldsData, Result, both};
@@ -44,7 +46,8 @@ impl<'a> SameArrays for Foo<'a> {
 impl<'a> Made for Foo<'a> {
     ghost makes = { λ d t. ⟦<(u32, &'a str) as Made>⟧.makes d (foo_fields t) };
 
-    ghost makeable = { struct_makeable foo_fields (λ x y. (record { x = x; y = y }, refl)) u32_makeable str_makeable };
+    ghost makeable = { struct_makeable foo_fields (λ x y. (record { x = x; y = y }, refl))
+        u32_makeable str_makeable };
 }
 
 #[derive(Drop)]
@@ -54,11 +57,14 @@ pub struct FooEncoder {
 }
 
 impl HoldsColumns for FooEncoder {
-    ghost columns = { λ e. two (⟦<IntEncoder<u32> as HoldsColumns>⟧.columns e.x) (⟦<StrEncoder as HoldsColumns>⟧.columns e.y) };
+    ghost columns = { λ e. two (⟦<IntEncoder<u32> as HoldsColumns>⟧.columns e.x)
+        (⟦<StrEncoder as HoldsColumns>⟧.columns e.y) };
 
-    ghost room = { λ e. min (⟦<IntEncoder<u32> as HoldsColumns>⟧.room e.x) (⟦<StrEncoder as HoldsColumns>⟧.room e.y) };
+    ghost room = { λ e. min (⟦<IntEncoder<u32> as HoldsColumns>⟧.room e.x)
+        (⟦<StrEncoder as HoldsColumns>⟧.room e.y) };
 
-    ghost capacity = { λ e. ⟦<IntEncoder<u32> as HoldsColumns>⟧.capacity e.x + ⟦<StrEncoder as HoldsColumns>⟧.capacity e.y };
+    ghost capacity = { λ e. ⟦<IntEncoder<u32> as HoldsColumns>⟧.capacity e.x
+        + ⟦<StrEncoder as HoldsColumns>⟧.capacity e.y };
 
     ghost surely_overflows = { λ e n. ⊥ };
 
@@ -113,9 +119,11 @@ type Fields<'a> = TupleDecoder<IntDecoder<'a, u32>, StrDecoder<'a>>;
 impl<'a> HoldsData for FooDecoder<'a> {
     ghost shape = { ⟦<Fields<'a> as HoldsData>⟧.shape };
 
-    ghost held = { λ d. pairs_of (⟦<IntDecoder<'a, u32> as HoldsData>⟧.held d.x) (⟦<StrDecoder<'a> as HoldsData>⟧.held d.y) };
+    ghost held = { λ d. pairs_of (⟦<IntDecoder<'a, u32> as HoldsData>⟧.held d.x)
+        (⟦<StrDecoder<'a> as HoldsData>⟧.held d.y) };
 
-    ghost owned = { λ d. ⟦<IntDecoder<'a, u32> as HoldsData>⟧.owned d.x + ⟦<StrDecoder<'a> as HoldsData>⟧.owned d.y };
+    ghost owned = { λ d. ⟦<IntDecoder<'a, u32> as HoldsData>⟧.owned d.x
+        + ⟦<StrDecoder<'a> as HoldsData>⟧.owned d.y };
 }
 
 impl<'a> View<'a> for FooDecoder<'a> {

@@ -1,6 +1,7 @@
 //! An enum of one variant, written by hand: it has the shape of its field.
 ghost use Rattle.std.specs.Prelude.{true, refl};
-ghost use Rattle.bitcode.specs.ByHand.{image_lawful, image_makeable, image_same_arrays, u8_lawful, u8_makeable, u8_same_arrays};
+ghost use Rattle.bitcode.specs.ByHand.{image_lawful, image_makeable, image_same_arrays, u8_lawful, u8_makeable};
+ghost use Rattle.bitcode.specs.ByHand.{u8_same_arrays};
 ghost use Rattle.bitcode_by_hand.specs.One.{one_field, one_found};
 
 use bitcode::coder::{Buffer, HoldsColumns, HoldsData, Result};

@@ -1,10 +1,15 @@
 //! An enum of two variants, written by hand.
 ghost use Rattle.std.specs.Prelude.{[], ◌∷◌, true, false, refl, ◌+◌};
 ghost use Rattle.std.proofs.Common.{lit≤};
-ghost use Rattle.bitcode.specs.ByHand.{choice_lawful, choice_makeable, first_lawful, first_makeable, last_lawful, last_makeable, image_lawful, image_makeable};
-ghost use Rattle.bitcode.specs.ByHand.{u8_lawful, u8_makeable, i8_lawful, i8_makeable, choice_shape, shape_and, no_shapes};
-ghost use Rattle.bitcode.specs.ByHand.{IsVariantValue, ListsChoice, ListsVariant, ListsLast, MakesChoice, MakesVariant, MakesLast, SameVariant};
-ghost use Rattle.bitcode.specs.ByHand.{no_columns, two, choices_of, variant_room, variants_left, image_same_arrays, choice_same_arrays, first_same_arrays, last_same_arrays, u8_same_arrays, i8_same_arrays, variants_owned};
+ghost use Rattle.bitcode.specs.ByHand.{choice_lawful, choice_makeable, first_lawful, first_makeable, last_lawful};
+ghost use Rattle.bitcode.specs.ByHand.{last_makeable, image_lawful, image_makeable};
+ghost use Rattle.bitcode.specs.ByHand.{u8_lawful, u8_makeable, i8_lawful, i8_makeable, choice_shape, shape_and};
+ghost use Rattle.bitcode.specs.ByHand.{no_shapes};
+ghost use Rattle.bitcode.specs.ByHand.{IsVariantValue, ListsChoice, ListsVariant, ListsLast, MakesChoice, MakesVariant};
+ghost use Rattle.bitcode.specs.ByHand.{MakesLast, SameVariant};
+ghost use Rattle.bitcode.specs.ByHand.{no_columns, two, choices_of, variant_room, variants_left, image_same_arrays};
+ghost use Rattle.bitcode.specs.ByHand.{choice_same_arrays, first_same_arrays, last_same_arrays, u8_same_arrays};
+ghost use Rattle.bitcode.specs.ByHand.{i8_same_arrays, variants_owned};
 ghost use Rattle.bitcode_by_hand.specs.Two.{two_variant, two_found};
 
 use bitcode::coder::{Buffer, HoldsColumns, HoldsData, Result, both};
@@ -23,13 +28,18 @@ pub enum Two {
 }
 
 impl Shaped for Two {
-    ghost shape = { choice_shape (shape_and ⟦<u8 as Shaped>⟧.shape (shape_and ⟦<i8 as Shaped>⟧.shape no_shapes)) };
+    ghost shape = { choice_shape
+        (shape_and ⟦<u8 as Shaped>⟧.shape (shape_and ⟦<i8 as Shaped>⟧.shape no_shapes)) };
 
-    ghost is_value = { λ t. IsVariantValue ⟦<u8 as Shaped>⟧.is_value ⟦<i8 as Shaped>⟧.is_value (two_variant t) };
+    ghost is_value = { λ t. IsVariantValue ⟦<u8 as Shaped>⟧.is_value ⟦<i8 as Shaped>⟧.is_value
+        (two_variant t) };
 
-    ghost lists = { λ t d. ListsChoice (ListsVariant ⟦<u8 as Shaped>⟧.lists (ListsLast ⟦<i8 as Shaped>⟧.lists)) (two_variant t) d };
+    ghost lists = { λ t d. ListsChoice
+        (ListsVariant ⟦<u8 as Shaped>⟧.lists (ListsLast ⟦<i8 as Shaped>⟧.lists)) (two_variant t)
+        d };
 
-    ghost same = { λ t u. SameVariant ⟦<u8 as Shaped>⟧.same ⟦<i8 as Shaped>⟧.same (two_variant t) (two_variant u) };
+    ghost same = { λ t u. SameVariant ⟦<u8 as Shaped>⟧.same ⟦<i8 as Shaped>⟧.same (two_variant t)
+        (two_variant u) };
 
     ghost in_order = { true };
 
@@ -40,17 +50,21 @@ impl Shaped for Two {
         }
     }
 
-    ghost lawful = { image_lawful two_variant (choice_lawful (lit≤ tt) (lit≤ tt) (first_lawful u8_lawful (last_lawful i8_lawful))) };
+    ghost lawful = { image_lawful two_variant
+        (choice_lawful (lit≤ tt) (lit≤ tt) (first_lawful u8_lawful (last_lawful i8_lawful))) };
 }
 
 impl SameArrays for Two {
-    ghost same_arrays = { image_same_arrays two_variant (choice_same_arrays (first_same_arrays u8_same_arrays (last_same_arrays i8_same_arrays))) };
+    ghost same_arrays = { image_same_arrays two_variant
+        (choice_same_arrays (first_same_arrays u8_same_arrays (last_same_arrays i8_same_arrays))) };
 }
 
 impl Made for Two {
-    ghost makes = { λ d t. MakesChoice (MakesVariant ⟦<u8 as Made>⟧.makes (MakesLast ⟦<i8 as Made>⟧.makes)) d (two_variant t) };
+    ghost makes = { λ d t. MakesChoice
+        (MakesVariant ⟦<u8 as Made>⟧.makes (MakesLast ⟦<i8 as Made>⟧.makes)) d (two_variant t) };
 
-    ghost makeable = { image_makeable two_variant (λ g v h. two_found v) (choice_makeable (first_makeable u8_makeable (last_makeable i8_makeable))) };
+    ghost makeable = { image_makeable two_variant (λ g v h. two_found v)
+        (choice_makeable (first_makeable u8_makeable (last_makeable i8_makeable))) };
 }
 
 #[derive(Drop)]
@@ -62,11 +76,14 @@ pub struct TwoEncoder {
 
 impl HoldsColumns for TwoEncoder {
     ghost columns = { λ e. two (⟦<VariantEncoder<2> as HoldsColumns>⟧.columns e.variants)
-        (two (⟦<IntEncoder<u8> as HoldsColumns>⟧.columns e.a) (two (⟦<IntEncoder<i8> as HoldsColumns>⟧.columns e.b) no_columns)) };
+        (two (⟦<IntEncoder<u8> as HoldsColumns>⟧.columns e.a)
+        (two (⟦<IntEncoder<i8> as HoldsColumns>⟧.columns e.b) no_columns)) };
 
     ghost room = { λ e. variant_room e.variants };
 
-    ghost capacity = { λ e. ⟦<VariantEncoder<2> as HoldsColumns>⟧.capacity e.variants + ⟦<IntEncoder<u8> as HoldsColumns>⟧.capacity e.a + ⟦<IntEncoder<i8> as HoldsColumns>⟧.capacity e.b };
+    ghost capacity = { λ e. ⟦<VariantEncoder<2> as HoldsColumns>⟧.capacity e.variants
+        + ⟦<IntEncoder<u8> as HoldsColumns>⟧.capacity e.a
+        + ⟦<IntEncoder<i8> as HoldsColumns>⟧.capacity e.b };
 
     ghost surely_overflows = { λ e n. ⊥ };
 
@@ -132,9 +149,12 @@ type Variants<'a> = ResultDecoder<'a, IntDecoder<'a, u8>, IntDecoder<'a, i8>>;
 impl<'a> HoldsData for TwoDecoder<'a> {
     ghost shape = { ⟦<Variants<'a> as HoldsData>⟧.shape };
 
-    ghost held = { λ d. choices_of (variants_left d.variants) (⟦<IntDecoder<'a, u8> as HoldsData>⟧.held d.a ∷ ⟦<IntDecoder<'a, i8> as HoldsData>⟧.held d.b ∷ []) };
+    ghost held = { λ d. choices_of (variants_left d.variants)
+        (⟦<IntDecoder<'a, u8> as HoldsData>⟧.held d.a ∷ ⟦<IntDecoder<'a, i8> as HoldsData>⟧.held d.b
+        ∷ []) };
 
-    ghost owned = { λ d. variants_owned d.variants + ⟦<IntDecoder<'a, u8> as HoldsData>⟧.owned d.a + ⟦<IntDecoder<'a, i8> as HoldsData>⟧.owned d.b };
+    ghost owned = { λ d. variants_owned d.variants + ⟦<IntDecoder<'a, u8> as HoldsData>⟧.owned d.a
+        + ⟦<IntDecoder<'a, i8> as HoldsData>⟧.owned d.b };
 }
 
 impl<'a> View<'a> for TwoDecoder<'a> {

@@ -1,7 +1,8 @@
 //! The coders of a column of bools.
 #![tactic(auto, using(crate::proofs::BoolLemmas::truths_in, crate::proofs::BoolLemmas::bools_read, crate::proofs::BoolLemmas::bools_refused, crate::proofs::BoolLemmas::bools_exact))]
 
-ghost use Rattle.std.specs.Prelude.{◌≡◌, ◌≢◌, ◌+◌, ◌≤◌, ◌++◌, length, map, true, refl, IsTrue, IfOk, OnOk, IfErr, OnErr};
+ghost use Rattle.std.specs.Prelude.{◌≡◌, ◌≢◌, ◌+◌, ◌≤◌, ◌++◌, length, map, true, refl, IsTrue, IfOk, OnOk, IfErr};
+ghost use Rattle.std.specs.Prelude.{OnErr};
 ghost use Rattle.bitcode_columns.specs.Fast.{fast_items, fast_room, cow_rest, fast_capacity, cow_owned};
 ghost use Rattle.bitcode_columns.specs.Reading.{Reads, IsEndOf};
 ghost use Rattle.bitcode_shapes.specs.Shape.{bool_shape};
@@ -143,8 +144,12 @@ impl<'a> View<'a> for BoolDecoder<'a> {
     }
 
     fn read(&mut self, input: &mut &'a [u8], k: usize, strict: bool) -> Result<bool, Error>
-        ensures read { OnOk result (Reads (Spells bool_shape) k input.old.now (map truth (cow_rest self.new.values)) input.new.now) }
-        ensures judged { IsTrue strict → IfOk result (λ written. JudgesData bool_shape (map truth (cow_rest self.new.values)) written input.old.now input.new.now) }
+        ensures read { OnOk result
+            (Reads (Spells bool_shape) k input.old.now (map truth (cow_rest self.new.values))
+            input.new.now) }
+        ensures judged { IsTrue strict → IfOk result
+            (λ written. JudgesData bool_shape (map truth (cow_rest self.new.values)) written
+            input.old.now input.new.now) }
         ensures refused { IfErr result (λ e. IsReadingRefusal bool_shape e.reason k input.old.now) }
         ensures rest { OnErr result (IsEndOf input.old.now input.new.now) }
         ensures exact { IfErr result (λ e. NamesBoolsFault e.reason k input.old.now) }

@@ -28,7 +28,8 @@ pub trait Checked<I: ColumnInt>: Made + Drop {
 
     /// The value of an integer, if the type allows it: `NonZeroU8` does not allow 0.
     fn from_bits(bits: I) -> Option<Self>
-        ensures { MatchOption result (IsAllowed allowed (I.number bits) → ⊥) (λ t. IsAllowed allowed (I.number bits) × Self.makes (number (I.number bits)) t) };
+        ensures { MatchOption result (IsAllowed allowed (I.number bits) → ⊥)
+            (λ t. IsAllowed allowed (I.number bits) × Self.makes (number (I.number bits)) t) };
 
     ghost checked_shape: { Self.shape ≡ number_shape I.width I.signed allowed };
 }
@@ -49,8 +50,11 @@ pub struct CheckedIntDecoder<'a, C: Checked<I>, I: ColumnInt> {
 
 // Whether each of the integers is allowed.
 fn are_allowed<C: Checked<I>, I: ColumnInt>(entries: &[I::Une]) -> bool
-    ensures { MatchBool result (All (λ entry. IsAllowed C.allowed (number_of I.width I.signed (little_endian (I.une_bytes entry)))) entries.now)
-        (All (λ entry. IsAllowed C.allowed (number_of I.width I.signed (little_endian (I.une_bytes entry)))) entries.now → ⊥) }
+    ensures { MatchBool result
+        (All (λ entry. IsAllowed C.allowed
+        (number_of I.width I.signed (little_endian (I.une_bytes entry)))) entries.now)
+        (All (λ entry. IsAllowed C.allowed
+        (number_of I.width I.signed (little_endian (I.une_bytes entry)))) entries.now → ⊥) }
 {
     for entry in entries {
         if C::from_bits(I::from_unaligned(*entry)).is_none() {
@@ -63,7 +67,8 @@ fn are_allowed<C: Checked<I>, I: ColumnInt>(entries: &[I::Une]) -> bool
 impl<'a, C: Checked<I>, I: ColumnInt> HoldsData for CheckedIntDecoder<'a, C, I> {
     ghost shape = { number_shape I.width I.signed C.allowed };
 
-    ghost held = { λ d. checked_data C.allowed (numbers_of I.width I.signed I.une_bytes (cow_rest d.values)) };
+    ghost held = { λ d. checked_data C.allowed
+        (numbers_of I.width I.signed I.une_bytes (cow_rest d.values)) };
 
     ghost owned = { λ d. cow_owned d.values };
 }

@@ -1,5 +1,6 @@
 //! The four traits that encoders and decoders implement, for single columns and for types.
-ghost use Rattle.std.specs.Prelude.{◌≡◌, ◌≢◌, ℕ, ◌+◌, ◌<◌, ◌≤◌, Bool, List, [], ◌∷◌, ◌++◌, length, map, IsTrue, IsFalse, ◌↔◌, ◌&&◌, IsOk, IfOk, OnOk, IfErr, OnErr, IsErrOf};
+ghost use Rattle.std.specs.Prelude.{◌≡◌, ◌≢◌, ℕ, ◌+◌, ◌<◌, ◌≤◌, Bool, List, [], ◌∷◌, ◌++◌, length, map, IsTrue};
+ghost use Rattle.std.specs.Prelude.{IsFalse, ◌↔◌, ◌&&◌, IsOk, IfOk, OnOk, IfErr, OnErr, IsErrOf};
 ghost use Rattle.bitcode_columns.specs.declared.error.Reason.{Reason};
 ghost use Rattle.bitcode_columns.specs.Reading.{Reads, IsEndOf};
 ghost use Rattle.bitcode_shapes.specs.Datum.{Datum};
@@ -7,7 +8,9 @@ ghost use Rattle.bitcode_shapes.specs.Shape.{Shape};
 ghost use Rattle.bitcode_coder.specs.Columns.{Columns, emptied};
 ghost use Rattle.bitcode_coder.specs.Spelling.{Spells, columns_bytes};
 ghost use Rattle.bitcode_coder.specs.Strict.{StrictlySpells, JudgesData};
-ghost use Rattle.bitcode_coder.specs.Coder.{written_columns, BeginsWith, JoinsListing, WritesListing, WritesEach, OverflowsWithListing, JoinsEach, OverflowsWithEach, SurelyOverflows, IsWritingRefusal, IsReadingRefusal, TakesDatum, TakesEach};
+ghost use Rattle.bitcode_coder.specs.Coder.{written_columns, BeginsWith, JoinsListing, WritesListing, WritesEach};
+ghost use Rattle.bitcode_coder.specs.Coder.{OverflowsWithListing, JoinsEach, OverflowsWithEach, SurelyOverflows};
+ghost use Rattle.bitcode_coder.specs.Coder.{IsWritingRefusal, IsReadingRefusal, TakesDatum, TakesEach};
 
 use crate::part::{Behind, Itself, Part, told_parts};
 use bitcode_columns::error::{Error, Reason};
@@ -56,14 +59,17 @@ pub trait Buffer: HoldsColumns {
         ensures ok { OnOk result (n ≤ Self.room self.new) }
         ensures grows { Self.room self.old ≤ Self.room self.new }
         ensures succeeds { n ≤ Self.room self.old → IsOk result }
-        ensures refused { IfErr result (λ e. IsWritingRefusal e.reason (Self.surely_overflows self.old n)) }
-        ensures overflow { Self.overflows self.old n → IsErrOf result (record { reason = Reason.LengthOverflow }) };
+        ensures refused { IfErr result
+            (λ e. IsWritingRefusal e.reason (Self.surely_overflows self.old n)) }
+        ensures overflow { Self.overflows self.old n
+            → IsErrOf result (record { reason = Reason.LengthOverflow }) };
 
     /// Appends the columns to `out`, and empties them.
     ///
     /// If an allocation fails, the error is `out of memory`, and `out` still begins with what it held before.
     fn collect_into(&mut self, out: &mut Vec<u8>) -> Result<(), Error>
-        ensures written { OnOk result (out.new.items ≡ out.old.items ++ columns_bytes (Self.columns self.old)) }
+        ensures written { OnOk result
+            (out.new.items ≡ out.old.items ++ columns_bytes (Self.columns self.old)) }
         ensures empty { OnOk result (Self.columns self.new ≡ emptied (Self.columns self.old)) }
         ensures begins { BeginsWith out.old.items out.new.items }
         ensures form { emptied (Self.columns self.new) ≡ emptied (Self.columns self.old) }
@@ -78,7 +84,8 @@ pub trait Buffer: HoldsColumns {
     ///
     /// If an allocation fails, the error is `out of memory`.
     final fn collect(&mut self, alloc: Global) -> Result<Vec<u8>, Error>
-        ensures written { IfOk result (λ bytes. bytes.items ≡ columns_bytes (Self.columns self.old)) }
+        ensures written { IfOk result
+            (λ bytes. bytes.items ≡ columns_bytes (Self.columns self.old)) }
         ensures empty { OnOk result (Self.columns self.new ≡ emptied (Self.columns self.old)) }
         ensures form { emptied (Self.columns self.new) ≡ emptied (Self.columns self.old) }
         ensures refused { IfErr result (λ e. e.reason ≡ Reason.OutOfMemory) }
@@ -100,25 +107,32 @@ pub trait Encoder<T: Shaped>: HoldsColumns {
     /// that a number of arrays times their size exceeds 18446744073709551615.
     fn encode(&mut self, t: &T) -> Result<(), Error>
         requires { 0 < Self.room self.old }
-        ensures joined { OnOk result (JoinsListing T.lists T.shape t.now (Self.columns self.old) (Self.columns self.new)) }
+        ensures joined { OnOk result
+            (JoinsListing T.lists T.shape t.now (Self.columns self.old) (Self.columns self.new)) }
         ensures room { OnOk result (Self.room self.old ≤ Self.room self.new + 1) }
         ensures form { emptied (Self.columns self.new) ≡ emptied (Self.columns self.old) }
-        ensures refused { IfErr result (λ e. IsWritingRefusal e.reason (OverflowsWithListing T.lists T.shape t.now (Self.columns self.old))) }
+        ensures refused { IfErr result
+            (λ e. IsWritingRefusal e.reason
+            (OverflowsWithListing T.lists T.shape t.now (Self.columns self.old))) }
         ensures free { IsTrue writes_free → IfErr result (λ e. e.reason ≢ Reason.OutOfMemory) };
 
-    /// Appends the columns of one value to `out` and keeps none of them, if the encoder can do so without a list for each
-    /// column. The columns must be empty. Returns whether it did. If not, `out` is unchanged.
+    /// Appends the columns of one value to `out` and keeps none of them, if the encoder can do so without a list for
+    /// each column. The columns must be empty. Returns whether it did. If not, `out` is unchanged.
     ///
     /// Errors: those of [`Encoder::encode`]. `out` then begins with its old bytes. Call
     /// [`write_one`](crate::one::write_one), which tries this first.
     fn write_directly(&mut self, _t: &T, _out: &mut Vec<u8>) -> Result<bool, Error>
         requires { Self.columns self.old ≡ emptied (Self.columns self.old) }
-        ensures written { IfOk result (λ done. IsTrue done → WritesListing T.lists T.shape _t.now (Self.columns self.old) _out.old.items _out.new.items) }
+        ensures written { IfOk result
+            (λ done. IsTrue done → WritesListing T.lists T.shape _t.now (Self.columns self.old)
+            _out.old.items _out.new.items) }
         ensures unchanged { IfOk result (λ done. IsFalse done → _out.new.items ≡ _out.old.items) }
         ensures empty { OnOk result (Self.columns self.new ≡ emptied (Self.columns self.old)) }
         ensures begins { BeginsWith _out.old.items _out.new.items }
         ensures form { emptied (Self.columns self.new) ≡ emptied (Self.columns self.old) }
-        ensures refused { IfErr result (λ e. IsWritingRefusal e.reason (OverflowsWithListing T.lists T.shape _t.now (Self.columns self.old))) }
+        ensures refused { IfErr result
+            (λ e. IsWritingRefusal e.reason
+            (OverflowsWithListing T.lists T.shape _t.now (Self.columns self.old))) }
     {
         Ok(false)
     }
@@ -130,10 +144,15 @@ pub trait Encoder<T: Shaped>: HoldsColumns {
     final fn encode_vectored(&mut self, values: &[&T]) -> Result<(), Error>
         requires chunk { (0 < length values.now) × (length values.now ≤ MAX_VECTORED_CHUNK) }
         requires room { length values.now ≤ Self.room self.old }
-        ensures joined { OnOk result (JoinsEach T.lists T.shape (map (λ value. value.now) values.now) (Self.columns self.old) (Self.columns self.new)) }
+        ensures joined { OnOk result
+            (JoinsEach T.lists T.shape (map (λ value. value.now) values.now) (Self.columns self.old)
+            (Self.columns self.new)) }
         ensures room { OnOk result (Self.room self.old ≤ Self.room self.new + length values.now) }
         ensures form { emptied (Self.columns self.new) ≡ emptied (Self.columns self.old) }
-        ensures refused { IfErr result (λ e. IsWritingRefusal e.reason (OverflowsWithEach T.lists T.shape (map (λ value. value.now) values.now) (Self.columns self.old))) }
+        ensures refused { IfErr result
+            (λ e. IsWritingRefusal e.reason
+            (OverflowsWithEach T.lists T.shape (map (λ value. value.now) values.now)
+            (Self.columns self.old))) }
         ensures free { IsTrue writes_free → IfErr result (λ e. e.reason ≢ Reason.OutOfMemory) }
     {
         self.encode_part_of_each(values, &Behind, values[0])
@@ -153,10 +172,15 @@ pub trait Encoder<T: Shaped>: HoldsColumns {
     ) -> Result<(), Error>
         requires chunk { (0 < length items.now) × (length items.now ≤ MAX_VECTORED_CHUNK) }
         requires room { length items.now ≤ Self.room self.old }
-        ensures joined { OnOk result (JoinsEach T.lists T.shape (map (W.of which.now) items.now) (Self.columns self.old) (Self.columns self.new)) }
+        ensures joined { OnOk result
+            (JoinsEach T.lists T.shape (map (W.of which.now) items.now) (Self.columns self.old)
+            (Self.columns self.new)) }
         ensures room { OnOk result (Self.room self.old ≤ Self.room self.new + length items.now) }
         ensures form { emptied (Self.columns self.new) ≡ emptied (Self.columns self.old) }
-        ensures refused { IfErr result (λ e. IsWritingRefusal e.reason (OverflowsWithEach T.lists T.shape (map (W.of which.now) items.now) (Self.columns self.old))) }
+        ensures refused { IfErr result
+            (λ e. IsWritingRefusal e.reason
+            (OverflowsWithEach T.lists T.shape (map (W.of which.now) items.now)
+            (Self.columns self.old))) }
         ensures free { IsTrue writes_free → IfErr result (λ e. e.reason ≢ Reason.OutOfMemory) }
     {
         told_parts(items, which);
@@ -182,10 +206,13 @@ pub trait Encoder<T: Shaped>: HoldsColumns {
     /// Errors: those of `encode`. Some of the first values may have been added by then.
     fn encode_slice(&mut self, items: &[T]) -> Result<(), Error>
         requires { length items.now ≤ Self.room self.old }
-        ensures joined { OnOk result (JoinsEach T.lists T.shape items.now (Self.columns self.old) (Self.columns self.new)) }
+        ensures joined { OnOk result
+            (JoinsEach T.lists T.shape items.now (Self.columns self.old) (Self.columns self.new)) }
         ensures room { OnOk result (Self.room self.old ≤ Self.room self.new + length items.now) }
         ensures form { emptied (Self.columns self.new) ≡ emptied (Self.columns self.old) }
-        ensures refused { IfErr result (λ e. IsWritingRefusal e.reason (OverflowsWithEach T.lists T.shape items.now (Self.columns self.old))) }
+        ensures refused { IfErr result
+            (λ e. IsWritingRefusal e.reason
+            (OverflowsWithEach T.lists T.shape items.now (Self.columns self.old))) }
         ensures free { IsTrue writes_free → IfErr result (λ e. e.reason ≢ Reason.OutOfMemory) }
         ensures none { length items.now ≡ 0 → IsOk result }
     {
@@ -199,13 +226,15 @@ pub trait Encoder<T: Shaped>: HoldsColumns {
         Ok(())
     }
 
-    /// Appends the columns of the values of a slice to `out`, if the encoder can do so without a copy of the values. The
-    /// columns must be empty. Returns whether it did. If not, `out` is unchanged.
+    /// Appends the columns of the values of a slice to `out`, if the encoder can do so without a copy of the values.
+    /// The columns must be empty. Returns whether it did. If not, `out` is unchanged.
     ///
     /// The only error is `out of memory`. `out` then begins with its old bytes.
     fn write_slice_directly(&self, _items: &[T], _out: &mut Vec<u8>) -> Result<bool, Error>
         requires { Self.columns self.now ≡ emptied (Self.columns self.now) }
-        ensures written { IfOk result (λ done. IsTrue done → WritesEach T.lists T.shape _items.now (Self.columns self.now) _out.old.items _out.new.items) }
+        ensures written { IfOk result
+            (λ done. IsTrue done → WritesEach T.lists T.shape _items.now (Self.columns self.now)
+            _out.old.items _out.new.items) }
         ensures unchanged { IfOk result (λ done. IsFalse done → _out.new.items ≡ _out.old.items) }
         ensures begins { BeginsWith _out.old.items _out.new.items }
         ensures refused { IfErr result (λ e. e.reason ≡ Reason.OutOfMemory) }
@@ -216,7 +245,8 @@ pub trait Encoder<T: Shaped>: HoldsColumns {
     // the columns are those of the type's shape
     ghost of_shape: { (e : Self) → emptied (Self.columns e) ≡ written_columns T.shape [] };
 
-    ghost surely: { (e : Self) (n : ℕ) → Self.surely_overflows e n → SurelyOverflows T.shape (Self.columns e) n };
+    ghost surely: { (e : Self) (n : ℕ) → Self.surely_overflows e n
+        → SurelyOverflows T.shape (Self.columns e) n };
 }
 
 /// The data of a decoder.
@@ -257,8 +287,11 @@ pub trait View<'a>: HoldsData {
     ///
     /// The error is the first fault. It is `out of memory` only for a column that allocates.
     fn read(&mut self, input: &mut &'a [u8], k: usize, strict: bool) -> Result<bool, Error>
-        ensures read { OnOk result (Reads (Spells Self.shape) k input.old.now (Self.held self.new) input.new.now) }
-        ensures judged { IsTrue strict → IfOk result (λ written. JudgesData Self.shape (Self.held self.new) written input.old.now input.new.now) }
+        ensures read { OnOk result
+            (Reads (Spells Self.shape) k input.old.now (Self.held self.new) input.new.now) }
+        ensures judged { IsTrue strict → IfOk result
+            (λ written. JudgesData Self.shape (Self.held self.new) written input.old.now
+            input.new.now) }
         ensures refused { IfErr result (λ e. IsReadingRefusal Self.shape e.reason k input.old.now) }
         ensures exact { IfErr result (λ e. faults e.reason k input.old.now) }
         ensures rest { OnErr result (IsEndOf input.old.now input.new.now) };
@@ -267,7 +300,8 @@ pub trait View<'a>: HoldsData {
     ///
     /// The error is the first fault. It is `out of memory` only for a column that allocates.
     final fn populate(&mut self, input: &mut &'a [u8], k: usize) -> Result<(), Error>
-        ensures read { OnOk result (Reads (Spells Self.shape) k input.old.now (Self.held self.new) input.new.now) }
+        ensures read { OnOk result
+            (Reads (Spells Self.shape) k input.old.now (Self.held self.new) input.new.now) }
         ensures refused { IfErr result (λ e. IsReadingRefusal Self.shape e.reason k input.old.now) }
         ensures exact { IfErr result (λ e. faults e.reason k input.old.now) }
         ensures rest { OnErr result (IsEndOf input.old.now input.new.now) }
@@ -279,8 +313,11 @@ pub trait View<'a>: HoldsData {
     /// Reads `k` data as [`View::populate`] does, and returns whether the bytes of each column are those that `encode`
     /// writes.
     final fn populate_strict(&mut self, input: &mut &'a [u8], k: usize) -> Result<bool, Error>
-        ensures read { OnOk result (Reads (Spells Self.shape) k input.old.now (Self.held self.new) input.new.now) }
-        ensures strict { IfOk result (λ written. IsTrue written ↔ Reads (StrictlySpells Self.shape) k input.old.now (Self.held self.new) input.new.now) }
+        ensures read { OnOk result
+            (Reads (Spells Self.shape) k input.old.now (Self.held self.new) input.new.now) }
+        ensures strict { IfOk result
+            (λ written. IsTrue written ↔ Reads (StrictlySpells Self.shape) k input.old.now
+            (Self.held self.new) input.new.now) }
         ensures refused { IfErr result (λ e. IsReadingRefusal Self.shape e.reason k input.old.now) }
         ensures exact { IfErr result (λ e. faults e.reason k input.old.now) }
         ensures rest { OnErr result (IsEndOf input.old.now input.new.now) }
@@ -299,7 +336,8 @@ pub trait Decoder<T: Made>: HoldsData {
     /// The only error is `out of memory`.
     fn decode(&mut self) -> Result<T, Error>
         requires { 0 < length (Self.held self.old) }
-        ensures made { IfOk result (λ t. TakesDatum T.makes t (Self.held self.old) (Self.held self.new)) }
+        ensures made { IfOk result
+            (λ t. TakesDatum T.makes t (Self.held self.old) (Self.held self.new)) }
         ensures refused { IfErr result (λ e. e.reason ≡ Reason.OutOfMemory) }
         ensures free { IsTrue makes_free → IsOk result };
 
@@ -310,7 +348,9 @@ pub trait Decoder<T: Made>: HoldsData {
     where
         T: Drop,
         requires { count ≤ length (Self.held self.old) }
-        ensures made { IfOk result (λ items. TakesEach T.makes count items.items (Self.held self.old) (Self.held self.new)) }
+        ensures made { IfOk result
+            (λ items. TakesEach T.makes count items.items (Self.held self.old)
+            (Self.held self.new)) }
         ensures refused { IfErr result (λ e. e.reason ≡ Reason.OutOfMemory) }
         ensures none { count ≡ 0 → IsOk result }
     {

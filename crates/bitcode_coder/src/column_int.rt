@@ -1,5 +1,6 @@
 //! Integers, as the coders of their columns see them.
-ghost use Rattle.std.specs.Prelude.{◌≡◌, ◌≢◌, ℕ, ◌^◌, ◌<◌, ◌++◌, ℤ, Bool, List, [], ◌∷◌, map, All, IsTrue, IsFalse, ◌↔◌, IfOk, OnOk, IfErr, OnErr};
+ghost use Rattle.std.specs.Prelude.{◌≡◌, ◌≢◌, ℕ, ◌^◌, ◌<◌, ◌++◌, ℤ, Bool, List, [], ◌∷◌, map, All, IsTrue, IsFalse};
+ghost use Rattle.std.specs.Prelude.{◌↔◌, IfOk, OnOk, IfErr, OnErr};
 ghost use Rattle.bitcode_columns.specs.Fast.{cow_rest};
 ghost use Rattle.bitcode_columns.specs.IntWidths.{IsWidth};
 ghost use Rattle.bitcode_columns.specs.IntColumn.{SpellsInts, int_text};
@@ -20,7 +21,8 @@ mod unsigned;
 // Appends the column of integers of one byte, which is a byte column: `pack_ints` would copy them first.
 #[tactic(auto, unfolding(bitcode_columns::specs::IntColumn::int_text))]
 fn pack_each_byte<T: Byte>(ints: &mut [T], out: &mut Vec<u8>) -> Result<(), Error>
-    ensures written { OnOk result (out.new.items ≡ out.old.items ++ int_text 1 (map T.number ints.old)) }
+    ensures written { OnOk result
+        (out.new.items ≡ out.old.items ++ int_text 1 (map T.number ints.old)) }
     ensures unchanged { OnErr result (out.new.items ≡ out.old.items) }
     ensures reason { IfErr result (λ e. e.reason ≡ Reason.OutOfMemory) }
 {
@@ -35,12 +37,20 @@ fn unpack_each_byte<'a, T: Byte>(
     out: &mut CowSlice<'a, u8>,
     strict: bool,
 ) -> Result<bool, Error>
-    ensures read { OnOk result (Reads (SpellsInts 1) count input.old.now (map (λ byte. little_endian (byte ∷ [])) (cow_rest out.new)) input.new.now) }
-    ensures in_width { OnOk result (All (λ n. n < 256 ^ 1) (map (λ byte. little_endian (byte ∷ [])) (cow_rest out.new))) }
-    ensures judged { IsTrue strict → IfOk result (λ written. IsTrue written ↔ (input.old.now ≡ int_text 1 (map (λ byte. number_of 1 T.signed (little_endian (byte ∷ []))) (cow_rest out.new)) ++ input.new.now)) }
+    ensures read { OnOk result
+        (Reads (SpellsInts 1) count input.old.now
+        (map (λ byte. little_endian (byte ∷ [])) (cow_rest out.new)) input.new.now) }
+    ensures in_width { OnOk result
+        (All (λ n. n < 256 ^ 1) (map (λ byte. little_endian (byte ∷ [])) (cow_rest out.new))) }
+    ensures judged { IsTrue strict → IfOk result
+        (λ written. IsTrue written
+        ↔ (input.old.now ≡ int_text 1
+        (map (λ byte. number_of 1 T.signed (little_endian (byte ∷ []))) (cow_rest out.new))
+        ++ input.new.now)) }
     ensures refused { IfErr result (λ e. Names e.reason (ints_fault 1 count input.old.now)) }
     ensures rest { OnErr result (IsEndOf input.old.now input.new.now) }
-    ensures raw { IsTrue (ints_stand_raw 1 count input.old.now) → IfErr result (λ e. e.reason ≢ Reason.OutOfMemory) }
+    ensures raw { IsTrue (ints_stand_raw 1 count input.old.now)
+        → IfErr result (λ e. e.reason ≢ Reason.OutOfMemory) }
 {
     known_bytes(input);
     read_bytes::<T>(alloc, input, count, out, strict)
@@ -68,7 +78,8 @@ pub trait ColumnInt: Copy {
     ///
     /// If an allocation fails, the error is `out of memory` and `out` is unchanged.
     fn pack(alloc: Global, ints: &mut [Self], out: &mut Vec<u8>) -> Result<(), Error>
-        ensures written { OnOk result (out.new.items ≡ out.old.items ++ int_text width (map number ints.old)) }
+        ensures written { OnOk result
+            (out.new.items ≡ out.old.items ++ int_text width (map number ints.old)) }
         ensures unchanged { OnErr result (out.new.items ≡ out.old.items) }
         ensures reason { IfErr result (λ e. e.reason ≡ Reason.OutOfMemory) };
 
@@ -77,7 +88,9 @@ pub trait ColumnInt: Copy {
     ///
     /// If an allocation fails, the error is `out of memory` and `out` is unchanged.
     fn pack_slice(_alloc: Global, _ints: &[Self], _out: &mut Vec<u8>) -> Result<bool, Error>
-        ensures written { IfOk result (λ done. IsTrue done → _out.new.items ≡ _out.old.items ++ int_text width (map number _ints.now)) }
+        ensures written { IfOk result
+            (λ done. IsTrue done → _out.new.items ≡ _out.old.items ++ int_text width
+            (map number _ints.now)) }
         ensures not_done { IfOk result (λ done. IsFalse done → _out.new.items ≡ _out.old.items) }
         ensures unchanged { OnErr result (_out.new.items ≡ _out.old.items) }
         ensures reason { IfErr result (λ e. e.reason ≡ Reason.OutOfMemory) }
@@ -87,7 +100,8 @@ pub trait ColumnInt: Copy {
 
     /// Appends the column of one integer, as [`ColumnInt::pack`] does for several.
     fn pack_one(alloc: Global, int: Self, out: &mut Vec<u8>) -> Result<(), Error>
-        ensures written { OnOk result (out.new.items ≡ out.old.items ++ int_text width (number int ∷ [])) }
+        ensures written { OnOk result
+            (out.new.items ≡ out.old.items ++ int_text width (number int ∷ [])) }
         ensures unchanged { OnErr result (out.new.items ≡ out.old.items) }
         ensures reason { IfErr result (λ e. e.reason ≡ Reason.OutOfMemory) };
 
@@ -104,12 +118,22 @@ pub trait ColumnInt: Copy {
         out: &mut CowSlice<'a, Self::Une>,
         strict: bool,
     ) -> Result<bool, Error>
-        ensures read { OnOk result (Reads (SpellsInts width) count input.old.now (map (λ u. little_endian (une_bytes u)) (cow_rest out.new)) input.new.now) }
-        ensures judged { IsTrue strict → IfOk result (λ written. IsTrue written ↔ (input.old.now ≡ int_text width (map (λ u. number_of width signed (little_endian (une_bytes u))) (cow_rest out.new)) ++ input.new.now)) }
-        ensures in_width { OnOk result (All (λ n. n < 256 ^ width) (map (λ u. little_endian (une_bytes u)) (cow_rest out.new))) }
-        ensures refused { IfErr result (λ e. Names e.reason (ints_fault width count input.old.now)) }
+        ensures read { OnOk result
+            (Reads (SpellsInts width) count input.old.now
+            (map (λ u. little_endian (une_bytes u)) (cow_rest out.new)) input.new.now) }
+        ensures judged { IsTrue strict → IfOk result
+            (λ written. IsTrue written
+            ↔ (input.old.now ≡ int_text width
+            (map (λ u. number_of width signed (little_endian (une_bytes u))) (cow_rest out.new))
+            ++ input.new.now)) }
+        ensures in_width { OnOk result
+            (All (λ n. n < 256 ^ width)
+            (map (λ u. little_endian (une_bytes u)) (cow_rest out.new))) }
+        ensures refused { IfErr result
+            (λ e. Names e.reason (ints_fault width count input.old.now)) }
         ensures rest { OnErr result (IsEndOf input.old.now input.new.now) }
-        ensures raw { IsTrue (ints_stand_raw width count input.old.now) → IfErr result (λ e. e.reason ≢ Reason.OutOfMemory) };
+        ensures raw { IsTrue (ints_stand_raw width count input.old.now)
+            → IfErr result (λ e. e.reason ≢ Reason.OutOfMemory) };
 
     /// The number with these bytes.
     fn from_unaligned(unaligned: Self::Une) -> Self

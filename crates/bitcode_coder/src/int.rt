@@ -1,7 +1,8 @@
 //! The coders of a column of integers.
 #![tactic(auto)]
 
-ghost use Rattle.std.specs.Prelude.{◌≡◌, ◌≢◌, ◌+◌, ◌<◌, ◌≤◌, ◌++◌, List, [], ◌∷◌, length, map, take, drop, pos, true, false, IsTrue, IsFalse, IsOk, IfOk, OnOk, IfErr, OnErr};
+ghost use Rattle.std.specs.Prelude.{◌≡◌, ◌≢◌, ◌+◌, ◌<◌, ◌≤◌, ◌++◌, List, [], ◌∷◌, length, map, take, drop, pos, true};
+ghost use Rattle.std.specs.Prelude.{false, IsTrue, IsFalse, IsOk, IfOk, OnOk, IfErr, OnErr};
 ghost use Rattle.std.proofs.Common.{sym};
 ghost use Rattle.bitcode_columns.specs.Fast.{fast_items, fast_room, cow_rest, fast_capacity, cow_owned};
 ghost use Rattle.bitcode_columns.specs.Ints.{number_of};
@@ -36,7 +37,8 @@ pub trait AsInt<I: ColumnInt>: Shaped {
     /// Pushes the integers for the values of a slice. The caller must have reserved the room.
     fn push_ints(values: &[Self], ints: &mut FastVec<I>)
         requires { length values.now ≤ fast_room ints.old }
-        ensures written { PushesInts Self.lists I.number values.now (fast_items ints.old) (fast_items ints.new) }
+        ensures written { PushesInts Self.lists I.number values.now (fast_items ints.old)
+            (fast_items ints.new) }
         ensures room { fast_room ints.old ≤ fast_room ints.new + length values.now }
     {
         for value in values {
@@ -49,7 +51,9 @@ pub trait AsInt<I: ColumnInt>: Shaped {
     ///
     /// The only error is `out of memory`. `out` is then unchanged.
     fn write_ints(_alloc: Global, _values: &[Self], _out: &mut Vec<u8>) -> Result<bool, Error>
-        ensures written { IfOk result (λ done. IsTrue done → WritesInts Self.lists I.width I.number _values.now _out.old.items _out.new.items) }
+        ensures written { IfOk result
+            (λ done. IsTrue done → WritesInts Self.lists I.width I.number _values.now _out.old.items
+            _out.new.items) }
         ensures not_done { IfOk result (λ done. IsFalse done → _out.new.items ≡ _out.old.items) }
         ensures unchanged { OnErr result (_out.new.items ≡ _out.old.items) }
         ensures refused { IfErr result (λ e. e.reason ≡ Reason.OutOfMemory) }
@@ -57,13 +61,15 @@ pub trait AsInt<I: ColumnInt>: Shaped {
         Ok(false)
     }
 
-    ghost as_int_columns: { (ds : List Datum) → written_columns Self.shape ds ≡ one (ints I.width I.signed) ds };
+    ghost as_int_columns: { (ds : List Datum)
+        → written_columns Self.shape ds ≡ one (ints I.width I.signed) ds };
 }
 
 // Pushes integers that are written unchanged, by one copy. The caller must have reserved the room.
 fn push_themselves<I: ColumnInt>(values: &[I], ints: &mut FastVec<I>)
     requires { length values.now ≤ fast_room ints.old }
-    ensures written { PushesInts (ListsNumber I.number) I.number values.now (fast_items ints.old) (fast_items ints.new) }
+    ensures written { PushesInts (ListsNumber I.number) I.number values.now (fast_items ints.old)
+        (fast_items ints.new) }
     ensures room { fast_room ints.old ≤ fast_room ints.new + length values.now }
 {
     ints.extend_unchecked(values);
@@ -75,7 +81,9 @@ fn write_themselves<I: ColumnInt>(
     values: &[I],
     out: &mut Vec<u8>,
 ) -> Result<bool, Error>
-    ensures written { IfOk result (λ done. IsTrue done → WritesInts (ListsNumber I.number) I.width I.number values.now out.old.items out.new.items) }
+    ensures written { IfOk result
+        (λ done. IsTrue done → WritesInts (ListsNumber I.number) I.width I.number values.now
+        out.old.items out.new.items) }
     ensures not_done { IfOk result (λ done. IsFalse done → out.new.items ≡ out.old.items) }
     ensures unchanged { OnErr result (out.new.items ≡ out.old.items) }
     ensures refused { IfErr result (λ e. e.reason ≡ Reason.OutOfMemory) }
@@ -91,7 +99,8 @@ fn push_parts<S, P: AsInt<I>, I: ColumnInt, W: Part<S, P>>(
     mut ints: FastVec<I>,
 ) -> FastVec<I>
     requires { length items.now ≤ fast_room ints }
-    ensures written { PushesInts P.lists I.number (map (W.of which.now) items.now) (fast_items ints) (fast_items result) }
+    ensures written { PushesInts P.lists I.number (map (W.of which.now) items.now) (fast_items ints)
+        (fast_items result) }
     ensures room { fast_room ints ≤ fast_room result + length items.now }
 {
     for item in items {
@@ -111,7 +120,10 @@ pub trait Integer: ColumnInt + Made {
         n: usize,
     ) -> Result<Vec<Self>, Error>
         requires { n ≤ length (cow_rest bytes.old) }
-        ensures numbers { IfOk result (λ ints. map Self.number ints.items ≡ map (λ u. number_of Self.width Self.signed (little_endian (Self.une_bytes u))) (take n (cow_rest bytes.old))) }
+        ensures numbers { IfOk result
+            (λ ints. map Self.number ints.items ≡ map
+            (λ u. number_of Self.width Self.signed (little_endian (Self.une_bytes u)))
+            (take n (cow_rest bytes.old))) }
         ensures rest { cow_rest bytes.new ≡ drop n (cow_rest bytes.old) }
         ensures refused { IfErr result (λ e. e.reason ≡ Reason.OutOfMemory) }
         ensures none { n ≡ 0 → IsOk result }
@@ -235,7 +247,9 @@ impl<I: ColumnInt, P: AsInt<I>> Encoder<P> for IntEncoder<I> {
 
 // The integers of these bytes.
 fn ints_of<T: ColumnInt>(alloc: Global, unaligned: &[T::Une]) -> Result<Vec<T>, Error>
-    ensures numbers { IfOk result (λ ints. map T.number ints.items ≡ map (λ u. number_of T.width T.signed (little_endian (T.une_bytes u))) unaligned.now) }
+    ensures numbers { IfOk result
+        (λ ints. map T.number ints.items ≡ map
+        (λ u. number_of T.width T.signed (little_endian (T.une_bytes u))) unaligned.now) }
     ensures refused { IfErr result (λ e. e.reason ≡ Reason.OutOfMemory) }
     ensures none { length unaligned.now ≡ 0 → IsOk result }
 {
@@ -253,7 +267,9 @@ fn list_of_bytes<'a>(
     n: usize,
 ) -> Result<Vec<u8>, Error>
     requires { n ≤ length (cow_rest bytes.old) }
-    ensures numbers { IfOk result (λ ints. map pos ints.items ≡ map (λ byte. number_of 1 false (little_endian (byte ∷ []))) (take n (cow_rest bytes.old))) }
+    ensures numbers { IfOk result
+        (λ ints. map pos ints.items ≡ map (λ byte. number_of 1 false (little_endian (byte ∷ [])))
+        (take n (cow_rest bytes.old))) }
     ensures rest { cow_rest bytes.new ≡ drop n (cow_rest bytes.old) }
     ensures refused { IfErr result (λ e. e.reason ≡ Reason.OutOfMemory) }
     ensures none { n ≡ 0 → IsOk result }
@@ -293,9 +309,15 @@ impl<'a, T: ColumnInt> View<'a> for IntDecoder<'a, T> {
     }
 
     fn read(&mut self, input: &mut &'a [u8], k: usize, strict: bool) -> Result<bool, Error>
-        ensures read { OnOk result (Reads (Spells (int_shape T.width T.signed)) k input.old.now (bytes_data T.width T.signed T.une_bytes (cow_rest self.new.values)) input.new.now) }
-        ensures judged { IsTrue strict → IfOk result (λ written. JudgesData (int_shape T.width T.signed) (bytes_data T.width T.signed T.une_bytes (cow_rest self.new.values)) written input.old.now input.new.now) }
-        ensures refused { IfErr result (λ e. IsReadingRefusal (int_shape T.width T.signed) e.reason k input.old.now) }
+        ensures read { OnOk result
+            (Reads (Spells (int_shape T.width T.signed)) k input.old.now
+            (bytes_data T.width T.signed T.une_bytes (cow_rest self.new.values)) input.new.now) }
+        ensures judged { IsTrue strict → IfOk result
+            (λ written. JudgesData (int_shape T.width T.signed)
+            (bytes_data T.width T.signed T.une_bytes (cow_rest self.new.values)) written
+            input.old.now input.new.now) }
+        ensures refused { IfErr result
+            (λ e. IsReadingRefusal (int_shape T.width T.signed) e.reason k input.old.now) }
         ensures rest { OnErr result (IsEndOf input.old.now input.new.now) }
         ensures exact { IfErr result (λ e. NamesIntsFault T.width e.reason k input.old.now) }
     {

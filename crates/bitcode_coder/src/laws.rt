@@ -8,7 +8,8 @@ ghost use Rattle.bitcode_coder.specs.Spelling.{Spells, SpellsColumn, texts_of, L
 ghost use Rattle.bitcode_coder.specs.Transposition.{columns_of, spread};
 ghost use Rattle.bitcode_coder.specs.Strict.{StrictlySpells};
 ghost use Rattle.bitcode_coder.specs.JoinedTexts.{AreUtf8AsJoined};
-ghost use Rattle.bitcode_coder.specs.Laws.{ReadsBackColumn, ColumnTakesAnEighth, ReadsBackData, DataTakeAnEighth, JoinsColumnByColumn, TreeIsList};
+ghost use Rattle.bitcode_coder.specs.Laws.{ReadsBackColumn, ColumnTakesAnEighth, ReadsBackData, DataTakeAnEighth};
+ghost use Rattle.bitcode_coder.specs.Laws.{JoinsColumnByColumn, TreeIsList};
 
 /// A column of any kind. What is written is read back, whatever follows. An input is read in at most one way. An empty
 /// column has no bytes, and there are at most eight times as many entries as bytes.
@@ -69,8 +70,12 @@ pub fn joined_texts()
 /// strict_data();
 /// ```
 pub fn strict_data()
-    ensures once { (shape : Shape) (piece other : List ℕ) (ds : List Datum) → StrictlySpells shape piece ds → StrictlySpells shape other ds → piece ≡ other }
-    ensures text { (shape : Shape) (piece : List ℕ) (ds : List Datum) → StrictlySpells shape piece ds → Spells shape piece ds × (piece ≡ texts_of (spread shape ds)) }
-    ensures written { (shape : Shape) → IsSound shape → (ds : List Datum) → All (IsOf shape) ds → CountsFit (columns_of shape ds) → LengthsBelowLimit (columns_of shape ds)
+    ensures once { (shape : Shape) (piece other : List ℕ) (ds : List Datum)
+        → StrictlySpells shape piece ds → StrictlySpells shape other ds → piece ≡ other }
+    ensures text { (shape : Shape) (piece : List ℕ) (ds : List Datum)
+        → StrictlySpells shape piece ds → Spells shape piece ds
+        × (piece ≡ texts_of (spread shape ds)) }
+    ensures written { (shape : Shape) → IsSound shape → (ds : List Datum) → All (IsOf shape) ds
+        → CountsFit (columns_of shape ds) → LengthsBelowLimit (columns_of shape ds)
         → StrictlySpells shape (texts_of (spread shape ds)) ds }
 {}

@@ -22,7 +22,8 @@ pub trait AsText: Shaped {
     fn as_text(&self) -> &str
         ensures { Self.lists self.now (text result.now) };
 
-    ghost as_text_columns: { (ds : List Datum) → written_columns Self.shape ds ≡ one (texts None) ds };
+    ghost as_text_columns: { (ds : List Datum)
+        → written_columns Self.shape ds ≡ one (texts None) ds };
 }
 
 impl<'a> AsText for &'a str {

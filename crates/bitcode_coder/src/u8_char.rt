@@ -50,7 +50,8 @@ impl SameArrays for U8Char {
 // returned: through a reference, each push would load and store its length.
 fn push_parts<S, W: Part<S, U8Char>>(items: &[S], which: &W, mut bytes: FastVec<u8>) -> FastVec<u8>
     requires { length items.now ≤ fast_room bytes }
-    ensures written { fast_items result ≡ fast_items bytes ++ map (λ item. (W.of which.now item).0) items.now }
+    ensures written { fast_items result ≡ fast_items bytes ++ map (λ item. (W.of which.now item).0)
+        items.now }
     ensures room { fast_room bytes ≤ fast_room result + length items.now }
 {
     for item in items {

@@ -1,8 +1,10 @@
 //! Packing small entries as digits of bytes.
-ghost use Rattle.std.specs.Prelude.{◌≡◌, ◌+◌, ◌*◌, ◌/◌, ◌%◌, ◌<◌, ◌≤◌, ◌++◌, length, map, take, drop, min, vec_len, vec_capacity, All, ◌⊎◌, IsOk, IfOk, OnOk, IfErr, OnErr};
+ghost use Rattle.std.specs.Prelude.{◌≡◌, ◌+◌, ◌*◌, ◌/◌, ◌%◌, ◌<◌, ◌≤◌, ◌++◌, length, map, take, drop, min, vec_len};
+ghost use Rattle.std.specs.Prelude.{vec_capacity, All, ◌⊎◌, IsOk, IfOk, OnOk, IfErr, OnErr};
 ghost use Rattle.std.specs.List.{range_with_len};
 ghost use Rattle.std.specs.Int.{div_ceil};
-ghost use Rattle.bitcode_columns.specs.Digits.{radix, digits_in_byte, digit, number_with_digits, SpellsDigits, digits_text};
+ghost use Rattle.bitcode_columns.specs.Digits.{radix, digits_in_byte, digit, number_with_digits, SpellsDigits};
+ghost use Rattle.bitcode_columns.specs.Digits.{digits_text};
 ghost use Rattle.bitcode_columns.specs.Reading.{Reads, IsEndOf, Names, digits_fault};
 
 use crate::consume::consume_bytes;
@@ -120,7 +122,8 @@ fn group<T: Digit>(entries: &[T], size: usize, place: usize) -> &[T]
 // kept in a register while they are written.
 #[inline(always)]
 fn push_digits<T: Digit>(base: Base, entries: &[T], mut out: Vec<u8>) -> Vec<u8>
-    requires room { vec_len out + div_ceil (length entries.now) (digits_in_byte base) ≤ vec_capacity out }
+    requires room { vec_len out + div_ceil (length entries.now) (digits_in_byte base) ≤ vec_capacity
+        out }
     requires digits { All (λ entry. T.digit_of entry < radix base) entries.now }
     ensures { result.items ≡ out.items ++ digits_text base (map T.digit_of entries.now) }
 {
@@ -141,7 +144,8 @@ fn push_digits<T: Digit>(base: Base, entries: &[T], mut out: Vec<u8>) -> Vec<u8>
 
 // The same, by a loop for each base: the compiler then knows the radix, and divides and multiplies by no other number.
 fn push_packed<T: Digit>(base: Base, entries: &[T], out: Vec<u8>) -> Vec<u8>
-    requires room { vec_len out + div_ceil (length entries.now) (digits_in_byte base) ≤ vec_capacity out }
+    requires room { vec_len out + div_ceil (length entries.now) (digits_in_byte base) ≤ vec_capacity
+        out }
     requires digits { All (λ entry. T.digit_of entry < radix base) entries.now }
     ensures { result.items ≡ out.items ++ digits_text base (map T.digit_of entries.now) }
 {
@@ -165,10 +169,14 @@ pub(crate) fn pack_digits<T: Digit>(
     out: &mut Vec<u8>,
 ) -> Result<(), Error>
     requires { (base ≡ Base.Whole) ⊎ All (λ entry. T.digit_of entry < radix base) entries.now }
-    ensures written { OnOk result (out.new.items ≡ out.old.items ++ (front.now ++ digits_text base (map T.digit_of entries.now))) }
+    ensures written { OnOk result
+        (out.new.items ≡ out.old.items
+        ++ (front.now ++ digits_text base (map T.digit_of entries.now))) }
     ensures reason { IfErr result (λ e. e.reason ≡ Reason.OutOfMemory) }
     ensures unchanged { OnErr result (out.new.items ≡ out.old.items) }
-    ensures full { OnErr result (vec_capacity out.old < vec_len out.old + length (front.now ++ digits_text base (map T.digit_of entries.now))) }
+    ensures full { OnErr result
+        (vec_capacity out.old < vec_len out.old + length
+        (front.now ++ digits_text base (map T.digit_of entries.now))) }
 {
     let packed = entries.len().div_ceil(base.digits_in_byte());
     out.reserve(packed.saturating_add(front.len()))?;
@@ -188,7 +196,8 @@ fn put_digits_of<T: Digit, const RADIX: u16>(byte: u8, entries: &mut [T])
     requires some { 0 < RADIX }
     requires few { RADIX ≤ 256 }
     requires in_limit { RADIX ≤ T.limit }
-    ensures { map T.digit_of entries.new ≡ map (digit RADIX byte) (range_with_len 0 (length entries.old)) }
+    ensures { map T.digit_of entries.new ≡ map (digit RADIX byte)
+        (range_with_len 0 (length entries.old)) }
 {
     let mut rest = u16::from(byte);
     for place in 0..entries.len() {
@@ -203,7 +212,8 @@ fn put_byte<T: Digit, const RADIX: u16>(byte: u8, entries: &mut [T])
     requires few { RADIX ≤ 256 }
     requires in_limit { RADIX ≤ T.limit }
     requires bits { RADIX ≡ 2 → length entries.old ≡ 8 }
-    ensures { map T.digit_of entries.new ≡ map (digit RADIX byte) (range_with_len 0 (length entries.old)) }
+    ensures { map T.digit_of entries.new ≡ map (digit RADIX byte)
+        (range_with_len 0 (length entries.old)) }
 {
     if RADIX == 2 {
         T::put_bits(byte, entries);
@@ -261,7 +271,8 @@ fn unpacked_digits<T: Digit>(
     requires size { length packed.now ≡ div_ceil count (digits_in_byte base) }
     requires in_limit { radix base ≤ T.limit }
     ensures size { IfOk result (λ entries. vec_len entries ≡ count) }
-    ensures spelled { IfOk result (λ entries. SpellsDigits base packed.now (map T.digit_of entries.items)) }
+    ensures spelled { IfOk result
+        (λ entries. SpellsDigits base packed.now (map T.digit_of entries.items)) }
     ensures empty { count ≡ 0 → IsOk result }
 {
     let mut entries = Vec::with_capacity(alloc, count)?;
@@ -280,7 +291,9 @@ pub(crate) fn unpack_digits<T: Digit>(
     count: usize,
 ) -> Result<Vec<T>, Error>
     requires { radix base ≤ T.limit }
-    ensures read { IfOk result (λ entries. Reads (λ bytes read. SpellsDigits base bytes (map T.digit_of read)) count input.old.now entries.items input.new.now) }
+    ensures read { IfOk result
+        (λ entries. Reads (λ bytes read. SpellsDigits base bytes (map T.digit_of read)) count
+        input.old.now entries.items input.new.now) }
     ensures refused { IfErr result (λ e. Names e.reason (digits_fault base count input.old.now)) }
     ensures rest { OnErr result (IsEndOf input.old.now input.new.now) }
     ensures empty { count ≡ 0 → IsOk result }

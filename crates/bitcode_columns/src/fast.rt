@@ -1,7 +1,8 @@
 //! Lists with reserved room, and lists that are read front to back.
 #![tactic(auto, unfolding(crate::specs::Fast::slice_rest, crate::specs::Fast::cow_rest, crate::specs::Fast::cow_owned))]
 
-ghost use Rattle.std.specs.Prelude.{◌≡◌, ℕ, ◌+◌, ◌<◌, ◌≤◌, List, [], ◌∷◌, ◌++◌, length, take, drop, IsOk, IfOk, IfErr, MatchOption};
+ghost use Rattle.std.specs.Prelude.{◌≡◌, ℕ, ◌+◌, ◌<◌, ◌≤◌, List, [], ◌∷◌, ◌++◌, length, take, drop, IsOk, IfOk, IfErr};
+ghost use Rattle.std.specs.Prelude.{MatchOption};
 ghost use Rattle.std.specs.Borrow.{sem};
 ghost use Rattle.bitcode_columns.specs.Fast.{slice_rest, held_items, cow_rest, cow_owned};
 ghost use Rattle.bitcode_columns.specs.Lending.{EndsBehind};
@@ -119,7 +120,9 @@ impl<'a, T> Held<'a, T> {
 
     // Gives out the list that is held, if there is one and it has so many items. Nothing is held then.
     fn give_list(&mut self, len: usize) -> Option<Vec<T>>
-        ensures { MatchOption result (held_items self.new ≡ held_items self.old) (λ vec. (held_items self.new ≡ []) × (vec.items ≡ held_items self.old) × (length (held_items self.old) ≡ len)) }
+        ensures { MatchOption result (held_items self.new ≡ held_items self.old)
+            (λ vec. (held_items self.new ≡ []) × (vec.items ≡ held_items self.old)
+            × (length (held_items self.old) ≡ len)) }
     {
         match self {
             Held::Owned(vec) if vec.len() == len => {

@@ -57,7 +57,8 @@ fn count_in_tables(bytes: &[u8]) -> [usize; 256]
 #[inline(always)]
 fn count_each(bytes: &[u8], tables: &mut Tables)
     requires { (value : ℕ) → value < 256 → counted tables.old value + length bytes.now < 2 ^ 64 }
-    ensures { (value : ℕ) → value < 256 → counted tables.new value ≡ counted tables.old value + count_of value bytes.now }
+    ensures { (value : ℕ) → value < 256
+        → counted tables.new value ≡ counted tables.old value + count_of value bytes.now }
 {
     for place in 0..bytes.len() {
         let byte = bytes[place] as usize;

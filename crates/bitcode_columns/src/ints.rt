@@ -1,5 +1,7 @@
 //! The integers that columns hold: as numbers, as residues and as bytes.
-ghost use Rattle.std.specs.Prelude.{◌≡◌, ℕ, ◌+◌, ◌-◌, ◌*◌, ◌%◌, ◌^◌, ◌<◌, ◌≤◌, ℤ, int_lt, ◌↔◌, Bool, List, ◌++◌, length, take, drop, map, All, vec_len, vec_capacity, IsOk, IsErr, IfOk, OnOk, IfErr, OnErr};
+ghost use Rattle.std.specs.Prelude.{◌≡◌, ℕ, ◌+◌, ◌-◌, ◌*◌, ◌%◌, ◌^◌, ◌<◌, ◌≤◌, ℤ, int_lt, ◌↔◌, Bool, List, ◌++◌};
+ghost use Rattle.std.specs.Prelude.{length, take, drop, map, All, vec_len, vec_capacity, IsOk, IsErr, IfOk, OnOk};
+ghost use Rattle.std.specs.Prelude.{IfErr, OnErr};
 ghost use Rattle.bitcode_columns.specs.IntWidths.{IsWidth};
 ghost use Rattle.bitcode_columns.specs.LittleEndian.{little_endian, number_bytes, SpellsRaw};
 ghost use Rattle.bitcode_columns.specs.IntRange.{least_number, greatest_number};
@@ -45,14 +47,16 @@ pub trait SizedUInt: Copy {
         ensures refused { IsErr result ↔ (length input.old.now < width) }
         ensures reason { IfErr result (λ e. e.reason ≡ Reason.Eof) }
         ensures unchanged { OnErr result (input.new.now ≡ input.old.now) }
-        ensures taken { IfOk result (λ number. value number ≡ little_endian (take width input.old.now)) }
+        ensures taken { IfOk result
+            (λ number. value number ≡ little_endian (take width input.old.now)) }
         ensures rest { OnOk result (input.new.now ≡ drop width input.old.now) };
 
     /// Appends the bytes of the number, the lowest first.
     ///
     /// If an allocation fails, the error is `out of memory` and `out` is unchanged.
     fn write(self, out: &mut Vec<u8>) -> Result<(), Error>
-        ensures written { OnOk result (out.new.items ≡ out.old.items ++ number_bytes width (value self)) }
+        ensures written { OnOk result
+            (out.new.items ≡ out.old.items ++ number_bytes width (value self)) }
         ensures unchanged { OnErr result (out.new.items ≡ out.old.items) }
         ensures reason { IfErr result (λ e. e.reason ≡ Reason.OutOfMemory) }
         ensures succeeds { vec_len out.old + width ≤ vec_capacity out.old → IsOk result }
@@ -132,7 +136,9 @@ pub trait Int: Copy {
         ensures reason { IfErr result (λ e. e.reason ≡ Reason.Eof) }
         ensures unchanged { OnErr result (input.new.now ≡ input.old.now) }
         ensures size { IfOk result (λ entries. length entries.now ≡ count) }
-        ensures spelled { IfOk result (λ entries. SpellsRaw width (take (count * width) input.old.now) (map (λ e. little_endian (une_bytes e)) entries.now)) }
+        ensures spelled { IfOk result
+            (λ entries. SpellsRaw width (take (count * width) input.old.now)
+            (map (λ e. little_endian (une_bytes e)) entries.now)) }
         ensures rest { OnOk result (input.new.now ≡ drop (count * width) input.old.now) };
 
     ghost width_law: { IsWidth width };
@@ -152,7 +158,8 @@ pub trait SizedInt: Int {
 
     ghost MAX: { Self };
 
-    ghost bounds_law: { (Self.number MIN ≡ least_number Self.width Self.signed) × (Self.number MAX ≡ greatest_number Self.width Self.signed) };
+    ghost bounds_law: { (Self.number MIN ≡ least_number Self.width Self.signed)
+        × (Self.number MAX ≡ greatest_number Self.width Self.signed) };
 }
 
 /// A [`SizedInt`] of one byte: `u8` or `i8`.
@@ -169,7 +176,8 @@ pub trait Byte: SizedInt {
     /// Appends the bytes of the numbers. The caller must have reserved the room.
     fn push_bytes(numbers: &[Self], out: &mut Vec<u8>)
         requires { vec_len out.old + length numbers.now ≤ vec_capacity out.old }
-        ensures { out.new.items ≡ out.old.items ++ map (λ n. residue 1 (Self.number n)) numbers.now };
+        ensures { out.new.items ≡ out.old.items ++ map (λ n. residue 1 (Self.number n))
+            numbers.now };
 
     ghost byte_law: { Self.width ≡ 1 };
 }
@@ -190,7 +198,8 @@ fn consume_numbers<'a, const N: usize>(
     ensures reason { IfErr result (λ e. e.reason ≡ Reason.Eof) }
     ensures unchanged { OnErr result (input.new.now ≡ input.old.now) }
     ensures size { IfOk result (λ entries. length entries.now ≡ count) }
-    ensures spelled { IfOk result (λ entries. SpellsRaw N (take (count * N) input.old.now) (map little_endian entries.now)) }
+    ensures spelled { IfOk result
+        (λ entries. SpellsRaw N (take (count * N) input.old.now) (map little_endian entries.now)) }
     ensures rest { OnOk result (input.new.now ≡ drop (count * N) input.old.now) }
 {
     known_bytes(input);

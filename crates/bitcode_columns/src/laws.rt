@@ -4,14 +4,16 @@ ghost use Rattle.bitcode_columns.specs.BoolColumn.{SpellsBools, bool_text};
 ghost use Rattle.bitcode_columns.specs.ByteColumn.{SpellsBytes, byte_text};
 ghost use Rattle.bitcode_columns.specs.IntWidths.{IsWidth};
 ghost use Rattle.bitcode_columns.specs.IntColumn.{SpellsInts, int_text};
-ghost use Rattle.bitcode_columns.specs.Laws.{IsReadOnce, TakesAnEighth, IsFaultOf, TakesAtMostOneMore, ReadsBack, NumbersAreFound};
+ghost use Rattle.bitcode_columns.specs.Laws.{IsReadOnce, TakesAnEighth, IsFaultOf, TakesAtMostOneMore, ReadsBack};
+ghost use Rattle.bitcode_columns.specs.Laws.{NumbersAreFound};
 ghost use Rattle.bitcode_columns.specs.Reading.{Reads, bools_fault, bytes_fault, variants_fault, ints_fault};
 ghost use Rattle.bitcode_columns.specs.VariantColumn.{SpellsVariants, variant_text};
 
 /// Bool columns. What is written is read back, whatever follows. An input is read in at most one way. An empty column
 /// has no bytes, and `k` entries have at least `k / 8`. A fault is reported only where nothing can be read.
 pub fn bool_columns()
-    ensures round_trip { (entries : List Bool) (rest : List ℕ) → Reads SpellsBools (length entries) (bool_text entries ++ rest) entries rest }
+    ensures round_trip { (entries : List Bool) (rest : List ℕ)
+        → Reads SpellsBools (length entries) (bool_text entries ++ rest) entries rest }
     ensures unambiguous { IsReadOnce SpellsBools }
     ensures size_bound { TakesAnEighth SpellsBools }
     ensures refused { IsFaultOf bools_fault SpellsBools }
@@ -28,15 +30,20 @@ pub fn byte_columns()
 
 /// Columns of 2 to 256 variants: the same as bool columns.
 pub fn variant_columns()
-    ensures round_trip { (variants : ℕ) (entries rest : List ℕ) → 2 ≤ variants → variants ≤ 256 → All (λ entry. entry < variants) entries → Reads (SpellsVariants variants) (length entries) (variant_text variants entries ++ rest) entries rest }
+    ensures round_trip { (variants : ℕ) (entries rest : List ℕ) → 2 ≤ variants → variants ≤ 256
+        → All (λ entry. entry < variants) entries
+        → Reads (SpellsVariants variants) (length entries) (variant_text variants entries ++ rest)
+        entries rest }
     ensures unambiguous { (variants : ℕ) → IsReadOnce (SpellsVariants variants) }
     ensures size_bound { (variants : ℕ) → TakesAnEighth (SpellsVariants variants) }
-    ensures refused { (variants : ℕ) → IsFaultOf (variants_fault variants) (SpellsVariants variants) }
+    ensures refused { (variants : ℕ) → IsFaultOf (variants_fault variants)
+        (SpellsVariants variants) }
 {}
 
 /// Integer columns of 1, 2, 4, 8 and 16 bytes: the same as byte columns, and an entry's residue determines its number.
 pub fn int_columns()
-    ensures round_trip { (width : ℕ) → IsWidth width → ReadsBack width (SpellsInts width) (int_text width) }
+    ensures round_trip { (width : ℕ) → IsWidth width
+        → ReadsBack width (SpellsInts width) (int_text width) }
     ensures unambiguous { (width : ℕ) → IsReadOnce (SpellsInts width) }
     ensures size_bound { (width : ℕ) → IsWidth width → TakesAnEighth (SpellsInts width) }
     ensures refused { (width : ℕ) → IsFaultOf (ints_fault width) (SpellsInts width) }

@@ -8,7 +8,8 @@ use crate::ints::{Int, SizedInt};
 pub(crate) fn bounds<T: Int>(entries: &[T]) -> Option<(T, T)>
     ensures variant { IsSome result ↔ (0 < length entries.now) }
     ensures least { IfSome result (λ pair. T.number pair.0 ≡ least (map T.number entries.now)) }
-    ensures greatest { IfSome result (λ pair. T.number pair.1 ≡ greatest (map T.number entries.now)) }
+    ensures greatest { IfSome result
+        (λ pair. T.number pair.1 ≡ greatest (map T.number entries.now)) }
     ensures in_range { All (λ e. IsNumber T.width T.signed (T.number e)) entries.now }
 {
     let (first, rest) = entries.split_first()?;
@@ -33,7 +34,8 @@ pub(crate) fn bounds<T: Int>(entries: &[T]) -> Option<(T, T)>
 pub fn minmax<T: SizedInt>(values: &[T]) -> (T, T)
     ensures none { values.now ≡ [] → result ≡ (T.MAX, T.MIN) }
     ensures least { 0 < length values.now → T.number result.0 ≡ least (map T.number values.now) }
-    ensures greatest { 0 < length values.now → T.number result.1 ≡ greatest (map T.number values.now) }
+    ensures greatest { 0 < length values.now
+        → T.number result.1 ≡ greatest (map T.number values.now) }
 {
     match bounds(values) {
         Some(bounds) => bounds,

@@ -121,7 +121,8 @@ pub fn pack_bools(bools: &[bool], out: &mut Vec<u8>) -> Result<(), Error>
     ensures written { OnOk result (out.new.items ≡ out.old.items ++ bool_text bools.now) }
     ensures reason { IfErr result (λ e. e.reason ≡ Reason.OutOfMemory) }
     ensures unchanged { OnErr result (out.new.items ≡ out.old.items) }
-    ensures full { OnErr result (vec_capacity out.old < vec_len out.old + length (bool_text bools.now)) }
+    ensures full { OnErr result
+        (vec_capacity out.old < vec_len out.old + length (bool_text bools.now)) }
 {
     pack_digits(&[], Base::Two, bools, out)
 }
@@ -144,7 +145,8 @@ pub fn unpack_bools<'a>(
     count: usize,
     out: &mut CowSlice<'a, bool>,
 ) -> Result<(), Error>
-    ensures read { OnOk result (Reads SpellsBools count input.old.now (cow_rest out.new) input.new.now) }
+    ensures read { OnOk result
+        (Reads SpellsBools count input.old.now (cow_rest out.new) input.new.now) }
     ensures refused { IfErr result (λ e. Names e.reason (bools_fault count input.old.now)) }
     ensures rest { OnErr result (IsEndOf input.old.now input.new.now) }
     ensures empty { count ≡ 0 → IsOk result }

@@ -1,5 +1,7 @@
 //! Reading a column and checking whether its bytes are those that `encode` would write for its entries.
-ghost use Rattle.std.specs.Prelude.{◌≡◌, ◌≢◌, ◌↔◌, ℕ, ℤ, [], ◌∷◌, ◌+◌, ◌-◌, ◌*◌, ◌≤ℤ◌, IsSome, IfSome, ◌⊎◌, sum, ◌^◌, ◌<◌, ◌≤◌, ◌++◌, List, All, length, map, MatchBool, MatchOption, pos, IsTrue, IsOk, IfOk, OnOk, IfErr, OnErr};
+ghost use Rattle.std.specs.Prelude.{◌≡◌, ◌≢◌, ◌↔◌, ℕ, ℤ, [], ◌∷◌, ◌+◌, ◌-◌, ◌*◌, ◌≤ℤ◌, IsSome, IfSome, ◌⊎◌, sum, ◌^◌};
+ghost use Rattle.std.specs.Prelude.{◌<◌, ◌≤◌, ◌++◌, List, All, length, map, MatchBool, MatchOption, pos, IsTrue, IsOk};
+ghost use Rattle.std.specs.Prelude.{IfOk, OnOk, IfErr, OnErr};
 ghost use Rattle.std.specs.Int.{div_ceil};
 ghost use Rattle.bitcode_columns.specs.BoolColumn.{SpellsBools, bool_text};
 ghost use Rattle.bitcode_columns.specs.ByteColumn.{SpellsBytes, byte_text, level_of_base};
@@ -7,7 +9,8 @@ ghost use Rattle.bitcode_columns.specs.Digits.{SpellsDigits, digits_text, radix,
 ghost use Rattle.bitcode_columns.specs.IntColumn.{SpellsInts, SpellsNarrow, int_text, narrow_text};
 ghost use Rattle.bitcode_columns.specs.LittleEndian.{little_endian, number_bytes};
 ghost use Rattle.bitcode_columns.specs.Fast.{cow_rest};
-ghost use Rattle.bitcode_columns.specs.Reading.{Reads, IsEndOf, Names, NamesVariantFault, bools_fault, bytes_fault, bytes_stand_raw, variants_stand_raw, ints_fault, ints_stand_raw};
+ghost use Rattle.bitcode_columns.specs.Reading.{Reads, IsEndOf, Names, NamesVariantFault, bools_fault, bytes_fault};
+ghost use Rattle.bitcode_columns.specs.Reading.{bytes_stand_raw, variants_stand_raw, ints_fault, ints_stand_raw};
 ghost use Rattle.bitcode_columns.specs.Histogram.{AreCounts};
 ghost use Rattle.bitcode_columns.specs.VariantColumn.{SpellsVariants, variant_text};
 ghost use Rattle.bitcode_columns.specs.WrittenDigits.{UsesNoMore, IsPacked};
@@ -40,7 +43,8 @@ fn limit_of(base: Base, digits: usize) -> u16
 
 // Whether all bytes are below the limit.
 fn all_below(bytes: &[u8], limit: u16) -> bool
-    ensures { MatchBool result (All (λ byte. byte < limit) bytes.now) (All (λ byte. byte < limit) bytes.now → ⊥) }
+    ensures { MatchBool result (All (λ byte. byte < limit) bytes.now)
+        (All (λ byte. byte < limit) bytes.now → ⊥) }
 {
     bytes.iter().all(|byte| u16::from(*byte) < limit)
 }
@@ -48,7 +52,8 @@ fn all_below(bytes: &[u8], limit: u16) -> bool
 // Whether the bytes of so many digits have nothing above them.
 fn use_no_more(base: Base, packed: &[u8], count: usize) -> bool
     requires { length packed.now ≡ div_ceil count (digits_in_byte base) }
-    ensures { MatchBool result (UsesNoMore base count packed.now) (UsesNoMore base count packed.now → ⊥) }
+    ensures { MatchBool result (UsesNoMore base count packed.now)
+        (UsesNoMore base count packed.now → ⊥) }
 {
     let in_byte = base.digits_in_byte();
     let (whole, last) = packed.split_at(count / in_byte);
@@ -65,7 +70,8 @@ pub(crate) fn is_digits_text<T: Digit>(base: Base, packed: &[u8], entries: &[T])
 
 // Whether bytes are a plain tag of the base and, behind it, so many digits.
 fn stand_plain(base: Base, packed: &[u8], count: usize) -> bool
-    ensures { MatchBool result (IsPacked (2 * level_of_base base ∷ []) base count packed.now) (IsPacked (2 * level_of_base base ∷ []) base count packed.now → ⊥) }
+    ensures { MatchBool result (IsPacked (2 * level_of_base base ∷ []) base count packed.now)
+        (IsPacked (2 * level_of_base base ∷ []) base count packed.now → ⊥) }
 {
     let Some((tag, body)) = packed.split_first() else {
         return false;
@@ -78,7 +84,9 @@ fn stand_plain(base: Base, packed: &[u8], count: usize) -> bool
 // Whether bytes are a shifted tag of the base, the least entry and, behind it, so many digits.
 fn stand_shifted(base: Base, least: u8, packed: &[u8], count: usize) -> bool
     requires { 0 < level_of_base base }
-    ensures { MatchBool result (IsPacked ((2 * level_of_base base - 1) ∷ (least ∷ [])) base count packed.now) (IsPacked ((2 * level_of_base base - 1) ∷ (least ∷ [])) base count packed.now → ⊥) }
+    ensures { MatchBool result
+        (IsPacked ((2 * level_of_base base - 1) ∷ (least ∷ [])) base count packed.now)
+        (IsPacked ((2 * level_of_base base - 1) ∷ (least ∷ [])) base count packed.now → ⊥) }
 {
     let Some((tag, behind)) = packed.split_first() else {
         return false;
@@ -96,8 +104,10 @@ fn stand_shifted(base: Base, least: u8, packed: &[u8], count: usize) -> bool
 // only the least and the greatest.
 fn is_bytes_text<T: Byte>(packed: &[u8], count: usize, low: T, high: T) -> bool
     requires { T.number low ≤ℤ T.number high }
-    ensures { (entries : List ℤ) → length entries ≡ count → All (IsNumber 1 T.signed) entries → least entries ≡ T.number low → greatest entries ≡ T.number high
-        → SpellsBytes packed.now (map (residue 1) entries) → (IsTrue result ↔ (packed.now ≡ byte_text entries)) }
+    ensures { (entries : List ℤ) → length entries ≡ count → All (IsNumber 1 T.signed) entries
+        → least entries ≡ T.number low → greatest entries ≡ T.number high
+        → SpellsBytes packed.now (map (residue 1) entries)
+        → (IsTrue result ↔ (packed.now ≡ byte_text entries)) }
 {
     if count <= MOST_WITHOUT_TAG {
         return true;
@@ -114,8 +124,10 @@ fn is_bytes_text<T: Byte>(packed: &[u8], count: usize, low: T, high: T) -> bool
 // The least and the greatest of the numbers with these bytes, if there are any.
 fn byte_bounds<T: Byte>(bytes: &[u8]) -> Option<(T, T)>
     ensures variant { IsSome result ↔ (0 < length bytes.now) }
-    ensures least { IfSome result (λ pair. T.number pair.0 ≡ least (map (number_of 1 T.signed) bytes.now)) }
-    ensures greatest { IfSome result (λ pair. T.number pair.1 ≡ greatest (map (number_of 1 T.signed) bytes.now)) }
+    ensures least { IfSome result
+        (λ pair. T.number pair.0 ≡ least (map (number_of 1 T.signed) bytes.now)) }
+    ensures greatest { IfSome result
+        (λ pair. T.number pair.1 ≡ greatest (map (number_of 1 T.signed) bytes.now)) }
 {
     let (first, rest) = bytes.split_first()?;
     let mut least = T::from_byte(*first);
@@ -149,8 +161,11 @@ pub fn read_bools<'a>(
     out: &mut CowSlice<'a, bool>,
     strict: bool,
 ) -> Result<bool, Error>
-    ensures read { OnOk result (Reads SpellsBools count input.old.now (cow_rest out.new) input.new.now) }
-    ensures judged { IsTrue strict → IfOk result (λ written. IsTrue written ↔ (input.old.now ≡ bool_text (cow_rest out.new) ++ input.new.now)) }
+    ensures read { OnOk result
+        (Reads SpellsBools count input.old.now (cow_rest out.new) input.new.now) }
+    ensures judged { IsTrue strict → IfOk result
+        (λ written. IsTrue written
+        ↔ (input.old.now ≡ bool_text (cow_rest out.new) ++ input.new.now)) }
     ensures refused { IfErr result (λ e. Names e.reason (bools_fault count input.old.now)) }
     ensures rest { OnErr result (IsEndOf input.old.now input.new.now) }
     ensures empty { count ≡ 0 → IsOk result }
@@ -172,11 +187,16 @@ pub fn read_bytes<'a, T: Byte>(
     out: &mut CowSlice<'a, u8>,
     strict: bool,
 ) -> Result<bool, Error>
-    ensures read { OnOk result (Reads SpellsBytes count input.old.now (cow_rest out.new) input.new.now) }
-    ensures judged { IsTrue strict → IfOk result (λ written. IsTrue written ↔ (input.old.now ≡ byte_text (map (number_of 1 T.signed) (cow_rest out.new)) ++ input.new.now)) }
+    ensures read { OnOk result
+        (Reads SpellsBytes count input.old.now (cow_rest out.new) input.new.now) }
+    ensures judged { IsTrue strict → IfOk result
+        (λ written. IsTrue written
+        ↔ (input.old.now ≡ byte_text (map (number_of 1 T.signed) (cow_rest out.new))
+        ++ input.new.now)) }
     ensures refused { IfErr result (λ e. Names e.reason (bytes_fault count input.old.now)) }
     ensures rest { OnErr result (IsEndOf input.old.now input.new.now) }
-    ensures raw { IsTrue (bytes_stand_raw count input.old.now) → IfErr result (λ e. e.reason ≢ Reason.OutOfMemory) }
+    ensures raw { IsTrue (bytes_stand_raw count input.old.now)
+        → IfErr result (λ e. e.reason ≢ Reason.OutOfMemory) }
 {
     let before = *input;
     unpack_bytes(alloc, input, count, out)?;
@@ -203,13 +223,17 @@ pub fn read_variants<'a, const N: usize, const H: usize>(
     strict: bool,
 ) -> Result<([usize; H], bool), Error>
     requires { (H ≡ N) ⊎ (H ≡ 0) }
-    ensures read { OnOk result (Reads (SpellsVariants N) count input.old.now (cow_rest out.new) input.new.now) }
-    ensures judged { IsTrue strict → IfOk result (λ read. IsTrue read.1 ↔ (input.old.now ≡ variant_text N (cow_rest out.new) ++ input.new.now)) }
+    ensures read { OnOk result
+        (Reads (SpellsVariants N) count input.old.now (cow_rest out.new) input.new.now) }
+    ensures judged { IsTrue strict → IfOk result
+        (λ read. IsTrue read.1
+        ↔ (input.old.now ≡ variant_text N (cow_rest out.new) ++ input.new.now)) }
     ensures counts { IfOk result (λ read. AreCounts H (cow_rest out.new) read.0) }
     ensures total { IfOk result (λ read. H ≡ N → sum read.0 ≡ count) }
     ensures refused { IfErr result (λ e. NamesVariantFault e.reason N count input.old.now) }
     ensures rest { OnErr result (IsEndOf input.old.now input.new.now) }
-    ensures raw { IsTrue (variants_stand_raw N count) → IfErr result (λ e. e.reason ≢ Reason.OutOfMemory) }
+    ensures raw { IsTrue (variants_stand_raw N count)
+        → IfErr result (λ e. e.reason ≢ Reason.OutOfMemory) }
 {
     let before = *input;
     let counts = unpack_bytes_less_than::<N, H>(alloc, input, count, out)?;
@@ -223,7 +247,8 @@ pub fn read_variants<'a, const N: usize, const H: usize>(
 
 // The bytes after a tag, if they begin with it.
 fn behind_tag(packed: &[u8], tag: u8) -> Option<&[u8]>
-    ensures { MatchOption result ((body : List ℕ) → packed.now ≡ tag ∷ body → ⊥) (λ body. packed.now ≡ tag ∷ body.now) }
+    ensures { MatchOption result ((body : List ℕ) → packed.now ≡ tag ∷ body → ⊥)
+        (λ body. packed.now ≡ tag ∷ body.now) }
 {
     let (first, body) = packed.split_first()?;
     if *first == tag { Some(body) } else { None }
@@ -231,7 +256,9 @@ fn behind_tag(packed: &[u8], tag: u8) -> Option<&[u8]>
 
 // The bytes after the least entry, if they begin with it.
 fn behind_least<T: Int>(behind: &[u8], least: T) -> Option<&[u8]>
-    ensures { MatchOption result ((body : List ℕ) → behind.now ≡ number_bytes T.width (residue T.width (T.number least)) ++ body → ⊥)
+    ensures { MatchOption result
+        ((body : List ℕ) → behind.now ≡ number_bytes T.width (residue T.width (T.number least))
+        ++ body → ⊥)
         (λ body. behind.now ≡ number_bytes T.width (residue T.width (T.number least)) ++ body.now) }
 {
     known_bytes(behind);
@@ -251,8 +278,10 @@ fn behind_least<T: Int>(behind: &[u8], least: T) -> Option<&[u8]>
 fn is_narrow_text(body: &[u8], count: usize, width: usize, low: u128, high: u128) -> bool
     requires { width ≡ 1 → (low ≤ high) × (high < 256) }
     ensures { (numbers : List ℕ) → length numbers ≡ count → All (λ n. n < 256 ^ width) numbers
-        → (width ≡ 1 → (least (map pos numbers) ≡ pos low) × (greatest (map pos numbers) ≡ pos high))
-        → SpellsNarrow width body.now numbers → (IsTrue result ↔ (body.now ≡ narrow_text width numbers)) }
+        → (width ≡ 1 → (least (map pos numbers) ≡ pos low)
+        × (greatest (map pos numbers) ≡ pos high))
+        → SpellsNarrow width body.now numbers
+        → (IsTrue result ↔ (body.now ≡ narrow_text width numbers)) }
 {
     if width != 1 {
         return true;
@@ -265,8 +294,10 @@ fn is_narrow_text(body: &[u8], count: usize, width: usize, low: u128, high: u128
 fn is_ints_text<T: Int>(packed: &[u8], count: usize, low: T, high: T) -> bool
     requires order { T.number low ≤ℤ T.number high }
     requires wide { 2 ≤ T.width }
-    ensures { (entries : List ℤ) → length entries ≡ count → All (IsNumber T.width T.signed) entries → least entries ≡ T.number low → greatest entries ≡ T.number high
-        → SpellsInts T.width packed.now (map (residue T.width) entries) → (IsTrue result ↔ (packed.now ≡ int_text T.width entries)) }
+    ensures { (entries : List ℤ) → length entries ≡ count → All (IsNumber T.width T.signed) entries
+        → least entries ≡ T.number low → greatest entries ≡ T.number high
+        → SpellsInts T.width packed.now (map (residue T.width) entries)
+        → (IsTrue result ↔ (packed.now ≡ int_text T.width entries)) }
 {
     if is_bare(T::width(), count) {
         return true;
@@ -297,8 +328,12 @@ fn is_ints_text<T: Int>(packed: &[u8], count: usize, low: T, high: T) -> bool
 // The least and the greatest of the integers of these bytes, if there are any.
 fn int_bounds<T: Int>(entries: &[T::Une]) -> Option<(T, T)>
     ensures variant { IsSome result ↔ (0 < length entries.now) }
-    ensures least { IfSome result (λ pair. T.number pair.0 ≡ least (map (λ u. number_of T.width T.signed (little_endian (T.une_bytes u))) entries.now)) }
-    ensures greatest { IfSome result (λ pair. T.number pair.1 ≡ greatest (map (λ u. number_of T.width T.signed (little_endian (T.une_bytes u))) entries.now)) }
+    ensures least { IfSome result
+        (λ pair. T.number pair.0 ≡ least
+        (map (λ u. number_of T.width T.signed (little_endian (T.une_bytes u))) entries.now)) }
+    ensures greatest { IfSome result
+        (λ pair. T.number pair.1 ≡ greatest
+        (map (λ u. number_of T.width T.signed (little_endian (T.une_bytes u))) entries.now)) }
 {
     let (first, rest) = entries.split_first()?;
     let mut least = T::from_unaligned(*first);
@@ -326,12 +361,21 @@ pub fn read_ints<'a, T: Int>(
     strict: bool,
 ) -> Result<bool, Error>
     requires { 2 ≤ T.width }
-    ensures read { OnOk result (Reads (SpellsInts T.width) count input.old.now (map (λ u. little_endian (T.une_bytes u)) (cow_rest out.new)) input.new.now) }
-    ensures in_width { OnOk result (All (λ n. n < 256 ^ T.width) (map (λ u. little_endian (T.une_bytes u)) (cow_rest out.new))) }
-    ensures judged { IsTrue strict → IfOk result (λ written. IsTrue written ↔ (input.old.now ≡ int_text T.width (map (λ u. number_of T.width T.signed (little_endian (T.une_bytes u))) (cow_rest out.new)) ++ input.new.now)) }
+    ensures read { OnOk result
+        (Reads (SpellsInts T.width) count input.old.now
+        (map (λ u. little_endian (T.une_bytes u)) (cow_rest out.new)) input.new.now) }
+    ensures in_width { OnOk result
+        (All (λ n. n < 256 ^ T.width)
+        (map (λ u. little_endian (T.une_bytes u)) (cow_rest out.new))) }
+    ensures judged { IsTrue strict → IfOk result
+        (λ written. IsTrue written
+        ↔ (input.old.now ≡ int_text T.width
+        (map (λ u. number_of T.width T.signed (little_endian (T.une_bytes u))) (cow_rest out.new))
+        ++ input.new.now)) }
     ensures refused { IfErr result (λ e. Names e.reason (ints_fault T.width count input.old.now)) }
     ensures rest { OnErr result (IsEndOf input.old.now input.new.now) }
-    ensures raw { IsTrue (ints_stand_raw T.width count input.old.now) → IfErr result (λ e. e.reason ≢ Reason.OutOfMemory) }
+    ensures raw { IsTrue (ints_stand_raw T.width count input.old.now)
+        → IfErr result (λ e. e.reason ≢ Reason.OutOfMemory) }
 {
     let before = *input;
     unpack_ints::<T>(alloc, input, count, out)?;

@@ -3,7 +3,8 @@ ghost use Rattle.std.specs.Prelude.{◌≡◌, ◌≢◌, IfOk, IfErr, vec_capac
 ghost use Rattle.bitcode_shapes.specs.Datum.{Datum};
 ghost use Rattle.bitcode_coder.specs.Coder.{IsWritingRefusal, IsReadingReason};
 ghost use Rattle.bitcode_derive.specs.Strict.{IsStrictDecodingOf, IsStrictRefusal};
-ghost use Rattle.bitcode_derive.specs.Whole.{IsEncodingOf, HasLongListing, IsDecodingOf, SpellsDatum, SpellsAtMostOne, IsBoundedByBytes, NamesWholeFault};
+ghost use Rattle.bitcode_derive.specs.Whole.{IsEncodingOf, HasLongListing, IsDecodingOf, SpellsDatum, SpellsAtMostOne};
+ghost use Rattle.bitcode_derive.specs.Whole.{IsBoundedByBytes, NamesWholeFault};
 
 use crate::derive::{HasDecoder, HasEncoder};
 use crate::whole;
@@ -55,7 +56,8 @@ where
     /// ```
     pub fn encode(&mut self, t: &T) -> Result<&[u8], Error>
         ensures written { IfOk result (λ bytes. IsEncodingOf T.lists T.shape t.now bytes.now) }
-        ensures refused { IfErr result (λ e. IsWritingRefusal e.reason (HasLongListing T.lists T.shape t.now)) }
+        ensures refused { IfErr result
+            (λ e. IsWritingRefusal e.reason (HasLongListing T.lists T.shape t.now)) }
     {
         self.encoder.clear();
         self.bytes.clear();
@@ -81,8 +83,12 @@ where
         ensures unambiguous { SpellsAtMostOne T.shape bytes.now }
         ensures bounded { IsBoundedByBytes T.shape bytes.now }
         ensures reasons { IfErr result (λ e. IsReadingReason e.reason) }
-        ensures refused { IfErr result (λ e. e.reason ≢ Reason.OutOfMemory → (d : Datum) → SpellsDatum T.shape bytes.now d → ⊥) }
-        ensures exact { IfErr result (λ e. NamesWholeFault T.Decoder.faults T.Decoder.makes_free T.Decoder.shape e.reason bytes.now) }
+        ensures refused { IfErr result
+            (λ e. e.reason ≢ Reason.OutOfMemory → (d : Datum) → SpellsDatum T.shape bytes.now d
+            → ⊥) }
+        ensures exact { IfErr result
+            (λ e. NamesWholeFault T.Decoder.faults T.Decoder.makes_free T.Decoder.shape e.reason
+            bytes.now) }
     {
         whole::decode(self.alloc, bytes)
     }
@@ -103,7 +109,10 @@ where
         ensures unambiguous { SpellsAtMostOne T.shape bytes.now }
         ensures bounded { IsBoundedByBytes T.shape bytes.now }
         ensures refused { IfErr result (λ e. IsStrictRefusal T.shape e.reason bytes.now) }
-        ensures exact { IfErr result (λ e. e.reason ≢ Reason.NotTheWrittenText → NamesWholeFault T.Decoder.faults T.Decoder.makes_free T.Decoder.shape e.reason bytes.now) }
+        ensures exact { IfErr result
+            (λ e. e.reason ≢ Reason.NotTheWrittenText
+            → NamesWholeFault T.Decoder.faults T.Decoder.makes_free T.Decoder.shape e.reason
+            bytes.now) }
     {
         whole::decode_strict(self.alloc, bytes)
     }

@@ -7,7 +7,8 @@ ghost use Rattle.bitcode_coder.specs.Columns.{CountsFit};
 ghost use Rattle.bitcode_coder.specs.Spelling.{LengthsBelowLimit};
 ghost use Rattle.bitcode_derive.specs.BorrowedTexts.{TextsStandIn, IsBorrowedFrom};
 ghost use Rattle.bitcode_derive.specs.Strict.{IsStrictDecodingOf, MakesWhatItLists};
-ghost use Rattle.bitcode_derive.specs.Whole.{columns_of_one, IsEncodingOf, HasLongListing, HasShortLengths, IsDecodingOf, SpellsDatum};
+ghost use Rattle.bitcode_derive.specs.Whole.{columns_of_one, IsEncodingOf, HasLongListing, HasShortLengths};
+ghost use Rattle.bitcode_derive.specs.Whole.{IsDecodingOf, SpellsDatum};
 
 use crate::whole;
 use bitcode_columns::error::{Error, Reason};
@@ -29,9 +30,11 @@ use std::alloc::Global;
 /// round_trip(&t, &bytes, &u);
 /// ```
 pub fn round_trip<'a, T: Made>(t: &T, bytes: &'a [u8], u: &T)
-    ensures spelled { (written : IsEncodingOf T.lists T.shape t.now bytes.now) → LengthsBelowLimit (columns_of_one T.shape written.datum)
+    ensures spelled { (written : IsEncodingOf T.lists T.shape t.now bytes.now)
+        → LengthsBelowLimit (columns_of_one T.shape written.datum)
         → SpellsDatum T.shape bytes.now written.datum }
-    ensures equal { (written : IsEncodingOf T.lists T.shape t.now bytes.now) → LengthsBelowLimit (columns_of_one T.shape written.datum)
+    ensures equal { (written : IsEncodingOf T.lists T.shape t.now bytes.now)
+        → LengthsBelowLimit (columns_of_one T.shape written.datum)
         → IsDecodingOf T.makes T.shape bytes.now u.now → T.same t.now u.now }
 {
     t.told();
@@ -48,10 +51,14 @@ pub fn round_trip<'a, T: Made>(t: &T, bytes: &'a [u8], u: &T)
 /// comes_back(&t, &bytes, &again);
 /// ```
 pub fn comes_back<'a, T: Made>(t: &T, bytes: &'a [u8], again: &Result<T, Error>)
-    ensures equal { IsEncodingOf T.lists T.shape t.now bytes.now → HasShortLengths T.lists T.shape t.now
-        → IfOk again.now (λ u. IsDecodingOf T.makes T.shape bytes.now u) → IfOk again.now (λ u. T.same t.now u) }
-    ensures refused { IsEncodingOf T.lists T.shape t.now bytes.now → HasShortLengths T.lists T.shape t.now
-        → IfErr again.now (λ e. e.reason ≢ Reason.OutOfMemory → (d : Datum) → SpellsDatum T.shape bytes.now d → ⊥)
+    ensures equal { IsEncodingOf T.lists T.shape t.now bytes.now
+        → HasShortLengths T.lists T.shape t.now
+        → IfOk again.now (λ u. IsDecodingOf T.makes T.shape bytes.now u)
+        → IfOk again.now (λ u. T.same t.now u) }
+    ensures refused { IsEncodingOf T.lists T.shape t.now bytes.now
+        → HasShortLengths T.lists T.shape t.now
+        → IfErr again.now
+        (λ e. e.reason ≢ Reason.OutOfMemory → (d : Datum) → SpellsDatum T.shape bytes.now d → ⊥)
         → IfErr again.now (λ e. e.reason ≡ Reason.OutOfMemory) }
 {
     t.told();
@@ -68,8 +75,11 @@ pub fn comes_back<'a, T: Made>(t: &T, bytes: &'a [u8], again: &Result<T, Error>)
 /// strictly_written(&t, &bytes);
 /// ```
 pub fn strictly_written<'a, T: Made>(t: &T, bytes: &'a [u8])
-    ensures written { MakesWhatItLists T.lists T.makes → IsStrictDecodingOf T.makes T.shape bytes.now t.now → IsEncodingOf T.lists T.shape t.now bytes.now }
-    ensures read { MakesWhatItLists T.lists T.makes → HasShortLengths T.lists T.shape t.now → IsEncodingOf T.lists T.shape t.now bytes.now
+    ensures written { MakesWhatItLists T.lists T.makes
+        → IsStrictDecodingOf T.makes T.shape bytes.now t.now
+        → IsEncodingOf T.lists T.shape t.now bytes.now }
+    ensures read { MakesWhatItLists T.lists T.makes → HasShortLengths T.lists T.shape t.now
+        → IsEncodingOf T.lists T.shape t.now bytes.now
         → IsStrictDecodingOf T.makes T.shape bytes.now t.now }
 {
     t.told();
@@ -86,7 +96,8 @@ pub fn strictly_written<'a, T: Made>(t: &T, bytes: &'a [u8])
 /// ```
 pub fn comes_back_equal<'a, T: Made + Key>(t: &T, bytes: &'a [u8], again: &Result<T, Error>)
     ensures { IsEncodingOf T.lists T.shape t.now bytes.now → HasShortLengths T.lists T.shape t.now
-        → IfOk again.now (λ u. IsDecodingOf T.makes T.shape bytes.now u) → IfOk again.now (λ u. IsTrue (T.eq t.now u)) }
+        → IfOk again.now (λ u. IsDecodingOf T.makes T.shape bytes.now u)
+        → IfOk again.now (λ u. IsTrue (T.eq t.now u)) }
 {
     t.told();
     if let Ok(u) = again {
@@ -103,7 +114,8 @@ pub fn comes_back_equal<'a, T: Made + Key>(t: &T, bytes: &'a [u8], again: &Resul
 /// one_text(&t, &bytes, &again);
 /// ```
 pub fn one_text<T: Shaped>(t: &T, bytes: &[u8], again: &[u8])
-    ensures { IsTrue T.in_order → IsEncodingOf T.lists T.shape t.now bytes.now → IsEncodingOf T.lists T.shape t.now again.now → bytes.now ≡ again.now }
+    ensures { IsTrue T.in_order → IsEncodingOf T.lists T.shape t.now bytes.now
+        → IsEncodingOf T.lists T.shape t.now again.now → bytes.now ≡ again.now }
 {
     t.told();
 }
@@ -117,7 +129,8 @@ pub fn one_text<T: Shaped>(t: &T, bytes: &[u8], again: &[u8])
 /// one_value(bytes, &t, &u);
 /// ```
 pub fn one_value<'a, T: Made>(bytes: &'a [u8], t: &T, u: &T)
-    ensures { IsDecodingOf T.makes T.shape bytes.now t.now → IsDecodingOf T.makes T.shape bytes.now u.now → T.same t.now u.now }
+    ensures { IsDecodingOf T.makes T.shape bytes.now t.now
+        → IsDecodingOf T.makes T.shape bytes.now u.now → T.same t.now u.now }
 {
     t.told();
     u.told();
@@ -136,8 +149,10 @@ pub fn one_value<'a, T: Made>(bytes: &'a [u8], t: &T, u: &T)
 /// overflows_exactly(&t, &bytes);
 /// ```
 pub fn overflows_exactly<T: SameArrays>(t: &T, bytes: &[u8])
-    ensures written { IsEncodingOf T.lists T.shape t.now bytes.now → (d : Datum) → T.lists t.now d → CountsFit (columns_of_one T.shape d) }
-    ensures refused { HasLongListing T.lists T.shape t.now → (d : Datum) → T.lists t.now d → CountsFit (columns_of_one T.shape d) → ⊥ }
+    ensures written { IsEncodingOf T.lists T.shape t.now bytes.now → (d : Datum) → T.lists t.now d
+        → CountsFit (columns_of_one T.shape d) }
+    ensures refused { HasLongListing T.lists T.shape t.now → (d : Datum) → T.lists t.now d
+        → CountsFit (columns_of_one T.shape d) → ⊥ }
 {
     t.told();
 }
@@ -152,7 +167,8 @@ pub fn overflows_exactly<T: SameArrays>(t: &T, bytes: &[u8])
 /// borrowed_text(bytes, &text); // the bytes from 1 to 3
 /// ```
 pub fn borrowed_text<'a>(bytes: &'a [u8], text: &&'a str)
-    ensures { IsDecodingOf ⟦<&'a str as Made>⟧.makes ⟦<&'a str as Shaped>⟧.shape bytes.now text.now → IsBorrowedFrom bytes.now text.now.now }
+    ensures { IsDecodingOf ⟦<&'a str as Made>⟧.makes ⟦<&'a str as Shaped>⟧.shape bytes.now text.now
+        → IsBorrowedFrom bytes.now text.now.now }
 {}
 
 /// The texts of a decoded value are slices of the input. Each begins where the columns before its own, the lengths of
@@ -164,7 +180,8 @@ pub fn borrowed_text<'a>(bytes: &'a [u8], text: &&'a str)
 /// borrowed_texts(bytes, &pair); // "ab" is the bytes from 2 to 4
 /// ```
 pub fn borrowed_texts<'a, T: Made>(bytes: &'a [u8], t: &T)
-    ensures { (found : IsDecodingOf T.makes T.shape bytes.now t.now) → TextsStandIn T.shape bytes.now (found.datum ∷ []) }
+    ensures { (found : IsDecodingOf T.makes T.shape bytes.now t.now)
+        → TextsStandIn T.shape bytes.now (found.datum ∷ []) }
 {}
 
 /// Decodes a text whose first byte is below 255, as `decode` does, without allocating.
@@ -177,9 +194,13 @@ pub fn borrowed_texts<'a, T: Made>(bytes: &'a [u8], t: &T)
 /// ```
 pub fn short_text<'a>(alloc: Global, bytes: &'a [u8]) -> Result<&'a str, Error>
     requires { slice_index bytes.now 0 < 255 }
-    ensures found { IfOk result (λ text. IsDecodingOf ⟦<&'a str as Made>⟧.makes ⟦<&'a str as Shaped>⟧.shape bytes.now text) }
+    ensures found { IfOk result
+        (λ text. IsDecodingOf ⟦<&'a str as Made>⟧.makes ⟦<&'a str as Shaped>⟧.shape bytes.now
+        text) }
     ensures reasons { IfErr result (λ e. IsReadingReason e.reason) }
-    ensures refused { IfErr result (λ e. e.reason ≢ Reason.OutOfMemory → (d : Datum) → SpellsDatum ⟦<&'a str as Shaped>⟧.shape bytes.now d → ⊥) }
+    ensures refused { IfErr result
+        (λ e. e.reason ≢ Reason.OutOfMemory → (d : Datum)
+        → SpellsDatum ⟦<&'a str as Shaped>⟧.shape bytes.now d → ⊥) }
     ensures free { IfErr result (λ e. e.reason ≢ Reason.OutOfMemory) }
 {
     whole::decode(alloc, bytes)

@@ -3,10 +3,12 @@ ghost use Rattle.std.specs.Prelude.{◌≡◌, ◌≢◌, ℕ, List, IsErrOf, If
 ghost use Rattle.bitcode_columns.specs.Reading.{IsEndOf};
 ghost use Rattle.bitcode_shapes.specs.Datum.{Datum};
 ghost use Rattle.bitcode_coder.specs.Coder.{BeginsWith, IsWritingRefusal, IsReadingReason};
-ghost use Rattle.bitcode_derive.specs.Front.{IsWrittenBehind, BeginsWithDatum, IsDecodingOfFront, BeginsWithAtMostOne, IsBoundedByFront, NamesFrontFault};
+ghost use Rattle.bitcode_derive.specs.Front.{IsWrittenBehind, BeginsWithDatum, IsDecodingOfFront, BeginsWithAtMostOne};
+ghost use Rattle.bitcode_derive.specs.Front.{IsBoundedByFront, NamesFrontFault};
 ghost use Rattle.bitcode_derive.specs.Strict.{IsStrictDecodingOf, IsStrictRefusal};
 ghost use Rattle.bitcode_derive.specs.StrictFront.{IsStrictDecodingOfFront, IsStrictFrontRefusal};
-ghost use Rattle.bitcode_derive.specs.Whole.{IsEncodingOf, HasLongListing, IsDecodingOf, SpellsDatum, SpellsAtMostOne, IsBoundedByBytes, NamesWholeFault};
+ghost use Rattle.bitcode_derive.specs.Whole.{IsEncodingOf, HasLongListing, IsDecodingOf, SpellsDatum, SpellsAtMostOne};
+ghost use Rattle.bitcode_derive.specs.Whole.{IsBoundedByBytes, NamesWholeFault};
 
 use crate::derive::{HasDecoder, HasEncoder};
 use bitcode_coder::coder::{Buffer, Decoder, Encoder, View};
@@ -37,9 +39,11 @@ pub fn encode_into<T: HasEncoder + Shaped>(
 ) -> Result<(), Error>
 where
     T::Encoder: Buffer + Encoder<T> + Drop,
-    ensures written { OnOk result (IsWrittenBehind T.lists T.shape t.now out.old.items out.new.items) }
+    ensures written { OnOk result
+        (IsWrittenBehind T.lists T.shape t.now out.old.items out.new.items) }
     ensures begins { BeginsWith out.old.items out.new.items }
-    ensures refused { IfErr result (λ e. IsWritingRefusal e.reason (HasLongListing T.lists T.shape t.now)) }
+    ensures refused { IfErr result
+        (λ e. IsWritingRefusal e.reason (HasLongListing T.lists T.shape t.now)) }
 {
     let mut encoder = T::Encoder::new(alloc);
     write_one(&mut encoder, t, out)
@@ -60,7 +64,8 @@ pub fn encode<T: HasEncoder + Shaped>(alloc: Global, t: &T) -> Result<Vec<u8>, E
 where
     T::Encoder: Buffer + Encoder<T> + Drop,
     ensures written { IfOk result (λ bytes. IsEncodingOf T.lists T.shape t.now bytes.items) }
-    ensures refused { IfErr result (λ e. IsWritingRefusal e.reason (HasLongListing T.lists T.shape t.now)) }
+    ensures refused { IfErr result
+        (λ e. IsWritingRefusal e.reason (HasLongListing T.lists T.shape t.now)) }
 {
     let mut bytes = Vec::new(alloc);
     encode_into(alloc, t, &mut bytes)?;
@@ -90,8 +95,11 @@ where
     ensures unambiguous { SpellsAtMostOne T.shape bytes.now }
     ensures bounded { IsBoundedByBytes T.shape bytes.now }
     ensures reasons { IfErr result (λ e. IsReadingReason e.reason) }
-    ensures refused { IfErr result (λ e. e.reason ≢ Reason.OutOfMemory → (d : Datum) → SpellsDatum T.shape bytes.now d → ⊥) }
-    ensures exact { IfErr result (λ e. NamesWholeFault T.Decoder.faults T.Decoder.makes_free T.Decoder.shape e.reason bytes.now) }
+    ensures refused { IfErr result
+        (λ e. e.reason ≢ Reason.OutOfMemory → (d : Datum) → SpellsDatum T.shape bytes.now d → ⊥) }
+    ensures exact { IfErr result
+        (λ e. NamesWholeFault T.Decoder.faults T.Decoder.makes_free T.Decoder.shape e.reason
+        bytes.now) }
 {
     let mut input = bytes;
     let mut decoder = T::Decoder::new(alloc);
@@ -122,7 +130,10 @@ where
     ensures unambiguous { SpellsAtMostOne T.shape bytes.now }
     ensures bounded { IsBoundedByBytes T.shape bytes.now }
     ensures refused { IfErr result (λ e. IsStrictRefusal T.shape e.reason bytes.now) }
-    ensures exact { IfErr result (λ e. e.reason ≢ Reason.NotTheWrittenText → NamesWholeFault T.Decoder.faults T.Decoder.makes_free T.Decoder.shape e.reason bytes.now) }
+    ensures exact { IfErr result
+        (λ e. e.reason ≢ Reason.NotTheWrittenText
+        → NamesWholeFault T.Decoder.faults T.Decoder.makes_free T.Decoder.shape e.reason
+        bytes.now) }
 {
     let mut input = bytes;
     let mut decoder = T::Decoder::new(alloc);
@@ -155,12 +166,17 @@ pub fn decode_front<'a, T: HasDecoder<'a> + Made + Drop>(
 ) -> Result<T, Error>
 where
     T::Decoder: View<'a> + Decoder<T> + Drop,
-    ensures found { IfOk result (λ t. IsDecodingOfFront T.makes T.shape input.old.now t input.new.now) }
+    ensures found { IfOk result
+        (λ t. IsDecodingOfFront T.makes T.shape input.old.now t input.new.now) }
     ensures unambiguous { BeginsWithAtMostOne T.shape input.old.now }
     ensures bounded { IsBoundedByFront T.shape input.old.now }
     ensures reasons { IfErr result (λ e. IsReadingReason e.reason) }
-    ensures refused { IfErr result (λ e. e.reason ≢ Reason.OutOfMemory → (d : Datum) (rest : List ℕ) → BeginsWithDatum T.shape input.old.now d rest → ⊥) }
-    ensures exact { IfErr result (λ e. NamesFrontFault T.Decoder.faults T.Decoder.makes_free T.Decoder.shape e.reason input.old.now) }
+    ensures refused { IfErr result
+        (λ e. e.reason ≢ Reason.OutOfMemory → (d : Datum) (rest : List ℕ)
+        → BeginsWithDatum T.shape input.old.now d rest → ⊥) }
+    ensures exact { IfErr result
+        (λ e. NamesFrontFault T.Decoder.faults T.Decoder.makes_free T.Decoder.shape e.reason
+        input.old.now) }
     ensures rest { OnErr result (IsEndOf input.old.now input.new.now) }
 {
     let mut decoder = T::Decoder::new(alloc);
@@ -188,12 +204,15 @@ pub fn decode_front_strict<'a, T: HasDecoder<'a> + Made + Drop>(
 ) -> Result<T, Error>
 where
     T::Decoder: View<'a> + Decoder<T> + Drop,
-    ensures found { IfOk result (λ t. IsStrictDecodingOfFront T.makes T.shape input.old.now t input.new.now) }
+    ensures found { IfOk result
+        (λ t. IsStrictDecodingOfFront T.makes T.shape input.old.now t input.new.now) }
     ensures unambiguous { BeginsWithAtMostOne T.shape input.old.now }
     ensures bounded { IsBoundedByFront T.shape input.old.now }
-    ensures refused { IfErr result (λ e. IsStrictFrontRefusal T.shape e.reason input.old.now input.new.now) }
+    ensures refused { IfErr result
+        (λ e. IsStrictFrontRefusal T.shape e.reason input.old.now input.new.now) }
     ensures exact { IfErr result (λ e. e.reason ≢ Reason.NotTheWrittenText
-        → NamesFrontFault T.Decoder.faults T.Decoder.makes_free T.Decoder.shape e.reason input.old.now) }
+        → NamesFrontFault T.Decoder.faults T.Decoder.makes_free T.Decoder.shape e.reason
+        input.old.now) }
     ensures rest { OnErr result (IsEndOf input.old.now input.new.now) }
 {
     let mut decoder = T::Decoder::new(alloc);

@@ -44,19 +44,27 @@ pub trait VariantColumns {
     fn collect_payloads(&mut self, number: usize, out: &mut Vec<u8>) -> Result<(), Error>
         requires turn { IsTrue in_turn }
         requires known { (first ≤ number) × (number < end) }
-        ensures others { KeepsOthers no_columns (number - first) (columns.lists self.old) (columns.lists self.new) }
-        ensures written { OnOk result (out.new.items ≡ out.old.items ++ columns_bytes (columns_at (number - first) (columns.lists self.old))) }
-        ensures empty { OnOk result (columns_at (number - first) (columns.lists self.new) ≡ emptied (columns_at (number - first) (columns.lists self.old))) }
+        ensures others { KeepsOthers no_columns (number - first) (columns.lists self.old)
+            (columns.lists self.new) }
+        ensures written { OnOk result
+            (out.new.items ≡ out.old.items ++ columns_bytes
+            (columns_at (number - first) (columns.lists self.old))) }
+        ensures empty { OnOk result
+            (columns_at (number - first) (columns.lists self.new) ≡ emptied
+            (columns_at (number - first) (columns.lists self.old))) }
         ensures begins { BeginsWith out.old.items out.new.items }
-        ensures form { emptied (columns_at (number - first) (columns.lists self.new)) ≡ emptied (columns_at (number - first) (columns.lists self.old)) }
+        ensures form { emptied (columns_at (number - first) (columns.lists self.new)) ≡ emptied
+            (columns_at (number - first) (columns.lists self.old)) }
         ensures refused { IfErr result (λ e. e.reason ≡ Reason.OutOfMemory) };
 
     /// Drops all entries of the variant with this number without allocating.
     fn clear_payloads(&mut self, number: usize)
         requires turn { IsTrue in_turn }
         requires known { (first ≤ number) × (number < end) }
-        ensures others { KeepsOthers no_columns (number - first) (columns.lists self.old) (columns.lists self.new) }
-        ensures empty { columns_at (number - first) (columns.lists self.new) ≡ emptied (columns_at (number - first) (columns.lists self.old)) }
+        ensures others { KeepsOthers no_columns (number - first) (columns.lists self.old)
+            (columns.lists self.new) }
+        ensures empty { columns_at (number - first) (columns.lists self.new) ≡ emptied
+            (columns_at (number - first) (columns.lists self.old)) }
         ensures capacity { columns.capacity self.new ≤ columns.capacity self.old };
 
     // the last of them stands no earlier than the first
@@ -109,17 +117,23 @@ pub trait AllColumns<const N: usize> {
     fn collect(&mut self, number: usize, out: &mut Vec<u8>) -> Result<(), Error>
         requires { number < N }
         ensures others { KeepsOthers no_columns number (held.lists self.old) (held.lists self.new) }
-        ensures written { OnOk result (out.new.items ≡ out.old.items ++ columns_bytes (columns_at number (held.lists self.old))) }
-        ensures empty { OnOk result (columns_at number (held.lists self.new) ≡ emptied (columns_at number (held.lists self.old))) }
+        ensures written { OnOk result
+            (out.new.items ≡ out.old.items ++ columns_bytes
+            (columns_at number (held.lists self.old))) }
+        ensures empty { OnOk result
+            (columns_at number (held.lists self.new) ≡ emptied
+            (columns_at number (held.lists self.old))) }
         ensures begins { BeginsWith out.old.items out.new.items }
-        ensures form { emptied (columns_at number (held.lists self.new)) ≡ emptied (columns_at number (held.lists self.old)) }
+        ensures form { emptied (columns_at number (held.lists self.new)) ≡ emptied
+            (columns_at number (held.lists self.old)) }
         ensures refused { IfErr result (λ e. e.reason ≡ Reason.OutOfMemory) };
 
     /// Drops all entries of the variant with this number without allocating.
     fn clear(&mut self, number: usize)
         requires { number < N }
         ensures others { KeepsOthers no_columns number (held.lists self.old) (held.lists self.new) }
-        ensures empty { columns_at number (held.lists self.new) ≡ emptied (columns_at number (held.lists self.old)) }
+        ensures empty { columns_at number (held.lists self.new) ≡ emptied
+            (columns_at number (held.lists self.old)) }
         ensures capacity { held.capacity self.new ≤ held.capacity self.old };
 
     // there are columns for each variant

@@ -34,7 +34,8 @@ pub struct EnumEncoder<const N: usize, C> {
 }
 
 impl<const N: usize, C: AllColumns<N>> HoldsColumns for EnumEncoder<N, C> {
-    ghost columns = { λ e. variant_columns N (written_variants e.variants) (all_columns (C.held.lists e.payloads.columns)) };
+    ghost columns = { λ e. variant_columns N (written_variants e.variants)
+        (all_columns (C.held.lists e.payloads.columns)) };
 
     ghost room = { λ e. variant_room e.variants };
 
@@ -110,7 +111,10 @@ impl<const N: usize, C: AllColumns<N>, T: EnumShaped<N> + WritesPayloads<N, C>> 
         false
     }
 
-    ghost of_shape = { λ e. enum_of_shape T.each.variants.shapes T.shape N (all_columns (C.held.lists e.payloads.columns)) T.count T.has_shape (each_has_payloads T.each.variants.shapes (C.held.lists e.payloads.columns) (T.of_shapes e.payloads.columns) 0) };
+    ghost of_shape = { λ e. enum_of_shape T.each.variants.shapes T.shape N
+        (all_columns (C.held.lists e.payloads.columns)) T.count T.has_shape
+        (each_has_payloads T.each.variants.shapes (C.held.lists e.payloads.columns)
+        (T.of_shapes e.payloads.columns) 0) };
 
     ghost surely = { λ e n h. absurd h };
 }

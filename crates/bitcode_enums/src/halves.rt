@@ -28,7 +28,10 @@ impl<F: VariantColumns, S: VariantColumns> VariantColumns for Halves<F, S> {
 
     ghost in_turn = { (F.in_turn && S.in_turn) && (S.first == F.end) };
 
-    ghost columns = { record { lists = λ e. F.columns.lists e.first ++ S.columns.lists e.second; capacity = λ e. F.columns.capacity e.first + S.columns.capacity e.second } };
+    ghost columns = { record {
+      lists = λ e. F.columns.lists e.first ++ S.columns.lists e.second;
+      capacity = λ e. F.columns.capacity e.first + S.columns.capacity e.second;
+    } };
 
     fn new(alloc: Global) -> Self {
         Halves {
@@ -57,9 +60,12 @@ impl<F: VariantColumns, S: VariantColumns> VariantColumns for Halves<F, S> {
         }
     }
 
-    ghost ordered = { parts_ordered F.first F.end S.first S.end F.in_turn S.in_turn F.ordered S.ordered };
+    ghost ordered = { parts_ordered F.first F.end S.first S.end F.in_turn S.in_turn F.ordered
+        S.ordered };
 
-    ghost sized = { λ turn e. parts_sized F.first F.end S.first S.end F.in_turn S.in_turn F.ordered S.ordered turn (F.columns.lists e.first) (S.columns.lists e.second) (λ t. F.sized t e.first) (λ t. S.sized t e.second) };
+    ghost sized = { λ turn e. parts_sized F.first F.end S.first S.end F.in_turn S.in_turn F.ordered
+        S.ordered turn (F.columns.lists e.first) (S.columns.lists e.second) (λ t. F.sized t e.first)
+        (λ t. S.sized t e.second) };
 }
 
 impl<F: VariantColumns, S: VariantColumns, T: WritesVariants<F> + WritesVariants<S>> WritesVariants<
@@ -82,7 +88,12 @@ impl<'a, T: Enum, F: VariantPayloads<'a, T>, S: VariantPayloads<'a, T>> VariantP
 
     ghost in_turn = { (F.in_turn && S.in_turn) && (S.first == F.end) };
 
-    ghost held = { record { lists = λ d. F.held.lists d.first ++ S.held.lists d.second; owned = λ d. F.held.owned d.first + S.held.owned d.second; faults = faults_behind S.first F.held.faults S.held.faults; makes_free = F.held.makes_free && S.held.makes_free } };
+    ghost held = { record {
+      lists = λ d. F.held.lists d.first ++ S.held.lists d.second;
+      owned = λ d. F.held.owned d.first + S.held.owned d.second;
+      faults = faults_behind S.first F.held.faults S.held.faults;
+      makes_free = F.held.makes_free && S.held.makes_free;
+    } };
 
     fn new(alloc: Global) -> Self {
         Halves {

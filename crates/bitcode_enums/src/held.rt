@@ -69,13 +69,20 @@ pub trait EnumOf<const N: usize>: Enum {
 pub trait EnumShaped<const N: usize>: EnumOf<N> + Shaped {
     ghost has_shape: { Self.shape ≡ choice_shape Self.Enum.each.variants.shapes };
 
-    ghost lists_variants: { (t : Self) (d : Datum) → ListsChoice Self.Enum.each.variants.lists t d → Self.lists t d };
+    ghost lists_variants: { (t : Self) (d : Datum) → ListsChoice Self.Enum.each.variants.lists t d
+        → Self.lists t d };
 }
 
 impl<const N: usize, T: EnumOf<N> + HeldIn<Holder = Held<N, T>>> EnumShaped<N> for T {
     ghost has_shape = { refl };
 
-    ghost lists_variants = { λ t d listed. record { index = listed.index; payload = listed.payload; is = listed.is; lists_payload = listed.lists_payload } };
+    ghost lists_variants = { λ t d listed. record {
+      index = listed.index;
+      payload = listed.payload;
+      is = listed.is;
+      lists_payload
+          = listed.lists_payload;
+    } };
 }
 
 /// Two values that are the same are equal in every respect, if that is true for their payloads. Then decoding such an
@@ -149,19 +156,26 @@ impl<const N: usize, T: Enum> Shaped for Held<N, T> {
         let _number = self.value.variant();
     }
 
-    ghost lawful = { image_lawful (λ h. h.value) (some_choices_lawful refl T.sized T.each.laws.lawful) };
+    ghost lawful = { image_lawful (λ h. h.value)
+        (some_choices_lawful refl T.sized T.each.laws.lawful) };
 }
 
 impl<const N: usize, T: Enum> Made for Held<N, T> {
     ghost makes = { λ d h. MakesChoice T.each.variants.makes d h.value };
 
-    ghost makeable = { image_makeable (λ h. h.value) (λ g t h. (record { value = t }, refl)) (choice_makeable T.each.laws.makeable) };
+    ghost makeable = { image_makeable (λ h. h.value) (λ g t h. (record { value = t }, refl))
+        (choice_makeable T.each.laws.makeable) };
 }
 
 impl<const N: usize, T: Enum> SameArrays for Held<N, T> {
-    ghost same_arrays = { image_same_arrays (λ h. h.value) (choice_same_arrays T.each.laws.same_arrays) };
+    ghost same_arrays = { image_same_arrays (λ h. h.value)
+        (choice_same_arrays T.each.laws.same_arrays) };
 }
 
 impl<const N: usize, T: Enum> Payload for Held<N, T> {
-    ghost payload = { payload_of (image_lawful (λ h. h.value) (some_choices_lawful refl T.sized T.each.laws.lawful)) (image_makeable (λ h. h.value) (λ g t h. (record { value = t }, refl)) (choice_makeable T.each.laws.makeable)) (image_same_arrays (λ h. h.value) (choice_same_arrays T.each.laws.same_arrays)) };
+    ghost payload = { payload_of
+        (image_lawful (λ h. h.value) (some_choices_lawful refl T.sized T.each.laws.lawful))
+        (image_makeable (λ h. h.value) (λ g t h. (record { value = t }, refl))
+        (choice_makeable T.each.laws.makeable))
+        (image_same_arrays (λ h. h.value) (choice_same_arrays T.each.laws.same_arrays)) };
 }

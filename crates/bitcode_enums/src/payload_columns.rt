@@ -67,9 +67,16 @@ impl<const N: usize, C: AllColumns<N>> PayloadColumns<N, C> {
     ///
     /// Errors: those of [`WritesPayloads::write_payload`].
     pub fn encode_payload<T: WritesPayloads<N, C>>(&mut self, t: &T) -> Result<(), Error>
-        ensures joined { OnOk result (JoinsVariant T.each.variants.index T.each.variants.lists T.each.variants.shapes t.now (all_columns (C.held.lists self.old.columns)) (all_columns (C.held.lists self.new.columns))) }
-        ensures form { emptied (all_columns (C.held.lists self.new.columns)) ≡ emptied (all_columns (C.held.lists self.old.columns)) }
-        ensures refused { IfErr result (λ e. IsWritingRefusal e.reason (OverflowsWithVariant T.each.variants.index T.each.variants.lists T.each.variants.shapes t.now (all_columns (C.held.lists self.old.columns)))) }
+        ensures joined { OnOk result
+            (JoinsVariant T.each.variants.index T.each.variants.lists T.each.variants.shapes t.now
+            (all_columns (C.held.lists self.old.columns))
+            (all_columns (C.held.lists self.new.columns))) }
+        ensures form { emptied (all_columns (C.held.lists self.new.columns)) ≡ emptied
+            (all_columns (C.held.lists self.old.columns)) }
+        ensures refused { IfErr result
+            (λ e. IsWritingRefusal e.reason
+            (OverflowsWithVariant T.each.variants.index T.each.variants.lists T.each.variants.shapes
+            t.now (all_columns (C.held.lists self.old.columns)))) }
     {
         t.write_payload(&mut self.columns)
     }

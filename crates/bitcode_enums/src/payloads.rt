@@ -1,5 +1,6 @@
 //! The payloads from which values of an enum are made, by the numbers of the variants.
-ghost use Rattle.std.specs.Prelude.{◌≡◌, ℕ, ◌-◌, ◌<◌, ◌≤◌, Bool, [], map, length, IsTrue, IsOk, IfOk, OnOk, IfErr, OnErr};
+ghost use Rattle.std.specs.Prelude.{◌≡◌, ℕ, ◌-◌, ◌<◌, ◌≤◌, Bool, [], map, length, IsTrue, IsOk, IfOk, OnOk, IfErr};
+ghost use Rattle.std.specs.Prelude.{OnErr};
 ghost use Rattle.bitcode_columns.specs.declared.error.Reason.{Reason};
 ghost use Rattle.bitcode_columns.specs.Reading.{Reads, IsEndOf};
 ghost use Rattle.bitcode_coder.specs.Coder.{IsReadingRefusal};
@@ -53,10 +54,18 @@ pub trait VariantPayloads<'a, T: Enum> {
     ) -> Result<bool, Error>
         requires turn { IsTrue in_turn }
         requires known { (first ≤ number) × (number < end) }
-        ensures others { KeepsOthers [] (number - first) (held.lists self.old) (held.lists self.new) }
-        ensures read { OnOk result (Reads (Spells (shape_at number T.each.variants.shapes)) k input.old.now (payloads_of (number - first) (held.lists self.new)) input.new.now) }
-        ensures judged { IsTrue strict → IfOk result (λ written. JudgesData (shape_at number T.each.variants.shapes) (payloads_of (number - first) (held.lists self.new)) written input.old.now input.new.now) }
-        ensures refused { IfErr result (λ e. IsReadingRefusal (shape_at number T.each.variants.shapes) e.reason k input.old.now) }
+        ensures others { KeepsOthers [] (number - first) (held.lists self.old)
+            (held.lists self.new) }
+        ensures read { OnOk result
+            (Reads (Spells (shape_at number T.each.variants.shapes)) k input.old.now
+            (payloads_of (number - first) (held.lists self.new)) input.new.now) }
+        ensures judged { IsTrue strict → IfOk result
+            (λ written. JudgesData (shape_at number T.each.variants.shapes)
+            (payloads_of (number - first) (held.lists self.new)) written input.old.now
+            input.new.now) }
+        ensures refused { IfErr result
+            (λ e. IsReadingRefusal (shape_at number T.each.variants.shapes) e.reason k
+            input.old.now) }
         ensures exact { IfErr result (λ e. held.faults number e.reason k input.old.now) }
         ensures rest { OnErr result (IsEndOf input.old.now input.new.now) };
 
@@ -67,9 +76,12 @@ pub trait VariantPayloads<'a, T: Enum> {
         requires turn { IsTrue in_turn }
         requires known { (first ≤ number) × (number < end) }
         requires left { 0 < length (payloads_of (number - first) (held.lists self.old)) }
-        ensures others { IsOk result → KeepsOthers [] (number - first) (held.lists self.old) (held.lists self.new) }
+        ensures others { IsOk result → KeepsOthers [] (number - first) (held.lists self.old)
+            (held.lists self.new) }
         ensures number { IfOk result (λ t. T.each.variants.index t ≡ number) }
-        ensures made { IfOk result (λ t. T.each.variants.takes t (payloads_of (number - first) (held.lists self.old)) (payloads_of (number - first) (held.lists self.new))) }
+        ensures made { IfOk result
+            (λ t. T.each.variants.takes t (payloads_of (number - first) (held.lists self.old))
+            (payloads_of (number - first) (held.lists self.new))) }
         ensures refused { IfErr result (λ e. e.reason ≡ Reason.OutOfMemory) }
         ensures free { IsTrue held.makes_free → IsOk result };
 
@@ -135,9 +147,15 @@ pub trait AllPayloads<'a, const N: usize, T: EnumOf<N>> {
     ) -> Result<bool, Error>
         requires { number < N }
         ensures others { KeepsOthers [] number (held.lists self.old) (held.lists self.new) }
-        ensures read { OnOk result (Reads (Spells (shape_at number T.each.variants.shapes)) k input.old.now (payloads_of number (held.lists self.new)) input.new.now) }
-        ensures judged { IsTrue strict → IfOk result (λ written. JudgesData (shape_at number T.each.variants.shapes) (payloads_of number (held.lists self.new)) written input.old.now input.new.now) }
-        ensures refused { IfErr result (λ e. IsReadingRefusal (shape_at number T.each.variants.shapes) e.reason k input.old.now) }
+        ensures read { OnOk result
+            (Reads (Spells (shape_at number T.each.variants.shapes)) k input.old.now
+            (payloads_of number (held.lists self.new)) input.new.now) }
+        ensures judged { IsTrue strict → IfOk result
+            (λ written. JudgesData (shape_at number T.each.variants.shapes)
+            (payloads_of number (held.lists self.new)) written input.old.now input.new.now) }
+        ensures refused { IfErr result
+            (λ e. IsReadingRefusal (shape_at number T.each.variants.shapes) e.reason k
+            input.old.now) }
         ensures exact { IfErr result (λ e. held.faults number e.reason k input.old.now) }
         ensures rest { OnErr result (IsEndOf input.old.now input.new.now) };
 
@@ -147,9 +165,12 @@ pub trait AllPayloads<'a, const N: usize, T: EnumOf<N>> {
     fn decode_at(&mut self, number: usize) -> Result<T, Error>
         requires known { number < N }
         requires left { 0 < length (payloads_of number (held.lists self.old)) }
-        ensures others { IsOk result → KeepsOthers [] number (held.lists self.old) (held.lists self.new) }
+        ensures others { IsOk result → KeepsOthers [] number (held.lists self.old)
+            (held.lists self.new) }
         ensures number { IfOk result (λ t. T.each.variants.index t ≡ number) }
-        ensures made { IfOk result (λ t. T.each.variants.takes t (payloads_of number (held.lists self.old)) (payloads_of number (held.lists self.new))) }
+        ensures made { IfOk result
+            (λ t. T.each.variants.takes t (payloads_of number (held.lists self.old))
+            (payloads_of number (held.lists self.new))) }
         ensures refused { IfErr result (λ e. e.reason ≡ Reason.OutOfMemory) }
         ensures free { IsTrue held.makes_free → IsOk result };
 

@@ -31,11 +31,22 @@ pub trait WritesVariants<C: VariantColumns>: Enum {
     /// times their size exceeds 18446744073709551615.
     fn write(&self, to: &mut C) -> Result<(), Error>
         requires turn { IsTrue C.in_turn }
-        requires among { (C.first ≤ Self.each.variants.index self.now) × (Self.each.variants.index self.now < C.end) }
-        ensures others { KeepsOthers no_columns (Self.each.variants.index self.now - C.first) (C.columns.lists to.old) (C.columns.lists to.new) }
-        ensures joined { OnOk result (Self.each.variants.joins self.now (columns_at (Self.each.variants.index self.now - C.first) (C.columns.lists to.old)) (columns_at (Self.each.variants.index self.now - C.first) (C.columns.lists to.new))) }
-        ensures form { emptied (columns_at (Self.each.variants.index self.now - C.first) (C.columns.lists to.new)) ≡ emptied (columns_at (Self.each.variants.index self.now - C.first) (C.columns.lists to.old)) }
-        ensures refused { IfErr result (λ e. IsWritingRefusal e.reason (Self.each.variants.overflows self.now (columns_at (Self.each.variants.index self.now - C.first) (C.columns.lists to.old)))) };
+        requires among { (C.first ≤ Self.each.variants.index self.now)
+            × (Self.each.variants.index self.now < C.end) }
+        ensures others { KeepsOthers no_columns (Self.each.variants.index self.now - C.first)
+            (C.columns.lists to.old) (C.columns.lists to.new) }
+        ensures joined { OnOk result
+            (Self.each.variants.joins self.now
+            (columns_at (Self.each.variants.index self.now - C.first) (C.columns.lists to.old))
+            (columns_at (Self.each.variants.index self.now - C.first) (C.columns.lists to.new))) }
+        ensures form { emptied
+            (columns_at (Self.each.variants.index self.now - C.first) (C.columns.lists to.new))
+            ≡ emptied (columns_at (Self.each.variants.index self.now - C.first)
+            (C.columns.lists to.old)) }
+        ensures refused { IfErr result
+            (λ e. IsWritingRefusal e.reason
+            (Self.each.variants.overflows self.now
+            (columns_at (Self.each.variants.index self.now - C.first) (C.columns.lists to.old)))) };
 }
 
 /// An enum that writes the payloads of all its variants, to columns of its own.
@@ -54,13 +65,23 @@ pub trait WritesPayloads<const N: usize, C: AllColumns<N>>: EnumOf<N> {
     ///
     /// Errors: those of [`WritesVariants::write`].
     fn write_payload(&self, to: &mut C) -> Result<(), Error>
-        ensures others { KeepsOthers no_columns (Self.each.variants.index self.now) (C.held.lists to.old) (C.held.lists to.new) }
-        ensures joined { OnOk result (Self.each.variants.joins self.now (columns_at (Self.each.variants.index self.now) (C.held.lists to.old)) (columns_at (Self.each.variants.index self.now) (C.held.lists to.new))) }
-        ensures form { emptied (columns_at (Self.each.variants.index self.now) (C.held.lists to.new)) ≡ emptied (columns_at (Self.each.variants.index self.now) (C.held.lists to.old)) }
-        ensures refused { IfErr result (λ e. IsWritingRefusal e.reason (Self.each.variants.overflows self.now (columns_at (Self.each.variants.index self.now) (C.held.lists to.old)))) };
+        ensures others { KeepsOthers no_columns (Self.each.variants.index self.now)
+            (C.held.lists to.old) (C.held.lists to.new) }
+        ensures joined { OnOk result
+            (Self.each.variants.joins self.now
+            (columns_at (Self.each.variants.index self.now) (C.held.lists to.old))
+            (columns_at (Self.each.variants.index self.now) (C.held.lists to.new))) }
+        ensures form { emptied
+            (columns_at (Self.each.variants.index self.now) (C.held.lists to.new)) ≡ emptied
+            (columns_at (Self.each.variants.index self.now) (C.held.lists to.old)) }
+        ensures refused { IfErr result
+            (λ e. IsWritingRefusal e.reason
+            (Self.each.variants.overflows self.now
+            (columns_at (Self.each.variants.index self.now) (C.held.lists to.old)))) };
 
     // without entries they are the columns of what the payloads have
-    ghost of_shapes: { (c : C) → map emptied (C.held.lists c) ≡ bare_columns Self.Enum.each.variants.shapes };
+    ghost of_shapes: { (c : C) → map emptied (C.held.lists c) ≡ bare_columns
+        Self.Enum.each.variants.shapes };
 }
 
 /// Reserves room for a payload whose fields are borrowed separately, and adds it to the columns.
@@ -74,9 +95,15 @@ pub fn encode_payload_fields<F: Fields, E: Buffer + Encoder<F::Whole> + FieldsEn
     columns: &mut E,
     fields: &F,
 ) -> Result<(), Error>
-    ensures joined { OnOk result (JoinsListing F.Whole.lists F.Whole.shape (F.whole fields.now) (E.HoldsColumns.columns columns.old) (E.HoldsColumns.columns columns.new)) }
-    ensures form { emptied (E.HoldsColumns.columns columns.new) ≡ emptied (E.HoldsColumns.columns columns.old) }
-    ensures refused { IfErr result (λ e. IsWritingRefusal e.reason (OverflowsWithListing F.Whole.lists F.Whole.shape (F.whole fields.now) (E.HoldsColumns.columns columns.old))) }
+    ensures joined { OnOk result
+        (JoinsListing F.Whole.lists F.Whole.shape (F.whole fields.now)
+        (E.HoldsColumns.columns columns.old) (E.HoldsColumns.columns columns.new)) }
+    ensures form { emptied (E.HoldsColumns.columns columns.new) ≡ emptied
+        (E.HoldsColumns.columns columns.old) }
+    ensures refused { IfErr result
+        (λ e. IsWritingRefusal e.reason
+        (OverflowsWithListing F.Whole.lists F.Whole.shape (F.whole fields.now)
+        (E.HoldsColumns.columns columns.old))) }
 {
     fields.told();
     columns.reserve(1)?;

@@ -42,7 +42,8 @@ pub struct MapEncoder<K, V> {
 }
 
 impl<K: HoldsColumns, V: HoldsColumns> HoldsColumns for MapEncoder<K, V> {
-    ghost columns = { λ e. two (one (lengths None) (map natural (written_lengths e.lengths))) (two (K.columns e.keys) (V.columns e.values)) };
+    ghost columns = { λ e. two (one (lengths None) (map natural (written_lengths e.lengths)))
+        (two (K.columns e.keys) (V.columns e.values)) };
 
     ghost room = { λ e. length_room e.lengths };
 
@@ -92,7 +93,9 @@ impl<M: Mapping, K: Buffer + Encoder<M::Key>, V: Buffer + Encoder<M::Value>> Enc
         t.encode_pairs(&mut self.keys, &mut self.values)
     }
 
-    ghost of_shape = { λ e. ap₂ (λ keys values. two (one (lengths None) []) (two keys values)) (K.of_shape e.keys) (V.of_shape e.values) ∙ ap (λ (shape : Shape). written_columns shape []) (sym M.entries_shape) };
+    ghost of_shape = { λ e. ap₂ (λ keys values. two (one (lengths None) []) (two keys values))
+        (K.of_shape e.keys) (V.of_shape e.values) ∙ ap (λ (shape : Shape). written_columns shape [])
+        (sym M.entries_shape) };
 
     ghost surely = { λ e n never. absurd never };
 }
@@ -121,7 +124,8 @@ impl<'a, K: HoldsData, V: HoldsData> HoldsData for MapDecoder<'a, K, V> {
 }
 
 impl<'a, K: View<'a>, V: View<'a>> View<'a> for MapDecoder<'a, K, V> {
-    ghost faults = { λ reason k input. ⟦<VecDecoder<'a, TupleDecoder<K, V>> as View<'a>>⟧.faults reason k input };
+    ghost faults = { λ reason k input. ⟦<VecDecoder<'a, TupleDecoder<K, V>> as View<'a>>⟧.faults
+        reason k input };
 
     fn new(alloc: Global) -> Self {
         MapDecoder {
@@ -145,8 +149,12 @@ impl<'a, K, V> MapDecoder<'a, K, V> {
     pub fn decode_as<C: FromElements>(&mut self) -> Result<C, Error>
     where
         TupleDecoder<K, V>: Decoder<C::Part>,
-        requires { 0 < length (⟦<VecDecoder<'a, TupleDecoder<K, V>> as HoldsData>⟧.held self.old.entries) }
-        ensures made { IfOk result (λ t. TakesDatum C.makes t (⟦<VecDecoder<'a, TupleDecoder<K, V>> as HoldsData>⟧.held self.old.entries) (⟦<VecDecoder<'a, TupleDecoder<K, V>> as HoldsData>⟧.held self.new.entries)) }
+        requires { 0 < length
+            (⟦<VecDecoder<'a, TupleDecoder<K, V>> as HoldsData>⟧.held self.old.entries) }
+        ensures made { IfOk result
+            (λ t. TakesDatum C.makes t
+            (⟦<VecDecoder<'a, TupleDecoder<K, V>> as HoldsData>⟧.held self.old.entries)
+            (⟦<VecDecoder<'a, TupleDecoder<K, V>> as HoldsData>⟧.held self.new.entries)) }
         ensures refused { IfErr result (λ e. e.reason ≡ Reason.OutOfMemory) }
     {
         self.entries.decode_as()

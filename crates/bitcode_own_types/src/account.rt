@@ -1,4 +1,5 @@
-//! `Account` corresponds to pairs of parts of its fields. What is below its declaration was written by `scripts/new_type`.
+//! `Account` corresponds to pairs of parts of its fields. What is below its declaration was written by
+//! `scripts/new_type`.
 ghost use Rattle.std.specs.Prelude.{refl};
 ghost use Rattle.bitcode.specs.ByHand.{stood_payload};
 
@@ -53,7 +54,8 @@ impl<'a> StandsFor for AccountPart0<'a> {
 
     ghost parts = { λ t. (t.id, t.name, t.country, t.level, t.active) };
 
-    ghost of_parts = { λ p. (record { id = p.0; name = p.1; country = p.2; level = p.3; active = p.4 }, refl) };
+    ghost of_parts = { λ p.
+        (record { id = p.0; name = p.1; country = p.2; level = p.3; active = p.4 }, refl) };
 
     fn told_parts(&self) {
         self.id.told();
@@ -79,11 +81,13 @@ impl<'a> FromParts for AccountPart0<'a> {
 }
 
 impl<'a> Payload for AccountPart0<'a> {
-    ghost payload = { stood_payload ⟦<AccountPart0<'a> as StandsFor>⟧.parts ⟦<AccountPart0<'a> as StandsFor>⟧.of_parts ⟦<Fields0<'a> as Payload>⟧.payload };
+    ghost payload = { stood_payload ⟦<AccountPart0<'a> as StandsFor>⟧.parts
+        ⟦<AccountPart0<'a> as StandsFor>⟧.of_parts ⟦<Fields0<'a> as Payload>⟧.payload };
 }
 
 impl<'a> PartOf<Account<'a>> for AccountPart0<'a> {
-    ghost of = { λ t. record { id = t.id; name = t.name; country = t.country; level = t.level; active = t.active } };
+    ghost of = { λ t. record
+        { id = t.id; name = t.name; country = t.country; level = t.level; active = t.active } };
 }
 
 impl<'a> LendsPart5<Account<'a>, u64, String, &'a str, u8, bool> for AccountPart0<'a> {
@@ -102,7 +106,8 @@ impl<'a> HasEncoder for AccountPart0<'a> {
     type Encoder = EncoderOfPart<5, Fields0<'a>>;
 }
 
-/// The decoder of each field of `Account` that is a `Fields0<'a>`: the borrow checker covers no decoder that names as many types as all fields do.
+/// The decoder of each field of `Account` that is a `Fields0<'a>`: the borrow checker covers no decoder that names as
+/// many types as all fields do.
 #[derive(Drop)]
 pub struct AccountDecoder0<'a> {
     field: <Fields0<'a> as HasDecoder<'a>>::Decoder,
@@ -164,7 +169,18 @@ impl StandsFor for AccountPart1 {
 
     ghost parts = { λ t. (t.balance, t.rating, t.avatar, t.initial, t.tags, t.seat) };
 
-    ghost of_parts = { λ p. (record { balance = p.0; rating = p.1; avatar = p.2; initial = p.3; tags = p.4; seat = p.5 }, refl) };
+    ghost of_parts = { λ p. (
+      record {
+        balance = p.0;
+        rating = p.1;
+        avatar = p.2;
+        initial = p.3;
+        tags = p.4;
+        seat
+            = p.5;
+      },
+      refl,
+    ) };
 
     fn told_parts(&self) {
         self.balance.told();
@@ -192,11 +208,20 @@ impl FromParts for AccountPart1 {
 }
 
 impl Payload for AccountPart1 {
-    ghost payload = { stood_payload ⟦<AccountPart1 as StandsFor>⟧.parts ⟦<AccountPart1 as StandsFor>⟧.of_parts ⟦<Fields1 as Payload>⟧.payload };
+    ghost payload = { stood_payload ⟦<AccountPart1 as StandsFor>⟧.parts
+        ⟦<AccountPart1 as StandsFor>⟧.of_parts ⟦<Fields1 as Payload>⟧.payload };
 }
 
 impl<'a> PartOf<Account<'a>> for AccountPart1 {
-    ghost of = { λ t. record { balance = t.balance; rating = t.rating; avatar = t.avatar; initial = t.initial; tags = t.tags; seat = t.seat } };
+    ghost of = { λ t. record {
+      balance = t.balance;
+      rating = t.rating;
+      avatar = t.avatar;
+      initial = t.initial;
+      tags
+          = t.tags;
+      seat = t.seat;
+    } };
 }
 
 impl<'a> LendsPart6<Account<'a>, i64, Option<i16>, Vec<u8>, char, Vec<String>, Seat>
@@ -226,7 +251,8 @@ impl HasEncoder for AccountPart1 {
     type Encoder = EncoderOfPart<6, Fields1>;
 }
 
-/// The decoder of each field of `Account` that is a `Fields1`: the borrow checker covers no decoder that names as many types as all fields do.
+/// The decoder of each field of `Account` that is a `Fields1`: the borrow checker covers no decoder that names as many
+/// types as all fields do.
 #[derive(Drop)]
 pub struct AccountDecoder1<'a> {
     field: <Fields1 as HasDecoder<'a>>::Decoder,
@@ -288,7 +314,18 @@ impl StandsFor for AccountPart2 {
 
     ghost parts = { λ t. (t.position, t.best, t.visits, t.friends, t.checksum, t.rank) };
 
-    ghost of_parts = { λ p. (record { position = p.0; best = p.1; visits = p.2; friends = p.3; checksum = p.4; rank = p.5 }, refl) };
+    ghost of_parts = { λ p. (
+      record {
+        position = p.0;
+        best = p.1;
+        visits = p.2;
+        friends = p.3;
+        checksum = p.4;
+        rank
+            = p.5;
+      },
+      refl,
+    ) };
 
     fn told_parts(&self) {
         self.position.told();
@@ -316,11 +353,20 @@ impl FromParts for AccountPart2 {
 }
 
 impl Payload for AccountPart2 {
-    ghost payload = { stood_payload ⟦<AccountPart2 as StandsFor>⟧.parts ⟦<AccountPart2 as StandsFor>⟧.of_parts ⟦<Fields2 as Payload>⟧.payload };
+    ghost payload = { stood_payload ⟦<AccountPart2 as StandsFor>⟧.parts
+        ⟦<AccountPart2 as StandsFor>⟧.of_parts ⟦<Fields2 as Payload>⟧.payload };
 }
 
 impl<'a> PartOf<Account<'a>> for AccountPart2 {
-    ghost of = { λ t. record { position = t.position; best = t.best; visits = t.visits; friends = t.friends; checksum = t.checksum; rank = t.rank } };
+    ghost of = { λ t. record {
+      position = t.position;
+      best = t.best;
+      visits = t.visits;
+      friends = t.friends;
+      checksum
+          = t.checksum;
+      rank = t.rank;
+    } };
 }
 
 impl<'a> LendsPart6<Account<'a>, (i32, i32), Option<Item>, u32, u16, u128, u8> for AccountPart2 {
@@ -373,9 +419,60 @@ impl<'a> StandsFor for Account<'a> {
         ),
     );
 
-    ghost parts = { λ t. (record { id = t.id; name = t.name; country = t.country; level = t.level; active = t.active }, (record { balance = t.balance; rating = t.rating; avatar = t.avatar; initial = t.initial; tags = t.tags; seat = t.seat }, record { position = t.position; best = t.best; visits = t.visits; friends = t.friends; checksum = t.checksum; rank = t.rank })) };
+    ghost parts = { λ t. (
+      record {
+        id = t.id;
+        name = t.name;
+        country = t.country;
+        level = t.level;
+        active
+            = t.active;
+      },
+      (
+        record {
+          balance = t.balance;
+          rating = t.rating;
+          avatar = t.avatar;
+          initial = t.initial;
+          tags = t.tags;
+          seat = t.seat;
+        },
+        record {
+          position = t.position;
+          best = t.best;
+          visits = t.visits;
+          friends = t.friends;
+          checksum = t.checksum;
+          rank = t.rank;
+        },
+      ),
+    ) };
 
-    ghost of_parts = { λ p. (record { id = p.0.id; name = p.0.name; country = p.0.country; level = p.0.level; active = p.0.active; balance = p.1.0.balance; rating = p.1.0.rating; avatar = p.1.0.avatar; initial = p.1.0.initial; tags = p.1.0.tags; seat = p.1.0.seat; position = p.1.1.position; best = p.1.1.best; visits = p.1.1.visits; friends = p.1.1.friends; checksum = p.1.1.checksum; rank = p.1.1.rank }, refl) };
+    ghost of_parts = { λ p. (
+      record {
+        id = p.0.id;
+        name = p.0.name;
+        country = p.0.country;
+        level = p.0.level;
+        active
+            = p.0.active;
+        balance = p.1.0.balance;
+        rating = p.1.0.rating;
+        avatar = p.1.0.avatar;
+        initial
+            = p.1.0.initial;
+        tags = p.1.0.tags;
+        seat = p.1.0.seat;
+        position = p.1.1.position;
+        best
+            = p.1.1.best;
+        visits = p.1.1.visits;
+        friends = p.1.1.friends;
+        checksum = p.1.1.checksum;
+        rank = p.1.1.rank;
+      },
+      refl,
+    ) };
 
     fn told_parts(&self) {
         self.id.told();
@@ -448,7 +545,8 @@ impl<'a> FromParts for Account<'a> {
 }
 
 impl<'a> Payload for Account<'a> {
-    ghost payload = { stood_payload ⟦<Account<'a> as StandsFor>⟧.parts ⟦<Account<'a> as StandsFor>⟧.of_parts ⟦<Parts<'a> as Payload>⟧.payload };
+    ghost payload = { stood_payload ⟦<Account<'a> as StandsFor>⟧.parts
+        ⟦<Account<'a> as StandsFor>⟧.of_parts ⟦<Parts<'a> as Payload>⟧.payload };
 }
 
 impl<'a> InParts for Account<'a> {

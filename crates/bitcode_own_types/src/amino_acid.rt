@@ -31,9 +31,35 @@ pub enum AminoAcid {
 }
 
 impl BareVariants<20> for AminoAcid {
-    ghost variant = { elim [ AminoAcid.Alanine ↦ 0 | AminoAcid.Arginine ↦ 1 | AminoAcid.Asparagine ↦ 2 | AminoAcid.AsparticAcid ↦ 3 | AminoAcid.Cysteine ↦ 4 | AminoAcid.GlutamicAcid ↦ 5 | AminoAcid.Glutamine ↦ 6 | AminoAcid.Glycine ↦ 7 | AminoAcid.Histidine ↦ 8 | AminoAcid.Isoleucine ↦ 9 | AminoAcid.Leucine ↦ 10 | AminoAcid.Lysine ↦ 11 | AminoAcid.Methionine ↦ 12 | AminoAcid.Phenylalanine ↦ 13 | AminoAcid.Proline ↦ 14 | AminoAcid.Serine ↦ 15 | AminoAcid.Threonine ↦ 16 | AminoAcid.Tryptophan ↦ 17 | AminoAcid.Tyrosine ↦ 18 | AminoAcid.Valine ↦ 19 ] };
+    ghost variant = { elim [
+      | AminoAcid.Alanine ↦ 0
+      | AminoAcid.Arginine ↦ 1
+      | AminoAcid.Asparagine ↦ 2
+      | AminoAcid.AsparticAcid ↦ 3
+      | AminoAcid.Cysteine ↦ 4
+      | AminoAcid.GlutamicAcid ↦ 5
+      | AminoAcid.Glutamine ↦ 6
+      | AminoAcid.Glycine ↦ 7
+      | AminoAcid.Histidine ↦ 8
+      | AminoAcid.Isoleucine ↦ 9
+      | AminoAcid.Leucine ↦ 10
+      | AminoAcid.Lysine ↦ 11
+      | AminoAcid.Methionine ↦ 12
+      | AminoAcid.Phenylalanine ↦ 13
+      | AminoAcid.Proline ↦ 14
+      | AminoAcid.Serine ↦ 15
+      | AminoAcid.Threonine ↦ 16
+      | AminoAcid.Tryptophan ↦ 17
+      | AminoAcid.Tyrosine ↦ 18
+      | AminoAcid.Valine ↦ 19
+    ] };
 
-    ghost values = { AminoAcid.Alanine ∷ AminoAcid.Arginine ∷ AminoAcid.Asparagine ∷ AminoAcid.AsparticAcid ∷ AminoAcid.Cysteine ∷ AminoAcid.GlutamicAcid ∷ AminoAcid.Glutamine ∷ AminoAcid.Glycine ∷ AminoAcid.Histidine ∷ AminoAcid.Isoleucine ∷ AminoAcid.Leucine ∷ AminoAcid.Lysine ∷ AminoAcid.Methionine ∷ AminoAcid.Phenylalanine ∷ AminoAcid.Proline ∷ AminoAcid.Serine ∷ AminoAcid.Threonine ∷ AminoAcid.Tryptophan ∷ AminoAcid.Tyrosine ∷ AminoAcid.Valine ∷ [] };
+    ghost values = { AminoAcid.Alanine ∷ AminoAcid.Arginine ∷ AminoAcid.Asparagine
+        ∷ AminoAcid.AsparticAcid ∷ AminoAcid.Cysteine ∷ AminoAcid.GlutamicAcid ∷ AminoAcid.Glutamine
+        ∷ AminoAcid.Glycine ∷ AminoAcid.Histidine ∷ AminoAcid.Isoleucine ∷ AminoAcid.Leucine
+        ∷ AminoAcid.Lysine ∷ AminoAcid.Methionine ∷ AminoAcid.Phenylalanine ∷ AminoAcid.Proline
+        ∷ AminoAcid.Serine ∷ AminoAcid.Threonine ∷ AminoAcid.Tryptophan ∷ AminoAcid.Tyrosine
+        ∷ AminoAcid.Valine ∷ [] };
 
     ghost in_order = { (refl, refl) };
 
@@ -66,7 +92,28 @@ impl BareVariants<20> for AminoAcid {
         }
     }
 
-    ghost one_to_one = { elim [ AminoAcid.Alanine ↦ refl | AminoAcid.Arginine ↦ refl | AminoAcid.Asparagine ↦ refl | AminoAcid.AsparticAcid ↦ refl | AminoAcid.Cysteine ↦ refl | AminoAcid.GlutamicAcid ↦ refl | AminoAcid.Glutamine ↦ refl | AminoAcid.Glycine ↦ refl | AminoAcid.Histidine ↦ refl | AminoAcid.Isoleucine ↦ refl | AminoAcid.Leucine ↦ refl | AminoAcid.Lysine ↦ refl | AminoAcid.Methionine ↦ refl | AminoAcid.Phenylalanine ↦ refl | AminoAcid.Proline ↦ refl | AminoAcid.Serine ↦ refl | AminoAcid.Threonine ↦ refl | AminoAcid.Tryptophan ↦ refl | AminoAcid.Tyrosine ↦ refl | AminoAcid.Valine ↦ refl ] };
+    ghost one_to_one = { elim [
+      | AminoAcid.Alanine ↦ refl
+      | AminoAcid.Arginine ↦ refl
+      | AminoAcid.Asparagine ↦ refl
+      | AminoAcid.AsparticAcid ↦ refl
+      | AminoAcid.Cysteine ↦ refl
+      | AminoAcid.GlutamicAcid ↦ refl
+      | AminoAcid.Glutamine ↦ refl
+      | AminoAcid.Glycine ↦ refl
+      | AminoAcid.Histidine ↦ refl
+      | AminoAcid.Isoleucine ↦ refl
+      | AminoAcid.Leucine ↦ refl
+      | AminoAcid.Lysine ↦ refl
+      | AminoAcid.Methionine ↦ refl
+      | AminoAcid.Phenylalanine ↦ refl
+      | AminoAcid.Proline ↦ refl
+      | AminoAcid.Serine ↦ refl
+      | AminoAcid.Threonine ↦ refl
+      | AminoAcid.Tryptophan ↦ refl
+      | AminoAcid.Tyrosine ↦ refl
+      | AminoAcid.Valine ↦ refl
+    ] };
 }
 
 impl HeldIn for AminoAcid {
@@ -74,7 +121,8 @@ impl HeldIn for AminoAcid {
 }
 
 impl Payload for AminoAcid {
-    ghost payload = { stood_payload ⟦<AminoAcid as StandsFor>⟧.parts ⟦<AminoAcid as StandsFor>⟧.of_parts ⟦<Bare<20, AminoAcid> as Payload>⟧.payload };
+    ghost payload = { stood_payload ⟦<AminoAcid as StandsFor>⟧.parts
+        ⟦<AminoAcid as StandsFor>⟧.of_parts ⟦<Bare<20, AminoAcid> as Payload>⟧.payload };
 }
 
 impl HasCoders for AminoAcid {}

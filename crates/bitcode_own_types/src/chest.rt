@@ -39,7 +39,8 @@ impl FromParts for Chest {
 }
 
 impl Payload for Chest {
-    ghost payload = { stood_payload ⟦<Chest as StandsFor>⟧.parts ⟦<Chest as StandsFor>⟧.of_parts ⟦<(String, Vec<Item>, Option<Item>) as Payload>⟧.payload };
+    ghost payload = { stood_payload ⟦<Chest as StandsFor>⟧.parts ⟦<Chest as StandsFor>⟧.of_parts
+        ⟦<(String, Vec<Item>, Option<Item>) as Payload>⟧.payload };
 }
 
 impl LendsFields3<String, Vec<Item>, Option<Item>> for Chest {

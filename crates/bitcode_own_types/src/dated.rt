@@ -38,7 +38,8 @@ impl<T: Made> FromParts for Dated<T> {
 }
 
 impl<T: Shaped + Payload> Payload for Dated<T> {
-    ghost payload = { stood_payload ⟦<Dated<T> as StandsFor>⟧.parts ⟦<Dated<T> as StandsFor>⟧.of_parts ⟦<(u16, u16, T) as Payload>⟧.payload };
+    ghost payload = { stood_payload ⟦<Dated<T> as StandsFor>⟧.parts
+        ⟦<Dated<T> as StandsFor>⟧.of_parts ⟦<(u16, u16, T) as Payload>⟧.payload };
 }
 
 impl<T: Shaped> LendsFields3<u16, u16, T> for Dated<T> {

@@ -1,6 +1,8 @@
-//! `Event` is written and read by the numbers of its variants. What is below its declaration was written by `scripts/new_type`.
+//! `Event` is written and read by the numbers of its variants. What is below its declaration was written by
+//! `scripts/new_type`.
 ghost use Rattle.std.specs.Prelude.{◌≡◌, refl};
-ghost use Rattle.bitcode.specs.ByHand.{columns_in, each_variant, is_variant, last_payload, of_one_of_4, payload_and, payloads_in, stood_payload};
+ghost use Rattle.bitcode.specs.ByHand.{columns_in, each_variant, is_variant, last_payload, of_one_of_4, payload_and};
+ghost use Rattle.bitcode.specs.ByHand.{payloads_in, stood_payload};
 ghost use Rattle.bitcode_own_types.specs.declared.event.Event.{Event};
 
 use bitcode::own::{
@@ -21,7 +23,24 @@ pub enum Event {
 }
 
 impl Enum for Event {
-    ghost each = { each_variant (payload_and ⟦<() as Payload>⟧.payload (payload_and ⟦<(u64, String) as Payload>⟧.payload (payload_and ⟦<(u64, i8, i8) as Payload>⟧.payload (last_payload ⟦<Option<u16> as Payload>⟧.payload)))) (λ at. elim [ Event.Tick ↦ at 0 tt | Event.Spawn a b ↦ at 1 (a, b) | Event.Move a b c ↦ at 2 (a, b, c) | Event.Quit a ↦ at 3 a ]) ((λ p. (Event.Tick, refl)), ((λ p. (Event.Spawn p.0 p.1, refl)), ((λ p. (Event.Move p.0 p.1 p.2, refl)), λ p. (Event.Quit p, refl)))) };
+    ghost each = { each_variant
+        (payload_and ⟦<() as Payload>⟧.payload
+        (payload_and ⟦<(u64, String) as Payload>⟧.payload
+        (payload_and ⟦<(u64, i8, i8) as Payload>⟧.payload
+        (last_payload ⟦<Option<u16> as Payload>⟧.payload))))
+        (λ at. elim [
+          | Event.Tick ↦ at 0 tt
+          | Event.Spawn a b ↦ at 1 (a, b)
+          | Event.Move a b c ↦ at 2
+              (a, b, c)
+          | Event.Quit a ↦ at 3 a
+        ]) (
+          (λ p. (Event.Tick, refl)),
+          (
+            (λ p. (Event.Spawn p.0 p.1, refl)),
+            ((λ p. (Event.Move p.0 p.1 p.2, refl)), λ p. (Event.Quit p, refl)),
+          ),
+        ) };
 
     ghost sized = { refl };
 
@@ -34,7 +53,12 @@ impl Enum for Event {
         }
     }
 
-    ghost one_to_one = { elim [ Event.Tick ↦ refl | Event.Spawn a b ↦ refl | Event.Move a b c ↦ refl | Event.Quit a ↦ refl ] };
+    ghost one_to_one = { elim [
+      | Event.Tick ↦ refl
+      | Event.Spawn a b ↦ refl
+      | Event.Move a b c ↦ refl
+      | Event.Quit a ↦ refl
+    ] };
 }
 
 impl EnumOf<4> for Event {
@@ -46,14 +70,22 @@ impl HeldIn for Event {
 }
 
 impl Payload for Event {
-    ghost payload = { stood_payload ⟦<Event as StandsFor>⟧.parts ⟦<Event as StandsFor>⟧.of_parts ⟦<Held<4, Event> as Payload>⟧.payload };
+    ghost payload = { stood_payload ⟦<Event as StandsFor>⟧.parts ⟦<Event as StandsFor>⟧.of_parts
+        ⟦<Held<4, Event> as Payload>⟧.payload };
 }
 
 impl Variants4<At<0>, (), (u64, String), (u64, i8, i8), Option<u16>> for Event {
-    ghost values = { (λ p. Event.Tick, λ p. Event.Spawn p.0 p.1, λ p. Event.Move p.0 p.1 p.2, λ p. Event.Quit p) };
+    ghost values = { (
+      λ p. Event.Tick,
+      λ p. Event.Spawn p.0 p.1,
+      λ p. Event.Move p.0 p.1 p.2,
+      λ p.
+          Event.Quit p,
+    ) };
 
     fn of_payload(payload: OneOf4<(), (u64, String), (u64, i8, i8), Option<u16>>) -> Self
-        ensures { result ≡ of_one_of_4 (λ p. Event.Tick) (λ p. Event.Spawn p.0 p.1) (λ p. Event.Move p.0 p.1 p.2) (λ p. Event.Quit p) payload }
+        ensures { result ≡ of_one_of_4 (λ p. Event.Tick) (λ p. Event.Spawn p.0 p.1)
+            (λ p. Event.Move p.0 p.1 p.2) (λ p. Event.Quit p) payload }
     {
         match payload {
             OneOf4::First(()) => Event::Tick,
@@ -63,7 +95,14 @@ impl Variants4<At<0>, (), (u64, String), (u64, i8, i8), Option<u16>> for Event {
         }
     }
 
-    ghost are = { (is_variant refl (λ p. refl) (λ p old new h. h) (λ p old h. h) (λ p old new h. h), is_variant refl (λ p. refl) (λ p old new h. h) (λ p old h. h) (λ p old new h. h), is_variant refl (λ p. refl) (λ p old new h. h) (λ p old h. h) (λ p old new h. h), is_variant refl (λ p. refl) (λ p old new h. h) (λ p old h. h) (λ p old new h. h)) };
+    ghost are = { (
+      is_variant refl (λ p. refl) (λ p old new h. h) (λ p old h. h) (λ p old new h. h),
+      is_variant refl (λ p. refl) (λ p old new h. h) (λ p old h. h) (λ p old new h. h),
+      is_variant
+          refl (λ p. refl) (λ p old new h. h) (λ p old h. h) (λ p old new h. h),
+      is_variant refl
+          (λ p. refl) (λ p old new h. h) (λ p old h. h) (λ p old new h. h),
+    ) };
 }
 
 type Columns = EncodersOf4<At<0>, (), (u64, String), (u64, i8, i8), Option<u16>>;

@@ -36,7 +36,8 @@ impl<'a> FromParts for Foo<'a> {
 }
 
 impl<'a> Payload for Foo<'a> {
-    ghost payload = { stood_payload ⟦<Foo<'a> as StandsFor>⟧.parts ⟦<Foo<'a> as StandsFor>⟧.of_parts ⟦<(u32, &'a str) as Payload>⟧.payload };
+    ghost payload = { stood_payload ⟦<Foo<'a> as StandsFor>⟧.parts ⟦<Foo<'a> as StandsFor>⟧.of_parts
+        ⟦<(u32, &'a str) as Payload>⟧.payload };
 }
 
 impl<'a> LendsFields2<u32, &'a str> for Foo<'a> {

@@ -9,7 +9,8 @@ use std::marker::PhantomData;
 /// Reads one value of any type, and refuses bytes that spell none.
 pub fn load<'a, T: Decode<'a>>(alloc: Global, bytes: &'a [u8]) -> Result<T, Error>
     ensures found { IfOk result (λ t. IsDecodingOf T.makes T.shape bytes.now t) }
-    ensures refused { IfErr result (λ e. e.reason ≢ Reason.OutOfMemory → (d : Datum) → SpellsDatum T.shape bytes.now d → ⊥) }
+    ensures refused { IfErr result
+        (λ e. e.reason ≢ Reason.OutOfMemory → (d : Datum) → SpellsDatum T.shape bytes.now d → ⊥) }
 {
     decode(alloc, bytes)
 }
@@ -37,7 +38,9 @@ impl<T> Cache<T> {
     where
         T: Decode<'a>,
         ensures found { IfOk result (λ t. IsDecodingOf T.makes T.shape self.now.bytes.items t) }
-        ensures refused { IfErr result (λ e. e.reason ≢ Reason.OutOfMemory → (d : Datum) → SpellsDatum T.shape self.now.bytes.items d → ⊥) }
+        ensures refused { IfErr result
+            (λ e. e.reason ≢ Reason.OutOfMemory → (d : Datum)
+            → SpellsDatum T.shape self.now.bytes.items d → ⊥) }
     {
         decode(alloc, self.bytes.as_slice())
     }

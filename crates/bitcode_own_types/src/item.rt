@@ -36,7 +36,8 @@ impl FromParts for Item {
 }
 
 impl Payload for Item {
-    ghost payload = { stood_payload ⟦<Item as StandsFor>⟧.parts ⟦<Item as StandsFor>⟧.of_parts ⟦<(String, u8) as Payload>⟧.payload };
+    ghost payload = { stood_payload ⟦<Item as StandsFor>⟧.parts ⟦<Item as StandsFor>⟧.of_parts
+        ⟦<(String, u8) as Payload>⟧.payload };
 }
 
 impl LendsFields2<String, u8> for Item {

@@ -17,16 +17,24 @@ pub type SoldSeats = BTreeMap<Seat, u32>;
 
 /// The spots that have each light, as they were written. It refuses as `decode` does.
 pub fn lit_spots(alloc: Global, input: &[u8]) -> Result<LitSpots, Error>
-    ensures found { IfOk result (λ spots. IsDecodingOf ⟦<LitSpots as Made>⟧.makes ⟦<LitSpots as Shaped>⟧.shape input.now spots) }
-    ensures refused { IfErr result (λ e. e.reason ≢ Reason.OutOfMemory → (d : Datum) → SpellsDatum ⟦<LitSpots as Shaped>⟧.shape input.now d → ⊥) }
+    ensures found { IfOk result
+        (λ spots. IsDecodingOf ⟦<LitSpots as Made>⟧.makes ⟦<LitSpots as Shaped>⟧.shape input.now
+        spots) }
+    ensures refused { IfErr result
+        (λ e. e.reason ≢ Reason.OutOfMemory → (d : Datum)
+        → SpellsDatum ⟦<LitSpots as Shaped>⟧.shape input.now d → ⊥) }
 {
     decode::<LitSpots>(alloc, input)
 }
 
 /// How often each seat was sold. It refuses as `decode` does.
 pub fn sold_seats(alloc: Global, input: &[u8]) -> Result<SoldSeats, Error>
-    ensures found { IfOk result (λ seats. IsDecodingOf ⟦<SoldSeats as Made>⟧.makes ⟦<SoldSeats as Shaped>⟧.shape input.now seats) }
-    ensures refused { IfErr result (λ e. e.reason ≢ Reason.OutOfMemory → (d : Datum) → SpellsDatum ⟦<SoldSeats as Shaped>⟧.shape input.now d → ⊥) }
+    ensures found { IfOk result
+        (λ seats. IsDecodingOf ⟦<SoldSeats as Made>⟧.makes ⟦<SoldSeats as Shaped>⟧.shape input.now
+        seats) }
+    ensures refused { IfErr result
+        (λ e. e.reason ≢ Reason.OutOfMemory → (d : Datum)
+        → SpellsDatum ⟦<SoldSeats as Shaped>⟧.shape input.now d → ⊥) }
 {
     decode::<SoldSeats>(alloc, input)
 }

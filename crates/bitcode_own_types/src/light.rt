@@ -39,13 +39,17 @@ impl HeldIn for Light {
 }
 
 impl Payload for Light {
-    ghost payload = { stood_payload ⟦<Light as StandsFor>⟧.parts ⟦<Light as StandsFor>⟧.of_parts ⟦<Bare<2, Light> as Payload>⟧.payload };
+    ghost payload = { stood_payload ⟦<Light as StandsFor>⟧.parts ⟦<Light as StandsFor>⟧.of_parts
+        ⟦<Bare<2, Light> as Payload>⟧.payload };
 }
 
 impl HasCoders for Light {}
 
 impl KeyPayload for Light {
-    ghost key = { bare_key ⟦<Light as BareVariants<2>>⟧.variant ⟦<Light as BareVariants<2>>⟧.values ⟦<Light as PartialEq>⟧.eq ⟦<Light as Ord>⟧.cmp refl refl (elim [ Light.Red ↦ refl | Light.Green ↦ refl ]) ⟦<Light as Payload>⟧.payload (bares_told _ ⟦<Light as BareVariants<2>>⟧.variant) };
+    ghost key = { bare_key ⟦<Light as BareVariants<2>>⟧.variant ⟦<Light as BareVariants<2>>⟧.values
+        ⟦<Light as PartialEq>⟧.eq ⟦<Light as Ord>⟧.cmp refl refl
+        (elim [ Light.Red ↦ refl | Light.Green ↦ refl ]) ⟦<Light as Payload>⟧.payload
+        (bares_told _ ⟦<Light as BareVariants<2>>⟧.variant) };
 }
 
 impl Key for Light {

@@ -36,7 +36,8 @@ impl<'a> FromParts for Message<'a> {
 }
 
 impl<'a> Payload for Message<'a> {
-    ghost payload = { stood_payload ⟦<Message<'a> as StandsFor>⟧.parts ⟦<Message<'a> as StandsFor>⟧.of_parts ⟦<(u32, &'a str) as Payload>⟧.payload };
+    ghost payload = { stood_payload ⟦<Message<'a> as StandsFor>⟧.parts
+        ⟦<Message<'a> as StandsFor>⟧.of_parts ⟦<(u32, &'a str) as Payload>⟧.payload };
 }
 
 impl<'a> LendsFields2<u32, &'a str> for Message<'a> {

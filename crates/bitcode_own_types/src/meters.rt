@@ -32,7 +32,8 @@ impl FromParts for Meters {
 }
 
 impl Payload for Meters {
-    ghost payload = { stood_payload ⟦<Meters as StandsFor>⟧.parts ⟦<Meters as StandsFor>⟧.of_parts ⟦<u32 as Payload>⟧.payload };
+    ghost payload = { stood_payload ⟦<Meters as StandsFor>⟧.parts ⟦<Meters as StandsFor>⟧.of_parts
+        ⟦<u32 as Payload>⟧.payload };
 }
 
 impl LendsFields1<u32> for Meters {

@@ -25,7 +25,10 @@ impl StandsFor for Monster {
 
     ghost parts = { λ t. (t.id, t.name, t.health, t.alive, t.position, t.loot) };
 
-    ghost of_parts = { λ p. (record { id = p.0; name = p.1; health = p.2; alive = p.3; position = p.4; loot = p.5 }, refl) };
+    ghost of_parts = { λ p. (
+      record { id = p.0; name = p.1; health = p.2; alive = p.3; position = p.4; loot = p.5 },
+      refl,
+    ) };
 
     fn told_parts(&self) {
         self.id.told();
@@ -53,7 +56,8 @@ impl FromParts for Monster {
 }
 
 impl Payload for Monster {
-    ghost payload = { stood_payload ⟦<Monster as StandsFor>⟧.parts ⟦<Monster as StandsFor>⟧.of_parts ⟦<Parts as Payload>⟧.payload };
+    ghost payload = { stood_payload ⟦<Monster as StandsFor>⟧.parts ⟦<Monster as StandsFor>⟧.of_parts
+        ⟦<Parts as Payload>⟧.payload };
 }
 
 impl LendsFields6<u64, String, i16, bool, (i32, i32), Vec<u16>> for Monster {

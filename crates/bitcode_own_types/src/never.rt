@@ -1,4 +1,5 @@
-//! `Never` has no values, and is written and read as nothing. What is below its declaration was written by `scripts/new_type`.
+//! `Never` has no values, and is written and read as nothing. What is below its declaration was written by
+//! `scripts/new_type`.
 ghost use Rattle.bitcode.specs.ByHand.{stood_payload};
 
 use bitcode::own::{Absent, HasCoders, NoVariants, Payload, StandsFor};
@@ -12,7 +13,8 @@ impl NoVariants for Never {
 }
 
 impl Payload for Never {
-    ghost payload = { stood_payload ⟦<Never as StandsFor>⟧.parts ⟦<Never as StandsFor>⟧.of_parts ⟦<Absent<Never> as Payload>⟧.payload };
+    ghost payload = { stood_payload ⟦<Never as StandsFor>⟧.parts ⟦<Never as StandsFor>⟧.of_parts
+        ⟦<Absent<Never> as Payload>⟧.payload };
 }
 
 impl HasCoders for Never {}

@@ -1,4 +1,5 @@
-//! `One` corresponds to the tuple of its variant's fields. What is below its declaration was written by `scripts/new_type`.
+//! `One` corresponds to the tuple of its variant's fields. What is below its declaration was written by
+//! `scripts/new_type`.
 ghost use Rattle.std.specs.Prelude.{refl};
 ghost use Rattle.bitcode.specs.ByHand.{stood_payload};
 
@@ -37,7 +38,8 @@ impl FromParts for One {
 }
 
 impl Payload for One {
-    ghost payload = { stood_payload ⟦<One as StandsFor>⟧.parts ⟦<One as StandsFor>⟧.of_parts ⟦<u8 as Payload>⟧.payload };
+    ghost payload = { stood_payload ⟦<One as StandsFor>⟧.parts ⟦<One as StandsFor>⟧.of_parts
+        ⟦<u8 as Payload>⟧.payload };
 }
 
 impl LendsFields1<u8> for One {

@@ -1,6 +1,8 @@
-//! `Order` is written and read by the numbers of its variants. What is below its declaration was written by `scripts/new_type`.
+//! `Order` is written and read by the numbers of its variants. What is below its declaration was written by
+//! `scripts/new_type`.
 ghost use Rattle.std.specs.Prelude.{◌≡◌, refl};
-ghost use Rattle.bitcode.specs.ByHand.{columns_in, each_variant, is_variant, last_payload, of_one_of_6, payload_and, payloads_in, stood_payload};
+ghost use Rattle.bitcode.specs.ByHand.{columns_in, each_variant, is_variant, last_payload, of_one_of_6, payload_and};
+ghost use Rattle.bitcode.specs.ByHand.{payloads_in, stood_payload};
 ghost use Rattle.bitcode_own_types.specs.declared.order.Order.{Order};
 
 use bitcode::own::{
@@ -23,7 +25,34 @@ pub enum Order {
 }
 
 impl Enum for Order {
-    ghost each = { each_variant (payload_and ⟦<() as Payload>⟧.payload (payload_and ⟦<(u64, String) as Payload>⟧.payload (payload_and ⟦<(u64, u16) as Payload>⟧.payload (payload_and ⟦<Option<String> as Payload>⟧.payload (payload_and ⟦<(u32, Vec<u16>) as Payload>⟧.payload (last_payload ⟦<() as Payload>⟧.payload)))))) (λ at. elim [ Order.Open ↦ at 0 tt | Order.Add a b ↦ at 1 (a, b) | Order.Remove a b ↦ at 2 (a, b) | Order.Note a ↦ at 3 a | Order.Pay a b ↦ at 4 (a, b) | Order.Cancel ↦ at 5 tt ]) ((λ p. (Order.Open, refl)), ((λ p. (Order.Add p.0 p.1, refl)), ((λ p. (Order.Remove p.0 p.1, refl)), ((λ p. (Order.Note p, refl)), ((λ p. (Order.Pay p.0 p.1, refl)), λ p. (Order.Cancel, refl)))))) };
+    ghost each = { each_variant
+        (payload_and ⟦<() as Payload>⟧.payload
+        (payload_and ⟦<(u64, String) as Payload>⟧.payload
+        (payload_and ⟦<(u64, u16) as Payload>⟧.payload
+        (payload_and ⟦<Option<String> as Payload>⟧.payload
+        (payload_and ⟦<(u32, Vec<u16>) as Payload>⟧.payload
+        (last_payload ⟦<() as Payload>⟧.payload))))))
+        (λ at. elim [
+          | Order.Open ↦ at 0 tt
+          | Order.Add a b ↦ at 1 (a, b)
+          | Order.Remove a b ↦ at 2
+              (a, b)
+          | Order.Note a ↦ at 3 a
+          | Order.Pay a b ↦ at 4 (a, b)
+          | Order.Cancel ↦ at 5 tt
+        ]) (
+          (λ p. (Order.Open, refl)),
+          (
+            (λ p. (Order.Add p.0 p.1, refl)),
+            (
+              (λ p. (Order.Remove p.0 p.1, refl)),
+              (
+                (λ p. (Order.Note p, refl)),
+                ((λ p. (Order.Pay p.0 p.1, refl)), λ p. (Order.Cancel, refl)),
+              ),
+            ),
+          ),
+        ) };
 
     ghost sized = { refl };
 
@@ -38,7 +67,14 @@ impl Enum for Order {
         }
     }
 
-    ghost one_to_one = { elim [ Order.Open ↦ refl | Order.Add a b ↦ refl | Order.Remove a b ↦ refl | Order.Note a ↦ refl | Order.Pay a b ↦ refl | Order.Cancel ↦ refl ] };
+    ghost one_to_one = { elim [
+      | Order.Open ↦ refl
+      | Order.Add a b ↦ refl
+      | Order.Remove a b ↦ refl
+      | Order.Note a ↦ refl
+      | Order.Pay a b ↦ refl
+      | Order.Cancel ↦ refl
+    ] };
 }
 
 impl EnumOf<6> for Order {
@@ -50,17 +86,28 @@ impl HeldIn for Order {
 }
 
 impl Payload for Order {
-    ghost payload = { stood_payload ⟦<Order as StandsFor>⟧.parts ⟦<Order as StandsFor>⟧.of_parts ⟦<Held<6, Order> as Payload>⟧.payload };
+    ghost payload = { stood_payload ⟦<Order as StandsFor>⟧.parts ⟦<Order as StandsFor>⟧.of_parts
+        ⟦<Held<6, Order> as Payload>⟧.payload };
 }
 
 impl Variants6<At<0>, (), (u64, String), (u64, u16), Option<String>, (u32, Vec<u16>), ()>
     for Order {
-    ghost values = { (λ p. Order.Open, λ p. Order.Add p.0 p.1, λ p. Order.Remove p.0 p.1, λ p. Order.Note p, λ p. Order.Pay p.0 p.1, λ p. Order.Cancel) };
+    ghost values = { (
+      λ p. Order.Open,
+      λ p. Order.Add p.0 p.1,
+      λ p. Order.Remove p.0 p.1,
+      λ p.
+          Order.Note p,
+      λ p. Order.Pay p.0 p.1,
+      λ p. Order.Cancel,
+    ) };
 
     fn of_payload(
         payload: OneOf6<(), (u64, String), (u64, u16), Option<String>, (u32, Vec<u16>), ()>,
     ) -> Self
-        ensures { result ≡ of_one_of_6 (λ p. Order.Open) (λ p. Order.Add p.0 p.1) (λ p. Order.Remove p.0 p.1) (λ p. Order.Note p) (λ p. Order.Pay p.0 p.1) (λ p. Order.Cancel) payload }
+        ensures { result ≡ of_one_of_6 (λ p. Order.Open) (λ p. Order.Add p.0 p.1)
+            (λ p. Order.Remove p.0 p.1) (λ p. Order.Note p) (λ p. Order.Pay p.0 p.1)
+            (λ p. Order.Cancel) payload }
     {
         match payload {
             OneOf6::First(()) => Order::Open,
@@ -72,7 +119,18 @@ impl Variants6<At<0>, (), (u64, String), (u64, u16), Option<String>, (u32, Vec<u
         }
     }
 
-    ghost are = { (is_variant refl (λ p. refl) (λ p old new h. h) (λ p old h. h) (λ p old new h. h), is_variant refl (λ p. refl) (λ p old new h. h) (λ p old h. h) (λ p old new h. h), is_variant refl (λ p. refl) (λ p old new h. h) (λ p old h. h) (λ p old new h. h), is_variant refl (λ p. refl) (λ p old new h. h) (λ p old h. h) (λ p old new h. h), is_variant refl (λ p. refl) (λ p old new h. h) (λ p old h. h) (λ p old new h. h), is_variant refl (λ p. refl) (λ p old new h. h) (λ p old h. h) (λ p old new h. h)) };
+    ghost are = { (
+      is_variant refl (λ p. refl) (λ p old new h. h) (λ p old h. h) (λ p old new h. h),
+      is_variant refl (λ p. refl) (λ p old new h. h) (λ p old h. h) (λ p old new h. h),
+      is_variant
+          refl (λ p. refl) (λ p old new h. h) (λ p old h. h) (λ p old new h. h),
+      is_variant refl
+          (λ p. refl) (λ p old new h. h) (λ p old h. h) (λ p old new h. h),
+      is_variant refl
+          (λ p. refl) (λ p old new h. h) (λ p old h. h) (λ p old new h. h),
+      is_variant refl
+          (λ p. refl) (λ p old new h. h) (λ p old h. h) (λ p old new h. h),
+    ) };
 }
 
 type Columns = EncodersOf6<

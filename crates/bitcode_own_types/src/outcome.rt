@@ -40,7 +40,8 @@ impl HeldIn for Outcome {
 }
 
 impl Payload for Outcome {
-    ghost payload = { stood_payload ⟦<Outcome as StandsFor>⟧.parts ⟦<Outcome as StandsFor>⟧.of_parts ⟦<Bare<3, Outcome> as Payload>⟧.payload };
+    ghost payload = { stood_payload ⟦<Outcome as StandsFor>⟧.parts ⟦<Outcome as StandsFor>⟧.of_parts
+        ⟦<Bare<3, Outcome> as Payload>⟧.payload };
 }
 
 impl HasCoders for Outcome {}

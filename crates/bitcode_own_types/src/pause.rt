@@ -30,7 +30,8 @@ impl FromParts for Pause {
 }
 
 impl Payload for Pause {
-    ghost payload = { stood_payload ⟦<Pause as StandsFor>⟧.parts ⟦<Pause as StandsFor>⟧.of_parts ⟦<() as Payload>⟧.payload };
+    ghost payload = { stood_payload ⟦<Pause as StandsFor>⟧.parts ⟦<Pause as StandsFor>⟧.of_parts
+        ⟦<() as Payload>⟧.payload };
 }
 
 impl HasEncoder for Pause {

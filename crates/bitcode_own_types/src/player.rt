@@ -1,7 +1,8 @@
 //! A struct of three fields, written by hand over the coders of tuples.
 ghost use Rattle.std.specs.Prelude.{true, false, refl};
 ghost use Rattle.std.proofs.Common.{⊎_elim};
-ghost use Rattle.bitcode.specs.ByHand.{struct_lawful, struct_makeable, str_lawful, str_makeable, u8_lawful, u8_makeable, u32_lawful, u32_makeable};
+ghost use Rattle.bitcode.specs.ByHand.{struct_lawful, struct_makeable, str_lawful, str_makeable, u8_lawful};
+ghost use Rattle.bitcode.specs.ByHand.{u8_makeable, u32_lawful, u32_makeable};
 ghost use Rattle.bitcode_own_types.specs.Player.{player_fields};
 
 use bitcode::coder::{Buffer, HoldsColumns, HoldsData, Result};
@@ -27,7 +28,8 @@ impl<'a> Shaped for Player<'a> {
 
     ghost lists = { λ p d. ⟦<(&'a str, (u8, u32)) as Shaped>⟧.lists (player_fields p) d };
 
-    ghost same = { λ p q. ⟦<(&'a str, (u8, u32)) as Shaped>⟧.same (player_fields p) (player_fields q) };
+    ghost same = { λ p q. ⟦<(&'a str, (u8, u32)) as Shaped>⟧.same (player_fields p)
+        (player_fields q) };
 
     ghost in_order = { true };
 
@@ -37,13 +39,17 @@ impl<'a> Shaped for Player<'a> {
         self.points.told();
     }
 
-    ghost lawful = { struct_lawful player_fields str_lawful (struct_lawful (λ rest. rest) u8_lawful u32_lawful) };
+    ghost lawful = { struct_lawful player_fields str_lawful
+        (struct_lawful (λ rest. rest) u8_lawful u32_lawful) };
 }
 
 impl<'a> Made for Player<'a> {
     ghost makes = { λ d p. ⟦<(&'a str, (u8, u32)) as Made>⟧.makes d (player_fields p) };
 
-    ghost makeable = { struct_makeable player_fields (λ name rest. (record { name = name; level = rest.0; points = rest.1 }, refl)) str_makeable (struct_makeable (λ rest. rest) (λ level points. ((level, points), refl)) u8_makeable u32_makeable) };
+    ghost makeable = { struct_makeable player_fields
+        (λ name rest. (record { name = name; level = rest.0; points = rest.1 }, refl)) str_makeable
+        (struct_makeable (λ rest. rest) (λ level points. ((level, points), refl)) u8_makeable
+        u32_makeable) };
 }
 
 type Columns = TupleEncoder<StrEncoder, TupleEncoder<IntEncoder<u8>, IntEncoder<u32>>>;
@@ -94,7 +100,8 @@ impl<'a> Encoder<Player<'a>> for PlayerEncoder {
 
     ghost of_shape = { λ e. refl };
 
-    ghost surely = { λ e n h. absurd (⊎_elim (λ never. never) (⊎_elim (λ never. never) (λ never. never)) h) };
+    ghost surely = { λ e n h. absurd
+        (⊎_elim (λ never. never) (⊎_elim (λ never. never) (λ never. never)) h) };
 }
 
 type Data<'a> = TupleDecoder<StrDecoder<'a>, TupleDecoder<IntDecoder<'a, u8>, IntDecoder<'a, u32>>>;

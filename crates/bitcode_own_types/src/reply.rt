@@ -1,6 +1,8 @@
-//! `Reply` is written and read by the numbers of its variants. What is below its declaration was written by `scripts/new_type`.
+//! `Reply` is written and read by the numbers of its variants. What is below its declaration was written by
+//! `scripts/new_type`.
 ghost use Rattle.std.specs.Prelude.{◌≡◌, refl};
-ghost use Rattle.bitcode.specs.ByHand.{columns_in, each_variant, is_variant, last_payload, of_one_of_4, payload_and, payloads_in, stood_payload};
+ghost use Rattle.bitcode.specs.ByHand.{columns_in, each_variant, is_variant, last_payload, of_one_of_4, payload_and};
+ghost use Rattle.bitcode.specs.ByHand.{payloads_in, stood_payload};
 ghost use Rattle.bitcode_own_types.specs.declared.reply.Reply.{Reply};
 
 use crate::message::Message;
@@ -27,7 +29,44 @@ pub enum Reply<'a> {
 }
 
 impl<'a> Enum for Reply<'a> {
-    ghost each = { each_variant (payload_and ⟦<() as Payload>⟧.payload (payload_and ⟦<&'a str as Payload>⟧.payload (payload_and ⟦<(Vec<&'a str>, Option<u32>) as Payload>⟧.payload (payload_and ⟦<BTreeMap<u32, String> as Payload>⟧.payload (payload_and ⟦<BTreeSet<u16> as Payload>⟧.payload (payload_and ⟦<Message<'a> as Payload>⟧.payload (payload_and ⟦<(HashMap<u16, String>, u64) as Payload>⟧.payload (last_payload ⟦<() as Payload>⟧.payload)))))))) (λ at. elim [ Reply.Done ↦ at 0 tt | Reply.Text a ↦ at 1 a | Reply.Names a b ↦ at 2 (a, b) | Reply.Counts a ↦ at 3 a | Reply.Seen a ↦ at 4 a | Reply.Told a ↦ at 5 a | Reply.Found a b ↦ at 6 (a, b) | Reply.Gone ↦ at 7 tt ]) ((λ p. (Reply.Done, refl)), ((λ p. (Reply.Text p, refl)), ((λ p. (Reply.Names p.0 p.1, refl)), ((λ p. (Reply.Counts p, refl)), ((λ p. (Reply.Seen p, refl)), ((λ p. (Reply.Told p, refl)), ((λ p. (Reply.Found p.0 p.1, refl)), λ p. (Reply.Gone, refl)))))))) };
+    ghost each = { each_variant
+        (payload_and ⟦<() as Payload>⟧.payload
+        (payload_and ⟦<&'a str as Payload>⟧.payload
+        (payload_and ⟦<(Vec<&'a str>, Option<u32>) as Payload>⟧.payload
+        (payload_and ⟦<BTreeMap<u32, String> as Payload>⟧.payload
+        (payload_and ⟦<BTreeSet<u16> as Payload>⟧.payload
+        (payload_and ⟦<Message<'a> as Payload>⟧.payload
+        (payload_and ⟦<(HashMap<u16, String>, u64) as Payload>⟧.payload
+        (last_payload ⟦<() as Payload>⟧.payload))))))))
+        (λ at. elim [
+          | Reply.Done ↦ at 0 tt
+          | Reply.Text a ↦ at 1 a
+          | Reply.Names a b ↦ at 2 (a, b)
+          | Reply.Counts a ↦ at 3 a
+          | Reply.Seen a ↦ at 4 a
+          | Reply.Told a ↦ at 5 a
+          | Reply.Found a b ↦
+              at 6 (a, b)
+          | Reply.Gone ↦ at 7 tt
+        ]) (
+          (λ p. (Reply.Done, refl)),
+          (
+            (λ p. (Reply.Text p, refl)),
+            (
+              (λ p. (Reply.Names p.0 p.1, refl)),
+              (
+                (λ p. (Reply.Counts p, refl)),
+                (
+                  (λ p. (Reply.Seen p, refl)),
+                  (
+                    (λ p. (Reply.Told p, refl)),
+                    ((λ p. (Reply.Found p.0 p.1, refl)), λ p. (Reply.Gone, refl)),
+                  ),
+                ),
+              ),
+            ),
+          ),
+        ) };
 
     ghost sized = { refl };
 
@@ -44,7 +83,16 @@ impl<'a> Enum for Reply<'a> {
         }
     }
 
-    ghost one_to_one = { elim [ Reply.Done ↦ refl | Reply.Text a ↦ refl | Reply.Names a b ↦ refl | Reply.Counts a ↦ refl | Reply.Seen a ↦ refl | Reply.Told a ↦ refl | Reply.Found a b ↦ refl | Reply.Gone ↦ refl ] };
+    ghost one_to_one = { elim [
+      | Reply.Done ↦ refl
+      | Reply.Text a ↦ refl
+      | Reply.Names a b ↦ refl
+      | Reply.Counts a ↦ refl
+      | Reply.Seen a ↦ refl
+      | Reply.Told a ↦ refl
+      | Reply.Found a b ↦ refl
+      | Reply.Gone ↦ refl
+    ] };
 }
 
 impl<'a> EnumOf<8> for Reply<'a> {
@@ -56,17 +104,25 @@ impl<'a> HeldIn for Reply<'a> {
 }
 
 impl<'a> Payload for Reply<'a> {
-    ghost payload = { stood_payload ⟦<Reply<'a> as StandsFor>⟧.parts ⟦<Reply<'a> as StandsFor>⟧.of_parts ⟦<Held<8, Reply<'a>> as Payload>⟧.payload };
+    ghost payload = { stood_payload ⟦<Reply<'a> as StandsFor>⟧.parts
+        ⟦<Reply<'a> as StandsFor>⟧.of_parts ⟦<Held<8, Reply<'a>> as Payload>⟧.payload };
 }
 
 impl<'a> Variants4<At<0>, (), &'a str, (Vec<&'a str>, Option<u32>), BTreeMap<u32, String>>
     for Reply<'a> {
-    ghost values = { (λ p. Reply.Done, λ p. Reply.Text p, λ p. Reply.Names p.0 p.1, λ p. Reply.Counts p) };
+    ghost values = { (
+      λ p. Reply.Done,
+      λ p. Reply.Text p,
+      λ p. Reply.Names p.0 p.1,
+      λ p.
+          Reply.Counts p,
+    ) };
 
     fn of_payload(
         payload: OneOf4<(), &'a str, (Vec<&'a str>, Option<u32>), BTreeMap<u32, String>>,
     ) -> Self
-        ensures { result ≡ of_one_of_4 (λ p. Reply.Done) (λ p. Reply.Text p) (λ p. Reply.Names p.0 p.1) (λ p. Reply.Counts p) payload.entry }
+        ensures { result ≡ of_one_of_4 (λ p. Reply.Done) (λ p. Reply.Text p)
+            (λ p. Reply.Names p.0 p.1) (λ p. Reply.Counts p) payload.entry }
     {
         match payload {
             OneOf4::First(()) => Reply::Done,
@@ -76,7 +132,14 @@ impl<'a> Variants4<At<0>, (), &'a str, (Vec<&'a str>, Option<u32>), BTreeMap<u32
         }
     }
 
-    ghost are = { (is_variant refl (λ p. refl) (λ p old new h. h) (λ p old h. h) (λ p old new h. h), is_variant refl (λ p. refl) (λ p old new h. h) (λ p old h. h) (λ p old new h. h), is_variant refl (λ p. refl) (λ p old new h. h) (λ p old h. h) (λ p old new h. h), is_variant refl (λ p. refl) (λ p old new h. h) (λ p old h. h) (λ p old new h. h)) };
+    ghost are = { (
+      is_variant refl (λ p. refl) (λ p old new h. h) (λ p old h. h) (λ p old new h. h),
+      is_variant refl (λ p. refl) (λ p old new h. h) (λ p old h. h) (λ p old new h. h),
+      is_variant
+          refl (λ p. refl) (λ p old new h. h) (λ p old h. h) (λ p old new h. h),
+      is_variant refl
+          (λ p. refl) (λ p old new h. h) (λ p old h. h) (λ p old new h. h),
+    ) };
 }
 
 type ColumnsOf0To3 = EncodersOf4<
@@ -101,12 +164,19 @@ impl<'a> WritesVariants<ColumnsOf0To3> for Reply<'a> {
 
 impl<'a> Variants4<At<4>, BTreeSet<u16>, Message<'a>, (HashMap<u16, String>, u64), ()>
     for Reply<'a> {
-    ghost values = { (λ p. Reply.Seen p, λ p. Reply.Told p, λ p. Reply.Found p.0 p.1, λ p. Reply.Gone) };
+    ghost values = { (
+      λ p. Reply.Seen p,
+      λ p. Reply.Told p,
+      λ p. Reply.Found p.0 p.1,
+      λ p.
+          Reply.Gone,
+    ) };
 
     fn of_payload(
         payload: OneOf4<BTreeSet<u16>, Message<'a>, (HashMap<u16, String>, u64), ()>,
     ) -> Self
-        ensures { result ≡ of_one_of_4 (λ p. Reply.Seen p) (λ p. Reply.Told p) (λ p. Reply.Found p.0 p.1) (λ p. Reply.Gone) payload.entry }
+        ensures { result ≡ of_one_of_4 (λ p. Reply.Seen p) (λ p. Reply.Told p)
+            (λ p. Reply.Found p.0 p.1) (λ p. Reply.Gone) payload.entry }
     {
         match payload {
             OneOf4::First(a) => Reply::Seen(a),
@@ -116,7 +186,14 @@ impl<'a> Variants4<At<4>, BTreeSet<u16>, Message<'a>, (HashMap<u16, String>, u64
         }
     }
 
-    ghost are = { (is_variant refl (λ p. refl) (λ p old new h. h) (λ p old h. h) (λ p old new h. h), is_variant refl (λ p. refl) (λ p old new h. h) (λ p old h. h) (λ p old new h. h), is_variant refl (λ p. refl) (λ p old new h. h) (λ p old h. h) (λ p old new h. h), is_variant refl (λ p. refl) (λ p old new h. h) (λ p old h. h) (λ p old new h. h)) };
+    ghost are = { (
+      is_variant refl (λ p. refl) (λ p old new h. h) (λ p old h. h) (λ p old new h. h),
+      is_variant refl (λ p. refl) (λ p old new h. h) (λ p old h. h) (λ p old new h. h),
+      is_variant
+          refl (λ p. refl) (λ p old new h. h) (λ p old h. h) (λ p old new h. h),
+      is_variant refl
+          (λ p. refl) (λ p old new h. h) (λ p old h. h) (λ p old new h. h),
+    ) };
 }
 
 type ColumnsOf4To7 = EncodersOf4<
@@ -187,7 +264,8 @@ pub struct ReplyPayloads<'a> {
 }
 
 impl<'a> AllPayloads<'a, 8, Reply<'a>> for ReplyPayloads<'a> {
-    ghost held = { payloads_in (λ d. d.all) ⟦<Decoders<'a> as VariantPayloads<'a, Reply<'a>>>⟧.held };
+    ghost held = { payloads_in (λ d. d.all)
+        ⟦<Decoders<'a> as VariantPayloads<'a, Reply<'a>>>⟧.held };
 
     fn new(alloc: Global) -> Self {
         ReplyPayloads {

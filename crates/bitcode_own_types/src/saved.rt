@@ -14,8 +14,12 @@ use std::collections::BTreeSet;
 ///
 /// Errors: `out of memory`, and nothing else that such scores could be refused for.
 pub fn saved_and_loaded(alloc: Global, scores: &Scores) -> Result<Scores, Error>
-    ensures equal { HasShortLengths ⟦<Scores as Shaped>⟧.lists ⟦<Scores as Shaped>⟧.shape scores.now → IfOk result (λ again. ⟦<Scores as Shaped>⟧.same scores.now again) }
-    ensures refused { HasShortLengths ⟦<Scores as Shaped>⟧.lists ⟦<Scores as Shaped>⟧.shape scores.now → IfErr result (λ e. IsWritingRefusal e.reason (HasLongListing ⟦<Scores as Shaped>⟧.lists ⟦<Scores as Shaped>⟧.shape scores.now)) }
+    ensures equal { HasShortLengths ⟦<Scores as Shaped>⟧.lists ⟦<Scores as Shaped>⟧.shape scores.now
+        → IfOk result (λ again. ⟦<Scores as Shaped>⟧.same scores.now again) }
+    ensures refused { HasShortLengths ⟦<Scores as Shaped>⟧.lists ⟦<Scores as Shaped>⟧.shape
+        scores.now → IfErr result
+        (λ e. IsWritingRefusal e.reason
+        (HasLongListing ⟦<Scores as Shaped>⟧.lists ⟦<Scores as Shaped>⟧.shape scores.now)) }
 {
     let bytes = encode(alloc, scores)?;
     let written = bytes.as_slice();
@@ -28,7 +32,8 @@ pub fn saved_and_loaded(alloc: Global, scores: &Scores) -> Result<Scores, Error>
 ///
 /// A spot corresponds to its two numbers one to one, and equal numbers are identical.
 pub fn saved_spot(alloc: Global, spot: &Spot) -> Result<Spot, Error>
-    ensures { HasShortLengths ⟦<Spot as Shaped>⟧.lists ⟦<Spot as Shaped>⟧.shape spot.now → IfOk result (λ again. spot.now ≡ again) }
+    ensures { HasShortLengths ⟦<Spot as Shaped>⟧.lists ⟦<Spot as Shaped>⟧.shape spot.now
+        → IfOk result (λ again. spot.now ≡ again) }
 {
     let bytes = encode(alloc, spot)?;
     let written = bytes.as_slice();
@@ -41,7 +46,8 @@ pub fn saved_spot(alloc: Global, spot: &Spot) -> Result<Spot, Error>
 
 /// Writes spots and reads them back: what is read is `==` to what was written.
 pub fn saved_spots(alloc: Global, spots: &BTreeSet<Spot>) -> Result<BTreeSet<Spot>, Error>
-    ensures { HasShortLengths ⟦<BTreeSet<Spot> as Shaped>⟧.lists ⟦<BTreeSet<Spot> as Shaped>⟧.shape spots.now
+    ensures { HasShortLengths ⟦<BTreeSet<Spot> as Shaped>⟧.lists ⟦<BTreeSet<Spot> as Shaped>⟧.shape
+        spots.now
         → IfOk result (λ again. IsTrue (⟦<BTreeSet<Spot> as PartialEq>⟧.eq spots.now again)) }
 {
     let bytes = encode(alloc, spots)?;

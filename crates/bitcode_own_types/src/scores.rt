@@ -1,6 +1,7 @@
 //! A container of numbers, written by hand: it is written as the sequence of its elements, and made of them.
 ghost use Rattle.std.specs.Prelude.{◌≡◌, true, false, refl, IfOk, IfErr};
-ghost use Rattle.bitcode.specs.ByHand.{image_lawful, image_makeable, u32_lawful, u32_makeable, vec_lawful, vec_makeable, MakesOfElements};
+ghost use Rattle.bitcode.specs.ByHand.{image_lawful, image_makeable, u32_lawful, u32_makeable, vec_lawful};
+ghost use Rattle.bitcode.specs.ByHand.{vec_makeable, MakesOfElements};
 ghost use Rattle.bitcode_own_types.specs.Scores.{scores_list};
 
 use bitcode::coder::{HoldsData, Result};
@@ -38,7 +39,8 @@ impl Shaped for Scores {
 impl Made for Scores {
     ghost makes = { λ d s. ⟦<Vec<u32> as Made>⟧.makes d s.list };
 
-    ghost makeable = { image_makeable scores_list (λ g list h. (record { list = list }, refl)) (vec_makeable u32_makeable) };
+    ghost makeable = { image_makeable scores_list (λ g list h. (record { list = list }, refl))
+        (vec_makeable u32_makeable) };
 }
 
 impl Sequence for Scores {
@@ -65,7 +67,8 @@ impl FromElements for Scores {
     type Part = u32;
 
     fn from_elements(_alloc: Global, elements: Vec<u32>) -> Result<Scores>
-        ensures made { IfOk result (λ t. MakesOfElements ⟦<Scores as Made>⟧.makes ⟦<u32 as Made>⟧.makes t elements.items) }
+        ensures made { IfOk result
+            (λ t. MakesOfElements ⟦<Scores as Made>⟧.makes ⟦<u32 as Made>⟧.makes t elements.items) }
         ensures refused { IfErr result (λ e. e.reason ≡ Reason.OutOfMemory) }
     {
         Ok(Scores { list: elements })

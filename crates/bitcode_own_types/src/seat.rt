@@ -40,7 +40,8 @@ impl FromParts for Seat {
 }
 
 impl Payload for Seat {
-    ghost payload = { stood_payload ⟦<Seat as StandsFor>⟧.parts ⟦<Seat as StandsFor>⟧.of_parts ⟦<(u8, u16, u16) as Payload>⟧.payload };
+    ghost payload = { stood_payload ⟦<Seat as StandsFor>⟧.parts ⟦<Seat as StandsFor>⟧.of_parts
+        ⟦<(u8, u16, u16) as Payload>⟧.payload };
 }
 
 impl LendsFields3<u8, u16, u16> for Seat {
@@ -60,7 +61,13 @@ impl<'a> HasDecoder<'a> for Seat {
 impl DecodeOwned for Seat {}
 
 impl KeyPayload for Seat {
-    ghost key = { key_as (stood_key ⟦<Seat as StandsFor>⟧.parts ⟦<Seat as StandsFor>⟧.of_parts ⟦<(u8, u16, u16) as KeyPayload>⟧.key) ⟦<Seat as PartialEq>⟧.eq ⟦<Seat as Ord>⟧.cmp (λ s t. ands_in_order (⟦<u8 as PartialEq>⟧.eq s.level t.level) ((⟦<u16 as PartialEq>⟧.eq s.row t.row) ∷ (⟦<u16 as PartialEq>⟧.eq s.place t.place) ∷ [])) (λ s t. thens_in_order (⟦<u8 as Ord>⟧.cmp s.level t.level) ((⟦<u16 as Ord>⟧.cmp s.row t.row) ∷ (⟦<u16 as Ord>⟧.cmp s.place t.place) ∷ [])) };
+    ghost key = { key_as
+        (stood_key ⟦<Seat as StandsFor>⟧.parts ⟦<Seat as StandsFor>⟧.of_parts
+        ⟦<(u8, u16, u16) as KeyPayload>⟧.key) ⟦<Seat as PartialEq>⟧.eq ⟦<Seat as Ord>⟧.cmp
+        (λ s t. ands_in_order (⟦<u8 as PartialEq>⟧.eq s.level t.level)
+        ((⟦<u16 as PartialEq>⟧.eq s.row t.row) ∷ (⟦<u16 as PartialEq>⟧.eq s.place t.place) ∷ []))
+        (λ s t. thens_in_order (⟦<u8 as Ord>⟧.cmp s.level t.level)
+        ((⟦<u16 as Ord>⟧.cmp s.row t.row) ∷ (⟦<u16 as Ord>⟧.cmp s.place t.place) ∷ [])) };
 }
 
 impl Key for Seat {

@@ -38,7 +38,8 @@ impl FromParts for Spot {
 }
 
 impl Payload for Spot {
-    ghost payload = { stood_payload ⟦<Spot as StandsFor>⟧.parts ⟦<Spot as StandsFor>⟧.of_parts ⟦<(u32, u32) as Payload>⟧.payload };
+    ghost payload = { stood_payload ⟦<Spot as StandsFor>⟧.parts ⟦<Spot as StandsFor>⟧.of_parts
+        ⟦<(u32, u32) as Payload>⟧.payload };
 }
 
 impl LendsFields2<u32, u32> for Spot {
@@ -58,7 +59,8 @@ impl<'a> HasDecoder<'a> for Spot {
 impl DecodeOwned for Spot {}
 
 impl KeyPayload for Spot {
-    ghost key = { stood_key ⟦<Spot as StandsFor>⟧.parts ⟦<Spot as StandsFor>⟧.of_parts ⟦<(u32, u32) as KeyPayload>⟧.key };
+    ghost key = { stood_key ⟦<Spot as StandsFor>⟧.parts ⟦<Spot as StandsFor>⟧.of_parts
+        ⟦<(u32, u32) as KeyPayload>⟧.key };
 }
 
 impl Key for Spot {

@@ -1,6 +1,8 @@
-//! `Two` is written and read by the numbers of its variants. What is below its declaration was written by `scripts/new_type`.
+//! `Two` is written and read by the numbers of its variants. What is below its declaration was written by
+//! `scripts/new_type`.
 ghost use Rattle.std.specs.Prelude.{◌≡◌, refl};
-ghost use Rattle.bitcode.specs.ByHand.{columns_in, each_variant, is_variant, last_payload, of_one_of_2, payload_and, payloads_in, stood_payload};
+ghost use Rattle.bitcode.specs.ByHand.{columns_in, each_variant, is_variant, last_payload, of_one_of_2, payload_and};
+ghost use Rattle.bitcode.specs.ByHand.{payloads_in, stood_payload};
 ghost use Rattle.bitcode_own_types.specs.declared.two.Two.{Two};
 
 use bitcode::own::{
@@ -19,7 +21,10 @@ pub enum Two {
 }
 
 impl Enum for Two {
-    ghost each = { each_variant (payload_and ⟦<u8 as Payload>⟧.payload (last_payload ⟦<i8 as Payload>⟧.payload)) (λ at. elim [ Two.A a ↦ at 0 a | Two.B a ↦ at 1 a ]) ((λ p. (Two.A p, refl)), λ p. (Two.B p, refl)) };
+    ghost each = { each_variant
+        (payload_and ⟦<u8 as Payload>⟧.payload (last_payload ⟦<i8 as Payload>⟧.payload))
+        (λ at. elim [ Two.A a ↦ at 0 a | Two.B a ↦ at 1 a ])
+        ((λ p. (Two.A p, refl)), λ p. (Two.B p, refl)) };
 
     ghost sized = { refl };
 
@@ -42,7 +47,8 @@ impl HeldIn for Two {
 }
 
 impl Payload for Two {
-    ghost payload = { stood_payload ⟦<Two as StandsFor>⟧.parts ⟦<Two as StandsFor>⟧.of_parts ⟦<Held<2, Two> as Payload>⟧.payload };
+    ghost payload = { stood_payload ⟦<Two as StandsFor>⟧.parts ⟦<Two as StandsFor>⟧.of_parts
+        ⟦<Held<2, Two> as Payload>⟧.payload };
 }
 
 impl Variants2<At<0>, u8, i8> for Two {
@@ -57,7 +63,10 @@ impl Variants2<At<0>, u8, i8> for Two {
         }
     }
 
-    ghost are = { (is_variant refl (λ p. refl) (λ p old new h. h) (λ p old h. h) (λ p old new h. h), is_variant refl (λ p. refl) (λ p old new h. h) (λ p old h. h) (λ p old new h. h)) };
+    ghost are = { (
+      is_variant refl (λ p. refl) (λ p old new h. h) (λ p old h. h) (λ p old new h. h),
+      is_variant refl (λ p. refl) (λ p old new h. h) (λ p old h. h) (λ p old new h. h),
+    ) };
 }
 
 type Columns = EncodersOf2<At<0>, u8, i8>;

@@ -1,5 +1,6 @@
 //! The coders of arrays.
-ghost use Rattle.std.specs.Prelude.{◌≡◌, ◌≢◌, ◌+◌, ◌*◌, ◌^◌, ◌<◌, ◌≤◌, ◌==◌, ◌||◌, IsTrue, IsOk, IfOk, OnOk, IfErr, OnErr, IsErrOf};
+ghost use Rattle.std.specs.Prelude.{◌≡◌, ◌≢◌, ◌+◌, ◌*◌, ◌^◌, ◌<◌, ◌≤◌, ◌==◌, ◌||◌, IsTrue, IsOk, IfOk, OnOk, IfErr};
+ghost use Rattle.std.specs.Prelude.{OnErr, IsErrOf};
 ghost use Rattle.bitcode_columns.specs.Reading.{Reads, IsEndOf};
 ghost use Rattle.bitcode_shapes.specs.Shape.{array_shape};
 ghost use Rattle.bitcode_coder.specs.Coder.{IsWritingRefusal, IsReadingRefusal};
@@ -59,12 +60,18 @@ impl<E: Buffer, const N: usize> Buffer for ArrayEncoder<E, N> {
     }
 
     fn reserve(&mut self, n: usize) -> Result<(), Error>
-        ensures columns { array_columns N self.new.count (E.columns self.new.elements) ≡ array_columns N self.old.count (E.columns self.old.elements) }
+        ensures columns { array_columns N self.new.count (E.columns self.new.elements)
+            ≡ array_columns N self.old.count (E.columns self.old.elements) }
         ensures ok { OnOk result (n ≤ array_room N self.new.count (E.room self.new.elements)) }
-        ensures grows { array_room N self.old.count (E.room self.old.elements) ≤ array_room N self.new.count (E.room self.new.elements) }
-        ensures succeeds { n ≤ array_room N self.old.count (E.room self.old.elements) → IsOk result }
-        ensures refused { IfErr result (λ e. IsWritingRefusal e.reason (ArraysOverflow N E.surely_overflows self.old.elements self.old.count n)) }
-        ensures overflow { ArraysOverflow N E.overflows self.old.elements self.old.count n → IsErrOf result (record { reason = Reason.LengthOverflow }) }
+        ensures grows { array_room N self.old.count (E.room self.old.elements) ≤ array_room N
+            self.new.count (E.room self.new.elements) }
+        ensures succeeds { n ≤ array_room N self.old.count (E.room self.old.elements)
+            → IsOk result }
+        ensures refused { IfErr result
+            (λ e. IsWritingRefusal e.reason
+            (ArraysOverflow N E.surely_overflows self.old.elements self.old.count n)) }
+        ensures overflow { ArraysOverflow N E.overflows self.old.elements self.old.count n
+            → IsErrOf result (record { reason = Reason.LengthOverflow }) }
     {
         let Some(count) = self.count.checked_add(n) else {
             return err(Reason::LengthOverflow);
@@ -100,9 +107,11 @@ impl<T: Shaped, E: Encoder<T>, const N: usize> Encoder<[T; N]> for ArrayEncoder<
         false
     }
 
-    ghost of_shape = { λ e. arrays_of_shape N e.count T.shape (E.columns e.elements) (E.of_shape e.elements) };
+    ghost of_shape = { λ e. arrays_of_shape N e.count T.shape (E.columns e.elements)
+        (E.of_shape e.elements) };
 
-    ghost surely = { λ e n. arrays_overflow T.shape (E.columns e.elements) n N e.count (E.surely e.elements (n * N)) };
+    ghost surely = { λ e n. arrays_overflow T.shape (E.columns e.elements) n N e.count
+        (E.surely e.elements (n * N)) };
 }
 
 /// The decoder of arrays of `N` elements. It reads the elements of all arrays.
@@ -143,9 +152,15 @@ impl<'a, D: View<'a>, const N: usize> View<'a> for ArrayDecoder<D, N> {
     }
 
     fn read(&mut self, input: &mut &'a [u8], k: usize, strict: bool) -> Result<bool, Error>
-        ensures read { OnOk result (Reads (Spells (array_shape N D.shape)) k input.old.now (arrays_of N self.new.left (D.held self.new.elements)) input.new.now) }
-        ensures judged { IsTrue strict → IfOk result (λ written. JudgesData (array_shape N D.shape) (arrays_of N self.new.left (D.held self.new.elements)) written input.old.now input.new.now) }
-        ensures refused { IfErr result (λ e. IsReadingRefusal (array_shape N D.shape) e.reason k input.old.now) }
+        ensures read { OnOk result
+            (Reads (Spells (array_shape N D.shape)) k input.old.now
+            (arrays_of N self.new.left (D.held self.new.elements)) input.new.now) }
+        ensures judged { IsTrue strict → IfOk result
+            (λ written. JudgesData (array_shape N D.shape)
+            (arrays_of N self.new.left (D.held self.new.elements)) written input.old.now
+            input.new.now) }
+        ensures refused { IfErr result
+            (λ e. IsReadingRefusal (array_shape N D.shape) e.reason k input.old.now) }
         ensures exact { IfErr result (λ e. ArrayFaults N D.faults e.reason k input.old.now) }
         ensures rest { OnErr result (IsEndOf input.old.now input.new.now) }
         ensures unread { 2 ^ 64 ≤ k * N → input.new.now ≡ input.old.now }

@@ -108,7 +108,8 @@ impl<T: Shaped + Drop, D: ConvertInto<T>, E: Encoder<T>> Encoder<D> for ConvertI
 
     ghost of_shape = { λ e. E.of_shape e.inner ∙ sym (D.written_as.columns []) };
 
-    ghost surely = { λ e n h. surely_as D.shape T.shape D.written_as (E.columns e.inner) n (E.surely e.inner n h) };
+    ghost surely = { λ e n h. surely_as D.shape T.shape D.written_as (E.columns e.inner) n
+        (E.surely e.inner n h) };
 }
 
 /// The data of values that are made from values of `T`, with the decoder `D` of `T`.

@@ -48,7 +48,8 @@ impl<'a, D: HoldsData, const N: usize> HoldsData for ArrayVecDecoder<'a, D, N> {
 }
 
 impl<'a, D: View<'a>, const N: usize> View<'a> for ArrayVecDecoder<'a, D, N> {
-    ghost faults = { λ reason k input. NamesLengthFault reason k input ⊎ (FaultsInElements D.faults reason k input ⊎ BreaksLimit N D.shape reason k input) };
+    ghost faults = { λ reason k input. NamesLengthFault reason k input
+        ⊎ (FaultsInElements D.faults reason k input ⊎ BreaksLimit N D.shape reason k input) };
 
     fn new(alloc: Global) -> Self {
         ArrayVecDecoder {

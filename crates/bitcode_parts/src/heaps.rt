@@ -30,7 +30,8 @@ impl<T: Shaped + Ord> Sequence for BinaryHeap<T> {
 
     ghost items_are = { λ t h. h };
 
-    ghost items_list = { λ t d l. record { order = heap_items t; reordered = IsPermutation-refl (heap_items t); listing = l } };
+    ghost items_list = { λ t d l. record
+        { order = heap_items t; reordered = IsPermutation-refl (heap_items t); listing = l } };
 
     ghost items_columns = { λ ds. refl };
 }
@@ -39,7 +40,8 @@ impl<T: Made + Ord + Drop> FromElements for BinaryHeap<T> {
     type Part = T;
 
     fn from_elements(_alloc: Global, elements: Vec<T>) -> Result<BinaryHeap<T>, Error>
-        ensures made { IfOk result (λ t. MakesOfElements ⟦<BinaryHeap<T> as Made>⟧.makes T.makes t elements.items) }
+        ensures made { IfOk result
+            (λ t. MakesOfElements ⟦<BinaryHeap<T> as Made>⟧.makes T.makes t elements.items) }
         ensures refused { IfErr result (λ e. e.reason ≡ Reason.OutOfMemory) }
     {
         Ok(BinaryHeap::from(elements))

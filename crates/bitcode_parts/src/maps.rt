@@ -48,17 +48,27 @@ pub trait Mapping: Shaped {
     fn encode_keys<E: Encoder<Self::Key>>(&self, keys: &mut E) -> Result<(), Error>
         requires room { length (entries self.now) ≤ E.room keys.old }
         requires values { All Self.Key.is_value (keys_of (entries self.now)) }
-        ensures joined { OnOk result (JoinsEach Self.Key.lists Self.Key.shape (keys_of (entries self.now)) (E.columns keys.old) (E.columns keys.new)) }
+        ensures joined { OnOk result
+            (JoinsEach Self.Key.lists Self.Key.shape (keys_of (entries self.now))
+            (E.columns keys.old) (E.columns keys.new)) }
         ensures form { emptied (E.columns keys.new) ≡ emptied (E.columns keys.old) }
-        ensures refused { IfErr result (λ e. IsWritingRefusal e.reason (OverflowsWithEach Self.Key.lists Self.Key.shape (keys_of (entries self.now)) (E.columns keys.old))) };
+        ensures refused { IfErr result
+            (λ e. IsWritingRefusal e.reason
+            (OverflowsWithEach Self.Key.lists Self.Key.shape (keys_of (entries self.now))
+            (E.columns keys.old))) };
 
     /// Writes the values, in the order of their keys. The caller must have reserved room for them.
     fn encode_values<E: Encoder<Self::Value>>(&self, values: &mut E) -> Result<(), Error>
         requires room { length (entries self.now) ≤ E.room values.old }
         requires values { All Self.Value.is_value (values_of (entries self.now)) }
-        ensures joined { OnOk result (JoinsEach Self.Value.lists Self.Value.shape (values_of (entries self.now)) (E.columns values.old) (E.columns values.new)) }
+        ensures joined { OnOk result
+            (JoinsEach Self.Value.lists Self.Value.shape (values_of (entries self.now))
+            (E.columns values.old) (E.columns values.new)) }
         ensures form { emptied (E.columns values.new) ≡ emptied (E.columns values.old) }
-        ensures refused { IfErr result (λ e. IsWritingRefusal e.reason (OverflowsWithEach Self.Value.lists Self.Value.shape (values_of (entries self.now)) (E.columns values.old))) };
+        ensures refused { IfErr result
+            (λ e. IsWritingRefusal e.reason
+            (OverflowsWithEach Self.Value.lists Self.Value.shape (values_of (entries self.now))
+            (E.columns values.old))) };
 
     /// Writes the keys and the values, as [`Mapping::encode_keys`] and [`Mapping::encode_values`] do. The caller must
     /// have reserved room for them.
@@ -70,20 +80,34 @@ pub trait Mapping: Shaped {
         keys: &mut E,
         values: &mut F,
     ) -> Result<(), Error>
-        requires room { (length (entries self.now) ≤ E.room keys.old) × (length (entries self.now) ≤ F.room values.old) }
-        requires are { (All Self.Key.is_value (keys_of (entries self.now))) × (All Self.Value.is_value (values_of (entries self.now))) }
-        ensures keys { OnOk result (JoinsEach Self.Key.lists Self.Key.shape (keys_of (entries self.now)) (E.columns keys.old) (E.columns keys.new)) }
-        ensures values { OnOk result (JoinsEach Self.Value.lists Self.Value.shape (values_of (entries self.now)) (F.columns values.old) (F.columns values.new)) }
-        ensures form { (emptied (E.columns keys.new) ≡ emptied (E.columns keys.old)) × (emptied (F.columns values.new) ≡ emptied (F.columns values.old)) }
-        ensures refused { IfErr result (λ e. IsWritingRefusal e.reason (OverflowsWithEach Self.Key.lists Self.Key.shape (keys_of (entries self.now)) (E.columns keys.old) ⊎ OverflowsWithEach Self.Value.lists Self.Value.shape (values_of (entries self.now)) (F.columns values.old))) }
+        requires room { (length (entries self.now) ≤ E.room keys.old)
+            × (length (entries self.now) ≤ F.room values.old) }
+        requires are { (All Self.Key.is_value (keys_of (entries self.now)))
+            × (All Self.Value.is_value (values_of (entries self.now))) }
+        ensures keys { OnOk result
+            (JoinsEach Self.Key.lists Self.Key.shape (keys_of (entries self.now))
+            (E.columns keys.old) (E.columns keys.new)) }
+        ensures values { OnOk result
+            (JoinsEach Self.Value.lists Self.Value.shape (values_of (entries self.now))
+            (F.columns values.old) (F.columns values.new)) }
+        ensures form { (emptied (E.columns keys.new) ≡ emptied (E.columns keys.old))
+            × (emptied (F.columns values.new) ≡ emptied (F.columns values.old)) }
+        ensures refused { IfErr result
+            (λ e. IsWritingRefusal e.reason
+            (OverflowsWithEach Self.Key.lists Self.Key.shape (keys_of (entries self.now))
+            (E.columns keys.old) ⊎ OverflowsWithEach Self.Value.lists Self.Value.shape
+            (values_of (entries self.now)) (F.columns values.old))) }
     {
         self.encode_keys(keys)?;
         self.encode_values(values)
     }
 
-    ghost entries_are: { (t : Self) → Self.is_value t → All (IsPairValue Self.Key.is_value Self.Value.is_value) (entries t) };
+    ghost entries_are: { (t : Self) → Self.is_value t
+        → All (IsPairValue Self.Key.is_value Self.Value.is_value) (entries t) };
 
-    ghost entries_list: { (t : Self) (d : Datum) → ListsSequence (ListsPair Self.Key.lists Self.Value.lists) (entries t) d → Self.lists t d };
+    ghost entries_list: { (t : Self) (d : Datum)
+        → ListsSequence (ListsPair Self.Key.lists Self.Value.lists) (entries t) d
+        → Self.lists t d };
 
     ghost entries_shape: { Self.shape ≡ map_shape Self.Key.shape Self.Value.shape };
 }
@@ -122,7 +146,8 @@ fn gather_pairs<'b, K, V>(
     requires { length pairs.old ≡ MOST_PAIRS }
     ensures count { (0 < result) × (result ≤ MOST_PAIRS) }
     ensures size { length pairs.new ≡ MOST_PAIRS }
-    ensures taken { map deref_pair (take 1 pairs.old) ++ rest.old ≡ map deref_pair (take result pairs.new) ++ rest.new }
+    ensures taken { map deref_pair (take 1 pairs.old) ++ rest.old ≡ map deref_pair
+        (take result pairs.new) ++ rest.new }
 {
     for count in 1..MOST_PAIRS {
         match rest.next() {
@@ -141,10 +166,17 @@ fn encode_gathered<'b, K: Shaped + 'b, V: Shaped + 'b, E: Encoder<K>, F: Encoder
 ) -> Result<(), Error>
     requires room { (length rest ≤ E.room keys.old) × (length rest ≤ F.room values.old) }
     requires are { (All K.is_value (keys_of rest)) × (All V.is_value (values_of rest)) }
-    ensures keys { OnOk result (JoinsEach K.lists K.shape (keys_of rest.entry) (E.columns keys.old) (E.columns keys.new)) }
-    ensures values { OnOk result (JoinsEach V.lists V.shape (values_of rest.entry) (F.columns values.old) (F.columns values.new)) }
-    ensures form { (emptied (E.columns keys.new) ≡ emptied (E.columns keys.old)) × (emptied (F.columns values.new) ≡ emptied (F.columns values.old)) }
-    ensures refused { IfErr result (λ e. IsWritingRefusal e.reason (OverflowsWithEach K.lists K.shape (keys_of rest.entry) (E.columns keys.old) ⊎ OverflowsWithEach V.lists V.shape (values_of rest.entry) (F.columns values.old))) }
+    ensures keys { OnOk result
+        (JoinsEach K.lists K.shape (keys_of rest.entry) (E.columns keys.old) (E.columns keys.new)) }
+    ensures values { OnOk result
+        (JoinsEach V.lists V.shape (values_of rest.entry) (F.columns values.old)
+        (F.columns values.new)) }
+    ensures form { (emptied (E.columns keys.new) ≡ emptied (E.columns keys.old))
+        × (emptied (F.columns values.new) ≡ emptied (F.columns values.old)) }
+    ensures refused { IfErr result
+        (λ e. IsWritingRefusal e.reason
+        (OverflowsWithEach K.lists K.shape (keys_of rest.entry) (E.columns keys.old)
+        ⊎ OverflowsWithEach V.lists V.shape (values_of rest.entry) (F.columns values.old))) }
 {
     while let Some(first) = rest.next() {
         let mut pairs = [first; MOST_PAIRS];
@@ -210,7 +242,8 @@ impl<K: Shaped + Eq + Hash, V: Shaped> Mapping for HashMap<K, V> {
 
     ghost entries_are = { λ t h. h.each };
 
-    ghost entries_list = { λ t d l. record { order = t.entries; reordered = IsPermutation-refl t.entries; listing = l } };
+    ghost entries_list = { λ t d l. record
+        { order = t.entries; reordered = IsPermutation-refl t.entries; listing = l } };
 
     ghost entries_shape = { refl };
 }
@@ -219,7 +252,9 @@ impl<K: Key + Made + Ord + Drop, V: Made + Drop> FromElements for BTreeMap<K, V>
     type Part = (K, V);
 
     fn from_elements(alloc: Global, elements: Vec<(K, V)>) -> Result<BTreeMap<K, V>, Error>
-        ensures made { IfOk result (λ t. MakesOfElements ⟦<BTreeMap<K, V> as Made>⟧.makes ⟦<(K, V) as Made>⟧.makes t elements.items) }
+        ensures made { IfOk result
+            (λ t. MakesOfElements ⟦<BTreeMap<K, V> as Made>⟧.makes ⟦<(K, V) as Made>⟧.makes t
+            elements.items) }
         ensures refused { IfErr result (λ e. e.reason ≡ Reason.OutOfMemory) }
     {
         told_each(elements.as_slice());
@@ -231,7 +266,9 @@ impl<K: Key + Made + Hash + Drop, V: Made + Drop> FromElements for HashMap<K, V>
     type Part = (K, V);
 
     fn from_elements(alloc: Global, elements: Vec<(K, V)>) -> Result<HashMap<K, V>, Error>
-        ensures made { IfOk result (λ t. MakesOfElements ⟦<HashMap<K, V> as Made>⟧.makes ⟦<(K, V) as Made>⟧.makes t elements.items) }
+        ensures made { IfOk result
+            (λ t. MakesOfElements ⟦<HashMap<K, V> as Made>⟧.makes ⟦<(K, V) as Made>⟧.makes t
+            elements.items) }
         ensures refused { IfErr result (λ e. e.reason ≡ Reason.OutOfMemory) }
     {
         told_each(elements.as_slice());

@@ -53,7 +53,8 @@ impl<T: Shaped + Eq + Hash> Sequence for HashSet<T> {
 
     ghost items_are = { λ t h. h.each };
 
-    ghost items_list = { λ t d l. record { order = t.keys; reordered = IsPermutation-refl t.keys; listing = l } };
+    ghost items_list = { λ t d l. record
+        { order = t.keys; reordered = IsPermutation-refl t.keys; listing = l } };
 
     ghost items_columns = { λ ds. refl };
 }
@@ -62,7 +63,8 @@ impl<T: Key + Made + Ord + Drop> FromElements for BTreeSet<T> {
     type Part = T;
 
     fn from_elements(alloc: Global, elements: Vec<T>) -> Result<BTreeSet<T>, Error>
-        ensures made { IfOk result (λ t. MakesOfElements ⟦<BTreeSet<T> as Made>⟧.makes T.makes t elements.items) }
+        ensures made { IfOk result
+            (λ t. MakesOfElements ⟦<BTreeSet<T> as Made>⟧.makes T.makes t elements.items) }
         ensures refused { IfErr result (λ e. e.reason ≡ Reason.OutOfMemory) }
     {
         told_each(elements.as_slice());
@@ -74,7 +76,8 @@ impl<T: Key + Made + Hash + Drop> FromElements for HashSet<T> {
     type Part = T;
 
     fn from_elements(alloc: Global, elements: Vec<T>) -> Result<HashSet<T>, Error>
-        ensures made { IfOk result (λ t. MakesOfElements ⟦<HashSet<T> as Made>⟧.makes T.makes t elements.items) }
+        ensures made { IfOk result
+            (λ t. MakesOfElements ⟦<HashSet<T> as Made>⟧.makes T.makes t elements.items) }
         ensures refused { IfErr result (λ e. e.reason ≡ Reason.OutOfMemory) }
     {
         told_each(elements.as_slice());

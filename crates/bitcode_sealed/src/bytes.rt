@@ -97,7 +97,8 @@ pub fn split_sealed<'a>(
     expected: &Expected,
     input: &'a [u8],
 ) -> Result<(&'a [u8], &'a [u8]), OpenError>
-    ensures found { IfOk result (λ parts. IsSealedFront expected.now input.now parts.0.now parts.1.now) }
+    ensures found { IfOk result
+        (λ parts. IsSealedFront expected.now input.now parts.0.now parts.1.now) }
     ensures refused { IfErr result (λ e. IsFault expected.now input.now e) }
 {
     let head = read_head(input)?;

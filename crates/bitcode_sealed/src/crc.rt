@@ -15,7 +15,8 @@ fn byte_step(register: u32, byte: u8) -> u32
     shifted_8(low as u8) ^ (register >> 8)
 }
 
-// The register with eight bytes taken in: it is put over the first four of them, and each byte is then shifted out by a table.
+// The register with eight bytes taken in: it is put over the first four of them, and each byte is then shifted out by a
+// table.
 fn eight_steps(register: u32, bytes: &[u8; 8]) -> u32
     ensures { result ≡ register_after register bytes.now }
 {

@@ -12,8 +12,8 @@ use bitcode_columns::ints::Int;
 /// The size of the header in bytes.
 pub const HEAD_BYTES: usize = 20;
 
-// What sealed bytes begin with. No text begins so: neither byte is ASCII, the first only goes on with a character of UTF-8,
-// and the second stands nowhere in UTF-8.
+// What sealed bytes begin with. No text begins so: neither byte is ASCII, the first only goes on with a character of
+// UTF-8, and the second stands nowhere in UTF-8.
 const MAGIC: [u8; 2] = [0xBC, 0xF5];
 
 // What a head says: the label of a value, and how many bytes the value has.
@@ -44,10 +44,16 @@ impl Head {
     // What the bytes say where a head stands, whatever their checksum.
     fn said_by(input: &[u8]) -> Head
         requires { 20 ≤ length input.now }
-        ensures version { result.label.version ≡ little_endian (slice_index input.now 2 ∷ slice_index input.now 3 ∷ []) }
-        ensures kind { result.label.kind ≡ little_endian (slice_index input.now 4 ∷ slice_index input.now 5 ∷ slice_index input.now 6 ∷ slice_index input.now 7 ∷ []) }
-        ensures size { result.size ≡ little_endian (slice_index input.now 8 ∷ slice_index input.now 9 ∷ slice_index input.now 10 ∷ slice_index input.now 11
-            ∷ slice_index input.now 12 ∷ slice_index input.now 13 ∷ slice_index input.now 14 ∷ slice_index input.now 15 ∷ []) }
+        ensures version { result.label.version ≡ little_endian
+            (slice_index input.now 2 ∷ slice_index input.now 3 ∷ []) }
+        ensures kind { result.label.kind ≡ little_endian
+            (slice_index input.now 4 ∷ slice_index input.now 5 ∷ slice_index input.now 6
+            ∷ slice_index input.now 7 ∷ []) }
+        ensures size { result.size ≡ little_endian
+            (slice_index input.now 8 ∷ slice_index input.now 9 ∷ slice_index input.now 10
+            ∷ slice_index input.now 11
+            ∷ slice_index input.now 12 ∷ slice_index input.now 13 ∷ slice_index input.now 14
+            ∷ slice_index input.now 15 ∷ []) }
     {
         Head {
             label: Label {

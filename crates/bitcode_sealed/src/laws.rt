@@ -19,11 +19,12 @@ use bitcode_shapes::shaped::Made;
 /// let refused = open::<T>(alloc, &EXPECTED, &damaged); // Err
 /// ```
 pub fn damage_is_seen(bytes: &[u8], damaged: &[u8])
-    ensures { IsSealed bytes.now → DiffersWithinFour bytes.now damaged.now → IsSealed damaged.now → ⊥ }
+    ensures { IsSealed bytes.now → DiffersWithinFour bytes.now damaged.now → IsSealed damaged.now
+        → ⊥ }
 {}
 
-/// A value that `open` returns from sealed bytes is equal to the one that was sealed, if in each listing of that value each
-/// column of lengths sums to less than 2251799813685247.
+/// A value that `open` returns from sealed bytes is equal to the one that was sealed, if in each listing of that value
+/// each column of lengths sums to less than 2251799813685247.
 ///
 /// ```text
 /// let bytes = seal(alloc, EXPECTED.label, &t)?;
@@ -31,7 +32,8 @@ pub fn damage_is_seen(bytes: &[u8], damaged: &[u8])
 /// comes_back(&t, EXPECTED.label, &EXPECTED, &bytes, &u);
 /// ```
 pub fn comes_back<'a, T: Made>(t: &T, label: Label, expected: &Expected, bytes: &'a [u8], u: &T)
-    ensures { IsSealingOf T.lists T.shape label t.now bytes.now → HasShortLengths T.lists T.shape t.now
+    ensures { IsSealingOf T.lists T.shape label t.now bytes.now
+        → HasShortLengths T.lists T.shape t.now
         → IsOpeningOf T.makes T.shape expected.now bytes.now u.now → T.same t.now u.now }
 {
     t.told();

@@ -3,7 +3,8 @@ ghost use Rattle.std.specs.Prelude.{◌≡◌, IfOk, OnOk, IfErr, OnErr};
 ghost use Rattle.bitcode_coder.specs.Coder.{IsWritingRefusal};
 ghost use Rattle.bitcode_derive.specs.Whole.{HasLongListing, IsDecodingOf};
 ghost use Rattle.bitcode_sealed.specs.Sealing.{IsSealingOf, IsSealedBehind};
-ghost use Rattle.bitcode_sealed.specs.Opening.{IsOpeningOf, IsOpeningOfFront, IsDecodingRefusal, IsRefusal, IsRefusalOfFront};
+ghost use Rattle.bitcode_sealed.specs.Opening.{IsOpeningOf, IsOpeningOfFront, IsDecodingRefusal, IsRefusal};
+ghost use Rattle.bitcode_sealed.specs.Opening.{IsRefusalOfFront};
 
 use crate::bytes::{seal_bytes, split_sealed};
 use crate::error::OpenError;
@@ -34,9 +35,11 @@ pub fn seal_into<T: HasEncoder + Shaped>(
 ) -> Result<(), Error>
 where
     T::Encoder: Buffer + Encoder<T> + Drop,
-    ensures written { OnOk result (IsSealedBehind T.lists T.shape label t.now out.old.items out.new.items) }
+    ensures written { OnOk result
+        (IsSealedBehind T.lists T.shape label t.now out.old.items out.new.items) }
     ensures unchanged { OnErr result (out.new.items ≡ out.old.items) }
-    ensures refused { IfErr result (λ e. IsWritingRefusal e.reason (HasLongListing T.lists T.shape t.now)) }
+    ensures refused { IfErr result
+        (λ e. IsWritingRefusal e.reason (HasLongListing T.lists T.shape t.now)) }
 {
     let value = encode(alloc, t)?;
     seal_bytes(label, &value, out)
@@ -56,7 +59,8 @@ pub fn seal<T: HasEncoder + Shaped>(alloc: Global, label: Label, t: &T) -> Resul
 where
     T::Encoder: Buffer + Encoder<T> + Drop,
     ensures written { IfOk result (λ bytes. IsSealingOf T.lists T.shape label t.now bytes.items) }
-    ensures refused { IfErr result (λ e. IsWritingRefusal e.reason (HasLongListing T.lists T.shape t.now)) }
+    ensures refused { IfErr result
+        (λ e. IsWritingRefusal e.reason (HasLongListing T.lists T.shape t.now)) }
 {
     let mut bytes = Vec::new(alloc);
     seal_into(alloc, label, t, &mut bytes)?;
@@ -71,7 +75,9 @@ fn decode_value<'a, T: HasDecoder<'a> + Made + Drop>(
 where
     T::Decoder: View<'a> + Decoder<T> + Drop,
     ensures found { IfOk result (λ t. IsDecodingOf T.makes T.shape value.now t) }
-    ensures refused { IfErr result (λ e. IsDecodingRefusal T.Decoder.faults T.Decoder.makes_free T.Decoder.shape T.shape value.now e) }
+    ensures refused { IfErr result
+        (λ e. IsDecodingRefusal T.Decoder.faults T.Decoder.makes_free T.Decoder.shape T.shape
+        value.now e) }
 {
     match decode(alloc, value) {
         Ok(t) => Ok(t),
@@ -97,7 +103,9 @@ pub fn open<'a, T: HasDecoder<'a> + Made + Drop>(
 where
     T::Decoder: View<'a> + Decoder<T> + Drop,
     ensures found { IfOk result (λ t. IsOpeningOf T.makes T.shape expected.now bytes.now t) }
-    ensures refused { IfErr result (λ e. IsRefusal T.Decoder.faults T.Decoder.makes_free T.Decoder.shape T.shape expected.now bytes.now e) }
+    ensures refused { IfErr result
+        (λ e. IsRefusal T.Decoder.faults T.Decoder.makes_free T.Decoder.shape T.shape expected.now
+        bytes.now e) }
 {
     let (value, rest) = split_sealed(expected, bytes)?;
     if !rest.is_empty() {
@@ -130,8 +138,11 @@ pub fn open_front<'a, T: HasDecoder<'a> + Made + Drop>(
 ) -> Result<T, OpenError>
 where
     T::Decoder: View<'a> + Decoder<T> + Drop,
-    ensures found { IfOk result (λ t. IsOpeningOfFront T.makes T.shape expected.now input.old.now t input.new.now) }
-    ensures refused { IfErr result (λ e. IsRefusalOfFront T.Decoder.faults T.Decoder.makes_free T.Decoder.shape T.shape expected.now input.old.now e) }
+    ensures found { IfOk result
+        (λ t. IsOpeningOfFront T.makes T.shape expected.now input.old.now t input.new.now) }
+    ensures refused { IfErr result
+        (λ e. IsRefusalOfFront T.Decoder.faults T.Decoder.makes_free T.Decoder.shape T.shape
+        expected.now input.old.now e) }
     ensures unchanged { OnErr result (input.new.now ≡ input.old.now) }
 {
     let (value, rest) = split_sealed(expected, *input)?;

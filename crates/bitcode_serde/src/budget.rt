@@ -66,7 +66,8 @@ impl Budget {
     /// If an allocation fails, the error is `out of memory`.
     #[inline(always)]
     pub fn keep<T: Drop>(&self, items: &mut Vec<T>, item: T) -> Result<(), Error>
-        ensures kept { IsLeft self.now → OnOk result (items.new.items ≡ items.old.items ++ item ∷ []) }
+        ensures kept { IsLeft self.now → OnOk result
+            (items.new.items ≡ items.old.items ++ item ∷ []) }
         ensures refused { IfErr result (λ e. e.reason ≡ Reason.OutOfMemory) }
     {
         if !self.is_spent() {

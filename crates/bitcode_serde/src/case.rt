@@ -7,7 +7,8 @@ ghost use Rattle.bitcode_coder.specs.Coder.{written_columns};
 ghost use Rattle.bitcode_coder.specs.Columns.{one, IsEntryOf};
 ghost use Rattle.bitcode_shapes.specs.Datum.{Datum};
 ghost use Rattle.bitcode_shapes.specs.Shape.{IsOf};
-ghost use Rattle.bitcode_untyped.proofs.ViewLemmas.{datum-Bool, datum-U8, datum-U16, datum-U32, datum-U64, datum-U128, datum-I8, datum-I16, datum-I32, datum-I64, datum-I128, datum-Str};
+ghost use Rattle.bitcode_untyped.proofs.ViewLemmas.{datum-Bool, datum-U8, datum-U16, datum-U32, datum-U64, datum-U128};
+ghost use Rattle.bitcode_untyped.proofs.ViewLemmas.{datum-I8, datum-I16, datum-I32, datum-I64, datum-I128, datum-Str};
 ghost use Rattle.bitcode_untyped.specs.View.{datum_of};
 ghost use Rattle.bitcode_untyped.specs.declared.value.Value.{Value};
 ghost use Rattle.bitcode_untyped.specs.declared.value.Value.TheVariants as value;
@@ -37,7 +38,8 @@ pub trait Case: Made {
 
     ghost of_case: { (t : Self) → IsCaseOf Self.kind (Self.holder t) };
 
-    ghost one_column: { (ds : List Datum) → written_columns Self.shape ds ≡ one (kind_of Self.kind) ds };
+    ghost one_column: { (ds : List Datum)
+        → written_columns Self.shape ds ≡ one (kind_of Self.kind) ds };
 
     ghost entry: { (d : Datum) → IsOf Self.shape d → IsEntryOf (kind_of Self.kind) d };
 

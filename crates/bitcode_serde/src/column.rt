@@ -1,5 +1,6 @@
 //! The columns that a reader has opened.
-ghost use Rattle.std.specs.Prelude.{◌≡◌, ◌≢◌, ℕ, ◌<◌, ◌≤◌, List, ◌∷◌, ◌++◌, None, false, length, map, sum, IsTrue, ◌↔◌, MatchBool, vec_len, vec_capacity, IfOk, OnOk, IfErr};
+ghost use Rattle.std.specs.Prelude.{◌≡◌, ◌≢◌, ℕ, ◌<◌, ◌≤◌, List, ◌∷◌, ◌++◌, None, false, length, map, sum, IsTrue, ◌↔◌};
+ghost use Rattle.std.specs.Prelude.{MatchBool, vec_len, vec_capacity, IfOk, OnOk, IfErr};
 ghost use Rattle.std.specs.List.{AllByRecursion};
 ghost use Rattle.bitcode_columns.specs.Reading.{Reads};
 ghost use Rattle.bitcode_coder.specs.LengthColumn.{SpellsLengths, length_bytes};
@@ -16,7 +17,8 @@ ghost use Rattle.bitcode_coder.specs.Coder.{IsReadingRefusal, TakesDatum};
 ghost use Rattle.bitcode_coder.specs.Faults.{NamesIntsFault};
 ghost use Rattle.bitcode_untyped.specs.View.{datum_of};
 ghost use Rattle.bitcode_serde.specs.Kinds.{kind_index};
-ghost use Rattle.bitcode_serde.specs.ReadColumns.{kind_of, kind_in_code, kind_of_column, left, Tallies, IsCaseOf, AddsTaken, ReadsColumn, IsColumnRefusal};
+ghost use Rattle.bitcode_serde.specs.ReadColumns.{kind_of, kind_in_code, kind_of_column, left, Tallies, IsCaseOf};
+ghost use Rattle.bitcode_serde.specs.ReadColumns.{AddsTaken, ReadsColumn, IsColumnRefusal};
 
 use crate::case::Case;
 use crate::serde::VariantDecoder;
@@ -138,7 +140,9 @@ fn push_next<T: Case, D: Decoder<T>>(column: &mut D, values: &mut Vec<Value>) ->
     requires room { vec_len values.old < vec_capacity values.old }
     requires some { 0 < length (D.held column.old) }
     requires free { IsTrue D.makes_free }
-    ensures taken { OnOk result (AddsTaken T.kind (D.held column.old) (D.held column.new) values.old.items values.new.items) }
+    ensures taken { OnOk result
+        (AddsTaken T.kind (D.held column.old) (D.held column.new) values.old.items
+        values.new.items) }
     ensures refused { IfErr result (λ e. e.reason ≡ Reason.OutOfMemory) }
 {
     let value = next_value::<T, D>(column);
@@ -151,7 +155,9 @@ fn push_next<T: Case, D: Decoder<T>>(column: &mut D, values: &mut Vec<Value>) ->
 fn push_next_byte(column: &mut VariantDecoder<'_>, values: &mut Vec<Value>) -> Result<(), Error>
     requires room { vec_len values.old < vec_capacity values.old }
     requires some { 0 < length (indices_left column.old) }
-    ensures taken { OnOk result (AddsTaken ColumnKind.Bytes (indices_left column.old) (indices_left column.new) values.old.items values.new.items) }
+    ensures taken { OnOk result
+        (AddsTaken ColumnKind.Bytes (indices_left column.old) (indices_left column.new)
+        values.old.items values.new.items) }
     ensures counts { (index : ℕ) → index_count column.new index ≡ index_count column.old index }
     ensures refused { IfErr result (λ e. e.reason ≡ Reason.OutOfMemory) }
 {
@@ -165,7 +171,9 @@ fn push_next_byte(column: &mut VariantDecoder<'_>, values: &mut Vec<Value>) -> R
 fn push_made<T: Case, D: Decoder<T>>(column: &mut D, values: &mut Vec<Value>) -> Result<(), Error>
     requires room { vec_len values.old < vec_capacity values.old }
     requires some { 0 < length (D.held column.old) }
-    ensures taken { OnOk result (AddsTaken T.kind (D.held column.old) (D.held column.new) values.old.items values.new.items) }
+    ensures taken { OnOk result
+        (AddsTaken T.kind (D.held column.old) (D.held column.new) values.old.items
+        values.new.items) }
     ensures refused { IfErr result (λ e. e.reason ≡ Reason.OutOfMemory) }
 {
     let item: T = column.decode()?;
@@ -182,7 +190,8 @@ fn take_free<T: Case + Drop, D: Decoder<T>>(
 ) -> Result<Vec<Value>, Error>
     requires some { count ≤ length (D.held column.old) }
     requires free { IsTrue D.makes_free }
-    ensures taken { IfOk result (λ values. D.held column.old ≡ map datum_of values.items ++ D.held column.new) }
+    ensures taken { IfOk result
+        (λ values. D.held column.old ≡ map datum_of values.items ++ D.held column.new) }
     ensures size { IfOk result (λ values. length values.items ≡ count) }
     ensures of_case { IfOk result (λ values. AllByRecursion (IsCaseOf T.kind) values.items) }
     ensures refused { IfErr result (λ e. e.reason ≡ Reason.OutOfMemory) }
@@ -201,7 +210,8 @@ fn take_values<T: Case + Drop, D: Decoder<T>>(
     count: usize,
 ) -> Result<Vec<Value>, Error>
     requires { count ≤ length (D.held column.old) }
-    ensures taken { IfOk result (λ values. D.held column.old ≡ map datum_of values.items ++ D.held column.new) }
+    ensures taken { IfOk result
+        (λ values. D.held column.old ≡ map datum_of values.items ++ D.held column.new) }
     ensures size { IfOk result (λ values. length values.items ≡ count) }
     ensures of_case { IfOk result (λ values. AllByRecursion (IsCaseOf T.kind) values.items) }
     ensures refused { IfErr result (λ e. e.reason ≡ Reason.OutOfMemory) }
@@ -218,9 +228,11 @@ fn take_indices(
     count: usize,
 ) -> Result<Vec<Value>, Error>
     requires { count ≤ length (indices_left column.old) }
-    ensures taken { IfOk result (λ values. indices_left column.old ≡ map datum_of values.items ++ indices_left column.new) }
+    ensures taken { IfOk result
+        (λ values. indices_left column.old ≡ map datum_of values.items ++ indices_left column.new) }
     ensures size { IfOk result (λ values. length values.items ≡ count) }
-    ensures of_case { IfOk result (λ values. AllByRecursion (IsCaseOf ColumnKind.Bytes) values.items) }
+    ensures of_case { IfOk result
+        (λ values. AllByRecursion (IsCaseOf ColumnKind.Bytes) values.items) }
     ensures counts { (index : ℕ) → index_count column.new index ≡ index_count column.old index }
     ensures refused { IfErr result (λ e. e.reason ≡ Reason.OutOfMemory) }
 {
@@ -238,8 +250,10 @@ fn read<'a, D: View<'a> + Drop>(
     count: usize,
     strict: bool,
 ) -> Result<(D, bool), Error>
-    ensures read { IfOk result (λ d. Reads (Spells D.shape) count input.old.now (D.held d.0) input.new.now) }
-    ensures judged { IsTrue strict → IfOk result (λ d. JudgesData D.shape (D.held d.0) d.1 input.old.now input.new.now) }
+    ensures read { IfOk result
+        (λ d. Reads (Spells D.shape) count input.old.now (D.held d.0) input.new.now) }
+    ensures judged { IsTrue strict → IfOk result
+        (λ d. JudgesData D.shape (D.held d.0) d.1 input.old.now input.new.now) }
     ensures refused { IfErr result (λ e. IsReadingRefusal D.shape e.reason count input.old.now) }
     ensures exact { IfErr result (λ e. D.faults e.reason count input.old.now) }
 {
@@ -255,10 +269,16 @@ fn read_indices<'a>(
     count: usize,
     strict: bool,
 ) -> Result<(VariantDecoder<'a>, bool), Error>
-    ensures read { IfOk result (λ d. Reads (Spells (int_shape 1 false)) count input.old.now (indices_left d.0) input.new.now) }
-    ensures judged { IsTrue strict → IfOk result (λ d. JudgesData (int_shape 1 false) (indices_left d.0) d.1 input.old.now input.new.now) }
-    ensures counts { IfOk result (λ d. (index : ℕ) → index < 256 → index_count d.0 index ≡ count_of index (indices_left d.0)) }
-    ensures refused { IfErr result (λ e. IsReadingRefusal (int_shape 1 false) e.reason count input.old.now) }
+    ensures read { IfOk result
+        (λ d. Reads (Spells (int_shape 1 false)) count input.old.now (indices_left d.0)
+        input.new.now) }
+    ensures judged { IsTrue strict → IfOk result
+        (λ d. JudgesData (int_shape 1 false) (indices_left d.0) d.1 input.old.now input.new.now) }
+    ensures counts { IfOk result
+        (λ d. (index : ℕ) → index < 256
+        → index_count d.0 index ≡ count_of index (indices_left d.0)) }
+    ensures refused { IfErr result
+        (λ e. IsReadingRefusal (int_shape 1 false) e.reason count input.old.now) }
     ensures exact { IfErr result (λ e. NamesIntsFault 1 e.reason count input.old.now) }
 {
     let mut column = VariantDecoder::new(alloc);
@@ -273,8 +293,10 @@ fn read_lengths<'a>(
     count: usize,
     strict: bool,
 ) -> Result<(LengthDecoder<'a>, bool), Error>
-    ensures read { IfOk result (λ d. Reads (SpellsLengths None) count input.old.now (lengths_left d.0) input.new.now) }
-    ensures judged { IsTrue strict → IfOk result (λ d. IsTrue d.1 ↔ (input.old.now ≡ length_bytes (lengths_left d.0) ++ input.new.now)) }
+    ensures read { IfOk result
+        (λ d. Reads (SpellsLengths None) count input.old.now (lengths_left d.0) input.new.now) }
+    ensures judged { IsTrue strict → IfOk result
+        (λ d. IsTrue d.1 ↔ (input.old.now ≡ length_bytes (lengths_left d.0) ++ input.new.now)) }
     ensures sum { IfOk result (λ d. lengths_sum d.0 ≡ sum (lengths_left d.0)) }
     ensures refused { IfErr result (λ e. NamesLengthFault e.reason count input.old.now) }
 {
@@ -295,11 +317,16 @@ impl<'a> Column<'a> {
         count: usize,
         strict: bool,
     ) -> Result<(Column<'a>, bool), Error>
-        ensures read { IfOk result (λ column. ReadsColumn (kind_of kind) count input.old.now (left column.0) input.new.now) }
-        ensures judged { IsTrue strict → IfOk result (λ column. JudgesColumn column.1 (kind_of kind) (left column.0) input.old.now input.new.now) }
+        ensures read { IfOk result
+            (λ column. ReadsColumn (kind_of kind) count input.old.now (left column.0)
+            input.new.now) }
+        ensures judged { IsTrue strict → IfOk result
+            (λ column. JudgesColumn column.1 (kind_of kind) (left column.0) input.old.now
+            input.new.now) }
         ensures kind { IfOk result (λ column. kind_of_column column.0 ≡ kind_of kind) }
         ensures tallies { IfOk result (λ column. Tallies column.0 (left column.0)) }
-        ensures refused { IfErr result (λ e. IsColumnRefusal (kind_of kind) e.reason count input.old.now) }
+        ensures refused { IfErr result
+            (λ e. IsColumnRefusal (kind_of kind) e.reason count input.old.now) }
     {
         match kind {
             ColumnKind::Bools => {
@@ -386,7 +413,8 @@ impl<'a> Column<'a> {
         ensures taken { IfOk result (λ value. left self.old ≡ datum_of value ∷ left self.new) }
         ensures of_case { IfOk result (λ value. IsCaseOf (kind_in_code self.old) value) }
         ensures kind { kind_of_column self.new ≡ kind_of_column self.old }
-        ensures tallies { (entries : List Datum) → Tallies self.old entries → Tallies self.new entries }
+        ensures tallies { (entries : List Datum) → Tallies self.old entries
+            → Tallies self.new entries }
         ensures refused { IfErr result (λ e. e.reason ≡ Reason.OutOfMemory) }
     {
         match self {
@@ -411,9 +439,12 @@ impl<'a> Column<'a> {
     /// The only error is `out of memory`.
     pub fn take_behind(&mut self, values: &mut Vec<Value>) -> Result<(), Error>
         requires { 0 < length (left self.old) }
-        ensures taken { OnOk result (AddsTaken (kind_in_code self.old) (left self.old) (left self.new) values.old.items values.new.items) }
+        ensures taken { OnOk result
+            (AddsTaken (kind_in_code self.old) (left self.old) (left self.new) values.old.items
+            values.new.items) }
         ensures kind { kind_of_column self.new ≡ kind_of_column self.old }
-        ensures tallies { (entries : List Datum) → Tallies self.old entries → Tallies self.new entries }
+        ensures tallies { (entries : List Datum) → Tallies self.old entries
+            → Tallies self.new entries }
         ensures refused { IfErr result (λ e. e.reason ≡ Reason.OutOfMemory) }
     {
         values.reserve(1)?;
@@ -441,11 +472,14 @@ impl<'a> Column<'a> {
     // Takes so many of the next entries, one after another. So many are left.
     fn take_in_turn(&mut self, alloc: Global, count: usize) -> Result<Vec<Value>, Error>
         requires { count ≤ length (left self.old) }
-        ensures taken { IfOk result (λ values. left self.old ≡ map datum_of values.items ++ left self.new) }
+        ensures taken { IfOk result
+            (λ values. left self.old ≡ map datum_of values.items ++ left self.new) }
         ensures size { IfOk result (λ values. length values.items ≡ count) }
-        ensures of_case { IfOk result (λ values. AllByRecursion (IsCaseOf (kind_in_code self.old)) values.items) }
+        ensures of_case { IfOk result
+            (λ values. AllByRecursion (IsCaseOf (kind_in_code self.old)) values.items) }
         ensures kind { kind_of_column self.new ≡ kind_of_column self.old }
-        ensures tallies { (entries : List Datum) → Tallies self.old entries → Tallies self.new entries }
+        ensures tallies { (entries : List Datum) → Tallies self.old entries
+            → Tallies self.new entries }
         ensures refused { IfErr result (λ e. e.reason ≡ Reason.OutOfMemory) }
     {
         let mut values = Vec::with_capacity(alloc, count)?;
@@ -461,11 +495,14 @@ impl<'a> Column<'a> {
     /// The only error is `out of memory`.
     pub fn take_each(&mut self, alloc: Global, count: usize) -> Result<Vec<Value>, Error>
         requires { count ≤ length (left self.old) }
-        ensures taken { IfOk result (λ values. left self.old ≡ map datum_of values.items ++ left self.new) }
+        ensures taken { IfOk result
+            (λ values. left self.old ≡ map datum_of values.items ++ left self.new) }
         ensures size { IfOk result (λ values. length values.items ≡ count) }
-        ensures of_case { IfOk result (λ values. AllByRecursion (IsCaseOf (kind_in_code self.old)) values.items) }
+        ensures of_case { IfOk result
+            (λ values. AllByRecursion (IsCaseOf (kind_in_code self.old)) values.items) }
         ensures kind { kind_of_column self.new ≡ kind_of_column self.old }
-        ensures tallies { (entries : List Datum) → Tallies self.old entries → Tallies self.new entries }
+        ensures tallies { (entries : List Datum) → Tallies self.old entries
+            → Tallies self.new entries }
         ensures refused { IfErr result (λ e. e.reason ≡ Reason.OutOfMemory) }
     {
         match self {
@@ -491,7 +528,8 @@ impl<'a> Column<'a> {
         requires some { 0 < length (left self.old) }
         ensures taken { left self.old ≡ natural result ∷ left self.new }
         ensures kind { kind_of_column self.new ≡ kind_of_column self.old }
-        ensures tallies { (entries : List Datum) → Tallies self.old entries → Tallies self.new entries }
+        ensures tallies { (entries : List Datum) → Tallies self.old entries
+            → Tallies self.new entries }
     {
         match self {
             Column::Lengths(column) => column.decode(),
@@ -505,7 +543,8 @@ impl<'a> Column<'a> {
         requires some { 0 < length (left self.old) }
         ensures taken { left self.old ≡ natural result ∷ left self.new }
         ensures kind { kind_of_column self.new ≡ kind_of_column self.old }
-        ensures tallies { (entries : List Datum) → Tallies self.old entries → Tallies self.new entries }
+        ensures tallies { (entries : List Datum) → Tallies self.old entries
+            → Tallies self.new entries }
     {
         match self {
             Column::Bytes(column) => column.decode().unwrap(),
@@ -519,10 +558,12 @@ impl<'a> Column<'a> {
     pub fn take_bytes(&mut self, count: usize) -> Result<Vec<u8>, Error>
         requires bytes { kind_of_column self.old ≡ ints 1 false }
         requires some { count ≤ length (left self.old) }
-        ensures taken { IfOk result (λ bytes. left self.old ≡ map natural bytes.items ++ left self.new) }
+        ensures taken { IfOk result
+            (λ bytes. left self.old ≡ map natural bytes.items ++ left self.new) }
         ensures size { IfOk result (λ bytes. length bytes.items ≡ count) }
         ensures kind { kind_of_column self.new ≡ kind_of_column self.old }
-        ensures tallies { (entries : List Datum) → Tallies self.old entries → Tallies self.new entries }
+        ensures tallies { (entries : List Datum) → Tallies self.old entries
+            → Tallies self.new entries }
         ensures refused { IfErr result (λ e. e.reason ≡ Reason.OutOfMemory) }
     {
         match self {
@@ -537,7 +578,8 @@ impl<'a> Column<'a> {
         requires some { 0 < length (left self.old) }
         ensures taken { left self.old ≡ natural result ∷ left self.new }
         ensures kind { kind_of_column self.new ≡ kind_of_column self.old }
-        ensures tallies { (entries : List Datum) → Tallies self.old entries → Tallies self.new entries }
+        ensures tallies { (entries : List Datum) → Tallies self.old entries
+            → Tallies self.new entries }
     {
         match self {
             Column::U32(column) => next(column),
@@ -559,7 +601,8 @@ impl<'a> Column<'a> {
     /// How often this index was read, including entries that were already taken.
     pub fn count(&self, index: u8) -> usize
         requires { kind_of_column self.now ≡ ints 1 false }
-        ensures { (entries : List Datum) → Tallies self.now entries → result ≡ count_of index entries }
+        ensures { (entries : List Datum) → Tallies self.now entries
+            → result ≡ count_of index entries }
     {
         match self {
             Column::Bytes(column) => column.length(index),

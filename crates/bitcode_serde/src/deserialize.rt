@@ -25,8 +25,8 @@ use std::alloc::Global;
 /// The maximal number of references on one path.
 pub const REF_LIMIT: usize = 512;
 
-// Reads a value of a shape from the whole input, as far as a budget of nodes keeps it. Where `strict`, the answer is whether each column stands in the bytes that are
-// written for its entries; else it says nothing.
+// Reads a value of a shape from the whole input, as far as a budget of nodes keeps it. Where `strict`, the answer is
+// whether each column stands in the bytes that are written for its entries; else it says nothing.
 fn read_whole(
     alloc: Global,
     shape: &Shape,
@@ -34,10 +34,18 @@ fn read_whole(
     budget: &mut Budget,
     strict: bool,
 ) -> Result<(Value, bool), Error>
-    ensures read { IfOk result (λ read. Keeps datum_of (SpellsDatum (tree_of shape.now) bytes.now) budget.old read.0 budget.new) }
-    ensures judged { IsTrue strict → IsLeft budget.new → IfOk result (λ read. IsTrue read.1 ↔ StrictlySpellsDatum (tree_of shape.now) bytes.now (datum_of read.0)) }
+    ensures read { IfOk result
+        (λ read. Keeps datum_of (SpellsDatum (tree_of shape.now) bytes.now) budget.old read.0
+        budget.new) }
+    ensures judged { IsTrue strict → IsLeft budget.new
+        → IfOk result
+        (λ read. IsTrue read.1 ↔ StrictlySpellsDatum (tree_of shape.now) bytes.now
+        (datum_of read.0)) }
     ensures whole { IfOk result (λ read. IsLeft budget.new → value_faults shape.now read.0 ≡ []) }
-    ensures refused { IfErr result (λ e. IsValueReason e.reason × (e.reason ≢ Reason.OutOfMemory → (d : Datum) → SpellsDatum (tree_of shape.now) bytes.now d → ⊥)) }
+    ensures refused { IfErr result
+        (λ e. IsValueReason e.reason
+        × (e.reason ≢ Reason.OutOfMemory → (d : Datum) → SpellsDatum (tree_of shape.now) bytes.now d
+        → ⊥)) }
 {
     let table = shape.table();
     let mut reader = Reader::new(alloc, bytes, strict);
@@ -69,13 +77,22 @@ fn read_whole(
 /// let value = deserialize(alloc, &flags, &[2, 1])?;
 /// ```
 pub fn deserialize(alloc: Global, shape: &Shape, bytes: &[u8]) -> Result<Value, Error>
-    ensures read { IfOk result (λ value. SpellsDatum (tree_of shape.now) bytes.now (datum_of value)) }
+    ensures read { IfOk result
+        (λ value. SpellsDatum (tree_of shape.now) bytes.now (datum_of value)) }
     ensures whole { IfOk result (λ value. value_faults shape.now value ≡ []) }
-    ensures only { IfOk result (λ value. IsOnlyContent shape.now (SpellsDatum (tree_of shape.now) bytes.now) (content_of value)) }
-    ensures refused { IfErr result (λ e. IsValueReason e.reason × (e.reason ≢ Reason.OutOfMemory → (d : Datum) → SpellsDatum (tree_of shape.now) bytes.now d → ⊥)) }
-    ensures unambiguous { (d e : Datum) → SpellsDatum (tree_of shape.now) bytes.now d → SpellsDatum (tree_of shape.now) bytes.now e → d ≡ e }
-    ensures size_bound { (d : Datum) → SpellsDatum (tree_of shape.now) bytes.now d → entry_count (columns_of (tree_of shape.now) d) ≤ 8 * length bytes.now }
-    ensures bounded { (d : Datum) → SpellsDatum (tree_of shape.now) bytes.now d → element_count d ≤ 524296 * length bytes.now }
+    ensures only { IfOk result
+        (λ value. IsOnlyContent shape.now (SpellsDatum (tree_of shape.now) bytes.now)
+        (content_of value)) }
+    ensures refused { IfErr result
+        (λ e. IsValueReason e.reason
+        × (e.reason ≢ Reason.OutOfMemory → (d : Datum) → SpellsDatum (tree_of shape.now) bytes.now d
+        → ⊥)) }
+    ensures unambiguous { (d e : Datum) → SpellsDatum (tree_of shape.now) bytes.now d
+        → SpellsDatum (tree_of shape.now) bytes.now e → d ≡ e }
+    ensures size_bound { (d : Datum) → SpellsDatum (tree_of shape.now) bytes.now d
+        → entry_count (columns_of (tree_of shape.now) d) ≤ 8 * length bytes.now }
+    ensures bounded { (d : Datum) → SpellsDatum (tree_of shape.now) bytes.now d
+        → element_count d ≤ 524296 * length bytes.now }
 {
     let mut budget = Budget::Endless;
     let read = read_whole(alloc, shape, bytes, &mut budget, false)?;
@@ -94,13 +111,19 @@ pub fn deserialize(alloc: Global, shape: &Shape, bytes: &[u8]) -> Result<Value, 
 /// deserialize_strict(alloc, &flag, &[255])?; // `not the written text`: the unused digits are not 0
 /// ```
 pub fn deserialize_strict(alloc: Global, shape: &Shape, bytes: &[u8]) -> Result<Value, Error>
-    ensures read { IfOk result (λ value. StrictlySpellsDatum (tree_of shape.now) bytes.now (datum_of value)) }
+    ensures read { IfOk result
+        (λ value. StrictlySpellsDatum (tree_of shape.now) bytes.now (datum_of value)) }
     ensures whole { IfOk result (λ value. value_faults shape.now value ≡ []) }
-    ensures only { IfOk result (λ value. IsOnlyContent shape.now (SpellsDatum (tree_of shape.now) bytes.now) (content_of value)) }
+    ensures only { IfOk result
+        (λ value. IsOnlyContent shape.now (SpellsDatum (tree_of shape.now) bytes.now)
+        (content_of value)) }
     ensures refused { IfErr result (λ e. IsStrictRefusal (tree_of shape.now) e.reason bytes.now) }
-    ensures unambiguous { (d e : Datum) → SpellsDatum (tree_of shape.now) bytes.now d → SpellsDatum (tree_of shape.now) bytes.now e → d ≡ e }
-    ensures size_bound { (d : Datum) → SpellsDatum (tree_of shape.now) bytes.now d → entry_count (columns_of (tree_of shape.now) d) ≤ 8 * length bytes.now }
-    ensures bounded { (d : Datum) → SpellsDatum (tree_of shape.now) bytes.now d → element_count d ≤ 524296 * length bytes.now }
+    ensures unambiguous { (d e : Datum) → SpellsDatum (tree_of shape.now) bytes.now d
+        → SpellsDatum (tree_of shape.now) bytes.now e → d ≡ e }
+    ensures size_bound { (d : Datum) → SpellsDatum (tree_of shape.now) bytes.now d
+        → entry_count (columns_of (tree_of shape.now) d) ≤ 8 * length bytes.now }
+    ensures bounded { (d : Datum) → SpellsDatum (tree_of shape.now) bytes.now d
+        → element_count d ≤ 524296 * length bytes.now }
 {
     let mut budget = Budget::Endless;
     let read = read_whole(alloc, shape, bytes, &mut budget, true)?;
@@ -129,14 +152,21 @@ pub fn deserialize_within(
     bytes: &[u8],
     limit: usize,
 ) -> Result<Value, Error>
-    ensures read { IfOk result (λ value. SpellsDatum (tree_of shape.now) bytes.now (datum_of value)) }
+    ensures read { IfOk result
+        (λ value. SpellsDatum (tree_of shape.now) bytes.now (datum_of value)) }
     ensures within { IfOk result (λ value. node_count (datum_of value) ≤ limit) }
     ensures whole { IfOk result (λ value. value_faults shape.now value ≡ []) }
-    ensures only { IfOk result (λ value. IsOnlyContent shape.now (SpellsDatum (tree_of shape.now) bytes.now) (content_of value)) }
-    ensures refused { IfErr result (λ e. IsRefusalWithin limit (SpellsDatum (tree_of shape.now) bytes.now) e.reason) }
-    ensures unambiguous { (d e : Datum) → SpellsDatum (tree_of shape.now) bytes.now d → SpellsDatum (tree_of shape.now) bytes.now e → d ≡ e }
-    ensures size_bound { (d : Datum) → SpellsDatum (tree_of shape.now) bytes.now d → entry_count (columns_of (tree_of shape.now) d) ≤ 8 * length bytes.now }
-    ensures bounded { (d : Datum) → SpellsDatum (tree_of shape.now) bytes.now d → element_count d ≤ 524296 * length bytes.now }
+    ensures only { IfOk result
+        (λ value. IsOnlyContent shape.now (SpellsDatum (tree_of shape.now) bytes.now)
+        (content_of value)) }
+    ensures refused { IfErr result
+        (λ e. IsRefusalWithin limit (SpellsDatum (tree_of shape.now) bytes.now) e.reason) }
+    ensures unambiguous { (d e : Datum) → SpellsDatum (tree_of shape.now) bytes.now d
+        → SpellsDatum (tree_of shape.now) bytes.now e → d ≡ e }
+    ensures size_bound { (d : Datum) → SpellsDatum (tree_of shape.now) bytes.now d
+        → entry_count (columns_of (tree_of shape.now) d) ≤ 8 * length bytes.now }
+    ensures bounded { (d : Datum) → SpellsDatum (tree_of shape.now) bytes.now d
+        → element_count d ≤ 524296 * length bytes.now }
 {
     let mut budget = Budget::Nodes(limit);
     let read = read_whole(alloc, shape, bytes, &mut budget, false)?;

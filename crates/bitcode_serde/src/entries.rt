@@ -23,7 +23,8 @@ fn copied<T: Copy>(t: &T) -> T
 /// If the value has another type, the error is `value is not of the shape`.
 pub fn leaf_entry<'a>(node: &ShapeNode, value: &'a Value) -> Result<Entry<'a>, Error>
     requires { IsLeaf node.now }
-    ensures entry { IfOk result (λ entry. IsEntryAt node.now value.now (kind_of_entry entry) (datum_of_entry entry)) }
+    ensures entry { IfOk result
+        (λ entry. IsEntryAt node.now value.now (kind_of_entry entry) (datum_of_entry entry)) }
     ensures refused { IfErr result (λ e. HasOneFault node.now value.now e.reason) }
 {
     match node {

@@ -11,7 +11,9 @@ pub const ZST_LIMIT: usize = 65536;
 
 /// Whether `count` data of a node exceed the limit for data without an entry in any column.
 pub fn is_over_limit(table: &[ShapeNode], node: &ShapeNode, left: usize, count: usize) -> bool
-    ensures { MatchBool result ((column_free (tree_of_node left table.now node.now) ≡ true) × (free_limit < count)) (column_free (tree_of_node left table.now node.now) ≡ true → count ≤ free_limit) }
+    ensures { MatchBool result
+        ((column_free (tree_of_node left table.now node.now) ≡ true) × (free_limit < count))
+        (column_free (tree_of_node left table.now node.now) ≡ true → count ≤ free_limit) }
 {
     if count <= ZST_LIMIT {
         return false;

@@ -7,7 +7,9 @@ ghost use Rattle.bitcode_untyped.specs.Nodes.{node_count};
 ghost use Rattle.bitcode_untyped.specs.ShapeTree.{leaf_tree, char_tree, natural_tree, seq_tree};
 ghost use Rattle.bitcode_untyped.specs.View.{datum_of};
 ghost use Rattle.bitcode_serde.specs.ReadColumns.{kind_of, IsCaseOf};
-ghost use Rattle.bitcode_serde.specs.ReadingValues.{HasColumn, IsSteady, Continues, ReadsAt, ReadsWithin, ReadsListAt, AddsRead, IsRefusalAt, IsListRefusalAt, IsOfLeaf, IsOfChar, IsOfBytes, ReadsLeafAt, IsLeafRefusalAt};
+ghost use Rattle.bitcode_serde.specs.ReadingValues.{HasColumn, IsSteady, Continues, ReadsAt, ReadsWithin, ReadsListAt};
+ghost use Rattle.bitcode_serde.specs.ReadingValues.{AddsRead, IsRefusalAt, IsListRefusalAt, IsOfLeaf, IsOfChar};
+ghost use Rattle.bitcode_serde.specs.ReadingValues.{IsOfBytes, ReadsLeafAt, IsLeafRefusalAt};
 ghost use Rattle.bitcode_serde.specs.Serializing.{IsLeaf};
 
 use crate::budget::Budget;
@@ -48,9 +50,12 @@ pub fn read_leaf(reader: &mut Reader<'_>, place: usize, kind: ColumnKind) -> Res
     requires place { place ≤ length reader.old.places.below.items }
     requires steady { IsSteady reader.old }
     ensures continues { OnOk result (Continues reader.old reader.new) }
-    ensures read { IfOk result (λ value. ReadsAt (leaf_tree (kind_of kind) any_number) place reader.old (datum_of value) reader.new) }
+    ensures read { IfOk result
+        (λ value. ReadsAt (leaf_tree (kind_of kind) any_number) place reader.old (datum_of value)
+        reader.new) }
     ensures of_case { IfOk result (λ value. IsCaseOf kind value) }
-    ensures refused { IfErr result (λ e. IsRefusalAt (leaf_tree (kind_of kind) any_number) place reader.old e.reason) }
+    ensures refused { IfErr result
+        (λ e. IsRefusalAt (leaf_tree (kind_of kind) any_number) place reader.old e.reason) }
 {
     let value = reader.take(place, kind)?;
     Ok(value)
@@ -67,8 +72,10 @@ pub fn read_leaf_behind(
     requires place { place ≤ length reader.old.places.below.items }
     requires steady { IsSteady reader.old }
     ensures continues { OnOk result (Continues reader.old reader.new) }
-    ensures read { OnOk result (AddsRead kind place reader.old reader.new values.old.items values.new.items) }
-    ensures refused { IfErr result (λ e. IsRefusalAt (leaf_tree (kind_of kind) any_number) place reader.old e.reason) }
+    ensures read { OnOk result
+        (AddsRead kind place reader.old reader.new values.old.items values.new.items) }
+    ensures refused { IfErr result
+        (λ e. IsRefusalAt (leaf_tree (kind_of kind) any_number) place reader.old e.reason) }
 {
     reader.take_behind(place, kind, values)?;
     Ok(())
@@ -84,10 +91,14 @@ pub fn read_leaves(
     requires place { place ≤ length reader.old.places.below.items }
     requires steady { IsSteady reader.old }
     ensures continues { OnOk result (Continues reader.old reader.new) }
-    ensures read { IfOk result (λ values. ReadsListAt (leaf_tree (kind_of kind) any_number) place reader.old count (map datum_of values.items) reader.new) }
+    ensures read { IfOk result
+        (λ values. ReadsListAt (leaf_tree (kind_of kind) any_number) place reader.old count
+        (map datum_of values.items) reader.new) }
     ensures of_case { IfOk result (λ values. AllByRecursion (IsCaseOf kind) values.items) }
     ensures size { IfOk result (λ values. length values.items ≡ count) }
-    ensures refused { IfErr result (λ e. IsListRefusalAt (leaf_tree (kind_of kind) any_number) place reader.old count e.reason) }
+    ensures refused { IfErr result
+        (λ e. IsListRefusalAt (leaf_tree (kind_of kind) any_number) place reader.old count
+        e.reason) }
 {
     let values = reader.take_each(place, kind, count)?;
     Ok(values)
@@ -98,7 +109,8 @@ pub fn read_char(reader: &mut Reader<'_>, place: usize) -> Result<Value, Error>
     requires place { place ≤ length reader.old.places.below.items }
     requires steady { IsSteady reader.old }
     ensures continues { OnOk result (Continues reader.old reader.new) }
-    ensures read { IfOk result (λ value. ReadsAt char_tree place reader.old (datum_of value) reader.new) }
+    ensures read { IfOk result
+        (λ value. ReadsAt char_tree place reader.old (datum_of value) reader.new) }
     ensures whole { IfOk result (λ value. IsOfChar value) }
     ensures single { IfOk result (λ value. node_count (datum_of value) ≡ 1) }
     ensures refused { IfErr result (λ e. IsRefusalAt char_tree place reader.old e.reason) }
@@ -119,9 +131,12 @@ fn read_elements_of_bytes(
     requires place { place ≤ length reader.old.places.below.items }
     requires steady { IsSteady reader.old }
     ensures continues { OnOk result (Continues reader.old reader.new) }
-    ensures read { IfOk result (λ bytes. ReadsListAt (natural_tree 1) place reader.old count (map natural bytes.items) reader.new) }
+    ensures read { IfOk result
+        (λ bytes. ReadsListAt (natural_tree 1) place reader.old count (map natural bytes.items)
+        reader.new) }
     ensures size { IfOk result (λ bytes. length bytes.items ≡ count) }
-    ensures refused { IfErr result (λ e. IsListRefusalAt (natural_tree 1) place reader.old count e.reason) }
+    ensures refused { IfErr result
+        (λ e. IsListRefusalAt (natural_tree 1) place reader.old count e.reason) }
 {
     let bytes = reader.take_bytes(place, count)?;
     Ok(bytes)
@@ -136,9 +151,12 @@ pub fn read_bytes(
     requires place { place ≤ length reader.old.places.below.items }
     requires steady { IsSteady reader.old }
     ensures continues { OnOk result (Continues reader.old reader.new) }
-    ensures read { IfOk result (λ value. ReadsWithin (seq_tree (natural_tree 1)) place reader.old budget.old value reader.new budget.new) }
+    ensures read { IfOk result
+        (λ value. ReadsWithin (seq_tree (natural_tree 1)) place reader.old budget.old value
+        reader.new budget.new) }
     ensures whole { IfOk result (λ value. IsOfBytes value) }
-    ensures refused { IfErr result (λ e. IsRefusalAt (seq_tree (natural_tree 1)) place reader.old e.reason) }
+    ensures refused { IfErr result
+        (λ e. IsRefusalAt (seq_tree (natural_tree 1)) place reader.old e.reason) }
 {
     budget.take(1);
     let taken = reader.take_length(place)?;
@@ -154,7 +172,8 @@ pub fn read_entry(reader: &mut Reader<'_>, node: &ShapeNode, place: usize) -> Re
     requires place { place ≤ length reader.old.places.below.items }
     requires steady { IsSteady reader.old }
     ensures continues { OnOk result (Continues reader.old reader.new) }
-    ensures read { IfOk result (λ value. ReadsLeafAt node.now place reader.old (datum_of value) reader.new) }
+    ensures read { IfOk result
+        (λ value. ReadsLeafAt node.now place reader.old (datum_of value) reader.new) }
     ensures whole { IfOk result (λ value. IsOfLeaf node.now value) }
     ensures single { IfOk result (λ value. node_count (datum_of value) ≡ 1) }
     ensures refused { IfErr result (λ e. IsLeafRefusalAt node.now place reader.old e.reason) }

@@ -1,11 +1,13 @@
 //! The places that were reached, by number.
 #![tactic(auto)]
 
-ghost use Rattle.std.specs.Prelude.{◌≡◌, ◌<◌, ◌≤◌, ◌+◌, ◌⊎◌, ℕ, [], ◌∷◌, None, Some, length, IfOk, OnOk, IfErr, IfSome, OnErr};
+ghost use Rattle.std.specs.Prelude.{◌≡◌, ◌<◌, ◌≤◌, ◌+◌, ◌⊎◌, ℕ, [], ◌∷◌, None, Some, length, IfOk, OnOk, IfErr, IfSome};
+ghost use Rattle.std.specs.Prelude.{OnErr};
 ghost use Rattle.std.proofs.Props.{props};
 ghost use Rattle.bitcode_serde.specs.declared.step.Step.{Step as CodeStep};
 ghost use Rattle.bitcode_serde.specs.Links.{link, column_link, HasRoomAt};
-ghost use Rattle.bitcode_serde.specs.Places.{step_of, place_at, places, IsPlace, LieBelow, AreApart, AreLinked, LinkBelow, IsGrown};
+ghost use Rattle.bitcode_serde.specs.Places.{step_of, place_at, places, IsPlace, LieBelow, AreApart, AreLinked};
+ghost use Rattle.bitcode_serde.specs.Places.{LinkBelow, IsGrown};
 
 use crate::links::Links;
 use crate::step::Step;
@@ -37,7 +39,8 @@ pub struct Places {
 
 // Makes room for what a place leads to.
 fn make_room(alloc: Global, links: &mut Vec<Links>, place: usize) -> Result<(), Error>
-    ensures links { (above : ℕ) (step : CodeStep) → link links.new.items above step ≡ link links.old.items above step }
+    ensures links { (above : ℕ) (step : CodeStep)
+        → link links.new.items above step ≡ link links.old.items above step }
     ensures columns { (n : ℕ) → column_link links.new.items n ≡ column_link links.old.items n }
     ensures room { OnOk result (place < length links.new.items) }
     ensures refused { IfErr result (λ e. e.reason ≡ Reason.OutOfMemory) }
@@ -68,7 +71,8 @@ fn make_room_below(
 fn set_link(links: &mut [Links], above: usize, step: Step, place: usize)
     requires { HasRoomAt links.old above step }
     ensures there { link links.new above step ≡ Some place }
-    ensures others { (a : ℕ) (s : CodeStep) → (link links.new a s ≡ link links.old a s) ⊎ ((a ≡ above) × (s ≡ step)) }
+    ensures others { (a : ℕ) (s : CodeStep) → (link links.new a s ≡ link links.old a s)
+        ⊎ ((a ≡ above) × (s ≡ step)) }
     ensures columns { (n : ℕ) → column_link links.new n ≡ column_link links.old n }
 {
     links[above].set(step, place);
@@ -129,7 +133,9 @@ impl Places {
     /// The number of the place one step below another, if it was met.
     #[inline(always)]
     pub fn met(&self, above: usize, step: Step) -> Option<usize>
-        ensures { IfSome result (λ n. IsPlace self.now.below.items n (step_of step ∷ place_at (places self.now.below.items) above)) }
+        ensures { IfSome result
+            (λ n. IsPlace self.now.below.items n
+            (step_of step ∷ place_at (places self.now.below.items) above)) }
     {
         self.find(above, step)
     }
@@ -141,9 +147,14 @@ impl Places {
     pub fn below(&mut self, above: usize, step: Step) -> Result<usize, Error>
         requires { above ≤ length self.old.below.items }
         ensures some { IfOk result (λ n. 0 < n) }
-        ensures found { IfOk result (λ n. IsPlace self.new.below.items n (step_of step ∷ place_at (places self.old.below.items) above)) }
-        ensures grown { IfOk result (λ n. IsGrown self.old.below.items (record { above = above; step = step }) self.new.below.items n) }
-        ensures columns { (n : ℕ) → column_link self.new.links.items n ≡ column_link self.old.links.items n }
+        ensures found { IfOk result
+            (λ n. IsPlace self.new.below.items n
+            (step_of step ∷ place_at (places self.old.below.items) above)) }
+        ensures grown { IfOk result
+            (λ n. IsGrown self.old.below.items (record { above = above; step = step })
+            self.new.below.items n) }
+        ensures columns { (n : ℕ) → column_link self.new.links.items n ≡ column_link
+            self.old.links.items n }
         ensures refused { IfErr result (λ e. e.reason ≡ Reason.OutOfMemory) }
         ensures unchanged { OnErr result (self.new.below.items ≡ self.old.below.items) }
     {
@@ -160,9 +171,14 @@ impl Places {
         requires above { above ≤ length self.old.below.items }
         requires fresh { link self.old.links.items above step ≡ None }
         ensures some { IfOk result (λ n. 0 < n) }
-        ensures found { IfOk result (λ n. IsPlace self.new.below.items n (step_of step ∷ place_at (places self.old.below.items) above)) }
-        ensures grown { IfOk result (λ n. IsGrown self.old.below.items (record { above = above; step = step }) self.new.below.items n) }
-        ensures columns { (n : ℕ) → column_link self.new.links.items n ≡ column_link self.old.links.items n }
+        ensures found { IfOk result
+            (λ n. IsPlace self.new.below.items n
+            (step_of step ∷ place_at (places self.old.below.items) above)) }
+        ensures grown { IfOk result
+            (λ n. IsGrown self.old.below.items (record { above = above; step = step })
+            self.new.below.items n) }
+        ensures columns { (n : ℕ) → column_link self.new.links.items n ≡ column_link
+            self.old.links.items n }
         ensures refused { IfErr result (λ e. e.reason ≡ Reason.OutOfMemory) }
         ensures unchanged { OnErr result (self.new.below.items ≡ self.old.below.items) }
     {
@@ -178,7 +194,8 @@ impl Places {
     /// If an allocation fails, the error is `out of memory`.
     pub fn make_room(&mut self, place: usize) -> Result<(), Error>
         ensures below { self.new.below ≡ self.old.below }
-        ensures columns { (n : ℕ) → column_link self.new.links.items n ≡ column_link self.old.links.items n }
+        ensures columns { (n : ℕ) → column_link self.new.links.items n ≡ column_link
+            self.old.links.items n }
         ensures room { OnOk result (place < length self.new.links.items) }
         ensures refused { IfErr result (λ e. e.reason ≡ Reason.OutOfMemory) }
     {
@@ -190,7 +207,9 @@ impl Places {
         requires { place < length self.old.links.items }
         ensures below { self.new.below ≡ self.old.below }
         ensures there { column_link self.new.links.items place ≡ Some column }
-        ensures others { (n : ℕ) → (column_link self.new.links.items n ≡ column_link self.old.links.items n) ⊎ (n ≡ place) }
+        ensures others { (n : ℕ)
+            → (column_link self.new.links.items n ≡ column_link self.old.links.items n)
+            ⊎ (n ≡ place) }
     {
         set_column(&mut self.links, place, column);
     }

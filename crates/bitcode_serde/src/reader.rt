@@ -1,5 +1,6 @@
 //! Columns in the order in which they are first reached, each at its place.
-ghost use Rattle.std.specs.Prelude.{◌≡◌, ◌≢◌, ◌<◌, ◌≤◌, ℕ, [], ◌∷◌, false, take, length, map, All, slice_get, get_or, IfOk, OnOk, IfErr, IfSome, IfNone, IsSomeAnd, MatchBool};
+ghost use Rattle.std.specs.Prelude.{◌≡◌, ◌≢◌, ◌<◌, ◌≤◌, ℕ, [], ◌∷◌, false, take, length, map, All, slice_get, get_or};
+ghost use Rattle.std.specs.Prelude.{IfOk, OnOk, IfErr, IfSome, IfNone, IsSomeAnd, MatchBool};
 ghost use Rattle.std.specs.List.{AllByRecursion};
 ghost use Rattle.bitcode_coder.specs.Spelling.{natural};
 ghost use Rattle.bitcode_coder.specs.Columns.{ints};
@@ -52,7 +53,8 @@ pub struct Reader<'a> {
     verdict: Verdict<'a>,
 
     ghost counted: { length places.below.items ≤ length counts.items },
-    ghost filed: { AreFiled places.links.items (map (λ c. c.place) columns.items) } by { Prim.hlevel props },
+    ghost filed: { AreFiled places.links.items (map (λ c. c.place) columns.items) } by { Prim.hlevel
+        props },
 }
 
 /// A length that was taken, and the sum of all lengths in its column.
@@ -72,7 +74,8 @@ pub struct Index {
 // Makes room for the count of one more place than so many.
 fn make_room(counts: &mut Vec<usize>, places: usize) -> Result<(), Error>
     requires { places ≤ length counts.old.items }
-    ensures same { (i : ℕ) → i < length counts.old.items → get_or counts.new.items i 0 ≡ get_or counts.old.items i 0 }
+    ensures same { (i : ℕ) → i < length counts.old.items
+        → get_or counts.new.items i 0 ≡ get_or counts.old.items i 0 }
     ensures longer { length counts.old.items ≤ length counts.new.items }
     ensures room { OnOk result (places < length counts.new.items) }
     ensures refused { IfErr result (λ e. e.reason ≡ Reason.OutOfMemory) }
@@ -84,7 +87,8 @@ fn make_room(counts: &mut Vec<usize>, places: usize) -> Result<(), Error>
 }
 
 impl<'a> Reader<'a> {
-    ghost use Rattle.bitcode_serde.specs.Reading.{Hosts, counts, AreSized, IsAskedAs, Stands, IsReady, Prepares, NothingAt, NotSoMany, Leads, LeadsEach, LeadsTelling, AddsLed};
+    ghost use Rattle.bitcode_serde.specs.Reading.{Hosts, counts, AreSized, IsAskedAs, Stands, IsReady, Prepares};
+    ghost use Rattle.bitcode_serde.specs.Reading.{NothingAt, NotSoMany, Leads, LeadsEach, LeadsTelling, AddsLed};
     ghost use Rattle.bitcode_serde.specs.ReadingValues.{IsSteady, Continues, field_at};
 
     /// Starts before the bytes, without open columns and without allocating. If `strict`, the reader determines whether
@@ -118,7 +122,8 @@ impl<'a> Reader<'a> {
 
     /// Whether no byte is left after the columns that were opened.
     pub fn is_at_end(&self) -> bool
-        ensures { MatchBool result ((a : State) → Stands self.now a → a.rest ≡ []) ((a : State) → Stands self.now a → a.rest ≢ []) }
+        ensures { MatchBool result ((a : State) → Stands self.now a → a.rest ≡ [])
+            ((a : State) → Stands self.now a → a.rest ≢ []) }
     {
         self.input.is_empty()
     }
@@ -127,8 +132,10 @@ impl<'a> Reader<'a> {
     #[inline(always)]
     fn column(&self, place: usize) -> Option<usize>
         ensures none { IfNone result (All (λ c. c.place ≢ place) self.now.columns.items) }
-        ensures some { IfSome result (λ i. IsSomeAnd (slice_get self.now.columns.items i) (λ c. c.place ≡ place)) }
-        ensures first { IfSome result (λ i. All (λ c. c.place ≢ place) (take i self.now.columns.items)) }
+        ensures some { IfSome result
+            (λ i. IsSomeAnd (slice_get self.now.columns.items i) (λ c. c.place ≡ place)) }
+        ensures first { IfSome result
+            (λ i. All (λ c. c.place ≢ place) (take i self.now.columns.items)) }
     {
         self.places.column(place)
     }
@@ -155,8 +162,13 @@ impl<'a> Reader<'a> {
         ensures found { IfOk result (λ i. IsReady self.new.columns.items place (kind_of kind) i) }
         ensures below { self.new.places.below ≡ self.old.places.below }
         ensures asked { IsAskedAs self.old self.new }
-        ensures prepared { OnOk result ((a : State) → Stands self.old a → (m : State) × Stands self.new m × Prepares a (place_at (places self.old.places.below.items) place) (kind_of kind) m) }
-        ensures refused { IfErr result (λ e. IsColumnReason e.reason × (e.reason ≢ Reason.OutOfMemory → (a : State) → Stands self.old a → NothingAt a (place_at (places self.old.places.below.items) place) (kind_of kind))) }
+        ensures prepared { OnOk result
+            ((a : State) → Stands self.old a → (m : State) × Stands self.new m
+            × Prepares a (place_at (places self.old.places.below.items) place) (kind_of kind) m) }
+        ensures refused { IfErr result
+            (λ e. IsColumnReason e.reason
+            × (e.reason ≢ Reason.OutOfMemory → (a : State) → Stands self.old a
+            → NothingAt a (place_at (places self.old.places.below.items) place) (kind_of kind))) }
     {
         match self.column(place) {
             Some(i) => {
@@ -184,8 +196,13 @@ impl<'a> Reader<'a> {
         ensures found { IfOk result (λ i. IsReady self.new.columns.items place (kind_of kind) i) }
         ensures below { self.new.places.below ≡ self.old.places.below }
         ensures asked { IsAskedAs self.old self.new }
-        ensures prepared { OnOk result ((a : State) → Stands self.old a → (m : State) × Stands self.new m × Prepares a (place_at (places self.old.places.below.items) place) (kind_of kind) m) }
-        ensures refused { IfErr result (λ e. IsColumnReason e.reason × (e.reason ≢ Reason.OutOfMemory → (a : State) → Stands self.old a → NothingAt a (place_at (places self.old.places.below.items) place) (kind_of kind))) }
+        ensures prepared { OnOk result
+            ((a : State) → Stands self.old a → (m : State) × Stands self.new m
+            × Prepares a (place_at (places self.old.places.below.items) place) (kind_of kind) m) }
+        ensures refused { IfErr result
+            (λ e. IsColumnReason e.reason
+            × (e.reason ≢ Reason.OutOfMemory → (a : State) → Stands self.old a
+            → NothingAt a (place_at (places self.old.places.below.items) place) (kind_of kind))) }
     {
         let count = self.count_at(place);
         if count == 0 {
@@ -211,9 +228,17 @@ impl<'a> Reader<'a> {
     #[inline(always)]
     pub fn step(&mut self, above: usize, step: Step, count: usize) -> Result<usize, Error>
         requires { above ≤ length self.old.places.below.items }
-        ensures found { IfOk result (λ i. IsPlace self.new.places.below.items i (step_of step ∷ place_at (places self.old.places.below.items) above)) }
-        ensures kept { OnOk result ((i : ℕ) (p : Place) → IsPlace self.old.places.below.items i p → IsPlace self.new.places.below.items i p) }
-        ensures stands { OnOk result ((a : State) → Stands self.old a → Hosts (map whole a.opened) (step_of step ∷ place_at (places self.old.places.below.items) above) count → Stands self.new a) }
+        ensures found { IfOk result
+            (λ i. IsPlace self.new.places.below.items i
+            (step_of step ∷ place_at (places self.old.places.below.items) above)) }
+        ensures kept { OnOk result
+            ((i : ℕ) (p : Place) → IsPlace self.old.places.below.items i p
+            → IsPlace self.new.places.below.items i p) }
+        ensures stands { OnOk result
+            ((a : State) → Stands self.old a
+            → Hosts (map whole a.opened)
+            (step_of step ∷ place_at (places self.old.places.below.items) above) count
+            → Stands self.new a) }
         ensures columns { self.new.columns ≡ self.old.columns }
         ensures asked { IsAskedAs self.old self.new }
         ensures refused { IfErr result (λ e. e.reason ≡ Reason.OutOfMemory) }
@@ -229,9 +254,17 @@ impl<'a> Reader<'a> {
     #[inline(never)]
     fn meet(&mut self, above: usize, step: Step, count: usize) -> Result<usize, Error>
         requires { above ≤ length self.old.places.below.items }
-        ensures found { IfOk result (λ i. IsPlace self.new.places.below.items i (step_of step ∷ place_at (places self.old.places.below.items) above)) }
-        ensures kept { OnOk result ((i : ℕ) (p : Place) → IsPlace self.old.places.below.items i p → IsPlace self.new.places.below.items i p) }
-        ensures stands { OnOk result ((a : State) → Stands self.old a → Hosts (map whole a.opened) (step_of step ∷ place_at (places self.old.places.below.items) above) count → Stands self.new a) }
+        ensures found { IfOk result
+            (λ i. IsPlace self.new.places.below.items i
+            (step_of step ∷ place_at (places self.old.places.below.items) above)) }
+        ensures kept { OnOk result
+            ((i : ℕ) (p : Place) → IsPlace self.old.places.below.items i p
+            → IsPlace self.new.places.below.items i p) }
+        ensures stands { OnOk result
+            ((a : State) → Stands self.old a
+            → Hosts (map whole a.opened)
+            (step_of step ∷ place_at (places self.old.places.below.items) above) count
+            → Stands self.new a) }
         ensures columns { self.new.columns ≡ self.old.columns }
         ensures asked { IsAskedAs self.old self.new }
         ensures refused { IfErr result (λ e. e.reason ≡ Reason.OutOfMemory) }
@@ -251,7 +284,9 @@ impl<'a> Reader<'a> {
         requires place { place ≤ length self.old.places.below.items }
         requires steady { IsSteady self.old }
         ensures continues { OnOk result (Continues self.old self.new) }
-        ensures found { IfOk result (λ inside. (p : Place) → IsPlace self.old.places.below.items place p → IsPlace self.new.places.below.items inside (field_at fields p i)) }
+        ensures found { IfOk result
+            (λ inside. (p : Place) → IsPlace self.old.places.below.items place p
+            → IsPlace self.new.places.below.items inside (field_at fields p i)) }
         ensures stands { OnOk result ((a : State) → Stands self.old a → Stands self.new a) }
         ensures refused { IfErr result (λ e. e.reason ≡ Reason.OutOfMemory) }
     {
@@ -289,11 +324,16 @@ impl<'a> Reader<'a> {
         requires place { place ≤ length self.old.places.below.items }
         requires sized { AreSized self.old.columns.items }
         ensures sized { OnOk result (AreSized self.new.columns.items) }
-        ensures leads { IfOk result (λ value. Leads self.old (place_at (places self.old.places.below.items) place) (kind_of kind) (datum_of value) self.new) }
+        ensures leads { IfOk result
+            (λ value. Leads self.old (place_at (places self.old.places.below.items) place)
+            (kind_of kind) (datum_of value) self.new) }
         ensures of_case { IfOk result (λ value. IsCaseOf kind value) }
         ensures below { self.new.places.below ≡ self.old.places.below }
         ensures asked { IsAskedAs self.old self.new }
-        ensures refused { IfErr result (λ e. IsColumnReason e.reason × (e.reason ≢ Reason.OutOfMemory → (a : State) → Stands self.old a → NothingAt a (place_at (places self.old.places.below.items) place) (kind_of kind))) }
+        ensures refused { IfErr result
+            (λ e. IsColumnReason e.reason
+            × (e.reason ≢ Reason.OutOfMemory → (a : State) → Stands self.old a
+            → NothingAt a (place_at (places self.old.places.below.items) place) (kind_of kind))) }
     {
         let i = self.ready(place, kind)?;
         let open = &mut self.columns[i];
@@ -315,11 +355,16 @@ impl<'a> Reader<'a> {
         requires place { place ≤ length self.old.places.below.items }
         requires sized { AreSized self.old.columns.items }
         ensures sized { OnOk result (AreSized self.new.columns.items) }
-        ensures leads { OnOk result (AddsLed self.old (place_at (places self.old.places.below.items) place) kind self.new values.old.items values.new.items) }
+        ensures leads { OnOk result
+            (AddsLed self.old (place_at (places self.old.places.below.items) place) kind self.new
+            values.old.items values.new.items) }
         ensures below { self.new.places.below ≡ self.old.places.below }
         ensures asked { IsAskedAs self.old self.new }
-        ensures refused { IfErr result (λ e. IsColumnReason e.reason × (e.reason ≢ Reason.OutOfMemory
-            → (a : State) → Stands self.old a → NothingAt a (place_at (places self.old.places.below.items) place) (kind_of kind))) }
+        ensures refused { IfErr result
+            (λ e. IsColumnReason e.reason × (e.reason ≢ Reason.OutOfMemory
+            → (a : State) → Stands self.old a
+            → NothingAt a (place_at (places self.old.places.below.items) place)
+            (kind_of kind))) }
     {
         let at = self.ready(place, kind)?;
         let open = &mut self.columns[at];
@@ -340,12 +385,18 @@ impl<'a> Reader<'a> {
         requires place { place ≤ length self.old.places.below.items }
         requires sized { AreSized self.old.columns.items }
         ensures sized { OnOk result (AreSized self.new.columns.items) }
-        ensures leads { IfOk result (λ values. LeadsEach self.old (place_at (places self.old.places.below.items) place) (kind_of kind) (map datum_of values.items) self.new) }
+        ensures leads { IfOk result
+            (λ values. LeadsEach self.old (place_at (places self.old.places.below.items) place)
+            (kind_of kind) (map datum_of values.items) self.new) }
         ensures size { IfOk result (λ values. length values.items ≡ count) }
         ensures of_case { IfOk result (λ values. AllByRecursion (IsCaseOf kind) values.items) }
         ensures below { self.new.places.below ≡ self.old.places.below }
         ensures asked { IsAskedAs self.old self.new }
-        ensures refused { IfErr result (λ e. IsColumnReason e.reason × (e.reason ≢ Reason.OutOfMemory → (a : State) → Stands self.old a → NotSoMany a (place_at (places self.old.places.below.items) place) (kind_of kind) count)) }
+        ensures refused { IfErr result
+            (λ e. IsColumnReason e.reason
+            × (e.reason ≢ Reason.OutOfMemory → (a : State) → Stands self.old a
+            → NotSoMany a (place_at (places self.old.places.below.items) place) (kind_of kind)
+            count)) }
     {
         if count == 0 {
             return Ok(Vec::new(self.alloc));
@@ -367,11 +418,16 @@ impl<'a> Reader<'a> {
         requires place { place ≤ length self.old.places.below.items }
         requires sized { AreSized self.old.columns.items }
         ensures sized { OnOk result (AreSized self.new.columns.items) }
-        ensures leads { IfOk result (λ taken. LeadsTelling self.old (place_at (places self.old.places.below.items) place) length_kind (natural taken.length) self.new
+        ensures leads { IfOk result
+            (λ taken. LeadsTelling self.old (place_at (places self.old.places.below.items) place)
+            length_kind (natural taken.length) self.new
             (λ entries. taken.total ≡ total entries)) }
         ensures below { self.new.places.below ≡ self.old.places.below }
         ensures asked { IsAskedAs self.old self.new }
-        ensures refused { IfErr result (λ e. IsColumnReason e.reason × (e.reason ≢ Reason.OutOfMemory → (a : State) → Stands self.old a → NothingAt a (place_at (places self.old.places.below.items) place) length_kind)) }
+        ensures refused { IfErr result
+            (λ e. IsColumnReason e.reason
+            × (e.reason ≢ Reason.OutOfMemory → (a : State) → Stands self.old a
+            → NothingAt a (place_at (places self.old.places.below.items) place) length_kind)) }
     {
         let i = self.ready(place, ColumnKind::Lengths)?;
         let open = &mut self.columns[i];
@@ -388,11 +444,16 @@ impl<'a> Reader<'a> {
         requires place { place ≤ length self.old.places.below.items }
         requires sized { AreSized self.old.columns.items }
         ensures sized { OnOk result (AreSized self.new.columns.items) }
-        ensures leads { IfOk result (λ taken. LeadsTelling self.old (place_at (places self.old.places.below.items) place) index_kind (natural taken.index) self.new
+        ensures leads { IfOk result
+            (λ taken. LeadsTelling self.old (place_at (places self.old.places.below.items) place)
+            index_kind (natural taken.index) self.new
             (λ entries. taken.count ≡ count_of taken.index entries)) }
         ensures below { self.new.places.below ≡ self.old.places.below }
         ensures asked { IsAskedAs self.old self.new }
-        ensures refused { IfErr result (λ e. IsColumnReason e.reason × (e.reason ≢ Reason.OutOfMemory → (a : State) → Stands self.old a → NothingAt a (place_at (places self.old.places.below.items) place) index_kind)) }
+        ensures refused { IfErr result
+            (λ e. IsColumnReason e.reason
+            × (e.reason ≢ Reason.OutOfMemory → (a : State) → Stands self.old a
+            → NothingAt a (place_at (places self.old.places.below.items) place) index_kind)) }
     {
         let i = self.ready(place, ColumnKind::Bytes)?;
         let open = &mut self.columns[i];
@@ -409,11 +470,16 @@ impl<'a> Reader<'a> {
         requires place { place ≤ length self.old.places.below.items }
         requires sized { AreSized self.old.columns.items }
         ensures sized { OnOk result (AreSized self.new.columns.items) }
-        ensures leads { IfOk result (λ bytes. LeadsEach self.old (place_at (places self.old.places.below.items) place) index_kind (map natural bytes.items) self.new) }
+        ensures leads { IfOk result
+            (λ bytes. LeadsEach self.old (place_at (places self.old.places.below.items) place)
+            index_kind (map natural bytes.items) self.new) }
         ensures size { IfOk result (λ bytes. length bytes.items ≡ count) }
         ensures below { self.new.places.below ≡ self.old.places.below }
         ensures asked { IsAskedAs self.old self.new }
-        ensures refused { IfErr result (λ e. IsColumnReason e.reason × (e.reason ≢ Reason.OutOfMemory → (a : State) → Stands self.old a → NotSoMany a (place_at (places self.old.places.below.items) place) index_kind count)) }
+        ensures refused { IfErr result
+            (λ e. IsColumnReason e.reason
+            × (e.reason ≢ Reason.OutOfMemory → (a : State) → Stands self.old a
+            → NotSoMany a (place_at (places self.old.places.below.items) place) index_kind count)) }
     {
         if count == 0 {
             return Ok(Vec::new(self.alloc));
@@ -435,10 +501,15 @@ impl<'a> Reader<'a> {
         requires place { place ≤ length self.old.places.below.items }
         requires sized { AreSized self.old.columns.items }
         ensures sized { OnOk result (AreSized self.new.columns.items) }
-        ensures leads { IfOk result (λ code. Leads self.old (place_at (places self.old.places.below.items) place) (ints 4 false) (natural code) self.new) }
+        ensures leads { IfOk result
+            (λ code. Leads self.old (place_at (places self.old.places.below.items) place)
+            (ints 4 false) (natural code) self.new) }
         ensures below { self.new.places.below ≡ self.old.places.below }
         ensures asked { IsAskedAs self.old self.new }
-        ensures refused { IfErr result (λ e. IsColumnReason e.reason × (e.reason ≢ Reason.OutOfMemory → (a : State) → Stands self.old a → NothingAt a (place_at (places self.old.places.below.items) place) (ints 4 false))) }
+        ensures refused { IfErr result
+            (λ e. IsColumnReason e.reason
+            × (e.reason ≢ Reason.OutOfMemory → (a : State) → Stands self.old a
+            → NothingAt a (place_at (places self.old.places.below.items) place) (ints 4 false))) }
     {
         let i = self.ready(place, ColumnKind::U32)?;
         let open = &mut self.columns[i];

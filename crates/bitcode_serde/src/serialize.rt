@@ -32,12 +32,16 @@ use std::alloc::Global;
 /// let bytes = serialize(alloc, &flags, &Value::Seq(vec![in alloc; Value::Bool(true), Value::Bool(false)]?))?;
 /// ```
 pub fn serialize(alloc: Global, shape: &Shape, value: &Value) -> Result<Vec<u8>, Error>
-    ensures written { IfOk result (λ bytes. bytes.items ≡ datum_text (tree_of shape.now) (datum_of value.now)) }
+    ensures written { IfOk result
+        (λ bytes. bytes.items ≡ datum_text (tree_of shape.now) (datum_of value.now)) }
     ensures of_shape { OnOk result (IsOf (tree_of shape.now) (datum_of value.now)) }
     ensures whole { OnOk result (value_faults shape.now value.now ≡ []) }
-    ensures round_trip { IfOk result (λ bytes. IsLimited (tree_of shape.now) (datum_of value.now) → LengthsBelowLimit (tree_of shape.now) (datum_of value.now)
+    ensures round_trip { IfOk result
+        (λ bytes. IsLimited (tree_of shape.now) (datum_of value.now)
+        → LengthsBelowLimit (tree_of shape.now) (datum_of value.now)
         → IsReadAs shape.now bytes.items value.now) }
-    ensures refused { IfErr result (λ e. IsWriterReason e.reason (value_faults shape.now value.now)) }
+    ensures refused { IfErr result
+        (λ e. IsWriterReason e.reason (value_faults shape.now value.now)) }
 {
     let mut writer = Writer::new(alloc);
     let table = shape.table();

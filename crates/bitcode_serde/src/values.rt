@@ -5,7 +5,9 @@ ghost use Rattle.bitcode_untyped.specs.Faults.{faults_of};
 ghost use Rattle.bitcode_untyped.specs.ShapeTree.{option_tree, seq_tree, map_tree, tuple_tree, choice_tree};
 ghost use Rattle.bitcode_untyped.specs.View.{tree_of_node, trees_of};
 ghost use Rattle.bitcode_serde.specs.Budget.{IsLeft};
-ghost use Rattle.bitcode_serde.specs.ReadingValues.{IsSteady, Continues, ReadsWithin, ReadsListWithin, AddsWithin, IsRefusalAt, IsListRefusalAt, IsOfOption, IsOfSeq, IsOfMap, IsOfTuple, IsOfEnum};
+ghost use Rattle.bitcode_serde.specs.ReadingValues.{IsSteady, Continues, ReadsWithin, ReadsListWithin, AddsWithin};
+ghost use Rattle.bitcode_serde.specs.ReadingValues.{IsRefusalAt, IsListRefusalAt, IsOfOption, IsOfSeq, IsOfMap};
+ghost use Rattle.bitcode_serde.specs.ReadingValues.{IsOfTuple, IsOfEnum};
 
 use crate::budget::Budget;
 use crate::free::{is_free, is_over_limit};
@@ -36,9 +38,13 @@ pub fn read(
     requires place { place ≤ length reader.old.places.below.items }
     requires steady { IsSteady reader.old }
     ensures continues { OnOk result (Continues reader.old reader.new) }
-    ensures read { IfOk result (λ value. ReadsWithin (tree_of_node left table.now node.now) place reader.old budget.old value reader.new budget.new) }
-    ensures whole { IfOk result (λ value. IsLeft budget.new → faults_of table.now value left node.now ≡ []) }
-    ensures refused { IfErr result (λ e. IsRefusalAt (tree_of_node left table.now node.now) place reader.old e.reason) }
+    ensures read { IfOk result
+        (λ value. ReadsWithin (tree_of_node left table.now node.now) place reader.old budget.old
+        value reader.new budget.new) }
+    ensures whole { IfOk result
+        (λ value. IsLeft budget.new → faults_of table.now value left node.now ≡ []) }
+    ensures refused { IfErr result
+        (λ e. IsRefusalAt (tree_of_node left table.now node.now) place reader.old e.reason) }
 {
     match column_kind(node) {
         Some(kind) => {
@@ -65,9 +71,12 @@ fn read_behind(
     requires place { place ≤ length reader.old.places.below.items }
     requires steady { IsSteady reader.old }
     ensures continues { OnOk result (Continues reader.old reader.new) }
-    ensures read { OnOk result (AddsWithin (tree_of_node left table.now node.now) (λ value. faults_of table.now value left node.now ≡ []) place
+    ensures read { OnOk result
+        (AddsWithin (tree_of_node left table.now node.now)
+        (λ value. faults_of table.now value left node.now ≡ []) place
         reader.old budget.old values.old.items reader.new budget.new values.new.items) }
-    ensures refused { IfErr result (λ e. IsRefusalAt (tree_of_node left table.now node.now) place reader.old e.reason) }
+    ensures refused { IfErr result
+        (λ e. IsRefusalAt (tree_of_node left table.now node.now) place reader.old e.reason) }
 {
     if let Some(kind) = column_kind(node) {
         if budget.has(1) {
@@ -94,9 +103,13 @@ fn read_node(
     requires place { place ≤ length reader.old.places.below.items }
     requires steady { IsSteady reader.old }
     ensures continues { OnOk result (Continues reader.old reader.new) }
-    ensures read { IfOk result (λ value. ReadsWithin (tree_of_node left table.now node.now) place reader.old budget.old value reader.new budget.new) }
-    ensures whole { IfOk result (λ value. IsLeft budget.new → faults_of table.now value left node.now ≡ []) }
-    ensures refused { IfErr result (λ e. IsRefusalAt (tree_of_node left table.now node.now) place reader.old e.reason) }
+    ensures read { IfOk result
+        (λ value. ReadsWithin (tree_of_node left table.now node.now) place reader.old budget.old
+        value reader.new budget.new) }
+    ensures whole { IfOk result
+        (λ value. IsLeft budget.new → faults_of table.now value left node.now ≡ []) }
+    ensures refused { IfErr result
+        (λ e. IsRefusalAt (tree_of_node left table.now node.now) place reader.old e.reason) }
 {
     match node {
         ShapeNode::Unit => {
@@ -141,9 +154,14 @@ fn read_option(
     requires place { place ≤ length reader.old.places.below.items }
     requires steady { IsSteady reader.old }
     ensures continues { OnOk result (Continues reader.old reader.new) }
-    ensures read { IfOk result (λ value. ReadsWithin (option_tree (tree_of_node left table.now node.now)) place reader.old budget.old value reader.new budget.new) }
-    ensures whole { IfOk result (λ value. IsLeft budget.new → IsOfOption table.now left node.now value) }
-    ensures refused { IfErr result (λ e. IsRefusalAt (option_tree (tree_of_node left table.now node.now)) place reader.old e.reason) }
+    ensures read { IfOk result
+        (λ value. ReadsWithin (option_tree (tree_of_node left table.now node.now)) place reader.old
+        budget.old value reader.new budget.new) }
+    ensures whole { IfOk result
+        (λ value. IsLeft budget.new → IsOfOption table.now left node.now value) }
+    ensures refused { IfErr result
+        (λ e. IsRefusalAt (option_tree (tree_of_node left table.now node.now)) place reader.old
+        e.reason) }
 {
     budget.take(1);
     let taken = reader.take_index(place)?;
@@ -173,9 +191,14 @@ fn read_seq(
     requires place { place ≤ length reader.old.places.below.items }
     requires steady { IsSteady reader.old }
     ensures continues { OnOk result (Continues reader.old reader.new) }
-    ensures read { IfOk result (λ value. ReadsWithin (seq_tree (tree_of_node left table.now node.now)) place reader.old budget.old value reader.new budget.new) }
-    ensures whole { IfOk result (λ value. IsLeft budget.new → IsOfSeq table.now left node.now value) }
-    ensures refused { IfErr result (λ e. IsRefusalAt (seq_tree (tree_of_node left table.now node.now)) place reader.old e.reason) }
+    ensures read { IfOk result
+        (λ value. ReadsWithin (seq_tree (tree_of_node left table.now node.now)) place reader.old
+        budget.old value reader.new budget.new) }
+    ensures whole { IfOk result
+        (λ value. IsLeft budget.new → IsOfSeq table.now left node.now value) }
+    ensures refused { IfErr result
+        (λ e. IsRefusalAt (seq_tree (tree_of_node left table.now node.now)) place reader.old
+        e.reason) }
 {
     budget.take(1);
     let taken = reader.take_length(place)?;
@@ -211,9 +234,15 @@ fn read_elements(
     requires place { place ≤ length reader.old.places.below.items }
     requires steady { IsSteady reader.old }
     ensures continues { OnOk result (Continues reader.old reader.new) }
-    ensures read { IfOk result (λ values. ReadsListWithin (tree_of_node left table.now node.now) place reader.old budget.old count values.items reader.new budget.new) }
-    ensures whole { IfOk result (λ values. IsLeft budget.new → flat_map (λ value. faults_of table.now value left node.now) values.items ≡ []) }
-    ensures refused { IfErr result (λ e. IsListRefusalAt (tree_of_node left table.now node.now) place reader.old count e.reason) }
+    ensures read { IfOk result
+        (λ values. ReadsListWithin (tree_of_node left table.now node.now) place reader.old
+        budget.old count values.items reader.new budget.new) }
+    ensures whole { IfOk result
+        (λ values. IsLeft budget.new → flat_map (λ value. faults_of table.now value left node.now)
+        values.items ≡ []) }
+    ensures refused { IfErr result
+        (λ e. IsListRefusalAt (tree_of_node left table.now node.now) place reader.old count
+        e.reason) }
 {
     if let Some(kind) = column_kind(node) {
         if budget.has(count) {
@@ -246,9 +275,14 @@ fn read_tuple(
     requires place { place ≤ length reader.old.places.below.items }
     requires steady { IsSteady reader.old }
     ensures continues { OnOk result (Continues reader.old reader.new) }
-    ensures read { IfOk result (λ value. ReadsWithin (tuple_tree (trees_of (map (tree_of_node left table.now) nodes.now))) place reader.old budget.old value reader.new budget.new) }
-    ensures whole { IfOk result (λ value. IsLeft budget.new → IsOfTuple table.now left nodes.now value) }
-    ensures refused { IfErr result (λ e. IsRefusalAt (tuple_tree (trees_of (map (tree_of_node left table.now) nodes.now))) place reader.old e.reason) }
+    ensures read { IfOk result
+        (λ value. ReadsWithin (tuple_tree (trees_of (map (tree_of_node left table.now) nodes.now)))
+        place reader.old budget.old value reader.new budget.new) }
+    ensures whole { IfOk result
+        (λ value. IsLeft budget.new → IsOfTuple table.now left nodes.now value) }
+    ensures refused { IfErr result
+        (λ e. IsRefusalAt (tuple_tree (trees_of (map (tree_of_node left table.now) nodes.now)))
+        place reader.old e.reason) }
 {
     budget.take(1);
     let mut values = budget.room(alloc, nodes.len())?;
@@ -282,9 +316,14 @@ fn read_enum(
     requires place { place ≤ length reader.old.places.below.items }
     requires steady { IsSteady reader.old }
     ensures continues { OnOk result (Continues reader.old reader.new) }
-    ensures read { IfOk result (λ value. ReadsWithin (choice_tree (trees_of (map (tree_of_node left table.now) nodes.now))) place reader.old budget.old value reader.new budget.new) }
-    ensures whole { IfOk result (λ value. IsLeft budget.new → IsOfEnum table.now left nodes.now value) }
-    ensures refused { IfErr result (λ e. IsRefusalAt (choice_tree (trees_of (map (tree_of_node left table.now) nodes.now))) place reader.old e.reason) }
+    ensures read { IfOk result
+        (λ value. ReadsWithin (choice_tree (trees_of (map (tree_of_node left table.now) nodes.now)))
+        place reader.old budget.old value reader.new budget.new) }
+    ensures whole { IfOk result
+        (λ value. IsLeft budget.new → IsOfEnum table.now left nodes.now value) }
+    ensures refused { IfErr result
+        (λ e. IsRefusalAt (choice_tree (trees_of (map (tree_of_node left table.now) nodes.now)))
+        place reader.old e.reason) }
 {
     budget.take(1);
     let taken = reader.take_index(place)?;
@@ -313,9 +352,16 @@ fn read_map(
     requires place { place ≤ length reader.old.places.below.items }
     requires steady { IsSteady reader.old }
     ensures continues { OnOk result (Continues reader.old reader.new) }
-    ensures read { IfOk result (λ made. ReadsWithin (map_tree (tree_of_node left table.now key.now) (tree_of_node left table.now value.now)) place reader.old budget.old made reader.new budget.new) }
-    ensures whole { IfOk result (λ made. IsLeft budget.new → IsOfMap table.now left key.now value.now made) }
-    ensures refused { IfErr result (λ e. IsRefusalAt (map_tree (tree_of_node left table.now key.now) (tree_of_node left table.now value.now)) place reader.old e.reason) }
+    ensures read { IfOk result
+        (λ made. ReadsWithin
+        (map_tree (tree_of_node left table.now key.now) (tree_of_node left table.now value.now))
+        place reader.old budget.old made reader.new budget.new) }
+    ensures whole { IfOk result
+        (λ made. IsLeft budget.new → IsOfMap table.now left key.now value.now made) }
+    ensures refused { IfErr result
+        (λ e. IsRefusalAt
+        (map_tree (tree_of_node left table.now key.now) (tree_of_node left table.now value.now))
+        place reader.old e.reason) }
 {
     budget.take(1);
     let taken = reader.take_length(place)?;

@@ -1,13 +1,15 @@
 //! Writing a value along its walk.
 #![tactic(auto)]
 
-ghost use Rattle.std.specs.Prelude.{◌≡◌, ◌≢◌, ℕ, ◌≤◌, List, [], ◌∷◌, ◌++◌, length, map, slice_get, nat_lt, if◌then◌else◌, IfOk, IfErr, OnOk};
+ghost use Rattle.std.specs.Prelude.{◌≡◌, ◌≢◌, ℕ, ◌≤◌, List, [], ◌∷◌, ◌++◌, length, map, slice_get, nat_lt};
+ghost use Rattle.std.specs.Prelude.{if◌then◌else◌, IfOk, IfErr, OnOk};
 ghost use Rattle.std.specs.List.{flat_map};
 ghost use Rattle.bitcode_columns.specs.declared.error.Reason.TheVariants.{TooManyVariants};
 ghost use Rattle.bitcode_shapes.specs.Datum.{choice, list, tuple, pair, data_of};
 ghost use Rattle.bitcode_coder.specs.Spelling.{natural};
 ghost use Rattle.bitcode_untyped.specs.Faults.{faults_of, faults_of_fields, faults_of_variant};
-ghost use Rattle.bitcode_untyped.specs.ShapeTree.{ShapeTrees, natural_tree, seq_tree, map_tree, tuple_tree, choice_tree, greatest_index};
+ghost use Rattle.bitcode_untyped.specs.ShapeTree.{ShapeTrees, natural_tree, seq_tree, map_tree, tuple_tree};
+ghost use Rattle.bitcode_untyped.specs.ShapeTree.{choice_tree, greatest_index};
 ghost use Rattle.bitcode_untyped.specs.View.{datum_of, tree_of_node, trees_of};
 ghost use Rattle.bitcode_serde.specs.ReadingValues.{HasColumn, field_at};
 ghost use Rattle.bitcode_serde.specs.Serializing.{Outcome, IsLeaf, IsVariant};
@@ -39,7 +41,8 @@ pub fn write(
     place: usize,
 ) -> Result<(), Error>
     requires { place ≤ length writer.old.places.below.items }
-    ensures { Outcome writer.old (tree_of_node left table.now node.now) place (datum_of value.now) (faults_of table.now value.now left node.now) result writer.new }
+    ensures { Outcome writer.old (tree_of_node left table.now node.now) place (datum_of value.now)
+        (faults_of table.now value.now left node.now) result writer.new }
 {
     match column_kind(node) {
         Some(kind) => writer.put_one(place, kind, value),
@@ -58,7 +61,8 @@ fn write_node(
     place: usize,
 ) -> Result<(), Error>
     requires { place ≤ length writer.old.places.below.items }
-    ensures { Outcome writer.old (tree_of_node left table.now node.now) place (datum_of value.now) (faults_of table.now value.now left node.now) result writer.new }
+    ensures { Outcome writer.old (tree_of_node left table.now node.now) place (datum_of value.now)
+        (faults_of table.now value.now left node.now) result writer.new }
 {
     match node {
         ShapeNode::Unit => match value {
@@ -108,7 +112,9 @@ fn write_leaf(
 ) -> Result<(), Error>
     requires place { place ≤ length writer.old.places.below.items }
     requires leaf { IsLeaf node.now }
-    ensures { (table : List ShapeNode) (left : ℕ) → Outcome writer.old (tree_of_node left table node.now) place (datum_of value.now) (faults_of table value.now left node.now) result writer.new }
+    ensures { (table : List ShapeNode) (left : ℕ)
+        → Outcome writer.old (tree_of_node left table node.now) place (datum_of value.now)
+        (faults_of table value.now left node.now) result writer.new }
 {
     match column_kind(node) {
         Some(kind) => writer.put_one(place, kind, value),
@@ -119,7 +125,8 @@ fn write_leaf(
 /// Writes a list of bytes at a place: its length, and then its bytes, by one copy.
 pub fn write_bytes(writer: &mut Writer, place: usize, bytes: &[u8]) -> Result<(), Error>
     requires { place ≤ length writer.old.places.below.items }
-    ensures { Outcome writer.old (seq_tree (natural_tree 1)) place (list (data_of (map natural bytes.now))) [] result writer.new }
+    ensures { Outcome writer.old (seq_tree (natural_tree 1)) place
+        (list (data_of (map natural bytes.now))) [] result writer.new }
 {
     writer.put(place, Entry::Length(bytes.len()))?;
     let element = writer.below(place, Step::Element)?;
@@ -137,7 +144,9 @@ fn write_reference(
     place: usize,
 ) -> Result<(), Error>
     requires { place ≤ length writer.old.places.below.items }
-    ensures { Outcome writer.old (tree_of_node left table.now (ShapeNode.Ref i)) place (datum_of value.now) (faults_of table.now value.now left (ShapeNode.Ref i)) result writer.new }
+    ensures { Outcome writer.old (tree_of_node left table.now (ShapeNode.Ref i)) place
+        (datum_of value.now) (faults_of table.now value.now left (ShapeNode.Ref i)) result
+        writer.new }
 {
     if left == 0 {
         return err(Reason::NestedTooDeep);
@@ -161,7 +170,8 @@ fn write_variant(
 ) -> Result<(), Error>
     requires { place ≤ length writer.old.places.below.items }
     ensures { (trees : ShapeTrees) → IsVariant trees index (tree_of_node left table.now node.now)
-        → Outcome writer.old (choice_tree trees) place (choice index (datum_of value.now)) (faults_of table.now value.now left node.now) result writer.new }
+        → Outcome writer.old (choice_tree trees) place (choice index (datum_of value.now))
+        (faults_of table.now value.now left node.now) result writer.new }
 {
     writer.put(place, Entry::Byte(index))?;
     let inside = writer.below(place, Step::Variant(index))?;
@@ -180,8 +190,12 @@ fn write_enum(
     place: usize,
 ) -> Result<(), Error>
     requires { place ≤ length writer.old.places.below.items }
-    ensures { Outcome writer.old (choice_tree (trees_of (map (tree_of_node left table.now) nodes.now))) place (choice index (datum_of value.now))
-        (if nat_lt greatest_index index then TooManyVariants ∷ [] else faults_of_variant (faults_of table.now value.now) left (slice_get nodes.now index)) result writer.new }
+    ensures { Outcome writer.old
+        (choice_tree (trees_of (map (tree_of_node left table.now) nodes.now))) place
+        (choice index (datum_of value.now))
+        (if nat_lt greatest_index index then TooManyVariants ∷ []
+        else faults_of_variant (faults_of table.now value.now) left (slice_get nodes.now index))
+        result writer.new }
 {
     if index > 255 {
         return err(Reason::TooManyVariants);
@@ -202,7 +216,8 @@ fn write_leaves(
     requires place { place ≤ length writer.old.places.below.items }
     requires values { kind ≢ ColumnKind.Lengths }
     ensures { (n : ShapeNode) → HasColumn n kind → (table : List ShapeNode) (left : ℕ)
-        → Outcome writer.old (seq_tree (tree_of_node left table n)) place (list (data_of (map datum_of values.now)))
+        → Outcome writer.old (seq_tree (tree_of_node left table n)) place
+        (list (data_of (map datum_of values.now)))
         (flat_map (λ value. faults_of table value left n) values.now) result writer.new }
 {
     writer.put(place, Entry::Length(values.len()))?;
@@ -221,7 +236,8 @@ fn write_seq(
     place: usize,
 ) -> Result<(), Error>
     requires { place ≤ length writer.old.places.below.items }
-    ensures { Outcome writer.old (seq_tree (tree_of_node left table.now node.now)) place (list (data_of (map datum_of values.now)))
+    ensures { Outcome writer.old (seq_tree (tree_of_node left table.now node.now)) place
+        (list (data_of (map datum_of values.now)))
         (flat_map (λ value. faults_of table.now value left node.now) values.now) result writer.new }
 {
     if let Some(kind) = column_kind(node) {
@@ -247,9 +263,12 @@ fn write_map(
     place: usize,
 ) -> Result<(), Error>
     requires { place ≤ length writer.old.places.below.items }
-    ensures { Outcome writer.old (map_tree (tree_of_node left table.now key.now) (tree_of_node left table.now value.now)) place
+    ensures { Outcome writer.old
+        (map_tree (tree_of_node left table.now key.now) (tree_of_node left table.now value.now))
+        place
         (list (data_of (map (λ e. pair (datum_of e.0) (datum_of e.1)) pairs.now)))
-        (flat_map (λ e. faults_of table.now e.0 left key.now ++ faults_of table.now e.1 left value.now) pairs.now) result writer.new }
+        (flat_map (λ e. faults_of table.now e.0 left key.now ++ faults_of table.now e.1 left
+        value.now) pairs.now) result writer.new }
 {
     writer.put(place, Entry::Length(pairs.len()))?;
     let keys = writer.below(place, Step::Key)?;
@@ -271,7 +290,8 @@ fn field_below(
 ) -> Result<usize, Error>
     requires { place ≤ length writer.old.places.below.items }
     ensures inside { IfOk result (λ n. n ≤ length writer.new.places.below.items) }
-    ensures place { IfOk result (λ n. place_in writer.new n ≡ field_at fields (place_in writer.old place) index) }
+    ensures place { IfOk result
+        (λ n. place_in writer.new n ≡ field_at fields (place_in writer.old place) index) }
     ensures grows { OnOk result (Grows writer.old writer.new) }
     ensures written { OnOk result (written writer.new ≡ written writer.old) }
     ensures refused { IfErr result (λ e. e.reason ≡ Reason.OutOfMemory) }
@@ -293,7 +313,9 @@ fn write_tuple(
     place: usize,
 ) -> Result<(), Error>
     requires { place ≤ length writer.old.places.below.items }
-    ensures { Outcome writer.old (tuple_tree (trees_of (map (tree_of_node left table.now) nodes.now))) place (tuple (data_of (map datum_of values.now)))
+    ensures { Outcome writer.old
+        (tuple_tree (trees_of (map (tree_of_node left table.now) nodes.now))) place
+        (tuple (data_of (map datum_of values.now)))
         (faults_of_fields (map (faults_of table.now) values.now) left nodes.now) result writer.new }
 {
     if values.len() != nodes.len() {

@@ -1,7 +1,8 @@
 //! Columns in the order of their first entries, each at its place.
 #![tactic(auto)]
 
-ghost use Rattle.std.specs.Prelude.{◌≡◌, ◌≢◌, ◌≤◌, ◌<◌, ◌⊎◌, [], ◌∷◌, ◌++◌, false, take, map, length, All, slice_get, get_or, IfOk, OnOk, IfErr, IfSome, IfNone, IsSomeAnd};
+ghost use Rattle.std.specs.Prelude.{◌≡◌, ◌≢◌, ◌≤◌, ◌<◌, ◌⊎◌, [], ◌∷◌, ◌++◌, false, take, map, length, All, slice_get};
+ghost use Rattle.std.specs.Prelude.{get_or, IfOk, OnOk, IfErr, IfSome, IfNone, IsSomeAnd};
 ghost use Rattle.std.specs.List.{AllByRecursion};
 ghost use Rattle.bitcode_coder.specs.Columns.{ints};
 ghost use Rattle.bitcode_coder.specs.Spelling.{natural, texts_of};
@@ -31,7 +32,8 @@ mod state;
 
 // Writes columns behind `out`. They are scratch afterwards.
 fn collect_columns(columns: &mut [PlacedWritten], out: &mut Vec<u8>) -> Result<(), Error>
-    ensures written { OnOk result (out.new.items ≡ out.old.items ++ texts_of (map column_of columns.old)) }
+    ensures written { OnOk result
+        (out.new.items ≡ out.old.items ++ texts_of (map column_of columns.old)) }
     ensures refused { IfErr result (λ e. e.reason ≡ Reason.OutOfMemory) }
 {
     for placed in columns.iter_mut() {
@@ -59,7 +61,8 @@ impl Writer {
     pub fn below(&mut self, place: usize, step: Step) -> Result<usize, Error>
         requires { place ≤ length self.old.places.below.items }
         ensures inside { IfOk result (λ n. n ≤ length self.new.places.below.items) }
-        ensures place { IfOk result (λ n. place_in self.new n ≡ step_of step ∷ place_in self.old place) }
+        ensures place { IfOk result
+            (λ n. place_in self.new n ≡ step_of step ∷ place_in self.old place) }
         ensures grows { OnOk result (Grows self.old self.new) }
         ensures written { OnOk result (written self.new ≡ written self.old) }
         ensures refused { IfErr result (λ e. e.reason ≡ Reason.OutOfMemory) }
@@ -71,8 +74,10 @@ impl Writer {
     #[inline(always)]
     fn column(&self, place: usize) -> Option<usize>
         ensures none { IfNone result (All (λ c. c.place ≢ place) self.now.columns.items) }
-        ensures some { IfSome result (λ i. IsSomeAnd (slice_get self.now.columns.items i) (λ c. c.place ≡ place)) }
-        ensures first { IfSome result (λ i. All (λ c. c.place ≢ place) (take i self.now.columns.items)) }
+        ensures some { IfSome result
+            (λ i. IsSomeAnd (slice_get self.now.columns.items i) (λ c. c.place ≡ place)) }
+        ensures first { IfSome result
+            (λ i. All (λ c. c.place ≢ place) (take i self.now.columns.items)) }
     {
         self.places.column(place)
     }
@@ -84,7 +89,9 @@ impl Writer {
         requires place { place ≤ length self.old.places.below.items }
         requires fresh { All (λ c. c.place ≢ place) self.old.columns.items }
         ensures below { self.new.places.below ≡ self.old.places.below }
-        ensures columns { OnOk result (self.new.columns.items ≡ self.old.columns.items ++ record { place = place; column = column } ∷ []) }
+        ensures columns { OnOk result
+            (self.new.columns.items ≡ self.old.columns.items ++ record
+            { place = place; column = column } ∷ []) }
         ensures refused { IfErr result (λ e. e.reason ≡ Reason.OutOfMemory) }
     {
         self.places.make_room(place)?;
@@ -102,9 +109,13 @@ impl Writer {
     pub fn put(&mut self, place: usize, next: Entry<'_>) -> Result<(), Error>
         requires { place ≤ length self.old.places.below.items }
         ensures below { OnOk result (self.new.places.below ≡ self.old.places.below) }
-        ensures written { OnOk result (written self.new ≡ put (use_at (place_in self.old place) (kind_of_entry next.entry) (datum_of_entry next.entry)) (written self.old)) }
+        ensures written { OnOk result
+            (written self.new ≡ put
+            (use_at (place_in self.old place) (kind_of_entry next.entry)
+            (datum_of_entry next.entry)) (written self.old)) }
         ensures refused { IfErr result (λ e. (root : ShapeTree) → AreOfShape root (written self.old)
-            → HasKindFrom root [] (place_in self.old place) (kind_of_entry next.entry) → e.reason ≡ Reason.OutOfMemory) }
+            → HasKindFrom root [] (place_in self.old place) (kind_of_entry next.entry)
+            → e.reason ≡ Reason.OutOfMemory) }
     {
         match self.column(place) {
             Some(i) => self.columns[i].column.push(next),
@@ -119,7 +130,10 @@ impl Writer {
         requires place { place ≤ length self.old.places.below.items }
         requires fresh { All (λ c. c.place ≢ place) self.old.columns.items }
         ensures below { OnOk result (self.new.places.below ≡ self.old.places.below) }
-        ensures written { OnOk result (written self.new ≡ put (use_at (place_in self.old place) (kind_of_entry next.entry) (datum_of_entry next.entry)) (written self.old)) }
+        ensures written { OnOk result
+            (written self.new ≡ put
+            (use_at (place_in self.old place) (kind_of_entry next.entry)
+            (datum_of_entry next.entry)) (written self.old)) }
         ensures refused { IfErr result (λ e. e.reason ≡ Reason.OutOfMemory) }
     {
         let mut column = WrittenColumn::new(self.alloc, next);
@@ -134,11 +148,15 @@ impl Writer {
         requires place { place ≤ length self.old.places.below.items }
         requires values { kind ≢ ColumnKind.Lengths }
         ensures below { OnOk result (self.new.places.below ≡ self.old.places.below) }
-        ensures written { OnOk result (written self.new ≡ put_all (map (use_at (place_in self.old place) (kind_of kind)) (map datum_of (value.now ∷ []))) (written self.old)) }
+        ensures written { OnOk result
+            (written self.new ≡ put_all
+            (map (use_at (place_in self.old place) (kind_of kind)) (map datum_of (value.now ∷ [])))
+            (written self.old)) }
         ensures entries { OnOk result (AllByRecursion (IsEntryIn kind) (value.now ∷ [])) }
         ensures refused { IfErr result (λ e. (root : ShapeTree) → AreOfShape root (written self.old)
             → HasKindFrom root [] (place_in self.old place) (kind_of kind)
-            → (e.reason ≡ Reason.OutOfMemory) ⊎ ((e.reason ≡ Reason.NotOfTheShape) × HasOther kind (value.now ∷ []))) }
+            → (e.reason ≡ Reason.OutOfMemory)
+            ⊎ ((e.reason ≡ Reason.NotOfTheShape) × HasOther kind (value.now ∷ []))) }
     {
         match self.column(place) {
             Some(i) => self.columns[i].column.push_one(kind, value),
@@ -159,11 +177,15 @@ impl Writer {
         requires place { place ≤ length self.old.places.below.items }
         requires values { kind ≢ ColumnKind.Lengths }
         ensures below { OnOk result (self.new.places.below ≡ self.old.places.below) }
-        ensures written { OnOk result (written self.new ≡ put_all (map (use_at (place_in self.old place) (kind_of kind)) (map datum_of values.now)) (written self.old)) }
+        ensures written { OnOk result
+            (written self.new ≡ put_all
+            (map (use_at (place_in self.old place) (kind_of kind)) (map datum_of values.now))
+            (written self.old)) }
         ensures entries { OnOk result (AllByRecursion (IsEntryIn kind) values.now) }
         ensures refused { IfErr result (λ e. (root : ShapeTree) → AreOfShape root (written self.old)
             → HasKindFrom root [] (place_in self.old place) (kind_of kind)
-            → (e.reason ≡ Reason.OutOfMemory) ⊎ ((e.reason ≡ Reason.NotOfTheShape) × HasOther kind values.now)) }
+            → (e.reason ≡ Reason.OutOfMemory)
+            ⊎ ((e.reason ≡ Reason.NotOfTheShape) × HasOther kind values.now)) }
     {
         match self.column(place) {
             Some(i) => self.columns[i].column.push_each(kind, values),
@@ -184,9 +206,14 @@ impl Writer {
         requires values { kind ≢ ColumnKind.Lengths }
         requires fresh { All (λ c. c.place ≢ place) self.old.columns.items }
         ensures below { OnOk result (self.new.places.below ≡ self.old.places.below) }
-        ensures written { OnOk result (written self.new ≡ put_all (map (use_at (place_in self.old place) (kind_of kind)) (map datum_of values.now)) (written self.old)) }
+        ensures written { OnOk result
+            (written self.new ≡ put_all
+            (map (use_at (place_in self.old place) (kind_of kind)) (map datum_of values.now))
+            (written self.old)) }
         ensures entries { OnOk result (AllByRecursion (IsEntryIn kind) values.now) }
-        ensures refused { IfErr result (λ e. (e.reason ≡ Reason.OutOfMemory) ⊎ ((e.reason ≡ Reason.NotOfTheShape) × HasOther kind values.now)) }
+        ensures refused { IfErr result
+            (λ e. (e.reason ≡ Reason.OutOfMemory)
+            ⊎ ((e.reason ≡ Reason.NotOfTheShape) × HasOther kind values.now)) }
     {
         if values.is_empty() {
             return Ok(());
@@ -203,9 +230,13 @@ impl Writer {
     pub fn put_bytes(&mut self, place: usize, bytes: &[u8]) -> Result<(), Error>
         requires { place ≤ length self.old.places.below.items }
         ensures below { OnOk result (self.new.places.below ≡ self.old.places.below) }
-        ensures written { OnOk result (written self.new ≡ put_all (map (use_at (place_in self.old place) (ints 1 false)) (map natural bytes.now)) (written self.old)) }
+        ensures written { OnOk result
+            (written self.new ≡ put_all
+            (map (use_at (place_in self.old place) (ints 1 false)) (map natural bytes.now))
+            (written self.old)) }
         ensures refused { IfErr result (λ e. (root : ShapeTree) → AreOfShape root (written self.old)
-            → HasKindFrom root [] (place_in self.old place) (ints 1 false) → e.reason ≡ Reason.OutOfMemory) }
+            → HasKindFrom root [] (place_in self.old place) (ints 1 false)
+            → e.reason ≡ Reason.OutOfMemory) }
     {
         match self.column(place) {
             Some(i) => self.columns[i].column.extend_bytes(bytes),

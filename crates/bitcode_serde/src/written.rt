@@ -1,5 +1,6 @@
 //! The columns that a writer fills.
-ghost use Rattle.std.specs.Prelude.{◌≡◌, ◌≢◌, ◌⊎◌, ◌+◌, ◌<◌, ◌≤◌, [], ◌∷◌, ◌++◌, length, map, take, None, false, MatchBool, OnOk, IfOk, IfErr};
+ghost use Rattle.std.specs.Prelude.{◌≡◌, ◌≢◌, ◌⊎◌, ◌+◌, ◌<◌, ◌≤◌, [], ◌∷◌, ◌++◌, length, map, take, None, false};
+ghost use Rattle.std.specs.Prelude.{MatchBool, OnOk, IfOk, IfErr};
 ghost use Rattle.std.specs.List.{AllByRecursion};
 ghost use Rattle.bitcode_coder.specs.Coder.{JoinsListing, OverflowsWithListing};
 ghost use Rattle.bitcode_coder.specs.Columns.{ints, lengths, one, beside};
@@ -7,7 +8,8 @@ ghost use Rattle.bitcode_coder.specs.Spelling.{natural, column_bytes};
 ghost use Rattle.bitcode_untyped.specs.View.{datum_of};
 ghost use Rattle.bitcode_serde.specs.Leaves.{IsEntryIn, HasOther};
 ghost use Rattle.bitcode_serde.specs.ReadColumns.{kind_of, IsCaseOf};
-ghost use Rattle.bitcode_serde.specs.WrittenColumns.{kind_of_entry, datum_of_entry, kind_in_written, kind_of_written, entries_of};
+ghost use Rattle.bitcode_serde.specs.WrittenColumns.{kind_of_entry, datum_of_entry, kind_in_written, kind_of_written};
+ghost use Rattle.bitcode_serde.specs.WrittenColumns.{entries_of};
 
 use crate::case::Case;
 use crate::column::ColumnKind;
@@ -67,8 +69,11 @@ const FEW: usize = 16;
 // Makes room for an entry, and writes it.
 #[inline(always)]
 fn join<T: Shaped, E: Buffer + Encoder<T>>(column: &mut E, entry: &T) -> Result<(), Error>
-    ensures joined { OnOk result (JoinsListing T.lists T.shape entry.now (E.columns column.old) (E.columns column.new)) }
-    ensures refused { IfErr result (λ e. (e.reason ≡ Reason.OutOfMemory) ⊎ E.surely_overflows column.old 1 ⊎ OverflowsWithListing T.lists T.shape entry.now (E.columns column.old)) }
+    ensures joined { OnOk result
+        (JoinsListing T.lists T.shape entry.now (E.columns column.old) (E.columns column.new)) }
+    ensures refused { IfErr result
+        (λ e. (e.reason ≡ Reason.OutOfMemory) ⊎ E.surely_overflows column.old 1
+        ⊎ OverflowsWithListing T.lists T.shape entry.now (E.columns column.old)) }
 {
     column.reserve(1)?;
     column.encode(entry)
@@ -78,7 +83,9 @@ fn join<T: Shaped, E: Buffer + Encoder<T>>(column: &mut E, entry: &T) -> Result<
 fn gather<'b, T: Case>(values: &'b [Value], held: &mut [&'b T; MAX_VECTORED_CHUNK]) -> bool
     requires { length values.now ≤ MAX_VECTORED_CHUNK }
     ensures size { length held.new ≡ MAX_VECTORED_CHUNK }
-    ensures gathered { MatchBool result (map (λ t. T.holder t.now) (take (length values.now) held.new) ≡ values.now) (HasOther T.kind values.now) }
+    ensures gathered { MatchBool result
+        (map (λ t. T.holder t.now) (take (length values.now) held.new) ≡ values.now)
+        (HasOther T.kind values.now) }
 {
     for i in 0..values.len() {
         match T::held(&values[i]) {
@@ -97,10 +104,14 @@ fn join_held<'b, T: Case, E: Buffer + Encoder<T>>(
 ) -> Result<(), Error>
     requires chunk { (0 < length values.now) × (length values.now ≤ MAX_VECTORED_CHUNK) }
     requires room { length values.now ≤ E.room column.old }
-    ensures joined { OnOk result (E.columns column.new ≡ beside (E.columns column.old) (one (kind_of T.kind) (map datum_of values.now))) }
+    ensures joined { OnOk result
+        (E.columns column.new ≡ beside (E.columns column.old)
+        (one (kind_of T.kind) (map datum_of values.now))) }
     ensures entries { OnOk result (AllByRecursion (IsEntryIn T.kind) values.now) }
     ensures room { OnOk result (E.room column.old ≤ E.room column.new + length values.now) }
-    ensures refused { IfErr result (λ e. (e.reason ≡ Reason.OutOfMemory) ⊎ ((e.reason ≡ Reason.NotOfTheShape) × HasOther T.kind values.now)) }
+    ensures refused { IfErr result
+        (λ e. (e.reason ≡ Reason.OutOfMemory)
+        ⊎ ((e.reason ≡ Reason.NotOfTheShape) × HasOther T.kind values.now)) }
 {
     let mut held = [first; MAX_VECTORED_CHUNK];
     if !gather(values, &mut held) {
@@ -115,10 +126,14 @@ fn join_held<'b, T: Case, E: Buffer + Encoder<T>>(
 #[inline(always)]
 fn join_next<T: Case, E: Buffer + Encoder<T>>(column: &mut E, value: &Value) -> Result<(), Error>
     requires { 0 < E.room column.old }
-    ensures joined { OnOk result (E.columns column.new ≡ beside (E.columns column.old) (one (kind_of T.kind) (map datum_of (value.now ∷ [])))) }
+    ensures joined { OnOk result
+        (E.columns column.new ≡ beside (E.columns column.old)
+        (one (kind_of T.kind) (map datum_of (value.now ∷ [])))) }
     ensures entries { OnOk result (AllByRecursion (IsEntryIn T.kind) (value.now ∷ [])) }
     ensures room { OnOk result (E.room column.old ≤ E.room column.new + 1) }
-    ensures refused { IfErr result (λ e. (e.reason ≡ Reason.OutOfMemory) ⊎ ((e.reason ≡ Reason.NotOfTheShape) × HasOther T.kind (value.now ∷ []))) }
+    ensures refused { IfErr result
+        (λ e. (e.reason ≡ Reason.OutOfMemory)
+        ⊎ ((e.reason ≡ Reason.NotOfTheShape) × HasOther T.kind (value.now ∷ []))) }
 {
     match T::held(value) {
         Some(t) => {
@@ -135,9 +150,13 @@ fn join_in_turn<T: Case, E: Buffer + Encoder<T>>(
     values: &[Value],
 ) -> Result<(), Error>
     requires { length values.now ≤ E.room column.old }
-    ensures joined { OnOk result (E.columns column.new ≡ beside (E.columns column.old) (one (kind_of T.kind) (map datum_of values.now))) }
+    ensures joined { OnOk result
+        (E.columns column.new ≡ beside (E.columns column.old)
+        (one (kind_of T.kind) (map datum_of values.now))) }
     ensures entries { OnOk result (AllByRecursion (IsEntryIn T.kind) values.now) }
-    ensures refused { IfErr result (λ e. (e.reason ≡ Reason.OutOfMemory) ⊎ ((e.reason ≡ Reason.NotOfTheShape) × HasOther T.kind values.now)) }
+    ensures refused { IfErr result
+        (λ e. (e.reason ≡ Reason.OutOfMemory)
+        ⊎ ((e.reason ≡ Reason.NotOfTheShape) × HasOther T.kind values.now)) }
 {
     for value in values {
         join_next::<T, E>(column, value)?;
@@ -153,10 +172,14 @@ fn join_chunk<T: Case, E: Buffer + Encoder<T>>(
 ) -> Result<(), Error>
     requires chunk { (0 < length values.now) × (length values.now ≤ MAX_VECTORED_CHUNK) }
     requires room { length values.now ≤ E.room column.old }
-    ensures joined { OnOk result (E.columns column.new ≡ beside (E.columns column.old) (one (kind_of T.kind) (map datum_of values.now))) }
+    ensures joined { OnOk result
+        (E.columns column.new ≡ beside (E.columns column.old)
+        (one (kind_of T.kind) (map datum_of values.now))) }
     ensures entries { OnOk result (AllByRecursion (IsEntryIn T.kind) values.now) }
     ensures room { OnOk result (E.room column.old ≤ E.room column.new + length values.now) }
-    ensures refused { IfErr result (λ e. (e.reason ≡ Reason.OutOfMemory) ⊎ ((e.reason ≡ Reason.NotOfTheShape) × HasOther T.kind values.now)) }
+    ensures refused { IfErr result
+        (λ e. (e.reason ≡ Reason.OutOfMemory)
+        ⊎ ((e.reason ≡ Reason.NotOfTheShape) × HasOther T.kind values.now)) }
 {
     match T::held(&values[0]) {
         Some(first) => join_held(column, values, first),
@@ -167,9 +190,14 @@ fn join_chunk<T: Case, E: Buffer + Encoder<T>>(
 // Makes room for a value of one case, and writes it.
 #[inline(always)]
 fn join_one<T: Case, E: Buffer + Encoder<T>>(column: &mut E, value: &Value) -> Result<(), Error>
-    ensures joined { OnOk result (E.columns column.new ≡ beside (E.columns column.old) (one (kind_of T.kind) (map datum_of (value.now ∷ [])))) }
+    ensures joined { OnOk result
+        (E.columns column.new ≡ beside (E.columns column.old)
+        (one (kind_of T.kind) (map datum_of (value.now ∷ [])))) }
     ensures entries { OnOk result (AllByRecursion (IsEntryIn T.kind) (value.now ∷ [])) }
-    ensures refused { IfErr result (λ e. (e.reason ≡ Reason.OutOfMemory) ⊎ ((e.reason ≡ Reason.NotOfTheShape) × HasOther T.kind (value.now ∷ [])) ⊎ E.surely_overflows column.old 1) }
+    ensures refused { IfErr result
+        (λ e. (e.reason ≡ Reason.OutOfMemory)
+        ⊎ ((e.reason ≡ Reason.NotOfTheShape) × HasOther T.kind (value.now ∷ []))
+        ⊎ E.surely_overflows column.old 1) }
 {
     match T::held(value) {
         Some(t) => {
@@ -182,9 +210,14 @@ fn join_one<T: Case, E: Buffer + Encoder<T>>(column: &mut E, value: &Value) -> R
 
 // Makes room for values of one case, and writes them.
 fn join_each<T: Case, E: Buffer + Encoder<T>>(column: &mut E, values: &[Value]) -> Result<(), Error>
-    ensures joined { OnOk result (E.columns column.new ≡ beside (E.columns column.old) (one (kind_of T.kind) (map datum_of values.now))) }
+    ensures joined { OnOk result
+        (E.columns column.new ≡ beside (E.columns column.old)
+        (one (kind_of T.kind) (map datum_of values.now))) }
     ensures entries { OnOk result (AllByRecursion (IsEntryIn T.kind) values.now) }
-    ensures refused { IfErr result (λ e. (e.reason ≡ Reason.OutOfMemory) ⊎ ((e.reason ≡ Reason.NotOfTheShape) × HasOther T.kind values.now) ⊎ E.surely_overflows column.old (length values.now)) }
+    ensures refused { IfErr result
+        (λ e. (e.reason ≡ Reason.OutOfMemory)
+        ⊎ ((e.reason ≡ Reason.NotOfTheShape) × HasOther T.kind values.now)
+        ⊎ E.surely_overflows column.old (length values.now)) }
 {
     column.reserve(values.len())?;
     if values.len() < FEW {
@@ -248,9 +281,14 @@ impl WrittenColumn {
     // Writes values behind the others, each of the case of the column's entries. No value is a length.
     fn join_values(&mut self, values: &[Value]) -> Result<(), Error>
         ensures kind { OnOk result (kind_in_written self.new ≡ kind_in_written self.old) }
-        ensures written { OnOk result (entries_of self.new ≡ entries_of self.old ++ map datum_of values.now) }
-        ensures entries { OnOk result (AllByRecursion (IsEntryIn (kind_in_written self.old)) values.now) }
-        ensures refused { IfErr result (λ e. (e.reason ≡ Reason.OutOfMemory) ⊎ ((e.reason ≡ Reason.NotOfTheShape) × HasOther (kind_in_written self.old) values.now) ⊎ (kind_in_written self.old ≡ ColumnKind.Lengths)) }
+        ensures written { OnOk result
+            (entries_of self.new ≡ entries_of self.old ++ map datum_of values.now) }
+        ensures entries { OnOk result
+            (AllByRecursion (IsEntryIn (kind_in_written self.old)) values.now) }
+        ensures refused { IfErr result
+            (λ e. (e.reason ≡ Reason.OutOfMemory)
+            ⊎ ((e.reason ≡ Reason.NotOfTheShape) × HasOther (kind_in_written self.old) values.now)
+            ⊎ (kind_in_written self.old ≡ ColumnKind.Lengths)) }
     {
         match self {
             WrittenColumn::Bools(column) => join_each::<bool, BoolEncoder>(column, values),
@@ -273,9 +311,15 @@ impl WrittenColumn {
     #[inline(always)]
     fn join_value(&mut self, value: &Value) -> Result<(), Error>
         ensures kind { OnOk result (kind_in_written self.new ≡ kind_in_written self.old) }
-        ensures written { OnOk result (entries_of self.new ≡ entries_of self.old ++ map datum_of (value.now ∷ [])) }
-        ensures entries { OnOk result (AllByRecursion (IsEntryIn (kind_in_written self.old)) (value.now ∷ [])) }
-        ensures refused { IfErr result (λ e. (e.reason ≡ Reason.OutOfMemory) ⊎ ((e.reason ≡ Reason.NotOfTheShape) × HasOther (kind_in_written self.old) (value.now ∷ [])) ⊎ (kind_in_written self.old ≡ ColumnKind.Lengths)) }
+        ensures written { OnOk result
+            (entries_of self.new ≡ entries_of self.old ++ map datum_of (value.now ∷ [])) }
+        ensures entries { OnOk result
+            (AllByRecursion (IsEntryIn (kind_in_written self.old)) (value.now ∷ [])) }
+        ensures refused { IfErr result
+            (λ e. (e.reason ≡ Reason.OutOfMemory)
+            ⊎ ((e.reason ≡ Reason.NotOfTheShape)
+            × HasOther (kind_in_written self.old) (value.now ∷ []))
+            ⊎ (kind_in_written self.old ≡ ColumnKind.Lengths)) }
     {
         match self {
             WrittenColumn::Bools(column) => join_one::<bool, BoolEncoder>(column, value),
@@ -300,10 +344,16 @@ impl WrittenColumn {
     #[inline(always)]
     pub fn push_one(&mut self, kind: ColumnKind, value: &Value) -> Result<(), Error>
         requires { kind ≢ ColumnKind.Lengths }
-        ensures kind { OnOk result ((kind_of_written self.new ≡ kind_of_written self.old) × (kind_of kind ≡ kind_of_written self.old)) }
-        ensures written { OnOk result (entries_of self.new ≡ entries_of self.old ++ map datum_of (value.now ∷ [])) }
+        ensures kind { OnOk result
+            ((kind_of_written self.new ≡ kind_of_written self.old)
+            × (kind_of kind ≡ kind_of_written self.old)) }
+        ensures written { OnOk result
+            (entries_of self.new ≡ entries_of self.old ++ map datum_of (value.now ∷ [])) }
         ensures entries { OnOk result (AllByRecursion (IsEntryIn kind) (value.now ∷ [])) }
-        ensures refused { IfErr result (λ e. (e.reason ≡ Reason.OutOfMemory) ⊎ ((e.reason ≡ Reason.NotOfTheShape) × HasOther kind (value.now ∷ [])) ⊎ (kind_of kind ≢ kind_of_written self.old)) }
+        ensures refused { IfErr result
+            (λ e. (e.reason ≡ Reason.OutOfMemory)
+            ⊎ ((e.reason ≡ Reason.NotOfTheShape) × HasOther kind (value.now ∷ []))
+            ⊎ (kind_of kind ≢ kind_of_written self.old)) }
     {
         if !self.kind().is(kind) {
             return err(Reason::NotOfTheShape);
@@ -317,10 +367,16 @@ impl WrittenColumn {
     /// entries, it is `value is not of the shape`.
     pub fn push_each(&mut self, kind: ColumnKind, values: &[Value]) -> Result<(), Error>
         requires { kind ≢ ColumnKind.Lengths }
-        ensures kind { OnOk result ((kind_of_written self.new ≡ kind_of_written self.old) × (kind_of kind ≡ kind_of_written self.old)) }
-        ensures written { OnOk result (entries_of self.new ≡ entries_of self.old ++ map datum_of values.now) }
+        ensures kind { OnOk result
+            ((kind_of_written self.new ≡ kind_of_written self.old)
+            × (kind_of kind ≡ kind_of_written self.old)) }
+        ensures written { OnOk result
+            (entries_of self.new ≡ entries_of self.old ++ map datum_of values.now) }
         ensures entries { OnOk result (AllByRecursion (IsEntryIn kind) values.now) }
-        ensures refused { IfErr result (λ e. (e.reason ≡ Reason.OutOfMemory) ⊎ ((e.reason ≡ Reason.NotOfTheShape) × HasOther kind values.now) ⊎ (kind_of kind ≢ kind_of_written self.old)) }
+        ensures refused { IfErr result
+            (λ e. (e.reason ≡ Reason.OutOfMemory)
+            ⊎ ((e.reason ≡ Reason.NotOfTheShape) × HasOther kind values.now)
+            ⊎ (kind_of kind ≢ kind_of_written self.old)) }
     {
         if !self.kind().is(kind) {
             return err(Reason::NotOfTheShape);
@@ -358,9 +414,14 @@ impl WrittenColumn {
     /// `value is not of the shape`.
     #[inline(always)]
     pub fn push(&mut self, next: Entry<'_>) -> Result<(), Error>
-        ensures kind { OnOk result ((kind_of_written self.new ≡ kind_of_written self.old) × (kind_of_entry next.entry ≡ kind_of_written self.old)) }
-        ensures written { OnOk result (entries_of self.new ≡ entries_of self.old ++ datum_of_entry next.entry ∷ []) }
-        ensures refused { IfErr result (λ e. (e.reason ≡ Reason.OutOfMemory) ⊎ (kind_of_entry next.entry ≢ kind_of_written self.old)) }
+        ensures kind { OnOk result
+            ((kind_of_written self.new ≡ kind_of_written self.old)
+            × (kind_of_entry next.entry ≡ kind_of_written self.old)) }
+        ensures written { OnOk result
+            (entries_of self.new ≡ entries_of self.old ++ datum_of_entry next.entry ∷ []) }
+        ensures refused { IfErr result
+            (λ e. (e.reason ≡ Reason.OutOfMemory)
+            ⊎ (kind_of_entry next.entry ≢ kind_of_written self.old)) }
     {
         match (self, next) {
             (WrittenColumn::Bools(column), Entry::Bool(b)) => join(column, &b),
@@ -388,9 +449,13 @@ impl WrittenColumn {
     /// If an allocation fails, the error is `out of memory`. If the column has other entries, it is
     /// `value is not of the shape`.
     pub fn extend_bytes(&mut self, bytes: &[u8]) -> Result<(), Error>
-        ensures kind { OnOk result ((kind_of_written self.new ≡ kind_of_written self.old) × (ints 1 false ≡ kind_of_written self.old)) }
-        ensures written { OnOk result (entries_of self.new ≡ entries_of self.old ++ map natural bytes.now) }
-        ensures refused { IfErr result (λ e. (e.reason ≡ Reason.OutOfMemory) ⊎ (ints 1 false ≢ kind_of_written self.old)) }
+        ensures kind { OnOk result
+            ((kind_of_written self.new ≡ kind_of_written self.old)
+            × (ints 1 false ≡ kind_of_written self.old)) }
+        ensures written { OnOk result
+            (entries_of self.new ≡ entries_of self.old ++ map natural bytes.now) }
+        ensures refused { IfErr result
+            (λ e. (e.reason ≡ Reason.OutOfMemory) ⊎ (ints 1 false ≢ kind_of_written self.old)) }
     {
         match self {
             WrittenColumn::Bytes(column) => {
@@ -406,7 +471,9 @@ impl WrittenColumn {
     ///
     /// If an allocation fails, the error is `out of memory`.
     pub fn collect_into(&mut self, out: &mut Vec<u8>) -> Result<(), Error>
-        ensures written { OnOk result (out.new.items ≡ out.old.items ++ column_bytes (kind_of_written self.old) (entries_of self.old)) }
+        ensures written { OnOk result
+            (out.new.items ≡ out.old.items ++ column_bytes (kind_of_written self.old)
+            (entries_of self.old)) }
         ensures refused { IfErr result (λ e. e.reason ≡ Reason.OutOfMemory) }
     {
         match self {

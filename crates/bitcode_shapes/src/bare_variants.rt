@@ -136,7 +136,8 @@ impl<const N: usize, T: BareVariants<N>> Shaped for Bare<N, T> {
 impl<const N: usize, T: BareVariants<N>> Made for Bare<N, T> {
     ghost makes = { λ d b. MakesBare T.variant d b.value };
 
-    ghost makeable = { image_makeable (λ b. b.value) (λ g t h. (record { value = t }, refl)) (bare_makeable T.variant T.values T.in_order.0) };
+    ghost makeable = { image_makeable (λ b. b.value) (λ g t h. (record { value = t }, refl))
+        (bare_makeable T.variant T.values T.in_order.0) };
 }
 
 impl<const N: usize, T: BareVariants<N>> SameArrays for Bare<N, T> {

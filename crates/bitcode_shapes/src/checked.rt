@@ -3,13 +3,16 @@
 #![tactic(auto, using(crate::proofs::CheckedLemmas::nonzero_unsigned, crate::proofs::CheckedLemmas::nonzero_signed))]
 
 ghost use Rattle.std.specs.Prelude.{true, false, pos, refl};
-ghost use Rattle.std.specs.Int.NonZero.{non_zero_u8_get, non_zero_u16_get, non_zero_u32_get, non_zero_u64_get, non_zero_u128_get, non_zero_usize_get, non_zero_i8_get, non_zero_i16_get, non_zero_i32_get, non_zero_i64_get, non_zero_i128_get, non_zero_isize_get};
+ghost use Rattle.std.specs.Int.NonZero.{non_zero_u8_get, non_zero_u16_get, non_zero_u32_get, non_zero_u64_get};
+ghost use Rattle.std.specs.Int.NonZero.{non_zero_u128_get, non_zero_usize_get, non_zero_i8_get, non_zero_i16_get};
+ghost use Rattle.std.specs.Int.NonZero.{non_zero_i32_get, non_zero_i64_get, non_zero_i128_get, non_zero_isize_get};
 ghost use Rattle.bitcode_shapes.specs.Shape.{nonzero, scalar};
 ghost use Rattle.bitcode_shapes.specs.Ints.{ListsNumber, MakesNumber, SameNumber};
 ghost use Rattle.bitcode_shapes.specs.Checked.{nonzero_shape, char_shape, IsCheckedValue};
 ghost use Rattle.bitcode_shapes.specs.KeyLaws.{naturals_told, integers_told};
 ghost use Rattle.bitcode_shapes.specs.LawfulInts.{width_1, width_2, width_4, width_8, width_16};
-ghost use Rattle.bitcode_shapes.specs.LawfulChecked.{checked_lawful, unsigned_nonzero_makeable, signed_nonzero_makeable, char_makeable};
+ghost use Rattle.bitcode_shapes.specs.LawfulChecked.{checked_lawful, unsigned_nonzero_makeable};
+ghost use Rattle.bitcode_shapes.specs.LawfulChecked.{signed_nonzero_makeable, char_makeable};
 ghost use Rattle.bitcode_shapes.specs.SameArrays.{one_datum_same_arrays};
 
 use crate::keys::Key;
@@ -41,7 +44,8 @@ impl Shaped for NonZeroU8 {
 impl Made for NonZeroU8 {
     ghost makes = { MakesNumber (λ t. pos (non_zero_u8_get t)) };
 
-    ghost makeable = { unsigned_nonzero_makeable non_zero_u8_get 1 (λ n h. (record { value = n; ok = h }, refl)) };
+    ghost makeable = { unsigned_nonzero_makeable non_zero_u8_get 1
+        (λ n h. (record { value = n; ok = h }, refl)) };
 }
 
 impl Key for NonZeroU8 {
@@ -73,7 +77,8 @@ impl Shaped for NonZeroU16 {
 impl Made for NonZeroU16 {
     ghost makes = { MakesNumber (λ t. pos (non_zero_u16_get t)) };
 
-    ghost makeable = { unsigned_nonzero_makeable non_zero_u16_get 2 (λ n h. (record { value = n; ok = h }, refl)) };
+    ghost makeable = { unsigned_nonzero_makeable non_zero_u16_get 2
+        (λ n h. (record { value = n; ok = h }, refl)) };
 }
 
 impl Key for NonZeroU16 {
@@ -105,7 +110,8 @@ impl Shaped for NonZeroU32 {
 impl Made for NonZeroU32 {
     ghost makes = { MakesNumber (λ t. pos (non_zero_u32_get t)) };
 
-    ghost makeable = { unsigned_nonzero_makeable non_zero_u32_get 4 (λ n h. (record { value = n; ok = h }, refl)) };
+    ghost makeable = { unsigned_nonzero_makeable non_zero_u32_get 4
+        (λ n h. (record { value = n; ok = h }, refl)) };
 }
 
 impl Key for NonZeroU32 {
@@ -137,7 +143,8 @@ impl Shaped for NonZeroU64 {
 impl Made for NonZeroU64 {
     ghost makes = { MakesNumber (λ t. pos (non_zero_u64_get t)) };
 
-    ghost makeable = { unsigned_nonzero_makeable non_zero_u64_get 8 (λ n h. (record { value = n; ok = h }, refl)) };
+    ghost makeable = { unsigned_nonzero_makeable non_zero_u64_get 8
+        (λ n h. (record { value = n; ok = h }, refl)) };
 }
 
 impl Key for NonZeroU64 {
@@ -169,7 +176,8 @@ impl Shaped for NonZeroU128 {
 impl Made for NonZeroU128 {
     ghost makes = { MakesNumber (λ t. pos (non_zero_u128_get t)) };
 
-    ghost makeable = { unsigned_nonzero_makeable non_zero_u128_get 16 (λ n h. (record { value = n; ok = h }, refl)) };
+    ghost makeable = { unsigned_nonzero_makeable non_zero_u128_get 16
+        (λ n h. (record { value = n; ok = h }, refl)) };
 }
 
 impl Key for NonZeroU128 {
@@ -201,7 +209,8 @@ impl Shaped for NonZeroUsize {
 impl Made for NonZeroUsize {
     ghost makes = { MakesNumber (λ t. pos (non_zero_usize_get t)) };
 
-    ghost makeable = { unsigned_nonzero_makeable non_zero_usize_get 8 (λ n h. (record { value = n; ok = h }, refl)) };
+    ghost makeable = { unsigned_nonzero_makeable non_zero_usize_get 8
+        (λ n h. (record { value = n; ok = h }, refl)) };
 }
 
 impl Key for NonZeroUsize {
@@ -233,7 +242,8 @@ impl Shaped for NonZeroI8 {
 impl Made for NonZeroI8 {
     ghost makes = { MakesNumber non_zero_i8_get };
 
-    ghost makeable = { signed_nonzero_makeable non_zero_i8_get 1 (λ z h. (record { value = z; ok = h }, refl)) };
+    ghost makeable = { signed_nonzero_makeable non_zero_i8_get 1
+        (λ z h. (record { value = z; ok = h }, refl)) };
 }
 
 impl Key for NonZeroI8 {
@@ -265,7 +275,8 @@ impl Shaped for NonZeroI16 {
 impl Made for NonZeroI16 {
     ghost makes = { MakesNumber non_zero_i16_get };
 
-    ghost makeable = { signed_nonzero_makeable non_zero_i16_get 2 (λ z h. (record { value = z; ok = h }, refl)) };
+    ghost makeable = { signed_nonzero_makeable non_zero_i16_get 2
+        (λ z h. (record { value = z; ok = h }, refl)) };
 }
 
 impl Key for NonZeroI16 {
@@ -297,7 +308,8 @@ impl Shaped for NonZeroI32 {
 impl Made for NonZeroI32 {
     ghost makes = { MakesNumber non_zero_i32_get };
 
-    ghost makeable = { signed_nonzero_makeable non_zero_i32_get 4 (λ z h. (record { value = z; ok = h }, refl)) };
+    ghost makeable = { signed_nonzero_makeable non_zero_i32_get 4
+        (λ z h. (record { value = z; ok = h }, refl)) };
 }
 
 impl Key for NonZeroI32 {
@@ -329,7 +341,8 @@ impl Shaped for NonZeroI64 {
 impl Made for NonZeroI64 {
     ghost makes = { MakesNumber non_zero_i64_get };
 
-    ghost makeable = { signed_nonzero_makeable non_zero_i64_get 8 (λ z h. (record { value = z; ok = h }, refl)) };
+    ghost makeable = { signed_nonzero_makeable non_zero_i64_get 8
+        (λ z h. (record { value = z; ok = h }, refl)) };
 }
 
 impl Key for NonZeroI64 {
@@ -361,7 +374,8 @@ impl Shaped for NonZeroI128 {
 impl Made for NonZeroI128 {
     ghost makes = { MakesNumber non_zero_i128_get };
 
-    ghost makeable = { signed_nonzero_makeable non_zero_i128_get 16 (λ z h. (record { value = z; ok = h }, refl)) };
+    ghost makeable = { signed_nonzero_makeable non_zero_i128_get 16
+        (λ z h. (record { value = z; ok = h }, refl)) };
 }
 
 impl Key for NonZeroI128 {
@@ -393,7 +407,8 @@ impl Shaped for NonZeroIsize {
 impl Made for NonZeroIsize {
     ghost makes = { MakesNumber non_zero_isize_get };
 
-    ghost makeable = { signed_nonzero_makeable non_zero_isize_get 8 (λ z h. (record { value = z; ok = h }, refl)) };
+    ghost makeable = { signed_nonzero_makeable non_zero_isize_get 8
+        (λ z h. (record { value = z; ok = h }, refl)) };
 }
 
 impl Key for NonZeroIsize {

@@ -2,7 +2,8 @@
 ghost use Rattle.std.specs.Prelude.{◌&&◌};
 ghost use Rattle.bitcode_shapes.specs.Shape.{choice_shape, shape_and, no_shapes, unit_shape};
 ghost use Rattle.bitcode_shapes.specs.Empty.{ListsUnit, MakesUnit};
-ghost use Rattle.bitcode_shapes.specs.Choices.{ListsChoice, MakesChoice, ListsLast, MakesLast, IsVariantValue, ListsVariant, MakesVariant, SameVariant, option_variant, result_variant};
+ghost use Rattle.bitcode_shapes.specs.Choices.{ListsChoice, MakesChoice, ListsLast, MakesLast, IsVariantValue};
+ghost use Rattle.bitcode_shapes.specs.Choices.{ListsVariant, MakesVariant, SameVariant, option_variant, result_variant};
 ghost use Rattle.bitcode_shapes.specs.LawfulChoices.{option_lawful, option_makeable, result_lawful, result_makeable};
 
 use crate::shaped::{Made, Shaped};
@@ -12,9 +13,11 @@ impl<T: Shaped> Shaped for Option<T> {
 
     ghost is_value = { λ o. IsVariantValue (λ t. Unit {0}) T.is_value (option_variant o) };
 
-    ghost lists = { λ o d. ListsChoice (ListsVariant ListsUnit (ListsLast T.lists)) (option_variant o) d };
+    ghost lists = { λ o d. ListsChoice (ListsVariant ListsUnit (ListsLast T.lists))
+        (option_variant o) d };
 
-    ghost same = { λ o p. SameVariant (λ t u. Unit {0}) T.same (option_variant o) (option_variant p) };
+    ghost same = { λ o p. SameVariant (λ t u. Unit {0}) T.same (option_variant o)
+        (option_variant p) };
 
     ghost in_order = { T.in_order };
 
@@ -28,7 +31,8 @@ impl<T: Shaped> Shaped for Option<T> {
 }
 
 impl<T: Made> Made for Option<T> {
-    ghost makes = { λ d o. MakesChoice (MakesVariant MakesUnit (MakesLast T.makes)) d (option_variant o) };
+    ghost makes = { λ d o. MakesChoice (MakesVariant MakesUnit (MakesLast T.makes)) d
+        (option_variant o) };
 
     ghost makeable = { option_makeable T.makeable };
 }
@@ -38,7 +42,8 @@ impl<T: Shaped, E: Shaped> Shaped for Result<T, E> {
 
     ghost is_value = { λ r. IsVariantValue T.is_value E.is_value (result_variant r) };
 
-    ghost lists = { λ r d. ListsChoice (ListsVariant T.lists (ListsLast E.lists)) (result_variant r) d };
+    ghost lists = { λ r d. ListsChoice (ListsVariant T.lists (ListsLast E.lists)) (result_variant r)
+        d };
 
     ghost same = { λ q r. SameVariant T.same E.same (result_variant q) (result_variant r) };
 
@@ -55,7 +60,8 @@ impl<T: Shaped, E: Shaped> Shaped for Result<T, E> {
 }
 
 impl<T: Made, E: Made> Made for Result<T, E> {
-    ghost makes = { λ d r. MakesChoice (MakesVariant T.makes (MakesLast E.makes)) d (result_variant r) };
+    ghost makes = { λ d r. MakesChoice (MakesVariant T.makes (MakesLast E.makes)) d
+        (result_variant r) };
 
     ghost makeable = { result_makeable T.makeable E.makeable };
 }

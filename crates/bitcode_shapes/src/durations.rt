@@ -1,6 +1,7 @@
 //! Durations: seconds and nanoseconds.
 ghost use Rattle.std.specs.Prelude.{true};
-ghost use Rattle.bitcode_shapes.specs.Durations.{seconds_and_nanos, duration_shape, IsSpan, ListsSpan, MakesSpan, SameSpan};
+ghost use Rattle.bitcode_shapes.specs.Durations.{seconds_and_nanos, duration_shape, IsSpan, ListsSpan, MakesSpan};
+ghost use Rattle.bitcode_shapes.specs.Durations.{SameSpan};
 ghost use Rattle.bitcode_shapes.specs.LawfulDurations.{duration_lawful, duration_makeable};
 
 use crate::shaped::{Made, Shaped};

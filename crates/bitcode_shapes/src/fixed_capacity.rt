@@ -1,6 +1,7 @@
 //! Vectors and texts with a fixed capacity: their elements or bytes.
 ghost use Rattle.std.specs.Prelude.{Some, true};
-ghost use Rattle.bitcode_shapes.specs.FixedCapacity.{IsWithinCapacity, IsTextWithin, array_vec_lawful, array_vec_makeable, array_string_lawful, array_string_makeable};
+ghost use Rattle.bitcode_shapes.specs.FixedCapacity.{IsWithinCapacity, IsTextWithin, array_vec_lawful};
+ghost use Rattle.bitcode_shapes.specs.FixedCapacity.{array_vec_makeable, array_string_lawful, array_string_makeable};
 ghost use Rattle.bitcode_shapes.specs.Lists.{ListsSequence, MakesSequence, SameSequence};
 ghost use Rattle.bitcode_shapes.specs.Shape.{seq_shape, text_shape};
 ghost use Rattle.bitcode_shapes.specs.Texts.{ListsText, MakesText, SameText};

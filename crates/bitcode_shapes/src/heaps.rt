@@ -26,11 +26,13 @@ impl<T: Shaped + Ord> Shaped for BinaryHeap<T> {
         told_each(self.as_slice());
     }
 
-    ghost lawful = { any_heap_lawful T.shape T.is_value T.lists T.same T.in_order T.lawful heap_items };
+    ghost lawful = { any_heap_lawful T.shape T.is_value T.lists T.same T.in_order T.lawful
+        heap_items };
 }
 
 impl<T: Made + Ord> Made for BinaryHeap<T> {
     ghost makes = { λ d h. MakesInAnyOrder T.makes d (heap_items h) };
 
-    ghost makeable = { any_order_makeable T.shape T.is_value T.lists T.same heap_items T.makes heap_built T.makeable };
+    ghost makeable = { any_order_makeable T.shape T.is_value T.lists T.same heap_items T.makes
+        heap_built T.makeable };
 }

@@ -2,7 +2,8 @@
 //! Integers: their numbers. As keys they compare by number, and they hold no arrays.
 ghost use Rattle.std.specs.Prelude.{true, false, ℤ, pos};
 ghost use Rattle.bitcode_shapes.specs.KeyLaws.{naturals_told, integers_told};
-ghost use Rattle.bitcode_shapes.specs.LawfulInts.{width_1, width_2, width_4, width_8, width_16, int_lawful, unsigned_makeable, signed_makeable};
+ghost use Rattle.bitcode_shapes.specs.LawfulInts.{width_1, width_2, width_4, width_8, width_16, int_lawful};
+ghost use Rattle.bitcode_shapes.specs.LawfulInts.{unsigned_makeable, signed_makeable};
 ghost use Rattle.bitcode_shapes.specs.SameArrays.{one_datum_same_arrays};
 ghost use Rattle.bitcode_shapes.specs.Ints.{int_shape, ListsNumber, MakesNumber, SameNumber, IsValueOfWidth};
 

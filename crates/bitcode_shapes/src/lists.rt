@@ -49,7 +49,8 @@ impl<T: Shaped> Shaped for Vec<T> {
 impl<T: Made> Made for Vec<T> {
     ghost makes = { λ d v. MakesSequence T.makes d v.items };
 
-    ghost makeable = { seq_makeable T.shape T.is_value T.lists T.same vec_items T.makes vec_built T.makeable };
+    ghost makeable = { seq_makeable T.shape T.is_value T.lists T.same vec_items T.makes vec_built
+        T.makeable };
 }
 
 impl<'a, T: Shaped> Shaped for &'a [T] {
@@ -67,7 +68,8 @@ impl<'a, T: Shaped> Shaped for &'a [T] {
         told_each(*self);
     }
 
-    ghost lawful = { seq_lawful T.shape T.is_value T.lists T.same (λ s. s.now) T.in_order T.lawful };
+    ghost lawful = { seq_lawful T.shape T.is_value T.lists T.same (λ s. s.now) T.in_order
+        T.lawful };
 }
 
 impl<T: Shaped> Shaped for VecDeque<T> {
@@ -93,7 +95,8 @@ impl<T: Shaped> Shaped for VecDeque<T> {
 impl<T: Made> Made for VecDeque<T> {
     ghost makes = { λ d q. MakesSequence T.makes d (deque_items q) };
 
-    ghost makeable = { seq_makeable T.shape T.is_value T.lists T.same deque_items T.makes deque_built T.makeable };
+    ghost makeable = { seq_makeable T.shape T.is_value T.lists T.same deque_items T.makes
+        deque_built T.makeable };
 }
 
 impl<T: Shaped> Shaped for LinkedList<T> {
@@ -119,5 +122,6 @@ impl<T: Shaped> Shaped for LinkedList<T> {
 impl<T: Made> Made for LinkedList<T> {
     ghost makes = { λ d l. MakesSequence T.makes d l };
 
-    ghost makeable = { seq_makeable T.shape T.is_value T.lists T.same (λ l. l) T.makes (λ g. list_built) T.makeable };
+    ghost makeable = { seq_makeable T.shape T.is_value T.lists T.same (λ l. l) T.makes
+        (λ g. list_built) T.makeable };
 }

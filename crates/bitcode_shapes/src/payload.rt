@@ -69,9 +69,12 @@ pub trait KeyPayload {
 }
 
 impl<const N: usize, T: BareVariants<N>> Payload for Bare<N, T> {
-    ghost payload = { payload_of (image_lawful (λ b. b.value) (bare_lawful T.variant T.in_order.1)) (image_makeable (λ b. b.value) (λ g t h. (record { value = t }, refl)) (bare_makeable T.variant T.values T.in_order.0)) (one_datum_same_arrays) };
+    ghost payload = { payload_of (image_lawful (λ b. b.value) (bare_lawful T.variant T.in_order.1))
+        (image_makeable (λ b. b.value) (λ g t h. (record { value = t }, refl))
+        (bare_makeable T.variant T.values T.in_order.0)) (one_datum_same_arrays) };
 }
 
 impl<T: NoVariants> Payload for Absent<T> {
-    ghost payload = { payload_of (never_lawful (λ p. T.never p.value)) never_makeable never_same_arrays };
+    ghost payload = { payload_of (never_lawful (λ p. T.never p.value)) never_makeable
+        never_same_arrays };
 }

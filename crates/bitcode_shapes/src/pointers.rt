@@ -77,13 +77,15 @@ impl<T: Shaped> Shaped for BoxedSlice<T> {
         told_each(self.as_slice());
     }
 
-    ghost lawful = { seq_lawful T.shape T.is_value T.lists T.same boxed_slice_items T.in_order T.lawful };
+    ghost lawful = { seq_lawful T.shape T.is_value T.lists T.same boxed_slice_items T.in_order
+        T.lawful };
 }
 
 impl<T: Made> Made for BoxedSlice<T> {
     ghost makes = { λ d p. MakesSequence T.makes d (boxed_slice_items p) };
 
-    ghost makeable = { seq_makeable T.shape T.is_value T.lists T.same boxed_slice_items T.makes boxed_slice_built T.makeable };
+    ghost makeable = { seq_makeable T.shape T.is_value T.lists T.same boxed_slice_items T.makes
+        boxed_slice_built T.makeable };
 }
 
 impl<T: Shaped> Shaped for RcSlice<T> {
@@ -101,11 +103,13 @@ impl<T: Shaped> Shaped for RcSlice<T> {
         told_each(self.as_slice());
     }
 
-    ghost lawful = { seq_lawful T.shape T.is_value T.lists T.same rc_slice_items T.in_order T.lawful };
+    ghost lawful = { seq_lawful T.shape T.is_value T.lists T.same rc_slice_items T.in_order
+        T.lawful };
 }
 
 impl<T: Made> Made for RcSlice<T> {
     ghost makes = { λ d p. MakesSequence T.makes d (rc_slice_items p) };
 
-    ghost makeable = { seq_makeable T.shape T.is_value T.lists T.same rc_slice_items T.makes rc_slice_built T.makeable };
+    ghost makeable = { seq_makeable T.shape T.is_value T.lists T.same rc_slice_items T.makes
+        rc_slice_built T.makeable };
 }

@@ -6,7 +6,8 @@ ghost use Rattle.std.proofs.lemmas.Cmp.{eq_by_cmp_equiv};
 ghost use Rattle.bitcode_shapes.specs.AnyOrder.{ListsInAnyOrder};
 ghost use Rattle.bitcode_shapes.specs.BuiltEntries.{hashed_set_of};
 ghost use Rattle.bitcode_shapes.specs.BuiltSets.{ordered_set_built, hashed_set_built};
-ghost use Rattle.bitcode_shapes.specs.LawfulSets.{ordered_set_lawful, ordered_set_makeable, hashed_set_lawful, hashed_set_makeable, tells_by_order};
+ghost use Rattle.bitcode_shapes.specs.LawfulSets.{ordered_set_lawful, ordered_set_makeable, hashed_set_lawful};
+ghost use Rattle.bitcode_shapes.specs.LawfulSets.{hashed_set_makeable, tells_by_order};
 ghost use Rattle.bitcode_shapes.specs.Lists.{ListsSequence};
 ghost use Rattle.bitcode_shapes.specs.Sets.{IsOrderedSet, IsDistinctSet, MakesSet, SameMembers};
 ghost use Rattle.bitcode_shapes.specs.Shape.{seq_shape};
@@ -35,13 +36,18 @@ impl<T: Shaped + Ord> Shaped for BTreeSet<T> {
         }
     }
 
-    ghost lawful = { ordered_set_lawful T.shape T.is_value T.lists T.same (λ s. s.keys) (λ s. IsOrderedSet T.is_value T.cmp s.keys) (λ s h. h.each) (eq_by_cmp T.cmp) T.in_order T.lawful };
+    ghost lawful = { ordered_set_lawful T.shape T.is_value T.lists T.same (λ s. s.keys)
+        (λ s. IsOrderedSet T.is_value T.cmp s.keys) (λ s h. h.each) (eq_by_cmp T.cmp) T.in_order
+        T.lawful };
 }
 
 impl<T: Key + Made + Ord> Made for BTreeSet<T> {
     ghost makes = { λ d s. MakesSet T.is_value (eq_by_cmp T.cmp) T.makes d s.keys };
 
-    ghost makeable = { ordered_set_makeable T.shape T.is_value T.lists T.same (eq_by_cmp T.cmp) (eq_by_cmp_equiv T.total) (tells_by_order T.is_value T.same T.eq T.cmp T.matches_eq T.keyed) (λ s. s.keys) (λ s. IsOrderedSet T.is_value T.cmp s.keys) (λ s h. h.each) T.makes (λ g. ordered_set_built T.is_value T.total) T.makeable };
+    ghost makeable = { ordered_set_makeable T.shape T.is_value T.lists T.same (eq_by_cmp T.cmp)
+        (eq_by_cmp_equiv T.total) (tells_by_order T.is_value T.same T.eq T.cmp T.matches_eq T.keyed)
+        (λ s. s.keys) (λ s. IsOrderedSet T.is_value T.cmp s.keys) (λ s h. h.each) T.makes
+        (λ g. ordered_set_built T.is_value T.total) T.makeable };
 }
 
 impl<T: Shaped + Eq + Hash> Shaped for HashSet<T> {
@@ -62,11 +68,15 @@ impl<T: Shaped + Eq + Hash> Shaped for HashSet<T> {
         }
     }
 
-    ghost lawful = { hashed_set_lawful T.shape T.is_value T.lists T.same (λ s. s.keys) (λ s. IsDistinctSet T.is_value T.eq s.keys) (λ s h. h.each) T.eq T.in_order T.lawful };
+    ghost lawful = { hashed_set_lawful T.shape T.is_value T.lists T.same (λ s. s.keys)
+        (λ s. IsDistinctSet T.is_value T.eq s.keys) (λ s h. h.each) T.eq T.in_order T.lawful };
 }
 
 impl<T: Key + Made + Hash> Made for HashSet<T> {
     ghost makes = { λ d s. MakesSet T.is_value T.eq T.makes d s.keys };
 
-    ghost makeable = { hashed_set_makeable T.shape T.is_value T.lists T.same T.eq T.Eq.laws T.keyed (λ s. s.keys) (λ s. IsDistinctSet T.is_value T.eq s.keys) (λ s h. h.each) T.makes (λ g. hashed_set_built T.is_value (λ (s : Self). s.keys) T.Eq.laws hashed_set_of) T.makeable };
+    ghost makeable = { hashed_set_makeable T.shape T.is_value T.lists T.same T.eq T.Eq.laws T.keyed
+        (λ s. s.keys) (λ s. IsDistinctSet T.is_value T.eq s.keys) (λ s h. h.each) T.makes
+        (λ g. hashed_set_built T.is_value (λ (s : Self). s.keys) T.Eq.laws hashed_set_of)
+        T.makeable };
 }

@@ -67,7 +67,8 @@ pub trait StandsFor {
 /// }
 /// ```
 pub fn told_by_parts<T: StandsFor>(t: &T, u: &T)
-    ensures { SameIsOne T.Parts.is_value T.Parts.same → T.Parts.same (T.parts t.now) (T.parts u.now) → t.now ≡ u.now }
+    ensures { SameIsOne T.Parts.is_value T.Parts.same → T.Parts.same (T.parts t.now) (T.parts u.now)
+        → t.now ≡ u.now }
 {
     t.told_parts();
     u.told_parts();

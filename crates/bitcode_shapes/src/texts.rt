@@ -4,7 +4,8 @@ ghost use Rattle.std.specs.Prelude.{None, true};
 ghost use Rattle.std.specs.Box.{boxed_str_bytes};
 ghost use Rattle.std.specs.Rc.{rc_str_bytes};
 ghost use Rattle.std.specs.String.{string_bytes};
-ghost use Rattle.bitcode_shapes.specs.LawfulTexts.{text_lawful, text_makeable, str_built, string_built, boxed_str_built, rc_str_built};
+ghost use Rattle.bitcode_shapes.specs.LawfulTexts.{text_lawful, text_makeable, str_built, string_built};
+ghost use Rattle.bitcode_shapes.specs.LawfulTexts.{boxed_str_built, rc_str_built};
 ghost use Rattle.bitcode_shapes.specs.Shape.{text_shape};
 ghost use Rattle.bitcode_shapes.specs.Texts.{IsTextValue, ListsText, MakesText, SameText};
 

@@ -22,11 +22,13 @@ impl Shaped for Uuid {
         self.as_bytes().told();
     }
 
-    ghost lawful = { array_lawful 16 (int_shape 1 false) (IsValueOfWidth 1 false pos) (ListsNumber pos) (SameNumber pos) true (int_lawful pos 1 false width_1) };
+    ghost lawful = { array_lawful 16 (int_shape 1 false) (IsValueOfWidth 1 false pos)
+        (ListsNumber pos) (SameNumber pos) true (int_lawful pos 1 false width_1) };
 }
 
 impl Made for Uuid {
     ghost makes = { ⟦<[u8; 16] as Made>⟧.makes };
 
-    ghost makeable = { array_makeable 16 (int_shape 1 false) (IsValueOfWidth 1 false pos) (ListsNumber pos) (SameNumber pos) (MakesNumber pos) (unsigned_makeable 1) };
+    ghost makeable = { array_makeable 16 (int_shape 1 false) (IsValueOfWidth 1 false pos)
+        (ListsNumber pos) (SameNumber pos) (MakesNumber pos) (unsigned_makeable 1) };
 }

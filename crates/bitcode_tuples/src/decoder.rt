@@ -30,7 +30,8 @@ impl<A: HoldsData, B: HoldsData> HoldsData for TupleDecoder<A, B> {
 }
 
 impl<'a, A: View<'a>, B: View<'a>> View<'a> for TupleDecoder<A, B> {
-    ghost faults = { λ reason k input. A.faults reason k input ⊎ FaultsBehind A.shape B.faults reason k input };
+    ghost faults = { λ reason k input. A.faults reason k input
+        ⊎ FaultsBehind A.shape B.faults reason k input };
 
     fn new(alloc: Global) -> Self {
         TupleDecoder {

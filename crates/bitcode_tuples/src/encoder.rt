@@ -31,9 +31,11 @@ impl<A: HoldsColumns, B: HoldsColumns> HoldsColumns for TupleEncoder<A, B> {
 
     ghost capacity = { λ e. A.capacity e.first + B.capacity e.second };
 
-    ghost surely_overflows = { λ e n. A.surely_overflows e.first n ⊎ B.surely_overflows e.second n };
+    ghost surely_overflows = { λ e n. A.surely_overflows e.first n
+        ⊎ B.surely_overflows e.second n };
 
-    ghost overflows = { λ e n. A.overflows e.first n ⊎ ((n ≤ A.room e.first) × B.overflows e.second n) };
+    ghost overflows = { λ e n. A.overflows e.first n
+        ⊎ ((n ≤ A.room e.first) × B.overflows e.second n) };
 }
 
 impl<A: Buffer, B: Buffer> Buffer for TupleEncoder<A, B> {

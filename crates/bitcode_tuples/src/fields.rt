@@ -1,7 +1,8 @@
 //! The fields of a tuple, borrowed separately, and encoders that accept them like this.
 ghost use Rattle.std.specs.Prelude.{◌≡◌, ◌≢◌, ◌+◌, ◌<◌, ◌≤◌, Bool, ◌&&◌, IsTrue, OnOk, IfErr};
 ghost use Rattle.bitcode_coder.specs.Columns.{emptied};
-ghost use Rattle.bitcode_coder.specs.Coder.{BeginsWith, JoinsListing, WritesListing, OverflowsWithListing, IsWritingRefusal};
+ghost use Rattle.bitcode_coder.specs.Coder.{BeginsWith, JoinsListing, WritesListing, OverflowsWithListing};
+ghost use Rattle.bitcode_coder.specs.Coder.{IsWritingRefusal};
 
 use crate::encoder::TupleEncoder;
 use bitcode_coder::coder::{Buffer, Encoder, HoldsColumns};
@@ -68,10 +69,15 @@ pub trait FieldsEncoder<F: Fields>: HoldsColumns {
     /// ```
     fn encode_fields(&mut self, fields: &F) -> Result<(), Error>
         requires { 0 < Self.room self.old }
-        ensures joined { OnOk result (JoinsListing F.Whole.lists F.Whole.shape (F.whole fields.now) (Self.columns self.old) (Self.columns self.new)) }
+        ensures joined { OnOk result
+            (JoinsListing F.Whole.lists F.Whole.shape (F.whole fields.now) (Self.columns self.old)
+            (Self.columns self.new)) }
         ensures room { OnOk result (Self.room self.old ≤ Self.room self.new + 1) }
         ensures form { emptied (Self.columns self.new) ≡ emptied (Self.columns self.old) }
-        ensures refused { IfErr result (λ e. IsWritingRefusal e.reason (OverflowsWithListing F.Whole.lists F.Whole.shape (F.whole fields.now) (Self.columns self.old))) }
+        ensures refused { IfErr result
+            (λ e. IsWritingRefusal e.reason
+            (OverflowsWithListing F.Whole.lists F.Whole.shape (F.whole fields.now)
+            (Self.columns self.old))) }
         ensures free { IsTrue writes_free → IfErr result (λ e. e.reason ≢ Reason.OutOfMemory) };
 
     /// Appends the columns of the fields to `out`, like `write_one`. The encoder has no entries before and after.
@@ -81,11 +87,16 @@ pub trait FieldsEncoder<F: Fields>: HoldsColumns {
     where
         Self: Buffer,
         requires { Self.columns self.old ≡ emptied (Self.columns self.old) }
-        ensures written { OnOk result (WritesListing F.Whole.lists F.Whole.shape (F.whole fields.now) (Self.columns self.old) out.old.items out.new.items) }
+        ensures written { OnOk result
+            (WritesListing F.Whole.lists F.Whole.shape (F.whole fields.now) (Self.columns self.old)
+            out.old.items out.new.items) }
         ensures empty { OnOk result (Self.columns self.new ≡ emptied (Self.columns self.old)) }
         ensures begins { BeginsWith out.old.items out.new.items }
         ensures form { emptied (Self.columns self.new) ≡ emptied (Self.columns self.old) }
-        ensures refused { IfErr result (λ e. IsWritingRefusal e.reason (OverflowsWithListing F.Whole.lists F.Whole.shape (F.whole fields.now) (Self.columns self.old))) };
+        ensures refused { IfErr result
+            (λ e. IsWritingRefusal e.reason
+            (OverflowsWithListing F.Whole.lists F.Whole.shape (F.whole fields.now)
+            (Self.columns self.old))) };
 }
 
 impl<'a, P: Shaped, E: Encoder<P>> FieldsEncoder<&'a P> for E {

@@ -69,11 +69,22 @@ pub fn encode_two_of_each<
     requires chunk { (0 < length items.now) × (length items.now ≤ MAX_VECTORED_CHUNK) }
     requires room { length items.now ≤ ⟦<TupleEncoder<A, B> as HoldsColumns>⟧.room pair.old }
     requires listed { EachListed ⟦<(P, Q) as Shaped>⟧.lists (map (W.of which.now) items.now) }
-    ensures joined { OnOk result (JoinsEach ⟦<(P, Q) as Shaped>⟧.lists ⟦<(P, Q) as Shaped>⟧.shape (map (W.of which.now) items.now) (⟦<TupleEncoder<A, B> as HoldsColumns>⟧.columns pair.old) (⟦<TupleEncoder<A, B> as HoldsColumns>⟧.columns pair.new)) }
-    ensures room { OnOk result (⟦<TupleEncoder<A, B> as HoldsColumns>⟧.room pair.old ≤ ⟦<TupleEncoder<A, B> as HoldsColumns>⟧.room pair.new + length items.now) }
-    ensures form { emptied (⟦<TupleEncoder<A, B> as HoldsColumns>⟧.columns pair.new) ≡ emptied (⟦<TupleEncoder<A, B> as HoldsColumns>⟧.columns pair.old) }
-    ensures refused { IfErr result (λ e. IsWritingRefusal e.reason (OverflowsWithEach ⟦<(P, Q) as Shaped>⟧.lists ⟦<(P, Q) as Shaped>⟧.shape (map (W.of which.now) items.now) (⟦<TupleEncoder<A, B> as HoldsColumns>⟧.columns pair.old))) }
-    ensures free { IsTrue (A.writes_free && B.writes_free) → IfErr result (λ e. e.reason ≢ Reason.OutOfMemory) }
+    ensures joined { OnOk result
+        (JoinsEach ⟦<(P, Q) as Shaped>⟧.lists ⟦<(P, Q) as Shaped>⟧.shape
+        (map (W.of which.now) items.now) (⟦<TupleEncoder<A, B> as HoldsColumns>⟧.columns pair.old)
+        (⟦<TupleEncoder<A, B> as HoldsColumns>⟧.columns pair.new)) }
+    ensures room { OnOk result
+        (⟦<TupleEncoder<A, B> as HoldsColumns>⟧.room pair.old
+        ≤ ⟦<TupleEncoder<A, B> as HoldsColumns>⟧.room pair.new + length items.now) }
+    ensures form { emptied (⟦<TupleEncoder<A, B> as HoldsColumns>⟧.columns pair.new) ≡ emptied
+        (⟦<TupleEncoder<A, B> as HoldsColumns>⟧.columns pair.old) }
+    ensures refused { IfErr result
+        (λ e. IsWritingRefusal e.reason
+        (OverflowsWithEach ⟦<(P, Q) as Shaped>⟧.lists ⟦<(P, Q) as Shaped>⟧.shape
+        (map (W.of which.now) items.now)
+        (⟦<TupleEncoder<A, B> as HoldsColumns>⟧.columns pair.old))) }
+    ensures free { IsTrue (A.writes_free && B.writes_free)
+        → IfErr result (λ e. e.reason ≢ Reason.OutOfMemory) }
 {
     let tuple = PhantomData::<(P, Q)>;
     let front = Front { all: which, tuple };

@@ -9,7 +9,8 @@ ghost use Rattle.bitcode_untyped.specs.View.{tree_of};
 ghost use Rattle.bitcode_untyped.specs.Cases.{FaultsTell};
 ghost use Rattle.bitcode_untyped.specs.Content.{DatumDecides};
 ghost use Rattle.bitcode_untyped.specs.declared.shape.Shape.{Shape};
-ghost use Rattle.bitcode_untyped.specs.Laws.{ColumnsDecide, SpellsOnce, DatumTakesAnEighth, ElementsAreBounded, LengthsBelowLimit, ReadsBackDatum};
+ghost use Rattle.bitcode_untyped.specs.Laws.{ColumnsDecide, SpellsOnce, DatumTakesAnEighth, ElementsAreBounded};
+ghost use Rattle.bitcode_untyped.specs.Laws.{LengthsBelowLimit, ReadsBackDatum};
 
 /// The columns of a datum so far determine the place, kind and count of the next column, and all columns together
 /// determine the datum. So a decoder always knows what to read next.
@@ -41,9 +42,14 @@ pub fn spelled_data()
 /// strictly_spelled_data();
 /// ```
 pub fn strictly_spelled_data()
-    ensures once { (shape : ShapeTree) (piece other : List ℕ) (d : Datum) → StrictlySpellsDatum shape piece d → StrictlySpellsDatum shape other d → piece ≡ other }
-    ensures text { (shape : ShapeTree) (piece : List ℕ) (d : Datum) → StrictlySpellsDatum shape piece d → SpellsDatum shape piece d × (piece ≡ datum_text shape d) }
-    ensures written { (shape : ShapeTree) → IsSound shape → (d : Datum) → IsOf shape d → IsLimited shape d → LengthsBelowLimit shape d → StrictlySpellsDatum shape (datum_text shape d) d }
+    ensures once { (shape : ShapeTree) (piece other : List ℕ) (d : Datum)
+        → StrictlySpellsDatum shape piece d → StrictlySpellsDatum shape other d → piece ≡ other }
+    ensures text { (shape : ShapeTree) (piece : List ℕ) (d : Datum)
+        → StrictlySpellsDatum shape piece d → SpellsDatum shape piece d
+        × (piece ≡ datum_text shape d) }
+    ensures written { (shape : ShapeTree) → IsSound shape → (d : Datum) → IsOf shape d
+        → IsLimited shape d → LengthsBelowLimit shape d
+        → StrictlySpellsDatum shape (datum_text shape d) d }
 {}
 
 /// Every shape has only possible kinds of columns, so `spelled_data` holds for each shape.

@@ -99,8 +99,10 @@ impl Shape {
     /// let lists = Shape::new(vec![in alloc; ShapeNode::Seq(Box::new(alloc, ShapeNode::Ref(0))?)]?, 0)?;
     /// ```
     pub fn new(table: Vec<ShapeNode>, root: usize) -> Result<Shape, Error>
-        ensures kept { IfOk result (λ shape. IsSoundTable table.items root × (shape.table ≡ table) × (shape.root ≡ root)) }
-        ensures refused { IfErr result (λ e. (e.reason ≡ BadShape) × (IsSoundTable table.items root → ⊥)) }
+        ensures kept { IfOk result
+            (λ shape. IsSoundTable table.items root × (shape.table ≡ table) × (shape.root ≡ root)) }
+        ensures refused { IfErr result
+            (λ e. (e.reason ≡ BadShape) × (IsSoundTable table.items root → ⊥)) }
     {
         if !is_sound_table(&table, root) {
             return Err(Error {

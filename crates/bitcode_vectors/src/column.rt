@@ -1,4 +1,5 @@
-//! The command `column`: it reads one column, whose bytes are given in decimal, and shows its entries and the bytes behind it.
+//! The command `column`: it reads one column, whose bytes are given in decimal, and shows its entries and the bytes
+//! behind it.
 use crate::column::kinds::{Kind, kind_of};
 use crate::column::words::{bytes_of, count_of};
 use bitcode::Error;

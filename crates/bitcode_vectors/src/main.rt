@@ -1,5 +1,5 @@
-//! Runs the stored rows: values whose bytes are known from the Rust crate, and inputs with their values or refusals. By the
-//! words `column KIND COUNT` it reads one column from standard input instead.
+//! Runs the stored rows: values whose bytes are known from the Rust crate, and inputs with their values or refusals. By
+//! the words `column KIND COUNT` it reads one column from standard input instead.
 #![tactic(auto)]
 
 use crate::column::{Answer, Request};

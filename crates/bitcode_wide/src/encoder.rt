@@ -13,8 +13,8 @@ use std::marker::PhantomData;
 /// All fields of a struct, in the place of the number of fields of a part.
 pub struct AllFields {}
 
-/// The columns of structs with more than 16 fields, or of one part of their fields, with the encoder `E` of the parts or
-/// of the tuple of fields. `K` is [`AllFields`] or the number of fields of the part.
+/// The columns of structs with more than 16 fields, or of one part of their fields, with the encoder `E` of the parts
+/// or of the tuple of fields. `K` is [`AllFields`] or the number of fields of the part.
 ///
 /// It returns that encoder's errors, and allocates nothing itself.
 pub struct WideEncoder<K, E> {

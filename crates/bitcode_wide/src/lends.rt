@@ -31,7 +31,8 @@ impl<'w, W, T, P> Drop for LentIn<'w, W, T, P> {
 pub trait LendsPart5<T, T1, T2, T3, T4, T5>: PartOf<T> + StandsFor<Parts = (T1, T2, T3, T4, T5)> {
     /// References to the fields in `whole`.
     fn lend<'b>(whole: &'b T) -> (&'b T1, &'b T2, &'b T3, &'b T4, &'b T5)
-        ensures { (result.0.now, result.1.now, result.2.now, result.3.now, result.4.now) ≡ Self.parts (Self.of whole.now) };
+        ensures { (result.0.now, result.1.now, result.2.now, result.3.now, result.4.now)
+            ≡ Self.parts (Self.of whole.now) };
 }
 
 impl<
@@ -99,7 +100,14 @@ pub trait LendsPart6<T, T1, T2, T3, T4, T5, T6>: PartOf<T>
     + StandsFor<Parts = (T1, T2, T3, T4, T5, T6)> {
     /// References to the fields in `whole`.
     fn lend<'b>(whole: &'b T) -> (&'b T1, &'b T2, &'b T3, &'b T4, &'b T5, &'b T6)
-        ensures { (result.0.now, result.1.now, result.2.now, result.3.now, result.4.now, result.5.now) ≡ Self.parts (Self.of whole.now) };
+        ensures { (
+          result.0.now,
+          result.1.now,
+          result.2.now,
+          result.3.now,
+          result.4.now,
+          result.5.now,
+        ) ≡ Self.parts (Self.of whole.now) };
 }
 
 impl<
@@ -169,7 +177,15 @@ pub trait LendsPart7<T, T1, T2, T3, T4, T5, T6, T7>: PartOf<T>
     + StandsFor<Parts = (T1, T2, T3, T4, T5, T6, T7)> {
     /// References to the fields in `whole`.
     fn lend<'b>(whole: &'b T) -> (&'b T1, &'b T2, &'b T3, &'b T4, &'b T5, &'b T6, &'b T7)
-        ensures { (result.0.now, result.1.now, result.2.now, result.3.now, result.4.now, result.5.now, result.6.now) ≡ Self.parts (Self.of whole.now) };
+        ensures { (
+          result.0.now,
+          result.1.now,
+          result.2.now,
+          result.3.now,
+          result.4.now,
+          result.5.now,
+          result.6.now,
+        ) ≡ Self.parts (Self.of whole.now) };
 }
 
 impl<
@@ -254,7 +270,16 @@ pub trait LendsPart8<T, T1, T2, T3, T4, T5, T6, T7, T8>: PartOf<T>
         &'b T7,
         &'b T8,
     )
-        ensures { (result.0.now, result.1.now, result.2.now, result.3.now, result.4.now, result.5.now, result.6.now, result.7.now) ≡ Self.parts (Self.of whole.now) };
+        ensures { (
+          result.0.now,
+          result.1.now,
+          result.2.now,
+          result.3.now,
+          result.4.now,
+          result.5.now,
+          result.6.now,
+          result.7.now,
+        ) ≡ Self.parts (Self.of whole.now) };
 }
 
 impl<

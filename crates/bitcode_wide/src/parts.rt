@@ -2,7 +2,9 @@
 ghost use Rattle.std.specs.Prelude.{◌≡◌, ◌≢◌, ℕ, ◌+◌, ◌<◌, ◌≤◌, Bool, [], length, map, ◌&&◌, IsTrue, OnOk, IfErr};
 ghost use Rattle.bitcode_shapes.specs.Datum.{Datum};
 ghost use Rattle.bitcode_coder.specs.Columns.{emptied};
-ghost use Rattle.bitcode_coder.specs.Coder.{written_columns, BeginsWith, JoinsListing, WritesListing, OverflowsWithListing, JoinsEach, OverflowsWithEach, SurelyOverflows, IsWritingRefusal};
+ghost use Rattle.bitcode_coder.specs.Coder.{written_columns, BeginsWith, JoinsListing, WritesListing};
+ghost use Rattle.bitcode_coder.specs.Coder.{OverflowsWithListing, JoinsEach, OverflowsWithEach, SurelyOverflows};
+ghost use Rattle.bitcode_coder.specs.Coder.{IsWritingRefusal};
 ghost use Rattle.bitcode_tuples.specs.Pairs.{EachListed};
 ghost use Rattle.bitcode_tuples.specs.PairLaws.{both_of_shape, both_surely};
 
@@ -38,10 +40,14 @@ pub trait PartEncoder<T, P: PartOf<T> + Shaped>: HoldsColumns {
     fn encode_part(&mut self, whole: &T) -> Result<(), Error>
         requires room { 0 < Self.room self.old }
         requires listed { (d : Datum) × P.lists (P.of whole.now) d }
-        ensures joined { OnOk result (JoinsListing P.lists P.shape (P.of whole.now) (Self.columns self.old) (Self.columns self.new)) }
+        ensures joined { OnOk result
+            (JoinsListing P.lists P.shape (P.of whole.now) (Self.columns self.old)
+            (Self.columns self.new)) }
         ensures room { OnOk result (Self.room self.old ≤ Self.room self.new + 1) }
         ensures form { emptied (Self.columns self.new) ≡ emptied (Self.columns self.old) }
-        ensures refused { IfErr result (λ e. IsWritingRefusal e.reason (OverflowsWithListing P.lists P.shape (P.of whole.now) (Self.columns self.old))) }
+        ensures refused { IfErr result
+            (λ e. IsWritingRefusal e.reason
+            (OverflowsWithListing P.lists P.shape (P.of whole.now) (Self.columns self.old))) }
         ensures free { IsTrue writes_free → IfErr result (λ e. e.reason ≢ Reason.OutOfMemory) };
 
     /// Appends the columns of the part of `whole` to `out`, like `write_one`. The part must have a listing, and the
@@ -51,26 +57,36 @@ pub trait PartEncoder<T, P: PartOf<T> + Shaped>: HoldsColumns {
         Self: Buffer,
         requires none { Self.columns self.old ≡ emptied (Self.columns self.old) }
         requires listed { (d : Datum) × P.lists (P.of whole.now) d }
-        ensures written { OnOk result (WritesListing P.lists P.shape (P.of whole.now) (Self.columns self.old) out.old.items out.new.items) }
+        ensures written { OnOk result
+            (WritesListing P.lists P.shape (P.of whole.now) (Self.columns self.old) out.old.items
+            out.new.items) }
         ensures empty { OnOk result (Self.columns self.new ≡ emptied (Self.columns self.old)) }
         ensures begins { BeginsWith out.old.items out.new.items }
         ensures form { emptied (Self.columns self.new) ≡ emptied (Self.columns self.old) }
-        ensures refused { IfErr result (λ e. IsWritingRefusal e.reason (OverflowsWithListing P.lists P.shape (P.of whole.now) (Self.columns self.old))) };
+        ensures refused { IfErr result
+            (λ e. IsWritingRefusal e.reason
+            (OverflowsWithListing P.lists P.shape (P.of whole.now) (Self.columns self.old))) };
 
     /// Like `Encoder::encode_part_of_each`, for parts that have listings.
     fn encode_part_in_each<S, W: Part<S, T>>(&mut self, items: &[S], which: &W) -> Result<(), Error>
         requires chunk { (0 < length items.now) × (length items.now ≤ MAX_VECTORED_CHUNK) }
         requires room { length items.now ≤ Self.room self.old }
         requires listed { EachListed P.lists (map (λ s. P.of (W.of which.now s)) items.now) }
-        ensures joined { OnOk result (JoinsEach P.lists P.shape (map (λ s. P.of (W.of which.now s)) items.now) (Self.columns self.old) (Self.columns self.new)) }
+        ensures joined { OnOk result
+            (JoinsEach P.lists P.shape (map (λ s. P.of (W.of which.now s)) items.now)
+            (Self.columns self.old) (Self.columns self.new)) }
         ensures room { OnOk result (Self.room self.old ≤ Self.room self.new + length items.now) }
         ensures form { emptied (Self.columns self.new) ≡ emptied (Self.columns self.old) }
-        ensures refused { IfErr result (λ e. IsWritingRefusal e.reason (OverflowsWithEach P.lists P.shape (map (λ s. P.of (W.of which.now s)) items.now) (Self.columns self.old))) }
+        ensures refused { IfErr result
+            (λ e. IsWritingRefusal e.reason
+            (OverflowsWithEach P.lists P.shape (map (λ s. P.of (W.of which.now s)) items.now)
+            (Self.columns self.old))) }
         ensures free { IsTrue writes_free → IfErr result (λ e. e.reason ≢ Reason.OutOfMemory) };
 
     ghost of_shape: { (e : Self) → emptied (Self.columns e) ≡ written_columns P.shape [] };
 
-    ghost surely: { (e : Self) (n : ℕ) → Self.surely_overflows e n → SurelyOverflows P.shape (Self.columns e) n };
+    ghost surely: { (e : Self) (n : ℕ) → Self.surely_overflows e n
+        → SurelyOverflows P.shape (Self.columns e) n };
 }
 
 impl<

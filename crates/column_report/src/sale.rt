@@ -42,7 +42,8 @@ impl<'a> FromParts for Sale<'a> {
 }
 
 impl<'a> Payload for Sale<'a> {
-    ghost payload = { stood_payload ⟦<Sale<'a> as StandsFor>⟧.parts ⟦<Sale<'a> as StandsFor>⟧.of_parts ⟦<(&'a str, u16, u32) as Payload>⟧.payload };
+    ghost payload = { stood_payload ⟦<Sale<'a> as StandsFor>⟧.parts
+        ⟦<Sale<'a> as StandsFor>⟧.of_parts ⟦<(&'a str, u16, u32) as Payload>⟧.payload };
 }
 
 impl<'a> LendsFields3<&'a str, u16, u32> for Sale<'a> {

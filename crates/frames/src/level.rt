@@ -40,7 +40,8 @@ impl HeldIn for Level {
 }
 
 impl Payload for Level {
-    ghost payload = { stood_payload ⟦<Level as StandsFor>⟧.parts ⟦<Level as StandsFor>⟧.of_parts ⟦<Bare<3, Level> as Payload>⟧.payload };
+    ghost payload = { stood_payload ⟦<Level as StandsFor>⟧.parts ⟦<Level as StandsFor>⟧.of_parts
+        ⟦<Bare<3, Level> as Payload>⟧.payload };
 }
 
 impl HasCoders for Level {}

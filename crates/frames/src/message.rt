@@ -1,6 +1,8 @@
-//! `Message` is written and read by the numbers of its variants. What is below its declaration was written by `scripts/new_type`.
+//! `Message` is written and read by the numbers of its variants. What is below its declaration was written by
+//! `scripts/new_type`.
 ghost use Rattle.std.specs.Prelude.{◌≡◌, refl};
-ghost use Rattle.bitcode.specs.ByHand.{columns_in, each_variant, is_variant, last_payload, of_one_of_4, payload_and, payloads_in, stood_payload};
+ghost use Rattle.bitcode.specs.ByHand.{columns_in, each_variant, is_variant, last_payload, of_one_of_4, payload_and};
+ghost use Rattle.bitcode.specs.ByHand.{payloads_in, stood_payload};
 ghost use Rattle.frames.specs.declared.message.Message.{Message};
 
 use crate::level::Level;
@@ -22,7 +24,23 @@ pub enum Message<'a> {
 }
 
 impl<'a> Enum for Message<'a> {
-    ghost each = { each_variant (payload_and ⟦<(&'a str, u16) as Payload>⟧.payload (payload_and ⟦<(u32, i64) as Payload>⟧.payload (payload_and ⟦<(Level, &'a str) as Payload>⟧.payload (last_payload ⟦<() as Payload>⟧.payload)))) (λ at. elim [ Message.Hello a b ↦ at 0 (a, b) | Message.Measured a b ↦ at 1 (a, b) | Message.Log a b ↦ at 2 (a, b) | Message.Bye ↦ at 3 tt ]) ((λ p. (Message.Hello p.0 p.1, refl)), ((λ p. (Message.Measured p.0 p.1, refl)), ((λ p. (Message.Log p.0 p.1, refl)), λ p. (Message.Bye, refl)))) };
+    ghost each = { each_variant
+        (payload_and ⟦<(&'a str, u16) as Payload>⟧.payload
+        (payload_and ⟦<(u32, i64) as Payload>⟧.payload
+        (payload_and ⟦<(Level, &'a str) as Payload>⟧.payload
+        (last_payload ⟦<() as Payload>⟧.payload))))
+        (λ at. elim [
+          | Message.Hello a b ↦ at 0 (a, b)
+          | Message.Measured a b ↦ at 1 (a, b)
+          | Message.Log a b ↦ at 2 (a, b)
+          | Message.Bye ↦ at 3 tt
+        ]) (
+          (λ p. (Message.Hello p.0 p.1, refl)),
+          (
+            (λ p. (Message.Measured p.0 p.1, refl)),
+            ((λ p. (Message.Log p.0 p.1, refl)), λ p. (Message.Bye, refl)),
+          ),
+        ) };
 
     ghost sized = { refl };
 
@@ -35,7 +53,12 @@ impl<'a> Enum for Message<'a> {
         }
     }
 
-    ghost one_to_one = { elim [ Message.Hello a b ↦ refl | Message.Measured a b ↦ refl | Message.Log a b ↦ refl | Message.Bye ↦ refl ] };
+    ghost one_to_one = { elim [
+      | Message.Hello a b ↦ refl
+      | Message.Measured a b ↦ refl
+      | Message.Log a b ↦ refl
+      | Message.Bye ↦ refl
+    ] };
 }
 
 impl<'a> EnumOf<4> for Message<'a> {
@@ -47,14 +70,22 @@ impl<'a> HeldIn for Message<'a> {
 }
 
 impl<'a> Payload for Message<'a> {
-    ghost payload = { stood_payload ⟦<Message<'a> as StandsFor>⟧.parts ⟦<Message<'a> as StandsFor>⟧.of_parts ⟦<Held<4, Message<'a>> as Payload>⟧.payload };
+    ghost payload = { stood_payload ⟦<Message<'a> as StandsFor>⟧.parts
+        ⟦<Message<'a> as StandsFor>⟧.of_parts ⟦<Held<4, Message<'a>> as Payload>⟧.payload };
 }
 
 impl<'a> Variants4<At<0>, (&'a str, u16), (u32, i64), (Level, &'a str), ()> for Message<'a> {
-    ghost values = { (λ p. Message.Hello p.0 p.1, λ p. Message.Measured p.0 p.1, λ p. Message.Log p.0 p.1, λ p. Message.Bye) };
+    ghost values = { (
+      λ p. Message.Hello p.0 p.1,
+      λ p. Message.Measured p.0 p.1,
+      λ p. Message.Log
+          p.0 p.1,
+      λ p. Message.Bye,
+    ) };
 
     fn of_payload(payload: OneOf4<(&'a str, u16), (u32, i64), (Level, &'a str), ()>) -> Self
-        ensures { result ≡ of_one_of_4 (λ p. Message.Hello p.0 p.1) (λ p. Message.Measured p.0 p.1) (λ p. Message.Log p.0 p.1) (λ p. Message.Bye) payload.entry }
+        ensures { result ≡ of_one_of_4 (λ p. Message.Hello p.0 p.1) (λ p. Message.Measured p.0 p.1)
+            (λ p. Message.Log p.0 p.1) (λ p. Message.Bye) payload.entry }
     {
         match payload {
             OneOf4::First((name, version)) => Message::Hello { name, version },
@@ -64,7 +95,14 @@ impl<'a> Variants4<At<0>, (&'a str, u16), (u32, i64), (Level, &'a str), ()> for 
         }
     }
 
-    ghost are = { (is_variant refl (λ p. refl) (λ p old new h. h) (λ p old h. h) (λ p old new h. h), is_variant refl (λ p. refl) (λ p old new h. h) (λ p old h. h) (λ p old new h. h), is_variant refl (λ p. refl) (λ p old new h. h) (λ p old h. h) (λ p old new h. h), is_variant refl (λ p. refl) (λ p old new h. h) (λ p old h. h) (λ p old new h. h)) };
+    ghost are = { (
+      is_variant refl (λ p. refl) (λ p old new h. h) (λ p old h. h) (λ p old new h. h),
+      is_variant refl (λ p. refl) (λ p old new h. h) (λ p old h. h) (λ p old new h. h),
+      is_variant
+          refl (λ p. refl) (λ p old new h. h) (λ p old h. h) (λ p old new h. h),
+      is_variant refl
+          (λ p. refl) (λ p old new h. h) (λ p old h. h) (λ p old new h. h),
+    ) };
 }
 
 type Columns = EncodersOf4<At<0>, (&'static str, u16), (u32, i64), (Level, &'static str), ()>;
@@ -123,7 +161,8 @@ pub struct MessagePayloads<'a> {
 }
 
 impl<'a> AllPayloads<'a, 4, Message<'a>> for MessagePayloads<'a> {
-    ghost held = { payloads_in (λ d. d.all) ⟦<Decoders<'a> as VariantPayloads<'a, Message<'a>>>⟧.held };
+    ghost held = { payloads_in (λ d. d.all)
+        ⟦<Decoders<'a> as VariantPayloads<'a, Message<'a>>>⟧.held };
 
     fn new(alloc: Global) -> Self {
         MessagePayloads {

@@ -45,7 +45,8 @@ pub fn from_bytes<'a>(alloc: Global, bytes: &'a [u8]) -> Result<Records, OpenErr
         ⟦<Records as Shaped>⟧.shape EXPECTED bytes.now records) }
     ensures refused { IfErr result (λ e. IsRefusal ⟦<RecordsDecoder<'a> as View<'a>>⟧.faults
         ⟦<RecordsDecoder<'a> as Decoder<Records>>⟧.makes_free
-        ⟦<RecordsDecoder<'a> as HoldsData>⟧.shape ⟦<Records as Shaped>⟧.shape EXPECTED bytes.now e) }
+        ⟦<RecordsDecoder<'a> as HoldsData>⟧.shape ⟦<Records as Shaped>⟧.shape EXPECTED bytes.now
+        e) }
 {
     open::<Records>(alloc, &EXPECTED, bytes)
 }

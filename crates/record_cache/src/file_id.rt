@@ -38,7 +38,8 @@ impl FromParts for FileId {
 }
 
 impl Payload for FileId {
-    ghost payload = { stood_payload ⟦<FileId as StandsFor>⟧.parts ⟦<FileId as StandsFor>⟧.of_parts ⟦<(u64, u64) as Payload>⟧.payload };
+    ghost payload = { stood_payload ⟦<FileId as StandsFor>⟧.parts ⟦<FileId as StandsFor>⟧.of_parts
+        ⟦<(u64, u64) as Payload>⟧.payload };
 }
 
 impl LendsFields2<u64, u64> for FileId {
@@ -58,7 +59,8 @@ impl<'a> HasDecoder<'a> for FileId {
 impl DecodeOwned for FileId {}
 
 impl KeyPayload for FileId {
-    ghost key = { stood_key ⟦<FileId as StandsFor>⟧.parts ⟦<FileId as StandsFor>⟧.of_parts ⟦<(u64, u64) as KeyPayload>⟧.key };
+    ghost key = { stood_key ⟦<FileId as StandsFor>⟧.parts ⟦<FileId as StandsFor>⟧.of_parts
+        ⟦<(u64, u64) as KeyPayload>⟧.key };
 }
 
 impl Key for FileId {

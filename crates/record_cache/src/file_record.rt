@@ -1,4 +1,5 @@
-//! `FileRecord` corresponds to the tuple of its fields. What is below its declaration was written by `scripts/new_type`.
+//! `FileRecord` corresponds to the tuple of its fields. What is below its declaration was written by
+//! `scripts/new_type`.
 ghost use Rattle.std.specs.Prelude.{refl};
 ghost use Rattle.bitcode.specs.ByHand.{stood_payload};
 
@@ -42,7 +43,8 @@ impl FromParts for FileRecord {
 }
 
 impl Payload for FileRecord {
-    ghost payload = { stood_payload ⟦<FileRecord as StandsFor>⟧.parts ⟦<FileRecord as StandsFor>⟧.of_parts ⟦<(u64, i64, u32) as Payload>⟧.payload };
+    ghost payload = { stood_payload ⟦<FileRecord as StandsFor>⟧.parts
+        ⟦<FileRecord as StandsFor>⟧.of_parts ⟦<(u64, i64, u32) as Payload>⟧.payload };
 }
 
 impl LendsFields3<u64, i64, u32> for FileRecord {

@@ -27,7 +27,19 @@ impl StandsFor for Entity {
 
     ghost parts = { λ t. (t.id, t.kind, t.x, t.y, t.health, t.is_asleep, t.target) };
 
-    ghost of_parts = { λ p. (record { id = p.0; kind = p.1; x = p.2; y = p.3; health = p.4; is_asleep = p.5; target = p.6 }, refl) };
+    ghost of_parts = { λ p. (
+      record {
+        id = p.0;
+        kind = p.1;
+        x = p.2;
+        y = p.3;
+        health = p.4;
+        is_asleep = p.5;
+        target
+            = p.6;
+      },
+      refl,
+    ) };
 
     fn told_parts(&self) {
         self.id.told();
@@ -57,7 +69,8 @@ impl FromParts for Entity {
 }
 
 impl Payload for Entity {
-    ghost payload = { stood_payload ⟦<Entity as StandsFor>⟧.parts ⟦<Entity as StandsFor>⟧.of_parts ⟦<Parts as Payload>⟧.payload };
+    ghost payload = { stood_payload ⟦<Entity as StandsFor>⟧.parts ⟦<Entity as StandsFor>⟧.of_parts
+        ⟦<Parts as Payload>⟧.payload };
 }
 
 impl LendsFields7<u32, Kind, i32, i32, u16, bool, Option<u32>> for Entity {

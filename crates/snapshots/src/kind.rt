@@ -15,7 +15,8 @@ pub enum Kind {
 }
 
 impl BareVariants<4> for Kind {
-    ghost variant = { elim [ Kind.Player ↦ 0 | Kind.Monster ↦ 1 | Kind.Arrow ↦ 2 | Kind.Chest ↦ 3 ] };
+    ghost variant = { elim
+        [ Kind.Player ↦ 0 | Kind.Monster ↦ 1 | Kind.Arrow ↦ 2 | Kind.Chest ↦ 3 ] };
 
     ghost values = { Kind.Player ∷ Kind.Monster ∷ Kind.Arrow ∷ Kind.Chest ∷ [] };
 
@@ -34,7 +35,8 @@ impl BareVariants<4> for Kind {
         }
     }
 
-    ghost one_to_one = { elim [ Kind.Player ↦ refl | Kind.Monster ↦ refl | Kind.Arrow ↦ refl | Kind.Chest ↦ refl ] };
+    ghost one_to_one = { elim
+        [ Kind.Player ↦ refl | Kind.Monster ↦ refl | Kind.Arrow ↦ refl | Kind.Chest ↦ refl ] };
 }
 
 impl HeldIn for Kind {
@@ -42,7 +44,8 @@ impl HeldIn for Kind {
 }
 
 impl Payload for Kind {
-    ghost payload = { stood_payload ⟦<Kind as StandsFor>⟧.parts ⟦<Kind as StandsFor>⟧.of_parts ⟦<Bare<4, Kind> as Payload>⟧.payload };
+    ghost payload = { stood_payload ⟦<Kind as StandsFor>⟧.parts ⟦<Kind as StandsFor>⟧.of_parts
+        ⟦<Bare<4, Kind> as Payload>⟧.payload };
 }
 
 impl HasCoders for Kind {}

@@ -1,6 +1,7 @@
 //! Snapshots of the entities as bytes.
 ghost use Rattle.std.specs.Prelude.{◌≢◌, IfOk, IfErr};
-ghost use Rattle.bitcode.specs.ByHand.{Datum, HasLongListing, HasShortLengths, IsDecodingOf, IsEncodingOf, IsWritingRefusal, SpellsDatum};
+ghost use Rattle.bitcode.specs.ByHand.{Datum, HasLongListing, HasShortLengths, IsDecodingOf, IsEncodingOf};
+ghost use Rattle.bitcode.specs.ByHand.{IsWritingRefusal, SpellsDatum};
 
 use crate::entity::Entity;
 use bitcode::laws::comes_back;

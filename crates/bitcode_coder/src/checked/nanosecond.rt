@@ -55,7 +55,8 @@ impl SameArrays for Nanosecond {
 impl Made for Nanosecond {
     ghost makes = { MakesNumber (λ t. pos t.nanos) };
 
-    ghost makeable = { nanosecond_makeable (λ t. t.nanos) (λ n h. (record { nanos = n; below_one_second = h }, refl)) };
+    ghost makeable = { nanosecond_makeable (λ t. t.nanos)
+        (λ n h. (record { nanos = n; below_one_second = h }, refl)) };
 }
 
 impl Checked<u32> for Nanosecond {

@@ -1,13 +1,15 @@
 //! The decoder of lengths.
 #![tactic(auto, unfolding(crate::specs::Length::short_left, crate::specs::Length::large_left, crate::specs::Length::lengths_left, crate::specs::Length::lengths_sum, crate::specs::Length::lengths_owned))]
 
-ghost use Rattle.std.specs.Prelude.{◌≡◌, ◌≢◌, ℕ, ◌+◌, ◌<◌, ◌≤◌, [], ◌∷◌, ◌++◌, ◌↔◌, IsTrue, Some, None, ◌^◌, pos, length, map, drop, sum, All, MatchBool, IfSome, IfOk, OnOk, IfErr, OnErr};
+ghost use Rattle.std.specs.Prelude.{◌≡◌, ◌≢◌, ℕ, ◌+◌, ◌<◌, ◌≤◌, [], ◌∷◌, ◌++◌, ◌↔◌, IsTrue, Some, None, ◌^◌, pos};
+ghost use Rattle.std.specs.Prelude.{length, map, drop, sum, All, MatchBool, IfSome, IfOk, OnOk, IfErr, OnErr};
 ghost use Rattle.bitcode_columns.specs.Fast.{cow_rest};
 ghost use Rattle.bitcode_columns.specs.IntColumn.{SpellsInts, int_text};
 ghost use Rattle.bitcode_columns.specs.LittleEndian.{little_endian};
 ghost use Rattle.bitcode_columns.specs.Reading.{Reads, IsEndOf};
 ghost use Rattle.bitcode_coder.specs.Faults.{NamesIntsFault};
-ghost use Rattle.bitcode_coder.specs.LengthColumn.{SpellsLengths, KeepsCap, length_limit, length_bytes, lengths_from, escape};
+ghost use Rattle.bitcode_coder.specs.LengthColumn.{SpellsLengths, KeepsCap, length_limit, length_bytes, lengths_from};
+ghost use Rattle.bitcode_coder.specs.LengthColumn.{escape};
 ghost use Rattle.bitcode_coder.specs.LengthParts.{escapes, ReadsParts, sum_fault, NamesLengthFault};
 
 use crate::coder::both;
@@ -52,7 +54,8 @@ fn number_of_bytes(bytes: [u8; 8]) -> u64
 
 // Whether each of the numbers is a length for which an escape is written.
 fn are_large(large: &[[u8; 8]]) -> bool
-    ensures { MatchBool result (All (λ bytes. escape ≤ little_endian bytes) large.now) (All (λ bytes. escape ≤ little_endian bytes) large.now → ⊥) }
+    ensures { MatchBool result (All (λ bytes. escape ≤ little_endian bytes) large.now)
+        (All (λ bytes. escape ≤ little_endian bytes) large.now → ⊥) }
 {
     large
         .iter()
@@ -86,9 +89,12 @@ fn read_large<'a>(
     large: &mut CowSlice<'a, [u8; 8]>,
     strict: bool,
 ) -> Result<bool, Error>
-    ensures read { OnOk result (Reads (SpellsInts 8) count input.old.now (map little_endian (cow_rest large.new)) input.new.now) }
+    ensures read { OnOk result
+        (Reads (SpellsInts 8) count input.old.now (map little_endian (cow_rest large.new))
+        input.new.now) }
     ensures judged { IsTrue strict → IfOk result (λ written. IsTrue written
-        ↔ (input.old.now ≡ int_text 8 (map pos (map little_endian (cow_rest large.new))) ++ input.new.now)) }
+        ↔ (input.old.now ≡ int_text 8 (map pos (map little_endian (cow_rest large.new)))
+        ++ input.new.now)) }
     ensures refused { IfErr result (λ e. NamesIntsFault 8 e.reason count input.old.now) }
     ensures rest { OnErr result (IsEndOf input.old.now input.new.now) }
 {
@@ -109,9 +115,13 @@ fn read_parts<'a>(
     large: &mut CowSlice<'a, [u8; 8]>,
     strict: bool,
 ) -> Result<bool, Error>
-    ensures read { OnOk result (ReadsParts k input.old.now (cow_rest small.new) (map little_endian (cow_rest large.new)) input.new.now) }
+    ensures read { OnOk result
+        (ReadsParts k input.old.now (cow_rest small.new) (map little_endian (cow_rest large.new))
+        input.new.now) }
     ensures judged { IsTrue strict → IfOk result (λ written. IsTrue written
-        ↔ (input.old.now ≡ length_bytes (lengths_from (cow_rest small.new) (map little_endian (cow_rest large.new))) ++ input.new.now)) }
+        ↔ (input.old.now ≡ length_bytes
+        (lengths_from (cow_rest small.new) (map little_endian (cow_rest large.new)))
+        ++ input.new.now)) }
     ensures refused { IfErr result (λ e. NamesLengthFault e.reason k input.old.now) }
     ensures rest { OnErr result (IsEndOf input.old.now input.new.now) }
 {
@@ -126,7 +136,8 @@ fn read_parts<'a>(
 
 // Whether a byte is over the limit.
 fn any_byte_over(bytes: &[u8], limit: usize) -> bool
-    ensures { MatchBool result (All (λ byte. byte ≤ limit) bytes.now → ⊥) (All (λ byte. byte ≤ limit) bytes.now) }
+    ensures { MatchBool result (All (λ byte. byte ≤ limit) bytes.now → ⊥)
+        (All (λ byte. byte ≤ limit) bytes.now) }
 {
     bytes.iter().any(|byte| *byte as usize > limit)
 }
@@ -156,8 +167,10 @@ impl<'a> LengthDecoder<'a> {
     ///
     /// If the input has both parts unpacked, they are borrowed from it without allocating.
     pub fn populate(&mut self, input: &mut &'a [u8], k: usize) -> Result<(), Error>
-        ensures read { OnOk result (Reads (SpellsLengths None) k input.old.now (lengths_left self.new) input.new.now) }
-        ensures parts { OnOk result (ReadsParts k input.old.now (short_left self.new) (large_left self.new) input.new.now) }
+        ensures read { OnOk result
+            (Reads (SpellsLengths None) k input.old.now (lengths_left self.new) input.new.now) }
+        ensures parts { OnOk result
+            (ReadsParts k input.old.now (short_left self.new) (large_left self.new) input.new.now) }
         ensures sum { OnOk result (lengths_sum self.new ≡ sum (lengths_left self.new)) }
         ensures refused { IfErr result (λ e. NamesLengthFault e.reason k input.old.now) }
         ensures rest { OnErr result (IsEndOf input.old.now input.new.now) }
@@ -169,10 +182,14 @@ impl<'a> LengthDecoder<'a> {
     /// Reads `k` lengths as [`LengthDecoder::populate`] does. If `strict`, it returns whether the bytes of both parts
     /// are those that would be written for the lengths. Otherwise the returned bool has no meaning.
     pub fn read(&mut self, input: &mut &'a [u8], k: usize, strict: bool) -> Result<bool, Error>
-        ensures read { OnOk result (Reads (SpellsLengths None) k input.old.now (lengths_left self.new) input.new.now) }
-        ensures parts { OnOk result (ReadsParts k input.old.now (short_left self.new) (large_left self.new) input.new.now) }
+        ensures read { OnOk result
+            (Reads (SpellsLengths None) k input.old.now (lengths_left self.new) input.new.now) }
+        ensures parts { OnOk result
+            (ReadsParts k input.old.now (short_left self.new) (large_left self.new) input.new.now) }
         ensures sum { OnOk result (lengths_sum self.new ≡ sum (lengths_left self.new)) }
-        ensures judged { IsTrue strict → IfOk result (λ written. IsTrue written ↔ (input.old.now ≡ length_bytes (lengths_left self.new) ++ input.new.now)) }
+        ensures judged { IsTrue strict → IfOk result
+            (λ written. IsTrue written
+            ↔ (input.old.now ≡ length_bytes (lengths_left self.new) ++ input.new.now)) }
         ensures refused { IfErr result (λ e. NamesLengthFault e.reason k input.old.now) }
         ensures rest { OnErr result (IsEndOf input.old.now input.new.now) }
     {
@@ -209,7 +226,9 @@ impl<'a> LengthDecoder<'a> {
     /// For `N` below 255 it compares the short bytes with `N`. So a byte 255 exceeds the limit, whatever length
     /// follows: 255, 6, 2 is the single length 2, and still exceeds 100. For a greater `N` it compares the lengths.
     pub fn any_greater_than<const N: usize>(&self) -> bool
-        ensures { MatchBool result (KeepsCap (Some N) (short_left self.now) (lengths_left self.now) → ⊥) (KeepsCap (Some N) (short_left self.now) (lengths_left self.now)) }
+        ensures { MatchBool result
+            (KeepsCap (Some N) (short_left self.now) (lengths_left self.now) → ⊥)
+            (KeepsCap (Some N) (short_left self.now) (lengths_left self.now)) }
     {
         if N < ESCAPE as usize {
             any_byte_over(self.small.as_slice(), N)
@@ -304,7 +323,8 @@ impl<'a> LengthDecoder<'a> {
     fn checked_sum(&self) -> Result<usize, Error>
         ensures sum { IfOk result (λ sum_left. sum_left ≡ sum (lengths_left self.now)) }
         ensures below { OnOk result (sum (lengths_left self.now) < length_limit) }
-        ensures refused { IfErr result (λ e. sum_fault (sum (lengths_left self.now)) ≡ Some e.reason) }
+        ensures refused { IfErr result
+            (λ e. sum_fault (sum (lengths_left self.now)) ≡ Some e.reason) }
     {
         let total = self.total();
         if total > u64::MAX as u128 {
@@ -318,7 +338,8 @@ impl<'a> LengthDecoder<'a> {
 
     // Whether a length is over the limit.
     fn any_length_over(&self, limit: usize) -> bool
-        ensures { MatchBool result (All (λ n. n ≤ limit) (lengths_left self.now) → ⊥) (All (λ n. n ≤ limit) (lengths_left self.now)) }
+        ensures { MatchBool result (All (λ n. n ≤ limit) (lengths_left self.now) → ⊥)
+            (All (λ n. n ≤ limit) (lengths_left self.now)) }
     {
         let mut lengths = self.borrowed_clone();
         for _ in 0..self.remaining() {

@@ -1,7 +1,8 @@
 //! The encoder of lengths.
 #![tactic(auto, unfolding(crate::specs::Length::written_lengths, crate::specs::Length::length_room, crate::specs::Length::length_capacity))]
 
-ghost use Rattle.std.specs.Prelude.{◌≡◌, ◌+◌, ◌<◌, ◌≤◌, ◌++◌, [], ◌∷◌, None, length, map, All, pos, IsTrue, IsFalse, IsOk, OnOk, IfErr, OnErr};
+ghost use Rattle.std.specs.Prelude.{◌≡◌, ◌+◌, ◌<◌, ◌≤◌, ◌++◌, [], ◌∷◌, None, length, map, All, pos, IsTrue, IsFalse};
+ghost use Rattle.std.specs.Prelude.{IsOk, OnOk, IfErr, OnErr};
 ghost use Rattle.bitcode_columns.specs.ByteColumn.{byte_text};
 ghost use Rattle.bitcode_columns.specs.Fast.{fast_items, fast_room};
 ghost use Rattle.bitcode_columns.specs.IntColumn.{int_text};
@@ -40,7 +41,9 @@ fn pack_parts(
     large: &mut [u64],
     out: &mut Vec<u8>,
 ) -> Result<(), Error>
-    ensures written { OnOk result (out.new.items ≡ out.old.items ++ (byte_text (map pos small.old) ++ int_text 8 (map pos large.old))) }
+    ensures written { OnOk result
+        (out.new.items ≡ out.old.items
+        ++ (byte_text (map pos small.old) ++ int_text 8 (map pos large.old))) }
     ensures begins { BeginsWith out.old.items out.new.items }
     ensures reason { IfErr result (λ e. e.reason ≡ Reason.OutOfMemory) }
 {
@@ -131,7 +134,8 @@ impl LengthEncoder {
     /// lengths.write_one(3, &mut bytes)?; // [3]
     /// ```
     pub fn write_one(&self, length: usize, out: &mut Vec<u8>) -> Result<(), Error>
-        ensures written { OnOk result (out.new.items ≡ out.old.items ++ length_bytes (length ∷ [])) }
+        ensures written { OnOk result
+            (out.new.items ≡ out.old.items ++ length_bytes (length ∷ [])) }
         ensures begins { BeginsWith out.old.items out.new.items }
         ensures refused { IfErr result (λ e. e.reason ≡ Reason.OutOfMemory) }
     {
@@ -143,7 +147,8 @@ impl LengthEncoder {
     /// A length of 255 or more may allocate. If that fails, the error is `out of memory`, and nothing is added.
     pub fn encode(&mut self, length: usize) -> Result<(), Error>
         requires { 0 < length_room self.old }
-        ensures written { OnOk result (written_lengths self.new ≡ written_lengths self.old ++ length ∷ []) }
+        ensures written { OnOk result
+            (written_lengths self.new ≡ written_lengths self.old ++ length ∷ []) }
         ensures room { OnOk result (length_room self.new + 1 ≡ length_room self.old) }
         ensures short { length < 255 → IsOk result }
         ensures refused { IfErr result (λ e. e.reason ≡ Reason.OutOfMemory) }
@@ -191,7 +196,8 @@ impl LengthEncoder {
         ensures unchanged { IsTrue result → written_lengths self.new ≡ written_lengths self.old }
         ensures room_kept { IsTrue result → length_room self.new ≡ length_room self.old }
         ensures within { IsFalse result → All (λ t. T.size t ≤ max) chunk.now }
-        ensures written { IsFalse result → written_lengths self.new ≡ written_lengths self.old ++ map T.size chunk.now }
+        ensures written { IsFalse result
+            → written_lengths self.new ≡ written_lengths self.old ++ map T.size chunk.now }
         ensures room { length_room self.old ≤ length_room self.new + length chunk.now }
     {
         let over = is_one_over(chunk, max);
@@ -206,7 +212,8 @@ impl LengthEncoder {
         requires room { length chunk.now ≤ length_room self.old }
         requires max { max ≤ 64 }
         requires within { All (λ t. T.size t ≤ max) chunk.now }
-        ensures written { written_lengths self.new ≡ written_lengths self.old ++ map T.size chunk.now }
+        ensures written { written_lengths self.new ≡ written_lengths self.old ++ map T.size
+            chunk.now }
         ensures room { length_room self.old ≡ length_room self.new + length chunk.now }
     {
         let small = replace(&mut self.small, FastVec::new(self.alloc));
@@ -219,8 +226,10 @@ impl LengthEncoder {
     /// have been added.
     pub fn encode_vectored_fallback<T: Len>(&mut self, chunk: &[T]) -> Result<(), Error>
         requires { length chunk.now ≤ length_room self.old }
-        ensures written { OnOk result (written_lengths self.new ≡ written_lengths self.old ++ map T.size chunk.now) }
-        ensures room { OnOk result (length_room self.old ≡ length_room self.new + length chunk.now) }
+        ensures written { OnOk result
+            (written_lengths self.new ≡ written_lengths self.old ++ map T.size chunk.now) }
+        ensures room { OnOk result
+            (length_room self.old ≡ length_room self.new + length chunk.now) }
         ensures refused { IfErr result (λ e. e.reason ≡ Reason.OutOfMemory) }
     {
         for t in chunk {
@@ -248,8 +257,10 @@ impl LengthEncoder {
         size: usize,
     ) -> Result<(), Error>
         requires { length chunk.now ≤ length_room self.old }
-        ensures written { OnOk result (written_lengths self.new ≡ written_lengths self.old ++ map T.size chunk.now) }
-        ensures room { OnOk result (length_room self.old ≤ length_room self.new + length chunk.now) }
+        ensures written { OnOk result
+            (written_lengths self.new ≡ written_lengths self.old ++ map T.size chunk.now) }
+        ensures room { OnOk result
+            (length_room self.old ≤ length_room self.new + length chunk.now) }
         ensures refused { IfErr result (λ e. e.reason ≡ Reason.OutOfMemory) }
     {
         while let Some(max) = width.elements() {

@@ -1,5 +1,7 @@
 //! The decoder of texts.
-ghost use Rattle.std.specs.Prelude.{◌≡◌, ◌≢◌, ℕ, ◌+◌, ◌<◌, ◌≤◌, List, [], ◌∷◌, ◌++◌, None, true, false, refl, length, drop, map, sum, vec_len, vec_capacity, All, IsUtf8, MatchBool, IsTrue, IfOk, OnOk, IfErr, OnErr};
+ghost use Rattle.std.specs.Prelude.{◌≡◌, ◌≢◌, ℕ, ◌+◌, ◌<◌, ◌≤◌, List, [], ◌∷◌, ◌++◌, None, true, false, refl, length};
+ghost use Rattle.std.specs.Prelude.{drop, map, sum, vec_len, vec_capacity, All, IsUtf8, MatchBool, IsTrue, IfOk, OnOk};
+ghost use Rattle.std.specs.Prelude.{IfErr, OnErr};
 ghost use Rattle.std.specs.Str.{IsAscii, IsCharBoundary};
 ghost use Rattle.std.proofs.Props.{props};
 ghost use Rattle.bitcode_columns.specs.Fast.{slice_rest};
@@ -43,13 +45,16 @@ pub struct StrDecoder<'a> {
     alloc: Global,
     pub(super) lengths: LengthDecoder<'a>,
     bytes: FastSlice<'a, u8>,
-    ghost utf8: { All IsUtf8 (cut (lengths_left lengths) (slice_rest bytes)) } by { Prim.hlevel props },
+    ghost utf8: { All IsUtf8 (cut (lengths_left lengths) (slice_rest bytes)) } by { Prim.hlevel
+        props },
 }
 
 // Whether each text of such lengths ends where a character of the whole text begins, or where that ends.
 fn ends_at_chars(whole: &str, lengths: &LengthDecoder<'_>) -> bool
     requires { sum (lengths_left lengths.now) ≡ length whole.now }
-    ensures { MatchBool result (All (IsCharBoundary whole.now) (ends_from 0 (lengths_left lengths.now))) (All (IsCharBoundary whole.now) (ends_from 0 (lengths_left lengths.now)) → ⊥) }
+    ensures { MatchBool result
+        (All (IsCharBoundary whole.now) (ends_from 0 (lengths_left lengths.now)))
+        (All (IsCharBoundary whole.now) (ends_from 0 (lengths_left lengths.now)) → ⊥) }
 {
     let mut rest = lengths.borrowed_clone();
     let mut place = 0;
@@ -121,7 +126,8 @@ fn push_texts<'a>(
 // Whether each text of such lengths is UTF-8: the bytes are, and they are cut at characters.
 fn are_texts(bytes: &[u8], lengths: &LengthDecoder<'_>) -> bool
     requires { sum (lengths_left lengths.now) ≡ length bytes.now }
-    ensures { MatchBool result (All IsUtf8 (cut (lengths_left lengths.now) bytes.now)) (All IsUtf8 (cut (lengths_left lengths.now) bytes.now) → ⊥) }
+    ensures { MatchBool result (All IsUtf8 (cut (lengths_left lengths.now) bytes.now))
+        (All IsUtf8 (cut (lengths_left lengths.now) bytes.now) → ⊥) }
 {
     // An ASCII text is UTF-8 wherever it is cut.
     if are_ascii(bytes) {
@@ -141,9 +147,17 @@ impl<'a> StrDecoder<'a> {
         k: usize,
         strict: bool,
     ) -> Result<bool, Error>
-        ensures read { OnOk result (Reads (Spells (text_shape None)) k input.old.now (map text (cut (lengths_left self.new.lengths) (slice_rest self.new.bytes))) input.new.now) }
-        ensures judged { IsTrue strict → IfOk result (λ written. JudgesData (text_shape None) (map text (cut (lengths_left self.new.lengths) (slice_rest self.new.bytes))) written input.old.now input.new.now) }
-        ensures parts { OnOk result ((middle : List ℕ) × ReadsParts k input.old.now (short_left self.new.lengths) (large_left self.new.lengths) middle) }
+        ensures read { OnOk result
+            (Reads (Spells (text_shape None)) k input.old.now
+            (map text (cut (lengths_left self.new.lengths) (slice_rest self.new.bytes)))
+            input.new.now) }
+        ensures judged { IsTrue strict → IfOk result
+            (λ written. JudgesData (text_shape None)
+            (map text (cut (lengths_left self.new.lengths) (slice_rest self.new.bytes))) written
+            input.old.now input.new.now) }
+        ensures parts { OnOk result
+            ((middle : List ℕ) × ReadsParts k input.old.now (short_left self.new.lengths)
+            (large_left self.new.lengths) middle) }
         ensures refused { IfErr result (λ e. NamesTextFault e.reason k input.old.now) }
         ensures rest { OnErr result (IsEndOf input.old.now input.new.now) }
     {
@@ -161,7 +175,8 @@ impl<'a> StrDecoder<'a> {
     // Takes the next text, a slice of the input.
     pub(super) fn take_text(&mut self) -> &'a str
         requires { 0 < length (cut (lengths_left self.old.lengths) (slice_rest self.old.bytes)) }
-        ensures { cut (lengths_left self.old.lengths) (slice_rest self.old.bytes) ≡ result.now ∷ cut (lengths_left self.new.lengths) (slice_rest self.new.bytes) }
+        ensures { cut (lengths_left self.old.lengths) (slice_rest self.old.bytes) ≡ result.now ∷ cut
+            (lengths_left self.new.lengths) (slice_rest self.new.bytes) }
     {
         let length = self.lengths.decode();
         let bytes = self.bytes.chunk_unchecked(length);
@@ -170,10 +185,13 @@ impl<'a> StrDecoder<'a> {
 
     // Takes the next texts one by one, and pushes them. Room for them was reserved.
     fn take_each(&mut self, mut texts: Vec<&'a str>, count: usize) -> Vec<&'a str>
-        requires left { count ≤ length (cut (lengths_left self.old.lengths) (slice_rest self.old.bytes)) }
+        requires left { count ≤ length
+            (cut (lengths_left self.old.lengths) (slice_rest self.old.bytes)) }
         requires room { vec_len texts + count ≤ vec_capacity texts }
-        ensures joined { map (λ t. t.now) result.items ++ cut (lengths_left self.new.lengths) (slice_rest self.new.bytes)
-            ≡ map (λ t. t.now) texts.entry.items ++ cut (lengths_left self.old.lengths) (slice_rest self.old.bytes) }
+        ensures joined { map (λ t. t.now) result.items ++ cut (lengths_left self.new.lengths)
+            (slice_rest self.new.bytes)
+            ≡ map (λ t. t.now) texts.entry.items ++ cut (lengths_left self.old.lengths)
+            (slice_rest self.old.bytes) }
         ensures size { vec_len result ≡ vec_len texts.entry + count }
     {
         for _taken in 0..count {

@@ -1,5 +1,6 @@
 //! The encoder of texts.
-ghost use Rattle.std.specs.Prelude.{◌≡◌, ◌+◌, ◌*◌, ◌<◌, ◌≤◌, ◌++◌, [], ◌∷◌, None, false, length, map, take, sum, IfOk, OnOk, IfErr};
+ghost use Rattle.std.specs.Prelude.{◌≡◌, ◌+◌, ◌*◌, ◌<◌, ◌≤◌, ◌++◌, [], ◌∷◌, None, false, length, map, take, sum, IfOk};
+ghost use Rattle.std.specs.Prelude.{OnOk, IfErr};
 ghost use Rattle.std.proofs.Common.{sym};
 ghost use Rattle.bitcode_columns.specs.Fast.{fast_items, fast_room, fast_capacity};
 ghost use Rattle.bitcode_shapes.specs.Datum.{text};
@@ -39,7 +40,9 @@ pub struct StrEncoder {
 
 // Writes both parts of a column. The lengths are to be cleared afterwards.
 fn pack_texts(lengths: &mut LengthEncoder, bytes: &[u8], out: &mut Vec<u8>) -> Result<(), Error>
-    ensures written { OnOk result (out.new.items ≡ out.old.items ++ (length_bytes (written_lengths lengths.old) ++ bytes.now)) }
+    ensures written { OnOk result
+        (out.new.items ≡ out.old.items
+        ++ (length_bytes (written_lengths lengths.old) ++ bytes.now)) }
     ensures begins { BeginsWith out.old.items out.new.items }
     ensures reason { IfErr result (λ e. e.reason ≡ Reason.OutOfMemory) }
 {
@@ -70,7 +73,8 @@ fn push_short<S, P: AsText, W: Part<S, P>>(
     requires lengths { length items.now ≤ length_room lengths }
     requires bytes { 15 * length items.now ≤ fast_room bytes }
     ensures count { result.count ≤ length items.now }
-    ensures written { PushesTexts P.lists (map (W.of which.now) (take result.count items.now)) (texts_in lengths bytes) (texts_in result.lengths result.bytes) }
+    ensures written { PushesTexts P.lists (map (W.of which.now) (take result.count items.now))
+        (texts_in lengths bytes) (texts_in result.lengths result.bytes) }
     ensures whole { sum (written_lengths result.lengths) ≡ length (fast_items result.bytes) }
     ensures room { length_room lengths ≡ length_room result.lengths + result.count }
 {
@@ -102,8 +106,11 @@ impl StrEncoder {
     ) -> Result<(), Error>
         requires chunk { length items.now ≤ MAX_VECTORED_CHUNK }
         requires room { length items.now ≤ length_room self.old.lengths }
-        ensures written { OnOk result (PushesTexts P.lists (map (W.of which.now) items.now) (written_texts self.old) (written_texts self.new)) }
-        ensures room { OnOk result (length_room self.old.lengths ≤ length_room self.new.lengths + length items.now) }
+        ensures written { OnOk result
+            (PushesTexts P.lists (map (W.of which.now) items.now) (written_texts self.old)
+            (written_texts self.new)) }
+        ensures room { OnOk result
+            (length_room self.old.lengths ≤ length_room self.new.lengths + length items.now) }
         ensures refused { IfErr result (λ e. e.reason ≡ Reason.OutOfMemory) }
     {
         let mut done = 0usize;
@@ -123,8 +130,11 @@ impl StrEncoder {
         requires chunk { length items.now ≤ MAX_VECTORED_CHUNK }
         requires room { length items.now ≤ length_room self.old.lengths }
         ensures count { IfOk result (λ n. n ≤ length items.now) }
-        ensures written { IfOk result (λ n. PushesTexts P.lists (map (W.of which.now) (take n items.now)) (written_texts self.old) (written_texts self.new)) }
-        ensures room { IfOk result (λ n. length_room self.old.lengths ≤ length_room self.new.lengths + n) }
+        ensures written { IfOk result
+            (λ n. PushesTexts P.lists (map (W.of which.now) (take n items.now))
+            (written_texts self.old) (written_texts self.new)) }
+        ensures room { IfOk result
+            (λ n. length_room self.old.lengths ≤ length_room self.new.lengths + n) }
         ensures refused { IfErr result (λ e. e.reason ≡ Reason.OutOfMemory) }
     {
         self.bytes.reserve(15 * items.len())?;
@@ -150,8 +160,11 @@ impl StrEncoder {
         requires { length items.now ≤ length_room self.old.lengths }
         ensures count { IfOk result (λ n. n ≤ length items.now) }
         ensures some { IfOk result (λ n. 0 < length items.now → 0 < n) }
-        ensures written { IfOk result (λ n. PushesTexts P.lists (map (W.of which.now) (take n items.now)) (written_texts self.old) (written_texts self.new)) }
-        ensures room { IfOk result (λ n. length_room self.old.lengths ≤ length_room self.new.lengths + n) }
+        ensures written { IfOk result
+            (λ n. PushesTexts P.lists (map (W.of which.now) (take n items.now))
+            (written_texts self.old) (written_texts self.new)) }
+        ensures room { IfOk result
+            (λ n. length_room self.old.lengths ≤ length_room self.new.lengths + n) }
         ensures refused { IfErr result (λ e. e.reason ≡ Reason.OutOfMemory) }
     {
         let mut count = 0usize;
@@ -169,8 +182,10 @@ impl StrEncoder {
     // Writes a text, of which the bytes are given. Room for it was reserved.
     fn encode_text(&mut self, bytes: &[u8]) -> Result<(), Error>
         requires { 0 < length_room self.old.lengths }
-        ensures written { OnOk result (written_texts self.new ≡ written_texts self.old ++ bytes.now ∷ []) }
-        ensures room { OnOk result (length_room self.old.lengths ≤ length_room self.new.lengths + 1) }
+        ensures written { OnOk result
+            (written_texts self.new ≡ written_texts self.old ++ bytes.now ∷ []) }
+        ensures room { OnOk result
+            (length_room self.old.lengths ≤ length_room self.new.lengths + 1) }
         ensures refused { IfErr result (λ e. e.reason ≡ Reason.OutOfMemory) }
     {
         if bytes.len() < 16 {

@@ -31,13 +31,15 @@ use std::alloc::Global;
 pub struct ArrayStringDecoder<'a, const N: usize> {
     alloc: Global,
     column: StrDecoder<'a>,
-    ghost within: { All (λ t. length t ≤ N) (cut (lengths_left column.lengths) (slice_rest column.bytes)) } by { Prim.hlevel props },
+    ghost within: { All (λ t. length t ≤ N)
+        (cut (lengths_left column.lengths) (slice_rest column.bytes)) } by { Prim.hlevel props },
 }
 
 impl<'a, const N: usize> HoldsData for ArrayStringDecoder<'a, N> {
     ghost shape = { text_shape (Some N) };
 
-    ghost held = { λ d. map text (cut (lengths_left d.column.lengths) (slice_rest d.column.bytes)) };
+    ghost held = { λ d. map text
+        (cut (lengths_left d.column.lengths) (slice_rest d.column.bytes)) };
 
     ghost owned = { λ d. lengths_owned d.column.lengths };
 }

@@ -74,7 +74,8 @@ unsafe impl<T, A: Allocator> Sync for Lease<T, A> {}
 
 /// No places and no block.
 pub(crate) fn nowhere<T, A: Allocator>(alloc: &A) -> (Start<T>, Places<T>, Lease<T, A>)
-    ensures { (result.1.at ≡ result.0.ptr) × (result.1.capacity ≡ 0) × (result.1.items ≡ []) × (result.2.at ≡ result.0.ptr) × (result.2.capacity ≡ 0) × (result.2.alloc ≡ alloc.now) }
+    ensures { (result.1.at ≡ result.0.ptr) × (result.1.capacity ≡ 0) × (result.1.items ≡ [])
+        × (result.2.at ≡ result.0.ptr) × (result.2.capacity ≡ 0) × (result.2.alloc ≡ alloc.now) }
 {
     let none: [T; 0] = [];
     let start = Start {
@@ -93,7 +94,9 @@ pub(crate) fn take_block<T, A: Allocator>(
     capacity: usize,
 ) -> Result<(Start<T>, Places<T>, Lease<T, A>), AllocError>
     requires { FitsInBlock T.row capacity × (0 < capacity) }
-    ensures { IfOk result (λ r. (r.1.at ≡ r.0.ptr) × (r.1.capacity ≡ capacity) × (r.1.items ≡ []) × (r.2.at ≡ r.0.ptr) × (r.2.capacity ≡ capacity) × (r.2.alloc ≡ alloc.now)) }
+    ensures { IfOk result
+        (λ r. (r.1.at ≡ r.0.ptr) × (r.1.capacity ≡ capacity) × (r.1.items ≡ []) × (r.2.at ≡ r.0.ptr)
+        × (r.2.capacity ≡ capacity) × (r.2.alloc ≡ alloc.now)) }
 {
     match alloc.allocate(capacity * size_of::<T>(), align_of::<T>()) {
         Ok(block) => {
@@ -118,7 +121,9 @@ pub(crate) fn give_back<T, A: Allocator>(
     places: Places<T>,
     lease: Lease<T, A>,
 )
-    requires { (places.at ≡ start.ptr) × (places.capacity ≡ capacity) × (length places.items ≤ capacity) × (lease.at ≡ start.ptr) × (lease.capacity ≡ capacity) × (lease.alloc ≡ alloc.now) }
+    requires { (places.at ≡ start.ptr) × (places.capacity ≡ capacity)
+        × (length places.items ≤ capacity) × (lease.at ≡ start.ptr) × (lease.capacity ≡ capacity)
+        × (lease.alloc ≡ alloc.now) }
 {
     let Places { mark: _ } = places;
     let Lease { mark: _ } = lease;
@@ -149,8 +154,10 @@ impl<T> Places<T> {
 
     /// Writes an item after the first `index` ones. Any later items are forgotten.
     pub(crate) fn write(&mut self, start: Start<T>, index: usize, item: T)
-        requires { (start.ptr ≡ self.old.at) × (index ≤ length self.old.items) × (length self.old.items ≤ self.old.capacity) × (index < self.old.capacity) }
-        ensures { (self.new.at ≡ self.old.at) × (self.new.capacity ≡ self.old.capacity) × (self.new.items ≡ take index self.old.items ++ item ∷ []) }
+        requires { (start.ptr ≡ self.old.at) × (index ≤ length self.old.items)
+            × (length self.old.items ≤ self.old.capacity) × (index < self.old.capacity) }
+        ensures { (self.new.at ≡ self.old.at) × (self.new.capacity ≡ self.old.capacity)
+            × (self.new.items ≡ take index self.old.items ++ item ∷ []) }
     {
         unsafe { start.ptr.add(index).write(item) }
     }
@@ -163,11 +170,15 @@ impl<T> Places<T> {
     pub(crate) fn write_all(&mut self, start: Start<T>, index: usize, src: &[T])
     where
         T: Copy,
-        requires places { (start.ptr ≡ self.old.at) × (index ≤ length self.old.items) × (length self.old.items ≤ self.old.capacity) }
-        requires room { (index + length src.now ≤ self.old.capacity) × (self.old.capacity < 2 ^ 63) }
+        requires places { (start.ptr ≡ self.old.at) × (index ≤ length self.old.items)
+            × (length self.old.items ≤ self.old.capacity) }
+        requires room { (index + length src.now ≤ self.old.capacity)
+            × (self.old.capacity < 2 ^ 63) }
         ensures places { (self.new.at ≡ self.old.at) × (self.new.capacity ≡ self.old.capacity) }
-        ensures counts { (index + length src.now ≤ length self.new.items) × (length self.new.items ≤ self.new.capacity) }
-        ensures items { take (index + length src.now) self.new.items ≡ take index self.old.items ++ src.now }
+        ensures counts { (index + length src.now ≤ length self.new.items)
+            × (length self.new.items ≤ self.new.capacity) }
+        ensures items { take (index + length src.now) self.new.items ≡ take index self.old.items
+            ++ src.now }
     {
         match src.len() {
             0..4 => self.write_each(start, index, src),
@@ -189,11 +200,14 @@ impl<T> Places<T> {
     where
         T: Copy,
         requires size { length src.now < 16 }
-        requires places { (start.ptr ≡ self.old.at) × (8 ≤ index) × (index ≤ length self.old.items) × (length self.old.items ≤ self.old.capacity) }
+        requires places { (start.ptr ≡ self.old.at) × (8 ≤ index) × (index ≤ length self.old.items)
+            × (length self.old.items ≤ self.old.capacity) }
         requires room { (index + 15 ≤ self.old.capacity) × (self.old.capacity < 2 ^ 63) }
         ensures places { (self.new.at ≡ self.old.at) × (self.new.capacity ≡ self.old.capacity) }
-        ensures counts { (index + length src.now ≤ length self.new.items) × (length self.new.items ≤ self.new.capacity) }
-        ensures items { take (index + length src.now) self.new.items ≡ take index self.old.items ++ src.now }
+        ensures counts { (index + length src.now ≤ length self.new.items)
+            × (length self.new.items ≤ self.new.capacity) }
+        ensures items { take (index + length src.now) self.new.items ≡ take index self.old.items
+            ++ src.now }
     {
         let eight = self.write_part::<8>(start, index, src);
         let (_, rest) = src.split_at(eight);
@@ -211,12 +225,15 @@ impl<T> Places<T> {
     where
         T: Copy,
         requires size { length src.now < N + N }
-        requires places { (start.ptr ≡ self.old.at) × (N ≤ index) × (index ≤ length self.old.items) × (length self.old.items ≤ self.old.capacity) }
+        requires places { (start.ptr ≡ self.old.at) × (N ≤ index) × (index ≤ length self.old.items)
+            × (length self.old.items ≤ self.old.capacity) }
         requires room { (index + N ≤ self.old.capacity) × (self.old.capacity < 2 ^ 63) }
         ensures places { (self.new.at ≡ self.old.at) × (self.new.capacity ≡ self.old.capacity) }
-        ensures counts { (index + result ≤ length self.new.items) × (length self.new.items ≤ self.new.capacity) }
+        ensures counts { (index + result ≤ length self.new.items)
+            × (length self.new.items ≤ self.new.capacity) }
         ensures left { (result ≤ N) × (result ≤ length src.now) × (length src.now < result + N) }
-        ensures items { take (index + result) self.new.items ≡ take index self.old.items ++ take result src.now }
+        ensures items { take (index + result) self.new.items ≡ take index self.old.items ++ take
+            result src.now }
     {
         let block = *first_of(src, self.slice(start, N).first_chunk::<N>().unwrap());
         self.write_each(start, index, &block);
@@ -233,11 +250,14 @@ impl<T> Places<T> {
     where
         T: Copy,
         requires size { length src.now < 16 }
-        requires places { (start.ptr ≡ self.old.at) × (index ≤ length self.old.items) × (length self.old.items ≤ self.old.capacity) }
+        requires places { (start.ptr ≡ self.old.at) × (index ≤ length self.old.items)
+            × (length self.old.items ≤ self.old.capacity) }
         requires room { (index + 15 ≤ self.old.capacity) × (self.old.capacity < 2 ^ 63) }
         ensures places { (self.new.at ≡ self.old.at) × (self.new.capacity ≡ self.old.capacity) }
-        ensures counts { (index + length src.now ≤ length self.new.items) × (length self.new.items ≤ self.new.capacity) }
-        ensures items { take (index + length src.now) self.new.items ≡ take index self.old.items ++ src.now }
+        ensures counts { (index + length src.now ≤ length self.new.items)
+            × (length self.new.items ≤ self.new.capacity) }
+        ensures items { take (index + length src.now) self.new.items ≡ take index self.old.items
+            ++ src.now }
     {
         let (one, rest) = src.split_at(src.len() % 2);
         self.write_or::<1>(start, index, one, others);
@@ -263,11 +283,14 @@ impl<T> Places<T> {
         T: Copy,
         requires number { N ≤ 8 }
         requires size { (length src.now ≡ N) ⊎ (length src.now ≡ 0) }
-        requires places { (start.ptr ≡ self.old.at) × (index ≤ length self.old.items) × (length self.old.items ≤ self.old.capacity) }
+        requires places { (start.ptr ≡ self.old.at) × (index ≤ length self.old.items)
+            × (length self.old.items ≤ self.old.capacity) }
         requires room { (index + N ≤ self.old.capacity) × (self.old.capacity < 2 ^ 63) }
         ensures places { (self.new.at ≡ self.old.at) × (self.new.capacity ≡ self.old.capacity) }
-        ensures counts { (index + length src.now ≤ length self.new.items) × (length self.new.items ≤ self.new.capacity) }
-        ensures items { take (index + length src.now) self.new.items ≡ take index self.old.items ++ src.now }
+        ensures counts { (index + length src.now ≤ length self.new.items)
+            × (length self.new.items ≤ self.new.capacity) }
+        ensures items { take (index + length src.now) self.new.items ≡ take index self.old.items
+            ++ src.now }
     {
         let block = *first_of(src, others.first_chunk::<N>().unwrap());
         self.write_each(start, index, &block);
@@ -278,11 +301,15 @@ impl<T> Places<T> {
     where
         T: Copy,
         requires size { 32 ≤ length src.now }
-        requires places { (start.ptr ≡ self.old.at) × (index ≤ length self.old.items) × (length self.old.items ≤ self.old.capacity) }
-        requires room { (index + length src.now ≤ self.old.capacity) × (self.old.capacity < 2 ^ 63) }
+        requires places { (start.ptr ≡ self.old.at) × (index ≤ length self.old.items)
+            × (length self.old.items ≤ self.old.capacity) }
+        requires room { (index + length src.now ≤ self.old.capacity)
+            × (self.old.capacity < 2 ^ 63) }
         ensures places { (self.new.at ≡ self.old.at) × (self.new.capacity ≡ self.old.capacity) }
-        ensures counts { (index + length src.now ≤ length self.new.items) × (length self.new.items ≤ self.new.capacity) }
-        ensures items { take (index + length src.now) self.new.items ≡ take index self.old.items ++ src.now }
+        ensures counts { (index + length src.now ≤ length self.new.items)
+            × (length self.new.items ≤ self.new.capacity) }
+        ensures items { take (index + length src.now) self.new.items ≡ take index self.old.items
+            ++ src.now }
     {
         let (front, _) = src.split_at(src.len() / LONG * LONG);
         let back = *src.last_chunk::<LONG>().unwrap();
@@ -296,11 +323,15 @@ impl<T> Places<T> {
     where
         T: Copy,
         requires size { (N ≤ length src.now) × (length src.now ≤ N + N) }
-        requires places { (start.ptr ≡ self.old.at) × (index ≤ length self.old.items) × (length self.old.items ≤ self.old.capacity) }
-        requires room { (index + length src.now ≤ self.old.capacity) × (self.old.capacity < 2 ^ 63) }
+        requires places { (start.ptr ≡ self.old.at) × (index ≤ length self.old.items)
+            × (length self.old.items ≤ self.old.capacity) }
+        requires room { (index + length src.now ≤ self.old.capacity)
+            × (self.old.capacity < 2 ^ 63) }
         ensures places { (self.new.at ≡ self.old.at) × (self.new.capacity ≡ self.old.capacity) }
-        ensures counts { (index + length src.now ≤ length self.new.items) × (length self.new.items ≤ self.new.capacity) }
-        ensures items { take (index + length src.now) self.new.items ≡ take index self.old.items ++ src.now }
+        ensures counts { (index + length src.now ≤ length self.new.items)
+            × (length self.new.items ≤ self.new.capacity) }
+        ensures items { take (index + length src.now) self.new.items ≡ take index self.old.items
+            ++ src.now }
     {
         let front = *src.first_chunk::<N>().unwrap();
         let back = *src.last_chunk::<N>().unwrap();
@@ -313,11 +344,15 @@ impl<T> Places<T> {
     fn write_each(&mut self, start: Start<T>, index: usize, src: &[T])
     where
         T: Copy,
-        requires places { (start.ptr ≡ self.old.at) × (index ≤ length self.old.items) × (length self.old.items ≤ self.old.capacity) }
-        requires room { (index + length src.now ≤ self.old.capacity) × (self.old.capacity < 2 ^ 63) }
+        requires places { (start.ptr ≡ self.old.at) × (index ≤ length self.old.items)
+            × (length self.old.items ≤ self.old.capacity) }
+        requires room { (index + length src.now ≤ self.old.capacity)
+            × (self.old.capacity < 2 ^ 63) }
         ensures places { (self.new.at ≡ self.old.at) × (self.new.capacity ≡ self.old.capacity) }
-        ensures counts { (index + length src.now ≤ length self.new.items) × (length self.new.items ≤ self.new.capacity) }
-        ensures items { take (index + length src.now) self.new.items ≡ take index self.old.items ++ src.now }
+        ensures counts { (index + length src.now ≤ length self.new.items)
+            × (length self.new.items ≤ self.new.capacity) }
+        ensures items { take (index + length src.now) self.new.items ≡ take index self.old.items
+            ++ src.now }
     {
         for i in 0..src.len() {
             self.write(start, index + i, src[i]);
@@ -326,7 +361,8 @@ impl<T> Places<T> {
 
     /// The first `len` items.
     pub(crate) fn slice(&self, start: Start<T>, len: usize) -> &[T]
-        requires { (start.ptr ≡ self.now.at) × (len ≤ length self.now.items) × (length self.now.items ≤ self.now.capacity) }
+        requires { (start.ptr ≡ self.now.at) × (len ≤ length self.now.items)
+            × (length self.now.items ≤ self.now.capacity) }
         ensures { result.now ≡ take len self.now.items }
     {
         unsafe { slice::from_raw_parts(start.ptr, len) }
@@ -334,7 +370,8 @@ impl<T> Places<T> {
 
     /// The first `len` items, mutably. Any later items are forgotten.
     pub(crate) fn slice_mut(&mut self, start: Start<T>, len: usize) -> &mut [T]
-        requires { (start.ptr ≡ self.old.at) × (len ≤ length self.old.items) × (length self.old.items ≤ self.old.capacity) }
+        requires { (start.ptr ≡ self.old.at) × (len ≤ length self.old.items)
+            × (length self.old.items ≤ self.old.capacity) }
         ensures* writes_back { sem 𝓛 (lends_front T.row self.entry len result) }
         ensures value { result.now ≡ take len self.old.items }
     {

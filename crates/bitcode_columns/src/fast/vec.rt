@@ -22,7 +22,8 @@ pub struct FastVec<T: Copy> {
     alloc: Global,
     ghost block: { (places.at ≡ start.ptr) × (places.capacity ≡ capacity) },
     ghost leased: { (lease.at ≡ start.ptr) × (lease.capacity ≡ capacity) × (lease.alloc ≡ alloc) },
-    ghost counts: { (len ≤ length places.items) × (length places.items ≤ capacity) × (capacity < 2 ^ 63) },
+    ghost counts: { (len ≤ length places.items) × (length places.items ≤ capacity)
+        × (capacity < 2 ^ 63) },
 }
 
 impl<T: Copy> FastVec<T> {

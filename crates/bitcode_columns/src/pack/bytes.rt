@@ -1,5 +1,7 @@
 //! Byte columns.
-ghost use Rattle.std.specs.Prelude.{◌≡◌, ◌≢◌, ℕ, ◌+◌, ◌%◌, ◌/◌, ◌<◌, ◌≤◌, ◌++◌, ◌-ℤ◌, ◌≤ℤ◌, pos, int_lt, unsigned_abs, vec_len, vec_capacity, if◌then◌else◌, List, Option, Some, All, length, map, IsTrue, OnOk, IfOk, IfErr, OnErr};
+ghost use Rattle.std.specs.Prelude.{◌≡◌, ◌≢◌, ℕ, ◌+◌, ◌%◌, ◌/◌, ◌<◌, ◌≤◌, ◌++◌, ◌-ℤ◌, ◌≤ℤ◌, pos, int_lt, unsigned_abs};
+ghost use Rattle.std.specs.Prelude.{vec_len, vec_capacity, if◌then◌else◌, List, Option, Some, All, length, map, IsTrue};
+ghost use Rattle.std.specs.Prelude.{OnOk, IfOk, IfErr, OnErr};
 ghost use Rattle.bitcode_columns.specs.declared.error.Reason.{Reason};
 ghost use Rattle.bitcode_columns.specs.ByteColumn.{SpellsBytes, byte_text, highest_byte_tag};
 ghost use Rattle.bitcode_columns.specs.ByteForm.{TellsForm};
@@ -35,8 +37,11 @@ struct Form {
 
 /// Reads the tag of a column, and its least entry if the tag announces one.
 fn read_form(input: &mut &[u8]) -> Result<Form, Error>
-    ensures read { IfOk result (λ form. TellsForm input.old.now form.base form.least input.new.now) }
-    ensures refused { IfErr result (λ e. (narrow : ℕ → List ℕ → Option Reason) → tagged_fault 1 highest_byte_tag narrow input.old.now ≡ Some e.reason) }
+    ensures read { IfOk result
+        (λ form. TellsForm input.old.now form.base form.least input.new.now) }
+    ensures refused { IfErr result
+        (λ e. (narrow : ℕ → List ℕ → Option Reason)
+        → tagged_fault 1 highest_byte_tag narrow input.old.now ≡ Some e.reason) }
     ensures memory { IfErr result (λ e. e.reason ≢ Reason.OutOfMemory) }
     ensures rest { OnErr result (IsEndOf input.old.now input.new.now) }
 {
@@ -95,10 +100,12 @@ pub fn unpack_bytes<'a>(
     count: usize,
     out: &mut CowSlice<'a, u8>,
 ) -> Result<(), Error>
-    ensures read { OnOk result (Reads SpellsBytes count input.old.now (cow_rest out.new) input.new.now) }
+    ensures read { OnOk result
+        (Reads SpellsBytes count input.old.now (cow_rest out.new) input.new.now) }
     ensures refused { IfErr result (λ e. Names e.reason (bytes_fault count input.old.now)) }
     ensures rest { OnErr result (IsEndOf input.old.now input.new.now) }
-    ensures raw { IsTrue (bytes_stand_raw count input.old.now) → IfErr result (λ e. e.reason ≢ Reason.OutOfMemory) }
+    ensures raw { IsTrue (bytes_stand_raw count input.old.now)
+        → IfErr result (λ e. e.reason ≢ Reason.OutOfMemory) }
 {
     if count <= MOST_WITHOUT_TAG {
         borrow_bytes(consume_bytes(input, count)?, out);
@@ -118,7 +125,8 @@ pub fn unpack_bytes<'a>(
 /// Subtracts the least number from each, so that the difference can be a digit.
 fn subtract_from_each<T: Byte>(bytes: &mut [T], least: T)
     requires { All (λ entry. T.number least ≤ℤ T.number entry) bytes.old }
-    ensures { map (λ entry. residue 1 (T.number entry)) bytes.new ≡ map (λ entry. unsigned_abs (T.number entry -ℤ T.number least)) bytes.old }
+    ensures { map (λ entry. residue 1 (T.number entry)) bytes.new ≡ map
+        (λ entry. unsigned_abs (T.number entry -ℤ T.number least)) bytes.old }
 {
     let low = least.to_byte();
     for byte in bytes.iter_mut() {
@@ -129,7 +137,9 @@ fn subtract_from_each<T: Byte>(bytes: &mut [T], least: T)
 /// The base for unshifted entries: negative ones need whole bytes.
 pub(crate) fn plain_base<T: Byte>(least: T, greatest: T) -> Base
     requires { T.number least ≤ℤ T.number greatest }
-    ensures { result ≡ (if int_lt (T.number least) (pos 0) then Base.Whole else base_for (unsigned_abs (T.number greatest))) }
+    ensures { result
+        ≡ (if int_lt (T.number least) (pos 0) then Base.Whole
+        else base_for (unsigned_abs (T.number greatest))) }
 {
     if least.is_less(T::from_byte(0)) {
         Base::Whole
@@ -148,7 +158,8 @@ pub(crate) fn shifted_base<T: Byte>(least: T, greatest: T) -> Base
 
 /// Appends bytes one by one, without a tag: the column is too short to have one.
 fn pack_untagged<T: Byte>(bytes: &[T], out: &mut Vec<u8>) -> Result<(), Error>
-    ensures written { OnOk result (out.new.items ≡ out.old.items ++ map (λ byte. residue 1 (T.number byte)) bytes.now) }
+    ensures written { OnOk result
+        (out.new.items ≡ out.old.items ++ map (λ byte. residue 1 (T.number byte)) bytes.now) }
     ensures reason { IfErr result (λ e. e.reason ≡ Reason.OutOfMemory) }
     ensures unchanged { OnErr result (out.new.items ≡ out.old.items) }
     ensures full { OnErr result (vec_capacity out.old < vec_len out.old + length bytes.now) }
@@ -171,10 +182,12 @@ fn pack_untagged<T: Byte>(bytes: &[T], out: &mut Vec<u8>) -> Result<(), Error>
 /// assert_eq!(rt; out.as_slice(), [1, 201, 16, 50, 84, 6].as_slice());
 /// ```
 pub fn pack_bytes<T: Byte>(bytes: &mut [T], out: &mut Vec<u8>) -> Result<(), Error>
-    ensures written { OnOk result (out.new.items ≡ out.old.items ++ byte_text (map T.number bytes.old)) }
+    ensures written { OnOk result
+        (out.new.items ≡ out.old.items ++ byte_text (map T.number bytes.old)) }
     ensures reason { IfErr result (λ e. e.reason ≡ Reason.OutOfMemory) }
     ensures unchanged { OnErr result (out.new.items ≡ out.old.items) }
-    ensures full { OnErr result (vec_capacity out.old < vec_len out.old + length (byte_text (map T.number bytes.old))) }
+    ensures full { OnErr result
+        (vec_capacity out.old < vec_len out.old + length (byte_text (map T.number bytes.old))) }
 {
     if bytes.len() <= MOST_WITHOUT_TAG {
         return pack_untagged(bytes, out);

@@ -1,10 +1,12 @@
 //! Variant columns.
-ghost use Rattle.std.specs.Prelude.{◌≡◌, ◌≢◌, ℕ, ◌+◌, ◌-◌, ◌<◌, ◌≤◌, ◌⊎◌, ◌++◌, length, sum, nat_lt, All, IsTrue, IfOk, OnOk, IfErr, OnErr, vec_len, vec_capacity};
+ghost use Rattle.std.specs.Prelude.{◌≡◌, ◌≢◌, ℕ, ◌+◌, ◌-◌, ◌<◌, ◌≤◌, ◌⊎◌, ◌++◌, length, sum, nat_lt, All, IsTrue, IfOk};
+ghost use Rattle.std.specs.Prelude.{OnOk, IfErr, OnErr, vec_len, vec_capacity};
 ghost use Rattle.std.specs.List.{list_all};
 ghost use Rattle.bitcode_columns.specs.Histogram.{AreCounts};
 ghost use Rattle.bitcode_columns.specs.Digits.{SpellsDigits, base_for, radix};
 ghost use Rattle.bitcode_columns.specs.Fast.{cow_rest};
-ghost use Rattle.bitcode_columns.specs.Reading.{Reads, IsEndOf, Names, NamesVariantFault, digits_fault, variants_stand_raw};
+ghost use Rattle.bitcode_columns.specs.Reading.{Reads, IsEndOf, Names, NamesVariantFault, digits_fault};
+ghost use Rattle.bitcode_columns.specs.Reading.{variants_stand_raw};
 ghost use Rattle.bitcode_columns.specs.VariantColumn.{SpellsVariants, variant_text};
 
 use crate::consume::consume_bytes;
@@ -44,7 +46,8 @@ pub fn pack_bytes_less_than<const N: usize>(bytes: &[u8], out: &mut Vec<u8>) -> 
     ensures written { OnOk result (out.new.items ≡ out.old.items ++ variant_text N bytes.now) }
     ensures reason { IfErr result (λ e. e.reason ≡ Reason.OutOfMemory) }
     ensures unchanged { OnErr result (out.new.items ≡ out.old.items) }
-    ensures full { OnErr result (vec_capacity out.old < vec_len out.old + length (variant_text N bytes.now)) }
+    ensures full { OnErr result
+        (vec_capacity out.old < vec_len out.old + length (variant_text N bytes.now)) }
 {
     pack_digits(&[], base_of_variants::<N>(), bytes, out)
 }
@@ -57,10 +60,14 @@ fn read_digits<'a, const N: usize>(
     count: usize,
     out: &mut CowSlice<'a, u8>,
 ) -> Result<(), Error>
-    ensures read { OnOk result (Reads (SpellsDigits (base_for (N - 1))) count input.old.now (cow_rest out.new) input.new.now) }
-    ensures refused { IfErr result (λ e. Names e.reason (digits_fault (base_for (N - 1)) count input.old.now)) }
+    ensures read { OnOk result
+        (Reads (SpellsDigits (base_for (N - 1))) count input.old.now (cow_rest out.new)
+        input.new.now) }
+    ensures refused { IfErr result
+        (λ e. Names e.reason (digits_fault (base_for (N - 1)) count input.old.now)) }
     ensures rest { OnErr result (IsEndOf input.old.now input.new.now) }
-    ensures raw { IsTrue (variants_stand_raw N count) → IfErr result (λ e. e.reason ≢ Reason.OutOfMemory) }
+    ensures raw { IsTrue (variants_stand_raw N count)
+        → IfErr result (λ e. e.reason ≢ Reason.OutOfMemory) }
 {
     let base = base_of_variants::<N>();
     if base == Base::Whole {
@@ -104,12 +111,14 @@ pub fn unpack_bytes_less_than<'a, const N: usize, const H: usize>(
     out: &mut CowSlice<'a, u8>,
 ) -> Result<[usize; H], Error>
     requires { (H ≡ N) ⊎ (H ≡ 0) }
-    ensures read { OnOk result (Reads (SpellsVariants N) count input.old.now (cow_rest out.new) input.new.now) }
+    ensures read { OnOk result
+        (Reads (SpellsVariants N) count input.old.now (cow_rest out.new) input.new.now) }
     ensures counts { IfOk result (λ counts. AreCounts H (cow_rest out.new) counts) }
     ensures total { IfOk result (λ counts. H ≡ N → sum counts ≡ count) }
     ensures refused { IfErr result (λ e. NamesVariantFault e.reason N count input.old.now) }
     ensures rest { OnErr result (IsEndOf input.old.now input.new.now) }
-    ensures raw { IsTrue (variants_stand_raw N count) → IfErr result (λ e. e.reason ≢ Reason.OutOfMemory) }
+    ensures raw { IsTrue (variants_stand_raw N count)
+        → IfErr result (λ e. e.reason ≢ Reason.OutOfMemory) }
 {
     let before = *input;
     read_digits::<N>(alloc, input, count, out)?;

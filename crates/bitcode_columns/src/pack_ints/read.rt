@@ -1,15 +1,19 @@
 //! Reading the numbers of a column.
-ghost use Rattle.std.specs.Prelude.{◌≡◌, ◌≢◌, ℕ, Option, Some, ◌+◌, ◌*◌, ◌%◌, ◌^◌, ◌<◌, ◌≤◌, List, ◌++◌, length, take, map, All, IsTrue, IsErr, IfOk, OnOk, IfErr, OnErr, ◌↔◌};
+ghost use Rattle.std.specs.Prelude.{◌≡◌, ◌≢◌, ℕ, Option, Some, ◌+◌, ◌*◌, ◌%◌, ◌^◌, ◌<◌, ◌≤◌, List, ◌++◌, length, take};
+ghost use Rattle.std.specs.Prelude.{map, All, IsTrue, IsErr, IfOk, OnOk, IfErr, OnErr, ◌↔◌};
 ghost use Rattle.std.specs.Simd.{first_chunks};
 ghost use Rattle.bitcode_columns.specs.declared.error.Reason.{Reason};
 ghost use Rattle.bitcode_columns.specs.Fast.{cow_rest};
 ghost use Rattle.bitcode_columns.specs.ByteColumn.{SpellsBytes};
 ghost use Rattle.bitcode_columns.specs.IntWidths.{IsWidth};
-ghost use Rattle.bitcode_columns.specs.IntColumn.{SpellsInts, SpellsNarrow, SpellsAtIntLevel, tagged_form, halvings, highest_int_tag, width_at_level};
+ghost use Rattle.bitcode_columns.specs.IntColumn.{SpellsInts, SpellsNarrow, SpellsAtIntLevel, tagged_form, halvings};
+ghost use Rattle.bitcode_columns.specs.IntColumn.{highest_int_tag, width_at_level};
 ghost use Rattle.bitcode_columns.specs.IntHeader.{TellsLevel, ReadsWidened};
 ghost use Rattle.bitcode_columns.specs.LittleEndian.{SpellsRaw, little_endian};
 ghost use Rattle.bitcode_columns.specs.Tagged.{SpellsTagged};
-ghost use Rattle.bitcode_columns.specs.Reading.{Reads, IsEndOf, Names, missing, tagged_fault, bytes_fault, narrow_fault, ints_fault_as, ints_fault, has_raw_tag, bytes_stand_raw, ints_stand_raw};
+ghost use Rattle.bitcode_columns.specs.Reading.{Reads, IsEndOf, Names, missing, tagged_fault, bytes_fault};
+ghost use Rattle.bitcode_columns.specs.Reading.{narrow_fault, ints_fault_as, ints_fault, has_raw_tag, bytes_stand_raw};
+ghost use Rattle.bitcode_columns.specs.Reading.{ints_stand_raw};
 
 use crate::consume::{consume_byte, consume_bytes};
 use crate::error::{Error, Reason};
@@ -22,7 +26,8 @@ use std::alloc::Global;
 
 // The bytes of a narrow number and the least entry together.
 fn widened<T: Int>(narrow: u128, least: T::Unsigned) -> T::Une
-    ensures { little_endian (T.une_bytes result) ≡ (narrow + T.Unsigned.value least) % 256 ^ T.width }
+    ensures { little_endian (T.une_bytes result) ≡ (narrow + T.Unsigned.value least) % 256
+        ^ T.width }
 {
     let sum = T::Unsigned::from_wide(narrow).wrapping_add(least);
     T::from_unsigned(sum).to_unaligned()
@@ -51,7 +56,8 @@ fn widen_numbers<T: Int, N: SizedUInt>(
 ) -> Result<Vec<T::Une>, Error>
     requires { length bytes.now ≡ count * N.width }
     ensures widened { IfOk result (λ entries. map (λ u. little_endian (T.une_bytes u)) entries.items
-        ≡ map (λ n. (n + T.Unsigned.value least) % 256 ^ T.width) (map little_endian (first_chunks N.width count bytes.now))) }
+        ≡ map (λ n. (n + T.Unsigned.value least) % 256 ^ T.width)
+        (map little_endian (first_chunks N.width count bytes.now))) }
     ensures reason { IfErr result (λ e. e.reason ≡ Reason.OutOfMemory) }
 {
     let mut entries = Vec::with_capacity(alloc, count)?;
@@ -72,7 +78,9 @@ fn read_raw<T: Int, N: SizedUInt>(
     least: T::Unsigned,
 ) -> Result<Vec<T::Une>, Error>
     requires { width ≡ N.width }
-    ensures read { IfOk result (λ entries. ReadsWidened T.width (T.Unsigned.value least) (SpellsRaw N.width) count input.old.now (map (λ u. little_endian (T.une_bytes u)) entries.items) input.new.now) }
+    ensures read { IfOk result
+        (λ entries. ReadsWidened T.width (T.Unsigned.value least) (SpellsRaw N.width) count
+        input.old.now (map (λ u. little_endian (T.une_bytes u)) entries.items) input.new.now) }
     ensures refused { IfErr result (λ e. Names e.reason (missing (count * N.width) input.old.now)) }
     ensures rest { OnErr result (IsEndOf input.old.now input.new.now) }
 {
@@ -88,7 +96,9 @@ fn widen_bytes<T: Int>(
     bytes: &[u8],
     least: T::Unsigned,
 ) -> Result<Vec<T::Une>, Error>
-    ensures widened { IfOk result (λ entries. map (λ u. little_endian (T.une_bytes u)) entries.items ≡ map (λ n. (n + T.Unsigned.value least) % 256 ^ T.width) bytes.now) }
+    ensures widened { IfOk result
+        (λ entries. map (λ u. little_endian (T.une_bytes u)) entries.items ≡ map
+        (λ n. (n + T.Unsigned.value least) % 256 ^ T.width) bytes.now) }
     ensures reason { IfErr result (λ e. e.reason ≡ Reason.OutOfMemory) }
 {
     let mut entries = Vec::with_capacity(alloc, bytes.len())?;
@@ -105,7 +115,9 @@ fn read_bytes<'a, T: Int>(
     count: usize,
     least: T::Unsigned,
 ) -> Result<Vec<T::Une>, Error>
-    ensures read { IfOk result (λ entries. ReadsWidened T.width (T.Unsigned.value least) SpellsBytes count input.old.now (map (λ u. little_endian (T.une_bytes u)) entries.items) input.new.now) }
+    ensures read { IfOk result
+        (λ entries. ReadsWidened T.width (T.Unsigned.value least) SpellsBytes count input.old.now
+        (map (λ u. little_endian (T.une_bytes u)) entries.items) input.new.now) }
     ensures refused { IfErr result (λ e. Names e.reason (bytes_fault count input.old.now)) }
     ensures rest { OnErr result (IsEndOf input.old.now input.new.now) }
 {
@@ -124,7 +136,9 @@ fn read_narrow<'a, T: Int>(
     least: T::Unsigned,
 ) -> Result<Vec<T::Une>, Error>
     requires { IsWidth width }
-    ensures read { IfOk result (λ entries. ReadsWidened T.width (T.Unsigned.value least) (SpellsNarrow width) count input.old.now (map (λ u. little_endian (T.une_bytes u)) entries.items) input.new.now) }
+    ensures read { IfOk result
+        (λ entries. ReadsWidened T.width (T.Unsigned.value least) (SpellsNarrow width) count
+        input.old.now (map (λ u. little_endian (T.une_bytes u)) entries.items) input.new.now) }
     ensures refused { IfErr result (λ e. Names e.reason (narrow_fault count width input.old.now)) }
     ensures rest { OnErr result (IsEndOf input.old.now input.new.now) }
 {
@@ -147,9 +161,14 @@ struct Header<T: Int> {
 // Reads the tag of a column of more than one byte, and the least entry where the tag says that there is one.
 fn read_header<T: Int>(input: &mut &[u8]) -> Result<Header<T>, Error>
     requires { 2 ≤ T.width }
-    ensures read { IfOk result (λ header. (level : ℕ) × (level ≤ halvings T.width) × (header.width ≡ width_at_level T.width level)
-        × TellsLevel T.width (highest_int_tag T.width) input.old.now level (T.Unsigned.value header.least) input.new.now) }
-    ensures refused { IfErr result (λ e. (narrow : ℕ → List ℕ → Option Reason) → tagged_fault T.width (highest_int_tag T.width) narrow input.old.now ≡ Some e.reason) }
+    ensures read { IfOk result
+        (λ header. (level : ℕ) × (level ≤ halvings T.width)
+        × (header.width ≡ width_at_level T.width level)
+        × TellsLevel T.width (highest_int_tag T.width) input.old.now level
+        (T.Unsigned.value header.least) input.new.now) }
+    ensures refused { IfErr result
+        (λ e. (narrow : ℕ → List ℕ → Option Reason)
+        → tagged_fault T.width (highest_int_tag T.width) narrow input.old.now ≡ Some e.reason) }
     ensures memory { IfErr result (λ e. e.reason ≢ Reason.OutOfMemory) }
     ensures rest { OnErr result (IsEndOf input.old.now input.new.now) }
 {
@@ -176,7 +195,9 @@ fn borrow_entries<'a, T: Int>(
     count: usize,
     out: &mut CowSlice<'a, T::Une>,
 ) -> Result<(), Error>
-    ensures read { OnOk result (Reads (SpellsRaw T.width) count input.old.now (map (λ u. little_endian (T.une_bytes u)) (cow_rest out.new)) input.new.now) }
+    ensures read { OnOk result
+        (Reads (SpellsRaw T.width) count input.old.now
+        (map (λ u. little_endian (T.une_bytes u)) (cow_rest out.new)) input.new.now) }
     ensures refused { IfErr result (λ e. Names e.reason (missing (count * T.width) input.old.now)) }
     ensures memory { IfErr result (λ e. e.reason ≢ Reason.OutOfMemory) }
     ensures rest { OnErr result (input.new.now ≡ input.old.now) }
@@ -204,10 +225,14 @@ fn read_tagged<'a, T: Int>(
     out: &mut CowSlice<'a, T::Une>,
 ) -> Result<(), Error>
     requires { 2 ≤ T.width }
-    ensures read { OnOk result (Reads (SpellsTagged T.width (highest_int_tag T.width) (SpellsAtIntLevel T.width)) count input.old.now (map (λ u. little_endian (T.une_bytes u)) (cow_rest out.new)) input.new.now) }
-    ensures refused { IfErr result (λ e. Names e.reason (ints_fault_as tagged_form T.width count input.old.now)) }
+    ensures read { OnOk result
+        (Reads (SpellsTagged T.width (highest_int_tag T.width) (SpellsAtIntLevel T.width)) count
+        input.old.now (map (λ u. little_endian (T.une_bytes u)) (cow_rest out.new)) input.new.now) }
+    ensures refused { IfErr result
+        (λ e. Names e.reason (ints_fault_as tagged_form T.width count input.old.now)) }
     ensures rest { OnErr result (IsEndOf input.old.now input.new.now) }
-    ensures raw { IsTrue (has_raw_tag input.old.now) → IfErr result (λ e. e.reason ≢ Reason.OutOfMemory) }
+    ensures raw { IsTrue (has_raw_tag input.old.now)
+        → IfErr result (λ e. e.reason ≢ Reason.OutOfMemory) }
 {
     let raw = has_raw_tag(input);
     let Header { width, least } = read_header::<T>(input)?;
@@ -227,10 +252,13 @@ fn read_column<'a, T: Int>(
     out: &mut CowSlice<'a, T::Une>,
 ) -> Result<(), Error>
     requires { T.width ≡ 1 }
-    ensures read { OnOk result (Reads SpellsBytes count input.old.now (map (λ u. little_endian (T.une_bytes u)) (cow_rest out.new)) input.new.now) }
+    ensures read { OnOk result
+        (Reads SpellsBytes count input.old.now
+        (map (λ u. little_endian (T.une_bytes u)) (cow_rest out.new)) input.new.now) }
     ensures refused { IfErr result (λ e. Names e.reason (bytes_fault count input.old.now)) }
     ensures rest { OnErr result (IsEndOf input.old.now input.new.now) }
-    ensures raw { IsTrue (bytes_stand_raw count input.old.now) → IfErr result (λ e. e.reason ≢ Reason.OutOfMemory) }
+    ensures raw { IsTrue (bytes_stand_raw count input.old.now)
+        → IfErr result (λ e. e.reason ≢ Reason.OutOfMemory) }
 {
     if count <= MOST_WITHOUT_TAG {
         return borrow_entries::<T>(input, count, out);
@@ -252,10 +280,13 @@ fn read_ints<'a, T: Int>(
     count: usize,
     out: &mut CowSlice<'a, T::Une>,
 ) -> Result<(), Error>
-    ensures read { OnOk result (Reads (SpellsInts T.width) count input.old.now (map (λ u. little_endian (T.une_bytes u)) (cow_rest out.new)) input.new.now) }
+    ensures read { OnOk result
+        (Reads (SpellsInts T.width) count input.old.now
+        (map (λ u. little_endian (T.une_bytes u)) (cow_rest out.new)) input.new.now) }
     ensures refused { IfErr result (λ e. Names e.reason (ints_fault T.width count input.old.now)) }
     ensures rest { OnErr result (IsEndOf input.old.now input.new.now) }
-    ensures raw { IsTrue (ints_stand_raw T.width count input.old.now) → IfErr result (λ e. e.reason ≢ Reason.OutOfMemory) }
+    ensures raw { IsTrue (ints_stand_raw T.width count input.old.now)
+        → IfErr result (λ e. e.reason ≢ Reason.OutOfMemory) }
 {
     let width = T::width();
     if width == 1 {
@@ -279,11 +310,16 @@ pub fn unpack_ints<'a, T: Int>(
     count: usize,
     out: &mut CowSlice<'a, T::Une>,
 ) -> Result<(), Error>
-    ensures read { OnOk result (Reads (SpellsInts T.width) count input.old.now (map (λ u. little_endian (T.une_bytes u)) (cow_rest out.new)) input.new.now) }
-    ensures in_width { OnOk result (All (λ n. n < 256 ^ T.width) (map (λ u. little_endian (T.une_bytes u)) (cow_rest out.new))) }
+    ensures read { OnOk result
+        (Reads (SpellsInts T.width) count input.old.now
+        (map (λ u. little_endian (T.une_bytes u)) (cow_rest out.new)) input.new.now) }
+    ensures in_width { OnOk result
+        (All (λ n. n < 256 ^ T.width)
+        (map (λ u. little_endian (T.une_bytes u)) (cow_rest out.new))) }
     ensures refused { IfErr result (λ e. Names e.reason (ints_fault T.width count input.old.now)) }
     ensures rest { OnErr result (IsEndOf input.old.now input.new.now) }
-    ensures raw { IsTrue (ints_stand_raw T.width count input.old.now) → IfErr result (λ e. e.reason ≢ Reason.OutOfMemory) }
+    ensures raw { IsTrue (ints_stand_raw T.width count input.old.now)
+        → IfErr result (λ e. e.reason ≢ Reason.OutOfMemory) }
 {
     known_bytes(input);
     read_ints::<T>(alloc, input, count, out)

@@ -1,5 +1,6 @@
 //! Writing the numbers of a column at a width.
-ghost use Rattle.std.specs.Prelude.{◌≡◌, ◌≢◌, ◌+◌, ◌*◌, ◌%◌, ◌^◌, ◌<◌, ◌≤◌, ◌++◌, length, map, All, vec_len, vec_capacity, IsOk, IfOk, OnOk, IfErr};
+ghost use Rattle.std.specs.Prelude.{◌≡◌, ◌≢◌, ◌+◌, ◌*◌, ◌%◌, ◌^◌, ◌<◌, ◌≤◌, ◌++◌, length, map, All, vec_len};
+ghost use Rattle.std.specs.Prelude.{vec_capacity, IsOk, IfOk, OnOk, IfErr};
 ghost use Rattle.bitcode_columns.specs.ByteColumn.{byte_text};
 ghost use Rattle.bitcode_columns.specs.IntWidths.{IsWidth};
 ghost use Rattle.bitcode_columns.specs.IntColumn.{narrow_text};
@@ -26,7 +27,9 @@ const MOST_ONE_BY_ONE: usize = 2;
 // Writes how far each entry lies above a base over as many bytes as they take at a narrow type.
 fn put_numbers<T: Int, N: SizedUInt>(entries: &[T], base: T::Unsigned, bytes: &mut [u8])
     requires { length bytes.old ≡ length entries.now * N.width }
-    ensures written { bytes.new ≡ raw_text N.width (map (λ e. above T.width (T.Unsigned.value base) (T.number e) % 256 ^ N.width) entries.now) }
+    ensures written { bytes.new ≡ raw_text N.width
+        (map (λ e. above T.width (T.Unsigned.value base) (T.number e) % 256 ^ N.width)
+        entries.now) }
     ensures in_range { All (λ e. IsNumber T.width T.signed (T.number e)) entries.now }
 {
     let size = N::size();
@@ -40,7 +43,9 @@ fn put_numbers<T: Int, N: SizedUInt>(entries: &[T], base: T::Unsigned, bytes: &m
 // Appends a block of entries, each as how far it lies above a base, in room that is there.
 fn push_block<T: Int, N: SizedUInt>(entries: &[T], base: T::Unsigned, out: &mut Vec<u8>)
     requires { vec_len out.old + length entries.now * N.width ≤ vec_capacity out.old }
-    ensures written { out.new.items ≡ out.old.items ++ raw_text N.width (map (λ e. above T.width (T.Unsigned.value base) (T.number e) % 256 ^ N.width) entries.now) }
+    ensures written { out.new.items ≡ out.old.items ++ raw_text N.width
+        (map (λ e. above T.width (T.Unsigned.value base) (T.number e) % 256 ^ N.width)
+        entries.now) }
     ensures in_range { All (λ e. IsNumber T.width T.signed (T.number e)) entries.now }
     ensures len { vec_len out.new ≡ vec_len out.old + length entries.now * N.width }
     ensures capacity { vec_capacity out.old ≤ vec_capacity out.new }
@@ -60,7 +65,9 @@ fn push_blocks<T: Int, N: SizedUInt>(
     requires some { 0 < in_block }
     requires whole { length entries.now % in_block ≡ 0 }
     requires room { vec_len out.old + length entries.now * N.width ≤ vec_capacity out.old }
-    ensures written { out.new.items ≡ out.old.items ++ raw_text N.width (map (λ e. above T.width (T.Unsigned.value base) (T.number e) % 256 ^ N.width) entries.now) }
+    ensures written { out.new.items ≡ out.old.items ++ raw_text N.width
+        (map (λ e. above T.width (T.Unsigned.value base) (T.number e) % 256 ^ N.width)
+        entries.now) }
     ensures in_range { All (λ e. IsNumber T.width T.signed (T.number e)) entries.now }
     ensures len { vec_len out.new ≡ vec_len out.old + length entries.now * N.width }
     ensures capacity { vec_capacity out.old ≤ vec_capacity out.new }
@@ -86,7 +93,9 @@ fn in_blocks(count: usize, in_block: usize) -> usize
 // Appends how far each entry lies above a base, one by one, in room that is there.
 fn push_each<T: Int, N: SizedUInt>(entries: &[T], base: T::Unsigned, out: &mut Vec<u8>)
     requires { vec_len out.old + length entries.now * N.width ≤ vec_capacity out.old }
-    ensures written { out.new.items ≡ out.old.items ++ raw_text N.width (map (λ e. above T.width (T.Unsigned.value base) (T.number e) % 256 ^ N.width) entries.now) }
+    ensures written { out.new.items ≡ out.old.items ++ raw_text N.width
+        (map (λ e. above T.width (T.Unsigned.value base) (T.number e) % 256 ^ N.width)
+        entries.now) }
     ensures in_range { All (λ e. IsNumber T.width T.signed (T.number e)) entries.now }
 {
     for entry in entries {
@@ -99,7 +108,9 @@ fn push_each<T: Int, N: SizedUInt>(entries: &[T], base: T::Unsigned, out: &mut V
 // room. It writes a few one by one, and more as blocks and a rest.
 fn push_numbers<T: Int, N: SizedUInt>(entries: &[T], base: T::Unsigned, out: &mut Vec<u8>)
     requires { vec_len out.old + length entries.now * N.width ≤ vec_capacity out.old }
-    ensures written { out.new.items ≡ out.old.items ++ raw_text N.width (map (λ e. above T.width (T.Unsigned.value base) (T.number e) % 256 ^ N.width) entries.now) }
+    ensures written { out.new.items ≡ out.old.items ++ raw_text N.width
+        (map (λ e. above T.width (T.Unsigned.value base) (T.number e) % 256 ^ N.width)
+        entries.now) }
     ensures in_range { All (λ e. IsNumber T.width T.signed (T.number e)) entries.now }
 {
     if entries.len() <= MOST_ONE_BY_ONE {
@@ -120,11 +131,15 @@ pub(crate) fn write_numbers<T: Int, N: SizedUInt>(
     base: T::Unsigned,
     out: &mut Vec<u8>,
 ) -> Result<(), Error>
-    ensures written { OnOk result (out.new.items ≡ out.old.items ++ raw_text N.width (map (λ e. above T.width (T.Unsigned.value base) (T.number e) % 256 ^ N.width) entries.now)) }
+    ensures written { OnOk result
+        (out.new.items ≡ out.old.items ++ raw_text N.width
+        (map (λ e. above T.width (T.Unsigned.value base) (T.number e) % 256 ^ N.width)
+        entries.now)) }
     ensures in_range { OnOk result (All (λ e. IsNumber T.width T.signed (T.number e)) entries.now) }
     ensures kept { IsFrontOf out.old.items out.new.items }
     ensures reason { IfErr result (λ e. e.reason ≡ Reason.OutOfMemory) }
-    ensures succeeds { vec_len out.old + length entries.now * N.width ≤ vec_capacity out.old → IsOk result }
+    ensures succeeds { vec_len out.old + length entries.now * N.width ≤ vec_capacity out.old
+        → IsOk result }
 {
     let Some(size) = entries.len().checked_mul(N::size()) else {
         return err(Reason::OutOfMemory);
@@ -140,7 +155,10 @@ fn narrow_bytes<T: Int, B: Byte>(
     entries: &[T],
     base: T::Unsigned,
 ) -> Result<Vec<B>, Error>
-    ensures numbers { IfOk result (λ bytes. map B.number bytes.items ≡ map (λ e. number_of 1 B.signed (above T.width (T.Unsigned.value base) (T.number e) % 256)) entries.now) }
+    ensures numbers { IfOk result
+        (λ bytes. map B.number bytes.items ≡ map
+        (λ e. number_of 1 B.signed (above T.width (T.Unsigned.value base) (T.number e) % 256))
+        entries.now) }
     ensures in_range { OnOk result (All (λ e. IsNumber T.width T.signed (T.number e)) entries.now) }
     ensures reason { IfErr result (λ e. e.reason ≡ Reason.OutOfMemory) }
     ensures none { length entries.now ≡ 0 → IsOk result }
@@ -160,7 +178,10 @@ pub(crate) fn write_bytes<T: Int, B: Byte>(
     base: T::Unsigned,
     out: &mut Vec<u8>,
 ) -> Result<(), Error>
-    ensures written { OnOk result (out.new.items ≡ out.old.items ++ byte_text (map (λ e. number_of 1 B.signed (above T.width (T.Unsigned.value base) (T.number e) % 256)) entries.now)) }
+    ensures written { OnOk result
+        (out.new.items ≡ out.old.items ++ byte_text
+        (map (λ e. number_of 1 B.signed (above T.width (T.Unsigned.value base) (T.number e) % 256))
+        entries.now)) }
     ensures in_range { OnOk result (All (λ e. IsNumber T.width T.signed (T.number e)) entries.now) }
     ensures kept { IsFrontOf out.old.items out.new.items }
     ensures reason { IfErr result (λ e. e.reason ≡ Reason.OutOfMemory) }
@@ -179,10 +200,13 @@ pub(crate) fn write_narrow<T: Int>(
     out: &mut Vec<u8>,
 ) -> Result<(), Error>
     requires { IsWidth width }
-    ensures written { OnOk result (out.new.items ≡ out.old.items ++ narrow_text width (map (λ e. above T.width (T.Unsigned.value base) (T.number e) % 256 ^ width) entries.now)) }
+    ensures written { OnOk result
+        (out.new.items ≡ out.old.items ++ narrow_text width
+        (map (λ e. above T.width (T.Unsigned.value base) (T.number e) % 256 ^ width) entries.now)) }
     ensures kept { IsFrontOf out.old.items out.new.items }
     ensures reason { IfErr result (λ e. e.reason ≡ Reason.OutOfMemory) }
-    ensures succeeds { width ≢ 1 → vec_len out.old + length entries.now * width ≤ vec_capacity out.old → IsOk result }
+    ensures succeeds { width ≢ 1 → vec_len out.old + length entries.now * width ≤ vec_capacity
+        out.old → IsOk result }
 {
     match width {
         1 => write_bytes::<T, u8>(alloc, entries, base, out),
@@ -200,7 +224,8 @@ pub(crate) fn write_column<T: Int>(
     out: &mut Vec<u8>,
 ) -> Result<(), Error>
     requires { T.width ≡ 1 }
-    ensures written { OnOk result (out.new.items ≡ out.old.items ++ byte_text (map T.number entries.now)) }
+    ensures written { OnOk result
+        (out.new.items ≡ out.old.items ++ byte_text (map T.number entries.now)) }
     ensures kept { IsFrontOf out.old.items out.new.items }
     ensures reason { IfErr result (λ e. e.reason ≡ Reason.OutOfMemory) }
     ensures none { length entries.now ≡ 0 → vec_len out.old ≤ vec_capacity out.old → IsOk result }

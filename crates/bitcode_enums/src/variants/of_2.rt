@@ -89,7 +89,8 @@ pub trait Variants2<O: Place, P1: Made, P2: Made>: Enum {
         ensures { result ≡ of_one_of_2 values.0 values.1 payload };
 
     // these are the variants with the numbers from `O` on
-    ghost are: { IsVariant Self.Enum.each.variants O.first P1.shape P1.lists P1.makes values.0 × IsVariant Self.Enum.each.variants (O.first + 1) P2.shape P2.lists P2.makes values.1 };
+    ghost are: { IsVariant Self.Enum.each.variants O.first P1.shape P1.lists P1.makes values.0
+        × IsVariant Self.Enum.each.variants (O.first + 1) P2.shape P2.lists P2.makes values.1 };
 }
 
 impl<O: Place, E1: Buffer, E2: Buffer> Encoders2<O, E1, E2> {
@@ -108,10 +109,25 @@ impl<O: Place, E1: Buffer, E2: Buffer> Encoders2<O, E1, E2> {
     where
         E1: Encoder<P1> + FieldsEncoder<F>,
         requires { t.now ≡ T.values.0 (F.whole fields.now) }
-        ensures others { KeepsOthers no_columns (T.each.variants.index t.now - O.first) (⟦<Encoders2<O, E1, E2> as VariantColumns>⟧.columns.lists self.old) (⟦<Encoders2<O, E1, E2> as VariantColumns>⟧.columns.lists self.new) }
-        ensures joined { OnOk result (T.each.variants.joins t.now (columns_at (T.each.variants.index t.now - O.first) (⟦<Encoders2<O, E1, E2> as VariantColumns>⟧.columns.lists self.old)) (columns_at (T.each.variants.index t.now - O.first) (⟦<Encoders2<O, E1, E2> as VariantColumns>⟧.columns.lists self.new))) }
-        ensures form { emptied (columns_at (T.each.variants.index t.now - O.first) (⟦<Encoders2<O, E1, E2> as VariantColumns>⟧.columns.lists self.new)) ≡ emptied (columns_at (T.each.variants.index t.now - O.first) (⟦<Encoders2<O, E1, E2> as VariantColumns>⟧.columns.lists self.old)) }
-        ensures refused { IfErr result (λ e. IsWritingRefusal e.reason (T.each.variants.overflows t.now (columns_at (T.each.variants.index t.now - O.first) (⟦<Encoders2<O, E1, E2> as VariantColumns>⟧.columns.lists self.old)))) }
+        ensures others { KeepsOthers no_columns (T.each.variants.index t.now - O.first)
+            (⟦<Encoders2<O, E1, E2> as VariantColumns>⟧.columns.lists self.old)
+            (⟦<Encoders2<O, E1, E2> as VariantColumns>⟧.columns.lists self.new) }
+        ensures joined { OnOk result
+            (T.each.variants.joins t.now
+            (columns_at (T.each.variants.index t.now - O.first)
+            (⟦<Encoders2<O, E1, E2> as VariantColumns>⟧.columns.lists self.old))
+            (columns_at (T.each.variants.index t.now - O.first)
+            (⟦<Encoders2<O, E1, E2> as VariantColumns>⟧.columns.lists self.new))) }
+        ensures form { emptied
+            (columns_at (T.each.variants.index t.now - O.first)
+            (⟦<Encoders2<O, E1, E2> as VariantColumns>⟧.columns.lists self.new)) ≡ emptied
+            (columns_at (T.each.variants.index t.now - O.first)
+            (⟦<Encoders2<O, E1, E2> as VariantColumns>⟧.columns.lists self.old)) }
+        ensures refused { IfErr result
+            (λ e. IsWritingRefusal e.reason
+            (T.each.variants.overflows t.now
+            (columns_at (T.each.variants.index t.now - O.first)
+            (⟦<Encoders2<O, E1, E2> as VariantColumns>⟧.columns.lists self.old)))) }
     {
         encode_payload_fields(&mut self.first, fields)
     }
@@ -131,10 +147,25 @@ impl<O: Place, E1: Buffer, E2: Buffer> Encoders2<O, E1, E2> {
     where
         E2: Encoder<P2> + FieldsEncoder<F>,
         requires { t.now ≡ T.values.1 (F.whole fields.now) }
-        ensures others { KeepsOthers no_columns (T.each.variants.index t.now - O.first) (⟦<Encoders2<O, E1, E2> as VariantColumns>⟧.columns.lists self.old) (⟦<Encoders2<O, E1, E2> as VariantColumns>⟧.columns.lists self.new) }
-        ensures joined { OnOk result (T.each.variants.joins t.now (columns_at (T.each.variants.index t.now - O.first) (⟦<Encoders2<O, E1, E2> as VariantColumns>⟧.columns.lists self.old)) (columns_at (T.each.variants.index t.now - O.first) (⟦<Encoders2<O, E1, E2> as VariantColumns>⟧.columns.lists self.new))) }
-        ensures form { emptied (columns_at (T.each.variants.index t.now - O.first) (⟦<Encoders2<O, E1, E2> as VariantColumns>⟧.columns.lists self.new)) ≡ emptied (columns_at (T.each.variants.index t.now - O.first) (⟦<Encoders2<O, E1, E2> as VariantColumns>⟧.columns.lists self.old)) }
-        ensures refused { IfErr result (λ e. IsWritingRefusal e.reason (T.each.variants.overflows t.now (columns_at (T.each.variants.index t.now - O.first) (⟦<Encoders2<O, E1, E2> as VariantColumns>⟧.columns.lists self.old)))) }
+        ensures others { KeepsOthers no_columns (T.each.variants.index t.now - O.first)
+            (⟦<Encoders2<O, E1, E2> as VariantColumns>⟧.columns.lists self.old)
+            (⟦<Encoders2<O, E1, E2> as VariantColumns>⟧.columns.lists self.new) }
+        ensures joined { OnOk result
+            (T.each.variants.joins t.now
+            (columns_at (T.each.variants.index t.now - O.first)
+            (⟦<Encoders2<O, E1, E2> as VariantColumns>⟧.columns.lists self.old))
+            (columns_at (T.each.variants.index t.now - O.first)
+            (⟦<Encoders2<O, E1, E2> as VariantColumns>⟧.columns.lists self.new))) }
+        ensures form { emptied
+            (columns_at (T.each.variants.index t.now - O.first)
+            (⟦<Encoders2<O, E1, E2> as VariantColumns>⟧.columns.lists self.new)) ≡ emptied
+            (columns_at (T.each.variants.index t.now - O.first)
+            (⟦<Encoders2<O, E1, E2> as VariantColumns>⟧.columns.lists self.old)) }
+        ensures refused { IfErr result
+            (λ e. IsWritingRefusal e.reason
+            (T.each.variants.overflows t.now
+            (columns_at (T.each.variants.index t.now - O.first)
+            (⟦<Encoders2<O, E1, E2> as VariantColumns>⟧.columns.lists self.old)))) }
     {
         encode_payload_fields(&mut self.second, fields)
     }
@@ -147,7 +178,10 @@ impl<O: Place, E1: Buffer, E2: Buffer> VariantColumns for Encoders2<O, E1, E2> {
 
     ghost in_turn = { true };
 
-    ghost columns = { record { lists = λ e. E1.columns e.first ∷ E2.columns e.second ∷ []; capacity = λ e. E1.capacity e.first + E2.capacity e.second } };
+    ghost columns = { record {
+      lists = λ e. E1.columns e.first ∷ E2.columns e.second ∷ [];
+      capacity = λ e. E1.capacity e.first + E2.capacity e.second;
+    } };
 
     fn new(alloc: Global) -> Self {
         Encoders2 {
@@ -197,7 +231,12 @@ impl<
 
     ghost in_turn = { true };
 
-    ghost held = { record { lists = λ d. D1.held d.first ∷ D2.held d.second ∷ []; owned = λ d. D1.owned d.first + D2.owned d.second; faults = λ n. (fault_and D1.faults (fault_and D2.faults (no_faults))) (n - O.first); makes_free = D1.makes_free && D2.makes_free } };
+    ghost held = { record {
+      lists = λ d. D1.held d.first ∷ D2.held d.second ∷ [];
+      owned = λ d. D1.owned d.first + D2.owned d.second;
+      faults = λ n. (fault_and D1.faults (fault_and D2.faults (no_faults))) (n - O.first);
+      makes_free = D1.makes_free && D2.makes_free;
+    } };
 
     fn new(alloc: Global) -> Self {
         Decoders2 {

@@ -94,7 +94,9 @@ pub trait Variants3<O: Place, P1: Made, P2: Made, P3: Made>: Enum {
         ensures { result ≡ of_one_of_3 values.0 values.1 values.2 payload };
 
     // these are the variants with the numbers from `O` on
-    ghost are: { IsVariant Self.Enum.each.variants O.first P1.shape P1.lists P1.makes values.0 × IsVariant Self.Enum.each.variants (O.first + 1) P2.shape P2.lists P2.makes values.1 × IsVariant Self.Enum.each.variants (O.first + 2) P3.shape P3.lists P3.makes values.2 };
+    ghost are: { IsVariant Self.Enum.each.variants O.first P1.shape P1.lists P1.makes values.0
+        × IsVariant Self.Enum.each.variants (O.first + 1) P2.shape P2.lists P2.makes values.1
+        × IsVariant Self.Enum.each.variants (O.first + 2) P3.shape P3.lists P3.makes values.2 };
 }
 
 impl<O: Place, E1: Buffer, E2: Buffer, E3: Buffer> Encoders3<O, E1, E2, E3> {
@@ -115,10 +117,25 @@ impl<O: Place, E1: Buffer, E2: Buffer, E3: Buffer> Encoders3<O, E1, E2, E3> {
     where
         E1: Encoder<P1> + FieldsEncoder<F>,
         requires { t.now ≡ T.values.0 (F.whole fields.now) }
-        ensures others { KeepsOthers no_columns (T.each.variants.index t.now - O.first) (⟦<Encoders3<O, E1, E2, E3> as VariantColumns>⟧.columns.lists self.old) (⟦<Encoders3<O, E1, E2, E3> as VariantColumns>⟧.columns.lists self.new) }
-        ensures joined { OnOk result (T.each.variants.joins t.now (columns_at (T.each.variants.index t.now - O.first) (⟦<Encoders3<O, E1, E2, E3> as VariantColumns>⟧.columns.lists self.old)) (columns_at (T.each.variants.index t.now - O.first) (⟦<Encoders3<O, E1, E2, E3> as VariantColumns>⟧.columns.lists self.new))) }
-        ensures form { emptied (columns_at (T.each.variants.index t.now - O.first) (⟦<Encoders3<O, E1, E2, E3> as VariantColumns>⟧.columns.lists self.new)) ≡ emptied (columns_at (T.each.variants.index t.now - O.first) (⟦<Encoders3<O, E1, E2, E3> as VariantColumns>⟧.columns.lists self.old)) }
-        ensures refused { IfErr result (λ e. IsWritingRefusal e.reason (T.each.variants.overflows t.now (columns_at (T.each.variants.index t.now - O.first) (⟦<Encoders3<O, E1, E2, E3> as VariantColumns>⟧.columns.lists self.old)))) }
+        ensures others { KeepsOthers no_columns (T.each.variants.index t.now - O.first)
+            (⟦<Encoders3<O, E1, E2, E3> as VariantColumns>⟧.columns.lists self.old)
+            (⟦<Encoders3<O, E1, E2, E3> as VariantColumns>⟧.columns.lists self.new) }
+        ensures joined { OnOk result
+            (T.each.variants.joins t.now
+            (columns_at (T.each.variants.index t.now - O.first)
+            (⟦<Encoders3<O, E1, E2, E3> as VariantColumns>⟧.columns.lists self.old))
+            (columns_at (T.each.variants.index t.now - O.first)
+            (⟦<Encoders3<O, E1, E2, E3> as VariantColumns>⟧.columns.lists self.new))) }
+        ensures form { emptied
+            (columns_at (T.each.variants.index t.now - O.first)
+            (⟦<Encoders3<O, E1, E2, E3> as VariantColumns>⟧.columns.lists self.new)) ≡ emptied
+            (columns_at (T.each.variants.index t.now - O.first)
+            (⟦<Encoders3<O, E1, E2, E3> as VariantColumns>⟧.columns.lists self.old)) }
+        ensures refused { IfErr result
+            (λ e. IsWritingRefusal e.reason
+            (T.each.variants.overflows t.now
+            (columns_at (T.each.variants.index t.now - O.first)
+            (⟦<Encoders3<O, E1, E2, E3> as VariantColumns>⟧.columns.lists self.old)))) }
     {
         encode_payload_fields(&mut self.first, fields)
     }
@@ -140,10 +157,25 @@ impl<O: Place, E1: Buffer, E2: Buffer, E3: Buffer> Encoders3<O, E1, E2, E3> {
     where
         E2: Encoder<P2> + FieldsEncoder<F>,
         requires { t.now ≡ T.values.1 (F.whole fields.now) }
-        ensures others { KeepsOthers no_columns (T.each.variants.index t.now - O.first) (⟦<Encoders3<O, E1, E2, E3> as VariantColumns>⟧.columns.lists self.old) (⟦<Encoders3<O, E1, E2, E3> as VariantColumns>⟧.columns.lists self.new) }
-        ensures joined { OnOk result (T.each.variants.joins t.now (columns_at (T.each.variants.index t.now - O.first) (⟦<Encoders3<O, E1, E2, E3> as VariantColumns>⟧.columns.lists self.old)) (columns_at (T.each.variants.index t.now - O.first) (⟦<Encoders3<O, E1, E2, E3> as VariantColumns>⟧.columns.lists self.new))) }
-        ensures form { emptied (columns_at (T.each.variants.index t.now - O.first) (⟦<Encoders3<O, E1, E2, E3> as VariantColumns>⟧.columns.lists self.new)) ≡ emptied (columns_at (T.each.variants.index t.now - O.first) (⟦<Encoders3<O, E1, E2, E3> as VariantColumns>⟧.columns.lists self.old)) }
-        ensures refused { IfErr result (λ e. IsWritingRefusal e.reason (T.each.variants.overflows t.now (columns_at (T.each.variants.index t.now - O.first) (⟦<Encoders3<O, E1, E2, E3> as VariantColumns>⟧.columns.lists self.old)))) }
+        ensures others { KeepsOthers no_columns (T.each.variants.index t.now - O.first)
+            (⟦<Encoders3<O, E1, E2, E3> as VariantColumns>⟧.columns.lists self.old)
+            (⟦<Encoders3<O, E1, E2, E3> as VariantColumns>⟧.columns.lists self.new) }
+        ensures joined { OnOk result
+            (T.each.variants.joins t.now
+            (columns_at (T.each.variants.index t.now - O.first)
+            (⟦<Encoders3<O, E1, E2, E3> as VariantColumns>⟧.columns.lists self.old))
+            (columns_at (T.each.variants.index t.now - O.first)
+            (⟦<Encoders3<O, E1, E2, E3> as VariantColumns>⟧.columns.lists self.new))) }
+        ensures form { emptied
+            (columns_at (T.each.variants.index t.now - O.first)
+            (⟦<Encoders3<O, E1, E2, E3> as VariantColumns>⟧.columns.lists self.new)) ≡ emptied
+            (columns_at (T.each.variants.index t.now - O.first)
+            (⟦<Encoders3<O, E1, E2, E3> as VariantColumns>⟧.columns.lists self.old)) }
+        ensures refused { IfErr result
+            (λ e. IsWritingRefusal e.reason
+            (T.each.variants.overflows t.now
+            (columns_at (T.each.variants.index t.now - O.first)
+            (⟦<Encoders3<O, E1, E2, E3> as VariantColumns>⟧.columns.lists self.old)))) }
     {
         encode_payload_fields(&mut self.second, fields)
     }
@@ -165,10 +197,25 @@ impl<O: Place, E1: Buffer, E2: Buffer, E3: Buffer> Encoders3<O, E1, E2, E3> {
     where
         E3: Encoder<P3> + FieldsEncoder<F>,
         requires { t.now ≡ T.values.2 (F.whole fields.now) }
-        ensures others { KeepsOthers no_columns (T.each.variants.index t.now - O.first) (⟦<Encoders3<O, E1, E2, E3> as VariantColumns>⟧.columns.lists self.old) (⟦<Encoders3<O, E1, E2, E3> as VariantColumns>⟧.columns.lists self.new) }
-        ensures joined { OnOk result (T.each.variants.joins t.now (columns_at (T.each.variants.index t.now - O.first) (⟦<Encoders3<O, E1, E2, E3> as VariantColumns>⟧.columns.lists self.old)) (columns_at (T.each.variants.index t.now - O.first) (⟦<Encoders3<O, E1, E2, E3> as VariantColumns>⟧.columns.lists self.new))) }
-        ensures form { emptied (columns_at (T.each.variants.index t.now - O.first) (⟦<Encoders3<O, E1, E2, E3> as VariantColumns>⟧.columns.lists self.new)) ≡ emptied (columns_at (T.each.variants.index t.now - O.first) (⟦<Encoders3<O, E1, E2, E3> as VariantColumns>⟧.columns.lists self.old)) }
-        ensures refused { IfErr result (λ e. IsWritingRefusal e.reason (T.each.variants.overflows t.now (columns_at (T.each.variants.index t.now - O.first) (⟦<Encoders3<O, E1, E2, E3> as VariantColumns>⟧.columns.lists self.old)))) }
+        ensures others { KeepsOthers no_columns (T.each.variants.index t.now - O.first)
+            (⟦<Encoders3<O, E1, E2, E3> as VariantColumns>⟧.columns.lists self.old)
+            (⟦<Encoders3<O, E1, E2, E3> as VariantColumns>⟧.columns.lists self.new) }
+        ensures joined { OnOk result
+            (T.each.variants.joins t.now
+            (columns_at (T.each.variants.index t.now - O.first)
+            (⟦<Encoders3<O, E1, E2, E3> as VariantColumns>⟧.columns.lists self.old))
+            (columns_at (T.each.variants.index t.now - O.first)
+            (⟦<Encoders3<O, E1, E2, E3> as VariantColumns>⟧.columns.lists self.new))) }
+        ensures form { emptied
+            (columns_at (T.each.variants.index t.now - O.first)
+            (⟦<Encoders3<O, E1, E2, E3> as VariantColumns>⟧.columns.lists self.new)) ≡ emptied
+            (columns_at (T.each.variants.index t.now - O.first)
+            (⟦<Encoders3<O, E1, E2, E3> as VariantColumns>⟧.columns.lists self.old)) }
+        ensures refused { IfErr result
+            (λ e. IsWritingRefusal e.reason
+            (T.each.variants.overflows t.now
+            (columns_at (T.each.variants.index t.now - O.first)
+            (⟦<Encoders3<O, E1, E2, E3> as VariantColumns>⟧.columns.lists self.old)))) }
     {
         encode_payload_fields(&mut self.third, fields)
     }
@@ -181,7 +228,10 @@ impl<O: Place, E1: Buffer, E2: Buffer, E3: Buffer> VariantColumns for Encoders3<
 
     ghost in_turn = { true };
 
-    ghost columns = { record { lists = λ e. E1.columns e.first ∷ E2.columns e.second ∷ E3.columns e.third ∷ []; capacity = λ e. E1.capacity e.first + E2.capacity e.second + E3.capacity e.third } };
+    ghost columns = { record {
+      lists = λ e. E1.columns e.first ∷ E2.columns e.second ∷ E3.columns e.third ∷ [];
+      capacity = λ e. E1.capacity e.first + E2.capacity e.second + E3.capacity e.third;
+    } };
 
     fn new(alloc: Global) -> Self {
         Encoders3 {
@@ -236,7 +286,13 @@ impl<
 
     ghost in_turn = { true };
 
-    ghost held = { record { lists = λ d. D1.held d.first ∷ D2.held d.second ∷ D3.held d.third ∷ []; owned = λ d. D1.owned d.first + D2.owned d.second + D3.owned d.third; faults = λ n. (fault_and D1.faults (fault_and D2.faults (fault_and D3.faults (no_faults)))) (n - O.first); makes_free = D1.makes_free && D2.makes_free && D3.makes_free } };
+    ghost held = { record {
+      lists = λ d. D1.held d.first ∷ D2.held d.second ∷ D3.held d.third ∷ [];
+      owned = λ d. D1.owned d.first + D2.owned d.second + D3.owned d.third;
+      faults = λ n. (fault_and D1.faults (fault_and D2.faults (fault_and D3.faults (no_faults))))
+          (n - O.first);
+      makes_free = D1.makes_free && D2.makes_free && D3.makes_free;
+    } };
 
     fn new(alloc: Global) -> Self {
         Decoders3 {

@@ -99,7 +99,10 @@ pub trait Variants4<O: Place, P1: Made, P2: Made, P3: Made, P4: Made>: Enum {
         ensures { result ≡ of_one_of_4 values.0 values.1 values.2 values.3 payload };
 
     // these are the variants with the numbers from `O` on
-    ghost are: { IsVariant Self.Enum.each.variants O.first P1.shape P1.lists P1.makes values.0 × IsVariant Self.Enum.each.variants (O.first + 1) P2.shape P2.lists P2.makes values.1 × IsVariant Self.Enum.each.variants (O.first + 2) P3.shape P3.lists P3.makes values.2 × IsVariant Self.Enum.each.variants (O.first + 3) P4.shape P4.lists P4.makes values.3 };
+    ghost are: { IsVariant Self.Enum.each.variants O.first P1.shape P1.lists P1.makes values.0
+        × IsVariant Self.Enum.each.variants (O.first + 1) P2.shape P2.lists P2.makes values.1
+        × IsVariant Self.Enum.each.variants (O.first + 2) P3.shape P3.lists P3.makes values.2
+        × IsVariant Self.Enum.each.variants (O.first + 3) P4.shape P4.lists P4.makes values.3 };
 }
 
 impl<O: Place, E1: Buffer, E2: Buffer, E3: Buffer, E4: Buffer> Encoders4<O, E1, E2, E3, E4> {
@@ -121,10 +124,25 @@ impl<O: Place, E1: Buffer, E2: Buffer, E3: Buffer, E4: Buffer> Encoders4<O, E1, 
     where
         E1: Encoder<P1> + FieldsEncoder<F>,
         requires { t.now ≡ T.values.0 (F.whole fields.now) }
-        ensures others { KeepsOthers no_columns (T.each.variants.index t.now - O.first) (⟦<Encoders4<O, E1, E2, E3, E4> as VariantColumns>⟧.columns.lists self.old) (⟦<Encoders4<O, E1, E2, E3, E4> as VariantColumns>⟧.columns.lists self.new) }
-        ensures joined { OnOk result (T.each.variants.joins t.now (columns_at (T.each.variants.index t.now - O.first) (⟦<Encoders4<O, E1, E2, E3, E4> as VariantColumns>⟧.columns.lists self.old)) (columns_at (T.each.variants.index t.now - O.first) (⟦<Encoders4<O, E1, E2, E3, E4> as VariantColumns>⟧.columns.lists self.new))) }
-        ensures form { emptied (columns_at (T.each.variants.index t.now - O.first) (⟦<Encoders4<O, E1, E2, E3, E4> as VariantColumns>⟧.columns.lists self.new)) ≡ emptied (columns_at (T.each.variants.index t.now - O.first) (⟦<Encoders4<O, E1, E2, E3, E4> as VariantColumns>⟧.columns.lists self.old)) }
-        ensures refused { IfErr result (λ e. IsWritingRefusal e.reason (T.each.variants.overflows t.now (columns_at (T.each.variants.index t.now - O.first) (⟦<Encoders4<O, E1, E2, E3, E4> as VariantColumns>⟧.columns.lists self.old)))) }
+        ensures others { KeepsOthers no_columns (T.each.variants.index t.now - O.first)
+            (⟦<Encoders4<O, E1, E2, E3, E4> as VariantColumns>⟧.columns.lists self.old)
+            (⟦<Encoders4<O, E1, E2, E3, E4> as VariantColumns>⟧.columns.lists self.new) }
+        ensures joined { OnOk result
+            (T.each.variants.joins t.now
+            (columns_at (T.each.variants.index t.now - O.first)
+            (⟦<Encoders4<O, E1, E2, E3, E4> as VariantColumns>⟧.columns.lists self.old))
+            (columns_at (T.each.variants.index t.now - O.first)
+            (⟦<Encoders4<O, E1, E2, E3, E4> as VariantColumns>⟧.columns.lists self.new))) }
+        ensures form { emptied
+            (columns_at (T.each.variants.index t.now - O.first)
+            (⟦<Encoders4<O, E1, E2, E3, E4> as VariantColumns>⟧.columns.lists self.new)) ≡ emptied
+            (columns_at (T.each.variants.index t.now - O.first)
+            (⟦<Encoders4<O, E1, E2, E3, E4> as VariantColumns>⟧.columns.lists self.old)) }
+        ensures refused { IfErr result
+            (λ e. IsWritingRefusal e.reason
+            (T.each.variants.overflows t.now
+            (columns_at (T.each.variants.index t.now - O.first)
+            (⟦<Encoders4<O, E1, E2, E3, E4> as VariantColumns>⟧.columns.lists self.old)))) }
     {
         encode_payload_fields(&mut self.first, fields)
     }
@@ -147,10 +165,25 @@ impl<O: Place, E1: Buffer, E2: Buffer, E3: Buffer, E4: Buffer> Encoders4<O, E1, 
     where
         E2: Encoder<P2> + FieldsEncoder<F>,
         requires { t.now ≡ T.values.1 (F.whole fields.now) }
-        ensures others { KeepsOthers no_columns (T.each.variants.index t.now - O.first) (⟦<Encoders4<O, E1, E2, E3, E4> as VariantColumns>⟧.columns.lists self.old) (⟦<Encoders4<O, E1, E2, E3, E4> as VariantColumns>⟧.columns.lists self.new) }
-        ensures joined { OnOk result (T.each.variants.joins t.now (columns_at (T.each.variants.index t.now - O.first) (⟦<Encoders4<O, E1, E2, E3, E4> as VariantColumns>⟧.columns.lists self.old)) (columns_at (T.each.variants.index t.now - O.first) (⟦<Encoders4<O, E1, E2, E3, E4> as VariantColumns>⟧.columns.lists self.new))) }
-        ensures form { emptied (columns_at (T.each.variants.index t.now - O.first) (⟦<Encoders4<O, E1, E2, E3, E4> as VariantColumns>⟧.columns.lists self.new)) ≡ emptied (columns_at (T.each.variants.index t.now - O.first) (⟦<Encoders4<O, E1, E2, E3, E4> as VariantColumns>⟧.columns.lists self.old)) }
-        ensures refused { IfErr result (λ e. IsWritingRefusal e.reason (T.each.variants.overflows t.now (columns_at (T.each.variants.index t.now - O.first) (⟦<Encoders4<O, E1, E2, E3, E4> as VariantColumns>⟧.columns.lists self.old)))) }
+        ensures others { KeepsOthers no_columns (T.each.variants.index t.now - O.first)
+            (⟦<Encoders4<O, E1, E2, E3, E4> as VariantColumns>⟧.columns.lists self.old)
+            (⟦<Encoders4<O, E1, E2, E3, E4> as VariantColumns>⟧.columns.lists self.new) }
+        ensures joined { OnOk result
+            (T.each.variants.joins t.now
+            (columns_at (T.each.variants.index t.now - O.first)
+            (⟦<Encoders4<O, E1, E2, E3, E4> as VariantColumns>⟧.columns.lists self.old))
+            (columns_at (T.each.variants.index t.now - O.first)
+            (⟦<Encoders4<O, E1, E2, E3, E4> as VariantColumns>⟧.columns.lists self.new))) }
+        ensures form { emptied
+            (columns_at (T.each.variants.index t.now - O.first)
+            (⟦<Encoders4<O, E1, E2, E3, E4> as VariantColumns>⟧.columns.lists self.new)) ≡ emptied
+            (columns_at (T.each.variants.index t.now - O.first)
+            (⟦<Encoders4<O, E1, E2, E3, E4> as VariantColumns>⟧.columns.lists self.old)) }
+        ensures refused { IfErr result
+            (λ e. IsWritingRefusal e.reason
+            (T.each.variants.overflows t.now
+            (columns_at (T.each.variants.index t.now - O.first)
+            (⟦<Encoders4<O, E1, E2, E3, E4> as VariantColumns>⟧.columns.lists self.old)))) }
     {
         encode_payload_fields(&mut self.second, fields)
     }
@@ -173,10 +206,25 @@ impl<O: Place, E1: Buffer, E2: Buffer, E3: Buffer, E4: Buffer> Encoders4<O, E1, 
     where
         E3: Encoder<P3> + FieldsEncoder<F>,
         requires { t.now ≡ T.values.2 (F.whole fields.now) }
-        ensures others { KeepsOthers no_columns (T.each.variants.index t.now - O.first) (⟦<Encoders4<O, E1, E2, E3, E4> as VariantColumns>⟧.columns.lists self.old) (⟦<Encoders4<O, E1, E2, E3, E4> as VariantColumns>⟧.columns.lists self.new) }
-        ensures joined { OnOk result (T.each.variants.joins t.now (columns_at (T.each.variants.index t.now - O.first) (⟦<Encoders4<O, E1, E2, E3, E4> as VariantColumns>⟧.columns.lists self.old)) (columns_at (T.each.variants.index t.now - O.first) (⟦<Encoders4<O, E1, E2, E3, E4> as VariantColumns>⟧.columns.lists self.new))) }
-        ensures form { emptied (columns_at (T.each.variants.index t.now - O.first) (⟦<Encoders4<O, E1, E2, E3, E4> as VariantColumns>⟧.columns.lists self.new)) ≡ emptied (columns_at (T.each.variants.index t.now - O.first) (⟦<Encoders4<O, E1, E2, E3, E4> as VariantColumns>⟧.columns.lists self.old)) }
-        ensures refused { IfErr result (λ e. IsWritingRefusal e.reason (T.each.variants.overflows t.now (columns_at (T.each.variants.index t.now - O.first) (⟦<Encoders4<O, E1, E2, E3, E4> as VariantColumns>⟧.columns.lists self.old)))) }
+        ensures others { KeepsOthers no_columns (T.each.variants.index t.now - O.first)
+            (⟦<Encoders4<O, E1, E2, E3, E4> as VariantColumns>⟧.columns.lists self.old)
+            (⟦<Encoders4<O, E1, E2, E3, E4> as VariantColumns>⟧.columns.lists self.new) }
+        ensures joined { OnOk result
+            (T.each.variants.joins t.now
+            (columns_at (T.each.variants.index t.now - O.first)
+            (⟦<Encoders4<O, E1, E2, E3, E4> as VariantColumns>⟧.columns.lists self.old))
+            (columns_at (T.each.variants.index t.now - O.first)
+            (⟦<Encoders4<O, E1, E2, E3, E4> as VariantColumns>⟧.columns.lists self.new))) }
+        ensures form { emptied
+            (columns_at (T.each.variants.index t.now - O.first)
+            (⟦<Encoders4<O, E1, E2, E3, E4> as VariantColumns>⟧.columns.lists self.new)) ≡ emptied
+            (columns_at (T.each.variants.index t.now - O.first)
+            (⟦<Encoders4<O, E1, E2, E3, E4> as VariantColumns>⟧.columns.lists self.old)) }
+        ensures refused { IfErr result
+            (λ e. IsWritingRefusal e.reason
+            (T.each.variants.overflows t.now
+            (columns_at (T.each.variants.index t.now - O.first)
+            (⟦<Encoders4<O, E1, E2, E3, E4> as VariantColumns>⟧.columns.lists self.old)))) }
     {
         encode_payload_fields(&mut self.third, fields)
     }
@@ -199,10 +247,25 @@ impl<O: Place, E1: Buffer, E2: Buffer, E3: Buffer, E4: Buffer> Encoders4<O, E1, 
     where
         E4: Encoder<P4> + FieldsEncoder<F>,
         requires { t.now ≡ T.values.3 (F.whole fields.now) }
-        ensures others { KeepsOthers no_columns (T.each.variants.index t.now - O.first) (⟦<Encoders4<O, E1, E2, E3, E4> as VariantColumns>⟧.columns.lists self.old) (⟦<Encoders4<O, E1, E2, E3, E4> as VariantColumns>⟧.columns.lists self.new) }
-        ensures joined { OnOk result (T.each.variants.joins t.now (columns_at (T.each.variants.index t.now - O.first) (⟦<Encoders4<O, E1, E2, E3, E4> as VariantColumns>⟧.columns.lists self.old)) (columns_at (T.each.variants.index t.now - O.first) (⟦<Encoders4<O, E1, E2, E3, E4> as VariantColumns>⟧.columns.lists self.new))) }
-        ensures form { emptied (columns_at (T.each.variants.index t.now - O.first) (⟦<Encoders4<O, E1, E2, E3, E4> as VariantColumns>⟧.columns.lists self.new)) ≡ emptied (columns_at (T.each.variants.index t.now - O.first) (⟦<Encoders4<O, E1, E2, E3, E4> as VariantColumns>⟧.columns.lists self.old)) }
-        ensures refused { IfErr result (λ e. IsWritingRefusal e.reason (T.each.variants.overflows t.now (columns_at (T.each.variants.index t.now - O.first) (⟦<Encoders4<O, E1, E2, E3, E4> as VariantColumns>⟧.columns.lists self.old)))) }
+        ensures others { KeepsOthers no_columns (T.each.variants.index t.now - O.first)
+            (⟦<Encoders4<O, E1, E2, E3, E4> as VariantColumns>⟧.columns.lists self.old)
+            (⟦<Encoders4<O, E1, E2, E3, E4> as VariantColumns>⟧.columns.lists self.new) }
+        ensures joined { OnOk result
+            (T.each.variants.joins t.now
+            (columns_at (T.each.variants.index t.now - O.first)
+            (⟦<Encoders4<O, E1, E2, E3, E4> as VariantColumns>⟧.columns.lists self.old))
+            (columns_at (T.each.variants.index t.now - O.first)
+            (⟦<Encoders4<O, E1, E2, E3, E4> as VariantColumns>⟧.columns.lists self.new))) }
+        ensures form { emptied
+            (columns_at (T.each.variants.index t.now - O.first)
+            (⟦<Encoders4<O, E1, E2, E3, E4> as VariantColumns>⟧.columns.lists self.new)) ≡ emptied
+            (columns_at (T.each.variants.index t.now - O.first)
+            (⟦<Encoders4<O, E1, E2, E3, E4> as VariantColumns>⟧.columns.lists self.old)) }
+        ensures refused { IfErr result
+            (λ e. IsWritingRefusal e.reason
+            (T.each.variants.overflows t.now
+            (columns_at (T.each.variants.index t.now - O.first)
+            (⟦<Encoders4<O, E1, E2, E3, E4> as VariantColumns>⟧.columns.lists self.old)))) }
     {
         encode_payload_fields(&mut self.fourth, fields)
     }
@@ -216,7 +279,12 @@ impl<O: Place, E1: Buffer, E2: Buffer, E3: Buffer, E4: Buffer> VariantColumns
 
     ghost in_turn = { true };
 
-    ghost columns = { record { lists = λ e. E1.columns e.first ∷ E2.columns e.second ∷ E3.columns e.third ∷ E4.columns e.fourth ∷ []; capacity = λ e. E1.capacity e.first + E2.capacity e.second + E3.capacity e.third + E4.capacity e.fourth } };
+    ghost columns = { record {
+      lists = λ e. E1.columns e.first ∷ E2.columns e.second ∷ E3.columns e.third ∷ E4.columns
+          e.fourth ∷ [];
+      capacity = λ e. E1.capacity e.first + E2.capacity e.second + E3.capacity e.third + E4.capacity
+          e.fourth;
+    } };
 
     fn new(alloc: Global) -> Self {
         Encoders4 {
@@ -276,7 +344,15 @@ impl<
 
     ghost in_turn = { true };
 
-    ghost held = { record { lists = λ d. D1.held d.first ∷ D2.held d.second ∷ D3.held d.third ∷ D4.held d.fourth ∷ []; owned = λ d. D1.owned d.first + D2.owned d.second + D3.owned d.third + D4.owned d.fourth; faults = λ n. (fault_and D1.faults (fault_and D2.faults (fault_and D3.faults (fault_and D4.faults (no_faults))))) (n - O.first); makes_free = D1.makes_free && D2.makes_free && D3.makes_free && D4.makes_free } };
+    ghost held = { record {
+      lists = λ d. D1.held d.first ∷ D2.held d.second ∷ D3.held d.third ∷ D4.held d.fourth ∷ [];
+      owned = λ d. D1.owned d.first + D2.owned d.second + D3.owned d.third + D4.owned d.fourth;
+      faults = λ n.
+          (fault_and D1.faults
+          (fault_and D2.faults (fault_and D3.faults (fault_and D4.faults (no_faults)))))
+          (n - O.first);
+      makes_free = D1.makes_free && D2.makes_free && D3.makes_free && D4.makes_free;
+    } };
 
     fn new(alloc: Global) -> Self {
         Decoders4 {

@@ -104,7 +104,11 @@ pub trait Variants5<O: Place, P1: Made, P2: Made, P3: Made, P4: Made, P5: Made>:
         ensures { result ≡ of_one_of_5 values.0 values.1 values.2 values.3 values.4 payload };
 
     // these are the variants with the numbers from `O` on
-    ghost are: { IsVariant Self.Enum.each.variants O.first P1.shape P1.lists P1.makes values.0 × IsVariant Self.Enum.each.variants (O.first + 1) P2.shape P2.lists P2.makes values.1 × IsVariant Self.Enum.each.variants (O.first + 2) P3.shape P3.lists P3.makes values.2 × IsVariant Self.Enum.each.variants (O.first + 3) P4.shape P4.lists P4.makes values.3 × IsVariant Self.Enum.each.variants (O.first + 4) P5.shape P5.lists P5.makes values.4 };
+    ghost are: { IsVariant Self.Enum.each.variants O.first P1.shape P1.lists P1.makes values.0
+        × IsVariant Self.Enum.each.variants (O.first + 1) P2.shape P2.lists P2.makes values.1
+        × IsVariant Self.Enum.each.variants (O.first + 2) P3.shape P3.lists P3.makes values.2
+        × IsVariant Self.Enum.each.variants (O.first + 3) P4.shape P4.lists P4.makes values.3
+        × IsVariant Self.Enum.each.variants (O.first + 4) P5.shape P5.lists P5.makes values.4 };
 }
 
 impl<O: Place, E1: Buffer, E2: Buffer, E3: Buffer, E4: Buffer, E5: Buffer> Encoders5<
@@ -134,10 +138,25 @@ impl<O: Place, E1: Buffer, E2: Buffer, E3: Buffer, E4: Buffer, E5: Buffer> Encod
     where
         E1: Encoder<P1> + FieldsEncoder<F>,
         requires { t.now ≡ T.values.0 (F.whole fields.now) }
-        ensures others { KeepsOthers no_columns (T.each.variants.index t.now - O.first) (⟦<Encoders5<O, E1, E2, E3, E4, E5> as VariantColumns>⟧.columns.lists self.old) (⟦<Encoders5<O, E1, E2, E3, E4, E5> as VariantColumns>⟧.columns.lists self.new) }
-        ensures joined { OnOk result (T.each.variants.joins t.now (columns_at (T.each.variants.index t.now - O.first) (⟦<Encoders5<O, E1, E2, E3, E4, E5> as VariantColumns>⟧.columns.lists self.old)) (columns_at (T.each.variants.index t.now - O.first) (⟦<Encoders5<O, E1, E2, E3, E4, E5> as VariantColumns>⟧.columns.lists self.new))) }
-        ensures form { emptied (columns_at (T.each.variants.index t.now - O.first) (⟦<Encoders5<O, E1, E2, E3, E4, E5> as VariantColumns>⟧.columns.lists self.new)) ≡ emptied (columns_at (T.each.variants.index t.now - O.first) (⟦<Encoders5<O, E1, E2, E3, E4, E5> as VariantColumns>⟧.columns.lists self.old)) }
-        ensures refused { IfErr result (λ e. IsWritingRefusal e.reason (T.each.variants.overflows t.now (columns_at (T.each.variants.index t.now - O.first) (⟦<Encoders5<O, E1, E2, E3, E4, E5> as VariantColumns>⟧.columns.lists self.old)))) }
+        ensures others { KeepsOthers no_columns (T.each.variants.index t.now - O.first)
+            (⟦<Encoders5<O, E1, E2, E3, E4, E5> as VariantColumns>⟧.columns.lists self.old)
+            (⟦<Encoders5<O, E1, E2, E3, E4, E5> as VariantColumns>⟧.columns.lists self.new) }
+        ensures joined { OnOk result
+            (T.each.variants.joins t.now
+            (columns_at (T.each.variants.index t.now - O.first)
+            (⟦<Encoders5<O, E1, E2, E3, E4, E5> as VariantColumns>⟧.columns.lists self.old))
+            (columns_at (T.each.variants.index t.now - O.first)
+            (⟦<Encoders5<O, E1, E2, E3, E4, E5> as VariantColumns>⟧.columns.lists self.new))) }
+        ensures form { emptied
+            (columns_at (T.each.variants.index t.now - O.first)
+            (⟦<Encoders5<O, E1, E2, E3, E4, E5> as VariantColumns>⟧.columns.lists self.new))
+            ≡ emptied (columns_at (T.each.variants.index t.now - O.first)
+            (⟦<Encoders5<O, E1, E2, E3, E4, E5> as VariantColumns>⟧.columns.lists self.old)) }
+        ensures refused { IfErr result
+            (λ e. IsWritingRefusal e.reason
+            (T.each.variants.overflows t.now
+            (columns_at (T.each.variants.index t.now - O.first)
+            (⟦<Encoders5<O, E1, E2, E3, E4, E5> as VariantColumns>⟧.columns.lists self.old)))) }
     {
         encode_payload_fields(&mut self.first, fields)
     }
@@ -161,10 +180,25 @@ impl<O: Place, E1: Buffer, E2: Buffer, E3: Buffer, E4: Buffer, E5: Buffer> Encod
     where
         E2: Encoder<P2> + FieldsEncoder<F>,
         requires { t.now ≡ T.values.1 (F.whole fields.now) }
-        ensures others { KeepsOthers no_columns (T.each.variants.index t.now - O.first) (⟦<Encoders5<O, E1, E2, E3, E4, E5> as VariantColumns>⟧.columns.lists self.old) (⟦<Encoders5<O, E1, E2, E3, E4, E5> as VariantColumns>⟧.columns.lists self.new) }
-        ensures joined { OnOk result (T.each.variants.joins t.now (columns_at (T.each.variants.index t.now - O.first) (⟦<Encoders5<O, E1, E2, E3, E4, E5> as VariantColumns>⟧.columns.lists self.old)) (columns_at (T.each.variants.index t.now - O.first) (⟦<Encoders5<O, E1, E2, E3, E4, E5> as VariantColumns>⟧.columns.lists self.new))) }
-        ensures form { emptied (columns_at (T.each.variants.index t.now - O.first) (⟦<Encoders5<O, E1, E2, E3, E4, E5> as VariantColumns>⟧.columns.lists self.new)) ≡ emptied (columns_at (T.each.variants.index t.now - O.first) (⟦<Encoders5<O, E1, E2, E3, E4, E5> as VariantColumns>⟧.columns.lists self.old)) }
-        ensures refused { IfErr result (λ e. IsWritingRefusal e.reason (T.each.variants.overflows t.now (columns_at (T.each.variants.index t.now - O.first) (⟦<Encoders5<O, E1, E2, E3, E4, E5> as VariantColumns>⟧.columns.lists self.old)))) }
+        ensures others { KeepsOthers no_columns (T.each.variants.index t.now - O.first)
+            (⟦<Encoders5<O, E1, E2, E3, E4, E5> as VariantColumns>⟧.columns.lists self.old)
+            (⟦<Encoders5<O, E1, E2, E3, E4, E5> as VariantColumns>⟧.columns.lists self.new) }
+        ensures joined { OnOk result
+            (T.each.variants.joins t.now
+            (columns_at (T.each.variants.index t.now - O.first)
+            (⟦<Encoders5<O, E1, E2, E3, E4, E5> as VariantColumns>⟧.columns.lists self.old))
+            (columns_at (T.each.variants.index t.now - O.first)
+            (⟦<Encoders5<O, E1, E2, E3, E4, E5> as VariantColumns>⟧.columns.lists self.new))) }
+        ensures form { emptied
+            (columns_at (T.each.variants.index t.now - O.first)
+            (⟦<Encoders5<O, E1, E2, E3, E4, E5> as VariantColumns>⟧.columns.lists self.new))
+            ≡ emptied (columns_at (T.each.variants.index t.now - O.first)
+            (⟦<Encoders5<O, E1, E2, E3, E4, E5> as VariantColumns>⟧.columns.lists self.old)) }
+        ensures refused { IfErr result
+            (λ e. IsWritingRefusal e.reason
+            (T.each.variants.overflows t.now
+            (columns_at (T.each.variants.index t.now - O.first)
+            (⟦<Encoders5<O, E1, E2, E3, E4, E5> as VariantColumns>⟧.columns.lists self.old)))) }
     {
         encode_payload_fields(&mut self.second, fields)
     }
@@ -188,10 +222,25 @@ impl<O: Place, E1: Buffer, E2: Buffer, E3: Buffer, E4: Buffer, E5: Buffer> Encod
     where
         E3: Encoder<P3> + FieldsEncoder<F>,
         requires { t.now ≡ T.values.2 (F.whole fields.now) }
-        ensures others { KeepsOthers no_columns (T.each.variants.index t.now - O.first) (⟦<Encoders5<O, E1, E2, E3, E4, E5> as VariantColumns>⟧.columns.lists self.old) (⟦<Encoders5<O, E1, E2, E3, E4, E5> as VariantColumns>⟧.columns.lists self.new) }
-        ensures joined { OnOk result (T.each.variants.joins t.now (columns_at (T.each.variants.index t.now - O.first) (⟦<Encoders5<O, E1, E2, E3, E4, E5> as VariantColumns>⟧.columns.lists self.old)) (columns_at (T.each.variants.index t.now - O.first) (⟦<Encoders5<O, E1, E2, E3, E4, E5> as VariantColumns>⟧.columns.lists self.new))) }
-        ensures form { emptied (columns_at (T.each.variants.index t.now - O.first) (⟦<Encoders5<O, E1, E2, E3, E4, E5> as VariantColumns>⟧.columns.lists self.new)) ≡ emptied (columns_at (T.each.variants.index t.now - O.first) (⟦<Encoders5<O, E1, E2, E3, E4, E5> as VariantColumns>⟧.columns.lists self.old)) }
-        ensures refused { IfErr result (λ e. IsWritingRefusal e.reason (T.each.variants.overflows t.now (columns_at (T.each.variants.index t.now - O.first) (⟦<Encoders5<O, E1, E2, E3, E4, E5> as VariantColumns>⟧.columns.lists self.old)))) }
+        ensures others { KeepsOthers no_columns (T.each.variants.index t.now - O.first)
+            (⟦<Encoders5<O, E1, E2, E3, E4, E5> as VariantColumns>⟧.columns.lists self.old)
+            (⟦<Encoders5<O, E1, E2, E3, E4, E5> as VariantColumns>⟧.columns.lists self.new) }
+        ensures joined { OnOk result
+            (T.each.variants.joins t.now
+            (columns_at (T.each.variants.index t.now - O.first)
+            (⟦<Encoders5<O, E1, E2, E3, E4, E5> as VariantColumns>⟧.columns.lists self.old))
+            (columns_at (T.each.variants.index t.now - O.first)
+            (⟦<Encoders5<O, E1, E2, E3, E4, E5> as VariantColumns>⟧.columns.lists self.new))) }
+        ensures form { emptied
+            (columns_at (T.each.variants.index t.now - O.first)
+            (⟦<Encoders5<O, E1, E2, E3, E4, E5> as VariantColumns>⟧.columns.lists self.new))
+            ≡ emptied (columns_at (T.each.variants.index t.now - O.first)
+            (⟦<Encoders5<O, E1, E2, E3, E4, E5> as VariantColumns>⟧.columns.lists self.old)) }
+        ensures refused { IfErr result
+            (λ e. IsWritingRefusal e.reason
+            (T.each.variants.overflows t.now
+            (columns_at (T.each.variants.index t.now - O.first)
+            (⟦<Encoders5<O, E1, E2, E3, E4, E5> as VariantColumns>⟧.columns.lists self.old)))) }
     {
         encode_payload_fields(&mut self.third, fields)
     }
@@ -215,10 +264,25 @@ impl<O: Place, E1: Buffer, E2: Buffer, E3: Buffer, E4: Buffer, E5: Buffer> Encod
     where
         E4: Encoder<P4> + FieldsEncoder<F>,
         requires { t.now ≡ T.values.3 (F.whole fields.now) }
-        ensures others { KeepsOthers no_columns (T.each.variants.index t.now - O.first) (⟦<Encoders5<O, E1, E2, E3, E4, E5> as VariantColumns>⟧.columns.lists self.old) (⟦<Encoders5<O, E1, E2, E3, E4, E5> as VariantColumns>⟧.columns.lists self.new) }
-        ensures joined { OnOk result (T.each.variants.joins t.now (columns_at (T.each.variants.index t.now - O.first) (⟦<Encoders5<O, E1, E2, E3, E4, E5> as VariantColumns>⟧.columns.lists self.old)) (columns_at (T.each.variants.index t.now - O.first) (⟦<Encoders5<O, E1, E2, E3, E4, E5> as VariantColumns>⟧.columns.lists self.new))) }
-        ensures form { emptied (columns_at (T.each.variants.index t.now - O.first) (⟦<Encoders5<O, E1, E2, E3, E4, E5> as VariantColumns>⟧.columns.lists self.new)) ≡ emptied (columns_at (T.each.variants.index t.now - O.first) (⟦<Encoders5<O, E1, E2, E3, E4, E5> as VariantColumns>⟧.columns.lists self.old)) }
-        ensures refused { IfErr result (λ e. IsWritingRefusal e.reason (T.each.variants.overflows t.now (columns_at (T.each.variants.index t.now - O.first) (⟦<Encoders5<O, E1, E2, E3, E4, E5> as VariantColumns>⟧.columns.lists self.old)))) }
+        ensures others { KeepsOthers no_columns (T.each.variants.index t.now - O.first)
+            (⟦<Encoders5<O, E1, E2, E3, E4, E5> as VariantColumns>⟧.columns.lists self.old)
+            (⟦<Encoders5<O, E1, E2, E3, E4, E5> as VariantColumns>⟧.columns.lists self.new) }
+        ensures joined { OnOk result
+            (T.each.variants.joins t.now
+            (columns_at (T.each.variants.index t.now - O.first)
+            (⟦<Encoders5<O, E1, E2, E3, E4, E5> as VariantColumns>⟧.columns.lists self.old))
+            (columns_at (T.each.variants.index t.now - O.first)
+            (⟦<Encoders5<O, E1, E2, E3, E4, E5> as VariantColumns>⟧.columns.lists self.new))) }
+        ensures form { emptied
+            (columns_at (T.each.variants.index t.now - O.first)
+            (⟦<Encoders5<O, E1, E2, E3, E4, E5> as VariantColumns>⟧.columns.lists self.new))
+            ≡ emptied (columns_at (T.each.variants.index t.now - O.first)
+            (⟦<Encoders5<O, E1, E2, E3, E4, E5> as VariantColumns>⟧.columns.lists self.old)) }
+        ensures refused { IfErr result
+            (λ e. IsWritingRefusal e.reason
+            (T.each.variants.overflows t.now
+            (columns_at (T.each.variants.index t.now - O.first)
+            (⟦<Encoders5<O, E1, E2, E3, E4, E5> as VariantColumns>⟧.columns.lists self.old)))) }
     {
         encode_payload_fields(&mut self.fourth, fields)
     }
@@ -242,10 +306,25 @@ impl<O: Place, E1: Buffer, E2: Buffer, E3: Buffer, E4: Buffer, E5: Buffer> Encod
     where
         E5: Encoder<P5> + FieldsEncoder<F>,
         requires { t.now ≡ T.values.4 (F.whole fields.now) }
-        ensures others { KeepsOthers no_columns (T.each.variants.index t.now - O.first) (⟦<Encoders5<O, E1, E2, E3, E4, E5> as VariantColumns>⟧.columns.lists self.old) (⟦<Encoders5<O, E1, E2, E3, E4, E5> as VariantColumns>⟧.columns.lists self.new) }
-        ensures joined { OnOk result (T.each.variants.joins t.now (columns_at (T.each.variants.index t.now - O.first) (⟦<Encoders5<O, E1, E2, E3, E4, E5> as VariantColumns>⟧.columns.lists self.old)) (columns_at (T.each.variants.index t.now - O.first) (⟦<Encoders5<O, E1, E2, E3, E4, E5> as VariantColumns>⟧.columns.lists self.new))) }
-        ensures form { emptied (columns_at (T.each.variants.index t.now - O.first) (⟦<Encoders5<O, E1, E2, E3, E4, E5> as VariantColumns>⟧.columns.lists self.new)) ≡ emptied (columns_at (T.each.variants.index t.now - O.first) (⟦<Encoders5<O, E1, E2, E3, E4, E5> as VariantColumns>⟧.columns.lists self.old)) }
-        ensures refused { IfErr result (λ e. IsWritingRefusal e.reason (T.each.variants.overflows t.now (columns_at (T.each.variants.index t.now - O.first) (⟦<Encoders5<O, E1, E2, E3, E4, E5> as VariantColumns>⟧.columns.lists self.old)))) }
+        ensures others { KeepsOthers no_columns (T.each.variants.index t.now - O.first)
+            (⟦<Encoders5<O, E1, E2, E3, E4, E5> as VariantColumns>⟧.columns.lists self.old)
+            (⟦<Encoders5<O, E1, E2, E3, E4, E5> as VariantColumns>⟧.columns.lists self.new) }
+        ensures joined { OnOk result
+            (T.each.variants.joins t.now
+            (columns_at (T.each.variants.index t.now - O.first)
+            (⟦<Encoders5<O, E1, E2, E3, E4, E5> as VariantColumns>⟧.columns.lists self.old))
+            (columns_at (T.each.variants.index t.now - O.first)
+            (⟦<Encoders5<O, E1, E2, E3, E4, E5> as VariantColumns>⟧.columns.lists self.new))) }
+        ensures form { emptied
+            (columns_at (T.each.variants.index t.now - O.first)
+            (⟦<Encoders5<O, E1, E2, E3, E4, E5> as VariantColumns>⟧.columns.lists self.new))
+            ≡ emptied (columns_at (T.each.variants.index t.now - O.first)
+            (⟦<Encoders5<O, E1, E2, E3, E4, E5> as VariantColumns>⟧.columns.lists self.old)) }
+        ensures refused { IfErr result
+            (λ e. IsWritingRefusal e.reason
+            (T.each.variants.overflows t.now
+            (columns_at (T.each.variants.index t.now - O.first)
+            (⟦<Encoders5<O, E1, E2, E3, E4, E5> as VariantColumns>⟧.columns.lists self.old)))) }
     {
         encode_payload_fields(&mut self.fifth, fields)
     }
@@ -259,7 +338,12 @@ impl<O: Place, E1: Buffer, E2: Buffer, E3: Buffer, E4: Buffer, E5: Buffer> Varia
 
     ghost in_turn = { true };
 
-    ghost columns = { record { lists = λ e. E1.columns e.first ∷ E2.columns e.second ∷ E3.columns e.third ∷ E4.columns e.fourth ∷ E5.columns e.fifth ∷ []; capacity = λ e. E1.capacity e.first + E2.capacity e.second + E3.capacity e.third + E4.capacity e.fourth + E5.capacity e.fifth } };
+    ghost columns = { record {
+      lists = λ e. E1.columns e.first ∷ E2.columns e.second ∷ E3.columns e.third ∷ E4.columns
+          e.fourth ∷ E5.columns e.fifth ∷ [];
+      capacity = λ e. E1.capacity e.first + E2.capacity e.second + E3.capacity e.third + E4.capacity
+          e.fourth + E5.capacity e.fifth;
+    } };
 
     fn new(alloc: Global) -> Self {
         Encoders5 {
@@ -324,7 +408,19 @@ impl<
 
     ghost in_turn = { true };
 
-    ghost held = { record { lists = λ d. D1.held d.first ∷ D2.held d.second ∷ D3.held d.third ∷ D4.held d.fourth ∷ D5.held d.fifth ∷ []; owned = λ d. D1.owned d.first + D2.owned d.second + D3.owned d.third + D4.owned d.fourth + D5.owned d.fifth; faults = λ n. (fault_and D1.faults (fault_and D2.faults (fault_and D3.faults (fault_and D4.faults (fault_and D5.faults (no_faults)))))) (n - O.first); makes_free = D1.makes_free && D2.makes_free && D3.makes_free && D4.makes_free && D5.makes_free } };
+    ghost held = { record {
+      lists = λ d. D1.held d.first ∷ D2.held d.second ∷ D3.held d.third ∷ D4.held d.fourth ∷ D5.held
+          d.fifth ∷ [];
+      owned = λ d. D1.owned d.first + D2.owned d.second + D3.owned d.third + D4.owned d.fourth
+          + D5.owned d.fifth;
+      faults = λ n.
+          (fault_and D1.faults
+          (fault_and D2.faults
+          (fault_and D3.faults (fault_and D4.faults (fault_and D5.faults (no_faults))))))
+          (n - O.first);
+      makes_free = D1.makes_free && D2.makes_free && D3.makes_free && D4.makes_free &&
+          D5.makes_free;
+    } };
 
     fn new(alloc: Global) -> Self {
         Decoders5 {

@@ -102,14 +102,21 @@ pub enum OneOf6<P1, P2, P3, P4, P5, P6> {
 /// ```
 pub trait Variants6<O: Place, P1: Made, P2: Made, P3: Made, P4: Made, P5: Made, P6: Made>: Enum {
     // the value with a payload, for each of these variants
-    ghost values: { (P1 → Self) × (P2 → Self) × (P3 → Self) × (P4 → Self) × (P5 → Self) × (P6 → Self) };
+    ghost values: { (P1 → Self) × (P2 → Self) × (P3 → Self) × (P4 → Self) × (P5 → Self)
+        × (P6 → Self) };
 
     /// The value with this payload.
     fn of_payload(payload: OneOf6<P1, P2, P3, P4, P5, P6>) -> Self
-        ensures { result ≡ of_one_of_6 values.0 values.1 values.2 values.3 values.4 values.5 payload };
+        ensures { result ≡ of_one_of_6 values.0 values.1 values.2 values.3 values.4 values.5
+            payload };
 
     // these are the variants with the numbers from `O` on
-    ghost are: { IsVariant Self.Enum.each.variants O.first P1.shape P1.lists P1.makes values.0 × IsVariant Self.Enum.each.variants (O.first + 1) P2.shape P2.lists P2.makes values.1 × IsVariant Self.Enum.each.variants (O.first + 2) P3.shape P3.lists P3.makes values.2 × IsVariant Self.Enum.each.variants (O.first + 3) P4.shape P4.lists P4.makes values.3 × IsVariant Self.Enum.each.variants (O.first + 4) P5.shape P5.lists P5.makes values.4 × IsVariant Self.Enum.each.variants (O.first + 5) P6.shape P6.lists P6.makes values.5 };
+    ghost are: { IsVariant Self.Enum.each.variants O.first P1.shape P1.lists P1.makes values.0
+        × IsVariant Self.Enum.each.variants (O.first + 1) P2.shape P2.lists P2.makes values.1
+        × IsVariant Self.Enum.each.variants (O.first + 2) P3.shape P3.lists P3.makes values.2
+        × IsVariant Self.Enum.each.variants (O.first + 3) P4.shape P4.lists P4.makes values.3
+        × IsVariant Self.Enum.each.variants (O.first + 4) P5.shape P5.lists P5.makes values.4
+        × IsVariant Self.Enum.each.variants (O.first + 5) P6.shape P6.lists P6.makes values.5 };
 }
 
 impl<O: Place, E1: Buffer, E2: Buffer, E3: Buffer, E4: Buffer, E5: Buffer, E6: Buffer> Encoders6<
@@ -141,10 +148,25 @@ impl<O: Place, E1: Buffer, E2: Buffer, E3: Buffer, E4: Buffer, E5: Buffer, E6: B
     where
         E1: Encoder<P1> + FieldsEncoder<F>,
         requires { t.now ≡ T.values.0 (F.whole fields.now) }
-        ensures others { KeepsOthers no_columns (T.each.variants.index t.now - O.first) (⟦<Encoders6<O, E1, E2, E3, E4, E5, E6> as VariantColumns>⟧.columns.lists self.old) (⟦<Encoders6<O, E1, E2, E3, E4, E5, E6> as VariantColumns>⟧.columns.lists self.new) }
-        ensures joined { OnOk result (T.each.variants.joins t.now (columns_at (T.each.variants.index t.now - O.first) (⟦<Encoders6<O, E1, E2, E3, E4, E5, E6> as VariantColumns>⟧.columns.lists self.old)) (columns_at (T.each.variants.index t.now - O.first) (⟦<Encoders6<O, E1, E2, E3, E4, E5, E6> as VariantColumns>⟧.columns.lists self.new))) }
-        ensures form { emptied (columns_at (T.each.variants.index t.now - O.first) (⟦<Encoders6<O, E1, E2, E3, E4, E5, E6> as VariantColumns>⟧.columns.lists self.new)) ≡ emptied (columns_at (T.each.variants.index t.now - O.first) (⟦<Encoders6<O, E1, E2, E3, E4, E5, E6> as VariantColumns>⟧.columns.lists self.old)) }
-        ensures refused { IfErr result (λ e. IsWritingRefusal e.reason (T.each.variants.overflows t.now (columns_at (T.each.variants.index t.now - O.first) (⟦<Encoders6<O, E1, E2, E3, E4, E5, E6> as VariantColumns>⟧.columns.lists self.old)))) }
+        ensures others { KeepsOthers no_columns (T.each.variants.index t.now - O.first)
+            (⟦<Encoders6<O, E1, E2, E3, E4, E5, E6> as VariantColumns>⟧.columns.lists self.old)
+            (⟦<Encoders6<O, E1, E2, E3, E4, E5, E6> as VariantColumns>⟧.columns.lists self.new) }
+        ensures joined { OnOk result
+            (T.each.variants.joins t.now
+            (columns_at (T.each.variants.index t.now - O.first)
+            (⟦<Encoders6<O, E1, E2, E3, E4, E5, E6> as VariantColumns>⟧.columns.lists self.old))
+            (columns_at (T.each.variants.index t.now - O.first)
+            (⟦<Encoders6<O, E1, E2, E3, E4, E5, E6> as VariantColumns>⟧.columns.lists self.new))) }
+        ensures form { emptied
+            (columns_at (T.each.variants.index t.now - O.first)
+            (⟦<Encoders6<O, E1, E2, E3, E4, E5, E6> as VariantColumns>⟧.columns.lists self.new))
+            ≡ emptied (columns_at (T.each.variants.index t.now - O.first)
+            (⟦<Encoders6<O, E1, E2, E3, E4, E5, E6> as VariantColumns>⟧.columns.lists self.old)) }
+        ensures refused { IfErr result
+            (λ e. IsWritingRefusal e.reason
+            (T.each.variants.overflows t.now
+            (columns_at (T.each.variants.index t.now - O.first)
+            (⟦<Encoders6<O, E1, E2, E3, E4, E5, E6> as VariantColumns>⟧.columns.lists self.old)))) }
     {
         encode_payload_fields(&mut self.first, fields)
     }
@@ -169,10 +191,25 @@ impl<O: Place, E1: Buffer, E2: Buffer, E3: Buffer, E4: Buffer, E5: Buffer, E6: B
     where
         E2: Encoder<P2> + FieldsEncoder<F>,
         requires { t.now ≡ T.values.1 (F.whole fields.now) }
-        ensures others { KeepsOthers no_columns (T.each.variants.index t.now - O.first) (⟦<Encoders6<O, E1, E2, E3, E4, E5, E6> as VariantColumns>⟧.columns.lists self.old) (⟦<Encoders6<O, E1, E2, E3, E4, E5, E6> as VariantColumns>⟧.columns.lists self.new) }
-        ensures joined { OnOk result (T.each.variants.joins t.now (columns_at (T.each.variants.index t.now - O.first) (⟦<Encoders6<O, E1, E2, E3, E4, E5, E6> as VariantColumns>⟧.columns.lists self.old)) (columns_at (T.each.variants.index t.now - O.first) (⟦<Encoders6<O, E1, E2, E3, E4, E5, E6> as VariantColumns>⟧.columns.lists self.new))) }
-        ensures form { emptied (columns_at (T.each.variants.index t.now - O.first) (⟦<Encoders6<O, E1, E2, E3, E4, E5, E6> as VariantColumns>⟧.columns.lists self.new)) ≡ emptied (columns_at (T.each.variants.index t.now - O.first) (⟦<Encoders6<O, E1, E2, E3, E4, E5, E6> as VariantColumns>⟧.columns.lists self.old)) }
-        ensures refused { IfErr result (λ e. IsWritingRefusal e.reason (T.each.variants.overflows t.now (columns_at (T.each.variants.index t.now - O.first) (⟦<Encoders6<O, E1, E2, E3, E4, E5, E6> as VariantColumns>⟧.columns.lists self.old)))) }
+        ensures others { KeepsOthers no_columns (T.each.variants.index t.now - O.first)
+            (⟦<Encoders6<O, E1, E2, E3, E4, E5, E6> as VariantColumns>⟧.columns.lists self.old)
+            (⟦<Encoders6<O, E1, E2, E3, E4, E5, E6> as VariantColumns>⟧.columns.lists self.new) }
+        ensures joined { OnOk result
+            (T.each.variants.joins t.now
+            (columns_at (T.each.variants.index t.now - O.first)
+            (⟦<Encoders6<O, E1, E2, E3, E4, E5, E6> as VariantColumns>⟧.columns.lists self.old))
+            (columns_at (T.each.variants.index t.now - O.first)
+            (⟦<Encoders6<O, E1, E2, E3, E4, E5, E6> as VariantColumns>⟧.columns.lists self.new))) }
+        ensures form { emptied
+            (columns_at (T.each.variants.index t.now - O.first)
+            (⟦<Encoders6<O, E1, E2, E3, E4, E5, E6> as VariantColumns>⟧.columns.lists self.new))
+            ≡ emptied (columns_at (T.each.variants.index t.now - O.first)
+            (⟦<Encoders6<O, E1, E2, E3, E4, E5, E6> as VariantColumns>⟧.columns.lists self.old)) }
+        ensures refused { IfErr result
+            (λ e. IsWritingRefusal e.reason
+            (T.each.variants.overflows t.now
+            (columns_at (T.each.variants.index t.now - O.first)
+            (⟦<Encoders6<O, E1, E2, E3, E4, E5, E6> as VariantColumns>⟧.columns.lists self.old)))) }
     {
         encode_payload_fields(&mut self.second, fields)
     }
@@ -197,10 +234,25 @@ impl<O: Place, E1: Buffer, E2: Buffer, E3: Buffer, E4: Buffer, E5: Buffer, E6: B
     where
         E3: Encoder<P3> + FieldsEncoder<F>,
         requires { t.now ≡ T.values.2 (F.whole fields.now) }
-        ensures others { KeepsOthers no_columns (T.each.variants.index t.now - O.first) (⟦<Encoders6<O, E1, E2, E3, E4, E5, E6> as VariantColumns>⟧.columns.lists self.old) (⟦<Encoders6<O, E1, E2, E3, E4, E5, E6> as VariantColumns>⟧.columns.lists self.new) }
-        ensures joined { OnOk result (T.each.variants.joins t.now (columns_at (T.each.variants.index t.now - O.first) (⟦<Encoders6<O, E1, E2, E3, E4, E5, E6> as VariantColumns>⟧.columns.lists self.old)) (columns_at (T.each.variants.index t.now - O.first) (⟦<Encoders6<O, E1, E2, E3, E4, E5, E6> as VariantColumns>⟧.columns.lists self.new))) }
-        ensures form { emptied (columns_at (T.each.variants.index t.now - O.first) (⟦<Encoders6<O, E1, E2, E3, E4, E5, E6> as VariantColumns>⟧.columns.lists self.new)) ≡ emptied (columns_at (T.each.variants.index t.now - O.first) (⟦<Encoders6<O, E1, E2, E3, E4, E5, E6> as VariantColumns>⟧.columns.lists self.old)) }
-        ensures refused { IfErr result (λ e. IsWritingRefusal e.reason (T.each.variants.overflows t.now (columns_at (T.each.variants.index t.now - O.first) (⟦<Encoders6<O, E1, E2, E3, E4, E5, E6> as VariantColumns>⟧.columns.lists self.old)))) }
+        ensures others { KeepsOthers no_columns (T.each.variants.index t.now - O.first)
+            (⟦<Encoders6<O, E1, E2, E3, E4, E5, E6> as VariantColumns>⟧.columns.lists self.old)
+            (⟦<Encoders6<O, E1, E2, E3, E4, E5, E6> as VariantColumns>⟧.columns.lists self.new) }
+        ensures joined { OnOk result
+            (T.each.variants.joins t.now
+            (columns_at (T.each.variants.index t.now - O.first)
+            (⟦<Encoders6<O, E1, E2, E3, E4, E5, E6> as VariantColumns>⟧.columns.lists self.old))
+            (columns_at (T.each.variants.index t.now - O.first)
+            (⟦<Encoders6<O, E1, E2, E3, E4, E5, E6> as VariantColumns>⟧.columns.lists self.new))) }
+        ensures form { emptied
+            (columns_at (T.each.variants.index t.now - O.first)
+            (⟦<Encoders6<O, E1, E2, E3, E4, E5, E6> as VariantColumns>⟧.columns.lists self.new))
+            ≡ emptied (columns_at (T.each.variants.index t.now - O.first)
+            (⟦<Encoders6<O, E1, E2, E3, E4, E5, E6> as VariantColumns>⟧.columns.lists self.old)) }
+        ensures refused { IfErr result
+            (λ e. IsWritingRefusal e.reason
+            (T.each.variants.overflows t.now
+            (columns_at (T.each.variants.index t.now - O.first)
+            (⟦<Encoders6<O, E1, E2, E3, E4, E5, E6> as VariantColumns>⟧.columns.lists self.old)))) }
     {
         encode_payload_fields(&mut self.third, fields)
     }
@@ -225,10 +277,25 @@ impl<O: Place, E1: Buffer, E2: Buffer, E3: Buffer, E4: Buffer, E5: Buffer, E6: B
     where
         E4: Encoder<P4> + FieldsEncoder<F>,
         requires { t.now ≡ T.values.3 (F.whole fields.now) }
-        ensures others { KeepsOthers no_columns (T.each.variants.index t.now - O.first) (⟦<Encoders6<O, E1, E2, E3, E4, E5, E6> as VariantColumns>⟧.columns.lists self.old) (⟦<Encoders6<O, E1, E2, E3, E4, E5, E6> as VariantColumns>⟧.columns.lists self.new) }
-        ensures joined { OnOk result (T.each.variants.joins t.now (columns_at (T.each.variants.index t.now - O.first) (⟦<Encoders6<O, E1, E2, E3, E4, E5, E6> as VariantColumns>⟧.columns.lists self.old)) (columns_at (T.each.variants.index t.now - O.first) (⟦<Encoders6<O, E1, E2, E3, E4, E5, E6> as VariantColumns>⟧.columns.lists self.new))) }
-        ensures form { emptied (columns_at (T.each.variants.index t.now - O.first) (⟦<Encoders6<O, E1, E2, E3, E4, E5, E6> as VariantColumns>⟧.columns.lists self.new)) ≡ emptied (columns_at (T.each.variants.index t.now - O.first) (⟦<Encoders6<O, E1, E2, E3, E4, E5, E6> as VariantColumns>⟧.columns.lists self.old)) }
-        ensures refused { IfErr result (λ e. IsWritingRefusal e.reason (T.each.variants.overflows t.now (columns_at (T.each.variants.index t.now - O.first) (⟦<Encoders6<O, E1, E2, E3, E4, E5, E6> as VariantColumns>⟧.columns.lists self.old)))) }
+        ensures others { KeepsOthers no_columns (T.each.variants.index t.now - O.first)
+            (⟦<Encoders6<O, E1, E2, E3, E4, E5, E6> as VariantColumns>⟧.columns.lists self.old)
+            (⟦<Encoders6<O, E1, E2, E3, E4, E5, E6> as VariantColumns>⟧.columns.lists self.new) }
+        ensures joined { OnOk result
+            (T.each.variants.joins t.now
+            (columns_at (T.each.variants.index t.now - O.first)
+            (⟦<Encoders6<O, E1, E2, E3, E4, E5, E6> as VariantColumns>⟧.columns.lists self.old))
+            (columns_at (T.each.variants.index t.now - O.first)
+            (⟦<Encoders6<O, E1, E2, E3, E4, E5, E6> as VariantColumns>⟧.columns.lists self.new))) }
+        ensures form { emptied
+            (columns_at (T.each.variants.index t.now - O.first)
+            (⟦<Encoders6<O, E1, E2, E3, E4, E5, E6> as VariantColumns>⟧.columns.lists self.new))
+            ≡ emptied (columns_at (T.each.variants.index t.now - O.first)
+            (⟦<Encoders6<O, E1, E2, E3, E4, E5, E6> as VariantColumns>⟧.columns.lists self.old)) }
+        ensures refused { IfErr result
+            (λ e. IsWritingRefusal e.reason
+            (T.each.variants.overflows t.now
+            (columns_at (T.each.variants.index t.now - O.first)
+            (⟦<Encoders6<O, E1, E2, E3, E4, E5, E6> as VariantColumns>⟧.columns.lists self.old)))) }
     {
         encode_payload_fields(&mut self.fourth, fields)
     }
@@ -253,10 +320,25 @@ impl<O: Place, E1: Buffer, E2: Buffer, E3: Buffer, E4: Buffer, E5: Buffer, E6: B
     where
         E5: Encoder<P5> + FieldsEncoder<F>,
         requires { t.now ≡ T.values.4 (F.whole fields.now) }
-        ensures others { KeepsOthers no_columns (T.each.variants.index t.now - O.first) (⟦<Encoders6<O, E1, E2, E3, E4, E5, E6> as VariantColumns>⟧.columns.lists self.old) (⟦<Encoders6<O, E1, E2, E3, E4, E5, E6> as VariantColumns>⟧.columns.lists self.new) }
-        ensures joined { OnOk result (T.each.variants.joins t.now (columns_at (T.each.variants.index t.now - O.first) (⟦<Encoders6<O, E1, E2, E3, E4, E5, E6> as VariantColumns>⟧.columns.lists self.old)) (columns_at (T.each.variants.index t.now - O.first) (⟦<Encoders6<O, E1, E2, E3, E4, E5, E6> as VariantColumns>⟧.columns.lists self.new))) }
-        ensures form { emptied (columns_at (T.each.variants.index t.now - O.first) (⟦<Encoders6<O, E1, E2, E3, E4, E5, E6> as VariantColumns>⟧.columns.lists self.new)) ≡ emptied (columns_at (T.each.variants.index t.now - O.first) (⟦<Encoders6<O, E1, E2, E3, E4, E5, E6> as VariantColumns>⟧.columns.lists self.old)) }
-        ensures refused { IfErr result (λ e. IsWritingRefusal e.reason (T.each.variants.overflows t.now (columns_at (T.each.variants.index t.now - O.first) (⟦<Encoders6<O, E1, E2, E3, E4, E5, E6> as VariantColumns>⟧.columns.lists self.old)))) }
+        ensures others { KeepsOthers no_columns (T.each.variants.index t.now - O.first)
+            (⟦<Encoders6<O, E1, E2, E3, E4, E5, E6> as VariantColumns>⟧.columns.lists self.old)
+            (⟦<Encoders6<O, E1, E2, E3, E4, E5, E6> as VariantColumns>⟧.columns.lists self.new) }
+        ensures joined { OnOk result
+            (T.each.variants.joins t.now
+            (columns_at (T.each.variants.index t.now - O.first)
+            (⟦<Encoders6<O, E1, E2, E3, E4, E5, E6> as VariantColumns>⟧.columns.lists self.old))
+            (columns_at (T.each.variants.index t.now - O.first)
+            (⟦<Encoders6<O, E1, E2, E3, E4, E5, E6> as VariantColumns>⟧.columns.lists self.new))) }
+        ensures form { emptied
+            (columns_at (T.each.variants.index t.now - O.first)
+            (⟦<Encoders6<O, E1, E2, E3, E4, E5, E6> as VariantColumns>⟧.columns.lists self.new))
+            ≡ emptied (columns_at (T.each.variants.index t.now - O.first)
+            (⟦<Encoders6<O, E1, E2, E3, E4, E5, E6> as VariantColumns>⟧.columns.lists self.old)) }
+        ensures refused { IfErr result
+            (λ e. IsWritingRefusal e.reason
+            (T.each.variants.overflows t.now
+            (columns_at (T.each.variants.index t.now - O.first)
+            (⟦<Encoders6<O, E1, E2, E3, E4, E5, E6> as VariantColumns>⟧.columns.lists self.old)))) }
     {
         encode_payload_fields(&mut self.fifth, fields)
     }
@@ -281,10 +363,25 @@ impl<O: Place, E1: Buffer, E2: Buffer, E3: Buffer, E4: Buffer, E5: Buffer, E6: B
     where
         E6: Encoder<P6> + FieldsEncoder<F>,
         requires { t.now ≡ T.values.5 (F.whole fields.now) }
-        ensures others { KeepsOthers no_columns (T.each.variants.index t.now - O.first) (⟦<Encoders6<O, E1, E2, E3, E4, E5, E6> as VariantColumns>⟧.columns.lists self.old) (⟦<Encoders6<O, E1, E2, E3, E4, E5, E6> as VariantColumns>⟧.columns.lists self.new) }
-        ensures joined { OnOk result (T.each.variants.joins t.now (columns_at (T.each.variants.index t.now - O.first) (⟦<Encoders6<O, E1, E2, E3, E4, E5, E6> as VariantColumns>⟧.columns.lists self.old)) (columns_at (T.each.variants.index t.now - O.first) (⟦<Encoders6<O, E1, E2, E3, E4, E5, E6> as VariantColumns>⟧.columns.lists self.new))) }
-        ensures form { emptied (columns_at (T.each.variants.index t.now - O.first) (⟦<Encoders6<O, E1, E2, E3, E4, E5, E6> as VariantColumns>⟧.columns.lists self.new)) ≡ emptied (columns_at (T.each.variants.index t.now - O.first) (⟦<Encoders6<O, E1, E2, E3, E4, E5, E6> as VariantColumns>⟧.columns.lists self.old)) }
-        ensures refused { IfErr result (λ e. IsWritingRefusal e.reason (T.each.variants.overflows t.now (columns_at (T.each.variants.index t.now - O.first) (⟦<Encoders6<O, E1, E2, E3, E4, E5, E6> as VariantColumns>⟧.columns.lists self.old)))) }
+        ensures others { KeepsOthers no_columns (T.each.variants.index t.now - O.first)
+            (⟦<Encoders6<O, E1, E2, E3, E4, E5, E6> as VariantColumns>⟧.columns.lists self.old)
+            (⟦<Encoders6<O, E1, E2, E3, E4, E5, E6> as VariantColumns>⟧.columns.lists self.new) }
+        ensures joined { OnOk result
+            (T.each.variants.joins t.now
+            (columns_at (T.each.variants.index t.now - O.first)
+            (⟦<Encoders6<O, E1, E2, E3, E4, E5, E6> as VariantColumns>⟧.columns.lists self.old))
+            (columns_at (T.each.variants.index t.now - O.first)
+            (⟦<Encoders6<O, E1, E2, E3, E4, E5, E6> as VariantColumns>⟧.columns.lists self.new))) }
+        ensures form { emptied
+            (columns_at (T.each.variants.index t.now - O.first)
+            (⟦<Encoders6<O, E1, E2, E3, E4, E5, E6> as VariantColumns>⟧.columns.lists self.new))
+            ≡ emptied (columns_at (T.each.variants.index t.now - O.first)
+            (⟦<Encoders6<O, E1, E2, E3, E4, E5, E6> as VariantColumns>⟧.columns.lists self.old)) }
+        ensures refused { IfErr result
+            (λ e. IsWritingRefusal e.reason
+            (T.each.variants.overflows t.now
+            (columns_at (T.each.variants.index t.now - O.first)
+            (⟦<Encoders6<O, E1, E2, E3, E4, E5, E6> as VariantColumns>⟧.columns.lists self.old)))) }
     {
         encode_payload_fields(&mut self.sixth, fields)
     }
@@ -305,7 +402,12 @@ impl<
 
     ghost in_turn = { true };
 
-    ghost columns = { record { lists = λ e. E1.columns e.first ∷ E2.columns e.second ∷ E3.columns e.third ∷ E4.columns e.fourth ∷ E5.columns e.fifth ∷ E6.columns e.sixth ∷ []; capacity = λ e. E1.capacity e.first + E2.capacity e.second + E3.capacity e.third + E4.capacity e.fourth + E5.capacity e.fifth + E6.capacity e.sixth } };
+    ghost columns = { record {
+      lists = λ e. E1.columns e.first ∷ E2.columns e.second ∷ E3.columns e.third ∷ E4.columns
+          e.fourth ∷ E5.columns e.fifth ∷ E6.columns e.sixth ∷ [];
+      capacity = λ e. E1.capacity e.first + E2.capacity e.second + E3.capacity e.third + E4.capacity
+          e.fourth + E5.capacity e.fifth + E6.capacity e.sixth;
+    } };
 
     fn new(alloc: Global) -> Self {
         Encoders6 {
@@ -375,7 +477,20 @@ impl<
 
     ghost in_turn = { true };
 
-    ghost held = { record { lists = λ d. D1.held d.first ∷ D2.held d.second ∷ D3.held d.third ∷ D4.held d.fourth ∷ D5.held d.fifth ∷ D6.held d.sixth ∷ []; owned = λ d. D1.owned d.first + D2.owned d.second + D3.owned d.third + D4.owned d.fourth + D5.owned d.fifth + D6.owned d.sixth; faults = λ n. (fault_and D1.faults (fault_and D2.faults (fault_and D3.faults (fault_and D4.faults (fault_and D5.faults (fault_and D6.faults (no_faults))))))) (n - O.first); makes_free = D1.makes_free && D2.makes_free && D3.makes_free && D4.makes_free && D5.makes_free && D6.makes_free } };
+    ghost held = { record {
+      lists = λ d. D1.held d.first ∷ D2.held d.second ∷ D3.held d.third ∷ D4.held d.fourth ∷ D5.held
+          d.fifth ∷ D6.held d.sixth ∷ [];
+      owned = λ d. D1.owned d.first + D2.owned d.second + D3.owned d.third + D4.owned d.fourth
+          + D5.owned d.fifth + D6.owned d.sixth;
+      faults = λ n.
+          (fault_and D1.faults
+          (fault_and D2.faults
+          (fault_and D3.faults
+          (fault_and D4.faults (fault_and D5.faults (fault_and D6.faults (no_faults)))))))
+          (n - O.first);
+      makes_free = D1.makes_free && D2.makes_free && D3.makes_free && D4.makes_free && D5.makes_free
+          && D6.makes_free;
+    } };
 
     fn new(alloc: Global) -> Self {
         Decoders6 {

@@ -51,7 +51,8 @@ pub fn gather_variants<S, T, W: Part<S, T>, V: SaysVariant<T>>(
     variants: &mut [u8; MAX_VECTORED_CHUNK],
 )
     requires { length items.now ≤ MAX_VECTORED_CHUNK }
-    ensures gathered { take (length items.now) variants.new ≡ map V.variant (map (W.of which.now) items.now) }
+    ensures gathered { take (length items.now) variants.new ≡ map V.variant
+        (map (W.of which.now) items.now) }
     ensures known { All (λ variant. variant < V.count) (take (length items.now) variants.new) }
     ensures rest { drop (length items.now) variants.new ≡ drop (length items.now) variants.old }
 {

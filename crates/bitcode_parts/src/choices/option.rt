@@ -39,7 +39,8 @@ pub struct OptionEncoder<E> {
 }
 
 impl<E: HoldsColumns> HoldsColumns for OptionEncoder<E> {
-    ghost columns = { λ e. two (⟦<VariantEncoder<2> as HoldsColumns>⟧.columns e.variants) (two no_columns (two (E.columns e.some) no_columns)) };
+    ghost columns = { λ e. two (⟦<VariantEncoder<2> as HoldsColumns>⟧.columns e.variants)
+        (two no_columns (two (E.columns e.some) no_columns)) };
 
     ghost room = { λ e. variant_room e.variants };
 
@@ -138,7 +139,8 @@ pub struct OptionDecoder<'a, D> {
 impl<'a, D: HoldsData> HoldsData for OptionDecoder<'a, D> {
     ghost shape = { choice_shape (shape_and unit_shape (shape_and D.shape no_shapes)) };
 
-    ghost held = { λ d. choices_of (variants_left d.variants) (⟦<EmptyCoder as HoldsData>⟧.held d.none ∷ D.held d.some ∷ []) };
+    ghost held = { λ d. choices_of (variants_left d.variants)
+        (⟦<EmptyCoder as HoldsData>⟧.held d.none ∷ D.held d.some ∷ []) };
 
     ghost owned = { λ d. variants_owned d.variants + D.owned d.some };
 }

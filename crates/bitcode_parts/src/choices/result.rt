@@ -30,7 +30,8 @@ pub struct ResultEncoder<A, B> {
 }
 
 impl<A: HoldsColumns, B: HoldsColumns> HoldsColumns for ResultEncoder<A, B> {
-    ghost columns = { λ e. two (⟦<VariantEncoder<2> as HoldsColumns>⟧.columns e.variants) (two (A.columns e.ok) (two (B.columns e.err) no_columns)) };
+    ghost columns = { λ e. two (⟦<VariantEncoder<2> as HoldsColumns>⟧.columns e.variants)
+        (two (A.columns e.ok) (two (B.columns e.err) no_columns)) };
 
     ghost room = { λ e. variant_room e.variants };
 

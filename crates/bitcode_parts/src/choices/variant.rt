@@ -1,13 +1,15 @@
 //! The variants of enums: their encoder, their decoder, and encoding a payload.
 #![tactic(auto, unfolding(crate::specs::Variants::written_variants, crate::specs::Variants::variant_room, crate::specs::Variants::variant_capacity, crate::specs::Variants::variants_left, crate::specs::Variants::variant_counts, crate::specs::Variants::variants_owned))]
 
-ghost use Rattle.std.specs.Prelude.{◌≡◌, false, ◌+◌, ◌<◌, ◌≤◌, ◌++◌, [], ◌∷◌, length, map, slice_index, All, IsTrue, ◌↔◌, IfOk, OnOk, IfErr, OnErr};
+ghost use Rattle.std.specs.Prelude.{◌≡◌, false, ◌+◌, ◌<◌, ◌≤◌, ◌++◌, [], ◌∷◌, length, map, slice_index, All, IsTrue};
+ghost use Rattle.std.specs.Prelude.{◌↔◌, IfOk, OnOk, IfErr, OnErr};
 ghost use Rattle.bitcode_columns.specs.Fast.{fast_items};
 ghost use Rattle.bitcode_columns.specs.Histogram.{AreCounts};
 ghost use Rattle.bitcode_columns.specs.Reading.{Reads, IsEndOf};
 ghost use Rattle.bitcode_columns.specs.VariantColumn.{SpellsVariants, variant_text};
 ghost use Rattle.bitcode_coder.specs.Columns.{variants, one, emptied};
-ghost use Rattle.bitcode_coder.specs.Coder.{JoinsListing, OverflowsWithListing, JoinsEach, OverflowsWithEach, IsWritingRefusal};
+ghost use Rattle.bitcode_coder.specs.Coder.{JoinsListing, OverflowsWithListing, JoinsEach, OverflowsWithEach};
+ghost use Rattle.bitcode_coder.specs.Coder.{IsWritingRefusal};
 ghost use Rattle.bitcode_coder.specs.Faults.{NamesVariantsFault};
 ghost use Rattle.bitcode_coder.specs.Spelling.{natural};
 
@@ -144,8 +146,10 @@ impl<'a, const N: usize, const C_STYLE: bool> VariantDecoder<'a, N, C_STYLE> {
     /// If bytes are missing, the error is `EOF`; if a variant is not below `N`, `invalid packing`; if an allocation
     /// fails, `out of memory`. With 17 variants or more it does not allocate.
     pub fn populate(&mut self, input: &mut &'a [u8], k: usize) -> Result<(), Error>
-        ensures read { OnOk result (Reads (SpellsVariants N) k input.old.now (variants_left self.new) input.new.now) }
-        ensures counts { OnOk result (C_STYLE ≡ false → AreCounts N (variants_left self.new) (variant_counts self.new)) }
+        ensures read { OnOk result
+            (Reads (SpellsVariants N) k input.old.now (variants_left self.new) input.new.now) }
+        ensures counts { OnOk result
+            (C_STYLE ≡ false → AreCounts N (variants_left self.new) (variant_counts self.new)) }
         ensures refused { IfErr result (λ e. NamesVariantsFault N e.reason k input.old.now) }
         ensures rest { OnErr result (IsEndOf input.old.now input.new.now) }
     {
@@ -156,9 +160,13 @@ impl<'a, const N: usize, const C_STYLE: bool> VariantDecoder<'a, N, C_STYLE> {
     /// Reads `k` variants as [`VariantDecoder::populate`] does. If `strict`, it returns whether their bytes are those
     /// that would be written for them. Otherwise the returned bool has no meaning.
     pub fn read(&mut self, input: &mut &'a [u8], k: usize, strict: bool) -> Result<bool, Error>
-        ensures read { OnOk result (Reads (SpellsVariants N) k input.old.now (variants_left self.new) input.new.now) }
-        ensures judged { IsTrue strict → IfOk result (λ written. IsTrue written ↔ (input.old.now ≡ variant_text N (variants_left self.new) ++ input.new.now)) }
-        ensures counts { OnOk result (C_STYLE ≡ false → AreCounts N (variants_left self.new) (variant_counts self.new)) }
+        ensures read { OnOk result
+            (Reads (SpellsVariants N) k input.old.now (variants_left self.new) input.new.now) }
+        ensures judged { IsTrue strict → IfOk result
+            (λ written. IsTrue written
+            ↔ (input.old.now ≡ variant_text N (variants_left self.new) ++ input.new.now)) }
+        ensures counts { OnOk result
+            (C_STYLE ≡ false → AreCounts N (variants_left self.new) (variant_counts self.new)) }
         ensures refused { IfErr result (λ e. NamesVariantsFault N e.reason k input.old.now) }
         ensures rest { OnErr result (IsEndOf input.old.now input.new.now) }
     {
@@ -249,9 +257,12 @@ pub fn encode_payload<T: Shaped, E: Buffer + Encoder<T>>(
     encoder: &mut E,
     t: &T,
 ) -> Result<(), Error>
-    ensures joined { OnOk result (JoinsListing T.lists T.shape t.now (E.columns encoder.old) (E.columns encoder.new)) }
+    ensures joined { OnOk result
+        (JoinsListing T.lists T.shape t.now (E.columns encoder.old) (E.columns encoder.new)) }
     ensures form { emptied (E.columns encoder.new) ≡ emptied (E.columns encoder.old) }
-    ensures refused { IfErr result (λ e. IsWritingRefusal e.reason (OverflowsWithListing T.lists T.shape t.now (E.columns encoder.old))) }
+    ensures refused { IfErr result
+        (λ e. IsWritingRefusal e.reason
+        (OverflowsWithListing T.lists T.shape t.now (E.columns encoder.old))) }
 {
     t.told();
     encoder.reserve(1)?;
@@ -269,9 +280,14 @@ pub fn encode_payloads<T: Shaped, E: Buffer + Encoder<T>>(
     several: &[&T],
 ) -> Result<(), Error>
     requires { (0 < length several.now) × (length several.now ≤ MAX_VECTORED_CHUNK) }
-    ensures joined { OnOk result (JoinsEach T.lists T.shape (map (λ t. t.now) several.now) (E.columns encoder.old) (E.columns encoder.new)) }
+    ensures joined { OnOk result
+        (JoinsEach T.lists T.shape (map (λ t. t.now) several.now) (E.columns encoder.old)
+        (E.columns encoder.new)) }
     ensures form { emptied (E.columns encoder.new) ≡ emptied (E.columns encoder.old) }
-    ensures refused { IfErr result (λ e. IsWritingRefusal e.reason (OverflowsWithEach T.lists T.shape (map (λ t. t.now) several.now) (E.columns encoder.old))) }
+    ensures refused { IfErr result
+        (λ e. IsWritingRefusal e.reason
+        (OverflowsWithEach T.lists T.shape (map (λ t. t.now) several.now)
+        (E.columns encoder.old))) }
 {
     told_behind(several);
     encoder.reserve(several.len())?;

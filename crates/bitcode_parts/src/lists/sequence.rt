@@ -1,6 +1,7 @@
 //! Sequences: iterators that lend elements, encoding and decoding elements one by one, and the types that are written
 //! as, and made from, the sequence of their elements.
-ghost use Rattle.std.specs.Prelude.{◌≡◌, ◌≢◌, ◌+◌, ◌≤◌, List, [], ◌∷◌, None, length, All, refl, IsTrue, IsFalse, IsOk, IfOk, OnOk, IfErr, IfSome, IfNone};
+ghost use Rattle.std.specs.Prelude.{◌≡◌, ◌≢◌, ◌+◌, ◌≤◌, List, [], ◌∷◌, None, length, All, refl, IsTrue, IsFalse, IsOk};
+ghost use Rattle.std.specs.Prelude.{IfOk, OnOk, IfErr, IfSome, IfNone};
 ghost use Rattle.std.specs.Slice.Iter.{iter_rest};
 ghost use Rattle.std.specs.VecDeque.{deque_items};
 ghost use Rattle.std.specs.VecDeque.Iter.{deque_iter_rest};
@@ -9,7 +10,8 @@ ghost use Rattle.bitcode_shapes.specs.Datum.{Datum};
 ghost use Rattle.bitcode_shapes.specs.Shape.{seq_shape};
 ghost use Rattle.bitcode_shapes.specs.Lists.{ListsSequence};
 ghost use Rattle.bitcode_coder.specs.Columns.{emptied};
-ghost use Rattle.bitcode_coder.specs.Coder.{written_columns, BeginsWith, JoinsEach, WritesEach, OverflowsWithEach, IsWritingRefusal, TakesEach};
+ghost use Rattle.bitcode_coder.specs.Coder.{written_columns, BeginsWith, JoinsEach, WritesEach, OverflowsWithEach};
+ghost use Rattle.bitcode_coder.specs.Coder.{IsWritingRefusal, TakesEach};
 ghost use Rattle.bitcode_parts.specs.Elements.{MakesOfElements};
 
 use bitcode_coder::coder::{Decoder, Encoder};
@@ -77,10 +79,14 @@ pub fn encode_lent<'b, T: Shaped + 'b, L: Lends<'b, T>, E: Encoder<T>>(
 ) -> Result<(), Error>
     requires room { length (L.rest lent) ≤ E.room elements.old }
     requires values { All T.is_value (L.rest lent) }
-    ensures joined { OnOk result (JoinsEach T.lists T.shape (L.rest lent) (E.columns elements.old) (E.columns elements.new)) }
+    ensures joined { OnOk result
+        (JoinsEach T.lists T.shape (L.rest lent) (E.columns elements.old)
+        (E.columns elements.new)) }
     ensures room { OnOk result (E.room elements.old ≤ E.room elements.new + length (L.rest lent)) }
     ensures form { emptied (E.columns elements.new) ≡ emptied (E.columns elements.old) }
-    ensures refused { IfErr result (λ e. IsWritingRefusal e.reason (OverflowsWithEach T.lists T.shape (L.rest lent) (E.columns elements.old))) }
+    ensures refused { IfErr result
+        (λ e. IsWritingRefusal e.reason
+        (OverflowsWithEach T.lists T.shape (L.rest lent) (E.columns elements.old))) }
     ensures free { IsTrue E.writes_free → IfErr result (λ e. e.reason ≢ Reason.OutOfMemory) }
     ensures none { length (L.rest lent) ≡ 0 → IsOk result }
 {
@@ -102,10 +108,13 @@ pub fn encode_lent<'b, T: Shaped + 'b, L: Lends<'b, T>, E: Encoder<T>>(
 /// ```
 pub fn encode_each<T: Shaped, E: Encoder<T>>(elements: &mut E, items: &[T]) -> Result<(), Error>
     requires { length items.now ≤ E.room elements.old }
-    ensures joined { OnOk result (JoinsEach T.lists T.shape items.now (E.columns elements.old) (E.columns elements.new)) }
+    ensures joined { OnOk result
+        (JoinsEach T.lists T.shape items.now (E.columns elements.old) (E.columns elements.new)) }
     ensures room { OnOk result (E.room elements.old ≤ E.room elements.new + length items.now) }
     ensures form { emptied (E.columns elements.new) ≡ emptied (E.columns elements.old) }
-    ensures refused { IfErr result (λ e. IsWritingRefusal e.reason (OverflowsWithEach T.lists T.shape items.now (E.columns elements.old))) }
+    ensures refused { IfErr result
+        (λ e. IsWritingRefusal e.reason
+        (OverflowsWithEach T.lists T.shape items.now (E.columns elements.old))) }
     ensures free { IsTrue E.writes_free → IfErr result (λ e. e.reason ≢ Reason.OutOfMemory) }
     ensures none { length items.now ≡ 0 → IsOk result }
 {
@@ -129,7 +138,8 @@ pub fn decode_each<T: Made + Drop, D: Decoder<T>>(
     count: usize,
 ) -> Result<Vec<T>, Error>
     requires { count ≤ length (D.held elements.old) }
-    ensures made { IfOk result (λ items. TakesEach T.makes count items.items (D.held elements.old) (D.held elements.new)) }
+    ensures made { IfOk result
+        (λ items. TakesEach T.makes count items.items (D.held elements.old) (D.held elements.new)) }
     ensures refused { IfErr result (λ e. e.reason ≡ Reason.OutOfMemory) }
     ensures none { count ≡ 0 → IsOk result }
 {
@@ -169,10 +179,16 @@ pub trait Sequence: Shaped {
     fn encode_elements<E: Encoder<Self::Element>>(&self, elements: &mut E) -> Result<(), Error>
         requires room { length (items self.now) ≤ E.room elements.old }
         requires values { All Self.Element.is_value (items self.now) }
-        ensures joined { OnOk result (JoinsEach Self.Element.lists Self.Element.shape (items self.now) (E.columns elements.old) (E.columns elements.new)) }
-        ensures room { OnOk result (E.room elements.old ≤ E.room elements.new + length (items self.now)) }
+        ensures joined { OnOk result
+            (JoinsEach Self.Element.lists Self.Element.shape (items self.now)
+            (E.columns elements.old) (E.columns elements.new)) }
+        ensures room { OnOk result
+            (E.room elements.old ≤ E.room elements.new + length (items self.now)) }
         ensures form { emptied (E.columns elements.new) ≡ emptied (E.columns elements.old) }
-        ensures refused { IfErr result (λ e. IsWritingRefusal e.reason (OverflowsWithEach Self.Element.lists Self.Element.shape (items self.now) (E.columns elements.old))) };
+        ensures refused { IfErr result
+            (λ e. IsWritingRefusal e.reason
+            (OverflowsWithEach Self.Element.lists Self.Element.shape (items self.now)
+            (E.columns elements.old))) };
 
     /// Appends the columns of the elements to `out`, if the elements form a slice and their encoder can do so without a
     /// copy of them. The columns of the encoder must be empty. Returns whether it did. If not, `out` is unchanged.
@@ -184,7 +200,9 @@ pub trait Sequence: Shaped {
         _out: &mut Vec<u8>,
     ) -> Result<bool, Error>
         requires { E.columns _elements.now ≡ emptied (E.columns _elements.now) }
-        ensures written { IfOk result (λ done. IsTrue done → WritesEach Self.Element.lists Self.Element.shape (items self.now) (E.columns _elements.now) _out.old.items _out.new.items) }
+        ensures written { IfOk result
+            (λ done. IsTrue done → WritesEach Self.Element.lists Self.Element.shape (items self.now)
+            (E.columns _elements.now) _out.old.items _out.new.items) }
         ensures unchanged { IfOk result (λ done. IsFalse done → _out.new.items ≡ _out.old.items) }
         ensures begins { BeginsWith _out.old.items _out.new.items }
         ensures refused { IfErr result (λ e. e.reason ≡ Reason.OutOfMemory) }
@@ -194,9 +212,11 @@ pub trait Sequence: Shaped {
 
     ghost items_are: { (t : Self) → Self.is_value t → All Self.Element.is_value (items t) };
 
-    ghost items_list: { (t : Self) (d : Datum) → ListsSequence Self.Element.lists (items t) d → Self.lists t d };
+    ghost items_list: { (t : Self) (d : Datum) → ListsSequence Self.Element.lists (items t) d
+        → Self.lists t d };
 
-    ghost items_columns: { (ds : List Datum) → written_columns Self.shape ds ≡ written_columns (seq_shape None Self.Element.shape) ds };
+    ghost items_columns: { (ds : List Datum)
+        → written_columns Self.shape ds ≡ written_columns (seq_shape None Self.Element.shape) ds };
 }
 
 impl<T: Shaped> Sequence for Vec<T> {
@@ -315,7 +335,8 @@ pub trait FromElements: Made {
     ///
     /// The only error is `out of memory`.
     fn from_elements(alloc: Global, elements: Vec<Self::Part>) -> Result<Self, Error>
-        ensures made { IfOk result (λ t. MakesOfElements Self.makes Self.Part.makes t elements.items) }
+        ensures made { IfOk result
+            (λ t. MakesOfElements Self.makes Self.Part.makes t elements.items) }
         ensures refused { IfErr result (λ e. e.reason ≡ Reason.OutOfMemory) };
 }
 
@@ -323,7 +344,8 @@ impl<T: Made + Drop> FromElements for Vec<T> {
     type Part = T;
 
     fn from_elements(_alloc: Global, elements: Vec<T>) -> Result<Vec<T>, Error>
-        ensures made { IfOk result (λ t. MakesOfElements ⟦<Vec<T> as Made>⟧.makes T.makes t elements.items) }
+        ensures made { IfOk result
+            (λ t. MakesOfElements ⟦<Vec<T> as Made>⟧.makes T.makes t elements.items) }
         ensures refused { IfErr result (λ e. e.reason ≡ Reason.OutOfMemory) }
     {
         Ok(elements)
@@ -334,7 +356,8 @@ impl<T: Made + Drop> FromElements for VecDeque<T> {
     type Part = T;
 
     fn from_elements(_alloc: Global, elements: Vec<T>) -> Result<VecDeque<T>, Error>
-        ensures made { IfOk result (λ t. MakesOfElements ⟦<VecDeque<T> as Made>⟧.makes T.makes t elements.items) }
+        ensures made { IfOk result
+            (λ t. MakesOfElements ⟦<VecDeque<T> as Made>⟧.makes T.makes t elements.items) }
         ensures refused { IfErr result (λ e. e.reason ≡ Reason.OutOfMemory) }
     {
         Ok(VecDeque::from(elements))
@@ -345,7 +368,8 @@ impl<T: Made + Drop> FromElements for LinkedList<T> {
     type Part = T;
 
     fn from_elements(alloc: Global, elements: Vec<T>) -> Result<LinkedList<T>, Error>
-        ensures made { IfOk result (λ t. MakesOfElements ⟦<LinkedList<T> as Made>⟧.makes T.makes t elements.items) }
+        ensures made { IfOk result
+            (λ t. MakesOfElements ⟦<LinkedList<T> as Made>⟧.makes T.makes t elements.items) }
         ensures refused { IfErr result (λ e. e.reason ≡ Reason.OutOfMemory) }
     {
         let mut list = LinkedList::new(alloc);

@@ -1,12 +1,14 @@
 //! The coders of sequences: the lengths of all sequences, followed by the columns of all elements.
 #![tactic(auto, unfolding(bitcode_coder::specs::Length::lengths_left, bitcode_coder::specs::Length::lengths_sum))]
 
-ghost use Rattle.std.specs.Prelude.{◌≡◌, ◌+◌, ◌*◌, ◌<◌, ◌≤◌, [], None, length, map, take, false, IfOk, OnOk, IfErr, ◌⊎◌};
+ghost use Rattle.std.specs.Prelude.{◌≡◌, ◌+◌, ◌*◌, ◌<◌, ◌≤◌, [], None, length, map, take, false, IfOk, OnOk, IfErr};
+ghost use Rattle.std.specs.Prelude.{◌⊎◌};
 ghost use Rattle.std.proofs.Common.{sym, ap, ◌∙◌};
 ghost use Rattle.bitcode_shapes.specs.Shape.{seq_shape};
 ghost use Rattle.bitcode_coder.specs.Coder.{JoinsEach, OverflowsWithEach, IsWritingRefusal, TakesDatum};
 ghost use Rattle.bitcode_coder.specs.Columns.{emptied, lengths, one, two};
-ghost use Rattle.bitcode_coder.specs.Length.{written_lengths, length_room, lengths_left, length_capacity, lengths_owned};
+ghost use Rattle.bitcode_coder.specs.Length.{written_lengths, length_room, lengths_left, length_capacity};
+ghost use Rattle.bitcode_coder.specs.Length.{lengths_owned};
 ghost use Rattle.bitcode_coder.specs.LengthParts.{NamesLengthFault};
 ghost use Rattle.bitcode_parts.specs.Lists.{lists_of, list_columns, FaultsInElements};
 
@@ -58,7 +60,8 @@ fn push_short<I, S: Sequence, W: Part<I, S>, E: Encoder<S::Element>>(
     requires sizes { length items.now ≤ length_room sizes }
     requires elements { 15 * length items.now ≤ E.room elements.old }
     ensures count { IfOk result (λ p. p.count ≤ length items.now) }
-    ensures joined { IfOk result (λ p. JoinsEach S.lists S.shape (map (W.of which.now) (take p.count items.now))
+    ensures joined { IfOk result
+        (λ p. JoinsEach S.lists S.shape (map (W.of which.now) (take p.count items.now))
         (list_columns (written_lengths sizes) (E.columns elements.old))
         (list_columns (written_lengths p.lengths) (E.columns elements.new))) }
     ensures room { IfOk result (λ p. length_room sizes ≡ length_room p.lengths + p.count) }
@@ -99,8 +102,10 @@ impl<E> VecEncoder<E> {
         ensures joined { OnOk result (JoinsEach S.lists S.shape (map (W.of which.now) items.now)
             (list_columns (written_lengths self.old.lengths) (E.columns self.old.elements))
             (list_columns (written_lengths self.new.lengths) (E.columns self.new.elements))) }
-        ensures room { OnOk result (length_room self.old.lengths ≤ length_room self.new.lengths + length items.now) }
-        ensures form { emptied (E.columns self.new.elements) ≡ emptied (E.columns self.old.elements) }
+        ensures room { OnOk result
+            (length_room self.old.lengths ≤ length_room self.new.lengths + length items.now) }
+        ensures form { emptied (E.columns self.new.elements) ≡ emptied
+            (E.columns self.old.elements) }
         ensures refused { IfErr result (λ e. IsWritingRefusal e.reason
             (OverflowsWithEach S.lists S.shape (map (W.of which.now) items.now)
             (list_columns (written_lengths self.old.lengths) (E.columns self.old.elements)))) }
@@ -124,11 +129,14 @@ impl<E> VecEncoder<E> {
         requires chunk { length items.now ≤ MAX_VECTORED_CHUNK }
         requires room { length items.now ≤ length_room self.old.lengths }
         ensures count { IfOk result (λ n. n ≤ length items.now) }
-        ensures joined { IfOk result (λ n. JoinsEach S.lists S.shape (map (W.of which.now) (take n items.now))
+        ensures joined { IfOk result
+            (λ n. JoinsEach S.lists S.shape (map (W.of which.now) (take n items.now))
             (list_columns (written_lengths self.old.lengths) (E.columns self.old.elements))
             (list_columns (written_lengths self.new.lengths) (E.columns self.new.elements))) }
-        ensures room { IfOk result (λ n. length_room self.old.lengths ≤ length_room self.new.lengths + n) }
-        ensures form { emptied (E.columns self.new.elements) ≡ emptied (E.columns self.old.elements) }
+        ensures room { IfOk result
+            (λ n. length_room self.old.lengths ≤ length_room self.new.lengths + n) }
+        ensures form { emptied (E.columns self.new.elements) ≡ emptied
+            (E.columns self.old.elements) }
         ensures refused { IfErr result (λ e. IsWritingRefusal e.reason
             (OverflowsWithEach S.lists S.shape (map (W.of which.now) items.now)
             (list_columns (written_lengths self.old.lengths) (E.columns self.old.elements)))) }
@@ -221,7 +229,8 @@ impl<S: Sequence, E: Buffer + Encoder<S::Element>> Encoder<S> for VecEncoder<E> 
         self.encode_one_by_one(&items[done..], which)
     }
 
-    ghost of_shape = { λ e. ap (two (one (lengths None) [])) (E.of_shape e.elements) ∙ sym (S.items_columns []) };
+    ghost of_shape = { λ e. ap (two (one (lengths None) [])) (E.of_shape e.elements) ∙ sym
+        (S.items_columns []) };
 
     ghost surely = { λ e n never. absurd never };
 }
@@ -251,7 +260,8 @@ impl<'a, D: HoldsData> HoldsData for VecDecoder<'a, D> {
 }
 
 impl<'a, D: View<'a>> View<'a> for VecDecoder<'a, D> {
-    ghost faults = { λ reason k input. NamesLengthFault reason k input ⊎ FaultsInElements D.faults reason k input };
+    ghost faults = { λ reason k input. NamesLengthFault reason k input
+        ⊎ FaultsInElements D.faults reason k input };
 
     fn new(alloc: Global) -> Self {
         VecDecoder {
@@ -279,8 +289,12 @@ impl<'a, D> VecDecoder<'a, D> {
     pub fn decode_as<C: FromElements>(&mut self) -> Result<C, Error>
     where
         D: Decoder<C::Part>,
-        requires { 0 < length (lists_of (lengths_left self.old.lengths) (D.held self.old.elements)) }
-        ensures made { IfOk result (λ t. TakesDatum C.makes t (lists_of (lengths_left self.old.lengths) (D.held self.old.elements)) (lists_of (lengths_left self.new.lengths) (D.held self.new.elements))) }
+        requires { 0 < length
+            (lists_of (lengths_left self.old.lengths) (D.held self.old.elements)) }
+        ensures made { IfOk result
+            (λ t. TakesDatum C.makes t
+            (lists_of (lengths_left self.old.lengths) (D.held self.old.elements))
+            (lists_of (lengths_left self.new.lengths) (D.held self.new.elements))) }
         ensures refused { IfErr result (λ e. e.reason ≡ Reason.OutOfMemory) }
     {
         let count = self.lengths.decode();

@@ -111,9 +111,11 @@ impl<P: Points, E: Encoder<P::Target>> Encoder<P> for DerefEncoder<E> {
             .encode_part_of_each(items, &Pointed::<W, P>::by(which), first.target())
     }
 
-    ghost of_shape = { λ e. E.of_shape e.inner ∙ ap (λ shape. written_columns shape []) (sym P.same_shape) };
+    ghost of_shape = { λ e. E.of_shape e.inner ∙ ap (λ shape. written_columns shape [])
+        (sym P.same_shape) };
 
-    ghost surely = { λ e n h. subst (λ shape. SurelyOverflows shape (E.columns e.inner) n) (sym P.same_shape) (E.surely e.inner n h) };
+    ghost surely = { λ e n h. subst (λ shape. SurelyOverflows shape (E.columns e.inner) n)
+        (sym P.same_shape) (E.surely e.inner n h) };
 }
 
 impl<T: Shaped, E: Buffer + Encoder<T>> Encoder<BoxedSlice<T>> for DerefEncoder<VecEncoder<E>> {

@@ -1,7 +1,8 @@
 //! The decoder of variant indices.
 #![tactic(auto, using(crate::proofs::IndexLemmas::indices_refused), unfolding(crate::specs::Indices::indices_left, crate::specs::Indices::indices_owned, crate::specs::Indices::index_count))]
 
-ghost use Rattle.std.specs.Prelude.{pos, ◌≡◌, ◌≢◌, ℕ, ◌<◌, ◌≤◌, [], length, true, false, refl, IsTrue, IsOk, All, ◌++◌, map, IfOk, OnOk, IfErr, OnErr, MatchOption};
+ghost use Rattle.std.specs.Prelude.{pos, ◌≡◌, ◌≢◌, ℕ, ◌<◌, ◌≤◌, [], length, true, false, refl, IsTrue, IsOk, All, ◌++◌};
+ghost use Rattle.std.specs.Prelude.{map, IfOk, OnOk, IfErr, OnErr, MatchOption};
 ghost use Rattle.bitcode_columns.specs.Histogram.{AreCounts};
 ghost use Rattle.bitcode_columns.specs.Reading.{Reads, IsEndOf};
 ghost use Rattle.bitcode_coder.specs.Faults.{NamesIntsFault};
@@ -79,12 +80,19 @@ impl<'a> View<'a> for VariantDecoder<'a> {
     /// If bytes are missing, the error is `EOF`; for an unknown tag `invalid packing`; if an allocation fails,
     /// `out of memory`.
     fn read(&mut self, input: &mut &'a [u8], k: usize, strict: bool) -> Result<bool, Error>
-        ensures read { OnOk result (Reads (Spells (int_shape 1 false)) k input.old.now (indices_left self.new) input.new.now) }
-        ensures judged { IsTrue strict → IfOk result (λ written. JudgesData (int_shape 1 false) (indices_left self.new) written input.old.now input.new.now) }
-        ensures refused { IfErr result (λ e. IsReadingRefusal (int_shape 1 false) e.reason k input.old.now) }
+        ensures read { OnOk result
+            (Reads (Spells (int_shape 1 false)) k input.old.now (indices_left self.new)
+            input.new.now) }
+        ensures judged { IsTrue strict → IfOk result
+            (λ written. JudgesData (int_shape 1 false) (indices_left self.new) written input.old.now
+            input.new.now) }
+        ensures refused { IfErr result
+            (λ e. IsReadingRefusal (int_shape 1 false) e.reason k input.old.now) }
         ensures rest { OnErr result (IsEndOf input.old.now input.new.now) }
         ensures exact { IfErr result (λ e. NamesIntsFault 1 e.reason k input.old.now) }
-        ensures counts { OnOk result ((index : ℕ) → index < 256 → index_count self.new index ≡ count_of index (indices_left self.new)) }
+        ensures counts { OnOk result
+            ((index : ℕ) → index < 256 → index_count self.new index ≡ count_of index
+            (indices_left self.new)) }
     {
         let written = read_bytes::<u8>(self.alloc, input, k, &mut self.indices, strict)?;
         self.counts = counts_of_bytes(self.indices.as_slice());
@@ -100,7 +108,9 @@ impl<'a> Decoder<u8> for VariantDecoder<'a> {
     /// Takes the next index. At least one must be left.
     fn decode(&mut self) -> Result<u8, Error>
         requires { 0 < length (indices_left self.old) }
-        ensures made { IfOk result (λ index. TakesDatum (MakesNumber (λ n. pos n)) index (indices_left self.old) (indices_left self.new)) }
+        ensures made { IfOk result
+            (λ index. TakesDatum (MakesNumber (λ n. pos n)) index (indices_left self.old)
+            (indices_left self.new)) }
         ensures refused { IfErr result (λ e. e.reason ≡ Reason.OutOfMemory) }
         ensures free { IsTrue true → IsOk result }
         ensures counts { (index : ℕ) → index_count self.new index ≡ index_count self.old index }
@@ -124,11 +134,16 @@ impl<'a> VariantDecoder<'a> {
     /// indices.populate(&mut input, 3)?; // of [8, 20]: 2, 0 and 2
     /// ```
     pub fn populate(&mut self, input: &mut &'a [u8], k: usize) -> Result<(), Error>
-        ensures read { OnOk result (Reads (Spells (int_shape 1 false)) k input.old.now (indices_left self.new) input.new.now) }
-        ensures refused { IfErr result (λ e. IsReadingRefusal (int_shape 1 false) e.reason k input.old.now) }
+        ensures read { OnOk result
+            (Reads (Spells (int_shape 1 false)) k input.old.now (indices_left self.new)
+            input.new.now) }
+        ensures refused { IfErr result
+            (λ e. IsReadingRefusal (int_shape 1 false) e.reason k input.old.now) }
         ensures rest { OnErr result (IsEndOf input.old.now input.new.now) }
         ensures exact { IfErr result (λ e. NamesIntsFault 1 e.reason k input.old.now) }
-        ensures counts { OnOk result ((index : ℕ) → index < 256 → index_count self.new index ≡ count_of index (indices_left self.new)) }
+        ensures counts { OnOk result
+            ((index : ℕ) → index < 256 → index_count self.new index ≡ count_of index
+            (indices_left self.new)) }
     {
         self.read(input, k, false)?;
         Ok(())
@@ -153,7 +168,8 @@ impl<'a> VariantDecoder<'a> {
     // Takes so many of the next indices. So many are left.
     pub(crate) fn take(&mut self, count: usize) -> Result<Vec<u8>, Error>
         requires { count ≤ length (indices_left self.old) }
-        ensures taken { IfOk result (λ bytes. indices_left self.old ≡ map natural bytes.items ++ indices_left self.new) }
+        ensures taken { IfOk result
+            (λ bytes. indices_left self.old ≡ map natural bytes.items ++ indices_left self.new) }
         ensures size { IfOk result (λ bytes. length bytes.items ≡ count) }
         ensures counts { (index : ℕ) → index_count self.new index ≡ index_count self.old index }
         ensures refused { IfErr result (λ e. e.reason ≡ Reason.OutOfMemory) }
@@ -174,7 +190,8 @@ impl<'a> VariantDecoder<'a> {
     pub fn max_variant_index(&self) -> Option<u8>
         ensures { MatchOption result
             ((index : ℕ) → index < 256 → index_count self.now index ≡ 0)
-            (λ greatest. (0 < index_count self.now greatest) × ((index : ℕ) → greatest < index → index < 256 → index_count self.now index ≡ 0)) }
+            (λ greatest. (0 < index_count self.now greatest)
+            × ((index : ℕ) → greatest < index → index < 256 → index_count self.now index ≡ 0)) }
     {
         for index in (0..256).rev() {
             if self.counts[index] > 0 {

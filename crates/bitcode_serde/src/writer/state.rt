@@ -24,5 +24,6 @@ pub struct Writer {
     pub(crate) columns: Vec<PlacedWritten>,
 
     ghost inside: { All (λ c. c.place ≤ length places.below.items) columns.items },
-    ghost filed: { AreFiled places.links.items (map (λ c. c.place) columns.items) } by { Prim.hlevel props },
+    ghost filed: { AreFiled places.links.items (map (λ c. c.place) columns.items) } by { Prim.hlevel
+        props },
 }

@@ -6,7 +6,8 @@ ghost use Rattle.std.specs.Rc.{rc_value, rc_slice_items, rc_str_bytes};
 ghost use Rattle.std.specs.String.{string_bytes};
 ghost use Rattle.std.specs.Vec.{vec_items};
 ghost use Rattle.std.specs.VecDeque.{deque_items};
-ghost use Rattle.bitcode_shapes.specs.KeyLaws.{ones_told, bools_told, naturals_told, texts_told, images_told, sequences_told, options_told, results_told};
+ghost use Rattle.bitcode_shapes.specs.KeyLaws.{ones_told, bools_told, naturals_told, texts_told, images_told};
+ghost use Rattle.bitcode_shapes.specs.KeyLaws.{sequences_told, options_told, results_told};
 ghost use Rattle.bitcode_shapes.specs.OrderedKeyLaws.{ordered_maps_told, ordered_sets_told};
 ghost use Rattle.bitcode_shapes.specs.Ints.{IsValueOfWidth};
 
@@ -105,7 +106,8 @@ impl<T: Key> Key for RcSlice<T> {
 }
 
 impl Key for Uuid {
-    ghost keyed = { sequences_told (naturals_told (IsValueOfWidth 1 false pos) (λ n. n)) (λ u. u) _ (λ v h. h.each) };
+    ghost keyed = { sequences_told (naturals_told (IsValueOfWidth 1 false pos) (λ n. n)) (λ u. u) _
+        (λ v h. h.each) };
 }
 
 impl<T> Key for PhantomData<T> {

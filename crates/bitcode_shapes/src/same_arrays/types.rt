@@ -7,7 +7,10 @@ ghost use Rattle.std.specs.Rc.{rc_value, rc_slice_items};
 ghost use Rattle.std.specs.Vec.{vec_items};
 ghost use Rattle.std.specs.VecDeque.{deque_items};
 ghost use Rattle.bitcode_shapes.specs.LawfulDurations.{duration_lawful};
-ghost use Rattle.bitcode_shapes.specs.SameArrays.{one_datum_same_arrays, one_listing_same_arrays, image_same_arrays, seq_same_arrays, array_same_arrays, any_order_same_arrays, ordered_map_same_arrays, hashed_map_same_arrays, option_same_arrays, result_same_arrays};
+ghost use Rattle.bitcode_shapes.specs.SameArrays.{one_datum_same_arrays, one_listing_same_arrays, image_same_arrays};
+ghost use Rattle.bitcode_shapes.specs.SameArrays.{seq_same_arrays, array_same_arrays, any_order_same_arrays};
+ghost use Rattle.bitcode_shapes.specs.SameArrays.{ordered_map_same_arrays, hashed_map_same_arrays, option_same_arrays};
+ghost use Rattle.bitcode_shapes.specs.SameArrays.{result_same_arrays};
 
 use crate::same_arrays::SameArrays;
 use crate::shaped::Shaped;
@@ -86,11 +89,13 @@ impl<T: SameArrays + Eq + Hash> SameArrays for HashSet<T> {
 }
 
 impl<K: SameArrays + Ord, V: SameArrays> SameArrays for BTreeMap<K, V> {
-    ghost same_arrays = { ordered_map_same_arrays K.same_arrays V.same_arrays (λ m. m.entries) _ (λ v h. h.each) };
+    ghost same_arrays = { ordered_map_same_arrays K.same_arrays V.same_arrays (λ m. m.entries) _
+        (λ v h. h.each) };
 }
 
 impl<K: SameArrays + Eq + Hash, V: SameArrays> SameArrays for HashMap<K, V> {
-    ghost same_arrays = { hashed_map_same_arrays K.same_arrays V.same_arrays (λ m. m.entries) _ (λ v h. h.each) };
+    ghost same_arrays = { hashed_map_same_arrays K.same_arrays V.same_arrays (λ m. m.entries) _
+        (λ v h. h.each) };
 }
 
 impl<T: SameArrays> SameArrays for Option<T> {
@@ -122,7 +127,8 @@ impl SameArrays for Duration {
 }
 
 impl SameArrays for Uuid {
-    ghost same_arrays = { array_same_arrays {is_value = ⟦<u8 as Shaped>⟧.is_value} one_datum_same_arrays (λ u. u) _ (λ v h. h.each) 16 };
+    ghost same_arrays = { array_same_arrays {is_value = ⟦<u8 as Shaped>⟧.is_value}
+        one_datum_same_arrays (λ u. u) _ (λ v h. h.each) 16 };
 }
 
 impl<T> SameArrays for PhantomData<T> {

@@ -22,11 +22,13 @@ impl<A: Shaped, B: Shaped> Shaped for (A, B) {
         self.1.told();
     }
 
-    ghost lawful = { pair_lawful A.shape B.shape A.is_value B.is_value A.lists B.lists A.same B.same A.in_order B.in_order A.lawful B.lawful };
+    ghost lawful = { pair_lawful A.shape B.shape A.is_value B.is_value A.lists B.lists A.same B.same
+        A.in_order B.in_order A.lawful B.lawful };
 }
 
 impl<A: Made, B: Made> Made for (A, B) {
     ghost makes = { MakesPair A.makes B.makes };
 
-    ghost makeable = { pair_makeable A.shape B.shape A.is_value B.is_value A.lists B.lists A.same B.same A.makes B.makes A.makeable B.makeable };
+    ghost makeable = { pair_makeable A.shape B.shape A.is_value B.is_value A.lists B.lists A.same
+        B.same A.makes B.makes A.makeable B.makeable };
 }

@@ -1,7 +1,8 @@
 // Written by scripts/tables/tuples.
 //! Tuples of three to eight fields: the data of their fields.
 ghost use Rattle.bitcode_shapes.specs.LawfulStructs.{struct_lawful, struct_makeable};
-ghost use Rattle.bitcode_shapes.specs.Tuples.{split_2, split_3, split_4, split_5, split_6, split_7, split_8, joined_2, joined_3, joined_4, joined_5, joined_6, joined_7, joined_8};
+ghost use Rattle.bitcode_shapes.specs.Tuples.{split_2, split_3, split_4, split_5, split_6, split_7, split_8, joined_2};
+ghost use Rattle.bitcode_shapes.specs.Tuples.{joined_3, joined_4, joined_5, joined_6, joined_7, joined_8};
 
 use crate::shaped::{Made, Shaped};
 
@@ -28,7 +29,8 @@ impl<A: Shaped, B: Shaped, C: Shaped> Shaped for (A, B, C) {
 impl<A: Made, B: Made, C: Made> Made for (A, B, C) {
     ghost makes = { λ d t. ⟦<(A, (B, C)) as Made>⟧.makes d (split_3 t) };
 
-    ghost makeable = { struct_makeable split_3 joined_3 A.makeable (struct_makeable split_2 joined_2 B.makeable C.makeable) };
+    ghost makeable = { struct_makeable split_3 joined_3 A.makeable
+        (struct_makeable split_2 joined_2 B.makeable C.makeable) };
 }
 
 impl<A: Shaped, B: Shaped, C: Shaped, D: Shaped> Shaped for (A, B, C, D) {
@@ -49,13 +51,16 @@ impl<A: Shaped, B: Shaped, C: Shaped, D: Shaped> Shaped for (A, B, C, D) {
         self.3.told();
     }
 
-    ghost lawful = { struct_lawful split_4 (struct_lawful split_2 A.lawful B.lawful) (struct_lawful split_2 C.lawful D.lawful) };
+    ghost lawful = { struct_lawful split_4 (struct_lawful split_2 A.lawful B.lawful)
+        (struct_lawful split_2 C.lawful D.lawful) };
 }
 
 impl<A: Made, B: Made, C: Made, D: Made> Made for (A, B, C, D) {
     ghost makes = { λ d t. ⟦<((A, B), (C, D)) as Made>⟧.makes d (split_4 t) };
 
-    ghost makeable = { struct_makeable split_4 joined_4 (struct_makeable split_2 joined_2 A.makeable B.makeable) (struct_makeable split_2 joined_2 C.makeable D.makeable) };
+    ghost makeable = { struct_makeable split_4 joined_4
+        (struct_makeable split_2 joined_2 A.makeable B.makeable)
+        (struct_makeable split_2 joined_2 C.makeable D.makeable) };
 }
 
 impl<A: Shaped, B: Shaped, C: Shaped, D: Shaped, E: Shaped> Shaped for (A, B, C, D, E) {
@@ -77,13 +82,17 @@ impl<A: Shaped, B: Shaped, C: Shaped, D: Shaped, E: Shaped> Shaped for (A, B, C,
         self.4.told();
     }
 
-    ghost lawful = { struct_lawful split_5 (struct_lawful split_2 A.lawful B.lawful) (struct_lawful split_3 C.lawful (struct_lawful split_2 D.lawful E.lawful)) };
+    ghost lawful = { struct_lawful split_5 (struct_lawful split_2 A.lawful B.lawful)
+        (struct_lawful split_3 C.lawful (struct_lawful split_2 D.lawful E.lawful)) };
 }
 
 impl<A: Made, B: Made, C: Made, D: Made, E: Made> Made for (A, B, C, D, E) {
     ghost makes = { λ d t. ⟦<((A, B), (C, D, E)) as Made>⟧.makes d (split_5 t) };
 
-    ghost makeable = { struct_makeable split_5 joined_5 (struct_makeable split_2 joined_2 A.makeable B.makeable) (struct_makeable split_3 joined_3 C.makeable (struct_makeable split_2 joined_2 D.makeable E.makeable)) };
+    ghost makeable = { struct_makeable split_5 joined_5
+        (struct_makeable split_2 joined_2 A.makeable B.makeable)
+        (struct_makeable split_3 joined_3 C.makeable
+        (struct_makeable split_2 joined_2 D.makeable E.makeable)) };
 }
 
 impl<A: Shaped, B: Shaped, C: Shaped, D: Shaped, E: Shaped, F: Shaped> Shaped
@@ -107,13 +116,19 @@ impl<A: Shaped, B: Shaped, C: Shaped, D: Shaped, E: Shaped, F: Shaped> Shaped
         self.5.told();
     }
 
-    ghost lawful = { struct_lawful split_6 (struct_lawful split_3 A.lawful (struct_lawful split_2 B.lawful C.lawful)) (struct_lawful split_3 D.lawful (struct_lawful split_2 E.lawful F.lawful)) };
+    ghost lawful = { struct_lawful split_6
+        (struct_lawful split_3 A.lawful (struct_lawful split_2 B.lawful C.lawful))
+        (struct_lawful split_3 D.lawful (struct_lawful split_2 E.lawful F.lawful)) };
 }
 
 impl<A: Made, B: Made, C: Made, D: Made, E: Made, F: Made> Made for (A, B, C, D, E, F) {
     ghost makes = { λ d t. ⟦<((A, B, C), (D, E, F)) as Made>⟧.makes d (split_6 t) };
 
-    ghost makeable = { struct_makeable split_6 joined_6 (struct_makeable split_3 joined_3 A.makeable (struct_makeable split_2 joined_2 B.makeable C.makeable)) (struct_makeable split_3 joined_3 D.makeable (struct_makeable split_2 joined_2 E.makeable F.makeable)) };
+    ghost makeable = { struct_makeable split_6 joined_6
+        (struct_makeable split_3 joined_3 A.makeable
+        (struct_makeable split_2 joined_2 B.makeable C.makeable))
+        (struct_makeable split_3 joined_3 D.makeable
+        (struct_makeable split_2 joined_2 E.makeable F.makeable)) };
 }
 
 impl<A: Shaped, B: Shaped, C: Shaped, D: Shaped, E: Shaped, F: Shaped, G: Shaped> Shaped
@@ -138,13 +153,20 @@ impl<A: Shaped, B: Shaped, C: Shaped, D: Shaped, E: Shaped, F: Shaped, G: Shaped
         self.6.told();
     }
 
-    ghost lawful = { struct_lawful split_7 (struct_lawful split_3 A.lawful (struct_lawful split_2 B.lawful C.lawful)) (struct_lawful split_4 (struct_lawful split_2 D.lawful E.lawful) (struct_lawful split_2 F.lawful G.lawful)) };
+    ghost lawful = { struct_lawful split_7
+        (struct_lawful split_3 A.lawful (struct_lawful split_2 B.lawful C.lawful))
+        (struct_lawful split_4 (struct_lawful split_2 D.lawful E.lawful)
+        (struct_lawful split_2 F.lawful G.lawful)) };
 }
 
 impl<A: Made, B: Made, C: Made, D: Made, E: Made, F: Made, G: Made> Made for (A, B, C, D, E, F, G) {
     ghost makes = { λ d t. ⟦<((A, B, C), (D, E, F, G)) as Made>⟧.makes d (split_7 t) };
 
-    ghost makeable = { struct_makeable split_7 joined_7 (struct_makeable split_3 joined_3 A.makeable (struct_makeable split_2 joined_2 B.makeable C.makeable)) (struct_makeable split_4 joined_4 (struct_makeable split_2 joined_2 D.makeable E.makeable) (struct_makeable split_2 joined_2 F.makeable G.makeable)) };
+    ghost makeable = { struct_makeable split_7 joined_7
+        (struct_makeable split_3 joined_3 A.makeable
+        (struct_makeable split_2 joined_2 B.makeable C.makeable))
+        (struct_makeable split_4 joined_4 (struct_makeable split_2 joined_2 D.makeable E.makeable)
+        (struct_makeable split_2 joined_2 F.makeable G.makeable)) };
 }
 
 impl<A: Shaped, B: Shaped, C: Shaped, D: Shaped, E: Shaped, F: Shaped, G: Shaped, H: Shaped> Shaped
@@ -170,12 +192,20 @@ impl<A: Shaped, B: Shaped, C: Shaped, D: Shaped, E: Shaped, F: Shaped, G: Shaped
         self.7.told();
     }
 
-    ghost lawful = { struct_lawful split_8 (struct_lawful split_4 (struct_lawful split_2 A.lawful B.lawful) (struct_lawful split_2 C.lawful D.lawful)) (struct_lawful split_4 (struct_lawful split_2 E.lawful F.lawful) (struct_lawful split_2 G.lawful H.lawful)) };
+    ghost lawful = { struct_lawful split_8
+        (struct_lawful split_4 (struct_lawful split_2 A.lawful B.lawful)
+        (struct_lawful split_2 C.lawful D.lawful))
+        (struct_lawful split_4 (struct_lawful split_2 E.lawful F.lawful)
+        (struct_lawful split_2 G.lawful H.lawful)) };
 }
 
 impl<A: Made, B: Made, C: Made, D: Made, E: Made, F: Made, G: Made, H: Made> Made
     for (A, B, C, D, E, F, G, H) {
     ghost makes = { λ d t. ⟦<((A, B, C, D), (E, F, G, H)) as Made>⟧.makes d (split_8 t) };
 
-    ghost makeable = { struct_makeable split_8 joined_8 (struct_makeable split_4 joined_4 (struct_makeable split_2 joined_2 A.makeable B.makeable) (struct_makeable split_2 joined_2 C.makeable D.makeable)) (struct_makeable split_4 joined_4 (struct_makeable split_2 joined_2 E.makeable F.makeable) (struct_makeable split_2 joined_2 G.makeable H.makeable)) };
+    ghost makeable = { struct_makeable split_8 joined_8
+        (struct_makeable split_4 joined_4 (struct_makeable split_2 joined_2 A.makeable B.makeable)
+        (struct_makeable split_2 joined_2 C.makeable D.makeable))
+        (struct_makeable split_4 joined_4 (struct_makeable split_2 joined_2 E.makeable F.makeable)
+        (struct_makeable split_2 joined_2 G.makeable H.makeable)) };
 }

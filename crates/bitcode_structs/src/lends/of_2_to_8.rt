@@ -29,14 +29,22 @@ pub trait LendsFields4<T1, T2, T3, T4>: StandsFor<Parts = (T1, T2, T3, T4)> {
 pub trait LendsFields5<T1, T2, T3, T4, T5>: StandsFor<Parts = (T1, T2, T3, T4, T5)> {
     /// References to the fields.
     fn fields<'b>(&'b self) -> (&'b T1, &'b T2, &'b T3, &'b T4, &'b T5)
-        ensures { (result.0.now, result.1.now, result.2.now, result.3.now, result.4.now) ≡ Self.parts self.now };
+        ensures { (result.0.now, result.1.now, result.2.now, result.3.now, result.4.now)
+            ≡ Self.parts self.now };
 }
 
 /// A struct that lends its six fields.
 pub trait LendsFields6<T1, T2, T3, T4, T5, T6>: StandsFor<Parts = (T1, T2, T3, T4, T5, T6)> {
     /// References to the fields.
     fn fields<'b>(&'b self) -> (&'b T1, &'b T2, &'b T3, &'b T4, &'b T5, &'b T6)
-        ensures { (result.0.now, result.1.now, result.2.now, result.3.now, result.4.now, result.5.now) ≡ Self.parts self.now };
+        ensures { (
+          result.0.now,
+          result.1.now,
+          result.2.now,
+          result.3.now,
+          result.4.now,
+          result.5.now,
+        ) ≡ Self.parts self.now };
 }
 
 /// A struct that lends its seven fields.
@@ -45,7 +53,15 @@ pub trait LendsFields7<T1, T2, T3, T4, T5, T6, T7>: StandsFor<
 > {
     /// References to the fields.
     fn fields<'b>(&'b self) -> (&'b T1, &'b T2, &'b T3, &'b T4, &'b T5, &'b T6, &'b T7)
-        ensures { (result.0.now, result.1.now, result.2.now, result.3.now, result.4.now, result.5.now, result.6.now) ≡ Self.parts self.now };
+        ensures { (
+          result.0.now,
+          result.1.now,
+          result.2.now,
+          result.3.now,
+          result.4.now,
+          result.5.now,
+          result.6.now,
+        ) ≡ Self.parts self.now };
 }
 
 /// A struct that lends its eight fields.
@@ -65,5 +81,14 @@ pub trait LendsFields8<T1, T2, T3, T4, T5, T6, T7, T8>: StandsFor<
         &'b T7,
         &'b T8,
     )
-        ensures { (result.0.now, result.1.now, result.2.now, result.3.now, result.4.now, result.5.now, result.6.now, result.7.now) ≡ Self.parts self.now };
+        ensures { (
+          result.0.now,
+          result.1.now,
+          result.2.now,
+          result.3.now,
+          result.4.now,
+          result.5.now,
+          result.6.now,
+          result.7.now,
+        ) ≡ Self.parts self.now };
 }

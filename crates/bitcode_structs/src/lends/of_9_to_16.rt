@@ -15,7 +15,11 @@ pub trait LendsFields9<T1, T2, T3, T4, T5, T6, T7, T8, T9>: StandsFor<
         (&'b T1, &'b T2, &'b T3, &'b T4),
         (&'b T5, &'b T6, &'b T7, &'b T8, &'b T9),
     )
-        ensures { ((result.0.0.now, result.0.1.now, result.0.2.now, result.0.3.now), (result.1.0.now, result.1.1.now, result.1.2.now, result.1.3.now, result.1.4.now)) ≡ Self.parts self.now };
+        ensures { (
+          (result.0.0.now, result.0.1.now, result.0.2.now, result.0.3.now),
+          (result.1.0.now, result.1.1.now, result.1.2.now, result.1.3.now, result.1.4.now),
+        )
+            ≡ Self.parts self.now };
 }
 
 /// A struct that lends its ten fields.
@@ -29,7 +33,11 @@ pub trait LendsFields10<T1, T2, T3, T4, T5, T6, T7, T8, T9, T10>: StandsFor<
         (&'b T1, &'b T2, &'b T3, &'b T4, &'b T5),
         (&'b T6, &'b T7, &'b T8, &'b T9, &'b T10),
     )
-        ensures { ((result.0.0.now, result.0.1.now, result.0.2.now, result.0.3.now, result.0.4.now), (result.1.0.now, result.1.1.now, result.1.2.now, result.1.3.now, result.1.4.now)) ≡ Self.parts self.now };
+        ensures { (
+          (result.0.0.now, result.0.1.now, result.0.2.now, result.0.3.now, result.0.4.now),
+          (result.1.0.now, result.1.1.now, result.1.2.now, result.1.3.now, result.1.4.now),
+        )
+            ≡ Self.parts self.now };
 }
 
 /// A struct that lends its eleven fields.
@@ -43,7 +51,17 @@ pub trait LendsFields11<T1, T2, T3, T4, T5, T6, T7, T8, T9, T10, T11>: StandsFor
         (&'b T1, &'b T2, &'b T3, &'b T4, &'b T5),
         (&'b T6, &'b T7, &'b T8, &'b T9, &'b T10, &'b T11),
     )
-        ensures { ((result.0.0.now, result.0.1.now, result.0.2.now, result.0.3.now, result.0.4.now), (result.1.0.now, result.1.1.now, result.1.2.now, result.1.3.now, result.1.4.now, result.1.5.now)) ≡ Self.parts self.now };
+        ensures { (
+          (result.0.0.now, result.0.1.now, result.0.2.now, result.0.3.now, result.0.4.now),
+          (
+            result.1.0.now,
+            result.1.1.now,
+            result.1.2.now,
+            result.1.3.now,
+            result.1.4.now,
+            result.1.5.now,
+          ),
+        ) ≡ Self.parts self.now };
 }
 
 /// A struct that lends its twelve fields.
@@ -57,7 +75,24 @@ pub trait LendsFields12<T1, T2, T3, T4, T5, T6, T7, T8, T9, T10, T11, T12>: Stan
         (&'b T1, &'b T2, &'b T3, &'b T4, &'b T5, &'b T6),
         (&'b T7, &'b T8, &'b T9, &'b T10, &'b T11, &'b T12),
     )
-        ensures { ((result.0.0.now, result.0.1.now, result.0.2.now, result.0.3.now, result.0.4.now, result.0.5.now), (result.1.0.now, result.1.1.now, result.1.2.now, result.1.3.now, result.1.4.now, result.1.5.now)) ≡ Self.parts self.now };
+        ensures { (
+          (
+            result.0.0.now,
+            result.0.1.now,
+            result.0.2.now,
+            result.0.3.now,
+            result.0.4.now,
+            result.0.5.now,
+          ),
+          (
+            result.1.0.now,
+            result.1.1.now,
+            result.1.2.now,
+            result.1.3.now,
+            result.1.4.now,
+            result.1.5.now,
+          ),
+        ) ≡ Self.parts self.now };
 }
 
 /// A struct that lends its thirteen fields.
@@ -71,7 +106,25 @@ pub trait LendsFields13<T1, T2, T3, T4, T5, T6, T7, T8, T9, T10, T11, T12, T13>:
         (&'b T1, &'b T2, &'b T3, &'b T4, &'b T5, &'b T6),
         (&'b T7, &'b T8, &'b T9, &'b T10, &'b T11, &'b T12, &'b T13),
     )
-        ensures { ((result.0.0.now, result.0.1.now, result.0.2.now, result.0.3.now, result.0.4.now, result.0.5.now), (result.1.0.now, result.1.1.now, result.1.2.now, result.1.3.now, result.1.4.now, result.1.5.now, result.1.6.now)) ≡ Self.parts self.now };
+        ensures { (
+          (
+            result.0.0.now,
+            result.0.1.now,
+            result.0.2.now,
+            result.0.3.now,
+            result.0.4.now,
+            result.0.5.now,
+          ),
+          (
+            result.1.0.now,
+            result.1.1.now,
+            result.1.2.now,
+            result.1.3.now,
+            result.1.4.now,
+            result.1.5.now,
+            result.1.6.now,
+          ),
+        ) ≡ Self.parts self.now };
 }
 
 /// A struct that lends its fourteen fields.
@@ -88,7 +141,26 @@ pub trait LendsFields14<T1, T2, T3, T4, T5, T6, T7, T8, T9, T10, T11, T12, T13, 
         (&'b T1, &'b T2, &'b T3, &'b T4, &'b T5, &'b T6, &'b T7),
         (&'b T8, &'b T9, &'b T10, &'b T11, &'b T12, &'b T13, &'b T14),
     )
-        ensures { ((result.0.0.now, result.0.1.now, result.0.2.now, result.0.3.now, result.0.4.now, result.0.5.now, result.0.6.now), (result.1.0.now, result.1.1.now, result.1.2.now, result.1.3.now, result.1.4.now, result.1.5.now, result.1.6.now)) ≡ Self.parts self.now };
+        ensures { (
+          (
+            result.0.0.now,
+            result.0.1.now,
+            result.0.2.now,
+            result.0.3.now,
+            result.0.4.now,
+            result.0.5.now,
+            result.0.6.now,
+          ),
+          (
+            result.1.0.now,
+            result.1.1.now,
+            result.1.2.now,
+            result.1.3.now,
+            result.1.4.now,
+            result.1.5.now,
+            result.1.6.now,
+          ),
+        ) ≡ Self.parts self.now };
 }
 
 /// A struct that lends its fifteen fields.
@@ -130,7 +202,27 @@ pub trait LendsFields15<
             &'b T15,
         ),
     )
-        ensures { ((result.0.0.now, result.0.1.now, result.0.2.now, result.0.3.now, result.0.4.now, result.0.5.now, result.0.6.now), (result.1.0.now, result.1.1.now, result.1.2.now, result.1.3.now, result.1.4.now, result.1.5.now, result.1.6.now, result.1.7.now)) ≡ Self.parts self.now };
+        ensures { (
+          (
+            result.0.0.now,
+            result.0.1.now,
+            result.0.2.now,
+            result.0.3.now,
+            result.0.4.now,
+            result.0.5.now,
+            result.0.6.now,
+          ),
+          (
+            result.1.0.now,
+            result.1.1.now,
+            result.1.2.now,
+            result.1.3.now,
+            result.1.4.now,
+            result.1.5.now,
+            result.1.6.now,
+            result.1.7.now,
+          ),
+        ) ≡ Self.parts self.now };
 }
 
 /// A struct that lends its sixteen fields.
@@ -182,5 +274,26 @@ pub trait LendsFields16<
             &'b T16,
         ),
     )
-        ensures { ((result.0.0.now, result.0.1.now, result.0.2.now, result.0.3.now, result.0.4.now, result.0.5.now, result.0.6.now, result.0.7.now), (result.1.0.now, result.1.1.now, result.1.2.now, result.1.3.now, result.1.4.now, result.1.5.now, result.1.6.now, result.1.7.now)) ≡ Self.parts self.now };
+        ensures { (
+          (
+            result.0.0.now,
+            result.0.1.now,
+            result.0.2.now,
+            result.0.3.now,
+            result.0.4.now,
+            result.0.5.now,
+            result.0.6.now,
+            result.0.7.now,
+          ),
+          (
+            result.1.0.now,
+            result.1.1.now,
+            result.1.2.now,
+            result.1.3.now,
+            result.1.4.now,
+            result.1.5.now,
+            result.1.6.now,
+            result.1.7.now,
+          ),
+        ) ≡ Self.parts self.now };
 }

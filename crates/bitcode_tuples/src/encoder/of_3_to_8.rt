@@ -126,7 +126,8 @@ impl<
         )
     }
 
-    ghost of_shape = { both_of_shape (both_of_shape A.of_shape B.of_shape) (both_of_shape C.of_shape D.of_shape) };
+    ghost of_shape = { both_of_shape (both_of_shape A.of_shape B.of_shape)
+        (both_of_shape C.of_shape D.of_shape) };
 
     ghost surely = { both_surely (both_surely A.surely B.surely) (both_surely C.surely D.surely) };
 }
@@ -168,7 +169,8 @@ impl<
         encode_two_of_each(&mut self.second, items, &Back { all: which, tuple })
     }
 
-    ghost of_shape = { both_of_shape (both_of_shape A.of_shape B.of_shape) (both_of_shape C.of_shape D.of_shape) };
+    ghost of_shape = { both_of_shape (both_of_shape A.of_shape B.of_shape)
+        (both_of_shape C.of_shape D.of_shape) };
 
     ghost surely = { both_surely (both_surely A.surely B.surely) (both_surely C.surely D.surely) };
 }

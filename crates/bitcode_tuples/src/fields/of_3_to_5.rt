@@ -2,7 +2,9 @@
 //! Encoders of three to five fields that are borrowed separately.
 ghost use Rattle.std.specs.Prelude.{◌≡◌, ◌≢◌, ℕ, ◌+◌, ◌<◌, ◌≤◌, Bool, [], length, map, IsTrue, OnOk, IfErr};
 ghost use Rattle.bitcode_coder.specs.Columns.{emptied};
-ghost use Rattle.bitcode_coder.specs.Coder.{written_columns, BeginsWith, JoinsListing, WritesListing, OverflowsWithListing, JoinsEach, OverflowsWithEach, SurelyOverflows, IsWritingRefusal};
+ghost use Rattle.bitcode_coder.specs.Coder.{written_columns, BeginsWith, JoinsListing, WritesListing};
+ghost use Rattle.bitcode_coder.specs.Coder.{OverflowsWithListing, JoinsEach, OverflowsWithEach, SurelyOverflows};
+ghost use Rattle.bitcode_coder.specs.Coder.{IsWritingRefusal};
 ghost use Rattle.bitcode_tuples.specs.Pairs.{EachListed};
 
 use crate::fields::{Fields, FieldsEncoder};
@@ -30,21 +32,31 @@ pub trait FieldsEncoder3<T1: Shaped, T2: Shaped, T3: Shaped>: HoldsColumns {
 
     fn encode_each(&mut self, t1: &T1, t2: &T2, t3: &T3) -> Result<(), Error>
         requires { 0 < Self.room self.old }
-        ensures joined { OnOk result (JoinsListing ⟦<(T1, T2, T3) as Shaped>⟧.lists ⟦<(T1, T2, T3) as Shaped>⟧.shape (t1.now, t2.now, t3.now) (Self.columns self.old) (Self.columns self.new)) }
+        ensures joined { OnOk result
+            (JoinsListing ⟦<(T1, T2, T3) as Shaped>⟧.lists ⟦<(T1, T2, T3) as Shaped>⟧.shape
+            (t1.now, t2.now, t3.now) (Self.columns self.old) (Self.columns self.new)) }
         ensures room { OnOk result (Self.room self.old ≤ Self.room self.new + 1) }
         ensures form { emptied (Self.columns self.new) ≡ emptied (Self.columns self.old) }
-        ensures refused { IfErr result (λ e. IsWritingRefusal e.reason (OverflowsWithListing ⟦<(T1, T2, T3) as Shaped>⟧.lists ⟦<(T1, T2, T3) as Shaped>⟧.shape (t1.now, t2.now, t3.now) (Self.columns self.old))) }
+        ensures refused { IfErr result
+            (λ e. IsWritingRefusal e.reason
+            (OverflowsWithListing ⟦<(T1, T2, T3) as Shaped>⟧.lists ⟦<(T1, T2, T3) as Shaped>⟧.shape
+            (t1.now, t2.now, t3.now) (Self.columns self.old))) }
         ensures free { IsTrue writes_free → IfErr result (λ e. e.reason ≢ Reason.OutOfMemory) };
 
     fn write_each(&mut self, t1: &T1, t2: &T2, t3: &T3, out: &mut Vec<u8>) -> Result<(), Error>
     where
         Self: Buffer,
         requires { Self.columns self.old ≡ emptied (Self.columns self.old) }
-        ensures written { OnOk result (WritesListing ⟦<(T1, T2, T3) as Shaped>⟧.lists ⟦<(T1, T2, T3) as Shaped>⟧.shape (t1.now, t2.now, t3.now) (Self.columns self.old) out.old.items out.new.items) }
+        ensures written { OnOk result
+            (WritesListing ⟦<(T1, T2, T3) as Shaped>⟧.lists ⟦<(T1, T2, T3) as Shaped>⟧.shape
+            (t1.now, t2.now, t3.now) (Self.columns self.old) out.old.items out.new.items) }
         ensures empty { OnOk result (Self.columns self.new ≡ emptied (Self.columns self.old)) }
         ensures begins { BeginsWith out.old.items out.new.items }
         ensures form { emptied (Self.columns self.new) ≡ emptied (Self.columns self.old) }
-        ensures refused { IfErr result (λ e. IsWritingRefusal e.reason (OverflowsWithListing ⟦<(T1, T2, T3) as Shaped>⟧.lists ⟦<(T1, T2, T3) as Shaped>⟧.shape (t1.now, t2.now, t3.now) (Self.columns self.old))) };
+        ensures refused { IfErr result
+            (λ e. IsWritingRefusal e.reason
+            (OverflowsWithListing ⟦<(T1, T2, T3) as Shaped>⟧.lists ⟦<(T1, T2, T3) as Shaped>⟧.shape
+            (t1.now, t2.now, t3.now) (Self.columns self.old))) };
 
     /// Like `Encoder::encode_part_of_each`, for fields that are borrowed separately and have listings.
     fn encode_parts_of_each<S, W: Parts3<S, T1, T2, T3>>(
@@ -54,16 +66,24 @@ pub trait FieldsEncoder3<T1: Shaped, T2: Shaped, T3: Shaped>: HoldsColumns {
     ) -> Result<(), Error>
         requires chunk { (0 < length items.now) × (length items.now ≤ MAX_VECTORED_CHUNK) }
         requires room { length items.now ≤ Self.room self.old }
-        requires listed { EachListed ⟦<(T1, T2, T3) as Shaped>⟧.lists (map (W.of which.now) items.now) }
-        ensures joined { OnOk result (JoinsEach ⟦<(T1, T2, T3) as Shaped>⟧.lists ⟦<(T1, T2, T3) as Shaped>⟧.shape (map (W.of which.now) items.now) (Self.columns self.old) (Self.columns self.new)) }
+        requires listed { EachListed ⟦<(T1, T2, T3) as Shaped>⟧.lists
+            (map (W.of which.now) items.now) }
+        ensures joined { OnOk result
+            (JoinsEach ⟦<(T1, T2, T3) as Shaped>⟧.lists ⟦<(T1, T2, T3) as Shaped>⟧.shape
+            (map (W.of which.now) items.now) (Self.columns self.old) (Self.columns self.new)) }
         ensures room { OnOk result (Self.room self.old ≤ Self.room self.new + length items.now) }
         ensures form { emptied (Self.columns self.new) ≡ emptied (Self.columns self.old) }
-        ensures refused { IfErr result (λ e. IsWritingRefusal e.reason (OverflowsWithEach ⟦<(T1, T2, T3) as Shaped>⟧.lists ⟦<(T1, T2, T3) as Shaped>⟧.shape (map (W.of which.now) items.now) (Self.columns self.old))) }
+        ensures refused { IfErr result
+            (λ e. IsWritingRefusal e.reason
+            (OverflowsWithEach ⟦<(T1, T2, T3) as Shaped>⟧.lists ⟦<(T1, T2, T3) as Shaped>⟧.shape
+            (map (W.of which.now) items.now) (Self.columns self.old))) }
         ensures free { IsTrue writes_free → IfErr result (λ e. e.reason ≢ Reason.OutOfMemory) };
 
-    ghost of_shape: { (e : Self) → emptied (Self.columns e) ≡ written_columns ⟦<(T1, T2, T3) as Shaped>⟧.shape [] };
+    ghost of_shape: { (e : Self) → emptied (Self.columns e) ≡ written_columns
+        ⟦<(T1, T2, T3) as Shaped>⟧.shape [] };
 
-    ghost surely: { (e : Self) (n : ℕ) → Self.surely_overflows e n → SurelyOverflows ⟦<(T1, T2, T3) as Shaped>⟧.shape (Self.columns e) n };
+    ghost surely: { (e : Self) (n : ℕ) → Self.surely_overflows e n
+        → SurelyOverflows ⟦<(T1, T2, T3) as Shaped>⟧.shape (Self.columns e) n };
 }
 
 impl<'a, T1: Shaped, T2: Shaped, T3: Shaped, E: FieldsEncoder3<T1, T2, T3>> FieldsEncoder<
@@ -108,10 +128,16 @@ pub trait FieldsEncoder4<T1: Shaped, T2: Shaped, T3: Shaped, T4: Shaped>: HoldsC
 
     fn encode_each(&mut self, t1: &T1, t2: &T2, t3: &T3, t4: &T4) -> Result<(), Error>
         requires { 0 < Self.room self.old }
-        ensures joined { OnOk result (JoinsListing ⟦<(T1, T2, T3, T4) as Shaped>⟧.lists ⟦<(T1, T2, T3, T4) as Shaped>⟧.shape (t1.now, t2.now, t3.now, t4.now) (Self.columns self.old) (Self.columns self.new)) }
+        ensures joined { OnOk result
+            (JoinsListing ⟦<(T1, T2, T3, T4) as Shaped>⟧.lists ⟦<(T1, T2, T3, T4) as Shaped>⟧.shape
+            (t1.now, t2.now, t3.now, t4.now) (Self.columns self.old) (Self.columns self.new)) }
         ensures room { OnOk result (Self.room self.old ≤ Self.room self.new + 1) }
         ensures form { emptied (Self.columns self.new) ≡ emptied (Self.columns self.old) }
-        ensures refused { IfErr result (λ e. IsWritingRefusal e.reason (OverflowsWithListing ⟦<(T1, T2, T3, T4) as Shaped>⟧.lists ⟦<(T1, T2, T3, T4) as Shaped>⟧.shape (t1.now, t2.now, t3.now, t4.now) (Self.columns self.old))) }
+        ensures refused { IfErr result
+            (λ e. IsWritingRefusal e.reason
+            (OverflowsWithListing ⟦<(T1, T2, T3, T4) as Shaped>⟧.lists
+            ⟦<(T1, T2, T3, T4) as Shaped>⟧.shape (t1.now, t2.now, t3.now, t4.now)
+            (Self.columns self.old))) }
         ensures free { IsTrue writes_free → IfErr result (λ e. e.reason ≢ Reason.OutOfMemory) };
 
     fn write_each(
@@ -125,11 +151,17 @@ pub trait FieldsEncoder4<T1: Shaped, T2: Shaped, T3: Shaped, T4: Shaped>: HoldsC
     where
         Self: Buffer,
         requires { Self.columns self.old ≡ emptied (Self.columns self.old) }
-        ensures written { OnOk result (WritesListing ⟦<(T1, T2, T3, T4) as Shaped>⟧.lists ⟦<(T1, T2, T3, T4) as Shaped>⟧.shape (t1.now, t2.now, t3.now, t4.now) (Self.columns self.old) out.old.items out.new.items) }
+        ensures written { OnOk result
+            (WritesListing ⟦<(T1, T2, T3, T4) as Shaped>⟧.lists ⟦<(T1, T2, T3, T4) as Shaped>⟧.shape
+            (t1.now, t2.now, t3.now, t4.now) (Self.columns self.old) out.old.items out.new.items) }
         ensures empty { OnOk result (Self.columns self.new ≡ emptied (Self.columns self.old)) }
         ensures begins { BeginsWith out.old.items out.new.items }
         ensures form { emptied (Self.columns self.new) ≡ emptied (Self.columns self.old) }
-        ensures refused { IfErr result (λ e. IsWritingRefusal e.reason (OverflowsWithListing ⟦<(T1, T2, T3, T4) as Shaped>⟧.lists ⟦<(T1, T2, T3, T4) as Shaped>⟧.shape (t1.now, t2.now, t3.now, t4.now) (Self.columns self.old))) };
+        ensures refused { IfErr result
+            (λ e. IsWritingRefusal e.reason
+            (OverflowsWithListing ⟦<(T1, T2, T3, T4) as Shaped>⟧.lists
+            ⟦<(T1, T2, T3, T4) as Shaped>⟧.shape (t1.now, t2.now, t3.now, t4.now)
+            (Self.columns self.old))) };
 
     /// Like `Encoder::encode_part_of_each`, for fields that are borrowed separately and have listings.
     fn encode_parts_of_each<S, W: Parts4<S, T1, T2, T3, T4>>(
@@ -139,16 +171,25 @@ pub trait FieldsEncoder4<T1: Shaped, T2: Shaped, T3: Shaped, T4: Shaped>: HoldsC
     ) -> Result<(), Error>
         requires chunk { (0 < length items.now) × (length items.now ≤ MAX_VECTORED_CHUNK) }
         requires room { length items.now ≤ Self.room self.old }
-        requires listed { EachListed ⟦<(T1, T2, T3, T4) as Shaped>⟧.lists (map (W.of which.now) items.now) }
-        ensures joined { OnOk result (JoinsEach ⟦<(T1, T2, T3, T4) as Shaped>⟧.lists ⟦<(T1, T2, T3, T4) as Shaped>⟧.shape (map (W.of which.now) items.now) (Self.columns self.old) (Self.columns self.new)) }
+        requires listed { EachListed ⟦<(T1, T2, T3, T4) as Shaped>⟧.lists
+            (map (W.of which.now) items.now) }
+        ensures joined { OnOk result
+            (JoinsEach ⟦<(T1, T2, T3, T4) as Shaped>⟧.lists ⟦<(T1, T2, T3, T4) as Shaped>⟧.shape
+            (map (W.of which.now) items.now) (Self.columns self.old) (Self.columns self.new)) }
         ensures room { OnOk result (Self.room self.old ≤ Self.room self.new + length items.now) }
         ensures form { emptied (Self.columns self.new) ≡ emptied (Self.columns self.old) }
-        ensures refused { IfErr result (λ e. IsWritingRefusal e.reason (OverflowsWithEach ⟦<(T1, T2, T3, T4) as Shaped>⟧.lists ⟦<(T1, T2, T3, T4) as Shaped>⟧.shape (map (W.of which.now) items.now) (Self.columns self.old))) }
+        ensures refused { IfErr result
+            (λ e. IsWritingRefusal e.reason
+            (OverflowsWithEach ⟦<(T1, T2, T3, T4) as Shaped>⟧.lists
+            ⟦<(T1, T2, T3, T4) as Shaped>⟧.shape (map (W.of which.now) items.now)
+            (Self.columns self.old))) }
         ensures free { IsTrue writes_free → IfErr result (λ e. e.reason ≢ Reason.OutOfMemory) };
 
-    ghost of_shape: { (e : Self) → emptied (Self.columns e) ≡ written_columns ⟦<(T1, T2, T3, T4) as Shaped>⟧.shape [] };
+    ghost of_shape: { (e : Self) → emptied (Self.columns e) ≡ written_columns
+        ⟦<(T1, T2, T3, T4) as Shaped>⟧.shape [] };
 
-    ghost surely: { (e : Self) (n : ℕ) → Self.surely_overflows e n → SurelyOverflows ⟦<(T1, T2, T3, T4) as Shaped>⟧.shape (Self.columns e) n };
+    ghost surely: { (e : Self) (n : ℕ) → Self.surely_overflows e n
+        → SurelyOverflows ⟦<(T1, T2, T3, T4) as Shaped>⟧.shape (Self.columns e) n };
 }
 
 impl<
@@ -199,10 +240,17 @@ pub trait FieldsEncoder5<T1: Shaped, T2: Shaped, T3: Shaped, T4: Shaped, T5: Sha
 
     fn encode_each(&mut self, t1: &T1, t2: &T2, t3: &T3, t4: &T4, t5: &T5) -> Result<(), Error>
         requires { 0 < Self.room self.old }
-        ensures joined { OnOk result (JoinsListing ⟦<(T1, T2, T3, T4, T5) as Shaped>⟧.lists ⟦<(T1, T2, T3, T4, T5) as Shaped>⟧.shape (t1.now, t2.now, t3.now, t4.now, t5.now) (Self.columns self.old) (Self.columns self.new)) }
+        ensures joined { OnOk result
+            (JoinsListing ⟦<(T1, T2, T3, T4, T5) as Shaped>⟧.lists
+            ⟦<(T1, T2, T3, T4, T5) as Shaped>⟧.shape (t1.now, t2.now, t3.now, t4.now, t5.now)
+            (Self.columns self.old) (Self.columns self.new)) }
         ensures room { OnOk result (Self.room self.old ≤ Self.room self.new + 1) }
         ensures form { emptied (Self.columns self.new) ≡ emptied (Self.columns self.old) }
-        ensures refused { IfErr result (λ e. IsWritingRefusal e.reason (OverflowsWithListing ⟦<(T1, T2, T3, T4, T5) as Shaped>⟧.lists ⟦<(T1, T2, T3, T4, T5) as Shaped>⟧.shape (t1.now, t2.now, t3.now, t4.now, t5.now) (Self.columns self.old))) }
+        ensures refused { IfErr result
+            (λ e. IsWritingRefusal e.reason
+            (OverflowsWithListing ⟦<(T1, T2, T3, T4, T5) as Shaped>⟧.lists
+            ⟦<(T1, T2, T3, T4, T5) as Shaped>⟧.shape (t1.now, t2.now, t3.now, t4.now, t5.now)
+            (Self.columns self.old))) }
         ensures free { IsTrue writes_free → IfErr result (λ e. e.reason ≢ Reason.OutOfMemory) };
 
     fn write_each(
@@ -217,11 +265,18 @@ pub trait FieldsEncoder5<T1: Shaped, T2: Shaped, T3: Shaped, T4: Shaped, T5: Sha
     where
         Self: Buffer,
         requires { Self.columns self.old ≡ emptied (Self.columns self.old) }
-        ensures written { OnOk result (WritesListing ⟦<(T1, T2, T3, T4, T5) as Shaped>⟧.lists ⟦<(T1, T2, T3, T4, T5) as Shaped>⟧.shape (t1.now, t2.now, t3.now, t4.now, t5.now) (Self.columns self.old) out.old.items out.new.items) }
+        ensures written { OnOk result
+            (WritesListing ⟦<(T1, T2, T3, T4, T5) as Shaped>⟧.lists
+            ⟦<(T1, T2, T3, T4, T5) as Shaped>⟧.shape (t1.now, t2.now, t3.now, t4.now, t5.now)
+            (Self.columns self.old) out.old.items out.new.items) }
         ensures empty { OnOk result (Self.columns self.new ≡ emptied (Self.columns self.old)) }
         ensures begins { BeginsWith out.old.items out.new.items }
         ensures form { emptied (Self.columns self.new) ≡ emptied (Self.columns self.old) }
-        ensures refused { IfErr result (λ e. IsWritingRefusal e.reason (OverflowsWithListing ⟦<(T1, T2, T3, T4, T5) as Shaped>⟧.lists ⟦<(T1, T2, T3, T4, T5) as Shaped>⟧.shape (t1.now, t2.now, t3.now, t4.now, t5.now) (Self.columns self.old))) };
+        ensures refused { IfErr result
+            (λ e. IsWritingRefusal e.reason
+            (OverflowsWithListing ⟦<(T1, T2, T3, T4, T5) as Shaped>⟧.lists
+            ⟦<(T1, T2, T3, T4, T5) as Shaped>⟧.shape (t1.now, t2.now, t3.now, t4.now, t5.now)
+            (Self.columns self.old))) };
 
     /// Like `Encoder::encode_part_of_each`, for fields that are borrowed separately and have listings.
     fn encode_parts_of_each<S, W: Parts5<S, T1, T2, T3, T4, T5>>(
@@ -231,16 +286,26 @@ pub trait FieldsEncoder5<T1: Shaped, T2: Shaped, T3: Shaped, T4: Shaped, T5: Sha
     ) -> Result<(), Error>
         requires chunk { (0 < length items.now) × (length items.now ≤ MAX_VECTORED_CHUNK) }
         requires room { length items.now ≤ Self.room self.old }
-        requires listed { EachListed ⟦<(T1, T2, T3, T4, T5) as Shaped>⟧.lists (map (W.of which.now) items.now) }
-        ensures joined { OnOk result (JoinsEach ⟦<(T1, T2, T3, T4, T5) as Shaped>⟧.lists ⟦<(T1, T2, T3, T4, T5) as Shaped>⟧.shape (map (W.of which.now) items.now) (Self.columns self.old) (Self.columns self.new)) }
+        requires listed { EachListed ⟦<(T1, T2, T3, T4, T5) as Shaped>⟧.lists
+            (map (W.of which.now) items.now) }
+        ensures joined { OnOk result
+            (JoinsEach ⟦<(T1, T2, T3, T4, T5) as Shaped>⟧.lists
+            ⟦<(T1, T2, T3, T4, T5) as Shaped>⟧.shape (map (W.of which.now) items.now)
+            (Self.columns self.old) (Self.columns self.new)) }
         ensures room { OnOk result (Self.room self.old ≤ Self.room self.new + length items.now) }
         ensures form { emptied (Self.columns self.new) ≡ emptied (Self.columns self.old) }
-        ensures refused { IfErr result (λ e. IsWritingRefusal e.reason (OverflowsWithEach ⟦<(T1, T2, T3, T4, T5) as Shaped>⟧.lists ⟦<(T1, T2, T3, T4, T5) as Shaped>⟧.shape (map (W.of which.now) items.now) (Self.columns self.old))) }
+        ensures refused { IfErr result
+            (λ e. IsWritingRefusal e.reason
+            (OverflowsWithEach ⟦<(T1, T2, T3, T4, T5) as Shaped>⟧.lists
+            ⟦<(T1, T2, T3, T4, T5) as Shaped>⟧.shape (map (W.of which.now) items.now)
+            (Self.columns self.old))) }
         ensures free { IsTrue writes_free → IfErr result (λ e. e.reason ≢ Reason.OutOfMemory) };
 
-    ghost of_shape: { (e : Self) → emptied (Self.columns e) ≡ written_columns ⟦<(T1, T2, T3, T4, T5) as Shaped>⟧.shape [] };
+    ghost of_shape: { (e : Self) → emptied (Self.columns e) ≡ written_columns
+        ⟦<(T1, T2, T3, T4, T5) as Shaped>⟧.shape [] };
 
-    ghost surely: { (e : Self) (n : ℕ) → Self.surely_overflows e n → SurelyOverflows ⟦<(T1, T2, T3, T4, T5) as Shaped>⟧.shape (Self.columns e) n };
+    ghost surely: { (e : Self) (n : ℕ) → Self.surely_overflows e n
+        → SurelyOverflows ⟦<(T1, T2, T3, T4, T5) as Shaped>⟧.shape (Self.columns e) n };
 }
 
 impl<

@@ -2,7 +2,9 @@
 //! Encoders of six to eight fields that are borrowed separately.
 ghost use Rattle.std.specs.Prelude.{◌≡◌, ◌≢◌, ℕ, ◌+◌, ◌<◌, ◌≤◌, Bool, [], length, map, IsTrue, OnOk, IfErr};
 ghost use Rattle.bitcode_coder.specs.Columns.{emptied};
-ghost use Rattle.bitcode_coder.specs.Coder.{written_columns, BeginsWith, JoinsListing, WritesListing, OverflowsWithListing, JoinsEach, OverflowsWithEach, SurelyOverflows, IsWritingRefusal};
+ghost use Rattle.bitcode_coder.specs.Coder.{written_columns, BeginsWith, JoinsListing, WritesListing};
+ghost use Rattle.bitcode_coder.specs.Coder.{OverflowsWithListing, JoinsEach, OverflowsWithEach, SurelyOverflows};
+ghost use Rattle.bitcode_coder.specs.Coder.{IsWritingRefusal};
 ghost use Rattle.bitcode_tuples.specs.Pairs.{EachListed};
 
 use crate::fields::{Fields, FieldsEncoder};
@@ -49,10 +51,18 @@ pub trait FieldsEncoder6<
         t6: &T6,
     ) -> Result<(), Error>
         requires { 0 < Self.room self.old }
-        ensures joined { OnOk result (JoinsListing ⟦<(T1, T2, T3, T4, T5, T6) as Shaped>⟧.lists ⟦<(T1, T2, T3, T4, T5, T6) as Shaped>⟧.shape (t1.now, t2.now, t3.now, t4.now, t5.now, t6.now) (Self.columns self.old) (Self.columns self.new)) }
+        ensures joined { OnOk result
+            (JoinsListing ⟦<(T1, T2, T3, T4, T5, T6) as Shaped>⟧.lists
+            ⟦<(T1, T2, T3, T4, T5, T6) as Shaped>⟧.shape
+            (t1.now, t2.now, t3.now, t4.now, t5.now, t6.now) (Self.columns self.old)
+            (Self.columns self.new)) }
         ensures room { OnOk result (Self.room self.old ≤ Self.room self.new + 1) }
         ensures form { emptied (Self.columns self.new) ≡ emptied (Self.columns self.old) }
-        ensures refused { IfErr result (λ e. IsWritingRefusal e.reason (OverflowsWithListing ⟦<(T1, T2, T3, T4, T5, T6) as Shaped>⟧.lists ⟦<(T1, T2, T3, T4, T5, T6) as Shaped>⟧.shape (t1.now, t2.now, t3.now, t4.now, t5.now, t6.now) (Self.columns self.old))) }
+        ensures refused { IfErr result
+            (λ e. IsWritingRefusal e.reason
+            (OverflowsWithListing ⟦<(T1, T2, T3, T4, T5, T6) as Shaped>⟧.lists
+            ⟦<(T1, T2, T3, T4, T5, T6) as Shaped>⟧.shape
+            (t1.now, t2.now, t3.now, t4.now, t5.now, t6.now) (Self.columns self.old))) }
         ensures free { IsTrue writes_free → IfErr result (λ e. e.reason ≢ Reason.OutOfMemory) };
 
     fn write_each(
@@ -68,11 +78,19 @@ pub trait FieldsEncoder6<
     where
         Self: Buffer,
         requires { Self.columns self.old ≡ emptied (Self.columns self.old) }
-        ensures written { OnOk result (WritesListing ⟦<(T1, T2, T3, T4, T5, T6) as Shaped>⟧.lists ⟦<(T1, T2, T3, T4, T5, T6) as Shaped>⟧.shape (t1.now, t2.now, t3.now, t4.now, t5.now, t6.now) (Self.columns self.old) out.old.items out.new.items) }
+        ensures written { OnOk result
+            (WritesListing ⟦<(T1, T2, T3, T4, T5, T6) as Shaped>⟧.lists
+            ⟦<(T1, T2, T3, T4, T5, T6) as Shaped>⟧.shape
+            (t1.now, t2.now, t3.now, t4.now, t5.now, t6.now) (Self.columns self.old) out.old.items
+            out.new.items) }
         ensures empty { OnOk result (Self.columns self.new ≡ emptied (Self.columns self.old)) }
         ensures begins { BeginsWith out.old.items out.new.items }
         ensures form { emptied (Self.columns self.new) ≡ emptied (Self.columns self.old) }
-        ensures refused { IfErr result (λ e. IsWritingRefusal e.reason (OverflowsWithListing ⟦<(T1, T2, T3, T4, T5, T6) as Shaped>⟧.lists ⟦<(T1, T2, T3, T4, T5, T6) as Shaped>⟧.shape (t1.now, t2.now, t3.now, t4.now, t5.now, t6.now) (Self.columns self.old))) };
+        ensures refused { IfErr result
+            (λ e. IsWritingRefusal e.reason
+            (OverflowsWithListing ⟦<(T1, T2, T3, T4, T5, T6) as Shaped>⟧.lists
+            ⟦<(T1, T2, T3, T4, T5, T6) as Shaped>⟧.shape
+            (t1.now, t2.now, t3.now, t4.now, t5.now, t6.now) (Self.columns self.old))) };
 
     /// Like `Encoder::encode_part_of_each`, for fields that are borrowed separately and have listings.
     fn encode_parts_of_each<S, W: Parts6<S, T1, T2, T3, T4, T5, T6>>(
@@ -82,16 +100,26 @@ pub trait FieldsEncoder6<
     ) -> Result<(), Error>
         requires chunk { (0 < length items.now) × (length items.now ≤ MAX_VECTORED_CHUNK) }
         requires room { length items.now ≤ Self.room self.old }
-        requires listed { EachListed ⟦<(T1, T2, T3, T4, T5, T6) as Shaped>⟧.lists (map (W.of which.now) items.now) }
-        ensures joined { OnOk result (JoinsEach ⟦<(T1, T2, T3, T4, T5, T6) as Shaped>⟧.lists ⟦<(T1, T2, T3, T4, T5, T6) as Shaped>⟧.shape (map (W.of which.now) items.now) (Self.columns self.old) (Self.columns self.new)) }
+        requires listed { EachListed ⟦<(T1, T2, T3, T4, T5, T6) as Shaped>⟧.lists
+            (map (W.of which.now) items.now) }
+        ensures joined { OnOk result
+            (JoinsEach ⟦<(T1, T2, T3, T4, T5, T6) as Shaped>⟧.lists
+            ⟦<(T1, T2, T3, T4, T5, T6) as Shaped>⟧.shape (map (W.of which.now) items.now)
+            (Self.columns self.old) (Self.columns self.new)) }
         ensures room { OnOk result (Self.room self.old ≤ Self.room self.new + length items.now) }
         ensures form { emptied (Self.columns self.new) ≡ emptied (Self.columns self.old) }
-        ensures refused { IfErr result (λ e. IsWritingRefusal e.reason (OverflowsWithEach ⟦<(T1, T2, T3, T4, T5, T6) as Shaped>⟧.lists ⟦<(T1, T2, T3, T4, T5, T6) as Shaped>⟧.shape (map (W.of which.now) items.now) (Self.columns self.old))) }
+        ensures refused { IfErr result
+            (λ e. IsWritingRefusal e.reason
+            (OverflowsWithEach ⟦<(T1, T2, T3, T4, T5, T6) as Shaped>⟧.lists
+            ⟦<(T1, T2, T3, T4, T5, T6) as Shaped>⟧.shape (map (W.of which.now) items.now)
+            (Self.columns self.old))) }
         ensures free { IsTrue writes_free → IfErr result (λ e. e.reason ≢ Reason.OutOfMemory) };
 
-    ghost of_shape: { (e : Self) → emptied (Self.columns e) ≡ written_columns ⟦<(T1, T2, T3, T4, T5, T6) as Shaped>⟧.shape [] };
+    ghost of_shape: { (e : Self) → emptied (Self.columns e) ≡ written_columns
+        ⟦<(T1, T2, T3, T4, T5, T6) as Shaped>⟧.shape [] };
 
-    ghost surely: { (e : Self) (n : ℕ) → Self.surely_overflows e n → SurelyOverflows ⟦<(T1, T2, T3, T4, T5, T6) as Shaped>⟧.shape (Self.columns e) n };
+    ghost surely: { (e : Self) (n : ℕ) → Self.surely_overflows e n
+        → SurelyOverflows ⟦<(T1, T2, T3, T4, T5, T6) as Shaped>⟧.shape (Self.columns e) n };
 }
 
 impl<
@@ -168,10 +196,18 @@ pub trait FieldsEncoder7<
         t7: &T7,
     ) -> Result<(), Error>
         requires { 0 < Self.room self.old }
-        ensures joined { OnOk result (JoinsListing ⟦<(T1, T2, T3, T4, T5, T6, T7) as Shaped>⟧.lists ⟦<(T1, T2, T3, T4, T5, T6, T7) as Shaped>⟧.shape (t1.now, t2.now, t3.now, t4.now, t5.now, t6.now, t7.now) (Self.columns self.old) (Self.columns self.new)) }
+        ensures joined { OnOk result
+            (JoinsListing ⟦<(T1, T2, T3, T4, T5, T6, T7) as Shaped>⟧.lists
+            ⟦<(T1, T2, T3, T4, T5, T6, T7) as Shaped>⟧.shape
+            (t1.now, t2.now, t3.now, t4.now, t5.now, t6.now, t7.now) (Self.columns self.old)
+            (Self.columns self.new)) }
         ensures room { OnOk result (Self.room self.old ≤ Self.room self.new + 1) }
         ensures form { emptied (Self.columns self.new) ≡ emptied (Self.columns self.old) }
-        ensures refused { IfErr result (λ e. IsWritingRefusal e.reason (OverflowsWithListing ⟦<(T1, T2, T3, T4, T5, T6, T7) as Shaped>⟧.lists ⟦<(T1, T2, T3, T4, T5, T6, T7) as Shaped>⟧.shape (t1.now, t2.now, t3.now, t4.now, t5.now, t6.now, t7.now) (Self.columns self.old))) }
+        ensures refused { IfErr result
+            (λ e. IsWritingRefusal e.reason
+            (OverflowsWithListing ⟦<(T1, T2, T3, T4, T5, T6, T7) as Shaped>⟧.lists
+            ⟦<(T1, T2, T3, T4, T5, T6, T7) as Shaped>⟧.shape
+            (t1.now, t2.now, t3.now, t4.now, t5.now, t6.now, t7.now) (Self.columns self.old))) }
         ensures free { IsTrue writes_free → IfErr result (λ e. e.reason ≢ Reason.OutOfMemory) };
 
     fn write_each(
@@ -188,11 +224,19 @@ pub trait FieldsEncoder7<
     where
         Self: Buffer,
         requires { Self.columns self.old ≡ emptied (Self.columns self.old) }
-        ensures written { OnOk result (WritesListing ⟦<(T1, T2, T3, T4, T5, T6, T7) as Shaped>⟧.lists ⟦<(T1, T2, T3, T4, T5, T6, T7) as Shaped>⟧.shape (t1.now, t2.now, t3.now, t4.now, t5.now, t6.now, t7.now) (Self.columns self.old) out.old.items out.new.items) }
+        ensures written { OnOk result
+            (WritesListing ⟦<(T1, T2, T3, T4, T5, T6, T7) as Shaped>⟧.lists
+            ⟦<(T1, T2, T3, T4, T5, T6, T7) as Shaped>⟧.shape
+            (t1.now, t2.now, t3.now, t4.now, t5.now, t6.now, t7.now) (Self.columns self.old)
+            out.old.items out.new.items) }
         ensures empty { OnOk result (Self.columns self.new ≡ emptied (Self.columns self.old)) }
         ensures begins { BeginsWith out.old.items out.new.items }
         ensures form { emptied (Self.columns self.new) ≡ emptied (Self.columns self.old) }
-        ensures refused { IfErr result (λ e. IsWritingRefusal e.reason (OverflowsWithListing ⟦<(T1, T2, T3, T4, T5, T6, T7) as Shaped>⟧.lists ⟦<(T1, T2, T3, T4, T5, T6, T7) as Shaped>⟧.shape (t1.now, t2.now, t3.now, t4.now, t5.now, t6.now, t7.now) (Self.columns self.old))) };
+        ensures refused { IfErr result
+            (λ e. IsWritingRefusal e.reason
+            (OverflowsWithListing ⟦<(T1, T2, T3, T4, T5, T6, T7) as Shaped>⟧.lists
+            ⟦<(T1, T2, T3, T4, T5, T6, T7) as Shaped>⟧.shape
+            (t1.now, t2.now, t3.now, t4.now, t5.now, t6.now, t7.now) (Self.columns self.old))) };
 
     /// Like `Encoder::encode_part_of_each`, for fields that are borrowed separately and have listings.
     fn encode_parts_of_each<S, W: Parts7<S, T1, T2, T3, T4, T5, T6, T7>>(
@@ -202,16 +246,26 @@ pub trait FieldsEncoder7<
     ) -> Result<(), Error>
         requires chunk { (0 < length items.now) × (length items.now ≤ MAX_VECTORED_CHUNK) }
         requires room { length items.now ≤ Self.room self.old }
-        requires listed { EachListed ⟦<(T1, T2, T3, T4, T5, T6, T7) as Shaped>⟧.lists (map (W.of which.now) items.now) }
-        ensures joined { OnOk result (JoinsEach ⟦<(T1, T2, T3, T4, T5, T6, T7) as Shaped>⟧.lists ⟦<(T1, T2, T3, T4, T5, T6, T7) as Shaped>⟧.shape (map (W.of which.now) items.now) (Self.columns self.old) (Self.columns self.new)) }
+        requires listed { EachListed ⟦<(T1, T2, T3, T4, T5, T6, T7) as Shaped>⟧.lists
+            (map (W.of which.now) items.now) }
+        ensures joined { OnOk result
+            (JoinsEach ⟦<(T1, T2, T3, T4, T5, T6, T7) as Shaped>⟧.lists
+            ⟦<(T1, T2, T3, T4, T5, T6, T7) as Shaped>⟧.shape (map (W.of which.now) items.now)
+            (Self.columns self.old) (Self.columns self.new)) }
         ensures room { OnOk result (Self.room self.old ≤ Self.room self.new + length items.now) }
         ensures form { emptied (Self.columns self.new) ≡ emptied (Self.columns self.old) }
-        ensures refused { IfErr result (λ e. IsWritingRefusal e.reason (OverflowsWithEach ⟦<(T1, T2, T3, T4, T5, T6, T7) as Shaped>⟧.lists ⟦<(T1, T2, T3, T4, T5, T6, T7) as Shaped>⟧.shape (map (W.of which.now) items.now) (Self.columns self.old))) }
+        ensures refused { IfErr result
+            (λ e. IsWritingRefusal e.reason
+            (OverflowsWithEach ⟦<(T1, T2, T3, T4, T5, T6, T7) as Shaped>⟧.lists
+            ⟦<(T1, T2, T3, T4, T5, T6, T7) as Shaped>⟧.shape (map (W.of which.now) items.now)
+            (Self.columns self.old))) }
         ensures free { IsTrue writes_free → IfErr result (λ e. e.reason ≢ Reason.OutOfMemory) };
 
-    ghost of_shape: { (e : Self) → emptied (Self.columns e) ≡ written_columns ⟦<(T1, T2, T3, T4, T5, T6, T7) as Shaped>⟧.shape [] };
+    ghost of_shape: { (e : Self) → emptied (Self.columns e) ≡ written_columns
+        ⟦<(T1, T2, T3, T4, T5, T6, T7) as Shaped>⟧.shape [] };
 
-    ghost surely: { (e : Self) (n : ℕ) → Self.surely_overflows e n → SurelyOverflows ⟦<(T1, T2, T3, T4, T5, T6, T7) as Shaped>⟧.shape (Self.columns e) n };
+    ghost surely: { (e : Self) (n : ℕ) → Self.surely_overflows e n
+        → SurelyOverflows ⟦<(T1, T2, T3, T4, T5, T6, T7) as Shaped>⟧.shape (Self.columns e) n };
 }
 
 impl<
@@ -313,10 +367,19 @@ pub trait FieldsEncoder8<
         t8: &T8,
     ) -> Result<(), Error>
         requires { 0 < Self.room self.old }
-        ensures joined { OnOk result (JoinsListing ⟦<(T1, T2, T3, T4, T5, T6, T7, T8) as Shaped>⟧.lists ⟦<(T1, T2, T3, T4, T5, T6, T7, T8) as Shaped>⟧.shape (t1.now, t2.now, t3.now, t4.now, t5.now, t6.now, t7.now, t8.now) (Self.columns self.old) (Self.columns self.new)) }
+        ensures joined { OnOk result
+            (JoinsListing ⟦<(T1, T2, T3, T4, T5, T6, T7, T8) as Shaped>⟧.lists
+            ⟦<(T1, T2, T3, T4, T5, T6, T7, T8) as Shaped>⟧.shape
+            (t1.now, t2.now, t3.now, t4.now, t5.now, t6.now, t7.now, t8.now) (Self.columns self.old)
+            (Self.columns self.new)) }
         ensures room { OnOk result (Self.room self.old ≤ Self.room self.new + 1) }
         ensures form { emptied (Self.columns self.new) ≡ emptied (Self.columns self.old) }
-        ensures refused { IfErr result (λ e. IsWritingRefusal e.reason (OverflowsWithListing ⟦<(T1, T2, T3, T4, T5, T6, T7, T8) as Shaped>⟧.lists ⟦<(T1, T2, T3, T4, T5, T6, T7, T8) as Shaped>⟧.shape (t1.now, t2.now, t3.now, t4.now, t5.now, t6.now, t7.now, t8.now) (Self.columns self.old))) }
+        ensures refused { IfErr result
+            (λ e. IsWritingRefusal e.reason
+            (OverflowsWithListing ⟦<(T1, T2, T3, T4, T5, T6, T7, T8) as Shaped>⟧.lists
+            ⟦<(T1, T2, T3, T4, T5, T6, T7, T8) as Shaped>⟧.shape
+            (t1.now, t2.now, t3.now, t4.now, t5.now, t6.now, t7.now, t8.now)
+            (Self.columns self.old))) }
         ensures free { IsTrue writes_free → IfErr result (λ e. e.reason ≢ Reason.OutOfMemory) };
 
     fn write_each(
@@ -334,11 +397,20 @@ pub trait FieldsEncoder8<
     where
         Self: Buffer,
         requires { Self.columns self.old ≡ emptied (Self.columns self.old) }
-        ensures written { OnOk result (WritesListing ⟦<(T1, T2, T3, T4, T5, T6, T7, T8) as Shaped>⟧.lists ⟦<(T1, T2, T3, T4, T5, T6, T7, T8) as Shaped>⟧.shape (t1.now, t2.now, t3.now, t4.now, t5.now, t6.now, t7.now, t8.now) (Self.columns self.old) out.old.items out.new.items) }
+        ensures written { OnOk result
+            (WritesListing ⟦<(T1, T2, T3, T4, T5, T6, T7, T8) as Shaped>⟧.lists
+            ⟦<(T1, T2, T3, T4, T5, T6, T7, T8) as Shaped>⟧.shape
+            (t1.now, t2.now, t3.now, t4.now, t5.now, t6.now, t7.now, t8.now) (Self.columns self.old)
+            out.old.items out.new.items) }
         ensures empty { OnOk result (Self.columns self.new ≡ emptied (Self.columns self.old)) }
         ensures begins { BeginsWith out.old.items out.new.items }
         ensures form { emptied (Self.columns self.new) ≡ emptied (Self.columns self.old) }
-        ensures refused { IfErr result (λ e. IsWritingRefusal e.reason (OverflowsWithListing ⟦<(T1, T2, T3, T4, T5, T6, T7, T8) as Shaped>⟧.lists ⟦<(T1, T2, T3, T4, T5, T6, T7, T8) as Shaped>⟧.shape (t1.now, t2.now, t3.now, t4.now, t5.now, t6.now, t7.now, t8.now) (Self.columns self.old))) };
+        ensures refused { IfErr result
+            (λ e. IsWritingRefusal e.reason
+            (OverflowsWithListing ⟦<(T1, T2, T3, T4, T5, T6, T7, T8) as Shaped>⟧.lists
+            ⟦<(T1, T2, T3, T4, T5, T6, T7, T8) as Shaped>⟧.shape
+            (t1.now, t2.now, t3.now, t4.now, t5.now, t6.now, t7.now, t8.now)
+            (Self.columns self.old))) };
 
     /// Like `Encoder::encode_part_of_each`, for fields that are borrowed separately and have listings.
     fn encode_parts_of_each<S, W: Parts8<S, T1, T2, T3, T4, T5, T6, T7, T8>>(
@@ -348,16 +420,26 @@ pub trait FieldsEncoder8<
     ) -> Result<(), Error>
         requires chunk { (0 < length items.now) × (length items.now ≤ MAX_VECTORED_CHUNK) }
         requires room { length items.now ≤ Self.room self.old }
-        requires listed { EachListed ⟦<(T1, T2, T3, T4, T5, T6, T7, T8) as Shaped>⟧.lists (map (W.of which.now) items.now) }
-        ensures joined { OnOk result (JoinsEach ⟦<(T1, T2, T3, T4, T5, T6, T7, T8) as Shaped>⟧.lists ⟦<(T1, T2, T3, T4, T5, T6, T7, T8) as Shaped>⟧.shape (map (W.of which.now) items.now) (Self.columns self.old) (Self.columns self.new)) }
+        requires listed { EachListed ⟦<(T1, T2, T3, T4, T5, T6, T7, T8) as Shaped>⟧.lists
+            (map (W.of which.now) items.now) }
+        ensures joined { OnOk result
+            (JoinsEach ⟦<(T1, T2, T3, T4, T5, T6, T7, T8) as Shaped>⟧.lists
+            ⟦<(T1, T2, T3, T4, T5, T6, T7, T8) as Shaped>⟧.shape (map (W.of which.now) items.now)
+            (Self.columns self.old) (Self.columns self.new)) }
         ensures room { OnOk result (Self.room self.old ≤ Self.room self.new + length items.now) }
         ensures form { emptied (Self.columns self.new) ≡ emptied (Self.columns self.old) }
-        ensures refused { IfErr result (λ e. IsWritingRefusal e.reason (OverflowsWithEach ⟦<(T1, T2, T3, T4, T5, T6, T7, T8) as Shaped>⟧.lists ⟦<(T1, T2, T3, T4, T5, T6, T7, T8) as Shaped>⟧.shape (map (W.of which.now) items.now) (Self.columns self.old))) }
+        ensures refused { IfErr result
+            (λ e. IsWritingRefusal e.reason
+            (OverflowsWithEach ⟦<(T1, T2, T3, T4, T5, T6, T7, T8) as Shaped>⟧.lists
+            ⟦<(T1, T2, T3, T4, T5, T6, T7, T8) as Shaped>⟧.shape (map (W.of which.now) items.now)
+            (Self.columns self.old))) }
         ensures free { IsTrue writes_free → IfErr result (λ e. e.reason ≢ Reason.OutOfMemory) };
 
-    ghost of_shape: { (e : Self) → emptied (Self.columns e) ≡ written_columns ⟦<(T1, T2, T3, T4, T5, T6, T7, T8) as Shaped>⟧.shape [] };
+    ghost of_shape: { (e : Self) → emptied (Self.columns e) ≡ written_columns
+        ⟦<(T1, T2, T3, T4, T5, T6, T7, T8) as Shaped>⟧.shape [] };
 
-    ghost surely: { (e : Self) (n : ℕ) → Self.surely_overflows e n → SurelyOverflows ⟦<(T1, T2, T3, T4, T5, T6, T7, T8) as Shaped>⟧.shape (Self.columns e) n };
+    ghost surely: { (e : Self) (n : ℕ) → Self.surely_overflows e n
+        → SurelyOverflows ⟦<(T1, T2, T3, T4, T5, T6, T7, T8) as Shaped>⟧.shape (Self.columns e) n };
 }
 
 impl<

@@ -78,7 +78,8 @@ pub trait Parts4<S, T1, T2, T3, T4> {
 
     /// The parts.
     fn parts<'b>(&'b self, whole: &'b S) -> (&'b T1, &'b T2, &'b T3, &'b T4)
-        ensures { (result.0.now, result.1.now, result.2.now, result.3.now) ≡ of self.now whole.now };
+        ensures { (result.0.now, result.1.now, result.2.now, result.3.now) ≡ of self.now
+            whole.now };
 }
 
 impl<'w, S, T1, T2, T3, T4, W: Part<S, (T1, T2, T3, T4)>> Parts4<S, T1, T2, T3, T4>
@@ -118,7 +119,8 @@ pub trait Parts5<S, T1, T2, T3, T4, T5> {
 
     /// The parts.
     fn parts<'b>(&'b self, whole: &'b S) -> (&'b T1, &'b T2, &'b T3, &'b T4, &'b T5)
-        ensures { (result.0.now, result.1.now, result.2.now, result.3.now, result.4.now) ≡ of self.now whole.now };
+        ensures { (result.0.now, result.1.now, result.2.now, result.3.now, result.4.now) ≡ of
+            self.now whole.now };
 }
 
 impl<'w, S, T1, T2, T3, T4, T5, W: Part<S, (T1, T2, T3, T4, T5)>> Parts5<S, T1, T2, T3, T4, T5>
@@ -158,7 +160,14 @@ pub trait Parts6<S, T1, T2, T3, T4, T5, T6> {
 
     /// The parts.
     fn parts<'b>(&'b self, whole: &'b S) -> (&'b T1, &'b T2, &'b T3, &'b T4, &'b T5, &'b T6)
-        ensures { (result.0.now, result.1.now, result.2.now, result.3.now, result.4.now, result.5.now) ≡ of self.now whole.now };
+        ensures { (
+          result.0.now,
+          result.1.now,
+          result.2.now,
+          result.3.now,
+          result.4.now,
+          result.5.now,
+        ) ≡ of self.now whole.now };
 }
 
 impl<'w, S, T1, T2, T3, T4, T5, T6, W: Part<S, (T1, T2, T3, T4, T5, T6)>> Parts6<
@@ -205,7 +214,15 @@ pub trait Parts7<S, T1, T2, T3, T4, T5, T6, T7> {
 
     /// The parts.
     fn parts<'b>(&'b self, whole: &'b S) -> (&'b T1, &'b T2, &'b T3, &'b T4, &'b T5, &'b T6, &'b T7)
-        ensures { (result.0.now, result.1.now, result.2.now, result.3.now, result.4.now, result.5.now, result.6.now) ≡ of self.now whole.now };
+        ensures { (
+          result.0.now,
+          result.1.now,
+          result.2.now,
+          result.3.now,
+          result.4.now,
+          result.5.now,
+          result.6.now,
+        ) ≡ of self.now whole.now };
 }
 
 impl<'w, S, T1, T2, T3, T4, T5, T6, T7, W: Part<S, (T1, T2, T3, T4, T5, T6, T7)>> Parts7<
@@ -279,7 +296,16 @@ pub trait Parts8<S, T1, T2, T3, T4, T5, T6, T7, T8> {
         &'b T7,
         &'b T8,
     )
-        ensures { (result.0.now, result.1.now, result.2.now, result.3.now, result.4.now, result.5.now, result.6.now, result.7.now) ≡ of self.now whole.now };
+        ensures { (
+          result.0.now,
+          result.1.now,
+          result.2.now,
+          result.3.now,
+          result.4.now,
+          result.5.now,
+          result.6.now,
+          result.7.now,
+        ) ≡ of self.now whole.now };
 }
 
 impl<'w, S, T1, T2, T3, T4, T5, T6, T7, T8, W: Part<S, (T1, T2, T3, T4, T5, T6, T7, T8)>> Parts8<

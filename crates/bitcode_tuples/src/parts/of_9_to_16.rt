@@ -1,6 +1,7 @@
 // Written by scripts/tables/tuples.
 //! The halves of a tuple of nine to sixteen fields.
-ghost use Rattle.bitcode_shapes.specs.Tuples.{split_9, split_10, split_11, split_12, split_13, split_14, split_15, split_16};
+ghost use Rattle.bitcode_shapes.specs.Tuples.{split_9, split_10, split_11, split_12, split_13, split_14, split_15};
+ghost use Rattle.bitcode_shapes.specs.Tuples.{split_16};
 
 use crate::parts::of_2_to_8::{Parts4, Parts5, Parts6, Parts7, Parts8};
 use crate::parts::{Back, Front};

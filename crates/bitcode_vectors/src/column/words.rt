@@ -7,7 +7,8 @@ const COUNT_DIGITS: usize = 20;
 
 const BYTE_DIGITS: usize = 3;
 
-/// The number that so many digits at most spell; nothing where another byte is among them, or the number is over 2^64 - 1.
+/// The number that so many digits at most spell; nothing where another byte is among them, or the number is over 2^64 -
+/// 1.
 fn number(word: &[u8], most_digits: usize) -> Option<usize> {
     if word.is_empty() || word.len() > most_digits {
         return None;

@@ -31,8 +31,8 @@ pub fn two_variants(alloc: Global) -> Result<(), Got> {
     decodes(alloc, &[3, 6, 1, 255, 254], read)
 }
 
-/// Under a shape another index is refused; in the first format unused bits of the last byte are ignored, so that no byte is
-/// another option.
+/// Under a shape another index is refused; in the first format unused bits of the last byte are ignored, so that no
+/// byte is another option.
 pub fn unused_bits_of_an_option(alloc: Global) -> Result<(), Got> {
     untyped::enums::unknown_indices(alloc)?;
     decodes::<Option<bool>>(alloc, &[2], None)

@@ -1,4 +1,5 @@
-//! The stored rows of the second format: values under shapes. Each has one or more parts, and gives what the first wrong part gave.
+//! The stored rows of the second format: values under shapes. Each has one or more parts, and gives what the first
+//! wrong part gave.
 use bitcode_expected::Got;
 use std::alloc::Global;
 

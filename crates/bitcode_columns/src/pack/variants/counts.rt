@@ -12,8 +12,11 @@ use crate::pack::Base;
 /// Adds the digits of a byte that occurs `times` times to the counts of the numbers below `N`. It ignores all other
 /// digits.
 fn count_digits<const N: usize>(base: Base, byte: u8, times: usize, counts: &mut [usize; N])
-    requires { (value : ℕ) → value < N → slice_index counts.old value + times * count_of value (digits_of base byte) < 2 ^ 64 }
-    ensures { (value : ℕ) → value < N → slice_index counts.new value ≡ slice_index counts.old value + times * count_of value (digits_of base byte) }
+    requires { (value : ℕ) → value < N
+        → slice_index counts.old value + times * count_of value (digits_of base byte) < 2 ^ 64 }
+    ensures { (value : ℕ) → value < N
+        → slice_index counts.new value ≡ slice_index counts.old value + times * count_of value
+        (digits_of base byte) }
 {
     let radix = base.radix();
     let mut rest = u16::from(byte);
@@ -30,7 +33,8 @@ fn count_digits<const N: usize>(base: Base, byte: u8, times: usize, counts: &mut
 /// number of its occurrences.
 fn counts_of_digits<const N: usize>(base: Base, packed: &[u8]) -> [usize; N]
     requires { (value : ℕ) → value < N → digits_counted base value packed.now < 2 ^ 64 }
-    ensures { (value : ℕ) → value < N → slice_index result value ≡ digits_counted base value packed.now }
+    ensures { (value : ℕ) → value < N
+        → slice_index result value ≡ digits_counted base value packed.now }
 {
     let of_bytes = histogram(packed);
     let mut counts = [0; N];
@@ -88,7 +92,8 @@ fn ones_of(packed: &[u8]) -> usize
 fn counts_of_bits<const N: usize>(packed: &[u8]) -> [usize; N]
     requires two { N ≡ 2 }
     requires few { 8 * length packed.now < 2 ^ 64 }
-    ensures { (value : ℕ) → value < N → slice_index result value ≡ digits_counted Base.Two value packed.now }
+    ensures { (value : ℕ) → value < N
+        → slice_index result value ≡ digits_counted Base.Two value packed.now }
 {
     known_bytes(packed);
     let ones = ones_of(packed);
@@ -102,7 +107,8 @@ fn counts_of_bits<const N: usize>(packed: &[u8]) -> [usize; N]
 fn counts_of_whole<const N: usize>(base: Base, packed: &[u8]) -> [usize; N]
     requires counts { (value : ℕ) → value < N → digits_counted base value packed.now < 2 ^ 64 }
     requires digits { digits_in_byte base * length packed.now < 2 ^ 64 }
-    ensures { (value : ℕ) → value < N → slice_index result value ≡ digits_counted base value packed.now }
+    ensures { (value : ℕ) → value < N
+        → slice_index result value ≡ digits_counted base value packed.now }
 {
     if base == Base::Two && N == 2 {
         counts_of_bits(packed)

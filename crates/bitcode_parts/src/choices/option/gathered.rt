@@ -49,7 +49,8 @@ fn gather_values<'a, S, T, W: Part<S, Option<T>>>(
     requires { length items.now ≤ MAX_VECTORED_CHUNK }
     ensures count { result ≤ MAX_VECTORED_CHUNK }
     ensures long { length values.new ≡ MAX_VECTORED_CHUNK }
-    ensures values { map (λ value. value.now) (take result values.new) ≡ values_in (map (W.of which.now) items.now) }
+    ensures values { map (λ value. value.now) (take result values.new) ≡ values_in
+        (map (W.of which.now) items.now) }
 {
     let mut count = 0;
     for item in items {
@@ -71,9 +72,14 @@ fn encode_from<'a, S, T: Shaped, W: Part<S, Option<T>>, E: Buffer + Encoder<T>>(
 ) -> Result<(), Error>
     requires chunk { length items.now ≤ MAX_VECTORED_CHUNK }
     requires any { 0 < length (values_in (map (W.of which.now) items.now)) }
-    ensures joined { OnOk result (JoinsEach T.lists T.shape (values_in (map (W.of which.now) items.now)) (E.columns encoder.old) (E.columns encoder.new)) }
+    ensures joined { OnOk result
+        (JoinsEach T.lists T.shape (values_in (map (W.of which.now) items.now))
+        (E.columns encoder.old) (E.columns encoder.new)) }
     ensures form { emptied (E.columns encoder.new) ≡ emptied (E.columns encoder.old) }
-    ensures refused { IfErr result (λ e. IsWritingRefusal e.reason (OverflowsWithEach T.lists T.shape (values_in (map (W.of which.now) items.now)) (E.columns encoder.old))) }
+    ensures refused { IfErr result
+        (λ e. IsWritingRefusal e.reason
+        (OverflowsWithEach T.lists T.shape (values_in (map (W.of which.now) items.now))
+        (E.columns encoder.old))) }
 {
     let mut values = [first; MAX_VECTORED_CHUNK];
     let count = gather_values(items, which, &mut values);
@@ -87,9 +93,14 @@ pub(super) fn encode_values<'a, S, T: Shaped, W: Part<S, Option<T>>, E: Buffer +
     which: &'a W,
 ) -> Result<(), Error>
     requires { length items.now ≤ MAX_VECTORED_CHUNK }
-    ensures joined { OnOk result (JoinsEach T.lists T.shape (values_in (map (W.of which.now) items.now)) (E.columns encoder.old) (E.columns encoder.new)) }
+    ensures joined { OnOk result
+        (JoinsEach T.lists T.shape (values_in (map (W.of which.now) items.now))
+        (E.columns encoder.old) (E.columns encoder.new)) }
     ensures form { emptied (E.columns encoder.new) ≡ emptied (E.columns encoder.old) }
-    ensures refused { IfErr result (λ e. IsWritingRefusal e.reason (OverflowsWithEach T.lists T.shape (values_in (map (W.of which.now) items.now)) (E.columns encoder.old))) }
+    ensures refused { IfErr result
+        (λ e. IsWritingRefusal e.reason
+        (OverflowsWithEach T.lists T.shape (values_in (map (W.of which.now) items.now))
+        (E.columns encoder.old))) }
 {
     match first_value(items, which) {
         None => Ok(()),

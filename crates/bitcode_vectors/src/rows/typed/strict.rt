@@ -29,7 +29,8 @@ fn judges_variants(alloc: Global, byte: u8, count: usize, expected: bool) -> Res
     }
 }
 
-/// Lists of bytes and of integers in one spelling each. Of a map only the columns are asked, and not the order of its keys.
+/// Lists of bytes and of integers in one spelling each. Of a map only the columns are asked, and not the order of its
+/// keys.
 pub fn lists_and_maps(alloc: Global) -> Result<(), Got> {
     decodes_strictly(alloc, &[2, 0, 1], vec![in alloc; 0u8, 1]?)?;
     decodes_strictly(alloc, &[5, 10, 0], vec![in alloc; 0u8, 0, 0, 0, 0]?)?;
