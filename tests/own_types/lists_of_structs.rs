@@ -4,11 +4,14 @@ use bitcode_own_types::chest::Chest;
 use bitcode_own_types::foo::Foo;
 use bitcode_own_types::item::Item;
 use bitcode_own_types::meters::Meters;
+use bitcode_own_types::monster::Monster;
 use bitcode_own_types::pause::Pause;
 use std::alloc::Global;
 
 /// More than two chunks.
 const MANY: u8 = 130;
+
+type MonsterParts = (u64, String, i16, bool, (i32, i32), Vec<u16>);
 
 type FooParts = (u32, &'static str);
 
@@ -24,6 +27,34 @@ fn name(alloc: Global, i: u8) -> Result<String, Error> {
         _ => "bc",
     };
     Ok(String::from_str(alloc, name)?)
+}
+
+fn monster_parts(alloc: Global, i: u8) -> Result<MonsterParts, Error> {
+    let mut loot = Vec::new(alloc);
+    for _found in 0..i % 4 {
+        loot.push(u16::from(i))?;
+    }
+    let position = (i32::from(i), -1);
+    Ok((
+        u64::from(i),
+        name(alloc, i)?,
+        -7,
+        i % 5 == 0,
+        position,
+        loot,
+    ))
+}
+
+fn monster(alloc: Global, i: u8) -> Result<Monster, Error> {
+    let (id, name, health, alive, position, loot) = monster_parts(alloc, i)?;
+    Ok(Monster {
+        id,
+        name,
+        health,
+        alive,
+        position,
+        loot,
+    })
 }
 
 fn foo_parts(i: u8) -> FooParts {
@@ -67,6 +98,22 @@ fn chest_parts(alloc: Global, i: u8) -> Result<ChestParts, Error> {
         None
     };
     Ok((name(alloc, i)?, items, best))
+}
+
+#[test]
+fn lists_of_six_fields_come_back(rt: HostRuntime) -> Result<(), Error> {
+    let alloc = rt.alloc();
+    let mut monsters = Vec::new(alloc);
+    let mut tuples = Vec::new(alloc);
+    for i in 0..MANY {
+        monsters.push(monster(alloc, i)?)?;
+        tuples.push(monster_parts(alloc, i)?)?;
+    }
+    let bytes = encode(alloc, &monsters)?;
+    assert!(rt; bytes.as_slice() == encode(alloc, &tuples)?.as_slice());
+    let again: Vec<Monster> = decode(alloc, bytes.as_slice())?;
+    assert!(rt; again == monsters);
+    Ok(())
 }
 
 #[test]

@@ -1,6 +1,11 @@
 //! With ample memory what is read of nested types is written again, as the same bytes.
-use bitcode::Error;
+use bitcode::{Error, decode, encode};
 use bitcode_own_types::nested_calls::{all_of, deep, options, sixteen, twelve};
+use std::collections::BTreeMap;
+
+type Records = Vec<(u64, String, bool, Option<u32>, Vec<u8>)>;
+
+type Table = BTreeMap<u32, (String, Option<u64>, Vec<u16>)>;
 
 #[test]
 fn tuples_come_back(rt: HostRuntime) -> Result<(), Error> {
@@ -22,5 +27,19 @@ fn lists_come_back(rt: HostRuntime) -> Result<(), Error> {
     assert!(rt; deep(alloc, bytes)?.as_slice() == bytes);
     let bytes: &[u8] = &[2, 7, 9];
     assert!(rt; all_of::<u8>(alloc, bytes)?.as_slice() == bytes);
+    Ok(())
+}
+
+#[test]
+fn lists_and_maps_of_records_come_back(rt: HostRuntime) -> Result<(), Error> {
+    let alloc = rt.alloc();
+    // One record: 7, "ab", true, no number and no bytes.
+    let bytes: &[u8] = &[1, 6, 7, 2, 97, 98, 1, 0, 0];
+    let records: Records = decode(alloc, bytes)?;
+    assert!(rt; encode(alloc, &records)?.as_slice() == bytes);
+    // 5 with "a", no number and no numbers.
+    let bytes: &[u8] = &[1, 4, 5, 1, 97, 0, 0];
+    let table: Table = decode(alloc, bytes)?;
+    assert!(rt; encode(alloc, &table)?.as_slice() == bytes);
     Ok(())
 }
