@@ -3,8 +3,8 @@
 
     scripts/clauses.py [--write] [FILE..]
 
-Without files it takes all .rt files of the repository. Without `--write` it names each clause and each import that is
-longer, and each comment of more than 120 columns, and exits with status 1 if there are any.
+Without files it takes all .rt files of the repository. Without `--write` it names each line that is
+longer (imports and comments may have 120), and exits with status 1 if there are any.
 """
 
 import os
@@ -107,6 +107,10 @@ def is_clause(line):
     return re.match(r" *(requires\b|ensures\b|ghost (?!use))", line) is not None and "{" in line
 
 
+def is_long_import(line):
+    return len(line) > WIDEST_COMMENT and re.match(r" *ghost use [^{]*\{.*, .*\};$", line) is not None
+
+
 class Reader:
     """Tells, line by line, whether the line belongs to a clause, and whether it is code in a comment."""
 
@@ -133,7 +137,7 @@ def wrapped(text):
     while at < len(lines):
         line, taken = lines[at], 1
         reader.reads(line)
-        if len(line) > WIDEST_COMMENT and re.match(r" *ghost use [^{]*\{.*\};$", line):
+        if is_long_import(line):
             new += imported(line)
         elif reader.is_long_clause(line):
             new += broken(line)
@@ -151,7 +155,7 @@ def long_lines(text):
     for number, line in enumerate(text.split("\n"), 1):
         reader.reads(line)
         # a name in brackets stays on its line
-        if reader.is_long_clause(line) and len(broken(line)) > 1 or reader.is_long_comment(line):
+        if reader.is_long_clause(line) and len(broken(line)) > 1 or reader.is_long_comment(line) or is_long_import(line):
             yield number, line
 
 
