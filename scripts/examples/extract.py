@@ -67,9 +67,9 @@ def statements(lines):
 
 
 def check_quotation(where, path, lines):
-    """Each piece of a quotation is in its file, however far it is indented in either."""
+    """Each piece of a quotation is in its file, however either is laid out."""
     def plain(text):
-        return re.sub(r"\n\s*", "\n", "\n" + text.strip())
+        return " ".join(["", *text.split(), ""])
     with open(path) as file:
         text = plain(file.read())
     for piece in re.split(r"\n *(?://|--) \.\.\n", "\n" + "\n".join(lines) + "\n"):

@@ -21,7 +21,10 @@ use bitcode_tuples::fields::Fields;
 ///
 /// ```rust,from:crates/bitcode_own_types/src/two.rt
 /// impl Enum for Two {
-///     ghost each = { each_variant (payload_and ⟦<u8 as Payload>⟧.payload (last_payload ⟦<i8 as Payload>⟧.payload)) (λ at. elim [ Two.A a ↦ at 0 a | Two.B a ↦ at 1 a ]) ((λ p. (Two.A p, refl)), λ p. (Two.B p, refl)) };
+///     ghost each = { each_variant
+///         (payload_and ⟦<u8 as Payload>⟧.payload (last_payload ⟦<i8 as Payload>⟧.payload))
+///         (λ at. elim [ Two.A a ↦ at 0 a | Two.B a ↦ at 1 a ])
+///         ((λ p. (Two.A p, refl)), λ p. (Two.B p, refl)) };
 ///
 ///     ghost sized = { refl };
 ///

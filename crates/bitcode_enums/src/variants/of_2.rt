@@ -77,7 +77,10 @@ pub enum OneOf2<P1, P2> {
 ///         }
 ///     }
 ///
-///     ghost are = { (is_variant refl (λ p. refl) (λ p old new h. h) (λ p old h. h) (λ p old new h. h), is_variant refl (λ p. refl) (λ p old new h. h) (λ p old h. h) (λ p old new h. h)) };
+///     ghost are = { (
+///       is_variant refl (λ p. refl) (λ p old new h. h) (λ p old h. h) (λ p old new h. h),
+///       is_variant refl (λ p. refl) (λ p old new h. h) (λ p old h. h) (λ p old new h. h),
+///     ) };
 /// }
 /// ```
 pub trait Variants2<O: Place, P1: Made, P2: Made>: Enum {

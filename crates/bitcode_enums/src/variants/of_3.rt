@@ -82,7 +82,10 @@ pub enum OneOf3<P1, P2, P3> {
 ///         }
 ///     }
 ///
-///     ghost are = { (is_variant refl (λ p. refl) (λ p old new h. h) (λ p old h. h) (λ p old new h. h), is_variant refl (λ p. refl) (λ p old new h. h) (λ p old h. h) (λ p old new h. h)) };
+///     ghost are = { (
+///       is_variant refl (λ p. refl) (λ p old new h. h) (λ p old h. h) (λ p old new h. h),
+///       is_variant refl (λ p. refl) (λ p old new h. h) (λ p old h. h) (λ p old new h. h),
+///     ) };
 /// }
 /// ```
 pub trait Variants3<O: Place, P1: Made, P2: Made, P3: Made>: Enum {

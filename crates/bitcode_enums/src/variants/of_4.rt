@@ -87,7 +87,10 @@ pub enum OneOf4<P1, P2, P3, P4> {
 ///         }
 ///     }
 ///
-///     ghost are = { (is_variant refl (λ p. refl) (λ p old new h. h) (λ p old h. h) (λ p old new h. h), is_variant refl (λ p. refl) (λ p old new h. h) (λ p old h. h) (λ p old new h. h)) };
+///     ghost are = { (
+///       is_variant refl (λ p. refl) (λ p old new h. h) (λ p old h. h) (λ p old new h. h),
+///       is_variant refl (λ p. refl) (λ p old new h. h) (λ p old h. h) (λ p old new h. h),
+///     ) };
 /// }
 /// ```
 pub trait Variants4<O: Place, P1: Made, P2: Made, P3: Made, P4: Made>: Enum {
