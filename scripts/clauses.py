@@ -16,6 +16,8 @@ import textwrap
 WIDEST = 100
 WIDEST_COMMENT = 120
 STEP = 4
+# a line of prose in a comment
+PROSE = re.compile(r" *//[/!]? ?(?=[A-Za-z`(\[])(?!```)")
 OPENING, CLOSING = "({[", ")}]"
 CONNECTIVES = ["→", "↔", "×", "⊎", "in", "then", "else"]
 OPERATORS = ["≡", "≢", "≤", "<", "++", "∷", "+", "-", "*", "%", "^"]
@@ -98,7 +100,7 @@ def paragraph(lines, at):
     """How many lines, from this one on, are the rest of a paragraph of a comment."""
     prefix = re.match(r" *//[/!]? ?", lines[at])[0]
     end = at + 1
-    while end < len(lines) and lines[end].startswith(prefix) and re.match(r"[^ \-#|/`]|`[^`]", lines[end][len(prefix):]):
+    while end < len(lines) and lines[end].startswith(prefix) and PROSE.match(lines[end]):
         end += 1
     return end - at
 
@@ -108,7 +110,7 @@ def is_clause(line):
 
 
 def is_long_import(line):
-    return len(line) > WIDEST_COMMENT and re.match(r" *ghost use [^{]*\{.*, .*\};$", line) is not None
+    return len(line) > WIDEST_COMMENT and re.match(r" *ghost use [^{]*\{[^{}]*, [^{}]*\};$", line) is not None
 
 
 class Reader:
@@ -118,17 +120,21 @@ class Reader:
         self.open, self.is_code = 0, False
 
     def reads(self, line):
-        self.in_clause = self.open > 0 or is_clause(line)
-        if re.match(r" *//[/!] ?```", line):
+        is_comment = line.lstrip().startswith("//")
+        self.in_clause = not is_comment and (self.open > 0 or is_clause(line))
+        if re.match(r" *//[/!]? *```", line):
             self.is_code = not self.is_code
         if self.in_clause:
-            self.open = max(0, self.open + line.count("{") - line.count("}"))
+            term = re.sub(r"b?'.'|\"[^\"]*\"|//.*", "", line)
+            self.open = max(0, self.open + term.count("{") - term.count("}"))
 
     def is_long_clause(self, line):
-        return self.in_clause and len(line) > WIDEST
+        """Whether the line is too long. A string or a comment behind a term stays on its line."""
+        return self.in_clause and len(line) > WIDEST and '"' not in line and "//" not in line
 
     def is_long_comment(self, line):
-        return not self.is_code and len(line) > WIDEST_COMMENT and line.lstrip().startswith("//")
+        """Whether the line is too long, and prose: a table, an item of a list or a heading stays as it is."""
+        return not self.is_code and len(line) > WIDEST_COMMENT and PROSE.match(line) is not None
 
 
 def wrapped(text):
@@ -161,13 +167,13 @@ def long_lines(text):
 
 def lays_out(folder):
     """Lays out the crate in the folder as `rt fmt` does, with its long clauses broken. Returns what `rt fmt` says if it fails."""
-    changed = True
-    while changed:
+    for _ in range(5):
         ran = subprocess.run(["rt", "fmt"], cwd=folder, stdout=subprocess.PIPE, stderr=subprocess.STDOUT, text=True)
         if ran.returncode != 0:
             return ran.stdout
         paths = [f"{root}/{name}" for root, _, names in os.walk(f"{folder}/src") for name in names if name.endswith(".rt")]
-        changed = any([breaks(path) for path in paths])
+        if not any([breaks(path) for path in paths]):
+            break
     return None
 
 
