@@ -24,8 +24,8 @@ OPERATORS = ["≡", "≢", "≤", "<", "++", "∷", "+", "-", "*", "%", "^"]
 
 
 def gaps(text):
-    """The places where a line may break, inside the clause's braces, each with the number of brackets that are open there and
-    whether a connective follows."""
+    """The places inside the clause's braces where a line may break, each with the number of open brackets and whether a
+    connective follows."""
     found, depth, in_code = [], 0, 0
     for at, char in enumerate(text):
         depth += (char in OPENING) - (char in CLOSING)
@@ -93,7 +93,10 @@ def commented(lines):
     """The lines of a paragraph of a comment, filled anew."""
     prefix = re.match(r" *//[/!]? ?", lines[0])[0]
     text = " ".join(line[len(prefix):].strip() for line in lines)
-    return textwrap.wrap(text, WIDEST_COMMENT, initial_indent=prefix, subsequent_indent=prefix, break_long_words=False, break_on_hyphens=False)
+    return textwrap.wrap(
+        text, WIDEST_COMMENT, initial_indent=prefix, subsequent_indent=prefix,
+        break_long_words=False, break_on_hyphens=False,
+    )
 
 
 def paragraph(lines, at):
@@ -166,12 +169,14 @@ def long_lines(text):
 
 
 def lays_out(folder):
-    """Lays out the crate in the folder as `rt fmt` does, with its long clauses broken. Returns what `rt fmt` says if it fails."""
+    """Lays out the crate in the folder as `rt fmt` does, with long clauses broken. If `rt fmt` fails, it returns what that
+    says."""
     for _ in range(5):
         ran = subprocess.run(["rt", "fmt"], cwd=folder, stdout=subprocess.PIPE, stderr=subprocess.STDOUT, text=True)
         if ran.returncode != 0:
             return ran.stdout
-        paths = [f"{root}/{name}" for root, _, names in os.walk(f"{folder}/src") for name in names if name.endswith(".rt")]
+        found = os.walk(f"{folder}/src")
+        paths = [f"{root}/{name}" for root, _, names in found for name in names if name.endswith(".rt")]
         if not any([breaks(path) for path in paths]):
             break
     return None
