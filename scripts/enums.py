@@ -5,8 +5,8 @@ from string import Template
 from declarations import Refused, fields_of
 from known_types import MOST_FIELDS, Checker, of_text, says_laws
 from numbered import Numbered
-from structs import NOT_DERIVED, laws_as_data, places, quoted, tuple_text
-from variants import LETTERS, arms, declaration, one_to_one, payload, value
+from structs import NOT_DERIVED, halved, laws_as_data, places, quoted, tuple_text
+from variants import LETTERS, arms, declaration, one_to_one, value
 
 MOST_VARIANTS = 256
 
@@ -15,7 +15,7 @@ ghost use Rattle.std.specs.Prelude.{[], ◌∷◌, refl};
 ghost use Rattle.bitcode.specs.ByHand.{stood_payload};
 ghost use Rattle.$crate.specs.declared.$module.$ghost.{$ghost};
 
-use bitcode::{Bare, BareVariants, HasCoders, HeldIn, Payload, StandsFor};
+use bitcode::{Bare, BareEncoder, BareVariants, DecodeOwned, HasDecoder, HasEncoder, HeldIn, Payload, StandsFor, VariantDecoder};
 
 $declaration
 impl BareVariants<$count> for $name {
@@ -41,13 +41,21 @@ impl HeldIn for $name {
 }
 
 $payload
-impl HasCoders for $name {}
+impl HasEncoder for $name {
+    type Encoder = BareEncoder<$count>;
+}
+
+impl<'a> HasDecoder<'a> for $name {
+    type Decoder = VariantDecoder<'a, $count, true>;
+}
+
+impl DecodeOwned for $name {}
 """
 
 NEVER = """//! `$name` has no values, and is written and read as nothing. What is below its declaration was written by `scripts/new_type`.
 ghost use Rattle.bitcode.specs.ByHand.{stood_payload};
 
-use bitcode::{Absent, HasCoders, NoVariants, Payload, StandsFor};
+use bitcode::{Absent, AbsentDecoder, AbsentEncoder, DecodeOwned, HasDecoder, HasEncoder, NoVariants, Payload, StandsFor};
 
 $declaration
 impl NoVariants for $name {
@@ -55,7 +63,15 @@ impl NoVariants for $name {
 }
 
 $payload
-impl HasCoders for $name {}
+impl HasEncoder for $name {
+    type Encoder = AbsentEncoder;
+}
+
+impl<'a> HasDecoder<'a> for $name {
+    type Decoder = AbsentDecoder;
+}
+
+impl DecodeOwned for $name {}
 """
 
 
@@ -66,19 +82,26 @@ def one_text(enum, crate, module, imports, own):
     inner = {"named": f" {{ {', '.join(f'{field.name}: {letter}' for field, letter in zip(variant.fields, letters))} }}", "tuple": f"({', '.join(letters)})", "unit": ""}
     built = f"{enum.name}::{variant.name}{inner[variant.kind]}"
     taken = f"\n        let {built} = self;" if letters else ""
+
+    def only(letter):
+        """The pattern of the variant with one field's name."""
+        names = [other if other == letter else "_" for other in letters]
+        inner = {"named": f" {{ {', '.join(f'{field.name}: {name}' for field, name in zip(variant.fields, names))} }}", "tuple": f"({', '.join(names)})"}[variant.kind]
+        return f"let {enum.name}::{variant.name}{inner} = self; {letter}"
+
     return tuple_text(
         enum,
         imports,
         own,
-        taken + "\n        " + payload(letters, ""),
+        [(f"elim [ {' '.join([name, *letters])} ↦ {letter} ]", only(letter)) for letter in letters],
         about=f"`{enum.name}` corresponds to the tuple of its variant's fields. What is below its declaration was written by `scripts/new_type`.",
         declaration=declaration(enum),
         ghost_use=f"    ghost use Rattle.{crate}.specs.declared.{module}.{ghost}.{{{ghost}}};\n\n",
-        ghost_parts=f"elim [ {' '.join([name, *letters])} ↦ {payload(letters, 'tt')} ]",
+        ghost_parts=f"elim [ {' '.join([name, *letters])} ↦ {halved(letters) if letters else 'tt'} ]",
         ghost_made=" ".join([name, *places(len(letters))]) if letters else name,
         told=taken + "".join(f"\n        {letter}.told();" for letter in letters) + ("\n    " if letters else ""),
         one_to_one=one_to_one(enum),
-        pattern=payload(letters, "_nothing"),
+        pattern=halved(letters) if letters else "_nothing",
         built=built,
     )
 

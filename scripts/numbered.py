@@ -3,16 +3,18 @@
 from string import Template
 
 from known_types import MOST_TYPES, of_text, types_in
-from structs import bounds, in_a_head, laws_as_data, places, quoted
+from structs import bounds, in_a_head, laws_as_data, paths, quoted
 from variants import LETTERS, arms, declaration, held_type, names_of, one_to_one, payload, value
 
 # So many variants that follow each other have their coders together, at the most: crates/bitcode_enums/src/variants.
-MOST_TOGETHER = 6
-ORDINALS = ["first", "second", "third", "fourth", "fifth", "sixth"]
+MOST_TOGETHER = 4
+ORDINALS = ["first", "second", "third", "fourth"]
+# So many groups of an enum that borrows have their coders together: of halves of halves the borrow checker covers none.
+MOST_HALVES = 2
 # Of more than so much text the type of a group's encoders has a name.
 MOST_IN_PLACE = 48
-# Of so many fields the compiler finds the types of what a coder takes.
-MOST_FOUND = 2
+# Of more fields than these the compiler needs to be told the types of what a coder takes.
+MOST_FOUND = 1
 
 FILE = """//! `$simple` is written and read by the numbers of its variants. What is below its declaration was written by `scripts/new_type`.
 ghost use Rattle.std.specs.Prelude.{$prelude};
@@ -192,12 +194,12 @@ def groups_of(weights):
     return found
 
 
-def parts_of(groups, weights):
-    """The groups that a struct holds together."""
+def parts_of(groups, weights, most):
+    """The groups that a struct holds together, no more than `most` of them."""
     parts, room = [], 0
     for group in groups:
         weight = sum(weights[n] for n in group)
-        if weight > room:
+        if not parts or weight > room or len(parts[-1]) == most:
             parts, room = [*parts, []], MOST_TYPES
         parts[-1].append(group)
         room -= weight
@@ -217,7 +219,7 @@ class Numbered:
         self.enum, self.crate, self.module, self.count = enum, crate, module, len(enum.variants)
         weights = [sum(types_in(field.type, own) for field in variant.fields) for variant in enum.variants]
         self.groups = groups_of(weights)
-        self.parts = parts_of(self.groups, weights)
+        self.parts = parts_of(self.groups, weights, MOST_HALVES if enum.lifetime else len(self.groups))
         self.types = [held_type(variant) for variant in enum.variants]
         self.life, self.input = bounds(enum, ""), enum.lifetime or "'a"
         self.name = enum.name + self.life
@@ -299,7 +301,7 @@ class Numbered:
 
     def built(self, variant):
         """A function of a payload, which gives the value that has it, in a ghost member."""
-        found = places(len(variant.fields)) if variant.fields else []
+        found = paths(len(variant.fields)) if variant.fields else []
         return " ".join([f"{quoted(self.enum.name)}.{variant.name}", *found])
 
     def variants(self):

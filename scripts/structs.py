@@ -4,7 +4,7 @@ import re
 from string import Template
 
 from declarations import Refused, fields_of
-from known_types import MOST_LEFT, MOST_TYPES, Checker, inside, of_text, says_laws, types_in
+from known_types import MOST_LEFT, MOST_TYPES, Checker, inside, of_text, says_laws, takes_memory, types_in
 
 # The names of fields without a name.
 ORDINALS = "first second third fourth fifth sixth seventh eighth ninth tenth eleventh twelfth thirteenth fourteenth fifteenth sixteenth".split()
@@ -48,18 +48,40 @@ impl$made FromParts for $name {
     }
 }
 
-$payload${lends}impl$has_encoder HasEncoder for $name {
-    type Encoder = $encoder;
-}
-
-${apart}impl$has_decoder HasDecoder<$input> for $name {
+$payload${encoded}${apart}impl$has_decoder HasDecoder<$input> for $name {
     type Decoder = $decoder;
 }
 $owned"""
-LENDS = """${aliases}impl$shaped LendsFields$count<$types> for $name {
-    fn fields(&self) -> $references {
+# A field that a struct lends, and the encoder of all of them.
+FIELD = """impl$parameters HasField<$number> for $name {
+${ghost_use}    type Field = $type;
+
+    type Inside = $inside;
+
+    ghost field = { $ghost_field };
+
+    fn field(&self) -> &$type {
         $lent
     }
+}
+
+"""
+IN_FIELDS = """type Fields$life = <$nested as HasEncoder>::Encoder;
+
+impl$encoded InFields<Fields$life> for $name {
+    type Numbers = $numbers;
+
+    type Inside = $own_inside;
+
+    ghost same_shape = { refl };
+
+    ghost to_fields = { $listed };
+
+    ghost of_fields = { $listed };
+}
+
+impl$has_encoder HasEncoder for $name {
+    type Encoder = StructEncoder<Fields$life>;
 }
 
 """
@@ -126,6 +148,23 @@ def halved(items):
     return f"({halved(items[:half])}, {halved(items[half:])})"
 
 
+def paired(items):
+    """One item for itself, or a pair of those of the first half and of those of the second, as text."""
+    half = len(items) // 2
+    return items[0] if len(items) == 1 else f"({paired(items[:half])}, {paired(items[half:])})"
+
+
+def paths(count, whole="p"):
+    """Where in the pairs the items stand."""
+    half = count // 2
+    return [whole] if count == 1 else paths(half, f"{whole}.0") + paths(count - half, f"{whole}.1")
+
+
+def listed(count):
+    """That the listings of so many fields are those of their nested pairs, and the other way round."""
+    return "(λ d h. h)" if count == 1 else f"(listed_pair {listed(count // 2)} {listed(count - count // 2)})"
+
+
 def places(count, whole="p"):
     """Where in the tuple the parts stand."""
     if count == 1:
@@ -175,10 +214,10 @@ def initialized(field):
     return field.name if parameter(field.name) == field.name else f"{field.name}: {parameter(field.name)}"
 
 
-def in_a_head(item, types, prefix, first=0, other=""):
+def in_a_head(item, types, prefix, first=0):
     """The types as the head of an impl has them, and the aliases of those that would make a name of a file too long, numbered from the
-    first on. The head names another type too, if one is given."""
-    text = "".join([item.name, other, "LendsFields16", *types])
+    first on."""
+    text = "".join([item.name, "HasField16", *types])
     if len(re.sub(r"\W", "", text)) + len("Tuple16") * len(re.findall(r"[(\[&]", text)) <= MOST_IN_A_HEAD:
         return types, ""
     names, aliases = {}, ""
@@ -190,21 +229,16 @@ def in_a_head(item, types, prefix, first=0, other=""):
     return [names.get(type, type) for type in types], aliases
 
 
-def lends(item, lent):
-    """How the fields are lent, of what is said of references to them."""
-    types = [of_text(field.type) for field in fields_of(item)]
-    if not types:
-        return ""
-    short, aliases = in_a_head(item, types, "Field")
-    return Template(LENDS).substitute(
-        shaped=bounds(item, "Shaped"),
-        count=len(types),
-        types=", ".join(short),
-        aliases=aliases,
-        name=item.name + bounds(item, ""),
-        references=halved(["&" + text for text in types]),
-        lent=lent,
-    )
+def fields_text(item, own, lent, law, ghost_use="", nested=paired):
+    """How the fields are lent, of the terms and bodies that give each of them, in which nested pairs they are encoded, and by what."""
+    types, name = [of_text(field.type) for field in fields_of(item)], item.name + bounds(item, "")
+    owns_memory = any(takes_memory(field.type, own) for field in fields_of(item))
+    texts, row = [], {"own_inside": f"(<{name} as StandsFor>::Parts, <{name} as StandsFor>::Inside)" if item.types or owns_memory else "()"}
+    for number, (type, (ghost_field, body)) in enumerate(zip(types, lent)):
+        texts.append(Template(FIELD).substitute(parameters=bounds(item, "Shaped"), number=number, type=type, name=name, inside=f"<{name} as StandsFor>::Inside" if item.types or owns_memory else "()", ghost_use=ghost_use, ghost_field=ghost_field, lent=body))
+    numbers = [f"Nth<{number}>" for number in range(len(types))]
+    row |= {"nested": nested(types), "numbers": nested(numbers)} if types else {"nested": "()", "numbers": "()"}
+    return "".join(texts) + Template(IN_FIELDS).substitute(row, life=bounds(item, ""), encoded=bounds(item, "Encode"), has_encoder=bounds(item, "HasEncoder"), name=name, listed="λ t d h. h" if len(types) < 2 else "λ t. " + law[1:-1])
 
 
 def laws_as_data(item, parts):
@@ -262,10 +296,10 @@ def tuple_text(item, imports, own, lent, **row):
     """The file of what stands for the tuple of its fields, of what is said of these."""
     is_owned = not item.lifetime
     fields, name, input = fields_of(item), item.name + bounds(item, ""), item.lifetime or "'a"
-    used = {"EncoderOfFields", "FromParts", "HasDecoder", "HasEncoder", "StandsFor"}
-    used |= {f"LendsFields{len(fields)}"} if fields else set()
+    used = {"FromParts", "HasDecoder", "HasEncoder", "InFields", "StandsFor", "StructEncoder"}
+    used |= {"HasField", "Nth"} if fields else set()
     used |= {"Shaped"} if fields or item.types else set()
-    used |= {"Made"} if item.types else set()
+    used |= {"Encode", "Made"} if item.types else set()
     used |= {"DecodeOwned"} if is_owned else set()
     tells = all(says_laws(field.type, own) for field in fields)
     used |= {"Payload"} if tells else set()
@@ -274,6 +308,7 @@ def tuple_text(item, imports, own, lent, **row):
     type_of_decoder, apart = decoder(item, own, input, alias if is_long else parts)
     used |= {"Error", "PartsDecoder", "TupleDecoder"} if apart else {"DecoderOfFields"}
     imports = {*imports, *({"bitcode::coder::{Decoder, HoldsData, View}", "std::alloc::Global"} if apart else ())}
+    by_hand = [*(["listed_pair"] if len(fields) > 1 else []), *(["stood_payload"] if tells else [])]
     lines = [f"use bitcode::{{{', '.join(sorted(used))}}};", *(f"use {path};" for path in sorted(imports))]
     row |= {
         "decoder": type_of_decoder,
@@ -285,13 +320,11 @@ def tuple_text(item, imports, own, lent, **row):
         "parts": alias if is_long else parts,
         "shaped": bounds(item, "Shaped"),
         "made": bounds(item, "Made"),
-        "by_hand": "ghost use Rattle.bitcode.specs.ByHand.{stood_payload};\n" if tells else "",
+        "by_hand": f"ghost use Rattle.bitcode.specs.ByHand.{{{', '.join(by_hand)}}};\n" if by_hand else "",
         "payload": laws_as_data(item, alias if is_long else parts) + "\n" if tells else "",
-        "encoder": f"EncoderOfFields<{len(fields)}, {alias if is_long else parts}>",
-        "has_encoder": bounds(item, "HasEncoder"),
         "has_decoder": bounds(item, f"HasDecoder<{input}>", input),
         "input": input,
-        "lends": lends(item, lent),
+        "encoded": fields_text(item, own, lent, listed(max(len(fields), 1)), row["ghost_use"]),
         "owned": Template(OWNED).substitute(parameters=bounds(item, "DecodeOwned"), name=name) if is_owned else "",
     }
     return Template(HEAD + BODY).substitute(row)
@@ -307,7 +340,7 @@ def file_text(struct, imports, own):
         struct,
         imports,
         own,
-        halved([f"&self.{field.name}" for field in fields]) if fields else "",
+        [(f"λ t. t.{field.name}", f"&self.{field.name}") for field in fields],
         about=f"`{struct.name}` corresponds to the tuple of its fields. What is below its declaration was written by `scripts/new_type`.",
         declaration=declaration(struct),
         ghost_use="",

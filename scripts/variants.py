@@ -1,7 +1,7 @@
 """What the files of enums have of their variants, as text."""
 
 from known_types import of_text
-from structs import bounds, halved, heads, initialized, parameter, quoted
+from structs import bounds, heads, initialized, paired, parameter, quoted
 
 # The names of fields without a name.
 LETTERS = "abcdefghijklmnop"
@@ -42,12 +42,12 @@ def value(enum, variant):
 
 
 def payload(items, nothing):
-    """The fields of one variant, or what stands for none, as text."""
-    return halved(items) if items else nothing
+    """The fields of one variant in nested pairs, or what stands for none, as text."""
+    return paired(items) if items else nothing
 
 
 def held_type(variant):
-    """The type of what a value of the variant has: nothing, its field, or their tuple."""
+    """The type of what a value of the variant has: nothing, its field, or their nested pairs."""
     return payload([of_text(field.type) for field in variant.fields], "()")
 
 

@@ -4,42 +4,12 @@ from string import Template
 
 from declarations import Refused, fields_of
 from known_types import MOST_LEFT, MOST_TYPES, Checker, inside, names_in, of_text, says_laws, takes_memory, types_in
-from structs import APART, BODY, HEAD, OWNED, bounds, declaration, decoder, decoder_of_parts, halved, in_a_head, initialized, laws_as_data, parameter, places, quoted, types_left
+from structs import APART, BODY, HEAD, OWNED, bounds, declaration, decoder, decoder_of_parts, fields_text, halved, initialized, laws_as_data, listed, paired, parameter, paths, places, quoted, types_left
 
 # A struct has no more fields than these, which name no more types: of more the borrow checker covers no encoder.
 MOST_WIDE = MOST_ENCODED = 48
 # A part has no more fields than these: they have one tuple.
 MOST_IN_PART = 8
-
-# What a part of the fields has beside what a struct has.
-PART_OF = """impl$shaped PartOf<$whole> for $name {
-    ghost of = { λ t. record { $ghost_fields } };
-}
-
-${aliases}impl$shaped LendsPart$count<$whole, $types> for $name {
-    fn lend<$lent_for>(whole: &$lent_for $whole) -> $references {
-        $lent
-    }
-}
-
-"""
-IN_PARTS = """impl$shaped InParts for $name {
-    ghost in_parts = { λ t. refl };
-}
-
-"""
-
-
-def paired(items):
-    """One item for itself, or a pair of those of the first half and of those of the second, as text."""
-    half = len(items) // 2
-    return items[0] if len(items) == 1 else f"({paired(items[:half])}, {paired(items[half:])})"
-
-
-def paths(count, whole="p"):
-    """Where in the pairs the parts stand."""
-    half = count // 2
-    return [whole] if count == 1 else paths(half, f"{whole}.0") + paths(count - half, f"{whole}.1")
 
 
 def parts_of(struct):
@@ -94,9 +64,9 @@ def types_of_wide(struct, own):
     return types_named(parts, own, types_named(parts, own, False) > MOST_LEFT)
 
 
-def part_text(part, struct, number, first, own, is_apart):
+def part_text(part, struct, number, own, is_apart):
     """What is written of a part."""
-    input, name, whole = part.lifetime or "'a", part.name + bounds(part, ""), struct.name + bounds(struct, "")
+    input, name = part.lifetime or "'a", part.name + bounds(part, "")
     fields, types = part.fields, [of_text(field.type) for field in part.fields]
     alias = f"Fields{number}" + bounds(part, "")
     inner, apart = decoder_of_parts(part, own, input, alias)
@@ -104,12 +74,6 @@ def part_text(part, struct, number, first, own, is_apart):
     if is_apart:
         apart += Template(APART).substitute(simple=struct.name, apart=f"{struct.name}Decoder{number}", input=input, inner=inner, type=alias)
         type_of_decoder = f"PartsDecoder<{alias}, {struct.name}Decoder{number}<{input}>>"
-    short, aliases = in_a_head(part, types, "Field", first, struct.name)
-    lent_for = "'c" if struct.lifetime == "'b" else "'b"
-    part_of = Template(PART_OF).substitute(
-        shaped=bounds(struct, "Shaped"), whole=whole, name=name, ghost_fields=record_of(fields, "t"), aliases=aliases, count=len(fields), types=", ".join(short),
-        lent_for=lent_for, references=halved([f"&{lent_for} {text}" for text in types]), lent=halved([f"&whole.{field.name}" for field in fields]),
-    )
     made = "; ".join(f"{quoted(field.name)} = {place}" for field, place in zip(fields, places(len(fields))))
     tells = all(says_laws(field.type, own) for field in fields)
     return Template(BODY).substitute(
@@ -117,10 +81,15 @@ def part_text(part, struct, number, first, own, is_apart):
         inside=inside(part, own), ghost_parts=f"λ t. {halved([f't.{field.name}' for field in fields])}", ghost_made=f"record {{ {made} }}",
         told="".join(f"\n        self.{field.name}.told();" for field in fields) + "\n    ", one_to_one="λ t. refl", made=bounds(part, "Made"),
         pattern=halved([parameter(field.name) for field in fields]), built=f"{part.name} {{ {', '.join(map(initialized, fields))} }}",
-        payload=laws_as_data(part, alias) + "\n" if tells else "", lends=part_of, has_encoder=bounds(part, "HasEncoder"),
-        encoder=f"EncoderOfPart<{len(fields)}, {alias}>", apart=apart, has_decoder=bounds(part, f"HasDecoder<{input}>", input), input=input,
+        payload=laws_as_data(part, alias) + "\n" if tells else "", encoded="", apart=apart, has_decoder=bounds(part, f"HasDecoder<{input}>", input), input=input,
         decoder=type_of_decoder, owned="\n",
     ), bool(apart)
+
+
+def listed_parts(sizes):
+    """That the listings of parts with so many fields are those of the nested pairs of all fields, and the other way round."""
+    half = len(sizes) // 2
+    return listed(sizes[0]) if len(sizes) == 1 else f"(listed_pair {listed_parts(sizes[:half])} {listed_parts(sizes[half:])})"
 
 
 def wide_text(struct, own):
@@ -140,11 +109,10 @@ def wide_text(struct, own):
         raise Refused(struct.line, f"the fields name more than the {MOST_TYPES} types of which the borrow checker covers a decoder: put those of your own types that take memory into a struct of their own")
     if sum(types_encoded(field.type, own) for field in struct.fields) > MOST_ENCODED:
         raise Refused(struct.line, f"the fields name more than the {MOST_ENCODED} types of which the borrow checker covers an encoder: put some of them into a struct of their own, which is written by itself")
-    texts, first, uses_apart = [], 0, False
+    texts, uses_apart = [], False
     for number, part in enumerate(parts):
-        text, has_apart = part_text(part, struct, number, first, own, is_apart and not has_inside(part, own))
+        text, has_apart = part_text(part, struct, number, own, is_apart and not has_inside(part, own))
         texts.append(text)
-        first += len(part.fields)
         uses_apart |= has_apart
     tells, alias = all(says_laws(field.type, own) for field in struct.fields), "Parts" + bounds(struct, "")
     whole = [part.name + bounds(part, "") for part in parts]
@@ -152,8 +120,7 @@ def wide_text(struct, own):
     names = {field.name for field in struct.fields}
     held = [f"part{number}{'_' * any(name.startswith('part') for name in names)}" for number in range(len(parts))]
     moved = "".join(f"let {part.name} {{ {', '.join(map(initialized, part.fields))} }} = {own_name};" for part, own_name in zip(parts, held))
-    used = {"DecoderOfFields", "EncoderOfPart", "EncoderOfParts", "FromParts", "HasDecoder", "HasEncoder", "InParts", "PartOf", "Shaped", "StandsFor"}
-    used |= {f"LendsPart{len(part.fields)}" for part in parts}
+    used = {"DecoderOfFields", "FromParts", "HasDecoder", "HasEncoder", "HasField", "InFields", "Nth", "Shaped", "StandsFor", "StructEncoder"}
     used |= {"Made"} if struct.types else set()
     used |= set() if struct.lifetime else {"DecodeOwned"}
     used |= {"Payload"} if tells else set()
@@ -161,19 +128,25 @@ def wide_text(struct, own):
     used |= {"TupleDecoder"} if any("TupleDecoder<" in text for text in texts) else set()
     imports = {*checker.imports, *({"bitcode::coder::{Decoder, HoldsData, View}", "std::alloc::Global"} if uses_apart else ())}
     uses = sorted([f"use bitcode::{{{', '.join(sorted(used))}}};", *(f"use {path};" for path in imports)])
+    sizes = [len(part.fields) for part in parts]
+
+    def nested(items):
+        """The items of each part in nested pairs, and those in pairs."""
+        rest = iter(items)
+        return paired([paired([next(rest) for _ in range(size)]) for size in sizes])
+
     body = Template(BODY).substitute(
         declaration="", alias=f"type {alias} = {paired(whole)};\n\n", shaped=bounds(struct, "Shaped"), name=name, ghost_use="", parts=alias,
         inside=inside_of(parts, own), ghost_parts=f"λ t. {paired([f'record {{ {record_of(part.fields, chr(116))} }}' for part in parts])}",
         ghost_made="record { " + "; ".join(f"{quoted(field.name)} = {place}" for field, place in found) + " }",
         told="".join(f"\n        self.{field.name}.told();" for field in struct.fields) + "\n    ", one_to_one="λ t. refl", made=bounds(struct, "Made"),
         pattern=paired(held), built=f"{moved} {struct.name} {{ {', '.join(map(initialized, struct.fields))} }}", payload=laws_as_data(struct, alias) + "\n" if tells else "",
-        lends=Template(IN_PARTS).substitute(shaped=bounds(struct, "Shaped"), name=name), has_encoder=bounds(struct, "HasEncoder"),
-        encoder=f"EncoderOfParts<{alias}>", apart="", has_decoder=bounds(struct, f"HasDecoder<{input}>", input), input=input,
+        encoded=fields_text(struct, own, [(f"λ t. t.{field.name}", f"&self.{field.name}") for field in struct.fields], listed_parts(sizes), nested=nested), apart="", has_decoder=bounds(struct, f"HasDecoder<{input}>", input), input=input,
         decoder=f"DecoderOfFields<{input}, {alias}>",
         owned="" if struct.lifetime else Template(OWNED).substitute(parameters=bounds(struct, "DecodeOwned"), name=name),
     )
     head = Template(HEAD).substitute(
         about=f"`{struct.name}` corresponds to pairs of parts of its fields. What is below its declaration was written by `scripts/new_type`.",
-        by_hand="ghost use Rattle.bitcode.specs.ByHand.{stood_payload};\n" if tells else "", uses="\n".join(uses) + "\n",
+        by_hand=f"ghost use Rattle.bitcode.specs.ByHand.{{{', '.join(['listed_pair', *(['stood_payload'] if tells else [])])}}};\n", uses="\n".join(uses) + "\n",
     )
     return head + declaration(struct) + "\n" + "\n".join(texts) + body, checker.crates

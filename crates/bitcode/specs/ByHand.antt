@@ -32,8 +32,10 @@ pub use Rattle.bitcode_shapes.specs.Choices.{IsVariantValue, ListsChoice, ListsV
 pub use Rattle.bitcode_shapes.specs.PayloadOf.{PayloadOf, payload_of, stood_payload}
 pub use Rattle.bitcode_enums.specs.VariantsOf.{VariantsOf, IsVariant, is_variant}
 pub use Rattle.bitcode_enums.specs.EachVariant.{last_payload, payload_and, each_variant}
-pub use Rattle.bitcode_enums.specs.OneOf.{of_one_of_2, of_one_of_3, of_one_of_4, of_one_of_5, of_one_of_6}
+pub use Rattle.bitcode_enums.specs.OneOf.{of_one_of_2, of_one_of_3, of_one_of_4}
 pub use Rattle.bitcode_enums.specs.HeldColumns.{columns_in, payloads_in}
+-- That a pair of fields has a listing where both have:
+pub use Rattle.bitcode_tuples.specs.FieldLaws.{listed_pair}
 -- What keys of one's own promise as data:
 pub use Rattle.bitcode_shapes.specs.KeyOf.{KeyOf, key_of, stood_key, key_as}
 pub use Rattle.bitcode_shapes.specs.CompareAlike.{naturals_alike, and_nested, then_nested}

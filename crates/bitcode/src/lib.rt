@@ -81,157 +81,55 @@ pub use bitcode_untyped::value::Value;
 pub mod own {
     pub use bitcode_coder::checked::Checked;
     pub use bitcode_coder::column_int::ColumnInt;
-    pub use bitcode_coder::int::AsInt;
-    pub use bitcode_coder::int::Integer;
-    pub use bitcode_coder::part::Part;
-    pub use bitcode_coder::part::told_parts;
+    pub use bitcode_coder::int::{AsInt, Integer};
+    pub use bitcode_coder::part::{Part, told_parts};
     pub use bitcode_coder::str::AsText;
-    pub use bitcode_derive::absent::AbsentDecoder;
-    pub use bitcode_derive::absent::AbsentEncoder;
-    pub use bitcode_derive::derive::HasCoders;
+    pub use bitcode_derive::absent::{AbsentDecoder, AbsentEncoder};
     use bitcode_derive::derive::HasDecoder;
-    use bitcode_derive::derive::HasEncoder;
-    pub use bitcode_derive::derive::HolderDecoder;
-    pub use bitcode_derive::derive::HolderEncoder;
-    pub use bitcode_enums::columns::AllColumns;
-    pub use bitcode_enums::columns::VariantColumns;
+    pub use bitcode_enums::columns::{AllColumns, VariantColumns};
     pub use bitcode_enums::decoder::EnumDecoder;
     pub use bitcode_enums::encoder::EnumEncoder;
     pub use bitcode_enums::halves::Halves;
-    pub use bitcode_enums::held::Enum;
-    pub use bitcode_enums::held::EnumOf;
-    pub use bitcode_enums::held::Held;
-    pub use bitcode_enums::held::told_as;
-    pub use bitcode_enums::payloads::AllPayloads;
-    pub use bitcode_enums::payloads::VariantPayloads;
-    pub use bitcode_enums::place::At;
-    pub use bitcode_enums::place::Place;
-    pub use bitcode_enums::variants::of_2::Decoders2;
-    pub use bitcode_enums::variants::of_2::DecodersOf2;
-    pub use bitcode_enums::variants::of_2::Encoders2;
-    pub use bitcode_enums::variants::of_2::EncodersOf2;
-    pub use bitcode_enums::variants::of_2::OneOf2;
-    pub use bitcode_enums::variants::of_2::Variants2;
-    pub use bitcode_enums::variants::of_3::Decoders3;
-    pub use bitcode_enums::variants::of_3::DecodersOf3;
-    pub use bitcode_enums::variants::of_3::Encoders3;
-    pub use bitcode_enums::variants::of_3::EncodersOf3;
-    pub use bitcode_enums::variants::of_3::OneOf3;
-    pub use bitcode_enums::variants::of_3::Variants3;
-    pub use bitcode_enums::variants::of_4::Decoders4;
-    pub use bitcode_enums::variants::of_4::DecodersOf4;
-    pub use bitcode_enums::variants::of_4::Encoders4;
-    pub use bitcode_enums::variants::of_4::EncodersOf4;
-    pub use bitcode_enums::variants::of_4::OneOf4;
-    pub use bitcode_enums::variants::of_4::Variants4;
-    pub use bitcode_enums::variants::of_5::Decoders5;
-    pub use bitcode_enums::variants::of_5::DecodersOf5;
-    pub use bitcode_enums::variants::of_5::Encoders5;
-    pub use bitcode_enums::variants::of_5::EncodersOf5;
-    pub use bitcode_enums::variants::of_5::OneOf5;
-    pub use bitcode_enums::variants::of_5::Variants5;
-    pub use bitcode_enums::variants::of_6::Decoders6;
-    pub use bitcode_enums::variants::of_6::DecodersOf6;
-    pub use bitcode_enums::variants::of_6::Encoders6;
-    pub use bitcode_enums::variants::of_6::EncodersOf6;
-    pub use bitcode_enums::variants::of_6::OneOf6;
-    pub use bitcode_enums::variants::of_6::Variants6;
-    pub use bitcode_enums::writes::WritesPayloads;
-    pub use bitcode_enums::writes::WritesVariants;
-    pub use bitcode_enums::writes::encode_payload_fields;
-    pub use bitcode_ints::signed::I8Decoder;
-    pub use bitcode_ints::signed::I8Encoder;
-    pub use bitcode_ints::signed::I16Decoder;
-    pub use bitcode_ints::signed::I16Encoder;
-    pub use bitcode_ints::signed::I32Decoder;
-    pub use bitcode_ints::signed::I32Encoder;
-    pub use bitcode_ints::signed::I64Decoder;
-    pub use bitcode_ints::signed::I64Encoder;
-    pub use bitcode_ints::signed::I128Decoder;
-    pub use bitcode_ints::signed::I128Encoder;
-    pub use bitcode_ints::signed::IsizeDecoder;
-    pub use bitcode_ints::signed::IsizeEncoder;
-    pub use bitcode_ints::unsigned::U8Decoder;
-    pub use bitcode_ints::unsigned::U8Encoder;
-    pub use bitcode_ints::unsigned::U16Decoder;
-    pub use bitcode_ints::unsigned::U16Encoder;
-    pub use bitcode_ints::unsigned::U32Decoder;
-    pub use bitcode_ints::unsigned::U32Encoder;
-    pub use bitcode_ints::unsigned::U64Decoder;
-    pub use bitcode_ints::unsigned::U64Encoder;
-    pub use bitcode_ints::unsigned::U128Decoder;
-    pub use bitcode_ints::unsigned::U128Encoder;
-    pub use bitcode_ints::unsigned::UsizeDecoder;
-    pub use bitcode_ints::unsigned::UsizeEncoder;
+    pub use bitcode_enums::held::{Enum, EnumOf, Held, told_as};
+    pub use bitcode_enums::payloads::{AllPayloads, VariantPayloads};
+    pub use bitcode_enums::place::{At, Place};
+    pub use bitcode_enums::variants::of_2::{
+        Decoders2, DecodersOf2, Encoders2, EncodersOf2, OneOf2, Variants2,
+    };
+    pub use bitcode_enums::variants::of_3::{
+        Decoders3, DecodersOf3, Encoders3, EncodersOf3, OneOf3, Variants3,
+    };
+    pub use bitcode_enums::variants::of_4::{
+        Decoders4, DecodersOf4, Encoders4, EncodersOf4, OneOf4, Variants4,
+    };
+    pub use bitcode_enums::writes::{WritesPayloads, WritesVariants, encode_payload_fields};
+    pub use bitcode_ints::signed::{
+        I8Decoder, I8Encoder, I16Decoder, I16Encoder, I32Decoder, I32Encoder, I64Decoder,
+        I64Encoder, I128Decoder, I128Encoder, IsizeDecoder, IsizeEncoder,
+    };
+    pub use bitcode_ints::unsigned::{
+        U8Decoder, U8Encoder, U16Decoder, U16Encoder, U32Decoder, U32Encoder, U64Decoder,
+        U64Encoder, U128Decoder, U128Encoder, UsizeDecoder, UsizeEncoder,
+    };
     pub use bitcode_parts::choices::bare::BareEncoder;
-    pub use bitcode_parts::choices::variant::encode_payload;
-    pub use bitcode_parts::choices::variant::encode_payloads;
-    pub use bitcode_parts::lists::sequence::FromElements;
-    pub use bitcode_parts::lists::sequence::Lends;
-    pub use bitcode_parts::lists::sequence::Sequence;
-    pub use bitcode_parts::lists::sequence::decode_each;
-    pub use bitcode_parts::lists::sequence::encode_each;
-    pub use bitcode_parts::lists::sequence::encode_lent;
+    pub use bitcode_parts::choices::variant::{encode_payload, encode_payloads};
+    pub use bitcode_parts::lists::sequence::{
+        FromElements, Lends, Sequence, decode_each, encode_each, encode_lent,
+    };
     pub use bitcode_parts::maps::Mapping;
     pub use bitcode_parts::pointers::deref::Points;
     pub use bitcode_parts::pointers::from::FromValue;
     pub use bitcode_parts::stands_for::PartsDecoder;
-    pub use bitcode_shapes::bare_variants::Bare;
-    pub use bitcode_shapes::bare_variants::BareVariants;
-    pub use bitcode_shapes::lists::told_behind;
-    pub use bitcode_shapes::lists::told_each;
-    pub use bitcode_shapes::no_variants::Absent;
-    pub use bitcode_shapes::no_variants::NoVariants;
-    pub use bitcode_shapes::payload::KeyPayload;
-    pub use bitcode_shapes::payload::Payload;
+    pub use bitcode_shapes::bare_variants::{Bare, BareVariants};
+    pub use bitcode_shapes::lists::{told_behind, told_each};
+    pub use bitcode_shapes::no_variants::{Absent, NoVariants};
+    pub use bitcode_shapes::payload::{KeyPayload, Payload};
     pub use bitcode_shapes::same_arrays::SameArrays;
-    pub use bitcode_shapes::stands_for::FromParts;
-    pub use bitcode_shapes::stands_for::HeldIn;
-    pub use bitcode_shapes::stands_for::StandsFor;
-    pub use bitcode_structs::encoder::FieldCount;
-    pub use bitcode_structs::encoder::StructEncoder;
-    pub use bitcode_structs::lends::LendsFields1;
-    pub use bitcode_structs::lends::of_2_to_8::LendsFields2;
-    pub use bitcode_structs::lends::of_2_to_8::LendsFields3;
-    pub use bitcode_structs::lends::of_2_to_8::LendsFields4;
-    pub use bitcode_structs::lends::of_2_to_8::LendsFields5;
-    pub use bitcode_structs::lends::of_2_to_8::LendsFields6;
-    pub use bitcode_structs::lends::of_2_to_8::LendsFields7;
-    pub use bitcode_structs::lends::of_2_to_8::LendsFields8;
-    pub use bitcode_structs::lends::of_9_to_16::LendsFields9;
-    pub use bitcode_structs::lends::of_9_to_16::LendsFields10;
-    pub use bitcode_structs::lends::of_9_to_16::LendsFields11;
-    pub use bitcode_structs::lends::of_9_to_16::LendsFields12;
-    pub use bitcode_structs::lends::of_9_to_16::LendsFields13;
-    pub use bitcode_structs::lends::of_9_to_16::LendsFields14;
-    pub use bitcode_structs::lends::of_9_to_16::LendsFields15;
-    pub use bitcode_structs::lends::of_9_to_16::LendsFields16;
-    pub use bitcode_tuples::fields::Fields;
-    pub use bitcode_tuples::fields::FieldsEncoder;
-    pub use bitcode_wide::encoder::AllFields;
-    pub use bitcode_wide::encoder::WideEncoder;
-    pub use bitcode_wide::lends::LendsPart5;
-    pub use bitcode_wide::lends::LendsPart6;
-    pub use bitcode_wide::lends::LendsPart7;
-    pub use bitcode_wide::lends::LendsPart8;
-    pub use bitcode_wide::parts::InParts;
-    pub use bitcode_wide::parts::PartEncoder;
-    pub use bitcode_wide::parts::PartOf;
-
-    /// The encoder of a struct of `K` fields, which corresponds to their tuple `P`.
-    pub type EncoderOfFields<const K: usize, P> = StructEncoder<
-        FieldCount<K>,
-        <P as HasEncoder>::Encoder,
-    >;
-
-    /// The encoder of a part of `K` fields, which corresponds to their tuple `P`.
-    pub type EncoderOfPart<const K: usize, P> = WideEncoder<
-        FieldCount<K>,
-        <P as HasEncoder>::Encoder,
-    >;
-
-    /// The encoder of a struct with more than 16 fields, which corresponds to the pairs `P` of its parts.
-    pub type EncoderOfParts<P> = WideEncoder<AllFields, <P as HasEncoder>::Encoder>;
+    pub use bitcode_shapes::stands_for::{FromParts, HeldIn, StandsFor};
+    pub use bitcode_tuples::fields::{Fields, FieldsEncoder};
+    pub use bitcode_tuples::has_field::{HasField, Nth};
+    pub use bitcode_tuples::part_encoder::PartEncoder;
+    pub use bitcode_tuples::struct_encoder::{InFields, StructEncoder};
 
     /// The decoder of a struct, which corresponds to the tuple `P` of its fields.
     pub type DecoderOfFields<'a, P> = PartsDecoder<P, <P as HasDecoder<'a>>::Decoder>;

@@ -83,8 +83,8 @@ pub trait ColumnInt: Copy {
         ensures unchanged { OnErr result (out.new.items ≡ out.old.items) }
         ensures reason { IfErr result (λ e. e.reason ≡ Reason.OutOfMemory) };
 
-    /// Appends the column of the integers, as [`ColumnInt::pack`] does, if they stay unchanged then. Returns whether it
-    /// did. If not, `out` is unchanged.
+    /// Appends the column of the integers, as [`ColumnInt::pack`] does, but leaves them unchanged. Returns whether it
+    /// did: integers of one byte return false. Then `out` is unchanged.
     ///
     /// If an allocation fails, the error is `out of memory` and `out` is unchanged.
     fn pack_slice(_alloc: Global, _ints: &[Self], _out: &mut Vec<u8>) -> Result<bool, Error>

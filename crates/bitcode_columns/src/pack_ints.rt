@@ -15,7 +15,7 @@ mod read;
 pub(crate) mod width;
 mod write;
 
-/// Appends the column of the integers. The slice is scratch afterwards.
+/// Appends the column of the integers. Do not rely on the integers in the slice afterwards.
 ///
 /// The single `u32` 255 becomes `[4, 255]`: a tag, which says that numbers of one byte follow, and the number. Before
 /// it appends anything, it reserves room for the longest possible text: the raw bytes and one more. If an allocation
@@ -33,6 +33,8 @@ pub fn pack_ints<T: Int>(alloc: Global, ints: &mut [T], out: &mut Vec<u8>) -> Re
 }
 
 /// Appends the column of the integers, as [`pack_ints`] does, and leaves the slice unchanged.
+///
+/// If an allocation fails, the error is `out of memory` and `out` is unchanged.
 pub fn pack_int_slice<T: Int>(alloc: Global, ints: &[T], out: &mut Vec<u8>) -> Result<(), Error>
     ensures written { OnOk result
         (out.new.items ≡ out.old.items ++ int_text T.width (map T.number ints.now)) }

@@ -6,7 +6,6 @@ ghost use Rattle.bitcode_shapes.specs.Shape.{never_shape};
 ghost use Rattle.bitcode_coder.specs.Columns.{no_columns};
 ghost use Rattle.bitcode_coder.specs.Coder.{endless_room};
 
-use crate::derive::{HolderDecoder, HolderEncoder};
 use bitcode_coder::coder::{Buffer, Decoder, Encoder, HoldsColumns, HoldsData, View};
 use bitcode_columns::error::{Error, Reason};
 use bitcode_columns::refuse::err;
@@ -107,12 +106,4 @@ impl<T: NoVariants> Decoder<T> for AbsentDecoder {
     }
 
     ghost same_shape = { refl };
-}
-
-impl<T: NoVariants> HolderEncoder for Absent<T> {
-    type Encoder = AbsentEncoder;
-}
-
-impl<'a, T: NoVariants> HolderDecoder<'a> for Absent<T> {
-    type Decoder = AbsentDecoder;
 }

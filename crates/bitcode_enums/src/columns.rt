@@ -10,7 +10,7 @@ ghost use Rattle.bitcode_enums.specs.ByNumber.{columns_at, KeepsOthers};
 use bitcode_columns::error::{Error, Reason};
 use std::alloc::Global;
 
-/// The columns of the payloads of consecutive variants, with one encoder for each variant: `Encoders2` to `Encoders6`,
+/// The columns of the payloads of consecutive variants, with one encoder for each variant: `Encoders2` to `Encoders4`,
 /// and [`Halves`](crate::halves::Halves) of these.
 ///
 /// ```

@@ -12,7 +12,7 @@ use bitcode_shapes::shaped::Shaped;
 use bitcode_tuples::fields::{Fields, FieldsEncoder};
 
 /// An enum that writes the payloads of consecutive variants to their columns. The enum implements it for each group of
-/// up to six variants, and the library for [`Halves`](crate::halves::Halves) of these.
+/// two to four variants, and the library for [`Halves`](crate::halves::Halves) of these.
 ///
 /// ```rust,from:crates/bitcode_own_types/src/two.rt
 /// impl WritesVariants<Columns> for Two {

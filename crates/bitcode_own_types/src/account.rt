@@ -1,14 +1,14 @@
 //! `Account` corresponds to pairs of parts of its fields. What is below its declaration was written by
 //! `scripts/new_type`.
 ghost use Rattle.std.specs.Prelude.{refl};
-ghost use Rattle.bitcode.specs.ByHand.{stood_payload};
+ghost use Rattle.bitcode.specs.ByHand.{listed_pair, stood_payload};
 
 use crate::item::Item;
 use crate::seat::Seat;
 use bitcode::coder::{Decoder, HoldsData, View};
 use bitcode::own::{
-    DecoderOfFields, EncoderOfPart, EncoderOfParts, FromParts, InParts, LendsPart5, LendsPart6,
-    PartOf, PartsDecoder, Payload, StandsFor,
+    DecoderOfFields, FromParts, HasField, InFields, Nth, PartsDecoder, Payload, StandsFor,
+    StructEncoder,
 };
 use bitcode::{Error, HasDecoder, HasEncoder, Shaped};
 use std::alloc::Global;
@@ -83,27 +83,6 @@ impl<'a> FromParts for AccountPart0<'a> {
 impl<'a> Payload for AccountPart0<'a> {
     ghost payload = { stood_payload ⟦<AccountPart0<'a> as StandsFor>⟧.parts
         ⟦<AccountPart0<'a> as StandsFor>⟧.of_parts ⟦<Fields0<'a> as Payload>⟧.payload };
-}
-
-impl<'a> PartOf<Account<'a>> for AccountPart0<'a> {
-    ghost of = { λ t. record
-        { id = t.id; name = t.name; country = t.country; level = t.level; active = t.active } };
-}
-
-impl<'a> LendsPart5<Account<'a>, u64, String, &'a str, u8, bool> for AccountPart0<'a> {
-    fn lend<'b>(whole: &'b Account<'a>) -> (&'b u64, &'b String, &'b &'a str, &'b u8, &'b bool) {
-        (
-            &whole.id,
-            &whole.name,
-            &whole.country,
-            &whole.level,
-            &whole.active,
-        )
-    }
-}
-
-impl<'a> HasEncoder for AccountPart0<'a> {
-    type Encoder = EncoderOfPart<5, Fields0<'a>>;
 }
 
 /// The decoder of each field of `Account` that is a `Fields0<'a>`: the borrow checker covers no decoder that names as
@@ -212,45 +191,6 @@ impl Payload for AccountPart1 {
         ⟦<AccountPart1 as StandsFor>⟧.of_parts ⟦<Fields1 as Payload>⟧.payload };
 }
 
-impl<'a> PartOf<Account<'a>> for AccountPart1 {
-    ghost of = { λ t. record {
-      balance = t.balance;
-      rating = t.rating;
-      avatar = t.avatar;
-      initial = t.initial;
-      tags
-          = t.tags;
-      seat = t.seat;
-    } };
-}
-
-impl<'a> LendsPart6<Account<'a>, i64, Option<i16>, Vec<u8>, char, Vec<String>, Seat>
-    for AccountPart1 {
-    fn lend<'b>(
-        whole: &'b Account<'a>,
-    ) -> (
-        &'b i64,
-        &'b Option<i16>,
-        &'b Vec<u8>,
-        &'b char,
-        &'b Vec<String>,
-        &'b Seat,
-    ) {
-        (
-            &whole.balance,
-            &whole.rating,
-            &whole.avatar,
-            &whole.initial,
-            &whole.tags,
-            &whole.seat,
-        )
-    }
-}
-
-impl HasEncoder for AccountPart1 {
-    type Encoder = EncoderOfPart<6, Fields1>;
-}
-
 /// The decoder of each field of `Account` that is a `Fields1`: the borrow checker covers no decoder that names as many
 /// types as all fields do.
 #[derive(Drop)]
@@ -355,44 +295,6 @@ impl FromParts for AccountPart2 {
 impl Payload for AccountPart2 {
     ghost payload = { stood_payload ⟦<AccountPart2 as StandsFor>⟧.parts
         ⟦<AccountPart2 as StandsFor>⟧.of_parts ⟦<Fields2 as Payload>⟧.payload };
-}
-
-impl<'a> PartOf<Account<'a>> for AccountPart2 {
-    ghost of = { λ t. record {
-      position = t.position;
-      best = t.best;
-      visits = t.visits;
-      friends = t.friends;
-      checksum
-          = t.checksum;
-      rank = t.rank;
-    } };
-}
-
-impl<'a> LendsPart6<Account<'a>, (i32, i32), Option<Item>, u32, u16, u128, u8> for AccountPart2 {
-    fn lend<'b>(
-        whole: &'b Account<'a>,
-    ) -> (
-        &'b (i32, i32),
-        &'b Option<Item>,
-        &'b u32,
-        &'b u16,
-        &'b u128,
-        &'b u8,
-    ) {
-        (
-            &whole.position,
-            &whole.best,
-            &whole.visits,
-            &whole.friends,
-            &whole.checksum,
-            &whole.rank,
-        )
-    }
-}
-
-impl HasEncoder for AccountPart2 {
-    type Encoder = EncoderOfPart<6, Fields2>;
 }
 
 impl<'a> HasDecoder<'a> for AccountPart2 {
@@ -549,12 +451,255 @@ impl<'a> Payload for Account<'a> {
         ⟦<Account<'a> as StandsFor>⟧.of_parts ⟦<Parts<'a> as Payload>⟧.payload };
 }
 
-impl<'a> InParts for Account<'a> {
-    ghost in_parts = { λ t. refl };
+impl<'a> HasField<0> for Account<'a> {
+    type Field = u64;
+
+    type Inside = <Account<'a> as StandsFor>::Inside;
+
+    ghost field = { λ t. t.id };
+
+    fn field(&self) -> &u64 {
+        &self.id
+    }
+}
+
+impl<'a> HasField<1> for Account<'a> {
+    type Field = String;
+
+    type Inside = <Account<'a> as StandsFor>::Inside;
+
+    ghost field = { λ t. t.name };
+
+    fn field(&self) -> &String {
+        &self.name
+    }
+}
+
+impl<'a> HasField<2> for Account<'a> {
+    type Field = &'a str;
+
+    type Inside = <Account<'a> as StandsFor>::Inside;
+
+    ghost field = { λ t. t.country };
+
+    fn field(&self) -> &&'a str {
+        &self.country
+    }
+}
+
+impl<'a> HasField<3> for Account<'a> {
+    type Field = u8;
+
+    type Inside = <Account<'a> as StandsFor>::Inside;
+
+    ghost field = { λ t. t.level };
+
+    fn field(&self) -> &u8 {
+        &self.level
+    }
+}
+
+impl<'a> HasField<4> for Account<'a> {
+    type Field = bool;
+
+    type Inside = <Account<'a> as StandsFor>::Inside;
+
+    ghost field = { λ t. t.active };
+
+    fn field(&self) -> &bool {
+        &self.active
+    }
+}
+
+impl<'a> HasField<5> for Account<'a> {
+    type Field = i64;
+
+    type Inside = <Account<'a> as StandsFor>::Inside;
+
+    ghost field = { λ t. t.balance };
+
+    fn field(&self) -> &i64 {
+        &self.balance
+    }
+}
+
+impl<'a> HasField<6> for Account<'a> {
+    type Field = Option<i16>;
+
+    type Inside = <Account<'a> as StandsFor>::Inside;
+
+    ghost field = { λ t. t.rating };
+
+    fn field(&self) -> &Option<i16> {
+        &self.rating
+    }
+}
+
+impl<'a> HasField<7> for Account<'a> {
+    type Field = Vec<u8>;
+
+    type Inside = <Account<'a> as StandsFor>::Inside;
+
+    ghost field = { λ t. t.avatar };
+
+    fn field(&self) -> &Vec<u8> {
+        &self.avatar
+    }
+}
+
+impl<'a> HasField<8> for Account<'a> {
+    type Field = char;
+
+    type Inside = <Account<'a> as StandsFor>::Inside;
+
+    ghost field = { λ t. t.initial };
+
+    fn field(&self) -> &char {
+        &self.initial
+    }
+}
+
+impl<'a> HasField<9> for Account<'a> {
+    type Field = Vec<String>;
+
+    type Inside = <Account<'a> as StandsFor>::Inside;
+
+    ghost field = { λ t. t.tags };
+
+    fn field(&self) -> &Vec<String> {
+        &self.tags
+    }
+}
+
+impl<'a> HasField<10> for Account<'a> {
+    type Field = Seat;
+
+    type Inside = <Account<'a> as StandsFor>::Inside;
+
+    ghost field = { λ t. t.seat };
+
+    fn field(&self) -> &Seat {
+        &self.seat
+    }
+}
+
+impl<'a> HasField<11> for Account<'a> {
+    type Field = (i32, i32);
+
+    type Inside = <Account<'a> as StandsFor>::Inside;
+
+    ghost field = { λ t. t.position };
+
+    fn field(&self) -> &(i32, i32) {
+        &self.position
+    }
+}
+
+impl<'a> HasField<12> for Account<'a> {
+    type Field = Option<Item>;
+
+    type Inside = <Account<'a> as StandsFor>::Inside;
+
+    ghost field = { λ t. t.best };
+
+    fn field(&self) -> &Option<Item> {
+        &self.best
+    }
+}
+
+impl<'a> HasField<13> for Account<'a> {
+    type Field = u32;
+
+    type Inside = <Account<'a> as StandsFor>::Inside;
+
+    ghost field = { λ t. t.visits };
+
+    fn field(&self) -> &u32 {
+        &self.visits
+    }
+}
+
+impl<'a> HasField<14> for Account<'a> {
+    type Field = u16;
+
+    type Inside = <Account<'a> as StandsFor>::Inside;
+
+    ghost field = { λ t. t.friends };
+
+    fn field(&self) -> &u16 {
+        &self.friends
+    }
+}
+
+impl<'a> HasField<15> for Account<'a> {
+    type Field = u128;
+
+    type Inside = <Account<'a> as StandsFor>::Inside;
+
+    ghost field = { λ t. t.checksum };
+
+    fn field(&self) -> &u128 {
+        &self.checksum
+    }
+}
+
+impl<'a> HasField<16> for Account<'a> {
+    type Field = u8;
+
+    type Inside = <Account<'a> as StandsFor>::Inside;
+
+    ghost field = { λ t. t.rank };
+
+    fn field(&self) -> &u8 {
+        &self.rank
+    }
+}
+
+type Fields<'a> = <(
+    ((u64, String), (&'a str, (u8, bool))),
+    (
+        ((i64, (Option<i16>, Vec<u8>)), (char, (Vec<String>, Seat))),
+        (((i32, i32), (Option<Item>, u32)), (u16, (u128, u8))),
+    ),
+) as HasEncoder>::Encoder;
+
+impl<'a> InFields<Fields<'a>> for Account<'a> {
+    type Numbers = (
+        ((Nth<0>, Nth<1>), (Nth<2>, (Nth<3>, Nth<4>))),
+        (
+            ((Nth<5>, (Nth<6>, Nth<7>)), (Nth<8>, (Nth<9>, Nth<10>))),
+            ((Nth<11>, (Nth<12>, Nth<13>)), (Nth<14>, (Nth<15>, Nth<16>))),
+        ),
+    );
+
+    type Inside = (
+        <Account<'a> as StandsFor>::Parts,
+        <Account<'a> as StandsFor>::Inside,
+    );
+
+    ghost same_shape = { refl };
+
+    ghost to_fields = { λ t. listed_pair
+        (listed_pair (listed_pair (λ d h. h) (λ d h. h))
+        (listed_pair (λ d h. h) (listed_pair (λ d h. h) (λ d h. h))))
+        (listed_pair
+        (listed_pair (listed_pair (λ d h. h) (listed_pair (λ d h. h) (λ d h. h)))
+        (listed_pair (λ d h. h) (listed_pair (λ d h. h) (λ d h. h))))
+        (listed_pair (listed_pair (λ d h. h) (listed_pair (λ d h. h) (λ d h. h)))
+        (listed_pair (λ d h. h) (listed_pair (λ d h. h) (λ d h. h))))) };
+
+    ghost of_fields = { λ t. listed_pair
+        (listed_pair (listed_pair (λ d h. h) (λ d h. h))
+        (listed_pair (λ d h. h) (listed_pair (λ d h. h) (λ d h. h))))
+        (listed_pair
+        (listed_pair (listed_pair (λ d h. h) (listed_pair (λ d h. h) (λ d h. h)))
+        (listed_pair (λ d h. h) (listed_pair (λ d h. h) (λ d h. h))))
+        (listed_pair (listed_pair (λ d h. h) (listed_pair (λ d h. h) (λ d h. h)))
+        (listed_pair (λ d h. h) (listed_pair (λ d h. h) (λ d h. h))))) };
 }
 
 impl<'a> HasEncoder for Account<'a> {
-    type Encoder = EncoderOfParts<Parts<'a>>;
+    type Encoder = StructEncoder<Fields<'a>>;
 }
 
 impl<'a> HasDecoder<'a> for Account<'a> {

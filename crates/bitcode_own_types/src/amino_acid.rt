@@ -3,7 +3,8 @@ ghost use Rattle.std.specs.Prelude.{[], ◌∷◌, refl};
 ghost use Rattle.bitcode.specs.ByHand.{stood_payload};
 ghost use Rattle.bitcode_own_types.specs.declared.amino_acid.AminoAcid.{AminoAcid};
 
-use bitcode::own::{Bare, BareVariants, HasCoders, HeldIn, Payload, StandsFor};
+use bitcode::own::{Bare, BareEncoder, BareVariants, HeldIn, Payload, StandsFor};
+use bitcode::{DecodeOwned, HasDecoder, HasEncoder, VariantDecoder};
 
 /// What proteins are made of.
 #[derive(Debug, Clone, Copy, PartialEq)]
@@ -125,4 +126,12 @@ impl Payload for AminoAcid {
         ⟦<AminoAcid as StandsFor>⟧.of_parts ⟦<Bare<20, AminoAcid> as Payload>⟧.payload };
 }
 
-impl HasCoders for AminoAcid {}
+impl HasEncoder for AminoAcid {
+    type Encoder = BareEncoder<20>;
+}
+
+impl<'a> HasDecoder<'a> for AminoAcid {
+    type Decoder = VariantDecoder<'a, 20, true>;
+}
+
+impl DecodeOwned for AminoAcid {}

@@ -1,9 +1,11 @@
 //! `Chest` corresponds to the tuple of its fields. What is below its declaration was written by `scripts/new_type`.
 ghost use Rattle.std.specs.Prelude.{refl};
-ghost use Rattle.bitcode.specs.ByHand.{stood_payload};
+ghost use Rattle.bitcode.specs.ByHand.{listed_pair, stood_payload};
 
 use crate::item::Item;
-use bitcode::own::{DecoderOfFields, EncoderOfFields, FromParts, LendsFields3, Payload, StandsFor};
+use bitcode::own::{
+    DecoderOfFields, FromParts, HasField, InFields, Nth, Payload, StandsFor, StructEncoder,
+};
 use bitcode::{DecodeOwned, HasDecoder, HasEncoder, Shaped};
 
 /// A user's type that allocates, inside another one.
@@ -43,14 +45,58 @@ impl Payload for Chest {
         ⟦<(String, Vec<Item>, Option<Item>) as Payload>⟧.payload };
 }
 
-impl LendsFields3<String, Vec<Item>, Option<Item>> for Chest {
-    fn fields(&self) -> (&String, &Vec<Item>, &Option<Item>) {
-        (&self.label, &self.items, &self.best)
+impl HasField<0> for Chest {
+    type Field = String;
+
+    type Inside = <Chest as StandsFor>::Inside;
+
+    ghost field = { λ t. t.label };
+
+    fn field(&self) -> &String {
+        &self.label
     }
 }
 
+impl HasField<1> for Chest {
+    type Field = Vec<Item>;
+
+    type Inside = <Chest as StandsFor>::Inside;
+
+    ghost field = { λ t. t.items };
+
+    fn field(&self) -> &Vec<Item> {
+        &self.items
+    }
+}
+
+impl HasField<2> for Chest {
+    type Field = Option<Item>;
+
+    type Inside = <Chest as StandsFor>::Inside;
+
+    ghost field = { λ t. t.best };
+
+    fn field(&self) -> &Option<Item> {
+        &self.best
+    }
+}
+
+type Fields = <(String, (Vec<Item>, Option<Item>)) as HasEncoder>::Encoder;
+
+impl InFields<Fields> for Chest {
+    type Numbers = (Nth<0>, (Nth<1>, Nth<2>));
+
+    type Inside = (<Chest as StandsFor>::Parts, <Chest as StandsFor>::Inside);
+
+    ghost same_shape = { refl };
+
+    ghost to_fields = { λ t. listed_pair (λ d h. h) (listed_pair (λ d h. h) (λ d h. h)) };
+
+    ghost of_fields = { λ t. listed_pair (λ d h. h) (listed_pair (λ d h. h) (λ d h. h)) };
+}
+
 impl HasEncoder for Chest {
-    type Encoder = EncoderOfFields<3, (String, Vec<Item>, Option<Item>)>;
+    type Encoder = StructEncoder<Fields>;
 }
 
 impl<'a> HasDecoder<'a> for Chest {

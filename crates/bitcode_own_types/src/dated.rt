@@ -1,9 +1,11 @@
 //! `Dated` corresponds to the tuple of its fields. What is below its declaration was written by `scripts/new_type`.
 ghost use Rattle.std.specs.Prelude.{refl};
-ghost use Rattle.bitcode.specs.ByHand.{stood_payload};
+ghost use Rattle.bitcode.specs.ByHand.{listed_pair, stood_payload};
 
-use bitcode::own::{DecoderOfFields, EncoderOfFields, FromParts, LendsFields3, Payload, StandsFor};
-use bitcode::{DecodeOwned, HasDecoder, HasEncoder, Made, Shaped};
+use bitcode::own::{
+    DecoderOfFields, FromParts, HasField, InFields, Nth, Payload, StandsFor, StructEncoder,
+};
+use bitcode::{DecodeOwned, Encode, HasDecoder, HasEncoder, Made, Shaped};
 
 /// A value and when it was made.
 #[derive(Debug, PartialEq, Drop)]
@@ -42,14 +44,61 @@ impl<T: Shaped + Payload> Payload for Dated<T> {
         ⟦<Dated<T> as StandsFor>⟧.of_parts ⟦<(u16, u16, T) as Payload>⟧.payload };
 }
 
-impl<T: Shaped> LendsFields3<u16, u16, T> for Dated<T> {
-    fn fields(&self) -> (&u16, &u16, &T) {
-        (&self.year, &self.day, &self.value)
+impl<T: Shaped> HasField<0> for Dated<T> {
+    type Field = u16;
+
+    type Inside = <Dated<T> as StandsFor>::Inside;
+
+    ghost field = { λ t. t.year };
+
+    fn field(&self) -> &u16 {
+        &self.year
     }
 }
 
+impl<T: Shaped> HasField<1> for Dated<T> {
+    type Field = u16;
+
+    type Inside = <Dated<T> as StandsFor>::Inside;
+
+    ghost field = { λ t. t.day };
+
+    fn field(&self) -> &u16 {
+        &self.day
+    }
+}
+
+impl<T: Shaped> HasField<2> for Dated<T> {
+    type Field = T;
+
+    type Inside = <Dated<T> as StandsFor>::Inside;
+
+    ghost field = { λ t. t.value };
+
+    fn field(&self) -> &T {
+        &self.value
+    }
+}
+
+type Fields<T> = <(u16, (u16, T)) as HasEncoder>::Encoder;
+
+impl<T: Encode> InFields<Fields<T>> for Dated<T> {
+    type Numbers = (Nth<0>, (Nth<1>, Nth<2>));
+
+    type Inside = (
+        <Dated<T> as StandsFor>::Parts,
+        <Dated<T> as StandsFor>::Inside,
+    );
+
+    ghost same_shape = { refl };
+
+    ghost to_fields = { λ t. listed_pair (λ d h. h) (listed_pair (λ d h. h) (λ d h. h)) };
+
+    ghost of_fields = { λ t. listed_pair (λ d h. h) (listed_pair (λ d h. h) (λ d h. h)) };
+}
+
 impl<T: HasEncoder> HasEncoder for Dated<T> {
-    type Encoder = EncoderOfFields<3, (u16, u16, T)>;
+    type Encoder = StructEncoder<Fields<T>>;
 }
 
 impl<'a, T: HasDecoder<'a>> HasDecoder<'a> for Dated<T> {

@@ -26,19 +26,19 @@ impl Enum for Event {
     ghost each = { each_variant
         (payload_and ⟦<() as Payload>⟧.payload
         (payload_and ⟦<(u64, String) as Payload>⟧.payload
-        (payload_and ⟦<(u64, i8, i8) as Payload>⟧.payload
+        (payload_and ⟦<(u64, (i8, i8)) as Payload>⟧.payload
         (last_payload ⟦<Option<u16> as Payload>⟧.payload))))
         (λ at. elim [
           | Event.Tick ↦ at 0 tt
           | Event.Spawn a b ↦ at 1 (a, b)
           | Event.Move a b c ↦ at 2
-              (a, b, c)
+              (a, (b, c))
           | Event.Quit a ↦ at 3 a
         ]) (
           (λ p. (Event.Tick, refl)),
           (
             (λ p. (Event.Spawn p.0 p.1, refl)),
-            ((λ p. (Event.Move p.0 p.1 p.2, refl)), λ p. (Event.Quit p, refl)),
+            ((λ p. (Event.Move p.0 p.1.0 p.1.1, refl)), λ p. (Event.Quit p, refl)),
           ),
         ) };
 
@@ -48,7 +48,7 @@ impl Enum for Event {
         match self {
             Event::Tick => 0,
             Event::Spawn(a, b) => told_as(1, &(a, b)),
-            Event::Move { id, dx, dy } => told_as(2, &(id, dx, dy)),
+            Event::Move { id, dx, dy } => told_as(2, &(id, (dx, dy))),
             Event::Quit(a) => told_as(3, &a),
         }
     }
@@ -74,23 +74,23 @@ impl Payload for Event {
         ⟦<Held<4, Event> as Payload>⟧.payload };
 }
 
-impl Variants4<At<0>, (), (u64, String), (u64, i8, i8), Option<u16>> for Event {
+impl Variants4<At<0>, (), (u64, String), (u64, (i8, i8)), Option<u16>> for Event {
     ghost values = { (
       λ p. Event.Tick,
       λ p. Event.Spawn p.0 p.1,
-      λ p. Event.Move p.0 p.1 p.2,
-      λ p.
-          Event.Quit p,
+      λ p. Event.Move p.0 p.1.0 p.1.1,
+      λ
+          p. Event.Quit p,
     ) };
 
-    fn of_payload(payload: OneOf4<(), (u64, String), (u64, i8, i8), Option<u16>>) -> Self
+    fn of_payload(payload: OneOf4<(), (u64, String), (u64, (i8, i8)), Option<u16>>) -> Self
         ensures { result ≡ of_one_of_4 (λ p. Event.Tick) (λ p. Event.Spawn p.0 p.1)
-            (λ p. Event.Move p.0 p.1 p.2) (λ p. Event.Quit p) payload }
+            (λ p. Event.Move p.0 p.1.0 p.1.1) (λ p. Event.Quit p) payload }
     {
         match payload {
             OneOf4::First(()) => Event::Tick,
             OneOf4::Second((a, b)) => Event::Spawn(a, b),
-            OneOf4::Third((id, dx, dy)) => Event::Move { id, dx, dy },
+            OneOf4::Third((id, (dx, dy))) => Event::Move { id, dx, dy },
             OneOf4::Fourth(a) => Event::Quit(a),
         }
     }
@@ -105,23 +105,23 @@ impl Variants4<At<0>, (), (u64, String), (u64, i8, i8), Option<u16>> for Event {
     ) };
 }
 
-type Columns = EncodersOf4<At<0>, (), (u64, String), (u64, i8, i8), Option<u16>>;
+type Columns = EncodersOf4<At<0>, (), (u64, String), (u64, (i8, i8)), Option<u16>>;
 
 impl WritesVariants<Columns> for Event {
     fn write(&self, to: &mut Columns) -> Result<(), Error> {
         match self {
             Event::Tick => to.encode_first(self, &&()),
-            Event::Spawn(a, b) => to.encode_second(self, &(a, b)),
-            Event::Move { id, dx, dy } => to.encode_third::<_, _, _, _, _, (&u64, &i8, &i8)>(
+            Event::Spawn(a, b) => to.encode_second::<_, _, _, _, _, (&u64, &String)>(self, &(a, b)),
+            Event::Move { id, dx, dy } => to.encode_third::<_, _, _, _, _, (&u64, (&i8, &i8))>(
                 self,
-                &(id, dx, dy),
+                &(id, (dx, dy)),
             ),
             Event::Quit(a) => to.encode_fourth(self, &a),
         }
     }
 }
 
-type Decoders<'a> = DecodersOf4<'a, At<0>, (), (u64, String), (u64, i8, i8), Option<u16>>;
+type Decoders<'a> = DecodersOf4<'a, At<0>, (), (u64, String), (u64, (i8, i8)), Option<u16>>;
 
 /// The columns of the payloads of `Event`.
 #[derive(Drop)]

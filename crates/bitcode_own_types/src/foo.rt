@@ -1,8 +1,10 @@
 //! `Foo` corresponds to the tuple of its fields. What is below its declaration was written by `scripts/new_type`.
 ghost use Rattle.std.specs.Prelude.{refl};
-ghost use Rattle.bitcode.specs.ByHand.{stood_payload};
+ghost use Rattle.bitcode.specs.ByHand.{listed_pair, stood_payload};
 
-use bitcode::own::{DecoderOfFields, EncoderOfFields, FromParts, LendsFields2, Payload, StandsFor};
+use bitcode::own::{
+    DecoderOfFields, FromParts, HasField, InFields, Nth, Payload, StandsFor, StructEncoder,
+};
 use bitcode::{HasDecoder, HasEncoder, Shaped};
 
 /// A number and a text.
@@ -40,14 +42,46 @@ impl<'a> Payload for Foo<'a> {
         ⟦<(u32, &'a str) as Payload>⟧.payload };
 }
 
-impl<'a> LendsFields2<u32, &'a str> for Foo<'a> {
-    fn fields(&self) -> (&u32, &&'a str) {
-        (&self.x, &self.y)
+impl<'a> HasField<0> for Foo<'a> {
+    type Field = u32;
+
+    type Inside = ();
+
+    ghost field = { λ t. t.x };
+
+    fn field(&self) -> &u32 {
+        &self.x
     }
 }
 
+impl<'a> HasField<1> for Foo<'a> {
+    type Field = &'a str;
+
+    type Inside = ();
+
+    ghost field = { λ t. t.y };
+
+    fn field(&self) -> &&'a str {
+        &self.y
+    }
+}
+
+type Fields<'a> = <(u32, &'a str) as HasEncoder>::Encoder;
+
+impl<'a> InFields<Fields<'a>> for Foo<'a> {
+    type Numbers = (Nth<0>, Nth<1>);
+
+    type Inside = ();
+
+    ghost same_shape = { refl };
+
+    ghost to_fields = { λ t. listed_pair (λ d h. h) (λ d h. h) };
+
+    ghost of_fields = { λ t. listed_pair (λ d h. h) (λ d h. h) };
+}
+
 impl<'a> HasEncoder for Foo<'a> {
-    type Encoder = EncoderOfFields<2, (u32, &'a str)>;
+    type Encoder = StructEncoder<Fields<'a>>;
 }
 
 impl<'a> HasDecoder<'a> for Foo<'a> {

@@ -1,8 +1,10 @@
 //! `Item` corresponds to the tuple of its fields. What is below its declaration was written by `scripts/new_type`.
 ghost use Rattle.std.specs.Prelude.{refl};
-ghost use Rattle.bitcode.specs.ByHand.{stood_payload};
+ghost use Rattle.bitcode.specs.ByHand.{listed_pair, stood_payload};
 
-use bitcode::own::{DecoderOfFields, EncoderOfFields, FromParts, LendsFields2, Payload, StandsFor};
+use bitcode::own::{
+    DecoderOfFields, FromParts, HasField, InFields, Nth, Payload, StandsFor, StructEncoder,
+};
 use bitcode::{DecodeOwned, HasDecoder, HasEncoder, Shaped};
 
 /// What a player may find.
@@ -40,14 +42,46 @@ impl Payload for Item {
         ⟦<(String, u8) as Payload>⟧.payload };
 }
 
-impl LendsFields2<String, u8> for Item {
-    fn fields(&self) -> (&String, &u8) {
-        (&self.name, &self.level)
+impl HasField<0> for Item {
+    type Field = String;
+
+    type Inside = <Item as StandsFor>::Inside;
+
+    ghost field = { λ t. t.name };
+
+    fn field(&self) -> &String {
+        &self.name
     }
 }
 
+impl HasField<1> for Item {
+    type Field = u8;
+
+    type Inside = <Item as StandsFor>::Inside;
+
+    ghost field = { λ t. t.level };
+
+    fn field(&self) -> &u8 {
+        &self.level
+    }
+}
+
+type Fields = <(String, u8) as HasEncoder>::Encoder;
+
+impl InFields<Fields> for Item {
+    type Numbers = (Nth<0>, Nth<1>);
+
+    type Inside = (<Item as StandsFor>::Parts, <Item as StandsFor>::Inside);
+
+    ghost same_shape = { refl };
+
+    ghost to_fields = { λ t. listed_pair (λ d h. h) (λ d h. h) };
+
+    ghost of_fields = { λ t. listed_pair (λ d h. h) (λ d h. h) };
+}
+
 impl HasEncoder for Item {
-    type Encoder = EncoderOfFields<2, (String, u8)>;
+    type Encoder = StructEncoder<Fields>;
 }
 
 impl<'a> HasDecoder<'a> for Item {

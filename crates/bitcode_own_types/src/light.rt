@@ -3,8 +3,8 @@ ghost use Rattle.std.specs.Prelude.{[], refl, ◌∷◌};
 ghost use Rattle.bitcode.specs.ByHand.{bare_key, bares_told, stood_payload};
 ghost use Rattle.bitcode_own_types.specs.declared.light.Light.{Light};
 
-use bitcode::Key;
-use bitcode::own::{Bare, BareVariants, HasCoders, HeldIn, KeyPayload, Payload, StandsFor};
+use bitcode::own::{Bare, BareEncoder, BareVariants, HeldIn, KeyPayload, Payload, StandsFor};
+use bitcode::{DecodeOwned, HasDecoder, HasEncoder, Key, VariantDecoder};
 
 /// What a light shows.
 #[derive(Debug, Clone, Copy, PartialEq, Eq, PartialOrd, Ord)]
@@ -43,7 +43,15 @@ impl Payload for Light {
         ⟦<Bare<2, Light> as Payload>⟧.payload };
 }
 
-impl HasCoders for Light {}
+impl HasEncoder for Light {
+    type Encoder = BareEncoder<2>;
+}
+
+impl<'a> HasDecoder<'a> for Light {
+    type Decoder = VariantDecoder<'a, 2, true>;
+}
+
+impl DecodeOwned for Light {}
 
 impl KeyPayload for Light {
     ghost key = { bare_key ⟦<Light as BareVariants<2>>⟧.variant ⟦<Light as BareVariants<2>>⟧.values

@@ -2,7 +2,9 @@
 ghost use Rattle.std.specs.Prelude.{refl};
 ghost use Rattle.bitcode.specs.ByHand.{stood_payload};
 
-use bitcode::own::{DecoderOfFields, EncoderOfFields, FromParts, LendsFields1, Payload, StandsFor};
+use bitcode::own::{
+    DecoderOfFields, FromParts, HasField, InFields, Nth, Payload, StandsFor, StructEncoder,
+};
 use bitcode::{DecodeOwned, HasDecoder, HasEncoder, Shaped};
 
 /// A length in meters.
@@ -36,14 +38,34 @@ impl Payload for Meters {
         ⟦<u32 as Payload>⟧.payload };
 }
 
-impl LendsFields1<u32> for Meters {
-    fn fields(&self) -> &u32 {
+impl HasField<0> for Meters {
+    type Field = u32;
+
+    type Inside = ();
+
+    ghost field = { λ t. t.0 };
+
+    fn field(&self) -> &u32 {
         &self.0
     }
 }
 
+type Fields = <u32 as HasEncoder>::Encoder;
+
+impl InFields<Fields> for Meters {
+    type Numbers = Nth<0>;
+
+    type Inside = ();
+
+    ghost same_shape = { refl };
+
+    ghost to_fields = { λ t d h. h };
+
+    ghost of_fields = { λ t d h. h };
+}
+
 impl HasEncoder for Meters {
-    type Encoder = EncoderOfFields<1, u32>;
+    type Encoder = StructEncoder<Fields>;
 }
 
 impl<'a> HasDecoder<'a> for Meters {

@@ -2,7 +2,8 @@
 //! `scripts/new_type`.
 ghost use Rattle.bitcode.specs.ByHand.{stood_payload};
 
-use bitcode::own::{Absent, HasCoders, NoVariants, Payload, StandsFor};
+use bitcode::own::{Absent, AbsentDecoder, AbsentEncoder, NoVariants, Payload, StandsFor};
+use bitcode::{DecodeOwned, HasDecoder, HasEncoder};
 
 /// There is no value.
 #[derive(Clone, Copy)]
@@ -17,4 +18,12 @@ impl Payload for Never {
         ⟦<Absent<Never> as Payload>⟧.payload };
 }
 
-impl HasCoders for Never {}
+impl HasEncoder for Never {
+    type Encoder = AbsentEncoder;
+}
+
+impl<'a> HasDecoder<'a> for Never {
+    type Decoder = AbsentDecoder;
+}
+
+impl DecodeOwned for Never {}

@@ -3,7 +3,9 @@
 ghost use Rattle.std.specs.Prelude.{refl};
 ghost use Rattle.bitcode.specs.ByHand.{stood_payload};
 
-use bitcode::own::{DecoderOfFields, EncoderOfFields, FromParts, LendsFields1, Payload, StandsFor};
+use bitcode::own::{
+    DecoderOfFields, FromParts, HasField, InFields, Nth, Payload, StandsFor, StructEncoder,
+};
 use bitcode::{DecodeOwned, HasDecoder, HasEncoder, Shaped};
 
 /// A byte.
@@ -42,15 +44,37 @@ impl Payload for One {
         ⟦<u8 as Payload>⟧.payload };
 }
 
-impl LendsFields1<u8> for One {
-    fn fields(&self) -> &u8 {
+impl HasField<0> for One {
+    ghost use Rattle.bitcode_own_types.specs.declared.one.One.{One};
+
+    type Field = u8;
+
+    type Inside = ();
+
+    ghost field = { elim [ One.A a ↦ a ] };
+
+    fn field(&self) -> &u8 {
         let One::A(a) = self;
         a
     }
 }
 
+type Fields = <u8 as HasEncoder>::Encoder;
+
+impl InFields<Fields> for One {
+    type Numbers = Nth<0>;
+
+    type Inside = ();
+
+    ghost same_shape = { refl };
+
+    ghost to_fields = { λ t d h. h };
+
+    ghost of_fields = { λ t d h. h };
+}
+
 impl HasEncoder for One {
-    type Encoder = EncoderOfFields<1, u8>;
+    type Encoder = StructEncoder<Fields>;
 }
 
 impl<'a> HasDecoder<'a> for One {

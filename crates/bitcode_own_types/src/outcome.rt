@@ -3,7 +3,8 @@ ghost use Rattle.std.specs.Prelude.{[], ◌∷◌, refl};
 ghost use Rattle.bitcode.specs.ByHand.{stood_payload};
 ghost use Rattle.bitcode_own_types.specs.declared.outcome.Outcome.{Outcome};
 
-use bitcode::own::{Bare, BareVariants, HasCoders, HeldIn, Payload, StandsFor};
+use bitcode::own::{Bare, BareEncoder, BareVariants, HeldIn, Payload, StandsFor};
+use bitcode::{DecodeOwned, HasDecoder, HasEncoder, VariantDecoder};
 
 /// How a game ended.
 #[derive(Debug, Clone, Copy, PartialEq)]
@@ -44,4 +45,12 @@ impl Payload for Outcome {
         ⟦<Bare<3, Outcome> as Payload>⟧.payload };
 }
 
-impl HasCoders for Outcome {}
+impl HasEncoder for Outcome {
+    type Encoder = BareEncoder<3>;
+}
+
+impl<'a> HasDecoder<'a> for Outcome {
+    type Decoder = VariantDecoder<'a, 3, true>;
+}
+
+impl DecodeOwned for Outcome {}

@@ -2,7 +2,7 @@
 ghost use Rattle.std.specs.Prelude.{refl};
 ghost use Rattle.bitcode.specs.ByHand.{stood_payload};
 
-use bitcode::own::{DecoderOfFields, EncoderOfFields, FromParts, Payload, StandsFor};
+use bitcode::own::{DecoderOfFields, FromParts, InFields, Payload, StandsFor, StructEncoder};
 use bitcode::{DecodeOwned, HasDecoder, HasEncoder};
 
 /// Nothing happens.
@@ -34,8 +34,22 @@ impl Payload for Pause {
         ⟦<() as Payload>⟧.payload };
 }
 
+type Fields = <() as HasEncoder>::Encoder;
+
+impl InFields<Fields> for Pause {
+    type Numbers = ();
+
+    type Inside = ();
+
+    ghost same_shape = { refl };
+
+    ghost to_fields = { λ t d h. h };
+
+    ghost of_fields = { λ t d h. h };
+}
+
 impl HasEncoder for Pause {
-    type Encoder = EncoderOfFields<0, ()>;
+    type Encoder = StructEncoder<Fields>;
 }
 
 impl<'a> HasDecoder<'a> for Pause {

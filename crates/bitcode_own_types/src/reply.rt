@@ -155,7 +155,10 @@ impl<'a> WritesVariants<ColumnsOf0To3> for Reply<'a> {
         match self {
             Reply::Done => to.encode_first(self, &&()),
             Reply::Text(a) => to.encode_second(self, &a),
-            Reply::Names(a, b) => to.encode_third(self, &(a, b)),
+            Reply::Names(a, b) => to.encode_third::<_, _, _, _, _, (&Vec<&'a str>, &Option<u32>)>(
+                self,
+                &(a, b),
+            ),
             Reply::Counts(a) => to.encode_fourth(self, &a),
             _ => unreachable!(),
         }
@@ -209,7 +212,14 @@ impl<'a> WritesVariants<ColumnsOf4To7> for Reply<'a> {
         match self {
             Reply::Seen(a) => to.encode_first(self, &a),
             Reply::Told(a) => to.encode_second(self, &a),
-            Reply::Found { by, of } => to.encode_third(self, &(by, of)),
+            Reply::Found { by, of } => to.encode_third::<
+                _,
+                _,
+                _,
+                _,
+                _,
+                (&HashMap<u16, String>, &u64),
+            >(self, &(by, of)),
             Reply::Gone => to.encode_fourth(self, &&()),
             _ => unreachable!(),
         }

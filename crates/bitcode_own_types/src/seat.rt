@@ -1,9 +1,10 @@
 //! `Seat` corresponds to the tuple of its fields. What is below its declaration was written by `scripts/new_type`.
 ghost use Rattle.std.specs.Prelude.{[], refl, ◌∷◌};
-ghost use Rattle.bitcode.specs.ByHand.{ands_in_order, key_as, stood_key, stood_payload, thens_in_order};
+ghost use Rattle.bitcode.specs.ByHand.{ands_in_order, key_as, listed_pair, stood_key, stood_payload, thens_in_order};
 
 use bitcode::own::{
-    DecoderOfFields, EncoderOfFields, FromParts, KeyPayload, LendsFields3, Payload, StandsFor,
+    DecoderOfFields, FromParts, HasField, InFields, KeyPayload, Nth, Payload, StandsFor,
+    StructEncoder,
 };
 use bitcode::{DecodeOwned, HasDecoder, HasEncoder, Key, Shaped};
 
@@ -44,14 +45,58 @@ impl Payload for Seat {
         ⟦<(u8, u16, u16) as Payload>⟧.payload };
 }
 
-impl LendsFields3<u8, u16, u16> for Seat {
-    fn fields(&self) -> (&u8, &u16, &u16) {
-        (&self.level, &self.row, &self.place)
+impl HasField<0> for Seat {
+    type Field = u8;
+
+    type Inside = ();
+
+    ghost field = { λ t. t.level };
+
+    fn field(&self) -> &u8 {
+        &self.level
     }
 }
 
+impl HasField<1> for Seat {
+    type Field = u16;
+
+    type Inside = ();
+
+    ghost field = { λ t. t.row };
+
+    fn field(&self) -> &u16 {
+        &self.row
+    }
+}
+
+impl HasField<2> for Seat {
+    type Field = u16;
+
+    type Inside = ();
+
+    ghost field = { λ t. t.place };
+
+    fn field(&self) -> &u16 {
+        &self.place
+    }
+}
+
+type Fields = <(u8, (u16, u16)) as HasEncoder>::Encoder;
+
+impl InFields<Fields> for Seat {
+    type Numbers = (Nth<0>, (Nth<1>, Nth<2>));
+
+    type Inside = ();
+
+    ghost same_shape = { refl };
+
+    ghost to_fields = { λ t. listed_pair (λ d h. h) (listed_pair (λ d h. h) (λ d h. h)) };
+
+    ghost of_fields = { λ t. listed_pair (λ d h. h) (listed_pair (λ d h. h) (λ d h. h)) };
+}
+
 impl HasEncoder for Seat {
-    type Encoder = EncoderOfFields<3, (u8, u16, u16)>;
+    type Encoder = StructEncoder<Fields>;
 }
 
 impl<'a> HasDecoder<'a> for Seat {

@@ -1,9 +1,10 @@
 //! `Spot` corresponds to the tuple of its fields. What is below its declaration was written by `scripts/new_type`.
 ghost use Rattle.std.specs.Prelude.{refl};
-ghost use Rattle.bitcode.specs.ByHand.{stood_key, stood_payload};
+ghost use Rattle.bitcode.specs.ByHand.{listed_pair, stood_key, stood_payload};
 
 use bitcode::own::{
-    DecoderOfFields, EncoderOfFields, FromParts, KeyPayload, LendsFields2, Payload, StandsFor,
+    DecoderOfFields, FromParts, HasField, InFields, KeyPayload, Nth, Payload, StandsFor,
+    StructEncoder,
 };
 use bitcode::{DecodeOwned, HasDecoder, HasEncoder, Key, Shaped};
 
@@ -42,14 +43,46 @@ impl Payload for Spot {
         ⟦<(u32, u32) as Payload>⟧.payload };
 }
 
-impl LendsFields2<u32, u32> for Spot {
-    fn fields(&self) -> (&u32, &u32) {
-        (&self.x, &self.y)
+impl HasField<0> for Spot {
+    type Field = u32;
+
+    type Inside = ();
+
+    ghost field = { λ t. t.x };
+
+    fn field(&self) -> &u32 {
+        &self.x
     }
 }
 
+impl HasField<1> for Spot {
+    type Field = u32;
+
+    type Inside = ();
+
+    ghost field = { λ t. t.y };
+
+    fn field(&self) -> &u32 {
+        &self.y
+    }
+}
+
+type Fields = <(u32, u32) as HasEncoder>::Encoder;
+
+impl InFields<Fields> for Spot {
+    type Numbers = (Nth<0>, Nth<1>);
+
+    type Inside = ();
+
+    ghost same_shape = { refl };
+
+    ghost to_fields = { λ t. listed_pair (λ d h. h) (λ d h. h) };
+
+    ghost of_fields = { λ t. listed_pair (λ d h. h) (λ d h. h) };
+}
+
 impl HasEncoder for Spot {
-    type Encoder = EncoderOfFields<2, (u32, u32)>;
+    type Encoder = StructEncoder<Fields>;
 }
 
 impl<'a> HasDecoder<'a> for Spot {

@@ -29,7 +29,8 @@ use crate::no_variants::{Absent, NoVariants};
 ///
 /// ```rust,from:crates/bitcode_own_types/src/message.rt
 /// impl<'a> Payload for Message<'a> {
-///     ghost payload = { stood_payload ⟦<Message<'a> as StandsFor>⟧.parts ⟦<Message<'a> as StandsFor>⟧.of_parts ⟦<(u32, &'a str) as Payload>⟧.payload };
+///     ghost payload = { stood_payload ⟦<Message<'a> as StandsFor>⟧.parts
+///         ⟦<Message<'a> as StandsFor>⟧.of_parts ⟦<(u32, &'a str) as Payload>⟧.payload };
 /// }
 /// ```
 pub trait Payload {
@@ -46,7 +47,8 @@ pub trait Payload {
 ///
 /// ```rust,from:crates/bitcode_own_types/src/spot.rt
 /// impl KeyPayload for Spot {
-///     ghost key = { stood_key ⟦<Spot as StandsFor>⟧.parts ⟦<Spot as StandsFor>⟧.of_parts ⟦<(u32, u32) as KeyPayload>⟧.key };
+///     ghost key = { stood_key ⟦<Spot as StandsFor>⟧.parts ⟦<Spot as StandsFor>⟧.of_parts
+///         ⟦<(u32, u32) as KeyPayload>⟧.key };
 /// }
 ///
 /// impl Key for Spot {
@@ -61,7 +63,10 @@ pub trait Payload {
 ///
 /// ```rust,from:crates/bitcode_own_types/src/light.rt
 /// impl KeyPayload for Light {
-///     ghost key = { bare_key ⟦<Light as BareVariants<2>>⟧.variant ⟦<Light as BareVariants<2>>⟧.values ⟦<Light as PartialEq>⟧.eq ⟦<Light as Ord>⟧.cmp refl refl (elim [ Light.Red ↦ refl | Light.Green ↦ refl ]) ⟦<Light as Payload>⟧.payload (bares_told _ ⟦<Light as BareVariants<2>>⟧.variant) };
+///     ghost key = { bare_key ⟦<Light as BareVariants<2>>⟧.variant ⟦<Light as BareVariants<2>>⟧.values
+///         ⟦<Light as PartialEq>⟧.eq ⟦<Light as Ord>⟧.cmp refl refl
+///         (elim [ Light.Red ↦ refl | Light.Green ↦ refl ]) ⟦<Light as Payload>⟧.payload
+///         (bares_told _ ⟦<Light as BareVariants<2>>⟧.variant) };
 /// }
 /// ```
 pub trait KeyPayload {

@@ -1,3 +1,4 @@
 pub mod ReadingLemmas
 pub mod WritingLemmas
 pub mod StructLemmas
+pub mod FieldLemmas

@@ -1,6 +1,6 @@
 -- A struct written by hand: what the coders of its fields do makes up what its own coder does. Each lemma closes one goal
 -- that the check leaves of such a struct's `read` or `encode`, from the clauses of the fields' calls.
-use Rattle.std.proofs.Common.{◌≡◌, ℕ, Bool, ◌&&◌, List, Result, Ok, Err, OnOk, IfErr, subst, sym, inr}
+use Rattle.std.proofs.Common.{◌≡◌, ℕ, Bool, ◌&&◌, List, Result, Ok, Err, IfErr, subst, sym, inr}
 use Rattle.std.specs.Prelude.{◌⊎◌}
 use Rattle.std.specs.Result.{IsErrAnd, OnErr}
 use Rattle.bitcode_columns.specs.declared.error.Error.{Error}

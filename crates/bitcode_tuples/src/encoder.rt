@@ -10,9 +10,6 @@ use bitcode_columns::error::Error;
 use bitcode_shapes::shaped::Shaped;
 use std::alloc::Global;
 
-mod of_3_to_8;
-mod of_9_to_16;
-
 /// The encoder of pairs: the columns of the first fields, followed by those of the second.
 ///
 /// It writes a pair with the encoders of its fields, and returns their errors.

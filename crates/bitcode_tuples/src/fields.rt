@@ -10,9 +10,6 @@ use bitcode_coder::one::write_one;
 use bitcode_columns::error::{Error, Reason};
 use bitcode_shapes::shaped::Shaped;
 
-pub mod of_3_to_5;
-pub mod of_6_to_8;
-
 /// References to the fields of a value: to its only field, or a pair of the first one and the rest.
 ///
 /// ```

@@ -4,4 +4,7 @@
 pub mod decoder;
 pub mod encoder;
 pub mod fields;
-pub mod parts;
+pub mod has_field;
+pub mod part_encoder;
+pub mod struct_encoder;
+mod tuple_fields;

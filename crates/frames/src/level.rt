@@ -3,7 +3,8 @@ ghost use Rattle.std.specs.Prelude.{[], ◌∷◌, refl};
 ghost use Rattle.bitcode.specs.ByHand.{stood_payload};
 ghost use Rattle.frames.specs.declared.level.Level.{Level};
 
-use bitcode::own::{Bare, BareVariants, HasCoders, HeldIn, Payload, StandsFor};
+use bitcode::own::{Bare, BareEncoder, BareVariants, HeldIn, Payload, StandsFor};
+use bitcode::{DecodeOwned, HasDecoder, HasEncoder, VariantDecoder};
 
 /// How bad it is.
 #[derive(Debug, Clone, Copy, PartialEq)]
@@ -44,4 +45,12 @@ impl Payload for Level {
         ⟦<Bare<3, Level> as Payload>⟧.payload };
 }
 
-impl HasCoders for Level {}
+impl HasEncoder for Level {
+    type Encoder = BareEncoder<3>;
+}
+
+impl<'a> HasDecoder<'a> for Level {
+    type Decoder = VariantDecoder<'a, 3, true>;
+}
+
+impl DecodeOwned for Level {}

@@ -110,9 +110,18 @@ type Columns = EncodersOf4<At<0>, (&'static str, u16), (u32, i64), (Level, &'sta
 impl<'a> WritesVariants<Columns> for Message<'a> {
     fn write(&self, to: &mut Columns) -> Result<(), Error> {
         match self {
-            Message::Hello { name, version } => to.encode_first(self, &(name, version)),
-            Message::Measured { sensor, value } => to.encode_second(self, &(sensor, value)),
-            Message::Log(a, b) => to.encode_third(self, &(a, b)),
+            Message::Hello { name, version } => to.encode_first::<_, _, _, _, _, (&&'a str, &u16)>(
+                self,
+                &(name, version),
+            ),
+            Message::Measured { sensor, value } => to.encode_second::<_, _, _, _, _, (&u32, &i64)>(
+                self,
+                &(sensor, value),
+            ),
+            Message::Log(a, b) => to.encode_third::<_, _, _, _, _, (&Level, &&'a str)>(
+                self,
+                &(a, b),
+            ),
             Message::Bye => to.encode_fourth(self, &&()),
         }
     }

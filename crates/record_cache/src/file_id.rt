@@ -1,9 +1,10 @@
 //! `FileId` corresponds to the tuple of its fields. What is below its declaration was written by `scripts/new_type`.
 ghost use Rattle.std.specs.Prelude.{refl};
-ghost use Rattle.bitcode.specs.ByHand.{stood_key, stood_payload};
+ghost use Rattle.bitcode.specs.ByHand.{listed_pair, stood_key, stood_payload};
 
 use bitcode::own::{
-    DecoderOfFields, EncoderOfFields, FromParts, KeyPayload, LendsFields2, Payload, StandsFor,
+    DecoderOfFields, FromParts, HasField, InFields, KeyPayload, Nth, Payload, StandsFor,
+    StructEncoder,
 };
 use bitcode::{DecodeOwned, HasDecoder, HasEncoder, Key, Shaped};
 
@@ -42,14 +43,46 @@ impl Payload for FileId {
         ⟦<(u64, u64) as Payload>⟧.payload };
 }
 
-impl LendsFields2<u64, u64> for FileId {
-    fn fields(&self) -> (&u64, &u64) {
-        (&self.device, &self.number)
+impl HasField<0> for FileId {
+    type Field = u64;
+
+    type Inside = ();
+
+    ghost field = { λ t. t.device };
+
+    fn field(&self) -> &u64 {
+        &self.device
     }
 }
 
+impl HasField<1> for FileId {
+    type Field = u64;
+
+    type Inside = ();
+
+    ghost field = { λ t. t.number };
+
+    fn field(&self) -> &u64 {
+        &self.number
+    }
+}
+
+type Fields = <(u64, u64) as HasEncoder>::Encoder;
+
+impl InFields<Fields> for FileId {
+    type Numbers = (Nth<0>, Nth<1>);
+
+    type Inside = ();
+
+    ghost same_shape = { refl };
+
+    ghost to_fields = { λ t. listed_pair (λ d h. h) (λ d h. h) };
+
+    ghost of_fields = { λ t. listed_pair (λ d h. h) (λ d h. h) };
+}
+
 impl HasEncoder for FileId {
-    type Encoder = EncoderOfFields<2, (u64, u64)>;
+    type Encoder = StructEncoder<Fields>;
 }
 
 impl<'a> HasDecoder<'a> for FileId {

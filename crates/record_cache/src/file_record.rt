@@ -1,9 +1,11 @@
 //! `FileRecord` corresponds to the tuple of its fields. What is below its declaration was written by
 //! `scripts/new_type`.
 ghost use Rattle.std.specs.Prelude.{refl};
-ghost use Rattle.bitcode.specs.ByHand.{stood_payload};
+ghost use Rattle.bitcode.specs.ByHand.{listed_pair, stood_payload};
 
-use bitcode::own::{DecoderOfFields, EncoderOfFields, FromParts, LendsFields3, Payload, StandsFor};
+use bitcode::own::{
+    DecoderOfFields, FromParts, HasField, InFields, Nth, Payload, StandsFor, StructEncoder,
+};
 use bitcode::{DecodeOwned, HasDecoder, HasEncoder, Shaped};
 
 /// What was found when the file was last read whole.
@@ -47,14 +49,58 @@ impl Payload for FileRecord {
         ⟦<FileRecord as StandsFor>⟧.of_parts ⟦<(u64, i64, u32) as Payload>⟧.payload };
 }
 
-impl LendsFields3<u64, i64, u32> for FileRecord {
-    fn fields(&self) -> (&u64, &i64, &u32) {
-        (&self.bytes, &self.modified, &self.checksum)
+impl HasField<0> for FileRecord {
+    type Field = u64;
+
+    type Inside = ();
+
+    ghost field = { λ t. t.bytes };
+
+    fn field(&self) -> &u64 {
+        &self.bytes
     }
 }
 
+impl HasField<1> for FileRecord {
+    type Field = i64;
+
+    type Inside = ();
+
+    ghost field = { λ t. t.modified };
+
+    fn field(&self) -> &i64 {
+        &self.modified
+    }
+}
+
+impl HasField<2> for FileRecord {
+    type Field = u32;
+
+    type Inside = ();
+
+    ghost field = { λ t. t.checksum };
+
+    fn field(&self) -> &u32 {
+        &self.checksum
+    }
+}
+
+type Fields = <(u64, (i64, u32)) as HasEncoder>::Encoder;
+
+impl InFields<Fields> for FileRecord {
+    type Numbers = (Nth<0>, (Nth<1>, Nth<2>));
+
+    type Inside = ();
+
+    ghost same_shape = { refl };
+
+    ghost to_fields = { λ t. listed_pair (λ d h. h) (listed_pair (λ d h. h) (λ d h. h)) };
+
+    ghost of_fields = { λ t. listed_pair (λ d h. h) (listed_pair (λ d h. h) (λ d h. h)) };
+}
+
 impl HasEncoder for FileRecord {
-    type Encoder = EncoderOfFields<3, (u64, i64, u32)>;
+    type Encoder = StructEncoder<Fields>;
 }
 
 impl<'a> HasDecoder<'a> for FileRecord {

@@ -1,9 +1,11 @@
 //! `Entity` corresponds to the tuple of its fields. What is below its declaration was written by `scripts/new_type`.
 ghost use Rattle.std.specs.Prelude.{refl};
-ghost use Rattle.bitcode.specs.ByHand.{stood_payload};
+ghost use Rattle.bitcode.specs.ByHand.{listed_pair, stood_payload};
 
 use crate::kind::Kind;
-use bitcode::own::{DecoderOfFields, EncoderOfFields, FromParts, LendsFields7, Payload, StandsFor};
+use bitcode::own::{
+    DecoderOfFields, FromParts, HasField, InFields, Nth, Payload, StandsFor, StructEncoder,
+};
 use bitcode::{DecodeOwned, HasDecoder, HasEncoder, Shaped};
 
 /// Something in the world.
@@ -73,22 +75,113 @@ impl Payload for Entity {
         ⟦<Parts as Payload>⟧.payload };
 }
 
-impl LendsFields7<u32, Kind, i32, i32, u16, bool, Option<u32>> for Entity {
-    fn fields(&self) -> (&u32, &Kind, &i32, &i32, &u16, &bool, &Option<u32>) {
-        (
-            &self.id,
-            &self.kind,
-            &self.x,
-            &self.y,
-            &self.health,
-            &self.is_asleep,
-            &self.target,
-        )
+impl HasField<0> for Entity {
+    type Field = u32;
+
+    type Inside = ();
+
+    ghost field = { λ t. t.id };
+
+    fn field(&self) -> &u32 {
+        &self.id
     }
 }
 
+impl HasField<1> for Entity {
+    type Field = Kind;
+
+    type Inside = ();
+
+    ghost field = { λ t. t.kind };
+
+    fn field(&self) -> &Kind {
+        &self.kind
+    }
+}
+
+impl HasField<2> for Entity {
+    type Field = i32;
+
+    type Inside = ();
+
+    ghost field = { λ t. t.x };
+
+    fn field(&self) -> &i32 {
+        &self.x
+    }
+}
+
+impl HasField<3> for Entity {
+    type Field = i32;
+
+    type Inside = ();
+
+    ghost field = { λ t. t.y };
+
+    fn field(&self) -> &i32 {
+        &self.y
+    }
+}
+
+impl HasField<4> for Entity {
+    type Field = u16;
+
+    type Inside = ();
+
+    ghost field = { λ t. t.health };
+
+    fn field(&self) -> &u16 {
+        &self.health
+    }
+}
+
+impl HasField<5> for Entity {
+    type Field = bool;
+
+    type Inside = ();
+
+    ghost field = { λ t. t.is_asleep };
+
+    fn field(&self) -> &bool {
+        &self.is_asleep
+    }
+}
+
+impl HasField<6> for Entity {
+    type Field = Option<u32>;
+
+    type Inside = ();
+
+    ghost field = { λ t. t.target };
+
+    fn field(&self) -> &Option<u32> {
+        &self.target
+    }
+}
+
+type Fields = <((u32, (Kind, i32)), ((i32, u16), (bool, Option<u32>))) as HasEncoder>::Encoder;
+
+impl InFields<Fields> for Entity {
+    type Numbers = (
+        (Nth<0>, (Nth<1>, Nth<2>)),
+        ((Nth<3>, Nth<4>), (Nth<5>, Nth<6>)),
+    );
+
+    type Inside = ();
+
+    ghost same_shape = { refl };
+
+    ghost to_fields = { λ t. listed_pair
+        (listed_pair (λ d h. h) (listed_pair (λ d h. h) (λ d h. h)))
+        (listed_pair (listed_pair (λ d h. h) (λ d h. h)) (listed_pair (λ d h. h) (λ d h. h))) };
+
+    ghost of_fields = { λ t. listed_pair
+        (listed_pair (λ d h. h) (listed_pair (λ d h. h) (λ d h. h)))
+        (listed_pair (listed_pair (λ d h. h) (λ d h. h)) (listed_pair (λ d h. h) (λ d h. h))) };
+}
+
 impl HasEncoder for Entity {
-    type Encoder = EncoderOfFields<7, Parts>;
+    type Encoder = StructEncoder<Fields>;
 }
 
 impl<'a> HasDecoder<'a> for Entity {

@@ -3,7 +3,8 @@ ghost use Rattle.std.specs.Prelude.{[], ◌∷◌, refl};
 ghost use Rattle.bitcode.specs.ByHand.{stood_payload};
 ghost use Rattle.snapshots.specs.declared.kind.Kind.{Kind};
 
-use bitcode::own::{Bare, BareVariants, HasCoders, HeldIn, Payload, StandsFor};
+use bitcode::own::{Bare, BareEncoder, BareVariants, HeldIn, Payload, StandsFor};
+use bitcode::{DecodeOwned, HasDecoder, HasEncoder, VariantDecoder};
 
 /// What an entity is.
 #[derive(Debug, Clone, Copy, PartialEq)]
@@ -48,4 +49,12 @@ impl Payload for Kind {
         ⟦<Bare<4, Kind> as Payload>⟧.payload };
 }
 
-impl HasCoders for Kind {}
+impl HasEncoder for Kind {
+    type Encoder = BareEncoder<4>;
+}
+
+impl<'a> HasDecoder<'a> for Kind {
+    type Decoder = VariantDecoder<'a, 4, true>;
+}
+
+impl DecodeOwned for Kind {}

@@ -1,4 +1,4 @@
-//! The coders of tuples: pairs of coders, one for each half of the fields.
+//! The coders of tuples: nested pairs of the coders of their fields.
 mod of_1;
 mod of_12_and_13;
 mod of_14_to_16;

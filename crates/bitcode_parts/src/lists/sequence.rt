@@ -190,8 +190,9 @@ pub trait Sequence: Shaped {
             (OverflowsWithEach Self.Element.lists Self.Element.shape (items self.now)
             (E.columns elements.old))) };
 
-    /// Appends the columns of the elements to `out`, if the elements form a slice and their encoder can do so without a
-    /// copy of them. The columns of the encoder must be empty. Returns whether it did. If not, `out` is unchanged.
+    /// Appends the columns of the elements to `out`, if `Self` implements this call and the encoder can do so without a
+    /// copy of the elements. The columns of the encoder must be empty. Returns whether it did. If not, `out` is
+    /// unchanged.
     ///
     /// The only error is `out of memory`. `out` then begins with its old bytes.
     fn write_elements<E: Encoder<Self::Element>>(

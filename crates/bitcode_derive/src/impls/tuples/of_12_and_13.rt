@@ -3,6 +3,7 @@
 use crate::derive::{DecodeOwned, HasDecoder, HasEncoder};
 use bitcode_tuples::decoder::TupleDecoder;
 use bitcode_tuples::encoder::TupleEncoder;
+use bitcode_tuples::struct_encoder::StructEncoder;
 
 impl<
     A: HasEncoder,
@@ -18,14 +19,16 @@ impl<
     K: HasEncoder,
     L: HasEncoder,
 > HasEncoder for (A, B, C, D, E, F, G, H, I, J, K, L) {
-    type Encoder = TupleEncoder<
+    type Encoder = StructEncoder<
         TupleEncoder<
-            TupleEncoder<A::Encoder, TupleEncoder<B::Encoder, C::Encoder>>,
-            TupleEncoder<D::Encoder, TupleEncoder<E::Encoder, F::Encoder>>,
-        >,
-        TupleEncoder<
-            TupleEncoder<G::Encoder, TupleEncoder<H::Encoder, I::Encoder>>,
-            TupleEncoder<J::Encoder, TupleEncoder<K::Encoder, L::Encoder>>,
+            TupleEncoder<
+                TupleEncoder<A::Encoder, TupleEncoder<B::Encoder, C::Encoder>>,
+                TupleEncoder<D::Encoder, TupleEncoder<E::Encoder, F::Encoder>>,
+            >,
+            TupleEncoder<
+                TupleEncoder<G::Encoder, TupleEncoder<H::Encoder, I::Encoder>>,
+                TupleEncoder<J::Encoder, TupleEncoder<K::Encoder, L::Encoder>>,
+            >,
         >,
     >;
 }
@@ -87,16 +90,18 @@ impl<
     L: HasEncoder,
     M: HasEncoder,
 > HasEncoder for (A, B, C, D, E, F, G, H, I, J, K, L, M) {
-    type Encoder = TupleEncoder<
+    type Encoder = StructEncoder<
         TupleEncoder<
-            TupleEncoder<A::Encoder, TupleEncoder<B::Encoder, C::Encoder>>,
-            TupleEncoder<D::Encoder, TupleEncoder<E::Encoder, F::Encoder>>,
-        >,
-        TupleEncoder<
-            TupleEncoder<G::Encoder, TupleEncoder<H::Encoder, I::Encoder>>,
             TupleEncoder<
-                TupleEncoder<J::Encoder, K::Encoder>,
-                TupleEncoder<L::Encoder, M::Encoder>,
+                TupleEncoder<A::Encoder, TupleEncoder<B::Encoder, C::Encoder>>,
+                TupleEncoder<D::Encoder, TupleEncoder<E::Encoder, F::Encoder>>,
+            >,
+            TupleEncoder<
+                TupleEncoder<G::Encoder, TupleEncoder<H::Encoder, I::Encoder>>,
+                TupleEncoder<
+                    TupleEncoder<J::Encoder, K::Encoder>,
+                    TupleEncoder<L::Encoder, M::Encoder>,
+                >,
             >,
         >,
     >;

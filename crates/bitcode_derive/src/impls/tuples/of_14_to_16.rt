@@ -3,6 +3,7 @@
 use crate::derive::{DecodeOwned, HasDecoder, HasEncoder};
 use bitcode_tuples::decoder::TupleDecoder;
 use bitcode_tuples::encoder::TupleEncoder;
+use bitcode_tuples::struct_encoder::StructEncoder;
 
 impl<
     A: HasEncoder,
@@ -20,19 +21,21 @@ impl<
     M: HasEncoder,
     N: HasEncoder,
 > HasEncoder for (A, B, C, D, E, F, G, H, I, J, K, L, M, N) {
-    type Encoder = TupleEncoder<
+    type Encoder = StructEncoder<
         TupleEncoder<
-            TupleEncoder<A::Encoder, TupleEncoder<B::Encoder, C::Encoder>>,
             TupleEncoder<
-                TupleEncoder<D::Encoder, E::Encoder>,
-                TupleEncoder<F::Encoder, G::Encoder>,
+                TupleEncoder<A::Encoder, TupleEncoder<B::Encoder, C::Encoder>>,
+                TupleEncoder<
+                    TupleEncoder<D::Encoder, E::Encoder>,
+                    TupleEncoder<F::Encoder, G::Encoder>,
+                >,
             >,
-        >,
-        TupleEncoder<
-            TupleEncoder<H::Encoder, TupleEncoder<I::Encoder, J::Encoder>>,
             TupleEncoder<
-                TupleEncoder<K::Encoder, L::Encoder>,
-                TupleEncoder<M::Encoder, N::Encoder>,
+                TupleEncoder<H::Encoder, TupleEncoder<I::Encoder, J::Encoder>>,
+                TupleEncoder<
+                    TupleEncoder<K::Encoder, L::Encoder>,
+                    TupleEncoder<M::Encoder, N::Encoder>,
+                >,
             >,
         >,
     >;
@@ -107,22 +110,24 @@ impl<
     N: HasEncoder,
     O: HasEncoder,
 > HasEncoder for (A, B, C, D, E, F, G, H, I, J, K, L, M, N, O) {
-    type Encoder = TupleEncoder<
-        TupleEncoder<
-            TupleEncoder<A::Encoder, TupleEncoder<B::Encoder, C::Encoder>>,
-            TupleEncoder<
-                TupleEncoder<D::Encoder, E::Encoder>,
-                TupleEncoder<F::Encoder, G::Encoder>,
-            >,
-        >,
+    type Encoder = StructEncoder<
         TupleEncoder<
             TupleEncoder<
-                TupleEncoder<H::Encoder, I::Encoder>,
-                TupleEncoder<J::Encoder, K::Encoder>,
+                TupleEncoder<A::Encoder, TupleEncoder<B::Encoder, C::Encoder>>,
+                TupleEncoder<
+                    TupleEncoder<D::Encoder, E::Encoder>,
+                    TupleEncoder<F::Encoder, G::Encoder>,
+                >,
             >,
             TupleEncoder<
-                TupleEncoder<L::Encoder, M::Encoder>,
-                TupleEncoder<N::Encoder, O::Encoder>,
+                TupleEncoder<
+                    TupleEncoder<H::Encoder, I::Encoder>,
+                    TupleEncoder<J::Encoder, K::Encoder>,
+                >,
+                TupleEncoder<
+                    TupleEncoder<L::Encoder, M::Encoder>,
+                    TupleEncoder<N::Encoder, O::Encoder>,
+                >,
             >,
         >,
     >;
@@ -203,25 +208,27 @@ impl<
     O: HasEncoder,
     P: HasEncoder,
 > HasEncoder for (A, B, C, D, E, F, G, H, I, J, K, L, M, N, O, P) {
-    type Encoder = TupleEncoder<
+    type Encoder = StructEncoder<
         TupleEncoder<
             TupleEncoder<
-                TupleEncoder<A::Encoder, B::Encoder>,
-                TupleEncoder<C::Encoder, D::Encoder>,
+                TupleEncoder<
+                    TupleEncoder<A::Encoder, B::Encoder>,
+                    TupleEncoder<C::Encoder, D::Encoder>,
+                >,
+                TupleEncoder<
+                    TupleEncoder<E::Encoder, F::Encoder>,
+                    TupleEncoder<G::Encoder, H::Encoder>,
+                >,
             >,
             TupleEncoder<
-                TupleEncoder<E::Encoder, F::Encoder>,
-                TupleEncoder<G::Encoder, H::Encoder>,
-            >,
-        >,
-        TupleEncoder<
-            TupleEncoder<
-                TupleEncoder<I::Encoder, J::Encoder>,
-                TupleEncoder<K::Encoder, L::Encoder>,
-            >,
-            TupleEncoder<
-                TupleEncoder<M::Encoder, N::Encoder>,
-                TupleEncoder<O::Encoder, P::Encoder>,
+                TupleEncoder<
+                    TupleEncoder<I::Encoder, J::Encoder>,
+                    TupleEncoder<K::Encoder, L::Encoder>,
+                >,
+                TupleEncoder<
+                    TupleEncoder<M::Encoder, N::Encoder>,
+                    TupleEncoder<O::Encoder, P::Encoder>,
+                >,
             >,
         >,
     >;

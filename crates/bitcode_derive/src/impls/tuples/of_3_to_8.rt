@@ -3,9 +3,10 @@
 use crate::derive::{DecodeOwned, HasDecoder, HasEncoder};
 use bitcode_tuples::decoder::TupleDecoder;
 use bitcode_tuples::encoder::TupleEncoder;
+use bitcode_tuples::struct_encoder::StructEncoder;
 
 impl<A: HasEncoder, B: HasEncoder, C: HasEncoder> HasEncoder for (A, B, C) {
-    type Encoder = TupleEncoder<A::Encoder, TupleEncoder<B::Encoder, C::Encoder>>;
+    type Encoder = StructEncoder<TupleEncoder<A::Encoder, TupleEncoder<B::Encoder, C::Encoder>>>;
 }
 
 impl<'a, A: HasDecoder<'a>, B: HasDecoder<'a>, C: HasDecoder<'a>> HasDecoder<'a> for (A, B, C) {
@@ -15,9 +16,8 @@ impl<'a, A: HasDecoder<'a>, B: HasDecoder<'a>, C: HasDecoder<'a>> HasDecoder<'a>
 impl<A: DecodeOwned, B: DecodeOwned, C: DecodeOwned> DecodeOwned for (A, B, C) {}
 
 impl<A: HasEncoder, B: HasEncoder, C: HasEncoder, D: HasEncoder> HasEncoder for (A, B, C, D) {
-    type Encoder = TupleEncoder<
-        TupleEncoder<A::Encoder, B::Encoder>,
-        TupleEncoder<C::Encoder, D::Encoder>,
+    type Encoder = StructEncoder<
+        TupleEncoder<TupleEncoder<A::Encoder, B::Encoder>, TupleEncoder<C::Encoder, D::Encoder>>,
     >;
 }
 
@@ -33,9 +33,11 @@ impl<A: DecodeOwned, B: DecodeOwned, C: DecodeOwned, D: DecodeOwned> DecodeOwned
 
 impl<A: HasEncoder, B: HasEncoder, C: HasEncoder, D: HasEncoder, E: HasEncoder> HasEncoder
     for (A, B, C, D, E) {
-    type Encoder = TupleEncoder<
-        TupleEncoder<A::Encoder, B::Encoder>,
-        TupleEncoder<C::Encoder, TupleEncoder<D::Encoder, E::Encoder>>,
+    type Encoder = StructEncoder<
+        TupleEncoder<
+            TupleEncoder<A::Encoder, B::Encoder>,
+            TupleEncoder<C::Encoder, TupleEncoder<D::Encoder, E::Encoder>>,
+        >,
     >;
 }
 
@@ -64,9 +66,11 @@ impl<
     E: HasEncoder,
     F: HasEncoder,
 > HasEncoder for (A, B, C, D, E, F) {
-    type Encoder = TupleEncoder<
-        TupleEncoder<A::Encoder, TupleEncoder<B::Encoder, C::Encoder>>,
-        TupleEncoder<D::Encoder, TupleEncoder<E::Encoder, F::Encoder>>,
+    type Encoder = StructEncoder<
+        TupleEncoder<
+            TupleEncoder<A::Encoder, TupleEncoder<B::Encoder, C::Encoder>>,
+            TupleEncoder<D::Encoder, TupleEncoder<E::Encoder, F::Encoder>>,
+        >,
     >;
 }
 
@@ -103,9 +107,14 @@ impl<
     F: HasEncoder,
     G: HasEncoder,
 > HasEncoder for (A, B, C, D, E, F, G) {
-    type Encoder = TupleEncoder<
-        TupleEncoder<A::Encoder, TupleEncoder<B::Encoder, C::Encoder>>,
-        TupleEncoder<TupleEncoder<D::Encoder, E::Encoder>, TupleEncoder<F::Encoder, G::Encoder>>,
+    type Encoder = StructEncoder<
+        TupleEncoder<
+            TupleEncoder<A::Encoder, TupleEncoder<B::Encoder, C::Encoder>>,
+            TupleEncoder<
+                TupleEncoder<D::Encoder, E::Encoder>,
+                TupleEncoder<F::Encoder, G::Encoder>,
+            >,
+        >,
     >;
 }
 
@@ -145,9 +154,17 @@ impl<
     G: HasEncoder,
     H: HasEncoder,
 > HasEncoder for (A, B, C, D, E, F, G, H) {
-    type Encoder = TupleEncoder<
-        TupleEncoder<TupleEncoder<A::Encoder, B::Encoder>, TupleEncoder<C::Encoder, D::Encoder>>,
-        TupleEncoder<TupleEncoder<E::Encoder, F::Encoder>, TupleEncoder<G::Encoder, H::Encoder>>,
+    type Encoder = StructEncoder<
+        TupleEncoder<
+            TupleEncoder<
+                TupleEncoder<A::Encoder, B::Encoder>,
+                TupleEncoder<C::Encoder, D::Encoder>,
+            >,
+            TupleEncoder<
+                TupleEncoder<E::Encoder, F::Encoder>,
+                TupleEncoder<G::Encoder, H::Encoder>,
+            >,
+        >,
     >;
 }
 

@@ -3,6 +3,7 @@
 use crate::derive::{DecodeOwned, HasDecoder, HasEncoder};
 use bitcode_tuples::decoder::TupleDecoder;
 use bitcode_tuples::encoder::TupleEncoder;
+use bitcode_tuples::struct_encoder::StructEncoder;
 
 impl<
     A: HasEncoder,
@@ -15,11 +16,16 @@ impl<
     H: HasEncoder,
     I: HasEncoder,
 > HasEncoder for (A, B, C, D, E, F, G, H, I) {
-    type Encoder = TupleEncoder<
-        TupleEncoder<TupleEncoder<A::Encoder, B::Encoder>, TupleEncoder<C::Encoder, D::Encoder>>,
+    type Encoder = StructEncoder<
         TupleEncoder<
-            TupleEncoder<E::Encoder, F::Encoder>,
-            TupleEncoder<G::Encoder, TupleEncoder<H::Encoder, I::Encoder>>,
+            TupleEncoder<
+                TupleEncoder<A::Encoder, B::Encoder>,
+                TupleEncoder<C::Encoder, D::Encoder>,
+            >,
+            TupleEncoder<
+                TupleEncoder<E::Encoder, F::Encoder>,
+                TupleEncoder<G::Encoder, TupleEncoder<H::Encoder, I::Encoder>>,
+            >,
         >,
     >;
 }
@@ -69,14 +75,16 @@ impl<
     I: HasEncoder,
     J: HasEncoder,
 > HasEncoder for (A, B, C, D, E, F, G, H, I, J) {
-    type Encoder = TupleEncoder<
+    type Encoder = StructEncoder<
         TupleEncoder<
-            TupleEncoder<A::Encoder, B::Encoder>,
-            TupleEncoder<C::Encoder, TupleEncoder<D::Encoder, E::Encoder>>,
-        >,
-        TupleEncoder<
-            TupleEncoder<F::Encoder, G::Encoder>,
-            TupleEncoder<H::Encoder, TupleEncoder<I::Encoder, J::Encoder>>,
+            TupleEncoder<
+                TupleEncoder<A::Encoder, B::Encoder>,
+                TupleEncoder<C::Encoder, TupleEncoder<D::Encoder, E::Encoder>>,
+            >,
+            TupleEncoder<
+                TupleEncoder<F::Encoder, G::Encoder>,
+                TupleEncoder<H::Encoder, TupleEncoder<I::Encoder, J::Encoder>>,
+            >,
         >,
     >;
 }
@@ -132,14 +140,16 @@ impl<
     J: HasEncoder,
     K: HasEncoder,
 > HasEncoder for (A, B, C, D, E, F, G, H, I, J, K) {
-    type Encoder = TupleEncoder<
+    type Encoder = StructEncoder<
         TupleEncoder<
-            TupleEncoder<A::Encoder, B::Encoder>,
-            TupleEncoder<C::Encoder, TupleEncoder<D::Encoder, E::Encoder>>,
-        >,
-        TupleEncoder<
-            TupleEncoder<F::Encoder, TupleEncoder<G::Encoder, H::Encoder>>,
-            TupleEncoder<I::Encoder, TupleEncoder<J::Encoder, K::Encoder>>,
+            TupleEncoder<
+                TupleEncoder<A::Encoder, B::Encoder>,
+                TupleEncoder<C::Encoder, TupleEncoder<D::Encoder, E::Encoder>>,
+            >,
+            TupleEncoder<
+                TupleEncoder<F::Encoder, TupleEncoder<G::Encoder, H::Encoder>>,
+                TupleEncoder<I::Encoder, TupleEncoder<J::Encoder, K::Encoder>>,
+            >,
         >,
     >;
 }

@@ -1,0 +1,30 @@
+-- A struct or a tuple has the listings and the columns of its fields in nested pairs. So the laws of its encoder follow
+-- from those of the encoder of the pairs.
+use Rattle.std.specs.Prelude.{◌≡◌, ℕ, []}
+use Rattle.std.proofs.Common.{subst}
+use Rattle.bitcode_shapes.specs.Datum.{Datum}
+use Rattle.bitcode_shapes.specs.Shape.{Shape}
+use Rattle.bitcode_shapes.specs.Pairs.{ListsPair}
+use Rattle.bitcode_coder.specs.Columns.{Columns}
+use Rattle.bitcode_coder.specs.Coder.{written_columns, SurelyOverflows}
+
+pub struct_of_shape : {E : Type 0} {empty : E → Columns} {s t : Shape} → s ≡ t → ((e : E) → empty e ≡ written_columns s [])
+    → (e : E) → empty e ≡ written_columns t []
+struct_of_shape {empty} same of_shape e = subst (λ s. empty e ≡ written_columns s []) same (of_shape e)
+
+pub struct_surely : {E : Type 0} (columns : E → Columns) {overflows : E → ℕ → Type 0} {s t : Shape} → s ≡ t
+    → ((e : E) (n : ℕ) → overflows e n → SurelyOverflows s (columns e) n) → (e : E) (n : ℕ) → overflows e n → SurelyOverflows t (columns e) n
+struct_surely columns same surely e n h = subst (λ s. SurelyOverflows s (columns e) n) same (surely e n h)
+
+-- The listings of a tuple are those of its fields in nested pairs, and the other way round: those of a pair follow from
+-- those of both halves.
+pub listed_pair : {A B C D : Type 0} {lists_a : A → Datum → Type 0} {lists_b : B → Datum → Type 0} {lists_c : C → Datum → Type 0} {lists_d : D → Datum → Type 0}
+    {x : A × B} {y : C × D} → ((d : Datum) → lists_a x.0 d → lists_c y.0 d) → ((d : Datum) → lists_b x.1 d → lists_d y.1 d)
+    → (d : Datum) → ListsPair lists_a lists_b x d → ListsPair lists_c lists_d y d
+listed_pair first second d h = record {
+  first = h.first;
+  second = h.second;
+  is = h.is;
+  lists_first = first h.first h.lists_first;
+  lists_second = second h.second h.lists_second;
+}

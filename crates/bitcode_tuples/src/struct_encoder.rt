@@ -1,0 +1,110 @@
+//! The encoder of structs, and of tuples of three and more fields.
+ghost use Rattle.std.specs.Prelude.{◌≡◌, map};
+ghost use Rattle.bitcode_shapes.specs.Datum.{Datum};
+ghost use Rattle.bitcode_tuples.specs.FieldLaws.{struct_of_shape, struct_surely};
+ghost use Rattle.bitcode_tuples.specs.Pairs.{EachListed};
+
+use crate::part_encoder::PartEncoder;
+use bitcode_coder::coder::{Buffer, Encoder, HoldsColumns};
+use bitcode_coder::part::{Part, told_parts};
+use bitcode_columns::error::Error;
+use bitcode_shapes::shaped::Shaped;
+use std::alloc::Global;
+
+/// A value that `E` encodes field by field, with the fields in nested pairs.
+pub trait InFields<E: PartEncoder<Self, Self::Numbers>>: Shaped {
+    /// The numbers of the fields, in nested pairs: `((Nth<0>, Nth<1>), (Nth<2>, (Nth<3>, Nth<4>)))`.
+    type Numbers;
+
+    /// For a type that owns memory `(<Self as StandsFor>::Parts, <Self as StandsFor>::Inside)`, and otherwise `()`. It
+    /// says nothing about the values, like `HasField::Inside`.
+    type Inside;
+
+    // the columns are those of the fields
+    ghost same_shape: { E.shape ≡ Self.shape };
+
+    // and so are the listings
+    ghost to_fields: { (t : Self) (d : Datum) → Self.lists t d → E.lists t d };
+
+    ghost of_fields: { (t : Self) (d : Datum) → E.lists t d → Self.lists t d };
+}
+
+/// The columns of structs, and of tuples of three and more fields, with the encoder `E` of their fields in nested
+/// pairs.
+///
+/// It returns that encoder's errors, and allocates nothing itself.
+#[derive(Drop)]
+pub struct StructEncoder<E> {
+    fields: E,
+}
+
+impl<E: HoldsColumns> HoldsColumns for StructEncoder<E> {
+    ghost columns = { λ e. E.columns e.fields };
+
+    ghost room = { λ e. E.room e.fields };
+
+    ghost capacity = { λ e. E.capacity e.fields };
+
+    ghost surely_overflows = { λ e n. E.surely_overflows e.fields n };
+
+    ghost overflows = { λ e n. E.overflows e.fields n };
+}
+
+impl<E: Buffer> Buffer for StructEncoder<E> {
+    fn new(alloc: Global) -> Self {
+        StructEncoder {
+            fields: E::new(alloc),
+        }
+    }
+
+    fn reserve(&mut self, n: usize) -> Result<(), Error> {
+        self.fields.reserve(n)
+    }
+
+    fn collect_into(&mut self, out: &mut Vec<u8>) -> Result<(), Error> {
+        self.fields.collect_into(out)
+    }
+
+    fn clear(&mut self) {
+        self.fields.clear();
+    }
+}
+
+impl<T: InFields<E>, E: PartEncoder<T, T::Numbers>> Encoder<T> for StructEncoder<E> {
+    ghost writes_free = { E.writes_free };
+
+    fn encode(&mut self, t: &T) -> Result<(), Error> {
+        t.told();
+        self.fields.encode_part(t)
+    }
+
+    fn write_directly(&mut self, t: &T, out: &mut Vec<u8>) -> Result<bool, Error> {
+        t.told();
+        self.fields.write_part(t, out)?;
+        Ok(true)
+    }
+
+    fn encode_part_of_each<S, W: Part<S, T>>(
+        &mut self,
+        items: &[S],
+        which: &W,
+        _first: &T,
+    ) -> Result<(), Error> {
+        listed_fields::<T, E, S, W>(items, which);
+        self.fields.encode_part_in_each(items, which)
+    }
+
+    ghost of_shape = { λ e. struct_of_shape T.same_shape E.of_shape e.fields };
+
+    ghost surely = { λ e n h. struct_surely E.columns T.same_shape E.surely e.fields n h };
+}
+
+/// The fields of each item have a listing.
+fn listed_fields<T: InFields<E>, E: PartEncoder<T, T::Numbers>, S, W: Part<S, T>>(
+    items: &[S],
+    which: &W,
+)
+    ensures { EachListed E.lists (map (W.of which.now) items.now) }
+{
+    told_parts(items, which);
+}

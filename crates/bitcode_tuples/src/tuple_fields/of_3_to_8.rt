@@ -1,0 +1,585 @@
+// Written by scripts/tables/tuples.
+//! The fields of tuples of three to eight fields, and the nested pairs that they are encoded as.
+ghost use Rattle.std.specs.Prelude.{◌≡◌, refl};
+ghost use Rattle.bitcode_tuples.specs.FieldLaws.{listed_pair};
+
+use crate::encoder::TupleEncoder;
+use crate::has_field::{HasField, Nth};
+use crate::struct_encoder::InFields;
+use bitcode_coder::coder::{Buffer, Encoder};
+use bitcode_shapes::shaped::Shaped;
+
+impl<A: Shaped, B, C> HasField<0> for (A, B, C) {
+    type Field = A;
+
+    type Inside = ();
+
+    ghost field = { λ t. t.0 };
+
+    fn field(&self) -> &A {
+        &self.0
+    }
+}
+
+impl<A, B: Shaped, C> HasField<1> for (A, B, C) {
+    type Field = B;
+
+    type Inside = ();
+
+    ghost field = { λ t. t.1 };
+
+    fn field(&self) -> &B {
+        &self.1
+    }
+}
+
+impl<A, B, C: Shaped> HasField<2> for (A, B, C) {
+    type Field = C;
+
+    type Inside = ();
+
+    ghost field = { λ t. t.2 };
+
+    fn field(&self) -> &C {
+        &self.2
+    }
+}
+
+impl<
+    A: Shaped,
+    B: Shaped,
+    C: Shaped,
+    E0: Buffer + Encoder<A>,
+    E1: Buffer + Encoder<B>,
+    E2: Buffer + Encoder<C>,
+> InFields<TupleEncoder<E0, TupleEncoder<E1, E2>>> for (A, B, C) {
+    type Numbers = (Nth<0>, (Nth<1>, Nth<2>));
+
+    type Inside = ();
+
+    ghost same_shape = { refl };
+
+    ghost to_fields = { λ t. listed_pair (λ d h. h) (listed_pair (λ d h. h) (λ d h. h)) };
+
+    ghost of_fields = { λ t. listed_pair (λ d h. h) (listed_pair (λ d h. h) (λ d h. h)) };
+}
+
+impl<A: Shaped, B, C, D> HasField<0> for (A, B, C, D) {
+    type Field = A;
+
+    type Inside = ();
+
+    ghost field = { λ t. t.0 };
+
+    fn field(&self) -> &A {
+        &self.0
+    }
+}
+
+impl<A, B: Shaped, C, D> HasField<1> for (A, B, C, D) {
+    type Field = B;
+
+    type Inside = ();
+
+    ghost field = { λ t. t.1 };
+
+    fn field(&self) -> &B {
+        &self.1
+    }
+}
+
+impl<A, B, C: Shaped, D> HasField<2> for (A, B, C, D) {
+    type Field = C;
+
+    type Inside = ();
+
+    ghost field = { λ t. t.2 };
+
+    fn field(&self) -> &C {
+        &self.2
+    }
+}
+
+impl<A, B, C, D: Shaped> HasField<3> for (A, B, C, D) {
+    type Field = D;
+
+    type Inside = ();
+
+    ghost field = { λ t. t.3 };
+
+    fn field(&self) -> &D {
+        &self.3
+    }
+}
+
+impl<
+    A: Shaped,
+    B: Shaped,
+    C: Shaped,
+    D: Shaped,
+    E0: Buffer + Encoder<A>,
+    E1: Buffer + Encoder<B>,
+    E2: Buffer + Encoder<C>,
+    E3: Buffer + Encoder<D>,
+> InFields<TupleEncoder<TupleEncoder<E0, E1>, TupleEncoder<E2, E3>>> for (A, B, C, D) {
+    type Numbers = ((Nth<0>, Nth<1>), (Nth<2>, Nth<3>));
+
+    type Inside = ();
+
+    ghost same_shape = { refl };
+
+    ghost to_fields = { λ t. listed_pair (listed_pair (λ d h. h) (λ d h. h))
+        (listed_pair (λ d h. h) (λ d h. h)) };
+
+    ghost of_fields = { λ t. listed_pair (listed_pair (λ d h. h) (λ d h. h))
+        (listed_pair (λ d h. h) (λ d h. h)) };
+}
+
+impl<A: Shaped, B, C, D, E> HasField<0> for (A, B, C, D, E) {
+    type Field = A;
+
+    type Inside = ();
+
+    ghost field = { λ t. t.0 };
+
+    fn field(&self) -> &A {
+        &self.0
+    }
+}
+
+impl<A, B: Shaped, C, D, E> HasField<1> for (A, B, C, D, E) {
+    type Field = B;
+
+    type Inside = ();
+
+    ghost field = { λ t. t.1 };
+
+    fn field(&self) -> &B {
+        &self.1
+    }
+}
+
+impl<A, B, C: Shaped, D, E> HasField<2> for (A, B, C, D, E) {
+    type Field = C;
+
+    type Inside = ();
+
+    ghost field = { λ t. t.2 };
+
+    fn field(&self) -> &C {
+        &self.2
+    }
+}
+
+impl<A, B, C, D: Shaped, E> HasField<3> for (A, B, C, D, E) {
+    type Field = D;
+
+    type Inside = ();
+
+    ghost field = { λ t. t.3 };
+
+    fn field(&self) -> &D {
+        &self.3
+    }
+}
+
+impl<A, B, C, D, E: Shaped> HasField<4> for (A, B, C, D, E) {
+    type Field = E;
+
+    type Inside = ();
+
+    ghost field = { λ t. t.4 };
+
+    fn field(&self) -> &E {
+        &self.4
+    }
+}
+
+impl<
+    A: Shaped,
+    B: Shaped,
+    C: Shaped,
+    D: Shaped,
+    E: Shaped,
+    E0: Buffer + Encoder<A>,
+    E1: Buffer + Encoder<B>,
+    E2: Buffer + Encoder<C>,
+    E3: Buffer + Encoder<D>,
+    E4: Buffer + Encoder<E>,
+> InFields<TupleEncoder<TupleEncoder<E0, E1>, TupleEncoder<E2, TupleEncoder<E3, E4>>>>
+    for (A, B, C, D, E) {
+    type Numbers = ((Nth<0>, Nth<1>), (Nth<2>, (Nth<3>, Nth<4>)));
+
+    type Inside = ();
+
+    ghost same_shape = { refl };
+
+    ghost to_fields = { λ t. listed_pair (listed_pair (λ d h. h) (λ d h. h))
+        (listed_pair (λ d h. h) (listed_pair (λ d h. h) (λ d h. h))) };
+
+    ghost of_fields = { λ t. listed_pair (listed_pair (λ d h. h) (λ d h. h))
+        (listed_pair (λ d h. h) (listed_pair (λ d h. h) (λ d h. h))) };
+}
+
+impl<A: Shaped, B, C, D, E, F> HasField<0> for (A, B, C, D, E, F) {
+    type Field = A;
+
+    type Inside = ();
+
+    ghost field = { λ t. t.0 };
+
+    fn field(&self) -> &A {
+        &self.0
+    }
+}
+
+impl<A, B: Shaped, C, D, E, F> HasField<1> for (A, B, C, D, E, F) {
+    type Field = B;
+
+    type Inside = ();
+
+    ghost field = { λ t. t.1 };
+
+    fn field(&self) -> &B {
+        &self.1
+    }
+}
+
+impl<A, B, C: Shaped, D, E, F> HasField<2> for (A, B, C, D, E, F) {
+    type Field = C;
+
+    type Inside = ();
+
+    ghost field = { λ t. t.2 };
+
+    fn field(&self) -> &C {
+        &self.2
+    }
+}
+
+impl<A, B, C, D: Shaped, E, F> HasField<3> for (A, B, C, D, E, F) {
+    type Field = D;
+
+    type Inside = ();
+
+    ghost field = { λ t. t.3 };
+
+    fn field(&self) -> &D {
+        &self.3
+    }
+}
+
+impl<A, B, C, D, E: Shaped, F> HasField<4> for (A, B, C, D, E, F) {
+    type Field = E;
+
+    type Inside = ();
+
+    ghost field = { λ t. t.4 };
+
+    fn field(&self) -> &E {
+        &self.4
+    }
+}
+
+impl<A, B, C, D, E, F: Shaped> HasField<5> for (A, B, C, D, E, F) {
+    type Field = F;
+
+    type Inside = ();
+
+    ghost field = { λ t. t.5 };
+
+    fn field(&self) -> &F {
+        &self.5
+    }
+}
+
+impl<
+    A: Shaped,
+    B: Shaped,
+    C: Shaped,
+    D: Shaped,
+    E: Shaped,
+    F: Shaped,
+    E0: Buffer + Encoder<A>,
+    E1: Buffer + Encoder<B>,
+    E2: Buffer + Encoder<C>,
+    E3: Buffer + Encoder<D>,
+    E4: Buffer + Encoder<E>,
+    E5: Buffer + Encoder<F>,
+> InFields<
+    TupleEncoder<TupleEncoder<E0, TupleEncoder<E1, E2>>, TupleEncoder<E3, TupleEncoder<E4, E5>>>,
+> for (A, B, C, D, E, F) {
+    type Numbers = ((Nth<0>, (Nth<1>, Nth<2>)), (Nth<3>, (Nth<4>, Nth<5>)));
+
+    type Inside = ();
+
+    ghost same_shape = { refl };
+
+    ghost to_fields = { λ t. listed_pair
+        (listed_pair (λ d h. h) (listed_pair (λ d h. h) (λ d h. h)))
+        (listed_pair (λ d h. h) (listed_pair (λ d h. h) (λ d h. h))) };
+
+    ghost of_fields = { λ t. listed_pair
+        (listed_pair (λ d h. h) (listed_pair (λ d h. h) (λ d h. h)))
+        (listed_pair (λ d h. h) (listed_pair (λ d h. h) (λ d h. h))) };
+}
+
+impl<A: Shaped, B, C, D, E, F, G> HasField<0> for (A, B, C, D, E, F, G) {
+    type Field = A;
+
+    type Inside = ();
+
+    ghost field = { λ t. t.0 };
+
+    fn field(&self) -> &A {
+        &self.0
+    }
+}
+
+impl<A, B: Shaped, C, D, E, F, G> HasField<1> for (A, B, C, D, E, F, G) {
+    type Field = B;
+
+    type Inside = ();
+
+    ghost field = { λ t. t.1 };
+
+    fn field(&self) -> &B {
+        &self.1
+    }
+}
+
+impl<A, B, C: Shaped, D, E, F, G> HasField<2> for (A, B, C, D, E, F, G) {
+    type Field = C;
+
+    type Inside = ();
+
+    ghost field = { λ t. t.2 };
+
+    fn field(&self) -> &C {
+        &self.2
+    }
+}
+
+impl<A, B, C, D: Shaped, E, F, G> HasField<3> for (A, B, C, D, E, F, G) {
+    type Field = D;
+
+    type Inside = ();
+
+    ghost field = { λ t. t.3 };
+
+    fn field(&self) -> &D {
+        &self.3
+    }
+}
+
+impl<A, B, C, D, E: Shaped, F, G> HasField<4> for (A, B, C, D, E, F, G) {
+    type Field = E;
+
+    type Inside = ();
+
+    ghost field = { λ t. t.4 };
+
+    fn field(&self) -> &E {
+        &self.4
+    }
+}
+
+impl<A, B, C, D, E, F: Shaped, G> HasField<5> for (A, B, C, D, E, F, G) {
+    type Field = F;
+
+    type Inside = ();
+
+    ghost field = { λ t. t.5 };
+
+    fn field(&self) -> &F {
+        &self.5
+    }
+}
+
+impl<A, B, C, D, E, F, G: Shaped> HasField<6> for (A, B, C, D, E, F, G) {
+    type Field = G;
+
+    type Inside = ();
+
+    ghost field = { λ t. t.6 };
+
+    fn field(&self) -> &G {
+        &self.6
+    }
+}
+
+impl<
+    A: Shaped,
+    B: Shaped,
+    C: Shaped,
+    D: Shaped,
+    E: Shaped,
+    F: Shaped,
+    G: Shaped,
+    E0: Buffer + Encoder<A>,
+    E1: Buffer + Encoder<B>,
+    E2: Buffer + Encoder<C>,
+    E3: Buffer + Encoder<D>,
+    E4: Buffer + Encoder<E>,
+    E5: Buffer + Encoder<F>,
+    E6: Buffer + Encoder<G>,
+> InFields<
+    TupleEncoder<
+        TupleEncoder<E0, TupleEncoder<E1, E2>>,
+        TupleEncoder<TupleEncoder<E3, E4>, TupleEncoder<E5, E6>>,
+    >,
+> for (A, B, C, D, E, F, G) {
+    type Numbers = (
+        (Nth<0>, (Nth<1>, Nth<2>)),
+        ((Nth<3>, Nth<4>), (Nth<5>, Nth<6>)),
+    );
+
+    type Inside = ();
+
+    ghost same_shape = { refl };
+
+    ghost to_fields = { λ t. listed_pair
+        (listed_pair (λ d h. h) (listed_pair (λ d h. h) (λ d h. h)))
+        (listed_pair (listed_pair (λ d h. h) (λ d h. h)) (listed_pair (λ d h. h) (λ d h. h))) };
+
+    ghost of_fields = { λ t. listed_pair
+        (listed_pair (λ d h. h) (listed_pair (λ d h. h) (λ d h. h)))
+        (listed_pair (listed_pair (λ d h. h) (λ d h. h)) (listed_pair (λ d h. h) (λ d h. h))) };
+}
+
+impl<A: Shaped, B, C, D, E, F, G, H> HasField<0> for (A, B, C, D, E, F, G, H) {
+    type Field = A;
+
+    type Inside = ();
+
+    ghost field = { λ t. t.0 };
+
+    fn field(&self) -> &A {
+        &self.0
+    }
+}
+
+impl<A, B: Shaped, C, D, E, F, G, H> HasField<1> for (A, B, C, D, E, F, G, H) {
+    type Field = B;
+
+    type Inside = ();
+
+    ghost field = { λ t. t.1 };
+
+    fn field(&self) -> &B {
+        &self.1
+    }
+}
+
+impl<A, B, C: Shaped, D, E, F, G, H> HasField<2> for (A, B, C, D, E, F, G, H) {
+    type Field = C;
+
+    type Inside = ();
+
+    ghost field = { λ t. t.2 };
+
+    fn field(&self) -> &C {
+        &self.2
+    }
+}
+
+impl<A, B, C, D: Shaped, E, F, G, H> HasField<3> for (A, B, C, D, E, F, G, H) {
+    type Field = D;
+
+    type Inside = ();
+
+    ghost field = { λ t. t.3 };
+
+    fn field(&self) -> &D {
+        &self.3
+    }
+}
+
+impl<A, B, C, D, E: Shaped, F, G, H> HasField<4> for (A, B, C, D, E, F, G, H) {
+    type Field = E;
+
+    type Inside = ();
+
+    ghost field = { λ t. t.4 };
+
+    fn field(&self) -> &E {
+        &self.4
+    }
+}
+
+impl<A, B, C, D, E, F: Shaped, G, H> HasField<5> for (A, B, C, D, E, F, G, H) {
+    type Field = F;
+
+    type Inside = ();
+
+    ghost field = { λ t. t.5 };
+
+    fn field(&self) -> &F {
+        &self.5
+    }
+}
+
+impl<A, B, C, D, E, F, G: Shaped, H> HasField<6> for (A, B, C, D, E, F, G, H) {
+    type Field = G;
+
+    type Inside = ();
+
+    ghost field = { λ t. t.6 };
+
+    fn field(&self) -> &G {
+        &self.6
+    }
+}
+
+impl<A, B, C, D, E, F, G, H: Shaped> HasField<7> for (A, B, C, D, E, F, G, H) {
+    type Field = H;
+
+    type Inside = ();
+
+    ghost field = { λ t. t.7 };
+
+    fn field(&self) -> &H {
+        &self.7
+    }
+}
+
+impl<
+    A: Shaped,
+    B: Shaped,
+    C: Shaped,
+    D: Shaped,
+    E: Shaped,
+    F: Shaped,
+    G: Shaped,
+    H: Shaped,
+    E0: Buffer + Encoder<A>,
+    E1: Buffer + Encoder<B>,
+    E2: Buffer + Encoder<C>,
+    E3: Buffer + Encoder<D>,
+    E4: Buffer + Encoder<E>,
+    E5: Buffer + Encoder<F>,
+    E6: Buffer + Encoder<G>,
+    E7: Buffer + Encoder<H>,
+> InFields<
+    TupleEncoder<
+        TupleEncoder<TupleEncoder<E0, E1>, TupleEncoder<E2, E3>>,
+        TupleEncoder<TupleEncoder<E4, E5>, TupleEncoder<E6, E7>>,
+    >,
+> for (A, B, C, D, E, F, G, H) {
+    type Numbers = (
+        ((Nth<0>, Nth<1>), (Nth<2>, Nth<3>)),
+        ((Nth<4>, Nth<5>), (Nth<6>, Nth<7>)),
+    );
+
+    type Inside = ();
+
+    ghost same_shape = { refl };
+
+    ghost to_fields = { λ t. listed_pair
+        (listed_pair (listed_pair (λ d h. h) (λ d h. h)) (listed_pair (λ d h. h) (λ d h. h)))
+        (listed_pair (listed_pair (λ d h. h) (λ d h. h)) (listed_pair (λ d h. h) (λ d h. h))) };
+
+    ghost of_fields = { λ t. listed_pair
+        (listed_pair (listed_pair (λ d h. h) (λ d h. h)) (listed_pair (λ d h. h) (λ d h. h)))
+        (listed_pair (listed_pair (λ d h. h) (λ d h. h)) (listed_pair (λ d h. h) (λ d h. h))) };
+}
