@@ -58,7 +58,7 @@ pub trait PartEncoder<T, K>: HoldsColumns {
         requires listed { (d : Datum) × lists whole.now d }
         ensures written { OnOk result
             (WritesListing lists shape whole.now (Self.columns self.old) out.old.items
-                out.new.items) }
+            out.new.items) }
         ensures empty { OnOk result (Self.columns self.new ≡ emptied (Self.columns self.old)) }
         ensures begins { BeginsWith out.old.items out.new.items }
         ensures form { emptied (Self.columns self.new) ≡ emptied (Self.columns self.old) }
@@ -81,7 +81,7 @@ pub trait PartEncoder<T, K>: HoldsColumns {
         ensures refused { IfErr result
             (λ e. IsWritingRefusal e.reason
             (OverflowsWithEach lists shape (map (W.of which.now) items.now)
-                (Self.columns self.old))) }
+            (Self.columns self.old))) }
         ensures free { IsTrue writes_free → IfErr result (λ e. e.reason ≢ Reason.OutOfMemory) };
 
     ghost of_shape: { (e : Self) → emptied (Self.columns e) ≡ written_columns shape [] };
