@@ -11,7 +11,7 @@ pub use Rattle.bitcode.specs.Laws.{u16_lawful, u16_makeable, u64_lawful, u64_mak
 -- and `struct_makeable split_3 joined_3 ..` likewise, where the halves of each tuple are as `split_..` says:
 pub use Rattle.bitcode_shapes.specs.Tuples.{split_2, joined_2, split_3, joined_3, split_4, joined_4, split_5, joined_5, split_6, joined_6, split_7, joined_7, split_8, joined_8, split_9, joined_9, split_10, joined_10, split_11, joined_11, split_12, joined_12, split_13, joined_13, split_14, joined_14, split_15, joined_15, split_16, joined_16}
 -- of bytes of texts, which are only written:
-pub use Rattle.bitcode_coder.specs.U8Char.{raw_lawful}
+pub use Rattle.bitcode_ints.specs.U8Char.{raw_lawful}
 -- of containers and texts with a limit, of durations, of checked numbers, and of arrays:
 pub use Rattle.bitcode_shapes.specs.FixedCapacity.{array_vec_lawful, array_vec_makeable, array_string_lawful, array_string_makeable}
 pub use Rattle.bitcode_shapes.specs.LawfulDurations.{duration_lawful, duration_makeable}

@@ -22,35 +22,35 @@
 #![tactic(auto)]
 
 pub use bitcode_coder::bool::{BoolDecoder, BoolEncoder};
-pub use bitcode_coder::checked::{CheckedIntDecoder, Nanosecond};
 pub use bitcode_coder::coder::{Decoder, Encoder, MAX_VECTORED_CHUNK, View};
-pub use bitcode_coder::int::{IntDecoder, IntEncoder};
 pub use bitcode_coder::length::{Len, LengthDecoder, LengthEncoder};
 pub use bitcode_coder::str::{ArrayStringDecoder, StrDecoder, StrEncoder};
-pub use bitcode_coder::u8_char::{U8Char, U8CharEncoder};
-pub use bitcode_columns::consume::{
-    consume_byte, consume_byte_arrays, consume_bytes, expect_eof, mul_length,
-};
-pub use bitcode_columns::error::{Error, Reason};
-pub use bitcode_columns::fast::{
-    CowSlice, FastSlice, FastVec, NextUnchecked, PushUnchecked, SliceImpl, VecImpl,
-};
 pub use bitcode_columns::histogram::histogram;
-pub use bitcode_columns::ints::{Byte, Int, SizedInt, SizedUInt};
-pub use bitcode_columns::minmax::minmax;
 pub use bitcode_columns::pack::{
     pack_bools, pack_bytes, pack_bytes_less_than, unpack_bools, unpack_bytes,
     unpack_bytes_less_than,
 };
 pub use bitcode_columns::pack_ints::{pack_ints, unpack_ints};
-pub use bitcode_columns::refuse::{err, error};
 pub use bitcode_derive::buffer::Buffer;
 pub use bitcode_derive::derive::{Decode, DecodeOwned, Encode, HasDecoder, HasEncoder};
 pub use bitcode_derive::whole::{
     decode, decode_front, decode_front_strict, decode_strict, encode, encode_into,
     invalid_enum_variant,
 };
+pub use bitcode_ints::checked::{CheckedIntDecoder, Nanosecond};
+pub use bitcode_ints::int::{IntDecoder, IntEncoder};
+pub use bitcode_ints::u8_char::{U8Char, U8CharEncoder};
 pub use bitcode_maps::map::{MapDecoder, MapEncoder};
+pub use bitcode_memory::consume::{
+    consume_byte, consume_byte_arrays, consume_bytes, expect_eof, mul_length,
+};
+pub use bitcode_memory::error::{Error, Reason};
+pub use bitcode_memory::fast::{
+    CowSlice, FastSlice, FastVec, NextUnchecked, PushUnchecked, SliceImpl, VecImpl,
+};
+pub use bitcode_memory::ints::{Byte, Int, SizedInt, SizedUInt};
+pub use bitcode_memory::minmax::minmax;
+pub use bitcode_memory::refuse::{err, error};
 pub use bitcode_parts::arrays::{ArrayDecoder, ArrayEncoder};
 pub use bitcode_parts::choices::option::{OptionDecoder, OptionEncoder};
 pub use bitcode_parts::choices::result::{ResultDecoder, ResultEncoder};
@@ -79,9 +79,6 @@ pub use bitcode_untyped::value::Value;
 
 /// The building blocks of coders for your own types. `scripts/new_type` uses them, and few programs need them directly.
 pub mod own {
-    pub use bitcode_coder::checked::Checked;
-    pub use bitcode_coder::column_int::ColumnInt;
-    pub use bitcode_coder::int::{AsInt, Integer};
     pub use bitcode_coder::part::{Part, told_parts};
     pub use bitcode_coder::str::AsText;
     pub use bitcode_derive::absent::{AbsentDecoder, AbsentEncoder};
@@ -103,11 +100,14 @@ pub mod own {
         Decoders4, DecodersOf4, Encoders4, EncodersOf4, OneOf4, Variants4,
     };
     pub use bitcode_enums::writes::{WritesPayloads, WritesVariants, encode_payload_fields};
-    pub use bitcode_ints::signed::{
+    pub use bitcode_ints::checked::Checked;
+    pub use bitcode_ints::column_int::ColumnInt;
+    pub use bitcode_ints::int::{AsInt, Integer};
+    pub use bitcode_ints::signed_coders::{
         I8Decoder, I8Encoder, I16Decoder, I16Encoder, I32Decoder, I32Encoder, I64Decoder,
         I64Encoder, I128Decoder, I128Encoder, IsizeDecoder, IsizeEncoder,
     };
-    pub use bitcode_ints::unsigned::{
+    pub use bitcode_ints::unsigned_coders::{
         U8Decoder, U8Encoder, U16Decoder, U16Encoder, U32Decoder, U32Encoder, U64Decoder,
         U64Encoder, U128Decoder, U128Encoder, UsizeDecoder, UsizeEncoder,
     };

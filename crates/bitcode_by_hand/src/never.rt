@@ -1,6 +1,6 @@
 //! An enum without variants, written by hand. Its coders serve every type without values.
 ghost use Rattle.std.specs.Prelude.{◌≡◌, ◌<◌, true, false, refl, replicate};
-ghost use Rattle.bitcode_columns.specs.declared.error.Reason.TheVariants.{InvalidEnumVariant};
+ghost use Rattle.bitcode_memory.specs.declared.error.Reason.TheVariants.{InvalidEnumVariant};
 ghost use Rattle.bitcode_shapes.specs.Datum.{unit};
 ghost use Rattle.bitcode_shapes.specs.Shape.{never_shape};
 ghost use Rattle.bitcode_coder.specs.Columns.{no_columns};

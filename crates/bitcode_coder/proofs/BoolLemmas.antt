@@ -4,11 +4,11 @@ use Rattle.std.specs.List.{AllZip}
 use Rattle.std.proofs.lemmas.Bool.{false≢true}
 use Rattle.std.proofs.lemmas.List.{length-map}
 use Rattle.std.proofs.lemmas.List.Elements.{All-map}
-use Rattle.bitcode_columns.specs.declared.error.Error.{Error}
-use Rattle.bitcode_columns.specs.declared.error.Reason.{Reason}
+use Rattle.bitcode_memory.specs.declared.error.Error.{Error}
+use Rattle.bitcode_memory.specs.declared.error.Reason.{Reason}
 use Rattle.bitcode_columns.specs.declared.pack.Base.TheVariants.{Two}
 use Rattle.bitcode_columns.specs.BoolColumn.{SpellsBools}
-use Rattle.bitcode_columns.specs.Ints.{bool_digit}
+use Rattle.bitcode_memory.specs.Ints.{bool_digit}
 use Rattle.bitcode_columns.specs.Reading.{Reads, bools_fault, Names}
 use Rattle.bitcode_columns.specs.Laws.{IsFaultOf}
 use Rattle.bitcode_columns.proofs.DigitLemmas.{digits_fault-refuses}

@@ -8,14 +8,14 @@ use Rattle.std.proofs.lemmas.Simd.{map-map}
 use Rattle.std.proofs.lemmas.List.Elements.{All-weaker, All-map}
 use Rattle.bitcode_columns.specs.Laws.{IsReadOnce}
 use Rattle.bitcode_columns.specs.declared.pack.Base.TheVariants.{Two}
-use Rattle.bitcode_columns.specs.Ints.{IsNumber, residue, number_of, bool_digit}
+use Rattle.bitcode_memory.specs.Ints.{IsNumber, residue, number_of, bool_digit}
 use Rattle.bitcode_columns.specs.BoolColumn.{SpellsBools}
 use Rattle.bitcode_columns.specs.IntColumn.{SpellsInts}
 use Rattle.bitcode_columns.specs.VariantColumn.{SpellsVariants}
 use Rattle.bitcode_columns.proofs.FrontLemmas.{append_split, map_further}
 use Rattle.bitcode_columns.proofs.DigitLemmas.{SpellsDigits-size_bound}
 use Rattle.bitcode_columns.proofs.VariantColumnLemmas.{SpellsVariants-unambiguous, SpellsVariants-size_bound, variant_text-spells}
-use Rattle.bitcode_columns.proofs.IntLemmas.{number_of-residue, residue_below}
+use Rattle.bitcode_memory.proofs.IntLemmas.{number_of-residue, residue_below}
 use Rattle.bitcode_columns.proofs.BoolColumnLemmas.{SpellsBools-unambiguous, bool_text-spells}
 use Rattle.bitcode_columns.proofs.IntColumnLemmas.{SpellsInts-unambiguous, SpellsInts-size_bound, int_text-spells}
 use Rattle.bitcode_shapes.specs.Datum.{Datum, number, text, number_in, natural_in, text_in}

@@ -7,9 +7,9 @@ use Rattle.std.proofs.lemmas.List.Elements.{All-map, All-weaker, All-filter, All
 use Rattle.std.proofs.lemmas.List.Sums.{length-filter, get_or-le-sum_by, sum_by-cons, sum_by-take-drop}
 use Rattle.std.proofs.lemmas.Simd.{map-map}
 use Rattle.bitcode_columns.specs.Laws.{IsReadOnce, TakesAnEighth}
-use Rattle.bitcode_columns.specs.Ints.{IsNumber, residue}
+use Rattle.bitcode_memory.specs.Ints.{IsNumber, residue}
 use Rattle.bitcode_columns.specs.ByteColumn.{SpellsBytes, byte_text}
-use Rattle.bitcode_columns.specs.IntWidths.{IsWidth}
+use Rattle.bitcode_memory.specs.IntWidths.{IsWidth}
 use Rattle.bitcode_columns.specs.IntColumn.{SpellsInts, int_text}
 use Rattle.bitcode_columns.proofs.ByteColumnLemmas.{SpellsBytes-unambiguous, SpellsBytes-size_bound, byte_text-spells}
 use Rattle.bitcode_columns.proofs.IntColumnLemmas.{SpellsInts-unambiguous, SpellsInts-size_bound, int_text-spells}

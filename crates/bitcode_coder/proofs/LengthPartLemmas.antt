@@ -9,8 +9,8 @@ use Rattle.std.proofs.lemmas.Result.{on_ok_weaker}
 use Rattle.std.proofs.lemmas.Simd.{map-map}
 use Rattle.bitcode_columns.specs.ByteColumn.{SpellsBytes, byte_text}
 use Rattle.bitcode_columns.specs.IntColumn.{SpellsInts, int_text}
-use Rattle.bitcode_columns.specs.LittleEndian.{raw_text}
-use Rattle.bitcode_columns.specs.declared.error.Reason.{Reason}
+use Rattle.bitcode_memory.specs.LittleEndian.{raw_text}
+use Rattle.bitcode_memory.specs.declared.error.Reason.{Reason}
 use Rattle.bitcode_columns.specs.Reading.{Reads, IsEndOf}
 use Rattle.bitcode_shapes.specs.Datum.{natural_in}
 use Rattle.bitcode_coder.specs.Spelling.{natural}

@@ -23,7 +23,6 @@ pub mod PushedTextLemmas
 pub mod TakingLemmas
 pub mod TakenTextLemmas
 pub mod RefusalLemmas
-pub mod CheckedLemmas
 pub mod StrictLemmas
 pub mod StrictColumnLemmas
 pub mod StrictLawLemmas

@@ -2,8 +2,8 @@
 use Rattle.std.proofs.Common.{◌≡◌, ℕ, ltb, Option, Some, None, List, [], ◌∷◌, ◌++◌, length, map, sym, ap, subst, ◌∙◌, inl, inr}
 use Rattle.std.proofs.lemmas.Bool.{cond_both}
 use Rattle.std.proofs.lemmas.List.{length-map, map-append}
-use Rattle.bitcode_columns.specs.declared.error.Reason.{Reason}
-use Rattle.bitcode_columns.specs.declared.error.Reason.TheVariants.{Eof}
+use Rattle.bitcode_memory.specs.declared.error.Reason.{Reason}
+use Rattle.bitcode_memory.specs.declared.error.Reason.TheVariants.{Eof}
 use Rattle.bitcode_columns.specs.Reading.{Reads, missing, Names}
 use Rattle.bitcode_columns.specs.Laws.{IsFaultOf}
 use Rattle.bitcode_shapes.specs.Datum.{Datum}

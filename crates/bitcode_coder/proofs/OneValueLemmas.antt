@@ -5,7 +5,7 @@ use Rattle.bitcode_columns.specs.BoolColumn.{bool_text}
 use Rattle.bitcode_columns.specs.ByteColumn.{byte_text}
 use Rattle.bitcode_columns.specs.Digits.{digits_text}
 use Rattle.bitcode_columns.specs.IntColumn.{int_text}
-use Rattle.bitcode_columns.specs.LittleEndian.{raw_text}
+use Rattle.bitcode_memory.specs.LittleEndian.{raw_text}
 use Rattle.bitcode_shapes.specs.Datum.{Datum, number}
 use Rattle.bitcode_shapes.specs.Shape.{Shape}
 use Rattle.bitcode_coder.specs.Columns.{Kind, Columns, one, beside, bools, ints}

@@ -2,7 +2,7 @@
 use Rattle.std.proofs.Common.{◌≡◌, ℕ, ◌^◌, ◌<◌, List, [], ◌∷◌, ◌++◌, length, sum, eqb, refl, sym, ap, ◌∙◌, subst, arith, inl, lit<, lit≤}
 use Rattle.std.specs.Prelude.{None, count_by}
 use Rattle.std.proofs.lemmas.List.Elements.{All-nil, All-cons}
-use Rattle.bitcode_columns.specs.LittleEndian.{SpellsRaw, raw_text}
+use Rattle.bitcode_memory.specs.LittleEndian.{SpellsRaw, raw_text}
 use Rattle.bitcode_columns.specs.ByteColumn.{SpellsBytes}
 use Rattle.bitcode_columns.specs.IntColumn.{SpellsInts}
 use Rattle.bitcode_columns.proofs.ByteColumnLemmas.{SpellsBytes-unambiguous}

@@ -10,7 +10,7 @@ use Rattle.bitcode_columns.specs.Reading.{Reads}
 use Rattle.bitcode_columns.specs.BoolColumn.{SpellsBools, bool_text}
 use Rattle.bitcode_columns.specs.ByteColumn.{SpellsBytes, byte_text}
 use Rattle.bitcode_columns.specs.IntColumn.{SpellsInts, int_text}
-use Rattle.bitcode_columns.specs.Ints.{IsNumber, residue, number_of}
+use Rattle.bitcode_memory.specs.Ints.{IsNumber, residue, number_of}
 use Rattle.bitcode_columns.proofs.ByteColumnLemmas.{SpellsBytes-unambiguous, byte_text-spells}
 use Rattle.bitcode_shapes.specs.Datum.{Datum, text, text_in, number_in, natural_in}
 use Rattle.bitcode_shapes.specs.Shape.{bool_shape, text_shape, number_shape, Allowed}

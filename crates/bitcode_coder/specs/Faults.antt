@@ -1,8 +1,8 @@
 -- Which fault the reader of a column reports, and when it does not allocate. It reports a failed allocation only if it
 -- allocates, and only after it found no fault in what it had looked at.
 use Rattle.std.specs.Prelude.{◌≡◌, ◌≢◌, ℕ, List, IsTrue}
-use Rattle.bitcode_columns.specs.declared.error.Reason.{Reason}
-use Rattle.bitcode_columns.specs.declared.error.Reason.TheVariants.{OutOfMemory}
+use Rattle.bitcode_memory.specs.declared.error.Reason.{Reason}
+use Rattle.bitcode_memory.specs.declared.error.Reason.TheVariants.{OutOfMemory}
 use Rattle.bitcode_columns.specs.Reading.{Names, NamesVariantFault, bools_fault, bytes_fault, ints_fault, bytes_stand_raw, ints_stand_raw, variants_stand_raw}
 
 -- reading no bools does not allocate

@@ -2,7 +2,7 @@
 use Rattle.std.specs.Prelude.{◌≡◌, ℕ, Bool, ℤ, List, ◌++◌, map}
 use Rattle.std.specs.List.{AllZip}
 use Rattle.bitcode_columns.specs.IntColumn.{int_text}
-use Rattle.bitcode_columns.specs.LittleEndian.{little_endian}
+use Rattle.bitcode_memory.specs.LittleEndian.{little_endian}
 use Rattle.bitcode_shapes.specs.Datum.{Datum, number}
 use Rattle.bitcode_coder.specs.Spelling.{number_of_residue}
 

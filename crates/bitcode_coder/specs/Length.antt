@@ -1,7 +1,7 @@
 -- What the coders of lengths hold.
 use Rattle.std.specs.Prelude.{ℕ, ◌+◌, List, map, vec_capacity}
-use Rattle.bitcode_columns.specs.Fast.{fast_items, fast_room, fast_capacity, cow_rest, cow_owned}
-use Rattle.bitcode_columns.specs.LittleEndian.{little_endian}
+use Rattle.bitcode_memory.specs.Fast.{fast_items, fast_room, fast_capacity, cow_rest, cow_owned}
+use Rattle.bitcode_memory.specs.LittleEndian.{little_endian}
 use Rattle.bitcode_coder.specs.declared.length.encoder.LengthEncoder.{LengthEncoder}
 use Rattle.bitcode_coder.specs.declared.length.decoder.LengthDecoder.{LengthDecoder}
 use Rattle.bitcode_coder.specs.LengthColumn.{lengths_from}

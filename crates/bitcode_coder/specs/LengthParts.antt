@@ -1,8 +1,8 @@
 -- The two parts of a length column: the short bytes, and the large lengths after them. What a writer keeps of them, and
 -- what a reader reports.
 use Rattle.std.specs.Prelude.{◌≡◌, ℕ, ◌^◌, min, Option, Some, None, List, map, filter, sum, count_by, nat_lt, nat_le, ◌==◌, if◌then◌else◌}
-use Rattle.bitcode_columns.specs.declared.error.Reason.{Reason}
-use Rattle.bitcode_columns.specs.declared.error.Reason.TheVariants.{LengthOverflow, HugeLength}
+use Rattle.bitcode_memory.specs.declared.error.Reason.{Reason}
+use Rattle.bitcode_memory.specs.declared.error.Reason.TheVariants.{LengthOverflow, HugeLength}
 use Rattle.bitcode_columns.specs.ByteColumn.{SpellsBytes}
 use Rattle.bitcode_columns.specs.IntColumn.{SpellsInts}
 use Rattle.bitcode_columns.specs.Reading.{Reads}

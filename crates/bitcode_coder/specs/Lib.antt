@@ -8,7 +8,6 @@ pub mod TextColumn
 pub mod JoinedTexts
 pub mod PushedTexts
 pub mod TextParts
-pub mod U8Char
 pub mod Columns
 pub mod Transposition
 pub mod Spelling
@@ -17,6 +16,5 @@ pub mod Rows
 pub mod Vectors
 pub mod WrittenTexts
 pub mod Laws
-pub mod CheckedColumn
 pub mod Int
 pub mod Strict

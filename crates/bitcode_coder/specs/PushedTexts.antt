@@ -1,8 +1,8 @@
 -- Texts that are appended to those of a column.
 use Rattle.std.specs.Prelude.{◌≡◌, ℕ, List, ◌++◌}
 use Rattle.std.specs.List.{AllZip}
-use Rattle.bitcode_columns.specs.declared.fast.vec.FastVec.{FastVec}
-use Rattle.bitcode_columns.specs.Fast.{fast_items}
+use Rattle.bitcode_memory.specs.declared.fast.vec.FastVec.{FastVec}
+use Rattle.bitcode_memory.specs.Fast.{fast_items}
 use Rattle.bitcode_shapes.specs.Datum.{Datum, text}
 use Rattle.bitcode_coder.specs.declared.length.encoder.LengthEncoder.{LengthEncoder}
 use Rattle.bitcode_coder.specs.Cutting.{cut}

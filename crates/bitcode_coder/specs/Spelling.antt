@@ -1,6 +1,6 @@
 -- How bytes spell columns, and the bytes that are written for them.
 use Rattle.std.specs.Prelude.{◌≡◌, ℕ, ◌^◌, ◌<◌, pos, Bool, List, [], ◌∷◌, ◌++◌, length, map, All, sum, ◌==◌}
-use Rattle.bitcode_columns.specs.Ints.{number_of, bool_digit}
+use Rattle.bitcode_memory.specs.Ints.{number_of, bool_digit}
 use Rattle.bitcode_columns.specs.BoolColumn.{SpellsBools, bool_text}
 use Rattle.bitcode_columns.specs.IntColumn.{SpellsInts, int_text}
 use Rattle.bitcode_columns.specs.VariantColumn.{SpellsVariants, variant_text}

@@ -1,7 +1,7 @@
 -- Which fault a reader of texts reports.
 use Rattle.std.specs.Prelude.{◌≡◌, ℕ, ◌<◌, Some, None, List, ◌++◌, length, sum, All, IsUtf8}
-use Rattle.bitcode_columns.specs.declared.error.Reason.{Reason}
-use Rattle.bitcode_columns.specs.declared.error.Reason.TheVariants.{Eof, InvalidUtf8, InvalidArrayString}
+use Rattle.bitcode_memory.specs.declared.error.Reason.{Reason}
+use Rattle.bitcode_memory.specs.declared.error.Reason.TheVariants.{Eof, InvalidUtf8, InvalidArrayString}
 use Rattle.bitcode_columns.specs.Reading.{Reads}
 use Rattle.bitcode_shapes.specs.Datum.{Datum}
 use Rattle.bitcode_shapes.specs.Shape.{text_shape}

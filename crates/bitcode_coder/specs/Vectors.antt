@@ -1,6 +1,6 @@
 -- Columns of lengths and of texts that the Rust crate wrote. The definitions yield the same bytes.
 use Rattle.std.specs.Prelude.{◌≡◌, [], ◌∷◌, refl}
-use Rattle.bitcode_columns.specs.LittleEndian.{raw_text}
+use Rattle.bitcode_memory.specs.LittleEndian.{raw_text}
 use Rattle.bitcode_columns.specs.Digits.{digits_text}
 use Rattle.bitcode_columns.specs.Tagged.{tagged_text}
 use Rattle.bitcode_columns.specs.ByteColumn.{byte_text}

@@ -3,7 +3,7 @@
 
 ghost use Rattle.std.specs.Prelude.{◌≡◌, ◌≢◌, ◌+◌, ◌≤◌, ◌++◌, length, map, true, refl, IsTrue, IfOk, OnOk, IfErr};
 ghost use Rattle.std.specs.Prelude.{OnErr};
-ghost use Rattle.bitcode_columns.specs.Fast.{fast_items, fast_room, cow_rest, fast_capacity, cow_owned};
+ghost use Rattle.bitcode_memory.specs.Fast.{fast_items, fast_room, cow_rest, fast_capacity, cow_owned};
 ghost use Rattle.bitcode_columns.specs.Reading.{Reads, IsEndOf};
 ghost use Rattle.bitcode_shapes.specs.Shape.{bool_shape};
 ghost use Rattle.bitcode_coder.specs.Columns.{bools, one};
@@ -14,10 +14,10 @@ ghost use Rattle.bitcode_coder.specs.Strict.{JudgesData};
 
 use crate::coder::{Buffer, Decoder, Encoder, HoldsColumns, HoldsData, View};
 use crate::part::Part;
-use bitcode_columns::error::{Error, Reason};
-use bitcode_columns::fast::{CowSlice, FastVec, PushUnchecked};
 use bitcode_columns::pack::pack_bools;
 use bitcode_columns::strict::read_bools;
+use bitcode_memory::error::{Error, Reason};
+use bitcode_memory::fast::{CowSlice, FastVec, PushUnchecked};
 use std::alloc::Global;
 use std::mem::replace;
 

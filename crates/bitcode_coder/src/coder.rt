@@ -1,7 +1,7 @@
 //! The four traits that encoders and decoders implement, for single columns and for types.
 ghost use Rattle.std.specs.Prelude.{◌≡◌, ◌≢◌, ℕ, ◌+◌, ◌<◌, ◌≤◌, Bool, List, [], ◌∷◌, ◌++◌, length, map, IsTrue};
 ghost use Rattle.std.specs.Prelude.{IsFalse, ◌↔◌, ◌&&◌, IsOk, IfOk, OnOk, IfErr, OnErr, IsErrOf};
-ghost use Rattle.bitcode_columns.specs.declared.error.Reason.{Reason};
+ghost use Rattle.bitcode_memory.specs.declared.error.Reason.{Reason};
 ghost use Rattle.bitcode_columns.specs.Reading.{Reads, IsEndOf};
 ghost use Rattle.bitcode_shapes.specs.Datum.{Datum};
 ghost use Rattle.bitcode_shapes.specs.Shape.{Shape};
@@ -13,7 +13,7 @@ ghost use Rattle.bitcode_coder.specs.Coder.{OverflowsWithListing, JoinsEach, Ove
 ghost use Rattle.bitcode_coder.specs.Coder.{IsWritingRefusal, IsReadingRefusal, TakesDatum, TakesEach};
 
 use crate::part::{Behind, Itself, Part, told_parts};
-use bitcode_columns::error::{Error, Reason};
+use bitcode_memory::error::{Error, Reason};
 use bitcode_shapes::lists::told_each;
 use bitcode_shapes::shaped::{Made, Shaped};
 use std::alloc::Global;

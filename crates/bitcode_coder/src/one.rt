@@ -8,8 +8,8 @@ ghost use Rattle.bitcode_coder.specs.LengthColumn.{length_bytes};
 
 use crate::coder::{Buffer, Encoder};
 use crate::length::ESCAPE;
-use bitcode_columns::error::{Error, Reason};
 use bitcode_columns::pack_ints::pack_ints;
+use bitcode_memory::error::{Error, Reason};
 use bitcode_shapes::shaped::Shaped;
 use std::alloc::Global;
 

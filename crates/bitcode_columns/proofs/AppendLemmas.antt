@@ -4,16 +4,16 @@ use Rattle.std.proofs.lemmas.Bool.{cond-true, cond-false, eq-eqb, ne_eqb, and_pa
 use Rattle.std.proofs.lemmas.List.{length-map}
 use Rattle.std.proofs.lemmas.Simd.{map-map}
 use Rattle.std.proofs.Math.Nat.{zero-mod}
-use Rattle.bitcode_columns.specs.LittleEndian.{number_bytes, raw_text}
-use Rattle.bitcode_columns.specs.Ints.{IsNumber, residue, number_of, least, greatest}
+use Rattle.bitcode_memory.specs.LittleEndian.{number_bytes, raw_text}
+use Rattle.bitcode_memory.specs.Ints.{IsNumber, residue, number_of, least, greatest}
 use Rattle.bitcode_columns.specs.ByteColumn.{byte_text}
-use Rattle.bitcode_columns.specs.IntWidths.{IsWidth}
+use Rattle.bitcode_memory.specs.IntWidths.{IsWidth}
 use Rattle.bitcode_columns.specs.IntColumn.{halvings, int_text, int_text_as, narrow_text, int_level_for, text_at_int_level}
 use Rattle.bitcode_columns.specs.Tagged.{tag_of, tagged_text}
 use Rattle.std.specs.Prelude.{◌≤ℤ◌, nat_lt}
 use Rattle.std.proofs.lemmas.List.Elements.{All-map}
 use Rattle.bitcode_columns.specs.Narrowing.{above, plain_width, shifted_width}
-use Rattle.bitcode_columns.proofs.IntLemmas.{number_of-residue, residue_below}
+use Rattle.bitcode_memory.proofs.IntLemmas.{number_of-residue, residue_below}
 use Rattle.bitcode_columns.proofs.NarrowLemmas.{above_zero}
 use Rattle.bitcode_columns.proofs.WrittenLemmas.{map_within, in_order, shifted_text_is, plain_text_is}
 

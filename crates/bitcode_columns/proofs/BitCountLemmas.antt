@@ -16,7 +16,7 @@ use Rattle.bitcode_columns.specs.declared.pack.Base.TheVariants.{Two}
 use Rattle.bitcode_columns.specs.Digits.{digit}
 use Rattle.bitcode_columns.specs.DigitCounts.{digits_of, digits_counted}
 use Rattle.bitcode_columns.specs.Histogram.{count_of}
-use Rattle.bitcode_columns.specs.LittleEndian.{little_endian}
+use Rattle.bitcode_memory.specs.LittleEndian.{little_endian}
 use Rattle.bitcode_columns.proofs.BitLemmas.{holds_below}
 use Rattle.bitcode_columns.proofs.TableLemmas.{get_or-first_chunks}
 

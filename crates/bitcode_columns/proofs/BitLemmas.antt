@@ -7,8 +7,8 @@ use lib.Ieee.Fits.{and_l, and_r}
 use lib.Ieee.Bits.{is_true}
 use Rattle.bitcode_columns.specs.declared.digit.TheConstants.{BITS}
 use Rattle.bitcode_columns.specs.Digits.{digit}
-use Rattle.bitcode_columns.specs.Ints.{bool_digit, residue, number_of}
-use Rattle.bitcode_columns.proofs.IntLemmas.{residue-number_of}
+use Rattle.bitcode_memory.specs.Ints.{bool_digit, residue, number_of}
+use Rattle.bitcode_memory.proofs.IntLemmas.{residue-number_of}
 
 -- what is so of each number below a bound, found by computing it for each
 abbrev pub all_below : (ℕ → Bool) → ℕ → Bool

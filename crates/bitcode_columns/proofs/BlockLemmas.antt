@@ -6,10 +6,10 @@ use Rattle.std.proofs.Math.Seq.{take-add}
 use Rattle.std.proofs.lemmas.List.{map-append, length-take, length-drop}
 use Rattle.std.proofs.lemmas.List.Concat.{flat_map-append}
 use Rattle.std.proofs.lemmas.Slice.{take-put_mid}
-use Rattle.bitcode_columns.specs.LittleEndian.{number_bytes, raw_text}
-use Rattle.bitcode_columns.specs.IntWidths.{IsWidth}
+use Rattle.bitcode_memory.specs.LittleEndian.{number_bytes, raw_text}
+use Rattle.bitcode_memory.specs.IntWidths.{IsWidth}
 use Rattle.bitcode_columns.proofs.IntColumnLemmas.{at_width}
-use Rattle.bitcode_columns.proofs.LittleEndianLemmas.{length-number_bytes}
+use Rattle.bitcode_memory.proofs.LittleEndianLemmas.{length-number_bytes}
 use Rattle.bitcode_columns.proofs.NarrowLemmas.{raw_more}
 
 pub front_none : (width : ℕ) (bytes : List ℕ) → take (0 * width) bytes ≡ raw_text width []

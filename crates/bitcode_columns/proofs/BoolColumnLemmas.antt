@@ -3,7 +3,7 @@ use Rattle.std.proofs.Common.{◌≡◌, ◌<◌, Bool, true, false, eqb, List, 
 use Rattle.std.proofs.lemmas.List.{length-map}
 use Rattle.std.proofs.lemmas.List.Elements.{All-map}
 use Rattle.bitcode_columns.specs.declared.pack.Base.TheVariants.{Two}
-use Rattle.bitcode_columns.specs.Ints.{bool_digit}
+use Rattle.bitcode_memory.specs.Ints.{bool_digit}
 use Rattle.bitcode_columns.specs.BoolColumn.{SpellsBools, bool_text}
 use Rattle.bitcode_columns.specs.Digits.{digits_text}
 use Rattle.bitcode_columns.specs.Reading.{bools_fault}

@@ -6,11 +6,11 @@ use Rattle.std.proofs.lemmas.Bool.{cond_both, cond-true, cond-false, le-leb, lt-
 use Rattle.std.proofs.lemmas.List.{length-map}
 use Rattle.std.proofs.lemmas.List.Elements.{All-weaker}
 use Rattle.std.proofs.lemmas.List.FromFn.{length-map-range_with_len}
-use Rattle.bitcode_columns.specs.declared.error.Reason.{Reason}
+use Rattle.bitcode_memory.specs.declared.error.Reason.{Reason}
 use Rattle.bitcode_columns.specs.declared.pack.Base.{Base}
 use Rattle.bitcode_columns.specs.declared.pack.Base.TheVariants.{Whole, Sixteen, Six, Four, Three, Two}
-use Rattle.bitcode_columns.specs.LittleEndian.{number_bytes}
-use Rattle.bitcode_columns.specs.Ints.{residue, least}
+use Rattle.bitcode_memory.specs.LittleEndian.{number_bytes}
+use Rattle.bitcode_memory.specs.Ints.{residue, least}
 use Rattle.bitcode_columns.specs.Digits.{radix, digits_in_byte, base_for, SpellsDigits, digits_text}
 use Rattle.bitcode_columns.specs.Tagged.{plain_level, shifted_level, is_shifted, plain_text, shifted_text, tagged_text}
 use Rattle.bitcode_columns.specs.ByteColumn.{level_of_base, base_at_level, highest_byte_tag, SpellsAtByteLevel, SpellsBytes, byte_level_for, text_at_byte_level, byte_text}
@@ -18,7 +18,7 @@ use Rattle.bitcode_columns.specs.Reading.{missing, digits_fault, tagged_fault, b
 use Rattle.bitcode_columns.specs.Laws.{IsReadOnce, TakesAnEighth, IsFaultOf, IsReadBack, TakesAtMostOneMore}
 use Rattle.bitcode_columns.proofs.FrontLemmas.{append_split}
 use Rattle.bitcode_columns.proofs.DigitLemmas.{base_for_above, digits_text-spells, length-digits_text, SpellsDigits-unambiguous, SpellsDigits-size_bound, digits_fault-refuses}
-use Rattle.bitcode_columns.proofs.LittleEndianLemmas.{length-number_bytes}
+use Rattle.bitcode_memory.proofs.LittleEndianLemmas.{length-number_bytes}
 use Rattle.bitcode_columns.proofs.RawLemmas.{missing_short}
 use Rattle.bitcode_columns.proofs.TaggedLemmas.{HoldsData, SpellsTagged-unambiguous, SpellsTagged-size_bound, tagged_fault-refuses, tagged_text-spells}
 

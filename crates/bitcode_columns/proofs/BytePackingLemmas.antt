@@ -11,10 +11,10 @@ use Rattle.bitcode_columns.specs.declared.pack.Base.{Base}
 use Rattle.bitcode_columns.specs.declared.pack.Base.TheVariants.{Whole, Sixteen, Six, Four, Three, Two}
 use Rattle.bitcode_columns.specs.ByteColumn.{level_of_base, base_at_level, byte_level_for, byte_text}
 use Rattle.bitcode_columns.specs.Digits.{radix, base_for, digits_text, number_with_digits}
-use Rattle.bitcode_columns.specs.Ints.{IsNumber, residue, number_of, least, greatest}
+use Rattle.bitcode_memory.specs.Ints.{IsNumber, residue, number_of, least, greatest}
 use Rattle.bitcode_columns.specs.Tagged.{tagged_text, plain_level}
 use Rattle.bitcode_columns.proofs.DigitLemmas.{base_for_above}
-use Rattle.bitcode_columns.proofs.IntLemmas.{residue_below, residue_from, residue-number_of, least_below, greatest_above, distances_below, residues_below}
+use Rattle.bitcode_memory.proofs.IntLemmas.{residue_below, residue_from, residue-number_of, least_below, greatest_above, distances_below, residues_below}
 use Rattle.std.proofs.lemmas.Simd.{map-map}
 
 distance_fits : (signed : Bool) (low z : ℤ) → IsNumber 1 signed low → IsNumber 1 signed z → low ≤ℤ z → unsigned_abs (z -ℤ low) < 256

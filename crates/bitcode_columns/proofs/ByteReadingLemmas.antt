@@ -9,7 +9,7 @@ use Rattle.bitcode_columns.specs.declared.pack.Base.TheVariants.{Whole}
 use Rattle.bitcode_columns.specs.ByteColumn.{base_at_level, SpellsBytes}
 use Rattle.bitcode_columns.specs.ByteForm.{TellsForm}
 use Rattle.bitcode_columns.specs.Digits.{SpellsDigits}
-use Rattle.bitcode_columns.specs.LittleEndian.{little_endian}
+use Rattle.bitcode_memory.specs.LittleEndian.{little_endian}
 use Rattle.bitcode_columns.specs.Reading.{Reads, IsEndOf}
 use Rattle.bitcode_columns.specs.Tagged.{level_of_tag}
 

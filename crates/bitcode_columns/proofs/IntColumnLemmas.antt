@@ -7,16 +7,16 @@ use Rattle.std.proofs.lemmas.Nat.{pow_pos, pow-add, pow_below, le-div}
 use Rattle.std.proofs.lemmas.List.{length-map}
 use Rattle.std.proofs.lemmas.List.Elements.{All-map, All-weaker}
 use Rattle.std.proofs.lemmas.Simd.{map-map}
-use Rattle.bitcode_columns.specs.LittleEndian.{number_bytes, SpellsRaw, raw_text}
-use Rattle.bitcode_columns.specs.Ints.{IsNumber, residue, least}
+use Rattle.bitcode_memory.specs.LittleEndian.{number_bytes, SpellsRaw, raw_text}
+use Rattle.bitcode_memory.specs.Ints.{IsNumber, residue, least}
 use Rattle.bitcode_columns.specs.Tagged.{plain_level, shifted_level, is_shifted, plain_text, shifted_text, tagged_text}
 use Rattle.bitcode_columns.specs.ByteColumn.{SpellsBytes, byte_text}
-use Rattle.bitcode_columns.specs.IntWidths.{IsWidth}
+use Rattle.bitcode_memory.specs.IntWidths.{IsWidth}
 use Rattle.bitcode_columns.specs.IntColumn.{halvings, highest_int_tag, width_at_level, IntForm, bytes_form, bare_form, tagged_form, int_form, SpellsNarrow, SpellsAtIntLevel, SpellsIntsAs, SpellsInts, width_for, int_level_for, narrow_text, text_at_int_level, int_text_as, int_text}
 use Rattle.bitcode_columns.specs.Reading.{missing, bytes_fault, narrow_fault, ints_fault_as, ints_fault}
 use Rattle.bitcode_columns.specs.Laws.{IsReadOnce, TakesAnEighth, IsFaultOf, IsReadBack, TakesAtMostOneMore}
-use Rattle.bitcode_columns.proofs.IntLemmas.{residue_below}
-use Rattle.bitcode_columns.proofs.LittleEndianLemmas.{length-number_bytes}
+use Rattle.bitcode_memory.proofs.IntLemmas.{residue_below}
+use Rattle.bitcode_memory.proofs.LittleEndianLemmas.{length-number_bytes}
 use Rattle.bitcode_columns.proofs.RawLemmas.{length-raw_text, SpellsRaw-unambiguous, SpellsRaw-size_bound, missing-refuses_raw}
 use Rattle.bitcode_columns.proofs.TaggedLemmas.{HoldsData, SpellsTagged-unambiguous, SpellsTagged-size_bound, tagged_fault-refuses, tagged_text-spells}
 use Rattle.bitcode_columns.proofs.ByteColumnLemmas.{SpellsBytes-unambiguous, SpellsBytes-size_bound, bytes_fault-refuses, byte_text-spells, byte_text_at_most}

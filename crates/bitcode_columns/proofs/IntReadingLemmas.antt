@@ -5,19 +5,19 @@ use Rattle.std.proofs.lemmas.Bool.{cond-false, le-ltb, ne_eqb, eqb-true}
 use Rattle.std.proofs.lemmas.List.{drop_at, get_or_append_left, length-map, nil_from_length, take_all}
 use Rattle.std.proofs.lemmas.List.Elements.{All-head, All-tail, All-map}
 use Rattle.std.specs.Simd.{first_chunks}
-use Rattle.bitcode_columns.specs.declared.error.Reason.{Reason}
+use Rattle.bitcode_memory.specs.declared.error.Reason.{Reason}
 use Rattle.bitcode_columns.specs.declared.pack.Base.TheVariants.{Whole}
 use Rattle.bitcode_columns.specs.ByteColumn.{SpellsBytes, base_at_level}
 use Rattle.bitcode_columns.specs.ByteForm.{TellsForm}
-use Rattle.bitcode_columns.specs.IntWidths.{IsWidth}
+use Rattle.bitcode_memory.specs.IntWidths.{IsWidth}
 use Rattle.bitcode_columns.specs.IntColumn.{IntForm, bytes_form, bare_form, tagged_form, int_form, SpellsInts, SpellsIntsAs, SpellsNarrow, SpellsAtIntLevel, width_at_level, halvings}
 use Rattle.bitcode_columns.specs.IntHeader.{TellsLevel, ReadsWidened}
-use Rattle.bitcode_columns.specs.LittleEndian.{SpellsRaw, little_endian, number_bytes, raw_text}
+use Rattle.bitcode_memory.specs.LittleEndian.{SpellsRaw, little_endian, number_bytes, raw_text}
 use Rattle.bitcode_columns.specs.Reading.{Reads, IsEndOf, missing, tagged_fault, narrow_fault, has_raw_tag}
 use Rattle.bitcode_columns.specs.Tagged.{SpellsTagged, level_of_tag}
 use Rattle.bitcode_columns.proofs.ByteReadingLemmas.{TellsForm-plain, whole_behind_form}
 use Rattle.bitcode_columns.proofs.IntColumnLemmas.{at_width}
-use Rattle.bitcode_columns.proofs.UnalignedLemmas.{first_chunks_spell}
+use Rattle.bitcode_memory.proofs.UnalignedLemmas.{first_chunks_spell}
 use Rattle.bitcode_columns.proofs.WideningLemmas.{some_numbers}
 
 module _ (width highest level least : ℕ) (input rest : List ℕ) (header : TellsLevel width highest input level least rest) where

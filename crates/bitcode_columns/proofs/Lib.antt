@@ -7,7 +7,6 @@ pub mod IntColumnLemmas
 pub mod PackingLemmas
 pub mod ReadingLemmas
 pub mod BoolColumnLemmas
-pub mod MinmaxLemmas
 pub mod NarrowLemmas
 pub mod WideningLemmas
 pub mod IntReadingLemmas
@@ -24,12 +23,5 @@ pub mod DigitCountLemmas
 pub mod BitCountLemmas
 pub mod BlockLemmas
 pub mod VariantColumnLemmas
-pub mod ConsumeLemmas
-pub mod IntLemmas
-pub mod LittleEndianLemmas
-pub mod UnalignedLemmas
-pub mod MemoryLemmas
-pub mod MemoryLentLemmas
-pub mod PlacesLemmas
 pub mod StrictLemmas
 pub mod StrictIntLemmas

@@ -6,11 +6,11 @@ use Rattle.std.proofs.Math.Seq.{take-suc}
 use Rattle.std.proofs.lemmas.Int.{ints}
 use Rattle.std.proofs.lemmas.List.{map-append, append-nil}
 use Rattle.std.proofs.lemmas.List.Concat.{flat_map-append}
-use Rattle.bitcode_columns.specs.LittleEndian.{number_bytes, raw_text}
-use Rattle.bitcode_columns.specs.IntWidths.{IsWidth}
-use Rattle.bitcode_columns.specs.Ints.{IsNumber, residue}
+use Rattle.bitcode_memory.specs.LittleEndian.{number_bytes, raw_text}
+use Rattle.bitcode_memory.specs.IntWidths.{IsWidth}
+use Rattle.bitcode_memory.specs.Ints.{IsNumber, residue}
 use Rattle.bitcode_columns.specs.Narrowing.{above}
-use Rattle.bitcode_columns.proofs.IntLemmas.{residue_below, even_residues}
+use Rattle.bitcode_memory.proofs.IntLemmas.{residue_below, even_residues}
 
 -- ---- distances
 

@@ -3,12 +3,12 @@ use Rattle.std.proofs.Common.{◌≡◌, ℕ, ◌*◌, ◌^◌, ◌<◌, ◌≤�
 use Rattle.std.proofs.lemmas.List.Elements.{All-head, All-tail}
 use Rattle.std.proofs.lemmas.Option.{cond_some}
 use Rattle.std.proofs.lemmas.Bool.{ltb-true}
-use Rattle.bitcode_columns.specs.declared.error.Reason.{Reason}
-use Rattle.bitcode_columns.specs.declared.error.Reason.TheVariants.{Eof}
-use Rattle.bitcode_columns.specs.LittleEndian.{little_endian, number_bytes, raw_text, SpellsRaw}
+use Rattle.bitcode_memory.specs.declared.error.Reason.{Reason}
+use Rattle.bitcode_memory.specs.declared.error.Reason.TheVariants.{Eof}
+use Rattle.bitcode_memory.specs.LittleEndian.{little_endian, number_bytes, raw_text, SpellsRaw}
 use Rattle.bitcode_columns.specs.Reading.{missing}
 use Rattle.bitcode_columns.specs.Laws.{IsReadOnce, TakesAnEighth, IsFaultOf}
-use Rattle.bitcode_columns.proofs.LittleEndianLemmas.{length-number_bytes, little_endian-number_bytes}
+use Rattle.bitcode_memory.proofs.LittleEndianLemmas.{length-number_bytes, little_endian-number_bytes}
 use Rattle.bitcode_columns.proofs.FrontLemmas.{append_split}
 
 pub length-raw_text : (width : ℕ) (numbers : List ℕ) → length (raw_text width numbers) ≡ length numbers * width

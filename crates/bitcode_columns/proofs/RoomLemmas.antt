@@ -5,8 +5,8 @@ use Rattle.std.proofs.Math.Nat.{mul-add, mul-le-mul_left, mul-le-mul_right}
 use Rattle.std.proofs.lemmas.Bool.{cond-true, cond-false, eq-eqb, ne_eqb, and_parts, ltb-true}
 use Rattle.std.proofs.lemmas.List.{length-map}
 use Rattle.std.proofs.lemmas.List.Elements.{All-map}
-use Rattle.bitcode_columns.specs.Ints.{IsNumber, least, greatest}
-use Rattle.bitcode_columns.specs.IntWidths.{IsWidth}
+use Rattle.bitcode_memory.specs.Ints.{IsNumber, least, greatest}
+use Rattle.bitcode_memory.specs.IntWidths.{IsWidth}
 use Rattle.bitcode_columns.specs.ByteColumn.{byte_text}
 use Rattle.bitcode_columns.specs.Narrowing.{plain_width, shifted_width, narrow_width, numbers_width, numbers_width_as}
 use Rattle.bitcode_columns.proofs.WrittenLemmas.{Entries, shifted_fits, plain_fits}

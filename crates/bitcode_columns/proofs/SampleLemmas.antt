@@ -6,11 +6,11 @@ use Rattle.std.proofs.lemmas.Bool.Decides.{nat_tests}
 use Rattle.std.proofs.lemmas.Int.{ints}
 use Rattle.std.proofs.lemmas.List.{length-map, take-map}
 use Rattle.std.proofs.lemmas.List.Elements.{All-take, All-map}
-use Rattle.bitcode_columns.specs.Ints.{IsNumber, least, greatest}
-use Rattle.bitcode_columns.specs.IntWidths.{IsWidth}
+use Rattle.bitcode_memory.specs.Ints.{IsNumber, least, greatest}
+use Rattle.bitcode_memory.specs.IntWidths.{IsWidth}
 use Rattle.bitcode_columns.specs.IntColumn.{width_for}
 use Rattle.bitcode_columns.specs.Narrowing.{plain_width, shifted_width}
-use Rattle.bitcode_columns.proofs.IntLemmas.{least_below, greatest_above}
+use Rattle.bitcode_memory.proofs.IntLemmas.{least_below, greatest_above}
 use Rattle.bitcode_columns.proofs.TaggedLemmas.{least_among, greatest_among, abs_below, not_negative, above_not_negative}
 use Rattle.bitcode_columns.proofs.IntColumnLemmas.{width_for_fits}
 use Rattle.bitcode_columns.proofs.WrittenLemmas.{Entries, in_order, shifted_fits, plain_fits}

@@ -14,16 +14,16 @@ use Rattle.std.proofs.lemmas.List.Elements.{All-map, All-take, All-drop, All-hea
 use Rattle.std.proofs.lemmas.Simd.{map-map}
 use Rattle.bitcode_columns.specs.ByteColumn.{SpellsBytes, byte_text}
 use Rattle.bitcode_columns.specs.IntColumn.{IntForm, bytes_form, bare_form, tagged_form, int_form, halvings, highest_int_tag, width_at_level, width_for, SpellsNarrow, SpellsAtIntLevel, SpellsInts, SpellsIntsAs, int_level_for, narrow_text, text_at_int_level, int_text}
-use Rattle.bitcode_columns.specs.IntWidths.{IsWidth}
-use Rattle.bitcode_columns.specs.Ints.{IsNumber, residue, number_of, least, greatest}
-use Rattle.bitcode_columns.specs.LittleEndian.{little_endian, number_bytes, SpellsRaw, raw_text}
+use Rattle.bitcode_memory.specs.IntWidths.{IsWidth}
+use Rattle.bitcode_memory.specs.Ints.{IsNumber, residue, number_of, least, greatest}
+use Rattle.bitcode_memory.specs.LittleEndian.{little_endian, number_bytes, SpellsRaw, raw_text}
 use Rattle.bitcode_columns.specs.Narrowing.{above, plain_width, shifted_width}
 use Rattle.bitcode_columns.specs.Tagged.{level_of_tag, tag_of, SpellsTagged, tagged_text}
 use Rattle.bitcode_columns.proofs.AppendLemmas.{int_text_bare, int_text_tagged}
 use Rattle.bitcode_columns.proofs.FrontLemmas.{append_split}
 use Rattle.bitcode_columns.proofs.IntColumnLemmas.{some_width, width_at_level_between, halvings_order, halvings_exact}
-use Rattle.bitcode_columns.proofs.IntLemmas.{residue_below, residue-number_of, IsNumber-number_of, least_below, greatest_above}
-use Rattle.bitcode_columns.proofs.LittleEndianLemmas.{length-number_bytes, little_endian-number_bytes, number_bytes-little_endian}
+use Rattle.bitcode_memory.proofs.IntLemmas.{residue_below, residue-number_of, IsNumber-number_of, least_below, greatest_above}
+use Rattle.bitcode_memory.proofs.LittleEndianLemmas.{length-number_bytes, little_endian-number_bytes, number_bytes-little_endian}
 use Rattle.bitcode_columns.proofs.TaggedLemmas.{least_among, not_negative}
 use Rattle.bitcode_columns.proofs.WrittenLemmas.{Entries, shifted_fits, plain_fits, shifted_numbers, plain_numbers, shifted_text_is, plain_text_is, in_order}
 

@@ -14,12 +14,12 @@ use Rattle.bitcode_columns.specs.declared.pack.Base.{Base}
 use Rattle.bitcode_columns.specs.declared.pack.Base.TheVariants.{Whole, Sixteen, Six, Four, Three, Two}
 use Rattle.bitcode_columns.specs.ByteColumn.{level_of_base, base_at_level, highest_byte_tag, SpellsAtByteLevel, SpellsBytes, byte_text}
 use Rattle.bitcode_columns.specs.Digits.{radix, digits_in_byte, base_for, digit, number_with_digits, SpellsDigits, digits_text}
-use Rattle.bitcode_columns.specs.Ints.{IsNumber, residue, number_of, least, greatest}
-use Rattle.bitcode_columns.specs.LittleEndian.{little_endian}
+use Rattle.bitcode_memory.specs.Ints.{IsNumber, residue, number_of, least, greatest}
+use Rattle.bitcode_memory.specs.LittleEndian.{little_endian}
 use Rattle.bitcode_columns.specs.Tagged.{level_of_tag, SpellsTagged}
 use Rattle.bitcode_columns.specs.WrittenDigits.{UsesNoMore, IsPacked}
 use Rattle.bitcode_columns.proofs.BytePackingLemmas.{distance, base_at_level_of, plain_base_of, byte_text-bare, byte_text-plain, byte_text-shifted}
-use Rattle.bitcode_columns.proofs.IntLemmas.{residue_below, residue-number_of, IsNumber-number_of, least_below}
+use Rattle.bitcode_memory.proofs.IntLemmas.{residue_below, residue-number_of, IsNumber-number_of, least_below}
 use Rattle.bitcode_columns.proofs.TaggedLemmas.{least_among}
 use Rattle.bitcode_columns.proofs.VariantColumnLemmas.{entries_are_digits}
 use Rattle.bitcode_columns.proofs.DigitLemmas.{some_digits, number_with_digits_below, size-digits_text}

@@ -5,15 +5,15 @@ use Rattle.std.proofs.lemmas.Bool.{true≢false, le-ltb, ltb-true, and_parts, co
 use Rattle.std.proofs.lemmas.Int.{ints, fold-int_min_reached, fold-int_max_reached}
 use Rattle.std.proofs.lemmas.List.{length-map, drop_at}
 use Rattle.std.proofs.lemmas.List.Elements.{All-head, All-tail, All-contains, All-map}
-use Rattle.bitcode_columns.specs.declared.error.Reason.{Reason}
-use Rattle.bitcode_columns.specs.LittleEndian.{little_endian, number_bytes}
-use Rattle.bitcode_columns.specs.Ints.{IsNumber, residue, least, greatest}
+use Rattle.bitcode_memory.specs.declared.error.Reason.{Reason}
+use Rattle.bitcode_memory.specs.LittleEndian.{little_endian, number_bytes}
+use Rattle.bitcode_memory.specs.Ints.{IsNumber, residue, least, greatest}
 use Rattle.bitcode_columns.specs.Tagged.{level_of_tag, SpellsTagged, plain_level, shifted_level, is_shifted, plain_text, shifted_text, tagged_text}
 use Rattle.bitcode_columns.specs.Reading.{tagged_fault}
 use Rattle.bitcode_columns.specs.Laws.{IsReadOnce, IsFaultOf}
 use Rattle.bitcode_columns.proofs.FrontLemmas.{append_split, map_further}
-use Rattle.bitcode_columns.proofs.IntLemmas.{residue_below, residue_from, least_below, greatest_above, distances_below, residues_below}
-use Rattle.bitcode_columns.proofs.LittleEndianLemmas.{length-number_bytes, little_endian-number_bytes}
+use Rattle.bitcode_memory.proofs.IntLemmas.{residue_below, residue_from, least_below, greatest_above, distances_below, residues_below}
+use Rattle.bitcode_memory.proofs.LittleEndianLemmas.{length-number_bytes, little_endian-number_bytes}
 
 -- as many entries as narrow numbers
 length_tagged : (width highest : ℕ) (SpellsNarrow : ℕ → List ℕ → List ℕ → Type 0) (piece entries : List ℕ)

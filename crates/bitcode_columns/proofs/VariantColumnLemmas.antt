@@ -12,8 +12,8 @@ use Rattle.std.proofs.lemmas.List.Elements.{All-weaker}
 use Rattle.std.proofs.lemmas.List.Folds.{list_all-map}
 use Rattle.std.proofs.lemmas.List.FromFn.{length-map-range_with_len, get_or-map-range_with_len}
 use Rattle.std.proofs.lemmas.List.Sums.{AllPass-from_list_all, list_all-from_AllPass}
-use Rattle.bitcode_columns.specs.declared.error.Reason.{Reason}
-use Rattle.bitcode_columns.specs.declared.error.Reason.TheVariants.{InvalidPacking}
+use Rattle.bitcode_memory.specs.declared.error.Reason.{Reason}
+use Rattle.bitcode_memory.specs.declared.error.Reason.TheVariants.{InvalidPacking}
 use Rattle.bitcode_columns.specs.declared.pack.Base.{Base}
 use Rattle.bitcode_columns.specs.Digits.{radix, digits_in_byte, base_for, digit, digits_text, SpellsDigits}
 use Rattle.bitcode_columns.specs.Reading.{Reads, NamesVariantFault, variants_fault}

@@ -3,10 +3,10 @@ use Rattle.std.proofs.Common.{◌≡◌, ℕ, zero, suc, ◌+◌, ◌*◌, ◌%�
 use Rattle.std.proofs.Math.Nat.{add-mod, mod-mod, mod-lt, one-le-pow}
 use Rattle.std.proofs.lemmas.List.{map-append, drop-drop}
 use Rattle.std.specs.Simd.{first_chunks}
-use Rattle.bitcode_columns.specs.LittleEndian.{little_endian, number_bytes}
-use Rattle.bitcode_columns.specs.Ints.{residue, number_of}
-use Rattle.bitcode_columns.proofs.IntLemmas.{residue-number_of}
-use Rattle.bitcode_columns.proofs.LittleEndianLemmas.{little_endian-number_bytes}
+use Rattle.bitcode_memory.specs.LittleEndian.{little_endian, number_bytes}
+use Rattle.bitcode_memory.specs.Ints.{residue, number_of}
+use Rattle.bitcode_memory.proofs.IntLemmas.{residue-number_of}
+use Rattle.bitcode_memory.proofs.LittleEndianLemmas.{little_endian-number_bytes}
 
 -- a sum of residues is the residue of the sum
 pub mod-add_first : (a b m : ℕ) → (a % m + b) % m ≡ (a + b) % m

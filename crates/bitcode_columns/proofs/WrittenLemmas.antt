@@ -4,13 +4,13 @@ use Rattle.std.specs.Prelude.{◌-ℤ◌, ◌≤ℤ◌, int_lt, unsigned_abs}
 use Rattle.std.proofs.Math.Nat.{mod-eq_of_lt, pow-le-pow_right}
 use Rattle.std.proofs.lemmas.Bool.{cond-true, cond-false, cond_both, lt-ltb, ltb-true, cases_lt, and_parts, and_from, false_from_ne_true}
 use Rattle.std.proofs.lemmas.List.Elements.{All-head, All-tail}
-use Rattle.bitcode_columns.specs.LittleEndian.{number_bytes}
-use Rattle.bitcode_columns.specs.Ints.{IsNumber, residue, least, greatest}
+use Rattle.bitcode_memory.specs.LittleEndian.{number_bytes}
+use Rattle.bitcode_memory.specs.Ints.{IsNumber, residue, least, greatest}
 use Rattle.bitcode_columns.specs.Tagged.{tag_of, plain_level, shifted_level, is_shifted, tagged_text}
-use Rattle.bitcode_columns.specs.IntWidths.{IsWidth}
+use Rattle.bitcode_memory.specs.IntWidths.{IsWidth}
 use Rattle.bitcode_columns.specs.IntColumn.{halvings, width_for, width_at_level, narrow_text, int_level_for, text_at_int_level}
 use Rattle.bitcode_columns.specs.Narrowing.{above, plain_width, shifted_width}
-use Rattle.bitcode_columns.proofs.IntLemmas.{least_below, greatest_above, distance_below, residue_at_most, residue_below}
+use Rattle.bitcode_memory.proofs.IntLemmas.{least_below, greatest_above, distance_below, residue_at_most, residue_below}
 use Rattle.bitcode_columns.proofs.TaggedLemmas.{least_among, greatest_among, apart_below, abs_below, not_negative, above_not_negative}
 use Rattle.bitcode_columns.proofs.IntColumnLemmas.{some_width, width_for_fits, halvings_order, width_at_level_between, halvings_exact}
 use Rattle.bitcode_columns.proofs.NarrowLemmas.{above_least, above_zero}

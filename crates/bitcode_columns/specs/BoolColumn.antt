@@ -1,6 +1,6 @@
 -- A bool column is digits in base 2, without a tag: 0 is false and 1 is true.
 use Rattle.std.specs.Prelude.{ℕ, Bool, List, map}
-use Rattle.bitcode_columns.specs.Ints.{bool_digit}
+use Rattle.bitcode_memory.specs.Ints.{bool_digit}
 use Rattle.bitcode_columns.specs.declared.pack.Base.TheVariants.{Two}
 use Rattle.bitcode_columns.specs.Digits.{SpellsDigits, digits_text}
 

@@ -4,7 +4,7 @@ use Rattle.std.specs.Prelude.{◌≡◌, ℕ, ◌≤◌, ◌<◌, ℤ, List, len
 use Rattle.bitcode_columns.specs.declared.pack.Base.{Base}
 use Rattle.bitcode_columns.specs.declared.pack.Base.TheVariants.{Whole, Sixteen, Six, Four, Three, Two}
 use Rattle.bitcode_columns.specs.Digits.{SpellsDigits, digits_text, base_for}
-use Rattle.bitcode_columns.specs.Ints.{residue}
+use Rattle.bitcode_memory.specs.Ints.{residue}
 use Rattle.bitcode_columns.specs.Tagged.{SpellsTagged, tagged_text}
 
 abbrev pub level_of_base : Base → ℕ

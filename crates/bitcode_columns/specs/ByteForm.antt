@@ -1,7 +1,7 @@
 -- What the header of a byte column with more than two entries says about the entries after it.
 use Rattle.std.specs.Prelude.{◌≡◌, ℕ, ◌*◌, ◌%◌, ◌≤◌, List, ◌∷◌, ◌++◌, length}
 use Rattle.bitcode_columns.specs.declared.pack.Base.{Base}
-use Rattle.bitcode_columns.specs.LittleEndian.{little_endian}
+use Rattle.bitcode_memory.specs.LittleEndian.{little_endian}
 use Rattle.bitcode_columns.specs.Tagged.{level_of_tag}
 use Rattle.bitcode_columns.specs.ByteColumn.{base_at_level, highest_byte_tag}
 

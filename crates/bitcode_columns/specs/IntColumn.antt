@@ -2,8 +2,8 @@
 -- and one entry of 2 bytes is written without a tag. Everything else follows a tag. Each level halves the width of the
 -- numbers, and numbers of one byte form an unsigned byte column of their own.
 use Rattle.std.specs.Prelude.{ℕ, ◌-◌, ◌*◌, ◌/◌, ◌^◌, ℤ, pos, List, length, map, nat_lt, MatchBool, ◌==◌, ◌||◌, ◌&&◌, if◌then◌else◌}
-use Rattle.bitcode_columns.specs.LittleEndian.{SpellsRaw, raw_text}
-use Rattle.bitcode_columns.specs.Ints.{residue}
+use Rattle.bitcode_memory.specs.LittleEndian.{SpellsRaw, raw_text}
+use Rattle.bitcode_memory.specs.Ints.{residue}
 use Rattle.bitcode_columns.specs.Tagged.{SpellsTagged, tagged_text}
 use Rattle.bitcode_columns.specs.ByteColumn.{SpellsBytes, byte_text}
 

@@ -1,7 +1,7 @@
 -- The laws that every kind of column obeys, stated for what the kind accepts.
 use Rattle.std.specs.Prelude.{◌≡◌, ℕ, ◌+◌, ◌*◌, ◌≤◌, List, [], ◌++◌, length, Option, Some, map, All, Bool, ℤ}
-use Rattle.bitcode_columns.specs.declared.error.Reason.{Reason}
-use Rattle.bitcode_columns.specs.Ints.{IsNumber, residue, number_of}
+use Rattle.bitcode_memory.specs.declared.error.Reason.{Reason}
+use Rattle.bitcode_memory.specs.Ints.{IsNumber, residue, number_of}
 use Rattle.bitcode_columns.specs.Reading.{Reads}
 
 -- An input is read in at most one way: for one count there is one list of entries and one rest.

@@ -14,13 +14,4 @@ pub mod AcceptedRows
 pub mod Vectors
 pub mod ByteForm
 pub mod IntHeader
-pub mod Memory
-pub mod Places
-pub mod Fast
-pub mod Lending
-pub mod Error
-pub mod LittleEndian
-pub mod Ints
-pub mod IntRange
-pub mod IntWidths
 pub mod WrittenDigits

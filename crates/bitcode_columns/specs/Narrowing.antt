@@ -1,6 +1,6 @@
 -- How the writer of an integer column chooses the width of its narrow numbers.
 use Rattle.std.specs.Prelude.{◌≡◌, ◌≢◌, ℕ, ◌+◌, ◌-◌, ◌%◌, ◌^◌, ℤ, pos, ◌-ℤ◌, int_lt, unsigned_abs, List, length, ◌++◌, nat_lt, ◌&&◌, ◌⊎◌, if◌then◌else◌}
-use Rattle.bitcode_columns.specs.Ints.{residue, least, greatest}
+use Rattle.bitcode_memory.specs.Ints.{residue, least, greatest}
 use Rattle.bitcode_columns.specs.IntColumn.{IntForm, bytes_form, bare_form, tagged_form, int_form, width_for}
 
 -- how far the residue of a number lies above a base, modulo the number of residues

@@ -1,7 +1,7 @@
 -- Worked examples: columns with known bytes, computed from the definitions.
 use Rattle.std.specs.Prelude.{◌≡◌, true, pos, negsuc, [], ◌∷◌, Some, None, refl}
-use Rattle.bitcode_columns.specs.declared.error.Reason.TheVariants.{Eof, InvalidPacking}
-use Rattle.bitcode_columns.specs.LittleEndian.{raw_text}
+use Rattle.bitcode_memory.specs.declared.error.Reason.TheVariants.{Eof, InvalidPacking}
+use Rattle.bitcode_memory.specs.LittleEndian.{raw_text}
 use Rattle.bitcode_columns.specs.Digits.{digits_text}
 use Rattle.bitcode_columns.specs.Tagged.{tagged_text}
 use Rattle.bitcode_columns.specs.BoolColumn.{bool_text}

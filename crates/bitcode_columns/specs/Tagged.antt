@@ -2,8 +2,8 @@
 -- level makes them smaller numbers. The tag of a level is twice the level, or one less if every entry is the sum of its
 -- number and a least entry, which follows the tag.
 use Rattle.std.specs.Prelude.{◌≡◌, ℕ, ◌+◌, ◌-◌, ◌*◌, ◌/◌, ◌%◌, ◌^◌, ◌≤◌, Bool, true, false, ℤ, pos, ◌-ℤ◌, int_lt, unsigned_abs, List, ◌∷◌, ◌++◌, length, map, nat_lt, ◌&&◌, if◌then◌else◌}
-use Rattle.bitcode_columns.specs.LittleEndian.{little_endian, number_bytes}
-use Rattle.bitcode_columns.specs.Ints.{residue, least, greatest}
+use Rattle.bitcode_memory.specs.LittleEndian.{little_endian, number_bytes}
+use Rattle.bitcode_memory.specs.Ints.{residue, least, greatest}
 
 abbrev pub level_of_tag : ℕ → ℕ
 level_of_tag tag = (tag + 1) / 2

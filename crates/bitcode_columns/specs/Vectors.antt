@@ -1,6 +1,6 @@
 -- Columns that the Rust crate wrote. The definitions yield the same bytes.
 use Rattle.std.specs.Prelude.{◌≡◌, true, false, pos, negsuc, [], ◌∷◌, refl}
-use Rattle.bitcode_columns.specs.LittleEndian.{raw_text}
+use Rattle.bitcode_memory.specs.LittleEndian.{raw_text}
 use Rattle.bitcode_columns.specs.Digits.{digits_text}
 use Rattle.bitcode_columns.specs.Tagged.{tagged_text}
 use Rattle.bitcode_columns.specs.BoolColumn.{bool_text}

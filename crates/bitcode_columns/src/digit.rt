@@ -2,9 +2,9 @@
 ghost use Rattle.std.specs.Prelude.{◌≡◌, ℕ, ◌+◌, ◌<◌, ◌≤◌, ◌++◌, length, map, vec_len, vec_capacity};
 ghost use Rattle.std.specs.List.{range_with_len};
 ghost use Rattle.bitcode_columns.specs.Digits.{digit};
-ghost use Rattle.bitcode_columns.specs.Ints.{residue, bool_digit};
+ghost use Rattle.bitcode_memory.specs.Ints.{residue, bool_digit};
 
-use crate::ints::Byte;
+use bitcode_memory::ints::Byte;
 
 /// An entry that can be a digit of a byte.
 pub trait Digit: Copy {

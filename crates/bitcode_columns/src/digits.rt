@@ -7,11 +7,11 @@ ghost use Rattle.bitcode_columns.specs.Digits.{radix, digits_in_byte, digit, num
 ghost use Rattle.bitcode_columns.specs.Digits.{digits_text};
 ghost use Rattle.bitcode_columns.specs.Reading.{Reads, IsEndOf, Names, digits_fault};
 
-use crate::consume::consume_bytes;
 use crate::digit::Digit;
-use crate::error::{Error, Reason};
-use crate::ints::push_bytes;
 use crate::pack::Base;
+use bitcode_memory::consume::consume_bytes;
+use bitcode_memory::error::{Error, Reason};
+use bitcode_memory::ints::push_bytes;
 use std::alloc::{AllocError, Global};
 use std::mem::replace;
 

@@ -2,7 +2,7 @@
 ghost use Rattle.std.specs.Prelude.{ℕ, ◌<◌, ◌≤◌, Bool, List, ◌++◌, length, All};
 ghost use Rattle.bitcode_columns.specs.BoolColumn.{SpellsBools, bool_text};
 ghost use Rattle.bitcode_columns.specs.ByteColumn.{SpellsBytes, byte_text};
-ghost use Rattle.bitcode_columns.specs.IntWidths.{IsWidth};
+ghost use Rattle.bitcode_memory.specs.IntWidths.{IsWidth};
 ghost use Rattle.bitcode_columns.specs.IntColumn.{SpellsInts, int_text};
 ghost use Rattle.bitcode_columns.specs.Laws.{IsReadOnce, TakesAnEighth, IsFaultOf, TakesAtMostOneMore, ReadsBack};
 ghost use Rattle.bitcode_columns.specs.Laws.{NumbersAreFound};

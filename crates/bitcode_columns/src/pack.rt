@@ -3,14 +3,14 @@ ghost use Rattle.std.specs.Prelude.{◌≡◌, ℕ, ◌+◌, ◌<◌, ◌++◌, 
 ghost use Rattle.bitcode_columns.specs.BoolColumn.{SpellsBools, bool_text};
 ghost use Rattle.bitcode_columns.specs.ByteColumn.{level_of_base, base_at_level};
 ghost use Rattle.bitcode_columns.specs.Digits.{radix, digits_in_byte, base_for};
-ghost use Rattle.bitcode_columns.specs.Fast.{cow_rest};
+ghost use Rattle.bitcode_memory.specs.Fast.{cow_rest};
 ghost use Rattle.bitcode_columns.specs.Reading.{Reads, IsEndOf, Names, bools_fault};
 
 use crate::digits::{pack_digits, unpack_digits};
-use crate::error::{Error, Reason};
-use crate::fast::CowSlice;
 pub use crate::pack::bytes::{pack_bytes, unpack_bytes};
 pub use crate::pack::variants::{pack_bytes_less_than, unpack_bytes_less_than};
+use bitcode_memory::error::{Error, Reason};
+use bitcode_memory::fast::CowSlice;
 use std::alloc::Global;
 
 // A byte column of at most so many entries stands without a tag.

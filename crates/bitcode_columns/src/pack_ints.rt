@@ -4,10 +4,10 @@ ghost use Rattle.std.specs.Prelude.{OnErr};
 ghost use Rattle.bitcode_columns.specs.IntColumn.{int_text};
 ghost use Rattle.bitcode_columns.specs.Narrowing.{TakesNoScratch};
 
-use crate::error::{Error, Reason};
-use crate::ints::Int;
 use crate::pack_ints::append::append_ints;
 pub use crate::pack_ints::read::unpack_ints;
+use bitcode_memory::error::{Error, Reason};
+use bitcode_memory::ints::Int;
 use std::alloc::Global;
 
 mod append;

@@ -7,25 +7,25 @@ ghost use Rattle.bitcode_columns.specs.BoolColumn.{SpellsBools, bool_text};
 ghost use Rattle.bitcode_columns.specs.ByteColumn.{SpellsBytes, byte_text, level_of_base};
 ghost use Rattle.bitcode_columns.specs.Digits.{SpellsDigits, digits_text, radix, digits_in_byte};
 ghost use Rattle.bitcode_columns.specs.IntColumn.{SpellsInts, SpellsNarrow, int_text, narrow_text};
-ghost use Rattle.bitcode_columns.specs.LittleEndian.{little_endian, number_bytes};
-ghost use Rattle.bitcode_columns.specs.Fast.{cow_rest};
+ghost use Rattle.bitcode_memory.specs.LittleEndian.{little_endian, number_bytes};
+ghost use Rattle.bitcode_memory.specs.Fast.{cow_rest};
 ghost use Rattle.bitcode_columns.specs.Reading.{Reads, IsEndOf, Names, NamesVariantFault, bools_fault, bytes_fault};
 ghost use Rattle.bitcode_columns.specs.Reading.{bytes_stand_raw, variants_stand_raw, ints_fault, ints_stand_raw};
 ghost use Rattle.bitcode_columns.specs.Histogram.{AreCounts};
 ghost use Rattle.bitcode_columns.specs.VariantColumn.{SpellsVariants, variant_text};
 ghost use Rattle.bitcode_columns.specs.WrittenDigits.{UsesNoMore, IsPacked};
-ghost use Rattle.bitcode_columns.specs.declared.error.Reason.{Reason};
-ghost use Rattle.bitcode_columns.specs.Ints.{IsNumber, residue, number_of, least, greatest};
+ghost use Rattle.bitcode_memory.specs.declared.error.Reason.{Reason};
+ghost use Rattle.bitcode_memory.specs.Ints.{IsNumber, residue, number_of, least, greatest};
 
 use crate::digit::Digit;
-use crate::error::{Error, Reason};
-use crate::fast::CowSlice;
-use crate::ints::{Byte, Int, SizedUInt, known_bytes};
 use crate::pack::bytes::{MOST_UNSHIFTED, plain_base, shifted_base};
 use crate::pack::variants::base_of_variants;
 use crate::pack::{Base, MOST_WITHOUT_TAG, unpack_bools, unpack_bytes, unpack_bytes_less_than};
 use crate::pack_ints::unpack_ints;
 use crate::pack_ints::width::{is_bare, is_shifted, plain_width, shifted_width, tag_for};
+use bitcode_memory::error::{Error, Reason};
+use bitcode_memory::fast::CowSlice;
+use bitcode_memory::ints::{Byte, Int, SizedUInt, known_bytes};
 use std::alloc::Global;
 
 // What a number of so many digits is below.

@@ -2,9 +2,9 @@
 use Rattle.std.proofs.Common.{◌≡◌, ◌≢◌, ℕ, ◌<◌, ◌^◌, ltb, true, Some, None, List, [], ◌∷◌, ◌++◌, sum, refl, sym, ◌∙◌, ap, subst, inl, inr, arith, Result, Ok, Err, IfErr, IsTrue}
 use Rattle.std.specs.Prelude.{slice_index}
 use Rattle.std.proofs.lemmas.Bool.{cond_both, ne_eqb}
-use Rattle.bitcode_columns.specs.declared.error.Error.{Error}
-use Rattle.bitcode_columns.specs.declared.error.Reason.{Reason}
-use Rattle.bitcode_columns.specs.declared.error.Reason.TheVariants.{LengthOverflow, HugeLength, OutOfMemory}
+use Rattle.bitcode_memory.specs.declared.error.Error.{Error}
+use Rattle.bitcode_memory.specs.declared.error.Reason.{Reason}
+use Rattle.bitcode_memory.specs.declared.error.Reason.TheVariants.{LengthOverflow, HugeLength, OutOfMemory}
 use Rattle.bitcode_columns.specs.ByteColumn.{SpellsBytes}
 use Rattle.bitcode_columns.specs.Reading.{Reads, ints_stand_raw}
 use Rattle.bitcode_shapes.specs.Shape.{text_shape}

@@ -1,7 +1,7 @@
 -- Worked examples: the only text of the columns of some data, which a strict read accepts, computed from the
 -- definitions.
 use Rattle.std.specs.Prelude.{◌≡◌, ℕ, false, pos, List, [], ◌∷◌, None, map, refl}
-use Rattle.bitcode_columns.specs.LittleEndian.{raw_text}
+use Rattle.bitcode_memory.specs.LittleEndian.{raw_text}
 use Rattle.bitcode_columns.specs.Digits.{digits_text}
 use Rattle.bitcode_columns.specs.Tagged.{tagged_text}
 use Rattle.bitcode_columns.specs.ByteColumn.{byte_text}

@@ -1,14 +1,14 @@
 //! The coders of types without values, such as enums without variants: no columns.
 ghost use Rattle.std.specs.Prelude.{◌≡◌, ◌<◌, true, false, refl, replicate};
-ghost use Rattle.bitcode_columns.specs.declared.error.Reason.TheVariants.{InvalidEnumVariant};
+ghost use Rattle.bitcode_memory.specs.declared.error.Reason.TheVariants.{InvalidEnumVariant};
 ghost use Rattle.bitcode_shapes.specs.Datum.{unit};
 ghost use Rattle.bitcode_shapes.specs.Shape.{never_shape};
 ghost use Rattle.bitcode_coder.specs.Columns.{no_columns};
 ghost use Rattle.bitcode_coder.specs.Coder.{endless_room};
 
 use bitcode_coder::coder::{Buffer, Decoder, Encoder, HoldsColumns, HoldsData, View};
-use bitcode_columns::error::{Error, Reason};
-use bitcode_columns::refuse::err;
+use bitcode_memory::error::{Error, Reason};
+use bitcode_memory::refuse::err;
 use bitcode_shapes::no_variants::{Absent, NoVariants};
 use std::alloc::Global;
 

@@ -10,7 +10,7 @@ use crate::derive::{HasDecoder, HasEncoder};
 use crate::whole;
 use bitcode_coder::coder::{Buffer as EncoderBuffer, Decoder, Encoder, View};
 use bitcode_coder::one::write_one;
-use bitcode_columns::error::{Error, Reason};
+use bitcode_memory::error::{Error, Reason};
 use bitcode_shapes::shaped::{Made, Shaped};
 use std::alloc::Global;
 

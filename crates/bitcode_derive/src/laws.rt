@@ -11,7 +11,7 @@ ghost use Rattle.bitcode_derive.specs.Whole.{columns_of_one, IsEncodingOf, HasLo
 ghost use Rattle.bitcode_derive.specs.Whole.{IsDecodingOf, SpellsDatum};
 
 use crate::whole;
-use bitcode_columns::error::{Error, Reason};
+use bitcode_memory::error::{Error, Reason};
 use bitcode_shapes::keys::Key;
 use bitcode_shapes::same_arrays::SameArrays;
 use bitcode_shapes::shaped::{Made, Shaped};

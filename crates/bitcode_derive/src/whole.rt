@@ -13,9 +13,9 @@ ghost use Rattle.bitcode_derive.specs.Whole.{IsBoundedByBytes, NamesWholeFault};
 use crate::derive::{HasDecoder, HasEncoder};
 use bitcode_coder::coder::{Buffer, Decoder, Encoder, View};
 use bitcode_coder::one::write_one;
-use bitcode_columns::consume::expect_eof;
-use bitcode_columns::error::{Error, Reason};
-use bitcode_columns::refuse::err;
+use bitcode_memory::consume::expect_eof;
+use bitcode_memory::error::{Error, Reason};
+use bitcode_memory::refuse::err;
 use bitcode_shapes::shaped::{Made, Shaped};
 use std::alloc::Global;
 

@@ -1,6 +1,6 @@
 -- Variants are read, and then the payloads of each; a value is made of the next payload of its variant.
 use Rattle.std.proofs.Common.{◌≡◌, ℕ, ◌<◌, List, [], ◌∷◌, length, refl, sym, ap, subst, arith}
-use Rattle.bitcode_columns.specs.declared.error.Reason.{Reason}
+use Rattle.bitcode_memory.specs.declared.error.Reason.{Reason}
 use Rattle.bitcode_columns.specs.Histogram.{AreCounts}
 use Rattle.bitcode_columns.specs.Reading.{Reads, NamesVariantFault}
 use Rattle.bitcode_columns.specs.VariantColumn.{SpellsVariants}

@@ -1,7 +1,7 @@
 -- The columns and the payloads of consecutive variants, by the index of a variant among them.
 use Rattle.std.specs.Prelude.{◌≡◌, ℕ, zero, suc, List, [], ◌∷◌, slice_index_or, slice_set, ◌⊎◌}
 use Rattle.std.proofs.Common.{inl, inr}
-use Rattle.bitcode_columns.specs.declared.error.Reason.{Reason}
+use Rattle.bitcode_memory.specs.declared.error.Reason.{Reason}
 use Rattle.bitcode_shapes.specs.Datum.{Datum}
 use Rattle.bitcode_shapes.specs.Shape.{Shape, Shapes, no_shapes, shape_and, never_shape}
 use Rattle.bitcode_coder.specs.Columns.{Columns, no_columns, two}

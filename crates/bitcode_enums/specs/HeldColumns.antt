@@ -1,6 +1,6 @@
 -- What the coders of several variants hold.
 use Rattle.std.specs.Prelude.{ℕ, Bool, List}
-use Rattle.bitcode_columns.specs.declared.error.Reason.{Reason}
+use Rattle.bitcode_memory.specs.declared.error.Reason.{Reason}
 use Rattle.bitcode_shapes.specs.Datum.{Datum}
 use Rattle.bitcode_coder.specs.Columns.{Columns}
 

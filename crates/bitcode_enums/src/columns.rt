@@ -1,13 +1,13 @@
 //! The columns of the payloads of an enum, by the numbers of the variants.
 ghost use Rattle.std.specs.Prelude.{◌≡◌, ℕ, ◌-◌, ◌<◌, ◌≤◌, ◌++◌, Bool, map, length, IsTrue, OnOk, IfErr};
-ghost use Rattle.bitcode_columns.specs.declared.error.Reason.{Reason};
+ghost use Rattle.bitcode_memory.specs.declared.error.Reason.{Reason};
 ghost use Rattle.bitcode_coder.specs.Columns.{no_columns, emptied};
 ghost use Rattle.bitcode_coder.specs.Coder.{BeginsWith};
 ghost use Rattle.bitcode_coder.specs.Spelling.{columns_bytes};
 ghost use Rattle.bitcode_enums.specs.HeldColumns.{HeldColumns};
 ghost use Rattle.bitcode_enums.specs.ByNumber.{columns_at, KeepsOthers};
 
-use bitcode_columns::error::{Error, Reason};
+use bitcode_memory::error::{Error, Reason};
 use std::alloc::Global;
 
 /// The columns of the payloads of consecutive variants, with one encoder for each variant: `Encoders2` to `Encoders4`,

@@ -9,7 +9,7 @@ ghost use Rattle.bitcode_enums.specs.Reading.{VariantsFault};
 use crate::held::{Enum, EnumOf, Held};
 use crate::payloads::AllPayloads;
 use bitcode_coder::coder::{Decoder, HoldsData, View, both};
-use bitcode_columns::error::Error;
+use bitcode_memory::error::Error;
 use bitcode_parts::choices::variant::VariantDecoder;
 use std::alloc::Global;
 use std::marker::PhantomData;

@@ -12,7 +12,7 @@ use crate::payload_columns::PayloadColumns;
 use crate::writes::WritesPayloads;
 use bitcode_coder::coder::{Buffer, Encoder, HoldsColumns, MAX_VECTORED_CHUNK};
 use bitcode_coder::part::{Part, told_parts};
-use bitcode_columns::error::Error;
+use bitcode_memory::error::Error;
 use bitcode_parts::choices::gathered::{SaysVariant, gather_variants};
 use bitcode_parts::choices::variant::VariantEncoder;
 use std::alloc::Global;

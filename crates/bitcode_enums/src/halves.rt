@@ -7,7 +7,7 @@ use crate::columns::VariantColumns;
 use crate::held::Enum;
 use crate::payloads::VariantPayloads;
 use crate::writes::WritesVariants;
-use bitcode_columns::error::Error;
+use bitcode_memory::error::Error;
 use std::alloc::Global;
 
 /// Combines the coders of some variants with those of the next ones: the columns of both groups, or the payloads of

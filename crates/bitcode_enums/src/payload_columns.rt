@@ -9,7 +9,7 @@ use crate::columns::AllColumns;
 use crate::held::Enum;
 use crate::writes::WritesPayloads;
 use bitcode_coder::coder::{Buffer, HoldsColumns};
-use bitcode_columns::error::Error;
+use bitcode_memory::error::Error;
 use std::alloc::Global;
 
 /// The columns of the payloads of an enum, those of the first variant first. `C` holds them by variant number.

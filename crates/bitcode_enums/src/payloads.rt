@@ -1,7 +1,7 @@
 //! The payloads from which values of an enum are made, by the numbers of the variants.
 ghost use Rattle.std.specs.Prelude.{◌≡◌, ℕ, ◌-◌, ◌<◌, ◌≤◌, Bool, [], map, length, IsTrue, IsOk, IfOk, OnOk, IfErr};
 ghost use Rattle.std.specs.Prelude.{OnErr};
-ghost use Rattle.bitcode_columns.specs.declared.error.Reason.{Reason};
+ghost use Rattle.bitcode_memory.specs.declared.error.Reason.{Reason};
 ghost use Rattle.bitcode_columns.specs.Reading.{Reads, IsEndOf};
 ghost use Rattle.bitcode_coder.specs.Coder.{IsReadingRefusal};
 ghost use Rattle.bitcode_coder.specs.Spelling.{Spells};
@@ -11,7 +11,7 @@ ghost use Rattle.bitcode_enums.specs.HeldColumns.{HeldPayloads};
 ghost use Rattle.bitcode_enums.specs.ByNumber.{shape_at, KeepsOthers};
 
 use crate::held::{Enum, EnumOf};
-use bitcode_columns::error::{Error, Reason};
+use bitcode_memory::error::{Error, Reason};
 use std::alloc::Global;
 
 /// The data of the payloads of consecutive variants of `T`, with one decoder for each variant: `Decoders2` to

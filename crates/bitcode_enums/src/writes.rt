@@ -7,7 +7,7 @@ ghost use Rattle.bitcode_enums.specs.ByNumber.{columns_at, bare_columns, KeepsOt
 use crate::columns::{AllColumns, VariantColumns};
 use crate::held::{Enum, EnumOf};
 use bitcode_coder::coder::{Buffer, Encoder, HoldsColumns};
-use bitcode_columns::error::Error;
+use bitcode_memory::error::Error;
 use bitcode_shapes::shaped::Shaped;
 use bitcode_tuples::fields::{Fields, FieldsEncoder};
 

@@ -1,6 +1,11 @@
-//! Coders of integers as structs without parameters: each is `IntEncoder` or `IntDecoder` for one integer type, under
-//! its own name. Code that names one of these is checked faster.
+//! Integers: how each packs its column, the coders of integers, of types that allow only some integers and of
+//! `U8Char`, and a coder struct without parameters for each integer type. Code that names one of these structs is
+//! checked faster.
 #![tactic(auto)]
 
-pub mod signed;
-pub mod unsigned;
+pub mod checked;
+pub mod column_int;
+pub mod int;
+pub mod signed_coders;
+pub mod u8_char;
+pub mod unsigned_coders;

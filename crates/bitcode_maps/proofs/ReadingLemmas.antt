@@ -1,6 +1,6 @@
 -- Data of maps are read as lists of their entries: they have the same columns.
 use Rattle.std.proofs.Common.{ℕ, None, List}
-use Rattle.bitcode_columns.specs.declared.error.Reason.{Reason}
+use Rattle.bitcode_memory.specs.declared.error.Reason.{Reason}
 use Rattle.bitcode_columns.specs.Reading.{Reads}
 use Rattle.bitcode_shapes.specs.Datum.{Datum}
 use Rattle.bitcode_shapes.specs.Shape.{Shape, seq_shape, map_shape, pair_shape}

@@ -11,7 +11,7 @@ ghost use Rattle.bitcode_coder.specs.Spelling.{natural};
 
 use bitcode_coder::coder::{Buffer, Decoder, Encoder, HoldsColumns, HoldsData, View};
 use bitcode_coder::length::LengthEncoder;
-use bitcode_columns::error::{Error, Reason};
+use bitcode_memory::error::{Error, Reason};
 use bitcode_parts::lists::sequence::FromElements;
 use bitcode_parts::lists::vec::VecDecoder;
 use bitcode_parts::maps::Mapping;

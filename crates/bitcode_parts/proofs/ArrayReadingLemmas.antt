@@ -4,7 +4,7 @@ use Rattle.std.specs.Prelude.{All}
 use Rattle.std.proofs.Math.Seq.{take-append_seam, drop-append_seam}
 use Rattle.std.proofs.lemmas.List.{take-append-drop, length-take-le, length-drop, nil_from_length}
 use Rattle.std.proofs.lemmas.List.Elements.{All-nil, All-cons, All-take, All-drop}
-use Rattle.bitcode_columns.specs.declared.error.Reason.{Reason}
+use Rattle.bitcode_memory.specs.declared.error.Reason.{Reason}
 use Rattle.bitcode_columns.specs.Reading.{Reads}
 use Rattle.bitcode_shapes.specs.Datum.{Datum, list, data_of}
 use Rattle.bitcode_shapes.specs.Shape.{Shape, array_shape, IsOf, IsListOf}

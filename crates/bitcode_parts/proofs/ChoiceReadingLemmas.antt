@@ -6,8 +6,8 @@ use Rattle.std.proofs.lemmas.Bool.{cond_both}
 use Rattle.std.proofs.lemmas.List.{length-map, length-replicate}
 use Rattle.std.proofs.lemmas.List.Elements.{All-nil, All-replicate}
 use Rattle.std.proofs.lemmas.Simd.{map-map}
-use Rattle.bitcode_columns.specs.declared.error.Reason.{Reason}
-use Rattle.bitcode_columns.specs.declared.error.Reason.TheVariants.{Eof, InvalidPacking, OutOfMemory}
+use Rattle.bitcode_memory.specs.declared.error.Reason.{Reason}
+use Rattle.bitcode_memory.specs.declared.error.Reason.TheVariants.{Eof, InvalidPacking, OutOfMemory}
 use Rattle.bitcode_columns.specs.Histogram.{count_of}
 use Rattle.bitcode_columns.specs.Reading.{Reads, NamesVariantFault, variants_fault, is_variant_at}
 use Rattle.bitcode_columns.specs.Digits.{digits_in_byte, base_for}

@@ -1,7 +1,7 @@
 -- Arrays of one size. Their columns are those of all their elements, and the elements make up the arrays again.
 use Rattle.std.specs.Prelude.{◌≡◌, ℕ, zero, suc, ◌+◌, ◌-◌, ◌*◌, ◌/◌, ◌^◌, ◌<◌, ◌≤◌, List, min, replicate, ◌⊎◌}
-use Rattle.bitcode_columns.specs.declared.error.Reason.{Reason}
-use Rattle.bitcode_columns.specs.declared.error.Reason.TheVariants.{LengthOverflow}
+use Rattle.bitcode_memory.specs.declared.error.Reason.{Reason}
+use Rattle.bitcode_memory.specs.declared.error.Reason.TheVariants.{LengthOverflow}
 use Rattle.bitcode_shapes.specs.Datum.{Datum}
 use Rattle.bitcode_coder.specs.Coder.{endless_room}
 use Rattle.bitcode_parts.specs.Lists.{lists_of}

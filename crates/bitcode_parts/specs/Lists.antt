@@ -1,7 +1,7 @@
 -- Sequences, as the length of each and the elements of all.
 use Rattle.std.specs.Prelude.{◌≡◌, ℕ, List, map, sum, Some, None}
-use Rattle.bitcode_columns.specs.declared.error.Reason.{Reason}
-use Rattle.bitcode_columns.specs.declared.error.Reason.TheVariants.{InvalidArrayVec}
+use Rattle.bitcode_memory.specs.declared.error.Reason.{Reason}
+use Rattle.bitcode_memory.specs.declared.error.Reason.TheVariants.{InvalidArrayVec}
 use Rattle.bitcode_columns.specs.Reading.{Reads}
 use Rattle.bitcode_shapes.specs.Datum.{Datum, list, data_of}
 use Rattle.bitcode_shapes.specs.Shape.{Shape, seq_shape}

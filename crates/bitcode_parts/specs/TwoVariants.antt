@@ -1,6 +1,6 @@
 -- Reading choices of two variants: which fault comes first.
 use Rattle.std.specs.Prelude.{ℕ, List, ◌⊎◌}
-use Rattle.bitcode_columns.specs.declared.error.Reason.{Reason}
+use Rattle.bitcode_memory.specs.declared.error.Reason.{Reason}
 use Rattle.bitcode_columns.specs.Histogram.{count_of}
 use Rattle.bitcode_shapes.specs.Shape.{Shape}
 use Rattle.bitcode_coder.specs.Faults.{NamesVariantsFault}

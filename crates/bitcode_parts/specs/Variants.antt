@@ -1,6 +1,6 @@
 -- What the coders of variants hold.
 use Rattle.std.specs.Prelude.{ℕ, List}
-use Rattle.bitcode_columns.specs.Fast.{fast_items, fast_room, fast_capacity, cow_rest, cow_owned}
+use Rattle.bitcode_memory.specs.Fast.{fast_items, fast_room, fast_capacity, cow_rest, cow_owned}
 use Rattle.bitcode_parts.specs.declared.choices.variant.VariantEncoder.{VariantEncoder}
 use Rattle.bitcode_parts.specs.declared.choices.variant.VariantDecoder.{VariantDecoder}
 

@@ -12,9 +12,9 @@ ghost use Rattle.bitcode_parts.specs.ArrayLaws.{arrays_of_shape, arrays_overflow
 
 use crate::lists::sequence::{decode_each, encode_each};
 use bitcode_coder::coder::{Buffer, Decoder, Encoder, HoldsColumns, HoldsData, View};
-use bitcode_columns::consume::mul_length;
-use bitcode_columns::error::{Error, Reason};
-use bitcode_columns::refuse::err;
+use bitcode_memory::consume::mul_length;
+use bitcode_memory::error::{Error, Reason};
+use bitcode_memory::refuse::err;
 use bitcode_shapes::shaped::{Made, Shaped};
 use std::alloc::Global;
 

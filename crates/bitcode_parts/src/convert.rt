@@ -5,7 +5,7 @@ ghost use Rattle.bitcode_coder.specs.Coder.{ListsAsToo, MakesToo};
 ghost use Rattle.bitcode_parts.specs.Convert.{IsWrittenAs, surely_as};
 
 use bitcode_coder::coder::{Buffer, Decoder, Encoder, HoldsColumns, HoldsData, View};
-use bitcode_columns::error::Error;
+use bitcode_memory::error::Error;
 use bitcode_shapes::shaped::{Made, Shaped};
 use std::alloc::Global;
 use std::marker::PhantomData;

@@ -6,7 +6,7 @@ ghost use Rattle.bitcode_coder.specs.Columns.{no_columns};
 ghost use Rattle.bitcode_coder.specs.Coder.{endless_room};
 
 use bitcode_coder::coder::{Buffer, Decoder, Encoder, HoldsColumns, HoldsData, View};
-use bitcode_columns::error::Error;
+use bitcode_memory::error::Error;
 use std::alloc::Global;
 
 /// The encoder and decoder of types without data, such as `()`.

@@ -9,7 +9,7 @@ ghost use Rattle.bitcode_shapes.specs.Shape.{seq_shape};
 use crate::lists::sequence::{FromElements, Sequence, encode_each};
 use crate::lists::vec::VecDecoder;
 use bitcode_coder::coder::{Decoder, Encoder};
-use bitcode_columns::error::{Error, Reason};
+use bitcode_memory::error::{Error, Reason};
 use bitcode_shapes::shaped::{Made, Shaped};
 use std::alloc::Global;
 use std::cmp::Ord;

@@ -14,7 +14,7 @@ ghost use Rattle.bitcode_parts.specs.Elements.{MakesOfElements};
 use crate::lists::sequence::{FromElements, Lends, encode_lent};
 use bitcode_coder::coder::Encoder;
 use bitcode_coder::part::Part;
-use bitcode_columns::error::{Error, Reason};
+use bitcode_memory::error::{Error, Reason};
 use bitcode_shapes::keys::Key;
 use bitcode_shapes::lists::told_each;
 use bitcode_shapes::shaped::{Made, Shaped};

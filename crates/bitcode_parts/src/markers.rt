@@ -3,7 +3,7 @@ ghost use Rattle.std.specs.Prelude.{refl, true};
 
 use crate::empty::EmptyCoder;
 use bitcode_coder::coder::{Decoder, Encoder};
-use bitcode_columns::error::Error;
+use bitcode_memory::error::Error;
 use std::marker::PhantomData;
 
 impl<T> Encoder<PhantomData<T>> for EmptyCoder {

@@ -5,7 +5,7 @@ ghost use Rattle.std.specs.Rc.{rc_value};
 
 use crate::pointers::deref::Points;
 use crate::pointers::from::FromValue;
-use bitcode_columns::error::Error;
+use bitcode_memory::error::Error;
 use bitcode_shapes::shaped::{Made, Shaped};
 use std::alloc::Global;
 use std::boxed::BoxedSlice;

@@ -9,7 +9,7 @@ ghost use Rattle.bitcode_shapes.specs.Shape.{seq_shape};
 use crate::lists::sequence::{FromElements, Lends, Sequence, encode_lent};
 use crate::lists::vec::VecDecoder;
 use bitcode_coder::coder::{Decoder, Encoder};
-use bitcode_columns::error::{Error, Reason};
+use bitcode_memory::error::{Error, Reason};
 use bitcode_shapes::keys::Key;
 use bitcode_shapes::lists::told_each;
 use bitcode_shapes::shaped::{Made, Shaped};

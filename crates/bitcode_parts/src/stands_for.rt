@@ -1,6 +1,6 @@
 //! The decoder of types that correspond to another type: it reads a struct as the tuple of its fields.
 use bitcode_coder::coder::{Decoder, HoldsData, View};
-use bitcode_columns::error::Error;
+use bitcode_memory::error::Error;
 use bitcode_shapes::shaped::Made;
 use bitcode_shapes::stands_for::FromParts;
 use std::alloc::Global;

@@ -1,8 +1,8 @@
 -- What was sealed is opened again.
 use Rattle.std.proofs.Common.{◌≡◌, ℕ, ◌+◌, ◌^◌, ◌<◌, List, ◌++◌, length, take, drop, refl, sym, ap, ◌∙◌, arith, length-append, append_assoc}
 use Rattle.std.proofs.lemmas.List.{take_at, drop_at}
-use Rattle.bitcode_columns.specs.LittleEndian.{little_endian, number_bytes}
-use Rattle.bitcode_columns.proofs.LittleEndianLemmas.{little_endian-number_bytes}
+use Rattle.bitcode_memory.specs.LittleEndian.{little_endian, number_bytes}
+use Rattle.bitcode_memory.proofs.LittleEndianLemmas.{little_endian-number_bytes}
 use Rattle.bitcode_sealed.specs.declared.label.Label.{Label}
 use Rattle.bitcode_sealed.specs.declared.head.Head.{Head}
 use Rattle.bitcode_sealed.specs.Crc.{crc_32}

@@ -5,8 +5,8 @@ use Rattle.std.proofs.lemmas.Nat.{xor_shr, xor_of_32, and_mask}
 use Rattle.std.specs.Int.Bits.{xor_zero_l, xor_zero_r, xor_assoc}
 use Rattle.std.proofs.lemmas.List.Elements.{All-head, All-tail, All-append}
 use Rattle.bitcode_sealed.proofs.PartLemmas.{All-left, All-right}
-use Rattle.bitcode_columns.specs.LittleEndian.{little_endian, number_bytes}
-use Rattle.bitcode_columns.proofs.LittleEndianLemmas.{length-number_bytes, little_endian-number_bytes, little_endian_below}
+use Rattle.bitcode_memory.specs.LittleEndian.{little_endian, number_bytes}
+use Rattle.bitcode_memory.proofs.LittleEndianLemmas.{length-number_bytes, little_endian-number_bytes, little_endian_below}
 use Rattle.bitcode_sealed.specs.Crc.{bit_step, bit_steps, byte_step, register_after}
 use Rattle.bitcode_sealed.proofs.CrcLemmas.{AreBytes, bit_steps-xor, bit_steps-add, bit_steps_shifted, low_and_high, register-append, register_at_once, bytes_of_number}
 

@@ -2,8 +2,8 @@
 use Rattle.std.proofs.Common.{◌≡◌, ◌≢◌, ℕ, zero, suc, ◌+◌, ◌-◌, ◌^◌, ◌<◌, ◌≤◌, min, List, [], ◌∷◌, ◌++◌, length, take, drop, All, refl, sym, ap, subst, ◌∙◌, arith, length-append, length-take, length-drop}
 use Rattle.std.proofs.lemmas.List.{take-append-drop, take_at, drop_at}
 use Rattle.std.proofs.lemmas.List.Elements.{All-append}
-use Rattle.bitcode_columns.specs.LittleEndian.{number_bytes}
-use Rattle.bitcode_columns.proofs.LittleEndianLemmas.{length-number_bytes}
+use Rattle.bitcode_memory.specs.LittleEndian.{number_bytes}
+use Rattle.bitcode_memory.proofs.LittleEndianLemmas.{length-number_bytes}
 use Rattle.bitcode_sealed.specs.declared.head.Head.{Head}
 use Rattle.bitcode_sealed.specs.Crc.{ones, register_after, crc_32}
 use Rattle.bitcode_sealed.specs.Layout.{checked, head_fields, head_bytes, sealed, IsSealed}

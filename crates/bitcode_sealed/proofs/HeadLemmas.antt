@@ -5,8 +5,8 @@ use Rattle.std.proofs.lemmas.List.{take-append-drop, take_at, drop_at}
 use Rattle.std.specs.Str.{bytes_eq}
 use Rattle.std.proofs.lemmas.Bool.{false≢true}
 use Rattle.std.proofs.lemmas.Slice.Eq.{bytes_eq-Decides}
-use Rattle.bitcode_columns.specs.LittleEndian.{little_endian, number_bytes}
-use Rattle.bitcode_columns.proofs.LittleEndianLemmas.{length-number_bytes, number_bytes-little_endian, little_endian-number_bytes}
+use Rattle.bitcode_memory.specs.LittleEndian.{little_endian, number_bytes}
+use Rattle.bitcode_memory.proofs.LittleEndianLemmas.{length-number_bytes, number_bytes-little_endian, little_endian-number_bytes}
 use Rattle.bitcode_sealed.specs.declared.label.Label.{Label}
 use Rattle.bitcode_sealed.specs.declared.head.Head.{Head}
 use Rattle.bitcode_sealed.specs.Crc.{crc_32}

@@ -3,8 +3,8 @@ use Rattle.std.proofs.Common.{◌≡◌, ◌≢◌, ℤ, pos, negsuc, ℕ, zero,
 use Rattle.std.specs.Prelude.{slice_index}
 use Rattle.std.proofs.lemmas.List.{drop_at, take_rest}
 use Rattle.bitcode_sealed.proofs.PartLemmas.{All-left, All-right}
-use Rattle.bitcode_columns.specs.LittleEndian.{little_endian, number_bytes}
-use Rattle.bitcode_columns.proofs.LittleEndianLemmas.{number_bytes-little_endian, little_endian-number_bytes}
+use Rattle.bitcode_memory.specs.LittleEndian.{little_endian, number_bytes}
+use Rattle.bitcode_memory.proofs.LittleEndianLemmas.{number_bytes-little_endian, little_endian-number_bytes}
 use Rattle.bitcode_sealed.specs.declared.label.Label.{Label}
 use Rattle.bitcode_sealed.specs.declared.label.Expected.{Expected}
 use Rattle.bitcode_sealed.specs.declared.head.Head.{Head}

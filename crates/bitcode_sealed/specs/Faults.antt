@@ -1,6 +1,6 @@
 -- What is at fault with an input that is to be opened: at most one of these, the first in this order.
 use Rattle.std.specs.Prelude.{◌≡◌, ◌≢◌, ℕ, ◌+◌, ◌-◌, ◌^◌, ◌<◌, ◌≤◌, min, List, ◌++◌, length}
-use Rattle.bitcode_columns.specs.LittleEndian.{little_endian, number_bytes}
+use Rattle.bitcode_memory.specs.LittleEndian.{little_endian, number_bytes}
 use Rattle.bitcode_sealed.specs.declared.label.Expected.{Expected}
 use Rattle.bitcode_sealed.specs.declared.head.Head.{Head}
 use Rattle.bitcode_sealed.specs.declared.error.OpenError.{OpenError}

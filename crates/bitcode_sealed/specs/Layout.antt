@@ -1,6 +1,6 @@
 -- The layout of sealed bytes: a head, the value's bytes, and their checksum.
 use Rattle.std.specs.Prelude.{◌≡◌, ℕ, List, [], ◌∷◌, ◌++◌, length, take}
-use Rattle.bitcode_columns.specs.LittleEndian.{number_bytes}
+use Rattle.bitcode_memory.specs.LittleEndian.{number_bytes}
 use Rattle.bitcode_sealed.specs.declared.label.Label.{Label}
 use Rattle.bitcode_sealed.specs.declared.head.Head.{Head}
 use Rattle.bitcode_sealed.specs.Crc.{crc_32}

@@ -7,8 +7,8 @@ use crate::crc::crc_32;
 use crate::error::OpenError;
 use crate::head::{HEAD_BYTES, Head, read_head};
 use crate::label::{Expected, Label};
-use bitcode_columns::error::{Error, Reason};
-use bitcode_columns::ints::Int;
+use bitcode_memory::error::{Error, Reason};
+use bitcode_memory::ints::Int;
 
 // The bytes of a value's checksum.
 const SUM_BYTES: usize = 4;

@@ -5,7 +5,7 @@ ghost use Rattle.bitcode_sealed.specs.Crc.{byte_step, register_after, crc_32};
 use crate::crc_tables::{
     shifted_8, shifted_16, shifted_24, shifted_32, shifted_40, shifted_48, shifted_56, shifted_64,
 };
-use bitcode_columns::ints::Int;
+use bitcode_memory::ints::Int;
 
 // The register with a byte taken in.
 fn byte_step(register: u32, byte: u8) -> u32

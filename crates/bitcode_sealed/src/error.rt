@@ -1,6 +1,6 @@
 //! Errors of opening sealed bytes.
 
-use bitcode_columns::error::Error;
+use bitcode_memory::error::Error;
 
 /// Why opening failed: the first fault, in this order.
 ///

@@ -1,13 +1,13 @@
 //! The header of sealed bytes.
 ghost use Rattle.std.specs.Prelude.{◌≡◌, ◌≤◌, ◌↔◌, IsTrue, List, [], ◌∷◌, length, take, slice_index, IfOk, IfErr};
-ghost use Rattle.bitcode_columns.specs.LittleEndian.{little_endian};
+ghost use Rattle.bitcode_memory.specs.LittleEndian.{little_endian};
 ghost use Rattle.bitcode_sealed.specs.Layout.{magic, head_bytes, BeginsWithHead, BeginsAsSealed};
 ghost use Rattle.bitcode_sealed.specs.Faults.{IsHeadFault};
 
 use crate::crc::crc_32;
 use crate::error::OpenError;
 use crate::label::Label;
-use bitcode_columns::ints::Int;
+use bitcode_memory::ints::Int;
 
 /// The size of the header in bytes.
 pub const HEAD_BYTES: usize = 20;

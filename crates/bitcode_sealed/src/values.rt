@@ -10,9 +10,9 @@ use crate::bytes::{seal_bytes, split_sealed};
 use crate::error::OpenError;
 use crate::label::{Expected, Label};
 use bitcode_coder::coder::{Buffer, Decoder, Encoder, View};
-use bitcode_columns::error::Error;
 use bitcode_derive::derive::{HasDecoder, HasEncoder};
 use bitcode_derive::whole::{decode, encode};
+use bitcode_memory::error::Error;
 use bitcode_shapes::shaped::{Made, Shaped};
 use std::alloc::Global;
 

@@ -4,10 +4,10 @@ use Rattle.std.specs.Prelude.{Bool, IsTrue, ◌↔◌, ◌++◌, Result, Err, If
 use Rattle.std.specs.Int.{w128}
 use Rattle.std.specs.Int.Signed.{mag}
 use Rattle.std.proofs.Common.{rules, to_z, of_z, w8, w16, w32, w64}
-use Rattle.bitcode_columns.specs.declared.error.Error.{Error}
+use Rattle.bitcode_memory.specs.declared.error.Error.{Error}
 use Rattle.std.proofs.lemmas.List.{length-map}
 use Rattle.std.proofs.lemmas.List.Elements.{All-map}
-use Rattle.bitcode_columns.specs.declared.error.Reason.{Reason}
+use Rattle.bitcode_memory.specs.declared.error.Reason.{Reason}
 use Rattle.bitcode_columns.specs.Reading.{Reads}
 use Rattle.bitcode_shapes.specs.Datum.{Datum, number, text}
 use Rattle.bitcode_shapes.specs.Shape.{Shape, IsNumberOf, IsNaturalBelow, IsTextOf, any_number, bool_shape, text_shape}
@@ -26,7 +26,7 @@ use Rattle.bitcode_coder.specs.TextParts.{NamesTextFault}
 use Rattle.bitcode_coder.specs.Spelling.{Spells, SpellsColumn, natural, truth, number_of_residue}
 use Rattle.bitcode_coder.proofs.IntLemmas.{number_is, some_width}
 use Rattle.bitcode_coder.proofs.LengthRefusalLemmas.{lengths_refused}
-use Rattle.bitcode_columns.specs.IntWidths.{IsWidth}
+use Rattle.bitcode_memory.specs.IntWidths.{IsWidth}
 use Rattle.bitcode_untyped.specs.View.{datum_of}
 use Rattle.bitcode_untyped.specs.declared.value.Value.{Value}
 use Rattle.bitcode_serde.specs.ReadColumns.{ReadsColumn, IsColumnReason, IsColumnRefusal, kind_of, kind_number}

@@ -1,6 +1,6 @@
 -- Reading the fields of a tuple, one after another.
 use Rattle.std.proofs.Common.{◌≡◌, ◌≢◌, ℕ, zero, suc, ◌+◌, List, [], ◌∷◌, ◌++◌, length, map, drop, Some, None, slice_get, refl, sym, ap, subst, add-one}
-use Rattle.bitcode_columns.specs.declared.error.Reason.{Reason}
+use Rattle.bitcode_memory.specs.declared.error.Reason.{Reason}
 use Rattle.bitcode_shapes.specs.Datum.{Datum, tuple, data_of}
 use Rattle.bitcode_untyped.specs.Machine.{State}
 use Rattle.bitcode_untyped.specs.Reads.{ReadsDatum, ReadsNoDatum}

@@ -2,10 +2,10 @@
 use Rattle.std.proofs.Common.{ℕ, ◌<◌, ◌≡◌, ◌++◌, Bool, false, IsTrue, List, All, refl, sym, ◌∙◌, map, take, drop, ap, lit≤}
 use Rattle.std.proofs.lemmas.List.{map-append, take-append-drop}
 use Rattle.std.proofs.lemmas.List.Elements.{All-map}
-use Rattle.bitcode_columns.specs.declared.error.Reason.{Reason}
+use Rattle.bitcode_memory.specs.declared.error.Reason.{Reason}
 use Rattle.std.specs.Prelude.{◌↔◌}
 use Rattle.bitcode_columns.specs.ByteColumn.{SpellsBytes, byte_text}
-use Rattle.bitcode_columns.specs.Ints.{number_of}
+use Rattle.bitcode_memory.specs.Ints.{number_of}
 use Rattle.bitcode_columns.proofs.AppendLemmas.{int_text_bytes}
 use Rattle.bitcode_columns.specs.Reading.{Reads, Names, bytes_fault}
 use Rattle.bitcode_shapes.specs.Datum.{number_in}

@@ -2,11 +2,11 @@
 use Rattle.std.proofs.Common.{◌≡◌, ◌⊎◌, ℕ, zero, suc, inl, inr, List, [], ◌∷◌, ◌++◌, Some, slice_get, length, map, drop, All, refl, ap, sym, subst, ◌∙◌, append_assoc, append-nil, add-one, ◌+◌, arith}
 use Rattle.std.specs.List.{AllByRecursion, AllZip}
 use Rattle.std.proofs.lemmas.List.{map-append}
-use Rattle.bitcode_columns.specs.declared.error.Reason.{Reason}
+use Rattle.bitcode_memory.specs.declared.error.Reason.{Reason}
 use Rattle.bitcode_shapes.specs.Datum.{Datum}
 use Rattle.bitcode_shapes.specs.Shape.{Shape, IsOf}
 use Rattle.bitcode_coder.specs.Coder.{written_columns, JoinsListing, OverflowsWithListing, JoinsEach, OverflowsWithEach, IsWritingRefusal}
-use Rattle.bitcode_columns.specs.declared.error.Reason.TheVariants.{OutOfMemory}
+use Rattle.bitcode_memory.specs.declared.error.Reason.TheVariants.{OutOfMemory}
 use Rattle.bitcode_coder.specs.Columns.{Kind, Columns, no_columns, one, two, arrays, emptied, beside, CountsFit, IsEntryOf}
 use Rattle.bitcode_untyped.specs.View.{datum_of}
 use Rattle.bitcode_untyped.specs.declared.value.Value.{Value}

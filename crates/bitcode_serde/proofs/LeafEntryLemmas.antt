@@ -1,7 +1,7 @@
 -- The values that are entries of one column.
 use Rattle.std.specs.List.{AllByRecursion}
 use Rattle.std.proofs.Common.{◌≡◌, ℕ, suc, ℤ, pos, negsuc, inl, inr, List, [], ◌∷◌, get_or, ◌*◌, ◌^◌, ◌<◌, arith, Bool, true, false, String, Vec, Box, Global, None, string_bytes, refl, sym, ◌∙◌}
-use Rattle.bitcode_columns.specs.declared.error.Reason.TheVariants.{NotOfTheShape}
+use Rattle.bitcode_memory.specs.declared.error.Reason.TheVariants.{NotOfTheShape}
 use Rattle.std.specs.Int.Signed.{mag}
 use Rattle.std.specs.Char.{IsScalar}
 use Rattle.std.proofs.Math.Utf8.{scalar_cases}

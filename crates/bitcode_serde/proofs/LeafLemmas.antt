@@ -3,8 +3,8 @@ use Rattle.std.proofs.Common.{◌≡◌, ◌≢◌, ℕ, List, [], ◌∷◌, re
 use Rattle.std.specs.List.{AllByRecursion, flat_map}
 use Rattle.std.specs.Prelude.{Result, IfOk, IfErr}
 use Rattle.std.proofs.lemmas.Result.{IfOk-weaker, IfErr-weaker}
-use Rattle.bitcode_columns.specs.declared.error.Error.{Error}
-use Rattle.bitcode_columns.specs.declared.error.Reason.TheVariants.{NotOfTheShape}
+use Rattle.bitcode_memory.specs.declared.error.Error.{Error}
+use Rattle.bitcode_memory.specs.declared.error.Reason.TheVariants.{NotOfTheShape}
 use Rattle.bitcode_shapes.specs.Shape.{any_number}
 use Rattle.bitcode_untyped.specs.Faults.{faults_of}
 use Rattle.bitcode_untyped.specs.ShapeTree.{ShapeTree, leaf_tree}

@@ -1,8 +1,8 @@
 -- Why the columns of values are refused.
 use Rattle.std.proofs.Common.{ℕ, ◌*◌, ◌%◌, ◌^◌, ltb, leb, eqb, Option, Some, None, List, [], ◌∷◌, length, sum, drop, inl, inr, sym, subst}
 use Rattle.std.proofs.lemmas.Bool.{cond_both}
-use Rattle.bitcode_columns.specs.declared.error.Reason.{Reason}
-use Rattle.bitcode_columns.specs.declared.error.Reason.TheVariants.{Eof, InvalidPacking, LengthOverflow, HugeLength}
+use Rattle.bitcode_memory.specs.declared.error.Reason.{Reason}
+use Rattle.bitcode_memory.specs.declared.error.Reason.TheVariants.{Eof, InvalidPacking, LengthOverflow, HugeLength}
 use Rattle.bitcode_columns.specs.ByteColumn.{base_at_level, highest_byte_tag}
 use Rattle.bitcode_columns.specs.IntColumn.{IntForm, bytes_form, bare_form, tagged_form, int_form, highest_int_tag, width_at_level}
 use Rattle.bitcode_columns.specs.Reading.{missing, digits_fault, bytes_fault, tagged_fault, narrow_fault, ints_fault_as, ints_fault, Names}

@@ -1,7 +1,7 @@
 -- Reading a whole input.
 use Rattle.std.proofs.Common.{◌≡◌, ◌≢◌, ◌⊎◌, inl, inr, Bool, true, false, not, IsTrue, map, ℕ, ◌*◌, ◌≤◌, List, [], length, get_or, slice_get, Some, refl, sym, subst, ap, ◌∙◌}
-use Rattle.bitcode_columns.specs.declared.error.Reason.{Reason}
-use Rattle.bitcode_columns.specs.declared.error.Reason.TheVariants as reason
+use Rattle.bitcode_memory.specs.declared.error.Reason.{Reason}
+use Rattle.bitcode_memory.specs.declared.error.Reason.TheVariants as reason
 use Rattle.bitcode_shapes.specs.Datum.{Datum}
 use Rattle.bitcode_untyped.specs.Bounds.{element_count}
 use Rattle.bitcode_untyped.specs.Content.{content_of, IsOnlyContent}

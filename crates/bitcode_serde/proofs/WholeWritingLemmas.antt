@@ -1,6 +1,6 @@
 -- Writing a whole value.
 use Rattle.std.proofs.Common.{◌≡◌, ℕ, List, [], get_or, sym, subst, ap, ◌∙◌}
-use Rattle.bitcode_columns.specs.declared.error.Reason.{Reason}
+use Rattle.bitcode_memory.specs.declared.error.Reason.{Reason}
 use Rattle.bitcode_shapes.specs.Datum.{Datum}
 use Rattle.bitcode_coder.specs.Spelling.{texts_of}
 use Rattle.bitcode_untyped.specs.Bounds.{IsLimited}

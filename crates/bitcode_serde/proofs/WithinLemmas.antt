@@ -1,7 +1,7 @@
 -- Refusals under a limit on nodes.
 use Rattle.std.proofs.Common.{◌≢◌, ℕ, ◌<◌, refl, subst}
-use Rattle.bitcode_columns.specs.declared.error.Reason.{Reason}
-use Rattle.bitcode_columns.specs.declared.error.Reason.TheVariants.{TooManyNodes, OutOfMemory}
+use Rattle.bitcode_memory.specs.declared.error.Reason.{Reason}
+use Rattle.bitcode_memory.specs.declared.error.Reason.TheVariants.{TooManyNodes, OutOfMemory}
 use Rattle.bitcode_shapes.specs.Datum.{Datum}
 use Rattle.bitcode_untyped.specs.Nodes.{node_count}
 use Rattle.bitcode_serde.specs.ReadingValues.{IsValueReason, IsRefusalWithin}

@@ -3,8 +3,8 @@ use Rattle.std.proofs.Common.{◌≡◌, ◌≢◌, ℕ, zero, suc, ◌<◌, ◌
 use Rattle.std.specs.Prelude.{IsSomeAnd}
 use Rattle.std.specs.List.{AllByRecursion}
 use Rattle.std.proofs.Math.ListN.{set}
-use Rattle.bitcode_columns.specs.declared.error.Reason.{Reason}
-use Rattle.bitcode_columns.specs.declared.error.Reason.TheVariants.{OutOfMemory, NotOfTheShape}
+use Rattle.bitcode_memory.specs.declared.error.Reason.{Reason}
+use Rattle.bitcode_memory.specs.declared.error.Reason.TheVariants.{OutOfMemory, NotOfTheShape}
 use Rattle.bitcode_shapes.specs.Datum.{Datum}
 use Rattle.bitcode_coder.specs.Columns.{Kind}
 use Rattle.bitcode_untyped.specs.Growing.{put_all}

@@ -1,6 +1,6 @@
 -- What the coders of indices hold.
 use Rattle.std.specs.Prelude.{ℕ, List, map, get_or}
-use Rattle.bitcode_columns.specs.Fast.{fast_items, fast_room, fast_capacity, cow_rest, cow_owned}
+use Rattle.bitcode_memory.specs.Fast.{fast_items, fast_room, fast_capacity, cow_rest, cow_owned}
 use Rattle.bitcode_shapes.specs.Datum.{Datum}
 use Rattle.bitcode_coder.specs.Spelling.{natural}
 use Rattle.bitcode_serde.specs.declared.serde.encoder.VariantEncoder.{VariantEncoder}

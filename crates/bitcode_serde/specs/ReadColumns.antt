@@ -1,9 +1,9 @@
 -- The columns that a reader has open.
 use Rattle.std.specs.Prelude.{◌≡◌, ◌≢◌, ℕ, ℤ, ◌<◌, ◌+◌, ◌*◌, if◌then◌else◌, Bool, true, false, None, List, [], ◌∷◌, ◌++◌, length, map, String}
 use Rattle.std.specs.Global.{Global}
-use Rattle.bitcode_columns.specs.Fast.{slice_rest, cow_rest}
-use Rattle.bitcode_columns.specs.declared.error.Reason.{Reason}
-use Rattle.bitcode_columns.specs.declared.error.Reason.TheVariants.{Eof, InvalidPacking, LengthOverflow, HugeLength, InvalidUtf8, OutOfMemory}
+use Rattle.bitcode_memory.specs.Fast.{slice_rest, cow_rest}
+use Rattle.bitcode_memory.specs.declared.error.Reason.{Reason}
+use Rattle.bitcode_memory.specs.declared.error.Reason.TheVariants.{Eof, InvalidPacking, LengthOverflow, HugeLength, InvalidUtf8, OutOfMemory}
 use Rattle.bitcode_shapes.specs.Datum.{Datum, text}
 use Rattle.bitcode_coder.specs.Columns.{Kind, bools, ints, lengths, texts}
 use Rattle.bitcode_coder.specs.Cutting.{cut}

@@ -1,8 +1,8 @@
 -- What is read of a value, from one reader to the next.
 use Rattle.std.specs.Prelude.{◌≡◌, ◌≢◌, ◌<◌, ℕ, zero, suc, List, [], ◌∷◌, ◌++◌, Vec, Box}
 use Rattle.std.specs.Global.{Global}
-use Rattle.bitcode_columns.specs.declared.error.Reason.{Reason}
-use Rattle.bitcode_columns.specs.declared.error.Reason.TheVariants.{ExpectedEof, InvalidEnumVariant, OutOfMemory, InvalidOption, InvalidChar, TooManyZeroSizedTypes, NestedTooDeep, NotOfTheShape, TooManyNodes}
+use Rattle.bitcode_memory.specs.declared.error.Reason.{Reason}
+use Rattle.bitcode_memory.specs.declared.error.Reason.TheVariants.{ExpectedEof, InvalidEnumVariant, OutOfMemory, InvalidOption, InvalidChar, TooManyZeroSizedTypes, NestedTooDeep, NotOfTheShape, TooManyNodes}
 use Rattle.bitcode_shapes.specs.Datum.{Datum}
 use Rattle.bitcode_shapes.specs.Shape.{any_number}
 use Rattle.bitcode_untyped.specs.Faults.{faults_of}

@@ -1,7 +1,7 @@
 -- What writing a value under a node leaves.
 use Rattle.std.specs.Prelude.{◌≡◌, ℕ, zero, suc, Result, OnOk, IfErr, List, [], ◌∷◌, Bool, true, false}
-use Rattle.bitcode_columns.specs.declared.error.Error.{Error}
-use Rattle.bitcode_columns.specs.declared.error.Reason.{Reason}
+use Rattle.bitcode_memory.specs.declared.error.Error.{Error}
+use Rattle.bitcode_memory.specs.declared.error.Reason.{Reason}
 use Rattle.bitcode_shapes.specs.Datum.{Datum}
 use Rattle.bitcode_shapes.specs.Shape.{Allowed}
 use Rattle.bitcode_coder.specs.Columns.{Kind}

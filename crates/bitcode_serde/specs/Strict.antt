@@ -1,7 +1,7 @@
 -- What a strict reading of a whole input accepts, and why it refuses.
 use Rattle.std.specs.Prelude.{◌≡◌, ℕ, List}
-use Rattle.bitcode_columns.specs.declared.error.Reason.{Reason}
-use Rattle.bitcode_columns.specs.declared.error.Reason.TheVariants.{OutOfMemory, NotTheWrittenText}
+use Rattle.bitcode_memory.specs.declared.error.Reason.{Reason}
+use Rattle.bitcode_memory.specs.declared.error.Reason.TheVariants.{OutOfMemory, NotTheWrittenText}
 use Rattle.bitcode_shapes.specs.Datum.{Datum}
 use Rattle.bitcode_untyped.specs.ShapeTree.{ShapeTree}
 use Rattle.bitcode_untyped.specs.Spelling.{SpellsDatum}

@@ -1,6 +1,6 @@
 -- The columns that a writer fills.
 use Rattle.std.specs.Prelude.{List, map, pos, true, false, None}
-use Rattle.bitcode_columns.specs.Fast.{fast_items}
+use Rattle.bitcode_memory.specs.Fast.{fast_items}
 use Rattle.bitcode_shapes.specs.Datum.{Datum, number, text}
 use Rattle.bitcode_coder.specs.Columns.{Kind, bools, ints, lengths, texts}
 use Rattle.bitcode_coder.specs.Cutting.{cut}

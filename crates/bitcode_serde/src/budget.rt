@@ -3,7 +3,7 @@ ghost use Rattle.std.specs.Prelude.{◌≡◌, ◌++◌, ◌∷◌, [], OnOk, If
 ghost use Rattle.bitcode_serde.specs.Budget.{IsLeft, spend};
 ghost use Rattle.bitcode_serde.specs.declared.budget.Budget.TheVariants.{Spent};
 
-use bitcode_columns::error::{Error, Reason};
+use bitcode_memory::error::{Error, Reason};
 use std::alloc::Global;
 
 /// How many more nodes of a value may be kept.

@@ -6,8 +6,8 @@ ghost use Rattle.bitcode_serde.specs.Serializing.{IsLeaf, IsEntryAt, HasOneFault
 ghost use Rattle.bitcode_serde.specs.WrittenColumns.{kind_of_entry, datum_of_entry};
 
 use crate::written::Entry;
-use bitcode_columns::error::{Error, Reason};
-use bitcode_columns::refuse::err;
+use bitcode_memory::error::{Error, Reason};
+use bitcode_memory::refuse::err;
 use bitcode_untyped::shape::ShapeNode;
 use bitcode_untyped::value::Value;
 

@@ -16,8 +16,8 @@ use crate::budget::Budget;
 use crate::column::ColumnKind;
 use crate::reader::Reader;
 use crate::step::Step;
-use bitcode_columns::error::{Error, Reason};
-use bitcode_columns::refuse::err;
+use bitcode_memory::error::{Error, Reason};
+use bitcode_memory::refuse::err;
 use bitcode_untyped::shape::ShapeNode;
 use bitcode_untyped::value::Value;
 

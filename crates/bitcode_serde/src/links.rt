@@ -6,7 +6,7 @@ ghost use Rattle.bitcode_serde.specs.declared.step.Step.{Step as CodeStep};
 ghost use Rattle.bitcode_serde.specs.Links.{link_of, HasRoom};
 
 use crate::step::Step;
-use bitcode_columns::error::{Error, Reason};
+use bitcode_memory::error::{Error, Reason};
 use std::alloc::Global;
 
 /// The links of a place: the number of its column, and the numbers of the places one step below it.

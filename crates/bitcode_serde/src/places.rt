@@ -11,7 +11,7 @@ ghost use Rattle.bitcode_serde.specs.Places.{LinkBelow, IsGrown};
 
 use crate::links::Links;
 use crate::step::Step;
-use bitcode_columns::error::{Error, Reason};
+use bitcode_memory::error::{Error, Reason};
 use std::alloc::Global;
 
 /// A place below another.

@@ -17,8 +17,8 @@ use crate::column::{Column, ColumnKind};
 use crate::places::Places;
 use crate::step::Step;
 use bitcode_coder::coder::both;
-use bitcode_columns::error::{Error, Reason};
-use bitcode_columns::refuse::err;
+use bitcode_memory::error::{Error, Reason};
+use bitcode_memory::refuse::err;
 use bitcode_untyped::value::Value;
 use std::alloc::Global;
 

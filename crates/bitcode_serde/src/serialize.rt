@@ -12,7 +12,7 @@ ghost use Rattle.bitcode_serde.specs.Writing.{IsWriterReason};
 use crate::deserialize::REF_LIMIT;
 use crate::walk::write;
 use crate::writer::Writer;
-use bitcode_columns::error::Error;
+use bitcode_memory::error::Error;
 use bitcode_untyped::shape::Shape;
 use bitcode_untyped::value::Value;
 use std::alloc::Global;

@@ -4,7 +4,7 @@
 ghost use Rattle.std.specs.Prelude.{◌≡◌, ◌≢◌, ℕ, ◌≤◌, List, [], ◌∷◌, ◌++◌, length, map, slice_get, nat_lt};
 ghost use Rattle.std.specs.Prelude.{if◌then◌else◌, IfOk, IfErr, OnOk};
 ghost use Rattle.std.specs.List.{flat_map};
-ghost use Rattle.bitcode_columns.specs.declared.error.Reason.TheVariants.{TooManyVariants};
+ghost use Rattle.bitcode_memory.specs.declared.error.Reason.TheVariants.{TooManyVariants};
 ghost use Rattle.bitcode_shapes.specs.Datum.{choice, list, tuple, pair, data_of};
 ghost use Rattle.bitcode_coder.specs.Spelling.{natural};
 ghost use Rattle.bitcode_untyped.specs.Faults.{faults_of, faults_of_fields, faults_of_variant};
@@ -21,8 +21,8 @@ use crate::leaf::column_kind;
 use crate::step::Step;
 use crate::writer::Writer;
 use crate::written::Entry;
-use bitcode_columns::error::{Error, Reason};
-use bitcode_columns::refuse::err;
+use bitcode_memory::error::{Error, Reason};
+use bitcode_memory::refuse::err;
 use bitcode_untyped::shape::ShapeNode;
 use bitcode_untyped::value::Value;
 

@@ -23,7 +23,7 @@ use crate::places::Places;
 use crate::step::Step;
 pub use crate::writer::state::{PlacedWritten, Writer};
 use crate::written::{Entry, WrittenColumn};
-use bitcode_columns::error::{Error, Reason};
+use bitcode_memory::error::{Error, Reason};
 use bitcode_untyped::value::Value;
 use std::alloc::Global;
 use std::slice::from_ref;

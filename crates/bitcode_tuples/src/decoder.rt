@@ -5,7 +5,7 @@ ghost use Rattle.bitcode_tuples.specs.Pairs.{pairs_of, FaultsBehind};
 ghost use Rattle.bitcode_tuples.specs.PairLaws.{same_pair_shape};
 
 use bitcode_coder::coder::{Decoder, HoldsData, View, both};
-use bitcode_columns::error::Error;
+use bitcode_memory::error::Error;
 use bitcode_shapes::shaped::Made;
 use std::alloc::Global;
 

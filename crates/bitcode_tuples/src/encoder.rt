@@ -6,7 +6,7 @@ ghost use Rattle.bitcode_tuples.specs.PairLaws.{both_of_shape, both_surely};
 use crate::fields::FieldsEncoder;
 use bitcode_coder::coder::{Buffer, Encoder, HoldsColumns};
 use bitcode_coder::part::{First, Part, Second, told_parts};
-use bitcode_columns::error::Error;
+use bitcode_memory::error::Error;
 use bitcode_shapes::shaped::Shaped;
 use std::alloc::Global;
 

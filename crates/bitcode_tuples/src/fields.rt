@@ -7,7 +7,7 @@ ghost use Rattle.bitcode_coder.specs.Coder.{IsWritingRefusal};
 use crate::encoder::TupleEncoder;
 use bitcode_coder::coder::{Buffer, Encoder, HoldsColumns};
 use bitcode_coder::one::write_one;
-use bitcode_columns::error::{Error, Reason};
+use bitcode_memory::error::{Error, Reason};
 use bitcode_shapes::shaped::Shaped;
 
 /// References to the fields of a value: to its only field, or a pair of the first one and the rest.

@@ -15,7 +15,7 @@ use crate::has_field::{FieldIn, HasField, Nothing, Nth};
 use bitcode_coder::coder::{Buffer, Encoder, HoldsColumns, MAX_VECTORED_CHUNK};
 use bitcode_coder::one::write_one;
 use bitcode_coder::part::Part;
-use bitcode_columns::error::{Error, Reason};
+use bitcode_memory::error::{Error, Reason};
 use bitcode_shapes::shaped::Shaped;
 use std::marker::PhantomData;
 

@@ -7,7 +7,7 @@ ghost use Rattle.bitcode_tuples.specs.Pairs.{EachListed};
 use crate::part_encoder::PartEncoder;
 use bitcode_coder::coder::{Buffer, Encoder, HoldsColumns};
 use bitcode_coder::part::{Part, told_parts};
-use bitcode_columns::error::Error;
+use bitcode_memory::error::Error;
 use bitcode_shapes::shaped::Shaped;
 use std::alloc::Global;
 

@@ -2,8 +2,8 @@
 use Rattle.std.proofs.Common.{◌≡◌, ℕ, zero, suc, ◌≤◌, ◌<◌, Bool, true, false, ◌&&◌, List, [], ◌∷◌, ◌++◌, map, Some, None, slice_get, inl, inr, nat_lt, if◌then◌else◌, pos, string_bytes, refl, sym, ap, subst, ◌∙◌, arith}
 use Rattle.std.specs.List.{flat_map, list_all, AllByRecursion}
 use Rattle.std.proofs.lemmas.Bool.{cases_Bool, ltb-true, ltb-false}
-use Rattle.bitcode_columns.specs.declared.error.Reason.{Reason}
-use Rattle.bitcode_columns.specs.declared.error.Reason.TheVariants.{TooManyVariants, NotOfTheShape, NestedTooDeep}
+use Rattle.bitcode_memory.specs.declared.error.Reason.{Reason}
+use Rattle.bitcode_memory.specs.declared.error.Reason.TheVariants.{TooManyVariants, NotOfTheShape, NestedTooDeep}
 use Rattle.bitcode_shapes.specs.Datum.{Datum, list, pair, data_of, list_of}
 use Rattle.bitcode_shapes.specs.Shape.{any_number}
 use Rattle.bitcode_coder.specs.Spelling.{natural}

@@ -2,8 +2,8 @@
 use Rattle.std.proofs.Common.{◌≡◌, ℕ, List, [], ◌∷◌, ◌++◌, map, Option, Some, None, slice_get, inl, inr, nat_lt, if◌then◌else◌, refl, sym, ap, subst, ◌∙◌}
 use Rattle.std.specs.List.{flat_map}
 use Rattle.std.proofs.lemmas.Bool.{cases_Bool}
-use Rattle.bitcode_columns.specs.declared.error.Reason.{Reason}
-use Rattle.bitcode_columns.specs.declared.error.Reason.TheVariants.{TooManyVariants}
+use Rattle.bitcode_memory.specs.declared.error.Reason.{Reason}
+use Rattle.bitcode_memory.specs.declared.error.Reason.TheVariants.{TooManyVariants}
 use Rattle.bitcode_shapes.specs.Datum.{Datum, list, tuple, choice, pair, data_of, list_of, elements_in, fields_in, first_in, second_in, variant_in, payload_in}
 use Rattle.bitcode_untyped.specs.Content.{case_number, content_step, content_of, DatumDecides}
 use Rattle.bitcode_untyped.specs.Faults.{Followed, stands, too_deep, nowhere, follow, Judge, faults_of, faults_at, faults_by, faults_of_fields, faults_of_variant}

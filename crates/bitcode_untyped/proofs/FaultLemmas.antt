@@ -2,7 +2,7 @@
 use Rattle.std.proofs.Common.{◌≡◌, ℕ, suc, Bool, ℤ, List, [], ◌∷◌, ◌++◌, map, Some, None, Vec, Box, String, Global, slice_get, sym, ◌∙◌, ap, nat_lt, if◌then◌else◌}
 use Rattle.std.specs.List.{flat_map}
 use Rattle.std.proofs.lemmas.List.Folds.{flat_map-map}
-use Rattle.bitcode_columns.specs.declared.error.Reason.TheVariants.{TooManyVariants, NotOfTheShape, NestedTooDeep}
+use Rattle.bitcode_memory.specs.declared.error.Reason.TheVariants.{TooManyVariants, NotOfTheShape, NestedTooDeep}
 use Rattle.bitcode_untyped.specs.Faults.{follow, follow_entry, Judge, faults_of_fields, faults_of_variant, faults_of, faults_step, faults_at}
 use Rattle.bitcode_untyped.specs.declared.shape.ShapeNode.{ShapeNode}
 use Rattle.bitcode_untyped.specs.declared.shape.ShapeNode.TheVariants as node

@@ -1,6 +1,6 @@
 -- A value of another case than its node has one fault.
 use Rattle.std.proofs.Common.{◌≡◌, ℕ, Bool, ℤ, List, [], ◌∷◌, Option, Some, None, Vec, Box, String, Global, refl, sym, ◌∙◌, ap}
-use Rattle.bitcode_columns.specs.declared.error.Reason.TheVariants.{NotOfTheShape}
+use Rattle.bitcode_memory.specs.declared.error.Reason.TheVariants.{NotOfTheShape}
 use Rattle.bitcode_untyped.specs.Faults.{stands, Judge, faults_of, faults_at}
 use Rattle.bitcode_untyped.specs.declared.shape.ShapeNode.{ShapeNode}
 use Rattle.bitcode_untyped.specs.declared.shape.ShapeNode.TheOpen.{ShapeNode-F}

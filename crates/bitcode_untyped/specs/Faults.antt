@@ -1,8 +1,8 @@
 -- Why a value is not of a shape: every fault that stands in it. A value is of the shape where there is none.
 use Rattle.std.specs.Prelude.{ℕ, zero, suc, Option, Some, None, List, [], ◌∷◌, ◌++◌, slice_get, nat_lt, if◌then◌else◌}
 use Rattle.std.specs.List.{flat_map}
-use Rattle.bitcode_columns.specs.declared.error.Reason.{Reason}
-use Rattle.bitcode_columns.specs.declared.error.Reason.TheVariants.{TooManyVariants, NotOfTheShape, NestedTooDeep}
+use Rattle.bitcode_memory.specs.declared.error.Reason.{Reason}
+use Rattle.bitcode_memory.specs.declared.error.Reason.TheVariants.{TooManyVariants, NotOfTheShape, NestedTooDeep}
 use Rattle.bitcode_untyped.specs.ShapeTree.{greatest_index}
 use Rattle.bitcode_untyped.specs.View.{reference_limit}
 use Rattle.bitcode_untyped.specs.declared.value.Value.{Value, fold-Value}

@@ -1,6 +1,6 @@
 -- Worked rows: the columns of some data, and what is written for them, computed from the definitions.
 use Rattle.std.specs.Prelude.{◌≡◌, ℕ, zero, suc, false, negsuc, List, [], ◌∷◌, ◌++◌, replicate, refl}
-use Rattle.bitcode_columns.specs.LittleEndian.{raw_text}
+use Rattle.bitcode_memory.specs.LittleEndian.{raw_text}
 use Rattle.bitcode_columns.specs.Digits.{digits_text}
 use Rattle.bitcode_columns.specs.Tagged.{tagged_text}
 use Rattle.bitcode_columns.specs.ByteColumn.{byte_text}

@@ -7,7 +7,7 @@ use Rattle.std.specs.List.{list_all, AllByRecursion}
 use Rattle.std.specs.declared.alloc.Global.{Global}
 use Rattle.std.specs.declared.boxed.Box.{Box}
 use Rattle.std.specs.declared.vec.Vec.{Vec}
-use Rattle.bitcode_columns.specs.declared.error.Reason.TheVariants.{TooManyVariants, NotOfTheShape, NestedTooDeep}
+use Rattle.bitcode_memory.specs.declared.error.Reason.TheVariants.{TooManyVariants, NotOfTheShape, NestedTooDeep}
 use Rattle.bitcode_shapes.specs.Datum.{Datum, unit, list, tuple, choice, data_of, elements_in}
 use Rattle.bitcode_coder.specs.Spelling.{natural}
 use Rattle.bitcode_untyped.specs.ShapeTree.{IsOf, unit_tree, seq_tree, tuple_tree, choice_tree, bool_tree, char_tree, option_tree}

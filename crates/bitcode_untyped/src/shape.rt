@@ -1,10 +1,10 @@
 //! Shapes: tables of nodes that may refer to each other.
 ghost use Rattle.std.specs.Prelude.{◌≡◌, ◌↔◌, IsTrue, IfOk, IfErr};
 ghost use Rattle.std.specs.List.{list_all};
-ghost use Rattle.bitcode_columns.specs.declared.error.Reason.TheVariants.{BadShape};
+ghost use Rattle.bitcode_memory.specs.declared.error.Reason.TheVariants.{BadShape};
 ghost use Rattle.bitcode_untyped.specs.References.{refers_soundly, IsSoundTable};
 
-use bitcode_columns::error::{Error, Reason};
+use bitcode_memory::error::{Error, Reason};
 
 /// The values at one place: values of one type, or composite values whose parts have further nodes.
 ///

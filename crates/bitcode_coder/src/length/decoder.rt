@@ -3,9 +3,9 @@
 
 ghost use Rattle.std.specs.Prelude.{◌≡◌, ◌≢◌, ℕ, ◌+◌, ◌<◌, ◌≤◌, [], ◌∷◌, ◌++◌, ◌↔◌, IsTrue, Some, None, ◌^◌, pos};
 ghost use Rattle.std.specs.Prelude.{length, map, drop, sum, All, MatchBool, IfSome, IfOk, OnOk, IfErr, OnErr};
-ghost use Rattle.bitcode_columns.specs.Fast.{cow_rest};
+ghost use Rattle.bitcode_memory.specs.Fast.{cow_rest};
 ghost use Rattle.bitcode_columns.specs.IntColumn.{SpellsInts, int_text};
-ghost use Rattle.bitcode_columns.specs.LittleEndian.{little_endian};
+ghost use Rattle.bitcode_memory.specs.LittleEndian.{little_endian};
 ghost use Rattle.bitcode_columns.specs.Reading.{Reads, IsEndOf};
 ghost use Rattle.bitcode_coder.specs.Faults.{NamesIntsFault};
 ghost use Rattle.bitcode_coder.specs.LengthColumn.{SpellsLengths, KeepsCap, length_limit, length_bytes, lengths_from};
@@ -14,11 +14,11 @@ ghost use Rattle.bitcode_coder.specs.LengthParts.{escapes, ReadsParts, sum_fault
 
 use crate::coder::both;
 use crate::length::ESCAPE;
-use bitcode_columns::error::{Error, Reason};
-use bitcode_columns::fast::CowSlice;
-use bitcode_columns::ints::known_bytes;
-use bitcode_columns::refuse::err;
 use bitcode_columns::strict::{read_bytes, read_ints};
+use bitcode_memory::error::{Error, Reason};
+use bitcode_memory::fast::CowSlice;
+use bitcode_memory::ints::known_bytes;
+use bitcode_memory::refuse::err;
 use std::alloc::Global;
 
 // Read lengths sum to less than this: what isize can hold, divided by 4096.

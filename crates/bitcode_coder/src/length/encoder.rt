@@ -4,7 +4,7 @@
 ghost use Rattle.std.specs.Prelude.{◌≡◌, ◌+◌, ◌<◌, ◌≤◌, ◌++◌, [], ◌∷◌, None, length, map, All, pos, IsTrue, IsFalse};
 ghost use Rattle.std.specs.Prelude.{IsOk, OnOk, IfErr, OnErr};
 ghost use Rattle.bitcode_columns.specs.ByteColumn.{byte_text};
-ghost use Rattle.bitcode_columns.specs.Fast.{fast_items, fast_room};
+ghost use Rattle.bitcode_memory.specs.Fast.{fast_items, fast_room};
 ghost use Rattle.bitcode_columns.specs.IntColumn.{int_text};
 ghost use Rattle.bitcode_coder.specs.Coder.{BeginsWith};
 ghost use Rattle.bitcode_coder.specs.Columns.{lengths, one};
@@ -15,10 +15,10 @@ ghost use Rattle.bitcode_coder.specs.Spelling.{natural};
 use crate::coder::{Buffer, HoldsColumns};
 use crate::length::{ChunkWidth, ESCAPE, Len};
 use crate::one::write_length;
-use bitcode_columns::error::{Error, Reason};
-use bitcode_columns::fast::{FastVec, PushUnchecked};
 use bitcode_columns::pack::pack_bytes;
 use bitcode_columns::pack_ints::pack_ints;
+use bitcode_memory::error::{Error, Reason};
+use bitcode_memory::fast::{FastVec, PushUnchecked};
 use std::alloc::Global;
 use std::mem::replace;
 

@@ -4,7 +4,7 @@ ghost use Rattle.std.specs.Prelude.{drop, map, sum, vec_len, vec_capacity, All, 
 ghost use Rattle.std.specs.Prelude.{IfErr, OnErr};
 ghost use Rattle.std.specs.Str.{IsAscii, IsCharBoundary};
 ghost use Rattle.std.proofs.Props.{props};
-ghost use Rattle.bitcode_columns.specs.Fast.{slice_rest};
+ghost use Rattle.bitcode_memory.specs.Fast.{slice_rest};
 ghost use Rattle.bitcode_columns.specs.Reading.{Reads, IsEndOf};
 ghost use Rattle.bitcode_shapes.specs.Datum.{text};
 ghost use Rattle.bitcode_shapes.specs.Shape.{text_shape};
@@ -18,10 +18,10 @@ ghost use Rattle.bitcode_coder.specs.TextParts.{NamesTextFault};
 
 use crate::coder::{Decoder, HoldsData, View};
 use crate::length::LengthDecoder;
-use bitcode_columns::consume::consume_bytes;
-use bitcode_columns::error::{Error, Reason};
-use bitcode_columns::fast::{FastSlice, NextUnchecked};
-use bitcode_columns::refuse::err;
+use bitcode_memory::consume::consume_bytes;
+use bitcode_memory::error::{Error, Reason};
+use bitcode_memory::fast::{FastSlice, NextUnchecked};
+use bitcode_memory::refuse::err;
 use std::alloc::Global;
 use std::boxed::BoxedStr;
 use std::rc::RcStr;

@@ -2,7 +2,7 @@
 ghost use Rattle.std.specs.Prelude.{◌≡◌, ◌+◌, ◌*◌, ◌<◌, ◌≤◌, ◌++◌, [], ◌∷◌, None, false, length, map, take, sum, IfOk};
 ghost use Rattle.std.specs.Prelude.{OnOk, IfErr};
 ghost use Rattle.std.proofs.Common.{sym};
-ghost use Rattle.bitcode_columns.specs.Fast.{fast_items, fast_room, fast_capacity};
+ghost use Rattle.bitcode_memory.specs.Fast.{fast_items, fast_room, fast_capacity};
 ghost use Rattle.bitcode_shapes.specs.Datum.{text};
 ghost use Rattle.bitcode_coder.specs.Coder.{BeginsWith};
 ghost use Rattle.bitcode_coder.specs.Columns.{texts, one};
@@ -15,8 +15,8 @@ use crate::length::LengthEncoder;
 use crate::one::write_length;
 use crate::part::Part;
 use crate::str::AsText;
-use bitcode_columns::error::{Error, Reason};
-use bitcode_columns::fast::FastVec;
+use bitcode_memory::error::{Error, Reason};
+use bitcode_memory::fast::FastVec;
 use std::alloc::Global;
 use std::mem::replace;
 

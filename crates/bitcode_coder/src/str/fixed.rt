@@ -1,7 +1,7 @@
 //! The decoder of texts with a fixed capacity.
 ghost use Rattle.std.specs.Prelude.{◌≡◌, ◌≢◌, ◌≤◌, [], Some, true, refl, length, map, All};
 ghost use Rattle.std.proofs.Props.{props};
-ghost use Rattle.bitcode_columns.specs.Fast.{slice_rest};
+ghost use Rattle.bitcode_memory.specs.Fast.{slice_rest};
 ghost use Rattle.bitcode_shapes.specs.Datum.{text};
 ghost use Rattle.bitcode_shapes.specs.Shape.{text_shape};
 ghost use Rattle.bitcode_coder.specs.Cutting.{cut};
@@ -11,8 +11,8 @@ ghost use Rattle.bitcode_coder.specs.TextParts.{NamesLimitedTextFault};
 use crate::coder::{Decoder, HoldsData, View};
 use crate::str::StrDecoder;
 use arrayvec::ArrayString;
-use bitcode_columns::error::{Error, Reason};
-use bitcode_columns::refuse::err;
+use bitcode_memory::error::{Error, Reason};
+use bitcode_memory::refuse::err;
 use std::alloc::Global;
 
 /// The column that texts of at most `N` bytes each are read from. Making a value does not allocate.

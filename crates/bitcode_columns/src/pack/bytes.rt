@@ -2,22 +2,22 @@
 ghost use Rattle.std.specs.Prelude.{◌≡◌, ◌≢◌, ℕ, ◌+◌, ◌%◌, ◌/◌, ◌<◌, ◌≤◌, ◌++◌, ◌-ℤ◌, ◌≤ℤ◌, pos, int_lt, unsigned_abs};
 ghost use Rattle.std.specs.Prelude.{vec_len, vec_capacity, if◌then◌else◌, List, Option, Some, All, length, map, IsTrue};
 ghost use Rattle.std.specs.Prelude.{OnOk, IfOk, IfErr, OnErr};
-ghost use Rattle.bitcode_columns.specs.declared.error.Reason.{Reason};
+ghost use Rattle.bitcode_memory.specs.declared.error.Reason.{Reason};
 ghost use Rattle.bitcode_columns.specs.ByteColumn.{SpellsBytes, byte_text, highest_byte_tag};
 ghost use Rattle.bitcode_columns.specs.ByteForm.{TellsForm};
 ghost use Rattle.bitcode_columns.specs.Digits.{base_for};
-ghost use Rattle.bitcode_columns.specs.Fast.{cow_rest};
-ghost use Rattle.bitcode_columns.specs.Ints.{residue};
+ghost use Rattle.bitcode_memory.specs.Fast.{cow_rest};
+ghost use Rattle.bitcode_memory.specs.Ints.{residue};
 ghost use Rattle.bitcode_columns.specs.Reading.{Reads, IsEndOf, Names, tagged_fault, bytes_fault, bytes_stand_raw};
 
-use crate::consume::{consume_byte, consume_bytes};
 use crate::digits::{pack_digits, unpack_digits};
-use crate::error::{Error, Reason};
-use crate::fast::CowSlice;
-use crate::ints::{Byte, known_bytes};
-use crate::minmax::minmax;
 use crate::pack::{Base, MOST_WITHOUT_TAG};
-use crate::refuse::err;
+use bitcode_memory::consume::{consume_byte, consume_bytes};
+use bitcode_memory::error::{Error, Reason};
+use bitcode_memory::fast::CowSlice;
+use bitcode_memory::ints::{Byte, known_bytes};
+use bitcode_memory::minmax::minmax;
+use bitcode_memory::refuse::err;
 use std::alloc::Global;
 
 /// The tag of the highest level.

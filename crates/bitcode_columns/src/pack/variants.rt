@@ -4,19 +4,19 @@ ghost use Rattle.std.specs.Prelude.{OnOk, IfErr, OnErr, vec_len, vec_capacity};
 ghost use Rattle.std.specs.List.{list_all};
 ghost use Rattle.bitcode_columns.specs.Histogram.{AreCounts};
 ghost use Rattle.bitcode_columns.specs.Digits.{SpellsDigits, base_for, radix};
-ghost use Rattle.bitcode_columns.specs.Fast.{cow_rest};
+ghost use Rattle.bitcode_memory.specs.Fast.{cow_rest};
 ghost use Rattle.bitcode_columns.specs.Reading.{Reads, IsEndOf, Names, NamesVariantFault, digits_fault};
 ghost use Rattle.bitcode_columns.specs.Reading.{variants_stand_raw};
 ghost use Rattle.bitcode_columns.specs.VariantColumn.{SpellsVariants, variant_text};
 
-use crate::consume::consume_bytes;
 use crate::digits::{pack_digits, unpack_digits};
-use crate::error::{Error, Reason};
-use crate::fast::CowSlice;
 use crate::pack::Base;
 use crate::pack::bytes::borrow_bytes;
 use crate::pack::variants::counts::packed_counts;
-use crate::refuse::err;
+use bitcode_memory::consume::consume_bytes;
+use bitcode_memory::error::{Error, Reason};
+use bitcode_memory::fast::CowSlice;
+use bitcode_memory::refuse::err;
 use std::alloc::Global;
 
 mod counts;

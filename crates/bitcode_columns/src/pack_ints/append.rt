@@ -1,19 +1,19 @@
 //! Appending the column of a list of integers.
 ghost use Rattle.std.specs.Prelude.{◌≡◌, ◌≢◌, ◌+◌, ◌-◌, ◌*◌, ◌%◌, ◌^◌, ◌<◌, ◌≤◌, ◌∷◌, ◌++◌, true, false, length, map};
 ghost use Rattle.std.specs.Prelude.{All, vec_len, vec_capacity, IsTrue, IsOk, OnOk, IfErr};
-ghost use Rattle.bitcode_columns.specs.LittleEndian.{number_bytes};
-ghost use Rattle.bitcode_columns.specs.Ints.{IsNumber, residue, least, greatest};
+ghost use Rattle.bitcode_memory.specs.LittleEndian.{number_bytes};
+ghost use Rattle.bitcode_memory.specs.Ints.{IsNumber, residue, least, greatest};
 ghost use Rattle.bitcode_columns.specs.Narrowing.{above, plain_width, shifted_width, narrow_width, TakesNoScratch};
 ghost use Rattle.bitcode_columns.specs.Narrowing.{IsFrontOf};
-ghost use Rattle.bitcode_columns.specs.IntWidths.{IsWidth};
+ghost use Rattle.bitcode_memory.specs.IntWidths.{IsWidth};
 ghost use Rattle.bitcode_columns.specs.IntColumn.{halvings, narrow_text, int_level_for, text_at_int_level, int_text};
 ghost use Rattle.bitcode_columns.specs.Tagged.{tag_of, tagged_text};
 
-use crate::error::{Error, Reason};
-use crate::ints::{Int, SizedUInt};
-use crate::minmax::bounds;
 use crate::pack_ints::width::{is_bare, is_shifted, plain_width, shifted_width, tag_for};
 use crate::pack_ints::write::{write_column, write_narrow, write_numbers};
+use bitcode_memory::error::{Error, Reason};
+use bitcode_memory::ints::{Int, SizedUInt};
+use bitcode_memory::minmax::bounds;
 use std::alloc::Global;
 
 // So many entries are looked at before all are.

@@ -2,26 +2,26 @@
 ghost use Rattle.std.specs.Prelude.{◌≡◌, ◌≢◌, ℕ, Option, Some, ◌+◌, ◌*◌, ◌%◌, ◌^◌, ◌<◌, ◌≤◌, List, ◌++◌, length, take};
 ghost use Rattle.std.specs.Prelude.{map, All, IsTrue, IsErr, IfOk, OnOk, IfErr, OnErr, ◌↔◌};
 ghost use Rattle.std.specs.Simd.{first_chunks};
-ghost use Rattle.bitcode_columns.specs.declared.error.Reason.{Reason};
-ghost use Rattle.bitcode_columns.specs.Fast.{cow_rest};
+ghost use Rattle.bitcode_memory.specs.declared.error.Reason.{Reason};
+ghost use Rattle.bitcode_memory.specs.Fast.{cow_rest};
 ghost use Rattle.bitcode_columns.specs.ByteColumn.{SpellsBytes};
-ghost use Rattle.bitcode_columns.specs.IntWidths.{IsWidth};
+ghost use Rattle.bitcode_memory.specs.IntWidths.{IsWidth};
 ghost use Rattle.bitcode_columns.specs.IntColumn.{SpellsInts, SpellsNarrow, SpellsAtIntLevel, tagged_form, halvings};
 ghost use Rattle.bitcode_columns.specs.IntColumn.{highest_int_tag, width_at_level};
 ghost use Rattle.bitcode_columns.specs.IntHeader.{TellsLevel, ReadsWidened};
-ghost use Rattle.bitcode_columns.specs.LittleEndian.{SpellsRaw, little_endian};
+ghost use Rattle.bitcode_memory.specs.LittleEndian.{SpellsRaw, little_endian};
 ghost use Rattle.bitcode_columns.specs.Tagged.{SpellsTagged};
 ghost use Rattle.bitcode_columns.specs.Reading.{Reads, IsEndOf, Names, missing, tagged_fault, bytes_fault};
 ghost use Rattle.bitcode_columns.specs.Reading.{narrow_fault, ints_fault_as, ints_fault, has_raw_tag, bytes_stand_raw};
 ghost use Rattle.bitcode_columns.specs.Reading.{ints_stand_raw};
 
-use crate::consume::{consume_byte, consume_bytes};
-use crate::error::{Error, Reason};
-use crate::fast::CowSlice;
-use crate::ints::{Int, SizedUInt, known_bytes};
 use crate::pack::{MOST_WITHOUT_TAG, unpack_bytes};
 use crate::pack_ints::width::halvings;
-use crate::refuse::err;
+use bitcode_memory::consume::{consume_byte, consume_bytes};
+use bitcode_memory::error::{Error, Reason};
+use bitcode_memory::fast::CowSlice;
+use bitcode_memory::ints::{Int, SizedUInt, known_bytes};
+use bitcode_memory::refuse::err;
 use std::alloc::Global;
 
 // The bytes of a narrow number and the least entry together.

@@ -3,7 +3,7 @@ ghost use Rattle.std.specs.Prelude.{◌≡◌, ◌-◌, ◌*◌, ◌≤◌, ◌�
 ghost use Rattle.bitcode_columns.specs.IntColumn.{halvings, width_for};
 ghost use Rattle.bitcode_columns.specs.Narrowing.{plain_width, shifted_width};
 
-use crate::ints::{Int, SizedUInt};
+use bitcode_memory::ints::{Int, SizedUInt};
 
 // The least width, in bytes, that holds a number.
 pub(crate) fn width_for(number: u128) -> usize

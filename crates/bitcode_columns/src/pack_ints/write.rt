@@ -2,16 +2,16 @@
 ghost use Rattle.std.specs.Prelude.{◌≡◌, ◌≢◌, ◌+◌, ◌*◌, ◌%◌, ◌^◌, ◌<◌, ◌≤◌, ◌++◌, length, map, All, vec_len};
 ghost use Rattle.std.specs.Prelude.{vec_capacity, IsOk, IfOk, OnOk, IfErr};
 ghost use Rattle.bitcode_columns.specs.ByteColumn.{byte_text};
-ghost use Rattle.bitcode_columns.specs.IntWidths.{IsWidth};
+ghost use Rattle.bitcode_memory.specs.IntWidths.{IsWidth};
 ghost use Rattle.bitcode_columns.specs.IntColumn.{narrow_text};
-ghost use Rattle.bitcode_columns.specs.LittleEndian.{raw_text};
+ghost use Rattle.bitcode_memory.specs.LittleEndian.{raw_text};
 ghost use Rattle.bitcode_columns.specs.Narrowing.{above, IsFrontOf};
-ghost use Rattle.bitcode_columns.specs.Ints.{IsNumber, number_of};
+ghost use Rattle.bitcode_memory.specs.Ints.{IsNumber, number_of};
 
-use crate::error::{Error, Reason};
-use crate::ints::{Byte, Int, SizedUInt};
 use crate::pack::pack_bytes;
-use crate::refuse::err;
+use bitcode_memory::error::{Error, Reason};
+use bitcode_memory::ints::{Byte, Int, SizedUInt};
+use bitcode_memory::refuse::err;
 use std::alloc::Global;
 
 // This many bytes form a block, which is written over new zeros. The processor still has these in its cache. While the

@@ -1,11 +1,11 @@
 // Written by scripts/tables/integers.
 //! The coders of integers.
 use crate::derive::{DecodeOwned, HasDecoder, HasEncoder};
-use bitcode_ints::signed::{
+use bitcode_ints::signed_coders::{
     I8Decoder, I8Encoder, I16Decoder, I16Encoder, I32Decoder, I32Encoder, I64Decoder, I64Encoder,
     I128Decoder, I128Encoder, IsizeDecoder, IsizeEncoder,
 };
-use bitcode_ints::unsigned::{
+use bitcode_ints::unsigned_coders::{
     U8Decoder, U8Encoder, U16Decoder, U16Encoder, U32Decoder, U32Encoder, U64Decoder, U64Encoder,
     U128Decoder, U128Encoder, UsizeDecoder, UsizeEncoder,
 };

@@ -2,7 +2,7 @@
 //! The coders of texts.
 use crate::derive::{DecodeOwned, HasDecoder, HasEncoder};
 use bitcode_coder::str::{StrDecoder, StrEncoder};
-use bitcode_coder::u8_char::{U8Char, U8CharEncoder};
+use bitcode_ints::u8_char::{U8Char, U8CharEncoder};
 use std::boxed::BoxedStr;
 use std::rc::RcStr;
 

@@ -10,7 +10,7 @@ use crate::choices::gathered::{SaysVariant, gather_variants};
 use crate::choices::variant::{VariantDecoder, VariantEncoder};
 use bitcode_coder::coder::{Buffer, Decoder, Encoder, HoldsColumns, MAX_VECTORED_CHUNK};
 use bitcode_coder::part::Part;
-use bitcode_columns::error::Error;
+use bitcode_memory::error::Error;
 use bitcode_shapes::bare_variants::{BareMade, BareShaped, BareVariants};
 use std::alloc::Global;
 

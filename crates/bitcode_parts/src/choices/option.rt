@@ -16,7 +16,7 @@ use bitcode_coder::coder::{
 };
 use bitcode_coder::one::write_one;
 use bitcode_coder::part::Part;
-use bitcode_columns::error::Error;
+use bitcode_memory::error::Error;
 use bitcode_shapes::shaped::{Made, Shaped};
 use std::alloc::Global;
 

@@ -9,7 +9,7 @@ ghost use Rattle.bitcode_parts.specs.Variants.{variant_room, variant_capacity, v
 
 use crate::choices::variant::{VariantDecoder, VariantEncoder, encode_payload};
 use bitcode_coder::coder::{Buffer, Decoder, Encoder, HoldsColumns, HoldsData, View, both};
-use bitcode_columns::error::Error;
+use bitcode_memory::error::Error;
 use bitcode_shapes::shaped::{Made, Shaped};
 use std::alloc::Global;
 

@@ -3,7 +3,7 @@
 
 ghost use Rattle.std.specs.Prelude.{◌≡◌, false, ◌+◌, ◌<◌, ◌≤◌, ◌++◌, [], ◌∷◌, length, map, slice_index, All, IsTrue};
 ghost use Rattle.std.specs.Prelude.{◌↔◌, IfOk, OnOk, IfErr, OnErr};
-ghost use Rattle.bitcode_columns.specs.Fast.{fast_items};
+ghost use Rattle.bitcode_memory.specs.Fast.{fast_items};
 ghost use Rattle.bitcode_columns.specs.Histogram.{AreCounts};
 ghost use Rattle.bitcode_columns.specs.Reading.{Reads, IsEndOf};
 ghost use Rattle.bitcode_columns.specs.VariantColumn.{SpellsVariants, variant_text};
@@ -14,10 +14,10 @@ ghost use Rattle.bitcode_coder.specs.Faults.{NamesVariantsFault};
 ghost use Rattle.bitcode_coder.specs.Spelling.{natural};
 
 use bitcode_coder::coder::{Buffer, Encoder, HoldsColumns, HoldsData, MAX_VECTORED_CHUNK, View};
-use bitcode_columns::error::Error;
-use bitcode_columns::fast::{CowSlice, FastVec, PushUnchecked};
 use bitcode_columns::pack::pack_bytes_less_than;
 use bitcode_columns::strict::read_variants;
+use bitcode_memory::error::Error;
+use bitcode_memory::fast::{CowSlice, FastVec, PushUnchecked};
 use bitcode_shapes::lists::told_behind;
 use bitcode_shapes::shaped::Shaped;
 use std::alloc::Global;

@@ -5,7 +5,7 @@ ghost use Rattle.std.specs.Prelude.{IfOk, OnOk, IfErr, IfSome, IfNone};
 ghost use Rattle.std.specs.Slice.Iter.{iter_rest};
 ghost use Rattle.std.specs.VecDeque.{deque_items};
 ghost use Rattle.std.specs.VecDeque.Iter.{deque_iter_rest};
-ghost use Rattle.bitcode_columns.specs.declared.error.Reason.{Reason};
+ghost use Rattle.bitcode_memory.specs.declared.error.Reason.{Reason};
 ghost use Rattle.bitcode_shapes.specs.Datum.{Datum};
 ghost use Rattle.bitcode_shapes.specs.Shape.{seq_shape};
 ghost use Rattle.bitcode_shapes.specs.Lists.{ListsSequence};
@@ -15,7 +15,7 @@ ghost use Rattle.bitcode_coder.specs.Coder.{IsWritingRefusal, TakesEach};
 ghost use Rattle.bitcode_parts.specs.Elements.{MakesOfElements};
 
 use bitcode_coder::coder::{Decoder, Encoder};
-use bitcode_columns::error::{Error, Reason};
+use bitcode_memory::error::{Error, Reason};
 use bitcode_shapes::shaped::{Made, Shaped};
 use std::alloc::Global;
 use std::collections::{LinkedList, VecDeque, linked_list, vec_deque};

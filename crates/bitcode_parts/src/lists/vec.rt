@@ -18,7 +18,7 @@ use bitcode_coder::coder::{
 };
 use bitcode_coder::length::{LengthDecoder, LengthEncoder};
 use bitcode_coder::part::{Part, told_parts};
-use bitcode_columns::error::{Error, Reason};
+use bitcode_memory::error::{Error, Reason};
 use bitcode_shapes::shaped::Made;
 use std::alloc::Global;
 use std::collections::{LinkedList, VecDeque};

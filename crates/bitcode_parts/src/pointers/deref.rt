@@ -8,7 +8,7 @@ use crate::lists::vec::VecEncoder;
 use crate::pointers::pointed::Pointed;
 use bitcode_coder::coder::{Buffer, Encoder, HoldsColumns};
 use bitcode_coder::part::Part;
-use bitcode_columns::error::Error;
+use bitcode_memory::error::Error;
 use bitcode_shapes::shaped::Shaped;
 use std::alloc::Global;
 use std::boxed::BoxedSlice;

@@ -4,7 +4,7 @@ ghost use Rattle.std.proofs.Common.{sym, ◌∙◌};
 ghost use Rattle.bitcode_coder.specs.Coder.{MakesToo};
 
 use bitcode_coder::coder::{Decoder, HoldsData, View};
-use bitcode_columns::error::{Error, Reason};
+use bitcode_memory::error::{Error, Reason};
 use bitcode_shapes::shaped::Made;
 use std::alloc::Global;
 use std::marker::PhantomData;

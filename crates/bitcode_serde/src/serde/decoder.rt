@@ -14,10 +14,10 @@ ghost use Rattle.bitcode_coder.specs.Strict.{JudgesData};
 ghost use Rattle.bitcode_untyped.specs.Population.{count_of};
 
 use bitcode_coder::coder::{Decoder, HoldsData, View};
-use bitcode_columns::error::{Error, Reason};
-use bitcode_columns::fast::CowSlice;
 use bitcode_columns::histogram::histogram;
 use bitcode_columns::strict::read_bytes;
+use bitcode_memory::error::{Error, Reason};
+use bitcode_memory::fast::CowSlice;
 use std::alloc::Global;
 
 /// The column from which variant indices are read, for any number of variants: a column of bytes.

@@ -6,9 +6,9 @@ ghost use Rattle.bitcode_coder.specs.Columns.{ints, one};
 ghost use Rattle.bitcode_coder.specs.Spelling.{natural};
 
 use bitcode_coder::coder::{Buffer, Encoder, HoldsColumns};
-use bitcode_coder::column_int::ColumnInt;
-use bitcode_columns::error::Error;
-use bitcode_columns::fast::{FastVec, PushUnchecked};
+use bitcode_ints::column_int::ColumnInt;
+use bitcode_memory::error::Error;
+use bitcode_memory::fast::{FastVec, PushUnchecked};
 use std::alloc::Global;
 
 /// The column to which variant indices are written, for any number of variants: a column of bytes.

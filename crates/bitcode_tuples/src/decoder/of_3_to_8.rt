@@ -5,7 +5,7 @@ ghost use Rattle.bitcode_tuples.specs.PairLaws.{same_pair_shape};
 
 use crate::decoder::TupleDecoder;
 use bitcode_coder::coder::Decoder;
-use bitcode_columns::error::Error;
+use bitcode_memory::error::Error;
 use bitcode_shapes::shaped::Made;
 
 impl<T1: Made + Drop, T2: Made, T3: Made, A: Decoder<T1>, B: Decoder<(T2, T3)>> Decoder<

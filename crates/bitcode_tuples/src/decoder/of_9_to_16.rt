@@ -5,7 +5,7 @@ ghost use Rattle.bitcode_tuples.specs.PairLaws.{same_pair_shape};
 
 use crate::decoder::TupleDecoder;
 use bitcode_coder::coder::Decoder;
-use bitcode_columns::error::Error;
+use bitcode_memory::error::Error;
 use bitcode_shapes::shaped::Made;
 
 impl<

@@ -1,7 +1,7 @@
 -- One entry more for each item.
 use Rattle.std.proofs.Common.{sym, ◌∙◌, ◌++◌, [], ◌∷◌, ap, map, append-nil, arith}
 use Rattle.std.proofs.lemmas.List.{take_all}
-use Rattle.bitcode_columns.specs.Fast.{fast_items}
+use Rattle.bitcode_memory.specs.Fast.{fast_items}
 use Rattle.bitcode_coder.proofs.PushingLemmas.{one_part_more}
 use Rattle.bitcode_coder.proofs.bool.push_parts.Goals as goal
 

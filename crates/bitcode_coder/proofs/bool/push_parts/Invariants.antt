@@ -1,5 +1,5 @@
 use Rattle.std.proofs.Common.{◌≡◌, ◌+◌, ◌++◌, map, take}
-use Rattle.bitcode_columns.specs.Fast.{fast_items, fast_room}
+use Rattle.bitcode_memory.specs.Fast.{fast_items, fast_room}
 use Rattle.bitcode_coder.proofs.bool.push_parts.Given as goal
 
 abbrev pub invariant-loop-item : goal.invariant-loop-item

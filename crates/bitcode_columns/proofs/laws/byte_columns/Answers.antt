@@ -1,7 +1,7 @@
 -- The laws of byte columns.
 use Rattle.std.proofs.Common.{refl}
 use Rattle.std.proofs.lemmas.List.{length-map}
-use Rattle.bitcode_columns.specs.Ints.{residue}
+use Rattle.bitcode_memory.specs.Ints.{residue}
 use Rattle.bitcode_columns.specs.ByteColumn.{byte_text}
 use Rattle.bitcode_columns.proofs.ByteColumnLemmas.{SpellsBytes-unambiguous, SpellsBytes-size_bound, bytes_fault-refuses, byte_text-spells, length-byte_text}
 use Rattle.bitcode_columns.proofs.laws.byte_columns.Goals as goal

@@ -1,9 +1,9 @@
 -- The laws of integer columns.
 use Rattle.std.proofs.Common.{refl}
 use Rattle.std.proofs.lemmas.List.{length-map}
-use Rattle.bitcode_columns.specs.Ints.{residue}
+use Rattle.bitcode_memory.specs.Ints.{residue}
 use Rattle.bitcode_columns.specs.IntColumn.{int_text}
-use Rattle.bitcode_columns.proofs.IntLemmas.{number_of-residue}
+use Rattle.bitcode_memory.proofs.IntLemmas.{number_of-residue}
 use Rattle.bitcode_columns.proofs.IntColumnLemmas.{SpellsInts-unambiguous, SpellsInts-size_bound, ints_fault-refuses, int_text-spells, length-int_text}
 use Rattle.bitcode_columns.proofs.laws.int_columns.Goals as goal
 

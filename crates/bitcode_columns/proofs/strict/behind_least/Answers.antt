@@ -1,8 +1,8 @@
 use Rattle.std.proofs.Common.{◌≡◌, ◌^◌, ◌<◌, ◌≤◌, ◌++◌, length, take, drop, sym, ap, ◌∙◌, arith, ⊎_elim}
 use Rattle.std.proofs.lemmas.Bool.{cases_lt, false≢true}
-use Rattle.bitcode_columns.specs.Ints.{residue}
-use Rattle.bitcode_columns.specs.LittleEndian.{little_endian, number_bytes}
-use Rattle.bitcode_columns.proofs.IntLemmas.{residue_below}
+use Rattle.bitcode_memory.specs.Ints.{residue}
+use Rattle.bitcode_memory.specs.LittleEndian.{little_endian, number_bytes}
+use Rattle.bitcode_memory.proofs.IntLemmas.{residue_below}
 use Rattle.bitcode_columns.proofs.StrictIntLemmas.{least_front, front_least}
 use Rattle.bitcode_columns.proofs.strict.behind_least.Goals as goal
 

@@ -1,7 +1,7 @@
 use Rattle.std.proofs.Common.{◌≡◌, take, map}
 use Rattle.std.specs.List.{fold}
 use Rattle.std.specs.Int.{int_min, int_max}
-use Rattle.bitcode_columns.specs.Ints.{number_of}
+use Rattle.bitcode_memory.specs.Ints.{number_of}
 use Rattle.bitcode_columns.proofs.strict.byte_bounds.Given as goal
 
 abbrev pub invariant-loop-byte : goal.invariant-loop-byte

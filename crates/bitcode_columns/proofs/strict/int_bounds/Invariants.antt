@@ -1,8 +1,8 @@
 use Rattle.std.proofs.Common.{◌≡◌, take, map}
 use Rattle.std.specs.List.{fold}
 use Rattle.std.specs.Int.{int_min, int_max}
-use Rattle.bitcode_columns.specs.Ints.{number_of}
-use Rattle.bitcode_columns.specs.LittleEndian.{little_endian}
+use Rattle.bitcode_memory.specs.Ints.{number_of}
+use Rattle.bitcode_memory.specs.LittleEndian.{little_endian}
 use Rattle.bitcode_columns.proofs.strict.int_bounds.Given as goal
 
 abbrev pub invariant-loop-bytes : goal.invariant-loop-bytes

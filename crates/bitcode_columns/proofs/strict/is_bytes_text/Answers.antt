@@ -1,6 +1,6 @@
 use Rattle.std.proofs.Common.{◌≡◌, ◌⊎◌, inl, inr, ◌<◌, ◌≤◌, length, refl, sym, ap, ◌∙◌, arith}
 use Rattle.bitcode_columns.specs.ByteColumn.{level_of_base}
-use Rattle.bitcode_columns.specs.Ints.{residue}
+use Rattle.bitcode_memory.specs.Ints.{residue}
 use Rattle.bitcode_columns.proofs.BytePackingLemmas.{plain_is, shifted_is}
 use Rattle.bitcode_columns.proofs.StrictLemmas.{bare_judged, plain_answer, shifted_answer}
 use Rattle.bitcode_columns.proofs.strict.is_bytes_text.Goals as goal

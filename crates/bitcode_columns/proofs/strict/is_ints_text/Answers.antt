@@ -2,8 +2,8 @@ use Rattle.std.proofs.Common.{◌≡◌, ◌||◌, ◌&&◌, ◌+◌, ◌-◌, �
 use Rattle.std.specs.Prelude.{◌-ℤ◌, unsigned_abs}
 use Rattle.std.proofs.lemmas.Bool.{false≢true}
 use Rattle.bitcode_columns.specs.IntColumn.{halvings}
-use Rattle.bitcode_columns.specs.Ints.{residue, least, greatest}
-use Rattle.bitcode_columns.specs.LittleEndian.{number_bytes}
+use Rattle.bitcode_memory.specs.Ints.{residue, least, greatest}
+use Rattle.bitcode_memory.specs.LittleEndian.{number_bytes}
 use Rattle.bitcode_columns.specs.Narrowing.{plain_width, shifted_width}
 use Rattle.bitcode_columns.proofs.NarrowLemmas.{wide_distance}
 use Rattle.bitcode_columns.proofs.StrictIntLemmas.{bare_told, shift_true, shift_false, plain_none, shifted_none, plain_told, shifted_told, far_fits, plain_natural, residues_in_order}

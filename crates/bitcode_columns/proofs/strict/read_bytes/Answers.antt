@@ -2,8 +2,8 @@ use Rattle.std.proofs.Common.{◌≡◌, ℕ, ◌<◌, ◌≤◌, ◌++◌, All,
 use Rattle.std.proofs.lemmas.Bool.{false≢true, cases_lt}
 use Rattle.std.proofs.lemmas.List.{length-map}
 use Rattle.bitcode_columns.specs.ByteColumn.{SpellsBytes, byte_text}
-use Rattle.bitcode_columns.specs.Fast.{cow_rest}
-use Rattle.bitcode_columns.specs.Ints.{residue, number_of, least, greatest}
+use Rattle.bitcode_memory.specs.Fast.{cow_rest}
+use Rattle.bitcode_memory.specs.Ints.{residue, number_of, least, greatest}
 use Rattle.bitcode_columns.proofs.BytePackingLemmas.{least_le_greatest}
 use Rattle.bitcode_columns.proofs.StrictLemmas.{told_front, bare_judged, residues_back, numbers_are}
 use Rattle.bitcode_columns.proofs.strict.read_bytes.Goals as goal

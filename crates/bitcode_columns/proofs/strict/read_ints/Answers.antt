@@ -2,9 +2,9 @@ use Rattle.std.proofs.Common.{◌≡◌, ◌<◌, ◌^◌, ◌≤◌, ◌++◌, 
 use Rattle.std.proofs.lemmas.Bool.{false≢true, cases_lt}
 use Rattle.std.proofs.lemmas.List.{length-map}
 use Rattle.bitcode_columns.specs.IntColumn.{SpellsInts, int_text}
-use Rattle.bitcode_columns.specs.Fast.{cow_rest}
-use Rattle.bitcode_columns.specs.Ints.{residue, number_of, least, greatest}
-use Rattle.bitcode_columns.specs.LittleEndian.{little_endian}
+use Rattle.bitcode_memory.specs.Fast.{cow_rest}
+use Rattle.bitcode_memory.specs.Ints.{residue, number_of, least, greatest}
+use Rattle.bitcode_memory.specs.LittleEndian.{little_endian}
 use Rattle.bitcode_columns.proofs.BytePackingLemmas.{least_le_greatest}
 use Rattle.bitcode_columns.proofs.StrictLemmas.{told_front}
 use Rattle.bitcode_columns.proofs.StrictIntLemmas.{int_residues_back, int_numbers_are, none_told}

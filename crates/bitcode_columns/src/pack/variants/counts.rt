@@ -3,11 +3,11 @@ ghost use Rattle.std.specs.Prelude.{◌≡◌, ℕ, ◌+◌, ◌*◌, ◌^◌, �
 ghost use Rattle.bitcode_columns.specs.Digits.{digits_in_byte, SpellsDigits};
 ghost use Rattle.bitcode_columns.specs.DigitCounts.{digits_of, digits_counted};
 ghost use Rattle.bitcode_columns.specs.Histogram.{AreCounts, count_of};
-ghost use Rattle.bitcode_columns.specs.LittleEndian.{little_endian};
+ghost use Rattle.bitcode_memory.specs.LittleEndian.{little_endian};
 
 use crate::histogram::{MOST_IN_ONE_TABLE, counts_below, histogram};
-use crate::ints::known_bytes;
 use crate::pack::Base;
+use bitcode_memory::ints::known_bytes;
 
 /// Adds the digits of a byte that occurs `times` times to the counts of the numbers below `N`. It ignores all other
 /// digits.

@@ -8,7 +8,7 @@ use crate::choices::gathered::SaysVariant;
 use crate::choices::variant::encode_payloads;
 use bitcode_coder::coder::{Buffer, Encoder, MAX_VECTORED_CHUNK};
 use bitcode_coder::part::Part;
-use bitcode_columns::error::Error;
+use bitcode_memory::error::Error;
 use bitcode_shapes::shaped::Shaped;
 
 // Says which variant an option is of: 0 for none, 1 for a value.

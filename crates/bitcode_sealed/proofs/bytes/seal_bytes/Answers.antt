@@ -1,6 +1,6 @@
 -- The head, the value and its checksum are appended.
 use Rattle.std.proofs.Common.{◌≡◌, ◌++◌, ap, ◌∙◌}
-use Rattle.bitcode_columns.specs.LittleEndian.{number_bytes}
+use Rattle.bitcode_memory.specs.LittleEndian.{number_bytes}
 use Rattle.bitcode_sealed.proofs.ValueLemmas.{sealed_behind}
 use Rattle.bitcode_sealed.proofs.bytes.seal_bytes.Goals as goal
 

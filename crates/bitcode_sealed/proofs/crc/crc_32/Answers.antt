@@ -3,7 +3,7 @@ use Rattle.std.proofs.Common.{◌≡◌, ◌+◌, ◌*◌, ◌/◌, List, ℕ, �
 use Rattle.std.specs.Prelude.{bit_xor}
 use Rattle.std.specs.List.{concat}
 use Rattle.std.proofs.lemmas.List.{at_drop_more, at_drop_all, take-append-drop}
-use Rattle.bitcode_columns.proofs.ConsumeLemmas.{concat-first_chunks}
+use Rattle.bitcode_memory.proofs.ConsumeLemmas.{concat-first_chunks}
 use Rattle.bitcode_sealed.specs.Crc.{ones, byte_step, register_after, crc_32}
 use Rattle.bitcode_sealed.proofs.CrcLemmas.{register-append}
 use Rattle.bitcode_sealed.proofs.crc.crc_32.Goals as goal

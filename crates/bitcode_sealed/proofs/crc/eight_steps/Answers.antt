@@ -2,7 +2,7 @@
 use Rattle.std.proofs.Common.{◌≡◌, ℕ, ◌<◌, ◌^◌, List, [], ◌∷◌, length, get_or, ap, sym, subst, ◌∙◌, arith}
 use Rattle.std.specs.Prelude.{bit_xor, slice_index}
 use Rattle.std.proofs.lemmas.List.Elements.{All-from_get_or}
-use Rattle.bitcode_columns.specs.LittleEndian.{little_endian, number_bytes}
+use Rattle.bitcode_memory.specs.LittleEndian.{little_endian, number_bytes}
 use Rattle.bitcode_sealed.specs.Crc.{register_after}
 use Rattle.bitcode_sealed.proofs.CrcLemmas.{AreBytes}
 use Rattle.bitcode_sealed.proofs.CrcStepLemmas.{eight_bytes, eight_at_once}

@@ -1,7 +1,7 @@
 -- What was read from the root, and the laws of what is spelled.
 use Rattle.std.proofs.Common.{◌≢◌}
 use Rattle.std.proofs.lemmas.Result.{err_from_is_err_and}
-use Rattle.bitcode_columns.specs.declared.error.Reason.TheVariants.{OutOfMemory}
+use Rattle.bitcode_memory.specs.declared.error.Reason.TheVariants.{OutOfMemory}
 use Rattle.bitcode_shapes.specs.Datum.{Datum}
 use Rattle.bitcode_untyped.specs.Spelling.{SpellsDatum}
 use Rattle.bitcode_untyped.specs.View.{tree_of}

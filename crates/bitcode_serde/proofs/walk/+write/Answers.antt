@@ -3,7 +3,7 @@ use Rattle.std.proofs.Common.{rules, arith, ◌≡◌, ◌<◌, ◌≤◌, inl, 
 use Rattle.std.proofs.lemmas.Bool.{le-ltb}
 use Rattle.std.proofs.lemmas.List.{length-map}
 use Rattle.std.proofs.lemmas.Result.{err_from_is_err_and}
-use Rattle.bitcode_columns.specs.declared.error.Reason.TheVariants.{NotOfTheShape}
+use Rattle.bitcode_memory.specs.declared.error.Reason.TheVariants.{NotOfTheShape}
 use Rattle.bitcode_shapes.specs.Datum.{unit}
 use Rattle.bitcode_coder.specs.Spelling.{natural}
 use Rattle.bitcode_untyped.specs.Faults.{faults_of}

@@ -1,7 +1,7 @@
 -- The bools are those that were taken.
 use Rattle.std.proofs.Common.{take, refl}
 use Rattle.std.proofs.lemmas.Result.{IfOk-weaker}
-use Rattle.bitcode_columns.specs.Fast.{cow_rest}
+use Rattle.bitcode_memory.specs.Fast.{cow_rest}
 use Rattle.bitcode_coder.proofs.BoolLemmas.{takes_bools}
 use Rattle.bitcode_coder.proofs.bool.BoolDecoderDecoderBool.decode_many.Goals as goal
 

@@ -1,5 +1,5 @@
 -- The answer of the column, in terms of data.
-use Rattle.bitcode_columns.specs.Fast.{cow_rest}
+use Rattle.bitcode_memory.specs.Fast.{cow_rest}
 use Rattle.bitcode_coder.proofs.StrictColumnLemmas.{bools_judged}
 use Rattle.bitcode_coder.proofs.bool.BoolDecoderView.read.Goals as goal
 

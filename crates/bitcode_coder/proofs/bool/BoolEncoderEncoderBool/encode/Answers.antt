@@ -1,6 +1,6 @@
 -- The listing of a bool joins its column.
 use Rattle.std.proofs.Common.{refl}
-use Rattle.bitcode_columns.specs.Fast.{fast_items}
+use Rattle.bitcode_memory.specs.Fast.{fast_items}
 use Rattle.bitcode_shapes.specs.Shape.{bool_shape}
 use Rattle.bitcode_shapes.specs.Ints.{ListsNumber, bool_number}
 use Rattle.bitcode_coder.specs.Columns.{bools}

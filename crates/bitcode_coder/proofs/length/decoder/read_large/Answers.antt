@@ -2,8 +2,8 @@
 use Rattle.std.proofs.Common.{◌≡◌, ◌++◌, [], IsTrue, pos, length, map, refl, sym, ap, subst, arith}
 use Rattle.std.specs.Prelude.{◌↔◌, IfOk}
 use Rattle.std.proofs.lemmas.Simd.{map-map}
-use Rattle.bitcode_columns.specs.Fast.{cow_rest}
-use Rattle.bitcode_columns.specs.LittleEndian.{little_endian}
+use Rattle.bitcode_memory.specs.Fast.{cow_rest}
+use Rattle.bitcode_memory.specs.LittleEndian.{little_endian}
 use Rattle.bitcode_columns.specs.IntColumn.{int_text}
 use Rattle.bitcode_coder.proofs.LengthPartLemmas.{reads_no_large, no_large}
 use Rattle.bitcode_coder.proofs.length.decoder.read_large.Goals as goal

@@ -1,8 +1,8 @@
 -- The large lengths follow the short bytes.
 use Rattle.std.proofs.Common.{◌≡◌, ◌<◌, ◌≤◌, All, length, map, ap, subst, ◌∙◌}
 use Rattle.bitcode_coder.specs.LengthColumn.{escape}
-use Rattle.bitcode_columns.specs.Fast.{cow_rest}
-use Rattle.bitcode_columns.specs.LittleEndian.{little_endian}
+use Rattle.bitcode_memory.specs.Fast.{cow_rest}
+use Rattle.bitcode_memory.specs.LittleEndian.{little_endian}
 use Rattle.bitcode_coder.proofs.StrictColumnLemmas.{mapped_told, lengths_judged}
 use Rattle.std.proofs.lemmas.Result.{err_from_is_err_and}
 use Rattle.bitcode_columns.proofs.ReadingLemmas.{OnErr-always}

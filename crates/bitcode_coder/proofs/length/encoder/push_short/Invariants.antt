@@ -1,5 +1,5 @@
 use Rattle.std.proofs.Common.{◌≡◌, ◌+◌, ◌++◌, map, take}
-use Rattle.bitcode_columns.specs.Fast.{fast_items, fast_room}
+use Rattle.bitcode_memory.specs.Fast.{fast_items, fast_room}
 use Rattle.bitcode_coder.proofs.length.encoder.push_short.Given as goal
 
 abbrev pub invariant-loop-t : goal.invariant-loop-t

@@ -1,6 +1,6 @@
 -- One text more.
 use Rattle.std.proofs.Common.{refl, sym, subst, arith}
-use Rattle.bitcode_columns.specs.Fast.{fast_items}
+use Rattle.bitcode_memory.specs.Fast.{fast_items}
 use Rattle.bitcode_shapes.specs.Datum.{text}
 use Rattle.bitcode_coder.specs.Cutting.{cut}
 use Rattle.bitcode_coder.specs.Length.{written_lengths}

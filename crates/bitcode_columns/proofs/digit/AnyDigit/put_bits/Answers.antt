@@ -1,6 +1,6 @@
 use Rattle.std.proofs.Common.{◌/◌, ◌%◌, map, ap, ◌∙◌, arith}
 use Rattle.bitcode_columns.specs.Digits.{digit}
-use Rattle.bitcode_columns.specs.Ints.{residue}
+use Rattle.bitcode_memory.specs.Ints.{residue}
 use Rattle.bitcode_columns.proofs.BitLemmas.{bit_is}
 use Rattle.bitcode_columns.proofs.digit.AnyDigit.put_bits.Goals as goal
 

@@ -1,5 +1,5 @@
 use Rattle.std.proofs.Common.{◌≡◌, ◌+◌, ◌-◌, ◌≤◌, ◌++◌, length, map, take, vec_len, vec_capacity}
-use Rattle.bitcode_columns.specs.Ints.{bool_digit}
+use Rattle.bitcode_memory.specs.Ints.{bool_digit}
 use Rattle.bitcode_columns.proofs.digit.BoolDigit.push_whole.Given as goal
 
 abbrev pub invariant-loop-entry : goal.invariant-loop-entry

@@ -1,5 +1,5 @@
 use Rattle.std.proofs.Common.{map, ap, ◌∙◌}
-use Rattle.bitcode_columns.specs.Ints.{bool_digit}
+use Rattle.bitcode_memory.specs.Ints.{bool_digit}
 use Rattle.bitcode_columns.proofs.digit.BoolDigit.put_bits.Goals as goal
 
 pub returns : goal.returns

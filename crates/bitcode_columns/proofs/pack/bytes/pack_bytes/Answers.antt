@@ -2,7 +2,7 @@ use Rattle.std.proofs.Common.{◌≡◌, ◌-◌, ◌*◌, ◌<◌, ◌≤◌, �
 use Rattle.std.proofs.lemmas.List.{length-map}
 use Rattle.bitcode_columns.specs.ByteColumn.{level_of_base, byte_text}
 use Rattle.bitcode_columns.specs.Digits.{digits_text}
-use Rattle.bitcode_columns.specs.Ints.{residue}
+use Rattle.bitcode_memory.specs.Ints.{residue}
 use Rattle.bitcode_columns.proofs.BytePackingLemmas.{least_le_greatest, above_least, plain_is, shifted_is, plain_digits, shifted_digits, text-bare, text-plain, text-shifted}
 use Rattle.bitcode_columns.proofs.pack.bytes.pack_bytes.Goals as goal
 use Rattle.bitcode_columns.proofs.pack.bytes.pack_bytes.Given.{Over}

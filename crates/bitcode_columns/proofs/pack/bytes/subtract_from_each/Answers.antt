@@ -1,7 +1,7 @@
 use Rattle.std.proofs.Common.{map, get_or, sym, ap, ◌∙◌, arith}
 use Rattle.std.specs.Prelude.{◌-ℤ◌, ◌≤ℤ◌, unsigned_abs}
 use Rattle.std.proofs.lemmas.List.{take_all}
-use Rattle.bitcode_columns.specs.Ints.{residue}
+use Rattle.bitcode_memory.specs.Ints.{residue}
 use Rattle.bitcode_columns.proofs.BytePackingLemmas.{get_or-of_rest, residue_of_distance, written_over_more}
 use Rattle.bitcode_columns.proofs.pack.bytes.subtract_from_each.Goals as goal
 

@@ -1,6 +1,6 @@
 use Rattle.std.proofs.Common.{◌≡◌, map, take, drop}
 use Rattle.std.specs.Prelude.{◌-ℤ◌, unsigned_abs}
-use Rattle.bitcode_columns.specs.Ints.{residue}
+use Rattle.bitcode_memory.specs.Ints.{residue}
 use Rattle.bitcode_columns.proofs.pack.bytes.subtract_from_each.Given as goal
 
 abbrev pub invariant-loop-byte : goal.invariant-loop-byte

@@ -1,11 +1,11 @@
 use Rattle.std.proofs.Common.{◌≡◌, ◌∙◌, length, map, refl, sym, subst, arith}
 use Rattle.std.proofs.lemmas.Result.{on_ok_weaker}
 use Rattle.std.proofs.lemmas.List.{length-map}
-use Rattle.bitcode_columns.specs.Ints.{least, greatest}
+use Rattle.bitcode_memory.specs.Ints.{least, greatest}
 use Rattle.bitcode_columns.proofs.AppendLemmas.{IfSome-at, ordered, tagged_shifted, tagged_plain}
 use Rattle.bitcode_columns.proofs.RoomLemmas.{shifted_takes, plain_takes}
 use Rattle.bitcode_columns.proofs.SampleLemmas.{none_narrower}
-use Rattle.bitcode_columns.specs.IntWidths.{IsWidth}
+use Rattle.bitcode_memory.specs.IntWidths.{IsWidth}
 use Rattle.bitcode_columns.proofs.pack_ints.append.append_tagged.Goals as goal
 
 pub plain_width-plain-requires : goal.plain_width-plain-requires

@@ -1,5 +1,5 @@
 use Rattle.std.proofs.Common.{take, All}
-use Rattle.bitcode_columns.specs.Ints.{IsNumber}
+use Rattle.bitcode_memory.specs.Ints.{IsNumber}
 use Rattle.bitcode_columns.proofs.pack_ints.append.known_numbers.Given as goal
 
 abbrev pub invariant-loop-entry : goal.invariant-loop-entry

@@ -1,7 +1,7 @@
 use Rattle.std.proofs.Common.{◌≡◌, map, ◌∙◌, arith}
 use Rattle.std.proofs.lemmas.Bool.{eqb-true}
 use Rattle.std.proofs.lemmas.List.{length-map}
-use Rattle.bitcode_columns.specs.Ints.{least, greatest}
+use Rattle.bitcode_memory.specs.Ints.{least, greatest}
 use Rattle.bitcode_columns.specs.Narrowing.{plain_width, shifted_width}
 use Rattle.bitcode_columns.proofs.AppendLemmas.{IfSome-at, ordered}
 use Rattle.bitcode_columns.proofs.SampleLemmas.{sample_tells}

@@ -1,6 +1,6 @@
 use Rattle.std.proofs.Common.{sym, ap, ◌∙◌, subst}
 use Rattle.std.proofs.lemmas.Result.{on_ok_weaker, on_err_weaker, IfErr-weaker, err_from_is_err_and}
-use Rattle.bitcode_columns.specs.IntWidths.{IsWidth}
+use Rattle.bitcode_memory.specs.IntWidths.{IsWidth}
 use Rattle.bitcode_columns.specs.IntColumn.{highest_int_tag, width_at_level}
 use Rattle.bitcode_columns.specs.Reading.{Names, narrow_fault}
 use Rattle.bitcode_columns.proofs.IntReadingLemmas.{Reads-raw_tagged, fault_of_raw, end_behind_header, fault_behind_header, IsWidth-at_level, Reads-narrow_tagged}

@@ -1,5 +1,5 @@
 use Rattle.std.proofs.Common.{◌≡◌, ◌+◌, ◌%◌, ◌^◌, ◌≤◌, length, map, take, vec_len, vec_capacity}
-use Rattle.bitcode_columns.specs.LittleEndian.{little_endian}
+use Rattle.bitcode_memory.specs.LittleEndian.{little_endian}
 use Rattle.bitcode_columns.proofs.pack_ints.read.widen_bytes.Given as goal
 
 abbrev pub invariant-loop-byte : goal.invariant-loop-byte

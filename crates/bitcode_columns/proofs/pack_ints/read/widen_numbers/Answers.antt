@@ -1,6 +1,6 @@
 use Rattle.std.proofs.Common.{map, ap, ◌∙◌, arith}
 use Rattle.std.proofs.lemmas.List.{map-append}
-use Rattle.bitcode_columns.specs.LittleEndian.{little_endian}
+use Rattle.bitcode_memory.specs.LittleEndian.{little_endian}
 use Rattle.bitcode_columns.proofs.WideningLemmas.{numbers_more, rest_more}
 use Rattle.bitcode_columns.proofs.pack_ints.read.widen_numbers.Goals as goal
 

@@ -1,6 +1,6 @@
 use Rattle.std.proofs.Common.{◌≡◌, ◌+◌, ◌*◌, ◌%◌, ◌^◌, ◌≤◌, map, drop, vec_len, vec_capacity}
 use Rattle.std.specs.Simd.{first_chunks}
-use Rattle.bitcode_columns.specs.LittleEndian.{little_endian}
+use Rattle.bitcode_memory.specs.LittleEndian.{little_endian}
 use Rattle.bitcode_columns.proofs.pack_ints.read.widen_numbers.Given as goal
 
 abbrev pub invariant-loop-i : goal.invariant-loop-i

@@ -1,6 +1,6 @@
 use Rattle.std.proofs.Common.{ap, ◌∙◌, refl, subst, arith}
 use Rattle.std.proofs.lemmas.List.Elements.{All-more}
-use Rattle.bitcode_columns.specs.Ints.{IsNumber, number_of}
+use Rattle.bitcode_memory.specs.Ints.{IsNumber, number_of}
 use Rattle.bitcode_columns.proofs.NarrowLemmas.{narrowed, map_more}
 use Rattle.bitcode_columns.proofs.pack_ints.write.narrow_bytes.Goals as goal
 

@@ -1,5 +1,5 @@
 use Rattle.std.proofs.Common.{◌≡◌, ◌%◌, ◌≤◌, length, take, map, All, vec_len, vec_capacity}
-use Rattle.bitcode_columns.specs.Ints.{IsNumber, number_of}
+use Rattle.bitcode_memory.specs.Ints.{IsNumber, number_of}
 use Rattle.bitcode_columns.specs.Narrowing.{above}
 use Rattle.bitcode_columns.proofs.pack_ints.write.narrow_bytes.Given as goal
 

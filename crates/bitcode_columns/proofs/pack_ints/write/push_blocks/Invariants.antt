@@ -1,6 +1,6 @@
 use Rattle.std.proofs.Common.{◌≡◌, ◌+◌, ◌*◌, ◌≤◌, ◌%◌, ◌^◌, ◌++◌, take, drop, map, All, vec_len, vec_capacity}
-use Rattle.bitcode_columns.specs.LittleEndian.{raw_text}
-use Rattle.bitcode_columns.specs.Ints.{IsNumber}
+use Rattle.bitcode_memory.specs.LittleEndian.{raw_text}
+use Rattle.bitcode_memory.specs.Ints.{IsNumber}
 use Rattle.bitcode_columns.specs.Narrowing.{above}
 use Rattle.bitcode_columns.proofs.pack_ints.write.push_blocks.Given as goal
 

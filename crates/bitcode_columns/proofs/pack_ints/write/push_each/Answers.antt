@@ -1,7 +1,7 @@
 use Rattle.std.proofs.Common.{◌≡◌, ◌+◌, ◌*◌, ◌%◌, ◌^◌, vec_len, refl, subst, sym, ap, ◌∙◌, arith}
 use Rattle.std.proofs.Math.Nat.{zero-mul, add-mul}
 use Rattle.std.proofs.lemmas.List.Elements.{All-more, All-nil}
-use Rattle.bitcode_columns.specs.Ints.{IsNumber}
+use Rattle.bitcode_memory.specs.Ints.{IsNumber}
 use Rattle.bitcode_columns.specs.Narrowing.{above}
 use Rattle.bitcode_columns.proofs.NarrowLemmas.{narrowed, raw_none, raw_more}
 use Rattle.bitcode_columns.proofs.pack_ints.write.push_each.Goals as goal

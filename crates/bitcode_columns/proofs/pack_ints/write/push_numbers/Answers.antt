@@ -1,7 +1,7 @@
 use Rattle.std.proofs.Common.{◌≡◌, ◌≤◌, ◌+◌, ◌*◌, ◌/◌, ◌%◌, ◌∙◌, ◌^◌, length, All, sym, ap, subst, arith}
 use Rattle.std.proofs.Math.Nat.{add-mul, mul-le-mul_right}
 use Rattle.std.proofs.lemmas.List.Elements.{All-append}
-use Rattle.bitcode_columns.specs.Ints.{IsNumber}
+use Rattle.bitcode_memory.specs.Ints.{IsNumber}
 use Rattle.bitcode_columns.specs.Narrowing.{above}
 use Rattle.bitcode_columns.proofs.IntColumnLemmas.{some_width}
 use Rattle.bitcode_columns.proofs.BlockLemmas.{raw_joined, some_in_block}

@@ -1,10 +1,10 @@
 use Rattle.std.proofs.Common.{◌≡◌, ◌*◌, ◌%◌, ◌^◌, length, map, take, All, ap, sym, ◌∙◌, subst, arith}
 use Rattle.std.proofs.lemmas.List.{take_all}
 use Rattle.std.proofs.lemmas.List.Elements.{All-more, All-nil}
-use Rattle.bitcode_columns.specs.LittleEndian.{raw_text}
-use Rattle.bitcode_columns.specs.Ints.{IsNumber}
+use Rattle.bitcode_memory.specs.LittleEndian.{raw_text}
+use Rattle.bitcode_memory.specs.Ints.{IsNumber}
 use Rattle.bitcode_columns.specs.Narrowing.{above}
-use Rattle.bitcode_columns.proofs.LittleEndianLemmas.{length-number_bytes}
+use Rattle.bitcode_memory.proofs.LittleEndianLemmas.{length-number_bytes}
 use Rattle.bitcode_columns.proofs.NarrowLemmas.{narrowed}
 use Rattle.bitcode_columns.proofs.BlockLemmas.{front_none, front_more, next_place, put_size}
 use Rattle.bitcode_columns.proofs.pack_ints.write.put_numbers.Goals as goal

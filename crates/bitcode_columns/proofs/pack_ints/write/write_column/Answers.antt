@@ -1,6 +1,6 @@
 use Rattle.std.proofs.Common.{◌∙◌, ◌++◌, ap, sym, subst, All, true, false}
 use Rattle.bitcode_columns.specs.ByteColumn.{byte_text}
-use Rattle.bitcode_columns.specs.Ints.{IsNumber}
+use Rattle.bitcode_memory.specs.Ints.{IsNumber}
 use Rattle.bitcode_columns.proofs.AppendLemmas.{on_ok_both, column_numbers, no_base}
 use Rattle.bitcode_columns.proofs.pack_ints.write.write_column.Goals as goal
 

@@ -1,6 +1,6 @@
 -- A value is written as the variant that it is of, and then its payload.
 use Rattle.std.proofs.lemmas.Result.{on_ok_weaker}
-use Rattle.bitcode_columns.specs.declared.error.Error.{Error}
+use Rattle.bitcode_memory.specs.declared.error.Error.{Error}
 use Rattle.bitcode_coder.proofs.RefusalLemmas.{refused_weaker}
 use Rattle.bitcode_parts.specs.Variants.{written_variants}
 use Rattle.bitcode_enums.proofs.WritingLemmas.{value_joins, value_overflows}

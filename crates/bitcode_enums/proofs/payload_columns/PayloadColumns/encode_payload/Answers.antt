@@ -1,7 +1,7 @@
 -- A payload is joined to the columns of its variant, among those of all variants.
 use Rattle.std.proofs.Common.{refl, arith}
 use Rattle.std.proofs.lemmas.Result.{on_ok_weaker}
-use Rattle.bitcode_columns.specs.declared.error.Error.{Error}
+use Rattle.bitcode_memory.specs.declared.error.Error.{Error}
 use Rattle.bitcode_coder.proofs.RefusalLemmas.{refused_weaker}
 use Rattle.bitcode_enums.proofs.ColumnLemmas.{joins_numbered, overflows_numbered, form_kept, form_all}
 use Rattle.bitcode_enums.proofs.payload_columns.PayloadColumns.encode_payload.Goals as goal

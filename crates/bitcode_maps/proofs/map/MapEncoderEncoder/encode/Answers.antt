@@ -3,7 +3,7 @@ use Rattle.std.proofs.Common.{◌∙◌, sym, length, subst, ⊎_elim}
 use Rattle.std.specs.Map.{keys_of, values_of}
 use Rattle.std.proofs.lemmas.List.{length-map}
 use Rattle.std.proofs.lemmas.Result.{err_from_is_err_and}
-use Rattle.bitcode_columns.specs.declared.error.Error.{Error}
+use Rattle.bitcode_memory.specs.declared.error.Error.{Error}
 use Rattle.bitcode_shapes.specs.BuiltMaps.{keys_are, values_are}
 use Rattle.bitcode_shapes.specs.LawfulLists.{each_listed}
 use Rattle.bitcode_coder.specs.Length.{written_lengths}

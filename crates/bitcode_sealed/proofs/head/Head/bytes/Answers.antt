@@ -1,6 +1,6 @@
 -- Each field is written by its bytes.
 use Rattle.std.proofs.Common.{ap, ◌∙◌}
-use Rattle.bitcode_columns.specs.LittleEndian.{number_bytes}
+use Rattle.bitcode_memory.specs.LittleEndian.{number_bytes}
 use Rattle.bitcode_sealed.proofs.HeadLemmas.{head_written}
 use Rattle.bitcode_sealed.proofs.head.Head.bytes.Goals as goal
 

@@ -1,7 +1,7 @@
 -- A column is opened where the machine opens one.
 use Rattle.std.proofs.Common.{◌≢◌, ◌≤◌, ◌∙◌, refl, sym, subst, arith, length, map, inl, inr}
 use Rattle.std.proofs.lemmas.Result.{err_from_is_err_and}
-use Rattle.bitcode_columns.specs.declared.error.Reason.TheVariants.{OutOfMemory}
+use Rattle.bitcode_memory.specs.declared.error.Reason.TheVariants.{OutOfMemory}
 use Rattle.bitcode_untyped.specs.Machine.{State}
 use Rattle.bitcode_serde.specs.Reading.{Stands, NothingAt}
 use Rattle.bitcode_serde.specs.Places.{places, place_at}

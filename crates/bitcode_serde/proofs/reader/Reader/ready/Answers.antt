@@ -1,6 +1,6 @@
 -- A column is found, or opened.
 use Rattle.std.proofs.Common.{◌≢◌, refl, sym, ◌∙◌, arith, inl, inr}
-use Rattle.bitcode_columns.specs.declared.error.Reason.TheVariants.{OutOfMemory}
+use Rattle.bitcode_memory.specs.declared.error.Reason.TheVariants.{OutOfMemory}
 use Rattle.bitcode_untyped.specs.Machine.{State}
 use Rattle.bitcode_serde.specs.Reading.{Stands, NothingAt}
 use Rattle.bitcode_serde.specs.Places.{places, place_at}

@@ -2,7 +2,7 @@
 use Rattle.std.proofs.Common.{◌≢◌, rules, arith, refl, ap, sym, ◌∙◌, map, ◌-◌}
 use Rattle.std.proofs.lemmas.List.{length-map}
 use Rattle.std.proofs.lemmas.Result.{err_from_is_err_and}
-use Rattle.bitcode_columns.specs.declared.error.Reason.TheVariants.{OutOfMemory}
+use Rattle.bitcode_memory.specs.declared.error.Reason.TheVariants.{OutOfMemory}
 use Rattle.bitcode_coder.specs.Spelling.{natural}
 use Rattle.bitcode_untyped.specs.Machine.{State}
 use Rattle.bitcode_untyped.specs.Walk.{index_kind}

@@ -2,7 +2,7 @@
 use Rattle.std.proofs.Common.{◌≡◌, ◌≢◌, ◌⊎◌, inl, inr, refl, ap, sym, subst, ◌∙◌, true, false, None, [], ◌∷◌, ◌++◌, arith}
 use Rattle.bitcode_shapes.specs.Datum.{number}
 use Rattle.bitcode_coder.specs.Columns.{bools, ints, texts}
-use Rattle.bitcode_columns.specs.declared.error.Reason.TheVariants.{OutOfMemory}
+use Rattle.bitcode_memory.specs.declared.error.Reason.TheVariants.{OutOfMemory}
 use Rattle.bitcode_serde.specs.WrittenColumns.{kind_of_entry, kind_of_written}
 use Rattle.std.specs.Prelude.{map}
 use Rattle.std.proofs.lemmas.List.{map_push}

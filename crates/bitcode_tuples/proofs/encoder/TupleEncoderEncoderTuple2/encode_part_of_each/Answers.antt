@@ -1,7 +1,7 @@
 -- The listings of the fields make up those of the pairs. Where the first fields are refused the second are listed by their law.
 use Rattle.std.proofs.Common.{All, map, subst}
 use Rattle.std.proofs.lemmas.Result.{err_from_is_err_and, on_ok_weaker}
-use Rattle.bitcode_columns.specs.declared.error.Error.{Error}
+use Rattle.bitcode_memory.specs.declared.error.Error.{Error}
 use Rattle.bitcode_shapes.specs.LawfulLists.{each_listed}
 use Rattle.bitcode_coder.specs.Coder.{JoinsEach, OverflowsWithEach}
 use Rattle.bitcode_coder.proofs.RefusalLemmas.{refusal_weaker, refused_weaker}

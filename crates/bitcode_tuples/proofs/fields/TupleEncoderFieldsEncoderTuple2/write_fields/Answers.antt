@@ -1,6 +1,6 @@
 -- A listing of a pair is made of one of each field. Where the first field is refused the second is listed by its law.
 use Rattle.std.proofs.lemmas.Result.{err_from_is_err_and, on_ok_weaker}
-use Rattle.bitcode_columns.specs.declared.error.Error.{Error}
+use Rattle.bitcode_memory.specs.declared.error.Error.{Error}
 use Rattle.bitcode_coder.proofs.RefusalLemmas.{refusal_weaker, refused_weaker}
 use Rattle.bitcode_tuples.proofs.WritingLemmas.{none_in_both, writes_pair, overflows_with_first, overflows_with_second}
 use Rattle.bitcode_tuples.proofs.fields.TupleEncoderFieldsEncoderTuple2.write_fields.Goals as goal

@@ -1,6 +1,6 @@
 -- What is written of the field is written of the value.
 use Rattle.std.proofs.Common.{subst}
-use Rattle.bitcode_columns.specs.declared.error.Error.{Error}
+use Rattle.bitcode_memory.specs.declared.error.Error.{Error}
 use Rattle.bitcode_coder.specs.Coder.{OverflowsWithListing}
 use Rattle.bitcode_coder.proofs.RefusalLemmas.{refused_weaker}
 use Rattle.bitcode_tuples.proofs.WritingLemmas.{overflows_as}

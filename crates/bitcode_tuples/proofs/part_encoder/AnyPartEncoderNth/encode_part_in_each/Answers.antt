@@ -1,7 +1,7 @@
 -- What is written of the fields is written of the values.
 use Rattle.std.proofs.Common.{refl}
 use Rattle.std.proofs.lemmas.Result.{on_ok_weaker}
-use Rattle.bitcode_columns.specs.declared.error.Error.{Error}
+use Rattle.bitcode_memory.specs.declared.error.Error.{Error}
 use Rattle.bitcode_coder.proofs.RefusalLemmas.{refused_weaker}
 use Rattle.bitcode_tuples.proofs.FieldLemmas.{joins_listed_as, overflows_listed_as}
 use Rattle.bitcode_tuples.proofs.part_encoder.AnyPartEncoderNth.encode_part_in_each.Goals as goal

@@ -1,6 +1,6 @@
 -- A listing of a pair is made of one of each part, and the bytes of the second part stand behind those of the first.
 use Rattle.std.proofs.lemmas.Result.{err_from_is_err_and, on_ok_weaker}
-use Rattle.bitcode_columns.specs.declared.error.Error.{Error}
+use Rattle.bitcode_memory.specs.declared.error.Error.{Error}
 use Rattle.bitcode_coder.proofs.RefusalLemmas.{refusal_weaker, refused_weaker}
 use Rattle.bitcode_tuples.proofs.WritingLemmas.{none_in_both, overflows_as, overflows_with_first, overflows_with_second, writes_as, writes_pair}
 use Rattle.bitcode_tuples.proofs.part_encoder.TupleEncoderPartEncoderTuple2.write_part.Goals as goal

@@ -1,6 +1,6 @@
 -- What is written of the fields is written of the structs.
 use Rattle.std.proofs.lemmas.Result.{on_ok_weaker}
-use Rattle.bitcode_columns.specs.declared.error.Error.{Error}
+use Rattle.bitcode_memory.specs.declared.error.Error.{Error}
 use Rattle.bitcode_coder.proofs.RefusalLemmas.{refused_weaker}
 use Rattle.bitcode_tuples.proofs.FieldLemmas.{joins_listed_as, overflows_listed_as}
 use Rattle.bitcode_tuples.proofs.struct_encoder.StructEncoderEncoder.encode_part_of_each.Goals as goal

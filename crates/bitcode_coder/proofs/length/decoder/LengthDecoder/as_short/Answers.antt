@@ -1,7 +1,7 @@
 -- Without large lengths no byte is an escape.
 use Rattle.std.proofs.Common.{◌≡◌, length, map, sym, ap, ◌∙◌, arith}
-use Rattle.bitcode_columns.specs.Fast.{cow_rest}
-use Rattle.bitcode_columns.specs.LittleEndian.{little_endian}
+use Rattle.bitcode_memory.specs.Fast.{cow_rest}
+use Rattle.bitcode_memory.specs.LittleEndian.{little_endian}
 use Rattle.bitcode_coder.specs.Length.{lengths_left}
 use Rattle.bitcode_coder.proofs.LengthLemmas.{no_escapes}
 use Rattle.bitcode_coder.proofs.length.decoder.LengthDecoder.as_short.Goals as goal

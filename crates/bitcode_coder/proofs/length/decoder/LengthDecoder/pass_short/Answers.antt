@@ -1,8 +1,8 @@
 -- No byte is an escape, so that those behind are the lengths behind.
 use Rattle.std.proofs.Common.{◌≡◌, ◌≤◌, length, map, drop, sym, ap, subst, ◌∙◌}
 use Rattle.std.proofs.lemmas.List.{length-map}
-use Rattle.bitcode_columns.specs.Fast.{cow_rest}
-use Rattle.bitcode_columns.specs.LittleEndian.{little_endian}
+use Rattle.bitcode_memory.specs.Fast.{cow_rest}
+use Rattle.bitcode_memory.specs.LittleEndian.{little_endian}
 use Rattle.bitcode_coder.specs.Length.{large_left, lengths_left}
 use Rattle.bitcode_coder.specs.LengthColumn.{lengths_from}
 use Rattle.bitcode_coder.specs.LengthParts.{escapes}

@@ -1,7 +1,7 @@
 -- There are as many lengths as short bytes.
 use Rattle.std.proofs.Common.{length, map, sym, ap, ◌∙◌}
-use Rattle.bitcode_columns.specs.Fast.{cow_rest}
-use Rattle.bitcode_columns.specs.LittleEndian.{little_endian}
+use Rattle.bitcode_memory.specs.Fast.{cow_rest}
+use Rattle.bitcode_memory.specs.LittleEndian.{little_endian}
 use Rattle.bitcode_coder.specs.Length.{lengths_left}
 use Rattle.bitcode_coder.proofs.LengthLemmas.{length-lengths_from}
 use Rattle.bitcode_coder.proofs.length.decoder.LengthDecoder.remaining.Goals as goal

@@ -1,5 +1,5 @@
 -- A length below 255 is a short byte; a greater one is an escape and a large length.
-use Rattle.bitcode_columns.specs.Fast.{fast_items}
+use Rattle.bitcode_memory.specs.Fast.{fast_items}
 use Rattle.bitcode_coder.specs.Length.{written_lengths}
 use Rattle.bitcode_coder.proofs.LengthPartLemmas.{pushed_large}
 use Rattle.bitcode_coder.proofs.length.encoder.LengthEncoder.encode.Goals as goal

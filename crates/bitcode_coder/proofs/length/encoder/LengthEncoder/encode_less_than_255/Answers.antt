@@ -1,5 +1,5 @@
 -- The length is a short byte.
-use Rattle.bitcode_columns.specs.Fast.{fast_items}
+use Rattle.bitcode_memory.specs.Fast.{fast_items}
 use Rattle.bitcode_coder.specs.Length.{written_lengths}
 use Rattle.bitcode_coder.proofs.LengthPartLemmas.{pushed_short}
 use Rattle.bitcode_coder.proofs.length.encoder.LengthEncoder.encode_less_than_255.Goals as goal

@@ -1,7 +1,7 @@
 -- The lengths are short bytes.
 use Rattle.std.proofs.Common.{◌<◌, ◌≤◌, ◌++◌, All, map, sym, subst, ap, ◌∙◌, arith}
 use Rattle.std.proofs.lemmas.List.Elements.{All-map, All-weaker}
-use Rattle.bitcode_columns.specs.Fast.{fast_items}
+use Rattle.bitcode_memory.specs.Fast.{fast_items}
 use Rattle.bitcode_coder.specs.Length.{written_lengths}
 use Rattle.bitcode_coder.specs.LengthColumn.{escape, lengths_from}
 use Rattle.bitcode_coder.specs.LengthParts.{AreLengthParts}

@@ -1,5 +1,5 @@
 -- The text of both parts is that of the lengths.
-use Rattle.bitcode_columns.specs.Fast.{fast_items}
+use Rattle.bitcode_memory.specs.Fast.{fast_items}
 use Rattle.bitcode_coder.specs.Length.{written_lengths}
 use Rattle.bitcode_coder.proofs.LengthPartLemmas.{written_parts}
 use Rattle.bitcode_coder.proofs.length.encoder.LengthEncoderBuffer.collect_into.Goals as goal

@@ -1,7 +1,7 @@
 -- The lengths are read, then the bytes that they sum to, and then these are looked at.
 use Rattle.std.proofs.Common.{◌≡◌, ℕ, None, ◌<◌, List, [], length, All, refl, sym, subst, ◌∙◌}
 use Rattle.std.specs.Prelude.{IsUtf8}
-use Rattle.bitcode_columns.specs.Fast.{slice_rest}
+use Rattle.bitcode_memory.specs.Fast.{slice_rest}
 use Rattle.bitcode_columns.specs.Reading.{Reads}
 use Rattle.bitcode_coder.specs.Cutting.{cut}
 use Rattle.bitcode_coder.specs.LengthColumn.{SpellsLengths}

@@ -1,6 +1,6 @@
 use Rattle.std.proofs.Common.{◌≡◌, ◌+◌, ◌≤◌, ◌++◌, length, map}
 use Rattle.std.specs.Prelude.{vec_len, vec_capacity}
-use Rattle.bitcode_columns.specs.Fast.{slice_rest}
+use Rattle.bitcode_memory.specs.Fast.{slice_rest}
 use Rattle.bitcode_coder.specs.Cutting.{cut}
 use Rattle.bitcode_coder.specs.Length.{lengths_left}
 use Rattle.bitcode_coder.proofs.str.decoder.StrDecoder.take_each.Given as goal

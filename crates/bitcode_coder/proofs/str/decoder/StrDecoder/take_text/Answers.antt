@@ -2,7 +2,7 @@
 use Rattle.std.specs.Prelude.{IsUtf8}
 use Rattle.std.proofs.Common.{take, drop}
 use Rattle.std.proofs.lemmas.List.Elements.{All-rest}
-use Rattle.bitcode_columns.specs.Fast.{slice_rest}
+use Rattle.bitcode_memory.specs.Fast.{slice_rest}
 use Rattle.bitcode_coder.specs.Cutting.{cut}
 use Rattle.bitcode_coder.specs.Length.{lengths_left}
 use Rattle.bitcode_coder.proofs.StrLemmas.{taken_piece}

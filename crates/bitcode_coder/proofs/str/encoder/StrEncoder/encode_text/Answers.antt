@@ -1,6 +1,6 @@
 -- The text is one piece more, whichever way its bytes are pushed.
 use Rattle.std.proofs.Common.{◌++◌, ap, ◌∙◌}
-use Rattle.bitcode_columns.specs.Fast.{fast_items}
+use Rattle.bitcode_memory.specs.Fast.{fast_items}
 use Rattle.bitcode_coder.specs.Length.{written_lengths}
 use Rattle.bitcode_coder.proofs.StrLemmas.{pieces_pushed}
 use Rattle.bitcode_coder.proofs.str.encoder.StrEncoder.encode_text.Goals as goal

@@ -1,7 +1,7 @@
 -- Short texts and then long ones are written behind those that were.
 use Rattle.std.proofs.Common.{◌≡◌, ◌+◌, ◌-◌, length, take, drop, ap, arith}
 use Rattle.std.proofs.lemmas.List.{length-drop, take_all}
-use Rattle.bitcode_columns.specs.Fast.{fast_items}
+use Rattle.bitcode_memory.specs.Fast.{fast_items}
 use Rattle.bitcode_coder.specs.Cutting.{cut}
 use Rattle.bitcode_coder.specs.Length.{written_lengths}
 use Rattle.bitcode_coder.proofs.PushedTextLemmas.{texts_behind}

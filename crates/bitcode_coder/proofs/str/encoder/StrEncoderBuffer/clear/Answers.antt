@@ -1,6 +1,6 @@
 -- No lengths, and no bytes.
 use Rattle.std.proofs.Common.{[], length, sum, sym, ap, ◌∙◌}
-use Rattle.bitcode_columns.specs.Fast.{fast_items}
+use Rattle.bitcode_memory.specs.Fast.{fast_items}
 use Rattle.bitcode_coder.specs.Length.{written_lengths}
 use Rattle.bitcode_coder.proofs.StrLemmas.{same_lengths, no_pieces}
 use Rattle.bitcode_coder.proofs.str.encoder.StrEncoderBuffer.clear.Goals as goal

@@ -2,7 +2,7 @@
 use Rattle.std.proofs.Common.{◌++◌, [], length, sum, sym, ap, ◌∙◌}
 use Rattle.std.proofs.lemmas.Result.{on_ok_weaker}
 use Rattle.bitcode_coder.specs.LengthColumn.{length_bytes}
-use Rattle.bitcode_columns.specs.Fast.{fast_items}
+use Rattle.bitcode_memory.specs.Fast.{fast_items}
 use Rattle.bitcode_coder.specs.Length.{written_lengths}
 use Rattle.bitcode_coder.proofs.StrLemmas.{OnOk-always, same_lengths, no_pieces, texts_bytes-cut}
 use Rattle.bitcode_coder.proofs.str.encoder.StrEncoderBuffer.collect_into.Goals as goal

@@ -1,6 +1,6 @@
 -- The lengths are those that were there.
 use Rattle.std.proofs.Common.{sum, ap, ◌∙◌}
-use Rattle.bitcode_columns.specs.Fast.{fast_items}
+use Rattle.bitcode_memory.specs.Fast.{fast_items}
 use Rattle.bitcode_coder.specs.Length.{written_lengths}
 use Rattle.bitcode_coder.proofs.StrLemmas.{same_lengths, pieces_kept}
 use Rattle.bitcode_coder.proofs.str.encoder.StrEncoderBuffer.reserve.Goals as goal

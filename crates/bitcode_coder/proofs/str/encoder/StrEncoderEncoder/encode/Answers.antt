@@ -1,7 +1,7 @@
 -- The text joins its column.
 use Rattle.std.proofs.Common.{sym, subst, None}
 use Rattle.std.proofs.lemmas.Result.{on_ok_weaker}
-use Rattle.bitcode_columns.specs.Fast.{fast_items}
+use Rattle.bitcode_memory.specs.Fast.{fast_items}
 use Rattle.bitcode_coder.specs.Length.{written_lengths}
 use Rattle.bitcode_coder.proofs.OneColumnLemmas.{joins_entry}
 use Rattle.bitcode_coder.specs.Columns.{texts}

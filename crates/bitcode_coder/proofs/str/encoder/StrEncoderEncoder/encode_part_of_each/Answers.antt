@@ -1,7 +1,7 @@
 -- The texts of the parts join their column.
 use Rattle.std.proofs.Common.{map, None}
 use Rattle.std.proofs.lemmas.Result.{on_ok_weaker}
-use Rattle.bitcode_columns.specs.Fast.{fast_items}
+use Rattle.bitcode_memory.specs.Fast.{fast_items}
 use Rattle.bitcode_shapes.specs.Datum.{text}
 use Rattle.bitcode_coder.specs.Columns.{texts}
 use Rattle.bitcode_coder.specs.Cutting.{cut}

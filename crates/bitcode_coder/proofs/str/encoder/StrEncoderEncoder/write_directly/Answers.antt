@@ -1,6 +1,6 @@
 -- The column of the one text is its length and its bytes.
 use Rattle.std.proofs.Common.{sym, subst, None, map, ap, ◌∙◌, ◌++◌, ◌∷◌, [], length, append_assoc}
-use Rattle.bitcode_columns.specs.Fast.{fast_items}
+use Rattle.bitcode_memory.specs.Fast.{fast_items}
 use Rattle.bitcode_shapes.specs.Datum.{text}
 use Rattle.bitcode_coder.specs.Columns.{texts}
 use Rattle.bitcode_coder.specs.Cutting.{cut}

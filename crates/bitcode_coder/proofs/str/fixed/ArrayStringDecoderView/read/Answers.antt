@@ -1,6 +1,6 @@
 -- The texts are read as those without a limit, and then the limit is asked.
 use Rattle.std.proofs.lemmas.Result.{err_from_is_err_and}
-use Rattle.bitcode_columns.specs.Fast.{slice_rest}
+use Rattle.bitcode_memory.specs.Fast.{slice_rest}
 use Rattle.bitcode_coder.specs.Cutting.{cut}
 use Rattle.bitcode_coder.specs.Length.{short_left, large_left, lengths_left}
 use Rattle.bitcode_coder.specs.TextParts.{in_texts}

@@ -2,7 +2,7 @@
 -- The shape of what is read is that of the variant of the number.
 use Rattle.std.proofs.Common.{◌≡◌, ◌-◌, sym, ap, subst, ◌∙◌, arith}
 use Rattle.std.specs.Prelude.{IfOk, IfErr}
-use Rattle.bitcode_columns.specs.declared.error.Error.{Error}
+use Rattle.bitcode_memory.specs.declared.error.Error.{Error}
 use Rattle.bitcode_coder.specs.Coder.{IsReadingRefusal}
 use Rattle.bitcode_coder.specs.Strict.{JudgesData}
 use Rattle.bitcode_enums.proofs.VariantLemmas.{shape_of}

@@ -2,7 +2,7 @@
 -- What is written of the payload is written of the value, at its place among the variants.
 use Rattle.std.proofs.Common.{[], ◌∷◌, arith}
 use Rattle.std.proofs.lemmas.Result.{on_ok_weaker}
-use Rattle.bitcode_columns.specs.declared.error.Error.{Error}
+use Rattle.bitcode_memory.specs.declared.error.Error.{Error}
 use Rattle.bitcode_coder.proofs.RefusalLemmas.{refused_weaker}
 use Rattle.bitcode_enums.proofs.VariantLemmas.{joins_of, overflows_of}
 use Rattle.bitcode_enums.proofs.variants.of_2.Encoders2.encode_first.Goals as goal

@@ -1,7 +1,7 @@
 -- An option is written as its variant, and then its value where it has one.
 use Rattle.std.proofs.Common.{ap, refl}
 use Rattle.std.proofs.lemmas.Result.{on_ok_weaker}
-use Rattle.bitcode_columns.specs.declared.error.Error.{Error}
+use Rattle.bitcode_memory.specs.declared.error.Error.{Error}
 use Rattle.bitcode_shapes.specs.Datum.{unit}
 use Rattle.bitcode_shapes.specs.Choices.{option_variant}
 use Rattle.bitcode_coder.proofs.RefusalLemmas.{refused_weaker}

@@ -1,7 +1,7 @@
 -- A result is written as its variant, and then the payload of that variant.
 use Rattle.std.proofs.Common.{ap}
 use Rattle.std.proofs.lemmas.Result.{on_ok_weaker}
-use Rattle.bitcode_columns.specs.declared.error.Error.{Error}
+use Rattle.bitcode_memory.specs.declared.error.Error.{Error}
 use Rattle.bitcode_shapes.specs.Choices.{result_variant}
 use Rattle.bitcode_coder.proofs.RefusalLemmas.{refused_weaker}
 use Rattle.bitcode_parts.proofs.TwoVariantLemmas.{first_joins, first_overflows, second_joins, second_overflows}

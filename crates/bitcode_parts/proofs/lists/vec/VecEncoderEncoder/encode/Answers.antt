@@ -2,7 +2,7 @@
 use Rattle.std.proofs.Common.{map, length, subst}
 use Rattle.std.specs.Prelude.{None}
 use Rattle.std.proofs.lemmas.Result.{err_from_is_err_and, on_ok_weaker}
-use Rattle.bitcode_columns.specs.declared.error.Error.{Error}
+use Rattle.bitcode_memory.specs.declared.error.Error.{Error}
 use Rattle.bitcode_coder.specs.Columns.{lengths, one, two}
 use Rattle.bitcode_coder.specs.Length.{written_lengths}
 use Rattle.bitcode_coder.specs.Spelling.{natural}

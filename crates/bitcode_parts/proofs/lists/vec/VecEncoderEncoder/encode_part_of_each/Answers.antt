@@ -2,7 +2,7 @@
 use Rattle.std.proofs.Common.{◌≡◌, ◌-◌, ◌++◌, None, [], length, map, take, drop, sym, subst, ap, ◌∙◌, arith, append-nil, take-append-drop}
 use Rattle.std.proofs.lemmas.List.{map-append, take_all, length-drop}
 use Rattle.std.proofs.lemmas.Result.{on_ok_weaker}
-use Rattle.bitcode_columns.specs.declared.error.Error.{Error}
+use Rattle.bitcode_memory.specs.declared.error.Error.{Error}
 use Rattle.bitcode_coder.specs.Columns.{lengths, one, two}
 use Rattle.bitcode_coder.specs.Coder.{JoinsEach}
 use Rattle.bitcode_coder.specs.Length.{written_lengths}

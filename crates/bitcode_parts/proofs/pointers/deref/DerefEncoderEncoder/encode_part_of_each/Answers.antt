@@ -1,7 +1,7 @@
 -- What the encoder of that which is pointed to does is done of the pointers.
 use Rattle.std.proofs.Common.{map, subst}
 use Rattle.std.proofs.lemmas.Result.{on_ok_weaker}
-use Rattle.bitcode_columns.specs.declared.error.Error.{Error}
+use Rattle.bitcode_memory.specs.declared.error.Error.{Error}
 use Rattle.bitcode_coder.specs.Coder.{JoinsEach, OverflowsWithEach}
 use Rattle.bitcode_coder.proofs.RefusalLemmas.{refused_weaker}
 use Rattle.bitcode_parts.proofs.PointerLemmas.{joins_pointers, overflows_pointers}

@@ -1,5 +1,5 @@
 use Rattle.std.proofs.Common.{ap, subst, All, sym, ◌∙◌, ◌<◌}
-use Rattle.bitcode_columns.specs.Fast.{cow_rest}
+use Rattle.bitcode_memory.specs.Fast.{cow_rest}
 use Rattle.bitcode_columns.specs.Histogram.{count_of}
 use Rattle.bitcode_serde.specs.Indices.{indices_left, index_count}
 use Rattle.bitcode_serde.proofs.IndexLemmas.{indices_read, indices_judged, indices_counted}

@@ -1,6 +1,6 @@
 use Rattle.std.proofs.Common.{ap, sym, ◌∙◌, ◌++◌, map, pos}
 use Rattle.bitcode_columns.specs.IntColumn.{int_text}
-use Rattle.bitcode_columns.specs.Fast.{fast_items}
+use Rattle.bitcode_memory.specs.Fast.{fast_items}
 use Rattle.bitcode_coder.proofs.IntLemmas.{numbers_in}
 use Rattle.bitcode_serde.specs.Indices.{written_indices}
 use Rattle.bitcode_serde.proofs.serde.encoder.VariantEncoderBuffer.collect_into.Goals as goal

@@ -1,5 +1,5 @@
 use Rattle.std.proofs.Common.{refl, false}
-use Rattle.bitcode_columns.specs.Fast.{fast_items}
+use Rattle.bitcode_memory.specs.Fast.{fast_items}
 use Rattle.bitcode_coder.specs.Columns.{ints}
 use Rattle.bitcode_coder.specs.Spelling.{natural}
 use Rattle.bitcode_coder.proofs.OneColumnLemmas.{joins_entry}

@@ -1,7 +1,0 @@
-use denote.RattleType.{RattleType}
-use denote.Param.Send.{IsSend}
-use Rattle.bitcode_columns.proofs.MemoryLentLemmas.{Places-send}
-use Rattle.bitcode_columns.specs.contracts.fast.memory.Places.{the_row}
-
-pub send : (R : RattleType) → IsSend R → IsSend (the_row R)
-send = Places-send

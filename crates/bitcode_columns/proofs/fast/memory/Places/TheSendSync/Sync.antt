@@ -1,7 +1,0 @@
-use denote.RattleType.{RattleType}
-use denote.Param.Send.{IsSync}
-use Rattle.bitcode_columns.proofs.MemoryLentLemmas.{Places-sync}
-use Rattle.bitcode_columns.specs.contracts.fast.memory.Places.{the_row}
-
-pub sync : (R : RattleType) → IsSync R → IsSync (the_row R)
-sync = Places-sync

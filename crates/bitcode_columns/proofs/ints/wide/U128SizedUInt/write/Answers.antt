@@ -1,8 +1,0 @@
--- What was appended are the number's bytes, as std says them.
-use Rattle.std.proofs.Common.{◌++◌, ap, ◌∙◌}
-use Rattle.bitcode_columns.proofs.UnalignedLemmas.{to_le_bytes_128}
-use Rattle.bitcode_columns.proofs.ints.wide.U128SizedUInt.write.Goals as goal
-
-pub returns-clause-written : goal.returns-clause-written
-returns-clause-written c =
-    c.in_ok-extend_from_slice.ensures.items ∙ ap (λ b. c.args.out.now.items ++ b) (c.to_le_bytes-bytes.ensures ∙ to_le_bytes_128 c.args.self)

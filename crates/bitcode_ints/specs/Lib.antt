@@ -1,0 +1,2 @@
+pub mod U8Char
+pub mod CheckedColumn

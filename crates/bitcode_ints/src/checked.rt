@@ -1,0 +1,105 @@
+//! Types that allow only some integers, and their decoder.
+ghost use Rattle.std.specs.Prelude.{◌≡◌, ◌≢◌, [], true, All, MatchBool, MatchOption};
+ghost use Rattle.std.proofs.Common.{sym};
+ghost use Rattle.bitcode_memory.specs.Fast.{cow_rest, cow_owned};
+ghost use Rattle.bitcode_memory.specs.LittleEndian.{little_endian};
+ghost use Rattle.bitcode_memory.specs.Ints.{number_of};
+ghost use Rattle.bitcode_shapes.specs.Datum.{number};
+ghost use Rattle.bitcode_shapes.specs.Shape.{Allowed, IsAllowed, number_shape};
+ghost use Rattle.bitcode_ints.specs.CheckedColumn.{numbers_of, checked_data, NamesCheckedFault};
+
+pub use crate::checked::nanosecond::Nanosecond;
+use crate::column_int::ColumnInt;
+use bitcode_coder::coder::{Decoder, HoldsData, View};
+use bitcode_memory::error::{Error, Reason};
+use bitcode_memory::fast::CowSlice;
+use bitcode_memory::refuse::err;
+use bitcode_shapes::shaped::Made;
+use std::alloc::Global;
+use std::marker::PhantomData;
+
+mod nanosecond;
+mod types;
+
+/// A type whose values are some of the integers `I`, as those of `char` are some `u32`.
+pub trait Checked<I: ColumnInt>: Made + Drop {
+    // which integers have a value
+    ghost allowed: { Allowed };
+
+    /// The value of an integer, if the type allows it: `NonZeroU8` does not allow 0.
+    fn from_bits(bits: I) -> Option<Self>
+        ensures { MatchOption result (IsAllowed allowed (I.number bits) → ⊥)
+            (λ t. IsAllowed allowed (I.number bits) × Self.makes (number (I.number bits)) t) };
+
+    ghost checked_shape: { Self.shape ≡ number_shape I.width I.signed allowed };
+}
+
+/// The column that values of `C` are read from: integers `I`, each of which `C` allows.
+///
+/// ```
+/// let mut column: CheckedIntDecoder<char, u32> = CheckedIntDecoder::new(alloc);
+/// column.populate(&mut input, 1)?; // [4, 97]
+/// let first: char = column.decode()?; // 'a'
+/// ```
+#[derive(Drop)]
+pub struct CheckedIntDecoder<'a, C: Checked<I>, I: ColumnInt> {
+    alloc: Global,
+    values: CowSlice<'a, I::Une>,
+    of: PhantomData<C>,
+}
+
+// Whether each of the integers is allowed.
+fn are_allowed<C: Checked<I>, I: ColumnInt>(entries: &[I::Une]) -> bool
+    ensures { MatchBool result
+        (All (λ entry. IsAllowed C.allowed
+        (number_of I.width I.signed (little_endian (I.une_bytes entry)))) entries.now)
+        (All (λ entry. IsAllowed C.allowed
+        (number_of I.width I.signed (little_endian (I.une_bytes entry)))) entries.now → ⊥) }
+{
+    for entry in entries {
+        if C::from_bits(I::from_unaligned(*entry)).is_none() {
+            return false;
+        }
+    }
+    true
+}
+
+impl<'a, C: Checked<I>, I: ColumnInt> HoldsData for CheckedIntDecoder<'a, C, I> {
+    ghost shape = { number_shape I.width I.signed C.allowed };
+
+    ghost held = { λ d. checked_data C.allowed
+        (numbers_of I.width I.signed I.une_bytes (cow_rest d.values)) };
+
+    ghost owned = { λ d. cow_owned d.values };
+}
+
+impl<'a, C: Checked<I>, I: ColumnInt> View<'a> for CheckedIntDecoder<'a, C, I> {
+    ghost faults = { NamesCheckedFault I.width I.signed C.allowed };
+
+    fn new(alloc: Global) -> Self {
+        CheckedIntDecoder {
+            alloc,
+            values: CowSlice::new(alloc),
+            of: PhantomData,
+        }
+    }
+
+    fn read(&mut self, input: &mut &'a [u8], k: usize, strict: bool) -> Result<bool, Error> {
+        let written = I::unpack(self.alloc, input, k, &mut self.values, strict)?;
+        if !are_allowed::<C, I>(self.values.as_slice()) {
+            return err(Reason::InvalidBitPattern);
+        }
+        Ok(written)
+    }
+}
+
+impl<'a, C: Checked<I>, I: ColumnInt> Decoder<C> for CheckedIntDecoder<'a, C, I> {
+    ghost makes_free = { true };
+
+    fn decode(&mut self) -> Result<C, Error> {
+        let bits = I::from_unaligned(self.values.next_unchecked());
+        Ok(C::from_bits(bits).unwrap())
+    }
+
+    ghost same_shape = { sym C.checked_shape };
+}

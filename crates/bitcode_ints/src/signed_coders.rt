@@ -1,0 +1,789 @@
+// Written by scripts/tables/integers.
+//! The coders of signed integers, each a struct without parameters.
+ghost use Rattle.std.specs.Prelude.{refl};
+
+use crate::int::{IntDecoder, IntEncoder};
+use bitcode_coder::coder::{Buffer, Decoder, Encoder, HoldsColumns, HoldsData, View};
+use bitcode_coder::part::Part;
+use bitcode_memory::error::Error;
+use std::alloc::Global;
+
+/// The column that values of `i8` are written to, as to `IntEncoder<i8>`.
+///
+/// ```
+/// let mut column = I8Encoder::new(alloc);
+/// column.reserve(1)?;
+/// column.encode(&7)?;
+/// column.collect_into(&mut bytes)?;
+/// ```
+#[derive(Drop)]
+pub struct I8Encoder {
+    column: IntEncoder<i8>,
+}
+
+impl HoldsColumns for I8Encoder {
+    ghost columns = { λ e. ⟦<IntEncoder<i8> as HoldsColumns>⟧.columns e.column };
+
+    ghost room = { λ e. ⟦<IntEncoder<i8> as HoldsColumns>⟧.room e.column };
+
+    ghost capacity = { λ e. ⟦<IntEncoder<i8> as HoldsColumns>⟧.capacity e.column };
+
+    ghost surely_overflows = { λ e n. ⊥ };
+
+    ghost overflows = { λ e n. ⟦<IntEncoder<i8> as HoldsColumns>⟧.overflows e.column n };
+}
+
+impl Buffer for I8Encoder {
+    fn new(alloc: Global) -> Self {
+        I8Encoder {
+            column: IntEncoder::new(alloc),
+        }
+    }
+
+    fn reserve(&mut self, n: usize) -> Result<(), Error> {
+        self.column.reserve(n)
+    }
+
+    fn collect_into(&mut self, out: &mut Vec<u8>) -> Result<(), Error> {
+        self.column.collect_into(out)
+    }
+
+    fn clear(&mut self) {
+        self.column.clear();
+    }
+}
+
+impl Encoder<i8> for I8Encoder {
+    ghost writes_free = { ⟦<IntEncoder<i8> as Encoder<i8>>⟧.writes_free };
+
+    fn encode(&mut self, t: &i8) -> Result<(), Error> {
+        self.column.encode(t)
+    }
+
+    fn write_directly(&mut self, t: &i8, out: &mut Vec<u8>) -> Result<bool, Error> {
+        self.column.write_directly(t, out)
+    }
+
+    fn encode_part_of_each<S, W: Part<S, i8>>(
+        &mut self,
+        items: &[S],
+        which: &W,
+        first: &i8,
+    ) -> Result<(), Error> {
+        self.column.encode_part_of_each(items, which, first)
+    }
+
+    fn is_primitive() -> bool {
+        <IntEncoder<i8> as Encoder<i8>>::is_primitive()
+    }
+
+    fn encode_slice(&mut self, items: &[i8]) -> Result<(), Error> {
+        self.column.encode_slice(items)
+    }
+
+    fn write_slice_directly(&self, items: &[i8], out: &mut Vec<u8>) -> Result<bool, Error> {
+        self.column.write_slice_directly(items, out)
+    }
+
+    ghost of_shape = { λ e. refl };
+
+    ghost surely = { λ e n never. absurd never };
+}
+
+/// The column that values of `i8` are read from, as from `IntDecoder<i8>`.
+///
+/// ```
+/// let mut column = I8Decoder::new(alloc);
+/// column.populate(&mut input, 1)?;
+/// let first = column.decode()?;
+/// ```
+#[derive(Drop)]
+pub struct I8Decoder<'a> {
+    column: IntDecoder<'a, i8>,
+}
+
+impl<'a> HoldsData for I8Decoder<'a> {
+    ghost shape = { ⟦<IntDecoder<'a, i8> as HoldsData>⟧.shape };
+
+    ghost held = { λ d. ⟦<IntDecoder<'a, i8> as HoldsData>⟧.held d.column };
+
+    ghost owned = { λ d. ⟦<IntDecoder<'a, i8> as HoldsData>⟧.owned d.column };
+}
+
+impl<'a> View<'a> for I8Decoder<'a> {
+    ghost faults = { ⟦<IntDecoder<'a, i8> as View<'a>>⟧.faults };
+
+    fn new(alloc: Global) -> Self {
+        I8Decoder {
+            column: View::new(alloc),
+        }
+    }
+
+    fn read(&mut self, input: &mut &'a [u8], k: usize, strict: bool) -> Result<bool, Error> {
+        self.column.read(input, k, strict)
+    }
+}
+
+impl<'a> Decoder<i8> for I8Decoder<'a> {
+    ghost makes_free = { ⟦<IntDecoder<'a, i8> as Decoder<i8>>⟧.makes_free };
+
+    fn decode(&mut self) -> Result<i8, Error> {
+        self.column.decode()
+    }
+
+    fn decode_many(&mut self, alloc: Global, count: usize) -> Result<Vec<i8>, Error> {
+        self.column.decode_many(alloc, count)
+    }
+
+    ghost same_shape = { refl };
+}
+
+/// The column that values of `i16` are written to, as to `IntEncoder<i16>`.
+///
+/// ```
+/// let mut column = I16Encoder::new(alloc);
+/// column.reserve(1)?;
+/// column.encode(&7)?;
+/// column.collect_into(&mut bytes)?;
+/// ```
+#[derive(Drop)]
+pub struct I16Encoder {
+    column: IntEncoder<i16>,
+}
+
+impl HoldsColumns for I16Encoder {
+    ghost columns = { λ e. ⟦<IntEncoder<i16> as HoldsColumns>⟧.columns e.column };
+
+    ghost room = { λ e. ⟦<IntEncoder<i16> as HoldsColumns>⟧.room e.column };
+
+    ghost capacity = { λ e. ⟦<IntEncoder<i16> as HoldsColumns>⟧.capacity e.column };
+
+    ghost surely_overflows = { λ e n. ⊥ };
+
+    ghost overflows = { λ e n. ⟦<IntEncoder<i16> as HoldsColumns>⟧.overflows e.column n };
+}
+
+impl Buffer for I16Encoder {
+    fn new(alloc: Global) -> Self {
+        I16Encoder {
+            column: IntEncoder::new(alloc),
+        }
+    }
+
+    fn reserve(&mut self, n: usize) -> Result<(), Error> {
+        self.column.reserve(n)
+    }
+
+    fn collect_into(&mut self, out: &mut Vec<u8>) -> Result<(), Error> {
+        self.column.collect_into(out)
+    }
+
+    fn clear(&mut self) {
+        self.column.clear();
+    }
+}
+
+impl Encoder<i16> for I16Encoder {
+    ghost writes_free = { ⟦<IntEncoder<i16> as Encoder<i16>>⟧.writes_free };
+
+    fn encode(&mut self, t: &i16) -> Result<(), Error> {
+        self.column.encode(t)
+    }
+
+    fn write_directly(&mut self, t: &i16, out: &mut Vec<u8>) -> Result<bool, Error> {
+        self.column.write_directly(t, out)
+    }
+
+    fn encode_part_of_each<S, W: Part<S, i16>>(
+        &mut self,
+        items: &[S],
+        which: &W,
+        first: &i16,
+    ) -> Result<(), Error> {
+        self.column.encode_part_of_each(items, which, first)
+    }
+
+    fn is_primitive() -> bool {
+        <IntEncoder<i16> as Encoder<i16>>::is_primitive()
+    }
+
+    fn encode_slice(&mut self, items: &[i16]) -> Result<(), Error> {
+        self.column.encode_slice(items)
+    }
+
+    fn write_slice_directly(&self, items: &[i16], out: &mut Vec<u8>) -> Result<bool, Error> {
+        self.column.write_slice_directly(items, out)
+    }
+
+    ghost of_shape = { λ e. refl };
+
+    ghost surely = { λ e n never. absurd never };
+}
+
+/// The column that values of `i16` are read from, as from `IntDecoder<i16>`.
+///
+/// ```
+/// let mut column = I16Decoder::new(alloc);
+/// column.populate(&mut input, 1)?;
+/// let first = column.decode()?;
+/// ```
+#[derive(Drop)]
+pub struct I16Decoder<'a> {
+    column: IntDecoder<'a, i16>,
+}
+
+impl<'a> HoldsData for I16Decoder<'a> {
+    ghost shape = { ⟦<IntDecoder<'a, i16> as HoldsData>⟧.shape };
+
+    ghost held = { λ d. ⟦<IntDecoder<'a, i16> as HoldsData>⟧.held d.column };
+
+    ghost owned = { λ d. ⟦<IntDecoder<'a, i16> as HoldsData>⟧.owned d.column };
+}
+
+impl<'a> View<'a> for I16Decoder<'a> {
+    ghost faults = { ⟦<IntDecoder<'a, i16> as View<'a>>⟧.faults };
+
+    fn new(alloc: Global) -> Self {
+        I16Decoder {
+            column: View::new(alloc),
+        }
+    }
+
+    fn read(&mut self, input: &mut &'a [u8], k: usize, strict: bool) -> Result<bool, Error> {
+        self.column.read(input, k, strict)
+    }
+}
+
+impl<'a> Decoder<i16> for I16Decoder<'a> {
+    ghost makes_free = { ⟦<IntDecoder<'a, i16> as Decoder<i16>>⟧.makes_free };
+
+    fn decode(&mut self) -> Result<i16, Error> {
+        self.column.decode()
+    }
+
+    fn decode_many(&mut self, alloc: Global, count: usize) -> Result<Vec<i16>, Error> {
+        self.column.decode_many(alloc, count)
+    }
+
+    ghost same_shape = { refl };
+}
+
+/// The column that values of `i32` are written to, as to `IntEncoder<i32>`.
+///
+/// ```
+/// let mut column = I32Encoder::new(alloc);
+/// column.reserve(1)?;
+/// column.encode(&7)?;
+/// column.collect_into(&mut bytes)?;
+/// ```
+#[derive(Drop)]
+pub struct I32Encoder {
+    column: IntEncoder<i32>,
+}
+
+impl HoldsColumns for I32Encoder {
+    ghost columns = { λ e. ⟦<IntEncoder<i32> as HoldsColumns>⟧.columns e.column };
+
+    ghost room = { λ e. ⟦<IntEncoder<i32> as HoldsColumns>⟧.room e.column };
+
+    ghost capacity = { λ e. ⟦<IntEncoder<i32> as HoldsColumns>⟧.capacity e.column };
+
+    ghost surely_overflows = { λ e n. ⊥ };
+
+    ghost overflows = { λ e n. ⟦<IntEncoder<i32> as HoldsColumns>⟧.overflows e.column n };
+}
+
+impl Buffer for I32Encoder {
+    fn new(alloc: Global) -> Self {
+        I32Encoder {
+            column: IntEncoder::new(alloc),
+        }
+    }
+
+    fn reserve(&mut self, n: usize) -> Result<(), Error> {
+        self.column.reserve(n)
+    }
+
+    fn collect_into(&mut self, out: &mut Vec<u8>) -> Result<(), Error> {
+        self.column.collect_into(out)
+    }
+
+    fn clear(&mut self) {
+        self.column.clear();
+    }
+}
+
+impl Encoder<i32> for I32Encoder {
+    ghost writes_free = { ⟦<IntEncoder<i32> as Encoder<i32>>⟧.writes_free };
+
+    fn encode(&mut self, t: &i32) -> Result<(), Error> {
+        self.column.encode(t)
+    }
+
+    fn write_directly(&mut self, t: &i32, out: &mut Vec<u8>) -> Result<bool, Error> {
+        self.column.write_directly(t, out)
+    }
+
+    fn encode_part_of_each<S, W: Part<S, i32>>(
+        &mut self,
+        items: &[S],
+        which: &W,
+        first: &i32,
+    ) -> Result<(), Error> {
+        self.column.encode_part_of_each(items, which, first)
+    }
+
+    fn is_primitive() -> bool {
+        <IntEncoder<i32> as Encoder<i32>>::is_primitive()
+    }
+
+    fn encode_slice(&mut self, items: &[i32]) -> Result<(), Error> {
+        self.column.encode_slice(items)
+    }
+
+    fn write_slice_directly(&self, items: &[i32], out: &mut Vec<u8>) -> Result<bool, Error> {
+        self.column.write_slice_directly(items, out)
+    }
+
+    ghost of_shape = { λ e. refl };
+
+    ghost surely = { λ e n never. absurd never };
+}
+
+/// The column that values of `i32` are read from, as from `IntDecoder<i32>`.
+///
+/// ```
+/// let mut column = I32Decoder::new(alloc);
+/// column.populate(&mut input, 1)?;
+/// let first = column.decode()?;
+/// ```
+#[derive(Drop)]
+pub struct I32Decoder<'a> {
+    column: IntDecoder<'a, i32>,
+}
+
+impl<'a> HoldsData for I32Decoder<'a> {
+    ghost shape = { ⟦<IntDecoder<'a, i32> as HoldsData>⟧.shape };
+
+    ghost held = { λ d. ⟦<IntDecoder<'a, i32> as HoldsData>⟧.held d.column };
+
+    ghost owned = { λ d. ⟦<IntDecoder<'a, i32> as HoldsData>⟧.owned d.column };
+}
+
+impl<'a> View<'a> for I32Decoder<'a> {
+    ghost faults = { ⟦<IntDecoder<'a, i32> as View<'a>>⟧.faults };
+
+    fn new(alloc: Global) -> Self {
+        I32Decoder {
+            column: View::new(alloc),
+        }
+    }
+
+    fn read(&mut self, input: &mut &'a [u8], k: usize, strict: bool) -> Result<bool, Error> {
+        self.column.read(input, k, strict)
+    }
+}
+
+impl<'a> Decoder<i32> for I32Decoder<'a> {
+    ghost makes_free = { ⟦<IntDecoder<'a, i32> as Decoder<i32>>⟧.makes_free };
+
+    fn decode(&mut self) -> Result<i32, Error> {
+        self.column.decode()
+    }
+
+    fn decode_many(&mut self, alloc: Global, count: usize) -> Result<Vec<i32>, Error> {
+        self.column.decode_many(alloc, count)
+    }
+
+    ghost same_shape = { refl };
+}
+
+/// The column that values of `i64` are written to, as to `IntEncoder<i64>`.
+///
+/// ```
+/// let mut column = I64Encoder::new(alloc);
+/// column.reserve(1)?;
+/// column.encode(&7)?;
+/// column.collect_into(&mut bytes)?;
+/// ```
+#[derive(Drop)]
+pub struct I64Encoder {
+    column: IntEncoder<i64>,
+}
+
+impl HoldsColumns for I64Encoder {
+    ghost columns = { λ e. ⟦<IntEncoder<i64> as HoldsColumns>⟧.columns e.column };
+
+    ghost room = { λ e. ⟦<IntEncoder<i64> as HoldsColumns>⟧.room e.column };
+
+    ghost capacity = { λ e. ⟦<IntEncoder<i64> as HoldsColumns>⟧.capacity e.column };
+
+    ghost surely_overflows = { λ e n. ⊥ };
+
+    ghost overflows = { λ e n. ⟦<IntEncoder<i64> as HoldsColumns>⟧.overflows e.column n };
+}
+
+impl Buffer for I64Encoder {
+    fn new(alloc: Global) -> Self {
+        I64Encoder {
+            column: IntEncoder::new(alloc),
+        }
+    }
+
+    fn reserve(&mut self, n: usize) -> Result<(), Error> {
+        self.column.reserve(n)
+    }
+
+    fn collect_into(&mut self, out: &mut Vec<u8>) -> Result<(), Error> {
+        self.column.collect_into(out)
+    }
+
+    fn clear(&mut self) {
+        self.column.clear();
+    }
+}
+
+impl Encoder<i64> for I64Encoder {
+    ghost writes_free = { ⟦<IntEncoder<i64> as Encoder<i64>>⟧.writes_free };
+
+    fn encode(&mut self, t: &i64) -> Result<(), Error> {
+        self.column.encode(t)
+    }
+
+    fn write_directly(&mut self, t: &i64, out: &mut Vec<u8>) -> Result<bool, Error> {
+        self.column.write_directly(t, out)
+    }
+
+    fn encode_part_of_each<S, W: Part<S, i64>>(
+        &mut self,
+        items: &[S],
+        which: &W,
+        first: &i64,
+    ) -> Result<(), Error> {
+        self.column.encode_part_of_each(items, which, first)
+    }
+
+    fn is_primitive() -> bool {
+        <IntEncoder<i64> as Encoder<i64>>::is_primitive()
+    }
+
+    fn encode_slice(&mut self, items: &[i64]) -> Result<(), Error> {
+        self.column.encode_slice(items)
+    }
+
+    fn write_slice_directly(&self, items: &[i64], out: &mut Vec<u8>) -> Result<bool, Error> {
+        self.column.write_slice_directly(items, out)
+    }
+
+    ghost of_shape = { λ e. refl };
+
+    ghost surely = { λ e n never. absurd never };
+}
+
+/// The column that values of `i64` are read from, as from `IntDecoder<i64>`.
+///
+/// ```
+/// let mut column = I64Decoder::new(alloc);
+/// column.populate(&mut input, 1)?;
+/// let first = column.decode()?;
+/// ```
+#[derive(Drop)]
+pub struct I64Decoder<'a> {
+    column: IntDecoder<'a, i64>,
+}
+
+impl<'a> HoldsData for I64Decoder<'a> {
+    ghost shape = { ⟦<IntDecoder<'a, i64> as HoldsData>⟧.shape };
+
+    ghost held = { λ d. ⟦<IntDecoder<'a, i64> as HoldsData>⟧.held d.column };
+
+    ghost owned = { λ d. ⟦<IntDecoder<'a, i64> as HoldsData>⟧.owned d.column };
+}
+
+impl<'a> View<'a> for I64Decoder<'a> {
+    ghost faults = { ⟦<IntDecoder<'a, i64> as View<'a>>⟧.faults };
+
+    fn new(alloc: Global) -> Self {
+        I64Decoder {
+            column: View::new(alloc),
+        }
+    }
+
+    fn read(&mut self, input: &mut &'a [u8], k: usize, strict: bool) -> Result<bool, Error> {
+        self.column.read(input, k, strict)
+    }
+}
+
+impl<'a> Decoder<i64> for I64Decoder<'a> {
+    ghost makes_free = { ⟦<IntDecoder<'a, i64> as Decoder<i64>>⟧.makes_free };
+
+    fn decode(&mut self) -> Result<i64, Error> {
+        self.column.decode()
+    }
+
+    fn decode_many(&mut self, alloc: Global, count: usize) -> Result<Vec<i64>, Error> {
+        self.column.decode_many(alloc, count)
+    }
+
+    ghost same_shape = { refl };
+}
+
+/// The column that values of `i128` are written to, as to `IntEncoder<i128>`.
+///
+/// ```
+/// let mut column = I128Encoder::new(alloc);
+/// column.reserve(1)?;
+/// column.encode(&7)?;
+/// column.collect_into(&mut bytes)?;
+/// ```
+#[derive(Drop)]
+pub struct I128Encoder {
+    column: IntEncoder<i128>,
+}
+
+impl HoldsColumns for I128Encoder {
+    ghost columns = { λ e. ⟦<IntEncoder<i128> as HoldsColumns>⟧.columns e.column };
+
+    ghost room = { λ e. ⟦<IntEncoder<i128> as HoldsColumns>⟧.room e.column };
+
+    ghost capacity = { λ e. ⟦<IntEncoder<i128> as HoldsColumns>⟧.capacity e.column };
+
+    ghost surely_overflows = { λ e n. ⊥ };
+
+    ghost overflows = { λ e n. ⟦<IntEncoder<i128> as HoldsColumns>⟧.overflows e.column n };
+}
+
+impl Buffer for I128Encoder {
+    fn new(alloc: Global) -> Self {
+        I128Encoder {
+            column: IntEncoder::new(alloc),
+        }
+    }
+
+    fn reserve(&mut self, n: usize) -> Result<(), Error> {
+        self.column.reserve(n)
+    }
+
+    fn collect_into(&mut self, out: &mut Vec<u8>) -> Result<(), Error> {
+        self.column.collect_into(out)
+    }
+
+    fn clear(&mut self) {
+        self.column.clear();
+    }
+}
+
+impl Encoder<i128> for I128Encoder {
+    ghost writes_free = { ⟦<IntEncoder<i128> as Encoder<i128>>⟧.writes_free };
+
+    fn encode(&mut self, t: &i128) -> Result<(), Error> {
+        self.column.encode(t)
+    }
+
+    fn write_directly(&mut self, t: &i128, out: &mut Vec<u8>) -> Result<bool, Error> {
+        self.column.write_directly(t, out)
+    }
+
+    fn encode_part_of_each<S, W: Part<S, i128>>(
+        &mut self,
+        items: &[S],
+        which: &W,
+        first: &i128,
+    ) -> Result<(), Error> {
+        self.column.encode_part_of_each(items, which, first)
+    }
+
+    fn is_primitive() -> bool {
+        <IntEncoder<i128> as Encoder<i128>>::is_primitive()
+    }
+
+    fn encode_slice(&mut self, items: &[i128]) -> Result<(), Error> {
+        self.column.encode_slice(items)
+    }
+
+    fn write_slice_directly(&self, items: &[i128], out: &mut Vec<u8>) -> Result<bool, Error> {
+        self.column.write_slice_directly(items, out)
+    }
+
+    ghost of_shape = { λ e. refl };
+
+    ghost surely = { λ e n never. absurd never };
+}
+
+/// The column that values of `i128` are read from, as from `IntDecoder<i128>`.
+///
+/// ```
+/// let mut column = I128Decoder::new(alloc);
+/// column.populate(&mut input, 1)?;
+/// let first = column.decode()?;
+/// ```
+#[derive(Drop)]
+pub struct I128Decoder<'a> {
+    column: IntDecoder<'a, i128>,
+}
+
+impl<'a> HoldsData for I128Decoder<'a> {
+    ghost shape = { ⟦<IntDecoder<'a, i128> as HoldsData>⟧.shape };
+
+    ghost held = { λ d. ⟦<IntDecoder<'a, i128> as HoldsData>⟧.held d.column };
+
+    ghost owned = { λ d. ⟦<IntDecoder<'a, i128> as HoldsData>⟧.owned d.column };
+}
+
+impl<'a> View<'a> for I128Decoder<'a> {
+    ghost faults = { ⟦<IntDecoder<'a, i128> as View<'a>>⟧.faults };
+
+    fn new(alloc: Global) -> Self {
+        I128Decoder {
+            column: View::new(alloc),
+        }
+    }
+
+    fn read(&mut self, input: &mut &'a [u8], k: usize, strict: bool) -> Result<bool, Error> {
+        self.column.read(input, k, strict)
+    }
+}
+
+impl<'a> Decoder<i128> for I128Decoder<'a> {
+    ghost makes_free = { ⟦<IntDecoder<'a, i128> as Decoder<i128>>⟧.makes_free };
+
+    fn decode(&mut self) -> Result<i128, Error> {
+        self.column.decode()
+    }
+
+    fn decode_many(&mut self, alloc: Global, count: usize) -> Result<Vec<i128>, Error> {
+        self.column.decode_many(alloc, count)
+    }
+
+    ghost same_shape = { refl };
+}
+
+/// The column that values of `isize` are written to, as to `IntEncoder<isize>`.
+///
+/// ```
+/// let mut column = IsizeEncoder::new(alloc);
+/// column.reserve(1)?;
+/// column.encode(&7)?;
+/// column.collect_into(&mut bytes)?;
+/// ```
+#[derive(Drop)]
+pub struct IsizeEncoder {
+    column: IntEncoder<isize>,
+}
+
+impl HoldsColumns for IsizeEncoder {
+    ghost columns = { λ e. ⟦<IntEncoder<isize> as HoldsColumns>⟧.columns e.column };
+
+    ghost room = { λ e. ⟦<IntEncoder<isize> as HoldsColumns>⟧.room e.column };
+
+    ghost capacity = { λ e. ⟦<IntEncoder<isize> as HoldsColumns>⟧.capacity e.column };
+
+    ghost surely_overflows = { λ e n. ⊥ };
+
+    ghost overflows = { λ e n. ⟦<IntEncoder<isize> as HoldsColumns>⟧.overflows e.column n };
+}
+
+impl Buffer for IsizeEncoder {
+    fn new(alloc: Global) -> Self {
+        IsizeEncoder {
+            column: IntEncoder::new(alloc),
+        }
+    }
+
+    fn reserve(&mut self, n: usize) -> Result<(), Error> {
+        self.column.reserve(n)
+    }
+
+    fn collect_into(&mut self, out: &mut Vec<u8>) -> Result<(), Error> {
+        self.column.collect_into(out)
+    }
+
+    fn clear(&mut self) {
+        self.column.clear();
+    }
+}
+
+impl Encoder<isize> for IsizeEncoder {
+    ghost writes_free = { ⟦<IntEncoder<isize> as Encoder<isize>>⟧.writes_free };
+
+    fn encode(&mut self, t: &isize) -> Result<(), Error> {
+        self.column.encode(t)
+    }
+
+    fn write_directly(&mut self, t: &isize, out: &mut Vec<u8>) -> Result<bool, Error> {
+        self.column.write_directly(t, out)
+    }
+
+    fn encode_part_of_each<S, W: Part<S, isize>>(
+        &mut self,
+        items: &[S],
+        which: &W,
+        first: &isize,
+    ) -> Result<(), Error> {
+        self.column.encode_part_of_each(items, which, first)
+    }
+
+    fn is_primitive() -> bool {
+        <IntEncoder<isize> as Encoder<isize>>::is_primitive()
+    }
+
+    fn encode_slice(&mut self, items: &[isize]) -> Result<(), Error> {
+        self.column.encode_slice(items)
+    }
+
+    fn write_slice_directly(&self, items: &[isize], out: &mut Vec<u8>) -> Result<bool, Error> {
+        self.column.write_slice_directly(items, out)
+    }
+
+    ghost of_shape = { λ e. refl };
+
+    ghost surely = { λ e n never. absurd never };
+}
+
+/// The column that values of `isize` are read from, as from `IntDecoder<isize>`.
+///
+/// ```
+/// let mut column = IsizeDecoder::new(alloc);
+/// column.populate(&mut input, 1)?;
+/// let first = column.decode()?;
+/// ```
+#[derive(Drop)]
+pub struct IsizeDecoder<'a> {
+    column: IntDecoder<'a, isize>,
+}
+
+impl<'a> HoldsData for IsizeDecoder<'a> {
+    ghost shape = { ⟦<IntDecoder<'a, isize> as HoldsData>⟧.shape };
+
+    ghost held = { λ d. ⟦<IntDecoder<'a, isize> as HoldsData>⟧.held d.column };
+
+    ghost owned = { λ d. ⟦<IntDecoder<'a, isize> as HoldsData>⟧.owned d.column };
+}
+
+impl<'a> View<'a> for IsizeDecoder<'a> {
+    ghost faults = { ⟦<IntDecoder<'a, isize> as View<'a>>⟧.faults };
+
+    fn new(alloc: Global) -> Self {
+        IsizeDecoder {
+            column: View::new(alloc),
+        }
+    }
+
+    fn read(&mut self, input: &mut &'a [u8], k: usize, strict: bool) -> Result<bool, Error> {
+        self.column.read(input, k, strict)
+    }
+}
+
+impl<'a> Decoder<isize> for IsizeDecoder<'a> {
+    ghost makes_free = { ⟦<IntDecoder<'a, isize> as Decoder<isize>>⟧.makes_free };
+
+    fn decode(&mut self) -> Result<isize, Error> {
+        self.column.decode()
+    }
+
+    fn decode_many(&mut self, alloc: Global, count: usize) -> Result<Vec<isize>, Error> {
+        self.column.decode_many(alloc, count)
+    }
+
+    ghost same_shape = { refl };
+}

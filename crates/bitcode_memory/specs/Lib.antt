@@ -1,0 +1,9 @@
+pub mod Memory
+pub mod Places
+pub mod Fast
+pub mod Lending
+pub mod Error
+pub mod LittleEndian
+pub mod Ints
+pub mod IntRange
+pub mod IntWidths
