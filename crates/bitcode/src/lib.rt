@@ -25,6 +25,7 @@ pub use bitcode_coder::bool::{BoolDecoder, BoolEncoder};
 pub use bitcode_coder::coder::{Decoder, Encoder, MAX_VECTORED_CHUNK, View};
 pub use bitcode_coder::length::{Len, LengthDecoder, LengthEncoder};
 pub use bitcode_coder::str::{ArrayStringDecoder, StrDecoder, StrEncoder};
+pub use bitcode_columns::byte::Byte;
 pub use bitcode_columns::histogram::histogram;
 pub use bitcode_columns::pack::{
     pack_bools, pack_bytes, pack_bytes_less_than, unpack_bools, unpack_bytes,
@@ -48,7 +49,7 @@ pub use bitcode_memory::error::{Error, Reason};
 pub use bitcode_memory::fast::{
     CowSlice, FastSlice, FastVec, NextUnchecked, PushUnchecked, SliceImpl, VecImpl,
 };
-pub use bitcode_memory::ints::{Byte, Int, SizedInt, SizedUInt};
+pub use bitcode_memory::ints::{Int, SizedInt, SizedUInt};
 pub use bitcode_memory::minmax::minmax;
 pub use bitcode_memory::refuse::{err, error};
 pub use bitcode_parts::arrays::{ArrayDecoder, ArrayEncoder};

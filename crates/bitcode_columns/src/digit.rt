@@ -4,7 +4,7 @@ ghost use Rattle.std.specs.List.{range_with_len};
 ghost use Rattle.bitcode_columns.specs.Digits.{digit};
 ghost use Rattle.bitcode_memory.specs.Ints.{residue, bool_digit};
 
-use bitcode_memory::ints::Byte;
+use crate::byte::Byte;
 
 /// An entry that can be a digit of a byte.
 pub trait Digit: Copy {

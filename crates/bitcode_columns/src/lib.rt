@@ -1,6 +1,7 @@
 //! The packing and unpacking of columns.
 #![tactic(auto)]
 
+pub mod byte;
 pub mod digit;
 mod digits;
 pub mod histogram;

@@ -17,6 +17,7 @@ ghost use Rattle.bitcode_columns.specs.WrittenDigits.{UsesNoMore, IsPacked};
 ghost use Rattle.bitcode_memory.specs.declared.error.Reason.{Reason};
 ghost use Rattle.bitcode_memory.specs.Ints.{IsNumber, residue, number_of, least, greatest};
 
+use crate::byte::Byte;
 use crate::digit::Digit;
 use crate::pack::bytes::{MOST_UNSHIFTED, plain_base, shifted_base};
 use crate::pack::variants::base_of_variants;
@@ -25,7 +26,7 @@ use crate::pack_ints::unpack_ints;
 use crate::pack_ints::width::{is_bare, is_shifted, plain_width, shifted_width, tag_for};
 use bitcode_memory::error::{Error, Reason};
 use bitcode_memory::fast::CowSlice;
-use bitcode_memory::ints::{Byte, Int, SizedUInt, known_bytes};
+use bitcode_memory::ints::{Int, SizedUInt, known_bytes};
 use std::alloc::Global;
 
 // What a number of so many digits is below.

@@ -8,11 +8,12 @@ ghost use Rattle.bitcode_memory.specs.LittleEndian.{little_endian};
 ghost use Rattle.bitcode_memory.specs.Ints.{number_of};
 ghost use Rattle.bitcode_columns.specs.Reading.{Reads, IsEndOf, Names, ints_fault, ints_stand_raw};
 
+use bitcode_columns::byte::Byte;
 use bitcode_columns::pack::pack_bytes;
 use bitcode_columns::strict::read_bytes;
 use bitcode_memory::error::{Error, Reason};
 use bitcode_memory::fast::CowSlice;
-use bitcode_memory::ints::{Byte, known_bytes};
+use bitcode_memory::ints::known_bytes;
 use std::alloc::Global;
 
 mod signed;

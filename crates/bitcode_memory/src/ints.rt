@@ -9,7 +9,6 @@ ghost use Rattle.bitcode_memory.specs.Ints.{IsNumber, residue, number_of};
 
 use crate::consume::consume_byte_arrays;
 use crate::error::{Error, Reason};
-use std::mem::replace;
 
 mod signed;
 mod sizes;
@@ -162,26 +161,6 @@ pub trait SizedInt: Int {
         × (Self.number MAX ≡ greatest_number Self.width Self.signed) };
 }
 
-/// A [`SizedInt`] of one byte: `u8` or `i8`.
-pub trait Byte: SizedInt {
-    /// Converts the number to its byte.
-    fn to_byte(self) -> u8
-        ensures value { result ≡ residue 1 (Self.number self) }
-        ensures in_range { IsNumber 1 Self.signed (Self.number self) };
-
-    /// Converts the byte to its number.
-    fn from_byte(byte: u8) -> Self
-        ensures { Self.number result ≡ number_of 1 Self.signed byte };
-
-    /// Appends the bytes of the numbers. The caller must have reserved the room.
-    fn push_bytes(numbers: &[Self], out: &mut Vec<u8>)
-        requires { vec_len out.old + length numbers.now ≤ vec_capacity out.old }
-        ensures { out.new.items ≡ out.old.items ++ map (λ n. residue 1 (Self.number n))
-            numbers.now };
-
-    ghost byte_law: { Self.width ≡ 1 };
-}
-
 /// Each byte is below 256. It does nothing; its contract is for proofs.
 pub fn known_bytes(_bytes: &[u8])
     ensures { All (λ byte. byte < 256) _bytes.now }
@@ -221,28 +200,6 @@ pub fn push_bytes(bytes: &[u8], out: &mut Vec<u8>)
     for byte in bytes {
         out.push_reserved(*byte);
     }
-}
-
-// Appends the bytes of the numbers. The caller must have reserved the room. The list is passed by value and returned,
-// so that its length stays in a register.
-fn with_signed(numbers: &[i8], mut out: Vec<u8>) -> Vec<u8>
-    requires { vec_len out + length numbers.now ≤ vec_capacity out }
-    ensures { result.items ≡ out.items ++ map (residue 1) numbers.now }
-{
-    for number in numbers {
-        out.push_reserved(number.cast_unsigned());
-    }
-    out
-}
-
-// Appends the bytes of the numbers in room that is there.
-fn push_signed(numbers: &[i8], out: &mut Vec<u8>)
-    requires { vec_len out.old + length numbers.now ≤ vec_capacity out.old }
-    ensures { out.new.items ≡ out.old.items ++ map (residue 1) numbers.now }
-{
-    let alloc = *out.allocator();
-    let held = replace(out, Vec::new(alloc));
-    *out = with_signed(numbers, held);
 }
 
 // Takes an array of `N` bytes.

@@ -10,12 +10,13 @@ ghost use Rattle.bitcode_memory.specs.Fast.{cow_rest};
 ghost use Rattle.bitcode_memory.specs.Ints.{residue};
 ghost use Rattle.bitcode_columns.specs.Reading.{Reads, IsEndOf, Names, tagged_fault, bytes_fault, bytes_stand_raw};
 
+use crate::byte::Byte;
 use crate::digits::{pack_digits, unpack_digits};
 use crate::pack::{Base, MOST_WITHOUT_TAG};
 use bitcode_memory::consume::{consume_byte, consume_bytes};
 use bitcode_memory::error::{Error, Reason};
 use bitcode_memory::fast::CowSlice;
-use bitcode_memory::ints::{Byte, known_bytes};
+use bitcode_memory::ints::known_bytes;
 use bitcode_memory::minmax::minmax;
 use bitcode_memory::refuse::err;
 use std::alloc::Global;

@@ -8,9 +8,10 @@ ghost use Rattle.bitcode_memory.specs.LittleEndian.{raw_text};
 ghost use Rattle.bitcode_columns.specs.Narrowing.{above, IsFrontOf};
 ghost use Rattle.bitcode_memory.specs.Ints.{IsNumber, number_of};
 
+use crate::byte::Byte;
 use crate::pack::pack_bytes;
 use bitcode_memory::error::{Error, Reason};
-use bitcode_memory::ints::{Byte, Int, SizedUInt};
+use bitcode_memory::ints::{Int, SizedUInt};
 use bitcode_memory::refuse::err;
 use std::alloc::Global;
 

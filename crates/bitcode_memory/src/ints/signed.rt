@@ -4,7 +4,7 @@ ghost use Rattle.std.specs.Prelude.{◌-◌, ◌/◌, ◌^◌, pos, negsuc, true
 ghost use Rattle.std.proofs.Common.{inl, inr};
 
 use crate::error::Error;
-use crate::ints::{Byte, Int, SizedInt, consume_numbers, push_signed};
+use crate::ints::{Int, SizedInt, consume_numbers};
 
 impl Int for i8 {
     type Une = [u8; 1];
@@ -66,22 +66,6 @@ impl SizedInt for i8 {
     ghost MAX = { pos (256 ^ 1 / 2 - 1) };
 
     ghost bounds_law = { (refl, refl) };
-}
-
-impl Byte for i8 {
-    fn to_byte(self) -> u8 {
-        self.cast_unsigned()
-    }
-
-    fn from_byte(byte: u8) -> i8 {
-        byte.cast_signed()
-    }
-
-    fn push_bytes(numbers: &[i8], out: &mut Vec<u8>) {
-        push_signed(numbers, out);
-    }
-
-    ghost byte_law = { refl };
 }
 
 impl Int for i16 {

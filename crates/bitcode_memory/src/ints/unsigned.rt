@@ -5,7 +5,7 @@ ghost use Rattle.std.proofs.Common.{inl, inr};
 
 use crate::consume::consume_byte;
 use crate::error::Error;
-use crate::ints::{Byte, Int, SizedInt, SizedUInt, consume_array, consume_numbers, push_bytes};
+use crate::ints::{Int, SizedInt, SizedUInt, consume_array, consume_numbers, push_bytes};
 
 impl SizedUInt for u8 {
     ghost width = { 1 };
@@ -112,22 +112,6 @@ impl SizedInt for u8 {
     ghost MAX = { 256 ^ 1 - 1 };
 
     ghost bounds_law = { (refl, refl) };
-}
-
-impl Byte for u8 {
-    fn to_byte(self) -> u8 {
-        self
-    }
-
-    fn from_byte(byte: u8) -> u8 {
-        byte
-    }
-
-    fn push_bytes(numbers: &[u8], out: &mut Vec<u8>) {
-        out.extend_from_slice(numbers).unwrap();
-    }
-
-    ghost byte_law = { refl };
 }
 
 impl SizedUInt for u16 {

@@ -1,6 +1,6 @@
 use Rattle.std.proofs.Common.{◌≡◌, ◌+◌, ◌-◌, ◌≤◌, ◌++◌, length, map, take, vec_len, vec_capacity}
 use Rattle.bitcode_memory.specs.Ints.{residue}
-use Rattle.bitcode_memory.proofs.ints.with_signed.Given as goal
+use Rattle.bitcode_columns.proofs.byte.with_signed.Given as goal
 
 abbrev pub invariant-loop-number : goal.invariant-loop-number
 invariant-loop-number l = record {
