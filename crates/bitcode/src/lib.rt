@@ -23,6 +23,7 @@
 
 pub use bitcode_coder::bool::{BoolDecoder, BoolEncoder};
 pub use bitcode_coder::coder::{Decoder, Encoder, MAX_VECTORED_CHUNK, View};
+pub use bitcode_coder::int::{IntDecoder, IntEncoder};
 pub use bitcode_coder::length::{Len, LengthDecoder, LengthEncoder};
 pub use bitcode_coder::str::{ArrayStringDecoder, StrDecoder, StrEncoder};
 pub use bitcode_columns::byte::Byte;
@@ -38,8 +39,7 @@ pub use bitcode_derive::whole::{
     decode, decode_front, decode_front_strict, decode_strict, encode, encode_into,
     invalid_enum_variant,
 };
-pub use bitcode_ints::checked::{CheckedIntDecoder, Nanosecond};
-pub use bitcode_ints::int::{IntDecoder, IntEncoder};
+pub use bitcode_ints::checked::CheckedIntDecoder;
 pub use bitcode_ints::u8_char::{U8Char, U8CharEncoder};
 pub use bitcode_maps::map::{MapDecoder, MapEncoder};
 pub use bitcode_memory::consume::{
@@ -72,6 +72,7 @@ pub use bitcode_serde::deserialize::{
 pub use bitcode_serde::free::ZST_LIMIT;
 pub use bitcode_serde::serialize::serialize;
 pub use bitcode_shapes::keys::Key;
+pub use bitcode_shapes::nanosecond::Nanosecond;
 pub use bitcode_shapes::shaped::{Made, Shaped};
 pub use bitcode_tuples::decoder::TupleDecoder;
 pub use bitcode_tuples::encoder::TupleEncoder;
@@ -80,8 +81,10 @@ pub use bitcode_untyped::value::Value;
 
 /// The building blocks of coders for your own types. `scripts/new_type` uses them, and few programs need them directly.
 pub mod own {
+    pub use bitcode_coder::int::{AsInt, Integer};
     pub use bitcode_coder::part::{Part, told_parts};
     pub use bitcode_coder::str::AsText;
+    pub use bitcode_columns::column_int::ColumnInt;
     pub use bitcode_derive::absent::{AbsentDecoder, AbsentEncoder};
     use bitcode_derive::derive::HasDecoder;
     pub use bitcode_enums::columns::{AllColumns, VariantColumns};
@@ -102,8 +105,6 @@ pub mod own {
     };
     pub use bitcode_enums::writes::{WritesPayloads, WritesVariants, encode_payload_fields};
     pub use bitcode_ints::checked::Checked;
-    pub use bitcode_ints::column_int::ColumnInt;
-    pub use bitcode_ints::int::{AsInt, Integer};
     pub use bitcode_ints::signed_coders::{
         I8Decoder, I8Encoder, I16Decoder, I16Encoder, I32Decoder, I32Encoder, I64Decoder,
         I64Encoder, I128Decoder, I128Encoder, IsizeDecoder, IsizeEncoder,

@@ -1,5 +1,5 @@
 -- What is read and written of a column of integers, in terms of data.
-use Rattle.std.proofs.Common.{◌≡◌, ◌≢◌, ℕ, ◌+◌, ◌*◌, ◌%◌, ◌^◌, ◌<◌, ◌≤◌, Bool, true, false, ltb, leb, eqb, Option, Some, ℤ, pos, negsuc, List, [], ◌∷◌, length, map, drop, All, refl, sym, ◌∙◌, ap, ap₂, subst, inl, inr, arith, Result, OnOk, IfErr, Ok, Err, IsTrue}
+use Rattle.std.proofs.Common.{◌≡◌, ◌≢◌, ℕ, ◌+◌, ◌*◌, ◌%◌, ◌^◌, ◌<◌, ◌≤◌, Bool, true, false, ltb, leb, eqb, Option, Some, ℤ, pos, negsuc, List, [], ◌∷◌, length, map, drop, All, refl, sym, ◌∙◌, ap, subst, inl, inr, arith, Result, OnOk, IfErr, Ok, Err, IsTrue}
 use Rattle.std.specs.List.{AllZip}
 use Rattle.std.proofs.lemmas.Bool.{cond_both}
 use Rattle.std.proofs.lemmas.List.Elements.{All-map}
@@ -16,6 +16,7 @@ use Rattle.bitcode_memory.specs.LittleEndian.{little_endian}
 use Rattle.bitcode_columns.specs.Tagged.{level_of_tag}
 use Rattle.bitcode_columns.specs.Reading.{Reads, missing, digits_fault, tagged_fault, bytes_fault, narrow_fault, ints_fault_as, ints_fault, ints_stand_raw, Names}
 use Rattle.bitcode_columns.proofs.IntColumnLemmas.{ints_fault-refuses}
+use Rattle.bitcode_columns.proofs.IntReadingLemmas.{bytes_alone}
 use Rattle.bitcode_memory.proofs.IntLemmas.{IsNumber-number_of}
 use Rattle.bitcode_shapes.specs.Datum.{Datum, number, number_in}
 use Rattle.bitcode_shapes.specs.Shape.{Allowed, IsInWidth, IsAllowed, IsNumberOf, any_number}
@@ -25,13 +26,6 @@ use Rattle.bitcode_coder.specs.Faults.{NamesIntsFault}
 use Rattle.bitcode_coder.specs.Coder.{IsReadingRefusal}
 use Rattle.bitcode_coder.proofs.OneColumnLemmas.{IsReadingFault, missing_known, reads_of, refusal_of}
 use Rattle.bitcode_coder.proofs.TakingLemmas.{made_each}
-
--- a byte is the number that it alone stands for
-pub bytes_alone : (bytes : List ℕ) → map (λ byte. little_endian (byte ∷ [])) bytes ≡ bytes
-bytes_alone [] = refl
-bytes_alone (byte ∷ bytes) =
-    let alone : byte + 256 * 0 ≡ byte = omega arith in
-    ap₂ (λ b bs. b ∷ bs) alone (bytes_alone bytes)
 
 -- a byte is the number that it stands for by itself, of an integer without a sign
 pub bytes_themselves : (bytes : List ℕ) → map pos bytes ≡ map (λ byte. number_of 1 false (little_endian (byte ∷ []))) bytes

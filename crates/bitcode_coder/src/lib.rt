@@ -1,8 +1,9 @@
-//! Columns of data, the traits of encoders and decoders, and the coders of lengths, texts and bools.
+//! Columns of data, the traits of encoders and decoders, and the coders of integers, lengths, texts and bools.
 #![tactic(auto)]
 
 pub mod bool;
 pub mod coder;
+pub mod int;
 pub mod laws;
 pub mod length;
 pub mod one;

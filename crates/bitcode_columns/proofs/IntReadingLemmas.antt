@@ -1,5 +1,5 @@
 -- A tagged column of integers is read by its header.
-use Rattle.std.proofs.Common.{◌≡◌, ◌≢◌, ℕ, zero, suc, ◌+◌, ◌*◌, ◌/◌, ◌%◌, ◌^◌, ◌<◌, ◌≤◌, ◌||◌, ◌&&◌, true, false, Bool, cond, eqb, List, [], ◌∷◌, ◌++◌, length, map, take, drop, All, Option, MatchBool, inl, inr, refl, sym, ap, ◌∙◌, subst, arith, append_assoc, length-append}
+use Rattle.std.proofs.Common.{◌≡◌, ◌≢◌, ℕ, zero, suc, ◌+◌, ◌*◌, ◌/◌, ◌%◌, ◌^◌, ◌<◌, ◌≤◌, ◌||◌, ◌&&◌, true, false, Bool, cond, eqb, List, [], ◌∷◌, ◌++◌, length, map, take, drop, All, Option, MatchBool, inl, inr, refl, sym, ap, ap₂, ◌∙◌, subst, arith, append_assoc, length-append}
 use Rattle.std.proofs.Math.Nat.{mul-zero, mod-eq_of_lt, mod-lt, div-one}
 use Rattle.std.proofs.lemmas.Bool.{cond-false, le-ltb, ne_eqb, eqb-true}
 use Rattle.std.proofs.lemmas.List.{drop_at, get_or_append_left, length-map, nil_from_length, take_all}
@@ -19,6 +19,13 @@ use Rattle.bitcode_columns.proofs.ByteReadingLemmas.{TellsForm-plain, whole_behi
 use Rattle.bitcode_columns.proofs.IntColumnLemmas.{at_width}
 use Rattle.bitcode_memory.proofs.UnalignedLemmas.{first_chunks_spell}
 use Rattle.bitcode_columns.proofs.WideningLemmas.{some_numbers}
+
+-- a byte is the number that it alone stands for
+pub bytes_alone : (bytes : List ℕ) → map (λ byte. little_endian (byte ∷ [])) bytes ≡ bytes
+bytes_alone [] = refl
+bytes_alone (byte ∷ bytes) =
+    let alone : byte + 256 * 0 ≡ byte = omega arith in
+    ap₂ (λ b bs. b ∷ bs) alone (bytes_alone bytes)
 
 module _ (width highest level least : ℕ) (input rest : List ℕ) (header : TellsLevel width highest input level least rest) where
   pub fault_behind_header : (narrow : ℕ → List ℕ → Option Reason) → tagged_fault width highest narrow input ≡ narrow level rest

@@ -2,6 +2,7 @@
 #![tactic(auto)]
 
 pub mod byte;
+pub mod column_int;
 pub mod digit;
 mod digits;
 pub mod histogram;

@@ -3,7 +3,7 @@ ghost use Rattle.std.specs.Prelude.{refl};
 ghost use Rattle.bitcode_parts.specs.Durations.{duration_written_as};
 
 use crate::convert::{ConvertFrom, ConvertInto};
-use bitcode_ints::checked::Nanosecond;
+use bitcode_shapes::nanosecond::Nanosecond;
 use std::time::Duration;
 
 /// How a `Duration` is written: its seconds, and its nanoseconds below one second.

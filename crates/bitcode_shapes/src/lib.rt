@@ -15,6 +15,7 @@ pub mod keys;
 pub mod lists;
 pub mod maps;
 pub mod markers;
+pub mod nanosecond;
 pub mod no_variants;
 pub mod payload;
 pub mod pointers;

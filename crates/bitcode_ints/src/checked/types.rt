@@ -6,19 +6,10 @@ ghost use Rattle.std.specs.Prelude.{refl};
 ghost use Rattle.bitcode_shapes.specs.Shape.{nonzero, scalar};
 
 use crate::checked::Checked;
-use crate::int::AsInt;
 use std::num::{
     NonZeroI8, NonZeroI16, NonZeroI32, NonZeroI64, NonZeroI128, NonZeroIsize, NonZeroU8,
     NonZeroU16, NonZeroU32, NonZeroU64, NonZeroU128, NonZeroUsize,
 };
-
-impl AsInt<u8> for NonZeroU8 {
-    fn to_int(&self) -> u8 {
-        self.get()
-    }
-
-    ghost as_int_columns = { λ ds. refl };
-}
 
 impl Checked<u8> for NonZeroU8 {
     ghost allowed = { nonzero };
@@ -28,14 +19,6 @@ impl Checked<u8> for NonZeroU8 {
     }
 
     ghost checked_shape = { refl };
-}
-
-impl AsInt<u16> for NonZeroU16 {
-    fn to_int(&self) -> u16 {
-        self.get()
-    }
-
-    ghost as_int_columns = { λ ds. refl };
 }
 
 impl Checked<u16> for NonZeroU16 {
@@ -48,14 +31,6 @@ impl Checked<u16> for NonZeroU16 {
     ghost checked_shape = { refl };
 }
 
-impl AsInt<u32> for NonZeroU32 {
-    fn to_int(&self) -> u32 {
-        self.get()
-    }
-
-    ghost as_int_columns = { λ ds. refl };
-}
-
 impl Checked<u32> for NonZeroU32 {
     ghost allowed = { nonzero };
 
@@ -64,14 +39,6 @@ impl Checked<u32> for NonZeroU32 {
     }
 
     ghost checked_shape = { refl };
-}
-
-impl AsInt<u64> for NonZeroU64 {
-    fn to_int(&self) -> u64 {
-        self.get()
-    }
-
-    ghost as_int_columns = { λ ds. refl };
 }
 
 impl Checked<u64> for NonZeroU64 {
@@ -84,14 +51,6 @@ impl Checked<u64> for NonZeroU64 {
     ghost checked_shape = { refl };
 }
 
-impl AsInt<u128> for NonZeroU128 {
-    fn to_int(&self) -> u128 {
-        self.get()
-    }
-
-    ghost as_int_columns = { λ ds. refl };
-}
-
 impl Checked<u128> for NonZeroU128 {
     ghost allowed = { nonzero };
 
@@ -100,14 +59,6 @@ impl Checked<u128> for NonZeroU128 {
     }
 
     ghost checked_shape = { refl };
-}
-
-impl AsInt<usize> for NonZeroUsize {
-    fn to_int(&self) -> usize {
-        self.get()
-    }
-
-    ghost as_int_columns = { λ ds. refl };
 }
 
 impl Checked<usize> for NonZeroUsize {
@@ -120,14 +71,6 @@ impl Checked<usize> for NonZeroUsize {
     ghost checked_shape = { refl };
 }
 
-impl AsInt<i8> for NonZeroI8 {
-    fn to_int(&self) -> i8 {
-        self.get()
-    }
-
-    ghost as_int_columns = { λ ds. refl };
-}
-
 impl Checked<i8> for NonZeroI8 {
     ghost allowed = { nonzero };
 
@@ -136,14 +79,6 @@ impl Checked<i8> for NonZeroI8 {
     }
 
     ghost checked_shape = { refl };
-}
-
-impl AsInt<i16> for NonZeroI16 {
-    fn to_int(&self) -> i16 {
-        self.get()
-    }
-
-    ghost as_int_columns = { λ ds. refl };
 }
 
 impl Checked<i16> for NonZeroI16 {
@@ -156,14 +91,6 @@ impl Checked<i16> for NonZeroI16 {
     ghost checked_shape = { refl };
 }
 
-impl AsInt<i32> for NonZeroI32 {
-    fn to_int(&self) -> i32 {
-        self.get()
-    }
-
-    ghost as_int_columns = { λ ds. refl };
-}
-
 impl Checked<i32> for NonZeroI32 {
     ghost allowed = { nonzero };
 
@@ -172,14 +99,6 @@ impl Checked<i32> for NonZeroI32 {
     }
 
     ghost checked_shape = { refl };
-}
-
-impl AsInt<i64> for NonZeroI64 {
-    fn to_int(&self) -> i64 {
-        self.get()
-    }
-
-    ghost as_int_columns = { λ ds. refl };
 }
 
 impl Checked<i64> for NonZeroI64 {
@@ -192,14 +111,6 @@ impl Checked<i64> for NonZeroI64 {
     ghost checked_shape = { refl };
 }
 
-impl AsInt<i128> for NonZeroI128 {
-    fn to_int(&self) -> i128 {
-        self.get()
-    }
-
-    ghost as_int_columns = { λ ds. refl };
-}
-
 impl Checked<i128> for NonZeroI128 {
     ghost allowed = { nonzero };
 
@@ -210,14 +121,6 @@ impl Checked<i128> for NonZeroI128 {
     ghost checked_shape = { refl };
 }
 
-impl AsInt<isize> for NonZeroIsize {
-    fn to_int(&self) -> isize {
-        self.get()
-    }
-
-    ghost as_int_columns = { λ ds. refl };
-}
-
 impl Checked<isize> for NonZeroIsize {
     ghost allowed = { nonzero };
 
@@ -226,14 +129,6 @@ impl Checked<isize> for NonZeroIsize {
     }
 
     ghost checked_shape = { refl };
-}
-
-impl AsInt<u32> for char {
-    fn to_int(&self) -> u32 {
-        *self as u32
-    }
-
-    ghost as_int_columns = { λ ds. refl };
 }
 
 impl Checked<u32> for char {
