@@ -11,6 +11,8 @@ MOST_TOGETHER = 4
 ORDINALS = ["first", "second", "third", "fourth"]
 # So many groups of an enum that borrows have their coders together: of halves of halves the borrow checker covers none.
 MOST_HALVES = 2
+# Of more groups than these each is a part by itself: the checker takes far longer for a few large parts.
+MOST_GROUPS = 4
 # Of more than so much text the type of a group's encoders has a name.
 MOST_IN_PLACE = 48
 # Of more fields than these the compiler needs to be told the types of what a coder takes.
@@ -20,7 +22,7 @@ FILE = """//! `$simple` is written and read by the numbers of its variants. What
 ghost use Rattle.std.specs.Prelude.{$prelude};
 ghost use Rattle.bitcode.specs.ByHand.{$by_hand};
 ghost use Rattle.$crate.specs.declared.$module.$ghost.{$ghost};
-
+$named_parts
 $uses
 $declaration
 impl$life Enum for $name {
@@ -128,12 +130,15 @@ ${alias}impl$life WritesVariants<$encoders> for $name {
     }
 }
 """
+# A part is an enum, since the checker compares what structs consist of wherever a decoder is dropped, down to the last field. With a
+# variant that has no values, a match tells the checker which variant the value is.
 PART = """type $alias<$input> = $decoders;
 
-/// The payloads of the variants $first to $last of `$simple`.
+/// The payloads of the variants $first to $last of `$simple`. There is no value of `Never`.
 #[derive(Drop)]
-pub struct $part<$input> {
-    all: $alias<$input>,$mark
+pub enum $part<$input> {
+    All($alias<$input>$mark),
+    Never(Infallible),
 }
 
 impl<$input> VariantPayloads<$input, $name> for $part<$input> {
@@ -143,10 +148,11 @@ impl<$input> VariantPayloads<$input, $name> for $part<$input> {
 
     ghost in_turn = { true };
 
-    ghost held = { payloads_in (λ d. d.all) ⟦<$alias<$input> as VariantPayloads<$input, $name>>⟧.held };
+    ghost held = { payloads_in (elim [ $part.All $bound ↦ d | $part.Never n ↦ elim n [ ] ])
+        ⟦<$alias<$input> as VariantPayloads<$input, $name>>⟧.held };
 
     fn new(alloc: Global) -> Self {
-        $part { all: VariantPayloads::<$name>::new(alloc),$marked }
+        $part::All(VariantPayloads::<$name>::new(alloc)$marked)
     }
 
     fn first(&self) -> usize {
@@ -154,14 +160,25 @@ impl<$input> VariantPayloads<$input, $name> for $part<$input> {
     }
 
     fn read_payloads(&mut self, number: usize, input: &mut &$input [u8], k: usize, strict: bool) -> Result<bool, Error> {
-        VariantPayloads::<$name>::read_payloads(&mut self.all, number, input, k, strict)
+        match self {
+            $part::All(all$rest) => VariantPayloads::<$name>::read_payloads(all, number, input, k, strict),
+            $part::Never(never) => match *never {},
+        }
     }
 
     fn decode_payload(&mut self, number: usize) -> Result<$name, Error> {
-        self.all.decode_payload(number)
+        match self {
+            $part::All(all$rest) => Ok(all.decode_payload(number)?),
+            $part::Never(never) => match *never {},
+        }
     }
 
-    fn sized(&self) {}
+    fn sized(&self) {
+        match self {
+            $part::All(_all$rest) => {}
+            $part::Never(never) => match *never {},
+        }
+    }
 }
 
 """
@@ -172,7 +189,8 @@ pub struct $payloads<$input> {
 }
 
 """
-MARK, MARKED = "\n    of: PhantomData<&'a ()>,", "\n            of: PhantomData,"
+OF_INPUT = "PhantomData<&'a ()>"
+MARK, MARKED = f"\n    of: {OF_INPUT},", "\n            of: PhantomData,"
 ARE = "is_variant refl (λ p. refl) (λ p old new h. h) (λ p old h. h) (λ p old new h. h)"
 
 
@@ -195,7 +213,7 @@ def groups_of(weights):
 
 
 def parts_of(groups, weights, most):
-    """The groups that a struct holds together, no more than `most` of them."""
+    """The groups that a part holds together, no more than `most` of them."""
     parts, room = [], 0
     for group in groups:
         weight = sum(weights[n] for n in group)
@@ -219,13 +237,14 @@ class Numbered:
         self.enum, self.crate, self.module, self.count = enum, crate, module, len(enum.variants)
         weights = [sum(types_in(field.type, own) for field in variant.fields) for variant in enum.variants]
         self.groups = groups_of(weights)
-        self.parts = parts_of(self.groups, weights, MOST_HALVES if enum.lifetime else len(self.groups))
+        most = MOST_HALVES if enum.lifetime else len(self.groups) if len(self.groups) <= MOST_GROUPS else 1
+        self.parts = parts_of(self.groups, weights, most)
         self.types = [held_type(variant) for variant in enum.variants]
         self.life, self.input = bounds(enum, ""), enum.lifetime or "'a"
         self.name = enum.name + self.life
 
     def types_named(self):
-        """How many types the decoder names: it ends at the structs of its parts."""
+        """How many types the decoder names: it ends at its parts."""
         return 2 + 2 * len(self.parts)
 
     def types_of(self, numbers):
@@ -279,23 +298,26 @@ class Numbered:
         return {"decoders": type, "mark": "" if borrows else MARK, "marked": "" if borrows else MARKED}
 
     def part(self, groups):
-        """The struct that holds the decoders of these groups, and its name."""
+        """The enum that holds the decoders of these groups, and its name."""
         first, end = groups[0][0], groups[-1][-1] + 1
         name, alias = f"{self.enum.name}Payloads{first}To{end - 1}", f"Decoders{first}To{end - 1}"
-        return Template(PART).substitute(self.decoders(groups), part=name, alias=alias, simple=self.enum.name, name=self.name, input=self.input, first=first, last=end - 1, end=end), name
+        row = self.decoders(groups)
+        marked = {"mark": f", {OF_INPUT}", "marked": ", PhantomData", "bound": "d of", "rest": ", _of"} if row["mark"] else {"bound": "d", "rest": ""}
+        return Template(PART).substitute({**row, **marked}, part=name, alias=alias, simple=self.enum.name, name=self.name, input=self.input, first=first, last=end - 1, end=end), name
 
     def payloads(self):
-        """The decoders of all variants: a struct holds them, or one each part of them."""
+        """The decoders of all variants: a struct holds them, or an enum each part of them."""
         held = f"⟦<Decoders<{self.input}> as VariantPayloads<{self.input}, {self.name}>>⟧.held"
         if len(self.parts) > 1:
             texts, names = zip(*map(self.part, self.parts))
             return {
+                "named_parts": "".join(f"ghost use Rattle.{self.crate}.specs.declared.{self.module}.{name}.{{{name}}};\n" for name in names),
                 "parts": "".join(texts), "decoders": halves([f"{name}<{self.input}>" for name in names]), "whole": "", "holder": f"Decoders<{self.input}>",
                 "held": held, "made": f"VariantPayloads::<{self.name}>::new(alloc)", "lent": "self", "inner": "self", "mark": "",
             }
         row, payloads = self.decoders(self.groups), f"{self.enum.name}Payloads"
         return {
-            "parts": "", **row, "whole": Template(WHOLE).substitute(row, simple=self.enum.name, payloads=payloads, input=self.input), "holder": f"{payloads}<{self.input}>",
+            "named_parts": "", "parts": "", **row, "whole": Template(WHOLE).substitute(row, simple=self.enum.name, payloads=payloads, input=self.input), "holder": f"{payloads}<{self.input}>",
             "held": f"payloads_in (λ d. d.all) {held}", "made": f"{payloads} {{ all: VariantPayloads::<{self.name}>::new(alloc),{row['marked']} }}", "lent": "&mut self.all", "inner": "self.all",
         }
 
@@ -318,7 +340,8 @@ class Numbered:
     def file(self, imports):
         """The file of the type."""
         payloads = self.payloads()
-        imports = {*imports, "std::marker::PhantomData"} if MARK in payloads["parts"] + payloads["mark"] else imports
+        imports = {*imports, "std::marker::PhantomData"} if OF_INPUT in payloads["parts"] + payloads["mark"] else imports
+        imports = {*imports, "std::convert::Infallible"} if payloads["parts"] else imports
         used = set("AllColumns AllPayloads At Enum EnumDecoder EnumEncoder EnumOf Error HasDecoder HasEncoder Held HeldIn PartsDecoder Payload "
                    "StandsFor VariantColumns VariantPayloads WritesPayloads WritesVariants told_as".split())
         used |= {f"{kind}{len(numbers)}" for numbers in self.groups for kind in ("DecodersOf", "EncodersOf", "OneOf", "Variants")}
