@@ -22,7 +22,7 @@ FILE = """//! `$simple` is written and read by the numbers of its variants. What
 ghost use Rattle.std.specs.Prelude.{$prelude};
 ghost use Rattle.bitcode.specs.ByHand.{$by_hand};
 ghost use Rattle.$crate.specs.declared.$module.$ghost.{$ghost};
-$named_parts
+
 $uses
 $declaration
 impl$life Enum for $name {
@@ -130,15 +130,13 @@ ${alias}impl$life WritesVariants<$encoders> for $name {
     }
 }
 """
-# A part is an enum, since the checker compares what structs consist of wherever a decoder is dropped, down to the last field. With a
-# variant that has no values, a match tells the checker which variant the value is.
-PART = """type $alias<$input> = $decoders;
+# A part is a struct of its own, since the borrow checker covers no decoder that names more than MOST_TYPES types.
+PART = """type $alias<$input> = Opaque<$decoders>;
 
-/// The payloads of the variants $first to $last of `$simple`. There is no value of `Never`.
+/// The payloads of the variants $first to $last of `$simple`.
 #[derive(Drop)]
-pub enum $part<$input> {
-    All($alias<$input>$mark),
-    Never(Infallible),
+pub struct $part<$input> {
+    all: $alias<$input>,$mark
 }
 
 impl<$input> VariantPayloads<$input, $name> for $part<$input> {
@@ -148,11 +146,10 @@ impl<$input> VariantPayloads<$input, $name> for $part<$input> {
 
     ghost in_turn = { true };
 
-    ghost held = { payloads_in (elim [ $part.All $bound ↦ d | $part.Never n ↦ elim n [ ] ])
-        ⟦<$alias<$input> as VariantPayloads<$input, $name>>⟧.held };
+    ghost held = { payloads_in (λ d. d.all) ⟦<$alias<$input> as VariantPayloads<$input, $name>>⟧.held };
 
     fn new(alloc: Global) -> Self {
-        $part::All(VariantPayloads::<$name>::new(alloc)$marked)
+        $part { all: VariantPayloads::<$name>::new(alloc),$marked }
     }
 
     fn first(&self) -> usize {
@@ -160,25 +157,14 @@ impl<$input> VariantPayloads<$input, $name> for $part<$input> {
     }
 
     fn read_payloads(&mut self, number: usize, input: &mut &$input [u8], k: usize, strict: bool) -> Result<bool, Error> {
-        match self {
-            $part::All(all$rest) => VariantPayloads::<$name>::read_payloads(all, number, input, k, strict),
-            $part::Never(never) => match *never {},
-        }
+        VariantPayloads::<$name>::read_payloads(&mut self.all, number, input, k, strict)
     }
 
     fn decode_payload(&mut self, number: usize) -> Result<$name, Error> {
-        match self {
-            $part::All(all$rest) => Ok(all.decode_payload(number)?),
-            $part::Never(never) => match *never {},
-        }
+        self.all.decode_payload(number)
     }
 
-    fn sized(&self) {
-        match self {
-            $part::All(_all$rest) => {}
-            $part::Never(never) => match *never {},
-        }
-    }
+    fn sized(&self) {}
 }
 
 """
@@ -189,8 +175,7 @@ pub struct $payloads<$input> {
 }
 
 """
-OF_INPUT = "PhantomData<&'a ()>"
-MARK, MARKED = f"\n    of: {OF_INPUT},", "\n            of: PhantomData,"
+MARK, MARKED = "\n    of: PhantomData<&'a ()>,", "\n            of: PhantomData,"
 ARE = "is_variant refl (λ p. refl) (λ p old new h. h) (λ p old h. h) (λ p old new h. h)"
 
 
@@ -298,26 +283,23 @@ class Numbered:
         return {"decoders": type, "mark": "" if borrows else MARK, "marked": "" if borrows else MARKED}
 
     def part(self, groups):
-        """The enum that holds the decoders of these groups, and its name."""
+        """The struct that holds the decoders of these groups, and its name."""
         first, end = groups[0][0], groups[-1][-1] + 1
         name, alias = f"{self.enum.name}Payloads{first}To{end - 1}", f"Decoders{first}To{end - 1}"
-        row = self.decoders(groups)
-        marked = {"mark": f", {OF_INPUT}", "marked": ", PhantomData", "bound": "d of", "rest": ", _of"} if row["mark"] else {"bound": "d", "rest": ""}
-        return Template(PART).substitute({**row, **marked}, part=name, alias=alias, simple=self.enum.name, name=self.name, input=self.input, first=first, last=end - 1, end=end), name
+        return Template(PART).substitute(self.decoders(groups), part=name, alias=alias, simple=self.enum.name, name=self.name, input=self.input, first=first, last=end - 1, end=end), name
 
     def payloads(self):
-        """The decoders of all variants: a struct holds them, or an enum each part of them."""
+        """The decoders of all variants: a struct holds them, or one each part of them."""
         held = f"⟦<Decoders<{self.input}> as VariantPayloads<{self.input}, {self.name}>>⟧.held"
         if len(self.parts) > 1:
             texts, names = zip(*map(self.part, self.parts))
             return {
-                "named_parts": "".join(f"ghost use Rattle.{self.crate}.specs.declared.{self.module}.{name}.{{{name}}};\n" for name in names),
                 "parts": "".join(texts), "decoders": halves([f"{name}<{self.input}>" for name in names]), "whole": "", "holder": f"Decoders<{self.input}>",
                 "held": held, "made": f"VariantPayloads::<{self.name}>::new(alloc)", "lent": "self", "inner": "self", "mark": "",
             }
         row, payloads = self.decoders(self.groups), f"{self.enum.name}Payloads"
         return {
-            "named_parts": "", "parts": "", **row, "whole": Template(WHOLE).substitute(row, simple=self.enum.name, payloads=payloads, input=self.input), "holder": f"{payloads}<{self.input}>",
+            "parts": "", **row, "whole": Template(WHOLE).substitute(row, simple=self.enum.name, payloads=payloads, input=self.input), "holder": f"{payloads}<{self.input}>",
             "held": f"payloads_in (λ d. d.all) {held}", "made": f"{payloads} {{ all: VariantPayloads::<{self.name}>::new(alloc),{row['marked']} }}", "lent": "&mut self.all", "inner": "self.all",
         }
 
@@ -340,11 +322,11 @@ class Numbered:
     def file(self, imports):
         """The file of the type."""
         payloads = self.payloads()
-        imports = {*imports, "std::marker::PhantomData"} if OF_INPUT in payloads["parts"] + payloads["mark"] else imports
-        imports = {*imports, "std::convert::Infallible"} if payloads["parts"] else imports
+        imports = {*imports, "std::marker::PhantomData"} if MARK in payloads["parts"] + payloads["mark"] else imports
         used = set("AllColumns AllPayloads At Enum EnumDecoder EnumEncoder EnumOf Error HasDecoder HasEncoder Held HeldIn PartsDecoder Payload "
                    "StandsFor VariantColumns VariantPayloads WritesPayloads WritesVariants told_as".split())
         used |= {f"{kind}{len(numbers)}" for numbers in self.groups for kind in ("DecodersOf", "EncodersOf", "OneOf", "Variants")}
+        used |= {"Opaque"} if payloads["parts"] else set()
         used |= ({"Halves"} if len(self.groups) > 1 else set()) | (set() if self.enum.lifetime else {"DecodeOwned"})
 
         def numbered(number, variant):

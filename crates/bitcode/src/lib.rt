@@ -32,13 +32,13 @@ pub use bitcode_columns::pack::{
     pack_bools, pack_bytes, pack_bytes_less_than, unpack_bools, unpack_bytes,
     unpack_bytes_less_than,
 };
-pub use bitcode_columns::pack_ints::{pack_ints, unpack_ints};
 pub use bitcode_derive::buffer::Buffer;
 pub use bitcode_derive::derive::{Decode, DecodeOwned, Encode, HasDecoder, HasEncoder};
 pub use bitcode_derive::whole::{
     decode, decode_front, decode_front_strict, decode_strict, encode, encode_into,
     invalid_enum_variant,
 };
+pub use bitcode_int_columns::pack_ints::{pack_ints, unpack_ints};
 pub use bitcode_ints::checked::CheckedIntDecoder;
 pub use bitcode_ints::u8_char::{U8Char, U8CharEncoder};
 pub use bitcode_maps::map::{MapDecoder, MapEncoder};
@@ -81,57 +81,107 @@ pub use bitcode_untyped::value::Value;
 
 /// The building blocks of coders for your own types. `scripts/new_type` uses them, and few programs need them directly.
 pub mod own {
-    pub use bitcode_coder::int::{AsInt, Integer};
-    pub use bitcode_coder::part::{Part, told_parts};
+    pub use bitcode_coder::int::AsInt;
+    pub use bitcode_coder::int::Integer;
+    pub use bitcode_coder::part::Part;
+    pub use bitcode_coder::part::told_parts;
     pub use bitcode_coder::str::AsText;
-    pub use bitcode_columns::column_int::ColumnInt;
-    pub use bitcode_derive::absent::{AbsentDecoder, AbsentEncoder};
+    pub use bitcode_derive::absent::AbsentDecoder;
+    pub use bitcode_derive::absent::AbsentEncoder;
     use bitcode_derive::derive::HasDecoder;
-    pub use bitcode_enums::columns::{AllColumns, VariantColumns};
+    pub use bitcode_enums::columns::AllColumns;
+    pub use bitcode_enums::columns::VariantColumns;
     pub use bitcode_enums::decoder::EnumDecoder;
     pub use bitcode_enums::encoder::EnumEncoder;
     pub use bitcode_enums::halves::Halves;
-    pub use bitcode_enums::held::{Enum, EnumOf, Held, told_as};
-    pub use bitcode_enums::payloads::{AllPayloads, VariantPayloads};
-    pub use bitcode_enums::place::{At, Place};
-    pub use bitcode_enums::variants::of_2::{
-        Decoders2, DecodersOf2, Encoders2, EncodersOf2, OneOf2, Variants2,
-    };
-    pub use bitcode_enums::variants::of_3::{
-        Decoders3, DecodersOf3, Encoders3, EncodersOf3, OneOf3, Variants3,
-    };
-    pub use bitcode_enums::variants::of_4::{
-        Decoders4, DecodersOf4, Encoders4, EncodersOf4, OneOf4, Variants4,
-    };
-    pub use bitcode_enums::writes::{WritesPayloads, WritesVariants, encode_payload_fields};
+    pub use bitcode_enums::held::Enum;
+    pub use bitcode_enums::held::EnumOf;
+    pub use bitcode_enums::held::Held;
+    pub use bitcode_enums::held::told_as;
+    pub use bitcode_enums::opaque::Opaque;
+    pub use bitcode_enums::payloads::AllPayloads;
+    pub use bitcode_enums::payloads::VariantPayloads;
+    pub use bitcode_enums::place::At;
+    pub use bitcode_enums::place::Place;
+    pub use bitcode_enums::variants::of_2::Decoders2;
+    pub use bitcode_enums::variants::of_2::DecodersOf2;
+    pub use bitcode_enums::variants::of_2::Encoders2;
+    pub use bitcode_enums::variants::of_2::EncodersOf2;
+    pub use bitcode_enums::variants::of_2::OneOf2;
+    pub use bitcode_enums::variants::of_2::Variants2;
+    pub use bitcode_enums::variants::of_3::Decoders3;
+    pub use bitcode_enums::variants::of_3::DecodersOf3;
+    pub use bitcode_enums::variants::of_3::Encoders3;
+    pub use bitcode_enums::variants::of_3::EncodersOf3;
+    pub use bitcode_enums::variants::of_3::OneOf3;
+    pub use bitcode_enums::variants::of_3::Variants3;
+    pub use bitcode_enums::variants::of_4::Decoders4;
+    pub use bitcode_enums::variants::of_4::DecodersOf4;
+    pub use bitcode_enums::variants::of_4::Encoders4;
+    pub use bitcode_enums::variants::of_4::EncodersOf4;
+    pub use bitcode_enums::variants::of_4::OneOf4;
+    pub use bitcode_enums::variants::of_4::Variants4;
+    pub use bitcode_enums::writes::WritesPayloads;
+    pub use bitcode_enums::writes::WritesVariants;
+    pub use bitcode_enums::writes::encode_payload_fields;
+    pub use bitcode_int_columns::column_int::ColumnInt;
     pub use bitcode_ints::checked::Checked;
-    pub use bitcode_ints::signed_coders::{
-        I8Decoder, I8Encoder, I16Decoder, I16Encoder, I32Decoder, I32Encoder, I64Decoder,
-        I64Encoder, I128Decoder, I128Encoder, IsizeDecoder, IsizeEncoder,
-    };
-    pub use bitcode_ints::unsigned_coders::{
-        U8Decoder, U8Encoder, U16Decoder, U16Encoder, U32Decoder, U32Encoder, U64Decoder,
-        U64Encoder, U128Decoder, U128Encoder, UsizeDecoder, UsizeEncoder,
-    };
+    pub use bitcode_ints::signed_coders::I8Decoder;
+    pub use bitcode_ints::signed_coders::I8Encoder;
+    pub use bitcode_ints::signed_coders::I16Decoder;
+    pub use bitcode_ints::signed_coders::I16Encoder;
+    pub use bitcode_ints::signed_coders::I32Decoder;
+    pub use bitcode_ints::signed_coders::I32Encoder;
+    pub use bitcode_ints::signed_coders::I64Decoder;
+    pub use bitcode_ints::signed_coders::I64Encoder;
+    pub use bitcode_ints::signed_coders::I128Decoder;
+    pub use bitcode_ints::signed_coders::I128Encoder;
+    pub use bitcode_ints::signed_coders::IsizeDecoder;
+    pub use bitcode_ints::signed_coders::IsizeEncoder;
+    pub use bitcode_ints::unsigned_coders::U8Decoder;
+    pub use bitcode_ints::unsigned_coders::U8Encoder;
+    pub use bitcode_ints::unsigned_coders::U16Decoder;
+    pub use bitcode_ints::unsigned_coders::U16Encoder;
+    pub use bitcode_ints::unsigned_coders::U32Decoder;
+    pub use bitcode_ints::unsigned_coders::U32Encoder;
+    pub use bitcode_ints::unsigned_coders::U64Decoder;
+    pub use bitcode_ints::unsigned_coders::U64Encoder;
+    pub use bitcode_ints::unsigned_coders::U128Decoder;
+    pub use bitcode_ints::unsigned_coders::U128Encoder;
+    pub use bitcode_ints::unsigned_coders::UsizeDecoder;
+    pub use bitcode_ints::unsigned_coders::UsizeEncoder;
     pub use bitcode_parts::choices::bare::BareEncoder;
-    pub use bitcode_parts::choices::variant::{encode_payload, encode_payloads};
-    pub use bitcode_parts::lists::sequence::{
-        FromElements, Lends, Sequence, decode_each, encode_each, encode_lent,
-    };
+    pub use bitcode_parts::choices::variant::encode_payload;
+    pub use bitcode_parts::choices::variant::encode_payloads;
+    pub use bitcode_parts::lists::sequence::FromElements;
+    pub use bitcode_parts::lists::sequence::Lends;
+    pub use bitcode_parts::lists::sequence::Sequence;
+    pub use bitcode_parts::lists::sequence::decode_each;
+    pub use bitcode_parts::lists::sequence::encode_each;
+    pub use bitcode_parts::lists::sequence::encode_lent;
     pub use bitcode_parts::maps::Mapping;
     pub use bitcode_parts::pointers::deref::Points;
     pub use bitcode_parts::pointers::from::FromValue;
     pub use bitcode_parts::stands_for::PartsDecoder;
-    pub use bitcode_shapes::bare_variants::{Bare, BareVariants};
-    pub use bitcode_shapes::lists::{told_behind, told_each};
-    pub use bitcode_shapes::no_variants::{Absent, NoVariants};
-    pub use bitcode_shapes::payload::{KeyPayload, Payload};
+    pub use bitcode_shapes::bare_variants::Bare;
+    pub use bitcode_shapes::bare_variants::BareVariants;
+    pub use bitcode_shapes::lists::told_behind;
+    pub use bitcode_shapes::lists::told_each;
+    pub use bitcode_shapes::no_variants::Absent;
+    pub use bitcode_shapes::no_variants::NoVariants;
+    pub use bitcode_shapes::payload::KeyPayload;
+    pub use bitcode_shapes::payload::Payload;
     pub use bitcode_shapes::same_arrays::SameArrays;
-    pub use bitcode_shapes::stands_for::{FromParts, HeldIn, StandsFor};
-    pub use bitcode_tuples::fields::{Fields, FieldsEncoder};
-    pub use bitcode_tuples::has_field::{HasField, Nth};
+    pub use bitcode_shapes::stands_for::FromParts;
+    pub use bitcode_shapes::stands_for::HeldIn;
+    pub use bitcode_shapes::stands_for::StandsFor;
+    pub use bitcode_tuples::fields::Fields;
+    pub use bitcode_tuples::fields::FieldsEncoder;
+    pub use bitcode_tuples::has_field::HasField;
+    pub use bitcode_tuples::has_field::Nth;
     pub use bitcode_tuples::part_encoder::PartEncoder;
-    pub use bitcode_tuples::struct_encoder::{InFields, StructEncoder};
+    pub use bitcode_tuples::struct_encoder::InFields;
+    pub use bitcode_tuples::struct_encoder::StructEncoder;
 
     /// The decoder of a struct, which corresponds to the tuple `P` of its fields.
     pub type DecoderOfFields<'a, P> = PartsDecoder<P, <P as HasDecoder<'a>>::Decoder>;

@@ -16,7 +16,7 @@ use Rattle.bitcode_memory.specs.LittleEndian.{little_endian}
 use Rattle.bitcode_columns.specs.Tagged.{level_of_tag}
 use Rattle.bitcode_columns.specs.Reading.{Reads, missing, digits_fault, tagged_fault, bytes_fault, narrow_fault, ints_fault_as, ints_fault, ints_stand_raw, Names}
 use Rattle.bitcode_columns.proofs.IntColumnLemmas.{ints_fault-refuses}
-use Rattle.bitcode_columns.proofs.IntReadingLemmas.{bytes_alone}
+use Rattle.bitcode_int_columns.proofs.IntReadingLemmas.{bytes_alone}
 use Rattle.bitcode_memory.proofs.IntLemmas.{IsNumber-number_of}
 use Rattle.bitcode_shapes.specs.Datum.{Datum, number, number_in}
 use Rattle.bitcode_shapes.specs.Shape.{Allowed, IsInWidth, IsAllowed, IsNumberOf, any_number}

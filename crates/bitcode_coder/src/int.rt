@@ -19,7 +19,7 @@ ghost use Rattle.bitcode_coder.specs.Strict.{JudgesData};
 
 use crate::coder::{Buffer, Decoder, Encoder, HoldsColumns, HoldsData, View};
 use crate::part::Part;
-use bitcode_columns::column_int::ColumnInt;
+use bitcode_int_columns::column_int::ColumnInt;
 use bitcode_memory::error::{Error, Reason};
 use bitcode_memory::fast::{CowSlice, FastVec, PushUnchecked};
 use bitcode_shapes::shaped::{Made, Shaped};

@@ -8,7 +8,7 @@ ghost use Rattle.bitcode_coder.specs.LengthColumn.{length_bytes};
 
 use crate::coder::{Buffer, Encoder};
 use crate::length::ESCAPE;
-use bitcode_columns::pack_ints::pack_ints;
+use bitcode_int_columns::pack_ints::pack_ints;
 use bitcode_memory::error::{Error, Reason};
 use bitcode_shapes::shaped::Shaped;
 use std::alloc::Global;

@@ -1,5 +1,5 @@
 -- Packing and unpacking, a digit at a time.
-use Rattle.std.proofs.Common.{◌≡◌, ℕ, zero, suc, ◌+◌, ◌-◌, ◌*◌, ◌/◌, ◌%◌, ◌^◌, ◌<◌, ◌≤◌, List, [], ◌∷◌, ◌++◌, length, map, take, drop, get_or, All, sym, refl, ap, ◌∙◌, arith}
+use Rattle.std.proofs.Common.{◌≡◌, ℕ, zero, suc, ◌+◌, ◌-◌, ◌*◌, ◌/◌, ◌%◌, ◌^◌, ◌<◌, ◌≤◌, List, [], ◌∷◌, ◌++◌, length, map, take, drop, get_or, All, sym, refl, ap, ◌∙◌, length-append, arith}
 use Rattle.std.specs.List.{range_with_len}
 use Rattle.std.specs.Int.{div_ceil}
 use Rattle.std.proofs.Common.{append_assoc, subst}
@@ -262,3 +262,17 @@ none_left base count byte packed at_end size none = omega (arith, whole_and_left
 
 pub few_left : (base : Base) (count : ℕ) → count % digits_in_byte base ≤ digits_in_byte base
 few_left base count = omega (arith, mod-lt count (digits_in_byte_at_least base))
+
+-- what is written within a list leaves its length
+pub put_size : {X : Type 0} (a k : ℕ) (xs ys : List X) → a + k ≤ length xs → length ys ≡ k → length (put_mid a k xs ys) ≡ length xs
+put_size a k xs ys fits size =
+    let e : length (take a xs ++ (ys ++ drop k (drop a xs))) ≡ length xs =
+    omega (
+      arith,
+      length-append (take a xs) (ys ++ drop k (drop a xs)),
+      length-append ys (drop k (drop a xs)),
+      length-take a xs,
+      length-drop k (drop a xs),
+      length-drop a xs,
+    ) in
+    e

@@ -6,12 +6,10 @@ pub mod VariantColumn
 pub mod Histogram
 pub mod DigitCounts
 pub mod IntColumn
-pub mod Narrowing
 pub mod Reading
 pub mod Laws
 pub mod Rows
 pub mod AcceptedRows
 pub mod Vectors
 pub mod ByteForm
-pub mod IntHeader
 pub mod WrittenDigits

@@ -14,7 +14,7 @@ use bitcode_memory::fast::CowSlice;
 use std::alloc::Global;
 
 // A byte column of at most so many entries stands without a tag.
-pub(crate) const MOST_WITHOUT_TAG: usize = 2;
+pub const MOST_WITHOUT_TAG: usize = 2;
 
 pub(crate) mod bytes;
 pub(crate) mod variants;

@@ -1,16 +1,14 @@
 //! Reading a column and checking whether its bytes are those that `encode` would write for its entries.
-ghost use Rattle.std.specs.Prelude.{◌≡◌, ◌≢◌, ◌↔◌, ℕ, ℤ, [], ◌∷◌, ◌+◌, ◌-◌, ◌*◌, ◌≤ℤ◌, IsSome, IfSome, ◌⊎◌, sum, ◌^◌};
-ghost use Rattle.std.specs.Prelude.{◌<◌, ◌≤◌, ◌++◌, List, All, length, map, MatchBool, MatchOption, pos, IsTrue, IsOk};
+ghost use Rattle.std.specs.Prelude.{◌≡◌, ◌≢◌, ◌↔◌, ℕ, ℤ, [], ◌∷◌, ◌-◌, ◌*◌, ◌≤ℤ◌, IsSome, IfSome, ◌⊎◌, sum, ◌^◌};
+ghost use Rattle.std.specs.Prelude.{◌<◌, ◌≤◌, ◌++◌, List, All, length, map, MatchBool, IsTrue, IsOk};
 ghost use Rattle.std.specs.Prelude.{IfOk, OnOk, IfErr, OnErr};
 ghost use Rattle.std.specs.Int.{div_ceil};
 ghost use Rattle.bitcode_columns.specs.BoolColumn.{SpellsBools, bool_text};
 ghost use Rattle.bitcode_columns.specs.ByteColumn.{SpellsBytes, byte_text, level_of_base};
 ghost use Rattle.bitcode_columns.specs.Digits.{SpellsDigits, digits_text, radix, digits_in_byte};
-ghost use Rattle.bitcode_columns.specs.IntColumn.{SpellsInts, SpellsNarrow, int_text, narrow_text};
-ghost use Rattle.bitcode_memory.specs.LittleEndian.{little_endian, number_bytes};
 ghost use Rattle.bitcode_memory.specs.Fast.{cow_rest};
 ghost use Rattle.bitcode_columns.specs.Reading.{Reads, IsEndOf, Names, NamesVariantFault, bools_fault, bytes_fault};
-ghost use Rattle.bitcode_columns.specs.Reading.{bytes_stand_raw, variants_stand_raw, ints_fault, ints_stand_raw};
+ghost use Rattle.bitcode_columns.specs.Reading.{bytes_stand_raw, variants_stand_raw};
 ghost use Rattle.bitcode_columns.specs.Histogram.{AreCounts};
 ghost use Rattle.bitcode_columns.specs.VariantColumn.{SpellsVariants, variant_text};
 ghost use Rattle.bitcode_columns.specs.WrittenDigits.{UsesNoMore, IsPacked};
@@ -22,11 +20,9 @@ use crate::digit::Digit;
 use crate::pack::bytes::{MOST_UNSHIFTED, plain_base, shifted_base};
 use crate::pack::variants::base_of_variants;
 use crate::pack::{Base, MOST_WITHOUT_TAG, unpack_bools, unpack_bytes, unpack_bytes_less_than};
-use crate::pack_ints::unpack_ints;
-use crate::pack_ints::width::{is_bare, is_shifted, plain_width, shifted_width, tag_for};
 use bitcode_memory::error::{Error, Reason};
 use bitcode_memory::fast::CowSlice;
-use bitcode_memory::ints::{Int, SizedUInt, known_bytes};
+use bitcode_memory::ints::known_bytes;
 use std::alloc::Global;
 
 // What a number of so many digits is below.
@@ -101,9 +97,9 @@ fn stand_shifted(base: Base, least: u8, packed: &[u8], count: usize) -> bool
         && use_no_more(base, body, count)
 }
 
-// Whether bytes that spell a column of `count` entries are those that are written for them. Of the entries it needs
-// only the least and the greatest.
-fn is_bytes_text<T: Byte>(packed: &[u8], count: usize, low: T, high: T) -> bool
+/// Whether bytes that spell a column of `count` entries are those that are written for them. Of the entries it needs
+/// only the least and the greatest.
+pub fn is_bytes_text<T: Byte>(packed: &[u8], count: usize, low: T, high: T) -> bool
     requires { T.number low ≤ℤ T.number high }
     ensures { (entries : List ℤ) → length entries ≡ count → All (IsNumber 1 T.signed) entries
         → least entries ≡ T.number low → greatest entries ≡ T.number high
@@ -145,8 +141,8 @@ fn byte_bounds<T: Byte>(bytes: &[u8]) -> Option<(T, T)>
     Some((least, greatest))
 }
 
-// The bytes that were taken from the front of an input.
-fn taken<'a>(before: &'a [u8], rest: &[u8]) -> &'a [u8]
+/// The bytes that were taken from the front of an input.
+pub fn taken<'a>(before: &'a [u8], rest: &[u8]) -> &'a [u8]
     requires { length rest.now ≤ length before.now }
     ensures { (piece : List ℕ) → before.now ≡ piece ++ rest.now → result.now ≡ piece }
 {
@@ -244,148 +240,4 @@ pub fn read_variants<'a, const N: usize, const H: usize>(
     let packed = taken(before, input);
     let written = is_digits_text(base_of_variants::<N>(), packed, out.as_slice());
     Ok((counts, written))
-}
-
-// The bytes after a tag, if they begin with it.
-fn behind_tag(packed: &[u8], tag: u8) -> Option<&[u8]>
-    ensures { MatchOption result ((body : List ℕ) → packed.now ≡ tag ∷ body → ⊥)
-        (λ body. packed.now ≡ tag ∷ body.now) }
-{
-    let (first, body) = packed.split_first()?;
-    if *first == tag { Some(body) } else { None }
-}
-
-// The bytes after the least entry, if they begin with it.
-fn behind_least<T: Int>(behind: &[u8], least: T) -> Option<&[u8]>
-    ensures { MatchOption result
-        ((body : List ℕ) → behind.now ≡ number_bytes T.width (residue T.width (T.number least))
-        ++ body → ⊥)
-        (λ body. behind.now ≡ number_bytes T.width (residue T.width (T.number least)) ++ body.now) }
-{
-    known_bytes(behind);
-    let mut body = behind;
-    let Ok(first) = T::Unsigned::read(&mut body) else {
-        return None;
-    };
-    if first.to_wide() == least.to_unsigned().to_wide() {
-        Some(body)
-    } else {
-        None
-    }
-}
-
-// Whether bytes that spell `count` numbers of a width are those that are written for them. For numbers of one byte it
-// needs the least and the greatest; others are raw.
-fn is_narrow_text(body: &[u8], count: usize, width: usize, low: u128, high: u128) -> bool
-    requires { width ≡ 1 → (low ≤ high) × (high < 256) }
-    ensures { (numbers : List ℕ) → length numbers ≡ count → All (λ n. n < 256 ^ width) numbers
-        → (width ≡ 1 → (least (map pos numbers) ≡ pos low)
-        × (greatest (map pos numbers) ≡ pos high))
-        → SpellsNarrow width body.now numbers
-        → (IsTrue result ↔ (body.now ≡ narrow_text width numbers)) }
-{
-    if width != 1 {
-        return true;
-    }
-    is_bytes_text::<u8>(body, count, (low % 0x100) as u8, (high % 0x100) as u8)
-}
-
-// Whether bytes that spell a column of `count` integers are those that are written for them. Of the integers it needs
-// only the least and the greatest.
-fn is_ints_text<T: Int>(packed: &[u8], count: usize, low: T, high: T) -> bool
-    requires order { T.number low ≤ℤ T.number high }
-    requires wide { 2 ≤ T.width }
-    ensures { (entries : List ℤ) → length entries ≡ count → All (IsNumber T.width T.signed) entries
-        → least entries ≡ T.number low → greatest entries ≡ T.number high
-        → SpellsInts T.width packed.now (map (residue T.width) entries)
-        → (IsTrue result ↔ (packed.now ≡ int_text T.width entries)) }
-{
-    if is_bare(T::width(), count) {
-        return true;
-    }
-    known_bytes(packed);
-    let plain = plain_width(low, high);
-    let shifted = shifted_width(low, high);
-    if is_shifted(count, plain, shifted) {
-        let tag = tag_for(T::width(), shifted).saturating_sub(1);
-        let Some(behind) = behind_tag(packed, tag) else {
-            return false;
-        };
-        let Some(body) = behind_least(behind, low) else {
-            return false;
-        };
-        let far = high.to_unsigned().wrapping_sub(low.to_unsigned()).to_wide();
-        is_narrow_text(body, count, shifted, 0, far)
-    } else {
-        let Some(body) = behind_tag(packed, tag_for(T::width(), plain)) else {
-            return false;
-        };
-        let least = low.to_unsigned().to_wide();
-        let greatest = high.to_unsigned().to_wide();
-        is_narrow_text(body, count, plain, least, greatest)
-    }
-}
-
-// The least and the greatest of the integers of these bytes, if there are any.
-fn int_bounds<T: Int>(entries: &[T::Une]) -> Option<(T, T)>
-    ensures variant { IsSome result ↔ (0 < length entries.now) }
-    ensures least { IfSome result
-        (λ pair. T.number pair.0 ≡ least
-        (map (λ u. number_of T.width T.signed (little_endian (T.une_bytes u))) entries.now)) }
-    ensures greatest { IfSome result
-        (λ pair. T.number pair.1 ≡ greatest
-        (map (λ u. number_of T.width T.signed (little_endian (T.une_bytes u))) entries.now)) }
-{
-    let (first, rest) = entries.split_first()?;
-    let mut least = T::from_unaligned(*first);
-    let mut greatest = least;
-    for bytes in rest {
-        let entry = T::from_unaligned(*bytes);
-        if entry.is_less(least) {
-            least = entry;
-        }
-        if greatest.is_less(entry) {
-            greatest = entry;
-        }
-    }
-    Some((least, greatest))
-}
-
-/// Reads a column of integers of more than one byte as [`unpack_ints`](crate::pack_ints::unpack_ints) does. If
-/// `strict`, it returns whether the bytes are those that would be written for the integers. Otherwise the returned bool
-/// has no meaning.
-pub fn read_ints<'a, T: Int>(
-    alloc: Global,
-    input: &mut &'a [u8],
-    count: usize,
-    out: &mut CowSlice<'a, T::Une>,
-    strict: bool,
-) -> Result<bool, Error>
-    requires { 2 ≤ T.width }
-    ensures read { OnOk result
-        (Reads (SpellsInts T.width) count input.old.now
-        (map (λ u. little_endian (T.une_bytes u)) (cow_rest out.new)) input.new.now) }
-    ensures in_width { OnOk result
-        (All (λ n. n < 256 ^ T.width)
-        (map (λ u. little_endian (T.une_bytes u)) (cow_rest out.new))) }
-    ensures judged { IsTrue strict → IfOk result
-        (λ written. IsTrue written
-        ↔ (input.old.now ≡ int_text T.width
-        (map (λ u. number_of T.width T.signed (little_endian (T.une_bytes u))) (cow_rest out.new))
-        ++ input.new.now)) }
-    ensures refused { IfErr result (λ e. Names e.reason (ints_fault T.width count input.old.now)) }
-    ensures rest { OnErr result (IsEndOf input.old.now input.new.now) }
-    ensures raw { IsTrue (ints_stand_raw T.width count input.old.now)
-        → IfErr result (λ e. e.reason ≢ Reason.OutOfMemory) }
-{
-    let before = *input;
-    unpack_ints::<T>(alloc, input, count, out)?;
-    if !strict {
-        return Ok(true);
-    }
-    let Some(bounds) = int_bounds::<T>(out.as_slice()) else {
-        return Ok(true);
-    };
-    let packed = taken(before, input);
-    Ok(is_ints_text(packed, count, bounds.0, bounds.1))
 }

@@ -6,6 +6,7 @@ pub mod decoder;
 pub mod encoder;
 pub mod halves;
 pub mod held;
+pub mod opaque;
 pub mod payload_columns;
 pub mod payloads;
 pub mod place;

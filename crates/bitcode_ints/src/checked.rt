@@ -9,7 +9,7 @@ ghost use Rattle.bitcode_shapes.specs.Shape.{Allowed, IsAllowed, number_shape};
 ghost use Rattle.bitcode_ints.specs.CheckedColumn.{numbers_of, checked_data, NamesCheckedFault};
 
 use bitcode_coder::coder::{Decoder, HoldsData, View};
-use bitcode_columns::column_int::ColumnInt;
+use bitcode_int_columns::column_int::ColumnInt;
 use bitcode_memory::error::{Error, Reason};
 use bitcode_memory::fast::CowSlice;
 use bitcode_memory::refuse::err;

@@ -6,7 +6,7 @@ use Rattle.bitcode_memory.specs.declared.error.Reason.{Reason}
 use Rattle.std.specs.Prelude.{◌↔◌}
 use Rattle.bitcode_columns.specs.ByteColumn.{SpellsBytes, byte_text}
 use Rattle.bitcode_memory.specs.Ints.{number_of}
-use Rattle.bitcode_columns.proofs.AppendLemmas.{int_text_bytes}
+use Rattle.bitcode_int_columns.proofs.AppendLemmas.{int_text_bytes}
 use Rattle.bitcode_columns.specs.Reading.{Reads, Names, bytes_fault}
 use Rattle.bitcode_shapes.specs.Datum.{number_in}
 use Rattle.bitcode_shapes.specs.Shape.{IsNumberOf, any_number}

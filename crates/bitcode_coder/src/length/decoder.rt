@@ -14,7 +14,8 @@ ghost use Rattle.bitcode_coder.specs.LengthParts.{escapes, ReadsParts, sum_fault
 
 use crate::coder::both;
 use crate::length::ESCAPE;
-use bitcode_columns::strict::{read_bytes, read_ints};
+use bitcode_columns::strict::read_bytes;
+use bitcode_int_columns::strict::read_ints;
 use bitcode_memory::error::{Error, Reason};
 use bitcode_memory::fast::CowSlice;
 use bitcode_memory::ints::known_bytes;

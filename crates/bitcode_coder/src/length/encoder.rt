@@ -16,7 +16,7 @@ use crate::coder::{Buffer, HoldsColumns};
 use crate::length::{ChunkWidth, ESCAPE, Len};
 use crate::one::write_length;
 use bitcode_columns::pack::pack_bytes;
-use bitcode_columns::pack_ints::pack_ints;
+use bitcode_int_columns::pack_ints::pack_ints;
 use bitcode_memory::error::{Error, Reason};
 use bitcode_memory::fast::{FastVec, PushUnchecked};
 use std::alloc::Global;

@@ -6,7 +6,7 @@ ghost use Rattle.bitcode_coder.specs.Columns.{ints, one};
 ghost use Rattle.bitcode_coder.specs.Spelling.{natural};
 
 use bitcode_coder::coder::{Buffer, Encoder, HoldsColumns};
-use bitcode_columns::column_int::ColumnInt;
+use bitcode_int_columns::column_int::ColumnInt;
 use bitcode_memory::error::Error;
 use bitcode_memory::fast::{FastVec, PushUnchecked};
 use std::alloc::Global;

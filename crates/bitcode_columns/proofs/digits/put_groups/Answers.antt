@@ -3,7 +3,7 @@ use Rattle.std.proofs.lemmas.List.{length-take, length-drop}
 use Rattle.std.proofs.Math.Nat.{zero-mul, add-mul}
 use Rattle.std.specs.List.{range_with_len}
 use Rattle.bitcode_columns.specs.Digits.{digit, radix, digits_in_byte}
-use Rattle.bitcode_columns.proofs.BlockLemmas.{put_size}
+use Rattle.bitcode_columns.proofs.PackingLemmas.{put_size}
 use Rattle.bitcode_columns.proofs.PackingLemmas.{group_fits, entries_so_far, entries_so_far-none, entries-put, entries-all, length-put, whole_and_left, none_left, few_left}
 use Rattle.bitcode_columns.proofs.digits.put_groups.Goals as goal
 

@@ -1,0 +1,9 @@
+pub mod NarrowLemmas
+pub mod WideningLemmas
+pub mod IntReadingLemmas
+pub mod WrittenLemmas
+pub mod AppendLemmas
+pub mod RoomLemmas
+pub mod SampleLemmas
+pub mod BlockLemmas
+pub mod StrictIntLemmas
