@@ -20,7 +20,7 @@ mod signed;
 mod unsigned;
 
 // Appends the column of integers of one byte, which is a byte column: `pack_ints` would copy them first.
-#[tactic(auto, unfolding(crate::specs::IntColumn::int_text))]
+#[tactic(auto, unfolding(bitcode_columns::specs::IntColumn::int_text))]
 fn pack_each_byte<T: Byte>(ints: &mut [T], out: &mut Vec<u8>) -> Result<(), Error>
     ensures written { OnOk result
         (out.new.items ≡ out.old.items ++ int_text 1 (map T.number ints.old)) }
