@@ -168,6 +168,51 @@ impl<$input> VariantPayloads<$input, $name> for $part<$input> {
 }
 
 """
+COLUMN_PART = """type $alias = $columns;
+
+/// The columns of the payloads of the variants $first to $last of `$simple`.
+#[derive(Drop)]
+pub struct $part {
+    all: $alias,
+}
+
+impl VariantColumns for $part {
+    ghost first = { ⟦<$alias as VariantColumns>⟧.first };
+
+    ghost end = { ⟦<$alias as VariantColumns>⟧.end };
+
+    ghost in_turn = { ⟦<$alias as VariantColumns>⟧.in_turn };
+
+    ghost columns = { columns_in (λ c. c.all) ⟦<$alias as VariantColumns>⟧.columns };
+
+    fn new(alloc: Global) -> Self {
+        $part { all: VariantColumns::new(alloc) }
+    }
+
+    fn first(&self) -> usize {
+        self.all.first()
+    }
+
+    fn collect_payloads(&mut self, number: usize, out: &mut Vec<u8>) -> Result<(), Error> {
+        self.all.collect_payloads(number, out)
+    }
+
+    fn clear_payloads(&mut self, number: usize) {
+        self.all.clear_payloads(number);
+    }
+
+    ghost ordered = { ⟦<$alias as VariantColumns>⟧.ordered };
+
+    ghost sized = { λ turn c. ⟦<$alias as VariantColumns>⟧.sized turn c.all };
+}
+
+impl$life WritesVariants<$part> for $name {
+    fn write(&self, to: &mut $part) -> Result<(), Error> {
+        WritesVariants::<$alias>::write(self, &mut to.all)
+    }
+}
+
+"""
 WHOLE = """/// The payloads that values of `$simple` are made of.
 #[derive(Drop)]
 pub struct $payloads<$input> {
@@ -224,6 +269,7 @@ class Numbered:
         self.groups = groups_of(weights)
         most = MOST_HALVES if enum.lifetime else len(self.groups) if len(self.groups) <= MOST_GROUPS else 1
         self.parts = parts_of(self.groups, weights, most)
+        self.column_parts = parts_of(self.groups, weights, len(self.groups))
         self.types = [held_type(variant) for variant in enum.variants]
         self.life, self.input = bounds(enum, ""), enum.lifetime or "'a"
         self.name = enum.name + self.life
@@ -287,6 +333,18 @@ class Numbered:
         first, end = groups[0][0], groups[-1][-1] + 1
         name, alias = f"{self.enum.name}Payloads{first}To{end - 1}", f"Decoders{first}To{end - 1}"
         return Template(PART).substitute(self.decoders(groups), part=name, alias=alias, simple=self.enum.name, name=self.name, input=self.input, first=first, last=end - 1, end=end), name
+
+    def columns(self):
+        """The encoders of all variants, as halves of those of groups, or of the structs that hold those of many."""
+        of_groups = [[self.encoders(group)[0] for group in part] for part in self.column_parts]
+        if len(of_groups) == 1:
+            return f"type Columns = {halves(of_groups[0])};\n\n" if len(self.groups) > 1 else ""
+        texts, names = [], []
+        for part, types in zip(self.column_parts, of_groups):
+            first, last = part[0][0], part[-1][-1]
+            names.append(f"{self.enum.name}Columns{first}To{last}")
+            texts.append(Template(COLUMN_PART).substitute(alias=f"Columns{first}To{last}", columns=halves(types), part=names[-1], first=first, last=last, simple=self.enum.name, life=self.life, name=self.name))
+        return "".join(texts) + f"type Columns = {halves(names)};\n\n"
 
     def payloads(self):
         """The decoders of all variants: a struct holds them, or one each part of them."""
@@ -352,7 +410,7 @@ class Numbered:
             payload_of_all=laws_as_data(self.enum, f"Held<{self.count}, {self.name}>"),
             index=arms(self.enum, lambda number, variant: value(self.enum, variant), numbered),
             groups="\n".join(map(self.group, self.groups)),
-            all_columns=f"type Columns = {halves([self.encoders(numbers)[0] for numbers in self.groups])};\n\n" if len(self.groups) > 1 else "",
+            all_columns=self.columns(),
             **payloads,
             owned="" if self.enum.lifetime else Template(OWNED).substitute(name=self.name),
         )
