@@ -1,6 +1,6 @@
 //! With ample memory what is read of nested types is written again, as the same bytes.
 use bitcode::{Error, decode, encode};
-use bitcode_own_types::nested_calls::{all_of, deep, options, sixteen, twelve};
+use bitcode_large_types::nested_calls::{all_of, deep, options, packets, sixteen, twelve};
 use std::collections::BTreeMap;
 
 type Records = Vec<(u64, String, bool, Option<u32>, Vec<u8>)>;
@@ -27,6 +27,18 @@ fn lists_come_back(rt: HostRuntime) -> Result<(), Error> {
     assert!(rt; deep(alloc, bytes)?.as_slice() == bytes);
     let bytes: &[u8] = &[2, 7, 9];
     assert!(rt; all_of::<u8>(alloc, bytes)?.as_slice() == bytes);
+    Ok(())
+}
+
+#[test]
+fn packets_come_back(rt: HostRuntime) -> Result<(), Error> {
+    let alloc = rt.alloc();
+    // A ping, and a login of "ab" with 7. The twenty variants have the numbers 0 to 19.
+    let bytes: &[u8] = &[2, 0, 2, 2, 97, 98, 6, 7];
+    assert!(rt; packets(alloc, bytes)?.as_slice() == bytes);
+    assert!(rt; packets(alloc, &[1, 19])?.as_slice() == &[1, 19]);
+    assert!(rt; packets(alloc, &[1, 20]).is_err());
+    assert!(rt; packets(alloc, &bytes[..7]).is_err());
     Ok(())
 }
 

@@ -34,6 +34,7 @@ pub use bitcode_columns::pack::{
 };
 pub use bitcode_derive::buffer::Buffer;
 pub use bitcode_derive::derive::{Decode, DecodeOwned, Encode, HasDecoder, HasEncoder};
+pub use bitcode_derive::map::{MapDecoder, MapEncoder};
 pub use bitcode_derive::whole::{
     decode, decode_front, decode_front_strict, decode_strict, encode, encode_into,
     invalid_enum_variant,
@@ -41,7 +42,6 @@ pub use bitcode_derive::whole::{
 pub use bitcode_int_columns::pack_ints::{pack_ints, unpack_ints};
 pub use bitcode_ints::checked::CheckedIntDecoder;
 pub use bitcode_ints::u8_char::{U8Char, U8CharEncoder};
-pub use bitcode_maps::map::{MapDecoder, MapEncoder};
 pub use bitcode_memory::consume::{
     consume_byte, consume_byte_arrays, consume_bytes, expect_eof, mul_length,
 };

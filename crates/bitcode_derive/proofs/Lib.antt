@@ -7,3 +7,5 @@ pub mod ShortTextLemmas
 pub mod FrontLemmas
 pub mod StrictLemmas
 pub mod StrictFrontLemmas
+pub mod MapReadingLemmas
+pub mod MapWritingLemmas

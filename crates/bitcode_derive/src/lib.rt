@@ -6,4 +6,5 @@ pub mod buffer;
 pub mod derive;
 mod impls;
 pub mod laws;
+pub mod map;
 pub mod whole;

@@ -1,7 +1,7 @@
 // Written by scripts/tables/types.
 //! The coders of maps.
 use crate::derive::{DecodeOwned, HasDecoder, HasEncoder};
-use bitcode_maps::map::{MapDecoder, MapEncoder};
+use crate::map::{MapDecoder, MapEncoder};
 use bitcode_shapes::keys::Key;
 use std::cmp::{Eq, Ord};
 use std::collections::{BTreeMap, HashMap};

@@ -1,7 +1,8 @@
-//! Calls at types that nest further than those of the programs. Each of these functions is proved, so a program that
+//! Calls at types that are larger, or nest further, than those of the programs. Each of these functions is proved, so a program that
 //! reads and writes its own records is, however they nest.
 
 use crate::account::Account;
+use crate::packet::Packet;
 use bitcode::{Decode, Encode, Error, decode, encode};
 use std::alloc::Global;
 
@@ -58,6 +59,12 @@ pub fn deep(alloc: Global, bytes: &[u8]) -> Result<Vec<u8>, Error> {
 pub fn accounts<'a>(alloc: Global, bytes: &'a [u8]) -> Result<Vec<u8>, Error> {
     let accounts: Vec<Account<'a>> = decode(alloc, bytes)?;
     encode(alloc, &accounts)
+}
+
+/// Reads values of an enum of 20 variants, and writes them again.
+pub fn packets(alloc: Global, bytes: &[u8]) -> Result<Vec<u8>, Error> {
+    let packets: Vec<Packet> = decode(alloc, bytes)?;
+    encode(alloc, &packets)
 }
 
 /// Reads records of any type, and writes them again.

@@ -1,7 +1,7 @@
 -- A map is read as the list of its entries.
 use Rattle.std.proofs.lemmas.Result.{IfErr-weaker, on_ok_weaker}
-use Rattle.bitcode_maps.proofs.ReadingLemmas.{reads_map, refuses_map}
-use Rattle.bitcode_maps.proofs.map.MapDecoderView.read.Goals as goal
+use Rattle.bitcode_derive.proofs.MapReadingLemmas.{reads_map, refuses_map}
+use Rattle.bitcode_derive.proofs.map.MapDecoderView.read.Goals as goal
 
 pub returns-clause-read : goal.returns-clause-read
 returns-clause-read g c = on_ok_weaker c.read.result (reads_map g.K.HoldsData.shape g.V.HoldsData.shape c.args.k c.args.input.now.now c.read.new.input.now _) c.read.ensures.read

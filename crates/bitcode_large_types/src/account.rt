@@ -3,8 +3,8 @@
 ghost use Rattle.std.specs.Prelude.{refl};
 ghost use Rattle.bitcode.specs.ByHand.{listed_pair, stood_payload};
 
-use crate::item::Item;
-use crate::seat::Seat;
+use crate::home::Home;
+use crate::trophy::Trophy;
 use bitcode::coder::{Decoder, HoldsData, View};
 use bitcode::own::{
     DecoderOfFields, FromParts, HasField, InFields, Nth, PartsDecoder, Payload, StandsFor,
@@ -26,9 +26,9 @@ pub struct Account<'a> {
     pub avatar: Vec<u8>,
     pub initial: char,
     pub tags: Vec<String>,
-    pub seat: Seat,
+    pub home: Home,
     pub position: (i32, i32),
-    pub best: Option<Item>,
+    pub best: Option<Trophy>,
     pub visits: u32,
     pub friends: u16,
     pub checksum: u128,
@@ -128,7 +128,7 @@ impl<'a> HasDecoder<'a> for AccountPart0<'a> {
     type Decoder = PartsDecoder<Fields0<'a>, AccountDecoder0<'a>>;
 }
 
-/// Fields of `Account`, from `balance` to `seat`.
+/// Fields of `Account`, from `balance` to `home`.
 #[derive(Drop)]
 pub struct AccountPart1 {
     pub balance: i64,
@@ -136,17 +136,17 @@ pub struct AccountPart1 {
     pub avatar: Vec<u8>,
     pub initial: char,
     pub tags: Vec<String>,
-    pub seat: Seat,
+    pub home: Home,
 }
 
-type Fields1 = (i64, Option<i16>, Vec<u8>, char, Vec<String>, Seat);
+type Fields1 = (i64, Option<i16>, Vec<u8>, char, Vec<String>, Home);
 
 impl StandsFor for AccountPart1 {
     type Parts = Fields1;
 
     type Inside = ();
 
-    ghost parts = { λ t. (t.balance, t.rating, t.avatar, t.initial, t.tags, t.seat) };
+    ghost parts = { λ t. (t.balance, t.rating, t.avatar, t.initial, t.tags, t.home) };
 
     ghost of_parts = { λ p. (
       record {
@@ -155,7 +155,7 @@ impl StandsFor for AccountPart1 {
         avatar = p.2;
         initial = p.3;
         tags = p.4;
-        seat
+        home
             = p.5;
       },
       refl,
@@ -167,21 +167,21 @@ impl StandsFor for AccountPart1 {
         self.avatar.told();
         self.initial.told();
         self.tags.told();
-        self.seat.told();
+        self.home.told();
     }
 
     ghost one_to_one = { λ t. refl };
 }
 
 impl FromParts for AccountPart1 {
-    fn from_parts((balance, rating, avatar, initial, tags, seat): Fields1) -> Self {
+    fn from_parts((balance, rating, avatar, initial, tags, home): Fields1) -> Self {
         AccountPart1 {
             balance,
             rating,
             avatar,
             initial,
             tags,
-            seat,
+            home,
         }
     }
 }
@@ -238,19 +238,19 @@ impl<'a> HasDecoder<'a> for AccountPart1 {
 #[derive(Drop)]
 pub struct AccountPart2 {
     pub position: (i32, i32),
-    pub best: Option<Item>,
+    pub best: Option<Trophy>,
     pub visits: u32,
     pub friends: u16,
     pub checksum: u128,
     pub rank: u8,
 }
 
-type Fields2 = ((i32, i32), Option<Item>, u32, u16, u128, u8);
+type Fields2 = ((i32, i32), Option<Trophy>, u32, u16, u128, u8);
 
 impl StandsFor for AccountPart2 {
     type Parts = Fields2;
 
-    type Inside = (<Item as StandsFor>::Parts, <Item as StandsFor>::Inside);
+    type Inside = (<Trophy as StandsFor>::Parts, <Trophy as StandsFor>::Inside);
 
     ghost parts = { λ t. (t.position, t.best, t.visits, t.friends, t.checksum, t.rank) };
 
@@ -337,7 +337,7 @@ impl<'a> StandsFor for Account<'a> {
           avatar = t.avatar;
           initial = t.initial;
           tags = t.tags;
-          seat = t.seat;
+          home = t.home;
         },
         record {
           position = t.position;
@@ -364,7 +364,7 @@ impl<'a> StandsFor for Account<'a> {
         initial
             = p.1.0.initial;
         tags = p.1.0.tags;
-        seat = p.1.0.seat;
+        home = p.1.0.home;
         position = p.1.1.position;
         best
             = p.1.1.best;
@@ -387,7 +387,7 @@ impl<'a> StandsFor for Account<'a> {
         self.avatar.told();
         self.initial.told();
         self.tags.told();
-        self.seat.told();
+        self.home.told();
         self.position.told();
         self.best.told();
         self.visits.told();
@@ -414,7 +414,7 @@ impl<'a> FromParts for Account<'a> {
             avatar,
             initial,
             tags,
-            seat,
+            home,
         } = part1;
         let AccountPart2 {
             position,
@@ -435,7 +435,7 @@ impl<'a> FromParts for Account<'a> {
             avatar,
             initial,
             tags,
-            seat,
+            home,
             position,
             best,
             visits,
@@ -572,14 +572,14 @@ impl<'a> HasField<9> for Account<'a> {
 }
 
 impl<'a> HasField<10> for Account<'a> {
-    type Field = Seat;
+    type Field = Home;
 
     type Inside = <Account<'a> as StandsFor>::Inside;
 
-    ghost field = { λ t. t.seat };
+    ghost field = { λ t. t.home };
 
-    fn field(&self) -> &Seat {
-        &self.seat
+    fn field(&self) -> &Home {
+        &self.home
     }
 }
 
@@ -596,13 +596,13 @@ impl<'a> HasField<11> for Account<'a> {
 }
 
 impl<'a> HasField<12> for Account<'a> {
-    type Field = Option<Item>;
+    type Field = Option<Trophy>;
 
     type Inside = <Account<'a> as StandsFor>::Inside;
 
     ghost field = { λ t. t.best };
 
-    fn field(&self) -> &Option<Item> {
+    fn field(&self) -> &Option<Trophy> {
         &self.best
     }
 }
@@ -658,8 +658,8 @@ impl<'a> HasField<16> for Account<'a> {
 type Fields<'a> = <(
     ((u64, String), (&'a str, (u8, bool))),
     (
-        ((i64, (Option<i16>, Vec<u8>)), (char, (Vec<String>, Seat))),
-        (((i32, i32), (Option<Item>, u32)), (u16, (u128, u8))),
+        ((i64, (Option<i16>, Vec<u8>)), (char, (Vec<String>, Home))),
+        (((i32, i32), (Option<Trophy>, u32)), (u16, (u128, u8))),
     ),
 ) as HasEncoder>::Encoder;
 

@@ -9,8 +9,8 @@ use Rattle.bitcode_shapes.specs.LawfulLists.{each_listed}
 use Rattle.bitcode_coder.specs.Length.{written_lengths}
 use Rattle.bitcode_coder.proofs.RefusalLemmas.{refusal_weaker, refused_weaker}
 use Rattle.bitcode_parts.proofs.ListWritingLemmas.{overflows_surely}
-use Rattle.bitcode_maps.proofs.WritingLemmas.{on_ok_both, joins_map, overflows_keys, overflows_values}
-use Rattle.bitcode_maps.proofs.map.MapEncoderEncoder.encode.Goals as goal
+use Rattle.bitcode_derive.proofs.MapWritingLemmas.{on_ok_both, joins_map, overflows_keys, overflows_values}
+use Rattle.bitcode_derive.proofs.map.MapEncoderEncoder.encode.Goals as goal
 
 pub encode_pairs-requires-clause-are : goal.encode_pairs-requires-clause-are
 encode_pairs-requires-clause-are g c =

@@ -1,0 +1,747 @@
+//! `Packet` is written and read by the numbers of its variants. What is below its declaration was written by
+//! `scripts/new_type`.
+ghost use Rattle.std.specs.Prelude.{◌≡◌, refl, true};
+ghost use Rattle.bitcode.specs.ByHand.{columns_in, each_variant, is_variant, last_payload, of_one_of_4, payload_and};
+ghost use Rattle.bitcode.specs.ByHand.{payloads_in, stood_payload};
+ghost use Rattle.bitcode_large_types.specs.declared.packet.Packet.{Packet};
+
+use bitcode::own::{
+    AllColumns, AllPayloads, At, DecodersOf4, EncodersOf4, Enum, EnumDecoder, EnumEncoder, EnumOf,
+    Halves, Held, HeldIn, OneOf4, Opaque, PartsDecoder, Payload, StandsFor, VariantColumns,
+    VariantPayloads, Variants4, WritesPayloads, WritesVariants, told_as,
+};
+use bitcode::{DecodeOwned, Error, HasDecoder, HasEncoder};
+use std::alloc::Global;
+
+/// What the players and the server of a game send each other.
+#[derive(Debug, PartialEq, Drop)]
+pub enum Packet {
+    Ping,
+    Pong,
+    Login(String, u64),
+    Logout,
+    Welcome { id: u32, name: String },
+    Refused(String),
+    Join(u16),
+    Leave(u16),
+    Say(String),
+    Whisper { to: u32, text: String },
+    Move { x: i32, y: i32 },
+    Turn(i16),
+    Attack(u32),
+    Hit { by: u32, damage: u16 },
+    Heal(u16),
+    Take(u64, u16),
+    Drop(u64),
+    Inventory(Vec<u16>),
+    Score(Option<u32>),
+    Quit,
+}
+
+impl Enum for Packet {
+    ghost each = { each_variant
+        (payload_and ⟦<() as Payload>⟧.payload
+        (payload_and ⟦<() as Payload>⟧.payload
+        (payload_and ⟦<(String, u64) as Payload>⟧.payload
+        (payload_and ⟦<() as Payload>⟧.payload
+        (payload_and ⟦<(u32, String) as Payload>⟧.payload
+        (payload_and ⟦<String as Payload>⟧.payload
+        (payload_and ⟦<u16 as Payload>⟧.payload
+        (payload_and ⟦<u16 as Payload>⟧.payload
+        (payload_and ⟦<String as Payload>⟧.payload
+        (payload_and ⟦<(u32, String) as Payload>⟧.payload
+        (payload_and ⟦<(i32, i32) as Payload>⟧.payload
+        (payload_and ⟦<i16 as Payload>⟧.payload
+        (payload_and ⟦<u32 as Payload>⟧.payload
+        (payload_and ⟦<(u32, u16) as Payload>⟧.payload
+        (payload_and ⟦<u16 as Payload>⟧.payload
+        (payload_and ⟦<(u64, u16) as Payload>⟧.payload
+        (payload_and ⟦<u64 as Payload>⟧.payload
+        (payload_and ⟦<Vec<u16> as Payload>⟧.payload
+        (payload_and ⟦<Option<u32> as Payload>⟧.payload
+        (last_payload ⟦<() as Payload>⟧.payload))))))))))))))))))))
+        (λ at. elim [
+          | Packet.Ping ↦ at 0 tt
+          | Packet.Pong ↦ at 1 tt
+          | Packet.Login a b ↦ at 2 (a, b)
+          | Packet.Logout ↦ at 3 tt
+          | Packet.Welcome a b ↦ at 4 (a, b)
+          | Packet.Refused a ↦ at 5 a
+          | Packet.Join a ↦ at 6 a
+          | Packet.Leave a ↦ at 7 a
+          | Packet.Say a ↦ at 8 a
+          | Packet.Whisper a
+              b ↦ at 9 (a, b)
+          | Packet.Move a b ↦ at 10 (a, b)
+          | Packet.Turn a ↦ at 11 a
+          | Packet.Attack a
+              ↦ at 12 a
+          | Packet.Hit a b ↦ at 13 (a, b)
+          | Packet.Heal a ↦ at 14 a
+          | Packet.Take a b ↦ at
+              15 (a, b)
+          | Packet.Drop a ↦ at 16 a
+          | Packet.Inventory a ↦ at 17 a
+          | Packet.Score a ↦ at 18
+              a
+          | Packet.Quit ↦ at 19 tt
+        ]) (
+          (λ p. (Packet.Ping, refl)),
+          (
+            (λ p. (Packet.Pong, refl)),
+            (
+              (λ p. (Packet.Login p.0 p.1, refl)),
+              (
+                (λ p. (Packet.Logout, refl)),
+                (
+                  (λ p. (Packet.Welcome p.0 p.1, refl)),
+                  (
+                    (λ p. (Packet.Refused p, refl)),
+                    (
+                      (λ p. (Packet.Join p, refl)),
+                      (
+                        (λ p. (Packet.Leave p, refl)),
+                        (
+                          (λ p. (Packet.Say p, refl)),
+                          (
+                            (λ p. (Packet.Whisper p.0 p.1, refl)),
+                            (
+                              (λ p. (Packet.Move p.0 p.1, refl)),
+                              (
+                                (λ p. (Packet.Turn p, refl)),
+                                (
+                                  (λ p. (Packet.Attack p, refl)),
+                                  (
+                                    (λ p. (Packet.Hit p.0 p.1, refl)),
+                                    (
+                                      (λ p. (Packet.Heal p, refl)),
+                                      (
+                                        (λ p. (Packet.Take p.0 p.1, refl)),
+                                        (
+                                          (λ p. (Packet.Drop p, refl)),
+                                          (
+                                            (λ p. (Packet.Inventory p, refl)),
+                                            (
+                                              (λ p. (Packet.Score p, refl)),
+                                              λ p.
+                                                  (Packet.Quit, refl),
+                                            ),
+                                          ),
+                                        ),
+                                      ),
+                                    ),
+                                  ),
+                                ),
+                              ),
+                            ),
+                          ),
+                        ),
+                      ),
+                    ),
+                  ),
+                ),
+              ),
+            ),
+          ),
+        ) };
+
+    ghost sized = { refl };
+
+    fn variant(&self) -> u8 {
+        match self {
+            Packet::Ping => 0,
+            Packet::Pong => 1,
+            Packet::Login(a, b) => told_as(2, &(a, b)),
+            Packet::Logout => 3,
+            Packet::Welcome { id, name } => told_as(4, &(id, name)),
+            Packet::Refused(a) => told_as(5, &a),
+            Packet::Join(a) => told_as(6, &a),
+            Packet::Leave(a) => told_as(7, &a),
+            Packet::Say(a) => told_as(8, &a),
+            Packet::Whisper { to: to_, text } => told_as(9, &(to_, text)),
+            Packet::Move { x, y } => told_as(10, &(x, y)),
+            Packet::Turn(a) => told_as(11, &a),
+            Packet::Attack(a) => told_as(12, &a),
+            Packet::Hit { by, damage } => told_as(13, &(by, damage)),
+            Packet::Heal(a) => told_as(14, &a),
+            Packet::Take(a, b) => told_as(15, &(a, b)),
+            Packet::Drop(a) => told_as(16, &a),
+            Packet::Inventory(a) => told_as(17, &a),
+            Packet::Score(a) => told_as(18, &a),
+            Packet::Quit => 19,
+        }
+    }
+
+    ghost one_to_one = { elim [
+      | Packet.Ping ↦ refl
+      | Packet.Pong ↦ refl
+      | Packet.Login a b ↦ refl
+      | Packet.Logout ↦ refl
+      | Packet.Welcome a b ↦ refl
+      | Packet.Refused a ↦ refl
+      | Packet.Join a ↦ refl
+      | Packet.Leave a
+          ↦ refl
+      | Packet.Say a ↦ refl
+      | Packet.Whisper a b ↦ refl
+      | Packet.Move a b ↦ refl
+      | Packet.Turn a ↦ refl
+      | Packet.Attack a ↦ refl
+      | Packet.Hit a b ↦ refl
+      | Packet.Heal a ↦ refl
+      | Packet.Take a b ↦ refl
+      | Packet.Drop a ↦ refl
+      | Packet.Inventory a ↦ refl
+      | Packet.Score a
+          ↦ refl
+      | Packet.Quit ↦ refl
+    ] };
+}
+
+impl EnumOf<20> for Packet {
+    ghost count = { refl };
+}
+
+impl HeldIn for Packet {
+    type Holder = Held<20, Packet>;
+}
+
+impl Payload for Packet {
+    ghost payload = { stood_payload ⟦<Packet as StandsFor>⟧.parts ⟦<Packet as StandsFor>⟧.of_parts
+        ⟦<Held<20, Packet> as Payload>⟧.payload };
+}
+
+impl Variants4<At<0>, (), (), (String, u64), ()> for Packet {
+    ghost values = { (
+      λ p. Packet.Ping,
+      λ p. Packet.Pong,
+      λ p. Packet.Login p.0 p.1,
+      λ p.
+          Packet.Logout,
+    ) };
+
+    fn of_payload(payload: OneOf4<(), (), (String, u64), ()>) -> Self
+        ensures { result ≡ of_one_of_4 (λ p. Packet.Ping) (λ p. Packet.Pong)
+            (λ p. Packet.Login p.0 p.1) (λ p. Packet.Logout) payload }
+    {
+        match payload {
+            OneOf4::First(()) => Packet::Ping,
+            OneOf4::Second(()) => Packet::Pong,
+            OneOf4::Third((a, b)) => Packet::Login(a, b),
+            OneOf4::Fourth(()) => Packet::Logout,
+        }
+    }
+
+    ghost are = { (
+      is_variant refl (λ p. refl) (λ p old new h. h) (λ p old h. h) (λ p old new h. h),
+      is_variant refl (λ p. refl) (λ p old new h. h) (λ p old h. h) (λ p old new h. h),
+      is_variant
+          refl (λ p. refl) (λ p old new h. h) (λ p old h. h) (λ p old new h. h),
+      is_variant refl
+          (λ p. refl) (λ p old new h. h) (λ p old h. h) (λ p old new h. h),
+    ) };
+}
+
+impl WritesVariants<EncodersOf4<At<0>, (), (), (String, u64), ()>> for Packet {
+    fn write(&self, to: &mut EncodersOf4<At<0>, (), (), (String, u64), ()>) -> Result<(), Error> {
+        match self {
+            Packet::Ping => to.encode_first(self, &&()),
+            Packet::Pong => to.encode_second(self, &&()),
+            Packet::Login(a, b) => to.encode_third::<_, _, _, _, _, (&String, &u64)>(self, &(a, b)),
+            Packet::Logout => to.encode_fourth(self, &&()),
+            _ => unreachable!(),
+        }
+    }
+}
+
+impl Variants4<At<4>, (u32, String), String, u16, u16> for Packet {
+    ghost values = { (
+      λ p. Packet.Welcome p.0 p.1,
+      λ p. Packet.Refused p,
+      λ p. Packet.Join p,
+      λ p.
+          Packet.Leave p,
+    ) };
+
+    fn of_payload(payload: OneOf4<(u32, String), String, u16, u16>) -> Self
+        ensures { result ≡ of_one_of_4 (λ p. Packet.Welcome p.0 p.1) (λ p. Packet.Refused p)
+            (λ p. Packet.Join p) (λ p. Packet.Leave p) payload }
+    {
+        match payload {
+            OneOf4::First((id, name)) => Packet::Welcome { id, name },
+            OneOf4::Second(a) => Packet::Refused(a),
+            OneOf4::Third(a) => Packet::Join(a),
+            OneOf4::Fourth(a) => Packet::Leave(a),
+        }
+    }
+
+    ghost are = { (
+      is_variant refl (λ p. refl) (λ p old new h. h) (λ p old h. h) (λ p old new h. h),
+      is_variant refl (λ p. refl) (λ p old new h. h) (λ p old h. h) (λ p old new h. h),
+      is_variant
+          refl (λ p. refl) (λ p old new h. h) (λ p old h. h) (λ p old new h. h),
+      is_variant refl
+          (λ p. refl) (λ p old new h. h) (λ p old h. h) (λ p old new h. h),
+    ) };
+}
+
+type ColumnsOf4To7 = EncodersOf4<At<4>, (u32, String), String, u16, u16>;
+
+impl WritesVariants<ColumnsOf4To7> for Packet {
+    fn write(&self, to: &mut ColumnsOf4To7) -> Result<(), Error> {
+        match self {
+            Packet::Welcome { id, name } => to.encode_first::<_, _, _, _, _, (&u32, &String)>(
+                self,
+                &(id, name),
+            ),
+            Packet::Refused(a) => to.encode_second(self, &a),
+            Packet::Join(a) => to.encode_third(self, &a),
+            Packet::Leave(a) => to.encode_fourth(self, &a),
+            _ => unreachable!(),
+        }
+    }
+}
+
+impl Variants4<At<8>, String, (u32, String), (i32, i32), i16> for Packet {
+    ghost values = { (
+      λ p. Packet.Say p,
+      λ p. Packet.Whisper p.0 p.1,
+      λ p. Packet.Move p.0 p.1,
+      λ p.
+          Packet.Turn p,
+    ) };
+
+    fn of_payload(payload: OneOf4<String, (u32, String), (i32, i32), i16>) -> Self
+        ensures { result ≡ of_one_of_4 (λ p. Packet.Say p) (λ p. Packet.Whisper p.0 p.1)
+            (λ p. Packet.Move p.0 p.1) (λ p. Packet.Turn p) payload }
+    {
+        match payload {
+            OneOf4::First(a) => Packet::Say(a),
+            OneOf4::Second((to_, text)) => Packet::Whisper { to: to_, text },
+            OneOf4::Third((x, y)) => Packet::Move { x, y },
+            OneOf4::Fourth(a) => Packet::Turn(a),
+        }
+    }
+
+    ghost are = { (
+      is_variant refl (λ p. refl) (λ p old new h. h) (λ p old h. h) (λ p old new h. h),
+      is_variant refl (λ p. refl) (λ p old new h. h) (λ p old h. h) (λ p old new h. h),
+      is_variant
+          refl (λ p. refl) (λ p old new h. h) (λ p old h. h) (λ p old new h. h),
+      is_variant refl
+          (λ p. refl) (λ p old new h. h) (λ p old h. h) (λ p old new h. h),
+    ) };
+}
+
+type ColumnsOf8To11 = EncodersOf4<At<8>, String, (u32, String), (i32, i32), i16>;
+
+impl WritesVariants<ColumnsOf8To11> for Packet {
+    fn write(&self, to: &mut ColumnsOf8To11) -> Result<(), Error> {
+        match self {
+            Packet::Say(a) => to.encode_first(self, &a),
+            Packet::Whisper { to: to_, text } => to.encode_second::<_, _, _, _, _, (&u32, &String)>(
+                self,
+                &(to_, text),
+            ),
+            Packet::Move { x, y } => to.encode_third::<_, _, _, _, _, (&i32, &i32)>(self, &(x, y)),
+            Packet::Turn(a) => to.encode_fourth(self, &a),
+            _ => unreachable!(),
+        }
+    }
+}
+
+impl Variants4<At<12>, u32, (u32, u16), u16, (u64, u16)> for Packet {
+    ghost values = { (
+      λ p. Packet.Attack p,
+      λ p. Packet.Hit p.0 p.1,
+      λ p. Packet.Heal p,
+      λ p.
+          Packet.Take p.0 p.1,
+    ) };
+
+    fn of_payload(payload: OneOf4<u32, (u32, u16), u16, (u64, u16)>) -> Self
+        ensures { result ≡ of_one_of_4 (λ p. Packet.Attack p) (λ p. Packet.Hit p.0 p.1)
+            (λ p. Packet.Heal p) (λ p. Packet.Take p.0 p.1) payload }
+    {
+        match payload {
+            OneOf4::First(a) => Packet::Attack(a),
+            OneOf4::Second((by, damage)) => Packet::Hit { by, damage },
+            OneOf4::Third(a) => Packet::Heal(a),
+            OneOf4::Fourth((a, b)) => Packet::Take(a, b),
+        }
+    }
+
+    ghost are = { (
+      is_variant refl (λ p. refl) (λ p old new h. h) (λ p old h. h) (λ p old new h. h),
+      is_variant refl (λ p. refl) (λ p old new h. h) (λ p old h. h) (λ p old new h. h),
+      is_variant
+          refl (λ p. refl) (λ p old new h. h) (λ p old h. h) (λ p old new h. h),
+      is_variant refl
+          (λ p. refl) (λ p old new h. h) (λ p old h. h) (λ p old new h. h),
+    ) };
+}
+
+type ColumnsOf12To15 = EncodersOf4<At<12>, u32, (u32, u16), u16, (u64, u16)>;
+
+impl WritesVariants<ColumnsOf12To15> for Packet {
+    fn write(&self, to: &mut ColumnsOf12To15) -> Result<(), Error> {
+        match self {
+            Packet::Attack(a) => to.encode_first(self, &a),
+            Packet::Hit { by, damage } => to.encode_second::<_, _, _, _, _, (&u32, &u16)>(
+                self,
+                &(by, damage),
+            ),
+            Packet::Heal(a) => to.encode_third(self, &a),
+            Packet::Take(a, b) => to.encode_fourth::<_, _, _, _, _, (&u64, &u16)>(self, &(a, b)),
+            _ => unreachable!(),
+        }
+    }
+}
+
+impl Variants4<At<16>, u64, Vec<u16>, Option<u32>, ()> for Packet {
+    ghost values = { (
+      λ p. Packet.Drop p,
+      λ p. Packet.Inventory p,
+      λ p. Packet.Score p,
+      λ p.
+          Packet.Quit,
+    ) };
+
+    fn of_payload(payload: OneOf4<u64, Vec<u16>, Option<u32>, ()>) -> Self
+        ensures { result ≡ of_one_of_4 (λ p. Packet.Drop p) (λ p. Packet.Inventory p)
+            (λ p. Packet.Score p) (λ p. Packet.Quit) payload }
+    {
+        match payload {
+            OneOf4::First(a) => Packet::Drop(a),
+            OneOf4::Second(a) => Packet::Inventory(a),
+            OneOf4::Third(a) => Packet::Score(a),
+            OneOf4::Fourth(()) => Packet::Quit,
+        }
+    }
+
+    ghost are = { (
+      is_variant refl (λ p. refl) (λ p old new h. h) (λ p old h. h) (λ p old new h. h),
+      is_variant refl (λ p. refl) (λ p old new h. h) (λ p old h. h) (λ p old new h. h),
+      is_variant
+          refl (λ p. refl) (λ p old new h. h) (λ p old h. h) (λ p old new h. h),
+      is_variant refl
+          (λ p. refl) (λ p old new h. h) (λ p old h. h) (λ p old new h. h),
+    ) };
+}
+
+type ColumnsOf16To19 = EncodersOf4<At<16>, u64, Vec<u16>, Option<u32>, ()>;
+
+impl WritesVariants<ColumnsOf16To19> for Packet {
+    fn write(&self, to: &mut ColumnsOf16To19) -> Result<(), Error> {
+        match self {
+            Packet::Drop(a) => to.encode_first(self, &a),
+            Packet::Inventory(a) => to.encode_second(self, &a),
+            Packet::Score(a) => to.encode_third(self, &a),
+            Packet::Quit => to.encode_fourth(self, &&()),
+            _ => unreachable!(),
+        }
+    }
+}
+
+type Columns = Halves<
+    Halves<Halves<EncodersOf4<At<0>, (), (), (String, u64), ()>, ColumnsOf4To7>, ColumnsOf8To11>,
+    Halves<ColumnsOf12To15, ColumnsOf16To19>,
+>;
+
+type Decoders<'a> = Halves<
+    Halves<Halves<PacketPayloads0To3<'a>, PacketPayloads4To7<'a>>, PacketPayloads8To11<'a>>,
+    Halves<PacketPayloads12To15<'a>, PacketPayloads16To19<'a>>,
+>;
+
+/// The columns of the payloads of `Packet`.
+#[derive(Drop)]
+pub struct PacketColumns {
+    all: Columns,
+}
+
+impl AllColumns<20> for PacketColumns {
+    ghost held = { columns_in (λ c. c.all) ⟦<Columns as VariantColumns>⟧.columns };
+
+    fn new(alloc: Global) -> Self {
+        PacketColumns {
+            all: VariantColumns::new(alloc),
+        }
+    }
+
+    fn collect(&mut self, number: usize, out: &mut Vec<u8>) -> Result<(), Error> {
+        self.all.collect_payloads(number, out)
+    }
+
+    fn clear(&mut self, number: usize) {
+        self.all.clear_payloads(number);
+    }
+
+    ghost sized = { λ c. refl };
+}
+
+impl WritesPayloads<20, PacketColumns> for Packet {
+    fn write_payload(&self, to: &mut PacketColumns) -> Result<(), Error> {
+        WritesVariants::<Columns>::write(self, &mut to.all)
+    }
+
+    ghost of_shapes = { λ c. refl };
+}
+
+type Decoders0To3<'a> = Opaque<DecodersOf4<'a, At<0>, (), (), (String, u64), ()>>;
+
+/// The payloads of the variants 0 to 3 of `Packet`.
+#[derive(Drop)]
+pub struct PacketPayloads0To3<'a> {
+    all: Decoders0To3<'a>,
+}
+
+impl<'a> VariantPayloads<'a, Packet> for PacketPayloads0To3<'a> {
+    ghost first = { 0 };
+
+    ghost end = { 4 };
+
+    ghost in_turn = { true };
+
+    ghost held = { payloads_in (λ d. d.all)
+        ⟦<Decoders0To3<'a> as VariantPayloads<'a, Packet>>⟧.held };
+
+    fn new(alloc: Global) -> Self {
+        PacketPayloads0To3 {
+            all: VariantPayloads::<Packet>::new(alloc),
+        }
+    }
+
+    fn first(&self) -> usize {
+        0
+    }
+
+    fn read_payloads(
+        &mut self,
+        number: usize,
+        input: &mut &'a [u8],
+        k: usize,
+        strict: bool,
+    ) -> Result<bool, Error> {
+        VariantPayloads::<Packet>::read_payloads(&mut self.all, number, input, k, strict)
+    }
+
+    fn decode_payload(&mut self, number: usize) -> Result<Packet, Error> {
+        self.all.decode_payload(number)
+    }
+
+    fn sized(&self) {}
+}
+
+type Decoders4To7<'a> = Opaque<DecodersOf4<'a, At<4>, (u32, String), String, u16, u16>>;
+
+/// The payloads of the variants 4 to 7 of `Packet`.
+#[derive(Drop)]
+pub struct PacketPayloads4To7<'a> {
+    all: Decoders4To7<'a>,
+}
+
+impl<'a> VariantPayloads<'a, Packet> for PacketPayloads4To7<'a> {
+    ghost first = { 4 };
+
+    ghost end = { 8 };
+
+    ghost in_turn = { true };
+
+    ghost held = { payloads_in (λ d. d.all)
+        ⟦<Decoders4To7<'a> as VariantPayloads<'a, Packet>>⟧.held };
+
+    fn new(alloc: Global) -> Self {
+        PacketPayloads4To7 {
+            all: VariantPayloads::<Packet>::new(alloc),
+        }
+    }
+
+    fn first(&self) -> usize {
+        4
+    }
+
+    fn read_payloads(
+        &mut self,
+        number: usize,
+        input: &mut &'a [u8],
+        k: usize,
+        strict: bool,
+    ) -> Result<bool, Error> {
+        VariantPayloads::<Packet>::read_payloads(&mut self.all, number, input, k, strict)
+    }
+
+    fn decode_payload(&mut self, number: usize) -> Result<Packet, Error> {
+        self.all.decode_payload(number)
+    }
+
+    fn sized(&self) {}
+}
+
+type Decoders8To11<'a> = Opaque<DecodersOf4<'a, At<8>, String, (u32, String), (i32, i32), i16>>;
+
+/// The payloads of the variants 8 to 11 of `Packet`.
+#[derive(Drop)]
+pub struct PacketPayloads8To11<'a> {
+    all: Decoders8To11<'a>,
+}
+
+impl<'a> VariantPayloads<'a, Packet> for PacketPayloads8To11<'a> {
+    ghost first = { 8 };
+
+    ghost end = { 12 };
+
+    ghost in_turn = { true };
+
+    ghost held = { payloads_in (λ d. d.all)
+        ⟦<Decoders8To11<'a> as VariantPayloads<'a, Packet>>⟧.held };
+
+    fn new(alloc: Global) -> Self {
+        PacketPayloads8To11 {
+            all: VariantPayloads::<Packet>::new(alloc),
+        }
+    }
+
+    fn first(&self) -> usize {
+        8
+    }
+
+    fn read_payloads(
+        &mut self,
+        number: usize,
+        input: &mut &'a [u8],
+        k: usize,
+        strict: bool,
+    ) -> Result<bool, Error> {
+        VariantPayloads::<Packet>::read_payloads(&mut self.all, number, input, k, strict)
+    }
+
+    fn decode_payload(&mut self, number: usize) -> Result<Packet, Error> {
+        self.all.decode_payload(number)
+    }
+
+    fn sized(&self) {}
+}
+
+type Decoders12To15<'a> = Opaque<DecodersOf4<'a, At<12>, u32, (u32, u16), u16, (u64, u16)>>;
+
+/// The payloads of the variants 12 to 15 of `Packet`.
+#[derive(Drop)]
+pub struct PacketPayloads12To15<'a> {
+    all: Decoders12To15<'a>,
+}
+
+impl<'a> VariantPayloads<'a, Packet> for PacketPayloads12To15<'a> {
+    ghost first = { 12 };
+
+    ghost end = { 16 };
+
+    ghost in_turn = { true };
+
+    ghost held = { payloads_in (λ d. d.all)
+        ⟦<Decoders12To15<'a> as VariantPayloads<'a, Packet>>⟧.held };
+
+    fn new(alloc: Global) -> Self {
+        PacketPayloads12To15 {
+            all: VariantPayloads::<Packet>::new(alloc),
+        }
+    }
+
+    fn first(&self) -> usize {
+        12
+    }
+
+    fn read_payloads(
+        &mut self,
+        number: usize,
+        input: &mut &'a [u8],
+        k: usize,
+        strict: bool,
+    ) -> Result<bool, Error> {
+        VariantPayloads::<Packet>::read_payloads(&mut self.all, number, input, k, strict)
+    }
+
+    fn decode_payload(&mut self, number: usize) -> Result<Packet, Error> {
+        self.all.decode_payload(number)
+    }
+
+    fn sized(&self) {}
+}
+
+type Decoders16To19<'a> = Opaque<DecodersOf4<'a, At<16>, u64, Vec<u16>, Option<u32>, ()>>;
+
+/// The payloads of the variants 16 to 19 of `Packet`.
+#[derive(Drop)]
+pub struct PacketPayloads16To19<'a> {
+    all: Decoders16To19<'a>,
+}
+
+impl<'a> VariantPayloads<'a, Packet> for PacketPayloads16To19<'a> {
+    ghost first = { 16 };
+
+    ghost end = { 20 };
+
+    ghost in_turn = { true };
+
+    ghost held = { payloads_in (λ d. d.all)
+        ⟦<Decoders16To19<'a> as VariantPayloads<'a, Packet>>⟧.held };
+
+    fn new(alloc: Global) -> Self {
+        PacketPayloads16To19 {
+            all: VariantPayloads::<Packet>::new(alloc),
+        }
+    }
+
+    fn first(&self) -> usize {
+        16
+    }
+
+    fn read_payloads(
+        &mut self,
+        number: usize,
+        input: &mut &'a [u8],
+        k: usize,
+        strict: bool,
+    ) -> Result<bool, Error> {
+        VariantPayloads::<Packet>::read_payloads(&mut self.all, number, input, k, strict)
+    }
+
+    fn decode_payload(&mut self, number: usize) -> Result<Packet, Error> {
+        self.all.decode_payload(number)
+    }
+
+    fn sized(&self) {}
+}
+
+impl<'a> AllPayloads<'a, 20, Packet> for Decoders<'a> {
+    ghost held = { ⟦<Decoders<'a> as VariantPayloads<'a, Packet>>⟧.held };
+
+    fn new(alloc: Global) -> Self {
+        VariantPayloads::<Packet>::new(alloc)
+    }
+
+    fn read_at(
+        &mut self,
+        number: usize,
+        input: &mut &'a [u8],
+        k: usize,
+        strict: bool,
+    ) -> Result<bool, Error> {
+        VariantPayloads::<Packet>::read_payloads(self, number, input, k, strict)
+    }
+
+    fn decode_at(&mut self, number: usize) -> Result<Packet, Error> {
+        self.decode_payload(number)
+    }
+
+    fn sized(&self) {}
+}
+
+impl HasEncoder for Packet {
+    type Encoder = EnumEncoder<20, PacketColumns>;
+}
+
+impl<'a> HasDecoder<'a> for Packet {
+    type Decoder = PartsDecoder<Held<20, Packet>, EnumDecoder<'a, 20, Packet, Decoders<'a>>>;
+}
+
+impl DecodeOwned for Packet {}

@@ -1,2 +1,0 @@
-pub mod WritingLemmas
-pub mod ReadingLemmas
