@@ -36,7 +36,7 @@ fn packets_come_back(rt: HostRuntime) -> Result<(), Error> {
     // A ping, and a login of "ab" with 7. The twenty variants have the numbers 0 to 19.
     let bytes: &[u8] = &[2, 0, 2, 2, 97, 98, 6, 7];
     assert!(rt; packets(alloc, bytes)?.as_slice() == bytes);
-    assert!(rt; packets(alloc, &[1, 19])?.as_slice() == &[1, 19]);
+    assert!(rt; packets(alloc, &[1, 19])?.as_slice() == [1, 19].as_slice());
     assert!(rt; packets(alloc, &[1, 20]).is_err());
     assert!(rt; packets(alloc, &bytes[..7]).is_err());
     Ok(())
