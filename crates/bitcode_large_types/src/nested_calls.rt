@@ -1,5 +1,5 @@
-//! Calls at types that are larger, or nest further, than those of the programs. Each of these functions is proved, so a program that
-//! reads and writes its own records is, however they nest.
+//! Calls at types that are larger, or nest further, than those of the programs. Each of these functions is proved, so a
+//! program that reads and writes its own records is, however they nest.
 
 use crate::account::Account;
 use crate::packet::Packet;
