@@ -21,7 +21,7 @@ MOST_FOUND = 1
 FILE = """//! `$simple` is written and read by the numbers of its variants. What is below its declaration was written by `scripts/new_type`.
 ghost use Rattle.std.specs.Prelude.{$prelude};
 ghost use Rattle.bitcode.specs.ByHand.{$by_hand};
-ghost use Rattle.$crate.specs.declared.$module.$ghost.{$ghost};
+${of_order}ghost use Rattle.$crate.specs.declared.$module.$ghost.{$ghost};
 
 $uses
 $declaration
@@ -75,7 +75,7 @@ impl AllColumns<$count> for $columns {
 
 impl$life WritesPayloads<$count, $columns> for $name {
     fn write_payload(&self, to: &mut $columns) -> Result<(), Error> {
-        WritesVariants::<Columns>::write(self, &mut to.all)
+        $write(self, &mut to.all)
     }
 
     ghost of_shapes = { λ c. refl };
@@ -168,7 +168,7 @@ impl<$input> VariantPayloads<$input, $name> for $part<$input> {
 }
 
 """
-COLUMN_PART = """type $alias = $columns;
+COLUMN_PART = """type $alias = Opaque<$columns>;
 
 /// The columns of the payloads of the variants $first to $last of `$simple`.
 #[derive(Drop)]
@@ -177,11 +177,11 @@ pub struct $part {
 }
 
 impl VariantColumns for $part {
-    ghost first = { ⟦<$alias as VariantColumns>⟧.first };
+    ghost first = { $first };
 
-    ghost end = { ⟦<$alias as VariantColumns>⟧.end };
+    ghost end = { $end };
 
-    ghost in_turn = { ⟦<$alias as VariantColumns>⟧.in_turn };
+    ghost in_turn = { true };
 
     ghost columns = { columns_in (λ c. c.all) ⟦<$alias as VariantColumns>⟧.columns };
 
@@ -190,7 +190,7 @@ impl VariantColumns for $part {
     }
 
     fn first(&self) -> usize {
-        self.all.first()
+        $first
     }
 
     fn collect_payloads(&mut self, number: usize, out: &mut Vec<u8>) -> Result<(), Error> {
@@ -201,9 +201,9 @@ impl VariantColumns for $part {
         self.all.clear_payloads(number);
     }
 
-    ghost ordered = { ⟦<$alias as VariantColumns>⟧.ordered };
+    ghost ordered = { λ turn. lit≤ tt };
 
-    ghost sized = { λ turn c. ⟦<$alias as VariantColumns>⟧.sized turn c.all };
+    ghost sized = { λ turn c. refl };
 }
 
 impl$life WritesVariants<$part> for $name {
@@ -343,7 +343,7 @@ class Numbered:
         for part, types in zip(self.column_parts, of_groups):
             first, last = part[0][0], part[-1][-1]
             names.append(f"{self.enum.name}Columns{first}To{last}")
-            texts.append(Template(COLUMN_PART).substitute(alias=f"Columns{first}To{last}", columns=halves(types), part=names[-1], first=first, last=last, simple=self.enum.name, life=self.life, name=self.name))
+            texts.append(Template(COLUMN_PART).substitute(alias=f"Columns{first}To{last}", columns=halves(types), part=names[-1], first=first, last=last, end=last + 1, simple=self.enum.name, life=self.life, name=self.name))
         return "".join(texts) + f"type Columns = {halves(names)};\n\n"
 
     def payloads(self):
@@ -384,7 +384,8 @@ class Numbered:
         used = set("AllColumns AllPayloads At Enum EnumDecoder EnumEncoder EnumOf Error HasDecoder HasEncoder Held HeldIn PartsDecoder Payload "
                    "StandsFor VariantColumns VariantPayloads WritesPayloads WritesVariants told_as".split())
         used |= {f"{kind}{len(numbers)}" for numbers in self.groups for kind in ("DecodersOf", "EncodersOf", "OneOf", "Variants")}
-        used |= {"Opaque"} if payloads["parts"] else set()
+        used |= {"Opaque"} if payloads["parts"] or len(self.column_parts) > 1 else set()
+        used |= {"write_any"} if len(self.column_parts) > 1 else set()
         used |= ({"Halves"} if len(self.groups) > 1 else set()) | (set() if self.enum.lifetime else {"DecodeOwned"})
 
         def numbered(number, variant):
@@ -403,7 +404,7 @@ class Numbered:
             count=self.count,
             uses="\n".join(sorted([f"use bitcode::{{{', '.join(sorted(used))}}};", "use std::alloc::Global;", *(f"use {path};" for path in imports)])) + "\n",
             declaration=declaration(self.enum),
-            prelude="◌≡◌, refl" + (", true" if payloads["parts"] else ""),
+            prelude="◌≡◌, refl" + (", true" if payloads["parts"] or len(self.column_parts) > 1 else ""),
             by_hand=", ".join(sorted({"columns_in", "each_variant", "is_variant", "last_payload", "payload_and", "payloads_in", "stood_payload", *(f"of_one_of_{len(numbers)}" for numbers in self.groups)})),
             **self.variants(),
             one_to_one=one_to_one(self.enum),
@@ -411,6 +412,8 @@ class Numbered:
             index=arms(self.enum, lambda number, variant: value(self.enum, variant), numbered),
             groups="\n".join(map(self.group, self.groups)),
             all_columns=self.columns(),
+            write="write_any::<Columns, _>" if len(self.column_parts) > 1 else "WritesVariants::<Columns>::write",
+            of_order="ghost use Rattle.std.proofs.Common.{lit≤};\n" if len(self.column_parts) > 1 else "",
             **payloads,
             owned="" if self.enum.lifetime else Template(OWNED).substitute(name=self.name),
         )

@@ -124,6 +124,7 @@ pub mod own {
     pub use bitcode_enums::writes::WritesPayloads;
     pub use bitcode_enums::writes::WritesVariants;
     pub use bitcode_enums::writes::encode_payload_fields;
+    pub use bitcode_enums::writes::write_any;
     pub use bitcode_int_columns::column_int::ColumnInt;
     pub use bitcode_ints::checked::Checked;
     pub use bitcode_ints::signed_coders::I8Decoder;

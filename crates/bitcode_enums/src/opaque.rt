@@ -1,22 +1,76 @@
-//! Payload decoders that the checker does not compare field by field.
+//! Coders that the checker does not compare field by field.
 ghost use Rattle.std.specs.Prelude.{[]};
-ghost use Rattle.bitcode_enums.specs.HeldColumns.{payloads_in};
+ghost use Rattle.bitcode_enums.specs.HeldColumns.{columns_in, payloads_in};
 ghost use Rattle.bitcode_enums.specs.declared.opaque.Opaque.{Opaque};
 
+use crate::columns::VariantColumns;
 use crate::held::Enum;
 use crate::payloads::VariantPayloads;
+use crate::writes::WritesVariants;
 use bitcode_memory::error::Error;
 use std::alloc::Global;
 use std::convert::Infallible;
 
-/// The payload decoders of some variants, as an enum. An enum of many variants is made of these.
+/// The coders of some variants, as an enum. Those of an enum of many variants consist of these.
 ///
-/// The checker compares structs field by field wherever a decoder is dropped, and does not expand enums. There is no
-/// value of `Never`. With it, `match` tells the checker which variant a value is.
+/// The checker compares structs field by field, and does not expand enums. There is no value of `Never`. With it,
+/// `match` tells the checker which variant a value is.
 #[derive(Drop)]
 pub enum Opaque<D> {
     All(D),
     Never(Infallible),
+}
+
+impl<C: VariantColumns> VariantColumns for Opaque<C> {
+    ghost first = { C.first };
+
+    ghost end = { C.end };
+
+    ghost in_turn = { C.in_turn };
+
+    ghost columns = { columns_in (elim [ Opaque.All c ↦ c | Opaque.Never n ↦ elim n [ ] ])
+        C.columns };
+
+    fn new(alloc: Global) -> Self {
+        Opaque::All(C::new(alloc))
+    }
+
+    fn first(&self) -> usize {
+        match self {
+            Opaque::All(all) => all.first(),
+            Opaque::Never(never) => match *never {},
+        }
+    }
+
+    fn collect_payloads(&mut self, number: usize, out: &mut Vec<u8>) -> Result<(), Error> {
+        match self {
+            Opaque::All(all) => all.collect_payloads(number, out),
+            Opaque::Never(never) => match *never {},
+        }
+    }
+
+    fn clear_payloads(&mut self, number: usize) {
+        match self {
+            Opaque::All(all) => all.clear_payloads(number),
+            Opaque::Never(never) => match *never {},
+        }
+    }
+
+    ghost ordered = { C.ordered };
+
+    ghost sized = { λ turn. elim [
+      | Opaque.All c ↦ C.sized turn c
+      | Opaque.Never n ↦ elim n [ ]
+    ] };
+}
+
+impl<C: VariantColumns, T: WritesVariants<C>> WritesVariants<Opaque<C>> for T {
+    fn write(&self, to: &mut Opaque<C>) -> Result<(), Error> {
+        match to {
+            Opaque::All(all) => WritesVariants::<C>::write(self, all),
+            Opaque::Never(never) => match *never {},
+        }
+    }
 }
 
 impl<'a, T: Enum, D: VariantPayloads<'a, T>> VariantPayloads<'a, T> for Opaque<D> {

@@ -109,3 +109,31 @@ pub fn encode_payload_fields<F: Fields, E: Buffer + Encoder<F::Whole> + FieldsEn
     columns.reserve(1)?;
     columns.encode_fields(fields)
 }
+
+/// Adds the payload of a value to the columns of all variants of its enum, as [`WritesVariants::write`] does.
+///
+/// Its contract names no number of a first variant, so that it is checked quickly for enums of many variants.
+///
+/// ```text
+/// write_any::<Columns, _>(self, &mut to.all)
+/// ```
+pub fn write_any<C: VariantColumns, T: WritesVariants<C>>(t: &T, to: &mut C) -> Result<(), Error>
+    requires first { C.first ≡ 0 }
+    requires turn { IsTrue C.in_turn }
+    requires known { T.each.variants.index t.now < C.end }
+    ensures others { KeepsOthers no_columns (T.each.variants.index t.now) (C.columns.lists to.old)
+        (C.columns.lists to.new) }
+    ensures joined { OnOk result
+        (T.each.variants.joins t.now
+        (columns_at (T.each.variants.index t.now) (C.columns.lists to.old))
+        (columns_at (T.each.variants.index t.now) (C.columns.lists to.new))) }
+    ensures form { emptied
+        (columns_at (T.each.variants.index t.now) (C.columns.lists to.new)) ≡ emptied
+        (columns_at (T.each.variants.index t.now) (C.columns.lists to.old)) }
+    ensures refused { IfErr result
+        (λ e. IsWritingRefusal e.reason
+        (T.each.variants.overflows t.now
+        (columns_at (T.each.variants.index t.now) (C.columns.lists to.old)))) }
+{
+    WritesVariants::<C>::write(t, to)
+}
