@@ -130,7 +130,8 @@ ${alias}impl$life WritesVariants<$encoders> for $name {
     }
 }
 """
-# A part is a struct of its own, since the borrow checker covers no decoder that names more than MOST_TYPES types.
+# A part is a struct, since the borrow checker covers no decoder that names more than MOST_TYPES types. It holds an `Opaque`, since the
+# checker compares structs field by field where they are dropped.
 PART = """type $alias<$input> = Opaque<$decoders>;
 
 /// The payloads of the variants $first to $last of `$simple`.
@@ -168,6 +169,7 @@ impl<$input> VariantPayloads<$input, $name> for $part<$input> {
 }
 
 """
+# The columns of several groups are a struct, too: one that names more types is covered no more than such a decoder.
 COLUMN_PART = """type $alias = Opaque<$columns>;
 
 /// The columns of the payloads of the variants $first to $last of `$simple`.
@@ -270,6 +272,7 @@ class Numbered:
         most = MOST_HALVES if enum.lifetime else len(self.groups) if len(self.groups) <= MOST_GROUPS else 1
         self.parts = parts_of(self.groups, weights, most)
         self.column_parts = parts_of(self.groups, weights, len(self.groups))
+        self.is_split = len(self.column_parts) > 1
         self.types = [held_type(variant) for variant in enum.variants]
         self.life, self.input = bounds(enum, ""), enum.lifetime or "'a"
         self.name = enum.name + self.life
@@ -335,9 +338,9 @@ class Numbered:
         return Template(PART).substitute(self.decoders(groups), part=name, alias=alias, simple=self.enum.name, name=self.name, input=self.input, first=first, last=end - 1, end=end), name
 
     def columns(self):
-        """The encoders of all variants, as halves of those of groups, or of the structs that hold those of many."""
+        """The encoders of all variants: halves of the encoders of groups, or of structs that hold those of several groups."""
         of_groups = [[self.encoders(group)[0] for group in part] for part in self.column_parts]
-        if len(of_groups) == 1:
+        if not self.is_split:
             return f"type Columns = {halves(of_groups[0])};\n\n" if len(self.groups) > 1 else ""
         texts, names = [], []
         for part, types in zip(self.column_parts, of_groups):
@@ -347,7 +350,7 @@ class Numbered:
         return "".join(texts) + f"type Columns = {halves(names)};\n\n"
 
     def payloads(self):
-        """The decoders of all variants: a struct holds them, or one each part of them."""
+        """The decoders of all variants, in one struct, or in one struct for each part."""
         held = f"⟦<Decoders<{self.input}> as VariantPayloads<{self.input}, {self.name}>>⟧.held"
         if len(self.parts) > 1:
             texts, names = zip(*map(self.part, self.parts))
@@ -384,8 +387,8 @@ class Numbered:
         used = set("AllColumns AllPayloads At Enum EnumDecoder EnumEncoder EnumOf Error HasDecoder HasEncoder Held HeldIn PartsDecoder Payload "
                    "StandsFor VariantColumns VariantPayloads WritesPayloads WritesVariants told_as".split())
         used |= {f"{kind}{len(numbers)}" for numbers in self.groups for kind in ("DecodersOf", "EncodersOf", "OneOf", "Variants")}
-        used |= {"Opaque"} if payloads["parts"] or len(self.column_parts) > 1 else set()
-        used |= {"write_any"} if len(self.column_parts) > 1 else set()
+        has_parts = len(self.parts) > 1 or self.is_split
+        used |= ({"Opaque"} if has_parts else set()) | ({"write_any"} if self.is_split else set())
         used |= ({"Halves"} if len(self.groups) > 1 else set()) | (set() if self.enum.lifetime else {"DecodeOwned"})
 
         def numbered(number, variant):
@@ -404,7 +407,7 @@ class Numbered:
             count=self.count,
             uses="\n".join(sorted([f"use bitcode::{{{', '.join(sorted(used))}}};", "use std::alloc::Global;", *(f"use {path};" for path in imports)])) + "\n",
             declaration=declaration(self.enum),
-            prelude="◌≡◌, refl" + (", true" if payloads["parts"] or len(self.column_parts) > 1 else ""),
+            prelude="◌≡◌, refl" + (", true" if has_parts else ""),
             by_hand=", ".join(sorted({"columns_in", "each_variant", "is_variant", "last_payload", "payload_and", "payloads_in", "stood_payload", *(f"of_one_of_{len(numbers)}" for numbers in self.groups)})),
             **self.variants(),
             one_to_one=one_to_one(self.enum),
@@ -412,8 +415,8 @@ class Numbered:
             index=arms(self.enum, lambda number, variant: value(self.enum, variant), numbered),
             groups="\n".join(map(self.group, self.groups)),
             all_columns=self.columns(),
-            write="write_any::<Columns, _>" if len(self.column_parts) > 1 else "WritesVariants::<Columns>::write",
-            of_order="ghost use Rattle.std.proofs.Common.{lit≤};\n" if len(self.column_parts) > 1 else "",
+            write="write_any::<Columns, _>" if self.is_split else "WritesVariants::<Columns>::write",
+            of_order="ghost use Rattle.std.proofs.Common.{lit≤};\n" if self.is_split else "",
             **payloads,
             owned="" if self.enum.lifetime else Template(OWNED).substitute(name=self.name),
         )

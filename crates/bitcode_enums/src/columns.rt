@@ -11,7 +11,7 @@ use bitcode_memory::error::{Error, Reason};
 use std::alloc::Global;
 
 /// The columns of the payloads of consecutive variants, with one encoder for each variant: `Encoders2` to `Encoders4`,
-/// and [`Halves`](crate::halves::Halves) of these.
+/// and [`Halves`](crate::halves::Halves) and [`Opaque`](crate::opaque::Opaque) of these.
 ///
 /// ```
 /// let mut columns: EncodersOf2<At<0>, (), u8> = VariantColumns::new(alloc);

@@ -1,5 +1,4 @@
 //! Coders that the checker does not compare field by field.
-ghost use Rattle.std.specs.Prelude.{[]};
 ghost use Rattle.bitcode_enums.specs.HeldColumns.{columns_in, payloads_in};
 ghost use Rattle.bitcode_enums.specs.declared.opaque.Opaque.{Opaque};
 
@@ -11,13 +10,15 @@ use bitcode_memory::error::Error;
 use std::alloc::Global;
 use std::convert::Infallible;
 
-/// The coders of some variants, as an enum. Those of an enum of many variants consist of these.
+/// An enum around the coders of some variants. The coders of an enum with many variants consist of several of these.
 ///
-/// The checker compares structs field by field, and does not expand enums. There is no value of `Never`. With it,
-/// `match` tells the checker which variant a value is.
+/// The checker compares structs field by field where they are dropped, but not enums. `Never` has no value, so each
+/// value is `All`. A `match` tells the checker so.
 #[derive(Drop)]
 pub enum Opaque<D> {
+    /// The coders.
     All(D),
+    /// Never exists.
     Never(Infallible),
 }
 

@@ -15,7 +15,7 @@ use bitcode_memory::error::{Error, Reason};
 use std::alloc::Global;
 
 /// The data of the payloads of consecutive variants of `T`, with one decoder for each variant: `Decoders2` to
-/// `Decoders4`, and [`Halves`](crate::halves::Halves) of these.
+/// `Decoders4`, and [`Halves`](crate::halves::Halves) and [`Opaque`](crate::opaque::Opaque) of these.
 ///
 /// ```
 /// let mut payloads: DecodersOf2<'_, At<0>, (), u8> = VariantPayloads::<Shot>::new(alloc);

@@ -12,7 +12,8 @@ use bitcode_shapes::shaped::Shaped;
 use bitcode_tuples::fields::{Fields, FieldsEncoder};
 
 /// An enum that writes the payloads of consecutive variants to their columns. The enum implements it for each group of
-/// two to four variants, and the library for [`Halves`](crate::halves::Halves) of these.
+/// two to four variants, and the library for [`Halves`](crate::halves::Halves) and
+/// [`Opaque`](crate::opaque::Opaque) of these.
 ///
 /// ```rust,from:crates/bitcode_own_types/src/two.rt
 /// impl WritesVariants<Columns> for Two {
@@ -110,9 +111,11 @@ pub fn encode_payload_fields<F: Fields, E: Buffer + Encoder<F::Whole> + FieldsEn
     columns.encode_fields(fields)
 }
 
-/// Adds the payload of a value to the columns of all variants of its enum, as [`WritesVariants::write`] does.
+/// Adds the payload of a value to the columns of all variants of its enum, as [`WritesVariants::write`] does. Errors:
+/// those of that function.
 ///
-/// Its contract names no number of a first variant, so that it is checked quickly for enums of many variants.
+/// The first variant has the number 0, so no other clause subtracts it. This makes enums of many variants quick to
+/// check.
 ///
 /// ```text
 /// write_any::<Columns, _>(self, &mut to.all)

@@ -1,13 +1,14 @@
-//! Calls at types that are larger, or nest further, than those of the programs. Each of these functions is proved, so a
-//! program that reads and writes its own records is, however they nest.
+//! Calls that decode large or deeply nested types, and encode them again. All are proved.
 
 use crate::account::Account;
 use crate::packet::Packet;
 use bitcode::{Decode, Encode, Error, decode, encode};
 use std::alloc::Global;
 
+/// Twelve fields.
 pub type Twelve = (u8, u8, u8, u8, u8, u8, u8, u8, u8, u8, u8, u8);
 
+/// Sixteen fields, the most that a tuple may have.
 pub type Sixteen = (
     u8,
     u8,
@@ -27,8 +28,10 @@ pub type Sixteen = (
     u8,
 );
 
+/// Options of nine numbers.
 pub type Options = Vec<Option<(u64, u64, u64, u64, u64, u64, u64, u64, u64)>>;
 
+/// Lists in lists, six deep.
 pub type Deep = Vec<Vec<Vec<Vec<Vec<Vec<u8>>>>>>;
 
 /// Reads twelve bytes, and writes them again.

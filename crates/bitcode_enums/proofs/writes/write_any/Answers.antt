@@ -1,23 +1,18 @@
--- The number of the first variant is 0.
-use Rattle.std.proofs.Common.{◌≡◌, ◌-◌, arith}
+-- The first variant has the number 0.
+use Rattle.std.proofs.Common.{◌≡◌, ℕ, ◌-◌, arith}
 use Rattle.bitcode_enums.proofs.writes.write_any.Goals as goal
 
+from_zero : (first index : ℕ) → first ≡ 0 → index - first ≡ index
+from_zero first index none = omega (arith, none)
+
 pub returns-clause-others : goal.returns-clause-others
-returns-clause-others g c =
-    let place : g.T.Enum.each.variants.index c.args.t.now - g.C.VariantColumns.first ≡ g.T.Enum.each.variants.index c.args.t.now = omega (arith, c.requires.first) in
-    rw (← place) c.write.ensures.others
+returns-clause-others g c = rw (← from_zero g.C.VariantColumns.first (g.T.Enum.each.variants.index c.args.t.now) c.requires.first) c.write.ensures.others
 
 pub returns-clause-joined : goal.returns-clause-joined
-returns-clause-joined g c =
-    let place : g.T.Enum.each.variants.index c.args.t.now - g.C.VariantColumns.first ≡ g.T.Enum.each.variants.index c.args.t.now = omega (arith, c.requires.first) in
-    rw (← place) c.write.ensures.joined
+returns-clause-joined g c = rw (← from_zero g.C.VariantColumns.first (g.T.Enum.each.variants.index c.args.t.now) c.requires.first) c.write.ensures.joined
 
 pub returns-clause-form : goal.returns-clause-form
-returns-clause-form g c =
-    let place : g.T.Enum.each.variants.index c.args.t.now - g.C.VariantColumns.first ≡ g.T.Enum.each.variants.index c.args.t.now = omega (arith, c.requires.first) in
-    rw (← place) c.write.ensures.form
+returns-clause-form g c = rw (← from_zero g.C.VariantColumns.first (g.T.Enum.each.variants.index c.args.t.now) c.requires.first) c.write.ensures.form
 
 pub returns-clause-refused : goal.returns-clause-refused
-returns-clause-refused g c =
-    let place : g.T.Enum.each.variants.index c.args.t.now - g.C.VariantColumns.first ≡ g.T.Enum.each.variants.index c.args.t.now = omega (arith, c.requires.first) in
-    rw (← place) c.write.ensures.refused
+returns-clause-refused g c = rw (← from_zero g.C.VariantColumns.first (g.T.Enum.each.variants.index c.args.t.now) c.requires.first) c.write.ensures.refused
