@@ -1,4 +1,4 @@
-//! The packing and unpacking of columns.
+//! The packing and unpacking of columns of bools, bytes and variants.
 #![tactic(auto)]
 
 pub mod byte;

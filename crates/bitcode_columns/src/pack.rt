@@ -13,7 +13,7 @@ use bitcode_memory::error::{Error, Reason};
 use bitcode_memory::fast::CowSlice;
 use std::alloc::Global;
 
-// A byte column of at most so many entries stands without a tag.
+/// A byte column of at most this many entries has no tag.
 pub const MOST_WITHOUT_TAG: usize = 2;
 
 pub(crate) mod bytes;

@@ -1,7 +1,7 @@
 //! Reading a column and checking whether its bytes are those that `encode` would write for its entries.
-ghost use Rattle.std.specs.Prelude.{◌≡◌, ◌≢◌, ◌↔◌, ℕ, ℤ, [], ◌∷◌, ◌-◌, ◌*◌, ◌≤ℤ◌, IsSome, IfSome, ◌⊎◌, sum, ◌^◌};
+ghost use Rattle.std.specs.Prelude.{◌≡◌, ◌≢◌, ◌↔◌, ℕ, ℤ, [], ◌∷◌, ◌-◌, ◌*◌, ◌≤ℤ◌, IsSome, IfSome};
 ghost use Rattle.std.specs.Prelude.{◌<◌, ◌≤◌, ◌++◌, List, All, length, map, MatchBool, IsTrue, IsOk};
-ghost use Rattle.std.specs.Prelude.{IfOk, OnOk, IfErr, OnErr};
+ghost use Rattle.std.specs.Prelude.{IfOk, OnOk, IfErr, OnErr, ◌⊎◌, sum, ◌^◌};
 ghost use Rattle.std.specs.Int.{div_ceil};
 ghost use Rattle.bitcode_columns.specs.BoolColumn.{SpellsBools, bool_text};
 ghost use Rattle.bitcode_columns.specs.ByteColumn.{SpellsBytes, byte_text, level_of_base};

@@ -1,28 +1,28 @@
 -- The bytes of a column of integers are its text where their header is that of the integers and the numbers behind it are written so.
-use Rattle.std.proofs.Common.{◌≡◌, ◌⊎◌, inl, inr, ℕ, suc, ◌+◌, ◌-◌, ◌*◌, ◌/◌, ◌%◌, ◌^◌, ◌<◌, ◌≤◌, Bool, true, false, eqb, ltb, cond, ◌||◌, ◌&&◌, MatchBool, IsTrue, ℤ, pos, negsuc, List, [], ◌∷◌, ◌++◌, length, take, drop, get_or, map, All, arith, ap, ap₂, refl, sym, ◌∙◌, subst, ⊎_elim}
+use Rattle.std.proofs.Common.{◌≡◌, ◌⊎◌, inl, inr, ℕ, ◌+◌, ◌-◌, ◌*◌, ◌%◌, ◌^◌, ◌<◌, ◌≤◌, Bool, true, false, eqb, ltb, cond, ◌||◌, ◌&&◌, MatchBool, IsTrue, ℤ, pos, negsuc, List, [], ◌∷◌, ◌++◌, length, take, drop, get_or, map, All, arith, ap, ap₂, refl, sym, ◌∙◌, subst, ⊎_elim}
 use Rattle.std.specs.Prelude.{◌↔◌, ◌-ℤ◌, ◌≤ℤ◌, unsigned_abs, int_lt}
 use Rattle.std.specs.List.{fold}
 use Rattle.std.specs.Int.{int_min, int_max}
 use Rattle.std.proofs.Math.Nat.{mod-eq_of_lt, add-mod_right, mod-lt, pow-le-pow_right, mul-one, mul-zero}
 use Rattle.std.proofs.Math.Seq.{take-append_seam, drop-append_seam}
 use Rattle.std.specs.Cmp.Derive.{both_true}
-use Rattle.std.proofs.lemmas.Bool.{and_parts, ltb-true, lt-ltb, le-ltb, cases_lt, cases_Bool, false≢true, true≢false, cond-true, cond-false, cond_both, eqb-true, eqb-false, eq-eqb, ne_eqb}
+use Rattle.std.proofs.lemmas.Bool.{and_parts, ltb-true, lt-ltb, le-ltb, cases_lt, cases_Bool, true≢false, cond-true, cond-false, cond_both, eqb-true, eq-eqb, ne_eqb}
 use Rattle.std.proofs.lemmas.Grind.{same_number_lists}
 use Rattle.std.proofs.lemmas.Int.{ints}
 use Rattle.std.proofs.lemmas.List.{length-append, length-map, length-take-le, get_or-map, map-id, nil_from_length, append_cancel_left, take-append-drop}
 use Rattle.std.proofs.lemmas.List.Elements.{All-map, All-take, All-drop, All-head, All-tail}
 use Rattle.std.proofs.lemmas.Simd.{map-map}
 use Rattle.bitcode_columns.specs.ByteColumn.{SpellsBytes, byte_text}
-use Rattle.bitcode_columns.specs.IntColumn.{IntForm, bytes_form, bare_form, tagged_form, int_form, halvings, highest_int_tag, width_at_level, width_for, SpellsNarrow, SpellsAtIntLevel, SpellsInts, SpellsIntsAs, int_level_for, narrow_text, text_at_int_level, int_text}
+use Rattle.bitcode_columns.specs.IntColumn.{bytes_form, bare_form, tagged_form, int_form, halvings, highest_int_tag, width_at_level, width_for, SpellsNarrow, SpellsAtIntLevel, SpellsInts, SpellsIntsAs, narrow_text, int_text}
 use Rattle.bitcode_memory.specs.IntWidths.{IsWidth}
 use Rattle.bitcode_memory.specs.Ints.{IsNumber, residue, number_of, least, greatest}
 use Rattle.bitcode_memory.specs.LittleEndian.{little_endian, number_bytes, SpellsRaw, raw_text}
 use Rattle.bitcode_int_columns.specs.Narrowing.{above, plain_width, shifted_width}
-use Rattle.bitcode_columns.specs.Tagged.{level_of_tag, tag_of, SpellsTagged, tagged_text}
+use Rattle.bitcode_columns.specs.Tagged.{level_of_tag, SpellsTagged}
 use Rattle.bitcode_int_columns.proofs.AppendLemmas.{int_text_bare, int_text_tagged}
 use Rattle.bitcode_columns.proofs.FrontLemmas.{append_split}
 use Rattle.bitcode_columns.proofs.IntColumnLemmas.{some_width, width_at_level_between, halvings_order, halvings_exact}
-use Rattle.bitcode_memory.proofs.IntLemmas.{residue_below, residue-number_of, IsNumber-number_of, least_below, greatest_above}
+use Rattle.bitcode_memory.proofs.IntLemmas.{residue_below, residue-number_of, IsNumber-number_of, least_below}
 use Rattle.bitcode_memory.proofs.LittleEndianLemmas.{length-number_bytes, little_endian-number_bytes, number_bytes-little_endian}
 use Rattle.bitcode_columns.proofs.TaggedLemmas.{least_among, not_negative}
 use Rattle.bitcode_int_columns.proofs.WrittenLemmas.{Entries, shifted_fits, plain_fits, shifted_numbers, plain_numbers, shifted_text_is, plain_text_is, in_order}
@@ -209,12 +209,6 @@ narrow_told b body count width low high low_byte high_byte one is_low is_high to
     rw text
     (told (map pos numbers) (length-map numbers pos ∙ size) (All-map (IsNumber 1 false) pos numbers small) (found.0 ∙ ap pos (sym is_low)) (found.1 ∙ ap pos (sym is_high))
     (rw back bytes))
-
-pub raw_told : (body : List ℕ) (width : ℕ) (numbers : List ℕ) → (width ≡ 1 → ⊥) → SpellsNarrow width body numbers → body ≡ narrow_text width numbers
-raw_told body width numbers wide spelled =
-    let ne : eqb width 1 ≡ false = ne_eqb width 1 wide in
-    let raw : SpellsRaw width body numbers = subst (λ e. MatchBool e (SpellsBytes body numbers) (SpellsRaw width body numbers)) ne spelled in
-    raw.whole ∙ sym (cond-false (eqb width 1) (byte_text (map pos numbers)) (raw_text width numbers) ne)
 
 abbrev wider : ℕ → ℕ
 wider n = cond (ltb n (256 ^ 2)) 2 (cond (ltb n (256 ^ 4)) 4 (cond (ltb n (256 ^ 8)) 8 16))

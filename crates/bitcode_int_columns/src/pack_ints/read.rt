@@ -1,5 +1,5 @@
 //! Reading the numbers of a column.
-ghost use Rattle.std.specs.Prelude.{◌≡◌, ◌≢◌, ℕ, Option, Some, ◌+◌, ◌*◌, ◌%◌, ◌^◌, ◌<◌, ◌≤◌, List, ◌++◌, length, take};
+ghost use Rattle.std.specs.Prelude.{◌≡◌, ◌≢◌, ℕ, Option, Some, ◌+◌, ◌*◌, ◌%◌, ◌^◌, ◌<◌, ◌≤◌, List, ◌++◌, length};
 ghost use Rattle.std.specs.Prelude.{map, All, IsTrue, IsErr, IfOk, OnOk, IfErr, OnErr, ◌↔◌};
 ghost use Rattle.std.specs.Simd.{first_chunks};
 ghost use Rattle.bitcode_memory.specs.declared.error.Reason.{Reason};

@@ -1,4 +1,4 @@
-use Rattle.std.proofs.Common.{◌≡◌, ◌+◌, ◌*◌, ◌%◌, ◌^◌, vec_len, refl, subst, sym, ap, ◌∙◌, arith}
+use Rattle.std.proofs.Common.{◌%◌, ◌^◌, refl, subst, ◌∙◌, arith}
 use Rattle.std.proofs.Math.Nat.{zero-mul, add-mul}
 use Rattle.std.proofs.lemmas.List.Elements.{All-more, All-nil}
 use Rattle.bitcode_memory.specs.Ints.{IsNumber}
