@@ -23,7 +23,6 @@
 
 pub use bitcode_coder::bool::{BoolDecoder, BoolEncoder};
 pub use bitcode_coder::coder::{Decoder, Encoder, MAX_VECTORED_CHUNK, View};
-pub use bitcode_coder::int::{IntDecoder, IntEncoder};
 pub use bitcode_coder::length::{Len, LengthDecoder, LengthEncoder};
 pub use bitcode_coder::str::{ArrayStringDecoder, StrDecoder, StrEncoder};
 pub use bitcode_columns::byte::Byte;
@@ -41,6 +40,7 @@ pub use bitcode_derive::whole::{
 };
 pub use bitcode_int_columns::pack_ints::{pack_ints, unpack_ints};
 pub use bitcode_ints::checked::CheckedIntDecoder;
+pub use bitcode_ints::int::{IntDecoder, IntEncoder};
 pub use bitcode_ints::u8_char::{U8Char, U8CharEncoder};
 pub use bitcode_memory::consume::{
     consume_byte, consume_byte_arrays, consume_bytes, expect_eof, mul_length,
@@ -81,8 +81,6 @@ pub use bitcode_untyped::value::Value;
 
 /// The building blocks of coders for your own types. `scripts/new_type` uses them, and few programs need them directly.
 pub mod own {
-    pub use bitcode_coder::int::AsInt;
-    pub use bitcode_coder::int::Integer;
     pub use bitcode_coder::part::Part;
     pub use bitcode_coder::part::told_parts;
     pub use bitcode_coder::str::AsText;
@@ -127,6 +125,8 @@ pub mod own {
     pub use bitcode_enums::writes::write_any;
     pub use bitcode_int_columns::column_int::ColumnInt;
     pub use bitcode_ints::checked::Checked;
+    pub use bitcode_ints::int::AsInt;
+    pub use bitcode_ints::int::Integer;
     pub use bitcode_ints::signed_coders::I8Decoder;
     pub use bitcode_ints::signed_coders::I8Encoder;
     pub use bitcode_ints::signed_coders::I16Decoder;

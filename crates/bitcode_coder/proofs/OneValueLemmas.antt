@@ -1,24 +1,22 @@
 -- The bytes of columns of one entry.
-use Rattle.std.proofs.Common.{◌≡◌, ℕ, ◌<◌, ◌≤◌, min, leb, pos, ℤ, Bool, true, false, List, [], ◌∷◌, ◌++◌, length, map, refl, sym, ap, subst, ◌∙◌, arith, append-nil}
+use Rattle.std.proofs.Common.{◌≡◌, ℕ, ◌<◌, ◌≤◌, min, leb, pos, Bool, true, false, List, [], ◌∷◌, ◌++◌, length, map, refl, sym, ap, subst, ◌∙◌, arith, append-nil}
 use Rattle.std.proofs.lemmas.Bool.{cond-true, cond-false, le-leb, lt-leb}
 use Rattle.bitcode_columns.specs.BoolColumn.{bool_text}
 use Rattle.bitcode_columns.specs.ByteColumn.{byte_text}
 use Rattle.bitcode_columns.specs.Digits.{digits_text}
 use Rattle.bitcode_columns.specs.IntColumn.{int_text}
 use Rattle.bitcode_memory.specs.LittleEndian.{raw_text}
-use Rattle.bitcode_shapes.specs.Datum.{Datum, number}
+use Rattle.bitcode_shapes.specs.Datum.{Datum}
 use Rattle.bitcode_shapes.specs.Shape.{Shape}
-use Rattle.bitcode_coder.specs.Columns.{Kind, Columns, one, beside, bools, ints}
-use Rattle.bitcode_coder.specs.Coder.{WritesListing, WritesEach, written_columns}
-use Rattle.bitcode_coder.specs.Int.{WritesInts}
+use Rattle.bitcode_coder.specs.Columns.{Kind, Columns, one, beside, bools}
+use Rattle.bitcode_coder.specs.Coder.{WritesListing, written_columns}
 use Rattle.bitcode_coder.specs.LengthColumn.{escape, length_bytes}
 use Rattle.bitcode_coder.specs.Spelling.{column_bytes, truth}
 use Rattle.bitcode_coder.specs.TextColumn.{texts_bytes}
-use Rattle.bitcode_coder.proofs.IntLemmas.{numbers_in}
-use Rattle.bitcode_coder.proofs.PushingLemmas.{listed_as_data}
 use mir.Val.{bool_byte}
 
-abbrev entries_in : Columns → List Datum
+-- the entries of a column
+abbrev pub entries_in : Columns → List Datum
 entries_in (one kind entries) = entries
 entries_in _ = []
 
@@ -37,24 +35,6 @@ writes_entry lists shape kind t d entries before after columns listing none writ
   };
   written = written;
 }
-
--- the column of an integer for each value was written
-pub writes_ints : {T I : Type 0} (lists : T → Datum → Type 0) (shape : Shape) (width : ℕ) (signed : Bool) (value : I → ℤ) (values : List T) (held : List Datum)
-    (before after : List ℕ) → ((ds : List Datum) → written_columns shape ds ≡ one (ints width signed) ds) → one (ints width signed) held ≡ one (ints width signed) []
-    → WritesInts lists width value values before after → WritesEach lists shape values (one (ints width signed) held) before after
-writes_ints lists shape width signed value values held before after columns none all =
-    let entries = map (λ int. number (value int)) all.ints in
-    record {
-      new = one (ints width signed) entries;
-      joined = record {
-        parts = entries;
-        listings = listed_as_data lists (λ int. number (value int)) values all.ints all.stand;
-        joined = subst (λ added. one (ints width signed) entries ≡ beside (one (ints width signed) held) added) (sym (columns entries))
-            (sym (ap (λ held. one (ints width signed) (held ++ entries)) (ap entries_in none)));
-        fits = λ fit. tt;
-      };
-      written = all.written ∙ ap (λ numbers. before ++ int_text width numbers) (sym (numbers_in value all.ints));
-    }
 
 -- the column of one bool is a byte
 pub one_truth : (b : Bool) → bool_byte b ∷ [] ≡ column_bytes bools (truth b ∷ [])

@@ -1,28 +1,26 @@
 -- What the readers of single columns answer, in terms of data.
-use Rattle.std.proofs.Common.{◌≡◌, ℕ, zero, suc, ◌+◌, ◌<◌, ◌≤◌, ◌^◌, min, eqb, leb, Bool, true, false, ◌&&◌, ◌==◌, IsTrue, MatchBool, None, pos, ℤ, List, [], ◌∷◌, ◌++◌, length, map, All, sum, refl, sym, ap, ap₂, subst, ◌∙◌, append_assoc, arith, ⊎_elim, Result, Ok, Err, OnOk, IfOk}
+use Rattle.std.proofs.Common.{◌≡◌, ℕ, suc, ◌+◌, ◌<◌, ◌≤◌, min, eqb, leb, Bool, true, false, ◌&&◌, IsTrue, MatchBool, None, pos, List, [], ◌∷◌, ◌++◌, length, map, All, sum, refl, sym, ap, ap₂, subst, ◌∙◌, append_assoc, arith, ⊎_elim, Result, Ok, Err, OnOk, IfOk}
 use Rattle.std.specs.Prelude.{◌↔◌, filter}
-use Rattle.std.proofs.lemmas.Bool.{false≢true, cases_Bool, cond-true, cond-false, leb-true, le-leb, lt-leb, eqb-true, eqb-false}
-use Rattle.std.proofs.lemmas.List.{map-id, length-map, nil_from_length, get_or-map}
+use Rattle.std.proofs.lemmas.Bool.{false≢true, cases_Bool, cond-true, cond-false, le-leb, lt-leb, eqb-true, eqb-false}
+use Rattle.std.proofs.lemmas.List.{length-map, nil_from_length, get_or-map}
 use Rattle.std.proofs.lemmas.List.Elements.{All-nil, All-cons, All-head, All-tail, All-map}
 use Rattle.std.proofs.lemmas.List.Sums.{length-filter}
 use Rattle.std.proofs.lemmas.Simd.{map-map}
 use Rattle.bitcode_columns.specs.Reading.{Reads}
 use Rattle.bitcode_columns.specs.BoolColumn.{SpellsBools, bool_text}
 use Rattle.bitcode_columns.specs.ByteColumn.{SpellsBytes, byte_text}
-use Rattle.bitcode_columns.specs.IntColumn.{SpellsInts, int_text}
-use Rattle.bitcode_memory.specs.Ints.{IsNumber, residue, number_of}
+use Rattle.bitcode_columns.specs.IntColumn.{int_text}
+use Rattle.bitcode_memory.specs.Ints.{IsNumber, residue}
 use Rattle.bitcode_columns.proofs.ByteColumnLemmas.{SpellsBytes-unambiguous, byte_text-spells}
-use Rattle.bitcode_shapes.specs.Datum.{Datum, text, text_in, number_in, natural_in}
-use Rattle.bitcode_shapes.specs.Shape.{bool_shape, text_shape, number_shape, Allowed}
-use Rattle.bitcode_shapes.specs.Ints.{int_shape}
-use Rattle.bitcode_coder.specs.Columns.{bools, ints, lengths as length_kind, texts as text_kind}
+use Rattle.bitcode_shapes.specs.Datum.{text}
+use Rattle.bitcode_shapes.specs.Shape.{bool_shape, text_shape}
+use Rattle.bitcode_coder.specs.Columns.{bools, texts as text_kind}
 use Rattle.bitcode_coder.specs.Cutting.{cut}
-use Rattle.bitcode_coder.specs.LengthColumn.{escape, lengths_from, first_large, other_large, length_bytes, SpellsLengths}
-use Rattle.bitcode_coder.specs.LengthParts.{escapes, AreLengthParts, ReadsParts}
-use Rattle.bitcode_coder.specs.Spelling.{Spells, truth, number_of_residue}
-use Rattle.bitcode_coder.specs.Strict.{JudgesColumn, JudgesData}
+use Rattle.bitcode_coder.specs.LengthColumn.{escape, lengths_from, first_large, other_large, length_bytes}
+use Rattle.bitcode_coder.specs.LengthParts.{escapes, AreLengthParts}
+use Rattle.bitcode_coder.specs.Spelling.{Spells, truth}
+use Rattle.bitcode_coder.specs.Strict.{JudgesData}
 use Rattle.bitcode_coder.proofs.BoolLemmas.{truths_in}
-use Rattle.bitcode_coder.proofs.IntLemmas.{numbers_in}
 use Rattle.bitcode_coder.proofs.LengthLemmas.{length-lengths_from}
 use Rattle.bitcode_coder.proofs.LengthPartLemmas.{length_bytes-parts}
 use Rattle.bitcode_coder.proofs.StrLemmas.{texts_bytes-cut}
@@ -34,28 +32,6 @@ bools_judged (Ok written) count old entries new read answer =
     judges_column bools written (map truth entries) old new read.piece (bool_text entries) read.whole (record { entries = entries; are = refl; spelled = read.spelled })
     (ap bool_text (truths_in entries)) answer
 bools_judged (Err e) count old entries new read answer = tt
-
-pub ints_judges : {Entry : Type 0} (residue_of : Entry → ℕ) (width : ℕ) (signed : Bool) (written : Bool) (count : ℕ) (old : List ℕ) (entries : List Entry) (new : List ℕ)
-    → Reads (SpellsInts width) count old (map residue_of entries) new → All (λ n. n < 256 ^ width) (map residue_of entries)
-    → (IsTrue written ↔ (old ≡ int_text width (map (λ e. number_of width signed (residue_of e)) entries) ++ new))
-    → JudgesColumn written (ints width signed) (map (λ e. number_of_residue width signed (residue_of e)) entries) old new
-ints_judges residue_of width signed written count old entries new read below answer =
-    judges_column (ints width signed) written (map (λ e. number_of_residue width signed (residue_of e)) entries) old new read.piece
-    (int_text width (map (λ e. number_of width signed (residue_of e)) entries)) read.whole
-    (record {
-      entries = map residue_of entries;
-      are = sym (map-map (number_of_residue width signed) residue_of entries);
-      spelled = record { spelled = read.spelled; in_width = below };
-    })
-    (ap (int_text width) (numbers_in (λ e. number_of width signed (residue_of e)) entries)) answer
-
-pub ints_judged : {E Entry : Type 0} (r : Result Bool E) (residue_of : Entry → ℕ) (width : ℕ) (signed : Bool) (count : ℕ) (old : List ℕ) (entries : List Entry) (new : List ℕ)
-    → OnOk r (Reads (SpellsInts width) count old (map residue_of entries) new) → OnOk r (All (λ n. n < 256 ^ width) (map residue_of entries))
-    → IfOk r (λ written. IsTrue written ↔ (old ≡ int_text width (map (λ e. number_of width signed (residue_of e)) entries) ++ new))
-    → IfOk r (λ written. JudgesData (int_shape width signed) (map (λ e. number_of_residue width signed (residue_of e)) entries) written old new)
-ints_judged (Ok written) residue_of width signed count old entries new read below answer =
-    ints_judges residue_of width signed written count old entries new read below answer
-ints_judged (Err e) residue_of width signed count old entries new read below answer = tt
 
 -- ---- texts
 

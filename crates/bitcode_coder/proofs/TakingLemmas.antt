@@ -1,6 +1,6 @@
 -- Values that are made one by one.
-use Rattle.std.proofs.Common.{◌≡◌, ℕ, ◌+◌, ◌<◌, ◌≤◌, List, [], ◌∷◌, ◌++◌, length, map, take, drop, slice_index_or, refl, sym, ◌∙◌, ap, subst, append_assoc, arith, length-append}
-use Rattle.std.proofs.lemmas.List.{length-map, length-take-le, map-append, take-append-drop, take_more}
+use Rattle.std.proofs.Common.{◌≡◌, ℕ, ◌+◌, ◌≤◌, List, [], ◌∷◌, ◌++◌, length, map, take, drop, refl, sym, ◌∙◌, ap, subst, append_assoc, arith, length-append}
+use Rattle.std.proofs.lemmas.List.{length-map, length-take-le, map-append, take-append-drop}
 use Rattle.std.specs.List.{AllZip}
 use Rattle.bitcode_shapes.specs.Datum.{Datum}
 use Rattle.bitcode_shapes.specs.LawfulLists.{zip_length}
@@ -48,12 +48,3 @@ module _ {T : Type 0} (makes : Datum → T → Type 0) where
   pub made_each : (datum_of : T → Datum) → ((t : T) → makes (datum_of t) t) → (ts : List T) → AllZip makes (map datum_of ts) ts
   made_each datum_of made [] = tt
   made_each datum_of made (t ∷ ts) = (made t, made_each datum_of made ts)
-
--- one item more was made, whose value is that of the next entry
-pub one_value_more : {T Entry Value : Type 0} (value : T → Value) (value_of : Entry → Value) (before after : List T) (item : T) (entries : List Entry) (i : ℕ) (entry : Entry)
-    → i < length entries → entry ≡ slice_index_or entries i entry → after ≡ before ++ item ∷ [] → value item ≡ value_of entry
-    → map value before ≡ map value_of (take i entries) → map value after ≡ map value_of (take (i + 1) entries)
-one_value_more value value_of before after item entries i entry here is grown same so_far =
-    ap (map value) grown ∙ map-append value before (item ∷ []) ∙ ap (λ vs. vs ++ value item ∷ []) so_far
-    ∙ ap (λ v. map value_of (take i entries) ++ v ∷ []) same ∙ sym (map-append value_of (take i entries) (entry ∷ []))
-    ∙ ap (λ e. map value_of (take i entries ++ e ∷ [])) is ∙ ap (map value_of) (sym (take_more entries i entry here))

@@ -16,5 +16,4 @@ pub mod Rows
 pub mod Vectors
 pub mod WrittenTexts
 pub mod Laws
-pub mod Int
 pub mod Strict

@@ -1,9 +1,8 @@
-//! Columns of data, the traits of encoders and decoders, and the coders of integers, lengths, texts and bools.
+//! Columns of data, the traits of encoders and decoders, and the coders of bools, lengths and texts.
 #![tactic(auto)]
 
 pub mod bool;
 pub mod coder;
-pub mod int;
 pub mod laws;
 pub mod length;
 pub mod one;

@@ -4,7 +4,7 @@ use Rattle.std.specs.Prelude.{MatchOption, is_some, ◌&&◌, unsigned_abs}
 use Rattle.std.specs.Int.Signed.{le_z}
 use Rattle.std.proofs.lemmas.Bool.{cond-true}
 use Rattle.std.proofs.lemmas.Int.{ints}
-use Rattle.std.proofs.lemmas.List.{length-map}
+use Rattle.std.proofs.lemmas.List.{length-map, map-id}
 use Rattle.std.proofs.lemmas.List.Elements.{All-map, All-head, All-tail, All-nil, All-cons}
 use Rattle.std.proofs.lemmas.Simd.{map-map}
 use Rattle.bitcode_memory.specs.declared.error.Reason.{Reason}
@@ -13,16 +13,15 @@ use Rattle.bitcode_memory.specs.IntWidths.{IsWidth}
 use Rattle.bitcode_columns.specs.IntColumn.{SpellsInts}
 use Rattle.bitcode_memory.specs.Ints.{number_of}
 use Rattle.bitcode_columns.specs.Reading.{Reads, Names, ints_fault}
-use Rattle.bitcode_columns.proofs.IntColumnLemmas.{SpellsInts-unambiguous, ints_fault-refuses}
+use Rattle.bitcode_columns.proofs.IntColumnLemmas.{SpellsInts-unambiguous, ints_fault-refuses, some_width}
 use Rattle.bitcode_shapes.proofs.CheckedLemmas.{nonzero_unsigned, nonzero_signed}
-use Rattle.std.proofs.lemmas.List.{map-id}
 use Rattle.bitcode_shapes.specs.Datum.{Datum, number, number_in}
 use Rattle.bitcode_shapes.specs.Shape.{Allowed, any_number, nonzero, scalar, between, IsAllowed, IsNumberOf, number_shape}
 use Rattle.bitcode_ints.specs.CheckedColumn.{is_allowed, allowed_front, checked_data, NamesCheckedFault, in_column, not_allowed}
 use Rattle.bitcode_coder.specs.Coder.{IsReadingReason, IsReadingRefusal}
 use Rattle.bitcode_coder.specs.Spelling.{Spells, number_of_residue}
 use Rattle.bitcode_coder.proofs.OneColumnLemmas.{reads_of}
-use Rattle.bitcode_coder.proofs.IntLemmas.{ints_refused, number_is, some_width}
+use Rattle.bitcode_coder.proofs.IntLemmas.{ints_refused, number_is}
 use Rattle.bitcode_coder.proofs.LengthRefusalLemmas.{reads_once}
 
 -- ---- the test

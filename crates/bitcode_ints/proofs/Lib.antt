@@ -1,1 +1,3 @@
+pub mod IntLemmas
+pub mod PushedIntLemmas
 pub mod CheckedLemmas

@@ -1,2 +1,3 @@
+pub mod Int
 pub mod U8Char
 pub mod CheckedColumn

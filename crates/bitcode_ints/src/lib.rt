@@ -1,8 +1,9 @@
-//! The coders of types that allow only some integers, the encoder of `U8Char`, and a coder struct without parameters
-//! for each integer type. Code that names one of these structs is checked faster.
+//! The coders of integers and of types that allow only some integers, and the encoder of `U8Char`. Each integer type
+//! also has an encoder and a decoder without type parameters: code that names them is checked faster.
 #![tactic(auto)]
 
 pub mod checked;
+pub mod int;
 pub mod signed_coders;
 pub mod u8_char;
 pub mod unsigned_coders;

@@ -2,8 +2,8 @@
 //! The coders of signed integers, each a struct without parameters.
 ghost use Rattle.std.specs.Prelude.{refl};
 
+use crate::int::{IntDecoder, IntEncoder};
 use bitcode_coder::coder::{Buffer, Decoder, Encoder, HoldsColumns, HoldsData, View};
-use bitcode_coder::int::{IntDecoder, IntEncoder};
 use bitcode_coder::part::Part;
 use bitcode_memory::error::Error;
 use std::alloc::Global;

@@ -9,6 +9,7 @@ use Rattle.std.proofs.lemmas.List.{length-map}
 use Rattle.std.proofs.lemmas.List.Elements.{All-map}
 use Rattle.bitcode_memory.specs.declared.error.Reason.{Reason}
 use Rattle.bitcode_columns.specs.Reading.{Reads}
+use Rattle.bitcode_columns.proofs.IntColumnLemmas.{some_width}
 use Rattle.bitcode_shapes.specs.Datum.{Datum, number, text}
 use Rattle.bitcode_shapes.specs.Shape.{Shape, IsNumberOf, IsNaturalBelow, IsTextOf, any_number, bool_shape, text_shape}
 use Rattle.bitcode_shapes.specs.Ints.{int_shape, MakesNumber}
@@ -24,7 +25,7 @@ use Rattle.bitcode_coder.proofs.StrictLemmas.{judges_column}
 use Rattle.bitcode_coder.specs.LengthParts.{NamesLengthFault}
 use Rattle.bitcode_coder.specs.TextParts.{NamesTextFault}
 use Rattle.bitcode_coder.specs.Spelling.{Spells, SpellsColumn, natural, truth, number_of_residue}
-use Rattle.bitcode_coder.proofs.IntLemmas.{number_is, some_width}
+use Rattle.bitcode_coder.proofs.IntLemmas.{number_is}
 use Rattle.bitcode_coder.proofs.LengthRefusalLemmas.{lengths_refused}
 use Rattle.bitcode_memory.specs.IntWidths.{IsWidth}
 use Rattle.bitcode_untyped.specs.View.{datum_of}

@@ -6,7 +6,8 @@ use Rattle.bitcode_memory.specs.declared.error.Reason.TheVariants.{OutOfMemory}
 use Rattle.bitcode_shapes.specs.Datum.{Datum}
 use Rattle.bitcode_shapes.specs.Shape.{Shape}
 use Rattle.bitcode_coder.specs.Coder.{written_columns, JoinsListing, OverflowsWithListing}
-use Rattle.bitcode_coder.specs.Columns.{Columns, Kind, bools, ints, lengths, texts, one, beside, CountsFit}
+use Rattle.bitcode_coder.specs.Columns.{Kind, bools, ints, lengths, texts, one, beside, CountsFit}
+use Rattle.bitcode_coder.proofs.OneValueLemmas.{entries_in}
 use Rattle.bitcode_serde.specs.ReadColumns.{kind_number}
 use Rattle.bitcode_serde.specs.WrittenColumns.{kind_of_entry}
 use Rattle.bitcode_serde.specs.declared.written.Entry.{Entry}
@@ -24,11 +25,6 @@ only_memory lists shape kind t entries Other e columns (inl m) = inl m
 only_memory lists shape kind t entries Other e columns (inr (inl never)) = absurd never
 only_memory lists shape kind t entries Other e columns (inr (inr p)) =
     absurd (p.overflows (subst (λ added. CountsFit (beside (one kind entries) added)) (sym (columns (p.datum ∷ []))) tt))
-
--- the entries of a column
-abbrev pub entries_in : Columns → List Datum
-entries_in (one _ entries) = entries
-entries_in _ = []
 
 -- the one datum that a value lists was written behind the others
 pub joined_entry : {T : Type 0} (lists : T → Datum → Type 0) (shape : Shape) (kind : Kind) (t : T) (old new : List Datum) (datum : Datum)

@@ -9,7 +9,7 @@ use Rattle.bitcode_coder.specs.Columns.{Kind, bools, ints, lengths, texts}
 use Rattle.bitcode_coder.specs.Cutting.{cut}
 use Rattle.bitcode_coder.specs.Length.{lengths_left, lengths_sum}
 use Rattle.bitcode_coder.specs.Spelling.{SpellsColumn, natural, truth}
-use Rattle.bitcode_coder.specs.Int.{bytes_data}
+use Rattle.bitcode_ints.specs.Int.{bytes_data}
 use Rattle.bitcode_serde.specs.Indices.{indices_left, index_count}
 use Rattle.bitcode_untyped.specs.Population.{total, count_of}
 use Rattle.bitcode_untyped.specs.View.{datum_of}

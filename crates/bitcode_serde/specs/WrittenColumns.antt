@@ -6,7 +6,7 @@ use Rattle.bitcode_coder.specs.Columns.{Kind, bools, ints, lengths, texts}
 use Rattle.bitcode_coder.specs.Cutting.{cut}
 use Rattle.bitcode_coder.specs.Length.{written_lengths}
 use Rattle.bitcode_coder.specs.Spelling.{natural, truth}
-use Rattle.bitcode_coder.specs.Int.{int_data}
+use Rattle.bitcode_ints.specs.Int.{int_data}
 use Rattle.bitcode_serde.specs.ReadColumns.{kind_of}
 use Rattle.bitcode_serde.specs.declared.column.ColumnKind.{ColumnKind}
 use Rattle.bitcode_serde.specs.declared.column.ColumnKind.TheVariants as kind

@@ -1,8 +1,8 @@
 // Written by scripts/tables/integers.
 //! The coders of nonzero integers and of chars.
 use crate::derive::{DecodeOwned, HasDecoder, HasEncoder};
-use bitcode_coder::int::IntEncoder;
 use bitcode_ints::checked::CheckedIntDecoder;
+use bitcode_ints::int::IntEncoder;
 use std::num::{
     NonZeroI8, NonZeroI16, NonZeroI32, NonZeroI64, NonZeroI128, NonZeroIsize, NonZeroU8,
     NonZeroU16, NonZeroU32, NonZeroU64, NonZeroU128, NonZeroUsize,

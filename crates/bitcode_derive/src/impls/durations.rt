@@ -1,8 +1,8 @@
 // Written by scripts/tables/types.
 //! The coders of durations.
 use crate::derive::{DecodeOwned, HasDecoder, HasEncoder};
-use bitcode_coder::int::{IntDecoder, IntEncoder};
 use bitcode_ints::checked::CheckedIntDecoder;
+use bitcode_ints::int::{IntDecoder, IntEncoder};
 use bitcode_parts::convert::{ConvertFromDecoder, ConvertIntoEncoder};
 use bitcode_parts::durations::{DurationDecode, DurationEncode};
 use bitcode_shapes::nanosecond::Nanosecond;

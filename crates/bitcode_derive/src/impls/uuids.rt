@@ -1,7 +1,7 @@
 // Written by scripts/tables/types.
 //! The coders of UUIDs.
 use crate::derive::{DecodeOwned, HasDecoder, HasEncoder};
-use bitcode_coder::int::{IntDecoder, IntEncoder};
+use bitcode_ints::int::{IntDecoder, IntEncoder};
 use bitcode_parts::arrays::{ArrayDecoder, ArrayEncoder};
 use bitcode_parts::convert::{ConvertFromDecoder, ConvertIntoEncoder};
 use bitcode_parts::uuids::UuidConversion;

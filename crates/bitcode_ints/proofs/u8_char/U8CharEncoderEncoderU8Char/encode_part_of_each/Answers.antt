@@ -6,7 +6,7 @@ use Rattle.bitcode_shapes.specs.Shape.{raw_shape}
 use Rattle.bitcode_shapes.specs.Ints.{ListsNumber}
 use Rattle.bitcode_coder.specs.Columns.{raws}
 use Rattle.bitcode_coder.specs.Spelling.{natural}
-use Rattle.bitcode_coder.proofs.PushingLemmas.{joins_made}
+use Rattle.bitcode_ints.proofs.PushedIntLemmas.{joins_made}
 use Rattle.bitcode_ints.specs.declared.u8_char.U8Char.{U8Char}
 use Rattle.bitcode_ints.proofs.u8_char.U8CharEncoderEncoderU8Char.encode_part_of_each.Goals as goal
 

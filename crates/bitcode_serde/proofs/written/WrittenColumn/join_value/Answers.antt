@@ -1,8 +1,9 @@
 -- Each column's value is written by one function, which tells what it did of columns.
 use Rattle.std.proofs.Common.{ap}
 use Rattle.std.proofs.lemmas.Result.{on_ok_weaker}
+use Rattle.bitcode_coder.proofs.OneValueLemmas.{entries_in}
 use Rattle.bitcode_serde.proofs.JoiningLemmas.{no_third}
-use Rattle.bitcode_serde.proofs.WrittenLemmas.{if_err, entries_in}
+use Rattle.bitcode_serde.proofs.WrittenLemmas.{if_err}
 use Rattle.bitcode_serde.proofs.written.WrittenColumn.join_value.Goals as goal
 
 pub returns-in-Bools-clause-written : goal.returns-in-Bools-clause-written

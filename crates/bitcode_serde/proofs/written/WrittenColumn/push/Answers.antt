@@ -8,8 +8,9 @@ use Rattle.std.specs.Prelude.{map}
 use Rattle.std.proofs.lemmas.List.{map_push}
 use Rattle.std.proofs.lemmas.Result.{on_ok_weaker}
 use Rattle.bitcode_coder.specs.Spelling.{natural}
+use Rattle.bitcode_coder.proofs.OneValueLemmas.{entries_in}
 use Rattle.bitcode_serde.proofs.ColumnLemmas.{passed_on, kept_8, kept_16, kept_32, kept_64, kept_128}
-use Rattle.bitcode_serde.proofs.WrittenLemmas.{if_err, only_memory, joined_entry, entries_in, other-Bool, other-Byte, other-U16, other-U32, other-U64, other-U128, other-I8, other-I16, other-I32, other-I64, other-I128, other-Length, other-Text}
+use Rattle.bitcode_serde.proofs.WrittenLemmas.{if_err, only_memory, joined_entry, other-Bool, other-Byte, other-U16, other-U32, other-U64, other-U128, other-I8, other-I16, other-I32, other-I64, other-I128, other-Length, other-Text}
 use Rattle.bitcode_serde.proofs.written.WrittenColumn.push.Goals as goal
 use Rattle.bitcode_serde.proofs.written.WrittenColumn.push.Goals.{in-Bools-Bool, in-Bytes-Byte, in-U16-U16, in-U32-U32, in-U64-U64, in-U128-U128, in-I8-I8, in-I16-I16, in-I32-I32, in-I64-I64, in-I128-I128, in-Lengths-Length+in_ok-reserve-in-Lengths-Length, in-Texts-Text, in_default, in_default-via-in-Bools+in_default, in_default-via-in-Bytes+in_default, in_default-via-in-U16+in_default, in_default-via-in-U32+in_default, in_default-via-in-U64+in_default, in_default-via-in-U128+in_default, in_default-via-in-I8+in_default, in_default-via-in-I16+in_default, in_default-via-in-I32+in_default, in_default-via-in-I64+in_default, in_default-via-in-I128+in_default, in_default-via-in-Lengths+in_default, in_default-via-in-Texts+in_default}
 
