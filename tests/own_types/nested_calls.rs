@@ -1,6 +1,7 @@
 //! With ample memory what is read of nested types is written again, as the same bytes.
 use bitcode::{Error, decode, encode};
-use bitcode_large_types::nested_calls::{all_of, deep, options, packets, sixteen, twelve};
+use bitcode_large_types::lists::packets;
+use bitcode_own_types::nested_calls::{all_of, deep, options, sixteen, twelve};
 use std::collections::BTreeMap;
 
 type Records = Vec<(u64, String, bool, Option<u32>, Vec<u8>)>;

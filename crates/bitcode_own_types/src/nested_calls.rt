@@ -1,7 +1,5 @@
-//! Calls that decode large or deeply nested types, and encode them again. All are proved.
+//! Calls that decode tuples of up to 16 fields and deeply nested lists, and encode them again. All are proved.
 
-use crate::account::Account;
-use crate::packet::Packet;
 use bitcode::{Decode, Encode, Error, decode, encode};
 use std::alloc::Global;
 
@@ -56,18 +54,6 @@ pub fn options(alloc: Global, bytes: &[u8]) -> Result<Vec<u8>, Error> {
 pub fn deep(alloc: Global, bytes: &[u8]) -> Result<Vec<u8>, Error> {
     let lists: Deep = decode(alloc, bytes)?;
     encode(alloc, &lists)
-}
-
-/// Reads structs of 17 fields, and writes them again.
-pub fn accounts<'a>(alloc: Global, bytes: &'a [u8]) -> Result<Vec<u8>, Error> {
-    let accounts: Vec<Account<'a>> = decode(alloc, bytes)?;
-    encode(alloc, &accounts)
-}
-
-/// Reads values of an enum of 20 variants, and writes them again.
-pub fn packets(alloc: Global, bytes: &[u8]) -> Result<Vec<u8>, Error> {
-    let packets: Vec<Packet> = decode(alloc, bytes)?;
-    encode(alloc, &packets)
 }
 
 /// Reads records of any type, and writes them again.
