@@ -1,6 +1,6 @@
 //! With ample memory what is read of nested types is written again, as the same bytes.
-use bitcode::{Error, decode, encode};
-use bitcode_large_types::lists::packets;
+use bitcode::{Error, decode, encode, encode_into};
+use bitcode_large_types::lists::{accounts, packets};
 use bitcode_own_types::nested_calls::{all_of, deep, options, sixteen, twelve};
 use std::collections::BTreeMap;
 
@@ -28,6 +28,22 @@ fn lists_come_back(rt: HostRuntime) -> Result<(), Error> {
     assert!(rt; deep(alloc, bytes)?.as_slice() == bytes);
     let bytes: &[u8] = &[2, 7, 9];
     assert!(rt; all_of::<u8>(alloc, bytes)?.as_slice() == bytes);
+    Ok(())
+}
+
+#[test]
+fn accounts_come_back(rt: HostRuntime) -> Result<(), Error> {
+    let alloc = rt.alloc();
+    // One account. Its columns are those of its fields, in order.
+    let avatar = vec![in alloc; 9u8]?;
+    let tags: Vec<String> = Vec::new(alloc);
+    let home = (1u8, 2u16, 3u16);
+    let best: Option<(String, u16)> = None;
+    let mut bytes = vec![in alloc; 1u8]?;
+    encode_into(alloc, &(1u64, "ab", "c", 3u8, true, -1i64, None::<i16>, avatar, 'x'), &mut bytes)?;
+    encode_into(alloc, &(tags, home, (4i32, 5i32), best, 6u32, 7u16, 8u128, 9u8), &mut bytes)?;
+    assert!(rt; accounts(alloc, &bytes)?.as_slice() == bytes.as_slice());
+    assert!(rt; accounts(alloc, &bytes.as_slice()[1..]).is_err());
     Ok(())
 }
 
