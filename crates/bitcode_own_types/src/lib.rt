@@ -1,5 +1,5 @@
-//! Structs and enums written by `scripts/new_type`; a struct and a container written by hand; generic code; and calls at
-//! nested types, as a user of the library writes them: nothing but the library is named.
+//! Structs and enums written by `scripts/new_type`, a struct and a container written by hand, generic code, and calls
+//! at nested types, as a user of the library writes them: nothing but the library is named.
 #![tactic(auto)]
 
 pub mod amino_acid;
