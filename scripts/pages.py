@@ -64,12 +64,11 @@ def count(pattern, paths):
 def counts():
     """The tables of what is counted."""
     crates = [line.split(":")[0] for line in read("crates.txt").splitlines() if line and not line.startswith("#")]
-    lines = ["| Crate | Functions | Edits in `must-fail/` | Edits in `scripts/mutants` that CI tries | All edits in `scripts/mutants` |", "|---|---|---|---|---|"]
-    total = [0] * 4
+    lines = ["| Crate | Functions | Edits that CI tries | All edits in `scripts/mutants` |", "|---|---|---|---|"]
+    total = [0] * 3
     for crate in crates:
         numbers = [
             count(r"^\s*(?:pub(?:\(\w+\))? )?(?:(?:const|unsafe) )*fn \w", f"crates/{crate}/src/**/*.rt"),
-            len(glob.glob(f"crates/{crate}/must-fail/*.edit")),
             count(r"^mutant: ", f"scripts/mutants/{crate}/each_run.edit"),
             count(r"^mutant: ", f"scripts/mutants/{crate}/*.edit"),
         ]

@@ -1,7 +1,7 @@
 //! With ample memory what is read of nested types is written again, as the same bytes.
 use bitcode::{Error, decode, encode, encode_into};
 use bitcode_large_types::lists::{accounts, packets};
-use bitcode_own_types::nested_calls::{all_of, deep, options, sixteen, twelve};
+use bitcode_own_types::nested_calls::{all_of, deep, options, sixteen};
 use std::collections::BTreeMap;
 
 type Records = Vec<(u64, String, bool, Option<u32>, Vec<u8>)>;
@@ -12,8 +12,8 @@ type Table = BTreeMap<u32, (String, Option<u64>, Vec<u16>)>;
 fn tuples_come_back(rt: HostRuntime) -> Result<(), Error> {
     let alloc = rt.alloc();
     let bytes: &[u8] = &[1, 2, 3, 4, 5, 6, 7, 8, 9, 10, 11, 12, 13, 14, 15, 16];
-    assert!(rt; twelve(alloc, &bytes[..12])?.as_slice() == &bytes[..12]);
-    assert!(rt; sixteen(alloc, bytes)?.as_slice() == bytes);
+    let fields = sixteen(alloc, bytes)?;
+    assert!(rt; encode(alloc, &fields)?.as_slice() == bytes);
     assert!(rt; sixteen(alloc, &bytes[..15]).is_err());
     Ok(())
 }

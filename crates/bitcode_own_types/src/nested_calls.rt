@@ -1,10 +1,7 @@
-//! Calls that decode tuples of up to 16 fields and deeply nested lists, and encode them again. All are proved.
+//! Calls that decode a tuple of 16 fields and deeply nested lists, and encode the lists again. All are proved.
 
 use bitcode::{Decode, Encode, Error, decode, encode};
 use std::alloc::Global;
-
-/// Twelve fields.
-pub type Twelve = (u8, u8, u8, u8, u8, u8, u8, u8, u8, u8, u8, u8);
 
 /// Sixteen fields, the most that a tuple may have.
 pub type Sixteen = (
@@ -32,16 +29,9 @@ pub type Options = Vec<Option<(u64, u64, u64, u64, u64, u64, u64, u64, u64)>>;
 /// Lists in lists, six deep.
 pub type Deep = Vec<Vec<Vec<Vec<Vec<Vec<u8>>>>>>;
 
-/// Reads twelve bytes, and writes them again.
-pub fn twelve(alloc: Global, bytes: &[u8]) -> Result<Vec<u8>, Error> {
-    let fields: Twelve = decode(alloc, bytes)?;
-    encode(alloc, &fields)
-}
-
-/// Reads sixteen bytes, and writes them again.
-pub fn sixteen(alloc: Global, bytes: &[u8]) -> Result<Vec<u8>, Error> {
-    let fields: Sixteen = decode(alloc, bytes)?;
-    encode(alloc, &fields)
+/// Reads sixteen bytes. `bitcode_vectors` has a row that writes them.
+pub fn sixteen(alloc: Global, bytes: &[u8]) -> Result<Sixteen, Error> {
+    decode(alloc, bytes)
 }
 
 /// Reads options of nine numbers each, and writes them again.

@@ -16,7 +16,7 @@ use crate::stands_for::StandsFor;
 /// when, for these types. A user-defined type can be encoded and decoded without this law. `specs/SameArrays.antt` has
 /// the laws for types whose values have one listing, and for structs, choices, sequences and maps.
 ///
-/// ```rust,from:crates/bitcode_by_hand/src/foo.rt
+/// ```rust,from:crates/bitcode_test_support/src/by_hand/foo.rt
 /// impl<'a> SameArrays for Foo<'a> {
 ///     ghost same_arrays = { struct_same_arrays foo_fields u32_same_arrays str_same_arrays };
 /// }

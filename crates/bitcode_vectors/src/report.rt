@@ -1,7 +1,7 @@
 //! What the program prints of its rows.
 use crate::rows;
 use crate::rows::{typed, untyped};
-use bitcode_expected::Got;
+use bitcode_test_support::Got;
 use std::alloc::Global;
 use std::io;
 

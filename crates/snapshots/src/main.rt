@@ -11,16 +11,17 @@ mod world;
 use crate::entity::Entity;
 use crate::snapshot::Entities;
 use anyhow::{Result, ensure};
-use bitcode::Buffer;
+use bitcode::{Buffer, encode};
+use std::alloc::Global;
 
 /// How many ticks are played.
 const TICKS: u32 = 5;
 
 /// How many bytes the entities have one by one.
-fn size_of_rows(buffer: &mut Buffer<Entity>, entities: &[Entity]) -> Result<usize> {
+fn size_of_rows(alloc: Global, entities: &[Entity]) -> Result<usize> {
     let mut size: usize = 0;
     for entity in entities {
-        size = size.saturating_add(buffer.encode(entity)?.len());
+        size = size.saturating_add(encode(alloc, entity)?.len());
     }
     Ok(size)
 }
@@ -28,12 +29,11 @@ fn size_of_rows(buffer: &mut Buffer<Entity>, entities: &[Entity]) -> Result<usiz
 fn run(rt: &(impl AllocGlobal + Print)) -> Result<()> {
     let alloc = rt.alloc();
     let mut all: Buffer<Entities> = Buffer::new(alloc);
-    let mut one: Buffer<Entity> = Buffer::new(alloc);
     let mut entities = world::entities(alloc)?;
     for tick in 0..TICKS {
         world::tick(&mut entities, tick);
         let columns = snapshot::take(&mut all, &entities)?.len();
-        let rows = size_of_rows(&mut one, &entities)?;
+        let rows = size_of_rows(alloc, &entities)?;
         println!(rt; "tick {tick}: {columns} bytes, and {rows} as rows")?;
     }
     let again = snapshot::restored(alloc, &mut all, &entities)?;

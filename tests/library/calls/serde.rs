@@ -9,8 +9,8 @@ use bitcode::{
     Decoder, Encoder, REF_LIMIT, Reason, Shape, ShapeNode, Value, View, ZST_LIMIT, deserialize,
     deserialize_within, serialize,
 };
-use bitcode_expected::Got;
-use bitcode_expected::untyped::{
+use bitcode_test_support::Got;
+use bitcode_test_support::untyped::{
     deserializes_strictly, is_not_read_strictly, is_not_written, map_of, seq_of, shape_of, variant,
     written_both_ways,
 };

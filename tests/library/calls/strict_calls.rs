@@ -1,6 +1,6 @@
 //! What is read strictly is what is written.
 use bitcode::{decode_strict, encode};
-use bitcode_expected::strict_laws::{flag_is_written, number_is_written};
+use bitcode_test_support::strict_laws::{flag_is_written, number_is_written};
 use std::test::Fail;
 
 #[test]

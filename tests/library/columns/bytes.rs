@@ -3,8 +3,8 @@ use crate::library::columns::packing::{
     packs, packs_bools, unpack_refuses, unpacks, unpacks_bools, unpacks_bytes,
 };
 use bitcode::Reason;
-use bitcode_expected::Got;
-use bitcode_expected::byte_columns::{packs_bytes, unpack_bytes_refuses};
+use bitcode_test_support::Got;
+use bitcode_test_support::byte_columns::{packs_bytes, unpack_bytes_refuses};
 
 #[test]
 fn bytes_are_packed(rt: HostRuntime) -> Result<(), Got> {

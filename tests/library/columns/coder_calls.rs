@@ -1,7 +1,7 @@
 //! Columns that the Rust crate packed, by the calls that the coders of integers make.
 use bitcode::CowSlice;
 use bitcode::own::ColumnInt;
-use bitcode_expected::Got;
+use bitcode_test_support::Got;
 use std::alloc::Global;
 
 // Whether the bytes stand for these numbers.

@@ -1,9 +1,9 @@
 //! Every proper front of accepted bytes is `EOF`, and a byte behind them is refused, or left where a column was read.
 use crate::library::columns::packing::unpacks_bytes;
 use bitcode::{Decode, Reason, decode};
-use bitcode_expected::byte_columns::unpack_bytes_refuses;
-use bitcode_expected::lengths::{reads_lengths, refuses_lengths};
-use bitcode_expected::{Got, refuses};
+use bitcode_test_support::byte_columns::unpack_bytes_refuses;
+use bitcode_test_support::lengths::{reads_lengths, refuses_lengths};
+use bitcode_test_support::{Got, refuses};
 use std::alloc::Global;
 
 // The bytes but the last one are read as a value; fewer and more are not.

@@ -1,7 +1,7 @@
 //! Columns of integers of each width that the Rust crate packed, and inputs that it unpacked. More of them are in
 //! `scripts/vectors/columns`.
 use crate::library::columns::packing::{packs, unpacks};
-use bitcode_expected::Got;
+use bitcode_test_support::Got;
 
 #[test]
 fn integers_are_packed(rt: HostRuntime) -> Result<(), Got> {

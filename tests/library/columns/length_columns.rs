@@ -1,7 +1,7 @@
 //! Columns of lengths that the Rust crate wrote or read, and the limits of lengths and of their sum.
 use bitcode::{LengthDecoder, Reason};
-use bitcode_expected::Got;
-use bitcode_expected::lengths::{reads_lengths, refuses_lengths, writes_lengths};
+use bitcode_test_support::Got;
+use bitcode_test_support::lengths::{reads_lengths, refuses_lengths, writes_lengths};
 use std::alloc::Global;
 
 // The column is written as these bytes, and read from them.

@@ -1,7 +1,7 @@
 //! Columns at the limits of their forms: of no entries, of one, where tags start, and where shifting starts.
 use crate::library::columns::packing::{packs, unpacks};
 use bitcode::{Error, Int, SizedInt};
-use bitcode_expected::Got;
+use bitcode_test_support::Got;
 use std::alloc::Global;
 
 // The column is written as these bytes, and read from them.

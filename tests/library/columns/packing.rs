@@ -2,7 +2,7 @@
 use bitcode::{
     CowSlice, Int, Reason, pack_bools, pack_ints, unpack_bools, unpack_bytes, unpack_ints,
 };
-use bitcode_expected::Got;
+use bitcode_test_support::Got;
 use std::alloc::Global;
 
 /// The integers are packed as these bytes.

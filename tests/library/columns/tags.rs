@@ -1,7 +1,7 @@
 //! Each tag of integer columns, written and read, and those that no column has.
 use crate::library::columns::packing::{packs, unpack_refuses, unpacks};
 use bitcode::{Error, Int, Reason, SizedUInt};
-use bitcode_expected::Got;
+use bitcode_test_support::Got;
 use std::alloc::Global;
 
 // The width in bytes of the numbers behind a tag, for integers of 2, 4, 8 and 16 bytes; 0 where no column has it.

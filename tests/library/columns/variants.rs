@@ -4,7 +4,7 @@ use bitcode::{
     CowSlice, Error, Reason, VariantDecoder, VariantEncoder, View, histogram, pack_bytes_less_than,
     unpack_bytes_less_than,
 };
-use bitcode_expected::Got;
+use bitcode_test_support::Got;
 use std::alloc::Global;
 use std::test::Fail;
 

@@ -5,7 +5,7 @@ use bitcode::{
     ArrayDecoder, ArrayEncoder, DecodeOwned, Decoder, EmptyCoder, Encoder, IntDecoder, IntEncoder,
     Reason, View, encode, err,
 };
-use bitcode_expected::{Got, both_ways, holds};
+use bitcode_test_support::{Got, both_ways, holds};
 use std::test::Fail;
 
 #[test]

@@ -4,7 +4,7 @@ use bitcode::{
     CheckedIntDecoder, ConvertFrom, ConvertInto, Decoder, DurationDecode, DurationEncode,
     Nanosecond, Reason, View, decode,
 };
-use bitcode_expected::{Got, both_ways, holds, refuses};
+use bitcode_test_support::{Got, both_ways, holds, refuses};
 use std::num::{NonZeroI64, NonZeroU8};
 use std::test::Fail;
 use std::time::Duration;

@@ -1,7 +1,7 @@
 //! Vectors and texts of a fixed capacity, both ways. `scripts/checks/vectors` has the refusals of the Rust crate.
 use arrayvec::{ArrayString, ArrayVec};
 use bitcode::{Reason, decode};
-use bitcode_expected::{Got, refuses, written_and_read};
+use bitcode_test_support::{Got, refuses, written_and_read};
 
 /// What was read is this.
 fn is(same: bool) -> Result<(), Got> {

@@ -1,5 +1,5 @@
 //! Heaps, both ways. `scripts/checks/vectors` runs many more of the values of the Rust crate.
-use bitcode_expected::{Got, agrees, written_and_read};
+use bitcode_test_support::{Got, agrees, written_and_read};
 use std::collections::BinaryHeap;
 
 #[test]

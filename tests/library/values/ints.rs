@@ -1,5 +1,5 @@
 //! The integers of each width, at their limits. `scripts/checks/vectors` runs many more of the values of the Rust crate.
-use bitcode_expected::{Got, both_ways};
+use bitcode_test_support::{Got, both_ways};
 
 #[test]
 fn unsigned_integers(rt: HostRuntime) -> Result<(), Got> {

@@ -1,6 +1,6 @@
 //! Vectors and slices that the Rust crate wrote and read, queues and linked lists.
 use bitcode::encode;
-use bitcode_expected::{Got, agrees, both_ways, decodes, encodes, written_and_read};
+use bitcode_test_support::{Got, agrees, both_ways, decodes, encodes, written_and_read};
 use std::collections::{LinkedList, VecDeque};
 
 #[test]

@@ -1,5 +1,5 @@
 //! Pointers and markers, both ways. `scripts/checks/vectors` runs many more of the values of the Rust crate.
-use bitcode_expected::{Got, written_and_read};
+use bitcode_test_support::{Got, written_and_read};
 use std::boxed::BoxedSlice;
 use std::marker::PhantomData;
 use std::rc::{Rc, RcSlice};

@@ -4,7 +4,7 @@ use bitcode::laws::{borrowed_text, borrowed_texts, joined_texts, short_text};
 use bitcode::{
     Decoder, Encoder, Reason, StrDecoder, StrEncoder, U8Char, U8CharEncoder, View, decode,
 };
-use bitcode_expected::{Got, both_ways, refuses};
+use bitcode_test_support::{Got, both_ways, refuses};
 use std::alloc::Global;
 use std::boxed::BoxedStr;
 use std::rc::RcStr;

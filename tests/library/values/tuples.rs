@@ -1,5 +1,5 @@
 //! Tuples of one field, both ways, and of sixteen types, written. The tables of `scripts/vectors` have every number of fields.
-use bitcode_expected::{Got, encodes, written_and_read};
+use bitcode_test_support::{Got, encodes, written_and_read};
 use std::time::Duration;
 
 #[test]

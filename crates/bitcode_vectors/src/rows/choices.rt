@@ -1,10 +1,10 @@
 //! The stored rows of options, results and types written by hand.
 use crate::rows::untyped;
 use bitcode::{Reason, decode};
-use bitcode_by_hand::never::Never;
-use bitcode_by_hand::one::One;
-use bitcode_by_hand::two::Two;
-use bitcode_expected::{Got, decodes, encodes, refuses};
+use bitcode_test_support::by_hand::never::Never;
+use bitcode_test_support::by_hand::one::One;
+use bitcode_test_support::by_hand::two::Two;
+use bitcode_test_support::{Got, decodes, encodes, refuses};
 use std::alloc::Global;
 
 /// The variants of all options stand together, and then the values of those that have one.

@@ -1,6 +1,6 @@
 //! The rows of the command `column`.
 use crate::column::Answer;
-use bitcode_expected::Got;
+use bitcode_test_support::Got;
 use std::alloc::Global;
 
 /// The command with these words and this input prints these lines, and ends with this status.

@@ -1,8 +1,8 @@
 //! The stored rows of texts, chars, checked integers and durations.
 use crate::rows::untyped;
 use bitcode::{Reason, U8Char, decode};
-use bitcode_by_hand::foo::Foo;
-use bitcode_expected::{Got, decodes, encodes, refuses};
+use bitcode_test_support::by_hand::foo::Foo;
+use bitcode_test_support::{Got, decodes, encodes, refuses};
 use std::alloc::Global;
 use std::num::NonZeroU32;
 use std::time::Duration;

@@ -1,6 +1,6 @@
 //! The stored rows of the first format. Each has one or more parts, and gives what the first wrong part gave.
 use bitcode::Reason;
-use bitcode_expected::{Got, decodes, encodes, holds, refuses};
+use bitcode_test_support::{Got, decodes, encodes, holds, refuses};
 use std::alloc::Global;
 
 pub mod arrays;

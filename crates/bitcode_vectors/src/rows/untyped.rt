@@ -1,6 +1,6 @@
 //! The stored rows of the second format: values under shapes. Each has one or more parts, and gives what the first
 //! wrong part gave.
-use bitcode_expected::Got;
+use bitcode_test_support::Got;
 use std::alloc::Global;
 
 pub mod enums;

@@ -1,7 +1,7 @@
 //! The rows of arrays.
 use bitcode::coder::Buffer as _;
 use bitcode::{ArrayEncoder, EmptyCoder, Error, Reason};
-use bitcode_expected::{Got, decodes, encodes, refuses};
+use bitcode_test_support::{Got, decodes, encodes, refuses};
 use std::alloc::Global;
 
 /// The call refuses for this reason.

@@ -1,6 +1,6 @@
 //! The stored rows of values that are written one after the other into one buffer.
 use bitcode::{Buffer, Decode, Encode};
-use bitcode_expected::Got;
+use bitcode_test_support::Got;
 use std::alloc::Global;
 
 /// The buffer writes the value as these bytes.

@@ -1,7 +1,7 @@
 //! The rows of byte columns.
 use bitcode::Reason;
-use bitcode_expected::Got;
-use bitcode_expected::byte_columns::{packs_bytes, unpack_bytes_refuses};
+use bitcode_test_support::Got;
+use bitcode_test_support::byte_columns::{packs_bytes, unpack_bytes_refuses};
 use std::alloc::Global;
 
 /// Bytes are packed in the base that they need, and without the least where that needs a smaller one.

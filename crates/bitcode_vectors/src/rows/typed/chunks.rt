@@ -1,5 +1,5 @@
 //! The stored rows of lists and options that are written in chunks.
-use bitcode_expected::{Got, encodes};
+use bitcode_test_support::{Got, encodes};
 use std::alloc::Global;
 
 /// As many lists of this one byte.

@@ -1,7 +1,7 @@
 //! The stored rows of vectors and texts of a fixed capacity.
 use arrayvec::{ArrayString, ArrayVec};
 use bitcode::{Reason, decode};
-use bitcode_expected::{Got, decodes, encodes, refuses};
+use bitcode_test_support::{Got, decodes, encodes, refuses};
 use std::alloc::Global;
 
 /// What was read is this.

@@ -1,6 +1,6 @@
 //! The rows of heaps.
 use bitcode::decode;
-use bitcode_expected::Got;
+use bitcode_test_support::Got;
 use std::alloc::Global;
 use std::collections::BinaryHeap;
 

@@ -1,7 +1,7 @@
 //! The rows of length columns.
 use bitcode::Reason;
-use bitcode_expected::Got;
-use bitcode_expected::lengths::{reads_lengths, refuses_lengths, writes_lengths};
+use bitcode_test_support::Got;
+use bitcode_test_support::lengths::{reads_lengths, refuses_lengths, writes_lengths};
 use std::alloc::Global;
 
 /// A large length stands behind the bytes of all lengths.

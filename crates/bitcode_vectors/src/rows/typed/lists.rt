@@ -1,6 +1,6 @@
 //! The stored rows of vectors and slices.
 use bitcode::Reason;
-use bitcode_expected::{Got, encodes, refuses};
+use bitcode_test_support::{Got, encodes, refuses};
 use std::alloc::Global;
 
 /// Seven integers are shifted by their least one, the first five of them stand raw.

@@ -1,5 +1,5 @@
 //! The rows of maps.
-use bitcode_expected::{Got, decodes, encodes};
+use bitcode_test_support::{Got, decodes, encodes};
 use std::alloc::Global;
 use std::collections::{BTreeMap, HashMap};
 

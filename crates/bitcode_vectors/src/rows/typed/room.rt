@@ -1,6 +1,6 @@
 //! The stored row of lists with reserved room.
 use bitcode::{FastVec, PushUnchecked};
-use bitcode_expected::Got;
+use bitcode_test_support::Got;
 use std::alloc::Global;
 
 /// The items are these.

@@ -1,6 +1,6 @@
 //! The stored rows of strict reading: a column is accepted in the bytes that are written for it, and in no others.
 use bitcode::{Reason, VariantDecoder, View};
-use bitcode_expected::{Got, decodes, decodes_strictly, refuses_strictly};
+use bitcode_test_support::{Got, decodes, decodes_strictly, refuses_strictly};
 use std::alloc::Global;
 use std::collections::BTreeMap;
 

@@ -1,6 +1,6 @@
 //! The rows of tuples, pointers, markers and UUIDs.
 use crate::rows::untyped;
-use bitcode_expected::{Got, encodes};
+use bitcode_test_support::{Got, encodes};
 use std::alloc::Global;
 use std::marker::PhantomData;
 use std::rc::RcStr;

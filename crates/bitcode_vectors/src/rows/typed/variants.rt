@@ -3,7 +3,7 @@ ghost use Rattle.std.specs.Prelude.{◌≤◌};
 
 use bitcode::coder::Buffer as _;
 use bitcode::{Reason, VariantDecoder, VariantEncoder};
-use bitcode_expected::Got;
+use bitcode_test_support::Got;
 use std::alloc::Global;
 
 /// One byte is read as one of `N` variants, and is this one.

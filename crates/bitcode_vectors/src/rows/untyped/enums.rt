@@ -1,7 +1,7 @@
 //! The stored rows of options and enums under shapes.
 use bitcode::{Reason, ShapeNode, Value};
-use bitcode_expected::Got;
-use bitcode_expected::untyped::{
+use bitcode_test_support::Got;
+use bitcode_test_support::untyped::{
     deserializes, is_not_read, is_not_written, option_of, seq_of, serializes, shape_of, some,
     variant,
 };

@@ -1,7 +1,7 @@
 //! The stored rows of single entries under shapes.
 use bitcode::{Reason, ShapeNode, Value};
-use bitcode_expected::Got;
-use bitcode_expected::untyped::{is_not_read, is_not_written, shape_of};
+use bitcode_test_support::Got;
+use bitcode_test_support::untyped::{is_not_read, is_not_written, shape_of};
 use std::alloc::Global;
 
 /// A number that is no scalar value is no `char`.

@@ -1,8 +1,8 @@
 //! The stored rows of values that are read under a limit on their nodes.
 use crate::rows::untyped::sequences::units;
 use bitcode::{Reason, ShapeNode, Value};
-use bitcode_expected::Got;
-use bitcode_expected::untyped::{
+use bitcode_test_support::Got;
+use bitcode_test_support::untyped::{
     is_not_read_within, is_read_within, map_of, option_of, seq_of, shape_of, some,
 };
 use std::alloc::Global;

@@ -1,7 +1,7 @@
 //! The stored rows of shapes that hold themselves.
 use bitcode::{Reason, Shape, ShapeNode, Value};
-use bitcode_expected::Got;
-use bitcode_expected::untyped::{
+use bitcode_test_support::Got;
+use bitcode_test_support::untyped::{
     is_not_read, option_of, seq_of, shape_of, some, variant, written_both_ways,
 };
 use std::alloc::Global;

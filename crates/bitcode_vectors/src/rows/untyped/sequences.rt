@@ -1,7 +1,7 @@
 //! The stored rows of sequences, maps and tuples under shapes.
 use bitcode::{Reason, ShapeNode, Value};
-use bitcode_expected::Got;
-use bitcode_expected::untyped::{
+use bitcode_test_support::Got;
+use bitcode_test_support::untyped::{
     deserializes, is_not_read, map_of, seq_of, serializes, shape_of, written_both_ways,
 };
 use std::alloc::Global;

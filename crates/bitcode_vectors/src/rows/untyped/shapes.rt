@@ -1,8 +1,8 @@
 //! The stored row of tables that are a shape, and of those that are none.
 use crate::rows::untyped::leaves;
 use bitcode::{Reason, Shape, ShapeNode};
-use bitcode_expected::Got;
-use bitcode_expected::untyped::seq_of;
+use bitcode_test_support::Got;
+use bitcode_test_support::untyped::seq_of;
 use std::alloc::Global;
 
 /// A table of this entry alone is no shape.

@@ -1,7 +1,9 @@
 //! The stored row of strict reading under shapes.
 use bitcode::{Reason, ShapeNode, Value};
-use bitcode_expected::Got;
-use bitcode_expected::untyped::{deserializes_strictly, is_not_read_strictly, seq_of, shape_of};
+use bitcode_test_support::Got;
+use bitcode_test_support::untyped::{
+    deserializes_strictly, is_not_read_strictly, seq_of, shape_of,
+};
 use std::alloc::Global;
 
 /// A value is read from the bytes that are written for its columns alone, and another fault comes first.

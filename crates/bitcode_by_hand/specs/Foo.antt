@@ -1,6 +1,0 @@
--- A struct of two fields stands for the pair of them.
-use Rattle.std.proofs.Common.{ℕ, List, Bor}
-use Rattle.bitcode_by_hand.specs.declared.foo.Foo.{Foo}
-
-abbrev pub foo_fields : Foo → ℕ × Bor (List ℕ)
-foo_fields t = (t.x, t.y)

@@ -1,7 +1,0 @@
-//! Types written by hand, as a user of the library writes them: their proofs look into no column and no byte.
-#![tactic(auto)]
-
-pub mod foo;
-pub mod never;
-pub mod one;
-pub mod two;

@@ -1,0 +1,146 @@
+//! An enum of one variant, written by hand: it has the shape of its field.
+ghost use Rattle.std.specs.Prelude.{true, refl};
+ghost use Rattle.bitcode.specs.ByHand.{image_lawful, image_makeable, image_same_arrays, u8_lawful, u8_makeable};
+ghost use Rattle.bitcode.specs.ByHand.{u8_same_arrays};
+ghost use Rattle.bitcode_test_support.specs.One.{one_field, one_found};
+
+use bitcode::coder::{Buffer, HoldsColumns, HoldsData, Result};
+use bitcode::own::SameArrays;
+use bitcode::{
+    DecodeOwned, Decoder, Encoder, HasDecoder, HasEncoder, IntDecoder, IntEncoder, Made, Shaped,
+    View,
+};
+use std::alloc::Global;
+
+/// A byte.
+#[derive(Debug, Clone, Copy, PartialEq)]
+pub enum One {
+    A(u8),
+}
+
+impl Shaped for One {
+    ghost shape = { ⟦<u8 as Shaped>⟧.shape };
+
+    ghost is_value = { λ t. ⟦<u8 as Shaped>⟧.is_value (one_field t) };
+
+    ghost lists = { λ t d. ⟦<u8 as Shaped>⟧.lists (one_field t) d };
+
+    ghost same = { λ t u. ⟦<u8 as Shaped>⟧.same (one_field t) (one_field u) };
+
+    ghost in_order = { true };
+
+    fn told(&self) {
+        let One::A(a) = self;
+        a.told();
+    }
+
+    ghost lawful = { image_lawful one_field u8_lawful };
+}
+
+impl SameArrays for One {
+    ghost same_arrays = { image_same_arrays one_field u8_same_arrays };
+}
+
+impl Made for One {
+    ghost makes = { λ d t. ⟦<u8 as Made>⟧.makes d (one_field t) };
+
+    ghost makeable = { image_makeable one_field (λ g a h. one_found a) u8_makeable };
+}
+
+#[derive(Drop)]
+pub struct OneEncoder {
+    a: IntEncoder<u8>,
+}
+
+impl HoldsColumns for OneEncoder {
+    ghost columns = { λ e. ⟦<IntEncoder<u8> as HoldsColumns>⟧.columns e.a };
+
+    ghost room = { λ e. ⟦<IntEncoder<u8> as HoldsColumns>⟧.room e.a };
+
+    ghost capacity = { λ e. ⟦<IntEncoder<u8> as HoldsColumns>⟧.capacity e.a };
+
+    ghost surely_overflows = { λ e n. ⊥ };
+
+    ghost overflows = { λ e n. ⊥ };
+}
+
+impl Buffer for OneEncoder {
+    fn new(alloc: Global) -> Self {
+        OneEncoder {
+            a: Buffer::new(alloc),
+        }
+    }
+
+    fn reserve(&mut self, n: usize) -> Result<()> {
+        self.a.reserve(n)
+    }
+
+    fn collect_into(&mut self, out: &mut Vec<u8>) -> Result<()> {
+        self.a.collect_into(out)
+    }
+
+    fn clear(&mut self) {
+        self.a.clear();
+    }
+}
+
+impl Encoder<One> for OneEncoder {
+    ghost writes_free = { true };
+
+    fn encode(&mut self, t: &One) -> Result<()> {
+        let One::A(a) = t;
+        self.a.encode(a)
+    }
+
+    ghost of_shape = { λ e. refl };
+
+    ghost surely = { λ e n h. absurd h };
+}
+
+#[derive(Drop)]
+pub struct OneDecoder<'a> {
+    a: IntDecoder<'a, u8>,
+}
+
+impl<'a> HoldsData for OneDecoder<'a> {
+    ghost shape = { ⟦<u8 as Shaped>⟧.shape };
+
+    ghost held = { λ d. ⟦<IntDecoder<'a, u8> as HoldsData>⟧.held d.a };
+
+    ghost owned = { λ d. ⟦<IntDecoder<'a, u8> as HoldsData>⟧.owned d.a };
+}
+
+impl<'a> View<'a> for OneDecoder<'a> {
+    ghost faults = { ⟦<IntDecoder<'a, u8> as View<'a>>⟧.faults };
+
+    fn new(alloc: Global) -> Self {
+        OneDecoder {
+            a: View::new(alloc),
+        }
+    }
+
+    fn read(&mut self, input: &mut &'a [u8], k: usize, strict: bool) -> Result<bool> {
+        self.a.read(input, k, strict)
+    }
+}
+
+impl<'a> Decoder<One> for OneDecoder<'a> {
+    ghost makes_free = { true };
+
+    fn decode(&mut self) -> Result<One> {
+        let a = self.a.decode()?;
+        Ok(One::A(a))
+    }
+
+    ghost same_shape = { refl };
+}
+
+impl HasEncoder for One {
+    type Encoder = OneEncoder;
+}
+
+impl<'a> HasDecoder<'a> for One {
+    type Decoder = OneDecoder<'a>;
+}
+
+impl DecodeOwned for One {}

@@ -1,0 +1,202 @@
+//! An enum of two variants, written by hand.
+ghost use Rattle.std.specs.Prelude.{[], ◌∷◌, true, false, refl, ◌+◌};
+ghost use Rattle.std.proofs.Common.{lit≤};
+ghost use Rattle.bitcode.specs.ByHand.{choice_lawful, choice_makeable, first_lawful, first_makeable, last_lawful};
+ghost use Rattle.bitcode.specs.ByHand.{last_makeable, image_lawful, image_makeable};
+ghost use Rattle.bitcode.specs.ByHand.{u8_lawful, u8_makeable, i8_lawful, i8_makeable, choice_shape, shape_and};
+ghost use Rattle.bitcode.specs.ByHand.{no_shapes};
+ghost use Rattle.bitcode.specs.ByHand.{IsVariantValue, ListsChoice, ListsVariant, ListsLast, MakesChoice, MakesVariant};
+ghost use Rattle.bitcode.specs.ByHand.{MakesLast, SameVariant};
+ghost use Rattle.bitcode.specs.ByHand.{no_columns, two, choices_of, variant_room, variants_left, image_same_arrays};
+ghost use Rattle.bitcode.specs.ByHand.{choice_same_arrays, first_same_arrays, last_same_arrays, u8_same_arrays};
+ghost use Rattle.bitcode.specs.ByHand.{i8_same_arrays, variants_owned};
+ghost use Rattle.bitcode_test_support.specs.Two.{two_variant, two_found};
+
+use bitcode::coder::{Buffer, HoldsColumns, HoldsData, Result, both};
+use bitcode::own::{SameArrays, encode_payload};
+use bitcode::{
+    DecodeOwned, Decoder, Encoder, HasDecoder, HasEncoder, IntDecoder, IntEncoder, Made,
+    ResultDecoder, Shaped, VariantDecoder, VariantEncoder, View,
+};
+use std::alloc::Global;
+
+/// A byte without sign or one with a sign.
+#[derive(Debug, Clone, Copy, PartialEq)]
+pub enum Two {
+    A(u8),
+    B(i8),
+}
+
+impl Shaped for Two {
+    ghost shape = { choice_shape
+        (shape_and ⟦<u8 as Shaped>⟧.shape (shape_and ⟦<i8 as Shaped>⟧.shape no_shapes)) };
+
+    ghost is_value = { λ t. IsVariantValue ⟦<u8 as Shaped>⟧.is_value ⟦<i8 as Shaped>⟧.is_value
+        (two_variant t) };
+
+    ghost lists = { λ t d. ListsChoice
+        (ListsVariant ⟦<u8 as Shaped>⟧.lists (ListsLast ⟦<i8 as Shaped>⟧.lists)) (two_variant t)
+        d };
+
+    ghost same = { λ t u. SameVariant ⟦<u8 as Shaped>⟧.same ⟦<i8 as Shaped>⟧.same (two_variant t)
+        (two_variant u) };
+
+    ghost in_order = { true };
+
+    fn told(&self) {
+        match self {
+            Two::A(a) => a.told(),
+            Two::B(b) => b.told(),
+        }
+    }
+
+    ghost lawful = { image_lawful two_variant
+        (choice_lawful (lit≤ tt) (lit≤ tt) (first_lawful u8_lawful (last_lawful i8_lawful))) };
+}
+
+impl SameArrays for Two {
+    ghost same_arrays = { image_same_arrays two_variant
+        (choice_same_arrays (first_same_arrays u8_same_arrays (last_same_arrays i8_same_arrays))) };
+}
+
+impl Made for Two {
+    ghost makes = { λ d t. MakesChoice
+        (MakesVariant ⟦<u8 as Made>⟧.makes (MakesLast ⟦<i8 as Made>⟧.makes)) d (two_variant t) };
+
+    ghost makeable = { image_makeable two_variant (λ g v h. two_found v)
+        (choice_makeable (first_makeable u8_makeable (last_makeable i8_makeable))) };
+}
+
+#[derive(Drop)]
+pub struct TwoEncoder {
+    variants: VariantEncoder<2>,
+    a: IntEncoder<u8>,
+    b: IntEncoder<i8>,
+}
+
+impl HoldsColumns for TwoEncoder {
+    ghost columns = { λ e. two (⟦<VariantEncoder<2> as HoldsColumns>⟧.columns e.variants)
+        (two (⟦<IntEncoder<u8> as HoldsColumns>⟧.columns e.a)
+        (two (⟦<IntEncoder<i8> as HoldsColumns>⟧.columns e.b) no_columns)) };
+
+    ghost room = { λ e. variant_room e.variants };
+
+    ghost capacity = { λ e. ⟦<VariantEncoder<2> as HoldsColumns>⟧.capacity e.variants
+        + ⟦<IntEncoder<u8> as HoldsColumns>⟧.capacity e.a
+        + ⟦<IntEncoder<i8> as HoldsColumns>⟧.capacity e.b };
+
+    ghost surely_overflows = { λ e n. ⊥ };
+
+    ghost overflows = { λ e n. ⊥ };
+}
+
+impl Buffer for TwoEncoder {
+    fn new(alloc: Global) -> Self {
+        TwoEncoder {
+            variants: Buffer::new(alloc),
+            a: Buffer::new(alloc),
+            b: Buffer::new(alloc),
+        }
+    }
+
+    fn reserve(&mut self, n: usize) -> Result<()> {
+        self.variants.reserve(n)
+    }
+
+    fn collect_into(&mut self, out: &mut Vec<u8>) -> Result<()> {
+        self.variants.collect_into(out)?;
+        self.a.collect_into(out)?;
+        self.b.collect_into(out)
+    }
+
+    fn clear(&mut self) {
+        self.variants.clear();
+        self.a.clear();
+        self.b.clear();
+    }
+}
+
+impl Encoder<Two> for TwoEncoder {
+    ghost writes_free = { false };
+
+    fn encode(&mut self, t: &Two) -> Result<()> {
+        match t {
+            Two::A(a) => {
+                self.variants.encode(0);
+                encode_payload(&mut self.a, a)
+            }
+            Two::B(b) => {
+                self.variants.encode(1);
+                encode_payload(&mut self.b, b)
+            }
+        }
+    }
+
+    ghost of_shape = { λ e. refl };
+
+    ghost surely = { λ e n h. absurd h };
+}
+
+#[derive(Drop)]
+pub struct TwoDecoder<'a> {
+    variants: VariantDecoder<'a, 2, false>,
+    a: IntDecoder<'a, u8>,
+    b: IntDecoder<'a, i8>,
+}
+
+type Variants<'a> = ResultDecoder<'a, IntDecoder<'a, u8>, IntDecoder<'a, i8>>;
+
+impl<'a> HoldsData for TwoDecoder<'a> {
+    ghost shape = { ⟦<Variants<'a> as HoldsData>⟧.shape };
+
+    ghost held = { λ d. choices_of (variants_left d.variants)
+        (⟦<IntDecoder<'a, u8> as HoldsData>⟧.held d.a ∷ ⟦<IntDecoder<'a, i8> as HoldsData>⟧.held d.b
+        ∷ []) };
+
+    ghost owned = { λ d. variants_owned d.variants + ⟦<IntDecoder<'a, u8> as HoldsData>⟧.owned d.a
+        + ⟦<IntDecoder<'a, i8> as HoldsData>⟧.owned d.b };
+}
+
+impl<'a> View<'a> for TwoDecoder<'a> {
+    ghost faults = { ⟦<Variants<'a> as View<'a>>⟧.faults };
+
+    fn new(alloc: Global) -> Self {
+        TwoDecoder {
+            variants: VariantDecoder::new(alloc),
+            a: View::new(alloc),
+            b: View::new(alloc),
+        }
+    }
+
+    fn read(&mut self, input: &mut &'a [u8], k: usize, strict: bool) -> Result<bool> {
+        let variants = self.variants.read(input, k, strict)?;
+        let a = self.a.read(input, self.variants.length(0), strict)?;
+        let b = self.b.read(input, self.variants.length(1), strict)?;
+        let first = both(variants, a);
+        Ok(both(first, b))
+    }
+}
+
+impl<'a> Decoder<Two> for TwoDecoder<'a> {
+    ghost makes_free = { true };
+
+    fn decode(&mut self) -> Result<Two> {
+        if self.variants.decode() == 0 {
+            Ok(Two::A(self.a.decode()?))
+        } else {
+            Ok(Two::B(self.b.decode()?))
+        }
+    }
+
+    ghost same_shape = { refl };
+}
+
+impl HasEncoder for Two {
+    type Encoder = TwoEncoder;
+}
+
+impl<'a> HasDecoder<'a> for Two {
+    type Decoder = TwoDecoder<'a>;
+}
+
+impl DecodeOwned for Two {}
