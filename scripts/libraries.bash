@@ -28,7 +28,7 @@ import re
 import sys
 
 folder, edit, *mutant = sys.argv[1:]
-crate = next(iter(re.findall(r"(?:crates|mutants)/(\w+)/", edit)), ".")
+crate = next(iter(re.findall(r"mutants/(\w+)/", edit)), ".")
 text = open(edit).read()
 if mutant:
     text = re.search(rf"^mutant: {mutant[0]}\n(.*?)(?=^mutant: |\Z)", text, re.M | re.S)[1]

@@ -21,9 +21,16 @@ const BYTES: [u8; 29] = [
 ];
 
 #[test]
-fn a_checksum_is_that_of_zlib(rt: HostRuntime) {
+fn a_checksum_is_that_of_zlib(rt: HostRuntime) -> Result<(), Fail> {
     assert_eq!(rt; crc_32(b"123456789"), 0xCBF4_3926);
     assert_eq!(rt; crc_32(b""), 0);
+    // So many bytes that the checksum needs each entry of its tables.
+    let mut bytes = Vec::new(rt.alloc());
+    for i in 0..65536u32 {
+        bytes.push((i.wrapping_mul(0x9E37_79B1) >> 24) as u8)?;
+    }
+    assert_eq!(rt; crc_32(bytes.as_slice()), 0xA627_5846);
+    Ok(())
 }
 
 #[test]
