@@ -164,13 +164,14 @@ def long_lines(text):
     for number, line in enumerate(text.split("\n"), 1):
         reader.reads(line)
         # a name in brackets stays on its line
-        if reader.is_long_clause(line) and len(broken(line)) > 1 or reader.is_long_comment(line) or is_long_import(line):
+        is_breakable = reader.is_long_clause(line) and len(broken(line)) > 1
+        if is_breakable or reader.is_long_comment(line) or is_long_import(line):
             yield number, line
 
 
 def lays_out(folder):
-    """Lays out the crate in the folder as `rt fmt` does, with long clauses broken. If `rt fmt` fails, it returns what that
-    says."""
+    """Lays out the crate in the folder as `rt fmt` does, with long clauses broken. If `rt fmt` fails, it returns what
+    that says."""
     for _ in range(5):
         ran = subprocess.run(["rt", "fmt"], cwd=folder, stdout=subprocess.PIPE, stderr=subprocess.STDOUT, text=True)
         if ran.returncode != 0:
@@ -199,7 +200,8 @@ def main():
     paths = [word for word in words if word != "--write"]
     if not paths:
         os.chdir(top)
-        paths = subprocess.run(["git", "ls-files", "*.rt"], stdout=subprocess.PIPE, text=True, check=True).stdout.split()
+        listed = subprocess.run(["git", "ls-files", "*.rt"], stdout=subprocess.PIPE, text=True, check=True)
+        paths = listed.stdout.split()
     status = 0
     for path in paths:
         if "--write" in words:

@@ -3,19 +3,19 @@
 from string import Template
 
 from declarations import Refused, fields_of
-from known_types import MOST_FIELDS, Checker, of_text, says_laws
+from known_types import MOST_FIELDS, Checker
 from numbered import Numbered
-from structs import NOT_DERIVED, halved, laws_as_data, places, quoted, tuple_text
+from structs import NOT_DERIVED, halved, places, quoted, tuple_text
 from variants import LETTERS, arms, declaration, one_to_one, value
 
 MOST_VARIANTS = 256
 
 BARE = """//! `$name` numbers its variants. What is below its declaration was written by `scripts/new_type`.
 ghost use Rattle.std.specs.Prelude.{[], ◌∷◌, refl};
-ghost use Rattle.bitcode.specs.ByHand.{stood_payload};
+ghost use Rattle.bitcode.specs.ByHand.{bare_data};
 ghost use Rattle.$crate.specs.declared.$module.$ghost.{$ghost};
 
-use bitcode::{Bare, BareEncoder, BareVariants, DecodeOwned, HasDecoder, HasEncoder, HeldIn, Payload, StandsFor, VariantDecoder};
+use bitcode::{BareEncoder, BareShaped, BareVariants, DecodeOwned, HasDecoder, HasEncoder, Shaped, VariantDecoder};
 
 $declaration
 impl BareVariants<$count> for $name {
@@ -25,6 +25,8 @@ impl BareVariants<$count> for $name {
 
     ghost in_order = { (refl, refl) };
 
+    ghost one_to_one = { $one_to_one };
+
     fn index(&self) -> u8 {
         $index
     }
@@ -32,15 +34,24 @@ impl BareVariants<$count> for $name {
     fn from_index(index: u8) -> Self {
         match index {$from_index}
     }
-
-    ghost one_to_one = { $one_to_one };
 }
 
-impl HeldIn for $name {
-    type Holder = Bare<$count, $name>;
+impl Shaped for $name {
+    ghost data = { bare_data $count ⟦<$name as BareVariants<$count>>⟧.variant ⟦<$name as BareVariants<$count>>⟧.values ⟦<$name as BareVariants<$count>>⟧.in_order ⟦<$name as BareVariants<$count>>⟧.one_to_one };
+
+    fn told(&self) {
+        let _index = self.index();
+    }
 }
 
-$payload
+impl BareShaped<$count> for $name {
+    ghost has_shape = { refl };
+
+    ghost lists_bare = { λ t d h. h };
+
+    ghost makes_bare = { λ d t h. h };
+}
+
 impl HasEncoder for $name {
     type Encoder = BareEncoder<$count>;
 }
@@ -52,26 +63,13 @@ impl<'a> HasDecoder<'a> for $name {
 impl DecodeOwned for $name {}
 """
 
-NEVER = """//! `$name` has no values, and is written and read as nothing. What is below its declaration was written by `scripts/new_type`.
-ghost use Rattle.bitcode.specs.ByHand.{stood_payload};
-
-use bitcode::{Absent, AbsentDecoder, AbsentEncoder, DecodeOwned, HasDecoder, HasEncoder, NoVariants, Payload, StandsFor};
+NEVER = """//! `$name` has no values. A field holds it as `Absent<$name>`. What is below its declaration was written by `scripts/new_type`.
+use bitcode::{NoVariants};
 
 $declaration
 impl NoVariants for $name {
     ghost never = { λ t P h. elim t [ ] };
 }
-
-$payload
-impl HasEncoder for $name {
-    type Encoder = AbsentEncoder;
-}
-
-impl<'a> HasDecoder<'a> for $name {
-    type Decoder = AbsentDecoder;
-}
-
-impl DecodeOwned for $name {}
 """
 
 
@@ -120,7 +118,6 @@ def bare_text(enum, crate, module):
         "variant": " | ".join(f"{name} ↦ {place}" for place, name in enumerate(names)),
         "values": " ∷ ".join([*names, "[]"]),
         "index": "*self as u8" if is_cast else f"match self {{{arms(enum, lambda place, variant: value(enum, variant), lambda place, variant: place)}}}",
-        "payload": laws_as_data(enum, f"Bare<{last + 1}, {enum.name}>"),
         "one_to_one": one_to_one(enum),
         "from_index": arms(enum, lambda place, variant: "_" if place == last else place, lambda place, variant: value(enum, variant)),
     }
@@ -154,10 +151,8 @@ def enum_text(enum, own, crate, module):
     checker = Checker(enum, own)
     for field in fields_of(enum):
         checker.check(field.type)
-        if len(enum.variants) > 1 and not says_laws(field.type, own):
-            raise Refused(field.type.line, f"`{of_text(field.type)}` does not say its laws as data (docs/CODERS.md, \"An enum with fields\"): write an `impl Payload` for it")
     if not enum.variants:
-        text = Template(NEVER).substitute(name=enum.name, declaration=declaration(enum), payload=laws_as_data(enum, f"Absent<{enum.name}>"))
+        text = Template(NEVER).substitute(name=enum.name, declaration=declaration(enum))
     elif len(enum.variants) == 1:
         text = one_text(enum, crate, module, checker.imports, own)
     elif not fields_of(enum):

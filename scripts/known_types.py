@@ -5,10 +5,9 @@ from collections import namedtuple
 
 from declarations import Refused, fields_of, word_of
 
-# A type of one's own: where it is imported from, its declaration if that is in the file, whether its impls are those of what it
-# stands for, as this script writes them, whether it says its laws as data, how many types its decoder names, one where it is imported,
-# and what it is as a key (keys.py).
-Own = namedtuple("Own", "path item stands says_laws types key", defaults=(frozenset(),))
+# A type of one's own: where it is imported from, its declaration if that is in the file, how many types its decoder names, one
+# where it is imported, and what it is as a key (keys.py).
+Own = namedtuple("Own", "path item types key", defaults=(frozenset(),))
 # A type that the library writes and reads: where it is imported from, how many types and how many numbers it takes, and whether it
 # can be a set's element or a map's key ("parts": if what it holds can).
 Known = namedtuple("Known", "path types numbers key")
@@ -37,12 +36,10 @@ TYPES = {
     "PhantomData": Known("std::marker::PhantomData", 1, 0, "parts"),
     "Duration": Known("std::time::Duration", 0, 0, "no"),
     "Uuid": Known("uuid::Uuid", 0, 0, "yes"),
+    "Absent": Known("bitcode::Absent", 1, 0, "no"),
 }
 # The first type of these has to be a key, and to have this derive.
 KEYED = {"BTreeSet": "Ord", "HashSet": "Hash", "BinaryHeap": "Ord", "BTreeMap": "Ord", "HashMap": "Hash"}
-# These take no memory of their own.
-FREE = {"bool", "char", "ArrayString", "ArrayVec", "Option", "Result", "PhantomData", "Duration", "Uuid", *INTEGERS,
-        *(f"NonZero{name.capitalize()}" for name in INTEGERS)}
 INSTEAD = {
     "f32": "keep its bits, `x.to_bits()`, in a `u32`",
     "f64": "keep its bits, `x.to_bits()`, in a `u64`",
@@ -80,6 +77,11 @@ def of_text(type):
     return type.name + (f"<{', '.join(map(of_text, type.parts))}>" if type.parts else "")
 
 
+def is_never(item):
+    """Whether this is an enum without variants."""
+    return word_of(item) == "enum" and not item.variants
+
+
 def is_unsized(type):
     """Whether this is a text or a slice, which only a pointer holds."""
     return type.kind == "slice" or type.kind == "path" and type.name == "str"
@@ -91,12 +93,6 @@ def types_in(type, own):
         return 1
     here = own[type.name].types if type.kind == "path" and type.name in own else 0 if type.kind in ("tuple", "number", "lifetime", "reference") else 1
     return here + sum(types_in(part, own) for part in type.parts)
-
-
-def says_laws(type, own):
-    """Whether the type says its laws as data: what is imported and was not written by this script may not. Keys do by what they promise as such."""
-    parts = type.parts[1:] if type.name in KEYED else type.parts
-    return (type.kind != "path" or type.name not in own or own[type.name].says_laws) and all(says_laws(part, own) for part in parts)
 
 
 def can_be_key(type, own, words):
@@ -122,39 +118,7 @@ def no_key(type, own, derive):
     missing = [word for word in ("PartialEq", "Eq", "PartialOrd", "Ord", *(("Hash",) if derive == "Hash" else ())) if word not in item.derives]
     if missing:
         return f"derive `{', '.join(missing)}` for `{type.name}` too"
-    if word_of(item) == "struct" and takes_memory(type, own):
-        fields = ", ".join(of_text(field.type) for field in item.fields)
-        return f"`{type.name}` takes memory, so write its fields themselves, `{fields if len(item.fields) == 1 else f'({fields})'}`"
     return ""
-
-
-def takes_memory(type, own):
-    """Whether a value of the type takes memory of its own, as a text or a list does; of what is imported that is not known."""
-    if type.kind != "path":
-        return any(takes_memory(part, own) for part in type.parts)
-    if type.name in own:
-        item = own[type.name].item
-        inside = not item or any(takes_memory(field.type, own) for field in fields_of(item))
-    else:
-        inside = type.name in TYPES and type.name not in FREE
-    return inside or any(takes_memory(part, own) for part in type.parts)
-
-
-def inside(item, own):
-    """What the types of one's own in the item's fields stand for, of those that take memory: the toolchain states no impl without it."""
-    names = []
-
-    def collect(type):
-        if type.kind == "path" and type.name in own and own[type.name].stands and of_text(type) not in names:
-            if takes_memory(type, own) or set(names_in(type)) & set(item.types):
-                names.append(of_text(type))
-        for part in type.parts:
-            collect(part)
-
-    for field in fields_of(item):
-        collect(field.type)
-    pairs = [f"(<{name} as StandsFor>::Parts, <{name} as StandsFor>::Inside)" for name in names]
-    return pairs[0] if len(pairs) == 1 else f"({', '.join(pairs)})"
 
 
 class Checker:
@@ -219,8 +183,16 @@ class Checker:
         if known.path:
             self.imports.add(known.path)
             self.crates |= {known.path.split("::")[0]} - {"std"}
+        if type.name == "Absent":
+            self.absent(types[0])
         for part in types:
-            (self.marked if type.name == "PhantomData" else self.check)(part)
+            (self.marked if type.name in ("PhantomData", "Absent") else self.check)(part)
+
+    def absent(self, type):
+        """Stops at a type that has values."""
+        item = self.own[type.name].item if type.kind == "path" and type.name in self.own else None
+        if type.kind != "path" or type.name not in self.own or item and not is_never(item):
+            raise Refused(type.line, "`Absent` holds an enum without variants: write the value itself")
 
     def marked(self, type):
         """Sees that what a marker names is there; nothing of it is written."""
@@ -249,6 +221,8 @@ class Checker:
 
     def own_type(self, type):
         path, item, *_ = self.own[type.name]
+        if item and is_never(item):
+            raise Refused(type.line, f"`{type.name}` has no values: write `Absent<{type.name}>`")
         taken = len(type.parts) if not item else len(item.types) + bool(item.lifetime)
         if len(type.parts) != taken:
             raise Refused(type.line, f"`{type.name}` takes {taken} parameters")

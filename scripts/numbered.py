@@ -3,14 +3,14 @@
 from string import Template
 
 from known_types import MOST_TYPES, of_text, types_in
-from structs import bounds, in_a_head, laws_as_data, paths, quoted
+from structs import bounds, in_a_head, paths, quoted
 from variants import LETTERS, arms, declaration, held_type, names_of, one_to_one, payload, value
 
 # So many variants that follow each other have their coders together, at the most: crates/bitcode_enums/src/variants.
 MOST_TOGETHER = 4
 ORDINALS = ["first", "second", "third", "fourth"]
-# So many groups of an enum that borrows have their coders together: of halves of halves the borrow checker covers none.
-MOST_HALVES = 2
+# So many groups of an enum that borrows have their coders together: of groups of groups the borrow checker covers none.
+MOST_BORROWED = 2
 # Of more groups than these each is a part by itself: the checker takes far longer for a few large parts.
 MOST_GROUPS = 4
 # Of more than so much text the type of a group's encoders has a name.
@@ -19,33 +19,36 @@ MOST_IN_PLACE = 48
 MOST_FOUND = 1
 
 FILE = """//! `$simple` is written and read by the numbers of its variants. What is below its declaration was written by `scripts/new_type`.
-ghost use Rattle.std.specs.Prelude.{$prelude};
+ghost use Rattle.std.specs.Prelude.{◌≡◌};
 ghost use Rattle.bitcode.specs.ByHand.{$by_hand};
-${of_order}ghost use Rattle.$crate.specs.declared.$module.$ghost.{$ghost};
+ghost use Rattle.$crate.specs.declared.$module.$ghost.{$ghost};
 
 $uses
 $declaration
 impl$life Enum for $name {
-    ghost each = { each_variant ($payloads_of) (λ at. elim [ $payload ]) $values };
-
-    ghost sized = { refl };
+    ghost each = { each_variant ($payloads_of) refl (λ at. elim [ $payload ]) $values ($one_to_one) };
 
     fn variant(&self) -> u8 {
         match self {$index}
     }
+}
 
-    ghost one_to_one = { $one_to_one };
+impl$life Shaped for $name {
+    ghost data = { enum_data ⟦<$name as Enum>⟧.each };
+
+    fn told(&self) {
+        let _number = self.variant();
+    }
 }
 
 impl$life EnumOf<$count> for $name {
-    ghost count = { refl };
+    ghost counted = { (refl, refl) };
+
+    ghost lists_variants = { λ t d listed. listed };
+
+    ghost makes_variants = { λ d t made. made };
 }
 
-impl$life HeldIn for $name {
-    type Holder = Held<$count, $name>;
-}
-
-$payload_of_all
 $groups
 ${all_columns}type Decoders<$input> = $decoders;
 
@@ -55,56 +58,37 @@ pub struct $columns {
     all: Columns,
 }
 
-impl AllColumns<$count> for $columns {
-    ghost held = { columns_in (λ c. c.all) ⟦<Columns as VariantColumns>⟧.columns };
+impl VariantColumns for $columns {
+    ghost columns = { columns_in (λ c. c.all) ⟦<Columns as VariantColumns>⟧.columns };
 
     fn new(alloc: Global) -> Self {
         $columns { all: VariantColumns::new(alloc) }
     }
 
-    fn collect(&mut self, number: usize, out: &mut Vec<u8>) -> Result<(), Error> {
-        self.all.collect_payloads(number, out)
+    fn collect_all(&mut self, out: &mut Vec<u8>) -> Result<(), Error> {
+        self.all.collect_all(out)
     }
 
-    fn clear(&mut self, number: usize) {
-        self.all.clear_payloads(number);
+    fn clear_all(&mut self) {
+        self.all.clear_all();
     }
-
-    ghost sized = { λ c. refl };
 }
 
-impl$life WritesPayloads<$count, $columns> for $name {
-    fn write_payload(&self, to: &mut $columns) -> Result<(), Error> {
-        $write(self, &mut to.all)
+impl$life WritesVariants<At<0>, At<$count>, $columns> for $name {
+    fn write(&self, to: &mut $columns) -> Result<(), Error> {
+        WritesVariants::<At<0>, At<$count>, Columns>::write(self, &mut to.all)
     }
 
-    ghost of_shapes = { λ c. refl };
+    ghost are_columns = { λ c. (refl, refl) };
 }
 
-$parts${whole}impl<$input> AllPayloads<$input, $count, $name> for $holder {
-    ghost held = { $held };
-
-    fn new(alloc: Global) -> Self {
-        $made
-    }
-
-    fn read_at(&mut self, number: usize, input: &mut &$input [u8], k: usize, strict: bool) -> Result<bool, Error> {
-        VariantPayloads::<$name>::read_payloads($lent, number, input, k, strict)
-    }
-
-    fn decode_at(&mut self, number: usize) -> Result<$name, Error> {
-        $inner.decode_payload(number)
-    }
-
-    fn sized(&self) {}
-}
-
+$parts$whole
 impl$life HasEncoder for $name {
     type Encoder = EnumEncoder<$count, $columns>;
 }
 
 impl<$input> HasDecoder<$input> for $name {
-    type Decoder = PartsDecoder<Held<$count, $name>, EnumDecoder<$input, $count, $name, $holder>>;
+    type Decoder = EnumDecoder<$input, $count, $name, $holder>;
 }
 $owned"""
 
@@ -112,7 +96,7 @@ OWNED = """
 impl DecodeOwned for $name {}
 """
 
-GROUP = """${short_names}impl$life Variants$size<At<$first>, $short> for $name {
+GROUP = """${short_names}impl$life Variants$size<At<$first>, At<$end>, $short> for $name {
     ghost values = { ($values) };
 
     fn of_payload(payload: OneOf$size<$types>) -> Self
@@ -121,18 +105,20 @@ GROUP = """${short_names}impl$life Variants$size<At<$first>, $short> for $name {
         match payload {$made}
     }
 
-    ghost are = { ($are) };
+    ghost are = { ($are, refl) };
 }
 
-${alias}impl$life WritesVariants<$encoders> for $name {
+${alias}impl$life WritesVariants<At<$first>, At<$end>, $encoders> for $name {
     fn write(&self, to: &mut $encoders) -> Result<(), Error> {
         match self {$encode}
     }
+
+    ghost are_columns = { λ c. (refl, refl) };
 }
 """
-# A part is a struct, since the borrow checker covers no decoder that names more than MOST_TYPES types. It holds an `Opaque`, since the
+# A part is a struct, since the borrow checker covers no decoder that names more than MOST_TYPES types. It holds a `NotCompared`, since the
 # checker compares structs field by field where they are dropped.
-PART = """type $alias<$input> = Opaque<$decoders>;
+PART = """type $alias<$input> = NotCompared<$decoders>;
 
 /// The payloads of the variants $first to $last of `$simple`.
 #[derive(Drop)]
@@ -140,29 +126,21 @@ pub struct $part<$input> {
     all: $alias<$input>,$mark
 }
 
-impl<$input> VariantPayloads<$input, $name> for $part<$input> {
-    ghost first = { $first };
-
-    ghost end = { $end };
-
-    ghost in_turn = { true };
-
-    ghost held = { payloads_in (λ d. d.all) ⟦<$alias<$input> as VariantPayloads<$input, $name>>⟧.held };
+"""
+# What reads the payloads of some variants, or of all of them.
+PAYLOADS = """impl<$input> VariantPayloads<$input, At<$first>, At<$end>, $name> for $part<$input> {
+    ghost held = { payloads_in (λ d. d.all) ⟦<$alias<$input> as VariantPayloads<$input, At<$first>, At<$end>, $name>>⟧.held };
 
     fn new(alloc: Global) -> Self {
-        $part { all: VariantPayloads::<$name>::new(alloc),$marked }
+        $part { all: VariantPayloads::<At<$first>, At<$end>, $name>::new(alloc),$marked }
     }
 
-    fn first(&self) -> usize {
-        $first
+    fn read_at(&mut self, number: usize, input: &mut &$input [u8], k: usize, strict: bool) -> Result<bool, Error> {
+        VariantPayloads::<At<$first>, At<$end>, $name>::read_at(&mut self.all, number, input, k, strict)
     }
 
-    fn read_payloads(&mut self, number: usize, input: &mut &$input [u8], k: usize, strict: bool) -> Result<bool, Error> {
-        VariantPayloads::<$name>::read_payloads(&mut self.all, number, input, k, strict)
-    }
-
-    fn decode_payload(&mut self, number: usize) -> Result<$name, Error> {
-        self.all.decode_payload(number)
+    fn decode_at(&mut self, number: usize) -> Result<$name, Error> {
+        VariantPayloads::<At<$first>, At<$end>, $name>::decode_at(&mut self.all, number)
     }
 
     fn sized(&self) {}
@@ -170,7 +148,7 @@ impl<$input> VariantPayloads<$input, $name> for $part<$input> {
 
 """
 # The columns of several groups are a struct, too: one that names more types is covered no more than such a decoder.
-COLUMN_PART = """type $alias = Opaque<$columns>;
+COLUMN_PART = """type $alias = NotCompared<$columns>;
 
 /// The columns of the payloads of the variants $first to $last of `$simple`.
 #[derive(Drop)]
@@ -179,46 +157,34 @@ pub struct $part {
 }
 
 impl VariantColumns for $part {
-    ghost first = { $first };
-
-    ghost end = { $end };
-
-    ghost in_turn = { true };
-
     ghost columns = { columns_in (λ c. c.all) ⟦<$alias as VariantColumns>⟧.columns };
 
     fn new(alloc: Global) -> Self {
         $part { all: VariantColumns::new(alloc) }
     }
 
-    fn first(&self) -> usize {
-        $first
+    fn collect_all(&mut self, out: &mut Vec<u8>) -> Result<(), Error> {
+        self.all.collect_all(out)
     }
 
-    fn collect_payloads(&mut self, number: usize, out: &mut Vec<u8>) -> Result<(), Error> {
-        self.all.collect_payloads(number, out)
+    fn clear_all(&mut self) {
+        self.all.clear_all();
     }
-
-    fn clear_payloads(&mut self, number: usize) {
-        self.all.clear_payloads(number);
-    }
-
-    ghost ordered = { λ turn. lit≤ tt };
-
-    ghost sized = { λ turn c. refl };
 }
 
-impl$life WritesVariants<$part> for $name {
+impl$life WritesVariants<At<$first>, At<$end>, $part> for $name {
     fn write(&self, to: &mut $part) -> Result<(), Error> {
-        WritesVariants::<$alias>::write(self, &mut to.all)
+        WritesVariants::<At<$first>, At<$end>, $alias>::write(self, &mut to.all)
     }
+
+    ghost are_columns = { λ c. (refl, refl) };
 }
 
 """
 WHOLE = """/// The payloads that values of `$simple` are made of.
 #[derive(Drop)]
-pub struct $payloads<$input> {
-    all: Decoders<$input>,$mark
+pub struct $part<$input> {
+    all: $alias<$input>,$mark
 }
 
 """
@@ -256,10 +222,10 @@ def parts_of(groups, weights, most):
     return parts
 
 
-def halves(groups):
-    """The type of the coders of all groups, in twos."""
+def in_twos(groups):
+    """The type of the coders of all groups, in twos. Each group is given by the number of its first variant and the type of its coders."""
     middle = (len(groups) + 1) // 2
-    return groups[0] if len(groups) == 1 else f"Halves<{halves(groups[:middle])}, {halves(groups[middle:])}>"
+    return groups[0][1] if len(groups) == 1 else f"TwoGroups<At<{groups[middle][0]}>, {in_twos(groups[:middle])}, {in_twos(groups[middle:])}>"
 
 
 class Numbered:
@@ -269,7 +235,7 @@ class Numbered:
         self.enum, self.crate, self.module, self.count = enum, crate, module, len(enum.variants)
         weights = [sum(types_in(field.type, own) for field in variant.fields) for variant in enum.variants]
         self.groups = groups_of(weights)
-        most = MOST_HALVES if enum.lifetime else len(self.groups) if len(self.groups) <= MOST_GROUPS else 1
+        most = MOST_BORROWED if enum.lifetime else len(self.groups) if len(self.groups) <= MOST_GROUPS else 1
         self.parts = parts_of(self.groups, weights, most)
         self.column_parts = parts_of(self.groups, weights, len(self.groups))
         self.is_split = len(self.column_parts) > 1
@@ -315,6 +281,7 @@ class Numbered:
             short=", ".join(short),
             short_names=short_names,
             first=numbers[0],
+            end=numbers[-1] + 1,
             types=self.types_of(numbers),
             name=self.name,
             values=", ".join(f"λ p. {self.built(variant)}" for _, variant in rows),
@@ -327,42 +294,38 @@ class Numbered:
 
     def decoders(self, groups):
         """The decoders of these groups: their type, and a mark of the input's lifetime and its value where none of them keeps a part of the input."""
-        type = halves([f"DecodersOf{len(group)}<{self.input}, At<{group[0]}>, {self.types_of(group)}>" for group in groups])
+        type = in_twos([(group[0], f"DecodersOf{len(group)}<{self.input}, At<{group[0]}>, {self.types_of(group)}>") for group in groups])
         borrows = self.enum.lifetime or not all(is_nothing(field.type) for group in groups for n in group for field in self.enum.variants[n].fields)
         return {"decoders": type, "mark": "" if borrows else MARK, "marked": "" if borrows else MARKED}
 
-    def part(self, groups):
-        """The struct that holds the decoders of these groups, and its name."""
+    def part(self, groups, whole=False):
+        """The struct that holds the decoders of these groups, or of all of them, and its name."""
         first, end = groups[0][0], groups[-1][-1] + 1
-        name, alias = f"{self.enum.name}Payloads{first}To{end - 1}", f"Decoders{first}To{end - 1}"
-        return Template(PART).substitute(self.decoders(groups), part=name, alias=alias, simple=self.enum.name, name=self.name, input=self.input, first=first, last=end - 1, end=end), name
+        of = "" if whole else f"{first}To{end - 1}"
+        row = {**self.decoders(groups), "part": f"{self.enum.name}Payloads{of}", "alias": f"Decoders{of}", "simple": self.enum.name, "name": self.name,
+               "input": self.input, "first": first, "last": end - 1, "end": end}
+        return Template((WHOLE if whole else PART) + PAYLOADS).substitute(row), row["part"]
 
     def columns(self):
-        """The encoders of all variants: halves of the encoders of groups, or of structs that hold those of several groups."""
-        of_groups = [[self.encoders(group)[0] for group in part] for part in self.column_parts]
+        """The encoders of all variants: those of groups in twos, or structs that hold those of several groups."""
+        of_groups = [[(group[0], self.encoders(group)[0]) for group in part] for part in self.column_parts]
         if not self.is_split:
-            return f"type Columns = {halves(of_groups[0])};\n\n" if len(self.groups) > 1 else ""
+            return f"type Columns = {in_twos(of_groups[0])};\n\n" if len(self.groups) > 1 else ""
         texts, names = [], []
         for part, types in zip(self.column_parts, of_groups):
             first, last = part[0][0], part[-1][-1]
-            names.append(f"{self.enum.name}Columns{first}To{last}")
-            texts.append(Template(COLUMN_PART).substitute(alias=f"Columns{first}To{last}", columns=halves(types), part=names[-1], first=first, last=last, end=last + 1, simple=self.enum.name, life=self.life, name=self.name))
-        return "".join(texts) + f"type Columns = {halves(names)};\n\n"
+            names.append((first, f"{self.enum.name}Columns{first}To{last}"))
+            texts.append(Template(COLUMN_PART).substitute(alias=f"Columns{first}To{last}", columns=in_twos(types), part=names[-1][1], first=first, last=last, end=last + 1, simple=self.enum.name, life=self.life, name=self.name))
+        return "".join(texts) + f"type Columns = {in_twos(names)};\n\n"
 
     def payloads(self):
         """The decoders of all variants, in one struct, or in one struct for each part."""
-        held = f"⟦<Decoders<{self.input}> as VariantPayloads<{self.input}, {self.name}>>⟧.held"
         if len(self.parts) > 1:
             texts, names = zip(*map(self.part, self.parts))
-            return {
-                "parts": "".join(texts), "decoders": halves([f"{name}<{self.input}>" for name in names]), "whole": "", "holder": f"Decoders<{self.input}>",
-                "held": held, "made": f"VariantPayloads::<{self.name}>::new(alloc)", "lent": "self", "inner": "self", "mark": "",
-            }
-        row, payloads = self.decoders(self.groups), f"{self.enum.name}Payloads"
-        return {
-            "parts": "", **row, "whole": Template(WHOLE).substitute(row, simple=self.enum.name, payloads=payloads, input=self.input), "holder": f"{payloads}<{self.input}>",
-            "held": f"payloads_in (λ d. d.all) {held}", "made": f"{payloads} {{ all: VariantPayloads::<{self.name}>::new(alloc),{row['marked']} }}", "lent": "&mut self.all", "inner": "self.all",
-        }
+            decoders = in_twos([(part[0][0], f"{name}<{self.input}>") for part, name in zip(self.parts, names)])
+            return {"parts": "".join(texts), "decoders": decoders, "whole": "", "holder": f"Decoders<{self.input}>"}
+        text, name = self.part(self.groups, True)
+        return {"parts": "", "decoders": self.decoders(self.groups)["decoders"], "whole": text, "holder": f"{name}<{self.input}>"}
 
     def built(self, variant):
         """A function of a payload, which gives the value that has it, in a ghost member."""
@@ -371,7 +334,7 @@ class Numbered:
 
     def variants(self):
         """What the enum says of its variants: the payloads of each, the payload of a value, and the value that has a payload."""
-        *before, last = [f"⟦<{type} as Payload>⟧.payload" for type in self.types]
+        *before, last = [f"⟦<{type} as Shaped>⟧.data" for type in self.types]
         payload_of = [(" ".join([f"{quoted(self.enum.name)}.{variant.name}", *LETTERS[: len(variant.fields)]]), payload(list(LETTERS[: len(variant.fields)]), "tt")) for variant in self.enum.variants]
         *first, end = [f"λ p. ({self.built(variant)}, refl)" for variant in self.enum.variants]
         return {
@@ -383,13 +346,13 @@ class Numbered:
     def file(self, imports):
         """The file of the type."""
         payloads = self.payloads()
-        imports = {*imports, "std::marker::PhantomData"} if MARK in payloads["parts"] + payloads["mark"] else imports
-        used = set("AllColumns AllPayloads At Enum EnumDecoder EnumEncoder EnumOf Error HasDecoder HasEncoder Held HeldIn PartsDecoder Payload "
-                   "StandsFor VariantColumns VariantPayloads WritesPayloads WritesVariants told_as".split())
+        imports = {*imports, "std::marker::PhantomData"} if MARK in payloads["parts"] + payloads["whole"] else imports
+        used = set("At Enum EnumDecoder EnumEncoder EnumOf Error HasDecoder HasEncoder Shaped "
+                   "VariantColumns VariantPayloads WritesVariants told_as".split())
         used |= {f"{kind}{len(numbers)}" for numbers in self.groups for kind in ("DecodersOf", "EncodersOf", "OneOf", "Variants")}
         has_parts = len(self.parts) > 1 or self.is_split
-        used |= ({"Opaque"} if has_parts else set()) | ({"write_any"} if self.is_split else set())
-        used |= ({"Halves"} if len(self.groups) > 1 else set()) | (set() if self.enum.lifetime else {"DecodeOwned"})
+        used |= {"NotCompared"} if has_parts else set()
+        used |= ({"TwoGroups"} if len(self.groups) > 1 else set()) | (set() if self.enum.lifetime else {"DecodeOwned"})
 
         def numbered(number, variant):
             names = names_of(variant)
@@ -407,16 +370,12 @@ class Numbered:
             count=self.count,
             uses="\n".join(sorted([f"use bitcode::{{{', '.join(sorted(used))}}};", "use std::alloc::Global;", *(f"use {path};" for path in imports)])) + "\n",
             declaration=declaration(self.enum),
-            prelude="◌≡◌, refl" + (", true" if has_parts else ""),
-            by_hand=", ".join(sorted({"columns_in", "each_variant", "is_variant", "last_payload", "payload_and", "payloads_in", "stood_payload", *(f"of_one_of_{len(numbers)}" for numbers in self.groups)})),
+            by_hand=", ".join(sorted({"columns_in", "each_variant", "enum_data", "is_variant", "last_payload", "payload_and", "payloads_in", "refl", *(f"of_one_of_{len(numbers)}" for numbers in self.groups)})),
             **self.variants(),
             one_to_one=one_to_one(self.enum),
-            payload_of_all=laws_as_data(self.enum, f"Held<{self.count}, {self.name}>"),
             index=arms(self.enum, lambda number, variant: value(self.enum, variant), numbered),
             groups="\n".join(map(self.group, self.groups)),
             all_columns=self.columns(),
-            write="write_any::<Columns, _>" if self.is_split else "WritesVariants::<Columns>::write",
-            of_order="ghost use Rattle.std.proofs.Common.{lit≤};\n" if self.is_split else "",
             **payloads,
             owned="" if self.enum.lifetime else Template(OWNED).substitute(name=self.name),
         )

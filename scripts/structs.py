@@ -4,7 +4,7 @@ import re
 from string import Template
 
 from declarations import Refused, fields_of
-from known_types import MOST_LEFT, MOST_TYPES, Checker, inside, of_text, says_laws, takes_memory, types_in
+from known_types import MOST_LEFT, MOST_TYPES, Checker, of_text, types_in
 
 # The names of fields without a name.
 ORDINALS = "first second third fourth fifth sixth seventh eighth ninth tenth eleventh twelfth thirteenth fourteenth fifteenth sixteenth".split()
@@ -24,39 +24,31 @@ QUOTED = set("data record deriving module package open abbrev axiom unfold unfol
 NOT_DERIVED = {"Encode", "Decode", "Serialize", "Deserialize", "Drop"}
 
 HEAD = """//! $about
-ghost use Rattle.std.specs.Prelude.{refl};
 $by_hand
 $uses
 """
 BODY = """$declaration
-${alias}impl$shaped StandsFor for $name {
-$ghost_use    type Parts = $parts;
-    type Inside = $inside;
+${alias}impl$shaped Shaped for $name {
+$ghost_use    ghost data = { $data };
 
-    ghost parts = { $ghost_parts };
-
-    ghost of_parts = { λ p. ($ghost_made, refl) };
-
-    fn told_parts(&self) {$told}
-
-    ghost one_to_one = { $one_to_one };
+    fn told(&self) {$told}
 }
 
-impl$made FromParts for $name {
-    fn from_parts($pattern: $parts) -> Self {
-        $built
+impl$shaped ConvertFrom<$parts> for $name {
+    fn convert_from(_alloc: Global, $taken: $parts) -> Result<Self, Error> {
+        ${moved}Ok($built)
     }
+
+    ghost same_shape = { refl };
 }
 
-$payload${encoded}${apart}impl$has_decoder HasDecoder<$input> for $name {
+${encoded}${apart}impl$has_decoder HasDecoder<$input> for $name {
     type Decoder = $decoder;
 }
 $owned"""
 # A field that a struct lends, and the encoder of all of them.
 FIELD = """impl$parameters HasField<$number> for $name {
 ${ghost_use}    type Field = $type;
-
-    type Inside = $inside;
 
     ghost field = { $ghost_field };
 
@@ -71,13 +63,11 @@ IN_FIELDS = """type Fields$life = <$nested as HasEncoder>::Encoder;
 impl$encoded InFields<Fields$life> for $name {
     type Numbers = $numbers;
 
-    type Inside = $own_inside;
+    type Inside = $inside;
 
     ghost same_shape = { refl };
 
-    ghost to_fields = { $listed };
-
-    ghost of_fields = { $listed };
+    ghost same_listings = { $alike };
 }
 
 impl$has_encoder HasEncoder for $name {
@@ -126,11 +116,8 @@ impl<$input> Decoder<$type> for $apart<$input> {
 OWNED = """
 impl$parameters DecodeOwned for $name {}
 """
-# The laws of a type as data, by those of what it stands for.
-PAYLOAD = """impl$parameters Payload for $name {
-    ghost payload = { stood_payload ⟦<$name as StandsFor>⟧.parts ⟦<$name as StandsFor>⟧.of_parts ⟦<$parts as Payload>⟧.payload };
-}
-"""
+# What is known of a type, by what is known of the tuple that it corresponds to, one to one.
+DATA = "data_as ($ghost_parts) (λ p. ($ghost_made, refl)) ($one_to_one) ⟦<$parts as Shaped>⟧.data"
 
 
 def quoted(name):
@@ -160,9 +147,9 @@ def paths(count, whole="p"):
     return [whole] if count == 1 else paths(half, f"{whole}.0") + paths(count - half, f"{whole}.1")
 
 
-def listed(count):
-    """That the listings of so many fields are those of their nested pairs, and the other way round."""
-    return "(λ d h. h)" if count == 1 else f"(listed_pair {listed(count // 2)} {listed(count - count // 2)})"
+def alike(count):
+    """That the listings of so many fields are those of their nested pairs."""
+    return "field_alike" if count == 1 else f"(pair_alike {alike(count // 2)} {alike(count - count // 2)})"
 
 
 def places(count, whole="p"):
@@ -229,21 +216,22 @@ def in_a_head(item, types, prefix, first=0):
     return [names.get(type, type) for type in types], aliases
 
 
+def inside(item, types):
+    """A type that names those of all fields and of all that is inside them: the toolchain states no impl without it."""
+    if item.types:
+        return halved(types) if types else "()"
+    return f"<{item.name}{bounds(item, '')} as HasDecoder<{item.lifetime or chr(39) + 'static'}>>::Decoder"
+
+
 def fields_text(item, own, lent, law, ghost_use="", nested=paired):
     """How the fields are lent, of the terms and bodies that give each of them, in which nested pairs they are encoded, and by what."""
     types, name = [of_text(field.type) for field in fields_of(item)], item.name + bounds(item, "")
-    owns_memory = any(takes_memory(field.type, own) for field in fields_of(item))
-    texts, row = [], {"own_inside": f"(<{name} as StandsFor>::Parts, <{name} as StandsFor>::Inside)" if item.types or owns_memory else "()"}
+    texts = []
     for number, (type, (ghost_field, body)) in enumerate(zip(types, lent)):
-        texts.append(Template(FIELD).substitute(parameters=bounds(item, "Shaped"), number=number, type=type, name=name, inside=f"<{name} as StandsFor>::Inside" if item.types or owns_memory else "()", ghost_use=ghost_use, ghost_field=ghost_field, lent=body))
+        texts.append(Template(FIELD).substitute(parameters=bounds(item, "Shaped"), number=number, type=type, name=name, ghost_use=ghost_use, ghost_field=ghost_field, lent=body))
     numbers = [f"Nth<{number}>" for number in range(len(types))]
-    row |= {"nested": nested(types), "numbers": nested(numbers)} if types else {"nested": "()", "numbers": "()"}
-    return "".join(texts) + Template(IN_FIELDS).substitute(row, life=bounds(item, ""), encoded=bounds(item, "Encode"), has_encoder=bounds(item, "HasEncoder"), name=name, listed="λ t d h. h" if len(types) < 2 else "λ t. " + law[1:-1])
-
-
-def laws_as_data(item, parts):
-    """What a type says of its laws as data: those of what it stands for."""
-    return Template(PAYLOAD).substitute(parameters=bounds(item, "Shaped + Payload"), name=item.name + bounds(item, ""), parts=parts)
+    row = {"nested": nested(types), "numbers": nested(numbers)} if types else {"nested": "()", "numbers": "()"}
+    return "".join(texts) + Template(IN_FIELDS).substitute(row, life=bounds(item, ""), encoded=bounds(item, "Encode"), has_encoder=bounds(item, "HasEncoder"), name=name, inside=inside(item, types), alike="λ t. " + (law if len(types) < 2 else law[1:-1]))
 
 
 def types_left(item, own):
@@ -275,7 +263,7 @@ def decoders(types, apart, input):
 def decoder(item, own, input, parts):
     """The decoder of the item, and the decoder structs of fields that have one."""
     inner, apart = decoder_of_parts(item, own, input, parts)
-    return f"PartsDecoder<{parts}, {inner}>" if apart else f"DecoderOfFields<{input}, {parts}>", apart
+    return f"ConvertFromDecoder<{parts}, {inner}>" if apart else f"DecoderOfFields<{input}, {parts}>", apart
 
 
 def decoder_of_parts(item, own, input, parts):
@@ -296,19 +284,16 @@ def tuple_text(item, imports, own, lent, **row):
     """The file of what stands for the tuple of its fields, of what is said of these."""
     is_owned = not item.lifetime
     fields, name, input = fields_of(item), item.name + bounds(item, ""), item.lifetime or "'a"
-    used = {"FromParts", "HasDecoder", "HasEncoder", "InFields", "StandsFor", "StructEncoder"}
+    used = {"ConvertFrom", "Error", "HasDecoder", "HasEncoder", "InFields", "Shaped", "StructEncoder"}
     used |= {"HasField", "Nth"} if fields else set()
-    used |= {"Shaped"} if fields or item.types else set()
-    used |= {"Encode", "Made"} if item.types else set()
+    used |= {"Encode"} if item.types else set()
     used |= {"DecodeOwned"} if is_owned else set()
-    tells = all(says_laws(field.type, own) for field in fields)
-    used |= {"Payload"} if tells else set()
     parts, alias = halved([of_text(field.type) for field in fields]) if fields else "()", "Parts" + bounds(item, "")
     is_long = len(row["pattern"]) + len(parts) > MOST_IN_LINE
     type_of_decoder, apart = decoder(item, own, input, alias if is_long else parts)
-    used |= {"Error", "PartsDecoder", "TupleDecoder"} if apart else {"DecoderOfFields"}
-    imports = {*imports, *({"bitcode::coder::{Decoder, HoldsData, View}", "std::alloc::Global"} if apart else ())}
-    by_hand = [*(["listed_pair"] if len(fields) > 1 else []), *(["stood_payload"] if tells else [])]
+    used |= {"ConvertFromDecoder", "TupleDecoder"} if apart else {"DecoderOfFields"}
+    imports = {*imports, "std::alloc::Global", *({"bitcode::coder::{Decoder, HoldsData, View}"} if apart else ())}
+    by_hand = ["data_as", "field_alike", *(["pair_alike"] if len(fields) > 1 else []), "refl"]
     lines = [f"use bitcode::{{{', '.join(sorted(used))}}};", *(f"use {path};" for path in sorted(imports))]
     row |= {
         "decoder": type_of_decoder,
@@ -316,15 +301,15 @@ def tuple_text(item, imports, own, lent, **row):
         "alias": f"type {alias} = {parts};\n\n" if is_long else "",
         "uses": "\n".join(sorted(lines)) + "\n",
         "name": name,
-        "inside": inside(item, own),
         "parts": alias if is_long else parts,
+        "taken": "parts" if is_long else row["pattern"],
+        "moved": f"let {row['pattern']} = parts;\n        " if is_long else "",
+        "data": Template(DATA).substitute(row, parts=alias if is_long else parts),
         "shaped": bounds(item, "Shaped"),
-        "made": bounds(item, "Made"),
-        "by_hand": f"ghost use Rattle.bitcode.specs.ByHand.{{{', '.join(by_hand)}}};\n" if by_hand else "",
-        "payload": laws_as_data(item, alias if is_long else parts) + "\n" if tells else "",
+        "by_hand": f"ghost use Rattle.bitcode.specs.ByHand.{{{', '.join(by_hand)}}};\n",
         "has_decoder": bounds(item, f"HasDecoder<{input}>", input),
         "input": input,
-        "encoded": fields_text(item, own, lent, listed(max(len(fields), 1)), row["ghost_use"]),
+        "encoded": fields_text(item, own, lent, alike(max(len(fields), 1)), row["ghost_use"]),
         "owned": Template(OWNED).substitute(parameters=bounds(item, "DecodeOwned"), name=name) if is_owned else "",
     }
     return Template(HEAD + BODY).substitute(row)

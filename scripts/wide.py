@@ -3,8 +3,8 @@
 from string import Template
 
 from declarations import Refused, fields_of
-from known_types import MOST_LEFT, MOST_TYPES, Checker, inside, names_in, of_text, says_laws, takes_memory, types_in
-from structs import APART, BODY, HEAD, OWNED, bounds, declaration, decoder, decoder_of_parts, fields_text, halved, initialized, laws_as_data, listed, paired, parameter, paths, places, quoted, types_left
+from known_types import MOST_LEFT, MOST_TYPES, Checker, names_in, of_text, types_in
+from structs import APART, BODY, DATA, HEAD, OWNED, alike, bounds, declaration, decoder, decoder_of_parts, fields_text, halved, initialized, paired, parameter, paths, places, quoted, types_left
 
 # A struct has no more fields than these, which name no more types: of more the borrow checker covers no encoder.
 MOST_WIDE = MOST_ENCODED = 48
@@ -33,21 +33,9 @@ def record_of(fields, place):
     return "; ".join(f"{quoted(field.name)} = {place}.{field.name}" for field in fields)
 
 
-def inside_of(parts, own):
-    """What the parts stand for, of those that take memory or types, as `inside` says it."""
-    names = [part.name + bounds(part, "") for part in parts if part.types or any(takes_memory(field.type, own) for field in part.fields)]
-    pairs = [f"(<{name} as StandsFor>::Parts, <{name} as StandsFor>::Inside)" for name in names]
-    return pairs[0] if len(pairs) == 1 else f"({', '.join(pairs)})"
-
-
-def has_inside(part, own):
-    """Whether types of one's own in the part take memory: the toolchain states no bound with a tuple of these."""
-    return inside(part, own) != "()"
-
-
 def types_named(parts, own, is_apart):
     """How many types the decoder of the parts names, where those that may be have a decoder struct of their own."""
-    return sum(1 if is_apart and not has_inside(part, own) else types_left(part, own)[0] for part in parts)
+    return sum(1 if is_apart else types_left(part, own)[0] for part in parts)
 
 
 def types_encoded(type, own):
@@ -73,23 +61,21 @@ def part_text(part, struct, number, own, is_apart):
     type_of_decoder = decoder(part, own, input, alias)[0]
     if is_apart:
         apart += Template(APART).substitute(simple=struct.name, apart=f"{struct.name}Decoder{number}", input=input, inner=inner, type=alias)
-        type_of_decoder = f"PartsDecoder<{alias}, {struct.name}Decoder{number}<{input}>>"
+        type_of_decoder = f"ConvertFromDecoder<{alias}, {struct.name}Decoder{number}<{input}>>"
     made = "; ".join(f"{quoted(field.name)} = {place}" for field, place in zip(fields, places(len(fields))))
-    tells = all(says_laws(field.type, own) for field in fields)
+    data = Template(DATA).substitute(ghost_parts=f"λ t. {halved([f't.{field.name}' for field in fields])}", ghost_made=f"record {{ {made} }}", one_to_one="λ t. refl", parts=alias)
     return Template(BODY).substitute(
-        declaration=declaration(part), alias=f"type {alias} = {halved(types)};\n\n", shaped=bounds(part, "Shaped"), name=name, ghost_use="", parts=alias,
-        inside=inside(part, own), ghost_parts=f"λ t. {halved([f't.{field.name}' for field in fields])}", ghost_made=f"record {{ {made} }}",
-        told="".join(f"\n        self.{field.name}.told();" for field in fields) + "\n    ", one_to_one="λ t. refl", made=bounds(part, "Made"),
-        pattern=halved([parameter(field.name) for field in fields]), built=f"{part.name} {{ {', '.join(map(initialized, fields))} }}",
-        payload=laws_as_data(part, alias) + "\n" if tells else "", encoded="", apart=apart, has_decoder=bounds(part, f"HasDecoder<{input}>", input), input=input,
+        declaration=declaration(part), alias=f"type {alias} = {halved(types)};\n\n", shaped=bounds(part, "Shaped"), name=name, ghost_use="", parts=alias, data=data,
+        told="".join(f"\n        self.{field.name}.told();" for field in fields) + "\n    ",
+        taken=halved([parameter(field.name) for field in fields]), moved="", built=f"{part.name} {{ {', '.join(map(initialized, fields))} }}", encoded="", apart=apart, has_decoder=bounds(part, f"HasDecoder<{input}>", input), input=input,
         decoder=type_of_decoder, owned="\n",
     ), bool(apart)
 
 
-def listed_parts(sizes):
-    """That the listings of parts with so many fields are those of the nested pairs of all fields, and the other way round."""
+def alike_parts(sizes):
+    """That the listings of parts with so many fields are those of the nested pairs of all fields."""
     half = len(sizes) // 2
-    return listed(sizes[0]) if len(sizes) == 1 else f"(listed_pair {listed_parts(sizes[:half])} {listed_parts(sizes[half:])})"
+    return alike(sizes[0]) if len(sizes) == 1 else f"(pair_alike {alike_parts(sizes[:half])} {alike_parts(sizes[half:])})"
 
 
 def wide_text(struct, own):
@@ -111,22 +97,20 @@ def wide_text(struct, own):
         raise Refused(struct.line, f"the fields name more than the {MOST_ENCODED} types of which the borrow checker covers an encoder: put some of them into a struct of their own, which is written by itself")
     texts, uses_apart = [], False
     for number, part in enumerate(parts):
-        text, has_apart = part_text(part, struct, number, own, is_apart and not has_inside(part, own))
+        text, has_apart = part_text(part, struct, number, own, is_apart)
         texts.append(text)
         uses_apart |= has_apart
-    tells, alias = all(says_laws(field.type, own) for field in struct.fields), "Parts" + bounds(struct, "")
+    alias = "Parts" + bounds(struct, "")
     whole = [part.name + bounds(part, "") for part in parts]
     found = [(field, f"{place}.{field.name}") for part, place in zip(parts, paths(len(parts))) for field in part.fields]
     names = {field.name for field in struct.fields}
     held = [f"part{number}{'_' * any(name.startswith('part') for name in names)}" for number in range(len(parts))]
     moved = "".join(f"let {part.name} {{ {', '.join(map(initialized, part.fields))} }} = {own_name};" for part, own_name in zip(parts, held))
-    used = {"DecoderOfFields", "FromParts", "HasDecoder", "HasEncoder", "HasField", "InFields", "Nth", "Shaped", "StandsFor", "StructEncoder"}
-    used |= {"Made"} if struct.types else set()
+    used = {"ConvertFrom", "DecoderOfFields", "Error", "HasDecoder", "HasEncoder", "HasField", "InFields", "Nth", "Shaped", "StructEncoder"}
     used |= set() if struct.lifetime else {"DecodeOwned"}
-    used |= {"Payload"} if tells else set()
-    used |= {"Error", "PartsDecoder"} if uses_apart else set()
+    used |= {"ConvertFromDecoder"} if uses_apart else set()
     used |= {"TupleDecoder"} if any("TupleDecoder<" in text for text in texts) else set()
-    imports = {*checker.imports, *({"bitcode::coder::{Decoder, HoldsData, View}", "std::alloc::Global"} if uses_apart else ())}
+    imports = {*checker.imports, "std::alloc::Global", *({"bitcode::coder::{Decoder, HoldsData, View}"} if uses_apart else ())}
     uses = sorted([f"use bitcode::{{{', '.join(sorted(used))}}};", *(f"use {path};" for path in imports)])
     sizes = [len(part.fields) for part in parts]
 
@@ -135,18 +119,20 @@ def wide_text(struct, own):
         rest = iter(items)
         return paired([paired([next(rest) for _ in range(size)]) for size in sizes])
 
+    data = Template(DATA).substitute(
+        ghost_parts=f"λ t. {paired([f'record {{ {record_of(part.fields, chr(116))} }}' for part in parts])}",
+        ghost_made="record { " + "; ".join(f"{quoted(field.name)} = {place}" for field, place in found) + " }", one_to_one="λ t. refl", parts=alias,
+    )
     body = Template(BODY).substitute(
-        declaration="", alias=f"type {alias} = {paired(whole)};\n\n", shaped=bounds(struct, "Shaped"), name=name, ghost_use="", parts=alias,
-        inside=inside_of(parts, own), ghost_parts=f"λ t. {paired([f'record {{ {record_of(part.fields, chr(116))} }}' for part in parts])}",
-        ghost_made="record { " + "; ".join(f"{quoted(field.name)} = {place}" for field, place in found) + " }",
-        told="".join(f"\n        self.{field.name}.told();" for field in struct.fields) + "\n    ", one_to_one="λ t. refl", made=bounds(struct, "Made"),
-        pattern=paired(held), built=f"{moved} {struct.name} {{ {', '.join(map(initialized, struct.fields))} }}", payload=laws_as_data(struct, alias) + "\n" if tells else "",
-        encoded=fields_text(struct, own, [(f"λ t. t.{field.name}", f"&self.{field.name}") for field in struct.fields], listed_parts(sizes), nested=nested), apart="", has_decoder=bounds(struct, f"HasDecoder<{input}>", input), input=input,
+        declaration="", alias=f"type {alias} = {paired(whole)};\n\n", shaped=bounds(struct, "Shaped"), name=name, ghost_use="", parts=alias, data=data,
+        told="".join(f"\n        self.{field.name}.told();" for field in struct.fields) + "\n    ",
+        taken=paired(held), moved=moved + " ", built=f"{struct.name} {{ {', '.join(map(initialized, struct.fields))} }}",
+        encoded=fields_text(struct, own, [(f"λ t. t.{field.name}", f"&self.{field.name}") for field in struct.fields], alike_parts(sizes), nested=nested), apart="", has_decoder=bounds(struct, f"HasDecoder<{input}>", input), input=input,
         decoder=f"DecoderOfFields<{input}, {alias}>",
         owned="" if struct.lifetime else Template(OWNED).substitute(parameters=bounds(struct, "DecodeOwned"), name=name),
     )
     head = Template(HEAD).substitute(
         about=f"`{struct.name}` corresponds to pairs of parts of its fields. What is below its declaration was written by `scripts/new_type`.",
-        by_hand=f"ghost use Rattle.bitcode.specs.ByHand.{{{', '.join(['listed_pair', *(['stood_payload'] if tells else [])])}}};\n", uses="\n".join(uses) + "\n",
+        by_hand=f"ghost use Rattle.bitcode.specs.ByHand.{{{', '.join(['data_as', 'field_alike', 'pair_alike', 'refl'])}}};\n", uses="\n".join(uses) + "\n",
     )
     return head + declaration(struct) + "\n" + "\n".join(texts) + body, checker.crates

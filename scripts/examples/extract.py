@@ -1,14 +1,15 @@
 #!/usr/bin/env python3
-"""Puts the Rust blocks of the pages and of the doc comments into the sources of one program, for scripts/checks/examples.
+"""Puts the Rust blocks of the pages and of the doc comments into the sources of one program, for
+scripts/checks/examples.sh.
 
     scripts/examples/extract.py FOLDER [FILE..]
 
 FOLDER is the program's. Each page or source file becomes a module of its src/, which begins with the lines of
-scripts/examples/head.txt; the names of the modules are printed. Without FILE these are README.md, CONTRIBUTING.md, docs/*.md and
-the library's crates.
+scripts/examples/head.rt.txt; the names of the modules are printed. Without FILE these are README.md, CONTRIBUTING.md,
+docs/*.md and the library's crates.
 
     ```rust              an example: items go into the module, statements into a test, which is run
-    ```rust,fragment     statements that are compiled and not run: they have the names of scripts/examples/fragment.txt
+    ```rust,fragment     statements that are compiled and not run, with the names of scripts/examples/fragment.rt.txt
     ```rust,new_type     declarations for scripts/new_type: they go to FOLDER/declared.txt
     ```rust,from:FILE    a quotation, as is any language with that word: each piece between lines `// ..` is in the file
     ```                  in a doc comment: a fragment
@@ -21,7 +22,8 @@ import re
 import sys
 
 ITEM = re.compile(r"(pub |fn |struct |enum |impl\b|type |const |trait |mod |#\[|ghost use |///)")
-# Crates whose doc comments show parts of what scripts/new_type writes, which scripts/checks/new_type compiles as a whole.
+# Crates whose doc comments show parts of what scripts/new_type writes, which scripts/checks/new_type.sh compiles as a
+# whole.
 LEFT = set()
 HERE = os.path.dirname(os.path.abspath(__file__))
 
@@ -78,7 +80,8 @@ def check_quotation(where, path, lines):
 
 
 def names_beside(path):
-    """The import of all that the module of a source file has, or that the nearest module above it which is public has."""
+    """The import of all that the module of a source file has, or that the nearest module above it which is public
+    has."""
     _crates, crate, _src, *parts = os.path.splitext(path)[0].split("/")
     modules, file = [crate], f"crates/{crate}/src/lib.rt"
     for part in parts if parts != ["lib"] else []:
@@ -113,13 +116,15 @@ def module_of(path, heads, declared):
         if ITEM.match(lines[0]):
             items += [f"// {path}:{number}", *lines, ""]
             if any(line.startswith("fn main(rt: HostRuntime)") for line in lines):
-                items += ["#[test]", f"fn line_{number}(rt: HostRuntime) -> Result<(), Error> {{", "    let _status = main(rt)?;", "    Ok(())", "}", ""]
+                items += ["#[test]", f"fn line_{number}(rt: HostRuntime) -> Result<(), Error> {{"]
+                items += ["    let _status = main(rt)?;", "    Ok(())", "}", ""]
             continue
         is_run = words == "rust"
         head = ["#[test]", f"fn line_{number}(rt: HostRuntime) -> Result<(), Fail> {{", "    let alloc = rt.alloc();"]
         if not is_run:
             head = [line.replace("$number", str(number)) for line in heads["fragment"]]
-        functions += [f"// {path}:{number}", *head, *("    " + line for line in statements(lines)), "    Ok(())", "}", ""]
+        functions += [f"// {path}:{number}", *head, *("    " + line for line in statements(lines))]
+        functions += ["    Ok(())", "}", ""]
     if not items and not functions:
         return None
     return "\n".join([f"//! The examples of {path}.", *uses, "", *items, *functions])
@@ -130,11 +135,14 @@ def main():
     if not paths:
         with open("crates.txt") as file:
             library = ["bitcode", *re.search(r"^bitcode: (.*)$", file.read(), re.M)[1].split()]
-        sources = [path for crate in library if crate not in LEFT for path in glob.glob(f"crates/{crate}/src/**/*.rt", recursive=True)]
+        sources = [
+            path for crate in library if crate not in LEFT
+            for path in glob.glob(f"crates/{crate}/src/**/*.rt", recursive=True)
+        ]
         paths = ["README.md", "CONTRIBUTING.md", *sorted(glob.glob("docs/*.md")), *sorted(sources)]
     heads, declared = {}, []
     for name in ("head", "fragment"):
-        with open(f"{HERE}/{name}.txt") as file:
+        with open(f"{HERE}/{name}.rt.txt") as file:
             heads[name] = file.read().rstrip("\n").split("\n")
     for path in paths:
         text = module_of(path, heads, declared)

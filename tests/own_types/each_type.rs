@@ -1,4 +1,5 @@
 //! With ample memory structs and scores are written and read back, and generic code reads them.
+use bitcode::own::Absent;
 use bitcode::{Error, Reason, decode, encode};
 use bitcode_own_types::amino_acid::AminoAcid;
 use bitcode_own_types::chest::Chest;
@@ -10,30 +11,15 @@ use bitcode_own_types::item::Item;
 use bitcode_own_types::keys::{lit_spots, sold_seats};
 use bitcode_own_types::message::Message;
 use bitcode_own_types::monster::Monster;
+use bitcode_own_types::msg::Msg;
 use bitcode_own_types::never::Never;
 use bitcode_own_types::one::One;
 use bitcode_own_types::order::Order;
 use bitcode_own_types::outcome::Outcome;
-use bitcode_own_types::player::Player;
 use bitcode_own_types::reply::Reply;
-use bitcode_own_types::saved::saved_and_loaded;
+use bitcode_own_types::saved::{saved_and_loaded, saved_monster};
 use bitcode_own_types::scores::Scores;
 use bitcode_own_types::two::Two;
-
-#[test]
-fn a_player_comes_back(rt: HostRuntime) -> Result<(), Error> {
-    let alloc = rt.alloc();
-    let player = Player {
-        name: "ab",
-        level: 7,
-        points: 32768,
-    };
-    let bytes = encode(alloc, &player)?;
-    assert!(rt; bytes.as_slice() == [2, 97, 98, 7, 2, 0, 128].as_slice());
-    let again: Player<'_> = decode(alloc, bytes.as_slice())?;
-    assert!(rt; again == player);
-    Ok(())
-}
 
 #[test]
 fn what_stands_for_its_fields_comes_back(rt: HostRuntime) -> Result<(), Error> {
@@ -59,6 +45,26 @@ fn what_stands_for_its_fields_comes_back(rt: HostRuntime) -> Result<(), Error> {
 }
 
 #[test]
+fn a_generic_enum_comes_back(rt: HostRuntime) -> Result<(), Error> {
+    let alloc = rt.alloc();
+    let one = encode(alloc, &Msg::One(7u8))?;
+    assert!(rt; one.as_slice() == [0, 7].as_slice());
+    let messages = vec![in alloc;
+        Msg::One(String::from_str(alloc, "ab")?),
+        Msg::Nothing,
+        Msg::Many(vec![in alloc; String::from_str(alloc, "c")?, String::from_str(alloc, "")?]?),
+    ]?;
+    let bytes = encode(alloc, &messages)?;
+    let again: Vec<Msg<String>> = decode(alloc, bytes.as_slice())?;
+    assert!(rt; again == messages);
+    // A byte of three variants has five digits in base 3: 5 is variant 2, and 3 is variant 0, whose field is missing.
+    assert!(rt; decode::<Msg<u8>>(alloc, &[5])? == Msg::Nothing);
+    let refused: Result<Msg<u8>, Error> = decode(alloc, &[3]);
+    assert!(rt; matches!(&refused, Err(error) if error.reason == Reason::Eof));
+    Ok(())
+}
+
+#[test]
 fn a_monster_comes_back(rt: HostRuntime) -> Result<(), Error> {
     let alloc = rt.alloc();
     let monster = Monster {
@@ -73,6 +79,7 @@ fn a_monster_comes_back(rt: HostRuntime) -> Result<(), Error> {
     assert!(rt; bytes.as_slice() == [6, 7, 2, 97, 98, 255, 255, 1, 4, 1, 4, 2, 0].as_slice());
     let again: Monster = decode(alloc, bytes.as_slice())?;
     assert!(rt; again == monster);
+    assert!(rt; saved_monster(alloc, &monster)? == monster);
     Ok(())
 }
 
@@ -218,10 +225,10 @@ fn twins_have_the_bytes_of_the_types_by_hand(rt: HostRuntime) -> Result<(), Erro
 #[test]
 fn never_is_read(rt: HostRuntime) -> Result<(), Error> {
     let alloc = rt.alloc();
-    let none: Vec<Never> = Vec::new(alloc);
+    let none: Vec<Absent<Never>> = Vec::new(alloc);
     let bytes = encode(alloc, &none)?;
     assert!(rt; bytes.as_slice() == [0].as_slice());
-    let refused: Result<Vec<Never>, Error> = decode(alloc, &[106]);
+    let refused: Result<Vec<Absent<Never>>, Error> = decode(alloc, &[106]);
     assert!(rt; matches!(&refused, Err(error) if error.reason == Reason::InvalidEnumVariant));
     Ok(())
 }

@@ -1,4 +1,5 @@
-//! With ample memory a list of enums is written by the variants of all and the payloads of each, in chunks of 64 and less, and read back.
+//! With ample memory a list of enums is written by the variants of all and the payloads of each, in chunks of 64 and
+//! less, and read back.
 use bitcode::coder::Buffer as _;
 use bitcode::{Encode, Encoder, Error, decode, encode};
 use bitcode_own_types::event::Event;

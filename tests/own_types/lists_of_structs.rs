@@ -1,4 +1,5 @@
-//! With ample memory a list of structs is written as the list of the tuples of their fields, in chunks of 64 and less, and read back.
+//! With ample memory a list of structs is written as the list of the tuples of their fields, in chunks of 64 and less,
+//! and read back.
 use bitcode::{Error, decode, encode};
 use bitcode_own_types::chest::Chest;
 use bitcode_own_types::foo::Foo;

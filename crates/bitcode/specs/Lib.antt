@@ -1,4 +1,1 @@
-pub mod BareKeys
 pub mod ByHand
-pub mod FieldsInOrder
-pub mod Laws

@@ -15,7 +15,7 @@ ghost use Rattle.bitcode_coder.specs.Coder.{IsWritingRefusal, IsReadingRefusal, 
 use crate::part::{Behind, Itself, Part, told_parts};
 use bitcode_memory::error::{Error, Reason};
 use bitcode_shapes::lists::told_each;
-use bitcode_shapes::shaped::{Made, Shaped};
+use bitcode_shapes::shaped::Shaped;
 use std::alloc::Global;
 
 /// The maximal number of references that [`Encoder::encode_vectored`] accepts.
@@ -108,12 +108,13 @@ pub trait Encoder<T: Shaped>: HoldsColumns {
     fn encode(&mut self, t: &T) -> Result<(), Error>
         requires { 0 < Self.room self.old }
         ensures joined { OnOk result
-            (JoinsListing T.lists T.shape t.now (Self.columns self.old) (Self.columns self.new)) }
+            (JoinsListing T.data.lists T.data.shape t.now (Self.columns self.old)
+            (Self.columns self.new)) }
         ensures room { OnOk result (Self.room self.old ≤ Self.room self.new + 1) }
         ensures form { emptied (Self.columns self.new) ≡ emptied (Self.columns self.old) }
         ensures refused { IfErr result
             (λ e. IsWritingRefusal e.reason
-            (OverflowsWithListing T.lists T.shape t.now (Self.columns self.old))) }
+            (OverflowsWithListing T.data.lists T.data.shape t.now (Self.columns self.old))) }
         ensures free { IsTrue writes_free → IfErr result (λ e. e.reason ≢ Reason.OutOfMemory) };
 
     /// Appends the columns of one value to `out` and keeps none of them, if the encoder can do so without a list for
@@ -124,7 +125,8 @@ pub trait Encoder<T: Shaped>: HoldsColumns {
     fn write_directly(&mut self, _t: &T, _out: &mut Vec<u8>) -> Result<bool, Error>
         requires { Self.columns self.old ≡ emptied (Self.columns self.old) }
         ensures written { IfOk result
-            (λ done. IsTrue done → WritesListing T.lists T.shape _t.now (Self.columns self.old)
+            (λ done. IsTrue done → WritesListing T.data.lists T.data.shape _t.now
+            (Self.columns self.old)
             _out.old.items _out.new.items) }
         ensures unchanged { IfOk result (λ done. IsFalse done → _out.new.items ≡ _out.old.items) }
         ensures empty { OnOk result (Self.columns self.new ≡ emptied (Self.columns self.old)) }
@@ -132,7 +134,7 @@ pub trait Encoder<T: Shaped>: HoldsColumns {
         ensures form { emptied (Self.columns self.new) ≡ emptied (Self.columns self.old) }
         ensures refused { IfErr result
             (λ e. IsWritingRefusal e.reason
-            (OverflowsWithListing T.lists T.shape _t.now (Self.columns self.old))) }
+            (OverflowsWithListing T.data.lists T.data.shape _t.now (Self.columns self.old))) }
     {
         Ok(false)
     }
@@ -145,13 +147,14 @@ pub trait Encoder<T: Shaped>: HoldsColumns {
         requires chunk { (0 < length values.now) × (length values.now ≤ MAX_VECTORED_CHUNK) }
         requires room { length values.now ≤ Self.room self.old }
         ensures joined { OnOk result
-            (JoinsEach T.lists T.shape (map (λ value. value.now) values.now) (Self.columns self.old)
+            (JoinsEach T.data.lists T.data.shape (map (λ value. value.now) values.now)
+            (Self.columns self.old)
             (Self.columns self.new)) }
         ensures room { OnOk result (Self.room self.old ≤ Self.room self.new + length values.now) }
         ensures form { emptied (Self.columns self.new) ≡ emptied (Self.columns self.old) }
         ensures refused { IfErr result
             (λ e. IsWritingRefusal e.reason
-            (OverflowsWithEach T.lists T.shape (map (λ value. value.now) values.now)
+            (OverflowsWithEach T.data.lists T.data.shape (map (λ value. value.now) values.now)
             (Self.columns self.old))) }
         ensures free { IsTrue writes_free → IfErr result (λ e. e.reason ≢ Reason.OutOfMemory) }
     {
@@ -173,13 +176,14 @@ pub trait Encoder<T: Shaped>: HoldsColumns {
         requires chunk { (0 < length items.now) × (length items.now ≤ MAX_VECTORED_CHUNK) }
         requires room { length items.now ≤ Self.room self.old }
         ensures joined { OnOk result
-            (JoinsEach T.lists T.shape (map (W.of which.now) items.now) (Self.columns self.old)
+            (JoinsEach T.data.lists T.data.shape (map (W.of which.now) items.now)
+            (Self.columns self.old)
             (Self.columns self.new)) }
         ensures room { OnOk result (Self.room self.old ≤ Self.room self.new + length items.now) }
         ensures form { emptied (Self.columns self.new) ≡ emptied (Self.columns self.old) }
         ensures refused { IfErr result
             (λ e. IsWritingRefusal e.reason
-            (OverflowsWithEach T.lists T.shape (map (W.of which.now) items.now)
+            (OverflowsWithEach T.data.lists T.data.shape (map (W.of which.now) items.now)
             (Self.columns self.old))) }
         ensures free { IsTrue writes_free → IfErr result (λ e. e.reason ≢ Reason.OutOfMemory) }
     {
@@ -207,12 +211,13 @@ pub trait Encoder<T: Shaped>: HoldsColumns {
     fn encode_slice(&mut self, items: &[T]) -> Result<(), Error>
         requires { length items.now ≤ Self.room self.old }
         ensures joined { OnOk result
-            (JoinsEach T.lists T.shape items.now (Self.columns self.old) (Self.columns self.new)) }
+            (JoinsEach T.data.lists T.data.shape items.now (Self.columns self.old)
+            (Self.columns self.new)) }
         ensures room { OnOk result (Self.room self.old ≤ Self.room self.new + length items.now) }
         ensures form { emptied (Self.columns self.new) ≡ emptied (Self.columns self.old) }
         ensures refused { IfErr result
             (λ e. IsWritingRefusal e.reason
-            (OverflowsWithEach T.lists T.shape items.now (Self.columns self.old))) }
+            (OverflowsWithEach T.data.lists T.data.shape items.now (Self.columns self.old))) }
         ensures free { IsTrue writes_free → IfErr result (λ e. e.reason ≢ Reason.OutOfMemory) }
         ensures none { length items.now ≡ 0 → IsOk result }
     {
@@ -233,7 +238,8 @@ pub trait Encoder<T: Shaped>: HoldsColumns {
     fn write_slice_directly(&self, _items: &[T], _out: &mut Vec<u8>) -> Result<bool, Error>
         requires { Self.columns self.now ≡ emptied (Self.columns self.now) }
         ensures written { IfOk result
-            (λ done. IsTrue done → WritesEach T.lists T.shape _items.now (Self.columns self.now)
+            (λ done. IsTrue done → WritesEach T.data.lists T.data.shape _items.now
+            (Self.columns self.now)
             _out.old.items _out.new.items) }
         ensures unchanged { IfOk result (λ done. IsFalse done → _out.new.items ≡ _out.old.items) }
         ensures begins { BeginsWith _out.old.items _out.new.items }
@@ -243,10 +249,10 @@ pub trait Encoder<T: Shaped>: HoldsColumns {
     }
 
     // the columns are those of the type's shape
-    ghost of_shape: { (e : Self) → emptied (Self.columns e) ≡ written_columns T.shape [] };
+    ghost of_shape: { (e : Self) → emptied (Self.columns e) ≡ written_columns T.data.shape [] };
 
     ghost surely: { (e : Self) (n : ℕ) → Self.surely_overflows e n
-        → SurelyOverflows T.shape (Self.columns e) n };
+        → SurelyOverflows T.data.shape (Self.columns e) n };
 }
 
 /// The data of a decoder.
@@ -327,7 +333,7 @@ pub trait View<'a>: HoldsData {
 }
 
 /// Data from which values of `T` can be made.
-pub trait Decoder<T: Made>: HoldsData {
+pub trait Decoder<T: Shaped>: HoldsData {
     // making a value takes no memory
     ghost makes_free: { Bool };
 
@@ -337,7 +343,7 @@ pub trait Decoder<T: Made>: HoldsData {
     fn decode(&mut self) -> Result<T, Error>
         requires { 0 < length (Self.held self.old) }
         ensures made { IfOk result
-            (λ t. TakesDatum T.makes t (Self.held self.old) (Self.held self.new)) }
+            (λ t. TakesDatum T.data.makes t (Self.held self.old) (Self.held self.new)) }
         ensures refused { IfErr result (λ e. e.reason ≡ Reason.OutOfMemory) }
         ensures free { IsTrue makes_free → IsOk result };
 
@@ -349,7 +355,7 @@ pub trait Decoder<T: Made>: HoldsData {
         T: Drop,
         requires { count ≤ length (Self.held self.old) }
         ensures made { IfOk result
-            (λ items. TakesEach T.makes count items.items (Self.held self.old)
+            (λ items. TakesEach T.data.makes count items.items (Self.held self.old)
             (Self.held self.new)) }
         ensures refused { IfErr result (λ e. e.reason ≡ Reason.OutOfMemory) }
         ensures none { count ≡ 0 → IsOk result }
@@ -361,5 +367,5 @@ pub trait Decoder<T: Made>: HoldsData {
         Ok(items)
     }
 
-    ghost same_shape: { Self.shape ≡ T.shape };
+    ghost same_shape: { Self.shape ≡ T.data.shape };
 }

@@ -28,13 +28,14 @@ pub fn write_one<T: Shaped, E: Buffer + Encoder<T>>(
 ) -> Result<(), Error>
     requires { E.columns encoder.old ≡ emptied (E.columns encoder.old) }
     ensures written { OnOk result
-        (WritesListing T.lists T.shape t.now (E.columns encoder.old) out.old.items out.new.items) }
+        (WritesListing T.data.lists T.data.shape t.now (E.columns encoder.old) out.old.items
+        out.new.items) }
     ensures empty { OnOk result (E.columns encoder.new ≡ emptied (E.columns encoder.old)) }
     ensures begins { BeginsWith out.old.items out.new.items }
     ensures form { emptied (E.columns encoder.new) ≡ emptied (E.columns encoder.old) }
     ensures refused { IfErr result
         (λ e. IsWritingRefusal e.reason
-        (OverflowsWithListing T.lists T.shape t.now (E.columns encoder.old))) }
+        (OverflowsWithListing T.data.lists T.data.shape t.now (E.columns encoder.old))) }
 {
     if encoder.write_directly(t, out)? {
         return Ok(());

@@ -114,7 +114,7 @@ impl<'w, S, P, Q, W: Part<S, (P, Q)>> Part<S, Q> for Second<'w, W, P> {
 
 /// The part of each item satisfies its type's invariant.
 pub fn told_parts<S, T: Shaped, W: Part<S, T>>(items: &[S], which: &W)
-    ensures { All T.is_value (map (W.of which.now) items.now) }
+    ensures { All T.data.is_value (map (W.of which.now) items.now) }
 {
     for item in items {
         which.part(item).told();

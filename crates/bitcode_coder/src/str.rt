@@ -20,10 +20,10 @@ mod fixed;
 pub trait AsText: Shaped {
     /// The text that is written for the value.
     fn as_text(&self) -> &str
-        ensures { Self.lists self.now (text result.now) };
+        ensures { Self.data.lists self.now (text result.now) };
 
     ghost as_text_columns: { (ds : List Datum)
-        → written_columns Self.shape ds ≡ one (texts None) ds };
+        → written_columns Self.data.shape ds ≡ one (texts None) ds };
 }
 
 impl<'a> AsText for &'a str {

@@ -1,6 +1,7 @@
 pub mod EncodingLemmas
 pub mod DecodingLemmas
 pub mod RoundTripLemmas
+pub mod ShortLengthLemmas
 pub mod ArrayCountLemmas
 pub mod BorrowedTextLemmas
 pub mod ShortTextLemmas

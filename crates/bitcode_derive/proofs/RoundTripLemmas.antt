@@ -30,10 +30,14 @@ module _ {T : Type 0} {shape : Shape} {is_value : T → Type 0} {lists : T → D
       makeable.remade t u e.datum v w e.listing (subst (λ d. makes d u) (sym is) f.made)
 
   -- what is refused where no datum is spelled is refused for want of memory
+  pub spelled_or_memory : (t : T) (bytes : List ℕ) → is_value t → (e : IsEncodingOf lists shape t bytes) → LengthsBelowLimit (columns_of_one shape e.datum)
+      → (reason : Reason) → (reason ≢ OutOfMemory → (d : Datum) → SpellsDatum shape bytes d → ⊥) → reason ≡ OutOfMemory
+  spelled_or_memory t bytes v e below reason none =
+      want_of_memory reason (λ other. none other e.datum (written_spells t bytes v e below))
+
   pub refused_for_memory : (t : T) (bytes : List ℕ) → is_value t → IsEncodingOf lists shape t bytes → HasShortLengths lists shape t → (reason : Reason)
       → (reason ≢ OutOfMemory → (d : Datum) → SpellsDatum shape bytes d → ⊥) → reason ≡ OutOfMemory
-  refused_for_memory t bytes v e short reason none =
-      want_of_memory reason (λ other. none other e.datum (written_spells t bytes v e (short e.datum e.listing)))
+  refused_for_memory t bytes v e short reason none = spelled_or_memory t bytes v e (short e.datum e.listing) reason none
 
   pub written_once : IsTrue in_order → (t : T) (bytes again : List ℕ) → is_value t → IsEncodingOf lists shape t bytes → IsEncodingOf lists shape t again
       → bytes ≡ again

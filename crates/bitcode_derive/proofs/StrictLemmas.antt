@@ -1,5 +1,5 @@
 -- What is known of an input that was read strictly.
-use Rattle.std.proofs.Common.{◌≡◌, Bool, ◌≢◌, ◌⊎◌, inl, inr, ℕ, ◌<◌, ◌≤◌, List, [], ◌∷◌, ◌++◌, length, refl, sym, ◌∙◌, ap, subst, arith, ⊎_elim}
+use Rattle.std.proofs.Common.{◌≡◌, Bool, ◌≢◌, ◌⊎◌, inl, inr, ℕ, ◌<◌, List, [], ◌∷◌, ◌++◌, length, refl, sym, ◌∙◌, ap, subst, arith, ⊎_elim}
 use Rattle.std.proofs.lemmas.Bool.{cases_lt}
 use Rattle.std.proofs.lemmas.List.{nil_from_length, append-nil}
 use Rattle.bitcode_memory.specs.declared.error.Reason.{Reason}
@@ -9,12 +9,12 @@ use Rattle.bitcode_shapes.specs.Datum.{Datum}
 use Rattle.bitcode_shapes.specs.Lawful.{Lawful}
 use Rattle.bitcode_shapes.specs.Shape.{Shape, IsOf}
 use Rattle.std.proofs.lemmas.List.Elements.{All-cons, All-nil}
-use Rattle.bitcode_coder.specs.Coder.{IsReadingReason, IsReadingRefusal, TakesDatum}
+use Rattle.bitcode_coder.specs.Coder.{IsReadingRefusal, TakesDatum}
 use Rattle.bitcode_coder.specs.Spelling.{Spells}
 use Rattle.bitcode_coder.specs.Strict.{StrictlySpells}
 use Rattle.bitcode_coder.proofs.StrictLawLemmas.{strict_is_text, written_strictly}
-use Rattle.bitcode_derive.specs.Whole.{SpellsDatum, IsEncodingOf, HasShortLengths}
-use Rattle.bitcode_derive.specs.Strict.{StrictlySpellsDatum, IsStrictDecodingOf, SpellsOtherwise, IsStrictRefusal, no_memory, none_spelled, MakesWhatItLists}
+use Rattle.bitcode_derive.specs.Whole.{IsEncodingOf, HasShortLengths}
+use Rattle.bitcode_derive.specs.Strict.{IsStrictDecodingOf, SpellsOtherwise, IsStrictRefusal, no_memory, none_spelled, MakesWhatItLists}
 
 pub memory_or_not : (reason : Reason) → (reason ≡ OutOfMemory) ⊎ (reason ≢ OutOfMemory)
 memory_or_not OutOfMemory = inl refl

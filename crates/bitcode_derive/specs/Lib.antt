@@ -4,3 +4,4 @@ pub mod BorrowedTexts
 pub mod Strict
 pub mod StrictFront
 pub mod StrictRows
+pub mod ShortLengths

@@ -6,6 +6,7 @@ ghost use Rattle.bitcode_shapes.specs.Shape.{never_shape};
 ghost use Rattle.bitcode_coder.specs.Columns.{no_columns};
 ghost use Rattle.bitcode_coder.specs.Coder.{endless_room};
 
+use crate::derive::{DecodeOwned, HasDecoder, HasEncoder};
 use bitcode_coder::coder::{Buffer, Decoder, Encoder, HoldsColumns, HoldsData, View};
 use bitcode_memory::error::{Error, Reason};
 use bitcode_memory::refuse::err;
@@ -49,10 +50,10 @@ impl Buffer for AbsentEncoder {
     fn clear(&mut self) {}
 }
 
-impl<T: NoVariants> Encoder<T> for AbsentEncoder {
+impl<T: NoVariants> Encoder<Absent<T>> for AbsentEncoder {
     ghost writes_free = { true };
 
-    fn encode(&mut self, _t: &T) -> Result<(), Error> {
+    fn encode(&mut self, _t: &Absent<T>) -> Result<(), Error> {
         Ok(())
     }
 
@@ -97,13 +98,23 @@ impl<'a> View<'a> for AbsentDecoder {
     }
 }
 
-impl<T: NoVariants> Decoder<T> for AbsentDecoder {
+impl<T: NoVariants> Decoder<Absent<T>> for AbsentDecoder {
     ghost makes_free = { false };
 
     // No reading leaves a value to make.
-    fn decode(&mut self) -> Result<T, Error> {
+    fn decode(&mut self) -> Result<Absent<T>, Error> {
         err(Reason::OutOfMemory)
     }
 
     ghost same_shape = { refl };
 }
+
+impl<T> HasEncoder for Absent<T> {
+    type Encoder = AbsentEncoder;
+}
+
+impl<'a, T> HasDecoder<'a> for Absent<T> {
+    type Decoder = AbsentDecoder;
+}
+
+impl<T: 'static> DecodeOwned for Absent<T> {}

@@ -11,7 +11,7 @@ use crate::whole;
 use bitcode_coder::coder::{Buffer as EncoderBuffer, Decoder, Encoder, View};
 use bitcode_coder::one::write_one;
 use bitcode_memory::error::{Error, Reason};
-use bitcode_shapes::shaped::{Made, Shaped};
+use bitcode_shapes::shaped::Shaped;
 use std::alloc::Global;
 
 /// Encodes values of one type, one after another, in memory that it keeps for the next call.
@@ -55,9 +55,10 @@ where
     /// let bytes = buffer.encode(&(true, 7))?;
     /// ```
     pub fn encode(&mut self, t: &T) -> Result<&[u8], Error>
-        ensures written { IfOk result (λ bytes. IsEncodingOf T.lists T.shape t.now bytes.now) }
+        ensures written { IfOk result
+            (λ bytes. IsEncodingOf T.data.lists T.data.shape t.now bytes.now) }
         ensures refused { IfErr result
-            (λ e. IsWritingRefusal e.reason (HasLongListing T.lists T.shape t.now)) }
+            (λ e. IsWritingRefusal e.reason (HasLongListing T.data.lists T.data.shape t.now)) }
     {
         self.encoder.clear();
         self.bytes.clear();
@@ -77,14 +78,14 @@ where
     /// ```
     pub fn decode<'a>(&mut self, bytes: &'a [u8]) -> Result<T, Error>
     where
-        T: HasDecoder<'a> + Made + Drop,
+        T: HasDecoder<'a> + Shaped + Drop,
         T::Decoder: View<'a> + Decoder<T> + Drop,
-        ensures found { IfOk result (λ t. IsDecodingOf T.makes T.shape bytes.now t) }
-        ensures unambiguous { SpellsAtMostOne T.shape bytes.now }
-        ensures bounded { IsBoundedByBytes T.shape bytes.now }
+        ensures found { IfOk result (λ t. IsDecodingOf T.data.makes T.data.shape bytes.now t) }
+        ensures unambiguous { SpellsAtMostOne T.data.shape bytes.now }
+        ensures bounded { IsBoundedByBytes T.data.shape bytes.now }
         ensures reasons { IfErr result (λ e. IsReadingReason e.reason) }
         ensures refused { IfErr result
-            (λ e. e.reason ≢ Reason.OutOfMemory → (d : Datum) → SpellsDatum T.shape bytes.now d
+            (λ e. e.reason ≢ Reason.OutOfMemory → (d : Datum) → SpellsDatum T.data.shape bytes.now d
             → ⊥) }
         ensures exact { IfErr result
             (λ e. NamesWholeFault T.Decoder.faults T.Decoder.makes_free T.Decoder.shape e.reason
@@ -103,12 +104,13 @@ where
     /// ```
     pub fn decode_strict<'a>(&mut self, bytes: &'a [u8]) -> Result<T, Error>
     where
-        T: HasDecoder<'a> + Made + Drop,
+        T: HasDecoder<'a> + Shaped + Drop,
         T::Decoder: View<'a> + Decoder<T> + Drop,
-        ensures found { IfOk result (λ t. IsStrictDecodingOf T.makes T.shape bytes.now t) }
-        ensures unambiguous { SpellsAtMostOne T.shape bytes.now }
-        ensures bounded { IsBoundedByBytes T.shape bytes.now }
-        ensures refused { IfErr result (λ e. IsStrictRefusal T.shape e.reason bytes.now) }
+        ensures found { IfOk result
+            (λ t. IsStrictDecodingOf T.data.makes T.data.shape bytes.now t) }
+        ensures unambiguous { SpellsAtMostOne T.data.shape bytes.now }
+        ensures bounded { IsBoundedByBytes T.data.shape bytes.now }
+        ensures refused { IfErr result (λ e. IsStrictRefusal T.data.shape e.reason bytes.now) }
         ensures exact { IfErr result
             (λ e. e.reason ≢ Reason.NotTheWrittenText
             → NamesWholeFault T.Decoder.faults T.Decoder.makes_free T.Decoder.shape e.reason

@@ -1,6 +1,6 @@
 //! The types with encoders and decoders.
 use bitcode_coder::coder::{Buffer, Decoder, Encoder, View};
-use bitcode_shapes::shaped::{Made, Shaped};
+use bitcode_shapes::shaped::Shaped;
 
 /// Names the encoder of a type.
 ///
@@ -44,9 +44,9 @@ pub trait HasDecoder<'a> {
 /// A type that can be decoded from an input that outlives `'a`: every lawful type whose decoder makes its values.
 ///
 /// It has no impls of its own. The calls that decode whole values drop the value and the remaining data.
-pub trait Decode<'a>: HasDecoder<'a, Decoder: View<'a> + Decoder<Self> + Drop> + Made + Drop {}
+pub trait Decode<'a>: HasDecoder<'a, Decoder: View<'a> + Decoder<Self> + Drop> + Shaped + Drop {}
 
-impl<'a, T: HasDecoder<'a> + Made + Drop> Decode<'a> for T
+impl<'a, T: HasDecoder<'a> + Shaped + Drop> Decode<'a> for T
 where
     T::Decoder: View<'a> + Decoder<T> + Drop,
 {}

@@ -1,11 +1,12 @@
 //! Laws that follow from the contracts of the calls for whole values. The functions only look at their values: their
 //! contracts are the laws.
-ghost use Rattle.std.specs.Prelude.{◌≡◌, ◌≢◌, ◌<◌, [], ◌∷◌, slice_index, IsTrue, IfOk, IfErr};
+ghost use Rattle.std.specs.Prelude.{◌≡◌, ◌≢◌, ◌<◌, ◌^◌, [], ◌∷◌, length, slice_index, IsTrue, IfOk, IfErr};
 ghost use Rattle.bitcode_shapes.specs.Datum.{Datum};
 ghost use Rattle.bitcode_coder.specs.Coder.{IsReadingReason};
 ghost use Rattle.bitcode_coder.specs.Columns.{CountsFit};
 ghost use Rattle.bitcode_coder.specs.Spelling.{LengthsBelowLimit};
 ghost use Rattle.bitcode_derive.specs.BorrowedTexts.{TextsStandIn, IsBorrowedFrom};
+ghost use Rattle.bitcode_derive.specs.ShortLengths.{elements_have_entries, has_no_lengths};
 ghost use Rattle.bitcode_derive.specs.Strict.{IsStrictDecodingOf, MakesWhatItLists};
 ghost use Rattle.bitcode_derive.specs.Whole.{columns_of_one, IsEncodingOf, HasLongListing, HasShortLengths};
 ghost use Rattle.bitcode_derive.specs.Whole.{IsDecodingOf, SpellsDatum};
@@ -13,8 +14,7 @@ ghost use Rattle.bitcode_derive.specs.Whole.{IsDecodingOf, SpellsDatum};
 use crate::whole;
 use bitcode_memory::error::{Error, Reason};
 use bitcode_shapes::keys::Key;
-use bitcode_shapes::same_arrays::SameArrays;
-use bitcode_shapes::shaped::{Made, Shaped};
+use bitcode_shapes::shaped::Shaped;
 use std::alloc::Global;
 
 /// The bytes that were written for a value decode to an equal value, if each column of lengths sums to less than
@@ -29,13 +29,13 @@ use std::alloc::Global;
 /// let u: (bool, u16) = decode(alloc, &bytes)?;
 /// round_trip(&t, &bytes, &u);
 /// ```
-pub fn round_trip<'a, T: Made>(t: &T, bytes: &'a [u8], u: &T)
-    ensures spelled { (written : IsEncodingOf T.lists T.shape t.now bytes.now)
-        → LengthsBelowLimit (columns_of_one T.shape written.datum)
-        → SpellsDatum T.shape bytes.now written.datum }
-    ensures equal { (written : IsEncodingOf T.lists T.shape t.now bytes.now)
-        → LengthsBelowLimit (columns_of_one T.shape written.datum)
-        → IsDecodingOf T.makes T.shape bytes.now u.now → T.same t.now u.now }
+pub fn round_trip<'a, T: Shaped>(t: &T, bytes: &'a [u8], u: &T)
+    ensures spelled { (written : IsEncodingOf T.data.lists T.data.shape t.now bytes.now)
+        → LengthsBelowLimit (columns_of_one T.data.shape written.datum)
+        → SpellsDatum T.data.shape bytes.now written.datum }
+    ensures equal { (written : IsEncodingOf T.data.lists T.data.shape t.now bytes.now)
+        → LengthsBelowLimit (columns_of_one T.data.shape written.datum)
+        → IsDecodingOf T.data.makes T.data.shape bytes.now u.now → T.data.same t.now u.now }
 {
     t.told();
     u.told();
@@ -50,15 +50,16 @@ pub fn round_trip<'a, T: Made>(t: &T, bytes: &'a [u8], u: &T)
 /// let again: Result<(bool, u16), Error> = decode(alloc, &bytes);
 /// comes_back(&t, &bytes, &again);
 /// ```
-pub fn comes_back<'a, T: Made>(t: &T, bytes: &'a [u8], again: &Result<T, Error>)
-    ensures equal { IsEncodingOf T.lists T.shape t.now bytes.now
-        → HasShortLengths T.lists T.shape t.now
-        → IfOk again.now (λ u. IsDecodingOf T.makes T.shape bytes.now u)
-        → IfOk again.now (λ u. T.same t.now u) }
-    ensures refused { IsEncodingOf T.lists T.shape t.now bytes.now
-        → HasShortLengths T.lists T.shape t.now
+pub fn comes_back<'a, T: Shaped>(t: &T, bytes: &'a [u8], again: &Result<T, Error>)
+    ensures equal { IsEncodingOf T.data.lists T.data.shape t.now bytes.now
+        → HasShortLengths T.data.lists T.data.shape t.now
+        → IfOk again.now (λ u. IsDecodingOf T.data.makes T.data.shape bytes.now u)
+        → IfOk again.now (λ u. T.data.same t.now u) }
+    ensures refused { IsEncodingOf T.data.lists T.data.shape t.now bytes.now
+        → HasShortLengths T.data.lists T.data.shape t.now
         → IfErr again.now
-        (λ e. e.reason ≢ Reason.OutOfMemory → (d : Datum) → SpellsDatum T.shape bytes.now d → ⊥)
+        (λ e. e.reason ≢ Reason.OutOfMemory → (d : Datum) → SpellsDatum T.data.shape bytes.now d
+        → ⊥)
         → IfErr again.now (λ e. e.reason ≡ Reason.OutOfMemory) }
 {
     t.told();
@@ -67,6 +68,46 @@ pub fn comes_back<'a, T: Made>(t: &T, bytes: &'a [u8], again: &Result<T, Error>)
     }
 }
 
+/// For the bytes that were written for a value, `decode` returns an equal value or `out of memory`, if there are fewer
+/// than 281474976710656 of them, and each element of a list, set or map gives some column an entry.
+///
+/// The program can count the bytes, and for a type `refl` proves that its elements have entries. An element without
+/// entries is one like `()`, of which no bytes tell how many there are.
+///
+/// ```rust
+/// let t = (true, 7u16);
+/// let bytes = encode(alloc, &t)?;
+/// let again: Result<(bool, u16), Error> = decode(alloc, &bytes);
+/// comes_back_in_bytes(&t, &bytes, &again);
+/// ```
+pub fn comes_back_in_bytes<'a, T: Shaped>(t: &T, bytes: &'a [u8], again: &Result<T, Error>)
+    ensures equal { IsTrue (elements_have_entries T.data.shape)
+        → IsEncodingOf T.data.lists T.data.shape t.now bytes.now → length bytes.now < 2 ^ 48
+        → IfOk again.now (λ u. IsDecodingOf T.data.makes T.data.shape bytes.now u)
+        → IfOk again.now (λ u. T.data.same t.now u) }
+    ensures refused { IsTrue (elements_have_entries T.data.shape)
+        → IsEncodingOf T.data.lists T.data.shape t.now bytes.now → length bytes.now < 2 ^ 48
+        → IfErr again.now
+        (λ e. e.reason ≢ Reason.OutOfMemory → (d : Datum) → SpellsDatum T.data.shape bytes.now d
+        → ⊥)
+        → IfErr again.now (λ e. e.reason ≡ Reason.OutOfMemory) }
+{
+    t.told();
+    if let Ok(read) = again {
+        read.told();
+    }
+}
+
+/// A value has short lengths if its type has none: no text, list, set or map inside.
+///
+/// ```rust
+/// no_lengths(&(true, 7u16));
+/// ```
+pub fn no_lengths<T: Shaped>(t: &T)
+    ensures { IsTrue (has_no_lengths T.data.shape)
+        → HasShortLengths T.data.lists T.data.shape t.now }
+{}
+
 /// For a type whose values list exactly the data that make them, `decode_strict` returns a value for the bytes that
 /// `encode` writes for it, and for no other bytes. The lengths of each column must be short enough to be read back.
 ///
@@ -74,13 +115,14 @@ pub fn comes_back<'a, T: Made>(t: &T, bytes: &'a [u8], again: &Result<T, Error>)
 /// let bytes = encode(alloc, &t)?;
 /// strictly_written(&t, &bytes);
 /// ```
-pub fn strictly_written<'a, T: Made>(t: &T, bytes: &'a [u8])
-    ensures written { MakesWhatItLists T.lists T.makes
-        → IsStrictDecodingOf T.makes T.shape bytes.now t.now
-        → IsEncodingOf T.lists T.shape t.now bytes.now }
-    ensures read { MakesWhatItLists T.lists T.makes → HasShortLengths T.lists T.shape t.now
-        → IsEncodingOf T.lists T.shape t.now bytes.now
-        → IsStrictDecodingOf T.makes T.shape bytes.now t.now }
+pub fn strictly_written<'a, T: Shaped>(t: &T, bytes: &'a [u8])
+    ensures written { MakesWhatItLists T.data.lists T.data.makes
+        → IsStrictDecodingOf T.data.makes T.data.shape bytes.now t.now
+        → IsEncodingOf T.data.lists T.data.shape t.now bytes.now }
+    ensures read { MakesWhatItLists T.data.lists T.data.makes
+        → HasShortLengths T.data.lists T.data.shape t.now
+        → IsEncodingOf T.data.lists T.data.shape t.now bytes.now
+        → IsStrictDecodingOf T.data.makes T.data.shape bytes.now t.now }
 {
     t.told();
 }
@@ -94,9 +136,10 @@ pub fn strictly_written<'a, T: Made>(t: &T, bytes: &'a [u8])
 /// comes_back_equal(&t, &bytes, &again);
 /// again // Ok(u) with u == t
 /// ```
-pub fn comes_back_equal<'a, T: Made + Key>(t: &T, bytes: &'a [u8], again: &Result<T, Error>)
-    ensures { IsEncodingOf T.lists T.shape t.now bytes.now → HasShortLengths T.lists T.shape t.now
-        → IfOk again.now (λ u. IsDecodingOf T.makes T.shape bytes.now u)
+pub fn comes_back_equal<'a, T: Shaped + Key>(t: &T, bytes: &'a [u8], again: &Result<T, Error>)
+    ensures { IsEncodingOf T.data.lists T.data.shape t.now bytes.now
+        → HasShortLengths T.data.lists T.data.shape t.now
+        → IfOk again.now (λ u. IsDecodingOf T.data.makes T.data.shape bytes.now u)
         → IfOk again.now (λ u. IsTrue (T.eq t.now u)) }
 {
     t.told();
@@ -114,10 +157,28 @@ pub fn comes_back_equal<'a, T: Made + Key>(t: &T, bytes: &'a [u8], again: &Resul
 /// one_text(&t, &bytes, &again);
 /// ```
 pub fn one_text<T: Shaped>(t: &T, bytes: &[u8], again: &[u8])
-    ensures { IsTrue T.in_order → IsEncodingOf T.lists T.shape t.now bytes.now
-        → IsEncodingOf T.lists T.shape t.now again.now → bytes.now ≡ again.now }
+    ensures { IsTrue T.data.in_order → IsEncodingOf T.data.lists T.data.shape t.now bytes.now
+        → IsEncodingOf T.data.lists T.data.shape t.now again.now → bytes.now ≡ again.now }
 {
     t.told();
+}
+
+/// Two values that are the same are encoded to the same bytes, if their type has no set, map or heap inside.
+///
+/// Two sets that are the same may keep different ones of equal keys, and a heap has an order of its own.
+///
+/// ```rust
+/// let t = (true, 7u16);
+/// let u = (true, 7u16);
+/// same_bytes(&t, &encode(alloc, &t)?, &u, &encode(alloc, &u)?);
+/// ```
+pub fn same_bytes<T: Shaped>(t: &T, bytes: &[u8], u: &T, others: &[u8])
+    ensures { IsTrue T.data.determined → T.data.same t.now u.now
+        → IsEncodingOf T.data.lists T.data.shape t.now bytes.now
+        → IsEncodingOf T.data.lists T.data.shape u.now others.now → bytes.now ≡ others.now }
+{
+    t.told();
+    u.told();
 }
 
 /// Two values that are decoded from the same bytes are equal.
@@ -128,9 +189,9 @@ pub fn one_text<T: Shaped>(t: &T, bytes: &[u8], again: &[u8])
 /// let u: (bool, u16) = decode(alloc, bytes)?;
 /// one_value(bytes, &t, &u);
 /// ```
-pub fn one_value<'a, T: Made>(bytes: &'a [u8], t: &T, u: &T)
-    ensures { IsDecodingOf T.makes T.shape bytes.now t.now
-        → IsDecodingOf T.makes T.shape bytes.now u.now → T.same t.now u.now }
+pub fn one_value<'a, T: Shaped>(bytes: &'a [u8], t: &T, u: &T)
+    ensures { IsDecodingOf T.data.makes T.data.shape bytes.now t.now
+        → IsDecodingOf T.data.makes T.data.shape bytes.now u.now → T.data.same t.now u.now }
 {
     t.told();
     u.told();
@@ -139,20 +200,21 @@ pub fn one_value<'a, T: Made>(bytes: &'a [u8], t: &T, u: &T)
 /// Unless an allocation fails, `encode` returns `length overflow` exactly if in some listing of the value, and so in
 /// each, a number of arrays times their size exceeds 18446744073709551615.
 ///
-/// All listings of such a value hold the same numbers of arrays: that is the law of `SameArrays`, which every type of
-/// this library implements. So if bytes are written, no listing has such an overflow, and if `length overflow` is
-/// returned, each listing has one.
+/// All listings of a value hold the same numbers of arrays. So if bytes are written, no listing has such an overflow,
+/// and if `length overflow` is returned, each listing has one.
 ///
 /// ```rust
 /// let t = (true, 7u16);
 /// let bytes = encode(alloc, &t)?;
 /// overflows_exactly(&t, &bytes);
 /// ```
-pub fn overflows_exactly<T: SameArrays>(t: &T, bytes: &[u8])
-    ensures written { IsEncodingOf T.lists T.shape t.now bytes.now → (d : Datum) → T.lists t.now d
-        → CountsFit (columns_of_one T.shape d) }
-    ensures refused { HasLongListing T.lists T.shape t.now → (d : Datum) → T.lists t.now d
-        → CountsFit (columns_of_one T.shape d) → ⊥ }
+pub fn overflows_exactly<T: Shaped>(t: &T, bytes: &[u8])
+    ensures written { IsEncodingOf T.data.lists T.data.shape t.now bytes.now → (d : Datum)
+        → T.data.lists t.now d
+        → CountsFit (columns_of_one T.data.shape d) }
+    ensures refused { HasLongListing T.data.lists T.data.shape t.now → (d : Datum)
+        → T.data.lists t.now d
+        → CountsFit (columns_of_one T.data.shape d) → ⊥ }
 {
     t.told();
 }
@@ -167,7 +229,8 @@ pub fn overflows_exactly<T: SameArrays>(t: &T, bytes: &[u8])
 /// borrowed_text(bytes, &text); // the bytes from 1 to 3
 /// ```
 pub fn borrowed_text<'a>(bytes: &'a [u8], text: &&'a str)
-    ensures { IsDecodingOf ⟦<&'a str as Made>⟧.makes ⟦<&'a str as Shaped>⟧.shape bytes.now text.now
+    ensures { IsDecodingOf ⟦<&'a str as Shaped>⟧.data.makes ⟦<&'a str as Shaped>⟧.data.shape
+        bytes.now text.now
         → IsBorrowedFrom bytes.now text.now.now }
 {}
 
@@ -179,9 +242,9 @@ pub fn borrowed_text<'a>(bytes: &'a [u8], text: &&'a str)
 /// let pair: (u8, &str) = decode(alloc, bytes)?;
 /// borrowed_texts(bytes, &pair); // "ab" is the bytes from 2 to 4
 /// ```
-pub fn borrowed_texts<'a, T: Made>(bytes: &'a [u8], t: &T)
-    ensures { (found : IsDecodingOf T.makes T.shape bytes.now t.now)
-        → TextsStandIn T.shape bytes.now (found.datum ∷ []) }
+pub fn borrowed_texts<'a, T: Shaped>(bytes: &'a [u8], t: &T)
+    ensures { (found : IsDecodingOf T.data.makes T.data.shape bytes.now t.now)
+        → TextsStandIn T.data.shape bytes.now (found.datum ∷ []) }
 {}
 
 /// Decodes a text whose first byte is below 255, as `decode` does, without allocating.
@@ -195,12 +258,13 @@ pub fn borrowed_texts<'a, T: Made>(bytes: &'a [u8], t: &T)
 pub fn short_text<'a>(alloc: Global, bytes: &'a [u8]) -> Result<&'a str, Error>
     requires { slice_index bytes.now 0 < 255 }
     ensures found { IfOk result
-        (λ text. IsDecodingOf ⟦<&'a str as Made>⟧.makes ⟦<&'a str as Shaped>⟧.shape bytes.now
+        (λ text. IsDecodingOf ⟦<&'a str as Shaped>⟧.data.makes ⟦<&'a str as Shaped>⟧.data.shape
+        bytes.now
         text) }
     ensures reasons { IfErr result (λ e. IsReadingReason e.reason) }
     ensures refused { IfErr result
         (λ e. e.reason ≢ Reason.OutOfMemory → (d : Datum)
-        → SpellsDatum ⟦<&'a str as Shaped>⟧.shape bytes.now d → ⊥) }
+        → SpellsDatum ⟦<&'a str as Shaped>⟧.data.shape bytes.now d → ⊥) }
     ensures free { IfErr result (λ e. e.reason ≢ Reason.OutOfMemory) }
 {
     whole::decode(alloc, bytes)

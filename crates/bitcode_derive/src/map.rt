@@ -16,10 +16,9 @@ use bitcode_parts::lists::sequence::FromElements;
 use bitcode_parts::lists::vec::VecDecoder;
 use bitcode_parts::maps::Mapping;
 use bitcode_shapes::keys::Key;
-use bitcode_shapes::shaped::Made;
+use bitcode_shapes::shaped::Shaped;
 use bitcode_tuples::decoder::TupleDecoder;
 use std::alloc::Global;
-use std::cmp::Ord;
 use std::collections::{BTreeMap, HashMap};
 use std::hash::Hash;
 
@@ -152,7 +151,7 @@ impl<'a, K, V> MapDecoder<'a, K, V> {
         requires { 0 < length
             (⟦<VecDecoder<'a, TupleDecoder<K, V>> as HoldsData>⟧.held self.old.entries) }
         ensures made { IfOk result
-            (λ t. TakesDatum C.makes t
+            (λ t. TakesDatum C.data.makes t
             (⟦<VecDecoder<'a, TupleDecoder<K, V>> as HoldsData>⟧.held self.old.entries)
             (⟦<VecDecoder<'a, TupleDecoder<K, V>> as HoldsData>⟧.held self.new.entries)) }
         ensures refused { IfErr result (λ e. e.reason ≡ Reason.OutOfMemory) }
@@ -161,9 +160,8 @@ impl<'a, K, V> MapDecoder<'a, K, V> {
     }
 }
 
-impl<'a, P: Key + Made + Ord + Drop, Q: Made + Drop, K: Decoder<P>, V: Decoder<Q>> Decoder<
-    BTreeMap<P, Q>,
-> for MapDecoder<'a, K, V> {
+impl<'a, P: Key + Drop, Q: Shaped + Drop, K: Decoder<P>, V: Decoder<Q>> Decoder<BTreeMap<P, Q>>
+    for MapDecoder<'a, K, V> {
     ghost makes_free = { false };
 
     fn decode(&mut self) -> Result<BTreeMap<P, Q>, Error> {
@@ -173,7 +171,7 @@ impl<'a, P: Key + Made + Ord + Drop, Q: Made + Drop, K: Decoder<P>, V: Decoder<Q
     ghost same_shape = { ap₂ map_shape K.same_shape V.same_shape };
 }
 
-impl<'a, P: Key + Made + Hash + Drop, Q: Made + Drop, K: Decoder<P>, V: Decoder<Q>> Decoder<
+impl<'a, P: Key + Hash + Drop, Q: Shaped + Drop, K: Decoder<P>, V: Decoder<Q>> Decoder<
     HashMap<P, Q>,
 > for MapDecoder<'a, K, V> {
     ghost makes_free = { false };

@@ -16,7 +16,7 @@ use bitcode_coder::one::write_one;
 use bitcode_memory::consume::expect_eof;
 use bitcode_memory::error::{Error, Reason};
 use bitcode_memory::refuse::err;
-use bitcode_shapes::shaped::{Made, Shaped};
+use bitcode_shapes::shaped::Shaped;
 use std::alloc::Global;
 
 /// Appends the encoding of a value to `out`.
@@ -40,10 +40,10 @@ pub fn encode_into<T: HasEncoder + Shaped>(
 where
     T::Encoder: Buffer + Encoder<T> + Drop,
     ensures written { OnOk result
-        (IsWrittenBehind T.lists T.shape t.now out.old.items out.new.items) }
+        (IsWrittenBehind T.data.lists T.data.shape t.now out.old.items out.new.items) }
     ensures begins { BeginsWith out.old.items out.new.items }
     ensures refused { IfErr result
-        (λ e. IsWritingRefusal e.reason (HasLongListing T.lists T.shape t.now)) }
+        (λ e. IsWritingRefusal e.reason (HasLongListing T.data.lists T.data.shape t.now)) }
 {
     let mut encoder = T::Encoder::new(alloc);
     write_one(&mut encoder, t, out)
@@ -63,9 +63,10 @@ where
 pub fn encode<T: HasEncoder + Shaped>(alloc: Global, t: &T) -> Result<Vec<u8>, Error>
 where
     T::Encoder: Buffer + Encoder<T> + Drop,
-    ensures written { IfOk result (λ bytes. IsEncodingOf T.lists T.shape t.now bytes.items) }
+    ensures written { IfOk result
+        (λ bytes. IsEncodingOf T.data.lists T.data.shape t.now bytes.items) }
     ensures refused { IfErr result
-        (λ e. IsWritingRefusal e.reason (HasLongListing T.lists T.shape t.now)) }
+        (λ e. IsWritingRefusal e.reason (HasLongListing T.data.lists T.data.shape t.now)) }
 {
     let mut bytes = Vec::new(alloc);
     encode_into(alloc, t, &mut bytes)?;
@@ -85,18 +86,19 @@ where
 /// let pair: (bool, u16) = decode(alloc, &[1, 7, 0])?;
 /// assert!(rt; pair == (true, 7));
 /// ```
-pub fn decode<'a, T: HasDecoder<'a> + Made + Drop>(
+pub fn decode<'a, T: HasDecoder<'a> + Shaped + Drop>(
     alloc: Global,
     bytes: &'a [u8],
 ) -> Result<T, Error>
 where
     T::Decoder: View<'a> + Decoder<T> + Drop,
-    ensures found { IfOk result (λ t. IsDecodingOf T.makes T.shape bytes.now t) }
-    ensures unambiguous { SpellsAtMostOne T.shape bytes.now }
-    ensures bounded { IsBoundedByBytes T.shape bytes.now }
+    ensures found { IfOk result (λ t. IsDecodingOf T.data.makes T.data.shape bytes.now t) }
+    ensures unambiguous { SpellsAtMostOne T.data.shape bytes.now }
+    ensures bounded { IsBoundedByBytes T.data.shape bytes.now }
     ensures reasons { IfErr result (λ e. IsReadingReason e.reason) }
     ensures refused { IfErr result
-        (λ e. e.reason ≢ Reason.OutOfMemory → (d : Datum) → SpellsDatum T.shape bytes.now d → ⊥) }
+        (λ e. e.reason ≢ Reason.OutOfMemory → (d : Datum) → SpellsDatum T.data.shape bytes.now d
+        → ⊥) }
     ensures exact { IfErr result
         (λ e. NamesWholeFault T.Decoder.faults T.Decoder.makes_free T.Decoder.shape e.reason
         bytes.now) }
@@ -120,16 +122,16 @@ where
 /// let flag: bool = decode_strict(alloc, &[1])?;
 /// let same: bool = decode(alloc, &[255])?; // its unused digits are not 0, so `decode_strict` refuses it
 /// ```
-pub fn decode_strict<'a, T: HasDecoder<'a> + Made + Drop>(
+pub fn decode_strict<'a, T: HasDecoder<'a> + Shaped + Drop>(
     alloc: Global,
     bytes: &'a [u8],
 ) -> Result<T, Error>
 where
     T::Decoder: View<'a> + Decoder<T> + Drop,
-    ensures found { IfOk result (λ t. IsStrictDecodingOf T.makes T.shape bytes.now t) }
-    ensures unambiguous { SpellsAtMostOne T.shape bytes.now }
-    ensures bounded { IsBoundedByBytes T.shape bytes.now }
-    ensures refused { IfErr result (λ e. IsStrictRefusal T.shape e.reason bytes.now) }
+    ensures found { IfOk result (λ t. IsStrictDecodingOf T.data.makes T.data.shape bytes.now t) }
+    ensures unambiguous { SpellsAtMostOne T.data.shape bytes.now }
+    ensures bounded { IsBoundedByBytes T.data.shape bytes.now }
+    ensures refused { IfErr result (λ e. IsStrictRefusal T.data.shape e.reason bytes.now) }
     ensures exact { IfErr result
         (λ e. e.reason ≢ Reason.NotTheWrittenText
         → NamesWholeFault T.Decoder.faults T.Decoder.makes_free T.Decoder.shape e.reason
@@ -160,20 +162,20 @@ where
 /// let number: u16 = decode_front(alloc, &mut input)?;
 /// assert!(rt; flag && number == 7 && input.is_empty());
 /// ```
-pub fn decode_front<'a, T: HasDecoder<'a> + Made + Drop>(
+pub fn decode_front<'a, T: HasDecoder<'a> + Shaped + Drop>(
     alloc: Global,
     input: &mut &'a [u8],
 ) -> Result<T, Error>
 where
     T::Decoder: View<'a> + Decoder<T> + Drop,
     ensures found { IfOk result
-        (λ t. IsDecodingOfFront T.makes T.shape input.old.now t input.new.now) }
-    ensures unambiguous { BeginsWithAtMostOne T.shape input.old.now }
-    ensures bounded { IsBoundedByFront T.shape input.old.now }
+        (λ t. IsDecodingOfFront T.data.makes T.data.shape input.old.now t input.new.now) }
+    ensures unambiguous { BeginsWithAtMostOne T.data.shape input.old.now }
+    ensures bounded { IsBoundedByFront T.data.shape input.old.now }
     ensures reasons { IfErr result (λ e. IsReadingReason e.reason) }
     ensures refused { IfErr result
         (λ e. e.reason ≢ Reason.OutOfMemory → (d : Datum) (rest : List ℕ)
-        → BeginsWithDatum T.shape input.old.now d rest → ⊥) }
+        → BeginsWithDatum T.data.shape input.old.now d rest → ⊥) }
     ensures exact { IfErr result
         (λ e. NamesFrontFault T.Decoder.faults T.Decoder.makes_free T.Decoder.shape e.reason
         input.old.now) }
@@ -198,18 +200,18 @@ where
 /// let number: u16 = decode_front_strict(alloc, &mut input)?;
 /// assert!(rt; flag && number == 7 && input.is_empty());
 /// ```
-pub fn decode_front_strict<'a, T: HasDecoder<'a> + Made + Drop>(
+pub fn decode_front_strict<'a, T: HasDecoder<'a> + Shaped + Drop>(
     alloc: Global,
     input: &mut &'a [u8],
 ) -> Result<T, Error>
 where
     T::Decoder: View<'a> + Decoder<T> + Drop,
     ensures found { IfOk result
-        (λ t. IsStrictDecodingOfFront T.makes T.shape input.old.now t input.new.now) }
-    ensures unambiguous { BeginsWithAtMostOne T.shape input.old.now }
-    ensures bounded { IsBoundedByFront T.shape input.old.now }
+        (λ t. IsStrictDecodingOfFront T.data.makes T.data.shape input.old.now t input.new.now) }
+    ensures unambiguous { BeginsWithAtMostOne T.data.shape input.old.now }
+    ensures bounded { IsBoundedByFront T.data.shape input.old.now }
     ensures refused { IfErr result
-        (λ e. IsStrictFrontRefusal T.shape e.reason input.old.now input.new.now) }
+        (λ e. IsStrictFrontRefusal T.data.shape e.reason input.old.now input.new.now) }
     ensures exact { IfErr result (λ e. e.reason ≢ Reason.NotTheWrittenText
         → NamesFrontFault T.Decoder.faults T.Decoder.makes_free T.Decoder.shape e.reason
         input.old.now) }

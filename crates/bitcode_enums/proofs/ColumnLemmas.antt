@@ -1,16 +1,15 @@
 -- The columns of variants by place: those of one variant change, those of all are written and cleared.
-use Rattle.std.proofs.Common.{◌≡◌, ℕ, zero, suc, ◌+◌, ◌-◌, ◌<◌, ◌≤◌, Bool, List, [], ◌∷◌, ◌++◌, length, map, slice_index_or, slice_set, refl, sym, ap, ap₂, subst, ◌∙◌, append_assoc, append-nil, arith}
-use Rattle.std.specs.Prelude.{◌==◌, ◌&&◌, IsTrue}
+use Rattle.std.proofs.Common.{◌≡◌, ℕ, zero, suc, ◌+◌, ◌-◌, ◌<◌, ◌≤◌, List, [], ◌∷◌, ◌++◌, length, map, slice_index_or, slice_set, refl, sym, ap, subst, ◌∙◌, append_assoc, arith}
 use Rattle.std.proofs.lemmas.List.{length-set, set-append_left, set-append_right, get_or_append_left, get_or-append_right}
 use Rattle.bitcode_shapes.specs.Datum.{Datum}
 use Rattle.bitcode_shapes.specs.Shape.{Shapes, no_shapes, shape_and}
-use Rattle.bitcode_coder.specs.Columns.{Columns, no_columns, one, two, arrays, beside, emptied, CountsFit}
-use Rattle.bitcode_coder.specs.Coder.{written_columns, BeginsWith, JoinsListing, OverflowsWithListing}
+use Rattle.bitcode_coder.specs.Columns.{Columns, no_columns, two, beside, emptied, CountsFit}
+use Rattle.bitcode_coder.specs.Coder.{written_columns, JoinsListing, OverflowsWithListing}
 use Rattle.bitcode_coder.specs.Spelling.{columns_bytes}
 use Rattle.bitcode_parts.specs.Payloads.{JoinsPayload, OverflowsAtPayload}
 use Rattle.bitcode_parts.proofs.ChoiceWritingLemmas.{joins_here, joins_later, overflows_here, overflows_later}
 use Rattle.bitcode_enums.specs.ByNumber.{shape_at, columns_at, all_columns, bare_columns, KeepsOthers}
-use Rattle.bitcode_enums.specs.ByNumberLaws.{AreInTurn, in_turn, each_has_payloads}
+use Rattle.bitcode_enums.specs.ByNumberLaws.{each_has_payloads}
 use Rattle.bitcode_enums.specs.Writing.{JoinsVariant, OverflowsWithVariant}
 use Rattle.bitcode_enums.proofs.WritingLemmas.{from_first, from_next}
 
@@ -79,12 +78,6 @@ pub emptied_all : (lists : List Columns) → emptied (all_columns lists) ≡ all
 emptied_all [] = refl
 emptied_all (c ∷ cs) = ap (two (emptied c)) (emptied_all cs)
 
-pub emptied_twice : (a : Columns) → emptied (emptied a) ≡ emptied a
-emptied_twice no_columns = refl
-emptied_twice (one kind entries) = refl
-emptied_twice (two first second) = ap₂ two (emptied_twice first) (emptied_twice second)
-emptied_twice (arrays size count elements) = ap (arrays size 0) (emptied_twice elements)
-
 pub bare_all : (lists : List Columns) → lists ≡ map emptied lists → all_columns lists ≡ emptied (all_columns lists)
 bare_all lists is = ap all_columns is ∙ sym (emptied_all lists)
 
@@ -103,73 +96,15 @@ form_all old new is = emptied_all new ∙ ap all_columns is ∙ sym (emptied_all
 
 -- ---- all variants, one after the other
 
--- the columns of the variants up to a place are without entries
-abbrev pub emptied_to : ℕ → List Columns → List Columns
-emptied_to zero lists = lists
-emptied_to (suc place) [] = []
-emptied_to (suc place) (c ∷ cs) = emptied c ∷ emptied_to place cs
+pub emptied_columns : (old new : List Columns) → new ≡ map emptied old → all_columns new ≡ emptied (all_columns old)
+emptied_columns old new is = ap all_columns is ∙ sym (emptied_all old)
 
--- the bytes of the columns of the variants up to a place
-abbrev pub bytes_to : ℕ → List Columns → List ℕ
-bytes_to zero lists = []
-bytes_to (suc place) [] = []
-bytes_to (suc place) (c ∷ cs) = columns_bytes c ++ bytes_to place cs
-
-pub still_there : (place : ℕ) (lists : List Columns) → columns_at place (emptied_to place lists) ≡ columns_at place lists
-still_there zero lists = refl
-still_there (suc place) [] = refl
-still_there (suc place) (c ∷ cs) = still_there place cs
-
-emptied_at : (place : ℕ) (lists : List Columns) (c : Columns) → c ≡ emptied (columns_at place lists) → slice_set (emptied_to place lists) place c ≡ emptied_to (suc place) lists
-emptied_at zero [] c is = refl
-emptied_at zero (a ∷ more) c is = ap (λ b. b ∷ more) is
-emptied_at (suc place) [] c is = refl
-emptied_at (suc place) (a ∷ more) c is = ap (λ bs. emptied a ∷ bs) (emptied_at place more c is)
-
-pub emptied_next : (place : ℕ) (lists now new : List Columns) → now ≡ emptied_to place lists → KeepsOthers no_columns place now new
-    → columns_at place new ≡ emptied (columns_at place now) → new ≡ emptied_to (place + 1) lists
-emptied_next place lists now new is others empty =
-    others ∙ ap (λ cs. slice_set cs place (columns_at place new)) is
-    ∙ emptied_at place lists (columns_at place new) (empty ∙ ap (λ cs. emptied (columns_at place cs)) is ∙ ap emptied (still_there place lists))
-    ∙ ap (λ n. emptied_to n lists) (let e : suc place ≡ place + 1 = omega arith in e)
-
-pub emptied_whole : (place : ℕ) (lists : List Columns) → length lists ≤ place → emptied_to place lists ≡ map emptied lists
-emptied_whole zero [] past = refl
-emptied_whole zero (c ∷ cs) past = absurd (omega (arith, past))
-emptied_whole (suc place) [] past = refl
-emptied_whole (suc place) (c ∷ cs) past = ap (λ bs. emptied c ∷ bs) (emptied_whole place cs (omega (arith, past)))
-
-pub emptied_form : (place : ℕ) (lists : List Columns) → map emptied (emptied_to place lists) ≡ map emptied lists
-emptied_form zero lists = refl
-emptied_form (suc place) [] = refl
-emptied_form (suc place) (c ∷ cs) = ap₂ (λ a bs. a ∷ bs) (emptied_twice c) (emptied_form place cs)
-
-pub emptied_columns : (place : ℕ) (lists now : List Columns) → now ≡ emptied_to place lists → length lists ≤ place → all_columns now ≡ emptied (all_columns lists)
-emptied_columns place lists now is past = ap all_columns (is ∙ emptied_whole place lists past) ∙ sym (emptied_all lists)
-
-bytes_more : (place : ℕ) (lists : List Columns) → place < length lists → bytes_to (suc place) lists ≡ bytes_to place lists ++ columns_bytes (columns_at place lists)
-bytes_more zero [] below = absurd (omega (arith, below))
-bytes_more zero (c ∷ cs) below = append-nil (columns_bytes c)
-bytes_more (suc place) [] below = absurd (omega (arith, below))
-bytes_more (suc place) (c ∷ cs) below =
-    ap (λ bs. columns_bytes c ++ bs) (bytes_more place cs (omega (arith, below))) ∙ sym (append_assoc (columns_bytes c) (bytes_to place cs) (columns_bytes (columns_at place cs)))
-
-pub bytes_next : (place : ℕ) (lists now : List Columns) (start before after : List ℕ) → place < length lists → now ≡ emptied_to place lists → before ≡ start ++ bytes_to place lists
-    → after ≡ before ++ columns_bytes (columns_at place now) → after ≡ start ++ bytes_to (place + 1) lists
-bytes_next place lists now start before after below is written more =
-    more ∙ ap₂ (λ bs c. bs ++ columns_bytes c) written (ap (columns_at place) is ∙ still_there place lists)
-    ∙ append_assoc start (bytes_to place lists) (columns_bytes (columns_at place lists))
-    ∙ ap (λ bs. start ++ bs) (sym (bytes_more place lists below))
-    ∙ ap (λ n. start ++ bytes_to n lists) (let e : suc place ≡ place + 1 = omega arith in e)
-
-bytes_whole : (place : ℕ) (lists : List Columns) → length lists ≤ place → bytes_to place lists ≡ columns_bytes (all_columns lists)
-bytes_whole zero [] past = refl
-bytes_whole zero (c ∷ cs) past = absurd (omega (arith, past))
-bytes_whole (suc place) [] past = refl
-bytes_whole (suc place) (c ∷ cs) past = ap (λ bs. columns_bytes c ++ bs) (bytes_whole place cs (omega (arith, past)))
-
-pub bytes_all : (place : ℕ) (lists : List Columns) (start after : List ℕ) → length lists ≤ place → after ≡ start ++ bytes_to place lists → after ≡ start ++ columns_bytes (all_columns lists)
-bytes_all place lists start after past written = written ∙ ap (λ bs. start ++ bs) (bytes_whole place lists past)
+-- the bytes of some variants, and those of the ones behind them
+pub bytes_append : (front behind : List Columns) → columns_bytes (all_columns (front ++ behind)) ≡ columns_bytes (all_columns front) ++ columns_bytes (all_columns behind)
+bytes_append [] behind = refl
+bytes_append (c ∷ cs) behind =
+    ap (λ bs. columns_bytes c ++ bs) (bytes_append cs behind)
+    ∙ sym (append_assoc (columns_bytes c) (columns_bytes (all_columns cs)) (columns_bytes (all_columns behind)))
 
 -- ---- some variants, and others behind them
 
@@ -187,39 +122,29 @@ module _ {A : Type 0} (none : A) where
         ap (λ xs. front ++ xs) others ∙ sym (set-append_right front behind (length front) place (slice_index_or new (place - length front) none) refl past)
         ∙ ap (λ x. slice_set (front ++ behind) place x) (sym (get_or-append_right front new (length front) place none refl past))
 
-  module _ (first_start first_end second_start second_end : ℕ) (first second : Bool) (first_ordered : IsTrue first → first_start ≤ first_end)
-      (second_ordered : IsTrue second → second_start ≤ second_end) (turn : IsTrue ((first && second) && (second_start == first_end)))
-      (front behind : List A) (sized : IsTrue first → length front ≡ first_end - first_start) (number : ℕ) where
-    are : AreInTurn first_start first_end second_start second_end first second first_ordered second_ordered
-    are = in_turn first_start first_end second_start second_end first second first_ordered second_ordered turn
+  module _ (first second : ℕ) (front behind : List A) (sized : first + length front ≡ second) (number : ℕ) where
+    among_front : first ≤ number → number < second → number - first < length front
+    among_front from below = omega (arith, sized, from, below)
 
-    among_front : first_start ≤ number → number < second_start → number - first_start < length front
-    among_front from below = let f = are.follows in let o = are.first_order in let s = sized are.of_first in omega (arith, f, o, s, from, below)
+    past_front : second ≤ number → length front ≤ number - first
+    past_front past = omega (arith, sized, past)
 
-    past_front : second_start ≤ number → length front ≤ number - first_start
-    past_front past = let f = are.follows in let o = are.first_order in let s = sized are.of_first in omega (arith, f, o, s, past)
+    behind_place : second ≤ number → (number - first) - length front ≡ number - second
+    behind_place past = omega (arith, sized, past)
 
-    behind_place : second_start ≤ number → (number - first_start) - length front ≡ number - second_start
-    behind_place past = let f = are.follows in let o = are.first_order in let s = sized are.of_first in omega (arith, f, o, s, past)
+    pub at_first : first ≤ number → number < second → slice_index_or (front ++ behind) (number - first) none ≡ slice_index_or front (number - first) none
+    at_first from below = get_or_append_left front behind none (number - first) (among_front from below)
 
-    pub at_first : first_start ≤ number → number < second_start → slice_index_or (front ++ behind) (number - first_start) none ≡ slice_index_or front (number - first_start) none
-    at_first from below = get_or_append_left front behind none (number - first_start) (among_front from below)
-
-    pub at_second : second_start ≤ number → slice_index_or (front ++ behind) (number - first_start) none ≡ slice_index_or behind (number - second_start) none
+    pub at_second : second ≤ number → slice_index_or (front ++ behind) (number - first) none ≡ slice_index_or behind (number - second) none
     at_second past =
-        get_or-append_right front behind (length front) (number - first_start) none refl (past_front past)
+        get_or-append_right front behind (length front) (number - first) none refl (past_front past)
         ∙ ap (λ n. slice_index_or behind n none) (behind_place past)
 
-    pub keeps_first : first_start ≤ number → number < second_start → (new : List A) → KeepsOthers none (number - first_start) front new
-        → KeepsOthers none (number - first_start) (front ++ behind) (new ++ behind)
-    keeps_first from below new others = keeps_front front behind (number - first_start) (among_front from below) new others
+    pub keeps_first : first ≤ number → number < second → (new : List A) → KeepsOthers none (number - first) front new
+        → KeepsOthers none (number - first) (front ++ behind) (new ++ behind)
+    keeps_first from below new others = keeps_front front behind (number - first) (among_front from below) new others
 
-    pub keeps_second : second_start ≤ number → (new : List A) → KeepsOthers none (number - second_start) behind new
-        → KeepsOthers none (number - first_start) (front ++ behind) (front ++ new)
+    pub keeps_second : second ≤ number → (new : List A) → KeepsOthers none (number - second) behind new
+        → KeepsOthers none (number - first) (front ++ behind) (front ++ new)
     keeps_second past new others =
-        keeps_behind front behind (number - first_start) (past_front past) new (subst (λ n. KeepsOthers none n behind new) (sym (behind_place past)) others)
-
--- ---- what was written before
-
-pub begins_behind : (start written now : List ℕ) {new : List ℕ} → now ≡ start ++ written → BeginsWith now new → BeginsWith start new
-begins_behind start written now is h = record { more = written ++ h.more; whole = h.whole ∙ ap (λ bs. bs ++ h.more) is ∙ append_assoc start written h.more }
+        keeps_behind front behind (number - first) (past_front past) new (subst (λ n. KeepsOthers none n behind new) (sym (behind_place past)) others)

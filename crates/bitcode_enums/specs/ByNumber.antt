@@ -1,10 +1,10 @@
 -- The columns and the payloads of consecutive variants, by the index of a variant among them.
-use Rattle.std.specs.Prelude.{◌≡◌, ℕ, zero, suc, List, [], ◌∷◌, slice_index_or, slice_set, ◌⊎◌}
+use Rattle.std.specs.Prelude.{◌≡◌, ℕ, zero, suc, ◌+◌, List, [], ◌∷◌, ◌++◌, length, map, drop, slice_index_or, slice_set, ◌⊎◌}
 use Rattle.std.proofs.Common.{inl, inr}
 use Rattle.bitcode_memory.specs.declared.error.Reason.{Reason}
 use Rattle.bitcode_shapes.specs.Datum.{Datum}
 use Rattle.bitcode_shapes.specs.Shape.{Shape, Shapes, no_shapes, shape_and, never_shape}
-use Rattle.bitcode_coder.specs.Columns.{Columns, no_columns, two}
+use Rattle.bitcode_coder.specs.Columns.{Columns, no_columns, two, emptied}
 use Rattle.bitcode_coder.specs.Coder.{written_columns}
 use Rattle.bitcode_enums.specs.Reading.{EitherFault}
 
@@ -40,6 +40,12 @@ all_columns (c ∷ cs) = two c (all_columns cs)
 abbrev pub bare_columns : Shapes → List Columns
 bare_columns no_shapes = []
 bare_columns (shape_and s ss) = written_columns s [] ∷ bare_columns ss
+
+-- these are the columns of the variants from one number to the one before another: there are columns for each of them,
+-- and without entries, followed by those of the later variants, they are those of the shapes of the payloads
+abbrev pub AreColumnsOf : Shapes → (first end : ℕ) → List Columns → Type 0
+AreColumnsOf shapes first end lists =
+    (first + length lists ≡ end) × (map emptied lists ++ drop end (bare_columns shapes) ≡ drop first (bare_columns shapes))
 
 -- a statement about the columns of the variant of a payload
 abbrev pub joins_either : {A R : Type 0} → (A → Columns → Columns → Type 0) → (R → Columns → Columns → Type 0) → A ⊎ R → Columns → Columns → Type 0

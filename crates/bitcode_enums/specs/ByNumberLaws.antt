@@ -1,17 +1,15 @@
 -- A statement about the payload of one variant, as a statement about all variants.
-use Rattle.std.proofs.Common.{◌≡◌, ℕ, zero, suc, ◌+◌, ◌-◌, ◌<◌, ◌≤◌, Bool, List, [], ◌∷◌, ◌++◌, length, map, inl, inr, refl, sym, ap₂, ◌∙◌, arith}
-use Rattle.std.proofs.lemmas.Bool.{eqb-true}
-use Rattle.std.proofs.lemmas.List.{length-append}
-use Rattle.std.specs.Prelude.{◌⊎◌, ◌==◌, ◌&&◌, IsTrue}
+use Rattle.std.proofs.Common.{◌≡◌, ℕ, zero, suc, ◌+◌, ◌-◌, ◌<◌, ◌≤◌, List, [], ◌∷◌, ◌++◌, length, map, drop, inl, inr, refl, sym, ap, ap₂, ◌∙◌, append_assoc, append-nil, arith}
+use Rattle.std.proofs.lemmas.List.{drop_all, length-append, map-append}
+use Rattle.std.specs.Prelude.{◌⊎◌}
 use Rattle.bitcode_memory.specs.declared.error.Reason.{Reason}
 use Rattle.bitcode_shapes.specs.Datum.{Datum}
-use Rattle.bitcode_shapes.specs.Shape.{Shape, Shapes, no_shapes, shape_and}
-use Rattle.bitcode_shapes.specs.LawfulPairs.{both}
+use Rattle.bitcode_shapes.specs.Shape.{Shape, Shapes, no_shapes, shape_and, variant_count}
 use Rattle.bitcode_shapes.specs.Choices.{ListsLast, ListsVariant, MakesLast, MakesVariant}
 use Rattle.bitcode_coder.specs.Columns.{Columns, emptied}
 use Rattle.bitcode_coder.specs.Coder.{written_columns, JoinsListing, OverflowsWithListing, TakesDatum}
 use Rattle.bitcode_parts.specs.Payloads.{HasPayloads}
-use Rattle.bitcode_enums.specs.ByNumber.{shape_at, all_columns, bare_columns, faults_behind, index_either, joins_either, overflows_either, takes_either}
+use Rattle.bitcode_enums.specs.ByNumber.{shape_at, all_columns, bare_columns, AreColumnsOf, faults_behind, index_either, joins_either, overflows_either, takes_either}
 use Rattle.bitcode_enums.specs.WritingLaws.{first_has_payloads}
 
 -- ---- the last variant
@@ -84,47 +82,39 @@ each_has_payloads (shape_and s ss) (c ∷ cs) form first =
     let later : map emptied cs ≡ bare_columns ss = cc in
     first_has_payloads s ss c (all_columns cs) here (each_has_payloads ss cs later) first
 
--- ---- consecutive variants
-
-pub not_past : (first count : ℕ) → first ≤ first + count
-not_past first count = omega arith
-
-pub size_between : (first count : ℕ) → count ≡ (first + count) - first
-size_between first count = omega arith
-
 -- ---- one group of variants, followed by another
 
--- what both groups state about themselves, and that the second begins where the first ends
-module _ (first_start first_end second_start second_end : ℕ) (first second : Bool) (first_ordered : IsTrue first → first_start ≤ first_end) (second_ordered : IsTrue second → second_start ≤ second_end) where
-  pub record AreInTurn : Type 0 where
-    pub of_first : IsTrue first
-    pub of_second : IsTrue second
-    pub follows : second_start ≡ first_end
-    pub first_order : first_start ≤ first_end
-    pub second_order : second_start ≤ second_end
+module _ (shapes : Shapes) (first second end : ℕ) (front behind : List Columns) where
+  both_counted : first + length front ≡ second → second + length behind ≡ end → first + length (front ++ behind) ≡ end
+  both_counted f b = let sum = length-append front behind in omega (arith, sum, f, b)
 
-  pub in_turn : IsTrue ((first && second) && (second_start == first_end)) → AreInTurn
-  in_turn turn =
-      let split = both (first && second) (second_start == first_end) turn in
-      let parts = both first second split.0 in
-      record {
-        of_first = parts.0;
-        of_second = parts.1;
-        follows = eqb-true second_start first_end split.1;
-        first_order = first_ordered parts.0;
-        second_order = second_ordered parts.1;
-      }
+  pub both_groups : AreColumnsOf shapes first second front → AreColumnsOf shapes second end behind → AreColumnsOf shapes first end (front ++ behind)
+  both_groups f b = (
+    both_counted f.0 b.0,
+    ap (λ cs. cs ++ drop end (bare_columns shapes)) (map-append emptied front behind)
+        ∙ append_assoc (map emptied front) (map emptied behind) (drop end (bare_columns shapes))
+        ∙ ap (λ cs. map emptied front ++ cs) b.1 ∙ f.1,
+  )
 
-  pub parts_ordered : IsTrue ((first && second) && (second_start == first_end)) → first_start ≤ second_end
-  parts_ordered turn = let are = in_turn turn in let f = are.follows in let o = are.first_order in let p = are.second_order in omega (arith, f, o, p)
+-- the columns of the first variant, and those of the ones behind it
+pub columns_and : {a b : Columns} {more others : List Columns} → a ≡ b → more ≡ others → a ∷ more ≡ b ∷ others
+columns_and first behind = ap₂ (λ c cs. c ∷ cs) first behind
 
-  module _ (turn : IsTrue ((first && second) && (second_start == first_end))) where
-    sum : second_end - first_start ≡ (first_end - first_start) + (second_end - second_start)
-    sum = let are = in_turn turn in let f = are.follows in let o = are.first_order in let p = are.second_order in omega (arith, f, o, p)
+-- ---- all variants
 
-    pub parts_sized : {A : Type 0} (front behind : List A) → (IsTrue first → length front ≡ first_end - first_start) → (IsTrue second → length behind ≡ second_end - second_start)
-        → length (front ++ behind) ≡ second_end - first_start
-    parts_sized front behind f b = let are = in_turn turn in length-append front behind ∙ ap₂ (λ n m. n + m) (f are.of_first) (b are.of_second) ∙ sym sum
+pub from_zero : (number : ℕ) → number - 0 ≡ number
+from_zero number = omega arith
+
+bare_length : (shapes : Shapes) → length (bare_columns shapes) ≡ variant_count shapes
+bare_length no_shapes = refl
+bare_length (shape_and s ss) = ap suc (bare_length ss)
+
+-- what are the columns of all variants are without entries those of the shapes of the payloads
+pub whole_form : (shapes : Shapes) (count : ℕ) (lists : List Columns) → variant_count shapes ≡ count → AreColumnsOf shapes 0 count lists → map emptied lists ≡ bare_columns shapes
+whole_form shapes count lists counted are =
+    sym (append-nil (map emptied lists))
+    ∙ ap (λ cs. map emptied lists ++ cs) (sym (drop_all count (bare_columns shapes) (let size = bare_length shapes in omega (arith, size, counted))))
+    ∙ are.1
 
 pub fault_of_first : (number place : ℕ) (first_faults second_faults : ℕ → Reason → ℕ → List ℕ → Type 0) (reason : Reason) (k : ℕ) (input : List ℕ) → place < number
     → first_faults place reason k input → faults_behind number first_faults second_faults place reason k input

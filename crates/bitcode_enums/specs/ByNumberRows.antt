@@ -4,10 +4,9 @@ use Rattle.bitcode_memory.specs.declared.error.Reason.{Reason}
 use Rattle.bitcode_shapes.specs.Datum.{number, unit}
 use Rattle.bitcode_shapes.specs.Shape.{variant_count}
 use Rattle.bitcode_shapes.specs.Ints.{int_shape}
-use Rattle.bitcode_shapes.specs.LawfulEmpty.{unit_lawful, unit_makeable}
-use Rattle.bitcode_shapes.specs.LawfulInts.{width_1, int_lawful, unsigned_makeable}
-use Rattle.bitcode_shapes.specs.PayloadOf.{PayloadOf, payload_of}
-use Rattle.bitcode_shapes.specs.SameArrays.{one_datum_same_arrays}
+use Rattle.bitcode_shapes.specs.DataOf.{DataOf}
+use Rattle.bitcode_shapes.specs.LawfulInts.{width_1}
+use Rattle.bitcode_shapes.specs.LeafData.{unit_data, unsigned_data}
 use Rattle.bitcode_coder.specs.Coder.{JoinsListing}
 use Rattle.bitcode_coder.specs.Columns.{Columns, no_columns}
 use Rattle.bitcode_enums.specs.EachVariant.{Payloads, last_payload, payload_and, PayloadAt, each_variant}
@@ -19,17 +18,17 @@ data Shot : Type 0 where
   hit : ℕ → Shot
   fell : ℕ → Shot
 
-abbrev nothing : PayloadOf (Unit {0})
-nothing = payload_of unit_lawful (unit_makeable (record {})) one_datum_same_arrays
+abbrev nothing : DataOf (Unit {0})
+nothing = unit_data (record {}) (λ t u. refl)
 
-abbrev byte : PayloadOf ℕ
-byte = payload_of (int_lawful pos 1 false width_1) (unsigned_makeable 1) one_datum_same_arrays
+abbrev byte : DataOf ℕ
+byte = unsigned_data 1 width_1
 
 abbrev payloads : Payloads
 payloads = payload_and nothing (payload_and byte (last_payload byte))
 
 abbrev shots : VariantsOf Shot
-shots = (each_variant payloads (λ at. elim [ missed ↦ at 0 tt | hit a ↦ at 1 a | fell a ↦ at 2 a ]) ((λ p. (missed, refl)), ((λ p. (hit p, refl)), λ p. (fell p, refl)))).variants
+shots = (each_variant payloads refl (λ at. elim [ missed ↦ at 0 tt | hit a ↦ at 1 a | fell a ↦ at 2 a ]) ((λ p. (missed, refl)), ((λ p. (hit p, refl)), λ p. (fell p, refl))) (elim [ missed ↦ refl | hit a ↦ refl | fell a ↦ refl ])).variants
 
 -- ---- the numbers of the variants, and the shapes of their payloads
 

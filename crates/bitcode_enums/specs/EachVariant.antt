@@ -1,16 +1,16 @@
 -- What an enum states about its variants, one by one: the payloads of each, the payload of a value, and the value of a
 -- payload.
-use Rattle.std.proofs.Common.{◌≡◌, ℕ, zero, suc, inl, inr, ap}
+use Rattle.std.proofs.Common.{◌≡◌, ℕ, zero, suc, inl, inr, refl}
 use Rattle.std.specs.Prelude.{◌⊎◌}
-use Rattle.bitcode_shapes.specs.Choices.{IsVariantValue, SameVariant}
-use Rattle.bitcode_shapes.specs.PayloadOf.{PayloadOf}
-use Rattle.bitcode_shapes.specs.SameIsOne.{SameIsOne}
+use Rattle.bitcode_shapes.specs.DataOf.{DataOf}
+use Rattle.bitcode_shapes.specs.BareVariants.{AreSomeVariants}
+use Rattle.bitcode_shapes.specs.Shape.{variant_count}
 use Rattle.bitcode_enums.specs.VariantsOf.{VariantsOf, VariantLaws, first_variant_laws, first_variant, last_variant_laws, last_variant, laws_of, variants_of}
 
 -- the payloads of several variants, that of the first one first
 pub data Payloads : Type 1 where
-  last_payload : {A : Type 0} → PayloadOf A → Payloads
-  payload_and : {A : Type 0} → PayloadOf A → Payloads → Payloads
+  last_payload : {A : Type 0} → DataOf A → Payloads
+  payload_and : {A : Type 0} → DataOf A → Payloads → Payloads
 
 -- the payloads of the variant with a number
 abbrev pub PayloadAt : Payloads → ℕ → Type 0
@@ -38,22 +38,6 @@ pub laws_with : (payloads : Payloads) → VariantLaws (variants_with payloads)
 laws_with (last_payload a) = last_variant_laws a
 laws_with (payload_and a rest) = first_variant_laws a (variants_with rest) (laws_with rest)
 
--- for each variant, payloads that are the same are equal in every respect
-abbrev pub EachIsOne : Payloads → Type 0
-EachIsOne (last_payload a) = SameIsOne a.is_value a.same
-EachIsOne (payload_and a rest) = SameIsOne a.is_value a.same × EachIsOne rest
-
-some_is_one : {A R : Type 0} {is_a : A → Type 0} {is_r : R → Type 0} {same_a : A → A → Type 0} {same_r : R → R → Type 0}
-    → SameIsOne is_a same_a → SameIsOne is_r same_r → SameIsOne (IsVariantValue is_a is_r) (SameVariant same_a same_r)
-some_is_one first rest (inl a) (inl b) h i same = ap inl (first a b h i same)
-some_is_one first rest (inl a) (inr s) h i same = absurd same
-some_is_one first rest (inr r) (inl b) h i same = absurd same
-some_is_one first rest (inr r) (inr s) h i same = ap inr (rest r s h i same)
-
-pub some_payload_is_one : (payloads : Payloads) → EachIsOne payloads → SameIsOne (variants_with payloads).is_value (variants_with payloads).same
-some_payload_is_one (last_payload a) one = one
-some_payload_is_one (payload_and a rest) one = some_is_one one.0 (some_payload_is_one rest one.1)
-
 -- ---- an enum whose values correspond to such payloads
 
 -- the value with a payload: for each variant a function of its payloads
@@ -67,31 +51,36 @@ value_of payload (last_payload a) within each p = each p
 value_of payload (payload_and a rest) within each (inl p) = each.0 p
 value_of payload (payload_and a rest) within each (inr r) = value_of payload rest (λ s. within (inr s)) each.1 r
 
--- these are not unfolded: the laws of two enums are compared by their arguments
-pub each_laws : {T : Type 0} (payloads : Payloads) (payload : T → SomePayload payloads) → HasEach payload payloads (λ p. p) → VariantLaws (variants_of (variants_with payloads) payload)
-each_laws payloads payload each = laws_of (variants_with payloads) payload (value_of payload payloads (λ p. p) each) (laws_with payloads)
+-- this is not unfolded: the laws of two enums are compared by their arguments
+pub each_laws : {T : Type 0} (payloads : Payloads) (payload : T → SomePayload payloads) (each : HasEach payload payloads (λ p. p))
+    → ((t : T) → (value_of payload payloads (λ p. p) each (payload t)).0 ≡ t) → VariantLaws (variants_of (variants_with payloads) payload)
+each_laws payloads payload each one_to_one = laws_of (variants_with payloads) payload (value_of payload payloads (λ p. p) each) one_to_one (laws_with payloads)
 
-pub one_value : {T : Type 0} (payloads : Payloads) (payload : T → SomePayload payloads) (each : HasEach payload payloads (λ p. p))
-    → SameIsOne (variants_with payloads).is_value (variants_with payloads).same
-    → (t u : T) → (variants_with payloads).is_value (payload t) → (variants_with payloads).is_value (payload u) → (variants_with payloads).same (payload t) (payload u)
-    → (value_of payload payloads (λ p. p) each (payload t)).0 ≡ (value_of payload payloads (λ p. p) each (payload u)).0
-one_value payloads payload each one t u h i same = ap (λ p. (value_of payload payloads (λ q. q) each p).0) (one (payload t) (payload u) h i same)
-
+-- what an enum states: the payloads of its variants, the payload of a value, the value with a payload, and that a value
+-- is told by its payload
 pub record EachVariant (T : Type 0) : Type 1 where
+  pub payloads : Payloads
+  -- there are 2 to 256 variants
+  pub sized : AreSomeVariants (variant_count (variants_with payloads).shapes)
+  pub payload : T → SomePayload payloads
+  pub value : HasEach payload payloads (λ p. p)
+  pub one_to_one : (t : T) → (value_of payload payloads (λ p. p) value (payload t)).0 ≡ t
+  -- how its values are written and read follows
   pub variants : VariantsOf T
   pub laws : VariantLaws variants
-  -- the value found for the payload of a value
-  pub found : T → T
-  -- payloads that are the same are equal in every respect, for each variant
-  pub payloads_are_one : Type 0
-  pub one_found : payloads_are_one → (t u : T) → variants.is_value t → variants.is_value u → variants.same t u → found t ≡ found u
+  pub variants_are : variants ≡ variants_of (variants_with payloads) payload
 
-abbrev pub each_variant : {T : Type 0} (payloads : Payloads) (payload : ((number : ℕ) → PayloadAt payloads number → SomePayload payloads) → T → SomePayload payloads)
-    → HasEach (payload (payload_at payloads)) payloads (λ p. p) → EachVariant T
-each_variant payloads payload each = record {
+abbrev pub each_variant : {T : Type 0} (payloads : Payloads) → AreSomeVariants (variant_count (variants_with payloads).shapes)
+    → (payload : ((number : ℕ) → PayloadAt payloads number → SomePayload payloads) → T → SomePayload payloads)
+    → (each : HasEach (payload (payload_at payloads)) payloads (λ p. p))
+    → ((t : T) → (value_of (payload (payload_at payloads)) payloads (λ p. p) each (payload (payload_at payloads) t)).0 ≡ t) → EachVariant T
+each_variant payloads sized payload each one_to_one = record {
+  payloads = payloads;
+  sized = sized;
+  payload = payload (payload_at payloads);
+  value = each;
+  one_to_one = one_to_one;
   variants = variants_of (variants_with payloads) (payload (payload_at payloads));
-  laws = each_laws payloads (payload (payload_at payloads)) each;
-  found = λ t. (value_of (payload (payload_at payloads)) payloads (λ p. p) each (payload (payload_at payloads) t)).0;
-  payloads_are_one = EachIsOne payloads;
-  one_found = λ one t u h i same. one_value payloads (payload (payload_at payloads)) each (some_payload_is_one payloads one) t u h i same;
+  laws = each_laws payloads (payload (payload_at payloads)) each one_to_one;
+  variants_are = refl;
 }

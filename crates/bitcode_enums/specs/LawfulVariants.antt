@@ -9,6 +9,7 @@ use Rattle.bitcode_shapes.specs.Lawful.{Lawful}
 use Rattle.bitcode_shapes.specs.LawfulBareVariants.{at_least_two, at_most_256}
 use Rattle.bitcode_shapes.specs.LawfulChoices.{LawfulVariants, MakeableVariants, choice_lawful}
 use Rattle.bitcode_shapes.specs.ArrayCounts.{VariantsListSameArrays}
+use Rattle.bitcode_shapes.specs.SameData.{VariantsHoldSameData}
 use Rattle.bitcode_enums.specs.ByNumber.{index_either}
 
 -- ---- variants are numbered below their count
@@ -52,6 +53,11 @@ pub variants_image_same_arrays : {T U : Type 0} (stands_for : T → U) {shapes :
     → VariantsListSameArrays shapes is_value lists
     → VariantsListSameArrays shapes (λ t. is_value (stands_for t)) (λ t i d. lists (stands_for t) i d)
 variants_image_same_arrays stands_for of_image = record { at = λ t i j d e h l m. of_image.at (stands_for t) i j d e h l m }
+
+pub variants_image_same_data : {T U : Type 0} (stands_for : T → U) {determined : Bool} {is_value : U → Type 0} {lists : U → ℕ → Datum → Type 0} {same : U → U → Type 0}
+    → VariantsHoldSameData determined is_value lists same
+    → VariantsHoldSameData determined (λ t. is_value (stands_for t)) (λ t i d. lists (stands_for t) i d) (λ t u. same (stands_for t) (stands_for u))
+variants_image_same_data stands_for of_image = record { at = λ o t u i j d e h k s l m. of_image.at o (stands_for t) (stands_for u) i j d e h k s l m }
 
 -- ---- choices with a number of variants that enums may have
 

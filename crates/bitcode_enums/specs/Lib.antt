@@ -8,4 +8,5 @@ pub mod VariantsOf
 pub mod OneOf
 pub mod HeldColumns
 pub mod EachVariant
+pub mod EnumData
 pub mod ByNumberRows

@@ -8,11 +8,13 @@ use Rattle.bitcode_shapes.specs.Shape.{Shape, Shapes, no_shapes, shape_and, vari
 use Rattle.bitcode_shapes.specs.Choices.{IsVariantValue, ListsLast, ListsVariant, MakesLast, MakesVariant, SameVariant}
 use Rattle.bitcode_shapes.specs.ArrayCounts.{VariantsListSameArrays}
 use Rattle.bitcode_shapes.specs.SameArrays.{first_same_arrays, last_same_arrays}
-use Rattle.bitcode_shapes.specs.PayloadOf.{PayloadOf}
+use Rattle.bitcode_shapes.specs.DataOf.{DataOf}
+use Rattle.bitcode_shapes.specs.SameData.{VariantsHoldSameData, first_same_data, last_same_data}
+use Rattle.bitcode_shapes.specs.SameIsOne.{AreExact, images_exact, variants_exact}
 use Rattle.bitcode_shapes.specs.LawfulChoices.{LawfulVariants, MakeableVariants, first_lawful, first_makeable, last_lawful, last_makeable}
 use Rattle.bitcode_coder.specs.Columns.{Columns}
 use Rattle.bitcode_coder.specs.Coder.{JoinsListing, OverflowsWithListing, TakesDatum}
-use Rattle.bitcode_enums.specs.LawfulVariants.{below_last, below_either, variants_image_lawful, variants_image_makeable, variants_image_same_arrays}
+use Rattle.bitcode_enums.specs.LawfulVariants.{below_last, below_either, variants_image_lawful, variants_image_makeable, variants_image_same_arrays, variants_image_same_data}
 use Rattle.bitcode_enums.specs.ByNumber.{shape_at, index_either, joins_either, overflows_either, takes_either}
 use Rattle.bitcode_enums.specs.ByNumberLaws.{last_joined, last_overflowed, last_taken, either_joined, either_overflowed, either_taken, image_joined, image_overflowed, image_taken}
 
@@ -24,6 +26,8 @@ pub record VariantsOf (T : Type 0) : Type 1 where
   pub lists : T → ℕ → Datum → Type 0
   pub same : T → T → Type 0
   pub in_order : Bool
+  pub determined : Bool
+  pub exact : Bool
   pub index : T → ℕ
   pub makes : ℕ → Datum → T → Type 0
   -- the payload was added to the columns of its variant
@@ -39,19 +43,23 @@ pub record VariantLaws {T : Type 0} (vs : VariantsOf T) : Type 0 where
   pub lawful : LawfulVariants vs.shapes vs.is_value vs.lists vs.same vs.in_order
   pub makeable : MakeableVariants vs.shapes vs.is_value vs.lists vs.same vs.makes
   pub same_arrays : VariantsListSameArrays vs.shapes vs.is_value vs.lists
+  pub same_data : VariantsHoldSameData vs.determined vs.is_value vs.lists vs.same
+  pub are_exact : AreExact vs.exact vs.is_value vs.same
   pub joined : (t : T) (old new : Columns) → vs.joins t old new → JoinsListing (λ u d. vs.lists u (vs.index u) d) (shape_at (vs.index t) vs.shapes) t old new
   pub overflowed : (t : T) (old : Columns) → vs.overflows t old → OverflowsWithListing (λ u d. vs.lists u (vs.index u) d) (shape_at (vs.index t) vs.shapes) t old
   pub taken : (t : T) (old new : List Datum) → vs.takes t old new → TakesDatum (λ d u. vs.makes (vs.index t) d u) t old new
 
 -- ---- the last variant
 
-abbrev pub last_variant : {A : Type 0} → PayloadOf A → VariantsOf A
+abbrev pub last_variant : {A : Type 0} → DataOf A → VariantsOf A
 last_variant a = record {
   shapes = shape_and a.shape no_shapes;
   is_value = a.is_value;
   lists = ListsLast a.lists;
   same = a.same;
   in_order = a.in_order;
+  determined = a.determined;
+  exact = a.exact;
   index = λ v. 0;
   makes = MakesLast a.makes;
   joins = JoinsListing a.lists a.shape;
@@ -59,12 +67,14 @@ last_variant a = record {
   takes = TakesDatum a.makes;
 }
 
-pub last_variant_laws : {A : Type 0} (a : PayloadOf A) → VariantLaws (last_variant a)
+pub last_variant_laws : {A : Type 0} (a : DataOf A) → VariantLaws (last_variant a)
 last_variant_laws a = record {
   below = λ v. below_last a.shape;
   lawful = last_lawful a.lawful;
   makeable = last_makeable a.makeable;
   same_arrays = last_same_arrays a.same_arrays;
+  same_data = last_same_data a.same_data;
+  are_exact = a.are_exact;
   joined = last_joined;
   overflowed = last_overflowed;
   taken = last_taken a.makes;
@@ -72,13 +82,15 @@ last_variant_laws a = record {
 
 -- ---- the first variant, or one of the rest
 
-abbrev pub first_variant : {A R : Type 0} → PayloadOf A → VariantsOf R → VariantsOf (A ⊎ R)
+abbrev pub first_variant : {A R : Type 0} → DataOf A → VariantsOf R → VariantsOf (A ⊎ R)
 first_variant a r = record {
   shapes = shape_and a.shape r.shapes;
   is_value = IsVariantValue a.is_value r.is_value;
   lists = ListsVariant a.lists r.lists;
   same = SameVariant a.same r.same;
   in_order = a.in_order && r.in_order;
+  determined = a.determined && r.determined;
+  exact = a.exact && r.exact;
   index = index_either r.index;
   makes = MakesVariant a.makes r.makes;
   joins = joins_either (JoinsListing a.lists a.shape) r.joins;
@@ -86,12 +98,14 @@ first_variant a r = record {
   takes = takes_either (TakesDatum a.makes) r.takes;
 }
 
-pub first_variant_laws : {A R : Type 0} (a : PayloadOf A) (r : VariantsOf R) → VariantLaws r → VariantLaws (first_variant a r)
+pub first_variant_laws : {A R : Type 0} (a : DataOf A) (r : VariantsOf R) → VariantLaws r → VariantLaws (first_variant a r)
 first_variant_laws a r laws = record {
   below = below_either a.shape r.shapes r.index laws.below;
   lawful = first_lawful a.lawful laws.lawful;
   makeable = first_makeable a.makeable laws.makeable;
   same_arrays = first_same_arrays a.same_arrays laws.same_arrays;
+  same_data = first_same_data a.same_data laws.same_data;
+  are_exact = variants_exact a.are_exact laws.are_exact;
   joined = either_joined a.shape r.shapes a.lists r.lists r.index r.joins laws.joined;
   overflowed = either_overflowed a.shape r.shapes a.lists r.lists r.index r.overflows laws.overflowed;
   taken = either_taken r.index a.makes r.makes r.takes laws.taken;
@@ -106,6 +120,8 @@ variants_of v payload = record {
   lists = λ t i d. v.lists (payload t) i d;
   same = λ t u. v.same (payload t) (payload u);
   in_order = v.in_order;
+  determined = v.determined;
+  exact = v.exact;
   index = λ t. v.index (payload t);
   makes = λ i d t. v.makes i d (payload t);
   joins = λ t. v.joins (payload t);
@@ -113,12 +129,15 @@ variants_of v payload = record {
   takes = λ t. v.takes (payload t);
 }
 
-pub laws_of : {T V : Type 0} (v : VariantsOf V) (payload : T → V) → ((p : V) → (t : T) × (payload t ≡ p)) → VariantLaws v → VariantLaws (variants_of v payload)
-laws_of v payload find laws = record {
+pub laws_of : {T V : Type 0} (v : VariantsOf V) (payload : T → V) (find : (p : V) → (t : T) × (payload t ≡ p)) → ((t : T) → (find (payload t)).0 ≡ t)
+    → VariantLaws v → VariantLaws (variants_of v payload)
+laws_of v payload find one_to_one laws = record {
   below = λ t. laws.below (payload t);
   lawful = variants_image_lawful payload laws.lawful;
   makeable = variants_image_makeable payload find laws.makeable;
   same_arrays = variants_image_same_arrays payload laws.same_arrays;
+  same_data = variants_image_same_data payload laws.same_data;
+  are_exact = images_exact payload (λ p. (find p).0) one_to_one laws.are_exact;
   joined = λ t old new h. image_joined payload v.index v.lists t (laws.joined (payload t) old new h);
   overflowed = λ t old h. image_overflowed payload v.index v.lists t (laws.overflowed (payload t) old h);
   taken = λ t old new h. image_taken payload v.makes t (laws.taken (payload t) old new h);

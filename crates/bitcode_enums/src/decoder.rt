@@ -1,13 +1,15 @@
 //! The decoder of enums: it reads all variants, and then the payloads of each variant.
-ghost use Rattle.std.specs.Prelude.{◌+◌, refl};
+ghost use Rattle.std.proofs.Common.{sym};
+ghost use Rattle.std.specs.Prelude.{◌+◌};
 ghost use Rattle.bitcode_shapes.specs.Shape.{choice_shape};
 ghost use Rattle.bitcode_parts.specs.Payloads.{choices_of};
 ghost use Rattle.bitcode_parts.specs.Variants.{variants_left, variants_owned};
 ghost use Rattle.bitcode_enums.specs.ByNumber.{PayloadsFault};
 ghost use Rattle.bitcode_enums.specs.Reading.{VariantsFault};
 
-use crate::held::{Enum, EnumOf, Held};
-use crate::payloads::AllPayloads;
+use crate::held::{Enum, EnumOf};
+use crate::number::At;
+use crate::payloads::VariantPayloads;
 use bitcode_coder::coder::{Decoder, HoldsData, View, both};
 use bitcode_memory::error::Error;
 use bitcode_parts::choices::variant::VariantDecoder;
@@ -19,7 +21,7 @@ use std::marker::PhantomData;
 /// ```
 /// let mut shots: EnumDecoder<2, Shot, ShotPayloads> = EnumDecoder::new(alloc);
 /// shots.populate(&mut input, 1)?; // of [1, 7]
-/// let first: Held<2, Shot> = shots.decode()?; // of `Shot::Hit(7)`
+/// let first: Shot = shots.decode()?; // Shot::Hit(7)
 /// ```
 #[derive(Drop)]
 pub struct EnumDecoder<'a, const N: usize, T, D> {
@@ -28,7 +30,7 @@ pub struct EnumDecoder<'a, const N: usize, T, D> {
     of: PhantomData<T>,
 }
 
-impl<'a, const N: usize, T: EnumOf<N>, D: AllPayloads<'a, N, T>> HoldsData
+impl<'a, const N: usize, T: EnumOf<N>, D: VariantPayloads<'a, At<0>, At<N>, T>> HoldsData
     for EnumDecoder<'a, N, T, D> {
     ghost shape = { choice_shape T.each.variants.shapes };
 
@@ -37,7 +39,7 @@ impl<'a, const N: usize, T: EnumOf<N>, D: AllPayloads<'a, N, T>> HoldsData
     ghost owned = { λ d. variants_owned d.variants + D.held.owned d.payloads };
 }
 
-impl<'a, const N: usize, T: EnumOf<N>, D: AllPayloads<'a, N, T>> View<'a>
+impl<'a, const N: usize, T: EnumOf<N>, D: VariantPayloads<'a, At<0>, At<N>, T>> View<'a>
     for EnumDecoder<'a, N, T, D> {
     ghost faults = { VariantsFault N (PayloadsFault T.each.variants.shapes D.held.faults) };
 
@@ -61,16 +63,15 @@ impl<'a, const N: usize, T: EnumOf<N>, D: AllPayloads<'a, N, T>> View<'a>
     }
 }
 
-impl<'a, const N: usize, T: EnumOf<N>, D: AllPayloads<'a, N, T>> Decoder<Held<N, T>>
+impl<'a, const N: usize, T: EnumOf<N>, D: VariantPayloads<'a, At<0>, At<N>, T>> Decoder<T>
     for EnumDecoder<'a, N, T, D> {
     ghost makes_free = { D.held.makes_free };
 
-    fn decode(&mut self) -> Result<Held<N, T>, Error> {
+    fn decode(&mut self) -> Result<T, Error> {
         self.payloads.sized();
         let variant = self.variants.decode();
-        let value = self.payloads.decode_at(variant as usize)?;
-        Ok(Held::new(value))
+        self.payloads.decode_at(variant as usize)
     }
 
-    ghost same_shape = { refl };
+    ghost same_shape = { sym T.counted.1 };
 }

@@ -2,14 +2,15 @@
 ghost use Rattle.std.specs.Prelude.{◌≡◌, ◌+◌, ◌<◌, false};
 ghost use Rattle.bitcode_parts.specs.Variants.{written_variants, variant_room, variant_capacity};
 ghost use Rattle.bitcode_enums.specs.ByNumber.{all_columns};
-ghost use Rattle.bitcode_enums.specs.ByNumberLaws.{each_has_payloads};
+ghost use Rattle.bitcode_enums.specs.ByNumberLaws.{each_has_payloads, whole_form};
 ghost use Rattle.bitcode_enums.specs.Writing.{variant_columns};
 ghost use Rattle.bitcode_enums.specs.WritingLaws.{enum_of_shape};
 
-use crate::columns::AllColumns;
-use crate::held::{Enum, EnumShaped};
+use crate::columns::VariantColumns;
+use crate::held::{Enum, EnumOf};
+use crate::number::At;
 use crate::payload_columns::PayloadColumns;
-use crate::writes::WritesPayloads;
+use crate::writes::WritesVariants;
 use bitcode_coder::coder::{Buffer, Encoder, HoldsColumns, MAX_VECTORED_CHUNK};
 use bitcode_coder::part::{Part, told_parts};
 use bitcode_memory::error::Error;
@@ -18,7 +19,7 @@ use bitcode_parts::choices::variant::VariantEncoder;
 use std::alloc::Global;
 
 /// The columns of an enum of `N` variants, 2 to 256: the variants, followed by the columns of the payloads, which `C`
-/// holds by variant number.
+/// holds by variant.
 ///
 /// ```
 /// let mut shots: EnumEncoder<2, ShotColumns> = EnumEncoder::new(alloc);
@@ -30,23 +31,23 @@ use std::alloc::Global;
 #[derive(Drop)]
 pub struct EnumEncoder<const N: usize, C> {
     variants: VariantEncoder<N>,
-    payloads: PayloadColumns<N, C>,
+    payloads: PayloadColumns<C>,
 }
 
-impl<const N: usize, C: AllColumns<N>> HoldsColumns for EnumEncoder<N, C> {
+impl<const N: usize, C: VariantColumns> HoldsColumns for EnumEncoder<N, C> {
     ghost columns = { λ e. variant_columns N (written_variants e.variants)
-        (all_columns (C.held.lists e.payloads.columns)) };
+        (all_columns (C.columns.lists e.payloads.columns)) };
 
     ghost room = { λ e. variant_room e.variants };
 
-    ghost capacity = { λ e. variant_capacity e.variants + C.held.capacity e.payloads.columns };
+    ghost capacity = { λ e. variant_capacity e.variants + C.columns.capacity e.payloads.columns };
 
     ghost surely_overflows = { λ e n. ⊥ };
 
     ghost overflows = { λ e n. ⊥ };
 }
 
-impl<const N: usize, C: AllColumns<N>> Buffer for EnumEncoder<N, C> {
+impl<const N: usize, C: VariantColumns> Buffer for EnumEncoder<N, C> {
     fn new(alloc: Global) -> Self {
         EnumEncoder {
             variants: VariantEncoder::new(alloc),
@@ -72,7 +73,7 @@ impl<const N: usize, C: AllColumns<N>> Buffer for EnumEncoder<N, C> {
 // Says which variant a value is of.
 struct EnumVariant<const N: usize> {}
 
-impl<const N: usize, T: EnumShaped<N>> SaysVariant<T> for EnumVariant<N> {
+impl<const N: usize, T: EnumOf<N>> SaysVariant<T> for EnumVariant<N> {
     ghost count = { N };
 
     ghost variant = { T.each.variants.index };
@@ -82,13 +83,13 @@ impl<const N: usize, T: EnumShaped<N>> SaysVariant<T> for EnumVariant<N> {
     }
 }
 
-impl<const N: usize, C: AllColumns<N>, T: EnumShaped<N> + WritesPayloads<N, C>> Encoder<T>
+impl<const N: usize, C: VariantColumns, T: EnumOf<N> + WritesVariants<At<0>, At<N>, C>> Encoder<T>
     for EnumEncoder<N, C> {
     ghost writes_free = { false };
 
     fn encode(&mut self, t: &T) -> Result<(), Error> {
         self.variants.encode(Enum::variant(t));
-        self.payloads.encode_payload(t)
+        self.payloads.encode_payload::<N, T>(t)
     }
 
     fn encode_part_of_each<I, W: Part<I, T>>(
@@ -102,7 +103,7 @@ impl<const N: usize, C: AllColumns<N>, T: EnumShaped<N> + WritesPayloads<N, C>> 
         gather_variants::<I, T, W, EnumVariant<N>>(items, which, &mut variants);
         self.variants.encode_vectored(&variants[..items.len()]);
         for item in items {
-            self.payloads.encode_payload(which.part(item))?;
+            self.payloads.encode_payload::<N, T>(which.part(item))?;
         }
         Ok(())
     }
@@ -111,10 +112,11 @@ impl<const N: usize, C: AllColumns<N>, T: EnumShaped<N> + WritesPayloads<N, C>> 
         false
     }
 
-    ghost of_shape = { λ e. enum_of_shape T.each.variants.shapes T.shape N
-        (all_columns (C.held.lists e.payloads.columns)) T.count T.has_shape
-        (each_has_payloads T.each.variants.shapes (C.held.lists e.payloads.columns)
-        (T.of_shapes e.payloads.columns) 0) };
+    ghost of_shape = { λ e. enum_of_shape T.each.variants.shapes T.data.shape N
+        (all_columns (C.columns.lists e.payloads.columns)) T.counted.0 T.counted.1
+        (each_has_payloads T.each.variants.shapes (C.columns.lists e.payloads.columns)
+        (whole_form T.each.variants.shapes N (C.columns.lists e.payloads.columns) T.counted.0
+        (T.are_columns e.payloads.columns)) 0) };
 
     ghost surely = { λ e n h. absurd h };
 }

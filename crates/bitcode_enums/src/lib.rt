@@ -4,11 +4,11 @@
 pub mod columns;
 pub mod decoder;
 pub mod encoder;
-pub mod halves;
 pub mod held;
-pub mod opaque;
+pub mod not_compared;
+pub mod number;
 pub mod payload_columns;
 pub mod payloads;
-pub mod place;
+pub mod two_groups;
 pub mod variants;
 pub mod writes;

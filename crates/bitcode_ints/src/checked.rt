@@ -13,7 +13,7 @@ use bitcode_int_columns::column_int::ColumnInt;
 use bitcode_memory::error::{Error, Reason};
 use bitcode_memory::fast::CowSlice;
 use bitcode_memory::refuse::err;
-use bitcode_shapes::shaped::Made;
+use bitcode_shapes::shaped::Shaped;
 use std::alloc::Global;
 use std::marker::PhantomData;
 
@@ -21,16 +21,16 @@ mod nanosecond;
 mod types;
 
 /// A type whose values are some of the integers `I`, as those of `char` are some `u32`.
-pub trait Checked<I: ColumnInt>: Made + Drop {
+pub trait Checked<I: ColumnInt>: Shaped + Drop {
     // which integers have a value
     ghost allowed: { Allowed };
 
     /// The value of an integer, if the type allows it: `NonZeroU8` does not allow 0.
     fn from_bits(bits: I) -> Option<Self>
         ensures { MatchOption result (IsAllowed allowed (I.number bits) → ⊥)
-            (λ t. IsAllowed allowed (I.number bits) × Self.makes (number (I.number bits)) t) };
+            (λ t. IsAllowed allowed (I.number bits) × Self.data.makes (number (I.number bits)) t) };
 
-    ghost checked_shape: { Self.shape ≡ number_shape I.width I.signed allowed };
+    ghost checked_shape: { Self.data.shape ≡ number_shape I.width I.signed allowed };
 }
 
 /// The column that values of `C` are read from: integers `I`, each of which `C` allows.

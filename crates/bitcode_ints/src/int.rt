@@ -22,7 +22,7 @@ use bitcode_coder::part::Part;
 use bitcode_int_columns::column_int::ColumnInt;
 use bitcode_memory::error::{Error, Reason};
 use bitcode_memory::fast::{CowSlice, FastVec, PushUnchecked};
-use bitcode_shapes::shaped::{Made, Shaped};
+use bitcode_shapes::shaped::Shaped;
 use std::alloc::Global;
 use std::mem::replace;
 
@@ -33,12 +33,12 @@ mod types;
 pub trait AsInt<I: ColumnInt>: Shaped {
     /// The integer that is written for the value.
     fn to_int(&self) -> I
-        ensures { Self.lists self.now (number (I.number result)) };
+        ensures { Self.data.lists self.now (number (I.number result)) };
 
     /// Pushes the integers for the values of a slice. The caller must have reserved the room.
     fn push_ints(values: &[Self], ints: &mut FastVec<I>)
         requires { length values.now ≤ fast_room ints.old }
-        ensures written { PushesInts Self.lists I.number values.now (fast_items ints.old)
+        ensures written { PushesInts Self.data.lists I.number values.now (fast_items ints.old)
             (fast_items ints.new) }
         ensures room { fast_room ints.old ≤ fast_room ints.new + length values.now }
     {
@@ -53,7 +53,8 @@ pub trait AsInt<I: ColumnInt>: Shaped {
     /// The only error is `out of memory`. `out` is then unchanged.
     fn write_ints(_alloc: Global, _values: &[Self], _out: &mut Vec<u8>) -> Result<bool, Error>
         ensures written { IfOk result
-            (λ done. IsTrue done → WritesInts Self.lists I.width I.number _values.now _out.old.items
+            (λ done. IsTrue done → WritesInts Self.data.lists I.width I.number _values.now
+            _out.old.items
             _out.new.items) }
         ensures not_done { IfOk result (λ done. IsFalse done → _out.new.items ≡ _out.old.items) }
         ensures unchanged { OnErr result (_out.new.items ≡ _out.old.items) }
@@ -63,7 +64,7 @@ pub trait AsInt<I: ColumnInt>: Shaped {
     }
 
     ghost as_int_columns: { (ds : List Datum)
-        → written_columns Self.shape ds ≡ one (ints I.width I.signed) ds };
+        → written_columns Self.data.shape ds ≡ one (ints I.width I.signed) ds };
 }
 
 // Pushes integers that are written unchanged, by one copy. The caller must have reserved the room.
@@ -100,7 +101,8 @@ fn push_parts<S, P: AsInt<I>, I: ColumnInt, W: Part<S, P>>(
     mut ints: FastVec<I>,
 ) -> FastVec<I>
     requires { length items.now ≤ fast_room ints }
-    ensures written { PushesInts P.lists I.number (map (W.of which.now) items.now) (fast_items ints)
+    ensures written { PushesInts P.data.lists I.number (map (W.of which.now) items.now)
+        (fast_items ints)
         (fast_items result) }
     ensures room { fast_room ints ≤ fast_room result + length items.now }
 {
@@ -111,7 +113,7 @@ fn push_parts<S, P: AsInt<I>, I: ColumnInt, W: Part<S, P>>(
 }
 
 /// An integer type whose values are read unchanged.
-pub trait Integer: ColumnInt + Made {
+pub trait Integer: ColumnInt + Shaped {
     /// Takes the next `n` integers.
     ///
     /// If an allocation fails, the error is `out of memory`.
@@ -132,9 +134,9 @@ pub trait Integer: ColumnInt + Made {
         ints_of(alloc, bytes.chunk_unchecked(n))
     }
 
-    ghost integer_shape: { Self.shape ≡ int_shape Self.width Self.signed };
+    ghost integer_shape: { Self.data.shape ≡ int_shape Self.width Self.signed };
 
-    ghost integer_makes: { (t : Self) → Self.makes (number (Self.number t)) t };
+    ghost integer_makes: { (t : Self) → Self.data.makes (number (Self.number t)) t };
 }
 
 /// The column that integers are written to.

@@ -1,18 +1,14 @@
 //! Bytes of texts, and their encoder.
 ghost use Rattle.std.specs.Prelude.{◌≡◌, ◌+◌, ◌≤◌, ◌++◌, length, map, pos, true, refl};
 ghost use Rattle.bitcode_memory.specs.Fast.{fast_items, fast_room, fast_capacity};
-ghost use Rattle.bitcode_shapes.specs.SameArrays.{one_datum_same_arrays};
-ghost use Rattle.bitcode_shapes.specs.Shape.{raw_shape};
-ghost use Rattle.bitcode_shapes.specs.Ints.{ListsNumber, SameNumber};
 ghost use Rattle.bitcode_coder.specs.Columns.{raws, one};
-ghost use Rattle.bitcode_ints.specs.U8Char.{IsRawByte, raw_lawful};
+ghost use Rattle.bitcode_ints.specs.U8Char.{raw_data};
 ghost use Rattle.bitcode_coder.specs.Spelling.{natural};
 
 use bitcode_coder::coder::{Buffer, Encoder, HoldsColumns};
 use bitcode_coder::part::{Itself, Part};
 use bitcode_memory::error::Error;
 use bitcode_memory::fast::{FastVec, PushUnchecked};
-use bitcode_shapes::same_arrays::SameArrays;
 use bitcode_shapes::shaped::Shaped;
 use std::alloc::Global;
 use std::mem::replace;
@@ -25,25 +21,11 @@ use std::mem::replace;
 pub struct U8Char(pub u8);
 
 impl Shaped for U8Char {
-    ghost shape = { raw_shape };
-
-    ghost is_value = { IsRawByte (λ t. t.0) };
-
-    ghost lists = { ListsNumber (λ t. pos t.0) };
-
-    ghost same = { SameNumber (λ t. pos t.0) };
-
-    ghost in_order = { true };
+    ghost data = { raw_data (λ t. t.0) (λ n below. (record { 0 = n }, refl)) };
 
     fn told(&self) {
         let _byte = self.0;
     }
-
-    ghost lawful = { raw_lawful (λ t. t.0) };
-}
-
-impl SameArrays for U8Char {
-    ghost same_arrays = { one_datum_same_arrays };
 }
 
 // Pushes the byte of a part of each item. The caller must have reserved the room. The list is passed by value and

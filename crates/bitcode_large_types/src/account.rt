@@ -1,16 +1,12 @@
 //! `Account` corresponds to pairs of parts of its fields. What is below its declaration was written by
 //! `scripts/new_type`.
-ghost use Rattle.std.specs.Prelude.{refl};
-ghost use Rattle.bitcode.specs.ByHand.{listed_pair, stood_payload};
+ghost use Rattle.bitcode.specs.ByHand.{data_as, field_alike, pair_alike, refl};
 
 use crate::home::Home;
 use crate::trophy::Trophy;
 use bitcode::coder::{Decoder, HoldsData, View};
-use bitcode::own::{
-    DecoderOfFields, FromParts, HasField, InFields, Nth, PartsDecoder, Payload, StandsFor,
-    StructEncoder,
-};
-use bitcode::{Error, HasDecoder, HasEncoder, Shaped};
+use bitcode::own::{DecoderOfFields, HasField, InFields, Nth, StructEncoder};
+use bitcode::{ConvertFrom, ConvertFromDecoder, Error, HasDecoder, HasEncoder, Shaped};
 use std::alloc::Global;
 
 /// A player's account, as a server sends it.
@@ -47,42 +43,35 @@ pub struct AccountPart0<'a> {
 
 type Fields0<'a> = (u64, String, &'a str, u8, bool);
 
-impl<'a> StandsFor for AccountPart0<'a> {
-    type Parts = Fields0<'a>;
+impl<'a> Shaped for AccountPart0<'a> {
+    ghost data = { data_as (λ t. (t.id, t.name, t.country, t.level, t.active))
+        (λ p. (record { id = p.0; name = p.1; country = p.2; level = p.3; active = p.4 }, refl))
+        (λ t. refl) ⟦<Fields0<'a> as Shaped>⟧.data };
 
-    type Inside = ();
-
-    ghost parts = { λ t. (t.id, t.name, t.country, t.level, t.active) };
-
-    ghost of_parts = { λ p.
-        (record { id = p.0; name = p.1; country = p.2; level = p.3; active = p.4 }, refl) };
-
-    fn told_parts(&self) {
+    fn told(&self) {
         self.id.told();
         self.name.told();
         self.country.told();
         self.level.told();
         self.active.told();
     }
-
-    ghost one_to_one = { λ t. refl };
 }
 
-impl<'a> FromParts for AccountPart0<'a> {
-    fn from_parts((id, name, country, level, active): Fields0<'a>) -> Self {
-        AccountPart0 {
+impl<'a> ConvertFrom<Fields0<'a>> for AccountPart0<'a> {
+    fn convert_from(
+        _alloc: Global,
+        (id, name, country, level, active): Fields0<'a>,
+    ) -> Result<Self, Error> {
+        Ok(AccountPart0 {
             id,
             name,
             country,
             level,
             active,
-        }
+        })
     }
-}
 
-impl<'a> Payload for AccountPart0<'a> {
-    ghost payload = { stood_payload ⟦<AccountPart0<'a> as StandsFor>⟧.parts
-        ⟦<AccountPart0<'a> as StandsFor>⟧.of_parts ⟦<Fields0<'a> as Payload>⟧.payload };
+    ghost same_shape = { refl };
 }
 
 /// The decoder of each field of `Account` that is a `Fields0<'a>`: the borrow checker covers no decoder that names as
@@ -125,7 +114,7 @@ impl<'a> Decoder<Fields0<'a>> for AccountDecoder0<'a> {
 }
 
 impl<'a> HasDecoder<'a> for AccountPart0<'a> {
-    type Decoder = PartsDecoder<Fields0<'a>, AccountDecoder0<'a>>;
+    type Decoder = ConvertFromDecoder<Fields0<'a>, AccountDecoder0<'a>>;
 }
 
 /// Fields of `Account`, from `balance` to `home`.
@@ -141,27 +130,16 @@ pub struct AccountPart1 {
 
 type Fields1 = (i64, Option<i16>, Vec<u8>, char, Vec<String>, Home);
 
-impl StandsFor for AccountPart1 {
-    type Parts = Fields1;
+impl Shaped for AccountPart1 {
+    ghost data = { data_as (λ t. (t.balance, t.rating, t.avatar, t.initial, t.tags, t.home))
+        (λ p. (
+          record
+              { balance = p.0; rating = p.1; avatar = p.2; initial = p.3; tags = p.4; home = p.5 },
+          refl,
+        ))
+        (λ t. refl) ⟦<Fields1 as Shaped>⟧.data };
 
-    type Inside = ();
-
-    ghost parts = { λ t. (t.balance, t.rating, t.avatar, t.initial, t.tags, t.home) };
-
-    ghost of_parts = { λ p. (
-      record {
-        balance = p.0;
-        rating = p.1;
-        avatar = p.2;
-        initial = p.3;
-        tags = p.4;
-        home
-            = p.5;
-      },
-      refl,
-    ) };
-
-    fn told_parts(&self) {
+    fn told(&self) {
         self.balance.told();
         self.rating.told();
         self.avatar.told();
@@ -169,26 +147,24 @@ impl StandsFor for AccountPart1 {
         self.tags.told();
         self.home.told();
     }
-
-    ghost one_to_one = { λ t. refl };
 }
 
-impl FromParts for AccountPart1 {
-    fn from_parts((balance, rating, avatar, initial, tags, home): Fields1) -> Self {
-        AccountPart1 {
+impl ConvertFrom<Fields1> for AccountPart1 {
+    fn convert_from(
+        _alloc: Global,
+        (balance, rating, avatar, initial, tags, home): Fields1,
+    ) -> Result<Self, Error> {
+        Ok(AccountPart1 {
             balance,
             rating,
             avatar,
             initial,
             tags,
             home,
-        }
+        })
     }
-}
 
-impl Payload for AccountPart1 {
-    ghost payload = { stood_payload ⟦<AccountPart1 as StandsFor>⟧.parts
-        ⟦<AccountPart1 as StandsFor>⟧.of_parts ⟦<Fields1 as Payload>⟧.payload };
+    ghost same_shape = { refl };
 }
 
 /// The decoder of each field of `Account` that is a `Fields1`: the borrow checker covers no decoder that names as many
@@ -231,7 +207,7 @@ impl<'a> Decoder<Fields1> for AccountDecoder1<'a> {
 }
 
 impl<'a> HasDecoder<'a> for AccountPart1 {
-    type Decoder = PartsDecoder<Fields1, AccountDecoder1<'a>>;
+    type Decoder = ConvertFromDecoder<Fields1, AccountDecoder1<'a>>;
 }
 
 /// Fields of `Account`, from `position` to `rank`.
@@ -247,27 +223,22 @@ pub struct AccountPart2 {
 
 type Fields2 = ((i32, i32), Option<Trophy>, u32, u16, u128, u8);
 
-impl StandsFor for AccountPart2 {
-    type Parts = Fields2;
+impl Shaped for AccountPart2 {
+    ghost data = { data_as (λ t. (t.position, t.best, t.visits, t.friends, t.checksum, t.rank))
+        (λ p. (
+          record {
+            position = p.0;
+            best = p.1;
+            visits = p.2;
+            friends = p.3;
+            checksum = p.4;
+            rank
+                = p.5;
+          },
+          refl,
+        )) (λ t. refl) ⟦<Fields2 as Shaped>⟧.data };
 
-    type Inside = (<Trophy as StandsFor>::Parts, <Trophy as StandsFor>::Inside);
-
-    ghost parts = { λ t. (t.position, t.best, t.visits, t.friends, t.checksum, t.rank) };
-
-    ghost of_parts = { λ p. (
-      record {
-        position = p.0;
-        best = p.1;
-        visits = p.2;
-        friends = p.3;
-        checksum = p.4;
-        rank
-            = p.5;
-      },
-      refl,
-    ) };
-
-    fn told_parts(&self) {
+    fn told(&self) {
         self.position.told();
         self.best.told();
         self.visits.told();
@@ -275,108 +246,122 @@ impl StandsFor for AccountPart2 {
         self.checksum.told();
         self.rank.told();
     }
-
-    ghost one_to_one = { λ t. refl };
 }
 
-impl FromParts for AccountPart2 {
-    fn from_parts((position, best, visits, friends, checksum, rank): Fields2) -> Self {
-        AccountPart2 {
+impl ConvertFrom<Fields2> for AccountPart2 {
+    fn convert_from(
+        _alloc: Global,
+        (position, best, visits, friends, checksum, rank): Fields2,
+    ) -> Result<Self, Error> {
+        Ok(AccountPart2 {
             position,
             best,
             visits,
             friends,
             checksum,
             rank,
+        })
+    }
+
+    ghost same_shape = { refl };
+}
+
+/// The decoder of each field of `Account` that is a `Fields2`: the borrow checker covers no decoder that names as many
+/// types as all fields do.
+#[derive(Drop)]
+pub struct AccountDecoder2<'a> {
+    field: <Fields2 as HasDecoder<'a>>::Decoder,
+}
+
+impl<'a> HoldsData for AccountDecoder2<'a> {
+    ghost shape = { ⟦<<Fields2 as HasDecoder<'a>>::Decoder as HoldsData>⟧.shape };
+
+    ghost held = { λ d. ⟦<<Fields2 as HasDecoder<'a>>::Decoder as HoldsData>⟧.held d.field };
+
+    ghost owned = { λ d. ⟦<<Fields2 as HasDecoder<'a>>::Decoder as HoldsData>⟧.owned d.field };
+}
+
+impl<'a> View<'a> for AccountDecoder2<'a> {
+    ghost faults = { ⟦<<Fields2 as HasDecoder<'a>>::Decoder as View<'a>>⟧.faults };
+
+    fn new(alloc: Global) -> Self {
+        AccountDecoder2 {
+            field: View::new(alloc),
         }
+    }
+
+    fn read(&mut self, input: &mut &'a [u8], k: usize, strict: bool) -> Result<bool, Error> {
+        self.field.read(input, k, strict)
     }
 }
 
-impl Payload for AccountPart2 {
-    ghost payload = { stood_payload ⟦<AccountPart2 as StandsFor>⟧.parts
-        ⟦<AccountPart2 as StandsFor>⟧.of_parts ⟦<Fields2 as Payload>⟧.payload };
+impl<'a> Decoder<Fields2> for AccountDecoder2<'a> {
+    ghost makes_free = { ⟦<<Fields2 as HasDecoder<'a>>::Decoder as Decoder<Fields2>>⟧.makes_free };
+
+    fn decode(&mut self) -> Result<Fields2, Error> {
+        self.field.decode()
+    }
+
+    ghost same_shape = { refl };
 }
 
 impl<'a> HasDecoder<'a> for AccountPart2 {
-    type Decoder = DecoderOfFields<'a, Fields2>;
+    type Decoder = ConvertFromDecoder<Fields2, AccountDecoder2<'a>>;
 }
 
 type Parts<'a> = (AccountPart0<'a>, (AccountPart1, AccountPart2));
 
-impl<'a> StandsFor for Account<'a> {
-    type Parts = Parts<'a>;
+impl<'a> Shaped for Account<'a> {
+    ghost data = { data_as
+        (λ t. (
+          record
+              { id = t.id; name = t.name; country = t.country; level = t.level; active = t.active },
+          (
+            record {
+              balance = t.balance;
+              rating = t.rating;
+              avatar = t.avatar;
+              initial = t.initial;
+              tags = t.tags;
+              home = t.home;
+            },
+            record {
+              position = t.position;
+              best = t.best;
+              visits = t.visits;
+              friends = t.friends;
+              checksum = t.checksum;
+              rank = t.rank;
+            },
+          ),
+        ))
+        (λ p. (
+          record {
+            id = p.0.id;
+            name = p.0.name;
+            country = p.0.country;
+            level = p.0.level;
+            active
+                = p.0.active;
+            balance = p.1.0.balance;
+            rating = p.1.0.rating;
+            avatar = p.1.0.avatar;
+            initial
+                = p.1.0.initial;
+            tags = p.1.0.tags;
+            home = p.1.0.home;
+            position = p.1.1.position;
+            best
+                = p.1.1.best;
+            visits = p.1.1.visits;
+            friends = p.1.1.friends;
+            checksum = p.1.1.checksum;
+            rank = p.1.1.rank;
+          },
+          refl,
+        )) (λ t. refl) ⟦<Parts<'a> as Shaped>⟧.data };
 
-    type Inside = (
-        (
-            <AccountPart0<'a> as StandsFor>::Parts,
-            <AccountPart0<'a> as StandsFor>::Inside,
-        ),
-        (
-            <AccountPart1 as StandsFor>::Parts,
-            <AccountPart1 as StandsFor>::Inside,
-        ),
-        (
-            <AccountPart2 as StandsFor>::Parts,
-            <AccountPart2 as StandsFor>::Inside,
-        ),
-    );
-
-    ghost parts = { λ t. (
-      record {
-        id = t.id;
-        name = t.name;
-        country = t.country;
-        level = t.level;
-        active
-            = t.active;
-      },
-      (
-        record {
-          balance = t.balance;
-          rating = t.rating;
-          avatar = t.avatar;
-          initial = t.initial;
-          tags = t.tags;
-          home = t.home;
-        },
-        record {
-          position = t.position;
-          best = t.best;
-          visits = t.visits;
-          friends = t.friends;
-          checksum = t.checksum;
-          rank = t.rank;
-        },
-      ),
-    ) };
-
-    ghost of_parts = { λ p. (
-      record {
-        id = p.0.id;
-        name = p.0.name;
-        country = p.0.country;
-        level = p.0.level;
-        active
-            = p.0.active;
-        balance = p.1.0.balance;
-        rating = p.1.0.rating;
-        avatar = p.1.0.avatar;
-        initial
-            = p.1.0.initial;
-        tags = p.1.0.tags;
-        home = p.1.0.home;
-        position = p.1.1.position;
-        best
-            = p.1.1.best;
-        visits = p.1.1.visits;
-        friends = p.1.1.friends;
-        checksum = p.1.1.checksum;
-        rank = p.1.1.rank;
-      },
-      refl,
-    ) };
-
-    fn told_parts(&self) {
+    fn told(&self) {
         self.id.told();
         self.name.told();
         self.country.told();
@@ -395,12 +380,10 @@ impl<'a> StandsFor for Account<'a> {
         self.checksum.told();
         self.rank.told();
     }
-
-    ghost one_to_one = { λ t. refl };
 }
 
-impl<'a> FromParts for Account<'a> {
-    fn from_parts((part0, (part1, part2)): Parts<'a>) -> Self {
+impl<'a> ConvertFrom<Parts<'a>> for Account<'a> {
+    fn convert_from(_alloc: Global, (part0, (part1, part2)): Parts<'a>) -> Result<Self, Error> {
         let AccountPart0 {
             id,
             name,
@@ -424,7 +407,7 @@ impl<'a> FromParts for Account<'a> {
             checksum,
             rank,
         } = part2;
-        Account {
+        Ok(Account {
             id,
             name,
             country,
@@ -442,19 +425,14 @@ impl<'a> FromParts for Account<'a> {
             friends,
             checksum,
             rank,
-        }
+        })
     }
-}
 
-impl<'a> Payload for Account<'a> {
-    ghost payload = { stood_payload ⟦<Account<'a> as StandsFor>⟧.parts
-        ⟦<Account<'a> as StandsFor>⟧.of_parts ⟦<Parts<'a> as Payload>⟧.payload };
+    ghost same_shape = { refl };
 }
 
 impl<'a> HasField<0> for Account<'a> {
     type Field = u64;
-
-    type Inside = <Account<'a> as StandsFor>::Inside;
 
     ghost field = { λ t. t.id };
 
@@ -466,8 +444,6 @@ impl<'a> HasField<0> for Account<'a> {
 impl<'a> HasField<1> for Account<'a> {
     type Field = String;
 
-    type Inside = <Account<'a> as StandsFor>::Inside;
-
     ghost field = { λ t. t.name };
 
     fn field(&self) -> &String {
@@ -477,8 +453,6 @@ impl<'a> HasField<1> for Account<'a> {
 
 impl<'a> HasField<2> for Account<'a> {
     type Field = &'a str;
-
-    type Inside = <Account<'a> as StandsFor>::Inside;
 
     ghost field = { λ t. t.country };
 
@@ -490,8 +464,6 @@ impl<'a> HasField<2> for Account<'a> {
 impl<'a> HasField<3> for Account<'a> {
     type Field = u8;
 
-    type Inside = <Account<'a> as StandsFor>::Inside;
-
     ghost field = { λ t. t.level };
 
     fn field(&self) -> &u8 {
@@ -501,8 +473,6 @@ impl<'a> HasField<3> for Account<'a> {
 
 impl<'a> HasField<4> for Account<'a> {
     type Field = bool;
-
-    type Inside = <Account<'a> as StandsFor>::Inside;
 
     ghost field = { λ t. t.active };
 
@@ -514,8 +484,6 @@ impl<'a> HasField<4> for Account<'a> {
 impl<'a> HasField<5> for Account<'a> {
     type Field = i64;
 
-    type Inside = <Account<'a> as StandsFor>::Inside;
-
     ghost field = { λ t. t.balance };
 
     fn field(&self) -> &i64 {
@@ -525,8 +493,6 @@ impl<'a> HasField<5> for Account<'a> {
 
 impl<'a> HasField<6> for Account<'a> {
     type Field = Option<i16>;
-
-    type Inside = <Account<'a> as StandsFor>::Inside;
 
     ghost field = { λ t. t.rating };
 
@@ -538,8 +504,6 @@ impl<'a> HasField<6> for Account<'a> {
 impl<'a> HasField<7> for Account<'a> {
     type Field = Vec<u8>;
 
-    type Inside = <Account<'a> as StandsFor>::Inside;
-
     ghost field = { λ t. t.avatar };
 
     fn field(&self) -> &Vec<u8> {
@@ -549,8 +513,6 @@ impl<'a> HasField<7> for Account<'a> {
 
 impl<'a> HasField<8> for Account<'a> {
     type Field = char;
-
-    type Inside = <Account<'a> as StandsFor>::Inside;
 
     ghost field = { λ t. t.initial };
 
@@ -562,8 +524,6 @@ impl<'a> HasField<8> for Account<'a> {
 impl<'a> HasField<9> for Account<'a> {
     type Field = Vec<String>;
 
-    type Inside = <Account<'a> as StandsFor>::Inside;
-
     ghost field = { λ t. t.tags };
 
     fn field(&self) -> &Vec<String> {
@@ -573,8 +533,6 @@ impl<'a> HasField<9> for Account<'a> {
 
 impl<'a> HasField<10> for Account<'a> {
     type Field = Home;
-
-    type Inside = <Account<'a> as StandsFor>::Inside;
 
     ghost field = { λ t. t.home };
 
@@ -586,8 +544,6 @@ impl<'a> HasField<10> for Account<'a> {
 impl<'a> HasField<11> for Account<'a> {
     type Field = (i32, i32);
 
-    type Inside = <Account<'a> as StandsFor>::Inside;
-
     ghost field = { λ t. t.position };
 
     fn field(&self) -> &(i32, i32) {
@@ -597,8 +553,6 @@ impl<'a> HasField<11> for Account<'a> {
 
 impl<'a> HasField<12> for Account<'a> {
     type Field = Option<Trophy>;
-
-    type Inside = <Account<'a> as StandsFor>::Inside;
 
     ghost field = { λ t. t.best };
 
@@ -610,8 +564,6 @@ impl<'a> HasField<12> for Account<'a> {
 impl<'a> HasField<13> for Account<'a> {
     type Field = u32;
 
-    type Inside = <Account<'a> as StandsFor>::Inside;
-
     ghost field = { λ t. t.visits };
 
     fn field(&self) -> &u32 {
@@ -621,8 +573,6 @@ impl<'a> HasField<13> for Account<'a> {
 
 impl<'a> HasField<14> for Account<'a> {
     type Field = u16;
-
-    type Inside = <Account<'a> as StandsFor>::Inside;
 
     ghost field = { λ t. t.friends };
 
@@ -634,8 +584,6 @@ impl<'a> HasField<14> for Account<'a> {
 impl<'a> HasField<15> for Account<'a> {
     type Field = u128;
 
-    type Inside = <Account<'a> as StandsFor>::Inside;
-
     ghost field = { λ t. t.checksum };
 
     fn field(&self) -> &u128 {
@@ -645,8 +593,6 @@ impl<'a> HasField<15> for Account<'a> {
 
 impl<'a> HasField<16> for Account<'a> {
     type Field = u8;
-
-    type Inside = <Account<'a> as StandsFor>::Inside;
 
     ghost field = { λ t. t.rank };
 
@@ -672,30 +618,17 @@ impl<'a> InFields<Fields<'a>> for Account<'a> {
         ),
     );
 
-    type Inside = (
-        <Account<'a> as StandsFor>::Parts,
-        <Account<'a> as StandsFor>::Inside,
-    );
+    type Inside = <Account<'a> as HasDecoder<'a>>::Decoder;
 
     ghost same_shape = { refl };
 
-    ghost to_fields = { λ t. listed_pair
-        (listed_pair (listed_pair (λ d h. h) (λ d h. h))
-        (listed_pair (λ d h. h) (listed_pair (λ d h. h) (λ d h. h))))
-        (listed_pair
-        (listed_pair (listed_pair (λ d h. h) (listed_pair (λ d h. h) (λ d h. h)))
-        (listed_pair (λ d h. h) (listed_pair (λ d h. h) (λ d h. h))))
-        (listed_pair (listed_pair (λ d h. h) (listed_pair (λ d h. h) (λ d h. h)))
-        (listed_pair (λ d h. h) (listed_pair (λ d h. h) (λ d h. h))))) };
-
-    ghost of_fields = { λ t. listed_pair
-        (listed_pair (listed_pair (λ d h. h) (λ d h. h))
-        (listed_pair (λ d h. h) (listed_pair (λ d h. h) (λ d h. h))))
-        (listed_pair
-        (listed_pair (listed_pair (λ d h. h) (listed_pair (λ d h. h) (λ d h. h)))
-        (listed_pair (λ d h. h) (listed_pair (λ d h. h) (λ d h. h))))
-        (listed_pair (listed_pair (λ d h. h) (listed_pair (λ d h. h) (λ d h. h)))
-        (listed_pair (λ d h. h) (listed_pair (λ d h. h) (λ d h. h))))) };
+    ghost same_listings = { λ t. pair_alike
+        (pair_alike (pair_alike field_alike field_alike)
+        (pair_alike field_alike (pair_alike field_alike field_alike)))
+        (pair_alike (pair_alike (pair_alike field_alike (pair_alike field_alike field_alike))
+        (pair_alike field_alike (pair_alike field_alike field_alike)))
+        (pair_alike (pair_alike field_alike (pair_alike field_alike field_alike))
+        (pair_alike field_alike (pair_alike field_alike field_alike)))) };
 }
 
 impl<'a> HasEncoder for Account<'a> {

@@ -1,12 +1,11 @@
 //! `Home` corresponds to the tuple of its fields. What is below its declaration was written by `scripts/new_type`.
-ghost use Rattle.std.specs.Prelude.{[], refl, ◌∷◌};
-ghost use Rattle.bitcode.specs.ByHand.{ands_in_order, key_as, listed_pair, stood_key, stood_payload, thens_in_order};
+ghost use Rattle.std.specs.Prelude.{◌∷◌};
+ghost use Rattle.bitcode.specs.ByHand.{[], ands_in_order, data_as, field_alike, key_as, pair_alike, refl};
+ghost use Rattle.bitcode.specs.ByHand.{thens_in_order};
 
-use bitcode::own::{
-    DecoderOfFields, FromParts, HasField, InFields, KeyPayload, Nth, Payload, StandsFor,
-    StructEncoder,
-};
-use bitcode::{DecodeOwned, HasDecoder, HasEncoder, Key, Shaped};
+use bitcode::own::{DecoderOfFields, HasField, InFields, Nth, StructEncoder};
+use bitcode::{ConvertFrom, DecodeOwned, Error, HasDecoder, HasEncoder, Key, Shaped};
+use std::alloc::Global;
 
 /// Where a player lives.
 #[derive(Debug, Clone, Copy, PartialEq, Eq, PartialOrd, Ord)]
@@ -16,43 +15,37 @@ pub struct Home {
     pub plot: u16,
 }
 
-impl StandsFor for Home {
-    type Parts = (u8, u16, u16);
+impl Shaped for Home {
+    ghost data = { key_as
+        (data_as (λ t. (t.sector, t.planet, t.plot))
+        (λ p. (record { sector = p.0; planet = p.1; plot = p.2 }, refl)) (λ t. refl)
+        ⟦<(u8, u16, u16) as Shaped>⟧.data) ⟦<Home as PartialEq>⟧.eq ⟦<Home as Ord>⟧.cmp
+        (λ s t. ands_in_order (⟦<u8 as PartialEq>⟧.eq s.sector t.sector)
+        ((⟦<u16 as PartialEq>⟧.eq s.planet t.planet) ∷ (⟦<u16 as PartialEq>⟧.eq s.plot t.plot)
+        ∷ [])) (λ s t. thens_in_order (⟦<u8 as Ord>⟧.cmp s.sector t.sector)
+        ((⟦<u16 as Ord>⟧.cmp s.planet t.planet) ∷ (⟦<u16 as Ord>⟧.cmp s.plot t.plot) ∷ [])) };
 
-    type Inside = ();
-
-    ghost parts = { λ t. (t.sector, t.planet, t.plot) };
-
-    ghost of_parts = { λ p. (record { sector = p.0; planet = p.1; plot = p.2 }, refl) };
-
-    fn told_parts(&self) {
+    fn told(&self) {
         self.sector.told();
         self.planet.told();
         self.plot.told();
     }
-
-    ghost one_to_one = { λ t. refl };
 }
 
-impl FromParts for Home {
-    fn from_parts((sector, planet, plot): (u8, u16, u16)) -> Self {
-        Home {
+impl ConvertFrom<(u8, u16, u16)> for Home {
+    fn convert_from(_alloc: Global, (sector, planet, plot): (u8, u16, u16)) -> Result<Self, Error> {
+        Ok(Home {
             sector,
             planet,
             plot,
-        }
+        })
     }
-}
 
-impl Payload for Home {
-    ghost payload = { stood_payload ⟦<Home as StandsFor>⟧.parts ⟦<Home as StandsFor>⟧.of_parts
-        ⟦<(u8, u16, u16) as Payload>⟧.payload };
+    ghost same_shape = { refl };
 }
 
 impl HasField<0> for Home {
     type Field = u8;
-
-    type Inside = ();
 
     ghost field = { λ t. t.sector };
 
@@ -64,8 +57,6 @@ impl HasField<0> for Home {
 impl HasField<1> for Home {
     type Field = u16;
 
-    type Inside = ();
-
     ghost field = { λ t. t.planet };
 
     fn field(&self) -> &u16 {
@@ -75,8 +66,6 @@ impl HasField<1> for Home {
 
 impl HasField<2> for Home {
     type Field = u16;
-
-    type Inside = ();
 
     ghost field = { λ t. t.plot };
 
@@ -90,13 +79,11 @@ type Fields = <(u8, (u16, u16)) as HasEncoder>::Encoder;
 impl InFields<Fields> for Home {
     type Numbers = (Nth<0>, (Nth<1>, Nth<2>));
 
-    type Inside = ();
+    type Inside = <Home as HasDecoder<'static>>::Decoder;
 
     ghost same_shape = { refl };
 
-    ghost to_fields = { λ t. listed_pair (λ d h. h) (listed_pair (λ d h. h) (λ d h. h)) };
-
-    ghost of_fields = { λ t. listed_pair (λ d h. h) (listed_pair (λ d h. h) (λ d h. h)) };
+    ghost same_listings = { λ t. pair_alike field_alike (pair_alike field_alike field_alike) };
 }
 
 impl HasEncoder for Home {
@@ -109,16 +96,8 @@ impl<'a> HasDecoder<'a> for Home {
 
 impl DecodeOwned for Home {}
 
-impl KeyPayload for Home {
-    ghost key = { key_as
-        (stood_key ⟦<Home as StandsFor>⟧.parts ⟦<Home as StandsFor>⟧.of_parts
-        ⟦<(u8, u16, u16) as KeyPayload>⟧.key) ⟦<Home as PartialEq>⟧.eq ⟦<Home as Ord>⟧.cmp
-        (λ s t. ands_in_order (⟦<u8 as PartialEq>⟧.eq s.sector t.sector)
-        ((⟦<u16 as PartialEq>⟧.eq s.planet t.planet) ∷ (⟦<u16 as PartialEq>⟧.eq s.plot t.plot)
-        ∷ [])) (λ s t. thens_in_order (⟦<u8 as Ord>⟧.cmp s.sector t.sector)
-        ((⟦<u16 as Ord>⟧.cmp s.planet t.planet) ∷ (⟦<u16 as Ord>⟧.cmp s.plot t.plot) ∷ [])) };
-}
-
 impl Key for Home {
-    ghost keyed = { ⟦<Home as KeyPayload>⟧.key.told };
+    ghost equal = { refl };
+
+    ghost ordered = { refl };
 }

@@ -1,16 +1,15 @@
 //! `Packet` is written and read by the numbers of its variants. What is below its declaration was written by
 //! `scripts/new_type`.
-ghost use Rattle.std.specs.Prelude.{◌≡◌, refl, true};
-ghost use Rattle.bitcode.specs.ByHand.{columns_in, each_variant, is_variant, last_payload, of_one_of_4, payload_and};
-ghost use Rattle.bitcode.specs.ByHand.{payloads_in, stood_payload};
+ghost use Rattle.std.specs.Prelude.{◌≡◌};
+ghost use Rattle.bitcode.specs.ByHand.{columns_in, each_variant, enum_data, is_variant, last_payload, of_one_of_4};
+ghost use Rattle.bitcode.specs.ByHand.{payload_and, payloads_in, refl};
 ghost use Rattle.bitcode_large_types.specs.declared.packet.Packet.{Packet};
 
 use bitcode::own::{
-    AllColumns, AllPayloads, At, DecodersOf4, EncodersOf4, Enum, EnumDecoder, EnumEncoder, EnumOf,
-    Halves, Held, HeldIn, OneOf4, Opaque, PartsDecoder, Payload, StandsFor, VariantColumns,
-    VariantPayloads, Variants4, WritesPayloads, WritesVariants, told_as,
+    At, DecodersOf4, EncodersOf4, Enum, EnumDecoder, EnumEncoder, EnumOf, NotCompared, OneOf4,
+    TwoGroups, VariantColumns, VariantPayloads, Variants4, WritesVariants, told_as,
 };
-use bitcode::{DecodeOwned, Error, HasDecoder, HasEncoder};
+use bitcode::{DecodeOwned, Error, HasDecoder, HasEncoder, Shaped};
 use std::alloc::Global;
 
 /// What the players and the server of a game send each other.
@@ -40,26 +39,26 @@ pub enum Packet {
 
 impl Enum for Packet {
     ghost each = { each_variant
-        (payload_and ⟦<() as Payload>⟧.payload
-        (payload_and ⟦<() as Payload>⟧.payload
-        (payload_and ⟦<(String, u64) as Payload>⟧.payload
-        (payload_and ⟦<() as Payload>⟧.payload
-        (payload_and ⟦<(u32, String) as Payload>⟧.payload
-        (payload_and ⟦<String as Payload>⟧.payload
-        (payload_and ⟦<u16 as Payload>⟧.payload
-        (payload_and ⟦<u16 as Payload>⟧.payload
-        (payload_and ⟦<String as Payload>⟧.payload
-        (payload_and ⟦<(u32, String) as Payload>⟧.payload
-        (payload_and ⟦<(i32, i32) as Payload>⟧.payload
-        (payload_and ⟦<i16 as Payload>⟧.payload
-        (payload_and ⟦<u32 as Payload>⟧.payload
-        (payload_and ⟦<(u32, u16) as Payload>⟧.payload
-        (payload_and ⟦<u16 as Payload>⟧.payload
-        (payload_and ⟦<(u64, u16) as Payload>⟧.payload
-        (payload_and ⟦<u64 as Payload>⟧.payload
-        (payload_and ⟦<Vec<u16> as Payload>⟧.payload
-        (payload_and ⟦<Option<u32> as Payload>⟧.payload
-        (last_payload ⟦<() as Payload>⟧.payload))))))))))))))))))))
+        (payload_and ⟦<() as Shaped>⟧.data
+        (payload_and ⟦<() as Shaped>⟧.data
+        (payload_and ⟦<(String, u64) as Shaped>⟧.data
+        (payload_and ⟦<() as Shaped>⟧.data
+        (payload_and ⟦<(u32, String) as Shaped>⟧.data
+        (payload_and ⟦<String as Shaped>⟧.data
+        (payload_and ⟦<u16 as Shaped>⟧.data
+        (payload_and ⟦<u16 as Shaped>⟧.data
+        (payload_and ⟦<String as Shaped>⟧.data
+        (payload_and ⟦<(u32, String) as Shaped>⟧.data
+        (payload_and ⟦<(i32, i32) as Shaped>⟧.data
+        (payload_and ⟦<i16 as Shaped>⟧.data
+        (payload_and ⟦<u32 as Shaped>⟧.data
+        (payload_and ⟦<(u32, u16) as Shaped>⟧.data
+        (payload_and ⟦<u16 as Shaped>⟧.data
+        (payload_and ⟦<(u64, u16) as Shaped>⟧.data
+        (payload_and ⟦<u64 as Shaped>⟧.data
+        (payload_and ⟦<Vec<u16> as Shaped>⟧.data
+        (payload_and ⟦<Option<u32> as Shaped>⟧.data
+        (last_payload ⟦<() as Shaped>⟧.data)))))))))))))))))))) refl
         (λ at. elim [
           | Packet.Ping ↦ at 0 tt
           | Packet.Pong ↦ at 1 tt
@@ -143,9 +142,32 @@ impl Enum for Packet {
               ),
             ),
           ),
-        ) };
-
-    ghost sized = { refl };
+        )
+        (elim [
+          | Packet.Ping ↦ refl
+          | Packet.Pong ↦ refl
+          | Packet.Login a b ↦ refl
+          | Packet.Logout ↦
+              refl
+          | Packet.Welcome a b ↦ refl
+          | Packet.Refused a ↦ refl
+          | Packet.Join a ↦ refl
+          | Packet.Leave a ↦ refl
+          | Packet.Say a ↦ refl
+          | Packet.Whisper a b ↦ refl
+          | Packet.Move a b ↦
+              refl
+          | Packet.Turn a ↦ refl
+          | Packet.Attack a ↦ refl
+          | Packet.Hit a b ↦ refl
+          | Packet.Heal a
+              ↦ refl
+          | Packet.Take a b ↦ refl
+          | Packet.Drop a ↦ refl
+          | Packet.Inventory a ↦ refl
+          | Packet.Score a ↦ refl
+          | Packet.Quit ↦ refl
+        ]) };
 
     fn variant(&self) -> u8 {
         match self {
@@ -171,47 +193,25 @@ impl Enum for Packet {
             Packet::Quit => 19,
         }
     }
+}
 
-    ghost one_to_one = { elim [
-      | Packet.Ping ↦ refl
-      | Packet.Pong ↦ refl
-      | Packet.Login a b ↦ refl
-      | Packet.Logout ↦ refl
-      | Packet.Welcome a b ↦ refl
-      | Packet.Refused a ↦ refl
-      | Packet.Join a ↦ refl
-      | Packet.Leave a
-          ↦ refl
-      | Packet.Say a ↦ refl
-      | Packet.Whisper a b ↦ refl
-      | Packet.Move a b ↦ refl
-      | Packet.Turn a ↦ refl
-      | Packet.Attack a ↦ refl
-      | Packet.Hit a b ↦ refl
-      | Packet.Heal a ↦ refl
-      | Packet.Take a b ↦ refl
-      | Packet.Drop a ↦ refl
-      | Packet.Inventory a ↦ refl
-      | Packet.Score a
-          ↦ refl
-      | Packet.Quit ↦ refl
-    ] };
+impl Shaped for Packet {
+    ghost data = { enum_data ⟦<Packet as Enum>⟧.each };
+
+    fn told(&self) {
+        let _number = self.variant();
+    }
 }
 
 impl EnumOf<20> for Packet {
-    ghost count = { refl };
+    ghost counted = { (refl, refl) };
+
+    ghost lists_variants = { λ t d listed. listed };
+
+    ghost makes_variants = { λ d t made. made };
 }
 
-impl HeldIn for Packet {
-    type Holder = Held<20, Packet>;
-}
-
-impl Payload for Packet {
-    ghost payload = { stood_payload ⟦<Packet as StandsFor>⟧.parts ⟦<Packet as StandsFor>⟧.of_parts
-        ⟦<Held<20, Packet> as Payload>⟧.payload };
-}
-
-impl Variants4<At<0>, (), (), (String, u64), ()> for Packet {
+impl Variants4<At<0>, At<4>, (), (), (String, u64), ()> for Packet {
     ghost values = { (
       λ p. Packet.Ping,
       λ p. Packet.Pong,
@@ -239,10 +239,11 @@ impl Variants4<At<0>, (), (), (String, u64), ()> for Packet {
           refl (λ p. refl) (λ p old new h. h) (λ p old h. h) (λ p old new h. h),
       is_variant refl
           (λ p. refl) (λ p old new h. h) (λ p old h. h) (λ p old new h. h),
+      refl,
     ) };
 }
 
-impl WritesVariants<EncodersOf4<At<0>, (), (), (String, u64), ()>> for Packet {
+impl WritesVariants<At<0>, At<4>, EncodersOf4<At<0>, (), (), (String, u64), ()>> for Packet {
     fn write(&self, to: &mut EncodersOf4<At<0>, (), (), (String, u64), ()>) -> Result<(), Error> {
         match self {
             Packet::Ping => to.encode_first(self, &&()),
@@ -252,9 +253,11 @@ impl WritesVariants<EncodersOf4<At<0>, (), (), (String, u64), ()>> for Packet {
             _ => unreachable!(),
         }
     }
+
+    ghost are_columns = { λ c. (refl, refl) };
 }
 
-impl Variants4<At<4>, (u32, String), String, u16, u16> for Packet {
+impl Variants4<At<4>, At<8>, (u32, String), String, u16, u16> for Packet {
     ghost values = { (
       λ p. Packet.Welcome p.0 p.1,
       λ p. Packet.Refused p,
@@ -282,12 +285,13 @@ impl Variants4<At<4>, (u32, String), String, u16, u16> for Packet {
           refl (λ p. refl) (λ p old new h. h) (λ p old h. h) (λ p old new h. h),
       is_variant refl
           (λ p. refl) (λ p old new h. h) (λ p old h. h) (λ p old new h. h),
+      refl,
     ) };
 }
 
 type ColumnsOf4To7 = EncodersOf4<At<4>, (u32, String), String, u16, u16>;
 
-impl WritesVariants<ColumnsOf4To7> for Packet {
+impl WritesVariants<At<4>, At<8>, ColumnsOf4To7> for Packet {
     fn write(&self, to: &mut ColumnsOf4To7) -> Result<(), Error> {
         match self {
             Packet::Welcome { id, name } => to.encode_first::<_, _, _, _, _, (&u32, &String)>(
@@ -300,9 +304,11 @@ impl WritesVariants<ColumnsOf4To7> for Packet {
             _ => unreachable!(),
         }
     }
+
+    ghost are_columns = { λ c. (refl, refl) };
 }
 
-impl Variants4<At<8>, String, (u32, String), (i32, i32), i16> for Packet {
+impl Variants4<At<8>, At<12>, String, (u32, String), (i32, i32), i16> for Packet {
     ghost values = { (
       λ p. Packet.Say p,
       λ p. Packet.Whisper p.0 p.1,
@@ -330,12 +336,13 @@ impl Variants4<At<8>, String, (u32, String), (i32, i32), i16> for Packet {
           refl (λ p. refl) (λ p old new h. h) (λ p old h. h) (λ p old new h. h),
       is_variant refl
           (λ p. refl) (λ p old new h. h) (λ p old h. h) (λ p old new h. h),
+      refl,
     ) };
 }
 
 type ColumnsOf8To11 = EncodersOf4<At<8>, String, (u32, String), (i32, i32), i16>;
 
-impl WritesVariants<ColumnsOf8To11> for Packet {
+impl WritesVariants<At<8>, At<12>, ColumnsOf8To11> for Packet {
     fn write(&self, to: &mut ColumnsOf8To11) -> Result<(), Error> {
         match self {
             Packet::Say(a) => to.encode_first(self, &a),
@@ -348,9 +355,11 @@ impl WritesVariants<ColumnsOf8To11> for Packet {
             _ => unreachable!(),
         }
     }
+
+    ghost are_columns = { λ c. (refl, refl) };
 }
 
-impl Variants4<At<12>, u32, (u32, u16), u16, (u64, u16)> for Packet {
+impl Variants4<At<12>, At<16>, u32, (u32, u16), u16, (u64, u16)> for Packet {
     ghost values = { (
       λ p. Packet.Attack p,
       λ p. Packet.Hit p.0 p.1,
@@ -378,12 +387,13 @@ impl Variants4<At<12>, u32, (u32, u16), u16, (u64, u16)> for Packet {
           refl (λ p. refl) (λ p old new h. h) (λ p old h. h) (λ p old new h. h),
       is_variant refl
           (λ p. refl) (λ p old new h. h) (λ p old h. h) (λ p old new h. h),
+      refl,
     ) };
 }
 
 type ColumnsOf12To15 = EncodersOf4<At<12>, u32, (u32, u16), u16, (u64, u16)>;
 
-impl WritesVariants<ColumnsOf12To15> for Packet {
+impl WritesVariants<At<12>, At<16>, ColumnsOf12To15> for Packet {
     fn write(&self, to: &mut ColumnsOf12To15) -> Result<(), Error> {
         match self {
             Packet::Attack(a) => to.encode_first(self, &a),
@@ -396,9 +406,11 @@ impl WritesVariants<ColumnsOf12To15> for Packet {
             _ => unreachable!(),
         }
     }
+
+    ghost are_columns = { λ c. (refl, refl) };
 }
 
-impl Variants4<At<16>, u64, Vec<u16>, Option<u32>, ()> for Packet {
+impl Variants4<At<16>, At<20>, u64, Vec<u16>, Option<u32>, ()> for Packet {
     ghost values = { (
       λ p. Packet.Drop p,
       λ p. Packet.Inventory p,
@@ -426,12 +438,13 @@ impl Variants4<At<16>, u64, Vec<u16>, Option<u32>, ()> for Packet {
           refl (λ p. refl) (λ p old new h. h) (λ p old h. h) (λ p old new h. h),
       is_variant refl
           (λ p. refl) (λ p old new h. h) (λ p old h. h) (λ p old new h. h),
+      refl,
     ) };
 }
 
 type ColumnsOf16To19 = EncodersOf4<At<16>, u64, Vec<u16>, Option<u32>, ()>;
 
-impl WritesVariants<ColumnsOf16To19> for Packet {
+impl WritesVariants<At<16>, At<20>, ColumnsOf16To19> for Packet {
     fn write(&self, to: &mut ColumnsOf16To19) -> Result<(), Error> {
         match self {
             Packet::Drop(a) => to.encode_first(self, &a),
@@ -441,16 +454,28 @@ impl WritesVariants<ColumnsOf16To19> for Packet {
             _ => unreachable!(),
         }
     }
+
+    ghost are_columns = { λ c. (refl, refl) };
 }
 
-type Columns = Halves<
-    Halves<Halves<EncodersOf4<At<0>, (), (), (String, u64), ()>, ColumnsOf4To7>, ColumnsOf8To11>,
-    Halves<ColumnsOf12To15, ColumnsOf16To19>,
+type Columns = TwoGroups<
+    At<12>,
+    TwoGroups<
+        At<8>,
+        TwoGroups<At<4>, EncodersOf4<At<0>, (), (), (String, u64), ()>, ColumnsOf4To7>,
+        ColumnsOf8To11,
+    >,
+    TwoGroups<At<16>, ColumnsOf12To15, ColumnsOf16To19>,
 >;
 
-type Decoders<'a> = Halves<
-    Halves<Halves<PacketPayloads0To3<'a>, PacketPayloads4To7<'a>>, PacketPayloads8To11<'a>>,
-    Halves<PacketPayloads12To15<'a>, PacketPayloads16To19<'a>>,
+type Decoders<'a> = TwoGroups<
+    At<12>,
+    TwoGroups<
+        At<8>,
+        TwoGroups<At<4>, PacketPayloads0To3<'a>, PacketPayloads4To7<'a>>,
+        PacketPayloads8To11<'a>,
+    >,
+    TwoGroups<At<16>, PacketPayloads12To15<'a>, PacketPayloads16To19<'a>>,
 >;
 
 /// The columns of the payloads of `Packet`.
@@ -459,8 +484,8 @@ pub struct PacketColumns {
     all: Columns,
 }
 
-impl AllColumns<20> for PacketColumns {
-    ghost held = { columns_in (λ c. c.all) ⟦<Columns as VariantColumns>⟧.columns };
+impl VariantColumns for PacketColumns {
+    ghost columns = { columns_in (λ c. c.all) ⟦<Columns as VariantColumns>⟧.columns };
 
     fn new(alloc: Global) -> Self {
         PacketColumns {
@@ -468,26 +493,24 @@ impl AllColumns<20> for PacketColumns {
         }
     }
 
-    fn collect(&mut self, number: usize, out: &mut Vec<u8>) -> Result<(), Error> {
-        self.all.collect_payloads(number, out)
+    fn collect_all(&mut self, out: &mut Vec<u8>) -> Result<(), Error> {
+        self.all.collect_all(out)
     }
 
-    fn clear(&mut self, number: usize) {
-        self.all.clear_payloads(number);
+    fn clear_all(&mut self) {
+        self.all.clear_all();
     }
-
-    ghost sized = { λ c. refl };
 }
 
-impl WritesPayloads<20, PacketColumns> for Packet {
-    fn write_payload(&self, to: &mut PacketColumns) -> Result<(), Error> {
-        WritesVariants::<Columns>::write(self, &mut to.all)
+impl WritesVariants<At<0>, At<20>, PacketColumns> for Packet {
+    fn write(&self, to: &mut PacketColumns) -> Result<(), Error> {
+        WritesVariants::<At<0>, At<20>, Columns>::write(self, &mut to.all)
     }
 
-    ghost of_shapes = { λ c. refl };
+    ghost are_columns = { λ c. (refl, refl) };
 }
 
-type Decoders0To3<'a> = Opaque<DecodersOf4<'a, At<0>, (), (), (String, u64), ()>>;
+type Decoders0To3<'a> = NotCompared<DecodersOf4<'a, At<0>, (), (), (String, u64), ()>>;
 
 /// The payloads of the variants 0 to 3 of `Packet`.
 #[derive(Drop)]
@@ -495,228 +518,14 @@ pub struct PacketPayloads0To3<'a> {
     all: Decoders0To3<'a>,
 }
 
-impl<'a> VariantPayloads<'a, Packet> for PacketPayloads0To3<'a> {
-    ghost first = { 0 };
-
-    ghost end = { 4 };
-
-    ghost in_turn = { true };
-
+impl<'a> VariantPayloads<'a, At<0>, At<4>, Packet> for PacketPayloads0To3<'a> {
     ghost held = { payloads_in (λ d. d.all)
-        ⟦<Decoders0To3<'a> as VariantPayloads<'a, Packet>>⟧.held };
+        ⟦<Decoders0To3<'a> as VariantPayloads<'a, At<0>, At<4>, Packet>>⟧.held };
 
     fn new(alloc: Global) -> Self {
         PacketPayloads0To3 {
-            all: VariantPayloads::<Packet>::new(alloc),
+            all: VariantPayloads::<At<0>, At<4>, Packet>::new(alloc),
         }
-    }
-
-    fn first(&self) -> usize {
-        0
-    }
-
-    fn read_payloads(
-        &mut self,
-        number: usize,
-        input: &mut &'a [u8],
-        k: usize,
-        strict: bool,
-    ) -> Result<bool, Error> {
-        VariantPayloads::<Packet>::read_payloads(&mut self.all, number, input, k, strict)
-    }
-
-    fn decode_payload(&mut self, number: usize) -> Result<Packet, Error> {
-        self.all.decode_payload(number)
-    }
-
-    fn sized(&self) {}
-}
-
-type Decoders4To7<'a> = Opaque<DecodersOf4<'a, At<4>, (u32, String), String, u16, u16>>;
-
-/// The payloads of the variants 4 to 7 of `Packet`.
-#[derive(Drop)]
-pub struct PacketPayloads4To7<'a> {
-    all: Decoders4To7<'a>,
-}
-
-impl<'a> VariantPayloads<'a, Packet> for PacketPayloads4To7<'a> {
-    ghost first = { 4 };
-
-    ghost end = { 8 };
-
-    ghost in_turn = { true };
-
-    ghost held = { payloads_in (λ d. d.all)
-        ⟦<Decoders4To7<'a> as VariantPayloads<'a, Packet>>⟧.held };
-
-    fn new(alloc: Global) -> Self {
-        PacketPayloads4To7 {
-            all: VariantPayloads::<Packet>::new(alloc),
-        }
-    }
-
-    fn first(&self) -> usize {
-        4
-    }
-
-    fn read_payloads(
-        &mut self,
-        number: usize,
-        input: &mut &'a [u8],
-        k: usize,
-        strict: bool,
-    ) -> Result<bool, Error> {
-        VariantPayloads::<Packet>::read_payloads(&mut self.all, number, input, k, strict)
-    }
-
-    fn decode_payload(&mut self, number: usize) -> Result<Packet, Error> {
-        self.all.decode_payload(number)
-    }
-
-    fn sized(&self) {}
-}
-
-type Decoders8To11<'a> = Opaque<DecodersOf4<'a, At<8>, String, (u32, String), (i32, i32), i16>>;
-
-/// The payloads of the variants 8 to 11 of `Packet`.
-#[derive(Drop)]
-pub struct PacketPayloads8To11<'a> {
-    all: Decoders8To11<'a>,
-}
-
-impl<'a> VariantPayloads<'a, Packet> for PacketPayloads8To11<'a> {
-    ghost first = { 8 };
-
-    ghost end = { 12 };
-
-    ghost in_turn = { true };
-
-    ghost held = { payloads_in (λ d. d.all)
-        ⟦<Decoders8To11<'a> as VariantPayloads<'a, Packet>>⟧.held };
-
-    fn new(alloc: Global) -> Self {
-        PacketPayloads8To11 {
-            all: VariantPayloads::<Packet>::new(alloc),
-        }
-    }
-
-    fn first(&self) -> usize {
-        8
-    }
-
-    fn read_payloads(
-        &mut self,
-        number: usize,
-        input: &mut &'a [u8],
-        k: usize,
-        strict: bool,
-    ) -> Result<bool, Error> {
-        VariantPayloads::<Packet>::read_payloads(&mut self.all, number, input, k, strict)
-    }
-
-    fn decode_payload(&mut self, number: usize) -> Result<Packet, Error> {
-        self.all.decode_payload(number)
-    }
-
-    fn sized(&self) {}
-}
-
-type Decoders12To15<'a> = Opaque<DecodersOf4<'a, At<12>, u32, (u32, u16), u16, (u64, u16)>>;
-
-/// The payloads of the variants 12 to 15 of `Packet`.
-#[derive(Drop)]
-pub struct PacketPayloads12To15<'a> {
-    all: Decoders12To15<'a>,
-}
-
-impl<'a> VariantPayloads<'a, Packet> for PacketPayloads12To15<'a> {
-    ghost first = { 12 };
-
-    ghost end = { 16 };
-
-    ghost in_turn = { true };
-
-    ghost held = { payloads_in (λ d. d.all)
-        ⟦<Decoders12To15<'a> as VariantPayloads<'a, Packet>>⟧.held };
-
-    fn new(alloc: Global) -> Self {
-        PacketPayloads12To15 {
-            all: VariantPayloads::<Packet>::new(alloc),
-        }
-    }
-
-    fn first(&self) -> usize {
-        12
-    }
-
-    fn read_payloads(
-        &mut self,
-        number: usize,
-        input: &mut &'a [u8],
-        k: usize,
-        strict: bool,
-    ) -> Result<bool, Error> {
-        VariantPayloads::<Packet>::read_payloads(&mut self.all, number, input, k, strict)
-    }
-
-    fn decode_payload(&mut self, number: usize) -> Result<Packet, Error> {
-        self.all.decode_payload(number)
-    }
-
-    fn sized(&self) {}
-}
-
-type Decoders16To19<'a> = Opaque<DecodersOf4<'a, At<16>, u64, Vec<u16>, Option<u32>, ()>>;
-
-/// The payloads of the variants 16 to 19 of `Packet`.
-#[derive(Drop)]
-pub struct PacketPayloads16To19<'a> {
-    all: Decoders16To19<'a>,
-}
-
-impl<'a> VariantPayloads<'a, Packet> for PacketPayloads16To19<'a> {
-    ghost first = { 16 };
-
-    ghost end = { 20 };
-
-    ghost in_turn = { true };
-
-    ghost held = { payloads_in (λ d. d.all)
-        ⟦<Decoders16To19<'a> as VariantPayloads<'a, Packet>>⟧.held };
-
-    fn new(alloc: Global) -> Self {
-        PacketPayloads16To19 {
-            all: VariantPayloads::<Packet>::new(alloc),
-        }
-    }
-
-    fn first(&self) -> usize {
-        16
-    }
-
-    fn read_payloads(
-        &mut self,
-        number: usize,
-        input: &mut &'a [u8],
-        k: usize,
-        strict: bool,
-    ) -> Result<bool, Error> {
-        VariantPayloads::<Packet>::read_payloads(&mut self.all, number, input, k, strict)
-    }
-
-    fn decode_payload(&mut self, number: usize) -> Result<Packet, Error> {
-        self.all.decode_payload(number)
-    }
-
-    fn sized(&self) {}
-}
-
-impl<'a> AllPayloads<'a, 20, Packet> for Decoders<'a> {
-    ghost held = { ⟦<Decoders<'a> as VariantPayloads<'a, Packet>>⟧.held };
-
-    fn new(alloc: Global) -> Self {
-        VariantPayloads::<Packet>::new(alloc)
     }
 
     fn read_at(
@@ -726,11 +535,153 @@ impl<'a> AllPayloads<'a, 20, Packet> for Decoders<'a> {
         k: usize,
         strict: bool,
     ) -> Result<bool, Error> {
-        VariantPayloads::<Packet>::read_payloads(self, number, input, k, strict)
+        VariantPayloads::<At<0>, At<4>, Packet>::read_at(&mut self.all, number, input, k, strict)
     }
 
     fn decode_at(&mut self, number: usize) -> Result<Packet, Error> {
-        self.decode_payload(number)
+        VariantPayloads::<At<0>, At<4>, Packet>::decode_at(&mut self.all, number)
+    }
+
+    fn sized(&self) {}
+}
+
+type Decoders4To7<'a> = NotCompared<DecodersOf4<'a, At<4>, (u32, String), String, u16, u16>>;
+
+/// The payloads of the variants 4 to 7 of `Packet`.
+#[derive(Drop)]
+pub struct PacketPayloads4To7<'a> {
+    all: Decoders4To7<'a>,
+}
+
+impl<'a> VariantPayloads<'a, At<4>, At<8>, Packet> for PacketPayloads4To7<'a> {
+    ghost held = { payloads_in (λ d. d.all)
+        ⟦<Decoders4To7<'a> as VariantPayloads<'a, At<4>, At<8>, Packet>>⟧.held };
+
+    fn new(alloc: Global) -> Self {
+        PacketPayloads4To7 {
+            all: VariantPayloads::<At<4>, At<8>, Packet>::new(alloc),
+        }
+    }
+
+    fn read_at(
+        &mut self,
+        number: usize,
+        input: &mut &'a [u8],
+        k: usize,
+        strict: bool,
+    ) -> Result<bool, Error> {
+        VariantPayloads::<At<4>, At<8>, Packet>::read_at(&mut self.all, number, input, k, strict)
+    }
+
+    fn decode_at(&mut self, number: usize) -> Result<Packet, Error> {
+        VariantPayloads::<At<4>, At<8>, Packet>::decode_at(&mut self.all, number)
+    }
+
+    fn sized(&self) {}
+}
+
+type Decoders8To11<'a> = NotCompared<
+    DecodersOf4<'a, At<8>, String, (u32, String), (i32, i32), i16>,
+>;
+
+/// The payloads of the variants 8 to 11 of `Packet`.
+#[derive(Drop)]
+pub struct PacketPayloads8To11<'a> {
+    all: Decoders8To11<'a>,
+}
+
+impl<'a> VariantPayloads<'a, At<8>, At<12>, Packet> for PacketPayloads8To11<'a> {
+    ghost held = { payloads_in (λ d. d.all)
+        ⟦<Decoders8To11<'a> as VariantPayloads<'a, At<8>, At<12>, Packet>>⟧.held };
+
+    fn new(alloc: Global) -> Self {
+        PacketPayloads8To11 {
+            all: VariantPayloads::<At<8>, At<12>, Packet>::new(alloc),
+        }
+    }
+
+    fn read_at(
+        &mut self,
+        number: usize,
+        input: &mut &'a [u8],
+        k: usize,
+        strict: bool,
+    ) -> Result<bool, Error> {
+        VariantPayloads::<At<8>, At<12>, Packet>::read_at(&mut self.all, number, input, k, strict)
+    }
+
+    fn decode_at(&mut self, number: usize) -> Result<Packet, Error> {
+        VariantPayloads::<At<8>, At<12>, Packet>::decode_at(&mut self.all, number)
+    }
+
+    fn sized(&self) {}
+}
+
+type Decoders12To15<'a> = NotCompared<DecodersOf4<'a, At<12>, u32, (u32, u16), u16, (u64, u16)>>;
+
+/// The payloads of the variants 12 to 15 of `Packet`.
+#[derive(Drop)]
+pub struct PacketPayloads12To15<'a> {
+    all: Decoders12To15<'a>,
+}
+
+impl<'a> VariantPayloads<'a, At<12>, At<16>, Packet> for PacketPayloads12To15<'a> {
+    ghost held = { payloads_in (λ d. d.all)
+        ⟦<Decoders12To15<'a> as VariantPayloads<'a, At<12>, At<16>, Packet>>⟧.held };
+
+    fn new(alloc: Global) -> Self {
+        PacketPayloads12To15 {
+            all: VariantPayloads::<At<12>, At<16>, Packet>::new(alloc),
+        }
+    }
+
+    fn read_at(
+        &mut self,
+        number: usize,
+        input: &mut &'a [u8],
+        k: usize,
+        strict: bool,
+    ) -> Result<bool, Error> {
+        VariantPayloads::<At<12>, At<16>, Packet>::read_at(&mut self.all, number, input, k, strict)
+    }
+
+    fn decode_at(&mut self, number: usize) -> Result<Packet, Error> {
+        VariantPayloads::<At<12>, At<16>, Packet>::decode_at(&mut self.all, number)
+    }
+
+    fn sized(&self) {}
+}
+
+type Decoders16To19<'a> = NotCompared<DecodersOf4<'a, At<16>, u64, Vec<u16>, Option<u32>, ()>>;
+
+/// The payloads of the variants 16 to 19 of `Packet`.
+#[derive(Drop)]
+pub struct PacketPayloads16To19<'a> {
+    all: Decoders16To19<'a>,
+}
+
+impl<'a> VariantPayloads<'a, At<16>, At<20>, Packet> for PacketPayloads16To19<'a> {
+    ghost held = { payloads_in (λ d. d.all)
+        ⟦<Decoders16To19<'a> as VariantPayloads<'a, At<16>, At<20>, Packet>>⟧.held };
+
+    fn new(alloc: Global) -> Self {
+        PacketPayloads16To19 {
+            all: VariantPayloads::<At<16>, At<20>, Packet>::new(alloc),
+        }
+    }
+
+    fn read_at(
+        &mut self,
+        number: usize,
+        input: &mut &'a [u8],
+        k: usize,
+        strict: bool,
+    ) -> Result<bool, Error> {
+        VariantPayloads::<At<16>, At<20>, Packet>::read_at(&mut self.all, number, input, k, strict)
+    }
+
+    fn decode_at(&mut self, number: usize) -> Result<Packet, Error> {
+        VariantPayloads::<At<16>, At<20>, Packet>::decode_at(&mut self.all, number)
     }
 
     fn sized(&self) {}
@@ -741,7 +692,7 @@ impl HasEncoder for Packet {
 }
 
 impl<'a> HasDecoder<'a> for Packet {
-    type Decoder = PartsDecoder<Held<20, Packet>, EnumDecoder<'a, 20, Packet, Decoders<'a>>>;
+    type Decoder = EnumDecoder<'a, 20, Packet, Decoders<'a>>;
 }
 
 impl DecodeOwned for Packet {}

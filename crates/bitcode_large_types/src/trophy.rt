@@ -1,11 +1,9 @@
 //! `Trophy` corresponds to the tuple of its fields. What is below its declaration was written by `scripts/new_type`.
-ghost use Rattle.std.specs.Prelude.{refl};
-ghost use Rattle.bitcode.specs.ByHand.{listed_pair, stood_payload};
+ghost use Rattle.bitcode.specs.ByHand.{data_as, field_alike, pair_alike, refl};
 
-use bitcode::own::{
-    DecoderOfFields, FromParts, HasField, InFields, Nth, Payload, StandsFor, StructEncoder,
-};
-use bitcode::{DecodeOwned, HasDecoder, HasEncoder, Shaped};
+use bitcode::own::{DecoderOfFields, HasField, InFields, Nth, StructEncoder};
+use bitcode::{ConvertFrom, DecodeOwned, Error, HasDecoder, HasEncoder, Shaped};
+use std::alloc::Global;
 
 /// What a player has won.
 #[derive(Debug, PartialEq, Drop)]
@@ -14,38 +12,27 @@ pub struct Trophy {
     pub year: u16,
 }
 
-impl StandsFor for Trophy {
-    type Parts = (String, u16);
+impl Shaped for Trophy {
+    ghost data = { data_as (λ t. (t.title, t.year))
+        (λ p. (record { title = p.0; year = p.1 }, refl)) (λ t. refl)
+        ⟦<(String, u16) as Shaped>⟧.data };
 
-    type Inside = ();
-
-    ghost parts = { λ t. (t.title, t.year) };
-
-    ghost of_parts = { λ p. (record { title = p.0; year = p.1 }, refl) };
-
-    fn told_parts(&self) {
+    fn told(&self) {
         self.title.told();
         self.year.told();
     }
-
-    ghost one_to_one = { λ t. refl };
 }
 
-impl FromParts for Trophy {
-    fn from_parts((title, year): (String, u16)) -> Self {
-        Trophy { title, year }
+impl ConvertFrom<(String, u16)> for Trophy {
+    fn convert_from(_alloc: Global, (title, year): (String, u16)) -> Result<Self, Error> {
+        Ok(Trophy { title, year })
     }
-}
 
-impl Payload for Trophy {
-    ghost payload = { stood_payload ⟦<Trophy as StandsFor>⟧.parts ⟦<Trophy as StandsFor>⟧.of_parts
-        ⟦<(String, u16) as Payload>⟧.payload };
+    ghost same_shape = { refl };
 }
 
 impl HasField<0> for Trophy {
     type Field = String;
-
-    type Inside = <Trophy as StandsFor>::Inside;
 
     ghost field = { λ t. t.title };
 
@@ -56,8 +43,6 @@ impl HasField<0> for Trophy {
 
 impl HasField<1> for Trophy {
     type Field = u16;
-
-    type Inside = <Trophy as StandsFor>::Inside;
 
     ghost field = { λ t. t.year };
 
@@ -71,13 +56,11 @@ type Fields = <(String, u16) as HasEncoder>::Encoder;
 impl InFields<Fields> for Trophy {
     type Numbers = (Nth<0>, Nth<1>);
 
-    type Inside = (<Trophy as StandsFor>::Parts, <Trophy as StandsFor>::Inside);
+    type Inside = <Trophy as HasDecoder<'static>>::Decoder;
 
     ghost same_shape = { refl };
 
-    ghost to_fields = { λ t. listed_pair (λ d h. h) (λ d h. h) };
-
-    ghost of_fields = { λ t. listed_pair (λ d h. h) (λ d h. h) };
+    ghost same_listings = { λ t. pair_alike field_alike field_alike };
 }
 
 impl HasEncoder for Trophy {

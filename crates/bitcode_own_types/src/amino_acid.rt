@@ -1,10 +1,10 @@
 //! `AminoAcid` numbers its variants. What is below its declaration was written by `scripts/new_type`.
 ghost use Rattle.std.specs.Prelude.{[], ◌∷◌, refl};
-ghost use Rattle.bitcode.specs.ByHand.{stood_payload};
+ghost use Rattle.bitcode.specs.ByHand.{bare_data};
 ghost use Rattle.bitcode_own_types.specs.declared.amino_acid.AminoAcid.{AminoAcid};
 
-use bitcode::own::{Bare, BareEncoder, BareVariants, HeldIn, Payload, StandsFor};
-use bitcode::{DecodeOwned, HasDecoder, HasEncoder, VariantDecoder};
+use bitcode::own::{BareEncoder, BareShaped, BareVariants};
+use bitcode::{DecodeOwned, HasDecoder, HasEncoder, Shaped, VariantDecoder};
 
 /// What proteins are made of.
 #[derive(Debug, Clone, Copy, PartialEq)]
@@ -64,6 +64,29 @@ impl BareVariants<20> for AminoAcid {
 
     ghost in_order = { (refl, refl) };
 
+    ghost one_to_one = { elim [
+      | AminoAcid.Alanine ↦ refl
+      | AminoAcid.Arginine ↦ refl
+      | AminoAcid.Asparagine ↦ refl
+      | AminoAcid.AsparticAcid ↦ refl
+      | AminoAcid.Cysteine ↦ refl
+      | AminoAcid.GlutamicAcid ↦ refl
+      | AminoAcid.Glutamine ↦ refl
+      | AminoAcid.Glycine ↦ refl
+      | AminoAcid.Histidine ↦ refl
+      | AminoAcid.Isoleucine ↦ refl
+      | AminoAcid.Leucine ↦ refl
+      | AminoAcid.Lysine ↦ refl
+      | AminoAcid.Methionine ↦ refl
+      | AminoAcid.Phenylalanine ↦ refl
+      | AminoAcid.Proline ↦ refl
+      | AminoAcid.Serine ↦ refl
+      | AminoAcid.Threonine ↦ refl
+      | AminoAcid.Tryptophan ↦ refl
+      | AminoAcid.Tyrosine ↦ refl
+      | AminoAcid.Valine ↦ refl
+    ] };
+
     fn index(&self) -> u8 {
         *self as u8
     }
@@ -92,38 +115,24 @@ impl BareVariants<20> for AminoAcid {
             _ => AminoAcid::Valine,
         }
     }
-
-    ghost one_to_one = { elim [
-      | AminoAcid.Alanine ↦ refl
-      | AminoAcid.Arginine ↦ refl
-      | AminoAcid.Asparagine ↦ refl
-      | AminoAcid.AsparticAcid ↦ refl
-      | AminoAcid.Cysteine ↦ refl
-      | AminoAcid.GlutamicAcid ↦ refl
-      | AminoAcid.Glutamine ↦ refl
-      | AminoAcid.Glycine ↦ refl
-      | AminoAcid.Histidine ↦ refl
-      | AminoAcid.Isoleucine ↦ refl
-      | AminoAcid.Leucine ↦ refl
-      | AminoAcid.Lysine ↦ refl
-      | AminoAcid.Methionine ↦ refl
-      | AminoAcid.Phenylalanine ↦ refl
-      | AminoAcid.Proline ↦ refl
-      | AminoAcid.Serine ↦ refl
-      | AminoAcid.Threonine ↦ refl
-      | AminoAcid.Tryptophan ↦ refl
-      | AminoAcid.Tyrosine ↦ refl
-      | AminoAcid.Valine ↦ refl
-    ] };
 }
 
-impl HeldIn for AminoAcid {
-    type Holder = Bare<20, AminoAcid>;
+impl Shaped for AminoAcid {
+    ghost data = { bare_data 20 ⟦<AminoAcid as BareVariants<20>>⟧.variant
+        ⟦<AminoAcid as BareVariants<20>>⟧.values ⟦<AminoAcid as BareVariants<20>>⟧.in_order
+        ⟦<AminoAcid as BareVariants<20>>⟧.one_to_one };
+
+    fn told(&self) {
+        let _index = self.index();
+    }
 }
 
-impl Payload for AminoAcid {
-    ghost payload = { stood_payload ⟦<AminoAcid as StandsFor>⟧.parts
-        ⟦<AminoAcid as StandsFor>⟧.of_parts ⟦<Bare<20, AminoAcid> as Payload>⟧.payload };
+impl BareShaped<20> for AminoAcid {
+    ghost has_shape = { refl };
+
+    ghost lists_bare = { λ t d h. h };
+
+    ghost makes_bare = { λ d t h. h };
 }
 
 impl HasEncoder for AminoAcid {

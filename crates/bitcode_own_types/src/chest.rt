@@ -1,12 +1,10 @@
 //! `Chest` corresponds to the tuple of its fields. What is below its declaration was written by `scripts/new_type`.
-ghost use Rattle.std.specs.Prelude.{refl};
-ghost use Rattle.bitcode.specs.ByHand.{listed_pair, stood_payload};
+ghost use Rattle.bitcode.specs.ByHand.{data_as, field_alike, pair_alike, refl};
 
 use crate::item::Item;
-use bitcode::own::{
-    DecoderOfFields, FromParts, HasField, InFields, Nth, Payload, StandsFor, StructEncoder,
-};
-use bitcode::{DecodeOwned, HasDecoder, HasEncoder, Shaped};
+use bitcode::own::{DecoderOfFields, HasField, InFields, Nth, StructEncoder};
+use bitcode::{ConvertFrom, DecodeOwned, Error, HasDecoder, HasEncoder, Shaped};
+use std::alloc::Global;
 
 /// A user's type that allocates, inside another one.
 #[derive(Debug, PartialEq, Drop)]
@@ -16,39 +14,31 @@ pub struct Chest {
     pub best: Option<Item>,
 }
 
-impl StandsFor for Chest {
-    type Parts = (String, Vec<Item>, Option<Item>);
+impl Shaped for Chest {
+    ghost data = { data_as (λ t. (t.label, t.items, t.best))
+        (λ p. (record { label = p.0; items = p.1; best = p.2 }, refl)) (λ t. refl)
+        ⟦<(String, Vec<Item>, Option<Item>) as Shaped>⟧.data };
 
-    type Inside = (<Item as StandsFor>::Parts, <Item as StandsFor>::Inside);
-
-    ghost parts = { λ t. (t.label, t.items, t.best) };
-
-    ghost of_parts = { λ p. (record { label = p.0; items = p.1; best = p.2 }, refl) };
-
-    fn told_parts(&self) {
+    fn told(&self) {
         self.label.told();
         self.items.told();
         self.best.told();
     }
-
-    ghost one_to_one = { λ t. refl };
 }
 
-impl FromParts for Chest {
-    fn from_parts((label, items, best): (String, Vec<Item>, Option<Item>)) -> Self {
-        Chest { label, items, best }
+impl ConvertFrom<(String, Vec<Item>, Option<Item>)> for Chest {
+    fn convert_from(
+        _alloc: Global,
+        (label, items, best): (String, Vec<Item>, Option<Item>),
+    ) -> Result<Self, Error> {
+        Ok(Chest { label, items, best })
     }
-}
 
-impl Payload for Chest {
-    ghost payload = { stood_payload ⟦<Chest as StandsFor>⟧.parts ⟦<Chest as StandsFor>⟧.of_parts
-        ⟦<(String, Vec<Item>, Option<Item>) as Payload>⟧.payload };
+    ghost same_shape = { refl };
 }
 
 impl HasField<0> for Chest {
     type Field = String;
-
-    type Inside = <Chest as StandsFor>::Inside;
 
     ghost field = { λ t. t.label };
 
@@ -60,8 +50,6 @@ impl HasField<0> for Chest {
 impl HasField<1> for Chest {
     type Field = Vec<Item>;
 
-    type Inside = <Chest as StandsFor>::Inside;
-
     ghost field = { λ t. t.items };
 
     fn field(&self) -> &Vec<Item> {
@@ -71,8 +59,6 @@ impl HasField<1> for Chest {
 
 impl HasField<2> for Chest {
     type Field = Option<Item>;
-
-    type Inside = <Chest as StandsFor>::Inside;
 
     ghost field = { λ t. t.best };
 
@@ -86,13 +72,11 @@ type Fields = <(String, (Vec<Item>, Option<Item>)) as HasEncoder>::Encoder;
 impl InFields<Fields> for Chest {
     type Numbers = (Nth<0>, (Nth<1>, Nth<2>));
 
-    type Inside = (<Chest as StandsFor>::Parts, <Chest as StandsFor>::Inside);
+    type Inside = <Chest as HasDecoder<'static>>::Decoder;
 
     ghost same_shape = { refl };
 
-    ghost to_fields = { λ t. listed_pair (λ d h. h) (listed_pair (λ d h. h) (λ d h. h)) };
-
-    ghost of_fields = { λ t. listed_pair (λ d h. h) (listed_pair (λ d h. h) (λ d h. h)) };
+    ghost same_listings = { λ t. pair_alike field_alike (pair_alike field_alike field_alike) };
 }
 
 impl HasEncoder for Chest {

@@ -1,11 +1,9 @@
 //! `Dated` corresponds to the tuple of its fields. What is below its declaration was written by `scripts/new_type`.
-ghost use Rattle.std.specs.Prelude.{refl};
-ghost use Rattle.bitcode.specs.ByHand.{listed_pair, stood_payload};
+ghost use Rattle.bitcode.specs.ByHand.{data_as, field_alike, pair_alike, refl};
 
-use bitcode::own::{
-    DecoderOfFields, FromParts, HasField, InFields, Nth, Payload, StandsFor, StructEncoder,
-};
-use bitcode::{DecodeOwned, Encode, HasDecoder, HasEncoder, Made, Shaped};
+use bitcode::own::{DecoderOfFields, HasField, InFields, Nth, StructEncoder};
+use bitcode::{ConvertFrom, DecodeOwned, Encode, Error, HasDecoder, HasEncoder, Shaped};
+use std::alloc::Global;
 
 /// A value and when it was made.
 #[derive(Debug, PartialEq, Drop)]
@@ -15,39 +13,28 @@ pub struct Dated<T> {
     pub value: T,
 }
 
-impl<T: Shaped> StandsFor for Dated<T> {
-    type Parts = (u16, u16, T);
+impl<T: Shaped> Shaped for Dated<T> {
+    ghost data = { data_as (λ t. (t.year, t.day, t.value))
+        (λ p. (record { year = p.0; day = p.1; value = p.2 }, refl)) (λ t. refl)
+        ⟦<(u16, u16, T) as Shaped>⟧.data };
 
-    type Inside = ();
-
-    ghost parts = { λ t. (t.year, t.day, t.value) };
-
-    ghost of_parts = { λ p. (record { year = p.0; day = p.1; value = p.2 }, refl) };
-
-    fn told_parts(&self) {
+    fn told(&self) {
         self.year.told();
         self.day.told();
         self.value.told();
     }
-
-    ghost one_to_one = { λ t. refl };
 }
 
-impl<T: Made> FromParts for Dated<T> {
-    fn from_parts((year, day, value): (u16, u16, T)) -> Self {
-        Dated { year, day, value }
+impl<T: Shaped> ConvertFrom<(u16, u16, T)> for Dated<T> {
+    fn convert_from(_alloc: Global, (year, day, value): (u16, u16, T)) -> Result<Self, Error> {
+        Ok(Dated { year, day, value })
     }
-}
 
-impl<T: Shaped + Payload> Payload for Dated<T> {
-    ghost payload = { stood_payload ⟦<Dated<T> as StandsFor>⟧.parts
-        ⟦<Dated<T> as StandsFor>⟧.of_parts ⟦<(u16, u16, T) as Payload>⟧.payload };
+    ghost same_shape = { refl };
 }
 
 impl<T: Shaped> HasField<0> for Dated<T> {
     type Field = u16;
-
-    type Inside = <Dated<T> as StandsFor>::Inside;
 
     ghost field = { λ t. t.year };
 
@@ -59,8 +46,6 @@ impl<T: Shaped> HasField<0> for Dated<T> {
 impl<T: Shaped> HasField<1> for Dated<T> {
     type Field = u16;
 
-    type Inside = <Dated<T> as StandsFor>::Inside;
-
     ghost field = { λ t. t.day };
 
     fn field(&self) -> &u16 {
@@ -70,8 +55,6 @@ impl<T: Shaped> HasField<1> for Dated<T> {
 
 impl<T: Shaped> HasField<2> for Dated<T> {
     type Field = T;
-
-    type Inside = <Dated<T> as StandsFor>::Inside;
 
     ghost field = { λ t. t.value };
 
@@ -85,16 +68,11 @@ type Fields<T> = <(u16, (u16, T)) as HasEncoder>::Encoder;
 impl<T: Encode> InFields<Fields<T>> for Dated<T> {
     type Numbers = (Nth<0>, (Nth<1>, Nth<2>));
 
-    type Inside = (
-        <Dated<T> as StandsFor>::Parts,
-        <Dated<T> as StandsFor>::Inside,
-    );
+    type Inside = (u16, u16, T);
 
     ghost same_shape = { refl };
 
-    ghost to_fields = { λ t. listed_pair (λ d h. h) (listed_pair (λ d h. h) (λ d h. h)) };
-
-    ghost of_fields = { λ t. listed_pair (λ d h. h) (listed_pair (λ d h. h) (λ d h. h)) };
+    ghost same_listings = { λ t. pair_alike field_alike (pair_alike field_alike field_alike) };
 }
 
 impl<T: HasEncoder> HasEncoder for Dated<T> {

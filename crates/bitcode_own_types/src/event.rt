@@ -1,16 +1,15 @@
 //! `Event` is written and read by the numbers of its variants. What is below its declaration was written by
 //! `scripts/new_type`.
-ghost use Rattle.std.specs.Prelude.{◌≡◌, refl};
-ghost use Rattle.bitcode.specs.ByHand.{columns_in, each_variant, is_variant, last_payload, of_one_of_4, payload_and};
-ghost use Rattle.bitcode.specs.ByHand.{payloads_in, stood_payload};
+ghost use Rattle.std.specs.Prelude.{◌≡◌};
+ghost use Rattle.bitcode.specs.ByHand.{columns_in, each_variant, enum_data, is_variant, last_payload, of_one_of_4};
+ghost use Rattle.bitcode.specs.ByHand.{payload_and, payloads_in, refl};
 ghost use Rattle.bitcode_own_types.specs.declared.event.Event.{Event};
 
 use bitcode::own::{
-    AllColumns, AllPayloads, At, DecodersOf4, EncodersOf4, Enum, EnumDecoder, EnumEncoder, EnumOf,
-    Held, HeldIn, OneOf4, PartsDecoder, Payload, StandsFor, VariantColumns, VariantPayloads,
-    Variants4, WritesPayloads, WritesVariants, told_as,
+    At, DecodersOf4, EncodersOf4, Enum, EnumDecoder, EnumEncoder, EnumOf, OneOf4, VariantColumns,
+    VariantPayloads, Variants4, WritesVariants, told_as,
 };
-use bitcode::{DecodeOwned, Error, HasDecoder, HasEncoder};
+use bitcode::{DecodeOwned, Error, HasDecoder, HasEncoder, Shaped};
 use std::alloc::Global;
 
 /// What happens in a game.
@@ -24,10 +23,10 @@ pub enum Event {
 
 impl Enum for Event {
     ghost each = { each_variant
-        (payload_and ⟦<() as Payload>⟧.payload
-        (payload_and ⟦<(u64, String) as Payload>⟧.payload
-        (payload_and ⟦<(u64, (i8, i8)) as Payload>⟧.payload
-        (last_payload ⟦<Option<u16> as Payload>⟧.payload))))
+        (payload_and ⟦<() as Shaped>⟧.data
+        (payload_and ⟦<(u64, String) as Shaped>⟧.data
+        (payload_and ⟦<(u64, (i8, i8)) as Shaped>⟧.data
+        (last_payload ⟦<Option<u16> as Shaped>⟧.data)))) refl
         (λ at. elim [
           | Event.Tick ↦ at 0 tt
           | Event.Spawn a b ↦ at 1 (a, b)
@@ -40,9 +39,14 @@ impl Enum for Event {
             (λ p. (Event.Spawn p.0 p.1, refl)),
             ((λ p. (Event.Move p.0 p.1.0 p.1.1, refl)), λ p. (Event.Quit p, refl)),
           ),
-        ) };
-
-    ghost sized = { refl };
+        )
+        (elim [
+          | Event.Tick ↦ refl
+          | Event.Spawn a b ↦ refl
+          | Event.Move a b c ↦ refl
+          | Event.Quit a
+              ↦ refl
+        ]) };
 
     fn variant(&self) -> u8 {
         match self {
@@ -52,29 +56,25 @@ impl Enum for Event {
             Event::Quit(a) => told_as(3, &a),
         }
     }
+}
 
-    ghost one_to_one = { elim [
-      | Event.Tick ↦ refl
-      | Event.Spawn a b ↦ refl
-      | Event.Move a b c ↦ refl
-      | Event.Quit a ↦ refl
-    ] };
+impl Shaped for Event {
+    ghost data = { enum_data ⟦<Event as Enum>⟧.each };
+
+    fn told(&self) {
+        let _number = self.variant();
+    }
 }
 
 impl EnumOf<4> for Event {
-    ghost count = { refl };
+    ghost counted = { (refl, refl) };
+
+    ghost lists_variants = { λ t d listed. listed };
+
+    ghost makes_variants = { λ d t made. made };
 }
 
-impl HeldIn for Event {
-    type Holder = Held<4, Event>;
-}
-
-impl Payload for Event {
-    ghost payload = { stood_payload ⟦<Event as StandsFor>⟧.parts ⟦<Event as StandsFor>⟧.of_parts
-        ⟦<Held<4, Event> as Payload>⟧.payload };
-}
-
-impl Variants4<At<0>, (), (u64, String), (u64, (i8, i8)), Option<u16>> for Event {
+impl Variants4<At<0>, At<4>, (), (u64, String), (u64, (i8, i8)), Option<u16>> for Event {
     ghost values = { (
       λ p. Event.Tick,
       λ p. Event.Spawn p.0 p.1,
@@ -102,12 +102,13 @@ impl Variants4<At<0>, (), (u64, String), (u64, (i8, i8)), Option<u16>> for Event
           refl (λ p. refl) (λ p old new h. h) (λ p old h. h) (λ p old new h. h),
       is_variant refl
           (λ p. refl) (λ p old new h. h) (λ p old h. h) (λ p old new h. h),
+      refl,
     ) };
 }
 
 type Columns = EncodersOf4<At<0>, (), (u64, String), (u64, (i8, i8)), Option<u16>>;
 
-impl WritesVariants<Columns> for Event {
+impl WritesVariants<At<0>, At<4>, Columns> for Event {
     fn write(&self, to: &mut Columns) -> Result<(), Error> {
         match self {
             Event::Tick => to.encode_first(self, &&()),
@@ -119,6 +120,8 @@ impl WritesVariants<Columns> for Event {
             Event::Quit(a) => to.encode_fourth(self, &a),
         }
     }
+
+    ghost are_columns = { λ c. (refl, refl) };
 }
 
 type Decoders<'a> = DecodersOf4<'a, At<0>, (), (u64, String), (u64, (i8, i8)), Option<u16>>;
@@ -129,8 +132,8 @@ pub struct EventColumns {
     all: Columns,
 }
 
-impl AllColumns<4> for EventColumns {
-    ghost held = { columns_in (λ c. c.all) ⟦<Columns as VariantColumns>⟧.columns };
+impl VariantColumns for EventColumns {
+    ghost columns = { columns_in (λ c. c.all) ⟦<Columns as VariantColumns>⟧.columns };
 
     fn new(alloc: Global) -> Self {
         EventColumns {
@@ -138,23 +141,21 @@ impl AllColumns<4> for EventColumns {
         }
     }
 
-    fn collect(&mut self, number: usize, out: &mut Vec<u8>) -> Result<(), Error> {
-        self.all.collect_payloads(number, out)
+    fn collect_all(&mut self, out: &mut Vec<u8>) -> Result<(), Error> {
+        self.all.collect_all(out)
     }
 
-    fn clear(&mut self, number: usize) {
-        self.all.clear_payloads(number);
+    fn clear_all(&mut self) {
+        self.all.clear_all();
     }
-
-    ghost sized = { λ c. refl };
 }
 
-impl WritesPayloads<4, EventColumns> for Event {
-    fn write_payload(&self, to: &mut EventColumns) -> Result<(), Error> {
-        WritesVariants::<Columns>::write(self, &mut to.all)
+impl WritesVariants<At<0>, At<4>, EventColumns> for Event {
+    fn write(&self, to: &mut EventColumns) -> Result<(), Error> {
+        WritesVariants::<At<0>, At<4>, Columns>::write(self, &mut to.all)
     }
 
-    ghost of_shapes = { λ c. refl };
+    ghost are_columns = { λ c. (refl, refl) };
 }
 
 /// The payloads that values of `Event` are made of.
@@ -163,12 +164,13 @@ pub struct EventPayloads<'a> {
     all: Decoders<'a>,
 }
 
-impl<'a> AllPayloads<'a, 4, Event> for EventPayloads<'a> {
-    ghost held = { payloads_in (λ d. d.all) ⟦<Decoders<'a> as VariantPayloads<'a, Event>>⟧.held };
+impl<'a> VariantPayloads<'a, At<0>, At<4>, Event> for EventPayloads<'a> {
+    ghost held = { payloads_in (λ d. d.all)
+        ⟦<Decoders<'a> as VariantPayloads<'a, At<0>, At<4>, Event>>⟧.held };
 
     fn new(alloc: Global) -> Self {
         EventPayloads {
-            all: VariantPayloads::<Event>::new(alloc),
+            all: VariantPayloads::<At<0>, At<4>, Event>::new(alloc),
         }
     }
 
@@ -179,11 +181,11 @@ impl<'a> AllPayloads<'a, 4, Event> for EventPayloads<'a> {
         k: usize,
         strict: bool,
     ) -> Result<bool, Error> {
-        VariantPayloads::<Event>::read_payloads(&mut self.all, number, input, k, strict)
+        VariantPayloads::<At<0>, At<4>, Event>::read_at(&mut self.all, number, input, k, strict)
     }
 
     fn decode_at(&mut self, number: usize) -> Result<Event, Error> {
-        self.all.decode_payload(number)
+        VariantPayloads::<At<0>, At<4>, Event>::decode_at(&mut self.all, number)
     }
 
     fn sized(&self) {}
@@ -194,7 +196,7 @@ impl HasEncoder for Event {
 }
 
 impl<'a> HasDecoder<'a> for Event {
-    type Decoder = PartsDecoder<Held<4, Event>, EnumDecoder<'a, 4, Event, EventPayloads<'a>>>;
+    type Decoder = EnumDecoder<'a, 4, Event, EventPayloads<'a>>;
 }
 
 impl DecodeOwned for Event {}

@@ -8,9 +8,10 @@ use std::marker::PhantomData;
 
 /// Reads one value of any type, and refuses bytes that spell none.
 pub fn load<'a, T: Decode<'a>>(alloc: Global, bytes: &'a [u8]) -> Result<T, Error>
-    ensures found { IfOk result (λ t. IsDecodingOf T.makes T.shape bytes.now t) }
+    ensures found { IfOk result (λ t. IsDecodingOf T.data.makes T.data.shape bytes.now t) }
     ensures refused { IfErr result
-        (λ e. e.reason ≢ Reason.OutOfMemory → (d : Datum) → SpellsDatum T.shape bytes.now d → ⊥) }
+        (λ e. e.reason ≢ Reason.OutOfMemory → (d : Datum) → SpellsDatum T.data.shape bytes.now d
+        → ⊥) }
 {
     decode(alloc, bytes)
 }
@@ -37,10 +38,11 @@ impl<T> Cache<T> {
     pub fn get<'a>(&'a self, alloc: Global) -> Result<T, Error>
     where
         T: Decode<'a>,
-        ensures found { IfOk result (λ t. IsDecodingOf T.makes T.shape self.now.bytes.items t) }
+        ensures found { IfOk result
+            (λ t. IsDecodingOf T.data.makes T.data.shape self.now.bytes.items t) }
         ensures refused { IfErr result
             (λ e. e.reason ≢ Reason.OutOfMemory → (d : Datum)
-            → SpellsDatum T.shape self.now.bytes.items d → ⊥) }
+            → SpellsDatum T.data.shape self.now.bytes.items d → ⊥) }
     {
         decode(alloc, self.bytes.as_slice())
     }

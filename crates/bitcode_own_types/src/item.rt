@@ -1,11 +1,9 @@
 //! `Item` corresponds to the tuple of its fields. What is below its declaration was written by `scripts/new_type`.
-ghost use Rattle.std.specs.Prelude.{refl};
-ghost use Rattle.bitcode.specs.ByHand.{listed_pair, stood_payload};
+ghost use Rattle.bitcode.specs.ByHand.{data_as, field_alike, pair_alike, refl};
 
-use bitcode::own::{
-    DecoderOfFields, FromParts, HasField, InFields, Nth, Payload, StandsFor, StructEncoder,
-};
-use bitcode::{DecodeOwned, HasDecoder, HasEncoder, Shaped};
+use bitcode::own::{DecoderOfFields, HasField, InFields, Nth, StructEncoder};
+use bitcode::{ConvertFrom, DecodeOwned, Error, HasDecoder, HasEncoder, Shaped};
+use std::alloc::Global;
 
 /// What a player may find.
 #[derive(Debug, PartialEq, Drop)]
@@ -14,38 +12,27 @@ pub struct Item {
     pub level: u8,
 }
 
-impl StandsFor for Item {
-    type Parts = (String, u8);
+impl Shaped for Item {
+    ghost data = { data_as (λ t. (t.name, t.level))
+        (λ p. (record { name = p.0; level = p.1 }, refl)) (λ t. refl)
+        ⟦<(String, u8) as Shaped>⟧.data };
 
-    type Inside = ();
-
-    ghost parts = { λ t. (t.name, t.level) };
-
-    ghost of_parts = { λ p. (record { name = p.0; level = p.1 }, refl) };
-
-    fn told_parts(&self) {
+    fn told(&self) {
         self.name.told();
         self.level.told();
     }
-
-    ghost one_to_one = { λ t. refl };
 }
 
-impl FromParts for Item {
-    fn from_parts((name, level): (String, u8)) -> Self {
-        Item { name, level }
+impl ConvertFrom<(String, u8)> for Item {
+    fn convert_from(_alloc: Global, (name, level): (String, u8)) -> Result<Self, Error> {
+        Ok(Item { name, level })
     }
-}
 
-impl Payload for Item {
-    ghost payload = { stood_payload ⟦<Item as StandsFor>⟧.parts ⟦<Item as StandsFor>⟧.of_parts
-        ⟦<(String, u8) as Payload>⟧.payload };
+    ghost same_shape = { refl };
 }
 
 impl HasField<0> for Item {
     type Field = String;
-
-    type Inside = <Item as StandsFor>::Inside;
 
     ghost field = { λ t. t.name };
 
@@ -56,8 +43,6 @@ impl HasField<0> for Item {
 
 impl HasField<1> for Item {
     type Field = u8;
-
-    type Inside = <Item as StandsFor>::Inside;
 
     ghost field = { λ t. t.level };
 
@@ -71,13 +56,11 @@ type Fields = <(String, u8) as HasEncoder>::Encoder;
 impl InFields<Fields> for Item {
     type Numbers = (Nth<0>, Nth<1>);
 
-    type Inside = (<Item as StandsFor>::Parts, <Item as StandsFor>::Inside);
+    type Inside = <Item as HasDecoder<'static>>::Decoder;
 
     ghost same_shape = { refl };
 
-    ghost to_fields = { λ t. listed_pair (λ d h. h) (λ d h. h) };
-
-    ghost of_fields = { λ t. listed_pair (λ d h. h) (λ d h. h) };
+    ghost same_listings = { λ t. pair_alike field_alike field_alike };
 }
 
 impl HasEncoder for Item {

@@ -5,7 +5,7 @@ ghost use Rattle.bitcode.specs.ByHand.{Datum, IsDecodingOf, SpellsDatum};
 use crate::light::Light;
 use crate::seat::Seat;
 use crate::spot::Spot;
-use bitcode::{Error, Made, Reason, Shaped, decode};
+use bitcode::{Error, Reason, Shaped, decode};
 use std::alloc::Global;
 use std::collections::{BTreeMap, BTreeSet};
 
@@ -18,11 +18,12 @@ pub type SoldSeats = BTreeMap<Seat, u32>;
 /// The spots that have each light, as they were written. It refuses as `decode` does.
 pub fn lit_spots(alloc: Global, input: &[u8]) -> Result<LitSpots, Error>
     ensures found { IfOk result
-        (λ spots. IsDecodingOf ⟦<LitSpots as Made>⟧.makes ⟦<LitSpots as Shaped>⟧.shape input.now
+        (λ spots. IsDecodingOf ⟦<LitSpots as Shaped>⟧.data.makes ⟦<LitSpots as Shaped>⟧.data.shape
+        input.now
         spots) }
     ensures refused { IfErr result
         (λ e. e.reason ≢ Reason.OutOfMemory → (d : Datum)
-        → SpellsDatum ⟦<LitSpots as Shaped>⟧.shape input.now d → ⊥) }
+        → SpellsDatum ⟦<LitSpots as Shaped>⟧.data.shape input.now d → ⊥) }
 {
     decode::<LitSpots>(alloc, input)
 }
@@ -30,11 +31,12 @@ pub fn lit_spots(alloc: Global, input: &[u8]) -> Result<LitSpots, Error>
 /// How often each seat was sold. It refuses as `decode` does.
 pub fn sold_seats(alloc: Global, input: &[u8]) -> Result<SoldSeats, Error>
     ensures found { IfOk result
-        (λ seats. IsDecodingOf ⟦<SoldSeats as Made>⟧.makes ⟦<SoldSeats as Shaped>⟧.shape input.now
+        (λ seats. IsDecodingOf ⟦<SoldSeats as Shaped>⟧.data.makes ⟦<SoldSeats as Shaped>⟧.data.shape
+        input.now
         seats) }
     ensures refused { IfErr result
         (λ e. e.reason ≢ Reason.OutOfMemory → (d : Datum)
-        → SpellsDatum ⟦<SoldSeats as Shaped>⟧.shape input.now d → ⊥) }
+        → SpellsDatum ⟦<SoldSeats as Shaped>⟧.data.shape input.now d → ⊥) }
 {
     decode::<SoldSeats>(alloc, input)
 }

@@ -1,4 +1,4 @@
-//! Structs and enums written by `scripts/new_type`, a struct and a container written by hand, generic code, and calls
+//! Structs and enums written by `scripts/new_type`, a container written by hand, generic code, and calls
 //! at nested types, as a user of the library writes them: nothing but the library is named.
 #![tactic(auto)]
 
@@ -14,13 +14,13 @@ pub mod light;
 pub mod message;
 pub mod meters;
 pub mod monster;
+pub mod msg;
 pub mod nested_calls;
 pub mod never;
 pub mod one;
 pub mod order;
 pub mod outcome;
 pub mod pause;
-pub mod player;
 pub mod reply;
 pub mod saved;
 pub mod scores;

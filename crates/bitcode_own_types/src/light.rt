@@ -1,10 +1,10 @@
 //! `Light` numbers its variants. What is below its declaration was written by `scripts/new_type`.
-ghost use Rattle.std.specs.Prelude.{[], refl, ◌∷◌};
-ghost use Rattle.bitcode.specs.ByHand.{bare_key, bares_told, stood_payload};
+ghost use Rattle.std.specs.Prelude.{[], ◌∷◌, refl};
+ghost use Rattle.bitcode.specs.ByHand.{bare_key};
 ghost use Rattle.bitcode_own_types.specs.declared.light.Light.{Light};
 
-use bitcode::own::{Bare, BareEncoder, BareVariants, HeldIn, KeyPayload, Payload, StandsFor};
-use bitcode::{DecodeOwned, HasDecoder, HasEncoder, Key, VariantDecoder};
+use bitcode::own::{BareEncoder, BareShaped, BareVariants};
+use bitcode::{DecodeOwned, HasDecoder, HasEncoder, Key, Shaped, VariantDecoder};
 
 /// What a light shows.
 #[derive(Debug, Clone, Copy, PartialEq, Eq, PartialOrd, Ord)]
@@ -20,6 +20,8 @@ impl BareVariants<2> for Light {
 
     ghost in_order = { (refl, refl) };
 
+    ghost one_to_one = { elim [ Light.Red ↦ refl | Light.Green ↦ refl ] };
+
     fn index(&self) -> u8 {
         *self as u8
     }
@@ -30,17 +32,25 @@ impl BareVariants<2> for Light {
             _ => Light::Green,
         }
     }
-
-    ghost one_to_one = { elim [ Light.Red ↦ refl | Light.Green ↦ refl ] };
 }
 
-impl HeldIn for Light {
-    type Holder = Bare<2, Light>;
+impl Shaped for Light {
+    ghost data = { bare_key 2 ⟦<Light as BareVariants<2>>⟧.variant
+        ⟦<Light as BareVariants<2>>⟧.values ⟦<Light as BareVariants<2>>⟧.in_order
+        ⟦<Light as BareVariants<2>>⟧.one_to_one ⟦<Light as PartialEq>⟧.eq ⟦<Light as Ord>⟧.cmp refl
+        refl };
+
+    fn told(&self) {
+        let _index = self.index();
+    }
 }
 
-impl Payload for Light {
-    ghost payload = { stood_payload ⟦<Light as StandsFor>⟧.parts ⟦<Light as StandsFor>⟧.of_parts
-        ⟦<Bare<2, Light> as Payload>⟧.payload };
+impl BareShaped<2> for Light {
+    ghost has_shape = { refl };
+
+    ghost lists_bare = { λ t d h. h };
+
+    ghost makes_bare = { λ d t h. h };
 }
 
 impl HasEncoder for Light {
@@ -53,13 +63,8 @@ impl<'a> HasDecoder<'a> for Light {
 
 impl DecodeOwned for Light {}
 
-impl KeyPayload for Light {
-    ghost key = { bare_key ⟦<Light as BareVariants<2>>⟧.variant ⟦<Light as BareVariants<2>>⟧.values
-        ⟦<Light as PartialEq>⟧.eq ⟦<Light as Ord>⟧.cmp refl refl
-        (elim [ Light.Red ↦ refl | Light.Green ↦ refl ]) ⟦<Light as Payload>⟧.payload
-        (bares_told _ ⟦<Light as BareVariants<2>>⟧.variant) };
-}
-
 impl Key for Light {
-    ghost keyed = { ⟦<Light as KeyPayload>⟧.key.told };
+    ghost equal = { refl };
+
+    ghost ordered = { refl };
 }

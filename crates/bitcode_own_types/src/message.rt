@@ -1,11 +1,9 @@
 //! `Message` corresponds to the tuple of its fields. What is below its declaration was written by `scripts/new_type`.
-ghost use Rattle.std.specs.Prelude.{refl};
-ghost use Rattle.bitcode.specs.ByHand.{listed_pair, stood_payload};
+ghost use Rattle.bitcode.specs.ByHand.{data_as, field_alike, pair_alike, refl};
 
-use bitcode::own::{
-    DecoderOfFields, FromParts, HasField, InFields, Nth, Payload, StandsFor, StructEncoder,
-};
-use bitcode::{HasDecoder, HasEncoder, Shaped};
+use bitcode::own::{DecoderOfFields, HasField, InFields, Nth, StructEncoder};
+use bitcode::{ConvertFrom, Error, HasDecoder, HasEncoder, Shaped};
+use std::alloc::Global;
 
 /// A text of the input, and who sent it.
 #[derive(Debug, Clone, Copy, PartialEq)]
@@ -14,38 +12,26 @@ pub struct Message<'a> {
     pub text: &'a str,
 }
 
-impl<'a> StandsFor for Message<'a> {
-    type Parts = (u32, &'a str);
+impl<'a> Shaped for Message<'a> {
+    ghost data = { data_as (λ t. (t.from, t.text)) (λ p. (record { from = p.0; text = p.1 }, refl))
+        (λ t. refl) ⟦<(u32, &'a str) as Shaped>⟧.data };
 
-    type Inside = ();
-
-    ghost parts = { λ t. (t.from, t.text) };
-
-    ghost of_parts = { λ p. (record { from = p.0; text = p.1 }, refl) };
-
-    fn told_parts(&self) {
+    fn told(&self) {
         self.from.told();
         self.text.told();
     }
-
-    ghost one_to_one = { λ t. refl };
 }
 
-impl<'a> FromParts for Message<'a> {
-    fn from_parts((from, text): (u32, &'a str)) -> Self {
-        Message { from, text }
+impl<'a> ConvertFrom<(u32, &'a str)> for Message<'a> {
+    fn convert_from(_alloc: Global, (from, text): (u32, &'a str)) -> Result<Self, Error> {
+        Ok(Message { from, text })
     }
-}
 
-impl<'a> Payload for Message<'a> {
-    ghost payload = { stood_payload ⟦<Message<'a> as StandsFor>⟧.parts
-        ⟦<Message<'a> as StandsFor>⟧.of_parts ⟦<(u32, &'a str) as Payload>⟧.payload };
+    ghost same_shape = { refl };
 }
 
 impl<'a> HasField<0> for Message<'a> {
     type Field = u32;
-
-    type Inside = ();
 
     ghost field = { λ t. t.from };
 
@@ -56,8 +42,6 @@ impl<'a> HasField<0> for Message<'a> {
 
 impl<'a> HasField<1> for Message<'a> {
     type Field = &'a str;
-
-    type Inside = ();
 
     ghost field = { λ t. t.text };
 
@@ -71,13 +55,11 @@ type Fields<'a> = <(u32, &'a str) as HasEncoder>::Encoder;
 impl<'a> InFields<Fields<'a>> for Message<'a> {
     type Numbers = (Nth<0>, Nth<1>);
 
-    type Inside = ();
+    type Inside = <Message<'a> as HasDecoder<'a>>::Decoder;
 
     ghost same_shape = { refl };
 
-    ghost to_fields = { λ t. listed_pair (λ d h. h) (λ d h. h) };
-
-    ghost of_fields = { λ t. listed_pair (λ d h. h) (λ d h. h) };
+    ghost same_listings = { λ t. pair_alike field_alike field_alike };
 }
 
 impl<'a> HasEncoder for Message<'a> {

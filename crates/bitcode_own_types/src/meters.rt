@@ -1,47 +1,33 @@
 //! `Meters` corresponds to the tuple of its fields. What is below its declaration was written by `scripts/new_type`.
-ghost use Rattle.std.specs.Prelude.{refl};
-ghost use Rattle.bitcode.specs.ByHand.{stood_payload};
+ghost use Rattle.bitcode.specs.ByHand.{data_as, field_alike, refl};
 
-use bitcode::own::{
-    DecoderOfFields, FromParts, HasField, InFields, Nth, Payload, StandsFor, StructEncoder,
-};
-use bitcode::{DecodeOwned, HasDecoder, HasEncoder, Shaped};
+use bitcode::own::{DecoderOfFields, HasField, InFields, Nth, StructEncoder};
+use bitcode::{ConvertFrom, DecodeOwned, Error, HasDecoder, HasEncoder, Shaped};
+use std::alloc::Global;
 
 /// A length in meters.
 #[derive(Debug, Clone, Copy, PartialEq)]
 pub struct Meters(pub u32);
 
-impl StandsFor for Meters {
-    type Parts = u32;
+impl Shaped for Meters {
+    ghost data = { data_as (λ t. t.0) (λ p. (record { 0 = p }, refl)) (λ t. refl)
+        ⟦<u32 as Shaped>⟧.data };
 
-    type Inside = ();
-
-    ghost parts = { λ t. t.0 };
-
-    ghost of_parts = { λ p. (record { 0 = p }, refl) };
-
-    fn told_parts(&self) {
+    fn told(&self) {
         self.0.told();
     }
-
-    ghost one_to_one = { λ t. refl };
 }
 
-impl FromParts for Meters {
-    fn from_parts(value: u32) -> Self {
-        Meters(value)
+impl ConvertFrom<u32> for Meters {
+    fn convert_from(_alloc: Global, value: u32) -> Result<Self, Error> {
+        Ok(Meters(value))
     }
-}
 
-impl Payload for Meters {
-    ghost payload = { stood_payload ⟦<Meters as StandsFor>⟧.parts ⟦<Meters as StandsFor>⟧.of_parts
-        ⟦<u32 as Payload>⟧.payload };
+    ghost same_shape = { refl };
 }
 
 impl HasField<0> for Meters {
     type Field = u32;
-
-    type Inside = ();
 
     ghost field = { λ t. t.0 };
 
@@ -55,13 +41,11 @@ type Fields = <u32 as HasEncoder>::Encoder;
 impl InFields<Fields> for Meters {
     type Numbers = Nth<0>;
 
-    type Inside = ();
+    type Inside = <Meters as HasDecoder<'static>>::Decoder;
 
     ghost same_shape = { refl };
 
-    ghost to_fields = { λ t d h. h };
-
-    ghost of_fields = { λ t d h. h };
+    ghost same_listings = { λ t. field_alike };
 }
 
 impl HasEncoder for Meters {

@@ -1,12 +1,10 @@
 //! `One` corresponds to the tuple of its variant's fields. What is below its declaration was written by
 //! `scripts/new_type`.
-ghost use Rattle.std.specs.Prelude.{refl};
-ghost use Rattle.bitcode.specs.ByHand.{stood_payload};
+ghost use Rattle.bitcode.specs.ByHand.{data_as, field_alike, refl};
 
-use bitcode::own::{
-    DecoderOfFields, FromParts, HasField, InFields, Nth, Payload, StandsFor, StructEncoder,
-};
-use bitcode::{DecodeOwned, HasDecoder, HasEncoder, Shaped};
+use bitcode::own::{DecoderOfFields, HasField, InFields, Nth, StructEncoder};
+use bitcode::{ConvertFrom, DecodeOwned, Error, HasDecoder, HasEncoder, Shaped};
+use std::alloc::Global;
 
 /// A byte.
 #[derive(Debug, Clone, Copy, PartialEq)]
@@ -14,42 +12,30 @@ pub enum One {
     A(u8),
 }
 
-impl StandsFor for One {
+impl Shaped for One {
     ghost use Rattle.bitcode_own_types.specs.declared.one.One.{One};
 
-    type Parts = u8;
+    ghost data = { data_as (elim [ One.A a ↦ a ]) (λ p. (One.A p, refl)) (elim [ One.A a ↦ refl ])
+        ⟦<u8 as Shaped>⟧.data };
 
-    type Inside = ();
-
-    ghost parts = { elim [ One.A a ↦ a ] };
-
-    ghost of_parts = { λ p. (One.A p, refl) };
-
-    fn told_parts(&self) {
+    fn told(&self) {
         let One::A(a) = self;
         a.told();
     }
-
-    ghost one_to_one = { elim [ One.A a ↦ refl ] };
 }
 
-impl FromParts for One {
-    fn from_parts(a: u8) -> Self {
-        One::A(a)
+impl ConvertFrom<u8> for One {
+    fn convert_from(_alloc: Global, a: u8) -> Result<Self, Error> {
+        Ok(One::A(a))
     }
-}
 
-impl Payload for One {
-    ghost payload = { stood_payload ⟦<One as StandsFor>⟧.parts ⟦<One as StandsFor>⟧.of_parts
-        ⟦<u8 as Payload>⟧.payload };
+    ghost same_shape = { refl };
 }
 
 impl HasField<0> for One {
     ghost use Rattle.bitcode_own_types.specs.declared.one.One.{One};
 
     type Field = u8;
-
-    type Inside = ();
 
     ghost field = { elim [ One.A a ↦ a ] };
 
@@ -64,13 +50,11 @@ type Fields = <u8 as HasEncoder>::Encoder;
 impl InFields<Fields> for One {
     type Numbers = Nth<0>;
 
-    type Inside = ();
+    type Inside = <One as HasDecoder<'static>>::Decoder;
 
     ghost same_shape = { refl };
 
-    ghost to_fields = { λ t d h. h };
-
-    ghost of_fields = { λ t d h. h };
+    ghost same_listings = { λ t. field_alike };
 }
 
 impl HasEncoder for One {

@@ -1,10 +1,10 @@
 //! `Outcome` numbers its variants. What is below its declaration was written by `scripts/new_type`.
 ghost use Rattle.std.specs.Prelude.{[], ◌∷◌, refl};
-ghost use Rattle.bitcode.specs.ByHand.{stood_payload};
+ghost use Rattle.bitcode.specs.ByHand.{bare_data};
 ghost use Rattle.bitcode_own_types.specs.declared.outcome.Outcome.{Outcome};
 
-use bitcode::own::{Bare, BareEncoder, BareVariants, HeldIn, Payload, StandsFor};
-use bitcode::{DecodeOwned, HasDecoder, HasEncoder, VariantDecoder};
+use bitcode::own::{BareEncoder, BareShaped, BareVariants};
+use bitcode::{DecodeOwned, HasDecoder, HasEncoder, Shaped, VariantDecoder};
 
 /// How a game ended.
 #[derive(Debug, Clone, Copy, PartialEq)]
@@ -21,6 +21,8 @@ impl BareVariants<3> for Outcome {
 
     ghost in_order = { (refl, refl) };
 
+    ghost one_to_one = { elim [ Outcome.Won ↦ refl | Outcome.Drawn ↦ refl | Outcome.Lost ↦ refl ] };
+
     fn index(&self) -> u8 {
         *self as u8
     }
@@ -32,17 +34,24 @@ impl BareVariants<3> for Outcome {
             _ => Outcome::Lost,
         }
     }
-
-    ghost one_to_one = { elim [ Outcome.Won ↦ refl | Outcome.Drawn ↦ refl | Outcome.Lost ↦ refl ] };
 }
 
-impl HeldIn for Outcome {
-    type Holder = Bare<3, Outcome>;
+impl Shaped for Outcome {
+    ghost data = { bare_data 3 ⟦<Outcome as BareVariants<3>>⟧.variant
+        ⟦<Outcome as BareVariants<3>>⟧.values ⟦<Outcome as BareVariants<3>>⟧.in_order
+        ⟦<Outcome as BareVariants<3>>⟧.one_to_one };
+
+    fn told(&self) {
+        let _index = self.index();
+    }
 }
 
-impl Payload for Outcome {
-    ghost payload = { stood_payload ⟦<Outcome as StandsFor>⟧.parts ⟦<Outcome as StandsFor>⟧.of_parts
-        ⟦<Bare<3, Outcome> as Payload>⟧.payload };
+impl BareShaped<3> for Outcome {
+    ghost has_shape = { refl };
+
+    ghost lists_bare = { λ t d h. h };
+
+    ghost makes_bare = { λ d t h. h };
 }
 
 impl HasEncoder for Outcome {

@@ -1,37 +1,26 @@
 //! `Pause` corresponds to the tuple of its fields. What is below its declaration was written by `scripts/new_type`.
-ghost use Rattle.std.specs.Prelude.{refl};
-ghost use Rattle.bitcode.specs.ByHand.{stood_payload};
+ghost use Rattle.bitcode.specs.ByHand.{data_as, field_alike, refl};
 
-use bitcode::own::{DecoderOfFields, FromParts, InFields, Payload, StandsFor, StructEncoder};
-use bitcode::{DecodeOwned, HasDecoder, HasEncoder};
+use bitcode::own::{DecoderOfFields, InFields, StructEncoder};
+use bitcode::{ConvertFrom, DecodeOwned, Error, HasDecoder, HasEncoder, Shaped};
+use std::alloc::Global;
 
 /// Nothing happens.
 #[derive(Debug, Clone, Copy, PartialEq)]
 pub struct Pause;
 
-impl StandsFor for Pause {
-    type Parts = ();
+impl Shaped for Pause {
+    ghost data = { data_as (λ t. tt) (λ p. (record {}, refl)) (λ t. refl) ⟦<() as Shaped>⟧.data };
 
-    type Inside = ();
-
-    ghost parts = { λ t. tt };
-
-    ghost of_parts = { λ p. (record {}, refl) };
-
-    fn told_parts(&self) {}
-
-    ghost one_to_one = { λ t. refl };
+    fn told(&self) {}
 }
 
-impl FromParts for Pause {
-    fn from_parts(_nothing: ()) -> Self {
-        Pause
+impl ConvertFrom<()> for Pause {
+    fn convert_from(_alloc: Global, _nothing: ()) -> Result<Self, Error> {
+        Ok(Pause)
     }
-}
 
-impl Payload for Pause {
-    ghost payload = { stood_payload ⟦<Pause as StandsFor>⟧.parts ⟦<Pause as StandsFor>⟧.of_parts
-        ⟦<() as Payload>⟧.payload };
+    ghost same_shape = { refl };
 }
 
 type Fields = <() as HasEncoder>::Encoder;
@@ -39,13 +28,11 @@ type Fields = <() as HasEncoder>::Encoder;
 impl InFields<Fields> for Pause {
     type Numbers = ();
 
-    type Inside = ();
+    type Inside = <Pause as HasDecoder<'static>>::Decoder;
 
     ghost same_shape = { refl };
 
-    ghost to_fields = { λ t d h. h };
-
-    ghost of_fields = { λ t d h. h };
+    ghost same_listings = { λ t. field_alike };
 }
 
 impl HasEncoder for Pause {

@@ -1,17 +1,16 @@
 //! `Reply` is written and read by the numbers of its variants. What is below its declaration was written by
 //! `scripts/new_type`.
-ghost use Rattle.std.specs.Prelude.{◌≡◌, refl};
-ghost use Rattle.bitcode.specs.ByHand.{columns_in, each_variant, is_variant, last_payload, of_one_of_4, payload_and};
-ghost use Rattle.bitcode.specs.ByHand.{payloads_in, stood_payload};
+ghost use Rattle.std.specs.Prelude.{◌≡◌};
+ghost use Rattle.bitcode.specs.ByHand.{columns_in, each_variant, enum_data, is_variant, last_payload, of_one_of_4};
+ghost use Rattle.bitcode.specs.ByHand.{payload_and, payloads_in, refl};
 ghost use Rattle.bitcode_own_types.specs.declared.reply.Reply.{Reply};
 
 use crate::message::Message;
 use bitcode::own::{
-    AllColumns, AllPayloads, At, DecodersOf4, EncodersOf4, Enum, EnumDecoder, EnumEncoder, EnumOf,
-    Halves, Held, HeldIn, OneOf4, PartsDecoder, Payload, StandsFor, VariantColumns,
-    VariantPayloads, Variants4, WritesPayloads, WritesVariants, told_as,
+    At, DecodersOf4, EncodersOf4, Enum, EnumDecoder, EnumEncoder, EnumOf, OneOf4, TwoGroups,
+    VariantColumns, VariantPayloads, Variants4, WritesVariants, told_as,
 };
-use bitcode::{Error, HasDecoder, HasEncoder};
+use bitcode::{Error, HasDecoder, HasEncoder, Shaped};
 use std::alloc::Global;
 use std::collections::{BTreeMap, BTreeSet, HashMap};
 
@@ -30,14 +29,14 @@ pub enum Reply<'a> {
 
 impl<'a> Enum for Reply<'a> {
     ghost each = { each_variant
-        (payload_and ⟦<() as Payload>⟧.payload
-        (payload_and ⟦<&'a str as Payload>⟧.payload
-        (payload_and ⟦<(Vec<&'a str>, Option<u32>) as Payload>⟧.payload
-        (payload_and ⟦<BTreeMap<u32, String> as Payload>⟧.payload
-        (payload_and ⟦<BTreeSet<u16> as Payload>⟧.payload
-        (payload_and ⟦<Message<'a> as Payload>⟧.payload
-        (payload_and ⟦<(HashMap<u16, String>, u64) as Payload>⟧.payload
-        (last_payload ⟦<() as Payload>⟧.payload))))))))
+        (payload_and ⟦<() as Shaped>⟧.data
+        (payload_and ⟦<&'a str as Shaped>⟧.data
+        (payload_and ⟦<(Vec<&'a str>, Option<u32>) as Shaped>⟧.data
+        (payload_and ⟦<BTreeMap<u32, String> as Shaped>⟧.data
+        (payload_and ⟦<BTreeSet<u16> as Shaped>⟧.data
+        (payload_and ⟦<Message<'a> as Shaped>⟧.data
+        (payload_and ⟦<(HashMap<u16, String>, u64) as Shaped>⟧.data
+        (last_payload ⟦<() as Shaped>⟧.data)))))))) refl
         (λ at. elim [
           | Reply.Done ↦ at 0 tt
           | Reply.Text a ↦ at 1 a
@@ -66,9 +65,19 @@ impl<'a> Enum for Reply<'a> {
               ),
             ),
           ),
-        ) };
-
-    ghost sized = { refl };
+        )
+        (elim [
+          | Reply.Done ↦ refl
+          | Reply.Text a ↦ refl
+          | Reply.Names a b ↦ refl
+          | Reply.Counts a ↦
+              refl
+          | Reply.Seen a ↦ refl
+          | Reply.Told a ↦ refl
+          | Reply.Found a b ↦ refl
+          | Reply.Gone ↦
+              refl
+        ]) };
 
     fn variant(&self) -> u8 {
         match self {
@@ -82,33 +91,25 @@ impl<'a> Enum for Reply<'a> {
             Reply::Gone => 7,
         }
     }
+}
 
-    ghost one_to_one = { elim [
-      | Reply.Done ↦ refl
-      | Reply.Text a ↦ refl
-      | Reply.Names a b ↦ refl
-      | Reply.Counts a ↦ refl
-      | Reply.Seen a ↦ refl
-      | Reply.Told a ↦ refl
-      | Reply.Found a b ↦ refl
-      | Reply.Gone ↦ refl
-    ] };
+impl<'a> Shaped for Reply<'a> {
+    ghost data = { enum_data ⟦<Reply<'a> as Enum>⟧.each };
+
+    fn told(&self) {
+        let _number = self.variant();
+    }
 }
 
 impl<'a> EnumOf<8> for Reply<'a> {
-    ghost count = { refl };
+    ghost counted = { (refl, refl) };
+
+    ghost lists_variants = { λ t d listed. listed };
+
+    ghost makes_variants = { λ d t made. made };
 }
 
-impl<'a> HeldIn for Reply<'a> {
-    type Holder = Held<8, Reply<'a>>;
-}
-
-impl<'a> Payload for Reply<'a> {
-    ghost payload = { stood_payload ⟦<Reply<'a> as StandsFor>⟧.parts
-        ⟦<Reply<'a> as StandsFor>⟧.of_parts ⟦<Held<8, Reply<'a>> as Payload>⟧.payload };
-}
-
-impl<'a> Variants4<At<0>, (), &'a str, (Vec<&'a str>, Option<u32>), BTreeMap<u32, String>>
+impl<'a> Variants4<At<0>, At<4>, (), &'a str, (Vec<&'a str>, Option<u32>), BTreeMap<u32, String>>
     for Reply<'a> {
     ghost values = { (
       λ p. Reply.Done,
@@ -139,6 +140,7 @@ impl<'a> Variants4<At<0>, (), &'a str, (Vec<&'a str>, Option<u32>), BTreeMap<u32
           refl (λ p. refl) (λ p old new h. h) (λ p old h. h) (λ p old new h. h),
       is_variant refl
           (λ p. refl) (λ p old new h. h) (λ p old h. h) (λ p old new h. h),
+      refl,
     ) };
 }
 
@@ -150,7 +152,7 @@ type ColumnsOf0To3 = EncodersOf4<
     BTreeMap<u32, String>,
 >;
 
-impl<'a> WritesVariants<ColumnsOf0To3> for Reply<'a> {
+impl<'a> WritesVariants<At<0>, At<4>, ColumnsOf0To3> for Reply<'a> {
     fn write(&self, to: &mut ColumnsOf0To3) -> Result<(), Error> {
         match self {
             Reply::Done => to.encode_first(self, &&()),
@@ -163,9 +165,11 @@ impl<'a> WritesVariants<ColumnsOf0To3> for Reply<'a> {
             _ => unreachable!(),
         }
     }
+
+    ghost are_columns = { λ c. (refl, refl) };
 }
 
-impl<'a> Variants4<At<4>, BTreeSet<u16>, Message<'a>, (HashMap<u16, String>, u64), ()>
+impl<'a> Variants4<At<4>, At<8>, BTreeSet<u16>, Message<'a>, (HashMap<u16, String>, u64), ()>
     for Reply<'a> {
     ghost values = { (
       λ p. Reply.Seen p,
@@ -196,6 +200,7 @@ impl<'a> Variants4<At<4>, BTreeSet<u16>, Message<'a>, (HashMap<u16, String>, u64
           refl (λ p. refl) (λ p old new h. h) (λ p old h. h) (λ p old new h. h),
       is_variant refl
           (λ p. refl) (λ p old new h. h) (λ p old h. h) (λ p old new h. h),
+      refl,
     ) };
 }
 
@@ -207,7 +212,7 @@ type ColumnsOf4To7 = EncodersOf4<
     (),
 >;
 
-impl<'a> WritesVariants<ColumnsOf4To7> for Reply<'a> {
+impl<'a> WritesVariants<At<4>, At<8>, ColumnsOf4To7> for Reply<'a> {
     fn write(&self, to: &mut ColumnsOf4To7) -> Result<(), Error> {
         match self {
             Reply::Seen(a) => to.encode_first(self, &a),
@@ -224,11 +229,14 @@ impl<'a> WritesVariants<ColumnsOf4To7> for Reply<'a> {
             _ => unreachable!(),
         }
     }
+
+    ghost are_columns = { λ c. (refl, refl) };
 }
 
-type Columns = Halves<ColumnsOf0To3, ColumnsOf4To7>;
+type Columns = TwoGroups<At<4>, ColumnsOf0To3, ColumnsOf4To7>;
 
-type Decoders<'a> = Halves<
+type Decoders<'a> = TwoGroups<
+    At<4>,
     DecodersOf4<'a, At<0>, (), &'a str, (Vec<&'a str>, Option<u32>), BTreeMap<u32, String>>,
     DecodersOf4<'a, At<4>, BTreeSet<u16>, Message<'a>, (HashMap<u16, String>, u64), ()>,
 >;
@@ -239,8 +247,8 @@ pub struct ReplyColumns {
     all: Columns,
 }
 
-impl AllColumns<8> for ReplyColumns {
-    ghost held = { columns_in (λ c. c.all) ⟦<Columns as VariantColumns>⟧.columns };
+impl VariantColumns for ReplyColumns {
+    ghost columns = { columns_in (λ c. c.all) ⟦<Columns as VariantColumns>⟧.columns };
 
     fn new(alloc: Global) -> Self {
         ReplyColumns {
@@ -248,23 +256,21 @@ impl AllColumns<8> for ReplyColumns {
         }
     }
 
-    fn collect(&mut self, number: usize, out: &mut Vec<u8>) -> Result<(), Error> {
-        self.all.collect_payloads(number, out)
+    fn collect_all(&mut self, out: &mut Vec<u8>) -> Result<(), Error> {
+        self.all.collect_all(out)
     }
 
-    fn clear(&mut self, number: usize) {
-        self.all.clear_payloads(number);
+    fn clear_all(&mut self) {
+        self.all.clear_all();
     }
-
-    ghost sized = { λ c. refl };
 }
 
-impl<'a> WritesPayloads<8, ReplyColumns> for Reply<'a> {
-    fn write_payload(&self, to: &mut ReplyColumns) -> Result<(), Error> {
-        WritesVariants::<Columns>::write(self, &mut to.all)
+impl<'a> WritesVariants<At<0>, At<8>, ReplyColumns> for Reply<'a> {
+    fn write(&self, to: &mut ReplyColumns) -> Result<(), Error> {
+        WritesVariants::<At<0>, At<8>, Columns>::write(self, &mut to.all)
     }
 
-    ghost of_shapes = { λ c. refl };
+    ghost are_columns = { λ c. (refl, refl) };
 }
 
 /// The payloads that values of `Reply` are made of.
@@ -273,13 +279,13 @@ pub struct ReplyPayloads<'a> {
     all: Decoders<'a>,
 }
 
-impl<'a> AllPayloads<'a, 8, Reply<'a>> for ReplyPayloads<'a> {
+impl<'a> VariantPayloads<'a, At<0>, At<8>, Reply<'a>> for ReplyPayloads<'a> {
     ghost held = { payloads_in (λ d. d.all)
-        ⟦<Decoders<'a> as VariantPayloads<'a, Reply<'a>>>⟧.held };
+        ⟦<Decoders<'a> as VariantPayloads<'a, At<0>, At<8>, Reply<'a>>>⟧.held };
 
     fn new(alloc: Global) -> Self {
         ReplyPayloads {
-            all: VariantPayloads::<Reply<'a>>::new(alloc),
+            all: VariantPayloads::<At<0>, At<8>, Reply<'a>>::new(alloc),
         }
     }
 
@@ -290,11 +296,11 @@ impl<'a> AllPayloads<'a, 8, Reply<'a>> for ReplyPayloads<'a> {
         k: usize,
         strict: bool,
     ) -> Result<bool, Error> {
-        VariantPayloads::<Reply<'a>>::read_payloads(&mut self.all, number, input, k, strict)
+        VariantPayloads::<At<0>, At<8>, Reply<'a>>::read_at(&mut self.all, number, input, k, strict)
     }
 
     fn decode_at(&mut self, number: usize) -> Result<Reply<'a>, Error> {
-        self.all.decode_payload(number)
+        VariantPayloads::<At<0>, At<8>, Reply<'a>>::decode_at(&mut self.all, number)
     }
 
     fn sized(&self) {}
@@ -305,8 +311,5 @@ impl<'a> HasEncoder for Reply<'a> {
 }
 
 impl<'a> HasDecoder<'a> for Reply<'a> {
-    type Decoder = PartsDecoder<
-        Held<8, Reply<'a>>,
-        EnumDecoder<'a, 8, Reply<'a>, ReplyPayloads<'a>>,
-    >;
+    type Decoder = EnumDecoder<'a, 8, Reply<'a>, ReplyPayloads<'a>>;
 }

@@ -2,9 +2,10 @@
 ghost use Rattle.std.specs.Prelude.{◌≡◌, IfOk, IfErr, IsTrue};
 ghost use Rattle.bitcode.specs.ByHand.{HasLongListing, HasShortLengths, IsWritingRefusal};
 
+use crate::monster::Monster;
 use crate::scores::Scores;
 use crate::spot::Spot;
-use bitcode::laws::{comes_back, comes_back_equal, told_by_parts};
+use bitcode::laws::{comes_back, comes_back_equal, told_exactly};
 use bitcode::{Error, Shaped, decode, encode};
 use std::alloc::Global;
 use std::collections::BTreeSet;
@@ -14,12 +15,15 @@ use std::collections::BTreeSet;
 ///
 /// Errors: `out of memory`, and nothing else that such scores could be refused for.
 pub fn saved_and_loaded(alloc: Global, scores: &Scores) -> Result<Scores, Error>
-    ensures equal { HasShortLengths ⟦<Scores as Shaped>⟧.lists ⟦<Scores as Shaped>⟧.shape scores.now
-        → IfOk result (λ again. ⟦<Scores as Shaped>⟧.same scores.now again) }
-    ensures refused { HasShortLengths ⟦<Scores as Shaped>⟧.lists ⟦<Scores as Shaped>⟧.shape
+    ensures equal { HasShortLengths ⟦<Scores as Shaped>⟧.data.lists ⟦<Scores as Shaped>⟧.data.shape
+        scores.now
+        → IfOk result (λ again. ⟦<Scores as Shaped>⟧.data.same scores.now again) }
+    ensures refused { HasShortLengths ⟦<Scores as Shaped>⟧.data.lists
+        ⟦<Scores as Shaped>⟧.data.shape
         scores.now → IfErr result
         (λ e. IsWritingRefusal e.reason
-        (HasLongListing ⟦<Scores as Shaped>⟧.lists ⟦<Scores as Shaped>⟧.shape scores.now)) }
+        (HasLongListing ⟦<Scores as Shaped>⟧.data.lists ⟦<Scores as Shaped>⟧.data.shape
+        scores.now)) }
 {
     let bytes = encode(alloc, scores)?;
     let written = bytes.as_slice();
@@ -28,11 +32,23 @@ pub fn saved_and_loaded(alloc: Global, scores: &Scores) -> Result<Scores, Error>
     again
 }
 
+/// Writes a monster, which owns memory, and reads it back: what is read is equal to what was written.
+pub fn saved_monster(alloc: Global, monster: &Monster) -> Result<Monster, Error>
+    ensures { HasShortLengths ⟦<Monster as Shaped>⟧.data.lists ⟦<Monster as Shaped>⟧.data.shape
+        monster.now → IfOk result (λ again. ⟦<Monster as Shaped>⟧.data.same monster.now again) }
+{
+    let bytes = encode(alloc, monster)?;
+    let written = bytes.as_slice();
+    let again: Result<Monster, Error> = decode(alloc, written);
+    comes_back(monster, written, &again);
+    again
+}
+
 /// Writes a spot and reads it back: what is read is the very spot that was written.
 ///
-/// A spot corresponds to its two numbers one to one, and equal numbers are identical.
+/// A spot holds two numbers, and equal numbers are identical.
 pub fn saved_spot(alloc: Global, spot: &Spot) -> Result<Spot, Error>
-    ensures { HasShortLengths ⟦<Spot as Shaped>⟧.lists ⟦<Spot as Shaped>⟧.shape spot.now
+    ensures { HasShortLengths ⟦<Spot as Shaped>⟧.data.lists ⟦<Spot as Shaped>⟧.data.shape spot.now
         → IfOk result (λ again. spot.now ≡ again) }
 {
     let bytes = encode(alloc, spot)?;
@@ -40,13 +56,14 @@ pub fn saved_spot(alloc: Global, spot: &Spot) -> Result<Spot, Error>
     let again: Result<Spot, Error> = decode(alloc, written);
     comes_back(spot, written, &again);
     let read = again?;
-    told_by_parts(spot, &read);
+    told_exactly(spot, &read);
     Ok(read)
 }
 
 /// Writes spots and reads them back: what is read is `==` to what was written.
 pub fn saved_spots(alloc: Global, spots: &BTreeSet<Spot>) -> Result<BTreeSet<Spot>, Error>
-    ensures { HasShortLengths ⟦<BTreeSet<Spot> as Shaped>⟧.lists ⟦<BTreeSet<Spot> as Shaped>⟧.shape
+    ensures { HasShortLengths ⟦<BTreeSet<Spot> as Shaped>⟧.data.lists
+        ⟦<BTreeSet<Spot> as Shaped>⟧.data.shape
         spots.now
         → IfOk result (λ again. IsTrue (⟦<BTreeSet<Spot> as PartialEq>⟧.eq spots.now again)) }
 {

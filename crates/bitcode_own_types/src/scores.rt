@@ -1,14 +1,12 @@
 //! A container of numbers, written by hand: it is written as the sequence of its elements, and made of them.
-ghost use Rattle.std.specs.Prelude.{◌≡◌, true, false, refl, IfOk, IfErr};
-ghost use Rattle.bitcode.specs.ByHand.{image_lawful, image_makeable, u32_lawful, u32_makeable, vec_lawful};
-ghost use Rattle.bitcode.specs.ByHand.{vec_makeable, MakesOfElements};
-ghost use Rattle.bitcode_own_types.specs.Scores.{scores_list};
+ghost use Rattle.std.specs.Prelude.{◌≡◌, false, IfOk, IfErr};
+ghost use Rattle.bitcode.specs.ByHand.{MakesOfElements, data_as, refl};
 
 use bitcode::coder::{HoldsData, Result};
 use bitcode::own::{FromElements, Sequence, encode_each};
 use bitcode::{
-    DecodeOwned, Decoder, Encoder, HasDecoder, HasEncoder, IntDecoder, IntEncoder, Made, Reason,
-    Shaped, VecDecoder, VecEncoder, View,
+    DecodeOwned, Decoder, Encoder, HasDecoder, HasEncoder, IntDecoder, IntEncoder, Reason, Shaped,
+    VecDecoder, VecEncoder, View,
 };
 use std::alloc::Global;
 
@@ -19,28 +17,12 @@ pub struct Scores {
 }
 
 impl Shaped for Scores {
-    ghost shape = { ⟦<Vec<u32> as Shaped>⟧.shape };
-
-    ghost is_value = { λ s. ⟦<Vec<u32> as Shaped>⟧.is_value s.list };
-
-    ghost lists = { λ s d. ⟦<Vec<u32> as Shaped>⟧.lists s.list d };
-
-    ghost same = { λ s t. ⟦<Vec<u32> as Shaped>⟧.same s.list t.list };
-
-    ghost in_order = { true };
+    ghost data = { data_as (λ s. s.list) (λ list. (record { list = list }, refl)) (λ s. refl)
+        ⟦<Vec<u32> as Shaped>⟧.data };
 
     fn told(&self) {
         self.list.told();
     }
-
-    ghost lawful = { image_lawful scores_list (vec_lawful u32_lawful) };
-}
-
-impl Made for Scores {
-    ghost makes = { λ d s. ⟦<Vec<u32> as Made>⟧.makes d s.list };
-
-    ghost makeable = { image_makeable scores_list (λ g list h. (record { list = list }, refl))
-        (vec_makeable u32_makeable) };
 }
 
 impl Sequence for Scores {
@@ -68,7 +50,8 @@ impl FromElements for Scores {
 
     fn from_elements(_alloc: Global, elements: Vec<u32>) -> Result<Scores>
         ensures made { IfOk result
-            (λ t. MakesOfElements ⟦<Scores as Made>⟧.makes ⟦<u32 as Made>⟧.makes t elements.items) }
+            (λ t. MakesOfElements ⟦<Scores as Shaped>⟧.data.makes ⟦<u32 as Shaped>⟧.data.makes t
+            elements.items) }
         ensures refused { IfErr result (λ e. e.reason ≡ Reason.OutOfMemory) }
     {
         Ok(Scores { list: elements })

@@ -1,12 +1,11 @@
 //! `Seat` corresponds to the tuple of its fields. What is below its declaration was written by `scripts/new_type`.
-ghost use Rattle.std.specs.Prelude.{[], refl, ◌∷◌};
-ghost use Rattle.bitcode.specs.ByHand.{ands_in_order, key_as, listed_pair, stood_key, stood_payload, thens_in_order};
+ghost use Rattle.std.specs.Prelude.{◌∷◌};
+ghost use Rattle.bitcode.specs.ByHand.{[], ands_in_order, data_as, field_alike, key_as, pair_alike, refl};
+ghost use Rattle.bitcode.specs.ByHand.{thens_in_order};
 
-use bitcode::own::{
-    DecoderOfFields, FromParts, HasField, InFields, KeyPayload, Nth, Payload, StandsFor,
-    StructEncoder,
-};
-use bitcode::{DecodeOwned, HasDecoder, HasEncoder, Key, Shaped};
+use bitcode::own::{DecoderOfFields, HasField, InFields, Nth, StructEncoder};
+use bitcode::{ConvertFrom, DecodeOwned, Error, HasDecoder, HasEncoder, Key, Shaped};
+use std::alloc::Global;
 
 /// A seat of a theatre.
 #[derive(Debug, Clone, Copy, PartialEq, Eq, PartialOrd, Ord)]
@@ -16,39 +15,33 @@ pub struct Seat {
     pub place: u16,
 }
 
-impl StandsFor for Seat {
-    type Parts = (u8, u16, u16);
+impl Shaped for Seat {
+    ghost data = { key_as
+        (data_as (λ t. (t.level, t.row, t.place))
+        (λ p. (record { level = p.0; row = p.1; place = p.2 }, refl)) (λ t. refl)
+        ⟦<(u8, u16, u16) as Shaped>⟧.data) ⟦<Seat as PartialEq>⟧.eq ⟦<Seat as Ord>⟧.cmp
+        (λ s t. ands_in_order (⟦<u8 as PartialEq>⟧.eq s.level t.level)
+        ((⟦<u16 as PartialEq>⟧.eq s.row t.row) ∷ (⟦<u16 as PartialEq>⟧.eq s.place t.place) ∷ []))
+        (λ s t. thens_in_order (⟦<u8 as Ord>⟧.cmp s.level t.level)
+        ((⟦<u16 as Ord>⟧.cmp s.row t.row) ∷ (⟦<u16 as Ord>⟧.cmp s.place t.place) ∷ [])) };
 
-    type Inside = ();
-
-    ghost parts = { λ t. (t.level, t.row, t.place) };
-
-    ghost of_parts = { λ p. (record { level = p.0; row = p.1; place = p.2 }, refl) };
-
-    fn told_parts(&self) {
+    fn told(&self) {
         self.level.told();
         self.row.told();
         self.place.told();
     }
-
-    ghost one_to_one = { λ t. refl };
 }
 
-impl FromParts for Seat {
-    fn from_parts((level, row, place): (u8, u16, u16)) -> Self {
-        Seat { level, row, place }
+impl ConvertFrom<(u8, u16, u16)> for Seat {
+    fn convert_from(_alloc: Global, (level, row, place): (u8, u16, u16)) -> Result<Self, Error> {
+        Ok(Seat { level, row, place })
     }
-}
 
-impl Payload for Seat {
-    ghost payload = { stood_payload ⟦<Seat as StandsFor>⟧.parts ⟦<Seat as StandsFor>⟧.of_parts
-        ⟦<(u8, u16, u16) as Payload>⟧.payload };
+    ghost same_shape = { refl };
 }
 
 impl HasField<0> for Seat {
     type Field = u8;
-
-    type Inside = ();
 
     ghost field = { λ t. t.level };
 
@@ -60,8 +53,6 @@ impl HasField<0> for Seat {
 impl HasField<1> for Seat {
     type Field = u16;
 
-    type Inside = ();
-
     ghost field = { λ t. t.row };
 
     fn field(&self) -> &u16 {
@@ -71,8 +62,6 @@ impl HasField<1> for Seat {
 
 impl HasField<2> for Seat {
     type Field = u16;
-
-    type Inside = ();
 
     ghost field = { λ t. t.place };
 
@@ -86,13 +75,11 @@ type Fields = <(u8, (u16, u16)) as HasEncoder>::Encoder;
 impl InFields<Fields> for Seat {
     type Numbers = (Nth<0>, (Nth<1>, Nth<2>));
 
-    type Inside = ();
+    type Inside = <Seat as HasDecoder<'static>>::Decoder;
 
     ghost same_shape = { refl };
 
-    ghost to_fields = { λ t. listed_pair (λ d h. h) (listed_pair (λ d h. h) (λ d h. h)) };
-
-    ghost of_fields = { λ t. listed_pair (λ d h. h) (listed_pair (λ d h. h) (λ d h. h)) };
+    ghost same_listings = { λ t. pair_alike field_alike (pair_alike field_alike field_alike) };
 }
 
 impl HasEncoder for Seat {
@@ -105,16 +92,8 @@ impl<'a> HasDecoder<'a> for Seat {
 
 impl DecodeOwned for Seat {}
 
-impl KeyPayload for Seat {
-    ghost key = { key_as
-        (stood_key ⟦<Seat as StandsFor>⟧.parts ⟦<Seat as StandsFor>⟧.of_parts
-        ⟦<(u8, u16, u16) as KeyPayload>⟧.key) ⟦<Seat as PartialEq>⟧.eq ⟦<Seat as Ord>⟧.cmp
-        (λ s t. ands_in_order (⟦<u8 as PartialEq>⟧.eq s.level t.level)
-        ((⟦<u16 as PartialEq>⟧.eq s.row t.row) ∷ (⟦<u16 as PartialEq>⟧.eq s.place t.place) ∷ []))
-        (λ s t. thens_in_order (⟦<u8 as Ord>⟧.cmp s.level t.level)
-        ((⟦<u16 as Ord>⟧.cmp s.row t.row) ∷ (⟦<u16 as Ord>⟧.cmp s.place t.place) ∷ [])) };
-}
-
 impl Key for Seat {
-    ghost keyed = { ⟦<Seat as KeyPayload>⟧.key.told };
+    ghost equal = { refl };
+
+    ghost ordered = { refl };
 }

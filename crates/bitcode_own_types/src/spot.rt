@@ -1,12 +1,9 @@
 //! `Spot` corresponds to the tuple of its fields. What is below its declaration was written by `scripts/new_type`.
-ghost use Rattle.std.specs.Prelude.{refl};
-ghost use Rattle.bitcode.specs.ByHand.{listed_pair, stood_key, stood_payload};
+ghost use Rattle.bitcode.specs.ByHand.{data_as, field_alike, pair_alike, refl};
 
-use bitcode::own::{
-    DecoderOfFields, FromParts, HasField, InFields, KeyPayload, Nth, Payload, StandsFor,
-    StructEncoder,
-};
-use bitcode::{DecodeOwned, HasDecoder, HasEncoder, Key, Shaped};
+use bitcode::own::{DecoderOfFields, HasField, InFields, Nth, StructEncoder};
+use bitcode::{ConvertFrom, DecodeOwned, Error, HasDecoder, HasEncoder, Key, Shaped};
+use std::alloc::Global;
 
 /// A place on a map, of which there are sets.
 #[derive(Debug, Clone, Copy, PartialEq, Eq, PartialOrd, Ord)]
@@ -15,38 +12,26 @@ pub struct Spot {
     pub y: u32,
 }
 
-impl StandsFor for Spot {
-    type Parts = (u32, u32);
+impl Shaped for Spot {
+    ghost data = { data_as (λ t. (t.x, t.y)) (λ p. (record { x = p.0; y = p.1 }, refl)) (λ t. refl)
+        ⟦<(u32, u32) as Shaped>⟧.data };
 
-    type Inside = ();
-
-    ghost parts = { λ t. (t.x, t.y) };
-
-    ghost of_parts = { λ p. (record { x = p.0; y = p.1 }, refl) };
-
-    fn told_parts(&self) {
+    fn told(&self) {
         self.x.told();
         self.y.told();
     }
-
-    ghost one_to_one = { λ t. refl };
 }
 
-impl FromParts for Spot {
-    fn from_parts((x, y): (u32, u32)) -> Self {
-        Spot { x, y }
+impl ConvertFrom<(u32, u32)> for Spot {
+    fn convert_from(_alloc: Global, (x, y): (u32, u32)) -> Result<Self, Error> {
+        Ok(Spot { x, y })
     }
-}
 
-impl Payload for Spot {
-    ghost payload = { stood_payload ⟦<Spot as StandsFor>⟧.parts ⟦<Spot as StandsFor>⟧.of_parts
-        ⟦<(u32, u32) as Payload>⟧.payload };
+    ghost same_shape = { refl };
 }
 
 impl HasField<0> for Spot {
     type Field = u32;
-
-    type Inside = ();
 
     ghost field = { λ t. t.x };
 
@@ -57,8 +42,6 @@ impl HasField<0> for Spot {
 
 impl HasField<1> for Spot {
     type Field = u32;
-
-    type Inside = ();
 
     ghost field = { λ t. t.y };
 
@@ -72,13 +55,11 @@ type Fields = <(u32, u32) as HasEncoder>::Encoder;
 impl InFields<Fields> for Spot {
     type Numbers = (Nth<0>, Nth<1>);
 
-    type Inside = ();
+    type Inside = <Spot as HasDecoder<'static>>::Decoder;
 
     ghost same_shape = { refl };
 
-    ghost to_fields = { λ t. listed_pair (λ d h. h) (λ d h. h) };
-
-    ghost of_fields = { λ t. listed_pair (λ d h. h) (λ d h. h) };
+    ghost same_listings = { λ t. pair_alike field_alike field_alike };
 }
 
 impl HasEncoder for Spot {
@@ -91,11 +72,8 @@ impl<'a> HasDecoder<'a> for Spot {
 
 impl DecodeOwned for Spot {}
 
-impl KeyPayload for Spot {
-    ghost key = { stood_key ⟦<Spot as StandsFor>⟧.parts ⟦<Spot as StandsFor>⟧.of_parts
-        ⟦<(u32, u32) as KeyPayload>⟧.key };
-}
-
 impl Key for Spot {
-    ghost keyed = { ⟦<Spot as KeyPayload>⟧.key.told };
+    ghost equal = { refl };
+
+    ghost ordered = { refl };
 }

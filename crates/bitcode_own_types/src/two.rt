@@ -1,16 +1,15 @@
 //! `Two` is written and read by the numbers of its variants. What is below its declaration was written by
 //! `scripts/new_type`.
-ghost use Rattle.std.specs.Prelude.{◌≡◌, refl};
-ghost use Rattle.bitcode.specs.ByHand.{columns_in, each_variant, is_variant, last_payload, of_one_of_2, payload_and};
-ghost use Rattle.bitcode.specs.ByHand.{payloads_in, stood_payload};
+ghost use Rattle.std.specs.Prelude.{◌≡◌};
+ghost use Rattle.bitcode.specs.ByHand.{columns_in, each_variant, enum_data, is_variant, last_payload, of_one_of_2};
+ghost use Rattle.bitcode.specs.ByHand.{payload_and, payloads_in, refl};
 ghost use Rattle.bitcode_own_types.specs.declared.two.Two.{Two};
 
 use bitcode::own::{
-    AllColumns, AllPayloads, At, DecodersOf2, EncodersOf2, Enum, EnumDecoder, EnumEncoder, EnumOf,
-    Held, HeldIn, OneOf2, PartsDecoder, Payload, StandsFor, VariantColumns, VariantPayloads,
-    Variants2, WritesPayloads, WritesVariants, told_as,
+    At, DecodersOf2, EncodersOf2, Enum, EnumDecoder, EnumEncoder, EnumOf, OneOf2, VariantColumns,
+    VariantPayloads, Variants2, WritesVariants, told_as,
 };
-use bitcode::{DecodeOwned, Error, HasDecoder, HasEncoder};
+use bitcode::{DecodeOwned, Error, HasDecoder, HasEncoder, Shaped};
 use std::alloc::Global;
 
 /// A byte without sign or one with a sign.
@@ -22,11 +21,9 @@ pub enum Two {
 
 impl Enum for Two {
     ghost each = { each_variant
-        (payload_and ⟦<u8 as Payload>⟧.payload (last_payload ⟦<i8 as Payload>⟧.payload))
+        (payload_and ⟦<u8 as Shaped>⟧.data (last_payload ⟦<i8 as Shaped>⟧.data)) refl
         (λ at. elim [ Two.A a ↦ at 0 a | Two.B a ↦ at 1 a ])
-        ((λ p. (Two.A p, refl)), λ p. (Two.B p, refl)) };
-
-    ghost sized = { refl };
+        ((λ p. (Two.A p, refl)), λ p. (Two.B p, refl)) (elim [ Two.A a ↦ refl | Two.B a ↦ refl ]) };
 
     fn variant(&self) -> u8 {
         match self {
@@ -34,24 +31,25 @@ impl Enum for Two {
             Two::B(a) => told_as(1, &a),
         }
     }
+}
 
-    ghost one_to_one = { elim [ Two.A a ↦ refl | Two.B a ↦ refl ] };
+impl Shaped for Two {
+    ghost data = { enum_data ⟦<Two as Enum>⟧.each };
+
+    fn told(&self) {
+        let _number = self.variant();
+    }
 }
 
 impl EnumOf<2> for Two {
-    ghost count = { refl };
+    ghost counted = { (refl, refl) };
+
+    ghost lists_variants = { λ t d listed. listed };
+
+    ghost makes_variants = { λ d t made. made };
 }
 
-impl HeldIn for Two {
-    type Holder = Held<2, Two>;
-}
-
-impl Payload for Two {
-    ghost payload = { stood_payload ⟦<Two as StandsFor>⟧.parts ⟦<Two as StandsFor>⟧.of_parts
-        ⟦<Held<2, Two> as Payload>⟧.payload };
-}
-
-impl Variants2<At<0>, u8, i8> for Two {
+impl Variants2<At<0>, At<2>, u8, i8> for Two {
     ghost values = { (λ p. Two.A p, λ p. Two.B p) };
 
     fn of_payload(payload: OneOf2<u8, i8>) -> Self
@@ -66,18 +64,21 @@ impl Variants2<At<0>, u8, i8> for Two {
     ghost are = { (
       is_variant refl (λ p. refl) (λ p old new h. h) (λ p old h. h) (λ p old new h. h),
       is_variant refl (λ p. refl) (λ p old new h. h) (λ p old h. h) (λ p old new h. h),
+      refl,
     ) };
 }
 
 type Columns = EncodersOf2<At<0>, u8, i8>;
 
-impl WritesVariants<Columns> for Two {
+impl WritesVariants<At<0>, At<2>, Columns> for Two {
     fn write(&self, to: &mut Columns) -> Result<(), Error> {
         match self {
             Two::A(a) => to.encode_first(self, &a),
             Two::B(a) => to.encode_second(self, &a),
         }
     }
+
+    ghost are_columns = { λ c. (refl, refl) };
 }
 
 type Decoders<'a> = DecodersOf2<'a, At<0>, u8, i8>;
@@ -88,8 +89,8 @@ pub struct TwoColumns {
     all: Columns,
 }
 
-impl AllColumns<2> for TwoColumns {
-    ghost held = { columns_in (λ c. c.all) ⟦<Columns as VariantColumns>⟧.columns };
+impl VariantColumns for TwoColumns {
+    ghost columns = { columns_in (λ c. c.all) ⟦<Columns as VariantColumns>⟧.columns };
 
     fn new(alloc: Global) -> Self {
         TwoColumns {
@@ -97,23 +98,21 @@ impl AllColumns<2> for TwoColumns {
         }
     }
 
-    fn collect(&mut self, number: usize, out: &mut Vec<u8>) -> Result<(), Error> {
-        self.all.collect_payloads(number, out)
+    fn collect_all(&mut self, out: &mut Vec<u8>) -> Result<(), Error> {
+        self.all.collect_all(out)
     }
 
-    fn clear(&mut self, number: usize) {
-        self.all.clear_payloads(number);
+    fn clear_all(&mut self) {
+        self.all.clear_all();
     }
-
-    ghost sized = { λ c. refl };
 }
 
-impl WritesPayloads<2, TwoColumns> for Two {
-    fn write_payload(&self, to: &mut TwoColumns) -> Result<(), Error> {
-        WritesVariants::<Columns>::write(self, &mut to.all)
+impl WritesVariants<At<0>, At<2>, TwoColumns> for Two {
+    fn write(&self, to: &mut TwoColumns) -> Result<(), Error> {
+        WritesVariants::<At<0>, At<2>, Columns>::write(self, &mut to.all)
     }
 
-    ghost of_shapes = { λ c. refl };
+    ghost are_columns = { λ c. (refl, refl) };
 }
 
 /// The payloads that values of `Two` are made of.
@@ -122,12 +121,13 @@ pub struct TwoPayloads<'a> {
     all: Decoders<'a>,
 }
 
-impl<'a> AllPayloads<'a, 2, Two> for TwoPayloads<'a> {
-    ghost held = { payloads_in (λ d. d.all) ⟦<Decoders<'a> as VariantPayloads<'a, Two>>⟧.held };
+impl<'a> VariantPayloads<'a, At<0>, At<2>, Two> for TwoPayloads<'a> {
+    ghost held = { payloads_in (λ d. d.all)
+        ⟦<Decoders<'a> as VariantPayloads<'a, At<0>, At<2>, Two>>⟧.held };
 
     fn new(alloc: Global) -> Self {
         TwoPayloads {
-            all: VariantPayloads::<Two>::new(alloc),
+            all: VariantPayloads::<At<0>, At<2>, Two>::new(alloc),
         }
     }
 
@@ -138,11 +138,11 @@ impl<'a> AllPayloads<'a, 2, Two> for TwoPayloads<'a> {
         k: usize,
         strict: bool,
     ) -> Result<bool, Error> {
-        VariantPayloads::<Two>::read_payloads(&mut self.all, number, input, k, strict)
+        VariantPayloads::<At<0>, At<2>, Two>::read_at(&mut self.all, number, input, k, strict)
     }
 
     fn decode_at(&mut self, number: usize) -> Result<Two, Error> {
-        self.all.decode_payload(number)
+        VariantPayloads::<At<0>, At<2>, Two>::decode_at(&mut self.all, number)
     }
 
     fn sized(&self) {}
@@ -153,7 +153,7 @@ impl HasEncoder for Two {
 }
 
 impl<'a> HasDecoder<'a> for Two {
-    type Decoder = PartsDecoder<Held<2, Two>, EnumDecoder<'a, 2, Two, TwoPayloads<'a>>>;
+    type Decoder = EnumDecoder<'a, 2, Two, TwoPayloads<'a>>;
 }
 
 impl DecodeOwned for Two {}

@@ -15,7 +15,7 @@ use bitcode_coder::coder::{Buffer, Decoder, Encoder, HoldsColumns, HoldsData, Vi
 use bitcode_memory::consume::mul_length;
 use bitcode_memory::error::{Error, Reason};
 use bitcode_memory::refuse::err;
-use bitcode_shapes::shaped::{Made, Shaped};
+use bitcode_shapes::shaped::Shaped;
 use std::alloc::Global;
 
 /// The encoder of arrays of `N` elements: the columns of all elements of all arrays.
@@ -107,10 +107,10 @@ impl<T: Shaped, E: Encoder<T>, const N: usize> Encoder<[T; N]> for ArrayEncoder<
         false
     }
 
-    ghost of_shape = { λ e. arrays_of_shape N e.count T.shape (E.columns e.elements)
+    ghost of_shape = { λ e. arrays_of_shape N e.count T.data.shape (E.columns e.elements)
         (E.of_shape e.elements) };
 
-    ghost surely = { λ e n. arrays_overflow T.shape (E.columns e.elements) n N e.count
+    ghost surely = { λ e n. arrays_overflow T.data.shape (E.columns e.elements) n N e.count
         (E.surely e.elements (n * N)) };
 }
 
@@ -172,7 +172,7 @@ impl<'a, D: View<'a>, const N: usize> View<'a> for ArrayDecoder<D, N> {
     }
 }
 
-impl<T: Made + Drop, D: Decoder<T>, const N: usize> Decoder<[T; N]> for ArrayDecoder<D, N> {
+impl<T: Shaped + Drop, D: Decoder<T>, const N: usize> Decoder<[T; N]> for ArrayDecoder<D, N> {
     ghost makes_free = { N == 0 };
 
     fn decode(&mut self) -> Result<[T; N], Error> {

@@ -1,12 +1,12 @@
 //! The coders of types whose values are written, or read, as values of another type.
-ghost use Rattle.std.specs.Prelude.{◌≡◌, []};
+ghost use Rattle.std.specs.Prelude.{◌≡◌, [], Bool, true, IsTrue, IsOk, IfOk, IfErr, ◌&&◌};
 ghost use Rattle.std.proofs.Common.{sym, ◌∙◌};
 ghost use Rattle.bitcode_coder.specs.Coder.{ListsAsToo, MakesToo};
 ghost use Rattle.bitcode_parts.specs.Convert.{IsWrittenAs, surely_as};
 
 use bitcode_coder::coder::{Buffer, Decoder, Encoder, HoldsColumns, HoldsData, View};
-use bitcode_memory::error::Error;
-use bitcode_shapes::shaped::{Made, Shaped};
+use bitcode_memory::error::{Error, Reason};
+use bitcode_shapes::shaped::Shaped;
 use std::alloc::Global;
 use std::marker::PhantomData;
 
@@ -24,28 +24,36 @@ use std::marker::PhantomData;
 pub trait ConvertInto<T: Shaped>: Shaped {
     /// The value that is written.
     fn convert_into(&self) -> T
-        ensures { ListsAsToo Self.lists T.lists self.now result };
+        ensures { ListsAsToo Self.data.lists T.data.lists self.now result };
 
-    ghost written_as: { IsWrittenAs Self.shape T.shape };
+    ghost written_as: { IsWrittenAs Self.data.shape T.data.shape };
 }
 
-/// A type whose values can be made from values of `T`, such as a `Duration` from its seconds and nanoseconds.
+/// A type whose values are made from values of `T`: a `Duration` from its seconds and nanoseconds, a `Box<T>` from its
+/// target, a struct from the tuple of its fields. It may allocate for that.
 ///
 /// ```rust,from:crates/bitcode_parts/src/durations.rt
 /// impl ConvertFrom<DurationDecode> for Duration {
-///     fn convert_from(value: DurationDecode) -> Self {
-///         Duration::new(value.0, value.1.into_inner())
+///     fn convert_from(_alloc: Global, value: DurationDecode) -> Result<Self, Error> {
+///         Ok(Duration::new(value.0, value.1.into_inner()))
 ///     }
 ///
-///     ghost shape_from = { refl };
+///     ghost same_shape = { refl };
 /// }
 /// ```
-pub trait ConvertFrom<T: Made>: Made {
-    /// Makes the value from the one that was read.
-    fn convert_from(value: T) -> Self
-        ensures { MakesToo Self.makes T.makes result value };
+pub trait ConvertFrom<T: Shaped>: Shaped {
+    // making it takes no memory
+    ghost is_free: { Bool } = { true };
 
-    ghost shape_from: { Self.shape ≡ T.shape };
+    /// Makes the value from the one that was read.
+    ///
+    /// The only error is `out of memory`.
+    fn convert_from(alloc: Global, value: T) -> Result<Self, Error>
+        ensures made { IfOk result (λ t. MakesToo Self.data.makes T.data.makes t value) }
+        ensures refused { IfErr result (λ e. e.reason ≡ Reason.OutOfMemory) }
+        ensures free { IsTrue is_free → IsOk result };
+
+    ghost same_shape: { Self.data.shape ≡ T.data.shape };
 }
 
 /// The columns of values that are written as values of `T`, with the encoder `E` of `T`.
@@ -108,11 +116,13 @@ impl<T: Shaped + Drop, D: ConvertInto<T>, E: Encoder<T>> Encoder<D> for ConvertI
 
     ghost of_shape = { λ e. E.of_shape e.inner ∙ sym (D.written_as.columns []) };
 
-    ghost surely = { λ e n h. surely_as D.shape T.shape D.written_as (E.columns e.inner) n
+    ghost surely = { λ e n h. surely_as D.data.shape T.data.shape D.written_as (E.columns e.inner) n
         (E.surely e.inner n h) };
 }
 
 /// The data of values that are made from values of `T`, with the decoder `D` of `T`.
+///
+/// It returns that decoder's errors, and `out of memory` if the allocation for a value fails.
 ///
 /// ```rust
 /// use bitcode_parts::durations::{DurationDecode, DurationEncode};
@@ -127,9 +137,13 @@ impl<T: Shaped + Drop, D: ConvertInto<T>, E: Encoder<T>> Encoder<D> for ConvertI
 /// ```
 #[derive(Drop)]
 pub struct ConvertFromDecoder<T, D> {
+    alloc: Global,
     inner: D,
     of: PhantomData<T>,
 }
+
+/// The decoder of pointers, which the Rust crate calls so.
+pub type FromDecoder<T, D> = ConvertFromDecoder<T, D>;
 
 impl<T: Drop, D: HoldsData> HoldsData for ConvertFromDecoder<T, D> {
     ghost shape = { D.shape };
@@ -144,6 +158,7 @@ impl<'a, T: Drop, D: View<'a>> View<'a> for ConvertFromDecoder<T, D> {
 
     fn new(alloc: Global) -> Self {
         ConvertFromDecoder {
+            alloc,
             inner: D::new(alloc),
             of: PhantomData,
         }
@@ -154,12 +169,13 @@ impl<'a, T: Drop, D: View<'a>> View<'a> for ConvertFromDecoder<T, D> {
     }
 }
 
-impl<T: Made + Drop, F: ConvertFrom<T>, D: Decoder<T>> Decoder<F> for ConvertFromDecoder<T, D> {
-    ghost makes_free = { D.makes_free };
+impl<T: Shaped + Drop, F: ConvertFrom<T>, D: Decoder<T>> Decoder<F> for ConvertFromDecoder<T, D> {
+    ghost makes_free = { D.makes_free && F.is_free };
 
     fn decode(&mut self) -> Result<F, Error> {
-        Ok(F::convert_from(self.inner.decode()?))
+        let value = self.inner.decode()?;
+        F::convert_from(self.alloc, value)
     }
 
-    ghost same_shape = { D.same_shape ∙ sym F.shape_from };
+    ghost same_shape = { D.same_shape ∙ sym F.same_shape };
 }

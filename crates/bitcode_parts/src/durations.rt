@@ -3,7 +3,9 @@ ghost use Rattle.std.specs.Prelude.{refl};
 ghost use Rattle.bitcode_parts.specs.Durations.{duration_written_as};
 
 use crate::convert::{ConvertFrom, ConvertInto};
+use bitcode_memory::error::Error;
 use bitcode_shapes::nanosecond::Nanosecond;
+use std::alloc::Global;
 use std::time::Duration;
 
 /// How a `Duration` is written: its seconds, and its nanoseconds below one second.
@@ -21,9 +23,9 @@ impl ConvertInto<DurationEncode> for Duration {
 }
 
 impl ConvertFrom<DurationDecode> for Duration {
-    fn convert_from(value: DurationDecode) -> Self {
-        Duration::new(value.0, value.1.into_inner())
+    fn convert_from(_alloc: Global, value: DurationDecode) -> Result<Self, Error> {
+        Ok(Duration::new(value.0, value.1.into_inner()))
     }
 
-    ghost shape_from = { refl };
+    ghost same_shape = { refl };
 }

@@ -15,7 +15,7 @@ use bitcode_coder::coder::{Decoder, Encoder, HoldsData, View, both};
 use bitcode_coder::length::LengthDecoder;
 use bitcode_memory::error::{Error, Reason};
 use bitcode_memory::refuse::err;
-use bitcode_shapes::shaped::{Made, Shaped};
+use bitcode_shapes::shaped::Shaped;
 use std::alloc::Global;
 use std::default::Default;
 
@@ -71,7 +71,7 @@ impl<'a, D: View<'a>, const N: usize> View<'a> for ArrayVecDecoder<'a, D, N> {
     }
 }
 
-impl<'a, T: Made + Default + Drop, D: Decoder<T>, const N: usize> Decoder<ArrayVec<T, N>>
+impl<'a, T: Shaped + Default + Drop, D: Decoder<T>, const N: usize> Decoder<ArrayVec<T, N>>
     for ArrayVecDecoder<'a, D, N> {
     ghost makes_free = { false };
 

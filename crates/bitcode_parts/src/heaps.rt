@@ -10,7 +10,7 @@ use crate::lists::sequence::{FromElements, Sequence, encode_each};
 use crate::lists::vec::VecDecoder;
 use bitcode_coder::coder::{Decoder, Encoder};
 use bitcode_memory::error::{Error, Reason};
-use bitcode_shapes::shaped::{Made, Shaped};
+use bitcode_shapes::shaped::Shaped;
 use std::alloc::Global;
 use std::cmp::Ord;
 use std::collections::BinaryHeap;
@@ -36,19 +36,20 @@ impl<T: Shaped + Ord> Sequence for BinaryHeap<T> {
     ghost items_columns = { λ ds. refl };
 }
 
-impl<T: Made + Ord + Drop> FromElements for BinaryHeap<T> {
+impl<T: Shaped + Ord + Drop> FromElements for BinaryHeap<T> {
     type Part = T;
 
     fn from_elements(_alloc: Global, elements: Vec<T>) -> Result<BinaryHeap<T>, Error>
         ensures made { IfOk result
-            (λ t. MakesOfElements ⟦<BinaryHeap<T> as Made>⟧.makes T.makes t elements.items) }
+            (λ t. MakesOfElements ⟦<BinaryHeap<T> as Shaped>⟧.data.makes T.data.makes t
+            elements.items) }
         ensures refused { IfErr result (λ e. e.reason ≡ Reason.OutOfMemory) }
     {
         Ok(BinaryHeap::from(elements))
     }
 }
 
-impl<'a, T: Made + Ord + Drop, D: Decoder<T>> Decoder<BinaryHeap<T>> for VecDecoder<'a, D> {
+impl<'a, T: Shaped + Ord + Drop, D: Decoder<T>> Decoder<BinaryHeap<T>> for VecDecoder<'a, D> {
     ghost makes_free = { false };
 
     fn decode(&mut self) -> Result<BinaryHeap<T>, Error> {

@@ -13,5 +13,4 @@ pub mod maps;
 pub mod markers;
 pub mod pointers;
 pub mod sets;
-pub mod stands_for;
 pub mod uuids;

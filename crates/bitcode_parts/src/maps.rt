@@ -17,9 +17,8 @@ use bitcode_coder::part::Part;
 use bitcode_memory::error::{Error, Reason};
 use bitcode_shapes::keys::Key;
 use bitcode_shapes::lists::told_each;
-use bitcode_shapes::shaped::{Made, Shaped};
+use bitcode_shapes::shaped::Shaped;
 use std::alloc::Global;
-use std::cmp::{Eq, Ord};
 use std::collections::{BTreeMap, HashMap, btree_map, hash_map};
 use std::hash::Hash;
 
@@ -47,27 +46,28 @@ pub trait Mapping: Shaped {
     /// Writes the keys, one after another. The caller must have reserved room for them.
     fn encode_keys<E: Encoder<Self::Key>>(&self, keys: &mut E) -> Result<(), Error>
         requires room { length (entries self.now) ≤ E.room keys.old }
-        requires values { All Self.Key.is_value (keys_of (entries self.now)) }
+        requires values { All Self.Key.data.is_value (keys_of (entries self.now)) }
         ensures joined { OnOk result
-            (JoinsEach Self.Key.lists Self.Key.shape (keys_of (entries self.now))
+            (JoinsEach Self.Key.data.lists Self.Key.data.shape (keys_of (entries self.now))
             (E.columns keys.old) (E.columns keys.new)) }
         ensures form { emptied (E.columns keys.new) ≡ emptied (E.columns keys.old) }
         ensures refused { IfErr result
             (λ e. IsWritingRefusal e.reason
-            (OverflowsWithEach Self.Key.lists Self.Key.shape (keys_of (entries self.now))
+            (OverflowsWithEach Self.Key.data.lists Self.Key.data.shape (keys_of (entries self.now))
             (E.columns keys.old))) };
 
     /// Writes the values, in the order of their keys. The caller must have reserved room for them.
     fn encode_values<E: Encoder<Self::Value>>(&self, values: &mut E) -> Result<(), Error>
         requires room { length (entries self.now) ≤ E.room values.old }
-        requires values { All Self.Value.is_value (values_of (entries self.now)) }
+        requires values { All Self.Value.data.is_value (values_of (entries self.now)) }
         ensures joined { OnOk result
-            (JoinsEach Self.Value.lists Self.Value.shape (values_of (entries self.now))
+            (JoinsEach Self.Value.data.lists Self.Value.data.shape (values_of (entries self.now))
             (E.columns values.old) (E.columns values.new)) }
         ensures form { emptied (E.columns values.new) ≡ emptied (E.columns values.old) }
         ensures refused { IfErr result
             (λ e. IsWritingRefusal e.reason
-            (OverflowsWithEach Self.Value.lists Self.Value.shape (values_of (entries self.now))
+            (OverflowsWithEach Self.Value.data.lists Self.Value.data.shape
+            (values_of (entries self.now))
             (E.columns values.old))) };
 
     /// Writes the keys and the values, as [`Mapping::encode_keys`] and [`Mapping::encode_values`] do. The caller must
@@ -82,34 +82,34 @@ pub trait Mapping: Shaped {
     ) -> Result<(), Error>
         requires room { (length (entries self.now) ≤ E.room keys.old)
             × (length (entries self.now) ≤ F.room values.old) }
-        requires are { (All Self.Key.is_value (keys_of (entries self.now)))
-            × (All Self.Value.is_value (values_of (entries self.now))) }
+        requires are { (All Self.Key.data.is_value (keys_of (entries self.now)))
+            × (All Self.Value.data.is_value (values_of (entries self.now))) }
         ensures keys { OnOk result
-            (JoinsEach Self.Key.lists Self.Key.shape (keys_of (entries self.now))
+            (JoinsEach Self.Key.data.lists Self.Key.data.shape (keys_of (entries self.now))
             (E.columns keys.old) (E.columns keys.new)) }
         ensures values { OnOk result
-            (JoinsEach Self.Value.lists Self.Value.shape (values_of (entries self.now))
+            (JoinsEach Self.Value.data.lists Self.Value.data.shape (values_of (entries self.now))
             (F.columns values.old) (F.columns values.new)) }
         ensures form { (emptied (E.columns keys.new) ≡ emptied (E.columns keys.old))
             × (emptied (F.columns values.new) ≡ emptied (F.columns values.old)) }
         ensures refused { IfErr result
             (λ e. IsWritingRefusal e.reason
-            (OverflowsWithEach Self.Key.lists Self.Key.shape (keys_of (entries self.now))
-            (E.columns keys.old) ⊎ OverflowsWithEach Self.Value.lists Self.Value.shape
+            (OverflowsWithEach Self.Key.data.lists Self.Key.data.shape (keys_of (entries self.now))
+            (E.columns keys.old) ⊎ OverflowsWithEach Self.Value.data.lists Self.Value.data.shape
             (values_of (entries self.now)) (F.columns values.old))) }
     {
         self.encode_keys(keys)?;
         self.encode_values(values)
     }
 
-    ghost entries_are: { (t : Self) → Self.is_value t
-        → All (IsPairValue Self.Key.is_value Self.Value.is_value) (entries t) };
+    ghost entries_are: { (t : Self) → Self.data.is_value t
+        → All (IsPairValue Self.Key.data.is_value Self.Value.data.is_value) (entries t) };
 
     ghost entries_list: { (t : Self) (d : Datum)
-        → ListsSequence (ListsPair Self.Key.lists Self.Value.lists) (entries t) d
-        → Self.lists t d };
+        → ListsSequence (ListsPair Self.Key.data.lists Self.Value.data.lists) (entries t) d
+        → Self.data.lists t d };
 
-    ghost entries_shape: { Self.shape ≡ map_shape Self.Key.shape Self.Value.shape };
+    ghost entries_shape: { Self.data.shape ≡ map_shape Self.Key.data.shape Self.Value.data.shape };
 }
 
 /// The key of a pair of references.
@@ -165,18 +165,20 @@ fn encode_gathered<'b, K: Shaped + 'b, V: Shaped + 'b, E: Encoder<K>, F: Encoder
     values: &mut F,
 ) -> Result<(), Error>
     requires room { (length rest ≤ E.room keys.old) × (length rest ≤ F.room values.old) }
-    requires are { (All K.is_value (keys_of rest)) × (All V.is_value (values_of rest)) }
+    requires are { (All K.data.is_value (keys_of rest)) × (All V.data.is_value (values_of rest)) }
     ensures keys { OnOk result
-        (JoinsEach K.lists K.shape (keys_of rest.entry) (E.columns keys.old) (E.columns keys.new)) }
+        (JoinsEach K.data.lists K.data.shape (keys_of rest.entry) (E.columns keys.old)
+        (E.columns keys.new)) }
     ensures values { OnOk result
-        (JoinsEach V.lists V.shape (values_of rest.entry) (F.columns values.old)
+        (JoinsEach V.data.lists V.data.shape (values_of rest.entry) (F.columns values.old)
         (F.columns values.new)) }
     ensures form { (emptied (E.columns keys.new) ≡ emptied (E.columns keys.old))
         × (emptied (F.columns values.new) ≡ emptied (F.columns values.old)) }
     ensures refused { IfErr result
         (λ e. IsWritingRefusal e.reason
-        (OverflowsWithEach K.lists K.shape (keys_of rest.entry) (E.columns keys.old)
-        ⊎ OverflowsWithEach V.lists V.shape (values_of rest.entry) (F.columns values.old))) }
+        (OverflowsWithEach K.data.lists K.data.shape (keys_of rest.entry) (E.columns keys.old)
+        ⊎ OverflowsWithEach V.data.lists V.data.shape (values_of rest.entry)
+        (F.columns values.old))) }
 {
     while let Some(first) = rest.next() {
         let mut pairs = [first; MOST_PAIRS];
@@ -187,7 +189,7 @@ fn encode_gathered<'b, K: Shaped + 'b, V: Shaped + 'b, E: Encoder<K>, F: Encoder
     Ok(())
 }
 
-impl<K: Shaped + Ord, V: Shaped> Mapping for BTreeMap<K, V> {
+impl<K: Key, V: Shaped> Mapping for BTreeMap<K, V> {
     type Key = K;
 
     type Value = V;
@@ -221,7 +223,7 @@ impl<K: Shaped + Ord, V: Shaped> Mapping for BTreeMap<K, V> {
     ghost entries_shape = { refl };
 }
 
-impl<K: Shaped + Eq + Hash, V: Shaped> Mapping for HashMap<K, V> {
+impl<K: Key + Hash, V: Shaped> Mapping for HashMap<K, V> {
     type Key = K;
 
     type Value = V;
@@ -248,12 +250,13 @@ impl<K: Shaped + Eq + Hash, V: Shaped> Mapping for HashMap<K, V> {
     ghost entries_shape = { refl };
 }
 
-impl<K: Key + Made + Ord + Drop, V: Made + Drop> FromElements for BTreeMap<K, V> {
+impl<K: Key + Drop, V: Shaped + Drop> FromElements for BTreeMap<K, V> {
     type Part = (K, V);
 
     fn from_elements(alloc: Global, elements: Vec<(K, V)>) -> Result<BTreeMap<K, V>, Error>
         ensures made { IfOk result
-            (λ t. MakesOfElements ⟦<BTreeMap<K, V> as Made>⟧.makes ⟦<(K, V) as Made>⟧.makes t
+            (λ t. MakesOfElements ⟦<BTreeMap<K, V> as Shaped>⟧.data.makes
+            ⟦<(K, V) as Shaped>⟧.data.makes t
             elements.items) }
         ensures refused { IfErr result (λ e. e.reason ≡ Reason.OutOfMemory) }
     {
@@ -262,12 +265,13 @@ impl<K: Key + Made + Ord + Drop, V: Made + Drop> FromElements for BTreeMap<K, V>
     }
 }
 
-impl<K: Key + Made + Hash + Drop, V: Made + Drop> FromElements for HashMap<K, V> {
+impl<K: Key + Hash + Drop, V: Shaped + Drop> FromElements for HashMap<K, V> {
     type Part = (K, V);
 
     fn from_elements(alloc: Global, elements: Vec<(K, V)>) -> Result<HashMap<K, V>, Error>
         ensures made { IfOk result
-            (λ t. MakesOfElements ⟦<HashMap<K, V> as Made>⟧.makes ⟦<(K, V) as Made>⟧.makes t
+            (λ t. MakesOfElements ⟦<HashMap<K, V> as Shaped>⟧.data.makes
+            ⟦<(K, V) as Shaped>⟧.data.makes t
             elements.items) }
         ensures refused { IfErr result (λ e. e.reason ≡ Reason.OutOfMemory) }
     {

@@ -1,18 +1,17 @@
 //! Boxes, shared pointers, boxed and shared slices, and tuples of one field: the coders of what they contain.
-ghost use Rattle.std.specs.Prelude.{refl, true, false};
+ghost use Rattle.std.specs.Prelude.{refl, false};
 ghost use Rattle.std.specs.Box.{box_value};
 ghost use Rattle.std.specs.Rc.{rc_value};
 
+use crate::convert::ConvertFrom;
 use crate::pointers::deref::Points;
-use crate::pointers::from::FromValue;
 use bitcode_memory::error::Error;
-use bitcode_shapes::shaped::{Made, Shaped};
+use bitcode_shapes::shaped::Shaped;
 use std::alloc::Global;
 use std::boxed::BoxedSlice;
 use std::rc::{Rc, RcSlice};
 
 pub mod deref;
-pub mod from;
 mod pointed;
 
 impl<T: Shaped> Points for Box<T> {
@@ -29,10 +28,10 @@ impl<T: Shaped> Points for Box<T> {
     ghost lists_too = { λ p d listed. listed };
 }
 
-impl<T: Made + Drop> FromValue<T> for Box<T> {
+impl<T: Shaped + Drop> ConvertFrom<T> for Box<T> {
     ghost is_free = { false };
 
-    fn from_value(alloc: Global, value: T) -> Result<Self, Error> {
+    fn convert_from(alloc: Global, value: T) -> Result<Self, Error> {
         Ok(Box::new(alloc, value)?)
     }
 
@@ -53,30 +52,28 @@ impl<T: Shaped> Points for Rc<T> {
     ghost lists_too = { λ p d listed. listed };
 }
 
-impl<T: Made + Drop> FromValue<T> for Rc<T> {
+impl<T: Shaped + Drop> ConvertFrom<T> for Rc<T> {
     ghost is_free = { false };
 
-    fn from_value(alloc: Global, value: T) -> Result<Self, Error> {
+    fn convert_from(alloc: Global, value: T) -> Result<Self, Error> {
         Ok(Rc::new(alloc, value)?)
     }
 
     ghost same_shape = { refl };
 }
 
-impl<T: Made + Drop> FromValue<Vec<T>> for BoxedSlice<T> {
-    ghost is_free = { true };
-
-    fn from_value(_alloc: Global, value: Vec<T>) -> Result<Self, Error> {
+impl<T: Shaped + Drop> ConvertFrom<Vec<T>> for BoxedSlice<T> {
+    fn convert_from(_alloc: Global, value: Vec<T>) -> Result<Self, Error> {
         Ok(value.into_boxed_slice())
     }
 
     ghost same_shape = { refl };
 }
 
-impl<T: Made + Drop> FromValue<Vec<T>> for RcSlice<T> {
+impl<T: Shaped + Drop> ConvertFrom<Vec<T>> for RcSlice<T> {
     ghost is_free = { false };
 
-    fn from_value(_alloc: Global, value: Vec<T>) -> Result<Self, Error> {
+    fn convert_from(_alloc: Global, value: Vec<T>) -> Result<Self, Error> {
         Ok(RcSlice::from_vec(value)?)
     }
 
@@ -97,10 +94,8 @@ impl<T: Shaped> Points for (T,) {
     ghost lists_too = { λ p d listed. listed };
 }
 
-impl<T: Made + Drop> FromValue<T> for (T,) {
-    ghost is_free = { true };
-
-    fn from_value(_alloc: Global, value: T) -> Result<Self, Error> {
+impl<T: Shaped + Drop> ConvertFrom<T> for (T,) {
+    fn convert_from(_alloc: Global, value: T) -> Result<Self, Error> {
         Ok((value,))
     }
 

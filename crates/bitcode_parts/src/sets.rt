@@ -1,4 +1,3 @@
-// Written by scripts/tables/containers.
 //! Sets as the sequences of their elements.
 ghost use Rattle.std.specs.Prelude.{◌≡◌, refl, IfOk, IfErr, None, false};
 ghost use Rattle.std.proofs.lemmas.List.Sorted.{IsPermutation-refl};
@@ -12,13 +11,12 @@ use bitcode_coder::coder::{Decoder, Encoder};
 use bitcode_memory::error::{Error, Reason};
 use bitcode_shapes::keys::Key;
 use bitcode_shapes::lists::told_each;
-use bitcode_shapes::shaped::{Made, Shaped};
+use bitcode_shapes::shaped::Shaped;
 use std::alloc::Global;
-use std::cmp::{Eq, Ord};
 use std::collections::{BTreeSet, HashSet, btree_set, hash_set};
 use std::hash::Hash;
 
-impl<T: Shaped + Ord> Sequence for BTreeSet<T> {
+impl<T: Key> Sequence for BTreeSet<T> {
     type Element = T;
 
     ghost items = { λ s. s.keys };
@@ -38,7 +36,7 @@ impl<T: Shaped + Ord> Sequence for BTreeSet<T> {
     ghost items_columns = { λ ds. refl };
 }
 
-impl<T: Shaped + Eq + Hash> Sequence for HashSet<T> {
+impl<T: Key + Hash> Sequence for HashSet<T> {
     type Element = T;
 
     ghost items = { λ s. s.keys };
@@ -59,12 +57,13 @@ impl<T: Shaped + Eq + Hash> Sequence for HashSet<T> {
     ghost items_columns = { λ ds. refl };
 }
 
-impl<T: Key + Made + Ord + Drop> FromElements for BTreeSet<T> {
+impl<T: Key + Drop> FromElements for BTreeSet<T> {
     type Part = T;
 
     fn from_elements(alloc: Global, elements: Vec<T>) -> Result<BTreeSet<T>, Error>
         ensures made { IfOk result
-            (λ t. MakesOfElements ⟦<BTreeSet<T> as Made>⟧.makes T.makes t elements.items) }
+            (λ t. MakesOfElements ⟦<BTreeSet<T> as Shaped>⟧.data.makes T.data.makes t
+            elements.items) }
         ensures refused { IfErr result (λ e. e.reason ≡ Reason.OutOfMemory) }
     {
         told_each(elements.as_slice());
@@ -72,12 +71,13 @@ impl<T: Key + Made + Ord + Drop> FromElements for BTreeSet<T> {
     }
 }
 
-impl<T: Key + Made + Hash + Drop> FromElements for HashSet<T> {
+impl<T: Key + Hash + Drop> FromElements for HashSet<T> {
     type Part = T;
 
     fn from_elements(alloc: Global, elements: Vec<T>) -> Result<HashSet<T>, Error>
         ensures made { IfOk result
-            (λ t. MakesOfElements ⟦<HashSet<T> as Made>⟧.makes T.makes t elements.items) }
+            (λ t. MakesOfElements ⟦<HashSet<T> as Shaped>⟧.data.makes T.data.makes t
+            elements.items) }
         ensures refused { IfErr result (λ e. e.reason ≡ Reason.OutOfMemory) }
     {
         told_each(elements.as_slice());
@@ -105,7 +105,7 @@ impl<'b, T> Lends<'b, T> for hash_set::Iter<'b, T> {
     }
 }
 
-impl<'a, T: Key + Made + Ord + Drop, D: Decoder<T>> Decoder<BTreeSet<T>> for VecDecoder<'a, D> {
+impl<'a, T: Key + Drop, D: Decoder<T>> Decoder<BTreeSet<T>> for VecDecoder<'a, D> {
     ghost makes_free = { false };
 
     fn decode(&mut self) -> Result<BTreeSet<T>, Error> {
@@ -115,7 +115,7 @@ impl<'a, T: Key + Made + Ord + Drop, D: Decoder<T>> Decoder<BTreeSet<T>> for Vec
     ghost same_shape = { ap (seq_shape None) D.same_shape };
 }
 
-impl<'a, T: Key + Made + Hash + Drop, D: Decoder<T>> Decoder<HashSet<T>> for VecDecoder<'a, D> {
+impl<'a, T: Key + Hash + Drop, D: Decoder<T>> Decoder<HashSet<T>> for VecDecoder<'a, D> {
     ghost makes_free = { false };
 
     fn decode(&mut self) -> Result<HashSet<T>, Error> {

@@ -2,6 +2,8 @@
 ghost use Rattle.std.specs.Prelude.{refl};
 
 use crate::convert::{ConvertFrom, ConvertInto};
+use bitcode_memory::error::Error;
+use std::alloc::Global;
 use uuid::Uuid;
 
 /// What a `Uuid` is written as and made from: its sixteen bytes, in their order.
@@ -16,9 +18,9 @@ impl ConvertInto<UuidConversion> for Uuid {
 }
 
 impl ConvertFrom<UuidConversion> for Uuid {
-    fn convert_from(value: UuidConversion) -> Self {
-        Uuid::from_bytes(value)
+    fn convert_from(_alloc: Global, value: UuidConversion) -> Result<Self, Error> {
+        Ok(Uuid::from_bytes(value))
     }
 
-    ghost shape_from = { refl };
+    ghost same_shape = { refl };
 }

@@ -6,13 +6,35 @@ use Rattle.bitcode_memory.proofs.LittleEndianLemmas.{little_endian-number_bytes}
 use Rattle.bitcode_sealed.specs.declared.label.Label.{Label}
 use Rattle.bitcode_sealed.specs.declared.head.Head.{Head}
 use Rattle.bitcode_sealed.specs.Crc.{crc_32}
-use Rattle.bitcode_sealed.specs.Layout.{checked, head_bytes, sealed}
+use Rattle.bitcode_sealed.specs.Layout.{checked, head_bytes, sealed, BeginsWithHead}
 use Rattle.bitcode_sealed.proofs.DamageLemmas.{length-checked, length-head_bytes}
 
--- the size that a head says is read from its bytes
+-- what a head says is read from its bytes
+pub version_said : (head : Head) (behind : List ℕ) → head.label.version < 256 ^ 2 → little_endian (take 2 (drop 2 (head_bytes head ++ behind))) ≡ head.label.version
+unfolding checked
+version_said head behind below = little_endian-number_bytes 2 head.label.version below
+
+pub kind_said : (head : Head) (behind : List ℕ) → head.label.kind < 256 ^ 4 → little_endian (take 4 (drop 4 (head_bytes head ++ behind))) ≡ head.label.kind
+unfolding checked
+kind_said head behind below = little_endian-number_bytes 4 head.label.kind below
+
 pub size_said : (head : Head) (behind : List ℕ) → head.size < 256 ^ 8 → little_endian (take 8 (drop 8 (head_bytes head ++ behind))) ≡ head.size
 unfolding checked
 size_said head behind below = little_endian-number_bytes 8 head.size below
+
+-- an input begins with at most one head
+pub same_head : (head other : Head) (input : List ℕ) → BeginsWithHead head input → BeginsWithHead other input → head ≡ other
+same_head head other input begins again =
+    let made : ℕ → ℕ → ℕ → Head = λ kind version size. record { label = record { kind = kind; version = version }; size = size } in
+    let same : head_bytes head ++ begins.behind ≡ head_bytes other ++ again.behind = sym begins.whole ∙ again.whole in
+    let kinds : head.label.kind ≡ other.label.kind =
+    sym (kind_said head begins.behind begins.kind_fits) ∙ ap (λ l. little_endian (take 4 (drop 4 l))) same ∙ kind_said other again.behind again.kind_fits in
+    let versions : head.label.version ≡ other.label.version =
+    sym (version_said head begins.behind begins.version_fits) ∙ ap (λ l. little_endian (take 2 (drop 2 l))) same ∙ version_said other again.behind again.version_fits in
+    let sizes : head.size ≡ other.size =
+    sym (size_said head begins.behind begins.size_fits) ∙ ap (λ l. little_endian (take 8 (drop 8 l))) same ∙ size_said other again.behind again.size_fits in
+    ap (λ k. made k head.label.version head.size) kinds ∙ ap (λ v. made other.label.kind v head.size) versions
+    ∙ ap (λ s. made other.label.kind other.label.version s) sizes
 
 -- two checked parts of one length
 same_part : (x y rest : List ℕ) → length x ≡ length y → checked x ≡ checked y ++ rest → x ≡ y

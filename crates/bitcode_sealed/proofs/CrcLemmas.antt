@@ -6,7 +6,7 @@ use Rattle.std.specs.Int.Bits.{xor_self, xor_zero_l, xor_zero_r, xor_assoc, xor_
 use Rattle.std.proofs.lemmas.List.Elements.{All-nil, All-cons, All-head, All-tail}
 use Rattle.bitcode_memory.specs.LittleEndian.{little_endian, number_bytes}
 use Rattle.bitcode_memory.proofs.LittleEndianLemmas.{length-number_bytes, little_endian-number_bytes, number_bytes-little_endian, little_endian_below}
-use Rattle.bitcode_sealed.specs.Crc.{polynomial, feedback, bit_step, bit_steps, byte_step, register_after, ones, crc_32}
+use Rattle.bitcode_sealed.specs.Crc.{feedback, bit_step, bit_steps, byte_step, register_after, ones, crc_32}
 
 -- ---- exclusive or
 

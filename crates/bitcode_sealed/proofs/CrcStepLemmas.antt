@@ -1,5 +1,5 @@
 -- Steps of several bytes, by what each byte becomes.
-use Rattle.std.proofs.Common.{◌≡◌, ℕ, zero, suc, ◌+◌, ◌*◌, ◌/◌, ◌%◌, ◌^◌, ◌<◌, List, [], ◌∷◌, ◌++◌, length, All, refl, sym, ap, ◌∙◌, arith}
+use Rattle.std.proofs.Common.{◌≡◌, ℕ, zero, suc, ◌+◌, ◌*◌, ◌/◌, ◌%◌, ◌^◌, ◌<◌, List, [], ◌∷◌, ◌++◌, length, refl, sym, ap, ◌∙◌, arith}
 use Rattle.std.specs.Prelude.{bit_xor, bit_and, slice_index}
 use Rattle.std.proofs.lemmas.Nat.{xor_shr, xor_of_32, and_mask}
 use Rattle.std.specs.Int.Bits.{xor_zero_l, xor_zero_r, xor_assoc}

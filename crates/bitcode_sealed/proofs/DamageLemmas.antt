@@ -1,7 +1,6 @@
 -- Damage within four bytes in a row is seen.
-use Rattle.std.proofs.Common.{◌≡◌, ◌≢◌, ℕ, zero, suc, ◌+◌, ◌-◌, ◌^◌, ◌<◌, ◌≤◌, min, List, [], ◌∷◌, ◌++◌, length, take, drop, All, refl, sym, ap, subst, ◌∙◌, arith, length-append, length-take, length-drop}
+use Rattle.std.proofs.Common.{◌≡◌, ℕ, ◌+◌, ◌-◌, ◌^◌, ◌<◌, ◌≤◌, List, ◌++◌, length, take, drop, sym, ap, subst, ◌∙◌, arith, length-append, length-take, length-drop}
 use Rattle.std.proofs.lemmas.List.{take-append-drop, take_at, drop_at}
-use Rattle.std.proofs.lemmas.List.Elements.{All-append}
 use Rattle.bitcode_memory.specs.LittleEndian.{number_bytes}
 use Rattle.bitcode_memory.proofs.LittleEndianLemmas.{length-number_bytes}
 use Rattle.bitcode_sealed.specs.declared.head.Head.{Head}

@@ -1,16 +1,16 @@
 -- A head is read as it was written.
-use Rattle.std.proofs.Common.{◌≡◌, ◌≢◌, Bool, true, false, not, ℕ, zero, suc, ◌+◌, ◌-◌, ◌*◌, ◌/◌, ◌%◌, ◌^◌, ◌<◌, ◌≤◌, min, List, [], ◌∷◌, ◌++◌, length, take, drop, All, refl, sym, ap, subst, ◌∙◌, arith, append_assoc}
+use Rattle.std.proofs.Common.{◌≡◌, Bool, true, false, not, ℕ, ◌^◌, ◌<◌, List, [], ◌∷◌, ◌++◌, take, drop, refl, sym, ap, subst, ◌∙◌}
 use Rattle.std.specs.Prelude.{slice_index}
-use Rattle.std.proofs.lemmas.List.{take-append-drop, take_at, drop_at}
+use Rattle.std.proofs.lemmas.List.{take-append-drop, take_at}
+use Rattle.std.proofs.lemmas.List.Elements.{All-nil, All-cons, All-append}
 use Rattle.std.specs.Str.{bytes_eq}
 use Rattle.std.proofs.lemmas.Bool.{false≢true}
 use Rattle.std.proofs.lemmas.Slice.Eq.{bytes_eq-Decides}
 use Rattle.bitcode_memory.specs.LittleEndian.{little_endian, number_bytes}
-use Rattle.bitcode_memory.proofs.LittleEndianLemmas.{length-number_bytes, number_bytes-little_endian, little_endian-number_bytes}
-use Rattle.bitcode_sealed.specs.declared.label.Label.{Label}
+use Rattle.bitcode_memory.proofs.LittleEndianLemmas.{length-number_bytes, number_bytes-little_endian, little_endian_below}
 use Rattle.bitcode_sealed.specs.declared.head.Head.{Head}
 use Rattle.bitcode_sealed.specs.Crc.{crc_32}
-use Rattle.bitcode_sealed.specs.Layout.{magic, checked, head_fields, head_bytes, BeginsAsSealed, BeginsWithHead}
+use Rattle.bitcode_sealed.specs.Layout.{magic, checked, head_fields, head_bytes, BeginsWithHead}
 use Rattle.bitcode_sealed.proofs.CrcLemmas.{AreBytes, bytes_of_number}
 use Rattle.bitcode_sealed.proofs.DamageLemmas.{length-head_bytes}
 
@@ -41,8 +41,39 @@ says_the_head head other input says begins =
     ap (take 20) begins.whole ∙ take_at (head_bytes other) begins.behind 20 (length-head_bytes other)
     ∙ sym (ap checked (same_fields head other begins.behind (subst (SaysAs head) begins.whole says)))
 
-pub begins_with : (head : Head) (input : List ℕ) → take 20 input ≡ head_bytes head → BeginsWithHead head input
-begins_with head input e = record { behind = drop 20 input; whole = sym (take-append-drop 20 input) ∙ ap (λ l. l ++ drop 20 input) e }
+-- numbers that are read from bytes fit in as many bytes
+module _ (input : List ℕ) (byte : (i : ℕ) → slice_index input i < 256) where
+  then_byte : (i : ℕ) (bytes : List ℕ) → AreBytes bytes → AreBytes (slice_index input i ∷ bytes)
+  then_byte i bytes all = All-cons (λ b. b < 256) (slice_index input i) bytes (byte i) all
+
+  from_two : (i j : ℕ) → AreBytes (slice_index input i ∷ slice_index input j ∷ [])
+  from_two i j = then_byte i (slice_index input j ∷ []) (then_byte j [] (All-nil (λ b. b < 256)))
+
+  from_four : (i j k l : ℕ) → AreBytes (slice_index input i ∷ slice_index input j ∷ slice_index input k ∷ slice_index input l ∷ [])
+  from_four i j k l =
+      then_byte i (slice_index input j ∷ slice_index input k ∷ slice_index input l ∷ []) (then_byte j (slice_index input k ∷ slice_index input l ∷ []) (from_two k l))
+
+  -- the four before are put in front of the four behind
+  from_eight : (h i j k l m n o : ℕ) → AreBytes (slice_index input h ∷ slice_index input i ∷ slice_index input j ∷ slice_index input k
+      ∷ slice_index input l ∷ slice_index input m ∷ slice_index input n ∷ slice_index input o ∷ [])
+  from_eight h i j k l m n o =
+      All-append (λ b. b < 256) (slice_index input h ∷ slice_index input i ∷ slice_index input j ∷ slice_index input k ∷ [])
+      (slice_index input l ∷ slice_index input m ∷ slice_index input n ∷ slice_index input o ∷ []) (from_four h i j k) (from_four l m n o)
+
+  pub begins_with : (head : Head) → SaysAs head input → take 20 input ≡ head_bytes head → BeginsWithHead head input
+  begins_with head says e = record {
+    kind_fits = subst (λ n. n < 256 ^ 4) (sym says.kind) (little_endian_below (slice_index input 4 ∷ slice_index input 5 ∷ slice_index input 6 ∷ slice_index input 7 ∷ []) (from_four 4 5 6 7));
+    version_fits =
+        subst (λ n. n < 256 ^ 2) (sym says.version)
+        (little_endian_below (slice_index input 2 ∷ slice_index input 3 ∷ []) (from_two 2 3));
+    size_fits =
+        subst (λ n. n < 256 ^ 8) (sym says.size)
+        (little_endian_below (slice_index input 8 ∷ slice_index input 9 ∷ slice_index input 10 ∷ slice_index input 11
+        ∷ slice_index input 12 ∷ slice_index input 13 ∷ slice_index input 14 ∷ slice_index input 15 ∷ [])
+        (from_eight 8 9 10 11 12 13 14 15));
+    behind = drop 20 input;
+    whole = sym (take-append-drop 20 input) ∙ ap (λ l. l ++ drop 20 input) e;
+  }
 
 abbrev written_fields : List ℕ → List ℕ → List ℕ → List ℕ
 written_fields v k s =

@@ -7,3 +7,8 @@ pub mod DamageLemmas
 pub mod HeadLemmas
 pub mod ValueLemmas
 pub mod SealingLemmas
+pub mod NoFaultLemmas
+pub mod OpeningLemmas
+pub mod FrontLemmas
+pub mod FrontDamageLemmas
+pub mod ErrorLemmas

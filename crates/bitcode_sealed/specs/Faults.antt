@@ -24,10 +24,10 @@ pub record Admits (expected : Expected) (head : Head) : Type 0 where
 
 -- what the program does not expect
 pub data IsMismatch (expected : Expected) (head : Head) (fault : OpenError) : Type 0 where
-  another_kind : fault ≡ AnotherKind head.label.kind → head.label.kind ≢ expected.label.kind → IsMismatch expected head fault
-  another_version : fault ≡ AnotherVersion head.label.version → head.label.kind ≡ expected.label.kind → head.label.version ≢ expected.label.version
+  another_kind : fault ≡ AnotherKind head.label.kind expected.label.kind → head.label.kind ≢ expected.label.kind → IsMismatch expected head fault
+  another_version : fault ≡ AnotherVersion head.label.version expected.label.version → head.label.kind ≡ expected.label.kind → head.label.version ≢ expected.label.version
       → IsMismatch expected head fault
-  too_long : fault ≡ TooLong head.size → head.label.kind ≡ expected.label.kind → head.label.version ≡ expected.label.version → expected.most_bytes < head.size
+  too_long : fault ≡ TooLong head.size expected.most_bytes → head.label.kind ≡ expected.label.kind → head.label.version ≡ expected.label.version → expected.most_bytes < head.size
       → IsMismatch expected head fault
 
 -- ---- the value behind a head
@@ -43,6 +43,11 @@ pub data IsValueFault (head : Head) (input : List ℕ) (fault : OpenError) : Typ
   value_damaged : (value stored rest : List ℕ) → fault ≡ ValueDamaged (little_endian stored) (crc_32 value)
       → input ≡ head_bytes head ++ (value ++ (stored ++ rest)) → length value ≡ head.size → length stored ≡ 4 → stored ≢ number_bytes 4 (crc_32 value)
       → IsValueFault head input fault
+
+-- what is at fault with a value at the front of an input, whatever its label
+pub data IsWholeFault (input : List ℕ) (fault : OpenError) : Type 0 where
+  whole_in_head : IsHeadFault input fault → IsWholeFault input fault
+  whole_in_value : (head : Head) → BeginsWithHead head input → IsValueFault head input fault → IsWholeFault input fault
 
 -- ---- all of it
 

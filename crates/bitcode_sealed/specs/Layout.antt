@@ -1,5 +1,5 @@
 -- The layout of sealed bytes: a head, the value's bytes, and their checksum.
-use Rattle.std.specs.Prelude.{◌≡◌, ℕ, List, [], ◌∷◌, ◌++◌, length, take}
+use Rattle.std.specs.Prelude.{◌≡◌, ℕ, ◌^◌, ◌<◌, List, [], ◌∷◌, ◌++◌, length, take}
 use Rattle.bitcode_memory.specs.LittleEndian.{number_bytes}
 use Rattle.bitcode_sealed.specs.declared.label.Label.{Label}
 use Rattle.bitcode_sealed.specs.declared.head.Head.{Head}
@@ -38,6 +38,10 @@ pub record IsSealed (bytes : List ℕ) : Type 0 where
 abbrev pub BeginsAsSealed : List ℕ → Type 0
 BeginsAsSealed input = take 2 input ≡ take (length input) magic
 
+-- with a head whose fields fit in their bytes
 pub record BeginsWithHead (head : Head) (input : List ℕ) : Type 0 where
+  pub kind_fits : head.label.kind < 256 ^ 4
+  pub version_fits : head.label.version < 256 ^ 2
+  pub size_fits : head.size < 256 ^ 8
   pub behind : List ℕ
   pub whole : input ≡ head_bytes head ++ behind

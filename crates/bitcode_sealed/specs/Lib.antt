@@ -2,6 +2,9 @@ pub mod Crc
 pub mod CrcRows
 pub mod Layout
 pub mod Damage
+pub mod ErrorClasses
 pub mod Faults
+pub mod Front
 pub mod Sealing
 pub mod Opening
+pub mod Next

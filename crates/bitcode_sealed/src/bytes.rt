@@ -13,6 +13,9 @@ use bitcode_memory::ints::Int;
 // The bytes of a value's checksum.
 const SUM_BYTES: usize = 4;
 
+/// How many bytes sealing adds to a value's.
+pub const SEALING_BYTES: u64 = (HEAD_BYTES + SUM_BYTES) as u64;
+
 /// Appends sealed bytes to `out`.
 ///
 /// The bytes may come from `encode`, from `serialize`, or from anywhere else.
@@ -48,26 +51,34 @@ fn admit(expected: &Expected, head: Head) -> Result<(), OpenError>
     if head.label.kind != expected.label.kind {
         return Err(OpenError::AnotherKind {
             found: head.label.kind,
+            expected: expected.label.kind,
         });
     }
     if head.label.version != expected.label.version {
         return Err(OpenError::AnotherVersion {
             found: head.label.version,
+            expected: expected.label.version,
         });
     }
     if expected.most_bytes < head.size {
-        return Err(OpenError::TooLong { bytes: head.size });
+        return Err(OpenError::TooLong {
+            bytes: head.size,
+            most: expected.most_bytes,
+        });
     }
     Ok(())
 }
 
 // The value's bytes behind the head, if their checksum holds, and what stands behind that.
-fn split_value<'a>(head: Head, input: &'a [u8]) -> Result<(&'a [u8], &'a [u8]), OpenError>
+pub(crate) fn split_value<'a>(
+    head: Head,
+    input: &'a [u8],
+) -> Result<(&'a [u8], &'a [u8]), OpenError>
     requires { BeginsWithHead head input.now }
     ensures found { IfOk result (λ parts. HasValueBehind head input.now parts.0.now parts.1.now) }
     ensures refused { IfErr result (λ e. IsValueFault head input.now e) }
 {
-    let wanted = head.size.saturating_add((HEAD_BYTES + SUM_BYTES) as u64);
+    let wanted = head.size.saturating_add(SEALING_BYTES);
     if (input.len() as u64) < wanted {
         return Err(OpenError::CutOff {
             present: input.len() as u64,

@@ -69,7 +69,7 @@ impl Head {
 }
 
 // Whether the input begins as sealed bytes do, as far as it goes.
-fn begins_as_sealed(input: &[u8]) -> bool
+pub fn begins_as_sealed(input: &[u8]) -> bool
     ensures { IsTrue result ↔ BeginsAsSealed input.now }
 {
     let count = input.len().min(MAGIC.len());

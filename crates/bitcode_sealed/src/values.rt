@@ -13,7 +13,7 @@ use bitcode_coder::coder::{Buffer, Decoder, Encoder, View};
 use bitcode_derive::derive::{HasDecoder, HasEncoder};
 use bitcode_derive::whole::{decode, encode};
 use bitcode_memory::error::Error;
-use bitcode_shapes::shaped::{Made, Shaped};
+use bitcode_shapes::shaped::Shaped;
 use std::alloc::Global;
 
 /// Appends a sealed value to `out`, as `seal` would return it.
@@ -36,10 +36,10 @@ pub fn seal_into<T: HasEncoder + Shaped>(
 where
     T::Encoder: Buffer + Encoder<T> + Drop,
     ensures written { OnOk result
-        (IsSealedBehind T.lists T.shape label t.now out.old.items out.new.items) }
+        (IsSealedBehind T.data.lists T.data.shape label t.now out.old.items out.new.items) }
     ensures unchanged { OnErr result (out.new.items ≡ out.old.items) }
     ensures refused { IfErr result
-        (λ e. IsWritingRefusal e.reason (HasLongListing T.lists T.shape t.now)) }
+        (λ e. IsWritingRefusal e.reason (HasLongListing T.data.lists T.data.shape t.now)) }
 {
     let value = encode(alloc, t)?;
     seal_bytes(label, &value, out)
@@ -58,9 +58,10 @@ where
 pub fn seal<T: HasEncoder + Shaped>(alloc: Global, label: Label, t: &T) -> Result<Vec<u8>, Error>
 where
     T::Encoder: Buffer + Encoder<T> + Drop,
-    ensures written { IfOk result (λ bytes. IsSealingOf T.lists T.shape label t.now bytes.items) }
+    ensures written { IfOk result
+        (λ bytes. IsSealingOf T.data.lists T.data.shape label t.now bytes.items) }
     ensures refused { IfErr result
-        (λ e. IsWritingRefusal e.reason (HasLongListing T.lists T.shape t.now)) }
+        (λ e. IsWritingRefusal e.reason (HasLongListing T.data.lists T.data.shape t.now)) }
 {
     let mut bytes = Vec::new(alloc);
     seal_into(alloc, label, t, &mut bytes)?;
@@ -68,15 +69,15 @@ where
 }
 
 // The value that the bytes spell, as `decode` reads it.
-fn decode_value<'a, T: HasDecoder<'a> + Made + Drop>(
+fn decode_value<'a, T: HasDecoder<'a> + Shaped + Drop>(
     alloc: Global,
     value: &'a [u8],
 ) -> Result<T, OpenError>
 where
     T::Decoder: View<'a> + Decoder<T> + Drop,
-    ensures found { IfOk result (λ t. IsDecodingOf T.makes T.shape value.now t) }
+    ensures found { IfOk result (λ t. IsDecodingOf T.data.makes T.data.shape value.now t) }
     ensures refused { IfErr result
-        (λ e. IsDecodingRefusal T.Decoder.faults T.Decoder.makes_free T.Decoder.shape T.shape
+        (λ e. IsDecodingRefusal T.Decoder.faults T.Decoder.makes_free T.Decoder.shape T.data.shape
         value.now e) }
 {
     match decode(alloc, value) {
@@ -95,16 +96,18 @@ where
 /// ```text
 /// let record: Record = open(alloc, &EXPECTED, &bytes)?;
 /// ```
-pub fn open<'a, T: HasDecoder<'a> + Made + Drop>(
+pub fn open<'a, T: HasDecoder<'a> + Shaped + Drop>(
     alloc: Global,
     expected: &Expected,
     bytes: &'a [u8],
 ) -> Result<T, OpenError>
 where
     T::Decoder: View<'a> + Decoder<T> + Drop,
-    ensures found { IfOk result (λ t. IsOpeningOf T.makes T.shape expected.now bytes.now t) }
+    ensures found { IfOk result
+        (λ t. IsOpeningOf T.data.makes T.data.shape expected.now bytes.now t) }
     ensures refused { IfErr result
-        (λ e. IsRefusal T.Decoder.faults T.Decoder.makes_free T.Decoder.shape T.shape expected.now
+        (λ e. IsRefusal T.Decoder.faults T.Decoder.makes_free T.Decoder.shape T.data.shape
+        expected.now
         bytes.now e) }
 {
     let (value, rest) = split_sealed(expected, bytes)?;
@@ -131,7 +134,7 @@ where
 ///     let record: Record = open_front(alloc, &EXPECTED, &mut input)?;
 /// }
 /// ```
-pub fn open_front<'a, T: HasDecoder<'a> + Made + Drop>(
+pub fn open_front<'a, T: HasDecoder<'a> + Shaped + Drop>(
     alloc: Global,
     expected: &Expected,
     input: &mut &'a [u8],
@@ -139,9 +142,10 @@ pub fn open_front<'a, T: HasDecoder<'a> + Made + Drop>(
 where
     T::Decoder: View<'a> + Decoder<T> + Drop,
     ensures found { IfOk result
-        (λ t. IsOpeningOfFront T.makes T.shape expected.now input.old.now t input.new.now) }
+        (λ t. IsOpeningOfFront T.data.makes T.data.shape expected.now input.old.now t
+        input.new.now) }
     ensures refused { IfErr result
-        (λ e. IsRefusalOfFront T.Decoder.faults T.Decoder.makes_free T.Decoder.shape T.shape
+        (λ e. IsRefusalOfFront T.Decoder.faults T.Decoder.makes_free T.Decoder.shape T.data.shape
         expected.now input.old.now e) }
     ensures unchanged { OnErr result (input.new.now ≡ input.old.now) }
 {

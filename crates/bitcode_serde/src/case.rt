@@ -16,11 +16,11 @@ ghost use Rattle.bitcode_serde.specs.ReadColumns.{kind_of, IsCaseOf};
 ghost use Rattle.bitcode_serde.specs.declared.column.ColumnKind.{ColumnKind};
 ghost use Rattle.bitcode_serde.specs.declared.column.ColumnKind.TheVariants as kind;
 
-use bitcode_shapes::shaped::Made;
+use bitcode_shapes::shaped::Shaped;
 use bitcode_untyped::value::Value;
 
 /// The payload type of a case of [`Value`] whose values are entries of one column.
-pub trait Case: Made {
+pub trait Case: Shaped {
     // what the column holds
     ghost kind: { ColumnKind };
 
@@ -39,13 +39,13 @@ pub trait Case: Made {
     ghost of_case: { (t : Self) → IsCaseOf Self.kind (Self.holder t) };
 
     ghost one_column: { (ds : List Datum)
-        → written_columns Self.shape ds ≡ one (kind_of Self.kind) ds };
+        → written_columns Self.data.shape ds ≡ one (kind_of Self.kind) ds };
 
-    ghost entry: { (d : Datum) → IsOf Self.shape d → IsEntryOf (kind_of Self.kind) d };
+    ghost entry: { (d : Datum) → IsOf Self.data.shape d → IsEntryOf (kind_of Self.kind) d };
 
-    ghost datum: { (t : Self) (d : Datum) → Self.lists t d → d ≡ datum_of (Self.holder t) };
+    ghost datum: { (t : Self) (d : Datum) → Self.data.lists t d → d ≡ datum_of (Self.holder t) };
 
-    ghost made: { (t : Self) (d : Datum) → Self.makes d t → d ≡ datum_of (Self.holder t) };
+    ghost made: { (t : Self) (d : Datum) → Self.data.makes d t → d ≡ datum_of (Self.holder t) };
 }
 
 impl Case for bool {

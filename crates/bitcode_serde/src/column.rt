@@ -28,7 +28,7 @@ use bitcode_coder::length::LengthDecoder;
 use bitcode_coder::str::StrDecoder;
 use bitcode_ints::int::IntDecoder;
 use bitcode_memory::error::{Error, Reason};
-use bitcode_shapes::shaped::Made;
+use bitcode_shapes::shaped::Shaped;
 use bitcode_untyped::value::Value;
 use std::alloc::Global;
 
@@ -91,10 +91,10 @@ pub enum Column<'a> {
 }
 
 // Takes the next entry, where that takes no memory.
-fn next<T: Made, D: Decoder<T>>(column: &mut D) -> T
+fn next<T: Shaped, D: Decoder<T>>(column: &mut D) -> T
     requires some { 0 < length (D.held column.old) }
     requires free { IsTrue D.makes_free }
-    ensures { TakesDatum T.makes result (D.held column.old) (D.held column.new) }
+    ensures { TakesDatum T.data.makes result (D.held column.old) (D.held column.new) }
 {
     column.decode().unwrap()
 }

@@ -70,10 +70,11 @@ const FEW: usize = 16;
 #[inline(always)]
 fn join<T: Shaped, E: Buffer + Encoder<T>>(column: &mut E, entry: &T) -> Result<(), Error>
     ensures joined { OnOk result
-        (JoinsListing T.lists T.shape entry.now (E.columns column.old) (E.columns column.new)) }
+        (JoinsListing T.data.lists T.data.shape entry.now (E.columns column.old)
+        (E.columns column.new)) }
     ensures refused { IfErr result
         (λ e. (e.reason ≡ Reason.OutOfMemory) ⊎ E.surely_overflows column.old 1
-        ⊎ OverflowsWithListing T.lists T.shape entry.now (E.columns column.old)) }
+        ⊎ OverflowsWithListing T.data.lists T.data.shape entry.now (E.columns column.old)) }
 {
     column.reserve(1)?;
     column.encode(entry)

@@ -144,7 +144,7 @@ alike_as alike same_eq same_cmp = record {
   matches_eq = λ t u. same_eq t u ∙ alike.matches_eq t u ∙ ap is_eq (sym (same_cmp t u));
 }
 
--- ---- three fields: a derive groups the last two, a tuple the first two
+-- ---- three answers, the last two or the first two together first
 
 pub and_nested : (a b c : Bool) → (a && (b && c)) ≡ ((a && b) && c)
 and_nested true b c = refl

@@ -192,13 +192,23 @@ module _ {T : Type 0} {shapes : Shapes} {is_value : T → Type 0} {lists : T →
 
 -- ---- options and results
 
-option_found : {A : Type 0} (u : Unit {0} ⊎ A) → (o : Option A) × (option_variant o ≡ u)
+pub option_found : {A : Type 0} (u : Unit {0} ⊎ A) → (o : Option A) × (option_variant o ≡ u)
 option_found (inl t) = (None, refl)
 option_found (inr a) = (Some a, refl)
 
-result_found : {A B : Type 0} (u : A ⊎ B) → (r : Result A B) × (result_variant r ≡ u)
+pub option_again : {A : Type 0} (o : Option A) → (option_found (option_variant o)).0 ≡ o
+unfolding option_found
+option_again None = refl
+option_again (Some a) = refl
+
+pub result_found : {A B : Type 0} (u : A ⊎ B) → (r : Result A B) × (result_variant r ≡ u)
 result_found (inl a) = (Ok a, refl)
 result_found (inr b) = (Err b, refl)
+
+pub result_again : {A B : Type 0} (r : Result A B) → (result_found (result_variant r)).0 ≡ r
+unfolding result_found
+result_again (Ok a) = refl
+result_again (Err b) = refl
 
 module _ {A : Type 0} {s : Shape} {is_a : A → Type 0} {lists_a : A → Datum → Type 0} {same_a : A → A → Type 0} where
   pub option_lawful : {order : Bool} → Lawful s is_a lists_a same_a order

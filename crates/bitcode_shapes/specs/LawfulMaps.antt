@@ -24,7 +24,7 @@ use Rattle.bitcode_shapes.specs.Lists.{ListsSequence, MakesSequence}
 use Rattle.bitcode_shapes.specs.LawfulLists.{sequence_lawful, seq_makeable, each_once, each_remade, elements_once}
 use Rattle.bitcode_shapes.specs.AnyOrder.{ListsInAnyOrder}
 use Rattle.bitcode_shapes.specs.LawfulAnyOrder.{any_order_lawful}
-use Rattle.bitcode_shapes.specs.Sets.{TellsSame}
+use Rattle.bitcode_shapes.specs.DataOf.{TellsEqual}
 use Rattle.bitcode_shapes.specs.LawfulSets.{under_equality}
 use Rattle.bitcode_shapes.specs.Maps.{SameFound, SameEntries, MakesMap}
 
@@ -133,7 +133,7 @@ module _ {K X : Type 0} (key value : Shape) (is_key : K → Type 0) (is_value : 
 
   -- ---- making
 
-  module _ (laws : IsEquivalence eq) (tells : TellsSame is_key same_key eq) where
+  module _ (laws : IsEquivalence eq) (tells : TellsEqual is_key same_key eq) where
     -- inserting pairs that match one by one gives the same map
     same_updates : (k : K) (f g : K → Option X) (xs ys : List (K × X)) → All IsEntry xs → All IsEntry ys → AllZip (SamePair same_key same_value) xs ys
         → SameFound same_value (f k) (g k) → SameFound same_value (update_all eq f xs k) (update_all eq g ys k)
@@ -142,7 +142,7 @@ module _ {K X : Type 0} (key value : Shape) (is_key : K → Type 0) (is_value : 
     same_updates k f g (x ∷ xs) [] h i z s = absurd z
     same_updates k f g (x ∷ xs) (y ∷ ys) h i z s =
         same_updates k (update eq f x.0 (Some x.1)) (update eq g y.0 (Some y.1)) xs ys (All-tail IsEntry x xs h) (All-tail IsEntry y ys i) z.1
-        (by (eq x.0 k) (eq y.0 k) (laws.congr x.0 y.0 k ((tells x.0 y.0 (All-head IsEntry x xs h).0 (All-head IsEntry y ys i).0).0 z.0.0)))
+        (by (eq x.0 k) (eq y.0 k) (laws.congr x.0 y.0 k (tells x.0 y.0 (All-head IsEntry x xs h).0 (All-head IsEntry y ys i).0 z.0.0)))
       where
         by : (a b : Bool) → a ≡ b → SameFound same_value (cond a (Some x.1) (f k)) (cond b (Some y.1) (g k))
         by true true e = z.0.1

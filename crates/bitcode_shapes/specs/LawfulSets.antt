@@ -15,7 +15,8 @@ use Rattle.bitcode_shapes.specs.Lists.{ListsSequence, MakesSequence}
 use Rattle.bitcode_shapes.specs.LawfulLists.{sequence_lawful, seq_makeable, each_once, each_remade, elements_once}
 use Rattle.bitcode_shapes.specs.AnyOrder.{ListsInAnyOrder}
 use Rattle.bitcode_shapes.specs.LawfulAnyOrder.{any_order_lawful}
-use Rattle.bitcode_shapes.specs.Sets.{SameMembers, MakesSet, TellsSame}
+use Rattle.bitcode_shapes.specs.Sets.{SameMembers, MakesSet}
+use Rattle.bitcode_shapes.specs.DataOf.{TellsEqual}
 
 -- a lawful type under another equality
 pub under_equality : {T : Type 0} {shape : Shape} {is_value : T → Type 0} {lists : T → Datum → Type 0} {same : T → T → Type 0} {order : Bool}
@@ -53,14 +54,14 @@ module _ {T : Type 0} (shape : Shape) (is_value : T → Type 0) (lists : T → D
     hashed_set_lawful order element =
         by_members (any_order_lawful shape is_value lists same order element keys is_whole each (seq_shape None shape) (λ s. s) (λ d l. l))
 
-  module _ (eq : T → T → Bool) (laws : IsEquivalence eq) (tells : TellsSame is_value same eq) where
+  module _ (eq : T → T → Bool) (laws : IsEquivalence eq) (tells : TellsEqual is_value same eq) where
     -- values that match one by one have the same members
     pub members_alike : (ts us : List T) → All is_value ts → All is_value us → AllZip same ts us → SameMembers eq ts us
     members_alike [] [] h i z key = refl
     members_alike [] (u ∷ us) h i z key = absurd z
     members_alike (t ∷ ts) [] h i z key = absurd z
     members_alike (t ∷ ts) (u ∷ us) h i z key =
-        let equal : eq t u ≡ true = (tells t u (All-head is_value t ts h) (All-head is_value u us i)).0 z.0 in
+        let equal : eq t u ≡ true = tells t u (All-head is_value t ts h) (All-head is_value u us i) z.0 in
         let one : eq key t ≡ eq key u = laws.symm key t ∙ laws.congr t u key equal ∙ laws.symm u key in
         ap₂ (λ here more. here || more) one (members_alike ts us (All-tail is_value t ts h) (All-tail is_value u us i) z.1 key)
 
@@ -107,5 +108,5 @@ module _ {T : Type 0} (shape : Shape) (is_value : T → Type 0) (lists : T → D
 
 -- if a function decides whether two values are the same, the order decides it too
 pub tells_by_order : {T : Type 0} (is_value : T → Type 0) (same : T → T → Type 0) (eq : T → T → Bool) (cmp : T → T → Ordering)
-    → ((x y : T) → eq x y ≡ is_eq (cmp x y)) → TellsSame is_value same eq → TellsSame is_value same (eq_by_cmp cmp)
-tells_by_order is_value same eq cmp tied tells t u h i = (λ s. sym (tied t u) ∙ (tells t u h i).0 s, λ e. (tells t u h i).1 (tied t u ∙ e))
+    → ((x y : T) → eq x y ≡ is_eq (cmp x y)) → TellsEqual is_value same eq → TellsEqual is_value same (eq_by_cmp cmp)
+tells_by_order is_value same eq cmp tied tells t u h i s = sym (tied t u) ∙ tells t u h i s

@@ -11,7 +11,6 @@ pub mod LawfulEmpty
 pub mod LawfulPairs
 pub mod Lists
 pub mod LawfulLists
-pub mod LawfulVectors
 pub mod LawfulImages
 pub mod Tuples
 pub mod Pointers
@@ -19,7 +18,6 @@ pub mod Choices
 pub mod LawfulChoices
 pub mod BareVariants
 pub mod LawfulBareVariants
-pub mod LawfulStructs
 pub mod LawfulNever
 pub mod Texts
 pub mod LawfulTexts
@@ -42,9 +40,14 @@ pub mod BuiltEntries
 pub mod BuiltSets
 pub mod BuiltMaps
 pub mod SameArrays
-pub mod PayloadOf
+pub mod SameData
+pub mod SameIsOne
+pub mod DataOf
+pub mod DataKinds
+pub mod LeafData
+pub mod SetData
+pub mod BareKeys
 pub mod KeyLaws
 pub mod OrderedKeyLaws
 pub mod CompareAlike
-pub mod KeyOf
-pub mod SameIsOne
+pub mod FieldsInOrder

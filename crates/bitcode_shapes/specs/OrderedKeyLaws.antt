@@ -1,21 +1,22 @@
--- `==` decides whether two ordered sets or maps are the same. It compares the keys in their order, one by one, while
--- two are the same if each key finds the same value in both.
+-- `==` calls ordered sets and maps equal that are the same. It compares the keys in their order, one by one, while two
+-- are the same if each key finds the same value in both.
 use Rattle.std.proofs.Common.{◌≡◌, Bool, true, cond, Option, Some, None, List, [], ◌∷◌, map, refl, sym, ◌∙◌, ap, subst, true≢false}
 use Rattle.std.specs.Prelude.{All, ◌&&◌, is_some}
 use Rattle.std.specs.declared.cmp.Ordering.{Ordering}
 use Rattle.std.specs.declared.cmp.Ordering.TheVariants.{Less, Equal, Greater}
 use Rattle.std.specs.Ordering.{is_eq, eq_by_cmp, ordering_reverse}
-use Rattle.std.specs.Cmp.{IsTotalOrder, Equal-is, alike_right, tied_itself}
+use Rattle.std.specs.Cmp.{IsTotalOrder, alike_right, tied_itself}
 use Rattle.std.specs.Cmp.Lexicographic.{pointwise}
 use Rattle.std.specs.List.{AllByRecursion}
 use Rattle.std.specs.List.Sorted.{IsStrictlySortedBy}
 use Rattle.std.specs.Map.{lookup, keys_of}
 use Rattle.std.specs.Set.{is_member}
-use Rattle.std.proofs.lemmas.Bool.{and_from, and_parts}
+use Rattle.std.proofs.lemmas.Bool.{and_from}
 use Rattle.std.proofs.lemmas.List.Elements.{All-nil, All-cons, All-head, All-tail}
 use Rattle.std.proofs.lemmas.Map.Keys.{sorted_head, sorted_tail}
 use Rattle.std.proofs.lemmas.Map.Made.{is_some-lookup}
-use Rattle.bitcode_shapes.specs.Sets.{TellsSame, SameMembers, IsOrderedSet}
+use Rattle.bitcode_shapes.specs.DataOf.{TellsEqual}
+use Rattle.bitcode_shapes.specs.Sets.{SameMembers, IsOrderedSet}
 use Rattle.bitcode_shapes.specs.Maps.{SameFound, SameEntries, IsOrderedMap}
 use Rattle.bitcode_shapes.specs.Pairs.{IsPairValue}
 use Rattle.bitcode_shapes.specs.BuiltOrdered.{below_more}
@@ -47,7 +48,7 @@ module _ {K X : Type 0} {R : K → K → Ordering} (o : IsTotalOrder R) where
 -- ---- entries
 
 module _ {K X : Type 0} {R : K → K → Ordering} (o : IsTotalOrder R) {eq : K → K → Bool} (tied : (k l : K) → eq k l ≡ is_eq (R k l))
-    (is_key : K → Type 0) {is_value : X → Type 0} {same : X → X → Type 0} {eq_value : X → X → Bool} (told : TellsSame is_value same eq_value) where
+    (is_key : K → Type 0) {is_value : X → Type 0} {same : X → X → Type 0} {eq_value : X → X → Bool} (tells : TellsEqual is_value same eq_value) where
   abbrev IsEntry : K × X → Type 0
   IsEntry = IsPairValue is_key is_value
 
@@ -92,43 +93,15 @@ module _ {K X : Type 0} {R : K → K → Ordering} (o : IsTotalOrder R) {eq : K 
       by Less p rest = absurd (found_as first (below_first o e.0 f fs up_f p) (s e.0))
       by Equal p rest =
           let value : same e.1 f.1 = found_as first (found_first o f fs e.0 p) (s e.0) in
-          let is = (told e.1 f.1 (All-head IsEntry e es h).1 (All-head IsEntry f fs i).1).0 value in
+          let is = tells e.1 f.1 (All-head IsEntry e es h).1 (All-head IsEntry f fs i).1 value in
           and_from (eq_entry e f) (pointwise eq_entry es fs) (and_from (eq e.0 f.0) (eq_value e.1 f.1) (tied e.0 f.0 ∙ ap is_eq p) is) (rest p)
       by Greater p rest =
           absurd (found_as (below_first o f.0 e es up_e (o.antisymm f.0 e.0 ∙ ap ordering_reverse p)) (found_first o f fs f.0 (tied_itself o f.0)) (s f.0))
 
-  entries_same : (es fs : List (K × X)) → All IsEntry es → All IsEntry fs → pointwise eq_entry es fs ≡ true → SameEntries (eq_by_cmp R) same es fs
-  entries_same [] [] h i e q = tt
-  entries_same [] (y ∷ ys) h i e q = absurd (true≢false (sym e))
-  entries_same (x ∷ xs) [] h i e q = absurd (true≢false (sym e))
-  entries_same (x ∷ xs) (y ∷ ys) h i e q =
-      subst (λ r. SameFound same (lookup (eq_by_cmp R q) (x ∷ xs)) (cond (is_eq r) (Some y.1) (lookup (eq_by_cmp R q) ys))) (alike_right o x.0 y.0 q equal)
-      (at (R q x.0) (entries_same xs ys (All-tail IsEntry x xs h) (All-tail IsEntry y ys i) parts.1 q))
-    where
-      parts : (eq_entry x y ≡ true) × (pointwise eq_entry xs ys ≡ true)
-      parts = and_parts (eq_entry x y) (pointwise eq_entry xs ys) e
-
-      fields : (eq x.0 y.0 ≡ true) × (eq_value x.1 y.1 ≡ true)
-      fields = and_parts (eq x.0 y.0) (eq_value x.1 y.1) parts.0
-
-      equal : R x.0 y.0 ≡ Equal
-      equal = (Equal-is (R x.0 y.0)).0 (sym (tied x.0 y.0) ∙ fields.0)
-
-      value : same x.1 y.1
-      value = (told x.1 y.1 (All-head IsEntry x xs h).1 (All-head IsEntry y ys i).1).1 fields.1
-
-      at : (r : Ordering) → Found q xs ys → SameFound same (cond (is_eq r) (Some x.1) (lookup (eq_by_cmp R q) xs)) (cond (is_eq r) (Some y.1) (lookup (eq_by_cmp R q) ys))
-      at Less g = g
-      at Equal g = value
-      at Greater g = g
-
-  pub ordered_maps_told : {C : Type 0} (entries : C → List (K × X))
-      → TellsSame (λ c. IsOrderedMap is_key is_value R (entries c)) (λ b c. SameEntries (eq_by_cmp R) same (entries b) (entries c))
+  pub ordered_maps_equal : {C : Type 0} (entries : C → List (K × X))
+      → TellsEqual (λ c. IsOrderedMap is_key is_value R (entries c)) (λ b c. SameEntries (eq_by_cmp R) same (entries b) (entries c))
       (λ b c. pointwise (λ e f. eq e.0 f.0 && eq_value e.1 f.1) (entries b) (entries c))
-  ordered_maps_told entries b c h i = (
-    entries_equal (entries b) (entries c) h.each i.each h.ascending i.ascending,
-    entries_same (entries b) (entries c) h.each i.each,
-  )
+  ordered_maps_equal entries b c h i = entries_equal (entries b) (entries c) h.each i.each h.ascending i.ascending
 
 -- ---- keys, as those of entries without values
 
@@ -156,12 +129,6 @@ module _ {T : Type 0} {R : T → T → Ordering} (o : IsTotalOrder R) {eq : T �
   found_alike (Some u) None e = absurd (true≢false e)
   found_alike (Some u) (Some v) e = tt
 
-  alike_found : (a b : Option (Unit {0})) → SameFound (λ u v. Unit {0}) a b → is_some a ≡ is_some b
-  alike_found None None s = refl
-  alike_found None (Some v) s = absurd s
-  alike_found (Some u) None s = absurd s
-  alike_found (Some u) (Some v) s = refl
-
   each_alone : (ts : List T) → All is_value ts → All (IsPairValue is_value (λ u. Unit {0})) (map alone ts)
   each_alone [] h = All-nil (IsPairValue is_value (λ u. Unit {0}))
   each_alone (t ∷ ts) h =
@@ -170,20 +137,11 @@ module _ {T : Type 0} {R : T → T → Ordering} (o : IsTotalOrder R) {eq : T �
   ascending_alone : (ts : List T) → IsStrictlySortedBy R ts → IsStrictlySortedBy R (keys_of (map alone ts))
   ascending_alone ts up = subst (IsStrictlySortedBy R) (sym (keys_alone ts)) up
 
-  nothing_told : TellsSame (λ (u : Unit {0}). Unit {0}) (λ u v. Unit {0}) (λ u v. true)
-  nothing_told u v h i = (λ s. refl, λ e. tt)
-
-  pub ordered_sets_told : {C : Type 0} (keys : C → List T)
-      → TellsSame (λ c. IsOrderedSet is_value R (keys c)) (λ b c. SameMembers (eq_by_cmp R) (keys b) (keys c)) (λ b c. pointwise eq (keys b) (keys c))
-  ordered_sets_told keys b c h i = (
-    λ s. sym (eq_alone (keys b) (keys c))
-        ∙ entries_equal o tied is_value nothing_told (map alone (keys b)) (map alone (keys c)) (each_alone (keys b) h.each) (each_alone (keys c) i.each)
-        (ascending_alone (keys b) h.ascending) (ascending_alone (keys c) i.ascending)
-        (λ q. found_alike (lookup (eq_by_cmp R q) (map alone (keys b))) (lookup (eq_by_cmp R q) (map alone (keys c)))
-        (found_alone q (keys b) ∙ s q ∙ sym (found_alone q (keys c)))),
-    λ e q. sym (found_alone q (keys b))
-        ∙ alike_found (lookup (eq_by_cmp R q) (map alone (keys b))) (lookup (eq_by_cmp R q) (map alone (keys c)))
-        (entries_same o tied is_value nothing_told (map alone (keys b)) (map alone (keys c)) (each_alone (keys b) h.each) (each_alone (keys c) i.each)
-        (eq_alone (keys b) (keys c) ∙ e) q)
-        ∙ found_alone q (keys c),
-  )
+  pub ordered_sets_equal : {C : Type 0} (keys : C → List T)
+      → TellsEqual (λ c. IsOrderedSet is_value R (keys c)) (λ b c. SameMembers (eq_by_cmp R) (keys b) (keys c)) (λ b c. pointwise eq (keys b) (keys c))
+  ordered_sets_equal keys b c h i s =
+      sym (eq_alone (keys b) (keys c))
+      ∙ entries_equal o tied is_value {is_value = λ u. Unit {0}} (λ u v g j r. refl) (map alone (keys b)) (map alone (keys c)) (each_alone (keys b) h.each) (each_alone (keys c) i.each)
+      (ascending_alone (keys b) h.ascending) (ascending_alone (keys c) i.ascending)
+      (λ q. found_alike (lookup (eq_by_cmp R q) (map alone (keys b))) (lookup (eq_by_cmp R q) (map alone (keys c)))
+      (found_alone q (keys b) ∙ s q ∙ sym (found_alone q (keys c))))

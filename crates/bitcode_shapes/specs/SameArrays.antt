@@ -1,8 +1,6 @@
 -- All listings of a value hold the same numbers of arrays: if the value has only one listing, or if this is true for
--- the values in it. A user-defined type proves this law as it proves that it is lawful:
---
---     image_same_arrays stands_for (pair_same_arrays first second)
-use Rattle.std.proofs.Common.{◌≡◌, ℕ, zero, suc, ◌+◌, true, false, ℤ, pos, Bor, Option, None, List, [], ◌∷◌, Result, refl, sym, ◌∙◌, ap, ap₂}
+-- the values in it.
+use Rattle.std.proofs.Common.{◌≡◌, ℕ, zero, suc, ◌+◌, true, Option, None, List, [], ◌∷◌, Result, refl, sym, ◌∙◌, ap, ap₂}
 use Rattle.std.specs.Prelude.{All, sum_by, ◌==◌, cond, ◌⊎◌}
 use Rattle.std.proofs.Common.{inl, inr}
 use Rattle.std.specs.List.{AllZip}
@@ -11,13 +9,11 @@ use Rattle.std.proofs.lemmas.List.Elements.{All-head, All-tail}
 use Rattle.std.proofs.lemmas.List.Sums.{sum_by-cons}
 use Rattle.std.proofs.lemmas.List.Sorted.{IsPermutation-sym, IsPermutation-trans, All-permutation, sum_by-IsPermutation}
 use Rattle.bitcode_shapes.specs.Datum.{Datum, list, choice, data_of, list_of, first_in, second_in}
-use Rattle.bitcode_shapes.specs.Shape.{Shape, Shapes, no_shapes, shape_and, unit_shape, text_shape, seq_shape, map_shape, array_shape, pair_shape, choice_shape}
+use Rattle.bitcode_shapes.specs.Shape.{Shape, Shapes, no_shapes, shape_and, unit_shape, seq_shape, map_shape, array_shape, pair_shape, choice_shape}
 use Rattle.bitcode_shapes.specs.ArrayCounts.{arrays_at, arrays_in, ListsSameArrays, VariantsListSameArrays}
 use Rattle.bitcode_shapes.specs.Lawful.{Lawful}
-use Rattle.bitcode_shapes.specs.Ints.{int_shape, IsValueOfWidth, ListsNumber}
 use Rattle.bitcode_shapes.specs.Empty.{ListsUnit}
 use Rattle.bitcode_shapes.specs.Pairs.{IsPairValue, ListsPair}
-use Rattle.bitcode_shapes.specs.Texts.{IsTextValue, ListsText}
 use Rattle.bitcode_shapes.specs.Lists.{ListsSequence}
 use Rattle.bitcode_shapes.specs.LawfulLists.{list_of_data}
 use Rattle.bitcode_shapes.specs.AnyOrder.{ListsInAnyOrder}
@@ -44,21 +40,7 @@ pub image_same_arrays : {T U : Type 0} (stands_for : T → U) {shape : Shape} {i
     → ListsSameArrays shape is_value lists → ListsSameArrays shape (λ t. is_value (stands_for t)) (λ t d. lists (stands_for t) d)
 image_same_arrays stands_for of_image = record { at = λ t d e h l m way. of_image.at (stands_for t) d e h l m way }
 
--- ---- numbers and texts, by name, for structs and enums to cite
-
-pub u8_same_arrays : ListsSameArrays (int_shape 1 false) (IsValueOfWidth 1 false pos) (ListsNumber pos)
-u8_same_arrays = one_datum_same_arrays
-
-pub i8_same_arrays : ListsSameArrays (int_shape 1 true) (IsValueOfWidth 1 true (λ (z : ℤ). z)) (ListsNumber (λ (z : ℤ). z))
-i8_same_arrays = one_datum_same_arrays
-
-pub u32_same_arrays : ListsSameArrays (int_shape 4 false) (IsValueOfWidth 4 false pos) (ListsNumber pos)
-u32_same_arrays = one_datum_same_arrays
-
-pub str_same_arrays : ListsSameArrays (text_shape None) (IsTextValue (λ (s : Bor (List ℕ)). s.now)) (ListsText (λ s. s.now))
-str_same_arrays = one_datum_same_arrays
-
--- ---- pairs and structs
+-- ---- pairs
 
 module _ {A B : Type 0} {shape_a shape_b : Shape} {is_a : A → Type 0} {is_b : B → Type 0} {lists_a : A → Datum → Type 0} {lists_b : B → Datum → Type 0}
     (first : ListsSameArrays shape_a is_a lists_a) (second : ListsSameArrays shape_b is_b lists_b) where
@@ -74,11 +56,6 @@ module _ {A B : Type 0} {shape_a shape_b : Shape} {is_a : A → Type 0} {is_b : 
 
   pub pair_same_arrays : ListsSameArrays (pair_shape shape_a shape_b) (IsPairValue is_a is_b) (ListsPair lists_a lists_b)
   pair_same_arrays = record { at = in_pair }
-
-pub struct_same_arrays : {T A B : Type 0} {shape_a shape_b : Shape} {is_a : A → Type 0} {is_b : B → Type 0} {lists_a : A → Datum → Type 0} {lists_b : B → Datum → Type 0}
-    (fields : T → A × B) → ListsSameArrays shape_a is_a lists_a → ListsSameArrays shape_b is_b lists_b
-    → ListsSameArrays (pair_shape shape_a shape_b) (λ t. IsPairValue is_a is_b (fields t)) (λ t d. ListsPair lists_a lists_b (fields t) d)
-struct_same_arrays fields first second = image_same_arrays fields (pair_same_arrays first second)
 
 -- ---- lists of data
 

@@ -1,5 +1,5 @@
 -- The making and equality of sets, by their keys: equal keys count once, and which of them a set keeps is open.
-use Rattle.std.specs.Prelude.{◌≡◌, Bool, true, List, All}
+use Rattle.std.specs.Prelude.{◌≡◌, Bool, List, All}
 use Rattle.std.specs.Set.{is_member}
 use Rattle.std.specs.List.{IsDistinct}
 use Rattle.std.specs.List.Sorted.{IsStrictlySortedBy}
@@ -17,10 +17,6 @@ pub record MakesSet {T : Type 0} (is_value : T → Type 0) (eq : T → T → Boo
   pub are : All is_value values
   pub making : MakesSequence makes d values
   pub members : SameMembers eq keys values
-
--- `==` decides whether two values are the same
-abbrev pub TellsSame : {T : Type 0} → (T → Type 0) → (T → T → Type 0) → (T → T → Bool) → Type 0
-TellsSame {T} is_value same eq = (t u : T) → is_value t → is_value u → (same t u → eq t u ≡ true) × (eq t u ≡ true → same t u)
 
 -- a set whose keys satisfy their invariant and are in order
 pub record IsOrderedSet {T : Type 0} (is_value : T → Type 0) (cmp : T → T → Ordering) (keys : List T) : Type 0 where

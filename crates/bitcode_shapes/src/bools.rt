@@ -1,29 +1,18 @@
 //! Bools: the number 0 or 1.
-ghost use Rattle.std.specs.Prelude.{true};
-ghost use Rattle.bitcode_shapes.specs.Shape.{bool_shape};
-ghost use Rattle.bitcode_shapes.specs.Ints.{bool_number, ListsNumber, MakesNumber, SameNumber};
-ghost use Rattle.bitcode_shapes.specs.LawfulInts.{bool_lawful, bool_makeable};
+ghost use Rattle.std.specs.Prelude.{refl};
+ghost use Rattle.bitcode_shapes.specs.LeafData.{bool_data};
 
-use crate::shaped::{Made, Shaped};
+use crate::keys::Key;
+use crate::shaped::Shaped;
 
 impl Shaped for bool {
-    ghost shape = { bool_shape };
-
-    ghost is_value = { λ t. Unit {0} };
-
-    ghost lists = { ListsNumber bool_number };
-
-    ghost same = { SameNumber bool_number };
-
-    ghost in_order = { true };
+    ghost data = { bool_data };
 
     fn told(&self) {}
-
-    ghost lawful = { bool_lawful };
 }
 
-impl Made for bool {
-    ghost makes = { MakesNumber bool_number };
+impl Key for bool {
+    ghost equal = { refl };
 
-    ghost makeable = { bool_makeable };
+    ghost ordered = { refl };
 }

@@ -1,29 +1,18 @@
 //! The unit: no data.
-ghost use Rattle.std.specs.Prelude.{true};
-ghost use Rattle.bitcode_shapes.specs.Shape.{unit_shape};
-ghost use Rattle.bitcode_shapes.specs.Empty.{ListsUnit, MakesUnit};
-ghost use Rattle.bitcode_shapes.specs.LawfulEmpty.{unit_lawful, unit_makeable};
+ghost use Rattle.std.specs.Prelude.{refl};
+ghost use Rattle.bitcode_shapes.specs.LeafData.{unit_data};
 
-use crate::shaped::{Made, Shaped};
+use crate::keys::Key;
+use crate::shaped::Shaped;
 
 impl Shaped for () {
-    ghost shape = { unit_shape };
-
-    ghost is_value = { λ t. Unit {0} };
-
-    ghost lists = { ListsUnit };
-
-    ghost same = { λ t u. Unit {0} };
-
-    ghost in_order = { true };
+    ghost data = { unit_data (record {}) (λ t u. refl) };
 
     fn told(&self) {}
-
-    ghost lawful = { unit_lawful };
 }
 
-impl Made for () {
-    ghost makes = { MakesUnit };
+impl Key for () {
+    ghost equal = { refl };
 
-    ghost makeable = { unit_makeable (record {}) };
+    ghost ordered = { refl };
 }

@@ -1,18 +1,19 @@
 //! Slices, vectors, queues and linked lists: their elements, front to back.
-ghost use Rattle.std.specs.Prelude.{None, All};
+ghost use Rattle.std.specs.Prelude.{All, refl};
+ghost use Rattle.std.specs.Cmp.Lexicographic.{pointwise, slice_cmp};
 ghost use Rattle.std.specs.Vec.{vec_items};
-ghost use Rattle.bitcode_shapes.specs.Shape.{seq_shape};
-ghost use Rattle.bitcode_shapes.specs.Lists.{ListsSequence, MakesSequence, SameSequence};
-ghost use Rattle.bitcode_shapes.specs.LawfulLists.{seq_lawful, seq_makeable, vec_built};
 ghost use Rattle.std.specs.VecDeque.{deque_items};
 ghost use Rattle.bitcode_shapes.specs.BuiltLists.{deque_built, list_built};
+ghost use Rattle.bitcode_shapes.specs.DataKinds.{seq_data};
+ghost use Rattle.bitcode_shapes.specs.LawfulLists.{vec_built};
 
-use crate::shaped::{Made, Shaped};
+use crate::keys::Key;
+use crate::shaped::Shaped;
 use std::collections::{LinkedList, VecDeque};
 
 /// Each element satisfies its type's invariant.
 pub fn told_each<T: Shaped>(items: &[T])
-    ensures { All T.is_value items.now }
+    ensures { All T.data.is_value items.now }
 {
     for item in items {
         item.told();
@@ -21,7 +22,7 @@ pub fn told_each<T: Shaped>(items: &[T])
 
 /// The target of each reference satisfies its type's invariant.
 pub fn told_behind<T: Shaped>(references: &[&T])
-    ensures { All (λ reference. T.is_value reference.now) references.now }
+    ensures { All (λ reference. T.data.is_value reference.now) references.now }
 {
     for reference in references {
         reference.told();
@@ -29,99 +30,62 @@ pub fn told_behind<T: Shaped>(references: &[&T])
 }
 
 impl<T: Shaped> Shaped for Vec<T> {
-    ghost shape = { seq_shape None T.shape };
-
-    ghost is_value = { λ v. All T.is_value v.items };
-
-    ghost lists = { λ v d. ListsSequence T.lists v.items d };
-
-    ghost same = { λ v w. SameSequence T.same v.items w.items };
-
-    ghost in_order = { T.in_order };
+    ghost data = { seq_data T.data vec_items vec_built };
 
     fn told(&self) {
         told_each(self.as_slice());
     }
-
-    ghost lawful = { seq_lawful T.shape T.is_value T.lists T.same vec_items T.in_order T.lawful };
 }
 
-impl<T: Made> Made for Vec<T> {
-    ghost makes = { λ d v. MakesSequence T.makes d v.items };
+impl<T: Key> Key for Vec<T> {
+    ghost equal = { λ i v w. pointwise (T.equal i) v.items w.items };
 
-    ghost makeable = { seq_makeable T.shape T.is_value T.lists T.same vec_items T.makes vec_built
-        T.makeable };
+    ghost ordered = { λ i v w. slice_cmp (T.ordered i) v.items w.items };
 }
 
 impl<'a, T: Shaped> Shaped for &'a [T] {
-    ghost shape = { seq_shape None T.shape };
-
-    ghost is_value = { λ s. All T.is_value s.now };
-
-    ghost lists = { λ s d. ListsSequence T.lists s.now d };
-
-    ghost same = { λ s t. SameSequence T.same s.now t.now };
-
-    ghost in_order = { T.in_order };
+    ghost data = { seq_data T.data (λ s. s.now)
+        (λ g values small. (record { ref_ptr = (0, 0); now = values }, refl)) };
 
     fn told(&self) {
         told_each(*self);
     }
+}
 
-    ghost lawful = { seq_lawful T.shape T.is_value T.lists T.same (λ s. s.now) T.in_order
-        T.lawful };
+impl<'a, T: Key> Key for &'a [T] {
+    ghost equal = { λ i s t. pointwise (T.equal i) s.now t.now };
+
+    ghost ordered = { λ i s t. slice_cmp (T.ordered i) s.now t.now };
 }
 
 impl<T: Shaped> Shaped for VecDeque<T> {
-    ghost shape = { seq_shape None T.shape };
-
-    ghost is_value = { λ q. All T.is_value (deque_items q) };
-
-    ghost lists = { λ q d. ListsSequence T.lists (deque_items q) d };
-
-    ghost same = { λ q r. SameSequence T.same (deque_items q) (deque_items r) };
-
-    ghost in_order = { T.in_order };
+    ghost data = { seq_data T.data deque_items deque_built };
 
     fn told(&self) {
         let (front, back) = self.as_slices();
         told_each(front);
         told_each(back);
     }
-
-    ghost lawful = { seq_lawful T.shape T.is_value T.lists T.same deque_items T.in_order T.lawful };
 }
 
-impl<T: Made> Made for VecDeque<T> {
-    ghost makes = { λ d q. MakesSequence T.makes d (deque_items q) };
+impl<T: Key> Key for VecDeque<T> {
+    ghost equal = { λ i q r. pointwise (T.equal i) (deque_items q) (deque_items r) };
 
-    ghost makeable = { seq_makeable T.shape T.is_value T.lists T.same deque_items T.makes
-        deque_built T.makeable };
+    ghost ordered = { λ i q r. slice_cmp (T.ordered i) (deque_items q) (deque_items r) };
 }
 
 impl<T: Shaped> Shaped for LinkedList<T> {
-    ghost shape = { seq_shape None T.shape };
-
-    ghost is_value = { λ l. All T.is_value l };
-
-    ghost lists = { λ l d. ListsSequence T.lists l d };
-
-    ghost same = { λ l m. SameSequence T.same l m };
-
-    ghost in_order = { T.in_order };
+    ghost data = { seq_data T.data (λ l. l) (λ g. list_built) };
 
     fn told(&self) {
         for element in self.iter() {
             element.told();
         }
     }
-
-    ghost lawful = { seq_lawful T.shape T.is_value T.lists T.same (λ l. l) T.in_order T.lawful };
 }
 
-impl<T: Made> Made for LinkedList<T> {
-    ghost makes = { λ d l. MakesSequence T.makes d l };
+impl<T: Key> Key for LinkedList<T> {
+    ghost equal = { λ i l m. pointwise (T.equal i) l m };
 
-    ghost makeable = { seq_makeable T.shape T.is_value T.lists T.same (λ l. l) T.makes
-        (λ g. list_built) T.makeable };
+    ghost ordered = { λ i l m. slice_cmp (T.ordered i) l m };
 }

@@ -1,30 +1,19 @@
 //! Type markers: no data.
-ghost use Rattle.std.specs.Prelude.{true};
-ghost use Rattle.bitcode_shapes.specs.LawfulEmpty.{unit_lawful, unit_makeable};
-ghost use Rattle.bitcode_shapes.specs.Shape.{unit_shape};
-ghost use Rattle.bitcode_shapes.specs.Empty.{ListsUnit, MakesUnit};
+ghost use Rattle.std.specs.Prelude.{refl};
+ghost use Rattle.bitcode_shapes.specs.LeafData.{unit_data};
 
-use crate::shaped::{Made, Shaped};
+use crate::keys::Key;
+use crate::shaped::Shaped;
 use std::marker::PhantomData;
 
 impl<T> Shaped for PhantomData<T> {
-    ghost shape = { unit_shape };
-
-    ghost is_value = { λ t. Unit {0} };
-
-    ghost lists = { ListsUnit };
-
-    ghost same = { λ t u. Unit {0} };
-
-    ghost in_order = { true };
+    ghost data = { unit_data (record {}) (λ t u. refl) };
 
     fn told(&self) {}
-
-    ghost lawful = { unit_lawful };
 }
 
-impl<T> Made for PhantomData<T> {
-    ghost makes = { MakesUnit };
+impl<T> Key for PhantomData<T> {
+    ghost equal = { refl };
 
-    ghost makeable = { unit_makeable (record {}) };
+    ghost ordered = { refl };
 }

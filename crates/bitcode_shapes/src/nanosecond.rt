@@ -1,14 +1,8 @@
 //! Nanoseconds below one second.
-ghost use Rattle.std.specs.Prelude.{◌≡◌, ◌<◌, true, false, pos, refl, MatchOption};
-ghost use Rattle.bitcode_shapes.specs.Checked.{below_second, nanosecond_shape, IsCheckedValue};
-ghost use Rattle.bitcode_shapes.specs.Ints.{ListsNumber, MakesNumber, SameNumber};
-ghost use Rattle.bitcode_shapes.specs.LawfulChecked.{checked_lawful};
-ghost use Rattle.bitcode_shapes.specs.LawfulDurations.{nanosecond_makeable};
-ghost use Rattle.bitcode_shapes.specs.LawfulInts.{width_4};
-ghost use Rattle.bitcode_shapes.specs.SameArrays.{one_datum_same_arrays};
+ghost use Rattle.std.specs.Prelude.{◌≡◌, ◌<◌, refl, MatchOption};
+ghost use Rattle.bitcode_shapes.specs.LeafData.{nanosecond_data};
 
-use crate::same_arrays::SameArrays;
-use crate::shaped::{Made, Shaped};
+use crate::shaped::Shaped;
 
 const NANOSECONDS_IN_SECOND: u32 = 1_000_000_000;
 
@@ -42,30 +36,10 @@ impl Nanosecond {
 }
 
 impl Shaped for Nanosecond {
-    ghost shape = { nanosecond_shape };
-
-    ghost is_value = { IsCheckedValue 4 false below_second (λ t. pos t.nanos) };
-
-    ghost lists = { ListsNumber (λ t. pos t.nanos) };
-
-    ghost same = { SameNumber (λ t. pos t.nanos) };
-
-    ghost in_order = { true };
+    ghost data = { nanosecond_data (λ t. t.nanos)
+        (λ n h. (record { nanos = n; below_one_second = h }, refl)) };
 
     fn told(&self) {
         let _nanos = self.into_inner();
     }
-
-    ghost lawful = { checked_lawful (λ t. pos t.nanos) 4 false below_second width_4 };
-}
-
-impl SameArrays for Nanosecond {
-    ghost same_arrays = { one_datum_same_arrays };
-}
-
-impl Made for Nanosecond {
-    ghost makes = { MakesNumber (λ t. pos t.nanos) };
-
-    ghost makeable = { nanosecond_makeable (λ t. t.nanos)
-        (λ n h. (record { nanos = n; below_one_second = h }, refl)) };
 }

@@ -6,5 +6,8 @@ use Rattle.bitcode_test_support.specs.declared.by_hand.one.One.TheVariants.{A}
 abbrev pub one_field : One → ℕ
 one_field (A a) = a
 
-pub one_found : (a : ℕ) → (t : One) × (one_field t ≡ a)
+abbrev pub one_found : (a : ℕ) → (t : One) × (one_field t ≡ a)
 one_found a = (A a, refl)
+
+pub one_again : (t : One) → (one_found (one_field t)).0 ≡ t
+one_again (A a) = refl

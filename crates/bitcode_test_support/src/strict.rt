@@ -1,10 +1,10 @@
 //! Whole values that are read strictly.
 use crate::Got;
-use bitcode::{Decoder, HasDecoder, Made, Reason, View, decode_strict};
+use bitcode::{Decoder, HasDecoder, Reason, Shaped, View, decode_strict};
 use std::alloc::Global;
 
 /// Read strictly, the bytes are this value.
-pub fn decodes_strictly<'a, T: HasDecoder<'a> + Made + Drop + PartialEq>(
+pub fn decodes_strictly<'a, T: HasDecoder<'a> + Shaped + Drop + PartialEq>(
     alloc: Global,
     bytes: &'a [u8],
     expected: T,
@@ -20,7 +20,7 @@ where
 }
 
 /// Read strictly, the bytes are refused for this reason.
-pub fn refuses_strictly<'a, T: HasDecoder<'a> + Made + Drop>(
+pub fn refuses_strictly<'a, T: HasDecoder<'a> + Shaped + Drop>(
     alloc: Global,
     bytes: &'a [u8],
     expected: Reason,

@@ -2,8 +2,7 @@
 use crate::Got;
 use bitcode::coder::Buffer;
 use bitcode::{
-    DecodeOwned, Decoder, Encoder, HasDecoder, HasEncoder, Made, Reason, Shaped, View, decode,
-    encode,
+    DecodeOwned, Decoder, Encoder, HasDecoder, HasEncoder, Reason, Shaped, View, decode, encode,
 };
 use std::alloc::Global;
 
@@ -20,7 +19,7 @@ where
 }
 
 /// The bytes are read as this value.
-pub fn decodes<'a, T: HasDecoder<'a> + Made + Drop + PartialEq>(
+pub fn decodes<'a, T: HasDecoder<'a> + Shaped + Drop + PartialEq>(
     alloc: Global,
     bytes: &'a [u8],
     expected: T,
@@ -36,7 +35,7 @@ where
 }
 
 /// The bytes are refused for this reason.
-pub fn refuses<'a, T: HasDecoder<'a> + Made + Drop>(
+pub fn refuses<'a, T: HasDecoder<'a> + Shaped + Drop>(
     alloc: Global,
     bytes: &'a [u8],
     expected: Reason,
@@ -52,7 +51,7 @@ where
 }
 
 /// The value is written as these bytes, and the bytes are read as the value.
-pub fn both_ways<'a, T: HasEncoder + HasDecoder<'a> + Made + Drop + PartialEq>(
+pub fn both_ways<'a, T: HasEncoder + HasDecoder<'a> + Shaped + Drop + PartialEq>(
     alloc: Global,
     t: T,
     bytes: &'a [u8],
@@ -66,7 +65,7 @@ where
 }
 
 /// The value is written as these bytes, they are read as the value, and others are refused for these reasons.
-pub fn holds<'a, T: HasEncoder + HasDecoder<'a> + Made + Drop + PartialEq>(
+pub fn holds<'a, T: HasEncoder + HasDecoder<'a> + Shaped + Drop + PartialEq>(
     alloc: Global,
     t: T,
     bytes: &'a [u8],
@@ -84,7 +83,7 @@ where
 }
 
 /// What the bytes of a value are read as, which are these. Nothing of it is borrowed from them.
-pub fn written_and_read<'a, T: HasEncoder + HasDecoder<'a> + DecodeOwned + Made + Drop>(
+pub fn written_and_read<'a, T: HasEncoder + HasDecoder<'a> + DecodeOwned + Shaped + Drop>(
     alloc: Global,
     t: &T,
     bytes: &'a [u8],

@@ -16,9 +16,8 @@ pub struct_surely : {E : Type 0} (columns : E → Columns) {overflows : E → �
     → ((e : E) (n : ℕ) → overflows e n → SurelyOverflows s (columns e) n) → (e : E) (n : ℕ) → overflows e n → SurelyOverflows t (columns e) n
 struct_surely columns same surely e n h = subst (λ s. SurelyOverflows s (columns e) n) same (surely e n h)
 
--- The listings of a tuple are those of its fields in nested pairs, and the other way round: those of a pair follow from
--- those of both halves.
-pub listed_pair : {A B C D : Type 0} {lists_a : A → Datum → Type 0} {lists_b : B → Datum → Type 0} {lists_c : C → Datum → Type 0} {lists_d : D → Datum → Type 0}
+-- the listings of a pair follow from those of both halves
+listed_pair : {A B C D : Type 0} {lists_a : A → Datum → Type 0} {lists_b : B → Datum → Type 0} {lists_c : C → Datum → Type 0} {lists_d : D → Datum → Type 0}
     {x : A × B} {y : C × D} → ((d : Datum) → lists_a x.0 d → lists_c y.0 d) → ((d : Datum) → lists_b x.1 d → lists_d y.1 d)
     → (d : Datum) → ListsPair lists_a lists_b x d → ListsPair lists_c lists_d y d
 listed_pair first second d h = record {
@@ -28,3 +27,17 @@ listed_pair first second d h = record {
   lists_first = first h.first h.lists_first;
   lists_second = second h.second h.lists_second;
 }
+
+-- ---- both list the same data
+
+pub record SameListings (first second : Datum → Type 0) : Type 0 where
+  pub to : (d : Datum) → first d → second d
+  pub from : (d : Datum) → second d → first d
+
+pub field_alike : {lists : Datum → Type 0} → SameListings lists lists
+field_alike = record { to = λ d h. h; from = λ d h. h }
+
+pub pair_alike : {A B C D : Type 0} {lists_a : A → Datum → Type 0} {lists_b : B → Datum → Type 0} {lists_c : C → Datum → Type 0} {lists_d : D → Datum → Type 0}
+    {x : A × B} {y : C × D} → SameListings (lists_a x.0) (lists_c y.0) → SameListings (lists_b x.1) (lists_d y.1)
+    → SameListings (ListsPair lists_a lists_b x) (ListsPair lists_c lists_d y)
+pair_alike first second = record { to = listed_pair first.to second.to; from = listed_pair first.from second.from }

@@ -6,7 +6,7 @@ ghost use Rattle.bitcode_tuples.specs.PairLaws.{same_pair_shape};
 
 use bitcode_coder::coder::{Decoder, HoldsData, View, both};
 use bitcode_memory::error::Error;
-use bitcode_shapes::shaped::Made;
+use bitcode_shapes::shaped::Shaped;
 use std::alloc::Global;
 
 mod of_3_to_8;
@@ -47,7 +47,8 @@ impl<'a, A: View<'a>, B: View<'a>> View<'a> for TupleDecoder<A, B> {
     }
 }
 
-impl<P: Made + Drop, Q: Made, A: Decoder<P>, B: Decoder<Q>> Decoder<(P, Q)> for TupleDecoder<A, B> {
+impl<P: Shaped + Drop, Q: Shaped, A: Decoder<P>, B: Decoder<Q>> Decoder<(P, Q)>
+    for TupleDecoder<A, B> {
     ghost makes_free = { A.makes_free && B.makes_free };
 
     fn decode(&mut self) -> Result<(P, Q), Error> {

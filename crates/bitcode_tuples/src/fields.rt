@@ -24,7 +24,7 @@ pub trait Fields {
 
     /// The value with these fields satisfies its type's invariant.
     fn told(&self)
-        ensures { Self.Whole.is_value (whole self.now) };
+        ensures { Self.Whole.data.is_value (whole self.now) };
 }
 
 impl<'a, P: Shaped> Fields for &'a P {
@@ -67,13 +67,14 @@ pub trait FieldsEncoder<F: Fields>: HoldsColumns {
     fn encode_fields(&mut self, fields: &F) -> Result<(), Error>
         requires { 0 < Self.room self.old }
         ensures joined { OnOk result
-            (JoinsListing F.Whole.lists F.Whole.shape (F.whole fields.now) (Self.columns self.old)
+            (JoinsListing F.Whole.data.lists F.Whole.data.shape (F.whole fields.now)
+            (Self.columns self.old)
             (Self.columns self.new)) }
         ensures room { OnOk result (Self.room self.old ≤ Self.room self.new + 1) }
         ensures form { emptied (Self.columns self.new) ≡ emptied (Self.columns self.old) }
         ensures refused { IfErr result
             (λ e. IsWritingRefusal e.reason
-            (OverflowsWithListing F.Whole.lists F.Whole.shape (F.whole fields.now)
+            (OverflowsWithListing F.Whole.data.lists F.Whole.data.shape (F.whole fields.now)
             (Self.columns self.old))) }
         ensures free { IsTrue writes_free → IfErr result (λ e. e.reason ≢ Reason.OutOfMemory) };
 
@@ -85,14 +86,15 @@ pub trait FieldsEncoder<F: Fields>: HoldsColumns {
         Self: Buffer,
         requires { Self.columns self.old ≡ emptied (Self.columns self.old) }
         ensures written { OnOk result
-            (WritesListing F.Whole.lists F.Whole.shape (F.whole fields.now) (Self.columns self.old)
+            (WritesListing F.Whole.data.lists F.Whole.data.shape (F.whole fields.now)
+            (Self.columns self.old)
             out.old.items out.new.items) }
         ensures empty { OnOk result (Self.columns self.new ≡ emptied (Self.columns self.old)) }
         ensures begins { BeginsWith out.old.items out.new.items }
         ensures form { emptied (Self.columns self.new) ≡ emptied (Self.columns self.old) }
         ensures refused { IfErr result
             (λ e. IsWritingRefusal e.reason
-            (OverflowsWithListing F.Whole.lists F.Whole.shape (F.whole fields.now)
+            (OverflowsWithListing F.Whole.data.lists F.Whole.data.shape (F.whole fields.now)
             (Self.columns self.old))) };
 }
 

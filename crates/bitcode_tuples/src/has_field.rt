@@ -11,8 +11,6 @@ use std::marker::PhantomData;
 /// impl HasField<0> for Meters {
 ///     type Field = u32;
 ///
-///     type Inside = ();
-///
 ///     ghost field = { λ t. t.0 };
 ///
 ///     fn field(&self) -> &u32 {
@@ -23,10 +21,6 @@ use std::marker::PhantomData;
 pub trait HasField<const I: usize> {
     /// The type of the field.
     type Field: Shaped;
-
-    /// `StandsFor::Inside` of the value. It says nothing about the values. It is there because the toolchain accepts an
-    /// impl only for types that it names.
-    type Inside;
 
     // the field
     ghost field: { Self → Self.Field };

@@ -91,9 +91,9 @@ pub trait PartEncoder<T, K>: HoldsColumns {
 }
 
 impl<const I: usize, T: HasField<I>, E: Buffer + Encoder<T::Field>> PartEncoder<T, Nth<I>> for E {
-    ghost shape = { T.Field.shape };
+    ghost shape = { T.Field.data.shape };
 
-    ghost lists = { λ t d. T.Field.lists (T.field t) d };
+    ghost lists = { λ t d. T.Field.data.lists (T.field t) d };
 
     ghost writes_free = { E.writes_free };
 
@@ -155,9 +155,9 @@ impl<T, K, L, A: PartEncoder<T, K>, B: PartEncoder<T, L>> PartEncoder<T, (K, L)>
 }
 
 impl<T, E: Buffer + Encoder<()>> PartEncoder<T, ()> for E {
-    ghost shape = { ⟦<() as Shaped>⟧.shape };
+    ghost shape = { ⟦<() as Shaped>⟧.data.shape };
 
-    ghost lists = { λ t d. ⟦<() as Shaped>⟧.lists tt d };
+    ghost lists = { λ t d. ⟦<() as Shaped>⟧.data.lists tt d };
 
     ghost writes_free = { E.writes_free };
 

@@ -1,7 +1,6 @@
 //! The encoder of structs, and of tuples of three and more fields.
 ghost use Rattle.std.specs.Prelude.{◌≡◌, map};
-ghost use Rattle.bitcode_shapes.specs.Datum.{Datum};
-ghost use Rattle.bitcode_tuples.specs.FieldLaws.{struct_of_shape, struct_surely};
+ghost use Rattle.bitcode_tuples.specs.FieldLaws.{SameListings, struct_of_shape, struct_surely};
 ghost use Rattle.bitcode_tuples.specs.Pairs.{EachListed};
 
 use crate::part_encoder::PartEncoder;
@@ -16,17 +15,16 @@ pub trait InFields<E: PartEncoder<Self, Self::Numbers>>: Shaped {
     /// The numbers of the fields, in nested pairs: `((Nth<0>, Nth<1>), (Nth<2>, (Nth<3>, Nth<4>)))`.
     type Numbers;
 
-    /// For a type that owns memory `(<Self as StandsFor>::Parts, <Self as StandsFor>::Inside)`, and otherwise `()`. It
-    /// says nothing about the values, like `HasField::Inside`.
+    /// A type that names the types of all fields, and of all that is inside them: the decoder of the value, or `()`
+    /// where nothing owns memory. It says nothing about the values. It is there because the toolchain accepts an impl
+    /// only for types that it names.
     type Inside;
 
     // the columns are those of the fields
-    ghost same_shape: { E.shape ≡ Self.shape };
+    ghost same_shape: { E.shape ≡ Self.data.shape };
 
     // and so are the listings
-    ghost to_fields: { (t : Self) (d : Datum) → Self.lists t d → E.lists t d };
-
-    ghost of_fields: { (t : Self) (d : Datum) → E.lists t d → Self.lists t d };
+    ghost same_listings: { (t : Self) → SameListings (Self.data.lists t) (E.lists t) };
 }
 
 /// The columns of structs, and of tuples of three and more fields, with the encoder `E` of their fields in nested

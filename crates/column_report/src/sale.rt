@@ -1,11 +1,9 @@
 //! `Sale` corresponds to the tuple of its fields. What is below its declaration was written by `scripts/new_type`.
-ghost use Rattle.std.specs.Prelude.{refl};
-ghost use Rattle.bitcode.specs.ByHand.{listed_pair, stood_payload};
+ghost use Rattle.bitcode.specs.ByHand.{data_as, field_alike, pair_alike, refl};
 
-use bitcode::own::{
-    DecoderOfFields, FromParts, HasField, InFields, Nth, Payload, StandsFor, StructEncoder,
-};
-use bitcode::{HasDecoder, HasEncoder, Shaped};
+use bitcode::own::{DecoderOfFields, HasField, InFields, Nth, StructEncoder};
+use bitcode::{ConvertFrom, Error, HasDecoder, HasEncoder, Shaped};
+use std::alloc::Global;
 
 /// What was sold, where, and for how much.
 #[derive(Debug, Clone, Copy, PartialEq)]
@@ -15,43 +13,35 @@ pub struct Sale<'a> {
     pub cents: u32,
 }
 
-impl<'a> StandsFor for Sale<'a> {
-    type Parts = (&'a str, u16, u32);
+impl<'a> Shaped for Sale<'a> {
+    ghost data = { data_as (λ t. (t.product, t.region, t.cents))
+        (λ p. (record { product = p.0; region = p.1; cents = p.2 }, refl)) (λ t. refl)
+        ⟦<(&'a str, u16, u32) as Shaped>⟧.data };
 
-    type Inside = ();
-
-    ghost parts = { λ t. (t.product, t.region, t.cents) };
-
-    ghost of_parts = { λ p. (record { product = p.0; region = p.1; cents = p.2 }, refl) };
-
-    fn told_parts(&self) {
+    fn told(&self) {
         self.product.told();
         self.region.told();
         self.cents.told();
     }
-
-    ghost one_to_one = { λ t. refl };
 }
 
-impl<'a> FromParts for Sale<'a> {
-    fn from_parts((product, region, cents): (&'a str, u16, u32)) -> Self {
-        Sale {
+impl<'a> ConvertFrom<(&'a str, u16, u32)> for Sale<'a> {
+    fn convert_from(
+        _alloc: Global,
+        (product, region, cents): (&'a str, u16, u32),
+    ) -> Result<Self, Error> {
+        Ok(Sale {
             product,
             region,
             cents,
-        }
+        })
     }
-}
 
-impl<'a> Payload for Sale<'a> {
-    ghost payload = { stood_payload ⟦<Sale<'a> as StandsFor>⟧.parts
-        ⟦<Sale<'a> as StandsFor>⟧.of_parts ⟦<(&'a str, u16, u32) as Payload>⟧.payload };
+    ghost same_shape = { refl };
 }
 
 impl<'a> HasField<0> for Sale<'a> {
     type Field = &'a str;
-
-    type Inside = ();
 
     ghost field = { λ t. t.product };
 
@@ -63,8 +53,6 @@ impl<'a> HasField<0> for Sale<'a> {
 impl<'a> HasField<1> for Sale<'a> {
     type Field = u16;
 
-    type Inside = ();
-
     ghost field = { λ t. t.region };
 
     fn field(&self) -> &u16 {
@@ -74,8 +62,6 @@ impl<'a> HasField<1> for Sale<'a> {
 
 impl<'a> HasField<2> for Sale<'a> {
     type Field = u32;
-
-    type Inside = ();
 
     ghost field = { λ t. t.cents };
 
@@ -89,13 +75,11 @@ type Fields<'a> = <(&'a str, (u16, u32)) as HasEncoder>::Encoder;
 impl<'a> InFields<Fields<'a>> for Sale<'a> {
     type Numbers = (Nth<0>, (Nth<1>, Nth<2>));
 
-    type Inside = ();
+    type Inside = <Sale<'a> as HasDecoder<'a>>::Decoder;
 
     ghost same_shape = { refl };
 
-    ghost to_fields = { λ t. listed_pair (λ d h. h) (listed_pair (λ d h. h) (λ d h. h)) };
-
-    ghost of_fields = { λ t. listed_pair (λ d h. h) (listed_pair (λ d h. h) (λ d h. h)) };
+    ghost same_listings = { λ t. pair_alike field_alike (pair_alike field_alike field_alike) };
 }
 
 impl<'a> HasEncoder for Sale<'a> {

@@ -1,10 +1,10 @@
 //! `Level` numbers its variants. What is below its declaration was written by `scripts/new_type`.
 ghost use Rattle.std.specs.Prelude.{[], ◌∷◌, refl};
-ghost use Rattle.bitcode.specs.ByHand.{stood_payload};
+ghost use Rattle.bitcode.specs.ByHand.{bare_data};
 ghost use Rattle.frames.specs.declared.level.Level.{Level};
 
-use bitcode::own::{Bare, BareEncoder, BareVariants, HeldIn, Payload, StandsFor};
-use bitcode::{DecodeOwned, HasDecoder, HasEncoder, VariantDecoder};
+use bitcode::own::{BareEncoder, BareShaped, BareVariants};
+use bitcode::{DecodeOwned, HasDecoder, HasEncoder, Shaped, VariantDecoder};
 
 /// How bad it is.
 #[derive(Debug, Clone, Copy, PartialEq)]
@@ -21,6 +21,8 @@ impl BareVariants<3> for Level {
 
     ghost in_order = { (refl, refl) };
 
+    ghost one_to_one = { elim [ Level.Info ↦ refl | Level.Warning ↦ refl | Level.Failure ↦ refl ] };
+
     fn index(&self) -> u8 {
         *self as u8
     }
@@ -32,17 +34,24 @@ impl BareVariants<3> for Level {
             _ => Level::Failure,
         }
     }
-
-    ghost one_to_one = { elim [ Level.Info ↦ refl | Level.Warning ↦ refl | Level.Failure ↦ refl ] };
 }
 
-impl HeldIn for Level {
-    type Holder = Bare<3, Level>;
+impl Shaped for Level {
+    ghost data = { bare_data 3 ⟦<Level as BareVariants<3>>⟧.variant
+        ⟦<Level as BareVariants<3>>⟧.values ⟦<Level as BareVariants<3>>⟧.in_order
+        ⟦<Level as BareVariants<3>>⟧.one_to_one };
+
+    fn told(&self) {
+        let _index = self.index();
+    }
 }
 
-impl Payload for Level {
-    ghost payload = { stood_payload ⟦<Level as StandsFor>⟧.parts ⟦<Level as StandsFor>⟧.of_parts
-        ⟦<Bare<3, Level> as Payload>⟧.payload };
+impl BareShaped<3> for Level {
+    ghost has_shape = { refl };
+
+    ghost lists_bare = { λ t d h. h };
+
+    ghost makes_bare = { λ d t h. h };
 }
 
 impl HasEncoder for Level {

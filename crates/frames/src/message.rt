@@ -1,17 +1,16 @@
 //! `Message` is written and read by the numbers of its variants. What is below its declaration was written by
 //! `scripts/new_type`.
-ghost use Rattle.std.specs.Prelude.{◌≡◌, refl};
-ghost use Rattle.bitcode.specs.ByHand.{columns_in, each_variant, is_variant, last_payload, of_one_of_4, payload_and};
-ghost use Rattle.bitcode.specs.ByHand.{payloads_in, stood_payload};
+ghost use Rattle.std.specs.Prelude.{◌≡◌};
+ghost use Rattle.bitcode.specs.ByHand.{columns_in, each_variant, enum_data, is_variant, last_payload, of_one_of_4};
+ghost use Rattle.bitcode.specs.ByHand.{payload_and, payloads_in, refl};
 ghost use Rattle.frames.specs.declared.message.Message.{Message};
 
 use crate::level::Level;
 use bitcode::own::{
-    AllColumns, AllPayloads, At, DecodersOf4, EncodersOf4, Enum, EnumDecoder, EnumEncoder, EnumOf,
-    Held, HeldIn, OneOf4, PartsDecoder, Payload, StandsFor, VariantColumns, VariantPayloads,
-    Variants4, WritesPayloads, WritesVariants, told_as,
+    At, DecodersOf4, EncodersOf4, Enum, EnumDecoder, EnumEncoder, EnumOf, OneOf4, VariantColumns,
+    VariantPayloads, Variants4, WritesVariants, told_as,
 };
-use bitcode::{Error, HasDecoder, HasEncoder};
+use bitcode::{Error, HasDecoder, HasEncoder, Shaped};
 use std::alloc::Global;
 
 /// What a device sends.
@@ -25,14 +24,14 @@ pub enum Message<'a> {
 
 impl<'a> Enum for Message<'a> {
     ghost each = { each_variant
-        (payload_and ⟦<(&'a str, u16) as Payload>⟧.payload
-        (payload_and ⟦<(u32, i64) as Payload>⟧.payload
-        (payload_and ⟦<(Level, &'a str) as Payload>⟧.payload
-        (last_payload ⟦<() as Payload>⟧.payload))))
-        (λ at. elim [
+        (payload_and ⟦<(&'a str, u16) as Shaped>⟧.data
+        (payload_and ⟦<(u32, i64) as Shaped>⟧.data
+        (payload_and ⟦<(Level, &'a str) as Shaped>⟧.data (last_payload ⟦<() as Shaped>⟧.data))))
+        refl (λ at. elim [
           | Message.Hello a b ↦ at 0 (a, b)
           | Message.Measured a b ↦ at 1 (a, b)
-          | Message.Log a b ↦ at 2 (a, b)
+          | Message.Log a b ↦
+              at 2 (a, b)
           | Message.Bye ↦ at 3 tt
         ]) (
           (λ p. (Message.Hello p.0 p.1, refl)),
@@ -40,9 +39,13 @@ impl<'a> Enum for Message<'a> {
             (λ p. (Message.Measured p.0 p.1, refl)),
             ((λ p. (Message.Log p.0 p.1, refl)), λ p. (Message.Bye, refl)),
           ),
-        ) };
-
-    ghost sized = { refl };
+        )
+        (elim [
+          | Message.Hello a b ↦ refl
+          | Message.Measured a b ↦ refl
+          | Message.Log a b ↦ refl
+          | Message.Bye ↦ refl
+        ]) };
 
     fn variant(&self) -> u8 {
         match self {
@@ -52,29 +55,25 @@ impl<'a> Enum for Message<'a> {
             Message::Bye => 3,
         }
     }
+}
 
-    ghost one_to_one = { elim [
-      | Message.Hello a b ↦ refl
-      | Message.Measured a b ↦ refl
-      | Message.Log a b ↦ refl
-      | Message.Bye ↦ refl
-    ] };
+impl<'a> Shaped for Message<'a> {
+    ghost data = { enum_data ⟦<Message<'a> as Enum>⟧.each };
+
+    fn told(&self) {
+        let _number = self.variant();
+    }
 }
 
 impl<'a> EnumOf<4> for Message<'a> {
-    ghost count = { refl };
+    ghost counted = { (refl, refl) };
+
+    ghost lists_variants = { λ t d listed. listed };
+
+    ghost makes_variants = { λ d t made. made };
 }
 
-impl<'a> HeldIn for Message<'a> {
-    type Holder = Held<4, Message<'a>>;
-}
-
-impl<'a> Payload for Message<'a> {
-    ghost payload = { stood_payload ⟦<Message<'a> as StandsFor>⟧.parts
-        ⟦<Message<'a> as StandsFor>⟧.of_parts ⟦<Held<4, Message<'a>> as Payload>⟧.payload };
-}
-
-impl<'a> Variants4<At<0>, (&'a str, u16), (u32, i64), (Level, &'a str), ()> for Message<'a> {
+impl<'a> Variants4<At<0>, At<4>, (&'a str, u16), (u32, i64), (Level, &'a str), ()> for Message<'a> {
     ghost values = { (
       λ p. Message.Hello p.0 p.1,
       λ p. Message.Measured p.0 p.1,
@@ -102,12 +101,13 @@ impl<'a> Variants4<At<0>, (&'a str, u16), (u32, i64), (Level, &'a str), ()> for 
           refl (λ p. refl) (λ p old new h. h) (λ p old h. h) (λ p old new h. h),
       is_variant refl
           (λ p. refl) (λ p old new h. h) (λ p old h. h) (λ p old new h. h),
+      refl,
     ) };
 }
 
 type Columns = EncodersOf4<At<0>, (&'static str, u16), (u32, i64), (Level, &'static str), ()>;
 
-impl<'a> WritesVariants<Columns> for Message<'a> {
+impl<'a> WritesVariants<At<0>, At<4>, Columns> for Message<'a> {
     fn write(&self, to: &mut Columns) -> Result<(), Error> {
         match self {
             Message::Hello { name, version } => to.encode_first::<_, _, _, _, _, (&&'a str, &u16)>(
@@ -125,6 +125,8 @@ impl<'a> WritesVariants<Columns> for Message<'a> {
             Message::Bye => to.encode_fourth(self, &&()),
         }
     }
+
+    ghost are_columns = { λ c. (refl, refl) };
 }
 
 type Decoders<'a> = DecodersOf4<'a, At<0>, (&'a str, u16), (u32, i64), (Level, &'a str), ()>;
@@ -135,8 +137,8 @@ pub struct MessageColumns {
     all: Columns,
 }
 
-impl AllColumns<4> for MessageColumns {
-    ghost held = { columns_in (λ c. c.all) ⟦<Columns as VariantColumns>⟧.columns };
+impl VariantColumns for MessageColumns {
+    ghost columns = { columns_in (λ c. c.all) ⟦<Columns as VariantColumns>⟧.columns };
 
     fn new(alloc: Global) -> Self {
         MessageColumns {
@@ -144,23 +146,21 @@ impl AllColumns<4> for MessageColumns {
         }
     }
 
-    fn collect(&mut self, number: usize, out: &mut Vec<u8>) -> Result<(), Error> {
-        self.all.collect_payloads(number, out)
+    fn collect_all(&mut self, out: &mut Vec<u8>) -> Result<(), Error> {
+        self.all.collect_all(out)
     }
 
-    fn clear(&mut self, number: usize) {
-        self.all.clear_payloads(number);
+    fn clear_all(&mut self) {
+        self.all.clear_all();
     }
-
-    ghost sized = { λ c. refl };
 }
 
-impl<'a> WritesPayloads<4, MessageColumns> for Message<'a> {
-    fn write_payload(&self, to: &mut MessageColumns) -> Result<(), Error> {
-        WritesVariants::<Columns>::write(self, &mut to.all)
+impl<'a> WritesVariants<At<0>, At<4>, MessageColumns> for Message<'a> {
+    fn write(&self, to: &mut MessageColumns) -> Result<(), Error> {
+        WritesVariants::<At<0>, At<4>, Columns>::write(self, &mut to.all)
     }
 
-    ghost of_shapes = { λ c. refl };
+    ghost are_columns = { λ c. (refl, refl) };
 }
 
 /// The payloads that values of `Message` are made of.
@@ -169,13 +169,13 @@ pub struct MessagePayloads<'a> {
     all: Decoders<'a>,
 }
 
-impl<'a> AllPayloads<'a, 4, Message<'a>> for MessagePayloads<'a> {
+impl<'a> VariantPayloads<'a, At<0>, At<4>, Message<'a>> for MessagePayloads<'a> {
     ghost held = { payloads_in (λ d. d.all)
-        ⟦<Decoders<'a> as VariantPayloads<'a, Message<'a>>>⟧.held };
+        ⟦<Decoders<'a> as VariantPayloads<'a, At<0>, At<4>, Message<'a>>>⟧.held };
 
     fn new(alloc: Global) -> Self {
         MessagePayloads {
-            all: VariantPayloads::<Message<'a>>::new(alloc),
+            all: VariantPayloads::<At<0>, At<4>, Message<'a>>::new(alloc),
         }
     }
 
@@ -186,11 +186,17 @@ impl<'a> AllPayloads<'a, 4, Message<'a>> for MessagePayloads<'a> {
         k: usize,
         strict: bool,
     ) -> Result<bool, Error> {
-        VariantPayloads::<Message<'a>>::read_payloads(&mut self.all, number, input, k, strict)
+        VariantPayloads::<At<0>, At<4>, Message<'a>>::read_at(
+            &mut self.all,
+            number,
+            input,
+            k,
+            strict,
+        )
     }
 
     fn decode_at(&mut self, number: usize) -> Result<Message<'a>, Error> {
-        self.all.decode_payload(number)
+        VariantPayloads::<At<0>, At<4>, Message<'a>>::decode_at(&mut self.all, number)
     }
 
     fn sized(&self) {}
@@ -201,8 +207,5 @@ impl<'a> HasEncoder for Message<'a> {
 }
 
 impl<'a> HasDecoder<'a> for Message<'a> {
-    type Decoder = PartsDecoder<
-        Held<4, Message<'a>>,
-        EnumDecoder<'a, 4, Message<'a>, MessagePayloads<'a>>,
-    >;
+    type Decoder = EnumDecoder<'a, 4, Message<'a>, MessagePayloads<'a>>;
 }

@@ -1,12 +1,12 @@
 //! A stream of sealed messages, of which some may be damaged or cut off.
-ghost use Rattle.std.specs.Prelude.{◌≡◌, ◌<◌, ◌≤◌, ℕ, ◌+◌, length, slice_index, IfOk, IfErr, OnErr};
-ghost use Rattle.bitcode.specs.ByHand.{IsOpeningOfFront, IsRefusalOfFront};
+ghost use Rattle.std.specs.Prelude.{◌≡◌, ◌<◌, ◌≤◌, length, IfOk, IfErr, OnErr};
+ghost use Rattle.bitcode.specs.ByHand.{IsNextOf, IsRefusalOfFront};
 
 use crate::message::Message;
 use anyhow::Result;
 use bitcode::coder::HoldsData;
-use bitcode::sealed::{Expected, Label, OpenError, open_front};
-use bitcode::{Decoder, HasDecoder, Made, Shaped, View};
+use bitcode::sealed::{Expected, Label, Next, OpenError, next_head, open_next};
+use bitcode::{Decoder, Error, HasDecoder, Reason, Shaped, View};
 use std::alloc::Global;
 use std::io::Read;
 
@@ -27,42 +27,24 @@ type MessageDecoder<'a> = <Message<'a> as HasDecoder<'a>>::Decoder;
 /// How many bytes are read at once.
 const CHUNK: usize = 4096;
 
-/// The message at the front of the input, which then begins behind it.
+/// The message at the front of the input, which then begins behind it, or what was skipped there, or
+/// that the input ends within a message and may be tried again once more bytes have come.
 ///
-/// Errors: what is first at fault. The input is then as it was, and where it is cut off, it may be
-/// tried again once more bytes have come.
+/// Errors: `out of memory`. The input is then as it was.
 pub fn next_message<'a>(
     alloc: Global,
     input: &mut &'a [u8],
-) -> std::result::Result<Message<'a>, OpenError>
-    ensures found { IfOk result (λ message. IsOpeningOfFront ⟦<Message<'a> as Made>⟧.makes
-        ⟦<Message<'a> as Shaped>⟧.shape EXPECTED input.old.now message input.new.now) }
-    ensures refused { IfErr result (λ e. IsRefusalOfFront ⟦<MessageDecoder<'a> as View<'a>>⟧.faults
+) -> std::result::Result<Next<Message<'a>>, Error>
+    ensures found { IfOk result (λ next. IsNextOf ⟦<Message<'a> as Shaped>⟧.data.makes
+        ⟦<Message<'a> as Shaped>⟧.data.shape
+        (λ e. IsRefusalOfFront ⟦<MessageDecoder<'a> as View<'a>>⟧.faults
         ⟦<MessageDecoder<'a> as Decoder<Message<'a>>>⟧.makes_free
-        ⟦<MessageDecoder<'a> as HoldsData>⟧.shape ⟦<Message<'a> as Shaped>⟧.shape EXPECTED
-        input.old.now e) }
+        ⟦<MessageDecoder<'a> as HoldsData>⟧.shape ⟦<Message<'a> as Shaped>⟧.data.shape EXPECTED
+        input.old.now e) EXPECTED input.old.now input.new.now next) }
+    ensures memory { IfErr result (λ e. e.reason ≡ Reason.OutOfMemory) }
     ensures unchanged { OnErr result (input.new.now ≡ input.old.now) }
 {
-    open_front(alloc, &EXPECTED, input)
-}
-
-/// Where behind the first byte the next message may begin: at the first two bytes of a head, or at
-/// the first of them where no more have come. Without such a place it is the end of the bytes.
-pub fn next_head(bytes: &[u8]) -> usize
-    requires { 0 < length bytes.now }
-    ensures forward { 0 < result }
-    ensures inside { result ≤ length bytes.now }
-    ensures first { (at : ℕ) → 0 < at → at < result → slice_index bytes.now at ≡ 0xBC
-        → slice_index bytes.now (at + 1) ≡ 0xF5 → ⊥ }
-    ensures begins { result < length bytes.now → slice_index bytes.now result ≡ 0xBC }
-    ensures goes_on { result + 1 < length bytes.now → slice_index bytes.now (result + 1) ≡ 0xF5 }
-{
-    for at in 1..bytes.len() {
-        if bytes[at] == 0xBC && (at + 1 == bytes.len() || bytes[at + 1] == 0xF5) {
-            return at;
-        }
-    }
-    bytes.len()
+    open_next(alloc, &EXPECTED, input)
 }
 
 /// Prints the message at the front of the bytes, or why there is none, and answers how many bytes
@@ -78,13 +60,18 @@ fn print_front(
     ensures { IfOk result (λ used. used ≤ length bytes.now) }
 {
     let mut rest = bytes;
-    match next_message(alloc, &mut rest) {
-        Ok(message) => {
+    match next_message(alloc, &mut rest)? {
+        Next::Opened(message) => {
             println!(rt; "{offset}: {message:?}")?;
             Ok(bytes.len() - rest.len())
         }
-        Err(OpenError::CutOff { .. }) if !is_end => Ok(0),
-        Err(fault) => {
+        Next::Skipped { fault, bytes } => {
+            println!(rt; "{offset}: {fault}; {bytes} bytes skipped")?;
+            Ok(bytes)
+        }
+        Next::EndCutOff { .. } if !is_end => Ok(0),
+        Next::EndCutOff { present, wanted } => {
+            let fault = OpenError::CutOff { present, wanted };
             let used = next_head(bytes);
             println!(rt; "{offset}: {fault}; {used} bytes skipped")?;
             Ok(used)

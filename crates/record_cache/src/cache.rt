@@ -6,7 +6,7 @@ use crate::file_id::FileId;
 use crate::file_record::FileRecord;
 use bitcode::coder::HoldsData;
 use bitcode::sealed::{Expected, Label, OpenError, open, seal};
-use bitcode::{Decoder, Error, HasDecoder, Made, Shaped, View};
+use bitcode::{Decoder, Error, HasDecoder, Shaped, View};
 use std::alloc::Global;
 use std::collections::HashMap;
 
@@ -30,10 +30,11 @@ pub const EXPECTED: Expected = Expected {
 
 /// The bytes of a file that keeps the records.
 pub fn to_bytes(alloc: Global, records: &Records) -> Result<Vec<u8>, Error>
-    ensures written { IfOk result (λ bytes. IsSealingOf ⟦<Records as Shaped>⟧.lists
-        ⟦<Records as Shaped>⟧.shape CACHE records.now bytes.items) }
+    ensures written { IfOk result (λ bytes. IsSealingOf ⟦<Records as Shaped>⟧.data.lists
+        ⟦<Records as Shaped>⟧.data.shape CACHE records.now bytes.items) }
     ensures refused { IfErr result (λ e. IsWritingRefusal e.reason
-        (HasLongListing ⟦<Records as Shaped>⟧.lists ⟦<Records as Shaped>⟧.shape records.now)) }
+        (HasLongListing ⟦<Records as Shaped>⟧.data.lists ⟦<Records as Shaped>⟧.data.shape
+        records.now)) }
 {
     seal(alloc, CACHE, records)
 }
@@ -41,11 +42,12 @@ pub fn to_bytes(alloc: Global, records: &Records) -> Result<Vec<u8>, Error>
 /// The records that are kept in the bytes of a file. Older, damaged and cut-off ones are refused,
 /// with what is at fault.
 pub fn from_bytes<'a>(alloc: Global, bytes: &'a [u8]) -> Result<Records, OpenError>
-    ensures found { IfOk result (λ records. IsOpeningOf ⟦<Records as Made>⟧.makes
-        ⟦<Records as Shaped>⟧.shape EXPECTED bytes.now records) }
+    ensures found { IfOk result (λ records. IsOpeningOf ⟦<Records as Shaped>⟧.data.makes
+        ⟦<Records as Shaped>⟧.data.shape EXPECTED bytes.now records) }
     ensures refused { IfErr result (λ e. IsRefusal ⟦<RecordsDecoder<'a> as View<'a>>⟧.faults
         ⟦<RecordsDecoder<'a> as Decoder<Records>>⟧.makes_free
-        ⟦<RecordsDecoder<'a> as HoldsData>⟧.shape ⟦<Records as Shaped>⟧.shape EXPECTED bytes.now
+        ⟦<RecordsDecoder<'a> as HoldsData>⟧.shape ⟦<Records as Shaped>⟧.data.shape EXPECTED
+        bytes.now
         e) }
 {
     open::<Records>(alloc, &EXPECTED, bytes)

@@ -1,12 +1,9 @@
 //! `FileId` corresponds to the tuple of its fields. What is below its declaration was written by `scripts/new_type`.
-ghost use Rattle.std.specs.Prelude.{refl};
-ghost use Rattle.bitcode.specs.ByHand.{listed_pair, stood_key, stood_payload};
+ghost use Rattle.bitcode.specs.ByHand.{data_as, field_alike, pair_alike, refl};
 
-use bitcode::own::{
-    DecoderOfFields, FromParts, HasField, InFields, KeyPayload, Nth, Payload, StandsFor,
-    StructEncoder,
-};
-use bitcode::{DecodeOwned, HasDecoder, HasEncoder, Key, Shaped};
+use bitcode::own::{DecoderOfFields, HasField, InFields, Nth, StructEncoder};
+use bitcode::{ConvertFrom, DecodeOwned, Error, HasDecoder, HasEncoder, Key, Shaped};
+use std::alloc::Global;
 
 /// Which file: a device, and the number of the file there.
 #[derive(Debug, Clone, Copy, PartialEq, Eq, PartialOrd, Ord, Hash)]
@@ -15,38 +12,27 @@ pub struct FileId {
     pub number: u64,
 }
 
-impl StandsFor for FileId {
-    type Parts = (u64, u64);
+impl Shaped for FileId {
+    ghost data = { data_as (λ t. (t.device, t.number))
+        (λ p. (record { device = p.0; number = p.1 }, refl)) (λ t. refl)
+        ⟦<(u64, u64) as Shaped>⟧.data };
 
-    type Inside = ();
-
-    ghost parts = { λ t. (t.device, t.number) };
-
-    ghost of_parts = { λ p. (record { device = p.0; number = p.1 }, refl) };
-
-    fn told_parts(&self) {
+    fn told(&self) {
         self.device.told();
         self.number.told();
     }
-
-    ghost one_to_one = { λ t. refl };
 }
 
-impl FromParts for FileId {
-    fn from_parts((device, number): (u64, u64)) -> Self {
-        FileId { device, number }
+impl ConvertFrom<(u64, u64)> for FileId {
+    fn convert_from(_alloc: Global, (device, number): (u64, u64)) -> Result<Self, Error> {
+        Ok(FileId { device, number })
     }
-}
 
-impl Payload for FileId {
-    ghost payload = { stood_payload ⟦<FileId as StandsFor>⟧.parts ⟦<FileId as StandsFor>⟧.of_parts
-        ⟦<(u64, u64) as Payload>⟧.payload };
+    ghost same_shape = { refl };
 }
 
 impl HasField<0> for FileId {
     type Field = u64;
-
-    type Inside = ();
 
     ghost field = { λ t. t.device };
 
@@ -57,8 +43,6 @@ impl HasField<0> for FileId {
 
 impl HasField<1> for FileId {
     type Field = u64;
-
-    type Inside = ();
 
     ghost field = { λ t. t.number };
 
@@ -72,13 +56,11 @@ type Fields = <(u64, u64) as HasEncoder>::Encoder;
 impl InFields<Fields> for FileId {
     type Numbers = (Nth<0>, Nth<1>);
 
-    type Inside = ();
+    type Inside = <FileId as HasDecoder<'static>>::Decoder;
 
     ghost same_shape = { refl };
 
-    ghost to_fields = { λ t. listed_pair (λ d h. h) (λ d h. h) };
-
-    ghost of_fields = { λ t. listed_pair (λ d h. h) (λ d h. h) };
+    ghost same_listings = { λ t. pair_alike field_alike field_alike };
 }
 
 impl HasEncoder for FileId {
@@ -91,11 +73,8 @@ impl<'a> HasDecoder<'a> for FileId {
 
 impl DecodeOwned for FileId {}
 
-impl KeyPayload for FileId {
-    ghost key = { stood_key ⟦<FileId as StandsFor>⟧.parts ⟦<FileId as StandsFor>⟧.of_parts
-        ⟦<(u64, u64) as KeyPayload>⟧.key };
-}
-
 impl Key for FileId {
-    ghost keyed = { ⟦<FileId as KeyPayload>⟧.key.told };
+    ghost equal = { refl };
+
+    ghost ordered = { refl };
 }

@@ -1,12 +1,10 @@
 //! `FileRecord` corresponds to the tuple of its fields. What is below its declaration was written by
 //! `scripts/new_type`.
-ghost use Rattle.std.specs.Prelude.{refl};
-ghost use Rattle.bitcode.specs.ByHand.{listed_pair, stood_payload};
+ghost use Rattle.bitcode.specs.ByHand.{data_as, field_alike, pair_alike, refl};
 
-use bitcode::own::{
-    DecoderOfFields, FromParts, HasField, InFields, Nth, Payload, StandsFor, StructEncoder,
-};
-use bitcode::{DecodeOwned, HasDecoder, HasEncoder, Shaped};
+use bitcode::own::{DecoderOfFields, HasField, InFields, Nth, StructEncoder};
+use bitcode::{ConvertFrom, DecodeOwned, Error, HasDecoder, HasEncoder, Shaped};
+use std::alloc::Global;
 
 /// What was found when the file was last read whole.
 #[derive(Debug, Clone, Copy, PartialEq)]
@@ -16,43 +14,35 @@ pub struct FileRecord {
     pub checksum: u32,
 }
 
-impl StandsFor for FileRecord {
-    type Parts = (u64, i64, u32);
+impl Shaped for FileRecord {
+    ghost data = { data_as (λ t. (t.bytes, t.modified, t.checksum))
+        (λ p. (record { bytes = p.0; modified = p.1; checksum = p.2 }, refl)) (λ t. refl)
+        ⟦<(u64, i64, u32) as Shaped>⟧.data };
 
-    type Inside = ();
-
-    ghost parts = { λ t. (t.bytes, t.modified, t.checksum) };
-
-    ghost of_parts = { λ p. (record { bytes = p.0; modified = p.1; checksum = p.2 }, refl) };
-
-    fn told_parts(&self) {
+    fn told(&self) {
         self.bytes.told();
         self.modified.told();
         self.checksum.told();
     }
-
-    ghost one_to_one = { λ t. refl };
 }
 
-impl FromParts for FileRecord {
-    fn from_parts((bytes, modified, checksum): (u64, i64, u32)) -> Self {
-        FileRecord {
+impl ConvertFrom<(u64, i64, u32)> for FileRecord {
+    fn convert_from(
+        _alloc: Global,
+        (bytes, modified, checksum): (u64, i64, u32),
+    ) -> Result<Self, Error> {
+        Ok(FileRecord {
             bytes,
             modified,
             checksum,
-        }
+        })
     }
-}
 
-impl Payload for FileRecord {
-    ghost payload = { stood_payload ⟦<FileRecord as StandsFor>⟧.parts
-        ⟦<FileRecord as StandsFor>⟧.of_parts ⟦<(u64, i64, u32) as Payload>⟧.payload };
+    ghost same_shape = { refl };
 }
 
 impl HasField<0> for FileRecord {
     type Field = u64;
-
-    type Inside = ();
 
     ghost field = { λ t. t.bytes };
 
@@ -64,8 +54,6 @@ impl HasField<0> for FileRecord {
 impl HasField<1> for FileRecord {
     type Field = i64;
 
-    type Inside = ();
-
     ghost field = { λ t. t.modified };
 
     fn field(&self) -> &i64 {
@@ -75,8 +63,6 @@ impl HasField<1> for FileRecord {
 
 impl HasField<2> for FileRecord {
     type Field = u32;
-
-    type Inside = ();
 
     ghost field = { λ t. t.checksum };
 
@@ -90,13 +76,11 @@ type Fields = <(u64, (i64, u32)) as HasEncoder>::Encoder;
 impl InFields<Fields> for FileRecord {
     type Numbers = (Nth<0>, (Nth<1>, Nth<2>));
 
-    type Inside = ();
+    type Inside = <FileRecord as HasDecoder<'static>>::Decoder;
 
     ghost same_shape = { refl };
 
-    ghost to_fields = { λ t. listed_pair (λ d h. h) (listed_pair (λ d h. h) (λ d h. h)) };
-
-    ghost of_fields = { λ t. listed_pair (λ d h. h) (listed_pair (λ d h. h) (λ d h. h)) };
+    ghost same_listings = { λ t. pair_alike field_alike (pair_alike field_alike field_alike) };
 }
 
 impl HasEncoder for FileRecord {

@@ -1,12 +1,10 @@
 //! `Entity` corresponds to the tuple of its fields. What is below its declaration was written by `scripts/new_type`.
-ghost use Rattle.std.specs.Prelude.{refl};
-ghost use Rattle.bitcode.specs.ByHand.{listed_pair, stood_payload};
+ghost use Rattle.bitcode.specs.ByHand.{data_as, field_alike, pair_alike, refl};
 
 use crate::kind::Kind;
-use bitcode::own::{
-    DecoderOfFields, FromParts, HasField, InFields, Nth, Payload, StandsFor, StructEncoder,
-};
-use bitcode::{DecodeOwned, HasDecoder, HasEncoder, Shaped};
+use bitcode::own::{DecoderOfFields, HasField, InFields, Nth, StructEncoder};
+use bitcode::{ConvertFrom, DecodeOwned, Error, HasDecoder, HasEncoder, Shaped};
+use std::alloc::Global;
 
 /// Something in the world.
 #[derive(Debug, Clone, Copy, PartialEq)]
@@ -22,28 +20,23 @@ pub struct Entity {
 
 type Parts = (u32, Kind, i32, i32, u16, bool, Option<u32>);
 
-impl StandsFor for Entity {
-    type Parts = Parts;
+impl Shaped for Entity {
+    ghost data = { data_as (λ t. (t.id, t.kind, t.x, t.y, t.health, t.is_asleep, t.target))
+        (λ p. (
+          record {
+            id = p.0;
+            kind = p.1;
+            x = p.2;
+            y = p.3;
+            health = p.4;
+            is_asleep = p.5;
+            target
+                = p.6;
+          },
+          refl,
+        )) (λ t. refl) ⟦<Parts as Shaped>⟧.data };
 
-    type Inside = ();
-
-    ghost parts = { λ t. (t.id, t.kind, t.x, t.y, t.health, t.is_asleep, t.target) };
-
-    ghost of_parts = { λ p. (
-      record {
-        id = p.0;
-        kind = p.1;
-        x = p.2;
-        y = p.3;
-        health = p.4;
-        is_asleep = p.5;
-        target
-            = p.6;
-      },
-      refl,
-    ) };
-
-    fn told_parts(&self) {
+    fn told(&self) {
         self.id.told();
         self.kind.told();
         self.x.told();
@@ -52,13 +45,12 @@ impl StandsFor for Entity {
         self.is_asleep.told();
         self.target.told();
     }
-
-    ghost one_to_one = { λ t. refl };
 }
 
-impl FromParts for Entity {
-    fn from_parts((id, kind, x, y, health, is_asleep, target): Parts) -> Self {
-        Entity {
+impl ConvertFrom<Parts> for Entity {
+    fn convert_from(_alloc: Global, parts: Parts) -> Result<Self, Error> {
+        let (id, kind, x, y, health, is_asleep, target) = parts;
+        Ok(Entity {
             id,
             kind,
             x,
@@ -66,19 +58,14 @@ impl FromParts for Entity {
             health,
             is_asleep,
             target,
-        }
+        })
     }
-}
 
-impl Payload for Entity {
-    ghost payload = { stood_payload ⟦<Entity as StandsFor>⟧.parts ⟦<Entity as StandsFor>⟧.of_parts
-        ⟦<Parts as Payload>⟧.payload };
+    ghost same_shape = { refl };
 }
 
 impl HasField<0> for Entity {
     type Field = u32;
-
-    type Inside = ();
 
     ghost field = { λ t. t.id };
 
@@ -90,8 +77,6 @@ impl HasField<0> for Entity {
 impl HasField<1> for Entity {
     type Field = Kind;
 
-    type Inside = ();
-
     ghost field = { λ t. t.kind };
 
     fn field(&self) -> &Kind {
@@ -101,8 +86,6 @@ impl HasField<1> for Entity {
 
 impl HasField<2> for Entity {
     type Field = i32;
-
-    type Inside = ();
 
     ghost field = { λ t. t.x };
 
@@ -114,8 +97,6 @@ impl HasField<2> for Entity {
 impl HasField<3> for Entity {
     type Field = i32;
 
-    type Inside = ();
-
     ghost field = { λ t. t.y };
 
     fn field(&self) -> &i32 {
@@ -125,8 +106,6 @@ impl HasField<3> for Entity {
 
 impl HasField<4> for Entity {
     type Field = u16;
-
-    type Inside = ();
 
     ghost field = { λ t. t.health };
 
@@ -138,8 +117,6 @@ impl HasField<4> for Entity {
 impl HasField<5> for Entity {
     type Field = bool;
 
-    type Inside = ();
-
     ghost field = { λ t. t.is_asleep };
 
     fn field(&self) -> &bool {
@@ -149,8 +126,6 @@ impl HasField<5> for Entity {
 
 impl HasField<6> for Entity {
     type Field = Option<u32>;
-
-    type Inside = ();
 
     ghost field = { λ t. t.target };
 
@@ -167,17 +142,13 @@ impl InFields<Fields> for Entity {
         ((Nth<3>, Nth<4>), (Nth<5>, Nth<6>)),
     );
 
-    type Inside = ();
+    type Inside = <Entity as HasDecoder<'static>>::Decoder;
 
     ghost same_shape = { refl };
 
-    ghost to_fields = { λ t. listed_pair
-        (listed_pair (λ d h. h) (listed_pair (λ d h. h) (λ d h. h)))
-        (listed_pair (listed_pair (λ d h. h) (λ d h. h)) (listed_pair (λ d h. h) (λ d h. h))) };
-
-    ghost of_fields = { λ t. listed_pair
-        (listed_pair (λ d h. h) (listed_pair (λ d h. h) (λ d h. h)))
-        (listed_pair (listed_pair (λ d h. h) (λ d h. h)) (listed_pair (λ d h. h) (λ d h. h))) };
+    ghost same_listings = { λ t. pair_alike
+        (pair_alike field_alike (pair_alike field_alike field_alike))
+        (pair_alike (pair_alike field_alike field_alike) (pair_alike field_alike field_alike)) };
 }
 
 impl HasEncoder for Entity {

@@ -1,10 +1,10 @@
 //! `Kind` numbers its variants. What is below its declaration was written by `scripts/new_type`.
 ghost use Rattle.std.specs.Prelude.{[], ◌∷◌, refl};
-ghost use Rattle.bitcode.specs.ByHand.{stood_payload};
+ghost use Rattle.bitcode.specs.ByHand.{bare_data};
 ghost use Rattle.snapshots.specs.declared.kind.Kind.{Kind};
 
-use bitcode::own::{Bare, BareEncoder, BareVariants, HeldIn, Payload, StandsFor};
-use bitcode::{DecodeOwned, HasDecoder, HasEncoder, VariantDecoder};
+use bitcode::own::{BareEncoder, BareShaped, BareVariants};
+use bitcode::{DecodeOwned, HasDecoder, HasEncoder, Shaped, VariantDecoder};
 
 /// What an entity is.
 #[derive(Debug, Clone, Copy, PartialEq)]
@@ -23,6 +23,9 @@ impl BareVariants<4> for Kind {
 
     ghost in_order = { (refl, refl) };
 
+    ghost one_to_one = { elim
+        [ Kind.Player ↦ refl | Kind.Monster ↦ refl | Kind.Arrow ↦ refl | Kind.Chest ↦ refl ] };
+
     fn index(&self) -> u8 {
         *self as u8
     }
@@ -35,18 +38,24 @@ impl BareVariants<4> for Kind {
             _ => Kind::Chest,
         }
     }
-
-    ghost one_to_one = { elim
-        [ Kind.Player ↦ refl | Kind.Monster ↦ refl | Kind.Arrow ↦ refl | Kind.Chest ↦ refl ] };
 }
 
-impl HeldIn for Kind {
-    type Holder = Bare<4, Kind>;
+impl Shaped for Kind {
+    ghost data = { bare_data 4 ⟦<Kind as BareVariants<4>>⟧.variant
+        ⟦<Kind as BareVariants<4>>⟧.values ⟦<Kind as BareVariants<4>>⟧.in_order
+        ⟦<Kind as BareVariants<4>>⟧.one_to_one };
+
+    fn told(&self) {
+        let _index = self.index();
+    }
 }
 
-impl Payload for Kind {
-    ghost payload = { stood_payload ⟦<Kind as StandsFor>⟧.parts ⟦<Kind as StandsFor>⟧.of_parts
-        ⟦<Bare<4, Kind> as Payload>⟧.payload };
+impl BareShaped<4> for Kind {
+    ghost has_shape = { refl };
+
+    ghost lists_bare = { λ t d h. h };
+
+    ghost makes_bare = { λ d t h. h };
 }
 
 impl HasEncoder for Kind {

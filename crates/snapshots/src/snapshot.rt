@@ -5,7 +5,7 @@ ghost use Rattle.bitcode.specs.ByHand.{IsWritingRefusal, SpellsDatum};
 
 use crate::entity::Entity;
 use bitcode::laws::comes_back;
-use bitcode::{Buffer, Error, Made, Reason, Shaped, decode};
+use bitcode::{Buffer, Error, Reason, Shaped, decode};
 use std::alloc::Global;
 
 /// All entities of a tick.
@@ -13,20 +13,21 @@ pub type Entities = Vec<Entity>;
 
 /// The snapshot of the entities, in the memory of the buffer, until its next call.
 pub fn take<'a>(buffer: &'a mut Buffer<Entities>, entities: &Entities) -> Result<&'a [u8], Error>
-    ensures written { IfOk result (λ bytes. IsEncodingOf ⟦<Entities as Shaped>⟧.lists
-        ⟦<Entities as Shaped>⟧.shape entities.now bytes.now) }
+    ensures written { IfOk result (λ bytes. IsEncodingOf ⟦<Entities as Shaped>⟧.data.lists
+        ⟦<Entities as Shaped>⟧.data.shape entities.now bytes.now) }
     ensures refused { IfErr result (λ e. IsWritingRefusal e.reason
-        (HasLongListing ⟦<Entities as Shaped>⟧.lists ⟦<Entities as Shaped>⟧.shape entities.now)) }
+        (HasLongListing ⟦<Entities as Shaped>⟧.data.lists ⟦<Entities as Shaped>⟧.data.shape
+        entities.now)) }
 {
     buffer.encode(entities)
 }
 
 /// The entities of a snapshot. Bytes that are none are refused.
 pub fn restore(alloc: Global, bytes: &[u8]) -> Result<Entities, Error>
-    ensures found { IfOk result (λ entities. IsDecodingOf ⟦<Entities as Made>⟧.makes
-        ⟦<Entities as Shaped>⟧.shape bytes.now entities) }
+    ensures found { IfOk result (λ entities. IsDecodingOf ⟦<Entities as Shaped>⟧.data.makes
+        ⟦<Entities as Shaped>⟧.data.shape bytes.now entities) }
     ensures refused { IfErr result (λ e. e.reason ≢ Reason.OutOfMemory → (d : Datum)
-        → SpellsDatum ⟦<Entities as Shaped>⟧.shape bytes.now d → ⊥) }
+        → SpellsDatum ⟦<Entities as Shaped>⟧.data.shape bytes.now d → ⊥) }
 {
     decode(alloc, bytes)
 }
@@ -37,9 +38,10 @@ pub fn restored(
     buffer: &mut Buffer<Entities>,
     entities: &Entities,
 ) -> Result<Entities, Error>
-    ensures same { HasShortLengths ⟦<Entities as Shaped>⟧.lists ⟦<Entities as Shaped>⟧.shape
+    ensures same { HasShortLengths ⟦<Entities as Shaped>⟧.data.lists
+        ⟦<Entities as Shaped>⟧.data.shape
         entities.now
-        → IfOk result (λ again. ⟦<Entities as Shaped>⟧.same entities.now again) }
+        → IfOk result (λ again. ⟦<Entities as Shaped>⟧.data.same entities.now again) }
 {
     let bytes = take(buffer, entities)?;
     let again = restore(alloc, bytes);

@@ -1,4 +1,4 @@
-//! Times ours, the Rust crate and bincode in one process, in turn: `scripts/speed/beside` builds and runs it.
+//! Times ours, the Rust crate and bincode in one process, in turn: `scripts/speed/beside.sh` builds and runs it.
 use bincode::Options;
 use bitcode::{Buffer, Decode, Encode};
 use serde::{Deserialize, Serialize};

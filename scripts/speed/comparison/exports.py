@@ -1,5 +1,5 @@
 #!/usr/bin/env python3
-"""Writes what lies between the library and the driver of scripts/speed/beside, from workloads.tsv.
+"""Writes what lies between the library and the driver of scripts/speed/beside.sh, from workloads.tsv.
 
     exports.py rattle program|library    the functions that the driver calls, in Rattle
     exports.py rust                      their declarations, and the table of workloads, for driver.rs
@@ -8,7 +8,7 @@ import json
 import os
 import sys
 
-HEAD = """//! What scripts/speed/beside calls. Written by scripts/speed/comparison/exports.py.
+HEAD = """//! What scripts/speed/beside.sh calls. Written by scripts/speed/comparison/exports.py.
 #![tactic(auto)]
 
 pub mod level;

@@ -1,7 +1,11 @@
 //! Sealed values: with ample memory each call once, and each refusal.
 use bitcode::sealed::{
-    Expected, Label, OpenError, comes_back, crc_32, open, open_front, seal, seal_into, split_sealed,
+    Expected, Label, Next, OpenError, comes_back, crc_32, damage_in_front_is_seen, damage_is_seen,
+    next_head, open, open_front, open_next, read_label, seal, seal_bytes, seal_into, skip_sealed,
+    split_sealed,
 };
+use bitcode::{Error, Reason};
+use std::alloc::{AllocError, Global};
 use std::test::Fail;
 
 const LABEL: Label = Label {
@@ -39,9 +43,12 @@ fn a_value_is_sealed_and_opened(rt: HostRuntime) -> Result<(), Fail> {
     let value = (7u32, String::from_str(alloc, "hi")?);
     let bytes = seal(alloc, LABEL, &value)?;
     assert_eq!(rt; bytes.as_slice(), BYTES.as_slice());
-    let again: (u32, String) = open(alloc, &EXPECTED, bytes.as_slice())?;
-    assert!(rt; again == value);
+    let again: Result<(u32, String), OpenError> = open(alloc, &EXPECTED, bytes.as_slice());
     comes_back(&value, LABEL, &EXPECTED, bytes.as_slice(), &again);
+    assert!(rt; again? == value);
+    let mut raw = Vec::new(alloc);
+    seal_bytes(LABEL, &BYTES[20..25], &mut raw)?;
+    assert_eq!(rt; raw.as_slice(), BYTES.as_slice());
     Ok(())
 }
 
@@ -84,6 +91,8 @@ fn what_is_no_sealed_value_is_refused(rt: HostRuntime) -> Result<(), Fail> {
         fault(&rt, &EXPECTED, &bytes),
         Some(OpenError::ValueDamaged { stored, computed })
     );
+    damage_is_seen(&BYTES, &bytes);
+    damage_in_front_is_seen(&BYTES, &bytes);
     Ok(())
 }
 
@@ -95,15 +104,21 @@ fn what_is_not_expected_is_refused(rt: HostRuntime) -> Result<(), Fail> {
     };
     assert_eq!(rt;
         fault(&rt, &of(1, 2, 100), &BYTES),
-        Some(OpenError::AnotherKind { found: 0x5245_4353 })
+        Some(OpenError::AnotherKind {
+            found: 0x5245_4353,
+            expected: 1
+        })
     );
     assert_eq!(rt;
         fault(&rt, &of(0x5245_4353, 1, 100), &BYTES),
-        Some(OpenError::AnotherVersion { found: 2 })
+        Some(OpenError::AnotherVersion {
+            found: 2,
+            expected: 1
+        })
     );
     assert_eq!(rt;
         fault(&rt, &of(0x5245_4353, 2, 4), &BYTES),
-        Some(OpenError::TooLong { bytes: 5 })
+        Some(OpenError::TooLong { bytes: 5, most: 4 })
     );
     let alloc = rt.alloc();
     let mut out = seal(alloc, LABEL, &(7u32, "hi"))?;
@@ -118,5 +133,177 @@ fn what_is_not_expected_is_refused(rt: HostRuntime) -> Result<(), Fail> {
             Err(OpenError::Value(_))
         )
     );
+    Ok(())
+}
+
+#[test]
+fn errors_tell_damage_from_memory(rt: HostRuntime) -> Result<(), Fail> {
+    let memory = Error {
+        reason: Reason::OutOfMemory,
+    };
+    let eof = Error {
+        reason: Reason::Eof,
+    };
+    let faults = [
+        (OpenError::NotSealed, true, "not sealed"),
+        (
+            OpenError::CutOff {
+                present: 3,
+                wanted: 20,
+            },
+            true,
+            "cut off: 3 bytes of 20",
+        ),
+        (OpenError::HeadDamaged, true, "the header is damaged"),
+        (
+            OpenError::AnotherKind {
+                found: 5,
+                expected: 0x5245_4353,
+            },
+            false,
+            "the kind is 0x00000005, expected 0x52454353",
+        ),
+        (
+            OpenError::AnotherVersion {
+                found: 1,
+                expected: 2,
+            },
+            false,
+            "the version is 1, expected 2",
+        ),
+        (
+            OpenError::TooLong { bytes: 9, most: 4 },
+            false,
+            "too long: 9 bytes, at most 4",
+        ),
+        (
+            OpenError::ValueDamaged {
+                stored: 0xAB,
+                computed: 0xCBF4_3926,
+            },
+            true,
+            "the value is damaged: its checksum is cbf43926, not 000000ab",
+        ),
+        (
+            OpenError::BytesLeftOver { count: 2 },
+            false,
+            "trailing bytes: 2",
+        ),
+        (
+            OpenError::Value(eof),
+            false,
+            "the value was not decoded: EOF",
+        ),
+        (
+            OpenError::Value(memory),
+            false,
+            "the value was not decoded: out of memory",
+        ),
+    ];
+    for (fault, is_damage, text) in &faults {
+        let printed = format!(in rt.alloc(); "{fault}")?;
+        assert_eq!(rt; printed.as_str(), *text);
+        assert_eq!(rt; fault.is_damage(), *is_damage);
+        assert_eq!(rt; fault.is_out_of_memory(), *fault == OpenError::Value(memory));
+    }
+    Ok(())
+}
+
+// A function that allocates beside opening: `?` converts each error.
+fn opened_twice(alloc: Global, bytes: &[u8]) -> Result<Vec<u32>, OpenError> {
+    let mut numbers = Vec::with_capacity(alloc, 1)?;
+    for _ in 0..2u8 {
+        let pair: (u32, &str) = open(alloc, &EXPECTED, bytes)?;
+        numbers.push(pair.0)?;
+    }
+    Ok(numbers)
+}
+
+#[test]
+fn errors_are_converted(rt: HostRuntime) -> Result<(), Fail> {
+    let numbers = opened_twice(rt.alloc(), &BYTES)?;
+    assert_eq!(rt; numbers.as_slice(), [7, 7].as_slice());
+    assert!(rt; OpenError::from(AllocError).is_out_of_memory());
+    Ok(())
+}
+
+#[test]
+fn labels_are_read_and_skipped(rt: HostRuntime) -> Result<(), Fail> {
+    assert_eq!(rt; read_label(&BYTES)?, LABEL);
+    assert_eq!(rt; read_label(&BYTES[..20])?, LABEL);
+    assert_eq!(rt; read_label(b"text"), Err(OpenError::NotSealed));
+    let alloc = rt.alloc();
+    let mut out = BYTES.to_vec(alloc)?;
+    out.push(0xBC)?;
+    let mut input = out.as_slice();
+    assert_eq!(rt; skip_sealed(&mut input)?, LABEL);
+    assert_eq!(rt; input, [0xBC].as_slice());
+    let cut_off = OpenError::CutOff {
+        present: 1,
+        wanted: 20,
+    };
+    assert_eq!(rt; skip_sealed(&mut input), Err(cut_off));
+    assert_eq!(rt; input.len(), 1);
+    assert_eq!(rt; next_head(out.as_slice()), 29);
+    assert_eq!(rt; next_head(&BYTES), 29);
+    assert_eq!(rt; next_head(&[0xBC, 0xF5, 0xBC, 0xBC, 0xF5]), 3);
+    Ok(())
+}
+
+#[test]
+fn a_journal_is_read_to_its_torn_end(rt: HostRuntime) -> Result<(), Fail> {
+    let alloc = rt.alloc();
+    let mut journal = BYTES.to_vec(alloc)?;
+    let other = Label {
+        kind: 1,
+        version: 2,
+    };
+    seal_into(alloc, other, &7u8, &mut journal)?;
+    journal.extend_from_slice(&BYTES)?;
+    journal.as_mut_slice()[54 + 24] = 106;
+    journal.extend_from_slice(&BYTES)?;
+    journal.extend_from_slice(&BYTES[..28])?;
+
+    let opened = Next::Opened((7u32, "hi"));
+    let mut input = journal.as_slice();
+    assert_eq!(rt; open_next(alloc, &EXPECTED, &mut input)?, opened);
+    let fault = OpenError::AnotherKind {
+        found: 1,
+        expected: 0x5245_4353,
+    };
+    let skipped: Next<(u32, &str)> = Next::Skipped { fault, bytes: 25 };
+    assert_eq!(rt; open_next(alloc, &EXPECTED, &mut input)?, skipped);
+    let skipped = open_next::<(u32, &str)>(alloc, &EXPECTED, &mut input)?;
+    assert!(rt;
+        matches!(
+            skipped,
+            Next::Skipped {
+                fault: OpenError::ValueDamaged { .. },
+                bytes: 29
+            }
+        )
+    );
+    assert_eq!(rt; open_next(alloc, &EXPECTED, &mut input)?, opened);
+    let end: Next<(u32, &str)> = Next::EndCutOff {
+        present: 28,
+        wanted: 29,
+    };
+    assert_eq!(rt; open_next(alloc, &EXPECTED, &mut input)?, end);
+    assert_eq!(rt; input.len(), 28);
+    Ok(())
+}
+
+#[test]
+fn a_foreign_value_that_is_too_long_is_not_waited_for(rt: HostRuntime) -> Result<(), Fail> {
+    let alloc = rt.alloc();
+    let short = Expected {
+        label: LABEL,
+        most_bytes: 4,
+    };
+    let mut input = &BYTES[..28];
+    let fault = OpenError::TooLong { bytes: 5, most: 4 };
+    let skipped: Next<(u32, &str)> = Next::Skipped { fault, bytes: 28 };
+    assert_eq!(rt; open_next(alloc, &short, &mut input)?, skipped);
+    assert!(rt; input.is_empty());
     Ok(())
 }

@@ -1,4 +1,5 @@
-//! The second format, as users meet it: each public call once, with ample memory, and values that hold values of their own kind.
+//! The second format, as users meet it: each public call once, with ample memory, and values that hold values of their
+//! own kind.
 use bitcode::coder::Buffer as _;
 use bitcode::laws::{
     columns_decide, every_shape, faults_tell, one_value_of_a_datum, spelled_data, strict_data,

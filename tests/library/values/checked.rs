@@ -59,6 +59,6 @@ fn coders_of_checked_integers(rt: HostRuntime) -> Result<(), Fail> {
     let written: DurationEncode = span.convert_into();
     assert_eq!(rt; written, (3, 5));
     let read: DurationDecode = decode(alloc, &[6, 3, 4, 5])?;
-    assert_eq!(rt; Duration::convert_from(read), span);
+    assert_eq!(rt; Duration::convert_from(alloc, read)?, span);
     Ok(())
 }

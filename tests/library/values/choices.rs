@@ -1,4 +1,5 @@
-//! Options and results hold what they are made of. `scripts/checks/vectors` compares theirs with those of the Rust crate.
+//! Options and results hold what they are made of. `scripts/checks/vectors.sh` compares theirs with those of the Rust
+//! crate.
 use bitcode::DecodeOwned;
 
 /// Takes a type whose values borrow nothing.

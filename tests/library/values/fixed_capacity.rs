@@ -1,4 +1,4 @@
-//! Vectors and texts of a fixed capacity, both ways. `scripts/checks/vectors` has the refusals of the Rust crate.
+//! Vectors and texts of a fixed capacity, both ways. `scripts/checks/vectors.sh` has the refusals of the Rust crate.
 use arrayvec::{ArrayString, ArrayVec};
 use bitcode::{Reason, decode};
 use bitcode_test_support::{Got, refuses, written_and_read};

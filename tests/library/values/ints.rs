@@ -1,4 +1,5 @@
-//! The integers of each width, at their limits. `scripts/checks/vectors` runs many more of the values of the Rust crate.
+//! The integers of each width, at their limits. `scripts/checks/vectors.sh` runs many more of the values of the Rust
+//! crate.
 use bitcode_test_support::{Got, both_ways};
 
 #[test]

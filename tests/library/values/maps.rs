@@ -1,4 +1,4 @@
-//! Maps, both ways. `scripts/checks/vectors` runs many more of the values of the Rust crate.
+//! Maps, both ways. `scripts/checks/vectors.sh` runs many more of the values of the Rust crate.
 use bitcode_test_support::{Got, agrees, written_and_read};
 use std::collections::{BTreeMap, BTreeSet, HashMap};
 

@@ -1,4 +1,4 @@
-//! Pointers and markers, both ways. `scripts/checks/vectors` runs many more of the values of the Rust crate.
+//! Pointers and markers, both ways. `scripts/checks/vectors.sh` runs many more of the values of the Rust crate.
 use bitcode_test_support::{Got, written_and_read};
 use std::boxed::BoxedSlice;
 use std::marker::PhantomData;

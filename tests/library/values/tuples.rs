@@ -1,4 +1,5 @@
-//! Tuples of one field, both ways, and of sixteen types, written. The tables of `scripts/vectors` have every number of fields.
+//! Tuples of one field, both ways, and of sixteen types, written. The tables of `scripts/vectors` have every number of
+//! fields.
 use bitcode_test_support::{Got, encodes, written_and_read};
 use std::time::Duration;
 

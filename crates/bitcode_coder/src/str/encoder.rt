@@ -73,7 +73,7 @@ fn push_short<S, P: AsText, W: Part<S, P>>(
     requires lengths { length items.now ≤ length_room lengths }
     requires bytes { 15 * length items.now ≤ fast_room bytes }
     ensures count { result.count ≤ length items.now }
-    ensures written { PushesTexts P.lists (map (W.of which.now) (take result.count items.now))
+    ensures written { PushesTexts P.data.lists (map (W.of which.now) (take result.count items.now))
         (texts_in lengths bytes) (texts_in result.lengths result.bytes) }
     ensures whole { sum (written_lengths result.lengths) ≡ length (fast_items result.bytes) }
     ensures room { length_room lengths ≡ length_room result.lengths + result.count }
@@ -107,7 +107,7 @@ impl StrEncoder {
         requires chunk { length items.now ≤ MAX_VECTORED_CHUNK }
         requires room { length items.now ≤ length_room self.old.lengths }
         ensures written { OnOk result
-            (PushesTexts P.lists (map (W.of which.now) items.now) (written_texts self.old)
+            (PushesTexts P.data.lists (map (W.of which.now) items.now) (written_texts self.old)
             (written_texts self.new)) }
         ensures room { OnOk result
             (length_room self.old.lengths ≤ length_room self.new.lengths + length items.now) }
@@ -131,7 +131,7 @@ impl StrEncoder {
         requires room { length items.now ≤ length_room self.old.lengths }
         ensures count { IfOk result (λ n. n ≤ length items.now) }
         ensures written { IfOk result
-            (λ n. PushesTexts P.lists (map (W.of which.now) (take n items.now))
+            (λ n. PushesTexts P.data.lists (map (W.of which.now) (take n items.now))
             (written_texts self.old) (written_texts self.new)) }
         ensures room { IfOk result
             (λ n. length_room self.old.lengths ≤ length_room self.new.lengths + n) }
@@ -161,7 +161,7 @@ impl StrEncoder {
         ensures count { IfOk result (λ n. n ≤ length items.now) }
         ensures some { IfOk result (λ n. 0 < length items.now → 0 < n) }
         ensures written { IfOk result
-            (λ n. PushesTexts P.lists (map (W.of which.now) (take n items.now))
+            (λ n. PushesTexts P.data.lists (map (W.of which.now) (take n items.now))
             (written_texts self.old) (written_texts self.new)) }
         ensures room { IfOk result
             (λ n. length_room self.old.lengths ≤ length_room self.new.lengths + n) }

@@ -1,4 +1,3 @@
-// Written by scripts/tables/types.
 //! The coders of arrays.
 use crate::derive::{DecodeOwned, HasDecoder, HasEncoder};
 use bitcode_parts::arrays::{ArrayDecoder, ArrayEncoder};

@@ -1,4 +1,3 @@
-// Written by scripts/tables/types.
 //! The coders of options and results.
 use crate::derive::{DecodeOwned, HasDecoder, HasEncoder};
 use bitcode_parts::choices::option::{OptionDecoder, OptionEncoder};

@@ -1,4 +1,3 @@
-// Written by scripts/tables/types.
 //! The coders of durations.
 use crate::derive::{DecodeOwned, HasDecoder, HasEncoder};
 use bitcode_ints::checked::CheckedIntDecoder;

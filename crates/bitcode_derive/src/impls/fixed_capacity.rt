@@ -1,4 +1,3 @@
-// Written by scripts/tables/types.
 //! The coders of vectors and texts of a fixed capacity.
 use crate::derive::{DecodeOwned, HasDecoder, HasEncoder};
 use arrayvec::{ArrayString, ArrayVec};

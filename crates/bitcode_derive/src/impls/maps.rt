@@ -1,4 +1,3 @@
-// Written by scripts/tables/types.
 //! The coders of maps.
 use crate::derive::{DecodeOwned, HasDecoder, HasEncoder};
 use crate::map::{MapDecoder, MapEncoder};

@@ -1,4 +1,3 @@
-// Written by scripts/tables/types.
 //! The coder of markers of types.
 use crate::derive::{DecodeOwned, HasDecoder, HasEncoder};
 use bitcode_parts::empty::EmptyCoder;

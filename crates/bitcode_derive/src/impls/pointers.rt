@@ -1,9 +1,8 @@
-// Written by scripts/tables/types.
 //! The coders of boxes, shared pointers and their slices.
 use crate::derive::{DecodeOwned, HasDecoder, HasEncoder};
+use bitcode_parts::convert::ConvertFromDecoder;
 use bitcode_parts::lists::vec::{VecDecoder, VecEncoder};
 use bitcode_parts::pointers::deref::DerefEncoder;
-use bitcode_parts::pointers::from::FromDecoder;
 use std::boxed::BoxedSlice;
 use std::rc::{Rc, RcSlice};
 
@@ -12,7 +11,7 @@ impl<T: HasEncoder> HasEncoder for Box<T> {
 }
 
 impl<'a, T: HasDecoder<'a>> HasDecoder<'a> for Box<T> {
-    type Decoder = FromDecoder<T, T::Decoder>;
+    type Decoder = ConvertFromDecoder<T, T::Decoder>;
 }
 
 impl<T: DecodeOwned> DecodeOwned for Box<T> {}
@@ -22,7 +21,7 @@ impl<T: HasEncoder> HasEncoder for Rc<T> {
 }
 
 impl<'a, T: HasDecoder<'a>> HasDecoder<'a> for Rc<T> {
-    type Decoder = FromDecoder<T, T::Decoder>;
+    type Decoder = ConvertFromDecoder<T, T::Decoder>;
 }
 
 impl<T: DecodeOwned> DecodeOwned for Rc<T> {}
@@ -32,7 +31,7 @@ impl<T: HasEncoder> HasEncoder for BoxedSlice<T> {
 }
 
 impl<'a, T: HasDecoder<'a>> HasDecoder<'a> for BoxedSlice<T> {
-    type Decoder = FromDecoder<Vec<T>, VecDecoder<'a, T::Decoder>>;
+    type Decoder = ConvertFromDecoder<Vec<T>, VecDecoder<'a, T::Decoder>>;
 }
 
 impl<T: DecodeOwned> DecodeOwned for BoxedSlice<T> {}
@@ -42,7 +41,7 @@ impl<T: HasEncoder> HasEncoder for RcSlice<T> {
 }
 
 impl<'a, T: HasDecoder<'a>> HasDecoder<'a> for RcSlice<T> {
-    type Decoder = FromDecoder<Vec<T>, VecDecoder<'a, T::Decoder>>;
+    type Decoder = ConvertFromDecoder<Vec<T>, VecDecoder<'a, T::Decoder>>;
 }
 
 impl<T: DecodeOwned> DecodeOwned for RcSlice<T> {}

@@ -1,4 +1,3 @@
-// Written by scripts/tables/types.
 //! The coders of sets: those of lists.
 use crate::derive::{DecodeOwned, HasDecoder, HasEncoder};
 use bitcode_parts::lists::vec::{VecDecoder, VecEncoder};

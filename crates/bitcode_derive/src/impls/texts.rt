@@ -1,4 +1,3 @@
-// Written by scripts/tables/types.
 //! The coders of texts.
 use crate::derive::{DecodeOwned, HasDecoder, HasEncoder};
 use bitcode_coder::str::{StrDecoder, StrEncoder};

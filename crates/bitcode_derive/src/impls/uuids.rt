@@ -1,4 +1,3 @@
-// Written by scripts/tables/types.
 //! The coders of UUIDs.
 use crate::derive::{DecodeOwned, HasDecoder, HasEncoder};
 use bitcode_ints::int::{IntDecoder, IntEncoder};

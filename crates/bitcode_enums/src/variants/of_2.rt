@@ -1,54 +1,53 @@
 // Written by scripts/tables/variants.
 //! The coders of two consecutive variants.
-ghost use Rattle.std.specs.Prelude.{◌≡◌, ◌+◌, ◌-◌, ◌&&◌, [], ◌∷◌, true, OnOk, IfErr};
+ghost use Rattle.std.specs.Prelude.{◌≡◌, ◌+◌, ◌-◌, ◌&&◌, [], ◌∷◌, OnOk, IfErr};
 ghost use Rattle.bitcode_coder.specs.Columns.{no_columns, emptied};
 ghost use Rattle.bitcode_coder.specs.Coder.{IsWritingRefusal};
 ghost use Rattle.bitcode_enums.specs.ByNumber.{columns_at, fault_and, no_faults, KeepsOthers};
 ghost use Rattle.bitcode_enums.specs.VariantsOf.{IsVariant};
 ghost use Rattle.bitcode_enums.specs.OneOf.{of_one_of_2};
-ghost use Rattle.bitcode_enums.specs.ByNumberLaws.{not_past, size_between};
 
 use crate::columns::VariantColumns;
 use crate::held::Enum;
+use crate::number::VariantNumber;
 use crate::payloads::VariantPayloads;
-use crate::place::Place;
 use crate::writes::{WritesVariants, encode_payload_fields};
 use bitcode_coder::coder::{Buffer, Decoder, Encoder, HoldsColumns, HoldsData, View};
 use bitcode_derive::derive::{HasDecoder, HasEncoder};
 use bitcode_memory::error::Error;
-use bitcode_shapes::shaped::{Made, Shaped};
+use bitcode_shapes::shaped::Shaped;
 use bitcode_tuples::fields::{Fields, FieldsEncoder};
 use std::alloc::Global;
 use std::marker::PhantomData;
 
-/// The encoders of two consecutive variants, starting with the number `O`. The other type parameters are the
-/// encoders; `EncodersOf2` derives them from the payloads.
+/// The encoders of two consecutive variants, from the number `First` on. The other type parameters are the encoders;
+/// `EncodersOf2` derives them from the payloads.
 #[derive(Drop)]
-pub struct Encoders2<O, E1, E2> {
+pub struct Encoders2<First, E1, E2> {
     first: E1,
     second: E2,
-    of: PhantomData<O>,
+    of: PhantomData<First>,
 }
 
 /// The encoders of two consecutive variants, given the types of their payloads.
-pub type EncodersOf2<O, P1, P2> = Encoders2<
-    O,
+pub type EncodersOf2<First, P1, P2> = Encoders2<
+    First,
     <P1 as HasEncoder>::Encoder,
     <P2 as HasEncoder>::Encoder,
 >;
 
-/// The decoders of two consecutive variants, starting with the number `O`. `P` is the tuple of their
-/// payloads, and the other type parameters are the decoders; `DecodersOf2` derives all of these from the payloads.
+/// The decoders of two consecutive variants, from the number `First` on. `P` is the tuple of their payloads, and the
+/// other type parameters are the decoders; `DecodersOf2` derives all of these from the payloads.
 #[derive(Drop)]
-pub struct Decoders2<O, P, D1, D2> {
+pub struct Decoders2<First, P, D1, D2> {
     first: D1,
     second: D2,
-    of: PhantomData<(O, P)>,
+    of: PhantomData<(First, P)>,
 }
 
 /// The decoders of two consecutive variants, given the types of their payloads.
-pub type DecodersOf2<'a, O, P1, P2> = Decoders2<
-    O,
+pub type DecodersOf2<'a, First, P1, P2> = Decoders2<
+    First,
     (P1, P2),
     <P1 as HasDecoder<'a>>::Decoder,
     <P2 as HasDecoder<'a>>::Decoder,
@@ -60,12 +59,12 @@ pub enum OneOf2<P1, P2> {
     Second(P2),
 }
 
-/// An enum with two consecutive variants, starting with the number `O`. The other type parameters are their
-/// payloads: `()` for a variant without fields, the field for a variant with one, and otherwise the tuple of the
+/// An enum with two consecutive variants, from the number `First` to the one before `End`. The type parameters are
+/// their payloads: `()` for a variant without fields, the field for a variant with one, and otherwise the tuple of the
 /// fields. For an enum with two variants:
 ///
 /// ```rust,from:crates/bitcode_own_types/src/two.rt
-/// impl Variants2<At<0>, u8, i8> for Two {
+/// impl Variants2<At<0>, At<2>, u8, i8> for Two {
 ///     ghost values = { (λ p. Two.A p, λ p. Two.B p) };
 ///
 ///     fn of_payload(payload: OneOf2<u8, i8>) -> Self
@@ -80,10 +79,11 @@ pub enum OneOf2<P1, P2> {
 ///     ghost are = { (
 ///       is_variant refl (λ p. refl) (λ p old new h. h) (λ p old h. h) (λ p old new h. h),
 ///       is_variant refl (λ p. refl) (λ p old new h. h) (λ p old h. h) (λ p old new h. h),
+///       refl,
 ///     ) };
 /// }
 /// ```
-pub trait Variants2<O: Place, P1: Made, P2: Made>: Enum {
+pub trait Variants2<First: VariantNumber, End: VariantNumber, P1: Shaped, P2: Shaped>: Enum {
     // the value with a payload, for each of these variants
     ghost values: { (P1 → Self) × (P2 → Self) };
 
@@ -91,12 +91,13 @@ pub trait Variants2<O: Place, P1: Made, P2: Made>: Enum {
     fn of_payload(payload: OneOf2<P1, P2>) -> Self
         ensures { result ≡ of_one_of_2 values.0 values.1 payload };
 
-    // these are the variants with the numbers from `O` on
-    ghost are: { IsVariant Self.Enum.each.variants O.first P1.shape P1.lists P1.makes values.0
-        × IsVariant Self.Enum.each.variants (O.first + 1) P2.shape P2.lists P2.makes values.1 };
+    // these are the variants with the numbers from `First` on, and no others stand before `End`
+    ghost are: { IsVariant Self.Enum.each.variants First.value P1.data.shape P1.data.lists
+        P1.data.makes values.0 × IsVariant Self.Enum.each.variants (First.value + 1) P2.data.shape
+        P2.data.lists P2.data.makes values.1 × (First.value + 2 ≡ End.value) };
 }
 
-impl<O: Place, E1: Buffer, E2: Buffer> Encoders2<O, E1, E2> {
+impl<First: VariantNumber, E1: Buffer, E2: Buffer> Encoders2<First, E1, E2> {
     /// Reserves room for the payload of a value of the first variant, and appends it to that variant's columns.
     ///
     /// Errors: those of [`WritesVariants::write`].
@@ -104,33 +105,34 @@ impl<O: Place, E1: Buffer, E2: Buffer> Encoders2<O, E1, E2> {
     /// ```text
     /// Order::First(field) => to.encode_first(self, &field),
     /// ```
-    pub fn encode_first<P1: Made, P2: Made, T: Variants2<O, P1, P2>, F: Fields<Whole = P1>>(
-        &mut self,
-        t: &T,
-        fields: &F,
-    ) -> Result<(), Error>
+    pub fn encode_first<
+        End: VariantNumber,
+        P2: Shaped,
+        T: Variants2<First, End, F::Whole, P2>,
+        F: Fields,
+    >(&mut self, t: &T, fields: &F) -> Result<(), Error>
     where
-        E1: Encoder<P1> + FieldsEncoder<F>,
+        E1: Encoder<F::Whole> + FieldsEncoder<F>,
         requires { t.now ≡ T.values.0 (F.whole fields.now) }
-        ensures others { KeepsOthers no_columns (T.each.variants.index t.now - O.first)
-            (⟦<Encoders2<O, E1, E2> as VariantColumns>⟧.columns.lists self.old)
-            (⟦<Encoders2<O, E1, E2> as VariantColumns>⟧.columns.lists self.new) }
+        ensures others { KeepsOthers no_columns (T.each.variants.index t.now - First.value)
+            (⟦<Encoders2<First, E1, E2> as VariantColumns>⟧.columns.lists self.old)
+            (⟦<Encoders2<First, E1, E2> as VariantColumns>⟧.columns.lists self.new) }
         ensures joined { OnOk result
             (T.each.variants.joins t.now
-            (columns_at (T.each.variants.index t.now - O.first)
-            (⟦<Encoders2<O, E1, E2> as VariantColumns>⟧.columns.lists self.old))
-            (columns_at (T.each.variants.index t.now - O.first)
-            (⟦<Encoders2<O, E1, E2> as VariantColumns>⟧.columns.lists self.new))) }
+            (columns_at (T.each.variants.index t.now - First.value)
+            (⟦<Encoders2<First, E1, E2> as VariantColumns>⟧.columns.lists self.old))
+            (columns_at (T.each.variants.index t.now - First.value)
+            (⟦<Encoders2<First, E1, E2> as VariantColumns>⟧.columns.lists self.new))) }
         ensures form { emptied
-            (columns_at (T.each.variants.index t.now - O.first)
-            (⟦<Encoders2<O, E1, E2> as VariantColumns>⟧.columns.lists self.new)) ≡ emptied
-            (columns_at (T.each.variants.index t.now - O.first)
-            (⟦<Encoders2<O, E1, E2> as VariantColumns>⟧.columns.lists self.old)) }
+            (columns_at (T.each.variants.index t.now - First.value)
+            (⟦<Encoders2<First, E1, E2> as VariantColumns>⟧.columns.lists self.new)) ≡ emptied
+            (columns_at (T.each.variants.index t.now - First.value)
+            (⟦<Encoders2<First, E1, E2> as VariantColumns>⟧.columns.lists self.old)) }
         ensures refused { IfErr result
             (λ e. IsWritingRefusal e.reason
             (T.each.variants.overflows t.now
-            (columns_at (T.each.variants.index t.now - O.first)
-            (⟦<Encoders2<O, E1, E2> as VariantColumns>⟧.columns.lists self.old)))) }
+            (columns_at (T.each.variants.index t.now - First.value)
+            (⟦<Encoders2<First, E1, E2> as VariantColumns>⟧.columns.lists self.old)))) }
     {
         encode_payload_fields(&mut self.first, fields)
     }
@@ -142,45 +144,40 @@ impl<O: Place, E1: Buffer, E2: Buffer> Encoders2<O, E1, E2> {
     /// ```text
     /// Order::Second(field) => to.encode_second(self, &field),
     /// ```
-    pub fn encode_second<P1: Made, P2: Made, T: Variants2<O, P1, P2>, F: Fields<Whole = P2>>(
-        &mut self,
-        t: &T,
-        fields: &F,
-    ) -> Result<(), Error>
+    pub fn encode_second<
+        End: VariantNumber,
+        P1: Shaped,
+        T: Variants2<First, End, P1, F::Whole>,
+        F: Fields,
+    >(&mut self, t: &T, fields: &F) -> Result<(), Error>
     where
-        E2: Encoder<P2> + FieldsEncoder<F>,
+        E2: Encoder<F::Whole> + FieldsEncoder<F>,
         requires { t.now ≡ T.values.1 (F.whole fields.now) }
-        ensures others { KeepsOthers no_columns (T.each.variants.index t.now - O.first)
-            (⟦<Encoders2<O, E1, E2> as VariantColumns>⟧.columns.lists self.old)
-            (⟦<Encoders2<O, E1, E2> as VariantColumns>⟧.columns.lists self.new) }
+        ensures others { KeepsOthers no_columns (T.each.variants.index t.now - First.value)
+            (⟦<Encoders2<First, E1, E2> as VariantColumns>⟧.columns.lists self.old)
+            (⟦<Encoders2<First, E1, E2> as VariantColumns>⟧.columns.lists self.new) }
         ensures joined { OnOk result
             (T.each.variants.joins t.now
-            (columns_at (T.each.variants.index t.now - O.first)
-            (⟦<Encoders2<O, E1, E2> as VariantColumns>⟧.columns.lists self.old))
-            (columns_at (T.each.variants.index t.now - O.first)
-            (⟦<Encoders2<O, E1, E2> as VariantColumns>⟧.columns.lists self.new))) }
+            (columns_at (T.each.variants.index t.now - First.value)
+            (⟦<Encoders2<First, E1, E2> as VariantColumns>⟧.columns.lists self.old))
+            (columns_at (T.each.variants.index t.now - First.value)
+            (⟦<Encoders2<First, E1, E2> as VariantColumns>⟧.columns.lists self.new))) }
         ensures form { emptied
-            (columns_at (T.each.variants.index t.now - O.first)
-            (⟦<Encoders2<O, E1, E2> as VariantColumns>⟧.columns.lists self.new)) ≡ emptied
-            (columns_at (T.each.variants.index t.now - O.first)
-            (⟦<Encoders2<O, E1, E2> as VariantColumns>⟧.columns.lists self.old)) }
+            (columns_at (T.each.variants.index t.now - First.value)
+            (⟦<Encoders2<First, E1, E2> as VariantColumns>⟧.columns.lists self.new)) ≡ emptied
+            (columns_at (T.each.variants.index t.now - First.value)
+            (⟦<Encoders2<First, E1, E2> as VariantColumns>⟧.columns.lists self.old)) }
         ensures refused { IfErr result
             (λ e. IsWritingRefusal e.reason
             (T.each.variants.overflows t.now
-            (columns_at (T.each.variants.index t.now - O.first)
-            (⟦<Encoders2<O, E1, E2> as VariantColumns>⟧.columns.lists self.old)))) }
+            (columns_at (T.each.variants.index t.now - First.value)
+            (⟦<Encoders2<First, E1, E2> as VariantColumns>⟧.columns.lists self.old)))) }
     {
         encode_payload_fields(&mut self.second, fields)
     }
 }
 
-impl<O: Place, E1: Buffer, E2: Buffer> VariantColumns for Encoders2<O, E1, E2> {
-    ghost first = { O.first };
-
-    ghost end = { O.first + 2 };
-
-    ghost in_turn = { true };
-
+impl<First: VariantNumber, E1: Buffer, E2: Buffer> VariantColumns for Encoders2<First, E1, E2> {
     ghost columns = { record {
       lists = λ e. E1.columns e.first ∷ E2.columns e.second ∷ [];
       capacity = λ e. E1.capacity e.first + E2.capacity e.second;
@@ -194,50 +191,31 @@ impl<O: Place, E1: Buffer, E2: Buffer> VariantColumns for Encoders2<O, E1, E2> {
         }
     }
 
-    fn first(&self) -> usize {
-        O::first()
+    fn collect_all(&mut self, out: &mut Vec<u8>) -> Result<(), Error> {
+        self.first.collect_into(out)?;
+        self.second.collect_into(out)
     }
 
-    fn collect_payloads(&mut self, number: usize, out: &mut Vec<u8>) -> Result<(), Error> {
-        match number - O::first() {
-            0 => self.first.collect_into(out),
-            1 => self.second.collect_into(out),
-            _ => unreachable!(),
-        }
+    fn clear_all(&mut self) {
+        self.first.clear();
+        self.second.clear();
     }
-
-    fn clear_payloads(&mut self, number: usize) {
-        match number - O::first() {
-            0 => self.first.clear(),
-            1 => self.second.clear(),
-            _ => unreachable!(),
-        }
-    }
-
-    ghost ordered = { λ turn. not_past O.first 2 };
-
-    ghost sized = { λ turn e. size_between O.first 2 };
 }
 
 impl<
     'a,
-    O: Place,
-    P1: Made,
-    P2: Made,
+    First: VariantNumber,
+    End: VariantNumber,
+    P1: Shaped,
+    P2: Shaped,
     D1: View<'a> + Decoder<P1>,
     D2: View<'a> + Decoder<P2>,
-    T: Variants2<O, P1, P2>,
-> VariantPayloads<'a, T> for Decoders2<O, (P1, P2), D1, D2> {
-    ghost first = { O.first };
-
-    ghost end = { O.first + 2 };
-
-    ghost in_turn = { true };
-
+    T: Variants2<First, End, P1, P2>,
+> VariantPayloads<'a, First, End, T> for Decoders2<First, (P1, P2), D1, D2> {
     ghost held = { record {
       lists = λ d. D1.held d.first ∷ D2.held d.second ∷ [];
       owned = λ d. D1.owned d.first + D2.owned d.second;
-      faults = λ n. (fault_and D1.faults (fault_and D2.faults (no_faults))) (n - O.first);
+      faults = λ n. (fault_and D1.faults (fault_and D2.faults (no_faults))) (n - First.value);
       makes_free = D1.makes_free && D2.makes_free;
     } };
 
@@ -249,26 +227,22 @@ impl<
         }
     }
 
-    fn first(&self) -> usize {
-        O::first()
-    }
-
-    fn read_payloads(
+    fn read_at(
         &mut self,
         number: usize,
         input: &mut &'a [u8],
         k: usize,
         strict: bool,
     ) -> Result<bool, Error> {
-        match number - O::first() {
+        match number - First::value() {
             0 => self.first.read(input, k, strict),
             1 => self.second.read(input, k, strict),
             _ => unreachable!(),
         }
     }
 
-    fn decode_payload(&mut self, number: usize) -> Result<T, Error> {
-        match number - O::first() {
+    fn decode_at(&mut self, number: usize) -> Result<T, Error> {
+        match number - First::value() {
             0 => Ok(T::of_payload(OneOf2::First(self.first.decode()?))),
             1 => Ok(T::of_payload(OneOf2::Second(self.second.decode()?))),
             _ => unreachable!(),

@@ -11,7 +11,7 @@ use crate::choices::variant::{VariantDecoder, VariantEncoder};
 use bitcode_coder::coder::{Buffer, Decoder, Encoder, HoldsColumns, MAX_VECTORED_CHUNK};
 use bitcode_coder::part::Part;
 use bitcode_memory::error::Error;
-use bitcode_shapes::bare_variants::{BareMade, BareShaped, BareVariants};
+use bitcode_shapes::bare_variants::{BareShaped, BareVariants};
 use std::alloc::Global;
 
 /// The columns of an enum of `N` variants without payloads, 2 to 256 of them: only the column of the variants.
@@ -101,7 +101,7 @@ impl<const N: usize, T: BareShaped<N>> Encoder<T> for BareEncoder<N> {
     ghost surely = { λ e n h. absurd h };
 }
 
-impl<'a, const N: usize, const C_STYLE: bool, T: BareMade<N>> Decoder<T>
+impl<'a, const N: usize, const C_STYLE: bool, T: BareShaped<N>> Decoder<T>
     for VariantDecoder<'a, N, C_STYLE> {
     ghost makes_free = { true };
 

@@ -17,7 +17,7 @@ use bitcode_coder::coder::{
 use bitcode_coder::one::write_one;
 use bitcode_coder::part::Part;
 use bitcode_memory::error::Error;
-use bitcode_shapes::shaped::{Made, Shaped};
+use bitcode_shapes::shaped::Shaped;
 use std::alloc::Global;
 
 mod gathered;
@@ -164,7 +164,7 @@ impl<'a, D: View<'a>> View<'a> for OptionDecoder<'a, D> {
     }
 }
 
-impl<'a, T: Made, D: Decoder<T>> Decoder<Option<T>> for OptionDecoder<'a, D> {
+impl<'a, T: Shaped, D: Decoder<T>> Decoder<Option<T>> for OptionDecoder<'a, D> {
     ghost makes_free = { D.makes_free };
 
     fn decode(&mut self) -> Result<Option<T>, Error> {

@@ -10,7 +10,7 @@ ghost use Rattle.bitcode_parts.specs.Variants.{variant_room, variant_capacity, v
 use crate::choices::variant::{VariantDecoder, VariantEncoder, encode_payload};
 use bitcode_coder::coder::{Buffer, Decoder, Encoder, HoldsColumns, HoldsData, View, both};
 use bitcode_memory::error::Error;
-use bitcode_shapes::shaped::{Made, Shaped};
+use bitcode_shapes::shaped::Shaped;
 use std::alloc::Global;
 
 /// The encoder of results: which of them are errors, followed by the columns of the values, and then of the errors.
@@ -131,7 +131,7 @@ impl<'a, A: View<'a>, B: View<'a>> View<'a> for ResultDecoder<'a, A, B> {
     }
 }
 
-impl<'a, T: Made, E: Made, A: Decoder<T>, B: Decoder<E>> Decoder<Result<T, E>>
+impl<'a, T: Shaped, E: Shaped, A: Decoder<T>, B: Decoder<E>> Decoder<Result<T, E>>
     for ResultDecoder<'a, A, B> {
     ghost makes_free = { A.makes_free && B.makes_free };
 

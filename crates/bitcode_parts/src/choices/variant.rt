@@ -258,11 +258,12 @@ pub fn encode_payload<T: Shaped, E: Buffer + Encoder<T>>(
     t: &T,
 ) -> Result<(), Error>
     ensures joined { OnOk result
-        (JoinsListing T.lists T.shape t.now (E.columns encoder.old) (E.columns encoder.new)) }
+        (JoinsListing T.data.lists T.data.shape t.now (E.columns encoder.old)
+        (E.columns encoder.new)) }
     ensures form { emptied (E.columns encoder.new) ≡ emptied (E.columns encoder.old) }
     ensures refused { IfErr result
         (λ e. IsWritingRefusal e.reason
-        (OverflowsWithListing T.lists T.shape t.now (E.columns encoder.old))) }
+        (OverflowsWithListing T.data.lists T.data.shape t.now (E.columns encoder.old))) }
 {
     t.told();
     encoder.reserve(1)?;
@@ -281,12 +282,12 @@ pub fn encode_payloads<T: Shaped, E: Buffer + Encoder<T>>(
 ) -> Result<(), Error>
     requires { (0 < length several.now) × (length several.now ≤ MAX_VECTORED_CHUNK) }
     ensures joined { OnOk result
-        (JoinsEach T.lists T.shape (map (λ t. t.now) several.now) (E.columns encoder.old)
+        (JoinsEach T.data.lists T.data.shape (map (λ t. t.now) several.now) (E.columns encoder.old)
         (E.columns encoder.new)) }
     ensures form { emptied (E.columns encoder.new) ≡ emptied (E.columns encoder.old) }
     ensures refused { IfErr result
         (λ e. IsWritingRefusal e.reason
-        (OverflowsWithEach T.lists T.shape (map (λ t. t.now) several.now)
+        (OverflowsWithEach T.data.lists T.data.shape (map (λ t. t.now) several.now)
         (E.columns encoder.old))) }
 {
     told_behind(several);

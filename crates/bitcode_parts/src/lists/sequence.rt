@@ -16,7 +16,7 @@ ghost use Rattle.bitcode_parts.specs.Elements.{MakesOfElements};
 
 use bitcode_coder::coder::{Decoder, Encoder};
 use bitcode_memory::error::{Error, Reason};
-use bitcode_shapes::shaped::{Made, Shaped};
+use bitcode_shapes::shaped::Shaped;
 use std::alloc::Global;
 use std::collections::{LinkedList, VecDeque, linked_list, vec_deque};
 use std::slice;
@@ -78,15 +78,15 @@ pub fn encode_lent<'b, T: Shaped + 'b, L: Lends<'b, T>, E: Encoder<T>>(
     mut lent: L,
 ) -> Result<(), Error>
     requires room { length (L.rest lent) ≤ E.room elements.old }
-    requires values { All T.is_value (L.rest lent) }
+    requires values { All T.data.is_value (L.rest lent) }
     ensures joined { OnOk result
-        (JoinsEach T.lists T.shape (L.rest lent) (E.columns elements.old)
+        (JoinsEach T.data.lists T.data.shape (L.rest lent) (E.columns elements.old)
         (E.columns elements.new)) }
     ensures room { OnOk result (E.room elements.old ≤ E.room elements.new + length (L.rest lent)) }
     ensures form { emptied (E.columns elements.new) ≡ emptied (E.columns elements.old) }
     ensures refused { IfErr result
         (λ e. IsWritingRefusal e.reason
-        (OverflowsWithEach T.lists T.shape (L.rest lent) (E.columns elements.old))) }
+        (OverflowsWithEach T.data.lists T.data.shape (L.rest lent) (E.columns elements.old))) }
     ensures free { IsTrue E.writes_free → IfErr result (λ e. e.reason ≢ Reason.OutOfMemory) }
     ensures none { length (L.rest lent) ≡ 0 → IsOk result }
 {
@@ -109,12 +109,13 @@ pub fn encode_lent<'b, T: Shaped + 'b, L: Lends<'b, T>, E: Encoder<T>>(
 pub fn encode_each<T: Shaped, E: Encoder<T>>(elements: &mut E, items: &[T]) -> Result<(), Error>
     requires { length items.now ≤ E.room elements.old }
     ensures joined { OnOk result
-        (JoinsEach T.lists T.shape items.now (E.columns elements.old) (E.columns elements.new)) }
+        (JoinsEach T.data.lists T.data.shape items.now (E.columns elements.old)
+        (E.columns elements.new)) }
     ensures room { OnOk result (E.room elements.old ≤ E.room elements.new + length items.now) }
     ensures form { emptied (E.columns elements.new) ≡ emptied (E.columns elements.old) }
     ensures refused { IfErr result
         (λ e. IsWritingRefusal e.reason
-        (OverflowsWithEach T.lists T.shape items.now (E.columns elements.old))) }
+        (OverflowsWithEach T.data.lists T.data.shape items.now (E.columns elements.old))) }
     ensures free { IsTrue E.writes_free → IfErr result (λ e. e.reason ≢ Reason.OutOfMemory) }
     ensures none { length items.now ≡ 0 → IsOk result }
 {
@@ -132,14 +133,15 @@ pub fn encode_each<T: Shaped, E: Encoder<T>>(elements: &mut E, items: &[T]) -> R
 /// let items: Vec<u8> = decode_each(alloc, &mut elements, 3)?;
 /// assert_eq!(rt; items.as_slice(), [1, 2, 3].as_slice());
 /// ```
-pub fn decode_each<T: Made + Drop, D: Decoder<T>>(
+pub fn decode_each<T: Shaped + Drop, D: Decoder<T>>(
     alloc: Global,
     elements: &mut D,
     count: usize,
 ) -> Result<Vec<T>, Error>
     requires { count ≤ length (D.held elements.old) }
     ensures made { IfOk result
-        (λ items. TakesEach T.makes count items.items (D.held elements.old) (D.held elements.new)) }
+        (λ items. TakesEach T.data.makes count items.items (D.held elements.old)
+        (D.held elements.new)) }
     ensures refused { IfErr result (λ e. e.reason ≡ Reason.OutOfMemory) }
     ensures none { count ≡ 0 → IsOk result }
 {
@@ -178,16 +180,16 @@ pub trait Sequence: Shaped {
     /// Errors: those of the encoder. Some of the first elements may have been written by then.
     fn encode_elements<E: Encoder<Self::Element>>(&self, elements: &mut E) -> Result<(), Error>
         requires room { length (items self.now) ≤ E.room elements.old }
-        requires values { All Self.Element.is_value (items self.now) }
+        requires values { All Self.Element.data.is_value (items self.now) }
         ensures joined { OnOk result
-            (JoinsEach Self.Element.lists Self.Element.shape (items self.now)
+            (JoinsEach Self.Element.data.lists Self.Element.data.shape (items self.now)
             (E.columns elements.old) (E.columns elements.new)) }
         ensures room { OnOk result
             (E.room elements.old ≤ E.room elements.new + length (items self.now)) }
         ensures form { emptied (E.columns elements.new) ≡ emptied (E.columns elements.old) }
         ensures refused { IfErr result
             (λ e. IsWritingRefusal e.reason
-            (OverflowsWithEach Self.Element.lists Self.Element.shape (items self.now)
+            (OverflowsWithEach Self.Element.data.lists Self.Element.data.shape (items self.now)
             (E.columns elements.old))) };
 
     /// Appends the columns of the elements to `out`, if `Self` implements this call and the encoder can do so without a
@@ -202,7 +204,8 @@ pub trait Sequence: Shaped {
     ) -> Result<bool, Error>
         requires { E.columns _elements.now ≡ emptied (E.columns _elements.now) }
         ensures written { IfOk result
-            (λ done. IsTrue done → WritesEach Self.Element.lists Self.Element.shape (items self.now)
+            (λ done. IsTrue done → WritesEach Self.Element.data.lists Self.Element.data.shape
+            (items self.now)
             (E.columns _elements.now) _out.old.items _out.new.items) }
         ensures unchanged { IfOk result (λ done. IsFalse done → _out.new.items ≡ _out.old.items) }
         ensures begins { BeginsWith _out.old.items _out.new.items }
@@ -211,13 +214,15 @@ pub trait Sequence: Shaped {
         Ok(false)
     }
 
-    ghost items_are: { (t : Self) → Self.is_value t → All Self.Element.is_value (items t) };
+    ghost items_are: { (t : Self) → Self.data.is_value t
+        → All Self.Element.data.is_value (items t) };
 
-    ghost items_list: { (t : Self) (d : Datum) → ListsSequence Self.Element.lists (items t) d
-        → Self.lists t d };
+    ghost items_list: { (t : Self) (d : Datum) → ListsSequence Self.Element.data.lists (items t) d
+        → Self.data.lists t d };
 
     ghost items_columns: { (ds : List Datum)
-        → written_columns Self.shape ds ≡ written_columns (seq_shape None Self.Element.shape) ds };
+        → written_columns Self.data.shape ds ≡ written_columns
+        (seq_shape None Self.Element.data.shape) ds };
 }
 
 impl<T: Shaped> Sequence for Vec<T> {
@@ -329,48 +334,50 @@ impl<T: Shaped> Sequence for LinkedList<T> {
 ///     }
 /// }
 /// ```
-pub trait FromElements: Made {
-    type Part: Made + Drop;
+pub trait FromElements: Shaped {
+    type Part: Shaped + Drop;
 
     /// Makes the value from these elements.
     ///
     /// The only error is `out of memory`.
     fn from_elements(alloc: Global, elements: Vec<Self::Part>) -> Result<Self, Error>
         ensures made { IfOk result
-            (λ t. MakesOfElements Self.makes Self.Part.makes t elements.items) }
+            (λ t. MakesOfElements Self.data.makes Self.Part.data.makes t elements.items) }
         ensures refused { IfErr result (λ e. e.reason ≡ Reason.OutOfMemory) };
 }
 
-impl<T: Made + Drop> FromElements for Vec<T> {
+impl<T: Shaped + Drop> FromElements for Vec<T> {
     type Part = T;
 
     fn from_elements(_alloc: Global, elements: Vec<T>) -> Result<Vec<T>, Error>
         ensures made { IfOk result
-            (λ t. MakesOfElements ⟦<Vec<T> as Made>⟧.makes T.makes t elements.items) }
+            (λ t. MakesOfElements ⟦<Vec<T> as Shaped>⟧.data.makes T.data.makes t elements.items) }
         ensures refused { IfErr result (λ e. e.reason ≡ Reason.OutOfMemory) }
     {
         Ok(elements)
     }
 }
 
-impl<T: Made + Drop> FromElements for VecDeque<T> {
+impl<T: Shaped + Drop> FromElements for VecDeque<T> {
     type Part = T;
 
     fn from_elements(_alloc: Global, elements: Vec<T>) -> Result<VecDeque<T>, Error>
         ensures made { IfOk result
-            (λ t. MakesOfElements ⟦<VecDeque<T> as Made>⟧.makes T.makes t elements.items) }
+            (λ t. MakesOfElements ⟦<VecDeque<T> as Shaped>⟧.data.makes T.data.makes t
+            elements.items) }
         ensures refused { IfErr result (λ e. e.reason ≡ Reason.OutOfMemory) }
     {
         Ok(VecDeque::from(elements))
     }
 }
 
-impl<T: Made + Drop> FromElements for LinkedList<T> {
+impl<T: Shaped + Drop> FromElements for LinkedList<T> {
     type Part = T;
 
     fn from_elements(alloc: Global, elements: Vec<T>) -> Result<LinkedList<T>, Error>
         ensures made { IfOk result
-            (λ t. MakesOfElements ⟦<LinkedList<T> as Made>⟧.makes T.makes t elements.items) }
+            (λ t. MakesOfElements ⟦<LinkedList<T> as Shaped>⟧.data.makes T.data.makes t
+            elements.items) }
         ensures refused { IfErr result (λ e. e.reason ≡ Reason.OutOfMemory) }
     {
         let mut list = LinkedList::new(alloc);

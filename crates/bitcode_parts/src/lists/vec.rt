@@ -19,7 +19,7 @@ use bitcode_coder::coder::{
 use bitcode_coder::length::{LengthDecoder, LengthEncoder};
 use bitcode_coder::part::{Part, told_parts};
 use bitcode_memory::error::{Error, Reason};
-use bitcode_shapes::shaped::Made;
+use bitcode_shapes::shaped::Shaped;
 use std::alloc::Global;
 use std::collections::{LinkedList, VecDeque};
 use std::mem::replace;
@@ -61,13 +61,13 @@ fn push_short<I, S: Sequence, W: Part<I, S>, E: Encoder<S::Element>>(
     requires elements { 15 * length items.now ≤ E.room elements.old }
     ensures count { IfOk result (λ p. p.count ≤ length items.now) }
     ensures joined { IfOk result
-        (λ p. JoinsEach S.lists S.shape (map (W.of which.now) (take p.count items.now))
+        (λ p. JoinsEach S.data.lists S.data.shape (map (W.of which.now) (take p.count items.now))
         (list_columns (written_lengths sizes) (E.columns elements.old))
         (list_columns (written_lengths p.lengths) (E.columns elements.new))) }
     ensures room { IfOk result (λ p. length_room sizes ≡ length_room p.lengths + p.count) }
     ensures form { emptied (E.columns elements.new) ≡ emptied (E.columns elements.old) }
     ensures refused { IfErr result (λ e. IsWritingRefusal e.reason
-        (OverflowsWithEach S.lists S.shape (map (W.of which.now) items.now)
+        (OverflowsWithEach S.data.lists S.data.shape (map (W.of which.now) items.now)
         (list_columns (written_lengths sizes) (E.columns elements.old)))) }
 {
     told_parts(items, which);
@@ -99,7 +99,8 @@ impl<E> VecEncoder<E> {
     where
         E: Buffer + Encoder<S::Element>,
         requires { length items.now ≤ length_room self.old.lengths }
-        ensures joined { OnOk result (JoinsEach S.lists S.shape (map (W.of which.now) items.now)
+        ensures joined { OnOk result
+            (JoinsEach S.data.lists S.data.shape (map (W.of which.now) items.now)
             (list_columns (written_lengths self.old.lengths) (E.columns self.old.elements))
             (list_columns (written_lengths self.new.lengths) (E.columns self.new.elements))) }
         ensures room { OnOk result
@@ -107,7 +108,7 @@ impl<E> VecEncoder<E> {
         ensures form { emptied (E.columns self.new.elements) ≡ emptied
             (E.columns self.old.elements) }
         ensures refused { IfErr result (λ e. IsWritingRefusal e.reason
-            (OverflowsWithEach S.lists S.shape (map (W.of which.now) items.now)
+            (OverflowsWithEach S.data.lists S.data.shape (map (W.of which.now) items.now)
             (list_columns (written_lengths self.old.lengths) (E.columns self.old.elements)))) }
     {
         told_parts(items, which);
@@ -130,7 +131,7 @@ impl<E> VecEncoder<E> {
         requires room { length items.now ≤ length_room self.old.lengths }
         ensures count { IfOk result (λ n. n ≤ length items.now) }
         ensures joined { IfOk result
-            (λ n. JoinsEach S.lists S.shape (map (W.of which.now) (take n items.now))
+            (λ n. JoinsEach S.data.lists S.data.shape (map (W.of which.now) (take n items.now))
             (list_columns (written_lengths self.old.lengths) (E.columns self.old.elements))
             (list_columns (written_lengths self.new.lengths) (E.columns self.new.elements))) }
         ensures room { IfOk result
@@ -138,7 +139,7 @@ impl<E> VecEncoder<E> {
         ensures form { emptied (E.columns self.new.elements) ≡ emptied
             (E.columns self.old.elements) }
         ensures refused { IfErr result (λ e. IsWritingRefusal e.reason
-            (OverflowsWithEach S.lists S.shape (map (W.of which.now) items.now)
+            (OverflowsWithEach S.data.lists S.data.shape (map (W.of which.now) items.now)
             (list_columns (written_lengths self.old.lengths) (E.columns self.old.elements)))) }
     {
         if self.elements.reserve(15 * items.len()).is_err() {
@@ -292,7 +293,7 @@ impl<'a, D> VecDecoder<'a, D> {
         requires { 0 < length
             (lists_of (lengths_left self.old.lengths) (D.held self.old.elements)) }
         ensures made { IfOk result
-            (λ t. TakesDatum C.makes t
+            (λ t. TakesDatum C.data.makes t
             (lists_of (lengths_left self.old.lengths) (D.held self.old.elements))
             (lists_of (lengths_left self.new.lengths) (D.held self.new.elements))) }
         ensures refused { IfErr result (λ e. e.reason ≡ Reason.OutOfMemory) }
@@ -303,7 +304,7 @@ impl<'a, D> VecDecoder<'a, D> {
     }
 }
 
-impl<'a, T: Made + Drop, D: Decoder<T>> Decoder<Vec<T>> for VecDecoder<'a, D> {
+impl<'a, T: Shaped + Drop, D: Decoder<T>> Decoder<Vec<T>> for VecDecoder<'a, D> {
     ghost makes_free = { false };
 
     fn decode(&mut self) -> Result<Vec<T>, Error> {
@@ -313,7 +314,7 @@ impl<'a, T: Made + Drop, D: Decoder<T>> Decoder<Vec<T>> for VecDecoder<'a, D> {
     ghost same_shape = { ap (seq_shape None) D.same_shape };
 }
 
-impl<'a, T: Made + Drop, D: Decoder<T>> Decoder<VecDeque<T>> for VecDecoder<'a, D> {
+impl<'a, T: Shaped + Drop, D: Decoder<T>> Decoder<VecDeque<T>> for VecDecoder<'a, D> {
     ghost makes_free = { false };
 
     fn decode(&mut self) -> Result<VecDeque<T>, Error> {
@@ -323,7 +324,7 @@ impl<'a, T: Made + Drop, D: Decoder<T>> Decoder<VecDeque<T>> for VecDecoder<'a, 
     ghost same_shape = { ap (seq_shape None) D.same_shape };
 }
 
-impl<'a, T: Made + Drop, D: Decoder<T>> Decoder<LinkedList<T>> for VecDecoder<'a, D> {
+impl<'a, T: Shaped + Drop, D: Decoder<T>> Decoder<LinkedList<T>> for VecDecoder<'a, D> {
     ghost makes_free = { false };
 
     fn decode(&mut self) -> Result<LinkedList<T>, Error> {

@@ -36,11 +36,12 @@ pub trait Points: Shaped {
     /// The value that is written.
     fn target(&self) -> &Self::Target
         ensures is { result.now ≡ points_to self.now }
-        ensures lists { ListsAsToo Self.lists Self.Target.lists self.now result.now };
+        ensures lists { ListsAsToo Self.data.lists Self.Target.data.lists self.now result.now };
 
-    ghost same_shape: { Self.shape ≡ Self.Target.shape };
+    ghost same_shape: { Self.data.shape ≡ Self.Target.data.shape };
 
-    ghost lists_too: { (p : Self) → ListsAsToo Self.lists Self.Target.lists p (points_to p) };
+    ghost lists_too: { (p : Self) → ListsAsToo Self.data.lists Self.Target.data.lists p
+        (points_to p) };
 }
 
 /// The columns of pointers: the columns of their targets, with the targets' encoder `E`.

@@ -1,14 +1,11 @@
 //! A struct of two fields, written by hand.
 ghost use Rattle.std.specs.Prelude.{true, min, refl, false, ◌+◌};
-ghost use Rattle.bitcode.specs.ByHand.{struct_lawful, struct_makeable, u32_lawful, u32_makeable, str_lawful};
-ghost use Rattle.bitcode.specs.ByHand.{str_makeable, struct_same_arrays, u32_same_arrays, str_same_arrays, two};
-ghost use Rattle.bitcode.specs.ByHand.{pairs_of};
+ghost use Rattle.bitcode.specs.ByHand.{data_as, pairs_of, two};
 ghost use Rattle.bitcode_test_support.specs.Foo.{foo_fields};
 
 use bitcode::coder::{Buffer, HoldsColumns, HoldsData, Result, both};
-use bitcode::own::SameArrays;
 use bitcode::{
-    Decoder, Encoder, HasDecoder, HasEncoder, IntDecoder, IntEncoder, Made, Shaped, StrDecoder,
+    Decoder, Encoder, HasDecoder, HasEncoder, IntDecoder, IntEncoder, Shaped, StrDecoder,
     StrEncoder, TupleDecoder, View,
 };
 use std::alloc::Global;
@@ -21,33 +18,13 @@ pub struct Foo<'a> {
 }
 
 impl<'a> Shaped for Foo<'a> {
-    ghost shape = { ⟦<(u32, &'a str) as Shaped>⟧.shape };
-
-    ghost is_value = { λ t. ⟦<(u32, &'a str) as Shaped>⟧.is_value (foo_fields t) };
-
-    ghost lists = { λ t d. ⟦<(u32, &'a str) as Shaped>⟧.lists (foo_fields t) d };
-
-    ghost same = { λ t u. ⟦<(u32, &'a str) as Shaped>⟧.same (foo_fields t) (foo_fields u) };
-
-    ghost in_order = { true };
+    ghost data = { data_as foo_fields (λ p. (record { x = p.0; y = p.1 }, refl)) (λ t. refl)
+        ⟦<(u32, &'a str) as Shaped>⟧.data };
 
     fn told(&self) {
         self.x.told();
         self.y.told();
     }
-
-    ghost lawful = { struct_lawful foo_fields u32_lawful str_lawful };
-}
-
-impl<'a> SameArrays for Foo<'a> {
-    ghost same_arrays = { struct_same_arrays foo_fields u32_same_arrays str_same_arrays };
-}
-
-impl<'a> Made for Foo<'a> {
-    ghost makes = { λ d t. ⟦<(u32, &'a str) as Made>⟧.makes d (foo_fields t) };
-
-    ghost makeable = { struct_makeable foo_fields (λ x y. (record { x = x; y = y }, refl))
-        u32_makeable str_makeable };
 }
 
 #[derive(Drop)]

@@ -1,14 +1,11 @@
 //! An enum of one variant, written by hand: it has the shape of its field.
 ghost use Rattle.std.specs.Prelude.{true, refl};
-ghost use Rattle.bitcode.specs.ByHand.{image_lawful, image_makeable, image_same_arrays, u8_lawful, u8_makeable};
-ghost use Rattle.bitcode.specs.ByHand.{u8_same_arrays};
-ghost use Rattle.bitcode_test_support.specs.One.{one_field, one_found};
+ghost use Rattle.bitcode.specs.ByHand.{data_as};
+ghost use Rattle.bitcode_test_support.specs.One.{one_again, one_field, one_found};
 
 use bitcode::coder::{Buffer, HoldsColumns, HoldsData, Result};
-use bitcode::own::SameArrays;
 use bitcode::{
-    DecodeOwned, Decoder, Encoder, HasDecoder, HasEncoder, IntDecoder, IntEncoder, Made, Shaped,
-    View,
+    DecodeOwned, Decoder, Encoder, HasDecoder, HasEncoder, IntDecoder, IntEncoder, Shaped, View,
 };
 use std::alloc::Global;
 
@@ -19,32 +16,12 @@ pub enum One {
 }
 
 impl Shaped for One {
-    ghost shape = { ⟦<u8 as Shaped>⟧.shape };
-
-    ghost is_value = { λ t. ⟦<u8 as Shaped>⟧.is_value (one_field t) };
-
-    ghost lists = { λ t d. ⟦<u8 as Shaped>⟧.lists (one_field t) d };
-
-    ghost same = { λ t u. ⟦<u8 as Shaped>⟧.same (one_field t) (one_field u) };
-
-    ghost in_order = { true };
+    ghost data = { data_as one_field one_found one_again ⟦<u8 as Shaped>⟧.data };
 
     fn told(&self) {
         let One::A(a) = self;
         a.told();
     }
-
-    ghost lawful = { image_lawful one_field u8_lawful };
-}
-
-impl SameArrays for One {
-    ghost same_arrays = { image_same_arrays one_field u8_same_arrays };
-}
-
-impl Made for One {
-    ghost makes = { λ d t. ⟦<u8 as Made>⟧.makes d (one_field t) };
-
-    ghost makeable = { image_makeable one_field (λ g a h. one_found a) u8_makeable };
 }
 
 #[derive(Drop)]
@@ -103,7 +80,7 @@ pub struct OneDecoder<'a> {
 }
 
 impl<'a> HoldsData for OneDecoder<'a> {
-    ghost shape = { ⟦<u8 as Shaped>⟧.shape };
+    ghost shape = { ⟦<u8 as Shaped>⟧.data.shape };
 
     ghost held = { λ d. ⟦<IntDecoder<'a, u8> as HoldsData>⟧.held d.a };
 

@@ -1,22 +1,13 @@
 //! An enum of two variants, written by hand.
 ghost use Rattle.std.specs.Prelude.{[], ◌∷◌, true, false, refl, ◌+◌};
-ghost use Rattle.std.proofs.Common.{lit≤};
-ghost use Rattle.bitcode.specs.ByHand.{choice_lawful, choice_makeable, first_lawful, first_makeable, last_lawful};
-ghost use Rattle.bitcode.specs.ByHand.{last_makeable, image_lawful, image_makeable};
-ghost use Rattle.bitcode.specs.ByHand.{u8_lawful, u8_makeable, i8_lawful, i8_makeable, choice_shape, shape_and};
-ghost use Rattle.bitcode.specs.ByHand.{no_shapes};
-ghost use Rattle.bitcode.specs.ByHand.{IsVariantValue, ListsChoice, ListsVariant, ListsLast, MakesChoice, MakesVariant};
-ghost use Rattle.bitcode.specs.ByHand.{MakesLast, SameVariant};
-ghost use Rattle.bitcode.specs.ByHand.{no_columns, two, choices_of, variant_room, variants_left, image_same_arrays};
-ghost use Rattle.bitcode.specs.ByHand.{choice_same_arrays, first_same_arrays, last_same_arrays, u8_same_arrays};
-ghost use Rattle.bitcode.specs.ByHand.{i8_same_arrays, variants_owned};
-ghost use Rattle.bitcode_test_support.specs.Two.{two_variant, two_found};
+ghost use Rattle.bitcode.specs.ByHand.{no_columns, two, choices_of, variant_room, variants_left, variants_owned};
+ghost use Rattle.bitcode_test_support.specs.Two.{two_data};
 
 use bitcode::coder::{Buffer, HoldsColumns, HoldsData, Result, both};
-use bitcode::own::{SameArrays, encode_payload};
+use bitcode::own::encode_payload;
 use bitcode::{
-    DecodeOwned, Decoder, Encoder, HasDecoder, HasEncoder, IntDecoder, IntEncoder, Made,
-    ResultDecoder, Shaped, VariantDecoder, VariantEncoder, View,
+    DecodeOwned, Decoder, Encoder, HasDecoder, HasEncoder, IntDecoder, IntEncoder, ResultDecoder,
+    Shaped, VariantDecoder, VariantEncoder, View,
 };
 use std::alloc::Global;
 
@@ -28,20 +19,7 @@ pub enum Two {
 }
 
 impl Shaped for Two {
-    ghost shape = { choice_shape
-        (shape_and ⟦<u8 as Shaped>⟧.shape (shape_and ⟦<i8 as Shaped>⟧.shape no_shapes)) };
-
-    ghost is_value = { λ t. IsVariantValue ⟦<u8 as Shaped>⟧.is_value ⟦<i8 as Shaped>⟧.is_value
-        (two_variant t) };
-
-    ghost lists = { λ t d. ListsChoice
-        (ListsVariant ⟦<u8 as Shaped>⟧.lists (ListsLast ⟦<i8 as Shaped>⟧.lists)) (two_variant t)
-        d };
-
-    ghost same = { λ t u. SameVariant ⟦<u8 as Shaped>⟧.same ⟦<i8 as Shaped>⟧.same (two_variant t)
-        (two_variant u) };
-
-    ghost in_order = { true };
+    ghost data = { two_data ⟦<u8 as Shaped>⟧.data ⟦<i8 as Shaped>⟧.data };
 
     fn told(&self) {
         match self {
@@ -49,22 +27,6 @@ impl Shaped for Two {
             Two::B(b) => b.told(),
         }
     }
-
-    ghost lawful = { image_lawful two_variant
-        (choice_lawful (lit≤ tt) (lit≤ tt) (first_lawful u8_lawful (last_lawful i8_lawful))) };
-}
-
-impl SameArrays for Two {
-    ghost same_arrays = { image_same_arrays two_variant
-        (choice_same_arrays (first_same_arrays u8_same_arrays (last_same_arrays i8_same_arrays))) };
-}
-
-impl Made for Two {
-    ghost makes = { λ d t. MakesChoice
-        (MakesVariant ⟦<u8 as Made>⟧.makes (MakesLast ⟦<i8 as Made>⟧.makes)) d (two_variant t) };
-
-    ghost makeable = { image_makeable two_variant (λ g v h. two_found v)
-        (choice_makeable (first_makeable u8_makeable (last_makeable i8_makeable))) };
 }
 
 #[derive(Drop)]

@@ -6,9 +6,9 @@ ghost use Rattle.bitcode_tuples.specs.PairLaws.{same_pair_shape};
 use crate::decoder::TupleDecoder;
 use bitcode_coder::coder::Decoder;
 use bitcode_memory::error::Error;
-use bitcode_shapes::shaped::Made;
+use bitcode_shapes::shaped::Shaped;
 
-impl<T1: Made + Drop, T2: Made, T3: Made, A: Decoder<T1>, B: Decoder<(T2, T3)>> Decoder<
+impl<T1: Shaped + Drop, T2: Shaped, T3: Shaped, A: Decoder<T1>, B: Decoder<(T2, T3)>> Decoder<
     (T1, T2, T3),
 > for TupleDecoder<A, B> {
     ghost makes_free = { A.makes_free && B.makes_free };
@@ -22,10 +22,10 @@ impl<T1: Made + Drop, T2: Made, T3: Made, A: Decoder<T1>, B: Decoder<(T2, T3)>> 
 }
 
 impl<
-    T1: Made + Drop,
-    T2: Made + Drop,
-    T3: Made,
-    T4: Made,
+    T1: Shaped + Drop,
+    T2: Shaped + Drop,
+    T3: Shaped,
+    T4: Shaped,
     A: Decoder<(T1, T2)>,
     B: Decoder<(T3, T4)>,
 > Decoder<(T1, T2, T3, T4)> for TupleDecoder<A, B> {
@@ -40,11 +40,11 @@ impl<
 }
 
 impl<
-    T1: Made + Drop,
-    T2: Made + Drop,
-    T3: Made,
-    T4: Made,
-    T5: Made,
+    T1: Shaped + Drop,
+    T2: Shaped + Drop,
+    T3: Shaped,
+    T4: Shaped,
+    T5: Shaped,
     A: Decoder<(T1, T2)>,
     B: Decoder<(T3, T4, T5)>,
 > Decoder<(T1, T2, T3, T4, T5)> for TupleDecoder<A, B> {
@@ -59,12 +59,12 @@ impl<
 }
 
 impl<
-    T1: Made + Drop,
-    T2: Made + Drop,
-    T3: Made + Drop,
-    T4: Made,
-    T5: Made,
-    T6: Made,
+    T1: Shaped + Drop,
+    T2: Shaped + Drop,
+    T3: Shaped + Drop,
+    T4: Shaped,
+    T5: Shaped,
+    T6: Shaped,
     A: Decoder<(T1, T2, T3)>,
     B: Decoder<(T4, T5, T6)>,
 > Decoder<(T1, T2, T3, T4, T5, T6)> for TupleDecoder<A, B> {
@@ -79,13 +79,13 @@ impl<
 }
 
 impl<
-    T1: Made + Drop,
-    T2: Made + Drop,
-    T3: Made + Drop,
-    T4: Made,
-    T5: Made,
-    T6: Made,
-    T7: Made,
+    T1: Shaped + Drop,
+    T2: Shaped + Drop,
+    T3: Shaped + Drop,
+    T4: Shaped,
+    T5: Shaped,
+    T6: Shaped,
+    T7: Shaped,
     A: Decoder<(T1, T2, T3)>,
     B: Decoder<(T4, T5, T6, T7)>,
 > Decoder<(T1, T2, T3, T4, T5, T6, T7)> for TupleDecoder<A, B> {
@@ -102,14 +102,14 @@ impl<
 }
 
 impl<
-    T1: Made + Drop,
-    T2: Made + Drop,
-    T3: Made + Drop,
-    T4: Made + Drop,
-    T5: Made,
-    T6: Made,
-    T7: Made,
-    T8: Made,
+    T1: Shaped + Drop,
+    T2: Shaped + Drop,
+    T3: Shaped + Drop,
+    T4: Shaped + Drop,
+    T5: Shaped,
+    T6: Shaped,
+    T7: Shaped,
+    T8: Shaped,
     A: Decoder<(T1, T2, T3, T4)>,
     B: Decoder<(T5, T6, T7, T8)>,
 > Decoder<(T1, T2, T3, T4, T5, T6, T7, T8)> for TupleDecoder<A, B> {

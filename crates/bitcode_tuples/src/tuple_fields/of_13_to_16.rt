@@ -1,7 +1,7 @@
 // Written by scripts/tables/tuples.
 //! The fields of tuples of thirteen to sixteen fields, and the nested pairs that they are encoded as.
 ghost use Rattle.std.specs.Prelude.{◌≡◌, refl};
-ghost use Rattle.bitcode_tuples.specs.FieldLaws.{listed_pair};
+ghost use Rattle.bitcode_tuples.specs.FieldLaws.{field_alike, pair_alike};
 
 use crate::encoder::TupleEncoder;
 use crate::has_field::{HasField, Nth};
@@ -12,8 +12,6 @@ use bitcode_shapes::shaped::Shaped;
 impl<A: Shaped, B, C, D, E, F, G, H, I, J, K, L, M> HasField<0>
     for (A, B, C, D, E, F, G, H, I, J, K, L, M) {
     type Field = A;
-
-    type Inside = ();
 
     ghost field = { λ t. t.0 };
 
@@ -26,8 +24,6 @@ impl<A, B: Shaped, C, D, E, F, G, H, I, J, K, L, M> HasField<1>
     for (A, B, C, D, E, F, G, H, I, J, K, L, M) {
     type Field = B;
 
-    type Inside = ();
-
     ghost field = { λ t. t.1.0 };
 
     fn field(&self) -> &B {
@@ -38,8 +34,6 @@ impl<A, B: Shaped, C, D, E, F, G, H, I, J, K, L, M> HasField<1>
 impl<A, B, C: Shaped, D, E, F, G, H, I, J, K, L, M> HasField<2>
     for (A, B, C, D, E, F, G, H, I, J, K, L, M) {
     type Field = C;
-
-    type Inside = ();
 
     ghost field = { λ t. t.1.1.0 };
 
@@ -52,8 +46,6 @@ impl<A, B, C, D: Shaped, E, F, G, H, I, J, K, L, M> HasField<3>
     for (A, B, C, D, E, F, G, H, I, J, K, L, M) {
     type Field = D;
 
-    type Inside = ();
-
     ghost field = { λ t. t.1.1.1.0 };
 
     fn field(&self) -> &D {
@@ -64,8 +56,6 @@ impl<A, B, C, D: Shaped, E, F, G, H, I, J, K, L, M> HasField<3>
 impl<A, B, C, D, E: Shaped, F, G, H, I, J, K, L, M> HasField<4>
     for (A, B, C, D, E, F, G, H, I, J, K, L, M) {
     type Field = E;
-
-    type Inside = ();
 
     ghost field = { λ t. t.1.1.1.1.0 };
 
@@ -78,8 +68,6 @@ impl<A, B, C, D, E, F: Shaped, G, H, I, J, K, L, M> HasField<5>
     for (A, B, C, D, E, F, G, H, I, J, K, L, M) {
     type Field = F;
 
-    type Inside = ();
-
     ghost field = { λ t. t.1.1.1.1.1.0 };
 
     fn field(&self) -> &F {
@@ -90,8 +78,6 @@ impl<A, B, C, D, E, F: Shaped, G, H, I, J, K, L, M> HasField<5>
 impl<A, B, C, D, E, F, G: Shaped, H, I, J, K, L, M> HasField<6>
     for (A, B, C, D, E, F, G, H, I, J, K, L, M) {
     type Field = G;
-
-    type Inside = ();
 
     ghost field = { λ t. t.1.1.1.1.1.1.0 };
 
@@ -104,8 +90,6 @@ impl<A, B, C, D, E, F, G, H: Shaped, I, J, K, L, M> HasField<7>
     for (A, B, C, D, E, F, G, H, I, J, K, L, M) {
     type Field = H;
 
-    type Inside = ();
-
     ghost field = { λ t. t.1.1.1.1.1.1.1.0 };
 
     fn field(&self) -> &H {
@@ -116,8 +100,6 @@ impl<A, B, C, D, E, F, G, H: Shaped, I, J, K, L, M> HasField<7>
 impl<A, B, C, D, E, F, G, H, I: Shaped, J, K, L, M> HasField<8>
     for (A, B, C, D, E, F, G, H, I, J, K, L, M) {
     type Field = I;
-
-    type Inside = ();
 
     ghost field = { λ t. t.1.1.1.1.1.1.1.1.0 };
 
@@ -130,8 +112,6 @@ impl<A, B, C, D, E, F, G, H, I, J: Shaped, K, L, M> HasField<9>
     for (A, B, C, D, E, F, G, H, I, J, K, L, M) {
     type Field = J;
 
-    type Inside = ();
-
     ghost field = { λ t. t.1.1.1.1.1.1.1.1.1.0 };
 
     fn field(&self) -> &J {
@@ -142,8 +122,6 @@ impl<A, B, C, D, E, F, G, H, I, J: Shaped, K, L, M> HasField<9>
 impl<A, B, C, D, E, F, G, H, I, J, K: Shaped, L, M> HasField<10>
     for (A, B, C, D, E, F, G, H, I, J, K, L, M) {
     type Field = K;
-
-    type Inside = ();
 
     ghost field = { λ t. t.1.1.1.1.1.1.1.1.1.1.0 };
 
@@ -156,8 +134,6 @@ impl<A, B, C, D, E, F, G, H, I, J, K, L: Shaped, M> HasField<11>
     for (A, B, C, D, E, F, G, H, I, J, K, L, M) {
     type Field = L;
 
-    type Inside = ();
-
     ghost field = { λ t. t.1.1.1.1.1.1.1.1.1.1.1.0 };
 
     fn field(&self) -> &L {
@@ -168,8 +144,6 @@ impl<A, B, C, D, E, F, G, H, I, J, K, L: Shaped, M> HasField<11>
 impl<A, B, C, D, E, F, G, H, I, J, K, L, M: Shaped> HasField<12>
     for (A, B, C, D, E, F, G, H, I, J, K, L, M) {
     type Field = M;
-
-    type Inside = ();
 
     ghost field = { λ t. t.1.1.1.1.1.1.1.1.1.1.1.1.0 };
 
@@ -229,24 +203,16 @@ impl<
 
     ghost same_shape = { refl };
 
-    ghost to_fields = { λ t. listed_pair
-        (listed_pair (listed_pair (λ d h. h) (listed_pair (λ d h. h) (λ d h. h)))
-        (listed_pair (λ d h. h) (listed_pair (λ d h. h) (λ d h. h))))
-        (listed_pair (listed_pair (λ d h. h) (listed_pair (λ d h. h) (λ d h. h)))
-        (listed_pair (listed_pair (λ d h. h) (λ d h. h)) (listed_pair (λ d h. h) (λ d h. h)))) };
-
-    ghost of_fields = { λ t. listed_pair
-        (listed_pair (listed_pair (λ d h. h) (listed_pair (λ d h. h) (λ d h. h)))
-        (listed_pair (λ d h. h) (listed_pair (λ d h. h) (λ d h. h))))
-        (listed_pair (listed_pair (λ d h. h) (listed_pair (λ d h. h) (λ d h. h)))
-        (listed_pair (listed_pair (λ d h. h) (λ d h. h)) (listed_pair (λ d h. h) (λ d h. h)))) };
+    ghost same_listings = { λ t. pair_alike
+        (pair_alike (pair_alike field_alike (pair_alike field_alike field_alike))
+        (pair_alike field_alike (pair_alike field_alike field_alike)))
+        (pair_alike (pair_alike field_alike (pair_alike field_alike field_alike))
+        (pair_alike (pair_alike field_alike field_alike) (pair_alike field_alike field_alike))) };
 }
 
 impl<A: Shaped, B, C, D, E, F, G, H, I, J, K, L, M, N> HasField<0>
     for (A, B, C, D, E, F, G, H, I, J, K, L, M, N) {
     type Field = A;
-
-    type Inside = ();
 
     ghost field = { λ t. t.0 };
 
@@ -259,8 +225,6 @@ impl<A, B: Shaped, C, D, E, F, G, H, I, J, K, L, M, N> HasField<1>
     for (A, B, C, D, E, F, G, H, I, J, K, L, M, N) {
     type Field = B;
 
-    type Inside = ();
-
     ghost field = { λ t. t.1.0 };
 
     fn field(&self) -> &B {
@@ -271,8 +235,6 @@ impl<A, B: Shaped, C, D, E, F, G, H, I, J, K, L, M, N> HasField<1>
 impl<A, B, C: Shaped, D, E, F, G, H, I, J, K, L, M, N> HasField<2>
     for (A, B, C, D, E, F, G, H, I, J, K, L, M, N) {
     type Field = C;
-
-    type Inside = ();
 
     ghost field = { λ t. t.1.1.0 };
 
@@ -285,8 +247,6 @@ impl<A, B, C, D: Shaped, E, F, G, H, I, J, K, L, M, N> HasField<3>
     for (A, B, C, D, E, F, G, H, I, J, K, L, M, N) {
     type Field = D;
 
-    type Inside = ();
-
     ghost field = { λ t. t.1.1.1.0 };
 
     fn field(&self) -> &D {
@@ -297,8 +257,6 @@ impl<A, B, C, D: Shaped, E, F, G, H, I, J, K, L, M, N> HasField<3>
 impl<A, B, C, D, E: Shaped, F, G, H, I, J, K, L, M, N> HasField<4>
     for (A, B, C, D, E, F, G, H, I, J, K, L, M, N) {
     type Field = E;
-
-    type Inside = ();
 
     ghost field = { λ t. t.1.1.1.1.0 };
 
@@ -311,8 +269,6 @@ impl<A, B, C, D, E, F: Shaped, G, H, I, J, K, L, M, N> HasField<5>
     for (A, B, C, D, E, F, G, H, I, J, K, L, M, N) {
     type Field = F;
 
-    type Inside = ();
-
     ghost field = { λ t. t.1.1.1.1.1.0 };
 
     fn field(&self) -> &F {
@@ -323,8 +279,6 @@ impl<A, B, C, D, E, F: Shaped, G, H, I, J, K, L, M, N> HasField<5>
 impl<A, B, C, D, E, F, G: Shaped, H, I, J, K, L, M, N> HasField<6>
     for (A, B, C, D, E, F, G, H, I, J, K, L, M, N) {
     type Field = G;
-
-    type Inside = ();
 
     ghost field = { λ t. t.1.1.1.1.1.1.0 };
 
@@ -337,8 +291,6 @@ impl<A, B, C, D, E, F, G, H: Shaped, I, J, K, L, M, N> HasField<7>
     for (A, B, C, D, E, F, G, H, I, J, K, L, M, N) {
     type Field = H;
 
-    type Inside = ();
-
     ghost field = { λ t. t.1.1.1.1.1.1.1.0 };
 
     fn field(&self) -> &H {
@@ -349,8 +301,6 @@ impl<A, B, C, D, E, F, G, H: Shaped, I, J, K, L, M, N> HasField<7>
 impl<A, B, C, D, E, F, G, H, I: Shaped, J, K, L, M, N> HasField<8>
     for (A, B, C, D, E, F, G, H, I, J, K, L, M, N) {
     type Field = I;
-
-    type Inside = ();
 
     ghost field = { λ t. t.1.1.1.1.1.1.1.1.0 };
 
@@ -363,8 +313,6 @@ impl<A, B, C, D, E, F, G, H, I, J: Shaped, K, L, M, N> HasField<9>
     for (A, B, C, D, E, F, G, H, I, J, K, L, M, N) {
     type Field = J;
 
-    type Inside = ();
-
     ghost field = { λ t. t.1.1.1.1.1.1.1.1.1.0 };
 
     fn field(&self) -> &J {
@@ -375,8 +323,6 @@ impl<A, B, C, D, E, F, G, H, I, J: Shaped, K, L, M, N> HasField<9>
 impl<A, B, C, D, E, F, G, H, I, J, K: Shaped, L, M, N> HasField<10>
     for (A, B, C, D, E, F, G, H, I, J, K, L, M, N) {
     type Field = K;
-
-    type Inside = ();
 
     ghost field = { λ t. t.1.1.1.1.1.1.1.1.1.1.0 };
 
@@ -389,8 +335,6 @@ impl<A, B, C, D, E, F, G, H, I, J, K, L: Shaped, M, N> HasField<11>
     for (A, B, C, D, E, F, G, H, I, J, K, L, M, N) {
     type Field = L;
 
-    type Inside = ();
-
     ghost field = { λ t. t.1.1.1.1.1.1.1.1.1.1.1.0 };
 
     fn field(&self) -> &L {
@@ -402,8 +346,6 @@ impl<A, B, C, D, E, F, G, H, I, J, K, L, M: Shaped, N> HasField<12>
     for (A, B, C, D, E, F, G, H, I, J, K, L, M, N) {
     type Field = M;
 
-    type Inside = ();
-
     ghost field = { λ t. t.1.1.1.1.1.1.1.1.1.1.1.1.0 };
 
     fn field(&self) -> &M {
@@ -414,8 +356,6 @@ impl<A, B, C, D, E, F, G, H, I, J, K, L, M: Shaped, N> HasField<12>
 impl<A, B, C, D, E, F, G, H, I, J, K, L, M, N: Shaped> HasField<13>
     for (A, B, C, D, E, F, G, H, I, J, K, L, M, N) {
     type Field = N;
-
-    type Inside = ();
 
     ghost field = { λ t. t.1.1.1.1.1.1.1.1.1.1.1.1.1.0 };
 
@@ -480,24 +420,16 @@ impl<
 
     ghost same_shape = { refl };
 
-    ghost to_fields = { λ t. listed_pair
-        (listed_pair (listed_pair (λ d h. h) (listed_pair (λ d h. h) (λ d h. h)))
-        (listed_pair (listed_pair (λ d h. h) (λ d h. h)) (listed_pair (λ d h. h) (λ d h. h))))
-        (listed_pair (listed_pair (λ d h. h) (listed_pair (λ d h. h) (λ d h. h)))
-        (listed_pair (listed_pair (λ d h. h) (λ d h. h)) (listed_pair (λ d h. h) (λ d h. h)))) };
-
-    ghost of_fields = { λ t. listed_pair
-        (listed_pair (listed_pair (λ d h. h) (listed_pair (λ d h. h) (λ d h. h)))
-        (listed_pair (listed_pair (λ d h. h) (λ d h. h)) (listed_pair (λ d h. h) (λ d h. h))))
-        (listed_pair (listed_pair (λ d h. h) (listed_pair (λ d h. h) (λ d h. h)))
-        (listed_pair (listed_pair (λ d h. h) (λ d h. h)) (listed_pair (λ d h. h) (λ d h. h)))) };
+    ghost same_listings = { λ t. pair_alike
+        (pair_alike (pair_alike field_alike (pair_alike field_alike field_alike))
+        (pair_alike (pair_alike field_alike field_alike) (pair_alike field_alike field_alike)))
+        (pair_alike (pair_alike field_alike (pair_alike field_alike field_alike))
+        (pair_alike (pair_alike field_alike field_alike) (pair_alike field_alike field_alike))) };
 }
 
 impl<A: Shaped, B, C, D, E, F, G, H, I, J, K, L, M, N, O> HasField<0>
     for (A, B, C, D, E, F, G, H, I, J, K, L, M, N, O) {
     type Field = A;
-
-    type Inside = ();
 
     ghost field = { λ t. t.0 };
 
@@ -510,8 +442,6 @@ impl<A, B: Shaped, C, D, E, F, G, H, I, J, K, L, M, N, O> HasField<1>
     for (A, B, C, D, E, F, G, H, I, J, K, L, M, N, O) {
     type Field = B;
 
-    type Inside = ();
-
     ghost field = { λ t. t.1.0 };
 
     fn field(&self) -> &B {
@@ -522,8 +452,6 @@ impl<A, B: Shaped, C, D, E, F, G, H, I, J, K, L, M, N, O> HasField<1>
 impl<A, B, C: Shaped, D, E, F, G, H, I, J, K, L, M, N, O> HasField<2>
     for (A, B, C, D, E, F, G, H, I, J, K, L, M, N, O) {
     type Field = C;
-
-    type Inside = ();
 
     ghost field = { λ t. t.1.1.0 };
 
@@ -536,8 +464,6 @@ impl<A, B, C, D: Shaped, E, F, G, H, I, J, K, L, M, N, O> HasField<3>
     for (A, B, C, D, E, F, G, H, I, J, K, L, M, N, O) {
     type Field = D;
 
-    type Inside = ();
-
     ghost field = { λ t. t.1.1.1.0 };
 
     fn field(&self) -> &D {
@@ -548,8 +474,6 @@ impl<A, B, C, D: Shaped, E, F, G, H, I, J, K, L, M, N, O> HasField<3>
 impl<A, B, C, D, E: Shaped, F, G, H, I, J, K, L, M, N, O> HasField<4>
     for (A, B, C, D, E, F, G, H, I, J, K, L, M, N, O) {
     type Field = E;
-
-    type Inside = ();
 
     ghost field = { λ t. t.1.1.1.1.0 };
 
@@ -562,8 +486,6 @@ impl<A, B, C, D, E, F: Shaped, G, H, I, J, K, L, M, N, O> HasField<5>
     for (A, B, C, D, E, F, G, H, I, J, K, L, M, N, O) {
     type Field = F;
 
-    type Inside = ();
-
     ghost field = { λ t. t.1.1.1.1.1.0 };
 
     fn field(&self) -> &F {
@@ -574,8 +496,6 @@ impl<A, B, C, D, E, F: Shaped, G, H, I, J, K, L, M, N, O> HasField<5>
 impl<A, B, C, D, E, F, G: Shaped, H, I, J, K, L, M, N, O> HasField<6>
     for (A, B, C, D, E, F, G, H, I, J, K, L, M, N, O) {
     type Field = G;
-
-    type Inside = ();
 
     ghost field = { λ t. t.1.1.1.1.1.1.0 };
 
@@ -588,8 +508,6 @@ impl<A, B, C, D, E, F, G, H: Shaped, I, J, K, L, M, N, O> HasField<7>
     for (A, B, C, D, E, F, G, H, I, J, K, L, M, N, O) {
     type Field = H;
 
-    type Inside = ();
-
     ghost field = { λ t. t.1.1.1.1.1.1.1.0 };
 
     fn field(&self) -> &H {
@@ -600,8 +518,6 @@ impl<A, B, C, D, E, F, G, H: Shaped, I, J, K, L, M, N, O> HasField<7>
 impl<A, B, C, D, E, F, G, H, I: Shaped, J, K, L, M, N, O> HasField<8>
     for (A, B, C, D, E, F, G, H, I, J, K, L, M, N, O) {
     type Field = I;
-
-    type Inside = ();
 
     ghost field = { λ t. t.1.1.1.1.1.1.1.1.0 };
 
@@ -614,8 +530,6 @@ impl<A, B, C, D, E, F, G, H, I, J: Shaped, K, L, M, N, O> HasField<9>
     for (A, B, C, D, E, F, G, H, I, J, K, L, M, N, O) {
     type Field = J;
 
-    type Inside = ();
-
     ghost field = { λ t. t.1.1.1.1.1.1.1.1.1.0 };
 
     fn field(&self) -> &J {
@@ -626,8 +540,6 @@ impl<A, B, C, D, E, F, G, H, I, J: Shaped, K, L, M, N, O> HasField<9>
 impl<A, B, C, D, E, F, G, H, I, J, K: Shaped, L, M, N, O> HasField<10>
     for (A, B, C, D, E, F, G, H, I, J, K, L, M, N, O) {
     type Field = K;
-
-    type Inside = ();
 
     ghost field = { λ t. t.1.1.1.1.1.1.1.1.1.1.0 };
 
@@ -640,8 +552,6 @@ impl<A, B, C, D, E, F, G, H, I, J, K, L: Shaped, M, N, O> HasField<11>
     for (A, B, C, D, E, F, G, H, I, J, K, L, M, N, O) {
     type Field = L;
 
-    type Inside = ();
-
     ghost field = { λ t. t.1.1.1.1.1.1.1.1.1.1.1.0 };
 
     fn field(&self) -> &L {
@@ -652,8 +562,6 @@ impl<A, B, C, D, E, F, G, H, I, J, K, L: Shaped, M, N, O> HasField<11>
 impl<A, B, C, D, E, F, G, H, I, J, K, L, M: Shaped, N, O> HasField<12>
     for (A, B, C, D, E, F, G, H, I, J, K, L, M, N, O) {
     type Field = M;
-
-    type Inside = ();
 
     ghost field = { λ t. t.1.1.1.1.1.1.1.1.1.1.1.1.0 };
 
@@ -666,8 +574,6 @@ impl<A, B, C, D, E, F, G, H, I, J, K, L, M, N: Shaped, O> HasField<13>
     for (A, B, C, D, E, F, G, H, I, J, K, L, M, N, O) {
     type Field = N;
 
-    type Inside = ();
-
     ghost field = { λ t. t.1.1.1.1.1.1.1.1.1.1.1.1.1.0 };
 
     fn field(&self) -> &N {
@@ -678,8 +584,6 @@ impl<A, B, C, D, E, F, G, H, I, J, K, L, M, N: Shaped, O> HasField<13>
 impl<A, B, C, D, E, F, G, H, I, J, K, L, M, N, O: Shaped> HasField<14>
     for (A, B, C, D, E, F, G, H, I, J, K, L, M, N, O) {
     type Field = O;
-
-    type Inside = ();
 
     ghost field = { λ t. t.1.1.1.1.1.1.1.1.1.1.1.1.1.1.0 };
 
@@ -746,26 +650,17 @@ impl<
 
     ghost same_shape = { refl };
 
-    ghost to_fields = { λ t. listed_pair
-        (listed_pair (listed_pair (λ d h. h) (listed_pair (λ d h. h) (λ d h. h)))
-        (listed_pair (listed_pair (λ d h. h) (λ d h. h)) (listed_pair (λ d h. h) (λ d h. h))))
-        (listed_pair
-        (listed_pair (listed_pair (λ d h. h) (λ d h. h)) (listed_pair (λ d h. h) (λ d h. h)))
-        (listed_pair (listed_pair (λ d h. h) (λ d h. h)) (listed_pair (λ d h. h) (λ d h. h)))) };
-
-    ghost of_fields = { λ t. listed_pair
-        (listed_pair (listed_pair (λ d h. h) (listed_pair (λ d h. h) (λ d h. h)))
-        (listed_pair (listed_pair (λ d h. h) (λ d h. h)) (listed_pair (λ d h. h) (λ d h. h))))
-        (listed_pair
-        (listed_pair (listed_pair (λ d h. h) (λ d h. h)) (listed_pair (λ d h. h) (λ d h. h)))
-        (listed_pair (listed_pair (λ d h. h) (λ d h. h)) (listed_pair (λ d h. h) (λ d h. h)))) };
+    ghost same_listings = { λ t. pair_alike
+        (pair_alike (pair_alike field_alike (pair_alike field_alike field_alike))
+        (pair_alike (pair_alike field_alike field_alike) (pair_alike field_alike field_alike)))
+        (pair_alike (pair_alike (pair_alike field_alike field_alike)
+        (pair_alike field_alike field_alike))
+        (pair_alike (pair_alike field_alike field_alike) (pair_alike field_alike field_alike))) };
 }
 
 impl<A: Shaped, B, C, D, E, F, G, H, I, J, K, L, M, N, O, P> HasField<0>
     for (A, B, C, D, E, F, G, H, I, J, K, L, M, N, O, P) {
     type Field = A;
-
-    type Inside = ();
 
     ghost field = { λ t. t.0 };
 
@@ -778,8 +673,6 @@ impl<A, B: Shaped, C, D, E, F, G, H, I, J, K, L, M, N, O, P> HasField<1>
     for (A, B, C, D, E, F, G, H, I, J, K, L, M, N, O, P) {
     type Field = B;
 
-    type Inside = ();
-
     ghost field = { λ t. t.1.0 };
 
     fn field(&self) -> &B {
@@ -790,8 +683,6 @@ impl<A, B: Shaped, C, D, E, F, G, H, I, J, K, L, M, N, O, P> HasField<1>
 impl<A, B, C: Shaped, D, E, F, G, H, I, J, K, L, M, N, O, P> HasField<2>
     for (A, B, C, D, E, F, G, H, I, J, K, L, M, N, O, P) {
     type Field = C;
-
-    type Inside = ();
 
     ghost field = { λ t. t.1.1.0 };
 
@@ -804,8 +695,6 @@ impl<A, B, C, D: Shaped, E, F, G, H, I, J, K, L, M, N, O, P> HasField<3>
     for (A, B, C, D, E, F, G, H, I, J, K, L, M, N, O, P) {
     type Field = D;
 
-    type Inside = ();
-
     ghost field = { λ t. t.1.1.1.0 };
 
     fn field(&self) -> &D {
@@ -816,8 +705,6 @@ impl<A, B, C, D: Shaped, E, F, G, H, I, J, K, L, M, N, O, P> HasField<3>
 impl<A, B, C, D, E: Shaped, F, G, H, I, J, K, L, M, N, O, P> HasField<4>
     for (A, B, C, D, E, F, G, H, I, J, K, L, M, N, O, P) {
     type Field = E;
-
-    type Inside = ();
 
     ghost field = { λ t. t.1.1.1.1.0 };
 
@@ -830,8 +717,6 @@ impl<A, B, C, D, E, F: Shaped, G, H, I, J, K, L, M, N, O, P> HasField<5>
     for (A, B, C, D, E, F, G, H, I, J, K, L, M, N, O, P) {
     type Field = F;
 
-    type Inside = ();
-
     ghost field = { λ t. t.1.1.1.1.1.0 };
 
     fn field(&self) -> &F {
@@ -842,8 +727,6 @@ impl<A, B, C, D, E, F: Shaped, G, H, I, J, K, L, M, N, O, P> HasField<5>
 impl<A, B, C, D, E, F, G: Shaped, H, I, J, K, L, M, N, O, P> HasField<6>
     for (A, B, C, D, E, F, G, H, I, J, K, L, M, N, O, P) {
     type Field = G;
-
-    type Inside = ();
 
     ghost field = { λ t. t.1.1.1.1.1.1.0 };
 
@@ -856,8 +739,6 @@ impl<A, B, C, D, E, F, G, H: Shaped, I, J, K, L, M, N, O, P> HasField<7>
     for (A, B, C, D, E, F, G, H, I, J, K, L, M, N, O, P) {
     type Field = H;
 
-    type Inside = ();
-
     ghost field = { λ t. t.1.1.1.1.1.1.1.0 };
 
     fn field(&self) -> &H {
@@ -868,8 +749,6 @@ impl<A, B, C, D, E, F, G, H: Shaped, I, J, K, L, M, N, O, P> HasField<7>
 impl<A, B, C, D, E, F, G, H, I: Shaped, J, K, L, M, N, O, P> HasField<8>
     for (A, B, C, D, E, F, G, H, I, J, K, L, M, N, O, P) {
     type Field = I;
-
-    type Inside = ();
 
     ghost field = { λ t. t.1.1.1.1.1.1.1.1.0 };
 
@@ -882,8 +761,6 @@ impl<A, B, C, D, E, F, G, H, I, J: Shaped, K, L, M, N, O, P> HasField<9>
     for (A, B, C, D, E, F, G, H, I, J, K, L, M, N, O, P) {
     type Field = J;
 
-    type Inside = ();
-
     ghost field = { λ t. t.1.1.1.1.1.1.1.1.1.0 };
 
     fn field(&self) -> &J {
@@ -894,8 +771,6 @@ impl<A, B, C, D, E, F, G, H, I, J: Shaped, K, L, M, N, O, P> HasField<9>
 impl<A, B, C, D, E, F, G, H, I, J, K: Shaped, L, M, N, O, P> HasField<10>
     for (A, B, C, D, E, F, G, H, I, J, K, L, M, N, O, P) {
     type Field = K;
-
-    type Inside = ();
 
     ghost field = { λ t. t.1.1.1.1.1.1.1.1.1.1.0 };
 
@@ -908,8 +783,6 @@ impl<A, B, C, D, E, F, G, H, I, J, K, L: Shaped, M, N, O, P> HasField<11>
     for (A, B, C, D, E, F, G, H, I, J, K, L, M, N, O, P) {
     type Field = L;
 
-    type Inside = ();
-
     ghost field = { λ t. t.1.1.1.1.1.1.1.1.1.1.1.0 };
 
     fn field(&self) -> &L {
@@ -920,8 +793,6 @@ impl<A, B, C, D, E, F, G, H, I, J, K, L: Shaped, M, N, O, P> HasField<11>
 impl<A, B, C, D, E, F, G, H, I, J, K, L, M: Shaped, N, O, P> HasField<12>
     for (A, B, C, D, E, F, G, H, I, J, K, L, M, N, O, P) {
     type Field = M;
-
-    type Inside = ();
 
     ghost field = { λ t. t.1.1.1.1.1.1.1.1.1.1.1.1.0 };
 
@@ -934,8 +805,6 @@ impl<A, B, C, D, E, F, G, H, I, J, K, L, M, N: Shaped, O, P> HasField<13>
     for (A, B, C, D, E, F, G, H, I, J, K, L, M, N, O, P) {
     type Field = N;
 
-    type Inside = ();
-
     ghost field = { λ t. t.1.1.1.1.1.1.1.1.1.1.1.1.1.0 };
 
     fn field(&self) -> &N {
@@ -947,8 +816,6 @@ impl<A, B, C, D, E, F, G, H, I, J, K, L, M, N, O: Shaped, P> HasField<14>
     for (A, B, C, D, E, F, G, H, I, J, K, L, M, N, O, P) {
     type Field = O;
 
-    type Inside = ();
-
     ghost field = { λ t. t.1.1.1.1.1.1.1.1.1.1.1.1.1.1.0 };
 
     fn field(&self) -> &O {
@@ -959,8 +826,6 @@ impl<A, B, C, D, E, F, G, H, I, J, K, L, M, N, O: Shaped, P> HasField<14>
 impl<A, B, C, D, E, F, G, H, I, J, K, L, M, N, O, P: Shaped> HasField<15>
     for (A, B, C, D, E, F, G, H, I, J, K, L, M, N, O, P) {
     type Field = P;
-
-    type Inside = ();
 
     ghost field = { λ t. t.1.1.1.1.1.1.1.1.1.1.1.1.1.1.1.0 };
 
@@ -1029,19 +894,11 @@ impl<
 
     ghost same_shape = { refl };
 
-    ghost to_fields = { λ t. listed_pair
-        (listed_pair
-        (listed_pair (listed_pair (λ d h. h) (λ d h. h)) (listed_pair (λ d h. h) (λ d h. h)))
-        (listed_pair (listed_pair (λ d h. h) (λ d h. h)) (listed_pair (λ d h. h) (λ d h. h))))
-        (listed_pair
-        (listed_pair (listed_pair (λ d h. h) (λ d h. h)) (listed_pair (λ d h. h) (λ d h. h)))
-        (listed_pair (listed_pair (λ d h. h) (λ d h. h)) (listed_pair (λ d h. h) (λ d h. h)))) };
-
-    ghost of_fields = { λ t. listed_pair
-        (listed_pair
-        (listed_pair (listed_pair (λ d h. h) (λ d h. h)) (listed_pair (λ d h. h) (λ d h. h)))
-        (listed_pair (listed_pair (λ d h. h) (λ d h. h)) (listed_pair (λ d h. h) (λ d h. h))))
-        (listed_pair
-        (listed_pair (listed_pair (λ d h. h) (λ d h. h)) (listed_pair (λ d h. h) (λ d h. h)))
-        (listed_pair (listed_pair (λ d h. h) (λ d h. h)) (listed_pair (λ d h. h) (λ d h. h)))) };
+    ghost same_listings = { λ t. pair_alike
+        (pair_alike (pair_alike (pair_alike field_alike field_alike)
+        (pair_alike field_alike field_alike))
+        (pair_alike (pair_alike field_alike field_alike) (pair_alike field_alike field_alike)))
+        (pair_alike (pair_alike (pair_alike field_alike field_alike)
+        (pair_alike field_alike field_alike))
+        (pair_alike (pair_alike field_alike field_alike) (pair_alike field_alike field_alike))) };
 }

@@ -1,7 +1,7 @@
 // Written by scripts/tables/tuples.
 //! The fields of tuples of three to eight fields, and the nested pairs that they are encoded as.
 ghost use Rattle.std.specs.Prelude.{◌≡◌, refl};
-ghost use Rattle.bitcode_tuples.specs.FieldLaws.{listed_pair};
+ghost use Rattle.bitcode_tuples.specs.FieldLaws.{field_alike, pair_alike};
 
 use crate::encoder::TupleEncoder;
 use crate::has_field::{HasField, Nth};
@@ -11,8 +11,6 @@ use bitcode_shapes::shaped::Shaped;
 
 impl<A: Shaped, B, C> HasField<0> for (A, B, C) {
     type Field = A;
-
-    type Inside = ();
 
     ghost field = { λ t. t.0 };
 
@@ -24,8 +22,6 @@ impl<A: Shaped, B, C> HasField<0> for (A, B, C) {
 impl<A, B: Shaped, C> HasField<1> for (A, B, C) {
     type Field = B;
 
-    type Inside = ();
-
     ghost field = { λ t. t.1 };
 
     fn field(&self) -> &B {
@@ -35,8 +31,6 @@ impl<A, B: Shaped, C> HasField<1> for (A, B, C) {
 
 impl<A, B, C: Shaped> HasField<2> for (A, B, C) {
     type Field = C;
-
-    type Inside = ();
 
     ghost field = { λ t. t.2 };
 
@@ -59,15 +53,11 @@ impl<
 
     ghost same_shape = { refl };
 
-    ghost to_fields = { λ t. listed_pair (λ d h. h) (listed_pair (λ d h. h) (λ d h. h)) };
-
-    ghost of_fields = { λ t. listed_pair (λ d h. h) (listed_pair (λ d h. h) (λ d h. h)) };
+    ghost same_listings = { λ t. pair_alike field_alike (pair_alike field_alike field_alike) };
 }
 
 impl<A: Shaped, B, C, D> HasField<0> for (A, B, C, D) {
     type Field = A;
-
-    type Inside = ();
 
     ghost field = { λ t. t.0 };
 
@@ -79,8 +69,6 @@ impl<A: Shaped, B, C, D> HasField<0> for (A, B, C, D) {
 impl<A, B: Shaped, C, D> HasField<1> for (A, B, C, D) {
     type Field = B;
 
-    type Inside = ();
-
     ghost field = { λ t. t.1 };
 
     fn field(&self) -> &B {
@@ -91,8 +79,6 @@ impl<A, B: Shaped, C, D> HasField<1> for (A, B, C, D) {
 impl<A, B, C: Shaped, D> HasField<2> for (A, B, C, D) {
     type Field = C;
 
-    type Inside = ();
-
     ghost field = { λ t. t.2 };
 
     fn field(&self) -> &C {
@@ -102,8 +88,6 @@ impl<A, B, C: Shaped, D> HasField<2> for (A, B, C, D) {
 
 impl<A, B, C, D: Shaped> HasField<3> for (A, B, C, D) {
     type Field = D;
-
-    type Inside = ();
 
     ghost field = { λ t. t.3 };
 
@@ -128,17 +112,12 @@ impl<
 
     ghost same_shape = { refl };
 
-    ghost to_fields = { λ t. listed_pair (listed_pair (λ d h. h) (λ d h. h))
-        (listed_pair (λ d h. h) (λ d h. h)) };
-
-    ghost of_fields = { λ t. listed_pair (listed_pair (λ d h. h) (λ d h. h))
-        (listed_pair (λ d h. h) (λ d h. h)) };
+    ghost same_listings = { λ t. pair_alike (pair_alike field_alike field_alike)
+        (pair_alike field_alike field_alike) };
 }
 
 impl<A: Shaped, B, C, D, E> HasField<0> for (A, B, C, D, E) {
     type Field = A;
-
-    type Inside = ();
 
     ghost field = { λ t. t.0 };
 
@@ -150,8 +129,6 @@ impl<A: Shaped, B, C, D, E> HasField<0> for (A, B, C, D, E) {
 impl<A, B: Shaped, C, D, E> HasField<1> for (A, B, C, D, E) {
     type Field = B;
 
-    type Inside = ();
-
     ghost field = { λ t. t.1 };
 
     fn field(&self) -> &B {
@@ -161,8 +138,6 @@ impl<A, B: Shaped, C, D, E> HasField<1> for (A, B, C, D, E) {
 
 impl<A, B, C: Shaped, D, E> HasField<2> for (A, B, C, D, E) {
     type Field = C;
-
-    type Inside = ();
 
     ghost field = { λ t. t.2 };
 
@@ -174,8 +149,6 @@ impl<A, B, C: Shaped, D, E> HasField<2> for (A, B, C, D, E) {
 impl<A, B, C, D: Shaped, E> HasField<3> for (A, B, C, D, E) {
     type Field = D;
 
-    type Inside = ();
-
     ghost field = { λ t. t.3 };
 
     fn field(&self) -> &D {
@@ -185,8 +158,6 @@ impl<A, B, C, D: Shaped, E> HasField<3> for (A, B, C, D, E) {
 
 impl<A, B, C, D, E: Shaped> HasField<4> for (A, B, C, D, E) {
     type Field = E;
-
-    type Inside = ();
 
     ghost field = { λ t. t.4 };
 
@@ -214,17 +185,12 @@ impl<
 
     ghost same_shape = { refl };
 
-    ghost to_fields = { λ t. listed_pair (listed_pair (λ d h. h) (λ d h. h))
-        (listed_pair (λ d h. h) (listed_pair (λ d h. h) (λ d h. h))) };
-
-    ghost of_fields = { λ t. listed_pair (listed_pair (λ d h. h) (λ d h. h))
-        (listed_pair (λ d h. h) (listed_pair (λ d h. h) (λ d h. h))) };
+    ghost same_listings = { λ t. pair_alike (pair_alike field_alike field_alike)
+        (pair_alike field_alike (pair_alike field_alike field_alike)) };
 }
 
 impl<A: Shaped, B, C, D, E, F> HasField<0> for (A, B, C, D, E, F) {
     type Field = A;
-
-    type Inside = ();
 
     ghost field = { λ t. t.0 };
 
@@ -236,8 +202,6 @@ impl<A: Shaped, B, C, D, E, F> HasField<0> for (A, B, C, D, E, F) {
 impl<A, B: Shaped, C, D, E, F> HasField<1> for (A, B, C, D, E, F) {
     type Field = B;
 
-    type Inside = ();
-
     ghost field = { λ t. t.1 };
 
     fn field(&self) -> &B {
@@ -247,8 +211,6 @@ impl<A, B: Shaped, C, D, E, F> HasField<1> for (A, B, C, D, E, F) {
 
 impl<A, B, C: Shaped, D, E, F> HasField<2> for (A, B, C, D, E, F) {
     type Field = C;
-
-    type Inside = ();
 
     ghost field = { λ t. t.2 };
 
@@ -260,8 +222,6 @@ impl<A, B, C: Shaped, D, E, F> HasField<2> for (A, B, C, D, E, F) {
 impl<A, B, C, D: Shaped, E, F> HasField<3> for (A, B, C, D, E, F) {
     type Field = D;
 
-    type Inside = ();
-
     ghost field = { λ t. t.3 };
 
     fn field(&self) -> &D {
@@ -272,8 +232,6 @@ impl<A, B, C, D: Shaped, E, F> HasField<3> for (A, B, C, D, E, F) {
 impl<A, B, C, D, E: Shaped, F> HasField<4> for (A, B, C, D, E, F) {
     type Field = E;
 
-    type Inside = ();
-
     ghost field = { λ t. t.4 };
 
     fn field(&self) -> &E {
@@ -283,8 +241,6 @@ impl<A, B, C, D, E: Shaped, F> HasField<4> for (A, B, C, D, E, F) {
 
 impl<A, B, C, D, E, F: Shaped> HasField<5> for (A, B, C, D, E, F) {
     type Field = F;
-
-    type Inside = ();
 
     ghost field = { λ t. t.5 };
 
@@ -315,19 +271,13 @@ impl<
 
     ghost same_shape = { refl };
 
-    ghost to_fields = { λ t. listed_pair
-        (listed_pair (λ d h. h) (listed_pair (λ d h. h) (λ d h. h)))
-        (listed_pair (λ d h. h) (listed_pair (λ d h. h) (λ d h. h))) };
-
-    ghost of_fields = { λ t. listed_pair
-        (listed_pair (λ d h. h) (listed_pair (λ d h. h) (λ d h. h)))
-        (listed_pair (λ d h. h) (listed_pair (λ d h. h) (λ d h. h))) };
+    ghost same_listings = { λ t. pair_alike
+        (pair_alike field_alike (pair_alike field_alike field_alike))
+        (pair_alike field_alike (pair_alike field_alike field_alike)) };
 }
 
 impl<A: Shaped, B, C, D, E, F, G> HasField<0> for (A, B, C, D, E, F, G) {
     type Field = A;
-
-    type Inside = ();
 
     ghost field = { λ t. t.0 };
 
@@ -339,8 +289,6 @@ impl<A: Shaped, B, C, D, E, F, G> HasField<0> for (A, B, C, D, E, F, G) {
 impl<A, B: Shaped, C, D, E, F, G> HasField<1> for (A, B, C, D, E, F, G) {
     type Field = B;
 
-    type Inside = ();
-
     ghost field = { λ t. t.1 };
 
     fn field(&self) -> &B {
@@ -350,8 +298,6 @@ impl<A, B: Shaped, C, D, E, F, G> HasField<1> for (A, B, C, D, E, F, G) {
 
 impl<A, B, C: Shaped, D, E, F, G> HasField<2> for (A, B, C, D, E, F, G) {
     type Field = C;
-
-    type Inside = ();
 
     ghost field = { λ t. t.2 };
 
@@ -363,8 +309,6 @@ impl<A, B, C: Shaped, D, E, F, G> HasField<2> for (A, B, C, D, E, F, G) {
 impl<A, B, C, D: Shaped, E, F, G> HasField<3> for (A, B, C, D, E, F, G) {
     type Field = D;
 
-    type Inside = ();
-
     ghost field = { λ t. t.3 };
 
     fn field(&self) -> &D {
@@ -374,8 +318,6 @@ impl<A, B, C, D: Shaped, E, F, G> HasField<3> for (A, B, C, D, E, F, G) {
 
 impl<A, B, C, D, E: Shaped, F, G> HasField<4> for (A, B, C, D, E, F, G) {
     type Field = E;
-
-    type Inside = ();
 
     ghost field = { λ t. t.4 };
 
@@ -387,8 +329,6 @@ impl<A, B, C, D, E: Shaped, F, G> HasField<4> for (A, B, C, D, E, F, G) {
 impl<A, B, C, D, E, F: Shaped, G> HasField<5> for (A, B, C, D, E, F, G) {
     type Field = F;
 
-    type Inside = ();
-
     ghost field = { λ t. t.5 };
 
     fn field(&self) -> &F {
@@ -398,8 +338,6 @@ impl<A, B, C, D, E, F: Shaped, G> HasField<5> for (A, B, C, D, E, F, G) {
 
 impl<A, B, C, D, E, F, G: Shaped> HasField<6> for (A, B, C, D, E, F, G) {
     type Field = G;
-
-    type Inside = ();
 
     ghost field = { λ t. t.6 };
 
@@ -438,19 +376,13 @@ impl<
 
     ghost same_shape = { refl };
 
-    ghost to_fields = { λ t. listed_pair
-        (listed_pair (λ d h. h) (listed_pair (λ d h. h) (λ d h. h)))
-        (listed_pair (listed_pair (λ d h. h) (λ d h. h)) (listed_pair (λ d h. h) (λ d h. h))) };
-
-    ghost of_fields = { λ t. listed_pair
-        (listed_pair (λ d h. h) (listed_pair (λ d h. h) (λ d h. h)))
-        (listed_pair (listed_pair (λ d h. h) (λ d h. h)) (listed_pair (λ d h. h) (λ d h. h))) };
+    ghost same_listings = { λ t. pair_alike
+        (pair_alike field_alike (pair_alike field_alike field_alike))
+        (pair_alike (pair_alike field_alike field_alike) (pair_alike field_alike field_alike)) };
 }
 
 impl<A: Shaped, B, C, D, E, F, G, H> HasField<0> for (A, B, C, D, E, F, G, H) {
     type Field = A;
-
-    type Inside = ();
 
     ghost field = { λ t. t.0 };
 
@@ -462,8 +394,6 @@ impl<A: Shaped, B, C, D, E, F, G, H> HasField<0> for (A, B, C, D, E, F, G, H) {
 impl<A, B: Shaped, C, D, E, F, G, H> HasField<1> for (A, B, C, D, E, F, G, H) {
     type Field = B;
 
-    type Inside = ();
-
     ghost field = { λ t. t.1 };
 
     fn field(&self) -> &B {
@@ -473,8 +403,6 @@ impl<A, B: Shaped, C, D, E, F, G, H> HasField<1> for (A, B, C, D, E, F, G, H) {
 
 impl<A, B, C: Shaped, D, E, F, G, H> HasField<2> for (A, B, C, D, E, F, G, H) {
     type Field = C;
-
-    type Inside = ();
 
     ghost field = { λ t. t.2 };
 
@@ -486,8 +414,6 @@ impl<A, B, C: Shaped, D, E, F, G, H> HasField<2> for (A, B, C, D, E, F, G, H) {
 impl<A, B, C, D: Shaped, E, F, G, H> HasField<3> for (A, B, C, D, E, F, G, H) {
     type Field = D;
 
-    type Inside = ();
-
     ghost field = { λ t. t.3 };
 
     fn field(&self) -> &D {
@@ -497,8 +423,6 @@ impl<A, B, C, D: Shaped, E, F, G, H> HasField<3> for (A, B, C, D, E, F, G, H) {
 
 impl<A, B, C, D, E: Shaped, F, G, H> HasField<4> for (A, B, C, D, E, F, G, H) {
     type Field = E;
-
-    type Inside = ();
 
     ghost field = { λ t. t.4 };
 
@@ -510,8 +434,6 @@ impl<A, B, C, D, E: Shaped, F, G, H> HasField<4> for (A, B, C, D, E, F, G, H) {
 impl<A, B, C, D, E, F: Shaped, G, H> HasField<5> for (A, B, C, D, E, F, G, H) {
     type Field = F;
 
-    type Inside = ();
-
     ghost field = { λ t. t.5 };
 
     fn field(&self) -> &F {
@@ -522,8 +444,6 @@ impl<A, B, C, D, E, F: Shaped, G, H> HasField<5> for (A, B, C, D, E, F, G, H) {
 impl<A, B, C, D, E, F, G: Shaped, H> HasField<6> for (A, B, C, D, E, F, G, H) {
     type Field = G;
 
-    type Inside = ();
-
     ghost field = { λ t. t.6 };
 
     fn field(&self) -> &G {
@@ -533,8 +453,6 @@ impl<A, B, C, D, E, F, G: Shaped, H> HasField<6> for (A, B, C, D, E, F, G, H) {
 
 impl<A, B, C, D, E, F, G, H: Shaped> HasField<7> for (A, B, C, D, E, F, G, H) {
     type Field = H;
-
-    type Inside = ();
 
     ghost field = { λ t. t.7 };
 
@@ -575,11 +493,7 @@ impl<
 
     ghost same_shape = { refl };
 
-    ghost to_fields = { λ t. listed_pair
-        (listed_pair (listed_pair (λ d h. h) (λ d h. h)) (listed_pair (λ d h. h) (λ d h. h)))
-        (listed_pair (listed_pair (λ d h. h) (λ d h. h)) (listed_pair (λ d h. h) (λ d h. h))) };
-
-    ghost of_fields = { λ t. listed_pair
-        (listed_pair (listed_pair (λ d h. h) (λ d h. h)) (listed_pair (λ d h. h) (λ d h. h)))
-        (listed_pair (listed_pair (λ d h. h) (λ d h. h)) (listed_pair (λ d h. h) (λ d h. h))) };
+    ghost same_listings = { λ t. pair_alike
+        (pair_alike (pair_alike field_alike field_alike) (pair_alike field_alike field_alike))
+        (pair_alike (pair_alike field_alike field_alike) (pair_alike field_alike field_alike)) };
 }

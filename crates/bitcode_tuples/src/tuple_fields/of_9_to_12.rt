@@ -1,7 +1,7 @@
 // Written by scripts/tables/tuples.
 //! The fields of tuples of nine to twelve fields, and the nested pairs that they are encoded as.
 ghost use Rattle.std.specs.Prelude.{◌≡◌, refl};
-ghost use Rattle.bitcode_tuples.specs.FieldLaws.{listed_pair};
+ghost use Rattle.bitcode_tuples.specs.FieldLaws.{field_alike, pair_alike};
 
 use crate::encoder::TupleEncoder;
 use crate::has_field::{HasField, Nth};
@@ -11,8 +11,6 @@ use bitcode_shapes::shaped::Shaped;
 
 impl<A: Shaped, B, C, D, E, F, G, H, I> HasField<0> for (A, B, C, D, E, F, G, H, I) {
     type Field = A;
-
-    type Inside = ();
 
     ghost field = { λ t. t.0 };
 
@@ -24,8 +22,6 @@ impl<A: Shaped, B, C, D, E, F, G, H, I> HasField<0> for (A, B, C, D, E, F, G, H,
 impl<A, B: Shaped, C, D, E, F, G, H, I> HasField<1> for (A, B, C, D, E, F, G, H, I) {
     type Field = B;
 
-    type Inside = ();
-
     ghost field = { λ t. t.1 };
 
     fn field(&self) -> &B {
@@ -35,8 +31,6 @@ impl<A, B: Shaped, C, D, E, F, G, H, I> HasField<1> for (A, B, C, D, E, F, G, H,
 
 impl<A, B, C: Shaped, D, E, F, G, H, I> HasField<2> for (A, B, C, D, E, F, G, H, I) {
     type Field = C;
-
-    type Inside = ();
 
     ghost field = { λ t. t.2 };
 
@@ -48,8 +42,6 @@ impl<A, B, C: Shaped, D, E, F, G, H, I> HasField<2> for (A, B, C, D, E, F, G, H,
 impl<A, B, C, D: Shaped, E, F, G, H, I> HasField<3> for (A, B, C, D, E, F, G, H, I) {
     type Field = D;
 
-    type Inside = ();
-
     ghost field = { λ t. t.3 };
 
     fn field(&self) -> &D {
@@ -59,8 +51,6 @@ impl<A, B, C, D: Shaped, E, F, G, H, I> HasField<3> for (A, B, C, D, E, F, G, H,
 
 impl<A, B, C, D, E: Shaped, F, G, H, I> HasField<4> for (A, B, C, D, E, F, G, H, I) {
     type Field = E;
-
-    type Inside = ();
 
     ghost field = { λ t. t.4 };
 
@@ -72,8 +62,6 @@ impl<A, B, C, D, E: Shaped, F, G, H, I> HasField<4> for (A, B, C, D, E, F, G, H,
 impl<A, B, C, D, E, F: Shaped, G, H, I> HasField<5> for (A, B, C, D, E, F, G, H, I) {
     type Field = F;
 
-    type Inside = ();
-
     ghost field = { λ t. t.5 };
 
     fn field(&self) -> &F {
@@ -83,8 +71,6 @@ impl<A, B, C, D, E, F: Shaped, G, H, I> HasField<5> for (A, B, C, D, E, F, G, H,
 
 impl<A, B, C, D, E, F, G: Shaped, H, I> HasField<6> for (A, B, C, D, E, F, G, H, I) {
     type Field = G;
-
-    type Inside = ();
 
     ghost field = { λ t. t.6 };
 
@@ -96,8 +82,6 @@ impl<A, B, C, D, E, F, G: Shaped, H, I> HasField<6> for (A, B, C, D, E, F, G, H,
 impl<A, B, C, D, E, F, G, H: Shaped, I> HasField<7> for (A, B, C, D, E, F, G, H, I) {
     type Field = H;
 
-    type Inside = ();
-
     ghost field = { λ t. t.7 };
 
     fn field(&self) -> &H {
@@ -107,8 +91,6 @@ impl<A, B, C, D, E, F, G, H: Shaped, I> HasField<7> for (A, B, C, D, E, F, G, H,
 
 impl<A, B, C, D, E, F, G, H, I: Shaped> HasField<8> for (A, B, C, D, E, F, G, H, I) {
     type Field = I;
-
-    type Inside = ();
 
     ghost field = { λ t. t.8 };
 
@@ -151,21 +133,14 @@ impl<
 
     ghost same_shape = { refl };
 
-    ghost to_fields = { λ t. listed_pair
-        (listed_pair (listed_pair (λ d h. h) (λ d h. h)) (listed_pair (λ d h. h) (λ d h. h)))
-        (listed_pair (listed_pair (λ d h. h) (λ d h. h))
-        (listed_pair (λ d h. h) (listed_pair (λ d h. h) (λ d h. h)))) };
-
-    ghost of_fields = { λ t. listed_pair
-        (listed_pair (listed_pair (λ d h. h) (λ d h. h)) (listed_pair (λ d h. h) (λ d h. h)))
-        (listed_pair (listed_pair (λ d h. h) (λ d h. h))
-        (listed_pair (λ d h. h) (listed_pair (λ d h. h) (λ d h. h)))) };
+    ghost same_listings = { λ t. pair_alike
+        (pair_alike (pair_alike field_alike field_alike) (pair_alike field_alike field_alike))
+        (pair_alike (pair_alike field_alike field_alike)
+        (pair_alike field_alike (pair_alike field_alike field_alike))) };
 }
 
 impl<A: Shaped, B, C, D, E, F, G, H, I, J> HasField<0> for (A, B, C, D, E, F, G, H, I, J) {
     type Field = A;
-
-    type Inside = ();
 
     ghost field = { λ t. t.0 };
 
@@ -177,8 +152,6 @@ impl<A: Shaped, B, C, D, E, F, G, H, I, J> HasField<0> for (A, B, C, D, E, F, G,
 impl<A, B: Shaped, C, D, E, F, G, H, I, J> HasField<1> for (A, B, C, D, E, F, G, H, I, J) {
     type Field = B;
 
-    type Inside = ();
-
     ghost field = { λ t. t.1 };
 
     fn field(&self) -> &B {
@@ -188,8 +161,6 @@ impl<A, B: Shaped, C, D, E, F, G, H, I, J> HasField<1> for (A, B, C, D, E, F, G,
 
 impl<A, B, C: Shaped, D, E, F, G, H, I, J> HasField<2> for (A, B, C, D, E, F, G, H, I, J) {
     type Field = C;
-
-    type Inside = ();
 
     ghost field = { λ t. t.2 };
 
@@ -201,8 +172,6 @@ impl<A, B, C: Shaped, D, E, F, G, H, I, J> HasField<2> for (A, B, C, D, E, F, G,
 impl<A, B, C, D: Shaped, E, F, G, H, I, J> HasField<3> for (A, B, C, D, E, F, G, H, I, J) {
     type Field = D;
 
-    type Inside = ();
-
     ghost field = { λ t. t.3 };
 
     fn field(&self) -> &D {
@@ -212,8 +181,6 @@ impl<A, B, C, D: Shaped, E, F, G, H, I, J> HasField<3> for (A, B, C, D, E, F, G,
 
 impl<A, B, C, D, E: Shaped, F, G, H, I, J> HasField<4> for (A, B, C, D, E, F, G, H, I, J) {
     type Field = E;
-
-    type Inside = ();
 
     ghost field = { λ t. t.4 };
 
@@ -225,8 +192,6 @@ impl<A, B, C, D, E: Shaped, F, G, H, I, J> HasField<4> for (A, B, C, D, E, F, G,
 impl<A, B, C, D, E, F: Shaped, G, H, I, J> HasField<5> for (A, B, C, D, E, F, G, H, I, J) {
     type Field = F;
 
-    type Inside = ();
-
     ghost field = { λ t. t.5 };
 
     fn field(&self) -> &F {
@@ -236,8 +201,6 @@ impl<A, B, C, D, E, F: Shaped, G, H, I, J> HasField<5> for (A, B, C, D, E, F, G,
 
 impl<A, B, C, D, E, F, G: Shaped, H, I, J> HasField<6> for (A, B, C, D, E, F, G, H, I, J) {
     type Field = G;
-
-    type Inside = ();
 
     ghost field = { λ t. t.6 };
 
@@ -249,8 +212,6 @@ impl<A, B, C, D, E, F, G: Shaped, H, I, J> HasField<6> for (A, B, C, D, E, F, G,
 impl<A, B, C, D, E, F, G, H: Shaped, I, J> HasField<7> for (A, B, C, D, E, F, G, H, I, J) {
     type Field = H;
 
-    type Inside = ();
-
     ghost field = { λ t. t.7 };
 
     fn field(&self) -> &H {
@@ -261,8 +222,6 @@ impl<A, B, C, D, E, F, G, H: Shaped, I, J> HasField<7> for (A, B, C, D, E, F, G,
 impl<A, B, C, D, E, F, G, H, I: Shaped, J> HasField<8> for (A, B, C, D, E, F, G, H, I, J) {
     type Field = I;
 
-    type Inside = ();
-
     ghost field = { λ t. t.8 };
 
     fn field(&self) -> &I {
@@ -272,8 +231,6 @@ impl<A, B, C, D, E, F, G, H, I: Shaped, J> HasField<8> for (A, B, C, D, E, F, G,
 
 impl<A, B, C, D, E, F, G, H, I, J: Shaped> HasField<9> for (A, B, C, D, E, F, G, H, I, J) {
     type Field = J;
-
-    type Inside = ();
 
     ghost field = { λ t. t.9 };
 
@@ -318,23 +275,15 @@ impl<
 
     ghost same_shape = { refl };
 
-    ghost to_fields = { λ t. listed_pair
-        (listed_pair (listed_pair (λ d h. h) (λ d h. h))
-        (listed_pair (λ d h. h) (listed_pair (λ d h. h) (λ d h. h))))
-        (listed_pair (listed_pair (λ d h. h) (λ d h. h))
-        (listed_pair (λ d h. h) (listed_pair (λ d h. h) (λ d h. h)))) };
-
-    ghost of_fields = { λ t. listed_pair
-        (listed_pair (listed_pair (λ d h. h) (λ d h. h))
-        (listed_pair (λ d h. h) (listed_pair (λ d h. h) (λ d h. h))))
-        (listed_pair (listed_pair (λ d h. h) (λ d h. h))
-        (listed_pair (λ d h. h) (listed_pair (λ d h. h) (λ d h. h)))) };
+    ghost same_listings = { λ t. pair_alike
+        (pair_alike (pair_alike field_alike field_alike)
+        (pair_alike field_alike (pair_alike field_alike field_alike)))
+        (pair_alike (pair_alike field_alike field_alike)
+        (pair_alike field_alike (pair_alike field_alike field_alike))) };
 }
 
 impl<A: Shaped, B, C, D, E, F, G, H, I, J, K> HasField<0> for (A, B, C, D, E, F, G, H, I, J, K) {
     type Field = A;
-
-    type Inside = ();
 
     ghost field = { λ t. t.0 };
 
@@ -346,8 +295,6 @@ impl<A: Shaped, B, C, D, E, F, G, H, I, J, K> HasField<0> for (A, B, C, D, E, F,
 impl<A, B: Shaped, C, D, E, F, G, H, I, J, K> HasField<1> for (A, B, C, D, E, F, G, H, I, J, K) {
     type Field = B;
 
-    type Inside = ();
-
     ghost field = { λ t. t.1 };
 
     fn field(&self) -> &B {
@@ -357,8 +304,6 @@ impl<A, B: Shaped, C, D, E, F, G, H, I, J, K> HasField<1> for (A, B, C, D, E, F,
 
 impl<A, B, C: Shaped, D, E, F, G, H, I, J, K> HasField<2> for (A, B, C, D, E, F, G, H, I, J, K) {
     type Field = C;
-
-    type Inside = ();
 
     ghost field = { λ t. t.2 };
 
@@ -370,8 +315,6 @@ impl<A, B, C: Shaped, D, E, F, G, H, I, J, K> HasField<2> for (A, B, C, D, E, F,
 impl<A, B, C, D: Shaped, E, F, G, H, I, J, K> HasField<3> for (A, B, C, D, E, F, G, H, I, J, K) {
     type Field = D;
 
-    type Inside = ();
-
     ghost field = { λ t. t.3 };
 
     fn field(&self) -> &D {
@@ -381,8 +324,6 @@ impl<A, B, C, D: Shaped, E, F, G, H, I, J, K> HasField<3> for (A, B, C, D, E, F,
 
 impl<A, B, C, D, E: Shaped, F, G, H, I, J, K> HasField<4> for (A, B, C, D, E, F, G, H, I, J, K) {
     type Field = E;
-
-    type Inside = ();
 
     ghost field = { λ t. t.4 };
 
@@ -394,8 +335,6 @@ impl<A, B, C, D, E: Shaped, F, G, H, I, J, K> HasField<4> for (A, B, C, D, E, F,
 impl<A, B, C, D, E, F: Shaped, G, H, I, J, K> HasField<5> for (A, B, C, D, E, F, G, H, I, J, K) {
     type Field = F;
 
-    type Inside = ();
-
     ghost field = { λ t. t.5 };
 
     fn field(&self) -> &F {
@@ -405,8 +344,6 @@ impl<A, B, C, D, E, F: Shaped, G, H, I, J, K> HasField<5> for (A, B, C, D, E, F,
 
 impl<A, B, C, D, E, F, G: Shaped, H, I, J, K> HasField<6> for (A, B, C, D, E, F, G, H, I, J, K) {
     type Field = G;
-
-    type Inside = ();
 
     ghost field = { λ t. t.6 };
 
@@ -418,8 +355,6 @@ impl<A, B, C, D, E, F, G: Shaped, H, I, J, K> HasField<6> for (A, B, C, D, E, F,
 impl<A, B, C, D, E, F, G, H: Shaped, I, J, K> HasField<7> for (A, B, C, D, E, F, G, H, I, J, K) {
     type Field = H;
 
-    type Inside = ();
-
     ghost field = { λ t. t.7 };
 
     fn field(&self) -> &H {
@@ -429,8 +364,6 @@ impl<A, B, C, D, E, F, G, H: Shaped, I, J, K> HasField<7> for (A, B, C, D, E, F,
 
 impl<A, B, C, D, E, F, G, H, I: Shaped, J, K> HasField<8> for (A, B, C, D, E, F, G, H, I, J, K) {
     type Field = I;
-
-    type Inside = ();
 
     ghost field = { λ t. t.8 };
 
@@ -442,8 +375,6 @@ impl<A, B, C, D, E, F, G, H, I: Shaped, J, K> HasField<8> for (A, B, C, D, E, F,
 impl<A, B, C, D, E, F, G, H, I, J: Shaped, K> HasField<9> for (A, B, C, D, E, F, G, H, I, J, K) {
     type Field = J;
 
-    type Inside = ();
-
     ghost field = { λ t. t.9 };
 
     fn field(&self) -> &J {
@@ -453,8 +384,6 @@ impl<A, B, C, D, E, F, G, H, I, J: Shaped, K> HasField<9> for (A, B, C, D, E, F,
 
 impl<A, B, C, D, E, F, G, H, I, J, K: Shaped> HasField<10> for (A, B, C, D, E, F, G, H, I, J, K) {
     type Field = K;
-
-    type Inside = ();
 
     ghost field = { λ t. t.10 };
 
@@ -504,24 +433,16 @@ impl<
 
     ghost same_shape = { refl };
 
-    ghost to_fields = { λ t. listed_pair
-        (listed_pair (listed_pair (λ d h. h) (λ d h. h))
-        (listed_pair (λ d h. h) (listed_pair (λ d h. h) (λ d h. h))))
-        (listed_pair (listed_pair (λ d h. h) (listed_pair (λ d h. h) (λ d h. h)))
-        (listed_pair (λ d h. h) (listed_pair (λ d h. h) (λ d h. h)))) };
-
-    ghost of_fields = { λ t. listed_pair
-        (listed_pair (listed_pair (λ d h. h) (λ d h. h))
-        (listed_pair (λ d h. h) (listed_pair (λ d h. h) (λ d h. h))))
-        (listed_pair (listed_pair (λ d h. h) (listed_pair (λ d h. h) (λ d h. h)))
-        (listed_pair (λ d h. h) (listed_pair (λ d h. h) (λ d h. h)))) };
+    ghost same_listings = { λ t. pair_alike
+        (pair_alike (pair_alike field_alike field_alike)
+        (pair_alike field_alike (pair_alike field_alike field_alike)))
+        (pair_alike (pair_alike field_alike (pair_alike field_alike field_alike))
+        (pair_alike field_alike (pair_alike field_alike field_alike))) };
 }
 
 impl<A: Shaped, B, C, D, E, F, G, H, I, J, K, L> HasField<0>
     for (A, B, C, D, E, F, G, H, I, J, K, L) {
     type Field = A;
-
-    type Inside = ();
 
     ghost field = { λ t. t.0 };
 
@@ -534,8 +455,6 @@ impl<A, B: Shaped, C, D, E, F, G, H, I, J, K, L> HasField<1>
     for (A, B, C, D, E, F, G, H, I, J, K, L) {
     type Field = B;
 
-    type Inside = ();
-
     ghost field = { λ t. t.1 };
 
     fn field(&self) -> &B {
@@ -546,8 +465,6 @@ impl<A, B: Shaped, C, D, E, F, G, H, I, J, K, L> HasField<1>
 impl<A, B, C: Shaped, D, E, F, G, H, I, J, K, L> HasField<2>
     for (A, B, C, D, E, F, G, H, I, J, K, L) {
     type Field = C;
-
-    type Inside = ();
 
     ghost field = { λ t. t.2 };
 
@@ -560,8 +477,6 @@ impl<A, B, C, D: Shaped, E, F, G, H, I, J, K, L> HasField<3>
     for (A, B, C, D, E, F, G, H, I, J, K, L) {
     type Field = D;
 
-    type Inside = ();
-
     ghost field = { λ t. t.3 };
 
     fn field(&self) -> &D {
@@ -572,8 +487,6 @@ impl<A, B, C, D: Shaped, E, F, G, H, I, J, K, L> HasField<3>
 impl<A, B, C, D, E: Shaped, F, G, H, I, J, K, L> HasField<4>
     for (A, B, C, D, E, F, G, H, I, J, K, L) {
     type Field = E;
-
-    type Inside = ();
 
     ghost field = { λ t. t.4 };
 
@@ -586,8 +499,6 @@ impl<A, B, C, D, E, F: Shaped, G, H, I, J, K, L> HasField<5>
     for (A, B, C, D, E, F, G, H, I, J, K, L) {
     type Field = F;
 
-    type Inside = ();
-
     ghost field = { λ t. t.5 };
 
     fn field(&self) -> &F {
@@ -598,8 +509,6 @@ impl<A, B, C, D, E, F: Shaped, G, H, I, J, K, L> HasField<5>
 impl<A, B, C, D, E, F, G: Shaped, H, I, J, K, L> HasField<6>
     for (A, B, C, D, E, F, G, H, I, J, K, L) {
     type Field = G;
-
-    type Inside = ();
 
     ghost field = { λ t. t.6 };
 
@@ -612,8 +521,6 @@ impl<A, B, C, D, E, F, G, H: Shaped, I, J, K, L> HasField<7>
     for (A, B, C, D, E, F, G, H, I, J, K, L) {
     type Field = H;
 
-    type Inside = ();
-
     ghost field = { λ t. t.7 };
 
     fn field(&self) -> &H {
@@ -624,8 +531,6 @@ impl<A, B, C, D, E, F, G, H: Shaped, I, J, K, L> HasField<7>
 impl<A, B, C, D, E, F, G, H, I: Shaped, J, K, L> HasField<8>
     for (A, B, C, D, E, F, G, H, I, J, K, L) {
     type Field = I;
-
-    type Inside = ();
 
     ghost field = { λ t. t.8 };
 
@@ -638,8 +543,6 @@ impl<A, B, C, D, E, F, G, H, I, J: Shaped, K, L> HasField<9>
     for (A, B, C, D, E, F, G, H, I, J, K, L) {
     type Field = J;
 
-    type Inside = ();
-
     ghost field = { λ t. t.9 };
 
     fn field(&self) -> &J {
@@ -651,8 +554,6 @@ impl<A, B, C, D, E, F, G, H, I, J, K: Shaped, L> HasField<10>
     for (A, B, C, D, E, F, G, H, I, J, K, L) {
     type Field = K;
 
-    type Inside = ();
-
     ghost field = { λ t. t.10 };
 
     fn field(&self) -> &K {
@@ -663,8 +564,6 @@ impl<A, B, C, D, E, F, G, H, I, J, K: Shaped, L> HasField<10>
 impl<A, B, C, D, E, F, G, H, I, J, K, L: Shaped> HasField<11>
     for (A, B, C, D, E, F, G, H, I, J, K, L) {
     type Field = L;
-
-    type Inside = ();
 
     ghost field = { λ t. t.11 };
 
@@ -719,15 +618,9 @@ impl<
 
     ghost same_shape = { refl };
 
-    ghost to_fields = { λ t. listed_pair
-        (listed_pair (listed_pair (λ d h. h) (listed_pair (λ d h. h) (λ d h. h)))
-        (listed_pair (λ d h. h) (listed_pair (λ d h. h) (λ d h. h))))
-        (listed_pair (listed_pair (λ d h. h) (listed_pair (λ d h. h) (λ d h. h)))
-        (listed_pair (λ d h. h) (listed_pair (λ d h. h) (λ d h. h)))) };
-
-    ghost of_fields = { λ t. listed_pair
-        (listed_pair (listed_pair (λ d h. h) (listed_pair (λ d h. h) (λ d h. h)))
-        (listed_pair (λ d h. h) (listed_pair (λ d h. h) (λ d h. h))))
-        (listed_pair (listed_pair (λ d h. h) (listed_pair (λ d h. h) (λ d h. h)))
-        (listed_pair (λ d h. h) (listed_pair (λ d h. h) (λ d h. h)))) };
+    ghost same_listings = { λ t. pair_alike
+        (pair_alike (pair_alike field_alike (pair_alike field_alike field_alike))
+        (pair_alike field_alike (pair_alike field_alike field_alike)))
+        (pair_alike (pair_alike field_alike (pair_alike field_alike field_alike))
+        (pair_alike field_alike (pair_alike field_alike field_alike))) };
 }

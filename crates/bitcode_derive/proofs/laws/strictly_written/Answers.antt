@@ -6,4 +6,4 @@ pub returns-clause-written : goal.returns-clause-written
 returns-clause-written g c = strictly_written c.args.t.now c.args.bytes.now
 
 pub returns-clause-read : goal.returns-clause-read
-returns-clause-read g c = strictly_read g.met.T.Shaped.lawful c.args.t.now c.args.bytes.now c.told.ensures
+returns-clause-read g c = strictly_read g.T.Shaped.data.lawful c.args.t.now c.args.bytes.now c.told.ensures

@@ -7,35 +7,35 @@ use Rattle.bitcode_derive.specs.Whole.{in_columns, bytes_left}
 use Rattle.bitcode_derive.proofs.whole.decode.Goals as goal
 
 pub returns-in_err-populate-clause-unambiguous : goal.returns-in_err-populate-clause-unambiguous
-returns-in_err-populate-clause-unambiguous g c = spells_at_most_one g.T.Shaped.shape c.args.bytes.now
+returns-in_err-populate-clause-unambiguous g c = spells_at_most_one g.T.Shaped.data.shape c.args.bytes.now
 
 pub returns-in_err-populate-clause-bounded : goal.returns-in_err-populate-clause-bounded
-returns-in_err-populate-clause-bounded g c = bounded_by_bytes g.T.Shaped.shape c.args.bytes.now g.met.T.Shaped.lawful.sound
+returns-in_err-populate-clause-bounded g c = bounded_by_bytes g.T.Shaped.data.shape c.args.bytes.now g.T.Shaped.data.lawful.sound
 
 pub returns-in_err-populate-clause-refused : goal.returns-in_err-populate-clause-refused
 returns-in_err-populate-clause-refused g c =
-    let same : g.T.Decoder.HoldsData.shape ≡ g.T.Shaped.shape = search rules in
+    let same : g.T.Decoder.HoldsData.shape ≡ g.T.Shaped.data.shape = search rules in
     let p = err_from_is_err_and c.from_residual.result c.from_residual.ensures.1 in
-    rw (p.1, p.2) (λ other. none_spelled-unread g.T.Decoder.HoldsData.shape g.T.Shaped.shape same c.args.bytes.now (c.in_err-populate.ensures.refused.1 other))
+    rw (p.1, p.2) (λ other. none_spelled-unread g.T.Decoder.HoldsData.shape g.T.Shaped.data.shape same c.args.bytes.now (c.in_err-populate.ensures.refused.1 other))
 
 pub returns-in_err-expect_eof-clause-unambiguous : goal.returns-in_err-expect_eof-clause-unambiguous
-returns-in_err-expect_eof-clause-unambiguous g c = spells_at_most_one g.T.Shaped.shape c.args.bytes.now
+returns-in_err-expect_eof-clause-unambiguous g c = spells_at_most_one g.T.Shaped.data.shape c.args.bytes.now
 
 pub returns-in_err-expect_eof-clause-bounded : goal.returns-in_err-expect_eof-clause-bounded
-returns-in_err-expect_eof-clause-bounded g c = bounded_by_bytes g.T.Shaped.shape c.args.bytes.now g.met.T.Shaped.lawful.sound
+returns-in_err-expect_eof-clause-bounded g c = bounded_by_bytes g.T.Shaped.data.shape c.args.bytes.now g.T.Shaped.data.lawful.sound
 
 pub returns-in_err-expect_eof-clause-refused : goal.returns-in_err-expect_eof-clause-refused
 returns-in_err-expect_eof-clause-refused g c =
-    let same : g.T.Decoder.HoldsData.shape ≡ g.T.Shaped.shape = search rules in
+    let same : g.T.Decoder.HoldsData.shape ≡ g.T.Shaped.data.shape = search rules in
     let p = err_from_is_err_and c.from_residual-in_err-expect_eof.result c.from_residual-in_err-expect_eof.ensures.1 in
     let r = c.in_ok-populate.ensures.read in
-    rw (p.1, p.2) (λ other. none_spelled-left g.T.Decoder.HoldsData.shape g.T.Shaped.shape same c.args.bytes.now _ _ r (c.in_err-expect_eof.ensures.refused.0 refl))
+    rw (p.1, p.2) (λ other. none_spelled-left g.T.Decoder.HoldsData.shape g.T.Shaped.data.shape same c.args.bytes.now _ _ r (c.in_err-expect_eof.ensures.refused.0 refl))
 
 pub returns-clause-unambiguous : goal.returns-clause-unambiguous
-returns-clause-unambiguous g c = spells_at_most_one g.T.Shaped.shape c.args.bytes.now
+returns-clause-unambiguous g c = spells_at_most_one g.T.Shaped.data.shape c.args.bytes.now
 
 pub returns-clause-bounded : goal.returns-clause-bounded
-returns-clause-bounded g c = bounded_by_bytes g.T.Shaped.shape c.args.bytes.now g.met.T.Shaped.lawful.sound
+returns-clause-bounded g c = bounded_by_bytes g.T.Shaped.data.shape c.args.bytes.now g.T.Shaped.data.lawful.sound
 
 pub returns-in_err-populate-clause-exact : goal.returns-in_err-populate-clause-exact
 returns-in_err-populate-clause-exact g c =

@@ -10,54 +10,54 @@ use Rattle.bitcode_derive.specs.Whole.{in_columns, bytes_left}
 use Rattle.bitcode_derive.proofs.whole.decode_strict.Goals as goal
 
 pub returns-in_err-written-clause-unambiguous : goal.returns-in_err-written-clause-unambiguous
-returns-in_err-written-clause-unambiguous g c = spells_at_most_one g.T.Shaped.shape c.args.bytes.now
+returns-in_err-written-clause-unambiguous g c = spells_at_most_one g.T.Shaped.data.shape c.args.bytes.now
 
 pub returns-in_err-written-clause-bounded : goal.returns-in_err-written-clause-bounded
-returns-in_err-written-clause-bounded g c = bounded_by_bytes g.T.Shaped.shape c.args.bytes.now g.met.T.Shaped.lawful.sound
+returns-in_err-written-clause-bounded g c = bounded_by_bytes g.T.Shaped.data.shape c.args.bytes.now g.T.Shaped.data.lawful.sound
 
 pub returns-in_err-written-clause-refused : goal.returns-in_err-written-clause-refused
 returns-in_err-written-clause-refused g c =
-    let same : g.T.Decoder.HoldsData.shape ≡ g.T.Shaped.shape = search rules in
+    let same : g.T.Decoder.HoldsData.shape ≡ g.T.Shaped.data.shape = search rules in
     let p = err_from_is_err_and c.from_residual.result c.from_residual.ensures.1 in
-    rw (p.1, p.2) (strictly_refused g.T.Decoder.HoldsData.shape g.T.Shaped.shape same c.args.bytes.now _ c.in_err-written.ensures.refused)
+    rw (p.1, p.2) (strictly_refused g.T.Decoder.HoldsData.shape g.T.Shaped.data.shape same c.args.bytes.now _ c.in_err-written.ensures.refused)
 
 pub returns-in_err-expect_eof-clause-unambiguous : goal.returns-in_err-expect_eof-clause-unambiguous
-returns-in_err-expect_eof-clause-unambiguous g c = spells_at_most_one g.T.Shaped.shape c.args.bytes.now
+returns-in_err-expect_eof-clause-unambiguous g c = spells_at_most_one g.T.Shaped.data.shape c.args.bytes.now
 
 pub returns-in_err-expect_eof-clause-bounded : goal.returns-in_err-expect_eof-clause-bounded
-returns-in_err-expect_eof-clause-bounded g c = bounded_by_bytes g.T.Shaped.shape c.args.bytes.now g.met.T.Shaped.lawful.sound
+returns-in_err-expect_eof-clause-bounded g c = bounded_by_bytes g.T.Shaped.data.shape c.args.bytes.now g.T.Shaped.data.lawful.sound
 
 pub returns-in_err-expect_eof-clause-refused : goal.returns-in_err-expect_eof-clause-refused
 returns-in_err-expect_eof-clause-refused g c =
-    let same : g.T.Decoder.HoldsData.shape ≡ g.T.Shaped.shape = search rules in
+    let same : g.T.Decoder.HoldsData.shape ≡ g.T.Shaped.data.shape = search rules in
     let p = err_from_is_err_and c.from_residual-in_err-expect_eof.result c.from_residual-in_err-expect_eof.ensures.1 in
     rw (p.1, p.2) (none_spelled (subst IsReadingReason (sym c.in_err-expect_eof.ensures.reason) tt)
-    (none_spelled-left g.T.Decoder.HoldsData.shape g.T.Shaped.shape same c.args.bytes.now _ _ c.in_ok-written.ensures.read (c.in_err-expect_eof.ensures.refused.0 refl)))
+    (none_spelled-left g.T.Decoder.HoldsData.shape g.T.Shaped.data.shape same c.args.bytes.now _ _ c.in_ok-written.ensures.read (c.in_err-expect_eof.ensures.refused.0 refl)))
 
 pub returns-then-not-written-clause-unambiguous : goal.returns-then-not-written-clause-unambiguous
-returns-then-not-written-clause-unambiguous g c = spells_at_most_one g.T.Shaped.shape c.args.bytes.now
+returns-then-not-written-clause-unambiguous g c = spells_at_most_one g.T.Shaped.data.shape c.args.bytes.now
 
 pub returns-then-not-written-clause-bounded : goal.returns-then-not-written-clause-bounded
-returns-then-not-written-clause-bounded g c = bounded_by_bytes g.T.Shaped.shape c.args.bytes.now g.met.T.Shaped.lawful.sound
+returns-then-not-written-clause-bounded g c = bounded_by_bytes g.T.Shaped.data.shape c.args.bytes.now g.T.Shaped.data.lawful.sound
 
 pub returns-then-not-written-clause-refused : goal.returns-then-not-written-clause-refused
 returns-then-not-written-clause-refused g c =
-    let same : g.T.Decoder.HoldsData.shape ≡ g.T.Shaped.shape = search rules in
+    let same : g.T.Decoder.HoldsData.shape ≡ g.T.Shaped.data.shape = search rules in
     rw c.err.ensures (other_bytes refl
-    (spelled_otherwise g.T.Decoder.HoldsData.shape g.T.Shaped.shape same c.args.bytes.now _ _ c.in_ok-written.ensures.read
+    (spelled_otherwise g.T.Decoder.HoldsData.shape g.T.Shaped.data.shape same c.args.bytes.now _ _ c.in_ok-written.ensures.read
     (λ more. false≢true (c.in_ok-expect_eof.ensures.refused.1 more)) (λ strict. false≢true (sym c.if-not-written.true ∙ c.in_ok-written.ensures.strict.1 strict))))
 
 pub returns-clause-unambiguous : goal.returns-clause-unambiguous
-returns-clause-unambiguous g c = spells_at_most_one g.T.Shaped.shape c.args.bytes.now
+returns-clause-unambiguous g c = spells_at_most_one g.T.Shaped.data.shape c.args.bytes.now
 
 pub returns-clause-bounded : goal.returns-clause-bounded
-returns-clause-bounded g c = bounded_by_bytes g.T.Shaped.shape c.args.bytes.now g.met.T.Shaped.lawful.sound
+returns-clause-bounded g c = bounded_by_bytes g.T.Shaped.data.shape c.args.bytes.now g.T.Shaped.data.lawful.sound
 
 pub returns-clause-found : goal.returns-clause-found
 returns-clause-found g c =
-    let same : g.T.Decoder.HoldsData.shape ≡ g.T.Shaped.shape = search rules in
+    let same : g.T.Decoder.HoldsData.shape ≡ g.T.Shaped.data.shape = search rules in
     IfOk-weaker c.decode.result _ _
-    (λ t taken. strictly_found g.T.Decoder.HoldsData.shape g.T.Shaped.shape same c.args.bytes.now g.T.Made.makes t _ _ _
+    (λ t taken. strictly_found g.T.Decoder.HoldsData.shape g.T.Shaped.data.shape same c.args.bytes.now g.T.Shaped.data.makes t _ _ _
     (c.in_ok-written.ensures.strict.0 c.if-not-written.false) (λ more. false≢true (c.in_ok-expect_eof.ensures.refused.1 more)) taken)
     c.decode.ensures.made
 

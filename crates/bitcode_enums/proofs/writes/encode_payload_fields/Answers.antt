@@ -8,12 +8,12 @@ pub returns-in_err-reserve-clause-refused : goal.returns-in_err-reserve-clause-r
 returns-in_err-reserve-clause-refused g c =
     let refused = err_from_is_err_and c.from_residual.result c.from_residual.ensures.1 in
     let whole = g.F.Fields.whole c.args.fields.now in
-    let listed = g.met.F.Whole.Shaped.lawful.listed whole c.told.ensures in
-    let of_shape = g.met.F.Whole.Shaped.lawful.of_shape whole listed.0 c.told.ensures listed.1 in
+    let listed = g.F.Whole.Shaped.data.lawful.listed whole c.told.ensures in
+    let of_shape = g.F.Whole.Shaped.data.lawful.of_shape whole listed.0 c.told.ensures listed.1 in
     rw (refused.1, refused.2) (
     refusal_weaker _ (λ surely. record {
       datum = listed.0;
       listing = listed.1;
-      overflows = overflows_surely g.F.Whole.Shaped.shape (g.E.HoldsColumns.columns c.args.columns.now) listed.0 of_shape (g.met.E.Encoder.surely c.args.columns.now 1 surely);
+      overflows = overflows_surely g.F.Whole.Shaped.data.shape (g.E.HoldsColumns.columns c.args.columns.now) listed.0 of_shape (g.met.E.Encoder.surely c.args.columns.now 1 surely);
     }) c.in_err-reserve.ensures.refused
     )

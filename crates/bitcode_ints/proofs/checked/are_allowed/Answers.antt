@@ -13,7 +13,7 @@ pub loop-entry-preserved : goal.loop-entry-preserved
 loop-entry-preserved g c =
     let number_at = λ (entry : g.row.I-Une.Denot). number_of g.I.ColumnInt.width g.I.ColumnInt.signed (little_endian (g.I.ColumnInt.une_bytes entry)) in
     let here : IsAllowed g.C.Checked.allowed (g.I.ColumnInt.number c.from_unaligned.result) =
-    value_allowed _ (λ t. g.C.Made.makes (number (g.I.ColumnInt.number c.from_unaligned.result)) t) c.from_bits.result c.if-is_none.ensures c.from_bits.ensures in
+    value_allowed _ (λ t. g.C.Shaped.data.makes (number (g.I.ColumnInt.number c.from_unaligned.result)) t) c.from_bits.result c.if-is_none.ensures c.from_bits.ensures in
     All-more (λ entry. IsAllowed g.C.Checked.allowed (number_at entry)) c.args.entries.now c.loop-entry.entry-index c.entry-item.result
     c.loop-entry-test.true c.loop-entry.invariant
     (subst (IsAllowed g.C.Checked.allowed) (c.from_unaligned.ensures ∙ ap number_at c.entry-item.is) here)

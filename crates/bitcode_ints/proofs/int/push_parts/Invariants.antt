@@ -5,6 +5,6 @@ use Rattle.bitcode_ints.proofs.int.push_parts.Given as goal
 
 abbrev pub invariant-loop-item : goal.invariant-loop-item
 invariant-loop-item g l = record {
-  pushed : PushesInts g.P.Shaped.lists g.I.ColumnInt.number (map (g.W.Part.of l.which) (take l.item-index l.items)) (fast_items l.initial.ints) (fast_items l.ints);
+  pushed : PushesInts g.P.Shaped.data.lists g.I.ColumnInt.number (map (g.W.Part.of l.which) (take l.item-index l.items)) (fast_items l.initial.ints) (fast_items l.ints);
   room : fast_room l.initial.ints ≡ fast_room l.ints + l.item-index;
 }

@@ -11,8 +11,8 @@ use Rattle.bitcode_parts.proofs.maps.encode_gathered.Goals as goal
 
 pub loop-first-init : goal.loop-first-init
 loop-first-init g c = record {
-  keys = front_none g.K.Shaped.lists g.K.Shaped.shape (g.E.HoldsColumns.columns c.args.keys.now) (g.met.E.Encoder.of_shape c.args.keys.now) (keys_of c.args.rest);
-  values = front_none g.V.Shaped.lists g.V.Shaped.shape (g.F.HoldsColumns.columns c.args.values.now) (g.met.F.Encoder.of_shape c.args.values.now) (values_of c.args.rest);
+  keys = front_none g.K.Shaped.data.lists g.K.Shaped.data.shape (g.E.HoldsColumns.columns c.args.keys.now) (g.met.E.Encoder.of_shape c.args.keys.now) (keys_of c.args.rest);
+  values = front_none g.V.Shaped.data.lists g.V.Shaped.data.shape (g.F.HoldsColumns.columns c.args.values.now) (g.met.F.Encoder.of_shape c.args.values.now) (values_of c.args.rest);
   are_keys = c.requires.are.0;
   are_values = c.requires.are.1;
   keys_room = c.requires.room.0;
@@ -36,8 +36,8 @@ loop-first-preserved g c =
     let taken : left ≡ map deref_pair pairs ++ rest = c.in-Some.ensures.steps ∙ c.gather_pairs-count.ensures.taken in
     let fewer = as_many_left left rest pairs taken in
     let was = c.loop-first.invariant in
-    let keys = g.K.Shaped in
-    let values = g.V.Shaped in
+    let keys = g.K.Shaped.data in
+    let values = g.V.Shaped.data in
     let old_keys = g.E.HoldsColumns.columns c.args.keys.now in
     let old_values = g.F.HoldsColumns.columns c.args.values.now in
     let keys_now = g.E.HoldsColumns.columns c.loop-first.keys in
@@ -68,10 +68,10 @@ returns-in_err-encode_part_of_each-clause-refused g c =
     let left = c.loop-first.rest in
     let rest = c.gather_pairs-count.new.rest in
     let taken : left ≡ map deref_pair pairs ++ rest = c.in-Some.ensures.steps ∙ c.gather_pairs-count.ensures.taken in
-    let keys = g.K.Shaped in
+    let keys = g.K.Shaped.data in
     let old = g.E.HoldsColumns.columns c.args.keys.now in
     let now = g.E.HoldsColumns.columns c.loop-first.keys in
-    let others = each_listed keys.shape keys.is_value keys.lists keys.same keys.in_order g.met.K.Shaped.lawful (keys_of rest) (keys_are left rest pairs taken keys.is_value c.loop-first.invariant.are_keys) in
+    let others = each_listed keys.shape keys.is_value keys.lists keys.same keys.in_order g.K.Shaped.data.lawful (keys_of rest) (keys_are left rest pairs taken keys.is_value c.loop-first.invariant.are_keys) in
     rw (refused.1, refused.2) (
     refusal_weaker _ (λ some. inl (
     front_overflows_each keys.lists keys.shape old (g.met.E.Encoder.of_shape c.args.keys.now) (keys_of c.args.rest) (map (λ pair. pair.0.now) pairs) (keys_of rest) now
@@ -86,11 +86,11 @@ returns-in_err-encode_part_of_each-2-clause-refused g c =
     let left = c.loop-first.rest in
     let rest = c.gather_pairs-count.new.rest in
     let taken : left ≡ map deref_pair pairs ++ rest = c.in-Some.ensures.steps ∙ c.gather_pairs-count.ensures.taken in
-    let values = g.V.Shaped in
+    let values = g.V.Shaped.data in
     let old = g.F.HoldsColumns.columns c.args.values.now in
     let now = g.F.HoldsColumns.columns c.loop-first.values in
     let others =
-    each_listed values.shape values.is_value values.lists values.same values.in_order g.met.V.Shaped.lawful (values_of rest) (values_are left rest pairs taken values.is_value c.loop-first.invariant.are_values) in
+    each_listed values.shape values.is_value values.lists values.same values.in_order g.V.Shaped.data.lawful (values_of rest) (values_are left rest pairs taken values.is_value c.loop-first.invariant.are_values) in
     rw (refused.1, refused.2) (
     refusal_weaker _ (λ some. inr (
     front_overflows_each values.lists values.shape old (g.met.F.Encoder.of_shape c.args.values.now) (values_of c.args.rest) (map (λ pair. pair.1.now) pairs) (values_of rest) now

@@ -6,10 +6,10 @@ use Rattle.bitcode_parts.proofs.maps.encode_gathered.Given as goal
 
 abbrev pub invariant-loop-first : goal.invariant-loop-first
 invariant-loop-first g l = record {
-  keys : JoinsFront g.K.Shaped.lists g.K.Shaped.shape (keys_of l.initial.rest) (keys_of l.rest) (g.E.HoldsColumns.columns l.initial.keys) (g.E.HoldsColumns.columns l.keys);
-  values : JoinsFront g.V.Shaped.lists g.V.Shaped.shape (values_of l.initial.rest) (values_of l.rest) (g.F.HoldsColumns.columns l.initial.values) (g.F.HoldsColumns.columns l.values);
-  are_keys : All g.K.Shaped.is_value (keys_of l.rest);
-  are_values : All g.V.Shaped.is_value (values_of l.rest);
+  keys : JoinsFront g.K.Shaped.data.lists g.K.Shaped.data.shape (keys_of l.initial.rest) (keys_of l.rest) (g.E.HoldsColumns.columns l.initial.keys) (g.E.HoldsColumns.columns l.keys);
+  values : JoinsFront g.V.Shaped.data.lists g.V.Shaped.data.shape (values_of l.initial.rest) (values_of l.rest) (g.F.HoldsColumns.columns l.initial.values) (g.F.HoldsColumns.columns l.values);
+  are_keys : All g.K.Shaped.data.is_value (keys_of l.rest);
+  are_values : All g.V.Shaped.data.is_value (values_of l.rest);
   keys_room : length l.rest ≤ g.E.HoldsColumns.room l.keys;
   values_room : length l.rest ≤ g.F.HoldsColumns.room l.values;
   keys_form : emptied (g.E.HoldsColumns.columns l.keys) ≡ emptied (g.E.HoldsColumns.columns l.initial.keys);

@@ -73,12 +73,12 @@ fn encode_from<'a, S, T: Shaped, W: Part<S, Option<T>>, E: Buffer + Encoder<T>>(
     requires chunk { length items.now ≤ MAX_VECTORED_CHUNK }
     requires any { 0 < length (values_in (map (W.of which.now) items.now)) }
     ensures joined { OnOk result
-        (JoinsEach T.lists T.shape (values_in (map (W.of which.now) items.now))
+        (JoinsEach T.data.lists T.data.shape (values_in (map (W.of which.now) items.now))
         (E.columns encoder.old) (E.columns encoder.new)) }
     ensures form { emptied (E.columns encoder.new) ≡ emptied (E.columns encoder.old) }
     ensures refused { IfErr result
         (λ e. IsWritingRefusal e.reason
-        (OverflowsWithEach T.lists T.shape (values_in (map (W.of which.now) items.now))
+        (OverflowsWithEach T.data.lists T.data.shape (values_in (map (W.of which.now) items.now))
         (E.columns encoder.old))) }
 {
     let mut values = [first; MAX_VECTORED_CHUNK];
@@ -94,12 +94,12 @@ pub(super) fn encode_values<'a, S, T: Shaped, W: Part<S, Option<T>>, E: Buffer +
 ) -> Result<(), Error>
     requires { length items.now ≤ MAX_VECTORED_CHUNK }
     ensures joined { OnOk result
-        (JoinsEach T.lists T.shape (values_in (map (W.of which.now) items.now))
+        (JoinsEach T.data.lists T.data.shape (values_in (map (W.of which.now) items.now))
         (E.columns encoder.old) (E.columns encoder.new)) }
     ensures form { emptied (E.columns encoder.new) ≡ emptied (E.columns encoder.old) }
     ensures refused { IfErr result
         (λ e. IsWritingRefusal e.reason
-        (OverflowsWithEach T.lists T.shape (values_in (map (W.of which.now) items.now))
+        (OverflowsWithEach T.data.lists T.data.shape (values_in (map (W.of which.now) items.now))
         (E.columns encoder.old))) }
 {
     match first_value(items, which) {

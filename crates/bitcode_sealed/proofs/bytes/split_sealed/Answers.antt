@@ -1,5 +1,4 @@
 -- The first of the faults.
-use Rattle.std.specs.Prelude.{IfOk}
 use Rattle.std.proofs.lemmas.Result.{err_from_is_err_and, IfOk-weaker, IfErr-weaker}
 use Rattle.bitcode_sealed.specs.Faults.{HasValueBehind, IsValueFault, IsSealedFront, IsFault, in_label, in_value}
 use Rattle.bitcode_sealed.proofs.ValueLemmas.{sealed_front}

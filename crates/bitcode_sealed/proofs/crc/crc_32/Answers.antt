@@ -1,10 +1,10 @@
 -- The chunks, and the bytes behind them, are taken in one by one.
-use Rattle.std.proofs.Common.{◌≡◌, ◌+◌, ◌*◌, ◌/◌, List, ℕ, ◌++◌, length, take, drop, refl, ap, sym, ◌∙◌, arith}
+use Rattle.std.proofs.Common.{◌≡◌, ◌+◌, ◌*◌, ◌/◌, ◌++◌, length, take, drop, ap, sym, ◌∙◌}
 use Rattle.std.specs.Prelude.{bit_xor}
 use Rattle.std.specs.List.{concat}
 use Rattle.std.proofs.lemmas.List.{at_drop_more, at_drop_all, take-append-drop}
 use Rattle.bitcode_memory.proofs.ConsumeLemmas.{concat-first_chunks}
-use Rattle.bitcode_sealed.specs.Crc.{ones, byte_step, register_after, crc_32}
+use Rattle.bitcode_sealed.specs.Crc.{ones, register_after, crc_32}
 use Rattle.bitcode_sealed.proofs.CrcLemmas.{register-append}
 use Rattle.bitcode_sealed.proofs.crc.crc_32.Goals as goal
 

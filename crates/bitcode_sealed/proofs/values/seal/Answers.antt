@@ -4,5 +4,5 @@ use Rattle.bitcode_sealed.proofs.values.seal.Goals as goal
 
 pub returns-clause-written : goal.returns-clause-written
 returns-clause-written g c =
-    sealed_alone g.T.Shaped.lists g.T.Shaped.shape c.args.label c.args.t.now c.new-bytes.result.items c.seal_into.new.out.items c.new-bytes.ensures.items
+    sealed_alone g.T.Shaped.data.lists g.T.Shaped.data.shape c.args.label c.args.t.now c.new-bytes.result.items c.seal_into.new.out.items c.new-bytes.ensures.items
     c.in_ok-seal_into.ensures.written

@@ -11,7 +11,7 @@ returns-clause-taken g c =
     let made = c.in_ok-items.ensures.made in
     made.taken
     ∙ ap (λ ds. ds ++ g.D.HoldsData.held c.decode_many.new.self)
-    (data_made g.T.Case.holder g.T.Made.makes g.met.T.Case.made made.parts c.in_ok-items.items.items made.made ∙ ap (map datum_of) (sym c.in_ok-values.ensures.held))
+    (data_made g.T.Case.holder g.T.Shaped.data.makes g.met.T.Case.made made.parts c.in_ok-items.items.items made.made ∙ ap (map datum_of) (sym c.in_ok-values.ensures.held))
 
 pub returns-clause-of_case : goal.returns-clause-of_case
 returns-clause-of_case g c =

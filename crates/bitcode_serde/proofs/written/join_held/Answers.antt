@@ -10,7 +10,7 @@ pub returns-clause-joined : goal.returns-clause-joined
 returns-clause-joined g c =
     let held = take (length c.args.values.now) c.gather.new.held in
     on_ok_weaker c.encode_vectored.result
-    (λ joins. columns_joined g.T.Case.kind g.T.Case.holder g.T.Shaped.is_value g.T.Shaped.lists g.T.Shaped.shape g.met.T.Case.datum g.met.T.Case.one_column
+    (λ joins. columns_joined g.T.Case.kind g.T.Case.holder g.T.Shaped.data.is_value g.T.Shaped.data.lists g.T.Shaped.data.shape g.met.T.Case.datum g.met.T.Case.one_column
     (map (λ t. t.now) held) c.args.values.now _ _ (map-map _ _ held ∙ c.if-not-gather.ensures.gathered) joins)
     c.encode_vectored.ensures.joined
 
@@ -18,8 +18,8 @@ pub returns-clause-entries : goal.returns-clause-entries
 returns-clause-entries g c =
     let held = take (length c.args.values.now) c.gather.new.held in
     on_ok_weaker c.encode_vectored.result
-    (λ joins. entries_joined g.T.Case.kind g.T.Case.holder g.T.Shaped.is_value g.T.Shaped.lists g.T.Shaped.shape g.met.T.Case.datum g.met.T.Case.of_case
-    g.met.T.Case.entry g.met.T.Shaped.lawful.of_shape (map (λ t. t.now) held) c.args.values.now _ _ (map-map _ _ held ∙ c.if-not-gather.ensures.gathered)
+    (λ joins. entries_joined g.T.Case.kind g.T.Case.holder g.T.Shaped.data.is_value g.T.Shaped.data.lists g.T.Shaped.data.shape g.met.T.Case.datum g.met.T.Case.of_case
+    g.met.T.Case.entry g.T.Shaped.data.lawful.of_shape (map (λ t. t.now) held) c.args.values.now _ _ (map-map _ _ held ∙ c.if-not-gather.ensures.gathered)
     c.told_parts.ensures joins)
     c.encode_vectored.ensures.joined
 
@@ -27,5 +27,5 @@ pub returns-clause-refused : goal.returns-clause-refused
 returns-clause-refused g c =
     let held = take (length c.args.values.now) c.gather.new.held in
     if_err _ _ c.encode_vectored.result
-    (λ e h. memory_alone g.T.Case.kind g.T.Case.holder g.T.Shaped.is_value g.T.Shaped.lists g.T.Shaped.shape g.met.T.Case.datum g.met.T.Case.one_column
+    (λ e h. memory_alone g.T.Case.kind g.T.Case.holder g.T.Shaped.data.is_value g.T.Shaped.data.lists g.T.Shaped.data.shape g.met.T.Case.datum g.met.T.Case.one_column
     (map (λ t. t.now) held) _ e.reason _ h) c.encode_vectored.ensures.refused

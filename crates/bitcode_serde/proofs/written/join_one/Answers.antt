@@ -8,20 +8,20 @@ use Rattle.bitcode_serde.proofs.written.join_one.Goals as goal
 pub returns-in-Some-clause-joined : goal.returns-in-Some-clause-joined
 returns-in-Some-clause-joined g c =
     on_ok_weaker c.join.result
-    (λ one. columns_joined g.T.Case.kind g.T.Case.holder g.T.Shaped.is_value g.T.Shaped.lists g.T.Shaped.shape g.met.T.Case.datum g.met.T.Case.one_column
+    (λ one. columns_joined g.T.Case.kind g.T.Case.holder g.T.Shaped.data.is_value g.T.Shaped.data.lists g.T.Shaped.data.shape g.met.T.Case.datum g.met.T.Case.one_column
     (c.in-Some.t.now ∷ []) (c.args.value.now ∷ []) _ _ (ap (λ v. v ∷ []) (sym c.in-Some.ensures.some)) (joins_one _ _ _ _ _ one))
     c.join.ensures.joined
 
 pub returns-in-Some-clause-entries : goal.returns-in-Some-clause-entries
 returns-in-Some-clause-entries g c =
     on_ok_weaker c.join.result
-    (λ one. entries_joined g.T.Case.kind g.T.Case.holder g.T.Shaped.is_value g.T.Shaped.lists g.T.Shaped.shape g.met.T.Case.datum g.met.T.Case.of_case
-    g.met.T.Case.entry g.met.T.Shaped.lawful.of_shape (c.in-Some.t.now ∷ []) (c.args.value.now ∷ []) _ _ (ap (λ v. v ∷ []) (sym c.in-Some.ensures.some))
-    (all_one g.T.Shaped.is_value c.in-Some.t.now c.told.ensures) (joins_one _ _ _ _ _ one))
+    (λ one. entries_joined g.T.Case.kind g.T.Case.holder g.T.Shaped.data.is_value g.T.Shaped.data.lists g.T.Shaped.data.shape g.met.T.Case.datum g.met.T.Case.of_case
+    g.met.T.Case.entry g.T.Shaped.data.lawful.of_shape (c.in-Some.t.now ∷ []) (c.args.value.now ∷ []) _ _ (ap (λ v. v ∷ []) (sym c.in-Some.ensures.some))
+    (all_one g.T.Shaped.data.is_value c.in-Some.t.now c.told.ensures) (joins_one _ _ _ _ _ one))
     c.join.ensures.joined
 
 pub returns-in-Some-clause-refused : goal.returns-in-Some-clause-refused
 returns-in-Some-clause-refused g c =
     if_err _ _ c.join.result
-    (λ e h. one_refused h (never_overflows g.T.Case.kind g.T.Shaped.lists g.T.Shaped.shape g.met.T.Case.one_column c.in-Some.t.now _))
+    (λ e h. one_refused h (never_overflows g.T.Case.kind g.T.Shaped.data.lists g.T.Shaped.data.shape g.met.T.Case.one_column c.in-Some.t.now _))
     c.join.ensures.refused

@@ -9,5 +9,5 @@ returns g c =
     let of = g.W.Part.of c.args.which.now in
     let items = c.args.items.now in
     let listed =
-    each_listed g.T.Shaped.shape g.T.Shaped.is_value g.T.Shaped.lists g.T.Shaped.same g.T.Shaped.in_order g.met.T.Shaped.lawful (map of items) c.told_parts.ensures in
-    (listed.0, each_listed_as of (λ t. t) g.T.Shaped.lists g.E.PartEncoder.lists g.met.T.InFields.to_fields items listed.0 listed.1)
+    each_listed g.T.Shaped.data.shape g.T.Shaped.data.is_value g.T.Shaped.data.lists g.T.Shaped.data.same g.T.Shaped.data.in_order g.T.Shaped.data.lawful (map of items) c.told_parts.ensures in
+    (listed.0, each_listed_as of (λ t. t) g.T.Shaped.data.lists g.E.PartEncoder.lists (λ t. (g.met.T.InFields.same_listings t).to) items listed.0 listed.1)

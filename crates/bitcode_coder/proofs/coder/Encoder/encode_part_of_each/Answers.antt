@@ -11,7 +11,7 @@ use Rattle.bitcode_coder.proofs.coder.Encoder.encode_part_of_each.Goals as goal
 
 pub loop-item-init : goal.loop-item-init
 loop-item-init g c = record {
-  front = front_none g.T.Shaped.lists g.T.Shaped.shape (g.Self.HoldsColumns.columns c.args.self.now) (g.met.Self.Encoder.of_shape c.args.self.now) (map (g.W.Part.of c.args.which.now) c.args.items.now);
+  front = front_none g.T.Shaped.data.lists g.T.Shaped.data.shape (g.Self.HoldsColumns.columns c.args.self.now) (g.met.Self.Encoder.of_shape c.args.self.now) (map (g.W.Part.of c.args.which.now) c.args.items.now);
   room = omega arith;
   form = refl;
 }
@@ -22,8 +22,8 @@ encode-requires g c = omega (arith, c.requires.room, c.loop-item.invariant.room,
 pub returns-in_err-encode-clause-refused : goal.returns-in_err-encode-clause-refused
 returns-in_err-encode-clause-refused g c =
     let refused = err_from_is_err_and c.from_residual.result c.from_residual.ensures.1 in
-    let lists = g.T.Shaped.lists in
-    let shape = g.T.Shaped.shape in
+    let lists = g.T.Shaped.data.lists in
+    let shape = g.T.Shaped.data.shape in
     let whole = map (g.W.Part.of c.args.which.now) c.args.items.now in
     let behind = drop (c.loop-item.item-index + 1) c.args.items.now in
     let rest = map (g.W.Part.of c.args.which.now) behind in
@@ -31,8 +31,8 @@ returns-in_err-encode-clause-refused g c =
     let now = g.Self.HoldsColumns.columns c.loop-item.self in
     let step = next_behind (g.W.Part.of c.args.which.now) c.args.items.now c.loop-item.item-index c.item-item.result c.loop-item-test.true c.item-item.is in
     let others =
-    each_listed shape g.T.Shaped.is_value lists g.T.Shaped.same g.T.Shaped.in_order g.met.T.Shaped.lawful rest
-    (subst (All g.T.Shaped.is_value) (drop-map (g.W.Part.of c.args.which.now) (c.loop-item.item-index + 1) c.args.items.now) (All-drop g.T.Shaped.is_value (c.loop-item.item-index + 1) (map (g.W.Part.of c.args.which.now) c.args.items.now) c.told_parts.ensures)) in
+    each_listed shape g.T.Shaped.data.is_value lists g.T.Shaped.data.same g.T.Shaped.data.in_order g.T.Shaped.data.lawful rest
+    (subst (All g.T.Shaped.data.is_value) (drop-map (g.W.Part.of c.args.which.now) (c.loop-item.item-index + 1) c.args.items.now) (All-drop g.T.Shaped.data.is_value (c.loop-item.item-index + 1) (map (g.W.Part.of c.args.which.now) c.args.items.now) c.told_parts.ensures)) in
     rw (refused.1, refused.2) (
     refusal_weaker _ (λ one.
     front_overflows lists shape old (g.met.Self.Encoder.of_shape c.args.self.now) whole rest (g.W.Part.of c.args.which.now c.item-item.result) now
@@ -42,8 +42,8 @@ returns-in_err-encode-clause-refused g c =
 
 pub loop-item-preserved : goal.loop-item-preserved
 loop-item-preserved g c =
-    let lists = g.T.Shaped.lists in
-    let shape = g.T.Shaped.shape in
+    let lists = g.T.Shaped.data.lists in
+    let shape = g.T.Shaped.data.shape in
     let whole = map (g.W.Part.of c.args.which.now) c.args.items.now in
     let rest = map (g.W.Part.of c.args.which.now) (drop (c.loop-item.item-index + 1) c.args.items.now) in
     let old = g.Self.HoldsColumns.columns c.args.self.now in
@@ -59,7 +59,7 @@ loop-item-preserved g c =
 
 pub returns-clause-joined : goal.returns-clause-joined
 returns-clause-joined g c =
-    front_whole g.T.Shaped.lists g.T.Shaped.shape (g.Self.HoldsColumns.columns c.args.self.now) (g.met.Self.Encoder.of_shape c.args.self.now)
+    front_whole g.T.Shaped.data.lists g.T.Shaped.data.shape (g.Self.HoldsColumns.columns c.args.self.now) (g.met.Self.Encoder.of_shape c.args.self.now)
     (map (g.W.Part.of c.args.which.now) c.args.items.now) (map (g.W.Part.of c.args.which.now) (drop c.loop-item.item-index c.args.items.now)) (g.Self.HoldsColumns.columns c.loop-item.self)
     c.loop-item.invariant.front (at_drop_all (map (g.W.Part.of c.args.which.now)) c.args.items.now c.loop-item.item-index (omega (arith, c.loop-item-test.false)))
 

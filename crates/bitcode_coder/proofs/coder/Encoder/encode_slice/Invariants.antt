@@ -5,8 +5,8 @@ use Rattle.bitcode_coder.proofs.coder.Encoder.encode_slice.Given as goal
 
 abbrev pub invariant-loop-rest : goal.invariant-loop-rest
 invariant-loop-rest g l = record {
-  front : JoinsFront g.T.Shaped.lists g.T.Shaped.shape l.initial.rest l.rest (g.Self.HoldsColumns.columns l.initial.self) (g.Self.HoldsColumns.columns l.self);
-  values : All g.T.Shaped.is_value l.rest;
+  front : JoinsFront g.T.Shaped.data.lists g.T.Shaped.data.shape l.initial.rest l.rest (g.Self.HoldsColumns.columns l.initial.self) (g.Self.HoldsColumns.columns l.self);
+  values : All g.T.Shaped.data.is_value l.rest;
   left : length l.rest ≤ g.Self.HoldsColumns.room l.self;
   fewer : length l.rest ≤ length l.initial.rest;
   room : g.Self.HoldsColumns.room l.initial.self + length l.rest ≤ g.Self.HoldsColumns.room l.self + length l.initial.rest;

@@ -11,7 +11,7 @@ use Rattle.bitcode_coder.proofs.str.encoder.push_short.Goals as goal
 pub loop-item-init : goal.loop-item-init
 loop-item-init g c = record {
   count = refl;
-  pushed = texts_none g.P.Shaped.lists (cut (written_lengths c.args.lengths) (fast_items c.args.bytes));
+  pushed = texts_none g.P.Shaped.data.lists (cut (written_lengths c.args.lengths) (fast_items c.args.bytes));
   whole = c.requires.whole;
   lengths = omega arith;
   bytes = omega (arith, c.requires.bytes);
@@ -19,7 +19,7 @@ loop-item-init g c = record {
 
 pub loop-item-preserved : goal.loop-item-preserved
 loop-item-preserved g c =
-    let lists = g.P.Shaped.lists in
+    let lists = g.P.Shaped.data.lists in
     let bytes = c.as_bytes-text.result.now in
     let ns = written_lengths c.loop-item.lengths in
     let ms = written_lengths c.encode_less_than_255.new.self in

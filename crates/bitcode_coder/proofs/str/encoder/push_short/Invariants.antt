@@ -8,7 +8,7 @@ use Rattle.bitcode_coder.proofs.str.encoder.push_short.Given as goal
 abbrev pub invariant-loop-item : goal.invariant-loop-item
 invariant-loop-item g l = record {
   count : l.count ≡ l.item-index;
-  pushed : PushesTexts g.P.Shaped.lists (map (g.W.Part.of l.which) (take l.item-index l.items)) (cut (written_lengths l.initial.lengths) (fast_items l.initial.bytes)) (cut (written_lengths l.lengths) (fast_items l.bytes));
+  pushed : PushesTexts g.P.Shaped.data.lists (map (g.W.Part.of l.which) (take l.item-index l.items)) (cut (written_lengths l.initial.lengths) (fast_items l.initial.bytes)) (cut (written_lengths l.lengths) (fast_items l.bytes));
   whole : sum (written_lengths l.lengths) ≡ length (fast_items l.bytes);
   lengths : length_room l.initial.lengths ≡ length_room l.lengths + l.item-index;
   bytes : 15 * length l.items ≤ fast_room l.bytes + 15 * l.item-index;

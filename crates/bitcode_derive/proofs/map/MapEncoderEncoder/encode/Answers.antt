@@ -16,23 +16,23 @@ pub encode_pairs-requires-clause-are : goal.encode_pairs-requires-clause-are
 encode_pairs-requires-clause-are g c =
     let entries = g.M.Mapping.entries c.args.t.now in
     let are = g.met.M.Mapping.entries_are c.args.t.now c.told.ensures in
-    (keys_are g.M.Key.Shaped.is_value g.M.Value.Shaped.is_value entries are, values_are g.M.Key.Shaped.is_value g.M.Value.Shaped.is_value entries are)
+    (keys_are g.M.Key.Shaped.data.is_value g.M.Value.Shaped.data.is_value entries are, values_are g.M.Key.Shaped.data.is_value g.M.Value.Shaped.data.is_value entries are)
 
 pub returns-in_err-reserve-clause-refused : goal.returns-in_err-reserve-clause-refused
 returns-in_err-reserve-clause-refused g c =
     let refused = err_from_is_err_and c.from_residual.result c.from_residual.ensures.1 in
     let entries = g.M.Mapping.entries c.args.t.now in
-    let keys = g.M.Key.Shaped in
-    let values = g.M.Value.Shaped in
+    let keys = g.M.Key.Shaped.data in
+    let values = g.M.Value.Shaped.data in
     let old_keys = g.K.HoldsColumns.columns c.args.self.now.keys in
     let old_values = g.V.HoldsColumns.columns c.args.self.now.values in
     let are = g.met.M.Mapping.entries_are c.args.t.now c.told.ensures in
-    let others = each_listed values.shape values.is_value values.lists values.same values.in_order g.met.M.Value.Shaped.lawful (values_of entries) (values_are keys.is_value values.is_value entries are) in
+    let others = each_listed values.shape values.is_value values.lists values.same values.in_order g.M.Value.Shaped.data.lawful (values_of entries) (values_are keys.is_value values.is_value entries are) in
     rw (refused.1, refused.2) (
     refusal_weaker _ (λ surely.
-    overflows_keys keys.shape values.shape keys.lists values.lists g.M.Shaped.lists g.M.Shaped.shape g.met.M.Mapping.entries_shape c.args.t.now entries
+    overflows_keys keys.shape values.shape keys.lists values.lists g.M.Shaped.data.lists g.M.Shaped.data.shape g.met.M.Mapping.entries_shape c.args.t.now entries
     (g.met.M.Mapping.entries_list c.args.t.now) (written_lengths c.args.self.now.lengths) old_keys old_values others.0 others.1
-    (overflows_surely keys.lists keys.shape (keys_of entries) keys.is_value keys.same keys.in_order g.met.M.Key.Shaped.lawful (keys_are keys.is_value values.is_value entries are) old_keys
+    (overflows_surely keys.lists keys.shape (keys_of entries) keys.is_value keys.same keys.in_order g.M.Key.Shaped.data.lawful (keys_are keys.is_value values.is_value entries are) old_keys
     (g.met.K.Encoder.surely c.args.self.now.keys (length (keys_of entries))
     (subst (λ n. g.K.HoldsColumns.surely_overflows c.args.self.now.keys n) (c.entry_count-count.ensures ∙ sym (length-map entries (λ e. e.0))) surely))))
     c.in_err-reserve.ensures.refused
@@ -42,17 +42,17 @@ pub returns-in_err-reserve-2-clause-refused : goal.returns-in_err-reserve-2-clau
 returns-in_err-reserve-2-clause-refused g c =
     let refused = err_from_is_err_and c.from_residual-in_err-reserve-2.result c.from_residual-in_err-reserve-2.ensures.1 in
     let entries = g.M.Mapping.entries c.args.t.now in
-    let keys = g.M.Key.Shaped in
-    let values = g.M.Value.Shaped in
+    let keys = g.M.Key.Shaped.data in
+    let values = g.M.Value.Shaped.data in
     let old_keys = g.K.HoldsColumns.columns c.args.self.now.keys in
     let old_values = g.V.HoldsColumns.columns c.args.self.now.values in
     let are = g.met.M.Mapping.entries_are c.args.t.now c.told.ensures in
-    let others = each_listed keys.shape keys.is_value keys.lists keys.same keys.in_order g.met.M.Key.Shaped.lawful (keys_of entries) (keys_are keys.is_value values.is_value entries are) in
+    let others = each_listed keys.shape keys.is_value keys.lists keys.same keys.in_order g.M.Key.Shaped.data.lawful (keys_of entries) (keys_are keys.is_value values.is_value entries are) in
     rw (refused.1, refused.2) (
     refusal_weaker _ (λ surely.
-    overflows_values keys.shape values.shape keys.lists values.lists g.M.Shaped.lists g.M.Shaped.shape g.met.M.Mapping.entries_shape c.args.t.now entries
+    overflows_values keys.shape values.shape keys.lists values.lists g.M.Shaped.data.lists g.M.Shaped.data.shape g.met.M.Mapping.entries_shape c.args.t.now entries
     (g.met.M.Mapping.entries_list c.args.t.now) (written_lengths c.args.self.now.lengths) old_keys old_values others.0 others.1
-    (overflows_surely values.lists values.shape (values_of entries) values.is_value values.same values.in_order g.met.M.Value.Shaped.lawful
+    (overflows_surely values.lists values.shape (values_of entries) values.is_value values.same values.in_order g.M.Value.Shaped.data.lawful
     (values_are keys.is_value values.is_value entries are) old_values
     (g.met.V.Encoder.surely c.args.self.now.values (length (values_of entries))
     (subst (λ n. g.V.HoldsColumns.surely_overflows c.args.self.now.values n) (c.entry_count-count.ensures ∙ sym (length-map entries (λ e. e.1))) surely))))
@@ -63,7 +63,7 @@ pub returns-clause-joined : goal.returns-clause-joined
 returns-clause-joined g c =
     let entries = g.M.Mapping.entries c.args.t.now in
     on_ok_both c.encode_pairs.result (
-    joins_map g.M.Key.Shaped.shape g.M.Value.Shaped.shape g.M.Key.Shaped.lists g.M.Value.Shaped.lists g.M.Shaped.lists g.M.Shaped.shape g.met.M.Mapping.entries_shape c.args.t.now entries
+    joins_map g.M.Key.Shaped.data.shape g.M.Value.Shaped.data.shape g.M.Key.Shaped.data.lists g.M.Value.Shaped.data.lists g.M.Shaped.data.lists g.M.Shaped.data.shape g.met.M.Mapping.entries_shape c.args.t.now entries
     (g.met.M.Mapping.entries_list c.args.t.now) (written_lengths c.args.self.now.lengths) (g.K.HoldsColumns.columns c.args.self.now.keys) (g.V.HoldsColumns.columns c.args.self.now.values)
     (written_lengths c.encode.new.self) (g.K.HoldsColumns.columns c.encode_pairs.new.keys) (g.V.HoldsColumns.columns c.encode_pairs.new.values)
     (rw c.entry_count-count.ensures at c.in_ok-encode.ensures.written))
@@ -72,18 +72,18 @@ returns-clause-joined g c =
 pub returns-clause-refused : goal.returns-clause-refused
 returns-clause-refused g c =
     let entries = g.M.Mapping.entries c.args.t.now in
-    let keys = g.M.Key.Shaped in
-    let values = g.M.Value.Shaped in
+    let keys = g.M.Key.Shaped.data in
+    let values = g.M.Value.Shaped.data in
     let old_lengths = written_lengths c.args.self.now.lengths in
     let old_keys = g.K.HoldsColumns.columns c.args.self.now.keys in
     let old_values = g.V.HoldsColumns.columns c.args.self.now.values in
     let are = g.met.M.Mapping.entries_are c.args.t.now c.told.ensures in
-    let other_keys = each_listed keys.shape keys.is_value keys.lists keys.same keys.in_order g.met.M.Key.Shaped.lawful (keys_of entries) (keys_are keys.is_value values.is_value entries are) in
-    let other_values = each_listed values.shape values.is_value values.lists values.same values.in_order g.met.M.Value.Shaped.lawful (values_of entries) (values_are keys.is_value values.is_value entries are) in
+    let other_keys = each_listed keys.shape keys.is_value keys.lists keys.same keys.in_order g.M.Key.Shaped.data.lawful (keys_of entries) (keys_are keys.is_value values.is_value entries are) in
+    let other_values = each_listed values.shape values.is_value values.lists values.same values.in_order g.M.Value.Shaped.data.lawful (values_of entries) (values_are keys.is_value values.is_value entries are) in
     refused_weaker (λ (e : Error). e.reason) c.encode_pairs.result (
     ⊎_elim
-    (overflows_keys keys.shape values.shape keys.lists values.lists g.M.Shaped.lists g.M.Shaped.shape g.met.M.Mapping.entries_shape c.args.t.now entries
+    (overflows_keys keys.shape values.shape keys.lists values.lists g.M.Shaped.data.lists g.M.Shaped.data.shape g.met.M.Mapping.entries_shape c.args.t.now entries
     (g.met.M.Mapping.entries_list c.args.t.now) old_lengths old_keys old_values other_values.0 other_values.1)
-    (overflows_values keys.shape values.shape keys.lists values.lists g.M.Shaped.lists g.M.Shaped.shape g.met.M.Mapping.entries_shape c.args.t.now entries
+    (overflows_values keys.shape values.shape keys.lists values.lists g.M.Shaped.data.lists g.M.Shaped.data.shape g.met.M.Mapping.entries_shape c.args.t.now entries
     (g.met.M.Mapping.entries_list c.args.t.now) old_lengths old_keys old_values other_keys.0 other_keys.1)
     ) (rw c.in_ok-reserve-2.ensures.columns at (rw c.in_ok-reserve.ensures.columns at c.encode_pairs.ensures.refused))

@@ -8,7 +8,7 @@ use Rattle.bitcode_ints.proofs.int.AsInt.push_ints.Goals as goal
 
 pub loop-value-init : goal.loop-value-init
 loop-value-init g c = record {
-  pushed = pushes_none g.Self.Shaped.lists g.I.ColumnInt.number (fast_items c.args.ints.now);
+  pushed = pushes_none g.Self.Shaped.data.lists g.I.ColumnInt.number (fast_items c.args.ints.now);
   room = omega arith;
 }
 
@@ -17,7 +17,7 @@ loop-value-preserved g c =
     let i = c.loop-value.value-index in
     record {
       pushed =
-          pushes_one_more g.Self.Shaped.lists g.I.ColumnInt.number (take i c.args.values.now) (take (i + 1) c.args.values.now) c.value-item.result c.to_int.result
+          pushes_one_more g.Self.Shaped.data.lists g.I.ColumnInt.number (take i c.args.values.now) (take (i + 1) c.args.values.now) c.value-item.result c.to_int.result
           (fast_items c.args.ints.now) (fast_items c.loop-value.ints) (fast_items c.push_unchecked.new.self) c.loop-value.invariant.pushed c.to_int.ensures c.push_unchecked.ensures.items
           (take_more c.args.values.now i c.value-item.result c.loop-value-test.true ∙ ap (λ t. take i c.args.values.now ++ t ∷ []) (sym c.value-item.is));
       room = omega (arith, c.loop-value.invariant.room, c.push_unchecked.ensures.room);
@@ -25,5 +25,5 @@ loop-value-preserved g c =
 
 pub returns-clause-written : goal.returns-clause-written
 returns-clause-written g c =
-    subst (λ values. PushesInts g.Self.Shaped.lists g.I.ColumnInt.number values (fast_items c.args.ints.now) (fast_items c.loop-value.ints))
+    subst (λ values. PushesInts g.Self.Shaped.data.lists g.I.ColumnInt.number values (fast_items c.args.ints.now) (fast_items c.loop-value.ints))
     (take_all c.loop-value.value-index c.args.values.now (omega (arith, c.loop-value-test.false))) c.loop-value.invariant.pushed

@@ -16,7 +16,7 @@ returns-clause-made g c =
     let signed = g.T.ColumnInt.signed in
     let rest = cow_rest c.args.self.now.values in
     IfOk-weaker c.list_unchecked.result _ _ (λ ints numbers.
-    takes_front g.T.Made.makes (λ u. number_of_residue width signed (residue_of u)) c.args.count rest (take c.args.count rest) _ ints.items
+    takes_front g.T.Shaped.data.makes (λ u. number_of_residue width signed (residue_of u)) c.args.count rest (take c.args.count rest) _ ints.items
     c.requires refl c.list_unchecked.ensures.rest
-    (made_of_numbers g.T.Made.makes g.T.ColumnInt.number g.met.T.Integer.integer_makes (λ u. number_of width signed (residue_of u)) ints.items (take c.args.count rest) numbers))
+    (made_of_numbers g.T.Shaped.data.makes g.T.ColumnInt.number g.met.T.Integer.integer_makes (λ u. number_of width signed (residue_of u)) ints.items (take c.args.count rest) numbers))
     c.list_unchecked.ensures.numbers

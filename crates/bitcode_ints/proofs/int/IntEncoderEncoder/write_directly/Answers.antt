@@ -8,6 +8,6 @@ use Rattle.bitcode_ints.proofs.int.IntEncoderEncoder.write_directly.Goals as goa
 
 pub returns-clause-written : goal.returns-clause-written
 returns-clause-written g c done =
-    writes_entry g.P.Shaped.lists g.P.Shaped.shape (ints g.I.ColumnInt.width g.I.ColumnInt.signed) c.args.t.now (number (g.I.ColumnInt.number c.to_int.result))
+    writes_entry g.P.Shaped.data.lists g.P.Shaped.data.shape (ints g.I.ColumnInt.width g.I.ColumnInt.signed) c.args.t.now (number (g.I.ColumnInt.number c.to_int.result))
     (int_data g.I.ColumnInt.number (fast_items c.args.self.now.values)) c.args.out.now.items c.pack_one.new.out.items g.met.P.AsInt.as_int_columns c.to_int.ensures c.requires
     c.in_ok-pack_one.ensures.written

@@ -16,7 +16,7 @@ returns-in_err-encode_each-clause-refused g c =
     let refused = err_from_is_err_and c.from_residual.result c.from_residual.ensures.1 in
     rw (refused.1, refused.2) (
     refusal_weaker _ (
-    array_overflows g.T.Shaped.lists g.T.Shaped.shape c.args.t.now g.row.N c.args.self.now.count (g.E.HoldsColumns.columns c.args.self.now.elements)
+    array_overflows g.T.Shaped.data.lists g.T.Shaped.data.shape c.args.t.now g.row.N c.args.self.now.count (g.E.HoldsColumns.columns c.args.self.now.elements)
     ) (rw c.as_slice.ensures at c.in_err-encode_each.ensures.refused)
     )
 
@@ -29,7 +29,7 @@ invariant_of-self-then-this-gt0 g c = record {
 
 pub returns-then-this-gt0-clause-joined : goal.returns-then-this-gt0-clause-joined
 returns-then-this-gt0-clause-joined g c =
-    joins_array g.T.Shaped.lists g.T.Shaped.shape c.args.t.now g.row.N c.args.self.now.count (c.args.self.now.count + 1)
+    joins_array g.T.Shaped.data.lists g.T.Shaped.data.shape c.args.t.now g.row.N c.args.self.now.count (c.args.self.now.count + 1)
     (g.E.HoldsColumns.columns c.args.self.now.elements) (g.E.HoldsColumns.columns c.encode_each.new.elements) (λ some. refl)
     (array_room-count g.row.N c.args.self.now.count 1 (g.E.HoldsColumns.room c.args.self.now.elements) c.requires c.args.self.now.fits)
     (rw c.as_slice.ensures at c.in_ok-encode_each.ensures.joined)
@@ -41,6 +41,6 @@ returns-then-this-gt0-clause-room g c =
 
 pub returns-else-this-gt0-clause-joined : goal.returns-else-this-gt0-clause-joined
 returns-else-this-gt0-clause-joined g c =
-    joins_array g.T.Shaped.lists g.T.Shaped.shape c.args.t.now g.row.N c.args.self.now.count c.args.self.now.count
+    joins_array g.T.Shaped.data.lists g.T.Shaped.data.shape c.args.t.now g.row.N c.args.self.now.count c.args.self.now.count
     (g.E.HoldsColumns.columns c.args.self.now.elements) (g.E.HoldsColumns.columns c.encode_each.new.elements) (λ some. absurd (omega arith))
     c.args.self.now.fits (rw c.as_slice.ensures at c.in_ok-encode_each.ensures.joined)

@@ -14,7 +14,7 @@ invariant_of-self g c = record {
 }
 
 pub loop-made-init : goal.loop-made-init
-loop-made-init g c = record { each = takes_none g.T.Made.makes (g.D.HoldsData.held c.args.self.now.elements) c.new-vec.result.items c.new-vec.ensures; lengths = refl }
+loop-made-init g c = record { each = takes_none g.T.Shaped.data.makes (g.D.HoldsData.held c.args.self.now.elements) c.new-vec.result.items c.new-vec.ensures; lengths = refl }
 
 pub decode-requires : goal.decode-requires
 decode-requires g c =
@@ -23,7 +23,7 @@ decode-requires g c =
     let old = lengths_left c.args.self.now.lengths in
     let new = lengths_left c.decode-count.new.self in
     let enough = enough_elements c.decode-count.result old new held c.decode-count.ensures.taken c.requires in
-    let taken = taken_and_left g.T.Made.makes c.loop-made._made held left c.loop-made.vec.items c.loop-made.invariant.each in
+    let taken = taken_and_left g.T.Shaped.data.makes c.loop-made._made held left c.loop-made.vec.items c.loop-made.invariant.each in
     omega (arith, enough, taken, c.loop-made-test.true)
 
 pub push-requires : goal.push-requires
@@ -40,14 +40,14 @@ loop-made-preserved g c =
     let less = g.D.HoldsData.held c.decode.new.self in
     record {
       each =
-          takes_one_more g.T.Made.makes c.loop-made._made held left less c.loop-made.vec.items c.push.new.self.items c.in_ok-decode.field-0
+          takes_one_more g.T.Shaped.data.makes c.loop-made._made held left less c.loop-made.vec.items c.push.new.self.items c.in_ok-decode.field-0
           c.loop-made.invariant.each c.in_ok-decode.ensures.made c.push.ensures.items;
       lengths = c.loop-made.invariant.lengths;
     }
 
 pub returns-clause-made : goal.returns-clause-made
 returns-clause-made g c =
-    let makes = g.T.Made.makes in
+    let makes = g.T.Shaped.data.makes in
     let count = c.decode-count.result in
     let old = lengths_left c.args.self.now.lengths in
     let new = lengths_left c.loop-made.self.lengths in

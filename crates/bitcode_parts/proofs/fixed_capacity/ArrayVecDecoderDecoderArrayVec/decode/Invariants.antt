@@ -5,6 +5,6 @@ use Rattle.bitcode_parts.proofs.fixed_capacity.ArrayVecDecoderDecoderArrayVec.de
 
 abbrev pub invariant-loop-made : goal.invariant-loop-made
 invariant-loop-made g l = record {
-  each : TakesEach g.T.Made.makes l._made l.vec.items (g.D.HoldsData.held l.initial.self.elements) (g.D.HoldsData.held l.self.elements);
+  each : TakesEach g.T.Shaped.data.makes l._made l.vec.items (g.D.HoldsData.held l.initial.self.elements) (g.D.HoldsData.held l.self.elements);
   lengths : lengths_left l.self.lengths ≡ lengths_left l.initial.self.lengths;
 }

@@ -9,7 +9,7 @@ use Rattle.bitcode_parts.proofs.lists.sequence.encode_lent.Goals as goal
 
 pub loop-item-init : goal.loop-item-init
 loop-item-init g c = record {
-  front = front_none g.T.Shaped.lists g.T.Shaped.shape (g.E.HoldsColumns.columns c.args.elements.now) (g.met.E.Encoder.of_shape c.args.elements.now) (g.L.Lends.rest c.args.lent);
+  front = front_none g.T.Shaped.data.lists g.T.Shaped.data.shape (g.E.HoldsColumns.columns c.args.elements.now) (g.met.E.Encoder.of_shape c.args.elements.now) (g.L.Lends.rest c.args.lent);
   values = c.requires.values;
   left = c.requires.room;
   fewer = omega arith;
@@ -19,8 +19,8 @@ loop-item-init g c = record {
 
 pub loop-item-preserved : goal.loop-item-preserved
 loop-item-preserved g c =
-    let lists = g.T.Shaped.lists in
-    let shape = g.T.Shaped.shape in
+    let lists = g.T.Shaped.data.lists in
+    let shape = g.T.Shaped.data.shape in
     let whole = g.L.Lends.rest c.args.lent in
     let rest = g.L.Lends.rest c.lend.new.self in
     let item = c.in-Some.item.now in
@@ -31,7 +31,7 @@ loop-item-preserved g c =
       front =
           front_more lists shape old (g.met.E.Encoder.of_shape c.args.elements.now) whole rest item now (g.E.HoldsColumns.columns c.encode.new.self)
           (subst (λ items. JoinsFront lists shape whole items old now) c.in-Some.ensures.next c.loop-item.invariant.front) c.in_ok-encode.ensures.joined;
-      values = All-tail g.T.Shaped.is_value item rest (subst (All g.T.Shaped.is_value) c.in-Some.ensures.next c.loop-item.invariant.values);
+      values = All-tail g.T.Shaped.data.is_value item rest (subst (All g.T.Shaped.data.is_value) c.in-Some.ensures.next c.loop-item.invariant.values);
       left = omega (arith, shorter, c.loop-item.invariant.left, c.in_ok-encode.ensures.room);
       fewer = omega (arith, shorter, c.loop-item.invariant.fewer);
       room = omega (arith, shorter, c.loop-item.invariant.room, c.in_ok-encode.ensures.room);
@@ -41,16 +41,16 @@ loop-item-preserved g c =
 pub returns-in_err-encode-clause-refused : goal.returns-in_err-encode-clause-refused
 returns-in_err-encode-clause-refused g c =
     let refused = err_from_is_err_and c.from_residual.result c.from_residual.ensures.1 in
-    let lists = g.T.Shaped.lists in
-    let shape = g.T.Shaped.shape in
+    let lists = g.T.Shaped.data.lists in
+    let shape = g.T.Shaped.data.shape in
     let whole = g.L.Lends.rest c.args.lent in
     let rest = g.L.Lends.rest c.lend.new.self in
     let item = c.in-Some.item.now in
     let old = g.E.HoldsColumns.columns c.args.elements.now in
     let now = g.E.HoldsColumns.columns c.loop-item.elements in
     let others =
-    each_listed shape g.T.Shaped.is_value lists g.T.Shaped.same g.T.Shaped.in_order g.met.T.Shaped.lawful rest
-    (All-tail g.T.Shaped.is_value item rest (subst (All g.T.Shaped.is_value) c.in-Some.ensures.next c.loop-item.invariant.values)) in
+    each_listed shape g.T.Shaped.data.is_value lists g.T.Shaped.data.same g.T.Shaped.data.in_order g.T.Shaped.data.lawful rest
+    (All-tail g.T.Shaped.data.is_value item rest (subst (All g.T.Shaped.data.is_value) c.in-Some.ensures.next c.loop-item.invariant.values)) in
     rw (refused.1, refused.2) (
     refusal_weaker _ (λ one.
     front_overflows lists shape old (g.met.E.Encoder.of_shape c.args.elements.now) whole rest item now

@@ -5,8 +5,8 @@ use Rattle.bitcode_parts.proofs.lists.sequence.encode_lent.Given as goal
 
 abbrev pub invariant-loop-item : goal.invariant-loop-item
 invariant-loop-item g l = record {
-  front : JoinsFront g.T.Shaped.lists g.T.Shaped.shape (g.L.Lends.rest l.initial.lent) (g.L.Lends.rest l.lent) (g.E.HoldsColumns.columns l.initial.elements) (g.E.HoldsColumns.columns l.elements);
-  values : All g.T.Shaped.is_value (g.L.Lends.rest l.lent);
+  front : JoinsFront g.T.Shaped.data.lists g.T.Shaped.data.shape (g.L.Lends.rest l.initial.lent) (g.L.Lends.rest l.lent) (g.E.HoldsColumns.columns l.initial.elements) (g.E.HoldsColumns.columns l.elements);
+  values : All g.T.Shaped.data.is_value (g.L.Lends.rest l.lent);
   left : length (g.L.Lends.rest l.lent) ≤ g.E.HoldsColumns.room l.elements;
   fewer : length (g.L.Lends.rest l.lent) ≤ length (g.L.Lends.rest l.initial.lent);
   room : g.E.HoldsColumns.room l.initial.elements + length (g.L.Lends.rest l.lent) ≤ g.E.HoldsColumns.room l.elements + length (g.L.Lends.rest l.initial.lent);

@@ -8,7 +8,7 @@ use Rattle.bitcode_parts.proofs.lists.vec.push_short.Given as goal
 abbrev pub invariant-loop-item : goal.invariant-loop-item
 invariant-loop-item g l = record {
   count : l.count ≡ l.item-index;
-  joined : JoinsEach g.S.Shaped.lists g.S.Shaped.shape (map (g.W.Part.of l.which) (take l.item-index l.items))
+  joined : JoinsEach g.S.Shaped.data.lists g.S.Shaped.data.shape (map (g.W.Part.of l.which) (take l.item-index l.items))
       (list_columns (written_lengths l.initial.sizes) (g.E.HoldsColumns.columns l.initial.elements))
       (list_columns (written_lengths l.sizes) (g.E.HoldsColumns.columns l.elements));
   sizes : length_room l.initial.sizes ≡ length_room l.sizes + l.item-index;

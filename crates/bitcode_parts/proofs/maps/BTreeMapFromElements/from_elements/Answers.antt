@@ -12,6 +12,7 @@ returns-clause-made g c =
     let ran = c.in_ok-from_iter.ensures.ran in
     let pairs = c.args.elements.items in
     let all : ran.1 ≡ pairs = sym (map-id ran.1) ∙ items_from_drains ran.1 ran.3 (YieldsList-from_vec pairs ran.2.0 (ran.2.1 ∙ c.args.elements.ok.0)) in
-    map_of_elements (eq_by_cmp g.K.Ord.cmp) (λ (m : _). m.entries) g.K.Shaped.is_value g.V.Shaped.is_value g.K.Made.makes g.V.Made.makes c.in_ok-from_iter.field-0 pairs
+    map_of_elements (eq_by_cmp g.K.Shaped.data.cmp) (λ (m : _). m.entries) g.K.Shaped.data.is_value g.V.Shaped.data.is_value g.K.Shaped.data.makes g.V.Shaped.data.makes c.in_ok-from_iter.field-0 pairs
     (rw c.as_slice.ensures.value at c.told_each.ensures)
-    (subst (λ xs. GivesWhole (eq_by_cmp g.K.Ord.cmp) c.in_ok-from_iter.field-0.entries [] xs) all ran.4.0)
+    (subst (λ cmp. GivesWhole (eq_by_cmp cmp) c.in_ok-from_iter.field-0.entries [] pairs) g.met.K.Key.ordered
+    (subst (λ xs. GivesWhole (eq_by_cmp g.K.Ord.cmp) c.in_ok-from_iter.field-0.entries [] xs) all ran.4.0))

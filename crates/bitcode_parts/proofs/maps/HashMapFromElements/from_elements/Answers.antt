@@ -1,5 +1,5 @@
 -- Each turn inserts one pair.
-use Rattle.std.proofs.Common.{sym, ◌∙◌, subst}
+use Rattle.std.proofs.Common.{[], sym, ◌∙◌, subst}
 use Rattle.std.proofs.lemmas.List.{nil_from_length}
 use Rattle.std.specs.Vec.Iter.{into_iter_items}
 use Rattle.bitcode_parts.proofs.MapLemmas.{GivesWhole, pair_inserted, map_of_elements}
@@ -19,6 +19,7 @@ loop-key-preserved g c =
 
 pub returns-clause-made : goal.returns-clause-made
 returns-clause-made g c =
-    map_of_elements g.K.PartialEq.eq (λ (m : _). m.entries) g.K.Shaped.is_value g.V.Shaped.is_value g.K.Made.makes g.V.Made.makes c.loop-key.map c.args.elements.items
+    map_of_elements g.K.Shaped.data.eq (λ (m : _). m.entries) g.K.Shaped.data.is_value g.V.Shaped.data.is_value g.K.Shaped.data.makes g.V.Shaped.data.makes c.loop-key.map c.args.elements.items
     (rw c.as_slice.ensures.value at c.told_each.ensures)
-    (subst (λ rest. GivesWhole g.K.PartialEq.eq c.loop-key.map.entries rest c.args.elements.items) (nil_from_length (into_iter_items c.loop-key.key-iterator) (sym c.loop-key.key-iterator.rest.ok.0 ∙ c.in-None.ensures.steps.0)) c.loop-key.invariant)
+    (subst (λ eq. GivesWhole eq c.loop-key.map.entries [] c.args.elements.items) g.met.K.Key.equal
+    (subst (λ rest. GivesWhole g.K.PartialEq.eq c.loop-key.map.entries rest c.args.elements.items) (nil_from_length (into_iter_items c.loop-key.key-iterator) (sym c.loop-key.key-iterator.rest.ok.0 ∙ c.in-None.ensures.steps.0)) c.loop-key.invariant))

@@ -16,5 +16,7 @@ returns-clause-made g c = λ d making.
       values = values;
       are = rw c.as_slice.ensures.value at c.told_each.ensures;
       making = making;
-      members = subst (λ xs. SameMembers (eq_by_cmp g.T.Ord.cmp) c.in_ok-from_iter.field-0.keys xs) all ran.4.0;
+      members =
+          subst (λ cmp. SameMembers (eq_by_cmp cmp) c.in_ok-from_iter.field-0.keys values) g.met.T.Key.ordered
+          (subst (λ xs. SameMembers (eq_by_cmp g.T.Ord.cmp) c.in_ok-from_iter.field-0.keys xs) all ran.4.0);
     }

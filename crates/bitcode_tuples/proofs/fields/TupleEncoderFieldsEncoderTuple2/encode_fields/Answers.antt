@@ -9,10 +9,10 @@ pub returns-in_err-encode_fields-clause-refused : goal.returns-in_err-encode_fie
 returns-in_err-encode_fields-clause-refused g c =
     let fields = c.args.fields.now in
     let refused = err_from_is_err_and c.from_residual.result c.from_residual.ensures.1 in
-    let listed = g.met.G.Whole.Shaped.lawful.listed (g.G.Fields.whole fields.1) c.told.ensures in
+    let listed = g.G.Whole.Shaped.data.lawful.listed (g.G.Fields.whole fields.1) c.told.ensures in
     rw (refused.1, refused.2) (
     refusal_weaker _ (
-    overflows_with_first g.F.Whole.Shaped.lists g.G.Whole.Shaped.lists g.F.Whole.Shaped.shape g.G.Whole.Shaped.shape
+    overflows_with_first g.F.Whole.Shaped.data.lists g.G.Whole.Shaped.data.lists g.F.Whole.Shaped.data.shape g.G.Whole.Shaped.data.shape
     (g.F.Fields.whole fields.0, g.G.Fields.whole fields.1) (g.A.HoldsColumns.columns c.args.self.now.first) (g.B.HoldsColumns.columns c.args.self.now.second)
     listed.0 listed.1
     ) c.in_err-encode_fields.ensures.refused
@@ -22,7 +22,7 @@ pub returns-clause-joined : goal.returns-clause-joined
 returns-clause-joined g c =
     let fields = c.args.fields.now in
     on_ok_weaker c.encode_fields-2.result (
-    joins_pair g.F.Whole.Shaped.lists g.G.Whole.Shaped.lists g.F.Whole.Shaped.shape g.G.Whole.Shaped.shape
+    joins_pair g.F.Whole.Shaped.data.lists g.G.Whole.Shaped.data.lists g.F.Whole.Shaped.data.shape g.G.Whole.Shaped.data.shape
     (g.F.Fields.whole fields.0, g.G.Fields.whole fields.1) (g.A.HoldsColumns.columns c.args.self.now.first) (g.B.HoldsColumns.columns c.args.self.now.second)
     (g.A.HoldsColumns.columns c.encode_fields.new.self) (g.B.HoldsColumns.columns c.encode_fields-2.new.self) c.in_ok-encode_fields.ensures.joined
     ) c.encode_fields-2.ensures.joined
@@ -32,7 +32,7 @@ returns-clause-refused g c =
     let fields = c.args.fields.now in
     let joined = c.in_ok-encode_fields.ensures.joined in
     refused_weaker (λ (e : Error). e.reason) c.encode_fields-2.result (
-    overflows_with_second g.F.Whole.Shaped.lists g.G.Whole.Shaped.lists g.F.Whole.Shaped.shape g.G.Whole.Shaped.shape
+    overflows_with_second g.F.Whole.Shaped.data.lists g.G.Whole.Shaped.data.lists g.F.Whole.Shaped.data.shape g.G.Whole.Shaped.data.shape
     (g.F.Fields.whole fields.0, g.G.Fields.whole fields.1) (g.A.HoldsColumns.columns c.args.self.now.first) (g.B.HoldsColumns.columns c.args.self.now.second)
     joined.datum joined.listing
     ) c.encode_fields-2.ensures.refused

@@ -9,7 +9,7 @@ use Rattle.bitcode_coder.proofs.str.encoder.StrEncoder.encode_long.Goals as goal
 
 pub loop-item-preserved : goal.loop-item-preserved
 loop-item-preserved g c =
-    let lists = g.P.Shaped.lists in
+    let lists = g.P.Shaped.data.lists in
     let bytes = c.as_bytes-text.result.now in
     record {
       count = omega (arith, c.loop-item.invariant.count);

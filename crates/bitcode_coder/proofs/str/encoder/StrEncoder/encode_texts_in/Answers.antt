@@ -18,7 +18,7 @@ loop-done-preserved g c =
     let between = cut (written_lengths c.encode_short.new.self.lengths) (fast_items c.encode_short.new.self.bytes) in
     let new = cut (written_lengths c.encode_long.new.self.lengths) (fast_items c.encode_long.new.self.bytes) in
     let of = g.W.Part.of c.args.which.now in
-    let lists = g.P.Shaped.lists in
+    let lists = g.P.Shaped.data.lists in
     let behind_done : take (length items - done) (drop done items) ≡ drop done items =
     take_all (length items - done) (drop done items) (omega (arith, length-drop done items)) in
     let behind_short : take (length items - (done + short)) (drop (done + short) items) ≡ drop (done + short) items =

@@ -8,7 +8,7 @@ use Rattle.bitcode_coder.proofs.str.encoder.StrEncoder.encode_texts_in.Given as 
 abbrev pub invariant-loop-done : goal.invariant-loop-done
 invariant-loop-done g l = record {
   within : l.done ≤ length l.items;
-  pushed : PushesTexts g.P.Shaped.lists (map (g.W.Part.of l.which) (take l.done l.items)) (cut (written_lengths l.initial.self.lengths) (fast_items l.initial.self.bytes)) (cut (written_lengths l.self.lengths) (fast_items l.self.bytes));
+  pushed : PushesTexts g.P.Shaped.data.lists (map (g.W.Part.of l.which) (take l.done l.items)) (cut (written_lengths l.initial.self.lengths) (fast_items l.initial.self.bytes)) (cut (written_lengths l.self.lengths) (fast_items l.self.bytes));
   room : length_room l.initial.self.lengths ≤ length_room l.self.lengths + l.done;
 }
 

@@ -12,7 +12,7 @@ use Rattle.bitcode_coder.proofs.str.encoder.StrEncoderEncoder.encode.Goals as go
 pub returns-clause-joined : goal.returns-clause-joined
 returns-clause-joined g c =
     on_ok_weaker c.encode_text.result (λ pushed.
-    joins_entry g.P.Shaped.lists g.P.Shaped.shape (texts None) text c.args.t.now c.as_bytes.result.now
+    joins_entry g.P.Shaped.data.lists g.P.Shaped.data.shape (texts None) text c.args.t.now c.as_bytes.result.now
     (cut (written_lengths c.args.self.now.lengths) (fast_items c.args.self.now.bytes))
     (cut (written_lengths c.encode_text.new.self.lengths) (fast_items c.encode_text.new.self.bytes)) g.met.P.AsText.as_text_columns
-    (subst (λ bytes. g.P.Shaped.lists c.args.t.now (text bytes)) (sym c.as_bytes.ensures.value) c.as_text.ensures) pushed) c.encode_text.ensures.written
+    (subst (λ bytes. g.P.Shaped.data.lists c.args.t.now (text bytes)) (sym c.as_bytes.ensures.value) c.as_text.ensures) pushed) c.encode_text.ensures.written

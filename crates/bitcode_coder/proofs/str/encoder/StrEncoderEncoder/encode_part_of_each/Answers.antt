@@ -12,7 +12,7 @@ use Rattle.bitcode_coder.proofs.str.encoder.StrEncoderEncoder.encode_part_of_eac
 pub returns-clause-joined : goal.returns-clause-joined
 returns-clause-joined g c =
     on_ok_weaker c.encode_texts_in.result (λ written.
-    joins_entries g.P.Shaped.lists g.P.Shaped.shape (texts None) text (map (g.W.Part.of c.args.which.now) c.args.items.now) written.texts
+    joins_entries g.P.Shaped.data.lists g.P.Shaped.data.shape (texts None) text (map (g.W.Part.of c.args.which.now) c.args.items.now) written.texts
     (cut (written_lengths c.args.self.now.lengths) (fast_items c.args.self.now.bytes))
     (cut (written_lengths c.encode_texts_in.new.self.lengths) (fast_items c.encode_texts_in.new.self.bytes)) g.met.P.AsText.as_text_columns written.stand written.pushed
     ) c.encode_texts_in.ensures.written

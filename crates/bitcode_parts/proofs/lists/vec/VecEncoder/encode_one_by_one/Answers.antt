@@ -17,7 +17,7 @@ loop-item-init g c =
     let self = c.args.self.now in
     record {
       front =
-          front_none g.S.Shaped.lists g.S.Shaped.shape (two (one (lengths None) (map natural (written_lengths self.lengths))) (g.E.HoldsColumns.columns self.elements))
+          front_none g.S.Shaped.data.lists g.S.Shaped.data.shape (two (one (lengths None) (map natural (written_lengths self.lengths))) (g.E.HoldsColumns.columns self.elements))
           (ap (two (one (lengths None) [])) (g.met.E.Encoder.of_shape self.elements) ∙ sym (g.met.S.Sequence.items_columns [])) (map (g.W.Part.of c.args.which.now) c.args.items.now);
       room = omega arith;
       form = refl;
@@ -29,8 +29,8 @@ encode-requires g c = omega (arith, c.requires, c.loop-item.invariant.room, c.lo
 pub returns-in_err-encode-clause-refused : goal.returns-in_err-encode-clause-refused
 returns-in_err-encode-clause-refused g c =
     let refused = err_from_is_err_and c.from_residual.result c.from_residual.ensures.1 in
-    let lists = g.S.Shaped.lists in
-    let shape = g.S.Shaped.shape in
+    let lists = g.S.Shaped.data.lists in
+    let shape = g.S.Shaped.data.shape in
     let of = g.W.Part.of c.args.which.now in
     let self = c.args.self.now in
     let whole = map of c.args.items.now in
@@ -40,9 +40,9 @@ returns-in_err-encode-clause-refused g c =
     let now = two (one (lengths None) (map natural (written_lengths c.loop-item.self.lengths))) (g.E.HoldsColumns.columns c.loop-item.self.elements) in
     let step = next_behind of c.args.items.now c.loop-item.item-index c.item-item.result c.loop-item-test.true c.item-item.is in
     let others =
-    each_listed shape g.S.Shaped.is_value lists g.S.Shaped.same g.S.Shaped.in_order g.met.S.Shaped.lawful rest
-    (subst (All g.S.Shaped.is_value) (drop-map of (c.loop-item.item-index + 1) c.args.items.now)
-    (All-drop g.S.Shaped.is_value (c.loop-item.item-index + 1) whole c.told_parts.ensures)) in
+    each_listed shape g.S.Shaped.data.is_value lists g.S.Shaped.data.same g.S.Shaped.data.in_order g.S.Shaped.data.lawful rest
+    (subst (All g.S.Shaped.data.is_value) (drop-map of (c.loop-item.item-index + 1) c.args.items.now)
+    (All-drop g.S.Shaped.data.is_value (c.loop-item.item-index + 1) whole c.told_parts.ensures)) in
     rw (refused.1, refused.2) (
     refusal_weaker _ (λ one.
     front_overflows lists shape old form whole rest (of c.item-item.result) now
@@ -52,8 +52,8 @@ returns-in_err-encode-clause-refused g c =
 
 pub loop-item-preserved : goal.loop-item-preserved
 loop-item-preserved g c =
-    let lists = g.S.Shaped.lists in
-    let shape = g.S.Shaped.shape in
+    let lists = g.S.Shaped.data.lists in
+    let shape = g.S.Shaped.data.shape in
     let of = g.W.Part.of c.args.which.now in
     let self = c.args.self.now in
     let whole = map of c.args.items.now in
@@ -76,7 +76,7 @@ pub returns-clause-joined : goal.returns-clause-joined
 returns-clause-joined g c =
     let of = g.W.Part.of c.args.which.now in
     let self = c.args.self.now in
-    front_whole g.S.Shaped.lists g.S.Shaped.shape (two (one (lengths None) (map natural (written_lengths self.lengths))) (g.E.HoldsColumns.columns self.elements))
+    front_whole g.S.Shaped.data.lists g.S.Shaped.data.shape (two (one (lengths None) (map natural (written_lengths self.lengths))) (g.E.HoldsColumns.columns self.elements))
     (ap (two (one (lengths None) [])) (g.met.E.Encoder.of_shape self.elements) ∙ sym (g.met.S.Sequence.items_columns []))
     (map of c.args.items.now) (map of (drop c.loop-item.item-index c.args.items.now))
     (two (one (lengths None) (map natural (written_lengths c.loop-item.self.lengths))) (g.E.HoldsColumns.columns c.loop-item.self.elements))

@@ -13,8 +13,8 @@ use Rattle.bitcode_parts.proofs.lists.vec.VecEncoderEncoder.encode_part_of_each.
 
 pub returns-clause-joined : goal.returns-clause-joined
 returns-clause-joined g c =
-    let lists = g.S.Shaped.lists in
-    let shape = g.S.Shaped.shape in
+    let lists = g.S.Shaped.data.lists in
+    let shape = g.S.Shaped.data.shape in
     let of = g.W.Part.of c.args.which.now in
     let items = c.args.items.now in
     let done = c.in_ok-done.done in
@@ -33,8 +33,8 @@ returns-clause-joined g c =
 
 pub returns-clause-refused : goal.returns-clause-refused
 returns-clause-refused g c =
-    let lists = g.S.Shaped.lists in
-    let shape = g.S.Shaped.shape in
+    let lists = g.S.Shaped.data.lists in
+    let shape = g.S.Shaped.data.shape in
     let of = g.W.Part.of c.args.which.now in
     let items = c.args.items.now in
     let done = c.in_ok-done.done in

@@ -13,8 +13,8 @@ returns-clause-joined g c =
     let new = g.E.HoldsColumns.columns c.encode_part_of_each.new.self in
     on_ok_weaker c.encode_part_of_each.result
     (λ joined.
-    subst (λ w. JoinsEach g.P.Shaped.lists g.P.Shaped.shape (map (g.W.Part.of w) c.args.items.now) old new) c.by.ensures
-    (joins_pointers g.P.Shaped.lists _ g.P.Points.points_to g.met.P.Points.lists_too (g.W.Part.of c.by.result.pointer.now) g.P.Shaped.shape _ g.met.P.Points.same_shape
+    subst (λ w. JoinsEach g.P.Shaped.data.lists g.P.Shaped.data.shape (map (g.W.Part.of w) c.args.items.now) old new) c.by.ensures
+    (joins_pointers g.P.Shaped.data.lists _ g.P.Points.points_to g.met.P.Points.lists_too (g.W.Part.of c.by.result.pointer.now) g.P.Shaped.data.shape _ g.met.P.Points.same_shape
     c.args.items.now old new joined))
     c.encode_part_of_each.ensures.joined
 
@@ -23,7 +23,7 @@ returns-clause-refused g c =
     let old = g.E.HoldsColumns.columns c.args.self.now.inner in
     refused_weaker (λ (e : Error). e.reason) c.encode_part_of_each.result
     (λ overflows.
-    subst (λ w. OverflowsWithEach g.P.Shaped.lists g.P.Shaped.shape (map (g.W.Part.of w) c.args.items.now) old) c.by.ensures
-    (overflows_pointers g.P.Shaped.lists _ g.P.Points.points_to g.met.P.Points.lists_too (g.W.Part.of c.by.result.pointer.now) g.P.Shaped.shape _ g.met.P.Points.same_shape
+    subst (λ w. OverflowsWithEach g.P.Shaped.data.lists g.P.Shaped.data.shape (map (g.W.Part.of w) c.args.items.now) old) c.by.ensures
+    (overflows_pointers g.P.Shaped.data.lists _ g.P.Points.points_to g.met.P.Points.lists_too (g.W.Part.of c.by.result.pointer.now) g.P.Shaped.data.shape _ g.met.P.Points.same_shape
     c.args.items.now old overflows))
     c.encode_part_of_each.ensures.refused

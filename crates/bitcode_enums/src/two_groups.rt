@@ -1,0 +1,129 @@
+//! The coders of consecutive variants, as two groups.
+ghost use Rattle.std.specs.Prelude.{◌+◌, ◌++◌, ◌&&◌};
+ghost use Rattle.bitcode_enums.specs.ByNumber.{faults_behind};
+ghost use Rattle.bitcode_enums.specs.ByNumberLaws.{both_groups};
+
+use crate::columns::VariantColumns;
+use crate::held::Enum;
+use crate::number::VariantNumber;
+use crate::payloads::VariantPayloads;
+use crate::writes::WritesVariants;
+use bitcode_memory::error::Error;
+use std::alloc::Global;
+use std::marker::PhantomData;
+
+/// Combines the coders of some variants with those of the variants from the number `Second` on: the columns of both
+/// groups, or the payloads of both.
+///
+/// An enum of many variants has coders for small groups of them, combined two by two:
+/// `TwoGroups<At<8>, TwoGroups<At<4>, A, B>, TwoGroups<At<12>, C, D>>`.
+#[derive(Drop)]
+pub struct TwoGroups<Second, F, S> {
+    first: F,
+    second: S,
+    of: PhantomData<Second>,
+}
+
+impl<Second: VariantNumber, F: VariantColumns, S: VariantColumns> VariantColumns
+    for TwoGroups<Second, F, S> {
+    ghost columns = { record {
+      lists = λ e. F.columns.lists e.first ++ S.columns.lists e.second;
+      capacity = λ e. F.columns.capacity e.first + S.columns.capacity e.second;
+    } };
+
+    fn new(alloc: Global) -> Self {
+        TwoGroups {
+            first: F::new(alloc),
+            second: S::new(alloc),
+            of: PhantomData,
+        }
+    }
+
+    fn collect_all(&mut self, out: &mut Vec<u8>) -> Result<(), Error> {
+        self.first.collect_all(out)?;
+        self.second.collect_all(out)
+    }
+
+    fn clear_all(&mut self) {
+        self.first.clear_all();
+        self.second.clear_all();
+    }
+}
+
+impl<
+    First: VariantNumber,
+    Second: VariantNumber,
+    End: VariantNumber,
+    F: VariantColumns,
+    S: VariantColumns,
+    T: WritesVariants<First, Second, F> + WritesVariants<Second, End, S>,
+> WritesVariants<First, End, TwoGroups<Second, F, S>> for T {
+    fn write(&self, to: &mut TwoGroups<Second, F, S>) -> Result<(), Error> {
+        if (self.variant() as usize) < Second::value() {
+            WritesVariants::<First, Second, F>::write(self, &mut to.first)
+        } else {
+            WritesVariants::<Second, End, S>::write(self, &mut to.second)
+        }
+    }
+
+    ghost are_columns = { λ c. both_groups T.each.variants.shapes First.value Second.value End.value
+        (F.columns.lists c.first) (S.columns.lists c.second)
+        (T.WritesVariants-1.are_columns c.first)
+        (T.WritesVariants-2.are_columns c.second) };
+}
+
+impl<
+    'a,
+    First: VariantNumber,
+    Second: VariantNumber,
+    End: VariantNumber,
+    T: Enum,
+    F: VariantPayloads<'a, First, Second, T>,
+    S: VariantPayloads<'a, Second, End, T>,
+> VariantPayloads<'a, First, End, T> for TwoGroups<Second, F, S> {
+    ghost held = { record {
+      lists = λ d. F.held.lists d.first ++ S.held.lists d.second;
+      owned = λ d. F.held.owned d.first + S.held.owned d.second;
+      faults = faults_behind Second.value F.held.faults S.held.faults;
+      makes_free = F.held.makes_free && S.held.makes_free;
+    } };
+
+    fn new(alloc: Global) -> Self {
+        TwoGroups {
+            first: F::new(alloc),
+            second: S::new(alloc),
+            of: PhantomData,
+        }
+    }
+
+    fn read_at(
+        &mut self,
+        number: usize,
+        input: &mut &'a [u8],
+        k: usize,
+        strict: bool,
+    ) -> Result<bool, Error> {
+        self.first.sized();
+        self.second.sized();
+        if number < Second::value() {
+            self.first.read_at(number, input, k, strict)
+        } else {
+            self.second.read_at(number, input, k, strict)
+        }
+    }
+
+    fn decode_at(&mut self, number: usize) -> Result<T, Error> {
+        self.first.sized();
+        self.second.sized();
+        if number < Second::value() {
+            self.first.decode_at(number)
+        } else {
+            self.second.decode_at(number)
+        }
+    }
+
+    fn sized(&self) {
+        self.first.sized();
+        self.second.sized();
+    }
+}

@@ -1,0 +1,202 @@
+//! `Msg` is a generic enum, with the items that `scripts/new_type` writes for an enum without type parameters. Its
+//! columns and payloads have the coders as type parameters.
+ghost use Rattle.std.specs.Prelude.{◌≡◌};
+ghost use Rattle.bitcode.specs.ByHand.{columns_and, columns_in, each_variant, enum_data, is_variant, last_payload};
+ghost use Rattle.bitcode.specs.ByHand.{of_one_of_3, payload_and, payloads_in, refl};
+ghost use Rattle.bitcode_own_types.specs.declared.msg.Msg.{Msg};
+
+use bitcode::coder::{Buffer, Decoder, Encoder, View};
+use bitcode::own::{
+    At, Decoders3, Encoders3, Enum, EnumDecoder, EnumEncoder, EnumOf, OneOf3, VariantColumns,
+    VariantPayloads, Variants3, WritesVariants, told_as,
+};
+use bitcode::{DecodeOwned, Error, HasDecoder, HasEncoder, Shaped};
+use std::alloc::Global;
+
+/// One value, several or none.
+#[derive(Debug, PartialEq, Drop)]
+pub enum Msg<T> {
+    One(T),
+    Many(Vec<T>),
+    Nothing,
+}
+
+impl<T: Shaped> Enum for Msg<T> {
+    ghost each = { each_variant
+        (payload_and T.data
+        (payload_and ⟦<Vec<T> as Shaped>⟧.data (last_payload ⟦<() as Shaped>⟧.data))) refl
+        (λ at. elim [ Msg.One a ↦ at 0 a | Msg.Many a ↦ at 1 a | Msg.Nothing ↦ at 2 tt ])
+        ((λ p. (Msg.One p, refl)), ((λ p. (Msg.Many p, refl)), λ p. (Msg.Nothing, refl)))
+        (elim [ Msg.One a ↦ refl | Msg.Many a ↦ refl | Msg.Nothing ↦ refl ]) };
+
+    fn variant(&self) -> u8 {
+        match self {
+            Msg::One(a) => told_as(0, &a),
+            Msg::Many(a) => told_as(1, &a),
+            Msg::Nothing => 2,
+        }
+    }
+}
+
+impl<T: Shaped> Shaped for Msg<T> {
+    ghost data = { enum_data ⟦<Msg<T> as Enum>⟧.each };
+
+    fn told(&self) {
+        let _number = self.variant();
+    }
+}
+
+impl<T: Shaped> EnumOf<3> for Msg<T> {
+    ghost counted = { (refl, refl) };
+
+    ghost lists_variants = { λ t d listed. listed };
+
+    ghost makes_variants = { λ d t made. made };
+}
+
+impl<T: Shaped> Variants3<At<0>, At<3>, T, Vec<T>, ()> for Msg<T> {
+    ghost values = { (λ p. Msg.One p, λ p. Msg.Many p, λ p. Msg.Nothing) };
+
+    fn of_payload(payload: OneOf3<T, Vec<T>, ()>) -> Self
+        ensures { result ≡ of_one_of_3 (λ p. Msg.One p) (λ p. Msg.Many p) (λ p. Msg.Nothing)
+            payload }
+    {
+        match payload {
+            OneOf3::First(a) => Msg::One(a),
+            OneOf3::Second(a) => Msg::Many(a),
+            OneOf3::Third(()) => Msg::Nothing,
+        }
+    }
+
+    ghost are = { (
+      is_variant refl (λ p. refl) (λ p old new h. h) (λ p old h. h) (λ p old new h. h),
+      is_variant refl (λ p. refl) (λ p old new h. h) (λ p old h. h) (λ p old new h. h),
+      is_variant refl (λ p. refl) (λ p old new h. h) (λ p old h. h) (λ p old new h. h),
+      refl,
+    ) };
+}
+
+impl<
+    T: Shaped,
+    E1: Buffer + Encoder<T>,
+    E2: Buffer + Encoder<Vec<T>>,
+    E3: Buffer + Encoder<()>,
+> WritesVariants<At<0>, At<3>, Encoders3<At<0>, E1, E2, E3>> for Msg<T> {
+    fn write(&self, to: &mut Encoders3<At<0>, E1, E2, E3>) -> Result<(), Error> {
+        match self {
+            Msg::One(a) => to.encode_first(self, &a),
+            Msg::Many(a) => to.encode_second(self, &a),
+            Msg::Nothing => to.encode_third(self, &&()),
+        }
+    }
+
+    ghost are_columns = { λ c. (
+      refl,
+      columns_and (E1.of_shape c.first)
+          (columns_and (E2.of_shape c.second) (columns_and (E3.of_shape c.third) refl)),
+    ) };
+}
+
+/// The columns of the payloads of `Msg`, by their encoders.
+#[derive(Drop)]
+pub struct MsgColumns<E1, E2, E3> {
+    all: Encoders3<At<0>, E1, E2, E3>,
+}
+
+impl<E1: Buffer, E2: Buffer, E3: Buffer> VariantColumns for MsgColumns<E1, E2, E3> {
+    ghost columns = { columns_in (λ c. c.all)
+        ⟦<Encoders3<At<0>, E1, E2, E3> as VariantColumns>⟧.columns };
+
+    fn new(alloc: Global) -> Self {
+        MsgColumns {
+            all: VariantColumns::new(alloc),
+        }
+    }
+
+    fn collect_all(&mut self, out: &mut Vec<u8>) -> Result<(), Error> {
+        self.all.collect_all(out)
+    }
+
+    fn clear_all(&mut self) {
+        self.all.clear_all();
+    }
+}
+
+impl<
+    T: Shaped,
+    E1: Buffer + Encoder<T>,
+    E2: Buffer + Encoder<Vec<T>>,
+    E3: Buffer + Encoder<()>,
+> WritesVariants<At<0>, At<3>, MsgColumns<E1, E2, E3>> for Msg<T> {
+    fn write(&self, to: &mut MsgColumns<E1, E2, E3>) -> Result<(), Error> {
+        WritesVariants::<At<0>, At<3>, Encoders3<At<0>, E1, E2, E3>>::write(self, &mut to.all)
+    }
+
+    ghost are_columns = { λ c. (
+      refl,
+      columns_and (E1.of_shape c.all.first)
+          (columns_and (E2.of_shape c.all.second) (columns_and (E3.of_shape c.all.third) refl)),
+    ) };
+}
+
+/// The payloads that values of `Msg` are made of, by their decoders.
+#[derive(Drop)]
+pub struct MsgPayloads<T, D1, D2, D3> {
+    all: Decoders3<At<0>, (T, Vec<T>, ()), D1, D2, D3>,
+}
+
+impl<
+    'a,
+    T: Shaped,
+    D1: View<'a> + Decoder<T>,
+    D2: View<'a> + Decoder<Vec<T>>,
+    D3: View<'a> + Decoder<()>,
+> VariantPayloads<'a, At<0>, At<3>, Msg<T>> for MsgPayloads<T, D1, D2, D3> {
+    ghost held = { payloads_in (λ d. d.all)
+        ⟦<Decoders3<At<0>, (T, Vec<T>, ()), D1, D2, D3> as VariantPayloads<'a, At<0>, At<3>, Msg<T>>>⟧.held };
+
+    fn new(alloc: Global) -> Self {
+        MsgPayloads {
+            all: VariantPayloads::<At<0>, At<3>, Msg<T>>::new(alloc),
+        }
+    }
+
+    fn read_at(
+        &mut self,
+        number: usize,
+        input: &mut &'a [u8],
+        k: usize,
+        strict: bool,
+    ) -> Result<bool, Error> {
+        VariantPayloads::<At<0>, At<3>, Msg<T>>::read_at(&mut self.all, number, input, k, strict)
+    }
+
+    fn decode_at(&mut self, number: usize) -> Result<Msg<T>, Error> {
+        VariantPayloads::<At<0>, At<3>, Msg<T>>::decode_at(&mut self.all, number)
+    }
+
+    fn sized(&self) {}
+}
+
+type ColumnsOf<T> = MsgColumns<
+    <T as HasEncoder>::Encoder,
+    <Vec<T> as HasEncoder>::Encoder,
+    <() as HasEncoder>::Encoder,
+>;
+
+type PayloadsOf<'a, T> = MsgPayloads<
+    T,
+    <T as HasDecoder<'a>>::Decoder,
+    <Vec<T> as HasDecoder<'a>>::Decoder,
+    <() as HasDecoder<'a>>::Decoder,
+>;
+
+impl<T: HasEncoder> HasEncoder for Msg<T> {
+    type Encoder = EnumEncoder<3, ColumnsOf<T>>;
+}
+
+impl<'a, T: HasDecoder<'a>> HasDecoder<'a> for Msg<T> {
+    type Decoder = EnumDecoder<'a, 3, Msg<T>, PayloadsOf<'a, T>>;
+}
+
+impl<T: DecodeOwned> DecodeOwned for Msg<T> {}
