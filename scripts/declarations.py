@@ -57,7 +57,7 @@ def behind_comment(text, start):
         depth += 1 if mark.group() == "/*" else -1
         if depth == 0:
             return mark.end()
-    raise Refused(1 + text.count("\n", 0, start), "`*/` is missing: this comment does not end")
+    raise Refused(1 + text.count("\n", 0, start), "`*/` is missing: the comment does not end")
 
 
 def documented(text):
@@ -110,14 +110,14 @@ class Parser:
 
     def expect(self, text):
         if not self.take(text):
-            raise Refused(self.line(), f"`{text}` is expected here, and not `{self.tokens[self.at].text}`")
+            raise Refused(self.line(), f"expected `{text}`, found `{self.tokens[self.at].text}`")
 
     def name(self):
         token = self.next()
         if token.kind == "raw" or token.text in KEYWORDS:
-            raise Refused(token.line, f"`{token.text}` cannot be a name in Rattle: choose one that is no keyword, as `{token.text.replace('r#', '')}_`")
+            raise Refused(token.line, f"`{token.text}` is a keyword in Rattle: choose another name, such as `{token.text.replace('r#', '')}_`")
         if token.kind != "name":
-            raise Refused(token.line, f"a name is expected here, and not `{token.text}`")
+            raise Refused(token.line, f"expected a name, found `{token.text}`")
         return token.text
 
     def listed(self, close, item):
@@ -149,13 +149,13 @@ class Parser:
                 docs.append(token.text)
                 continue
             if self.peek("!"):
-                raise Refused(token.line, "an attribute of the whole file is not there: leave it out")
+                raise Refused(token.line, "attributes of the whole file are not supported: remove it")
             self.expect("[")
             inner = self.balanced("[", "]")
             if inner[:2] != ["derive", "("]:
                 attributes.append(self.attribute(inner, token.line, of, known))
             elif of != "type":
-                raise Refused(token.line, f"a {of} derives nothing: leave the `derive` out")
+                raise Refused(token.line, f"{of}s cannot derive traits: remove the `derive`")
             else:
                 derives += self.derived("".join(inner[2:-1]), token.line)
         return docs, derives, attributes
@@ -170,7 +170,7 @@ class Parser:
             elif name in DERIVED and before[:1] in ([], ["std"], ["core"]):
                 names.append(name)
             else:
-                raise Refused(line, f"`{path}` is no derive of std: leave it out, and write its impl by hand")
+                raise Refused(line, f"`{path}` is not a derive of std: remove it, and write its impl by hand")
         for crate in ("bitcode", "serde"):
             own = [path for path in taken if SAID[path.split("::")[-1]] == crate]
             why = "the impls below are in its place" if crate == "bitcode" else "the toolchain has no derive of serde (docs/DIFFERENCES.md)"
@@ -182,14 +182,14 @@ class Parser:
         name = inner[0] if inner else ""
         text = "#[" + name + ("(..)" if len(inner) > 1 else "") + "]"
         if name in ("serde", "bitcode"):
-            raise Refused(line, f"`{text}` is not there: all fields are written, in their order. Leave it out")
+            raise Refused(line, f"`{text}` is not supported: all fields are written, in their order. Remove it")
         if name in ("cfg", "cfg_attr"):
-            raise Refused(line, f"`{text}` may take away what the impls below are of: leave it out")
+            raise Refused(line, f"`{text}` could remove what the generated impls refer to: remove the attribute")
         if name == "repr" and of == "type" and not {"C", "transparent", "u8"} & set(inner):
-            raise Refused(line, f"`#[{''.join(inner)}]` is not there: leave it out, or write `#[repr(C)]` or `#[repr(u8)]`")
+            raise Refused(line, f"`#[{''.join(inner)}]` is not supported: remove it, or write `#[repr(C)]` or `#[repr(u8)]`")
         is_known = name in known and (name != "doc" or inner[1:2] == ["="] or set(inner[2:-1]) <= DOCS)
         if not is_known or name == "default" and len(inner) > 1:
-            raise Refused(line, f"`{text}` is not there{'' if of == 'type' else f' for a {of}'}: leave it out")
+            raise Refused(line, f"`{text}` is not supported{'' if of == 'type' else f' for a {of}'}: remove it")
         return "#[" + "".join(inner) + "]"
 
     def seen(self):
@@ -201,7 +201,7 @@ class Parser:
         self.next()
         line, words = self.line(), self.balanced("(", ")")
         if len(words) > 1:
-            raise Refused(line, "write `pub(crate)`: the file stands right in src/")
+            raise Refused(line, "write `pub(crate)`: the file is in src/")
         return f"pub({words[0]}) "
 
     def type(self):
@@ -219,14 +219,14 @@ class Parser:
         if self.take("&"):
             lifetime = self.next().text if self.tokens[self.at].kind == "lifetime" else None
             if self.take("mut"):
-                raise Refused(line, "a `&mut` cannot be read back: write the value itself")
+                raise Refused(line, "a `&mut` cannot be decoded: write the value itself")
             return Type("reference", lifetime, [self.type()], line)
         if self.tokens[self.at].kind in ("lifetime", "number"):
             return Type(self.tokens[self.at].kind, self.next().text, [], line)
         if self.peek("dyn", "impl", "fn", "*", "!"):
-            raise Refused(line, f"a type with `{self.next().text}` has no values that could be written: write one that has")
+            raise Refused(line, f"a type with `{self.next().text}` cannot be encoded: use another type")
         if self.take("Self"):
-            raise Refused(line, "a type that holds itself is not there: write a `Value` (docs/GUIDE.md)")
+            raise Refused(line, "recursive types are not supported: use a `Value` (docs/GUIDE.md)")
         self.take("::")
         path = [self.word()]
         while self.take("::") and not self.peek("<"):
@@ -240,15 +240,15 @@ class Parser:
     def generic(self):
         """A lifetime or a type that an item takes."""
         if self.peek("const"):
-            raise Refused(self.line(), "a type with a number as a parameter is not there: write the number itself, or use a `Vec`")
+            raise Refused(self.line(), "const parameters are not supported: write the number itself, or use a `Vec`")
         text = self.next().text if self.tokens[self.at].kind == "lifetime" else self.name()
         if self.peek(":", "="):
-            raise Refused(self.line(), "leave the bound or the default out: the impls have the bounds that they need")
+            raise Refused(self.line(), "remove the bound or the default: the generated impls have the bounds that they need")
         return text
 
     def no_where(self):
         if self.peek("where"):
-            raise Refused(self.line(), "leave the `where` out: the impls have the bounds that they need")
+            raise Refused(self.line(), "remove the `where`: the generated impls have the bounds that they need")
 
     def field(self, named):
         docs, _, attributes = self.heads("field", OF_FIELDS)
@@ -264,19 +264,19 @@ class Parser:
         parameters = self.listed(">", self.generic) if self.take("<") else []
         self.no_twice(parameters, line)
         if "'static" in parameters or "'_" in parameters:
-            raise Refused(line, f"the text is of the input that the {word} is read from: write `{word} {name}<'a>`")
+            raise Refused(line, f"the {word} borrows the text from the input: write `{word} {name}<'a>`")
         types = [text for text in parameters if text[0] != "'"]
         lifetimes = [text for text in parameters if text[0] == "'"]
         if len(lifetimes) > 1:
             others = ", ".join(f"`{text}`" for text in lifetimes[1:])
-            raise Refused(line, f"a value is read from one input, and has one lifetime: write `{word} {name}<{', '.join([lifetimes[0], *types])}>`, and `{lifetimes[0]}` for {others}")
+            raise Refused(line, f"a value borrows from one input, so it has one lifetime: write `{word} {name}<{', '.join([lifetimes[0], *types])}>`, and `{lifetimes[0]}` for {others}")
         self.no_where()
         return name, parameters[0] if len(parameters) > len(types) else "", types, line
 
     def no_twice(self, names, line):
         for place, name in enumerate(names):
             if name in names[:place]:
-                raise Refused(line, f"`{name}` stands twice: choose another name for one of them")
+                raise Refused(line, f"`{name}` is declared twice: rename one of them")
 
     def fields(self):
         """The fields of a struct or a variant, and of which kind it is."""
@@ -302,7 +302,7 @@ class Parser:
         line, name = self.line(), self.name()
         fields, kind = self.fields()
         if any(field.seen for field in fields):
-            raise Refused(line, "the fields of a variant are seen where the enum is: leave the `pub` out")
+            raise Refused(line, "the fields of a variant are as visible as the enum: remove the `pub`")
         return Variant(docs, attributes, name, fields, kind, self.number() if self.take("=") else None, line)
 
     def number(self):
@@ -310,7 +310,7 @@ class Parser:
         sign, line = "-" if self.take("-") else "", self.line()
         token = self.next()
         if token.kind != "number" or not self.peek(",", "}"):
-            raise Refused(line, "write the number of the variant itself, or leave it out: variants are written by their places")
+            raise Refused(line, "write the number of the variant itself, or remove it: the encoding uses the variants' order")
         return sign + token.text
 
     def enum(self, docs, derives, attributes, seen):
@@ -319,15 +319,15 @@ class Parser:
         variants = self.listed("}", self.variant)
         self.no_twice([variant.name for variant in variants], line)
         if any(text.startswith("#[repr") for text in attributes) and any(variant.number for variant in variants):
-            raise Refused(line, "a `repr` beside numbers of variants is not there: leave one of them out")
+            raise Refused(line, "a `repr` and numbers of variants are not supported together: remove one of them")
         return Enum(docs, derives, attributes, seen, name, lifetime, types, variants, line)
 
     def refuse_module(self):
         """Each type that the script writes is in a file of its own, right in src/."""
         line, name = self.line(), self.name()
         if self.peek(";"):
-            raise Refused(line, f"leave `mod {name};` out, and write `use crate::{name}::..;` for a type that is there")
-        raise Refused(line, f"each type gets a module of its own, right in src/: write the declarations of `mod {name}` without the `mod` around them")
+            raise Refused(line, f"remove `mod {name};`, and write `use crate::{name}::..;` for its types")
+        raise Refused(line, f"each type gets its own module in src/: write the declarations of `mod {name}` without the `mod`")
 
     def use(self, before=()):
         """What a `use` line brings in, or a part of it behind these words."""
@@ -336,12 +336,12 @@ class Parser:
             if self.take("{"):
                 return [use for uses in self.listed("}", lambda: self.use(path)) for use in uses]
             if self.peek("*"):
-                raise Refused(line, "name each type that the `use` is for")
+                raise Refused(line, "name each type in the `use` line")
             path.append(self.word())
             if not self.take("::"):
                 break
         if self.peek("as"):
-            raise Refused(line, f"leave the `as` out: `{path[-1]}` is the type's name here too")
+            raise Refused(line, f"remove the `as`: `{path[-1]}` is the type's name in the generated file, too")
         path = path[:-1] if path[-1] == "self" and len(path) > 1 else path
         return [Use(path[-1], tuple(path), line)]
 
@@ -360,11 +360,11 @@ class Parser:
             elif self.take("enum"):
                 items.append(self.enum(docs, derives, attributes, seen))
             elif self.peek("union"):
-                raise Refused(self.line(), "a union does not say which of its fields is there: write an enum")
+                raise Refused(self.line(), "unions are not supported: write an enum")
             elif self.take("mod"):
                 self.refuse_module()
             elif self.peek(*OTHERS):
-                raise Refused(self.line(), f"only structs, enums and `use` lines are read here: put the `{self.tokens[self.at].text}` into another file of your crate")
+                raise Refused(self.line(), f"only structs, enums and `use` lines are allowed: move the `{self.tokens[self.at].text}` to another file of your crate")
             else:
-                raise Refused(self.line(), f"a struct or an enum is expected here, and not `{self.tokens[self.at].text}`")
+                raise Refused(self.line(), f"expected a struct or an enum, found `{self.tokens[self.at].text}`")
         return items, uses

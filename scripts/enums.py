@@ -129,20 +129,20 @@ def check_variants(enum):
     count, fields = len(enum.variants), fields_of(enum)
     derived = [name for name in enum.derives if name not in {"Clone", "Copy", *NOT_DERIVED}]
     if count == 0 and derived:
-        raise Refused(enum.line, f"leave the `{derived[0]}` out: an enum without variants has no values, and no call could meet its contract")
+        raise Refused(enum.line, f"remove the `{derived[0]}`: no call could meet its contract, since an enum without variants has no values")
     if count > MOST_VARIANTS:
-        raise Refused(enum.line, f"{count} variants are more than 256: put some of them into an enum of their own")
+        raise Refused(enum.line, f"{count} variants exceed the limit of 256: move some of them to another enum")
     if fields and count > 1 and enum.types:
-        raise Refused(enum.line, f"an enum whose variants have fields takes no type: write the type itself for `{enum.types[0]}`, an enum for each, or a struct of `Option<{enum.types[0]}>`")
+        raise Refused(enum.line, f"an enum with fields cannot have type parameters: write the type itself for `{enum.types[0]}`, an enum for each, or a struct of `Option<{enum.types[0]}>`")
     if not fields and (enum.types or enum.lifetime):
-        raise Refused(enum.line, f"no variant has a field of `{[enum.lifetime, *enum.types][-1]}`: leave it out")
+        raise Refused(enum.line, f"no variant uses `{[enum.lifetime, *enum.types][-1]}`: remove it")
     for variant in enum.variants:
         if fields and variant.number:
-            raise Refused(variant.line, "a number is for an enum whose variants all lack fields: leave it out")
+            raise Refused(variant.line, "only an enum without fields can have numbers: remove it")
         if variant.name in ("Below", "deriving"):
-            raise Refused(variant.line, f"`{variant.name}` cannot be the name of a variant in Rattle: choose another")
+            raise Refused(variant.line, f"`{variant.name}` cannot name a variant in Rattle: choose another name")
         if len(variant.fields) > MOST_FIELDS:
-            raise Refused(variant.line, f"{len(variant.fields)} fields are more than 16: put some of them into a struct of their own")
+            raise Refused(variant.line, f"{len(variant.fields)} fields exceed the limit of 16: move some of them to another struct")
 
 
 def enum_text(enum, own, crate, module):

@@ -132,7 +132,7 @@ class Checker:
         if type.kind == "reference":
             self.reference(type)
         elif type.kind == "slice":
-            raise Refused(type.line, "a slice cannot be read back: write `Vec<T>`, or `BoxedSlice<T>`")
+            raise Refused(type.line, "slices cannot be decoded: write `Vec<T>`, or `BoxedSlice<T>`")
         elif type.kind == "array":
             self.array(type)
         elif type.kind == "tuple":
@@ -143,35 +143,35 @@ class Checker:
         elif type.kind == "path":
             self.path(type)
         else:
-            raise Refused(type.line, f"a type is expected here, and not `{type.name}`")
+            raise Refused(type.line, f"expected a type, found `{type.name}`")
 
     def reference(self, type):
         inner = type.parts[0]
         if inner.kind != "path" or inner.name != "str":
-            raise Refused(type.line, "a reference cannot be read back, but a text: write the value itself, `Box<T>`, `Vec<T>` or `&'a str`")
+            raise Refused(type.line, "only references to texts can be decoded: write the value itself, `Box<T>`, `Vec<T>` or `&'a str`")
         if type.name != self.item.lifetime or not type.name:
             word, lifetime = word_of(self.item), self.item.lifetime or "'a"
-            raise Refused(type.line, f"the text is of the input that the {word} is read from: write `{word} {self.item.name}<{lifetime}>` and `&{lifetime} str`")
+            raise Refused(type.line, f"the {word} borrows the text from the input: write `{word} {self.item.name}<{lifetime}>` and `&{lifetime} str`")
 
     def array(self, type):
         element = type.parts[0]
         if not re.fullmatch(r"[0-9][0-9_]*(usize)?", type.name):
             raise Refused(type.line, "write the array's length as a number")
         if any(name in self.item.types for name in names_in(element)):
-            raise Refused(type.line, "an array of a type parameter is too large for some types: write `Vec<T>`")
+            raise Refused(type.line, "arrays of a type parameter are not supported, since some would be too large: write `Vec<T>`")
         self.check(element)
 
     def path(self, type):
         if type.name in self.item.types and not type.parts:
             return
         if type.name == self.item.name:
-            raise Refused(type.line, f"`{type.name}` holds itself: write a `Value` (docs/GUIDE.md)")
+            raise Refused(type.line, f"`{type.name}` is recursive: use a `Value` (docs/GUIDE.md)")
         if type.name in self.own:
             self.own_type(type)
             return
         known = TYPES.get(type.name)
         if not known:
-            raise Refused(type.line, f"`{type.name}` is no type that the library writes: {self.instead(type)}")
+            raise Refused(type.line, f"`{type.name}` is not supported: {self.instead(type)}")
         numbers = [part for part in type.parts if part.kind == "number"]
         types = [part for part in type.parts if part.kind != "number"]
         if (len(types), len(numbers)) != (known.types, known.numbers):
@@ -179,7 +179,7 @@ class Checker:
         if type.name in KEYED and not can_be_key(types[0], self.own, {"Key", KEYED[type.name]}):
             element = of_text(types[0] if len(types) == 1 else types[0]._replace(kind="tuple", parts=types))
             instead = no_key(types[0], self.own, KEYED[type.name]) or f"write `Vec<{element}>`"
-            raise Refused(type.line, f"`{of_text(types[0])}` is no key (docs/CODERS.md, \"Keys\"): {instead}")
+            raise Refused(type.line, f"`{of_text(types[0])}` is not a key (docs/CODERS.md, \"Keys\"): {instead}")
         if known.path:
             self.imports.add(known.path)
             self.crates |= {known.path.split("::")[0]} - {"std"}
@@ -204,7 +204,7 @@ class Checker:
             self.imports |= {TYPES[type.name].path} - {None}
             self.crates |= {(TYPES[type.name].path or "std").split("::")[0]} - {"std"}
         elif type.kind == "path" and type.name not in ("f32", "f64", *self.item.types):
-            raise Refused(type.line, f"`{type.name}` is no type that is here: write one that is, or leave the marker out")
+            raise Refused(type.line, f"`{type.name}` is not defined: use a type that is, or remove the marker")
         for part in type.parts:
             self.marked(part)
 

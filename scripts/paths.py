@@ -30,7 +30,7 @@ def refuse(path, line):
     """Refuses a type of another crate, or one of std that shares the name of one that the library writes."""
     name = path[-1]
     instead = f"write `{path_of(name)}`, or a type of your own" if name in TYPES else "write a type of your own that holds what it holds"
-    raise Refused(line, f"`{'::'.join(path)}` is no type that the library writes: {instead}")
+    raise Refused(line, f"`{'::'.join(path)}` is not supported: {instead}")
 
 
 def imports_of(uses):
@@ -39,11 +39,11 @@ def imports_of(uses):
     for use in uses:
         root, name = use.path[0], use.name
         if root in ("self", "super"):
-            raise Refused(use.line, f"write the path of `{name}` from `crate` on: the file stands in src/")
+            raise Refused(use.line, f"write the path of `{name}` starting with `crate`: the file is in src/")
         if name in named:
             if named[name].path == use.path:
                 continue
-            raise Refused(use.line, f"`{name}` is `{'::'.join(named[name].path)}` already: choose another name for one of them")
+            raise Refused(use.line, f"`{name}` is `{'::'.join(named[name].path)}` already: rename one of them")
         named[name] = use
         if root == "crate":
             own |= {} if is_module(name) else {name: use}
@@ -59,13 +59,13 @@ def resolve(items, own, named, taken):
     def bring_in(path, line, parameters):
         name = path[-1]
         if path[0] != "crate":
-            raise Refused(line, f"write the path of `{name}` from `crate` on: the file stands in src/")
+            raise Refused(line, f"write the path of `{name}` starting with `crate`: the file is in src/")
         if name in declared:
             raise Refused(line, f"write `{name}`: it is declared here")
         if name in taken or name in parameters:
-            raise Refused(line, f"`{name}` is the name of another type: choose one of its own")
+            raise Refused(line, f"`{name}` is the name of another type: choose another name")
         if name in own and own[name].path != path:
-            raise Refused(line, f"`{name}` is `{'::'.join(own[name].path)}` already: choose another name for one of them")
+            raise Refused(line, f"`{name}` is `{'::'.join(own[name].path)}` already: rename one of them")
         own[name] = Use(name, path, line)
 
     def see(type, parameters):

@@ -274,7 +274,7 @@ def decoder_of_parts(item, own, input, parts):
         return f"<{parts} as HasDecoder<{input}>>::Decoder", ""
     most, line = max((types_in(field.type, own), field.type.line) for field in fields)
     if item.types or most > MOST_TYPES:
-        raise Refused(line, f"the fields name more than the {MOST_TYPES} types of which the borrow checker covers a decoder: put them into a struct of their own, without type parameters")
+        raise Refused(line, f"the fields name more than {MOST_TYPES} types, the borrow checker's limit for a decoder: move them to another struct without type parameters")
     apart = {text: f"{item.name}Decoder{number}" for number, text in enumerate(found)}
     texts = [Template(APART).substitute(simple=item.name, apart=name, input=input, inner=f"<{text} as HasDecoder<{input}>>::Decoder", type=text) for text, name in apart.items()]
     return decoders([of_text(field.type) for field in fields], apart, input), "".join(texts)

@@ -81,20 +81,20 @@ def alike_parts(sizes):
 def wide_text(struct, own):
     """The file of the struct, and the crates that it needs."""
     if len(struct.fields) > MOST_WIDE:
-        raise Refused(struct.line, f"{len(struct.fields)} fields are more than {MOST_WIDE}: put some of them into a struct of their own, which is written by itself")
+        raise Refused(struct.line, f"{len(struct.fields)} fields exceed the limit of {MOST_WIDE}: move some of them to another struct")
     if struct.kind != "named":
-        raise Refused(struct.line, f"{len(struct.fields)} fields are more than 16, so they need names")
+        raise Refused(struct.line, f"{len(struct.fields)} fields exceed the limit of 16 for fields without names: name them")
     if struct.types:
-        raise Refused(struct.line, f"a struct with more than 16 fields takes no type: write the type itself for `{struct.types[0]}`")
+        raise Refused(struct.line, f"a struct with more than 16 fields cannot have type parameters: write the type itself for `{struct.types[0]}`")
     checker = Checker(struct, own)
     for field in struct.fields:
         checker.check(field.type)
     parts, input, name = parts_of(struct), struct.lifetime or "'a", struct.name + bounds(struct, "")
     is_apart = types_named(parts, own, False) > MOST_LEFT
     if types_of_wide(struct, own) > MOST_TYPES:
-        raise Refused(struct.line, f"the fields name more than the {MOST_TYPES} types of which the borrow checker covers a decoder: put those of your own types that take memory into a struct of their own")
+        raise Refused(struct.line, f"the fields name more than {MOST_TYPES} types, the borrow checker's limit for a decoder: move those of your own types that allocate to another struct")
     if sum(types_encoded(field.type, own) for field in struct.fields) > MOST_ENCODED:
-        raise Refused(struct.line, f"the fields name more than the {MOST_ENCODED} types of which the borrow checker covers an encoder: put some of them into a struct of their own, which is written by itself")
+        raise Refused(struct.line, f"the fields name more than {MOST_ENCODED} types, the borrow checker's limit for an encoder: move some of them to another struct")
     texts, uses_apart = [], False
     for number, part in enumerate(parts):
         text, has_apart = part_text(part, struct, number, own, is_apart)
