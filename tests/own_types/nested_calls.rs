@@ -1,6 +1,7 @@
 //! With ample memory what is read of nested types is written again, as the same bytes.
 use bitcode::{Error, decode, encode, encode_into};
-use bitcode_large_types::lists::{accounts, packets};
+use bitcode_large_types::lists::{accounts, packed};
+use bitcode_large_types::packet::Packet;
 use bitcode_own_types::nested_calls::{all_of, deep, options, sixteen};
 use std::collections::BTreeMap;
 
@@ -52,10 +53,13 @@ fn packets_come_back(rt: HostRuntime) -> Result<(), Error> {
     let alloc = rt.alloc();
     // A ping, and a login of "ab" with 7. The twenty variants have the numbers 0 to 19.
     let bytes: &[u8] = &[2, 0, 2, 2, 97, 98, 6, 7];
-    assert!(rt; packets(alloc, bytes)?.as_slice() == bytes);
-    assert!(rt; packets(alloc, &[1, 19])?.as_slice() == [1, 19].as_slice());
-    assert!(rt; packets(alloc, &[1, 20]).is_err());
-    assert!(rt; packets(alloc, &bytes[..7]).is_err());
+    let packets: Vec<Packet> = decode(alloc, bytes)?;
+    assert!(rt; packed(alloc, &packets)?.as_slice() == bytes);
+    let last: &[u8] = &[1, 19];
+    let packets: Vec<Packet> = decode(alloc, last)?;
+    assert!(rt; packed(alloc, &packets)?.as_slice() == last);
+    assert!(rt; decode::<Vec<Packet>>(alloc, &[1, 20]).is_err());
+    assert!(rt; decode::<Vec<Packet>>(alloc, &bytes[..7]).is_err());
     Ok(())
 }
 
