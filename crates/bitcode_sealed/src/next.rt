@@ -81,11 +81,11 @@ pub fn open_next<'a, T: HasDecoder<'a> + Shaped + Drop>(
 where
     T::Decoder: View<'a> + Decoder<T> + Drop,
     ensures found { IfOk result (λ next. IsNextOf T.data.makes T.data.shape
-        (λ e. IsRefusalOfFront T.Decoder.faults T.Decoder.makes_free T.Decoder.shape T.data.shape
+        (λ e. IsRefusalOfFront T.Decoder.makes_free T.Decoder.shape T.data.shape
         expected.now input.old.now e) expected.now input.old.now input.new.now next) }
     ensures memory { IfErr result (λ e. e.reason ≡ Reason.OutOfMemory) }
     ensures refused { IfErr result
-        (λ e. IsRefusalOfFront T.Decoder.faults T.Decoder.makes_free T.Decoder.shape T.data.shape
+        (λ e. IsRefusalOfFront T.Decoder.makes_free T.Decoder.shape T.data.shape
         expected.now input.old.now (OpenError.Value e)) }
     ensures unchanged { OnErr result (input.new.now ≡ input.old.now) }
 {
