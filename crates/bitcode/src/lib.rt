@@ -153,7 +153,7 @@ pub mod laws {
     pub use bitcode_columns::laws::{bool_columns, byte_columns, int_columns, variant_columns};
     pub use bitcode_derive::laws::{
         borrowed_text, borrowed_texts, comes_back, comes_back_equal, comes_back_in_bytes,
-        no_lengths, one_text, one_value, overflows_exactly, round_trip, short_text,
+        no_lengths, one_text, one_value, overflows_exactly, round_trip, same_bytes, short_text,
         strictly_written,
     };
     pub use bitcode_shapes::shaped::told_exactly;
