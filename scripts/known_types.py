@@ -15,6 +15,7 @@ INTEGERS = [f"{sign}{width}" for sign in "ui" for width in ("8", "16", "32", "64
 TYPES = {
     **{name: Known(None, 0, 0, "yes") for name in ["bool", "char", "String", *INTEGERS]},
     **{f"NonZero{name.capitalize()}": Known(f"std::num::NonZero{name.capitalize()}", 0, 0, "yes") for name in INTEGERS},
+    **{name: Known(None, 0, 0, "no") for name in ["f32", "f64"]},
     "BoxedStr": Known("std::boxed::BoxedStr", 0, 0, "yes"),
     "RcStr": Known("std::rc::RcStr", 0, 0, "yes"),
     "ArrayString": Known("arrayvec::ArrayString", 0, 1, "yes"),
@@ -41,8 +42,6 @@ TYPES = {
 # The first type of these has to be a key, and to have this derive.
 KEYED = {"BTreeSet": "Ord", "HashSet": "Hash", "BinaryHeap": "Ord", "BTreeMap": "Ord", "HashMap": "Hash"}
 INSTEAD = {
-    "f32": "keep its bits, `x.to_bits()`, in a `u32`",
-    "f64": "keep its bits, `x.to_bits()`, in a `u64`",
     "str": "write `&'a str`, `String`, `BoxedStr` or `RcStr`",
     "Cow": "write `&'a str` or `String`",
     "CowStr": "write `&'a str` or `String`",
@@ -203,7 +202,7 @@ class Checker:
         elif type.kind == "path" and type.name in TYPES:
             self.imports |= {TYPES[type.name].path} - {None}
             self.crates |= {(TYPES[type.name].path or "std").split("::")[0]} - {"std"}
-        elif type.kind == "path" and type.name not in ("f32", "f64", *self.item.types):
+        elif type.kind == "path" and type.name not in self.item.types:
             raise Refused(type.line, f"`{type.name}` is not defined: use a type that is, or remove the marker")
         for part in type.parts:
             self.marked(part)

@@ -135,8 +135,8 @@ PAYLOADS = """impl<$input> VariantPayloads<$input, At<$first>, At<$end>, $name> 
         $part { all: VariantPayloads::<At<$first>, At<$end>, $name>::new(alloc),$marked }
     }
 
-    fn read_at(&mut self, number: usize, input: &mut &$input [u8], k: usize, strict: bool) -> Result<bool, Error> {
-        VariantPayloads::<At<$first>, At<$end>, $name>::read_at(&mut self.all, number, input, k, strict)
+    fn read_at(&mut self, number: usize, input: &mut &$input [u8], k: usize, strict: bool, free: &mut u128) -> Result<bool, Error> {
+        VariantPayloads::<At<$first>, At<$end>, $name>::read_at(&mut self.all, number, input, k, strict, free)
     }
 
     fn decode_at(&mut self, number: usize) -> Result<$name, Error> {

@@ -21,21 +21,21 @@ WORDS = {
     "CHANGES.md": 1500,
     "CONTRIBUTING.md": 1200,
     "SECURITY.md": 350,
-    "docs/ARCHITECTURE.md": 1550,
+    "docs/ARCHITECTURE.md": 1650,
     "docs/CODERS.md": 2500,
-    "docs/DECISIONS.md": 2650,
+    "docs/DECISIONS.md": 2900,
     "docs/DIFFERENCES.md": 1500,
     "docs/EXAMPLES.md": 1200,
     "docs/FORMAT.md": 3500,
-    "docs/GUIDE.md": 2700,
-    "docs/PROMISES.md": 3800,
+    "docs/GUIDE.md": 2800,
+    "docs/PROMISES.md": 3950,
     "docs/PROVING.md": 1050,
     "docs/SEALED.md": 1050,
     "docs/SPEED.md": 700,
     "docs/TESTING.md": 1150,
     "docs/TOOLCHAIN.md": 1650,
 }
-WORDS_IN_ALL = 25500
+WORDS_IN_ALL = 25750
 COLUMNS = 120
 HISTORY = "docs/HISTORY.md"
 COUNTED = "docs/TESTING.md"

@@ -91,7 +91,7 @@ impl<$input> HoldsData for $apart<$input> {
 }
 
 impl<$input> View<$input> for $apart<$input> {
-    ghost faults = { ⟦<$inner as View<$input>>⟧.faults };
+    ghost free_inside = { λ d. ⟦<$inner as View<$input>>⟧.free_inside d.field };
 
     fn new(alloc: Global) -> Self {
         $apart { field: View::new(alloc) }
@@ -99,6 +99,10 @@ impl<$input> View<$input> for $apart<$input> {
 
     fn read(&mut self, input: &mut &$input [u8], k: usize, strict: bool) -> Result<bool, Error> {
         self.field.read(input, k, strict)
+    }
+
+    fn column_free(&self) -> ColumnFree {
+        self.field.column_free()
     }
 }
 
@@ -292,7 +296,7 @@ def tuple_text(item, imports, own, lent, **row):
     is_long = len(row["pattern"]) + len(parts) > MOST_IN_LINE
     type_of_decoder, apart = decoder(item, own, input, alias if is_long else parts)
     used |= {"ConvertFromDecoder", "TupleDecoder"} if apart else {"DecoderOfFields"}
-    imports = {*imports, "std::alloc::Global", *({"bitcode::coder::{Decoder, HoldsData, View}"} if apart else ())}
+    imports = {*imports, "std::alloc::Global", *({"bitcode::coder::{ColumnFree, Decoder, HoldsData, View}"} if apart else ())}
     by_hand = ["data_as", "field_alike", *(["pair_alike"] if len(fields) > 1 else []), "refl"]
     lines = [f"use bitcode::{{{', '.join(sorted(used))}}};", *(f"use {path};" for path in sorted(imports))]
     row |= {

@@ -110,7 +110,7 @@ def wide_text(struct, own):
     used |= set() if struct.lifetime else {"DecodeOwned"}
     used |= {"ConvertFromDecoder"} if uses_apart else set()
     used |= {"TupleDecoder"} if any("TupleDecoder<" in text for text in texts) else set()
-    imports = {*checker.imports, "std::alloc::Global", *({"bitcode::coder::{Decoder, HoldsData, View}"} if uses_apart else ())}
+    imports = {*checker.imports, "std::alloc::Global", *({"bitcode::coder::{ColumnFree, Decoder, HoldsData, View}"} if uses_apart else ())}
     uses = sorted([f"use bitcode::{{{', '.join(sorted(used))}}};", *(f"use {path};" for path in imports)])
     sizes = [len(part.fields) for part in parts]
 

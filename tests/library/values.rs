@@ -3,6 +3,7 @@ mod arrays;
 mod checked;
 mod choices;
 mod fixed_capacity;
+mod floats;
 mod heaps;
 mod ints;
 mod lists;

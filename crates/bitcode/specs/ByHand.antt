@@ -34,6 +34,7 @@ pub use Rattle.bitcode_parts.specs.Elements.{MakesOfElements}
 pub use Rattle.bitcode_shapes.specs.Datum.{Datum, natural_in}
 pub use Rattle.bitcode_coder.specs.Coder.{IsWritingRefusal}
 pub use Rattle.bitcode_derive.specs.ShortLengths.{elements_have_entries, has_no_lengths}
+pub use Rattle.bitcode_derive.specs.Within.{IsDecodingWithin, IsRefusalWithin}
 pub use Rattle.bitcode_derive.specs.Whole.{IsEncodingOf, HasLongListing, HasShortLengths, IsDecodingOf, SpellsDatum, want_of_memory}
 -- What is sealed, and what is opened and refused:
 pub use Rattle.bitcode_sealed.specs.Sealing.{IsSealingOf, IsSealedBehind}

@@ -34,9 +34,12 @@ pub use bitcode_derive::buffer::Buffer;
 pub use bitcode_derive::derive::{Decode, DecodeOwned, Encode, HasDecoder, HasEncoder};
 pub use bitcode_derive::map::{MapDecoder, MapEncoder};
 pub use bitcode_derive::whole::{
-    decode, decode_front, decode_front_strict, decode_strict, encode, encode_into,
+    decode, decode_front, decode_front_strict, decode_strict, decode_within, encode, encode_into,
     invalid_enum_variant,
 };
+pub use bitcode_float_columns::split::{pack_f32s, unpack_f32s};
+pub use bitcode_floats::float32::{F32Decoder, F32Encoder};
+pub use bitcode_floats::float64::{F64Decoder, F64Encoder};
 pub use bitcode_int_columns::pack_ints::{pack_ints, unpack_ints};
 pub use bitcode_ints::checked::CheckedIntDecoder;
 pub use bitcode_ints::int::{IntDecoder, IntEncoder};
@@ -84,7 +87,7 @@ pub mod own {
     pub use bitcode_enums::columns::VariantColumns;
     pub use bitcode_enums::decoder::EnumDecoder;
     pub use bitcode_enums::encoder::EnumEncoder;
-    pub use bitcode_enums::held::{Enum, EnumOf, told_as};
+    pub use bitcode_enums::enums::{Enum, EnumOf, told_as};
     pub use bitcode_enums::not_compared::NotCompared;
     pub use bitcode_enums::number::At;
     pub use bitcode_enums::payloads::VariantPayloads;
@@ -119,10 +122,11 @@ pub mod own {
     pub type DecoderOfFields<'a, P> = ConvertFromDecoder<P, <P as HasDecoder<'a>>::Decoder>;
 }
 
-/// The traits of coders, the result type of their calls, calls that write one value, and `both`, which combines the
-/// results of two reads.
+/// The traits of coders, the result type of their calls, calls that write one value, what a decoder tells about
+/// elements without columns, and `both`, which combines the results of two reads.
 pub mod coder {
     pub use bitcode_coder::coder::{Buffer, Decoder, Encoder, HoldsColumns, HoldsData, View, both};
+    pub use bitcode_coder::column_free::ColumnFree;
     pub use bitcode_coder::one::{write_length, write_one};
     pub use bitcode_coder::result::Result;
 }
@@ -153,9 +157,10 @@ pub mod laws {
     pub use bitcode_columns::laws::{bool_columns, byte_columns, int_columns, variant_columns};
     pub use bitcode_derive::laws::{
         borrowed_text, borrowed_texts, comes_back, comes_back_equal, comes_back_in_bytes,
-        no_lengths, one_text, one_value, overflows_exactly, round_trip, same_bytes, short_text,
-        strictly_written,
+        comes_back_strictly, no_lengths, one_fault, one_text, one_value, overflows_exactly,
+        round_trip, same_bytes, short_text, strictly_written,
     };
+    pub use bitcode_float_columns::laws::split_columns;
     pub use bitcode_shapes::shaped::told_exactly;
     pub use bitcode_untyped::laws::{
         columns_decide, every_shape, faults_tell, one_value_of_a_datum, spelled_data,

@@ -18,12 +18,19 @@ use Rattle.bitcode_columns.proofs.VariantColumnLemmas.{SpellsVariants-unambiguou
 use Rattle.bitcode_memory.proofs.IntLemmas.{number_of-residue, residue_below}
 use Rattle.bitcode_columns.proofs.BoolColumnLemmas.{SpellsBools-unambiguous, bool_text-spells}
 use Rattle.bitcode_columns.proofs.IntColumnLemmas.{SpellsInts-unambiguous, SpellsInts-size_bound, int_text-spells}
+use Rattle.std.specs.Float.{Format, binary32, binary64}
+use lib.Ieee.{top, to_bits}
+use lib.Ieee.Bits.{to_bits-lt}
+use Rattle.bitcode_float_columns.specs.FloatColumn.{SpellsSplit, split_text}
+use Rattle.bitcode_float_columns.proofs.CanonicalLemmas.{to_bits-canonical}
+use Rattle.bitcode_float_columns.proofs.SplitLemmas.{SpellsSplit-unambiguous, SpellsSplit-size_bound}
 use Rattle.bitcode_shapes.specs.Datum.{Datum, number, text, number_in, natural_in, text_in}
-use Rattle.bitcode_shapes.specs.Shape.{IsNumberWidth, IsNaturalBelow, IsNumberOf, IsTextOf, IsWithin, IsInWidth, any_number}
-use Rattle.bitcode_coder.specs.Columns.{Kind, bools, ints, lengths, texts, raws, variants, IsSoundKind, IsEntryOf, entry_count_of}
+use Rattle.bitcode_shapes.specs.LawfulInts.{width_8}
+use Rattle.bitcode_shapes.specs.Shape.{IsNumberWidth, IsNaturalBelow, IsNumberOf, IsFloatOf, IsTextOf, IsWithin, IsInWidth, any_number}
+use Rattle.bitcode_coder.specs.Columns.{Kind, bools, ints, floats, lengths, texts, raws, variants, IsSoundKind, IsEntryOf, entry_count_of}
 use Rattle.bitcode_coder.specs.LengthColumn.{SpellsLengths, length_limit}
 use Rattle.bitcode_coder.specs.TextColumn.{SpellsTexts}
-use Rattle.bitcode_coder.specs.Spelling.{SpellsColumn, SpellsAs, SpellsIntsInWidth, natural, truth, number_of_residue, column_bytes, LengthsBelowLimitOf}
+use Rattle.bitcode_coder.specs.Spelling.{SpellsColumn, SpellsAs, SpellsIntsInWidth, SpellsBits, bits_text, float_of_bits, natural, truth, number_of_residue, column_bytes, LengthsBelowLimitOf}
 use Rattle.bitcode_coder.proofs.LengthLemmas.{SpellsLengths-unambiguous, SpellsLengths-size_bound, length_bytes-spells}
 use Rattle.bitcode_coder.proofs.TextLemmas.{SpellsTexts-unambiguous, SpellsTexts-nothing, SpellsTexts-size_bound, texts_bytes-spells}
 
@@ -72,6 +79,31 @@ ints_once width = record {
       (SpellsInts-unambiguous width).unambiguous piece other entries others rest left s.spelled t.spelled same e;
 }
 
+-- ---- floats
+
+pub SpellsBits-unambiguous : (format : Format) → IsReadOnce (SpellsBits format)
+SpellsBits-unambiguous binary32 = SpellsSplit-unambiguous
+SpellsBits-unambiguous binary64 = ints_once 8
+
+SpellsBits-nothing : (format : Format) (piece : List ℕ) → SpellsBits format piece [] → piece ≡ []
+SpellsBits-nothing binary32 piece s = SpellsSplit-size_bound.nothing piece s
+SpellsBits-nothing binary64 piece s = (SpellsInts-size_bound 8 width_8).nothing piece s.spelled
+
+SpellsBits-size_bound : (format : Format) (piece bits : List ℕ) → SpellsBits format piece bits → length bits ≤ 8 * length piece
+SpellsBits-size_bound binary32 piece bits s = SpellsSplit-size_bound.size_bound piece bits s
+SpellsBits-size_bound binary64 piece bits s = (SpellsInts-size_bound 8 width_8).size_bound piece bits s.spelled
+
+same_residues : (bits : List ℕ) → map (residue 8) (map pos bits) ≡ bits
+same_residues bits = map-map (residue 8) pos bits ∙ map-id bits
+
+pub bits_text-spells : (format : Format) (bits : List ℕ) → All (λ b. b < 2 * top format) bits → SpellsBits format (bits_text format bits) bits
+bits_text-spells binary32 bits below = record { whole = refl; fit = below }
+bits_text-spells binary64 bits below = record {
+  spelled = subst (SpellsInts 8 (bits_text binary64 bits)) (same_residues bits)
+      ((int_text-spells 8 width_8).back false (map pos bits) (All-map (IsNumber 8 false) pos bits below));
+  in_width = below;
+}
+
 -- ---- each kind
 
 bytes_once : IsReadOnce (λ bytes entries. bytes ≡ entries)
@@ -83,6 +115,7 @@ bytes_once = record {
 pub SpellsColumn-unambiguous : (kind : Kind) → IsReadOnce (SpellsColumn kind)
 SpellsColumn-unambiguous bools = as_once truth SpellsBools SpellsBools-unambiguous
 SpellsColumn-unambiguous (ints width signed) = as_once (number_of_residue width signed) (SpellsIntsInWidth width) (ints_once width)
+SpellsColumn-unambiguous (floats format) = as_once (float_of_bits format) (SpellsBits format) (SpellsBits-unambiguous format)
 SpellsColumn-unambiguous (lengths limit) = as_once natural (SpellsLengths limit) (SpellsLengths-unambiguous limit)
 SpellsColumn-unambiguous (texts limit) = as_once text (SpellsTexts limit) (SpellsTexts-unambiguous limit)
 SpellsColumn-unambiguous raws = as_once natural (λ bytes entries. bytes ≡ entries) bytes_once
@@ -92,6 +125,7 @@ pub SpellsColumn-nothing : (kind : Kind) → IsSoundKind kind → (piece : List 
 SpellsColumn-nothing bools sound = as_nothing truth SpellsBools (SpellsDigits-size_bound Two).nothing
 SpellsColumn-nothing (ints width signed) sound =
     as_nothing (number_of_residue width signed) (SpellsIntsInWidth width) (λ piece s. (SpellsInts-size_bound width sound).nothing piece s.spelled)
+SpellsColumn-nothing (floats format) sound = as_nothing (float_of_bits format) (SpellsBits format) (SpellsBits-nothing format)
 SpellsColumn-nothing (lengths limit) sound = as_nothing natural (SpellsLengths limit) (SpellsLengths-size_bound limit).nothing
 SpellsColumn-nothing (texts limit) sound = as_nothing text (SpellsTexts limit) (SpellsTexts-nothing limit)
 SpellsColumn-nothing raws sound = as_nothing natural (λ bytes entries. bytes ≡ entries) (λ piece s. s)
@@ -108,6 +142,7 @@ pub SpellsColumn-size_bound : (kind : Kind) → IsSoundKind kind → (piece : Li
 SpellsColumn-size_bound bools sound = as_eighth truth SpellsBools (λ piece entries s. omega (arith, (SpellsDigits-size_bound Two).size_bound piece (map bool_digit entries) s, length-map entries bool_digit))
 SpellsColumn-size_bound (ints width signed) sound =
     as_eighth (number_of_residue width signed) (SpellsIntsInWidth width) (λ piece entries s. (SpellsInts-size_bound width sound).size_bound piece entries s.spelled)
+SpellsColumn-size_bound (floats format) sound = as_eighth (float_of_bits format) (SpellsBits format) (SpellsBits-size_bound format)
 SpellsColumn-size_bound (lengths limit) sound = as_eighth natural (SpellsLengths limit) (SpellsLengths-size_bound limit).size_bound
 SpellsColumn-size_bound (texts limit) sound = λ piece entries s.
     omega (
@@ -180,6 +215,16 @@ int_columns_spell width signed is_width ds each =
         (All-weaker (IsNumberOf width signed any_number) (λ d. IsNumber width signed (number_in d))
         (λ d of. subst (λ x. IsNumber width signed (number_in x)) (sym of.is) (is_number width signed of.value of.in_width)) ds each)
 
+float_columns_spell : (format : Format) (ds : List Datum) → All (IsFloatOf format) ds → SpellsColumn (floats format) (column_bytes (floats format) ds) ds
+float_columns_spell format ds each =
+    as_spells (float_of_bits format) (SpellsBits format) natural_in (column_bytes (floats format) ds) ds
+    (All-weaker (IsFloatOf format) (λ d. float_of_bits format (natural_in d) ≡ d)
+    (λ d of. ap (λ x. float_of_bits format (natural_in x)) of.is ∙ ap natural (to_bits-canonical format of.value of.in_format) ∙ sym of.is) ds each)
+    (bits_text-spells format (map natural_in ds)
+    (All-map (λ b. b < 2 * top format) natural_in ds
+    (All-weaker (IsFloatOf format) (λ d. natural_in d < 2 * top format)
+    (λ d of. subst (λ b. b < 2 * top format) (sym (ap natural_in of.is)) (to_bits-lt format of.value of.in_format)) ds each)))
+
 length_columns_spell : (limit : Option ℕ) (ds : List Datum) → All (IsEntryOf (lengths limit)) ds → LengthsBelowLimitOf (lengths limit) ds
     → SpellsColumn (lengths limit) (column_bytes (lengths limit) ds) ds
 length_columns_spell limit ds each below =
@@ -204,6 +249,7 @@ pub column_bytes-spells : (kind : Kind) → IsSoundKind kind → (entries : List
     → SpellsColumn kind (column_bytes kind entries) entries
 column_bytes-spells bools sound entries each below = bool_columns_spell entries each
 column_bytes-spells (ints width signed) sound entries each below = int_columns_spell width signed sound entries each
+column_bytes-spells (floats format) sound entries each below = float_columns_spell format entries each
 column_bytes-spells (lengths limit) sound entries each below = length_columns_spell limit entries each below
 column_bytes-spells (texts limit) sound entries each below = text_columns_spell limit entries each below
 column_bytes-spells raws sound entries each below = raw_columns_spell entries each

@@ -42,6 +42,10 @@ ints_known_as tagged_form width count input =
     tagged_known width (highest_int_tag width) (λ level. narrow_fault count (width_at_level width level))
     (λ level rest. narrow_known count (width_at_level width level) rest) input
 
+-- the fault of a column of integers is one that a reader of data may name
+pub ints_known : (width count : ℕ) (input : List ℕ) → IsReadingFault (ints_fault width count input)
+ints_known width count input = ints_known_as (int_form width count) width count input
+
 pub ints_refused : (width : ℕ) (signed : Bool) (reason : Reason) (count : ℕ) (input : List ℕ) → Names reason (ints_fault width count input)
     → IsReadingRefusal (int_shape width signed) reason count input
 ints_refused width signed reason count input named =

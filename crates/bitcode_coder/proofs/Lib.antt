@@ -10,6 +10,7 @@ pub mod TextLemmas
 pub mod JoinedTextLemmas
 pub mod StrLemmas
 pub mod LimitedTextLemmas
+pub mod ColumnFreeLemmas
 pub mod ColumnLemmas
 pub mod TranspositionLemmas
 pub mod DatumLemmas

@@ -3,8 +3,8 @@ use Rattle.std.proofs.Common.{◌≡◌, ℕ, zero, suc, ◌+◌, ◌*◌, ◌�
 use Rattle.std.proofs.lemmas.List.Elements.{All-map, All-weaker}
 use Rattle.bitcode_columns.specs.Laws.{IsReadOnce}
 use Rattle.bitcode_shapes.specs.Datum.{Datum, unit, elements_in, first_in, second_in, variant_in}
-use Rattle.bitcode_shapes.specs.Shape.{Shape, Shapes, unit_shape, never_shape, bool_shape, number_shape, text_shape, raw_shape, seq_shape, map_shape, array_shape, pair_shape, choice_shape, no_shapes, shape_and, IsOf, IsOfVariant, IsSound, AreSound, IsWithin, IsListOf, IsPairOf, IsChoiceOf, IsNumberOf, any_number, variant_count}
-use Rattle.bitcode_coder.specs.Columns.{Kind, Columns, bools, ints, lengths, texts, raws, variants, no_columns, one, two, arrays, emptied, CountsFit, IsSoundKind, IsEntryOf, entry_count}
+use Rattle.bitcode_shapes.specs.Shape.{Shape, Shapes, unit_shape, never_shape, bool_shape, number_shape, float_shape, text_shape, raw_shape, seq_shape, map_shape, array_shape, pair_shape, choice_shape, no_shapes, shape_and, IsOf, IsOfVariant, IsSound, AreSound, IsWithin, IsListOf, IsPairOf, IsChoiceOf, IsNumberOf, any_number, variant_count}
+use Rattle.bitcode_coder.specs.Columns.{Kind, Columns, bools, ints, floats, lengths, texts, raws, variants, no_columns, one, two, arrays, emptied, CountsFit, IsSoundKind, IsEntryOf, entry_count}
 use Rattle.bitcode_coder.specs.Transposition.{columns_of, payload_columns, array_columns, joined, payloads, length_entry, variant_entry}
 use Rattle.bitcode_coder.specs.Spelling.{Spells, SpellsColumns, columns_bytes, LengthsBelowLimit}
 use Rattle.bitcode_coder.proofs.ColumnLemmas.{SpellsColumn-unambiguous, SpellsColumn-nothing, SpellsColumn-size_bound, column_bytes-spells}
@@ -75,6 +75,7 @@ mutual
       (none_never ds h ∙ sym (none_never es i), nothing_once f.piece f.other rest left f.spelled f.also f.same)
   data_once bool_shape ds es rest left h i n f = column_once bools ds es rest left n f
   data_once (number_shape width signed allowed) ds es rest left h i n f = column_once (ints width signed) ds es rest left n f
+  data_once (float_shape format) ds es rest left h i n f = column_once (floats format) ds es rest left n f
   data_once (text_shape limit) ds es rest left h i n f = column_once (texts limit) ds es rest left n f
   data_once raw_shape ds es rest left h i n f = column_once raws ds es rest left n f
   data_once (seq_shape limit element) ds es rest left h i n f =
@@ -210,6 +211,7 @@ mutual
   AreSoundKinds-columns_of never_shape sound ds = tt
   AreSoundKinds-columns_of bool_shape sound ds = tt
   AreSoundKinds-columns_of (number_shape width signed allowed) sound ds = sound
+  AreSoundKinds-columns_of (float_shape format) sound ds = tt
   AreSoundKinds-columns_of (text_shape limit) sound ds = tt
   AreSoundKinds-columns_of raw_shape sound ds = tt
   AreSoundKinds-columns_of (seq_shape limit element) sound ds = (tt, AreSoundKinds-columns_of element sound (joined ds))
@@ -252,6 +254,7 @@ mutual
   AreEntries-columns_of (number_shape width signed allowed) ds h =
       All-weaker (IsNumberOf width signed allowed) (IsNumberOf width signed any_number)
       (λ d i. record { value = i.value; is = i.is; in_width = i.in_width; in_allowed = tt }) ds h
+  AreEntries-columns_of (float_shape format) ds h = h
   AreEntries-columns_of (text_shape limit) ds h = h
   AreEntries-columns_of raw_shape ds h = h
   AreEntries-columns_of (seq_shape limit element) ds h = (

@@ -7,7 +7,7 @@ use Rattle.bitcode_columns.specs.Reading.{Reads}
 use Rattle.bitcode_columns.proofs.FrontLemmas.{append_split}
 use Rattle.bitcode_shapes.specs.Datum.{Datum}
 use Rattle.bitcode_shapes.specs.Shape.{Shape}
-use Rattle.bitcode_coder.specs.Columns.{Kind, Columns, bools, ints, lengths, texts, raws, variants, no_columns, one, two, arrays, plain, plain_kind, CountsFit}
+use Rattle.bitcode_coder.specs.Columns.{Kind, Columns, bools, ints, floats, lengths, texts, raws, variants, no_columns, one, two, arrays, plain, plain_kind, CountsFit}
 use Rattle.bitcode_coder.specs.Transposition.{columns_of}
 use Rattle.bitcode_coder.specs.Spelling.{Spells, SpellsColumn, SpellsColumns, column_bytes, columns_bytes}
 use Rattle.bitcode_coder.specs.Strict.{StrictlySpells, StrictlySpellsColumn, StrictlySpellsColumns, JudgesColumn, JudgesBoth, Judges, JudgesData}
@@ -54,6 +54,7 @@ columns_once (arrays size count elements) piece other rest left s t h = columns_
 unlimited : (kind : Kind) (bytes : List ℕ) (ds : List Datum) → SpellsColumn kind bytes ds → SpellsColumn (plain_kind kind) bytes ds
 unlimited bools bytes ds s = s
 unlimited (ints width signed) bytes ds s = s
+unlimited (floats format) bytes ds s = s
 unlimited (lengths limit) bytes ds s = record { entries = s.entries; are = s.are; spelled = other_limit None s.spelled tt }
 unlimited (texts limit) bytes ds s = record {
   entries = s.entries;
@@ -71,6 +72,7 @@ unlimited (variants count) bytes ds s = s
 plain_text : (kind : Kind) (ds : List Datum) → column_bytes (plain_kind kind) ds ≡ column_bytes kind ds
 plain_text bools ds = refl
 plain_text (ints width signed) ds = refl
+plain_text (floats format) ds = refl
 plain_text (lengths limit) ds = refl
 plain_text (texts limit) ds = refl
 plain_text raws ds = refl

@@ -5,8 +5,8 @@ use Rattle.std.proofs.lemmas.List.{map-append}
 use Rattle.std.proofs.lemmas.List.Elements.{filter-append}
 use Rattle.std.proofs.lemmas.Grind.{flat_map-append}
 use Rattle.bitcode_shapes.specs.Datum.{Datum, elements_in, first_in, second_in, payload_in, variant_in}
-use Rattle.bitcode_shapes.specs.Shape.{Shape, Shapes, unit_shape, never_shape, bool_shape, number_shape, text_shape, raw_shape, seq_shape, map_shape, array_shape, pair_shape, choice_shape, no_shapes, shape_and, variant_count}
-use Rattle.bitcode_coder.specs.Columns.{Kind, Column, Columns, bools, ints, lengths, texts, raws, variants, no_columns, one, two, arrays, flat, beside, plain, plain_kind, emptied, CountsFit}
+use Rattle.bitcode_shapes.specs.Shape.{Shape, Shapes, unit_shape, never_shape, bool_shape, number_shape, float_shape, text_shape, raw_shape, seq_shape, map_shape, array_shape, pair_shape, choice_shape, no_shapes, shape_and, variant_count}
+use Rattle.bitcode_coder.specs.Columns.{Kind, Column, Columns, bools, ints, floats, lengths, texts, raws, variants, no_columns, one, two, arrays, flat, beside, plain, plain_kind, emptied, CountsFit}
 use Rattle.bitcode_coder.specs.Transposition.{columns_of, payload_columns, spread, payload_spread, length_entry, variant_entry, joined, payloads, array_columns, column}
 use Rattle.bitcode_coder.specs.Spelling.{SpellsColumns, SpellsEach, IsSplit, SpellsColumn, columns_bytes, texts_of, column_bytes}
 
@@ -35,6 +35,7 @@ mutual
   columns_of-append never_shape ds es = refl
   columns_of-append bool_shape ds es = refl
   columns_of-append (number_shape width signed allowed) ds es = refl
+  columns_of-append (float_shape format) ds es = refl
   columns_of-append (text_shape limit) ds es = refl
   columns_of-append raw_shape ds es = refl
   columns_of-append (seq_shape limit element) ds es =
@@ -82,6 +83,7 @@ mutual
   columns_of-none never_shape ds = refl
   columns_of-none bool_shape ds = refl
   columns_of-none (number_shape width signed allowed) ds = refl
+  columns_of-none (float_shape format) ds = refl
   columns_of-none (text_shape limit) ds = refl
   columns_of-none raw_shape ds = refl
   columns_of-none (seq_shape limit element) ds = ap (two (one (lengths limit) [])) (columns_of-none element (joined ds))
@@ -121,6 +123,7 @@ CountsFit-plain (arrays size count elements) = (λ h. (h.0, (CountsFit-plain ele
 column_bytes-plain : (kind : Kind) (entries : List Datum) → column_bytes (plain_kind kind) entries ≡ column_bytes kind entries
 column_bytes-plain bools entries = refl
 column_bytes-plain (ints width signed) entries = refl
+column_bytes-plain (floats format) entries = refl
 column_bytes-plain (lengths limit) entries = refl
 column_bytes-plain (texts limit) entries = refl
 column_bytes-plain raws entries = refl
@@ -143,6 +146,7 @@ mutual
   flat-columns_of never_shape ds = refl
   flat-columns_of bool_shape ds = refl
   flat-columns_of (number_shape width signed allowed) ds = refl
+  flat-columns_of (float_shape format) ds = refl
   flat-columns_of (text_shape limit) ds = refl
   flat-columns_of raw_shape ds = refl
   flat-columns_of (seq_shape limit element) ds = ap (λ l. column (lengths limit) (map length_entry ds) ++ l) (flat-columns_of element (joined ds))

@@ -1,13 +1,16 @@
 -- Columns of data. A column has a kind and entries. The columns of a shape form a tree that follows the shape. From
 -- left to right they form a list, and the bytes follow that list.
 use Rattle.std.specs.Prelude.{◌≡◌, ℕ, ◌+◌, ◌*◌, ◌<◌, ◌^◌, ◌≤◌, pos, Bool, Option, None, List, [], ◌∷◌, ◌++◌, length, sum_by}
+use Rattle.std.specs.Float.{Format}
 use Rattle.bitcode_shapes.specs.Datum.{Datum, number, text_in}
-use Rattle.bitcode_shapes.specs.Shape.{IsNumberWidth, IsNaturalBelow, IsNumberOf, IsTextOf, IsWithin, any_number}
+use Rattle.bitcode_shapes.specs.Shape.{IsNumberWidth, IsNaturalBelow, IsNumberOf, IsFloatOf, IsTextOf, IsWithin, any_number}
 
 pub data Kind : Type 0 where
   bools : Kind
   -- integers of a width in bytes, signed (true) or not
   ints : ℕ → Bool → Kind
+  -- the bits of floats
+  floats : Format → Kind
   -- lengths and texts, limited to so much if a decoder has a limit
   lengths : Option ℕ → Kind
   texts : Option ℕ → Kind
@@ -89,6 +92,7 @@ IsSoundKind _ = Unit {0}
 abbrev pub IsEntryOf : Kind → Datum → Type 0
 IsEntryOf bools d = IsNaturalBelow 2 d
 IsEntryOf (ints width signed) d = IsNumberOf width signed any_number d
+IsEntryOf (floats format) d = IsFloatOf format d
 IsEntryOf (lengths limit) d = (n : ℕ) × ((d ≡ number (pos n)) × IsWithin limit n)
 IsEntryOf (texts limit) d = IsTextOf limit d
 IsEntryOf raws d = IsNaturalBelow 256 d

@@ -12,6 +12,9 @@ pub mod Columns
 pub mod Transposition
 pub mod Spelling
 pub mod Coder
+pub mod FirstFault
+pub mod ColumnFree
+pub mod ColumnFreeRows
 pub mod Rows
 pub mod Vectors
 pub mod WrittenTexts

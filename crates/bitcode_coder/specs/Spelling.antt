@@ -1,14 +1,16 @@
 -- How bytes spell columns, and the bytes that are written for them.
 use Rattle.std.specs.Prelude.{◌≡◌, ℕ, ◌^◌, ◌<◌, pos, Bool, List, [], ◌∷◌, ◌++◌, length, map, All, sum, ◌==◌}
+use Rattle.std.specs.Float.{Format, binary32, binary64}
 use Rattle.bitcode_memory.specs.Ints.{number_of, bool_digit}
 use Rattle.bitcode_columns.specs.BoolColumn.{SpellsBools, bool_text}
 use Rattle.bitcode_columns.specs.IntColumn.{SpellsInts, int_text}
 use Rattle.bitcode_columns.specs.VariantColumn.{SpellsVariants, variant_text}
+use Rattle.bitcode_float_columns.specs.FloatColumn.{canonical, SpellsSplit, split_text}
 use Rattle.bitcode_shapes.specs.Datum.{Datum, number, text, number_in, natural_in, text_in}
 use Rattle.bitcode_shapes.specs.Shape.{Shape, IsOf}
 use Rattle.bitcode_coder.specs.LengthColumn.{SpellsLengths, length_bytes, length_limit}
 use Rattle.bitcode_coder.specs.TextColumn.{SpellsTexts, texts_bytes}
-use Rattle.bitcode_coder.specs.Columns.{Kind, Column, Columns, bools, ints, lengths, texts, raws, variants, no_columns, one, two, arrays, CountsFit}
+use Rattle.bitcode_coder.specs.Columns.{Kind, Column, Columns, bools, ints, floats, lengths, texts, raws, variants, no_columns, one, two, arrays, CountsFit}
 use Rattle.bitcode_coder.specs.Transposition.{columns_of}
 
 abbrev pub natural : ℕ → Datum
@@ -20,6 +22,10 @@ truth b = natural (bool_digit b)
 abbrev pub number_of_residue : ℕ → Bool → ℕ → Datum
 number_of_residue width signed n = number (number_of width signed n)
 
+-- the datum of the float with these bits
+abbrev pub float_of_bits : Format → ℕ → Datum
+float_of_bits format bits = natural (canonical format bits)
+
 -- the data are these entries, which the bytes spell
 pub record SpellsAs {Entry : Type 0} (datum : Entry → Datum) (Spells : List ℕ → List Entry → Type 0) (bytes : List ℕ) (ds : List Datum) : Type 0 where
   pub entries : List Entry
@@ -30,11 +36,17 @@ pub record SpellsIntsInWidth (width : ℕ) (bytes entries : List ℕ) : Type 0 w
   pub spelled : SpellsInts width bytes entries
   pub in_width : All (λ n. n < 256 ^ width) entries
 
+-- the bits of floats, whatever those of a NaN are
+abbrev pub SpellsBits : Format → List ℕ → List ℕ → Type 0
+SpellsBits binary32 = SpellsSplit
+SpellsBits binary64 = SpellsIntsInWidth 8
+
 -- ---- accepted
 
 abbrev pub SpellsColumn : Kind → List ℕ → List Datum → Type 0
 SpellsColumn bools = SpellsAs truth SpellsBools
 SpellsColumn (ints width signed) = SpellsAs (number_of_residue width signed) (SpellsIntsInWidth width)
+SpellsColumn (floats format) = SpellsAs (float_of_bits format) (SpellsBits format)
 SpellsColumn (lengths limit) = SpellsAs natural (SpellsLengths limit)
 SpellsColumn (texts limit) = SpellsAs text (SpellsTexts limit)
 SpellsColumn raws = SpellsAs natural (λ bytes entries. bytes ≡ entries)
@@ -69,9 +81,14 @@ pub record Spells (shape : Shape) (bytes : List ℕ) (ds : List Datum) : Type 0 
 
 -- ---- written
 
+abbrev pub bits_text : Format → List ℕ → List ℕ
+bits_text binary32 bits = split_text bits
+bits_text binary64 bits = int_text 8 (map pos bits)
+
 abbrev pub column_bytes : Kind → List Datum → List ℕ
 column_bytes bools ds = bool_text (map (λ d. natural_in d == 1) ds)
 column_bytes (ints width signed) ds = int_text width (map number_in ds)
+column_bytes (floats format) ds = bits_text format (map natural_in ds)
 column_bytes (lengths limit) ds = length_bytes (map natural_in ds)
 column_bytes (texts limit) ds = texts_bytes (map text_in ds)
 column_bytes raws ds = map natural_in ds

@@ -2,8 +2,8 @@
 use Rattle.std.specs.Prelude.{ℕ, zero, suc, pos, List, [], ◌∷◌, ◌++◌, length, map, filter, None, ◌==◌}
 use Rattle.std.specs.List.{flat_map}
 use Rattle.bitcode_shapes.specs.Datum.{Datum, number, elements_in, first_in, second_in, variant_in, payload_in}
-use Rattle.bitcode_shapes.specs.Shape.{Shape, Shapes, unit_shape, never_shape, bool_shape, number_shape, text_shape, raw_shape, seq_shape, map_shape, array_shape, pair_shape, choice_shape, no_shapes, shape_and, variant_count}
-use Rattle.bitcode_coder.specs.Columns.{Kind, Column, Columns, bools, ints, lengths, texts, raws, variants, no_columns, one, two, arrays}
+use Rattle.bitcode_shapes.specs.Shape.{Shape, Shapes, unit_shape, never_shape, bool_shape, number_shape, float_shape, text_shape, raw_shape, seq_shape, map_shape, array_shape, pair_shape, choice_shape, no_shapes, shape_and, variant_count}
+use Rattle.bitcode_coder.specs.Columns.{Kind, Column, Columns, bools, ints, floats, lengths, texts, raws, variants, no_columns, one, two, arrays}
 
 abbrev pub length_entry : Datum → Datum
 length_entry d = number (pos (length (elements_in d)))
@@ -31,6 +31,7 @@ abbrev mutual
   columns_of never_shape ds = no_columns
   columns_of bool_shape ds = one bools ds
   columns_of (number_shape width signed allowed) ds = one (ints width signed) ds
+  columns_of (float_shape format) ds = one (floats format) ds
   columns_of (text_shape limit) ds = one (texts limit) ds
   columns_of raw_shape ds = one raws ds
   columns_of (seq_shape limit element) ds = two (one (lengths limit) (map length_entry ds)) (columns_of element (joined ds))
@@ -54,6 +55,7 @@ abbrev mutual
   spread never_shape ds = []
   spread bool_shape ds = column bools ds
   spread (number_shape width signed allowed) ds = column (ints width signed) ds
+  spread (float_shape format) ds = column (floats format) ds
   spread (text_shape limit) ds = column (texts limit) ds
   spread raw_shape ds = column raws ds
   spread (seq_shape limit element) ds = column (lengths limit) (map length_entry ds) ++ spread element (joined ds)

@@ -7,12 +7,14 @@ ghost use Rattle.bitcode_memory.specs.Fast.{fast_items, fast_room, cow_rest, fas
 ghost use Rattle.bitcode_columns.specs.Reading.{Reads, IsEndOf};
 ghost use Rattle.bitcode_shapes.specs.Shape.{bool_shape};
 ghost use Rattle.bitcode_coder.specs.Columns.{bools, one};
+ghost use Rattle.bitcode_coder.specs.ColumnFree.{free_count, saturated};
 ghost use Rattle.bitcode_coder.specs.Spelling.{Spells, truth};
 ghost use Rattle.bitcode_coder.specs.Coder.{IsReadingRefusal};
-ghost use Rattle.bitcode_coder.specs.Faults.{NamesBoolsFault};
+ghost use Rattle.bitcode_coder.specs.FirstFault.{IsFirstFault};
 ghost use Rattle.bitcode_coder.specs.Strict.{JudgesData};
 
 use crate::coder::{Buffer, Decoder, Encoder, HoldsColumns, HoldsData, View};
+use crate::column_free::ColumnFree;
 use crate::part::Part;
 use bitcode_columns::pack::pack_bools;
 use bitcode_columns::strict::read_bools;
@@ -134,7 +136,7 @@ impl<'a> HoldsData for BoolDecoder<'a> {
 }
 
 impl<'a> View<'a> for BoolDecoder<'a> {
-    ghost faults = { NamesBoolsFault };
+    ghost free_inside = { λ d. 0 };
 
     fn new(alloc: Global) -> Self {
         BoolDecoder {
@@ -147,14 +149,21 @@ impl<'a> View<'a> for BoolDecoder<'a> {
         ensures read { OnOk result
             (Reads (Spells bool_shape) k input.old.now (map truth (cow_rest self.new.values))
             input.new.now) }
+        ensures counted { OnOk result
+            (saturated 0 ≡ saturated (free_count bool_shape
+            (map truth (cow_rest self.new.values)))) }
         ensures judged { IsTrue strict → IfOk result
             (λ written. JudgesData bool_shape (map truth (cow_rest self.new.values)) written
             input.old.now input.new.now) }
         ensures refused { IfErr result (λ e. IsReadingRefusal bool_shape e.reason k input.old.now) }
         ensures rest { OnErr result (IsEndOf input.old.now input.new.now) }
-        ensures exact { IfErr result (λ e. NamesBoolsFault e.reason k input.old.now) }
+        ensures exact { IfErr result (λ e. IsFirstFault bool_shape e.reason k input.old.now) }
     {
         read_bools(self.alloc, input, k, &mut self.values, strict)
+    }
+
+    fn column_free(&self) -> ColumnFree {
+        ColumnFree::entries()
     }
 }
 

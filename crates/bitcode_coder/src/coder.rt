@@ -7,11 +7,14 @@ ghost use Rattle.bitcode_shapes.specs.Datum.{Datum};
 ghost use Rattle.bitcode_shapes.specs.Shape.{Shape};
 ghost use Rattle.bitcode_coder.specs.Columns.{Columns, emptied};
 ghost use Rattle.bitcode_coder.specs.Spelling.{Spells, columns_bytes};
+ghost use Rattle.bitcode_coder.specs.FirstFault.{IsFirstFault};
 ghost use Rattle.bitcode_coder.specs.Strict.{StrictlySpells, JudgesData};
+ghost use Rattle.bitcode_coder.specs.ColumnFree.{has_entry, free_count, saturated};
 ghost use Rattle.bitcode_coder.specs.Coder.{written_columns, BeginsWith, JoinsListing, WritesListing, WritesEach};
 ghost use Rattle.bitcode_coder.specs.Coder.{OverflowsWithListing, JoinsEach, OverflowsWithEach, SurelyOverflows};
 ghost use Rattle.bitcode_coder.specs.Coder.{IsWritingRefusal, IsReadingRefusal, TakesDatum, TakesEach};
 
+use crate::column_free::ColumnFree;
 use crate::part::{Behind, Itself, Part, told_parts};
 use bitcode_memory::error::{Error, Reason};
 use bitcode_shapes::lists::told_each;
@@ -279,9 +282,8 @@ pub fn both(first: bool, second: bool) -> bool
 ///
 /// After an error, only another read may follow.
 pub trait View<'a>: HoldsData {
-    // such a refusal names what is first at fault when so many data are read from such an input; want of memory is
-    // one only where the column at hand takes memory and all its bytes are there
-    ghost faults: { Reason → ℕ → List ℕ → Type 0 };
+    // how many elements without columns are inside the data that were read
+    ghost free_inside: { Self → ℕ };
 
     /// Creates an empty decoder without allocating.
     fn new(alloc: Global) -> Self
@@ -295,12 +297,20 @@ pub trait View<'a>: HoldsData {
     fn read(&mut self, input: &mut &'a [u8], k: usize, strict: bool) -> Result<bool, Error>
         ensures read { OnOk result
             (Reads (Spells Self.shape) k input.old.now (Self.held self.new) input.new.now) }
+        ensures counted { OnOk result
+            (saturated (free_inside self.new) ≡ saturated (free_count Self.shape
+            (Self.held self.new))) }
         ensures judged { IsTrue strict → IfOk result
             (λ written. JudgesData Self.shape (Self.held self.new) written input.old.now
             input.new.now) }
         ensures refused { IfErr result (λ e. IsReadingRefusal Self.shape e.reason k input.old.now) }
-        ensures exact { IfErr result (λ e. faults e.reason k input.old.now) }
+        ensures exact { IfErr result (λ e. IsFirstFault Self.shape e.reason k input.old.now) }
         ensures rest { OnErr result (IsEndOf input.old.now input.new.now) };
+
+    /// Tells how many elements without columns are inside the data that were read. It makes no value.
+    fn column_free(&self) -> ColumnFree
+        ensures has_entry { result.has_entry ≡ has_entry Self.shape }
+        ensures inside { result.inside ≡ saturated (free_inside self.now) };
 
     /// Reads `k` data from the front of the input and validates them completely.
     ///
@@ -308,8 +318,11 @@ pub trait View<'a>: HoldsData {
     final fn populate(&mut self, input: &mut &'a [u8], k: usize) -> Result<(), Error>
         ensures read { OnOk result
             (Reads (Spells Self.shape) k input.old.now (Self.held self.new) input.new.now) }
+        ensures counted { OnOk result
+            (saturated (free_inside self.new) ≡ saturated (free_count Self.shape
+            (Self.held self.new))) }
         ensures refused { IfErr result (λ e. IsReadingRefusal Self.shape e.reason k input.old.now) }
-        ensures exact { IfErr result (λ e. faults e.reason k input.old.now) }
+        ensures exact { IfErr result (λ e. IsFirstFault Self.shape e.reason k input.old.now) }
         ensures rest { OnErr result (IsEndOf input.old.now input.new.now) }
     {
         self.read(input, k, false)?;
@@ -321,11 +334,14 @@ pub trait View<'a>: HoldsData {
     final fn populate_strict(&mut self, input: &mut &'a [u8], k: usize) -> Result<bool, Error>
         ensures read { OnOk result
             (Reads (Spells Self.shape) k input.old.now (Self.held self.new) input.new.now) }
+        ensures counted { OnOk result
+            (saturated (free_inside self.new) ≡ saturated (free_count Self.shape
+            (Self.held self.new))) }
         ensures strict { IfOk result
             (λ written. IsTrue written ↔ Reads (StrictlySpells Self.shape) k input.old.now
             (Self.held self.new) input.new.now) }
         ensures refused { IfErr result (λ e. IsReadingRefusal Self.shape e.reason k input.old.now) }
-        ensures exact { IfErr result (λ e. faults e.reason k input.old.now) }
+        ensures exact { IfErr result (λ e. IsFirstFault Self.shape e.reason k input.old.now) }
         ensures rest { OnErr result (IsEndOf input.old.now input.new.now) }
     {
         self.read(input, k, true)

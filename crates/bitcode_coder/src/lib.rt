@@ -3,6 +3,7 @@
 
 pub mod bool;
 pub mod coder;
+pub mod column_free;
 pub mod laws;
 pub mod length;
 pub mod one;

@@ -6,7 +6,7 @@ use Rattle.std.proofs.lemmas.List.Concat.{flat_map-cons}
 use Rattle.std.proofs.lemmas.List.Sums.{sum-map, sum_by-append, sum_by-cons}
 use Rattle.std.proofs.lemmas.Simd.{map-map}
 use Rattle.bitcode_shapes.specs.Datum.{Datum, elements_in, first_in, second_in, variant_in, payload_in}
-use Rattle.bitcode_shapes.specs.Shape.{Shape, Shapes, unit_shape, never_shape, bool_shape, number_shape, text_shape, raw_shape, seq_shape, map_shape, array_shape, pair_shape, choice_shape, no_shapes, shape_and, variant_count}
+use Rattle.bitcode_shapes.specs.Shape.{Shape, Shapes, unit_shape, never_shape, bool_shape, number_shape, float_shape, text_shape, raw_shape, seq_shape, map_shape, array_shape, pair_shape, choice_shape, no_shapes, shape_and, variant_count}
 use Rattle.bitcode_shapes.specs.ArrayCounts.{arrays_at, arrays_in, ListsSameArrays}
 use Rattle.bitcode_shapes.specs.SameArrays.{HoldSameArrays}
 use Rattle.bitcode_coder.specs.Columns.{Columns, lengths, variants, no_columns, one, two, arrays, CountsFit}
@@ -99,6 +99,7 @@ mutual
   array_counts-columns_of never_shape ds es same = refl
   array_counts-columns_of bool_shape ds es same = refl
   array_counts-columns_of (number_shape width signed allowed) ds es same = refl
+  array_counts-columns_of (float_shape format) ds es same = refl
   array_counts-columns_of (text_shape limit) ds es same = refl
   array_counts-columns_of raw_shape ds es same = refl
   array_counts-columns_of (seq_shape limit element) ds es same =

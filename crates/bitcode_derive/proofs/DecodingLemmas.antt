@@ -51,10 +51,10 @@ all_spelled (d ∷ e ∷ ds) rest r none = absurd (omega (arith, r.size))
 all_spelled (d ∷ []) (x ∷ rest) r none = absurd (none (omega arith))
 
 -- making its value was refused
-pub making_named : (faults : Reason → ℕ → List ℕ → Type 0) (makes_free : Bool) {shape : Shape} {bytes : List ℕ} {ds : List Datum} {rest : List ℕ}
+pub making_named : (makes_free : Bool) {shape : Shape} {bytes : List ℕ} {ds : List Datum} {rest : List ℕ}
     → Reads (Spells shape) 1 bytes ds rest → (0 < length rest → ⊥) → {T : Type 0} (result : Result T Error) → IfErr result (λ e. e.reason ≡ OutOfMemory)
-    → (IsTrue makes_free → IsOk result) → IfErr result (λ e. NamesWholeFault faults makes_free shape e.reason bytes)
-making_named faults makes_free r none (Ok t) refused free = tt
-making_named faults makes_free {ds = ds} {rest = rest} r none (Err e) refused free =
+    → (IsTrue makes_free → IsOk result) → IfErr result (λ e. NamesWholeFault makes_free shape e.reason bytes)
+making_named makes_free r none (Ok t) refused free = tt
+making_named makes_free {ds = ds} {rest = rest} r none (Err e) refused free =
     let all = all_spelled ds rest r none in
     in_making refused (λ is. false≢true (free is)) all.0 all.1

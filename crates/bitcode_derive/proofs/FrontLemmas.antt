@@ -55,10 +55,10 @@ one_read [] rest r = absurd (omega (arith, r.size))
 one_read (d ∷ more) rest r = (d, front_of d more rest r)
 
 -- making its value was refused
-pub making_front_named : (faults : Reason → ℕ → List ℕ → Type 0) (makes_free : Bool) {shape : Shape} {input : List ℕ} {ds : List Datum} {rest : List ℕ}
+pub making_front_named : (makes_free : Bool) {shape : Shape} {input : List ℕ} {ds : List Datum} {rest : List ℕ}
     → Reads (Spells shape) 1 input ds rest → {T : Type 0} (result : Result T Error) → IfErr result (λ e. e.reason ≡ OutOfMemory)
-    → (IsTrue makes_free → IsOk result) → IfErr result (λ e. NamesFrontFault faults makes_free shape e.reason input)
-making_front_named faults makes_free r (Ok t) refused free = tt
-making_front_named faults makes_free {ds = ds} {rest = rest} r (Err e) refused free =
+    → (IsTrue makes_free → IsOk result) → IfErr result (λ e. NamesFrontFault makes_free shape e.reason input)
+making_front_named makes_free r (Ok t) refused free = tt
+making_front_named makes_free {ds = ds} {rest = rest} r (Err e) refused free =
     let one = one_read ds rest r in
     in_making_front refused (λ is. false≢true (free is)) one.0 rest one.1

@@ -9,4 +9,7 @@ pub mod FrontLemmas
 pub mod StrictLemmas
 pub mod StrictFrontLemmas
 pub mod MapReadingLemmas
+pub mod FaultRefusalLemmas
+pub mod OneFaultLemmas
 pub mod MapWritingLemmas
+pub mod WithinLemmas

@@ -10,8 +10,9 @@ use Rattle.std.proofs.lemmas.List.Elements.{All-cons, All-head, All-nil, All-tai
 use Rattle.bitcode_shapes.specs.Datum.{Datum, elements_in, first_in, second_in, natural_in, text_in}
 use Rattle.bitcode_shapes.specs.Lawful.{Lawful}
 use Rattle.bitcode_shapes.specs.LawfulPairs.{both}
-use Rattle.bitcode_shapes.specs.Shape.{Shape, Shapes, unit_shape, never_shape, bool_shape, number_shape, text_shape, raw_shape, seq_shape, map_shape, array_shape, pair_shape, choice_shape, no_shapes, shape_and, variant_count, IsOf, IsSound, AreSound, IsWithin, IsListOf, IsPairOf}
-use Rattle.bitcode_coder.specs.Columns.{Kind, Columns, bools, ints, lengths, texts, raws, variants, IsEntryOf, IsSoundKind, entry_count_of}
+use Rattle.bitcode_shapes.specs.Shape.{Shape, Shapes, unit_shape, never_shape, bool_shape, number_shape, float_shape, text_shape, raw_shape, seq_shape, map_shape, array_shape, pair_shape, choice_shape, no_shapes, shape_and, variant_count, IsOf, IsSound, AreSound, IsWithin, IsListOf, IsPairOf}
+use Rattle.bitcode_coder.specs.Columns.{Kind, Columns, bools, ints, floats, lengths, texts, raws, variants, IsEntryOf, IsSoundKind, entry_count_of}
+use Rattle.bitcode_coder.specs.ColumnFree.{has_entry}
 use Rattle.bitcode_coder.specs.Transposition.{columns_of, payload_columns, array_columns, joined, payloads, length_entry, variant_entry}
 use Rattle.bitcode_coder.specs.Spelling.{column_bytes, columns_bytes, LengthsBelowLimit, LengthsBelowLimitOf}
 use Rattle.bitcode_coder.specs.LengthColumn.{length_bytes, length_limit}
@@ -21,13 +22,14 @@ use Rattle.bitcode_coder.proofs.ColumnLemmas.{SpellsColumn-size_bound, column_by
 use Rattle.bitcode_coder.proofs.DatumLemmas.{none_never, elements_count, joined_each, firsts_each, seconds_each, IsPayloadFrom, payloads_from_0, first_payloads, later_payloads}
 use Rattle.bitcode_coder.proofs.SpellingLemmas.{AreEntries-columns_of}
 use Rattle.bitcode_derive.specs.Whole.{IsEncodingOf, columns_of_one}
-use Rattle.bitcode_derive.specs.ShortLengths.{has_entry, elements_have_entries, payloads_have_entries, has_no_lengths, payloads_have_no_lengths}
+use Rattle.bitcode_derive.specs.ShortLengths.{elements_have_entries, payloads_have_entries, has_no_lengths, payloads_have_no_lengths}
 
 -- ---- one column
 
 at_least_each : (kind : Kind) (ds : List Datum) → length ds ≤ entry_count_of kind ds
 at_least_each bools ds = omega arith
 at_least_each (ints width signed) ds = omega arith
+at_least_each (floats format) ds = omega arith
 at_least_each (lengths limit) ds = omega arith
 at_least_each (texts limit) ds = omega arith
 at_least_each raws ds = omega arith
@@ -89,6 +91,7 @@ each_entry never_shape has sound ds h below = omega (arith, ap length (none_neve
 each_entry bool_shape has sound ds h below = entries_bound bools tt ds h tt
 each_entry (number_shape width signed allowed) has sound ds h below =
     entries_bound (ints width signed) sound ds (AreEntries-columns_of (number_shape width signed allowed) ds h) tt
+each_entry (float_shape format) has sound ds h below = entries_bound (floats format) tt ds h tt
 each_entry (text_shape limit) has sound ds h below = entries_bound (texts limit) tt ds h below
 each_entry raw_shape has sound ds h below = entries_bound raws tt ds h tt
 each_entry (seq_shape limit element) has sound ds h below =
@@ -136,6 +139,7 @@ mutual
   short_lengths never_shape have sound ds h few = tt
   short_lengths bool_shape have sound ds h few = tt
   short_lengths (number_shape width signed allowed) have sound ds h few = tt
+  short_lengths (float_shape format) have sound ds h few = tt
   short_lengths (text_shape limit) have sound ds h few = texts_below ds few
   short_lengths raw_shape have sound ds h few = tt
   short_lengths (seq_shape limit element) have sound ds h few =
@@ -206,6 +210,7 @@ mutual
   no_lengths_below never_shape none ds = tt
   no_lengths_below bool_shape none ds = tt
   no_lengths_below (number_shape width signed allowed) none ds = tt
+  no_lengths_below (float_shape format) none ds = tt
   no_lengths_below (text_shape limit) none ds = absurd cc
   no_lengths_below raw_shape none ds = tt
   no_lengths_below (seq_shape limit element) none ds = absurd cc

@@ -45,12 +45,12 @@ module _ (input : List ℕ) (below : slice_index input 0 < 255) where
   texts_free reason is (missing_bytes lengths middle eof read few) = cc
   texts_free reason is (not_texts lengths bytes rest invalid read all broken) = cc
 
-  whole_free : (reason : Reason) → reason ≡ OutOfMemory → NamesWholeFault NamesTextFault true (text_shape None) reason input → ⊥
+  whole_free : (reason : Reason) → reason ≡ OutOfMemory → NamesWholeFault true (text_shape None) reason input → ⊥
   whole_free reason is (in_columns fault) = texts_free reason is fault
   whole_free reason is (bytes_left eof left) = cc
   whole_free reason is (in_making memory takes d spelled) = takes refl
 
-  pub short_text_free : {T : Type 0} (result : Result T Error) → IfErr result (λ e. NamesWholeFault NamesTextFault true (text_shape None) e.reason input)
+  pub short_text_free : {T : Type 0} (result : Result T Error) → IfErr result (λ e. NamesWholeFault true (text_shape None) e.reason input)
       → IfErr result (λ e. e.reason ≢ OutOfMemory)
   short_text_free (Ok t) exact = tt
   short_text_free (Err e) exact = λ is. whole_free e.reason is exact

@@ -5,6 +5,7 @@ use Rattle.bitcode_memory.specs.declared.error.Reason.TheVariants.{OutOfMemory}
 use Rattle.bitcode_shapes.specs.Datum.{Datum}
 use Rattle.bitcode_shapes.specs.Shape.{Shape}
 use Rattle.bitcode_coder.specs.Columns.{entry_count}
+use Rattle.bitcode_coder.specs.FirstFault.{IsFirstFault}
 use Rattle.bitcode_derive.specs.Whole.{columns_of_one, IsEncodingOf, SpellsDatum}
 
 -- the bytes are those from before, followed by an encoding of the value
@@ -37,7 +38,7 @@ IsBoundedByFront shape input = (d : Datum) (rest : List ℕ) (begins : BeginsWit
 
 -- What an error reports: the first fault of reading one datum; if it can be read, a failed allocation for the value,
 -- unless making it does not allocate.
-pub data NamesFrontFault (faults : Reason → ℕ → List ℕ → Type 0) (makes_free : Bool) (shape : Shape) (reason : Reason) (input : List ℕ) : Type 0 where
-  in_front_columns : faults reason 1 input → NamesFrontFault faults makes_free shape reason input
+pub data NamesFrontFault (makes_free : Bool) (shape : Shape) (reason : Reason) (input : List ℕ) : Type 0 where
+  in_front_columns : IsFirstFault shape reason 1 input → NamesFrontFault makes_free shape reason input
   in_making_front : reason ≡ OutOfMemory → (IsTrue makes_free → ⊥) → (d : Datum) (rest : List ℕ) → BeginsWithDatum shape input d rest
-      → NamesFrontFault faults makes_free shape reason input
+      → NamesFrontFault makes_free shape reason input

@@ -5,3 +5,5 @@ pub mod Strict
 pub mod StrictFront
 pub mod StrictRows
 pub mod ShortLengths
+pub mod OneFault
+pub mod Within

@@ -1,17 +1,10 @@
 -- Shapes whose lengths are short: those without lengths, and, for few bytes, those whose elements all give some column an
 -- entry, since a column has at most eight entries a byte.
-use Rattle.std.specs.Prelude.{ℕ, zero, suc, Bool, true, false, ◌&&◌, ◌||◌}
-use Rattle.bitcode_shapes.specs.Shape.{Shape, Shapes, unit_shape, seq_shape, map_shape, array_shape, pair_shape, choice_shape, no_shapes, shape_and, text_shape}
+use Rattle.std.specs.Prelude.{Bool, true, false, ◌&&◌, ◌||◌}
+use Rattle.bitcode_shapes.specs.Shape.{Shape, Shapes, seq_shape, map_shape, array_shape, pair_shape, choice_shape, no_shapes, shape_and, text_shape}
+use Rattle.bitcode_coder.specs.ColumnFree.{has_entry}
 
--- each datum of the shape gives some column an entry
-abbrev pub has_entry : Shape → Bool
-has_entry unit_shape = false
-has_entry (array_shape zero element) = false
-has_entry (array_shape (suc size) element) = has_entry element
-has_entry (pair_shape first second) = has_entry first || has_entry second
-has_entry _ = true
-
--- so does each element of each list, and each key or value of each pair of a map
+-- each element of each list has an entry in some column, and so has each key or value of each pair of a map
 abbrev mutual
   pub elements_have_entries : Shape → Bool
   elements_have_entries (seq_shape limit element) = has_entry element && elements_have_entries element

@@ -1,5 +1,5 @@
 -- What the strict calls for whole values read: the texts that are written, and no other bytes.
-use Rattle.std.specs.Prelude.{◌≡◌, ◌↔◌, ℕ, List, [], ◌∷◌}
+use Rattle.std.specs.Prelude.{◌≡◌, ℕ, List, [], ◌∷◌}
 use Rattle.bitcode_memory.specs.declared.error.Reason.{Reason}
 use Rattle.bitcode_memory.specs.declared.error.Reason.TheVariants.{OutOfMemory, NotTheWrittenText}
 use Rattle.bitcode_shapes.specs.Datum.{Datum}
@@ -17,10 +17,6 @@ pub record IsStrictDecodingOf {T : Type 0} (makes : Datum → T → Type 0) (sha
   pub datum : Datum
   pub spelled : StrictlySpellsDatum shape bytes datum
   pub made : makes datum t
-
--- The data that make a value are those that it lists: it has no internal order, and no two data make it.
-abbrev pub MakesWhatItLists : {T : Type 0} → (T → Datum → Type 0) → (Datum → T → Type 0) → Type 0
-MakesWhatItLists {T} lists makes = (t : T) (d : Datum) → lists t d ↔ makes d t
 
 -- the whole input spells a datum, in different bytes than would be written for its columns
 pub record SpellsOtherwise (shape : Shape) (bytes : List ℕ) : Type 0 where

@@ -6,6 +6,7 @@ use Rattle.bitcode_columns.specs.Reading.{Reads}
 use Rattle.bitcode_shapes.specs.Datum.{Datum}
 use Rattle.bitcode_shapes.specs.Shape.{Shape}
 use Rattle.bitcode_coder.specs.Columns.{Columns, CountsFit, entry_count}
+use Rattle.bitcode_coder.specs.FirstFault.{IsFirstFault}
 use Rattle.bitcode_coder.specs.Transposition.{columns_of, spread}
 use Rattle.bitcode_coder.specs.Spelling.{Spells, LengthsBelowLimit, texts_of}
 
@@ -58,10 +59,10 @@ pub record LeavesBytes (shape : Shape) (bytes : List ℕ) : Type 0 where
 
 -- What an error for a whole input reports: the first fault of reading one datum; if it can be read, that bytes are left
 -- after it; if the whole input spells it, a failed allocation for the value, unless making it does not allocate.
-pub data NamesWholeFault (faults : Reason → ℕ → List ℕ → Type 0) (makes_free : Bool) (shape : Shape) (reason : Reason) (bytes : List ℕ) : Type 0 where
-  in_columns : faults reason 1 bytes → NamesWholeFault faults makes_free shape reason bytes
-  bytes_left : reason ≡ ExpectedEof → LeavesBytes shape bytes → NamesWholeFault faults makes_free shape reason bytes
-  in_making : reason ≡ OutOfMemory → (IsTrue makes_free → ⊥) → (d : Datum) → SpellsDatum shape bytes d → NamesWholeFault faults makes_free shape reason bytes
+pub data NamesWholeFault (makes_free : Bool) (shape : Shape) (reason : Reason) (bytes : List ℕ) : Type 0 where
+  in_columns : IsFirstFault shape reason 1 bytes → NamesWholeFault makes_free shape reason bytes
+  bytes_left : reason ≡ ExpectedEof → LeavesBytes shape bytes → NamesWholeFault makes_free shape reason bytes
+  in_making : reason ≡ OutOfMemory → (IsTrue makes_free → ⊥) → (d : Datum) → SpellsDatum shape bytes d → NamesWholeFault makes_free shape reason bytes
 
 -- a reason that cannot differ from a failed allocation is a failed allocation
 pub want_of_memory : (reason : Reason) → (reason ≢ OutOfMemory → ⊥) → reason ≡ OutOfMemory

@@ -1,6 +1,5 @@
 //! The coders of types without values, such as enums without variants: no columns.
 ghost use Rattle.std.specs.Prelude.{◌≡◌, ◌<◌, true, false, refl, replicate};
-ghost use Rattle.bitcode_memory.specs.declared.error.Reason.TheVariants.{InvalidEnumVariant};
 ghost use Rattle.bitcode_shapes.specs.Datum.{unit};
 ghost use Rattle.bitcode_shapes.specs.Shape.{never_shape};
 ghost use Rattle.bitcode_coder.specs.Columns.{no_columns};
@@ -8,6 +7,7 @@ ghost use Rattle.bitcode_coder.specs.Coder.{endless_room};
 
 use crate::derive::{DecodeOwned, HasDecoder, HasEncoder};
 use bitcode_coder::coder::{Buffer, Decoder, Encoder, HoldsColumns, HoldsData, View};
+use bitcode_coder::column_free::ColumnFree;
 use bitcode_memory::error::{Error, Reason};
 use bitcode_memory::refuse::err;
 use bitcode_shapes::no_variants::{Absent, NoVariants};
@@ -83,7 +83,7 @@ impl HoldsData for AbsentDecoder {
 }
 
 impl<'a> View<'a> for AbsentDecoder {
-    ghost faults = { λ reason k input. (reason ≡ InvalidEnumVariant) × (0 < k) };
+    ghost free_inside = { λ d. 0 };
 
     fn new(_alloc: Global) -> Self {
         AbsentDecoder { left: 0 }
@@ -95,6 +95,10 @@ impl<'a> View<'a> for AbsentDecoder {
             return err(Reason::InvalidEnumVariant);
         }
         Ok(true)
+    }
+
+    fn column_free(&self) -> ColumnFree {
+        ColumnFree::entries()
     }
 }
 

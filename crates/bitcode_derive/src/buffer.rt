@@ -88,7 +88,7 @@ where
             (λ e. e.reason ≢ Reason.OutOfMemory → (d : Datum) → SpellsDatum T.data.shape bytes.now d
             → ⊥) }
         ensures exact { IfErr result
-            (λ e. NamesWholeFault T.Decoder.faults T.Decoder.makes_free T.Decoder.shape e.reason
+            (λ e. NamesWholeFault T.Decoder.makes_free T.Decoder.shape e.reason
             bytes.now) }
     {
         whole::decode(self.alloc, bytes)
@@ -113,7 +113,7 @@ where
         ensures refused { IfErr result (λ e. IsStrictRefusal T.data.shape e.reason bytes.now) }
         ensures exact { IfErr result
             (λ e. e.reason ≢ Reason.NotTheWrittenText
-            → NamesWholeFault T.Decoder.faults T.Decoder.makes_free T.Decoder.shape e.reason
+            → NamesWholeFault T.Decoder.makes_free T.Decoder.shape e.reason
             bytes.now) }
     {
         whole::decode_strict(self.alloc, bytes)

@@ -10,6 +10,7 @@ mod checked;
 mod choices;
 mod durations;
 mod fixed_capacity;
+mod floats;
 mod heaps;
 mod ints;
 mod lists;

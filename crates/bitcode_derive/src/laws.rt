@@ -1,15 +1,21 @@
 //! Laws that follow from the contracts of the calls for whole values. The functions only look at their values: their
 //! contracts are the laws.
-ghost use Rattle.std.specs.Prelude.{◌≡◌, ◌≢◌, ◌<◌, ◌^◌, [], ◌∷◌, length, slice_index, IsTrue, IfOk, IfErr};
+ghost use Rattle.std.specs.Prelude.{◌≡◌, ◌≢◌, ℕ, ◌<◌, ◌^◌, Bool, List, [], ◌∷◌, length, slice_index};
+ghost use Rattle.std.specs.Prelude.{IsTrue, IfOk, IfErr};
+ghost use Rattle.bitcode_memory.specs.declared.error.Reason.{Reason};
 ghost use Rattle.bitcode_shapes.specs.Datum.{Datum};
-ghost use Rattle.bitcode_coder.specs.Coder.{IsReadingReason};
+ghost use Rattle.bitcode_shapes.specs.Shape.{Shape};
+ghost use Rattle.bitcode_coder.specs.Coder.{IsReadingReason, IsReadingRefusal};
 ghost use Rattle.bitcode_coder.specs.Columns.{CountsFit};
+ghost use Rattle.bitcode_coder.specs.FirstFault.{IsFirstFault};
 ghost use Rattle.bitcode_coder.specs.Spelling.{LengthsBelowLimit};
 ghost use Rattle.bitcode_derive.specs.BorrowedTexts.{TextsStandIn, IsBorrowedFrom};
+ghost use Rattle.bitcode_derive.specs.Front.{NamesFrontFault};
+ghost use Rattle.bitcode_derive.specs.OneFault.{NamesAtMostOne};
 ghost use Rattle.bitcode_derive.specs.ShortLengths.{elements_have_entries, has_no_lengths};
-ghost use Rattle.bitcode_derive.specs.Strict.{IsStrictDecodingOf, MakesWhatItLists};
+ghost use Rattle.bitcode_derive.specs.Strict.{IsStrictDecodingOf, IsStrictRefusal};
 ghost use Rattle.bitcode_derive.specs.Whole.{columns_of_one, IsEncodingOf, HasLongListing, HasShortLengths};
-ghost use Rattle.bitcode_derive.specs.Whole.{IsDecodingOf, SpellsDatum};
+ghost use Rattle.bitcode_derive.specs.Whole.{IsDecodingOf, NamesWholeFault, SpellsDatum};
 
 use crate::whole;
 use bitcode_memory::error::{Error, Reason};
@@ -108,23 +114,47 @@ pub fn no_lengths<T: Shaped>(t: &T)
         → HasShortLengths T.data.lists T.data.shape t.now }
 {}
 
-/// For a type whose values list exactly the data that make them, `decode_strict` returns a value for the bytes that
-/// `encode` writes for it, and for no other bytes. The lengths of each column must be short enough to be read back.
+/// `decode_strict` returns a value for the bytes that `encode` writes for it, and for no other bytes, if its type has
+/// no set, map or heap inside. The lengths of each column must be short enough to be read back.
 ///
-/// ```
-/// let bytes = encode(alloc, &t)?;
-/// strictly_written(&t, &bytes);
+/// ```rust
+/// let t = (true, 7u16);
+/// strictly_written(&t, &encode(alloc, &t)?);
 /// ```
 pub fn strictly_written<'a, T: Shaped>(t: &T, bytes: &'a [u8])
-    ensures written { MakesWhatItLists T.data.lists T.data.makes
+    ensures written { IsTrue T.data.determined
         → IsStrictDecodingOf T.data.makes T.data.shape bytes.now t.now
         → IsEncodingOf T.data.lists T.data.shape t.now bytes.now }
-    ensures read { MakesWhatItLists T.data.lists T.data.makes
-        → HasShortLengths T.data.lists T.data.shape t.now
+    ensures read { IsTrue T.data.determined → HasShortLengths T.data.lists T.data.shape t.now
         → IsEncodingOf T.data.lists T.data.shape t.now bytes.now
         → IsStrictDecodingOf T.data.makes T.data.shape bytes.now t.now }
 {
     t.told();
+}
+
+/// For the bytes that were written for a value of any type, `decode_strict` returns an equal value or `out of memory`.
+/// The lengths are as for [`comes_back`].
+///
+/// ```rust
+/// let t = (true, 7u16);
+/// let bytes = encode(alloc, &t)?;
+/// let again: Result<(bool, u16), Error> = decode_strict(alloc, &bytes);
+/// comes_back_strictly(&t, &bytes, &again);
+/// ```
+pub fn comes_back_strictly<'a, T: Shaped>(t: &T, bytes: &'a [u8], again: &Result<T, Error>)
+    ensures equal { IsEncodingOf T.data.lists T.data.shape t.now bytes.now
+        → HasShortLengths T.data.lists T.data.shape t.now
+        → IfOk again.now (λ u. IsStrictDecodingOf T.data.makes T.data.shape bytes.now u)
+        → IfOk again.now (λ u. T.data.same t.now u) }
+    ensures refused { IsEncodingOf T.data.lists T.data.shape t.now bytes.now
+        → HasShortLengths T.data.lists T.data.shape t.now
+        → IfErr again.now (λ e. IsStrictRefusal T.data.shape e.reason bytes.now)
+        → IfErr again.now (λ e. e.reason ≡ Reason.OutOfMemory) }
+{
+    t.told();
+    if let Ok(found) = again {
+        found.told();
+    }
 }
 
 /// For the bytes that were written for a value, `decode` returns a value that is `==` to it, or `out of memory`. The
@@ -245,6 +275,23 @@ pub fn borrowed_text<'a>(bytes: &'a [u8], text: &&'a str)
 pub fn borrowed_texts<'a, T: Shaped>(bytes: &'a [u8], t: &T)
     ensures { (found : IsDecodingOf T.data.makes T.data.shape bytes.now t.now)
         → TextsStandIn T.data.shape bytes.now (found.datum ∷ []) }
+{}
+
+/// The first fault of data of any shape. It means that no prefix of the input spells the data. An input has at most one
+/// first fault, apart from `out of memory`: so `decode` and `decode_front` fail with at most one other reason.
+///
+/// ```
+/// one_fault();
+/// ```
+pub fn one_fault()
+    ensures refused { (shape : Shape) (reason : Reason) (k : ℕ) (input : List ℕ)
+        → IsFirstFault shape reason k input → IsReadingRefusal shape reason k input }
+    ensures once { (shape : Shape) (k : ℕ) (input : List ℕ)
+        → NamesAtMostOne (λ reason. IsFirstFault shape reason k input) }
+    ensures whole { (free : Bool) (shape : Shape) (bytes : List ℕ)
+        → NamesAtMostOne (λ reason. NamesWholeFault free shape reason bytes) }
+    ensures front { (free : Bool) (shape : Shape) (input : List ℕ)
+        → NamesAtMostOne (λ reason. NamesFrontFault free shape reason input) }
 {}
 
 /// Decodes a text whose first byte is below 255, as `decode` does, without allocating.

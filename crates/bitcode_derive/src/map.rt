@@ -5,11 +5,13 @@ ghost use Rattle.std.specs.Prelude.{◌≡◌, ◌<◌, [], None, length, map, f
 ghost use Rattle.std.proofs.Common.{sym, ap, ap₂, ◌∙◌};
 ghost use Rattle.bitcode_shapes.specs.Shape.{Shape, map_shape};
 ghost use Rattle.bitcode_coder.specs.Coder.{written_columns, TakesDatum};
+ghost use Rattle.bitcode_coder.specs.ColumnFree.{has_entry, count_if_free};
 ghost use Rattle.bitcode_coder.specs.Columns.{lengths, one, two};
-ghost use Rattle.bitcode_coder.specs.Length.{written_lengths, length_room, length_capacity};
+ghost use Rattle.bitcode_coder.specs.Length.{written_lengths, length_room, length_capacity, lengths_sum};
 ghost use Rattle.bitcode_coder.specs.Spelling.{natural};
 
 use bitcode_coder::coder::{Buffer, Decoder, Encoder, HoldsColumns, HoldsData, View};
+use bitcode_coder::column_free::ColumnFree;
 use bitcode_coder::length::LengthEncoder;
 use bitcode_memory::error::{Error, Reason};
 use bitcode_parts::lists::sequence::FromElements;
@@ -123,8 +125,8 @@ impl<'a, K: HoldsData, V: HoldsData> HoldsData for MapDecoder<'a, K, V> {
 }
 
 impl<'a, K: View<'a>, V: View<'a>> View<'a> for MapDecoder<'a, K, V> {
-    ghost faults = { λ reason k input. ⟦<VecDecoder<'a, TupleDecoder<K, V>> as View<'a>>⟧.faults
-        reason k input };
+    ghost free_inside = { λ d. count_if_free (has_entry K.shape) (lengths_sum d.entries.lengths)
+        + (K.free_inside d.entries.elements.first + V.free_inside d.entries.elements.second) };
 
     fn new(alloc: Global) -> Self {
         MapDecoder {
@@ -134,6 +136,15 @@ impl<'a, K: View<'a>, V: View<'a>> View<'a> for MapDecoder<'a, K, V> {
 
     fn read(&mut self, input: &mut &'a [u8], k: usize, strict: bool) -> Result<bool, Error> {
         self.entries.read(input, k, strict)
+    }
+
+    fn column_free(&self) -> ColumnFree {
+        let pairs = self.entries.elements();
+        let keys = pairs.first().column_free().in_lists(self.entries.total());
+        ColumnFree {
+            has_entry: true,
+            inside: keys.saturating_add(pairs.second().column_free().inside),
+        }
     }
 }
 

@@ -9,6 +9,7 @@ ghost use Rattle.bitcode_derive.specs.Strict.{IsStrictDecodingOf, IsStrictRefusa
 ghost use Rattle.bitcode_derive.specs.StrictFront.{IsStrictDecodingOfFront, IsStrictFrontRefusal};
 ghost use Rattle.bitcode_derive.specs.Whole.{IsEncodingOf, HasLongListing, IsDecodingOf, SpellsDatum, SpellsAtMostOne};
 ghost use Rattle.bitcode_derive.specs.Whole.{IsBoundedByBytes, NamesWholeFault};
+ghost use Rattle.bitcode_derive.specs.Within.{IsDecodingWithin, IsRefusalWithin, NamesFaultWithin};
 
 use crate::derive::{HasDecoder, HasEncoder};
 use bitcode_coder::coder::{Buffer, Decoder, Encoder, View};
@@ -100,7 +101,7 @@ where
         (λ e. e.reason ≢ Reason.OutOfMemory → (d : Datum) → SpellsDatum T.data.shape bytes.now d
         → ⊥) }
     ensures exact { IfErr result
-        (λ e. NamesWholeFault T.Decoder.faults T.Decoder.makes_free T.Decoder.shape e.reason
+        (λ e. NamesWholeFault T.Decoder.makes_free T.Decoder.shape e.reason
         bytes.now) }
 {
     let mut input = bytes;
@@ -108,6 +109,45 @@ where
     decoder.populate(&mut input, 1)?;
     expect_eof(input)?;
     // Nothing else refers to the moved decoder, so its positions can stay in registers.
+    let mut unshared = decoder;
+    unshared.decode()
+}
+
+/// Decodes the bytes, which must encode exactly one value, as [`decode`] does, if the value has at most `most` elements
+/// without columns in all: elements of lists, sets and arrays, and keys of maps. Only these occupy no bytes.
+///
+/// Errors: those of `decode`, and `too many zero sized types` if the bytes encode a value with more such elements. No
+/// part of the value is made then. If the bytes have another fault, the error is that fault.
+///
+/// ```rust
+/// let units = encode(alloc, &[(), (), ()])?; // no bytes
+/// let few: Result<[(); 3], Error> = decode_within(alloc, &units, 2);
+/// assert_eq!(rt; few, err(Reason::TooManyZeroSizedTypes));
+/// let pair: (bool, u16) = decode_within(alloc, &[1, 7, 0], 0)?;
+/// assert!(rt; pair == (true, 7));
+/// ```
+pub fn decode_within<'a, T: HasDecoder<'a> + Shaped + Drop>(
+    alloc: Global,
+    bytes: &'a [u8],
+    most: usize,
+) -> Result<T, Error>
+where
+    T::Decoder: View<'a> + Decoder<T> + Drop,
+    ensures found { IfOk result (λ t. IsDecodingWithin most T.data.makes T.data.shape bytes.now t) }
+    ensures unambiguous { SpellsAtMostOne T.data.shape bytes.now }
+    ensures bounded { IsBoundedByBytes T.data.shape bytes.now }
+    ensures refused { IfErr result (λ e. IsRefusalWithin most T.data.shape e.reason bytes.now) }
+    ensures exact { IfErr result
+        (λ e. NamesFaultWithin most T.Decoder.makes_free T.Decoder.shape e.reason
+        bytes.now) }
+{
+    let mut rest = bytes;
+    let mut decoder = T::Decoder::new(alloc);
+    decoder.populate(&mut rest, 1)?;
+    expect_eof(rest)?;
+    if decoder.column_free().inside > most as u128 {
+        return err(Reason::TooManyZeroSizedTypes);
+    }
     let mut unshared = decoder;
     unshared.decode()
 }
@@ -134,7 +174,7 @@ where
     ensures refused { IfErr result (λ e. IsStrictRefusal T.data.shape e.reason bytes.now) }
     ensures exact { IfErr result
         (λ e. e.reason ≢ Reason.NotTheWrittenText
-        → NamesWholeFault T.Decoder.faults T.Decoder.makes_free T.Decoder.shape e.reason
+        → NamesWholeFault T.Decoder.makes_free T.Decoder.shape e.reason
         bytes.now) }
 {
     let mut input = bytes;
@@ -177,7 +217,7 @@ where
         (λ e. e.reason ≢ Reason.OutOfMemory → (d : Datum) (rest : List ℕ)
         → BeginsWithDatum T.data.shape input.old.now d rest → ⊥) }
     ensures exact { IfErr result
-        (λ e. NamesFrontFault T.Decoder.faults T.Decoder.makes_free T.Decoder.shape e.reason
+        (λ e. NamesFrontFault T.Decoder.makes_free T.Decoder.shape e.reason
         input.old.now) }
     ensures rest { OnErr result (IsEndOf input.old.now input.new.now) }
 {
@@ -213,7 +253,7 @@ where
     ensures refused { IfErr result
         (λ e. IsStrictFrontRefusal T.data.shape e.reason input.old.now input.new.now) }
     ensures exact { IfErr result (λ e. e.reason ≢ Reason.NotTheWrittenText
-        → NamesFrontFault T.Decoder.faults T.Decoder.makes_free T.Decoder.shape e.reason
+        → NamesFrontFault T.Decoder.makes_free T.Decoder.shape e.reason
         input.old.now) }
     ensures rest { OnErr result (IsEndOf input.old.now input.new.now) }
 {

@@ -4,3 +4,4 @@ pub mod ColumnLemmas
 pub mod PayloadReadingLemmas
 pub mod VariantLemmas
 pub mod StrictLemmas
+pub mod ColumnFreeLemmas

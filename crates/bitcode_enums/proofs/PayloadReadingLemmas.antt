@@ -7,9 +7,10 @@ use Rattle.bitcode_shapes.specs.Datum.{Datum}
 use Rattle.bitcode_shapes.specs.Shape.{Shapes, no_shapes, shape_and, variant_count}
 use Rattle.bitcode_coder.specs.Spelling.{Spells}
 use Rattle.bitcode_coder.specs.Coder.{IsReadingRefusal}
+use Rattle.bitcode_coder.specs.FirstFault.{IsFirstFault, IsPayloadsFault}
 use Rattle.bitcode_parts.specs.Payloads.{payloads_of, ReadsPayloads, IsPayloadsRefusal}
 use Rattle.bitcode_parts.proofs.ChoiceReadingLemmas.{refuses_first, refuses_later}
-use Rattle.bitcode_enums.specs.ByNumber.{shape_at, KeepsOthers, PayloadsFault}
+use Rattle.bitcode_enums.specs.ByNumber.{shape_at, KeepsOthers}
 
 -- ---- all variants, one after the other
 
@@ -18,17 +19,6 @@ abbrev pub shapes_from : ℕ → Shapes → Shapes
 shapes_from zero ss = ss
 shapes_from (suc place) no_shapes = no_shapes
 shapes_from (suc place) (shape_and s ss) = shapes_from place ss
-
--- what is at fault in the data of the variants from a place on
-abbrev pub faults_from : ℕ → (ℕ → Reason → ℕ → List ℕ → Type 0) → ℕ → Reason → ℕ → List ℕ → Type 0
-faults_from zero faults = faults
-faults_from (suc place) faults = λ later. faults_from place faults (suc later)
-
-fault_from : (place later : ℕ) (faults : ℕ → Reason → ℕ → List ℕ → Type 0) (reason : Reason) (k : ℕ) (input : List ℕ) → faults (later + place) reason k input
-    → faults_from place faults later reason k input
-fault_from zero later faults reason k input fault = subst (λ n. faults n reason k input) (let e : later + 0 ≡ later = omega arith in e) fault
-fault_from (suc place) later faults reason k input fault =
-    fault_from place (suc later) faults reason k input (subst (λ n. faults n reason k input) (let e : later + suc place ≡ suc later + place = omega arith in e) fault)
 
 -- the lists up to a place, and others behind them
 abbrev pub lists_to : ℕ → (lists behind : List (List Datum)) → List (List Datum)
@@ -59,13 +49,13 @@ lists_whole zero (x ∷ lists) past = absurd (omega (arith, past))
 lists_whole (suc place) [] past = refl
 lists_whole (suc place) (x ∷ lists) past = ap (λ xs. x ∷ xs) (lists_whole place lists (omega (arith, past)))
 
-module _ (ss : Shapes) (faults : ℕ → Reason → ℕ → List ℕ → Type 0) (variants input : List ℕ) where
+module _ (ss : Shapes) (variants input : List ℕ) where
   -- The payloads of the variants up to a place were read: with those from there on, all are, and what is at fault there is so for all.
   pub record ReadTo (place : ℕ) (lists : List (List Datum)) (now : List ℕ) : Type 0 where
     pub more : (behind : List (List Datum)) (rest : List ℕ) → ReadsPayloads (shapes_from place ss) place variants now behind rest
         → ReadsPayloads ss 0 variants input (lists_to place lists behind) rest
     pub refuses : (reason : Reason) → IsPayloadsRefusal (shapes_from place ss) place variants reason now → IsPayloadsRefusal ss 0 variants reason input
-    pub is_fault : (reason : Reason) → PayloadsFault (shapes_from place ss) (faults_from place faults) reason place variants now → PayloadsFault ss faults reason 0 variants input
+    pub is_fault : (reason : Reason) → IsPayloadsFault (shapes_from place ss) reason place variants now → IsPayloadsFault ss reason 0 variants input
 
   pub read_none : (lists : List (List Datum)) → ReadTo 0 lists input
   read_none lists = record { more = λ behind rest r. r; refuses = λ reason r. r; is_fault = λ reason f. f }
@@ -76,10 +66,9 @@ module _ (ss : Shapes) (faults : ℕ → Reason → ℕ → List ℕ → Type 0)
         before.refuses reason (subst (λ from. IsPayloadsRefusal from place variants reason now) (sym (from_place place ss below))
         (refuses_first (shape_at place ss) (shapes_from (suc place) ss) place variants reason refused))
 
-    pub fault_there : (reason : Reason) → faults place reason (count_of place variants) now → PayloadsFault ss faults reason 0 variants input
+    pub fault_there : (reason : Reason) → IsFirstFault (shape_at place ss) reason (count_of place variants) now → IsPayloadsFault ss reason 0 variants input
     fault_there reason fault =
-        before.is_fault reason (subst (λ from. PayloadsFault from (faults_from place faults) reason place variants now) (sym (from_place place ss below))
-        (inl (fault_from place 0 faults reason (count_of place variants) now (subst (λ n. faults n reason (count_of place variants) now) (let e : place ≡ 0 + place = omega arith in e) fault))))
+        before.is_fault reason (subst (λ from. IsPayloadsFault from reason place variants now) (sym (from_place place ss below)) (inl fault))
 
     pub read_next : (new_lists : List (List Datum)) (new : List ℕ) → place < length lists → KeepsOthers [] place lists new_lists
         → Reads (Spells (shape_at place ss)) (count_of place variants) now (payloads_of place new_lists) new → ReadTo (suc place) new_lists new
@@ -94,9 +83,9 @@ module _ (ss : Shapes) (faults : ℕ → Reason → ℕ → List ℕ → Type 0)
           before.refuses reason (subst (λ from. IsPayloadsRefusal from place variants reason now) (sym (from_place place ss below))
           (refuses_later (shape_at place ss) (shapes_from (suc place) ss) place variants reason read r));
       is_fault = λ reason f.
-          before.is_fault reason (subst (λ from. PayloadsFault from (faults_from place faults) reason place variants now) (sym (from_place place ss below))
+          before.is_fault reason (subst (λ from. IsPayloadsFault from reason place variants now) (sym (from_place place ss below))
           (inr (record {
-            payloads = payloads_of place new_lists;
+            entries = payloads_of place new_lists;
             rest = new;
             read = read;
             fault = f;

@@ -1,5 +1,5 @@
 -- Variants are read, and then the payloads of each; a value is made of the next payload of its variant.
-use Rattle.std.proofs.Common.{◌≡◌, ℕ, ◌<◌, List, [], ◌∷◌, length, refl, sym, ap, subst, arith}
+use Rattle.std.proofs.Common.{◌≡◌, ℕ, ◌<◌, List, [], ◌∷◌, length, refl, sym, ap, subst, inl, inr, arith}
 use Rattle.bitcode_memory.specs.declared.error.Reason.{Reason}
 use Rattle.bitcode_columns.specs.Histogram.{AreCounts}
 use Rattle.bitcode_columns.specs.Reading.{Reads, NamesVariantFault}
@@ -7,6 +7,7 @@ use Rattle.bitcode_columns.specs.VariantColumn.{SpellsVariants}
 use Rattle.bitcode_shapes.specs.Datum.{Datum}
 use Rattle.bitcode_shapes.specs.Shape.{Shapes, choice_shape, variant_count}
 use Rattle.bitcode_coder.specs.Faults.{NamesVariantsFault}
+use Rattle.bitcode_coder.specs.FirstFault.{IsFirstFault, IsPayloadsFault}
 use Rattle.bitcode_coder.specs.Spelling.{Spells}
 use Rattle.bitcode_coder.specs.Coder.{IsReadingRefusal}
 use Rattle.bitcode_parts.specs.Payloads.{payloads_of, choices_of, ReadsPayloads, IsPayloadsRefusal}
@@ -27,6 +28,9 @@ module _ (ss : Shapes) (count k : ℕ) (old : List ℕ) (counted : variant_count
   pub refuses_enum_variants : (reason : Reason) → NamesVariantsFault count reason k old → IsReadingRefusal (choice_shape ss) reason k old
   refuses_enum_variants reason fault = refuses_variants ss reason k old (subst (λ n. NamesVariantFault reason n k old) (sym counted) fault.named)
 
+  pub fault_of_variants : (reason : Reason) → NamesVariantsFault count reason k old → IsFirstFault (choice_shape ss) reason k old
+  fault_of_variants reason fault = inl (subst (λ n. NamesVariantsFault n reason k old) (sym counted) fault)
+
   module _ (entries middle : List ℕ) (read : Reads (SpellsVariants count) k old entries middle) where
     variants_read : Reads (SpellsVariants (variant_count ss)) k old entries middle
     variants_read = subst (λ n. Reads (SpellsVariants n) k old entries middle) (sym counted) read
@@ -37,6 +41,9 @@ module _ (ss : Shapes) (count k : ℕ) (old : List ℕ) (counted : variant_count
 
     pub refuses_enum_payloads : (reason : Reason) → IsPayloadsRefusal ss 0 entries reason middle → IsReadingRefusal (choice_shape ss) reason k old
     refuses_enum_payloads reason refused = refuses_payloads ss reason variants_read refused
+
+    pub fault_of_payloads : (reason : Reason) → IsPayloadsFault ss reason 0 entries middle → IsFirstFault (choice_shape ss) reason k old
+    fault_of_payloads reason fault = inr (record { entries = entries; rest = middle; read = variants_read; fault = fault })
 
 -- ---- making a value
 

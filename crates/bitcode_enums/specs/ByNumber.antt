@@ -1,12 +1,10 @@
 -- The columns and the payloads of consecutive variants, by the index of a variant among them.
 use Rattle.std.specs.Prelude.{◌≡◌, ℕ, zero, suc, ◌+◌, List, [], ◌∷◌, ◌++◌, length, map, drop, slice_index_or, slice_set, ◌⊎◌}
 use Rattle.std.proofs.Common.{inl, inr}
-use Rattle.bitcode_memory.specs.declared.error.Reason.{Reason}
 use Rattle.bitcode_shapes.specs.Datum.{Datum}
 use Rattle.bitcode_shapes.specs.Shape.{Shape, Shapes, no_shapes, shape_and, never_shape}
 use Rattle.bitcode_coder.specs.Columns.{Columns, no_columns, two, emptied}
 use Rattle.bitcode_coder.specs.Coder.{written_columns}
-use Rattle.bitcode_enums.specs.Reading.{EitherFault}
 
 -- ---- by index
 
@@ -62,23 +60,3 @@ overflows_either overflows_first overflows_rest (inr r) = overflows_rest r
 abbrev pub takes_either : {A R : Type 0} → (A → List Datum → List Datum → Type 0) → (R → List Datum → List Datum → Type 0) → A ⊎ R → List Datum → List Datum → Type 0
 takes_either takes_first takes_rest (inl a) = takes_first a
 takes_either takes_first takes_rest (inr r) = takes_rest r
-
--- the faults in the data of each variant
-abbrev pub fault_and : (Reason → ℕ → List ℕ → Type 0) → (ℕ → Reason → ℕ → List ℕ → Type 0) → ℕ → Reason → ℕ → List ℕ → Type 0
-fault_and first_fault rest_faults zero = first_fault
-fault_and first_fault rest_faults (suc place) = rest_faults place
-
-abbrev pub no_faults : ℕ → Reason → ℕ → List ℕ → Type 0
-no_faults place reason k input = ⊥
-
--- those of the variants before a number, and those of the others
-abbrev pub faults_behind : (number : ℕ) → (first_faults second_faults : ℕ → Reason → ℕ → List ℕ → Type 0) → ℕ → Reason → ℕ → List ℕ → Type 0
-faults_behind zero first_faults second_faults place = second_faults place
-faults_behind (suc number) first_faults second_faults zero = first_faults zero
-faults_behind (suc number) first_faults second_faults (suc place) = faults_behind number (λ n. first_faults (suc n)) (λ n. second_faults (suc n)) place
-
--- a fault in the payloads of a variant, after those of the variants before it
-abbrev pub PayloadsFault : Shapes → (ℕ → Reason → ℕ → List ℕ → Type 0) → Reason → (first : ℕ) (variants input : List ℕ) → Type 0
-PayloadsFault no_shapes faults reason first variants input = ⊥
-PayloadsFault (shape_and s ss) faults reason first variants input =
-    EitherFault s (faults zero) (PayloadsFault ss (λ number. faults (suc number))) reason first variants input

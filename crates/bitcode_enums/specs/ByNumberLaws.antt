@@ -2,14 +2,13 @@
 use Rattle.std.proofs.Common.{◌≡◌, ℕ, zero, suc, ◌+◌, ◌-◌, ◌<◌, ◌≤◌, List, [], ◌∷◌, ◌++◌, length, map, drop, inl, inr, refl, sym, ap, ap₂, ◌∙◌, append_assoc, append-nil, arith}
 use Rattle.std.proofs.lemmas.List.{drop_all, length-append, map-append}
 use Rattle.std.specs.Prelude.{◌⊎◌}
-use Rattle.bitcode_memory.specs.declared.error.Reason.{Reason}
 use Rattle.bitcode_shapes.specs.Datum.{Datum}
 use Rattle.bitcode_shapes.specs.Shape.{Shape, Shapes, no_shapes, shape_and, variant_count}
 use Rattle.bitcode_shapes.specs.Choices.{ListsLast, ListsVariant, MakesLast, MakesVariant}
 use Rattle.bitcode_coder.specs.Columns.{Columns, emptied}
 use Rattle.bitcode_coder.specs.Coder.{written_columns, JoinsListing, OverflowsWithListing, TakesDatum}
 use Rattle.bitcode_parts.specs.Payloads.{HasPayloads}
-use Rattle.bitcode_enums.specs.ByNumber.{shape_at, all_columns, bare_columns, AreColumnsOf, faults_behind, index_either, joins_either, overflows_either, takes_either}
+use Rattle.bitcode_enums.specs.ByNumber.{shape_at, all_columns, bare_columns, AreColumnsOf, index_either, joins_either, overflows_either, takes_either}
 use Rattle.bitcode_enums.specs.WritingLaws.{first_has_payloads}
 
 -- ---- the last variant
@@ -115,17 +114,3 @@ whole_form shapes count lists counted are =
     sym (append-nil (map emptied lists))
     ∙ ap (λ cs. map emptied lists ++ cs) (sym (drop_all count (bare_columns shapes) (let size = bare_length shapes in omega (arith, size, counted))))
     ∙ are.1
-
-pub fault_of_first : (number place : ℕ) (first_faults second_faults : ℕ → Reason → ℕ → List ℕ → Type 0) (reason : Reason) (k : ℕ) (input : List ℕ) → place < number
-    → first_faults place reason k input → faults_behind number first_faults second_faults place reason k input
-fault_of_first zero place first_faults second_faults reason k input below fault = absurd (omega (arith, below))
-fault_of_first (suc number) zero first_faults second_faults reason k input below fault = fault
-fault_of_first (suc number) (suc place) first_faults second_faults reason k input below fault =
-    fault_of_first number place (λ n. first_faults (suc n)) (λ n. second_faults (suc n)) reason k input (omega (arith, below)) fault
-
-pub fault_of_second : (number place : ℕ) (first_faults second_faults : ℕ → Reason → ℕ → List ℕ → Type 0) (reason : Reason) (k : ℕ) (input : List ℕ) → number ≤ place
-    → second_faults place reason k input → faults_behind number first_faults second_faults place reason k input
-fault_of_second zero place first_faults second_faults reason k input past fault = fault
-fault_of_second (suc number) zero first_faults second_faults reason k input past fault = absurd (omega (arith, past))
-fault_of_second (suc number) (suc place) first_faults second_faults reason k input past fault =
-    fault_of_second number place (λ n. first_faults (suc n)) (λ n. second_faults (suc n)) reason k input (omega (arith, past)) fault

@@ -1,6 +1,5 @@
 -- Worked examples: what an enum of three variants states about them, computed from the definitions.
 use Rattle.std.specs.Prelude.{◌≡◌, ℕ, List, [], ◌∷◌, false, pos, refl}
-use Rattle.bitcode_memory.specs.declared.error.Reason.{Reason}
 use Rattle.bitcode_shapes.specs.Datum.{number, unit}
 use Rattle.bitcode_shapes.specs.Shape.{variant_count}
 use Rattle.bitcode_shapes.specs.Ints.{int_shape}
@@ -10,7 +9,7 @@ use Rattle.bitcode_shapes.specs.LeafData.{unit_data, unsigned_data}
 use Rattle.bitcode_coder.specs.Coder.{JoinsListing}
 use Rattle.bitcode_coder.specs.Columns.{Columns, no_columns}
 use Rattle.bitcode_enums.specs.EachVariant.{Payloads, last_payload, payload_and, PayloadAt, each_variant}
-use Rattle.bitcode_enums.specs.ByNumber.{shape_at, columns_at, KeepsOthers, fault_and, no_faults}
+use Rattle.bitcode_enums.specs.ByNumber.{shape_at, columns_at, KeepsOthers}
 use Rattle.bitcode_enums.specs.VariantsOf.{VariantsOf}
 
 data Shot : Type 0 where
@@ -78,6 +77,3 @@ row_keeps = refl
 
 row_changes : KeepsOthers {A = ℕ} 0 1 (5 ∷ 6 ∷ 7 ∷ []) (5 ∷ 9 ∷ 8 ∷ []) → ⊥
 row_changes e = cc
-
-row_fault : (first second : Reason → ℕ → List ℕ → Type 0) → fault_and first (fault_and second no_faults) 1 ≡ second
-row_fault first second = refl

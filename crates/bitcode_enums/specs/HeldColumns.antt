@@ -1,6 +1,5 @@
 -- What the coders of several variants hold.
 use Rattle.std.specs.Prelude.{ℕ, Bool, List}
-use Rattle.bitcode_memory.specs.declared.error.Reason.{Reason}
 use Rattle.bitcode_shapes.specs.Datum.{Datum}
 use Rattle.bitcode_coder.specs.Columns.{Columns}
 
@@ -17,13 +16,11 @@ columns_in part held = record {
   capacity = λ c. held.capacity (part c);
 }
 
-pub record HeldPayloads (D : Type 0) : Type 1 where
+pub record HeldPayloads (D : Type 0) : Type 0 where
   -- the remaining payloads of each variant
   pub lists : D → List (List Datum)
   -- how many entries fit in the memory that they own
   pub owned : D → ℕ
-  -- such an error reports the first fault of reading so many payloads, of the variant with a number, from such an input
-  pub faults : ℕ → Reason → ℕ → List ℕ → Type 0
   -- making a value does not allocate
   pub makes_free : Bool
 
@@ -32,6 +29,5 @@ abbrev pub payloads_in : {D E : Type 0} → (E → D) → HeldPayloads D → Hel
 payloads_in part held = record {
   lists = λ e. held.lists (part e);
   owned = λ e. held.owned (part e);
-  faults = held.faults;
   makes_free = held.makes_free;
 }

@@ -55,9 +55,13 @@ pub variants_image_same_arrays : {T U : Type 0} (stands_for : T → U) {shapes :
 variants_image_same_arrays stands_for of_image = record { at = λ t i j d e h l m. of_image.at (stands_for t) i j d e h l m }
 
 pub variants_image_same_data : {T U : Type 0} (stands_for : T → U) {determined : Bool} {is_value : U → Type 0} {lists : U → ℕ → Datum → Type 0} {same : U → U → Type 0}
-    → VariantsHoldSameData determined is_value lists same
+    {makes : ℕ → Datum → U → Type 0} → VariantsHoldSameData determined is_value lists same makes
     → VariantsHoldSameData determined (λ t. is_value (stands_for t)) (λ t i d. lists (stands_for t) i d) (λ t u. same (stands_for t) (stands_for u))
-variants_image_same_data stands_for of_image = record { at = λ o t u i j d e h k s l m. of_image.at o (stands_for t) (stands_for u) i j d e h k s l m }
+    (λ i d t. makes i d (stands_for t))
+variants_image_same_data stands_for of_image = record {
+  at = λ o t u i j d e h k s l m. of_image.at o (stands_for t) (stands_for u) i j d e h k s l m;
+  made = λ o t i d h. of_image.made o (stands_for t) i d h;
+}
 
 -- ---- choices with a number of variants that enums may have
 

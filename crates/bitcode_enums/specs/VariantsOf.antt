@@ -43,7 +43,7 @@ pub record VariantLaws {T : Type 0} (vs : VariantsOf T) : Type 0 where
   pub lawful : LawfulVariants vs.shapes vs.is_value vs.lists vs.same vs.in_order
   pub makeable : MakeableVariants vs.shapes vs.is_value vs.lists vs.same vs.makes
   pub same_arrays : VariantsListSameArrays vs.shapes vs.is_value vs.lists
-  pub same_data : VariantsHoldSameData vs.determined vs.is_value vs.lists vs.same
+  pub same_data : VariantsHoldSameData vs.determined vs.is_value vs.lists vs.same vs.makes
   pub are_exact : AreExact vs.exact vs.is_value vs.same
   pub joined : (t : T) (old new : Columns) → vs.joins t old new → JoinsListing (λ u d. vs.lists u (vs.index u) d) (shape_at (vs.index t) vs.shapes) t old new
   pub overflowed : (t : T) (old : Columns) → vs.overflows t old → OverflowsWithListing (λ u d. vs.lists u (vs.index u) d) (shape_at (vs.index t) vs.shapes) t old

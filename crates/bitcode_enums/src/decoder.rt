@@ -1,16 +1,16 @@
 //! The decoder of enums: it reads all variants, and then the payloads of each variant.
 ghost use Rattle.std.proofs.Common.{sym};
-ghost use Rattle.std.specs.Prelude.{◌+◌};
+ghost use Rattle.std.specs.Prelude.{◌≡◌, ◌+◌};
 ghost use Rattle.bitcode_shapes.specs.Shape.{choice_shape};
+ghost use Rattle.bitcode_coder.specs.ColumnFree.{saturated};
 ghost use Rattle.bitcode_parts.specs.Payloads.{choices_of};
 ghost use Rattle.bitcode_parts.specs.Variants.{variants_left, variants_owned};
-ghost use Rattle.bitcode_enums.specs.ByNumber.{PayloadsFault};
-ghost use Rattle.bitcode_enums.specs.Reading.{VariantsFault};
 
-use crate::held::{Enum, EnumOf};
+use crate::enums::{Enum, EnumOf};
 use crate::number::At;
 use crate::payloads::VariantPayloads;
 use bitcode_coder::coder::{Decoder, HoldsData, View, both};
+use bitcode_coder::column_free::ColumnFree;
 use bitcode_memory::error::Error;
 use bitcode_parts::choices::variant::VariantDecoder;
 use std::alloc::Global;
@@ -27,7 +27,16 @@ use std::marker::PhantomData;
 pub struct EnumDecoder<'a, const N: usize, T, D> {
     variants: VariantDecoder<'a, N, false>,
     payloads: D,
+    // how many elements without columns are inside the payloads that were read
+    free: u128,
     of: PhantomData<T>,
+}
+
+// The count itself: as an argument it is known to be below 2^128.
+fn in_range(count: u128) -> u128
+    ensures { result ≡ saturated count }
+{
+    count
 }
 
 impl<'a, const N: usize, T: EnumOf<N>, D: VariantPayloads<'a, At<0>, At<N>, T>> HoldsData
@@ -41,12 +50,13 @@ impl<'a, const N: usize, T: EnumOf<N>, D: VariantPayloads<'a, At<0>, At<N>, T>> 
 
 impl<'a, const N: usize, T: EnumOf<N>, D: VariantPayloads<'a, At<0>, At<N>, T>> View<'a>
     for EnumDecoder<'a, N, T, D> {
-    ghost faults = { VariantsFault N (PayloadsFault T.each.variants.shapes D.held.faults) };
+    ghost free_inside = { λ d. d.free };
 
     fn new(alloc: Global) -> Self {
         EnumDecoder {
             variants: VariantDecoder::new(alloc),
             payloads: D::new(alloc),
+            free: 0,
             of: PhantomData,
         }
     }
@@ -54,12 +64,23 @@ impl<'a, const N: usize, T: EnumOf<N>, D: VariantPayloads<'a, At<0>, At<N>, T>> 
     fn read(&mut self, input: &mut &'a [u8], k: usize, strict: bool) -> Result<bool, Error> {
         self.payloads.sized();
         let mut written = self.variants.read(input, k, strict)?;
+        let mut free = 0;
         for number in 0..N {
             let count = self.variants.length(number);
-            let payloads = self.payloads.read_at(number, input, count, strict)?;
+            let payloads = self
+                .payloads
+                .read_at(number, input, count, strict, &mut free)?;
             written = both(written, payloads);
         }
+        self.free = free;
         Ok(written)
+    }
+
+    fn column_free(&self) -> ColumnFree {
+        ColumnFree {
+            has_entry: true,
+            inside: in_range(self.free),
+        }
     }
 }
 

@@ -7,7 +7,7 @@ ghost use Rattle.bitcode_enums.specs.Writing.{variant_columns};
 ghost use Rattle.bitcode_enums.specs.WritingLaws.{enum_of_shape};
 
 use crate::columns::VariantColumns;
-use crate::held::{Enum, EnumOf};
+use crate::enums::{Enum, EnumOf};
 use crate::number::At;
 use crate::payload_columns::PayloadColumns;
 use crate::writes::WritesVariants;

@@ -4,7 +4,7 @@
 pub mod columns;
 pub mod decoder;
 pub mod encoder;
-pub mod held;
+pub mod enums;
 pub mod not_compared;
 pub mod number;
 pub mod payload_columns;

@@ -3,7 +3,7 @@ ghost use Rattle.bitcode_enums.specs.HeldColumns.{columns_in, payloads_in};
 ghost use Rattle.bitcode_enums.specs.declared.not_compared.NotCompared.{NotCompared};
 
 use crate::columns::VariantColumns;
-use crate::held::Enum;
+use crate::enums::Enum;
 use crate::number::VariantNumber;
 use crate::payloads::VariantPayloads;
 use crate::writes::WritesVariants;
@@ -85,9 +85,10 @@ impl<
         input: &mut &'a [u8],
         k: usize,
         strict: bool,
+        free: &mut u128,
     ) -> Result<bool, Error> {
         match self {
-            NotCompared::All(all) => all.read_at(number, input, k, strict),
+            NotCompared::All(all) => all.read_at(number, input, k, strict, free),
             NotCompared::Never(never) => match *never {},
         }
     }

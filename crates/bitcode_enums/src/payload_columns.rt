@@ -6,7 +6,7 @@ ghost use Rattle.bitcode_enums.specs.ByNumber.{all_columns};
 ghost use Rattle.bitcode_enums.specs.Writing.{JoinsVariant, OverflowsWithVariant};
 
 use crate::columns::VariantColumns;
-use crate::held::{Enum, EnumOf};
+use crate::enums::{Enum, EnumOf};
 use crate::number::At;
 use crate::writes::WritesVariants;
 use bitcode_coder::coder::{Buffer, HoldsColumns};

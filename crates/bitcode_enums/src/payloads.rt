@@ -4,16 +4,53 @@ ghost use Rattle.std.specs.Prelude.{OnErr};
 ghost use Rattle.bitcode_memory.specs.declared.error.Reason.{Reason};
 ghost use Rattle.bitcode_columns.specs.Reading.{Reads, IsEndOf};
 ghost use Rattle.bitcode_coder.specs.Coder.{IsReadingRefusal};
+ghost use Rattle.bitcode_coder.specs.FirstFault.{IsFirstFault};
+ghost use Rattle.bitcode_coder.specs.ColumnFree.{free_count, saturated};
 ghost use Rattle.bitcode_coder.specs.Spelling.{Spells};
 ghost use Rattle.bitcode_coder.specs.Strict.{JudgesData};
 ghost use Rattle.bitcode_parts.specs.Payloads.{payloads_of};
 ghost use Rattle.bitcode_enums.specs.HeldColumns.{HeldPayloads};
 ghost use Rattle.bitcode_enums.specs.ByNumber.{shape_at, KeepsOthers};
 
-use crate::held::Enum;
+use crate::enums::Enum;
 use crate::number::VariantNumber;
+use bitcode_coder::coder::View;
 use bitcode_memory::error::{Error, Reason};
 use std::alloc::Global;
+
+/// Reads payloads as `View::read` does, and adds the number of elements without columns inside them to `free`, up to
+/// 2^128 - 1.
+///
+/// ```rust
+/// use bitcode_enums::payloads::read_and_count;
+///
+/// let mut input: &[u8] = &[1];
+/// let mut flags = BoolDecoder::new(alloc);
+/// let mut free = 0;
+/// read_and_count(&mut flags, &mut input, 1, false, &mut free)?;
+/// assert_eq!(rt; free, 0);
+/// ```
+pub fn read_and_count<'a, D: View<'a>>(
+    decoder: &mut D,
+    input: &mut &'a [u8],
+    k: usize,
+    strict: bool,
+    free: &mut u128,
+) -> Result<bool, Error>
+    ensures read { OnOk result
+        (Reads (Spells D.shape) k input.old.now (D.held decoder.new) input.new.now) }
+    ensures counted { OnOk result
+        (free.new ≡ saturated (free.old + free_count D.shape (D.held decoder.new))) }
+    ensures judged { IsTrue strict → IfOk result
+        (λ written. JudgesData D.shape (D.held decoder.new) written input.old.now input.new.now) }
+    ensures refused { IfErr result (λ e. IsReadingRefusal D.shape e.reason k input.old.now) }
+    ensures exact { IfErr result (λ e. IsFirstFault D.shape e.reason k input.old.now) }
+    ensures rest { OnErr result (IsEndOf input.old.now input.new.now) }
+{
+    let written = decoder.read(input, k, strict)?;
+    *free = free.saturating_add(decoder.column_free().inside);
+    Ok(written)
+}
 
 /// The data of the payloads of the variants of `T` from the number `First` to the one before `End`: `Decoders2` to
 /// `Decoders4`, with one decoder for each variant, [`TwoGroups`](crate::two_groups::TwoGroups) and
@@ -44,8 +81,9 @@ use std::alloc::Global;
 ///         input: &mut &'a [u8],
 ///         k: usize,
 ///         strict: bool,
+///         free: &mut u128,
 ///     ) -> Result<bool, Error> {
-///         VariantPayloads::<At<0>, At<2>, Two>::read_at(&mut self.all, number, input, k, strict)
+///         VariantPayloads::<At<0>, At<2>, Two>::read_at(&mut self.all, number, input, k, strict, free)
 ///     }
 ///
 ///     fn decode_at(&mut self, number: usize) -> Result<Two, Error> {
@@ -56,7 +94,7 @@ use std::alloc::Global;
 /// }
 /// ```
 pub trait VariantPayloads<'a, First: VariantNumber, End: VariantNumber, T: Enum> {
-    // the remaining payloads, and the possible faults
+    // the remaining payloads
     ghost held: { HeldPayloads Self };
 
     /// Creates an empty decoder without allocating.
@@ -64,13 +102,15 @@ pub trait VariantPayloads<'a, First: VariantNumber, End: VariantNumber, T: Enum>
         ensures empty { held.lists result ≡ map (λ payloads. []) (held.lists result) }
         ensures owned { held.owned result ≡ 0 };
 
-    /// Reads `k` payloads of the variant with this number from the front of the input, as `View::read` does.
+    /// Reads `k` payloads of the variant with this number from the front of the input, as `View::read` does, and adds
+    /// the number of elements without columns inside them to `free`, up to 2^128 - 1.
     fn read_at(
         &mut self,
         number: usize,
         input: &mut &'a [u8],
         k: usize,
         strict: bool,
+        free: &mut u128,
     ) -> Result<bool, Error>
         requires { (First.value ≤ number) × (number < End.value) }
         ensures others { KeepsOthers [] (number - First.value) (held.lists self.old)
@@ -78,6 +118,9 @@ pub trait VariantPayloads<'a, First: VariantNumber, End: VariantNumber, T: Enum>
         ensures read { OnOk result
             (Reads (Spells (shape_at number T.each.variants.shapes)) k input.old.now
             (payloads_of (number - First.value) (held.lists self.new)) input.new.now) }
+        ensures counted { OnOk result
+            (free.new ≡ saturated (free.old + free_count (shape_at number T.each.variants.shapes)
+            (payloads_of (number - First.value) (held.lists self.new)))) }
         ensures judged { IsTrue strict → IfOk result
             (λ written. JudgesData (shape_at number T.each.variants.shapes)
             (payloads_of (number - First.value) (held.lists self.new)) written input.old.now
@@ -85,7 +128,8 @@ pub trait VariantPayloads<'a, First: VariantNumber, End: VariantNumber, T: Enum>
         ensures refused { IfErr result
             (λ e. IsReadingRefusal (shape_at number T.each.variants.shapes) e.reason k
             input.old.now) }
-        ensures exact { IfErr result (λ e. held.faults number e.reason k input.old.now) }
+        ensures exact { IfErr result
+            (λ e. IsFirstFault (shape_at number T.each.variants.shapes) e.reason k input.old.now) }
         ensures rest { OnErr result (IsEndOf input.old.now input.new.now) };
 
     /// Makes a value of the variant with this number from its next payload. At least one must be left.

@@ -1,10 +1,9 @@
 //! The coders of consecutive variants, as two groups.
 ghost use Rattle.std.specs.Prelude.{◌+◌, ◌++◌, ◌&&◌};
-ghost use Rattle.bitcode_enums.specs.ByNumber.{faults_behind};
 ghost use Rattle.bitcode_enums.specs.ByNumberLaws.{both_groups};
 
 use crate::columns::VariantColumns;
-use crate::held::Enum;
+use crate::enums::Enum;
 use crate::number::VariantNumber;
 use crate::payloads::VariantPayloads;
 use crate::writes::WritesVariants;
@@ -84,7 +83,6 @@ impl<
     ghost held = { record {
       lists = λ d. F.held.lists d.first ++ S.held.lists d.second;
       owned = λ d. F.held.owned d.first + S.held.owned d.second;
-      faults = faults_behind Second.value F.held.faults S.held.faults;
       makes_free = F.held.makes_free && S.held.makes_free;
     } };
 
@@ -102,13 +100,14 @@ impl<
         input: &mut &'a [u8],
         k: usize,
         strict: bool,
+        free: &mut u128,
     ) -> Result<bool, Error> {
         self.first.sized();
         self.second.sized();
         if number < Second::value() {
-            self.first.read_at(number, input, k, strict)
+            self.first.read_at(number, input, k, strict, free)
         } else {
-            self.second.read_at(number, input, k, strict)
+            self.second.read_at(number, input, k, strict, free)
         }
     }
 

@@ -5,7 +5,7 @@ ghost use Rattle.bitcode_coder.specs.Coder.{IsWritingRefusal, JoinsListing, Over
 ghost use Rattle.bitcode_enums.specs.ByNumber.{columns_at, AreColumnsOf, KeepsOthers};
 
 use crate::columns::VariantColumns;
-use crate::held::Enum;
+use crate::enums::Enum;
 use crate::number::VariantNumber;
 use bitcode_coder::coder::{Buffer, Encoder, HoldsColumns};
 use bitcode_memory::error::Error;

@@ -17,7 +17,8 @@ use Rattle.bitcode_columns.proofs.IntColumnLemmas.{SpellsInts-unambiguous, ints_
 use Rattle.bitcode_shapes.proofs.CheckedLemmas.{nonzero_unsigned, nonzero_signed}
 use Rattle.bitcode_shapes.specs.Datum.{Datum, number, number_in}
 use Rattle.bitcode_shapes.specs.Shape.{Allowed, any_number, nonzero, scalar, between, IsAllowed, IsNumberOf, number_shape}
-use Rattle.bitcode_ints.specs.CheckedColumn.{is_allowed, allowed_front, checked_data, NamesCheckedFault, in_column, not_allowed}
+use Rattle.bitcode_coder.specs.Faults.{NamesCheckedFault, in_column, not_allowed}
+use Rattle.bitcode_ints.specs.CheckedColumn.{is_allowed, allowed_front, checked_data}
 use Rattle.bitcode_coder.specs.Coder.{IsReadingReason, IsReadingRefusal}
 use Rattle.bitcode_coder.specs.Spelling.{Spells, number_of_residue}
 use Rattle.bitcode_coder.proofs.OneColumnLemmas.{reads_of}

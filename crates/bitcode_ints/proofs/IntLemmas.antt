@@ -19,7 +19,8 @@ use Rattle.bitcode_shapes.specs.Datum.{Datum, number}
 use Rattle.bitcode_shapes.specs.Shape.{IsNumberOf, any_number}
 use Rattle.bitcode_shapes.specs.Ints.{int_shape}
 use Rattle.bitcode_coder.specs.Spelling.{Spells, number_of_residue}
-use Rattle.bitcode_coder.specs.Faults.{NamesIntsFault}
+use Rattle.bitcode_coder.specs.Faults.{in_column}
+use Rattle.bitcode_coder.specs.FirstFault.{IsFirstFault}
 use Rattle.bitcode_coder.specs.Coder.{IsReadingRefusal}
 use Rattle.bitcode_coder.specs.Columns.{ints}
 use Rattle.bitcode_coder.specs.Strict.{JudgesColumn, JudgesData}
@@ -39,10 +40,10 @@ ints_refused_err r width signed count input named =
     (λ e h. ints_refused width signed e.reason count input h) named
 
 -- integers that are refused, and those that stand as they are
-pub ints_exact : {T : Type 0} (r : Result T Error) (width count : ℕ) (input : List ℕ) → IfErr r (λ e. Names e.reason (ints_fault width count input))
-    → (IsTrue (ints_stand_raw width count input) → IfErr r (λ e. e.reason ≢ OutOfMemory)) → IfErr r (λ e. NamesIntsFault width e.reason count input)
-ints_exact (Ok x) width count input named raw = tt
-ints_exact (Err e) width count input named raw = record { named = named; free = raw }
+pub ints_exact : {T : Type 0} (r : Result T Error) (width : ℕ) (signed : Bool) (count : ℕ) (input : List ℕ) → IfErr r (λ e. Names e.reason (ints_fault width count input))
+    → (IsTrue (ints_stand_raw width count input) → IfErr r (λ e. e.reason ≢ OutOfMemory)) → IfErr r (λ e. IsFirstFault (int_shape width signed) e.reason count input)
+ints_exact (Ok x) width signed count input named raw = tt
+ints_exact (Err e) width signed count input named raw = in_column (record { named = named; free = raw })
 
 -- entries that stand for residues
 pub ints_read : {Entry : Type 0} (residue_of : Entry → ℕ) (width : ℕ) (signed : Bool) (count : ℕ) (old : List ℕ) (entries : List Entry) (new : List ℕ)

@@ -1,4 +1,4 @@
--- A column of integers that are not all allowed: what its reader holds, and which fault it reports.
+-- A column of integers that are not all allowed: what its reader holds.
 use Rattle.std.specs.Prelude.{◌≡◌, ℕ, zero, suc, Bool, true, false, ◌&&◌, ℤ, pos, negsuc, List, [], ◌∷◌, map, All, if◌then◌else◌}
 use Rattle.std.specs.Int.Signed.{le_z}
 use lib.Utf8.{scalar as is_scalar}
@@ -34,9 +34,3 @@ module _ {T : Type 0} where
 
 abbrev pub checked_data : Allowed → List ℤ → List Datum
 checked_data allowed zs = map number (allowed_front allowed zs)
-
--- An error reports the fault of the column or, if it can be read, an entry that is not allowed.
-pub data NamesCheckedFault (width : ℕ) (signed : Bool) (allowed : Allowed) (reason : Reason) (count : ℕ) (input : List ℕ) : Type 0 where
-  in_column : NamesIntsFault width reason count input → NamesCheckedFault width signed allowed reason count input
-  not_allowed : (entries rest : List ℕ) → reason ≡ InvalidBitPattern → Reads (SpellsInts width) count input entries rest
-      → (All (λ n. IsAllowed allowed (number_of width signed n)) entries → ⊥) → NamesCheckedFault width signed allowed reason count input

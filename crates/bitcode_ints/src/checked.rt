@@ -6,9 +6,10 @@ ghost use Rattle.bitcode_memory.specs.LittleEndian.{little_endian};
 ghost use Rattle.bitcode_memory.specs.Ints.{number_of};
 ghost use Rattle.bitcode_shapes.specs.Datum.{number};
 ghost use Rattle.bitcode_shapes.specs.Shape.{Allowed, IsAllowed, number_shape};
-ghost use Rattle.bitcode_ints.specs.CheckedColumn.{numbers_of, checked_data, NamesCheckedFault};
+ghost use Rattle.bitcode_ints.specs.CheckedColumn.{numbers_of, checked_data};
 
 use bitcode_coder::coder::{Decoder, HoldsData, View};
+use bitcode_coder::column_free::ColumnFree;
 use bitcode_int_columns::column_int::ColumnInt;
 use bitcode_memory::error::{Error, Reason};
 use bitcode_memory::fast::CowSlice;
@@ -73,7 +74,7 @@ impl<'a, C: Checked<I>, I: ColumnInt> HoldsData for CheckedIntDecoder<'a, C, I> 
 }
 
 impl<'a, C: Checked<I>, I: ColumnInt> View<'a> for CheckedIntDecoder<'a, C, I> {
-    ghost faults = { NamesCheckedFault I.width I.signed C.allowed };
+    ghost free_inside = { λ d. 0 };
 
     fn new(alloc: Global) -> Self {
         CheckedIntDecoder {
@@ -89,6 +90,10 @@ impl<'a, C: Checked<I>, I: ColumnInt> View<'a> for CheckedIntDecoder<'a, C, I> {
             return err(Reason::InvalidBitPattern);
         }
         Ok(written)
+    }
+
+    fn column_free(&self) -> ColumnFree {
+        ColumnFree::entries()
     }
 }
 

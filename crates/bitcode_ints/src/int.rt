@@ -13,11 +13,13 @@ ghost use Rattle.bitcode_shapes.specs.Ints.{ListsNumber, int_shape};
 ghost use Rattle.bitcode_coder.specs.Columns.{ints, one};
 ghost use Rattle.bitcode_coder.specs.Spelling.{Spells};
 ghost use Rattle.bitcode_coder.specs.Coder.{IsReadingRefusal, written_columns};
-ghost use Rattle.bitcode_coder.specs.Faults.{NamesIntsFault};
+ghost use Rattle.bitcode_coder.specs.FirstFault.{IsFirstFault};
+ghost use Rattle.bitcode_coder.specs.ColumnFree.{free_count, saturated};
 ghost use Rattle.bitcode_coder.specs.Strict.{JudgesData};
 ghost use Rattle.bitcode_ints.specs.Int.{int_data, bytes_data, PushesInts, WritesInts};
 
 use bitcode_coder::coder::{Buffer, Decoder, Encoder, HoldsColumns, HoldsData, View};
+use bitcode_coder::column_free::ColumnFree;
 use bitcode_coder::part::Part;
 use bitcode_int_columns::column_int::ColumnInt;
 use bitcode_memory::error::{Error, Reason};
@@ -302,7 +304,7 @@ impl<'a, T: ColumnInt> HoldsData for IntDecoder<'a, T> {
 }
 
 impl<'a, T: ColumnInt> View<'a> for IntDecoder<'a, T> {
-    ghost faults = { NamesIntsFault T.width };
+    ghost free_inside = { λ d. 0 };
 
     fn new(alloc: Global) -> Self {
         IntDecoder {
@@ -315,6 +317,9 @@ impl<'a, T: ColumnInt> View<'a> for IntDecoder<'a, T> {
         ensures read { OnOk result
             (Reads (Spells (int_shape T.width T.signed)) k input.old.now
             (bytes_data T.width T.signed T.une_bytes (cow_rest self.new.values)) input.new.now) }
+        ensures counted { OnOk result
+            (saturated 0 ≡ saturated (free_count (int_shape T.width T.signed)
+            (bytes_data T.width T.signed T.une_bytes (cow_rest self.new.values)))) }
         ensures judged { IsTrue strict → IfOk result
             (λ written. JudgesData (int_shape T.width T.signed)
             (bytes_data T.width T.signed T.une_bytes (cow_rest self.new.values)) written
@@ -322,9 +327,14 @@ impl<'a, T: ColumnInt> View<'a> for IntDecoder<'a, T> {
         ensures refused { IfErr result
             (λ e. IsReadingRefusal (int_shape T.width T.signed) e.reason k input.old.now) }
         ensures rest { OnErr result (IsEndOf input.old.now input.new.now) }
-        ensures exact { IfErr result (λ e. NamesIntsFault T.width e.reason k input.old.now) }
+        ensures exact { IfErr result
+            (λ e. IsFirstFault (int_shape T.width T.signed) e.reason k input.old.now) }
     {
         T::unpack(self.alloc, input, k, &mut self.values, strict)
+    }
+
+    fn column_free(&self) -> ColumnFree {
+        ColumnFree::entries()
     }
 }
 

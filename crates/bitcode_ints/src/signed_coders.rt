@@ -4,6 +4,7 @@ ghost use Rattle.std.specs.Prelude.{refl};
 
 use crate::int::{IntDecoder, IntEncoder};
 use bitcode_coder::coder::{Buffer, Decoder, Encoder, HoldsColumns, HoldsData, View};
+use bitcode_coder::column_free::ColumnFree;
 use bitcode_coder::part::Part;
 use bitcode_memory::error::Error;
 use std::alloc::Global;
@@ -111,7 +112,7 @@ impl<'a> HoldsData for I8Decoder<'a> {
 }
 
 impl<'a> View<'a> for I8Decoder<'a> {
-    ghost faults = { ⟦<IntDecoder<'a, i8> as View<'a>>⟧.faults };
+    ghost free_inside = { λ d. 0 };
 
     fn new(alloc: Global) -> Self {
         I8Decoder {
@@ -121,6 +122,10 @@ impl<'a> View<'a> for I8Decoder<'a> {
 
     fn read(&mut self, input: &mut &'a [u8], k: usize, strict: bool) -> Result<bool, Error> {
         self.column.read(input, k, strict)
+    }
+
+    fn column_free(&self) -> ColumnFree {
+        ColumnFree::entries()
     }
 }
 
@@ -241,7 +246,7 @@ impl<'a> HoldsData for I16Decoder<'a> {
 }
 
 impl<'a> View<'a> for I16Decoder<'a> {
-    ghost faults = { ⟦<IntDecoder<'a, i16> as View<'a>>⟧.faults };
+    ghost free_inside = { λ d. 0 };
 
     fn new(alloc: Global) -> Self {
         I16Decoder {
@@ -251,6 +256,10 @@ impl<'a> View<'a> for I16Decoder<'a> {
 
     fn read(&mut self, input: &mut &'a [u8], k: usize, strict: bool) -> Result<bool, Error> {
         self.column.read(input, k, strict)
+    }
+
+    fn column_free(&self) -> ColumnFree {
+        ColumnFree::entries()
     }
 }
 
@@ -371,7 +380,7 @@ impl<'a> HoldsData for I32Decoder<'a> {
 }
 
 impl<'a> View<'a> for I32Decoder<'a> {
-    ghost faults = { ⟦<IntDecoder<'a, i32> as View<'a>>⟧.faults };
+    ghost free_inside = { λ d. 0 };
 
     fn new(alloc: Global) -> Self {
         I32Decoder {
@@ -381,6 +390,10 @@ impl<'a> View<'a> for I32Decoder<'a> {
 
     fn read(&mut self, input: &mut &'a [u8], k: usize, strict: bool) -> Result<bool, Error> {
         self.column.read(input, k, strict)
+    }
+
+    fn column_free(&self) -> ColumnFree {
+        ColumnFree::entries()
     }
 }
 
@@ -501,7 +514,7 @@ impl<'a> HoldsData for I64Decoder<'a> {
 }
 
 impl<'a> View<'a> for I64Decoder<'a> {
-    ghost faults = { ⟦<IntDecoder<'a, i64> as View<'a>>⟧.faults };
+    ghost free_inside = { λ d. 0 };
 
     fn new(alloc: Global) -> Self {
         I64Decoder {
@@ -511,6 +524,10 @@ impl<'a> View<'a> for I64Decoder<'a> {
 
     fn read(&mut self, input: &mut &'a [u8], k: usize, strict: bool) -> Result<bool, Error> {
         self.column.read(input, k, strict)
+    }
+
+    fn column_free(&self) -> ColumnFree {
+        ColumnFree::entries()
     }
 }
 
@@ -631,7 +648,7 @@ impl<'a> HoldsData for I128Decoder<'a> {
 }
 
 impl<'a> View<'a> for I128Decoder<'a> {
-    ghost faults = { ⟦<IntDecoder<'a, i128> as View<'a>>⟧.faults };
+    ghost free_inside = { λ d. 0 };
 
     fn new(alloc: Global) -> Self {
         I128Decoder {
@@ -641,6 +658,10 @@ impl<'a> View<'a> for I128Decoder<'a> {
 
     fn read(&mut self, input: &mut &'a [u8], k: usize, strict: bool) -> Result<bool, Error> {
         self.column.read(input, k, strict)
+    }
+
+    fn column_free(&self) -> ColumnFree {
+        ColumnFree::entries()
     }
 }
 
@@ -761,7 +782,7 @@ impl<'a> HoldsData for IsizeDecoder<'a> {
 }
 
 impl<'a> View<'a> for IsizeDecoder<'a> {
-    ghost faults = { ⟦<IntDecoder<'a, isize> as View<'a>>⟧.faults };
+    ghost free_inside = { λ d. 0 };
 
     fn new(alloc: Global) -> Self {
         IsizeDecoder {
@@ -771,6 +792,10 @@ impl<'a> View<'a> for IsizeDecoder<'a> {
 
     fn read(&mut self, input: &mut &'a [u8], k: usize, strict: bool) -> Result<bool, Error> {
         self.column.read(input, k, strict)
+    }
+
+    fn column_free(&self) -> ColumnFree {
+        ColumnFree::entries()
     }
 }
 

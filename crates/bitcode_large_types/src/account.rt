@@ -4,7 +4,7 @@ ghost use Rattle.bitcode.specs.ByHand.{data_as, field_alike, pair_alike, refl};
 
 use crate::home::Home;
 use crate::trophy::Trophy;
-use bitcode::coder::{Decoder, HoldsData, View};
+use bitcode::coder::{ColumnFree, Decoder, HoldsData, View};
 use bitcode::own::{DecoderOfFields, HasField, InFields, Nth, StructEncoder};
 use bitcode::{ConvertFrom, ConvertFromDecoder, Error, HasDecoder, HasEncoder, Shaped};
 use std::alloc::Global;
@@ -90,7 +90,8 @@ impl<'a> HoldsData for AccountDecoder0<'a> {
 }
 
 impl<'a> View<'a> for AccountDecoder0<'a> {
-    ghost faults = { ⟦<<Fields0<'a> as HasDecoder<'a>>::Decoder as View<'a>>⟧.faults };
+    ghost free_inside = { λ d. ⟦<<Fields0<'a> as HasDecoder<'a>>::Decoder as View<'a>>⟧.free_inside
+        d.field };
 
     fn new(alloc: Global) -> Self {
         AccountDecoder0 {
@@ -100,6 +101,10 @@ impl<'a> View<'a> for AccountDecoder0<'a> {
 
     fn read(&mut self, input: &mut &'a [u8], k: usize, strict: bool) -> Result<bool, Error> {
         self.field.read(input, k, strict)
+    }
+
+    fn column_free(&self) -> ColumnFree {
+        self.field.column_free()
     }
 }
 
@@ -183,7 +188,8 @@ impl<'a> HoldsData for AccountDecoder1<'a> {
 }
 
 impl<'a> View<'a> for AccountDecoder1<'a> {
-    ghost faults = { ⟦<<Fields1 as HasDecoder<'a>>::Decoder as View<'a>>⟧.faults };
+    ghost free_inside = { λ d. ⟦<<Fields1 as HasDecoder<'a>>::Decoder as View<'a>>⟧.free_inside
+        d.field };
 
     fn new(alloc: Global) -> Self {
         AccountDecoder1 {
@@ -193,6 +199,10 @@ impl<'a> View<'a> for AccountDecoder1<'a> {
 
     fn read(&mut self, input: &mut &'a [u8], k: usize, strict: bool) -> Result<bool, Error> {
         self.field.read(input, k, strict)
+    }
+
+    fn column_free(&self) -> ColumnFree {
+        self.field.column_free()
     }
 }
 
@@ -282,7 +292,8 @@ impl<'a> HoldsData for AccountDecoder2<'a> {
 }
 
 impl<'a> View<'a> for AccountDecoder2<'a> {
-    ghost faults = { ⟦<<Fields2 as HasDecoder<'a>>::Decoder as View<'a>>⟧.faults };
+    ghost free_inside = { λ d. ⟦<<Fields2 as HasDecoder<'a>>::Decoder as View<'a>>⟧.free_inside
+        d.field };
 
     fn new(alloc: Global) -> Self {
         AccountDecoder2 {
@@ -292,6 +303,10 @@ impl<'a> View<'a> for AccountDecoder2<'a> {
 
     fn read(&mut self, input: &mut &'a [u8], k: usize, strict: bool) -> Result<bool, Error> {
         self.field.read(input, k, strict)
+    }
+
+    fn column_free(&self) -> ColumnFree {
+        self.field.column_free()
     }
 }
 

@@ -534,8 +534,16 @@ impl<'a> VariantPayloads<'a, At<0>, At<4>, Packet> for PacketPayloads0To3<'a> {
         input: &mut &'a [u8],
         k: usize,
         strict: bool,
+        free: &mut u128,
     ) -> Result<bool, Error> {
-        VariantPayloads::<At<0>, At<4>, Packet>::read_at(&mut self.all, number, input, k, strict)
+        VariantPayloads::<At<0>, At<4>, Packet>::read_at(
+            &mut self.all,
+            number,
+            input,
+            k,
+            strict,
+            free,
+        )
     }
 
     fn decode_at(&mut self, number: usize) -> Result<Packet, Error> {
@@ -569,8 +577,16 @@ impl<'a> VariantPayloads<'a, At<4>, At<8>, Packet> for PacketPayloads4To7<'a> {
         input: &mut &'a [u8],
         k: usize,
         strict: bool,
+        free: &mut u128,
     ) -> Result<bool, Error> {
-        VariantPayloads::<At<4>, At<8>, Packet>::read_at(&mut self.all, number, input, k, strict)
+        VariantPayloads::<At<4>, At<8>, Packet>::read_at(
+            &mut self.all,
+            number,
+            input,
+            k,
+            strict,
+            free,
+        )
     }
 
     fn decode_at(&mut self, number: usize) -> Result<Packet, Error> {
@@ -606,8 +622,16 @@ impl<'a> VariantPayloads<'a, At<8>, At<12>, Packet> for PacketPayloads8To11<'a> 
         input: &mut &'a [u8],
         k: usize,
         strict: bool,
+        free: &mut u128,
     ) -> Result<bool, Error> {
-        VariantPayloads::<At<8>, At<12>, Packet>::read_at(&mut self.all, number, input, k, strict)
+        VariantPayloads::<At<8>, At<12>, Packet>::read_at(
+            &mut self.all,
+            number,
+            input,
+            k,
+            strict,
+            free,
+        )
     }
 
     fn decode_at(&mut self, number: usize) -> Result<Packet, Error> {
@@ -641,8 +665,16 @@ impl<'a> VariantPayloads<'a, At<12>, At<16>, Packet> for PacketPayloads12To15<'a
         input: &mut &'a [u8],
         k: usize,
         strict: bool,
+        free: &mut u128,
     ) -> Result<bool, Error> {
-        VariantPayloads::<At<12>, At<16>, Packet>::read_at(&mut self.all, number, input, k, strict)
+        VariantPayloads::<At<12>, At<16>, Packet>::read_at(
+            &mut self.all,
+            number,
+            input,
+            k,
+            strict,
+            free,
+        )
     }
 
     fn decode_at(&mut self, number: usize) -> Result<Packet, Error> {
@@ -676,8 +708,16 @@ impl<'a> VariantPayloads<'a, At<16>, At<20>, Packet> for PacketPayloads16To19<'a
         input: &mut &'a [u8],
         k: usize,
         strict: bool,
+        free: &mut u128,
     ) -> Result<bool, Error> {
-        VariantPayloads::<At<16>, At<20>, Packet>::read_at(&mut self.all, number, input, k, strict)
+        VariantPayloads::<At<16>, At<20>, Packet>::read_at(
+            &mut self.all,
+            number,
+            input,
+            k,
+            strict,
+            free,
+        )
     }
 
     fn decode_at(&mut self, number: usize) -> Result<Packet, Error> {

@@ -180,8 +180,16 @@ impl<'a> VariantPayloads<'a, At<0>, At<4>, Event> for EventPayloads<'a> {
         input: &mut &'a [u8],
         k: usize,
         strict: bool,
+        free: &mut u128,
     ) -> Result<bool, Error> {
-        VariantPayloads::<At<0>, At<4>, Event>::read_at(&mut self.all, number, input, k, strict)
+        VariantPayloads::<At<0>, At<4>, Event>::read_at(
+            &mut self.all,
+            number,
+            input,
+            k,
+            strict,
+            free,
+        )
     }
 
     fn decode_at(&mut self, number: usize) -> Result<Event, Error> {

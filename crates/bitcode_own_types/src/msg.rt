@@ -167,8 +167,16 @@ impl<
         input: &mut &'a [u8],
         k: usize,
         strict: bool,
+        free: &mut u128,
     ) -> Result<bool, Error> {
-        VariantPayloads::<At<0>, At<3>, Msg<T>>::read_at(&mut self.all, number, input, k, strict)
+        VariantPayloads::<At<0>, At<3>, Msg<T>>::read_at(
+            &mut self.all,
+            number,
+            input,
+            k,
+            strict,
+            free,
+        )
     }
 
     fn decode_at(&mut self, number: usize) -> Result<Msg<T>, Error> {

@@ -295,8 +295,16 @@ impl<'a> VariantPayloads<'a, At<0>, At<8>, Reply<'a>> for ReplyPayloads<'a> {
         input: &mut &'a [u8],
         k: usize,
         strict: bool,
+        free: &mut u128,
     ) -> Result<bool, Error> {
-        VariantPayloads::<At<0>, At<8>, Reply<'a>>::read_at(&mut self.all, number, input, k, strict)
+        VariantPayloads::<At<0>, At<8>, Reply<'a>>::read_at(
+            &mut self.all,
+            number,
+            input,
+            k,
+            strict,
+            free,
+        )
     }
 
     fn decode_at(&mut self, number: usize) -> Result<Reply<'a>, Error> {

@@ -5,8 +5,8 @@ ghost use Rattle.bitcode.specs.ByHand.{HasLongListing, HasShortLengths, IsWritin
 use crate::monster::Monster;
 use crate::scores::Scores;
 use crate::spot::Spot;
-use bitcode::laws::{comes_back, comes_back_equal, told_exactly};
-use bitcode::{Error, Shaped, decode, encode};
+use bitcode::laws::{comes_back, comes_back_equal, comes_back_in_bytes, told_exactly};
+use bitcode::{Error, Reason, Shaped, decode, encode, err};
 use std::alloc::Global;
 use std::collections::BTreeSet;
 
@@ -33,14 +33,18 @@ pub fn saved_and_loaded(alloc: Global, scores: &Scores) -> Result<Scores, Error>
 }
 
 /// Writes a monster, which owns memory, and reads it back: what is read is equal to what was written.
+///
+/// Errors: `out of memory`, and `length overflow` if the bytes are 281474976710656 or more.
 pub fn saved_monster(alloc: Global, monster: &Monster) -> Result<Monster, Error>
-    ensures { HasShortLengths ⟦<Monster as Shaped>⟧.data.lists ⟦<Monster as Shaped>⟧.data.shape
-        monster.now → IfOk result (λ again. ⟦<Monster as Shaped>⟧.data.same monster.now again) }
+    ensures { IfOk result (λ again. ⟦<Monster as Shaped>⟧.data.same monster.now again) }
 {
     let bytes = encode(alloc, monster)?;
     let written = bytes.as_slice();
+    if written.len() >= 0x1_0000_0000_0000 {
+        return err(Reason::LengthOverflow);
+    }
     let again: Result<Monster, Error> = decode(alloc, written);
-    comes_back(monster, written, &again);
+    comes_back_in_bytes(monster, written, &again);
     again
 }
 

@@ -2,7 +2,7 @@
 ghost use Rattle.std.specs.Prelude.{◌≡◌, false, IfOk, IfErr};
 ghost use Rattle.bitcode.specs.ByHand.{MakesOfElements, data_as, refl};
 
-use bitcode::coder::{HoldsData, Result};
+use bitcode::coder::{ColumnFree, HoldsData, Result};
 use bitcode::own::{FromElements, Sequence, encode_each};
 use bitcode::{
     DecodeOwned, Decoder, Encoder, HasDecoder, HasEncoder, IntDecoder, IntEncoder, Reason, Shaped,
@@ -75,7 +75,7 @@ impl<'a> HoldsData for ScoresDecoder<'a> {
 }
 
 impl<'a> View<'a> for ScoresDecoder<'a> {
-    ghost faults = { ⟦<Lists<'a> as View<'a>>⟧.faults };
+    ghost free_inside = { λ d. ⟦<Lists<'a> as View<'a>>⟧.free_inside d.lists };
 
     fn new(alloc: Global) -> Self {
         ScoresDecoder {
@@ -85,6 +85,10 @@ impl<'a> View<'a> for ScoresDecoder<'a> {
 
     fn read(&mut self, input: &mut &'a [u8], k: usize, strict: bool) -> Result<bool> {
         self.lists.read(input, k, strict)
+    }
+
+    fn column_free(&self) -> ColumnFree {
+        self.lists.column_free()
     }
 }
 

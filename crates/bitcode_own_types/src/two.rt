@@ -137,8 +137,9 @@ impl<'a> VariantPayloads<'a, At<0>, At<2>, Two> for TwoPayloads<'a> {
         input: &mut &'a [u8],
         k: usize,
         strict: bool,
+        free: &mut u128,
     ) -> Result<bool, Error> {
-        VariantPayloads::<At<0>, At<2>, Two>::read_at(&mut self.all, number, input, k, strict)
+        VariantPayloads::<At<0>, At<2>, Two>::read_at(&mut self.all, number, input, k, strict, free)
     }
 
     fn decode_at(&mut self, number: usize) -> Result<Two, Error> {

@@ -1,5 +1,5 @@
 -- Arrays are read as the elements of all, which are cut into arrays again.
-use Rattle.std.proofs.Common.{◌≡◌, Bool, ℕ, zero, suc, ◌-◌, ◌*◌, ◌^◌, ◌<◌, ◌≤◌, List, [], ◌∷◌, ◌++◌, length, map, take, drop, replicate, refl, sym, ◌∙◌, ap, ap₂, subst, arith}
+use Rattle.std.proofs.Common.{◌≡◌, Bool, ℕ, zero, suc, ◌+◌, ◌-◌, ◌*◌, ◌^◌, ◌<◌, ◌≤◌, List, [], ◌∷◌, ◌++◌, length, map, take, drop, replicate, refl, sym, ◌∙◌, ap, ap₂, subst, arith}
 use Rattle.std.specs.Prelude.{All}
 use Rattle.std.proofs.Math.Seq.{take-append_seam, drop-append_seam}
 use Rattle.std.proofs.lemmas.List.{take-append-drop, length-take-le, length-drop, nil_from_length}
@@ -10,11 +10,13 @@ use Rattle.bitcode_shapes.specs.Datum.{Datum, list, data_of}
 use Rattle.bitcode_shapes.specs.Shape.{Shape, array_shape, IsOf, IsListOf}
 use Rattle.bitcode_shapes.specs.Lists.{MakesSequence}
 use Rattle.bitcode_shapes.specs.LawfulLists.{list_of_data, zip_length}
+use Rattle.bitcode_coder.specs.ColumnFree.{has_entry, count_if_free, free_count, saturated}
 use Rattle.bitcode_coder.specs.Columns.{CountsFit}
 use Rattle.bitcode_coder.specs.Transposition.{columns_of, joined}
 use Rattle.bitcode_coder.specs.Spelling.{Spells, SpellsColumns}
 use Rattle.bitcode_coder.specs.Coder.{IsReadingRefusal, TakesDatum, TakesEach}
 use Rattle.bitcode_coder.specs.Strict.{JudgesData}
+use Rattle.bitcode_coder.proofs.ColumnFreeLemmas.{saturated_more}
 use Rattle.bitcode_coder.proofs.CuttingLemmas.{cut-enough, cut-few}
 use Rattle.bitcode_coder.proofs.DatumLemmas.{joined_each}
 use Rattle.bitcode_parts.specs.Arrays.{arrays_of}
@@ -120,6 +122,14 @@ module _ (size : ℕ) (shape : Shape) (k : ℕ) where
           columns = spelled_as_arrays size shape ds r.piece (subst (λ es. SpellsColumns (columns_of shape es) r.piece) are r.spelled.columns);
         };
       }
+
+  -- the elements without columns are the elements themselves, if they have none, and those inside them
+  pub counts_arrays : (elements : List Datum) (inside : ℕ) → length elements ≡ k * size → saturated inside ≡ saturated (free_count shape elements)
+      → saturated (count_if_free (has_entry shape) (k * size) + inside) ≡ saturated (free_count (array_shape size shape) (arrays_of size k elements))
+  counts_arrays elements inside all counted =
+      let same : elements ≡ joined (arrays_of size k elements) = sym (joined-arrays_of size k elements all) in
+      saturated_more (count_if_free (has_entry shape) (k * size)) inside (free_count shape elements) counted
+      ∙ ap₂ (λ n xs. saturated (count_if_free (has_entry shape) n + free_count shape xs)) (sym all ∙ ap length same) same
 
   -- the answer of the elements is that of arrays
   pub judges_arrays : (old new : List ℕ) (elements : List Datum) → Reads (Spells shape) (k * size) old elements new → (written : Bool)

@@ -1,5 +1,5 @@
 -- Variants without payloads are read and written as their column alone.
-use Rattle.std.proofs.Common.{◌≡◌, Bool, true, false, ◌&&◌, IsTrue, Result, Ok, Err, OnOk, IfOk, ℕ, zero, suc, ◌<◌, List, [], ◌∷◌, ◌++◌, length, map, All, refl, sym, ap, ap₂, subst, ◌∙◌, arith, ⊎_elim}
+use Rattle.std.proofs.Common.{◌≡◌, Bool, true, false, ◌&&◌, IsTrue, Result, Ok, Err, OnOk, IfOk, ℕ, zero, suc, ◌<◌, List, [], ◌∷◌, ◌++◌, length, map, All, refl, sym, ap, ap₂, subst, ◌∙◌, arith, ⊎_elim, inl}
 use Rattle.std.proofs.lemmas.Bool.{cases_lt, cond-true, cond-false, lt-ltb, le-ltb}
 use Rattle.std.proofs.lemmas.List.{length-map, append-nil, map-append}
 use Rattle.std.proofs.lemmas.List.Elements.{All-map, All-weaker, All-head, All-tail}
@@ -8,6 +8,7 @@ use Rattle.std.specs.Prelude.{◌↔◌}
 use Rattle.bitcode_memory.specs.declared.error.Reason.{Reason}
 use Rattle.bitcode_columns.specs.Reading.{Reads, NamesVariantFault}
 use Rattle.bitcode_coder.specs.Faults.{NamesVariantsFault}
+use Rattle.bitcode_coder.specs.FirstFault.{IsFirstFault}
 use Rattle.bitcode_columns.specs.VariantColumn.{SpellsVariants, variant_text}
 use Rattle.bitcode_shapes.specs.Datum.{Datum, choice, unit, natural_in}
 use Rattle.bitcode_shapes.specs.Shape.{Shape, IsChoiceOf, IsOfVariant, variant_count}
@@ -115,6 +116,9 @@ module _ (count k : ℕ) (old : List ℕ) where
   judges_bare new them (Ok written) read answer =
       subst (λ ds. JudgesData (bare_shape count) ds written old new) (sym (known_choices count them read.spelled.known)) (judges_known new them written read answer)
   judges_bare new them (Err e) read answer = tt
+
+  pub fault_of_bare : (reason : Reason) → NamesVariantsFault count reason k old → IsFirstFault (bare_shape count) reason k old
+  fault_of_bare reason fault = inl (subst (λ n. NamesVariantsFault n reason k old) (sym (count-unit_shapes count)) fault)
 
   pub refuses_bare : (reason : Reason) → NamesVariantsFault count reason k old → IsReadingRefusal (bare_shape count) reason k old
   refuses_bare reason fault =

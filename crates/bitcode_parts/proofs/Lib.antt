@@ -13,5 +13,6 @@ pub mod GatheredPairLemmas
 pub mod ArrayLemmas
 pub mod ArrayReadingLemmas
 pub mod StrictLemmas
+pub mod ColumnFreeLemmas
 pub mod OneOptionLemmas
 pub mod OneListLemmas

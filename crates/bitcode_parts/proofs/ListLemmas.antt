@@ -1,5 +1,5 @@
 -- Data of lists are read as the lengths of all and then the elements of all.
-use Rattle.std.proofs.Common.{◌≡◌, Bool, ◌&&◌, IsTrue, ℕ, Option, List, [], ◌∷◌, ◌++◌, ◌<◌, ◌≤◌, length, map, sum, take, drop, refl, sym, ◌∙◌, ap, ap₂, subst, ⊎_elim, leb, arith, append_assoc, length-append}
+use Rattle.std.proofs.Common.{◌≡◌, Bool, ◌&&◌, IsTrue, ℕ, ◌+◌, Option, List, [], ◌∷◌, ◌++◌, ◌<◌, ◌≤◌, length, map, sum, take, drop, refl, sym, ◌∙◌, ap, ap₂, subst, ⊎_elim, leb, arith, append_assoc, length-append}
 use Rattle.std.specs.Prelude.{None, All, ◌↔◌}
 use Rattle.std.specs.List.{flat_map}
 use Rattle.std.proofs.Math.Seq.{take-append_seam, drop-append_seam}
@@ -17,12 +17,14 @@ use Rattle.bitcode_coder.specs.Columns.{CountsFit, lengths as length_kind}
 use Rattle.bitcode_coder.specs.Strict.{JudgesData}
 use Rattle.bitcode_coder.proofs.LengthPartLemmas.{naturals_in}
 use Rattle.bitcode_coder.proofs.StrictLemmas.{judges_column}
+use Rattle.bitcode_coder.specs.ColumnFree.{has_entry, count_if_free, free_count, saturated}
 use Rattle.bitcode_coder.specs.Cutting.{cut}
 use Rattle.bitcode_coder.specs.Transposition.{columns_of, joined, length_entry}
 use Rattle.bitcode_coder.specs.LengthColumn.{SpellsLengths, KeepsCap, lengths_from, length_bytes}
 use Rattle.bitcode_coder.specs.LengthParts.{ReadsParts, NamesLengthFault}
 use Rattle.bitcode_coder.specs.Spelling.{Spells, SpellsColumns, natural}
 use Rattle.bitcode_coder.specs.Coder.{IsReadingRefusal, TakesDatum, TakesEach}
+use Rattle.bitcode_coder.proofs.ColumnFreeLemmas.{saturated_more}
 use Rattle.bitcode_coder.proofs.CuttingLemmas.{cut-enough, cut-few, joined-cut, lengths-cut}
 use Rattle.bitcode_coder.proofs.LengthLemmas.{SpellsLengths-unambiguous}
 use Rattle.bitcode_coder.proofs.LengthRefusalLemmas.{reads_once, lengths_refused, length_reason, cap_refused}
@@ -44,7 +46,7 @@ pub lengths-as_list : (pieces : List (List Datum)) → map length_entry (map as_
 lengths-as_list [] = refl
 lengths-as_list (p ∷ ps) = ap₂ (λ first rest. first ∷ rest) (ap (λ ds. natural (length ds)) (list_of_data p)) (lengths-as_list ps)
 
-joined-lists_of : (lengths : List ℕ) (elements : List Datum) → sum lengths ≡ length elements → joined (lists_of lengths elements) ≡ elements
+pub joined-lists_of : (lengths : List ℕ) (elements : List Datum) → sum lengths ≡ length elements → joined (lists_of lengths elements) ≡ elements
 joined-lists_of lengths elements all = joined-as_list (cut lengths elements) ∙ joined-cut lengths elements all
 
 lengths-lists_of : (lengths : List ℕ) (elements : List Datum) → sum lengths ≡ length elements
@@ -107,6 +109,15 @@ module _ (limit : Option ℕ) (s : Shape) (k : ℕ) where
           };
         };
       }
+
+  -- the elements without columns are the elements themselves, if they have none, and those inside them
+  pub counts_sequence : (lengths : List ℕ) (elements : List Datum) (total inside : ℕ) → total ≡ sum lengths → length elements ≡ total
+      → saturated inside ≡ saturated (free_count s elements)
+      → saturated (count_if_free (has_entry s) total + inside) ≡ saturated (free_count (seq_shape limit s) (lists_of lengths elements))
+  counts_sequence lengths elements total inside summed size counted =
+      let same : joined (lists_of lengths elements) ≡ elements = joined-lists_of lengths elements (sym summed ∙ sym size) in
+      saturated_more (count_if_free (has_entry s) total) inside (free_count s elements) counted
+      ∙ ap₂ (λ n xs. saturated (count_if_free (has_entry s) n + free_count s xs)) (sym size ∙ ap length (sym same)) (sym same)
 
   -- the answer of the lengths and the elements is that of lists
   pub judges_sequence : {old middle : List ℕ} {lengths : List ℕ} (new : List ℕ) (elements : List Datum) (a b : Bool) → Reads (SpellsLengths None) k old lengths middle

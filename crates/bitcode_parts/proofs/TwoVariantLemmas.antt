@@ -13,6 +13,7 @@ use Rattle.bitcode_shapes.specs.Shape.{Shape, choice_shape, shape_and, no_shapes
 use Rattle.bitcode_shapes.specs.Choices.{ListsChoice, ListsLast, ListsVariant}
 use Rattle.bitcode_coder.specs.Columns.{Columns, no_columns, one, two, variants, emptied}
 use Rattle.bitcode_coder.specs.Faults.{NamesVariantsFault}
+use Rattle.bitcode_coder.specs.FirstFault.{IsFirstFault}
 use Rattle.bitcode_coder.specs.Spelling.{Spells, natural}
 use Rattle.bitcode_coder.specs.Coder.{written_columns, IsReadingRefusal, JoinsListing, OverflowsWithListing}
 use Rattle.bitcode_coder.proofs.LengthPartLemmas.{ends_behind_read}
@@ -30,6 +31,12 @@ variants_stopped s u k old e (Err f) stopped fault =
     subst (λ (x : Error). IsReadingRefusal (choice_shape (shape_and s (shape_and u no_shapes))) x.reason k old) (sym stopped)
     (refuses_variants (shape_and s (shape_and u no_shapes)) e.reason k old fault.named)
 
+pub variants_exact : {T : Type 0} (s u : Shape) (k : ℕ) (old : List ℕ) (e : Error) (r : Result T Error) → IsErrAnd r (λ f. f ≡ e) → NamesVariantsFault 2 e.reason k old
+    → IfErr r (λ f. IsFirstFault (choice_shape (shape_and s (shape_and u no_shapes))) f.reason k old)
+variants_exact s u k old e (Ok x) stopped fault = absurd stopped
+variants_exact s u k old e (Err f) stopped fault =
+    subst (λ (x : Error). IsFirstFault (choice_shape (shape_and s (shape_and u no_shapes))) x.reason k old) (sym stopped) (inl fault)
+
 -- the variants were read, and counted
 module _ (s u : Shape) {k k0 : ℕ} {old middle entries counts : List ℕ} (read : Reads (SpellsVariants 2) k old entries middle)
     (are : AreCounts 2 entries counts) (first_count : k0 ≡ get_or counts 0 0) where
@@ -41,6 +48,18 @@ module _ (s u : Shape) {k k0 : ℕ} {old middle entries counts : List ℕ} (read
       subst (λ (x : Error). IsReadingRefusal (choice_shape (shape_and s (shape_and u no_shapes))) x.reason k old) (sym stopped)
       (refuses_payloads (shape_and s (shape_and u no_shapes)) e.reason read
       (refuses_first s (shape_and u no_shapes) 0 entries e.reason (subst (λ n. IsReadingRefusal s e.reason n middle) (first_count ∙ are.each 0 (lit< tt)) refused)))
+
+  pub first_exact : {T : Type 0} (e : Error) (r : Result T Error) → IsErrAnd r (λ f. f ≡ e) → IsFirstFault s e.reason k0 middle
+      → IfErr r (λ f. IsFirstFault (choice_shape (shape_and s (shape_and u no_shapes))) f.reason k old)
+  first_exact e (Ok x) stopped fault = absurd stopped
+  first_exact e (Err f) stopped fault =
+      subst (λ (x : Error). IsFirstFault (choice_shape (shape_and s (shape_and u no_shapes))) x.reason k old) (sym stopped)
+      (inr (record {
+        entries = entries;
+        rest = middle;
+        read = read;
+        fault = inl (subst (λ n. IsFirstFault s e.reason n middle) (first_count ∙ are.each 0 (lit< tt)) fault);
+      }))
 
   -- they were read
   module _ {k1 : ℕ} {left : List ℕ} {ds : List Datum} (first : Reads (Spells s) k0 middle ds left) (second_count : k1 ≡ get_or counts 1 0) where
@@ -62,6 +81,23 @@ module _ (s u : Shape) {k k0 : ℕ} {old middle entries counts : List ℕ} (read
         (refuses_payloads (shape_and s (shape_and u no_shapes)) e.reason read
         (refuses_later s (shape_and u no_shapes) 0 entries e.reason (subst (λ n. Reads (Spells s) n middle ds left) (first_count ∙ are.each 0 (lit< tt)) first)
         (refuses_first u no_shapes 1 entries e.reason (subst (λ n. IsReadingRefusal u e.reason n left) (second_count ∙ are.each 1 (lit< tt)) refused))))
+
+    pub second_exact : {T : Type 0} (e : Error) (r : Result T Error) → IsErrAnd r (λ f. f ≡ e) → IsFirstFault u e.reason k1 left
+        → IfErr r (λ f. IsFirstFault (choice_shape (shape_and s (shape_and u no_shapes))) f.reason k old)
+    second_exact e (Ok x) stopped fault = absurd stopped
+    second_exact e (Err f) stopped fault =
+        subst (λ (x : Error). IsFirstFault (choice_shape (shape_and s (shape_and u no_shapes))) x.reason k old) (sym stopped)
+        (inr (record {
+          entries = entries;
+          rest = middle;
+          read = read;
+          fault = inr (record {
+            entries = ds;
+            rest = left;
+            read = subst (λ n. Reads (Spells s) n middle ds left) (first_count ∙ are.each 0 (lit< tt)) first;
+            fault = inl (subst (λ n. IsFirstFault u e.reason n left) (second_count ∙ are.each 1 (lit< tt)) fault);
+          });
+        }))
 
 -- what is left behind the variants and what stands behind the first payloads are ends of the input
 pub first_rest : {T : Type 0} {k : ℕ} {old middle entries : List ℕ} (new : List ℕ) (r : Result T Error) → Reads (SpellsVariants 2) k old entries middle

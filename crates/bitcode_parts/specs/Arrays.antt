@@ -1,7 +1,5 @@
 -- Arrays of one size. Their columns are those of all their elements, and the elements make up the arrays again.
-use Rattle.std.specs.Prelude.{◌≡◌, ℕ, zero, suc, ◌+◌, ◌-◌, ◌*◌, ◌/◌, ◌^◌, ◌<◌, ◌≤◌, List, min, replicate, ◌⊎◌}
-use Rattle.bitcode_memory.specs.declared.error.Reason.{Reason}
-use Rattle.bitcode_memory.specs.declared.error.Reason.TheVariants.{LengthOverflow}
+use Rattle.std.specs.Prelude.{ℕ, zero, suc, ◌+◌, ◌-◌, ◌*◌, ◌/◌, ◌^◌, ◌≤◌, List, min, replicate, ◌⊎◌}
 use Rattle.bitcode_shapes.specs.Datum.{Datum}
 use Rattle.bitcode_coder.specs.Coder.{endless_room}
 use Rattle.bitcode_parts.specs.Lists.{lists_of}
@@ -21,8 +19,3 @@ ArraysOverflow size overflows elements count more = (2 ^ 64 ≤ (count + more) *
 -- the elements of so many arrays, grouped into arrays
 abbrev pub arrays_of : (size count : ℕ) → List Datum → List Datum
 arrays_of size count elements = lists_of (replicate count size) elements
-
--- The first fault of reading arrays: their number times their size does not fit in a length, or reading that many
--- elements fails.
-abbrev pub ArrayFaults : (size : ℕ) (faults : Reason → ℕ → List ℕ → Type 0) → Reason → ℕ → List ℕ → Type 0
-ArrayFaults size faults reason k input = ((2 ^ 64 ≤ k * size) × (reason ≡ LengthOverflow)) ⊎ ((k * size < 2 ^ 64) × faults reason (k * size) input)

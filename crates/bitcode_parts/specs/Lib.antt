@@ -1,7 +1,6 @@
 pub mod Variants
 pub mod Payloads
 pub mod BareVariants
-pub mod TwoVariants
 pub mod TwoVariantLaws
 pub mod Options
 pub mod Convert

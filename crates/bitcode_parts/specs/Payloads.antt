@@ -57,22 +57,6 @@ abbrev pub IsPayloadsRefusal : Shapes → (index : ℕ) (variants : List ℕ) �
 IsPayloadsRefusal shapes index variants reason input =
     IsReadingReason reason × (reason ≢ OutOfMemory → (lists : List (List Datum)) (rest : List ℕ) → ReadsPayloads shapes index variants input lists rest → ⊥)
 
--- ---- faults
-
--- the variants can be read, and the rest of the input has a fault
-pub record FaultsBehindVariants (count k : ℕ) (Fault : (variants rest : List ℕ) → Type 0) (input : List ℕ) : Type 0 where
-  pub variants : List ℕ
-  pub rest : List ℕ
-  pub read : Reads (SpellsVariants count) k input variants rest
-  pub fault : Fault variants rest
-
--- so many payloads can be read, and the rest of the input has a fault
-pub record FaultsBehindPayloads (shape : Shape) (k : ℕ) (Fault : (rest : List ℕ) → Type 0) (input : List ℕ) : Type 0 where
-  pub payloads : List Datum
-  pub rest : List ℕ
-  pub read : Reads (Spells shape) k input payloads rest
-  pub fault : Fault rest
-
 -- ---- writing
 
 -- the columns of the payloads of a choice, variant by variant from an index on

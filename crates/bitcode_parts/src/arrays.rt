@@ -1,17 +1,20 @@
 //! The coders of arrays.
 ghost use Rattle.std.specs.Prelude.{◌≡◌, ◌≢◌, ◌+◌, ◌*◌, ◌^◌, ◌<◌, ◌≤◌, ◌==◌, ◌||◌, IsTrue, IsOk, IfOk, OnOk, IfErr};
-ghost use Rattle.std.specs.Prelude.{OnErr, IsErrOf};
+ghost use Rattle.std.specs.Prelude.{◌↔◌, OnErr, IsErrOf};
 ghost use Rattle.bitcode_columns.specs.Reading.{Reads, IsEndOf};
 ghost use Rattle.bitcode_shapes.specs.Shape.{array_shape};
 ghost use Rattle.bitcode_coder.specs.Coder.{IsWritingRefusal, IsReadingRefusal};
+ghost use Rattle.bitcode_coder.specs.FirstFault.{IsFirstFault};
+ghost use Rattle.bitcode_coder.specs.ColumnFree.{has_entry, count_if_free, free_count, saturated};
 ghost use Rattle.bitcode_coder.specs.Spelling.{Spells};
-ghost use Rattle.bitcode_coder.specs.Strict.{JudgesData};
+ghost use Rattle.bitcode_coder.specs.Strict.{JudgesData, StrictlySpells};
 ghost use Rattle.bitcode_coder.specs.Transposition.{array_columns};
-ghost use Rattle.bitcode_parts.specs.Arrays.{array_room, ArraysOverflow, arrays_of, ArrayFaults};
+ghost use Rattle.bitcode_parts.specs.Arrays.{array_room, ArraysOverflow, arrays_of};
 ghost use Rattle.bitcode_parts.specs.ArrayLaws.{arrays_of_shape, arrays_overflow, same_array_shape};
 
 use crate::lists::sequence::{decode_each, encode_each};
 use bitcode_coder::coder::{Buffer, Decoder, Encoder, HoldsColumns, HoldsData, View};
+use bitcode_coder::column_free::ColumnFree;
 use bitcode_memory::consume::mul_length;
 use bitcode_memory::error::{Error, Reason};
 use bitcode_memory::refuse::err;
@@ -141,7 +144,8 @@ impl<D: HoldsData, const N: usize> HoldsData for ArrayDecoder<D, N> {
 }
 
 impl<'a, D: View<'a>, const N: usize> View<'a> for ArrayDecoder<D, N> {
-    ghost faults = { ArrayFaults N D.faults };
+    ghost free_inside = { λ d. count_if_free (has_entry D.shape) (d.left * N)
+        + D.free_inside d.elements };
 
     fn new(alloc: Global) -> Self {
         ArrayDecoder {
@@ -155,13 +159,18 @@ impl<'a, D: View<'a>, const N: usize> View<'a> for ArrayDecoder<D, N> {
         ensures read { OnOk result
             (Reads (Spells (array_shape N D.shape)) k input.old.now
             (arrays_of N self.new.left (D.held self.new.elements)) input.new.now) }
+        ensures counted { OnOk result
+            (saturated (count_if_free (has_entry D.shape) (self.new.left * N)
+            + D.free_inside self.new.elements) ≡ saturated (free_count (array_shape N D.shape)
+            (arrays_of N self.new.left (D.held self.new.elements)))) }
         ensures judged { IsTrue strict → IfOk result
             (λ written. JudgesData (array_shape N D.shape)
             (arrays_of N self.new.left (D.held self.new.elements)) written input.old.now
             input.new.now) }
         ensures refused { IfErr result
             (λ e. IsReadingRefusal (array_shape N D.shape) e.reason k input.old.now) }
-        ensures exact { IfErr result (λ e. ArrayFaults N D.faults e.reason k input.old.now) }
+        ensures exact { IfErr result
+            (λ e. IsFirstFault (array_shape N D.shape) e.reason k input.old.now) }
         ensures rest { OnErr result (IsEndOf input.old.now input.new.now) }
         ensures unread { 2 ^ 64 ≤ k * N → input.new.now ≡ input.old.now }
     {
@@ -169,6 +178,71 @@ impl<'a, D: View<'a>, const N: usize> View<'a> for ArrayDecoder<D, N> {
         let written = self.elements.read(input, count, strict)?;
         self.left = k;
         Ok(written)
+    }
+
+    fn column_free(&self) -> ColumnFree {
+        let elements = self.elements.column_free();
+        ColumnFree {
+            has_entry: N > 0 && elements.has_entry,
+            inside: elements.in_arrays(self.left, N),
+        }
+    }
+}
+
+impl<D, const N: usize> ArrayDecoder<D, N> {
+    /// Reads `k` arrays as [`View::populate`] does. If their elements are too many for a length, it leaves the input
+    /// unchanged.
+    ///
+    /// ```rust
+    /// let mut input: &[u8] = &[1, 2, 3];
+    /// let mut decoder: ArrayDecoder<IntDecoder<u8>, 3> = ArrayDecoder::new(alloc);
+    /// assert!(rt; decoder.populate(&mut input, usize::MAX).is_err());
+    /// assert_eq!(rt; input.len(), 3);
+    /// ```
+    pub fn populate<'a>(&mut self, input: &mut &'a [u8], k: usize) -> Result<(), Error>
+    where
+        D: View<'a>,
+        ensures read { OnOk result
+            (Reads (Spells (array_shape N D.shape)) k input.old.now
+            (arrays_of N self.new.left (D.held self.new.elements)) input.new.now) }
+        ensures refused { IfErr result
+            (λ e. IsReadingRefusal (array_shape N D.shape) e.reason k input.old.now) }
+        ensures exact { IfErr result
+            (λ e. IsFirstFault (array_shape N D.shape) e.reason k input.old.now) }
+        ensures rest { OnErr result (IsEndOf input.old.now input.new.now) }
+        ensures unread { 2 ^ 64 ≤ k * N → input.new.now ≡ input.old.now }
+    {
+        self.read(input, k, false)?;
+        Ok(())
+    }
+
+    /// Reads `k` arrays as [`View::populate_strict`] does. If their elements are too many for a length, it leaves the
+    /// input unchanged.
+    ///
+    /// ```rust
+    /// let mut input: &[u8] = &[1, 2, 3];
+    /// let mut decoder: ArrayDecoder<IntDecoder<u8>, 3> = ArrayDecoder::new(alloc);
+    /// assert!(rt; decoder.populate_strict(&mut input, usize::MAX).is_err());
+    /// assert_eq!(rt; input.len(), 3);
+    /// ```
+    pub fn populate_strict<'a>(&mut self, input: &mut &'a [u8], k: usize) -> Result<bool, Error>
+    where
+        D: View<'a>,
+        ensures read { OnOk result
+            (Reads (Spells (array_shape N D.shape)) k input.old.now
+            (arrays_of N self.new.left (D.held self.new.elements)) input.new.now) }
+        ensures strict { IfOk result
+            (λ written. IsTrue written
+            ↔ Reads (StrictlySpells (array_shape N D.shape)) k input.old.now
+            (arrays_of N self.new.left (D.held self.new.elements)) input.new.now) }
+        ensures refused { IfErr result
+            (λ e. IsReadingRefusal (array_shape N D.shape) e.reason k input.old.now) }
+        ensures exact { IfErr result
+            (λ e. IsFirstFault (array_shape N D.shape) e.reason k input.old.now) }
+        ensures rest { OnErr result (IsEndOf input.old.now input.new.now) }
+        ensures unread { 2 ^ 64 ≤ k * N → input.new.now ≡ input.old.now }
+    {
+        self.read(input, k, true)
     }
 }
 

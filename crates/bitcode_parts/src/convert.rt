@@ -5,6 +5,7 @@ ghost use Rattle.bitcode_coder.specs.Coder.{ListsAsToo, MakesToo};
 ghost use Rattle.bitcode_parts.specs.Convert.{IsWrittenAs, surely_as};
 
 use bitcode_coder::coder::{Buffer, Decoder, Encoder, HoldsColumns, HoldsData, View};
+use bitcode_coder::column_free::ColumnFree;
 use bitcode_memory::error::{Error, Reason};
 use bitcode_shapes::shaped::Shaped;
 use std::alloc::Global;
@@ -154,7 +155,7 @@ impl<T: Drop, D: HoldsData> HoldsData for ConvertFromDecoder<T, D> {
 }
 
 impl<'a, T: Drop, D: View<'a>> View<'a> for ConvertFromDecoder<T, D> {
-    ghost faults = { λ reason k input. D.faults reason k input };
+    ghost free_inside = { λ d. D.free_inside d.inner };
 
     fn new(alloc: Global) -> Self {
         ConvertFromDecoder {
@@ -166,6 +167,10 @@ impl<'a, T: Drop, D: View<'a>> View<'a> for ConvertFromDecoder<T, D> {
 
     fn read(&mut self, input: &mut &'a [u8], k: usize, strict: bool) -> Result<bool, Error> {
         self.inner.read(input, k, strict)
+    }
+
+    fn column_free(&self) -> ColumnFree {
+        self.inner.column_free()
     }
 }
 

@@ -6,6 +6,7 @@ ghost use Rattle.bitcode_coder.specs.Columns.{no_columns};
 ghost use Rattle.bitcode_coder.specs.Coder.{endless_room};
 
 use bitcode_coder::coder::{Buffer, Decoder, Encoder, HoldsColumns, HoldsData, View};
+use bitcode_coder::column_free::ColumnFree;
 use bitcode_memory::error::Error;
 use std::alloc::Global;
 
@@ -67,7 +68,7 @@ impl HoldsData for EmptyCoder {
 }
 
 impl<'a> View<'a> for EmptyCoder {
-    ghost faults = { λ reason k input. ⊥ };
+    ghost free_inside = { λ d. 0 };
 
     fn new(_alloc: Global) -> Self {
         EmptyCoder { left: 0 }
@@ -76,6 +77,13 @@ impl<'a> View<'a> for EmptyCoder {
     fn read(&mut self, _input: &mut &'a [u8], k: usize, _strict: bool) -> Result<bool, Error> {
         self.left = k;
         Ok(true)
+    }
+
+    fn column_free(&self) -> ColumnFree {
+        ColumnFree {
+            has_entry: false,
+            inside: 0,
+        }
     }
 }
 

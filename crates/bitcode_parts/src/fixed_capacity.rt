@@ -1,17 +1,18 @@
 //! The decoder of vectors with a fixed capacity: the decoder of sequences, with a limit on the lengths.
 #![tactic(auto, unfolding(bitcode_coder::specs::Length::lengths_left, bitcode_coder::specs::Length::lengths_sum))]
 
-ghost use Rattle.std.specs.Prelude.{◌+◌, ◌≤◌, ◌⊎◌, Some, All, false, length, refl};
+ghost use Rattle.std.specs.Prelude.{◌+◌, ◌≤◌, Some, All, false, length, refl};
 ghost use Rattle.std.proofs.Common.{ap};
 ghost use Rattle.std.proofs.Props.{props};
 ghost use Rattle.bitcode_shapes.specs.Shape.{seq_shape};
-ghost use Rattle.bitcode_coder.specs.Length.{lengths_left, lengths_owned};
-ghost use Rattle.bitcode_coder.specs.LengthParts.{NamesLengthFault};
-ghost use Rattle.bitcode_parts.specs.Lists.{lists_of, BreaksLimit, FaultsInElements};
+ghost use Rattle.bitcode_coder.specs.ColumnFree.{has_entry, count_if_free};
+ghost use Rattle.bitcode_coder.specs.Length.{lengths_left, lengths_owned, lengths_sum};
+ghost use Rattle.bitcode_parts.specs.Lists.{lists_of};
 
 use crate::lists::sequence::{Sequence, encode_each};
 use arrayvec::ArrayVec;
 use bitcode_coder::coder::{Decoder, Encoder, HoldsData, View, both};
+use bitcode_coder::column_free::ColumnFree;
 use bitcode_coder::length::LengthDecoder;
 use bitcode_memory::error::{Error, Reason};
 use bitcode_memory::refuse::err;
@@ -48,8 +49,8 @@ impl<'a, D: HoldsData, const N: usize> HoldsData for ArrayVecDecoder<'a, D, N> {
 }
 
 impl<'a, D: View<'a>, const N: usize> View<'a> for ArrayVecDecoder<'a, D, N> {
-    ghost faults = { λ reason k input. NamesLengthFault reason k input
-        ⊎ (FaultsInElements D.faults reason k input ⊎ BreaksLimit N D.shape reason k input) };
+    ghost free_inside = { λ d. count_if_free (has_entry D.shape) (lengths_sum d.lengths)
+        + D.free_inside d.elements };
 
     fn new(alloc: Global) -> Self {
         ArrayVecDecoder {
@@ -68,6 +69,13 @@ impl<'a, D: View<'a>, const N: usize> View<'a> for ArrayVecDecoder<'a, D, N> {
         }
         self.lengths = lengths;
         Ok(both(lengths_written, elements_written))
+    }
+
+    fn column_free(&self) -> ColumnFree {
+        ColumnFree {
+            has_entry: true,
+            inside: self.elements.column_free().in_lists(self.lengths.length()),
+        }
     }
 }
 

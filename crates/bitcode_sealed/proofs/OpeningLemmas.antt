@@ -25,16 +25,16 @@ module _ (expected : Expected) (fits : LabelFits expected.label) (encoding bytes
   same_value : (value rest : List ℕ) → IsSealedFront expected bytes value rest → value ≡ encoding
   same_value value rest front = only_value expected.label expected.label encoding value rest bytes below is front.whole
 
-  pub only_for_memory : (faults : Reason → ℕ → List ℕ → Type 0) (free : Bool) (own shape : Shape) (fault : OpenError)
+  pub only_for_memory : (free : Bool) (own shape : Shape) (fault : OpenError)
       → ((reason : Reason) → (reason ≢ OutOfMemory → (d : Datum) → SpellsDatum shape encoding d → ⊥) → reason ≡ OutOfMemory)
-      → IsRefusal faults free own shape expected bytes fault → IsOutOfMemory fault
-  only_for_memory faults free own shape fault memory (all_not_sealed f) =
+      → IsRefusal free own shape expected bytes fault → IsOutOfMemory fault
+  only_for_memory free own shape fault memory (all_not_sealed f) =
       let short : length encoding ≤ expected.most_bytes = omega (arith, size, room) in
       absurd (no_fault expected.label fits encoding [] bytes below whole expected fault refl short f)
-  only_for_memory faults free own shape fault memory (bytes_left_over value rest _ front some) =
+  only_for_memory free own shape fault memory (bytes_left_over value rest _ front some) =
       let more = long expected.label fits value rest bytes below front.whole in
       absurd (omega (arith, some, more, size, ap length (same_value value rest front)))
-  only_for_memory faults free own shape fault memory (all_not_decoded value front refusal) =
+  only_for_memory free own shape fault memory (all_not_decoded value front refusal) =
       let same = same_value value [] front in
       subst IsOutOfMemory (sym refusal.named)
       (memory refusal.error.reason (λ other d spelled. refusal.refused other d (subst (λ b. SpellsDatum shape b d) (sym same) spelled)))

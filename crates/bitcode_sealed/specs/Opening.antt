@@ -1,7 +1,6 @@
 -- What is opened, and what is refused.
 use Rattle.std.specs.Prelude.{◌≡◌, ◌≢◌, ℕ, ◌<◌, Bool, List, [], length}
 use Rattle.bitcode_memory.specs.declared.error.Error.{Error}
-use Rattle.bitcode_memory.specs.declared.error.Reason.{Reason}
 use Rattle.bitcode_memory.specs.declared.error.Reason.TheVariants.{OutOfMemory}
 use Rattle.bitcode_shapes.specs.Datum.{Datum}
 use Rattle.bitcode_shapes.specs.Shape.{Shape}
@@ -23,23 +22,23 @@ abbrev pub IsOpeningOf : {T : Type 0} → (Datum → T → Type 0) → Shape →
 IsOpeningOf makes shape expected bytes t = IsOpeningOfFront makes shape expected bytes t []
 
 -- the fault is what `decode` refuses the value's bytes for
-pub record IsDecodingRefusal (faults : Reason → ℕ → List ℕ → Type 0) (makes_free : Bool) (own shape : Shape) (value : List ℕ) (fault : OpenError) : Type 0 where
+pub record IsDecodingRefusal (makes_free : Bool) (own shape : Shape) (value : List ℕ) (fault : OpenError) : Type 0 where
   pub error : Error
   pub named : fault ≡ Value error
   pub reasons : IsReadingReason error.reason
   pub refused : error.reason ≢ OutOfMemory → (d : Datum) → SpellsDatum shape value d → ⊥
-  pub exact : NamesWholeFault faults makes_free own error.reason value
+  pub exact : NamesWholeFault makes_free own error.reason value
 
 -- why the front of an input is not opened
-pub data IsRefusalOfFront (faults : Reason → ℕ → List ℕ → Type 0) (makes_free : Bool) (own shape : Shape) (expected : Expected) (input : List ℕ) (fault : OpenError) : Type 0 where
-  front_not_sealed : IsFault expected input fault → IsRefusalOfFront faults makes_free own shape expected input fault
-  front_not_decoded : (value rest : List ℕ) → IsSealedFront expected input value rest → IsDecodingRefusal faults makes_free own shape value fault
-      → IsRefusalOfFront faults makes_free own shape expected input fault
+pub data IsRefusalOfFront (makes_free : Bool) (own shape : Shape) (expected : Expected) (input : List ℕ) (fault : OpenError) : Type 0 where
+  front_not_sealed : IsFault expected input fault → IsRefusalOfFront makes_free own shape expected input fault
+  front_not_decoded : (value rest : List ℕ) → IsSealedFront expected input value rest → IsDecodingRefusal makes_free own shape value fault
+      → IsRefusalOfFront makes_free own shape expected input fault
 
 -- why all of an input is not opened
-pub data IsRefusal (faults : Reason → ℕ → List ℕ → Type 0) (makes_free : Bool) (own shape : Shape) (expected : Expected) (input : List ℕ) (fault : OpenError) : Type 0 where
-  all_not_sealed : IsFault expected input fault → IsRefusal faults makes_free own shape expected input fault
+pub data IsRefusal (makes_free : Bool) (own shape : Shape) (expected : Expected) (input : List ℕ) (fault : OpenError) : Type 0 where
+  all_not_sealed : IsFault expected input fault → IsRefusal makes_free own shape expected input fault
   bytes_left_over : (value rest : List ℕ) → fault ≡ BytesLeftOver (length rest) → IsSealedFront expected input value rest → 0 < length rest
-      → IsRefusal faults makes_free own shape expected input fault
-  all_not_decoded : (value : List ℕ) → IsSealedFront expected input value [] → IsDecodingRefusal faults makes_free own shape value fault
-      → IsRefusal faults makes_free own shape expected input fault
+      → IsRefusal makes_free own shape expected input fault
+  all_not_decoded : (value : List ℕ) → IsSealedFront expected input value [] → IsDecodingRefusal makes_free own shape value fault
+      → IsRefusal makes_free own shape expected input fault

@@ -67,7 +67,7 @@ where
     ensures refused { IsSealingOf T.data.lists T.data.shape label t.now bytes.now
         → HasShortLengths T.data.lists T.data.shape t.now → expected.now.label ≡ label
         → length bytes.now ≤ expected.now.most_bytes + 24
-        → IfErr again.now (λ e. IsRefusal T.Decoder.faults T.Decoder.makes_free T.Decoder.shape
+        → IfErr again.now (λ e. IsRefusal T.Decoder.makes_free T.Decoder.shape
         T.data.shape expected.now bytes.now e)
         → IfErr again.now (λ e. IsOutOfMemory e) }
 {

@@ -59,8 +59,8 @@ fn bytes_to_skip(expected: &Expected, input: &[u8]) -> Result<usize, (u64, u64)>
 /// - `Skipped`: the first `OpenError` of the front, and how many bytes were skipped. If a whole value is there, under
 ///   whatever label, it is skipped. Otherwise the input then begins at the next position where sealed bytes may begin.
 /// - `EndCutOff`: the input ends within sealed bytes, whose value has at most `most_bytes` bytes. The input is
-///   unchanged: a reader of a stream appends to it and calls again, and at the end of a journal the last record is
-///   torn. An empty input is such an end, with 0 bytes of 20.
+///   unchanged: a reader of a stream appends to it and calls again, and at the end of a journal the last record is torn.
+///   An empty input is such an end, with 0 bytes of 20.
 ///
 /// Errors: `out of memory` if an allocation fails. The input is then unchanged.
 ///
@@ -81,11 +81,11 @@ pub fn open_next<'a, T: HasDecoder<'a> + Shaped + Drop>(
 where
     T::Decoder: View<'a> + Decoder<T> + Drop,
     ensures found { IfOk result (λ next. IsNextOf T.data.makes T.data.shape
-        (λ e. IsRefusalOfFront T.Decoder.faults T.Decoder.makes_free T.Decoder.shape T.data.shape
+        (λ e. IsRefusalOfFront T.Decoder.makes_free T.Decoder.shape T.data.shape
         expected.now input.old.now e) expected.now input.old.now input.new.now next) }
     ensures memory { IfErr result (λ e. e.reason ≡ Reason.OutOfMemory) }
     ensures refused { IfErr result
-        (λ e. IsRefusalOfFront T.Decoder.faults T.Decoder.makes_free T.Decoder.shape T.data.shape
+        (λ e. IsRefusalOfFront T.Decoder.makes_free T.Decoder.shape T.data.shape
         expected.now input.old.now (OpenError.Value e)) }
     ensures unchanged { OnErr result (input.new.now ≡ input.old.now) }
 {

@@ -77,7 +77,7 @@ where
     T::Decoder: View<'a> + Decoder<T> + Drop,
     ensures found { IfOk result (λ t. IsDecodingOf T.data.makes T.data.shape value.now t) }
     ensures refused { IfErr result
-        (λ e. IsDecodingRefusal T.Decoder.faults T.Decoder.makes_free T.Decoder.shape T.data.shape
+        (λ e. IsDecodingRefusal T.Decoder.makes_free T.Decoder.shape T.data.shape
         value.now e) }
 {
     match decode(alloc, value) {
@@ -106,7 +106,7 @@ where
     ensures found { IfOk result
         (λ t. IsOpeningOf T.data.makes T.data.shape expected.now bytes.now t) }
     ensures refused { IfErr result
-        (λ e. IsRefusal T.Decoder.faults T.Decoder.makes_free T.Decoder.shape T.data.shape
+        (λ e. IsRefusal T.Decoder.makes_free T.Decoder.shape T.data.shape
         expected.now
         bytes.now e) }
 {
@@ -145,7 +145,7 @@ where
         (λ t. IsOpeningOfFront T.data.makes T.data.shape expected.now input.old.now t
         input.new.now) }
     ensures refused { IfErr result
-        (λ e. IsRefusalOfFront T.Decoder.faults T.Decoder.makes_free T.Decoder.shape T.data.shape
+        (λ e. IsRefusalOfFront T.Decoder.makes_free T.Decoder.shape T.data.shape
         expected.now input.old.now e) }
     ensures unchanged { OnErr result (input.new.now ≡ input.old.now) }
 {

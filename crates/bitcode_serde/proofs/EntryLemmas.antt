@@ -10,3 +10,6 @@ pub no_entry : {A : Type 0} (xs : List A) (i : ℕ) → length xs ≤ i → slic
 no_entry [] i h = refl
 no_entry (y ∷ xs) zero h = absurd (let k : suc (length xs) ≤ 0 = h in omega arith)
 no_entry (y ∷ xs) (suc i) h = no_entry xs i (let k : suc (length xs) ≤ suc i = h in omega arith)
+
+pub some_same : {A : Type 0} (x y : A) → Some x ≡ Some y → x ≡ y
+some_same x y e = cc

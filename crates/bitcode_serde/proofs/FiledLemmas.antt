@@ -5,21 +5,21 @@ use Rattle.std.proofs.Math.ListN.{set}
 use Rattle.bitcode_serde.specs.Links.{column_link, AreFiled}
 use Rattle.bitcode_serde.specs.declared.links.Links.{Links}
 
+pub take_get : {C : Type 0} (i : ℕ) (cs : List C) (k : ℕ) (d : C) → k < length (take i cs) → (k < i) × (k < length cs) × (get_or (take i cs) k d ≡ get_or cs k d)
+take_get zero cs k d h = absurd (omega (arith, h))
+take_get (suc i) [] k d h = absurd (omega (arith, h))
+take_get (suc i) (c ∷ cs) zero d h = (omega arith, omega arith, refl)
+take_get (suc i) (c ∷ cs) (suc k) d h =
+    let g = take_get i cs k d (omega (arith, h)) in
+    let below = g.0 in
+    let inside = g.1 in
+    (omega (arith, below), omega (arith, inside), g.2)
+
 module _ {C : Type 0} (place : C → ℕ) where
   got_map : (cs : List C) (k : ℕ) (d : C) → k < length cs → slice_get (map place cs) k ≡ Some (place (get_or cs k d))
   got_map [] k d h = absurd (omega (arith, h))
   got_map (c ∷ cs) zero d h = refl
   got_map (c ∷ cs) (suc k) d h = got_map cs k d (omega (arith, h))
-
-  take_get : (i : ℕ) (cs : List C) (k : ℕ) (d : C) → k < length (take i cs) → (k < i) × (k < length cs) × (get_or (take i cs) k d ≡ get_or cs k d)
-  take_get zero cs k d h = absurd (omega (arith, h))
-  take_get (suc i) [] k d h = absurd (omega (arith, h))
-  take_get (suc i) (c ∷ cs) zero d h = (omega arith, omega arith, refl)
-  take_get (suc i) (c ∷ cs) (suc k) d h =
-      let g = take_get i cs k d (omega (arith, h)) in
-      let below = g.0 in
-      let inside = g.1 in
-      (omega (arith, below), omega (arith, inside), g.2)
 
   some_of : (cs : List C) (i n : ℕ) → slice_get (map place cs) i ≡ Some n → IsSomeAnd (slice_get cs i) (λ c. place c ≡ n)
   some_of [] i n h = cc

@@ -11,26 +11,28 @@ use Rattle.bitcode_coder.specs.Columns.{Kind, Columns, no_columns, one, two, arr
 use Rattle.bitcode_untyped.specs.View.{datum_of}
 use Rattle.bitcode_untyped.specs.declared.value.Value.{Value}
 use Rattle.bitcode_untyped.proofs.EachLemmas.{each_append}
-use Rattle.bitcode_serde.specs.Leaves.{IsEntryIn, HasOther}
+use Rattle.bitcode_serde.specs.Leaves.{entries_in, IsEntryIn, HasOther}
 use Rattle.bitcode_serde.specs.ReadColumns.{kind_of, IsCaseOf}
 use Rattle.bitcode_serde.specs.declared.column.ColumnKind.{ColumnKind}
 use Rattle.bitcode_serde.proofs.WritingLemmas.{all_each}
 
-pub no_third : {A B C : Type 0} → A ⊎ B ⊎ ⊥ → A ⊎ B ⊎ C
-no_third (inl a) = inl a
-no_third (inr (inl b)) = inr (inl b)
-no_third (inr (inr never)) = absurd never
-
-pub one_refused : {A B C O : Type 0} → A ⊎ B ⊎ O → (O → ⊥) → A ⊎ C ⊎ B
-one_refused (inl a) never = inl a
-one_refused (inr (inl b)) never = inr (inr b)
-one_refused (inr (inr o)) never = absurd (never o)
+pub no_overflow : {A B C O : Type 0} → A ⊎ B ⊎ O → (B → ⊥) → (O → ⊥) → A ⊎ C
+no_overflow (inl a) not_sure never = inl a
+no_overflow (inr (inl b)) not_sure never = absurd (not_sure b)
+no_overflow (inr (inr o)) not_sure never = absurd (never o)
 
 pub memory_of_one : {A B C : Type 0} {reason : Reason} → (reason ≡ OutOfMemory) ⊎ (B × C) → (C → ⊥) → (reason ≡ OutOfMemory) ⊎ A
 memory_of_one (inl memory) never = inl memory
 memory_of_one (inr away) never = absurd (never away.1)
 
 -- ---- one column beside others
+
+pub entries_beside : (old new : Columns) (kind : Kind) (ds : List Datum) → emptied old ≡ one kind [] → new ≡ beside old (one kind ds)
+    → entries_in new ≡ entries_in old ++ ds
+entries_beside no_columns new kind ds form h = cc
+entries_beside (one k es) new kind ds form h = ap entries_in h
+entries_beside (two a b) new kind ds form h = cc
+entries_beside (arrays size count elements) new kind ds form h = cc
 
 beside_none : (c : Columns) (kind : Kind) → emptied c ≡ one kind [] → c ≡ beside c (one kind [])
 beside_none no_columns kind h = refl

@@ -1,53 +1,49 @@
 -- What is kept of units, leaves, lists of bytes, and data without a column.
-use Rattle.std.proofs.Common.{◌≡◌, ℕ, zero, suc, ◌+◌, List, [], ◌∷◌, length, map, true, refl, ap, sym, subst, ◌∙◌, arith, Vec}
+use Rattle.std.proofs.Common.{◌≡◌, ℕ, zero, suc, ◌+◌, Some, List, [], ◌∷◌, length, map, true, refl, ap, sym, subst, ◌∙◌, arith, Vec}
 use Rattle.std.specs.Prelude.{Result, Ok, Err, IfOk}
 use Rattle.std.specs.Global.{Global}
 use Rattle.std.specs.List.{AllByRecursion}
 use Rattle.bitcode_memory.specs.declared.error.Error.{Error}
-use Rattle.bitcode_shapes.specs.Datum.{Datum, unit, list, data_of}
+use Rattle.bitcode_shapes.specs.Datum.{Datum, unit, list, pair, data_of}
 use Rattle.bitcode_coder.specs.Spelling.{natural}
 use Rattle.bitcode_untyped.specs.Bounds.{column_free}
 use Rattle.bitcode_untyped.specs.Faults.{faults_of}
+use Rattle.bitcode_untyped.specs.Leaves.{Entry, entry_of}
 use Rattle.bitcode_untyped.specs.Nodes.{node_count, node_counts}
 use Rattle.bitcode_untyped.specs.ShapeTree.{ShapeTree, unit_tree}
-use Rattle.bitcode_untyped.specs.View.{datum_of, followed, tree_by, tree_of_node}
+use Rattle.bitcode_untyped.specs.View.{datum_of, datum_of_entry, followed, tree_by, tree_of_node}
 use Rattle.bitcode_untyped.specs.declared.shape.ShapeNode.{ShapeNode}
-use Rattle.bitcode_untyped.specs.declared.value.Value.{Value}
+use Rattle.bitcode_untyped.specs.declared.value.Value.{Value, out-Value}
+use Rattle.bitcode_untyped.specs.declared.value.Value.TheOpen.{Value-F}
 use Rattle.bitcode_untyped.specs.declared.value.Value.TheVariants as value
 use Rattle.bitcode_untyped.proofs.FreeLemmas.{free_datum, free_read}
+use Rattle.bitcode_untyped.proofs.LeafLemmas.{leaf_datum}
 use Rattle.bitcode_untyped.proofs.ReadLemmas.{unit_read}
-use Rattle.bitcode_untyped.proofs.ViewLemmas.{datum-Unit, datum-Bool, datum-U8, datum-U16, datum-U32, datum-U64, datum-U128, datum-I8, datum-I16, datum-I32, datum-I64, datum-I128, datum-Str}
-use Rattle.bitcode_serde.specs.Budget.{spend}
+use Rattle.bitcode_untyped.proofs.ViewLemmas.{datum-Unit}
+use Rattle.bitcode_serde.specs.Budget.{spend, KeepsEach}
 use Rattle.bitcode_serde.specs.ReadColumns.{IsCaseOf}
 use Rattle.bitcode_serde.specs.ReadingValues.{HasColumn, Continues, ReadsAt, ReadsListAt, ReadsLeafAt, AddsRead, ReadsWithin, ReadsListWithin, AddsWithin}
 use Rattle.bitcode_serde.specs.declared.budget.Budget.{Budget}
 use Rattle.bitcode_serde.specs.declared.budget.Budget.TheVariants.{Spent}
 use Rattle.bitcode_serde.specs.declared.column.ColumnKind.{ColumnKind}
-use Rattle.bitcode_serde.specs.declared.column.ColumnKind.TheVariants as kind
 use Rattle.bitcode_serde.specs.declared.reader.Reader.{Reader}
 use Rattle.bitcode_serde.proofs.BudgetLemmas.{spend-then, spend-Spent, keeps_more}
-use Rattle.bitcode_serde.proofs.ValueLemmas.{one_more}
+use Rattle.bitcode_serde.proofs.ValueLemmas.{asked_alike, one_more, ReadsPairsAt, one_more_pair}
 
 -- ---- one node
 
-nodes_of_case : {A : Type 0} (v : Value) (made : A → Value) (d : A → Datum) → ((a : A) → datum_of (made a) ≡ d a) → ((a : A) → node_count (d a) ≡ 1)
-    → (a : A) × (v ≡ made a) → node_count (datum_of v) ≡ 1
-nodes_of_case v made d is one h = ap (λ w. node_count (datum_of w)) h.1 ∙ ap node_count (is h.0) ∙ one h.0
+entry_nodes : (y : Value-F Value) (e : Entry) → entry_of y ≡ Some e → node_count e.datum ≡ 1
+entry_nodes Value-F.Unit e h = cc
+entry_nodes (Value-F.Bytes v) e h = cc
+entry_nodes (Value-F.Option o) e h = cc
+entry_nodes (Value-F.Seq v) e h = cc
+entry_nodes (Value-F.Map v) e h = cc
+entry_nodes (Value-F.Tuple v) e h = cc
+entry_nodes (Value-F.Enum i b) e h = cc
+entry_nodes y e h = sym (ap (λ o. node_count (datum_of_entry o)) h)
 
 pub one_node : (k : ColumnKind) (v : Value) → IsCaseOf k v → node_count (datum_of v) ≡ 1
-one_node kind.Bools v h = nodes_of_case v (λ x. value.Bool x) _ datum-Bool (λ a. refl) h
-one_node kind.Bytes v h = nodes_of_case v (λ x. value.U8 x) _ datum-U8 (λ a. refl) h
-one_node kind.U16 v h = nodes_of_case v (λ x. value.U16 x) _ datum-U16 (λ a. refl) h
-one_node kind.U32 v h = nodes_of_case v (λ x. value.U32 x) _ datum-U32 (λ a. refl) h
-one_node kind.U64 v h = nodes_of_case v (λ x. value.U64 x) _ datum-U64 (λ a. refl) h
-one_node kind.U128 v h = nodes_of_case v (λ x. value.U128 x) _ datum-U128 (λ a. refl) h
-one_node kind.I8 v h = nodes_of_case v (λ x. value.I8 x) _ datum-I8 (λ a. refl) h
-one_node kind.I16 v h = nodes_of_case v (λ x. value.I16 x) _ datum-I16 (λ a. refl) h
-one_node kind.I32 v h = nodes_of_case v (λ x. value.I32 x) _ datum-I32 (λ a. refl) h
-one_node kind.I64 v h = nodes_of_case v (λ x. value.I64 x) _ datum-I64 (λ a. refl) h
-one_node kind.I128 v h = nodes_of_case v (λ x. value.I128 x) _ datum-I128 (λ a. refl) h
-one_node kind.Lengths v h = nodes_of_case v (λ x. value.U64 x) _ datum-U64 (λ a. refl) h
-one_node kind.Texts v h = nodes_of_case v (λ x. value.Str x) _ datum-Str (λ a. refl) h
+one_node k v h = ap node_count (leaf_datum v _ h.1) ∙ entry_nodes (out-Value v) _ h.1
 
 pub each_one_node : (k : ColumnKind) (vs : List Value) → AllByRecursion (IsCaseOf k) vs → node_counts (data_of (map datum_of vs)) ≡ length vs
 each_one_node k [] h = refl
@@ -115,3 +111,22 @@ rest_within s place old mid before vs (suc n) i c free k =
     (one_more s place old mid mid i k.listing d c k.read (λ p at a st. (a, st, free_read s p a free))) (sym (spend-Spent (node_count d))) (λ h. absurd h) (λ h. absurd h) in
     let e : i + 1 + n ≡ i + suc n = omega arith in
     subst (λ j. ReadsListWithin s place old before j vs mid Spent) e (rest_within s place old mid before vs n (i + 1) c free more)
+
+-- Further pairs without a column are read where they stand.
+pub rest_pairs_within : {A : Type 0} (content : A → Datum) (k v : ShapeTree) (keys values : ℕ) (old mid : Reader) (before : Budget) (es : List A) (e : A) (n i : ℕ)
+    → Continues old mid → column_free k ≡ true → column_free v ≡ true
+    → KeepsEach content (λ ds. ReadsPairsAt k v keys values old i ds mid) before es Spent
+    → KeepsEach content (λ ds. ReadsPairsAt k v keys values old (i + n) ds mid) before es Spent
+rest_pairs_within content k v keys values old mid before es e zero i c free_key free_value so_far =
+    let same : i ≡ i + 0 = omega arith in subst (λ j. KeepsEach content (λ ds. ReadsPairsAt k v keys values old j ds mid) before es Spent) same so_far
+rest_pairs_within content k v keys values old mid before es e (suc n) i c free_key free_value so_far =
+    let stays : Continues mid mid = record { steady = c.steady; asked = asked_alike mid; kept = λ j p at. at } in
+    let x = free_datum k in
+    let y = free_datum v in
+    let more : KeepsEach content (λ ds. ReadsPairsAt k v keys values old (i + 1) ds mid) before es Spent =
+    keeps_more content (λ ds. ReadsPairsAt k v keys values old i ds mid) (λ ds. ReadsPairsAt k v keys values old (i + 1) ds mid) before Spent Spent es es e (pair x y) so_far
+    (one_more_pair k v keys values old mid i so_far.listing c so_far.read mid mid x y stays (λ p at a st. (a, st, free_read k p a free_key))
+    (λ p at a st. (a, st, free_read v p a free_value))) (sym (spend-Spent (node_count (pair x y)))) (λ h. absurd h) (λ h. absurd h) in
+    let all : i + 1 + n ≡ i + suc n = omega arith in
+    subst (λ j. KeepsEach content (λ ds. ReadsPairsAt k v keys values old j ds mid) before es Spent) all
+    (rest_pairs_within content k v keys values old mid before es e n (i + 1) c free_key free_value more)

@@ -1,5 +1,4 @@
 pub mod IndexLemmas
-pub mod ReasonLemmas
 pub mod ColumnLemmas
 pub mod KindLemmas
 pub mod ReadingLemmas
@@ -11,7 +10,6 @@ pub mod FreeLemmas
 pub mod OutcomeLemmas
 pub mod LinkLemmas
 pub mod PlaceLemmas
-pub mod MetLemmas
 pub mod FiledLemmas
 pub mod EntryLemmas
 pub mod FieldLemmas

@@ -5,6 +5,10 @@ pub when_ok : {A E P Q : Type 0} (r : Result A E) → (P → Q) → OnOk r P →
 when_ok (Ok a) f h = f h
 when_ok (Err e) f h = tt
 
+pub when_err : {A E P Q : Type 0} (r : Result A E) → (P → Q) → OnErr r P → OnErr r Q
+when_err (Ok a) f h = tt
+when_err (Err e) f h = f h
+
 pub if_ok : {A E : Type 0} (P Q : A → Type 0) (r : Result A E) → ((a : A) → P a → Q a) → IfOk r P → IfOk r Q
 if_ok P Q (Ok a) f h = f a h
 if_ok P Q (Err e) f h = tt

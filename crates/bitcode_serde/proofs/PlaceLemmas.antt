@@ -1,13 +1,15 @@
 -- Places by number, and their links.
-use Rattle.std.proofs.Common.{◌≡◌, ℕ, zero, suc, ◌+◌, ◌-◌, ◌<◌, ◌≤◌, ◌⊎◌, inl, inr, List, [], ◌∷◌, ◌++◌, length, take, drop, None, Some, slice_get, refl, ap, sym, subst, ◌∙◌, arith, length-append}
+use Rattle.std.proofs.Common.{◌≡◌, ◌≢◌, true, ℕ, zero, suc, ◌+◌, ◌-◌, ◌<◌, ◌≤◌, ◌⊎◌, inl, inr, List, [], ◌∷◌, ◌++◌, length, take, drop, None, Some, slice_get, refl, ap, sym, subst, ◌∙◌, arith, length-append}
+use Rattle.std.specs.Prelude.{IsSomeAnd}
 use Rattle.std.proofs.lemmas.List.{append-nil}
 use Rattle.bitcode_untyped.specs.Walk.{Place}
-use Rattle.bitcode_serde.specs.Links.{link}
-use Rattle.bitcode_serde.specs.Places.{step_of, place_at, places_from, places, IsPlace, LieBelow, AreApart, AreLinked, LinkBelow, IsGrown}
+use Rattle.bitcode_serde.specs.Links.{is_among, IsUpTo, children, last_field}
+use Rattle.bitcode_serde.specs.Places.{step_of, place_at, places_from, places, IsPlace, LieBelow, AreApart, AreLinked, LinkBelow, IsNew, IsGrown}
 use Rattle.bitcode_serde.specs.declared.links.Links.{Links}
 use Rattle.bitcode_serde.specs.declared.places.Below.{Below}
 use Rattle.bitcode_serde.specs.declared.step.Step.{Step}
 use Rattle.bitcode_serde.specs.declared.step.Step.TheVariants as step
+use Rattle.bitcode_serde.proofs.LinkLemmas.{among_last, among_more, among_new}
 
 -- ---- lists
 
@@ -117,24 +119,26 @@ place_is bs i b lie h =
     let at : suc i ≡ 1 + i = omega arith in
     ap (place_at (places bs)) at ∙ place_unfolds ([] ∷ []) 1 bs i b refl (lie_first bs lie) h
 
--- ---- a link leads to the place
+-- ---- a child is the place
 
-pub linked_place : (bs : List Below) (ls : List Links) (above n : ℕ) (step : Step) → LieBelow bs → LinkBelow bs ls → link ls above step ≡ Some n
-    → (0 < n) × IsPlace bs n (step_of step ∷ place_at (places bs) above)
-linked_place bs ls above n step lie below is =
-    let h = below above n step is in
-    let some = h.0 in
-    let within = h.1 in
-    let b = some_at bs (n - 1) (omega (arith, some, within)) in
-    let here = h.2 b.0 b.1 in
-    let at : n ≡ suc (n - 1) = omega (arith, some) in (
-      some,
-      (
-        within,
-        ap (place_at (places bs)) at ∙ place_is bs (n - 1) b.0 lie b.1 ∙ ap (λ s. step_of s ∷ place_at (places bs) b.0.above) here.1
-            ∙ ap (λ j. step_of step ∷ place_at (places bs) j) here.0,
-      ),
+pub child_place : (bs : List Below) (ls : List Links) (above i : ℕ) (step : Step) → LieBelow bs → LinkBelow bs ls → is_among i (children ls above) ≡ true
+    → IsSomeAnd (slice_get bs i) (λ b. b.step ≡ step) → IsPlace bs (i + 1) (step_of step ∷ place_at (places bs) above)
+child_place bs ls above i step lie below among here =
+    let h = below above i among in
+    let within = h.0 in
+    let b = some_at bs i within in
+    let is = (h.1 b.0 b.1).0 in
+    let same : b.0.step ≡ step = subst (λ o. IsSomeAnd o (λ x. x.step ≡ step)) b.1 here in
+    let at : i + 1 ≡ suc i = omega arith in (
+      omega (arith, within),
+      ap (place_at (places bs)) at ∙ place_is bs i b.0 lie b.1 ∙ ap (λ s. step_of s ∷ place_at (places bs) b.0.above) same
+          ∙ ap (λ j. step_of step ∷ place_at (places bs) j) is,
     )
+
+-- Where none of the children is that step below, no place is.
+pub none_below : (bs : List Below) (ls : List Links) (above : ℕ) (step : Step) → AreLinked bs ls
+    → ((i : ℕ) → is_among i (children ls above) ≡ true → (b : Below) → slice_get bs i ≡ Some b → b.step ≢ step) → IsNew bs (record { above = above; step = step })
+none_below bs ls above step linked none i h = none i (linked i _ h) _ h refl
 
 -- ---- one more place
 
@@ -160,6 +164,9 @@ apart_more ps q apart fresh i j high_i high_j e =
       ]
     ]
 
+same_below : (b c : Below) → b.above ≡ c.above → b.step ≡ c.step → b ≡ c
+same_below b c above step = ap (λ n. record { above = n; step = b.step }) above ∙ ap (λ s. record { above = c.above; step = s }) step
+
 pub length_more : (bs more : List Below) (b : Below) (n : ℕ) → more ≡ bs ++ b ∷ [] → n ≡ length bs → n + 1 ≡ length more
 length_more bs more b n is e = let s = ap length is in let l = length-append bs (b ∷ []) in omega (arith, s, l, e)
 
@@ -184,76 +191,81 @@ module _ (bs more : List Below) (b : Below) (is : more ≡ bs ++ b ∷ []) (lie 
       let at : n ≡ length (places bs) = omega (arith, e, l, s) in
       (omega (arith, e), ap (λ ps. place_at ps n) places_grown ∙ ap (place_at (places bs ++ below_place (places bs) b ∷ [])) at ∙ at_last (places bs) _)
 
-  module _ (ls : List Links) (linked : AreLinked bs ls) (none : link ls b.above b.step ≡ None) where
-    -- each place so far is another
-    fresh : AreApart (places bs) → (j : ℕ) → j < length (places bs) → place_at (places bs) j ≡ below_place (places bs) b → ⊥
-    fresh apart zero h e =
-        let root : place_at (places bs) 0 ≡ [] = root_first bs in
-        let same : [] ≡ below_place (places bs) b = sym root ∙ e in cc
-    fresh apart (suc k) h e =
-        let l = places-length bs in
-        let c = some_at bs k (omega (arith, h, l)) in
-        let same : below_place (places bs) c.0 ≡ below_place (places bs) b = sym (place_is bs k c.0 lie c.1) ∙ e in
-        let steps : step_of c.0.step ≡ step_of b.step = cc in
-        let aboves : place_at (places bs) c.0.above ≡ place_at (places bs) b.above = cc in
-        let under = lie k c.0 c.1 in
-        let numbers : c.0.above ≡ b.above = apart c.0.above b.above (omega (arith, l, under, h)) (omega (arith, l, inside)) aboves in
-        let there : Some (suc k) ≡ None = sym (linked k c.0 c.1) ∙ ap (λ a. link ls a c.0.step) numbers ∙ ap (link ls b.above) (same_step c.0.step b.step steps) ∙ none in
-        cc
+  -- each place so far is another
+  fresh : IsNew bs b → AreApart (places bs) → (j : ℕ) → j < length (places bs) → place_at (places bs) j ≡ below_place (places bs) b → ⊥
+  fresh new apart zero h e =
+      let root : place_at (places bs) 0 ≡ [] = root_first bs in
+      let same : [] ≡ below_place (places bs) b = sym root ∙ e in cc
+  fresh new apart (suc k) h e =
+      let l = places-length bs in
+      let c = some_at bs k (omega (arith, h, l)) in
+      let same : below_place (places bs) c.0 ≡ below_place (places bs) b = sym (place_is bs k c.0 lie c.1) ∙ e in
+      let steps : step_of c.0.step ≡ step_of b.step = cc in
+      let aboves : place_at (places bs) c.0.above ≡ place_at (places bs) b.above = cc in
+      let under = lie k c.0 c.1 in
+      let numbers : c.0.above ≡ b.above = apart c.0.above b.above (omega (arith, l, under, h)) (omega (arith, l, inside)) aboves in
+      new k (c.1 ∙ ap Some (same_below c.0 b numbers (same_step c.0.step b.step steps)))
 
-    pub apart_grown : AreApart (places bs) → AreApart (places more)
-    apart_grown apart = subst AreApart (sym places_grown) (apart_more (places bs) _ apart (fresh apart))
+  pub apart_grown : IsNew bs b → AreApart (places bs) → AreApart (places more)
+  apart_grown new apart = subst AreApart (sym places_grown) (apart_more (places bs) _ apart (fresh new apart))
 
-    module _ (after : List Links) (n : ℕ) (last : n ≡ length more) (there : link after b.above b.step ≡ Some n)
-        (others : (a : ℕ) (s : Step) → (link after a s ≡ link ls a s) ⊎ ((a ≡ b.above) × (s ≡ b.step))) where
-      pub linked_grown : AreLinked more after
-      linked_grown i c h =
-          elim (got_more bs b i c (subst (λ xs. slice_get xs i ≡ Some c) is h)) [
-            | inl e ↦ elim (others c.above c.step) [
-              | inl same ↦ same ∙ linked i c e
-              | inr at ↦ let no : Some (suc i) ≡ None = sym (linked i c e) ∙ ap (λ a. link ls a c.step) at.0 ∙ ap (link ls b.above) at.1 ∙ none in cc
-            ]
-            | inr e ↦
-                let s = size in
-                let at = e.0 in
-                let number : n ≡ suc i = omega (arith, last, s, at) in
-                ap (λ z. link after z.above z.step) e.1 ∙ there ∙ ap Some number
-          ]
+  module _ (ls after : List Links) (there : children after b.above ≡ children ls b.above ++ length bs ∷ [])
+      (others : (a : ℕ) → (children after a ≡ children ls a) ⊎ (a ≡ b.above)) where
+    kept_child : (a i : ℕ) → is_among i (children ls a) ≡ true → is_among i (children after a) ≡ true
+    kept_child a i h = elim (others a) [
+      | inl e ↦ subst (λ cs. is_among i cs ≡ true) (sym e) h
+      | inr e ↦ subst (λ z. is_among i (children after z) ≡ true) (sym e) (subst (λ cs. is_among i cs ≡ true) (sym there)
+          (among_more i (length bs) (children ls b.above) (subst (λ z. is_among i (children ls z) ≡ true) e h)))
+    ]
+
+    pub linked_grown : AreLinked bs ls → AreLinked more after
+    linked_grown linked i c h =
+        elim (got_more bs b i c (subst (λ xs. slice_get xs i ≡ Some c) is h)) [
+          | inl e ↦ kept_child c.above i (linked i c e)
+          | inr e ↦ subst (λ z. is_among i (children after z.above) ≡ true) (sym e.1) (subst (λ cs. is_among i cs ≡ true) (sym there)
+              (subst (λ k. is_among k (children ls b.above ++ length bs ∷ []) ≡ true) (sym e.0) (among_new (length bs) (children ls b.above))))
+        ]
+
+    module _ (last : IsUpTo (last_field after b.above) b.step) (grows : (a : ℕ) → last_field ls a ≤ last_field after a) where
+      old_child : LinkBelow bs ls → (a i : ℕ) → is_among i (children ls a) ≡ true
+          → (i < length more) × ((c : Below) → slice_get more i ≡ Some c → (c.above ≡ a) × IsUpTo (last_field after a) c.step)
+      old_child below a i h =
+          let g = below a i h in
+          let within = g.0 in
+          let z = size in (
+            omega (arith, within, z),
+            λ c e. elim (got_more bs b i c (subst (λ xs. slice_get xs i ≡ Some c) is e)) [
+              | inl f ↦
+                  let k = g.1 c f in
+                  (k.0, λ j s. let up = k.1 j s in let more_up = grows a in omega (arith, up, more_up))
+              | inr f ↦ let at = f.0 in absurd (omega (arith, within, at))
+            ],
+          )
+
+      new_child : (a i : ℕ) → a ≡ b.above → i ≡ length bs
+          → (i < length more) × ((c : Below) → slice_get more i ≡ Some c → (c.above ≡ a) × IsUpTo (last_field after a) c.step)
+      new_child a i above at =
+          let z = size in (
+            omega (arith, at, z),
+            λ c e. elim (got_more bs b i c (subst (λ xs. slice_get xs i ≡ Some c) is e)) [
+              | inl f ↦ let k = got_within bs i c f in absurd (omega (arith, k, at))
+              | inr f ↦ (
+                ap (λ x. x.above) f.1 ∙ sym above,
+                subst (λ z. IsUpTo (last_field after z) c.step) (sym above) (subst (λ x. IsUpTo (last_field after b.above) x.step) (sym f.1) last),
+              )
+            ],
+          )
 
       pub others_grown : LinkBelow bs ls → LinkBelow more after
-      others_grown below a m s h =
-          let z = size in
-          elim (others a s) [
-            | inl same ↦
-                let g = below a m s (sym same ∙ h) in
-                let some = g.0 in
-                let within = g.1 in (
-                  some,
-                  omega (arith, within, z),
-                  λ c e. elim (got_more bs b (m - 1) c (subst (λ xs. slice_get xs (m - 1) ≡ Some c) is e)) [
-                    | inl f ↦ g.2 c f
-                    | inr f ↦ let at = f.0 in absurd (omega (arith, some, within, at))
-                  ],
-                )
-            | inr at ↦
-                let number : Some m ≡ Some n = sym h ∙ ap (λ k. link after k s) at.0 ∙ ap (link after b.above) at.1 ∙ there in
-                let same : m ≡ n = cc in (
-                  omega (arith, same, last, z),
-                  omega (arith, same, last, z),
-                  λ c e. elim (got_more bs b (m - 1) c (subst (λ xs. slice_get xs (m - 1) ≡ Some c) is e)) [
-                    | inl f ↦ let k = got_within bs (m - 1) c f in absurd (omega (arith, k, same, last, z))
-                    | inr f ↦ (ap (λ x. x.above) f.1 ∙ sym at.0, ap (λ x. x.step) f.1 ∙ sym at.1)
-                  ],
-                )
+      others_grown below a i h =
+          elim (others a) [
+            | inl e ↦ old_child below a i (subst (λ cs. is_among i cs ≡ true) e h)
+            | inr e ↦ elim (among_last i (length bs) (children ls b.above) (subst (λ cs. is_among i cs ≡ true) there
+                (subst (λ z. is_among i (children after z) ≡ true) e h))) [
+                  | inl f ↦ old_child below a i (subst (λ z. is_among i (children ls z) ≡ true) (sym e) f)
+                  | inr f ↦ new_child a i e f
+                ]
           ]
-
--- what is written back behind a borrow of a whole list
-pub written_back : (n : ℕ) (new old : List Links) → n ≡ length old → length new ≡ length old → take n (new ++ drop (length new) old) ≡ new
-written_back n [] [] e same = rw e refl
-written_back n [] (y ∷ old) e same = absurd (omega (arith, same))
-written_back n (x ∷ new) [] e same = absurd (omega (arith, same))
-written_back zero (x ∷ new) (y ∷ old) e same = absurd (omega (arith, e))
-written_back (suc n) (x ∷ new) (y ∷ old) e same = ap (λ xs. x ∷ xs) (written_back n new old (omega (arith, e)) (omega (arith, same)))
 
 -- ---- places that may have grown
 

@@ -283,6 +283,7 @@ module _ (r : Reader) (n : ℕ) (within : n ≤ length r.places.below.items) (aw
 
   pub refused_here : (kind : Kind) (reason : Reason) → IsColumnRefusal kind reason count r.input.now
       → IsColumnReason reason × (reason ≢ OutOfMemory → (a : State) → Stands r a → NothingAt a (place_at (places r.places.below.items) n) kind)
+  unfolding IsColumnRefusal
   refused_here kind reason h = (h.0, λ other. nothing_here kind (λ d more rest. h.1 other (d ∷ more) rest))
 
   pub none_here : (kind : Kind) → count ≡ 0 → (a : State) → Stands r a → NothingAt a (place_at (places r.places.below.items) n) kind

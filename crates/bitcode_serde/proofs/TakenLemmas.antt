@@ -5,8 +5,9 @@ use Rattle.bitcode_shapes.specs.Datum.{Datum}
 use Rattle.bitcode_coder.specs.Spelling.{natural}
 use Rattle.bitcode_untyped.specs.View.{datum_of}
 use Rattle.bitcode_untyped.specs.declared.value.Value.{Value}
+use Rattle.bitcode_untyped.specs.declared.value.Value.TheOpen.{Value-F}
 use Rattle.bitcode_untyped.specs.declared.value.Value.TheVariants as value
-use Rattle.bitcode_untyped.proofs.ViewLemmas.{datum-U8}
+use Rattle.bitcode_untyped.proofs.LeafLemmas.{leaf_datum, rolled_entry}
 use Rattle.bitcode_serde.specs.ReadColumns.{IsCaseOf}
 use Rattle.bitcode_serde.specs.declared.column.ColumnKind.{ColumnKind}
 
@@ -26,4 +27,4 @@ cases_held kind holder case (t ∷ ts) = (case t, cases_held kind holder case ts
 -- the bytes of a column, as values
 pub bytes_held : (bytes : List ℕ) → map natural bytes ≡ map datum_of (map (λ n. value.U8 n) bytes)
 bytes_held [] = refl
-bytes_held (n ∷ bytes) = ap (λ d. d ∷ map natural bytes) (sym (datum-U8 n)) ∙ ap (λ ds. datum_of (value.U8 n) ∷ ds) (bytes_held bytes)
+bytes_held (n ∷ bytes) = ap (λ d. d ∷ map natural bytes) (sym (leaf_datum (value.U8 n) _ (rolled_entry (Value-F.U8 n) (value.U8 n) (value.rolls-U8 n)))) ∙ ap (λ ds. datum_of (value.U8 n) ∷ ds) (bytes_held bytes)

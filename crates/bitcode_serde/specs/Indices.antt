@@ -1,5 +1,6 @@
 -- What the coders of indices hold.
-use Rattle.std.specs.Prelude.{ℕ, List, map, get_or}
+use Rattle.std.specs.Prelude.{ℕ, List, map, drop}
+use Rattle.bitcode_columns.specs.Histogram.{count_of}
 use Rattle.bitcode_memory.specs.Fast.{fast_items, fast_room, fast_capacity, cow_rest, cow_owned}
 use Rattle.bitcode_shapes.specs.Datum.{Datum}
 use Rattle.bitcode_coder.specs.Spelling.{natural}
@@ -20,7 +21,7 @@ index_capacity e = fast_capacity e.indices
 
 -- the indices that are left to take
 unfoldable pub indices_left : VariantDecoder → List Datum
-indices_left d = map natural (cow_rest d.indices)
+indices_left d = map natural (drop d.position (cow_rest d.indices))
 
 -- for how many indices it has memory of its own
 unfoldable pub indices_owned : VariantDecoder → ℕ
@@ -28,4 +29,4 @@ indices_owned d = cow_owned d.indices
 
 -- how often an index was read
 unfoldable pub index_count : VariantDecoder → ℕ → ℕ
-index_count d index = get_or d.counts index 0
+index_count d index = count_of index (cow_rest d.indices)

@@ -1,6 +1,8 @@
 pub mod Indices
 pub mod Kinds
 pub mod ReadColumns
+pub mod ColumnReasons
+pub mod CaseLaws
 pub mod Leaves
 pub mod Links
 pub mod Places
@@ -12,3 +14,4 @@ pub mod WrittenColumns
 pub mod Writing
 pub mod Serializing
 pub mod Strict
+pub mod Free

@@ -1,22 +1,16 @@
 -- Where places lead, by their numbers.
-use Rattle.std.specs.Prelude.{◌≡◌, ℕ, zero, suc, ◌<◌, Option, None, Some, List, [], ◌∷◌, length, get_or, slice_get}
+use Rattle.std.specs.Prelude.{◌≡◌, ℕ, zero, suc, ◌≤◌, ◌==◌, ◌||◌, Bool, false, true, Option, None, Some, List, [], ◌∷◌, slice_get}
 use Rattle.bitcode_serde.specs.declared.step.Step.{Step as CodeStep}
 use Rattle.bitcode_serde.specs.declared.step.Step.TheVariants as step
 use Rattle.bitcode_serde.specs.declared.links.Links.{Links}
 
--- the place one step below
-abbrev pub link_of : Links → CodeStep → Option ℕ
-link_of l step.Element = l.element
-link_of l step.Key = l.key
-link_of l step.Value = l.value
-link_of l (step.Variant i) = get_or l.variants.items i None
-link_of l (step.Field i) = get_or l.fields.items i None
+abbrev pub is_among : ℕ → List ℕ → Bool
+is_among i [] = false
+is_among i (j ∷ js) = (i == j) || is_among i js
 
--- there is room for the place one step below
-abbrev pub HasRoom : Links → CodeStep → Type 0
-HasRoom l (step.Variant i) = i < length l.variants.items
-HasRoom l (step.Field i) = i < length l.fields.items
-HasRoom l _ = Unit {0}
+-- a step to a field does not go past this field
+abbrev pub IsUpTo : ℕ → CodeStep → Type 0
+IsUpTo last s = (i : ℕ) → s ≡ step.Field i → i ≤ last
 
 -- ---- of all places, by number
 
@@ -26,16 +20,17 @@ column_link [] n = None
 column_link (l ∷ ls) zero = l.column
 column_link (l ∷ ls) (suc n) = column_link ls n
 
--- the place that is that step below the other
-abbrev pub link : List Links → ℕ → CodeStep → Option ℕ
-link [] above step = None
-link (l ∷ ls) zero step = link_of l step
-link (l ∷ ls) (suc above) step = link ls above step
+-- the places one step below that were met, each by its index among all places below the root
+abbrev pub children : List Links → ℕ → List ℕ
+children [] n = []
+children (l ∷ ls) zero = l.children.items
+children (l ∷ ls) (suc n) = children ls n
 
-abbrev pub HasRoomAt : List Links → ℕ → CodeStep → Type 0
-HasRoomAt [] above step = ⊥
-HasRoomAt (l ∷ ls) zero step = HasRoom l step
-HasRoomAt (l ∷ ls) (suc above) step = HasRoomAt ls above step
+-- no later field was met
+abbrev pub last_field : List Links → ℕ → ℕ
+last_field [] n = 0
+last_field (l ∷ ls) zero = l.last_field
+last_field (l ∷ ls) (suc n) = last_field ls n
 
 -- Column i stands at place n just where the place has a link to it.
 abbrev pub AreFiled : List Links → List ℕ → Type 0

@@ -1,7 +1,7 @@
 -- Places by number: the root is number 0, and each other lies below one before it.
-use Rattle.std.specs.Prelude.{◌≡◌, ℕ, suc, ◌-◌, ◌<◌, ◌≤◌, ◌⊎◌, Some, slice_get, List, [], ◌∷◌, ◌++◌, length, get_or}
+use Rattle.std.specs.Prelude.{◌≡◌, ℕ, ◌<◌, ◌≤◌, ◌⊎◌, true, Some, slice_get, List, [], ◌∷◌, ◌++◌, length, get_or}
 use Rattle.bitcode_untyped.specs.Walk.{Step, element, key, value, variant, field, Place}
-use Rattle.bitcode_serde.specs.Links.{link}
+use Rattle.bitcode_serde.specs.Links.{is_among, IsUpTo, children, last_field}
 use Rattle.bitcode_serde.specs.declared.links.Links.{Links}
 use Rattle.bitcode_serde.specs.declared.places.Below.{Below}
 use Rattle.bitcode_serde.specs.declared.step.Step.{Step as CodeStep}
@@ -36,14 +36,18 @@ LieBelow bs = (i : ℕ) (b : Below) → slice_get bs i ≡ Some b → b.above �
 abbrev pub AreApart : List Place → Type 0
 AreApart ps = (i j : ℕ) → i < length ps → j < length ps → place_at ps i ≡ place_at ps j → i ≡ j
 
--- Each place is linked from the one above it.
+-- Each place is a child of the one above it.
 abbrev pub AreLinked : List Below → List Links → Type 0
-AreLinked bs ls = (i : ℕ) (b : Below) → slice_get bs i ≡ Some b → link ls b.above b.step ≡ Some (suc i)
+AreLinked bs ls = (i : ℕ) (b : Below) → slice_get bs i ≡ Some b → is_among i (children ls b.above) ≡ true
 
--- Each link is to the place that is that step below.
+-- Each child of a place lies below it, and is not past its last field.
 abbrev pub LinkBelow : List Below → List Links → Type 0
-LinkBelow bs ls = (above n : ℕ) (step : CodeStep) → link ls above step ≡ Some n
-    → (0 < n) × (n ≤ length bs) × ((b : Below) → slice_get bs (n - 1) ≡ Some b → (b.above ≡ above) × (b.step ≡ step))
+LinkBelow bs ls = (above i : ℕ) → is_among i (children ls above) ≡ true
+    → (i < length bs) × ((b : Below) → slice_get bs i ≡ Some b → (b.above ≡ above) × IsUpTo (last_field ls above) b.step)
+
+-- No place is that one.
+abbrev pub IsNew : List Below → Below → Type 0
+IsNew bs b = (i : ℕ) → slice_get bs i ≡ Some b → ⊥
 
 -- Nothing was added, or that place behind the others, and it has the number.
 abbrev pub IsGrown : List Below → Below → List Below → ℕ → Type 0

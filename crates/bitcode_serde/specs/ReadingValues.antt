@@ -65,13 +65,16 @@ pub record AddsRead (kind : ColumnKind) (place : ℕ) (old new : Reader) (those 
   pub read : ReadsAt (leaf_tree (kind_of kind) any_number) place old (datum_of value) new
   pub of_case : IsCaseOf kind value
 
--- A value is read at the place, as far as a budget keeps it. Unless that is spent, the value stands behind the others.
-pub record AddsWithin (s : ShapeTree) (IsWhole : Value → Type 0) (place : ℕ) (old : Reader) (before : Budget) (those : List Value) (new : Reader) (after : Budget)
-    (all : List Value) : Type 0 where
+-- A value is read, as far as a budget keeps it. Unless that is spent, the value stands behind the others.
+pub record AddsKept (Reads : Datum → Type 0) (IsWhole : Value → Type 0) (before : Budget) (those : List Value) (after : Budget) (all : List Value) : Type 0 where
   pub value : Value
-  pub read : ReadsWithin s place old before value new after
+  pub read : Keeps datum_of Reads before value after
   pub whole : IsLeft after → IsWhole value
   pub added : IsLeft after → all ≡ those ++ value ∷ []
+
+-- the same of a value at the place
+abbrev pub AddsWithin : ShapeTree → (Value → Type 0) → ℕ → Reader → Budget → List Value → Reader → Budget → List Value → Type 0
+AddsWithin s IsWhole place old before those new after all = AddsKept (λ d. ReadsAt s place old d new) IsWhole before those after all
 
 -- the reasons of refusals by a reader of values
 abbrev pub IsValueReason : Reason → Type 0
@@ -101,10 +104,23 @@ abbrev pub IsListRefusalAt : ShapeTree → ℕ → Reader → ℕ → Reason →
 IsListRefusalAt s place old count =
     IsRefusalOf old place (λ p a. (ds : List Datum) (b : State) → ReadsMany (IsReadable s) (walk s p) a count ds b → ⊥)
 
+-- ---- fields
+
 -- where field i of so many stands: a tuple of one has no place of its own
 abbrev pub field_at : ℕ → Place → ℕ → Place
 field_at (suc zero) p i = p
 field_at _ p i = field i ∷ p
+
+-- field i of so many of a tuple at the place
+abbrev pub ReadsFieldAt : ShapeTree → ℕ → ℕ → ℕ → Reader → Datum → Reader → Type 0
+ReadsFieldAt s place i fields old d new = GoesAlong old place new (λ p a b. ReadsDatum s (field_at fields p i) a d b)
+
+abbrev pub AddsFieldWithin : ShapeTree → (Value → Type 0) → ℕ → ℕ → ℕ → Reader → Budget → List Value → Reader → Budget → List Value → Type 0
+AddsFieldWithin s IsWhole place i fields old before those new after all =
+    AddsKept (λ d. ReadsFieldAt s place i fields old d new) IsWhole before those after all
+
+abbrev pub IsFieldRefusalAt : ShapeTree → ℕ → ℕ → ℕ → Reader → Reason → Type 0
+IsFieldRefusalAt s place i fields old = IsRefusalOf old place (λ p a. ReadsNoDatum s (field_at fields p i) a)
 
 -- ---- values of the cases of their nodes
 

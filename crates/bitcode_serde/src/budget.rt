@@ -1,7 +1,7 @@
 //! The number of nodes that decoding may keep.
-ghost use Rattle.std.specs.Prelude.{◌≡◌, ◌++◌, ◌∷◌, [], OnOk, IfOk, IfErr, MatchBool};
+ghost use Rattle.std.specs.Prelude.{◌≡◌, ◌≢◌, ◌++◌, ◌∷◌, [], vec_capacity, OnOk, IfOk, IfErr, MatchBool};
 ghost use Rattle.bitcode_serde.specs.Budget.{IsLeft, spend};
-ghost use Rattle.bitcode_serde.specs.declared.budget.Budget.TheVariants.{Spent};
+ghost use Rattle.bitcode_serde.specs.declared.budget.Budget.TheVariants.{Endless, Spent};
 
 use bitcode_memory::error::{Error, Reason};
 use std::alloc::Global;
@@ -48,11 +48,13 @@ impl Budget {
         !after.is_spent()
     }
 
-    /// An empty list for `count` items. Without a limit it has room for all of them; with one it grows.
+    /// An empty list for `count` items. Without a limit it has room for all of them; with one it has no memory, and
+    /// grows with the items that are kept.
     ///
     /// If an allocation fails, the error is `out of memory`.
     pub fn room<T>(&self, alloc: Global, count: usize) -> Result<Vec<T>, Error>
         ensures empty { IfOk result (λ items. items.items ≡ []) }
+        ensures bounded { IfOk result (λ items. self.now ≢ Endless → vec_capacity items ≡ 0) }
         ensures refused { IfErr result (λ e. e.reason ≡ Reason.OutOfMemory) }
     {
         match self {
@@ -61,13 +63,14 @@ impl Budget {
         }
     }
 
-    /// Adds an item to the list, unless the budget is spent.
+    /// Adds an item to the list, unless the budget is spent: then the list stays as it is.
     ///
     /// If an allocation fails, the error is `out of memory`.
     #[inline(always)]
     pub fn keep<T: Drop>(&self, items: &mut Vec<T>, item: T) -> Result<(), Error>
         ensures kept { IsLeft self.now → OnOk result
             (items.new.items ≡ items.old.items ++ item ∷ []) }
+        ensures spent { self.now ≡ Spent → items.new ≡ items.old }
         ensures refused { IfErr result (λ e. e.reason ≡ Reason.OutOfMemory) }
     {
         if !self.is_spent() {

@@ -1,36 +1,29 @@
-//! The columns that a reader has opened.
-ghost use Rattle.std.specs.Prelude.{◌≡◌, ◌≢◌, ℕ, ◌<◌, ◌≤◌, List, ◌∷◌, ◌++◌, None, false, length, map, sum, IsTrue, ◌↔◌};
-ghost use Rattle.std.specs.Prelude.{MatchBool, vec_len, vec_capacity, IfOk, OnOk, IfErr};
-ghost use Rattle.std.specs.List.{AllByRecursion};
-ghost use Rattle.bitcode_columns.specs.Reading.{Reads};
-ghost use Rattle.bitcode_coder.specs.LengthColumn.{SpellsLengths, length_bytes};
-ghost use Rattle.bitcode_coder.specs.Length.{lengths_left, lengths_sum};
-ghost use Rattle.bitcode_coder.specs.LengthParts.{NamesLengthFault};
-ghost use Rattle.bitcode_shapes.specs.Datum.{Datum};
-ghost use Rattle.bitcode_shapes.specs.Ints.{int_shape};
-ghost use Rattle.bitcode_coder.specs.Columns.{ints, lengths};
-ghost use Rattle.bitcode_coder.specs.Spelling.{Spells, natural};
-ghost use Rattle.bitcode_coder.specs.Strict.{JudgesColumn, JudgesData};
-ghost use Rattle.bitcode_untyped.specs.Population.{total, count_of};
-ghost use Rattle.bitcode_serde.specs.Indices.{indices_left, index_count};
-ghost use Rattle.bitcode_coder.specs.Coder.{IsReadingRefusal, TakesDatum};
-ghost use Rattle.bitcode_coder.specs.Faults.{NamesIntsFault};
-ghost use Rattle.bitcode_untyped.specs.View.{datum_of};
+//! The kinds of columns. Each leaf with a column of its own has a line in each list here, and an `impl` of `Case`.
+#![tactic(auto)]
+
+ghost use Rattle.std.specs.Prelude.{◌≡◌, ◌≢◌, MatchBool, IfSome, IfNone, true, false, refl, string_bytes};
+ghost use Rattle.bitcode_shapes.specs.Datum.{number, text};
+ghost use Rattle.bitcode_coder.specs.Spelling.{natural, truth};
+ghost use Rattle.bitcode_untyped.specs.declared.shape.ShapeNode.TheOpen.{ShapeNode-F};
+ghost use Rattle.bitcode_untyped.specs.declared.value.Value.TheOpen.{Value-F};
+ghost use Rattle.bitcode_serde.specs.CaseLaws.{case_laws};
+ghost use Rattle.bitcode_serde.specs.ColumnReasons.{bools_reason, numbers_reason, texts_reason};
+ghost use Rattle.bitcode_untyped.specs.declared.shape.ShapeNode.TheVariants as node;
+ghost use Rattle.bitcode_untyped.specs.declared.value.Value.TheVariants as value;
 ghost use Rattle.bitcode_serde.specs.Kinds.{kind_index};
-ghost use Rattle.bitcode_serde.specs.ReadColumns.{kind_of, kind_in_code, kind_of_column, left, Tallies, IsCaseOf};
-ghost use Rattle.bitcode_serde.specs.ReadColumns.{AddsTaken, ReadsColumn, IsColumnRefusal};
+ghost use Rattle.bitcode_serde.specs.ReadColumns.{kind_of};
+ghost use Rattle.bitcode_serde.specs.ReadingValues.{HasColumn};
+ghost use Rattle.bitcode_serde.specs.Serializing.{IsLeaf};
+ghost use Rattle.bitcode_serde.specs.declared.column.ColumnKind.TheVariants as kind;
 
 use crate::case::Case;
 use crate::serde::VariantDecoder;
-use bitcode_coder::bool::BoolDecoder;
-use bitcode_coder::coder::{Decoder, View};
-use bitcode_coder::length::LengthDecoder;
-use bitcode_coder::str::StrDecoder;
-use bitcode_ints::int::IntDecoder;
-use bitcode_memory::error::{Error, Reason};
-use bitcode_shapes::shaped::Shaped;
+use bitcode_coder::bool::{BoolDecoder, BoolEncoder};
+use bitcode_coder::length::{LengthDecoder, LengthEncoder};
+use bitcode_coder::str::{StrDecoder, StrEncoder};
+use bitcode_ints::int::{IntDecoder, IntEncoder};
+use bitcode_untyped::shape::ShapeNode;
 use bitcode_untyped::value::Value;
-use std::alloc::Global;
 
 /// What a column contains.
 #[derive(Clone, Copy, PartialEq, Eq)]
@@ -90,523 +83,409 @@ pub enum Column<'a> {
     Texts(StrDecoder<'a>),
 }
 
-// Takes the next entry, where that takes no memory.
-fn next<T: Shaped, D: Decoder<T>>(column: &mut D) -> T
-    requires some { 0 < length (D.held column.old) }
-    requires free { IsTrue D.makes_free }
-    ensures { TakesDatum T.data.makes result (D.held column.old) (D.held column.new) }
-{
-    column.decode().unwrap()
+/// A column that entries are written to.
+#[derive(Drop)]
+pub enum WrittenColumn {
+    Bools(BoolEncoder),
+    Bytes(IntEncoder<u8>),
+    U16(IntEncoder<u16>),
+    U32(IntEncoder<u32>),
+    U64(IntEncoder<u64>),
+    U128(IntEncoder<u128>),
+    I8(IntEncoder<i8>),
+    I16(IntEncoder<i16>),
+    I32(IntEncoder<i32>),
+    I64(IntEncoder<i64>),
+    I128(IntEncoder<i128>),
+    Lengths(LengthEncoder),
+    Texts(StrEncoder),
 }
 
-// The values that hold these.
-fn values_of<T: Case + Drop>(alloc: Global, items: Vec<T>) -> Result<Vec<Value>, Error>
-    ensures held { IfOk result (λ values. values.items ≡ map T.holder items.items) }
-    ensures refused { IfErr result (λ e. e.reason ≡ Reason.OutOfMemory) }
-{
-    let mut values = Vec::with_capacity(alloc, items.len())?;
-    for item in items {
-        values.push_reserved(item.into_value());
-    }
-    Ok(values)
+// The leaves, each by the kind of its column and the type of its values. Bytes are left out: their columns also hold
+// the indices of variants, and a reader counts these.
+macro_rules! for_leaves {
+    ($then:ident $given:tt) => {
+        $then! {
+            $given
+            Bools: bool,
+            U16: u16,
+            U32: u32,
+            U64: u64,
+            U128: u128,
+            I8: i8,
+            I16: i16,
+            I32: i32,
+            I64: i64,
+            I128: i128,
+            Texts: String,
+        }
+    };
 }
 
-// Takes the next entry as a value, where that takes no memory.
+pub(crate) use for_leaves;
+
+/// The kind of the column whose entries are the values of a node, if there is one.
 #[inline(always)]
-fn next_value<T: Case, D: Decoder<T>>(column: &mut D) -> Value
-    requires some { 0 < length (D.held column.old) }
-    requires free { IsTrue D.makes_free }
-    ensures taken { D.held column.old ≡ datum_of result ∷ D.held column.new }
-    ensures of_case { IsCaseOf T.kind result }
+pub fn column_kind(node: &ShapeNode) -> Option<ColumnKind>
+    ensures some { IfSome result (λ kind. HasColumn node.now kind) }
+    ensures none { IfNone result (IsLeaf node.now → node.now ≡ ShapeNode.Char) }
 {
-    let item: T = next(column);
-    item.into_value()
+    match node {
+        ShapeNode::Bool => Some(kind_at::<bool>(node)),
+        ShapeNode::U8 => Some(kind_at::<u8>(node)),
+        ShapeNode::U16 => Some(kind_at::<u16>(node)),
+        ShapeNode::U32 => Some(kind_at::<u32>(node)),
+        ShapeNode::U64 => Some(kind_at::<u64>(node)),
+        ShapeNode::U128 => Some(kind_at::<u128>(node)),
+        ShapeNode::I8 => Some(kind_at::<i8>(node)),
+        ShapeNode::I16 => Some(kind_at::<i16>(node)),
+        ShapeNode::I32 => Some(kind_at::<i32>(node)),
+        ShapeNode::I64 => Some(kind_at::<i64>(node)),
+        ShapeNode::I128 => Some(kind_at::<i128>(node)),
+        ShapeNode::Str => Some(kind_at::<String>(node)),
+        // These have no column of their own.
+        ShapeNode::Unit => None,
+        ShapeNode::Char => None,
+        ShapeNode::Bytes => None,
+        ShapeNode::Option(_) => None,
+        ShapeNode::Seq(_) => None,
+        ShapeNode::Map(_, _) => None,
+        ShapeNode::Tuple(_) => None,
+        ShapeNode::Enum(_) => None,
+        ShapeNode::Ref(_) => None,
+    }
 }
 
-// Takes the next number of one byte as a value.
+// The kind of the column of a node that is a leaf.
 #[inline(always)]
-fn next_byte(column: &mut VariantDecoder<'_>) -> Value
-    requires { 0 < length (indices_left column.old) }
-    ensures taken { indices_left column.old ≡ datum_of result ∷ indices_left column.new }
-    ensures of_case { IsCaseOf ColumnKind.Bytes result }
-    ensures counts { (index : ℕ) → index_count column.new index ≡ index_count column.old index }
+fn kind_at<T: Case>(_node: &ShapeNode) -> ColumnKind
+    requires { _node.now ≡ T.node }
+    ensures { HasColumn _node.now result }
 {
-    Value::U8(column.decode().unwrap())
+    T::column()
 }
 
-// Takes the next entry, where that takes no memory, and puts its value behind others. Room for it was reserved.
-#[inline(always)]
-fn push_next<T: Case, D: Decoder<T>>(column: &mut D, values: &mut Vec<Value>) -> Result<(), Error>
-    requires room { vec_len values.old < vec_capacity values.old }
-    requires some { 0 < length (D.held column.old) }
-    requires free { IsTrue D.makes_free }
-    ensures taken { OnOk result
-        (AddsTaken T.kind (D.held column.old) (D.held column.new) values.old.items
-        values.new.items) }
-    ensures refused { IfErr result (λ e. e.reason ≡ Reason.OutOfMemory) }
-{
-    let value = next_value::<T, D>(column);
-    values.push_reserved(value);
-    Ok(())
+impl Case for bool {
+    ghost kind = { kind.Bools };
+
+    ghost node = { node.Bool };
+
+    ghost holder = { λ t. value.Bool t };
+
+    fn column() -> ColumnKind {
+        ColumnKind::Bools
+    }
+
+    fn held(value: &Value) -> Option<&bool> {
+        match value {
+            Value::Bool(held) => Some(held),
+            _ => None,
+        }
+    }
+
+    fn into_value(self) -> Value {
+        Value::Bool(self)
+    }
+
+    ghost laws = { case_laws _ _ _ _ _ _ ShapeNode-F.Bool (λ t. Value-F.Bool t) (λ t. truth t)
+        node.rolls-Bool value.rolls-Bool refl (λ t. refl) (λ ds. refl) (λ ds. refl) (λ d is. is)
+        (λ d is. is) (λ t d is. is) (λ t d is. is) bools_reason };
 }
 
-// The same for the next number of one byte.
-#[inline(always)]
-fn push_next_byte(column: &mut VariantDecoder<'_>, values: &mut Vec<Value>) -> Result<(), Error>
-    requires room { vec_len values.old < vec_capacity values.old }
-    requires some { 0 < length (indices_left column.old) }
-    ensures taken { OnOk result
-        (AddsTaken ColumnKind.Bytes (indices_left column.old) (indices_left column.new)
-        values.old.items values.new.items) }
-    ensures counts { (index : ℕ) → index_count column.new index ≡ index_count column.old index }
-    ensures refused { IfErr result (λ e. e.reason ≡ Reason.OutOfMemory) }
-{
-    let value = next_byte(column);
-    values.push_reserved(value);
-    Ok(())
+impl Case for u8 {
+    ghost kind = { kind.Bytes };
+
+    ghost node = { node.U8 };
+
+    ghost holder = { λ t. value.U8 t };
+
+    fn column() -> ColumnKind {
+        ColumnKind::Bytes
+    }
+
+    fn held(value: &Value) -> Option<&u8> {
+        match value {
+            Value::U8(held) => Some(held),
+            _ => None,
+        }
+    }
+
+    fn into_value(self) -> Value {
+        Value::U8(self)
+    }
+
+    ghost laws = { case_laws _ _ _ _ _ _ ShapeNode-F.U8 (λ t. Value-F.U8 t) (λ t. natural t)
+        node.rolls-U8 value.rolls-U8 refl (λ t. refl) (λ ds. refl) (λ ds. refl) (λ d is. is)
+        (λ d is. is) (λ t d is. is) (λ t d is. is) (numbers_reason 1 false) };
 }
 
-// The same for an entry that may take memory.
-#[inline(always)]
-fn push_made<T: Case, D: Decoder<T>>(column: &mut D, values: &mut Vec<Value>) -> Result<(), Error>
-    requires room { vec_len values.old < vec_capacity values.old }
-    requires some { 0 < length (D.held column.old) }
-    ensures taken { OnOk result
-        (AddsTaken T.kind (D.held column.old) (D.held column.new) values.old.items
-        values.new.items) }
-    ensures refused { IfErr result (λ e. e.reason ≡ Reason.OutOfMemory) }
-{
-    let item: T = column.decode()?;
-    let value = item.into_value();
-    values.push_reserved(value);
-    Ok(())
+impl Case for u16 {
+    ghost kind = { kind.U16 };
+
+    ghost node = { node.U16 };
+
+    ghost holder = { λ t. value.U16 t };
+
+    fn column() -> ColumnKind {
+        ColumnKind::U16
+    }
+
+    fn held(value: &Value) -> Option<&u16> {
+        match value {
+            Value::U16(held) => Some(held),
+            _ => None,
+        }
+    }
+
+    fn into_value(self) -> Value {
+        Value::U16(self)
+    }
+
+    ghost laws = { case_laws _ _ _ _ _ _ ShapeNode-F.U16 (λ t. Value-F.U16 t) (λ t. natural t)
+        node.rolls-U16 value.rolls-U16 refl (λ t. refl) (λ ds. refl) (λ ds. refl) (λ d is. is)
+        (λ d is. is) (λ t d is. is) (λ t d is. is) (numbers_reason 2 false) };
 }
 
-// Takes so many of the next entries as values of one case, where each takes no memory by itself. So many are left.
-fn take_free<T: Case + Drop, D: Decoder<T>>(
-    column: &mut D,
-    alloc: Global,
-    count: usize,
-) -> Result<Vec<Value>, Error>
-    requires some { count ≤ length (D.held column.old) }
-    requires free { IsTrue D.makes_free }
-    ensures taken { IfOk result
-        (λ values. D.held column.old ≡ map datum_of values.items ++ D.held column.new) }
-    ensures size { IfOk result (λ values. length values.items ≡ count) }
-    ensures of_case { IfOk result (λ values. AllByRecursion (IsCaseOf T.kind) values.items) }
-    ensures refused { IfErr result (λ e. e.reason ≡ Reason.OutOfMemory) }
-{
-    let mut values = Vec::with_capacity(alloc, count)?;
-    for _taken in 0..count {
-        values.push_reserved(next_value::<T, D>(column));
+impl Case for u32 {
+    ghost kind = { kind.U32 };
+
+    ghost node = { node.U32 };
+
+    ghost holder = { λ t. value.U32 t };
+
+    fn column() -> ColumnKind {
+        ColumnKind::U32
     }
-    Ok(values)
+
+    fn held(value: &Value) -> Option<&u32> {
+        match value {
+            Value::U32(held) => Some(held),
+            _ => None,
+        }
+    }
+
+    fn into_value(self) -> Value {
+        Value::U32(self)
+    }
+
+    ghost laws = { case_laws _ _ _ _ _ _ ShapeNode-F.U32 (λ t. Value-F.U32 t) (λ t. natural t)
+        node.rolls-U32 value.rolls-U32 refl (λ t. refl) (λ ds. refl) (λ ds. refl) (λ d is. is)
+        (λ d is. is) (λ t d is. is) (λ t d is. is) (numbers_reason 4 false) };
 }
 
-// Takes so many of the next entries, all at once, as values of one case. So many are left.
-fn take_values<T: Case + Drop, D: Decoder<T>>(
-    column: &mut D,
-    alloc: Global,
-    count: usize,
-) -> Result<Vec<Value>, Error>
-    requires { count ≤ length (D.held column.old) }
-    ensures taken { IfOk result
-        (λ values. D.held column.old ≡ map datum_of values.items ++ D.held column.new) }
-    ensures size { IfOk result (λ values. length values.items ≡ count) }
-    ensures of_case { IfOk result (λ values. AllByRecursion (IsCaseOf T.kind) values.items) }
-    ensures refused { IfErr result (λ e. e.reason ≡ Reason.OutOfMemory) }
-{
-    let items = column.decode_many(alloc, count)?;
-    let values = values_of(alloc, items)?;
-    Ok(values)
+impl Case for u64 {
+    ghost kind = { kind.U64 };
+
+    ghost node = { node.U64 };
+
+    ghost holder = { λ t. value.U64 t };
+
+    fn column() -> ColumnKind {
+        ColumnKind::U64
+    }
+
+    fn held(value: &Value) -> Option<&u64> {
+        match value {
+            Value::U64(held) => Some(held),
+            _ => None,
+        }
+    }
+
+    fn into_value(self) -> Value {
+        Value::U64(self)
+    }
+
+    ghost laws = { case_laws _ _ _ _ _ _ ShapeNode-F.U64 (λ t. Value-F.U64 t) (λ t. natural t)
+        node.rolls-U64 value.rolls-U64 refl (λ t. refl) (λ ds. refl) (λ ds. refl) (λ d is. is)
+        (λ d is. is) (λ t d is. is) (λ t d is. is) (numbers_reason 8 false) };
 }
 
-// Takes so many of the next numbers of one byte as values. So many are left.
-fn take_indices(
-    column: &mut VariantDecoder<'_>,
-    alloc: Global,
-    count: usize,
-) -> Result<Vec<Value>, Error>
-    requires { count ≤ length (indices_left column.old) }
-    ensures taken { IfOk result
-        (λ values. indices_left column.old ≡ map datum_of values.items ++ indices_left column.new) }
-    ensures size { IfOk result (λ values. length values.items ≡ count) }
-    ensures of_case { IfOk result
-        (λ values. AllByRecursion (IsCaseOf ColumnKind.Bytes) values.items) }
-    ensures counts { (index : ℕ) → index_count column.new index ≡ index_count column.old index }
-    ensures refused { IfErr result (λ e. e.reason ≡ Reason.OutOfMemory) }
-{
-    let mut values = Vec::with_capacity(alloc, count)?;
-    for _taken in 0..count {
-        values.push_reserved(next_byte(column));
+impl Case for u128 {
+    ghost kind = { kind.U128 };
+
+    ghost node = { node.U128 };
+
+    ghost holder = { λ t. value.U128 t };
+
+    fn column() -> ColumnKind {
+        ColumnKind::U128
     }
-    Ok(values)
+
+    fn held(value: &Value) -> Option<&u128> {
+        match value {
+            Value::U128(held) => Some(held),
+            _ => None,
+        }
+    }
+
+    fn into_value(self) -> Value {
+        Value::U128(self)
+    }
+
+    ghost laws = { case_laws _ _ _ _ _ _ ShapeNode-F.U128 (λ t. Value-F.U128 t) (λ t. natural t)
+        node.rolls-U128 value.rolls-U128 refl (λ t. refl) (λ ds. refl) (λ ds. refl) (λ d is. is)
+        (λ d is. is) (λ t d is. is) (λ t d is. is) (numbers_reason 16 false) };
 }
 
-// Reads a column of so many entries. Where `strict`, the answer is whether its bytes are its text.
-fn read<'a, D: View<'a> + Drop>(
-    alloc: Global,
-    input: &mut &'a [u8],
-    count: usize,
-    strict: bool,
-) -> Result<(D, bool), Error>
-    ensures read { IfOk result
-        (λ d. Reads (Spells D.shape) count input.old.now (D.held d.0) input.new.now) }
-    ensures judged { IsTrue strict → IfOk result
-        (λ d. JudgesData D.shape (D.held d.0) d.1 input.old.now input.new.now) }
-    ensures refused { IfErr result (λ e. IsReadingRefusal D.shape e.reason count input.old.now) }
-    ensures exact { IfErr result (λ e. D.faults e.reason count input.old.now) }
-{
-    let mut column = D::new(alloc);
-    let written = column.read(input, count, strict)?;
-    Ok((column, written))
+impl Case for i8 {
+    ghost kind = { kind.I8 };
+
+    ghost node = { node.I8 };
+
+    ghost holder = { λ t. value.I8 t };
+
+    fn column() -> ColumnKind {
+        ColumnKind::I8
+    }
+
+    fn held(value: &Value) -> Option<&i8> {
+        match value {
+            Value::I8(held) => Some(held),
+            _ => None,
+        }
+    }
+
+    fn into_value(self) -> Value {
+        Value::I8(self)
+    }
+
+    ghost laws = { case_laws _ _ _ _ _ _ ShapeNode-F.I8 (λ t. Value-F.I8 t) (λ t. number t)
+        node.rolls-I8 value.rolls-I8 refl (λ t. refl) (λ ds. refl) (λ ds. refl) (λ d is. is)
+        (λ d is. is) (λ t d is. is) (λ t d is. is) (numbers_reason 1 true) };
 }
 
-// Reads a column of so many indices, and counts them. The answer is as that of `read`.
-fn read_indices<'a>(
-    alloc: Global,
-    input: &mut &'a [u8],
-    count: usize,
-    strict: bool,
-) -> Result<(VariantDecoder<'a>, bool), Error>
-    ensures read { IfOk result
-        (λ d. Reads (Spells (int_shape 1 false)) count input.old.now (indices_left d.0)
-        input.new.now) }
-    ensures judged { IsTrue strict → IfOk result
-        (λ d. JudgesData (int_shape 1 false) (indices_left d.0) d.1 input.old.now input.new.now) }
-    ensures counts { IfOk result
-        (λ d. (index : ℕ) → index < 256
-        → index_count d.0 index ≡ count_of index (indices_left d.0)) }
-    ensures refused { IfErr result
-        (λ e. IsReadingRefusal (int_shape 1 false) e.reason count input.old.now) }
-    ensures exact { IfErr result (λ e. NamesIntsFault 1 e.reason count input.old.now) }
-{
-    let mut column = VariantDecoder::new(alloc);
-    let written = column.read(input, count, strict)?;
-    Ok((column, written))
+impl Case for i16 {
+    ghost kind = { kind.I16 };
+
+    ghost node = { node.I16 };
+
+    ghost holder = { λ t. value.I16 t };
+
+    fn column() -> ColumnKind {
+        ColumnKind::I16
+    }
+
+    fn held(value: &Value) -> Option<&i16> {
+        match value {
+            Value::I16(held) => Some(held),
+            _ => None,
+        }
+    }
+
+    fn into_value(self) -> Value {
+        Value::I16(self)
+    }
+
+    ghost laws = { case_laws _ _ _ _ _ _ ShapeNode-F.I16 (λ t. Value-F.I16 t) (λ t. number t)
+        node.rolls-I16 value.rolls-I16 refl (λ t. refl) (λ ds. refl) (λ ds. refl) (λ d is. is)
+        (λ d is. is) (λ t d is. is) (λ t d is. is) (numbers_reason 2 true) };
 }
 
-// Reads a column of so many lengths. The answer is as that of `read`.
-fn read_lengths<'a>(
-    alloc: Global,
-    input: &mut &'a [u8],
-    count: usize,
-    strict: bool,
-) -> Result<(LengthDecoder<'a>, bool), Error>
-    ensures read { IfOk result
-        (λ d. Reads (SpellsLengths None) count input.old.now (lengths_left d.0) input.new.now) }
-    ensures judged { IsTrue strict → IfOk result
-        (λ d. IsTrue d.1 ↔ (input.old.now ≡ length_bytes (lengths_left d.0) ++ input.new.now)) }
-    ensures sum { IfOk result (λ d. lengths_sum d.0 ≡ sum (lengths_left d.0)) }
-    ensures refused { IfErr result (λ e. NamesLengthFault e.reason count input.old.now) }
-{
-    let mut column = LengthDecoder::new(alloc);
-    let written = column.read(input, count, strict)?;
-    Ok((column, written))
+impl Case for i32 {
+    ghost kind = { kind.I32 };
+
+    ghost node = { node.I32 };
+
+    ghost holder = { λ t. value.I32 t };
+
+    fn column() -> ColumnKind {
+        ColumnKind::I32
+    }
+
+    fn held(value: &Value) -> Option<&i32> {
+        match value {
+            Value::I32(held) => Some(held),
+            _ => None,
+        }
+    }
+
+    fn into_value(self) -> Value {
+        Value::I32(self)
+    }
+
+    ghost laws = { case_laws _ _ _ _ _ _ ShapeNode-F.I32 (λ t. Value-F.I32 t) (λ t. number t)
+        node.rolls-I32 value.rolls-I32 refl (λ t. refl) (λ ds. refl) (λ ds. refl) (λ d is. is)
+        (λ d is. is) (λ t d is. is) (λ t d is. is) (numbers_reason 4 true) };
 }
 
-impl<'a> Column<'a> {
-    /// Reads a column of `count` entries from the front of the input. If `strict`, it returns whether the bytes are
-    /// those that would be written for them. Otherwise the returned bool has no meaning.
-    ///
-    /// Errors: those of the column's decoder.
-    pub fn open(
-        kind: ColumnKind,
-        alloc: Global,
-        input: &mut &'a [u8],
-        count: usize,
-        strict: bool,
-    ) -> Result<(Column<'a>, bool), Error>
-        ensures read { IfOk result
-            (λ column. ReadsColumn (kind_of kind) count input.old.now (left column.0)
-            input.new.now) }
-        ensures judged { IsTrue strict → IfOk result
-            (λ column. JudgesColumn column.1 (kind_of kind) (left column.0) input.old.now
-            input.new.now) }
-        ensures kind { IfOk result (λ column. kind_of_column column.0 ≡ kind_of kind) }
-        ensures tallies { IfOk result (λ column. Tallies column.0 (left column.0)) }
-        ensures refused { IfErr result
-            (λ e. IsColumnRefusal (kind_of kind) e.reason count input.old.now) }
-    {
-        match kind {
-            ColumnKind::Bools => {
-                let read = read(alloc, input, count, strict)?;
-                Ok((Column::Bools(read.0), read.1))
-            }
-            ColumnKind::Bytes => {
-                let read = read_indices(alloc, input, count, strict)?;
-                Ok((Column::Bytes(Box::new(alloc, read.0)?), read.1))
-            }
-            ColumnKind::U16 => {
-                let read = read(alloc, input, count, strict)?;
-                Ok((Column::U16(read.0), read.1))
-            }
-            ColumnKind::U32 => {
-                let read = read(alloc, input, count, strict)?;
-                Ok((Column::U32(read.0), read.1))
-            }
-            ColumnKind::U64 => {
-                let read = read(alloc, input, count, strict)?;
-                Ok((Column::U64(read.0), read.1))
-            }
-            ColumnKind::U128 => {
-                let read = read(alloc, input, count, strict)?;
-                Ok((Column::U128(read.0), read.1))
-            }
-            ColumnKind::I8 => {
-                let read = read(alloc, input, count, strict)?;
-                Ok((Column::I8(read.0), read.1))
-            }
-            ColumnKind::I16 => {
-                let read = read(alloc, input, count, strict)?;
-                Ok((Column::I16(read.0), read.1))
-            }
-            ColumnKind::I32 => {
-                let read = read(alloc, input, count, strict)?;
-                Ok((Column::I32(read.0), read.1))
-            }
-            ColumnKind::I64 => {
-                let read = read(alloc, input, count, strict)?;
-                Ok((Column::I64(read.0), read.1))
-            }
-            ColumnKind::I128 => {
-                let read = read(alloc, input, count, strict)?;
-                Ok((Column::I128(read.0), read.1))
-            }
-            ColumnKind::Lengths => {
-                let read = read_lengths(alloc, input, count, strict)?;
-                Ok((Column::Lengths(read.0), read.1))
-            }
-            ColumnKind::Texts => {
-                let read = read(alloc, input, count, strict)?;
-                Ok((Column::Texts(read.0), read.1))
-            }
+impl Case for i64 {
+    ghost kind = { kind.I64 };
+
+    ghost node = { node.I64 };
+
+    ghost holder = { λ t. value.I64 t };
+
+    fn column() -> ColumnKind {
+        ColumnKind::I64
+    }
+
+    fn held(value: &Value) -> Option<&i64> {
+        match value {
+            Value::I64(held) => Some(held),
+            _ => None,
         }
     }
 
-    /// What the column contains.
-    pub fn kind(&self) -> ColumnKind
-        ensures { kind_of result ≡ kind_of_column self.now }
-    {
-        match self {
-            Column::Bools(_) => ColumnKind::Bools,
-            Column::Bytes(_) => ColumnKind::Bytes,
-            Column::U16(_) => ColumnKind::U16,
-            Column::U32(_) => ColumnKind::U32,
-            Column::U64(_) => ColumnKind::U64,
-            Column::U128(_) => ColumnKind::U128,
-            Column::I8(_) => ColumnKind::I8,
-            Column::I16(_) => ColumnKind::I16,
-            Column::I32(_) => ColumnKind::I32,
-            Column::I64(_) => ColumnKind::I64,
-            Column::I128(_) => ColumnKind::I128,
-            Column::Lengths(_) => ColumnKind::Lengths,
-            Column::Texts(_) => ColumnKind::Texts,
+    fn into_value(self) -> Value {
+        Value::I64(self)
+    }
+
+    ghost laws = { case_laws _ _ _ _ _ _ ShapeNode-F.I64 (λ t. Value-F.I64 t) (λ t. number t)
+        node.rolls-I64 value.rolls-I64 refl (λ t. refl) (λ ds. refl) (λ ds. refl) (λ d is. is)
+        (λ d is. is) (λ t d is. is) (λ t d is. is) (numbers_reason 8 true) };
+}
+
+impl Case for i128 {
+    ghost kind = { kind.I128 };
+
+    ghost node = { node.I128 };
+
+    ghost holder = { λ t. value.I128 t };
+
+    fn column() -> ColumnKind {
+        ColumnKind::I128
+    }
+
+    fn held(value: &Value) -> Option<&i128> {
+        match value {
+            Value::I128(held) => Some(held),
+            _ => None,
         }
     }
 
-    /// Takes the next entry. At least one must be left.
-    ///
-    /// The only error is `out of memory`, because a text is copied.
-    pub fn take(&mut self) -> Result<Value, Error>
-        requires { 0 < length (left self.old) }
-        ensures taken { IfOk result (λ value. left self.old ≡ datum_of value ∷ left self.new) }
-        ensures of_case { IfOk result (λ value. IsCaseOf (kind_in_code self.old) value) }
-        ensures kind { kind_of_column self.new ≡ kind_of_column self.old }
-        ensures tallies { (entries : List Datum) → Tallies self.old entries
-            → Tallies self.new entries }
-        ensures refused { IfErr result (λ e. e.reason ≡ Reason.OutOfMemory) }
-    {
-        match self {
-            Column::Bools(column) => Ok(Value::Bool(next(column))),
-            Column::Bytes(column) => Ok(next_byte(column)),
-            Column::U16(column) => Ok(Value::U16(next(column))),
-            Column::U32(column) => Ok(Value::U32(next(column))),
-            Column::U64(column) => Ok(Value::U64(next(column))),
-            Column::U128(column) => Ok(Value::U128(next(column))),
-            Column::I8(column) => Ok(Value::I8(next(column))),
-            Column::I16(column) => Ok(Value::I16(next(column))),
-            Column::I32(column) => Ok(Value::I32(next(column))),
-            Column::I64(column) => Ok(Value::I64(next(column))),
-            Column::I128(column) => Ok(Value::I128(next(column))),
-            Column::Lengths(column) => Ok(Value::U64(column.decode() as u64)),
-            Column::Texts(column) => Ok(Value::Str(column.decode()?)),
+    fn into_value(self) -> Value {
+        Value::I128(self)
+    }
+
+    ghost laws = { case_laws _ _ _ _ _ _ ShapeNode-F.I128 (λ t. Value-F.I128 t) (λ t. number t)
+        node.rolls-I128 value.rolls-I128 refl (λ t. refl) (λ ds. refl) (λ ds. refl) (λ d is. is)
+        (λ d is. is) (λ t d is. is) (λ t d is. is) (numbers_reason 16 true) };
+}
+
+impl Case for String {
+    ghost kind = { kind.Texts };
+
+    ghost node = { node.Str };
+
+    ghost holder = { λ t. value.Str t };
+
+    fn column() -> ColumnKind {
+        ColumnKind::Texts
+    }
+
+    fn held(value: &Value) -> Option<&String> {
+        match value {
+            Value::Str(held) => Some(held),
+            _ => None,
         }
     }
 
-    /// Takes the next entry, and puts its value behind others. At least one must be left.
-    ///
-    /// The only error is `out of memory`.
-    pub fn take_behind(&mut self, values: &mut Vec<Value>) -> Result<(), Error>
-        requires { 0 < length (left self.old) }
-        ensures taken { OnOk result
-            (AddsTaken (kind_in_code self.old) (left self.old) (left self.new) values.old.items
-            values.new.items) }
-        ensures kind { kind_of_column self.new ≡ kind_of_column self.old }
-        ensures tallies { (entries : List Datum) → Tallies self.old entries
-            → Tallies self.new entries }
-        ensures refused { IfErr result (λ e. e.reason ≡ Reason.OutOfMemory) }
-    {
-        values.reserve(1)?;
-        match self {
-            Column::Bools(column) => push_next::<bool, BoolDecoder<'a>>(column, values),
-            Column::Bytes(column) => push_next_byte(column, values),
-            Column::U16(column) => push_next::<u16, IntDecoder<'a, u16>>(column, values),
-            Column::U32(column) => push_next::<u32, IntDecoder<'a, u32>>(column, values),
-            Column::U64(column) => push_next::<u64, IntDecoder<'a, u64>>(column, values),
-            Column::U128(column) => push_next::<u128, IntDecoder<'a, u128>>(column, values),
-            Column::I8(column) => push_next::<i8, IntDecoder<'a, i8>>(column, values),
-            Column::I16(column) => push_next::<i16, IntDecoder<'a, i16>>(column, values),
-            Column::I32(column) => push_next::<i32, IntDecoder<'a, i32>>(column, values),
-            Column::I64(column) => push_next::<i64, IntDecoder<'a, i64>>(column, values),
-            Column::I128(column) => push_next::<i128, IntDecoder<'a, i128>>(column, values),
-            Column::Lengths(_) => {
-                let value = self.take()?;
-                values.push_reserved(value);
-                Ok(())
-            }
-            Column::Texts(column) => push_made::<String, StrDecoder<'a>>(column, values),
-        }
+    fn into_value(self) -> Value {
+        Value::Str(self)
     }
 
-    // Takes so many of the next entries, one after another. So many are left.
-    fn take_in_turn(&mut self, alloc: Global, count: usize) -> Result<Vec<Value>, Error>
-        requires { count ≤ length (left self.old) }
-        ensures taken { IfOk result
-            (λ values. left self.old ≡ map datum_of values.items ++ left self.new) }
-        ensures size { IfOk result (λ values. length values.items ≡ count) }
-        ensures of_case { IfOk result
-            (λ values. AllByRecursion (IsCaseOf (kind_in_code self.old)) values.items) }
-        ensures kind { kind_of_column self.new ≡ kind_of_column self.old }
-        ensures tallies { (entries : List Datum) → Tallies self.old entries
-            → Tallies self.new entries }
-        ensures refused { IfErr result (λ e. e.reason ≡ Reason.OutOfMemory) }
-    {
-        let mut values = Vec::with_capacity(alloc, count)?;
-        for _i in 0..count {
-            let value = self.take()?;
-            values.push(value)?;
-        }
-        Ok(values)
-    }
-
-    /// Takes the next `count` entries at once. At least as many must be left.
-    ///
-    /// The only error is `out of memory`.
-    pub fn take_each(&mut self, alloc: Global, count: usize) -> Result<Vec<Value>, Error>
-        requires { count ≤ length (left self.old) }
-        ensures taken { IfOk result
-            (λ values. left self.old ≡ map datum_of values.items ++ left self.new) }
-        ensures size { IfOk result (λ values. length values.items ≡ count) }
-        ensures of_case { IfOk result
-            (λ values. AllByRecursion (IsCaseOf (kind_in_code self.old)) values.items) }
-        ensures kind { kind_of_column self.new ≡ kind_of_column self.old }
-        ensures tallies { (entries : List Datum) → Tallies self.old entries
-            → Tallies self.new entries }
-        ensures refused { IfErr result (λ e. e.reason ≡ Reason.OutOfMemory) }
-    {
-        match self {
-            Column::Bools(column) => take_free::<bool, BoolDecoder<'a>>(column, alloc, count),
-            Column::Bytes(column) => take_indices(column, alloc, count),
-            Column::U16(column) => take_free::<u16, IntDecoder<'a, u16>>(column, alloc, count),
-            Column::U32(column) => take_free::<u32, IntDecoder<'a, u32>>(column, alloc, count),
-            Column::U64(column) => take_free::<u64, IntDecoder<'a, u64>>(column, alloc, count),
-            Column::U128(column) => take_free::<u128, IntDecoder<'a, u128>>(column, alloc, count),
-            Column::I8(column) => take_free::<i8, IntDecoder<'a, i8>>(column, alloc, count),
-            Column::I16(column) => take_free::<i16, IntDecoder<'a, i16>>(column, alloc, count),
-            Column::I32(column) => take_free::<i32, IntDecoder<'a, i32>>(column, alloc, count),
-            Column::I64(column) => take_free::<i64, IntDecoder<'a, i64>>(column, alloc, count),
-            Column::I128(column) => take_free::<i128, IntDecoder<'a, i128>>(column, alloc, count),
-            Column::Lengths(_) => self.take_in_turn(alloc, count),
-            Column::Texts(column) => take_values::<String, StrDecoder<'a>>(column, alloc, count),
-        }
-    }
-
-    /// Takes the next length. At least one must be left.
-    pub fn take_length(&mut self) -> usize
-        requires lengths { kind_of_column self.old ≡ lengths None }
-        requires some { 0 < length (left self.old) }
-        ensures taken { left self.old ≡ natural result ∷ left self.new }
-        ensures kind { kind_of_column self.new ≡ kind_of_column self.old }
-        ensures tallies { (entries : List Datum) → Tallies self.old entries
-            → Tallies self.new entries }
-    {
-        match self {
-            Column::Lengths(column) => column.decode(),
-            _ => unreachable!(),
-        }
-    }
-
-    /// Takes the next index. At least one must be left.
-    pub fn take_index(&mut self) -> u8
-        requires bytes { kind_of_column self.old ≡ ints 1 false }
-        requires some { 0 < length (left self.old) }
-        ensures taken { left self.old ≡ natural result ∷ left self.new }
-        ensures kind { kind_of_column self.new ≡ kind_of_column self.old }
-        ensures tallies { (entries : List Datum) → Tallies self.old entries
-            → Tallies self.new entries }
-    {
-        match self {
-            Column::Bytes(column) => column.decode().unwrap(),
-            _ => unreachable!(),
-        }
-    }
-
-    /// Takes the next `count` numbers of one byte. At least as many must be left.
-    ///
-    /// If an allocation fails, the error is `out of memory`.
-    pub fn take_bytes(&mut self, count: usize) -> Result<Vec<u8>, Error>
-        requires bytes { kind_of_column self.old ≡ ints 1 false }
-        requires some { count ≤ length (left self.old) }
-        ensures taken { IfOk result
-            (λ bytes. left self.old ≡ map natural bytes.items ++ left self.new) }
-        ensures size { IfOk result (λ bytes. length bytes.items ≡ count) }
-        ensures kind { kind_of_column self.new ≡ kind_of_column self.old }
-        ensures tallies { (entries : List Datum) → Tallies self.old entries
-            → Tallies self.new entries }
-        ensures refused { IfErr result (λ e. e.reason ≡ Reason.OutOfMemory) }
-    {
-        match self {
-            Column::Bytes(column) => column.take(count),
-            _ => unreachable!(),
-        }
-    }
-
-    /// Takes the next number of four bytes. At least one must be left.
-    pub fn take_code(&mut self) -> u32
-        requires codes { kind_of_column self.old ≡ ints 4 false }
-        requires some { 0 < length (left self.old) }
-        ensures taken { left self.old ≡ natural result ∷ left self.new }
-        ensures kind { kind_of_column self.new ≡ kind_of_column self.old }
-        ensures tallies { (entries : List Datum) → Tallies self.old entries
-            → Tallies self.new entries }
-    {
-        match self {
-            Column::U32(column) => next(column),
-            _ => unreachable!(),
-        }
-    }
-
-    /// The sum of all lengths that were read, including those already taken.
-    pub fn total(&self) -> usize
-        requires { kind_of_column self.now ≡ lengths None }
-        ensures { (entries : List Datum) → Tallies self.now entries → result ≡ total entries }
-    {
-        match self {
-            Column::Lengths(column) => column.length(),
-            _ => unreachable!(),
-        }
-    }
-
-    /// How often this index was read, including entries that were already taken.
-    pub fn count(&self, index: u8) -> usize
-        requires { kind_of_column self.now ≡ ints 1 false }
-        ensures { (entries : List Datum) → Tallies self.now entries
-            → result ≡ count_of index entries }
-    {
-        match self {
-            Column::Bytes(column) => column.length(index),
-            _ => unreachable!(),
-        }
-    }
+    ghost laws = { case_laws _ _ _ _ _ _ ShapeNode-F.Str (λ t. Value-F.Str t)
+        (λ t. text (string_bytes t))
+        node.rolls-Str value.rolls-Str refl (λ t. refl) (λ ds. refl) (λ ds. refl) (λ d is. is)
+        (λ d is. is) (λ t d is. is) (λ t d is. is) texts_reason };
 }

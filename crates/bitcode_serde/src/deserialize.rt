@@ -137,7 +137,8 @@ pub fn deserialize_strict(alloc: Global, shape: &Shape, bytes: &[u8]) -> Result<
 ///
 /// Each unit, number, text, list, tuple and variant in the value is a node, and so is the value itself: `[[], [[]]]`
 /// has 4 nodes, `Some(true)` and `None` have 2 each. A few bytes may spell millions of nodes. So use this call for
-/// untrusted input: it allocates only for the input's columns and for at most `limit` nodes.
+/// untrusted input, and limit the input's size too: each column takes memory. Once more than `limit` nodes were read,
+/// the lists, maps and tuples so far do not grow, and the rest of the input is only validated.
 ///
 /// Errors: those of [`deserialize`], and `too many nodes` if the input spells a value of the shape with more than
 /// `limit` nodes.

@@ -1,13 +1,12 @@
 //! The places that were reached, by number.
 #![tactic(auto)]
 
-ghost use Rattle.std.specs.Prelude.{◌≡◌, ◌<◌, ◌≤◌, ◌+◌, ◌⊎◌, ℕ, [], ◌∷◌, None, Some, length, IfOk, OnOk, IfErr, IfSome};
-ghost use Rattle.std.specs.Prelude.{OnErr};
+ghost use Rattle.std.specs.Prelude.{◌≡◌, ◌≢◌, ◌<◌, ◌≤◌, ◌⊎◌, ℕ, [], ◌∷◌, ◌++◌, None, Some, true, length, slice_get};
+ghost use Rattle.std.specs.Prelude.{IfOk, OnOk, OnErr, IfErr, IfSome, IfNone, IsSomeAnd, IsTrue, MatchBool};
 ghost use Rattle.std.proofs.Props.{props};
-ghost use Rattle.bitcode_serde.specs.declared.step.Step.{Step as CodeStep};
-ghost use Rattle.bitcode_serde.specs.Links.{link, column_link, HasRoomAt};
+ghost use Rattle.bitcode_serde.specs.Links.{is_among, IsUpTo, children, last_field, column_link};
 ghost use Rattle.bitcode_serde.specs.Places.{step_of, place_at, places, IsPlace, LieBelow, AreApart, AreLinked};
-ghost use Rattle.bitcode_serde.specs.Places.{LinkBelow, IsGrown};
+ghost use Rattle.bitcode_serde.specs.Places.{LinkBelow, IsNew, IsGrown};
 
 use crate::links::Links;
 use crate::step::Step;
@@ -39,8 +38,10 @@ pub struct Places {
 
 // Makes room for what a place leads to.
 fn make_room(alloc: Global, links: &mut Vec<Links>, place: usize) -> Result<(), Error>
-    ensures links { (above : ℕ) (step : CodeStep)
-        → link links.new.items above step ≡ link links.old.items above step }
+    ensures children { (above : ℕ)
+        → children links.new.items above ≡ children links.old.items above }
+    ensures last { (above : ℕ)
+        → last_field links.new.items above ≡ last_field links.old.items above }
     ensures columns { (n : ℕ) → column_link links.new.items n ≡ column_link links.old.items n }
     ensures room { OnOk result (place < length links.new.items) }
     ensures refused { IfErr result (λ e. e.reason ≡ Reason.OutOfMemory) }
@@ -51,31 +52,87 @@ fn make_room(alloc: Global, links: &mut Vec<Links>, place: usize) -> Result<(), 
     Ok(())
 }
 
-// Makes room for the place a step below another.
-fn make_room_below(
+// Adds a child to a place, which is that step below it.
+fn add_child(
     alloc: Global,
     links: &mut Vec<Links>,
     above: usize,
     step: Step,
+    child: usize,
 ) -> Result<(), Error>
-    ensures links { (a : ℕ) (s : CodeStep) → link links.new.items a s ≡ link links.old.items a s }
+    ensures there { OnOk result
+        (children links.new.items above ≡ children links.old.items above ++ child ∷ []) }
+    ensures others { (a : ℕ) → (children links.new.items a ≡ children links.old.items a)
+        ⊎ (a ≡ above) }
+    ensures last { OnOk result (IsUpTo (last_field links.new.items above) step) }
+    ensures grows { (a : ℕ) → last_field links.old.items a ≤ last_field links.new.items a }
     ensures columns { (n : ℕ) → column_link links.new.items n ≡ column_link links.old.items n }
-    ensures room { OnOk result (HasRoomAt links.new.items above step) }
+    ensures unchanged { OnErr result
+        ((a : ℕ) → children links.new.items a ≡ children links.old.items a) }
     ensures refused { IfErr result (λ e. e.reason ≡ Reason.OutOfMemory) }
 {
     make_room(alloc, links, above)?;
-    links[above].make_room(step)
+    links[above].add(step, child)
 }
 
-// Links a place to the one a step below it.
-fn set_link(links: &mut [Links], above: usize, step: Step, place: usize)
-    requires { HasRoomAt links.old above step }
-    ensures there { link links.new above step ≡ Some place }
-    ensures others { (a : ℕ) (s : CodeStep) → (link links.new a s ≡ link links.old a s)
-        ⊎ ((a ≡ above) × (s ≡ step)) }
-    ensures columns { (n : ℕ) → column_link links.new n ≡ column_link links.old n }
+// Whether the place at an index is that step below the one above it.
+#[inline(always)]
+fn is_below(below: &[Below], i: usize, step: Step) -> bool
+    ensures { MatchBool result (IsSomeAnd (slice_get below.now i) (λ b. b.step ≡ step))
+        ((b : Below) → slice_get below.now i ≡ Some b → b.step ≢ step) }
 {
-    links[above].set(step, place);
+    match below.get(i) {
+        Some(b) => b.step == step,
+        None => false,
+    }
+}
+
+// The child that is that step below, looked for among all.
+#[inline(never)]
+fn search(below: &[Below], children: &[usize], step: Step) -> Option<usize>
+    ensures found { IfSome result (λ i. (is_among i children.now ≡ true)
+        × IsSomeAnd (slice_get below.now i) (λ b. b.step ≡ step)) }
+    ensures none { IfNone result ((i : ℕ) → is_among i children.now ≡ true
+        → (b : Below) → slice_get below.now i ≡ Some b → b.step ≢ step) }
+{
+    for i in children {
+        if is_below(below, *i, step) {
+            return Some(*i);
+        }
+    }
+    None
+}
+
+// Whether the step is to a later field.
+#[inline(always)]
+fn is_later(step: Step, last: usize) -> bool
+    ensures { IsTrue result → IsUpTo last step → ⊥ }
+{
+    match step {
+        Step::Field(i) => i > last,
+        _ => false,
+    }
+}
+
+// The child that is that step below, looked for at a position first.
+#[inline(always)]
+fn find(below: &[Below], links: &Links, step: Step, position: usize) -> Option<usize>
+    requires { (i : ℕ) → is_among i links.now.children.items ≡ true
+        → (b : Below) → slice_get below.now i ≡ Some b → IsUpTo links.now.last_field b.step }
+    ensures found { IfSome result (λ i. (is_among i links.now.children.items ≡ true)
+        × IsSomeAnd (slice_get below.now i) (λ b. b.step ≡ step)) }
+    ensures none { IfNone result ((i : ℕ) → is_among i links.now.children.items ≡ true
+        → (b : Below) → slice_get below.now i ≡ Some b → b.step ≢ step) }
+{
+    if let Some(i) = links.child(position) {
+        if is_below(below, i, step) {
+            return Some(i);
+        }
+    }
+    if is_later(step, links.last_field) {
+        return None;
+    }
+    search(below, &links.children, step)
 }
 
 // Links a place to its column.
@@ -83,7 +140,8 @@ fn set_column(links: &mut [Links], place: usize, column: usize)
     requires { place < length links.old }
     ensures there { column_link links.new place ≡ Some column }
     ensures others { (n : ℕ) → (column_link links.new n ≡ column_link links.old n) ⊎ (n ≡ place) }
-    ensures links { (a : ℕ) (s : CodeStep) → link links.new a s ≡ link links.old a s }
+    ensures children { (a : ℕ) → children links.new a ≡ children links.old a }
+    ensures last { (a : ℕ) → last_field links.new a ≡ last_field links.old a }
 {
     links[place].column = Some(column);
 }
@@ -119,25 +177,24 @@ impl Places {
         }
     }
 
-    // The place one step below another, if it was met.
+    /// The number of the place one step below another, if it was met. It is looked for at a position among the children
+    /// first.
     #[inline(always)]
-    fn find(&self, above: usize, step: Step) -> Option<usize>
-        ensures { result ≡ link self.now.links.items above step }
-    {
-        match self.links.get(above) {
-            Some(links) => links.get(step),
-            None => None,
-        }
-    }
-
-    /// The number of the place one step below another, if it was met.
-    #[inline(always)]
-    pub fn met(&self, above: usize, step: Step) -> Option<usize>
-        ensures { IfSome result
+    pub fn met(&self, above: usize, step: Step, position: usize) -> Option<usize>
+        ensures some { IfSome result (λ n. 0 < n) }
+        ensures found { IfSome result
             (λ n. IsPlace self.now.below.items n
             (step_of step ∷ place_at (places self.now.below.items) above)) }
+        ensures none { IfNone result
+            (IsNew self.now.below.items (record { above = above; step = step })) }
     {
-        self.find(above, step)
+        match self.links.get(above) {
+            Some(links) => match find(&self.below, links, step, position) {
+                Some(i) => Some(i + 1),
+                None => None,
+            },
+            None => None,
+        }
     }
 
     /// The number of the place one step below another.
@@ -158,7 +215,7 @@ impl Places {
         ensures refused { IfErr result (λ e. e.reason ≡ Reason.OutOfMemory) }
         ensures unchanged { OnErr result (self.new.below.items ≡ self.old.below.items) }
     {
-        match self.find(above, step) {
+        match self.met(above, step, step.position()) {
             Some(place) => Ok(place),
             None => self.add(above, step),
         }
@@ -169,7 +226,7 @@ impl Places {
     #[inline(never)]
     fn add(&mut self, above: usize, step: Step) -> Result<usize, Error>
         requires above { above ≤ length self.old.below.items }
-        requires fresh { link self.old.links.items above step ≡ None }
+        requires fresh { IsNew self.old.below.items (record { above = above; step = step }) }
         ensures some { IfOk result (λ n. 0 < n) }
         ensures found { IfOk result
             (λ n. IsPlace self.new.below.items n
@@ -182,11 +239,11 @@ impl Places {
         ensures refused { IfErr result (λ e. e.reason ≡ Reason.OutOfMemory) }
         ensures unchanged { OnErr result (self.new.below.items ≡ self.old.below.items) }
     {
-        make_room_below(self.alloc, &mut self.links, above, step)?;
-        let place = self.len() + 1;
-        self.below.push(Below { above, step })?;
-        set_link(&mut self.links, above, step, place);
-        Ok(place)
+        let child = self.len();
+        self.below.reserve(1)?;
+        add_child(self.alloc, &mut self.links, above, step, child)?;
+        self.below.push_reserved(Below { above, step });
+        Ok(child + 1)
     }
 
     /// Reserves room for the number of a place's column.

@@ -243,7 +243,7 @@ impl<'a> Reader<'a> {
         ensures asked { IsAskedAs self.old self.new }
         ensures refused { IfErr result (λ e. e.reason ≡ Reason.OutOfMemory) }
     {
-        match self.places.met(above, step) {
+        match self.places.met(above, step, step.position()) {
             Some(place) => Ok(place),
             None => self.meet(above, step, count),
         }
@@ -276,11 +276,17 @@ impl<'a> Reader<'a> {
     }
 
     /// The number of the place of field `i` of a tuple with `fields` fields. The field of a one-field tuple has the
-    /// tuple's place.
+    /// tuple's place. Others are looked for at a position among the tuple's fields that were met.
     ///
     /// If an allocation fails, the error is `out of memory`.
     #[inline(always)]
-    pub fn field(&mut self, place: usize, i: usize, fields: usize) -> Result<usize, Error>
+    pub fn field(
+        &mut self,
+        place: usize,
+        i: usize,
+        fields: usize,
+        position: usize,
+    ) -> Result<usize, Error>
         requires place { place ≤ length self.old.places.below.items }
         requires steady { IsSteady self.old }
         ensures continues { OnOk result (Continues self.old self.new) }
@@ -293,7 +299,7 @@ impl<'a> Reader<'a> {
         if fields == 1 {
             return Ok(place);
         }
-        match self.places.met(place, Step::Field(i)) {
+        match self.places.met(place, Step::Field(i), position) {
             Some(inside) => Ok(inside),
             None => self.meet_field(place, i),
         }

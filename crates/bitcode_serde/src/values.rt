@@ -1,5 +1,5 @@
 //! Reading values under a shape.
-ghost use Rattle.std.specs.Prelude.{◌≡◌, ◌≤◌, [], length, map, IfOk, IfErr, OnOk};
+ghost use Rattle.std.specs.Prelude.{◌≡◌, ◌<◌, ◌≤◌, ◌+◌, [], length, map, IfOk, IfErr, OnOk};
 ghost use Rattle.std.specs.List.{flat_map};
 ghost use Rattle.bitcode_untyped.specs.Faults.{faults_of};
 ghost use Rattle.bitcode_untyped.specs.ShapeTree.{option_tree, seq_tree, map_tree, tuple_tree, choice_tree};
@@ -7,11 +7,13 @@ ghost use Rattle.bitcode_untyped.specs.View.{tree_of_node, trees_of};
 ghost use Rattle.bitcode_serde.specs.Budget.{IsLeft};
 ghost use Rattle.bitcode_serde.specs.ReadingValues.{IsSteady, Continues, ReadsWithin, ReadsListWithin, AddsWithin};
 ghost use Rattle.bitcode_serde.specs.ReadingValues.{IsRefusalAt, IsListRefusalAt, IsOfOption, IsOfSeq, IsOfMap};
-ghost use Rattle.bitcode_serde.specs.ReadingValues.{IsOfTuple, IsOfEnum};
+ghost use Rattle.bitcode_serde.specs.ReadingValues.{AddsFieldWithin, IsFieldRefusalAt, IsOfTuple, IsOfEnum};
+ghost use Rattle.bitcode_serde.specs.Free.{AreFreeBetween};
 
 use crate::budget::Budget;
-use crate::free::{is_free, is_over_limit};
-use crate::leaf::{column_kind, read_bytes, read_entry, read_leaf, read_leaf_behind, read_leaves};
+use crate::column::column_kind;
+use crate::free::{is_free, is_over_limit, lacks_columns, skip_free};
+use crate::read_leaf::{read_bytes, read_entry, read_leaf, read_leaf_behind, read_leaves};
 use crate::reader::Reader;
 use crate::step::Step;
 use bitcode_memory::error::{Error, Reason};
@@ -286,20 +288,91 @@ fn read_tuple(
 {
     budget.take(1);
     let mut values = budget.room(alloc, nodes.len())?;
-    for i in 0..nodes.len() {
-        let inside = reader.field(place, i, nodes.len())?;
-        read_behind(
+    let mut met = 0;
+    let mut i = next_field(budget, table, nodes, left, 0);
+    while i < nodes.len() {
+        met = read_field(
             alloc,
             reader,
             budget,
             table,
             &nodes[i],
             left,
-            inside,
+            place,
+            i,
+            nodes.len(),
+            met,
             &mut values,
         )?;
+        i = next_field(budget, table, nodes, left, i + 1);
     }
     Ok(Value::Tuple(values))
+}
+
+// The field to read from a field on: this one, or once the budget is spent, the next one that has columns.
+#[inline(always)]
+fn next_field(
+    budget: &Budget,
+    table: &[ShapeNode],
+    nodes: &[ShapeNode],
+    left: usize,
+    from: usize,
+) -> usize
+    requires { from ≤ length nodes.now }
+    ensures inside { (from ≤ result) × (result ≤ length nodes.now) }
+    ensures kept { IsLeft budget.now → result ≡ from }
+    ensures free { AreFreeBetween (tree_of_node left table.now) nodes.now from result }
+{
+    if budget.is_spent() {
+        return skip_free(table, nodes, left, from);
+    }
+    from
+}
+
+// Reads field `i` of a tuple with `fields` fields at a place, and puts it behind others, unless the budget is spent. So
+// many fields before it have columns. The result is their number with this field.
+//
+// A field without columns takes no place.
+#[cycle(read)]
+#[inline(always)]
+fn read_field(
+    alloc: Global,
+    reader: &mut Reader<'_>,
+    budget: &mut Budget,
+    table: &[ShapeNode],
+    node: &ShapeNode,
+    left: usize,
+    place: usize,
+    i: usize,
+    fields: usize,
+    met: usize,
+    values: &mut Vec<Value>,
+) -> Result<usize, Error>
+    requires inside { i < fields }
+    requires met { met ≤ i }
+    requires place { place ≤ length reader.old.places.below.items }
+    requires steady { IsSteady reader.old }
+    ensures continues { OnOk result (Continues reader.old reader.new) }
+    ensures read { OnOk result
+        (AddsFieldWithin (tree_of_node left table.now node.now)
+        (λ value. faults_of table.now value left node.now ≡ []) place i fields
+        reader.old budget.old values.old.items reader.new budget.new values.new.items) }
+    ensures met { IfOk result (λ so_many. so_many ≤ i + 1) }
+    ensures refused { IfErr result
+        (λ e. IsFieldRefusalAt (tree_of_node left table.now node.now) place i fields reader.old
+        e.reason) }
+{
+    if column_kind(node).is_none() && lacks_columns(table, node, left) {
+        if budget.is_spent() {
+            return Ok(met);
+        }
+        let value = read_node(alloc, reader, budget, table, node, left, place)?;
+        budget.keep(values, value)?;
+        return Ok(met);
+    }
+    let inside = reader.field(place, i, fields, met)?;
+    read_behind(alloc, reader, budget, table, node, left, inside, values)?;
+    Ok(met + 1)
 }
 
 // Reads an enum with a node for each variant.
@@ -372,6 +445,9 @@ fn read_map(
     let values = reader.step(place, Step::Value, taken.total)?;
     let mut pairs = Vec::new(alloc);
     for _i in 0..taken.length {
+        if budget.is_spent() && is_free(table, key, left) && is_free(table, value, left) {
+            return Ok(Value::Map(pairs));
+        }
         budget.take(1);
         let first = read(alloc, reader, budget, table, key, left, keys)?;
         let second = read(alloc, reader, budget, table, value, left, values)?;

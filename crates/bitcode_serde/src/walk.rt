@@ -15,12 +15,11 @@ ghost use Rattle.bitcode_serde.specs.ReadingValues.{HasColumn, field_at};
 ghost use Rattle.bitcode_serde.specs.Serializing.{Outcome, IsLeaf, IsVariant};
 ghost use Rattle.bitcode_serde.specs.Writing.{written, place_in, Grows};
 
-use crate::column::ColumnKind;
-use crate::entries::leaf_entry;
-use crate::leaf::column_kind;
+use crate::column::{ColumnKind, column_kind};
 use crate::step::Step;
+use crate::write_char::char_entry;
+use crate::write_column::Entry;
 use crate::writer::Writer;
-use crate::written::Entry;
 use bitcode_memory::error::{Error, Reason};
 use bitcode_memory::refuse::err;
 use bitcode_untyped::shape::ShapeNode;
@@ -118,7 +117,7 @@ fn write_leaf(
 {
     match column_kind(node) {
         Some(kind) => writer.put_one(place, kind, value),
-        None => writer.put(place, leaf_entry(node, value)?),
+        None => writer.put(place, char_entry(value)?),
     }
 }
 

@@ -18,11 +18,11 @@ ghost use Rattle.bitcode_serde.specs.Places.{step_of, AreApart, places};
 ghost use Rattle.bitcode_serde.specs.WrittenColumns.{kind_of_entry, datum_of_entry};
 ghost use Rattle.bitcode_serde.specs.Writing.{written, place_in, column_of, Grows, AreOfShape};
 
-use crate::column::ColumnKind;
+use crate::column::{ColumnKind, WrittenColumn};
 use crate::places::Places;
 use crate::step::Step;
+use crate::write_column::Entry;
 pub use crate::writer::state::{PlacedWritten, Writer};
-use crate::written::{Entry, WrittenColumn};
 use bitcode_memory::error::{Error, Reason};
 use bitcode_untyped::value::Value;
 use std::alloc::Global;
@@ -106,15 +106,15 @@ impl Writer {
     /// If an allocation fails, the error is `out of memory`. If the column has other entries, it is
     /// `value is not of the shape`.
     #[inline(always)]
-    pub fn put(&mut self, place: usize, next: Entry<'_>) -> Result<(), Error>
+    pub fn put(&mut self, place: usize, next: Entry) -> Result<(), Error>
         requires { place ≤ length self.old.places.below.items }
         ensures below { OnOk result (self.new.places.below ≡ self.old.places.below) }
         ensures written { OnOk result
             (written self.new ≡ put
-            (use_at (place_in self.old place) (kind_of_entry next.entry)
-            (datum_of_entry next.entry)) (written self.old)) }
+            (use_at (place_in self.old place) (kind_of_entry next)
+            (datum_of_entry next)) (written self.old)) }
         ensures refused { IfErr result (λ e. (root : ShapeTree) → AreOfShape root (written self.old)
-            → HasKindFrom root [] (place_in self.old place) (kind_of_entry next.entry)
+            → HasKindFrom root [] (place_in self.old place) (kind_of_entry next)
             → e.reason ≡ Reason.OutOfMemory) }
     {
         match self.column(place) {
@@ -126,17 +126,17 @@ impl Writer {
     // Writes an entry to the column of a place that has none.
     #[cold]
     #[inline(never)]
-    fn put_first(&mut self, place: usize, next: Entry<'_>) -> Result<(), Error>
+    fn put_first(&mut self, place: usize, next: Entry) -> Result<(), Error>
         requires place { place ≤ length self.old.places.below.items }
         requires fresh { All (λ c. c.place ≢ place) self.old.columns.items }
         ensures below { OnOk result (self.new.places.below ≡ self.old.places.below) }
         ensures written { OnOk result
             (written self.new ≡ put
-            (use_at (place_in self.old place) (kind_of_entry next.entry)
-            (datum_of_entry next.entry)) (written self.old)) }
+            (use_at (place_in self.old place) (kind_of_entry next)
+            (datum_of_entry next)) (written self.old)) }
         ensures refused { IfErr result (λ e. e.reason ≡ Reason.OutOfMemory) }
     {
-        let mut column = WrittenColumn::new(self.alloc, next);
+        let mut column = WrittenColumn::of(next.kind(), self.alloc);
         column.push(next)?;
         self.add(place, column)
     }
@@ -244,7 +244,7 @@ impl Writer {
                 if bytes.is_empty() {
                     return Ok(());
                 }
-                let mut column = WrittenColumn::new(self.alloc, Entry::Byte(0));
+                let mut column = WrittenColumn::of(ColumnKind::Bytes, self.alloc);
                 column.extend_bytes(bytes)?;
                 self.add(place, column)
             }

@@ -27,7 +27,8 @@ pub record DataOf (T : Type 0) : Type 1 where
   pub same : T → T → Type 0
   -- nothing in a value is kept in an order of its own, so that it has one listing
   pub in_order : Bool
-  -- there is no set, map or heap in a value, so that values that are the same have the same listing
+  -- there is no set, map or heap in a value, so that values that are the same have the same listing, and a value lists
+  -- the datum that makes it
   pub determined : Bool
   -- values that are the same are equal in every respect, as numbers are; texts may differ in their capacities
   pub exact : Bool
@@ -40,7 +41,7 @@ pub record DataOf (T : Type 0) : Type 1 where
   pub makeable : Makeable shape is_value lists same makes
   -- all listings of a value hold the same numbers of arrays
   pub same_arrays : ListsSameArrays shape is_value lists
-  pub same_data : HoldSameData determined is_value lists same
+  pub same_data : HoldSameData determined is_value lists same makes
   pub are_exact : AreExact exact is_value same
   pub alike : CompareAlike eq cmp
   pub tells : TellsEqual is_value same eq
@@ -49,7 +50,7 @@ pub record DataOf (T : Type 0) : Type 1 where
 abbrev pub data_of : {T : Type 0} {shape : Shape} {is_value : T → Type 0} {lists : T → Datum → Type 0} {same : T → T → Type 0} {in_order determined exact : Bool}
     {makes : Datum → T → Type 0} {eq : T → T → Bool} {cmp : T → T → Ordering}
     → Lawful shape is_value lists same in_order → Makeable shape is_value lists same makes → ListsSameArrays shape is_value lists
-    → HoldSameData determined is_value lists same → AreExact exact is_value same
+    → HoldSameData determined is_value lists same makes → AreExact exact is_value same
     → CompareAlike eq cmp → TellsEqual is_value same eq → DataOf T
 data_of {shape = shape} {is_value} {lists} {same} {in_order} {determined} {exact} {makes} {eq} {cmp} lawful makeable same_arrays same_data are_exact alike tells = record {
   shape = shape;
@@ -75,7 +76,7 @@ data_of {shape = shape} {is_value} {lists} {same} {in_order} {determined} {exact
 abbrev pub plain_data : {T : Type 0} {shape : Shape} {is_value : T → Type 0} {lists : T → Datum → Type 0} {same : T → T → Type 0} {in_order determined exact : Bool}
     {makes : Datum → T → Type 0}
     → Lawful shape is_value lists same in_order → Makeable shape is_value lists same makes → ListsSameArrays shape is_value lists
-    → HoldSameData determined is_value lists same → AreExact exact is_value same → DataOf T
+    → HoldSameData determined is_value lists same makes → AreExact exact is_value same → DataOf T
 plain_data lawful makeable same_arrays same_data are_exact = data_of lawful makeable same_arrays same_data are_exact ones_alike (λ t u h i s. refl)
 
 -- for a type whose values correspond to those of another type, such as a pointer with what it owns, given an allocator

@@ -3,16 +3,19 @@ use Rattle.std.proofs.Common.{◌≡◌, ℕ, ◌^◌, ◌<◌, Bool, false, tru
 use Rattle.std.specs.Prelude.{IsUtf8, unsigned_abs}
 use Rattle.std.specs.declared.alloc.Global.{Global}
 use Rattle.std.specs.declared.time.Duration.{Duration}
+use lib.Ieee.{Float, Format}
 use Rattle.bitcode_shapes.specs.Checked.{IsCheckedValue, below_second}
 use Rattle.bitcode_shapes.specs.CompareAlike.{bools_alike, integers_alike, naturals_alike, ones_alike, texts_alike}
 use Rattle.bitcode_shapes.specs.DataOf.{DataOf, data_of, plain_data}
 use Rattle.bitcode_shapes.specs.Datum.{text, unit}
 use Rattle.bitcode_shapes.specs.Durations.{seconds_and_nanos}
+use Rattle.bitcode_shapes.specs.Floats.{float_number}
 use Rattle.bitcode_shapes.specs.Ints.{IsValueOfWidth, bool_number}
 use Rattle.bitcode_shapes.specs.KeyLaws.{bools_equal, integers_equal, naturals_equal, texts_equal}
 use Rattle.bitcode_shapes.specs.LawfulChecked.{char_makeable, checked_lawful, signed_nonzero_makeable, unsigned_nonzero_makeable}
 use Rattle.bitcode_shapes.specs.LawfulDurations.{duration_lawful, duration_makeable, nanosecond_makeable}
 use Rattle.bitcode_shapes.specs.LawfulEmpty.{unit_lawful, unit_makeable}
+use Rattle.bitcode_shapes.specs.LawfulFloats.{float_lawful, float_makeable, floats_are_one}
 use Rattle.bitcode_shapes.specs.LawfulInts.{bool_lawful, bool_makeable, int_lawful, signed_makeable, unsigned_makeable, width_4}
 use Rattle.bitcode_shapes.specs.LawfulNever.{from_never, never_lawful, never_makeable}
 use Rattle.bitcode_shapes.specs.LawfulTexts.{text_lawful, text_makeable}
@@ -65,6 +68,13 @@ duration_data =
     plain_data duration_lawful duration_makeable (one_listing_same_arrays duration_lawful)
     (images_same_data seconds_and_nanos
     (pairs_same_data {is_a = IsValueOfWidth 8 false pos} {is_b = IsCheckedValue 4 false below_second pos} (numbers_same_data pos) (numbers_same_data pos))) inexact
+
+-- Floats are the same if they have the same bits, where all NaNs have the same. `==` tells a NaN from itself, and does
+-- not tell 0 from -0, so floats are no keys.
+abbrev pub float_data : (format : Format) → DataOf Float
+float_data format =
+    plain_data (float_lawful format) (float_makeable format) one_datum_same_arrays
+    (numbers_same_data (float_number format)) (exactly (floats_are_one format))
 
 -- ---- texts
 

@@ -8,6 +8,8 @@ pub mod Empty
 pub mod Pairs
 pub mod LawfulInts
 pub mod LawfulEmpty
+pub mod Floats
+pub mod LawfulFloats
 pub mod LawfulPairs
 pub mod Lists
 pub mod LawfulLists

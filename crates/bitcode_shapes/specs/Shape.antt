@@ -1,6 +1,8 @@
 -- A shape says which data a type has, and therefore which columns.
 use Rattle.std.specs.Prelude.{◌≡◌, ℕ, zero, suc, ◌*◌, ◌^◌, ◌<◌, ◌≤◌, Bool, true, false, ℤ, pos, negsuc, ◌≤ℤ◌, ◌≢◌, Option, Some, None, List, length, All, IsUtf8, ◌⊎◌}
 use Rattle.std.specs.Char.{IsScalar}
+use lib.Dec.{T}
+use lib.Ieee.{Float, Format, fits, to_bits}
 use Rattle.bitcode_shapes.specs.Datum.{Datum, number, text, list, choice, unit, data_of, pair}
 
 -- the numbers of a width that an entry may be
@@ -19,6 +21,8 @@ mutual
     bool_shape : Shape
     -- a number of a width in bytes, signed (true) or not
     number_shape : ℕ → Bool → Allowed → Shape
+    -- the bits of a float
+    float_shape : Format → Shape
     -- a UTF-8 text, of at most so many bytes if a number is given
     text_shape : Option ℕ → Shape
     -- a byte of a text
@@ -69,6 +73,12 @@ pub record IsNumberOf (width : ℕ) (signed : Bool) (allowed : Allowed) (d : Dat
   pub in_width : IsInWidth width signed value
   pub in_allowed : IsAllowed allowed value
 
+-- All NaNs have the same bits. Each other float has its own.
+pub record IsFloatOf (format : Format) (d : Datum) : Type 0 where
+  pub value : Float
+  pub is : d ≡ number (pos (to_bits format value))
+  pub in_format : T (fits format value)
+
 pub record IsNaturalBelow (bound : ℕ) (d : Datum) : Type 0 where
   pub value : ℕ
   pub is : d ≡ number (pos value)
@@ -106,6 +116,7 @@ abbrev mutual
   IsOf never_shape d = ⊥
   IsOf bool_shape d = IsNaturalBelow 2 d
   IsOf (number_shape width signed allowed) d = IsNumberOf width signed allowed d
+  IsOf (float_shape format) d = IsFloatOf format d
   IsOf (text_shape limit) d = IsTextOf limit d
   IsOf raw_shape d = IsNaturalBelow 256 d
   IsOf (seq_shape limit element) d = IsListOf (IsOf element) (IsWithin limit) d
@@ -131,6 +142,7 @@ abbrev mutual
   IsSound never_shape = Unit {0}
   IsSound bool_shape = Unit {0}
   IsSound (number_shape width signed allowed) = IsNumberWidth width
+  IsSound (float_shape format) = Unit {0}
   IsSound (text_shape limit) = Unit {0}
   IsSound raw_shape = Unit {0}
   IsSound (seq_shape limit element) = IsSound element

@@ -9,6 +9,7 @@ pub mod choices;
 pub mod durations;
 pub mod empty;
 pub mod fixed_capacity;
+pub mod floats;
 pub mod heaps;
 pub mod ints;
 pub mod keys;

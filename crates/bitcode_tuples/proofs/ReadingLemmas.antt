@@ -1,5 +1,5 @@
 -- Data of pairs are read as the data of the first fields and then those of the second.
-use Rattle.std.proofs.Common.{◌≡◌, Bool, ◌&&◌, ℕ, suc, List, [], ◌∷◌, ◌++◌, length, map, refl, sym, ◌∙◌, ap, subst, arith, append_assoc}
+use Rattle.std.proofs.Common.{◌≡◌, Bool, ◌&&◌, ℕ, suc, ◌+◌, List, [], ◌∷◌, ◌++◌, length, map, refl, sym, ◌∙◌, ap, subst, arith, append_assoc}
 use Rattle.std.specs.Prelude.{All, Result, Ok, Err, IfErr}
 use Rattle.std.proofs.lemmas.List.{length-map}
 use Rattle.std.proofs.lemmas.List.Elements.{All-nil, All-cons, All-head, All-tail}
@@ -7,6 +7,7 @@ use Rattle.bitcode_memory.specs.declared.error.Reason.{Reason}
 use Rattle.bitcode_columns.specs.Reading.{Reads}
 use Rattle.bitcode_shapes.specs.Datum.{Datum, pair, first_in, second_in}
 use Rattle.bitcode_shapes.specs.Shape.{Shape, pair_shape, IsOf, IsPairOf}
+use Rattle.bitcode_coder.specs.ColumnFree.{free_count, saturated}
 use Rattle.bitcode_coder.specs.Columns.{CountsFit}
 use Rattle.bitcode_coder.specs.Transposition.{columns_of}
 use Rattle.bitcode_coder.specs.Spelling.{Spells, SpellsColumns}
@@ -14,6 +15,7 @@ use Rattle.bitcode_coder.specs.Coder.{IsReadingRefusal}
 use Rattle.bitcode_coder.specs.Strict.{JudgesData}
 use Rattle.bitcode_tuples.specs.Pairs.{pairs_of}
 use Rattle.bitcode_tuples.specs.PairLaws.{firsts_are, seconds_are}
+use Rattle.bitcode_coder.proofs.ColumnFreeLemmas.{saturated_sum}
 use Rattle.bitcode_coder.proofs.SpellingLemmas.{Spells-unambiguous}
 
 -- ---- lists of pairs
@@ -67,6 +69,16 @@ module _ (s t : Shape) (k : ℕ) where
           };
         };
       }
+
+  -- the elements without columns inside both parts are those inside the pairs
+  pub counts_pairs : {old middle : List ℕ} {ds : List Datum} (new : List ℕ) (es : List Datum) → Reads (Spells s) k old ds middle → Reads (Spells t) k middle es new
+      → (a b : ℕ) → saturated a ≡ saturated (free_count s ds) → saturated b ≡ saturated (free_count t es)
+      → saturated (a + b) ≡ saturated (free_count (pair_shape s t) (pairs_of ds es))
+  counts_pairs {ds = ds} new es r q a b first second =
+      let same : length ds ≡ length es = r.size ∙ sym q.size in
+      saturated_sum a (free_count s (map first_in (pairs_of ds es))) b (free_count t (map second_in (pairs_of ds es)))
+      (first ∙ ap (λ xs. saturated (free_count s xs)) (sym (firsts-pairs_of ds es same)))
+      (second ∙ ap (λ xs. saturated (free_count t xs)) (sym (seconds-pairs_of ds es same)))
 
   -- the answer of both parts is that of pairs
   pub judges_pairs : {old middle : List ℕ} {ds : List Datum} (new : List ℕ) (es : List Datum) (a b : Bool) → Reads (Spells s) k old ds middle

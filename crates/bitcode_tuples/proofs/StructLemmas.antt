@@ -1,6 +1,6 @@
 -- A struct written by hand: what the coders of its fields do makes up what its own coder does. Each lemma closes one goal
 -- that the check leaves of such a struct's `read` or `encode`, from the clauses of the fields' calls.
-use Rattle.std.proofs.Common.{◌≡◌, ℕ, Bool, ◌&&◌, List, Result, Ok, Err, IfErr, subst, sym, inr}
+use Rattle.std.proofs.Common.{◌≡◌, ℕ, ◌+◌, Bool, ◌&&◌, List, Result, Ok, Err, IfErr, subst, sym, inr}
 use Rattle.std.specs.Prelude.{◌⊎◌}
 use Rattle.std.specs.Result.{IsErrAnd, OnErr}
 use Rattle.bitcode_memory.specs.declared.error.Error.{Error}
@@ -9,13 +9,15 @@ use Rattle.bitcode_columns.specs.Reading.{Reads, IsEndOf}
 use Rattle.bitcode_shapes.specs.Datum.{Datum}
 use Rattle.bitcode_shapes.specs.Shape.{Shape, pair_shape}
 use Rattle.bitcode_shapes.specs.Pairs.{ListsPair}
+use Rattle.bitcode_coder.specs.ColumnFree.{free_count, saturated}
 use Rattle.bitcode_coder.specs.Columns.{Columns, two}
 use Rattle.bitcode_coder.specs.Spelling.{Spells}
 use Rattle.bitcode_coder.specs.Coder.{IsReadingRefusal, JoinsListing, OverflowsWithListing}
 use Rattle.bitcode_coder.specs.Strict.{JudgesData}
 use Rattle.bitcode_coder.proofs.LengthPartLemmas.{ends_behind_read}
-use Rattle.bitcode_tuples.specs.Pairs.{pairs_of, FaultsBehind}
-use Rattle.bitcode_tuples.proofs.ReadingLemmas.{reads_pairs, judges_pairs, refuses_first, refuses_second}
+use Rattle.bitcode_coder.specs.FirstFault.{IsFirstFault}
+use Rattle.bitcode_tuples.specs.Pairs.{pairs_of}
+use Rattle.bitcode_tuples.proofs.ReadingLemmas.{reads_pairs, counts_pairs, judges_pairs, refuses_first, refuses_second}
 use Rattle.bitcode_tuples.proofs.WritingLemmas.{joins_pair, overflows_with_first, overflows_with_second}
 
 -- ---- read
@@ -33,6 +35,11 @@ module _ {s : Shape} {k : ℕ} {old : List ℕ} (t : Shape) where
         → Reads (Spells (pair_shape s t)) k old (pairs_of ds es) new
     struct_read new es first second = reads_pairs s t k new es first second
 
+    -- the elements without columns are those inside both fields
+    pub struct_counted : (new : List ℕ) (es : List Datum) (a b : ℕ) → Reads (Spells s) k old ds middle → Reads (Spells t) k middle es new
+        → saturated a ≡ saturated (free_count s ds) → saturated b ≡ saturated (free_count t es) → saturated (a + b) ≡ saturated (free_count (pair_shape s t) (pairs_of ds es))
+    struct_counted new es a b first second told told_behind = counts_pairs s t k new es first second a b told told_behind
+
     -- the answer is that of both fields
     pub struct_judged : (new : List ℕ) (es : List Datum) (a b : Bool) → Reads (Spells s) k old ds middle → Reads (Spells t) k middle es new
         → JudgesData s ds a old middle → JudgesData t es b middle new → JudgesData (pair_shape s t) (pairs_of ds es) (a && b) old new
@@ -45,12 +52,12 @@ module _ {s : Shape} {k : ℕ} {old : List ℕ} (t : Shape) where
     struct_refused e (Err f) stopped first second =
         subst (λ (x : Error). IsReadingRefusal (pair_shape s t) x.reason k old) (sym stopped) (refuses_second s t k e.reason old middle ds first second)
 
-pub struct_exact : {s : Shape} {k : ℕ} {old middle : List ℕ} {ds : List Datum} {T : Type 0} (FirstFault : Error → Type 0) (faults : Reason → ℕ → List ℕ → Type 0)
-    (e : Error) (r : Result T Error) → IsErrAnd r (λ f. f ≡ e) → Reads (Spells s) k old ds middle → faults e.reason k middle
-    → IfErr r (λ f. FirstFault f ⊎ FaultsBehind s faults f.reason k old)
-struct_exact FirstFault faults e (Ok x) stopped first second = absurd stopped
-struct_exact {s} {k} {old} FirstFault faults e (Err f) stopped first second =
-    subst (λ (x : Error). FirstFault x ⊎ FaultsBehind s faults x.reason k old) (sym stopped) (inr (record { firsts = _; rest = _; read = first; fault = second }))
+    -- and this is the fault that the second field reports
+    pub struct_exact : {T : Type 0} (e : Error) (r : Result T Error) → IsErrAnd r (λ f. f ≡ e) → Reads (Spells s) k old ds middle → IsFirstFault t e.reason k middle
+        → IfErr r (λ f. IsFirstFault (pair_shape s t) f.reason k old)
+    struct_exact e (Ok x) stopped first second = absurd stopped
+    struct_exact e (Err f) stopped first second =
+        subst (λ (x : Error). IsFirstFault (pair_shape s t) x.reason k old) (sym stopped) (inr (record { entries = _; rest = _; read = first; fault = second }))
 
 pub struct_rest : {s : Shape} {k : ℕ} {old middle : List ℕ} {ds : List Datum} {T : Type 0} (new : List ℕ) (r : Result T Error)
     → Reads (Spells s) k old ds middle → IsEndOf middle new → OnErr r (IsEndOf old new)
@@ -58,7 +65,7 @@ struct_rest new (Ok x) first second = tt
 struct_rest new (Err e) first second = ends_behind_read new first second
 
 -- the lemmas that the check applies by itself where it is told to: #[tactic(auto, using(..::struct_reading))]
-pub ruleset struct_reading = (struct_read, struct_judged, struct_rest)
+pub ruleset struct_reading = (struct_read, struct_counted, struct_judged, struct_rest)
 
 -- ---- encode
 

@@ -1,10 +1,11 @@
 //! The decoder of pairs.
-ghost use Rattle.std.specs.Prelude.{◌⊎◌, ◌&&◌, ℕ, ◌+◌};
+ghost use Rattle.std.specs.Prelude.{◌≡◌, ◌&&◌, ◌+◌};
 ghost use Rattle.bitcode_shapes.specs.Shape.{pair_shape};
-ghost use Rattle.bitcode_tuples.specs.Pairs.{pairs_of, FaultsBehind};
+ghost use Rattle.bitcode_tuples.specs.Pairs.{pairs_of};
 ghost use Rattle.bitcode_tuples.specs.PairLaws.{same_pair_shape};
 
 use bitcode_coder::coder::{Decoder, HoldsData, View, both};
+use bitcode_coder::column_free::ColumnFree;
 use bitcode_memory::error::Error;
 use bitcode_shapes::shaped::Shaped;
 use std::alloc::Global;
@@ -30,8 +31,7 @@ impl<A: HoldsData, B: HoldsData> HoldsData for TupleDecoder<A, B> {
 }
 
 impl<'a, A: View<'a>, B: View<'a>> View<'a> for TupleDecoder<A, B> {
-    ghost faults = { λ reason k input. A.faults reason k input
-        ⊎ FaultsBehind A.shape B.faults reason k input };
+    ghost free_inside = { λ d. A.free_inside d.first + B.free_inside d.second };
 
     fn new(alloc: Global) -> Self {
         TupleDecoder {
@@ -44,6 +44,41 @@ impl<'a, A: View<'a>, B: View<'a>> View<'a> for TupleDecoder<A, B> {
         let first = self.first.read(input, k, strict)?;
         let second = self.second.read(input, k, strict)?;
         Ok(both(first, second))
+    }
+
+    fn column_free(&self) -> ColumnFree {
+        let first = self.first.column_free();
+        let second = self.second.column_free();
+        ColumnFree {
+            has_entry: first.has_entry || second.has_entry,
+            inside: first.inside.saturating_add(second.inside),
+        }
+    }
+}
+
+impl<A, B> TupleDecoder<A, B> {
+    /// The decoder of the first fields.
+    ///
+    /// ```rust
+    /// let pairs: TupleDecoder<BoolDecoder, IntDecoder<u8>> = TupleDecoder::new(alloc);
+    /// assert_eq!(rt; pairs.first().column_free().inside, 0);
+    /// ```
+    pub fn first(&self) -> &A
+        ensures { result.now ≡ self.now.first }
+    {
+        &self.first
+    }
+
+    /// The decoder of the second fields.
+    ///
+    /// ```rust
+    /// let pairs: TupleDecoder<BoolDecoder, IntDecoder<u8>> = TupleDecoder::new(alloc);
+    /// assert_eq!(rt; pairs.second().column_free().inside, 0);
+    /// ```
+    pub fn second(&self) -> &B
+        ensures { result.now ≡ self.now.second }
+    {
+        &self.second
     }
 }
 

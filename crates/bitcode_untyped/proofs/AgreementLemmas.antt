@@ -1,14 +1,14 @@
 -- A value has no fault just where it has the cases of its shape, and a datum of it: level by level.
-use Rattle.std.proofs.Common.{◌≡◌, ℕ, zero, suc, ◌≤◌, ◌<◌, Bool, true, false, ◌&&◌, List, [], ◌∷◌, ◌++◌, map, Some, None, slice_get, inl, inr, nat_lt, if◌then◌else◌, pos, string_bytes, refl, sym, ap, subst, ◌∙◌, arith}
+use Rattle.std.proofs.Common.{◌≡◌, ℕ, zero, suc, ◌≤◌, ◌<◌, Bool, true, false, ◌&&◌, List, [], ◌∷◌, ◌++◌, map, Some, None, slice_get, inl, inr, nat_lt, if◌then◌else◌, refl, sym, ap, subst, ◌∙◌, arith}
 use Rattle.std.specs.List.{flat_map, list_all, AllByRecursion}
 use Rattle.std.proofs.lemmas.Bool.{cases_Bool, ltb-true, ltb-false}
 use Rattle.bitcode_memory.specs.declared.error.Reason.{Reason}
 use Rattle.bitcode_memory.specs.declared.error.Reason.TheVariants.{TooManyVariants, NotOfTheShape, NestedTooDeep}
 use Rattle.bitcode_shapes.specs.Datum.{Datum, list, pair, data_of, list_of}
-use Rattle.bitcode_shapes.specs.Shape.{any_number}
 use Rattle.bitcode_coder.specs.Spelling.{natural}
 use Rattle.bitcode_untyped.specs.Cases.{Comparison, fields_agree, agrees_if_there, agrees_by, agrees_at, agrees_step, agrees_with, IsOfItsType, FaultsTell}
-use Rattle.bitcode_untyped.specs.Faults.{Followed, stands, too_deep, nowhere, follow, Judge, faults_of, faults_at, faults_by, faults_of_fields, faults_of_variant, value_faults}
+use Rattle.bitcode_untyped.specs.Faults.{Followed, stands, too_deep, nowhere, follow, Judge, faults_of, faults_at, faults_by, faults_of_fields, faults_of_leaf, faults_of_variant, value_faults}
+use Rattle.bitcode_untyped.specs.Leaves.{leaf_of_node, entry_of, is_of}
 use Rattle.bitcode_untyped.specs.ShapeTree.{IsOf, AreOf, IsOfVariant, IsPair, natural_tree}
 use Rattle.bitcode_untyped.specs.View.{datum_of, datum_step, tree_of, tree_of_node, trees_of, entry_tree, followed, reference_limit}
 use Rattle.bitcode_untyped.specs.declared.shape.Shape.{Shape}
@@ -21,9 +21,10 @@ use Rattle.bitcode_untyped.specs.declared.value.Value.TheFolds.{fold_out-Value, 
 use Rattle.bitcode_untyped.proofs.ContentLemmas.{no_first, no_last}
 use Rattle.bitcode_untyped.proofs.FaultLemmas.{faults_at-follow}
 use Rattle.bitcode_untyped.proofs.FollowedLemmas.{followed-suc}
+use Rattle.bitcode_untyped.proofs.LeafLemmas.{entry_kept, datum_there, leaf_layer}
 use Rattle.bitcode_untyped.proofs.ReadLemmas.{list_of-data_of}
 use Rattle.bitcode_untyped.proofs.ThereLemmas.{layer_tree, tree_there, tree_of_follow}
-use Rattle.bitcode_untyped.proofs.TypedLemmas.{of_number, all_bytes, of_char, of_text, of_truth}
+use Rattle.bitcode_untyped.proofs.TypedLemmas.{all_bytes, IsEntry, entry_is, leaf_one}
 
 -- ---- what is told of a value
 
@@ -69,6 +70,10 @@ same O T is = record { none = λ h o. refl; cases = λ h. refl; is_one = λ t h.
 -- another case
 other : (O T : Type 0) (reason : Reason) → Tells false O T (reason ∷ [])
 other O T reason = record { none = λ h o. cc; cases = λ h. cc; is_one = λ t h. cc }
+
+told_if : (b : Bool) (O T : Type 0) → (b ≡ true → T → O) → Tells b O T (faults_of_leaf b)
+told_if true O T is = same O T (is refl)
+told_if false O T is = other O T NotOfTheShape
 
 -- nothing is of such a shape
 apart : (a : Bool) (O T : Type 0) (reason : Reason) → a ≡ true → (O → ⊥) → Tells a O T (reason ∷ [])
@@ -226,22 +231,18 @@ module _ (table : List ShapeNode) where
   abbrev IsTypedLevel : Value-F Known → Type 0
   IsTypedLevel y = IsOfItsType (values_in y) × AllByRecursion IsTyped (map value_of (parts_in y))
 
+  -- a value of a leaf, or a node that is one
+  leaf_told : (left : ℕ) (y : Value-F Known) (n : ShapeNode-F ShapeNode)
+      → Tells (is_of (entry_of y) (leaf_of_node n)) (IsOf (layer_tree table left n) (datum_in y)) (IsTypedLevel y) (faults_of_leaf (is_of (entry_of y) (leaf_of_node n)))
+  leaf_told left y n =
+      told_if (is_of (entry_of y) (leaf_of_node n)) _ _ (λ is t.
+      leaf_one (entry_of y) (leaf_of_node n) _ _ is (subst IsEntry (entry_kept value_of y) (entry_is (values_in y) t.0))
+      (λ leaf h. leaf_layer (tree_of_node left table) (followed left table) n leaf h)
+      (λ e h. datum_there _ e (entry_kept datum_of (values_in y) ∙ entry_kept value_of y ∙ h)))
+
   level : (y : Value-F Known) (left : ℕ) (n : ShapeNode-F ShapeNode)
       → Tells (agrees_by (cases_in y) left n) (IsOf (layer_tree table left n) (datum_in y)) (IsTypedLevel y) (faults_by (faults_in y) left n)
   level Value-F.Unit left ShapeNode-F.Unit = same _ _ (λ t. refl)
-  level (Value-F.Bool b) left ShapeNode-F.Bool = same _ _ (λ t. (of_truth b, tt))
-  level (Value-F.U8 n) left ShapeNode-F.U8 = same _ _ (λ t. of_number 1 false any_number (pos n) t.0 tt)
-  level (Value-F.U16 n) left ShapeNode-F.U16 = same _ _ (λ t. of_number 2 false any_number (pos n) t.0 tt)
-  level (Value-F.U32 n) left ShapeNode-F.U32 = same _ _ (λ t. of_number 4 false any_number (pos n) t.0 tt)
-  level (Value-F.U64 n) left ShapeNode-F.U64 = same _ _ (λ t. of_number 8 false any_number (pos n) t.0 tt)
-  level (Value-F.U128 n) left ShapeNode-F.U128 = same _ _ (λ t. of_number 16 false any_number (pos n) t.0 tt)
-  level (Value-F.I8 z) left ShapeNode-F.I8 = same _ _ (λ t. of_number 1 true any_number z t.0 tt)
-  level (Value-F.I16 z) left ShapeNode-F.I16 = same _ _ (λ t. of_number 2 true any_number z t.0 tt)
-  level (Value-F.I32 z) left ShapeNode-F.I32 = same _ _ (λ t. of_number 4 true any_number z t.0 tt)
-  level (Value-F.I64 z) left ShapeNode-F.I64 = same _ _ (λ t. of_number 8 true any_number z t.0 tt)
-  level (Value-F.I128 z) left ShapeNode-F.I128 = same _ _ (λ t. of_number 16 true any_number z t.0 tt)
-  level (Value-F.Char c) left ShapeNode-F.Char = same _ _ (λ t. of_char c t.0)
-  level (Value-F.Str s) left ShapeNode-F.Str = same _ _ (λ t. of_text (string_bytes s) t.0)
   level (Value-F.Bytes v) left ShapeNode-F.Bytes =
       same _ _ (λ t. (is_list (map natural v.items), are_elements (IsOf (natural_tree 1)) (map natural v.items) (each_map (IsOf (natural_tree 1)) natural v.items (all_bytes v.items t.0))))
   level (Value-F.Option None) left (ShapeNode-F.Option n) = same _ _ (λ t. (refl, (omega arith), refl))
@@ -261,7 +262,7 @@ module _ (table : List ShapeNode) where
       told_as _ _ _ _ _ _ (λ o. (o.1, o.2)) (λ o. (refl, o.0, o.1)) (λ t. t.1.0) (enum_told i _ _ _ _ (variant_told left k.value ns.items i))
   level (Value-F.Option None) left n = other _ _ NotOfTheShape
   level (Value-F.Option (Some k)) left n = other _ _ NotOfTheShape
-  level _ left _ = other _ _ NotOfTheShape
+  level y left n = leaf_told left y n
 
   -- ---- all levels
 

@@ -2,7 +2,7 @@
 use Rattle.std.proofs.Common.{◌≡◌, ℕ, zero, suc, ◌+◌, ◌*◌, ◌≤◌, List, [], ◌∷◌, ◌++◌, length, refl, ap, Bool, true, false, cond, arith, length-append, ◌&&◌}
 use Rattle.std.specs.List.{AllByRecursion, flat_map}
 use Rattle.bitcode_shapes.specs.Datum.{Datum, Data, unit, number, text, list, tuple, choice, no_data, datum_and, list_of, elements_in, fields_in, first_in, second_in, variant_in, payload_in}
-use Rattle.bitcode_coder.specs.Columns.{Kind, bools, ints, lengths, texts, raws, variants, IsEntryOf}
+use Rattle.bitcode_coder.specs.Columns.{Kind, bools, ints, floats, lengths, texts, raws, variants, IsEntryOf}
 use Rattle.bitcode_untyped.specs.Bounds.{element_count, element_counts, column_free, all_free, IsLimited, AreLimited, IsLimitedVariant}
 use Rattle.bitcode_untyped.specs.ShapeTree.{ShapeTree, unit_tree, never_tree, leaf_tree, seq_tree, map_tree, tuple_tree, choice_tree, ShapeTrees, no_trees, tree_and, IsList, IsPair, IsOf, AreOf, IsOfVariant}
 use Rattle.bitcode_untyped.specs.Walk.{element, key, value, variant, Place, Use, field_place, walk, walk_fields, walk_variant}
@@ -14,6 +14,7 @@ counts_of (d ∷ ds) = element_count d + counts_of ds
 pub leaf_count : (k : Kind) (d : Datum) → IsEntryOf k d → element_count d ≡ 0
 leaf_count bools d h = ap element_count h.is
 leaf_count (ints w s) d h = ap element_count h.is
+leaf_count (floats format) d h = ap element_count h.is
 leaf_count (lengths limit) d h = ap element_count h.1.0
 leaf_count (texts limit) d h = ap element_count h.is
 leaf_count raws d h = ap element_count h.is

@@ -1,12 +1,13 @@
 -- The shape and the datum decide what a value holds, and its cases.
-use Rattle.std.proofs.Common.{◌≡◌, ℕ, List, [], ◌∷◌, ◌++◌, map, Option, Some, None, slice_get, inl, inr, nat_lt, if◌then◌else◌, refl, sym, ap, subst, ◌∙◌}
+use Rattle.std.proofs.Common.{◌≡◌, ℕ, ◌+◌, ◌≤◌, List, [], ◌∷◌, ◌++◌, map, Option, Some, None, slice_get, inl, inr, nat_lt, if◌then◌else◌, refl, sym, ap, subst, ◌∙◌, arith}
 use Rattle.std.specs.List.{flat_map}
 use Rattle.std.proofs.lemmas.Bool.{cases_Bool}
 use Rattle.bitcode_memory.specs.declared.error.Reason.{Reason}
-use Rattle.bitcode_memory.specs.declared.error.Reason.TheVariants.{TooManyVariants}
+use Rattle.bitcode_memory.specs.declared.error.Reason.TheVariants.{TooManyVariants, NotOfTheShape}
 use Rattle.bitcode_shapes.specs.Datum.{Datum, list, tuple, choice, pair, data_of, list_of, elements_in, fields_in, first_in, second_in, variant_in, payload_in}
-use Rattle.bitcode_untyped.specs.Content.{case_number, content_step, content_of, DatumDecides}
-use Rattle.bitcode_untyped.specs.Faults.{Followed, stands, too_deep, nowhere, follow, Judge, faults_of, faults_at, faults_by, faults_of_fields, faults_of_variant}
+use Rattle.bitcode_untyped.specs.Content.{number_of_entry, case_number, content_step, content_of, DatumDecides}
+use Rattle.bitcode_untyped.specs.Faults.{Followed, stands, too_deep, nowhere, follow, Judge, faults_of, faults_at, faults_by, faults_of_fields, faults_of_leaf, faults_of_variant}
+use Rattle.bitcode_untyped.specs.Leaves.{Leaf, Entry, leaf_of_node, entry_of, is_of, leaf_number}
 use Rattle.bitcode_untyped.specs.View.{datum_of, datum_step, reference_limit}
 use Rattle.bitcode_untyped.specs.declared.shape.Shape.{Shape}
 use Rattle.bitcode_untyped.specs.declared.shape.ShapeNode.{ShapeNode}
@@ -16,6 +17,7 @@ use Rattle.bitcode_untyped.specs.declared.value.Value.TheOpen.{Value-F}
 use Rattle.bitcode_untyped.specs.declared.value.Value.TheViews.{roll-Value, out-roll-Value}
 use Rattle.bitcode_untyped.specs.declared.value.Value.TheFolds.{fold_out-Value, map-Value, ind-Value}
 use Rattle.bitcode_untyped.proofs.FaultLemmas.{faults_at-follow}
+use Rattle.bitcode_untyped.proofs.LeafLemmas.{is_leaf, entry_kept, datum_there}
 use Rattle.bitcode_untyped.proofs.ReadLemmas.{list_of-data_of}
 
 -- ---- no faults
@@ -30,44 +32,44 @@ no_last (x ∷ xs) ys h = cc
 
 -- ---- the case of a node
 
+abbrev case_of_leaf : Option Leaf → ℕ
+case_of_leaf (Some leaf) = 7 + leaf_number leaf
+case_of_leaf None = 0
+
 abbrev case_of_node : ShapeNode-F ShapeNode → ℕ
 case_of_node ShapeNode-F.Unit = 0
-case_of_node ShapeNode-F.Bool = 1
-case_of_node ShapeNode-F.U8 = 2
-case_of_node ShapeNode-F.U16 = 3
-case_of_node ShapeNode-F.U32 = 4
-case_of_node ShapeNode-F.U64 = 5
-case_of_node ShapeNode-F.U128 = 6
-case_of_node ShapeNode-F.I8 = 7
-case_of_node ShapeNode-F.I16 = 8
-case_of_node ShapeNode-F.I32 = 9
-case_of_node ShapeNode-F.I64 = 10
-case_of_node ShapeNode-F.I128 = 11
-case_of_node ShapeNode-F.Char = 12
-case_of_node ShapeNode-F.Str = 13
-case_of_node ShapeNode-F.Bytes = 14
-case_of_node (ShapeNode-F.Option n) = 15
-case_of_node (ShapeNode-F.Seq n) = 16
-case_of_node (ShapeNode-F.Map k n) = 17
-case_of_node (ShapeNode-F.Tuple ns) = 18
-case_of_node (ShapeNode-F.Enum ns) = 19
-case_of_node (ShapeNode-F.Ref i) = 20
+case_of_node ShapeNode-F.Bytes = 1
+case_of_node (ShapeNode-F.Option n) = 2
+case_of_node (ShapeNode-F.Seq n) = 3
+case_of_node (ShapeNode-F.Map k n) = 4
+case_of_node (ShapeNode-F.Tuple ns) = 5
+case_of_node (ShapeNode-F.Enum ns) = 6
+case_of_node (ShapeNode-F.Ref i) = 7
+case_of_node node = case_of_leaf (leaf_of_node node)
+
+leaf_case : (e : Entry) (l : Option Leaf) → faults_of_leaf (is_of (Some e) l) ≡ [] → number_of_entry (Some e) ≡ case_of_leaf l
+leaf_case e None h = cc
+leaf_case e (Some leaf) h =
+    elim (cases_Bool (is_of (Some e) (Some leaf))) [
+      | inl same ↦ ap (λ l. 7 + leaf_number l) (is_leaf e leaf same)
+      | inr other ↦ let bad : NotOfTheShape ∷ [] ≡ [] = (rw other at h) in cc
+    ]
+
+-- of a value of a leaf
+entry_case : (o : Option Entry) (n : ShapeNode-F ShapeNode) → faults_of_leaf (is_of o (leaf_of_node n)) ≡ [] → number_of_entry o ≡ case_of_node n
+entry_case None n h = cc
+entry_case (Some e) ShapeNode-F.Unit h = cc
+entry_case (Some e) ShapeNode-F.Bytes h = cc
+entry_case (Some e) (ShapeNode-F.Option n) h = cc
+entry_case (Some e) (ShapeNode-F.Seq n) h = cc
+entry_case (Some e) (ShapeNode-F.Map k n) h = cc
+entry_case (Some e) (ShapeNode-F.Tuple ns) h = cc
+entry_case (Some e) (ShapeNode-F.Enum ns) h = cc
+entry_case (Some e) (ShapeNode-F.Ref i) h = cc
+entry_case (Some e) n h = leaf_case e (leaf_of_node n) h
 
 same_case : (z : Value-F Judge) (left : ℕ) (n : ShapeNode-F ShapeNode) → faults_by z left n ≡ [] → case_number z ≡ case_of_node n
 same_case Value-F.Unit left ShapeNode-F.Unit h = refl
-same_case (Value-F.Bool b) left ShapeNode-F.Bool h = refl
-same_case (Value-F.U8 n) left ShapeNode-F.U8 h = refl
-same_case (Value-F.U16 n) left ShapeNode-F.U16 h = refl
-same_case (Value-F.U32 n) left ShapeNode-F.U32 h = refl
-same_case (Value-F.U64 n) left ShapeNode-F.U64 h = refl
-same_case (Value-F.U128 n) left ShapeNode-F.U128 h = refl
-same_case (Value-F.I8 z) left ShapeNode-F.I8 h = refl
-same_case (Value-F.I16 z) left ShapeNode-F.I16 h = refl
-same_case (Value-F.I32 z) left ShapeNode-F.I32 h = refl
-same_case (Value-F.I64 z) left ShapeNode-F.I64 h = refl
-same_case (Value-F.I128 z) left ShapeNode-F.I128 h = refl
-same_case (Value-F.Char c) left ShapeNode-F.Char h = refl
-same_case (Value-F.Str s) left ShapeNode-F.Str h = refl
 same_case (Value-F.Bytes v) left ShapeNode-F.Bytes h = refl
 same_case (Value-F.Option None) left (ShapeNode-F.Option n) h = refl
 same_case (Value-F.Option (Some j)) left (ShapeNode-F.Option n) h = refl
@@ -77,12 +79,29 @@ same_case (Value-F.Tuple v) left (ShapeNode-F.Tuple ns) h = refl
 same_case (Value-F.Enum i j) left (ShapeNode-F.Enum ns) h = refl
 same_case (Value-F.Option None) left n h = cc
 same_case (Value-F.Option (Some j)) left n h = cc
-same_case _ left _ h = cc
+same_case Value-F.Unit left n h = cc
+same_case (Value-F.Bytes v) left n h = cc
+same_case (Value-F.Seq v) left n h = cc
+same_case (Value-F.Map v) left n h = cc
+same_case (Value-F.Tuple v) left n h = cc
+same_case (Value-F.Enum i j) left n h = cc
+same_case z left n h = entry_case (entry_of z) n h
 
 case_kept : {A B : Type 0} (f : A → B) (y : Value-F A) → case_number (map-Value A B f y) ≡ case_number y
 case_kept f (Value-F.Option None) = refl
 case_kept f (Value-F.Option (Some b)) = refl
 case_kept f _ = refl
+
+entry_by_number : (z : Value-F Value) → 7 ≤ case_number z → (e : Entry) × (entry_of z ≡ Some e)
+entry_by_number Value-F.Unit h = absurd (omega (arith, h))
+entry_by_number (Value-F.Bytes v) h = absurd (omega (arith, h))
+entry_by_number (Value-F.Option None) h = absurd (omega (arith, h))
+entry_by_number (Value-F.Option (Some b)) h = absurd (omega (arith, h))
+entry_by_number (Value-F.Seq v) h = absurd (omega (arith, h))
+entry_by_number (Value-F.Map v) h = absurd (omega (arith, h))
+entry_by_number (Value-F.Tuple v) h = absurd (omega (arith, h))
+entry_by_number (Value-F.Enum i b) h = absurd (omega (arith, h))
+entry_by_number _ h = (_, refl)
 
 -- ---- what is known of the parts
 
@@ -202,22 +221,18 @@ module _ (table : List ShapeNode) where
         | inr e ↦ variant_decided left v w o (rw e at h) (rw e at k) d
       ]
 
+  -- a value of a leaf has its datum as content
+  leaf_level : (y : Value-F Known) (z : Value-F Value) (e : Entry) → entry_of y ≡ Some e → case_number y ≡ case_number z → 7 ≤ case_number y
+      → known_datum y ≡ plain_datum z → known_content y ≡ plain_content z
+  leaf_level y z e there same leaf d =
+      let other = entry_by_number z (subst (λ n. 7 ≤ n) same leaf) in
+      datum_there _ e (entry_kept content_of (map-Value Known Value value_of y) ∙ entry_kept value_of y ∙ there)
+      ∙ sym (datum_there _ e (entry_kept datum_of (map-Value Known Value value_of y) ∙ entry_kept value_of y ∙ there)) ∙ d
+      ∙ datum_there _ other.0 (entry_kept datum_of z ∙ other.1) ∙ sym (datum_there _ other.0 (entry_kept content_of z ∙ other.1))
+
   level : (y : Value-F Known) (z : Value-F Value) (left : ℕ) (n : ShapeNode-F ShapeNode) → faults_by (known_faults y) left n ≡ []
       → faults_by (plain_faults z) left n ≡ [] → case_number y ≡ case_number z → known_datum y ≡ plain_datum z → known_content y ≡ plain_content z
   level Value-F.Unit Value-F.Unit left node h k e d = d
-  level (Value-F.Bool b) (Value-F.Bool b1) left node h k e d = d
-  level (Value-F.U8 n) (Value-F.U8 n1) left node h k e d = d
-  level (Value-F.U16 n) (Value-F.U16 n1) left node h k e d = d
-  level (Value-F.U32 n) (Value-F.U32 n1) left node h k e d = d
-  level (Value-F.U64 n) (Value-F.U64 n1) left node h k e d = d
-  level (Value-F.U128 n) (Value-F.U128 n1) left node h k e d = d
-  level (Value-F.I8 z) (Value-F.I8 z1) left node h k e d = d
-  level (Value-F.I16 z) (Value-F.I16 z1) left node h k e d = d
-  level (Value-F.I32 z) (Value-F.I32 z1) left node h k e d = d
-  level (Value-F.I64 z) (Value-F.I64 z1) left node h k e d = d
-  level (Value-F.I128 z) (Value-F.I128 z1) left node h k e d = d
-  level (Value-F.Char c) (Value-F.Char c1) left node h k e d = d
-  level (Value-F.Str s) (Value-F.Str s1) left node h k e d = d
   level (Value-F.Bytes v) (Value-F.Bytes v1) left node h k e d = d
   level (Value-F.Option None) (Value-F.Option None) left n h k e d = refl
   level (Value-F.Option None) (Value-F.Option (Some w)) left n h k e d = let bad : 0 ≡ 1 = ap variant_in d in cc
@@ -243,7 +258,15 @@ module _ (table : List ShapeNode) where
       ap (λ m. choice m (content_of v.value.0)) same
       ∙ ap (choice j) (enum_decided i left v.value w.value (slice_get ns.items i) h inside (ap payload_in d))
   level (Value-F.Enum i v) (Value-F.Enum j w) left n h k e d = cc
-  level _ _ left n h k e d = cc
+  level Value-F.Unit z left n h k e d = cc
+  level (Value-F.Bytes v) z left n h k e d = cc
+  level (Value-F.Option None) z left n h k e d = cc
+  level (Value-F.Option (Some v)) z left n h k e d = cc
+  level (Value-F.Seq v) z left n h k e d = cc
+  level (Value-F.Map v) z left n h k e d = cc
+  level (Value-F.Tuple v) z left n h k e d = cc
+  level (Value-F.Enum i v) z left n h k e d = cc
+  level y z left n h k e d = leaf_level y z _ refl e (omega arith) d
 
   -- ---- all levels
 

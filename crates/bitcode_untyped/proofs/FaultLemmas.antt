@@ -1,16 +1,19 @@
 -- The faults of a value at a node, by the variant of both.
-use Rattle.std.proofs.Common.{◌≡◌, ℕ, suc, Bool, ℤ, List, [], ◌∷◌, ◌++◌, map, Some, None, Vec, Box, String, Global, slice_get, sym, ◌∙◌, ap, nat_lt, if◌then◌else◌}
+use Rattle.std.proofs.Common.{◌≡◌, ℕ, suc, List, [], ◌∷◌, ◌++◌, map, Some, None, Vec, Box, Global, slice_get, sym, ◌∙◌, ap, nat_lt, if◌then◌else◌}
 use Rattle.std.specs.List.{flat_map}
 use Rattle.std.proofs.lemmas.List.Folds.{flat_map-map}
 use Rattle.bitcode_memory.specs.declared.error.Reason.TheVariants.{TooManyVariants, NotOfTheShape, NestedTooDeep}
-use Rattle.bitcode_untyped.specs.Faults.{follow, follow_entry, Judge, faults_of_fields, faults_of_variant, faults_of, faults_step, faults_at}
-use Rattle.bitcode_untyped.specs.declared.shape.ShapeNode.{ShapeNode}
+use Rattle.bitcode_untyped.specs.Faults.{follow, follow_entry, Judge, faults_of_fields, faults_of_variant, faults_of_leaf, faults_by, faults_of, faults_step, faults_at}
+use Rattle.bitcode_untyped.specs.Leaves.{Leaf, leaf_of_node, entry_of, is_of}
+use Rattle.bitcode_untyped.specs.declared.shape.ShapeNode.{ShapeNode, out-ShapeNode}
+use Rattle.bitcode_untyped.specs.declared.shape.ShapeNode.TheOpen.{ShapeNode-F}
 use Rattle.bitcode_untyped.specs.declared.shape.ShapeNode.TheVariants as node
 use Rattle.bitcode_untyped.specs.declared.value.Value.{Value, out-Value}
 use Rattle.bitcode_untyped.specs.declared.value.Value.TheOpen.{Value-F}
 use Rattle.bitcode_untyped.specs.declared.value.Value.TheFolds.{fold-roll-Value, fold_out-Value, map-Value}
 use Rattle.bitcode_untyped.specs.declared.value.Value.TheVariants as value
-use Rattle.bitcode_untyped.proofs.FollowLemmas.{follow-Unit, follow-Bool, follow-U8, follow-U16, follow-U32, follow-U64, follow-U128, follow-I8, follow-I16, follow-I32, follow-I64, follow-I128, follow-Char, follow-Str, follow-Bytes, follow-Option, follow-Seq, follow-Map, follow-Tuple, follow-Enum, follow-Ref}
+use Rattle.bitcode_untyped.proofs.LeafLemmas.{entry_kept}
+use Rattle.bitcode_untyped.proofs.FollowLemmas.{follow-leaf, follow-Unit, follow-Bytes, follow-Option, follow-Seq, follow-Map, follow-Tuple, follow-Enum, follow-Ref}
 
 module _ (table : List ShapeNode) where
   -- what a value says of itself, whatever it is
@@ -36,6 +39,28 @@ module _ (table : List ShapeNode) where
       faults_at-follow v (suc left) (node.Ref i)
       ∙ ap (faults_at (judged v)) (follow-Ref table (suc left) i ∙ ap (follow_entry (follow left table)) away)
 
+  -- ---- leaves
+
+  faults_there : (y : Value-F Judge) (left : ℕ) (x : ShapeNode-F ShapeNode) (leaf : Leaf) → leaf_of_node x ≡ Some leaf
+      → faults_by y left x ≡ faults_of_leaf (is_of (entry_of y) (Some leaf))
+  faults_there y left ShapeNode-F.Unit leaf h = cc
+  faults_there y left ShapeNode-F.Bytes leaf h = cc
+  faults_there y left (ShapeNode-F.Option b) leaf h = cc
+  faults_there y left (ShapeNode-F.Seq b) leaf h = cc
+  faults_there y left (ShapeNode-F.Map k v) leaf h = cc
+  faults_there y left (ShapeNode-F.Tuple v) leaf h = cc
+  faults_there y left (ShapeNode-F.Enum v) leaf h = cc
+  faults_there y left (ShapeNode-F.Ref i) leaf h = cc
+  faults_there (Value-F.Option None) left x leaf h = ap (λ o. faults_of_leaf (is_of None o)) h
+  faults_there (Value-F.Option (Some w)) left x leaf h = ap (λ o. faults_of_leaf (is_of None o)) h
+  faults_there y left x leaf h = ap (λ o. faults_of_leaf (is_of (entry_of y) o)) h
+
+  pub faults-leaf : (v : Value) (left : ℕ) (n : ShapeNode) (leaf : Leaf) → leaf_of_node (out-ShapeNode n) ≡ Some leaf
+      → faults_of table v left n ≡ faults_of_leaf (is_of (entry_of (out-Value v)) (Some leaf))
+  faults-leaf v left n leaf h =
+      faults_at-follow v left n ∙ ap (faults_at (judged v)) (follow-leaf table left n leaf h) ∙ faults_there (judged v) left (out-ShapeNode n) leaf h
+      ∙ ap (λ o. faults_of_leaf (is_of o (Some leaf))) (entry_kept (faults_of table) (out-Value v))
+
   -- ---- the same cases
 
   pub faults-Unit : (left : ℕ) → faults_of table value.Unit left node.Unit ≡ []
@@ -43,84 +68,6 @@ module _ (table : List ShapeNode) where
       ap (λ v. faults_of table v left node.Unit) (sym value.rolls-Unit)
       ∙ ap (λ (f : Judge). f left node.Unit) (fold-roll-Value Judge (faults_step table) Value-F.Unit)
       ∙ ap (faults_at (map-Value Value Judge (faults_of table) Value-F.Unit)) (follow-Unit table left)
-
-  pub faults-Bool : (left : ℕ) (b : Bool) → faults_of table (value.Bool b) left node.Bool ≡ []
-  faults-Bool left b =
-      ap (λ v. faults_of table v left node.Bool) (sym (value.rolls-Bool b))
-      ∙ ap (λ (f : Judge). f left node.Bool) (fold-roll-Value Judge (faults_step table) (Value-F.Bool b))
-      ∙ ap (faults_at (map-Value Value Judge (faults_of table) (Value-F.Bool b))) (follow-Bool table left)
-
-  pub faults-U8 : (left : ℕ) (n : ℕ) → faults_of table (value.U8 n) left node.U8 ≡ []
-  faults-U8 left n =
-      ap (λ v. faults_of table v left node.U8) (sym (value.rolls-U8 n))
-      ∙ ap (λ (f : Judge). f left node.U8) (fold-roll-Value Judge (faults_step table) (Value-F.U8 n))
-      ∙ ap (faults_at (map-Value Value Judge (faults_of table) (Value-F.U8 n))) (follow-U8 table left)
-
-  pub faults-U16 : (left : ℕ) (n : ℕ) → faults_of table (value.U16 n) left node.U16 ≡ []
-  faults-U16 left n =
-      ap (λ v. faults_of table v left node.U16) (sym (value.rolls-U16 n))
-      ∙ ap (λ (f : Judge). f left node.U16) (fold-roll-Value Judge (faults_step table) (Value-F.U16 n))
-      ∙ ap (faults_at (map-Value Value Judge (faults_of table) (Value-F.U16 n))) (follow-U16 table left)
-
-  pub faults-U32 : (left : ℕ) (n : ℕ) → faults_of table (value.U32 n) left node.U32 ≡ []
-  faults-U32 left n =
-      ap (λ v. faults_of table v left node.U32) (sym (value.rolls-U32 n))
-      ∙ ap (λ (f : Judge). f left node.U32) (fold-roll-Value Judge (faults_step table) (Value-F.U32 n))
-      ∙ ap (faults_at (map-Value Value Judge (faults_of table) (Value-F.U32 n))) (follow-U32 table left)
-
-  pub faults-U64 : (left : ℕ) (n : ℕ) → faults_of table (value.U64 n) left node.U64 ≡ []
-  faults-U64 left n =
-      ap (λ v. faults_of table v left node.U64) (sym (value.rolls-U64 n))
-      ∙ ap (λ (f : Judge). f left node.U64) (fold-roll-Value Judge (faults_step table) (Value-F.U64 n))
-      ∙ ap (faults_at (map-Value Value Judge (faults_of table) (Value-F.U64 n))) (follow-U64 table left)
-
-  pub faults-U128 : (left : ℕ) (n : ℕ) → faults_of table (value.U128 n) left node.U128 ≡ []
-  faults-U128 left n =
-      ap (λ v. faults_of table v left node.U128) (sym (value.rolls-U128 n))
-      ∙ ap (λ (f : Judge). f left node.U128) (fold-roll-Value Judge (faults_step table) (Value-F.U128 n))
-      ∙ ap (faults_at (map-Value Value Judge (faults_of table) (Value-F.U128 n))) (follow-U128 table left)
-
-  pub faults-I8 : (left : ℕ) (z : ℤ) → faults_of table (value.I8 z) left node.I8 ≡ []
-  faults-I8 left z =
-      ap (λ v. faults_of table v left node.I8) (sym (value.rolls-I8 z))
-      ∙ ap (λ (f : Judge). f left node.I8) (fold-roll-Value Judge (faults_step table) (Value-F.I8 z))
-      ∙ ap (faults_at (map-Value Value Judge (faults_of table) (Value-F.I8 z))) (follow-I8 table left)
-
-  pub faults-I16 : (left : ℕ) (z : ℤ) → faults_of table (value.I16 z) left node.I16 ≡ []
-  faults-I16 left z =
-      ap (λ v. faults_of table v left node.I16) (sym (value.rolls-I16 z))
-      ∙ ap (λ (f : Judge). f left node.I16) (fold-roll-Value Judge (faults_step table) (Value-F.I16 z))
-      ∙ ap (faults_at (map-Value Value Judge (faults_of table) (Value-F.I16 z))) (follow-I16 table left)
-
-  pub faults-I32 : (left : ℕ) (z : ℤ) → faults_of table (value.I32 z) left node.I32 ≡ []
-  faults-I32 left z =
-      ap (λ v. faults_of table v left node.I32) (sym (value.rolls-I32 z))
-      ∙ ap (λ (f : Judge). f left node.I32) (fold-roll-Value Judge (faults_step table) (Value-F.I32 z))
-      ∙ ap (faults_at (map-Value Value Judge (faults_of table) (Value-F.I32 z))) (follow-I32 table left)
-
-  pub faults-I64 : (left : ℕ) (z : ℤ) → faults_of table (value.I64 z) left node.I64 ≡ []
-  faults-I64 left z =
-      ap (λ v. faults_of table v left node.I64) (sym (value.rolls-I64 z))
-      ∙ ap (λ (f : Judge). f left node.I64) (fold-roll-Value Judge (faults_step table) (Value-F.I64 z))
-      ∙ ap (faults_at (map-Value Value Judge (faults_of table) (Value-F.I64 z))) (follow-I64 table left)
-
-  pub faults-I128 : (left : ℕ) (z : ℤ) → faults_of table (value.I128 z) left node.I128 ≡ []
-  faults-I128 left z =
-      ap (λ v. faults_of table v left node.I128) (sym (value.rolls-I128 z))
-      ∙ ap (λ (f : Judge). f left node.I128) (fold-roll-Value Judge (faults_step table) (Value-F.I128 z))
-      ∙ ap (faults_at (map-Value Value Judge (faults_of table) (Value-F.I128 z))) (follow-I128 table left)
-
-  pub faults-Char : (left : ℕ) (c : ℕ) → faults_of table (value.Char c) left node.Char ≡ []
-  faults-Char left c =
-      ap (λ v. faults_of table v left node.Char) (sym (value.rolls-Char c))
-      ∙ ap (λ (f : Judge). f left node.Char) (fold-roll-Value Judge (faults_step table) (Value-F.Char c))
-      ∙ ap (faults_at (map-Value Value Judge (faults_of table) (Value-F.Char c))) (follow-Char table left)
-
-  pub faults-Str : (left : ℕ) (s : String Global) → faults_of table (value.Str s) left node.Str ≡ []
-  faults-Str left s =
-      ap (λ v. faults_of table v left node.Str) (sym (value.rolls-Str s))
-      ∙ ap (λ (f : Judge). f left node.Str) (fold-roll-Value Judge (faults_step table) (Value-F.Str s))
-      ∙ ap (faults_at (map-Value Value Judge (faults_of table) (Value-F.Str s))) (follow-Str table left)
 
   pub faults-Bytes : (left : ℕ) (v : Vec ℕ Global) → faults_of table (value.Bytes v) left node.Bytes ≡ []
   faults-Bytes left v =

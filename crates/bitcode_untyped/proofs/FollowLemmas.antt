@@ -1,9 +1,10 @@
--- What stands at a node, and the faults of a value there, by the variant.
-use Rattle.std.proofs.Common.{◌≡◌, ℕ, zero, suc, List, Vec, Box, Global, slice_get, sym, ◌∙◌, ap}
+-- What stands at a node, by the variant.
+use Rattle.std.proofs.Common.{◌≡◌, ℕ, zero, suc, Some, List, Vec, Box, Global, slice_get, refl, sym, ◌∙◌, ap}
 use Rattle.bitcode_untyped.specs.Faults.{Followed, stands, too_deep, follow, follow_by, follow_entry}
-use Rattle.bitcode_untyped.specs.declared.shape.ShapeNode.{ShapeNode}
+use Rattle.bitcode_untyped.specs.Leaves.{Leaf, leaf_of_node}
+use Rattle.bitcode_untyped.specs.declared.shape.ShapeNode.{ShapeNode, out-ShapeNode}
 use Rattle.bitcode_untyped.specs.declared.shape.ShapeNode.TheOpen.{ShapeNode-F}
-use Rattle.bitcode_untyped.specs.declared.shape.ShapeNode.TheViews.{roll-ShapeNode, out-roll-ShapeNode}
+use Rattle.bitcode_untyped.specs.declared.shape.ShapeNode.TheViews.{roll-ShapeNode, out-roll-ShapeNode, roll-out-ShapeNode}
 use Rattle.bitcode_untyped.specs.declared.shape.ShapeNode.TheVariants as node
 
 -- ---- what stands at a node
@@ -18,47 +19,16 @@ module _ (table : List ShapeNode) where
   follow-roll zero x = ap (follow_by (λ i. too_deep) zero) (out-roll-ShapeNode x)
   follow-roll (suc left) x = ap (follow_by (λ i. follow_entry (follow left table) (slice_get table i)) (suc left)) (out-roll-ShapeNode x)
 
+  stands_there : (refer : ℕ → Followed) (left : ℕ) (x : ShapeNode-F ShapeNode) (leaf : Leaf) → leaf_of_node x ≡ Some leaf → follow_by refer left x ≡ stands left x
+  stands_there refer left (ShapeNode-F.Ref i) leaf h = cc
+  stands_there refer left _ leaf h = refl
+
+  pub follow-leaf : (left : ℕ) (n : ShapeNode) (leaf : Leaf) → leaf_of_node (out-ShapeNode n) ≡ Some leaf → follow left table n ≡ stands left (out-ShapeNode n)
+  follow-leaf left n leaf h =
+      ap (follow left table) (sym (roll-out-ShapeNode n)) ∙ follow-roll left (out-ShapeNode n) ∙ stands_there (reference left) left (out-ShapeNode n) leaf h
+
   pub follow-Unit : (left : ℕ) → follow left table node.Unit ≡ stands left ShapeNode-F.Unit
   follow-Unit left = ap (follow left table) (sym node.rolls-Unit) ∙ follow-roll left ShapeNode-F.Unit
-
-  pub follow-Bool : (left : ℕ) → follow left table node.Bool ≡ stands left ShapeNode-F.Bool
-  follow-Bool left = ap (follow left table) (sym node.rolls-Bool) ∙ follow-roll left ShapeNode-F.Bool
-
-  pub follow-U8 : (left : ℕ) → follow left table node.U8 ≡ stands left ShapeNode-F.U8
-  follow-U8 left = ap (follow left table) (sym node.rolls-U8) ∙ follow-roll left ShapeNode-F.U8
-
-  pub follow-U16 : (left : ℕ) → follow left table node.U16 ≡ stands left ShapeNode-F.U16
-  follow-U16 left = ap (follow left table) (sym node.rolls-U16) ∙ follow-roll left ShapeNode-F.U16
-
-  pub follow-U32 : (left : ℕ) → follow left table node.U32 ≡ stands left ShapeNode-F.U32
-  follow-U32 left = ap (follow left table) (sym node.rolls-U32) ∙ follow-roll left ShapeNode-F.U32
-
-  pub follow-U64 : (left : ℕ) → follow left table node.U64 ≡ stands left ShapeNode-F.U64
-  follow-U64 left = ap (follow left table) (sym node.rolls-U64) ∙ follow-roll left ShapeNode-F.U64
-
-  pub follow-U128 : (left : ℕ) → follow left table node.U128 ≡ stands left ShapeNode-F.U128
-  follow-U128 left = ap (follow left table) (sym node.rolls-U128) ∙ follow-roll left ShapeNode-F.U128
-
-  pub follow-I8 : (left : ℕ) → follow left table node.I8 ≡ stands left ShapeNode-F.I8
-  follow-I8 left = ap (follow left table) (sym node.rolls-I8) ∙ follow-roll left ShapeNode-F.I8
-
-  pub follow-I16 : (left : ℕ) → follow left table node.I16 ≡ stands left ShapeNode-F.I16
-  follow-I16 left = ap (follow left table) (sym node.rolls-I16) ∙ follow-roll left ShapeNode-F.I16
-
-  pub follow-I32 : (left : ℕ) → follow left table node.I32 ≡ stands left ShapeNode-F.I32
-  follow-I32 left = ap (follow left table) (sym node.rolls-I32) ∙ follow-roll left ShapeNode-F.I32
-
-  pub follow-I64 : (left : ℕ) → follow left table node.I64 ≡ stands left ShapeNode-F.I64
-  follow-I64 left = ap (follow left table) (sym node.rolls-I64) ∙ follow-roll left ShapeNode-F.I64
-
-  pub follow-I128 : (left : ℕ) → follow left table node.I128 ≡ stands left ShapeNode-F.I128
-  follow-I128 left = ap (follow left table) (sym node.rolls-I128) ∙ follow-roll left ShapeNode-F.I128
-
-  pub follow-Char : (left : ℕ) → follow left table node.Char ≡ stands left ShapeNode-F.Char
-  follow-Char left = ap (follow left table) (sym node.rolls-Char) ∙ follow-roll left ShapeNode-F.Char
-
-  pub follow-Str : (left : ℕ) → follow left table node.Str ≡ stands left ShapeNode-F.Str
-  follow-Str left = ap (follow left table) (sym node.rolls-Str) ∙ follow-roll left ShapeNode-F.Str
 
   pub follow-Bytes : (left : ℕ) → follow left table node.Bytes ≡ stands left ShapeNode-F.Bytes
   follow-Bytes left = ap (follow left table) (sym node.rolls-Bytes) ∙ follow-roll left ShapeNode-F.Bytes

@@ -1,4 +1,5 @@
 pub mod ViewLemmas
+pub mod LeafLemmas
 pub mod DatumLemmas
 pub mod EachLemmas
 pub mod PlaceLemmas

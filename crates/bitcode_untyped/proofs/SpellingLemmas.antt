@@ -6,7 +6,7 @@ use Rattle.std.proofs.lemmas.List.Sums.{sum_by-cons}
 use Rattle.std.proofs.lemmas.List.Elements.{All-nil, All-cons}
 use Rattle.std.proofs.lemmas.Bool.{cases_Bool}
 use Rattle.bitcode_shapes.specs.Datum.{Datum}
-use Rattle.bitcode_coder.specs.Columns.{Kind, bools, ints, lengths, texts, raws, variants, IsEntryOf, IsSoundKind, entry_count_of}
+use Rattle.bitcode_coder.specs.Columns.{Kind, bools, ints, floats, lengths, texts, raws, variants, IsEntryOf, IsSoundKind, entry_count_of}
 use Rattle.bitcode_coder.specs.Spelling.{SpellsEach, texts_of, column_bytes, LengthsBelowLimitOf}
 use Rattle.std.specs.List.{AllByRecursion}
 use Rattle.bitcode_untyped.specs.Growing.{put}
@@ -46,6 +46,7 @@ count_entries (c ∷ cs) = length c.entries + count_entries cs
 pub count-le-entry_count_of : (k : Kind) (ds : List Datum) → length ds ≤ entry_count_of k ds
 count-le-entry_count_of bools ds = omega arith
 count-le-entry_count_of (ints w s) ds = omega arith
+count-le-entry_count_of (floats format) ds = omega arith
 count-le-entry_count_of (lengths limit) ds = omega arith
 count-le-entry_count_of (texts limit) ds = omega arith
 count-le-entry_count_of raws ds = omega arith

@@ -1,10 +1,9 @@
 -- Which cases a value has, beside those of its shape: a U8 and a U64 of one number have the same datum, and not the same
 -- case. How many fields there are, and which variants, is no matter of cases: that is said of the datum.
-use Rattle.std.specs.Prelude.{◌≡◌, ℕ, ◌<◌, pos, Bool, true, false, ◌&&◌, Option, Some, None, List, [], ◌∷◌, slice_get, string_bytes, IsUtf8}
-use Rattle.std.specs.Char.{IsScalar}
+use Rattle.std.specs.Prelude.{◌≡◌, ℕ, ◌<◌, Bool, true, ◌&&◌, Option, Some, None, List, [], ◌∷◌, slice_get}
 use Rattle.std.specs.List.{list_all, AllByRecursion}
-use Rattle.bitcode_shapes.specs.Shape.{IsInWidth}
 use Rattle.bitcode_untyped.specs.Faults.{Followed, stands, follow, value_faults}
+use Rattle.bitcode_untyped.specs.Leaves.{leaf_of_node, entry_of, is_of, IsTypedEntry}
 use Rattle.bitcode_untyped.specs.ShapeTree.{IsOf}
 use Rattle.bitcode_untyped.specs.View.{datum_of, tree_of, reference_limit}
 use Rattle.bitcode_untyped.specs.declared.shape.Shape.{Shape}
@@ -32,19 +31,6 @@ agrees_if_there agrees left None = true
 -- one level, at a node that is no reference
 abbrev pub agrees_by : Value-F Comparison → ℕ → ShapeNode-F ShapeNode → Bool
 agrees_by Value-F.Unit left ShapeNode-F.Unit = true
-agrees_by (Value-F.Bool b) left ShapeNode-F.Bool = true
-agrees_by (Value-F.U8 n) left ShapeNode-F.U8 = true
-agrees_by (Value-F.U16 n) left ShapeNode-F.U16 = true
-agrees_by (Value-F.U32 n) left ShapeNode-F.U32 = true
-agrees_by (Value-F.U64 n) left ShapeNode-F.U64 = true
-agrees_by (Value-F.U128 n) left ShapeNode-F.U128 = true
-agrees_by (Value-F.I8 z) left ShapeNode-F.I8 = true
-agrees_by (Value-F.I16 z) left ShapeNode-F.I16 = true
-agrees_by (Value-F.I32 z) left ShapeNode-F.I32 = true
-agrees_by (Value-F.I64 z) left ShapeNode-F.I64 = true
-agrees_by (Value-F.I128 z) left ShapeNode-F.I128 = true
-agrees_by (Value-F.Char c) left ShapeNode-F.Char = true
-agrees_by (Value-F.Str s) left ShapeNode-F.Str = true
 agrees_by (Value-F.Bytes v) left ShapeNode-F.Bytes = true
 agrees_by (Value-F.Option None) left (ShapeNode-F.Option node) = true
 agrees_by (Value-F.Option (Some agrees)) left (ShapeNode-F.Option node) = agrees.value left node.value
@@ -52,7 +38,7 @@ agrees_by (Value-F.Seq elements) left (ShapeNode-F.Seq node) = list_all (λ agre
 agrees_by (Value-F.Map pairs) left (ShapeNode-F.Map key value) = list_all (λ pair. pair.0 left key.value && pair.1 left value.value) pairs.items
 agrees_by (Value-F.Tuple fields) left (ShapeNode-F.Tuple nodes) = fields_agree fields.items left nodes.items
 agrees_by (Value-F.Enum i agrees) left (ShapeNode-F.Enum nodes) = agrees_if_there agrees.value left (slice_get nodes.items i)
-agrees_by _ left _ = false
+agrees_by value left node = is_of (entry_of value) (leaf_of_node node)
 
 -- where a reference leads to no node, none disagrees
 abbrev pub agrees_at : Value-F Comparison → Followed → Bool
@@ -73,20 +59,8 @@ HasCasesOf shape value = agrees_if_there (agrees_with shape.table.items value) r
 
 -- a number is one of its type, a char is a scalar value, and a text is UTF-8
 abbrev pub IsOfItsType : Value-F Value → Type 0
-IsOfItsType (Value-F.U8 n) = IsInWidth 1 false (pos n)
-IsOfItsType (Value-F.U16 n) = IsInWidth 2 false (pos n)
-IsOfItsType (Value-F.U32 n) = IsInWidth 4 false (pos n)
-IsOfItsType (Value-F.U64 n) = IsInWidth 8 false (pos n)
-IsOfItsType (Value-F.U128 n) = IsInWidth 16 false (pos n)
-IsOfItsType (Value-F.I8 z) = IsInWidth 1 true z
-IsOfItsType (Value-F.I16 z) = IsInWidth 2 true z
-IsOfItsType (Value-F.I32 z) = IsInWidth 4 true z
-IsOfItsType (Value-F.I64 z) = IsInWidth 8 true z
-IsOfItsType (Value-F.I128 z) = IsInWidth 16 true z
-IsOfItsType (Value-F.Char c) = IsScalar c
-IsOfItsType (Value-F.Str s) = IsUtf8 (string_bytes s)
 IsOfItsType (Value-F.Bytes v) = AllByRecursion (λ n. n < 256) v.items
-IsOfItsType _ = Unit {0}
+IsOfItsType value = IsTypedEntry (entry_of value)
 
 -- ---- the faults tell whether a value is of a shape
 

@@ -1,35 +1,28 @@
 -- What a value holds, with the case of each of its parts: a U8 and a U64 of one number have the same datum, and not the
 -- same content.
-use Rattle.std.specs.Prelude.{◌≡◌, ℕ, []}
+use Rattle.std.specs.Prelude.{◌≡◌, ℕ, ◌+◌, Option, Some, None, []}
 use Rattle.bitcode_shapes.specs.Datum.{Datum, choice}
 use Rattle.bitcode_untyped.specs.Faults.{value_faults}
+use Rattle.bitcode_untyped.specs.Leaves.{Entry, entry_of, leaf_number}
 use Rattle.bitcode_untyped.specs.View.{datum_step, datum_of}
 use Rattle.bitcode_untyped.specs.declared.shape.Shape.{Shape}
 use Rattle.bitcode_untyped.specs.declared.value.Value.{Value, fold-Value}
 use Rattle.bitcode_untyped.specs.declared.value.Value.TheOpen.{Value-F}
 
+abbrev pub number_of_entry : Option Entry → ℕ
+number_of_entry (Some e) = 7 + leaf_number e.leaf
+number_of_entry None = 0
+
 -- a number for each case
 abbrev pub case_number : {A : Type 0} → Value-F A → ℕ
 case_number Value-F.Unit = 0
-case_number (Value-F.Bool b) = 1
-case_number (Value-F.U8 n) = 2
-case_number (Value-F.U16 n) = 3
-case_number (Value-F.U32 n) = 4
-case_number (Value-F.U64 n) = 5
-case_number (Value-F.U128 n) = 6
-case_number (Value-F.I8 z) = 7
-case_number (Value-F.I16 z) = 8
-case_number (Value-F.I32 z) = 9
-case_number (Value-F.I64 z) = 10
-case_number (Value-F.I128 z) = 11
-case_number (Value-F.Char c) = 12
-case_number (Value-F.Str s) = 13
-case_number (Value-F.Bytes v) = 14
-case_number (Value-F.Option o) = 15
-case_number (Value-F.Seq v) = 16
-case_number (Value-F.Map v) = 17
-case_number (Value-F.Tuple v) = 18
-case_number (Value-F.Enum i b) = 19
+case_number (Value-F.Bytes v) = 1
+case_number (Value-F.Option o) = 2
+case_number (Value-F.Seq v) = 3
+case_number (Value-F.Map v) = 4
+case_number (Value-F.Tuple v) = 5
+case_number (Value-F.Enum i b) = 6
+case_number value = number_of_entry (entry_of value)
 
 abbrev pub content_step : Value-F Datum → Datum
 content_step value = choice (case_number value) (datum_step value)

@@ -1,8 +1,9 @@
 -- Why a value is not of a shape: every fault that stands in it. A value is of the shape where there is none.
-use Rattle.std.specs.Prelude.{ℕ, zero, suc, Option, Some, None, List, [], ◌∷◌, ◌++◌, slice_get, nat_lt, if◌then◌else◌}
+use Rattle.std.specs.Prelude.{ℕ, zero, suc, Bool, true, false, Option, Some, None, List, [], ◌∷◌, ◌++◌, slice_get, nat_lt, if◌then◌else◌}
 use Rattle.std.specs.List.{flat_map}
 use Rattle.bitcode_memory.specs.declared.error.Reason.{Reason}
 use Rattle.bitcode_memory.specs.declared.error.Reason.TheVariants.{TooManyVariants, NotOfTheShape, NestedTooDeep}
+use Rattle.bitcode_untyped.specs.Leaves.{leaf_of_node, entry_of, is_of}
 use Rattle.bitcode_untyped.specs.ShapeTree.{greatest_index}
 use Rattle.bitcode_untyped.specs.View.{reference_limit}
 use Rattle.bitcode_untyped.specs.declared.value.Value.{Value, fold-Value}
@@ -49,22 +50,14 @@ abbrev pub faults_of_variant : Judge → ℕ → Option ShapeNode → List Reaso
 faults_of_variant judge left None = NotOfTheShape ∷ []
 faults_of_variant judge left (Some node) = judge left node
 
+-- a value of a leaf has no fault if the node is that leaf
+abbrev pub faults_of_leaf : Bool → List Reason
+faults_of_leaf true = []
+faults_of_leaf false = NotOfTheShape ∷ []
+
 -- one level, at a node that is no reference: the cases are the same
 abbrev pub faults_by : Value-F Judge → ℕ → ShapeNode-F ShapeNode → List Reason
 faults_by Value-F.Unit left ShapeNode-F.Unit = []
-faults_by (Value-F.Bool b) left ShapeNode-F.Bool = []
-faults_by (Value-F.U8 n) left ShapeNode-F.U8 = []
-faults_by (Value-F.U16 n) left ShapeNode-F.U16 = []
-faults_by (Value-F.U32 n) left ShapeNode-F.U32 = []
-faults_by (Value-F.U64 n) left ShapeNode-F.U64 = []
-faults_by (Value-F.U128 n) left ShapeNode-F.U128 = []
-faults_by (Value-F.I8 z) left ShapeNode-F.I8 = []
-faults_by (Value-F.I16 z) left ShapeNode-F.I16 = []
-faults_by (Value-F.I32 z) left ShapeNode-F.I32 = []
-faults_by (Value-F.I64 z) left ShapeNode-F.I64 = []
-faults_by (Value-F.I128 z) left ShapeNode-F.I128 = []
-faults_by (Value-F.Char c) left ShapeNode-F.Char = []
-faults_by (Value-F.Str s) left ShapeNode-F.Str = []
 faults_by (Value-F.Bytes v) left ShapeNode-F.Bytes = []
 faults_by (Value-F.Option None) left (ShapeNode-F.Option node) = []
 faults_by (Value-F.Option (Some judge)) left (ShapeNode-F.Option node) = judge.value left node.value
@@ -73,7 +66,7 @@ faults_by (Value-F.Map judges) left (ShapeNode-F.Map key value) = flat_map (λ j
 faults_by (Value-F.Tuple judges) left (ShapeNode-F.Tuple nodes) = faults_of_fields judges.items left nodes.items
 faults_by (Value-F.Enum i judge) left (ShapeNode-F.Enum nodes) =
     if nat_lt greatest_index i then TooManyVariants ∷ [] else faults_of_variant judge.value left (slice_get nodes.items i)
-faults_by _ left _ = NotOfTheShape ∷ []
+faults_by value left node = faults_of_leaf (is_of (entry_of value) (leaf_of_node node))
 
 abbrev pub faults_at : Value-F Judge → Followed → List Reason
 faults_at value (stands left node) = faults_by value left node

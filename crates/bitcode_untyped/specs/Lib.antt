@@ -1,3 +1,4 @@
+pub mod Leaves
 pub mod ShapeTree
 pub mod References
 pub mod View

@@ -1,8 +1,9 @@
 -- What a `Value` holds, and which shape a `ShapeNode` names.
-use Rattle.std.specs.Prelude.{ℕ, zero, suc, List, [], ◌∷◌, map, Some, None, string_bytes}
-use Rattle.bitcode_shapes.specs.Datum.{Datum, number, unit, text, list, tuple, choice, pair, data_of}
-use Rattle.bitcode_coder.specs.Spelling.{natural, truth}
-use Rattle.bitcode_untyped.specs.ShapeTree.{ShapeTree, ShapeTrees, unit_tree, never_tree, seq_tree, map_tree, tuple_tree, choice_tree, no_trees, tree_and, bool_tree, natural_tree, integer_tree, char_tree, text_tree, option_tree}
+use Rattle.std.specs.Prelude.{ℕ, zero, suc, Option, Some, None, List, [], ◌∷◌, map}
+use Rattle.bitcode_shapes.specs.Datum.{Datum, unit, list, tuple, choice, pair, data_of}
+use Rattle.bitcode_coder.specs.Spelling.{natural}
+use Rattle.bitcode_untyped.specs.Leaves.{Leaf, Entry, leaf_of_node, entry_of}
+use Rattle.bitcode_untyped.specs.ShapeTree.{ShapeTree, ShapeTrees, unit_tree, never_tree, leaf_tree, seq_tree, map_tree, tuple_tree, choice_tree, no_trees, tree_and, natural_tree, option_tree}
 use Rattle.bitcode_untyped.specs.declared.value.Value.{Value, fold-Value}
 use Rattle.bitcode_untyped.specs.declared.value.Value.TheOpen.{Value-F}
 use Rattle.bitcode_untyped.specs.declared.shape.ShapeNode.{ShapeNode, fold-ShapeNode}
@@ -11,22 +12,13 @@ use Rattle.bitcode_untyped.specs.declared.shape.Shape.{Shape}
 
 -- ---- values
 
+abbrev pub datum_of_entry : Option Entry → Datum
+datum_of_entry (Some e) = e.datum
+datum_of_entry None = unit
+
 -- one level, with the datum of each value inside in its place
 abbrev pub datum_step : Value-F Datum → Datum
 datum_step Value-F.Unit = unit
-datum_step (Value-F.Bool b) = truth b
-datum_step (Value-F.U8 n) = natural n
-datum_step (Value-F.U16 n) = natural n
-datum_step (Value-F.U32 n) = natural n
-datum_step (Value-F.U64 n) = natural n
-datum_step (Value-F.U128 n) = natural n
-datum_step (Value-F.I8 z) = number z
-datum_step (Value-F.I16 z) = number z
-datum_step (Value-F.I32 z) = number z
-datum_step (Value-F.I64 z) = number z
-datum_step (Value-F.I128 z) = number z
-datum_step (Value-F.Char c) = natural c
-datum_step (Value-F.Str s) = text (string_bytes s)
 datum_step (Value-F.Bytes v) = list (data_of (map natural v.items))
 datum_step (Value-F.Option None) = choice 0 unit
 datum_step (Value-F.Option (Some b)) = choice 1 b.value
@@ -34,6 +26,7 @@ datum_step (Value-F.Seq v) = list (data_of v.items)
 datum_step (Value-F.Map v) = list (data_of (map (λ e. pair e.0 e.1) v.items))
 datum_step (Value-F.Tuple v) = tuple (data_of v.items)
 datum_step (Value-F.Enum i b) = choice i b.value
+datum_step value = datum_of_entry (entry_of value)
 
 abbrev pub datum_of : Value → Datum
 datum_of = fold-Value Datum datum_step
@@ -44,22 +37,13 @@ abbrev pub trees_of : List ShapeTree → ShapeTrees
 trees_of [] = no_trees
 trees_of (s ∷ ss) = tree_and s (trees_of ss)
 
+abbrev pub tree_of_leaf : Option Leaf → ShapeTree
+tree_of_leaf (Some leaf) = leaf_tree leaf.kind leaf.allowed
+tree_of_leaf None = never_tree
+
 -- one level, with the tree of each node inside in its place; `follow i` is the tree of reference i
 abbrev pub tree_step : (ℕ → ShapeTree) → ShapeNode-F ShapeTree → ShapeTree
 tree_step follow ShapeNode-F.Unit = unit_tree
-tree_step follow ShapeNode-F.Bool = bool_tree
-tree_step follow ShapeNode-F.U8 = natural_tree 1
-tree_step follow ShapeNode-F.U16 = natural_tree 2
-tree_step follow ShapeNode-F.U32 = natural_tree 4
-tree_step follow ShapeNode-F.U64 = natural_tree 8
-tree_step follow ShapeNode-F.U128 = natural_tree 16
-tree_step follow ShapeNode-F.I8 = integer_tree 1
-tree_step follow ShapeNode-F.I16 = integer_tree 2
-tree_step follow ShapeNode-F.I32 = integer_tree 4
-tree_step follow ShapeNode-F.I64 = integer_tree 8
-tree_step follow ShapeNode-F.I128 = integer_tree 16
-tree_step follow ShapeNode-F.Char = char_tree
-tree_step follow ShapeNode-F.Str = text_tree
 tree_step follow ShapeNode-F.Bytes = seq_tree (natural_tree 1)
 tree_step follow (ShapeNode-F.Option b) = option_tree b.value
 tree_step follow (ShapeNode-F.Seq b) = seq_tree b.value
@@ -67,6 +51,7 @@ tree_step follow (ShapeNode-F.Map k v) = map_tree k.value v.value
 tree_step follow (ShapeNode-F.Tuple v) = tuple_tree (trees_of v.items)
 tree_step follow (ShapeNode-F.Enum v) = choice_tree (trees_of v.items)
 tree_step follow (ShapeNode-F.Ref i) = follow i
+tree_step follow node = tree_of_leaf (leaf_of_node node)
 
 abbrev pub tree_by : (ℕ → ShapeTree) → ShapeNode → ShapeTree
 tree_by follow = fold-ShapeNode ShapeTree (tree_step follow)

@@ -185,6 +185,7 @@ impl<'a> VariantPayloads<'a, At<0>, At<4>, Message<'a>> for MessagePayloads<'a> 
         input: &mut &'a [u8],
         k: usize,
         strict: bool,
+        free: &mut u128,
     ) -> Result<bool, Error> {
         VariantPayloads::<At<0>, At<4>, Message<'a>>::read_at(
             &mut self.all,
@@ -192,6 +193,7 @@ impl<'a> VariantPayloads<'a, At<0>, At<4>, Message<'a>> for MessagePayloads<'a> 
             input,
             k,
             strict,
+            free,
         )
     }
 

@@ -6,7 +6,7 @@ use crate::message::Message;
 use anyhow::Result;
 use bitcode::coder::HoldsData;
 use bitcode::sealed::{Expected, Label, Next, OpenError, next_head, open_next};
-use bitcode::{Decoder, Error, HasDecoder, Reason, Shaped, View};
+use bitcode::{Decoder, Error, HasDecoder, Reason, Shaped};
 use std::alloc::Global;
 use std::io::Read;
 
@@ -37,7 +37,7 @@ pub fn next_message<'a>(
 ) -> std::result::Result<Next<Message<'a>>, Error>
     ensures found { IfOk result (λ next. IsNextOf ⟦<Message<'a> as Shaped>⟧.data.makes
         ⟦<Message<'a> as Shaped>⟧.data.shape
-        (λ e. IsRefusalOfFront ⟦<MessageDecoder<'a> as View<'a>>⟧.faults
+        (λ e. IsRefusalOfFront
         ⟦<MessageDecoder<'a> as Decoder<Message<'a>>>⟧.makes_free
         ⟦<MessageDecoder<'a> as HoldsData>⟧.shape ⟦<Message<'a> as Shaped>⟧.data.shape EXPECTED
         input.old.now e) EXPECTED input.old.now input.new.now next) }

@@ -6,7 +6,7 @@ use crate::file_id::FileId;
 use crate::file_record::FileRecord;
 use bitcode::coder::HoldsData;
 use bitcode::sealed::{Expected, Label, OpenError, open, seal};
-use bitcode::{Decoder, Error, HasDecoder, Shaped, View};
+use bitcode::{Decoder, Error, HasDecoder, Shaped};
 use std::alloc::Global;
 use std::collections::HashMap;
 
@@ -44,7 +44,7 @@ pub fn to_bytes(alloc: Global, records: &Records) -> Result<Vec<u8>, Error>
 pub fn from_bytes<'a>(alloc: Global, bytes: &'a [u8]) -> Result<Records, OpenError>
     ensures found { IfOk result (λ records. IsOpeningOf ⟦<Records as Shaped>⟧.data.makes
         ⟦<Records as Shaped>⟧.data.shape EXPECTED bytes.now records) }
-    ensures refused { IfErr result (λ e. IsRefusal ⟦<RecordsDecoder<'a> as View<'a>>⟧.faults
+    ensures refused { IfErr result (λ e. IsRefusal
         ⟦<RecordsDecoder<'a> as Decoder<Records>>⟧.makes_free
         ⟦<RecordsDecoder<'a> as HoldsData>⟧.shape ⟦<Records as Shaped>⟧.data.shape EXPECTED
         bytes.now

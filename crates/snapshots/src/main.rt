@@ -36,7 +36,8 @@ fn run(rt: &(impl AllocGlobal + Print)) -> Result<()> {
         let rows = size_of_rows(alloc, &entities)?;
         println!(rt; "tick {tick}: {columns} bytes, and {rows} as rows")?;
     }
-    let again = snapshot::restored(alloc, &mut all, &entities)?;
+    let last = snapshot::take(&mut all, &entities)?;
+    let again = snapshot::restored(alloc, &entities, last)?;
     ensure!(again == entities, "the restored entities differ");
     println!(rt; "restored")?;
     Ok(())

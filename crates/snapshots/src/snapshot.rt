@@ -1,10 +1,10 @@
 //! Snapshots of the entities as bytes.
-ghost use Rattle.std.specs.Prelude.{◌≢◌, IfOk, IfErr};
-ghost use Rattle.bitcode.specs.ByHand.{Datum, HasLongListing, HasShortLengths, IsDecodingOf, IsEncodingOf};
+ghost use Rattle.std.specs.Prelude.{◌≡◌, ◌≢◌, ◌<◌, ◌^◌, length, IfOk, IfErr};
+ghost use Rattle.bitcode.specs.ByHand.{Datum, HasLongListing, IsDecodingOf, IsEncodingOf};
 ghost use Rattle.bitcode.specs.ByHand.{IsWritingRefusal, SpellsDatum};
 
 use crate::entity::Entity;
-use bitcode::laws::comes_back;
+use bitcode::laws::comes_back_in_bytes;
 use bitcode::{Buffer, Error, Reason, Shaped, decode};
 use std::alloc::Global;
 
@@ -32,19 +32,17 @@ pub fn restore(alloc: Global, bytes: &[u8]) -> Result<Entities, Error>
     decode(alloc, bytes)
 }
 
-/// Takes a snapshot of the entities and restores them: they are the same.
-pub fn restored(
-    alloc: Global,
-    buffer: &mut Buffer<Entities>,
-    entities: &Entities,
-) -> Result<Entities, Error>
-    ensures same { HasShortLengths ⟦<Entities as Shaped>⟧.data.lists
-        ⟦<Entities as Shaped>⟧.data.shape
-        entities.now
+/// Restores the snapshot that was taken of these entities: what it returns is equal to them, if the snapshot has fewer
+/// than 281474976710656 bytes. The only error is then `out of memory`.
+pub fn restored(alloc: Global, entities: &Entities, snapshot: &[u8]) -> Result<Entities, Error>
+    requires written { IsEncodingOf ⟦<Entities as Shaped>⟧.data.lists
+        ⟦<Entities as Shaped>⟧.data.shape entities.now snapshot.now }
+    ensures same { length snapshot.now < 2 ^ 48
         → IfOk result (λ again. ⟦<Entities as Shaped>⟧.data.same entities.now again) }
+    ensures refused { length snapshot.now < 2 ^ 48
+        → IfErr result (λ e. e.reason ≡ Reason.OutOfMemory) }
 {
-    let bytes = take(buffer, entities)?;
-    let again = restore(alloc, bytes);
-    comes_back(entities, bytes, &again);
+    let again = restore(alloc, snapshot);
+    comes_back_in_bytes(entities, snapshot, &again);
     again
 }

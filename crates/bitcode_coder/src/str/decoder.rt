@@ -17,6 +17,7 @@ ghost use Rattle.bitcode_coder.specs.Strict.{JudgesData};
 ghost use Rattle.bitcode_coder.specs.TextParts.{NamesTextFault};
 
 use crate::coder::{Decoder, HoldsData, View};
+use crate::column_free::ColumnFree;
 use crate::length::LengthDecoder;
 use bitcode_memory::consume::consume_bytes;
 use bitcode_memory::error::{Error, Reason};
@@ -210,7 +211,7 @@ impl<'a> HoldsData for StrDecoder<'a> {
 }
 
 impl<'a> View<'a> for StrDecoder<'a> {
-    ghost faults = { NamesTextFault };
+    ghost free_inside = { λ d. 0 };
 
     fn new(alloc: Global) -> Self {
         let none: &[u8] = &[];
@@ -223,6 +224,10 @@ impl<'a> View<'a> for StrDecoder<'a> {
 
     fn read(&mut self, input: &mut &'a [u8], k: usize, strict: bool) -> Result<bool, Error> {
         self.read_column(input, k, strict)
+    }
+
+    fn column_free(&self) -> ColumnFree {
+        ColumnFree::entries()
     }
 }
 

@@ -9,6 +9,7 @@ ghost use Rattle.bitcode_coder.specs.Length.{lengths_left, lengths_owned};
 ghost use Rattle.bitcode_coder.specs.TextParts.{NamesLimitedTextFault};
 
 use crate::coder::{Decoder, HoldsData, View};
+use crate::column_free::ColumnFree;
 use crate::str::StrDecoder;
 use arrayvec::ArrayString;
 use bitcode_memory::error::{Error, Reason};
@@ -45,7 +46,7 @@ impl<'a, const N: usize> HoldsData for ArrayStringDecoder<'a, N> {
 }
 
 impl<'a, const N: usize> View<'a> for ArrayStringDecoder<'a, N> {
-    ghost faults = { NamesLimitedTextFault N };
+    ghost free_inside = { λ d. 0 };
 
     fn new(alloc: Global) -> Self {
         ArrayStringDecoder {
@@ -62,6 +63,10 @@ impl<'a, const N: usize> View<'a> for ArrayStringDecoder<'a, N> {
         }
         self.column = column;
         Ok(written)
+    }
+
+    fn column_free(&self) -> ColumnFree {
+        ColumnFree::entries()
     }
 }
 

@@ -3,14 +3,14 @@
 ghost use Rattle.std.specs.Prelude.{◌≡◌, ◌+◌, ◌-◌, ◌&&◌, [], ◌∷◌, OnOk, IfErr};
 ghost use Rattle.bitcode_coder.specs.Columns.{no_columns, emptied};
 ghost use Rattle.bitcode_coder.specs.Coder.{IsWritingRefusal};
-ghost use Rattle.bitcode_enums.specs.ByNumber.{columns_at, fault_and, no_faults, KeepsOthers};
+ghost use Rattle.bitcode_enums.specs.ByNumber.{columns_at, KeepsOthers};
 ghost use Rattle.bitcode_enums.specs.VariantsOf.{IsVariant};
 ghost use Rattle.bitcode_enums.specs.OneOf.{of_one_of_2};
 
 use crate::columns::VariantColumns;
-use crate::held::Enum;
+use crate::enums::Enum;
 use crate::number::VariantNumber;
-use crate::payloads::VariantPayloads;
+use crate::payloads::{VariantPayloads, read_and_count};
 use crate::writes::{WritesVariants, encode_payload_fields};
 use bitcode_coder::coder::{Buffer, Decoder, Encoder, HoldsColumns, HoldsData, View};
 use bitcode_derive::derive::{HasDecoder, HasEncoder};
@@ -215,7 +215,6 @@ impl<
     ghost held = { record {
       lists = λ d. D1.held d.first ∷ D2.held d.second ∷ [];
       owned = λ d. D1.owned d.first + D2.owned d.second;
-      faults = λ n. (fault_and D1.faults (fault_and D2.faults (no_faults))) (n - First.value);
       makes_free = D1.makes_free && D2.makes_free;
     } };
 
@@ -233,10 +232,11 @@ impl<
         input: &mut &'a [u8],
         k: usize,
         strict: bool,
+        free: &mut u128,
     ) -> Result<bool, Error> {
         match number - First::value() {
-            0 => self.first.read(input, k, strict),
-            1 => self.second.read(input, k, strict),
+            0 => read_and_count(&mut self.first, input, k, strict, free),
+            1 => read_and_count(&mut self.second, input, k, strict, free),
             _ => unreachable!(),
         }
     }

@@ -3,14 +3,14 @@
 ghost use Rattle.std.specs.Prelude.{◌≡◌, ◌+◌, ◌-◌, ◌&&◌, [], ◌∷◌, OnOk, IfErr};
 ghost use Rattle.bitcode_coder.specs.Columns.{no_columns, emptied};
 ghost use Rattle.bitcode_coder.specs.Coder.{IsWritingRefusal};
-ghost use Rattle.bitcode_enums.specs.ByNumber.{columns_at, fault_and, no_faults, KeepsOthers};
+ghost use Rattle.bitcode_enums.specs.ByNumber.{columns_at, KeepsOthers};
 ghost use Rattle.bitcode_enums.specs.VariantsOf.{IsVariant};
 ghost use Rattle.bitcode_enums.specs.OneOf.{of_one_of_4};
 
 use crate::columns::VariantColumns;
-use crate::held::Enum;
+use crate::enums::Enum;
 use crate::number::VariantNumber;
-use crate::payloads::VariantPayloads;
+use crate::payloads::{VariantPayloads, read_and_count};
 use crate::writes::{WritesVariants, encode_payload_fields};
 use bitcode_coder::coder::{Buffer, Decoder, Encoder, HoldsColumns, HoldsData, View};
 use bitcode_derive::derive::{HasDecoder, HasEncoder};
@@ -340,10 +340,6 @@ impl<
     ghost held = { record {
       lists = λ d. D1.held d.first ∷ D2.held d.second ∷ D3.held d.third ∷ D4.held d.fourth ∷ [];
       owned = λ d. D1.owned d.first + D2.owned d.second + D3.owned d.third + D4.owned d.fourth;
-      faults = λ n.
-          (fault_and D1.faults
-          (fault_and D2.faults (fault_and D3.faults (fault_and D4.faults (no_faults)))))
-          (n - First.value);
       makes_free = D1.makes_free && D2.makes_free && D3.makes_free && D4.makes_free;
     } };
 
@@ -363,12 +359,13 @@ impl<
         input: &mut &'a [u8],
         k: usize,
         strict: bool,
+        free: &mut u128,
     ) -> Result<bool, Error> {
         match number - First::value() {
-            0 => self.first.read(input, k, strict),
-            1 => self.second.read(input, k, strict),
-            2 => self.third.read(input, k, strict),
-            3 => self.fourth.read(input, k, strict),
+            0 => read_and_count(&mut self.first, input, k, strict, free),
+            1 => read_and_count(&mut self.second, input, k, strict, free),
+            2 => read_and_count(&mut self.third, input, k, strict, free),
+            3 => read_and_count(&mut self.fourth, input, k, strict, free),
             _ => unreachable!(),
         }
     }

@@ -3,7 +3,6 @@ ghost use Rattle.std.specs.Prelude.{◌≡◌, ◌+◌, refl, false, [], ◌∷�
 ghost use Rattle.bitcode_shapes.specs.Shape.{choice_shape, shape_and, no_shapes, unit_shape};
 ghost use Rattle.bitcode_coder.specs.Columns.{no_columns, two};
 ghost use Rattle.bitcode_parts.specs.Payloads.{choices_of};
-ghost use Rattle.bitcode_parts.specs.TwoVariants.{TwoVariantsFault};
 ghost use Rattle.bitcode_parts.specs.TwoVariantLaws.{same_two_variants, two_variants_form};
 ghost use Rattle.bitcode_parts.specs.Variants.{variant_room, variant_capacity, variants_left, variants_owned};
 
@@ -14,6 +13,7 @@ use crate::empty::EmptyCoder;
 use bitcode_coder::coder::{
     Buffer, Decoder, Encoder, HoldsColumns, HoldsData, MAX_VECTORED_CHUNK, View, both,
 };
+use bitcode_coder::column_free::ColumnFree;
 use bitcode_coder::one::write_one;
 use bitcode_coder::part::Part;
 use bitcode_memory::error::Error;
@@ -146,7 +146,7 @@ impl<'a, D: HoldsData> HoldsData for OptionDecoder<'a, D> {
 }
 
 impl<'a, D: View<'a>> View<'a> for OptionDecoder<'a, D> {
-    ghost faults = { TwoVariantsFault unit_shape ⟦<EmptyCoder as View<'a>>⟧.faults D.faults };
+    ghost free_inside = { λ d. D.free_inside d.some };
 
     fn new(alloc: Global) -> Self {
         OptionDecoder {
@@ -161,6 +161,13 @@ impl<'a, D: View<'a>> View<'a> for OptionDecoder<'a, D> {
         let none = self.none.read(input, self.variants.length(0), strict)?;
         let some = self.some.read(input, self.variants.length(1), strict)?;
         Ok(both(both(variants, none), some))
+    }
+
+    fn column_free(&self) -> ColumnFree {
+        ColumnFree {
+            has_entry: true,
+            inside: self.some.column_free().inside,
+        }
     }
 }
 

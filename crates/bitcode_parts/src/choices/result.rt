@@ -3,12 +3,12 @@ ghost use Rattle.std.specs.Prelude.{◌+◌, [], ◌∷◌, false, ◌&&◌};
 ghost use Rattle.bitcode_shapes.specs.Shape.{choice_shape, shape_and, no_shapes};
 ghost use Rattle.bitcode_coder.specs.Columns.{no_columns, two};
 ghost use Rattle.bitcode_parts.specs.Payloads.{choices_of};
-ghost use Rattle.bitcode_parts.specs.TwoVariants.{TwoVariantsFault};
 ghost use Rattle.bitcode_parts.specs.TwoVariantLaws.{same_two_variants, two_variants_form};
 ghost use Rattle.bitcode_parts.specs.Variants.{variant_room, variant_capacity, variants_left, variants_owned};
 
 use crate::choices::variant::{VariantDecoder, VariantEncoder, encode_payload};
 use bitcode_coder::coder::{Buffer, Decoder, Encoder, HoldsColumns, HoldsData, View, both};
+use bitcode_coder::column_free::ColumnFree;
 use bitcode_memory::error::Error;
 use bitcode_shapes::shaped::Shaped;
 use std::alloc::Global;
@@ -113,7 +113,7 @@ impl<'a, A: HoldsData, B: HoldsData> HoldsData for ResultDecoder<'a, A, B> {
 }
 
 impl<'a, A: View<'a>, B: View<'a>> View<'a> for ResultDecoder<'a, A, B> {
-    ghost faults = { TwoVariantsFault A.shape A.faults B.faults };
+    ghost free_inside = { λ d. A.free_inside d.ok + B.free_inside d.err };
 
     fn new(alloc: Global) -> Self {
         ResultDecoder {
@@ -128,6 +128,14 @@ impl<'a, A: View<'a>, B: View<'a>> View<'a> for ResultDecoder<'a, A, B> {
         let ok = self.ok.read(input, self.variants.length(0), strict)?;
         let err = self.err.read(input, self.variants.length(1), strict)?;
         Ok(both(both(variants, ok), err))
+    }
+
+    fn column_free(&self) -> ColumnFree {
+        let err = self.err.column_free();
+        ColumnFree {
+            has_entry: true,
+            inside: self.ok.column_free().inside.saturating_add(err.inside),
+        }
     }
 }
 

@@ -9,11 +9,15 @@ ghost use Rattle.bitcode_columns.specs.Reading.{Reads, IsEndOf};
 ghost use Rattle.bitcode_columns.specs.VariantColumn.{SpellsVariants, variant_text};
 ghost use Rattle.bitcode_coder.specs.Columns.{variants, one, emptied};
 ghost use Rattle.bitcode_coder.specs.Coder.{JoinsListing, OverflowsWithListing, JoinsEach, OverflowsWithEach};
-ghost use Rattle.bitcode_coder.specs.Coder.{IsWritingRefusal};
+ghost use Rattle.bitcode_coder.specs.Coder.{IsReadingRefusal, IsWritingRefusal};
 ghost use Rattle.bitcode_coder.specs.Faults.{NamesVariantsFault};
-ghost use Rattle.bitcode_coder.specs.Spelling.{natural};
+ghost use Rattle.bitcode_coder.specs.ColumnFree.{free_count, saturated};
+ghost use Rattle.bitcode_coder.specs.FirstFault.{IsFirstFault};
+ghost use Rattle.bitcode_coder.specs.Spelling.{Spells, natural};
+ghost use Rattle.bitcode_coder.specs.Strict.{JudgesData};
 
 use bitcode_coder::coder::{Buffer, Encoder, HoldsColumns, HoldsData, MAX_VECTORED_CHUNK, View};
+use bitcode_coder::column_free::ColumnFree;
 use bitcode_columns::pack::pack_bytes_less_than;
 use bitcode_columns::strict::read_variants;
 use bitcode_memory::error::Error;
@@ -192,6 +196,29 @@ impl<'a, const N: usize, const C_STYLE: bool> VariantDecoder<'a, N, C_STYLE> {
         }
     }
 
+    /// Reads `k` variants as [`VariantDecoder::populate`] does, and returns whether their bytes are those that would be
+    /// written for them.
+    ///
+    /// ```rust
+    /// let mut input: &[u8] = &[5];
+    /// let mut variants = VariantDecoder::<3, false>::new(alloc);
+    /// assert!(rt; variants.populate_strict(&mut input, 3)?);
+    /// assert_eq!(rt; variants.length(2), 1);
+    /// ```
+    pub fn populate_strict(&mut self, input: &mut &'a [u8], k: usize) -> Result<bool, Error>
+        ensures read { OnOk result
+            (Reads (SpellsVariants N) k input.old.now (variants_left self.new) input.new.now) }
+        ensures strict { IfOk result
+            (λ written. IsTrue written
+            ↔ (input.old.now ≡ variant_text N (variants_left self.new) ++ input.new.now)) }
+        ensures counts { OnOk result
+            (C_STYLE ≡ false → AreCounts N (variants_left self.new) (variant_counts self.new)) }
+        ensures refused { IfErr result (λ e. NamesVariantsFault N e.reason k input.old.now) }
+        ensures rest { OnErr result (IsEndOf input.old.now input.new.now) }
+    {
+        self.read(input, k, true)
+    }
+
     /// The number of variants `i` among all that were read, including those already taken.
     pub fn length(&self, i: usize) -> usize
         requires counted { C_STYLE ≡ false }
@@ -233,14 +260,39 @@ impl<'a, const N: usize, const C_STYLE: bool> HoldsData for VariantDecoder<'a, N
 }
 
 impl<'a, const N: usize, const C_STYLE: bool> View<'a> for VariantDecoder<'a, N, C_STYLE> {
-    ghost faults = { λ reason k input. NamesVariantsFault N reason k input };
+    ghost use Rattle.bitcode_shapes.specs.BareVariants.{bare_shape};
+    ghost use Rattle.bitcode_parts.specs.BareVariants.{bare_choices};
+    ghost use Rattle.bitcode_parts.specs.Variants.{variants_left, variant_counts};
+
+    ghost free_inside = { λ d. 0 };
 
     fn new(alloc: Global) -> Self {
         VariantDecoder::new(alloc)
     }
 
-    fn read(&mut self, input: &mut &'a [u8], k: usize, strict: bool) -> Result<bool, Error> {
+    fn read(&mut self, input: &mut &'a [u8], k: usize, strict: bool) -> Result<bool, Error>
+        ensures read { OnOk result
+            (Reads (Spells (bare_shape N)) k input.old.now (bare_choices N (variants_left self.new))
+            input.new.now) }
+        ensures counted { OnOk result
+            (saturated 0 ≡ saturated (free_count (bare_shape N)
+            (bare_choices N (variants_left self.new)))) }
+        ensures judged { IsTrue strict → IfOk result
+            (λ written. JudgesData (bare_shape N) (bare_choices N (variants_left self.new)) written
+            input.old.now
+            input.new.now) }
+        ensures refused { IfErr result
+            (λ e. IsReadingRefusal (bare_shape N) e.reason k input.old.now) }
+        ensures exact { IfErr result (λ e. IsFirstFault (bare_shape N) e.reason k input.old.now) }
+        ensures rest { OnErr result (IsEndOf input.old.now input.new.now) }
+        ensures counts { OnOk result
+            (C_STYLE ≡ false → AreCounts N (variants_left self.new) (variant_counts self.new)) }
+    {
         self.read(input, k, strict)
+    }
+
+    fn column_free(&self) -> ColumnFree {
+        ColumnFree::entries()
     }
 }
 

@@ -2,20 +2,27 @@
 #![tactic(auto, unfolding(bitcode_coder::specs::Length::lengths_left, bitcode_coder::specs::Length::lengths_sum))]
 
 ghost use Rattle.std.specs.Prelude.{◌≡◌, ◌+◌, ◌*◌, ◌<◌, ◌≤◌, [], None, length, map, take, false, IfOk, OnOk, IfErr};
-ghost use Rattle.std.specs.Prelude.{◌⊎◌};
+ghost use Rattle.std.specs.Prelude.{IsTrue, OnErr};
 ghost use Rattle.std.proofs.Common.{sym, ap, ◌∙◌};
+ghost use Rattle.bitcode_columns.specs.Reading.{Reads, IsEndOf};
 ghost use Rattle.bitcode_shapes.specs.Shape.{seq_shape};
 ghost use Rattle.bitcode_coder.specs.Coder.{JoinsEach, OverflowsWithEach, IsWritingRefusal, TakesDatum};
+ghost use Rattle.bitcode_coder.specs.Coder.{IsReadingRefusal};
+ghost use Rattle.bitcode_coder.specs.Spelling.{Spells};
+ghost use Rattle.bitcode_coder.specs.Strict.{JudgesData};
+ghost use Rattle.bitcode_coder.specs.Transposition.{joined};
+ghost use Rattle.bitcode_coder.specs.FirstFault.{IsFirstFault};
+ghost use Rattle.bitcode_coder.specs.ColumnFree.{has_entry, count_if_free, free_count, saturated};
 ghost use Rattle.bitcode_coder.specs.Columns.{emptied, lengths, one, two};
 ghost use Rattle.bitcode_coder.specs.Length.{written_lengths, length_room, lengths_left, length_capacity};
-ghost use Rattle.bitcode_coder.specs.Length.{lengths_owned};
-ghost use Rattle.bitcode_coder.specs.LengthParts.{NamesLengthFault};
-ghost use Rattle.bitcode_parts.specs.Lists.{lists_of, list_columns, FaultsInElements};
+ghost use Rattle.bitcode_coder.specs.Length.{lengths_owned, lengths_sum};
+ghost use Rattle.bitcode_parts.specs.Lists.{lists_of, list_columns};
 
 use crate::lists::sequence::{FromElements, Sequence, decode_each};
 use bitcode_coder::coder::{
     Buffer, Decoder, Encoder, HoldsColumns, HoldsData, MAX_VECTORED_CHUNK, View, both,
 };
+use bitcode_coder::column_free::ColumnFree;
 use bitcode_coder::length::{LengthDecoder, LengthEncoder};
 use bitcode_coder::part::{Part, told_parts};
 use bitcode_memory::error::{Error, Reason};
@@ -261,8 +268,8 @@ impl<'a, D: HoldsData> HoldsData for VecDecoder<'a, D> {
 }
 
 impl<'a, D: View<'a>> View<'a> for VecDecoder<'a, D> {
-    ghost faults = { λ reason k input. NamesLengthFault reason k input
-        ⊎ FaultsInElements D.faults reason k input };
+    ghost free_inside = { λ d. count_if_free (has_entry D.shape) (lengths_sum d.lengths)
+        + D.free_inside d.elements };
 
     fn new(alloc: Global) -> Self {
         VecDecoder {
@@ -272,14 +279,69 @@ impl<'a, D: View<'a>> View<'a> for VecDecoder<'a, D> {
         }
     }
 
-    fn read(&mut self, input: &mut &'a [u8], k: usize, strict: bool) -> Result<bool, Error> {
+    fn read(&mut self, input: &mut &'a [u8], k: usize, strict: bool) -> Result<bool, Error>
+        ensures read { OnOk result
+            (Reads (Spells (seq_shape None D.shape)) k input.old.now
+            (lists_of (lengths_left self.new.lengths) (D.held self.new.elements)) input.new.now) }
+        ensures counted { OnOk result
+            (saturated (count_if_free (has_entry D.shape) (lengths_sum self.new.lengths)
+            + D.free_inside self.new.elements) ≡ saturated (free_count (seq_shape None D.shape)
+            (lists_of (lengths_left self.new.lengths) (D.held self.new.elements)))) }
+        ensures total { OnOk result
+            (lengths_sum self.new.lengths ≡ length (joined
+            (lists_of (lengths_left self.new.lengths) (D.held self.new.elements)))) }
+        ensures judged { IsTrue strict → IfOk result
+            (λ written. JudgesData (seq_shape None D.shape)
+            (lists_of (lengths_left self.new.lengths) (D.held self.new.elements)) written
+            input.old.now input.new.now) }
+        ensures refused { IfErr result
+            (λ e. IsReadingRefusal (seq_shape None D.shape) e.reason k input.old.now) }
+        ensures exact { IfErr result
+            (λ e. IsFirstFault (seq_shape None D.shape) e.reason k input.old.now) }
+        ensures rest { OnErr result (IsEndOf input.old.now input.new.now) }
+    {
         let lengths = self.lengths.read(input, k, strict)?;
         let elements = self.elements.read(input, self.lengths.length(), strict)?;
         Ok(both(lengths, elements))
     }
+
+    fn column_free(&self) -> ColumnFree {
+        ColumnFree {
+            has_entry: true,
+            inside: self.elements.column_free().in_lists(self.lengths.length()),
+        }
+    }
 }
 
 impl<'a, D> VecDecoder<'a, D> {
+    /// The decoder of the elements.
+    ///
+    /// ```rust
+    /// let mut input: &[u8] = &[1, 7];
+    /// let mut lists: VecDecoder<IntDecoder<u8>> = VecDecoder::new(alloc);
+    /// lists.populate(&mut input, 1)?;
+    /// assert_eq!(rt; lists.elements().column_free().inside, 0);
+    /// ```
+    pub fn elements(&self) -> &D
+        ensures { result.now ≡ self.now.elements }
+    {
+        &self.elements
+    }
+
+    /// The sum of all lengths that were read, including those already taken.
+    ///
+    /// ```rust
+    /// let mut input: &[u8] = &[1, 7];
+    /// let mut lists: VecDecoder<IntDecoder<u8>> = VecDecoder::new(alloc);
+    /// lists.populate(&mut input, 1)?;
+    /// assert_eq!(rt; lists.total(), 1);
+    /// ```
+    pub fn total(&self) -> usize
+        ensures { result ≡ lengths_sum self.now.lengths }
+    {
+        LengthDecoder::length(&self.lengths)
+    }
+
     /// Makes a container from the next length and as many elements. At least one length must be left.
     ///
     /// The decoder of a user-defined container calls this. The only error is `out of memory`.

@@ -5,8 +5,8 @@ ghost use Rattle.std.specs.Prelude.{◌≤◌, length, map, All};
 ghost use Rattle.std.proofs.Props.{props};
 ghost use Rattle.bitcode_serde.specs.Links.{AreFiled};
 
+use crate::column::WrittenColumn;
 use crate::places::Places;
-use crate::written::WrittenColumn;
 use std::alloc::Global;
 
 /// A column, and the number of its place.

@@ -3,7 +3,7 @@ ghost use Rattle.std.specs.Prelude.{true, min, refl, false, ◌+◌};
 ghost use Rattle.bitcode.specs.ByHand.{data_as, pairs_of, two};
 ghost use Rattle.bitcode_test_support.specs.Foo.{foo_fields};
 
-use bitcode::coder::{Buffer, HoldsColumns, HoldsData, Result, both};
+use bitcode::coder::{Buffer, ColumnFree, HoldsColumns, HoldsData, Result, both};
 use bitcode::{
     Decoder, Encoder, HasDecoder, HasEncoder, IntDecoder, IntEncoder, Shaped, StrDecoder,
     StrEncoder, TupleDecoder, View,
@@ -104,7 +104,8 @@ impl<'a> HoldsData for FooDecoder<'a> {
 }
 
 impl<'a> View<'a> for FooDecoder<'a> {
-    ghost faults = { ⟦<Fields<'a> as View<'a>>⟧.faults };
+    ghost free_inside = { λ d. ⟦<IntDecoder<'a, u32> as View<'a>>⟧.free_inside d.x
+        + ⟦<StrDecoder<'a> as View<'a>>⟧.free_inside d.y };
 
     fn new(alloc: Global) -> Self {
         FooDecoder {
@@ -118,6 +119,15 @@ impl<'a> View<'a> for FooDecoder<'a> {
         let x = self.x.read(input, k, strict)?;
         let y = self.y.read(input, k, strict)?;
         Ok(both(x, y))
+    }
+
+    fn column_free(&self) -> ColumnFree {
+        let x = self.x.column_free();
+        let y = self.y.column_free();
+        ColumnFree {
+            has_entry: x.has_entry || y.has_entry,
+            inside: x.inside.saturating_add(y.inside),
+        }
     }
 }
 

@@ -3,7 +3,7 @@ ghost use Rattle.std.specs.Prelude.{true, refl};
 ghost use Rattle.bitcode.specs.ByHand.{data_as};
 ghost use Rattle.bitcode_test_support.specs.One.{one_again, one_field, one_found};
 
-use bitcode::coder::{Buffer, HoldsColumns, HoldsData, Result};
+use bitcode::coder::{Buffer, ColumnFree, HoldsColumns, HoldsData, Result};
 use bitcode::{
     DecodeOwned, Decoder, Encoder, HasDecoder, HasEncoder, IntDecoder, IntEncoder, Shaped, View,
 };
@@ -88,7 +88,7 @@ impl<'a> HoldsData for OneDecoder<'a> {
 }
 
 impl<'a> View<'a> for OneDecoder<'a> {
-    ghost faults = { ⟦<IntDecoder<'a, u8> as View<'a>>⟧.faults };
+    ghost free_inside = { λ d. ⟦<IntDecoder<'a, u8> as View<'a>>⟧.free_inside d.a };
 
     fn new(alloc: Global) -> Self {
         OneDecoder {
@@ -98,6 +98,10 @@ impl<'a> View<'a> for OneDecoder<'a> {
 
     fn read(&mut self, input: &mut &'a [u8], k: usize, strict: bool) -> Result<bool> {
         self.a.read(input, k, strict)
+    }
+
+    fn column_free(&self) -> ColumnFree {
+        self.a.column_free()
     }
 }
 

@@ -3,7 +3,7 @@ ghost use Rattle.std.specs.Prelude.{[], ◌∷◌, true, false, refl, ◌+◌};
 ghost use Rattle.bitcode.specs.ByHand.{no_columns, two, choices_of, variant_room, variants_left, variants_owned};
 ghost use Rattle.bitcode_test_support.specs.Two.{two_data};
 
-use bitcode::coder::{Buffer, HoldsColumns, HoldsData, Result, both};
+use bitcode::coder::{Buffer, ColumnFree, HoldsColumns, HoldsData, Result, both};
 use bitcode::own::encode_payload;
 use bitcode::{
     DecodeOwned, Decoder, Encoder, HasDecoder, HasEncoder, IntDecoder, IntEncoder, ResultDecoder,
@@ -120,7 +120,8 @@ impl<'a> HoldsData for TwoDecoder<'a> {
 }
 
 impl<'a> View<'a> for TwoDecoder<'a> {
-    ghost faults = { ⟦<Variants<'a> as View<'a>>⟧.faults };
+    ghost free_inside = { λ d. ⟦<IntDecoder<'a, u8> as View<'a>>⟧.free_inside d.a
+        + ⟦<IntDecoder<'a, i8> as View<'a>>⟧.free_inside d.b };
 
     fn new(alloc: Global) -> Self {
         TwoDecoder {
@@ -136,6 +137,14 @@ impl<'a> View<'a> for TwoDecoder<'a> {
         let b = self.b.read(input, self.variants.length(1), strict)?;
         let first = both(variants, a);
         Ok(both(first, b))
+    }
+
+    fn column_free(&self) -> ColumnFree {
+        let b = self.b.column_free();
+        ColumnFree {
+            has_entry: true,
+            inside: self.a.column_free().inside.saturating_add(b.inside),
+        }
     }
 }
 

@@ -52,5 +52,5 @@ returns-in_err-expect_eof-clause-exact g c =
 
 pub returns-clause-exact : goal.returns-clause-exact
 returns-clause-exact g c =
-    making_named g.T.Decoder.View.faults g.T.Decoder.Decoder.makes_free c.in_ok-populate.ensures.read
+    making_named g.T.Decoder.Decoder.makes_free c.in_ok-populate.ensures.read
     (λ more. false≢true (c.in_ok-expect_eof.ensures.refused.1 more)) c.decode.result c.decode.ensures.refused c.decode.ensures.free

@@ -30,4 +30,4 @@ returns-clause-bounded g c = bounded_by_front g.T.Shaped.data.shape c.args.input
 
 pub returns-clause-exact : goal.returns-clause-exact
 returns-clause-exact g c =
-    making_front_named g.T.Decoder.View.faults g.T.Decoder.Decoder.makes_free c.in_ok-populate.ensures.read c.decode.result c.decode.ensures.refused c.decode.ensures.free
+    making_front_named g.T.Decoder.Decoder.makes_free c.in_ok-populate.ensures.read c.decode.result c.decode.ensures.refused c.decode.ensures.free

@@ -59,4 +59,4 @@ returns-clause-refused g c = IfErr-weaker c.decode.result _ _ (λ e memory. no_m
 pub returns-clause-exact : goal.returns-clause-exact
 returns-clause-exact g c =
     IfErr-weaker c.decode.result _ _ (λ e named other. named)
-    (making_front_named g.T.Decoder.View.faults g.T.Decoder.Decoder.makes_free c.in_ok-written.ensures.read c.decode.result c.decode.ensures.refused c.decode.ensures.free)
+    (making_front_named g.T.Decoder.Decoder.makes_free c.in_ok-written.ensures.read c.decode.result c.decode.ensures.refused c.decode.ensures.free)

@@ -83,5 +83,5 @@ returns-then-not-written-clause-exact g c = rw c.err.ensures (λ other. absurd (
 pub returns-clause-exact : goal.returns-clause-exact
 returns-clause-exact g c =
     IfErr-weaker c.decode.result _ _ (λ e named other. named)
-    (making_named g.T.Decoder.View.faults g.T.Decoder.Decoder.makes_free c.in_ok-written.ensures.read
+    (making_named g.T.Decoder.Decoder.makes_free c.in_ok-written.ensures.read
     (λ more. false≢true (c.in_ok-expect_eof.ensures.refused.1 more)) c.decode.result c.decode.ensures.refused c.decode.ensures.free)

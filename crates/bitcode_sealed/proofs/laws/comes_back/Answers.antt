@@ -26,5 +26,5 @@ returns-in_default-clause-refused g c =
     let fits : LabelFits label = record { kind = omega arith; version = omega arith } in
     rw c.in_default.is (λ sealing short same room refusal.
     only_for_memory c.args.expected.now (subst LabelFits (sym same) fits) sealing.encoding bytes below (subst (λ l. bytes ≡ sealed l sealing.encoding) (sym same) sealing.whole)
-    room g.T.Decoder.View.faults g.T.Decoder.Decoder.makes_free g.T.Decoder.HoldsData.shape g.T.Shaped.data.shape c.in_default.field-0
+    room g.T.Decoder.Decoder.makes_free g.T.Decoder.HoldsData.shape g.T.Shaped.data.shape c.in_default.field-0
     (λ reason none. refused_for_memory g.T.Shaped.data.lawful c.args.t.now sealing.encoding c.told.ensures sealing.written short reason none) refusal)

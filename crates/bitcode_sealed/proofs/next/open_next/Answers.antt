@@ -10,7 +10,7 @@ use Rattle.bitcode_sealed.proofs.next.open_next.Goals as goal
 pub returns-then-is_out_of_memory-clause-refused : goal.returns-then-is_out_of_memory-clause-refused
 returns-then-is_out_of_memory-clause-refused g c =
     let Refused : OpenError → Type 0 =
-    λ e. IsRefusalOfFront g.T.Decoder.View.faults g.T.Decoder.Decoder.makes_free g.T.Decoder.HoldsData.shape g.T.Shaped.data.shape c.args.expected.now c.args.input.now.now e in
+    λ e. IsRefusalOfFront g.T.Decoder.Decoder.makes_free g.T.Decoder.HoldsData.shape g.T.Shaped.data.shape c.args.expected.now c.args.input.now.now e in
     rw c.err.ensures (subst Refused (of_memory c.in-Err.fault (c.is_out_of_memory.ensures.0 c.if-is_out_of_memory.true)) c.in-Err.ensures.refused)
 
 pub returns-in-Ok-bytes_to_skip-clause-found : goal.returns-in-Ok-bytes_to_skip-clause-found

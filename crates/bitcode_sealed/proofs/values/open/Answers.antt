@@ -24,7 +24,6 @@ returns-then-not-is_empty-clause-refused g c =
 
 pub returns-clause-refused : goal.returns-clause-refused
 returns-clause-refused g c =
-    let faults = g.T.Decoder.View.faults in
     let free = g.T.Decoder.Decoder.makes_free in
     let own = g.T.Decoder.HoldsData.shape in
     let shape = g.T.Shaped.data.shape in
@@ -35,5 +34,5 @@ returns-clause-refused g c =
     let at_rest : IsSealedFront expected bytes value rest = search rules in
     let none : length rest ≡ 0 = first_of (search rules, grind arith) in
     let front : IsSealedFront expected bytes value [] = subst (IsSealedFront expected bytes value) (nothing_left rest none) at_rest in
-    IfErr-weaker c.decode_value.result (λ e. IsDecodingRefusal faults free own shape value e) (λ e. IsRefusal faults free own shape expected bytes e)
+    IfErr-weaker c.decode_value.result (λ e. IsDecodingRefusal free own shape value e) (λ e. IsRefusal free own shape expected bytes e)
     (λ e refusal. all_not_decoded value front refusal) c.decode_value.ensures.refused

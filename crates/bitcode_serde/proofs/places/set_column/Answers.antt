@@ -1,12 +1,15 @@
-use Rattle.std.proofs.Common.{get_or, Some}
-use Rattle.bitcode_serde.proofs.LinkLemmas.{column_set, column_set-others, link_set-same, link_of_column}
+use Rattle.std.proofs.Common.{refl}
+use Rattle.bitcode_serde.proofs.LinkLemmas.{column_set, column_set-others, children_set-same, last_set-same}
 use Rattle.bitcode_serde.proofs.places.set_column.Goals as goal
 
 pub returns-clause-there : goal.returns-clause-there
-returns-clause-there c = column_set c.args.links.now c.args.place _ c.requires
+returns-clause-there c = column_set _ c.args.links.now c.args.place c.requires
 
 pub returns-clause-others : goal.returns-clause-others
-returns-clause-others c = column_set-others c.args.links.now c.args.place _
+returns-clause-others c = column_set-others _ c.args.links.now c.args.place
 
-pub returns-clause-links : goal.returns-clause-links
-returns-clause-links c = link_set-same c.args.links.now c.args.place c.index-links-place.result _ (link_of_column (get_or c.args.links.now c.args.place c.index-links-place.result) (Some c.args.column))
+pub returns-clause-children : goal.returns-clause-children
+returns-clause-children c = children_set-same _ c.args.links.now c.args.place c.index-links-place.result refl
+
+pub returns-clause-last : goal.returns-clause-last
+returns-clause-last c = last_set-same _ c.args.links.now c.args.place c.index-links-place.result refl

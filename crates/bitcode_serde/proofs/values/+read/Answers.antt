@@ -21,14 +21,14 @@ use Rattle.bitcode_coder.specs.Spelling.{natural}
 use Rattle.bitcode_serde.specs.Budget.{IsLeft, spend}
 use Rattle.bitcode_serde.specs.Places.{places, place_at}
 use Rattle.bitcode_serde.specs.ReadColumns.{kind_of, IsCaseOf}
-use Rattle.bitcode_serde.specs.ReadingValues.{ReadsAt, ReadsListWithin, IsRefusalAt, IsListRefusalAt, IsOfLeaf, IsOfBytes, ReadsLeafAt, IsLeafRefusalAt, IsOfOption, IsOfSeq, IsOfMap, IsOfTuple, IsOfEnum}
+use Rattle.bitcode_serde.specs.ReadingValues.{ReadsAt, ReadsListWithin, IsRefusalAt, IsListRefusalAt, IsFieldRefusalAt, IsOfLeaf, IsOfBytes, ReadsLeafAt, IsLeafRefusalAt, IsOfOption, IsOfSeq, IsOfMap, IsOfTuple, IsOfEnum}
 use Rattle.bitcode_serde.specs.declared.budget.Budget.TheVariants.{Spent}
 use Rattle.bitcode_serde.proofs.BudgetLemmas.{spend-then, left_before, keeps_more, keeps_all, keeps_choice}
 use Rattle.bitcode_serde.proofs.CaseLemmas.{one_more_whole, one_more_field_whole, all_fields_whole, enum_whole, reference_whole}
 use Rattle.bitcode_serde.proofs.ColumnLemmas.{passed_on}
 use Rattle.bitcode_serde.proofs.DepthLemmas.{entry_deep, reference_falls}
 use Rattle.bitcode_serde.proofs.EntryLemmas.{found_entry, no_entry}
-use Rattle.bitcode_serde.proofs.FieldLemmas.{tree_at_entry, tree_at_none, no_fields, one_more_field, field_refused, tuple_done}
+use Rattle.bitcode_serde.proofs.FieldLemmas.{tree_at_entry, tree_at_none, no_fields, fields_on, one_more_field, field_refused, tuple_done, adds_as, field_inside, field_inside_refused, free_field, free_field_refused, field_skipped}
 use Rattle.bitcode_serde.proofs.KeptLemmas.{one_node, unit_within, entry_within, leaf_adds, leaves_within, rest_within}
 use Rattle.bitcode_serde.proofs.LeafEntryLemmas.{leaf_else}
 use Rattle.bitcode_serde.proofs.LeafLemmas.{leaf_read_at, leaves_whole}
@@ -390,55 +390,110 @@ pub read_tuple-loop-i-init : goal.read_tuple-loop-i-init
 read_tuple-loop-i-init t c =
     let at_node = tree_of_node c.args.left c.args.table.now in (
       record { steady = c.requires.steady; asked = asked_alike c.args.reader.now; kept = λ i p at. at },
-      record {
-        listing = [];
-        read = no_fields at_node c.args.nodes.now c.args.place c.args.reader.now;
-        taken = refl;
-        same = λ left. rw c.in_ok-values.ensures.empty refl;
-      },
-      λ left. rw c.in_ok-values.ensures.empty refl,
+      fields_on at_node c.args.nodes.now c.args.place c.args.reader.now c.args.reader.now c.take.new.self c.take.new.self c.in_ok-values.values.items 0 c.next_field-i.result
+          (record { steady = c.requires.steady; asked = asked_alike c.args.reader.now; kept = λ i p at. at })
+          c.next_field-i.ensures.inside.0 c.next_field-i.ensures.inside.1 c.next_field-i.ensures.kept c.next_field-i.ensures.free
+          (record {
+            listing = [];
+            read = no_fields at_node c.args.nodes.now c.args.place c.args.reader.now;
+            taken = refl;
+            same = λ left. rw c.in_ok-values.ensures.empty refl;
+          }),
+      (λ left. rw (c.next_field-i.ensures.kept left, c.in_ok-values.ensures.empty) refl),
+      omega arith,
+      c.next_field-i.ensures.inside.1,
     )
 
-pub read_tuple-field-requires-clause-place : goal.read_tuple-field-requires-clause-place
-read_tuple-field-requires-clause-place t c = still_there c.args.reader.now c.loop-i.reader c.args.place c.loop-i.invariant.0 c.requires.place
-
-pub read_tuple-read_behind-requires : goal.read_tuple-read_behind-requires
-read_tuple-read_behind-requires t c =
+pub read_tuple-read_field-requires : goal.read_tuple-read_field-requires
+read_tuple-read_field-requires t c =
     let d = entry_deep c.args.nodes.now c.loop-i.i c.index-nodes-i.result (found_entry c.args.nodes.now c.loop-i.i c.index-nodes-i.result c.loop-i-test.true c.index-nodes-i.is) in
-    let h = (c.in_ok-inside.ensures.found _ (c.loop-i.invariant.0.kept c.args.place (place_at (places c.args.reader.now.places.below.items) c.args.place) (c.requires.place, refl))).0 in
-    let s = c.in_ok-inside.ensures.continues.steady in
-    search (rules, d, h, s)
+    let h = still_there c.args.reader.now c.loop-i.reader c.args.place c.loop-i.invariant.0 c.requires.place in
+    let s = c.loop-i.invariant.0.steady in
+    let m = c.loop-i.invariant.3 in
+    search (rules, d, h, s, m)
 
-pub read_tuple-returns-in_err-read_behind-clause-refused : goal.read_tuple-returns-in_err-read_behind-clause-refused
-read_tuple-returns-in_err-read_behind-clause-refused t c =
+pub read_tuple-returns-in_err-met-clause-refused : goal.read_tuple-returns-in_err-met-clause-refused
+read_tuple-returns-in_err-met-clause-refused t c =
     let at_node = tree_of_node c.args.left c.args.table.now in
-    let y = err_from_is_err_and c.from_residual-in_err-read_behind.result c.from_residual-in_err-read_behind.ensures.1 in
-    passed_on (λ e. IsRefusalAt (tuple_tree (trees_of (map at_node c.args.nodes.now))) c.args.place c.args.reader.now e.reason) c.from_residual-in_err-read_behind.result c.in_err-read_behind.field-0.0 y.0 y.1 y.2
-    (field_refused at_node c.args.nodes.now c.args.place c.args.reader.now c.loop-i.reader c.field.new.self c.in_ok-inside.inside c.loop-i.i c.index-nodes-i.result
+    let y = err_from_is_err_and c.from_residual-in_err-met.result c.from_residual-in_err-met.ensures.1 in
+    passed_on (λ e. IsRefusalAt (tuple_tree (trees_of (map at_node c.args.nodes.now))) c.args.place c.args.reader.now e.reason) c.from_residual-in_err-met.result c.in_err-met.field-0.0 y.0 y.1 y.2
+    (field_refused at_node c.args.nodes.now c.args.place c.args.reader.now c.loop-i.reader c.loop-i.i c.index-nodes-i.result
     c.loop-i.invariant.1.listing c.loop-i.invariant.0 (found_entry c.args.nodes.now c.loop-i.i c.index-nodes-i.result c.loop-i-test.true c.index-nodes-i.is)
-    c.in_ok-inside.ensures.found c.in_ok-inside.ensures.stands c.loop-i.invariant.1.read _ c.in_err-read_behind.ensures.refused)
+    c.loop-i.invariant.1.read _ c.in_err-met.ensures.refused)
 
 pub read_tuple-loop-i-preserved : goal.read_tuple-loop-i-preserved
 read_tuple-loop-i-preserved t c =
     let at_node = tree_of_node c.args.left c.args.table.now in
     let there = found_entry c.args.nodes.now c.loop-i.i c.index-nodes-i.result c.loop-i-test.true c.index-nodes-i.is in
-    let one = c.in_ok-read_behind.ensures.read in
+    let one = c.in_ok-met.ensures.read in
     let many = c.loop-i.invariant.1 in (
-      continues_on c.args.reader.now c.loop-i.reader c.read_behind.new.reader c.loop-i.invariant.0
-          (continues_on c.loop-i.reader c.field.new.self c.read_behind.new.reader c.in_ok-inside.ensures.continues c.in_ok-read_behind.ensures.continues),
-      keeps_more datum_of _ _ c.take.new.self c.loop-i.budget c.read_behind.new.budget c.loop-i.values.items c.read_behind.new.values.items one.value one.read.datum many
-          (one_more_field at_node c.args.nodes.now c.args.place c.args.reader.now c.loop-i.reader c.field.new.self c.in_ok-inside.inside c.loop-i.i
-          c.index-nodes-i.result many.listing c.loop-i.invariant.0 there c.in_ok-inside.ensures.found c.in_ok-inside.ensures.stands many.read one.read.datum
-          c.read_behind.new.reader one.read.read) one.read.taken one.read.same one.added,
-      λ left. rw (one.added left)
+      continues_on c.args.reader.now c.loop-i.reader c.read_field.new.reader c.loop-i.invariant.0 c.in_ok-met.ensures.continues,
+      fields_on at_node c.args.nodes.now c.args.place c.args.reader.now c.read_field.new.reader c.take.new.self c.read_field.new.budget c.read_field.new.values.items
+          (c.loop-i.i + 1) c.next_field-i-in-loop-i.result
+          (continues_on c.args.reader.now c.loop-i.reader c.read_field.new.reader c.loop-i.invariant.0 c.in_ok-met.ensures.continues)
+          c.next_field-i-in-loop-i.ensures.inside.0 c.next_field-i-in-loop-i.ensures.inside.1 c.next_field-i-in-loop-i.ensures.kept c.next_field-i-in-loop-i.ensures.free
+          (keeps_more datum_of _ _ c.take.new.self c.loop-i.budget c.read_field.new.budget c.loop-i.values.items c.read_field.new.values.items one.value one.read.datum many
+          (one_more_field at_node c.args.nodes.now c.args.place c.args.reader.now c.loop-i.reader c.loop-i.i
+          c.index-nodes-i.result many.listing c.loop-i.invariant.0 there many.read one.read.datum
+          c.read_field.new.reader one.read.read) one.read.taken one.read.same one.added),
+      (λ left. rw (c.next_field-i-in-loop-i.ensures.kept left, one.added left)
           (one_more_field_whole c.args.table.now c.args.left c.args.nodes.now c.loop-i.values.items c.loop-i.i one.value c.index-nodes-i.result
-          (c.loop-i.invariant.2 (left_before (node_count one.read.datum) c.loop-i.budget (subst IsLeft one.read.taken left))) there (one.whole left)),
+          (c.loop-i.invariant.2 (left_before (node_count one.read.datum) c.loop-i.budget (subst IsLeft one.read.taken left))) there (one.whole left))),
+      (let up = c.in_ok-met.ensures.met in let low = c.next_field-i-in-loop-i.ensures.inside.0 in omega (arith, up, low)),
+      c.next_field-i-in-loop-i.ensures.inside.1,
     )
+
+pub read_field-returns-then-is_spent-clause-read : goal.read_field-returns-then-is_spent-clause-read
+read_field-returns-then-is_spent-clause-read t c =
+    let free : column_free (tree_of_node c.args.left c.args.table.now c.args.node.now) ≡ true = sym c.lacks_columns.ensures ∙ c.if-lacks_columns.true in
+    field_skipped (tree_of_node c.args.left c.args.table.now c.args.node.now) c.args.place c.args.i c.args.fields free _ c.args.reader.now c.args.budget.now c.args.values.now.items
+    c.if-is_spent.ensures
+
+pub read_field-returns-then-lacks_columns-clause-read : goal.read_field-returns-then-lacks_columns-clause-read
+read_field-returns-then-lacks_columns-clause-read t c =
+    let free : column_free (tree_of_node c.args.left c.args.table.now c.args.node.now) ≡ true = sym c.lacks_columns.ensures ∙ c.if-lacks_columns.true in
+    adds_as _ _ _ c.args.budget.now c.read_node.new.budget c.args.values.now.items c.keep.new.items.items
+    (λ d r. free_field (tree_of_node c.args.left c.args.table.now c.args.node.now) c.args.place c.args.i c.args.fields free c.args.reader.now d c.read_node.new.reader r)
+    (record { value = c.in_ok-value.value; read = c.in_ok-value.ensures.read; whole = c.in_ok-value.ensures.whole; added = c.in_ok-keep.ensures.kept })
+
+pub read_field-returns-in_err-value-clause-refused : goal.read_field-returns-in_err-value-clause-refused
+read_field-returns-in_err-value-clause-refused t c =
+    let tree = tree_of_node c.args.left c.args.table.now c.args.node.now in
+    let free : column_free tree ≡ true = sym c.lacks_columns.ensures ∙ c.if-lacks_columns.true in
+    let y = err_from_is_err_and c.from_residual.result c.from_residual.ensures.1 in
+    passed_on (λ e. IsFieldRefusalAt tree c.args.place c.args.i c.args.fields c.args.reader.now e.reason) c.from_residual.result c.in_err-value.field-0.0 y.0 y.1 y.2
+    (free_field_refused tree c.args.place c.args.i c.args.fields free c.args.reader.now _ c.in_err-value.ensures.refused)
+
+pub read_field-read_behind-requires : goal.read_field-read_behind-requires
+read_field-read_behind-requires t c =
+    let h = (c.in_ok-inside.ensures.found _ (c.requires.place, refl)).0 in
+    let s = c.in_ok-inside.ensures.continues.steady in
+    search (rules, h, s)
+
+pub read_field-returns-in_err-read_behind-clause-refused : goal.read_field-returns-in_err-read_behind-clause-refused
+read_field-returns-in_err-read_behind-clause-refused t c =
+    let tree = tree_of_node c.args.left c.args.table.now c.args.node.now in
+    let y = err_from_is_err_and c.from_residual-in_err-read_behind.result c.from_residual-in_err-read_behind.ensures.1 in
+    passed_on (λ e. IsFieldRefusalAt tree c.args.place c.args.i c.args.fields c.args.reader.now e.reason) c.from_residual-in_err-read_behind.result c.in_err-read_behind.field-0.0 y.0 y.1 y.2
+    (field_inside_refused tree c.args.place c.args.i c.args.fields c.args.reader.now c.field.new.self c.in_ok-inside.inside c.in_ok-inside.ensures.found c.in_ok-inside.ensures.stands
+    _ c.in_err-read_behind.ensures.refused)
+
+pub read_field-returns-clause-continues : goal.read_field-returns-clause-continues
+read_field-returns-clause-continues t c =
+    continues_on c.args.reader.now c.field.new.self c.read_behind.new.reader c.in_ok-inside.ensures.continues c.in_ok-read_behind.ensures.continues
+
+pub read_field-returns-clause-read : goal.read_field-returns-clause-read
+read_field-returns-clause-read t c =
+    adds_as _ _ _ c.args.budget.now c.read_behind.new.budget c.args.values.now.items c.read_behind.new.values.items
+    (λ d r. field_inside (tree_of_node c.args.left c.args.table.now c.args.node.now) c.args.place c.args.i c.args.fields c.args.reader.now c.field.new.self c.in_ok-inside.inside
+    c.in_ok-inside.ensures.found c.in_ok-inside.ensures.stands d c.read_behind.new.reader r)
+    c.in_ok-read_behind.ensures.read
 
 pub read_tuple-returns-clause-read : goal.read_tuple-returns-clause-read
 read_tuple-returns-clause-read t c =
     let at_node = tree_of_node c.args.left c.args.table.now in
-    let last : c.loop-i.i ≡ length c.args.nodes.now = omega arith in
+    let inside = c.loop-i.invariant.4 in
+    let last : c.loop-i.i ≡ length c.args.nodes.now = omega (arith, inside) in
     let k = c.loop-i.invariant.1 in
     keeps_all datum_of _ _ c.args.budget.now c.take.new.self c.loop-i.budget c.loop-i.values.items _ (λ ds. tuple ds) (λ ds. refl) (datum-Tuple c.loop-i.values) c.take.ensures k
     (tuple_done at_node c.args.nodes.now c.args.place c.args.reader.now c.loop-i.reader c.loop-i.i k.listing last k.read)
@@ -507,7 +562,8 @@ read_seq-returns-clause-whole t c = λ left b is.
 
 pub read_tuple-returns-clause-whole : goal.read_tuple-returns-clause-whole
 read_tuple-returns-clause-whole t c = λ left ns is.
-    let last : c.loop-i.i ≡ length c.args.nodes.now = omega arith in
+    let inside = c.loop-i.invariant.4 in
+    let last : c.loop-i.i ≡ length c.args.nodes.now = omega (arith, inside) in
     faults-Tuple c.args.table.now c.args.left c.loop-i.values ns
     ∙ rw is (all_fields_whole c.args.table.now c.args.left c.args.nodes.now c.loop-i.values.items c.loop-i.i last (c.loop-i.invariant.2 left))
 
@@ -544,6 +600,12 @@ read_map-returns-clause-continues = map.read_map-returns-clause-continues
 
 pub read_map-returns-clause-read : goal.read_map-returns-clause-read
 read_map-returns-clause-read = map.read_map-returns-clause-read
+
+pub read_map-returns-then-is_free-2-clause-continues : goal.read_map-returns-then-is_free-2-clause-continues
+read_map-returns-then-is_free-2-clause-continues = map.read_map-returns-then-is_free-2-clause-continues
+
+pub read_map-returns-then-is_free-2-clause-read : goal.read_map-returns-then-is_free-2-clause-read
+read_map-returns-then-is_free-2-clause-read = map.read_map-returns-then-is_free-2-clause-read
 
 pub read_map-returns-then-is_over_limit-clause-refused : goal.read_map-returns-then-is_over_limit-clause-refused
 read_map-returns-then-is_over_limit-clause-refused = map.read_map-returns-then-is_over_limit-clause-refused

@@ -1,5 +1,5 @@
 -- A reference takes one from those that are left, and the parts of a node are less deep.
-use Rattle.std.proofs.Common.{◌≡◌, ◌+◌, ◌*◌, max, [], ◌++◌, flat_map}
+use Rattle.std.proofs.Common.{◌≡◌, ◌≤◌, ◌+◌, ◌-◌, ◌*◌, length, max, [], ◌++◌, flat_map}
 use Rattle.bitcode_shapes.specs.Datum.{pair}
 use Rattle.bitcode_untyped.specs.Faults.{faults_of}
 use Rattle.bitcode_untyped.specs.View.{datum_of, tree_of_node}
@@ -30,7 +30,10 @@ abbrev pub decreases-read_elements : goal.decreases-read_elements
 decreases-read_elements l = 5 * left_below l.left l.table.now (depth l.node.now) + 2
 
 abbrev pub decreases-read_tuple : goal.decreases-read_tuple
-decreases-read_tuple l = 5 * left_below l.left l.table.now (deepest l.nodes.now) + 3
+decreases-read_tuple l = 5 * left_below l.left l.table.now (deepest l.nodes.now) + 4
+
+abbrev pub decreases-read_field : goal.decreases-read_field
+decreases-read_field l = 5 * left_below l.left l.table.now (depth l.node.now) + 3
 
 abbrev pub decreases-read_enum : goal.decreases-read_enum
 decreases-read_enum l = 5 * left_below l.left l.table.now (deepest l.nodes.now) + 2
@@ -44,11 +47,16 @@ invariant-read_elements-loop-i l =
     × ReadsListWithin (tree_of_node l.left l.table l.node) l.place l.initial.reader l.initial.budget l._i l.values.items l.reader l.budget
     × (IsLeft l.budget → flat_map (λ v. faults_of l.table v l.left l.node) l.values.items ≡ [])
 
+abbrev pub decreases-read_tuple-loop-i : goal.decreases-read_tuple-loop-i
+decreases-read_tuple-loop-i l = length l.nodes - l.i
+
 abbrev pub invariant-read_tuple-loop-i : goal.invariant-read_tuple-loop-i
 invariant-read_tuple-loop-i l =
     Continues l.initial.reader l.reader
     × KeepsEach datum_of (λ ds. FieldsAt (tree_of_node l.left l.table) l.nodes l.place l.initial.reader l.i ds l.reader) l.initial.budget l.values.items l.budget
     × (IsLeft l.budget → AreWhole l.table l.left l.nodes l.i l.values.items)
+    × (l.met ≤ l.i)
+    × (l.i ≤ length l.nodes)
 
 abbrev pub invariant-read_map-loop-i : goal.invariant-read_map-loop-i
 invariant-read_map-loop-i l =

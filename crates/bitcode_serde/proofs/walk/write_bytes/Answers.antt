@@ -7,7 +7,7 @@ use Rattle.bitcode_coder.specs.Spelling.{natural}
 use Rattle.bitcode_untyped.specs.ShapeTree.{natural_tree, seq_tree}
 use Rattle.bitcode_untyped.specs.Walk.{element, length_kind, use_at}
 use Rattle.bitcode_serde.specs.Writing.{place_in}
-use Rattle.bitcode_serde.proofs.LeafEntryLemmas.{bytes_are}
+use Rattle.bitcode_untyped.proofs.TypedLemmas.{bytes_are}
 use Rattle.bitcode_serde.proofs.SerializeLemmas.{begun, entries_outcome, refuses_use, refused_outcome}
 use Rattle.bitcode_serde.proofs.walk.write_bytes.Goals as goal
 

@@ -1,4 +1,5 @@
 -- A leaf is an entry of its column.
+use Rattle.bitcode_untyped.specs.declared.shape.ShapeNode.TheVariants as node
 use Rattle.bitcode_serde.proofs.LeavesLemmas.{value_outcome}
 use Rattle.bitcode_serde.proofs.WalkLemmas.{leaf_outcome}
 use Rattle.bitcode_serde.proofs.walk.write_leaf.Goals as goal
@@ -13,9 +14,9 @@ returns-in-Some c =
     c.put_one.ensures.below c.put_one.ensures.written c.put_one.ensures.entries
     c.put_one.ensures.refused table left
 
-pub returns-in_ok-leaf_entry-in-None : goal.returns-in_ok-leaf_entry-in-None
-returns-in_ok-leaf_entry-in-None c =
+pub returns-in_ok-char_entry-in-None : goal.returns-in_ok-char_entry-in-None
+returns-in_ok-char_entry-in-None c =
     λ table left.
-    leaf_outcome c.args.writer.now c.put.new.self c.args.place c.args.node.now c.args.value.now _ _ c.put.result
-    c.in_ok-leaf_entry-in-None.ensures.entry
-    c.put.ensures.below c.put.ensures.written c.put.ensures.refused table left
+    rw (c.in-None.ensures.none c.requires.leaf) (leaf_outcome c.args.writer.now c.put.new.self c.args.place node.Char c.args.value.now _ _ c.put.result
+    c.in_ok-char_entry-in-None.ensures.entry
+    c.put.ensures.below c.put.ensures.written c.put.ensures.refused table left)

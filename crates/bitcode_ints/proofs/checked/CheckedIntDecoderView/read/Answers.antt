@@ -5,7 +5,7 @@ use Rattle.bitcode_memory.specs.Fast.{cow_rest}
 use Rattle.bitcode_memory.specs.LittleEndian.{little_endian}
 use Rattle.bitcode_memory.specs.Ints.{number_of}
 use Rattle.bitcode_shapes.specs.Shape.{IsAllowed}
-use Rattle.bitcode_ints.specs.CheckedColumn.{in_column, not_allowed}
+use Rattle.bitcode_coder.specs.Faults.{in_column, not_allowed}
 use Rattle.bitcode_ints.proofs.CheckedLemmas.{checked_read, checked_numbers, checked_refusal, broken_entries}
 use Rattle.bitcode_columns.specs.IntColumn.{int_text}
 use Rattle.bitcode_coder.specs.Columns.{ints}

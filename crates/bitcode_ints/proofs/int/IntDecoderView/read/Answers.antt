@@ -15,7 +15,7 @@ returns-clause-refused g c =
 
 pub returns-clause-exact : goal.returns-clause-exact
 returns-clause-exact g c =
-    ints_exact c.unpack.result g.T.ColumnInt.width c.args.k c.args.input.now.now c.unpack.ensures.refused c.unpack.ensures.raw
+    ints_exact c.unpack.result g.T.ColumnInt.width g.T.ColumnInt.signed c.args.k c.args.input.now.now c.unpack.ensures.refused c.unpack.ensures.raw
 
 pub returns-clause-judged : goal.returns-clause-judged
 returns-clause-judged g c strict =

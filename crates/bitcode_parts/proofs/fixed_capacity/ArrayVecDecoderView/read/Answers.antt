@@ -1,11 +1,11 @@
 -- The lengths are read, then the elements from what is left, and then the lengths are held to the limit.
-use Rattle.std.proofs.Common.{None, Some, refl, inl, inr}
+use Rattle.std.proofs.Common.{None, Some, refl, inl, inr, ◌∙◌}
 use Rattle.std.proofs.lemmas.Result.{err_from_is_err_and}
 use Rattle.bitcode_columns.proofs.ReadingLemmas.{OnErr-always}
 use Rattle.bitcode_coder.specs.Length.{short_left, large_left, lengths_left}
 use Rattle.bitcode_coder.proofs.LengthPartLemmas.{ends_behind_read, reads_lengths}
 use Rattle.bitcode_parts.proofs.ListLimitLemmas.{lengths_within}
-use Rattle.bitcode_parts.proofs.ListLemmas.{reads_sequence, judges_sequence, refuses_lengths, refuses_elements, refuses_cap}
+use Rattle.bitcode_parts.proofs.ListLemmas.{reads_sequence, counts_sequence, judges_sequence, refuses_lengths, refuses_elements, refuses_cap}
 use Rattle.bitcode_parts.proofs.fixed_capacity.ArrayVecDecoderView.read.Goals as goal
 
 pub returns-in_err-lengths_written-clause-refused : goal.returns-in_err-lengths_written-clause-refused
@@ -16,7 +16,7 @@ returns-in_err-lengths_written-clause-refused g c =
 pub returns-in_err-lengths_written-clause-exact : goal.returns-in_err-lengths_written-clause-exact
 returns-in_err-lengths_written-clause-exact g c =
     let refused = err_from_is_err_and c.from_residual.result c.from_residual.ensures.1 in
-    rw (refused.1, refused.2) (inl c.in_err-lengths_written.ensures.refused)
+    rw (refused.1, refused.2) (inl (inl c.in_err-lengths_written.ensures.refused))
 
 pub returns-in_err-elements_written-clause-refused : goal.returns-in_err-elements_written-clause-refused
 returns-in_err-elements_written-clause-refused g c =
@@ -24,6 +24,17 @@ returns-in_err-elements_written-clause-refused g c =
     rw (refused.1, refused.2)
     (refuses_elements (Some g.row.N) g.D.HoldsData.shape c.args.k _ _ _ _ c.in_ok-lengths_written.ensures.read
     (rw (c.length.ensures, c.in_ok-lengths_written.ensures.sum) at c.in_err-elements_written.ensures.refused))
+
+pub returns-in_err-elements_written-clause-exact : goal.returns-in_err-elements_written-clause-exact
+returns-in_err-elements_written-clause-exact g c =
+    let refused = err_from_is_err_and c.from_residual-in_err-elements_written.result c.from_residual-in_err-elements_written.ensures.1 in
+    rw (refused.1, refused.2)
+    (inl (inr (record {
+      entries = _;
+      rest = _;
+      read = c.in_ok-lengths_written.ensures.read;
+      fault = rw (c.length.ensures, c.in_ok-lengths_written.ensures.sum) at c.in_err-elements_written.ensures.exact;
+    })))
 
 pub returns-in_err-elements_written-clause-rest : goal.returns-in_err-elements_written-clause-rest
 returns-in_err-elements_written-clause-rest g c =
@@ -44,7 +55,7 @@ pub returns-then-any_greater_than-clause-exact : goal.returns-then-any_greater_t
 unfolding short_left large_left lengths_left
 returns-then-any_greater_than-clause-exact g c =
     rw c.err.ensures
-    (inr (inr (record {
+    (inr (record {
       is = refl;
       lists = _;
       rest = c.read-2.new.input.now;
@@ -52,7 +63,7 @@ returns-then-any_greater_than-clause-exact g c =
           (rw (c.length.ensures, c.in_ok-lengths_written.ensures.sum) at c.in_ok-elements_written.ensures.read);
       over = refuses_cap (Some g.row.N) g.D.HoldsData.shape c.args.k c.args.input.now.now (short_left c.read.new.self) (large_left c.read.new.self)
           c.read.new.input.now c.in_ok-lengths_written.ensures.parts c.if-any_greater_than.ensures;
-    })))
+    }))
 
 pub returns-then-any_greater_than-clause-rest : goal.returns-then-any_greater_than-clause-rest
 returns-then-any_greater_than-clause-rest g c =
@@ -73,6 +84,11 @@ returns-clause-read g c =
     (reads_lengths (Some g.row.N) c.args.k c.args.input.now.now (short_left c.read.new.self) (large_left c.read.new.self) c.read.new.input.now
     c.in_ok-lengths_written.ensures.parts c.in_ok-lengths_written.ensures.read.spelled.below_limit c.if-any_greater_than.ensures)
     (rw (c.length.ensures, c.in_ok-lengths_written.ensures.sum) at c.in_ok-elements_written.ensures.read)
+
+pub returns-clause-counted : goal.returns-clause-counted
+returns-clause-counted g c =
+    counts_sequence (Some g.row.N) g.D.HoldsData.shape c.args.k (lengths_left c.read.new.self) (g.D.HoldsData.held c.read-2.new.self) _ _
+    c.in_ok-lengths_written.ensures.sum (c.in_ok-elements_written.ensures.read.size ∙ c.length.ensures) c.in_ok-elements_written.ensures.counted
 
 pub returns-clause-judged : goal.returns-clause-judged
 unfolding short_left large_left lengths_left

@@ -8,7 +8,7 @@ pub returns-in-Some : goal.returns-in-Some
 returns-in-Some c =
     let h = c.in-Some.ensures.lookup in
     let there = found_entry c.deref.result.now c.args.place c.in-Some.links.now h.3.0 (h.3.1 c.in-Some.links.now) in
-    sym (column_got c.deref.result.now c.args.place c.in-Some.links.now there) ∙ ap (λ ls. column_link ls c.args.place) c.deref.ensures.value
+    sym (column_got c.in-Some.links.now c.deref.result.now c.args.place there) ∙ ap (λ ls. column_link ls c.args.place) c.deref.ensures.value
 
 pub returns-in-None : goal.returns-in-None
 returns-in-None c =

@@ -14,7 +14,7 @@ returns-in-Some-clause-continues c = record { steady = c.requires.steady; asked 
 pub returns-in-Some-clause-found : goal.returns-in-Some-clause-found
 returns-in-Some-clause-found c = λ p at.
     rw (field_at_several c.args.fields p c.args.i c.if-fields-eq1.false)
-    (below_it c.args.self.now c.args.self.now c.args.place c.in-Some.inside p (step.Field c.args.i) at c.in-Some.ensures)
+    (below_it c.args.self.now c.args.self.now c.args.place c.in-Some.inside p (step.Field c.args.i) at c.in-Some.ensures.found)
 
 pub returns-in-None-clause-found : goal.returns-in-None-clause-found
 returns-in-None-clause-found c =

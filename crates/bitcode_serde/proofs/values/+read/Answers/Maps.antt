@@ -1,7 +1,8 @@
 -- Maps are read pair by pair: by what was taken.
-use Rattle.std.proofs.Common.{rules, arith, ◌≡◌, ◌<◌, ◌++◌, refl, ap, subst, ◌∙◌}
+use Rattle.std.proofs.Common.{rules, arith, ◌≡◌, ◌<◌, ◌+◌, ◌-◌, ◌++◌, true, refl, ap, sym, subst, ◌∙◌}
 use Rattle.std.proofs.lemmas.Result.{err_from_is_err_and}
 use Rattle.bitcode_shapes.specs.Datum.{list, pair}
+use Rattle.bitcode_untyped.specs.Bounds.{column_free}
 use Rattle.bitcode_untyped.specs.Faults.{faults_of}
 use Rattle.bitcode_untyped.specs.Nodes.{node_count}
 use Rattle.bitcode_untyped.specs.Population.{total}
@@ -9,15 +10,18 @@ use Rattle.bitcode_untyped.specs.Reads.{ReadsNoDatum}
 use Rattle.bitcode_untyped.specs.ShapeTree.{map_tree}
 use Rattle.bitcode_untyped.specs.View.{datum_of, tree_of_node}
 use Rattle.bitcode_untyped.specs.Walk.{length_kind}
+use Rattle.bitcode_untyped.specs.declared.value.Value.TheVariants as value
 use Rattle.bitcode_untyped.proofs.FaultLemmas.{faults-Map}
 use Rattle.bitcode_untyped.proofs.ReadLemmas.{map_stuck_length, map_over_limit}
 use Rattle.bitcode_untyped.proofs.ViewLemmas.{datum-Map}
 use Rattle.bitcode_coder.specs.Spelling.{natural}
-use Rattle.bitcode_serde.specs.Budget.{IsLeft, spend}
+use Rattle.bitcode_serde.specs.Budget.{IsLeft, spend, KeepsEach}
 use Rattle.bitcode_serde.specs.ReadingValues.{IsRefusalAt}
+use Rattle.bitcode_serde.specs.declared.budget.Budget.TheVariants.{Spent}
 use Rattle.bitcode_serde.proofs.BudgetLemmas.{left_before, keeps_more, keeps_all, pair_taken}
 use Rattle.bitcode_serde.proofs.CaseLemmas.{nothing, one_more_whole}
 use Rattle.bitcode_serde.proofs.ColumnLemmas.{passed_on}
+use Rattle.bitcode_serde.proofs.KeptLemmas.{rest_pairs_within}
 use Rattle.bitcode_serde.proofs.ValueLemmas.{asked_alike, refused_entry, still_there, continues_on, continues_stepped, enters_map, told_at, ReadsPairsAt, one_more_pair, key_stuck, value_stuck, map_read_at, map_stuck_at}
 use Rattle.bitcode_serde.proofs.values.+read.Goals as goal
 
@@ -139,6 +143,42 @@ read_map-returns-clause-read t c =
     (map_read_at key_tree value_tree c.args.reader.now c.step-2.new.self c.loop-i.reader c.args.place c.in_ok-keys.keys c.in_ok-values.values c.in_ok-taken.taken.length
     k.listing enters c.if-is_over_limit.ensures
     (subst (λ n. ReadsPairsAt key_tree value_tree c.in_ok-keys.keys c.in_ok-values.values c.step-2.new.self n k.listing c.loop-i.reader) all k.read))
+
+pub read_map-returns-then-is_free-2-clause-continues : goal.read_map-returns-then-is_free-2-clause-continues
+read_map-returns-then-is_free-2-clause-continues t c =
+    continues_on c.args.reader.now c.step-2.new.self c.loop-i.reader
+    (continues_on c.args.reader.now c.step.new.self c.step-2.new.self
+    (continues_stepped c.args.reader.now c.take_length.new.self c.step.new.self c.take_length.ensures.below c.take_length.ensures.asked c.in_ok-taken.ensures.sized c.step.ensures.columns c.step.ensures.asked
+    c.in_ok-keys.ensures.kept) (continues_stepped c.step.new.self c.step.new.self c.step-2.new.self refl (asked_alike c.step.new.self)
+    (continues_stepped c.args.reader.now c.take_length.new.self c.step.new.self c.take_length.ensures.below c.take_length.ensures.asked c.in_ok-taken.ensures.sized c.step.ensures.columns c.step.ensures.asked
+    c.in_ok-keys.ensures.kept).steady.sized c.step-2.ensures.columns c.step-2.ensures.asked c.in_ok-values.ensures.kept)) c.loop-i.invariant.0
+
+-- nothing is kept any more
+pub read_map-returns-then-is_free-2-clause-read : goal.read_map-returns-then-is_free-2-clause-read
+read_map-returns-then-is_free-2-clause-read t c =
+    let key_tree = tree_of_node c.args.left c.args.table.now c.args.key.now in
+    let value_tree = tree_of_node c.args.left c.args.table.now c.args.value.now in
+    let enters = enters_map c.args.reader.now c.take_length.new.self c.step.new.self c.step-2.new.self c.args.place c.in_ok-keys.keys c.in_ok-values.values
+    c.in_ok-taken.taken.length c.in_ok-taken.taken.total
+    c.in_ok-taken.ensures.leads c.take_length.ensures.below c.in_ok-keys.ensures.found c.in_ok-keys.ensures.kept c.in_ok-keys.ensures.stands
+    c.in_ok-values.ensures.found c.in_ok-values.ensures.kept c.in_ok-values.ensures.stands in
+    let i = c.loop-i._i in
+    let gone : c.loop-i.budget ≡ Spent = c.if-is_spent.ensures in
+    let free_key : column_free key_tree ≡ true = sym c.is_free.ensures ∙ c.if-is_free.true in
+    let free_value : column_free value_tree ≡ true = sym c.is_free-then-is_free.ensures ∙ c.if-is_free-2.true in
+    let all : i + (c.in_ok-taken.taken.length - i) ≡ c.in_ok-taken.taken.length = omega arith in
+    let so_far = subst (KeepsEach (λ e. pair (datum_of e.0) (datum_of e.1))
+    (λ ds. ReadsPairsAt key_tree value_tree c.in_ok-keys.keys c.in_ok-values.values c.step-2.new.self i ds c.loop-i.reader) c.take.new.self c.loop-i.pairs.items) gone c.loop-i.invariant.1 in
+    let rest = rest_pairs_within (λ e. pair (datum_of e.0) (datum_of e.1)) key_tree value_tree c.in_ok-keys.keys c.in_ok-values.values c.step-2.new.self c.loop-i.reader c.take.new.self
+    c.loop-i.pairs.items (value.Unit, value.Unit) (c.in_ok-taken.taken.length - i) i c.loop-i.invariant.0 free_key free_value so_far in
+    let k = subst (KeepsEach (λ e. pair (datum_of e.0) (datum_of e.1))
+    (λ ds. ReadsPairsAt key_tree value_tree c.in_ok-keys.keys c.in_ok-values.values c.step-2.new.self c.in_ok-taken.taken.length ds c.loop-i.reader) c.take.new.self c.loop-i.pairs.items) (sym gone)
+    (subst (λ n. KeepsEach (λ e. pair (datum_of e.0) (datum_of e.1))
+    (λ ds. ReadsPairsAt key_tree value_tree c.in_ok-keys.keys c.in_ok-values.values c.step-2.new.self n ds c.loop-i.reader) c.take.new.self c.loop-i.pairs.items Spent) all rest) in
+    keeps_all (λ e. pair (datum_of e.0) (datum_of e.1)) _ _ c.args.budget.now c.take.new.self c.loop-i.budget c.loop-i.pairs.items _ (λ ds. list ds) (λ ds. refl)
+    (datum-Map c.loop-i.pairs) c.take.ensures k
+    (map_read_at key_tree value_tree c.args.reader.now c.step-2.new.self c.loop-i.reader c.args.place c.in_ok-keys.keys c.in_ok-values.values c.in_ok-taken.taken.length
+    k.listing enters c.if-is_over_limit.ensures k.read)
 
 pub read_map-returns-then-is_over_limit-clause-refused : goal.read_map-returns-then-is_over_limit-clause-refused
 read_map-returns-then-is_over_limit-clause-refused t c =

@@ -3,7 +3,7 @@ use Rattle.std.proofs.Common.{inl, inr}
 use Rattle.std.proofs.lemmas.Result.{err_from_is_err_and}
 use Rattle.bitcode_columns.proofs.ReadingLemmas.{OnErr-always}
 use Rattle.bitcode_coder.proofs.LengthPartLemmas.{ends_behind_read}
-use Rattle.bitcode_tuples.proofs.ReadingLemmas.{reads_pairs, judges_pairs, refuses_first, refuses_second}
+use Rattle.bitcode_tuples.proofs.ReadingLemmas.{reads_pairs, counts_pairs, judges_pairs, refuses_first, refuses_second}
 use Rattle.bitcode_tuples.proofs.decoder.TupleDecoderView.read.Goals as goal
 
 pub returns-in_err-first-clause-refused : goal.returns-in_err-first-clause-refused
@@ -25,7 +25,7 @@ returns-in_err-second-clause-refused g c =
 pub returns-in_err-second-clause-exact : goal.returns-in_err-second-clause-exact
 returns-in_err-second-clause-exact g c =
     let refused = err_from_is_err_and c.from_residual-in_err-second.result c.from_residual-in_err-second.ensures.1 in
-    rw (refused.1, refused.2) (inr (record { firsts = _; rest = _; read = c.in_ok-first.ensures.read; fault = c.in_err-second.ensures.exact }))
+    rw (refused.1, refused.2) (inr (record { entries = _; rest = _; read = c.in_ok-first.ensures.read; fault = c.in_err-second.ensures.exact }))
 
 pub returns-in_err-second-clause-rest : goal.returns-in_err-second-clause-rest
 returns-in_err-second-clause-rest g c =
@@ -34,6 +34,11 @@ returns-in_err-second-clause-rest g c =
 pub returns-clause-read : goal.returns-clause-read
 returns-clause-read g c =
     reads_pairs g.A.HoldsData.shape g.B.HoldsData.shape c.args.k _ _ c.in_ok-first.ensures.read c.in_ok-second.ensures.read
+
+pub returns-clause-counted : goal.returns-clause-counted
+returns-clause-counted g c =
+    counts_pairs g.A.HoldsData.shape g.B.HoldsData.shape c.args.k _ _ c.in_ok-first.ensures.read c.in_ok-second.ensures.read _ _
+    c.in_ok-first.ensures.counted c.in_ok-second.ensures.counted
 
 pub returns-clause-judged : goal.returns-clause-judged
 returns-clause-judged g c strict =

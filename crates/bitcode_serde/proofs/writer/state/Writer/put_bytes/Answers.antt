@@ -4,6 +4,7 @@ use Rattle.std.proofs.lemmas.List.{length-map}
 use Rattle.bitcode_coder.specs.Columns.{ints}
 use Rattle.bitcode_coder.specs.Spelling.{natural}
 use Rattle.bitcode_serde.specs.Places.{places}
+use Rattle.bitcode_serde.specs.ReadColumns.{kind_of}
 use Rattle.bitcode_serde.specs.Writing.{placed}
 use Rattle.bitcode_serde.proofs.FiledLemmas.{filed_set}
 use Rattle.bitcode_serde.proofs.OutcomeLemmas.{when_ok, on_ok}
@@ -46,11 +47,11 @@ pub returns-in_ok-extend_bytes-in-None-clause-written : goal.returns-in_ok-exten
 returns-in_ok-extend_bytes-in-None-clause-written c =
     let old = c.args.self.now in
     let bytes = map natural c.args.bytes.now in
-    let entries = c.in_ok-extend_bytes-in-None.ensures.written ∙ ap (λ ds. ds ++ bytes) c.new-column.ensures.empty in
+    let entries = c.in_ok-extend_bytes-in-None.ensures.written ∙ ap (λ ds. ds ++ bytes) c.of-column.ensures.empty in
     let some : 0 < length c.args.bytes.now = grind (arith, c.is_empty.ensures, c.if-is_empty.false) in
     when_ok c.add.result
     (λ items. ap (λ z. map (placed (places z.items)) c.add.new.self.columns.items) c.add.ensures.below
     ∙ put_behind old.places.below.items old.columns.items c.add.new.self.columns.items c.args.place (ints 1 false) bytes
     (record { place = c.args.place; column = c.extend_bytes-in-None.new.self }) old.places.apart c.requires old.inside c.in-None.ensures.none items
-    refl (c.in_ok-extend_bytes-in-None.ensures.kind.0 ∙ c.new-column.ensures.kind) entries (subst (λ n. 0 < n) (sym (length-map c.args.bytes.now natural)) some))
+    refl (c.in_ok-extend_bytes-in-None.ensures.kind.0 ∙ ap kind_of c.of-column.ensures.kind) entries (subst (λ n. 0 < n) (sym (length-map c.args.bytes.now natural)) some))
     c.add.ensures.columns

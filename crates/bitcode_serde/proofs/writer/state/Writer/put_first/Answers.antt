@@ -2,6 +2,7 @@
 use Rattle.std.proofs.Common.{inl, inr, ◌++◌, [], ◌∷◌, map, refl, ap, sym, ◌∙◌, arith}
 use Rattle.std.proofs.lemmas.Result.{err_from_is_err_and}
 use Rattle.bitcode_serde.specs.Places.{places}
+use Rattle.bitcode_serde.specs.ReadColumns.{kind_of}
 use Rattle.bitcode_serde.specs.Writing.{placed}
 use Rattle.bitcode_serde.specs.WrittenColumns.{kind_of_entry, datum_of_entry}
 use Rattle.bitcode_serde.proofs.OutcomeLemmas.{when_ok}
@@ -11,12 +12,12 @@ use Rattle.bitcode_serde.proofs.writer.state.Writer.put_first.Goals as goal
 pub returns-clause-written : goal.returns-clause-written
 returns-clause-written c =
     let old = c.args.self.now in
-    let entries = c.in_ok-push.ensures.written ∙ ap (λ ds. ds ++ datum_of_entry c.args.next ∷ []) c.new-column.ensures.empty in
+    let entries = c.in_ok-push.ensures.written ∙ ap (λ ds. ds ++ datum_of_entry c.args.next ∷ []) c.of-column.ensures.empty in
     when_ok c.add.result
     (λ items. ap (λ z. map (placed (places z.items)) c.add.new.self.columns.items) c.add.ensures.below
     ∙ put_behind old.places.below.items old.columns.items c.add.new.self.columns.items c.args.place (kind_of_entry c.args.next) (datum_of_entry c.args.next ∷ [])
     (record { place = c.args.place; column = c.push.new.self }) old.places.apart c.requires.place old.inside c.requires.fresh items
-    refl (c.in_ok-push.ensures.kind.0 ∙ c.new-column.ensures.kind) entries (omega arith))
+    refl (c.in_ok-push.ensures.kind.0 ∙ ap kind_of c.of-column.ensures.kind ∙ c.kind.ensures) entries (omega arith))
     c.add.ensures.columns
 
 pub returns-in_err-push-clause-refused : goal.returns-in_err-push-clause-refused
@@ -24,5 +25,5 @@ returns-in_err-push-clause-refused c =
     let y = err_from_is_err_and c.from_residual.result c.from_residual.ensures.1 in
     rw (y.1, y.2) (elim c.in_err-push.ensures.refused [
       | inl memory ↦ memory
-      | inr clash ↦ absurd (clash (sym c.new-column.ensures.kind))
+      | inr clash ↦ absurd (clash (sym (ap kind_of c.of-column.ensures.kind ∙ c.kind.ensures)))
     ])

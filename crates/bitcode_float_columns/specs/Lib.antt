@@ -1,0 +1,2 @@
+pub mod FloatColumn
+pub mod Split

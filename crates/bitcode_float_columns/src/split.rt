@@ -1,0 +1,167 @@
+//! Packing and unpacking the bits of 4-byte floats.
+ghost use Rattle.std.specs.Prelude.{◌≡◌, ◌≢◌, ◌+◌, ◌*◌, ◌<◌, ◌≤◌, ◌++◌, [], ◌∷◌, Some, length, map, to_bits, vec_len};
+ghost use Rattle.std.specs.Prelude.{vec_capacity, IsTrue, IfOk, OnOk, IfErr, OnErr, ◌↔◌, All, MatchBool};
+ghost use Rattle.std.specs.Float.{binary32};
+ghost use Rattle.bitcode_memory.specs.LittleEndian.{raw_text};
+ghost use Rattle.bitcode_columns.specs.Reading.{Reads, missing};
+ghost use Rattle.bitcode_float_columns.specs.FloatColumn.{canonical, low_of, top_of, split_text, SpellsSplit};
+ghost use Rattle.bitcode_float_columns.specs.Split.{split_rest};
+
+use crate::bits::is_canonical_f32;
+use bitcode_memory::consume::{consume_byte_arrays, consume_bytes};
+use bitcode_memory::error::{Error, Reason};
+use bitcode_memory::fast::{FastSlice, NextUnchecked};
+use bitcode_memory::ints::{known_bytes, push_bytes};
+use bitcode_memory::refuse::err;
+use std::num::f32_to_bits_with_nan;
+
+// Appends the three low bytes of each float. The caller must have reserved the room.
+fn push_lows(floats: &[f32], out: &mut Vec<u8>)
+    requires { vec_len out.old + 3 * length floats.now ≤ vec_capacity out.old }
+    ensures written { out.new.items ≡ out.old.items ++ raw_text 3
+        (map (λ x. low_of (to_bits binary32 x)) floats.now) }
+    ensures len { vec_len out.new ≡ vec_len out.old + 3 * length floats.now }
+    ensures capacity { vec_capacity out.new ≡ vec_capacity out.old }
+{
+    for float in floats {
+        let bits = f32_to_bits_with_nan(*float);
+        let low = (bits % 0x100) as u8;
+        let middle = (bits / 0x100 % 0x100) as u8;
+        let high = (bits / 0x1_0000 % 0x100) as u8;
+        push_bytes(&[low, middle, high], out);
+    }
+}
+
+// Appends the top byte of each float. The caller must have reserved the room.
+fn push_tops(floats: &[f32], out: &mut Vec<u8>)
+    requires { vec_len out.old + length floats.now ≤ vec_capacity out.old }
+    ensures { out.new.items ≡ out.old.items ++ map (λ x. top_of (to_bits binary32 x)) floats.now }
+{
+    for float in floats {
+        out.push_reserved((f32_to_bits_with_nan(*float) >> 24) as u8);
+    }
+}
+
+/// Appends a column of floats: the three low bytes of each, and then the top byte of each. A NaN is written as the
+/// quiet one without a sign, whatever its bits are.
+///
+/// If an allocation fails, the error is `out of memory` and `out` is unchanged.
+///
+/// ```rust
+/// let mut out = Vec::new(alloc);
+/// pack_f32s(&[1.0, -2.0], &mut out)?;
+/// assert_eq!(rt; out.as_slice(), [0, 0, 128, 0, 0, 0, 63, 192].as_slice());
+/// ```
+pub fn pack_f32s(floats: &[f32], out: &mut Vec<u8>) -> Result<(), Error>
+    ensures written { OnOk result
+        (out.new.items ≡ out.old.items ++ split_text (map (λ x. to_bits binary32 x) floats.now)) }
+    ensures unchanged { OnErr result (out.new.items ≡ out.old.items) }
+    ensures reason { IfErr result (λ e. e.reason ≡ Reason.OutOfMemory) }
+{
+    let Some(size) = floats.len().checked_mul(4) else {
+        return err(Reason::OutOfMemory);
+    };
+    out.reserve(size)?;
+    push_lows(floats, out);
+    push_tops(floats, out);
+    Ok(())
+}
+
+/// The bits of floats that are read from a column, front to back. They are borrowed from the input.
+#[derive(Clone, Copy)]
+pub struct SplitBits<'a> {
+    lows: FastSlice<'a, [u8; 3]>,
+    tops: FastSlice<'a, u8>,
+}
+
+impl<'a> SplitBits<'a> {
+    /// Creates an empty list.
+    pub fn new() -> Self
+        ensures { split_rest result ≡ [] }
+    {
+        let lows: &[[u8; 3]] = &[];
+        let tops: &[u8] = &[];
+        SplitBits {
+            lows: FastSlice::from(lows),
+            tops: FastSlice::from(tops),
+        }
+    }
+
+    /// Takes the next bits.
+    pub fn next_unchecked(&mut self) -> u32
+        requires { 0 < length (split_rest self.old) }
+        ensures { split_rest self.old ≡ result ∷ split_rest self.new }
+    {
+        let low = self.lows.next_unchecked();
+        let top = self.tops.next_unchecked();
+        u32::from_le_bytes([low[0], low[1], low[2], top])
+    }
+}
+
+/// Reads a column of `count` floats from the front of the input into `out`, without allocating.
+///
+/// If bytes are missing, the error is `EOF`, and the input is unchanged.
+pub fn unpack_f32s<'a>(
+    input: &mut &'a [u8],
+    count: usize,
+    out: &mut SplitBits<'a>,
+) -> Result<(), Error>
+    ensures read { OnOk result
+        (Reads SpellsSplit count input.old.now (split_rest out.new) input.new.now) }
+    ensures refused { IfErr result (λ e. missing (count * 4) input.old.now ≡ Some e.reason) }
+    ensures unchanged { OnErr result (input.new.now ≡ input.old.now) }
+{
+    let bytes = *input;
+    if bytes.len() / 4 < count {
+        return err(Reason::Eof);
+    }
+    known_bytes(bytes);
+    let (front, behind) = bytes.split_at(count * 3);
+    let mut lows = front;
+    let lows = consume_byte_arrays::<3>(&mut lows, count)?;
+    let (tops, rest) = behind.split_at(count);
+    out.lows = FastSlice::from(lows);
+    out.tops = FastSlice::from(tops);
+    *input = rest;
+    Ok(())
+}
+
+// Whether an encoder writes each of these bits.
+fn are_canonical(all: &SplitBits, count: usize) -> bool
+    requires { count ≡ length (split_rest all.now) }
+    ensures { MatchBool result (All (λ b. canonical binary32 b ≡ b) (split_rest all.now))
+        (All (λ b. canonical binary32 b ≡ b) (split_rest all.now) → ⊥) }
+{
+    let mut rest = *all;
+    for _taken in 0..count {
+        let bits = rest.next_unchecked();
+        if !is_canonical_f32(bits) {
+            return false;
+        }
+    }
+    true
+}
+
+/// Reads a column of floats as [`unpack_f32s`] does. If `strict`, it returns whether the bytes are those that would be
+/// written for the floats: whether each NaN is the one that is written. Otherwise the returned bool has no meaning.
+pub fn read_f32s<'a>(
+    input: &mut &'a [u8],
+    count: usize,
+    out: &mut SplitBits<'a>,
+    strict: bool,
+) -> Result<bool, Error>
+    ensures read { OnOk result
+        (Reads SpellsSplit count input.old.now (split_rest out.new) input.new.now) }
+    ensures judged { IsTrue strict → IfOk result
+        (λ written. IsTrue written
+        ↔ (input.old.now ≡ split_text (map (canonical binary32) (split_rest out.new))
+        ++ input.new.now)) }
+    ensures refused { IfErr result (λ e. missing (count * 4) input.old.now ≡ Some e.reason) }
+    ensures unchanged { OnErr result (input.new.now ≡ input.old.now) }
+{
+    unpack_f32s(input, count, out)?;
+    if !strict {
+        return Ok(true);
+    }
+    Ok(are_canonical(out, count))
+}
