@@ -21,7 +21,7 @@ pub record BeginsSealed (input : List ℕ) : Type 0 where
   pub whole : input ≡ front ++ rest
   pub is_sealed : IsSealed front
 
--- the input begins with the bytes, of which some within four bytes in a row are others now; what follows does not matter
+-- the input begins with the bytes, of which some within four bytes in a row are others now; what follows is anything
 pub record BeginsDamaged (bytes input : List ℕ) : Type 0 where
   pub front : List ℕ
   pub rest : List ℕ

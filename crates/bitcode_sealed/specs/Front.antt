@@ -29,8 +29,8 @@ pub record EndIsCutOff (expected : Expected) (input : List ℕ) (present wanted 
   pub cut_off : IsWholeFault input (CutOff present wanted)
   pub short : wanted ≤ expected.most_bytes + 24
 
--- What so many bytes at the front are, which are skipped: a whole value, or, where none is there and the program does not wait for it,
--- what is before the next place where one may begin.
+-- What is skipped at the front: a whole value; or, where none is there and the program does not wait for it, the bytes
+-- before the next place where one may begin.
 pub data IsValueOrGap (expected : Expected) (input : List ℕ) (bytes : ℕ) : Type 0 where
   past_a_value : (label : Label) → IsSkip label input (drop bytes input) → IsValueOrGap expected input bytes
   to_a_head : (fault : OpenError) → IsWholeFault input fault

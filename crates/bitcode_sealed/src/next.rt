@@ -59,8 +59,8 @@ fn bytes_to_skip(expected: &Expected, input: &[u8]) -> Result<usize, (u64, u64)>
 /// - `Skipped`: the first `OpenError` of the front, and how many bytes were skipped. If a whole value is there, under
 ///   whatever label, it is skipped. Otherwise the input then begins at the next position where sealed bytes may begin.
 /// - `EndCutOff`: the input ends within sealed bytes, whose value has at most `most_bytes` bytes. The input is
-///   unchanged: a reader of a stream appends to it and calls again, and at the end of a journal the last record is torn.
-///   An empty input is such an end, with 0 bytes of 20.
+///   unchanged: a reader of a stream appends to it and calls again, and at the end of a journal the last record is
+///   torn. An empty input is such an end, with 0 bytes of 20.
 ///
 /// Errors: `out of memory` if an allocation fails. The input is then unchanged.
 ///
