@@ -44,6 +44,8 @@ pub use bitcode_int_columns::pack_ints::{pack_ints, unpack_ints};
 pub use bitcode_ints::checked::CheckedIntDecoder;
 pub use bitcode_ints::int::{IntDecoder, IntEncoder};
 pub use bitcode_ints::u8_char::{U8Char, U8CharEncoder};
+
+// Input, errors, lists and integers, then the coders of containers, and the second format.
 pub use bitcode_memory::consume::{
     consume_byte, consume_byte_arrays, consume_bytes, expect_eof, mul_length,
 };
