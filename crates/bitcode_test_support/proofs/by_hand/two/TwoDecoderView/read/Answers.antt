@@ -1,5 +1,6 @@
 -- The variants are read, then the payloads of the first, and then those of the second.
-use Rattle.std.proofs.Common.{refl}
+use Rattle.std.proofs.Common.{refl, true, false}
+use Rattle.bitcode_shapes.specs.Ints.{int_shape}
 use Rattle.bitcode_parts.proofs.ColumnFreeLemmas.{counts_two}
 use Rattle.bitcode_parts.proofs.StrictLemmas.{judges_two}
 use Rattle.bitcode_parts.proofs.TwoVariantLemmas.{variants_stopped, variants_exact, first_stopped, first_exact, second_stopped, second_exact, first_rest, choice_read, choice_rest}
@@ -9,7 +10,7 @@ pub returns-in_err-variants-clause-refused : goal.returns-in_err-variants-clause
 returns-in_err-variants-clause-refused c = variants_stopped _ _ _ _ _ _ c.from_residual.ensures.1 c.in_err-variants.ensures.refused
 
 pub returns-in_err-variants-clause-exact : goal.returns-in_err-variants-clause-exact
-returns-in_err-variants-clause-exact c = variants_exact _ _ _ _ _ _ c.from_residual.ensures.1 c.in_err-variants.ensures.refused
+returns-in_err-variants-clause-exact c = variants_exact (int_shape 1 false) (int_shape 1 true) _ _ _ _ c.from_residual.ensures.1 c.in_err-variants.ensures.refused
 
 pub returns-in_err-a-clause-refused : goal.returns-in_err-a-clause-refused
 returns-in_err-a-clause-refused c =
@@ -18,7 +19,7 @@ returns-in_err-a-clause-refused c =
 
 pub returns-in_err-a-clause-exact : goal.returns-in_err-a-clause-exact
 returns-in_err-a-clause-exact c =
-    first_exact _ _ c.in_ok-variants.ensures.read (c.in_ok-variants.ensures.counts refl) c.length.ensures _ _
+    first_exact (int_shape 1 false) (int_shape 1 true) c.in_ok-variants.ensures.read (c.in_ok-variants.ensures.counts refl) c.length.ensures _ _
     c.from_residual-in_err-a.ensures.1 c.in_err-a.ensures.exact
 
 pub returns-in_err-a-clause-rest : goal.returns-in_err-a-clause-rest
@@ -31,7 +32,7 @@ returns-in_err-b-clause-refused c =
 
 pub returns-in_err-b-clause-exact : goal.returns-in_err-b-clause-exact
 returns-in_err-b-clause-exact c =
-    second_exact _ _ c.in_ok-variants.ensures.read (c.in_ok-variants.ensures.counts refl) c.length.ensures
+    second_exact (int_shape 1 false) (int_shape 1 true) c.in_ok-variants.ensures.read (c.in_ok-variants.ensures.counts refl) c.length.ensures
     c.in_ok-a.ensures.read c.length-2.ensures _ _ c.from_residual-in_err-b.ensures.1 c.in_err-b.ensures.exact
 
 pub returns-in_err-b-clause-rest : goal.returns-in_err-b-clause-rest
@@ -44,7 +45,7 @@ returns-clause-read c =
 
 pub returns-clause-counted : goal.returns-clause-counted
 returns-clause-counted c =
-    counts_two _ _ c.in_ok-variants.ensures.read (c.in_ok-variants.ensures.counts refl) c.length.ensures c.in_ok-a.ensures.read c.length-2.ensures c.in_ok-b.ensures.read
+    counts_two (int_shape 1 false) (int_shape 1 true) c.in_ok-variants.ensures.read (c.in_ok-variants.ensures.counts refl) c.length.ensures c.in_ok-a.ensures.read c.length-2.ensures c.in_ok-b.ensures.read
     _ _ c.in_ok-a.ensures.counted c.in_ok-b.ensures.counted
 
 pub returns-clause-judged : goal.returns-clause-judged
