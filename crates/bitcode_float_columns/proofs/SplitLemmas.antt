@@ -157,6 +157,19 @@ length-joined_bits [] (top ∷ tops) same = absurd (omega arith)
 length-joined_bits (low ∷ lows) [] same = absurd (omega arith)
 length-joined_bits (low ∷ lows) (top ∷ tops) same = ap suc (length-joined_bits lows tops (omega arith))
 
+-- one more is taken from the front of what is left
+pub taken_next : {A B : Type 0} (made : A → B) (i : ℕ) (xs ys : List A) (x : A) → drop i xs ≡ x ∷ ys
+    → (map made (take (suc i) xs) ≡ map made (take i xs) ++ (made x ∷ [])) × (drop (suc i) xs ≡ ys)
+taken_next made zero [] ys x e = cc e
+taken_next made zero (z ∷ xs) ys x e =
+    let same : z ≡ x = cc e in
+    let rest : xs ≡ ys = cc e in
+    (ap (λ a. made a ∷ []) same, rest)
+taken_next made (suc i) [] ys x e = cc e
+taken_next made (suc i) (z ∷ xs) ys x e =
+    let behind = taken_next made i xs ys x e in
+    (ap (λ bs. made z ∷ bs) behind.0, behind.1)
+
 -- three bytes, one by one
 pub three_of : (low : List ℕ) → length low ≡ 3 → little_endian low ≡ get_or low 0 0 + 256 * get_or low 1 0 + 65536 * get_or low 2 0
 three_of [] e = absurd (omega arith)

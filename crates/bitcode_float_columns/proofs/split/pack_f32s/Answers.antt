@@ -6,5 +6,5 @@ use Rattle.bitcode_float_columns.proofs.split.pack_f32s.Goals as goal
 
 pub returns-clause-written : goal.returns-clause-written
 returns-clause-written c =
-    split_joined c.args.floats.now c.args.out.now.items c.reserve.new.self.items c.push_lows.new.out.items c.push_tops.new.out.items
-    c.in_ok-reserve.ensures.items c.push_lows.ensures.written c.push_tops.ensures
+    split_joined c.args.floats.now c.args.out.now.items c.replace-held.result.items c.push_lows-lows.result.items c.push_tops.result.items
+    (ap (λ v. v.items) c.replace-held.ensures.value ∙ c.in_ok-reserve.ensures.items) c.push_lows-lows.ensures.written c.push_tops.ensures
