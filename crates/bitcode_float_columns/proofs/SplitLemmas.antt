@@ -1,11 +1,15 @@
 -- Columns of the bits of 4-byte floats.
-use Rattle.std.proofs.Common.{◌≡◌, ℕ, zero, suc, ◌+◌, ◌-◌, ◌*◌, ◌/◌, ◌%◌, ◌^◌, ◌<◌, ◌≤◌, Bool, List, [], ◌∷◌, ◌++◌, length, map, get_or, take, drop, All, IsTrue, MatchBool, true, false, refl, sym, ap, ap₂, ◌∙◌, subst, arith, append_assoc, length-append}
+use Rattle.std.proofs.Common.{◌≡◌, ℕ, zero, suc, ◌+◌, ◌-◌, ◌*◌, ◌/◌, ◌%◌, ◌^◌, ◌<◌, ◌≤◌, Bool, List, [], ◌∷◌, ◌++◌, length, map, get_or, take, drop, All, IsTrue, IsFalse, ◌||◌, not, MatchBool, true, false, refl, sym, ap, ap₂, ◌∙◌, subst, arith, append_assoc, length-append}
 use Rattle.std.specs.Prelude.{◌↔◌, to_bits}
 use Rattle.std.specs.Simd.{first_chunks}
-use Rattle.std.specs.Float.{Float, binary32}
+use Rattle.std.specs.Float.{Float, NotNan, binary32, nan}
+use Rattle.std.specs.Float.Ieee.{is_nan}
+use lib.Dec.{T}
 use Rattle.std.proofs.lemmas.Bool.{false≢true}
-use Rattle.std.proofs.lemmas.List.{length-map, length-take, length-drop, take-append-drop, take_all}
-use Rattle.std.proofs.lemmas.List.Elements.{All-nil, All-cons, All-head, All-tail, All-map, All-take, All-drop}
+use Rattle.std.proofs.Math.Seq.{take-add}
+use Rattle.std.proofs.lemmas.List.Concat.{flat_map-append}
+use Rattle.std.proofs.lemmas.List.{map-append, take_more, length-map, length-take, length-drop, take-append-drop, take_all}
+use Rattle.std.proofs.lemmas.List.Elements.{All-append, All-nil, All-cons, All-head, All-tail, All-map, All-take, All-drop}
 use Rattle.std.proofs.lemmas.Simd.{map-map}
 use Rattle.bitcode_memory.specs.LittleEndian.{little_endian, number_bytes, raw_text, SpellsRaw}
 use Rattle.bitcode_memory.proofs.UnalignedLemmas.{first_chunks_spell}
@@ -55,6 +59,92 @@ split_joined floats start reserved middle end kept lows tops =
     tops ∙ ap (λ m. m ++ map (λ x. top_of (to_bits binary32 x)) floats) (lows ∙ ap (λ r. r ++ raw_text 3 (map (λ x. low_of (to_bits binary32 x)) floats)) kept)
     ∙ append_assoc start (raw_text 3 (map (λ x. low_of (to_bits binary32 x)) floats)) (map (λ x. top_of (to_bits binary32 x)) floats)
     ∙ ap (λ b. start ++ b) (ap₂ (λ x y. raw_text 3 x ++ y) (sym (map-map low_of bits floats)) (sym (map-map top_of bits floats)))
+
+-- ---- NaNs
+
+or_parts : (a b : Bool) → IsFalse (a || b) → IsFalse a × IsFalse b
+or_parts true b h = absurd (false≢true (sym h))
+or_parts false b h = (refl, h)
+
+not_so : (b : Bool) → IsFalse b → T (not b)
+not_so true h = absurd (false≢true (sym h))
+not_so false h = tt
+
+-- none is a NaN so far, and one more is none
+pub numbers_more : (found here : Bool) (xs : List Float) (i : ℕ) → i < length xs → here ≡ is_nan (get_or xs i nan)
+    → (IsFalse found → All NotNan (take i xs)) → IsFalse (found || here) → All NotNan (take (i + 1) xs)
+numbers_more found here xs i inside is so_far none =
+    let parts = or_parts found here none in
+    let number : NotNan (get_or xs i nan) = subst (λ b. T (not b)) is (not_so here parts.1) in
+    subst (All NotNan) (sym (take_more xs i nan inside))
+    (All-append NotNan (take i xs) (get_or xs i nan ∷ []) (so_far parts.0) (All-cons NotNan (get_or xs i nan) [] number (All-nil NotNan)))
+
+-- those of a block are none
+pub numbers_in : (xs four : List Float) (block : ℕ) → All NotNan xs → four ≡ take 4 (drop (4 * block) xs) → All NotNan four
+numbers_in xs four block all is =
+    subst (All NotNan) (sym is) (All-take NotNan 4 (drop (4 * block) xs) (All-drop NotNan (4 * block) xs all))
+
+-- ---- four at a time
+
+-- the low bytes of four numbers are three words
+pub four_lows : (a b c d : ℕ) → a < 256 ^ 4 → b < 256 ^ 4 → c < 256 ^ 4 → d < 256 ^ 4
+    → number_bytes 4 (a % 16777216 + b % 256 * 16777216) ++ (number_bytes 4 (b / 256 % 65536 + c % 65536 * 65536) ++ number_bytes 4 (c / 65536 % 256 + d % 16777216 * 256))
+    ≡ raw_text 3 (low_of a ∷ low_of b ∷ low_of c ∷ low_of d ∷ [])
+unfolding raw_text
+four_lows a b c d ha hb hc hd =
+    let front = a % 16777216 + b % 256 * 16777216 in
+    let middle = b / 256 % 65536 + c % 65536 * 65536 in
+    let back = c / 65536 % 256 + d % 16777216 * 256 in
+    let a0 : front % 256 ≡ low_of a % 256 = omega arith in
+    let a1 : front / 256 % 256 ≡ low_of a / 256 % 256 = omega arith in
+    let a2 : front / 256 / 256 % 256 ≡ low_of a / 256 / 256 % 256 = omega arith in
+    let b0 : front / 256 / 256 / 256 % 256 ≡ low_of b % 256 = omega arith in
+    let b1 : middle % 256 ≡ low_of b / 256 % 256 = omega arith in
+    let b2 : middle / 256 % 256 ≡ low_of b / 256 / 256 % 256 = omega arith in
+    let c0 : middle / 256 / 256 % 256 ≡ low_of c % 256 = omega arith in
+    let c1 : middle / 256 / 256 / 256 % 256 ≡ low_of c / 256 % 256 = omega arith in
+    let c2 : back % 256 ≡ low_of c / 256 / 256 % 256 = omega arith in
+    let d0 : back / 256 % 256 ≡ low_of d % 256 = omega arith in
+    let d1 : back / 256 / 256 % 256 ≡ low_of d / 256 % 256 = omega arith in
+    let d2 : back / 256 / 256 / 256 % 256 ≡ low_of d / 256 / 256 % 256 = omega arith in
+    ap₂ (λ x xs. x ∷ xs) a0 (ap₂ (λ x xs. x ∷ xs) a1 (ap₂ (λ x xs. x ∷ xs) a2
+    (ap₂ (λ x xs. x ∷ xs) b0 (ap₂ (λ x xs. x ∷ xs) b1 (ap₂ (λ x xs. x ∷ xs) b2
+    (ap₂ (λ x xs. x ∷ xs) c0 (ap₂ (λ x xs. x ∷ xs) c1 (ap₂ (λ x xs. x ∷ xs) c2
+    (ap₂ (λ x xs. x ∷ xs) d0 (ap₂ (λ x xs. x ∷ xs) d1 (ap (λ x. x ∷ []) d2)))))))))))
+
+-- a list of four, item by item
+pub four_items : {A : Type 0} (xs : List A) (d : A) → length xs ≡ 4 → xs ≡ get_or xs 0 d ∷ get_or xs 1 d ∷ get_or xs 2 d ∷ get_or xs 3 d ∷ []
+four_items [] d e = absurd (omega arith)
+four_items (a ∷ []) d e = absurd (omega arith)
+four_items (a ∷ b ∷ []) d e = absurd (omega arith)
+four_items (a ∷ b ∷ c ∷ []) d e = absurd (omega arith)
+four_items (a ∷ b ∷ c ∷ x ∷ []) d e = refl
+four_items (a ∷ b ∷ c ∷ x ∷ y ∷ xs) d e = absurd (omega arith)
+
+module _ {A : Type 0} (text : List A → List ℕ) (joins : (xs ys : List A) → text (xs ++ ys) ≡ text xs ++ text ys) (xs : List A) (start : List ℕ) where
+  -- the texts of four more
+  pub four_more : (block : ℕ) (four : List A) (so_far next : List ℕ) → four ≡ take 4 (drop (4 * block) xs) → so_far ≡ start ++ text (take (4 * block) xs)
+      → next ≡ so_far ++ text four → next ≡ start ++ text (take (4 * (block + 1)) xs)
+  four_more block four so_far next are before after =
+      let count : 4 * block + 4 ≡ 4 * (block + 1) = omega arith in
+      let more : take (4 * (block + 1)) xs ≡ take (4 * block) xs ++ four =
+      ap (λ n. take n xs) (sym count) ∙ take-add (4 * block) 4 xs ∙ ap (λ ys. take (4 * block) xs ++ ys) (sym are) in
+      after ∙ ap (λ b. b ++ text four) before ∙ append_assoc start (text (take (4 * block) xs)) (text four)
+      ∙ ap (λ b. start ++ b) (sym (joins (take (4 * block) xs) four) ∙ ap text (sym more))
+
+  -- and the text of those behind the last four
+  pub then_others : (count : ℕ) (rest : List A) (so_far next : List ℕ) → rest ≡ drop count xs → so_far ≡ start ++ text (take count xs)
+      → next ≡ so_far ++ text rest → next ≡ start ++ text xs
+  then_others count rest so_far next are before after =
+      after ∙ ap (λ b. b ++ text rest) before ∙ append_assoc start (text (take count xs)) (text rest)
+      ∙ ap (λ b. start ++ b) (sym (joins (take count xs) rest) ∙ ap text (ap (λ r. take count xs ++ r) are ∙ take-append-drop count xs))
+
+pub lows_join : (xs ys : List Float) → raw_text 3 (map (λ x. low_of (to_bits binary32 x)) (xs ++ ys))
+    ≡ raw_text 3 (map (λ x. low_of (to_bits binary32 x)) xs) ++ raw_text 3 (map (λ x. low_of (to_bits binary32 x)) ys)
+unfolding raw_text
+lows_join xs ys =
+    ap (raw_text 3) (map-append (λ x. low_of (to_bits binary32 x)) xs ys)
+    ∙ flat_map-append (number_bytes 3) (map (λ x. low_of (to_bits binary32 x)) xs) (map (λ x. low_of (to_bits binary32 x)) ys)
 
 -- ---- the laws
 
@@ -156,6 +246,19 @@ length-joined_bits [] [] same = refl
 length-joined_bits [] (top ∷ tops) same = absurd (omega arith)
 length-joined_bits (low ∷ lows) [] same = absurd (omega arith)
 length-joined_bits (low ∷ lows) (top ∷ tops) same = ap suc (length-joined_bits lows tops (omega arith))
+
+-- one more is taken from the front of what is left
+pub taken_next : {A B : Type 0} (made : A → B) (i : ℕ) (xs ys : List A) (x : A) → drop i xs ≡ x ∷ ys
+    → (map made (take (suc i) xs) ≡ map made (take i xs) ++ (made x ∷ [])) × (drop (suc i) xs ≡ ys)
+taken_next made zero [] ys x e = cc e
+taken_next made zero (z ∷ xs) ys x e =
+    let same : z ≡ x = cc e in
+    let rest : xs ≡ ys = cc e in
+    (ap (λ a. made a ∷ []) same, rest)
+taken_next made (suc i) [] ys x e = cc e
+taken_next made (suc i) (z ∷ xs) ys x e =
+    let behind = taken_next made i xs ys x e in
+    (ap (λ bs. made z ∷ bs) behind.0, behind.1)
 
 -- three bytes, one by one
 pub three_of : (low : List ℕ) → length low ≡ 3 → little_endian low ≡ get_or low 0 0 + 256 * get_or low 1 0 + 65536 * get_or low 2 0

@@ -1,7 +1,7 @@
 //! Packing and unpacking the bits of 4-byte floats.
-ghost use Rattle.std.specs.Prelude.{◌≡◌, ◌≢◌, ◌+◌, ◌*◌, ◌<◌, ◌≤◌, ◌++◌, [], ◌∷◌, Some, length, map, to_bits, vec_len};
-ghost use Rattle.std.specs.Prelude.{vec_capacity, IsTrue, IfOk, OnOk, IfErr, OnErr, ◌↔◌, All, MatchBool};
-ghost use Rattle.std.specs.Float.{binary32};
+ghost use Rattle.std.specs.Prelude.{◌≡◌, ◌≢◌, ◌+◌, ◌*◌, ◌<◌, ◌≤◌, ◌++◌, [], ◌∷◌, Some, length, map, take, drop, to_bits, from_bits};
+ghost use Rattle.std.specs.Prelude.{vec_len, vec_capacity, IsTrue, IsFalse, ◌/◌, IsOk, IfOk, OnOk, IfErr, OnErr, ◌↔◌, All, MatchBool};
+ghost use Rattle.std.specs.Float.{NotNan, binary32};
 ghost use Rattle.bitcode_memory.specs.LittleEndian.{raw_text};
 ghost use Rattle.bitcode_columns.specs.Reading.{Reads, missing};
 ghost use Rattle.bitcode_float_columns.specs.FloatColumn.{canonical, low_of, top_of, split_text, SpellsSplit};
@@ -11,35 +11,144 @@ use crate::bits::is_canonical_f32;
 use bitcode_memory::consume::{consume_byte_arrays, consume_bytes};
 use bitcode_memory::error::{Error, Reason};
 use bitcode_memory::fast::{FastSlice, NextUnchecked};
-use bitcode_memory::ints::{known_bytes, push_bytes};
+use bitcode_memory::ints::{SizedUInt, known_bytes, push_bytes};
 use bitcode_memory::refuse::err;
-use std::num::f32_to_bits_with_nan;
+use std::alloc::Global;
+use std::mem::replace;
+use std::num::{f32_from_bits_with_nan, f32_to_bits_with_nan};
+
+// Whether one of the floats is a NaN. All are looked at, so that the compiler tests several at once.
+fn any_nan(floats: &[f32]) -> bool
+    ensures { IsFalse result → All NotNan floats.now }
+{
+    let mut found = false;
+    for float in floats {
+        found |= float.is_nan();
+    }
+    found
+}
+
+// The four floats at a place. They are found by their place: of a slice that is cut shorter at each turn, the compiler
+// makes a slower loop.
+#[inline(always)]
+fn block_at(floats: &[f32], block: usize) -> &[f32]
+    requires { block < length floats.now / 4 }
+    ensures items { result.now ≡ take 4 (drop (4 * block) floats.now) }
+    ensures len { length result.now ≡ 4 }
+{
+    let start = 4 * block;
+    let (_, rest) = floats.split_at(start);
+    let (front, _) = rest.split_at(4);
+    front
+}
+
+// Appends the three low bytes of each of these bits, as three words. The caller must have reserved the room.
+#[inline(always)]
+fn push_four_lows(first: u32, second: u32, third: u32, fourth: u32, out: &mut Vec<u8>)
+    requires { vec_len out.old + 12 ≤ vec_capacity out.old }
+    ensures written { out.new.items ≡ out.old.items ++ raw_text 3
+        (low_of first ∷ low_of second ∷ low_of third ∷ low_of fourth ∷ []) }
+    ensures len { vec_len out.new ≡ vec_len out.old + 12 }
+    ensures capacity { vec_capacity out.new ≡ vec_capacity out.old }
+{
+    let front = first % 0x100_0000 + second % 0x100 * 0x100_0000;
+    let middle = second / 0x100 % 0x1_0000 + third % 0x1_0000 * 0x1_0000;
+    let back = third / 0x1_0000 % 0x100 + fourth % 0x100_0000 * 0x100;
+    front.push(out);
+    middle.push(out);
+    back.push(out);
+}
+
+// Appends the top byte of each of these bits, as one word. The caller must have reserved the room.
+#[inline(always)]
+fn push_four_tops(first: u32, second: u32, third: u32, fourth: u32, out: &mut Vec<u8>)
+    requires { vec_len out.old + 4 ≤ vec_capacity out.old }
+    ensures written { out.new.items ≡ out.old.items
+        ++ top_of first ∷ top_of second ∷ top_of third ∷ top_of fourth ∷ [] }
+    ensures len { vec_len out.new ≡ vec_len out.old + 4 }
+    ensures capacity { vec_capacity out.new ≡ vec_capacity out.old }
+{
+    let low = first / 0x100_0000 + second / 0x100_0000 * 0x100;
+    let high = third / 0x100_0000 + fourth / 0x100_0000 * 0x100;
+    (low + high * 0x1_0000).push(out);
+}
 
 // Appends the three low bytes of each float. The caller must have reserved the room.
-fn push_lows(floats: &[f32], out: &mut Vec<u8>)
-    requires { vec_len out.old + 3 * length floats.now ≤ vec_capacity out.old }
-    ensures written { out.new.items ≡ out.old.items ++ raw_text 3
+//
+// The list is handed over and given back: its length is then kept in a register while bytes are written.
+fn push_lows(floats: &[f32], mut out: Vec<u8>) -> Vec<u8>
+    requires { vec_len out + 3 * length floats.now ≤ vec_capacity out }
+    ensures written { result.items ≡ out.items ++ raw_text 3
         (map (λ x. low_of (to_bits binary32 x)) floats.now) }
-    ensures len { vec_len out.new ≡ vec_len out.old + 3 * length floats.now }
-    ensures capacity { vec_capacity out.new ≡ vec_capacity out.old }
+    ensures len { vec_len result ≡ vec_len out + 3 * length floats.now }
+    ensures capacity { vec_capacity result ≡ vec_capacity out }
 {
     for float in floats {
         let bits = f32_to_bits_with_nan(*float);
         let low = (bits % 0x100) as u8;
         let middle = (bits / 0x100 % 0x100) as u8;
         let high = (bits / 0x1_0000 % 0x100) as u8;
-        push_bytes(&[low, middle, high], out);
+        push_bytes(&[low, middle, high], &mut out);
     }
+    out
 }
 
 // Appends the top byte of each float. The caller must have reserved the room.
-fn push_tops(floats: &[f32], out: &mut Vec<u8>)
-    requires { vec_len out.old + length floats.now ≤ vec_capacity out.old }
-    ensures { out.new.items ≡ out.old.items ++ map (λ x. top_of (to_bits binary32 x)) floats.now }
+fn push_tops(floats: &[f32], mut out: Vec<u8>) -> Vec<u8>
+    requires { vec_len out + length floats.now ≤ vec_capacity out }
+    ensures { result.items ≡ out.items ++ map (λ x. top_of (to_bits binary32 x)) floats.now }
 {
     for float in floats {
         out.push_reserved((f32_to_bits_with_nan(*float) >> 24) as u8);
     }
+    out
+}
+
+// The same for floats of which none is a NaN, four at a time.
+fn push_lows_of_numbers(floats: &[f32], mut out: Vec<u8>) -> Vec<u8>
+    requires numbers { All NotNan floats.now }
+    requires room { vec_len out + 3 * length floats.now ≤ vec_capacity out }
+    ensures written { result.items ≡ out.items ++ raw_text 3
+        (map (λ x. low_of (to_bits binary32 x)) floats.now) }
+    ensures len { vec_len result ≡ vec_len out + 3 * length floats.now }
+    ensures capacity { vec_capacity result ≡ vec_capacity out }
+{
+    let blocks = floats.len() / 4;
+    for block in 0..blocks {
+        let four = block_at(floats, block);
+        push_four_lows(
+            four[0].to_bits(),
+            four[1].to_bits(),
+            four[2].to_bits(),
+            four[3].to_bits(),
+            &mut out,
+        );
+    }
+    let behind = 4 * blocks;
+    let (_, rest) = floats.split_at(behind);
+    push_lows(rest, out)
+}
+
+// The same for the top bytes.
+fn push_tops_of_numbers(floats: &[f32], mut out: Vec<u8>) -> Vec<u8>
+    requires numbers { All NotNan floats.now }
+    requires room { vec_len out + length floats.now ≤ vec_capacity out }
+    ensures { result.items ≡ out.items ++ map (λ x. top_of (to_bits binary32 x)) floats.now }
+{
+    let blocks = floats.len() / 4;
+    for block in 0..blocks {
+        let four = block_at(floats, block);
+        push_four_tops(
+            four[0].to_bits(),
+            four[1].to_bits(),
+            four[2].to_bits(),
+            four[3].to_bits(),
+            &mut out,
+        );
+    }
+    let behind = 4 * blocks;
+    let (_, rest) = floats.split_at(behind);
+    push_tops(rest, out)
 }
 
 /// Appends a column of floats: the three low bytes of each, and then the top byte of each. A NaN is written as the
@@ -62,8 +171,15 @@ pub fn pack_f32s(floats: &[f32], out: &mut Vec<u8>) -> Result<(), Error>
         return err(Reason::OutOfMemory);
     };
     out.reserve(size)?;
-    push_lows(floats, out);
-    push_tops(floats, out);
+    let alloc = *out.allocator();
+    let held = replace(out, Vec::new(alloc));
+    *out = if any_nan(floats) {
+        let lows = push_lows(floats, held);
+        push_tops(floats, lows)
+    } else {
+        let lows = push_lows_of_numbers(floats, held);
+        push_tops_of_numbers(floats, lows)
+    };
     Ok(())
 }
 
@@ -95,6 +211,26 @@ impl<'a> SplitBits<'a> {
         let low = self.lows.next_unchecked();
         let top = self.tops.next_unchecked();
         u32::from_le_bytes([low[0], low[1], low[2], top])
+    }
+
+    /// Takes the next `count` bits as the floats with these bits. At least as many must be left.
+    ///
+    /// If an allocation fails, the error is `out of memory`. It never does for a `count` of 0.
+    pub fn floats_unchecked(&mut self, alloc: Global, count: usize) -> Result<Vec<f32>, Error>
+        requires { count ≤ length (split_rest self.old) }
+        ensures taken { IfOk result
+            (λ floats. floats.items ≡ map (from_bits binary32) (take count (split_rest self.old))) }
+        ensures rest { OnOk result (split_rest self.new ≡ drop count (split_rest self.old)) }
+        ensures reason { IfErr result (λ e. e.reason ≡ Reason.OutOfMemory) }
+        ensures none { count ≡ 0 → IsOk result }
+    {
+        let mut rest = *self;
+        let mut floats = Vec::with_capacity(alloc, count)?;
+        for _taken in 0..count {
+            floats.push_reserved(f32_from_bits_with_nan(rest.next_unchecked()));
+        }
+        *self = rest;
+        Ok(floats)
     }
 }
 

@@ -21,7 +21,7 @@ use Rattle.bitcode_float_columns.proofs.SplitLemmas.{missing-refuses_split}
 use Rattle.bitcode_shapes.specs.Datum.{Datum, natural_in}
 use Rattle.bitcode_shapes.specs.Shape.{Shape, IsFloatOf, float_shape}
 use Rattle.bitcode_coder.specs.Columns.{Kind, one, beside, floats}
-use Rattle.bitcode_coder.specs.Coder.{IsReadingRefusal, WritesEach, JoinsEach, written_columns}
+use Rattle.bitcode_coder.specs.Coder.{IsReadingRefusal, TakesEach, WritesEach, JoinsEach, written_columns}
 use Rattle.bitcode_coder.specs.Faults.{NamesIntsFault}
 use Rattle.bitcode_coder.specs.Spelling.{Spells, SpellsBits, SpellsIntsInWidth, float_of_bits, bits_text, column_bytes}
 use Rattle.bitcode_coder.specs.Strict.{JudgesColumn, JudgesData}
@@ -32,6 +32,7 @@ use Rattle.bitcode_coder.proofs.OneValueLemmas.{entries_in}
 use Rattle.bitcode_coder.proofs.PushingLemmas.{listed_as_data, zip_itself, joins_entries}
 use Rattle.bitcode_coder.proofs.StrictColumnLemmas.{mapped_told}
 use Rattle.bitcode_coder.proofs.StrictLemmas.{judges_column}
+use Rattle.bitcode_coder.proofs.TakingLemmas.{made_each, takes_front}
 use Rattle.bitcode_floats.specs.Floats.{float_datum, data_of_floats, data_of_bits, long_bits, residue_of}
 
 -- ---- data
@@ -108,7 +109,36 @@ pub split_refused : {T : Type 0} (r : Result T Error) (count : ℕ) (input : Lis
 split_refused (Ok x) count input named = tt
 split_refused (Err e) count input named = split_refuses e.reason count input named
 
+-- the floats with the bits are made, one by one
+pub made_floats : (format : Format) (makes : Datum → Float → Type 0) → ((x : Float) → makes (float_datum format x) x)
+    → {Entry : Type 0} (bits_of : Entry → ℕ) (entries : List Entry) (xs : List Float) → xs ≡ map (λ e. from_bits format (bits_of e)) entries
+    → AllZip makes (map (λ e. float_of_bits format (bits_of e)) entries) xs
+made_floats format makes made bits_of entries xs are =
+    subst (λ ds. AllZip makes ds xs) (ap (map (float_datum format)) are ∙ map-map (float_datum format) (λ e. from_bits format (bits_of e)) entries)
+    (made_each makes (float_datum format) made xs)
+
+pub takes_floats : {T E : Type 0} (items : T → List Float) (makes : Datum → Float → Type 0) → ((x : Float) → makes (float_datum binary32 x) x) → (r : Result T E) (count : ℕ) (old new : List ℕ)
+    → count ≤ length (data_of_bits binary32 old) → IfOk r (λ t. items t ≡ map (from_bits binary32) (take count old)) → OnOk r (new ≡ drop count old)
+    → IfOk r (λ t. TakesEach makes count (items t) (data_of_bits binary32 old) (data_of_bits binary32 new))
+takes_floats items makes made (Ok t) count old new enough are rest =
+    takes_front makes (float_of_bits binary32) count old (take count old) new (items t) enough refl rest
+    (made_floats binary32 makes made (λ b. b) (take count old) (items t) are)
+takes_floats items makes made (Err e) count old new enough are rest = tt
+
 -- ---- 8-byte floats
+
+pub takes_long_floats : {T E : Type 0} (items : T → List Float) (makes : Datum → Float → Type 0) → ((x : Float) → makes (float_datum binary64 x) x) → (r : Result T E) (count : ℕ) (old front new : List (List ℕ))
+    → count ≤ length (data_of_bits binary64 (long_bits old)) → front ≡ take count old → new ≡ drop count old
+    → IfOk r (λ t. items t ≡ map (λ entry. from_bits binary64 (residue_of entry)) front)
+    → IfOk r (λ t. TakesEach makes count (items t) (data_of_bits binary64 (long_bits old)) (data_of_bits binary64 (long_bits new)))
+takes_long_floats items makes made (Ok t) count old front new enough is rest are =
+    let datum = λ (entry : List ℕ). float_of_bits binary64 (residue_of entry) in
+    let one = λ (entries : List (List ℕ)). map-map (float_of_bits binary64) residue_of entries in
+    let taken = takes_front makes datum count old front new (items t) (subst (λ ds. count ≤ length ds) (one old) enough) is rest
+    (made_floats binary64 makes made residue_of front (items t) are) in
+    subst (λ ds. TakesEach makes count (items t) ds (data_of_bits binary64 (long_bits new))) (sym (one old))
+    (subst (TakesEach makes count (items t) (map datum old)) (sym (one new)) taken)
+takes_long_floats items makes made (Err e) count old front new enough is rest are = tt
 
 pub long_read : (count : ℕ) (old bits new : List ℕ) → Reads (SpellsInts 8) count old bits new → All (λ n. n < 256 ^ 8) bits
     → Reads (SpellsBits binary64) count old bits new

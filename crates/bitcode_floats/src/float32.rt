@@ -184,5 +184,9 @@ impl<'a> Decoder<f32> for F32Decoder<'a> {
         Ok(f32_from_bits_with_nan(self.bits.next_unchecked()))
     }
 
+    fn decode_many(&mut self, alloc: Global, count: usize) -> Result<Vec<f32>, Error> {
+        self.bits.floats_unchecked(alloc, count)
+    }
+
     ghost same_shape = { refl };
 }

@@ -1,6 +1,6 @@
 //! The coders of a column of `f64`: their bits, as integers.
-ghost use Rattle.std.specs.Prelude.{◌≡◌, ◌≢◌, ◌+◌, ◌≤◌, ◌++◌, length, map, to_bits, true, refl, All, MatchBool};
-ghost use Rattle.std.specs.Prelude.{IsTrue, IfOk, OnOk, IfErr, OnErr};
+ghost use Rattle.std.specs.Prelude.{◌≡◌, ◌≢◌, ◌+◌, ◌≤◌, ◌++◌, length, map, to_bits, from_bits, true, refl, All};
+ghost use Rattle.std.specs.Prelude.{IsTrue, IsOk, IfOk, OnOk, IfErr, OnErr, MatchBool};
 ghost use Rattle.std.specs.Float.{binary64};
 ghost use Rattle.bitcode_memory.specs.Fast.{fast_items, fast_room, fast_capacity, cow_rest, cow_owned};
 ghost use Rattle.bitcode_columns.specs.Reading.{Reads, IsEndOf};
@@ -134,6 +134,20 @@ fn bits_of(bytes: [u8; 8]) -> u64
     u64::from_le_bytes(bytes)
 }
 
+// The floats with these bits.
+fn floats_of(alloc: Global, entries: &[[u8; 8]]) -> Result<Vec<f64>, Error>
+    ensures floats { IfOk result
+        (λ floats. floats.items ≡ map (λ entry. from_bits binary64 (residue_of entry)) entries.now) }
+    ensures reason { IfErr result (λ e. e.reason ≡ Reason.OutOfMemory) }
+    ensures none { length entries.now ≡ 0 → IsOk result }
+{
+    let mut floats = Vec::with_capacity(alloc, entries.len())?;
+    for entry in entries {
+        floats.push_reserved(f64_from_bits_with_nan(bits_of(*entry)));
+    }
+    Ok(floats)
+}
+
 // Whether an encoder writes each of these bits.
 fn are_canonical(entries: &[[u8; 8]]) -> bool
     ensures { MatchBool result
@@ -210,6 +224,10 @@ impl<'a> Decoder<f64> for F64Decoder<'a> {
     fn decode(&mut self) -> Result<f64, Error> {
         let bits = bits_of(self.values.next_unchecked());
         Ok(f64_from_bits_with_nan(bits))
+    }
+
+    fn decode_many(&mut self, alloc: Global, count: usize) -> Result<Vec<f64>, Error> {
+        floats_of(alloc, self.values.chunk_unchecked(count))
     }
 
     ghost same_shape = { refl };

@@ -8,7 +8,7 @@ use Rattle.bitcode_float_columns.proofs.SplitLemmas.{low_bytes}
 use Rattle.bitcode_float_columns.proofs.split.push_lows.Goals as goal
 
 pub loop-float-init : goal.loop-float-init
-loop-float-init c = record { written = raw_none 3 c.args.out.now.items; len = omega arith; capacity = refl }
+loop-float-init c = record { written = raw_none 3 c.args.out.items; len = omega arith; capacity = refl }
 
 pub loop-float-preserved : goal.loop-float-preserved
 loop-float-preserved c =
@@ -17,7 +17,7 @@ loop-float-preserved c =
     record {
       written =
           raw_more 3 (λ (x : Float). low_of (to_bits binary32 x)) c.args.floats.now c.loop-float.float-index nan x
-          c.args.out.now.items c.loop-float.out.items c.push_bytes.new.out.items (low_of c.f32_to_bits_with_nan-bits.result) c.loop-float-test.true refl was.written
+          c.args.out.items c.loop-float.out.items c.push_bytes.new.out.items (low_of c.f32_to_bits_with_nan-bits.result) c.loop-float-test.true refl was.written
           (ap low_of c.f32_to_bits_with_nan-bits.ensures)
           (c.push_bytes.ensures.written ∙ ap (λ b. c.loop-float.out.items ++ b) (low_bytes c.f32_to_bits_with_nan-bits.result));
       len = omega (arith, c.push_bytes.ensures.len, was.len);
