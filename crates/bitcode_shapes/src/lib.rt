@@ -1,6 +1,7 @@
 //! The data of each type: its shape, and the laws that make a type lawful.
 #![tactic(auto)]
 
+pub mod addresses;
 pub mod arrays;
 pub mod bare_variants;
 pub mod bools;
