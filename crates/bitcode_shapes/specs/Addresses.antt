@@ -1,6 +1,6 @@
 -- Addresses: an IP address corresponds to the number that its octets spell, one of either family to a result, and a
 -- socket address to its parts.
-use Rattle.std.proofs.Common.{◌≡◌, ℕ, ◌+◌, ◌*◌, ◌^◌, ◌<◌, Ok, Err, List, [], ◌∷◌, length, get_or, refl, sym, ◌∙◌, ap, subst, false, pos, arith}
+use Rattle.std.proofs.Common.{◌≡◌, ℕ, ◌+◌, ◌^◌, ◌<◌, Ok, Err, List, [], ◌∷◌, length, refl, sym, ◌∙◌, ap, subst, false, pos, arith}
 use Rattle.std.specs.Prelude.{Result, All}
 use Rattle.std.specs.Int.{bytes_high_first, from_be_bytes, to_be_bytes, w32, w128}
 use Rattle.std.specs.Net.Addr.{IsIpv4OfBits, IsIpv6OfBits, ipv4_bits, ipv4_octets, ipv6_bits, ipv6_octets, ipv6_segments, octets_of, segments_of}
@@ -96,9 +96,10 @@ pub ipv6_of_bits : (a : Ipv6Addr) (n : ℕ) → n < 256 ^ 16 → IsIpv6OfBits a 
 unfolding IsIpv6OfBits
 ipv6_of_bits a n h is =
     let count : length (ipv6_segments a) ≡ 8 = ap length is in
-    let octets : ipv6_octets a ≡ bytes_high_first 16 n = ap octets_of is ∙ octets_again (bytes_high_first 16 n) 8 (high_length 16 n) (high_octets 16 n) in
-    (record { each = subst (λ segments. All IsSegment segments) (sym is) (segments_fit (bytes_high_first 16 n) (high_octets 16 n)); count = count },
-    ipv6_number a count ∙ ap number_of octets ∙ spelled 16 n h)
+    let octets : ipv6_octets a ≡ bytes_high_first 16 n = ap octets_of is ∙ octets_again (bytes_high_first 16 n) 8 (high_length 16 n) (high_octets 16 n) in (
+      record { each = subst (λ segments. All IsSegment segments) (sym is) (segments_fit (bytes_high_first 16 n) (high_octets 16 n)); count = count },
+      ipv6_number a count ∙ ap number_of octets ∙ spelled 16 n h,
+    )
 
 abbrev ipv6_from : List ℕ → Ipv6Addr
 ipv6_from segments = record { segments = segments }
@@ -111,9 +112,9 @@ ipv6_found n h =
 pub ipv6_once : (a b : Ipv6Addr) → IsIpv6 a → IsIpv6 b → ipv6_bits a ≡ ipv6_bits b → a ≡ b
 ipv6_once a b h i same =
     let octets : ipv6_octets a ≡ ipv6_octets b =
-        octets_once (ipv6_octets a) (ipv6_octets b) (ipv6_count a h.count ∙ sym (ipv6_count b i.count))
-        (octets_fit (ipv6_segments a) h.each) (octets_fit (ipv6_segments b) i.each)
-        (sym (ipv6_number a h.count) ∙ same ∙ ipv6_number b i.count)
+    octets_once (ipv6_octets a) (ipv6_octets b) (ipv6_count a h.count ∙ sym (ipv6_count b i.count))
+    (octets_fit (ipv6_segments a) h.each) (octets_fit (ipv6_segments b) i.each)
+    (sym (ipv6_number a h.count) ∙ same ∙ ipv6_number b i.count)
     in
     ap ipv6_from (sym (segments_again (ipv6_segments a)) ∙ ap segments_of octets ∙ segments_again (ipv6_segments b))
 

@@ -2,7 +2,7 @@
 -- and octets spell each number that is small enough.
 use Rattle.std.proofs.Common.{◌≡◌, ℕ, zero, suc, ◌+◌, ◌*◌, ◌/◌, ◌%◌, ◌^◌, ◌<◌, List, [], ◌∷◌, length, refl, sym, ◌∙◌, ap, ap₂, subst, arith, lit<, mul-le-mul_left, mod-eq_of_lt, pow-suc}
 use Rattle.std.specs.Prelude.{All}
-use Rattle.std.specs.Int.{bytes_high_first, byte_at, from_be_bytes, to_be_bytes, w32, w128}
+use Rattle.std.specs.Int.{bytes_high_first, byte_at}
 use Rattle.std.specs.Net.Addr.{octets_of, segments_of}
 use Rattle.std.proofs.lemmas.List.Elements.{All-nil, All-cons, All-head, All-tail}
 use Rattle.std.proofs.lemmas.Nat.{div-add-mod', div-mul-add, mod-mul-add}

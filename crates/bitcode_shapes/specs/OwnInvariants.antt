@@ -1,7 +1,6 @@
 -- A type with an invariant of its own, under which its values correspond one to one to those of a lawful type: an
 -- address, whose octets are four bytes, corresponds to the number that they spell.
 use Rattle.std.proofs.Common.{◌≡◌, Bool, subst, sym}
-use Rattle.std.specs.Prelude.{IsTrue}
 use Rattle.bitcode_shapes.specs.Datum.{Datum}
 use Rattle.bitcode_shapes.specs.Shape.{Shape}
 use Rattle.bitcode_shapes.specs.ArrayCounts.{ListsSameArrays}

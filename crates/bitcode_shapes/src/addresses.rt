@@ -45,10 +45,14 @@ impl Shaped for IpAddr {
     ghost data = { key_as
         (data_as ip_family ip_found ip_again ⟦<Result<Ipv4Addr, Ipv6Addr> as Shaped>⟧.data)
         ⟦<IpAddr as PartialEq>⟧.eq ⟦<IpAddr as Ord>⟧.cmp
-        (elim [ Ip.V4 a ↦ elim [ Ip.V4 b ↦ refl | Ip.V6 b ↦ refl ]
-        | Ip.V6 a ↦ elim [ Ip.V4 b ↦ refl | Ip.V6 b ↦ refl ] ])
-        (elim [ Ip.V4 a ↦ elim [ Ip.V4 b ↦ refl | Ip.V6 b ↦ refl ]
-        | Ip.V6 a ↦ elim [ Ip.V4 b ↦ refl | Ip.V6 b ↦ refl ] ]) };
+        (elim [
+          | Ip.V4 a ↦ elim [ Ip.V4 b ↦ refl | Ip.V6 b ↦ refl ]
+          | Ip.V6 a ↦ elim [ Ip.V4 b ↦ refl | Ip.V6 b ↦ refl ]
+        ])
+        (elim [
+          | Ip.V4 a ↦ elim [ Ip.V4 b ↦ refl | Ip.V6 b ↦ refl ]
+          | Ip.V6 a ↦ elim [ Ip.V4 b ↦ refl | Ip.V6 b ↦ refl ]
+        ]) };
 
     fn told(&self) {
         match self {
@@ -115,10 +119,14 @@ impl Shaped for SocketAddr {
         (data_as socket_family socket_found socket_again
         ⟦<Result<SocketAddrV4, SocketAddrV6> as Shaped>⟧.data)
         ⟦<SocketAddr as PartialEq>⟧.eq ⟦<SocketAddr as Ord>⟧.cmp
-        (elim [ Socket.V4 a ↦ elim [ Socket.V4 b ↦ refl | Socket.V6 b ↦ refl ]
-        | Socket.V6 a ↦ elim [ Socket.V4 b ↦ refl | Socket.V6 b ↦ refl ] ])
-        (elim [ Socket.V4 a ↦ elim [ Socket.V4 b ↦ refl | Socket.V6 b ↦ refl ]
-        | Socket.V6 a ↦ elim [ Socket.V4 b ↦ refl | Socket.V6 b ↦ refl ] ]) };
+        (elim [
+          | Socket.V4 a ↦ elim [ Socket.V4 b ↦ refl | Socket.V6 b ↦ refl ]
+          | Socket.V6 a ↦ elim [ Socket.V4 b ↦ refl | Socket.V6 b ↦ refl ]
+        ])
+        (elim [
+          | Socket.V4 a ↦ elim [ Socket.V4 b ↦ refl | Socket.V6 b ↦ refl ]
+          | Socket.V6 a ↦ elim [ Socket.V4 b ↦ refl | Socket.V6 b ↦ refl ]
+        ]) };
 
     fn told(&self) {
         match self {
