@@ -37,6 +37,8 @@ TYPES = {
     "PhantomData": Known("std::marker::PhantomData", 1, 0, "parts"),
     "Duration": Known("std::time::Duration", 0, 0, "no"),
     "Uuid": Known("uuid::Uuid", 0, 0, "yes"),
+    **{name: Known(f"std::net::{name}", 0, 0, "yes") for name in ["Ipv4Addr", "Ipv6Addr", "IpAddr"]},
+    **{name: Known(f"std::net::{name}", 0, 0, "yes") for name in ["SocketAddrV4", "SocketAddrV6", "SocketAddr"]},
     "Absent": Known("bitcode::Absent", 1, 0, "no"),
 }
 # The first type of these has to be a key, and to have this derive.

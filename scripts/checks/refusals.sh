@@ -43,7 +43,8 @@ DECODED = [
     (27, "Vec<()>", [3]),
     (28, "NonZeroU32", [4, 1]), (28, "char", [4, 97]),
     (29, "Option<bool>", [2]),
-    (33, "Vec<Result<bool, u32>>", [2, 1, 0, 4, 1]),
+    (33, "Vec<Result<bool, u32>>", [2, 1, 0, 4, 1]), (33, "IpAddr", [1, 8, 1]),
+    (33, "SocketAddr", [0, 0, 1, 0, 0, 127, 80, 0]),
     (35, "Vec<u16>", [17, 1, 43, 1, 10, 255, 255, 0]),
     (36, "Vec<Vec<u8>>", [2, 0, 3, 6, 57]),
     (37, "Vec<&str>", [2, 3, 3, 226, 152, 186, 226, 152, 186]),
@@ -91,6 +92,7 @@ use std::alloc::Global;
 use std::collections::{BTreeMap, BTreeSet, BinaryHeap, HashMap};
 use std::io;
 use std::marker::PhantomData;
+use std::net::{IpAddr, SocketAddr};
 use std::num::NonZeroU32;
 use std::process::ExitCode;
 use std::rc::RcStr;

@@ -1,4 +1,5 @@
 //! Values of each type, by the kind of the type.
+mod addresses;
 mod arrays;
 mod checked;
 mod choices;

@@ -5,6 +5,7 @@ use bitcode_parts::empty::EmptyCoder;
 use bitcode_tuples::decoder::TupleDecoder;
 use bitcode_tuples::encoder::TupleEncoder;
 
+mod addresses;
 mod arrays;
 mod checked;
 mod choices;

@@ -1,6 +1,7 @@
 //! Coders of containers, arrays, pointers, choices, converted types, and types without columns.
 #![tactic(auto)]
 
+pub mod addresses;
 pub mod arrays;
 pub mod choices;
 pub mod convert;
