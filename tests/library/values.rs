@@ -9,6 +9,7 @@ mod heaps;
 mod ints;
 mod lists;
 mod maps;
+mod others;
 mod pointers;
 mod sets;
 mod texts;

@@ -17,11 +17,14 @@ mod ints;
 mod lists;
 mod maps;
 mod markers;
+mod orderings;
 mod pointers;
+mod ranges;
 mod sets;
 mod texts;
 mod tuples;
 mod uuids;
+mod wrappers;
 
 impl HasEncoder for bool {
     type Encoder = BoolEncoder;

@@ -13,5 +13,7 @@ pub mod lists;
 pub mod maps;
 pub mod markers;
 pub mod pointers;
+mod ranges;
 pub mod sets;
 pub mod uuids;
+mod wrappers;
