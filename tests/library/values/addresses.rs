@@ -5,8 +5,11 @@ use std::collections::BTreeMap;
 use std::net::{IpAddr, Ipv4Addr, Ipv6Addr, SocketAddr, SocketAddrV4, SocketAddrV6};
 use std::test::Fail;
 
-const LOCAL: Ipv4Addr = Ipv4Addr::new(127, 0, 0, 1);
-const MAPPED: Ipv6Addr = Ipv6Addr::new(0, 0, 0, 0, 0, 0xffff, 0xc0a8, 0x114);
+const LOCAL: Ipv4Addr = Ipv4Addr::LOCALHOST;
+
+fn mapped() -> Ipv6Addr {
+    Ipv4Addr::new(192, 168, 1, 20).to_ipv6_mapped()
+}
 
 #[test]
 fn ipv4_addresses(rt: HostRuntime) -> Result<(), Got> {
@@ -24,7 +27,7 @@ fn ipv4_addresses(rt: HostRuntime) -> Result<(), Got> {
 fn ipv6_addresses(rt: HostRuntime) -> Result<(), Got> {
     let alloc = rt.alloc();
     both_ways(alloc, Ipv6Addr::LOCALHOST, &[8, 1])?;
-    both_ways(alloc, MAPPED, &[2, 20, 1, 168, 192, 255, 255, 0, 0])
+    both_ways(alloc, mapped(), &[2, 20, 1, 168, 192, 255, 255, 0, 0])
 }
 
 #[test]
@@ -61,12 +64,12 @@ fn conversions_of_addresses(rt: HostRuntime) -> Result<(), Fail> {
     let bits: u32 = LOCAL.convert_into();
     assert_eq!(rt; bits, 0x7f00_0001);
     assert_eq!(rt; Ipv4Addr::convert_from(alloc, bits)?, LOCAL);
-    let wide: u128 = MAPPED.convert_into();
+    let wide: u128 = mapped().convert_into();
     assert_eq!(rt; wide, 0xffff_c0a8_0114);
-    assert_eq!(rt; Ipv6Addr::convert_from(alloc, wide)?, MAPPED);
-    let family: IpAddrConversion = IpAddr::V6(MAPPED).convert_into();
-    assert_eq!(rt; family, Err(MAPPED));
-    assert_eq!(rt; IpAddr::convert_from(alloc, family)?, IpAddr::V6(MAPPED));
+    assert_eq!(rt; Ipv6Addr::convert_from(alloc, wide)?, mapped());
+    let family: IpAddrConversion = IpAddr::V6(mapped()).convert_into();
+    assert_eq!(rt; family, Err(mapped()));
+    assert_eq!(rt; IpAddr::convert_from(alloc, family)?, IpAddr::V6(mapped()));
     let address = SocketAddrV4::new(LOCAL, 80);
     let parts: SocketAddrConversion = SocketAddr::V4(address).convert_into();
     assert_eq!(rt; parts, Ok(address));

@@ -1,6 +1,6 @@
 //! Values of std that the Rust crate lacks: each has the bytes that it wrote for what the value stands for.
-use bitcode_test_support::{Got, agrees, both_ways, holds, refuses, written_and_read};
 use bitcode::Reason;
+use bitcode_test_support::{Got, agrees, both_ways, holds, refuses, written_and_read};
 use std::borrow::CowStr;
 use std::cmp::Ordering;
 use std::num::{Saturating, Wrapping};
