@@ -18,10 +18,13 @@ TYPES = {
     **{name: Known(None, 0, 0, "no") for name in ["f32", "f64"]},
     "BoxedStr": Known("std::boxed::BoxedStr", 0, 0, "yes"),
     "RcStr": Known("std::rc::RcStr", 0, 0, "yes"),
+    "ArcStr": Known("std::sync::ArcStr", 0, 0, "yes"),
+    "CowStr": Known("std::borrow::CowStr", 0, 0, "yes"),
     "ArrayString": Known("arrayvec::ArrayString", 0, 1, "yes"),
     "Vec": Known(None, 1, 0, "parts"),
     "BoxedSlice": Known("std::boxed::BoxedSlice", 1, 0, "parts"),
     "RcSlice": Known("std::rc::RcSlice", 1, 0, "parts"),
+    "ArcSlice": Known("std::sync::ArcSlice", 1, 0, "parts"),
     "VecDeque": Known("std::collections::VecDeque", 1, 0, "parts"),
     "LinkedList": Known("std::collections::LinkedList", 1, 0, "parts"),
     "ArrayVec": Known("arrayvec::ArrayVec", 1, 1, "parts"),
@@ -34,24 +37,31 @@ TYPES = {
     "Result": Known(None, 2, 0, "parts"),
     "Box": Known(None, 1, 0, "parts"),
     "Rc": Known("std::rc::Rc", 1, 0, "parts"),
+    "Arc": Known("std::sync::Arc", 1, 0, "parts"),
+    "Wrapping": Known("std::num::Wrapping", 1, 0, "parts"),
+    "Saturating": Known("std::num::Saturating", 1, 0, "parts"),
+    "Ordering": Known("std::cmp::Ordering", 0, 0, "yes"),
+    "Range": Known("std::ops::Range", 1, 0, "no"),
+    "RangeInclusive": Known("std::ops::RangeInclusive", 1, 0, "no"),
     "PhantomData": Known("std::marker::PhantomData", 1, 0, "parts"),
     "Duration": Known("std::time::Duration", 0, 0, "no"),
     "Uuid": Known("uuid::Uuid", 0, 0, "yes"),
+    **{name: Known(f"std::net::{name}", 0, 0, "yes") for name in ["Ipv4Addr", "Ipv6Addr", "IpAddr"]},
+    **{name: Known(f"std::net::{name}", 0, 0, "yes") for name in ["SocketAddrV4", "SocketAddrV6", "SocketAddr"]},
     "Absent": Known("bitcode::Absent", 1, 0, "no"),
 }
+# Types that borrow from the input, and take its lifetime first.
+BORROWING = {"CowStr"}
 # The first type of these has to be a key, and to have this derive.
 KEYED = {"BTreeSet": "Ord", "HashSet": "Hash", "BinaryHeap": "Ord", "BTreeMap": "Ord", "HashMap": "Hash"}
 INSTEAD = {
     "str": "write `&'a str`, `String`, `BoxedStr` or `RcStr`",
-    "Cow": "write `&'a str` or `String`",
-    "CowStr": "write `&'a str` or `String`",
-    "Arc": "write `Rc<T>` or the value itself",
-    "ArcStr": "write `RcStr`",
-    "ArcSlice": "write `RcSlice<T>`",
+    "Cow": "write `CowStr<'a>`, `&'a str` or `String`",
     "Cell": "write the value itself",
     "RefCell": "write the value itself",
     "PathBuf": "write `String`",
     "OsString": "write `String` or `Vec<u8>`",
+    **{f"Atomic{name.capitalize()}": "write the value itself" for name in ["bool", *INTEGERS]},
     "SystemTime": "write a `Duration` since a time of your choice",
     "Instant": "write a `Duration` since a time of your choice",
     "NonZero": "write `NonZeroU8` and so on",
@@ -152,6 +162,13 @@ class Checker:
             word, lifetime = word_of(self.item), self.item.lifetime or "'a"
             raise Refused(type.line, f"the {word} borrows the text from the input: write `{word} {self.item.name}<{lifetime}>` and `&{lifetime} str`")
 
+    def borrowing(self, type):
+        """Stops where the type does not borrow from the item's input."""
+        lifetime = self.item.lifetime or "'a"
+        if [part.name for part in type.parts if part.kind == "lifetime"] != [self.item.lifetime]:
+            word = word_of(self.item)
+            raise Refused(type.line, f"the {word} borrows the text from the input: write `{word} {self.item.name}<{lifetime}>` and `{type.name}<{lifetime}>`")
+
     def array(self, type):
         element = type.parts[0]
         if not re.fullmatch(r"[0-9][0-9_]*(usize)?", type.name):
@@ -171,8 +188,10 @@ class Checker:
         known = TYPES.get(type.name)
         if not known:
             raise Refused(type.line, f"`{type.name}` is not supported: {self.instead(type)}")
+        if type.name in BORROWING:
+            self.borrowing(type)
         numbers = [part for part in type.parts if part.kind == "number"]
-        types = [part for part in type.parts if part.kind != "number"]
+        types = [part for part in type.parts if part.kind != "number" and not (part.kind == "lifetime" and type.name in BORROWING)]
         if (len(types), len(numbers)) != (known.types, known.numbers):
             raise Refused(type.line, f"`{type.name}` takes {known.types} types and {known.numbers} numbers here")
         if type.name in KEYED and not can_be_key(types[0], self.own, {"Key", KEYED[type.name]}):
@@ -210,10 +229,8 @@ class Checker:
     def instead(self, type):
         """What to write in the place of a type that the library does not write."""
         held = [part for part in type.parts if part.kind != "lifetime"]
-        if type.name in ("Arc", "Cow") and held and held[0].kind == "slice":
-            return f"write `{'Rc' if type.name == 'Arc' else 'Boxed'}Slice<{of_text(held[0].parts[0])}>` or `Vec<{of_text(held[0].parts[0])}>`"
-        if type.name == "Arc" and held and is_unsized(held[0]):
-            return "write `RcStr` or `String`"
+        if type.name == "Cow" and held and held[0].kind == "slice":
+            return f"write `BoxedSlice<{of_text(held[0].parts[0])}>` or `Vec<{of_text(held[0].parts[0])}>`"
         if type.name == "Cow" and held and not is_unsized(held[0]):
             return "write the value itself"
         return INSTEAD.get(type.name, f"a type of your own needs a line `use crate::..::{type.name};` or its declaration above")

@@ -192,9 +192,12 @@ MARK, MARKED = "\n    of: PhantomData<&'a ()>,", "\n            of: PhantomData,
 ARE = "is_variant refl (λ p. refl) (λ p old new h. h) (λ p old h. h) (λ p old new h. h)"
 
 
+POINTERS = ("Box", "Rc", "Arc", "Wrapping", "Saturating", "Range", "RangeInclusive")
+
+
 def is_nothing(type):
     """Whether values of the type have no columns, so that a decoder of them keeps no part of an input."""
-    return type.name == "PhantomData" or type.kind in ("tuple", "array") and all(map(is_nothing, type.parts)) or type.name in ("Box", "Rc") and is_nothing(type.parts[0])
+    return type.name == "PhantomData" or type.kind in ("tuple", "array") and all(map(is_nothing, type.parts)) or type.name in POINTERS and is_nothing(type.parts[0])
 
 
 def groups_of(weights):

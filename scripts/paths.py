@@ -88,14 +88,18 @@ def resolve(items, own, named, taken):
 
 
 def sized(items, notes):
-    """The items with a type that has a size for each `Box` and `Rc` of a text or a slice, which the toolchain does not have."""
+    """The items with a type that has a size for each `Box`, `Rc` and `Arc` of a text or a slice, and each `Cow` of a text, which the toolchain
+    does not have."""
 
     def of_type(type):
         declared, type = of_text(type), type._replace(parts=[of_type(part) for part in type.parts])
-        if type.kind != "path" or type.name not in ("Box", "Rc") or len(type.parts) != 1 or not is_unsized(type.parts[0]):
+        if type.kind == "path" and type.name == "Cow" and len(type.parts) == 2 and (type.parts[1].kind, type.parts[1].name) == ("path", "str"):
+            written = Type("path", "CowStr", type.parts[:1], type.line)
+        elif type.kind == "path" and type.name in ("Box", "Rc", "Arc") and len(type.parts) == 1 and is_unsized(type.parts[0]):
+            inner, head = type.parts[0], "Boxed" if type.name == "Box" else type.name
+            written = Type("path", head + ("Slice" if inner.kind == "slice" else "Str"), inner.parts, type.line)
+        else:
             return type
-        inner, head = type.parts[0], "Boxed" if type.name == "Box" else "Rc"
-        written = Type("path", head + ("Slice" if inner.kind == "slice" else "Str"), inner.parts, type.line)
         notes.append(f"line {type.line}: `{declared}` is written `{of_text(written)}`")
         return written
 

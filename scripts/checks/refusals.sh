@@ -43,14 +43,15 @@ DECODED = [
     (27, "Vec<()>", [3]),
     (28, "NonZeroU32", [4, 1]), (28, "char", [4, 97]),
     (29, "Option<bool>", [2]),
-    (33, "Vec<Result<bool, u32>>", [2, 1, 0, 4, 1]),
+    (33, "Vec<Result<bool, u32>>", [2, 1, 0, 4, 1]), (33, "IpAddr", [1, 8, 1]),
+    (33, "SocketAddr", [0, 0, 1, 0, 0, 127, 80, 0]),
     (35, "Vec<u16>", [17, 1, 43, 1, 10, 255, 255, 0]),
     (36, "Vec<Vec<u8>>", [2, 0, 3, 6, 57]),
     (37, "Vec<&str>", [2, 3, 3, 226, 152, 186, 226, 152, 186]),
     (38, "Vec<&str>", [3, 10, 5, 97, 98]), (38, "&str", [255, 6, 255] + [97] * 255),
     (39, "One", [7]), (39, "Vec<Never>", [0]),
     (41, "[i8; 7]", [9, 255, 85]), (41, "Vec<[u8; 0]>", [100]), (41, f"({'u8, ' * 16})", list(range(16))),
-    (41, "Box<u8>", [123]),
+    (41, "Box<u8>", [123]), (41, "Arc<u8>", [123]), (41, "Range<u8>", [3, 9]),
     (41, "RcStr", [3, 98, 111, 120]), (41, "PhantomData<u8>", []),
     (43, "BTreeSet<u8>", [3, 0, 2, 1, 2]), (43, "BTreeSet<u8>", [2, 1, 2]), (43, "BinaryHeap<u8>", [3, 0, 2, 1, 2]),
     (43, "HashMap<u8, u8>", [1, 1, 6]),
@@ -91,9 +92,12 @@ use std::alloc::Global;
 use std::collections::{BTreeMap, BTreeSet, BinaryHeap, HashMap};
 use std::io;
 use std::marker::PhantomData;
+use std::net::{IpAddr, SocketAddr};
 use std::num::NonZeroU32;
+use std::ops::Range;
 use std::process::ExitCode;
 use std::rc::RcStr;
+use std::sync::Arc;
 use std::time::Duration;
 use texts::Text;
 use uuid::Uuid;

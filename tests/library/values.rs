@@ -1,4 +1,5 @@
 //! Values of each type, by the kind of the type.
+mod addresses;
 mod arrays;
 mod checked;
 mod choices;
@@ -8,6 +9,7 @@ mod heaps;
 mod ints;
 mod lists;
 mod maps;
+mod others;
 mod pointers;
 mod sets;
 mod texts;

@@ -56,6 +56,9 @@ pub use bitcode_memory::fast::{
 pub use bitcode_memory::ints::{Int, SizedInt, SizedUInt};
 pub use bitcode_memory::minmax::minmax;
 pub use bitcode_memory::refuse::{err, error};
+pub use bitcode_parts::addresses::{
+    IpAddrConversion, SocketAddrConversion, SocketAddrV4Conversion, SocketAddrV6Conversion,
+};
 pub use bitcode_parts::arrays::{ArrayDecoder, ArrayEncoder};
 pub use bitcode_parts::choices::option::{OptionDecoder, OptionEncoder};
 pub use bitcode_parts::choices::result::{ResultDecoder, ResultEncoder};

@@ -9,8 +9,10 @@ pub use crate::str::encoder::StrEncoder;
 pub use crate::str::fixed::ArrayStringDecoder;
 use arrayvec::ArrayString;
 use bitcode_shapes::shaped::Shaped;
+use std::borrow::CowStr;
 use std::boxed::BoxedStr;
 use std::rc::RcStr;
+use std::sync::ArcStr;
 
 mod decoder;
 mod encoder;
@@ -51,6 +53,22 @@ impl AsText for BoxedStr {
 }
 
 impl AsText for RcStr {
+    fn as_text(&self) -> &str {
+        self.as_str()
+    }
+
+    ghost as_text_columns = { λ ds. refl };
+}
+
+impl AsText for ArcStr {
+    fn as_text(&self) -> &str {
+        self.as_str()
+    }
+
+    ghost as_text_columns = { λ ds. refl };
+}
+
+impl<'a> AsText for CowStr<'a> {
     fn as_text(&self) -> &str {
         self.as_str()
     }

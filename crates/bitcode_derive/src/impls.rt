@@ -5,6 +5,7 @@ use bitcode_parts::empty::EmptyCoder;
 use bitcode_tuples::decoder::TupleDecoder;
 use bitcode_tuples::encoder::TupleEncoder;
 
+mod addresses;
 mod arrays;
 mod checked;
 mod choices;
@@ -16,11 +17,14 @@ mod ints;
 mod lists;
 mod maps;
 mod markers;
+mod orderings;
 mod pointers;
+mod ranges;
 mod sets;
 mod texts;
 mod tuples;
 mod uuids;
+mod wrappers;
 
 impl HasEncoder for bool {
     type Encoder = BoolEncoder;

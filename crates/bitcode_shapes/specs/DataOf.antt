@@ -8,9 +8,10 @@ use Rattle.bitcode_shapes.specs.ArrayCounts.{ListsSameArrays}
 use Rattle.bitcode_shapes.specs.CompareAlike.{CompareAlike, alike_as, images_alike, ones_alike}
 use Rattle.bitcode_shapes.specs.Lawful.{Lawful, Makeable}
 use Rattle.bitcode_shapes.specs.LawfulImages.{image_lawful, image_makeable}
+use Rattle.bitcode_shapes.specs.OwnInvariants.{whole_exact, whole_lawful, whole_makeable, whole_same_arrays, whole_same_data}
 use Rattle.bitcode_shapes.specs.SameArrays.{image_same_arrays}
 use Rattle.bitcode_shapes.specs.SameData.{HoldSameData, images_same_data}
-use Rattle.bitcode_shapes.specs.SameIsOne.{AreExact, images_exact, inexact}
+use Rattle.bitcode_shapes.specs.SameIsOne.{AreExact, SameIsOne, images_exact, inexact}
 
 -- `==` calls values equal that are the same
 abbrev pub TellsEqual : {T : Type 0} → (T → Type 0) → (T → T → Type 0) → (T → T → Bool) → Type 0
@@ -92,6 +93,15 @@ data_as parts of_parts one_to_one of =
     data_of (image_lawful parts of.lawful) (image_makeable parts (λ g p h. of_parts p) of.makeable) (image_same_arrays parts of.same_arrays)
     (images_same_data parts of.same_data) (images_exact parts (λ p. (of_parts p).0) one_to_one of.are_exact)
     (images_alike parts of.alike) (λ t u h i s. of.tells (parts t) (parts u) h i s)
+
+-- for a type with an invariant of its own, under which its values correspond one to one to those of another type, such as
+-- an address with its number; its `==` and order are given
+abbrev pub data_where : {T P : Type 0} {eq : T → T → Bool} {cmp : T → T → Ordering} (parts : T → P) (is_whole : T → Type 0) (of : DataOf P)
+    → ((t : T) → is_whole t → of.is_value (parts t)) → ((p : P) → of.is_value p → (t : T) × (is_whole t × (parts t ≡ p))) → SameIsOne is_whole (λ t u. parts t ≡ parts u)
+    → CompareAlike eq cmp → TellsEqual is_whole (λ t u. of.same (parts t) (parts u)) eq → DataOf T
+data_where parts is_whole of fits of_parts one_to_one alike tells =
+    data_of (whole_lawful parts is_whole fits of.lawful) (whole_makeable parts is_whole fits of_parts of.makeable) (whole_same_arrays parts is_whole fits of.same_arrays)
+    (whole_same_data parts is_whole fits of.same_data) (whole_exact parts is_whole fits one_to_one of.are_exact) alike tells
 
 -- for a key whose `==` and order give the answers of the record's, but are written differently
 abbrev pub key_as : {T : Type 0} (of : DataOf T) (eq : T → T → Bool) (cmp : T → T → Ordering) → ((t u : T) → eq t u ≡ of.eq t u) → ((t u : T) → cmp t u ≡ of.cmp t u) → DataOf T

@@ -24,7 +24,7 @@ bools_equal is_value true false h i s = cc
 bools_equal is_value false true h i s = cc
 bools_equal is_value false false h i s = refl
 
-natural_once : {m n : ℕ} → pos m ≡ pos n → m ≡ n
+pub natural_once : {m n : ℕ} → pos m ≡ pos n → m ≡ n
 natural_once e = cc
 
 module _ {T : Type 0} (is_value : T → Type 0) where

@@ -3,9 +3,14 @@ use Rattle.std.proofs.Common.{◌≡◌, ℕ, ◌^◌, ◌<◌, true, Option, No
 use Rattle.std.specs.Prelude.{IsUtf8}
 use Rattle.std.specs.declared.alloc.Global.{Global}
 use Rattle.std.specs.Prelude.{String, string_bytes}
+use Rattle.std.specs.declared.borrow.CowStr.{CowStr}
+use Rattle.std.specs.declared.borrow.CowStr.TheVariants.{Owned}
 use Rattle.std.specs.declared.boxed.BoxedStr.{BoxedStr}
 use Rattle.std.specs.declared.rc.RcStr.{RcStr}
+use Rattle.std.specs.declared.sync.ArcStr.{ArcStr}
+use Rattle.std.specs.Arc.{arc_str_bytes}
 use Rattle.std.specs.Box.{boxed_str_bytes}
+use Rattle.std.specs.Cow.{cow_str_bytes}
 use Rattle.std.specs.Rc.{rc_str_bytes}
 use denote.RawPtr.{block_ptr}
 use denote.Ref.{Bor}
@@ -74,6 +79,16 @@ pub rc_str_built : Global → (whole : List ℕ) → length whole < 2 ^ 63 → I
 rc_str_built g whole small utf8 =
     let inner = string_built g whole small utf8 in
     (record { text = record { ptr = block_ptr 0 0; value = inner.0 } }, inner.1)
+
+pub arc_str_built : Global → (whole : List ℕ) → length whole < 2 ^ 63 → IsUtf8 whole → (t : ArcStr Global) × (arc_str_bytes t ≡ whole)
+arc_str_built g whole small utf8 =
+    let inner = string_built g whole small utf8 in
+    (record { text = record { ptr = block_ptr 0 0; value = inner.0 } }, inner.1)
+
+pub cow_str_built : Global → (whole : List ℕ) → length whole < 2 ^ 63 → IsUtf8 whole → (t : CowStr Global) × (cow_str_bytes t ≡ whole)
+cow_str_built g whole small utf8 =
+    let inner = string_built g whole small utf8 in
+    (Owned inner.0, inner.1)
 
 pub str_built : (whole : List ℕ) → length whole < 2 ^ 63 → IsUtf8 whole → (t : Bor (List ℕ)) × (t.now ≡ whole)
 str_built whole small utf8 = (record { ref_ptr = (0, 0); now = whole }, refl)

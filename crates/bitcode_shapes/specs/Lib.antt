@@ -25,6 +25,7 @@ pub mod Texts
 pub mod LawfulTexts
 pub mod Checked
 pub mod LawfulChecked
+pub mod Octets
 pub mod Durations
 pub mod LawfulDurations
 pub mod Arrays
@@ -44,9 +45,11 @@ pub mod BuiltMaps
 pub mod SameArrays
 pub mod SameData
 pub mod SameIsOne
+pub mod OwnInvariants
 pub mod DataOf
 pub mod DataKinds
 pub mod LeafData
+pub mod Addresses
 pub mod SetData
 pub mod BareKeys
 pub mod KeyLaws

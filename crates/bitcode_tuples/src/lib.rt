@@ -6,5 +6,6 @@ pub mod encoder;
 pub mod fields;
 pub mod has_field;
 pub mod part_encoder;
+mod range_fields;
 pub mod struct_encoder;
 mod tuple_fields;

@@ -24,9 +24,11 @@ use bitcode_memory::error::{Error, Reason};
 use bitcode_memory::fast::{FastSlice, NextUnchecked};
 use bitcode_memory::refuse::err;
 use std::alloc::Global;
+use std::borrow::CowStr;
 use std::boxed::BoxedStr;
 use std::rc::RcStr;
 use std::str::{from_utf8, from_utf8_unchecked};
+use std::sync::ArcStr;
 
 // Fewer bytes are looked at one by one.
 const FEW: usize = 64;
@@ -280,6 +282,27 @@ impl<'a> Decoder<RcStr> for StrDecoder<'a> {
     fn decode(&mut self) -> Result<RcStr, Error> {
         let text = self.take_text();
         Ok(RcStr::from_str(self.alloc, text)?)
+    }
+
+    ghost same_shape = { refl };
+}
+
+impl<'a> Decoder<ArcStr> for StrDecoder<'a> {
+    ghost makes_free = { false };
+
+    fn decode(&mut self) -> Result<ArcStr, Error> {
+        let text = self.take_text();
+        Ok(ArcStr::from_str(self.alloc, text)?)
+    }
+
+    ghost same_shape = { refl };
+}
+
+impl<'a> Decoder<CowStr<'a>> for StrDecoder<'a> {
+    ghost makes_free = { true };
+
+    fn decode(&mut self) -> Result<CowStr<'a>, Error> {
+        Ok(CowStr::Borrowed(self.take_text()))
     }
 
     ghost same_shape = { refl };

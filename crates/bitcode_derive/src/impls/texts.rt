@@ -2,8 +2,10 @@
 use crate::derive::{DecodeOwned, HasDecoder, HasEncoder};
 use bitcode_coder::str::{StrDecoder, StrEncoder};
 use bitcode_ints::u8_char::{U8Char, U8CharEncoder};
+use std::borrow::CowStr;
 use std::boxed::BoxedStr;
 use std::rc::RcStr;
+use std::sync::ArcStr;
 
 impl<'a> HasEncoder for &'a str {
     type Encoder = StrEncoder;
@@ -42,6 +44,24 @@ impl<'a> HasDecoder<'a> for RcStr {
 }
 
 impl DecodeOwned for RcStr {}
+
+impl HasEncoder for ArcStr {
+    type Encoder = StrEncoder;
+}
+
+impl<'a> HasDecoder<'a> for ArcStr {
+    type Decoder = StrDecoder<'a>;
+}
+
+impl DecodeOwned for ArcStr {}
+
+impl<'a> HasEncoder for CowStr<'a> {
+    type Encoder = StrEncoder;
+}
+
+impl<'a> HasDecoder<'a> for CowStr<'a> {
+    type Decoder = StrDecoder<'a>;
+}
 
 impl HasEncoder for U8Char {
     type Encoder = U8CharEncoder;

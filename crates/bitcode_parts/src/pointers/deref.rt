@@ -13,6 +13,7 @@ use bitcode_shapes::shaped::Shaped;
 use std::alloc::Global;
 use std::boxed::BoxedSlice;
 use std::rc::RcSlice;
+use std::sync::ArcSlice;
 
 /// A type whose values point to one value of another type and are written as that value, such as `Box`.
 ///
@@ -137,6 +138,19 @@ impl<T: Shaped, E: Buffer + Encoder<T>> Encoder<RcSlice<T>> for DerefEncoder<Vec
     fn encode(&mut self, t: &RcSlice<T>) -> Result<(), Error> {
         let items = t.as_slice();
         self.inner.encode(&items)
+    }
+
+    ghost of_shape = { λ e. ap (two (one (lengths None) [])) (E.of_shape e.inner.elements) };
+
+    ghost surely = { λ e n never. absurd never };
+}
+
+impl<T: Shaped, E: Buffer + Encoder<T>> Encoder<ArcSlice<T>> for DerefEncoder<VecEncoder<E>> {
+    ghost writes_free = { false };
+
+    fn encode(&mut self, t: &ArcSlice<T>) -> Result<(), Error> {
+        let elements = t.as_slice();
+        self.inner.encode(&elements)
     }
 
     ghost of_shape = { λ e. ap (two (one (lengths None) [])) (E.of_shape e.inner.elements) };
