@@ -11,6 +11,7 @@ pub mod Machine
 pub mod Faults
 pub mod Cases
 pub mod Content
+pub mod Same
 pub mod Bounds
 pub mod Nodes
 pub mod Spelling
