@@ -32,4 +32,3 @@ pub mod TypedLemmas
 pub mod ThereLemmas
 pub mod AgreementLemmas
 pub mod SameLemmas
-pub mod SameVariantLemmas

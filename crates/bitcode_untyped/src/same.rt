@@ -4,7 +4,7 @@ ghost use Rattle.std.specs.Float.{binary32, binary64};
 ghost use Rattle.std.specs.Cmp.Lexicographic.{pointwise};
 ghost use Rattle.bitcode_untyped.specs.Content.{content_of};
 ghost use Rattle.bitcode_untyped.specs.Same.{same_values, same_pairs};
-ghost use Rattle.bitcode_untyped.proofs.SameLemmas.{same_partial, same_equivalence};
+ghost use Rattle.bitcode_untyped.specs.SameLaws.{same_partial, same_equivalence};
 
 use crate::value::Value;
 use std::num::{f32_to_bits_with_nan, f64_to_bits_with_nan};
@@ -128,7 +128,12 @@ fn all_pairs_same(pairs: &[(Value, Value)], others: &[(Value, Value)]) -> bool
         return false;
     }
     for i in 0..pairs.len() {
-        if !same(&pairs[i].0, &others[i].0) || !same(&pairs[i].1, &others[i].1) {
+        let pair = &pairs[i];
+        let other = &others[i];
+        if !same(&pair.0, &other.0) {
+            return false;
+        }
+        if !same(&pair.1, &other.1) {
             return false;
         }
     }
