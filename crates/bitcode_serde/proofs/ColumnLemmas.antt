@@ -1,6 +1,7 @@
 -- What is read of one column, in terms of its kind.
 use Rattle.std.proofs.Common.{◌≡◌, ℕ, Bool, true, false, None, List, [], ◌∷◌, ◌++◌, All, append_assoc, length, map, refl, ap, sym, subst, ◌∙◌, lit<}
 use lib.Ieee.Bits.{of_bits-fits}
+use Rattle.std.specs.Float.{Format}
 use Rattle.std.specs.Prelude.{IsTrue, ◌↔◌, Result, Err, IfErr, from_bits}
 use Rattle.std.proofs.lemmas.List.{length-map, map-append}
 use Rattle.std.proofs.lemmas.List.Elements.{All-map, All-weaker}
@@ -47,6 +48,9 @@ truth_below : (b : Bool) → IsNaturalBelow 2 (truth b)
 truth_below true = record { value = 1; is = refl; below = lit< tt }
 truth_below false = record { value = 0; is = refl; below = lit< tt }
 
+is_float : (format : Format) (bits : ℕ) → IsFloatOf format (float_of_bits format bits)
+is_float format bits = record { value = from_bits format bits; is = refl; in_format = of_bits-fits format bits }
+
 -- a kind without a limit
 abbrev is_plain : Kind → Bool
 is_plain bools = true
@@ -63,9 +67,7 @@ are_entries (ints width signed) plain known piece ds s =
     (All-map (IsNumberOf width signed any_number) (number_of_residue width signed) s.entries
     (λ k d g. number_is width signed any_number _ (some_width width known) (s.spelled.in_width k d g) tt))
 are_entries (floats format) plain known piece ds s =
-    subst (All (IsFloatOf format)) (sym s.are)
-    (All-map (IsFloatOf format) (float_of_bits format) s.entries
-    (λ k d g. record { value = from_bits format _; is = refl; in_format = of_bits-fits format _ }))
+    subst (All (IsFloatOf format)) (sym s.are) (All-map (IsFloatOf format) (float_of_bits format) s.entries (λ k d g. is_float format _))
 are_entries (lengths None) plain known piece ds s =
     subst (All (IsEntryOf (lengths None))) (sym s.are) (All-map (IsEntryOf (lengths None)) natural s.entries (λ k d g. (_, (refl, tt))))
 are_entries (texts None) plain known piece ds s =
