@@ -4,4 +4,5 @@ mod limits;
 mod once;
 mod sealed;
 mod serde;
+mod serde_floats;
 mod strict_calls;

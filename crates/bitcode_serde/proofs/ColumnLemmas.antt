@@ -1,6 +1,8 @@
 -- What is read of one column, in terms of its kind.
 use Rattle.std.proofs.Common.{◌≡◌, ℕ, Bool, true, false, None, List, [], ◌∷◌, ◌++◌, All, append_assoc, length, map, refl, ap, sym, subst, ◌∙◌, lit<}
-use Rattle.std.specs.Prelude.{IsTrue, ◌↔◌, Result, Err, IfErr}
+use lib.Ieee.Bits.{of_bits-fits}
+use Rattle.std.specs.Float.{Format}
+use Rattle.std.specs.Prelude.{IsTrue, ◌↔◌, Result, Err, IfErr, from_bits}
 use Rattle.std.proofs.lemmas.List.{length-map, map-append}
 use Rattle.std.proofs.lemmas.List.Elements.{All-map, All-weaker}
 use Rattle.bitcode_memory.specs.declared.error.Error.{Error}
@@ -9,12 +11,12 @@ use Rattle.bitcode_memory.specs.declared.error.Reason.TheVariants.{OutOfMemory}
 use Rattle.bitcode_columns.specs.Reading.{Reads}
 use Rattle.bitcode_columns.proofs.IntColumnLemmas.{some_width}
 use Rattle.bitcode_shapes.specs.Datum.{Datum, text}
-use Rattle.bitcode_shapes.specs.Shape.{Shape, IsOf, IsNumberOf, IsNaturalBelow, IsTextOf, any_number}
+use Rattle.bitcode_shapes.specs.Shape.{Shape, IsOf, IsNumberOf, IsFloatOf, IsNaturalBelow, IsTextOf, any_number}
 use Rattle.bitcode_coder.specs.Coder.{IsReadingRefusal, written_columns}
-use Rattle.bitcode_coder.specs.Columns.{Kind, Columns, ints, bools, texts, lengths, one, CountsFit, IsEntryOf, IsSoundKind}
+use Rattle.bitcode_coder.specs.Columns.{Kind, Columns, ints, floats, bools, texts, lengths, one, CountsFit, IsEntryOf, IsSoundKind}
 use Rattle.bitcode_coder.specs.LengthColumn.{SpellsLengths, length_bytes}
 use Rattle.bitcode_coder.specs.LengthParts.{NamesLengthFault}
-use Rattle.bitcode_coder.specs.Spelling.{Spells, SpellsColumn, SpellsColumns, natural, truth, number_of_residue}
+use Rattle.bitcode_coder.specs.Spelling.{Spells, SpellsColumn, SpellsColumns, natural, truth, number_of_residue, float_of_bits}
 use Rattle.bitcode_coder.specs.Strict.{JudgesColumn, JudgesData, Judges}
 use Rattle.bitcode_coder.specs.Transposition.{columns_of}
 use Rattle.bitcode_coder.proofs.IntLemmas.{number_is}
@@ -46,10 +48,14 @@ truth_below : (b : Bool) → IsNaturalBelow 2 (truth b)
 truth_below true = record { value = 1; is = refl; below = lit< tt }
 truth_below false = record { value = 0; is = refl; below = lit< tt }
 
+is_float : (format : Format) (bits : ℕ) → IsFloatOf format (float_of_bits format bits)
+is_float format bits = record { value = from_bits format bits; is = refl; in_format = of_bits-fits format bits }
+
 -- a kind without a limit
 abbrev is_plain : Kind → Bool
 is_plain bools = true
 is_plain (ints width signed) = true
+is_plain (floats format) = true
 is_plain (lengths None) = true
 is_plain (texts None) = true
 is_plain _ = false
@@ -60,6 +66,8 @@ are_entries (ints width signed) plain known piece ds s =
     subst (All (IsNumberOf width signed any_number)) (sym s.are)
     (All-map (IsNumberOf width signed any_number) (number_of_residue width signed) s.entries
     (λ k d g. number_is width signed any_number _ (some_width width known) (s.spelled.in_width k d g) tt))
+are_entries (floats format) plain known piece ds s =
+    subst (All (IsFloatOf format)) (sym s.are) (All-map (IsFloatOf format) (float_of_bits format) s.entries (λ k d g. is_float format _))
 are_entries (lengths None) plain known piece ds s =
     subst (All (IsEntryOf (lengths None))) (sym s.are) (All-map (IsEntryOf (lengths None)) natural s.entries (λ k d g. (_, (refl, tt))))
 are_entries (texts None) plain known piece ds s =

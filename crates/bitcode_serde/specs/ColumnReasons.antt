@@ -1,5 +1,6 @@
 -- Why the columns of values are refused.
 use Rattle.std.proofs.Common.{ℕ, Bool, ◌*◌, ◌%◌, ◌^◌, ltb, leb, eqb, Option, Some, None, List, [], ◌∷◌, length, sum, drop, inl, inr, sym, subst}
+use Rattle.std.specs.Float.{Format, binary32, binary64}
 use Rattle.std.proofs.lemmas.Bool.{cond_both}
 use Rattle.bitcode_memory.specs.declared.error.Reason.{Reason}
 use Rattle.bitcode_memory.specs.declared.error.Reason.TheVariants.{Eof, InvalidPacking, LengthOverflow, HugeLength}
@@ -8,7 +9,7 @@ use Rattle.bitcode_columns.specs.IntColumn.{IntForm, bytes_form, bare_form, tagg
 use Rattle.bitcode_columns.specs.Reading.{missing, digits_fault, bytes_fault, tagged_fault, narrow_fault, ints_fault_as, ints_fault, Names}
 use Rattle.bitcode_columns.specs.Tagged.{level_of_tag}
 use Rattle.bitcode_shapes.specs.Ints.{int_shape}
-use Rattle.bitcode_coder.specs.Faults.{NamesBoolsFault, NamesIntsFault, in_column, not_allowed}
+use Rattle.bitcode_coder.specs.Faults.{NamesBoolsFault, NamesIntsFault, NamesFloatsFault, in_column, not_allowed}
 use Rattle.bitcode_coder.specs.FirstFault.{IsFirstFault}
 use Rattle.bitcode_coder.specs.LengthColumn.{length_limit, lengths_from}
 use Rattle.bitcode_coder.specs.LengthParts.{NamesLengthFault, in_short, in_large, in_sum, sum_fault}
@@ -69,6 +70,10 @@ pub numbers_reason : (width : ℕ) (signed : Bool) (reason : Reason) (count : �
     → IsColumnReason reason
 numbers_reason width signed reason count input (in_column h) = ints_reason width reason count input h
 numbers_reason width signed reason count input (not_allowed entries rest is read broken) = absurd (broken (λ k n h. tt))
+
+pub floats_reason : (format : Format) (reason : Reason) (count : ℕ) (input : List ℕ) → NamesFloatsFault format reason count input → IsColumnReason reason
+floats_reason binary32 reason count input h = subst IsColumnFault h (missing_fault (count * 4) input)
+floats_reason binary64 reason count input h = ints_reason 8 reason count input h
 
 pub lengths_reason : (reason : Reason) (count : ℕ) (input : List ℕ) → NamesLengthFault reason count input → IsColumnReason reason
 lengths_reason reason count input (in_short h) = by_name reason (bytes_fault count input) (fault_of_bytes count input) h.named

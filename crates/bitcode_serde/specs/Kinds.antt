@@ -1,12 +1,15 @@
 -- The kinds of columns. Each leaf with a column of its own has a line in every table here.
 use Rattle.std.specs.Prelude.{ℕ, pos, true, false, None, List, [], ◌∷◌, map}
+use Rattle.std.specs.Float.{binary32, binary64}
 use Rattle.bitcode_memory.specs.Fast.{slice_rest, cow_rest, fast_items}
+use Rattle.bitcode_float_columns.specs.Split.{split_rest}
 use Rattle.bitcode_shapes.specs.Datum.{Datum, text}
-use Rattle.bitcode_coder.specs.Columns.{Kind, bools, ints, lengths, texts}
+use Rattle.bitcode_coder.specs.Columns.{Kind, bools, ints, floats, lengths, texts}
 use Rattle.bitcode_coder.specs.Cutting.{cut}
 use Rattle.bitcode_coder.specs.Length.{lengths_left, written_lengths}
 use Rattle.bitcode_coder.specs.Spelling.{natural, truth}
 use Rattle.bitcode_ints.specs.Int.{bytes_data, int_data}
+use Rattle.bitcode_floats.specs.Floats.{data_of_floats, data_of_bits, long_bits}
 use Rattle.bitcode_serde.specs.Indices.{indices_left}
 use Rattle.bitcode_serde.specs.declared.column.ColumnKind.{ColumnKind}
 use Rattle.bitcode_serde.specs.declared.column.ColumnKind.TheVariants as kind
@@ -27,6 +30,8 @@ kind_of kind.I16 = ints 2 true
 kind_of kind.I32 = ints 4 true
 kind_of kind.I64 = ints 8 true
 kind_of kind.I128 = ints 16 true
+kind_of kind.F32 = floats binary32
+kind_of kind.F64 = floats binary64
 kind_of kind.Lengths = lengths None
 kind_of kind.Texts = texts None
 
@@ -43,8 +48,10 @@ kind_index kind.I16 = 7
 kind_index kind.I32 = 8
 kind_index kind.I64 = 9
 kind_index kind.I128 = 10
-kind_index kind.Lengths = 11
-kind_index kind.Texts = 12
+kind_index kind.F32 = 11
+kind_index kind.F64 = 12
+kind_index kind.Lengths = 13
+kind_index kind.Texts = 14
 
 -- what a column is of, and entries in it
 pub record Holding : Type 0 where
@@ -67,6 +74,8 @@ left_in (column.I16 d) = holding kind.I16 (bytes_data 2 true (λ bytes. bytes) (
 left_in (column.I32 d) = holding kind.I32 (bytes_data 4 true (λ bytes. bytes) (cow_rest d.values))
 left_in (column.I64 d) = holding kind.I64 (bytes_data 8 true (λ bytes. bytes) (cow_rest d.values))
 left_in (column.I128 d) = holding kind.I128 (bytes_data 16 true (λ bytes. bytes) (cow_rest d.values))
+left_in (column.F32 d) = holding kind.F32 (data_of_bits binary32 (split_rest d.bits))
+left_in (column.F64 d) = holding kind.F64 (data_of_bits binary64 (long_bits (cow_rest d.values)))
 left_in (column.Lengths d) = holding kind.Lengths (map natural (lengths_left d))
 left_in (column.Texts d) = holding kind.Texts (map text (cut (lengths_left d.lengths) (slice_rest d.bytes)))
 
@@ -83,5 +92,7 @@ written_in (written.I16 e) = holding kind.I16 (int_data (λ z. z) (fast_items e.
 written_in (written.I32 e) = holding kind.I32 (int_data (λ z. z) (fast_items e.values))
 written_in (written.I64 e) = holding kind.I64 (int_data (λ z. z) (fast_items e.values))
 written_in (written.I128 e) = holding kind.I128 (int_data (λ z. z) (fast_items e.values))
+written_in (written.F32 e) = holding kind.F32 (data_of_floats binary32 (fast_items e.values))
+written_in (written.F64 e) = holding kind.F64 (map natural (fast_items e.bits))
 written_in (written.Lengths e) = holding kind.Lengths (map natural (written_lengths e))
 written_in (written.Texts e) = holding kind.Texts (map text (cut (written_lengths e.lengths) (fast_items e.bytes)))

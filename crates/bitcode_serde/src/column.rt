@@ -21,6 +21,8 @@ use crate::serde::VariantDecoder;
 use bitcode_coder::bool::{BoolDecoder, BoolEncoder};
 use bitcode_coder::length::{LengthDecoder, LengthEncoder};
 use bitcode_coder::str::{StrDecoder, StrEncoder};
+use bitcode_floats::float32::{F32Decoder, F32Encoder};
+use bitcode_floats::float64::{F64Decoder, F64Encoder};
 use bitcode_ints::int::{IntDecoder, IntEncoder};
 use bitcode_untyped::shape::ShapeNode;
 use bitcode_untyped::value::Value;
@@ -41,6 +43,8 @@ pub enum ColumnKind {
     I32,
     I64,
     I128,
+    F32,
+    F64,
     Lengths,
     Texts,
 }
@@ -79,6 +83,8 @@ pub enum Column<'a> {
     I32(IntDecoder<'a, i32>),
     I64(IntDecoder<'a, i64>),
     I128(IntDecoder<'a, i128>),
+    F32(F32Decoder<'a>),
+    F64(F64Decoder<'a>),
     Lengths(LengthDecoder<'a>),
     Texts(StrDecoder<'a>),
 }
@@ -97,6 +103,8 @@ pub enum WrittenColumn {
     I32(IntEncoder<i32>),
     I64(IntEncoder<i64>),
     I128(IntEncoder<i128>),
+    F32(F32Encoder),
+    F64(F64Encoder),
     Lengths(LengthEncoder),
     Texts(StrEncoder),
 }
@@ -117,6 +125,8 @@ macro_rules! for_leaves {
             I32: i32,
             I64: i64,
             I128: i128,
+            F32: f32,
+            F64: f64,
             Texts: String,
         }
     };
@@ -142,6 +152,8 @@ pub fn column_kind(node: &ShapeNode) -> Option<ColumnKind>
         ShapeNode::I32 => Some(kind_at::<i32>(node)),
         ShapeNode::I64 => Some(kind_at::<i64>(node)),
         ShapeNode::I128 => Some(kind_at::<i128>(node)),
+        ShapeNode::F32 => Some(kind_at::<f32>(node)),
+        ShapeNode::F64 => Some(kind_at::<f64>(node)),
         ShapeNode::Str => Some(kind_at::<String>(node)),
         // These have no column of their own.
         ShapeNode::Unit => None,

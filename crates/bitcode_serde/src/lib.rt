@@ -5,6 +5,7 @@ pub mod budget;
 mod case;
 pub mod column;
 pub mod deserialize;
+mod float_cases;
 pub mod free;
 pub mod links;
 pub mod places;

@@ -87,7 +87,7 @@ same_case (Value-F.Tuple v) left n h = cc
 same_case (Value-F.Enum i j) left n h = cc
 same_case z left n h = entry_case (entry_of z) n h
 
-case_kept : {A B : Type 0} (f : A → B) (y : Value-F A) → case_number (map-Value A B f y) ≡ case_number y
+pub case_kept : {A B : Type 0} (f : A → B) (y : Value-F A) → case_number (map-Value A B f y) ≡ case_number y
 case_kept f (Value-F.Option None) = refl
 case_kept f (Value-F.Option (Some b)) = refl
 case_kept f _ = refl

@@ -31,3 +31,4 @@ pub mod FollowedLemmas
 pub mod TypedLemmas
 pub mod ThereLemmas
 pub mod AgreementLemmas
+pub mod SameLemmas

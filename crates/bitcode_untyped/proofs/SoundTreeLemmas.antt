@@ -3,7 +3,7 @@ use Rattle.std.proofs.Common.{◌≡◌, ℕ, zero, suc, Bool, true, false, ◌|
 use Rattle.std.proofs.lemmas.Bool.{eqb-true}
 use Rattle.std.proofs.lemmas.Bool.Decides.{eqb_tells}
 use Rattle.bitcode_shapes.specs.Shape.{IsNumberWidth}
-use Rattle.bitcode_coder.specs.Columns.{Kind, bools, ints, texts, IsSoundKind}
+use Rattle.bitcode_coder.specs.Columns.{Kind, bools, ints, floats, texts, IsSoundKind}
 use Rattle.bitcode_untyped.specs.Leaves.{Leaf, leaf_of_node}
 use Rattle.bitcode_untyped.specs.ShapeTree.{ShapeTree, IsSound, AreSound}
 use Rattle.bitcode_untyped.specs.View.{tree_by, tree_step, tree_of_leaf, trees_of, entry_tree, followed, tree_of}
@@ -35,12 +35,14 @@ width_is w h =
 abbrev pub is_kind : Kind → Bool
 is_kind bools = true
 is_kind (ints width signed) = is_width width
+is_kind (floats format) = true
 is_kind (texts limit) = true
 is_kind _ = false
 
 pub kind_sound : (kind : Kind) → is_kind kind ≡ true → IsSoundKind kind
 kind_sound bools h = tt
 kind_sound (ints width signed) h = width_is width h
+kind_sound (floats format) h = tt
 kind_sound (texts limit) h = tt
 kind_sound _ h = cc
 

@@ -3,7 +3,7 @@ use Rattle.std.proofs.Common.{◌≡◌, ℕ, suc, pos, Option, Some, None, List
 use Rattle.std.specs.List.{AllByRecursion}
 use Rattle.bitcode_shapes.specs.Datum.{Datum, number, text}
 use Rattle.bitcode_shapes.specs.Shape.{IsNaturalBelow}
-use Rattle.bitcode_coder.specs.Columns.{Kind, bools, ints, texts, IsEntryOf}
+use Rattle.bitcode_coder.specs.Columns.{Kind, bools, ints, floats, texts, IsEntryOf}
 use Rattle.bitcode_coder.specs.Spelling.{natural, truth}
 use Rattle.bitcode_untyped.specs.Cases.{IsOfItsType}
 use Rattle.bitcode_untyped.specs.Leaves.{Leaf, Entry, entry_of, same_kind, is_of, IsTyped, IsTypedEntry}
@@ -39,6 +39,7 @@ of_truth false = record { value = 0; is = refl; below = omega arith }
 typed_in : (kind : Kind) (d : Datum) → same_kind kind bools ≡ false → IsTyped kind d → IsEntryOf kind d
 typed_in bools d other t = cc
 typed_in (ints width signed) (number z) other t = record { value = z; is = refl; in_width = t; in_allowed = tt }
+typed_in (floats format) d other t = t
 typed_in (texts None) (text bytes) other t = record { bytes = bytes; is = refl; utf8 = t; within = tt }
 typed_in _ _ other t = absurd t
 

@@ -11,6 +11,8 @@ pub mod Machine
 pub mod Faults
 pub mod Cases
 pub mod Content
+pub mod Same
+pub mod SameLaws
 pub mod Bounds
 pub mod Nodes
 pub mod Spelling
@@ -19,4 +21,5 @@ pub mod Reads
 pub mod Laws
 pub mod Rows
 pub mod ShapeRows
+pub mod SameRows
 pub mod PlaceKinds

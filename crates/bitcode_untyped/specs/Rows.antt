@@ -1,17 +1,19 @@
 -- Worked rows: the columns of some data, and what is written for them, computed from the definitions.
 use Rattle.std.specs.Prelude.{◌≡◌, ℕ, zero, suc, false, negsuc, List, [], ◌∷◌, ◌++◌, replicate, refl}
+use Rattle.std.specs.Float.{binary32, binary64}
 use Rattle.bitcode_memory.specs.LittleEndian.{raw_text}
 use Rattle.bitcode_columns.specs.Digits.{digits_text}
 use Rattle.bitcode_columns.specs.Tagged.{tagged_text}
 use Rattle.bitcode_columns.specs.ByteColumn.{byte_text}
 use Rattle.bitcode_columns.specs.BoolColumn.{bool_text}
 use Rattle.bitcode_columns.specs.IntColumn.{int_text}
+use Rattle.bitcode_float_columns.specs.FloatColumn.{split_text}
 use Rattle.bitcode_shapes.specs.Datum.{Datum, number, unit, text, list, tuple, choice, pair, data_of}
 use Rattle.bitcode_coder.specs.Columns.{bools, ints}
 use Rattle.bitcode_coder.specs.LengthColumn.{length_bytes}
 use Rattle.bitcode_coder.specs.TextColumn.{texts_bytes}
 use Rattle.bitcode_coder.specs.Spelling.{natural}
-use Rattle.bitcode_untyped.specs.ShapeTree.{ShapeTree, IsOf, unit_tree, never_tree, seq_tree, map_tree, tuple_tree, choice_tree, bool_tree, natural_tree, integer_tree, char_tree, text_tree, option_tree}
+use Rattle.bitcode_untyped.specs.ShapeTree.{ShapeTree, IsOf, unit_tree, never_tree, seq_tree, map_tree, tuple_tree, choice_tree, bool_tree, natural_tree, integer_tree, float_tree, char_tree, text_tree, option_tree}
 use Rattle.bitcode_untyped.specs.View.{trees_of}
 use Rattle.bitcode_untyped.specs.Walk.{element, field, length_kind}
 use Rattle.bitcode_untyped.specs.PlacedColumns.{columns_of}
@@ -81,6 +83,15 @@ signed_bytes_text : datum_text (seq_tree (integer_tree 1))
     (seq (natural 0 ∷ minus_one ∷ natural 0 ∷ minus_one ∷ natural 0 ∷ minus_one ∷ natural 0 ∷ [])) ≡ 7 ∷ 9 ∷ 255 ∷ 85 ∷ []
 unfolding length_bytes int_text byte_text tagged_text digits_text raw_text
 signed_bytes_text = refl
+
+-- the three low bytes of each float, and then the top bytes: 1 and -2; as 8 bytes, 0 is packed like a number
+floats_text : datum_text (seq_tree (float_tree binary32)) (seq (natural 1065353216 ∷ natural 3221225472 ∷ [])) ≡ 2 ∷ 0 ∷ 0 ∷ 128 ∷ 0 ∷ 0 ∷ 0 ∷ 63 ∷ 192 ∷ []
+unfolding length_bytes split_text int_text byte_text tagged_text digits_text raw_text
+floats_text = refl
+
+long_zero_text : datum_text (float_tree binary64) (natural 0) ≡ 6 ∷ 0 ∷ []
+unfolding int_text byte_text tagged_text digits_text raw_text
+long_zero_text = refl
 
 -- ---- maps, tuples, options, and the greatest index
 

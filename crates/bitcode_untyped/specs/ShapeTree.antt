@@ -1,9 +1,10 @@
 -- A shape with its references followed away is a tree, and says which data are of it.
 use Rattle.std.specs.Prelude.{◌≡◌, ℕ, zero, suc, ◌≤◌, None, true, false}
+use Rattle.std.specs.Float.{Format}
 use Rattle.std.specs.List.{AllByRecursion}
 use Rattle.bitcode_shapes.specs.Datum.{Datum, Data, unit, list, tuple, choice, no_data, datum_and, data_of, pair, number_in, elements_in, fields_in, first_in, second_in, variant_in, payload_in}
 use Rattle.bitcode_shapes.specs.Shape.{Allowed, any_number, scalar, IsAllowed}
-use Rattle.bitcode_coder.specs.Columns.{Kind, bools, ints, texts, IsEntryOf, IsSoundKind}
+use Rattle.bitcode_coder.specs.Columns.{Kind, bools, ints, floats, texts, IsEntryOf, IsSoundKind}
 
 mutual
   pub data ShapeTree : Type 0 where
@@ -34,6 +35,9 @@ natural_tree width = leaf_tree (ints width false) any_number
 
 abbrev pub integer_tree : ℕ → ShapeTree
 integer_tree width = leaf_tree (ints width true) any_number
+
+abbrev pub float_tree : Format → ShapeTree
+float_tree format = leaf_tree (floats format) any_number
 
 -- a scalar value, in 4 bytes
 abbrev pub char_tree : ShapeTree

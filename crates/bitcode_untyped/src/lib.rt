@@ -2,5 +2,6 @@
 #![tactic(auto)]
 
 pub mod laws;
+mod same;
 pub mod shape;
 pub mod value;

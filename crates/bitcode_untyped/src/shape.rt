@@ -28,6 +28,8 @@ pub enum ShapeNode {
     I32,
     I64,
     I128,
+    F32,
+    F64,
     Char,
     Str,
     /// A list of `U8`, stored as bytes.

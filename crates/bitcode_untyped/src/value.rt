@@ -2,11 +2,14 @@
 
 /// A value of any shape.
 ///
+/// Two values are equal if they have the same case and the same content. Floats have the same content if they have the
+/// same bits, or if both are NaN.
+///
 /// ```
 /// let entry = Value::Tuple(vec![in alloc; Value::Bool(true), Value::U64(7)]?);
 /// let one = Value::Seq(vec![in alloc; entry]?);
 /// ```
-#[derive(Clone, Debug, Drop, PartialEq, Eq)]
+#[derive(Clone, Debug, Drop)]
 pub enum Value {
     Unit,
     Bool(bool),
@@ -20,6 +23,8 @@ pub enum Value {
     I32(i32),
     I64(i64),
     I128(i128),
+    F32(f32),
+    F64(f64),
     Char(char),
     Str(String),
     Bytes(Vec<u8>),
