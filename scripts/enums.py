@@ -3,6 +3,7 @@
 from string import Template
 
 from declarations import fields_of
+from generic_enums import Generic
 from known_types import MOST_FIELDS, Checker
 from numbered import Numbered
 from structs import NOT_DERIVED, halved, places, quoted, tuple_text
@@ -133,8 +134,6 @@ def check_variants(enum):
         raise Refused(enum.line, f"remove the `{derived[0]}`: no call could meet its contract, since an enum without variants has no values")
     if count > MOST_VARIANTS:
         raise Refused(enum.line, f"{count} variants exceed the limit of 256: move some of them to another enum")
-    if fields and count > 1 and enum.types:
-        raise Refused(enum.line, f"an enum with fields cannot have type parameters: write the type itself for `{enum.types[0]}`, an enum for each, or a struct of `Option<{enum.types[0]}>`")
     if fields and count > 1 and enum.consts:
         raise Refused(enum.line, f"an enum with fields cannot have the parameter `const {enum.consts[0]}`: write the number itself, or hold the array in a struct")
     for variant in enum.variants:
@@ -158,5 +157,5 @@ def enum_text(enum, own, told, crate, module):
     elif not fields_of(enum):
         text = bare_text(enum, crate, module)
     else:
-        text = Numbered(enum, own, crate, module).file(checker.imports)
+        text = (Generic if enum.types else Numbered)(enum, own, crate, module).file(checker.imports)
     return text, checker.crates
