@@ -1,9 +1,11 @@
 """Attributes of types, fields and variants: which scripts/new_type keeps, which it takes off, and which it refuses."""
 
-# What std derives, and what others derive of a type that the library writes, in whose place scripts/new_type writes impls.
+# What std derives, and what others derive of a type that the library writes, in whose place scripts/new_type writes
+# impls.
 DERIVED = set("Clone Copy Debug Default Drop Eq Hash Ord PartialEq PartialOrd".split())
 SAID = {"Decode": "bitcode", "Deserialize": "serde", "Encode": "bitcode", "Serialize": "serde"}
-# The attributes that change nothing of how a type is written and read, and that the toolchain knows: of fields, variants and types.
+# The attributes that change nothing of how a type is written and read, and that the toolchain knows: of fields,
+# variants and types.
 OF_FIELDS = set("allow deny deprecated doc expect forbid warn".split())
 OF_VARIANTS = {*OF_FIELDS, "default", "non_exhaustive"}
 ATTRIBUTES = {*OF_FIELDS, "must_use", "non_exhaustive", "repr"}
@@ -11,14 +13,14 @@ DOCS = set("hidden inline no_inline".split())
 # Attributes of std and its tools that the toolchain does not know.
 OF_TOOLS = set("cold clippy inline rustfmt".split())
 # What serde and the Rust crate say in attributes and no byte depends on.
-NO_BYTE = set("alias borrow bound bound_type content crate deny_unknown_fields expecting flatten rename rename_all rename_all_fields "
-              "skip_serializing_if tag transparent untagged".split())
+NO_BYTE = set("alias borrow bound bound_type content crate deny_unknown_fields expecting flatten rename rename_all "
+              "rename_all_fields skip_serializing_if tag transparent untagged".split())
 ALL_WRITTEN = "all fields are written, in their order"
 OTHER_TYPE = "remove it, encode and decode the other type, and convert in your own code"
 BY_FUNCTION = "write a type of your own for the field, which holds what the function writes"
 INSTEAD = {
-    "default": f"{ALL_WRITTEN}. Keep the old type under another name, and write an enum with a variant for each version, such as "
-               "`V1(Old)` and `V2(New)`",
+    "default": f"{ALL_WRITTEN}. Keep the old type under another name, and write an enum with a variant for each "
+               "version, such as `V1(Old)` and `V2(New)`",
     **{word: OTHER_TYPE for word in ("from", "into", "try_from", "remote")},
     **{word: BY_FUNCTION for word in ("with", "serialize_with", "deserialize_with", "getter")},
     **{word: f"{ALL_WRITTEN}. Move it to another struct, which holds this one"
@@ -100,13 +102,18 @@ class Attributes:
             self.told.note(line, f"`{text}` is taken off: no byte depends on it")
         elif name in OF_TOOLS or name == "doc" and not (inner[1:2] == ["="] or set(inner[2:-1]) <= DOCS):
             self.told.note(line, f"`{text}` is taken off: no byte depends on it")
-        elif name and name not in {*known, *ATTRIBUTES} and self.has_others and (of != "type" or inner[1:2] in (["("], ["="])):
+        elif self.is_of_others(inner, of, known):
             self.told.note(line, f"`{text}` is taken off, as the derives of other crates are")
         elif name not in known or name == "default" and len(inner) > 1:
             self.told.fault(line, f"`{text}` is not supported{'' if of == 'type' else f' for a {of}'}: remove it")
         else:
             return ["#[" + "".join(inner) + "]"]
         return []
+
+    def is_of_others(self, inner, of, known):
+        """Whether this can be an attribute of a derive of another crate, which the item has."""
+        is_bare = inner[1:2] not in (["("], ["="])
+        return self.has_others and inner and inner[0] not in {*known, *ATTRIBUTES} and (of != "type" or not is_bare)
 
     def of_serde(self, inner, line):
         """Takes off what no byte depends on, and refuses the rest with what to write instead."""

@@ -6,9 +6,9 @@ from attributes import ATTRIBUTES, OF_FIELDS, OF_VARIANTS, Attributes, parted
 from tokens import Passed, Refused, tokens
 
 # What cannot be a name in Rust or in Rattle.
-KEYWORDS = set("abstract as async await become box break const continue crate do dyn else enum extern false final fn for gen ghost if "
-               "impl in let loop macro match mod move mut override priv pub ref return self Self static struct super trait true try type "
-               "typeof unsafe unsized use virtual where while yield".split())
+KEYWORDS = set("abstract as async await become box break const continue crate do dyn else enum extern false final fn for "
+               "gen ghost if impl in let loop macro match mod move mut override priv pub ref return self Self static "
+               "struct super trait true try type typeof unsafe unsized use virtual where while yield".split())
 
 # Other items that stand beside declarations.
 OTHERS = set("async const extern fn impl macro_rules static trait type unsafe".split())
@@ -16,12 +16,12 @@ OTHERS = set("async const extern fn impl macro_rules static trait type unsafe".s
 NEEDED = set("Decode DecodeOwned Deserialize DeserializeOwned Encode Serialize Sized".split())
 BOUNDS = "the generated impls have the bounds that they need"
 
-# A field's type: `kind` is path, reference, slice, array, tuple, or number; `name` the last word of a path, a lifetime or a length;
-# `path` has the words of a path as it was written.
+# A field's type: `kind` is path, reference, slice, array, tuple, or number; `name` the last word of a path, a lifetime or
+# a length; `path` has the words of a path as it was written.
 Type = namedtuple("Type", "kind name parts line path", defaults=((),))
 Field = namedtuple("Field", "docs seen name type line attributes", defaults=((),))
 # `types` has type parameters, and `consts` those that are numbers.
-Struct = namedtuple("Struct", "docs derives attributes seen name lifetime types fields kind line consts", defaults=((),))
+Struct = namedtuple("Struct", "docs derives attributes seen name lifetime types fields kind line consts", defaults=[()])
 # `kind` is unit, tuple or named; `number` what stands behind a variant's `=`.
 Variant = namedtuple("Variant", "docs attributes name fields kind number line")
 Enum = namedtuple("Enum", "docs derives attributes seen name lifetime types variants line consts", defaults=((),))
@@ -83,7 +83,8 @@ class Words:
     def name(self):
         token = self.next()
         if token.kind == "raw" or token.text in KEYWORDS:
-            raise Refused(token.line, f"`{token.text}` is a keyword in Rattle: choose another name, such as `{token.text.replace('r#', '')}_`")
+            other = token.text.replace("r#", "") + "_"
+            raise Refused(token.line, f"`{token.text}` is a keyword in Rattle: choose another name, such as `{other}`")
         if token.kind != "name":
             raise Refused(token.line, f"expected a name, found `{token.text}`")
         return token.text
@@ -165,7 +166,8 @@ class Parser(Words):
         self.items, self.uses, self.aliases, self.consts = [], [], [], []
 
     def heads(self, of, known):
-        """Comments of documentation, derives and other attributes before an item, a variant or a field, which may have the known ones."""
+        """Comments of documentation, derives and other attributes before an item, a variant or a field, which may have
+        the known ones."""
         docs, found = [], []
         while self.tokens[self.at].kind == "doc" or self.peek("#"):
             token = self.next()
@@ -176,7 +178,7 @@ class Parser(Words):
             self.expect("[")
             inner = self.balanced("[", "]")
             if is_inner:
-                self.told.note(token.line, f"`#![{inner[0] if inner else ''}(..)]` is taken off: it is of the whole file")
+                self.told.note(token.line, f"`#![{''.join(inner[:1])}(..)]` is taken off: it is of the whole file")
             else:
                 found.append((inner, token.line))
         return docs, *self.attributes.all(found, of, known)
@@ -198,7 +200,8 @@ class Parser(Words):
         if self.take("("):
             parts = self.listed(")", self.type)
             # `(T)` is T, and `(T,)` a tuple.
-            return parts[0] if len(parts) == 1 and self.tokens[self.at - 2].text != "," else Type("tuple", None, parts, line)
+            is_one = len(parts) == 1 and self.tokens[self.at - 2].text != ","
+            return parts[0] if is_one else Type("tuple", None, parts, line)
         if self.take("["):
             part = self.type()
             if self.take("]"):
@@ -273,13 +276,15 @@ class Parser(Words):
         line, name = self.line(), self.name()
         found = self.listed(">", self.generic) if self.take("<") else []
         self.no_twice([text for _, text in found], line)
-        lifetimes, types, consts = ([text for kind, text in found if kind == of] for of in ("lifetime", "name", "const"))
+        kinds = ("lifetime", "name", "const")
+        lifetimes, types, consts = ([text for kind, text in found if kind == of] for of in kinds)
         if {"'static", "'_"} & set(lifetimes):
             raise Refused(line, f"the {word} borrows the text from the input: write `{word} {name}<'a>`")
         if len(lifetimes) > 1:
             others = ", ".join(f"`{text}`" for text in lifetimes[1:])
             whole = f"{word} {name}<{', '.join([lifetimes[0], *types])}>"
-            raise Refused(line, f"a value borrows from one input, so it has one lifetime: write `{whole}`, and `{lifetimes[0]}` for {others}")
+            instead = f"write `{whole}`, and `{lifetimes[0]}` for {others}"
+            raise Refused(line, f"a value borrows from one input, so it has one lifetime: {instead}")
         self.where()
         return name, lifetimes[0] if lifetimes else "", types, tuple(consts), line
 
@@ -321,7 +326,8 @@ class Parser(Words):
         sign, line = "-" if self.take("-") else "", self.line()
         token = self.next()
         if token.kind != "number" or not self.peek(",", "}"):
-            raise Refused(line, "write the number of the variant itself, or remove it: the encoding uses the variants' order")
+            instead = "write the number of the variant itself, or remove it"
+            raise Refused(line, f"{instead}: the encoding uses the variants' order")
         return sign + token.text
 
     def enum(self, docs, derives, attributes, seen):
@@ -340,7 +346,8 @@ class Parser(Words):
         line, name = self.line(), self.name()
         if self.peek(";"):
             raise Refused(line, f"remove `mod {name};`, and write `use crate::{name}::..;` for its types")
-        raise Refused(line, f"each type gets its own module in src/: write the declarations of `mod {name}` without the `mod`")
+        instead = f"write the declarations of `mod {name}` without the `mod`"
+        raise Refused(line, f"each type gets its own module in src/: {instead}")
 
     def use(self, before=()):
         """What a `use` line brings in, or a part of it behind these words."""
@@ -382,7 +389,8 @@ class Parser(Words):
         return Const(name, words, line)
 
     def elsewhere(self, word):
-        return f"only structs, enums, `use` lines, aliases and lengths are allowed: move the `{word}` to another file of your crate"
+        allowed = "only structs, enums, `use` lines, aliases and lengths are allowed"
+        return f"{allowed}: move the `{word}` to another file of your crate"
 
     def item(self):
         """A declaration, or what else is in the file."""

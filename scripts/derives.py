@@ -1,4 +1,4 @@
-"""Derives that do not compile at the type of a field: scripts/new_type takes them off, or refuses them where no toolchain has them."""
+"""Derives that do not compile at the type of a field: scripts/new_type takes them off or refuses them."""
 
 import glob
 import re
@@ -79,8 +79,8 @@ class Derives:
         if type.kind == "path" and type.name == "ArrayVec" and type.name not in self.own:
             lacking = type.parts[0] if type.parts[0].name in item.types else self.lacking(type.parts[0], "Default")
             if lacking:
-                element = of_text(type.parts[0])
-                self.told.fault(type.line, f"the elements of an `ArrayVec` need `Default`, which `{of_text(lacking)}` does not have: write `Vec<{element}>`")
+                why = f"the elements of an `ArrayVec` need `Default`, which `{of_text(lacking)}` does not have"
+                self.told.fault(type.line, f"{why}: write `Vec<{of_text(type.parts[0])}>`")
 
     def at(self, item, trait, field, type):
         """What is said of a derive that does not compile at the type in a field."""
@@ -89,7 +89,8 @@ class Derives:
             self.told.note(item.line, f"`derive({trait})` of `{item.name}` is taken off: `{text}` has no `{trait}` here"
                                       + (". Write a function that makes the value" if trait == "Default" else ""))
         elif type.name in self.own:
-            self.told.fault(field.line, f"`{text}` has no `{trait}`: derive it for `{type.name}` too, or write its impl in another file first")
+            instead = f"derive it for `{type.name}` too, or write its impl in another file first"
+            self.told.fault(field.line, f"`{text}` has no `{trait}`: {instead}")
         else:
             self.told.fault(field.line, f"`{text}` has no `{trait}`: remove `{trait}` from the derive of `{item.name}`")
 
@@ -97,9 +98,11 @@ class Derives:
         """The enum, whose variants are marked as the one that `default` gives only where it has that."""
         marked = [variant for variant in enum.variants if "#[default]" in variant.attributes]
         if "Default" in derives and not marked:
-            self.told.fault(enum.line, f"no variant of `{enum.name}` is marked with `#[default]`: mark one, or remove `Default`")
+            why = f"no variant of `{enum.name}` is marked with `#[default]`"
+            self.told.fault(enum.line, f"{why}: mark one, or remove `Default`")
         if "Default" not in derives and marked:
             self.told.note(marked[0].line, f"`#[default]` is taken off: `{enum.name}` does not derive `Default`")
-            bare = [variant._replace(attributes=[text for text in variant.attributes if text != "#[default]"]) for variant in enum.variants]
-            return enum._replace(variants=bare)
+            kept = [[text for text in variant.attributes if text != "#[default]"] for variant in enum.variants]
+            pairs = zip(enum.variants, kept)
+            return enum._replace(variants=[variant._replace(attributes=attributes) for variant, attributes in pairs])
         return enum

@@ -135,7 +135,8 @@ def check_variants(enum):
     if count > MOST_VARIANTS:
         raise Refused(enum.line, f"{count} variants exceed the limit of 256: move some of them to another enum")
     if fields and count > 1 and enum.consts:
-        raise Refused(enum.line, f"an enum with fields cannot have the parameter `const {enum.consts[0]}`: write the number itself, or hold the array in a struct")
+        why = f"an enum with fields cannot have the parameter `const {enum.consts[0]}`"
+        raise Refused(enum.line, f"{why}: write the number itself, or hold the array in a struct")
     for variant in enum.variants:
         if fields and variant.number:
             raise Refused(variant.line, "only an enum without fields can have numbers: remove it")

@@ -53,18 +53,26 @@ $encoding WritesVariants<At<0>, At<$count>, ${simple}Columns<$es>> for $name {
 """
 PAYLOADS = """/// The payloads that values of `$simple` are made of, by their decoders.
 #[derive(Drop)]
-pub struct ${simple}Payloads<$listed, $ds> {
+pub struct ${simple}Payloads<$types, $ds> {
     all: $decoders,
 }
 
-impl<$input, $shaped, $decoding> VariantPayloads<$input, At<0>, At<$count>, $name> for ${simple}Payloads<$listed, $ds> {
-    ghost held = { payloads_in (λ d. d.all) ⟦<$decoders as VariantPayloads<$input, At<0>, At<$count>, $name>>⟧.held };
+impl<$input, $shaped, $decoding> VariantPayloads<$input, At<0>, At<$count>, $name> for ${simple}Payloads<$types, $ds> {
+    ghost held = { payloads_in (λ d. d.all)
+        ⟦<$decoders as VariantPayloads<$input, At<0>, At<$count>, $name>>⟧.held };
 
     fn new(alloc: Global) -> Self {
         ${simple}Payloads { all: VariantPayloads::<At<0>, At<$count>, $name>::new(alloc) }
     }
 
-    fn read_at(&mut self, number: usize, input: &mut &$input [u8], k: usize, strict: bool, free: &mut u128) -> Result<bool, Error> {
+    fn read_at(
+        &mut self,
+        number: usize,
+        input: &mut &$input [u8],
+        k: usize,
+        strict: bool,
+        free: &mut u128,
+    ) -> Result<bool, Error> {
         VariantPayloads::<At<0>, At<$count>, $name>::read_at(&mut self.all, number, input, k, strict, free)
     }
 
@@ -77,7 +85,7 @@ impl<$input, $shaped, $decoding> VariantPayloads<$input, At<0>, At<$count>, $nam
 
 type ColumnsOf$arguments = ${simple}Columns<$all_encoders>;
 
-type PayloadsOf<$input, $types> = ${simple}Payloads<$listed, $all_decoders>;
+type PayloadsOf<$input, $types> = ${simple}Payloads<$types, $all_decoders>;
 
 impl$has_encoder HasEncoder for $name {
     type Encoder = EnumEncoder<$count, ColumnsOf$arguments>;
@@ -86,9 +94,8 @@ impl$has_encoder HasEncoder for $name {
 impl$has_decoder HasDecoder<$input> for $name {
     type Decoder = EnumDecoder<$input, $count, $name, PayloadsOf<$input, $types>>;
 }
-$owned"""
-OWNED = """
-impl$parameters DecodeOwned for $name {}
+
+impl$owned DecodeOwned for $name {}
 """
 
 
@@ -101,15 +108,16 @@ class Generic(Numbered):
 
     def check(self):
         """Stops at an enum whose coders cannot be type parameters."""
-        if self.enum.lifetime:
-            raise Refused(self.enum.line, f"an enum with fields cannot have a lifetime and type parameters, which the borrow checker does not cover: "
-                                          f"write `String` for `&{self.enum.lifetime} str`, or the type itself for `{self.enum.types[0]}`")
+        line, lifetime, types = self.enum.line, self.enum.lifetime, self.enum.types
+        if lifetime:
+            why = "the borrow checker covers no enum with fields that has a lifetime and type parameters"
+            raise Refused(line, f"{why}: write `String` for `&{lifetime} str`, or the type itself for `{types[0]}`")
         if self.count > MOST_VARIANTS:
-            raise Refused(self.enum.line, f"an enum with type parameters has at most {MOST_VARIANTS} variants if one has fields: move some of them "
-                                          "to another enum")
+            why = f"an enum with type parameters has at most {MOST_VARIANTS} variants if one has fields"
+            raise Refused(line, f"{why}: move some of them to another enum")
         if self.types_named() > MOST_TYPES:
-            raise Refused(self.enum.line, f"the variants name more than {MOST_TYPES} types, the borrow checker's limit for a decoder: move "
-                                          "fields to a struct without type parameters")
+            why = f"the variants name more than {MOST_TYPES} types, the borrow checker's limit for a decoder"
+            raise Refused(line, f"{why}: move fields to a struct without type parameters")
 
     def types_named(self):
         """How many types the decoder names: it ends at no struct."""
@@ -123,11 +131,12 @@ class Generic(Numbered):
         return [f"{letter}{number}" for number in range(1, 1 + count)]
 
     def encoders_of(self):
-        """The encoder of each variant's payload, with one parameter for each field, and these with the types that they encode."""
+        """The encoder of each variant's payload, with a parameter for each field; and these with what they encode."""
         fields = [[of_text(field.type) for field in variant.fields] or ["()"] for variant in self.enum.variants]
         names = iter(self.letters(sum(map(len, fields)), "E", "C", "Q"))
         found = [[(next(names), type) for type in types] for types in fields]
-        return [paired([name for name, _ in part]).replace("(", "TupleEncoder<").replace(")", ">") for part in found], sum(found, [])
+        pairs = [paired([name for name, _ in part]) for part in found]
+        return [text.replace("(", "TupleEncoder<").replace(")", ">") for text in pairs], sum(found, [])
 
     def columns_alike(self, encoders, place):
         """That the columns in that place are those of the variants."""
@@ -137,36 +146,40 @@ class Generic(Numbered):
             found = f"columns_and ({trait}.of_shape {place}.{name}) " + (found if found == "refl" else f"({found})")
         return found
 
-    def rows(self):
-        """What is written of the coders of all variants."""
-        enum, count = self.enum, self.count
-        (encoders, es), ds, types = self.encoders_of(), self.letters(count, "D", "P", "R"), ", ".join(self.enum.types)
-        shaped = ", ".join(f"{name}: Shaped" for name in enum.types)
-        life = f"{enum.lifetime}, " if enum.lifetime else ""
-        encoding = ", ".join(f"{name}: Buffer + Encoder<{type}>" for name, type in es)
+    def coders(self):
+        """What is written of the coders that are parameters."""
+        (encoders, es), ds = self.encoders_of(), self.letters(self.count, "D", "P", "R")
+        shaped = ", ".join(f"{name}: Shaped" for name in self.enum.types)
+        decoding = [f"{name}: View<{self.input}> + Decoder<{type}>" for name, type in zip(ds, self.types)]
         return {
-            "simple": enum.name, "name": self.name, "count": count, "input": self.input, "types": types, "shaped": shaped,
-            "arguments": arguments(enum), "listed": life + types, "es": ", ".join(name for name, _ in es), "ds": ", ".join(ds),
-            "encoding": f"impl<{life}{shaped}, {encoding}>",
+            "shaped": shaped,
+            "es": ", ".join(name for name, _ in es),
+            "ds": ", ".join(ds),
+            "encoding": f"impl<{shaped}, {', '.join(f'{name}: Buffer + Encoder<{type}>' for name, type in es)}>",
             "buffers": ", ".join(f"{name}: Buffer" for name, _ in es),
-            "encoders": f"Encoders{count}<At<0>, {', '.join(encoders)}>",
-            "decoding": ", ".join(f"{name}: View<{self.input}> + Decoder<{type}>" for name, type in zip(ds, self.types)),
-            "decoders": f"Decoders{count}<At<0>, ({', '.join(self.types)}), {', '.join(ds)}>",
-            "in_place": self.columns_alike(encoders, "c"), "inside": self.columns_alike(encoders, "c.all"),
+            "encoders": f"Encoders{self.count}<At<0>, {', '.join(encoders)}>",
+            "decoding": ", ".join(decoding),
+            "decoders": f"Decoders{self.count}<At<0>, ({', '.join(self.types)}), {', '.join(ds)}>",
+            "in_place": self.columns_alike(encoders, "c"),
+            "inside": self.columns_alike(encoders, "c.all"),
             "all_encoders": ", ".join(f"<{type} as HasEncoder>::Encoder" for _, type in es),
             "all_decoders": ", ".join(f"<{type} as HasDecoder<{self.input}>>::Decoder" for type in self.types),
-            "has_encoder": bounds(enum, "HasEncoder"), "has_decoder": bounds(enum, f"HasDecoder<{self.input}>", self.input),
-            "owned": "" if enum.lifetime else Template(OWNED).substitute(parameters=bounds(enum, "DecodeOwned"), name=self.name),
         }
 
     def file(self, imports):
         """The file of the type."""
         self.check()
-        used = {"At", "Enum", "EnumDecoder", "EnumEncoder", "EnumOf", "Error", "HasDecoder", "HasEncoder", "Shaped", "VariantColumns",
-                "VariantPayloads", "WritesVariants", "told_as", *(f"{kind}{self.count}" for kind in ("Decoders", "Encoders", "OneOf", "Variants"))}
-        used |= set() if self.enum.lifetime else {"DecodeOwned"}
-        used |= {"TupleEncoder"} if any(len(variant.fields) > 1 for variant in self.enum.variants) else set()
-        uses = {"use bitcode::coder::{Buffer, Decoder, Encoder, View};", f"use bitcode::{{{', '.join(sorted(used))}}};", *(f"use {path};" for path in imports)}
-        group = self.of_group(self.groups[0])
-        texts = [Template(OPENING).substitute(self.opening(uses, {"columns_and"})), Template(VARIANTS).substitute(group)]
-        return "".join([*texts, Template(COLUMNS + PAYLOADS).substitute(self.rows(), encode=group["encode"])])
+        enum, count = self.enum, self.count
+        used = set("At DecodeOwned Enum EnumDecoder EnumEncoder EnumOf Error HasDecoder HasEncoder Shaped "
+                   "VariantColumns VariantPayloads WritesVariants told_as".split())
+        used |= {f"{kind}{count}" for kind in ("Decoders", "Encoders", "OneOf", "Variants")}
+        used |= {"TupleEncoder"} if any(len(variant.fields) > 1 for variant in enum.variants) else set()
+        uses = {f"use bitcode::{{{', '.join(sorted(used))}}};", *(f"use {path};" for path in imports)}
+        uses.add("use bitcode::coder::{Buffer, Decoder, Encoder, View};")
+        row = self.of_group(self.groups[0]) | {"types": ", ".join(enum.types)}
+        row |= {"simple": enum.name, "count": count, "input": self.input, "arguments": arguments(enum)}
+        row |= {"has_encoder": bounds(enum, "HasEncoder"), "owned": bounds(enum, "DecodeOwned")}
+        row |= {"has_decoder": bounds(enum, f"HasDecoder<{self.input}>", self.input)}
+        opening = Template(OPENING).substitute(self.opening(uses, {"columns_and"}))
+        variants = Template(VARIANTS).substitute(self.of_group(self.groups[0]))
+        return opening + variants + Template(COLUMNS + PAYLOADS).substitute(row | self.coders())

@@ -57,7 +57,8 @@ INSTEAD = {
     "Instant": "write a `Duration` since a time of your choice",
     "NonZero": "write `NonZeroU8` and so on",
     "IndexMap": "write `Vec<(K, V)>`",
-    **{name: "write the value itself" for name in "Mutex RwLock OnceCell OnceLock LazyLock LazyCell Pin ManuallyDrop".split()},
+    **{name: "write the value itself"
+       for name in "LazyCell LazyLock ManuallyDrop Mutex OnceCell OnceLock Pin RwLock".split()},
     **{f"Atomic{name.title().replace('128', '')}": f"write `{name}`" for name in ["bool", *INTEGERS]},
     "Weak": "write an index or an id of what it points to",
     "Path": "write `String`",
@@ -255,7 +256,8 @@ class Checker:
         if instead:
             self.told.fault(type.line, f"`{name}` is not supported: {instead}")
         elif "*" not in self.own:
-            self.told.fault(type.line, f"`{name}` is not known here: declare it in this file, or bring it in with `use crate::..::{name};`")
+            instead = f"declare it in this file, or bring it in with `use crate::..::{name};`"
+            self.told.fault(type.line, f"`{name}` is not known here: {instead}")
 
     def instead(self, type):
         held = [part for part in type.parts if part.kind != "lifetime"]

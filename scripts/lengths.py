@@ -1,4 +1,4 @@
-"""Names that a file of declarations gives to lengths and types: scripts/new_type writes the numbers and the types themselves."""
+"""Names that a file gives to lengths and types: scripts/new_type writes the numbers and the types themselves."""
 
 import re
 
@@ -10,6 +10,7 @@ NUMBER = re.compile(r"(0x[0-9a-fA-F_]+|0b[01_]+|0o[0-7_]+|[0-9][0-9_]*)(?:[iu](?
 # The operators, those that bind most first.
 OPERATORS = ({"*": int.__mul__, "/": int.__floordiv__, "%": int.__mod__}, {"+": int.__add__, "-": int.__sub__},
              {"<<": int.__lshift__, ">>": int.__rshift__}, {"&": int.__and__}, {"^": int.__xor__}, {"|": int.__or__})
+DIVISIONS, SHIFTS = (int.__floordiv__, int.__mod__), (int.__lshift__, int.__rshift__)
 MOST = 2**64 - 1
 
 
@@ -21,7 +22,8 @@ class Sum:
     """The value of words such as `2 * ( N + 1 )`."""
 
     def __init__(self, words, consts, above=()):
-        self.words = re.findall(r"<<|>>|0[xbo]\w+|\w+|[^\w\s]", " ".join(words).replace("< <", "<<").replace("> >", ">>"))
+        text = " ".join(words).replace("< <", "<<").replace("> >", ">>")
+        self.words = re.findall(r"<<|>>|\w+|[^\w\s]", text)
         self.at, self.consts, self.above = 0, consts, above
 
     def peek(self):
@@ -41,9 +43,9 @@ class Sum:
         """The value of what operators up to this level join."""
         found = self.level(number - 1) if number >= 0 else self.one()
         while number >= 0 and self.peek() in OPERATORS[number]:
-            operator, right = OPERATORS[number][self.next()], None
+            operator = OPERATORS[number][self.next()]
             right = self.level(number - 1)
-            if operator in (int.__floordiv__, int.__mod__) and right == 0 or "shift" in operator.__name__ and not 0 <= right < 64:
+            if right == 0 and operator in DIVISIONS or operator in SHIFTS and not 0 <= right < 64:
                 raise Unknown
             found = operator(found, right)
         return found
@@ -55,7 +57,8 @@ class Sum:
             if self.next() != ")":
                 raise Unknown
         elif NUMBER.fullmatch(word):
-            found = int(NUMBER.fullmatch(word)[1].replace("_", ""), 10 if word[:1] != "0" or word[1:2].isdigit() or len(word) == 1 else 0)
+            digits = NUMBER.fullmatch(word)[1].replace("_", "")
+            found = int(digits, 0 if digits[1:2].isalpha() else 10)
         elif word in self.consts and word not in self.above:
             found = Sum(self.consts[word].words, self.consts, (*self.above, word)).value()
         else:
@@ -80,7 +83,8 @@ class WrittenOut:
         try:
             return str(Sum([text], self.consts).value())
         except Unknown:
-            self.told.fault(line, f"write the length `{text}` as a number, or by numbers and constants of this file, such as `2 * N`")
+            instead = "as a number, or by numbers and constants of this file, such as `2 * N`"
+            self.told.fault(line, f"write the length `{text}` {instead}")
             return "1"
 
     def type(self, type, above=()):

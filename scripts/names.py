@@ -11,8 +11,9 @@ from wide import parts_of
 
 CHOOSE = "choose another name"
 # The names that no type can have, with what is said of them.
-TAKEN = {name: f"`{name}` is the name of `{path_of(name)}`, which the generated files use: {CHOOSE}" for name in TYPES}
-TAKEN |= {name: f"`{name}` is a name of std's prelude, which the generated files use: {CHOOSE}" for name in "Self Some None Ok Err".split()}
+OF_THE_FILES = f"which the generated files use: {CHOOSE}"
+TAKEN = {name: f"`{name}` is the name of `{path_of(name)}`, {OF_THE_FILES}" for name in TYPES}
+TAKEN |= {name: f"`{name}` is a name of std's prelude, {OF_THE_FILES}" for name in "Self Some None Ok Err".split()}
 # Modules that the crate has already, or that would hide a crate that the files name.
 MODULES = set("alloc arrayvec bitcode core lib main std uuid".split())
 # What ends the names of the user's types while a file is written that uses one of them for something else.
@@ -48,10 +49,11 @@ def refuse_names(items, named, told):
     for item in items:
         refuse_name(item, items, named, told)
         module = module_of(item.name)
+        file = f"`{module}.rt`, the file of `{item.name}`, is that of"
         if module in MODULES:
-            told.fault(item.line, f"`{module}.rt`, the file of `{item.name}`, is that of the crate itself or of one below it: {CHOOSE}")
+            told.fault(item.line, f"{file} the crate itself or of one below it: {CHOOSE}")
         elif modules.get(module, item.name) != item.name:
-            told.fault(item.line, f"`{module}.rt`, the file of `{item.name}`, is that of `{modules[module]}`, too: {CHOOSE}")
+            told.fault(item.line, f"{file} `{modules[module]}`, too: {CHOOSE}")
         modules.setdefault(module, item.name)
     for use in named.values():
         if use.path[0] == "crate" and use.name in TAKEN:
@@ -62,13 +64,14 @@ def refuse_unused(items, faulty, told):
     """Refuses parameters that no field has."""
     for item in items:
         used = {name for field in fields_of(item) for name in names_in(field.type)}
+        part = "field" if isinstance(item, Struct) else "variant"
         for name in filter(None, (*item.types, *item.consts, item.lifetime)):
             if name not in used and item.name not in faulty:
-                told.fault(item.line, f"no {'field' if isinstance(item, Struct) else 'variant'} uses `{name}`: remove it")
+                told.fault(item.line, f"no {part} uses `{name}`: remove it")
 
 
 def refuse_parts(items, own, told):
-    """Refuses a type that is called as the file of an enum or of a struct with many fields calls what it declares beside it."""
+    """Refuses a type with a name that the file of an enum or of a struct with many fields uses for what it declares."""
     for item in items:
         if isinstance(item, Struct):
             parts = parts_of(item) if len(item.fields) > MOST_FIELDS else ()
@@ -88,11 +91,11 @@ def users_names(item, own):
 
 
 def librarys_names(text):
-    """The names that the file takes from elsewhere than its own crate or gives to types of its own, with others for them."""
+    """The names that the file takes from other crates or gives itself, with others for them."""
     names = {}
     for path, inner in re.findall(r"(?m)^use (?!crate::)([\w:]+?)(?:::\{([^}]*)\})?;", text):
-        root = path.split("::")[0].capitalize()
-        names |= {name.strip(): root + name.strip() for name in (inner or path.split("::")[-1]).split(",") if name.strip()}
+        words = path.split("::")
+        names |= {name: words[0].capitalize() + name for name in re.findall(r"\w+", inner or words[-1])}
     return names | {name: f"{name}Of" for name in re.findall(r"(?m)^type (\w+)", text)}
 
 
@@ -118,7 +121,8 @@ def marked_own(own, names):
 def with_room(text, item, names, others):
     """The file with other names for the library's in the place of these, and without the marks."""
     whole = (struct_declaration if isinstance(item, Struct) else enum_declaration)(item)
-    others = {name: others[name] + (item.name.removesuffix(MARK) if others[name] == f"{name}Of" else "") for name in names & set(others)}
+    own = item.name.removesuffix(MARK)
+    others = {name: others[name] + (own if others[name] == f"{name}Of" else "") for name in names & set(others)}
     pattern = re.compile(rf"(?<![\w.:'])({'|'.join(others)})(?!\w)")
 
     def of_line(line):

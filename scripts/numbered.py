@@ -274,7 +274,11 @@ class Numbered:
 
         others = "\n            _ => unreachable!()," if len(self.groups) > 1 else ""
         short, short_names = in_a_head(self.enum, [self.types[n] for n in numbers], "Payload", numbers[0])
-        made = [f"OneOf{size}::{ordinal.capitalize()}({payload(names_of(variant), '()')}) => {value(self.enum, variant)}," for ordinal, variant in rows]
+
+        def made(ordinal, variant):
+            found = f"OneOf{size}::{ordinal.capitalize()}({payload(names_of(variant), '()')})"
+            return f"\n            {found} => {value(self.enum, variant)},"
+
         return {
             "life": self.life,
             "size": size,
@@ -288,7 +292,7 @@ class Numbered:
             "arms": " ".join(f"(λ p. {self.built(variant)})" for _, variant in rows),
             "taken": "payload.entry" if self.enum.lifetime else "payload",
             "are": ", ".join([ARE] * size),
-            "made": "".join(f"\n            {arm}" for arm in made) + "\n        ",
+            "made": "".join(made(ordinal, variant) for ordinal, variant in rows) + "\n        ",
             "encode": "".join(written(ordinal, variant) for ordinal, variant in rows) + others + "\n        ",
         }
 
@@ -339,7 +343,8 @@ class Numbered:
 
     def variants(self):
         """What the enum says of its variants: the payloads of each, the payload of a value, and the value that has a payload."""
-        *before, last = [f"{type}.data" if type in self.enum.types else f"⟦<{type} as Shaped>⟧.data" for type in self.types]
+        types = self.enum.types
+        *before, last = [f"{type}.data" if type in types else f"⟦<{type} as Shaped>⟧.data" for type in self.types]
         payload_of = [(" ".join([f"{quoted(self.enum.name)}.{variant.name}", *LETTERS[: len(variant.fields)]]), payload(list(LETTERS[: len(variant.fields)]), "tt")) for variant in self.enum.variants]
         *first, end = [f"λ p. ({self.built(variant)}, refl)" for variant in self.enum.variants]
         return {
@@ -349,8 +354,8 @@ class Numbered:
         }
 
     def opening(self, uses, by_hand=()):
-        """What the file has up to the variants' coders, with these lines and names besides those that all such files have."""
-        by_hand = {*by_hand, "columns_in", "each_variant", "enum_data", "is_variant", "last_payload", "payload_and", "payloads_in", "refl"}
+        """What the file has up to the variants' coders, with these lines and names besides those of all such files."""
+        by_hand = {*by_hand, *"columns_in each_variant enum_data is_variant last_payload payload_and payloads_in refl".split()}
 
         def numbered(number, variant):
             names = names_of(variant)

@@ -61,7 +61,8 @@ class Paths:
     """What the paths of the items' fields name. A type of one's own that a path from `crate` on names is brought in."""
 
     def __init__(self, items, own, named, taken, told):
-        self.declared, self.own, self.named, self.taken, self.told = {item.name for item in items}, own, named, taken, told
+        self.declared = {item.name for item in items}
+        self.own, self.named, self.taken, self.told = own, named, taken, told
 
     def bring_in(self, path, line, parameters):
         name = path[-1]
@@ -118,15 +119,19 @@ class Paths:
 
 
 def sized(items, told):
-    """The items with a type that has a size for each `Box` and `Rc` of a text or a slice, which the toolchain does not have."""
+    """The items with other types for each `Box` and `Rc` of a text or a slice, which the toolchain does not have."""
 
     def of_type(type):
         declared, type = of_text(type), type._replace(parts=[of_type(part) for part in type.parts])
-        if type.kind != "path" or type.name not in ("Box", "Rc") or len(type.parts) != 1 or not is_unsized(type.parts[0]):
+        is_pointer = type.kind == "path" and type.name in ("Box", "Rc") and len(type.parts) == 1
+        if not is_pointer or not is_unsized(type.parts[0]):
             return type
         inner, head = type.parts[0], "Boxed" if type.name == "Box" else "Rc"
         written = Type("path", head + ("Slice" if inner.kind == "slice" else "Str"), inner.parts, type.line)
         told.note(type.line, f"`{declared}` is written `{of_text(written)}`")
         return written
 
-    return [with_fields(item, lambda fields: [field._replace(type=of_type(field.type)) for field in fields]) for item in items]
+    def of_fields(fields):
+        return [field._replace(type=of_type(field.type)) for field in fields]
+
+    return [with_fields(item, of_fields) for item in items]

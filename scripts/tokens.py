@@ -20,7 +20,7 @@ class Passed(Exception):
 
 
 class Told:
-    """What is said of a file: its faults, of which no file is written, and what the script takes off or writes otherwise."""
+    """What is said of a file: its faults, and what the script takes off or writes otherwise."""
 
     def __init__(self):
         self.faults, self.notes = [], []
@@ -65,12 +65,12 @@ def documented(text):
 
 
 def tokens(text):
-    """The tokens of the text. Comments are dropped, and comments of documentation kept; those of the whole file are named."""
+    """The tokens of the text. Comments are dropped, but for those of documentation and of the whole file."""
     found, line, place = [], 1, 0
     forms = [
         ("doc", r"///(?!/)[^\n]*"), ("file", r"//![^\n]*"), ("none", r"//[^\n]*|\s+"), ("comment", r"/\*"),
-        ("raw", r"r#[A-Za-z_]\w*"), ("lifetime", r"'[A-Za-z_]\w*(?!')"), ("name", r"[A-Za-z_]\w*"), ("number", r"[0-9]\w*"),
-        ("text", r'"(?:\\.|[^"\\])*"'), ("mark", r"::|->|."),
+        ("raw", r"r#[A-Za-z_]\w*"), ("lifetime", r"'[A-Za-z_]\w*(?!')"), ("name", r"[A-Za-z_]\w*"),
+        ("number", r"[0-9]\w*"), ("text", r'"(?:\\.|[^"\\])*"'), ("mark", r"::|->|."),
     ]
     form = re.compile("|".join(f"(?P<{kind}>{pattern})" for kind, pattern in forms), re.S | re.A)
     while place < len(text):

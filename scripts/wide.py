@@ -5,7 +5,8 @@ from string import Template
 from declarations import fields_of
 from known_types import MOST_LEFT, MOST_TYPES, Checker, names_in, of_text, types_in
 from tokens import Refused
-from structs import APART, BODY, DATA, HEAD, OWNED, alike, arguments, bounds, declaration, decoder, decoder_of_parts, fields_text, halved, initialized, paired, parameter, paths, places, quoted, types_left
+from structs import APART, BODY, DATA, HEAD, OWNED, alike, arguments, bounds, declaration, decoder, decoder_of_parts
+from structs import fields_text, halved, initialized, is_generic, paired, parameter, paths, places, quoted, types_left
 
 # A struct has no more fields than these, which name no more types: of more the borrow checker covers no encoder.
 MOST_WIDE = MOST_ENCODED = 48
@@ -85,8 +86,10 @@ def wide_text(struct, own, told):
         raise Refused(struct.line, f"{len(struct.fields)} fields exceed the limit of {MOST_WIDE}: move some of them to another struct")
     if struct.kind != "named":
         raise Refused(struct.line, f"{len(struct.fields)} fields exceed the limit of 16 for fields without names: name them")
-    if struct.types or struct.consts:
-        raise Refused(struct.line, f"a struct with more than 16 fields cannot have type parameters: write the type itself for `{[*struct.types, *struct.consts][0]}`")
+    if is_generic(struct):
+        parameter_of = [*struct.types, *struct.consts][0]
+        why = "a struct with more than 16 fields cannot have type parameters"
+        raise Refused(struct.line, f"{why}: write the type itself for `{parameter_of}`")
     checker = Checker(struct, own, told)
     checker.check_all()
     parts, input, name = parts_of(struct), struct.lifetime or "'a", struct.name + arguments(struct)
@@ -94,7 +97,7 @@ def wide_text(struct, own, told):
     if types_of_wide(struct, own) > MOST_TYPES:
         raise Refused(struct.line, f"the fields name more than {MOST_TYPES} types, the borrow checker's limit for a decoder: move those of your own types that allocate to another struct")
     if sum(types_encoded(field.type, own) for field in struct.fields) > MOST_ENCODED:
-        raise Refused(struct.line, f"the fields name more than {MOST_ENCODED} types, the borrow checker's limit for an encoder: move some of them to another struct")
+        raise Refused(struct.line, f"the fields name more than {MOST_ENCODED} types, the borrow checker's limit for an encoder: group consecutive fields in structs, until it has 16 fields or fewer")
     texts, uses_apart = [], False
     for number, part in enumerate(parts):
         text, has_apart = part_text(part, struct, number, own, is_apart)
