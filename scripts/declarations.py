@@ -12,6 +12,7 @@ KEYWORDS = set("abstract as async await become box break const continue crate do
 
 # Other items that stand beside declarations.
 OTHERS = set("async const extern fn impl macro_rules static trait type unsafe".split())
+TYPES_OF = ("struct", "enum", "type", "union")
 # Bounds of a parameter that the generated impls have where they need them, and that are taken off.
 NEEDED = set("Decode DecodeOwned Deserialize DeserializeOwned Encode Serialize Sized".split())
 BOUNDS = "the generated impls have the bounds that they need"
@@ -145,7 +146,7 @@ class Words:
         while not self.is_end():
             token = self.next()
             is_use = is_use or token.text == "use" and before in ("", "pub", ")")
-            if token.text == "*" or token.kind == "name" and (is_use or before in ("struct", "enum", "type", "union")):
+            if is_use and token.text == "*" or token.kind == "name" and (is_use or before in TYPES_OF):
                 names.append(token.text)
             before = token.text
             depth += (before in ("(", "[", "{")) - (before in (")", "]", "}"))
@@ -162,12 +163,17 @@ class Parser(Words):
         super().__init__(text, told)
         self.attributes = Attributes(told)
         # The types whose declarations are refused, in part or as a whole.
-        self.faulty = set()
+        self.faulty, self.lifetimes = set(), []
         self.items, self.uses, self.aliases, self.consts = [], [], [], []
 
     def heads(self, of, known):
-        """Comments of documentation, derives and other attributes before an item, a variant or a field, which may have
-        the known ones."""
+        """Comments of documentation, derives and other attributes before a variant or a field, which may have the known
+        ones."""
+        docs, found = self.before()
+        return docs, *self.attributes.all(found, of, known)
+
+    def before(self):
+        """Comments of documentation and attributes, with their lines."""
         docs, found = [], []
         while self.tokens[self.at].kind == "doc" or self.peek("#"):
             token = self.next()
@@ -181,7 +187,7 @@ class Parser(Words):
                 self.told.note(token.line, f"`#![{''.join(inner[:1])}(..)]` is taken off: it is of the whole file")
             else:
                 found.append((inner, token.line))
-        return docs, *self.attributes.all(found, of, known)
+        return docs, found
 
     def seen(self):
         """`pub`, `pub(crate)` or nothing. In a struct of a tuple a `(` behind `pub` may begin the type."""
@@ -242,8 +248,9 @@ class Parser(Words):
         if self.take("const"):
             name = self.name()
             self.expect(":")
-            if "".join(self.until(",", ">")) != "usize":
-                raise Refused(line, f"write `const {name}: usize`: only lengths can be parameters")
+            if "".join(self.until(",", "=", ">")) != "usize":
+                self.told.fault(line, f"write `const {name}: usize`: only lengths can be parameters")
+            self.no_default(name, line)
             return "const", name
         kind = self.tokens[self.at].kind
         name = self.next().text if kind == "lifetime" else self.name()
@@ -251,9 +258,13 @@ class Parser(Words):
             bounds = self.until(",", "=", ">")
             if kind != "lifetime":
                 self.bounded(name, bounds, line)
-        if self.peek("="):
-            raise Refused(line, f"remove the default of `{name}`: {BOUNDS}")
+        self.no_default(name, line)
         return kind, name
+
+    def no_default(self, name, line):
+        if self.take("="):
+            self.told.fault(line, f"remove the default of `{name}`, and write the parameter where the type is named")
+            self.until(",", ">")
 
     def where(self):
         """The bounds behind `where`."""
@@ -269,7 +280,7 @@ class Parser(Words):
         name = self.name() if named else None
         if named:
             self.expect(":")
-        return Field(docs, seen, name, self.type(), line, attributes)
+        return Field(docs, seen, name, self.with_one_lifetime(self.type()), line, attributes)
 
     def head(self, word):
         """The name of an item, and the lifetime, the types and the numbers that it takes."""
@@ -282,11 +293,17 @@ class Parser(Words):
             raise Refused(line, f"the {word} borrows the text from the input: write `{word} {name}<'a>`")
         if len(lifetimes) > 1:
             others = ", ".join(f"`{text}`" for text in lifetimes[1:])
-            whole = f"{word} {name}<{', '.join([lifetimes[0], *types])}>"
+            whole = f"{word} {name}<{', '.join([lifetimes[0], *types, *(f'const {text}: usize' for text in consts)])}>"
             instead = f"write `{whole}`, and `{lifetimes[0]}` for {others}"
-            raise Refused(line, f"a value borrows from one input, so it has one lifetime: {instead}")
+            self.told.fault(line, f"a value borrows from one input, so it has one lifetime: {instead}")
         self.where()
+        self.lifetimes = lifetimes
         return name, lifetimes[0] if lifetimes else "", types, tuple(consts), line
+
+    def with_one_lifetime(self, type):
+        """The type with the first lifetime in the place of the item's others, of which all is said already."""
+        name = self.lifetimes[0] if type.name in self.lifetimes else type.name
+        return type._replace(name=name, parts=list(map(self.with_one_lifetime, type.parts)))
 
     def no_twice(self, names, line):
         for place, name in enumerate(names):
@@ -346,6 +363,8 @@ class Parser(Words):
         line, name = self.line(), self.name()
         if self.peek(";"):
             raise Refused(line, f"remove `mod {name};`, and write `use crate::{name}::..;` for its types")
+        if not {"struct", "enum"} & set(self.balanced("{", "}") if self.take("{") else []):
+            raise Refused(line, self.elsewhere(f"mod {name}"))
         instead = f"write the declarations of `mod {name}` without the `mod`"
         raise Refused(line, f"each type gets its own module in src/: {instead}")
 
@@ -395,16 +414,15 @@ class Parser(Words):
     def item(self):
         """A declaration, or what else is in the file."""
         self.attributes.has_others = False
-        docs, derives, attributes = self.heads("type", ATTRIBUTES)
+        docs, found = self.before()
         seen = self.seen()
-        if self.take("use"):
+        if self.peek("struct", "enum"):
+            read = self.struct if self.next().text == "struct" else self.enum
+            self.items.append(read(docs, *self.attributes.all(found, "type", ATTRIBUTES), seen))
+        elif self.take("use"):
             self.take("::")
             self.uses += self.use()
             self.expect(";")
-        elif self.take("struct"):
-            self.items.append(self.struct(docs, derives, attributes, seen))
-        elif self.take("enum"):
-            self.items.append(self.enum(docs, derives, attributes, seen))
         elif self.peek("union"):
             raise Refused(self.line(), "unions are not supported: write an enum")
         elif self.take("mod"):
@@ -415,7 +433,9 @@ class Parser(Words):
             self.consts.append(self.const())
         elif self.peek(*OTHERS):
             raise Refused(self.line(), self.elsewhere(self.tokens[self.at].text))
-        elif not self.is_end() or docs or derives or attributes:
+        elif self.tokens[self.at].kind == "name" and self.tokens[self.at + 1].text == "!":
+            raise Refused(self.line(), self.elsewhere(self.tokens[self.at].text + "!"))
+        elif not self.is_end() or docs or found:
             raise Refused(self.line(), f"expected a struct or an enum, found `{self.tokens[self.at].text}`")
 
     def file(self):

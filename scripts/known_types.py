@@ -214,7 +214,10 @@ class Checker:
             self.crates |= {known.path.split("::")[0]} - {"std"}
         if type.name in ("PhantomData", "Absent"):
             self.marker(type)
-        elif self.check_parts(types) and type.name in KEYED:
+            return
+        is_checked = self.check_parts(types[:1])
+        self.check_parts(types[1:])
+        if is_checked and type.name in KEYED:
             self.key(type, types)
 
     def marker(self, type):

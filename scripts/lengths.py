@@ -74,18 +74,26 @@ class WrittenOut:
 
     def __init__(self, consts, aliases, told):
         self.consts, self.aliases = {const.name: const for const in consts}, {alias.name: alias for alias in aliases}
-        self.told, self.parameters = told, ()
+        # The constants that lengths have.
+        self.told, self.parameters, self.used = told, (), set()
 
     def length(self, text, line):
         """The length as a number; one that is so already, or that is a parameter, is as it was."""
         if re.fullmatch(r"[0-9][0-9_]*(usize)?", text) or text in self.parameters:
             return text
+        self.use(text)
         try:
             return str(Sum([text], self.consts).value())
         except Unknown:
             instead = "as a number, or by numbers and constants of this file, such as `2 * N`"
             self.told.fault(line, f"write the length `{text}` {instead}")
             return "1"
+
+    def use(self, text):
+        """Marks the constants in the text as used, and those in their values."""
+        for name in {*re.findall(r"[A-Za-z_]\w*", text)} & set(self.consts) - self.used:
+            self.used.add(name)
+            self.use(" ".join(self.consts[name].words))
 
     def type(self, type, above=()):
         """The type with all of its names written out."""
@@ -139,7 +147,8 @@ class WrittenOut:
             found.append(with_fields(item, self.fields))
             faulty |= {item.name} if len(self.told.faults) > faults else set()
         for const in self.consts.values():
-            self.told.note(const.line, f"`const {const.name}` is not written: the fields have its value")
+            why = "the fields have its value" if const.name in self.used else "no field uses it"
+            self.told.note(const.line, f"`const {const.name}` is not written: {why}")
         for alias in self.aliases.values():
             self.told.note(alias.line, f"`type {alias.name}` is not written: the fields have `{of_text(alias.type)}`")
         return found

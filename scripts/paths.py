@@ -35,6 +35,8 @@ def instead_of(path):
         return f"`{'::'.join(path)}` is not supported: write `{path_of(name)}`, or a type of your own"
     if name in INSTEAD:
         return f"`{name}` is not supported: {INSTEAD[name]}"
+    if path[0] == "serde_json":
+        return f"`{'::'.join(path)}` is not supported: write a `String` of JSON, or use the second format (docs/GUIDE.md)"
     what = f"`{name}` is a type of std that is" if path[0] in STD else f"`{'::'.join(path)}` is"
     return f"{what} not supported: write a type of your own that holds what it holds"
 
