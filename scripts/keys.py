@@ -5,7 +5,7 @@ from string import Template
 
 from declarations import Enum, fields_of
 from known_types import MOST_FIELDS, can_be_key, of_text
-from structs import MOST_FLAT, arguments, bounds, halved, quoted
+from structs import MOST_FLAT, arguments, bounds, quoted
 
 # The check compares each two variants of an enum; of so many it still takes seconds.
 MOST_VARIANTS = 100

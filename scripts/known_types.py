@@ -1,6 +1,5 @@
 """The types of fields that scripts/new_type knows: which of them the library writes and reads."""
 
-import re
 from collections import namedtuple
 
 from declarations import fields_of, word_of

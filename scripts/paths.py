@@ -1,6 +1,5 @@
 """What the paths of a file name: types that the library writes and reads, and types of one's own."""
 
-from attributes import SAID
 from declarations import Type, Use, fields_of, with_fields
 from known_types import INSTEAD, TYPES, is_unsized, of_text
 from tokens import Refused
