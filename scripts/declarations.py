@@ -1,43 +1,36 @@
 """Reads declarations of structs and enums as one writes them in Rust: what scripts/new_type reads."""
 
-import re
 from collections import namedtuple
 
-# What std derives, and what others derive of a type that the library writes, in whose place scripts/new_type writes impls.
-DERIVED = set("Clone Copy Debug Default Drop Eq Hash Ord PartialEq PartialOrd".split())
-SAID = {"Decode": "bitcode", "Deserialize": "serde", "Encode": "bitcode", "Serialize": "serde"}
-# The attributes that change nothing of how a type is written and read, and that the toolchain knows: of fields, variants and types.
-OF_FIELDS = set("allow deny deprecated doc expect forbid warn".split())
-OF_VARIANTS = {*OF_FIELDS, "default", "non_exhaustive"}
-ATTRIBUTES = {*OF_FIELDS, "must_use", "non_exhaustive", "repr"}
-DOCS = set("hidden inline no_inline".split())
+from attributes import ATTRIBUTES, OF_FIELDS, OF_VARIANTS, Attributes, parted
+from tokens import Passed, Refused, tokens
 
 # What cannot be a name in Rust or in Rattle.
-KEYWORDS = set("abstract as async await become box break const continue crate do dyn else enum extern false final fn for gen ghost if "
-               "impl in let loop macro match mod move mut override priv pub ref return self Self static struct super trait true try type "
-               "typeof unsafe unsized use virtual where while yield".split())
+KEYWORDS = set("abstract as async await become box break const continue crate do dyn else enum extern false final fn for "
+               "gen ghost if impl in let loop macro match mod move mut override priv pub ref return self Self static "
+               "struct super trait true try type typeof unsafe unsized use virtual where while yield".split())
 
 # Other items that stand beside declarations.
 OTHERS = set("async const extern fn impl macro_rules static trait type unsafe".split())
+TYPES_OF = ("struct", "enum", "type", "union")
+# Bounds of a parameter that the generated impls have where they need them, and that are taken off.
+NEEDED = set("Decode DecodeOwned Deserialize DeserializeOwned Encode Serialize Sized".split())
+BOUNDS = "the generated impls have the bounds that they need"
 
-Token = namedtuple("Token", "kind text line")
-# A field's type: `kind` is path, reference, slice, array, tuple, or number; `name` the last word of a path, a lifetime or a length;
-# `path` has the words of a path as it was written.
+# A field's type: `kind` is path, reference, slice, array, tuple, or number; `name` the last word of a path, a lifetime or
+# a length; `path` has the words of a path as it was written.
 Type = namedtuple("Type", "kind name parts line path", defaults=((),))
 Field = namedtuple("Field", "docs seen name type line attributes", defaults=((),))
-Struct = namedtuple("Struct", "docs derives attributes seen name lifetime types fields kind line")
+# `types` has type parameters, and `consts` those that are numbers.
+Struct = namedtuple("Struct", "docs derives attributes seen name lifetime types fields kind line consts", defaults=[()])
 # `kind` is unit, tuple or named; `number` what stands behind a variant's `=`.
 Variant = namedtuple("Variant", "docs attributes name fields kind number line")
-Enum = namedtuple("Enum", "docs derives attributes seen name lifetime types variants line")
+Enum = namedtuple("Enum", "docs derives attributes seen name lifetime types variants line consts", defaults=((),))
 # A name that a `use` line brings in, with the words of its path.
 Use = namedtuple("Use", "name path line")
-
-
-class Refused(Exception):
-    """What cannot be done: the line, why, and what to write instead."""
-
-    def __init__(self, line, why):
-        super().__init__(f"line {line}: {why}")
+# Another name for a type, with the types that it takes; and a number that has a name.
+Alias = namedtuple("Alias", "name types type line")
+Const = namedtuple("Const", "name words line")
 
 
 def word_of(item):
@@ -50,49 +43,22 @@ def fields_of(item):
     return item.fields if isinstance(item, Struct) else [field for variant in item.variants for field in variant.fields]
 
 
-def behind_comment(text, start):
-    """Where a comment ends that begins there, with the comments inside it."""
-    depth = 0
-    for mark in re.compile(r"/\*|\*/").finditer(text, start):
-        depth += 1 if mark.group() == "/*" else -1
-        if depth == 0:
-            return mark.end()
-    raise Refused(1 + text.count("\n", 0, start), "`*/` is missing: the comment does not end")
+def with_fields(item, changed):
+    """The item with each list of fields changed by that function."""
+    if isinstance(item, Struct):
+        return item._replace(fields=changed(item.fields))
+    return item._replace(variants=[variant._replace(fields=changed(variant.fields)) for variant in item.variants])
 
 
-def documented(text):
-    """The lines of a comment of documentation between `/**` and `*/`."""
-    lines = [re.sub(r"^\s*\* ?", "", line).strip() for line in text.strip().split("\n")]
-    return [line for place, line in enumerate(lines) if line or 0 < place < len(lines) - 1]
+class Words:
+    """Reads tokens one after the other."""
 
-
-def tokens(text):
-    """The tokens of the text. Comments are dropped, and comments of documentation kept."""
-    found, line, place = [], 1, 0
-    forms = [
-        ("doc", r"///(?!/)[^\n]*"), ("none", r"//[^\n]*|\s+"), ("comment", r"/\*"), ("raw", r"r#[A-Za-z_]\w*"), ("lifetime", r"'[A-Za-z_]\w*(?!')"),
-        ("name", r"[A-Za-z_]\w*"), ("number", r"[0-9]\w*"), ("text", r'"(?:\\.|[^"\\])*"'), ("mark", r"::|->|."),
-    ]
-    form = re.compile("|".join(f"(?P<{kind}>{pattern})" for kind, pattern in forms), re.S | re.A)
-    while place < len(text):
-        match = form.match(text, place)
-        end = behind_comment(text, place) if match.lastgroup == "comment" else match.end()
-        if match.lastgroup == "comment" and re.match(r"/\*\*(?![*/])", text[place:end]):
-            found += [Token("doc", f"/// {words}".rstrip(), line) for words in documented(text[place + 3 : end - 2])]
-        elif match.lastgroup not in ("none", "comment"):
-            found.append(Token(match.lastgroup, match.group(), line))
-        line += text.count("\n", place, end)
-        place = end
-    return found + [Token("end", "the end", line)]
-
-
-class Parser:
-    """Reads declarations, one token after the other."""
-
-    def __init__(self, text):
-        self.tokens, self.at = tokens(text), 0
-        # What the script takes off, or writes otherwise.
-        self.notes = []
+    def __init__(self, text, told):
+        found = tokens(text)
+        of_file = [token.line for token in found if token.kind == "file"]
+        self.tokens, self.at, self.told = [token for token in found if token.kind != "file"], 0, told
+        if of_file:
+            told.note(of_file[0], "comments of the whole file are taken off: each type has a file of its own")
 
     def peek(self, *texts):
         return self.tokens[self.at].text in texts
@@ -105,6 +71,9 @@ class Parser:
     def line(self):
         return self.tokens[self.at].line
 
+    def is_end(self):
+        return self.tokens[self.at].kind == "end"
+
     def take(self, text):
         return self.peek(text) and bool(self.next())
 
@@ -115,10 +84,15 @@ class Parser:
     def name(self):
         token = self.next()
         if token.kind == "raw" or token.text in KEYWORDS:
-            raise Refused(token.line, f"`{token.text}` is a keyword in Rattle: choose another name, such as `{token.text.replace('r#', '')}_`")
+            other = token.text.replace("r#", "") + "_"
+            raise Refused(token.line, f"`{token.text}` is a keyword in Rattle: choose another name, such as `{other}`")
         if token.kind != "name":
             raise Refused(token.line, f"expected a name, found `{token.text}`")
         return token.text
+
+    def word(self):
+        """A word of a path."""
+        return self.next().text if self.peek("crate", "self", "super") else self.name()
 
     def listed(self, close, item):
         """Items between commas, up to the mark that closes them."""
@@ -128,6 +102,32 @@ class Parser:
             if not self.peek(close):
                 self.expect(",")
         return items
+
+    def each(self, close, item):
+        """The same of fields or variants: behind one that is refused the next is read."""
+        items = []
+        while not self.take(close):
+            start = self.at
+            with self.told.going_on():
+                items.append(item())
+                if not self.peek(close):
+                    self.expect(",")
+                continue
+            self.at = start
+            self.until(",", close)
+            self.take(",")
+            if self.is_end():
+                raise Passed
+        return items
+
+    def until(self, *marks, opening="([{<", closing=")]}>"):
+        """The texts up to one of these marks that no bracket holds."""
+        depth, texts = 0, []
+        while not self.is_end() and (depth or not self.peek(*marks)):
+            text = self.next().text
+            depth += (text in opening) - (text in closing)
+            texts.append(text)
+        return texts
 
     def balanced(self, opening, closing):
         """The text up to the closing mark; the opening one has been taken."""
@@ -140,57 +140,54 @@ class Parser:
             texts.append(token.text)
         return texts[:-1]
 
+    def pass_item(self):
+        """Goes behind an item that is refused, and gives the names of the types in it, or that it would bring in."""
+        names, depth, before, is_use = [], 0, "", False
+        while not self.is_end():
+            token = self.next()
+            is_use = is_use or token.text == "use" and before in ("", "pub", ")")
+            if is_use and token.text == "*" or token.kind == "name" and (is_use or before in TYPES_OF):
+                names.append(token.text)
+            before = token.text
+            depth += (before in ("(", "[", "{")) - (before in (")", "]", "}"))
+            if depth <= 0 and before in (";", "}"):
+                self.take(";")
+                break
+        return names
+
+
+class Parser(Words):
+    """Reads declarations."""
+
+    def __init__(self, text, told):
+        super().__init__(text, told)
+        self.attributes = Attributes(told)
+        # The types whose declarations are refused, in part or as a whole.
+        self.faulty, self.lifetimes = set(), []
+        self.items, self.uses, self.aliases, self.consts = [], [], [], []
+
     def heads(self, of, known):
-        """Comments of documentation, derives and other attributes before an item, a variant or a field, which may have the known ones."""
-        docs, derives, attributes = [], [], []
+        """Comments of documentation, derives and other attributes before a variant or a field, which may have the known
+        ones."""
+        docs, found = self.before()
+        return docs, *self.attributes.all(found, of, known)
+
+    def before(self):
+        """Comments of documentation and attributes, with their lines."""
+        docs, found = [], []
         while self.tokens[self.at].kind == "doc" or self.peek("#"):
             token = self.next()
             if token.kind == "doc":
                 docs.append(token.text)
                 continue
-            if self.peek("!"):
-                raise Refused(token.line, "attributes of the whole file are not supported: remove it")
+            is_inner = self.take("!")
             self.expect("[")
             inner = self.balanced("[", "]")
-            if inner[:2] != ["derive", "("]:
-                attributes.append(self.attribute(inner, token.line, of, known))
-            elif of != "type":
-                raise Refused(token.line, f"{of}s cannot derive traits: remove the `derive`")
+            if is_inner:
+                self.told.note(token.line, f"`#![{''.join(inner[:1])}(..)]` is taken off: it is of the whole file")
             else:
-                derives += self.derived("".join(inner[2:-1]), token.line)
-        return docs, derives, attributes
-
-    def derived(self, text, line):
-        """The names of a derive; what the script writes in its place is noted."""
-        names, taken = [], []
-        for path in filter(None, text.split(",")):
-            *before, name = path.split("::")
-            if name in SAID and before in ([], ["bitcode"], ["serde"]):
-                taken.append(path)
-            elif name in DERIVED and before[:1] in ([], ["std"], ["core"]):
-                names.append(name)
-            else:
-                raise Refused(line, f"`{path}` is not a derive of std: remove it, and write its impl by hand")
-        for crate in ("bitcode", "serde"):
-            own = [path for path in taken if SAID[path.split("::")[-1]] == crate]
-            why = "the impls below are in its place" if crate == "bitcode" else "the toolchain has no derive of serde (docs/DIFFERENCES.md)"
-            self.notes += [f"line {line}: `derive({', '.join(own)})` is taken off: {why}"] if own else []
-        return names
-
-    def attribute(self, inner, line, of, known):
-        """An attribute, as it is written again."""
-        name = inner[0] if inner else ""
-        text = "#[" + name + ("(..)" if len(inner) > 1 else "") + "]"
-        if name in ("serde", "bitcode"):
-            raise Refused(line, f"`{text}` is not supported: all fields are written, in their order. Remove it")
-        if name in ("cfg", "cfg_attr"):
-            raise Refused(line, f"`{text}` could remove what the generated impls refer to: remove the attribute")
-        if name == "repr" and of == "type" and not {"C", "transparent", "u8"} & set(inner):
-            raise Refused(line, f"`#[{''.join(inner)}]` is not supported: remove it, or write `#[repr(C)]` or `#[repr(u8)]`")
-        is_known = name in known and (name != "doc" or inner[1:2] == ["="] or set(inner[2:-1]) <= DOCS)
-        if not is_known or name == "default" and len(inner) > 1:
-            raise Refused(line, f"`{text}` is not supported{'' if of == 'type' else f' for a {of}'}: remove it")
-        return "#[" + "".join(inner) + "]"
+                found.append((inner, token.line))
+        return docs, found
 
     def seen(self):
         """`pub`, `pub(crate)` or nothing. In a struct of a tuple a `(` behind `pub` may begin the type."""
@@ -209,7 +206,8 @@ class Parser:
         if self.take("("):
             parts = self.listed(")", self.type)
             # `(T)` is T, and `(T,)` a tuple.
-            return parts[0] if len(parts) == 1 and self.tokens[self.at - 2].text != "," else Type("tuple", None, parts, line)
+            is_one = len(parts) == 1 and self.tokens[self.at - 2].text != ","
+            return parts[0] if is_one else Type("tuple", None, parts, line)
         if self.take("["):
             part = self.type()
             if self.take("]"):
@@ -221,6 +219,8 @@ class Parser:
             if self.take("mut"):
                 raise Refused(line, "a `&mut` cannot be decoded: write the value itself")
             return Type("reference", lifetime, [self.type()], line)
+        if self.take("{"):
+            return Type("number", " ".join(self.balanced("{", "}")), [], line)
         if self.tokens[self.at].kind in ("lifetime", "number"):
             return Type(self.tokens[self.at].kind, self.next().text, [], line)
         if self.peek("dyn", "impl", "fn", "*", "!"):
@@ -233,22 +233,46 @@ class Parser:
             path.append(self.word())
         return Type("path", path[-1], self.listed(">", self.type) if self.take("<") else [], line, tuple(path))
 
-    def word(self):
-        """A word of a path."""
-        return self.next().text if self.peek("crate", "self", "super") else self.name()
+    def bounded(self, name, bounds, line):
+        """Takes off the bounds that the generated impls have, and refuses others."""
+        for bound in parted(bounds, "+"):
+            text = "".join(bound).split(">", 1)[1] if bound[0] == "for" else "".join(bound)
+            if text.split("<")[0].split("::")[-1] in NEEDED:
+                self.told.note(line, f"the bound `{text}` of `{name}` is taken off: {BOUNDS}")
+            else:
+                self.told.fault(line, f"remove the bound `{text}`, and write it where a function needs it: {BOUNDS}")
 
     def generic(self):
-        """A lifetime or a type that an item takes."""
-        if self.peek("const"):
-            raise Refused(self.line(), "const parameters are not supported: write the number itself, or use a `Vec`")
-        text = self.next().text if self.tokens[self.at].kind == "lifetime" else self.name()
-        if self.peek(":", "="):
-            raise Refused(self.line(), "remove the bound or the default: the generated impls have the bounds that they need")
-        return text
+        """A lifetime, a type or a number that an item takes, and which of them it is."""
+        line = self.line()
+        if self.take("const"):
+            name = self.name()
+            self.expect(":")
+            if "".join(self.until(",", "=", ">")) != "usize":
+                self.told.fault(line, f"write `const {name}: usize`: only lengths can be parameters")
+            self.no_default(name, line)
+            return "const", name
+        kind = self.tokens[self.at].kind
+        name = self.next().text if kind == "lifetime" else self.name()
+        if self.take(":"):
+            bounds = self.until(",", "=", ">")
+            if kind != "lifetime":
+                self.bounded(name, bounds, line)
+        self.no_default(name, line)
+        return kind, name
 
-    def no_where(self):
-        if self.peek("where"):
-            raise Refused(self.line(), "remove the `where`: the generated impls have the bounds that they need")
+    def no_default(self, name, line):
+        if self.take("="):
+            self.told.fault(line, f"remove the default of `{name}`, and write the parameter where the type is named")
+            self.until(",", ">")
+
+    def where(self):
+        """The bounds behind `where`."""
+        line = self.line()
+        if self.take("where"):
+            for part in parted(self.until("{", ";")):
+                left, *right = parted(part, ":")
+                self.bounded("".join(left), sum(right, []), line)
 
     def field(self, named):
         docs, _, attributes = self.heads("field", OF_FIELDS)
@@ -256,53 +280,62 @@ class Parser:
         name = self.name() if named else None
         if named:
             self.expect(":")
-        return Field(docs, seen, name, self.type(), line, attributes)
+        return Field(docs, seen, name, self.with_one_lifetime(self.type()), line, attributes)
 
     def head(self, word):
-        """The name of an item, and the lifetime and the types that it takes."""
+        """The name of an item, and the lifetime, the types and the numbers that it takes."""
         line, name = self.line(), self.name()
-        parameters = self.listed(">", self.generic) if self.take("<") else []
-        self.no_twice(parameters, line)
-        if "'static" in parameters or "'_" in parameters:
+        found = self.listed(">", self.generic) if self.take("<") else []
+        self.no_twice([text for _, text in found], line)
+        kinds = ("lifetime", "name", "const")
+        lifetimes, types, consts = ([text for kind, text in found if kind == of] for of in kinds)
+        if {"'static", "'_"} & set(lifetimes):
             raise Refused(line, f"the {word} borrows the text from the input: write `{word} {name}<'a>`")
-        types = [text for text in parameters if text[0] != "'"]
-        lifetimes = [text for text in parameters if text[0] == "'"]
         if len(lifetimes) > 1:
             others = ", ".join(f"`{text}`" for text in lifetimes[1:])
-            raise Refused(line, f"a value borrows from one input, so it has one lifetime: write `{word} {name}<{', '.join([lifetimes[0], *types])}>`, and `{lifetimes[0]}` for {others}")
-        self.no_where()
-        return name, parameters[0] if len(parameters) > len(types) else "", types, line
+            whole = f"{word} {name}<{', '.join([lifetimes[0], *types, *(f'const {text}: usize' for text in consts)])}>"
+            instead = f"write `{whole}`, and `{lifetimes[0]}` for {others}"
+            self.told.fault(line, f"a value borrows from one input, so it has one lifetime: {instead}")
+        self.where()
+        self.lifetimes = lifetimes
+        return name, lifetimes[0] if lifetimes else "", types, tuple(consts), line
+
+    def with_one_lifetime(self, type):
+        """The type with the first lifetime in the place of the item's others, of which all is said already."""
+        name = self.lifetimes[0] if type.name in self.lifetimes else type.name
+        return type._replace(name=name, parts=list(map(self.with_one_lifetime, type.parts)))
 
     def no_twice(self, names, line):
         for place, name in enumerate(names):
             if name in names[:place]:
-                raise Refused(line, f"`{name}` is declared twice: rename one of them")
+                self.told.fault(line, f"`{name}` is declared twice: rename one of them")
 
     def fields(self):
         """The fields of a struct or a variant, and of which kind it is."""
+        line = self.line()
         if self.take("{"):
-            fields = self.listed("}", lambda: self.field(True))
-            self.no_twice([field.name for field in fields], fields[-1].line if fields else 0)
+            fields = self.each("}", lambda: self.field(True))
+            self.no_twice([field.name for field in fields], fields[-1].line if fields else line)
             return fields, "named"
         if self.take("("):
-            fields = self.listed(")", lambda: self.field(False))
+            fields = self.each(")", lambda: self.field(False))
             return [field._replace(name=str(i)) for i, field in enumerate(fields)], "tuple"
         return [], "unit"
 
     def struct(self, docs, derives, attributes, seen):
-        name, lifetime, types, line = self.head("struct")
+        name, lifetime, types, consts, line = self.head("struct")
         fields, kind = self.fields()
-        self.no_where()
+        self.where()
         if kind != "named":
             self.expect(";")
-        return Struct(docs, derives, attributes, seen, name, lifetime, types, fields, kind, line)
+        return Struct(docs, derives, attributes, seen, name, lifetime, types, fields, kind, line, consts)
 
     def variant(self):
         docs, _, attributes = self.heads("variant", OF_VARIANTS)
         line, name = self.line(), self.name()
         fields, kind = self.fields()
         if any(field.seen for field in fields):
-            raise Refused(line, "the fields of a variant are as visible as the enum: remove the `pub`")
+            self.told.fault(line, "the fields of a variant are as visible as the enum: remove the `pub`")
         return Variant(docs, attributes, name, fields, kind, self.number() if self.take("=") else None, line)
 
     def number(self):
@@ -310,24 +343,30 @@ class Parser:
         sign, line = "-" if self.take("-") else "", self.line()
         token = self.next()
         if token.kind != "number" or not self.peek(",", "}"):
-            raise Refused(line, "write the number of the variant itself, or remove it: the encoding uses the variants' order")
+            instead = "write the number of the variant itself, or remove it"
+            raise Refused(line, f"{instead}: the encoding uses the variants' order")
         return sign + token.text
 
     def enum(self, docs, derives, attributes, seen):
-        name, lifetime, types, line = self.head("enum")
+        name, lifetime, types, consts, line = self.head("enum")
         self.expect("{")
-        variants = self.listed("}", self.variant)
+        variants = self.each("}", self.variant)
         self.no_twice([variant.name for variant in variants], line)
-        if any(text.startswith("#[repr") for text in attributes) and any(variant.number for variant in variants):
-            raise Refused(line, "a `repr` and numbers of variants are not supported together: remove one of them")
-        return Enum(docs, derives, attributes, seen, name, lifetime, types, variants, line)
+        if any(variant.number or variant.fields for variant in variants):
+            for text in [text for text in attributes if text.startswith("#[repr")]:
+                self.told.note(line, f"`{text}` is taken off: no byte depends on it")
+                attributes = [other for other in attributes if other != text]
+        return Enum(docs, derives, attributes, seen, name, lifetime, types, variants, line, consts)
 
     def refuse_module(self):
         """Each type that the script writes is in a file of its own, right in src/."""
         line, name = self.line(), self.name()
         if self.peek(";"):
             raise Refused(line, f"remove `mod {name};`, and write `use crate::{name}::..;` for its types")
-        raise Refused(line, f"each type gets its own module in src/: write the declarations of `mod {name}` without the `mod`")
+        if not {"struct", "enum"} & set(self.balanced("{", "}") if self.take("{") else []):
+            raise Refused(line, self.elsewhere(f"mod {name}"))
+        instead = f"write the declarations of `mod {name}` without the `mod`"
+        raise Refused(line, f"each type gets its own module in src/: {instead}")
 
     def use(self, before=()):
         """What a `use` line brings in, or a part of it behind these words."""
@@ -335,7 +374,9 @@ class Parser:
         while True:
             if self.take("{"):
                 return [use for uses in self.listed("}", lambda: self.use(path)) for use in uses]
-            if self.peek("*"):
+            if self.take("*"):
+                if path[:1] and path[0] in ("std", "core", "alloc", "bitcode", "serde"):
+                    return []
                 raise Refused(line, "name each type in the `use` line")
             path.append(self.word())
             if not self.take("::"):
@@ -345,26 +386,67 @@ class Parser:
         path = path[:-1] if path[-1] == "self" and len(path) > 1 else path
         return [Use(path[-1], tuple(path), line)]
 
+    def alias(self):
+        """Another name for a type."""
+        line, name = self.line(), self.name()
+        found = self.listed(">", self.generic) if self.take("<") else []
+        self.expect("=")
+        type = self.type()
+        self.expect(";")
+        return Alias(name, [text for _, text in found], type, line)
+
+    def const(self):
+        """A number that has a name. Its value is found where a length names it."""
+        line, name = self.line(), self.name()
+        self.expect(":")
+        type = self.until("=", ";")
+        self.expect("=")
+        words = self.until(";", opening="([{", closing=")]}")
+        self.expect(";")
+        if "".join(type).strip("ui") not in ("8", "16", "32", "64", "128", "size"):
+            raise Refused(line, self.elsewhere("const"))
+        return Const(name, words, line)
+
+    def elsewhere(self, word):
+        allowed = "only structs, enums, `use` lines, aliases and lengths are allowed"
+        return f"{allowed}: move the `{word}` to another file of your crate"
+
+    def item(self):
+        """A declaration, or what else is in the file."""
+        self.attributes.has_others = False
+        docs, found = self.before()
+        seen = self.seen()
+        if self.peek("struct", "enum"):
+            read = self.struct if self.next().text == "struct" else self.enum
+            self.items.append(read(docs, *self.attributes.all(found, "type", ATTRIBUTES), seen))
+        elif self.take("use"):
+            self.take("::")
+            self.uses += self.use()
+            self.expect(";")
+        elif self.peek("union"):
+            raise Refused(self.line(), "unions are not supported: write an enum")
+        elif self.take("mod"):
+            self.refuse_module()
+        elif self.take("type"):
+            self.aliases.append(self.alias())
+        elif self.peek("const") and self.tokens[self.at + 1].text not in ("fn", "unsafe", "_") and self.take("const"):
+            self.consts.append(self.const())
+        elif self.peek(*OTHERS):
+            raise Refused(self.line(), self.elsewhere(self.tokens[self.at].text))
+        elif self.tokens[self.at].kind == "name" and self.tokens[self.at + 1].text == "!":
+            raise Refused(self.line(), self.elsewhere(self.tokens[self.at].text + "!"))
+        elif not self.is_end() or docs or found:
+            raise Refused(self.line(), f"expected a struct or an enum, found `{self.tokens[self.at].text}`")
+
     def file(self):
-        """The structs and enums of the file, and what its `use` lines bring in."""
-        items, uses = [], []
-        while self.tokens[self.at].kind != "end":
-            docs, derives, attributes = self.heads("type", ATTRIBUTES)
-            seen = self.seen()
-            if self.take("use"):
-                self.take("::")
-                uses += self.use()
-                self.expect(";")
-            elif self.take("struct"):
-                items.append(self.struct(docs, derives, attributes, seen))
-            elif self.take("enum"):
-                items.append(self.enum(docs, derives, attributes, seen))
-            elif self.peek("union"):
-                raise Refused(self.line(), "unions are not supported: write an enum")
-            elif self.take("mod"):
-                self.refuse_module()
-            elif self.peek(*OTHERS):
-                raise Refused(self.line(), f"only structs, enums and `use` lines are allowed: move the `{self.tokens[self.at].text}` to another file of your crate")
-            else:
-                raise Refused(self.line(), f"expected a struct or an enum, found `{self.tokens[self.at].text}`")
-        return items, uses
+        """Reads all of the file: behind what is refused, the next item."""
+        while not self.is_end():
+            start, faults = self.at, len(self.told.faults)
+            try:
+                self.item()
+            except (Refused, Passed) as why:
+                self.told.faults += getattr(why, "faults", [])
+                self.at = start
+                self.faulty |= {*self.pass_item()}
+            if len(self.told.faults) > faults and self.items:
+                self.faulty.add(self.items[-1].name)

@@ -2,10 +2,12 @@
 
 from string import Template
 
-from declarations import Refused, fields_of
+from declarations import fields_of
+from generic_enums import Generic
 from known_types import MOST_FIELDS, Checker
 from numbered import Numbered
 from structs import NOT_DERIVED, halved, places, quoted, tuple_text
+from tokens import Refused
 from variants import LETTERS, arms, declaration, one_to_one, value
 
 MOST_VARIANTS = 256
@@ -132,10 +134,9 @@ def check_variants(enum):
         raise Refused(enum.line, f"remove the `{derived[0]}`: no call could meet its contract, since an enum without variants has no values")
     if count > MOST_VARIANTS:
         raise Refused(enum.line, f"{count} variants exceed the limit of 256: move some of them to another enum")
-    if fields and count > 1 and enum.types:
-        raise Refused(enum.line, f"an enum with fields cannot have type parameters: write the type itself for `{enum.types[0]}`, an enum for each, or a struct of `Option<{enum.types[0]}>`")
-    if not fields and (enum.types or enum.lifetime):
-        raise Refused(enum.line, f"no variant uses `{[enum.lifetime, *enum.types][-1]}`: remove it")
+    if fields and count > 1 and enum.consts:
+        why = f"an enum with fields cannot have the parameter `const {enum.consts[0]}`"
+        raise Refused(enum.line, f"{why}: write the number itself, or hold the array in a struct")
     for variant in enum.variants:
         if fields and variant.number:
             raise Refused(variant.line, "only an enum without fields can have numbers: remove it")
@@ -145,12 +146,11 @@ def check_variants(enum):
             raise Refused(variant.line, f"{len(variant.fields)} fields exceed the limit of 16: move some of them to another struct")
 
 
-def enum_text(enum, own, crate, module):
+def enum_text(enum, own, told, crate, module):
     """The file of an enum, and the crates that it needs."""
     check_variants(enum)
-    checker = Checker(enum, own)
-    for field in fields_of(enum):
-        checker.check(field.type)
+    checker = Checker(enum, own, told)
+    checker.check_all()
     if not enum.variants:
         text = Template(NEVER).substitute(name=enum.name, declaration=declaration(enum))
     elif len(enum.variants) == 1:
@@ -158,5 +158,5 @@ def enum_text(enum, own, crate, module):
     elif not fields_of(enum):
         text = bare_text(enum, crate, module)
     else:
-        text = Numbered(enum, own, crate, module).file(checker.imports)
+        text = (Generic if enum.types else Numbered)(enum, own, crate, module).file(checker.imports)
     return text, checker.crates

@@ -5,7 +5,7 @@ from string import Template
 
 from declarations import Enum, fields_of
 from known_types import MOST_FIELDS, can_be_key, of_text
-from structs import MOST_FLAT, bounds, halved, quoted
+from structs import MOST_FLAT, arguments, bounds, quoted
 
 # The check compares each two variants of an enum; of so many it still takes seconds.
 MOST_VARIANTS = 100
@@ -24,7 +24,7 @@ impl$life Key for $name {
 def key_words(item, own):
     """What the item is as a key: `Key`, `Ord`, and `Hash` where it has that; nothing where it is none."""
     derives = set(item.derives)
-    if item.types or not {"PartialEq", "Eq", "PartialOrd", "Ord"} <= derives:
+    if item.types or item.consts or not {"PartialEq", "Eq", "PartialOrd", "Ord"} <= derives:
         return frozenset()
     words = {"Key", "Ord"} | derives & {"Hash"}
     if isinstance(item, Enum):
@@ -38,8 +38,15 @@ def imported_key_words(text, name):
     """The same of an imported type, as its file tells."""
     if not re.search(rf"\bKey for {name}\b", text):
         return frozenset()
-    derives = re.search(rf"#\[derive\(([^)]*)\)\]\s*(?:#\[[^\]]*\]\s*)*(?:pub(?:\([^)]*\))?\s+)?(?:struct|enum) {name}\b", text)
-    return frozenset({"Key"} | {word.strip() for word in derives[1].split(",")} & {"Ord", "Hash"}) if derives else frozenset({"Key", "Ord"})
+    derives = derives_of(text, name)
+    return frozenset({"Key"} | derives & {"Ord", "Hash"}) if derives is not None else frozenset({"Key", "Ord"})
+
+
+def derives_of(text, name):
+    """What the type derives that a file declares; nothing where it does not tell."""
+    head = rf"#\[derive\(([^)]*)\)\]\s*(?:#\[[^\]]*\]\s*)*(?:pub(?:\([^)]*\))?\s+)?(?:struct|enum) {name}\b"
+    found = re.search(head, text)
+    return frozenset(word.strip() for word in found[1].split(",")) if found else None
 
 
 def in_order(kind, compared):
@@ -91,7 +98,7 @@ def with_names(text, path, names):
 
 def keyed(text, item):
     """The file of a type that is a key, which says so."""
-    name, life, is_enum = item.name + bounds(item, ""), bounds(item, ""), isinstance(item, Enum)
+    name, life, is_enum = item.name + arguments(item), bounds(item, ""), isinstance(item, Enum)
     found = re.search(r"(?m)^    ghost data = \{ (.*) \};$", text)
     data, by_hand = (enum_key if is_enum else struct_key)(item, name, found[1])
     text = text[: found.start(1)] + data + text[found.end(1):]

@@ -1,13 +1,13 @@
 """The types of fields that scripts/new_type knows: which of them the library writes and reads."""
 
-import re
 from collections import namedtuple
 
-from declarations import Refused, fields_of, word_of
+from declarations import fields_of, word_of
+from tokens import Refused
 
 # A type of one's own: where it is imported from, its declaration if that is in the file, how many types its decoder names, one
-# where it is imported, and what it is as a key (keys.py).
-Own = namedtuple("Own", "path item types key", defaults=(frozenset(),))
+# where it is imported, what it is as a key (keys.py), and what it derives, as far as that is known.
+Own = namedtuple("Own", "path item types key derives", defaults=(frozenset(), None))
 # A type that the library writes and reads: where it is imported from, how many types and how many numbers it takes, and whether it
 # can be a set's element or a map's key ("parts": if what it holds can).
 Known = namedtuple("Known", "path types numbers key")
@@ -66,6 +66,24 @@ INSTEAD = {
     "Instant": "write a `Duration` since a time of your choice",
     "NonZero": "write `NonZeroU8` and so on",
     "IndexMap": "write `Vec<(K, V)>`",
+    **{name: "write the value itself"
+       for name in "LazyCell LazyLock ManuallyDrop Mutex OnceCell OnceLock Pin RwLock".split()},
+    **{f"Atomic{name.title().replace('128', '')}": f"write `{name}`" for name in ["bool", *INTEGERS]},
+    "Weak": "write an index or an id of what it points to",
+    "Path": "write `String`",
+    "OsStr": "write `String` or `Vec<u8>`",
+    "CStr": "write `Vec<u8>`",
+    "CString": "write `Vec<u8>`",
+    "Bytes": "write `Vec<u8>`",
+    "BytesMut": "write `Vec<u8>`",
+    "IndexSet": "write `Vec<T>`",
+    "SmallVec": "write `Vec<T>`",
+    "TinyVec": "write `Vec<T>`",
+    **{name: "write `HashMap<K, V>`" for name in "AHashMap DashMap FxHashMap".split()},
+    **{name: "write `HashSet<T>`" for name in "AHashSet DashSet FxHashSet".split()},
+    **{name: "write `String`" for name in "CompactString EcoString SmartString SmolStr Url".split()},
+    **{name: "write the seconds or milliseconds since a time of your choice, as an `i64`"
+       for name in "DateTime NaiveDate NaiveDateTime OffsetDateTime PrimitiveDateTime Timestamp".split()},
 }
 # A tuple, a struct and a variant have no more fields than these.
 MOST_FIELDS = 16
@@ -122,7 +140,7 @@ def no_key(type, own, derive):
         if no_key(part, own, derive):
             return no_key(part, own, derive)
     item = own[type.name].item if type.kind == "path" and type.name in own else None
-    if not item or item.types:
+    if not item or item.types or item.consts:
         return ""
     missing = [word for word in ("PartialEq", "Eq", "PartialOrd", "Ord", *(("Hash",) if derive == "Hash" else ())) if word not in item.derives]
     if missing:
@@ -133,8 +151,21 @@ def no_key(type, own, derive):
 class Checker:
     """Whether the library writes and reads the types of an item's fields; and what they are imported from."""
 
-    def __init__(self, item, own):
-        self.item, self.own, self.imports, self.crates = item, own, set(), set()
+    def __init__(self, item, own, told):
+        self.item, self.own, self.told, self.imports, self.crates = item, own, told, set(), set()
+
+    def check_all(self):
+        """Checks the types of all fields."""
+        for field in fields_of(self.item):
+            self.check_parts([field.type])
+
+    def check_parts(self, parts):
+        """Checks each of the types, whatever is said of the others, and tells whether nothing is said of any."""
+        faults = len(self.told.faults)
+        for part in parts:
+            with self.told.going_on():
+                self.check(part)
+        return len(self.told.faults) == faults
 
     def check(self, type):
         """Stops at a type that the library does not write and read."""
@@ -146,9 +177,8 @@ class Checker:
             self.array(type)
         elif type.kind == "tuple":
             if len(type.parts) > MOST_FIELDS:
-                raise Refused(type.line, "a tuple has at most 16 fields: write a tuple of tuples")
-            for part in type.parts:
-                self.check(part)
+                self.told.fault(type.line, "a tuple has at most 16 fields: write a tuple of tuples")
+            self.check_parts(type.parts)
         elif type.kind == "path":
             self.path(type)
         else:
@@ -171,13 +201,14 @@ class Checker:
 
     def array(self, type):
         element = type.parts[0]
-        if not re.fullmatch(r"[0-9][0-9_]*(usize)?", type.name):
-            raise Refused(type.line, "write the array's length as a number")
         if any(name in self.item.types for name in names_in(element)):
             raise Refused(type.line, "arrays of a type parameter are not supported, since some would be too large: write `Vec<T>`")
         self.check(element)
 
     def path(self, type):
+        if (type.line, type.name) in self.told.blamed:
+            self.check_parts(type.parts if "<" in INSTEAD.get(type.name, "") else [])
+            return
         if type.name in self.item.types and not type.parts:
             return
         if type.name == self.item.name:
@@ -187,24 +218,38 @@ class Checker:
             return
         known = TYPES.get(type.name)
         if not known:
-            raise Refused(type.line, f"`{type.name}` is not supported: {self.instead(type)}")
+            self.unknown(type)
+            self.check_parts([part for part in type.parts if part.kind == "path" and not is_unsized(part)])
+            return
         if type.name in BORROWING:
             self.borrowing(type)
         numbers = [part for part in type.parts if part.kind == "number"]
         types = [part for part in type.parts if part.kind != "number" and not (part.kind == "lifetime" and type.name in BORROWING)]
         if (len(types), len(numbers)) != (known.types, known.numbers):
             raise Refused(type.line, f"`{type.name}` takes {known.types} types and {known.numbers} numbers here")
-        if type.name in KEYED and not can_be_key(types[0], self.own, {"Key", KEYED[type.name]}):
-            element = of_text(types[0] if len(types) == 1 else types[0]._replace(kind="tuple", parts=types))
-            instead = no_key(types[0], self.own, KEYED[type.name]) or f"write `Vec<{element}>`"
-            raise Refused(type.line, f"`{of_text(types[0])}` is not a key (docs/CODERS.md, \"Keys\"): {instead}")
         if known.path:
             self.imports.add(known.path)
             self.crates |= {known.path.split("::")[0]} - {"std"}
+        if type.name in ("PhantomData", "Absent"):
+            self.marker(type)
+            return
+        is_checked = self.check_parts(types[:1])
+        self.check_parts(types[1:])
+        if is_checked and type.name in KEYED:
+            self.key(type, types)
+
+    def marker(self, type):
+        """A type that holds no value of what it names."""
         if type.name == "Absent":
-            self.absent(types[0])
-        for part in types:
-            (self.marked if type.name in ("PhantomData", "Absent") else self.check)(part)
+            self.absent(type.parts[0])
+        self.marked(type.parts[0])
+
+    def key(self, type, types):
+        """Stops at a set or a map whose elements are no keys."""
+        if not can_be_key(types[0], self.own, {"Key", KEYED[type.name]}):
+            element = of_text(types[0] if len(types) == 1 else types[0]._replace(kind="tuple", parts=types))
+            instead = no_key(types[0], self.own, KEYED[type.name]) or f"write `Vec<{element}>`"
+            raise Refused(type.line, f"`{of_text(types[0])}` is not a key (docs/CODERS.md, \"Keys\"): {instead}")
 
     def absent(self, type):
         """Stops at a type that has values."""
@@ -221,25 +266,33 @@ class Checker:
         elif type.kind == "path" and type.name in TYPES:
             self.imports |= {TYPES[type.name].path} - {None}
             self.crates |= {(TYPES[type.name].path or "std").split("::")[0]} - {"std"}
-        elif type.kind == "path" and type.name not in self.item.types:
+        elif type.kind == "path" and type.name not in (*self.item.types, *self.item.consts):
             raise Refused(type.line, f"`{type.name}` is not defined: use a type that is, or remove the marker")
         for part in type.parts:
             self.marked(part)
 
+    def unknown(self, type):
+        """Says what to write in the place of a type that the library does not write."""
+        instead, name = self.instead(type), type.name
+        if instead:
+            self.told.fault(type.line, f"`{name}` is not supported: {instead}")
+        elif "*" not in self.own:
+            instead = f"declare it in this file, or bring it in with `use crate::..::{name};`"
+            self.told.fault(type.line, f"`{name}` is not known here: {instead}")
+
     def instead(self, type):
-        """What to write in the place of a type that the library does not write."""
         held = [part for part in type.parts if part.kind != "lifetime"]
         if type.name == "Cow" and held and held[0].kind == "slice":
             return f"write `BoxedSlice<{of_text(held[0].parts[0])}>` or `Vec<{of_text(held[0].parts[0])}>`"
         if type.name == "Cow" and held and not is_unsized(held[0]):
             return "write the value itself"
-        return INSTEAD.get(type.name, f"a type of your own needs a line `use crate::..::{type.name};` or its declaration above")
+        return INSTEAD.get(type.name)
 
     def own_type(self, type):
         path, item, *_ = self.own[type.name]
         if item and is_never(item):
             raise Refused(type.line, f"`{type.name}` has no values: write `Absent<{type.name}>`")
-        taken = len(type.parts) if not item else len(item.types) + bool(item.lifetime)
+        taken = len(type.parts) if not item else len(item.types) + len(item.consts) + bool(item.lifetime)
         if len(type.parts) != taken:
             raise Refused(type.line, f"`{type.name}` takes {taken} parameters")
         self.imports.add(path)
@@ -248,8 +301,8 @@ class Checker:
                 lifetime, head = self.item.lifetime or "'a", "" if self.item.lifetime else f"`{word_of(self.item)} {self.item.name}<'a>` and "
                 if part.name != self.item.lifetime:
                     raise Refused(type.line, f"write {head}`{lifetime}` for `{part.name}`")
-            else:
-                self.check(part)
+            elif part.kind != "number" and part.name not in self.item.consts:
+                self.check_parts([part])
 
 
 def names_in(type):

@@ -3,7 +3,7 @@
 from string import Template
 
 from known_types import MOST_TYPES, of_text, types_in
-from structs import bounds, in_a_head, paths, quoted
+from structs import arguments, bounds, in_a_head, paths, quoted
 from variants import LETTERS, arms, declaration, held_type, names_of, one_to_one, payload, value
 
 # So many variants that follow each other have their coders together, at the most: crates/bitcode_enums/src/variants.
@@ -18,7 +18,7 @@ MOST_IN_PLACE = 48
 # Of more fields than these the compiler needs to be told the types of what a coder takes.
 MOST_FOUND = 1
 
-FILE = """//! `$simple` is written and read by the numbers of its variants. What is below its declaration was written by `scripts/new_type`.
+OPENING = """//! `$simple` is written and read by the numbers of its variants. What is below its declaration was written by `scripts/new_type`.
 ghost use Rattle.std.specs.Prelude.{◌≡◌};
 ghost use Rattle.bitcode.specs.ByHand.{$by_hand};
 ghost use Rattle.$crate.specs.declared.$module.$ghost.{$ghost};
@@ -49,7 +49,8 @@ impl$life EnumOf<$count> for $name {
     ghost makes_variants = { λ d t made. made };
 }
 
-$groups
+"""
+FILE = OPENING + """$groups
 ${all_columns}type Decoders<$input> = $decoders;
 
 /// The columns of the payloads of `$simple`.
@@ -96,7 +97,7 @@ OWNED = """
 impl DecodeOwned for $name {}
 """
 
-GROUP = """${short_names}impl$life Variants$size<At<$first>, At<$end>, $short> for $name {
+VARIANTS = """${short_names}impl$life Variants$size<At<$first>, At<$end>, $short> for $name {
     ghost values = { ($values) };
 
     fn of_payload(payload: OneOf$size<$types>) -> Self
@@ -108,7 +109,8 @@ GROUP = """${short_names}impl$life Variants$size<At<$first>, At<$end>, $short> f
     ghost are = { ($are, refl) };
 }
 
-${alias}impl$life WritesVariants<At<$first>, At<$end>, $encoders> for $name {
+"""
+GROUP = VARIANTS + """${alias}impl$life WritesVariants<At<$first>, At<$end>, $encoders> for $name {
     fn write(&self, to: &mut $encoders) -> Result<(), Error> {
         match self {$encode}
     }
@@ -243,8 +245,8 @@ class Numbered:
         self.column_parts = parts_of(self.groups, weights, len(self.groups))
         self.is_split = len(self.column_parts) > 1
         self.types = [held_type(variant) for variant in enum.variants]
-        self.life, self.input = bounds(enum, ""), enum.lifetime or "'a"
-        self.name = enum.name + self.life
+        self.life, self.input = bounds(enum, "Shaped"), enum.lifetime or "'a"
+        self.name = enum.name + arguments(enum)
 
     def types_named(self):
         """How many types the decoder names: it ends at its parts."""
@@ -263,8 +265,8 @@ class Numbered:
         name = "Columns" + (f"Of{numbers[0]}To{numbers[-1]}" if len(self.groups) > 1 else "")
         return name, f"type {name} = {type};\n\n"
 
-    def group(self, numbers):
-        """What the enum says of variants that have their coders together."""
+    def of_group(self, numbers):
+        """What is written of variants that have their coders together, but for the type of their encoders."""
         rows, size = [(ORDINALS[place], self.enum.variants[n]) for place, n in enumerate(numbers)], len(numbers)
 
         def written(ordinal, variant):
@@ -274,26 +276,33 @@ class Numbered:
             return f"\n            {value(self.enum, variant)} => to.encode_{ordinal}{types}(self, &{fields}),"
 
         others = "\n            _ => unreachable!()," if len(self.groups) > 1 else ""
-        encoders, alias = self.encoders(numbers)
         short, short_names = in_a_head(self.enum, [self.types[n] for n in numbers], "Payload", numbers[0])
-        return Template(GROUP).substitute(
-            life=self.life,
-            size=size,
-            encoders=encoders,
-            alias=alias,
-            short=", ".join(short),
-            short_names=short_names,
-            first=numbers[0],
-            end=numbers[-1] + 1,
-            types=self.types_of(numbers),
-            name=self.name,
-            values=", ".join(f"λ p. {self.built(variant)}" for _, variant in rows),
-            arms=" ".join(f"(λ p. {self.built(variant)})" for _, variant in rows),
-            taken="payload.entry" if self.enum.lifetime else "payload",
-            are=", ".join([ARE] * size),
-            made="".join(f"\n            OneOf{size}::{ordinal.capitalize()}({payload(names_of(variant), '()')}) => {value(self.enum, variant)}," for ordinal, variant in rows) + "\n        ",
-            encode="".join(written(ordinal, variant) for ordinal, variant in rows) + others + "\n        ",
-        )
+
+        def made(ordinal, variant):
+            found = f"OneOf{size}::{ordinal.capitalize()}({payload(names_of(variant), '()')})"
+            return f"\n            {found} => {value(self.enum, variant)},"
+
+        return {
+            "life": self.life,
+            "size": size,
+            "short": ", ".join(short),
+            "short_names": short_names,
+            "first": numbers[0],
+            "end": numbers[-1] + 1,
+            "types": self.types_of(numbers),
+            "name": self.name,
+            "values": ", ".join(f"λ p. {self.built(variant)}" for _, variant in rows),
+            "arms": " ".join(f"(λ p. {self.built(variant)})" for _, variant in rows),
+            "taken": "payload.entry" if self.enum.lifetime else "payload",
+            "are": ", ".join([ARE] * size),
+            "made": "".join(made(ordinal, variant) for ordinal, variant in rows) + "\n        ",
+            "encode": "".join(written(ordinal, variant) for ordinal, variant in rows) + others + "\n        ",
+        }
+
+    def group(self, numbers):
+        """What the enum says of variants that have their coders together."""
+        encoders, alias = self.encoders(numbers)
+        return Template(GROUP).substitute(self.of_group(numbers), encoders=encoders, alias=alias)
 
     def decoders(self, groups):
         """The decoders of these groups: their type, and a mark of the input's lifetime and its value where none of them keeps a part of the input."""
@@ -337,13 +346,39 @@ class Numbered:
 
     def variants(self):
         """What the enum says of its variants: the payloads of each, the payload of a value, and the value that has a payload."""
-        *before, last = [f"⟦<{type} as Shaped>⟧.data" for type in self.types]
+        types = self.enum.types
+        *before, last = [f"{type}.data" if type in types else f"⟦<{type} as Shaped>⟧.data" for type in self.types]
         payload_of = [(" ".join([f"{quoted(self.enum.name)}.{variant.name}", *LETTERS[: len(variant.fields)]]), payload(list(LETTERS[: len(variant.fields)]), "tt")) for variant in self.enum.variants]
         *first, end = [f"λ p. ({self.built(variant)}, refl)" for variant in self.enum.variants]
         return {
             "payloads_of": "".join(f"payload_and {quote} (" for quote in before) + f"last_payload {last}" + ")" * len(before),
             "payload": " | ".join(f"{value} ↦ at {number} {held}" for number, (value, held) in enumerate(payload_of)),
             "values": "".join(f"(({value}), " for value in first) + end + ")" * len(first),
+        }
+
+    def opening(self, uses, by_hand=()):
+        """What the file has up to the variants' coders, with these lines and names besides those of all such files."""
+        by_hand = {*by_hand, *"columns_in each_variant enum_data is_variant last_payload payload_and payloads_in refl".split()}
+
+        def numbered(number, variant):
+            names = names_of(variant)
+            return f"told_as({number}, &{payload(names, '')})" if names else number
+
+        return {
+            "simple": self.enum.name,
+            "name": self.name,
+            "life": self.life,
+            "input": self.input,
+            "ghost": quoted(self.enum.name),
+            "crate": self.crate,
+            "module": self.module,
+            "count": self.count,
+            "uses": "\n".join(sorted({*uses, "use std::alloc::Global;"})) + "\n",
+            "declaration": declaration(self.enum),
+            "by_hand": ", ".join(sorted(by_hand | {f"of_one_of_{len(numbers)}" for numbers in self.groups})),
+            **self.variants(),
+            "one_to_one": one_to_one(self.enum),
+            "index": arms(self.enum, lambda number, variant: value(self.enum, variant), numbered),
         }
 
     def file(self, imports):
@@ -357,26 +392,9 @@ class Numbered:
         used |= {"NotCompared"} if has_parts else set()
         used |= ({"TwoGroups"} if len(self.groups) > 1 else set()) | (set() if self.enum.lifetime else {"DecodeOwned"})
 
-        def numbered(number, variant):
-            names = names_of(variant)
-            return f"told_as({number}, &{payload(names, '')})" if names else number
-
         return Template(FILE).substitute(
-            simple=self.enum.name,
-            name=self.name,
-            life=self.life,
-            input=self.input,
+            self.opening({f"use bitcode::{{{', '.join(sorted(used))}}};", *(f"use {path};" for path in imports)}),
             columns=f"{self.enum.name}Columns",
-            ghost=quoted(self.enum.name),
-            crate=self.crate,
-            module=self.module,
-            count=self.count,
-            uses="\n".join(sorted([f"use bitcode::{{{', '.join(sorted(used))}}};", "use std::alloc::Global;", *(f"use {path};" for path in imports)])) + "\n",
-            declaration=declaration(self.enum),
-            by_hand=", ".join(sorted({"columns_in", "each_variant", "enum_data", "is_variant", "last_payload", "payload_and", "payloads_in", "refl", *(f"of_one_of_{len(numbers)}" for numbers in self.groups)})),
-            **self.variants(),
-            one_to_one=one_to_one(self.enum),
-            index=arms(self.enum, lambda number, variant: value(self.enum, variant), numbered),
             groups="\n".join(map(self.group, self.groups)),
             all_columns=self.columns(),
             **payloads,

@@ -1,7 +1,8 @@
 """What the paths of a file name: types that the library writes and reads, and types of one's own."""
 
-from declarations import SAID, Refused, Struct, Type, Use, fields_of
-from known_types import TYPES, is_unsized, of_text
+from declarations import Type, Use, fields_of, with_fields
+from known_types import INSTEAD, TYPES, is_unsized, of_text
+from tokens import Refused
 
 # Where the types are that no `use` line has to bring in; those of them that are not named here are in std::primitive.
 MODULES = {"Box": "boxed", "Option": "option", "Result": "result", "String": "string", "Vec": "vec"}
@@ -26,88 +27,116 @@ def is_module(name):
     return name[0].islower() and name not in TYPES
 
 
-def refuse(path, line):
-    """Refuses a type of another crate, or one of std that shares the name of one that the library writes."""
+def instead_of(path):
+    """What to write in the place of a type of another crate, or of one of std."""
     name = path[-1]
-    instead = f"write `{path_of(name)}`, or a type of your own" if name in TYPES else "write a type of your own that holds what it holds"
-    raise Refused(line, f"`{'::'.join(path)}` is not supported: {instead}")
+    if name in TYPES:
+        return f"`{'::'.join(path)}` is not supported: write `{path_of(name)}`, or a type of your own"
+    if name in INSTEAD:
+        return f"`{name}` is not supported: {INSTEAD[name]}"
+    if path[0] == "serde_json":
+        return f"`{'::'.join(path)}` is not supported: write a `String` of JSON, or use the second format (docs/GUIDE.md)"
+    what = f"`{name}` is a type of std that is" if path[0] in STD else f"`{'::'.join(path)}` is"
+    return f"{what} not supported: write a type of your own that holds what it holds"
 
 
-def imports_of(uses):
+def imports_of(uses, faulty, told):
     """The types of one's own that the file brings in, and all that it does, by their names."""
     own, named = {}, {}
     for use in uses:
         root, name = use.path[0], use.name
         if root in ("self", "super"):
-            raise Refused(use.line, f"write the path of `{name}` starting with `crate`: the file is in src/")
-        if name in named:
-            if named[name].path == use.path:
-                continue
-            raise Refused(use.line, f"`{name}` is `{'::'.join(named[name].path)}` already: rename one of them")
-        named[name] = use
-        if root == "crate":
+            told.fault(use.line, f"write the path of `{name}` starting with `crate`: the file is in src/")
+            faulty.add(name)
+            continue
+        elif name in named and named[name].path != use.path:
+            told.fault(use.line, f"`{name}` is `{'::'.join(named[name].path)}` already: rename one of them")
+            continue
+        elif root == "crate":
             own |= {} if is_module(name) else {name: use}
-        elif not is_known(use.path) and not (root in ("bitcode", "serde") and name in SAID) and (root not in STD or name in TYPES):
-            refuse(use.path, use.line)
+        named[name] = use
     return own, named
 
 
-def resolve(items, own, named, taken):
-    """Sees that each path in the items is that of the type that its last word names here. One from `crate` on is brought in."""
-    declared = {item.name for item in items}
+class Paths:
+    """What the paths of the items' fields name. A type of one's own that a path from `crate` on names is brought in."""
 
-    def bring_in(path, line, parameters):
+    def __init__(self, items, own, named, taken, told):
+        self.declared = {item.name for item in items}
+        self.own, self.named, self.taken, self.told = own, named, taken, told
+
+    def bring_in(self, path, line, parameters):
         name = path[-1]
         if path[0] != "crate":
             raise Refused(line, f"write the path of `{name}` starting with `crate`: the file is in src/")
-        if name in declared:
+        if name in self.declared:
             raise Refused(line, f"write `{name}`: it is declared here")
-        if name in taken or name in parameters:
-            raise Refused(line, f"`{name}` is the name of another type: choose another name")
-        if name in own and own[name].path != path:
-            raise Refused(line, f"`{name}` is `{'::'.join(own[name].path)}` already: rename one of them")
-        own[name] = Use(name, path, line)
+        if name in self.taken:
+            raise Refused(line, self.taken[name])
+        if name in parameters:
+            raise Refused(line, f"`{name}` is a parameter of the type: choose another name for one of them")
+        if name in self.own and self.own[name].path != path:
+            raise Refused(line, f"`{name}` is `{'::'.join(self.own[name].path)}` already: rename one of them")
+        self.own[name] = Use(name, path, line)
 
-    def see(type, parameters):
+    def see(self, type, parameters):
+        """Sees that the path is that of the type that its last word names here."""
+        faults = len(self.told.faults)
+        with self.told.going_on():
+            self.see_path(type, parameters)
+        if len(self.told.faults) > faults:
+            self.told.blamed.add((type.line, type.name))
+            # What is to be written in its place may hold what it holds.
+            if "<" not in INSTEAD.get(type.name, ""):
+                return
         for part in type.parts:
-            see(part, parameters)
-        if len(type.path) < 2:
+            self.see(part, parameters)
+
+    def see_path(self, type, parameters):
+        if not type.path:
             return
-        path = (*named[type.path[0]].path, *type.path[1:]) if type.path[0] in named else type.path
-        name = path[-1]
+        is_used = type.path[0] in self.named and type.path[0] not in parameters
+        path = (*self.named[type.path[0]].path, *type.path[1:]) if is_used else type.path
+        name, others = path[-1], {*self.declared, *self.own, *parameters}
+        if len(path) < 2 or is_used and len(type.path) == 1 and path[0] in ("crate", "self", "super"):
+            return
         if path[0] in ("crate", "self", "super"):
-            bring_in(path, type.line, parameters)
-        elif not is_known(path) and (path[0] not in STD or name in TYPES or name in {*declared, *own, *parameters}):
-            refuse(path, type.line)
-        elif is_known(path) and name in {*declared, *own, *parameters}:
+            self.bring_in(path, type.line, parameters)
+        elif path[0] in parameters:
+            raise Refused(type.line, f"`{'::'.join(path)}` is not supported: write a type parameter of its own for it")
+        elif not is_known(path):
+            # A type of std that the library does not write is refused with all that is said of it.
+            if path[0] not in STD or name in TYPES or name in others or name not in INSTEAD:
+                raise Refused(type.line, instead_of(path))
+        elif name in others:
             raise Refused(type.line, f"`{name}` is a type of your own here: choose another name for it")
 
-    for item in items:
-        for field in fields_of(item):
-            see(field.type, item.types)
+    def all(self, items, faulty):
+        for item in items:
+            faults = len(self.told.faults)
+            for field in fields_of(item):
+                self.see(field.type, (*item.types, *item.consts))
+            faulty |= {item.name} if len(self.told.faults) > faults else set()
 
 
-def sized(items, notes):
-    """The items with a type that has a size for each `Box`, `Rc` and `Arc` of a text or a slice, and each `Cow` of a text, which the toolchain
-    does not have."""
+def sized(items, told):
+    """The items with other types for each `Box`, `Rc` and `Arc` of a text or a slice, and each `Cow` of a text, which the
+    toolchain does not have."""
 
     def of_type(type):
         declared, type = of_text(type), type._replace(parts=[of_type(part) for part in type.parts])
-        if type.kind == "path" and type.name == "Cow" and len(type.parts) == 2 and (type.parts[1].kind, type.parts[1].name) == ("path", "str"):
-            written = Type("path", "CowStr", type.parts[:1], type.line)
-        elif type.kind == "path" and type.name in ("Box", "Rc", "Arc") and len(type.parts) == 1 and is_unsized(type.parts[0]):
-            inner, head = type.parts[0], "Boxed" if type.name == "Box" else type.name
+        parts = type.parts
+        if type.kind == "path" and type.name == "Cow" and len(parts) == 2 and (parts[1].kind, parts[1].name) == ("path", "str"):
+            written = Type("path", "CowStr", parts[:1], type.line)
+        elif type.kind == "path" and type.name in ("Box", "Rc", "Arc") and len(parts) == 1 and is_unsized(parts[0]):
+            inner, head = parts[0], "Boxed" if type.name == "Box" else type.name
             written = Type("path", head + ("Slice" if inner.kind == "slice" else "Str"), inner.parts, type.line)
         else:
             return type
-        notes.append(f"line {type.line}: `{declared}` is written `{of_text(written)}`")
+        told.note(type.line, f"`{declared}` is written `{of_text(written)}`")
         return written
 
     def of_fields(fields):
         return [field._replace(type=of_type(field.type)) for field in fields]
 
-    return [
-        item._replace(fields=of_fields(item.fields)) if isinstance(item, Struct)
-        else item._replace(variants=[variant._replace(fields=of_fields(variant.fields)) for variant in item.variants])
-        for item in items
-    ]
+    return [with_fields(item, of_fields) for item in items]

@@ -3,7 +3,8 @@
 import re
 from string import Template
 
-from declarations import Refused, fields_of
+from declarations import fields_of
+from tokens import Refused
 from known_types import MOST_LEFT, MOST_TYPES, Checker, of_text, types_in
 
 # The names of fields without a name.
@@ -58,7 +59,7 @@ ${ghost_use}    type Field = $type;
 }
 
 """
-IN_FIELDS = """type Fields$life = <$nested as HasEncoder>::Encoder;
+IN_FIELDS = """type Fields$head = <$nested as HasEncoder>::Encoder;
 
 impl$encoded InFields<Fields$life> for $name {
     type Numbers = $numbers;
@@ -192,7 +193,19 @@ def bounds(item, bound, lifetime=None):
     """The parameters of the item, each type with the bound; with another lifetime before them, if it has none of its own."""
     first = lifetime or item.lifetime
     listed = ([first] if first else []) + [f"{name}: {bound}" if bound else name for name in item.types]
+    listed += [f"const {name}: usize" for name in item.consts]
     return f"<{', '.join(listed)}>" if listed else ""
+
+
+def arguments(item):
+    """What the item takes, as its type has it."""
+    listed = [name for name in (item.lifetime, *item.types, *item.consts) if name]
+    return f"<{', '.join(listed)}>" if listed else ""
+
+
+def is_generic(item):
+    """Whether the item has parameters besides a lifetime."""
+    return bool(item.types or item.consts)
 
 
 def parameter(name):
@@ -222,20 +235,20 @@ def in_a_head(item, types, prefix, first=0):
 
 def inside(item, types):
     """A type that names those of all fields and of all that is inside them: the toolchain states no impl without it."""
-    if item.types:
+    if is_generic(item):
         return halved(types) if types else "()"
-    return f"<{item.name}{bounds(item, '')} as HasDecoder<{item.lifetime or chr(39) + 'static'}>>::Decoder"
+    return f"<{item.name}{arguments(item)} as HasDecoder<{item.lifetime or chr(39) + 'static'}>>::Decoder"
 
 
 def fields_text(item, own, lent, law, ghost_use="", nested=paired):
     """How the fields are lent, of the terms and bodies that give each of them, in which nested pairs they are encoded, and by what."""
-    types, name = [of_text(field.type) for field in fields_of(item)], item.name + bounds(item, "")
+    types, name = [of_text(field.type) for field in fields_of(item)], item.name + arguments(item)
     texts = []
     for number, (type, (ghost_field, body)) in enumerate(zip(types, lent)):
         texts.append(Template(FIELD).substitute(parameters=bounds(item, "Shaped"), number=number, type=type, name=name, ghost_use=ghost_use, ghost_field=ghost_field, lent=body))
     numbers = [f"Nth<{number}>" for number in range(len(types))]
     row = {"nested": nested(types), "numbers": nested(numbers)} if types else {"nested": "()", "numbers": "()"}
-    return "".join(texts) + Template(IN_FIELDS).substitute(row, life=bounds(item, ""), encoded=bounds(item, "Encode"), has_encoder=bounds(item, "HasEncoder"), name=name, inside=inside(item, types), alike="λ t. " + (law if len(types) < 2 else law[1:-1]))
+    return "".join(texts) + Template(IN_FIELDS).substitute(row, head=bounds(item, ""), life=arguments(item), encoded=bounds(item, "Encode"), has_encoder=bounds(item, "HasEncoder"), name=name, inside=inside(item, types), alike="λ t. " + (law if len(types) < 2 else law[1:-1]))
 
 
 def types_left(item, own):
@@ -245,7 +258,7 @@ def types_left(item, own):
     for field in fields:
         saved[of_text(field.type)] = saved.get(of_text(field.type), 0) + types_in(field.type, own) - 1
     left, apart = len(fields) + sum(saved.values()), []
-    if item.types and left <= MOST_TYPES:
+    if is_generic(item) and left <= MOST_TYPES:
         return left, apart
     for text in sorted(saved, key=lambda text: -saved[text]):
         if left > MOST_LEFT:
@@ -277,7 +290,7 @@ def decoder_of_parts(item, own, input, parts):
     if not found:
         return f"<{parts} as HasDecoder<{input}>>::Decoder", ""
     most, line = max((types_in(field.type, own), field.type.line) for field in fields)
-    if item.types or most > MOST_TYPES:
+    if is_generic(item) or most > MOST_TYPES:
         raise Refused(line, f"the fields name more than {MOST_TYPES} types, the borrow checker's limit for a decoder: move them to another struct without type parameters")
     apart = {text: f"{item.name}Decoder{number}" for number, text in enumerate(found)}
     texts = [Template(APART).substitute(simple=item.name, apart=name, input=input, inner=f"<{text} as HasDecoder<{input}>>::Decoder", type=text) for text, name in apart.items()]
@@ -287,12 +300,12 @@ def decoder_of_parts(item, own, input, parts):
 def tuple_text(item, imports, own, lent, **row):
     """The file of what stands for the tuple of its fields, of what is said of these."""
     is_owned = not item.lifetime
-    fields, name, input = fields_of(item), item.name + bounds(item, ""), item.lifetime or "'a"
+    fields, name, input = fields_of(item), item.name + arguments(item), item.lifetime or "'a"
     used = {"ConvertFrom", "Error", "HasDecoder", "HasEncoder", "InFields", "Shaped", "StructEncoder"}
     used |= {"HasField", "Nth"} if fields else set()
     used |= {"Encode"} if item.types else set()
     used |= {"DecodeOwned"} if is_owned else set()
-    parts, alias = halved([of_text(field.type) for field in fields]) if fields else "()", "Parts" + bounds(item, "")
+    parts, alias = halved([of_text(field.type) for field in fields]) if fields else "()", "Parts" + arguments(item)
     is_long = len(row["pattern"]) + len(parts) > MOST_IN_LINE
     type_of_decoder, apart = decoder(item, own, input, alias if is_long else parts)
     used |= {"ConvertFromDecoder", "TupleDecoder"} if apart else {"DecoderOfFields"}
@@ -302,7 +315,7 @@ def tuple_text(item, imports, own, lent, **row):
     row |= {
         "decoder": type_of_decoder,
         "apart": apart,
-        "alias": f"type {alias} = {parts};\n\n" if is_long else "",
+        "alias": f"type Parts{bounds(item, '')} = {parts};\n\n" if is_long else "",
         "uses": "\n".join(sorted(lines)) + "\n",
         "name": name,
         "parts": alias if is_long else parts,
@@ -342,10 +355,9 @@ def file_text(struct, imports, own):
     )
 
 
-def struct_text(struct, own):
+def struct_text(struct, own, told):
     """The file of a struct, and the crates that it needs."""
-    checker = Checker(struct, own)
-    for field in struct.fields:
-        checker.check(field.type)
+    checker = Checker(struct, own, told)
+    checker.check_all()
     return file_text(struct, checker.imports, own), checker.crates
 

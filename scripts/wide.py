@@ -2,9 +2,11 @@
 
 from string import Template
 
-from declarations import Refused, fields_of
+from declarations import fields_of
 from known_types import MOST_LEFT, MOST_TYPES, Checker, names_in, of_text, types_in
-from structs import APART, BODY, DATA, HEAD, OWNED, alike, bounds, declaration, decoder, decoder_of_parts, fields_text, halved, initialized, paired, parameter, paths, places, quoted, types_left
+from tokens import Refused
+from structs import APART, BODY, DATA, HEAD, OWNED, alike, arguments, bounds, declaration, decoder, decoder_of_parts
+from structs import fields_text, halved, initialized, is_generic, paired, parameter, paths, places, quoted, types_left
 
 # A struct has no more fields than these, which name no more types: of more the borrow checker covers no encoder.
 MOST_WIDE = MOST_ENCODED = 48
@@ -54,9 +56,9 @@ def types_of_wide(struct, own):
 
 def part_text(part, struct, number, own, is_apart):
     """What is written of a part."""
-    input, name = part.lifetime or "'a", part.name + bounds(part, "")
+    input, name = part.lifetime or "'a", part.name + arguments(part)
     fields, types = part.fields, [of_text(field.type) for field in part.fields]
-    alias = f"Fields{number}" + bounds(part, "")
+    alias = f"Fields{number}" + arguments(part)
     inner, apart = decoder_of_parts(part, own, input, alias)
     type_of_decoder = decoder(part, own, input, alias)[0]
     if is_apart:
@@ -78,30 +80,31 @@ def alike_parts(sizes):
     return alike(sizes[0]) if len(sizes) == 1 else f"(pair_alike {alike_parts(sizes[:half])} {alike_parts(sizes[half:])})"
 
 
-def wide_text(struct, own):
+def wide_text(struct, own, told):
     """The file of the struct, and the crates that it needs."""
     if len(struct.fields) > MOST_WIDE:
         raise Refused(struct.line, f"{len(struct.fields)} fields exceed the limit of {MOST_WIDE}: move some of them to another struct")
     if struct.kind != "named":
         raise Refused(struct.line, f"{len(struct.fields)} fields exceed the limit of 16 for fields without names: name them")
-    if struct.types:
-        raise Refused(struct.line, f"a struct with more than 16 fields cannot have type parameters: write the type itself for `{struct.types[0]}`")
-    checker = Checker(struct, own)
-    for field in struct.fields:
-        checker.check(field.type)
-    parts, input, name = parts_of(struct), struct.lifetime or "'a", struct.name + bounds(struct, "")
+    if is_generic(struct):
+        parameter_of = [*struct.types, *struct.consts][0]
+        why = "a struct with more than 16 fields cannot have type parameters"
+        raise Refused(struct.line, f"{why}: write the type itself for `{parameter_of}`")
+    checker = Checker(struct, own, told)
+    checker.check_all()
+    parts, input, name = parts_of(struct), struct.lifetime or "'a", struct.name + arguments(struct)
     is_apart = types_named(parts, own, False) > MOST_LEFT
     if types_of_wide(struct, own) > MOST_TYPES:
         raise Refused(struct.line, f"the fields name more than {MOST_TYPES} types, the borrow checker's limit for a decoder: move those of your own types that allocate to another struct")
     if sum(types_encoded(field.type, own) for field in struct.fields) > MOST_ENCODED:
-        raise Refused(struct.line, f"the fields name more than {MOST_ENCODED} types, the borrow checker's limit for an encoder: move some of them to another struct")
+        raise Refused(struct.line, f"the fields name more than {MOST_ENCODED} types, the borrow checker's limit for an encoder: group consecutive fields in structs, until it has 16 fields or fewer")
     texts, uses_apart = [], False
     for number, part in enumerate(parts):
         text, has_apart = part_text(part, struct, number, own, is_apart)
         texts.append(text)
         uses_apart |= has_apart
-    alias = "Parts" + bounds(struct, "")
-    whole = [part.name + bounds(part, "") for part in parts]
+    alias = "Parts" + arguments(struct)
+    whole = [part.name + arguments(part) for part in parts]
     found = [(field, f"{place}.{field.name}") for part, place in zip(parts, paths(len(parts))) for field in part.fields]
     names = {field.name for field in struct.fields}
     held = [f"part{number}{'_' * any(name.startswith('part') for name in names)}" for number in range(len(parts))]

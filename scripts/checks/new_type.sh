@@ -44,8 +44,8 @@ grep -q 'run=ended status=0' "$work/log" || {
   wrong=1
 }
 
-# A line has a declaration, and what is said of it after ` => `. The crate that it is for has a file of its own, and
-# stays as it is.
+# A line has a declaration, and what is said of it after ` => `, where `\n` parts lines. The crate that it is for has a
+# file of its own, and stays as it is.
 mkdir -p "$work/given/own/src" && echo "//! By hand." >"$work/given/own/src/a.rt" || exit 2
 python3 - "$work/given/own" <<'PYTHON' || wrong=1
 import contextlib
@@ -75,11 +75,11 @@ def answer(declaration, folder):
 
 
 with open("scripts/own_types/refused.txt") as file:
-    rows = [line.split(" => ") for line in file.read().splitlines() if line]
+    rows = [line.replace("\\n", "\n").split(" => ") for line in file.read().splitlines() if line]
 folder, wrong = sys.argv[1], not rows
 for declaration, expected in rows:
     status, printed, said = answer(declaration, folder)
-    if (status, printed, said) != (2, "", f"new_type: {expected}\n"):
+    if (status, printed, said) != (2, "", "".join(f"new_type: {fault}\n" for fault in expected.split("\n"))):
         print(f"new_type: {declaration}: status {status}, {said or printed}")
         wrong = True
 sys.exit(wrong)

@@ -1,0 +1,185 @@
+"""The file of an enum with type parameters of which some variants have fields. Its coders are type parameters, too."""
+
+import re
+from string import Template
+
+from known_types import MOST_TYPES, of_text, types_in
+from numbered import OPENING, VARIANTS, Numbered
+from structs import arguments, bounds, paired
+from tokens import Refused
+
+# The variants have their coders together, and so many can: crates/bitcode_enums/src/variants.
+MOST_VARIANTS = 4
+PLACES = ["first", "second", "third", "fourth"]
+
+COLUMNS = """$encoding WritesVariants<At<0>, At<$count>, $encoders> for $name {
+    fn write(&self, to: &mut $encoders) -> Result<(), Error> {
+        match self {$encode}
+    }
+
+    ghost are_columns = { λ c. (refl, $in_place) };
+}
+
+/// The columns of the payloads of `$simple`, by their encoders.
+#[derive(Drop)]
+pub struct ${simple}Columns<$es> {
+    all: $encoders,
+}
+
+impl<$buffers> VariantColumns for ${simple}Columns<$es> {
+    ghost columns = { columns_in (λ c. c.all) ⟦<$encoders as VariantColumns>⟧.columns };
+
+    fn new(alloc: Global) -> Self {
+        ${simple}Columns { all: VariantColumns::new(alloc) }
+    }
+
+    fn collect_all(&mut self, out: &mut Vec<u8>) -> Result<(), Error> {
+        self.all.collect_all(out)
+    }
+
+    fn clear_all(&mut self) {
+        self.all.clear_all();
+    }
+}
+
+$encoding WritesVariants<At<0>, At<$count>, ${simple}Columns<$es>> for $name {
+    fn write(&self, to: &mut ${simple}Columns<$es>) -> Result<(), Error> {
+        WritesVariants::<At<0>, At<$count>, $encoders>::write(self, &mut to.all)
+    }
+
+    ghost are_columns = { λ c. (refl, $inside) };
+}
+
+"""
+PAYLOADS = """/// The payloads that values of `$simple` are made of, by their decoders.
+#[derive(Drop)]
+pub struct ${simple}Payloads<$types, $ds> {
+    all: $decoders,
+}
+
+impl<$input, $shaped, $decoding> VariantPayloads<$input, At<0>, At<$count>, $name> for ${simple}Payloads<$types, $ds> {
+    ghost held = { payloads_in (λ d. d.all)
+        ⟦<$decoders as VariantPayloads<$input, At<0>, At<$count>, $name>>⟧.held };
+
+    fn new(alloc: Global) -> Self {
+        ${simple}Payloads { all: VariantPayloads::<At<0>, At<$count>, $name>::new(alloc) }
+    }
+
+    fn read_at(
+        &mut self,
+        number: usize,
+        input: &mut &$input [u8],
+        k: usize,
+        strict: bool,
+        free: &mut u128,
+    ) -> Result<bool, Error> {
+        VariantPayloads::<At<0>, At<$count>, $name>::read_at(&mut self.all, number, input, k, strict, free)
+    }
+
+    fn decode_at(&mut self, number: usize) -> Result<$name, Error> {
+        VariantPayloads::<At<0>, At<$count>, $name>::decode_at(&mut self.all, number)
+    }
+
+    fn sized(&self) {}
+}
+
+type ColumnsOf$arguments = ${simple}Columns<$all_encoders>;
+
+type PayloadsOf<$input, $types> = ${simple}Payloads<$types, $all_decoders>;
+
+impl$has_encoder HasEncoder for $name {
+    type Encoder = EnumEncoder<$count, ColumnsOf$arguments>;
+}
+
+impl$has_decoder HasDecoder<$input> for $name {
+    type Decoder = EnumDecoder<$input, $count, $name, PayloadsOf<$input, $types>>;
+}
+
+impl$owned DecodeOwned for $name {}
+"""
+
+
+class Generic(Numbered):
+    """The parts of the file of an enum with type parameters."""
+
+    def __init__(self, enum, own, crate, module):
+        super().__init__(enum, own, crate, module)
+        self.own, self.groups = own, [range(self.count)]
+
+    def check(self):
+        """Stops at an enum whose coders cannot be type parameters."""
+        line, lifetime, types = self.enum.line, self.enum.lifetime, self.enum.types
+        if lifetime:
+            why = "the borrow checker covers no enum with fields that has a lifetime and type parameters"
+            raise Refused(line, f"{why}: write `String` for `&{lifetime} str`, or the type itself for `{types[0]}`")
+        if self.count > MOST_VARIANTS:
+            why = f"an enum with type parameters has at most {MOST_VARIANTS} variants if one has fields"
+            raise Refused(line, f"{why}: move some of them to another enum")
+        if self.types_named() > MOST_TYPES:
+            why = f"the variants name more than {MOST_TYPES} types, the borrow checker's limit for a decoder"
+            raise Refused(line, f"{why}: move fields to a struct without type parameters")
+
+    def types_named(self):
+        """How many types the decoder names: it ends at no struct."""
+        fields = [field for variant in self.enum.variants for field in variant.fields]
+        return 2 + self.count + sum(types_in(field.type, self.own) for field in fields)
+
+    def letters(self, count, *found):
+        """Names for so many parameters, with the first of these letters that no name of the enum begins with."""
+        used = " ".join([self.enum.name, *self.enum.types, *self.types])
+        letter = next(letter for letter in found if not re.search(rf"\b{letter}[0-9]", used))
+        return [f"{letter}{number}" for number in range(1, 1 + count)]
+
+    def encoders_of(self):
+        """The encoder of each variant's payload, with a parameter for each field; and these with what they encode."""
+        fields = [[of_text(field.type) for field in variant.fields] or ["()"] for variant in self.enum.variants]
+        names = iter(self.letters(sum(map(len, fields)), "E", "C", "Q"))
+        found = [[(next(names), type) for type in types] for types in fields]
+        pairs = [paired([name for name, _ in part]) for part in found]
+        return [text.replace("(", "TupleEncoder<").replace(")", ">") for text in pairs], sum(found, [])
+
+    def columns_alike(self, encoders, place):
+        """That the columns in that place are those of the variants."""
+        found = "refl"
+        for encoder, type, name in reversed(list(zip(encoders, self.types, PLACES))):
+            trait = f"⟦<{encoder} as Encoder<{type}>>⟧" if "<" in encoder else encoder
+            found = f"columns_and ({trait}.of_shape {place}.{name}) " + (found if found == "refl" else f"({found})")
+        return found
+
+    def coders(self):
+        """What is written of the coders that are parameters."""
+        (encoders, es), ds = self.encoders_of(), self.letters(self.count, "D", "P", "R")
+        shaped = ", ".join(f"{name}: Shaped" for name in self.enum.types)
+        decoding = [f"{name}: View<{self.input}> + Decoder<{type}>" for name, type in zip(ds, self.types)]
+        return {
+            "shaped": shaped,
+            "es": ", ".join(name for name, _ in es),
+            "ds": ", ".join(ds),
+            "encoding": f"impl<{shaped}, {', '.join(f'{name}: Buffer + Encoder<{type}>' for name, type in es)}>",
+            "buffers": ", ".join(f"{name}: Buffer" for name, _ in es),
+            "encoders": f"Encoders{self.count}<At<0>, {', '.join(encoders)}>",
+            "decoding": ", ".join(decoding),
+            "decoders": f"Decoders{self.count}<At<0>, ({', '.join(self.types)}), {', '.join(ds)}>",
+            "in_place": self.columns_alike(encoders, "c"),
+            "inside": self.columns_alike(encoders, "c.all"),
+            "all_encoders": ", ".join(f"<{type} as HasEncoder>::Encoder" for _, type in es),
+            "all_decoders": ", ".join(f"<{type} as HasDecoder<{self.input}>>::Decoder" for type in self.types),
+        }
+
+    def file(self, imports):
+        """The file of the type."""
+        self.check()
+        enum, count = self.enum, self.count
+        used = set("At DecodeOwned Enum EnumDecoder EnumEncoder EnumOf Error HasDecoder HasEncoder Shaped "
+                   "VariantColumns VariantPayloads WritesVariants told_as".split())
+        used |= {f"{kind}{count}" for kind in ("Decoders", "Encoders", "OneOf", "Variants")}
+        used |= {"TupleEncoder"} if any(len(variant.fields) > 1 for variant in enum.variants) else set()
+        uses = {f"use bitcode::{{{', '.join(sorted(used))}}};", *(f"use {path};" for path in imports)}
+        uses.add("use bitcode::coder::{Buffer, Decoder, Encoder, View};")
+        row = self.of_group(self.groups[0]) | {"types": ", ".join(enum.types)}
+        row |= {"simple": enum.name, "count": count, "input": self.input, "arguments": arguments(enum)}
+        row |= {"has_encoder": bounds(enum, "HasEncoder"), "owned": bounds(enum, "DecodeOwned")}
+        row |= {"has_decoder": bounds(enum, f"HasDecoder<{self.input}>", self.input)}
+        opening = Template(OPENING).substitute(self.opening(uses, {"columns_and"}))
+        variants = Template(VARIANTS).substitute(self.of_group(self.groups[0]))
+        return opening + variants + Template(COLUMNS + PAYLOADS).substitute(row | self.coders())
