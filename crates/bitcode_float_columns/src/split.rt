@@ -1,6 +1,7 @@
 //! Packing and unpacking the bits of 4-byte floats.
-ghost use Rattle.std.specs.Prelude.{◌≡◌, ◌≢◌, ◌+◌, ◌*◌, ◌<◌, ◌≤◌, ◌++◌, [], ◌∷◌, Some, length, map, take, drop, to_bits, from_bits};
-ghost use Rattle.std.specs.Prelude.{vec_len, vec_capacity, IsTrue, IsFalse, ◌/◌, IsOk, IfOk, OnOk, IfErr, OnErr, ◌↔◌, All, MatchBool};
+ghost use Rattle.std.specs.Prelude.{◌≡◌, ◌≢◌, ◌+◌, ◌*◌, ◌<◌, ◌≤◌, ◌++◌, [], ◌∷◌, Some, length, map, take, drop};
+ghost use Rattle.std.specs.Prelude.{to_bits, from_bits, vec_len, vec_capacity, IsTrue, IsFalse, ◌/◌, IsOk, IfOk};
+ghost use Rattle.std.specs.Prelude.{OnOk, IfErr, OnErr, ◌↔◌, All, MatchBool};
 ghost use Rattle.std.specs.Float.{NotNan, binary32};
 ghost use Rattle.bitcode_memory.specs.LittleEndian.{raw_text};
 ghost use Rattle.bitcode_columns.specs.Reading.{Reads, missing};

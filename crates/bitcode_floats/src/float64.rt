@@ -137,7 +137,8 @@ fn bits_of(bytes: [u8; 8]) -> u64
 // The floats with these bits.
 fn floats_of(alloc: Global, entries: &[[u8; 8]]) -> Result<Vec<f64>, Error>
     ensures floats { IfOk result
-        (λ floats. floats.items ≡ map (λ entry. from_bits binary64 (residue_of entry)) entries.now) }
+        (λ floats. floats.items ≡ map (λ entry. from_bits binary64 (residue_of entry))
+        entries.now) }
     ensures reason { IfErr result (λ e. e.reason ≡ Reason.OutOfMemory) }
     ensures none { length entries.now ≡ 0 → IsOk result }
 {

@@ -31,37 +31,58 @@ impl HasEncoder for IpAddr {
 }
 
 impl<'a> HasDecoder<'a> for IpAddr {
-    type Decoder = ConvertFromDecoder<IpAddrConversion, <IpAddrConversion as HasDecoder<'a>>::Decoder>;
+    type Decoder = ConvertFromDecoder<
+        IpAddrConversion,
+        <IpAddrConversion as HasDecoder<'a>>::Decoder,
+    >;
 }
 
 impl DecodeOwned for IpAddr {}
 
 impl HasEncoder for SocketAddrV4 {
-    type Encoder = ConvertIntoEncoder<SocketAddrV4Conversion, <SocketAddrV4Conversion as HasEncoder>::Encoder>;
+    type Encoder = ConvertIntoEncoder<
+        SocketAddrV4Conversion,
+        <SocketAddrV4Conversion as HasEncoder>::Encoder,
+    >;
 }
 
 impl<'a> HasDecoder<'a> for SocketAddrV4 {
-    type Decoder = ConvertFromDecoder<SocketAddrV4Conversion, <SocketAddrV4Conversion as HasDecoder<'a>>::Decoder>;
+    type Decoder = ConvertFromDecoder<
+        SocketAddrV4Conversion,
+        <SocketAddrV4Conversion as HasDecoder<'a>>::Decoder,
+    >;
 }
 
 impl DecodeOwned for SocketAddrV4 {}
 
 impl HasEncoder for SocketAddrV6 {
-    type Encoder = ConvertIntoEncoder<SocketAddrV6Conversion, <SocketAddrV6Conversion as HasEncoder>::Encoder>;
+    type Encoder = ConvertIntoEncoder<
+        SocketAddrV6Conversion,
+        <SocketAddrV6Conversion as HasEncoder>::Encoder,
+    >;
 }
 
 impl<'a> HasDecoder<'a> for SocketAddrV6 {
-    type Decoder = ConvertFromDecoder<SocketAddrV6Conversion, <SocketAddrV6Conversion as HasDecoder<'a>>::Decoder>;
+    type Decoder = ConvertFromDecoder<
+        SocketAddrV6Conversion,
+        <SocketAddrV6Conversion as HasDecoder<'a>>::Decoder,
+    >;
 }
 
 impl DecodeOwned for SocketAddrV6 {}
 
 impl HasEncoder for SocketAddr {
-    type Encoder = ConvertIntoEncoder<SocketAddrConversion, <SocketAddrConversion as HasEncoder>::Encoder>;
+    type Encoder = ConvertIntoEncoder<
+        SocketAddrConversion,
+        <SocketAddrConversion as HasEncoder>::Encoder,
+    >;
 }
 
 impl<'a> HasDecoder<'a> for SocketAddr {
-    type Decoder = ConvertFromDecoder<SocketAddrConversion, <SocketAddrConversion as HasDecoder<'a>>::Decoder>;
+    type Decoder = ConvertFromDecoder<
+        SocketAddrConversion,
+        <SocketAddrConversion as HasDecoder<'a>>::Decoder,
+    >;
 }
 
 impl DecodeOwned for SocketAddr {}
