@@ -10,7 +10,7 @@ pub returns-in_err-y-clause-refused : goal.returns-in_err-y-clause-refused
 returns-in_err-y-clause-refused c = struct_refused _ _ _ c.from_residual-in_err-y.ensures.1 c.in_ok-x.ensures.read c.in_err-y.ensures.refused
 
 pub returns-in_err-y-clause-exact : goal.returns-in_err-y-clause-exact
-returns-in_err-y-clause-exact c = struct_exact {t = text_shape None} _ _ _ c.from_residual-in_err-y.ensures.1 c.in_ok-x.ensures.read c.in_err-y.ensures.exact
+returns-in_err-y-clause-exact c = struct_exact (text_shape None) _ _ c.from_residual-in_err-y.ensures.1 c.in_ok-x.ensures.read c.in_err-y.ensures.exact
 
 pub returns-clause-judged : goal.returns-clause-judged
 returns-clause-judged c strict =

@@ -46,7 +46,7 @@ returns-clause-read c =
 pub returns-clause-counted : goal.returns-clause-counted
 returns-clause-counted c =
     counts_two (int_shape 1 false) (int_shape 1 true) c.in_ok-variants.ensures.read (c.in_ok-variants.ensures.counts refl) c.length.ensures c.in_ok-a.ensures.read c.length-2.ensures c.in_ok-b.ensures.read
-    _ _ c.in_ok-a.ensures.counted c.in_ok-b.ensures.counted
+    0 0 c.in_ok-a.ensures.counted c.in_ok-b.ensures.counted
 
 pub returns-clause-judged : goal.returns-clause-judged
 returns-clause-judged c strict =
