@@ -21,13 +21,13 @@ WORDS = {
     "CHANGES.md": 1500,
     "CONTRIBUTING.md": 1200,
     "SECURITY.md": 350,
-    "docs/ARCHITECTURE.md": 1670,
+    "docs/ARCHITECTURE.md": 1700,
     "docs/CODERS.md": 2500,
-    "docs/DECISIONS.md": 2900,
+    "docs/DECISIONS.md": 2950,
     "docs/DIFFERENCES.md": 1500,
     "docs/EXAMPLES.md": 1200,
     "docs/FORMAT.md": 3500,
-    "docs/GUIDE.md": 2800,
+    "docs/GUIDE.md": 2880,
     "docs/PROMISES.md": 3950,
     "docs/PROVING.md": 1050,
     "docs/SEALED.md": 1050,
@@ -35,7 +35,7 @@ WORDS = {
     "docs/TESTING.md": 1150,
     "docs/TOOLCHAIN.md": 1650,
 }
-WORDS_IN_ALL = 25750
+WORDS_IN_ALL = 26300
 COLUMNS = 120
 HISTORY = "docs/HISTORY.md"
 COUNTED = "docs/TESTING.md"
