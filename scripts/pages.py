@@ -31,7 +31,7 @@ WORDS = {
     "docs/PROMISES.md": 3950,
     "docs/PROVING.md": 1050,
     "docs/SEALED.md": 1050,
-    "docs/SPEED.md": 700,
+    "docs/SPEED.md": 740,
     "docs/TESTING.md": 1150,
     "docs/TOOLCHAIN.md": 1650,
 }
