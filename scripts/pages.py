@@ -17,7 +17,7 @@ import sys
 
 # The pages, and how many words each may have.
 WORDS = {
-    "README.md": 640,
+    "README.md": 645,
     "CHANGES.md": 1500,
     "CONTRIBUTING.md": 1200,
     "SECURITY.md": 350,
@@ -35,7 +35,7 @@ WORDS = {
     "docs/TESTING.md": 1150,
     "docs/TOOLCHAIN.md": 1650,
 }
-WORDS_IN_ALL = 25750
+WORDS_IN_ALL = 25800
 COLUMNS = 120
 HISTORY = "docs/HISTORY.md"
 COUNTED = "docs/TESTING.md"
