@@ -64,7 +64,7 @@ holding kind entries = record { kind = kind; entries = entries }
 -- the entries that are left to take
 abbrev pub left_in : Column → Holding
 left_in (column.Bools d) = holding kind.Bools (map truth (cow_rest d.values))
-left_in (column.Bytes d) = holding kind.Bytes (indices_left d.value)
+left_in (column.Bytes d) = holding kind.Bytes (indices_left d)
 left_in (column.U16 d) = holding kind.U16 (bytes_data 2 false (λ bytes. bytes) (cow_rest d.values))
 left_in (column.U32 d) = holding kind.U32 (bytes_data 4 false (λ bytes. bytes) (cow_rest d.values))
 left_in (column.U64 d) = holding kind.U64 (bytes_data 8 false (λ bytes. bytes) (cow_rest d.values))

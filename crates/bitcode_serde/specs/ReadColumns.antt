@@ -39,7 +39,7 @@ IsCaseOf kind v = (d : Datum) × (entry_of (out-Value v) ≡ Some (record { leaf
 
 -- What was counted as the column was read, of entries that it had.
 abbrev pub Tallies : Column → List Datum → Type 0
-Tallies (column.Bytes d) entries = (index : ℕ) → index < 256 → index_count d.value index ≡ count_of index entries
+Tallies (column.Bytes d) entries = (index : ℕ) → index < 256 → index_count d index ≡ count_of index entries
 Tallies (column.Lengths d) entries = lengths_sum d ≡ total entries
 Tallies _ entries = Unit {0}
 

@@ -73,7 +73,7 @@ impl ColumnKind {
 #[derive(Drop)]
 pub enum Column<'a> {
     Bools(BoolDecoder<'a>),
-    Bytes(Box<VariantDecoder<'a>>),
+    Bytes(VariantDecoder<'a>),
     U16(IntDecoder<'a, u16>),
     U32(IntDecoder<'a, u32>),
     U64(IntDecoder<'a, u64>),

@@ -226,7 +226,7 @@ macro_rules! open {
                 Err(e) => Err(e),
             },)*
             ColumnKind::Bytes => match read_bytes($alloc, $input, $count, $strict) {
-                Ok(read) => Ok((Column::Bytes(Box::new($alloc, read.0)?), read.1)),
+                Ok(read) => Ok((Column::Bytes(read.0), read.1)),
                 Err(e) => Err(e),
             },
             ColumnKind::Lengths => match read_lengths($alloc, $input, $count, $strict) {
