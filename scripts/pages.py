@@ -17,7 +17,7 @@ import sys
 
 # The pages, and how many words each may have.
 WORDS = {
-    "README.md": 640,
+    "README.md": 650,
     "CHANGES.md": 1500,
     "CONTRIBUTING.md": 1200,
     "SECURITY.md": 350,
