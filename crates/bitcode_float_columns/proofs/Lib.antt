@@ -1,2 +1,3 @@
 pub mod CanonicalLemmas
+pub mod LaneLemmas
 pub mod SplitLemmas
