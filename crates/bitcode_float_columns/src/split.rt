@@ -1,83 +1,46 @@
 //! Packing and unpacking the bits of 4-byte floats.
-ghost use Rattle.std.specs.Prelude.{◌≡◌, ◌≢◌, ◌+◌, ◌*◌, ◌<◌, ◌≤◌, ◌++◌, [], ◌∷◌, Some, length, map, take, drop};
-ghost use Rattle.std.specs.Prelude.{to_bits, from_bits, vec_len, vec_capacity, IsTrue, IsFalse, ◌/◌, IsOk, IfOk};
-ghost use Rattle.std.specs.Prelude.{OnOk, IfErr, OnErr, ◌↔◌, All, MatchBool};
-ghost use Rattle.std.specs.Float.{NotNan, binary32};
+ghost use Rattle.std.specs.Prelude.{◌≡◌, ◌≢◌, ◌+◌, ◌-◌, ◌*◌, ◌/◌, ◌<◌, ◌≤◌, ◌++◌, [], ◌∷◌, Some, length, map, take};
+ghost use Rattle.std.specs.Prelude.{drop, to_bits, from_bits, vec_len, vec_capacity, IsTrue, IsOk, IfOk, OnOk, IfErr};
+ghost use Rattle.std.specs.Prelude.{OnErr, ◌↔◌, All, MatchBool};
+ghost use Rattle.std.specs.Float.{binary32};
 ghost use Rattle.bitcode_memory.specs.LittleEndian.{raw_text};
 ghost use Rattle.bitcode_columns.specs.Reading.{Reads, missing};
 ghost use Rattle.bitcode_float_columns.specs.FloatColumn.{canonical, low_of, top_of, split_text, SpellsSplit};
 ghost use Rattle.bitcode_float_columns.specs.Split.{split_rest};
 
-use crate::bits::is_canonical_f32;
-use bitcode_memory::consume::{consume_byte_arrays, consume_bytes};
+use crate::bits::{bits_of_f32s, f32s_with_bits, is_canonical_f32, push_four};
 use bitcode_memory::error::{Error, Reason};
 use bitcode_memory::fast::{FastSlice, NextUnchecked};
-use bitcode_memory::ints::{SizedUInt, known_bytes, push_bytes};
+use bitcode_memory::ints::{known_bytes, push_bytes};
 use bitcode_memory::refuse::err;
 use std::alloc::Global;
 use std::mem::replace;
 use std::num::{f32_from_bits_with_nan, f32_to_bits_with_nan};
+use std::simd::prelude::*;
 
-// Whether one of the floats is a NaN. All are looked at, so that the compiler tests several at once.
-fn any_nan(floats: &[f32]) -> bool
-    ensures { IsFalse result → All NotNan floats.now }
-{
-    let mut found = false;
-    for float in floats {
-        found |= float.is_nan();
-    }
-    found
-}
-
-// The four floats at a place. They are found by their place: of a slice that is cut shorter at each turn, the compiler
-// makes a slower loop.
+// The four floats of a block.
 #[inline(always)]
-fn block_at(floats: &[f32], block: usize) -> &[f32]
+fn four_at(floats: &[f32], block: usize) -> f32x4
     requires { block < length floats.now / 4 }
-    ensures items { result.now ≡ take 4 (drop (4 * block) floats.now) }
-    ensures len { length result.now ≡ 4 }
+    ensures items { result ≡ take 4 (drop (4 * block) floats.now) }
+    ensures len { length result ≡ 4 }
 {
-    let start = 4 * block;
-    let (_, rest) = floats.split_at(start);
-    let (front, _) = rest.split_at(4);
-    front
+    f32x4::from_slice(&floats[4 * block..])
 }
 
-// Appends the three low bytes of each of these bits, as three words. The caller must have reserved the room.
+// The text of four floats alone: the three low bytes of each, and then the top byte of each.
 #[inline(always)]
-fn push_four_lows(first: u32, second: u32, third: u32, fourth: u32, out: &mut Vec<u8>)
-    requires { vec_len out.old + 12 ≤ vec_capacity out.old }
-    ensures written { out.new.items ≡ out.old.items ++ raw_text 3
-        (low_of first ∷ low_of second ∷ low_of third ∷ low_of fourth ∷ []) }
-    ensures len { vec_len out.new ≡ vec_len out.old + 12 }
-    ensures capacity { vec_capacity out.new ≡ vec_capacity out.old }
+fn text_of_four(floats: f32x4) -> [u8; 16]
+    requires { length floats ≡ 4 }
+    ensures { result ≡ split_text (map (λ x. to_bits binary32 x) floats) }
 {
-    let front = first % 0x100_0000 + second % 0x100 * 0x100_0000;
-    let middle = second / 0x100 % 0x1_0000 + third % 0x1_0000 * 0x1_0000;
-    let back = third / 0x1_0000 % 0x100 + fourth % 0x100_0000 * 0x100;
-    front.push(out);
-    middle.push(out);
-    back.push(out);
+    let bytes = bits_of_f32s(floats).to_le_bytes();
+    let text: u8x16 = bytes.swizzle([0, 1, 2, 4, 5, 6, 8, 9, 10, 12, 13, 14, 3, 7, 11, 15]);
+    text.to_array()
 }
 
-// Appends the top byte of each of these bits, as one word. The caller must have reserved the room.
-#[inline(always)]
-fn push_four_tops(first: u32, second: u32, third: u32, fourth: u32, out: &mut Vec<u8>)
-    requires { vec_len out.old + 4 ≤ vec_capacity out.old }
-    ensures written { out.new.items ≡ out.old.items
-        ++ top_of first ∷ top_of second ∷ top_of third ∷ top_of fourth ∷ [] }
-    ensures len { vec_len out.new ≡ vec_len out.old + 4 }
-    ensures capacity { vec_capacity out.new ≡ vec_capacity out.old }
-{
-    let low = first / 0x100_0000 + second / 0x100_0000 * 0x100;
-    let high = third / 0x100_0000 + fourth / 0x100_0000 * 0x100;
-    (low + high * 0x1_0000).push(out);
-}
-
-// Appends the three low bytes of each float. The caller must have reserved the room.
-//
-// The list is handed over and given back: its length is then kept in a register while bytes are written.
-fn push_lows(floats: &[f32], mut out: Vec<u8>) -> Vec<u8>
+// Appends the three low bytes of each of a few floats. The caller must have reserved the room.
+fn push_few_lows(floats: &[f32], mut out: Vec<u8>) -> Vec<u8>
     requires { vec_len out + 3 * length floats.now ≤ vec_capacity out }
     ensures written { result.items ≡ out.items ++ raw_text 3
         (map (λ x. low_of (to_bits binary32 x)) floats.now) }
@@ -94,8 +57,8 @@ fn push_lows(floats: &[f32], mut out: Vec<u8>) -> Vec<u8>
     out
 }
 
-// Appends the top byte of each float. The caller must have reserved the room.
-fn push_tops(floats: &[f32], mut out: Vec<u8>) -> Vec<u8>
+// Appends the top byte of each of a few floats. The caller must have reserved the room.
+fn push_few_tops(floats: &[f32], mut out: Vec<u8>) -> Vec<u8>
     requires { vec_len out + length floats.now ≤ vec_capacity out }
     ensures { result.items ≡ out.items ++ map (λ x. top_of (to_bits binary32 x)) floats.now }
 {
@@ -105,10 +68,11 @@ fn push_tops(floats: &[f32], mut out: Vec<u8>) -> Vec<u8>
     out
 }
 
-// The same for floats of which none is a NaN, four at a time.
-fn push_lows_of_numbers(floats: &[f32], mut out: Vec<u8>) -> Vec<u8>
-    requires numbers { All NotNan floats.now }
-    requires room { vec_len out + 3 * length floats.now ≤ vec_capacity out }
+// Appends the three low bytes of each float, four floats at a time. The caller must have reserved the room.
+//
+// The list is handed over and given back: its length is then kept in a register while bytes are written.
+fn push_lows(floats: &[f32], mut out: Vec<u8>) -> Vec<u8>
+    requires { vec_len out + 3 * length floats.now ≤ vec_capacity out }
     ensures written { result.items ≡ out.items ++ raw_text 3
         (map (λ x. low_of (to_bits binary32 x)) floats.now) }
     ensures len { vec_len result ≡ vec_len out + 3 * length floats.now }
@@ -116,40 +80,27 @@ fn push_lows_of_numbers(floats: &[f32], mut out: Vec<u8>) -> Vec<u8>
 {
     let blocks = floats.len() / 4;
     for block in 0..blocks {
-        let four = block_at(floats, block);
-        push_four_lows(
-            four[0].to_bits(),
-            four[1].to_bits(),
-            four[2].to_bits(),
-            four[3].to_bits(),
-            &mut out,
-        );
+        let text = text_of_four(four_at(floats, block));
+        push_bytes(&text[..12], &mut out);
     }
     let behind = 4 * blocks;
     let (_, rest) = floats.split_at(behind);
-    push_lows(rest, out)
+    push_few_lows(rest, out)
 }
 
-// The same for the top bytes.
-fn push_tops_of_numbers(floats: &[f32], mut out: Vec<u8>) -> Vec<u8>
-    requires numbers { All NotNan floats.now }
-    requires room { vec_len out + length floats.now ≤ vec_capacity out }
+// Appends the top byte of each float, four floats at a time. The caller must have reserved the room.
+fn push_tops(floats: &[f32], mut out: Vec<u8>) -> Vec<u8>
+    requires { vec_len out + length floats.now ≤ vec_capacity out }
     ensures { result.items ≡ out.items ++ map (λ x. top_of (to_bits binary32 x)) floats.now }
 {
     let blocks = floats.len() / 4;
     for block in 0..blocks {
-        let four = block_at(floats, block);
-        push_four_tops(
-            four[0].to_bits(),
-            four[1].to_bits(),
-            four[2].to_bits(),
-            four[3].to_bits(),
-            &mut out,
-        );
+        let text = text_of_four(four_at(floats, block));
+        push_bytes(&text[12..], &mut out);
     }
     let behind = 4 * blocks;
     let (_, rest) = floats.split_at(behind);
-    push_tops(rest, out)
+    push_few_tops(rest, out)
 }
 
 /// Appends a column of floats: the three low bytes of each, and then the top byte of each. A NaN is written as the
@@ -174,20 +125,16 @@ pub fn pack_f32s(floats: &[f32], out: &mut Vec<u8>) -> Result<(), Error>
     out.reserve(size)?;
     let alloc = *out.allocator();
     let held = replace(out, Vec::new(alloc));
-    *out = if any_nan(floats) {
-        let lows = push_lows(floats, held);
-        push_tops(floats, lows)
-    } else {
-        let lows = push_lows_of_numbers(floats, held);
-        push_tops_of_numbers(floats, lows)
-    };
+    let lows = push_lows(floats, held);
+    *out = push_tops(floats, lows);
     Ok(())
 }
 
 /// The bits of floats that are read from a column, front to back. They are borrowed from the input.
 #[derive(Clone, Copy)]
 pub struct SplitBits<'a> {
-    lows: FastSlice<'a, [u8; 3]>,
+    // the three low bytes of each
+    lows: FastSlice<'a, u8>,
     tops: FastSlice<'a, u8>,
 }
 
@@ -196,11 +143,10 @@ impl<'a> SplitBits<'a> {
     pub fn new() -> Self
         ensures { split_rest result ≡ [] }
     {
-        let lows: &[[u8; 3]] = &[];
-        let tops: &[u8] = &[];
+        let none: &[u8] = &[];
         SplitBits {
-            lows: FastSlice::from(lows),
-            tops: FastSlice::from(tops),
+            lows: FastSlice::from(none),
+            tops: FastSlice::from(none),
         }
     }
 
@@ -209,9 +155,66 @@ impl<'a> SplitBits<'a> {
         requires { 0 < length (split_rest self.old) }
         ensures { split_rest self.old ≡ result ∷ split_rest self.new }
     {
-        let low = self.lows.next_unchecked();
+        let low = self.lows.chunk_unchecked(3);
         let top = self.tops.next_unchecked();
         u32::from_le_bytes([low[0], low[1], low[2], top])
+    }
+
+    // Takes the next four as floats. Two more must be left, so that sixteen low bytes can be looked at.
+    #[inline(always)]
+    fn next_four(&mut self) -> f32x4
+        requires { 6 ≤ length (split_rest self.old) }
+        ensures floats { result ≡ map (λ b. from_bits binary32 b) (take 4 (split_rest self.old)) }
+        ensures rest { split_rest self.new ≡ drop 4 (split_rest self.old) }
+        ensures len { length result ≡ 4 }
+    {
+        known_bytes(self.lows.as_slice());
+        known_bytes(self.tops.as_slice());
+        let lows = u8x16::from_slice(self.lows.as_slice());
+        let tops = self.tops.chunk_unchecked(4);
+        let tops = u8x16::from_array([
+            tops[0], tops[1], tops[2], tops[3], 0, 0, 0, 0, 0, 0, 0, 0, 0, 0, 0, 0,
+        ]);
+        self.lows.advance(12);
+        let bytes: u8x16 = lows.shuffle(
+            tops,
+            [0, 1, 2, 16, 3, 4, 5, 17, 6, 7, 8, 18, 9, 10, 11, 19],
+        );
+        f32s_with_bits(u32x4::from_le_bytes(bytes))
+    }
+
+    // Appends so many blocks of four floats. Two more floats must be left, and the room must be reserved.
+    fn push_fours(&mut self, blocks: usize, mut floats: Vec<f32>) -> Vec<f32>
+        requires left { 4 * blocks ≤ length (split_rest self.old) - 2 }
+        requires room { vec_len floats + 4 * blocks ≤ vec_capacity floats }
+        ensures taken { result.items ≡ floats.items
+            ++ map (λ b. from_bits binary32 b) (take (4 * blocks) (split_rest self.old)) }
+        ensures rest { split_rest self.new ≡ drop (4 * blocks) (split_rest self.old) }
+        ensures len { vec_len result ≡ vec_len floats + 4 * blocks }
+        ensures capacity { vec_capacity result ≡ vec_capacity floats }
+    {
+        let mut rest = *self;
+        for _block in 0..blocks {
+            push_four(rest.next_four().to_array(), &mut floats);
+        }
+        *self = rest;
+        floats
+    }
+
+    // Appends so many floats, one by one. The room must be reserved.
+    fn push_few(&mut self, count: usize, mut floats: Vec<f32>) -> Vec<f32>
+        requires left { count ≤ length (split_rest self.old) }
+        requires room { vec_len floats + count ≤ vec_capacity floats }
+        ensures taken { result.items ≡ floats.items
+            ++ map (λ b. from_bits binary32 b) (take count (split_rest self.old)) }
+        ensures rest { split_rest self.new ≡ drop count (split_rest self.old) }
+    {
+        let mut rest = *self;
+        for _taken in 0..count {
+            floats.push_reserved(f32_from_bits_with_nan(rest.next_unchecked()));
+        }
+        *self = rest;
+        floats
     }
 
     /// Takes the next `count` bits as the floats with these bits. At least as many must be left.
@@ -225,13 +228,10 @@ impl<'a> SplitBits<'a> {
         ensures reason { IfErr result (λ e. e.reason ≡ Reason.OutOfMemory) }
         ensures none { count ≡ 0 → IsOk result }
     {
-        let mut rest = *self;
-        let mut floats = Vec::with_capacity(alloc, count)?;
-        for _taken in 0..count {
-            floats.push_reserved(f32_from_bits_with_nan(rest.next_unchecked()));
-        }
-        *self = rest;
-        Ok(floats)
+        let floats = Vec::with_capacity(alloc, count)?;
+        let blocks = count.saturating_sub(2) / 4;
+        let floats = self.push_fours(blocks, floats);
+        Ok(self.push_few(count - 4 * blocks, floats))
     }
 }
 
@@ -253,9 +253,7 @@ pub fn unpack_f32s<'a>(
         return err(Reason::Eof);
     }
     known_bytes(bytes);
-    let (front, behind) = bytes.split_at(count * 3);
-    let mut lows = front;
-    let lows = consume_byte_arrays::<3>(&mut lows, count)?;
+    let (lows, behind) = bytes.split_at(count * 3);
     let (tops, rest) = behind.split_at(count);
     out.lows = FastSlice::from(lows);
     out.tops = FastSlice::from(tops);

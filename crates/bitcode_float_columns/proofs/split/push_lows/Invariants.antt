@@ -5,9 +5,9 @@ use Rattle.bitcode_memory.specs.LittleEndian.{raw_text}
 use Rattle.bitcode_float_columns.specs.FloatColumn.{low_of}
 use Rattle.bitcode_float_columns.proofs.split.push_lows.Given as goal
 
-abbrev pub invariant-loop-float : goal.invariant-loop-float
-invariant-loop-float l = record {
-  written : l.out.items ≡ l.initial.out.items ++ raw_text 3 (map (λ x. low_of (to_bits binary32 x)) (take l.float-index l.floats));
-  len : vec_len l.out ≡ vec_len l.initial.out + 3 * l.float-index;
+abbrev pub invariant-loop-block : goal.invariant-loop-block
+invariant-loop-block l = record {
+  written : l.out.items ≡ l.initial.out.items ++ raw_text 3 (map (λ x. low_of (to_bits binary32 x)) (take (4 * l.block) l.floats));
+  len : vec_len l.out ≡ vec_len l.initial.out + 12 * l.block;
   capacity : vec_capacity l.out ≡ vec_capacity l.initial.out;
 }

@@ -8,6 +8,5 @@ pub returns-clause-read : goal.returns-clause-read
 unfolding split_rest
 returns-clause-read c =
     rw (c.from-out.ensures, c.from-out-2.ensures)
-    (split_reads c.args.count c.args.input.now.now c.split_at.result.0.now c.split_at.result.1.now c.split_at-2.result.0.now c.split_at-2.result.1.now c.in_ok-lows.lows.now
-    c.known_bytes.ensures (omega arith) c.split_at.ensures.front c.split_at.ensures.back c.in_ok-lows.ensures.taken c.in_ok-lows.ensures.size
-    c.split_at-2.ensures.front c.split_at-2.ensures.back)
+    (split_reads c.args.count c.args.input.now.now c.split_at.result.0.now c.split_at.result.1.now c.split_at-2.result.0.now c.split_at-2.result.1.now
+    c.known_bytes.ensures (omega arith) c.split_at.ensures.front c.split_at.ensures.back c.split_at-2.ensures.front c.split_at-2.ensures.back)
