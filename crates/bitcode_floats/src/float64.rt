@@ -1,6 +1,7 @@
 //! The coders of a column of `f64`: their bits, as integers.
-ghost use Rattle.std.specs.Prelude.{◌≡◌, ◌≢◌, ◌+◌, ◌≤◌, ◌++◌, length, map, to_bits, from_bits, true, refl, All};
-ghost use Rattle.std.specs.Prelude.{IsTrue, IsOk, IfOk, OnOk, IfErr, OnErr, MatchBool};
+ghost use Rattle.std.specs.Prelude.{◌≡◌, ◌≢◌, ◌+◌, ◌*◌, ◌/◌, ◌<◌, ◌≤◌, ◌++◌, length, map, take, drop, vec_len, true};
+ghost use Rattle.std.specs.Prelude.{vec_capacity, to_bits, from_bits, refl, All, IsTrue, IsOk, IfOk, OnOk, IfErr, OnErr};
+ghost use Rattle.std.specs.Prelude.{MatchBool};
 ghost use Rattle.std.specs.Float.{binary64};
 ghost use Rattle.bitcode_memory.specs.Fast.{fast_items, fast_room, fast_capacity, cow_rest, cow_owned};
 ghost use Rattle.bitcode_columns.specs.Reading.{Reads, IsEndOf};
@@ -17,13 +18,14 @@ ghost use Rattle.bitcode_floats.specs.Floats.{data_of_bits, long_bits, residue_o
 use bitcode_coder::coder::{Buffer, Decoder, Encoder, HoldsColumns, HoldsData, View, both};
 use bitcode_coder::column_free::ColumnFree;
 use bitcode_coder::part::{Itself, Part};
-use bitcode_float_columns::bits::is_canonical_f64;
+use bitcode_float_columns::bits::{bits_of_f64s, f64s_with_bits, is_canonical_f64, push_four};
 use bitcode_int_columns::column_int::ColumnInt;
 use bitcode_memory::error::{Error, Reason};
 use bitcode_memory::fast::{CowSlice, FastVec, PushUnchecked};
 use std::alloc::Global;
 use std::mem::replace;
 use std::num::{f64_from_bits_with_nan, f64_to_bits_with_nan};
+use std::simd::prelude::*;
 
 // Pushes the bits of a part of each item. The caller must have reserved the room. The list is passed by value and
 // returned: through a reference, each push would load and store its length.
@@ -37,6 +39,36 @@ fn push_parts<S, W: Part<S, f64>>(items: &[S], which: &W, mut bits: FastVec<u64>
         bits.push_unchecked(f64_to_bits_with_nan(*which.part(item)));
     }
     bits
+}
+
+// Pushes four entries. The caller must have reserved the room.
+#[inline(always)]
+fn push_bits(four: [u64; 4], mut bits: FastVec<u64>) -> FastVec<u64>
+    requires { 4 ≤ fast_room bits }
+    ensures written { fast_items result ≡ fast_items bits ++ four }
+    ensures room { fast_room bits ≡ fast_room result + 4 }
+{
+    for entry in &four {
+        bits.push_unchecked(*entry);
+    }
+    bits
+}
+
+// Pushes the bits of each float, four at a time. The caller must have reserved the room.
+fn push_all(floats: &[f64], mut bits: FastVec<u64>) -> FastVec<u64>
+    requires { length floats.now ≤ fast_room bits }
+    ensures written { fast_items result ≡ fast_items bits
+        ++ map (λ x. to_bits binary64 x) floats.now }
+    ensures room { fast_room bits ≤ fast_room result + length floats.now }
+{
+    let blocks = floats.len() / 4;
+    for block in 0..blocks {
+        let four = f64x4::from_slice(&floats[4 * block..]);
+        bits = push_bits(bits_of_f64s(four).to_array(), bits);
+    }
+    let behind = 4 * blocks;
+    let (_, rest) = floats.split_at(behind);
+    push_parts(rest, &Itself, bits)
 }
 
 /// The column that `f64`s are written to.
@@ -118,7 +150,7 @@ impl Encoder<f64> for F64Encoder {
 
     fn encode_slice(&mut self, items: &[f64]) -> Result<(), Error> {
         let bits = replace(&mut self.bits, FastVec::new(self.alloc));
-        self.bits = push_parts(items, &Itself, bits);
+        self.bits = push_all(items, bits);
         Ok(())
     }
 
@@ -134,7 +166,36 @@ fn bits_of(bytes: [u8; 8]) -> u64
     u64::from_le_bytes(bytes)
 }
 
-// The floats with these bits.
+// The four floats of a block, whose bits these are.
+#[inline(always)]
+fn four_at(entries: &[[u8; 8]], block: usize) -> [f64; 4]
+    requires { block < length entries.now / 4 }
+    ensures { result ≡ map (λ entry. from_bits binary64 (residue_of entry))
+        (take 4 (drop (4 * block) entries.now)) }
+{
+    let four = &entries[4 * block..];
+    let bits = u64x4::from_array([
+        bits_of(four[0]),
+        bits_of(four[1]),
+        bits_of(four[2]),
+        bits_of(four[3]),
+    ]);
+    f64s_with_bits(bits).to_array()
+}
+
+// Appends the floats with these bits, one by one. The caller must have reserved the room.
+fn push_few(entries: &[[u8; 8]], mut floats: Vec<f64>) -> Vec<f64>
+    requires { vec_len floats + length entries.now ≤ vec_capacity floats }
+    ensures { result.items ≡ floats.items
+        ++ map (λ entry. from_bits binary64 (residue_of entry)) entries.now }
+{
+    for entry in entries {
+        floats.push_reserved(f64_from_bits_with_nan(bits_of(*entry)));
+    }
+    floats
+}
+
+// The floats with these bits, four at a time.
 fn floats_of(alloc: Global, entries: &[[u8; 8]]) -> Result<Vec<f64>, Error>
     ensures floats { IfOk result
         (λ floats. floats.items ≡ map (λ entry. from_bits binary64 (residue_of entry))
@@ -143,10 +204,13 @@ fn floats_of(alloc: Global, entries: &[[u8; 8]]) -> Result<Vec<f64>, Error>
     ensures none { length entries.now ≡ 0 → IsOk result }
 {
     let mut floats = Vec::with_capacity(alloc, entries.len())?;
-    for entry in entries {
-        floats.push_reserved(f64_from_bits_with_nan(bits_of(*entry)));
+    let blocks = entries.len() / 4;
+    for block in 0..blocks {
+        push_four(four_at(entries, block), &mut floats);
     }
-    Ok(floats)
+    let behind = 4 * blocks;
+    let (_, rest) = entries.split_at(behind);
+    Ok(push_few(rest, floats))
 }
 
 // Whether an encoder writes each of these bits.

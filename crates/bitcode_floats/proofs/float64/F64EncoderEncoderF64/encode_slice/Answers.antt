@@ -15,5 +15,5 @@ pub returns-clause-joined : goal.returns-clause-joined
 returns-clause-joined c =
     let bits = λ (x : Float). to_bits binary64 x in
     joins_made (ListsNumber (float_number binary64)) (float_shape binary64) (floats binary64) natural bits c.args.items.now (fast_items c.args.self.now.bits)
-    (fast_items c.push_parts.result) (λ ds. refl) (λ t. refl)
-    (c.push_parts.ensures.written ∙ ap (λ b. fast_items b ++ map bits c.args.items.now) c.replace-bits.ensures.value)
+    (fast_items c.push_all.result) (λ ds. refl) (λ t. refl)
+    (c.push_all.ensures.written ∙ ap (λ b. fast_items b ++ map bits c.args.items.now) c.replace-bits.ensures.value)
