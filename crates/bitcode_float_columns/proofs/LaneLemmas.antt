@@ -11,7 +11,7 @@ use lib.Ieee.{hid, ones, top}
 use lib.Ieee.Bits.{nan_bits_is, nan_bits_above}
 use lib.Ieee.Compare.{differs_from_itself, nan_differs}
 use lib.Lanes.{top as mark_top}
-use mir.Syntax.{Width, w32, w64}
+use mir.Syntax.{Width}
 use mir.Val.{bits, hbits}
 use Rattle.std.proofs.lemmas.Simd.{tops_compared, mask_l-mod}
 use Rattle.std.proofs.lemmas.Float.{not_nan_f32_bits, not_nan_f64_bits}

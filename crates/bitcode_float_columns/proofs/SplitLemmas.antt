@@ -1,5 +1,5 @@
 -- Columns of the bits of 4-byte floats.
-use Rattle.std.proofs.Common.{◌≡◌, ℕ, zero, suc, ◌+◌, ◌-◌, ◌*◌, ◌/◌, ◌%◌, ◌^◌, ◌<◌, ◌≤◌, Bool, List, [], ◌∷◌, ◌++◌, length, map, get_or, take, drop, All, IsTrue, IsFalse, ◌||◌, not, MatchBool, true, false, refl, sym, ap, ap₂, ◌∙◌, subst, arith, append_assoc, length-append}
+use Rattle.std.proofs.Common.{◌≡◌, ℕ, zero, suc, ◌+◌, ◌-◌, ◌*◌, ◌/◌, ◌%◌, ◌^◌, ◌<◌, ◌≤◌, Bool, List, [], ◌∷◌, ◌++◌, length, map, get_or, take, drop, All, IsTrue, MatchBool, true, false, refl, sym, ap, ap₂, ◌∙◌, subst, arith, append_assoc, length-append}
 use Rattle.std.specs.Prelude.{◌↔◌, to_bits}
 use Rattle.std.specs.Simd.Lanes.{Each1, pick_l, digits_l, number_l}
 use Rattle.std.specs.Float.{Float, binary32}
@@ -9,8 +9,8 @@ use lib.Ieee.Bits.{to_bits-lt}
 use Rattle.std.proofs.lemmas.Bool.{false≢true}
 use Rattle.std.proofs.Math.Seq.{take-add, take-append_seam, drop-append_seam}
 use Rattle.std.proofs.lemmas.List.Concat.{flat_map-append}
-use Rattle.std.proofs.lemmas.List.{map-append, take_more, length-map, length-take, length-drop, take-append-drop, take_all}
-use Rattle.std.proofs.lemmas.List.Elements.{All-append, All-nil, All-cons, All-head, All-tail, All-map, All-take, All-drop}
+use Rattle.std.proofs.lemmas.List.{map-append, length-map, length-take, length-drop, take-append-drop}
+use Rattle.std.proofs.lemmas.List.Elements.{All-nil, All-cons, All-head, All-tail, All-map, All-take, All-drop}
 use Rattle.std.proofs.lemmas.Simd.{map-map, get_or_narrower, get_or_wider}
 use Rattle.bitcode_memory.specs.LittleEndian.{number_bytes, raw_text}
 use Rattle.bitcode_columns.specs.Laws.{IsReadOnce, TakesAnEighth, IsFaultOf}
@@ -19,7 +19,7 @@ use Rattle.bitcode_columns.proofs.RawLemmas.{length-raw_text, SpellsRaw-unambigu
 use Rattle.bitcode_columns.proofs.FrontLemmas.{append_split}
 use Rattle.bitcode_float_columns.specs.FloatColumn.{canonical, low_of, top_of, split_text, SpellsSplit}
 use Rattle.bitcode_float_columns.specs.Split.{joined_bits}
-use Rattle.bitcode_float_columns.proofs.CanonicalLemmas.{canonical_below_32, canonical_each, each_canonical}
+use Rattle.bitcode_float_columns.proofs.CanonicalLemmas.{canonical_each, each_canonical}
 
 -- ---- one number
 

@@ -1,5 +1,5 @@
 -- What is read and written of a column of floats, in terms of data.
-use Rattle.std.proofs.Common.{◌≡◌, ℕ, ◌*◌, ◌^◌, ◌<◌, Bool, true, false, ◌&&◌, IsTrue, MatchBool, pos, List, [], ◌∷◌, ◌++◌, length, map, take, drop, All, Some, refl, sym, ap, subst, ◌∙◌, inl, inr, Result, Ok, Err, OnOk, IfOk, IfErr}
+use Rattle.std.proofs.Common.{◌≡◌, ℕ, ◌*◌, ◌^◌, ◌<◌, Bool, true, false, ◌&&◌, IsTrue, MatchBool, pos, List, [], ◌∷◌, ◌++◌, length, map, take, drop, All, Some, refl, sym, ap, subst, ◌∙◌, inr, Result, Ok, Err, OnOk, IfOk, IfErr}
 use Rattle.std.specs.List.{AllZip}
 use Rattle.std.specs.Prelude.{◌↔◌, ◌≤◌, to_bits, from_bits}
 use Rattle.std.specs.Float.{Float, Format, binary32, binary64}
@@ -22,9 +22,8 @@ use Rattle.bitcode_shapes.specs.Datum.{Datum, natural_in}
 use Rattle.bitcode_shapes.specs.Shape.{Shape, IsFloatOf, float_shape}
 use Rattle.bitcode_coder.specs.Columns.{Kind, one, beside, floats}
 use Rattle.bitcode_coder.specs.Coder.{IsReadingRefusal, TakesEach, WritesEach, JoinsEach, written_columns}
-use Rattle.bitcode_coder.specs.Faults.{NamesIntsFault}
-use Rattle.bitcode_coder.specs.Spelling.{Spells, SpellsBits, SpellsIntsInWidth, float_of_bits, bits_text, column_bytes}
-use Rattle.bitcode_coder.specs.Strict.{JudgesColumn, JudgesData}
+use Rattle.bitcode_coder.specs.Spelling.{Spells, SpellsBits, SpellsIntsInWidth, float_of_bits, column_bytes}
+use Rattle.bitcode_coder.specs.Strict.{JudgesData}
 use Rattle.bitcode_coder.proofs.ColumnLemmas.{SpellsBits-unambiguous, bits_text-spells}
 use Rattle.bitcode_coder.proofs.IntLemmas.{ints_known}
 use Rattle.bitcode_coder.proofs.OneColumnLemmas.{missing_known, reads_of, refusal_of}

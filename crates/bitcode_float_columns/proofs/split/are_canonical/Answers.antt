@@ -1,5 +1,5 @@
 -- Each of the bits is one of those that are left, or was looked at.
-use Rattle.std.proofs.Common.{◌≡◌, ℕ, ◌∷◌, [], ◌==◌, eqb, length, All, subst, sym, ap, ◌∙◌, arith, true, false}
+use Rattle.std.proofs.Common.{◌≡◌, ℕ, length, All, subst, sym, ap, ◌∙◌, arith, true, false}
 use Rattle.std.specs.Float.{binary32}
 use Rattle.std.proofs.lemmas.Bool.{false≢true, eqb-true, eq-eqb}
 use Rattle.std.proofs.lemmas.List.{nil_from_length}

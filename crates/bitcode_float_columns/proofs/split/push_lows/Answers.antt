@@ -1,5 +1,5 @@
 -- Four floats more, and then those behind the last four.
-use Rattle.std.proofs.Common.{◌≡◌, ℕ, ◌+◌, ◌*◌, ◌/◌, ◌++◌, List, length, map, refl, sym, ap, ◌∙◌, arith}
+use Rattle.std.proofs.Common.{◌≡◌, ℕ, ◌+◌, ◌*◌, ◌/◌, ◌++◌, List, length, map, refl, ap, ◌∙◌, arith}
 use Rattle.std.specs.Prelude.{to_bits}
 use Rattle.std.proofs.lemmas.List.{length-take}
 use Rattle.std.specs.Float.{Float, binary32}

@@ -1,5 +1,5 @@
 -- Each entry was looked at.
-use Rattle.std.proofs.Common.{◌≡◌, ℕ, List, [], All, subst, ◌∙◌, ap, sym}
+use Rattle.std.proofs.Common.{◌≡◌, ℕ, List, [], All, subst, ◌∙◌, sym}
 use Rattle.std.specs.Float.{binary64}
 use Rattle.std.proofs.lemmas.Bool.{eqb-true}
 use Rattle.std.proofs.lemmas.List.Elements.{All-more}

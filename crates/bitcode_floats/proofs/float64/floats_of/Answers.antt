@@ -1,5 +1,5 @@
 -- Four floats more.
-use Rattle.std.proofs.Common.{◌≤◌, ℕ, ◌*◌, ◌++◌, [], List, length, map, take, drop, vec_capacity, refl, ap, ◌∙◌, subst, sym, arith}
+use Rattle.std.proofs.Common.{◌≤◌, ℕ, ◌*◌, ◌++◌, [], List, length, map, take, drop, refl, ap, ◌∙◌, subst, sym, arith}
 use Rattle.std.specs.Prelude.{from_bits}
 use Rattle.std.specs.Float.{Float, binary64}
 use Rattle.std.proofs.lemmas.List.{map-append}

@@ -1,5 +1,5 @@
 -- Four floats.
-use Rattle.std.proofs.Common.{◌≡◌, ◌≤◌, length, map, take, subst, ap, ap₂, ◌∙◌, arith}
+use Rattle.std.proofs.Common.{◌≤◌, length, map, subst, ap, ap₂, ◌∙◌, arith}
 use Rattle.std.specs.Prelude.{from_bits}
 use Rattle.std.specs.Float.{binary32}
 use Rattle.std.proofs.lemmas.List.{length-take}

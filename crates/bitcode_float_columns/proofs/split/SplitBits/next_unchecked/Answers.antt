@@ -3,7 +3,7 @@ use Rattle.std.proofs.Common.{◌<◌, ◌≤◌, length, ap, arith}
 use Rattle.std.proofs.lemmas.List.{length-take}
 use Rattle.bitcode_memory.specs.Fast.{slice_rest}
 use Rattle.bitcode_float_columns.specs.declared.split.SplitBits.{SplitBits}
-use Rattle.bitcode_float_columns.specs.Split.{split_rest, joined_bits}
+use Rattle.bitcode_float_columns.specs.Split.{split_rest}
 use Rattle.bitcode_float_columns.proofs.SplitLemmas.{front_of, next_bits}
 use Rattle.bitcode_float_columns.proofs.split.SplitBits.next_unchecked.Goals as goal
 

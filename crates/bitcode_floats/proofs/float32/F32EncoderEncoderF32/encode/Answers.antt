@@ -6,7 +6,7 @@ use Rattle.bitcode_shapes.specs.Shape.{float_shape}
 use Rattle.bitcode_shapes.specs.Floats.{float_number}
 use Rattle.bitcode_shapes.specs.Ints.{ListsNumber}
 use Rattle.bitcode_coder.specs.Columns.{floats}
-use Rattle.bitcode_floats.specs.Floats.{float_datum, data_of_floats}
+use Rattle.bitcode_floats.specs.Floats.{float_datum}
 use Rattle.bitcode_coder.proofs.OneColumnLemmas.{joins_entry}
 use Rattle.bitcode_floats.proofs.float32.F32EncoderEncoderF32.encode.Goals as goal
 

@@ -1,7 +1,7 @@
 -- The listing of a float joins its column.
 use Rattle.std.proofs.Common.{refl, [], ◌∷◌, ap, ◌∙◌, ◌++◌}
 use Rattle.std.specs.Prelude.{to_bits}
-use Rattle.std.specs.Float.{Float, binary64}
+use Rattle.std.specs.Float.{binary64}
 use Rattle.bitcode_memory.specs.Fast.{fast_items}
 use Rattle.bitcode_shapes.specs.Shape.{float_shape}
 use Rattle.bitcode_shapes.specs.Floats.{float_number}
