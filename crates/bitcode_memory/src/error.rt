@@ -33,7 +33,8 @@ pub enum Reason {
     InvalidOption,
     /// A number is not the code of a `char`.
     InvalidChar,
-    /// A list of elements without columns has more than 65536 elements, or a map of such keys as many keys.
+    /// Elements without columns exceed a limit: that of `decode_within`, or 65536 elements of a list or keys of a map of
+    /// the second format.
     TooManyZeroSizedTypes,
     /// The index of a variant exceeds 255.
     TooManyVariants,
