@@ -111,10 +111,6 @@ pub nan_of_bits_32 : from_bits binary32 0x7fc00000 ≡ nan
 unfolding of_bits
 nan_of_bits_32 = refl
 
-pub nan_of_bits_64 : from_bits binary64 0x7ff8000000000000 ≡ nan
-unfolding of_bits
-nan_of_bits_64 = refl
-
 -- 0 is none
 pub zero_is_number : (f : Format) → T (not (nan_bits f 0)) → T (not (is_nan (from_bits f 0)))
 zero_is_number f number = subst (λ b. T (not b)) (nan_bits_is f 0) number

@@ -1,5 +1,5 @@
 //! The bits of floats. Every NaN has the same bits here.
-ghost use Rattle.std.specs.Prelude.{◌≡◌, ◌+◌, ◌≤◌, ◌++◌, ◌==◌, length, map, vec_len, vec_capacity, to_bits, from_bits};
+ghost use Rattle.std.specs.Prelude.{◌≡◌, ◌==◌, length, map, to_bits, from_bits};
 ghost use Rattle.std.specs.Float.{binary32, binary64};
 ghost use Rattle.bitcode_float_columns.specs.FloatColumn.{canonical};
 
@@ -57,32 +57,4 @@ pub fn bits_of_f64s(floats: f64x4) -> u64x4
     }
     let numbers = is_nan.select(f64x4::splat(0.0), floats);
     is_nan.select(u64x4::splat(0x7ff8_0000_0000_0000), numbers.to_bits())
-}
-
-/// The four floats with these bits.
-#[inline(always)]
-pub fn f64s_with_bits(bits: u64x4) -> f64x4
-    requires { length bits ≡ 4 }
-    ensures { result ≡ map (λ b. from_bits binary64 b) bits }
-{
-    let sizes = bits & u64x4::splat(0x7fff_ffff_ffff_ffff);
-    let is_nan = sizes.simd_gt(u64x4::splat(0x7ff0_0000_0000_0000));
-    if !is_nan.any() {
-        return f64x4::from_bits(bits);
-    }
-    let numbers = is_nan.select(u64x4::splat(0), bits);
-    is_nan.select(f64x4::splat(f64::NAN), f64x4::from_bits(numbers))
-}
-
-/// Appends four items. The caller must have reserved the room.
-#[inline(always)]
-pub fn push_four<T: Copy>(items: [T; 4], out: &mut Vec<T>)
-    requires { vec_len out.old + 4 ≤ vec_capacity out.old }
-    ensures written { out.new.items ≡ out.old.items ++ items }
-    ensures len { vec_len out.new ≡ vec_len out.old + 4 }
-    ensures capacity { vec_capacity out.new ≡ vec_capacity out.old }
-{
-    for item in &items {
-        out.push_reserved(*item);
-    }
 }

@@ -8,7 +8,7 @@ ghost use Rattle.bitcode_columns.specs.Reading.{Reads, missing};
 ghost use Rattle.bitcode_float_columns.specs.FloatColumn.{canonical, low_of, top_of, split_text, SpellsSplit};
 ghost use Rattle.bitcode_float_columns.specs.Split.{split_rest};
 
-use crate::bits::{bits_of_f32s, f32s_with_bits, is_canonical_f32, push_four};
+use crate::bits::{bits_of_f32s, f32s_with_bits, is_canonical_f32};
 use bitcode_memory::error::{Error, Reason};
 use bitcode_memory::fast::{FastSlice, NextUnchecked};
 use bitcode_memory::ints::{known_bytes, push_bytes};
@@ -128,6 +128,19 @@ pub fn pack_f32s(floats: &[f32], out: &mut Vec<u8>) -> Result<(), Error>
     let lows = push_lows(floats, held);
     *out = push_tops(floats, lows);
     Ok(())
+}
+
+// Appends four floats. The caller must have reserved the room.
+#[inline(always)]
+fn push_four(floats: [f32; 4], out: &mut Vec<f32>)
+    requires { vec_len out.old + 4 ≤ vec_capacity out.old }
+    ensures written { out.new.items ≡ out.old.items ++ floats }
+    ensures len { vec_len out.new ≡ vec_len out.old + 4 }
+    ensures capacity { vec_capacity out.new ≡ vec_capacity out.old }
+{
+    for float in &floats {
+        out.push_reserved(*float);
+    }
 }
 
 /// The bits of floats that are read from a column, front to back. They are borrowed from the input.

@@ -1,7 +1,6 @@
 //! The coders of a column of `f64`: their bits, as integers.
-ghost use Rattle.std.specs.Prelude.{◌≡◌, ◌≢◌, ◌+◌, ◌*◌, ◌/◌, ◌<◌, ◌≤◌, ◌++◌, length, map, take, drop, vec_len, true};
-ghost use Rattle.std.specs.Prelude.{vec_capacity, to_bits, from_bits, refl, All, IsTrue, IsOk, IfOk, OnOk, IfErr, OnErr};
-ghost use Rattle.std.specs.Prelude.{MatchBool};
+ghost use Rattle.std.specs.Prelude.{◌≡◌, ◌≢◌, ◌+◌, ◌≤◌, ◌++◌, length, map, to_bits, from_bits, true, refl, All};
+ghost use Rattle.std.specs.Prelude.{IsTrue, IsOk, IfOk, OnOk, IfErr, OnErr, MatchBool};
 ghost use Rattle.std.specs.Float.{binary64};
 ghost use Rattle.bitcode_memory.specs.Fast.{fast_items, fast_room, fast_capacity, cow_rest, cow_owned};
 ghost use Rattle.bitcode_columns.specs.Reading.{Reads, IsEndOf};
@@ -18,7 +17,7 @@ ghost use Rattle.bitcode_floats.specs.Floats.{data_of_bits, long_bits, residue_o
 use bitcode_coder::coder::{Buffer, Decoder, Encoder, HoldsColumns, HoldsData, View, both};
 use bitcode_coder::column_free::ColumnFree;
 use bitcode_coder::part::{Itself, Part};
-use bitcode_float_columns::bits::{bits_of_f64s, f64s_with_bits, is_canonical_f64, push_four};
+use bitcode_float_columns::bits::{bits_of_f64s, is_canonical_f64};
 use bitcode_int_columns::column_int::ColumnInt;
 use bitcode_memory::error::{Error, Reason};
 use bitcode_memory::fast::{CowSlice, FastVec, PushUnchecked};
@@ -166,36 +165,7 @@ fn bits_of(bytes: [u8; 8]) -> u64
     u64::from_le_bytes(bytes)
 }
 
-// The four floats of a block, whose bits these are.
-#[inline(always)]
-fn four_at(entries: &[[u8; 8]], block: usize) -> [f64; 4]
-    requires { block < length entries.now / 4 }
-    ensures { result ≡ map (λ entry. from_bits binary64 (residue_of entry))
-        (take 4 (drop (4 * block) entries.now)) }
-{
-    let four = &entries[4 * block..];
-    let bits = u64x4::from_array([
-        bits_of(four[0]),
-        bits_of(four[1]),
-        bits_of(four[2]),
-        bits_of(four[3]),
-    ]);
-    f64s_with_bits(bits).to_array()
-}
-
-// Appends the floats with these bits, one by one. The caller must have reserved the room.
-fn push_few(entries: &[[u8; 8]], mut floats: Vec<f64>) -> Vec<f64>
-    requires { vec_len floats + length entries.now ≤ vec_capacity floats }
-    ensures { result.items ≡ floats.items
-        ++ map (λ entry. from_bits binary64 (residue_of entry)) entries.now }
-{
-    for entry in entries {
-        floats.push_reserved(f64_from_bits_with_nan(bits_of(*entry)));
-    }
-    floats
-}
-
-// The floats with these bits, four at a time.
+// The floats with these bits.
 fn floats_of(alloc: Global, entries: &[[u8; 8]]) -> Result<Vec<f64>, Error>
     ensures floats { IfOk result
         (λ floats. floats.items ≡ map (λ entry. from_bits binary64 (residue_of entry))
@@ -204,13 +174,10 @@ fn floats_of(alloc: Global, entries: &[[u8; 8]]) -> Result<Vec<f64>, Error>
     ensures none { length entries.now ≡ 0 → IsOk result }
 {
     let mut floats = Vec::with_capacity(alloc, entries.len())?;
-    let blocks = entries.len() / 4;
-    for block in 0..blocks {
-        push_four(four_at(entries, block), &mut floats);
+    for entry in entries {
+        floats.push_reserved(f64_from_bits_with_nan(bits_of(*entry)));
     }
-    let behind = 4 * blocks;
-    let (_, rest) = entries.split_at(behind);
-    Ok(push_few(rest, floats))
+    Ok(floats)
 }
 
 // Whether an encoder writes each of these bits.

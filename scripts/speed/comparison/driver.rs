@@ -1,4 +1,5 @@
-//! Times ours, the Rust crate and bincode in one process, in turn: `scripts/speed/beside.sh` builds and runs it.
+//! Times libraries in one process, in turn: ours, the Rust crate and bincode for `scripts/speed/beside.sh`, and ours
+//! before and after a change for `scripts/speed/against.sh`.
 use bincode::Options;
 use bitcode::{Buffer, Decode, Encode};
 use serde::{Deserialize, Serialize};
@@ -26,12 +27,8 @@ pub struct Ours {
 /// Time of so many calls: 'e' encodes, 'b' encodes by one buffer, 'd' decodes.
 type Run = Box<dyn Fn(char, u64) -> Option<Duration>>;
 
-pub struct Prepared {
-    sizes: [usize; 4],
-    runs: [Run; 4],
-}
-
-const LIBRARIES: [&str; 4] = ["ours", "bitcode", "bincode varint", "bincode fixed"];
+/// A library, the number of its bytes, and its calls.
+type Prepared = Vec<(&'static str, usize, Run)>;
 
 /// Numbers that look random: splitmix64.
 struct Random(u64);
@@ -146,13 +143,18 @@ fn bincode<T: Serialize + Deserialize<'static> + 'static>(value: &'static T, opt
     (bytes.len(), run)
 }
 
-fn prepared<T: Serialize + Deserialize<'static> + 'static>(bytes: &'static [u8], value: &'static T, calls: Ours, theirs: Run) -> Prepared {
+/// Ours beside the others, or beside ours before a change, if there is one.
+fn prepared<T: Serialize + Deserialize<'static> + 'static>(bytes: &'static [u8], value: &'static T, calls: Ours, before: Option<Ours>, theirs: Run) -> Prepared {
+    let here = ("ours", bytes.len(), ours(calls, bytes));
+    if let Some(calls) = before {
+        return vec![here, ("before", bytes.len(), ours(calls, bytes))];
+    }
     let (varint, by_varint) = bincode(value, bincode::DefaultOptions::new());
     let (fixed, by_fixed) = bincode(value, bincode::DefaultOptions::new().with_fixint_encoding());
-    Prepared { sizes: [bytes.len(), bytes.len(), varint, fixed], runs: [ours(calls, bytes), theirs, by_varint, by_fixed] }
+    vec![here, ("bitcode", bytes.len(), theirs), ("bincode varint", varint, by_varint), ("bincode fixed", fixed, by_fixed)]
 }
 
-fn first<T: Encode + Decode<'static> + Serialize + Deserialize<'static> + 'static>(bytes: Vec<u8>, calls: Ours) -> Prepared {
+fn first<T: Encode + Decode<'static> + Serialize + Deserialize<'static> + 'static>(bytes: Vec<u8>, calls: Ours, before: Option<Ours>) -> Prepared {
     let bytes: &'static [u8] = bytes.leak();
     let value: &'static T = Box::leak(Box::new(bitcode::decode(bytes).unwrap()));
     let theirs: Run = Box::new(move |op, times| match op {
@@ -165,10 +167,10 @@ fn first<T: Encode + Decode<'static> + Serialize + Deserialize<'static> + 'stati
         }
         _ => timed(times, || bitcode::decode::<T>(black_box(bytes)).unwrap()),
     });
-    prepared(bytes, value, calls, theirs)
+    prepared(bytes, value, calls, before, theirs)
 }
 
-fn second<T: Serialize + Deserialize<'static> + 'static>(bytes: Vec<u8>, calls: Ours) -> Prepared {
+fn second<T: Serialize + Deserialize<'static> + 'static>(bytes: Vec<u8>, calls: Ours, before: Option<Ours>) -> Prepared {
     let bytes: &'static [u8] = bytes.leak();
     let value: &'static T = Box::leak(Box::new(bitcode::deserialize(bytes).unwrap()));
     let theirs: Run = Box::new(move |op, times| match op {
@@ -176,7 +178,7 @@ fn second<T: Serialize + Deserialize<'static> + 'static>(bytes: Vec<u8>, calls: 
         'b' => None,
         _ => timed(times, || bitcode::deserialize::<T>(black_box(bytes)).unwrap()),
     });
-    prepared(bytes, value, calls, theirs)
+    prepared(bytes, value, calls, before, theirs)
 }
 
 /// How often a call fits into so many microseconds, less what it does once.
@@ -215,11 +217,12 @@ fn lesser(a: &[Option<f64>], b: &[Option<f64>]) -> Vec<Option<f64>> {
 type Line = (String, usize, Vec<Option<f64>>);
 
 fn lines_of(workload: &Workload, n: usize) -> Vec<Line> {
-    let Prepared { sizes, runs } = (workload.prepare)(n);
+    let (words, runs): (Vec<_>, Vec<_>) = (workload.prepare)(n).into_iter().map(|(name, size, run)| {
+        (format!("{}\t{}\t{n}\t{name}\t{size}", workload.format, workload.name), run)
+    }).unzip();
     let (rounds, microseconds) = if n >= 1_000_000 { (3, 20_000.0) } else { (15, 1_000.0) };
     let times: Vec<_> = ['e', 'b', 'd'].iter().map(|op| least(&runs, *op, rounds, microseconds)).collect();
-    let words = |i| format!("{}\t{}\t{n}\t{}\t{}", workload.format, workload.name, LIBRARIES[i], sizes[i]);
-    (0..LIBRARIES.len()).map(|i| (words(i), n, times.iter().map(|it| it[i]).collect())).collect()
+    words.into_iter().enumerate().map(|(i, words)| (words, n, times.iter().map(|it| it[i]).collect())).collect()
 }
 
 /// A line of a call of ours alone.

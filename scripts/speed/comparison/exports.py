@@ -2,7 +2,11 @@
 """Writes what lies between the library and the driver of scripts/speed/beside.sh, from workloads.tsv.
 
     exports.py rattle program|library    the functions that the driver calls, in Rattle
-    exports.py rust                      their declarations, and the table of workloads, for driver.rs
+    exports.py rust [before]             their declarations, and the table of workloads, for driver.rs; with `before`,
+                                         also those of an earlier library, whose names begin with before_
+    exports.py names                     the names of these functions
+
+The environment's WORKLOADS names another table than workloads.tsv.
 """
 import json
 import os
@@ -160,7 +164,8 @@ CALLS = {"e": ("encodes", "serializes"), "b": ("buffers", None), "d": ("decodes"
 
 def workloads():
     """The rows, each behind the number of its calls, which is that of the first row of its type."""
-    with open(os.path.join(os.path.dirname(os.path.abspath(__file__)), "workloads.tsv")) as file:
+    here = os.path.dirname(os.path.abspath(__file__))
+    with open(os.environ.get("WORKLOADS") or os.path.join(here, "workloads.tsv")) as file:
         rows = [line.rstrip("\n").split("\t") for line in file if not line.startswith("#")]
     rows = [[*row, *[""] * (5 - len(row))] for row in rows]
     types = [row[4] or row[2] for row in rows]
@@ -193,22 +198,36 @@ def rattle(is_program):
         print("".join(f"    sum = sum.wrapping_add({name}(alloc, given, 0));\n" for name in exports) + "    let _sum = sum;\n}")
 
 
-def rust():
+def names():
+    """The names of the functions, but for what stands in front of each."""
+    calls_of = [(number, letter) for number, form, *_ in workloads() for letter, calls in CALLS.items()
+                if calls[form == "second"]]
+    return list(dict.fromkeys([*(f"{letter}{number}" for number, letter in calls_of), "seal", "open", "crc"]))
+
+
+def rust(libraries):
     print('extern "C" {')
-    names = [f"{letter}{number}" for number, form, *_ in workloads() for letter, calls in CALLS.items() if calls[form == "second"]]
-    for name in dict.fromkeys([*names, "seal", "open", "crc"]):
-        print(f"    fn call_{name}(bytes: *const u8, n: usize, times: u64) -> u64;")
+    for library in libraries:
+        for name in names():
+            print(f"    fn {library}_{name}(bytes: *const u8, n: usize, times: u64) -> u64;")
     print("}\n\npub fn workloads() -> Vec<Workload> {\n    vec![")
     for number, form, name, type_, value, _ours in workloads():
         given = "_n" if form == "single" else "n"
-        buffer = "None" if form == "second" else f"Some(call_b{number})"
         written, of = ("bitcode::serialize(&{}).unwrap()", "second") if form == "second" else ("bitcode::encode(&{})", "first")
-        print(f"        Workload {{ format: {json.dumps(form)}, name: {json.dumps(name)}, prepare: |{given}| {of}::<{type_}>({written.format(value)}, "
-              f"Ours {{ encode: call_e{number}, buffer: {buffer}, decode: call_d{number}, agrees: call_s{number} }}) }},")
+        calls = []
+        for library in libraries:
+            buffer = "None" if form == "second" else f"Some({library}_b{number})"
+            calls.append(f"Ours {{ encode: {library}_e{number}, buffer: {buffer}, decode: {library}_d{number}, "
+                         f"agrees: {library}_s{number} }}")
+        before = f"Some({calls[1]})" if len(calls) > 1 else "None"
+        print(f"        Workload {{ format: {json.dumps(form)}, name: {json.dumps(name)}, prepare: |{given}| "
+              f"{of}::<{type_}>({written.format(value)}, {calls[0]}, {before}) }},")
     print("    ]\n}")
 
 
 if sys.argv[1] == "rattle":
     rattle(sys.argv[2] == "program")
+elif sys.argv[1] == "names":
+    print("\n".join(names()))
 else:
-    rust()
+    rust(["call", *sys.argv[2:]])
