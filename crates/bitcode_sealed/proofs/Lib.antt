@@ -12,3 +12,4 @@ pub mod OpeningLemmas
 pub mod FrontLemmas
 pub mod FrontDamageLemmas
 pub mod ErrorLemmas
+pub mod UpgradeLemmas
