@@ -17,9 +17,10 @@ under label expected = record { label = label; most_bytes = expected.most_bytes 
 -- ---- one earlier version
 
 -- the bytes are those of the version, and the value is made from the earlier one that `open` takes them for
-pub record IsOpeningOfEarlier {B T : Type 0} (is_upgrade : B → T → Type 0) (makes : Datum → B → Type 0) (shape : Shape) (version : ℕ) (expected : Expected) (bytes : List ℕ) (t : T) : Type 0 where
+pub record IsOpeningOfEarlier {B T : Type 0} (is_upgrade : B → T → Type 0) (is_value : B → Type 0) (makes : Datum → B → Type 0) (shape : Shape) (version : ℕ) (expected : Expected) (bytes : List ℕ) (t : T) : Type 0 where
   pub of_version : expected.label.version ≡ version
   pub before : B
+  pub valid : is_value before
   pub opened : IsOpeningOf makes shape expected bytes before
   pub upgraded : is_upgrade before t
 
@@ -38,7 +39,7 @@ names_earlier includes expected label = nat_eq label.kind expected.kind && not (
 -- the value is opened under the expected label, or under one of an earlier version
 pub data IsOpeningOfAny {T : Type 0} (makes : Datum → T → Type 0) (shape : Shape) (includes : ℕ → Bool) (opens : Expected → List ℕ → T → Type 0) (expected : Expected) (bytes : List ℕ) (t : T) : Type 0 where
   opens_newest : IsOpeningOf makes shape expected bytes t → IsOpeningOfAny makes shape includes opens expected bytes t
-  opens_earlier : (label : Label) → names_earlier includes expected.label label ≡ true → opens (under label expected) bytes t
+  opens_earlier : (label : Label) → HasLabel label bytes → names_earlier includes expected.label label ≡ true → opens (under label expected) bytes t
       → IsOpeningOfAny makes shape includes opens expected bytes t
 
 -- the head is at fault, or the bytes are refused as those of the earlier version that it names, or else as those of the

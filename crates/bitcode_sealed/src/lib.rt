@@ -12,4 +12,5 @@ pub mod label;
 pub mod laws;
 pub mod next;
 pub mod values;
+pub mod version_laws;
 pub mod versions;

@@ -56,6 +56,10 @@ pub struct Version<const VERSION: u16> {}
 
 /// Versions whose bytes values of `T` are made from: one, or a pair of them or of pairs.
 pub trait ReadsVersions<'a, T> {
+    /// The earlier types and their decoders. It says nothing about the values: the toolchain accepts an impl only for
+    /// types that it names.
+    type Inside;
+
     ghost includes: { ℕ → Bool };
 
     // the value is made from one of an earlier version, under its label
@@ -79,10 +83,12 @@ pub trait ReadsVersions<'a, T> {
 
 impl<'a, const VERSION: u16, T: Earlier<VERSION, Before: Decode<'a>>> ReadsVersions<'a, T>
     for Version<VERSION> {
+    type Inside = (T::Before, <T::Before as HasDecoder<'a>>::Decoder);
+
     ghost includes = { λ version. nat_eq version VERSION };
 
-    ghost opens = { IsOpeningOfEarlier T.is_upgrade T.Before.data.makes T.Before.data.shape
-        VERSION };
+    ghost opens = { IsOpeningOfEarlier T.is_upgrade T.Before.data.is_value T.Before.data.makes
+        T.Before.data.shape VERSION };
 
     ghost refuses = { IsRefusalOfEarlier T.Before.Decoder.makes_free T.Before.Decoder.shape
         T.Before.data.shape VERSION };
@@ -93,6 +99,7 @@ impl<'a, const VERSION: u16, T: Earlier<VERSION, Before: Decode<'a>>> ReadsVersi
 
     fn open_earlier(alloc: Global, expected: &Expected, bytes: &'a [u8]) -> Result<T, OpenError> {
         let before: T::Before = open(alloc, expected, bytes)?;
+        before.told();
         match T::upgrade(alloc, before) {
             Ok(t) => Ok(t),
             Err(e) => Err(OpenError::Value(e)),
@@ -101,6 +108,8 @@ impl<'a, const VERSION: u16, T: Earlier<VERSION, Before: Decode<'a>>> ReadsVersi
 }
 
 impl<'a, T, A: ReadsVersions<'a, T>, B: ReadsVersions<'a, T>> ReadsVersions<'a, T> for (A, B) {
+    type Inside = (A::Inside, B::Inside);
+
     ghost includes = { λ version. A.includes version || B.includes version };
 
     ghost opens = { λ expected bytes t. A.opens expected bytes t ⊎ B.opens expected bytes t };

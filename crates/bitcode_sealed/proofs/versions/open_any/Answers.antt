@@ -9,7 +9,7 @@ pub returns-then-is_earlier-clause-found : goal.returns-then-is_earlier-clause-f
 returns-then-is_earlier-clause-found g c =
     IfOk-weaker c.open_earlier.result (λ t. g.T.Versions.ReadsVersions.opens (under c.in_ok-label.label c.args.expected.now) c.args.bytes.now t)
     (λ t. IsOpeningOfAny g.T.Shaped.data.makes g.T.Shaped.data.shape g.T.Versions.ReadsVersions.includes g.T.Versions.ReadsVersions.opens c.args.expected.now c.args.bytes.now t)
-    (λ t opened. opens_earlier c.in_ok-label.label (sym c.names_earlier-is_earlier.ensures ∙ c.if-is_earlier.true) opened) c.open_earlier.ensures.found
+    (λ t opened. opens_earlier c.in_ok-label.label c.in_ok-label.ensures.found (sym c.names_earlier-is_earlier.ensures ∙ c.if-is_earlier.true) opened) c.open_earlier.ensures.found
 
 pub returns-then-is_earlier-clause-refused : goal.returns-then-is_earlier-clause-refused
 returns-then-is_earlier-clause-refused g c =
