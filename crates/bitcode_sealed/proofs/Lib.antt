@@ -13,3 +13,4 @@ pub mod FrontLemmas
 pub mod FrontDamageLemmas
 pub mod ErrorLemmas
 pub mod UpgradeLemmas
+pub mod VersionLemmas

@@ -67,5 +67,6 @@ where
         → IfErr again.now (λ e. IsOutOfMemory e) }
 {
     before.told();
-    let _expected = *expected;
+    let _kind = expected.label.kind;
+    let _version = expected.label.version;
 }

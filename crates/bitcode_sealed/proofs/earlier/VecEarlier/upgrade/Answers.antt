@@ -2,7 +2,7 @@
 use Rattle.std.proofs.Common.{sym, ◌∙◌, subst}
 use Rattle.std.proofs.lemmas.List.{nil_from_length}
 use Rattle.std.specs.Vec.Iter.{into_iter_items}
-use Rattle.bitcode_sealed.proofs.UpgradeLemmas.{MadeFront, front_none, front_more, front_all}
+use Rattle.bitcode_sealed.proofs.UpgradeLemmas.{MadeFront, front_more, front_all}
 use Rattle.bitcode_sealed.proofs.earlier.VecEarlier.upgrade.Goals as goal
 
 pub loop-each-preserved : goal.loop-each-preserved
