@@ -1,0 +1,151 @@
+//! `Job` corresponds to the tuple of its fields. What is below its declaration was written by `scripts/new_type`.
+ghost use Rattle.std.specs.Prelude.{◌≡◌};
+ghost use Rattle.bitcode.specs.ByHand.{data_as, field_alike, pair_alike, refl};
+
+use bitcode::own::{DecoderOfFields, HasField, InFields, Nth, StructEncoder};
+use bitcode::sealed::{Earlier, Version, Versioned};
+use bitcode::{ConvertFrom, DecodeOwned, Error, HasDecoder, HasEncoder, Shaped};
+use std::alloc::Global;
+
+/// A piece of work. Version 1 had no tries, and versions 1 and 2 had the host and no delay.
+#[derive(Debug, PartialEq, Drop)]
+pub struct Job {
+    pub number: u64,
+    pub name: String,
+    pub tries: u8,
+    pub delay: Option<u32>,
+}
+
+impl Shaped for Job {
+    ghost data = { data_as (λ t. (t.number, t.name, t.tries, t.delay))
+        (λ p. (record { number = p.0; name = p.1; tries = p.2; delay = p.3 }, refl)) (λ t. refl)
+        ⟦<(u64, String, u8, Option<u32>) as Shaped>⟧.data };
+
+    fn told(&self) {
+        self.number.told();
+        self.name.told();
+        self.tries.told();
+        self.delay.told();
+    }
+}
+
+impl ConvertFrom<(u64, String, u8, Option<u32>)> for Job {
+    fn convert_from(
+        _alloc: Global,
+        (number, name, tries, delay): (u64, String, u8, Option<u32>),
+    ) -> Result<Self, Error> {
+        Ok(Job {
+            number,
+            name,
+            tries,
+            delay,
+        })
+    }
+
+    ghost same_shape = { refl };
+}
+
+impl HasField<0> for Job {
+    type Field = u64;
+
+    ghost field = { λ t. t.number };
+
+    fn field(&self) -> &u64 {
+        &self.number
+    }
+}
+
+impl HasField<1> for Job {
+    type Field = String;
+
+    ghost field = { λ t. t.name };
+
+    fn field(&self) -> &String {
+        &self.name
+    }
+}
+
+impl HasField<2> for Job {
+    type Field = u8;
+
+    ghost field = { λ t. t.tries };
+
+    fn field(&self) -> &u8 {
+        &self.tries
+    }
+}
+
+impl HasField<3> for Job {
+    type Field = Option<u32>;
+
+    ghost field = { λ t. t.delay };
+
+    fn field(&self) -> &Option<u32> {
+        &self.delay
+    }
+}
+
+type Fields = <((u64, String), (u8, Option<u32>)) as HasEncoder>::Encoder;
+
+impl InFields<Fields> for Job {
+    type Numbers = ((Nth<0>, Nth<1>), (Nth<2>, Nth<3>));
+
+    type Inside = <Job as HasDecoder<'static>>::Decoder;
+
+    ghost same_shape = { refl };
+
+    ghost same_listings = { λ t. pair_alike (pair_alike field_alike field_alike)
+        (pair_alike field_alike field_alike) };
+}
+
+impl HasEncoder for Job {
+    type Encoder = StructEncoder<Fields>;
+}
+
+impl<'a> HasDecoder<'a> for Job {
+    type Decoder = DecoderOfFields<'a, (u64, String, u8, Option<u32>)>;
+}
+
+impl DecodeOwned for Job {}
+
+/// `Job` as it was in version 2.
+pub type JobOf2 = (u64, String, String, u8);
+
+impl Earlier<2> for Job {
+    type Before = JobOf2;
+
+    ghost is_upgrade = { λ b t. (t.number ≡ b.0) × (t.name ≡ b.2) × (t.tries ≡ b.3)
+        × (⟦<Option<u32> as Default>⟧.is_default t.delay) };
+
+    fn upgrade(_alloc: Global, (number, _host, name, tries): JobOf2) -> Result<Self, Error> {
+        Ok(Job {
+            number,
+            name,
+            tries,
+            delay: Default::default(),
+        })
+    }
+}
+
+/// `Job` as it was in version 1.
+pub type JobOf1 = (u64, String, String);
+
+impl Earlier<1> for Job {
+    type Before = JobOf1;
+
+    ghost is_upgrade = { λ b t. (t.number ≡ b.0) × (t.name ≡ b.2) × (t.tries ≡ 5)
+        × (⟦<Option<u32> as Default>⟧.is_default t.delay) };
+
+    fn upgrade(_alloc: Global, (number, _host, name): JobOf1) -> Result<Self, Error> {
+        Ok(Job {
+            number,
+            name,
+            tries: 5,
+            delay: Default::default(),
+        })
+    }
+}
+
+impl Versioned for Job {
+    type Versions = (Version<2>, Version<1>);
+}
