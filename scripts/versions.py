@@ -1,5 +1,7 @@
 """Earlier versions of types: what scripts/new_type writes so that values are read that were sealed as such."""
 
+import glob
+import os
 import re
 from string import Template
 
@@ -50,6 +52,27 @@ def listed(versions):
     return f"(Version<{first}>, {listed(rest)})" if rest else f"Version<{first}>"
 
 
+def text_of(folder, path):
+    """The file of an imported type, as far as it is there."""
+    file = f"{folder}/src/{'/'.join(path[1:-1]) or 'lib'}.rt"
+    if not os.path.exists(file):
+        return ""
+    with open(file) as opened:
+        return opened.read()
+
+
+def versions_in(folder, path):
+    """The earlier versions that an imported type is read from."""
+    return {int(version) for version in re.findall(rf"(?m)^impl\S* Earlier<(\d+)> for {path[-1]}\b", text_of(folder, path))}
+
+
+def before_path(folder, path, version):
+    """Where an imported type is as it was in the version."""
+    name = before_name(path[-1], version)
+    is_alias = re.search(rf"\btype {name}\b", text_of(folder, path))
+    return (*path[:-1], name) if is_alias else ("crate", module_of(name), name)
+
+
 def parts_of(item):
     """The fields and the variants of the item, of which each may have changed."""
     return [*fields_of(item), *getattr(item, "variants", ())]
@@ -58,8 +81,10 @@ def parts_of(item):
 class Versions:
     """The types of a file that have earlier versions, in themselves or in what they hold."""
 
-    def __init__(self, items, told):
-        self.told, self.whole = told, {item.name: item for item in items}
+    def __init__(self, items, told, imports, folder):
+        self.told, self.whole, self.folder = told, {item.name: item for item in items}, folder
+        # The versions that types of other files are read from.
+        self.others = {name: others for name, use in imports.items() if (others := versions_in(folder, use.path))}
         # The numbers of the versions in which each type changes.
         self.numbers = {}
         for item in items:
@@ -73,8 +98,9 @@ class Versions:
         item = self.whole[name]
         changes = [part.change for part in parts_of(item) if part.change]
         numbers = {number for change in changes for number in (change.since, change.until) if number}
-        inside = {other for field in fields_of(item) for other in names_in(field.type)} & set(self.whole)
-        return numbers.union(*(self.found(other, (*above, name)) for other in inside - {name, *above}))
+        inside = {other for field in fields_of(item) for other in names_in(field.type)}
+        numbers |= {version + 1 for other in inside & set(self.others) for version in self.others[other]}
+        return numbers.union(*(self.found(other, (*above, name)) for other in inside & set(self.whole) - {name, *above}))
 
     def refuse(self, items):
         """Refuses what has no earlier versions."""
@@ -95,6 +121,8 @@ class Versions:
 
     def of(self, name):
         """The earlier versions of the type that are read, the newest first."""
+        if name in self.others:
+            return list(range(max(self.others[name]), self.oldest - 1, -1))
         numbers = self.numbers.get(name)
         return list(range(max(numbers) - 1, self.oldest - 1, -1)) if numbers else []
 
@@ -115,7 +143,9 @@ class Versions:
         """The type as it was in the version."""
         if not self.is_changed(type, version):
             return type
-        if type.kind == "path" and type.name in self.whole:
+        if type.kind == "path" and type.name in {*self.whole, *self.others}:
+            if version not in self.others.get(type.name, {version}):
+                raise Refused(type.line, f"`{type.name}` has no version {version}: give the file of its declaration too, by `--also FILE`")
             return type._replace(name=before_name(type.name, version))
         place = CONTAINERS.get(type.name) if type.kind == "path" else None
         others = [part for i, part in enumerate(type.parts) if i != place]
@@ -140,6 +170,26 @@ class Versions:
         """The enum as it was in each earlier version, which has a file of its own."""
         item = self.whole[name]
         return [] if isinstance(item, Struct) else [self.at(item, version) for version in self.of(item.name)]
+
+    def refuse_holders(self, files):
+        """Refuses to change types that files of the crate hold which are not written again."""
+        for path in sorted(glob.glob(f"{self.folder}/src/*.rt")):
+            module = os.path.basename(path)[:-3]
+            with open(path) as file:
+                text = file.read()
+            if module in files or "scripts/new_type" not in text.split("\nuse ")[0]:
+                continue
+            for name, item in self.whole.items():
+                held = re.search(rf"(?m)^use crate::{module_of(name)}::(?:\w+|\{{[^}}]*\b){name}\b|^use crate::{module_of(name)}::{name};", text)
+                if held and any(f"Earlier<{version}>" not in text for version in self.of(name)):
+                    self.told.fault(item.line, f"`src/{module}.rt` holds `{name}`, which has versions: give the file of its declaration too, by `--also FILE`")
+
+    def known_others(self, imports):
+        """What is known of earlier types of other files."""
+        for name, versions in self.others.items():
+            path = imports[name].path
+            for version in versions:
+                yield before_name(name, version), Own("::".join(before_path(self.folder, path, version)), None, 1)
 
     def known(self, item):
         """What is known of the item's earlier types."""
