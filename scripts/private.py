@@ -3,12 +3,15 @@
 import re
 
 from declarations import Struct
+from keys import with_names
 
 # How a struct is made from the tuple of its fields, and how it is where only decoding makes these.
 CONVERSION = re.compile(r"(?m)^(impl\S*) ConvertFrom<(.*)> for (.*) \{\n    fn convert_from\(_alloc: Global, (.*): (.*)\) -> Result<Self, Error> \{\n"
                         r"        (.*)Ok\((.*)\)\n    \}$")
 DECODED = r"""\1 FromDecoded<\2> for \3 {
-    fn from_decoded(decoded: Decoded<\5>) -> Self {
+    fn from_decoded(decoded: Decoded<\5>) -> Self
+        ensures { MakesToo ⟦<\3 as Shaped>⟧.data.makes ⟦<\2 as Shaped>⟧.data.makes result $decoded.fields }
+    {
         let \4 = decoded.into_fields();
         \6\7
     }"""
@@ -24,7 +27,9 @@ def hidden(text, item):
     """The file of the item, which no caller makes of fields of its choice where these are private."""
     if not is_private(item):
         return text
-    text = CONVERSION.sub(DECODED, text)
+    # The toolchain gives the method no clause of its trait that speaks of a part of what is passed.
+    text = CONVERSION.sub(DECODED.replace("$decoded", "decoded.entry" if item.lifetime else "decoded"), text)
+    text = with_names(text, "Rattle.bitcode.specs.ByHand", {"MakesToo"})
     text = text.replace("ConvertFromDecoder<", "PrivateDecoder<").replace("DecoderOfFields<", "DecoderOfPrivate<")
     rest = re.sub(r"(?m)^(ghost )?use .*$", "", text)
 

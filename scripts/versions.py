@@ -113,6 +113,11 @@ class Versions:
                 self.told.fault(item.line, f"`{item.name}` has private fields, so it cannot have versions: any caller could make it from an earlier one. Make them `pub`")
             if isinstance(item, Struct) and len(item.fields) > 16:
                 self.told.fault(item.line, f"`{item.name}` has versions, so it has at most 16 fields: move some of them to another struct")
+            for version in self.of(item.name):
+                if before_name(item.name, version) in {*self.whole, *self.others}:
+                    self.told.fault(item.line, f"`{before_name(item.name, version)}` is the name of `{item.name}` in version {version}: choose another name")
+                if not isinstance(item, Struct) and not any(is_there(variant, version) for variant in item.variants):
+                    self.told.fault(item.line, f"`{item.name}` has no variant in version {version}: remove `#[since({version + 1})]` of one")
             for variant in getattr(item, "variants", ()):
                 if variant.change and (variant.change.until or variant.change.default):
                     self.told.fault(variant.change.line, f"`{variant.name}` can only be added, by `#[since({variant.change.since or 2})]`: keep the variant")

@@ -1,5 +1,5 @@
 //! Percents that their constructor has taken, also where they come from bytes.
-ghost use Rattle.std.specs.Prelude.{◌≡◌, ◌≤◌, ◌<◌, ℕ, IfSome, IfNone, IfOk};
+ghost use Rattle.std.specs.Prelude.{◌≡◌, ◌≤◌, ◌<◌, IfSome, IfNone, IfOk};
 ghost use Rattle.bitcode.specs.ByHand.{IsDecodingOf};
 
 use crate::percent::Percent;
@@ -32,8 +32,8 @@ impl Percent {
 /// Errors: those of `decode`, and `invalid bit pattern` for more than 100 hundredths.
 pub fn decode_percent(alloc: Global, bytes: &[u8]) -> Result<Percent, Error>
     ensures { IfOk result (λ p. (p.hundredths ≤ 100)
-        × ((h : ℕ) × (IsDecodingOf ⟦<u8 as Shaped>⟧.data.makes ⟦<u8 as Shaped>⟧.data.shape bytes.now h
-        × (p.hundredths ≡ h)))) }
+        × IsDecodingOf ⟦<u8 as Shaped>⟧.data.makes ⟦<u8 as Shaped>⟧.data.shape bytes.now
+        p.hundredths) }
 {
     let hundredths: u8 = decode(alloc, bytes)?;
     match Percent::new(hundredths) {

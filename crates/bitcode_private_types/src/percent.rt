@@ -1,5 +1,5 @@
 //! `Percent` corresponds to the tuple of its fields. What is below its declaration was written by `scripts/new_type`.
-ghost use Rattle.bitcode.specs.ByHand.{data_as, field_alike, refl};
+ghost use Rattle.bitcode.specs.ByHand.{MakesToo, data_as, field_alike, refl};
 
 use bitcode::own::{
     Decoded, DecoderOfPrivate, FromDecoded, HasField, InFields, Nth, StructEncoder,
@@ -22,7 +22,10 @@ impl Shaped for Percent {
 }
 
 impl FromDecoded<u8> for Percent {
-    fn from_decoded(decoded: Decoded<u8>) -> Self {
+    fn from_decoded(decoded: Decoded<u8>) -> Self
+        ensures { MakesToo ⟦<Percent as Shaped>⟧.data.makes ⟦<u8 as Shaped>⟧.data.makes result
+            decoded.fields }
+    {
         let hundredths = decoded.into_fields();
         Percent { hundredths }
     }

@@ -1,5 +1,5 @@
 //! `Sale` corresponds to the tuple of its fields. What is below its declaration was written by `scripts/new_type`.
-ghost use Rattle.bitcode.specs.ByHand.{data_as, field_alike, pair_alike, refl};
+ghost use Rattle.bitcode.specs.ByHand.{MakesToo, data_as, field_alike, pair_alike, refl};
 
 use crate::percent::Percent;
 use bitcode::own::{
@@ -28,7 +28,10 @@ impl<'a> Shaped for Sale<'a> {
 }
 
 impl<'a> FromDecoded<(&'a str, Vec<Percent>, u64)> for Sale<'a> {
-    fn from_decoded(decoded: Decoded<(&'a str, Vec<Percent>, u64)>) -> Self {
+    fn from_decoded(decoded: Decoded<(&'a str, Vec<Percent>, u64)>) -> Self
+        ensures { MakesToo ⟦<Sale<'a> as Shaped>⟧.data.makes
+            ⟦<(&'a str, Vec<Percent>, u64) as Shaped>⟧.data.makes result decoded.entry.fields }
+    {
         let (by, parts, total) = decoded.into_fields();
         Sale { by, parts, total }
     }
