@@ -62,13 +62,13 @@ def text_of(folder, path):
 
 
 def versions_in(folder, path):
-    """The earlier versions that an imported type is read from."""
-    return {int(version) for version in re.findall(rf"(?m)^impl\S* Earlier<(\d+)> for {path[-1]}\b", text_of(folder, path))}
+    """The earlier versions that an imported type is read from, and what it was in each."""
+    found = re.findall(rf"(?ms)^impl\S* Earlier<(\d+)> for {path[-1]}\b.*?^    type Before = (\w+)", text_of(folder, path))
+    return {int(version): name for version, name in found}
 
 
-def before_path(folder, path, version):
-    """Where an imported type is as it was in the version."""
-    name = before_name(path[-1], version)
+def before_path(folder, path, name):
+    """Where an imported type is as it was, under that name."""
     is_alias = re.search(rf"\btype {name}\b", text_of(folder, path))
     return (*path[:-1], name) if is_alias else ("crate", module_of(name), name)
 
@@ -114,8 +114,8 @@ class Versions:
             if isinstance(item, Struct) and len(item.fields) > 16:
                 self.told.fault(item.line, f"`{item.name}` has versions, so it has at most 16 fields: move some of them to another struct")
             for version in self.of(item.name):
-                if before_name(item.name, version) in {*self.whole, *self.others}:
-                    self.told.fault(item.line, f"`{before_name(item.name, version)}` is the name of `{item.name}` in version {version}: choose another name")
+                if self.before(item.name, version) in {*self.whole, *self.others}:
+                    self.told.fault(item.line, f"`{self.before(item.name, version)}` is the name of `{item.name}` in version {version}: choose another name")
                 if not isinstance(item, Struct) and not any(is_there(variant, version) for variant in item.variants):
                     self.told.fault(item.line, f"`{item.name}` has no variant in version {version}: remove `#[since({version + 1})]` of one")
             for variant in getattr(item, "variants", ()):
@@ -130,6 +130,12 @@ class Versions:
             return list(range(max(self.others[name]), self.oldest - 1, -1))
         numbers = self.numbers.get(name)
         return list(range(max(numbers) - 1, self.oldest - 1, -1)) if numbers else []
+
+    def before(self, name, version):
+        """The name of the type as it was in the version: several versions may have had one form."""
+        if name in self.others:
+            return self.others[name][version]
+        return before_name(name, min(number for number in self.numbers[name] if number > version) - 1)
 
     def is_changed(self, type, version):
         """Whether the type had another form in the version."""
@@ -151,7 +157,7 @@ class Versions:
         if type.kind == "path" and type.name in {*self.whole, *self.others}:
             if version not in self.others.get(type.name, {version}):
                 raise Refused(type.line, f"`{type.name}` has no version {version}: give the file of its declaration too, by `--also FILE`")
-            return type._replace(name=before_name(type.name, version))
+            return type._replace(name=self.before(type.name, version))
         place = CONTAINERS.get(type.name) if type.kind == "path" else None
         others = [part for i, part in enumerate(type.parts) if i != place]
         if place is None or any(self.is_changed(part, version) for part in others):
@@ -165,7 +171,9 @@ class Versions:
         def kept(fields):
             return [field._replace(type=self.type_at(field.type, version), docs=[], attributes=[]) for field in fields if is_there(field, version)]
 
-        item = item._replace(name=before_name(item.name, version), docs=[f"/// `{item.name}` as it was in version {version}."], derives=[], attributes=[])
+        name = self.before(item.name, version)
+        last = name.removeprefix(f"{item.name}Of")
+        item = item._replace(name=name, docs=[f"/// `{item.name}` as it was in version {last}."], derives=[], attributes=[])
         if isinstance(item, Struct):
             return item._replace(fields=kept(item.fields))
         there = [variant for variant in item.variants if is_there(variant, version)]
@@ -174,7 +182,7 @@ class Versions:
     def earlier_enums(self, name):
         """The enum as it was in each earlier version, which has a file of its own."""
         item = self.whole[name]
-        return [] if isinstance(item, Struct) else [self.at(item, version) for version in self.of(item.name)]
+        return [] if isinstance(item, Struct) else list({earlier.name: earlier for earlier in (self.at(item, version) for version in self.of(name))}.values())
 
     def refuse_holders(self, files):
         """Refuses to change types that files of the crate hold which are not written again."""
@@ -193,14 +201,13 @@ class Versions:
         """What is known of earlier types of other files."""
         for name, versions in self.others.items():
             path = imports[name].path
-            for version in versions:
-                yield before_name(name, version), Own("::".join(before_path(self.folder, path, version)), None, 1)
+            for before in versions.values():
+                yield before, Own("::".join(before_path(self.folder, path, before)), None, 1)
 
     def known(self, item):
         """What is known of the item's earlier types."""
         module = module_of(item.name)
-        for version in self.of(item.name):
-            name = before_name(item.name, version)
+        for name in {self.before(item.name, version) for version in self.of(item.name)}:
             yield name, Own(f"crate::{module if isinstance(item, Struct) else module_of(name)}::{name}", None, 1)
 
     def text(self, item, own, crate, lacking, file):
@@ -262,10 +269,10 @@ class Earlier:
         self.uses, self.needs_alloc = set(), False
         row = self.of_struct(before, version) if isinstance(item, Struct) else self.of_enum(before, version)
         alias = ""
-        if isinstance(item, Struct):
+        if isinstance(item, Struct) and before.name == before_name(item.name, version):
             types = [of_text(field.type) for field in before.fields]
             alias = Template(ALIAS).substitute(name=item.name, version=version, before=before.name, life=bounds(item, ""), tuple=halved(types) if types else "()")
-        else:
+        elif not isinstance(item, Struct):
             self.imports.add(f"crate::{module_of(before.name)}::{before.name}")
         ghost_use = "".join(f"    ghost use {path};\n" for path in sorted(self.uses))
         return alias + Template(EARLIER).substitute(row, life=life, name=item.name, version=version, before=before.name, alloc="alloc" if self.needs_alloc else "_alloc", ghost_use=ghost_use + "\n" * bool(ghost_use))

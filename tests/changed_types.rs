@@ -91,7 +91,7 @@ fn an_enum_is_opened_of_each_version(rt: HostRuntime) -> Result<(), OpenError> {
     let opened: State = open_any(alloc, &EXPECTED, &bytes)?;
     assert!(rt; opened == newest);
     let mut bytes = Vec::new(alloc);
-    seal_bytes(SECOND, &[1], &mut bytes)?;
+    seal_bytes(FIRST_JOB, &[1], &mut bytes)?;
     let opened: Hurry = open_any(alloc, &EXPECTED, &bytes)?;
     assert!(rt; opened == Hurry::High);
     Ok(())

@@ -4,7 +4,6 @@ ghost use Rattle.bitcode.specs.ByHand.{bare_data};
 ghost use Rattle.bitcode_changed_types.specs.declared.hurry.Hurry.{Hurry};
 
 use crate::hurry_of1::HurryOf1;
-use crate::hurry_of2::HurryOf2;
 use bitcode::own::{BareEncoder, BareShaped, BareVariants};
 use bitcode::sealed::{Earlier, Version, Versioned};
 use bitcode::{DecodeOwned, Error, HasDecoder, HasEncoder, Shaped, VariantDecoder};
@@ -68,23 +67,6 @@ impl<'a> HasDecoder<'a> for Hurry {
 
 impl DecodeOwned for Hurry {}
 
-impl Earlier<2> for Hurry {
-    ghost use Rattle.bitcode_changed_types.specs.declared.hurry.Hurry.{Hurry};
-    ghost use Rattle.bitcode_changed_types.specs.declared.hurry_of2.HurryOf2.{HurryOf2};
-
-    type Before = HurryOf2;
-
-    ghost is_upgrade = { elim
-        [ HurryOf2.Low ↦ λ t. (t ≡ Hurry.Low) | HurryOf2.High ↦ λ t. (t ≡ Hurry.High) ] };
-
-    fn upgrade(_alloc: Global, before: HurryOf2) -> Result<Self, Error> {
-        match before {
-            HurryOf2::Low => Ok(Hurry::Low),
-            HurryOf2::High => Ok(Hurry::High),
-        }
-    }
-}
-
 impl Earlier<1> for Hurry {
     ghost use Rattle.bitcode_changed_types.specs.declared.hurry.Hurry.{Hurry};
     ghost use Rattle.bitcode_changed_types.specs.declared.hurry_of1.HurryOf1.{HurryOf1};
@@ -103,5 +85,5 @@ impl Earlier<1> for Hurry {
 }
 
 impl Versioned for Hurry {
-    type Versions = (Version<2>, Version<1>);
+    type Versions = Version<1>;
 }

@@ -3,7 +3,6 @@
 
 pub mod hurry;
 pub mod hurry_of1;
-pub mod hurry_of2;
 pub mod job;
 pub mod opened;
 pub mod queue;

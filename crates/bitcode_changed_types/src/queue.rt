@@ -3,7 +3,6 @@ ghost use Rattle.std.specs.Prelude.{◌≡◌};
 ghost use Rattle.bitcode.specs.ByHand.{data_as, field_alike, pair_alike, refl};
 
 use crate::hurry::Hurry;
-use crate::hurry_of2::HurryOf2;
 use crate::job::{Job, JobOf1, JobOf2};
 use crate::state::State;
 use crate::state_of1::StateOf1;
@@ -116,27 +115,21 @@ impl<'a> HasDecoder<'a> for Queue {
 impl DecodeOwned for Queue {}
 
 /// `Queue` as it was in version 2.
-pub type QueueOf2 = (
-    Vec<JobOf2>,
-    Option<JobOf2>,
-    BTreeMap<u32, StateOf2>,
-    HurryOf2,
-);
+pub type QueueOf2 = (Vec<JobOf2>, Option<JobOf2>, BTreeMap<u32, StateOf2>, Hurry);
 
 impl Earlier<2> for Queue {
     type Before = QueueOf2;
 
     ghost is_upgrade = { λ b t. (⟦<Vec<Job> as Earlier<2>>⟧.is_upgrade b.0 t.jobs)
         × (⟦<Option<Job> as Earlier<2>>⟧.is_upgrade b.1 t.last)
-        × (⟦<BTreeMap<u32, State> as Earlier<2>>⟧.is_upgrade b.2 t.states)
-        × (⟦<Hurry as Earlier<2>>⟧.is_upgrade b.3 t.hurry) };
+        × (⟦<BTreeMap<u32, State> as Earlier<2>>⟧.is_upgrade b.2 t.states) × (t.hurry ≡ b.3) };
 
     fn upgrade(alloc: Global, (jobs, last, states, hurry): QueueOf2) -> Result<Self, Error> {
         Ok(Queue {
             jobs: <Vec<Job> as Earlier<2>>::upgrade(alloc, jobs)?,
             last: <Option<Job> as Earlier<2>>::upgrade(alloc, last)?,
             states: <BTreeMap<u32, State> as Earlier<2>>::upgrade(alloc, states)?,
-            hurry: <Hurry as Earlier<2>>::upgrade(alloc, hurry)?,
+            hurry,
         })
     }
 }
