@@ -44,7 +44,7 @@ pub use Rattle.bitcode_sealed.specs.Layout.{BeginsAsSealed}
 pub use Rattle.bitcode_sealed.specs.Front.{HasLabel, IsSkip, IsNextHead}
 pub use Rattle.bitcode_sealed.specs.Next.{IsNextOf}
 -- What is opened of any version that is read, and how a value is made from an earlier one:
-pub use Rattle.bitcode_sealed.specs.Versions.{names_earlier, IsOpeningOfAny, IsRefusalOfAny, IsOpeningOfEarlier, IsRefusalOfEarlier}
+pub use Rattle.bitcode_sealed.specs.Versions.{names_earlier, IsOpeningOfAny, IsRefusalOfAny, IsOpeningOfEarlier, IsRefusalOfEarlier, IsRefusalOfVersion}
 pub use Rattle.bitcode_sealed.specs.Upgrades.{UpgradesOption, UpgradesMap}
 -- What is read column by column: a front of the input, and the data or the lengths that it spells:
 pub use Rattle.bitcode_columns.specs.Reading.{Reads}

@@ -13,7 +13,7 @@ use Rattle.bitcode_sealed.specs.Layout.{sealed}
 use Rattle.bitcode_sealed.specs.Faults.{in_head}
 use Rattle.bitcode_sealed.specs.Front.{HasLabel}
 use Rattle.bitcode_sealed.specs.Sealing.{IsSealingOf}
-use Rattle.bitcode_sealed.specs.Versions.{under, names_earlier, IsOpeningOfEarlier, IsRefusalOfEarlier, earlier_not_opened, not_upgraded, IsOpeningOfAny, opens_newest, opens_earlier, IsRefusalOfAny, no_label, newest_refused, earlier_refused}
+use Rattle.bitcode_sealed.specs.Versions.{under, names_earlier, IsOpeningOfEarlier, IsRefusalOfEarlier, IsRefusalOfVersion, earlier_not_opened, not_upgraded, IsOpeningOfAny, opens_newest, opens_earlier, IsRefusalOfAny, no_label, newest_refused, earlier_refused}
 use Rattle.bitcode_sealed.proofs.AgainLemmas.{same_head, only_value}
 use Rattle.bitcode_sealed.proofs.NoFaultLemmas.{LabelFits, long, begins, no_fault}
 use Rattle.bitcode_sealed.proofs.OpeningLemmas.{only_for_memory}
@@ -82,16 +82,17 @@ module _ {B : Type 0} {shape : Shape} {is_value : B → Type 0} {lists : B → D
       (λ reason none. refused_for_memory lawful before sealing.encoding valid sealing.written short reason none) refusal
   memory_earlier free own room fault (not_upgraded _ memory) = memory
 
-  pub memory_any : (free t_free : Bool) (own t_own t_shape : Shape) (refuses : Expected → List ℕ → OpenError → Type 0)
-      → ((e : Expected) (b : List ℕ) (fault : OpenError) → e.label.version ≡ version → refuses e b fault → IsRefusalOfEarlier free own shape version e b fault)
+  pub memory_any : (t_free : Bool) (t_own t_shape : Shape) (refuses : Expected → List ℕ → OpenError → Type 0)
+      → ((e : Expected) (b : List ℕ) (fault : OpenError) → e.label.version ≡ version → refuses e b fault → IsRefusalOfVersion shape version e b fault)
       → length bytes ≤ expected.most_bytes + 24 → (fault : OpenError) → IsRefusalOfAny t_free t_own t_shape includes refuses expected bytes fault → IsOutOfMemory fault
-  memory_any free t_free own t_own t_shape refuses reads room fault (no_label f) =
+  memory_any t_free t_own t_shape refuses reads room fault (no_label f) =
       let size = long label fits sealing.encoding [] bytes below (whole label fits sealing.encoding bytes below sealing.whole) in
       let fitting : length sealing.encoding ≤ expected.most_bytes = omega (arith, size, room) in
       absurd (no_fault label fits sealing.encoding [] bytes below (whole label fits sealing.encoding bytes below sealing.whole) (under label expected) fault refl fitting (in_head f))
-  memory_any free t_free own t_own t_shape refuses reads room fault (newest_refused other has not_named _) =
+  memory_any t_free t_own t_shape refuses reads room fault (newest_refused other has not_named _) =
       let own_label : other ≡ label = only_label label fits sealing.encoding bytes below sealing.whole other has in
       absurd (not_true_and_false (names_earlier includes expected.label label) named (subst (λ l. names_earlier includes expected.label l ≡ false) own_label not_named))
-  memory_any free t_free own t_own t_shape refuses reads room fault (earlier_refused other has _ refused) =
+  memory_any t_free t_own t_shape refuses reads room fault (earlier_refused other has _ refused) =
       let own_label : other ≡ label = only_label label fits sealing.encoding bytes below sealing.whole other has in
-      memory_earlier free own room fault (reads (under label expected) bytes fault is_version (subst (λ l. refuses (under l expected) bytes fault) own_label refused))
+      let earlier = reads (under label expected) bytes fault is_version (subst (λ l. refuses (under l expected) bytes fault) own_label refused) in
+      memory_earlier earlier.makes_free earlier.own room fault earlier.refusal

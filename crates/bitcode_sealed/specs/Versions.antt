@@ -30,6 +30,12 @@ pub data IsRefusalOfEarlier (makes_free : Bool) (own shape : Shape) (version : �
       → IsRefusalOfEarlier makes_free own shape version expected bytes fault
   not_upgraded : expected.label.version ≡ version → IsOutOfMemory fault → IsRefusalOfEarlier makes_free own shape version expected bytes fault
 
+-- the same, by whichever decoder of the earlier type
+pub record IsRefusalOfVersion (shape : Shape) (version : ℕ) (expected : Expected) (bytes : List ℕ) (fault : OpenError) : Type 0 where
+  pub makes_free : Bool
+  pub own : Shape
+  pub refusal : IsRefusalOfEarlier makes_free own shape version expected bytes fault
+
 -- ---- all versions that are read
 
 -- the label has the expected kind, and another version, which is read

@@ -11,7 +11,7 @@ use crate::front::read_label;
 use crate::label::{Expected, Label};
 use crate::values::open;
 use bitcode_coder::coder::{Decoder, View};
-use bitcode_derive::derive::{Decode, HasDecoder};
+use bitcode_derive::derive::HasDecoder;
 use bitcode_shapes::shaped::Shaped;
 use std::alloc::Global;
 use std::collections::{BTreeMap, HashMap};
@@ -54,6 +54,26 @@ impl<K: Ord, T: Versioned> Versioned for BTreeMap<K, T> {
 /// The version `VERSION` of a label, as a type.
 pub struct Version<const VERSION: u16> {}
 
+/// One earlier version of `T`.
+pub trait OneVersion<T> {
+    /// The type as it was.
+    type Before;
+
+    // the number of the version
+    ghost version: { ℕ };
+
+    // how a value is made from an earlier one
+    ghost is_upgrade: { Self.Before → T → Type 0 };
+}
+
+impl<const VERSION: u16, T: Earlier<VERSION>> OneVersion<T> for Version<VERSION> {
+    type Before = T::Before;
+
+    ghost version = { VERSION };
+
+    ghost is_upgrade = { T.is_upgrade };
+}
+
 /// Versions whose bytes values of `T` are made from: one, or a pair of them or of pairs.
 pub trait ReadsVersions<'a, T> {
     /// The earlier types and their decoders. It says nothing about the values: the toolchain accepts an impl only for
@@ -81,8 +101,11 @@ pub trait ReadsVersions<'a, T> {
         ensures refused { IfErr result (λ e. refuses expected.now bytes.now e) };
 }
 
-impl<'a, const VERSION: u16, T: Earlier<VERSION, Before: Decode<'a>>> ReadsVersions<'a, T>
-    for Version<VERSION> {
+impl<'a, const VERSION: u16, T: Earlier<VERSION>> ReadsVersions<'a, T> for Version<VERSION>
+where
+    T::Before: HasDecoder<'a> + Shaped + Drop,
+    <T::Before as HasDecoder<'a>>::Decoder: View<'a> + Decoder<T::Before> + Drop,
+{
     type Inside = (T::Before, <T::Before as HasDecoder<'a>>::Decoder);
 
     ghost includes = { λ version. nat_eq version VERSION };
