@@ -34,9 +34,33 @@ ${ghost_use}    type Before = $before$life;
     }
 }
 """
+OPENS = """
+/// Opens version $version of `$name`.
+pub struct ${name}Version$version {}
+
+impl<$input> ReadsVersions<$input, $name$life> for ${name}Version$version {
+    type Inside = ();
+
+    ghost includes = { ⟦<Version<$version> as ReadsVersions<$input, $name$life>>⟧.includes };
+
+    ghost opens = { ⟦<Version<$version> as ReadsVersions<$input, $name$life>>⟧.opens };
+
+    ghost refuses = { ⟦<Version<$version> as ReadsVersions<$input, $name$life>>⟧.refuses };
+
+    fn includes(version: u16) -> bool {
+        version == $version
+    }
+
+    fn open_earlier(alloc: Global, expected: &Expected, bytes: &$input [u8]) -> Result<$name$life, OpenError> {
+        open_version::<Version<$version>, $name$life>(alloc, expected, bytes)
+    }
+}
+"""
 VERSIONED = """
 impl$life Versioned for $name$life {
-    type Versions = $versions;
+    type Versions = $opening;
+
+    type Numbers = $versions;
 }
 """
 
@@ -47,9 +71,9 @@ def before_name(name, version):
 
 
 def listed(versions):
-    """The versions as a type, the newest first."""
+    """The types in pairs, the first one outside."""
     first, *rest = versions
-    return f"(Version<{first}>, {listed(rest)})" if rest else f"Version<{first}>"
+    return f"({first}, {listed(rest)})" if rest else first
 
 
 def text_of(folder, path):
@@ -217,7 +241,7 @@ class Versions:
             return file, needed
         writer = Earlier(self, self.whole[item.name], own, crate, lacking)
         texts = [writer.text(version) for version in versions]
-        file += "".join(texts) + Template(VERSIONED).substitute(life=arguments(item), name=item.name, versions=listed(versions))
+        file += "".join(texts) + Template(VERSIONED).substitute(life=arguments(item), name=item.name, versions=listed([f"Version<{version}>" for version in versions]), opening=listed([f"{item.name}Version{version}" for version in versions]))
         file = with_names(file, "Rattle.std.specs.Prelude", writer.names) if writer.names else file
         imports = {f"use {path};" for path in writer.imports - {"std::alloc::Global"}}
         return with_uses(file, imports), writer.crates
@@ -245,7 +269,7 @@ def with_uses(file, imports):
     """The file with these `use` lines and those of what reads earlier versions."""
     first = re.search(r"(?m)^use ", file)
     start, end = first.start(), file.index("\n\n", first.start())
-    lines = set(file[start:end].split("\n")) | imports | {"use bitcode::sealed::{Earlier, Version, Versioned};", "use std::alloc::Global;"}
+    lines = set(file[start:end].split("\n")) | imports | {"use bitcode::sealed::{Earlier, Expected, OpenError, ReadsVersions, Version, Versioned, open_version};", "use std::alloc::Global;"}
     whole = [line for line in sorted(lines) if not line.startswith("use bitcode::{")]
     names = {name.strip() for line in lines if line.startswith("use bitcode::{") for name in line[14:-2].split(",")} | {"Error"}
     return file[:start] + "\n".join(sorted([*whole, f"use bitcode::{{{', '.join(sorted(names))}}};"])) + file[end:]
@@ -275,7 +299,7 @@ class Earlier:
         elif not isinstance(item, Struct):
             self.imports.add(f"crate::{module_of(before.name)}::{before.name}")
         ghost_use = "".join(f"    ghost use {path};\n" for path in sorted(self.uses))
-        return alias + Template(EARLIER).substitute(row, life=life, name=item.name, version=version, before=before.name, alloc="alloc" if self.needs_alloc else "_alloc", ghost_use=ghost_use + "\n" * bool(ghost_use))
+        return alias + Template(EARLIER).substitute(row, life=life, name=item.name, version=version, before=before.name, alloc="alloc" if self.needs_alloc else "_alloc", ghost_use=ghost_use + "\n" * bool(ghost_use)) + Template(OPENS).substitute(name=item.name, version=version, life=life, input=item.lifetime or "'a")
 
     def of_field(self, field, version, taken, place):
         """The expression of a field, and what is said of its value; nothing, where it is the very value at the place."""

@@ -157,7 +157,9 @@ pub mod sealed {
     pub use bitcode_sealed::next::{Next, open_next};
     pub use bitcode_sealed::values::{open, open_front, seal, seal_into};
     pub use bitcode_sealed::version_laws::earlier_comes_back;
-    pub use bitcode_sealed::versions::{OneVersion, ReadsVersions, Version, Versioned, open_any};
+    pub use bitcode_sealed::versions::{
+        OneVersion, ReadsVersions, Version, Versioned, open_any, open_version,
+    };
 }
 
 /// The laws of columns, of data and of the calls for whole values. The functions do nothing, except `short_text`, which

@@ -5,7 +5,9 @@ ghost use Rattle.bitcode_changed_types.specs.declared.hurry.Hurry.{Hurry};
 
 use crate::hurry_of1::HurryOf1;
 use bitcode::own::{BareEncoder, BareShaped, BareVariants};
-use bitcode::sealed::{Earlier, Version, Versioned};
+use bitcode::sealed::{
+    Earlier, Expected, OpenError, ReadsVersions, Version, Versioned, open_version,
+};
 use bitcode::{DecodeOwned, Error, HasDecoder, HasEncoder, Shaped, VariantDecoder};
 use std::alloc::Global;
 
@@ -84,6 +86,33 @@ impl Earlier<1> for Hurry {
     }
 }
 
+/// Opens version 1 of `Hurry`.
+pub struct HurryVersion1 {}
+
+impl<'a> ReadsVersions<'a, Hurry> for HurryVersion1 {
+    type Inside = ();
+
+    ghost includes = { ⟦<Version<1> as ReadsVersions<'a, Hurry>>⟧.includes };
+
+    ghost opens = { ⟦<Version<1> as ReadsVersions<'a, Hurry>>⟧.opens };
+
+    ghost refuses = { ⟦<Version<1> as ReadsVersions<'a, Hurry>>⟧.refuses };
+
+    fn includes(version: u16) -> bool {
+        version == 1
+    }
+
+    fn open_earlier(
+        alloc: Global,
+        expected: &Expected,
+        bytes: &'a [u8],
+    ) -> Result<Hurry, OpenError> {
+        open_version::<Version<1>, Hurry>(alloc, expected, bytes)
+    }
+}
+
 impl Versioned for Hurry {
-    type Versions = Version<1>;
+    type Versions = HurryVersion1;
+
+    type Numbers = Version<1>;
 }

@@ -3,7 +3,9 @@ ghost use Rattle.std.specs.Prelude.{◌≡◌};
 ghost use Rattle.bitcode.specs.ByHand.{data_as, field_alike, pair_alike, refl};
 
 use bitcode::own::{DecoderOfFields, HasField, InFields, Nth, StructEncoder};
-use bitcode::sealed::{Earlier, Version, Versioned};
+use bitcode::sealed::{
+    Earlier, Expected, OpenError, ReadsVersions, Version, Versioned, open_version,
+};
 use bitcode::{ConvertFrom, DecodeOwned, Error, HasDecoder, HasEncoder, Shaped};
 use std::alloc::Global;
 
@@ -141,6 +143,27 @@ impl Earlier<2> for Job {
     }
 }
 
+/// Opens version 2 of `Job`.
+pub struct JobVersion2 {}
+
+impl<'a> ReadsVersions<'a, Job> for JobVersion2 {
+    type Inside = ();
+
+    ghost includes = { ⟦<Version<2> as ReadsVersions<'a, Job>>⟧.includes };
+
+    ghost opens = { ⟦<Version<2> as ReadsVersions<'a, Job>>⟧.opens };
+
+    ghost refuses = { ⟦<Version<2> as ReadsVersions<'a, Job>>⟧.refuses };
+
+    fn includes(version: u16) -> bool {
+        version == 2
+    }
+
+    fn open_earlier(alloc: Global, expected: &Expected, bytes: &'a [u8]) -> Result<Job, OpenError> {
+        open_version::<Version<2>, Job>(alloc, expected, bytes)
+    }
+}
+
 /// `Job` as it was in version 1.
 pub type JobOf1 = (u64, String, String);
 
@@ -161,6 +184,29 @@ impl Earlier<1> for Job {
     }
 }
 
+/// Opens version 1 of `Job`.
+pub struct JobVersion1 {}
+
+impl<'a> ReadsVersions<'a, Job> for JobVersion1 {
+    type Inside = ();
+
+    ghost includes = { ⟦<Version<1> as ReadsVersions<'a, Job>>⟧.includes };
+
+    ghost opens = { ⟦<Version<1> as ReadsVersions<'a, Job>>⟧.opens };
+
+    ghost refuses = { ⟦<Version<1> as ReadsVersions<'a, Job>>⟧.refuses };
+
+    fn includes(version: u16) -> bool {
+        version == 1
+    }
+
+    fn open_earlier(alloc: Global, expected: &Expected, bytes: &'a [u8]) -> Result<Job, OpenError> {
+        open_version::<Version<1>, Job>(alloc, expected, bytes)
+    }
+}
+
 impl Versioned for Job {
-    type Versions = (Version<2>, Version<1>);
+    type Versions = (JobVersion2, JobVersion1);
+
+    type Numbers = (Version<2>, Version<1>);
 }

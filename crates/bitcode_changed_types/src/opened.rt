@@ -6,7 +6,8 @@ use crate::job::{Job, JobOf1};
 use crate::queue::Queue;
 use bitcode::Shaped;
 use bitcode::sealed::{
-    Expected, Label, OpenError, ReadsVersions, Versioned, earlier_comes_back, open_any, seal,
+    Expected, Label, OpenError, ReadsVersions, Version, Versioned, earlier_comes_back, open_any,
+    seal,
 };
 use std::alloc::Global;
 use std::collections::HashMap;
@@ -29,7 +30,20 @@ pub const EXPECTED: Expected = Expected {
     most_bytes: 1 << 20,
 };
 
+type JobVersions = <Job as Versioned>::Versions;
+
 type QueueVersions = <Queue as Versioned>::Versions;
+
+/// Opens a job of any of the three versions.
+///
+/// Errors: those of `open_any`.
+pub fn open_job<'a>(alloc: Global, bytes: &'a [u8]) -> Result<Job, OpenError>
+    ensures { IfOk result (λ job. IsOpeningOfAny ⟦<Job as Shaped>⟧.data.makes
+        ⟦<Job as Shaped>⟧.data.shape ⟦<JobVersions as ReadsVersions<'a, Job>>⟧.includes
+        ⟦<JobVersions as ReadsVersions<'a, Job>>⟧.opens EXPECTED bytes.now job) }
+{
+    open_any(alloc, &EXPECTED, bytes)
+}
 
 /// Opens a queue of any of the three versions.
 ///
@@ -61,6 +75,6 @@ pub fn first_job_again(alloc: Global, before: &JobOf1) -> Result<Job, OpenError>
     let bytes = seal(alloc, FIRST_JOB, before)?;
     let sealed = bytes.as_slice();
     let again: Result<Job, OpenError> = open_any(alloc, &EXPECTED, sealed);
-    earlier_comes_back::<1, Job>(before, FIRST_JOB, &EXPECTED, sealed, &again);
+    earlier_comes_back::<Version<1>, Job>(before, FIRST_JOB, &EXPECTED, sealed, &again);
     again
 }

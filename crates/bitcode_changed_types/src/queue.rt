@@ -8,7 +8,9 @@ use crate::state::State;
 use crate::state_of1::StateOf1;
 use crate::state_of2::StateOf2;
 use bitcode::own::{DecoderOfFields, HasField, InFields, Nth, StructEncoder};
-use bitcode::sealed::{Earlier, Version, Versioned};
+use bitcode::sealed::{
+    Earlier, Expected, OpenError, ReadsVersions, Version, Versioned, open_version,
+};
 use bitcode::{ConvertFrom, DecodeOwned, Error, HasDecoder, HasEncoder, Shaped};
 use std::alloc::Global;
 use std::collections::BTreeMap;
@@ -134,6 +136,31 @@ impl Earlier<2> for Queue {
     }
 }
 
+/// Opens version 2 of `Queue`.
+pub struct QueueVersion2 {}
+
+impl<'a> ReadsVersions<'a, Queue> for QueueVersion2 {
+    type Inside = ();
+
+    ghost includes = { ⟦<Version<2> as ReadsVersions<'a, Queue>>⟧.includes };
+
+    ghost opens = { ⟦<Version<2> as ReadsVersions<'a, Queue>>⟧.opens };
+
+    ghost refuses = { ⟦<Version<2> as ReadsVersions<'a, Queue>>⟧.refuses };
+
+    fn includes(version: u16) -> bool {
+        version == 2
+    }
+
+    fn open_earlier(
+        alloc: Global,
+        expected: &Expected,
+        bytes: &'a [u8],
+    ) -> Result<Queue, OpenError> {
+        open_version::<Version<2>, Queue>(alloc, expected, bytes)
+    }
+}
+
 /// `Queue` as it was in version 1.
 pub type QueueOf1 = (Vec<JobOf1>, Option<JobOf1>, BTreeMap<u32, StateOf1>);
 
@@ -157,6 +184,33 @@ impl Earlier<1> for Queue {
     }
 }
 
+/// Opens version 1 of `Queue`.
+pub struct QueueVersion1 {}
+
+impl<'a> ReadsVersions<'a, Queue> for QueueVersion1 {
+    type Inside = ();
+
+    ghost includes = { ⟦<Version<1> as ReadsVersions<'a, Queue>>⟧.includes };
+
+    ghost opens = { ⟦<Version<1> as ReadsVersions<'a, Queue>>⟧.opens };
+
+    ghost refuses = { ⟦<Version<1> as ReadsVersions<'a, Queue>>⟧.refuses };
+
+    fn includes(version: u16) -> bool {
+        version == 1
+    }
+
+    fn open_earlier(
+        alloc: Global,
+        expected: &Expected,
+        bytes: &'a [u8],
+    ) -> Result<Queue, OpenError> {
+        open_version::<Version<1>, Queue>(alloc, expected, bytes)
+    }
+}
+
 impl Versioned for Queue {
-    type Versions = (Version<2>, Version<1>);
+    type Versions = (QueueVersion2, QueueVersion1);
+
+    type Numbers = (Version<2>, Version<1>);
 }

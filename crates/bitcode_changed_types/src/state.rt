@@ -12,7 +12,9 @@ use bitcode::own::{
     At, DecodersOf4, EncodersOf4, Enum, EnumDecoder, EnumEncoder, EnumOf, OneOf4, VariantColumns,
     VariantPayloads, Variants4, WritesVariants, told_as,
 };
-use bitcode::sealed::{Earlier, Version, Versioned};
+use bitcode::sealed::{
+    Earlier, Expected, OpenError, ReadsVersions, Version, Versioned, open_version,
+};
 use bitcode::{DecodeOwned, Error, HasDecoder, HasEncoder, Shaped};
 use std::alloc::Global;
 
@@ -237,6 +239,31 @@ impl Earlier<2> for State {
     }
 }
 
+/// Opens version 2 of `State`.
+pub struct StateVersion2 {}
+
+impl<'a> ReadsVersions<'a, State> for StateVersion2 {
+    type Inside = ();
+
+    ghost includes = { ⟦<Version<2> as ReadsVersions<'a, State>>⟧.includes };
+
+    ghost opens = { ⟦<Version<2> as ReadsVersions<'a, State>>⟧.opens };
+
+    ghost refuses = { ⟦<Version<2> as ReadsVersions<'a, State>>⟧.refuses };
+
+    fn includes(version: u16) -> bool {
+        version == 2
+    }
+
+    fn open_earlier(
+        alloc: Global,
+        expected: &Expected,
+        bytes: &'a [u8],
+    ) -> Result<State, OpenError> {
+        open_version::<Version<2>, State>(alloc, expected, bytes)
+    }
+}
+
 impl Earlier<1> for State {
     ghost use Rattle.bitcode_changed_types.specs.declared.state.State.{State};
     ghost use Rattle.bitcode_changed_types.specs.declared.state_of1.StateOf1.{StateOf1};
@@ -257,6 +284,33 @@ impl Earlier<1> for State {
     }
 }
 
+/// Opens version 1 of `State`.
+pub struct StateVersion1 {}
+
+impl<'a> ReadsVersions<'a, State> for StateVersion1 {
+    type Inside = ();
+
+    ghost includes = { ⟦<Version<1> as ReadsVersions<'a, State>>⟧.includes };
+
+    ghost opens = { ⟦<Version<1> as ReadsVersions<'a, State>>⟧.opens };
+
+    ghost refuses = { ⟦<Version<1> as ReadsVersions<'a, State>>⟧.refuses };
+
+    fn includes(version: u16) -> bool {
+        version == 1
+    }
+
+    fn open_earlier(
+        alloc: Global,
+        expected: &Expected,
+        bytes: &'a [u8],
+    ) -> Result<State, OpenError> {
+        open_version::<Version<1>, State>(alloc, expected, bytes)
+    }
+}
+
 impl Versioned for State {
-    type Versions = (Version<2>, Version<1>);
+    type Versions = (StateVersion2, StateVersion1);
+
+    type Numbers = (Version<2>, Version<1>);
 }

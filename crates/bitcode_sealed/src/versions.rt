@@ -23,32 +23,47 @@ use std::hash::Hash;
 ///
 /// ```text
 /// impl Versioned for Job {
-///     type Versions = (Version<2>, Version<1>);
+///     type Versions = (JobVersion2, JobVersion1);
+///
+///     type Numbers = (Version<2>, Version<1>);
 /// }
 /// ```
 pub trait Versioned {
-    /// The earlier versions: one, or a pair of them or of pairs.
+    /// What opens the earlier versions: one, or a pair of them or of pairs.
     type Versions;
+
+    /// The same for containers of the type: `Version<1>` for version 1.
+    type Numbers;
 }
 
 impl<T: Versioned> Versioned for Box<T> {
-    type Versions = T::Versions;
+    type Versions = T::Numbers;
+
+    type Numbers = T::Numbers;
 }
 
 impl<T: Versioned> Versioned for Option<T> {
-    type Versions = T::Versions;
+    type Versions = T::Numbers;
+
+    type Numbers = T::Numbers;
 }
 
 impl<T: Versioned> Versioned for Vec<T> {
-    type Versions = T::Versions;
+    type Versions = T::Numbers;
+
+    type Numbers = T::Numbers;
 }
 
 impl<K: Eq + Hash, T: Versioned> Versioned for HashMap<K, T> {
-    type Versions = T::Versions;
+    type Versions = T::Numbers;
+
+    type Numbers = T::Numbers;
 }
 
 impl<K: Ord, T: Versioned> Versioned for BTreeMap<K, T> {
-    type Versions = T::Versions;
+    type Versions = T::Numbers;
+
+    type Numbers = T::Numbers;
 }
 
 /// The version `VERSION` of a label, as a type.
@@ -150,6 +165,26 @@ impl<'a, T, A: ReadsVersions<'a, T>, B: ReadsVersions<'a, T>> ReadsVersions<'a, 
             B::open_earlier(alloc, expected, bytes)
         }
     }
+}
+
+/// Opens bytes of an earlier version, as `V` does. A generated type calls this, so that what opens a type names no
+/// decoder of its earlier versions.
+///
+/// Errors: those of [`ReadsVersions::open_earlier`].
+///
+/// ```text
+/// open_version::<Version<1>, Job>(alloc, expected, bytes)
+/// ```
+pub fn open_version<'a, V: ReadsVersions<'a, T>, T>(
+    alloc: Global,
+    expected: &Expected,
+    bytes: &'a [u8],
+) -> Result<T, OpenError>
+    requires { V.includes expected.now.label.version ≡ true }
+    ensures found { IfOk result (λ t. V.opens expected.now bytes.now t) }
+    ensures refused { IfErr result (λ e. V.refuses expected.now bytes.now e) }
+{
+    V::open_earlier(alloc, expected, bytes)
 }
 
 // Whether the label has the expected kind, and another version, which is read.

@@ -4,7 +4,9 @@ ghost use Rattle.std.specs.Prelude.{◌≡◌};
 ghost use Rattle.bitcode.specs.ByHand.{data_as, field_alike, pair_alike, refl};
 
 use bitcode::own::{DecoderOfFields, HasField, InFields, Nth, StructEncoder};
-use bitcode::sealed::{Earlier, Version, Versioned};
+use bitcode::sealed::{
+    Earlier, Expected, OpenError, ReadsVersions, Version, Versioned, open_version,
+};
 use bitcode::{ConvertFrom, DecodeOwned, Error, HasDecoder, HasEncoder, Shaped};
 use std::alloc::Global;
 
@@ -129,6 +131,33 @@ impl Earlier<2> for FileRecord {
     }
 }
 
+/// Opens version 2 of `FileRecord`.
+pub struct FileRecordVersion2 {}
+
+impl<'a> ReadsVersions<'a, FileRecord> for FileRecordVersion2 {
+    type Inside = ();
+
+    ghost includes = { ⟦<Version<2> as ReadsVersions<'a, FileRecord>>⟧.includes };
+
+    ghost opens = { ⟦<Version<2> as ReadsVersions<'a, FileRecord>>⟧.opens };
+
+    ghost refuses = { ⟦<Version<2> as ReadsVersions<'a, FileRecord>>⟧.refuses };
+
+    fn includes(version: u16) -> bool {
+        version == 2
+    }
+
+    fn open_earlier(
+        alloc: Global,
+        expected: &Expected,
+        bytes: &'a [u8],
+    ) -> Result<FileRecord, OpenError> {
+        open_version::<Version<2>, FileRecord>(alloc, expected, bytes)
+    }
+}
+
 impl Versioned for FileRecord {
-    type Versions = Version<2>;
+    type Versions = FileRecordVersion2;
+
+    type Numbers = Version<2>;
 }
