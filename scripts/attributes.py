@@ -19,8 +19,7 @@ ALL_WRITTEN = "all fields are written, in their order"
 OTHER_TYPE = "remove it, encode and decode the other type, and convert in your own code"
 BY_FUNCTION = "write a type of your own for the field, which holds what the function writes"
 INSTEAD = {
-    "default": f"{ALL_WRITTEN}. Keep the old type under another name, and write an enum with a variant for each "
-               "version, such as `V1(Old)` and `V2(New)`",
+    "default": f"{ALL_WRITTEN}. Write `#[since(2)]` if version 1 lacks the field (docs/GUIDE.md)",
     **{word: OTHER_TYPE for word in ("from", "into", "try_from", "remote")},
     **{word: BY_FUNCTION for word in ("with", "serialize_with", "deserialize_with", "getter")},
     **{word: f"{ALL_WRITTEN}. Move it to another struct, which holds this one"

@@ -3,6 +3,7 @@
 from collections import namedtuple
 
 from attributes import ATTRIBUTES, OF_FIELDS, OF_VARIANTS, Attributes, parted
+from changes import taken
 from tokens import Passed, Refused, tokens
 
 # What cannot be a name in Rust or in Rattle.
@@ -20,11 +21,12 @@ BOUNDS = "the generated impls have the bounds that they need"
 # A field's type: `kind` is path, reference, slice, array, tuple, or number; `name` the last word of a path, a lifetime or
 # a length; `path` has the words of a path as it was written.
 Type = namedtuple("Type", "kind name parts line path", defaults=((),))
-Field = namedtuple("Field", "docs seen name type line attributes", defaults=((),))
+# `change` has the versions in which it is there (changes.py).
+Field = namedtuple("Field", "docs seen name type line attributes change", defaults=((), None))
 # `types` has type parameters, and `consts` those that are numbers.
 Struct = namedtuple("Struct", "docs derives attributes seen name lifetime types fields kind line consts", defaults=[()])
 # `kind` is unit, tuple or named; `number` what stands behind a variant's `=`.
-Variant = namedtuple("Variant", "docs attributes name fields kind number line")
+Variant = namedtuple("Variant", "docs attributes name fields kind number line change", defaults=(None,))
 Enum = namedtuple("Enum", "docs derives attributes seen name lifetime types variants line consts", defaults=((),))
 # A name that a `use` line brings in, with the words of its path.
 Use = namedtuple("Use", "name path line")
@@ -167,10 +169,12 @@ class Parser(Words):
         self.items, self.uses, self.aliases, self.consts = [], [], [], []
 
     def heads(self, of, known):
-        """Comments of documentation, derives and other attributes before a variant or a field, which may have the known
-        ones."""
+        """Comments of documentation and attributes before a variant or a field, which may have the known ones, and what
+        they tell of its versions."""
         docs, found = self.before()
-        return docs, *self.attributes.all(found, of, known)
+        change, found = taken(found, self.told)
+        _, attributes = self.attributes.all(found, of, known)
+        return docs, attributes, change
 
     def before(self):
         """Comments of documentation and attributes, with their lines."""
@@ -275,12 +279,12 @@ class Parser(Words):
                 self.bounded("".join(left), sum(right, []), line)
 
     def field(self, named):
-        docs, _, attributes = self.heads("field", OF_FIELDS)
+        docs, attributes, change = self.heads("field", OF_FIELDS)
         seen, line = self.seen(), self.line()
         name = self.name() if named else None
         if named:
             self.expect(":")
-        return Field(docs, seen, name, self.with_one_lifetime(self.type()), line, attributes)
+        return Field(docs, seen, name, self.with_one_lifetime(self.type()), line, attributes, change)
 
     def head(self, word):
         """The name of an item, and the lifetime, the types and the numbers that it takes."""
@@ -331,12 +335,12 @@ class Parser(Words):
         return Struct(docs, derives, attributes, seen, name, lifetime, types, fields, kind, line, consts)
 
     def variant(self):
-        docs, _, attributes = self.heads("variant", OF_VARIANTS)
+        docs, attributes, change = self.heads("variant", OF_VARIANTS)
         line, name = self.line(), self.name()
         fields, kind = self.fields()
         if any(field.seen for field in fields):
             self.told.fault(line, "the fields of a variant are as visible as the enum: remove the `pub`")
-        return Variant(docs, attributes, name, fields, kind, self.number() if self.take("=") else None, line)
+        return Variant(docs, attributes, name, fields, kind, self.number() if self.take("=") else None, line, change)
 
     def number(self):
         """The number of a variant."""

@@ -20,7 +20,7 @@ scripts/new_type "$work/types.txt" "$program" >"$work/lines" || exit 1
   printf '%s\n' '//! The types that examples speak of, and a test, so that there is one.'
   printf '%s\n' '#[test]' 'fn compiles(_rt: HostRuntime) {}' ''
   sed -nE 's/^pub mod (.*);/\1/p' "$work/lines" | while read -r name; do
-    sed -nE "s/^pub (struct|enum) ([A-Za-z]+).*/pub use crate::$name::\2;/p" "$program/src/$name.rt"
+    sed -nE "s/^pub (struct|enum) ([A-Za-z0-9]+).*/pub use crate::$name::\2;/p" "$program/src/$name.rt"
   done
 } >"$program/src/samples.rt"
 {

@@ -22,6 +22,8 @@ kept() {
 }
 kept bitcode_own_types scripts/own_types/kept.txt
 kept bitcode_large_types scripts/own_types/large.txt
+kept bitcode_changed_types scripts/own_types/changed.txt
+kept bitcode_private_types scripts/own_types/private.txt
 for program in frames snapshots record_cache column_report; do
   kept "$program" "scripts/own_types/$program.txt"
 done
@@ -111,7 +113,7 @@ printf 'struct A { \377: u8 }' | scripts/new_type - >/dev/null 2>"$work/said"
 
 # The words of the program.
 scripts/new_type --help >"$work/printed" 2>"$work/said"
-[ "$?" = 0 ] && grep -q 'scripts/new_type \[--force\] FILE \[FOLDER\]' "$work/printed" && [ ! -s "$work/said" ] || { echo "new_type: --help"; wrong=1; }
+[ "$?" = 0 ] && grep -q 'scripts/new_type \[--force\] \[--also FILE\] FILE \[FOLDER\]' "$work/printed" && [ ! -s "$work/said" ] || { echo "new_type: --help"; wrong=1; }
 for words in "" "--no" "a b c" "$work/absent"; do
   scripts/new_type $words >"$work/printed" 2>"$work/said"
   [ "$?" = 2 ] && [ ! -s "$work/printed" ] && [ -s "$work/said" ] && ! grep -q Traceback "$work/said" || { echo "new_type: the words '$words'"; wrong=1; }

@@ -29,10 +29,10 @@ pub use Rattle.bitcode_tuples.specs.Pairs.{pairs_of}
 pub use Rattle.bitcode_parts.specs.Payloads.{choices_of}
 pub use Rattle.bitcode_parts.specs.Variants.{variant_room, variants_left, variants_owned}
 pub use Rattle.bitcode_parts.specs.Elements.{MakesOfElements}
--- What is written and read of bytes, the values that are surely read back, and that a reason not other than want of memory is
+-- What a struct with private fields is made from; what is written and read of bytes, the values that are surely read back, and that a reason not other than want of memory is
 -- want of memory:
 pub use Rattle.bitcode_shapes.specs.Datum.{Datum, natural_in}
-pub use Rattle.bitcode_coder.specs.Coder.{IsWritingRefusal}
+pub use Rattle.bitcode_coder.specs.Coder.{IsWritingRefusal, MakesToo}
 pub use Rattle.bitcode_derive.specs.ShortLengths.{elements_have_entries, has_no_lengths}
 pub use Rattle.bitcode_derive.specs.Within.{IsDecodingWithin, IsRefusalWithin}
 pub use Rattle.bitcode_derive.specs.Whole.{IsEncodingOf, HasLongListing, HasShortLengths, IsDecodingOf, SpellsDatum, want_of_memory}
@@ -43,6 +43,9 @@ pub use Rattle.bitcode_sealed.specs.ErrorClasses.{IsDamage, IsOutOfMemory}
 pub use Rattle.bitcode_sealed.specs.Layout.{BeginsAsSealed}
 pub use Rattle.bitcode_sealed.specs.Front.{HasLabel, IsSkip, IsNextHead}
 pub use Rattle.bitcode_sealed.specs.Next.{IsNextOf}
+-- What is opened of any version that is read, and how a value is made from an earlier one:
+pub use Rattle.bitcode_sealed.specs.Versions.{names_earlier, IsOpeningOfAny, IsRefusalOfAny, IsOpeningOfEarlier, IsRefusalOfEarlier, IsRefusalOfVersion}
+pub use Rattle.bitcode_sealed.specs.Upgrades.{UpgradesOption, UpgradesMap}
 -- What is read column by column: a front of the input, and the data or the lengths that it spells:
 pub use Rattle.bitcode_columns.specs.Reading.{Reads}
 pub use Rattle.bitcode_shapes.specs.Shape.{Shape}

@@ -119,12 +119,16 @@ pub mod own {
     pub use bitcode_parts::maps::Mapping;
     pub use bitcode_shapes::bare_variants::{BareShaped, BareVariants};
     pub use bitcode_shapes::no_variants::{Absent, NoVariants};
+    pub use bitcode_structs::decoded::{Decoded, FromDecoded, PrivateDecoder};
     pub use bitcode_tuples::fields::Fields;
     pub use bitcode_tuples::has_field::{HasField, Nth};
     pub use bitcode_tuples::struct_encoder::{InFields, StructEncoder};
 
     /// The decoder of a struct, which corresponds to the tuple `P` of its fields.
     pub type DecoderOfFields<'a, P> = ConvertFromDecoder<P, <P as HasDecoder<'a>>::Decoder>;
+
+    /// The decoder of a struct with private fields, which corresponds to the tuple `P` of its fields.
+    pub type DecoderOfPrivate<'a, P> = PrivateDecoder<P, <P as HasDecoder<'a>>::Decoder>;
 }
 
 /// The traits of coders, the result type of their calls, calls that write one value, what a decoder tells about
@@ -145,12 +149,17 @@ pub mod serde {
 pub mod sealed {
     pub use bitcode_sealed::bytes::{seal_bytes, split_sealed};
     pub use bitcode_sealed::crc::crc_32;
+    pub use bitcode_sealed::earlier::Earlier;
     pub use bitcode_sealed::error::OpenError;
     pub use bitcode_sealed::front::{next_head, read_label, skip_sealed};
     pub use bitcode_sealed::label::{Expected, Label};
     pub use bitcode_sealed::laws::{comes_back, damage_in_front_is_seen, damage_is_seen};
     pub use bitcode_sealed::next::{Next, open_next};
     pub use bitcode_sealed::values::{open, open_front, seal, seal_into};
+    pub use bitcode_sealed::version_laws::earlier_comes_back;
+    pub use bitcode_sealed::versions::{
+        OneVersion, ReadsVersions, Version, Versioned, open_any, open_version,
+    };
 }
 
 /// The laws of columns, of data and of the calls for whole values. The functions do nothing, except `short_text`, which

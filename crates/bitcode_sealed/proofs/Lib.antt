@@ -12,3 +12,5 @@ pub mod OpeningLemmas
 pub mod FrontLemmas
 pub mod FrontDamageLemmas
 pub mod ErrorLemmas
+pub mod UpgradeLemmas
+pub mod VersionLemmas

@@ -8,3 +8,5 @@ pub mod Front
 pub mod Sealing
 pub mod Opening
 pub mod Next
+pub mod Upgrades
+pub mod Versions

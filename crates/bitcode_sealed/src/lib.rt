@@ -4,6 +4,7 @@
 pub mod bytes;
 pub mod crc;
 mod crc_tables;
+pub mod earlier;
 pub mod error;
 pub mod front;
 mod head;
@@ -11,3 +12,5 @@ pub mod label;
 pub mod laws;
 pub mod next;
 pub mod values;
+pub mod version_laws;
+pub mod versions;

@@ -1,0 +1,316 @@
+//! `State` is written and read by the numbers of its variants. What is below its declaration was written by
+//! `scripts/new_type`.
+ghost use Rattle.std.specs.Prelude.{true, ◌≡◌};
+ghost use Rattle.bitcode.specs.ByHand.{columns_in, each_variant, enum_data, is_variant, last_payload, of_one_of_4};
+ghost use Rattle.bitcode.specs.ByHand.{payload_and, payloads_in, refl};
+ghost use Rattle.bitcode_changed_types.specs.declared.state.State.{State};
+
+use crate::job::Job;
+use crate::state_of1::StateOf1;
+use crate::state_of2::StateOf2;
+use bitcode::own::{
+    At, DecodersOf4, EncodersOf4, Enum, EnumDecoder, EnumEncoder, EnumOf, OneOf4, VariantColumns,
+    VariantPayloads, Variants4, WritesVariants, told_as,
+};
+use bitcode::sealed::{
+    Earlier, Expected, OpenError, ReadsVersions, Version, Versioned, open_version,
+};
+use bitcode::{DecodeOwned, Error, HasDecoder, HasEncoder, Shaped};
+use std::alloc::Global;
+
+/// Where a piece of work is.
+#[derive(Debug, PartialEq, Drop)]
+pub enum State {
+    Waiting,
+    Running(u32),
+    Failed { code: u16, is_final: bool },
+    Stored(Job),
+}
+
+impl Enum for State {
+    ghost each = { each_variant
+        (payload_and ⟦<() as Shaped>⟧.data
+        (payload_and ⟦<u32 as Shaped>⟧.data
+        (payload_and ⟦<(u16, bool) as Shaped>⟧.data (last_payload ⟦<Job as Shaped>⟧.data)))) refl
+        (λ at. elim [
+          | State.Waiting ↦ at 0 tt
+          | State.Running a ↦ at 1 a
+          | State.Failed a b ↦ at 2
+              (a, b)
+          | State.Stored a ↦ at 3 a
+        ]) (
+          (λ p. (State.Waiting, refl)),
+          (
+            (λ p. (State.Running p, refl)),
+            ((λ p. (State.Failed p.0 p.1, refl)), λ p. (State.Stored p, refl)),
+          ),
+        )
+        (elim [
+          | State.Waiting ↦ refl
+          | State.Running a ↦ refl
+          | State.Failed a b ↦ refl
+          | State.Stored a ↦ refl
+        ]) };
+
+    fn variant(&self) -> u8 {
+        match self {
+            State::Waiting => 0,
+            State::Running(a) => told_as(1, &a),
+            State::Failed { code, is_final } => told_as(2, &(code, is_final)),
+            State::Stored(a) => told_as(3, &a),
+        }
+    }
+}
+
+impl Shaped for State {
+    ghost data = { enum_data ⟦<State as Enum>⟧.each };
+
+    fn told(&self) {
+        let _number = self.variant();
+    }
+}
+
+impl EnumOf<4> for State {
+    ghost counted = { (refl, refl) };
+
+    ghost lists_variants = { λ t d listed. listed };
+
+    ghost makes_variants = { λ d t made. made };
+}
+
+impl Variants4<At<0>, At<4>, (), u32, (u16, bool), Job> for State {
+    ghost values = { (
+      λ p. State.Waiting,
+      λ p. State.Running p,
+      λ p. State.Failed p.0 p.1,
+      λ p.
+          State.Stored p,
+    ) };
+
+    fn of_payload(payload: OneOf4<(), u32, (u16, bool), Job>) -> Self
+        ensures { result ≡ of_one_of_4 (λ p. State.Waiting) (λ p. State.Running p)
+            (λ p. State.Failed p.0 p.1) (λ p. State.Stored p) payload }
+    {
+        match payload {
+            OneOf4::First(()) => State::Waiting,
+            OneOf4::Second(a) => State::Running(a),
+            OneOf4::Third((code, is_final)) => State::Failed { code, is_final },
+            OneOf4::Fourth(a) => State::Stored(a),
+        }
+    }
+
+    ghost are = { (
+      is_variant refl (λ p. refl) (λ p old new h. h) (λ p old h. h) (λ p old new h. h),
+      is_variant refl (λ p. refl) (λ p old new h. h) (λ p old h. h) (λ p old new h. h),
+      is_variant
+          refl (λ p. refl) (λ p old new h. h) (λ p old h. h) (λ p old new h. h),
+      is_variant refl
+          (λ p. refl) (λ p old new h. h) (λ p old h. h) (λ p old new h. h),
+      refl,
+    ) };
+}
+
+type Columns = EncodersOf4<At<0>, (), u32, (u16, bool), Job>;
+
+impl WritesVariants<At<0>, At<4>, Columns> for State {
+    fn write(&self, to: &mut Columns) -> Result<(), Error> {
+        match self {
+            State::Waiting => to.encode_first(self, &&()),
+            State::Running(a) => to.encode_second(self, &a),
+            State::Failed { code, is_final } => to.encode_third::<_, _, _, _, _, (&u16, &bool)>(
+                self,
+                &(code, is_final),
+            ),
+            State::Stored(a) => to.encode_fourth(self, &a),
+        }
+    }
+
+    ghost are_columns = { λ c. (refl, refl) };
+}
+
+type Decoders<'a> = DecodersOf4<'a, At<0>, (), u32, (u16, bool), Job>;
+
+/// The columns of the payloads of `State`.
+#[derive(Drop)]
+pub struct StateColumns {
+    all: Columns,
+}
+
+impl VariantColumns for StateColumns {
+    ghost columns = { columns_in (λ c. c.all) ⟦<Columns as VariantColumns>⟧.columns };
+
+    fn new(alloc: Global) -> Self {
+        StateColumns {
+            all: VariantColumns::new(alloc),
+        }
+    }
+
+    fn collect_all(&mut self, out: &mut Vec<u8>) -> Result<(), Error> {
+        self.all.collect_all(out)
+    }
+
+    fn clear_all(&mut self) {
+        self.all.clear_all();
+    }
+}
+
+impl WritesVariants<At<0>, At<4>, StateColumns> for State {
+    fn write(&self, to: &mut StateColumns) -> Result<(), Error> {
+        WritesVariants::<At<0>, At<4>, Columns>::write(self, &mut to.all)
+    }
+
+    ghost are_columns = { λ c. (refl, refl) };
+}
+
+/// The payloads that values of `State` are made of.
+#[derive(Drop)]
+pub struct StatePayloads<'a> {
+    all: Decoders<'a>,
+}
+
+impl<'a> VariantPayloads<'a, At<0>, At<4>, State> for StatePayloads<'a> {
+    ghost held = { payloads_in (λ d. d.all)
+        ⟦<Decoders<'a> as VariantPayloads<'a, At<0>, At<4>, State>>⟧.held };
+
+    fn new(alloc: Global) -> Self {
+        StatePayloads {
+            all: VariantPayloads::<At<0>, At<4>, State>::new(alloc),
+        }
+    }
+
+    fn read_at(
+        &mut self,
+        number: usize,
+        input: &mut &'a [u8],
+        k: usize,
+        strict: bool,
+        free: &mut u128,
+    ) -> Result<bool, Error> {
+        VariantPayloads::<At<0>, At<4>, State>::read_at(
+            &mut self.all,
+            number,
+            input,
+            k,
+            strict,
+            free,
+        )
+    }
+
+    fn decode_at(&mut self, number: usize) -> Result<State, Error> {
+        VariantPayloads::<At<0>, At<4>, State>::decode_at(&mut self.all, number)
+    }
+
+    fn sized(&self) {}
+}
+
+impl HasEncoder for State {
+    type Encoder = EnumEncoder<4, StateColumns>;
+}
+
+impl<'a> HasDecoder<'a> for State {
+    type Decoder = EnumDecoder<'a, 4, State, StatePayloads<'a>>;
+}
+
+impl DecodeOwned for State {}
+
+impl Earlier<2> for State {
+    ghost use Rattle.bitcode_changed_types.specs.declared.state.State.{State};
+    ghost use Rattle.bitcode_changed_types.specs.declared.state_of2.StateOf2.{StateOf2};
+
+    type Before = StateOf2;
+
+    ghost is_upgrade = { elim [
+      | StateOf2.Waiting ↦ λ t. (t ≡ State.Waiting)
+      | StateOf2.Running a ↦ λ t.
+          (t ≡ State.Running a)
+      | StateOf2.Failed a ↦ λ t. (new1 : _)
+          × ((new1 ≡ true) × (t ≡ State.Failed a new1))
+    ] };
+
+    fn upgrade(_alloc: Global, before: StateOf2) -> Result<Self, Error> {
+        match before {
+            StateOf2::Waiting => Ok(State::Waiting),
+            StateOf2::Running(a) => Ok(State::Running(a)),
+            StateOf2::Failed { code: a } => Ok(State::Failed {
+                code: a,
+                is_final: true,
+            }),
+        }
+    }
+}
+
+/// Opens version 2 of `State`.
+pub struct StateVersion2 {}
+
+impl<'a> ReadsVersions<'a, State> for StateVersion2 {
+    type Inside = ();
+
+    ghost includes = { ⟦<Version<2> as ReadsVersions<'a, State>>⟧.includes };
+
+    ghost opens = { ⟦<Version<2> as ReadsVersions<'a, State>>⟧.opens };
+
+    ghost refuses = { ⟦<Version<2> as ReadsVersions<'a, State>>⟧.refuses };
+
+    fn includes(version: u16) -> bool {
+        version == 2
+    }
+
+    fn open_earlier(
+        alloc: Global,
+        expected: &Expected,
+        bytes: &'a [u8],
+    ) -> Result<State, OpenError> {
+        open_version::<Version<2>, State>(alloc, expected, bytes)
+    }
+}
+
+impl Earlier<1> for State {
+    ghost use Rattle.bitcode_changed_types.specs.declared.state.State.{State};
+    ghost use Rattle.bitcode_changed_types.specs.declared.state_of1.StateOf1.{StateOf1};
+
+    type Before = StateOf1;
+
+    ghost is_upgrade = { elim [
+      | StateOf1.Waiting ↦ λ t. (t ≡ State.Waiting)
+      | StateOf1.Running a ↦ λ t.
+          (t ≡ State.Running a)
+    ] };
+
+    fn upgrade(_alloc: Global, before: StateOf1) -> Result<Self, Error> {
+        match before {
+            StateOf1::Waiting => Ok(State::Waiting),
+            StateOf1::Running(a) => Ok(State::Running(a)),
+        }
+    }
+}
+
+/// Opens version 1 of `State`.
+pub struct StateVersion1 {}
+
+impl<'a> ReadsVersions<'a, State> for StateVersion1 {
+    type Inside = ();
+
+    ghost includes = { ⟦<Version<1> as ReadsVersions<'a, State>>⟧.includes };
+
+    ghost opens = { ⟦<Version<1> as ReadsVersions<'a, State>>⟧.opens };
+
+    ghost refuses = { ⟦<Version<1> as ReadsVersions<'a, State>>⟧.refuses };
+
+    fn includes(version: u16) -> bool {
+        version == 1
+    }
+
+    fn open_earlier(
+        alloc: Global,
+        expected: &Expected,
+        bytes: &'a [u8],
+    ) -> Result<State, OpenError> {
+        open_version::<Version<1>, State>(alloc, expected, bytes)
+    }
+}
+
+impl Versioned for State {
+    type Versions = (StateVersion2, StateVersion1);
+
+    type Numbers = (Version<2>, Version<1>);
+}

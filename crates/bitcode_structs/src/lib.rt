@@ -1,0 +1,4 @@
+//! The decoder of structs with private fields.
+#![tactic(auto)]
+
+pub mod decoded;
