@@ -1,13 +1,13 @@
-"""Coders of a struct's own, which forward to those of its fields: a type that holds the struct then names one encoder and
-one decoder for it, and not those of all that is inside. The toolchain has a limit for these."""
+"""Coders of a struct's own, which forward to those of its fields: a type that holds the struct then names one encoder
+and one decoder for it, and not those of all that is inside. The toolchain has a limit for these."""
 
 from string import Template
 
 from declarations import fields_of
 from known_types import of_text, types_in
 
-# A struct whose fields name no more types than these has no coders of its own, since that costs less to prove: one that no
-# other type of the file holds, and one that another type holds.
+# A struct whose fields name no more types than these has no coders of its own, since that costs less to prove: one that
+# no other type of the file holds, and one that another type holds.
 MOST_OPEN, MOST_HELD = 12, 3
 # How many types the encoders of these types name.
 WEIGHTS = {"Duration": 4, "IpAddr": 5, "Range": 3, "RangeInclusive": 3, "SocketAddr": 12, "SocketAddrV4": 4, "SocketAddrV6": 6}
@@ -135,7 +135,7 @@ def weight(type, own):
 
 
 def is_closed(item, own):
-    """Whether the struct, or the enum of one variant, has coders of its own: if its fields name many types, or such a struct."""
+    """Whether the item has coders of its own: if its fields name many types, or such a struct."""
     if item.types or item.consts:
         return False
     types, is_held = [field.type for field in fields_of(item)], item.name in own and own[item.name].is_held

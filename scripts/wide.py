@@ -9,8 +9,8 @@ from closed import NEEDED, decoder_text
 from structs import BODY, DATA, HEAD, OWNED, alike, arguments, bounds, closed_head, closed_parts, declaration, decoder_of_parts
 from structs import fields_text, halved, initialized, is_generic, paired, parameter, paths, places, quoted
 
-# A struct has no more fields than these, and they name no more types: of more the borrow checker covers no encoder.
-MOST_WIDE, MOST_ENCODED = 48, 100
+# A struct has no more fields than these, which name no more types: of more the borrow checker covers no encoder.
+MOST_WIDE = MOST_ENCODED = 48
 # A part has no more fields than these: they have one tuple.
 MOST_IN_PART = 8
 
