@@ -135,7 +135,9 @@ def with_room(text, item, names, others):
             return line
         if line.startswith("use "):
             return re.sub(rf"\b({'|'.join(others)})(?=[,;}}])", lambda found: f"{found[1]} as {others[found[1]]}", line)
-        return pattern.sub(lambda found: others[found[1]], line)
+        # the name of an associated type stays
+        head = re.match(r" +type \w+ =|", line)[0]
+        return head + pattern.sub(lambda found: others[found[1]], line[len(head):])
 
     text = "\n".join(map(of_line, text.replace(whole, "\0").split("\n")))
     return text.replace("\0", whole).replace(MARK, "")
