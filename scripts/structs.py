@@ -240,7 +240,7 @@ def inside(item, own, types):
     if closed.is_closed(item, own):
         return f"{item.name}Inside" + arguments(item)
     if is_generic(item):
-        has_closed = any(own[found.name].is_closed for field in fields_of(item) for found in closed.own_types_in(field.type, own))
+        has_closed = any(own[found.name].is_closed for found in closed.own_types_of(item, own))
         return closed.inside(item, own, *types) if has_closed else halved(types) if types else "()"
     return f"<{item.name}{arguments(item)} as HasDecoder<{item.lifetime or chr(39) + 'static'}>>::Decoder"
 
@@ -255,7 +255,7 @@ def fields_text(item, own, lent, law, ghost_use="", nested=paired):
     row = {"nested": nested(types), "numbers": nested(numbers)} if types else {"nested": "()", "numbers": "()"}
     life, has_encoder = arguments(item), bounds(item, "HasEncoder")
     if closed.is_closed(item, own):
-        encoder = closed.encoder_text(item, types, nested, name, life, bounds(item, "Shaped"))
+        encoder = closed.encoder_text(item, own, nested, name, life, bounds(item, "Shaped"))
     else:
         encoder = Template(OPEN_ENCODER).substitute(has_encoder=has_encoder, name=name, life=life)
     return "".join(texts) + Template(IN_FIELDS).substitute(row, head=bounds(item, ""), life=life, encoded=bounds(item, "Encode"), name=name, inside=inside(item, own, types), alike="λ t. " + (law if len(types) < 2 else law[1:-1])) + encoder
@@ -287,7 +287,9 @@ def closed_head(item, own):
     """What the contracts of coders of the item's own are stated in."""
     if not closed.is_closed(item, own):
         return "", set()
-    operators = "ghost use Rattle.std.specs.Prelude.{◌&&◌};\n" if len(fields_of(item)) > 1 else ""
+    words = ["◌&&◌"] if len(fields_of(item)) > 1 else []
+    words += [] if all(closed.is_quoted(field.type, own) for field in fields_of(item)) else ["false"]
+    operators = f"ghost use Rattle.std.specs.Prelude.{{{', '.join(words)}}};\n" if words else ""
     return operators, {"Part", "reserve_as"}
 
 

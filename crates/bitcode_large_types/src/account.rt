@@ -331,7 +331,7 @@ type Parts<'a> = (AccountPart0<'a>, (AccountPart1, AccountPart2));
 pub type AccountInside<'a> = (
     (Parts<'a>, Fields0<'a>, Fields1, Fields2),
     <Home as HasDecoder<'a>>::Decoder,
-    <Trophy as HasDecoder<'a>>::Decoder,
+    crate::trophy::TrophyInside,
 );
 
 impl<'a> Shaped for Account<'a> {
