@@ -6,8 +6,9 @@ from declarations import fields_of, word_of
 from tokens import Refused
 
 # A type of one's own: where it is imported from, its declaration if that is in the file, how many types its decoder names, one
-# where it is imported, what it is as a key (keys.py), and what it derives, as far as that is known.
-Own = namedtuple("Own", "path item types key derives", defaults=(frozenset(), None))
+# where it is imported, what it is as a key (keys.py), what it derives, as far as that is known, and whether it has coders of its own
+# (closed.py).
+Own = namedtuple("Own", "path item types key derives is_closed", defaults=(frozenset(), None, False))
 # A type that the library writes and reads: where it is imported from, how many types and how many numbers it takes, and whether it
 # can be a set's element or a map's key ("parts": if what it holds can).
 Known = namedtuple("Known", "path types numbers key")

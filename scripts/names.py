@@ -2,6 +2,7 @@
 
 import re
 
+from closed import is_closed
 from declarations import KEYWORDS, Struct, fields_of, with_fields
 from known_types import MOST_FIELDS, TYPES, names_in
 from paths import path_of
@@ -16,6 +17,8 @@ TAKEN = {name: f"`{name}` is the name of `{path_of(name)}`, {OF_THE_FILES}" for 
 TAKEN |= {name: f"`{name}` is a name of std's prelude, {OF_THE_FILES}" for name in "Self Some None Ok Err".split()}
 # Modules that the crate has already, or that would hide a crate that the files name.
 MODULES = set("alloc arrayvec bitcode core lib main std uuid".split())
+# What the file of a struct with coders of its own declares.
+CODERS = {"Encoder": "its encoder", "Decoder": "its decoder", "Inside": "the types inside it"}
 # What ends the names of the user's types while a file is written that uses one of them for something else.
 MARK = "ˣ"
 
@@ -76,6 +79,8 @@ def refuse_parts(items, own, told):
         if isinstance(item, Struct):
             parts = parts_of(item) if len(item.fields) > MOST_FIELDS else ()
             used = [(part.name, "a part of its fields") for part in parts]
+            used += [(part.name + "Decoder", "the decoder of a part of its fields") for part in parts]
+            used += [(item.name + end, what) for end, what in CODERS.items()] if is_closed(item, own) else []
         else:
             used = [(item.name + "Columns", "its columns"), (item.name + "Payloads", "its payloads")]
         for name, what in used:
@@ -130,7 +135,9 @@ def with_room(text, item, names, others):
             return line
         if line.startswith("use "):
             return re.sub(rf"\b({'|'.join(others)})(?=[,;}}])", lambda found: f"{found[1]} as {others[found[1]]}", line)
-        return pattern.sub(lambda found: others[found[1]], line)
+        # the name of an associated type stays
+        head = re.match(r" +type \w+ =|", line)[0]
+        return head + pattern.sub(lambda found: others[found[1]], line[len(head):])
 
     text = "\n".join(map(of_line, text.replace(whole, "\0").split("\n")))
     return text.replace("\0", whole).replace(MARK, "")

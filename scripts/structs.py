@@ -3,6 +3,7 @@
 import re
 from string import Template
 
+import closed
 from declarations import fields_of
 from tokens import Refused
 from known_types import MOST_LEFT, MOST_TYPES, Checker, of_text, types_in
@@ -25,7 +26,7 @@ QUOTED = set("data record deriving module package open abbrev axiom unfold unfol
 NOT_DERIVED = {"Encode", "Decode", "Serialize", "Deserialize", "Drop"}
 
 HEAD = """//! $about
-$by_hand
+$operators$by_hand
 $uses
 """
 BODY = """$declaration
@@ -71,7 +72,8 @@ impl$encoded InFields<Fields$life> for $name {
     ghost same_listings = { $alike };
 }
 
-impl$has_encoder HasEncoder for $name {
+"""
+OPEN_ENCODER = """impl$has_encoder HasEncoder for $name {
     type Encoder = StructEncoder<Fields$life>;
 }
 
@@ -233,10 +235,13 @@ def in_a_head(item, types, prefix, first=0):
     return [names.get(type, type) for type in types], aliases
 
 
-def inside(item, types):
+def inside(item, own, types):
     """A type that names those of all fields and of all that is inside them: the toolchain states no impl without it."""
+    if closed.is_closed(item, own):
+        return f"{item.name}Inside" + arguments(item)
     if is_generic(item):
-        return halved(types) if types else "()"
+        has_closed = any(own[found.name].is_closed for found in closed.own_types_of(item, own))
+        return closed.inside(item, own, *types) if has_closed else halved(types) if types else "()"
     return f"<{item.name}{arguments(item)} as HasDecoder<{item.lifetime or chr(39) + 'static'}>>::Decoder"
 
 
@@ -248,7 +253,12 @@ def fields_text(item, own, lent, law, ghost_use="", nested=paired):
         texts.append(Template(FIELD).substitute(parameters=bounds(item, "Shaped"), number=number, type=type, name=name, ghost_use=ghost_use, ghost_field=ghost_field, lent=body))
     numbers = [f"Nth<{number}>" for number in range(len(types))]
     row = {"nested": nested(types), "numbers": nested(numbers)} if types else {"nested": "()", "numbers": "()"}
-    return "".join(texts) + Template(IN_FIELDS).substitute(row, head=bounds(item, ""), life=arguments(item), encoded=bounds(item, "Encode"), has_encoder=bounds(item, "HasEncoder"), name=name, inside=inside(item, types), alike="λ t. " + (law if len(types) < 2 else law[1:-1]))
+    life, has_encoder = arguments(item), bounds(item, "HasEncoder")
+    if closed.is_closed(item, own):
+        encoder = closed.encoder_text(item, own, nested, name, life, bounds(item, "Shaped"))
+    else:
+        encoder = Template(OPEN_ENCODER).substitute(has_encoder=has_encoder, name=name, life=life)
+    return "".join(texts) + Template(IN_FIELDS).substitute(row, head=bounds(item, ""), life=life, encoded=bounds(item, "Encode"), name=name, inside=inside(item, own, types), alike="λ t. " + (law if len(types) < 2 else law[1:-1])) + encoder
 
 
 def types_left(item, own):
@@ -265,6 +275,22 @@ def types_left(item, own):
             apart.append(text)
             left -= saved[text]
     return left, apart
+
+
+def closed_parts(item, own, name, input, parts, decoder):
+    """What names the types of all that is inside, the item's own decoder, and its type."""
+    text = f"/// Names the types of all that is inside `{item.name}`.\npub type {item.name}Inside{arguments(item)} = {closed.inside(item, own, parts)};\n\n"
+    return text, closed.decoder_text(item.name, name, input, decoder), f"{item.name}Decoder<{input}>"
+
+
+def closed_head(item, own):
+    """What the contracts of coders of the item's own are stated in."""
+    if not closed.is_closed(item, own):
+        return "", set()
+    words = ["◌&&◌"] if len(fields_of(item)) > 1 else []
+    words += [] if all(closed.is_quoted(field.type, own) for field in fields_of(item)) else ["false"]
+    operators = f"ghost use Rattle.std.specs.Prelude.{{{', '.join(words)}}};\n" if words else ""
+    return operators, {"Part", "reserve_as"}
 
 
 def decoders(types, apart, input):
@@ -309,13 +335,22 @@ def tuple_text(item, imports, own, lent, **row):
     is_long = len(row["pattern"]) + len(parts) > MOST_IN_LINE
     type_of_decoder, apart = decoder(item, own, input, alias if is_long else parts)
     used |= {"ConvertFromDecoder", "TupleDecoder"} if apart else {"DecoderOfFields"}
-    imports = {*imports, "std::alloc::Global", *({"bitcode::coder::{ColumnFree, Decoder, HoldsData, View}"} if apart else ())}
-    by_hand = ["data_as", "field_alike", *(["pair_alike"] if len(fields) > 1 else []), "refl"]
+    is_closed = closed.is_closed(item, own)
+    coders = {closed.NEEDED} if is_closed else {"bitcode::coder::{ColumnFree, Decoder, HoldsData, View}"} if apart else ()
+    imports = {*imports, "std::alloc::Global", *coders}
+    by_hand = [*(["SurelyOverflows"] if is_closed else []), "data_as", "field_alike", *(["pair_alike"] if len(fields) > 1 else []), "refl"]
+    operators, more = closed_head(item, own)
+    used |= more
+    named = ""
+    if is_closed:
+        named, text, type_of_decoder = closed_parts(item, own, name, input, alias if is_long else parts, type_of_decoder)
+        apart += text
     lines = [f"use bitcode::{{{', '.join(sorted(used))}}};", *(f"use {path};" for path in sorted(imports))]
     row |= {
         "decoder": type_of_decoder,
         "apart": apart,
-        "alias": f"type Parts{bounds(item, '')} = {parts};\n\n" if is_long else "",
+        "operators": operators,
+        "alias": (f"type Parts{bounds(item, '')} = {parts};\n\n" if is_long else "") + named,
         "uses": "\n".join(sorted(lines)) + "\n",
         "name": name,
         "parts": alias if is_long else parts,

@@ -3,10 +3,11 @@
 from string import Template
 
 from declarations import fields_of
-from known_types import MOST_LEFT, MOST_TYPES, Checker, names_in, of_text, types_in
+from known_types import Checker, names_in, of_text, types_in
 from tokens import Refused
-from structs import APART, BODY, DATA, HEAD, OWNED, alike, arguments, bounds, declaration, decoder, decoder_of_parts
-from structs import fields_text, halved, initialized, is_generic, paired, parameter, paths, places, quoted, types_left
+from closed import NEEDED, decoder_text
+from structs import BODY, DATA, HEAD, OWNED, alike, arguments, bounds, closed_head, closed_parts, declaration, decoder_of_parts
+from structs import fields_text, halved, initialized, is_generic, paired, parameter, paths, places, quoted
 
 # A struct has no more fields than these, which name no more types: of more the borrow checker covers no encoder.
 MOST_WIDE = MOST_ENCODED = 48
@@ -35,43 +36,30 @@ def record_of(fields, place):
     return "; ".join(f"{quoted(field.name)} = {place}.{field.name}" for field in fields)
 
 
-def types_named(parts, own, is_apart):
-    """How many types the decoder of the parts names, where those that may be have a decoder struct of their own."""
-    return sum(1 if is_apart else types_left(part, own)[0] for part in parts)
-
-
 def types_encoded(type, own):
-    """How many types the type's encoder names: a struct of one's own names those of its fields."""
-    item = own[type.name].item if type.kind == "path" and type.name in own else None
+    """How many types the type's encoder names: a struct of one's own without coders of its own names those of its fields."""
+    item = own[type.name].item if type.kind == "path" and type.name in own and not own[type.name].is_closed else None
     if not item:
         return types_in(type, own)
     return sum(types_encoded(field.type, own) for field in fields_of(item)) + sum(types_encoded(part, own) for part in type.parts if part.kind != "lifetime") or 1
 
 
-def types_of_wide(struct, own):
-    """How many types the decoder of the struct names."""
-    parts = parts_of(struct)
-    return types_named(parts, own, types_named(parts, own, False) > MOST_LEFT)
-
-
-def part_text(part, struct, number, own, is_apart):
-    """What is written of a part."""
+def part_text(part, number, own):
+    """What is written of a part, which has a decoder of its own."""
     input, name = part.lifetime or "'a", part.name + arguments(part)
     fields, types = part.fields, [of_text(field.type) for field in part.fields]
     alias = f"Fields{number}" + arguments(part)
     inner, apart = decoder_of_parts(part, own, input, alias)
-    type_of_decoder = decoder(part, own, input, alias)[0]
-    if is_apart:
-        apart += Template(APART).substitute(simple=struct.name, apart=f"{struct.name}Decoder{number}", input=input, inner=inner, type=alias)
-        type_of_decoder = f"ConvertFromDecoder<{alias}, {struct.name}Decoder{number}<{input}>>"
+    of_fields = f"ConvertFromDecoder<{alias}, {inner}>" if apart else f"DecoderOfFields<{input}, {alias}>"
+    apart += decoder_text(part.name, name, input, of_fields, f"Data{number}")
     made = "; ".join(f"{quoted(field.name)} = {place}" for field, place in zip(fields, places(len(fields))))
     data = Template(DATA).substitute(ghost_parts=f"λ t. {halved([f't.{field.name}' for field in fields])}", ghost_made=f"record {{ {made} }}", one_to_one="λ t. refl", parts=alias)
     return Template(BODY).substitute(
         declaration=declaration(part), alias=f"type {alias} = {halved(types)};\n\n", shaped=bounds(part, "Shaped"), name=name, ghost_use="", parts=alias, data=data,
         told="".join(f"\n        self.{field.name}.told();" for field in fields) + "\n    ",
         taken=halved([parameter(field.name) for field in fields]), moved="", built=f"{part.name} {{ {', '.join(map(initialized, fields))} }}", encoded="", apart=apart, has_decoder=bounds(part, f"HasDecoder<{input}>", input), input=input,
-        decoder=type_of_decoder, owned="\n",
-    ), bool(apart)
+        decoder=f"{part.name}Decoder<{input}>", owned="\n",
+    )
 
 
 def alike_parts(sizes):
@@ -93,16 +81,9 @@ def wide_text(struct, own, told):
     checker = Checker(struct, own, told)
     checker.check_all()
     parts, input, name = parts_of(struct), struct.lifetime or "'a", struct.name + arguments(struct)
-    is_apart = types_named(parts, own, False) > MOST_LEFT
-    if types_of_wide(struct, own) > MOST_TYPES:
-        raise Refused(struct.line, f"the fields name more than {MOST_TYPES} types, the borrow checker's limit for a decoder: move those of your own types that allocate to another struct")
     if sum(types_encoded(field.type, own) for field in struct.fields) > MOST_ENCODED:
         raise Refused(struct.line, f"the fields name more than {MOST_ENCODED} types, the borrow checker's limit for an encoder: group consecutive fields in structs, until it has 16 fields or fewer")
-    texts, uses_apart = [], False
-    for number, part in enumerate(parts):
-        text, has_apart = part_text(part, struct, number, own, is_apart)
-        texts.append(text)
-        uses_apart |= has_apart
+    texts = [part_text(part, number, own) for number, part in enumerate(parts)]
     alias = "Parts" + arguments(struct)
     whole = [part.name + arguments(part) for part in parts]
     found = [(field, f"{place}.{field.name}") for part, place in zip(parts, paths(len(parts))) for field in part.fields]
@@ -111,9 +92,10 @@ def wide_text(struct, own, told):
     moved = "".join(f"let {part.name} {{ {', '.join(map(initialized, part.fields))} }} = {own_name};" for part, own_name in zip(parts, held))
     used = {"ConvertFrom", "DecoderOfFields", "Error", "HasDecoder", "HasEncoder", "HasField", "InFields", "Nth", "Shaped", "StructEncoder"}
     used |= set() if struct.lifetime else {"DecodeOwned"}
-    used |= {"ConvertFromDecoder"} if uses_apart else set()
+    used |= {"ConvertFromDecoder"} if any("ConvertFromDecoder<" in text for text in texts) else set()
+    used |= {"Part", "reserve_as"}
     used |= {"TupleDecoder"} if any("TupleDecoder<" in text for text in texts) else set()
-    imports = {*checker.imports, "std::alloc::Global", *({"bitcode::coder::{ColumnFree, Decoder, HoldsData, View}"} if uses_apart else ())}
+    imports = {*checker.imports, "std::alloc::Global", NEEDED}
     uses = sorted([f"use bitcode::{{{', '.join(sorted(used))}}};", *(f"use {path};" for path in imports)])
     sizes = [len(part.fields) for part in parts]
 
@@ -126,16 +108,19 @@ def wide_text(struct, own, told):
         ghost_parts=f"λ t. {paired([f'record {{ {record_of(part.fields, chr(116))} }}' for part in parts])}",
         ghost_made="record { " + "; ".join(f"{quoted(field.name)} = {place}" for field, place in found) + " }", one_to_one="λ t. refl", parts=alias,
     )
+    each_part = ", ".join([f"Fields{number}" + arguments(part) for number, part in enumerate(parts)])
+    named, apart, type_of_decoder = closed_parts(struct, own, name, input, f"({alias}, {each_part})", f"DecoderOfFields<{input}, {alias}>")
     body = Template(BODY).substitute(
-        declaration="", alias=f"type {alias} = {paired(whole)};\n\n", shaped=bounds(struct, "Shaped"), name=name, ghost_use="", parts=alias, data=data,
+        declaration="", alias=f"type {alias} = {paired(whole)};\n\n{named}", shaped=bounds(struct, "Shaped"), name=name, ghost_use="", parts=alias, data=data,
         told="".join(f"\n        self.{field.name}.told();" for field in struct.fields) + "\n    ",
         taken=paired(held), moved=moved + " ", built=f"{struct.name} {{ {', '.join(map(initialized, struct.fields))} }}",
-        encoded=fields_text(struct, own, [(f"λ t. t.{field.name}", f"&self.{field.name}") for field in struct.fields], alike_parts(sizes), nested=nested), apart="", has_decoder=bounds(struct, f"HasDecoder<{input}>", input), input=input,
-        decoder=f"DecoderOfFields<{input}, {alias}>",
+        encoded=fields_text(struct, own, [(f"λ t. t.{field.name}", f"&self.{field.name}") for field in struct.fields], alike_parts(sizes), nested=nested), apart=apart, has_decoder=bounds(struct, f"HasDecoder<{input}>", input), input=input,
+        decoder=type_of_decoder,
         owned="" if struct.lifetime else Template(OWNED).substitute(parameters=bounds(struct, "DecodeOwned"), name=name),
     )
     head = Template(HEAD).substitute(
         about=f"`{struct.name}` corresponds to pairs of parts of its fields. What is below its declaration was written by `scripts/new_type`.",
-        by_hand=f"ghost use Rattle.bitcode.specs.ByHand.{{{', '.join(['data_as', 'field_alike', 'pair_alike', 'refl'])}}};\n", uses="\n".join(uses) + "\n",
+        operators=closed_head(struct, own)[0],
+        by_hand=f"ghost use Rattle.bitcode.specs.ByHand.{{{', '.join(['SurelyOverflows', 'data_as', 'field_alike', 'pair_alike', 'refl'])}}};\n", uses="\n".join(uses) + "\n",
     )
     return head + declaration(struct) + "\n" + "\n".join(texts) + body, checker.crates

@@ -32,7 +32,7 @@ pub use Rattle.bitcode_parts.specs.Elements.{MakesOfElements}
 -- What a struct with private fields is made from; what is written and read of bytes, the values that are surely read back, and that a reason not other than want of memory is
 -- want of memory:
 pub use Rattle.bitcode_shapes.specs.Datum.{Datum, natural_in}
-pub use Rattle.bitcode_coder.specs.Coder.{IsWritingRefusal, MakesToo}
+pub use Rattle.bitcode_coder.specs.Coder.{IsWritingRefusal, MakesToo, SurelyOverflows}
 pub use Rattle.bitcode_derive.specs.ShortLengths.{elements_have_entries, has_no_lengths}
 pub use Rattle.bitcode_derive.specs.Within.{IsDecodingWithin, IsRefusalWithin}
 pub use Rattle.bitcode_derive.specs.Whole.{IsEncodingOf, HasLongListing, HasShortLengths, IsDecodingOf, SpellsDatum, want_of_memory}

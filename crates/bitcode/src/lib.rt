@@ -88,6 +88,7 @@ pub use bitcode_untyped::value::Value;
 /// The building blocks of coders for your own types. `scripts/new_type` uses them, and few programs need them directly.
 pub mod own {
     pub use bitcode_coder::part::Part;
+    pub use bitcode_derive::closed::reserve_as;
     use bitcode_derive::derive::HasDecoder;
     pub use bitcode_enums::columns::VariantColumns;
     pub use bitcode_enums::decoder::EnumDecoder;

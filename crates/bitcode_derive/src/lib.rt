@@ -3,6 +3,7 @@
 
 pub mod absent;
 pub mod buffer;
+pub mod closed;
 pub mod derive;
 mod impls;
 pub mod laws;

@@ -10,3 +10,4 @@ pub mod HeldColumns
 pub mod EachVariant
 pub mod EnumData
 pub mod ByNumberRows
+pub mod Told

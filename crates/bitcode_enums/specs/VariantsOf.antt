@@ -14,6 +14,7 @@ use Rattle.bitcode_shapes.specs.SameIsOne.{AreExact, images_exact, variants_exac
 use Rattle.bitcode_shapes.specs.LawfulChoices.{LawfulVariants, MakeableVariants, first_lawful, first_makeable, last_lawful, last_makeable}
 use Rattle.bitcode_coder.specs.Columns.{Columns}
 use Rattle.bitcode_coder.specs.Coder.{JoinsListing, OverflowsWithListing, TakesDatum}
+use Rattle.bitcode_enums.specs.Told.{IsTold, told_exact, told_lawful, told_makeable, told_same_arrays, told_same_data}
 use Rattle.bitcode_enums.specs.LawfulVariants.{below_last, below_either, variants_image_lawful, variants_image_makeable, variants_image_same_arrays, variants_image_same_data}
 use Rattle.bitcode_enums.specs.ByNumber.{shape_at, index_either, joins_either, overflows_either, takes_either}
 use Rattle.bitcode_enums.specs.ByNumberLaws.{last_joined, last_overflowed, last_taken, either_joined, either_overflowed, either_taken, image_joined, image_overflowed, image_taken}
@@ -54,7 +55,7 @@ pub record VariantLaws {T : Type 0} (vs : VariantsOf T) : Type 0 where
 abbrev pub last_variant : {A : Type 0} → DataOf A → VariantsOf A
 last_variant a = record {
   shapes = shape_and a.shape no_shapes;
-  is_value = a.is_value;
+  is_value = IsTold a.is_value;
   lists = ListsLast a.lists;
   same = a.same;
   in_order = a.in_order;
@@ -70,11 +71,11 @@ last_variant a = record {
 pub last_variant_laws : {A : Type 0} (a : DataOf A) → VariantLaws (last_variant a)
 last_variant_laws a = record {
   below = λ v. below_last a.shape;
-  lawful = last_lawful a.lawful;
-  makeable = last_makeable a.makeable;
-  same_arrays = last_same_arrays a.same_arrays;
-  same_data = last_same_data a.same_data;
-  are_exact = a.are_exact;
+  lawful = last_lawful (told_lawful a);
+  makeable = last_makeable (told_makeable a);
+  same_arrays = last_same_arrays (told_same_arrays a);
+  same_data = last_same_data (told_same_data a);
+  are_exact = told_exact a;
   joined = last_joined;
   overflowed = last_overflowed;
   taken = last_taken a.makes;
@@ -85,7 +86,7 @@ last_variant_laws a = record {
 abbrev pub first_variant : {A R : Type 0} → DataOf A → VariantsOf R → VariantsOf (A ⊎ R)
 first_variant a r = record {
   shapes = shape_and a.shape r.shapes;
-  is_value = IsVariantValue a.is_value r.is_value;
+  is_value = IsVariantValue (IsTold a.is_value) r.is_value;
   lists = ListsVariant a.lists r.lists;
   same = SameVariant a.same r.same;
   in_order = a.in_order && r.in_order;
@@ -101,11 +102,11 @@ first_variant a r = record {
 pub first_variant_laws : {A R : Type 0} (a : DataOf A) (r : VariantsOf R) → VariantLaws r → VariantLaws (first_variant a r)
 first_variant_laws a r laws = record {
   below = below_either a.shape r.shapes r.index laws.below;
-  lawful = first_lawful a.lawful laws.lawful;
-  makeable = first_makeable a.makeable laws.makeable;
-  same_arrays = first_same_arrays a.same_arrays laws.same_arrays;
-  same_data = first_same_data a.same_data laws.same_data;
-  are_exact = variants_exact a.are_exact laws.are_exact;
+  lawful = first_lawful (told_lawful a) laws.lawful;
+  makeable = first_makeable (told_makeable a) laws.makeable;
+  same_arrays = first_same_arrays (told_same_arrays a) laws.same_arrays;
+  same_data = first_same_data (told_same_data a) laws.same_data;
+  are_exact = variants_exact (told_exact a) laws.are_exact;
   joined = either_joined a.shape r.shapes a.lists r.lists r.index r.joins laws.joined;
   overflowed = either_overflowed a.shape r.shapes a.lists r.lists r.index r.overflows laws.overflowed;
   taken = either_taken r.index a.makes r.makes r.takes laws.taken;

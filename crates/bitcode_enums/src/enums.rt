@@ -4,6 +4,7 @@ ghost use Rattle.bitcode_shapes.specs.Datum.{Datum};
 ghost use Rattle.bitcode_shapes.specs.Choices.{ListsChoice, MakesChoice};
 ghost use Rattle.bitcode_shapes.specs.Shape.{variant_count, choice_shape};
 ghost use Rattle.bitcode_enums.specs.EachVariant.{EachVariant};
+ghost use Rattle.bitcode_enums.specs.Told.{IsTold};
 
 use bitcode_shapes::shaped::Shaped;
 use bitcode_tuples::fields::Fields;
@@ -72,7 +73,7 @@ pub trait EnumOf<const N: usize>: Enum + Shaped {
 /// ```
 pub fn told_as<F: Fields>(number: u8, fields: &F) -> u8
     ensures number { result ≡ number }
-    ensures value { F.Whole.data.is_value (F.whole fields.now) }
+    ensures value { IsTold F.Whole.data.is_value (F.whole fields.now) }
 {
     fields.told();
     number

@@ -1,12 +1,13 @@
 //! `Account` corresponds to pairs of parts of its fields. What is below its declaration was written by
 //! `scripts/new_type`.
-ghost use Rattle.bitcode.specs.ByHand.{data_as, field_alike, pair_alike, refl};
+ghost use Rattle.std.specs.Prelude.{◌&&◌};
+ghost use Rattle.bitcode.specs.ByHand.{SurelyOverflows, data_as, field_alike, pair_alike, refl};
 
 use crate::home::Home;
 use crate::trophy::Trophy;
-use bitcode::coder::{ColumnFree, Decoder, HoldsData, View};
-use bitcode::own::{DecoderOfFields, HasField, InFields, Nth, StructEncoder};
-use bitcode::{ConvertFrom, ConvertFromDecoder, Error, HasDecoder, HasEncoder, Shaped};
+use bitcode::coder::{Buffer, ColumnFree, Decoder, Encoder, HoldsColumns, HoldsData, View};
+use bitcode::own::{DecoderOfFields, HasField, InFields, Nth, Part, StructEncoder, reserve_as};
+use bitcode::{ConvertFrom, Error, HasDecoder, HasEncoder, Shaped};
 use std::alloc::Global;
 
 /// A player's account, as a server sends it.
@@ -74,52 +75,52 @@ impl<'a> ConvertFrom<Fields0<'a>> for AccountPart0<'a> {
     ghost same_shape = { refl };
 }
 
-/// The decoder of each field of `Account` that is a `Fields0<'a>`: the borrow checker covers no decoder that names as
-/// many types as all fields do.
+type Data0<'a> = DecoderOfFields<'a, Fields0<'a>>;
+
+/// The data of `AccountPart0`.
 #[derive(Drop)]
-pub struct AccountDecoder0<'a> {
-    field: <Fields0<'a> as HasDecoder<'a>>::Decoder,
+pub struct AccountPart0Decoder<'a> {
+    fields: Data0<'a>,
 }
 
-impl<'a> HoldsData for AccountDecoder0<'a> {
-    ghost shape = { ⟦<<Fields0<'a> as HasDecoder<'a>>::Decoder as HoldsData>⟧.shape };
+impl<'a> HoldsData for AccountPart0Decoder<'a> {
+    ghost shape = { ⟦<Data0<'a> as HoldsData>⟧.shape };
 
-    ghost held = { λ d. ⟦<<Fields0<'a> as HasDecoder<'a>>::Decoder as HoldsData>⟧.held d.field };
+    ghost held = { λ d. ⟦<Data0<'a> as HoldsData>⟧.held d.fields };
 
-    ghost owned = { λ d. ⟦<<Fields0<'a> as HasDecoder<'a>>::Decoder as HoldsData>⟧.owned d.field };
+    ghost owned = { λ d. ⟦<Data0<'a> as HoldsData>⟧.owned d.fields };
 }
 
-impl<'a> View<'a> for AccountDecoder0<'a> {
-    ghost free_inside = { λ d. ⟦<<Fields0<'a> as HasDecoder<'a>>::Decoder as View<'a>>⟧.free_inside
-        d.field };
+impl<'a> View<'a> for AccountPart0Decoder<'a> {
+    ghost free_inside = { λ d. ⟦<Data0<'a> as View<'a>>⟧.free_inside d.fields };
 
     fn new(alloc: Global) -> Self {
-        AccountDecoder0 {
-            field: View::new(alloc),
+        AccountPart0Decoder {
+            fields: View::new(alloc),
         }
     }
 
     fn read(&mut self, input: &mut &'a [u8], k: usize, strict: bool) -> Result<bool, Error> {
-        self.field.read(input, k, strict)
+        self.fields.read(input, k, strict)
     }
 
     fn column_free(&self) -> ColumnFree {
-        self.field.column_free()
+        self.fields.column_free()
     }
 }
 
-impl<'a> Decoder<Fields0<'a>> for AccountDecoder0<'a> {
-    ghost makes_free = { ⟦<<Fields0<'a> as HasDecoder<'a>>::Decoder as Decoder<Fields0<'a>>>⟧.makes_free };
+impl<'a> Decoder<AccountPart0<'a>> for AccountPart0Decoder<'a> {
+    ghost makes_free = { ⟦<Data0<'a> as Decoder<AccountPart0<'a>>>⟧.makes_free };
 
-    fn decode(&mut self) -> Result<Fields0<'a>, Error> {
-        self.field.decode()
+    fn decode(&mut self) -> Result<AccountPart0<'a>, Error> {
+        self.fields.decode()
     }
 
     ghost same_shape = { refl };
 }
 
 impl<'a> HasDecoder<'a> for AccountPart0<'a> {
-    type Decoder = ConvertFromDecoder<Fields0<'a>, AccountDecoder0<'a>>;
+    type Decoder = AccountPart0Decoder<'a>;
 }
 
 /// Fields of `Account`, from `balance` to `home`.
@@ -172,52 +173,52 @@ impl ConvertFrom<Fields1> for AccountPart1 {
     ghost same_shape = { refl };
 }
 
-/// The decoder of each field of `Account` that is a `Fields1`: the borrow checker covers no decoder that names as many
-/// types as all fields do.
+type Data1<'a> = DecoderOfFields<'a, Fields1>;
+
+/// The data of `AccountPart1`.
 #[derive(Drop)]
-pub struct AccountDecoder1<'a> {
-    field: <Fields1 as HasDecoder<'a>>::Decoder,
+pub struct AccountPart1Decoder<'a> {
+    fields: Data1<'a>,
 }
 
-impl<'a> HoldsData for AccountDecoder1<'a> {
-    ghost shape = { ⟦<<Fields1 as HasDecoder<'a>>::Decoder as HoldsData>⟧.shape };
+impl<'a> HoldsData for AccountPart1Decoder<'a> {
+    ghost shape = { ⟦<Data1<'a> as HoldsData>⟧.shape };
 
-    ghost held = { λ d. ⟦<<Fields1 as HasDecoder<'a>>::Decoder as HoldsData>⟧.held d.field };
+    ghost held = { λ d. ⟦<Data1<'a> as HoldsData>⟧.held d.fields };
 
-    ghost owned = { λ d. ⟦<<Fields1 as HasDecoder<'a>>::Decoder as HoldsData>⟧.owned d.field };
+    ghost owned = { λ d. ⟦<Data1<'a> as HoldsData>⟧.owned d.fields };
 }
 
-impl<'a> View<'a> for AccountDecoder1<'a> {
-    ghost free_inside = { λ d. ⟦<<Fields1 as HasDecoder<'a>>::Decoder as View<'a>>⟧.free_inside
-        d.field };
+impl<'a> View<'a> for AccountPart1Decoder<'a> {
+    ghost free_inside = { λ d. ⟦<Data1<'a> as View<'a>>⟧.free_inside d.fields };
 
     fn new(alloc: Global) -> Self {
-        AccountDecoder1 {
-            field: View::new(alloc),
+        AccountPart1Decoder {
+            fields: View::new(alloc),
         }
     }
 
     fn read(&mut self, input: &mut &'a [u8], k: usize, strict: bool) -> Result<bool, Error> {
-        self.field.read(input, k, strict)
+        self.fields.read(input, k, strict)
     }
 
     fn column_free(&self) -> ColumnFree {
-        self.field.column_free()
+        self.fields.column_free()
     }
 }
 
-impl<'a> Decoder<Fields1> for AccountDecoder1<'a> {
-    ghost makes_free = { ⟦<<Fields1 as HasDecoder<'a>>::Decoder as Decoder<Fields1>>⟧.makes_free };
+impl<'a> Decoder<AccountPart1> for AccountPart1Decoder<'a> {
+    ghost makes_free = { ⟦<Data1<'a> as Decoder<AccountPart1>>⟧.makes_free };
 
-    fn decode(&mut self) -> Result<Fields1, Error> {
-        self.field.decode()
+    fn decode(&mut self) -> Result<AccountPart1, Error> {
+        self.fields.decode()
     }
 
     ghost same_shape = { refl };
 }
 
 impl<'a> HasDecoder<'a> for AccountPart1 {
-    type Decoder = ConvertFromDecoder<Fields1, AccountDecoder1<'a>>;
+    type Decoder = AccountPart1Decoder<'a>;
 }
 
 /// Fields of `Account`, from `position` to `rank`.
@@ -276,55 +277,62 @@ impl ConvertFrom<Fields2> for AccountPart2 {
     ghost same_shape = { refl };
 }
 
-/// The decoder of each field of `Account` that is a `Fields2`: the borrow checker covers no decoder that names as many
-/// types as all fields do.
+type Data2<'a> = DecoderOfFields<'a, Fields2>;
+
+/// The data of `AccountPart2`.
 #[derive(Drop)]
-pub struct AccountDecoder2<'a> {
-    field: <Fields2 as HasDecoder<'a>>::Decoder,
+pub struct AccountPart2Decoder<'a> {
+    fields: Data2<'a>,
 }
 
-impl<'a> HoldsData for AccountDecoder2<'a> {
-    ghost shape = { ⟦<<Fields2 as HasDecoder<'a>>::Decoder as HoldsData>⟧.shape };
+impl<'a> HoldsData for AccountPart2Decoder<'a> {
+    ghost shape = { ⟦<Data2<'a> as HoldsData>⟧.shape };
 
-    ghost held = { λ d. ⟦<<Fields2 as HasDecoder<'a>>::Decoder as HoldsData>⟧.held d.field };
+    ghost held = { λ d. ⟦<Data2<'a> as HoldsData>⟧.held d.fields };
 
-    ghost owned = { λ d. ⟦<<Fields2 as HasDecoder<'a>>::Decoder as HoldsData>⟧.owned d.field };
+    ghost owned = { λ d. ⟦<Data2<'a> as HoldsData>⟧.owned d.fields };
 }
 
-impl<'a> View<'a> for AccountDecoder2<'a> {
-    ghost free_inside = { λ d. ⟦<<Fields2 as HasDecoder<'a>>::Decoder as View<'a>>⟧.free_inside
-        d.field };
+impl<'a> View<'a> for AccountPart2Decoder<'a> {
+    ghost free_inside = { λ d. ⟦<Data2<'a> as View<'a>>⟧.free_inside d.fields };
 
     fn new(alloc: Global) -> Self {
-        AccountDecoder2 {
-            field: View::new(alloc),
+        AccountPart2Decoder {
+            fields: View::new(alloc),
         }
     }
 
     fn read(&mut self, input: &mut &'a [u8], k: usize, strict: bool) -> Result<bool, Error> {
-        self.field.read(input, k, strict)
+        self.fields.read(input, k, strict)
     }
 
     fn column_free(&self) -> ColumnFree {
-        self.field.column_free()
+        self.fields.column_free()
     }
 }
 
-impl<'a> Decoder<Fields2> for AccountDecoder2<'a> {
-    ghost makes_free = { ⟦<<Fields2 as HasDecoder<'a>>::Decoder as Decoder<Fields2>>⟧.makes_free };
+impl<'a> Decoder<AccountPart2> for AccountPart2Decoder<'a> {
+    ghost makes_free = { ⟦<Data2<'a> as Decoder<AccountPart2>>⟧.makes_free };
 
-    fn decode(&mut self) -> Result<Fields2, Error> {
-        self.field.decode()
+    fn decode(&mut self) -> Result<AccountPart2, Error> {
+        self.fields.decode()
     }
 
     ghost same_shape = { refl };
 }
 
 impl<'a> HasDecoder<'a> for AccountPart2 {
-    type Decoder = ConvertFromDecoder<Fields2, AccountDecoder2<'a>>;
+    type Decoder = AccountPart2Decoder<'a>;
 }
 
 type Parts<'a> = (AccountPart0<'a>, (AccountPart1, AccountPart2));
+
+/// Names the types of all that is inside `Account`.
+pub type AccountInside<'a> = (
+    (Parts<'a>, Fields0<'a>, Fields1, Fields2),
+    <Home as HasDecoder<'a>>::Decoder,
+    crate::trophy::TrophyInside,
+);
 
 impl<'a> Shaped for Account<'a> {
     ghost data = { data_as
@@ -633,7 +641,7 @@ impl<'a> InFields<Fields<'a>> for Account<'a> {
         ),
     );
 
-    type Inside = <Account<'a> as HasDecoder<'a>>::Decoder;
+    type Inside = AccountInside<'a>;
 
     ghost same_shape = { refl };
 
@@ -646,10 +654,136 @@ impl<'a> InFields<Fields<'a>> for Account<'a> {
         (pair_alike field_alike (pair_alike field_alike field_alike)))) };
 }
 
+type Held<'a> = StructEncoder<Fields<'a>>;
+
+/// The columns of `Account`.
+#[derive(Drop)]
+pub struct AccountEncoder {
+    fields: Held<'static>,
+}
+
+impl HoldsColumns for AccountEncoder {
+    ghost columns = { λ e. ⟦<Held<'static> as HoldsColumns>⟧.columns e.fields };
+
+    ghost room = { λ e. ⟦<Held<'static> as HoldsColumns>⟧.room e.fields };
+
+    ghost capacity = { λ e. ⟦<Held<'static> as HoldsColumns>⟧.capacity e.fields };
+
+    ghost surely_overflows = { λ e n. SurelyOverflows ⟦<Account<'static> as Shaped>⟧.data.shape
+        (⟦<Held<'static> as HoldsColumns>⟧.columns e.fields) n };
+
+    ghost overflows = { λ e n. ⟦<Held<'static> as HoldsColumns>⟧.overflows e.fields n };
+}
+
+impl Buffer for AccountEncoder {
+    fn new(alloc: Global) -> Self {
+        AccountEncoder {
+            fields: Buffer::new(alloc),
+        }
+    }
+
+    fn reserve(&mut self, n: usize) -> Result<(), Error> {
+        reserve_as::<Account<'static>, _>(&mut self.fields, n)
+    }
+
+    fn collect_into(&mut self, out: &mut Vec<u8>) -> Result<(), Error> {
+        self.fields.collect_into(out)
+    }
+
+    fn clear(&mut self) {
+        self.fields.clear();
+    }
+}
+
+impl<'a> Encoder<Account<'a>> for AccountEncoder {
+    ghost writes_free = { (((⟦<<u64 as HasEncoder>::Encoder as Encoder<u64>>⟧.writes_free &&
+        ⟦<<String as HasEncoder>::Encoder as Encoder<String>>⟧.writes_free) &&
+        (⟦<<&'a str as HasEncoder>::Encoder as Encoder<&'a str>>⟧.writes_free &&
+        (⟦<<u8 as HasEncoder>::Encoder as Encoder<u8>>⟧.writes_free &&
+        ⟦<<bool as HasEncoder>::Encoder as Encoder<bool>>⟧.writes_free))) &&
+        (((⟦<<i64 as HasEncoder>::Encoder as Encoder<i64>>⟧.writes_free &&
+        (⟦<<Option<i16> as HasEncoder>::Encoder as Encoder<Option<i16>>>⟧.writes_free &&
+        ⟦<<Vec<u8> as HasEncoder>::Encoder as Encoder<Vec<u8>>>⟧.writes_free)) &&
+        (⟦<<char as HasEncoder>::Encoder as Encoder<char>>⟧.writes_free &&
+        (⟦<<Vec<String> as HasEncoder>::Encoder as Encoder<Vec<String>>>⟧.writes_free &&
+        ⟦<<Home as HasEncoder>::Encoder as Encoder<Home>>⟧.writes_free))) &&
+        ((⟦<<(i32, i32) as HasEncoder>::Encoder as Encoder<(i32, i32)>>⟧.writes_free &&
+        (⟦<<Option<Trophy> as HasEncoder>::Encoder as Encoder<Option<Trophy>>>⟧.writes_free &&
+        ⟦<<u32 as HasEncoder>::Encoder as Encoder<u32>>⟧.writes_free)) &&
+        (⟦<<u16 as HasEncoder>::Encoder as Encoder<u16>>⟧.writes_free &&
+        (⟦<<u128 as HasEncoder>::Encoder as Encoder<u128>>⟧.writes_free &&
+        ⟦<<u8 as HasEncoder>::Encoder as Encoder<u8>>⟧.writes_free))))) };
+
+    fn encode(&mut self, t: &Account<'a>) -> Result<(), Error> {
+        Encoder::<Account<'a>>::encode(&mut self.fields, t)
+    }
+
+    fn write_directly(&mut self, t: &Account<'a>, out: &mut Vec<u8>) -> Result<bool, Error> {
+        Encoder::<Account<'a>>::write_directly(&mut self.fields, t, out)
+    }
+
+    fn encode_part_of_each<S, W: Part<S, Account<'a>>>(
+        &mut self,
+        items: &[S],
+        which: &W,
+        first: &Account<'a>,
+    ) -> Result<(), Error> {
+        Encoder::<Account<'a>>::encode_part_of_each(&mut self.fields, items, which, first)
+    }
+
+    ghost of_shape = { λ e. refl };
+
+    ghost surely = { λ e n h. h };
+}
+
 impl<'a> HasEncoder for Account<'a> {
-    type Encoder = StructEncoder<Fields<'a>>;
+    type Encoder = AccountEncoder;
+}
+
+type Data<'a> = DecoderOfFields<'a, Parts<'a>>;
+
+/// The data of `Account`.
+#[derive(Drop)]
+pub struct AccountDecoder<'a> {
+    fields: Data<'a>,
+}
+
+impl<'a> HoldsData for AccountDecoder<'a> {
+    ghost shape = { ⟦<Data<'a> as HoldsData>⟧.shape };
+
+    ghost held = { λ d. ⟦<Data<'a> as HoldsData>⟧.held d.fields };
+
+    ghost owned = { λ d. ⟦<Data<'a> as HoldsData>⟧.owned d.fields };
+}
+
+impl<'a> View<'a> for AccountDecoder<'a> {
+    ghost free_inside = { λ d. ⟦<Data<'a> as View<'a>>⟧.free_inside d.fields };
+
+    fn new(alloc: Global) -> Self {
+        AccountDecoder {
+            fields: View::new(alloc),
+        }
+    }
+
+    fn read(&mut self, input: &mut &'a [u8], k: usize, strict: bool) -> Result<bool, Error> {
+        self.fields.read(input, k, strict)
+    }
+
+    fn column_free(&self) -> ColumnFree {
+        self.fields.column_free()
+    }
+}
+
+impl<'a> Decoder<Account<'a>> for AccountDecoder<'a> {
+    ghost makes_free = { ⟦<Data<'a> as Decoder<Account<'a>>>⟧.makes_free };
+
+    fn decode(&mut self) -> Result<Account<'a>, Error> {
+        self.fields.decode()
+    }
+
+    ghost same_shape = { refl };
 }
 
 impl<'a> HasDecoder<'a> for Account<'a> {
-    type Decoder = DecoderOfFields<'a, Parts<'a>>;
+    type Decoder = AccountDecoder<'a>;
 }

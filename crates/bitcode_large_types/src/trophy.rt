@@ -1,7 +1,9 @@
 //! `Trophy` corresponds to the tuple of its fields. What is below its declaration was written by `scripts/new_type`.
-ghost use Rattle.bitcode.specs.ByHand.{data_as, field_alike, pair_alike, refl};
+ghost use Rattle.std.specs.Prelude.{◌&&◌};
+ghost use Rattle.bitcode.specs.ByHand.{SurelyOverflows, data_as, field_alike, pair_alike, refl};
 
-use bitcode::own::{DecoderOfFields, HasField, InFields, Nth, StructEncoder};
+use bitcode::coder::{Buffer, ColumnFree, Decoder, Encoder, HoldsColumns, HoldsData, View};
+use bitcode::own::{DecoderOfFields, HasField, InFields, Nth, Part, StructEncoder, reserve_as};
 use bitcode::{ConvertFrom, DecodeOwned, Error, HasDecoder, HasEncoder, Shaped};
 use std::alloc::Global;
 
@@ -11,6 +13,9 @@ pub struct Trophy {
     pub title: String,
     pub year: u16,
 }
+
+/// Names the types of all that is inside `Trophy`.
+pub type TrophyInside = ((String, u16),);
 
 impl Shaped for Trophy {
     ghost data = { data_as (λ t. (t.title, t.year))
@@ -56,19 +61,130 @@ type Fields = <(String, u16) as HasEncoder>::Encoder;
 impl InFields<Fields> for Trophy {
     type Numbers = (Nth<0>, Nth<1>);
 
-    type Inside = <Trophy as HasDecoder<'static>>::Decoder;
+    type Inside = TrophyInside;
 
     ghost same_shape = { refl };
 
     ghost same_listings = { λ t. pair_alike field_alike field_alike };
 }
 
+type Held = StructEncoder<Fields>;
+
+/// The columns of `Trophy`.
+#[derive(Drop)]
+pub struct TrophyEncoder {
+    fields: Held,
+}
+
+impl HoldsColumns for TrophyEncoder {
+    ghost columns = { λ e. ⟦<Held as HoldsColumns>⟧.columns e.fields };
+
+    ghost room = { λ e. ⟦<Held as HoldsColumns>⟧.room e.fields };
+
+    ghost capacity = { λ e. ⟦<Held as HoldsColumns>⟧.capacity e.fields };
+
+    ghost surely_overflows = { λ e n. SurelyOverflows ⟦<Trophy as Shaped>⟧.data.shape
+        (⟦<Held as HoldsColumns>⟧.columns e.fields) n };
+
+    ghost overflows = { λ e n. ⟦<Held as HoldsColumns>⟧.overflows e.fields n };
+}
+
+impl Buffer for TrophyEncoder {
+    fn new(alloc: Global) -> Self {
+        TrophyEncoder {
+            fields: Buffer::new(alloc),
+        }
+    }
+
+    fn reserve(&mut self, n: usize) -> Result<(), Error> {
+        reserve_as::<Trophy, _>(&mut self.fields, n)
+    }
+
+    fn collect_into(&mut self, out: &mut Vec<u8>) -> Result<(), Error> {
+        self.fields.collect_into(out)
+    }
+
+    fn clear(&mut self) {
+        self.fields.clear();
+    }
+}
+
+impl Encoder<Trophy> for TrophyEncoder {
+    ghost writes_free = { (⟦<<String as HasEncoder>::Encoder as Encoder<String>>⟧.writes_free &&
+        ⟦<<u16 as HasEncoder>::Encoder as Encoder<u16>>⟧.writes_free) };
+
+    fn encode(&mut self, t: &Trophy) -> Result<(), Error> {
+        Encoder::<Trophy>::encode(&mut self.fields, t)
+    }
+
+    fn write_directly(&mut self, t: &Trophy, out: &mut Vec<u8>) -> Result<bool, Error> {
+        Encoder::<Trophy>::write_directly(&mut self.fields, t, out)
+    }
+
+    fn encode_part_of_each<S, W: Part<S, Trophy>>(
+        &mut self,
+        items: &[S],
+        which: &W,
+        first: &Trophy,
+    ) -> Result<(), Error> {
+        Encoder::<Trophy>::encode_part_of_each(&mut self.fields, items, which, first)
+    }
+
+    ghost of_shape = { λ e. refl };
+
+    ghost surely = { λ e n h. h };
+}
+
 impl HasEncoder for Trophy {
-    type Encoder = StructEncoder<Fields>;
+    type Encoder = TrophyEncoder;
+}
+
+type Data<'a> = DecoderOfFields<'a, (String, u16)>;
+
+/// The data of `Trophy`.
+#[derive(Drop)]
+pub struct TrophyDecoder<'a> {
+    fields: Data<'a>,
+}
+
+impl<'a> HoldsData for TrophyDecoder<'a> {
+    ghost shape = { ⟦<Data<'a> as HoldsData>⟧.shape };
+
+    ghost held = { λ d. ⟦<Data<'a> as HoldsData>⟧.held d.fields };
+
+    ghost owned = { λ d. ⟦<Data<'a> as HoldsData>⟧.owned d.fields };
+}
+
+impl<'a> View<'a> for TrophyDecoder<'a> {
+    ghost free_inside = { λ d. ⟦<Data<'a> as View<'a>>⟧.free_inside d.fields };
+
+    fn new(alloc: Global) -> Self {
+        TrophyDecoder {
+            fields: View::new(alloc),
+        }
+    }
+
+    fn read(&mut self, input: &mut &'a [u8], k: usize, strict: bool) -> Result<bool, Error> {
+        self.fields.read(input, k, strict)
+    }
+
+    fn column_free(&self) -> ColumnFree {
+        self.fields.column_free()
+    }
+}
+
+impl<'a> Decoder<Trophy> for TrophyDecoder<'a> {
+    ghost makes_free = { ⟦<Data<'a> as Decoder<Trophy>>⟧.makes_free };
+
+    fn decode(&mut self) -> Result<Trophy, Error> {
+        self.fields.decode()
+    }
+
+    ghost same_shape = { refl };
 }
 
 impl<'a> HasDecoder<'a> for Trophy {
-    type Decoder = DecoderOfFields<'a, (String, u16)>;
+    type Decoder = TrophyDecoder<'a>;
 }
 
 impl DecodeOwned for Trophy {}

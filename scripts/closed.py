@@ -1,0 +1,243 @@
+"""Coders of a struct's own, which forward to those of its fields: a type that holds the struct then names one encoder
+and one decoder for it, and not those of all that is inside. The toolchain has a limit for these."""
+
+from string import Template
+
+from declarations import Struct, fields_of
+from known_types import INTEGERS, of_text
+
+# A struct whose fields name no more types than these has no coders of its own, since that costs less to prove: one that
+# no enum and no struct with coders of its own holds, and one that such a type holds.
+MOST_OPEN, MOST_HELD = 24, 3
+# The types whose values own no memory, if those that they take do not.
+PLAIN = {"Duration", "IpAddr", "Ipv4Addr", "Ipv6Addr", "Option", "Ordering", "PhantomData", "Range", "RangeInclusive", "Result",
+         "Saturating", "SocketAddr", "SocketAddrV4", "SocketAddrV6", "Uuid", "Wrapping", "bool", "char", "f32", "f64"}
+# How many types the encoders of these types name.
+WEIGHTS = {"Duration": 4, "IpAddr": 5, "Range": 3, "RangeInclusive": 3, "SocketAddr": 12, "SocketAddrV4": 4, "SocketAddrV6": 6}
+# What `use` lines bring in for coders of one's own.
+NEEDED = "bitcode::coder::{Buffer, ColumnFree, Decoder, Encoder, HoldsColumns, HoldsData, View}"
+
+ENCODER = """type Held$head = StructEncoder<Fields$life>;
+
+/// The columns of `$simple`.
+#[derive(Drop)]
+pub struct ${simple}Encoder {
+    fields: Held$still,
+}
+
+impl HoldsColumns for ${simple}Encoder {
+    ghost columns = { λ e. ⟦<Held$still as HoldsColumns>⟧.columns e.fields };
+
+    ghost room = { λ e. ⟦<Held$still as HoldsColumns>⟧.room e.fields };
+
+    ghost capacity = { λ e. ⟦<Held$still as HoldsColumns>⟧.capacity e.fields };
+
+    ghost surely_overflows = { λ e n. SurelyOverflows ⟦<$still_name as Shaped>⟧.data.shape (⟦<Held$still as HoldsColumns>⟧.columns e.fields) n };
+
+    ghost overflows = { λ e n. ⟦<Held$still as HoldsColumns>⟧.overflows e.fields n };
+}
+
+impl Buffer for ${simple}Encoder {
+    fn new(alloc: Global) -> Self {
+        ${simple}Encoder { fields: Buffer::new(alloc) }
+    }
+
+    fn reserve(&mut self, n: usize) -> Result<(), Error> {
+        reserve_as::<$still_name, _>(&mut self.fields, n)
+    }
+
+    fn collect_into(&mut self, out: &mut Vec<u8>) -> Result<(), Error> {
+        self.fields.collect_into(out)
+    }
+
+    fn clear(&mut self) {
+        self.fields.clear();
+    }
+}
+
+impl$shaped Encoder<$name> for ${simple}Encoder {
+    ghost writes_free = { $free };
+
+    fn encode(&mut self, t: &$name) -> Result<(), Error> {
+        Encoder::<$name>::encode(&mut self.fields, t)
+    }
+
+    fn write_directly(&mut self, t: &$name, out: &mut Vec<u8>) -> Result<bool, Error> {
+        Encoder::<$name>::write_directly(&mut self.fields, t, out)
+    }
+
+    fn encode_part_of_each<S, W: Part<S, $name>>(&mut self, items: &[S], which: &W, first: &$name) -> Result<(), Error> {
+        Encoder::<$name>::encode_part_of_each(&mut self.fields, items, which, first)
+    }
+
+    ghost of_shape = { λ e. refl };
+
+    ghost surely = { λ e n h. h };
+}
+
+impl$shaped HasEncoder for $name {
+    type Encoder = ${simple}Encoder;
+}
+
+"""
+DECODER = """type $data<$input> = $decoder;
+
+/// The data of `$simple`.
+#[derive(Drop)]
+pub struct ${simple}Decoder<$input> {
+    fields: $data<$input>,
+}
+
+impl<$input> HoldsData for ${simple}Decoder<$input> {
+    ghost shape = { ⟦<$data<$input> as HoldsData>⟧.shape };
+
+    ghost held = { λ d. ⟦<$data<$input> as HoldsData>⟧.held d.fields };
+
+    ghost owned = { λ d. ⟦<$data<$input> as HoldsData>⟧.owned d.fields };
+}
+
+impl<$input> View<$input> for ${simple}Decoder<$input> {
+    ghost free_inside = { λ d. ⟦<$data<$input> as View<$input>>⟧.free_inside d.fields };
+
+    fn new(alloc: Global) -> Self {
+        ${simple}Decoder { fields: View::new(alloc) }
+    }
+
+    fn read(&mut self, input: &mut &$input [u8], k: usize, strict: bool) -> Result<bool, Error> {
+        self.fields.read(input, k, strict)
+    }
+
+    fn column_free(&self) -> ColumnFree {
+        self.fields.column_free()
+    }
+}
+
+impl<$input> Decoder<$name> for ${simple}Decoder<$input> {
+    ghost makes_free = { ⟦<$data<$input> as Decoder<$name>>⟧.makes_free };
+
+    fn decode(&mut self) -> Result<$name, Error> {
+        self.fields.decode()
+    }
+
+    ghost same_shape = { refl };
+}
+
+"""
+
+
+def inside_of(type, own):
+    """What is known of the types, without that one, where its fields are looked at: a recursive type is refused elsewhere."""
+    return {name: known for name, known in own.items() if name != type.name}
+
+
+def own_types_in(type, own):
+    """The types of one's own that the type names, and those in the fields of a generic struct that it names."""
+    found, item = [], own[type.name].item if type.kind == "path" and type.name in own else None
+    if type.kind == "path" and type.name in own:
+        found.append(type)
+    if item and (item.types or item.consts):
+        found += [inner for field in fields_of(item) for inner in own_types_in(field.type, inside_of(type, own)) if inner.name not in item.types]
+    return found + [inner for part in type.parts for inner in own_types_in(part, own)]
+
+
+def own_types_of(item, own):
+    """The types of one's own in the fields of the item."""
+    return [found for field in fields_of(item) for found in own_types_in(field.type, own)]
+
+
+def is_pair(item):
+    """Whether the item corresponds to the tuple of its fields: a struct, or an enum of one variant."""
+    return isinstance(item, Struct) or len(item.variants) == 1
+
+
+def weight(type, own):
+    """How many types the type's encoder names, about: coders of a type's own count as one."""
+    if type.kind == "path" and type.name in own:
+        item = own[type.name].item
+        is_one = not item or own[type.name].is_closed or not is_pair(item)
+        return 1 if is_one else 1 + sum(weight(field.type, inside_of(type, own)) for field in fields_of(item)) + sum(weight(part, own) for part in type.parts)
+    here = 0 if type.kind in ("tuple", "number", "lifetime") else WEIGHTS.get(type.name, 1) if type.kind == "path" else 1
+    return here + sum(weight(part, own) for part in type.parts if type.kind != "reference")
+
+
+def owns_memory(type, own):
+    """Whether values of the type may own memory."""
+    if type.kind in ("reference", "lifetime", "number"):
+        return False
+    if type.kind == "path" and type.name in own:
+        item = own[type.name].item
+        return not item or any(owns_memory(field.type, inside_of(type, own)) for field in fields_of(item)) or any(owns_memory(part, own) for part in type.parts)
+    is_plain = type.kind != "path" or type.name in PLAIN or type.name in INTEGERS or type.name.startswith("NonZero")
+    return not is_plain or any(owns_memory(part, own) for part in type.parts)
+
+
+def with_closed(items, own):
+    """What is known of the types, with which of them have coders of their own: structs that name many types, those that hold
+    such a struct, and larger ones and ones with memory that such a struct or an enum holds."""
+    items = [item for item in items if not (item.types or item.consts)]
+
+    def weighs_more(item, most):
+        return sum(weight(field.type, own) for field in fields_of(item)) > most
+
+    while True:
+        closed = {item.name for item in items if is_pair(item) and own[item.name].is_closed}
+        inside = {found.name for item in items if item.name in closed for found in own_types_of(item, own)}
+        held = {found.name for item in items if not is_pair(item) for found in own_types_of(item, own)}
+        more = {
+            item.name for item in items if is_pair(item) and item.name not in closed and fields_of(item) and (
+                weighs_more(item, MOST_OPEN)
+                or item.name in inside | held and weighs_more(item, MOST_HELD)
+                or item.name in inside and any(owns_memory(field.type, own) for field in fields_of(item))
+                or any(own[found.name].is_closed for found in own_types_of(item, own)))
+        }
+        if not more:
+            return own
+        # the smallest ones first: what holds them names fewer types then
+        first = min(more, key=lambda name: next(sum(weight(field.type, own) for field in fields_of(item)) for item in items if item.name == name))
+        own = own | {first: own[first]._replace(is_closed=True)}
+
+
+def is_closed(item, own):
+    """Whether the item has coders of its own."""
+    return item.name in own and own[item.name].is_closed
+
+
+def inside(item, own, *parts):
+    """A type that names these types, and what is inside the fields: all types whose values own memory."""
+    still, names = item.lifetime or "'static", list(parts)
+    for type in own_types_of(item, own):
+        known = own[type.name]
+        lifetimes = [part.name for part in type.parts if part.kind == "lifetime"]
+        of = f"<{lifetimes[0]}>" if lifetimes else ""
+        name = f"{known.path.rsplit('::', 1)[0]}::{type.name}Inside{of}" if known.is_closed else f"<{of_text(type)} as HasDecoder<{still}>>::Decoder"
+        names += [name] if name not in names and (known.is_closed or not item.types) else []
+    return f"({', '.join(names)}{',' * (len(names) == 1)})"
+
+
+def is_quoted(type, own):
+    """Whether the toolchain states what the encoder of the type does, where no type of all that is inside is named."""
+    found = [own[type.name] for type in own_types_in(type, own)]
+    return all(known.is_closed or known.item and not (known.item.types or known.item.consts) for known in found)
+
+
+def writes_free(item, own, nested):
+    """That writing takes no memory if it takes none for any field, in the nested pairs of the fields."""
+    types = [field.type for field in fields_of(item)]
+    text = nested([f"\0{number}\0" for number in range(len(types))]).replace(", ", " && ")
+    for number, type in enumerate(types):
+        of = of_text(type)
+        quote = f"⟦<<{of} as HasEncoder>::Encoder as Encoder<{of}>>⟧.writes_free" if is_quoted(type, own) else "false"
+        text = text.replace(f"\0{number}\0", quote)
+    return text
+
+
+def encoder_text(item, own, nested, name, life, shaped):
+    """The encoder of the item."""
+    still = life.replace(item.lifetime, "'static") if item.lifetime else life
+    row = {"simple": item.name, "name": name, "life": life, "head": life, "still": still, "still_name": item.name + still, "shaped": shaped}
+    return Template(ENCODER).substitute(row, free=writes_free(item, own, nested) if fields_of(item) else "⟦<<() as HasEncoder>::Encoder as Encoder<()>>⟧.writes_free")
+
+
+def decoder_text(simple, name, input, decoder, data="Data"):
+    """The decoder of the type, which holds that one."""
+    return Template(DECODER).substitute(simple=simple, name=name, input=input, decoder=decoder, data=data)
