@@ -71,7 +71,8 @@ fn read_whole<'a, T: DeserializeAs<'a>>(
 /// `invalid enum variant`, `invalid option`, `invalid char`, `too many zero sized types` and `nested too deep`, each
 /// only if the input spells no value of the shape, and `out of memory`.
 ///
-/// A byte may spell up to 524296 elements, and each is allocated: decode untrusted input with [`deserialize_as_within`].
+/// A byte may spell up to 524296 elements, and each is allocated: decode untrusted input with
+/// [`deserialize_as_within`].
 pub fn deserialize_as<'a, T: DeserializeAs<'a>>(alloc: Global, bytes: &'a [u8]) -> Result<T, Error>
     ensures read { IfOk result (λ t. SpellsDatum (T.tree 513) bytes.now (T.datum t)) }
     ensures refused { IfErr result

@@ -36,8 +36,8 @@ pub struct Variant {
 
 /// Reads the length of a list, and finds the place of its elements. `is_free` says whether these have no column.
 ///
-/// Errors: those of the column of lengths, and `too many zero sized types` if there are more than 65536 elements without
-/// a column.
+/// Errors: those of the column of lengths, and `too many zero sized types` if there are more than 65536 elements
+/// without a column.
 pub fn enter_list(
     reader: &mut Reader<'_>,
     budget: &mut Budget,

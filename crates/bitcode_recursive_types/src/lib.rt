@@ -1,0 +1,5 @@
+//! Recursive types of users, in the second format.
+#![tactic(auto)]
+
+pub mod comment;
+pub mod expr;
