@@ -1,16 +1,17 @@
 -- The variant of an expression, the fields of variants, and the expressions of a list.
 use Rattle.std.proofs.Common.{rules, arith, ◌≡◌, ◌<◌, ◌-◌, map, refl, subst, ◌∙◌, string_bytes}
 use Rattle.std.proofs.lemmas.Result.{err_from_is_err_and}
-use Rattle.bitcode_shapes.specs.Datum.{Datum, number, text, list, tuple, datum_and, no_data, data_of}
+use Rattle.bitcode_shapes.specs.Datum.{number, text, list, tuple, datum_and, no_data, data_of}
 use Rattle.bitcode_untyped.specs.ShapeTree.{seq_tree, tuple_tree, choice_tree, integer_tree}
 use Rattle.bitcode_untyped.proofs.ReadLemmas.{never_read}
 use Rattle.bitcode_serde.specs.Budget.{KeepsEach}
 use Rattle.bitcode_serde.specs.ReadingValues.{IsRefusalAt, ReadsListAt}
 use Rattle.bitcode_serde.proofs.ColumnLemmas.{passed_on}
 use Rattle.bitcode_serde.proofs.ValueLemmas.{continues_on, seq_refused}
-use Rattle.bitcode_serde_types.proofs.FieldsRead.{no_fields_kept, place_there, field_kept, field_not_kept, inside_there, field_kept_at, field_not_kept_at, tuple_kept}
+use Rattle.bitcode_serde_types.proofs.FieldsRead.{no_fields_kept, place_there, field_kept, field_not_kept, field_kept_at, field_not_kept_at, tuple_kept}
 use Rattle.bitcode_serde_types.proofs.KeptLemmas.{elements_more, element_refused, elements_there, list_kept, choice_kept, payload_refused}
 use Rattle.bitcode_recursive_types.specs.Exprs.{add_trees, call_trees, expr_trees, expr_tree, expr_datum}
+use Rattle.bitcode_recursive_types.specs.declared.expr.Expr.TheVariants as expr
 use Rattle.bitcode_recursive_types.proofs.ExprLemmas.{expr_more, expr_columns, expr-Num, expr-Neg, expr-Add, expr-Call}
 use Rattle.bitcode_recursive_types.proofs.expr.Expr.+expr.Goals as goal
 
@@ -53,10 +54,10 @@ read_expr-returns-in_ok-number-in-0-clause-read t c =
     let found = c.in_ok-found.found in
     let known = c.in_ok-found.ensures.known in
     let this : found.index ≡ 0 = omega (arith, known) in
-    rw (expr_more c.args.left h)
-    (choice_kept number expr_datum ss found.index 0 (integer_tree 8) c.args.reader.now c.enter_variant.new.reader c.args.place found.place
-    c.in_ok-found.ensures.enters this refl _ c.args.budget.now c.enter_variant.new.budget _ c.in_ok-number-in-0.number _ (expr-Num c.in_ok-number-in-0.number) c.enter_variant.ensures.taken
-    c.in_ok-number-in-0.ensures.read)
+    let k = choice_kept number expr_datum ss found.index 0 (integer_tree 8) c.args.reader.now c.enter_variant.new.reader c.args.place found.place
+    c.in_ok-found.ensures.enters this refl c.read.new.reader c.args.budget.now c.enter_variant.new.budget c.read.new.budget c.in_ok-number-in-0.number (expr.Num c.in_ok-number-in-0.number) (expr-Num c.in_ok-number-in-0.number) c.enter_variant.ensures.taken
+    c.in_ok-number-in-0.ensures.read in
+    rw (expr_more c.args.left h) (search (rules, k))
 
 pub read_expr-returns-in_err-inside-in-1-clause-refused : goal.read_expr-returns-in_err-inside-in-1-clause-refused
 read_expr-returns-in_err-inside-in-1-clause-refused t c =
