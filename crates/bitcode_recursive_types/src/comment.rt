@@ -37,7 +37,13 @@ impl<'a> SerializeAs for Comment<'a> {
         if left == 0 {
             return err(Reason::NestedTooDeep);
         }
-        write_tuple(&(&self.text, (&self.replies, ())), 2, writer, left - 1, place)
+        write_tuple(
+            &(&self.text, (&self.replies, ())),
+            2,
+            writer,
+            left - 1,
+            place,
+        )
     }
 }
 

@@ -113,6 +113,9 @@ tuple_outcome old new ss n ds faults (Err e) o = record {
   of_tree = tt;
   whole = tt;
   refused = λ root of part.
-      o.refused root of (λ j q kind h. part q kind (j, subst (λ p. HasKindAt ss j p q kind)
-      (ap (λ k. field_at (tree_count ss) (place_in old n) k) (zero-add j) ∙ sym (field_of_count ss (place_in old n) j)) h));
+      o.refused root of (λ j q kind h. part q kind (
+        j,
+        subst (λ p. HasKindAt ss j p q kind)
+            (ap (λ k. field_at (tree_count ss) (place_in old n) k) (zero-add j) ∙ sym (field_of_count ss (place_in old n) j)) h,
+      ));
 }

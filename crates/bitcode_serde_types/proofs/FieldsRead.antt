@@ -53,9 +53,12 @@ module _ (trees : ShapeTrees) (place : ℕ) (old : Reader) (before : Budget) whe
       continues = continues_on old mid new k.continues c;
       read = λ p at a st.
           let g = k.read p at a st in
-          let r = one.read p (k.continues.kept place p at) g.0 g.1 in
-          (r.0, r.1, one_field_more (field_place trees p) trees a g.0 r.0 k.listing s left i one.datum g.2
-          (subst (λ q. ReadsDatum s q g.0 one.datum r.0) (sym (field_of_count trees p i)) r.2));
+          let r = one.read p (k.continues.kept place p at) g.0 g.1 in (
+            r.0,
+            r.1,
+            one_field_more (field_place trees p) trees a g.0 r.0 k.listing s left i one.datum g.2
+                (subst (λ q. ReadsDatum s q g.0 one.datum r.0) (sym (field_of_count trees p i)) r.2),
+          );
       taken = one.taken ∙ ap (spend (node_count one.datum)) k.taken ∙ spend-then (node_counts (data_of k.listing)) (node_count one.datum) before
           ∙ ap (λ n. spend n before) (sym (node_counts-push k.listing one.datum));
       same = λ h.

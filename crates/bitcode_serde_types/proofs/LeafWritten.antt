@@ -34,6 +34,6 @@ leaf_put kind v old now place (Err e) case below more entries refused = record {
   whole = tt;
   refused = λ root of_shape part. elim (refused root of_shape (part (place_in old place) (kind_of kind) (refl, refl))) [
     | inl memory ↦ inl memory
-    | inr away ↦ elim away.1 [ | inl other ↦ absurd (other case) | inr never ↦ absurd never ]
+    | inr away ↦ elim away.1 [ inl other ↦ absurd (other case) | inr never ↦ absurd never ]
   ];
 }
