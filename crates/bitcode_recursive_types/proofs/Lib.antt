@@ -1,2 +1,4 @@
 pub mod CommentLemmas
+pub mod DirectoryLemmas
 pub mod ExprLemmas
+pub mod NodeLemmas

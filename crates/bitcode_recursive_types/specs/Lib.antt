@@ -1,2 +1,4 @@
-pub mod Comments
-pub mod Exprs
+pub mod CommentTree
+pub mod DirectoryTree
+pub mod ExprTree
+pub mod NodeTree

@@ -1,9 +1,11 @@
-//! Comments and their replies, with borrowed texts.
+//! `Comment` in the second format. What is below the declarations was written by `scripts/second_format`.
 ghost use Rattle.std.specs.Prelude.{◌≡◌, ◌≤◌, ℕ, length, map, IfOk, IfErr, OnOk};
-ghost use Rattle.bitcode_shapes.specs.Datum.{list, data_of};
+ghost use Rattle.bitcode_shapes.specs.Datum.{text, list, data_of};
+ghost use Rattle.bitcode_untyped.specs.Bounds.{column_free};
 ghost use Rattle.bitcode_untyped.specs.ShapeTree.{seq_tree};
 ghost use Rattle.bitcode_serde.specs.ReadingValues.{IsSteady, Continues, IsRefusalAt};
 ghost use Rattle.bitcode_serde_types.specs.ReadingAs.{ReadsAs};
+ghost use Rattle.bitcode_recursive_types.specs.CommentTree.{comment_tree, comment_datum};
 
 use bitcode_memory::error::{Error, Reason};
 use bitcode_memory::refuse::err;
@@ -24,8 +26,7 @@ pub struct Comment<'a> {
 }
 
 impl<'a> SerializeAs for Comment<'a> {
-    ghost use Rattle.bitcode_recursive_types.specs.Comments.{comment_tree, comment_datum};
-    ghost use Rattle.bitcode_recursive_types.specs.Comments.{comment_sound};
+    ghost use Rattle.bitcode_recursive_types.specs.CommentTree.{comment_tree, comment_datum, comment_sound};
 
     ghost tree = { comment_tree };
 
@@ -47,68 +48,8 @@ impl<'a> SerializeAs for Comment<'a> {
     }
 }
 
-impl<'a> Comment<'a> {
-    ghost use Rattle.bitcode_recursive_types.specs.Comments.{comment_tree, comment_datum};
-
-    // Reads a comment at a place, below which so many references may be followed.
-    #[cycle(comment)]
-    fn read_comment(
-        alloc: Global,
-        reader: &mut Reader<'a>,
-        budget: &mut Budget,
-        left: usize,
-        place: usize,
-    ) -> Result<Comment<'a>, Error>
-        requires place { place ≤ length reader.old.places.below.items }
-        requires steady { IsSteady reader.old }
-        ensures continues { OnOk result (Continues reader.old reader.new) }
-        ensures read { IfOk result
-            (λ t. ReadsAs comment_datum (comment_tree left) place reader.old budget.old t
-            reader.new budget.new) }
-        ensures refused { IfErr result
-            (λ e. IsRefusalAt (comment_tree left) place reader.old e.reason) }
-    {
-        if left == 0 {
-            return err(Reason::NestedTooDeep);
-        }
-        budget.take(1);
-        let text: &'a str = read_field(alloc, reader, budget, left - 1, place, 0, 2)?;
-        let inside = reader.field(place, 1, 2, 1)?;
-        let replies = Comment::read_comments(alloc, reader, budget, left - 1, inside)?;
-        Ok(Comment { text, replies })
-    }
-
-    // Reads a list of comments.
-    #[cycle(comment)]
-    fn read_comments(
-        alloc: Global,
-        reader: &mut Reader<'a>,
-        budget: &mut Budget,
-        left: usize,
-        place: usize,
-    ) -> Result<Vec<Comment<'a>>, Error>
-        requires place { place ≤ length reader.old.places.below.items }
-        requires steady { IsSteady reader.old }
-        ensures continues { OnOk result (Continues reader.old reader.new) }
-        ensures read { IfOk result
-            (λ t. ReadsAs (λ v. list (data_of (map comment_datum v.items)))
-            (seq_tree (comment_tree left)) place reader.old budget.old t reader.new budget.new) }
-        ensures refused { IfErr result
-            (λ e. IsRefusalAt (seq_tree (comment_tree left)) place reader.old e.reason) }
-    {
-        let list = enter_list(reader, budget, false, place)?;
-        let mut items = Vec::new(alloc);
-        for _i in 0..list.count {
-            let item = Comment::read_comment(alloc, reader, budget, left, list.place)?;
-            budget.keep(&mut items, item)?;
-        }
-        Ok(items)
-    }
-}
-
 impl<'a> DeserializeAs<'a> for Comment<'a> {
-    ghost use Rattle.bitcode_untyped.specs.Bounds.{column_free};
-    ghost use Rattle.bitcode_recursive_types.specs.Comments.{comment_tree, comment_datum};
+    ghost use Rattle.bitcode_recursive_types.specs.CommentTree.{comment_tree, comment_datum};
 
     fn is_free() -> bool
         ensures { (left : ℕ) → result ≡ column_free (comment_tree left) }
@@ -126,12 +67,61 @@ impl<'a> DeserializeAs<'a> for Comment<'a> {
         requires place { place ≤ length reader.old.places.below.items }
         requires steady { IsSteady reader.old }
         ensures continues { OnOk result (Continues reader.old reader.new) }
-        ensures read { IfOk result
-            (λ t. ReadsAs comment_datum (comment_tree left) place reader.old budget.old t
-            reader.new budget.new) }
-        ensures refused { IfErr result
-            (λ e. IsRefusalAt (comment_tree left) place reader.old e.reason) }
+        ensures read { IfOk result (λ t. ReadsAs comment_datum (comment_tree left) place reader.old budget.old t reader.new budget.new) }
+        ensures refused { IfErr result (λ e. IsRefusalAt (comment_tree left) place reader.old e.reason) }
     {
-        Comment::read_comment(alloc, reader, budget, left, place)
+        read_comment(alloc, reader, budget, left, place)
     }
+}
+
+// Reads a value of `Comment`.
+#[cycle(comment)]
+fn read_comment<'a>(
+    alloc: Global,
+    reader: &mut Reader<'a>,
+    budget: &mut Budget,
+    left: usize,
+    place: usize,
+) -> Result<Comment<'a>, Error>
+    requires place { place ≤ length reader.old.places.below.items }
+    requires steady { IsSteady reader.old }
+    ensures continues { OnOk result (Continues reader.old reader.new) }
+    ensures read { IfOk result (λ t. ReadsAs comment_datum (comment_tree left) place reader.old budget.old t reader.new budget.new) }
+    ensures refused { IfErr result (λ e. IsRefusalAt (comment_tree left) place reader.old e.reason) }
+{
+    if left == 0 {
+        return err(Reason::NestedTooDeep);
+    }
+    budget.take(1);
+    let field0: &'a str = read_field(alloc, reader, budget, left - 1, place, 0, 2)?;
+    let place1 = reader.field(place, 1, 2, 1)?;
+    let field1 = read_comment_list(alloc, reader, budget, left - 1, place1)?;
+    Ok(Comment {
+        text: field0,
+        replies: field1,
+    })
+}
+
+// Reads a list of `Comment`.
+#[cycle(comment)]
+fn read_comment_list<'a>(
+    alloc: Global,
+    reader: &mut Reader<'a>,
+    budget: &mut Budget,
+    left: usize,
+    place: usize,
+) -> Result<Vec<Comment<'a>>, Error>
+    requires place { place ≤ length reader.old.places.below.items }
+    requires steady { IsSteady reader.old }
+    ensures continues { OnOk result (Continues reader.old reader.new) }
+    ensures read { IfOk result (λ t. ReadsAs (λ v. list (data_of (map comment_datum v.items))) (seq_tree (comment_tree left)) place reader.old budget.old t reader.new budget.new) }
+    ensures refused { IfErr result (λ e. IsRefusalAt (seq_tree (comment_tree left)) place reader.old e.reason) }
+{
+    let found = enter_list(reader, budget, false, place)?;
+    let mut items = Vec::new(alloc);
+    for _i in 0..found.count {
+        let item = read_comment(alloc, reader, budget, left, found.place)?;
+        budget.keep(&mut items, item)?;
+    }
+    Ok(items)
 }

@@ -1,5 +1,7 @@
-//! Recursive types of users, in the second format.
+//! Recursive types written by `scripts/second_format`.
 #![tactic(auto)]
 
 pub mod comment;
+pub mod directory;
 pub mod expr;
+pub mod node;

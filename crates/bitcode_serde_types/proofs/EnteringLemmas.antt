@@ -1,5 +1,5 @@
 -- Steps into lists and variants.
-use Rattle.std.proofs.Common.{◌≡◌, ℕ, zero, suc, ◌≤◌, ◌<◌, true, refl, arith}
+use Rattle.std.proofs.Common.{◌≡◌, ℕ, zero, suc, ◌≤◌, ◌<◌, Bool, true, false, ◌&&◌, refl, arith}
 use Rattle.bitcode_memory.specs.declared.error.Reason.{Reason}
 use Rattle.bitcode_coder.specs.Spelling.{natural}
 use Rattle.bitcode_untyped.specs.Bounds.{column_free, free_limit}
@@ -30,3 +30,13 @@ over_limit_refused s place n count old new why free many known leads = (
       let l = told_at old new place length_kind (natural n) (λ entries. count ≡ total entries) leads p at a st in
       seq_over_limit s p a n l.0 l.2.takes free many,
 )
+
+-- ---- tuples of which a field has columns
+
+pub columns_first : (a b : Bool) → false ≡ a → false ≡ a && b
+columns_first true b h = absurd (cc h)
+columns_first false b h = refl
+
+pub columns_behind : (a b : Bool) → false ≡ b → false ≡ a && b
+columns_behind true b h = h
+columns_behind false b h = refl

@@ -9,7 +9,7 @@ ghost use Rattle.bitcode_serde.specs.Budget.{spend};
 ghost use Rattle.bitcode_serde.specs.ReadingValues.{IsSteady, Continues, IsRefusalAt, IsValueReason};
 ghost use Rattle.bitcode_serde.specs.ReadingValues.{IsFieldRefusalAt};
 ghost use Rattle.bitcode_serde_types.specs.FieldsWritten.{tree_count};
-ghost use Rattle.bitcode_serde_types.specs.ReadingAs.{ReadsFieldAs};
+ghost use Rattle.bitcode_serde_types.specs.ReadingAs.{ReadsAs, ReadsFieldAs};
 
 use crate::deserialize_as::DeserializeAs;
 use bitcode_memory::error::{Error, Reason};
@@ -104,6 +104,24 @@ pub fn enter_variant(
         index,
         place: inside,
     })
+}
+
+/// Reads what a variant holds, at its place.
+pub fn read_at<'a, T: DeserializeAs<'a>>(
+    alloc: Global,
+    reader: &mut Reader<'a>,
+    budget: &mut Budget,
+    left: usize,
+    place: usize,
+) -> Result<T, Error>
+    requires place { place ≤ length reader.old.places.below.items }
+    requires steady { IsSteady reader.old }
+    ensures continues { OnOk result (Continues reader.old reader.new) }
+    ensures read { IfOk result
+        (λ t. ReadsAs T.datum (T.tree left) place reader.old budget.old t reader.new budget.new) }
+    ensures refused { IfErr result (λ e. IsRefusalAt (T.tree left) place reader.old e.reason) }
+{
+    T::read(alloc, reader, budget, left, place)
 }
 
 /// Reads field `i` of a struct or a tuple with `fields` fields.
