@@ -416,7 +416,7 @@ def files(group):
         found[f"{module}/{shaped.name}SerializeAs/+write/Answers.antt"] = with_head(group, "The fields or the variant, or one reference too many.", goals, writing(group, shaped))
     else:
         goals = f"{module}.+{module}_write"
-        text = "".join(writing(group, shaped, f"{shaped.name}SerializeAs-write-") for shaped in group.types)
+        text = "".join(writing(group, shaped, f"{shaped.name}SerializeAs::write-") for shaped in group.types)
         found[f"{module}/+{module}_write/Answers.antt"] = with_head(group, "The fields or the variant, or one reference too many.", goals, text)
     found[f"{module}/+{module}/Answers.antt"] = with_head(group, "One field or element after another.", f"{module}.+{module}", reading(group))
     found[f"{module}/+{module}/Invariants.antt"] = invariants(group)

@@ -67,8 +67,11 @@ impl<'a> DeserializeAs<'a> for Comment<'a> {
         requires place { place ≤ length reader.old.places.below.items }
         requires steady { IsSteady reader.old }
         ensures continues { OnOk result (Continues reader.old reader.new) }
-        ensures read { IfOk result (λ t. ReadsAs comment_datum (comment_tree left) place reader.old budget.old t reader.new budget.new) }
-        ensures refused { IfErr result (λ e. IsRefusalAt (comment_tree left) place reader.old e.reason) }
+        ensures read { IfOk result
+            (λ t. ReadsAs comment_datum (comment_tree left) place reader.old budget.old t reader.new
+            budget.new) }
+        ensures refused { IfErr result
+            (λ e. IsRefusalAt (comment_tree left) place reader.old e.reason) }
     {
         read_comment(alloc, reader, budget, left, place)
     }
@@ -86,8 +89,11 @@ fn read_comment<'a>(
     requires place { place ≤ length reader.old.places.below.items }
     requires steady { IsSteady reader.old }
     ensures continues { OnOk result (Continues reader.old reader.new) }
-    ensures read { IfOk result (λ t. ReadsAs comment_datum (comment_tree left) place reader.old budget.old t reader.new budget.new) }
-    ensures refused { IfErr result (λ e. IsRefusalAt (comment_tree left) place reader.old e.reason) }
+    ensures read { IfOk result
+        (λ t. ReadsAs comment_datum (comment_tree left) place reader.old budget.old t reader.new
+        budget.new) }
+    ensures refused { IfErr result
+        (λ e. IsRefusalAt (comment_tree left) place reader.old e.reason) }
 {
     if left == 0 {
         return err(Reason::NestedTooDeep);
@@ -114,8 +120,11 @@ fn read_comment_list<'a>(
     requires place { place ≤ length reader.old.places.below.items }
     requires steady { IsSteady reader.old }
     ensures continues { OnOk result (Continues reader.old reader.new) }
-    ensures read { IfOk result (λ t. ReadsAs (λ v. list (data_of (map comment_datum v.items))) (seq_tree (comment_tree left)) place reader.old budget.old t reader.new budget.new) }
-    ensures refused { IfErr result (λ e. IsRefusalAt (seq_tree (comment_tree left)) place reader.old e.reason) }
+    ensures read { IfOk result
+        (λ t. ReadsAs (λ v. list (data_of (map comment_datum v.items)))
+        (seq_tree (comment_tree left)) place reader.old budget.old t reader.new budget.new) }
+    ensures refused { IfErr result
+        (λ e. IsRefusalAt (seq_tree (comment_tree left)) place reader.old e.reason) }
 {
     let found = enter_list(reader, budget, false, place)?;
     let mut items = Vec::new(alloc);

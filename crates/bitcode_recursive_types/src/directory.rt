@@ -125,8 +125,11 @@ fn read_directory(
     requires place { place ≤ length reader.old.places.below.items }
     requires steady { IsSteady reader.old }
     ensures continues { OnOk result (Continues reader.old reader.new) }
-    ensures read { IfOk result (λ t. ReadsAs directory_datum (directory_tree left) place reader.old budget.old t reader.new budget.new) }
-    ensures refused { IfErr result (λ e. IsRefusalAt (directory_tree left) place reader.old e.reason) }
+    ensures read { IfOk result
+        (λ t. ReadsAs directory_datum (directory_tree left) place reader.old budget.old t reader.new
+        budget.new) }
+    ensures refused { IfErr result
+        (λ e. IsRefusalAt (directory_tree left) place reader.old e.reason) }
 {
     if left == 0 {
         return err(Reason::NestedTooDeep);
@@ -153,7 +156,9 @@ fn read_entry(
     requires place { place ≤ length reader.old.places.below.items }
     requires steady { IsSteady reader.old }
     ensures continues { OnOk result (Continues reader.old reader.new) }
-    ensures read { IfOk result (λ t. ReadsAs entry_datum (entry_tree left) place reader.old budget.old t reader.new budget.new) }
+    ensures read { IfOk result
+        (λ t. ReadsAs entry_datum (entry_tree left) place reader.old budget.old t reader.new
+        budget.new) }
     ensures refused { IfErr result (λ e. IsRefusalAt (entry_tree left) place reader.old e.reason) }
 {
     if left == 0 {
@@ -188,8 +193,11 @@ fn read_entry_list(
     requires place { place ≤ length reader.old.places.below.items }
     requires steady { IsSteady reader.old }
     ensures continues { OnOk result (Continues reader.old reader.new) }
-    ensures read { IfOk result (λ t. ReadsAs (λ v. list (data_of (map entry_datum v.items))) (seq_tree (entry_tree left)) place reader.old budget.old t reader.new budget.new) }
-    ensures refused { IfErr result (λ e. IsRefusalAt (seq_tree (entry_tree left)) place reader.old e.reason) }
+    ensures read { IfOk result
+        (λ t. ReadsAs (λ v. list (data_of (map entry_datum v.items))) (seq_tree (entry_tree left))
+        place reader.old budget.old t reader.new budget.new) }
+    ensures refused { IfErr result
+        (λ e. IsRefusalAt (seq_tree (entry_tree left)) place reader.old e.reason) }
 {
     let found = enter_list(reader, budget, false, place)?;
     let mut items = Vec::new(alloc);

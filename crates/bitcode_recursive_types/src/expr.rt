@@ -76,7 +76,9 @@ fn read_expr(
     requires place { place ≤ length reader.old.places.below.items }
     requires steady { IsSteady reader.old }
     ensures continues { OnOk result (Continues reader.old reader.new) }
-    ensures read { IfOk result (λ t. ReadsAs expr_datum (expr_tree left) place reader.old budget.old t reader.new budget.new) }
+    ensures read { IfOk result
+        (λ t. ReadsAs expr_datum (expr_tree left) place reader.old budget.old t reader.new
+        budget.new) }
     ensures refused { IfErr result (λ e. IsRefusalAt (expr_tree left) place reader.old e.reason) }
 {
     if left == 0 {
@@ -116,8 +118,12 @@ fn read_expr_add(
     requires place { place ≤ length reader.old.places.below.items }
     requires steady { IsSteady reader.old }
     ensures continues { OnOk result (Continues reader.old reader.new) }
-    ensures read { IfOk result (λ t. ReadsAs (λ t. tuple (datum_and (expr_datum t.0.value) (datum_and (expr_datum t.1.value) no_data))) (tuple_tree (expr_add_trees left)) place reader.old budget.old t reader.new budget.new) }
-    ensures refused { IfErr result (λ e. IsRefusalAt (tuple_tree (expr_add_trees left)) place reader.old e.reason) }
+    ensures read { IfOk result
+        (λ t. ReadsAs
+        (λ t. tuple (datum_and (expr_datum t.0.value) (datum_and (expr_datum t.1.value) no_data)))
+        (tuple_tree (expr_add_trees left)) place reader.old budget.old t reader.new budget.new) }
+    ensures refused { IfErr result
+        (λ e. IsRefusalAt (tuple_tree (expr_add_trees left)) place reader.old e.reason) }
 {
     budget.take(1);
     let place0 = reader.field(place, 0, 2, 0)?;
@@ -141,8 +147,13 @@ fn read_expr_call(
     requires place { place ≤ length reader.old.places.below.items }
     requires steady { IsSteady reader.old }
     ensures continues { OnOk result (Continues reader.old reader.new) }
-    ensures read { IfOk result (λ t. ReadsAs (λ t. tuple (datum_and (text (string_bytes t.0)) (datum_and (list (data_of (map expr_datum t.1.items))) no_data))) (tuple_tree (expr_call_trees left)) place reader.old budget.old t reader.new budget.new) }
-    ensures refused { IfErr result (λ e. IsRefusalAt (tuple_tree (expr_call_trees left)) place reader.old e.reason) }
+    ensures read { IfOk result
+        (λ t. ReadsAs
+        (λ t. tuple (datum_and (text (string_bytes t.0))
+        (datum_and (list (data_of (map expr_datum t.1.items))) no_data)))
+        (tuple_tree (expr_call_trees left)) place reader.old budget.old t reader.new budget.new) }
+    ensures refused { IfErr result
+        (λ e. IsRefusalAt (tuple_tree (expr_call_trees left)) place reader.old e.reason) }
 {
     budget.take(1);
     let field0: String = read_field(alloc, reader, budget, left, place, 0, 2)?;
@@ -163,8 +174,11 @@ fn read_expr_list(
     requires place { place ≤ length reader.old.places.below.items }
     requires steady { IsSteady reader.old }
     ensures continues { OnOk result (Continues reader.old reader.new) }
-    ensures read { IfOk result (λ t. ReadsAs (λ v. list (data_of (map expr_datum v.items))) (seq_tree (expr_tree left)) place reader.old budget.old t reader.new budget.new) }
-    ensures refused { IfErr result (λ e. IsRefusalAt (seq_tree (expr_tree left)) place reader.old e.reason) }
+    ensures read { IfOk result
+        (λ t. ReadsAs (λ v. list (data_of (map expr_datum v.items))) (seq_tree (expr_tree left))
+        place reader.old budget.old t reader.new budget.new) }
+    ensures refused { IfErr result
+        (λ e. IsRefusalAt (seq_tree (expr_tree left)) place reader.old e.reason) }
 {
     let found = enter_list(reader, budget, false, place)?;
     let mut items = Vec::new(alloc);

@@ -80,7 +80,9 @@ fn read_node(
     requires place { place ≤ length reader.old.places.below.items }
     requires steady { IsSteady reader.old }
     ensures continues { OnOk result (Continues reader.old reader.new) }
-    ensures read { IfOk result (λ t. ReadsAs node_datum (node_tree left) place reader.old budget.old t reader.new budget.new) }
+    ensures read { IfOk result
+        (λ t. ReadsAs node_datum (node_tree left) place reader.old budget.old t reader.new
+        budget.new) }
     ensures refused { IfErr result (λ e. IsRefusalAt (node_tree left) place reader.old e.reason) }
 {
     if left == 0 {
@@ -112,8 +114,11 @@ fn read_node_list(
     requires place { place ≤ length reader.old.places.below.items }
     requires steady { IsSteady reader.old }
     ensures continues { OnOk result (Continues reader.old reader.new) }
-    ensures read { IfOk result (λ t. ReadsAs (λ v. list (data_of (map node_datum v.items))) (seq_tree (node_tree left)) place reader.old budget.old t reader.new budget.new) }
-    ensures refused { IfErr result (λ e. IsRefusalAt (seq_tree (node_tree left)) place reader.old e.reason) }
+    ensures read { IfOk result
+        (λ t. ReadsAs (λ v. list (data_of (map node_datum v.items))) (seq_tree (node_tree left))
+        place reader.old budget.old t reader.new budget.new) }
+    ensures refused { IfErr result
+        (λ e. IsRefusalAt (seq_tree (node_tree left)) place reader.old e.reason) }
 {
     let found = enter_list(reader, budget, false, place)?;
     let mut items = Vec::new(alloc);

@@ -12,10 +12,10 @@ use Rattle.bitcode_serde.proofs.ValueLemmas.{continues_on, seq_refused}
 use Rattle.bitcode_serde_types.proofs.FieldsRead.{no_fields_kept, place_there, field_kept, field_not_kept, field_kept_at, field_not_kept_at, tuple_kept}
 use Rattle.bitcode_serde_types.proofs.KeptLemmas.{elements_more, element_refused, elements_there, list_kept, unit_kept, choice_kept, payload_refused}
 use Rattle.bitcode_recursive_types.specs.DirectoryTree.{directory_tree, directory_trees, directory_step, directory_datum, entry_tree, entry_trees, entry_step, entry_datum}
-use Rattle.bitcode_recursive_types.specs.declared.directory.Directory.TheFolds.{fold-roll-Directory}
+use Rattle.bitcode_recursive_types.specs.declared.directory.Entry.TheFolds.{fold-roll-Directory}
 use Rattle.bitcode_recursive_types.specs.declared.directory.Entry.TheFolds.{fold-roll-Entry}
 use Rattle.bitcode_recursive_types.specs.declared.directory.Entry.TheVariants as entry'
-use Rattle.bitcode_recursive_types.specs.declared.directory.Directory.TheOpen.{Entry-F}
+use Rattle.bitcode_recursive_types.specs.declared.directory.Entry.TheOpen.{Entry-F}
 use Rattle.bitcode_recursive_types.proofs.DirectoryLemmas.{directory_more, entry_more, entry_columns}
 use Rattle.bitcode_recursive_types.proofs.directory.+directory.Goals as goal
 
@@ -79,7 +79,7 @@ read_directory-returns-clause-read t c =
     c.in_ok-place1.ensures.found c.in_ok-place1.ensures.stands (λ v. list (data_of (map entry_datum v.items))) c.in_ok-field1.field1 _ _
     c.in_ok-field1.ensures.continues c.in_ok-field1.ensures.read in
     rw (directory_more c.args.left h)
-    (tuple_kept ss c.args.place c.args.reader.now c.take.new.self done2 directory_datum _ c.args.budget.now (fold-roll-Directory Datum Datum directory_step entry_step (record { name = c.in_ok-field0.field0; entries = c.in_ok-field1.field1 })) c.take.ensures)
+    (tuple_kept ss c.args.place c.args.reader.now c.take.new.self done2 directory_datum _ c.args.budget.now (fold-roll-Directory Datum Datum entry_step directory_step (record { name = c.in_ok-field0.field0; entries = c.in_ok-field1.field1 })) c.take.ensures)
 
 pub read_entry-returns-then-left-eq0-clause-refused : goal.read_entry-returns-then-left-eq0-clause-refused
 read_entry-returns-then-left-eq0-clause-refused t c =
@@ -121,7 +121,7 @@ read_entry-returns-in_ok-held-in-0-clause-read t c =
     let this : found.index ≡ 0 = omega (arith, known) in
     rw (entry_more c.args.left h)
     (choice_kept natural entry_datum ss found.index 0 (natural_tree 8) c.args.reader.now c.enter_variant.new.reader c.args.place found.place c.in_ok-found.ensures.enters this refl _
-    c.args.budget.now c.enter_variant.new.budget _ c.in_ok-held-in-0.held _ (ap entry_datum (sym (entry'.rolls-File c.in_ok-held-in-0.held)) ∙ fold-roll-Entry Datum Datum directory_step entry_step (Entry-F.File c.in_ok-held-in-0.held)) c.enter_variant.ensures.taken c.in_ok-held-in-0.ensures.read)
+    c.args.budget.now c.enter_variant.new.budget _ c.in_ok-held-in-0.held _ (ap entry_datum (sym (entry'.rolls-File c.in_ok-held-in-0.held)) ∙ fold-roll-Entry Datum Datum entry_step directory_step (Entry-F.File c.in_ok-held-in-0.held)) c.enter_variant.ensures.taken c.in_ok-held-in-0.ensures.read)
 
 pub read_entry-returns-in_err-held-in-1-clause-refused : goal.read_entry-returns-in_err-held-in-1-clause-refused
 read_entry-returns-in_err-held-in-1-clause-refused t c =
@@ -149,7 +149,7 @@ read_entry-returns-in_ok-held-in-1-clause-read t c =
     let this : found.index ≡ 1 = omega (arith, known) in
     rw (entry_more c.args.left h)
     (choice_kept directory_datum entry_datum ss found.index 1 (directory_tree (c.args.left - 1)) c.args.reader.now c.enter_variant.new.reader c.args.place found.place c.in_ok-found.ensures.enters this refl _
-    c.args.budget.now c.enter_variant.new.budget _ c.in_ok-held-in-1.held _ (ap entry_datum (sym (entry'.rolls-Folder c.in_ok-held-in-1.held)) ∙ fold-roll-Entry Datum Datum directory_step entry_step (Entry-F.Folder c.in_ok-held-in-1.held)) c.enter_variant.ensures.taken c.in_ok-held-in-1.ensures.read)
+    c.args.budget.now c.enter_variant.new.budget _ c.in_ok-held-in-1.held _ (ap entry_datum (sym (entry'.rolls-Folder c.in_ok-held-in-1.held)) ∙ fold-roll-Entry Datum Datum entry_step directory_step (Entry-F.Folder c.in_ok-held-in-1.held)) c.enter_variant.ensures.taken c.in_ok-held-in-1.ensures.read)
 
 pub read_entry-returns-in_default-clause-read : goal.read_entry-returns-in_default-clause-read
 read_entry-returns-in_default-clause-read t c =
@@ -161,7 +161,7 @@ read_entry-returns-in_default-clause-read t c =
     let mid = c.enter_variant.new.reader in
     rw (entry_more c.args.left h)
     (choice_kept (λ d. d) entry_datum ss found.index 2 unit_tree c.args.reader.now c.enter_variant.new.reader c.args.place found.place c.in_ok-found.ensures.enters this refl mid
-    c.args.budget.now c.enter_variant.new.budget _ unit _ (ap entry_datum (sym entry'.rolls-Nothing) ∙ fold-roll-Entry Datum Datum directory_step entry_step Entry-F.Nothing) c.enter_variant.ensures.taken
+    c.args.budget.now c.enter_variant.new.budget _ unit _ (ap entry_datum (sym entry'.rolls-Nothing) ∙ fold-roll-Entry Datum Datum entry_step directory_step Entry-F.Nothing) c.enter_variant.ensures.taken
     (unit_kept (λ d. d) found.place mid c.enter_variant.new.budget _ unit refl c.take.ensures))
 
 pub read_entry_list-read_entry-requires : goal.read_entry_list-read_entry-requires
