@@ -21,21 +21,21 @@ WORDS = {
     "CHANGES.md": 1500,
     "CONTRIBUTING.md": 1200,
     "SECURITY.md": 350,
-    "docs/ARCHITECTURE.md": 1700,
+    "docs/ARCHITECTURE.md": 1720,
     "docs/CODERS.md": 2500,
-    "docs/DECISIONS.md": 2950,
+    "docs/DECISIONS.md": 3050,
     "docs/DIFFERENCES.md": 1500,
     "docs/EXAMPLES.md": 1200,
     "docs/FORMAT.md": 3500,
-    "docs/GUIDE.md": 2880,
-    "docs/PROMISES.md": 3950,
+    "docs/GUIDE.md": 3080,
+    "docs/PROMISES.md": 4060,
     "docs/PROVING.md": 1050,
     "docs/SEALED.md": 1050,
     "docs/SPEED.md": 740,
     "docs/TESTING.md": 1150,
     "docs/TOOLCHAIN.md": 1650,
 }
-WORDS_IN_ALL = 26350
+WORDS_IN_ALL = 26950
 COLUMNS = 120
 HISTORY = "docs/HISTORY.md"
 COUNTED = "docs/TESTING.md"
