@@ -45,8 +45,13 @@ def is_text(type_):
     return type_.kind == "reference" and type_.parts[0].kind == "path" and type_.parts[0].name == "str"
 
 
+def inner_of(type_, name):
+    """Whether it is this type of another one."""
+    return type_.kind == "path" and type_.name == name and len(type_.parts) == 1
+
+
 class Part:
-    """A field's type: a type of the group, a box or a list of one, or any other type."""
+    """A field's type: a type of the group, a box or a list of one, a box of one in an option, or any other type."""
 
     def __init__(self, type_, group):
         self.type, self.rust, self.kind, self.of = type_, rust(type_), "other", None
@@ -55,6 +60,8 @@ class Part:
             self.kind, self.of = "itself", group.named[type_.name]
         elif inner and inner.kind == "path" and inner.name in group.named:
             self.kind, self.of = {"Box": "box", "Vec": "list"}[type_.name], group.named[inner.name]
+        elif inner_of(type_, "Option") and inner_of(type_.parts[0], "Box") and type_.parts[0].parts[0].name in group.named and len(group.named) == 1:
+            self.kind, self.of = "option", group.named[type_.parts[0].parts[0].name]
         elif group.mentions(type_):
             raise Refused(type_.line, f"`{self.rust}` is not supported in a recursive type: write a struct for what it holds, or a "
                           "`Box` or a `Vec` of the type itself")
@@ -64,29 +71,34 @@ class Part:
         if self.kind == "other":
             return tree_of(self.type, left)
         tree = f"({self.of.word}_tree {left})"
-        return f"(seq_tree {tree})" if self.kind == "list" else tree
+        return {"list": f"(seq_tree {tree})", "option": f"(option_tree {tree})"}.get(self.kind, tree)
 
     def datum(self):
         """Its content, as a function of the value."""
         if self.kind == "other":
             return datum_of(self.type)
         datum = f"{self.of.word}_datum"
-        return {"itself": datum, "box": f"(λ b. {datum} b.value)", "list": f"(λ v. list (data_of (map {datum} v.items)))"}[self.kind]
+        return {"itself": datum, "box": f"(λ b. {datum} b.value)", "list": f"(λ v. list (data_of (map {datum} v.items)))",
+                "option": f"(option_datum (λ b. {datum} b.value))"}[self.kind]
 
     def in_step(self, value):
         """Its content where the content of each value of the group stands in its place."""
         if self.kind == "other":
             return applied(datum_of(self.type), value)
-        return {"itself": value, "box": f"{value}.value", "list": f"(list (data_of {value}.items))"}[self.kind]
+        return {"itself": value, "box": f"{value}.value", "list": f"(list (data_of {value}.items))",
+                "option": f"(option_datum (λ b. b.value) {value})"}[self.kind]
 
     def sound(self, left):
-        return sound_of(self.type, left) if self.kind == "other" else f"({self.of.word}_sound {left})"
+        if self.kind == "other":
+            return sound_of(self.type, left)
+        sound = f"({self.of.word}_sound {left})"
+        return f"(tt, ({sound}, tt))" if self.kind == "option" else sound
 
     def has_columns(self, n):
         """The proof that it has columns, where that needs no more than its form; or of a type of the group."""
         if self.kind == "other":
             return "refl" if has_columns(self.type) else None
-        return "refl" if self.kind == "list" else f"{self.of.word}_columns ({n})"
+        return "refl" if self.kind in ("list", "option") else f"{self.of.word}_columns ({n})"
 
 
 def applied(function, value):
@@ -181,8 +193,13 @@ class Shaped:
     def fill(self, group):
         if self.is_struct:
             self.parts = [Part(field.type, group) for field in self.item.fields]
+            self.options = [field.name for field, part in zip(self.item.fields, self.parts) if part.kind == "option"]
             return
         self.variants = [(variant, [Part(field.type, group) for field in variant.fields]) for variant in self.item.variants]
+        self.options = []
+        for field in fields_of(self.item):
+            if Part(field.type, group).kind == "option":
+                raise Refused(field.line, "an option of the type itself is supported in a struct only: add a variant without it")
         if len(self.variants) > 256:
             raise Refused(self.item.line, "an enum has at most 256 variants")
 
@@ -213,13 +230,14 @@ class Group:
         self.named = {shaped.name: shaped for shaped in self.types}
         self.lifetime = next((item.lifetime for item in items if item.lifetime), None)
         self.module = module_of(items[0].name)
-        self.specs = f"{items[0].name}Tree"
+        self.specs = f"{items[0].name}Shape"
         self.lemmas = f"{items[0].name}Lemmas"
         for shaped in self.types:
             shaped.fill(self)
         # in the toolchain's order, in which the first has the modules of the group
         self.ordered = self.types[::-1]
         self.lists = [shaped for shaped in self.types if any(part.kind == "list" and part.of is shaped for part in self.all_parts())]
+        self.options = [shaped for shaped in self.types if shaped.options]
         self.payloads = [(shaped, variant, parts) for shaped in self.types if not shaped.is_struct
                          for variant, parts in shaped.variants if len(parts) > 1]
 

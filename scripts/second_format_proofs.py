@@ -1,16 +1,21 @@
 """The proofs of a group of recursive types in the second format."""
 
-from second_format import SIGNED, payload_tree
-from second_format_text import list_datum, payload_datum, used, variant_name
+from second_format import SIGNED, applied, data_of, payload_tree
+from second_format_text import list_datum, option_datum, payload_datum, used, variant_name
 
 OF_LEMMAS = [
-    ("std.proofs.Common", "◌≡◌ ℕ zero suc ◌-◌ ◌<◌ false true refl arith sub-one"),
+    ("std.proofs.Common", "◌≡◌ ℕ zero suc ◌-◌ ◌<◌ false true Option Some None Box Global map refl ap ◌∙◌ arith sub-one string_bytes"),
+    ("std.specs.Float", "binary32 binary64"),
+    ("bitcode_shapes.specs.Datum", "Datum unit number text list tuple choice datum_and no_data data_of"),
+    ("bitcode_shapes.specs.Floats", "float_number"),
+    ("bitcode_coder.specs.Spelling", "natural truth"),
+    ("bitcode_serde_types.specs.Options", "option_datum"),
     ("bitcode_untyped.specs.Bounds", "column_free"),
     ("bitcode_untyped.specs.ShapeTree", "tuple_tree choice_tree"),
     ("bitcode_serde_types.proofs.EnteringLemmas", "columns_first columns_behind"),
 ]
 OF_ANSWERS = [
-    ("std.proofs.Common", "rules arith ◌≡◌ ◌<◌ ◌-◌ map refl ap sym subst ◌∙◌ string_bytes"),
+    ("std.proofs.Common", "rules arith ◌≡◌ ◌<◌ ◌-◌ Some None map refl ap sym subst ◌∙◌ string_bytes"),
     ("std.proofs.lemmas.Result", "err_from_is_err_and"),
     ("std.specs.Float", "binary32 binary64"),
     ("bitcode_memory.specs.declared.error.Reason.TheVariants", "NestedTooDeep"),
@@ -36,14 +41,16 @@ def own_imports(group, text, with_lemmas=True):
     found = used([(f"{group.crate}.specs.{group.specs}", own)], text)
     place = f"{group.crate}.specs.declared.{group.module}"
     for shaped in group.types:
-        found += used([(f"{place}.{group.ordered[0].name}.TheFolds", f"fold-roll-{shaped.name} fold_out-{shaped.name}")], text)
+        found += used([(f"{place}.{group.ordered[0].name}.TheFolds", f"fold-roll-{shaped.name} fold_out-{shaped.name} map-{shaped.name}")], text)
+        found += used([(f"{place}.{group.ordered[0].name}.TheViews", f"out-roll-{shaped.name}")], text)
+        found += used([(f"{place}.{shaped.name}", f"{shaped.name} out-{shaped.name}")], text)
         if f"{shaped.word}'." in text:
             found += f"use Rattle.{place}.{shaped.name}.TheVariants as {shaped.word}'\n"
     first = group.ordered[0].name
     opened = " ".join(f"{shaped.name}-F" for shaped in group.types if not shaped.is_struct)
     found += used([(f"{place}.{first}.TheOpen", opened)], text) if opened else ""
     if with_lemmas:
-        found += used([(f"{group.crate}.proofs.{group.lemmas}", " ".join(f"{shaped.word}_more {shaped.word}_columns" for shaped in group.types))], text)
+        found += used([(f"{group.crate}.proofs.{group.lemmas}", " ".join(f"{shaped.word}_more {shaped.word}_columns {shaped.word}_content" for shaped in group.types))], text)
     return found
 
 
@@ -78,7 +85,36 @@ pub {w}_more : (n : ℕ) → 0 < n → {w}_tree n ≡ {shaped.tree_word()} ({w}_
 {inside}{w}_columns zero = refl
 {inside}{w}_columns (suc n) = {proof}
 """
+    for shaped in group.options:
+        text += content_lemma(group, shaped)
     return "-- The shapes of a group of types, level by level. Written by `scripts/second_format`.\n" + used(OF_LEMMAS, text) + own_imports(group, text, False) + text
+
+
+def content_lemma(group, shaped):
+    """The content of a struct with options, by these."""
+    w, name = shaped.word, shaped.name
+    count = len(shaped.options)
+    takes = " ".join(f"(o{n} : Option (Box {name} Global))" for n in range(count))
+    given = " → ".join(f"(out-{name} t).{option} ≡ o{n}" for n, option in enumerate(shaped.options))
+    data = data_of([f"(option_datum (λ b. {w}_datum b.value) o{shaped.options.index(field.name)})" if part.kind == "option" else applied(part.datum(), f"(out-{name} t).{field.name}")
+                    for field, part in zip(shaped.item.fields, shaped.parts)])
+    turns = ""
+    for n, option in enumerate(shaped.options):
+        fields = []
+        for field in shaped.item.fields:
+            place = shaped.options.index(field.name) if field.name in shaped.options else None
+            value = f"(out-{name} t).{field.name}" if place is None or place > n else "z" if place == n else f"o{place}"
+            fields.append(f"{field.name} = {value}")
+        turns += f" ∙ ap (λ z. {w}_step (map-{name} {name} Datum {w}_datum (record {{ {'; '.join(fields)} }}))) e{n}"
+    es = " ".join(f"e{n}" for n in range(count))
+    clauses = ""
+    for case in range(2 ** count):
+        chosen = {f"o{n}": "None" if case >> n & 1 == 0 else f"(Some b{n})" for n in range(count)}
+        term = turns
+        for variable, pattern in chosen.items():
+            term = term.replace(f" {variable};", f" {pattern};").replace(f" {variable} }}", f" {pattern} }}")
+        clauses += f"{w}_content t {' '.join(chosen.values())} {es} = fold_out-{name} {group.fold(shaped)} t{term}\n"
+    return f"\npub {w}_content : (t : {name}) {takes} → {given}\n    → {w}_datum t ≡ tuple {data}\n{clauses}"
 
 
 def with_head(group, about, goals, text):
@@ -97,6 +133,14 @@ def variant_equation(group, shaped, variant, taken):
             f"ap {w}_datum (sym {w}'.rolls-{variant.name}) ∙ fold-roll-{shaped.name} {group.fold(shaped)} {shaped.name}-F.{variant.name}")
 
 
+def of_struct(group, shaped):
+    """The content of the struct that is written."""
+    if not shaped.options:
+        return f"fold_out-{shaped.name} {group.fold(shaped)} c.args.self.now"
+    now = f"(out-{shaped.name} c.args.self.now)"
+    return f"{shaped.word}_content c.args.self.now {' '.join(f'{now}.{option}' for option in shaped.options)} {' '.join('refl' for _ in shaped.options)}"
+
+
 def writing(group, shaped, prefix=""):
     w = shaped.word
     text = f"""
@@ -110,7 +154,7 @@ pub {prefix}returns-then-left-eq0 : goal.{prefix}returns-then-left-eq0
 pub {prefix}returns : goal.{prefix}returns
 {prefix}returns t c =
     let h : 0 < c.args.left = omega arith in
-    rw ({w}_more c.args.left h, fold_out-{shaped.name} {group.fold(shaped)} c.args.self.now) c.write_tuple.ensures
+    rw ({w}_more c.args.left h, {of_struct(group, shaped)}) c.write_tuple.ensures
 """
     for index, (variant, parts) in enumerate(shaped.variants):
         names = [field.name for field in variant.fields] if variant.kind == "named" else [f"x{n}" for n in range(len(parts))]
@@ -139,7 +183,7 @@ def lets(trees, parts, k):
         if part.kind == "other":
             text += f"    let done{n + 1} = field_kept {PRE} done{n} {part.datum()} c.in_ok-field{n}.field{n} _ _ c.in_ok-field{n}.ensures.continues\n    c.in_ok-field{n}.ensures.read in\n"
         else:
-            datum = f"{part.of.word}_datum" if part.kind != "list" else list_datum(part.of)
+            datum = {"list": list_datum(part.of), "option": option_datum(part.of)}.get(part.kind, f"{part.of.word}_datum")
             text += f"    let done{n + 1} = field_kept_at {PRE} done{n} _ c.in_ok-place{n}.place{n} c.in_ok-place{n}.ensures.continues\n    c.in_ok-place{n}.ensures.found c.in_ok-place{n}.ensures.stands {datum} c.in_ok-{value}.{value} _ _\n    c.in_ok-{value}.ensures.continues c.in_ok-{value}.ensures.read in\n"
     return text
 
@@ -225,11 +269,66 @@ pub {goal} : goal.{goal}
 """
 
 
+def raise_on_boxes(shaped):
+    """A struct with options of itself has no boxes of itself, since it would not end."""
+    assert all(part.kind != "box" for part in shaped.parts)
+
+
+def option_answers(group, shaped):
+    w, fn = shaped.word, f"read_{shaped.word}_option"
+    lead = f"""    let s = {w}_tree c.args.left in
+    let ss = tree_and unit_tree (tree_and s no_trees) in
+    let found = c.in_ok-found.found in
+"""
+    known = """    let known = c.in_ok-found.ensures.known in
+    let this : found.index ≡ 1 = omega (arith, known) in
+"""
+    return f"""
+pub {fn}-returns-in_err-found-clause-refused : goal.{fn}-returns-in_err-found-clause-refused
+{fn}-returns-in_err-found-clause-refused t c =
+    let ss = tree_and unit_tree (tree_and ({w}_tree c.args.left) no_trees) in
+    let y = err_from_is_err_and c.from_residual.result c.from_residual.ensures.1 in
+    passed_on (λ e. IsRefusalAt (choice_tree ss) c.args.place c.args.reader.now e.reason) c.from_residual.result c.in_err-found.field-0.0 y.0 y.1 y.2
+    (c.in_err-found.ensures.refused ss refl)
+
+pub {fn}-returns-then-found-eq0-clause-read : goal.{fn}-returns-then-found-eq0-clause-read
+{fn}-returns-then-found-eq0-clause-read t c =
+{lead}    let this : found.index ≡ 0 = omega arith in
+    let mid = c.enter_variant.new.reader in
+    choice_kept (λ d. d) {option_datum(shaped)} ss found.index 0 unit_tree {ENUM} c.in_ok-found.ensures.enters this refl mid
+    c.args.budget.now c.enter_variant.new.budget c.take.new.self unit None refl c.enter_variant.ensures.taken
+    (unit_kept (λ d. d) found.place mid c.enter_variant.new.budget c.take.new.self unit refl c.take.ensures)
+
+pub {fn}-returns-in_err-value-clause-refused : goal.{fn}-returns-in_err-value-clause-refused
+{fn}-returns-in_err-value-clause-refused t c =
+{lead}{known}    let y = err_from_is_err_and c.from_residual-in_err-value.result c.from_residual-in_err-value.ensures.1 in
+    passed_on (λ e. IsRefusalAt (choice_tree ss) c.args.place c.args.reader.now e.reason) c.from_residual-in_err-value.result
+    c.in_err-value.field-0.0 y.0 y.1 y.2
+    (payload_refused ss found.index 1 s {ENUM} _ c.in_ok-found.ensures.enters this refl
+    c.in_err-value.ensures.refused)
+
+pub {fn}-returns-clause-continues : goal.{fn}-returns-clause-continues
+{fn}-returns-clause-continues t c =
+    continues_on c.args.reader.now c.enter_variant.new.reader _ c.in_ok-found.ensures.continues c.in_ok-value.ensures.continues
+
+pub {fn}-returns-clause-read : goal.{fn}-returns-clause-read
+{fn}-returns-clause-read t c =
+{lead}{known}    choice_kept {w}_datum {option_datum(shaped)} ss found.index 1 s {ENUM} c.in_ok-found.ensures.enters this refl _
+    c.args.budget.now c.enter_variant.new.budget _ c.in_ok-value.value (Some c.in_ok-held.held) (rw c.in_ok-held.ensures.ok refl)
+    c.enter_variant.ensures.taken c.in_ok-value.ensures.read
+"""
+
+
 def struct_answers(group, shaped):
     w, fn = shaped.word, f"read_{shaped.word}"
     fields = "; ".join(f"{field.name} = c.in_ok-field{n}.field{n}" for n, field in enumerate(shaped.item.fields))
     value = f"(record {{ {fields} }})"
     equation = f"fold-roll-{shaped.name} {group.fold(shaped)} {value}"
+    if shaped.options:
+        read = [f"c.in_ok-field{n}.field{n}" for n, field in enumerate(shaped.item.fields) if field.name in shaped.options]
+        views = [f"(ap (λ r. r.{option}) (out-roll-{shaped.name} {value}))" for option in shaped.options]
+        equation = f"{w}_content _ {' '.join(read)} {' '.join(views)}"
+        raise_on_boxes(shaped)
     if any(part.kind == "box" for part in shaped.parts):
         equation += f" ∙ {boxes(shaped.parts)}"
     return deep_answer(fn, f"{w}_tree") + fields_answers(fn, f"{w}_trees (c.args.left - 1)", shaped.parts, f"{w}_more", f"{w}_datum", "_", equation)
@@ -382,6 +481,8 @@ def reading(group):
     for shaped, variant, parts in group.payloads:
         name = variant_name(shaped, variant)
         text += fields_answers(f"read_{name}", f"{name}_trees c.args.left", parts, None, payload_datum(parts), "_", boxes(parts))
+    for shaped in group.options:
+        text += option_answers(group, shaped)
     for shaped in group.lists:
         text += list_answers(shaped)
     return text
@@ -394,6 +495,9 @@ def invariants(group):
     for shaped, variant, _ in group.payloads:
         name = variant_name(shaped, variant)
         text += f"\nabbrev pub decreases-read_{name} : goal.decreases-read_{name}\ndecreases-read_{name} l = 3 * l.left + 2\n"
+    for shaped in group.options:
+        fn = f"read_{shaped.word}_option"
+        text += f"\nabbrev pub decreases-{fn} : goal.decreases-{fn}\ndecreases-{fn} l = 3 * l.left + 1\n"
     for shaped in group.lists:
         fn = f"read_{shaped.word}_list"
         text += f"\nabbrev pub decreases-{fn} : goal.decreases-{fn}\ndecreases-{fn} l = 3 * l.left + 1\n"
@@ -402,7 +506,7 @@ abbrev pub invariant-{fn}-loop-i : goal.invariant-{fn}-loop-i
 invariant-{fn}-loop-i l =
     ElementsKept {shaped.word}_datum ({shaped.word}_tree l.left) l.found.place l.initial.reader l.initial.budget l._i l.items.items l.reader l.budget
 """
-    plus = "use Rattle.std.proofs.Common.{◌*◌" + (", ◌+◌" if group.payloads or group.lists else "") + "}\n"
+    plus = "use Rattle.std.proofs.Common.{◌*◌" + (", ◌+◌" if group.payloads or group.lists or group.options else "") + "}\n"
     return "-- Written by `scripts/second_format`.\n" + plus + used(OF_ANSWERS, text) + own_imports(group, text) + f"use Rattle.{group.crate}.proofs.{group.module}.+{group.module}.Given as goal\n" + text
 
 

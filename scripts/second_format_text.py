@@ -118,7 +118,7 @@ OF_CODE = [
     ("bitcode_shapes.specs.Floats", "float_number"),
     ("bitcode_coder.specs.Spelling", "natural truth"),
     ("bitcode_untyped.specs.Bounds", "column_free"),
-    ("bitcode_untyped.specs.ShapeTree", "seq_tree tuple_tree"),
+    ("bitcode_untyped.specs.ShapeTree", "seq_tree option_tree tuple_tree"),
     ("bitcode_serde.specs.ReadingValues", "IsSteady Continues IsRefusalAt"),
     ("bitcode_serde_types.specs.Options", "option_datum"),
     ("bitcode_serde_types.specs.ReadingAs", "ReadsAs"),
@@ -178,7 +178,7 @@ def fields_read(parts, left):
 
 def held_read(part, left, place, name, value, indent):
     """Reads a value of the group, a box or a list of such, at a place."""
-    function = f"read_{part.of.word}_list" if part.kind == "list" else f"read_{part.of.word}"
+    function = f"read_{part.of.word}" + {"list": "_list", "option": "_option"}.get(part.kind, "")
     call = f"{function}(alloc, reader, budget, {left}, {place})?;\n"
     if part.kind != "box":
         return f"{indent}let {name} = {call}"
@@ -215,6 +215,18 @@ def reading(group):
         body = "    budget.take(1);\n" + fields_read(parts, "left") + f"    Ok(({', '.join(f'field{n}' for n in range(len(parts)))}))\n"
         text += reads(group, f"read_{name}", f"({', '.join(part.rust for part in parts)})", f"(tuple_tree ({name}_trees left))",
                       payload_datum(parts), f"Reads the fields of `{variant.name}`.", body)
+    for shaped in group.options:
+        body = f"""    let found = enter_variant(reader, budget, 2, Reason::InvalidOption, place)?;
+    if found.index == 0 {{
+        budget.take(1);
+        return Ok(None);
+    }}
+    let value = read_{shaped.word}(alloc, reader, budget, left, found.place)?;
+    let held = Box::new(alloc, value)?;
+    Ok(Some(held))
+"""
+        text += reads(group, f"read_{shaped.word}_option", f"Option<Box<{shaped.of}>>", f"(option_tree ({shaped.word}_tree left))",
+                      option_datum(shaped), f"Reads a `{shaped.name}` that may be missing.", body)
     for shaped in group.lists:
         body = f"""    let found = enter_list(reader, budget, false, place)?;
     let mut items = Vec::new(alloc);
@@ -227,6 +239,10 @@ def reading(group):
         text += reads(group, f"read_{shaped.word}_list", f"Vec<{shaped.of}>", f"(seq_tree ({shaped.word}_tree left))",
                       list_datum(shaped), f"Reads a list of `{shaped.name}`.", body)
     return text
+
+
+def option_datum(shaped):
+    return f"(option_datum (λ b. {shaped.word}_datum b.value))"
 
 
 def list_datum(shaped):

@@ -2,7 +2,7 @@
 use Rattle.std.proofs.Common.{◌≡◌, ℕ, zero, suc, ◌-◌, ◌<◌, false, refl, arith, sub-one}
 use Rattle.bitcode_untyped.specs.Bounds.{column_free}
 use Rattle.bitcode_untyped.specs.ShapeTree.{tuple_tree}
-use Rattle.bitcode_recursive_types.specs.CommentTree.{comment_tree, comment_trees}
+use Rattle.bitcode_recursive_types.specs.CommentShape.{comment_tree, comment_trees}
 
 pub comment_more : (n : ℕ) → 0 < n → comment_tree n ≡ tuple_tree (comment_trees (n - 1))
 comment_more zero h = absurd (omega (arith, h))

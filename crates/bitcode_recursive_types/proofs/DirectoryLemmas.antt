@@ -2,7 +2,7 @@
 use Rattle.std.proofs.Common.{◌≡◌, ℕ, zero, suc, ◌-◌, ◌<◌, false, refl, arith, sub-one}
 use Rattle.bitcode_untyped.specs.Bounds.{column_free}
 use Rattle.bitcode_untyped.specs.ShapeTree.{tuple_tree, choice_tree}
-use Rattle.bitcode_recursive_types.specs.DirectoryTree.{directory_tree, directory_trees, entry_tree, entry_trees}
+use Rattle.bitcode_recursive_types.specs.DirectoryShape.{directory_tree, directory_trees, entry_tree, entry_trees}
 
 pub directory_more : (n : ℕ) → 0 < n → directory_tree n ≡ tuple_tree (directory_trees (n - 1))
 directory_more zero h = absurd (omega (arith, h))

@@ -2,7 +2,7 @@
 use Rattle.std.proofs.Common.{◌≡◌, ℕ, zero, suc, ◌-◌, ◌<◌, false, refl, arith, sub-one}
 use Rattle.bitcode_untyped.specs.Bounds.{column_free}
 use Rattle.bitcode_untyped.specs.ShapeTree.{choice_tree}
-use Rattle.bitcode_recursive_types.specs.ExprTree.{expr_tree, expr_trees}
+use Rattle.bitcode_recursive_types.specs.ExprShape.{expr_tree, expr_trees}
 
 pub expr_more : (n : ℕ) → 0 < n → expr_tree n ≡ choice_tree (expr_trees (n - 1))
 expr_more zero h = absurd (omega (arith, h))

@@ -2,3 +2,4 @@ pub mod CommentLemmas
 pub mod DirectoryLemmas
 pub mod ExprLemmas
 pub mod NodeLemmas
+pub mod SearchTreeLemmas

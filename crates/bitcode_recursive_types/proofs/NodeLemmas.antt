@@ -2,7 +2,7 @@
 use Rattle.std.proofs.Common.{◌≡◌, ℕ, zero, suc, ◌-◌, ◌<◌, false, refl, arith, sub-one}
 use Rattle.bitcode_untyped.specs.Bounds.{column_free}
 use Rattle.bitcode_untyped.specs.ShapeTree.{tuple_tree}
-use Rattle.bitcode_recursive_types.specs.NodeTree.{node_tree, node_trees}
+use Rattle.bitcode_recursive_types.specs.NodeShape.{node_tree, node_trees}
 
 pub node_more : (n : ℕ) → 0 < n → node_tree n ≡ tuple_tree (node_trees (n - 1))
 node_more zero h = absurd (omega (arith, h))

@@ -1,4 +1,5 @@
-pub mod CommentTree
-pub mod DirectoryTree
-pub mod ExprTree
-pub mod NodeTree
+pub mod CommentShape
+pub mod DirectoryShape
+pub mod ExprShape
+pub mod NodeShape
+pub mod SearchTreeShape

@@ -5,7 +5,7 @@ ghost use Rattle.bitcode_untyped.specs.Bounds.{column_free};
 ghost use Rattle.bitcode_untyped.specs.ShapeTree.{seq_tree};
 ghost use Rattle.bitcode_serde.specs.ReadingValues.{IsSteady, Continues, IsRefusalAt};
 ghost use Rattle.bitcode_serde_types.specs.ReadingAs.{ReadsAs};
-ghost use Rattle.bitcode_recursive_types.specs.CommentTree.{comment_tree, comment_datum};
+ghost use Rattle.bitcode_recursive_types.specs.CommentShape.{comment_tree, comment_datum};
 
 use bitcode_memory::error::{Error, Reason};
 use bitcode_memory::refuse::err;
@@ -26,7 +26,7 @@ pub struct Comment<'a> {
 }
 
 impl<'a> SerializeAs for Comment<'a> {
-    ghost use Rattle.bitcode_recursive_types.specs.CommentTree.{comment_tree, comment_datum, comment_sound};
+    ghost use Rattle.bitcode_recursive_types.specs.CommentShape.{comment_tree, comment_datum, comment_sound};
 
     ghost tree = { comment_tree };
 
@@ -49,7 +49,7 @@ impl<'a> SerializeAs for Comment<'a> {
 }
 
 impl<'a> DeserializeAs<'a> for Comment<'a> {
-    ghost use Rattle.bitcode_recursive_types.specs.CommentTree.{comment_tree, comment_datum};
+    ghost use Rattle.bitcode_recursive_types.specs.CommentShape.{comment_tree, comment_datum};
 
     fn is_free() -> bool
         ensures { (left : ℕ) → result ≡ column_free (comment_tree left) }

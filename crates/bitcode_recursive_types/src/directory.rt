@@ -4,7 +4,8 @@ ghost use Rattle.bitcode_shapes.specs.Datum.{list, data_of};
 ghost use Rattle.bitcode_untyped.specs.ShapeTree.{seq_tree};
 ghost use Rattle.bitcode_serde.specs.ReadingValues.{IsSteady, Continues, IsRefusalAt};
 ghost use Rattle.bitcode_serde_types.specs.ReadingAs.{ReadsAs};
-ghost use Rattle.bitcode_recursive_types.specs.DirectoryTree.{directory_tree, directory_datum, entry_tree, entry_datum};
+ghost use Rattle.bitcode_recursive_types.specs.DirectoryShape.{directory_tree, directory_datum, entry_tree};
+ghost use Rattle.bitcode_recursive_types.specs.DirectoryShape.{entry_datum};
 
 use bitcode_memory::error::{Error, Reason};
 use bitcode_memory::refuse::err;
@@ -36,7 +37,7 @@ pub enum Entry {
 }
 
 impl SerializeAs for Directory {
-    ghost use Rattle.bitcode_recursive_types.specs.DirectoryTree.{directory_tree, directory_datum, directory_sound};
+    ghost use Rattle.bitcode_recursive_types.specs.DirectoryShape.{directory_tree, directory_datum, directory_sound};
 
     ghost tree = { directory_tree };
 
@@ -76,7 +77,7 @@ impl<'a> DeserializeAs<'a> for Directory {
 }
 
 impl SerializeAs for Entry {
-    ghost use Rattle.bitcode_recursive_types.specs.DirectoryTree.{entry_tree, entry_datum, entry_sound};
+    ghost use Rattle.bitcode_recursive_types.specs.DirectoryShape.{entry_tree, entry_datum, entry_sound};
 
     ghost tree = { entry_tree };
 

@@ -4,7 +4,7 @@ ghost use Rattle.bitcode_shapes.specs.Datum.{text, list, tuple, no_data, datum_a
 ghost use Rattle.bitcode_untyped.specs.ShapeTree.{seq_tree, tuple_tree};
 ghost use Rattle.bitcode_serde.specs.ReadingValues.{IsSteady, Continues, IsRefusalAt};
 ghost use Rattle.bitcode_serde_types.specs.ReadingAs.{ReadsAs};
-ghost use Rattle.bitcode_recursive_types.specs.ExprTree.{expr_tree, expr_datum, expr_add_trees, expr_call_trees};
+ghost use Rattle.bitcode_recursive_types.specs.ExprShape.{expr_tree, expr_datum, expr_add_trees, expr_call_trees};
 
 use bitcode_memory::error::{Error, Reason};
 use bitcode_memory::refuse::err;
@@ -27,7 +27,7 @@ pub enum Expr {
 }
 
 impl SerializeAs for Expr {
-    ghost use Rattle.bitcode_recursive_types.specs.ExprTree.{expr_tree, expr_datum, expr_sound};
+    ghost use Rattle.bitcode_recursive_types.specs.ExprShape.{expr_tree, expr_datum, expr_sound};
 
     ghost tree = { expr_tree };
 

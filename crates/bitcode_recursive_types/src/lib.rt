@@ -5,3 +5,4 @@ pub mod comment;
 pub mod directory;
 pub mod expr;
 pub mod node;
+pub mod search_tree;

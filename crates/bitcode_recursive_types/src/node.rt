@@ -4,7 +4,7 @@ ghost use Rattle.bitcode_shapes.specs.Datum.{list, data_of};
 ghost use Rattle.bitcode_untyped.specs.ShapeTree.{seq_tree};
 ghost use Rattle.bitcode_serde.specs.ReadingValues.{IsSteady, Continues, IsRefusalAt};
 ghost use Rattle.bitcode_serde_types.specs.ReadingAs.{ReadsAs};
-ghost use Rattle.bitcode_recursive_types.specs.NodeTree.{node_tree, node_datum};
+ghost use Rattle.bitcode_recursive_types.specs.NodeShape.{node_tree, node_datum};
 
 use bitcode_memory::error::{Error, Reason};
 use bitcode_memory::refuse::err;
@@ -27,7 +27,7 @@ pub struct Node {
 }
 
 impl SerializeAs for Node {
-    ghost use Rattle.bitcode_recursive_types.specs.NodeTree.{node_tree, node_datum, node_sound};
+    ghost use Rattle.bitcode_recursive_types.specs.NodeShape.{node_tree, node_datum, node_sound};
 
     ghost tree = { node_tree };
 

@@ -10,7 +10,7 @@ use Rattle.bitcode_serde.proofs.ColumnLemmas.{passed_on}
 use Rattle.bitcode_serde.proofs.ValueLemmas.{continues_on, seq_refused}
 use Rattle.bitcode_serde_types.proofs.FieldsRead.{no_fields_kept, place_there, field_kept, field_not_kept, field_kept_at, field_not_kept_at, tuple_kept}
 use Rattle.bitcode_serde_types.proofs.KeptLemmas.{elements_more, element_refused, elements_there, list_kept}
-use Rattle.bitcode_recursive_types.specs.CommentTree.{comment_tree, comment_trees, comment_step, comment_datum}
+use Rattle.bitcode_recursive_types.specs.CommentShape.{comment_tree, comment_trees, comment_step, comment_datum}
 use Rattle.bitcode_recursive_types.specs.declared.comment.Comment.TheFolds.{fold-roll-Comment}
 use Rattle.bitcode_recursive_types.proofs.CommentLemmas.{comment_more, comment_columns}
 use Rattle.bitcode_recursive_types.proofs.comment.+comment.Goals as goal

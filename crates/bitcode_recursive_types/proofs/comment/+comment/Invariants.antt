@@ -1,7 +1,7 @@
 -- Written by `scripts/second_format`.
 use Rattle.std.proofs.Common.{◌*◌, ◌+◌}
 use Rattle.bitcode_serde_types.proofs.KeptLemmas.{ElementsKept}
-use Rattle.bitcode_recursive_types.specs.CommentTree.{comment_tree, comment_datum}
+use Rattle.bitcode_recursive_types.specs.CommentShape.{comment_tree, comment_datum}
 use Rattle.bitcode_recursive_types.proofs.comment.+comment.Given as goal
 
 abbrev pub decreases-read_comment : goal.decreases-read_comment

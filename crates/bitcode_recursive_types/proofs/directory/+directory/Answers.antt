@@ -11,7 +11,7 @@ use Rattle.bitcode_serde.proofs.ColumnLemmas.{passed_on}
 use Rattle.bitcode_serde.proofs.ValueLemmas.{continues_on, seq_refused}
 use Rattle.bitcode_serde_types.proofs.FieldsRead.{no_fields_kept, place_there, field_kept, field_not_kept, field_kept_at, field_not_kept_at, tuple_kept}
 use Rattle.bitcode_serde_types.proofs.KeptLemmas.{elements_more, element_refused, elements_there, list_kept, unit_kept, choice_kept, payload_refused}
-use Rattle.bitcode_recursive_types.specs.DirectoryTree.{directory_tree, directory_trees, directory_step, directory_datum, entry_tree, entry_trees, entry_step, entry_datum}
+use Rattle.bitcode_recursive_types.specs.DirectoryShape.{directory_tree, directory_trees, directory_step, directory_datum, entry_tree, entry_trees, entry_step, entry_datum}
 use Rattle.bitcode_recursive_types.specs.declared.directory.Entry.TheFolds.{fold-roll-Directory}
 use Rattle.bitcode_recursive_types.specs.declared.directory.Entry.TheFolds.{fold-roll-Entry}
 use Rattle.bitcode_recursive_types.specs.declared.directory.Entry.TheVariants as entry'

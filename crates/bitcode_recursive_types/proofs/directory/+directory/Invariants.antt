@@ -1,7 +1,7 @@
 -- Written by `scripts/second_format`.
 use Rattle.std.proofs.Common.{◌*◌, ◌+◌}
 use Rattle.bitcode_serde_types.proofs.KeptLemmas.{ElementsKept}
-use Rattle.bitcode_recursive_types.specs.DirectoryTree.{entry_tree, entry_datum}
+use Rattle.bitcode_recursive_types.specs.DirectoryShape.{entry_tree, entry_datum}
 use Rattle.bitcode_recursive_types.proofs.directory.+directory.Given as goal
 
 abbrev pub decreases-read_directory : goal.decreases-read_directory

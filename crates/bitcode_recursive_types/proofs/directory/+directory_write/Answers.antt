@@ -4,7 +4,7 @@ use Rattle.bitcode_memory.specs.declared.error.Reason.TheVariants.{NestedTooDeep
 use Rattle.bitcode_shapes.specs.Datum.{Datum}
 use Rattle.bitcode_untyped.specs.ShapeTree.{never_tree}
 use Rattle.bitcode_serde.proofs.SerializeLemmas.{one_fault}
-use Rattle.bitcode_recursive_types.specs.DirectoryTree.{directory_step, entry_trees, entry_step, entry_datum}
+use Rattle.bitcode_recursive_types.specs.DirectoryShape.{directory_step, entry_trees, entry_step, entry_datum}
 use Rattle.bitcode_recursive_types.specs.declared.directory.Entry.TheFolds.{fold_out-Directory}
 use Rattle.bitcode_recursive_types.specs.declared.directory.Entry.TheFolds.{fold-roll-Entry}
 use Rattle.bitcode_recursive_types.specs.declared.directory.Entry.TheVariants as entry'

@@ -10,7 +10,7 @@ use Rattle.bitcode_serde.proofs.ColumnLemmas.{passed_on}
 use Rattle.bitcode_serde.proofs.ValueLemmas.{continues_on, seq_refused}
 use Rattle.bitcode_serde_types.proofs.FieldsRead.{no_fields_kept, place_there, field_kept, field_not_kept, field_kept_at, field_not_kept_at, tuple_kept}
 use Rattle.bitcode_serde_types.proofs.KeptLemmas.{elements_more, element_refused, elements_there, list_kept, choice_kept, payload_refused}
-use Rattle.bitcode_recursive_types.specs.ExprTree.{expr_tree, expr_trees, expr_step, expr_datum, expr_add_trees, expr_call_trees}
+use Rattle.bitcode_recursive_types.specs.ExprShape.{expr_tree, expr_trees, expr_step, expr_datum, expr_add_trees, expr_call_trees}
 use Rattle.bitcode_recursive_types.specs.declared.expr.Expr.TheFolds.{fold-roll-Expr}
 use Rattle.bitcode_recursive_types.specs.declared.expr.Expr.TheVariants as expr'
 use Rattle.bitcode_recursive_types.specs.declared.expr.Expr.TheOpen.{Expr-F}

@@ -1,7 +1,7 @@
 -- Written by `scripts/second_format`.
 use Rattle.std.proofs.Common.{◌*◌, ◌+◌}
 use Rattle.bitcode_serde_types.proofs.KeptLemmas.{ElementsKept}
-use Rattle.bitcode_recursive_types.specs.ExprTree.{expr_tree, expr_datum}
+use Rattle.bitcode_recursive_types.specs.ExprShape.{expr_tree, expr_datum}
 use Rattle.bitcode_recursive_types.proofs.expr.+expr.Given as goal
 
 abbrev pub decreases-read_expr : goal.decreases-read_expr

@@ -11,7 +11,7 @@ use Rattle.bitcode_serde.proofs.ColumnLemmas.{passed_on}
 use Rattle.bitcode_serde.proofs.ValueLemmas.{continues_on, seq_refused}
 use Rattle.bitcode_serde_types.proofs.FieldsRead.{no_fields_kept, place_there, field_kept, field_not_kept, field_kept_at, field_not_kept_at, tuple_kept}
 use Rattle.bitcode_serde_types.proofs.KeptLemmas.{elements_more, element_refused, elements_there, list_kept}
-use Rattle.bitcode_recursive_types.specs.NodeTree.{node_tree, node_trees, node_step, node_datum}
+use Rattle.bitcode_recursive_types.specs.NodeShape.{node_tree, node_trees, node_step, node_datum}
 use Rattle.bitcode_recursive_types.specs.declared.node.Node.TheFolds.{fold-roll-Node}
 use Rattle.bitcode_recursive_types.proofs.NodeLemmas.{node_more, node_columns}
 use Rattle.bitcode_recursive_types.proofs.node.+node.Goals as goal

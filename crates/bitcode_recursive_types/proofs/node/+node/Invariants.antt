@@ -1,7 +1,7 @@
 -- Written by `scripts/second_format`.
 use Rattle.std.proofs.Common.{◌*◌, ◌+◌}
 use Rattle.bitcode_serde_types.proofs.KeptLemmas.{ElementsKept}
-use Rattle.bitcode_recursive_types.specs.NodeTree.{node_tree, node_datum}
+use Rattle.bitcode_recursive_types.specs.NodeShape.{node_tree, node_datum}
 use Rattle.bitcode_recursive_types.proofs.node.+node.Given as goal
 
 abbrev pub decreases-read_node : goal.decreases-read_node

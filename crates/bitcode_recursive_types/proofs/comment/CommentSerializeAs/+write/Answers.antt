@@ -4,7 +4,7 @@ use Rattle.bitcode_memory.specs.declared.error.Reason.TheVariants.{NestedTooDeep
 use Rattle.bitcode_shapes.specs.Datum.{Datum}
 use Rattle.bitcode_untyped.specs.ShapeTree.{never_tree}
 use Rattle.bitcode_serde.proofs.SerializeLemmas.{one_fault}
-use Rattle.bitcode_recursive_types.specs.CommentTree.{comment_step}
+use Rattle.bitcode_recursive_types.specs.CommentShape.{comment_step}
 use Rattle.bitcode_recursive_types.specs.declared.comment.Comment.TheFolds.{fold_out-Comment}
 use Rattle.bitcode_recursive_types.proofs.CommentLemmas.{comment_more}
 use Rattle.bitcode_recursive_types.proofs.comment.CommentSerializeAs.+write.Goals as goal

@@ -4,7 +4,7 @@ use Rattle.bitcode_memory.specs.declared.error.Reason.TheVariants.{NestedTooDeep
 use Rattle.bitcode_shapes.specs.Datum.{Datum}
 use Rattle.bitcode_untyped.specs.ShapeTree.{never_tree}
 use Rattle.bitcode_serde.proofs.SerializeLemmas.{one_fault}
-use Rattle.bitcode_recursive_types.specs.ExprTree.{expr_trees, expr_step, expr_datum}
+use Rattle.bitcode_recursive_types.specs.ExprShape.{expr_trees, expr_step, expr_datum}
 use Rattle.bitcode_recursive_types.specs.declared.expr.Expr.TheFolds.{fold-roll-Expr}
 use Rattle.bitcode_recursive_types.specs.declared.expr.Expr.TheVariants as expr'
 use Rattle.bitcode_recursive_types.specs.declared.expr.Expr.TheOpen.{Expr-F}

@@ -4,7 +4,7 @@ use Rattle.bitcode_memory.specs.declared.error.Reason.TheVariants.{NestedTooDeep
 use Rattle.bitcode_shapes.specs.Datum.{Datum}
 use Rattle.bitcode_untyped.specs.ShapeTree.{never_tree}
 use Rattle.bitcode_serde.proofs.SerializeLemmas.{one_fault}
-use Rattle.bitcode_recursive_types.specs.NodeTree.{node_step}
+use Rattle.bitcode_recursive_types.specs.NodeShape.{node_step}
 use Rattle.bitcode_recursive_types.specs.declared.node.Node.TheFolds.{fold_out-Node}
 use Rattle.bitcode_recursive_types.proofs.NodeLemmas.{node_more}
 use Rattle.bitcode_recursive_types.proofs.node.NodeSerializeAs.+write.Goals as goal
