@@ -213,7 +213,7 @@ class Checker:
         if type.name in self.item.types and not type.parts:
             return
         if type.name == self.item.name:
-            raise Refused(type.line, f"`{type.name}` is recursive: use a `Value` (docs/GUIDE.md)")
+            raise Refused(type.line, f"`{type.name}` is recursive: use `scripts/second_format` (docs/GUIDE.md)")
         if type.name in self.own:
             self.own_type(type)
             return

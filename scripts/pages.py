@@ -21,21 +21,21 @@ WORDS = {
     "CHANGES.md": 1500,
     "CONTRIBUTING.md": 1200,
     "SECURITY.md": 350,
-    "docs/ARCHITECTURE.md": 1710,
+    "docs/ARCHITECTURE.md": 1740,
     "docs/CODERS.md": 2500,
-    "docs/DECISIONS.md": 3350,
+    "docs/DECISIONS.md": 3450,
     "docs/DIFFERENCES.md": 1500,
     "docs/EXAMPLES.md": 1200,
     "docs/FORMAT.md": 3500,
-    "docs/GUIDE.md": 3150,
-    "docs/PROMISES.md": 4030,
+    "docs/GUIDE.md": 3300,
+    "docs/PROMISES.md": 4120,
     "docs/PROVING.md": 1050,
     "docs/SEALED.md": 1050,
     "docs/SPEED.md": 740,
     "docs/TESTING.md": 1150,
     "docs/TOOLCHAIN.md": 1650,
 }
-WORDS_IN_ALL = 27500
+WORDS_IN_ALL = 28000
 COLUMNS = 120
 HISTORY = "docs/HISTORY.md"
 COUNTED = "docs/TESTING.md"

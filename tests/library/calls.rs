@@ -5,4 +5,5 @@ mod once;
 mod sealed;
 mod serde;
 mod serde_floats;
+mod serde_types;
 mod strict_calls;

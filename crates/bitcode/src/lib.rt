@@ -141,9 +141,14 @@ pub mod coder {
     pub use bitcode_coder::result::Result;
 }
 
-/// The coders of variant indices in the second format, for up to 256 variants.
+/// The second format: the coders of variant indices, for up to 256 variants, and the calls for Rust types without a
+/// `Value`, recursive types among them.
 pub mod serde {
     pub use bitcode_serde::serde::{VariantDecoder, VariantEncoder};
+    pub use bitcode_serde_types::deserialize_as::{
+        DeserializeAs, deserialize_as, deserialize_as_within,
+    };
+    pub use bitcode_serde_types::serialize_as::{SerializeAs, serialize_as};
 }
 
 /// Sealed bytes: the bytes from `encode` with a header and a checksum, for all data that leaves the program.

@@ -69,7 +69,7 @@ of_shape_put root u (c ∷ cs) h k =
       | inr e ↦ rw e (h.0, of_shape_put root u cs h.1 k)
     ]
 
-of_shape_all : (root : ShapeTree) (w : List Use) (cs : List PlacedColumn) → AreOfShape root cs → AllByRecursion (λ u. HasKindFrom root [] u.place u.kind) w
+pub of_shape_all : (root : ShapeTree) (w : List Use) (cs : List PlacedColumn) → AreOfShape root cs → AllByRecursion (λ u. HasKindFrom root [] u.place u.kind) w
     → AreOfShape root (put_all w cs)
 of_shape_all root [] cs h k = h
 of_shape_all root (u ∷ w) cs h k = of_shape_all root w (put u cs) (of_shape_put root u cs h k.0) k.1

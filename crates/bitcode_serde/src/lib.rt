@@ -2,7 +2,7 @@
 #![tactic(auto)]
 
 pub mod budget;
-mod case;
+pub mod case;
 pub mod column;
 pub mod deserialize;
 mod float_cases;
@@ -15,8 +15,9 @@ pub mod reader;
 pub mod serde;
 pub mod serialize;
 pub mod step;
+pub mod texts;
 pub mod values;
-mod walk;
+pub mod walk;
 mod write_char;
 pub mod write_column;
 pub mod writer;

@@ -90,7 +90,7 @@ fn read_lengths<'a>(
 }
 
 // Takes the next entry, where that takes no memory.
-fn next<T: Shaped, D: Decoder<T>>(column: &mut D) -> T
+pub(crate) fn next<T: Shaped, D: Decoder<T>>(column: &mut D) -> T
     requires some { 0 < length (D.held column.old) }
     requires free { IsTrue D.makes_free }
     ensures { TakesDatum T.data.makes result (D.held column.old) (D.held column.new) }

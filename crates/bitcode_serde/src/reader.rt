@@ -22,6 +22,8 @@ use bitcode_memory::refuse::err;
 use bitcode_untyped::value::Value;
 use std::alloc::Global;
 
+mod texts;
+
 /// An open column, the number of its place, and the number of its remaining entries.
 #[derive(Drop)]
 pub struct OpenColumn<'a> {

@@ -279,9 +279,11 @@ fn write_map(
     Ok(())
 }
 
-// The place of a field: a tuple of one has no place of its own.
+/// The place of a field: a tuple of one has no place of its own.
+///
+/// If an allocation fails, the error is `out of memory`.
 #[inline(always)]
-fn field_below(
+pub fn field_below(
     writer: &mut Writer,
     place: usize,
     index: usize,

@@ -29,6 +29,7 @@ use std::alloc::Global;
 use std::slice::from_ref;
 
 mod state;
+mod texts;
 
 // Writes columns behind `out`. They are scratch afterwards.
 fn collect_columns(columns: &mut [PlacedWritten], out: &mut Vec<u8>) -> Result<(), Error>

@@ -1,0 +1,21 @@
+-- Written by `scripts/second_format`.
+use Rattle.std.proofs.Common.{◌*◌, ◌+◌}
+use Rattle.bitcode_serde_types.proofs.KeptLemmas.{ElementsKept}
+use Rattle.bitcode_recursive_types.specs.ExprShape.{expr_tree, expr_datum}
+use Rattle.bitcode_recursive_types.proofs.expr.+expr.Given as goal
+
+abbrev pub decreases-read_expr : goal.decreases-read_expr
+decreases-read_expr l = 3 * l.left
+
+abbrev pub decreases-read_expr_add : goal.decreases-read_expr_add
+decreases-read_expr_add l = 3 * l.left + 2
+
+abbrev pub decreases-read_expr_call : goal.decreases-read_expr_call
+decreases-read_expr_call l = 3 * l.left + 2
+
+abbrev pub decreases-read_expr_list : goal.decreases-read_expr_list
+decreases-read_expr_list l = 3 * l.left + 1
+
+abbrev pub invariant-read_expr_list-loop-i : goal.invariant-read_expr_list-loop-i
+invariant-read_expr_list-loop-i l =
+    ElementsKept expr_datum (expr_tree l.left) l.found.place l.initial.reader l.initial.budget l._i l.items.items l.reader l.budget

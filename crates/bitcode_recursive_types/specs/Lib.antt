@@ -1,0 +1,5 @@
+pub mod CommentShape
+pub mod DirectoryShape
+pub mod ExprShape
+pub mod NodeShape
+pub mod SearchTreeShape

@@ -1,0 +1,210 @@
+//! `Directory`, `Entry` in the second format. What is below the declarations was written by `scripts/second_format`.
+ghost use Rattle.std.specs.Prelude.{◌≤◌, length, map, IfOk, IfErr, OnOk};
+ghost use Rattle.bitcode_shapes.specs.Datum.{list, data_of};
+ghost use Rattle.bitcode_untyped.specs.ShapeTree.{seq_tree};
+ghost use Rattle.bitcode_serde.specs.ReadingValues.{IsSteady, Continues, IsRefusalAt};
+ghost use Rattle.bitcode_serde_types.specs.ReadingAs.{ReadsAs};
+ghost use Rattle.bitcode_recursive_types.specs.DirectoryShape.{directory_tree, directory_datum, entry_tree};
+ghost use Rattle.bitcode_recursive_types.specs.DirectoryShape.{entry_datum};
+
+use bitcode_memory::error::{Error, Reason};
+use bitcode_memory::refuse::err;
+use bitcode_serde::budget::Budget;
+use bitcode_serde::reader::Reader;
+use bitcode_serde::writer::Writer;
+use bitcode_serde_types::deserialize_as::DeserializeAs;
+use bitcode_serde_types::entering::{enter_list, enter_variant, read_at, read_field};
+use bitcode_serde_types::fields::write_tuple;
+use bitcode_serde_types::serialize_as::SerializeAs;
+use bitcode_serde_types::variants::write_variant;
+use std::alloc::Global;
+
+/// A folder.
+#[cycle(directory_types)]
+#[derive(Drop)]
+pub struct Directory {
+    pub name: String,
+    pub entries: Vec<Entry>,
+}
+
+/// What a folder holds.
+#[cycle(directory_types)]
+#[derive(Drop)]
+pub enum Entry {
+    File(u64),
+    Folder(Directory),
+    Nothing,
+}
+
+impl SerializeAs for Directory {
+    ghost use Rattle.bitcode_recursive_types.specs.DirectoryShape.{directory_tree, directory_datum, directory_sound};
+
+    ghost tree = { directory_tree };
+
+    ghost datum = { directory_datum };
+
+    ghost sound = { directory_sound };
+
+    #[cycle(directory_write)]
+    fn write(&self, writer: &mut Writer, left: usize, place: usize) -> Result<(), Error> {
+        if left == 0 {
+            return err(Reason::NestedTooDeep);
+        }
+        write_tuple(
+            &(&self.name, (&self.entries, ())),
+            2,
+            writer,
+            left - 1,
+            place,
+        )
+    }
+}
+
+impl<'a> DeserializeAs<'a> for Directory {
+    fn is_free() -> bool {
+        false
+    }
+
+    fn read(
+        alloc: Global,
+        reader: &mut Reader<'a>,
+        budget: &mut Budget,
+        left: usize,
+        place: usize,
+    ) -> Result<Directory, Error> {
+        read_directory(alloc, reader, budget, left, place)
+    }
+}
+
+impl SerializeAs for Entry {
+    ghost use Rattle.bitcode_recursive_types.specs.DirectoryShape.{entry_tree, entry_datum, entry_sound};
+
+    ghost tree = { entry_tree };
+
+    ghost datum = { entry_datum };
+
+    ghost sound = { entry_sound };
+
+    #[cycle(directory_write)]
+    fn write(&self, writer: &mut Writer, left: usize, place: usize) -> Result<(), Error> {
+        if left == 0 {
+            return err(Reason::NestedTooDeep);
+        }
+        match self {
+            Entry::File(x0) => { write_variant(x0, 0, writer, left - 1, place) }
+            Entry::Folder(x0) => { write_variant(x0, 1, writer, left - 1, place) }
+            Entry::Nothing => { write_variant(&(), 2, writer, left - 1, place) }
+        }
+    }
+}
+
+impl<'a> DeserializeAs<'a> for Entry {
+    fn is_free() -> bool {
+        false
+    }
+
+    fn read(
+        alloc: Global,
+        reader: &mut Reader<'a>,
+        budget: &mut Budget,
+        left: usize,
+        place: usize,
+    ) -> Result<Entry, Error> {
+        read_entry(alloc, reader, budget, left, place)
+    }
+}
+
+// Reads a value of `Directory`.
+#[cycle(directory)]
+fn read_directory(
+    alloc: Global,
+    reader: &mut Reader<'_>,
+    budget: &mut Budget,
+    left: usize,
+    place: usize,
+) -> Result<Directory, Error>
+    requires place { place ≤ length reader.old.places.below.items }
+    requires steady { IsSteady reader.old }
+    ensures continues { OnOk result (Continues reader.old reader.new) }
+    ensures read { IfOk result
+        (λ t. ReadsAs directory_datum (directory_tree left) place reader.old budget.old t reader.new
+        budget.new) }
+    ensures refused { IfErr result
+        (λ e. IsRefusalAt (directory_tree left) place reader.old e.reason) }
+{
+    if left == 0 {
+        return err(Reason::NestedTooDeep);
+    }
+    budget.take(1);
+    let field0: String = read_field(alloc, reader, budget, left - 1, place, 0, 2)?;
+    let place1 = reader.field(place, 1, 2, 1)?;
+    let field1 = read_entry_list(alloc, reader, budget, left - 1, place1)?;
+    Ok(Directory {
+        name: field0,
+        entries: field1,
+    })
+}
+
+// Reads a value of `Entry`.
+#[cycle(directory)]
+fn read_entry(
+    alloc: Global,
+    reader: &mut Reader<'_>,
+    budget: &mut Budget,
+    left: usize,
+    place: usize,
+) -> Result<Entry, Error>
+    requires place { place ≤ length reader.old.places.below.items }
+    requires steady { IsSteady reader.old }
+    ensures continues { OnOk result (Continues reader.old reader.new) }
+    ensures read { IfOk result
+        (λ t. ReadsAs entry_datum (entry_tree left) place reader.old budget.old t reader.new
+        budget.new) }
+    ensures refused { IfErr result (λ e. IsRefusalAt (entry_tree left) place reader.old e.reason) }
+{
+    if left == 0 {
+        return err(Reason::NestedTooDeep);
+    }
+    let found = enter_variant(reader, budget, 3, Reason::InvalidEnumVariant, place)?;
+    match found.index {
+        0 => {
+            let held: u64 = read_at(alloc, reader, budget, left - 1, found.place)?;
+            Ok(Entry::File(held))
+        }
+        1 => {
+            let held = read_directory(alloc, reader, budget, left - 1, found.place)?;
+            Ok(Entry::Folder(held))
+        }
+        _ => {
+            budget.take(1);
+            Ok(Entry::Nothing)
+        }
+    }
+}
+
+// Reads a list of `Entry`.
+#[cycle(directory)]
+fn read_entry_list(
+    alloc: Global,
+    reader: &mut Reader<'_>,
+    budget: &mut Budget,
+    left: usize,
+    place: usize,
+) -> Result<Vec<Entry>, Error>
+    requires place { place ≤ length reader.old.places.below.items }
+    requires steady { IsSteady reader.old }
+    ensures continues { OnOk result (Continues reader.old reader.new) }
+    ensures read { IfOk result
+        (λ t. ReadsAs (λ v. list (data_of (map entry_datum v.items))) (seq_tree (entry_tree left))
+        place reader.old budget.old t reader.new budget.new) }
+    ensures refused { IfErr result
+        (λ e. IsRefusalAt (seq_tree (entry_tree left)) place reader.old e.reason) }
+{
+    let found = enter_list(reader, budget, false, place)?;
+    let mut items = Vec::new(alloc);
+    for _i in 0..found.count {
+        let item = read_entry(alloc, reader, budget, left, found.place)?;
+        budget.keep(&mut items, item)?;
+    }
+    Ok(items)
+}

@@ -1,0 +1,190 @@
+//! `Expr` in the second format. What is below the declarations was written by `scripts/second_format`.
+ghost use Rattle.std.specs.Prelude.{◌≤◌, length, map, string_bytes, IfOk, IfErr, OnOk};
+ghost use Rattle.bitcode_shapes.specs.Datum.{text, list, tuple, no_data, datum_and, data_of};
+ghost use Rattle.bitcode_untyped.specs.ShapeTree.{seq_tree, tuple_tree};
+ghost use Rattle.bitcode_serde.specs.ReadingValues.{IsSteady, Continues, IsRefusalAt};
+ghost use Rattle.bitcode_serde_types.specs.ReadingAs.{ReadsAs};
+ghost use Rattle.bitcode_recursive_types.specs.ExprShape.{expr_tree, expr_datum, expr_add_trees, expr_call_trees};
+
+use bitcode_memory::error::{Error, Reason};
+use bitcode_memory::refuse::err;
+use bitcode_serde::budget::Budget;
+use bitcode_serde::reader::Reader;
+use bitcode_serde::writer::Writer;
+use bitcode_serde_types::deserialize_as::DeserializeAs;
+use bitcode_serde_types::entering::{enter_list, enter_variant, read_at, read_field};
+use bitcode_serde_types::serialize_as::SerializeAs;
+use bitcode_serde_types::variants::write_variant;
+use std::alloc::Global;
+
+/// An expression.
+#[derive(Drop)]
+pub enum Expr {
+    Num(i64),
+    Neg(Box<Expr>),
+    Add(Box<Expr>, Box<Expr>),
+    Call(String, Vec<Expr>),
+}
+
+impl SerializeAs for Expr {
+    ghost use Rattle.bitcode_recursive_types.specs.ExprShape.{expr_tree, expr_datum, expr_sound};
+
+    ghost tree = { expr_tree };
+
+    ghost datum = { expr_datum };
+
+    ghost sound = { expr_sound };
+
+    fn write(&self, writer: &mut Writer, left: usize, place: usize) -> Result<(), Error> {
+        if left == 0 {
+            return err(Reason::NestedTooDeep);
+        }
+        match self {
+            Expr::Num(x0) => { write_variant(x0, 0, writer, left - 1, place) }
+            Expr::Neg(x0) => { write_variant(x0, 1, writer, left - 1, place) }
+            Expr::Add(x0, x1) => { write_variant(&(x0, x1), 2, writer, left - 1, place) }
+            Expr::Call(x0, x1) => { write_variant(&(x0, x1), 3, writer, left - 1, place) }
+        }
+    }
+}
+
+impl<'a> DeserializeAs<'a> for Expr {
+    fn is_free() -> bool {
+        false
+    }
+
+    fn read(
+        alloc: Global,
+        reader: &mut Reader<'a>,
+        budget: &mut Budget,
+        left: usize,
+        place: usize,
+    ) -> Result<Expr, Error> {
+        read_expr(alloc, reader, budget, left, place)
+    }
+}
+
+// Reads a value of `Expr`.
+#[cycle(expr)]
+fn read_expr(
+    alloc: Global,
+    reader: &mut Reader<'_>,
+    budget: &mut Budget,
+    left: usize,
+    place: usize,
+) -> Result<Expr, Error>
+    requires place { place ≤ length reader.old.places.below.items }
+    requires steady { IsSteady reader.old }
+    ensures continues { OnOk result (Continues reader.old reader.new) }
+    ensures read { IfOk result
+        (λ t. ReadsAs expr_datum (expr_tree left) place reader.old budget.old t reader.new
+        budget.new) }
+    ensures refused { IfErr result (λ e. IsRefusalAt (expr_tree left) place reader.old e.reason) }
+{
+    if left == 0 {
+        return err(Reason::NestedTooDeep);
+    }
+    let found = enter_variant(reader, budget, 4, Reason::InvalidEnumVariant, place)?;
+    match found.index {
+        0 => {
+            let held: i64 = read_at(alloc, reader, budget, left - 1, found.place)?;
+            Ok(Expr::Num(held))
+        }
+        1 => {
+            let value = read_expr(alloc, reader, budget, left - 1, found.place)?;
+            let held = Box::new(alloc, value)?;
+            Ok(Expr::Neg(held))
+        }
+        2 => {
+            let held = read_expr_add(alloc, reader, budget, left - 1, found.place)?;
+            Ok(Expr::Add(held.0, held.1))
+        }
+        _ => {
+            let held = read_expr_call(alloc, reader, budget, left - 1, found.place)?;
+            Ok(Expr::Call(held.0, held.1))
+        }
+    }
+}
+
+// Reads the fields of `Add`.
+#[cycle(expr)]
+fn read_expr_add(
+    alloc: Global,
+    reader: &mut Reader<'_>,
+    budget: &mut Budget,
+    left: usize,
+    place: usize,
+) -> Result<(Box<Expr>, Box<Expr>), Error>
+    requires place { place ≤ length reader.old.places.below.items }
+    requires steady { IsSteady reader.old }
+    ensures continues { OnOk result (Continues reader.old reader.new) }
+    ensures read { IfOk result
+        (λ t. ReadsAs
+        (λ t. tuple (datum_and (expr_datum t.0.value) (datum_and (expr_datum t.1.value) no_data)))
+        (tuple_tree (expr_add_trees left)) place reader.old budget.old t reader.new budget.new) }
+    ensures refused { IfErr result
+        (λ e. IsRefusalAt (tuple_tree (expr_add_trees left)) place reader.old e.reason) }
+{
+    budget.take(1);
+    let place0 = reader.field(place, 0, 2, 0)?;
+    let value0 = read_expr(alloc, reader, budget, left, place0)?;
+    let field0 = Box::new(alloc, value0)?;
+    let place1 = reader.field(place, 1, 2, 1)?;
+    let value1 = read_expr(alloc, reader, budget, left, place1)?;
+    let field1 = Box::new(alloc, value1)?;
+    Ok((field0, field1))
+}
+
+// Reads the fields of `Call`.
+#[cycle(expr)]
+fn read_expr_call(
+    alloc: Global,
+    reader: &mut Reader<'_>,
+    budget: &mut Budget,
+    left: usize,
+    place: usize,
+) -> Result<(String, Vec<Expr>), Error>
+    requires place { place ≤ length reader.old.places.below.items }
+    requires steady { IsSteady reader.old }
+    ensures continues { OnOk result (Continues reader.old reader.new) }
+    ensures read { IfOk result
+        (λ t. ReadsAs
+        (λ t. tuple (datum_and (text (string_bytes t.0))
+        (datum_and (list (data_of (map expr_datum t.1.items))) no_data)))
+        (tuple_tree (expr_call_trees left)) place reader.old budget.old t reader.new budget.new) }
+    ensures refused { IfErr result
+        (λ e. IsRefusalAt (tuple_tree (expr_call_trees left)) place reader.old e.reason) }
+{
+    budget.take(1);
+    let field0: String = read_field(alloc, reader, budget, left, place, 0, 2)?;
+    let place1 = reader.field(place, 1, 2, 1)?;
+    let field1 = read_expr_list(alloc, reader, budget, left, place1)?;
+    Ok((field0, field1))
+}
+
+// Reads a list of `Expr`.
+#[cycle(expr)]
+fn read_expr_list(
+    alloc: Global,
+    reader: &mut Reader<'_>,
+    budget: &mut Budget,
+    left: usize,
+    place: usize,
+) -> Result<Vec<Expr>, Error>
+    requires place { place ≤ length reader.old.places.below.items }
+    requires steady { IsSteady reader.old }
+    ensures continues { OnOk result (Continues reader.old reader.new) }
+    ensures read { IfOk result
+        (λ t. ReadsAs (λ v. list (data_of (map expr_datum v.items))) (seq_tree (expr_tree left))
+        place reader.old budget.old t reader.new budget.new) }
+    ensures refused { IfErr result
+        (λ e. IsRefusalAt (seq_tree (expr_tree left)) place reader.old e.reason) }
+{
+    let found = enter_list(reader, budget, false, place)?;
+    let mut items = Vec::new(alloc);
+    for _i in 0..found.count {
+        let item = read_expr(alloc, reader, budget, left, found.place)?;
+        budget.keep(&mut items, item)?;
+    }
+    Ok(items)
+}

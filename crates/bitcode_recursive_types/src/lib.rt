@@ -1,0 +1,8 @@
+//! Recursive types written by `scripts/second_format`.
+#![tactic(auto)]
+
+pub mod comment;
+pub mod directory;
+pub mod expr;
+pub mod node;
+pub mod search_tree;

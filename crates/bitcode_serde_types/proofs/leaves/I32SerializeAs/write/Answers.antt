@@ -1,0 +1,10 @@
+-- The entry that the leaf is.
+use Rattle.std.proofs.Common.{[], subst}
+use Rattle.bitcode_untyped.specs.ShapeTree.{integer_tree}
+use Rattle.bitcode_serde.specs.Serializing.{Outcome}
+use Rattle.bitcode_serde_types.proofs.LeafData.{datum-I32}
+use Rattle.bitcode_serde_types.proofs.leaves.I32SerializeAs.write.Goals as goal
+
+pub returns : goal.returns
+returns c =
+    subst (λ d. Outcome c.args.writer.now (integer_tree 4) c.args.place d [] c.write_leaf.result c.write_leaf.new.writer) (datum-I32 c.args.self.now) c.write_leaf.ensures

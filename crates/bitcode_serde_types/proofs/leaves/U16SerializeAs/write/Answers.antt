@@ -1,0 +1,10 @@
+-- The entry that the leaf is.
+use Rattle.std.proofs.Common.{[], subst}
+use Rattle.bitcode_untyped.specs.ShapeTree.{natural_tree}
+use Rattle.bitcode_serde.specs.Serializing.{Outcome}
+use Rattle.bitcode_serde_types.proofs.LeafData.{datum-U16}
+use Rattle.bitcode_serde_types.proofs.leaves.U16SerializeAs.write.Goals as goal
+
+pub returns : goal.returns
+returns c =
+    subst (λ d. Outcome c.args.writer.now (natural_tree 2) c.args.place d [] c.write_leaf.result c.write_leaf.new.writer) (datum-U16 c.args.self.now) c.write_leaf.ensures

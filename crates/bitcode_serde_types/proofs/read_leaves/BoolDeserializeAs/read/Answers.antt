@@ -1,0 +1,13 @@
+-- The entry that the leaf is.
+use Rattle.bitcode_coder.specs.Spelling.{truth}
+use Rattle.bitcode_untyped.specs.ShapeTree.{bool_tree}
+use Rattle.bitcode_untyped.specs.View.{datum_of}
+use Rattle.bitcode_untyped.specs.declared.value.Value.TheVariants as value
+use Rattle.bitcode_serde_types.proofs.KeptLemmas.{read_otherwise}
+use Rattle.bitcode_serde_types.proofs.LeafData.{datum-Bool}
+use Rattle.bitcode_serde_types.proofs.read_leaves.BoolDeserializeAs.read.Goals as goal
+
+pub returns-clause-read : goal.returns-clause-read
+returns-clause-read c =
+    read_otherwise (λ x. datum_of (value.Bool x)) truth datum-Bool bool_tree c.args.place c.args.reader.now c.args.budget.now c.read_number.new.reader
+    c.read_number.new.budget c.read_number.result c.read_number.ensures.read

@@ -1,0 +1,13 @@
+-- The entry that the leaf is.
+use Rattle.bitcode_coder.specs.Spelling.{natural}
+use Rattle.bitcode_untyped.specs.ShapeTree.{natural_tree}
+use Rattle.bitcode_untyped.specs.View.{datum_of}
+use Rattle.bitcode_untyped.specs.declared.value.Value.TheVariants as value
+use Rattle.bitcode_serde_types.proofs.KeptLemmas.{read_otherwise}
+use Rattle.bitcode_serde_types.proofs.LeafData.{datum-U128}
+use Rattle.bitcode_serde_types.proofs.read_leaves.U128DeserializeAs.read.Goals as goal
+
+pub returns-clause-read : goal.returns-clause-read
+returns-clause-read c =
+    read_otherwise (λ x. datum_of (value.U128 x)) natural datum-U128 (natural_tree 16) c.args.place c.args.reader.now c.args.budget.now c.read_number.new.reader
+    c.read_number.new.budget c.read_number.result c.read_number.ensures.read

@@ -1,0 +1,57 @@
+-- One element after another.
+use Rattle.std.proofs.Common.{rules, arith, ◌≡◌, ◌<◌, ◌+◌, ◌-◌, true, sym, subst}
+use Rattle.std.proofs.lemmas.Result.{err_from_is_err_and}
+use Rattle.bitcode_untyped.specs.Bounds.{column_free}
+use Rattle.bitcode_serde.specs.Budget.{KeepsEach}
+use Rattle.bitcode_serde.specs.ReadingValues.{ReadsListAt, IsListRefusalAt}
+use Rattle.bitcode_serde.specs.declared.budget.Budget.TheVariants.{Spent}
+use Rattle.bitcode_serde.proofs.ColumnLemmas.{passed_on}
+use Rattle.bitcode_serde_types.proofs.KeptLemmas.{rest_kept, elements_more, element_refused, elements_there}
+use Rattle.bitcode_serde_types.proofs.sequences.read_elements.Goals as goal
+
+pub read-requires : goal.read-requires
+read-requires g c =
+    let l = c.loop-i in
+    let h = elements_there g.T.SerializeAs.datum (g.T.SerializeAs.tree c.args.left) c.args.list.place c.args.reader.now l.reader c.args.budget.now l.budget l._i
+    l.values.items l.invariant c.requires.place in
+    let s = l.invariant.0.steady in
+    search (rules, h, s)
+
+pub returns-in_err-value-clause-refused : goal.returns-in_err-value-clause-refused
+returns-in_err-value-clause-refused g c =
+    let s = g.T.SerializeAs.tree c.args.left in
+    let l = c.loop-i in
+    let y = err_from_is_err_and c.from_residual.result c.from_residual.ensures.1 in
+    let lt : l._i < c.args.list.count = omega arith in
+    passed_on (λ e. IsListRefusalAt s c.args.list.place c.args.reader.now c.args.list.count e.reason) c.from_residual.result c.in_err-value.field-0.0 y.0 y.1 y.2
+    (element_refused g.T.SerializeAs.datum s c.args.list.place c.args.reader.now l.reader c.args.budget.now l.budget l._i l.values.items l.invariant
+    c.args.list.count _ lt c.in_err-value.ensures.refused)
+
+pub loop-i-preserved : goal.loop-i-preserved
+loop-i-preserved g c =
+    let l = c.loop-i in
+    elements_more g.T.SerializeAs.datum (g.T.SerializeAs.tree c.args.left) c.args.list.place c.args.reader.now l.reader c.args.budget.now l.budget l._i
+    l.values.items l.invariant c.read.new.reader c.read.new.budget c.keep.new.items.items c.in_ok-value.value c.in_ok-value.ensures.continues
+    c.in_ok-value.ensures.read c.in_ok-keep.ensures.kept
+
+pub returns-clause-read : goal.returns-clause-read
+returns-clause-read g c =
+    let l = c.loop-i in
+    let e : l._i ≡ c.args.list.count = omega arith in
+    subst (λ n. KeepsEach g.T.SerializeAs.datum (λ ds. ReadsListAt (g.T.SerializeAs.tree c.args.left) c.args.list.place c.args.reader.now n ds l.reader)
+    c.args.budget.now l.values.items l.budget) e l.invariant.1
+
+pub returns-then-is_free-clause-read : goal.returns-then-is_free-clause-read
+returns-then-is_free-clause-read g c =
+    let datum = g.T.SerializeAs.datum in
+    let s = g.T.SerializeAs.tree c.args.left in
+    let l = c.loop-i in
+    let place = c.args.list.place in
+    let old = c.args.reader.now in
+    let gone : l.budget ≡ Spent = c.if-is_spent.ensures in
+    let free : column_free s ≡ true = sym (c.if-is_free.ensures c.args.left) in
+    let all : l._i + (c.args.list.count - l._i) ≡ c.args.list.count = omega arith in
+    let so_far = subst (λ b. KeepsEach datum (λ ds. ReadsListAt s place old l._i ds l.reader) c.args.budget.now l.values.items b) gone l.invariant.1 in
+    let rest = rest_kept datum s place old l.reader c.args.budget.now l.values.items (c.args.list.count - l._i) l._i l.invariant.0 free so_far in
+    subst (λ b. KeepsEach datum (λ ds. ReadsListAt s place old c.args.list.count ds l.reader) c.args.budget.now l.values.items b) (sym gone)
+    (subst (λ n. KeepsEach datum (λ ds. ReadsListAt s place old n ds l.reader) c.args.budget.now l.values.items Spent) all rest)

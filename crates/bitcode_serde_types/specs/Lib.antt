@@ -1,0 +1,4 @@
+pub mod DeepFaults
+pub mod FieldsWritten
+pub mod Options
+pub mod ReadingAs

@@ -1,0 +1,51 @@
+//! References and boxes, which stand where their targets stand.
+#![tactic(auto)]
+
+use crate::deserialize_as::DeserializeAs;
+use crate::serialize_as::SerializeAs;
+use bitcode_memory::error::Error;
+use bitcode_serde::budget::Budget;
+use bitcode_serde::reader::Reader;
+use bitcode_serde::writer::Writer;
+use std::alloc::Global;
+
+impl<T: SerializeAs> SerializeAs for &T {
+    ghost tree = { T.tree };
+
+    ghost datum = { λ r. T.datum r.now };
+
+    ghost sound = { T.sound };
+
+    fn write(&self, writer: &mut Writer, left: usize, place: usize) -> Result<(), Error> {
+        (**self).write(writer, left, place)
+    }
+}
+
+impl<T: SerializeAs> SerializeAs for Box<T> {
+    ghost tree = { T.tree };
+
+    ghost datum = { λ b. T.datum b.value };
+
+    ghost sound = { T.sound };
+
+    fn write(&self, writer: &mut Writer, left: usize, place: usize) -> Result<(), Error> {
+        (**self).write(writer, left, place)
+    }
+}
+
+impl<'a, T: DeserializeAs<'a>> DeserializeAs<'a> for Box<T> {
+    fn is_free() -> bool {
+        T::is_free()
+    }
+
+    fn read(
+        alloc: Global,
+        reader: &mut Reader<'a>,
+        budget: &mut Budget,
+        left: usize,
+        place: usize,
+    ) -> Result<Box<T>, Error> {
+        let value: T = T::read(alloc, reader, budget, left, place)?;
+        Ok(Box::new(alloc, value)?)
+    }
+}

@@ -1,0 +1,84 @@
+//! Lists.
+#![tactic(auto)]
+
+ghost use Rattle.std.specs.Prelude.{◌≤◌, length, map, IfOk, IfErr, OnOk};
+ghost use Rattle.bitcode_shapes.specs.Datum.{list, data_of};
+ghost use Rattle.bitcode_untyped.specs.ShapeTree.{seq_tree};
+ghost use Rattle.bitcode_serde.specs.Budget.{KeepsEach};
+ghost use Rattle.bitcode_serde.specs.ReadingValues.{IsSteady, Continues, ReadsListAt, IsListRefusalAt};
+
+use crate::deserialize_as::DeserializeAs;
+use crate::entering::{Elements, enter_list};
+use crate::serialize_as::SerializeAs;
+use bitcode_memory::error::Error;
+use bitcode_serde::budget::Budget;
+use bitcode_serde::reader::Reader;
+use bitcode_serde::step::Step;
+use bitcode_serde::write_column::Entry;
+use bitcode_serde::writer::Writer;
+use std::alloc::Global;
+
+impl<T: SerializeAs> SerializeAs for Vec<T> {
+    ghost tree = { λ left. seq_tree (T.tree left) };
+
+    ghost datum = { λ v. list (data_of (map T.datum v.items)) };
+
+    ghost sound = { T.sound };
+
+    fn write(&self, writer: &mut Writer, left: usize, place: usize) -> Result<(), Error> {
+        let values = self.as_slice();
+        writer.put(place, Entry::Length(values.len()))?;
+        let element = writer.below(place, Step::Element)?;
+        for value in values {
+            value.write(writer, left, element)?;
+        }
+        Ok(())
+    }
+}
+
+// Reads the elements of a list.
+fn read_elements<'a, T: DeserializeAs<'a>>(
+    alloc: Global,
+    reader: &mut Reader<'a>,
+    budget: &mut Budget,
+    left: usize,
+    list: Elements,
+) -> Result<Vec<T>, Error>
+    requires place { list.place ≤ length reader.old.places.below.items }
+    requires steady { IsSteady reader.old }
+    ensures continues { OnOk result (Continues reader.old reader.new) }
+    ensures read { IfOk result
+        (λ v. KeepsEach T.datum
+        (λ ds. ReadsListAt (T.tree left) list.place reader.old list.count ds reader.new)
+        budget.old v.items budget.new) }
+    ensures refused { IfErr result
+        (λ e. IsListRefusalAt (T.tree left) list.place reader.old list.count e.reason) }
+{
+    let mut values = Vec::new(alloc);
+    for _i in 0..list.count {
+        if budget.is_spent() && T::is_free() {
+            return Ok(values);
+        }
+        let value: T = T::read(alloc, reader, budget, left, list.place)?;
+        budget.keep(&mut values, value)?;
+    }
+    Ok(values)
+}
+
+impl<'a, T: DeserializeAs<'a>> DeserializeAs<'a> for Vec<T> {
+    fn is_free() -> bool {
+        false
+    }
+
+    fn read(
+        alloc: Global,
+        reader: &mut Reader<'a>,
+        budget: &mut Budget,
+        left: usize,
+        place: usize,
+    ) -> Result<Vec<T>, Error> {
+        let list = enter_list(reader, budget, T::is_free(), place)?;
+        let values: Vec<T> = read_elements(alloc, reader, budget, left, list)?;
+        Ok(values)
+    }
+}

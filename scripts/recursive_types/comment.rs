@@ -1,0 +1,5 @@
+/// A comment and its replies.
+pub struct Comment<'a> {
+    pub text: &'a str,
+    pub replies: Vec<Comment<'a>>,
+}

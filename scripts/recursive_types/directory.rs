@@ -1,0 +1,12 @@
+/// A folder.
+pub struct Directory {
+    pub name: String,
+    pub entries: Vec<Entry>,
+}
+
+/// What a folder holds.
+pub enum Entry {
+    File(u64),
+    Folder(Directory),
+    Nothing,
+}
