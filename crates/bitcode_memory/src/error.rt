@@ -33,8 +33,8 @@ pub enum Reason {
     InvalidOption,
     /// A number is not the code of a `char`.
     InvalidChar,
-    /// Elements without columns exceed a limit: that of `decode_within`, or 65536 elements of a list or keys of a map of
-    /// the second format.
+    /// Elements without columns exceed a limit: that of `decode_within`, or, in the second format, 65536 elements of a
+    /// list or keys of a map.
     TooManyZeroSizedTypes,
     /// The index of a variant exceeds 255.
     TooManyVariants,
