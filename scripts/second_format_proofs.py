@@ -42,15 +42,15 @@ def own_imports(group, text, with_lemmas=True):
     place = f"{group.crate}.specs.declared.{group.module}"
     for shaped in group.types:
         found += used([(f"{place}.{group.ordered[0].name}.TheFolds", f"fold-roll-{shaped.name} fold_out-{shaped.name} map-{shaped.name}")], text)
-        found += used([(f"{place}.{group.ordered[0].name}.TheViews", f"out-roll-{shaped.name}")], text)
+        found += used([(f"{place}.{group.ordered[0].name}.TheViews", f"roll-{shaped.name}")], text)
         found += used([(f"{place}.{shaped.name}", f"{shaped.name} out-{shaped.name}")], text)
         if f"{shaped.word}'." in text:
             found += f"use Rattle.{place}.{shaped.name}.TheVariants as {shaped.word}'\n"
     first = group.ordered[0].name
-    opened = " ".join(f"{shaped.name}-F" for shaped in group.types if not shaped.is_struct)
+    opened = " ".join(f"{shaped.name}-F" for shaped in group.types)
     found += used([(f"{place}.{first}.TheOpen", opened)], text) if opened else ""
     if with_lemmas:
-        found += used([(f"{group.crate}.proofs.{group.lemmas}", " ".join(f"{shaped.word}_more {shaped.word}_columns {shaped.word}_content" for shaped in group.types))], text)
+        found += used([(f"{group.crate}.proofs.{group.lemmas}", " ".join(f"{shaped.word}_more {shaped.word}_columns {shaped.word}_content {shaped.word}_made" for shaped in group.types))], text)
     return found
 
 
@@ -86,35 +86,35 @@ pub {w}_more : (n : ℕ) → 0 < n → {w}_tree n ≡ {shaped.tree_word()} ({w}_
 {inside}{w}_columns (suc n) = {proof}
 """
     for shaped in group.options:
-        text += content_lemma(group, shaped)
+        text += content_lemma(group, shaped, False) + content_lemma(group, shaped, True)
     return "-- The shapes of a group of types, level by level. Written by `scripts/second_format`.\n" + used(OF_LEMMAS, text) + own_imports(group, text, False) + text
 
 
-def content_lemma(group, shaped):
-    """The content of a struct with options, by these."""
-    w, name = shaped.word, shaped.name
-    count = len(shaped.options)
+def content_lemma(group, shaped, is_made):
+    """The content of a struct with options, by these: of a value, or of one that is made of its fields."""
+    w, name, count = shaped.word, shaped.name, len(shaped.options)
+    own, value, of = ("t", f"(roll-{name} t)", f"{name}-F {name}") if is_made else (f"(out-{name} t)", "t", name)
+    word, fold = (f"{w}_made", f"fold-roll-{name}") if is_made else (f"{w}_content", f"fold_out-{name}")
     takes = " ".join(f"(o{n} : Option (Box {name} Global))" for n in range(count))
-    given = " → ".join(f"(out-{name} t).{option} ≡ o{n}" for n, option in enumerate(shaped.options))
-    data = data_of([f"(option_datum (λ b. {w}_datum b.value) o{shaped.options.index(field.name)})" if part.kind == "option" else applied(part.datum(), f"(out-{name} t).{field.name}")
-                    for field, part in zip(shaped.item.fields, shaped.parts)])
+    given = " → ".join(f"{own}.{option} ≡ o{n}" for n, option in enumerate(shaped.options))
+    held = [f"(option_datum (λ b. {w}_datum b.value) o{shaped.options.index(field.name)})" if part.kind == "option" else applied(part.datum(), f"{own}.{field.name}")
+            for field, part in zip(shaped.item.fields, shaped.parts)]
     turns = ""
-    for n, option in enumerate(shaped.options):
+    for n in range(count):
         fields = []
         for field in shaped.item.fields:
             place = shaped.options.index(field.name) if field.name in shaped.options else None
-            value = f"(out-{name} t).{field.name}" if place is None or place > n else "z" if place == n else f"o{place}"
-            fields.append(f"{field.name} = {value}")
-        turns += f" ∙ ap (λ z. {w}_step (map-{name} {name} Datum {w}_datum (record {{ {'; '.join(fields)} }}))) e{n}"
+            fields.append(f"{field.name} = " + (f"{own}.{field.name}" if place is None or place > n else "z" if place == n else f"o{place}"))
+        turns += f"\n    ∙ ap (λ z. {w}_step (map-{name} {name} Datum {w}_datum (record {{ {'; '.join(fields)} }}))) e{n}"
     es = " ".join(f"e{n}" for n in range(count))
     clauses = ""
     for case in range(2 ** count):
-        chosen = {f"o{n}": "None" if case >> n & 1 == 0 else f"(Some b{n})" for n in range(count)}
+        chosen = {f"o{n}": f"(Some b{n})" if case >> n & 1 else "None" for n in range(count)}
         term = turns
         for variable, pattern in chosen.items():
             term = term.replace(f" {variable};", f" {pattern};").replace(f" {variable} }}", f" {pattern} }}")
-        clauses += f"{w}_content t {' '.join(chosen.values())} {es} = fold_out-{name} {group.fold(shaped)} t{term}\n"
-    return f"\npub {w}_content : (t : {name}) {takes} → {given}\n    → {w}_datum t ≡ tuple {data}\n{clauses}"
+        clauses += f"{word} t {' '.join(chosen.values())} {es} =\n    {fold} {group.fold(shaped)} t{term}\n"
+    return f"\npub {word} : (t : {of}) {takes} → {given}\n    → {w}_datum {value} ≡ tuple {data_of(held)}\n{clauses}"
 
 
 def with_head(group, about, goals, text):
@@ -326,8 +326,7 @@ def struct_answers(group, shaped):
     equation = f"fold-roll-{shaped.name} {group.fold(shaped)} {value}"
     if shaped.options:
         read = [f"c.in_ok-field{n}.field{n}" for n, field in enumerate(shaped.item.fields) if field.name in shaped.options]
-        views = [f"(ap (λ r. r.{option}) (out-roll-{shaped.name} {value}))" for option in shaped.options]
-        equation = f"{w}_content _ {' '.join(read)} {' '.join(views)}"
+        equation = f"{w}_made {value} {' '.join(read)} {' '.join('refl' for _ in read)}"
         raise_on_boxes(shaped)
     if any(part.kind == "box" for part in shaped.parts):
         equation += f" ∙ {boxes(shaped.parts)}"

@@ -6,8 +6,10 @@ use Rattle.bitcode_serde_types.specs.Options.{option_datum}
 use Rattle.bitcode_untyped.specs.Bounds.{column_free}
 use Rattle.bitcode_untyped.specs.ShapeTree.{tuple_tree}
 use Rattle.bitcode_recursive_types.specs.SearchTreeShape.{search_tree_tree, search_tree_trees, search_tree_step, search_tree_datum}
-use Rattle.bitcode_recursive_types.specs.declared.search_tree.SearchTree.TheFolds.{fold_out-SearchTree, map-SearchTree}
+use Rattle.bitcode_recursive_types.specs.declared.search_tree.SearchTree.TheFolds.{fold-roll-SearchTree, fold_out-SearchTree, map-SearchTree}
+use Rattle.bitcode_recursive_types.specs.declared.search_tree.SearchTree.TheViews.{roll-SearchTree}
 use Rattle.bitcode_recursive_types.specs.declared.search_tree.SearchTree.{SearchTree, out-SearchTree}
+use Rattle.bitcode_recursive_types.specs.declared.search_tree.SearchTree.TheOpen.{SearchTree-F}
 
 pub search_tree_more : (n : ℕ) → 0 < n → search_tree_tree n ≡ tuple_tree (search_tree_trees (n - 1))
 search_tree_more zero h = absurd (omega (arith, h))
@@ -19,7 +21,38 @@ search_tree_columns (suc n) = refl
 
 pub search_tree_content : (t : SearchTree) (o0 : Option (Box SearchTree Global)) (o1 : Option (Box SearchTree Global)) → (out-SearchTree t).left ≡ o0 → (out-SearchTree t).right ≡ o1
     → search_tree_datum t ≡ tuple (datum_and (option_datum (λ b. search_tree_datum b.value) o0) (datum_and (natural (out-SearchTree t).key) (datum_and (option_datum (λ b. search_tree_datum b.value) o1) no_data)))
-search_tree_content t None None e0 e1 = fold_out-SearchTree Datum search_tree_step t ∙ ap (λ z. search_tree_step (map-SearchTree SearchTree Datum search_tree_datum (record { left = z; key = (out-SearchTree t).key; right = (out-SearchTree t).right }))) e0 ∙ ap (λ z. search_tree_step (map-SearchTree SearchTree Datum search_tree_datum (record { left = None; key = (out-SearchTree t).key; right = z }))) e1
-search_tree_content t (Some b0) None e0 e1 = fold_out-SearchTree Datum search_tree_step t ∙ ap (λ z. search_tree_step (map-SearchTree SearchTree Datum search_tree_datum (record { left = z; key = (out-SearchTree t).key; right = (out-SearchTree t).right }))) e0 ∙ ap (λ z. search_tree_step (map-SearchTree SearchTree Datum search_tree_datum (record { left = (Some b0); key = (out-SearchTree t).key; right = z }))) e1
-search_tree_content t None (Some b1) e0 e1 = fold_out-SearchTree Datum search_tree_step t ∙ ap (λ z. search_tree_step (map-SearchTree SearchTree Datum search_tree_datum (record { left = z; key = (out-SearchTree t).key; right = (out-SearchTree t).right }))) e0 ∙ ap (λ z. search_tree_step (map-SearchTree SearchTree Datum search_tree_datum (record { left = None; key = (out-SearchTree t).key; right = z }))) e1
-search_tree_content t (Some b0) (Some b1) e0 e1 = fold_out-SearchTree Datum search_tree_step t ∙ ap (λ z. search_tree_step (map-SearchTree SearchTree Datum search_tree_datum (record { left = z; key = (out-SearchTree t).key; right = (out-SearchTree t).right }))) e0 ∙ ap (λ z. search_tree_step (map-SearchTree SearchTree Datum search_tree_datum (record { left = (Some b0); key = (out-SearchTree t).key; right = z }))) e1
+search_tree_content t None None e0 e1 =
+    fold_out-SearchTree Datum search_tree_step t
+    ∙ ap (λ z. search_tree_step (map-SearchTree SearchTree Datum search_tree_datum (record { left = z; key = (out-SearchTree t).key; right = (out-SearchTree t).right }))) e0
+    ∙ ap (λ z. search_tree_step (map-SearchTree SearchTree Datum search_tree_datum (record { left = None; key = (out-SearchTree t).key; right = z }))) e1
+search_tree_content t (Some b0) None e0 e1 =
+    fold_out-SearchTree Datum search_tree_step t
+    ∙ ap (λ z. search_tree_step (map-SearchTree SearchTree Datum search_tree_datum (record { left = z; key = (out-SearchTree t).key; right = (out-SearchTree t).right }))) e0
+    ∙ ap (λ z. search_tree_step (map-SearchTree SearchTree Datum search_tree_datum (record { left = (Some b0); key = (out-SearchTree t).key; right = z }))) e1
+search_tree_content t None (Some b1) e0 e1 =
+    fold_out-SearchTree Datum search_tree_step t
+    ∙ ap (λ z. search_tree_step (map-SearchTree SearchTree Datum search_tree_datum (record { left = z; key = (out-SearchTree t).key; right = (out-SearchTree t).right }))) e0
+    ∙ ap (λ z. search_tree_step (map-SearchTree SearchTree Datum search_tree_datum (record { left = None; key = (out-SearchTree t).key; right = z }))) e1
+search_tree_content t (Some b0) (Some b1) e0 e1 =
+    fold_out-SearchTree Datum search_tree_step t
+    ∙ ap (λ z. search_tree_step (map-SearchTree SearchTree Datum search_tree_datum (record { left = z; key = (out-SearchTree t).key; right = (out-SearchTree t).right }))) e0
+    ∙ ap (λ z. search_tree_step (map-SearchTree SearchTree Datum search_tree_datum (record { left = (Some b0); key = (out-SearchTree t).key; right = z }))) e1
+
+pub search_tree_made : (t : SearchTree-F SearchTree) (o0 : Option (Box SearchTree Global)) (o1 : Option (Box SearchTree Global)) → t.left ≡ o0 → t.right ≡ o1
+    → search_tree_datum (roll-SearchTree t) ≡ tuple (datum_and (option_datum (λ b. search_tree_datum b.value) o0) (datum_and (natural t.key) (datum_and (option_datum (λ b. search_tree_datum b.value) o1) no_data)))
+search_tree_made t None None e0 e1 =
+    fold-roll-SearchTree Datum search_tree_step t
+    ∙ ap (λ z. search_tree_step (map-SearchTree SearchTree Datum search_tree_datum (record { left = z; key = t.key; right = t.right }))) e0
+    ∙ ap (λ z. search_tree_step (map-SearchTree SearchTree Datum search_tree_datum (record { left = None; key = t.key; right = z }))) e1
+search_tree_made t (Some b0) None e0 e1 =
+    fold-roll-SearchTree Datum search_tree_step t
+    ∙ ap (λ z. search_tree_step (map-SearchTree SearchTree Datum search_tree_datum (record { left = z; key = t.key; right = t.right }))) e0
+    ∙ ap (λ z. search_tree_step (map-SearchTree SearchTree Datum search_tree_datum (record { left = (Some b0); key = t.key; right = z }))) e1
+search_tree_made t None (Some b1) e0 e1 =
+    fold-roll-SearchTree Datum search_tree_step t
+    ∙ ap (λ z. search_tree_step (map-SearchTree SearchTree Datum search_tree_datum (record { left = z; key = t.key; right = t.right }))) e0
+    ∙ ap (λ z. search_tree_step (map-SearchTree SearchTree Datum search_tree_datum (record { left = None; key = t.key; right = z }))) e1
+search_tree_made t (Some b0) (Some b1) e0 e1 =
+    fold-roll-SearchTree Datum search_tree_step t
+    ∙ ap (λ z. search_tree_step (map-SearchTree SearchTree Datum search_tree_datum (record { left = z; key = t.key; right = t.right }))) e0
+    ∙ ap (λ z. search_tree_step (map-SearchTree SearchTree Datum search_tree_datum (record { left = (Some b0); key = t.key; right = z }))) e1

@@ -1,5 +1,5 @@
 -- One field or element after another. Written by `scripts/second_format`.
-use Rattle.std.proofs.Common.{rules, arith, ◌≡◌, ◌<◌, ◌-◌, Some, None, refl, ap}
+use Rattle.std.proofs.Common.{rules, arith, ◌≡◌, ◌<◌, ◌-◌, Some, None, refl}
 use Rattle.std.proofs.lemmas.Result.{err_from_is_err_and}
 use Rattle.bitcode_shapes.specs.Datum.{unit}
 use Rattle.bitcode_coder.specs.Spelling.{natural}
@@ -12,8 +12,7 @@ use Rattle.bitcode_serde_types.specs.Options.{option_datum}
 use Rattle.bitcode_serde_types.proofs.FieldsRead.{no_fields_kept, place_there, field_kept, field_not_kept, field_kept_at, field_not_kept_at, tuple_kept}
 use Rattle.bitcode_serde_types.proofs.KeptLemmas.{unit_kept, choice_kept, payload_refused}
 use Rattle.bitcode_recursive_types.specs.SearchTreeShape.{search_tree_tree, search_tree_trees, search_tree_datum}
-use Rattle.bitcode_recursive_types.specs.declared.search_tree.SearchTree.TheViews.{out-roll-SearchTree}
-use Rattle.bitcode_recursive_types.proofs.SearchTreeLemmas.{search_tree_more, search_tree_content}
+use Rattle.bitcode_recursive_types.proofs.SearchTreeLemmas.{search_tree_more, search_tree_made}
 use Rattle.bitcode_recursive_types.proofs.search_tree.+search_tree.Goals as goal
 
 pub read_search_tree-returns-then-left-eq0-clause-refused : goal.read_search_tree-returns-then-left-eq0-clause-refused
@@ -114,7 +113,7 @@ read_search_tree-returns-clause-read t c =
     c.in_ok-place2.ensures.found c.in_ok-place2.ensures.stands (option_datum (λ b. search_tree_datum b.value)) c.in_ok-field2.field2 _ _
     c.in_ok-field2.ensures.continues c.in_ok-field2.ensures.read in
     rw (search_tree_more c.args.left h)
-    (tuple_kept ss c.args.place c.args.reader.now c.take.new.self done3 search_tree_datum _ c.args.budget.now (search_tree_content _ c.in_ok-field0.field0 c.in_ok-field2.field2 (ap (λ r. r.left) (out-roll-SearchTree (record { left = c.in_ok-field0.field0; key = c.in_ok-field1.field1; right = c.in_ok-field2.field2 }))) (ap (λ r. r.right) (out-roll-SearchTree (record { left = c.in_ok-field0.field0; key = c.in_ok-field1.field1; right = c.in_ok-field2.field2 })))) c.take.ensures)
+    (tuple_kept ss c.args.place c.args.reader.now c.take.new.self done3 search_tree_datum _ c.args.budget.now (search_tree_made (record { left = c.in_ok-field0.field0; key = c.in_ok-field1.field1; right = c.in_ok-field2.field2 }) c.in_ok-field0.field0 c.in_ok-field2.field2 refl refl) c.take.ensures)
 
 pub read_search_tree_option-returns-in_err-found-clause-refused : goal.read_search_tree_option-returns-in_err-found-clause-refused
 read_search_tree_option-returns-in_err-found-clause-refused t c =
