@@ -18,13 +18,15 @@ start_ours() {
   ours=$1/ours/crates/ours
   rm -rf "$1/ours" && mkdir -p "$1/ours" || exit 2
   copy_libraries "$1/ours" || exit 2
-  mkdir -p "$ours" && scripts/new_type "$here/types.txt" "$ours" >"$work/log" 2>&1 || fail "the types are not written"
+  mkdir -p "$ours" && scripts/new_type "$here/types.txt" "$ours" >"$work/log" 2>&1 &&
+    scripts/second_format "$here/recursive_types.txt" "$ours" >"$work/log" 2>&1 || fail "the types are not written"
+  libraries="bitcode $(sed -n 's/^ours: //p' "$work/log")"
 }
 
 # unproved_ours FOLDER: libours.a there, compiled without a proof.
 unproved_ours() {
   start_ours "$1"
-  "$here/exports.py" rattle program >"$ours/src/main.rt" && echo "ours: bitcode" >>"$1/ours/crates.txt" || exit 2
+  "$here/exports.py" rattle program >"$ours/src/main.rt" && echo "ours: $libraries" >>"$1/ours/crates.txt" || exit 2
   "$here/unproved.py" "$ours" "$1" "$cpu" >"$work/log" 2>&1 || fail "the library does not compile"
 }
 
@@ -33,7 +35,7 @@ proved_ours() {
   start_ours "$1"
   for part in crates/*/specs crates/*/proofs; do cp -r "$part" "$1/ours/$part" || exit 2; done
   "$here/exports.py" rattle library >"$ours/src/lib.rt" || exit 2
-  echo "ours staticlib: bitcode" >>"$1/ours/crates.txt" || exit 2
+  echo "ours staticlib: $libraries" >>"$1/ours/crates.txt" || exit 2
   (cd "$ours" && rt fmt && rt lib --cpu "$cpu") >"$work/log" 2>&1 || fail "the library is not proved"
   cp "$ours/out/libours.a" "$1/libours.a" || exit 2
 }

@@ -15,13 +15,16 @@ import sys
 HEAD = """//! What scripts/speed/beside.sh calls. Written by scripts/speed/comparison/exports.py.
 #![tactic(auto)]
 
+pub mod comment;
 pub mod level;
 pub mod note;
 pub mod pair;
 pub mod record_;
 
+use bitcode::serde::{DeserializeAs, deserialize_as, serialize_as};
 use bitcode::sealed::{Expected, Label, OpenError, crc_32, open, seal};
 use bitcode::{Buffer, Decode, Encode, Error, Shape, ShapeNode, Value, decode, deserialize, encode, serialize};
+use crate::comment::Comment;
 use crate::level::Level;
 use crate::note::Note;
 use crate::pair::Pair;
@@ -104,6 +107,31 @@ fn serde_agrees(alloc: Global, bytes: &[u8], _times: u64, shape: Result<Shape, E
     Ok((out.as_slice() == bytes) as u64)
 }
 
+fn serializes_as<'a, T: DeserializeAs<'a>>(alloc: Global, bytes: &'a [u8], times: u64) -> Result<u64, Error> {
+    let value: T = deserialize_as(alloc, bytes)?;
+    let mut written = 0u64;
+    for _ in 0..times {
+        let out = serialize_as(alloc, &value)?;
+        written = written.wrapping_add(out.len() as u64);
+    }
+    Ok(written)
+}
+
+fn deserializes_as<'a, T: DeserializeAs<'a>>(alloc: Global, bytes: &'a [u8], times: u64) -> Result<u64, Error> {
+    let mut read = 0u64;
+    for _ in 0..times {
+        let _value: T = deserialize_as(alloc, bytes)?;
+        read = read.wrapping_add(1);
+    }
+    Ok(read)
+}
+
+fn typed_agrees<'a, T: DeserializeAs<'a>>(alloc: Global, bytes: &'a [u8], _times: u64) -> Result<u64, Error> {
+    let value: T = deserialize_as(alloc, bytes)?;
+    let out = serialize_as(alloc, &value)?;
+    Ok((out.as_slice() == bytes) as u64)
+}
+
 fn seals(alloc: Global, bytes: &[u8], times: u64) -> Result<u64, Error> {
     let value: Record = decode(alloc, bytes)?;
     let mut written = 0u64;
@@ -148,7 +176,7 @@ fn record(alloc: Global) -> Result<ShapeNode, Error> {
     Ok(ShapeNode::Tuple(fields))
 }
 
-fn comment(alloc: Global) -> Result<ShapeNode, Error> {
+fn comments(alloc: Global) -> Result<ShapeNode, Error> {
     let replies = seq(alloc, ShapeNode::Ref(0))?;
     Ok(ShapeNode::Tuple(vec![in alloc; ShapeNode::U64, ShapeNode::Str, replies]?))
 }
@@ -158,8 +186,12 @@ fn map(alloc: Global) -> Result<ShapeNode, Error> {
     Ok(ShapeNode::Map(key, Box::new(alloc, ShapeNode::Str)?))
 }
 """
-# The calls of a workload: the letter in the names of the functions, and what each does in the first and second format.
-CALLS = {"e": ("encodes", "serializes"), "b": ("buffers", None), "d": ("decodes", "deserializes"), "s": ("agrees", "serde_agrees")}
+# The calls of a workload: the letter in the names of the functions, and what each does in the first format, in the second
+# format with a `Value`, and in the second format with a Rust type.
+CALLS = {
+    "e": ("encodes", "serializes", "serializes_as"), "b": ("buffers", None, None),
+    "d": ("decodes", "deserializes", "deserializes_as"), "s": ("agrees", "serde_agrees", "typed_agrees"),
+}
 
 
 def workloads():
@@ -184,11 +216,16 @@ def rattle(is_program):
     exports = {"call_seal": export("call_seal", "seals(alloc, bytes, times)"), "call_open": export("call_open", "opens(alloc, bytes, times)"),
                "call_crc": export("call_crc", "sums(alloc, bytes, times)")}
     for number, form, _name, rust, _value, ours in workloads():
-        if form == "second" and f"call_e{number}" not in exports:
+        typed = ours[5:] if ours.startswith("type ") else None
+        if form == "second" and not typed and f"call_e{number}" not in exports:
             print(f"fn shape_{number}(alloc: Global) -> Result<Shape, Error> {{\n    let node = {ours};\n    Shape::new(vec![in alloc; node]?, 0)\n}}\n")
-        for letter, (first, second) in CALLS.items():
+        for letter, (first, second, third) in CALLS.items():
             name = f"call_{letter}{number}"
-            if form != "second":
+            if typed and third:
+                exports[name] = export(name, f"{third}::<{typed}>(alloc, bytes, times)")
+            elif typed:
+                continue
+            elif form != "second":
                 exports[name] = export(name, f"{first}::<{ours or rust}>(alloc, bytes, times)", "'a " if "'a" in ours else "")
             elif second:
                 exports[name] = export(name, f"{second}(alloc, bytes, times, shape_{number}(alloc))")
