@@ -27,12 +27,12 @@ WORDS = {
     "docs/DIFFERENCES.md": 1500,
     "docs/EXAMPLES.md": 1200,
     "docs/FORMAT.md": 3500,
-    "docs/GUIDE.md": 3300,
-    "docs/PROMISES.md": 4120,
+    "docs/GUIDE.md": 3400,
+    "docs/PROMISES.md": 4150,
     "docs/PROVING.md": 1050,
     "docs/SEALED.md": 1050,
-    "docs/SPEED.md": 740,
-    "docs/TESTING.md": 1150,
+    "docs/SPEED.md": 780,
+    "docs/TESTING.md": 1220,
     "docs/TOOLCHAIN.md": 1650,
 }
 WORDS_IN_ALL = 28000
