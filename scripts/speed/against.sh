@@ -5,9 +5,10 @@
 #
 #     bash scripts/speed/against.sh COMMIT FOLDER        or BITCODE=FOLDER bash scripts/speed/against.sh COMMIT
 #
-# FOLDER has the Rust crate's sources, which make the values: scripts/speed/beside.sh says more of it, of CPU, OUT,
-# ONLY, SIZES and REGISTRY. It needs `objcopy` of binutils. Workloads that the earlier commit lacks are left out. It takes some ten minutes, and only an
-# idle machine gives times that can be trusted. The status is 2 where something is missing.
+# FOLDER has the Rust crate's sources, which make the values: scripts/speed/beside.sh says more of it, and of CPU, OUT,
+# ONLY, SIZES and REGISTRY. It needs `objcopy` of binutils. Workloads that the earlier commit lacks are left out. It
+# takes some ten minutes, and only an idle machine gives times that can be trusted. The status is 2 where something is
+# missing.
 cd "$(dirname "$0")/../.." || exit 2
 script=against
 . scripts/libraries.sh
