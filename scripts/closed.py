@@ -4,7 +4,7 @@ and one decoder for it, and not those of all that is inside. The toolchain has a
 from string import Template
 
 from declarations import Struct, fields_of
-from known_types import INTEGERS, of_text
+from known_types import INTEGERS, MOST_FIELDS, of_text
 
 # A struct whose fields name no more types than these has no coders of its own, since that costs less to prove: one that
 # no enum and no struct with coders of its own holds, and one that such a type holds.
@@ -66,11 +66,7 @@ impl$shaped Encoder<$name> for ${simple}Encoder {
         Encoder::<$name>::write_directly(&mut self.fields, t, out)
     }
 
-    fn encode_part_of_each<S, W: Part<S, $name>>(&mut self, items: &[S], which: &W, first: &$name) -> Result<(), Error> {
-        Encoder::<$name>::encode_part_of_each(&mut self.fields, items, which, first)
-    }
-
-    ghost of_shape = { λ e. refl };
+$each    ghost of_shape = { λ e. refl };
 
     ghost surely = { λ e n h. h };
 }
@@ -78,6 +74,13 @@ impl$shaped Encoder<$name> for ${simple}Encoder {
 impl$shaped HasEncoder for $name {
     type Encoder = ${simple}Encoder;
 }
+
+"""
+# Writes many values column by column. A struct with more fields than MOST_FIELDS writes them one by one, since the proof of this
+# function stops at the step limit there.
+EACH = """    fn encode_part_of_each<S, W: Part<S, $name>>(&mut self, items: &[S], which: &W, first: &$name) -> Result<(), Error> {
+        Encoder::<$name>::encode_part_of_each(&mut self.fields, items, which, first)
+    }
 
 """
 DECODER = """type $data<$input> = $decoder;
@@ -197,6 +200,11 @@ def with_closed(items, own):
         own = own | {first: own[first]._replace(is_closed=True)}
 
 
+def is_wide(item):
+    """Whether the item has more fields than one tuple has."""
+    return len(fields_of(item)) > MOST_FIELDS
+
+
 def is_closed(item, own):
     """Whether the item has coders of its own."""
     return item.name in own and own[item.name].is_closed
@@ -234,7 +242,8 @@ def writes_free(item, own, nested):
 def encoder_text(item, own, nested, name, life, shaped):
     """The encoder of the item."""
     still = life.replace(item.lifetime, "'static") if item.lifetime else life
-    row = {"simple": item.name, "name": name, "life": life, "head": life, "still": still, "still_name": item.name + still, "shaped": shaped}
+    each = "" if is_wide(item) else Template(EACH).substitute(name=name)
+    row = {"each": each, "simple": item.name, "name": name, "life": life, "head": life, "still": still, "still_name": item.name + still, "shaped": shaped}
     return Template(ENCODER).substitute(row, free=writes_free(item, own, nested) if fields_of(item) else "⟦<<() as HasEncoder>::Encoder as Encoder<()>>⟧.writes_free")
 
 

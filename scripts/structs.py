@@ -290,7 +290,7 @@ def closed_head(item, own):
     words = ["◌&&◌"] if len(fields_of(item)) > 1 else []
     words += [] if all(closed.is_quoted(field.type, own) for field in fields_of(item)) else ["false"]
     operators = f"ghost use Rattle.std.specs.Prelude.{{{', '.join(words)}}};\n" if words else ""
-    return operators, {"Part", "reserve_as"}
+    return operators, {"reserve_as"} if closed.is_wide(item) else {"Part", "reserve_as"}
 
 
 def decoders(types, apart, input):

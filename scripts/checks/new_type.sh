@@ -28,6 +28,12 @@ for program in frames snapshots record_cache column_report; do
   kept "$program" "scripts/own_types/$program.txt"
 done
 
+# What programs have: every declaration is accepted.
+for set in scripts/own_types/sets/*.txt; do
+  scripts/new_type "$set" "$work/sets" >/dev/null 2>"$work/notes" || { echo "new_type: $set"; cat "$work/notes"; wrong=1; }
+  rm -rf "$work/sets"
+done
+
 . scripts/libraries.sh
 copy_libraries "$work" || exit 2
 mkdir -p "$work/crates/own_types/src" || exit 2

@@ -6,7 +6,7 @@ ghost use Rattle.bitcode.specs.ByHand.{SurelyOverflows, data_as, field_alike, pa
 use crate::home::Home;
 use crate::trophy::Trophy;
 use bitcode::coder::{Buffer, ColumnFree, Decoder, Encoder, HoldsColumns, HoldsData, View};
-use bitcode::own::{DecoderOfFields, HasField, InFields, Nth, Part, StructEncoder, reserve_as};
+use bitcode::own::{DecoderOfFields, HasField, InFields, Nth, StructEncoder, reserve_as};
 use bitcode::{ConvertFrom, Error, HasDecoder, HasEncoder, Shaped};
 use std::alloc::Global;
 
@@ -720,15 +720,6 @@ impl<'a> Encoder<Account<'a>> for AccountEncoder {
 
     fn write_directly(&mut self, t: &Account<'a>, out: &mut Vec<u8>) -> Result<bool, Error> {
         Encoder::<Account<'a>>::write_directly(&mut self.fields, t, out)
-    }
-
-    fn encode_part_of_each<S, W: Part<S, Account<'a>>>(
-        &mut self,
-        items: &[S],
-        which: &W,
-        first: &Account<'a>,
-    ) -> Result<(), Error> {
-        Encoder::<Account<'a>>::encode_part_of_each(&mut self.fields, items, which, first)
     }
 
     ghost of_shape = { λ e. refl };
