@@ -21,9 +21,9 @@ WORDS = {
     "CHANGES.md": 1500,
     "CONTRIBUTING.md": 1200,
     "SECURITY.md": 350,
-    "docs/ARCHITECTURE.md": 1710,
+    "docs/ARCHITECTURE.md": 1725,
     "docs/CODERS.md": 2500,
-    "docs/DECISIONS.md": 3150,
+    "docs/DECISIONS.md": 3200,
     "docs/DIFFERENCES.md": 1500,
     "docs/EXAMPLES.md": 1200,
     "docs/FORMAT.md": 3500,
@@ -35,7 +35,7 @@ WORDS = {
     "docs/TESTING.md": 1150,
     "docs/TOOLCHAIN.md": 1650,
 }
-WORDS_IN_ALL = 27000
+WORDS_IN_ALL = 27070
 COLUMNS = 120
 HISTORY = "docs/HISTORY.md"
 COUNTED = "docs/TESTING.md"
