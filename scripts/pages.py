@@ -21,15 +21,9 @@ WORDS = {
     "CHANGES.md": 1500,
     "CONTRIBUTING.md": 1200,
     "SECURITY.md": 350,
-<<<<<<< HEAD
     "docs/ARCHITECTURE.md": 1740,
     "docs/CODERS.md": 2500,
     "docs/DECISIONS.md": 3450,
-=======
-    "docs/ARCHITECTURE.md": 1725,
-    "docs/CODERS.md": 2500,
-    "docs/DECISIONS.md": 3200,
->>>>>>> b0b3b1d0c9a0cfd008c281023b90034b4e6b72db
     "docs/DIFFERENCES.md": 1500,
     "docs/EXAMPLES.md": 1200,
     "docs/FORMAT.md": 3500,
@@ -41,11 +35,7 @@ WORDS = {
     "docs/TESTING.md": 1220,
     "docs/TOOLCHAIN.md": 1650,
 }
-<<<<<<< HEAD
 WORDS_IN_ALL = 28000
-=======
-WORDS_IN_ALL = 27070
->>>>>>> b0b3b1d0c9a0cfd008c281023b90034b4e6b72db
 COLUMNS = 120
 HISTORY = "docs/HISTORY.md"
 COUNTED = "docs/TESTING.md"
