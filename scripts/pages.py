@@ -23,7 +23,7 @@ WORDS = {
     "SECURITY.md": 350,
     "docs/ARCHITECTURE.md": 1700,
     "docs/CODERS.md": 2500,
-    "docs/DECISIONS.md": 3040,
+    "docs/DECISIONS.md": 3065,
     "docs/DIFFERENCES.md": 1500,
     "docs/EXAMPLES.md": 1200,
     "docs/FORMAT.md": 3500,
@@ -35,7 +35,7 @@ WORDS = {
     "docs/TESTING.md": 1150,
     "docs/TOOLCHAIN.md": 1650,
 }
-WORDS_IN_ALL = 26600
+WORDS_IN_ALL = 26620
 COLUMNS = 120
 HISTORY = "docs/HISTORY.md"
 COUNTED = "docs/TESTING.md"
