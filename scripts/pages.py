@@ -35,7 +35,7 @@ WORDS = {
     "docs/TESTING.md": 1220,
     "docs/TOOLCHAIN.md": 1650,
 }
-WORDS_IN_ALL = 28000
+WORDS_IN_ALL = 28100
 COLUMNS = 120
 HISTORY = "docs/HISTORY.md"
 COUNTED = "docs/TESTING.md"
