@@ -21,6 +21,7 @@ start_ours() {
   mkdir -p "$ours" && scripts/new_type "$here/types.txt" "$ours" >"$work/log" 2>&1 &&
     scripts/second_format "$here/recursive_types.txt" "$ours" >"$work/log" 2>&1 || fail "the types are not written"
   libraries="bitcode $(sed -n 's/^ours: //p' "$work/log")"
+  for part in specs proofs; do sed -n "/^-- $part/{n;p}" "$work/log" >"$ours/$part/Lib.antt" || exit 2; done
 }
 
 # unproved_ours FOLDER: libours.a there, compiled without a proof.
