@@ -2,7 +2,7 @@
 use bitcode::sealed::{Label, OpenError, open_any, seal, seal_bytes};
 use bitcode_changed_types::hurry::Hurry;
 use bitcode_changed_types::job::{Job, JobOf1, JobOf2};
-use bitcode_changed_types::opened::{EXPECTED, JOB, open_job, open_jobs, open_queue};
+use bitcode_changed_types::opened::{EXPECTED, JOB, first_job_again, open_job, open_jobs, open_queue};
 use bitcode_changed_types::queue::Queue;
 use bitcode_changed_types::state::State;
 use std::alloc::Global;
@@ -34,6 +34,14 @@ fn job(alloc: Global, number: u64, tries: u8) -> Result<Job, OpenError> {
         weight: 2,
         delay: None,
     })
+}
+
+#[test]
+fn a_first_job_comes_back(rt: HostRuntime) -> Result<(), OpenError> {
+    let alloc = rt.alloc();
+    let again = first_job_again(alloc, &first(alloc, 7)?)?;
+    assert!(rt; again == job(alloc, 7, 5)?);
+    Ok(())
 }
 
 #[test]

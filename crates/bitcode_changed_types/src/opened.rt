@@ -1,11 +1,14 @@
 //! Reading values of three versions.
-ghost use Rattle.std.specs.Prelude.{IfOk};
-ghost use Rattle.bitcode.specs.ByHand.{IsOpeningOfAny};
+ghost use Rattle.std.specs.Prelude.{◌≡◌, None, IfOk};
+ghost use Rattle.bitcode.specs.ByHand.{HasShortLengths, IsOpeningOfAny};
 
-use crate::job::Job;
+use crate::job::{Job, JobOf1};
 use crate::queue::Queue;
 use bitcode::Shaped;
-use bitcode::sealed::{Expected, Label, OpenError, ReadsVersions, Versioned, open_any};
+use bitcode::sealed::{
+    Expected, Label, OpenError, ReadsVersions, Version, Versioned, earlier_comes_back, open_any,
+    seal,
+};
 use std::alloc::Global;
 use std::collections::HashMap;
 
@@ -13,6 +16,12 @@ use std::collections::HashMap;
 pub const JOB: Label = Label {
     kind: 0x4A4F_4253,
     version: 3,
+};
+
+/// What they were sealed under at first.
+pub const FIRST_JOB: Label = Label {
+    kind: 0x4A4F_4253,
+    version: 1,
 };
 
 /// What is opened as a job.
@@ -52,4 +61,20 @@ pub fn open_queue<'a>(alloc: Global, bytes: &'a [u8]) -> Result<Queue, OpenError
 /// Errors: those of `open_any`.
 pub fn open_jobs<'a>(alloc: Global, bytes: &'a [u8]) -> Result<HashMap<u32, Job>, OpenError> {
     open_any(alloc, &EXPECTED, bytes)
+}
+
+/// Seals a job as version 1 did, and opens it as a job of today: it has the number that was sealed, five tries and no
+/// delay.
+///
+/// Errors: those of `seal`, and `out of memory`.
+pub fn first_job_again(alloc: Global, before: &JobOf1) -> Result<Job, OpenError>
+    ensures { HasShortLengths ⟦<JobOf1 as Shaped>⟧.data.lists ⟦<JobOf1 as Shaped>⟧.data.shape
+        before.now
+        → IfOk result (λ job. (job.number ≡ before.now.0) × (job.tries ≡ 5) × (job.delay ≡ None)) }
+{
+    let bytes = seal(alloc, FIRST_JOB, before)?;
+    let sealed = bytes.as_slice();
+    let again: Result<Job, OpenError> = open_any(alloc, &EXPECTED, sealed);
+    earlier_comes_back::<Version<1>, Job>(before, FIRST_JOB, &EXPECTED, sealed, &again);
+    again
 }
