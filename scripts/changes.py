@@ -2,7 +2,8 @@
 
 from collections import namedtuple
 
-# The versions from which a field or a variant is there, and from which it is gone, or nothing; and the words of the default.
+# The versions from which a field or a variant is there, and from which it is gone, or nothing; and the words of the
+# default.
 Change = namedtuple("Change", "since until default line")
 MOST = 65535
 

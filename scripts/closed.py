@@ -10,10 +10,38 @@ from known_types import INTEGERS, MOST_FIELDS, of_text
 # no enum and no struct with coders of its own holds, and one that such a type holds.
 MOST_OPEN, MOST_HELD = 24, 7
 # The types whose values own no memory, if those that they take do not.
-PLAIN = {"Duration", "IpAddr", "Ipv4Addr", "Ipv6Addr", "Option", "Ordering", "PhantomData", "Range", "RangeInclusive", "Result",
-         "Saturating", "SocketAddr", "SocketAddrV4", "SocketAddrV6", "Uuid", "Wrapping", "bool", "char", "f32", "f64"}
+PLAIN = {
+    "Duration",
+    "IpAddr",
+    "Ipv4Addr",
+    "Ipv6Addr",
+    "Option",
+    "Ordering",
+    "PhantomData",
+    "Range",
+    "RangeInclusive",
+    "Result",
+    "Saturating",
+    "SocketAddr",
+    "SocketAddrV4",
+    "SocketAddrV6",
+    "Uuid",
+    "Wrapping",
+    "bool",
+    "char",
+    "f32",
+    "f64",
+}
 # How many types the encoders of these types name.
-WEIGHTS = {"Duration": 4, "IpAddr": 5, "Range": 3, "RangeInclusive": 3, "SocketAddr": 12, "SocketAddrV4": 4, "SocketAddrV6": 6}
+WEIGHTS = {
+    "Duration": 4,
+    "IpAddr": 5,
+    "Range": 3,
+    "RangeInclusive": 3,
+    "SocketAddr": 12,
+    "SocketAddrV4": 4,
+    "SocketAddrV6": 6,
+}
 # What `use` lines bring in for coders of one's own.
 NEEDED = "bitcode::coder::{Buffer, ColumnFree, Decoder, Encoder, HoldsColumns, HoldsData, View}"
 
@@ -76,8 +104,8 @@ impl$shaped HasEncoder for $name {
 }
 
 """
-# Writes many values column by column. A struct with more fields than MOST_FIELDS writes them one by one, since the proof of this
-# function stops at the step limit there.
+# Writes many values column by column. A struct with more fields than MOST_FIELDS writes them one by one, since the
+# proof of this function stops at the step limit there.
 EACH = """    fn encode_part_of_each<S, W: Part<S, $name>>(&mut self, items: &[S], which: &W, first: &$name) -> Result<(), Error> {
         Encoder::<$name>::encode_part_of_each(&mut self.fields, items, which, first)
     }
@@ -129,7 +157,8 @@ impl<$input> Decoder<$name> for ${simple}Decoder<$input> {
 
 
 def inside_of(type, own):
-    """What is known of the types, without that one, where its fields are looked at: a recursive type is refused elsewhere."""
+    """What is known of the types, without that one, where its fields are looked at. A recursive type is refused
+    elsewhere."""
     return {name: known for name, known in own.items() if name != type.name}
 
 
@@ -139,7 +168,12 @@ def own_types_in(type, own):
     if type.kind == "path" and type.name in own:
         found.append(type)
     if item and (item.types or item.consts):
-        found += [inner for field in fields_of(item) for inner in own_types_in(field.type, inside_of(type, own)) if inner.name not in item.types]
+        found += [
+            inner
+            for field in fields_of(item)
+            for inner in own_types_in(field.type, inside_of(type, own))
+            if inner.name not in item.types
+        ]
     return found + [inner for part in type.parts for inner in own_types_in(part, own)]
 
 
@@ -158,8 +192,16 @@ def weight(type, own):
     if type.kind == "path" and type.name in own:
         item = own[type.name].item
         is_one = not item or own[type.name].is_closed or not is_pair(item)
-        return 1 if is_one else 1 + sum(weight(field.type, inside_of(type, own)) for field in fields_of(item)) + sum(weight(part, own) for part in type.parts)
-    here = 0 if type.kind in ("tuple", "number", "lifetime") else WEIGHTS.get(type.name, 1) if type.kind == "path" else 1
+        return (
+            1
+            if is_one
+            else 1
+            + sum(weight(field.type, inside_of(type, own)) for field in fields_of(item))
+            + sum(weight(part, own) for part in type.parts)
+        )
+    here = (
+        0 if type.kind in ("tuple", "number", "lifetime") else WEIGHTS.get(type.name, 1) if type.kind == "path" else 1
+    )
     return here + sum(weight(part, own) for part in type.parts if type.kind != "reference")
 
 
@@ -169,14 +211,18 @@ def owns_memory(type, own):
         return False
     if type.kind == "path" and type.name in own:
         item = own[type.name].item
-        return not item or any(owns_memory(field.type, inside_of(type, own)) for field in fields_of(item)) or any(owns_memory(part, own) for part in type.parts)
+        return (
+            not item
+            or any(owns_memory(field.type, inside_of(type, own)) for field in fields_of(item))
+            or any(owns_memory(part, own) for part in type.parts)
+        )
     is_plain = type.kind != "path" or type.name in PLAIN or type.name in INTEGERS or type.name.startswith("NonZero")
     return not is_plain or any(owns_memory(part, own) for part in type.parts)
 
 
 def with_closed(items, own):
-    """What is known of the types, with which of them have coders of their own: structs that name many types, those that hold
-    such a struct, and larger ones and ones with memory that such a struct or an enum holds."""
+    """What is known of the types, with which of them have coders of their own: structs that name many types, those that
+    hold such a struct, and larger ones and ones with memory that such a struct or an enum holds."""
     items = [item for item in items if not (item.types or item.consts)]
 
     def weighs_more(item, most):
@@ -187,16 +233,29 @@ def with_closed(items, own):
         inside = {found.name for item in items if item.name in closed for found in own_types_of(item, own)}
         held = {found.name for item in items if not is_pair(item) for found in own_types_of(item, own)}
         more = {
-            item.name for item in items if is_pair(item) and item.name not in closed and fields_of(item) and (
+            item.name
+            for item in items
+            if is_pair(item)
+            and item.name not in closed
+            and fields_of(item)
+            and (
                 weighs_more(item, MOST_OPEN)
-                or item.name in inside | held and weighs_more(item, MOST_HELD)
-                or item.name in inside and any(owns_memory(field.type, own) for field in fields_of(item))
-                or any(own[found.name].is_closed for found in own_types_of(item, own)))
+                or item.name in inside | held
+                and weighs_more(item, MOST_HELD)
+                or item.name in inside
+                and any(owns_memory(field.type, own) for field in fields_of(item))
+                or any(own[found.name].is_closed for found in own_types_of(item, own))
+            )
         }
         if not more:
             return own
         # the smallest ones first: what holds them names fewer types then
-        first = min(more, key=lambda name: next(sum(weight(field.type, own) for field in fields_of(item)) for item in items if item.name == name))
+        first = min(
+            more,
+            key=lambda name: next(
+                sum(weight(field.type, own) for field in fields_of(item)) for item in items if item.name == name
+            ),
+        )
         own = own | {first: own[first]._replace(is_closed=True)}
 
 
@@ -217,7 +276,11 @@ def inside(item, own, *parts):
         known = own[type.name]
         lifetimes = [part.name for part in type.parts if part.kind == "lifetime"]
         of = f"<{lifetimes[0]}>" if lifetimes else ""
-        name = f"{known.path.rsplit('::', 1)[0]}::{type.name}Inside{of}" if known.is_closed else f"<{of_text(type)} as HasDecoder<{still}>>::Decoder"
+        name = (
+            f"{known.path.rsplit('::', 1)[0]}::{type.name}Inside{of}"
+            if known.is_closed
+            else f"<{of_text(type)} as HasDecoder<{still}>>::Decoder"
+        )
         names += [name] if name not in names and (known.is_closed or not item.types) else []
     return f"({', '.join(names)}{',' * (len(names) == 1)})"
 
@@ -243,8 +306,22 @@ def encoder_text(item, own, nested, name, life, shaped):
     """The encoder of the item."""
     still = life.replace(item.lifetime, "'static") if item.lifetime else life
     each = "" if is_wide(item) else Template(EACH).substitute(name=name)
-    row = {"each": each, "simple": item.name, "name": name, "life": life, "head": life, "still": still, "still_name": item.name + still, "shaped": shaped}
-    return Template(ENCODER).substitute(row, free=writes_free(item, own, nested) if fields_of(item) else "⟦<<() as HasEncoder>::Encoder as Encoder<()>>⟧.writes_free")
+    row = {
+        "each": each,
+        "simple": item.name,
+        "name": name,
+        "life": life,
+        "head": life,
+        "still": still,
+        "still_name": item.name + still,
+        "shaped": shaped,
+    }
+    return Template(ENCODER).substitute(
+        row,
+        free=writes_free(item, own, nested)
+        if fields_of(item)
+        else "⟦<<() as HasEncoder>::Encoder as Encoder<()>>⟧.writes_free",
+    )
 
 
 def decoder_text(simple, name, input, decoder, data="Data"):

@@ -5,8 +5,15 @@ import re
 from known_types import INTEGERS, of_text
 from tokens import Refused
 
-EMPTY = {"String": "string_bytes {} ≡ []", "Vec": "{}.items ≡ []", "HashMap": "{}.entries ≡ []", "BTreeMap": "{}.entries ≡ []"}
-ALLOWED = "a number, `true`, `false`, a text of ASCII, `None`, `Some(..)` of a number or a bool, or a variant without fields"
+EMPTY = {
+    "String": "string_bytes {} ≡ []",
+    "Vec": "{}.items ≡ []",
+    "HashMap": "{}.entries ≡ []",
+    "BTreeMap": "{}.entries ≡ []",
+}
+ALLOWED = (
+    "a number, `true`, `false`, a text of ASCII, `None`, `Some(..)` of a number or a bool, or a variant without fields"
+)
 
 
 class Value:
@@ -48,14 +55,20 @@ def text(type, words):
     if is_text and type.kind == "reference":
         return Value(words[0], f"{{}}.now ≡ codes {words[0]}", {"codes"})
     if is_text and type.kind == "path" and type.name == "String":
-        return Value(f"String::from_str(alloc, {words[0]})?", f"string_bytes {{}} ≡ codes {words[0]}", {"codes", "string_bytes"})
+        return Value(
+            f"String::from_str(alloc, {words[0]})?", f"string_bytes {{}} ≡ codes {words[0]}", {"codes", "string_bytes"}
+        )
     return None
 
 
 def variant(type, words, own, crate, module_of):
     """A variant without fields of an enum in the same file."""
     item = own[type.name].item if type.kind == "path" and type.name in own else None
-    named = [other for other in getattr(item, "variants", ()) if words == [type.name, ":", ":", other.name] or words == [type.name, "::", other.name]]
+    named = [
+        other
+        for other in getattr(item, "variants", ())
+        if words == [type.name, ":", ":", other.name] or words == [type.name, "::", other.name]
+    ]
     if not named or named[0].fields:
         return None
     use = f"Rattle.{crate}.specs.declared.{module_of(type.name)}.{type.name}.{{{type.name}}}"
@@ -70,7 +83,9 @@ def given(field, own, crate, module_of):
         return Value("".join(words), f"{{}} ≡ {literal[0]}", literal[1])
     found = text(type, words) or variant(type, words, own, crate, module_of)
     if not found:
-        raise Refused(field.change.line, f"`default = {''.join(words)}` is not supported for `{of_text(type)}`: write {ALLOWED}")
+        raise Refused(
+            field.change.line, f"`default = {''.join(words)}` is not supported for `{of_text(type)}`: write {ALLOWED}"
+        )
     return found
 
 
@@ -83,5 +98,8 @@ def default_of(field, own, lacking, crate, module_of):
         names = {"[]"} | ({"string_bytes"} if type.name == "String" else set())
         return Value(f"{type.name}::new(alloc)", EMPTY[type.name], names)
     if lacking(type, "Default"):
-        raise Refused(field.change.line, f"`{of_text(type)}` has no `Default` here: write `#[since({field.change.since}, default = ..)]`")
+        raise Refused(
+            field.change.line,
+            f"`{of_text(type)}` has no `Default` here: write `#[since({field.change.since}, default = ..)]`",
+        )
     return Value("Default::default()", f"⟦<{of_text(type)} as Default>⟧.is_default {{}}")

@@ -6,8 +6,10 @@ from declarations import Struct
 from keys import with_names
 
 # How a struct is made from the tuple of its fields, and how it is where only decoding makes these.
-CONVERSION = re.compile(r"(?m)^(impl.*) ConvertFrom<(.*)> for (.*) \{\n    fn convert_from\(_alloc: Global, (.*): (.*)\) -> Result<Self, Error> \{\n"
-                        r"        ((?:.*\n        )?.*?)Ok\((.*)\)\n    \}$")
+CONVERSION = re.compile(
+    r"(?m)^(impl.*) ConvertFrom<(.*)> for (.*) \{\n    fn convert_from\(_alloc: Global, (.*): (.*)\) -> Result<Self, Error> \{\n"
+    r"        ((?:.*\n        )?.*?)Ok\((.*)\)\n    \}$"
+)
 DECODED = r"""\1 FromDecoded<\2> for \3 {
     fn from_decoded(decoded: Decoded<\5>) -> Self
         ensures { MakesToo ⟦<\3 as Shaped>⟧.data.makes ⟦<\2 as Shaped>⟧.data.makes result $decoded.fields }
@@ -15,7 +17,11 @@ DECODED = r"""\1 FromDecoded<\2> for \3 {
         let \4 = decoded.into_fields();
         \6\7
     }"""
-OTHERS = {"ConvertFrom": {"Decoded", "FromDecoded"}, "ConvertFromDecoder": {"PrivateDecoder"}, "DecoderOfFields": {"DecoderOfPrivate"}}
+OTHERS = {
+    "ConvertFrom": {"Decoded", "FromDecoded"},
+    "ConvertFromDecoder": {"PrivateDecoder"},
+    "DecoderOfFields": {"DecoderOfPrivate"},
+}
 
 
 def is_private(item):

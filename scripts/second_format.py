@@ -1,9 +1,9 @@
 """The files of recursive types in the second format: what scripts/second_format writes.
 
 A group is a type, or several that contain each other. Its module has the declarations, the impls of `SerializeAs` and
-`DeserializeAs`, and the functions that read values of the group. Since the toolchain finds no measure for a cycle through
-a trait's method without `self`, these functions call each other directly: one for each type, one for each variant with
-several fields, and one for the lists of a type.
+`DeserializeAs`, and the functions that read values of the group. Since the toolchain finds no measure for a cycle
+through a trait's method without `self`, these functions call each other directly: one for each type, one for each
+variant with several fields, and one for the lists of a type.
 """
 
 import re
@@ -12,15 +12,19 @@ from declarations import Struct, fields_of
 from names import module_of
 from tokens import Refused
 
-LIBRARY = ("bitcode_memory bitcode_columns bitcode_int_columns bitcode_float_columns bitcode_shapes bitcode_coder bitcode_ints "
-           "bitcode_floats bitcode_untyped bitcode_serde bitcode_serde_types")
+LIBRARY = (
+    "bitcode_memory bitcode_columns bitcode_int_columns bitcode_float_columns bitcode_shapes bitcode_coder bitcode_ints "
+    "bitcode_floats bitcode_untyped bitcode_serde bitcode_serde_types"
+)
 
 # ---- types
 
 UNSIGNED = {"u8": 1, "u16": 2, "u32": 4, "u64": 8, "u128": 16}
 SIGNED = {"i8": 1, "i16": 2, "i32": 4, "i64": 8, "i128": 16}
 LEAVES = {
-    "bool": ("bool_tree", "truth"), "char": ("char_tree", "natural"), "String": ("text_tree", "(λ s. text (string_bytes s))"),
+    "bool": ("bool_tree", "truth"),
+    "char": ("char_tree", "natural"),
+    "String": ("text_tree", "(λ s. text (string_bytes s))"),
     "f32": ("(float_tree binary32)", "(λ x. number (float_number binary32 x))"),
     "f64": ("(float_tree binary64)", "(λ x. number (float_number binary64 x))"),
 }
@@ -55,16 +59,26 @@ class Part:
 
     def __init__(self, type_, group):
         self.type, self.rust, self.kind, self.of = type_, rust(type_), "other", None
-        inner = type_.parts[0] if type_.kind == "path" and len(type_.parts) == 1 and type_.name in ("Box", "Vec") else None
+        inner = (
+            type_.parts[0] if type_.kind == "path" and len(type_.parts) == 1 and type_.name in ("Box", "Vec") else None
+        )
         if type_.kind == "path" and type_.name in group.named:
             self.kind, self.of = "itself", group.named[type_.name]
         elif inner and inner.kind == "path" and inner.name in group.named:
             self.kind, self.of = {"Box": "box", "Vec": "list"}[type_.name], group.named[inner.name]
-        elif inner_of(type_, "Option") and inner_of(type_.parts[0], "Box") and type_.parts[0].parts[0].name in group.named and len(group.named) == 1:
+        elif (
+            inner_of(type_, "Option")
+            and inner_of(type_.parts[0], "Box")
+            and type_.parts[0].parts[0].name in group.named
+            and len(group.named) == 1
+        ):
             self.kind, self.of = "option", group.named[type_.parts[0].parts[0].name]
         elif group.mentions(type_):
-            raise Refused(type_.line, f"`{self.rust}` is not supported in a recursive type: write a struct for what it holds, or a "
-                          "`Box` or a `Vec` of the type itself")
+            raise Refused(
+                type_.line,
+                f"`{self.rust}` is not supported in a recursive type: write a struct for what it holds, or a "
+                "`Box` or a `Vec` of the type itself",
+            )
 
     def tree(self, left):
         """Its shape."""
@@ -78,15 +92,23 @@ class Part:
         if self.kind == "other":
             return datum_of(self.type)
         datum = f"{self.of.word}_datum"
-        return {"itself": datum, "box": f"(λ b. {datum} b.value)", "list": f"(λ v. list (data_of (map {datum} v.items)))",
-                "option": f"(option_datum (λ b. {datum} b.value))"}[self.kind]
+        return {
+            "itself": datum,
+            "box": f"(λ b. {datum} b.value)",
+            "list": f"(λ v. list (data_of (map {datum} v.items)))",
+            "option": f"(option_datum (λ b. {datum} b.value))",
+        }[self.kind]
 
     def in_step(self, value):
         """Its content where the content of each value of the group stands in its place."""
         if self.kind == "other":
             return applied(datum_of(self.type), value)
-        return {"itself": value, "box": f"{value}.value", "list": f"(list (data_of {value}.items))",
-                "option": f"(option_datum (λ b. b.value) {value})"}[self.kind]
+        return {
+            "itself": value,
+            "box": f"{value}.value",
+            "list": f"(list (data_of {value}.items))",
+            "option": f"(option_datum (λ b. b.value) {value})",
+        }[self.kind]
 
     def sound(self, left):
         if self.kind == "other":
@@ -136,8 +158,11 @@ def datum_of(type_):
     if not type_.parts:
         return LEAVES[type_.name][1]
     inner = datum_of(type_.parts[0])
-    return {"Vec": f"(λ v. list (data_of (map {inner} v.items)))", "Option": f"(option_datum {inner})",
-            "Box": f"(λ b. {applied(inner, 'b.value')})"}[type_.name]
+    return {
+        "Vec": f"(λ v. list (data_of (map {inner} v.items)))",
+        "Option": f"(option_datum {inner})",
+        "Box": f"(λ b. {applied(inner, 'b.value')})",
+    }[type_.name]
 
 
 def sound_of(type_, left):
@@ -195,11 +220,15 @@ class Shaped:
             self.parts = [Part(field.type, group) for field in self.item.fields]
             self.options = [field.name for field, part in zip(self.item.fields, self.parts) if part.kind == "option"]
             return
-        self.variants = [(variant, [Part(field.type, group) for field in variant.fields]) for variant in self.item.variants]
+        self.variants = [
+            (variant, [Part(field.type, group) for field in variant.fields]) for variant in self.item.variants
+        ]
         self.options = []
         for field in fields_of(self.item):
             if Part(field.type, group).kind == "option":
-                raise Refused(field.line, "an option of the type itself is supported in a struct only: add a variant without it")
+                raise Refused(
+                    field.line, "an option of the type itself is supported in a struct only: add a variant without it"
+                )
         if len(self.variants) > 256:
             raise Refused(self.item.line, "an enum has at most 256 variants")
 
@@ -236,10 +265,19 @@ class Group:
             shaped.fill(self)
         # in the toolchain's order, in which the first has the modules of the group
         self.ordered = self.types[::-1]
-        self.lists = [shaped for shaped in self.types if any(part.kind == "list" and part.of is shaped for part in self.all_parts())]
+        self.lists = [
+            shaped
+            for shaped in self.types
+            if any(part.kind == "list" and part.of is shaped for part in self.all_parts())
+        ]
         self.options = [shaped for shaped in self.types if shaped.options]
-        self.payloads = [(shaped, variant, parts) for shaped in self.types if not shaped.is_struct
-                         for variant, parts in shaped.variants if len(parts) > 1]
+        self.payloads = [
+            (shaped, variant, parts)
+            for shaped in self.types
+            if not shaped.is_struct
+            for variant, parts in shaped.variants
+            if len(parts) > 1
+        ]
 
     def all_parts(self):
         for shaped in self.types:

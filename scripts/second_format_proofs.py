@@ -4,7 +4,10 @@ from second_format import SIGNED, applied, data_of, payload_tree
 from second_format_text import list_datum, option_datum, payload_datum, used, variant_name
 
 OF_LEMMAS = [
-    ("std.proofs.Common", "◌≡◌ ℕ zero suc ◌-◌ ◌<◌ false true Option Some None Box Global map refl ap ◌∙◌ arith sub-one string_bytes"),
+    (
+        "std.proofs.Common",
+        "◌≡◌ ℕ zero suc ◌-◌ ◌<◌ false true Option Some None Box Global map refl ap ◌∙◌ arith sub-one string_bytes",
+    ),
     ("std.specs.Float", "binary32 binary64"),
     ("bitcode_shapes.specs.Datum", "Datum unit number text list tuple choice datum_and no_data data_of"),
     ("bitcode_shapes.specs.Floats", "float_number"),
@@ -22,7 +25,10 @@ OF_ANSWERS = [
     ("bitcode_shapes.specs.Datum", "Datum unit number text list tuple datum_and no_data data_of"),
     ("bitcode_shapes.specs.Floats", "float_number"),
     ("bitcode_coder.specs.Spelling", "natural truth"),
-    ("bitcode_untyped.specs.ShapeTree", "unit_tree never_tree bool_tree natural_tree integer_tree float_tree char_tree text_tree seq_tree option_tree tuple_tree choice_tree tree_and no_trees"),
+    (
+        "bitcode_untyped.specs.ShapeTree",
+        "unit_tree never_tree bool_tree natural_tree integer_tree float_tree char_tree text_tree seq_tree option_tree tuple_tree choice_tree tree_and no_trees",
+    ),
     ("bitcode_untyped.proofs.ReadLemmas", "never_read"),
     ("bitcode_serde.specs.Budget", "KeepsEach"),
     ("bitcode_serde.specs.ReadingValues", "IsRefusalAt ReadsListAt"),
@@ -30,18 +36,34 @@ OF_ANSWERS = [
     ("bitcode_serde.proofs.SerializeLemmas", "one_fault"),
     ("bitcode_serde.proofs.ValueLemmas", "continues_on seq_refused"),
     ("bitcode_serde_types.specs.Options", "option_datum"),
-    ("bitcode_serde_types.proofs.FieldsRead", "no_fields_kept place_there field_kept field_not_kept field_kept_at field_not_kept_at tuple_kept"),
-    ("bitcode_serde_types.proofs.KeptLemmas", "ElementsKept elements_more element_refused elements_there list_kept unit_kept choice_kept payload_refused"),
+    (
+        "bitcode_serde_types.proofs.FieldsRead",
+        "no_fields_kept place_there field_kept field_not_kept field_kept_at field_not_kept_at tuple_kept",
+    ),
+    (
+        "bitcode_serde_types.proofs.KeptLemmas",
+        "ElementsKept elements_more element_refused elements_there list_kept unit_kept choice_kept payload_refused",
+    ),
 ]
 
 
 def own_imports(group, text, with_lemmas=True):
-    own = " ".join(f"{shaped.word}_tree {shaped.word}_trees {shaped.word}_step {shaped.word}_datum" for shaped in group.types)
+    own = " ".join(
+        f"{shaped.word}_tree {shaped.word}_trees {shaped.word}_step {shaped.word}_datum" for shaped in group.types
+    )
     own += " " + " ".join(f"{variant_name(shaped, variant)}_trees" for shaped, variant, _ in group.payloads)
     found = used([(f"{group.crate}.specs.{group.specs}", own)], text)
     place = f"{group.crate}.specs.declared.{group.module}"
     for shaped in group.types:
-        found += used([(f"{place}.{group.ordered[0].name}.TheFolds", f"fold-roll-{shaped.name} fold_out-{shaped.name} map-{shaped.name}")], text)
+        found += used(
+            [
+                (
+                    f"{place}.{group.ordered[0].name}.TheFolds",
+                    f"fold-roll-{shaped.name} fold_out-{shaped.name} map-{shaped.name}",
+                )
+            ],
+            text,
+        )
         found += used([(f"{place}.{group.ordered[0].name}.TheViews", f"roll-{shaped.name}")], text)
         found += used([(f"{place}.{shaped.name}", f"{shaped.name} out-{shaped.name}")], text)
         if f"{shaped.word}'." in text:
@@ -50,7 +72,18 @@ def own_imports(group, text, with_lemmas=True):
     opened = " ".join(f"{shaped.name}-F" for shaped in group.types)
     found += used([(f"{place}.{first}.TheOpen", opened)], text) if opened else ""
     if with_lemmas:
-        found += used([(f"{group.crate}.proofs.{group.lemmas}", " ".join(f"{shaped.word}_more {shaped.word}_columns {shaped.word}_content {shaped.word}_made" for shaped in group.types))], text)
+        found += used(
+            [
+                (
+                    f"{group.crate}.proofs.{group.lemmas}",
+                    " ".join(
+                        f"{shaped.word}_more {shaped.word}_columns {shaped.word}_content {shaped.word}_made"
+                        for shaped in group.types
+                    ),
+                )
+            ],
+            text,
+        )
     return found
 
 
@@ -87,7 +120,12 @@ pub {w}_more : (n : ℕ) → 0 < n → {w}_tree n ≡ {shaped.tree_word()} ({w}_
 """
     for shaped in group.options:
         text += content_lemma(group, shaped, False) + content_lemma(group, shaped, True)
-    return "-- The shapes of a group of types, level by level. Written by `scripts/second_format`.\n" + used(OF_LEMMAS, text) + own_imports(group, text, False) + text
+    return (
+        "-- The shapes of a group of types, level by level. Written by `scripts/second_format`.\n"
+        + used(OF_LEMMAS, text)
+        + own_imports(group, text, False)
+        + text
+    )
 
 
 def content_lemma(group, shaped, is_made):
@@ -97,18 +135,27 @@ def content_lemma(group, shaped, is_made):
     word, fold = (f"{w}_made", f"fold-roll-{name}") if is_made else (f"{w}_content", f"fold_out-{name}")
     takes = " ".join(f"(o{n} : Option (Box {name} Global))" for n in range(count))
     given = " → ".join(f"{own}.{option} ≡ o{n}" for n, option in enumerate(shaped.options))
-    held = [f"(option_datum (λ b. {w}_datum b.value) o{shaped.options.index(field.name)})" if part.kind == "option" else applied(part.datum(), f"{own}.{field.name}")
-            for field, part in zip(shaped.item.fields, shaped.parts)]
+    held = [
+        f"(option_datum (λ b. {w}_datum b.value) o{shaped.options.index(field.name)})"
+        if part.kind == "option"
+        else applied(part.datum(), f"{own}.{field.name}")
+        for field, part in zip(shaped.item.fields, shaped.parts)
+    ]
     turns = ""
     for n in range(count):
         fields = []
         for field in shaped.item.fields:
             place = shaped.options.index(field.name) if field.name in shaped.options else None
-            fields.append(f"{field.name} = " + (f"{own}.{field.name}" if place is None or place > n else "z" if place == n else f"o{place}"))
-        turns += f"\n    ∙ ap (λ z. {w}_step (map-{name} {name} Datum {w}_datum (record {{ {'; '.join(fields)} }}))) e{n}"
+            fields.append(
+                f"{field.name} = "
+                + (f"{own}.{field.name}" if place is None or place > n else "z" if place == n else f"o{place}")
+            )
+        turns += (
+            f"\n    ∙ ap (λ z. {w}_step (map-{name} {name} Datum {w}_datum (record {{ {'; '.join(fields)} }}))) e{n}"
+        )
     es = " ".join(f"e{n}" for n in range(count))
     clauses = ""
-    for case in range(2 ** count):
+    for case in range(2**count):
         chosen = {f"o{n}": f"(Some b{n})" if case >> n & 1 else "None" for n in range(count)}
         term = turns
         for variable, pattern in chosen.items():
@@ -118,7 +165,13 @@ def content_lemma(group, shaped, is_made):
 
 
 def with_head(group, about, goals, text):
-    return f"-- {about} Written by `scripts/second_format`.\n" + used(OF_ANSWERS, text) + own_imports(group, text) + f"use Rattle.{group.crate}.proofs.{goals}.Goals as goal\n" + text
+    return (
+        f"-- {about} Written by `scripts/second_format`.\n"
+        + used(OF_ANSWERS, text)
+        + own_imports(group, text)
+        + f"use Rattle.{group.crate}.proofs.{goals}.Goals as goal\n"
+        + text
+    )
 
 
 # ---- writing
@@ -128,9 +181,11 @@ def variant_equation(group, shaped, variant, taken):
     """The content of a variant's value."""
     w = shaped.word
     args = "".join(f" {one}" for one in taken)
-    return (f"ap {w}_datum (sym ({w}'.rolls-{variant.name}{args})) ∙ fold-roll-{shaped.name} {group.fold(shaped)} ({shaped.name}-F.{variant.name}{args})"
-            if taken else
-            f"ap {w}_datum (sym {w}'.rolls-{variant.name}) ∙ fold-roll-{shaped.name} {group.fold(shaped)} {shaped.name}-F.{variant.name}")
+    return (
+        f"ap {w}_datum (sym ({w}'.rolls-{variant.name}{args})) ∙ fold-roll-{shaped.name} {group.fold(shaped)} ({shaped.name}-F.{variant.name}{args})"
+        if taken
+        else f"ap {w}_datum (sym {w}'.rolls-{variant.name}) ∙ fold-roll-{shaped.name} {group.fold(shaped)} {shaped.name}-F.{variant.name}"
+    )
 
 
 def of_struct(group, shaped):
@@ -150,14 +205,21 @@ pub {prefix}returns-then-left-eq0 : goal.{prefix}returns-then-left-eq0
     (one_fault c.args.writer.now never_tree c.args.place _ _ NestedTooDeep c.err.result _ c.args.writer.now c.err.ensures refl refl)
 """
     if shaped.is_struct:
-        return text + f"""
+        return (
+            text
+            + f"""
 pub {prefix}returns : goal.{prefix}returns
 {prefix}returns t c =
     let h : 0 < c.args.left = omega arith in
     rw ({w}_more c.args.left h, {of_struct(group, shaped)}) c.write_tuple.ensures
 """
+        )
     for index, (variant, parts) in enumerate(shaped.variants):
-        names = [field.name for field in variant.fields] if variant.kind == "named" else [f"x{n}" for n in range(len(parts))]
+        names = (
+            [field.name for field in variant.fields]
+            if variant.kind == "named"
+            else [f"x{n}" for n in range(len(parts))]
+        )
         v = variant.name
         call = "write_variant" if index == 0 else f"write_variant-in-{v}"
         equation = variant_equation(group, shaped, variant, [f"c.in-{v}.{name}" for name in names])
@@ -183,7 +245,9 @@ def lets(trees, parts, k):
         if part.kind == "other":
             text += f"    let done{n + 1} = field_kept {PRE} done{n} {part.datum()} c.in_ok-field{n}.field{n} _ _ c.in_ok-field{n}.ensures.continues\n    c.in_ok-field{n}.ensures.read in\n"
         else:
-            datum = {"list": list_datum(part.of), "option": option_datum(part.of)}.get(part.kind, f"{part.of.word}_datum")
+            datum = {"list": list_datum(part.of), "option": option_datum(part.of)}.get(
+                part.kind, f"{part.of.word}_datum"
+            )
             text += f"    let done{n + 1} = field_kept_at {PRE} done{n} _ c.in_ok-place{n}.place{n} c.in_ok-place{n}.ensures.continues\n    c.in_ok-place{n}.ensures.found c.in_ok-place{n}.ensures.stands {datum} c.in_ok-{value}.{value} _ _\n    c.in_ok-{value}.ensures.continues c.in_ok-{value}.ensures.read in\n"
     return text
 
@@ -220,12 +284,16 @@ pub {goal} : goal.{goal}
 {goal} t c =
 {lets(trees, parts, n)}    record {{ place = place_there {PRE} done{n} c.requires.place; steady = done{n}.continues.steady }}
 """
-            refused = (f"field_not_kept_at {PRE} done{n} _ c.in_ok-place{n}.place{n} c.in_ok-place{n}.ensures.continues\n"
-                       f"    c.in_ok-place{n}.ensures.found c.in_ok-place{n}.ensures.stands _ c.in_err-{found}.ensures.refused")
+            refused = (
+                f"field_not_kept_at {PRE} done{n} _ c.in_ok-place{n}.place{n} c.in_ok-place{n}.ensures.continues\n"
+                f"    c.in_ok-place{n}.ensures.found c.in_ok-place{n}.ensures.stands _ c.in_err-{found}.ensures.refused"
+            )
         residual = "c.from_residual" if n == 0 and part.kind == "other" else f"c.from_residual-in_err-{found}"
         goal = f"{fn}-returns-in_err-{found}-clause-refused"
-        inner = (f"passed_on (λ e. IsRefusalAt (tuple_tree ss) c.args.place c.args.reader.now e.reason) {residual}.result\n    c.in_err-{found}.field-0.0 y.0 y.1 y.2\n"
-                 f"    ({refused})")
+        inner = (
+            f"passed_on (λ e. IsRefusalAt (tuple_tree ss) c.args.place c.args.reader.now e.reason) {residual}.result\n    c.in_err-{found}.field-0.0 y.0 y.1 y.2\n"
+            f"    ({refused})"
+        )
         text += f"""
 pub {goal} : goal.{goal}
 {goal} t c =
@@ -241,13 +309,18 @@ pub {goal} : goal.{goal}
     goal = f"{fn}-returns-clause-read"
     kept = f"tuple_kept {PRE} done{last} {datum} {value} c.args.budget.now ({equation}) c.take.ensures"
     if has_signed(parts):
-        finish = f"    let k = {kept} in\n" + (f"    rw ({more} c.args.left h) (search (rules, k))\n" if more else "    search (rules, k)\n")
+        finish = f"    let k = {kept} in\n" + (
+            f"    rw ({more} c.args.left h) (search (rules, k))\n" if more else "    search (rules, k)\n"
+        )
     else:
         finish = turn(kept)
-    return text + f"""
+    return (
+        text
+        + f"""
 pub {goal} : goal.{goal}
 {goal} t c =
 {head}{lets(trees, parts, last)}{finish}"""
+    )
 
 
 def has_signed(parts):
@@ -325,12 +398,16 @@ def struct_answers(group, shaped):
     value = f"(record {{ {fields} }})"
     equation = f"fold-roll-{shaped.name} {group.fold(shaped)} {value}"
     if shaped.options:
-        read = [f"c.in_ok-field{n}.field{n}" for n, field in enumerate(shaped.item.fields) if field.name in shaped.options]
+        read = [
+            f"c.in_ok-field{n}.field{n}" for n, field in enumerate(shaped.item.fields) if field.name in shaped.options
+        ]
         equation = f"{w}_made {value} {' '.join(read)} {' '.join('refl' for _ in read)}"
         raise_on_boxes(shaped)
     if any(part.kind == "box" for part in shaped.parts):
         equation += f" ∙ {boxes(shaped.parts)}"
-    return deep_answer(fn, f"{w}_tree") + fields_answers(fn, f"{w}_trees (c.args.left - 1)", shaped.parts, f"{w}_more", f"{w}_datum", "_", equation)
+    return deep_answer(fn, f"{w}_tree") + fields_answers(
+        fn, f"{w}_trees (c.args.left - 1)", shaped.parts, f"{w}_more", f"{w}_datum", "_", equation
+    )
 
 
 ENUM = "c.args.reader.now c.enter_variant.new.reader c.args.place found.place"
@@ -339,7 +416,9 @@ ENUM = "c.args.reader.now c.enter_variant.new.reader c.args.place found.place"
 def enum_answers(group, shaped):
     w, fn = shaped.word, f"read_{shaped.word}"
     goal = f"{fn}-returns-in_err-found-clause-refused"
-    text = deep_answer(fn, f"{w}_tree") + f"""
+    text = (
+        deep_answer(fn, f"{w}_tree")
+        + f"""
 pub {goal} : goal.{goal}
 {goal} t c =
     let h : 0 < c.args.left = omega arith in
@@ -349,6 +428,7 @@ pub {goal} : goal.{goal}
     (passed_on (λ e. IsRefusalAt (choice_tree ss) c.args.place c.args.reader.now e.reason) c.from_residual.result c.in_err-found.field-0.0 y.0 y.1 y.2
     (c.in_err-found.ensures.refused ss refl))
 """
+    )
     for index, (variant, parts) in enumerate(shaped.variants):
         where = f"in-{index}" if index < len(shaped.variants) - 1 else "in_default"
         text += arm_answers(group, shaped, variant, parts, index, where)
@@ -404,13 +484,22 @@ pub {goal} : goal.{goal}
 """
     goal = f"{fn}-returns-in_ok-held-{where}-clause-read"
     value = f"({shaped.word}'.{variant.name} {ok}.held)" if len(parts) == 1 and has_signed(parts) else "_"
-    kept = (f"choice_kept {datum} {w}_datum ss found.index {index} {tree} {ENUM} c.in_ok-found.ensures.enters this refl _\n"
-            f"    c.args.budget.now c.enter_variant.new.budget _ {ok}.{name} {value} ({equation}) c.enter_variant.ensures.taken {ok}.ensures.read")
-    finish = f"    let k = {kept} in\n    rw ({w}_more c.args.left h) (search (rules, k))\n" if has_signed(parts) else f"    rw ({w}_more c.args.left h)\n    ({kept})\n"
-    return text + f"""
+    kept = (
+        f"choice_kept {datum} {w}_datum ss found.index {index} {tree} {ENUM} c.in_ok-found.ensures.enters this refl _\n"
+        f"    c.args.budget.now c.enter_variant.new.budget _ {ok}.{name} {value} ({equation}) c.enter_variant.ensures.taken {ok}.ensures.read"
+    )
+    finish = (
+        f"    let k = {kept} in\n    rw ({w}_more c.args.left h) (search (rules, k))\n"
+        if has_signed(parts)
+        else f"    rw ({w}_more c.args.left h)\n    ({kept})\n"
+    )
+    return (
+        text
+        + f"""
 pub {goal} : goal.{goal}
 {goal} t c =
 {lead}{finish}"""
+    )
 
 
 def first_take(shaped, variant):
@@ -479,7 +568,9 @@ def reading(group):
         text += struct_answers(group, shaped) if shaped.is_struct else enum_answers(group, shaped)
     for shaped, variant, parts in group.payloads:
         name = variant_name(shaped, variant)
-        text += fields_answers(f"read_{name}", f"{name}_trees c.args.left", parts, None, payload_datum(parts), "_", boxes(parts))
+        text += fields_answers(
+            f"read_{name}", f"{name}_trees c.args.left", parts, None, payload_datum(parts), "_", boxes(parts)
+        )
     for shaped in group.options:
         text += option_answers(group, shaped)
     for shaped in group.lists:
@@ -505,8 +596,19 @@ abbrev pub invariant-{fn}-loop-i : goal.invariant-{fn}-loop-i
 invariant-{fn}-loop-i l =
     ElementsKept {shaped.word}_datum ({shaped.word}_tree l.left) l.found.place l.initial.reader l.initial.budget l._i l.items.items l.reader l.budget
 """
-    plus = "use Rattle.std.proofs.Common.{◌*◌" + (", ◌+◌" if group.payloads or group.lists or group.options else "") + "}\n"
-    return "-- Written by `scripts/second_format`.\n" + plus + used(OF_ANSWERS, text) + own_imports(group, text) + f"use Rattle.{group.crate}.proofs.{group.module}.+{group.module}.Given as goal\n" + text
+    plus = (
+        "use Rattle.std.proofs.Common.{◌*◌"
+        + (", ◌+◌" if group.payloads or group.lists or group.options else "")
+        + "}\n"
+    )
+    return (
+        "-- Written by `scripts/second_format`.\n"
+        + plus
+        + used(OF_ANSWERS, text)
+        + own_imports(group, text)
+        + f"use Rattle.{group.crate}.proofs.{group.module}.+{group.module}.Given as goal\n"
+        + text
+    )
 
 
 def files(group):
@@ -516,11 +618,17 @@ def files(group):
     if len(group.types) == 1:
         shaped = group.types[0]
         goals = f"{module}.{shaped.name}SerializeAs.+write"
-        found[f"{module}/{shaped.name}SerializeAs/+write/Answers.antt"] = with_head(group, "The fields or the variant, or one reference too many.", goals, writing(group, shaped))
+        found[f"{module}/{shaped.name}SerializeAs/+write/Answers.antt"] = with_head(
+            group, "The fields or the variant, or one reference too many.", goals, writing(group, shaped)
+        )
     else:
         goals = f"{module}.+{module}_write"
         text = "".join(writing(group, shaped, f"{shaped.name}SerializeAs::write-") for shaped in group.types)
-        found[f"{module}/+{module}_write/Answers.antt"] = with_head(group, "The fields or the variant, or one reference too many.", goals, text)
-    found[f"{module}/+{module}/Answers.antt"] = with_head(group, "One field or element after another.", f"{module}.+{module}", reading(group))
+        found[f"{module}/+{module}_write/Answers.antt"] = with_head(
+            group, "The fields or the variant, or one reference too many.", goals, text
+        )
+    found[f"{module}/+{module}/Answers.antt"] = with_head(
+        group, "One field or element after another.", f"{module}.+{module}", reading(group)
+    )
     found[f"{module}/+{module}/Invariants.antt"] = invariants(group)
     return found

@@ -45,7 +45,10 @@ OF_SPECS = [
     ("bitcode_shapes.specs.Floats", "float_number"),
     ("bitcode_shapes.specs.LawfulInts", "width_1 width_2 width_4 width_8 width_16"),
     ("bitcode_coder.specs.Spelling", "natural truth"),
-    ("bitcode_untyped.specs.ShapeTree", "ShapeTree ShapeTrees unit_tree never_tree bool_tree natural_tree integer_tree float_tree char_tree text_tree seq_tree option_tree tuple_tree choice_tree no_trees tree_and IsSound"),
+    (
+        "bitcode_untyped.specs.ShapeTree",
+        "ShapeTree ShapeTrees unit_tree never_tree bool_tree natural_tree integer_tree float_tree char_tree text_tree seq_tree option_tree tuple_tree choice_tree no_trees tree_and IsSound",
+    ),
     ("bitcode_serde_types.specs.Options", "option_datum"),
 ]
 
@@ -58,11 +61,20 @@ def specs(group):
     lines.append("abbrev mutual" if several else "-- by how many references may be followed on one path")
     for shaped in group.types:
         pub = f"  pub {shaped.word}_tree" if several else f"abbrev pub {shaped.word}_tree"
-        lines += [f"{pub} : ℕ → ShapeTree", f"{inside}{shaped.word}_tree zero = never_tree",
-                  f"{inside}{shaped.word}_tree (suc left) = {shaped.tree_word()} {shaped.trees('left')}", ""]
+        lines += [
+            f"{pub} : ℕ → ShapeTree",
+            f"{inside}{shaped.word}_tree zero = never_tree",
+            f"{inside}{shaped.word}_tree (suc left) = {shaped.tree_word()} {shaped.trees('left')}",
+            "",
+        ]
     for shaped in group.types:
         what = "the fields" if shaped.is_struct else "what each variant holds"
-        lines += [f"-- {what} of `{shaped.name}`", f"abbrev pub {shaped.word}_trees : ℕ → ShapeTrees", f"{shaped.word}_trees left = {shaped.trees('left')}", ""]
+        lines += [
+            f"-- {what} of `{shaped.name}`",
+            f"abbrev pub {shaped.word}_trees : ℕ → ShapeTrees",
+            f"{shaped.word}_trees left = {shaped.trees('left')}",
+            "",
+        ]
     for shaped, variant, parts in group.payloads:
         name = variant_name(shaped, variant)
         lines += [f"abbrev pub {name}_trees : ℕ → ShapeTrees", f"{name}_trees left = {trees_of(parts, 'left')}", ""]
@@ -82,7 +94,11 @@ def specs(group):
                 lines.append(f"{shaped.word}_step {pattern} = choice {index} {payload}")
         lines.append("")
     for shaped in group.types:
-        lines += [f"abbrev pub {shaped.word}_datum : {shaped.name} → Datum", f"{shaped.word}_datum = fold-{shaped.name} {group.fold(shaped)}", ""]
+        lines += [
+            f"abbrev pub {shaped.word}_datum : {shaped.name} → Datum",
+            f"{shaped.word}_datum = fold-{shaped.name} {group.fold(shaped)}",
+            "",
+        ]
     if several:
         lines.append("mutual")
     for shaped in group.types:
@@ -90,12 +106,18 @@ def specs(group):
             each = [part.sound("left") for part in shaped.parts]
         else:
             each = [payload_sound(parts) for _, parts in shaped.variants]
-        lines += [f"{inside}pub {shaped.word}_sound : (left : ℕ) → IsSound ({shaped.word}_tree left)", f"{inside}{shaped.word}_sound zero = tt",
-                  f"{inside}{shaped.word}_sound (suc left) = {sounds(each)}", ""]
+        lines += [
+            f"{inside}pub {shaped.word}_sound : (left : ℕ) → IsSound ({shaped.word}_tree left)",
+            f"{inside}{shaped.word}_sound zero = tt",
+            f"{inside}{shaped.word}_sound (suc left) = {sounds(each)}",
+            "",
+        ]
     text = "\n".join(lines).rstrip() + "\n"
     names = ", ".join(f"`{shaped.name}`" for shaped in group.types)
     first = group.ordered[0].name
-    head = f"-- The shapes of {names}, and the content of their values. Written by `scripts/second_format`.\n" + used(OF_SPECS, text)
+    head = f"-- The shapes of {names}, and the content of their values. Written by `scripts/second_format`.\n" + used(
+        OF_SPECS, text
+    )
     for shaped in group.types:
         head += f"use Rattle.{group.crate}.specs.declared.{group.module}.{shaped.name}.{{{shaped.name}, fold-{shaped.name}}}\n"
     opened = ", ".join(f"{shaped.name}-F" for shaped in group.ordered)
@@ -208,13 +230,31 @@ def reading(group):
             for index, (variant, parts) in enumerate(shaped.variants):
                 body += f"        {index if index < len(shaped.variants) - 1 else '_'} => {{\n{arm(group, shaped, variant, parts)}        }}\n"
             body += "    }\n"
-        text += reads(group, f"read_{shaped.word}", shaped.of, f"({shaped.word}_tree left)", f"{shaped.word}_datum",
-                      f"Reads a value of `{shaped.name}`.", body)
+        text += reads(
+            group,
+            f"read_{shaped.word}",
+            shaped.of,
+            f"({shaped.word}_tree left)",
+            f"{shaped.word}_datum",
+            f"Reads a value of `{shaped.name}`.",
+            body,
+        )
     for shaped, variant, parts in group.payloads:
         name = variant_name(shaped, variant)
-        body = "    budget.take(1);\n" + fields_read(parts, "left") + f"    Ok(({', '.join(f'field{n}' for n in range(len(parts)))}))\n"
-        text += reads(group, f"read_{name}", f"({', '.join(part.rust for part in parts)})", f"(tuple_tree ({name}_trees left))",
-                      payload_datum(parts), f"Reads the fields of `{variant.name}`.", body)
+        body = (
+            "    budget.take(1);\n"
+            + fields_read(parts, "left")
+            + f"    Ok(({', '.join(f'field{n}' for n in range(len(parts)))}))\n"
+        )
+        text += reads(
+            group,
+            f"read_{name}",
+            f"({', '.join(part.rust for part in parts)})",
+            f"(tuple_tree ({name}_trees left))",
+            payload_datum(parts),
+            f"Reads the fields of `{variant.name}`.",
+            body,
+        )
     for shaped in group.options:
         body = f"""    let found = enter_variant(reader, budget, 2, Reason::InvalidOption, place)?;
     if found.index == 0 {{
@@ -225,8 +265,15 @@ def reading(group):
     let held = Box::new(alloc, value)?;
     Ok(Some(held))
 """
-        text += reads(group, f"read_{shaped.word}_option", f"Option<Box<{shaped.of}>>", f"(option_tree ({shaped.word}_tree left))",
-                      option_datum(shaped), f"Reads a `{shaped.name}` that may be missing.", body)
+        text += reads(
+            group,
+            f"read_{shaped.word}_option",
+            f"Option<Box<{shaped.of}>>",
+            f"(option_tree ({shaped.word}_tree left))",
+            option_datum(shaped),
+            f"Reads a `{shaped.name}` that may be missing.",
+            body,
+        )
     for shaped in group.lists:
         body = f"""    let found = enter_list(reader, budget, false, place)?;
     let mut items = Vec::new(alloc);
@@ -236,8 +283,15 @@ def reading(group):
     }}
     Ok(items)
 """
-        text += reads(group, f"read_{shaped.word}_list", f"Vec<{shaped.of}>", f"(seq_tree ({shaped.word}_tree left))",
-                      list_datum(shaped), f"Reads a list of `{shaped.name}`.", body)
+        text += reads(
+            group,
+            f"read_{shaped.word}_list",
+            f"Vec<{shaped.of}>",
+            f"(seq_tree ({shaped.word}_tree left))",
+            list_datum(shaped),
+            f"Reads a list of `{shaped.name}`.",
+            body,
+        )
     return text
 
 
@@ -252,6 +306,7 @@ def list_datum(shaped):
 def payload_datum(parts):
     """The content of what a variant holds, as a function of it."""
     from second_format import applied
+
     if not parts:
         return "(λ d. d)"
     if len(parts) == 1:
@@ -271,7 +326,10 @@ def arm(group, shaped, variant, parts):
             text = held_read(parts[0], "left - 1", "found.place", "held", "value", indent)
         return text + f"{indent}Ok({built(owner, variant.fields, variant.kind, ['held'])})\n"
     text = f"{indent}let held = read_{variant_name(shaped, variant)}(alloc, reader, budget, left - 1, found.place)?;\n"
-    return text + f"{indent}Ok({built(owner, variant.fields, variant.kind, [f'held.{place}' for place in range(len(parts))])})\n"
+    return (
+        text
+        + f"{indent}Ok({built(owner, variant.fields, variant.kind, [f'held.{place}' for place in range(len(parts))])})\n"
+    )
 
 
 def nested(names):
@@ -285,21 +343,37 @@ def impls(group, shaped):
     specs_ = f"Rattle.{group.crate}.specs.{group.specs}"
     word = shaped.word
     cycle = f"    #[cycle({group.module}_write)]\n" if len(group.types) > 1 else ""
-    body = DEEP.replace("    ", "        ", 1).replace("\n        return", "\n            return").replace("\n    }", "\n        }")
+    body = (
+        DEEP.replace("    ", "        ", 1)
+        .replace("\n        return", "\n            return")
+        .replace("\n    }", "\n        }")
+    )
     if shaped.is_struct:
         refs = [f"&self.{field.name}" for field in shaped.item.fields]
         body += f"        write_tuple(&{nested(refs)}, {len(refs)}, writer, left - 1, place)\n"
     else:
         body += "        match self {\n"
         for index, (variant, parts) in enumerate(shaped.variants):
-            names = [field.name for field in variant.fields] if variant.kind == "named" else [f"x{n}" for n in range(len(parts))]
-            taken = f" {{ {', '.join(names)} }}" if variant.kind == "named" and names else f"({', '.join(names)})" if names else ""
+            names = (
+                [field.name for field in variant.fields]
+                if variant.kind == "named"
+                else [f"x{n}" for n in range(len(parts))]
+            )
+            taken = (
+                f" {{ {', '.join(names)} }}"
+                if variant.kind == "named" and names
+                else f"({', '.join(names)})"
+                if names
+                else ""
+            )
             held = "&()" if not names else names[0] if len(names) == 1 else f"&({', '.join(names)})"
             body += f"            {shaped.name}::{variant.name}{taken} => {{\n                write_variant({held}, {index}, writer, left - 1, place)\n            }}\n"
         body += "        }\n"
     reads_lifetime = group.lifetime or "'a"
     of_own = bool(shaped.item.lifetime)
-    free_clause = f"\n        ensures {{ (left : ℕ) → result ≡ column_free ({word}_tree left) }}\n    {{" if of_own else " {"
+    free_clause = (
+        f"\n        ensures {{ (left : ℕ) → result ≡ column_free ({word}_tree left) }}\n    {{" if of_own else " {"
+    )
     read_clauses = "\n" + contract(f"({word}_tree left)", f"{word}_datum", "        ") + "    {" if of_own else " {"
     used_here = f"    ghost use {specs_}.{{{word}_tree, {word}_datum}};\n\n" if of_own else ""
     return f"""
@@ -349,6 +423,14 @@ def code(group):
     names = ", ".join(f"`{shaped.name}`" for shaped in group.types)
     head = f"//! {names} in the second format. {HEADER}\n"
     ghost = lambda module, found: f"ghost use Rattle.{module}.{{{', '.join(found)}}};\n"
-    head += imports(OF_CODE, text, ghost) + imports([(f"{group.crate}.specs.{group.specs}", own)], functions, ghost) + "\n"
-    head += imports(OF_LIBRARY, text, lambda module, found: f"use {module}::{{{', '.join(found)}}};\n" if len(found) > 1 else f"use {module}::{found[0]};\n")
+    head += (
+        imports(OF_CODE, text, ghost) + imports([(f"{group.crate}.specs.{group.specs}", own)], functions, ghost) + "\n"
+    )
+    head += imports(
+        OF_LIBRARY,
+        text,
+        lambda module, found: f"use {module}::{{{', '.join(found)}}};\n"
+        if len(found) > 1
+        else f"use {module}::{found[0]};\n",
+    )
     return head + text

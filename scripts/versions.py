@@ -87,7 +87,9 @@ def text_of(folder, path):
 
 def versions_in(folder, path):
     """The earlier versions that an imported type is read from, and what it was in each."""
-    found = re.findall(rf"(?ms)^impl\S* Earlier<(\d+)> for {path[-1]}\b.*?^    type Before = (\w+)", text_of(folder, path))
+    found = re.findall(
+        rf"(?ms)^impl\S* Earlier<(\d+)> for {path[-1]}\b.*?^    type Before = (\w+)", text_of(folder, path)
+    )
     return {int(version): name for version, name in found}
 
 
@@ -124,7 +126,9 @@ class Versions:
         numbers = {number for change in changes for number in (change.since, change.until) if number}
         inside = {other for field in fields_of(item) for other in names_in(field.type)}
         numbers |= {version + 1 for other in inside & set(self.others) for version in self.others[other]}
-        return numbers.union(*(self.found(other, (*above, name)) for other in inside & set(self.whole) - {name, *above}))
+        return numbers.union(
+            *(self.found(other, (*above, name)) for other in inside & set(self.whole) - {name, *above})
+        )
 
     def refuse(self, items):
         """Refuses what has no earlier versions."""
@@ -132,19 +136,36 @@ class Versions:
             if not self.numbers[item.name]:
                 continue
             if item.types or item.consts:
-                self.told.fault(item.line, f"`{item.name}` has parameters, so it cannot have versions: write the types themselves")
+                self.told.fault(
+                    item.line, f"`{item.name}` has parameters, so it cannot have versions: write the types themselves"
+                )
             if is_private(item):
-                self.told.fault(item.line, f"`{item.name}` has private fields, so it cannot have versions: any caller could make it from an earlier one. Make them `pub`")
+                self.told.fault(
+                    item.line,
+                    f"`{item.name}` has private fields, so it cannot have versions: any caller could make it from an earlier one. Make them `pub`",
+                )
             if isinstance(item, Struct) and len(item.fields) > 16:
-                self.told.fault(item.line, f"`{item.name}` has versions, so it has at most 16 fields: move some of them to another struct")
+                self.told.fault(
+                    item.line,
+                    f"`{item.name}` has versions, so it has at most 16 fields: move some of them to another struct",
+                )
             for version in self.of(item.name):
                 if self.before(item.name, version) in {*self.whole, *self.others}:
-                    self.told.fault(item.line, f"`{self.before(item.name, version)}` is the name of `{item.name}` in version {version}: choose another name")
+                    self.told.fault(
+                        item.line,
+                        f"`{self.before(item.name, version)}` is the name of `{item.name}` in version {version}: choose another name",
+                    )
                 if not isinstance(item, Struct) and not any(is_there(variant, version) for variant in item.variants):
-                    self.told.fault(item.line, f"`{item.name}` has no variant in version {version}: remove `#[since({version + 1})]` of one")
+                    self.told.fault(
+                        item.line,
+                        f"`{item.name}` has no variant in version {version}: remove `#[since({version + 1})]` of one",
+                    )
             for variant in getattr(item, "variants", ()):
                 if variant.change and (variant.change.until or variant.change.default):
-                    self.told.fault(variant.change.line, f"`{variant.name}` can only be added, by `#[since({variant.change.since or 2})]`: keep the variant")
+                    self.told.fault(
+                        variant.change.line,
+                        f"`{variant.name}` can only be added, by `#[since({variant.change.since or 2})]`: keep the variant",
+                    )
                 if variant.number and variant.change:
                     self.told.fault(variant.line, "only an enum without numbers can gain variants: remove them")
 
@@ -167,6 +188,7 @@ class Versions:
 
     def newest(self, item):
         """The item without what is gone."""
+
         def kept(fields):
             fields = [field for field in fields if is_there(field, None)]
             is_tuple = all(field.name.isdigit() for field in fields)
@@ -180,33 +202,59 @@ class Versions:
             return type
         if type.kind == "path" and type.name in {*self.whole, *self.others}:
             if version not in self.others.get(type.name, {version}):
-                raise Refused(type.line, f"`{type.name}` has no version {version}: give the file of its declaration too, by `--also FILE`")
+                raise Refused(
+                    type.line,
+                    f"`{type.name}` has no version {version}: give the file of its declaration too, by `--also FILE`",
+                )
             return type._replace(name=self.before(type.name, version))
         place = CONTAINERS.get(type.name) if type.kind == "path" else None
         others = [part for i, part in enumerate(type.parts) if i != place]
         if place is None or any(self.is_changed(part, version) for part in others):
             held = next(name for name in names_in(type) if version in self.of(name))
-            what = "a key cannot change" if place is not None else "a changed type is held by fields, `Box`, `Option`, `Vec` and maps"
-            raise Refused(type.line, f"`{of_text(type)}` holds `{held}`, which has versions: {what}. Hold it in a struct")
-        return type._replace(parts=[self.type_at(part, version) if i == place else part for i, part in enumerate(type.parts)])
+            what = (
+                "a key cannot change"
+                if place is not None
+                else "a changed type is held by fields, `Box`, `Option`, `Vec` and maps"
+            )
+            raise Refused(
+                type.line, f"`{of_text(type)}` holds `{held}`, which has versions: {what}. Hold it in a struct"
+            )
+        return type._replace(
+            parts=[self.type_at(part, version) if i == place else part for i, part in enumerate(type.parts)]
+        )
 
     def at(self, item, version):
         """The item as it was in the version, under that version's name."""
+
         def kept(fields):
-            return [field._replace(type=self.type_at(field.type, version), docs=[], attributes=[]) for field in fields if is_there(field, version)]
+            return [
+                field._replace(type=self.type_at(field.type, version), docs=[], attributes=[])
+                for field in fields
+                if is_there(field, version)
+            ]
 
         name = self.before(item.name, version)
         last = name.removeprefix(f"{item.name}Of")
-        item = item._replace(name=name, docs=[f"/// `{item.name}` as it was in version {last}."], derives=[], attributes=[])
+        item = item._replace(
+            name=name, docs=[f"/// `{item.name}` as it was in version {last}."], derives=[], attributes=[]
+        )
         if isinstance(item, Struct):
             return item._replace(fields=kept(item.fields))
         there = [variant for variant in item.variants if is_there(variant, version)]
-        return item._replace(variants=[variant._replace(fields=kept(variant.fields), docs=[], attributes=[]) for variant in there])
+        return item._replace(
+            variants=[variant._replace(fields=kept(variant.fields), docs=[], attributes=[]) for variant in there]
+        )
 
     def earlier_enums(self, name):
         """The enum as it was in each earlier version, which has a file of its own."""
         item = self.whole[name]
-        return [] if isinstance(item, Struct) else list({earlier.name: earlier for earlier in (self.at(item, version) for version in self.of(name))}.values())
+        return (
+            []
+            if isinstance(item, Struct)
+            else list(
+                {earlier.name: earlier for earlier in (self.at(item, version) for version in self.of(name))}.values()
+            )
+        )
 
     def refuse_holders(self, files):
         """Refuses to change types that files of the crate hold which are not written again."""
@@ -217,9 +265,15 @@ class Versions:
             if module in files or "scripts/new_type" not in text.split("\nuse ")[0]:
                 continue
             for name, item in self.whole.items():
-                held = re.search(rf"(?m)^use crate::{module_of(name)}::(?:\w+|\{{[^}}]*\b){name}\b|^use crate::{module_of(name)}::{name};", text)
+                held = re.search(
+                    rf"(?m)^use crate::{module_of(name)}::(?:\w+|\{{[^}}]*\b){name}\b|^use crate::{module_of(name)}::{name};",
+                    text,
+                )
                 if held and any(f"Earlier<{version}>" not in text for version in self.of(name)):
-                    self.told.fault(item.line, f"`src/{module}.rt` holds `{name}`, which has versions: give the file of its declaration too, by `--also FILE`")
+                    self.told.fault(
+                        item.line,
+                        f"`src/{module}.rt` holds `{name}`, which has versions: give the file of its declaration too, by `--also FILE`",
+                    )
 
     def known_others(self, imports):
         """What is known of earlier types of other files."""
@@ -241,7 +295,12 @@ class Versions:
             return file, needed
         writer = Earlier(self, self.whole[item.name], own, crate, lacking)
         texts = [writer.text(version) for version in versions]
-        file += "".join(texts) + Template(VERSIONED).substitute(life=arguments(item), name=item.name, versions=listed([f"Version<{version}>" for version in versions]), opening=listed([f"{item.name}Version{version}" for version in versions]))
+        file += "".join(texts) + Template(VERSIONED).substitute(
+            life=arguments(item),
+            name=item.name,
+            versions=listed([f"Version<{version}>" for version in versions]),
+            opening=listed([f"{item.name}Version{version}" for version in versions]),
+        )
         file = with_names(file, "Rattle.std.specs.Prelude", writer.names) if writer.names else file
         imports = {f"use {path};" for path in writer.imports - {"std::alloc::Global"}}
         return with_uses(file, imports), writer.crates
@@ -249,7 +308,9 @@ class Versions:
 
 ENCODES = r"(?:WritesVariants|VariantColumns|HasEncoder|HasField|InFields)"
 # What of the file of a type only its encoder needs.
-BLOCKS = re.compile(rf"(?ms)^(?:///[^\n]*\n)?(?:#\[[^\n]*\n)*(?:pub struct \w+Columns\b|impl[^{{\n]*\b{ENCODES}\b[^{{\n]* for )[^\n]*\{{.*?^\}}\n\n?")
+BLOCKS = re.compile(
+    rf"(?ms)^(?:///[^\n]*\n)?(?:#\[[^\n]*\n)*(?:pub struct \w+Columns\b|impl[^{{\n]*\b{ENCODES}\b[^{{\n]* for )[^\n]*\{{.*?^\}}\n\n?"
+)
 ALIASES = re.compile(r"(?m)^type (?:Columns|Fields)\w*[^;]*;\n\n?")
 
 
@@ -259,19 +320,40 @@ def without_encoder(file):
     rest = re.sub(r"(?m)^(ghost )?use .*$", "", file)
 
     def used(found):
-        names = [name for name in found[3].split(", ") if re.search(rf"(?<!\w){re.escape(name.strip('◌'))}(?!\w)", rest) or "◌" in name]
-        return f"{found[1]}{found[2]}.{{{', '.join(names)}}};" if "." in found[2] else f"{found[1]}{found[2]}::{{{', '.join(names)}}};"
+        names = [
+            name
+            for name in found[3].split(", ")
+            if re.search(rf"(?<!\w){re.escape(name.strip('◌'))}(?!\w)", rest) or "◌" in name
+        ]
+        return (
+            f"{found[1]}{found[2]}.{{{', '.join(names)}}};"
+            if "." in found[2]
+            else f"{found[1]}{found[2]}::{{{', '.join(names)}}};"
+        )
 
-    return re.sub(r"(?m)^((?:ghost )?use )([\w:.]+?)(?:::|\.)\{([^}]*)\};", lambda found: used(found) if found[3] else found[0], file)
+    return re.sub(
+        r"(?m)^((?:ghost )?use )([\w:.]+?)(?:::|\.)\{([^}]*)\};",
+        lambda found: used(found) if found[3] else found[0],
+        file,
+    )
 
 
 def with_uses(file, imports):
     """The file with these `use` lines and those of what reads earlier versions."""
     first = re.search(r"(?m)^use ", file)
     start, end = first.start(), file.index("\n\n", first.start())
-    lines = set(file[start:end].split("\n")) | imports | {"use bitcode::sealed::{Earlier, Expected, OpenError, ReadsVersions, Version, Versioned, open_version};", "use std::alloc::Global;"}
+    lines = (
+        set(file[start:end].split("\n"))
+        | imports
+        | {
+            "use bitcode::sealed::{Earlier, Expected, OpenError, ReadsVersions, Version, Versioned, open_version};",
+            "use std::alloc::Global;",
+        }
+    )
     whole = [line for line in sorted(lines) if not line.startswith("use bitcode::{")]
-    names = {name.strip() for line in lines if line.startswith("use bitcode::{") for name in line[14:-2].split(",")} | {"Error"}
+    names = {name.strip() for line in lines if line.startswith("use bitcode::{") for name in line[14:-2].split(",")} | {
+        "Error"
+    }
     return file[:start] + "\n".join(sorted([*whole, f"use bitcode::{{{', '.join(sorted(names))}}};"])) + file[end:]
 
 
@@ -295,14 +377,32 @@ class Earlier:
         alias = ""
         if isinstance(item, Struct) and before.name == before_name(item.name, version):
             types = [of_text(field.type) for field in before.fields]
-            alias = Template(ALIAS).substitute(name=item.name, version=version, before=before.name, life=bounds(item, ""), tuple=halved(types) if types else "()")
+            alias = Template(ALIAS).substitute(
+                name=item.name,
+                version=version,
+                before=before.name,
+                life=bounds(item, ""),
+                tuple=halved(types) if types else "()",
+            )
         elif not isinstance(item, Struct):
             self.imports.add(f"crate::{module_of(before.name)}::{before.name}")
         ghost_use = "".join(f"    ghost use {path};\n" for path in sorted(self.uses))
-        return alias + Template(EARLIER).substitute(row, life=life, name=item.name, version=version, before=before.name, alloc="alloc" if self.needs_alloc else "_alloc", ghost_use=ghost_use + "\n" * bool(ghost_use)) + Template(OPENS).substitute(name=item.name, version=version, life=life, input=item.lifetime or "'a")
+        return (
+            alias
+            + Template(EARLIER).substitute(
+                row,
+                life=life,
+                name=item.name,
+                version=version,
+                before=before.name,
+                alloc="alloc" if self.needs_alloc else "_alloc",
+                ghost_use=ghost_use + "\n" * bool(ghost_use),
+            )
+            + Template(OPENS).substitute(name=item.name, version=version, life=life, input=item.lifetime or "'a")
+        )
 
     def of_field(self, field, version, taken, place):
-        """The expression of a field, and what is said of its value; nothing, where it is the very value at the place."""
+        """The expression of a field, and what is said of its value: nothing, where it is the value at the place."""
         if not is_there(field, version):
             value = default_of(field, self.own, self.lacking, self.crate, module_of)
             self.names |= value.names
@@ -317,7 +417,10 @@ class Earlier:
 
     def moved(self, fields, version, names, at):
         """The expression and what is said of each field that is not gone, of those of a struct or a variant."""
-        place_of = {id(field): (name, place) for field, name, place in zip([field for field in fields if is_there(field, version)], names, at)}
+        place_of = {
+            id(field): (name, place)
+            for field, name, place in zip([field for field in fields if is_there(field, version)], names, at)
+        }
         found = []
         for field in fields:
             if is_there(field, None):
@@ -358,14 +461,22 @@ class Earlier:
         """An arm of what is said, and one of the match."""
         name, old, letters = quoted(self.item.name), quoted(before.name), list(LETTERS)
         there = [field for field in variant.fields if is_there(field, version)]
-        # A field of the variant that is there has a letter in both arms; what is not the very value has a name of its own.
+        # A field of the variant that is there has a letter in both arms; what is not the very value has a name of its
+        # own.
         found = self.moved(variant.fields, version, letters, letters)
         new = [f"{place or 'new'}{i}" if relation else place for i, (_, _, relation, place) in enumerate(found)]
-        said = " × ".join([f"({relation.format(value)})" for (_, _, relation, _), value in zip(found, new) if relation] + [f"(t ≡ {' '.join([f'{name}.{variant.name}', *new])})"])
+        said = " × ".join(
+            [f"({relation.format(value)})" for (_, _, relation, _), value in zip(found, new) if relation]
+            + [f"(t ≡ {' '.join([f'{name}.{variant.name}', *new])})"]
+        )
         for (_, _, relation, _), value in reversed([*zip(found, new)]):
             said = f"({value} : _) × ({said})" if relation else said
         exec_names = [letter if is_there(field, None) else f"_{letter}" for field, letter in zip(there, letters)]
-        inner = {"named": f" {{ {', '.join(f'{field.name}: {letter}' for field, letter in zip(there, exec_names))} }}", "tuple": f"({', '.join(exec_names)})", "unit": ""}[variant.kind]
+        inner = {
+            "named": f" {{ {', '.join(f'{field.name}: {letter}' for field, letter in zip(there, exec_names))} }}",
+            "tuple": f"({', '.join(exec_names)})",
+            "unit": "",
+        }[variant.kind]
         arm = f"{before.name}::{variant.name}{inner} => Ok({self.built(f'{self.item.name}::{variant.name}', found, variant.kind)}),"
         return f"{' '.join([f'{old}.{variant.name}', *letters[: len(there)]])} ↦ λ t. {said}", arm
 
@@ -373,7 +484,10 @@ class Earlier:
         """What makes an enum from one with the variants that it had."""
         there = [variant for variant in self.item.variants if is_there(variant, version)]
         arms = [self.of_variant(variant, before, version) for variant in there]
-        self.uses |= {f"Rattle.{self.crate}.specs.declared.{module_of(name)}.{quoted(name)}.{{{quoted(name)}}}" for name in (self.item.name, before.name)}
+        self.uses |= {
+            f"Rattle.{self.crate}.specs.declared.{module_of(name)}.{quoted(name)}.{{{quoted(name)}}}"
+            for name in (self.item.name, before.name)
+        }
         return {
             "relation": f"elim [ {' | '.join(said for said, _ in arms)} ]",
             "pattern": "before",
