@@ -29,8 +29,8 @@ pub use Rattle.bitcode_tuples.specs.Pairs.{pairs_of}
 pub use Rattle.bitcode_parts.specs.Payloads.{choices_of}
 pub use Rattle.bitcode_parts.specs.Variants.{variant_room, variants_left, variants_owned}
 pub use Rattle.bitcode_parts.specs.Elements.{MakesOfElements}
--- What a struct with private fields is made from; what is written and read of bytes, the values that are surely read back, and that a reason not other than want of memory is
--- want of memory:
+-- What a struct with private fields is made from, and when more values surely pass the limit of arrays. What is written
+-- and read of bytes, the values that are surely read back, and that a reason not other than want of memory is it:
 pub use Rattle.bitcode_shapes.specs.Datum.{Datum, natural_in}
 pub use Rattle.bitcode_coder.specs.Coder.{IsWritingRefusal, MakesToo, SurelyOverflows}
 pub use Rattle.bitcode_derive.specs.ShortLengths.{elements_have_entries, has_no_lengths}

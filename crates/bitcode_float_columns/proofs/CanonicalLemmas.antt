@@ -1,8 +1,8 @@
 -- The bits of floats.
-use Rattle.std.proofs.Common.{◌≡◌, ℕ, ◌*◌, ◌^◌, ◌<◌, List, [], ◌∷◌, map, All, T, refl, ap}
+use Rattle.std.proofs.Common.{◌≡◌, ℕ, ◌*◌, ◌<◌, List, [], ◌∷◌, map, All, T, refl, ap}
 use Rattle.std.specs.Prelude.{to_bits, from_bits}
 use Rattle.std.proofs.lemmas.List.Elements.{All-nil, All-cons, All-head, All-tail}
-use Rattle.std.specs.Float.{Float, Format, binary32, binary64}
+use Rattle.std.specs.Float.{Float, Format}
 use lib.Ieee.{fits, top}
 use lib.Ieee.Bits.{of_bits-to_bits, of_bits-fits, to_bits-lt}
 use Rattle.bitcode_float_columns.specs.FloatColumn.{canonical}
@@ -14,12 +14,6 @@ to_bits-canonical f x held = ap (to_bits f) (of_bits-to_bits f x held)
 -- canonical bits fit
 pub canonical_below : (f : Format) (bits : ℕ) → canonical f bits < 2 * top f
 canonical_below f bits = to_bits-lt f (from_bits f bits) (of_bits-fits f bits)
-
-pub canonical_below_32 : (bits : ℕ) → canonical binary32 bits < 256 ^ 4
-canonical_below_32 bits = canonical_below binary32 bits
-
-pub canonical_below_64 : (bits : ℕ) → canonical binary64 bits < 256 ^ 8
-canonical_below_64 bits = canonical_below binary64 bits
 
 -- bits that are canonical are unchanged
 pub canonical_each : (f : Format) (bits : List ℕ) → All (λ b. canonical f b ≡ b) bits → map (canonical f) bits ≡ bits

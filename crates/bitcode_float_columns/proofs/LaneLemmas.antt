@@ -20,19 +20,18 @@ use Rattle.std.proofs.lemmas.Bool.{true≢false}
 
 -- Of the lanes xs, `ms` marks those of which `marks` holds. One value stands in the place of each marked one.
 module _ {A : Type 0} (marks : A → Bool) (xs : List A) where
-  -- a result is g of its lane, where it is c at a marked one, and f gives it at any other
-  pub replaced : {B : Type 0} (f g : A → B) (c : B) (d : A) → ((a : A) → marks a ≡ true → c ≡ g a) → ((a : A) → marks a ≡ false → f a ≡ g a)
-      → {ms : List Bool} {cs : List B} {ds : List A} → ms ≡ map marks xs → cs ≡ replicate (length xs) c → ds ≡ replicate (length xs) d
-      → sel_l ms cs (map f (sel_l ms ds xs)) ≡ map g xs
-  replaced f g c d marked other {ms} {cs} {ds} marks_are cs_are ds_are =
+  -- a result is f of its lane, where c is that at each marked one
+  pub replaced : {B : Type 0} (f : A → B) (c : B) (d : A) → ((a : A) → marks a ≡ true → c ≡ f a) → {ms : List Bool} {cs : List B} {ds : List A}
+      → ms ≡ map marks xs → cs ≡ replicate (length xs) c → ds ≡ replicate (length xs) d → sel_l ms cs (map f (sel_l ms ds xs)) ≡ map f xs
+  replaced f c d marked {ms} {cs} {ds} marks_are cs_are ds_are =
       ap₂ (λ m r. sel_l m r (map f (sel_l m ds xs))) marks_are cs_are
       ∙ ap (λ r. sel_l (map marks xs) (replicate (length xs) c) (map f (sel_l (map marks xs) r xs))) ds_are ∙ each xs
     where
-      lane : (x : A) (b : Bool) → marks x ≡ b → cond b c (f (cond b d x)) ≡ g x
+      lane : (x : A) (b : Bool) → marks x ≡ b → cond b c (f (cond b d x)) ≡ f x
       lane x true e = marked x e
-      lane x false e = other x e
+      lane x false e = refl
 
-      each : (xs : List A) → sel_l (map marks xs) (replicate (length xs) c) (map f (sel_l (map marks xs) (replicate (length xs) d) xs)) ≡ map g xs
+      each : (xs : List A) → sel_l (map marks xs) (replicate (length xs) c) (map f (sel_l (map marks xs) (replicate (length xs) d) xs)) ≡ map f xs
       each [] = refl
       each (x ∷ xs) = ap₂ (λ y ys. y ∷ ys) (lane x (marks x) refl) (each xs)
 

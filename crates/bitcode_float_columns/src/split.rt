@@ -1,7 +1,7 @@
 //! Packing and unpacking the bits of 4-byte floats.
-ghost use Rattle.std.specs.Prelude.{◌≡◌, ◌≢◌, ◌+◌, ◌-◌, ◌*◌, ◌/◌, ◌<◌, ◌≤◌, ◌++◌, [], ◌∷◌, Some, length, map, take};
-ghost use Rattle.std.specs.Prelude.{drop, to_bits, from_bits, vec_len, vec_capacity, IsTrue, IsOk, IfOk, OnOk, IfErr};
-ghost use Rattle.std.specs.Prelude.{OnErr, ◌↔◌, All, MatchBool};
+ghost use Rattle.std.specs.Prelude.{◌≡◌, ◌≢◌, ◌+◌, ◌-◌, ◌*◌, ◌/◌, ◌<◌, ◌≤◌, ◌++◌, [], ◌∷◌, ◌↔◌};
+ghost use Rattle.std.specs.Prelude.{Some, length, map, take, drop, to_bits, from_bits, vec_len};
+ghost use Rattle.std.specs.Prelude.{vec_capacity, IsTrue, IsOk, IfOk, OnOk, IfErr, OnErr, All, MatchBool};
 ghost use Rattle.std.specs.Float.{binary32};
 ghost use Rattle.bitcode_memory.specs.LittleEndian.{raw_text};
 ghost use Rattle.bitcode_columns.specs.Reading.{Reads, missing};

@@ -1,5 +1,5 @@
 -- A NaN is replaced by 0 before bits are taken.
-use Rattle.std.proofs.Common.{refl, sym, ap}
+use Rattle.std.proofs.Common.{sym, ap}
 use Rattle.std.specs.Prelude.{to_bits, from_bits}
 use Rattle.std.specs.Float.{NotNan, binary32}
 use Rattle.std.specs.Float.Ieee.{is_nan}
@@ -17,5 +17,5 @@ pub returns : goal.returns
 returns c =
     let zeros = ap (λ n. replicate n (from_bits binary32 0)) (sym c.requires) in
     let nans = ap (λ n. replicate n 0x7fc00000) (sym c.requires) in
-    replaced is_nan c.args.floats (to_bits binary32) (to_bits binary32) 0x7fc00000 (from_bits binary32 0) bits_of_nan_32 (λ x e. refl)
+    replaced is_nan c.args.floats (to_bits binary32) 0x7fc00000 (from_bits binary32 0) bits_of_nan_32
     (marks_of_floats w32 c.args.floats) nans zeros

@@ -1,5 +1,5 @@
 -- A NaN is replaced by 0 before bits are taken.
-use Rattle.std.proofs.Common.{refl, sym, ap, arith}
+use Rattle.std.proofs.Common.{sym, ap, arith}
 use Rattle.std.specs.Prelude.{to_bits, from_bits}
 use Rattle.std.specs.Float.{NotNan, binary64}
 use Rattle.std.specs.Float.Ieee.{is_nan}
@@ -21,5 +21,5 @@ pub returns : goal.returns
 returns c =
     let zeros = ap (λ n. replicate n (from_bits binary64 0)) (sym c.requires) in
     let nans = ap (λ n. replicate n 0x7ff8000000000000) (sym c.requires) in
-    replaced is_nan c.args.floats (to_bits binary64) (to_bits binary64) 0x7ff8000000000000 (from_bits binary64 0) bits_of_nan_64 (λ x e. refl)
+    replaced is_nan c.args.floats (to_bits binary64) 0x7ff8000000000000 (from_bits binary64 0) bits_of_nan_64
     (marks_of_floats w64 c.args.floats) nans zeros

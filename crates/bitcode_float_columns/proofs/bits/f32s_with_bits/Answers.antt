@@ -18,5 +18,5 @@ pub returns : goal.returns
 returns c =
     let zeros = ap (λ n. replicate n 0) (sym c.requires) in
     let nans = ap (λ n. replicate n (from_bits binary32 0x7fc00000)) (sym c.requires) ∙ ap (λ x. replicate (length c.args.bits) x) nan_of_bits_32 in
-    replaced (nan_bits binary32) c.args.bits (from_bits binary32) (from_bits binary32) nan 0 (nan_with_bits binary32) (λ x e. refl)
+    replaced (nan_bits binary32) c.args.bits (from_bits binary32) nan 0 (nan_with_bits binary32)
     (marks_of_bits w32 binary32 0x7f800000 c.args.bits c.requires refl refl) nans zeros
