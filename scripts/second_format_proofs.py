@@ -99,15 +99,9 @@ def columns_of(parts, n):
     return proof
 
 
-def lemmas(group):
+def columns_lemmas(group):
+    """That the type of each list has columns, as the end of a list asks."""
     text = ""
-    for shaped in group.types:
-        w = shaped.word
-        text += f"""
-pub {w}_more : (n : ℕ) → 0 < n → {w}_tree n ≡ {shaped.tree_word()} ({w}_trees (n - 1))
-{w}_more zero h = absurd (omega (arith, h))
-{w}_more (suc n) h = rw sub-one refl
-"""
     several = len(group.types) > 1
     text += "\nmutual\n" if several else ""
     inside = "  " if several else ""
@@ -118,6 +112,19 @@ pub {w}_more : (n : ℕ) → 0 < n → {w}_tree n ≡ {shaped.tree_word()} ({w}_
 {inside}{w}_columns zero = refl
 {inside}{w}_columns (suc n) = {proof}
 """
+    return text
+
+
+def lemmas(group):
+    text = ""
+    for shaped in group.types:
+        w = shaped.word
+        text += f"""
+pub {w}_more : (n : ℕ) → 0 < n → {w}_tree n ≡ {shaped.tree_word()} ({w}_trees (n - 1))
+{w}_more zero h = absurd (omega (arith, h))
+{w}_more (suc n) h = rw sub-one refl
+"""
+    text += columns_lemmas(group) if group.lists else ""
     for shaped in group.options:
         text += content_lemma(group, shaped, False) + content_lemma(group, shaped, True)
     return (

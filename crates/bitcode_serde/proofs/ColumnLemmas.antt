@@ -7,7 +7,6 @@ use Rattle.std.proofs.lemmas.List.{length-map, map-append}
 use Rattle.std.proofs.lemmas.List.Elements.{All-map, All-weaker}
 use Rattle.bitcode_memory.specs.declared.error.Error.{Error}
 use Rattle.bitcode_memory.specs.declared.error.Reason.{Reason}
-use Rattle.bitcode_memory.specs.declared.error.Reason.TheVariants.{OutOfMemory}
 use Rattle.bitcode_columns.specs.Reading.{Reads}
 use Rattle.bitcode_columns.proofs.IntColumnLemmas.{some_width}
 use Rattle.bitcode_shapes.specs.Datum.{Datum, text}
@@ -102,11 +101,6 @@ module _ (shape : Shape) (kind : ColumnKind) (columns : (ds : List Datum) → co
       };
     }),
   )
-
--- want of memory refuses every column
-pub memory_refused : (kind : Kind) (reason : Reason) (count : ℕ) (input : List ℕ) → reason ≡ OutOfMemory → IsColumnRefusal kind reason count input
-unfolding IsColumnRefusal
-memory_refused kind reason count input is = (subst IsColumnReason (sym is) tt, λ other. absurd (other is))
 
 -- ---- lengths
 

@@ -14,14 +14,14 @@ use Rattle.bitcode_untyped.specs.Population.{total, count_of}
 use Rattle.bitcode_untyped.specs.Runs.{Runs}
 use Rattle.bitcode_untyped.specs.ShapeTree.{ShapeTree, ShapeTrees, no_trees, tree_and, unit_tree, never_tree, leaf_tree, seq_tree, map_tree, choice_tree, tree_at, greatest_index}
 use Rattle.bitcode_untyped.specs.PlacedColumns.{PlacedColumn}
-use Rattle.bitcode_untyped.specs.Walk.{Step, element, key, value, variant, Place, use_at, length_kind, index_kind, walk}
+use Rattle.bitcode_untyped.specs.Walk.{element, key, value, variant, Place, use_at, length_kind, index_kind, walk}
 use Rattle.bitcode_untyped.proofs.ReadLemmas.{many_push, many_stuck, one_datum_read, unit_read, never_read, seq_read, seq_stuck, choice_read, choice_stuck, one_pair_read, pair_read, pair_stuck_key, pair_stuck_value, map_read, map_stuck}
 use Rattle.bitcode_untyped.specs.View.{datum_of}
 use Rattle.bitcode_untyped.specs.declared.value.Value.{Value}
 use Rattle.bitcode_serde.specs.ReadColumns.{kind_of, IsColumnReason}
 use Rattle.bitcode_serde.specs.Reading.{IsAskedAs, Hosts, Stands, NothingAt, NotSoMany, Leads, LeadsEach, LeadsTelling, AddsLed, AreSized}
 use Rattle.bitcode_serde.specs.Places.{step_of, IsPlace, places_from, places, place_at}
-use Rattle.bitcode_serde.specs.ReadingValues.{IsSteady, Continues, GoesAlong, HasNone, ReadsAt, ReadsListAt, AddsRead, IsValueReason, IsRefusalOf, IsRefusalAt, IsListRefusalAt}
+use Rattle.bitcode_serde.specs.ReadingValues.{IsSteady, Continues, GoesAlong, HasNone, Enters, EntersList, ReadsAt, ReadsListAt, AddsRead, IsValueReason, IsRefusalOf, IsRefusalAt, IsListRefusalAt}
 use Rattle.bitcode_serde.specs.declared.column.ColumnKind.{ColumnKind}
 use Rattle.bitcode_serde.specs.declared.reader.Reader.{Reader}
 use Rattle.bitcode_serde.specs.declared.places.Below.{Below}
@@ -190,14 +190,6 @@ continues_stepped old mid new below asked sized columns again kept = record {
 }
 
 -- ---- going down
-
--- An entry is taken, and what it counts stands at a place one step below.
-pub record Enters (way : Step) (kind : Kind) (d : Datum) (old new : Reader) (place inside : ℕ) : Type 0 where
-  pub at : (p : Place) → IsPlace old.places.below.items place p → IsPlace new.places.below.items inside (way ∷ p)
-  pub goes : GoesAlong old place new (λ p a b. Takes a (use_at p kind d) b × IsEntryOf kind d)
-
-abbrev pub EntersList : Reader → Reader → ℕ → ℕ → ℕ → Type 0
-EntersList old new place inside n = Enters element length_kind (natural n) old new place inside
 
 pub enters : (way : CodeStep) (kind : Kind) (d : Datum) (Told : List Datum → Type 0) (old mid new : Reader) (place inside count : ℕ)
     → ((ws : List PlacedColumn) (p : Place) → is_open ws p ≡ true → Told (entries_of ws p) → Hosts ws (step_of way ∷ p) count)

@@ -5,13 +5,15 @@ use Rattle.bitcode_memory.specs.declared.error.Reason.{Reason}
 use Rattle.bitcode_memory.specs.declared.error.Reason.TheVariants.{ExpectedEof, InvalidEnumVariant, OutOfMemory, InvalidOption, InvalidChar, TooManyZeroSizedTypes, NestedTooDeep, NotOfTheShape, TooManyNodes}
 use Rattle.bitcode_shapes.specs.Datum.{Datum}
 use Rattle.bitcode_shapes.specs.Shape.{any_number}
+use Rattle.bitcode_coder.specs.Columns.{Kind, IsEntryOf}
+use Rattle.bitcode_coder.specs.Spelling.{natural}
 use Rattle.bitcode_untyped.specs.Faults.{faults_of}
-use Rattle.bitcode_untyped.specs.Machine.{State}
+use Rattle.bitcode_untyped.specs.Machine.{State, Takes}
 use Rattle.bitcode_untyped.specs.Nodes.{node_count}
 use Rattle.bitcode_untyped.specs.Reads.{ReadsDatum, ReadsNoDatum, IsReadable, ReadsMany}
 use Rattle.bitcode_untyped.specs.ShapeTree.{ShapeTree, leaf_tree}
 use Rattle.bitcode_untyped.specs.View.{datum_of, tree_by}
-use Rattle.bitcode_untyped.specs.Walk.{field, Place, walk}
+use Rattle.bitcode_untyped.specs.Walk.{Step, element, field, Place, use_at, length_kind, walk}
 use Rattle.bitcode_untyped.specs.declared.shape.ShapeNode.{ShapeNode}
 use Rattle.bitcode_untyped.specs.declared.shape.ShapeNode.TheVariants as node
 use Rattle.bitcode_untyped.specs.declared.value.Value.{Value}
@@ -42,6 +44,14 @@ GoesAlong old place new Does =
 -- The machine does not do this where the reader stands.
 abbrev pub HasNone : Reader → ℕ → (Place → State → Type 0) → Type 0
 HasNone old place DoesNot = (p : Place) → IsPlace old.places.below.items place p → (a : State) → Stands old a → DoesNot p a
+
+-- An entry is taken, and what it counts stands at a place one step below.
+pub record Enters (way : Step) (kind : Kind) (d : Datum) (old new : Reader) (place inside : ℕ) : Type 0 where
+  pub at : (p : Place) → IsPlace old.places.below.items place p → IsPlace new.places.below.items inside (way ∷ p)
+  pub goes : GoesAlong old place new (λ p a b. Takes a (use_at p kind d) b × IsEntryOf kind d)
+
+abbrev pub EntersList : Reader → Reader → ℕ → ℕ → ℕ → Type 0
+EntersList old new place inside n = Enters element length_kind (natural n) old new place inside
 
 -- a datum is read at the place
 abbrev pub ReadsAt : ShapeTree → ℕ → Reader → Datum → Reader → Type 0

@@ -19,12 +19,12 @@ use Rattle.bitcode_coder.specs.Spelling.{natural}
 use Rattle.bitcode_serde.specs.Budget.{spend, IsLeft, Keeps, KeepsEach}
 use Rattle.bitcode_serde.specs.Places.{places, place_at}
 use Rattle.bitcode_serde.specs.Reading.{Leads}
-use Rattle.bitcode_serde.specs.ReadingValues.{IsSteady, Continues, ReadsAt, ReadsListAt, IsRefusalAt, IsListRefusalAt}
+use Rattle.bitcode_serde.specs.ReadingValues.{IsSteady, Continues, Enters, EntersList, ReadsAt, ReadsListAt, IsRefusalAt, IsListRefusalAt}
 use Rattle.bitcode_serde.specs.declared.budget.Budget.{Budget}
 use Rattle.bitcode_serde.specs.declared.budget.Budget.TheVariants.{Endless, Spent}
 use Rattle.bitcode_serde.specs.declared.reader.Reader.{Reader}
 use Rattle.bitcode_serde.proofs.BudgetLemmas.{spend-then, spend-Endless, spend-Spent, keeps_more}
-use Rattle.bitcode_serde.proofs.ValueLemmas.{led_at, Enters, EntersList, asked_alike, still_there, continues_on, one_more, list_stuck, seq_read_at, choice_read_at, choice_refused}
+use Rattle.bitcode_serde.proofs.ValueLemmas.{led_at, asked_alike, still_there, continues_on, one_more, list_stuck, seq_read_at, choice_read_at, choice_refused}
 use Rattle.bitcode_serde_types.specs.ReadingAs.{ReadsAs}
 
 -- the same content, told otherwise
