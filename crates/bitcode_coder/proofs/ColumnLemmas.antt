@@ -19,9 +19,8 @@ use Rattle.bitcode_memory.proofs.IntLemmas.{number_of-residue, residue_below}
 use Rattle.bitcode_columns.proofs.BoolColumnLemmas.{SpellsBools-unambiguous, bool_text-spells}
 use Rattle.bitcode_columns.proofs.IntColumnLemmas.{SpellsInts-unambiguous, SpellsInts-size_bound, int_text-spells}
 use Rattle.std.specs.Float.{Format, binary32, binary64}
-use lib.Ieee.{top, to_bits}
+use lib.Ieee.{top}
 use lib.Ieee.Bits.{to_bits-lt}
-use Rattle.bitcode_float_columns.specs.FloatColumn.{SpellsSplit, split_text}
 use Rattle.bitcode_float_columns.proofs.CanonicalLemmas.{to_bits-canonical}
 use Rattle.bitcode_float_columns.proofs.SplitLemmas.{SpellsSplit-unambiguous, SpellsSplit-size_bound}
 use Rattle.bitcode_shapes.specs.Datum.{Datum, number, text, number_in, natural_in, text_in}

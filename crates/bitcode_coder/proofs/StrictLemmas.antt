@@ -1,16 +1,15 @@
 -- What a reader answers of the columns of data is whether their bytes strictly spell them.
-use Rattle.std.proofs.Common.{◌≡◌, ℕ, zero, suc, Bool, true, false, ◌&&◌, IsTrue, Option, None, Some, List, [], ◌∷◌, ◌++◌, length, All, refl, sym, ap, ap₂, subst, ◌∙◌, append_assoc, arith, Result, Ok, Err, OnOk, IfOk}
+use Rattle.std.proofs.Common.{◌≡◌, ℕ, Bool, true, false, ◌&&◌, IsTrue, None, List, ◌++◌, refl, sym, ap, ap₂, subst, ◌∙◌, append_assoc, Result, Ok, Err, OnOk, IfOk}
 use Rattle.std.specs.Prelude.{◌↔◌}
 use Rattle.std.proofs.lemmas.Bool.{false≢true}
 use Rattle.std.proofs.lemmas.List.{append_cancel_right}
 use Rattle.bitcode_columns.specs.Reading.{Reads}
-use Rattle.bitcode_columns.proofs.FrontLemmas.{append_split}
 use Rattle.bitcode_shapes.specs.Datum.{Datum}
 use Rattle.bitcode_shapes.specs.Shape.{Shape}
-use Rattle.bitcode_coder.specs.Columns.{Kind, Columns, bools, ints, floats, lengths, texts, raws, variants, no_columns, one, two, arrays, plain, plain_kind, CountsFit}
+use Rattle.bitcode_coder.specs.Columns.{Kind, Columns, bools, ints, floats, lengths, texts, raws, variants, no_columns, one, two, arrays, plain, plain_kind}
 use Rattle.bitcode_coder.specs.Transposition.{columns_of}
 use Rattle.bitcode_coder.specs.Spelling.{Spells, SpellsColumn, SpellsColumns, column_bytes, columns_bytes}
-use Rattle.bitcode_coder.specs.Strict.{StrictlySpells, StrictlySpellsColumn, StrictlySpellsColumns, JudgesColumn, JudgesBoth, Judges, JudgesData}
+use Rattle.bitcode_coder.specs.Strict.{StrictlySpells, StrictlySpellsColumns, JudgesColumn, Judges, JudgesData}
 use Rattle.bitcode_coder.proofs.ColumnLemmas.{SpellsColumn-unambiguous}
 use Rattle.bitcode_coder.proofs.LengthLemmas.{other_limit}
 

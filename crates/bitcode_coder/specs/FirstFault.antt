@@ -1,5 +1,5 @@
 -- The first fault of reading data of a shape, whose columns are read one after another.
-use Rattle.std.specs.Prelude.{◌≡◌, ℕ, suc, ◌*◌, ◌^◌, ◌<◌, ◌≤◌, Option, Some, None, List, length, sum, ◌⊎◌}
+use Rattle.std.specs.Prelude.{◌≡◌, ℕ, suc, ◌*◌, ◌^◌, ◌<◌, ◌≤◌, Some, None, List, length, sum, ◌⊎◌}
 use Rattle.bitcode_memory.specs.declared.error.Reason.{Reason}
 use Rattle.bitcode_memory.specs.declared.error.Reason.TheVariants.{Eof, LengthOverflow, InvalidArrayVec, InvalidEnumVariant}
 use Rattle.bitcode_columns.specs.Histogram.{count_of}

@@ -1,7 +1,7 @@
 //! The coders of a column of bools.
 #![tactic(auto, using(crate::proofs::BoolLemmas::truths_in, crate::proofs::BoolLemmas::bools_read, crate::proofs::BoolLemmas::bools_refused, crate::proofs::BoolLemmas::bools_exact))]
 
-ghost use Rattle.std.specs.Prelude.{◌≡◌, ◌≢◌, ◌+◌, ◌≤◌, ◌++◌, length, map, true, refl, IsTrue, IfOk, OnOk, IfErr};
+ghost use Rattle.std.specs.Prelude.{◌≡◌, ◌+◌, ◌≤◌, ◌++◌, length, map, true, refl, IsTrue, IfOk, OnOk, IfErr};
 ghost use Rattle.std.specs.Prelude.{OnErr};
 ghost use Rattle.bitcode_memory.specs.Fast.{fast_items, fast_room, cow_rest, fast_capacity, cow_owned};
 ghost use Rattle.bitcode_columns.specs.Reading.{Reads, IsEndOf};

@@ -1,5 +1,5 @@
 //! The four traits that encoders and decoders implement, for single columns and for types.
-ghost use Rattle.std.specs.Prelude.{◌≡◌, ◌≢◌, ℕ, ◌+◌, ◌<◌, ◌≤◌, Bool, List, [], ◌∷◌, ◌++◌, length, map, IsTrue};
+ghost use Rattle.std.specs.Prelude.{◌≡◌, ◌≢◌, ℕ, ◌+◌, ◌<◌, ◌≤◌, Bool, List, [], ◌++◌, length, map, IsTrue};
 ghost use Rattle.std.specs.Prelude.{IsFalse, ◌↔◌, ◌&&◌, IsOk, IfOk, OnOk, IfErr, OnErr, IsErrOf};
 ghost use Rattle.bitcode_memory.specs.declared.error.Reason.{Reason};
 ghost use Rattle.bitcode_columns.specs.Reading.{Reads, IsEndOf};

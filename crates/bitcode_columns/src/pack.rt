@@ -1,5 +1,5 @@
 //! Packing bools and bytes.
-ghost use Rattle.std.specs.Prelude.{◌≡◌, ℕ, ◌+◌, ◌<◌, ◌++◌, length, vec_len, vec_capacity, IsOk, OnOk, IfErr, OnErr};
+ghost use Rattle.std.specs.Prelude.{◌≡◌, ◌+◌, ◌<◌, ◌++◌, length, vec_len, vec_capacity, IsOk, OnOk, IfErr, OnErr};
 ghost use Rattle.bitcode_columns.specs.BoolColumn.{SpellsBools, bool_text};
 ghost use Rattle.bitcode_columns.specs.ByteColumn.{level_of_base, base_at_level};
 ghost use Rattle.bitcode_columns.specs.Digits.{radix, digits_in_byte, base_for};

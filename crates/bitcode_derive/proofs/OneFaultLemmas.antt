@@ -1,24 +1,22 @@
 -- An input has at most one first fault, apart from a failed allocation.
-use Rattle.std.proofs.Common.{◌≡◌, ◌≢◌, ℕ, suc, ◌*◌, ◌^◌, ◌<◌, ◌≤◌, Bool, Option, Some, None, List, ◌++◌, length, sum, sym, ap, subst, inl, inr, ◌∙◌, arith, length-append}
+use Rattle.std.proofs.Common.{◌≡◌, ◌≢◌, ℕ, suc, ◌*◌, ◌<◌, Bool, Option, Some, None, List, ◌++◌, length, sum, sym, ap, subst, inl, inr, ◌∙◌, arith, length-append}
 use Rattle.std.specs.Prelude.{◌⊎◌}
 use Rattle.std.specs.Float.{binary32, binary64}
 use Rattle.bitcode_memory.specs.declared.error.Reason.{Reason}
 use Rattle.bitcode_memory.specs.declared.error.Reason.TheVariants.{OutOfMemory}
 use Rattle.bitcode_columns.specs.ByteColumn.{SpellsBytes}
 use Rattle.bitcode_columns.specs.Histogram.{count_of}
-use Rattle.bitcode_columns.specs.IntColumn.{SpellsInts}
 use Rattle.bitcode_columns.specs.Laws.{IsReadOnce, IsFaultOf}
 use Rattle.bitcode_columns.specs.Reading.{Reads, Names, NamesVariantFault, bytes_fault, ints_fault}
 use Rattle.bitcode_columns.specs.VariantColumn.{SpellsVariants}
 use Rattle.bitcode_columns.proofs.ByteColumnLemmas.{SpellsBytes-unambiguous, bytes_fault-refuses}
-use Rattle.bitcode_columns.proofs.IntColumnLemmas.{SpellsInts-unambiguous, ints_fault-refuses}
+use Rattle.bitcode_columns.proofs.IntColumnLemmas.{ints_fault-refuses}
 use Rattle.bitcode_columns.proofs.VariantColumnLemmas.{SpellsVariants-unambiguous, variants_fault-refuses}
 use Rattle.bitcode_shapes.specs.Shape.{Shape, Shapes, Allowed, unit_shape, never_shape, bool_shape, number_shape, float_shape, text_shape, raw_shape, seq_shape, map_shape, array_shape, pair_shape, choice_shape, no_shapes, shape_and, variant_count}
 use Rattle.bitcode_coder.specs.Faults.{NamesCheckedFault, NamesVariantsFault, in_column, not_allowed}
 use Rattle.bitcode_coder.specs.FirstFault.{FaultsBehind, IsFirstFault, IsPayloadsFault, ListsFault, PairsFault}
 use Rattle.bitcode_coder.specs.LengthColumn.{SpellsLengths, lengths_from}
 use Rattle.bitcode_coder.specs.LengthParts.{escapes, ReadsParts, sum_fault, NamesLengthFault, in_short, in_large, in_sum}
-use Rattle.bitcode_coder.specs.Spelling.{Spells}
 use Rattle.bitcode_coder.specs.TextParts.{NamesTextFault, NamesLimitedTextFault, in_lengths, missing_bytes, not_texts, in_texts, over_limit}
 use Rattle.bitcode_coder.proofs.LengthLemmas.{SpellsLengths-unambiguous}
 use Rattle.bitcode_coder.proofs.LengthRefusalLemmas.{reads_once, parts_once, lengths_refused}

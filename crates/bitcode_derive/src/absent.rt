@@ -1,5 +1,5 @@
 //! The coders of types without values, such as enums without variants: no columns.
-ghost use Rattle.std.specs.Prelude.{◌≡◌, ◌<◌, true, false, refl, replicate};
+ghost use Rattle.std.specs.Prelude.{◌<◌, true, false, refl, replicate};
 ghost use Rattle.bitcode_shapes.specs.Datum.{unit};
 ghost use Rattle.bitcode_shapes.specs.Shape.{never_shape};
 ghost use Rattle.bitcode_coder.specs.Columns.{no_columns};

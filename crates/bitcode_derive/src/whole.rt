@@ -1,5 +1,5 @@
 //! Calls for whole values: encoding one value, and decoding all bytes of an input or a prefix of it.
-ghost use Rattle.std.specs.Prelude.{◌≡◌, ◌≢◌, ℕ, List, IsErrOf, IfOk, OnOk, IfErr, OnErr};
+ghost use Rattle.std.specs.Prelude.{◌≢◌, ℕ, List, IsErrOf, IfOk, OnOk, IfErr, OnErr};
 ghost use Rattle.bitcode_columns.specs.Reading.{IsEndOf};
 ghost use Rattle.bitcode_shapes.specs.Datum.{Datum};
 ghost use Rattle.bitcode_coder.specs.Coder.{BeginsWith, IsWritingRefusal, IsReadingReason};

@@ -1,5 +1,5 @@
 -- Worked examples: what an enum of three variants states about them, computed from the definitions.
-use Rattle.std.specs.Prelude.{◌≡◌, ℕ, List, [], ◌∷◌, false, pos, refl}
+use Rattle.std.specs.Prelude.{◌≡◌, ℕ, [], ◌∷◌, false, pos, refl}
 use Rattle.bitcode_shapes.specs.Datum.{number, unit}
 use Rattle.bitcode_shapes.specs.Shape.{variant_count}
 use Rattle.bitcode_shapes.specs.Ints.{int_shape}

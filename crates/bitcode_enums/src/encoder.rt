@@ -1,5 +1,5 @@
 //! The encoder of enums: the variants, followed by the payloads of each variant.
-ghost use Rattle.std.specs.Prelude.{◌≡◌, ◌+◌, ◌<◌, false};
+ghost use Rattle.std.specs.Prelude.{◌+◌, ◌<◌, false};
 ghost use Rattle.bitcode_parts.specs.Variants.{written_variants, variant_room, variant_capacity};
 ghost use Rattle.bitcode_enums.specs.ByNumber.{all_columns};
 ghost use Rattle.bitcode_enums.specs.ByNumberLaws.{each_has_payloads, whole_form};

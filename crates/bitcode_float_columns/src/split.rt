@@ -1,5 +1,5 @@
 //! Packing and unpacking the bits of 4-byte floats.
-ghost use Rattle.std.specs.Prelude.{◌≡◌, ◌≢◌, ◌+◌, ◌-◌, ◌*◌, ◌/◌, ◌<◌, ◌≤◌, ◌++◌, [], ◌∷◌, ◌↔◌};
+ghost use Rattle.std.specs.Prelude.{◌≡◌, ◌+◌, ◌-◌, ◌*◌, ◌/◌, ◌<◌, ◌≤◌, ◌++◌, [], ◌∷◌, ◌↔◌};
 ghost use Rattle.std.specs.Prelude.{Some, length, map, take, drop, to_bits, from_bits, vec_len};
 ghost use Rattle.std.specs.Prelude.{vec_capacity, IsTrue, IsOk, IfOk, OnOk, IfErr, OnErr, All, MatchBool};
 ghost use Rattle.std.specs.Float.{binary32};

@@ -1,5 +1,5 @@
 //! The coders of a column of `f64`: their bits, as integers.
-ghost use Rattle.std.specs.Prelude.{◌≡◌, ◌≢◌, ◌+◌, ◌≤◌, ◌++◌, length, map, to_bits, from_bits, true, refl, All};
+ghost use Rattle.std.specs.Prelude.{◌≡◌, ◌+◌, ◌≤◌, ◌++◌, length, map, to_bits, from_bits, true, refl, All};
 ghost use Rattle.std.specs.Prelude.{IsTrue, IsOk, IfOk, OnOk, IfErr, OnErr, MatchBool};
 ghost use Rattle.std.specs.Float.{binary64};
 ghost use Rattle.bitcode_memory.specs.Fast.{fast_items, fast_room, fast_capacity, cow_rest, cow_owned};

@@ -1,16 +1,11 @@
 -- A column of integers that are not all allowed: what its reader holds.
-use Rattle.std.specs.Prelude.{◌≡◌, ℕ, zero, suc, Bool, true, false, ◌&&◌, ℤ, pos, negsuc, List, [], ◌∷◌, map, All, if◌then◌else◌}
+use Rattle.std.specs.Prelude.{ℕ, zero, suc, Bool, true, false, ◌&&◌, ℤ, pos, negsuc, List, [], ◌∷◌, map, if◌then◌else◌}
 use Rattle.std.specs.Int.Signed.{le_z}
 use lib.Utf8.{scalar as is_scalar}
-use Rattle.bitcode_memory.specs.declared.error.Reason.{Reason}
-use Rattle.bitcode_memory.specs.declared.error.Reason.TheVariants.{InvalidBitPattern}
-use Rattle.bitcode_columns.specs.IntColumn.{SpellsInts}
 use Rattle.bitcode_memory.specs.LittleEndian.{little_endian}
 use Rattle.bitcode_memory.specs.Ints.{number_of}
-use Rattle.bitcode_columns.specs.Reading.{Reads}
 use Rattle.bitcode_shapes.specs.Datum.{Datum, number}
-use Rattle.bitcode_coder.specs.Faults.{NamesIntsFault}
-use Rattle.bitcode_shapes.specs.Shape.{Allowed, any_number, nonzero, scalar, between, IsAllowed}
+use Rattle.bitcode_shapes.specs.Shape.{Allowed, any_number, nonzero, scalar, between}
 
 -- whether a number is allowed
 abbrev pub is_allowed : Allowed → ℤ → Bool

@@ -1,5 +1,5 @@
 //! Types that allow only some integers, and their decoder.
-ghost use Rattle.std.specs.Prelude.{◌≡◌, ◌≢◌, [], true, All, MatchBool, MatchOption};
+ghost use Rattle.std.specs.Prelude.{◌≡◌, true, All, MatchBool, MatchOption};
 ghost use Rattle.std.proofs.Common.{sym};
 ghost use Rattle.bitcode_memory.specs.Fast.{cow_rest, cow_owned};
 ghost use Rattle.bitcode_memory.specs.LittleEndian.{little_endian};

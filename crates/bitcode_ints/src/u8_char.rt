@@ -1,5 +1,5 @@
 //! Bytes of texts, and their encoder.
-ghost use Rattle.std.specs.Prelude.{◌≡◌, ◌+◌, ◌≤◌, ◌++◌, length, map, pos, true, refl};
+ghost use Rattle.std.specs.Prelude.{◌≡◌, ◌+◌, ◌≤◌, ◌++◌, length, map, true, refl};
 ghost use Rattle.bitcode_memory.specs.Fast.{fast_items, fast_room, fast_capacity};
 ghost use Rattle.bitcode_coder.specs.Columns.{raws, one};
 ghost use Rattle.bitcode_ints.specs.U8Char.{raw_data};

@@ -10,7 +10,6 @@ use Rattle.bitcode_columns.specs.Histogram.{count_of}
 use Rattle.bitcode_shapes.specs.Datum.{Datum, choice, variant_in, payload_in}
 use Rattle.bitcode_shapes.specs.Shape.{IsChoiceOf}
 use Rattle.bitcode_coder.specs.Transposition.{payloads}
-use Rattle.bitcode_coder.specs.Coder.{TakesDatum}
 use Rattle.bitcode_parts.specs.Payloads.{payloads_of, next_choice, choices_of}
 
 -- ---- counts

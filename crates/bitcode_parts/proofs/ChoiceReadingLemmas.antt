@@ -1,10 +1,10 @@
 -- Choices are read as their variants, and then the payloads of each variant.
-use Rattle.std.proofs.Common.{◌≡◌, ◌≢◌, ℕ, zero, suc, ◌+◌, ◌-◌, ◌<◌, cond, ltb, Option, Some, None, List, [], ◌∷◌, ◌++◌, length, map, replicate, All, refl, sym, ap, subst, ◌∙◌, inl, inr, arith, append_assoc}
+use Rattle.std.proofs.Common.{◌≡◌, ◌≢◌, ℕ, zero, suc, ◌+◌, ◌-◌, ◌<◌, cond, ltb, Option, Some, None, List, [], ◌∷◌, ◌++◌, length, map, All, refl, sym, ap, subst, ◌∙◌, inl, inr, arith, append_assoc}
 use Rattle.std.specs.Int.{div_ceil}
 use Rattle.std.specs.List.{list_all, range_with_len}
 use Rattle.std.proofs.lemmas.Bool.{cond_both}
-use Rattle.std.proofs.lemmas.List.{length-map, length-replicate}
-use Rattle.std.proofs.lemmas.List.Elements.{All-nil, All-replicate}
+use Rattle.std.proofs.lemmas.List.{length-map}
+use Rattle.std.proofs.lemmas.List.Elements.{All-nil}
 use Rattle.std.proofs.lemmas.Simd.{map-map}
 use Rattle.bitcode_memory.specs.declared.error.Reason.{Reason}
 use Rattle.bitcode_memory.specs.declared.error.Reason.TheVariants.{Eof, InvalidPacking, OutOfMemory}
@@ -12,8 +12,8 @@ use Rattle.bitcode_columns.specs.Histogram.{count_of}
 use Rattle.bitcode_columns.specs.Reading.{Reads, NamesVariantFault, variants_fault, is_variant_at}
 use Rattle.bitcode_columns.specs.Digits.{digits_in_byte, base_for}
 use Rattle.bitcode_columns.specs.VariantColumn.{SpellsVariants}
-use Rattle.bitcode_shapes.specs.Datum.{Datum, unit, variant_in, natural_in}
-use Rattle.bitcode_shapes.specs.Shape.{Shape, Shapes, no_shapes, shape_and, choice_shape, unit_shape, variant_count, IsOfVariant}
+use Rattle.bitcode_shapes.specs.Datum.{Datum, variant_in, natural_in}
+use Rattle.bitcode_shapes.specs.Shape.{Shape, Shapes, no_shapes, shape_and, choice_shape, variant_count, IsOfVariant}
 use Rattle.bitcode_coder.specs.Columns.{CountsFit}
 use Rattle.bitcode_coder.specs.Transposition.{columns_of, payload_columns, payloads, variant_entry}
 use Rattle.bitcode_coder.specs.Spelling.{Spells, SpellsColumns, natural}

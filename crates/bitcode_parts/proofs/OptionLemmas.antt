@@ -2,7 +2,7 @@
 use Rattle.std.proofs.Common.{◌≡◌, ℕ, ◌+◌, ◌<◌, List, [], ◌∷◌, ◌++◌, length, map, take, drop, set, slice_index_or, refl, sym, ◌∙◌, ap, ap₂, subst, append-nil, length-append, arith}
 use Rattle.std.specs.Prelude.{Option, Some, None}
 use Rattle.std.specs.List.{AllZip}
-use Rattle.std.proofs.lemmas.List.{map-append, take-append-drop, take_more, take_more_set}
+use Rattle.std.proofs.lemmas.List.{map-append, take-append-drop, take_more_set}
 use Rattle.std.proofs.lemmas.List.Elements.{filter_map-append}
 use Rattle.bitcode_shapes.specs.Datum.{Datum, unit, choice}
 use Rattle.bitcode_shapes.specs.Shape.{Shape, choice_shape, shape_and, no_shapes, unit_shape}

@@ -1,7 +1,6 @@
 -- The answers of variants and payloads are those of choices.
-use Rattle.std.proofs.Common.{◌≡◌, ℕ, zero, suc, ◌+◌, ◌<◌, Bool, true, false, ◌&&◌, IsTrue, List, [], ◌∷◌, ◌++◌, length, map, get_or, refl, sym, ap, subst, ◌∙◌, arith}
+use Rattle.std.proofs.Common.{◌≡◌, ℕ, suc, ◌+◌, ◌<◌, Bool, true, false, ◌&&◌, IsTrue, List, [], ◌∷◌, ◌++◌, map, get_or, refl, sym, ap, subst, ◌∙◌, arith}
 use Rattle.std.specs.Prelude.{◌↔◌}
-use Rattle.std.proofs.lemmas.Bool.{false≢true}
 use Rattle.std.proofs.lemmas.Simd.{map-map}
 use Rattle.bitcode_columns.specs.Histogram.{AreCounts, count_of}
 use Rattle.bitcode_columns.specs.Reading.{Reads}
@@ -11,7 +10,7 @@ use Rattle.bitcode_shapes.specs.Shape.{Shape, Shapes, no_shapes, shape_and, choi
 use Rattle.bitcode_coder.specs.Columns.{plain, variants}
 use Rattle.bitcode_coder.specs.Transposition.{payload_columns, payloads, variant_entry}
 use Rattle.bitcode_coder.specs.Spelling.{Spells, natural}
-use Rattle.bitcode_coder.specs.Strict.{Judges, JudgesBoth, JudgesData}
+use Rattle.bitcode_coder.specs.Strict.{Judges, JudgesData}
 use Rattle.bitcode_coder.proofs.LengthPartLemmas.{naturals_in}
 use Rattle.bitcode_coder.proofs.StrictLemmas.{judges_column}
 use Rattle.bitcode_parts.specs.Payloads.{payloads_of, choices_of, ReadsPayloads, JudgesPayloads}

@@ -1,7 +1,7 @@
 -- An enum of two variants: what the coders of its variants and payloads do makes up what its own coder does. Each lemma
 -- closes one goal that the check leaves of such an enum's `read` or `encode`, from the clauses of the calls. The
 -- values stand for those of A ⊎ B. (Of more variants the same follows by the lemmas that these cite.)
-use Rattle.std.proofs.Common.{◌≡◌, ℕ, List, [], ◌∷◌, ◌++◌, get_or, map, refl, sym, ◌∙◌, ap, subst, inl, inr, lit<, Result, Ok, Err, OnOk, IfErr}
+use Rattle.std.proofs.Common.{◌≡◌, ℕ, List, [], ◌∷◌, ◌++◌, get_or, map, refl, sym, ◌∙◌, ap, subst, inl, inr, lit<, Result, Ok, Err, IfErr}
 use Rattle.std.specs.Prelude.{◌⊎◌}
 use Rattle.std.specs.Result.{IsErrAnd, OnErr}
 use Rattle.bitcode_memory.specs.declared.error.Error.{Error}

@@ -5,9 +5,8 @@ use Rattle.bitcode_memory.specs.declared.error.Reason.{Reason}
 use Rattle.bitcode_memory.specs.declared.error.Reason.TheVariants.{OutOfMemory}
 use Rattle.bitcode_columns.specs.Histogram.{count_of}
 use Rattle.bitcode_columns.specs.Reading.{Reads}
-use Rattle.bitcode_columns.specs.VariantColumn.{SpellsVariants}
 use Rattle.bitcode_shapes.specs.Datum.{Datum, choice}
-use Rattle.bitcode_shapes.specs.Shape.{Shape, Shapes, no_shapes, shape_and}
+use Rattle.bitcode_shapes.specs.Shape.{Shapes, no_shapes, shape_and}
 use Rattle.bitcode_coder.specs.Columns.{Columns, beside, plain, emptied, CountsFit}
 use Rattle.bitcode_coder.specs.Transposition.{payload_columns}
 use Rattle.bitcode_coder.specs.Spelling.{Spells}

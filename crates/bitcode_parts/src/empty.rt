@@ -1,5 +1,5 @@
 //! The coder of types without columns.
-ghost use Rattle.std.specs.Prelude.{◌≡◌, refl, true, replicate};
+ghost use Rattle.std.specs.Prelude.{refl, true, replicate};
 ghost use Rattle.bitcode_shapes.specs.Datum.{unit};
 ghost use Rattle.bitcode_shapes.specs.Shape.{unit_shape};
 ghost use Rattle.bitcode_coder.specs.Columns.{no_columns};

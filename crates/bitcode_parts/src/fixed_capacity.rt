@@ -1,7 +1,7 @@
 //! The decoder of vectors with a fixed capacity: the decoder of sequences, with a limit on the lengths.
 #![tactic(auto, unfolding(bitcode_coder::specs::Length::lengths_left, bitcode_coder::specs::Length::lengths_sum))]
 
-ghost use Rattle.std.specs.Prelude.{◌+◌, ◌≤◌, Some, All, false, length, refl};
+ghost use Rattle.std.specs.Prelude.{◌+◌, ◌≤◌, Some, All, false, refl};
 ghost use Rattle.std.proofs.Common.{ap};
 ghost use Rattle.std.proofs.Props.{props};
 ghost use Rattle.bitcode_shapes.specs.Shape.{seq_shape};

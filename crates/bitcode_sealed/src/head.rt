@@ -1,7 +1,7 @@
 //! The header of sealed bytes.
-ghost use Rattle.std.specs.Prelude.{◌≡◌, ◌≤◌, ◌↔◌, IsTrue, List, [], ◌∷◌, length, take, slice_index, IfOk, IfErr};
+ghost use Rattle.std.specs.Prelude.{◌≡◌, ◌≤◌, ◌↔◌, IsTrue, [], ◌∷◌, length, slice_index, IfOk, IfErr};
 ghost use Rattle.bitcode_memory.specs.LittleEndian.{little_endian};
-ghost use Rattle.bitcode_sealed.specs.Layout.{magic, head_bytes, BeginsWithHead, BeginsAsSealed};
+ghost use Rattle.bitcode_sealed.specs.Layout.{head_bytes, BeginsWithHead, BeginsAsSealed};
 ghost use Rattle.bitcode_sealed.specs.Faults.{IsHeadFault};
 
 use crate::crc::crc_32;

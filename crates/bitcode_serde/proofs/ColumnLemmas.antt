@@ -11,12 +11,12 @@ use Rattle.bitcode_columns.specs.Reading.{Reads}
 use Rattle.bitcode_columns.proofs.IntColumnLemmas.{some_width}
 use Rattle.bitcode_shapes.specs.Datum.{Datum, text}
 use Rattle.bitcode_shapes.specs.Shape.{Shape, IsOf, IsNumberOf, IsFloatOf, IsNaturalBelow, IsTextOf, any_number}
-use Rattle.bitcode_coder.specs.Coder.{IsReadingRefusal, written_columns}
-use Rattle.bitcode_coder.specs.Columns.{Kind, Columns, ints, floats, bools, texts, lengths, one, CountsFit, IsEntryOf, IsSoundKind}
+use Rattle.bitcode_coder.specs.Coder.{IsReadingRefusal}
+use Rattle.bitcode_coder.specs.Columns.{Kind, ints, floats, bools, texts, lengths, one, CountsFit, IsEntryOf, IsSoundKind}
 use Rattle.bitcode_coder.specs.LengthColumn.{SpellsLengths, length_bytes}
 use Rattle.bitcode_coder.specs.LengthParts.{NamesLengthFault}
 use Rattle.bitcode_coder.specs.Spelling.{Spells, SpellsColumn, SpellsColumns, natural, truth, number_of_residue, float_of_bits}
-use Rattle.bitcode_coder.specs.Strict.{JudgesColumn, JudgesData, Judges}
+use Rattle.bitcode_coder.specs.Strict.{JudgesColumn}
 use Rattle.bitcode_coder.specs.Transposition.{columns_of}
 use Rattle.bitcode_coder.proofs.IntLemmas.{number_is}
 use Rattle.bitcode_coder.proofs.LengthPartLemmas.{naturals_in}

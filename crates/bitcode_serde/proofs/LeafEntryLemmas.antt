@@ -1,5 +1,5 @@
 -- Nodes that are leaves, and chars.
-use Rattle.std.proofs.Common.{◌≡◌, ℕ, ◌<◌, pos, true, false, Some, List, [], ◌∷◌, Vec, Box, Global, inl, inr, refl, sym, ap, ◌∙◌, arith}
+use Rattle.std.proofs.Common.{◌≡◌, ℕ, ◌<◌, pos, true, false, Some, Vec, Box, Global, inl, inr, refl, sym, ap, ◌∙◌, arith}
 use Rattle.std.specs.Char.{IsScalar}
 use Rattle.std.proofs.Math.Utf8.{scalar_cases}
 use Rattle.bitcode_memory.specs.declared.error.Reason.TheVariants.{NotOfTheShape}
@@ -8,7 +8,7 @@ use Rattle.bitcode_coder.specs.Columns.{ints}
 use Rattle.bitcode_coder.specs.Spelling.{natural}
 use Rattle.bitcode_untyped.specs.Faults.{faults_of_leaf}
 use Rattle.bitcode_untyped.specs.Leaves.{Entry, char_leaf, leaf_of_node, entry_of, is_of}
-use Rattle.bitcode_untyped.specs.ShapeTree.{ShapeTree, char_tree, IsOf}
+use Rattle.bitcode_untyped.specs.ShapeTree.{ShapeTree, char_tree}
 use Rattle.bitcode_untyped.specs.View.{datum_of, tree_by}
 use Rattle.bitcode_untyped.specs.declared.shape.ShapeNode.{ShapeNode, out-ShapeNode}
 use Rattle.bitcode_untyped.specs.declared.shape.ShapeNode.TheOpen.{ShapeNode-F}

@@ -1,5 +1,5 @@
 -- Where places lead, by their numbers.
-use Rattle.std.specs.Prelude.{◌≡◌, ℕ, zero, suc, ◌≤◌, ◌==◌, ◌||◌, Bool, false, true, Option, None, Some, List, [], ◌∷◌, slice_get}
+use Rattle.std.specs.Prelude.{◌≡◌, ℕ, zero, suc, ◌≤◌, ◌==◌, ◌||◌, Bool, false, Option, None, Some, List, [], ◌∷◌, slice_get}
 use Rattle.bitcode_serde.specs.declared.step.Step.{Step as CodeStep}
 use Rattle.bitcode_serde.specs.declared.step.Step.TheVariants as step
 use Rattle.bitcode_serde.specs.declared.links.Links.{Links}

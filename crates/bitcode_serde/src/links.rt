@@ -1,7 +1,7 @@
 //! Links from a place to its column, and to the places below it.
 #![tactic(auto)]
 
-ghost use Rattle.std.specs.Prelude.{◌≡◌, ◌≤◌, ◌++◌, ◌∷◌, [], ℕ, None, true, IfSome, OnOk, OnErr, IfErr};
+ghost use Rattle.std.specs.Prelude.{◌≡◌, ◌≤◌, ◌++◌, ◌∷◌, [], None, true, IfSome, OnOk, OnErr, IfErr};
 ghost use Rattle.bitcode_serde.specs.Links.{is_among, IsUpTo};
 
 use crate::step::Step;

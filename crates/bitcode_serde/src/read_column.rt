@@ -1,7 +1,7 @@
 //! Reading columns, and taking their entries.
 #![tactic(auto)]
 
-ghost use Rattle.std.specs.Prelude.{◌≡◌, ℕ, ◌<◌, ◌≤◌, List, ◌∷◌, ◌++◌, None, false, length, map, sum, IsTrue, ◌↔◌};
+ghost use Rattle.std.specs.Prelude.{◌≡◌, ℕ, ◌<◌, ◌≤◌, List, ◌∷◌, ◌++◌, None, false, length, map, sum, IsTrue};
 ghost use Rattle.std.specs.Prelude.{vec_len, vec_capacity, IfOk, OnOk, IfErr};
 ghost use Rattle.std.specs.List.{AllByRecursion};
 ghost use Rattle.bitcode_shapes.specs.Datum.{Datum};

@@ -1,8 +1,8 @@
 //! Writing chars, which are entries of a column of numbers.
 #![tactic(auto)]
 
-ghost use Rattle.std.specs.Prelude.{◌≡◌, IfOk, IfErr};
-ghost use Rattle.bitcode_serde.specs.Serializing.{IsLeaf, IsEntryAt, HasOneFault};
+ghost use Rattle.std.specs.Prelude.{IfOk, IfErr};
+ghost use Rattle.bitcode_serde.specs.Serializing.{IsEntryAt, HasOneFault};
 ghost use Rattle.bitcode_serde.specs.WrittenColumns.{kind_of_entry, datum_of_entry};
 
 use crate::write_column::Entry;

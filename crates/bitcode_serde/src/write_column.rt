@@ -2,14 +2,14 @@
 #![tactic(auto)]
 
 ghost use Rattle.std.specs.Prelude.{◌≡◌, ◌≢◌, ℕ, ◌⊎◌, ◌+◌, ◌<◌, ◌≤◌, [], ◌∷◌, ◌++◌, length, map, take, None, false};
-ghost use Rattle.std.specs.Prelude.{MatchBool, OnOk, IfOk, IfErr};
+ghost use Rattle.std.specs.Prelude.{MatchBool, OnOk, IfErr};
 ghost use Rattle.std.specs.List.{AllByRecursion};
 ghost use Rattle.bitcode_coder.specs.Coder.{JoinsListing, OverflowsWithListing};
 ghost use Rattle.bitcode_coder.specs.Columns.{ints, lengths, one, beside};
 ghost use Rattle.bitcode_coder.specs.Spelling.{natural, column_bytes};
 ghost use Rattle.bitcode_untyped.specs.View.{datum_of};
 ghost use Rattle.bitcode_serde.specs.Leaves.{IsEntryIn, HasOther};
-ghost use Rattle.bitcode_serde.specs.ReadColumns.{kind_of, IsCaseOf};
+ghost use Rattle.bitcode_serde.specs.ReadColumns.{kind_of};
 ghost use Rattle.bitcode_serde.specs.Leaves.{entries_in};
 ghost use Rattle.bitcode_serde.specs.WrittenColumns.{kind_of_entry, datum_of_entry, kind_in_written, kind_of_written};
 ghost use Rattle.bitcode_serde.specs.WrittenColumns.{entries_of};

@@ -2,7 +2,7 @@
 #![tactic(auto)]
 
 ghost use Rattle.std.specs.Prelude.{◌≡◌, ◌≢◌, ◌≤◌, ◌<◌, ◌⊎◌, [], ◌∷◌, ◌++◌, false, take, map, length, All, slice_get};
-ghost use Rattle.std.specs.Prelude.{get_or, IfOk, OnOk, IfErr, IfSome, IfNone, IsSomeAnd};
+ghost use Rattle.std.specs.Prelude.{IfOk, OnOk, IfErr, IfSome, IfNone, IsSomeAnd};
 ghost use Rattle.std.specs.List.{AllByRecursion};
 ghost use Rattle.bitcode_coder.specs.Columns.{ints};
 ghost use Rattle.bitcode_coder.specs.Spelling.{natural, texts_of};
@@ -14,7 +14,7 @@ ghost use Rattle.bitcode_untyped.specs.Walk.{use_at};
 ghost use Rattle.bitcode_untyped.specs.View.{datum_of};
 ghost use Rattle.bitcode_serde.specs.Leaves.{IsEntryIn, HasOther};
 ghost use Rattle.bitcode_serde.specs.ReadColumns.{kind_of};
-ghost use Rattle.bitcode_serde.specs.Places.{step_of, AreApart, places};
+ghost use Rattle.bitcode_serde.specs.Places.{step_of, places};
 ghost use Rattle.bitcode_serde.specs.WrittenColumns.{kind_of_entry, datum_of_entry};
 ghost use Rattle.bitcode_serde.specs.Writing.{written, place_in, column_of, Grows, AreOfShape};
 

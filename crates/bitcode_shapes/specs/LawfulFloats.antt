@@ -1,8 +1,7 @@
 -- Floats are lawful. Two floats are the same if they have the same bits, where all NaNs have the same: `==` is another
 -- relation, since it tells a NaN from itself, and does not tell 0 from -0.
-use Rattle.std.proofs.Common.{◌≡◌, ℤ, pos, true, refl, sym, ◌∙◌, ap, subst}
-use lib.Dec.{T}
-use lib.Ieee.{Float, Format, fits, of_bits, to_bits}
+use Rattle.std.proofs.Common.{◌≡◌, true, refl, sym, ◌∙◌, ap}
+use lib.Ieee.{Format, of_bits, to_bits}
 use lib.Ieee.Bits.{of_bits-to_bits}
 use Rattle.bitcode_shapes.specs.Datum.{number}
 use Rattle.bitcode_shapes.specs.Shape.{float_shape}

@@ -1,10 +1,8 @@
 -- A struct written by hand: what the coders of its fields do makes up what its own coder does. Each lemma closes one goal
 -- that the check leaves of such a struct's `read` or `encode`, from the clauses of the fields' calls.
 use Rattle.std.proofs.Common.{◌≡◌, ℕ, ◌+◌, Bool, ◌&&◌, List, Result, Ok, Err, IfErr, subst, sym, inr}
-use Rattle.std.specs.Prelude.{◌⊎◌}
 use Rattle.std.specs.Result.{IsErrAnd, OnErr}
 use Rattle.bitcode_memory.specs.declared.error.Error.{Error}
-use Rattle.bitcode_memory.specs.declared.error.Reason.{Reason}
 use Rattle.bitcode_columns.specs.Reading.{Reads, IsEndOf}
 use Rattle.bitcode_shapes.specs.Datum.{Datum}
 use Rattle.bitcode_shapes.specs.Shape.{Shape, pair_shape}

@@ -1,5 +1,5 @@
 //! The fields of ranges: their ends.
-ghost use Rattle.std.specs.Prelude.{◌≡◌, refl};
+ghost use Rattle.std.specs.Prelude.{refl};
 ghost use Rattle.std.specs.Range.{range_inclusive_end, range_inclusive_start};
 ghost use Rattle.bitcode_tuples.specs.FieldLaws.{field_alike, pair_alike};
 

@@ -1,10 +1,10 @@
 -- What holds of each leaf.
-use Rattle.std.proofs.Common.{◌≡◌, ℕ, Bool, true, false, ◌&&◌, ◌==◌, ◌⊎◌, ℤ, pos, Option, Some, None, inl, inr, refl, sym, ap, ◌∙◌, arith}
+use Rattle.std.proofs.Common.{◌≡◌, ℕ, Bool, true, false, ◌&&◌, ◌==◌, Option, Some, None, inl, inr, refl, sym, ap, ◌∙◌}
 use Rattle.std.proofs.lemmas.Bool.{cases_Bool, eqb-true}
 use Rattle.std.specs.Float.{binary32, binary64}
 use Rattle.bitcode_shapes.specs.Datum.{Datum}
 use Rattle.bitcode_shapes.specs.Shape.{Allowed, any_number, scalar}
-use Rattle.bitcode_coder.specs.Columns.{Kind, bools, ints, floats, texts, IsEntryOf}
+use Rattle.bitcode_coder.specs.Columns.{Kind, bools, ints, floats, texts}
 use Rattle.bitcode_untyped.specs.Leaves.{Leaf, Entry, leaf_of_node, entry_of, same_sign, same_kind, same_allowed, is_of}
 use Rattle.bitcode_untyped.specs.ShapeTree.{ShapeTree}
 use Rattle.bitcode_untyped.specs.View.{datum_step, datum_of_entry, datum_of, tree_by, tree_step, tree_of_leaf}

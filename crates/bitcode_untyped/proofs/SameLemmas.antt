@@ -1,13 +1,13 @@
 -- Two values are equal exactly if they have the same content.
-use Rattle.std.proofs.Common.{unsigned_abs, ◌≡◌, ◌≢◌, ℕ, zero, suc, ◌+◌, ◌<◌, ℤ, pos, Bool, true, false, ◌==◌, ◌&&◌, List, [], ◌∷◌, map, take, length, get_or, Vec, Global, refl, sym, ap, subst, add-one, ◌∙◌, arith}
+use Rattle.std.proofs.Common.{unsigned_abs, ◌≡◌, ◌≢◌, ℕ, zero, suc, ◌+◌, ◌<◌, pos, Bool, true, false, ◌==◌, ◌&&◌, List, [], ◌∷◌, map, take, length, get_or, Vec, Global, refl, sym, ap, subst, add-one, ◌∙◌, arith}
 use Rattle.std.specs.Prelude.{MatchBool}
 use Rattle.std.proofs.Math.Seq.{take-length}
 use Rattle.std.specs.Ordering.{int_eq}
-use Rattle.std.specs.Bool.{Decides, one_answer}
-use Rattle.std.specs.Cmp.{IsEquivalence, IsPartialEquivalence, decided, on_equiv, partial_equiv_from_equiv, signed_Decides, unsigned_Decides, unsigned_tied}
-use Rattle.std.specs.Cmp.Lexicographic.{pointwise, bytes_decides}
-use Rattle.std.proofs.lemmas.Bool.Decides.{Decides-and, Decides-like}
-use Rattle.bitcode_shapes.specs.Datum.{Datum, Data, unit, number, text, list, tuple, choice, no_data, datum_and, pair, data_of, number_in, text_in, fields_in, variant_in, payload_in, first_of, rest_of}
+use Rattle.std.specs.Bool.{one_answer}
+use Rattle.std.specs.Cmp.{signed_Decides, unsigned_Decides}
+use Rattle.std.specs.Cmp.Lexicographic.{pointwise}
+use Rattle.std.proofs.lemmas.Bool.Decides.{Decides-like}
+use Rattle.bitcode_shapes.specs.Datum.{Datum, choice, pair, data_of}
 use Rattle.bitcode_coder.specs.Spelling.{natural}
 use Rattle.bitcode_untyped.specs.Content.{case_number, content_step, content_of}
 use Rattle.bitcode_untyped.specs.Same.{same_datum, same_data, same_values, same_pairs}

@@ -1,7 +1,7 @@
 //! The decoder of lengths.
 #![tactic(auto, unfolding(crate::specs::Length::short_left, crate::specs::Length::large_left, crate::specs::Length::lengths_left, crate::specs::Length::lengths_sum, crate::specs::Length::lengths_owned))]
 
-ghost use Rattle.std.specs.Prelude.{◌≡◌, ◌≢◌, ℕ, ◌+◌, ◌<◌, ◌≤◌, [], ◌∷◌, ◌++◌, ◌↔◌, IsTrue, Some, None, ◌^◌, pos};
+ghost use Rattle.std.specs.Prelude.{◌≡◌, ◌+◌, ◌<◌, ◌≤◌, [], ◌∷◌, ◌++◌, ◌↔◌, IsTrue, Some, None, ◌^◌, pos};
 ghost use Rattle.std.specs.Prelude.{length, map, drop, sum, All, MatchBool, IfSome, IfOk, OnOk, IfErr, OnErr};
 ghost use Rattle.bitcode_memory.specs.Fast.{cow_rest};
 ghost use Rattle.bitcode_columns.specs.IntColumn.{SpellsInts, int_text};

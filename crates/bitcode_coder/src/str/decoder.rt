@@ -1,5 +1,5 @@
 //! The decoder of texts.
-ghost use Rattle.std.specs.Prelude.{◌≡◌, ◌≢◌, ℕ, ◌+◌, ◌<◌, ◌≤◌, List, [], ◌∷◌, ◌++◌, None, true, false, refl, length};
+ghost use Rattle.std.specs.Prelude.{◌≡◌, ℕ, ◌+◌, ◌<◌, ◌≤◌, List, [], ◌∷◌, ◌++◌, None, true, false, refl, length};
 ghost use Rattle.std.specs.Prelude.{drop, map, sum, vec_len, vec_capacity, All, IsUtf8, MatchBool, IsTrue, IfOk, OnOk};
 ghost use Rattle.std.specs.Prelude.{IfErr, OnErr};
 ghost use Rattle.std.specs.Str.{IsAscii, IsCharBoundary};

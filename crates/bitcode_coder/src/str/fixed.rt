@@ -1,12 +1,11 @@
 //! The decoder of texts with a fixed capacity.
-ghost use Rattle.std.specs.Prelude.{◌≡◌, ◌≢◌, ◌≤◌, [], Some, true, refl, length, map, All};
+ghost use Rattle.std.specs.Prelude.{◌≤◌, Some, true, refl, length, map, All};
 ghost use Rattle.std.proofs.Props.{props};
 ghost use Rattle.bitcode_memory.specs.Fast.{slice_rest};
 ghost use Rattle.bitcode_shapes.specs.Datum.{text};
 ghost use Rattle.bitcode_shapes.specs.Shape.{text_shape};
 ghost use Rattle.bitcode_coder.specs.Cutting.{cut};
 ghost use Rattle.bitcode_coder.specs.Length.{lengths_left, lengths_owned};
-ghost use Rattle.bitcode_coder.specs.TextParts.{NamesLimitedTextFault};
 
 use crate::coder::{Decoder, HoldsData, View};
 use crate::column_free::ColumnFree;

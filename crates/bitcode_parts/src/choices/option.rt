@@ -1,5 +1,5 @@
 //! The coders of options.
-ghost use Rattle.std.specs.Prelude.{◌≡◌, ◌+◌, refl, false, [], ◌∷◌};
+ghost use Rattle.std.specs.Prelude.{◌+◌, refl, false, [], ◌∷◌};
 ghost use Rattle.bitcode_shapes.specs.Shape.{choice_shape, shape_and, no_shapes, unit_shape};
 ghost use Rattle.bitcode_coder.specs.Columns.{no_columns, two};
 ghost use Rattle.bitcode_parts.specs.Payloads.{choices_of};

@@ -1,13 +1,12 @@
 //! The decoder of variant indices.
 #![tactic(auto, using(crate::proofs::IndexLemmas::indices_refused), unfolding(crate::specs::Indices::indices_left, crate::specs::Indices::indices_owned, crate::specs::Indices::index_count))]
 
-ghost use Rattle.std.specs.Prelude.{get_or, pos, ◌≡◌, ◌≢◌, ℕ, ◌<◌, ◌≤◌, [], length, true, false, refl, IsTrue, IsOk};
-ghost use Rattle.std.specs.Prelude.{All, ◌++◌, ◌↔◌, map, IfOk, OnOk, IfErr, OnErr, MatchOption};
+ghost use Rattle.std.specs.Prelude.{get_or, pos, ◌≡◌, ℕ, ◌<◌, ◌≤◌, [], length, true, false, refl, IsTrue, IsOk};
+ghost use Rattle.std.specs.Prelude.{◌++◌, ◌↔◌, map, IfOk, OnOk, IfErr, OnErr, MatchOption};
 ghost use Rattle.bitcode_columns.specs.Histogram.{count_of as count_of_number};
 ghost use Rattle.bitcode_memory.specs.Fast.{cow_rest};
 ghost use Rattle.bitcode_columns.specs.Reading.{Reads, IsEndOf};
 ghost use Rattle.bitcode_coder.specs.FirstFault.{IsFirstFault};
-ghost use Rattle.bitcode_shapes.specs.Datum.{Datum, number};
 ghost use Rattle.bitcode_shapes.specs.Ints.{int_shape, MakesNumber};
 ghost use Rattle.bitcode_coder.specs.Spelling.{Spells};
 ghost use Rattle.bitcode_coder.specs.Coder.{IsReadingRefusal, TakesDatum};

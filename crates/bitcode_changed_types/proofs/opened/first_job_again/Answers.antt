@@ -1,5 +1,5 @@
 -- Bytes of version 1 are opened and refused as version 1.
-use Rattle.std.proofs.Common.{◌≡◌, refl, sym, ◌∙◌, inl, inr, arith}
+use Rattle.std.proofs.Common.{refl, inl, inr, arith}
 use Rattle.bitcode_sealed.specs.Versions.{earlier_not_opened, not_upgraded}
 use Rattle.bitcode_changed_types.proofs.opened.first_job_again.Goals as goal
 

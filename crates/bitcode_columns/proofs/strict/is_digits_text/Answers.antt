@@ -1,4 +1,4 @@
-use Rattle.std.proofs.Common.{length, map, ap, ◌∙◌, sym, subst, MatchBool}
+use Rattle.std.proofs.Common.{map, sym, subst, MatchBool}
 use Rattle.std.proofs.lemmas.List.{length-map}
 use Rattle.bitcode_columns.specs.WrittenDigits.{UsesNoMore}
 use Rattle.bitcode_columns.proofs.StrictLemmas.{judge, text_iff}

@@ -1,7 +1,4 @@
-use Rattle.std.proofs.Common.{map, subst, sym, IsTrue, ◌≡◌}
-use Rattle.std.specs.Prelude.{◌↔◌}
 use Rattle.bitcode_memory.specs.Fast.{cow_rest}
-use Rattle.bitcode_memory.specs.Ints.{bool_digit}
 use Rattle.bitcode_columns.proofs.BoolColumnLemmas.{bool_text-is}
 use Rattle.bitcode_columns.proofs.StrictLemmas.{told_front}
 use Rattle.bitcode_columns.proofs.strict.read_bools.Goals as goal

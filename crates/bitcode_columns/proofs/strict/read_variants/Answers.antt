@@ -1,7 +1,6 @@
-use Rattle.std.proofs.Common.{sym, subst, map}
+use Rattle.std.proofs.Common.{sym}
 use Rattle.std.proofs.lemmas.List.{map-id}
 use Rattle.bitcode_memory.specs.Fast.{cow_rest}
-use Rattle.bitcode_columns.specs.Digits.{SpellsDigits}
 use Rattle.bitcode_columns.proofs.VariantColumnLemmas.{digits_text-variants}
 use Rattle.bitcode_columns.proofs.StrictLemmas.{told_front}
 use Rattle.bitcode_columns.proofs.strict.read_variants.Goals as goal

@@ -1,5 +1,5 @@
 -- Node by node.
-use Rattle.std.proofs.Common.{◌≡◌, true, Some, slice_get, sym, subst, ◌∙◌, ap, inl, inr, arith}
+use Rattle.std.proofs.Common.{◌≡◌, true, slice_get, sym, subst, ◌∙◌, ap, inl, inr}
 use Rattle.bitcode_untyped.specs.Bounds.{column_free}
 use Rattle.bitcode_untyped.specs.View.{tree_of_node}
 use Rattle.bitcode_serde.proofs.EntryLemmas.{found_entry, some_same}

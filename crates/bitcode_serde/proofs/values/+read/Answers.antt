@@ -19,9 +19,8 @@ use Rattle.bitcode_untyped.proofs.ReadLemmas.{never_read, seq_stuck_length, seq_
 use Rattle.bitcode_untyped.proofs.ViewLemmas.{tree-Unit, tree-Bytes, tree-Option, tree-Seq, tree-Map, tree-Tuple, tree-Enum, tree-Ref, datum-None, datum-Some, datum-Seq, datum-Tuple, datum-Enum}
 use Rattle.bitcode_coder.specs.Spelling.{natural}
 use Rattle.bitcode_serde.specs.Budget.{IsLeft, spend}
-use Rattle.bitcode_serde.specs.Places.{places, place_at}
 use Rattle.bitcode_serde.specs.ReadColumns.{kind_of, IsCaseOf}
-use Rattle.bitcode_serde.specs.ReadingValues.{ReadsAt, ReadsListWithin, IsRefusalAt, IsListRefusalAt, IsFieldRefusalAt, IsOfLeaf, IsOfBytes, ReadsLeafAt, IsLeafRefusalAt, IsOfOption, IsOfSeq, IsOfMap, IsOfTuple, IsOfEnum}
+use Rattle.bitcode_serde.specs.ReadingValues.{ReadsAt, ReadsListWithin, IsRefusalAt, IsListRefusalAt, IsFieldRefusalAt, IsOfLeaf, IsOfBytes, IsLeafRefusalAt, IsOfOption, IsOfSeq, IsOfMap, IsOfTuple, IsOfEnum}
 use Rattle.bitcode_serde.specs.declared.budget.Budget.TheVariants.{Spent}
 use Rattle.bitcode_serde.proofs.BudgetLemmas.{spend-then, left_before, keeps_more, keeps_all, keeps_choice}
 use Rattle.bitcode_serde.proofs.CaseLemmas.{one_more_whole, one_more_field_whole, all_fields_whole, enum_whole, reference_whole}

@@ -1,5 +1,5 @@
 -- Lists, entry by entry, and values by the variant.
-use Rattle.std.proofs.Common.{arith, ◌≡◌, length, sym, ◌∙◌}
+use Rattle.std.proofs.Common.{arith, sym, ◌∙◌}
 use Rattle.bitcode_untyped.specs.Same.{same_values, same_pairs}
 use Rattle.bitcode_untyped.proofs.SameLemmas.{same-Bytes, same-Seq, same-Map, same-Tuple, differs_at, same_so_far, all_met, other_key, other_entry, same_pair}
 use Rattle.bitcode_untyped.proofs.same.+same.Goals as goal

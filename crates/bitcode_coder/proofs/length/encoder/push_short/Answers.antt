@@ -1,6 +1,5 @@
 -- One length more for each of the chunk.
-use Rattle.std.proofs.Common.{◌≤◌, sym, subst, append-nil, arith}
-use Rattle.std.proofs.lemmas.List.Elements.{All-get_or}
+use Rattle.std.proofs.Common.{sym, append-nil, arith}
 use Rattle.bitcode_memory.specs.Fast.{fast_items}
 use Rattle.bitcode_coder.proofs.LengthPartLemmas.{sizes_more, sizes_whole}
 use Rattle.bitcode_coder.proofs.length.encoder.push_short.Goals as goal

@@ -1,7 +1,4 @@
 -- Room was reserved behind the same values.
-use Rattle.std.specs.Prelude.{OnOk}
-use Rattle.std.proofs.Common.{subst}
-use Rattle.bitcode_serde.specs.ReadColumns.{AddsTaken, kind_in_code, left}
 use Rattle.bitcode_serde.proofs.column.Column.take_behind.Goals as goal
 
 pub returns-clause-taken : goal.returns-clause-taken

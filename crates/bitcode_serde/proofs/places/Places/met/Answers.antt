@@ -1,7 +1,7 @@
 -- The children of the place are those below it.
 use Rattle.std.proofs.Common.{rules, ◌≡◌, [], true, None, Some, slice_get, sym, subst, ◌≤◌}
 use Rattle.std.specs.Prelude.{IsSomeAnd}
-use Rattle.bitcode_serde.specs.Links.{is_among, children}
+use Rattle.bitcode_serde.specs.Links.{is_among}
 use Rattle.bitcode_serde.proofs.EntryLemmas.{found_entry, no_entry}
 use Rattle.bitcode_serde.proofs.LinkLemmas.{children_got, children_none, last_got}
 use Rattle.bitcode_serde.proofs.PlaceLemmas.{child_place, none_below}

@@ -1,10 +1,10 @@
 -- A listing of each sequence up to the one at hand was joined; those behind it are listed by their law.
-use Rattle.std.proofs.Common.{◌≡◌, ◌+◌, All, [], None, map, drop, refl, sym, subst, ap, ◌∙◌, rules, arith}
+use Rattle.std.proofs.Common.{◌+◌, All, [], None, map, drop, refl, sym, subst, ap, ◌∙◌, rules, arith}
 use Rattle.std.proofs.lemmas.List.{at_drop_all, drop-map}
 use Rattle.std.proofs.lemmas.List.Elements.{All-drop}
 use Rattle.std.proofs.lemmas.Result.{err_from_is_err_and}
 use Rattle.bitcode_shapes.specs.LawfulLists.{each_listed}
-use Rattle.bitcode_coder.specs.Columns.{Columns, lengths, one, two}
+use Rattle.bitcode_coder.specs.Columns.{lengths, one, two}
 use Rattle.bitcode_coder.specs.Coder.{JoinsListing, OverflowsWithListing}
 use Rattle.bitcode_coder.specs.Length.{written_lengths}
 use Rattle.bitcode_coder.specs.Spelling.{natural}
