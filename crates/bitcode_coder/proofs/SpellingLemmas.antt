@@ -3,7 +3,7 @@ use Rattle.std.proofs.Common.{◌≡◌, ℕ, zero, suc, ◌+◌, ◌*◌, ◌�
 use Rattle.std.proofs.lemmas.List.Elements.{All-map, All-weaker}
 use Rattle.bitcode_columns.specs.Laws.{IsReadOnce}
 use Rattle.bitcode_shapes.specs.Datum.{Datum, unit, elements_in, first_in, second_in, variant_in}
-use Rattle.bitcode_shapes.specs.Shape.{Shape, Shapes, unit_shape, never_shape, bool_shape, number_shape, float_shape, text_shape, raw_shape, seq_shape, map_shape, array_shape, pair_shape, choice_shape, no_shapes, shape_and, IsOf, IsOfVariant, IsSound, AreSound, IsWithin, IsListOf, IsPairOf, IsChoiceOf, IsNumberOf, any_number, variant_count}
+use Rattle.bitcode_shapes.specs.Shape.{Shape, Shapes, unit_shape, never_shape, bool_shape, number_shape, float_shape, text_shape, raw_shape, seq_shape, map_shape, array_shape, pair_shape, choice_shape, admitted_shape, no_shapes, shape_and, IsOf, IsOfVariant, IsSound, AreSound, IsWithin, IsListOf, IsPairOf, IsChoiceOf, IsNumberOf, any_number, variant_count}
 use Rattle.bitcode_coder.specs.Columns.{Kind, Columns, bools, ints, floats, lengths, texts, raws, variants, no_columns, one, two, arrays, emptied, CountsFit, IsSoundKind, IsEntryOf, entry_count}
 use Rattle.bitcode_coder.specs.Transposition.{columns_of, payload_columns, array_columns, joined, payloads, length_entry, variant_entry}
 use Rattle.bitcode_coder.specs.Spelling.{Spells, SpellsColumns, columns_bytes, LengthsBelowLimit}
@@ -63,6 +63,10 @@ elements_fronts size m n a b rest left f = record {
 entries_once : (kind : Kind) (g : Datum → Datum) (ds es : List Datum) (rest left : List ℕ) → length ds ≡ length es
     → Fronts (one kind (map g ds)) (one kind (map g es)) rest left → (map g ds ≡ map g es) × (rest ≡ left)
 entries_once kind g ds es rest left n f = column_once kind (map g ds) (map g es) rest left (length-mapped g ds es n) f
+
+-- what a check admits is of the shape
+pub admitted_each : (admits : Datum → Bool) (shape : Shape) (ds : List Datum) → All (IsOf (admitted_shape admits shape)) ds → All (IsOf shape) ds
+admitted_each admits shape ds h = All-weaker (IsOf (admitted_shape admits shape)) (IsOf shape) (λ d is. is.0) ds h
 
 mutual
   data_once : (shape : Shape) (ds es : List Datum) (rest left : List ℕ) → All (IsOf shape) ds → All (IsOf shape) es → length ds ≡ length es
@@ -127,6 +131,8 @@ mutual
       let b : ((k : ℕ) → 0 ≤ k → k < 0 + variant_count choices → payloads k ds ≡ payloads k es) × (rest ≡ left) =
       payloads_once choices 0 ds es rest left (payloads_from_0 choices ds h) (payloads_from_0 choices es i) a.0 a.1 in
       (same_choices choices ds es h i a.0 (λ k below. b.0 k (omega arith) (omega arith)), b.1)
+  data_once (admitted_shape admits shape) ds es rest left h i n f =
+      data_once shape ds es rest left (admitted_each admits shape ds h) (admitted_each admits shape es i) n f
 
   payloads_once : (shapes : Shapes) (index : ℕ) (ds es : List Datum) (rest left : List ℕ) → All (IsPayloadFrom shapes index) ds
       → All (IsPayloadFrom shapes index) es → map variant_entry ds ≡ map variant_entry es
@@ -222,6 +228,7 @@ mutual
   AreSoundKinds-columns_of (pair_shape first second) sound ds =
       (AreSoundKinds-columns_of first sound.0 (map first_in ds), AreSoundKinds-columns_of second sound.1 (map second_in ds))
   AreSoundKinds-columns_of (choice_shape choices) sound ds = ((sound.0, sound.1), AreSoundKinds-payload_columns choices sound.2 0 ds)
+  AreSoundKinds-columns_of (admitted_shape admits shape) sound ds = AreSoundKinds-columns_of shape sound ds
 
   AreSoundKinds-payload_columns : (shapes : Shapes) → AreSound shapes → (index : ℕ) (ds : List Datum) → AreSoundKinds (payload_columns shapes index ds)
   AreSoundKinds-payload_columns no_shapes sound index ds = tt
@@ -278,6 +285,7 @@ mutual
   )
   AreEntries-columns_of (choice_shape choices) ds h =
       (variant_entries choices ds h, AreEntries-payload_columns choices 0 ds (payloads_from_0 choices ds h))
+  AreEntries-columns_of (admitted_shape admits shape) ds h = AreEntries-columns_of shape ds (admitted_each admits shape ds h)
 
   AreEntries-payload_columns : (shapes : Shapes) (index : ℕ) (ds : List Datum) → All (IsPayloadFrom shapes index) ds → AreEntries (payload_columns shapes index ds)
   AreEntries-payload_columns no_shapes index ds h = tt

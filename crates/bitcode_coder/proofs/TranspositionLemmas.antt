@@ -5,7 +5,7 @@ use Rattle.std.proofs.lemmas.List.{map-append}
 use Rattle.std.proofs.lemmas.List.Elements.{filter-append}
 use Rattle.std.proofs.lemmas.Grind.{flat_map-append}
 use Rattle.bitcode_shapes.specs.Datum.{Datum, elements_in, first_in, second_in, payload_in, variant_in}
-use Rattle.bitcode_shapes.specs.Shape.{Shape, Shapes, unit_shape, never_shape, bool_shape, number_shape, float_shape, text_shape, raw_shape, seq_shape, map_shape, array_shape, pair_shape, choice_shape, no_shapes, shape_and, variant_count}
+use Rattle.bitcode_shapes.specs.Shape.{Shape, Shapes, unit_shape, never_shape, bool_shape, number_shape, float_shape, text_shape, raw_shape, seq_shape, map_shape, array_shape, pair_shape, choice_shape, admitted_shape, no_shapes, shape_and, variant_count}
 use Rattle.bitcode_coder.specs.Columns.{Kind, Column, Columns, bools, ints, floats, lengths, texts, raws, variants, no_columns, one, two, arrays, flat, beside, plain, plain_kind, emptied, CountsFit}
 use Rattle.bitcode_coder.specs.Transposition.{columns_of, payload_columns, spread, payload_spread, length_entry, variant_entry, joined, payloads, array_columns, column}
 use Rattle.bitcode_coder.specs.Spelling.{SpellsColumns, SpellsEach, IsSplit, SpellsColumn, columns_bytes, texts_of, column_bytes}
@@ -53,6 +53,7 @@ mutual
       (ap (columns_of second) (map-append second_in ds es) ∙ columns_of-append second (map second_in ds) (map second_in es))
   columns_of-append (choice_shape choices) ds es =
       ap₂ two (one-append (variants (variant_count choices)) variant_entry ds es) (payload_columns-append choices 0 ds es)
+  columns_of-append (admitted_shape admits shape) ds es = columns_of-append shape ds es
 
   payload_columns-append : (shapes : Shapes) (index : ℕ) (ds es : List Datum)
       → payload_columns shapes index (ds ++ es) ≡ beside (payload_columns shapes index ds) (payload_columns shapes index es)
@@ -94,6 +95,7 @@ mutual
       array_columns-none size (length ds) (columns_of element []) (columns_of element (joined ds)) (columns_of-none element (joined ds))
   columns_of-none (pair_shape first second) ds = ap₂ two (columns_of-none first (map first_in ds)) (columns_of-none second (map second_in ds))
   columns_of-none (choice_shape choices) ds = ap (two (one (variants (variant_count choices)) [])) (payload_columns-none choices 0 ds)
+  columns_of-none (admitted_shape admits shape) ds = columns_of-none shape ds
 
   payload_columns-none : (shapes : Shapes) (index : ℕ) (ds : List Datum) → payload_columns shapes index [] ≡ emptied (payload_columns shapes index ds)
   payload_columns-none no_shapes index ds = refl
@@ -159,6 +161,7 @@ mutual
       ap₂ (λ k l. k ++ l) (flat-columns_of first (map first_in ds)) (flat-columns_of second (map second_in ds))
   flat-columns_of (choice_shape choices) ds =
       ap (λ l. column (variants (variant_count choices)) (map variant_entry ds) ++ l) (flat-payload_columns choices 0 ds)
+  flat-columns_of (admitted_shape admits shape) ds = flat-columns_of shape ds
 
   flat-payload_columns : (shapes : Shapes) (index : ℕ) (ds : List Datum) → flat (payload_columns shapes index ds) ≡ payload_spread shapes index ds
   flat-payload_columns no_shapes index ds = refl

@@ -1,7 +1,7 @@
 -- Elements without columns. They occupy no bytes, so the number of bytes does not bound their number.
 use Rattle.std.specs.Prelude.{ℕ, zero, suc, ◌+◌, ◌-◌, ◌^◌, Bool, true, false, ◌||◌, if◌then◌else◌, min, List, length, map}
 use Rattle.bitcode_shapes.specs.Datum.{Datum, first_in, second_in}
-use Rattle.bitcode_shapes.specs.Shape.{Shape, Shapes, unit_shape, never_shape, bool_shape, number_shape, float_shape, text_shape, raw_shape, seq_shape, map_shape, array_shape, pair_shape, choice_shape, no_shapes, shape_and}
+use Rattle.bitcode_shapes.specs.Shape.{Shape, Shapes, unit_shape, never_shape, bool_shape, number_shape, float_shape, text_shape, raw_shape, seq_shape, map_shape, array_shape, pair_shape, choice_shape, admitted_shape, no_shapes, shape_and}
 use Rattle.bitcode_coder.specs.Transposition.{joined, payloads}
 
 -- each datum of the shape gives some column an entry; otherwise none does, and the data have no columns
@@ -10,6 +10,7 @@ has_entry unit_shape = false
 has_entry (array_shape zero element) = false
 has_entry (array_shape (suc size) element) = has_entry element
 has_entry (pair_shape first second) = has_entry first || has_entry second
+has_entry (admitted_shape admits shape) = has_entry shape
 has_entry _ = true
 
 -- so many, if they have no columns
@@ -33,6 +34,7 @@ abbrev mutual
   free_count (array_shape size element) ds = count_if_free (has_entry element) (length (joined ds)) + free_count element (joined ds)
   free_count (pair_shape first second) ds = free_count first (map first_in ds) + free_count second (map second_in ds)
   free_count (choice_shape shapes) ds = free_in_payloads shapes 0 ds
+  free_count (admitted_shape admits shape) ds = free_count shape ds
 
   -- those in the payloads of the variants from an index on
   pub free_in_payloads : Shapes → ℕ → List Datum → ℕ

@@ -1,12 +1,12 @@
 -- The first fault of reading data of a shape, whose columns are read one after another.
 use Rattle.std.specs.Prelude.{◌≡◌, ℕ, suc, ◌*◌, ◌^◌, ◌<◌, ◌≤◌, Some, None, List, length, sum, ◌⊎◌}
 use Rattle.bitcode_memory.specs.declared.error.Reason.{Reason}
-use Rattle.bitcode_memory.specs.declared.error.Reason.TheVariants.{Eof, LengthOverflow, InvalidArrayVec, InvalidEnumVariant}
+use Rattle.bitcode_memory.specs.declared.error.Reason.TheVariants.{Eof, LengthOverflow, InvalidArrayVec, InvalidBitPattern, InvalidEnumVariant}
 use Rattle.bitcode_columns.specs.Histogram.{count_of}
 use Rattle.bitcode_columns.specs.Reading.{Reads}
 use Rattle.bitcode_columns.specs.VariantColumn.{SpellsVariants}
 use Rattle.bitcode_shapes.specs.Datum.{Datum}
-use Rattle.bitcode_shapes.specs.Shape.{Shape, Shapes, unit_shape, never_shape, bool_shape, number_shape, float_shape, text_shape, raw_shape, seq_shape, map_shape, array_shape, pair_shape, choice_shape, no_shapes, shape_and, variant_count}
+use Rattle.bitcode_shapes.specs.Shape.{Shape, Shapes, unit_shape, never_shape, bool_shape, number_shape, float_shape, text_shape, raw_shape, seq_shape, map_shape, array_shape, pair_shape, choice_shape, admitted_shape, no_shapes, shape_and, variant_count}
 use Rattle.bitcode_coder.specs.Faults.{NamesBoolsFault, NamesCheckedFault, NamesFloatsFault, NamesVariantsFault}
 use Rattle.bitcode_coder.specs.LengthColumn.{SpellsLengths}
 use Rattle.bitcode_coder.specs.LengthParts.{NamesLengthFault}
@@ -32,6 +32,14 @@ pub record BreaksLimit (limit : ℕ) (element : Shape) (reason : Reason) (k : �
   pub rest : List ℕ
   pub read : Reads (Spells (seq_shape None element)) k input lists rest
   pub over : (others : List Datum) (left : List ℕ) → Reads (Spells (seq_shape (Some limit) element)) k input others left → ⊥
+
+-- the data can be read, but a type's own check does not admit them all
+pub record IsNotAdmitted (admits : Datum → Bool) (shape : Shape) (reason : Reason) (k : ℕ) (input : List ℕ) : Type 0 where
+  pub is : reason ≡ InvalidBitPattern
+  pub data : List Datum
+  pub rest : List ℕ
+  pub read : Reads (Spells shape) k input data rest
+  pub refused : All (λ d. admits d ≡ true) data → ⊥
 
 -- the number of arrays times their size does not fit in a length, or so many elements have a fault
 abbrev pub ArraysFault : ℕ → (Reason → ℕ → List ℕ → Type 0) → Reason → ℕ → List ℕ → Type 0
@@ -62,6 +70,7 @@ abbrev mutual
   IsFirstFault (choice_shape shapes) reason k input =
       NamesVariantsFault (variant_count shapes) reason k input
       ⊎ FaultsBehind (SpellsVariants (variant_count shapes)) k (λ variants rest. IsPayloadsFault shapes reason 0 variants rest) input
+  IsFirstFault (admitted_shape admits shape) reason k input = IsFirstFault shape reason k input ⊎ IsNotAdmitted admits shape reason k input
 
   -- the same of the payloads of the variants from an index on: those of one variant, or after them those of the next
   pub IsPayloadsFault : Shapes → Reason → (index : ℕ) (variants input : List ℕ) → Type 0

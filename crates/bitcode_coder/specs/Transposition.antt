@@ -2,7 +2,7 @@
 use Rattle.std.specs.Prelude.{ℕ, zero, suc, pos, List, [], ◌∷◌, ◌++◌, length, map, filter, None, ◌==◌}
 use Rattle.std.specs.List.{flat_map}
 use Rattle.bitcode_shapes.specs.Datum.{Datum, number, elements_in, first_in, second_in, variant_in, payload_in}
-use Rattle.bitcode_shapes.specs.Shape.{Shape, Shapes, unit_shape, never_shape, bool_shape, number_shape, float_shape, text_shape, raw_shape, seq_shape, map_shape, array_shape, pair_shape, choice_shape, no_shapes, shape_and, variant_count}
+use Rattle.bitcode_shapes.specs.Shape.{Shape, Shapes, unit_shape, never_shape, bool_shape, number_shape, float_shape, text_shape, raw_shape, seq_shape, map_shape, array_shape, pair_shape, choice_shape, admitted_shape, no_shapes, shape_and, variant_count}
 use Rattle.bitcode_coder.specs.Columns.{Kind, Column, Columns, bools, ints, floats, lengths, texts, raws, variants, no_columns, one, two, arrays}
 
 abbrev pub length_entry : Datum → Datum
@@ -40,6 +40,7 @@ abbrev mutual
   columns_of (array_shape size element) ds = array_columns size (length ds) (columns_of element (joined ds))
   columns_of (pair_shape first second) ds = two (columns_of first (map first_in ds)) (columns_of second (map second_in ds))
   columns_of (choice_shape shapes) ds = two (one (variants (variant_count shapes)) (map variant_entry ds)) (payload_columns shapes 0 ds)
+  columns_of (admitted_shape admits shape) ds = columns_of shape ds
 
   pub payload_columns : Shapes → ℕ → List Datum → Columns
   payload_columns no_shapes index ds = no_columns
@@ -64,6 +65,7 @@ abbrev mutual
   spread (array_shape size element) ds = spread element (joined ds)
   spread (pair_shape first second) ds = spread first (map first_in ds) ++ spread second (map second_in ds)
   spread (choice_shape shapes) ds = column (variants (variant_count shapes)) (map variant_entry ds) ++ payload_spread shapes 0 ds
+  spread (admitted_shape admits shape) ds = spread shape ds
 
   pub payload_spread : Shapes → ℕ → List Datum → List Column
   payload_spread no_shapes index ds = []

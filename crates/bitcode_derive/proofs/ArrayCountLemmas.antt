@@ -6,7 +6,7 @@ use Rattle.std.proofs.lemmas.List.Concat.{flat_map-cons}
 use Rattle.std.proofs.lemmas.List.Sums.{sum-map, sum_by-append, sum_by-cons}
 use Rattle.std.proofs.lemmas.Simd.{map-map}
 use Rattle.bitcode_shapes.specs.Datum.{Datum, elements_in, first_in, second_in, variant_in, payload_in}
-use Rattle.bitcode_shapes.specs.Shape.{Shape, Shapes, unit_shape, never_shape, bool_shape, number_shape, float_shape, text_shape, raw_shape, seq_shape, map_shape, array_shape, pair_shape, choice_shape, no_shapes, shape_and, variant_count}
+use Rattle.bitcode_shapes.specs.Shape.{Shape, Shapes, unit_shape, never_shape, bool_shape, number_shape, float_shape, text_shape, raw_shape, seq_shape, map_shape, array_shape, pair_shape, choice_shape, admitted_shape, no_shapes, shape_and, variant_count}
 use Rattle.bitcode_shapes.specs.ArrayCounts.{arrays_at, arrays_in, ListsSameArrays}
 use Rattle.bitcode_shapes.specs.SameArrays.{HoldSameArrays}
 use Rattle.bitcode_coder.specs.Columns.{Columns, lengths, variants, no_columns, one, two, arrays, CountsFit}
@@ -122,6 +122,7 @@ mutual
       (array_counts-columns_of second (map second_in ds) (map second_in es) (λ way. in_parts (arrays_at second way) second_in ds es (same (1 ∷ way))))
   array_counts-columns_of (choice_shape shapes) ds es same =
       ap (two (one (variants (variant_count shapes)) [])) (array_counts-payload_columns shapes 0 ds es (all_payloads shapes ds es same))
+  array_counts-columns_of (admitted_shape admits shape) ds es same = array_counts-columns_of shape ds es same
 
   array_counts-payload_columns : (shapes : Shapes) (index : ℕ) (ds es : List Datum) → HoldSamePayloads shapes index ds es
       → array_counts (payload_columns shapes index ds) ≡ array_counts (payload_columns shapes index es)

@@ -5,10 +5,11 @@ use Rattle.std.proofs.lemmas.List.{length-map}
 use Rattle.bitcode_memory.specs.declared.error.Reason.{Reason}
 use Rattle.bitcode_columns.specs.Reading.{Reads}
 use Rattle.bitcode_shapes.specs.Datum.{Datum}
-use Rattle.bitcode_shapes.specs.Shape.{Shape, Shapes, unit_shape, never_shape, bool_shape, number_shape, float_shape, text_shape, raw_shape, seq_shape, map_shape, array_shape, pair_shape, choice_shape, no_shapes, shape_and}
+use Rattle.bitcode_shapes.specs.Shape.{Shape, Shapes, unit_shape, never_shape, bool_shape, number_shape, float_shape, text_shape, raw_shape, seq_shape, map_shape, array_shape, pair_shape, choice_shape, admitted_shape, no_shapes, shape_and}
 use Rattle.bitcode_coder.specs.Coder.{IsReadingReason, IsReadingRefusal}
 use Rattle.bitcode_coder.specs.FirstFault.{IsFirstFault, IsPayloadsFault, ListsFault, PairsFault}
 use Rattle.bitcode_coder.specs.Spelling.{Spells, natural}
+use Rattle.bitcode_coder.proofs.AdmittedLemmas.{refuses_admitted, refuses_unadmitted}
 use Rattle.bitcode_coder.proofs.BoolLemmas.{bools_refused}
 use Rattle.bitcode_coder.proofs.DatumLemmas.{none_never}
 use Rattle.bitcode_coder.proofs.StrLemmas.{text_refusal}
@@ -100,6 +101,9 @@ mutual
   fault_refuses (choice_shape shapes) reason k input (inl fault) = refuses_variants shapes reason k input fault.named
   fault_refuses (choice_shape shapes) reason k input (inr behind) =
       refuses_payloads shapes reason behind.read (payloads_refuse shapes reason 0 behind.entries behind.rest behind.fault)
+  fault_refuses (admitted_shape admits shape) reason k input (inl fault) = refuses_admitted admits shape k reason input
+      (fault_refuses shape reason k input fault)
+  fault_refuses (admitted_shape admits shape) reason k input (inr broken) = refuses_unadmitted admits shape k reason input broken
 
   payloads_refuse : (shapes : Shapes) (reason : Reason) (index : ℕ) (variants input : List ℕ) → IsPayloadsFault shapes reason index variants input
       → IsPayloadsRefusal shapes index variants reason input

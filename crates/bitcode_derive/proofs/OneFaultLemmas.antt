@@ -12,7 +12,7 @@ use Rattle.bitcode_columns.specs.VariantColumn.{SpellsVariants}
 use Rattle.bitcode_columns.proofs.ByteColumnLemmas.{SpellsBytes-unambiguous, bytes_fault-refuses}
 use Rattle.bitcode_columns.proofs.IntColumnLemmas.{ints_fault-refuses}
 use Rattle.bitcode_columns.proofs.VariantColumnLemmas.{SpellsVariants-unambiguous, variants_fault-refuses}
-use Rattle.bitcode_shapes.specs.Shape.{Shape, Shapes, Allowed, unit_shape, never_shape, bool_shape, number_shape, float_shape, text_shape, raw_shape, seq_shape, map_shape, array_shape, pair_shape, choice_shape, no_shapes, shape_and, variant_count}
+use Rattle.bitcode_shapes.specs.Shape.{Shape, Shapes, Allowed, unit_shape, never_shape, bool_shape, number_shape, float_shape, text_shape, raw_shape, seq_shape, map_shape, array_shape, pair_shape, choice_shape, admitted_shape, no_shapes, shape_and, variant_count}
 use Rattle.bitcode_coder.specs.Faults.{NamesCheckedFault, NamesVariantsFault, in_column, not_allowed}
 use Rattle.bitcode_coder.specs.FirstFault.{FaultsBehind, IsFirstFault, IsPayloadsFault, ListsFault, PairsFault}
 use Rattle.bitcode_coder.specs.LengthColumn.{SpellsLengths, lengths_from}
@@ -198,6 +198,12 @@ mutual
       (λ r s x y u v. variants_one count k input r s x y u.named v.named)
       (λ reason other fault variants rest read. variants_refused count reason other fault.named read)
       (λ variants rest. payloads_once shapes 0 variants rest) first second a b f g
+  fault_once (admitted_shape admits shape) k input first second a b (inl f) (inl g) = fault_once shape k input first second a b f g
+  fault_once (admitted_shape admits shape) k input first second a b (inl f) (inr broken) =
+      absurd ((fault_refuses shape first k input f).1 a broken.data broken.rest broken.read)
+  fault_once (admitted_shape admits shape) k input first second a b (inr broken) (inl g) =
+      absurd ((fault_refuses shape second k input g).1 b broken.data broken.rest broken.read)
+  fault_once (admitted_shape admits shape) k input first second a b (inr f) (inr g) = f.is ∙ sym g.is
 
   payloads_once : (shapes : Shapes) (index : ℕ) (variants input : List ℕ) → NamesAtMostOne (λ reason. IsPayloadsFault shapes reason index variants input)
   payloads_once no_shapes index variants input first second a b f g = absurd f

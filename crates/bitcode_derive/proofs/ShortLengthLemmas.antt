@@ -10,7 +10,7 @@ use Rattle.std.proofs.lemmas.List.Elements.{All-cons, All-head, All-nil, All-tai
 use Rattle.bitcode_shapes.specs.Datum.{Datum, elements_in, first_in, second_in, natural_in, text_in}
 use Rattle.bitcode_shapes.specs.Lawful.{Lawful}
 use Rattle.bitcode_shapes.specs.LawfulPairs.{both}
-use Rattle.bitcode_shapes.specs.Shape.{Shape, Shapes, unit_shape, never_shape, bool_shape, number_shape, float_shape, text_shape, raw_shape, seq_shape, map_shape, array_shape, pair_shape, choice_shape, no_shapes, shape_and, variant_count, IsOf, IsSound, AreSound, IsWithin, IsListOf, IsPairOf}
+use Rattle.bitcode_shapes.specs.Shape.{Shape, Shapes, unit_shape, never_shape, bool_shape, number_shape, float_shape, text_shape, raw_shape, seq_shape, map_shape, array_shape, pair_shape, choice_shape, admitted_shape, no_shapes, shape_and, variant_count, IsOf, IsSound, AreSound, IsWithin, IsListOf, IsPairOf}
 use Rattle.bitcode_coder.specs.Columns.{Kind, Columns, bools, ints, floats, lengths, texts, raws, variants, IsEntryOf, IsSoundKind, entry_count_of}
 use Rattle.bitcode_coder.specs.ColumnFree.{has_entry}
 use Rattle.bitcode_coder.specs.Transposition.{columns_of, payload_columns, array_columns, joined, payloads, length_entry, variant_entry}
@@ -20,7 +20,7 @@ use Rattle.bitcode_coder.specs.TextColumn.{texts_bytes}
 use Rattle.bitcode_coder.proofs.LawLemmas.{texts_of-spread}
 use Rattle.bitcode_coder.proofs.ColumnLemmas.{SpellsColumn-size_bound, column_bytes-spells}
 use Rattle.bitcode_coder.proofs.DatumLemmas.{none_never, elements_count, joined_each, firsts_each, seconds_each, IsPayloadFrom, payloads_from_0, first_payloads, later_payloads}
-use Rattle.bitcode_coder.proofs.SpellingLemmas.{AreEntries-columns_of}
+use Rattle.bitcode_coder.proofs.SpellingLemmas.{AreEntries-columns_of, admitted_each}
 use Rattle.bitcode_derive.specs.Whole.{IsEncodingOf, columns_of_one}
 use Rattle.bitcode_derive.specs.ShortLengths.{elements_have_entries, payloads_have_entries, has_no_lengths, payloads_have_no_lengths}
 
@@ -118,6 +118,7 @@ each_entry (choice_shape choices) has sound ds h below =
       length-map ds variant_entry,
       entries_bound (variants (variant_count choices)) (sound.0, sound.1) (map variant_entry ds) (AreEntries-columns_of (choice_shape choices) ds h).0 tt,
     ))
+each_entry (admitted_shape admits shape) has sound ds h below = each_entry shape has sound ds (admitted_each admits shape ds h) below
 
 -- ---- all columns
 
@@ -181,6 +182,7 @@ mutual
     short_payloads choices have sound.2 0 ds (payloads_from_0 choices ds h)
         (few_in_back (column_bytes (variants (variant_count choices)) (map variant_entry ds)) (columns_bytes (payload_columns choices 0 ds)) few),
   )
+  short_lengths (admitted_shape admits shape) have sound ds h few = short_lengths shape have sound ds (admitted_each admits shape ds h) few
 
   short_payloads : (shapes : Shapes) → payloads_have_entries shapes ≡ true → AreSound shapes → (index : ℕ) (ds : List Datum) → All (IsPayloadFrom shapes index) ds
       → length (columns_bytes (payload_columns shapes index ds)) < 2 ^ 48 → LengthsBelowLimit (payload_columns shapes index ds)
@@ -221,6 +223,7 @@ mutual
       let inside = both (has_no_lengths first) (has_no_lengths second) none in
       (no_lengths_below first inside.0 (map first_in ds), no_lengths_below second inside.1 (map second_in ds))
   no_lengths_below (choice_shape choices) none ds = (tt, no_lengths_in_payloads choices none 0 ds)
+  no_lengths_below (admitted_shape admits shape) none ds = no_lengths_below shape none ds
 
   no_lengths_in_payloads : (shapes : Shapes) → payloads_have_no_lengths shapes ≡ true → (index : ℕ) (ds : List Datum) → LengthsBelowLimit (payload_columns shapes index ds)
   no_lengths_in_payloads no_shapes none index ds = tt

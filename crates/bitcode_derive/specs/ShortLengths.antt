@@ -1,7 +1,7 @@
 -- Shapes whose lengths are short: those without lengths, and, for few bytes, those whose elements all give some column an
 -- entry, since a column has at most eight entries a byte.
 use Rattle.std.specs.Prelude.{Bool, true, false, ◌&&◌, ◌||◌}
-use Rattle.bitcode_shapes.specs.Shape.{Shape, Shapes, seq_shape, map_shape, array_shape, pair_shape, choice_shape, no_shapes, shape_and, text_shape}
+use Rattle.bitcode_shapes.specs.Shape.{Shape, Shapes, seq_shape, map_shape, array_shape, pair_shape, choice_shape, admitted_shape, no_shapes, shape_and, text_shape}
 use Rattle.bitcode_coder.specs.ColumnFree.{has_entry}
 
 -- each element of each list has an entry in some column, and so has each key or value of each pair of a map
@@ -12,6 +12,7 @@ abbrev mutual
   elements_have_entries (array_shape size element) = elements_have_entries element
   elements_have_entries (pair_shape first second) = elements_have_entries first && elements_have_entries second
   elements_have_entries (choice_shape shapes) = payloads_have_entries shapes
+  elements_have_entries (admitted_shape admits shape) = elements_have_entries shape
   elements_have_entries _ = true
 
   pub payloads_have_entries : Shapes → Bool
@@ -27,6 +28,7 @@ abbrev mutual
   has_no_lengths (array_shape size element) = has_no_lengths element
   has_no_lengths (pair_shape first second) = has_no_lengths first && has_no_lengths second
   has_no_lengths (choice_shape shapes) = payloads_have_no_lengths shapes
+  has_no_lengths (admitted_shape admits shape) = has_no_lengths shape
   has_no_lengths _ = true
 
   pub payloads_have_no_lengths : Shapes → Bool

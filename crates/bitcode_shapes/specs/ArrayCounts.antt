@@ -2,7 +2,7 @@
 -- a map's keys or values, a field or a variant; a list's elements take no step.
 use Rattle.std.specs.Prelude.{◌≡◌, ℕ, zero, suc, List, [], ◌∷◌, ◌==◌, cond, sum_by}
 use Rattle.bitcode_shapes.specs.Datum.{Datum, elements_in, first_in, second_in, variant_in, payload_in}
-use Rattle.bitcode_shapes.specs.Shape.{Shape, Shapes, seq_shape, map_shape, array_shape, pair_shape, choice_shape, no_shapes, shape_and}
+use Rattle.bitcode_shapes.specs.Shape.{Shape, Shapes, seq_shape, map_shape, array_shape, pair_shape, choice_shape, admitted_shape, no_shapes, shape_and}
 
 abbrev mutual
   pub arrays_at : Shape → List ℕ → Datum → ℕ
@@ -17,6 +17,7 @@ abbrev mutual
   arrays_at (pair_shape first second) (suc place ∷ way) d = arrays_at second way (second_in d)
   arrays_at (choice_shape of_variants) [] d = 0
   arrays_at (choice_shape of_variants) (place ∷ way) d = cond (variant_in d == place) (arrays_in of_variants (variant_in d) way (payload_in d)) 0
+  arrays_at (admitted_shape admits shape) way d = arrays_at shape way d
   arrays_at _ way d = 0
 
   -- in the payload of the variant at the place

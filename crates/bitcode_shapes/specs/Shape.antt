@@ -36,6 +36,8 @@ mutual
     pair_shape : Shape → Shape → Shape
     -- one of several variants, each with a payload
     choice_shape : Shapes → Shape
+    -- the data of a shape that a type's own check admits
+    admitted_shape : (Datum → Bool) → Shape → Shape
 
   pub data Shapes : Type 0 where
     no_shapes : Shapes
@@ -124,6 +126,7 @@ abbrev mutual
   IsOf (array_shape count element) d = IsListOf (IsOf element) (λ n. n ≡ count) d
   IsOf (pair_shape first second) d = IsPairOf (IsOf first) (IsOf second) d
   IsOf (choice_shape shapes) d = IsChoiceOf (IsOfVariant shapes) d
+  IsOf (admitted_shape admits shape) d = IsOf shape d × (admits d ≡ true)
 
   -- the payload is of the variant's shape
   pub IsOfVariant : Shapes → ℕ → Datum → Type 0
@@ -150,6 +153,7 @@ abbrev mutual
   IsSound (array_shape count element) = IsSound element
   IsSound (pair_shape first second) = IsSound first × IsSound second
   IsSound (choice_shape shapes) = (2 ≤ variant_count shapes) × (variant_count shapes ≤ 256) × AreSound shapes
+  IsSound (admitted_shape admits shape) = IsSound shape
 
   pub AreSound : Shapes → Type 0
   AreSound no_shapes = Unit {0}

@@ -2,7 +2,7 @@
 -- limit holds at most that many, and an array exactly as many as its shape says.
 use Rattle.std.specs.Prelude.{ℕ, zero, suc, ◌<◌, ◌^◌, Option, Some, None, length, All}
 use Rattle.bitcode_shapes.specs.Datum.{Datum, text_in, elements_in, first_in, second_in, variant_in, payload_in}
-use Rattle.bitcode_shapes.specs.Shape.{Shape, Shapes, text_shape, seq_shape, map_shape, array_shape, pair_shape, choice_shape, no_shapes, shape_and}
+use Rattle.bitcode_shapes.specs.Shape.{Shape, Shapes, text_shape, seq_shape, map_shape, array_shape, pair_shape, choice_shape, admitted_shape, no_shapes, shape_and}
 
 abbrev pub IsStorableSize : Option ℕ → ℕ → Type 0
 IsStorableSize None n = n < 2 ^ 63
@@ -17,6 +17,7 @@ abbrev mutual
   IsStorable (array_shape size element) d = All (IsStorable element) (elements_in d)
   IsStorable (pair_shape first second) d = IsStorable first (first_in d) × IsStorable second (second_in d)
   IsStorable (choice_shape shapes) d = IsStorableVariant shapes (variant_in d) (payload_in d)
+  IsStorable (admitted_shape admits shape) d = IsStorable shape d
   IsStorable _ d = Unit {0}
 
   -- for the payload of a variant
