@@ -56,3 +56,4 @@ pub mod KeyLaws
 pub mod OrderedKeyLaws
 pub mod CompareAlike
 pub mod FieldsInOrder
+pub mod Admitted
