@@ -1,3 +1,4 @@
+pub mod AdmittedLemmas
 pub mod CuttingLemmas
 pub mod OneColumnLemmas
 pub mod OneValueLemmas

@@ -1,4 +1,5 @@
-//! The decoder of structs with private fields.
+//! The decoders of structs with private fields, and of structs whose constructor checks their fields.
 #![tactic(auto)]
 
+pub mod checked;
 pub mod decoded;
