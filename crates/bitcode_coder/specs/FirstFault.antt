@@ -36,10 +36,10 @@ pub record BreaksLimit (limit : ℕ) (element : Shape) (reason : Reason) (k : �
 -- the data can be read, but a type's own check does not admit them all
 pub record IsNotAdmitted (admits : Datum → Bool) (shape : Shape) (reason : Reason) (k : ℕ) (input : List ℕ) : Type 0 where
   pub is : reason ≡ InvalidBitPattern
-  pub data : List Datum
+  pub found : List Datum
   pub rest : List ℕ
-  pub read : Reads (Spells shape) k input data rest
-  pub refused : All (λ d. admits d ≡ true) data → ⊥
+  pub read : Reads (Spells shape) k input found rest
+  pub refused : All (λ d. admits d ≡ true) found → ⊥
 
 -- the number of arrays times their size does not fit in a length, or so many elements have a fault
 abbrev pub ArraysFault : ℕ → (Reason → ℕ → List ℕ → Type 0) → Reason → ℕ → List ℕ → Type 0

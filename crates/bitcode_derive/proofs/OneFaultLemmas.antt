@@ -200,9 +200,9 @@ mutual
       (λ variants rest. payloads_once shapes 0 variants rest) first second a b f g
   fault_once (admitted_shape admits shape) k input first second a b (inl f) (inl g) = fault_once shape k input first second a b f g
   fault_once (admitted_shape admits shape) k input first second a b (inl f) (inr broken) =
-      absurd ((fault_refuses shape first k input f).1 a broken.data broken.rest broken.read)
+      absurd ((fault_refuses shape first k input f).1 a broken.found broken.rest broken.read)
   fault_once (admitted_shape admits shape) k input first second a b (inr broken) (inl g) =
-      absurd ((fault_refuses shape second k input g).1 b broken.data broken.rest broken.read)
+      absurd ((fault_refuses shape second k input g).1 b broken.found broken.rest broken.read)
   fault_once (admitted_shape admits shape) k input first second a b (inr f) (inr g) = f.is ∙ sym g.is
 
   payloads_once : (shapes : Shapes) (index : ℕ) (variants input : List ℕ) → NamesAtMostOne (λ reason. IsPayloadsFault shapes reason index variants input)
