@@ -1,5 +1,5 @@
 -- The first fault of reading data of a shape, whose columns are read one after another.
-use Rattle.std.specs.Prelude.{◌≡◌, ℕ, suc, ◌*◌, ◌^◌, ◌<◌, ◌≤◌, Some, None, List, length, sum, ◌⊎◌}
+use Rattle.std.specs.Prelude.{◌≡◌, ℕ, suc, ◌*◌, ◌^◌, ◌<◌, ◌≤◌, Some, None, Bool, true, List, length, sum, All, ◌⊎◌}
 use Rattle.bitcode_memory.specs.declared.error.Reason.{Reason}
 use Rattle.bitcode_memory.specs.declared.error.Reason.TheVariants.{Eof, LengthOverflow, InvalidArrayVec, InvalidBitPattern, InvalidEnumVariant}
 use Rattle.bitcode_columns.specs.Histogram.{count_of}
