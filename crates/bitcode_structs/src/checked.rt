@@ -19,7 +19,7 @@ use std::marker::PhantomData;
 ///
 /// ```text
 /// impl<'a> FromChecked<u8, <u8 as HasDecoder<'a>>::Decoder> for Percent {
-///     ghost fields = { λ t. t.hundredths };
+///     ghost parts = { λ t. t.hundredths };
 ///
 ///     ghost takes = { λ n. leb n 100 };
 ///
@@ -33,7 +33,7 @@ use std::marker::PhantomData;
 /// ```
 pub trait FromChecked<P: Shaped, D: Decoder<P>>: Shaped {
     // the fields of a value
-    ghost fields: { Self → P };
+    ghost parts: { Self → P };
 
     // whether the constructor takes fields
     ghost takes: { P → Bool };
@@ -44,11 +44,11 @@ pub trait FromChecked<P: Shaped, D: Decoder<P>>: Shaped {
     /// Makes the struct from its fields, if its constructor takes them.
     fn from_checked(fields: P) -> Option<Self>
         ensures { MatchOption result (takes fields ≡ false)
-            (λ t. (takes fields ≡ true) × (Self.fields t ≡ fields)) };
+            (λ t. (takes fields ≡ true) × (Self.parts t ≡ fields)) };
 
     ghost same_shape: { Self.data.shape ≡ admitted_shape admits P.data.shape };
 
-    ghost made: { (t : Self) (d : Datum) → P.data.makes d (Self.fields t) → Self.data.makes d t };
+    ghost made: { (t : Self) (d : Datum) → P.data.makes d (Self.parts t) → Self.data.makes d t };
 
     ghost admitted: { (p : P) (d : Datum) → P.data.is_value p → P.data.makes d p
         → Self.admits d ≡ Self.takes p };
