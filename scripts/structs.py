@@ -67,7 +67,9 @@ impl$encoded InFields<Fields$life> for $name {
 
     type Inside = $inside;
 
-    ghost same_shape = { refl };
+    ghost same_columns = { refl };
+
+    ghost of_fields = { λ d h. h };
 
     ghost same_listings = { $alike };
 }

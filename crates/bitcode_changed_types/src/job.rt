@@ -107,7 +107,9 @@ impl InFields<Fields> for Job {
 
     type Inside = <Job as HasDecoder<'static>>::Decoder;
 
-    ghost same_shape = { refl };
+    ghost same_columns = { refl };
+
+    ghost of_fields = { λ d h. h };
 
     ghost same_listings = { λ t. pair_alike (pair_alike field_alike field_alike)
         (pair_alike field_alike (pair_alike field_alike field_alike)) };

@@ -643,7 +643,9 @@ impl<'a> InFields<Fields<'a>> for Account<'a> {
 
     type Inside = AccountInside<'a>;
 
-    ghost same_shape = { refl };
+    ghost same_columns = { refl };
+
+    ghost of_fields = { λ d h. h };
 
     ghost same_listings = { λ t. pair_alike
         (pair_alike (pair_alike field_alike field_alike)

@@ -70,7 +70,9 @@ impl<T: Encode> InFields<Fields<T>> for Dated<T> {
 
     type Inside = (u16, u16, T);
 
-    ghost same_shape = { refl };
+    ghost same_columns = { refl };
+
+    ghost of_fields = { λ d h. h };
 
     ghost same_listings = { λ t. pair_alike field_alike (pair_alike field_alike field_alike) };
 }

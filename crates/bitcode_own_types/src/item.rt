@@ -58,7 +58,9 @@ impl InFields<Fields> for Item {
 
     type Inside = <Item as HasDecoder<'static>>::Decoder;
 
-    ghost same_shape = { refl };
+    ghost same_columns = { refl };
+
+    ghost of_fields = { λ d h. h };
 
     ghost same_listings = { λ t. pair_alike field_alike field_alike };
 }

@@ -52,7 +52,9 @@ impl InFields<Fields> for One {
 
     type Inside = <One as HasDecoder<'static>>::Decoder;
 
-    ghost same_shape = { refl };
+    ghost same_columns = { refl };
+
+    ghost of_fields = { λ d h. h };
 
     ghost same_listings = { λ t. field_alike };
 }

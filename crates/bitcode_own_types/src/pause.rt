@@ -30,7 +30,9 @@ impl InFields<Fields> for Pause {
 
     type Inside = <Pause as HasDecoder<'static>>::Decoder;
 
-    ghost same_shape = { refl };
+    ghost same_columns = { refl };
+
+    ghost of_fields = { λ d h. h };
 
     ghost same_listings = { λ t. field_alike };
 }

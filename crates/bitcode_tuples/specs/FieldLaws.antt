@@ -1,20 +1,22 @@
--- A struct or a tuple has the listings and the columns of its fields in nested pairs. So the laws of its encoder follow
--- from those of the encoder of the pairs.
+-- A struct or a tuple has the listings and the columns of its fields in nested pairs, and its data are data of them. So
+-- the laws of its encoder follow from those of the encoder of the pairs.
 use Rattle.std.specs.Prelude.{◌≡◌, ℕ, []}
-use Rattle.std.proofs.Common.{subst}
+use Rattle.std.proofs.Common.{subst, sym, ap, ◌∙◌}
+use Rattle.std.proofs.lemmas.List.Elements.{All-weaker}
 use Rattle.bitcode_shapes.specs.Datum.{Datum}
-use Rattle.bitcode_shapes.specs.Shape.{Shape}
+use Rattle.bitcode_shapes.specs.Shape.{Shape, IsOf}
 use Rattle.bitcode_shapes.specs.Pairs.{ListsPair}
-use Rattle.bitcode_coder.specs.Columns.{Columns}
+use Rattle.bitcode_coder.specs.Columns.{Columns, CountsFit, beside}
 use Rattle.bitcode_coder.specs.Coder.{written_columns, SurelyOverflows}
 
-pub struct_of_shape : {E : Type 0} {empty : E → Columns} {s t : Shape} → s ≡ t → ((e : E) → empty e ≡ written_columns s [])
+pub struct_of_shape : {E : Type 0} {empty : E → Columns} (s t : Shape) → written_columns s ≡ written_columns t → ((e : E) → empty e ≡ written_columns s [])
     → (e : E) → empty e ≡ written_columns t []
-struct_of_shape {empty} same of_shape e = subst (λ s. empty e ≡ written_columns s []) same (of_shape e)
+struct_of_shape s t same of_shape e = of_shape e ∙ ap (λ columns. columns []) same
 
-pub struct_surely : {E : Type 0} (columns : E → Columns) {overflows : E → ℕ → Type 0} {s t : Shape} → s ≡ t
-    → ((e : E) (n : ℕ) → overflows e n → SurelyOverflows s (columns e) n) → (e : E) (n : ℕ) → overflows e n → SurelyOverflows t (columns e) n
-struct_surely columns same surely e n h = subst (λ s. SurelyOverflows s (columns e) n) same (surely e n h)
+pub struct_surely : {E : Type 0} (columns : E → Columns) {overflows : E → ℕ → Type 0} (s t : Shape) → written_columns s ≡ written_columns t
+    → ((d : Datum) → IsOf t d → IsOf s d) → ((e : E) (n : ℕ) → overflows e n → SurelyOverflows s (columns e) n) → (e : E) (n : ℕ) → overflows e n → SurelyOverflows t (columns e) n
+struct_surely columns s t same of_fields surely e n h ds each size fits =
+    surely e n h ds (All-weaker (IsOf t) (IsOf s) of_fields ds each) size (subst (λ of. CountsFit (beside (columns e) (of ds))) (sym same) fits)
 
 -- the listings of a pair follow from those of both halves
 listed_pair : {A B C D : Type 0} {lists_a : A → Datum → Type 0} {lists_b : B → Datum → Type 0} {lists_c : C → Datum → Type 0} {lists_d : D → Datum → Type 0}

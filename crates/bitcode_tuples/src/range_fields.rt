@@ -36,7 +36,9 @@ impl<T: Shaped, A: Buffer + Encoder<T>, B: Buffer + Encoder<T>> InFields<TupleEn
 
     type Inside = ();
 
-    ghost same_shape = { refl };
+    ghost same_columns = { refl };
+
+    ghost of_fields = { λ d h. h };
 
     ghost same_listings = { λ t. pair_alike field_alike field_alike };
 }
@@ -67,7 +69,9 @@ impl<T: Shaped, A: Buffer + Encoder<T>, B: Buffer + Encoder<T>> InFields<TupleEn
 
     type Inside = ();
 
-    ghost same_shape = { refl };
+    ghost same_columns = { refl };
+
+    ghost of_fields = { λ d h. h };
 
     ghost same_listings = { λ t. pair_alike field_alike field_alike };
 }

@@ -1,5 +1,8 @@
 //! The encoder of structs, and of tuples of three and more fields.
 ghost use Rattle.std.specs.Prelude.{◌≡◌, map};
+ghost use Rattle.bitcode_shapes.specs.Datum.{Datum};
+ghost use Rattle.bitcode_shapes.specs.Shape.{IsOf};
+ghost use Rattle.bitcode_coder.specs.Coder.{written_columns};
 ghost use Rattle.bitcode_tuples.specs.FieldLaws.{SameListings, struct_of_shape, struct_surely};
 ghost use Rattle.bitcode_tuples.specs.Pairs.{EachListed};
 
@@ -21,9 +24,12 @@ pub trait InFields<E: PartEncoder<Self, Self::Numbers>>: Shaped {
     type Inside;
 
     // the columns are those of the fields
-    ghost same_shape: { E.shape ≡ Self.data.shape };
+    ghost same_columns: { written_columns E.shape ≡ written_columns Self.data.shape };
 
-    // and so are the listings
+    // and the data are data of the fields
+    ghost of_fields: { (d : Datum) → IsOf Self.data.shape d → IsOf E.shape d };
+
+    // the listings are those of the fields
     ghost same_listings: { (t : Self) → SameListings (Self.data.lists t) (E.lists t) };
 }
 
@@ -92,9 +98,11 @@ impl<T: InFields<E>, E: PartEncoder<T, T::Numbers>> Encoder<T> for StructEncoder
         self.fields.encode_part_in_each(items, which)
     }
 
-    ghost of_shape = { λ e. struct_of_shape T.same_shape E.of_shape e.fields };
+    ghost of_shape = { λ e. struct_of_shape E.shape T.data.shape T.same_columns E.of_shape
+        e.fields };
 
-    ghost surely = { λ e n h. struct_surely E.columns T.same_shape E.surely e.fields n h };
+    ghost surely = { λ e n h. struct_surely E.columns E.shape T.data.shape T.same_columns
+        T.of_fields E.surely e.fields n h };
 }
 
 /// The fields of each item have a listing.

@@ -77,7 +77,9 @@ impl<'a> InFields<Fields<'a>> for Sale<'a> {
 
     type Inside = <Sale<'a> as HasDecoder<'a>>::Decoder;
 
-    ghost same_shape = { refl };
+    ghost same_columns = { refl };
+
+    ghost of_fields = { λ d h. h };
 
     ghost same_listings = { λ t. pair_alike field_alike (pair_alike field_alike field_alike) };
 }

@@ -201,7 +201,9 @@ impl<
 
     type Inside = ();
 
-    ghost same_shape = { refl };
+    ghost same_columns = { refl };
+
+    ghost of_fields = { λ d h. h };
 
     ghost same_listings = { λ t. pair_alike
         (pair_alike (pair_alike field_alike (pair_alike field_alike field_alike))
@@ -418,7 +420,9 @@ impl<
 
     type Inside = ();
 
-    ghost same_shape = { refl };
+    ghost same_columns = { refl };
+
+    ghost of_fields = { λ d h. h };
 
     ghost same_listings = { λ t. pair_alike
         (pair_alike (pair_alike field_alike (pair_alike field_alike field_alike))
@@ -648,7 +652,9 @@ impl<
 
     type Inside = ();
 
-    ghost same_shape = { refl };
+    ghost same_columns = { refl };
+
+    ghost of_fields = { λ d h. h };
 
     ghost same_listings = { λ t. pair_alike
         (pair_alike (pair_alike field_alike (pair_alike field_alike field_alike))
@@ -892,7 +898,9 @@ impl<
 
     type Inside = ();
 
-    ghost same_shape = { refl };
+    ghost same_columns = { refl };
+
+    ghost of_fields = { λ d h. h };
 
     ghost same_listings = { λ t. pair_alike
         (pair_alike (pair_alike (pair_alike field_alike field_alike)

@@ -51,7 +51,9 @@ impl<
 
     type Inside = ();
 
-    ghost same_shape = { refl };
+    ghost same_columns = { refl };
+
+    ghost of_fields = { λ d h. h };
 
     ghost same_listings = { λ t. pair_alike field_alike (pair_alike field_alike field_alike) };
 }
@@ -110,7 +112,9 @@ impl<
 
     type Inside = ();
 
-    ghost same_shape = { refl };
+    ghost same_columns = { refl };
+
+    ghost of_fields = { λ d h. h };
 
     ghost same_listings = { λ t. pair_alike (pair_alike field_alike field_alike)
         (pair_alike field_alike field_alike) };
@@ -183,7 +187,9 @@ impl<
 
     type Inside = ();
 
-    ghost same_shape = { refl };
+    ghost same_columns = { refl };
+
+    ghost of_fields = { λ d h. h };
 
     ghost same_listings = { λ t. pair_alike (pair_alike field_alike field_alike)
         (pair_alike field_alike (pair_alike field_alike field_alike)) };
@@ -269,7 +275,9 @@ impl<
 
     type Inside = ();
 
-    ghost same_shape = { refl };
+    ghost same_columns = { refl };
+
+    ghost of_fields = { λ d h. h };
 
     ghost same_listings = { λ t. pair_alike
         (pair_alike field_alike (pair_alike field_alike field_alike))
@@ -374,7 +382,9 @@ impl<
 
     type Inside = ();
 
-    ghost same_shape = { refl };
+    ghost same_columns = { refl };
+
+    ghost of_fields = { λ d h. h };
 
     ghost same_listings = { λ t. pair_alike
         (pair_alike field_alike (pair_alike field_alike field_alike))
@@ -491,7 +501,9 @@ impl<
 
     type Inside = ();
 
-    ghost same_shape = { refl };
+    ghost same_columns = { refl };
+
+    ghost of_fields = { λ d h. h };
 
     ghost same_listings = { λ t. pair_alike
         (pair_alike (pair_alike field_alike field_alike) (pair_alike field_alike field_alike))

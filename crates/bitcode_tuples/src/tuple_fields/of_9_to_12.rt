@@ -131,7 +131,9 @@ impl<
 
     type Inside = ();
 
-    ghost same_shape = { refl };
+    ghost same_columns = { refl };
+
+    ghost of_fields = { λ d h. h };
 
     ghost same_listings = { λ t. pair_alike
         (pair_alike (pair_alike field_alike field_alike) (pair_alike field_alike field_alike))
@@ -273,7 +275,9 @@ impl<
 
     type Inside = ();
 
-    ghost same_shape = { refl };
+    ghost same_columns = { refl };
+
+    ghost of_fields = { λ d h. h };
 
     ghost same_listings = { λ t. pair_alike
         (pair_alike (pair_alike field_alike field_alike)
@@ -431,7 +435,9 @@ impl<
 
     type Inside = ();
 
-    ghost same_shape = { refl };
+    ghost same_columns = { refl };
+
+    ghost of_fields = { λ d h. h };
 
     ghost same_listings = { λ t. pair_alike
         (pair_alike (pair_alike field_alike field_alike)
@@ -616,7 +622,9 @@ impl<
 
     type Inside = ();
 
-    ghost same_shape = { refl };
+    ghost same_columns = { refl };
+
+    ghost of_fields = { λ d h. h };
 
     ghost same_listings = { λ t. pair_alike
         (pair_alike (pair_alike field_alike (pair_alike field_alike field_alike))

@@ -9,12 +9,12 @@ pub returns-clause-joined : goal.returns-clause-joined
 returns-clause-joined g c =
     on_ok_weaker c.encode_part_in_each.result
     (joins_listed_as (g.W.Part.of c.args.which.now) (λ t. t) g.E.PartEncoder.lists g.T.Shaped.data.lists (λ t. (g.met.T.InFields.same_listings t).from)
-    g.met.T.InFields.same_shape c.args.items.now)
+    g.met.T.InFields.same_columns c.args.items.now)
     c.encode_part_in_each.ensures.joined
 
 pub returns-clause-refused : goal.returns-clause-refused
 returns-clause-refused g c =
     refused_weaker (λ (e : Error). e.reason) c.encode_part_in_each.result
     (overflows_listed_as (g.W.Part.of c.args.which.now) (λ t. t) g.E.PartEncoder.lists g.T.Shaped.data.lists (λ t. (g.met.T.InFields.same_listings t).from)
-    g.met.T.InFields.same_shape c.args.items.now)
+    g.met.T.InFields.same_columns c.args.items.now)
     c.encode_part_in_each.ensures.refused
