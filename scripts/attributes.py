@@ -20,7 +20,8 @@ OTHER_TYPE = "remove it, encode and decode the other type, and convert in your o
 BY_FUNCTION = "write a type of your own for the field, which holds what the function writes"
 INSTEAD = {
     "default": f"{ALL_WRITTEN}. Write `#[since(2)]` if version 1 lacks the field (docs/GUIDE.md)",
-    **{word: OTHER_TYPE for word in ("from", "into", "try_from", "remote")},
+    **{word: OTHER_TYPE for word in ("from", "into", "remote")},
+    "try_from": "write `#[check(..)]` with what the conversion asks of the fields (docs/GUIDE.md)",
     **{word: BY_FUNCTION for word in ("with", "serialize_with", "deserialize_with", "getter")},
     **{word: f"{ALL_WRITTEN}. Move it to another struct, which holds this one"
        for word in ("skip", "skip_serializing", "skip_deserializing")},
@@ -93,6 +94,8 @@ class Attributes:
         name, text = inner[0] if inner else "", shown(inner)
         if name in ("serde", "bitcode"):
             self.of_serde(inner, line)
+        elif name == "check" and of == "type" and inner[1:2] == ["("]:
+            return [f"#[check({' '.join(inner[2:-1])})]"]
         elif name == "cfg":
             self.told.fault(line, f"`{text}` could remove what the generated impls refer to: remove the attribute")
         elif name == "cfg_attr":

@@ -3,6 +3,8 @@
 #[cfg(test)]
 mod changed_types;
 #[cfg(test)]
+mod checked_types;
+#[cfg(test)]
 mod library;
 #[cfg(test)]
 mod own_types;

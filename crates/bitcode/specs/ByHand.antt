@@ -7,6 +7,11 @@ pub use Rattle.bitcode_shapes.specs.LeafData.{bool_data, unsigned_data, signed_d
 pub use Rattle.bitcode_shapes.specs.DataKinds.{pair_data, tuple_data, seq_data, array_data, array_vec_data, array_string_data, option_data, result_data, bare_data}
 pub use Rattle.bitcode_shapes.specs.SetData.{heap_data, ordered_set_data, hashed_set_data, ordered_map_data, hashed_map_data}
 pub use Rattle.bitcode_enums.specs.EnumData.{enum_data}
+-- The same of a struct whose constructor checks its fields: the check of data from the check of fields, for which a datum
+-- is read back.
+pub use Rattle.bitcode_shapes.specs.Admitted.{admits, admits-takes, admitted_data, natural_back, integer_back, bool_back, pair_back, tuple_back}
+pub use Rattle.bitcode_shapes.specs.Tuples.{split_3, split_4, split_5, split_6, split_7, split_8, joined_3, joined_4, joined_5, joined_6, joined_7, joined_8, again_3, again_4, again_5, again_6, again_7, again_8}
+pub use Rattle.std.specs.Prelude.{nat_eq, nat_le, nat_lt}
 -- The laws that such a record holds, for a type of a kind of its own:
 pub use Rattle.bitcode_shapes.specs.LawfulChoices.{choice_lawful, choice_makeable, first_lawful, first_makeable, last_lawful, last_makeable}
 pub use Rattle.bitcode_shapes.specs.SameArrays.{one_datum_same_arrays, one_listing_same_arrays, choice_same_arrays, first_same_arrays, last_same_arrays}

@@ -120,6 +120,7 @@ pub mod own {
     pub use bitcode_parts::maps::Mapping;
     pub use bitcode_shapes::bare_variants::{BareShaped, BareVariants};
     pub use bitcode_shapes::no_variants::{Absent, NoVariants};
+    pub use bitcode_structs::checked::{CheckedDecoder, FromChecked};
     pub use bitcode_structs::decoded::{Decoded, FromDecoded, PrivateDecoder};
     pub use bitcode_tuples::fields::Fields;
     pub use bitcode_tuples::has_field::{HasField, Nth};
@@ -130,6 +131,9 @@ pub mod own {
 
     /// The decoder of a struct with private fields, which corresponds to the tuple `P` of its fields.
     pub type DecoderOfPrivate<'a, P> = PrivateDecoder<P, <P as HasDecoder<'a>>::Decoder>;
+
+    /// The decoder of a struct whose constructor checks the tuple `P` of its fields.
+    pub type DecoderOfChecked<'a, T, P> = CheckedDecoder<T, P, <P as HasDecoder<'a>>::Decoder>;
 }
 
 /// The traits of coders, the result type of their calls, calls that write one value, what a decoder tells about

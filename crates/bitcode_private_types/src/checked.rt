@@ -1,43 +1,38 @@
-//! Percents that their constructor has taken, also where they come from bytes.
-ghost use Rattle.std.specs.Prelude.{◌≡◌, ◌≤◌, ◌<◌, IfSome, IfNone, IfOk};
+//! What the checked types are, and percents, spans and grades that come from bytes.
+ghost use Rattle.std.specs.Prelude.{◌≡◌, ◌≤◌, ◌<◌, IfOk};
 ghost use Rattle.bitcode.specs.ByHand.{IsDecodingOf};
 
+use crate::grade::Grade;
 use crate::percent::Percent;
-use bitcode::{Error, Reason, Shaped, decode, err};
+use crate::span::Span;
+use bitcode::{Error, Shaped, decode, decode_strict};
 use std::alloc::Global;
 
-impl Percent {
-    /// A percent, if there are at most 100 hundredths.
-    pub fn new(hundredths: u8) -> Option<Percent>
-        ensures taken { IfSome result (λ p. (p.hundredths ≡ hundredths) × (hundredths ≤ 100)) }
-        ensures refused { IfNone result (100 < hundredths) }
-    {
-        if hundredths <= 100 {
-            Some(Percent { hundredths })
-        } else {
-            None
-        }
-    }
-
-    /// The hundredths.
-    pub fn hundredths(&self) -> u8
-        ensures { result ≡ self.now.hundredths }
-    {
-        self.hundredths
-    }
-}
-
-/// Decodes a percent and asks its constructor.
+/// Decodes a percent. It has at most 100 hundredths, since its check refuses others.
 ///
-/// Errors: those of `decode`, and `invalid bit pattern` for more than 100 hundredths.
+/// Errors: those of `decode`. More than 100 hundredths are an `invalid bit pattern`.
 pub fn decode_percent(alloc: Global, bytes: &[u8]) -> Result<Percent, Error>
     ensures { IfOk result (λ p. (p.hundredths ≤ 100)
-        × IsDecodingOf ⟦<u8 as Shaped>⟧.data.makes ⟦<u8 as Shaped>⟧.data.shape bytes.now
-        p.hundredths) }
+        × IsDecodingOf ⟦<Percent as Shaped>⟧.data.makes ⟦<Percent as Shaped>⟧.data.shape bytes.now
+        p) }
 {
-    let hundredths: u8 = decode(alloc, bytes)?;
-    match Percent::new(hundredths) {
-        Some(percent) => Ok(percent),
-        None => err(Reason::InvalidBitPattern),
-    }
+    decode(alloc, bytes)
+}
+
+/// Decodes a span. Its end is not before its start, since its check refuses others.
+///
+/// Errors: those of `decode`. An end before the start is an `invalid bit pattern`.
+pub fn decode_span(alloc: Global, bytes: &[u8]) -> Result<Span, Error>
+    ensures { IfOk result (λ s. s.start ≤ s.end) }
+{
+    decode(alloc, bytes)
+}
+
+/// Decodes a grade from the very bytes that `encode` writes.
+///
+/// Errors: those of `decode_strict`. More points than can be had are an `invalid bit pattern`, and so is a most of 0.
+pub fn decode_grade(alloc: Global, bytes: &[u8]) -> Result<Grade, Error>
+    ensures { IfOk result (λ g. (0 < g.most) × (g.points ≤ g.most)) }
+{
+    decode_strict(alloc, bytes)
 }

@@ -2,5 +2,7 @@
 #![tactic(auto)]
 
 pub mod checked;
+pub mod grade;
 pub mod percent;
 pub mod sale;
+pub mod span;

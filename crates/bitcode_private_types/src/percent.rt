@@ -1,36 +1,59 @@
 //! `Percent` corresponds to the tuple of its fields. What is below its declaration was written by `scripts/new_type`.
-ghost use Rattle.bitcode.specs.ByHand.{MakesToo, data_as, field_alike, refl};
+ghost use Rattle.std.specs.Prelude.{MatchOption, false, true, ◌≡◌};
+ghost use Rattle.bitcode.specs.ByHand.{admits, admits-takes, admitted_data, field_alike, nat_le, natural_back, refl};
 
-use bitcode::own::{
-    Decoded, DecoderOfPrivate, FromDecoded, HasField, InFields, Nth, StructEncoder,
-};
+use bitcode::own::{DecoderOfChecked, FromChecked, HasField, InFields, Nth, StructEncoder};
 use bitcode::{DecodeOwned, HasDecoder, HasEncoder, Key, Shaped};
 
-/// A part of a whole, in hundredths. Only `Percent::new` makes one, and decoding, which does not ask it.
+/// A part of a whole, in hundredths.
 #[derive(Debug, Clone, Copy, PartialEq, Eq, PartialOrd, Ord)]
 pub struct Percent {
-    pub(crate) hundredths: u8,
+    hundredths: u8,
+    ghost checked: { (nat_le hundredths 100) ≡ true },
+}
+
+impl Percent {
+    /// Makes the value if `hundredths <= 100`.
+    pub fn new(hundredths: u8) -> Option<Percent>
+        ensures { MatchOption result ((nat_le hundredths 100) ≡ false)
+            (λ t. ((nat_le hundredths 100) ≡ true) × (t.hundredths ≡ hundredths)) }
+    {
+        if hundredths <= 100 {
+            Some(Percent { hundredths })
+        } else {
+            None
+        }
+    }
 }
 
 impl Shaped for Percent {
-    ghost data = { data_as (λ t. t.hundredths) (λ p. (record { hundredths = p }, refl)) (λ t. refl)
-        ⟦<u8 as Shaped>⟧.data };
+    ghost data = { admitted_data (λ t. t.hundredths) (λ p. nat_le p 100) ⟦<u8 as Shaped>⟧.data tt
+        natural_back (λ t. t.checked) (λ p h. (record { hundredths = p; checked = h }, refl)) };
 
     fn told(&self) {
         self.hundredths.told();
     }
 }
 
-impl FromDecoded<u8> for Percent {
-    fn from_decoded(decoded: Decoded<u8>) -> Self
-        ensures { MakesToo ⟦<Percent as Shaped>⟧.data.makes ⟦<u8 as Shaped>⟧.data.makes result
-            decoded.fields }
-    {
-        let hundredths = decoded.into_fields();
-        Percent { hundredths }
+impl<'a> FromChecked<u8, <u8 as HasDecoder<'a>>::Decoder> for Percent {
+    ghost parts = { λ t. t.hundredths };
+
+    ghost takes = { λ p. nat_le p 100 };
+
+    ghost admits = { admits natural_back (λ p. nat_le p 100) };
+
+    fn from_checked(fields: u8) -> Option<Self> {
+        let hundredths = fields;
+        Percent::new(hundredths)
     }
 
     ghost same_shape = { refl };
+
+    ghost made = { λ t d m. m };
+
+    ghost admitted = { admits-takes natural_back (λ p. nat_le p 100) };
+
+    ghost free = { tt };
 }
 
 impl HasField<0> for Percent {
@@ -52,7 +75,7 @@ impl InFields<Fields> for Percent {
 
     ghost same_columns = { refl };
 
-    ghost of_fields = { λ d h. h };
+    ghost of_fields = { λ d h. h.0 };
 
     ghost same_listings = { λ t. field_alike };
 }
@@ -62,7 +85,7 @@ impl HasEncoder for Percent {
 }
 
 impl<'a> HasDecoder<'a> for Percent {
-    type Decoder = DecoderOfPrivate<'a, u8>;
+    type Decoder = DecoderOfChecked<'a, Percent, u8>;
 }
 
 impl DecodeOwned for Percent {}

@@ -7,7 +7,7 @@ use bitcode::own::{
 };
 use bitcode::{HasDecoder, HasEncoder, Shaped};
 
-/// What was sold, by whom.
+/// What was sold, by whom. Only decoding and this crate make one.
 #[derive(Debug, PartialEq, Drop)]
 pub struct Sale<'a> {
     pub by: &'a str,
