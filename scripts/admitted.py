@@ -5,7 +5,7 @@ import re
 from declarations import Struct
 from keys import with_names
 from known_types import of_text
-from structs import MOST_FLAT, ORDINALS, parameter, places, quoted
+from structs import MOST_FLAT, parameter, places, quoted
 from tokens import Refused
 
 # How a struct is made of the tuple of its fields, and how it is where a check comes before.
@@ -69,6 +69,10 @@ class Check:
         if head:
             self.constructor = head[1].replace(" ", "")
             self.words = inner[len(head[1].split()) + 1 :]
+        if item.kind != "named":
+            raise Refused(line, "a struct with a `#[check(..)]` has named fields: name them")
+        if any(field.change for field in item.fields):
+            raise Refused(line, "a struct with a `#[check(..)]` cannot have versions: move the fields that change to another struct")
         self.kinds = {field.name: BACKS.get(of_text(field.type)) for field in item.fields}
         for field in item.fields:
             if not self.kinds[field.name]:
@@ -199,7 +203,7 @@ def admitted(text, item):
     """The file of the struct, where its check comes before each value."""
     check = check_of(item)
     fields, name = item.fields, item.name
-    parameters = [parameter(field.name) if item.kind == "named" else ORDINALS[i] if len(fields) > 1 else "value" for i, field in enumerate(fields)]
+    parameters = [parameter(field.name) for field in fields]
     by_name = dict(zip(check.kinds, parameters))
     of_self = {field.name: quoted(field.name) for field in fields}
     row = {
@@ -207,7 +211,7 @@ def admitted(text, item):
         "back": inside(list(check.kinds.values())),
         "of_parts": check.ghost(check.tree, dict(zip(check.kinds, places(len(fields))))),
         "of_fields": check.ghost(check.tree, by_name),
-        "rust": check.rust(check.tree, {one: one if item.kind == "named" else by_name[one] for one in check.kinds}),
+        "rust": check.rust(check.tree, {one: one for one in check.kinds}),
         "asked": check.rust(check.tree, by_name),
         "constructor": check.constructor or f"{name}::new",
         "arguments": ", ".join(parameters),
@@ -250,7 +254,5 @@ def uses(listed):
 def with_invariant(text, item, clause):
     """The declaration with the check as an invariant, and without the attribute."""
     text = re.sub(r"(?m)^#\[check\(.*\)\]\n", "", text)
-    if item.kind == "tuple":
-        raise Refused(item.line, "a struct with a `#[check(..)]` has named fields: name them")
     head = re.search(rf"(?m)^(?:pub(?:\(crate\))? )?struct {item.name} \{{\n(?:.*\n)*?\}}$", text)
     return text[: head.end() - 1] + f"    ghost checked: {{ ({clause}) ≡ true }},\n}}" + text[head.end() :]

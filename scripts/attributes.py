@@ -94,6 +94,8 @@ class Attributes:
         name, text = inner[0] if inner else "", shown(inner)
         if name in ("serde", "bitcode"):
             self.of_serde(inner, line)
+        elif inner == ["second_format"] and of == "type":
+            return ["#[second_format]"]
         elif name == "check" and of == "type" and inner[1:2] == ["("]:
             return [f"#[check({' '.join(inner[2:-1])})]"]
         elif name == "cfg":

@@ -230,7 +230,7 @@ class Parser(Words):
         if self.peek("dyn", "impl", "fn", "*", "!"):
             raise Refused(line, f"a type with `{self.next().text}` cannot be encoded: use another type")
         if self.take("Self"):
-            raise Refused(line, "recursive types are not supported: use `scripts/second_format` (docs/GUIDE.md)")
+            raise Refused(line, "write the type's name in the place of `Self`")
         self.take("::")
         path = [self.word()]
         while self.take("::") and not self.peek("<"):
