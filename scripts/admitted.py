@@ -3,7 +3,7 @@
 import re
 
 from declarations import Struct
-from keys import with_names
+from facade import with_names
 from known_types import of_text
 from structs import MOST_FLAT, parameter, places, quoted
 from tokens import Refused
@@ -69,6 +69,8 @@ class Check:
         if head:
             self.constructor = head[1].replace(" ", "")
             self.words = inner[len(head[1].split()) + 1 :]
+        if item.skipped:
+            raise Refused(line, "a struct with a `#[check(..)]` has no skipped field: move it to another struct, which holds this one")
         if item.kind != "named":
             raise Refused(line, "a struct with a `#[check(..)]` has named fields: name them")
         if any(field.change for field in item.fields):

@@ -23,8 +23,9 @@ INSTEAD = {
     **{word: OTHER_TYPE for word in ("from", "into", "remote")},
     "try_from": "write `#[check(..)]` with what the conversion asks of the fields (docs/GUIDE.md)",
     **{word: BY_FUNCTION for word in ("with", "serialize_with", "deserialize_with", "getter")},
-    **{word: f"{ALL_WRITTEN}. Move it to another struct, which holds this one"
-       for word in ("skip", "skip_serializing", "skip_deserializing")},
+    **{word: f"{ALL_WRITTEN}. Write `skip`, which does both, or move it to another struct, which holds this one"
+       for word in ("skip_serializing", "skip_deserializing")},
+    "skip": "only a field can be skipped",
     "other": "the library rejects an unknown variant. Remove it",
 }
 
@@ -92,6 +93,8 @@ class Attributes:
     def one(self, inner, line, of, known):
         """An attribute, as it is written again, or nothing where it is taken off or refused."""
         name, text = inner[0] if inner else "", shown(inner)
+        if inner[1:] == ["(", "skip", ")"] and name in ("serde", "bitcode") and of == "field":
+            return ["#[skip]"]
         if name in ("serde", "bitcode"):
             self.of_serde(inner, line)
         elif inner == ["second_format"] and of == "type":

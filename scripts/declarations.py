@@ -24,7 +24,8 @@ Type = namedtuple("Type", "kind name parts line path", defaults=((),))
 # `change` has the versions in which it is there (changes.py).
 Field = namedtuple("Field", "docs seen name type line attributes change", defaults=((), None))
 # `types` has type parameters, and `consts` those that are numbers.
-Struct = namedtuple("Struct", "docs derives attributes seen name lifetime types fields kind line consts", defaults=[()])
+# `skipped` has the fields that are not written, each with its place among all.
+Struct = namedtuple("Struct", "docs derives attributes seen name lifetime types fields kind line consts skipped", defaults=[(), ()])
 # `kind` is unit, tuple or named; `number` what stands behind a variant's `=`.
 Variant = namedtuple("Variant", "docs attributes name fields kind number line change", defaults=(None,))
 Enum = namedtuple("Enum", "docs derives attributes seen name lifetime types variants line consts", defaults=((),))

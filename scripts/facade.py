@@ -26,3 +26,18 @@ def with_own(text, own=None):
         return "\n".join(f"{found[1]}use {path}::{{{', '.join(sorted(part))}}};" for path, part in parts if part)
 
     return re.sub(r"(?m)^([ /!]*)use bitcode::\{([^{}]*)\};", lines, text)
+
+
+def with_names(text, path, names):
+    """The text with these names in its `ghost use` of the path, or in a new one."""
+    pattern = re.compile(r"(?m)^ghost use " + re.escape(path) + r"\.\{([^}]*)\};")
+    found = pattern.search(text)
+    if found:
+        names = {*names, *found[1].split(", ")}
+        return text[: found.start()] + f"ghost use {path}.{{{', '.join(sorted(names))}}};" + text[found.end():]
+    first = re.search(r"(?m)^ghost use ", text)
+    place = first.start() if first else re.search(r"(?m)^use ", text).start()
+    line = f"ghost use {path}.{{{', '.join(sorted(names))}}};\n"
+    if path.startswith("Rattle.bitcode.") and first:
+        place = text.index("\n", first.start()) + 1
+    return text[:place] + line + ("" if first else "\n") + text[place:]

@@ -36,6 +36,8 @@ def parted_by_format(items, told):
             told.fault(item.line, f"`{item.name}` is written for the second format, which has no types with parameters: write one without them")
         if item.name in second | held and any(text.startswith("#[check") for text in item.attributes):
             told.fault(item.line, f"`{item.name}` is written for the second format, which asks no check: remove the `#[check(..)]`")
+        if item.name in second | held and getattr(item, "skipped", ()):
+            told.fault(item.line, f"`{item.name}` is written for the second format, which skips no field: move the field to another struct")
         both = sorted(inside[item.name] & held) if item.name not in second | held else []
         if both:
             told.fault(item.line, f"`{both[0]}` is inside a type of the second format: move `{item.name}` and a copy of `{both[0]}` to another file")

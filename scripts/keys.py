@@ -4,6 +4,7 @@ import re
 from string import Template
 
 from declarations import Enum, fields_of
+from facade import with_names
 from known_types import MOST_FIELDS, can_be_key, of_text
 from structs import MOST_FLAT, arguments, bounds, quoted
 
@@ -24,7 +25,7 @@ impl$life Key for $name {
 def key_words(item, own):
     """What the item is as a key: `Key`, `Ord`, and `Hash` where it has that; nothing where it is none."""
     derives = set(item.derives)
-    if item.types or item.consts or not {"PartialEq", "Eq", "PartialOrd", "Ord"} <= derives:
+    if item.types or item.consts or getattr(item, "skipped", ()) or not {"PartialEq", "Eq", "PartialOrd", "Ord"} <= derives:
         return frozenset()
     words = {"Key", "Ord"} | derives & {"Hash"}
     if isinstance(item, Enum):
@@ -79,21 +80,6 @@ def struct_key(struct, name, data):
 def enum_key(enum, name, data):
     """The same of an enum whose variants all lack fields."""
     return data.replace("bare_data", "bare_key") + f" ⟦<{name} as PartialEq>⟧.eq ⟦<{name} as Ord>⟧.cmp refl refl", {"bare_key"}
-
-
-def with_names(text, path, names):
-    """The text with these names in its `ghost use` of the path, or in a new one."""
-    pattern = re.compile(r"(?m)^ghost use " + re.escape(path) + r"\.\{([^}]*)\};")
-    found = pattern.search(text)
-    if found:
-        names = {*names, *found[1].split(", ")}
-        return text[: found.start()] + f"ghost use {path}.{{{', '.join(sorted(names))}}};" + text[found.end():]
-    first = re.search(r"(?m)^ghost use ", text)
-    place = first.start() if first else re.search(r"(?m)^use ", text).start()
-    line = f"ghost use {path}.{{{', '.join(sorted(names))}}};\n"
-    if path.startswith("Rattle.bitcode.") and first:
-        place = text.index("\n", first.start()) + 1
-    return text[:place] + line + ("" if first else "\n") + text[place:]
 
 
 def keyed(text, item):

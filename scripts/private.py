@@ -3,7 +3,7 @@
 import re
 
 from declarations import Struct
-from keys import with_names
+from facade import with_names
 
 # How a struct is made from the tuple of its fields, and how it is where only decoding makes these.
 CONVERSION = re.compile(

@@ -6,6 +6,7 @@ from string import Template
 import closed
 from declarations import fields_of
 from tokens import Refused
+from skipped import all_fields, defaults
 from known_types import MOST_LEFT, MOST_TYPES, Checker, of_text, types_in
 
 # The names of fields without a name.
@@ -125,8 +126,9 @@ impl<$input> Decoder<$type> for $apart<$input> {
 OWNED = """
 impl$parameters DecodeOwned for $name {}
 """
-# What is known of a type, by what is known of the tuple that it corresponds to, one to one.
+# What is known of a type, by what is known of the tuple that it corresponds to, one to one, or but for skipped fields.
 DATA = "data_as ($ghost_parts) (λ p. ($ghost_made, refl)) ($one_to_one) ⟦<$parts as Shaped>⟧.data"
+DATA_BUT_FOR_SKIPPED = "pointed_data ($ghost_parts) (λ g p. ($ghost_made, refl)) ⟦<$parts as Shaped>⟧.data"
 
 
 def quoted(name):
@@ -187,7 +189,7 @@ def declaration(struct):
         return "\n".join([*lines, head + "(" + ", ".join(field.seen + of_text(field.type) for field in struct.fields) + ");", ""])
     opening, closing = ("(", ");") if struct.kind == "tuple" else (" {", "}")
     lines.append(head + opening)
-    for field in struct.fields:
+    for field in all_fields(struct):
         name = "" if struct.kind == "tuple" else f"{field.name}: "
         lines += [f"    {text}" for text in (*field.docs, *field.attributes, f"{field.seen}{name}{of_text(field.type)},")]
     return "\n".join([*lines, closing, ""])
@@ -358,7 +360,7 @@ def tuple_text(item, imports, own, lent, **row):
         "parts": alias if is_long else parts,
         "taken": "parts" if is_long else row["pattern"],
         "moved": f"let {row['pattern']} = parts;\n        " if is_long else "",
-        "data": Template(DATA).substitute(row, parts=alias if is_long else parts),
+        "data": Template(DATA_BUT_FOR_SKIPPED if getattr(item, "skipped", ()) else DATA).substitute(row, parts=alias if is_long else parts),
         "shaped": bounds(item, "Shaped"),
         "by_hand": f"ghost use Rattle.bitcode.specs.ByHand.{{{', '.join(by_hand)}}};\n",
         "has_decoder": bounds(item, f"HasDecoder<{input}>", input),
@@ -373,8 +375,10 @@ def file_text(struct, imports, own):
     """The file of the struct."""
     fields, count = struct.fields, len(struct.fields)
     names = [parameter(field.name) if struct.kind == "named" else ORDINALS[i] if count > 1 else "value" for i, field in enumerate(fields)]
-    made = "; ".join(f"{quoted(field.name)} = {place}" for field, place in zip(fields, places(count)))
-    built = {"named": f"{struct.name} {{ {', '.join(map(initialized, fields))} }}", "tuple": f"{struct.name}({', '.join(names)})", "unit": struct.name}
+    values = [(field, default) for field, default in defaults(struct)]
+    made = "; ".join([*(f"{quoted(field.name)} = {place}" for field, place in zip(fields, places(count))), *(f"{quoted(field.name)} = {default.term}" for field, default in values)])
+    inits = [*map(initialized, fields), *(f"{field.name}: {default.text}" for field, default in values)]
+    built = {"named": f"{struct.name} {{ {', '.join(inits)} }}", "tuple": f"{struct.name}({', '.join(names)})", "unit": struct.name}
     return tuple_text(
         struct,
         imports,
@@ -388,7 +392,7 @@ def file_text(struct, imports, own):
         told="".join(f"\n        self.{field.name}.told();" for field in fields) + ("\n    " if fields else ""),
         one_to_one="λ t. refl",
         pattern=halved(names) if fields else "_nothing",
-        built=built[struct.kind] if fields or struct.kind != "named" else struct.name + " {}",
+        built=built[struct.kind] if inits or struct.kind != "named" else struct.name + " {}",
     )
 
 
@@ -397,4 +401,3 @@ def struct_text(struct, own, told):
     checker = Checker(struct, own, told)
     checker.check_all()
     return file_text(struct, checker.imports, own), checker.crates
-

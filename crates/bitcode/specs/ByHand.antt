@@ -3,6 +3,7 @@
 pub use Rattle.std.specs.Prelude.{[], ◌∷◌, ◌≡◌, refl}
 -- What is known of a type, as a record, from the records of its parts:
 pub use Rattle.bitcode_shapes.specs.DataOf.{DataOf, data_of, plain_data, data_as, pointed_data, key_as}
+pub use Rattle.bitcode.specs.Empty.{empty_vec, empty_string}
 pub use Rattle.bitcode_shapes.specs.LeafData.{bool_data, unsigned_data, signed_data, unsigned_nonzero_data, signed_nonzero_data, char_data, nanosecond_data, duration_data, text_data, unit_data, never_data}
 pub use Rattle.bitcode_shapes.specs.DataKinds.{pair_data, tuple_data, seq_data, array_data, array_vec_data, array_string_data, option_data, result_data, bare_data}
 pub use Rattle.bitcode_shapes.specs.SetData.{heap_data, ordered_set_data, hashed_set_data, ordered_map_data, hashed_map_data}
