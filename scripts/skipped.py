@@ -9,10 +9,12 @@ ALLOWED = "a skipped field is an integer, `bool`, `char`, `String`, a `Vec` or a
 
 
 class Default:
-    """The default of a type: as Rust, as a term, and the names that this takes from ByHand and from the Prelude."""
+    """The default of a type: as Rust, as a term, what is said of it at a place and how that is shown, and the names that
+    this takes from ByHand and from the Prelude."""
 
-    def __init__(self, text, term, by_hand=(), names=()):
-        self.text, self.term, self.by_hand, self.names = text, term, set(by_hand), set(names)
+    def __init__(self, text, term, names=(), said=None, shown="refl", by_hand=()):
+        self.text, self.term, self.names, self.by_hand = text, term, {"◌≡◌", *names}, set(by_hand)
+        self.said, self.shown = said or f"{{}} ≡ {term}", shown
 
 
 def default_of(type):
@@ -20,15 +22,18 @@ def default_of(type):
     if type.kind != "path":
         return None
     if type.name in INTEGERS:
-        return Default("0", "0") if type.name[0] == "u" else Default("0", "(pos 0)", (), ("pos",))
+        return Default("0", "0") if type.name[0] == "u" else Default("0", "pos 0", ["pos"])
     if type.name == "bool":
-        return Default("false", "false", (), ("false",))
+        return Default("false", "false", ["false"])
     if type.name == "char":
         return Default("'\\0'", "0")
     if type.name == "String":
-        return Default("String::new(alloc)", "(empty_string g)", ("empty_string",))
-    if type.name in ("Vec", "Option") and default_of(type.parts[0]):
-        return Default("Vec::new(alloc)", "(empty_vec g)", ("empty_vec",)) if type.name == "Vec" else Default("None", "None", (), ("None",))
+        said = "string_bytes {} ≡ []"
+        return Default("String::new(alloc)", "(empty_string g).0", ["[]", "string_bytes"], said, "(empty_string g).1", ["empty_string"])
+    if type.name == "Option" and default_of(type.parts[0]):
+        return Default("None", "None", ["None"])
+    if type.name == "Vec" and default_of(type.parts[0]):
+        return Default("Vec::new(alloc)", "(empty_vec g).0", ["[]"], "{}.items ≡ []", "(empty_vec g).1", ["empty_vec"])
     return None
 
 
@@ -64,7 +69,15 @@ def all_fields(item):
 
 def defaults(item):
     """The skipped fields and their defaults."""
-    return [(field, default_of(field.type)) for _, field in item.skipped]
+    return [(field, default_of(field.type)) for _, field in getattr(item, "skipped", ())]
+
+
+def said_of(item):
+    """What is said of the skipped fields, and how that is shown."""
+    values = defaults(item)
+    said = [default.said.format(f"t.{field.name}") for field, default in values]
+    shown = [default.shown for _, default in values]
+    return " × ".join(f"({one})" for one in said), shown[0] if len(shown) == 1 else f"({', '.join(shown)})"
 
 
 def with_skipped(text, struct):
@@ -73,7 +86,7 @@ def with_skipped(text, struct):
         return text
     values = [default for _, default in defaults(struct)]
     text = text.replace("ByHand.{data_as, ", "ByHand.{")
-    text = with_names(text, "Rattle.bitcode.specs.ByHand", {"pointed_data"}.union(*(value.by_hand for value in values)))
+    text = with_names(text, "Rattle.bitcode.specs.ByHand", {"skipped_data"}.union(*(value.by_hand for value in values)))
     names = set().union(*(value.names for value in values))
     text = with_names(text, "Rattle.std.specs.Prelude", names) if names else text
     return text.replace("(_alloc: Global", "(alloc: Global") if any("(alloc)" in value.text for value in values) else text

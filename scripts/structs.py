@@ -6,7 +6,7 @@ from string import Template
 import closed
 from declarations import fields_of
 from tokens import Refused
-from skipped import all_fields, defaults
+from skipped import all_fields, defaults, said_of
 from known_types import MOST_LEFT, MOST_TYPES, Checker, of_text, types_in
 
 # The names of fields without a name.
@@ -128,7 +128,7 @@ impl$parameters DecodeOwned for $name {}
 """
 # What is known of a type, by what is known of the tuple that it corresponds to, one to one, or but for skipped fields.
 DATA = "data_as ($ghost_parts) (λ p. ($ghost_made, refl)) ($one_to_one) ⟦<$parts as Shaped>⟧.data"
-DATA_BUT_FOR_SKIPPED = "pointed_data ($ghost_parts) (λ g p. ($ghost_made, refl)) ⟦<$parts as Shaped>⟧.data"
+SKIPPED_DATA = "skipped_data ($ghost_parts) (λ t. $said) (λ g p. ($ghost_made, (refl, $shown))) ⟦<$parts as Shaped>⟧.data"
 
 
 def quoted(name):
@@ -360,7 +360,7 @@ def tuple_text(item, imports, own, lent, **row):
         "parts": alias if is_long else parts,
         "taken": "parts" if is_long else row["pattern"],
         "moved": f"let {row['pattern']} = parts;\n        " if is_long else "",
-        "data": Template(DATA_BUT_FOR_SKIPPED if getattr(item, "skipped", ()) else DATA).substitute(row, parts=alias if is_long else parts),
+        "data": data_text(item, row, alias if is_long else parts),
         "shaped": bounds(item, "Shaped"),
         "by_hand": f"ghost use Rattle.bitcode.specs.ByHand.{{{', '.join(by_hand)}}};\n",
         "has_decoder": bounds(item, f"HasDecoder<{input}>", input),
@@ -369,6 +369,14 @@ def tuple_text(item, imports, own, lent, **row):
         "owned": Template(OWNED).substitute(parameters=bounds(item, "DecodeOwned"), name=name) if is_owned else "",
     }
     return Template(HEAD + BODY).substitute(row)
+
+
+def data_text(item, row, parts):
+    """What is known of the type."""
+    if not defaults(item):
+        return Template(DATA).substitute(row, parts=parts)
+    said, shown = said_of(item)
+    return Template(SKIPPED_DATA).substitute(row, parts=parts, said=said, shown=shown)
 
 
 def file_text(struct, imports, own):

@@ -1,7 +1,9 @@
-//! Structs with a check: what the check refuses is refused, and never made, also of random bytes.
+//! Structs with a check: what the check refuses is refused, and never made, also of random bytes. Structs with skipped
+//! fields: these are not written.
 use bitcode::{Error, Reason, decode, decode_strict, encode};
-use bitcode_private_types::checked::{decode_grade, decode_percent, decode_span};
+use bitcode_private_types::decoded::{decode_grade, decode_known, decode_percent, decode_span};
 use bitcode_private_types::grade::Grade;
+use bitcode_private_types::known::Known;
 use bitcode_private_types::percent::Percent;
 use bitcode_private_types::span::Span;
 use std::alloc::Global;
@@ -118,5 +120,21 @@ fn random_bytes_make_no_span_that_the_check_refuses(rt: HostRuntime) -> Result<(
             }),
         }
     }
+    Ok(())
+}
+
+#[test]
+fn skipped_fields_are_not_written(rt: HostRuntime) -> Result<(), Error> {
+    let alloc = rt.alloc();
+    let known = Known {
+        name: String::from_str(alloc, "ogre")?,
+        is_seen: true,
+        health: -3,
+        path: vec![in alloc; 1u8, 2]?,
+    };
+    let bytes = encode(alloc, &known)?;
+    assert!(rt; bytes.as_slice() == encode(alloc, &("ogre", -3i16))?.as_slice());
+    let again = decode_known(alloc, &bytes)?;
+    assert!(rt; again.name == known.name && again.health == -3 && !again.is_seen && again.path.is_empty());
     Ok(())
 }

@@ -3,7 +3,6 @@
 pub use Rattle.std.specs.Prelude.{[], ◌∷◌, ◌≡◌, refl}
 -- What is known of a type, as a record, from the records of its parts:
 pub use Rattle.bitcode_shapes.specs.DataOf.{DataOf, data_of, plain_data, data_as, pointed_data, key_as}
-pub use Rattle.bitcode.specs.Empty.{empty_vec, empty_string}
 pub use Rattle.bitcode_shapes.specs.LeafData.{bool_data, unsigned_data, signed_data, unsigned_nonzero_data, signed_nonzero_data, char_data, nanosecond_data, duration_data, text_data, unit_data, never_data}
 pub use Rattle.bitcode_shapes.specs.DataKinds.{pair_data, tuple_data, seq_data, array_data, array_vec_data, array_string_data, option_data, result_data, bare_data}
 pub use Rattle.bitcode_shapes.specs.SetData.{heap_data, ordered_set_data, hashed_set_data, ordered_map_data, hashed_map_data}
@@ -13,6 +12,8 @@ pub use Rattle.bitcode_enums.specs.EnumData.{enum_data}
 pub use Rattle.bitcode_shapes.specs.Admitted.{admits, admits-takes, admitted_data, natural_back, integer_back, bool_back, pair_back, tuple_back}
 pub use Rattle.bitcode_shapes.specs.Tuples.{split_3, split_4, split_5, split_6, split_7, split_8, joined_3, joined_4, joined_5, joined_6, joined_7, joined_8, again_3, again_4, again_5, again_6, again_7, again_8}
 pub use Rattle.std.specs.Prelude.{nat_eq, nat_le, nat_lt}
+-- The same of a struct with skipped fields, and the text and the list that these have:
+pub use Rattle.bitcode_structs.specs.Skipped.{skipped_data, empty_vec, empty_string}
 -- The laws that such a record holds, for a type of a kind of its own:
 pub use Rattle.bitcode_shapes.specs.LawfulChoices.{choice_lawful, choice_makeable, first_lawful, first_makeable, last_lawful, last_makeable}
 pub use Rattle.bitcode_shapes.specs.SameArrays.{one_datum_same_arrays, one_listing_same_arrays, choice_same_arrays, first_same_arrays, last_same_arrays}

@@ -1,8 +1,9 @@
-//! Structs with private fields, as `scripts/new_type` writes them: no caller makes them of fields of its choice.
+//! Structs with private fields, with checks and with skipped fields, as `scripts/new_type` writes them.
 #![tactic(auto)]
 
-pub mod checked;
+pub mod decoded;
 pub mod grade;
+pub mod known;
 pub mod percent;
 pub mod sale;
 pub mod span;

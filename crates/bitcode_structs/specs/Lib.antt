@@ -1,1 +1,2 @@
 pub mod CheckedFields
+pub mod Skipped

@@ -1,8 +1,9 @@
-//! What the checked types are, and percents, spans and grades that come from bytes.
-ghost use Rattle.std.specs.Prelude.{◌≡◌, ◌≤◌, ◌<◌, IfOk};
+//! What is known of decoded values: the checks hold, and skipped fields have their defaults.
+ghost use Rattle.std.specs.Prelude.{◌≡◌, ◌≤◌, ◌<◌, [], false, IfOk};
 ghost use Rattle.bitcode.specs.ByHand.{IsDecodingOf};
 
 use crate::grade::Grade;
+use crate::known::Known;
 use crate::percent::Percent;
 use crate::span::Span;
 use bitcode::{Error, Shaped, decode, decode_strict};
@@ -35,4 +36,13 @@ pub fn decode_grade(alloc: Global, bytes: &[u8]) -> Result<Grade, Error>
     ensures { IfOk result (λ g. (0 < g.most) × (g.points ≤ g.most)) }
 {
     decode_strict(alloc, bytes)
+}
+
+/// Decodes a monster. Its skipped fields are `false` and empty.
+///
+/// Errors: those of `decode`.
+pub fn decode_known(alloc: Global, bytes: &[u8]) -> Result<Known, Error>
+    ensures { IfOk result (λ k. (k.is_seen ≡ false) × (k.path.items ≡ [])) }
+{
+    decode(alloc, bytes)
 }
