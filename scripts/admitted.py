@@ -10,7 +10,8 @@ from tokens import Refused
 
 # How a struct is made of the tuple of its fields, and how it is where a check comes before.
 CONVERSION = re.compile(
-    r"(?m)^impl(.*) ConvertFrom<(.*)> for (.*) \{\n    fn convert_from\(_alloc: Global, (.*): (?:.*)\) -> Result<Self, Error> \{\n"
+    r"(?m)^impl(.*) ConvertFrom<(.*)> for (.*) \{\n    fn convert_from\(_alloc: Global, (.*): (?:.*)\) -> Result<Self,"
+    r" Error> \{\n"
     r"        (?:.*\n        )?.*?Ok\((.*)\)\n    \}\n\n    ghost same_shape = \{ refl \};\n\}$"
 )
 DATA = re.compile(r"data_as (\(λ t\. .*?\)) \(λ p\. \(record \{ (.*) \}, refl\)\) \(λ t\. refl\) (⟦.*⟧\.data) \}")
@@ -56,7 +57,10 @@ COMPARED = {
     "integer_back": {"<=": "int_le {0} {1}", "<": "int_lt {0} {1}", "==": "int_le {0} {1} && int_le {1} {0}"},
 }
 TURNED = {">=": "<=", ">": "<"}
-EXPECTED = "a check compares fields with fields or integers (`<`, `<=`, `==`, `!=`, `>=`, `>`) and combines with `&&`, `||` and `!`"
+EXPECTED = (
+    "a check compares fields with fields or integers (`<`, `<=`, `==`, `!=`, `>=`, `>`) and combines with `&&`, `||`"
+    " and `!`"
+)
 
 
 class Check:
@@ -70,15 +74,27 @@ class Check:
             self.constructor = head[1].replace(" ", "")
             self.words = inner[len(head[1].split()) + 1 :]
         if item.skipped:
-            raise Refused(line, "a struct with a `#[check(..)]` has no skipped field: move it to another struct, which holds this one")
+            raise Refused(
+                line,
+                "a struct with a `#[check(..)]` has no skipped field: move it to another struct, which holds this one",
+            )
         if item.kind != "named":
             raise Refused(line, "a struct with a `#[check(..)]` has named fields: name them")
         if any(field.change for field in item.fields):
-            raise Refused(line, "a struct with a `#[check(..)]` cannot have versions: move the fields that change to another struct")
+            raise Refused(
+                line,
+                "a struct with a `#[check(..)]` cannot have versions: move the fields that change to another struct",
+            )
         self.kinds = {field.name: BACKS.get(of_text(field.type)) for field in item.fields}
         for field in item.fields:
             if not self.kinds[field.name]:
-                raise Refused(field.line, "a struct with a `#[check(..)]` has only fields of integers, `bool` and `char`: move the others to another struct")
+                raise Refused(
+                    field.line,
+                    (
+                        "a struct with a `#[check(..)]` has only fields of integers, `bool` and `char`: move the others"
+                        " to another struct"
+                    ),
+                )
         if not 0 < len(item.fields) <= MOST_FLAT or item.lifetime or item.types or item.consts:
             raise Refused(line, f"a struct with a `#[check(..)]` has one to {MOST_FLAT} fields and no parameters")
         self.tree = self.either()
@@ -156,7 +172,9 @@ class Check:
         def term(one):
             if one in names:
                 return names[one]
-            return one if kind == "natural_back" else f"(pos {one})" if one[0] != "-" else f"(negsuc {int(one[1:]) - 1})"
+            return (
+                one if kind == "natural_back" else f"(pos {one})" if one[0] != "-" else f"(negsuc {int(one[1:]) - 1})"
+            )
 
         return COMPARED[kind][sign].format(term(left), term(right))
 
@@ -237,12 +255,24 @@ def admitted(text, item):
     if not check.constructor:
         text = text.replace("impl Shaped for", filled(CONSTRUCTOR) + "impl Shaped for", 1)
     text = re.sub(rf"DecoderOfFields<'a, (.*)>;", rf"DecoderOfChecked<'a, {name}, \1>;", text)
-    words = {word for word in re.findall(r"[\w-]+", filled(CHECKED) + law) if re.fullmatch(r"admits|admits-takes|admitted_data|\w+_back|(?:split|joined|again)_\d|nat_\w+|int_\w+", word)}
-    text = re.sub(r"(?m)^ghost use Rattle\.bitcode\.specs\.ByHand\.\{data_as, ", "ghost use Rattle.bitcode.specs.ByHand.{", text)
+    words = {
+        word
+        for word in re.findall(r"[\w-]+", filled(CHECKED) + law)
+        if re.fullmatch(r"admits|admits-takes|admitted_data|\w+_back|(?:split|joined|again)_\d|nat_\w+|int_\w+", word)
+    }
+    text = re.sub(
+        r"(?m)^ghost use Rattle\.bitcode\.specs\.ByHand\.\{data_as, ", "ghost use Rattle.bitcode.specs.ByHand.{", text
+    )
     text = with_names(text, "Rattle.bitcode.specs.ByHand", words)
-    signs = {sign for sign in ("◌&&◌", "◌||◌") if sign.strip("◌") in row["of_parts"]} | ({"not"} if "not (" in row["of_parts"] else set())
+    signs = {sign for sign in ("◌&&◌", "◌||◌") if sign.strip("◌") in row["of_parts"]} | (
+        {"not"} if "not (" in row["of_parts"] else set()
+    )
     signs |= {one for one in ("pos", "negsuc") if f"({one} " in row["of_parts"]}
-    text = with_names(text, "Rattle.std.specs.Prelude", {"◌≡◌", "true", *signs, *(() if check.constructor else ("false", "MatchOption"))})
+    text = with_names(
+        text,
+        "Rattle.std.specs.Prelude",
+        {"◌≡◌", "true", *signs, *(() if check.constructor else ("false", "MatchOption"))},
+    )
     text = re.sub(r"(?m)^use bitcode::\{(.*)\};$", lambda found: uses(found[1]), text, count=1)
     return text if re.search(r"(?m)^(?!use ).*\bGlobal\b", text) else text.replace("use std::alloc::Global;\n", "")
 

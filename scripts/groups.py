@@ -14,7 +14,12 @@ def inside_of(items):
     """The names of the file's types that are inside each of them, however deep."""
     named = {item.name: item for item in items}
     direct = {
-        item.name: {name for field in fields_of(item) for name in names_in(field.type) if name in named and name not in item.types}
+        item.name: {
+            name
+            for field in fields_of(item)
+            for name in names_in(field.type)
+            if name in named and name not in item.types
+        }
         for item in items
     }
     found = {name: set(names) for name, names in direct.items()}
@@ -33,14 +38,35 @@ def parted_by_format(items, told):
     held = set().union(*(inside[name] for name in second))
     for item in items:
         if item.name in second | held and (item.types or item.consts):
-            told.fault(item.line, f"`{item.name}` is written for the second format, which has no types with parameters: write one without them")
+            told.fault(
+                item.line,
+                (
+                    f"`{item.name}` is written for the second format, which has no types with parameters: write one"
+                    " without them"
+                ),
+            )
         if item.name in second | held and any(text.startswith("#[check") for text in item.attributes):
-            told.fault(item.line, f"`{item.name}` is written for the second format, which asks no check: remove the `#[check(..)]`")
+            told.fault(
+                item.line,
+                f"`{item.name}` is written for the second format, which asks no check: remove the `#[check(..)]`",
+            )
         if item.name in second | held and getattr(item, "skipped", ()):
-            told.fault(item.line, f"`{item.name}` is written for the second format, which skips no field: move the field to another struct")
+            told.fault(
+                item.line,
+                (
+                    f"`{item.name}` is written for the second format, which skips no field: move the field to another"
+                    " struct"
+                ),
+            )
         both = sorted(inside[item.name] & held) if item.name not in second | held else []
         if both:
-            told.fault(item.line, f"`{both[0]}` is inside a type of the second format: move `{item.name}` and a copy of `{both[0]}` to another file")
+            told.fault(
+                item.line,
+                (
+                    f"`{both[0]}` is inside a type of the second format: move `{item.name}` and a copy of `{both[0]}`"
+                    " to another file"
+                ),
+            )
     refuse_endless(items, told)
     chosen = [item for item in items if item.name in second | held]
     groups = []
@@ -50,7 +76,9 @@ def parted_by_format(items, told):
         groups = [group for group in groups if group not in joined]
         groups.append([*(one for group in joined for one in group), item])
     order = {item.name: place for place, item in enumerate(items)}
-    return [item for item in items if item not in chosen], [sorted(group, key=lambda item: order[item.name]) for group in groups]
+    return [item for item in items if item not in chosen], [
+        sorted(group, key=lambda item: order[item.name]) for group in groups
+    ]
 
 
 def refuse_endless(items, told):

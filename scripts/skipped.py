@@ -5,7 +5,10 @@ from facade import with_names
 from known_types import INTEGERS, MOST_FIELDS
 
 MARK = "#[skip]"
-ALLOWED = "a skipped field is an integer, `bool`, `char`, `String`, a `Vec` or an `Option` of these: its default has to be known"
+ALLOWED = (
+    "a skipped field is an integer, `bool`, `char`, `String`, a `Vec` or an `Option` of these: its default has to be"
+    " known"
+)
 
 
 class Default:
@@ -29,7 +32,14 @@ def default_of(type):
         return Default("'\\0'", "0")
     if type.name == "String":
         said = "string_bytes {} ≡ []"
-        return Default("String::new(alloc)", "(empty_string g).0", ["[]", "string_bytes"], said, "(empty_string g).1", ["empty_string"])
+        return Default(
+            "String::new(alloc)",
+            "(empty_string g).0",
+            ["[]", "string_bytes"],
+            said,
+            "(empty_string g).1",
+            ["empty_string"],
+        )
     if type.name == "Option" and default_of(type.parts[0]):
         return Default("None", "None", ["None"])
     if type.name == "Vec" and default_of(type.parts[0]):
@@ -49,13 +59,25 @@ def set_aside(item, told):
         if item.kind != "named":
             told.fault(field.line, "only a named field can be skipped: name the fields")
         elif any(other.change for other in item.fields):
-            told.fault(field.line, "a struct with versions has no skipped field: move it to another struct, which holds this one")
+            told.fault(
+                field.line,
+                "a struct with versions has no skipped field: move it to another struct, which holds this one",
+            )
         elif len(item.fields) > MOST_FIELDS:
-            told.fault(field.line, f"a struct with more than {MOST_FIELDS} fields has no skipped field: move it to another struct, which holds this one")
+            told.fault(
+                field.line,
+                (
+                    f"a struct with more than {MOST_FIELDS} fields has no skipped field: move it to another struct,"
+                    " which holds this one"
+                ),
+            )
         elif not default_of(field.type):
             told.fault(field.line, ALLOWED)
     written = [field for field in item.fields if MARK not in field.attributes]
-    skipped = tuple((place, field._replace(attributes=[text for text in field.attributes if text != MARK])) for place, field in marked)
+    skipped = tuple(
+        (place, field._replace(attributes=[text for text in field.attributes if text != MARK]))
+        for place, field in marked
+    )
     return item._replace(fields=written, skipped=skipped)
 
 
@@ -89,4 +111,6 @@ def with_skipped(text, struct):
     text = with_names(text, "Rattle.bitcode.specs.ByHand", {"skipped_data"}.union(*(value.by_hand for value in values)))
     names = set().union(*(value.names for value in values))
     text = with_names(text, "Rattle.std.specs.Prelude", names) if names else text
-    return text.replace("(_alloc: Global", "(alloc: Global") if any("(alloc)" in value.text for value in values) else text
+    return (
+        text.replace("(_alloc: Global", "(alloc: Global") if any("(alloc)" in value.text for value in values) else text
+    )
