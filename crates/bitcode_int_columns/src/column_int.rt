@@ -30,6 +30,28 @@ fn pack_each_byte<T: Byte>(ints: &mut [T], out: &mut Vec<u8>) -> Result<(), Erro
     pack_bytes(ints, out)
 }
 
+// As many bytes as these are copied to the stack.
+const FEW_BYTES: usize = 64;
+
+// Appends the column of a few integers of one byte, and leaves them unchanged. Returns whether they are few.
+#[tactic(auto, unfolding(bitcode_columns::specs::IntColumn::int_text))]
+fn pack_few_bytes<T: Byte>(ints: &[T], out: &mut Vec<u8>) -> Result<bool, Error>
+    ensures written { IfOk result (λ done. IsTrue done → out.new.items ≡ out.old.items
+        ++ int_text 1 (map T.number ints.now)) }
+    ensures not_done { IfOk result (λ done. IsFalse done → out.new.items ≡ out.old.items) }
+    ensures unchanged { OnErr result (out.new.items ≡ out.old.items) }
+    ensures reason { IfErr result (λ e. e.reason ≡ Reason.OutOfMemory) }
+{
+    if ints.len() > FEW_BYTES {
+        return Ok(false);
+    }
+    let mut copies = [T::from_byte(0); FEW_BYTES];
+    let few = &mut copies[..ints.len()];
+    few.copy_from_slice(ints);
+    pack_each_byte(few, out)?;
+    Ok(true)
+}
+
 // Reads the column of integers of one byte, which is a byte column: `read_ints` would copy what it unpacked.
 fn unpack_each_byte<'a, T: Byte>(
     alloc: Global,
@@ -85,7 +107,7 @@ pub trait ColumnInt: Copy {
         ensures reason { IfErr result (λ e. e.reason ≡ Reason.OutOfMemory) };
 
     /// Appends the column of the integers, as [`ColumnInt::pack`] does, but leaves them unchanged. Returns whether it
-    /// did: integers of one byte return false. Then `out` is unchanged.
+    /// did: many integers of one byte return false. Then `out` is unchanged.
     ///
     /// If an allocation fails, the error is `out of memory` and `out` is unchanged.
     fn pack_slice(_alloc: Global, _ints: &[Self], _out: &mut Vec<u8>) -> Result<bool, Error>
