@@ -30,27 +30,8 @@ fn pack_each_byte<T: Byte>(ints: &mut [T], out: &mut Vec<u8>) -> Result<(), Erro
     pack_bytes(ints, out)
 }
 
-// As many bytes as these are copied to the stack.
+// So many bytes are copied to the stack, and packed there.
 const FEW_BYTES: usize = 64;
-
-// Appends the column of a few integers of one byte, and leaves them unchanged. Returns whether they are few.
-#[tactic(auto, unfolding(bitcode_columns::specs::IntColumn::int_text))]
-fn pack_few_bytes<T: Byte>(ints: &[T], out: &mut Vec<u8>) -> Result<bool, Error>
-    ensures written { IfOk result (λ done. IsTrue done → out.new.items ≡ out.old.items
-        ++ int_text 1 (map T.number ints.now)) }
-    ensures not_done { IfOk result (λ done. IsFalse done → out.new.items ≡ out.old.items) }
-    ensures unchanged { OnErr result (out.new.items ≡ out.old.items) }
-    ensures reason { IfErr result (λ e. e.reason ≡ Reason.OutOfMemory) }
-{
-    if ints.len() > FEW_BYTES {
-        return Ok(false);
-    }
-    let mut copies = [T::from_byte(0); FEW_BYTES];
-    let few = &mut copies[..ints.len()];
-    few.copy_from_slice(ints);
-    pack_each_byte(few, out)?;
-    Ok(true)
-}
 
 // Reads the column of integers of one byte, which is a byte column: `read_ints` would copy what it unpacked.
 fn unpack_each_byte<'a, T: Byte>(

@@ -3,7 +3,7 @@
 ghost use Rattle.std.specs.Prelude.{[], ◌∷◌, true, refl};
 ghost use Rattle.std.proofs.Common.{inl, inr};
 
-use crate::column_int::{ColumnInt, pack_each_byte, pack_few_bytes, unpack_each_byte};
+use crate::column_int::{ColumnInt, FEW_BYTES, pack_each_byte, unpack_each_byte};
 use crate::pack_ints::single::pack_int;
 use crate::pack_ints::{pack_int_slice, pack_ints};
 use crate::strict::read_ints;
@@ -32,7 +32,14 @@ impl ColumnInt for i8 {
     }
 
     fn pack_slice(_alloc: Global, ints: &[i8], out: &mut Vec<u8>) -> Result<bool, Error> {
-        pack_few_bytes(ints, out)
+        if ints.len() > FEW_BYTES {
+            return Ok(false);
+        }
+        let mut copies = [0; FEW_BYTES];
+        let few = &mut copies[..ints.len()];
+        few.copy_from_slice(ints);
+        pack_each_byte(few, out)?;
+        Ok(true)
     }
 
     fn unpack<'a>(
