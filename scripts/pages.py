@@ -23,7 +23,7 @@ WORDS = {
     "SECURITY.md": 350,
     "docs/ARCHITECTURE.md": 1770,
     "docs/CODERS.md": 2500,
-    "docs/DECISIONS.md": 3450,
+    "docs/DECISIONS.md": 3480,
     "docs/DIFFERENCES.md": 1500,
     "docs/EXAMPLES.md": 1200,
     "docs/FORMAT.md": 3500,
