@@ -199,10 +199,11 @@ single_read k byte input rest one is short =
       large_read = reads_no_large (escapes (byte ∷ [])) rest [] (escapes_later byte [] short ∙ no_escapes) refl;
     }))
 
-pub single_written : (byte : ℕ) (input rest : List ℕ) → input ≡ byte ∷ rest → eqb byte escape ≡ false → byte < 256
+pub single_written : (byte : ℕ) (input rest : List ℕ) → input ≡ byte ∷ rest → eqb byte escape ≡ false → All (λ b. b < 256) input
     → input ≡ length_bytes (lengths_from (take 1 input) []) ++ rest
 unfolding byte_text
-single_written byte input rest is short below =
+single_written byte input rest is short all =
+    let below : byte < 256 = All-head (λ b. b < 256) byte rest (subst (All (λ b. b < 256)) is all) in
     let split : AreLengthParts (byte ∷ []) [] =
     written_parts_of (byte ∷ []) [] (All-cons (λ b. b < 256) byte [] below (All-nil (λ b. b < 256))) (sym (escapes_later byte [] short ∙ no_escapes))
     (All-nil (λ n. escape ≤ n)) in

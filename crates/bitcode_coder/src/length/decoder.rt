@@ -149,6 +149,7 @@ fn single_short(bytes: &[u8], k: usize) -> Option<(&[u8], &[u8])>
     if *first == ESCAPE {
         return None;
     }
+    known_bytes(bytes);
     Some((&bytes[..1], rest))
 }
 
