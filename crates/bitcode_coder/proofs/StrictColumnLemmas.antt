@@ -1,5 +1,5 @@
 -- What the readers of single columns answer, in terms of data.
-use Rattle.std.proofs.Common.{◌≡◌, ℕ, suc, ◌+◌, ◌<◌, ◌≤◌, min, eqb, leb, Bool, true, false, ◌&&◌, IsTrue, MatchBool, None, pos, List, [], ◌∷◌, ◌++◌, length, map, All, sum, refl, sym, ap, ap₂, subst, ◌∙◌, append_assoc, arith, ⊎_elim, Result, Ok, Err, OnOk, IfOk}
+use Rattle.std.proofs.Common.{◌≡◌, ℕ, suc, ◌+◌, ◌<◌, ◌≤◌, min, eqb, leb, Bool, true, false, ◌&&◌, IsTrue, MatchBool, None, pos, List, [], ◌∷◌, ◌++◌, length, map, take, All, sum, refl, sym, ap, ap₂, subst, ◌∙◌, append_assoc, arith, inl, ⊎_elim, Result, Ok, Err, OnOk, IfOk}
 use Rattle.std.specs.Prelude.{◌↔◌, filter}
 use Rattle.std.proofs.lemmas.Bool.{false≢true, cases_Bool, cond-true, cond-false, le-leb, lt-leb, eqb-true, eqb-false}
 use Rattle.std.proofs.lemmas.List.{length-map, nil_from_length, get_or-map}
@@ -17,12 +17,12 @@ use Rattle.bitcode_shapes.specs.Shape.{bool_shape, text_shape}
 use Rattle.bitcode_coder.specs.Columns.{bools, texts as text_kind}
 use Rattle.bitcode_coder.specs.Cutting.{cut}
 use Rattle.bitcode_coder.specs.LengthColumn.{escape, lengths_from, first_large, other_large, length_bytes}
-use Rattle.bitcode_coder.specs.LengthParts.{escapes, AreLengthParts}
+use Rattle.bitcode_coder.specs.LengthParts.{escapes, AreLengthParts, ReadsParts}
 use Rattle.bitcode_coder.specs.Spelling.{Spells, truth}
 use Rattle.bitcode_coder.specs.Strict.{JudgesData}
 use Rattle.bitcode_coder.proofs.BoolLemmas.{truths_in}
 use Rattle.bitcode_coder.proofs.LengthLemmas.{length-lengths_from}
-use Rattle.bitcode_coder.proofs.LengthPartLemmas.{length_bytes-parts}
+use Rattle.bitcode_coder.proofs.LengthPartLemmas.{length_bytes-parts, no_large, reads_no_large}
 use Rattle.bitcode_coder.proofs.StrLemmas.{texts_bytes-cut}
 use Rattle.bitcode_coder.proofs.StrictLemmas.{judges_column}
 
@@ -186,3 +186,26 @@ lengths_judged a b c k old middle new short large read below count short_told la
       (large_told.1 (once.1 ∙ ap (λ x. x ++ new) larges)))
       (answer_of c told each),
 )
+
+-- ---- one length below 255, whose column is its byte
+
+pub single_read : (k byte : ℕ) (input rest : List ℕ) → k ≡ 1 → input ≡ byte ∷ rest → eqb byte escape ≡ false
+    → ReadsParts k input (take 1 input) [] rest
+single_read k byte input rest one is short =
+    subst (λ i. ReadsParts k i (take 1 i) [] rest) (sym is)
+    (subst (λ n. ReadsParts n (byte ∷ rest) (byte ∷ []) [] rest) (sym one) (record {
+      middle = rest;
+      short_read = record { size = refl; piece = byte ∷ []; whole = refl; spelled = inl (omega arith, refl) };
+      large_read = reads_no_large (escapes (byte ∷ [])) rest [] (escapes_later byte [] short ∙ no_escapes) refl;
+    }))
+
+pub single_written : (byte : ℕ) (input rest : List ℕ) → input ≡ byte ∷ rest → eqb byte escape ≡ false → All (λ b. b < 256) input
+    → input ≡ length_bytes (lengths_from (take 1 input) []) ++ rest
+unfolding byte_text
+single_written byte input rest is short all =
+    let below : byte < 256 = All-head (λ b. b < 256) byte rest (subst (All (λ b. b < 256)) is all) in
+    let split : AreLengthParts (byte ∷ []) [] =
+    written_parts_of (byte ∷ []) [] (All-cons (λ b. b < 256) byte [] below (All-nil (λ b. b < 256))) (sym (escapes_later byte [] short ∙ no_escapes))
+    (All-nil (λ n. escape ≤ n)) in
+    is ∙ ap (λ front. front ++ rest) (ap (λ more. byte ∷ more) (sym (no_large [] refl)) ∙ length_bytes-parts (byte ∷ []) [] split)
+    ∙ ap (λ i. length_bytes (lengths_from (take 1 i) []) ++ rest) (sym is)

@@ -16,3 +16,4 @@ pub mod DigitCountLemmas
 pub mod BitCountLemmas
 pub mod VariantColumnLemmas
 pub mod StrictLemmas
+pub mod SingleLemmas

@@ -7,4 +7,5 @@ mod digits;
 pub mod histogram;
 pub mod laws;
 pub mod pack;
+mod single;
 pub mod strict;

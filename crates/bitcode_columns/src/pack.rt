@@ -9,6 +9,8 @@ ghost use Rattle.bitcode_columns.specs.Reading.{Reads, IsEndOf, Names, bools_fau
 use crate::digits::{pack_digits, unpack_digits};
 pub use crate::pack::bytes::{pack_bytes, unpack_bytes};
 pub use crate::pack::variants::{pack_bytes_less_than, unpack_bytes_less_than};
+use crate::single::single_bool;
+use bitcode_memory::consume::consume_byte;
 use bitcode_memory::error::{Error, Reason};
 use bitcode_memory::fast::CowSlice;
 use std::alloc::Global;
@@ -127,7 +129,8 @@ pub fn pack_bools(bools: &[bool], out: &mut Vec<u8>) -> Result<(), Error>
     pack_digits(&[], Base::Two, bools, out)
 }
 
-/// Reads a column of `count` bools from the front of the input into `out`, in memory that `out` owns.
+/// Reads a column of `count` bools from the front of the input into `out`: one bool without allocating, and others in
+/// memory that `out` owns.
 ///
 /// If bytes are missing, the error is `EOF`; if an allocation fails, `out of memory`. After an error the input is a
 /// suffix of what it was, and `out` must be filled again before use.
@@ -151,6 +154,11 @@ pub fn unpack_bools<'a>(
     ensures rest { OnErr result (IsEndOf input.old.now input.new.now) }
     ensures empty { count ≡ 0 → IsOk result }
 {
+    if count == 1 {
+        let byte = consume_byte(input)?;
+        out.set_borrowed(single_bool(byte));
+        return Ok(());
+    }
     out.set_owned(unpack_digits(alloc, Base::Two, input, count)?);
     Ok(())
 }

@@ -20,6 +20,9 @@ use bitcode_memory::refuse::err;
 use bitcode_shapes::shaped::Shaped;
 use std::alloc::Global;
 
+// For so many bytes `encode` asks at once: most single records fit, which would else be moved as they grow.
+const FIRST_ROOM: usize = 64;
+
 /// Appends the encoding of a value to `out`.
 ///
 /// Several values appended like this can be decoded one by one with `decode_front`.
@@ -69,7 +72,7 @@ where
     ensures refused { IfErr result
         (λ e. IsWritingRefusal e.reason (HasLongListing T.data.lists T.data.shape t.now)) }
 {
-    let mut bytes = Vec::new(alloc);
+    let mut bytes = Vec::with_capacity(alloc, FIRST_ROOM)?;
     encode_into(alloc, t, &mut bytes)?;
     Ok(bytes)
 }

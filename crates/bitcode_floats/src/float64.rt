@@ -14,6 +14,7 @@ ghost use Rattle.bitcode_coder.specs.FirstFault.{IsFirstFault};
 ghost use Rattle.bitcode_coder.specs.Strict.{JudgesData};
 ghost use Rattle.bitcode_floats.specs.Floats.{data_of_bits, long_bits, residue_of};
 
+use crate::direct::{keep_whole_width, write_whole};
 use bitcode_coder::coder::{Buffer, Decoder, Encoder, HoldsColumns, HoldsData, View, both};
 use bitcode_coder::column_free::ColumnFree;
 use bitcode_coder::part::{Itself, Part};
@@ -151,6 +152,14 @@ impl Encoder<f64> for F64Encoder {
         let bits = replace(&mut self.bits, FastVec::new(self.alloc));
         self.bits = push_all(items, bits);
         Ok(())
+    }
+
+    fn write_slice_directly(&self, items: &[f64], out: &mut Vec<u8>) -> Result<bool, Error> {
+        if !keep_whole_width(items) {
+            return Ok(false);
+        }
+        write_whole(items, out)?;
+        Ok(true)
     }
 
     ghost of_shape = { λ e. refl };

@@ -3,6 +3,7 @@ pub mod WideningLemmas
 pub mod IntReadingLemmas
 pub mod WrittenLemmas
 pub mod AppendLemmas
+pub mod SingleLemmas
 pub mod RoomLemmas
 pub mod SampleLemmas
 pub mod BlockLemmas

@@ -30,6 +30,9 @@ fn pack_each_byte<T: Byte>(ints: &mut [T], out: &mut Vec<u8>) -> Result<(), Erro
     pack_bytes(ints, out)
 }
 
+// So many bytes are copied to the stack, and packed there.
+const FEW_BYTES: usize = 64;
+
 // Reads the column of integers of one byte, which is a byte column: `read_ints` would copy what it unpacked.
 fn unpack_each_byte<'a, T: Byte>(
     alloc: Global,
@@ -85,7 +88,7 @@ pub trait ColumnInt: Copy {
         ensures reason { IfErr result (λ e. e.reason ≡ Reason.OutOfMemory) };
 
     /// Appends the column of the integers, as [`ColumnInt::pack`] does, but leaves them unchanged. Returns whether it
-    /// did: integers of one byte return false. Then `out` is unchanged.
+    /// did: many integers of one byte return false. Then `out` is unchanged.
     ///
     /// If an allocation fails, the error is `out of memory` and `out` is unchanged.
     fn pack_slice(_alloc: Global, _ints: &[Self], _out: &mut Vec<u8>) -> Result<bool, Error>

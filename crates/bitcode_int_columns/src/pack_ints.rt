@@ -12,6 +12,7 @@ use std::alloc::Global;
 
 mod append;
 mod read;
+pub(crate) mod single;
 pub(crate) mod width;
 mod write;
 

@@ -18,7 +18,11 @@ start_ours() {
   ours=$1/ours/crates/ours
   rm -rf "$1/ours" && mkdir -p "$1/ours" || exit 2
   copy_libraries "$1/ours" || exit 2
-  mkdir -p "$ours" && scripts/new_type "$here/types.txt" "$ours" >"$work/log" 2>&1 &&
+  mkdir -p "$ours" || exit 2
+  for set in scripts/own_types/sets/{log,mesh,minecraft,mk48}.txt "$here/borrowed.txt"; do
+    scripts/new_type "$set" "$ours" >"$work/log" 2>&1 || fail "the types of $set are not written"
+  done
+  scripts/new_type "$here/types.txt" "$ours" >"$work/log" 2>&1 &&
     scripts/second_format "$here/recursive_types.txt" "$ours" >"$work/log" 2>&1 || fail "the types are not written"
   libraries="bitcode $(sed -n 's/^ours: //p' "$work/log")"
   for part in specs proofs; do sed -n "/^-- $part/{n;p}" "$work/log" >"$ours/$part/Lib.antt" || exit 2; done
@@ -47,10 +51,12 @@ build_driver() {
 
   # The Rust crate, and the program that runs all of them.
   local driver=$work/driver registry text path library
-  mkdir -p "$driver/src" && cp "$here/driver.rs" "$driver/src/main.rs" || exit 2
+  rm -rf "$driver/bitcode" && mkdir -p "$driver/src" && cp "$here/driver.rs" "$driver/src/main.rs" || exit 2
   "$here/exports.py" rust $([ $# = 1 ] || echo before) >"$driver/table.rs" || exit 2
   registry=${REGISTRY:-}
-  if [ ! -f "$crate/Cargo.toml" ]; then
+  if [ -f "$crate/Cargo.toml" ]; then
+    cp -r "$crate/." "$driver/bitcode" || exit 2
+  else
     registry=${registry:-/usr/share/cargo/registry}
     compgen -G "$registry/bincode-1.3*" >"$work/log" ||
       fail "$registry has no bincode 1.3: install the packages that this script names"
@@ -68,10 +74,10 @@ build_driver() {
       'arrayvec = { version = "0.7", default-features = false, optional = true }' \
       'serde = { version = "1.0", default-features = false, features = ["alloc"], optional = true }' \
       'uuid = { version = "1", default-features = false, optional = true }' >"$driver/bitcode/Cargo.toml"
-    crate=$driver/bitcode
   fi
+  cat "$here/glue.rs" >>"$driver/bitcode/src/derive/mod.rs" || exit 2
   printf '%s\n' '[package]' 'name = "driver"' 'version = "0.1.0"' 'edition = "2021"' '[workspace]' '[dependencies]' \
-    "bitcode = { path = \"$crate\" }" 'bincode = "1.3"' 'serde = { version = "1.0", features = ["derive"] }' \
+    "bitcode = { path = \"bitcode\" }" 'bincode = "1.3"' 'serde = { version = "1.0", features = ["derive"] }' \
     '[profile.release]' 'opt-level = 3' >"$driver/Cargo.toml"
   {
     printf '%s\n' 'fn main() {' "    println!(\"cargo:rustc-link-search=native=$work\");"
@@ -86,6 +92,6 @@ build_driver() {
     printf '%s\n' '[source.crates-io]' 'replace-with = "here"' '[source.here]' "directory = \"$registry\"" \
       '[net]' 'offline = true' >"$driver/.cargo/config.toml"
   fi
-  (cd "$driver" && TABLE=$driver/table.rs RUSTFLAGS="-C target-cpu=$cpu" cargo build --release) >"$work/log" 2>&1 ||
+  (cd "$driver" && TABLE=$driver/table.rs SETS=$here/sets.rs RUSTFLAGS="-C target-cpu=$cpu" cargo build --release) >"$work/log" 2>&1 ||
     fail "the driver is not built"
 }

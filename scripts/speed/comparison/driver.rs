@@ -8,6 +8,7 @@ use std::hint::black_box;
 use std::time::{Duration, Instant};
 
 include!(env!("TABLE"));
+include!(env!("SETS"));
 
 type Call = unsafe extern "C" fn(*const u8, usize, u64) -> u64;
 
@@ -241,7 +242,7 @@ fn line_of(name: &str, n: usize, size: usize, calls: [Option<Call>; 3], bytes: &
 fn pass(only: &str, sizes: &[usize]) -> Vec<Line> {
     let mut lines = vec![];
     for workload in workloads().iter().filter(|it| it.name.contains(only)) {
-        for &n in if workload.format == "single" { &[1][..] } else { sizes } {
+        for &n in if ["single", "set"].contains(&workload.format) { &[1][..] } else { sizes } {
             lines.extend(lines_of(workload, n));
         }
     }

@@ -186,6 +186,37 @@ fn map(alloc: Global) -> Result<ShapeNode, Error> {
     Ok(ShapeNode::Map(key, Box::new(alloc, ShapeNode::Str)?))
 }
 """
+# What the data sets need besides.
+SETS = """use crate::borrowed_logs::BorrowedLogs;
+use crate::logs::Logs;
+use crate::mesh::Mesh;
+use crate::players::Players;
+use crate::updates::Updates;
+"""
+MODULES = """pub mod abilities;
+pub mod address;
+pub mod borrowed_log;
+pub mod borrowed_logs;
+pub mod contact;
+pub mod entity;
+pub mod entity_type;
+pub mod game_type;
+pub mod guidance;
+pub mod item;
+pub mod log;
+pub mod logs;
+pub mod mesh;
+pub mod origin;
+pub mod player;
+pub mod players;
+pub mod recipe_book;
+pub mod terrain_update;
+pub mod transform;
+pub mod triangle;
+pub mod update;
+pub mod updates;
+pub mod vector3;
+"""
 # The calls of a workload: the letter in the names of the functions, and what each does in the first format, in the second
 # format with a `Value`, and in the second format with a Rust type.
 CALLS = {
@@ -212,7 +243,9 @@ def export(name, body, life=""):
 
 
 def rattle(is_program):
-    print(HEAD)
+    has_sets = any(form == "set" for _number, form, *_ in workloads())
+    modules, uses, rest = HEAD.partition("use ")
+    print(modules.rstrip("\n") + "\n" + (MODULES if has_sets else "") + "\n" + (SETS if has_sets else "") + uses + rest)
     exports = {"call_seal": export("call_seal", "seals(alloc, bytes, times)"), "call_open": export("call_open", "opens(alloc, bytes, times)"),
                "call_crc": export("call_crc", "sums(alloc, bytes, times)")}
     for number, form, _name, rust, _value, ours in workloads():
@@ -249,7 +282,7 @@ def rust(libraries):
             print(f"    fn {library}_{name}(bytes: *const u8, n: usize, times: u64) -> u64;")
     print("}\n\npub fn workloads() -> Vec<Workload> {\n    vec![")
     for number, form, name, type_, value, _ours in workloads():
-        given = "_n" if form == "single" else "n"
+        given = "_n" if form in ("single", "set") else "n"
         written, of = ("bitcode::serialize(&{}).unwrap()", "second") if form == "second" else ("bitcode::encode(&{})", "first")
         calls = []
         for library in libraries:

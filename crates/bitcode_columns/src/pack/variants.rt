@@ -13,7 +13,8 @@ use crate::digits::{pack_digits, unpack_digits};
 use crate::pack::Base;
 use crate::pack::bytes::borrow_bytes;
 use crate::pack::variants::counts::packed_counts;
-use bitcode_memory::consume::consume_bytes;
+use crate::single::single_digit;
+use bitcode_memory::consume::{consume_byte, consume_bytes};
 use bitcode_memory::error::{Error, Reason};
 use bitcode_memory::fast::CowSlice;
 use bitcode_memory::refuse::err;
@@ -53,7 +54,7 @@ pub fn pack_bytes_less_than<const N: usize>(bytes: &[u8], out: &mut Vec<u8>) -> 
 }
 
 /// Reads the digits of a column of `count` variants from the front of the input into `out`. With 17 variants or more,
-/// `out` borrows them from the input.
+/// `out` borrows them from the input. One variant takes no memory either.
 fn read_digits<'a, const N: usize>(
     alloc: Global,
     input: &mut &'a [u8],
@@ -72,6 +73,9 @@ fn read_digits<'a, const N: usize>(
     let base = base_of_variants::<N>();
     if base == Base::Whole {
         borrow_bytes(consume_bytes(input, count)?, out);
+    } else if count == 1 {
+        let byte = consume_byte(input)?;
+        out.set_borrowed(single_digit(base, byte));
     } else {
         out.set_owned(unpack_digits(alloc, base, input, count)?);
     }
@@ -92,7 +96,7 @@ fn are_variants(base: Base, entries: &[u8], variants: usize) -> bool
 ///
 /// For `H = N` the result counts the entries: how many are variant 0, how many are variant 1, and so on. For `H = 0` it
 /// counts nothing. With 17 variants or more, `out` borrows the entries from the input without allocating. Nor does it
-/// allocate for no entries.
+/// allocate for one entry or none.
 ///
 /// If bytes are missing, the error is `EOF`; if an entry is not below `N`, `invalid packing`; if an allocation fails,
 /// `out of memory`. After an error the input is a suffix of what it was, and `out` must be filled again before use.

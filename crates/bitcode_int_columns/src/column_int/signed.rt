@@ -3,7 +3,8 @@
 ghost use Rattle.std.specs.Prelude.{[], ◌∷◌, true, refl};
 ghost use Rattle.std.proofs.Common.{inl, inr};
 
-use crate::column_int::{ColumnInt, pack_each_byte, unpack_each_byte};
+use crate::column_int::{ColumnInt, FEW_BYTES, pack_each_byte, unpack_each_byte};
+use crate::pack_ints::single::pack_int;
 use crate::pack_ints::{pack_int_slice, pack_ints};
 use crate::strict::read_ints;
 use bitcode_memory::error::Error;
@@ -28,6 +29,17 @@ impl ColumnInt for i8 {
 
     fn pack_one(alloc: Global, int: i8, out: &mut Vec<u8>) -> Result<(), Error> {
         <i8 as ColumnInt>::pack(alloc, &mut [int], out)
+    }
+
+    fn pack_slice(_alloc: Global, ints: &[i8], out: &mut Vec<u8>) -> Result<bool, Error> {
+        if ints.len() > FEW_BYTES {
+            return Ok(false);
+        }
+        let mut copies = [0; FEW_BYTES];
+        let few = &mut copies[..ints.len()];
+        few.copy_from_slice(ints);
+        pack_each_byte(few, out)?;
+        Ok(true)
     }
 
     fn unpack<'a>(
@@ -103,8 +115,8 @@ impl ColumnInt for i32 {
         pack_ints(alloc, ints, out)
     }
 
-    fn pack_one(alloc: Global, int: i32, out: &mut Vec<u8>) -> Result<(), Error> {
-        <i32 as ColumnInt>::pack(alloc, &mut [int], out)
+    fn pack_one(_alloc: Global, int: i32, out: &mut Vec<u8>) -> Result<(), Error> {
+        pack_int(int, out)
     }
 
     fn pack_slice(alloc: Global, ints: &[i32], out: &mut Vec<u8>) -> Result<bool, Error> {
@@ -144,8 +156,8 @@ impl ColumnInt for i64 {
         pack_ints(alloc, ints, out)
     }
 
-    fn pack_one(alloc: Global, int: i64, out: &mut Vec<u8>) -> Result<(), Error> {
-        <i64 as ColumnInt>::pack(alloc, &mut [int], out)
+    fn pack_one(_alloc: Global, int: i64, out: &mut Vec<u8>) -> Result<(), Error> {
+        pack_int(int, out)
     }
 
     fn pack_slice(alloc: Global, ints: &[i64], out: &mut Vec<u8>) -> Result<bool, Error> {
@@ -185,8 +197,8 @@ impl ColumnInt for i128 {
         pack_ints(alloc, ints, out)
     }
 
-    fn pack_one(alloc: Global, int: i128, out: &mut Vec<u8>) -> Result<(), Error> {
-        <i128 as ColumnInt>::pack(alloc, &mut [int], out)
+    fn pack_one(_alloc: Global, int: i128, out: &mut Vec<u8>) -> Result<(), Error> {
+        pack_int(int, out)
     }
 
     fn pack_slice(alloc: Global, ints: &[i128], out: &mut Vec<u8>) -> Result<bool, Error> {
@@ -226,8 +238,8 @@ impl ColumnInt for isize {
         pack_ints(alloc, ints, out)
     }
 
-    fn pack_one(alloc: Global, int: isize, out: &mut Vec<u8>) -> Result<(), Error> {
-        <isize as ColumnInt>::pack(alloc, &mut [int], out)
+    fn pack_one(_alloc: Global, int: isize, out: &mut Vec<u8>) -> Result<(), Error> {
+        pack_int(int, out)
     }
 
     fn pack_slice(alloc: Global, ints: &[isize], out: &mut Vec<u8>) -> Result<bool, Error> {

@@ -3,7 +3,8 @@
 ghost use Rattle.std.specs.Prelude.{[], ◌∷◌, pos, false, refl};
 ghost use Rattle.std.proofs.Common.{inl, inr};
 
-use crate::column_int::{ColumnInt, pack_each_byte, unpack_each_byte};
+use crate::column_int::{ColumnInt, FEW_BYTES, pack_each_byte, unpack_each_byte};
+use crate::pack_ints::single::pack_int;
 use crate::pack_ints::{pack_int_slice, pack_ints};
 use crate::strict::read_ints;
 use bitcode_memory::error::Error;
@@ -28,6 +29,17 @@ impl ColumnInt for u8 {
 
     fn pack_one(alloc: Global, int: u8, out: &mut Vec<u8>) -> Result<(), Error> {
         <u8 as ColumnInt>::pack(alloc, &mut [int], out)
+    }
+
+    fn pack_slice(_alloc: Global, ints: &[u8], out: &mut Vec<u8>) -> Result<bool, Error> {
+        if ints.len() > FEW_BYTES {
+            return Ok(false);
+        }
+        let mut copies = [0; FEW_BYTES];
+        let few = &mut copies[..ints.len()];
+        few.copy_from_slice(ints);
+        pack_each_byte(few, out)?;
+        Ok(true)
     }
 
     fn unpack<'a>(
@@ -103,8 +115,8 @@ impl ColumnInt for u32 {
         pack_ints(alloc, ints, out)
     }
 
-    fn pack_one(alloc: Global, int: u32, out: &mut Vec<u8>) -> Result<(), Error> {
-        <u32 as ColumnInt>::pack(alloc, &mut [int], out)
+    fn pack_one(_alloc: Global, int: u32, out: &mut Vec<u8>) -> Result<(), Error> {
+        pack_int(int, out)
     }
 
     fn pack_slice(alloc: Global, ints: &[u32], out: &mut Vec<u8>) -> Result<bool, Error> {
@@ -144,8 +156,8 @@ impl ColumnInt for u64 {
         pack_ints(alloc, ints, out)
     }
 
-    fn pack_one(alloc: Global, int: u64, out: &mut Vec<u8>) -> Result<(), Error> {
-        <u64 as ColumnInt>::pack(alloc, &mut [int], out)
+    fn pack_one(_alloc: Global, int: u64, out: &mut Vec<u8>) -> Result<(), Error> {
+        pack_int(int, out)
     }
 
     fn pack_slice(alloc: Global, ints: &[u64], out: &mut Vec<u8>) -> Result<bool, Error> {
@@ -185,8 +197,8 @@ impl ColumnInt for u128 {
         pack_ints(alloc, ints, out)
     }
 
-    fn pack_one(alloc: Global, int: u128, out: &mut Vec<u8>) -> Result<(), Error> {
-        <u128 as ColumnInt>::pack(alloc, &mut [int], out)
+    fn pack_one(_alloc: Global, int: u128, out: &mut Vec<u8>) -> Result<(), Error> {
+        pack_int(int, out)
     }
 
     fn pack_slice(alloc: Global, ints: &[u128], out: &mut Vec<u8>) -> Result<bool, Error> {
@@ -226,8 +238,8 @@ impl ColumnInt for usize {
         pack_ints(alloc, ints, out)
     }
 
-    fn pack_one(alloc: Global, int: usize, out: &mut Vec<u8>) -> Result<(), Error> {
-        <usize as ColumnInt>::pack(alloc, &mut [int], out)
+    fn pack_one(_alloc: Global, int: usize, out: &mut Vec<u8>) -> Result<(), Error> {
+        pack_int(int, out)
     }
 
     fn pack_slice(alloc: Global, ints: &[usize], out: &mut Vec<u8>) -> Result<bool, Error> {

@@ -1,0 +1,90 @@
+//! Writing the column of a slice of 8-byte floats without a copy of it, where its numbers keep their whole width.
+ghost use Rattle.std.specs.Prelude.{◌≡◌, ◌+◌, ◌*◌, ◌≤◌, ◌∷◌, ◌++◌, pos, length, map, to_bits, vec_len, vec_capacity};
+ghost use Rattle.std.specs.Prelude.{IsTrue, OnOk, IfErr, OnErr};
+ghost use Rattle.std.specs.Float.{binary64};
+ghost use Rattle.bitcode_memory.specs.LittleEndian.{raw_text};
+ghost use Rattle.bitcode_columns.specs.IntColumn.{int_text};
+
+use bitcode_float_columns::bits::bits_of_f64s;
+use bitcode_memory::error::{Error, Reason};
+use bitcode_memory::ints::{SizedUInt, push_bytes};
+use bitcode_memory::minmax::bounds;
+use bitcode_memory::refuse::err;
+use std::alloc::Global;
+use std::mem::replace;
+use std::num::f64_to_bits_with_nan;
+use std::simd::prelude::*;
+
+// Numbers that lie so far apart take eight bytes each.
+const FAR: u64 = 0x1_0000_0000;
+
+// Whether the bits of the first four floats lie so far apart that the column of all is their bits behind the tag 0.
+pub(crate) fn keep_whole_width(floats: &[f64]) -> bool
+    ensures { IsTrue result → int_text 8 (map (λ x. pos (to_bits binary64 x)) floats.now)
+        ≡ 0 ∷ raw_text 8 (map (λ x. to_bits binary64 x) floats.now) }
+{
+    if floats.len() < 4 {
+        return false;
+    }
+    let four = bits_of_f64s(f64x4::from_slice(floats)).to_array();
+    match bounds(&four) {
+        Some((least, greatest)) => greatest.saturating_sub(least) >= FAR,
+        None => false,
+    }
+}
+
+// The bytes of the bits of four floats.
+#[inline(always)]
+fn text_of_four(floats: f64x4) -> [u8; 32]
+    requires { length floats ≡ 4 }
+    ensures { result ≡ raw_text 8 (map (λ x. to_bits binary64 x) floats) }
+{
+    bits_of_f64s(floats).to_le_bytes().to_array()
+}
+
+// Appends the bytes of the bits of each float, one by one. The caller must have reserved the room.
+fn push_each(floats: &[f64], mut out: Vec<u8>) -> Vec<u8>
+    requires { vec_len out + 8 * length floats.now ≤ vec_capacity out }
+    ensures { result.items ≡ out.items ++ raw_text 8 (map (λ x. to_bits binary64 x) floats.now) }
+{
+    for float in floats {
+        f64_to_bits_with_nan(*float).push(&mut out);
+    }
+    out
+}
+
+// Appends the bytes of the bits of each float, four at a time. The caller must have reserved the room. The list is
+// handed over and given back, so that its length is kept in a register.
+fn push_all(floats: &[f64], mut out: Vec<u8>) -> Vec<u8>
+    requires { vec_len out + 8 * length floats.now ≤ vec_capacity out }
+    ensures { result.items ≡ out.items ++ raw_text 8 (map (λ x. to_bits binary64 x) floats.now) }
+{
+    let blocks = floats.len() / 4;
+    for block in 0..blocks {
+        let text = text_of_four(f64x4::from_slice(&floats[4 * block..]));
+        push_bytes(&text, &mut out);
+    }
+    let behind = 4 * blocks;
+    let (_, rest) = floats.split_at(behind);
+    push_each(rest, out)
+}
+
+// Appends the tag 0 and the bytes of the bits of each float.
+//
+// If an allocation fails, the error is `out of memory`, and `out` is unchanged.
+pub(crate) fn write_whole(floats: &[f64], out: &mut Vec<u8>) -> Result<(), Error>
+    ensures written { OnOk result (out.new.items ≡ out.old.items
+        ++ 0 ∷ raw_text 8 (map (λ x. to_bits binary64 x) floats.now)) }
+    ensures unchanged { OnErr result (out.new.items ≡ out.old.items) }
+    ensures reason { IfErr result (λ e. e.reason ≡ Reason.OutOfMemory) }
+{
+    let Some(size) = floats.len().checked_mul(8) else {
+        return err(Reason::OutOfMemory);
+    };
+    out.reserve(size.saturating_add(1))?;
+    out.push_reserved(0);
+    let alloc = *out.allocator();
+    let held = replace(out, Vec::new(alloc));
+    *out = push_all(floats, held);
+    Ok(())
+}
