@@ -6,16 +6,18 @@ use Rattle.std.specs.Simd.Lanes.{Each1, digits_l, number_l}
 use lib.Dec.{T}
 use lib.Ieee.{fits}
 use lib.Ieee.Bits.{to_bits-lt}
-use Rattle.std.proofs.Math.Nat.{pow-succ'}
+use Rattle.std.proofs.Math.Nat.{suc-add, mul_assoc, pow-succ'}
 use Rattle.std.proofs.lemmas.Bool.{cond-true, cond_both, ltb-true, lt-ltb, ne_eqb}
 use Rattle.std.proofs.lemmas.Int.{ints}
 use Rattle.std.proofs.lemmas.List.{length-map, length-take, map-append}
+use Rattle.std.proofs.lemmas.List.Elements.{All-map, All-take}
 use Rattle.std.proofs.lemmas.List.Concat.{flat_map-append}
 use Rattle.std.proofs.lemmas.Simd.{map-map}
 use Rattle.bitcode_memory.specs.IntWidths.{IsWidth}
-use Rattle.bitcode_memory.specs.Ints.{residue, least, greatest}
+use Rattle.bitcode_memory.specs.Ints.{IsNumber, residue, least, greatest}
 use Rattle.bitcode_memory.specs.LittleEndian.{number_bytes, raw_text}
 use Rattle.bitcode_columns.specs.IntColumn.{int_text, width_for}
+use Rattle.bitcode_columns.proofs.TaggedLemmas.{greatest_among}
 use Rattle.bitcode_int_columns.specs.Narrowing.{shifted_width}
 use Rattle.bitcode_int_columns.proofs.AppendLemmas.{int_text_tagged, raw_residues, tagged_plain}
 use Rattle.bitcode_int_columns.proofs.SampleLemmas.{sample_tells, none_narrower}
@@ -23,13 +25,16 @@ use Rattle.bitcode_int_columns.proofs.SampleLemmas.{sample_tells, none_narrower}
 -- the digits of a number that begins with a narrower one
 digits_after : (width more low high : ℕ) → low < 256 ^ width
     → digits_l 256 (width + more) (low + 256 ^ width * high) ≡ number_bytes width low ++ digits_l 256 more high
-digits_after zero more low high small = ap (digits_l 256 more) (omega (arith, small))
+digits_after zero more low high small = ap₂ (digits_l 256) (omega arith) (omega (arith, small))
 digits_after (suc width) more low high small =
     let p : ℕ = 256 ^ width * high in
-    let split : low + 256 ^ suc width * high ≡ low + 256 * p = omega (arith, pow-succ' 256 width) in
-    ap₂ (λ x xs. x ∷ xs) (ap (λ n. n % 256) split ∙ omega arith)
-    (ap (λ n. digits_l 256 (width + more) (n / 256)) split ∙ ap (digits_l 256 (width + more)) (omega arith)
-    ∙ digits_after width more (low / 256) high (omega (arith, small, pow-succ' 256 width)))
+    let split : low + 256 ^ suc width * high ≡ low + 256 * p =
+    ap (λ m. low + m * high) (pow-succ' 256 width) ∙ ap (λ m. low + m) (mul_assoc 256 (256 ^ width) high) in
+    let first : (low + 256 * p) % 256 ≡ low % 256 = omega arith in
+    let others : (low + 256 * p) / 256 ≡ low / 256 + p = omega arith in
+    ap₂ (digits_l 256) (suc-add width more) split
+    ∙ ap₂ (λ x xs. x ∷ xs) first
+    (ap (digits_l 256 (width + more)) others ∙ digits_after width more (low / 256) high (omega (arith, small, pow-succ' 256 width)))
 
 -- the bytes of four numbers, in order
 pub bytes_of_four : (numbers : List ℕ) → length numbers ≡ 4 → Each1 (λ n. n < 2 ^ 64) numbers → digits_l 256 32 (number_l (2 ^ 64) numbers) ≡ raw_text 8 numbers
@@ -72,16 +77,21 @@ bits xs = map (λ x. to_bits binary64 x) xs
 
 pub whole_text : (xs : List Float) (low high : ℕ) → All (λ x. to_bits binary64 x < 256 ^ 8) xs → 4 ≤ length xs
     → pos low ≡ least (map pos (bits (take 4 xs))) → pos high ≡ greatest (map pos (bits (take 4 xs)))
-    → 4294967296 ≤ high - low → high < 256 ^ 8
+    → 4294967296 ≤ high - low
     → int_text 8 (map (λ x. pos (to_bits binary64 x)) xs) ≡ 0 ∷ raw_text 8 (bits xs)
-whole_text xs low high numbers some is_low is_high far below =
+whole_text xs low high numbers some is_low is_high far =
     let is_width : IsWidth 8 = inr (inr (inr (inl refl))) in
     let entries : List ℤ = map number xs in
     let here : map pos (bits (take 4 xs)) ≡ map number (take 4 xs) = map-map pos (λ x. to_bits binary64 x) (take 4 xs) in
+    let count : 1 ≤ length (take 4 xs) = omega (arith, some, length-take 4 xs) in
+    let below : high < 256 ^ 8 =
+    subst (IsNumber 8 false) (sym (is_high ∙ ap greatest here))
+    (greatest_among (IsNumber 8 false) (map number (take 4 xs)) (omega (arith, count, length-map (take 4 xs) number))
+    (All-map (IsNumber 8 false) number (take 4 xs) (All-take (λ x. to_bits binary64 x < 256 ^ 8) 4 xs numbers))) in
     let wide : shifted_width (pos low) (pos high) ≡ 8 =
     ap width_for (apart low high (omega (arith, far))) ∙ width_far (high - low) (omega (arith, far)) (omega (arith, below)) in
     let tells = sample_tells number xs (take 4 xs) 4 8 (shifted_width (pos low) (pos high)) false (pos low) (pos high) is_width (omega (arith, some)) numbers refl
-    (omega (arith, some, length-take 4 xs)) (is_low ∙ ap least here) (is_high ∙ ap greatest here) refl wide in
+    count (is_low ∙ ap least here) (is_high ∙ ap greatest here) refl wide in
     int_text_tagged 8 entries (λ one. omega (arith, one))
     (ap (λ b. b || (eqb 8 2 && eqb (length entries) 1)) (ne_eqb (length entries) 0 (λ none. omega (arith, some, none, length-map xs number))))
     ∙ sym (tagged_plain number xs 8 8 8 false (least entries) (greatest entries) [] _ is_width (omega (arith, some)) numbers refl refl (sym tells.0) (sym tells.1)

@@ -1,6 +1,6 @@
 //! Writing the column of a slice of 8-byte floats without a copy of it, where its numbers keep their whole width.
-ghost use Rattle.std.specs.Prelude.{◌≡◌, ◌+◌, ◌*◌, ◌≤◌, ◌∷◌, ◌++◌, pos, length, map, to_bits, vec_len, vec_capacity};
-ghost use Rattle.std.specs.Prelude.{IsTrue, OnOk, IfErr, OnErr};
+ghost use Rattle.std.specs.Prelude.{◌≡◌, ◌+◌, ◌*◌, ◌^◌, ◌<◌, ◌≤◌, ◌∷◌, ◌++◌, pos, length, map, All, to_bits, vec_len};
+ghost use Rattle.std.specs.Prelude.{vec_capacity, IsTrue, OnOk, IfErr, OnErr};
 ghost use Rattle.std.specs.Float.{binary64};
 ghost use Rattle.bitcode_memory.specs.LittleEndian.{raw_text};
 ghost use Rattle.bitcode_columns.specs.IntColumn.{int_text};
@@ -18,6 +18,15 @@ use std::simd::prelude::*;
 // Numbers that lie so far apart take eight bytes each.
 const FAR: u64 = 0x1_0000_0000;
 
+// The bits of each float have eight bytes. It does nothing; its contract is for proofs.
+fn known_bits(floats: &[f64])
+    ensures { All (λ x. to_bits binary64 x < 256 ^ 8) floats.now }
+{
+    for float in floats {
+        let _bits = f64_to_bits_with_nan(*float);
+    }
+}
+
 // Whether the bits of the first four floats lie so far apart that the column of all is their bits behind the tag 0.
 pub(crate) fn keep_whole_width(floats: &[f64]) -> bool
     ensures { IsTrue result → int_text 8 (map (λ x. pos (to_bits binary64 x)) floats.now)
@@ -26,6 +35,7 @@ pub(crate) fn keep_whole_width(floats: &[f64]) -> bool
     if floats.len() < 4 {
         return false;
     }
+    known_bits(floats);
     let four = bits_of_f64s(f64x4::from_slice(floats)).to_array();
     match bounds(&four) {
         Some((least, greatest)) => greatest.saturating_sub(least) >= FAR,

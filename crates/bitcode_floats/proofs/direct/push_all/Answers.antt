@@ -1,5 +1,5 @@
 -- Four floats more, and then those behind the last four.
-use Rattle.std.proofs.Common.{◌≡◌, ◌+◌, ◌*◌, ◌/◌, ◌++◌, List, length, map, take, drop, refl, ap, ◌∙◌, arith}
+use Rattle.std.proofs.Common.{◌≡◌, ◌*◌, ◌/◌, ◌++◌, List, length, map, take, drop, refl, ap, ◌∙◌, arith}
 use Rattle.std.specs.Prelude.{ℕ, to_bits}
 use Rattle.std.specs.Float.{Float, binary64}
 use Rattle.bitcode_memory.specs.LittleEndian.{raw_text}

@@ -1,5 +1,5 @@
 -- The bytes of the bits of one float more.
-use Rattle.std.proofs.Common.{◌+◌, ◌++◌, slice_index_or, refl, ap, ◌∙◌, arith}
+use Rattle.std.proofs.Common.{slice_index_or, refl, ◌∙◌, arith}
 use Rattle.std.specs.Prelude.{to_bits}
 use Rattle.std.specs.Float.{Float, binary64, nan}
 use Rattle.bitcode_int_columns.proofs.NarrowLemmas.{raw_none, raw_more}
