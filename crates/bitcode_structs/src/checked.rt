@@ -95,8 +95,7 @@ fn are_taken<T: FromChecked<P, D> + Drop, P: Shaped + Drop, D: Decoder<P>>(
 }
 
 impl<T: FromChecked<P, D> + Drop, P: Shaped + Drop, D: Decoder<P>> HoldsData
-    for CheckedDecoder<T, P, D>
-{
+    for CheckedDecoder<T, P, D> {
     ghost shape = { admitted_shape T.admits D.shape };
 
     ghost held = { λ d. admitted_front T.admits (D.held d.fields) };
@@ -105,8 +104,7 @@ impl<T: FromChecked<P, D> + Drop, P: Shaped + Drop, D: Decoder<P>> HoldsData
 }
 
 impl<'a, T: FromChecked<P, D> + Drop, P: Shaped + Drop, D: View<'a> + Decoder<P> + Drop> View<'a>
-    for CheckedDecoder<T, P, D>
-{
+    for CheckedDecoder<T, P, D> {
     ghost free_inside = { λ d. D.free_inside d.fields };
 
     fn new(alloc: Global) -> Self {
@@ -135,8 +133,7 @@ impl<'a, T: FromChecked<P, D> + Drop, P: Shaped + Drop, D: View<'a> + Decoder<P>
 }
 
 impl<T: FromChecked<P, D> + Drop, P: Shaped + Drop, D: Decoder<P>> Decoder<T>
-    for CheckedDecoder<T, P, D>
-{
+    for CheckedDecoder<T, P, D> {
     ghost makes_free = { D.makes_free };
 
     fn decode(&mut self) -> Result<T, Error> {
