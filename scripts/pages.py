@@ -31,7 +31,7 @@ WORDS = {
     "docs/PROMISES.md": 4250,
     "docs/PROVING.md": 1050,
     "docs/SEALED.md": 1050,
-    "docs/SPEED.md": 780,
+    "docs/SPEED.md": 880,
     "docs/TESTING.md": 1220,
     "docs/TOOLCHAIN.md": 1650,
 }

@@ -5,17 +5,19 @@
 #     bash scripts/speed/beside.sh [--proved] FOLDER        or BITCODE=FOLDER bash scripts/speed/beside.sh ..
 #
 # FOLDER has the crate's Cargo.toml, or its sources as texts, src--src--lib.rs.txt for src/lib.rs. It prints a table,
-# which scripts/speed/picture.py turns into docs/speed.svg and the table of docs/SPEED.md. It builds everything first,
+# which scripts/speed/picture.py turns into docs/speed.svg and the table of docs/SPEED.md. The rows `set` are whole data
+# sets (scripts/speed/comparison/sets.rs), where tuples stand for the crate's derive. It builds everything first,
 # then says `ready` and, if READY names a file, waits until that is there: so the machine can be idle by then. The times
 # take three minutes.
 #
-# The library is compiled without a proof, in two minutes, as optimized as a proved one. With --proved it is proved and
-# built as a static library, which takes over an hour where `rt ci` has not yet proved it on this machine. CPU=x86-64-v3
-# compiles all for that processor (x86-64-v2 otherwise), OUT=FOLDER keeps what was built, ONLY=WORD takes the workloads
-# that have the word in their name, and SIZES=1000 takes lists of these lengths. REGISTRY=FOLDER has the sources of
-# bincode and serde, if cargo is not to fetch them: Debian's librust-bincode-dev, librust-serde-dev,
-# librust-serde-derive-dev, librust-arrayvec-dev and librust-uuid-dev put them into /usr/share/cargo/registry, which is
-# where texts of the crate take them from. The status is 2 where something is missing.
+# The library is compiled without a proof, in two minutes, as optimized as a proved one. With --proved it is proved
+# (without the data sets) and built as a static library, which takes over an hour where `rt ci` has not yet proved it on
+# this machine. CPU=x86-64-v3 compiles all for that processor (x86-64-v2 otherwise), OUT=FOLDER keeps what was built,
+# ONLY=WORD takes the workloads that have the word in their name, and SIZES=1000 takes lists of these lengths.
+# REGISTRY=FOLDER has the sources of bincode and serde, if cargo is not to fetch them: Debian's librust-bincode-dev,
+# librust-serde-dev, librust-serde-derive-dev, librust-arrayvec-dev and librust-uuid-dev put them into
+# /usr/share/cargo/registry, which is where texts of the crate take them from. The status is 2 where something is
+# missing.
 cd "$(dirname "$0")/../.." || exit 2
 script=beside
 . scripts/libraries.sh

@@ -20,7 +20,7 @@ start_ours() {
   copy_libraries "$1/ours" || exit 2
   mkdir -p "$ours" || exit 2
   for set in scripts/own_types/sets/{log,mesh,minecraft,mk48}.txt "$here/borrowed.txt"; do
-    scripts/new_type "$set" "$ours" >"$work/log" 2>&1 || fail "the types of $set are not written"
+    [ ! -f "$set" ] || scripts/new_type "$set" "$ours" >"$work/log" 2>&1 || fail "the types of $set are not written"
   done
   scripts/new_type "$here/types.txt" "$ours" >"$work/log" 2>&1 &&
     scripts/second_format "$here/recursive_types.txt" "$ours" >"$work/log" 2>&1 || fail "the types are not written"

@@ -1,5 +1,5 @@
-//! The four data sets of rust_serialization_benchmark: what they hold, by a generator of its own. A tuple stands for each
-//! struct, as its derive would write it, and tuples of tuples for more than sixteen fields.
+// The four data sets of rust_serialization_benchmark: what they hold, by a generator of its own. A tuple stands for each
+// struct, as its derive would write it, and tuples of tuples for more than sixteen fields.
 use bitcode::glue::{Columns, Decoder, Encoder, VariantDecoder, VariantEncoder, View};
 use std::num::NonZeroUsize;
 
@@ -85,10 +85,10 @@ fn maybe<T>(r: &mut Random, item: impl FnOnce(&mut Random) -> T) -> Option<T> {
 // ---- log: lines of a web server
 
 type Address = (u8, u8, u8, u8);
-type Line = (Address, String, String, String, String, u16, u64);
-type BorrowedLine = (Address, &'static str, &'static str, &'static str, &'static str, u16, u64);
+type LogLine = (Address, String, String, String, String, u16, u64);
+type BorrowedLogLine = (Address, &'static str, &'static str, &'static str, &'static str, u16, u64);
 
-fn line(r: &mut Random) -> Line {
+fn log_line(r: &mut Random) -> LogLine {
     let months = ["Jan", "Feb", "Mar", "Apr", "May", "Jun", "Jul", "Aug", "Sep", "Oct", "Nov", "Dec"];
     let users = ["-", "alice", "bob", "carmen", "david", "eric", "frank", "george", "harry"];
     let routes = ["/favicon.ico", "/css/index.css", "/css/font-awsome.min.css", "/img/logo-full.svg", "/img/splash.jpg",
