@@ -125,3 +125,37 @@ fn columns_of_floats(rt: HostRuntime) -> Result<(), Fail> {
     assert!(rt; again == pairs);
     Ok(())
 }
+
+/// These floats are written as these bytes, and read back with the same bits.
+fn holds_f64s(alloc: Global, bits: &[u64], bytes: &[u8]) -> Result<(), Got> {
+    let mut floats: Vec<f64> = Vec::new(alloc);
+    for each in bits {
+        floats.push(f64_from_bits_with_nan(*each))?;
+    }
+    let written = encode(alloc, &floats)?;
+    let read: Vec<f64> = decode_strict(alloc, bytes)?;
+    if written.as_slice() != bytes || read.len() != bits.len() {
+        return Err(Got::AnotherValue);
+    }
+    for place in 0..bits.len() {
+        if f64_to_bits_with_nan(read[place]) != bits[place] {
+            return Err(Got::AnotherValue);
+        }
+    }
+    Ok(())
+}
+
+#[test]
+fn lists_of_doubles(rt: HostRuntime) -> Result<(), Got> {
+    let alloc = rt.alloc();
+    let one: u64 = 0x3ff0_0000_0000_0000;
+    let nan: u64 = 0x7ff8_0000_0000_0000;
+    let whole: &[u8] = &[
+        5, 0, 0, 0, 0, 0, 0, 0, 240, 63, 0, 0, 0, 0, 0, 0, 248, 127, 1, 0, 0, 0, 0, 0, 240, 63, 0, 0, 0,
+        0, 0, 0, 0, 128, 255, 255, 255, 255, 255, 255, 239, 255,
+    ];
+    let bits: &[u64] = &[one, nan, one + 1, 0x8000_0000_0000_0000, 0xffef_ffff_ffff_ffff];
+    holds_f64s(alloc, bits, whole)?;
+    let near: &[u8] = &[6, 5, 0, 0, 0, 0, 0, 0, 240, 63, 4, 121, 34];
+    holds_f64s(alloc, &[one + 1, one + 2, one + 3, one + 4, one + 5, one], near)
+}
