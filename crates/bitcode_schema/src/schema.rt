@@ -17,13 +17,6 @@ pub enum IntKind {
     I128,
 }
 
-/// A field of a struct or a variant of an enum: its name and its node. Names change no byte.
-#[derive(Debug, Drop)]
-pub struct Named {
-    pub name: String,
-    pub node: SchemaNode,
-}
-
 /// The values at one place.
 #[derive(Debug, Drop)]
 pub enum SchemaNode {
@@ -50,11 +43,12 @@ pub enum SchemaNode {
     /// So many elements.
     Array(usize, Box<SchemaNode>),
     Tuple(Vec<SchemaNode>),
-    Struct(Vec<Named>),
+    /// Fields with their names. Names change no byte.
+    Struct(Vec<(String, SchemaNode)>),
     Option(Box<SchemaNode>),
     Result(Box<SchemaNode>, Box<SchemaNode>),
-    /// The payload of each variant.
-    Enum(Vec<Named>),
+    /// Variants, each with its name and the node of its payload.
+    Enum(Vec<(String, SchemaNode)>),
 }
 
 /// A tree of nodes for the bytes of one value.
