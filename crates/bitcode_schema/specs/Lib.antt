@@ -1,0 +1,5 @@
+pub mod Halves
+pub mod Leaves
+pub mod Forms
+pub mod Depth
+pub mod Reading

@@ -8,6 +8,3 @@ pub mod leaves;
 pub mod limits;
 pub mod read;
 pub mod schema;
-
-#[cfg(test)]
-mod tests;
