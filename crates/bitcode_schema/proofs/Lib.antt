@@ -1,0 +1,4 @@
+pub mod ChoiceLemmas
+pub mod FieldLemmas
+pub mod SequenceLemmas
+pub mod NodeLemmas
