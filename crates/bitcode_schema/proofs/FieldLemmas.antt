@@ -1,8 +1,10 @@
 -- Fields are read by halves.
-use Rattle.std.proofs.Common.{◌≡◌, ℕ, zero, suc, ◌+◌, ◌-◌, ◌*◌, ◌/◌, ◌<◌, ◌≤◌, Bool, ◌&&◌, IsTrue, List, [], ◌∷◌, length, map, take, drop, refl, sym, ap, ap₂, subst, ◌∙◌, inl, inr, arith, length-drop}
+use Rattle.std.proofs.Common.{◌≡◌, ℕ, zero, suc, ◌+◌, ◌-◌, ◌*◌, ◌/◌, ◌<◌, ◌≤◌, Bool, ◌&&◌, IsTrue, List, [], ◌∷◌, length, map, take, drop, Some, slice_get, refl, sym, ap, ap₂, subst, ◌∙◌, inl, inr, arith, length-drop}
 use Rattle.std.proofs.lemmas.List.{length-take-le, drop-take, length-map}
 use Rattle.std.specs.List.{take-map, drop-map}
 use Rattle.std.proofs.Math.Nat.{div-lt_self}
+use Rattle.std.proofs.Math.ListN.{drop_of_length-le}
+use Rattle.std.proofs.Math.Seq.{take-length}
 use Rattle.bitcode_memory.specs.declared.error.Reason.{Reason}
 use Rattle.bitcode_shapes.specs.Shape.{Shape, unit_shape, pair_shape}
 use Rattle.bitcode_tuples.specs.Pairs.{pairs_of}
@@ -23,11 +25,7 @@ take-take (suc m) (suc n) (x ∷ xs) h = ap (λ ys. x ∷ ys) (take-take m n xs 
 
 pub drop-drop : {A : Type 0} (m n : ℕ) (xs : List A) → drop n (drop m xs) ≡ drop (m + n) xs
 drop-drop zero n xs = ap (λ i. drop i xs) (let e : n ≡ 0 + n = omega arith in e)
-drop-drop (suc m) n [] = none n
-  where
-    none : (i : ℕ) → drop i (drop (suc m) []) ≡ drop (suc m + i) []
-    none zero = refl
-    none (suc i) = refl
+drop-drop (suc m) n [] = drop_of_length-le [] {i = n} (omega arith) ∙ sym (drop_of_length-le [] {i = suc m + n} (omega arith))
 drop-drop (suc m) n (x ∷ xs) = drop-drop m n xs ∙ ap (λ i. drop i (x ∷ xs)) (let e : suc (m + n) ≡ suc m + n = omega arith in e)
 
 pub half_less : (n : ℕ) → 1 < n → n / 2 < n
@@ -107,9 +105,25 @@ range_pair fields from to some within =
     ∙ ap (λ n. pair_shape (shape_of_fields (take (n / 2) (range from to fields))) (shape_of_fields (drop (n / 2) (range from to fields)))) size
     ∙ ap₂ (λ f b. pair_shape (shape_of_fields f) (shape_of_fields b)) front back
 
+pub no_fields : (fields : List SchemaNode) → length fields ≡ 0 → shape_of_fields fields ≡ unit_shape
+no_fields [] none = refl
+no_fields (f ∷ fields) none = absurd (omega (arith, none))
+
+pub whole_range : (fields : List SchemaNode) (count : ℕ) → count ≡ length fields → range 0 count fields ≡ fields
+whole_range fields count is = ap (λ n. take n fields) (let e : count - 0 ≡ length fields = omega (arith, is) in e) ∙ take-length fields
+
+-- a range of one field
+pub one_field : (fields : List SchemaNode) (from to : ℕ) (field : SchemaNode) → to - from ≡ 1 → slice_get fields from ≡ Some field → shape_of_fields (range from to fields) ≡ shape_of field
+one_field fields from to field one is = ap (λ n. shape_of_fields (take n (drop from fields))) one ∙ first fields from is
+  where
+    first : (fs : List SchemaNode) (i : ℕ) → slice_get fs i ≡ Some field → shape_of_fields (take 1 (drop i fs)) ≡ shape_of field
+    first [] i h = cc
+    first (f ∷ fs) zero h = ap shape_of (let e : f ≡ field = cc in e)
+    first (f ∷ fs) (suc i) h = first fs i h
+
 -- ---- passes over pairs
 
-module _ (pass : Pass) (k : ℕ) {s t : Shape} where
+module _ (pass : Pass) (k : ℕ) (s t : Shape) where
   pub passes_pairs : {old middle new : List ℕ} {a b : Bool} → Passes s k pass old a middle → Passes t k pass middle b new
       → Passes (pair_shape s t) k pass old (a && b) new
   passes_pairs {new = new} {a = a} {b = b} first second = record {

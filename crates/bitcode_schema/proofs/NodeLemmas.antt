@@ -1,6 +1,7 @@
 -- The shape of each node, by its variant, and what is less deep than a node.
 use Rattle.std.proofs.Common.{◌≡◌, ℕ, ◌+◌, ◌-◌, ◌<◌, ◌≤◌, ◌&&◌, Bool, true, false, Option, List, [], ◌∷◌, map, max, length, Some, None, Vec, Box, Global, slice_get, zero, suc, refl, sym, ap, ap₂, subst, ◌∙◌, arith}
 use Rattle.std.specs.Prelude.{nat_le}
+use Rattle.std.specs.Float.{binary32, binary64}
 use Rattle.std.specs.declared.string.String.{String}
 use Rattle.std.specs.List.{list_all}
 use Rattle.std.proofs.lemmas.List.{length-map}
@@ -45,10 +46,10 @@ shape-Int kind = shape_rolled (SchemaNode-F.Int kind) (node.Int kind) (node.roll
 pub shape-NonZero : (kind : IntKind) → shape_of (node.NonZero kind) ≡ nonzero_shape (width_of kind) (is_signed kind)
 shape-NonZero kind = shape_rolled (SchemaNode-F.NonZero kind) (node.NonZero kind) (node.rolls-NonZero kind)
 
-pub shape-F32 : shape_of node.F32 ≡ shape_step {A = Form} SchemaNode-F.F32
+pub shape-F32 : shape_of node.F32 ≡ float_shape binary32
 shape-F32 = shape_rolled SchemaNode-F.F32 node.F32 node.rolls-F32
 
-pub shape-F64 : shape_of node.F64 ≡ shape_step {A = Form} SchemaNode-F.F64
+pub shape-F64 : shape_of node.F64 ≡ float_shape binary64
 shape-F64 = shape_rolled SchemaNode-F.F64 node.F64 node.rolls-F64
 
 pub shape-Str : (capacity : Option ℕ) → shape_of (node.Str capacity) ≡ text_shape capacity

@@ -26,7 +26,7 @@ use Rattle.bitcode_schema.specs.Variants.{BreaksCap, KeepsToCap}
 use Rattle.bitcode_schema.specs.declared.read.Pass.{Pass}
 
 module _ (pass : Pass) (k : ℕ) where
-  module _ {s : Shape} {old middle ns : List ℕ} {a : Bool} (lengths : Reads (SpellsLengths None) k old ns middle)
+  module _ (s : Shape) {old middle ns : List ℕ} {a : Bool} (lengths : Reads (SpellsLengths None) k old ns middle)
       (told : IsTrue pass.strict → IsTrue a ↔ (old ≡ length_bytes ns ++ middle)) where
     pub passes_lists : {new : List ℕ} {b : Bool} → Passes s (sum ns) pass middle b new → Passes (seq_shape None s) k pass old (a && b) new
     passes_lists {new} {b} elements = record {
@@ -39,38 +39,38 @@ module _ (pass : Pass) (k : ℕ) where
     elements_fault reason (inl memory) = inl memory
     elements_fault reason (inr fault) = inr (inr (record { entries = ns; rest = middle; read = lengths; fault = fault }))
 
-  pub lengths_fault : {s : Shape} (reason : Reason) (old : List ℕ) → NamesLengthFault reason k old → IsFault pass (seq_shape None s) reason k old
-  lengths_fault reason old fault = inr (inl fault)
+  pub lengths_fault : (s : Shape) (reason : Reason) (old : List ℕ) → NamesLengthFault reason k old → IsFault pass (seq_shape None s) reason k old
+  lengths_fault s reason old fault = inr (inl fault)
 
   -- ---- maps are read as lists of pairs
 
-  pub passes_maps : {s t : Shape} {old new : List ℕ} {a : Bool} → Passes (seq_shape None (pair_shape s t)) k pass old a new → Passes (map_shape s t) k pass old a new
-  passes_maps {s} {t} {old} {new} lists = record {
+  pub passes_maps : (s t : Shape) {old new : List ℕ} {a : Bool} → Passes (seq_shape None (pair_shape s t)) k pass old a new → Passes (map_shape s t) k pass old a new
+  passes_maps s t {old} {new} lists = record {
     found = lists.found;
     read = reads_map s t k old new lists.found lists.read;
     judged = λ strict. lists.judged strict;
   }
 
-  pub maps_fault : {s t : Shape} (reason : Reason) (old : List ℕ) → IsFault pass (seq_shape None (pair_shape s t)) reason k old → IsFault pass (map_shape s t) reason k old
-  maps_fault reason old fault = fault
+  pub maps_fault : (s t : Shape) (reason : Reason) (old : List ℕ) → IsFault pass (seq_shape None (pair_shape s t)) reason k old → IsFault pass (map_shape s t) reason k old
+  maps_fault s t reason old fault = fault
 
   -- ---- arrays
 
-  pub passes_arrays : {s : Shape} {size : ℕ} {old new : List ℕ} {a : Bool} → k * size < 2 ^ 64 → Passes s (k * size) pass old a new
+  pub passes_arrays : (s : Shape) (size : ℕ) {old new : List ℕ} {a : Bool} → k * size < 2 ^ 64 → Passes s (k * size) pass old a new
       → Passes (array_shape size s) k pass old a new
-  passes_arrays {s} {size} {old} {new} {a} few elements = record {
+  passes_arrays s size {old} {new} {a} few elements = record {
     found = arrays_of size k elements.found;
     read = reads_arrays size s k old new elements.found few elements.read;
     judged = λ strict. judges_arrays size s k old new elements.found elements.read a (elements.judged strict);
   }
 
-  pub arrays_fault : {s : Shape} {size : ℕ} (reason : Reason) (old : List ℕ) → k * size < 2 ^ 64 → IsFault pass s reason (k * size) old
+  pub arrays_fault : (s : Shape) (size : ℕ) (reason : Reason) (old : List ℕ) → k * size < 2 ^ 64 → IsFault pass s reason (k * size) old
       → IsFault pass (array_shape size s) reason k old
-  arrays_fault reason old few (inl memory) = inl memory
-  arrays_fault reason old few (inr fault) = inr (inr (few, fault))
+  arrays_fault s size reason old few (inl memory) = inl memory
+  arrays_fault s size reason old few (inr fault) = inr (inr (few, fault))
 
-  pub arrays_over : {s : Shape} {size : ℕ} (reason : Reason) (old : List ℕ) → 2 ^ 64 ≤ k * size → reason ≡ LengthOverflow → IsFault pass (array_shape size s) reason k old
-  arrays_over reason old many is = inr (inl (many, is))
+  pub arrays_over : (s : Shape) (size : ℕ) (reason : Reason) (old : List ℕ) → 2 ^ 64 ≤ k * size → reason ≡ LengthOverflow → IsFault pass (array_shape size s) reason k old
+  arrays_over s size reason old many is = inr (inl (many, is))
 
   -- ---- limits
 
@@ -89,8 +89,8 @@ module _ (pass : Pass) (k : ℕ) where
       }
 
   module _ (limit : ℕ) {old new : List ℕ} {w : Bool} where
-    pub passes_limited : {s : Shape} → Passes (seq_shape None s) k pass old w new → KeepsToCap limit k old → Passes (seq_shape (Some limit) s) k pass old w new
-    passes_limited {s} lists keeps =
+    pub passes_limited : (s : Shape) → Passes (seq_shape None s) k pass old w new → KeepsToCap limit k old → Passes (seq_shape (Some limit) s) k pass old w new
+    passes_limited s lists keeps =
         let parts = reads_parts None s k old new lists.found lists.read in
         let first = parts.first in
         let same = parts_once (parts_in first) keeps.parts in
@@ -111,7 +111,7 @@ module _ (pass : Pass) (k : ℕ) where
             joined = all.joined;
             below_limit = all.below_limit;
             keeps_cap = subst (λ ns. KeepsCap (Some limit) all.short ns) (sym all.joined)
-                (subst (λ xs. KeepsCap (Some limit) all.short (lengths_from all.short xs)) (sym same.1.0)
+                (subst (λ xs. KeepsCap (Some limit) all.short (lengths_from all.short xs)) (sym same.1)
                 (subst (λ xs. KeepsCap (Some limit) xs (lengths_from xs keeps.large)) (sym same.0) keeps.kept));
           };
         } in
@@ -122,9 +122,9 @@ module _ (pass : Pass) (k : ℕ) where
           judged = λ strict. lists.judged strict;
         }
 
-    pub lists_over : {s : Shape} (reason : Reason) → Passes (seq_shape None s) k pass old w new → BreaksCap limit k old → reason ≡ InvalidArrayVec
+    pub lists_over : (s : Shape) (reason : Reason) → Passes (seq_shape None s) k pass old w new → BreaksCap limit k old → reason ≡ InvalidArrayVec
         → IsFault pass (seq_shape (Some limit) s) reason k old
-    lists_over {s} reason lists breaks is = inr (inr (record {
+    lists_over s reason lists breaks is = inr (inr (record {
       is = is;
       lists = lists.found;
       rest = new;
@@ -144,9 +144,9 @@ module _ (pass : Pass) (k : ℕ) where
     texts_over reason texts breaks is =
         inr (subst (λ r. IsFirstFault (text_shape (Some limit)) r k old) (sym is) (limit_named texts.read breaks.parts breaks.broken))
 
-  pub limited_fault : {s : Shape} (limit : ℕ) (reason : Reason) (old : List ℕ) → IsFault pass (seq_shape None s) reason k old → IsFault pass (seq_shape (Some limit) s) reason k old
-  limited_fault limit reason old (inl memory) = inl memory
-  limited_fault limit reason old (inr fault) = inr (inl fault)
+  pub limited_fault : (s : Shape) (limit : ℕ) (reason : Reason) (old : List ℕ) → IsFault pass (seq_shape None s) reason k old → IsFault pass (seq_shape (Some limit) s) reason k old
+  limited_fault s limit reason old (inl memory) = inl memory
+  limited_fault s limit reason old (inr fault) = inr (inl fault)
 
   pub limited_texts_fault : (limit : ℕ) (reason : Reason) (old : List ℕ) → IsFault pass (text_shape None) reason k old → IsFault pass (text_shape (Some limit)) reason k old
   limited_texts_fault limit reason old (inl memory) = inl memory

@@ -388,10 +388,15 @@ fn read_tuples<'a>(
 {
     let mut fields = rows(alloc, k, pass.make)?;
     let count = node.field_count();
-    let mut written = true;
-    if count > 0 {
-        written = read_fields(alloc, node, 0, count, pass, input, k, &mut fields)?;
+    if count == 0 {
+        let none = read_leaf::<(), EmptyCoder, OfUnit>(alloc, pass, input, k)?;
+        let empty = tuples(alloc, fields)?;
+        return Ok(Found {
+            values: empty,
+            written: none.written,
+        });
     }
+    let written = read_fields(alloc, node, 0, count, pass, input, k, &mut fields)?;
     let values = tuples(alloc, fields)?;
     Ok(Found { values, written })
 }
