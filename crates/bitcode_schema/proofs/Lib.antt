@@ -1,5 +1,1 @@
-pub mod ChoiceLemmas
-pub mod FieldLemmas
-pub mod SequenceLemmas
 pub mod NodeLemmas
-pub mod DecodeLemmas

@@ -1,11 +1,9 @@
 -- Worked rows: the shape of each node, and the datum of some values.
 use Rattle.std.proofs.Common.{refl}
-use Rattle.std.specs.Prelude.{◌≡◌, ℕ, pos, true, false, Option, Some, None, List, [], ◌∷◌}
+use Rattle.std.specs.Prelude.{◌≡◌, ℕ, pos, true, false, Option, List, [], ◌∷◌}
 use Rattle.std.specs.Float.{binary32, binary64}
 use Rattle.std.specs.declared.alloc.Global.{Global}
 use Rattle.std.specs.declared.boxed.Box.{Box}
-use Rattle.std.specs.declared.string.String.{String}
-use Rattle.std.specs.declared.vec.Vec.{Vec}
 use Rattle.bitcode_shapes.specs.Datum.{Datum, pair}
 use Rattle.bitcode_shapes.specs.Shape.{Shape, unit_shape, never_shape, bool_shape, number_shape, float_shape, text_shape, seq_shape, map_shape, array_shape, pair_shape, choice_shape, no_shapes, shape_and, any_number, nonzero, scalar, between}
 use Rattle.bitcode_schema.specs.Forms.{Form, shape_step, fields_shape, fields_datum, enum_shape}

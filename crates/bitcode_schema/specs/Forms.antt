@@ -1,5 +1,5 @@
 -- What a node means: which data its columns hold, and which datum a value holds.
-use Rattle.std.specs.Prelude.{◌≡◌, ℕ, zero, suc, pos, false, Option, Some, None, List, [], ◌∷◌, map, slice_get}
+use Rattle.std.specs.Prelude.{◌≡◌, ℕ, zero, suc, false, Option, Some, None, List, [], ◌∷◌, map, slice_get}
 use Rattle.std.specs.Float.{binary32, binary64}
 use Rattle.bitcode_shapes.specs.Checked.{nanosecond_shape, nonzero_shape, char_shape}
 use Rattle.bitcode_shapes.specs.Datum.{Datum, unit, list, choice, pair, data_of}

@@ -2,7 +2,7 @@
 use Rattle.std.specs.Prelude.{ℕ, Bool, true, false, Option, Some, None, if◌then◌else◌}
 use Rattle.std.specs.Float.{binary32, binary64}
 use Rattle.bitcode_shapes.specs.Datum.{Datum}
-use Rattle.bitcode_coder.specs.Columns.{Kind, bools, ints, floats, texts}
+use Rattle.bitcode_coder.specs.Columns.{bools, ints, floats, texts}
 use Rattle.bitcode_untyped.specs.Leaves.{Leaf, Entry, leaf_of, char_leaf, is_of}
 use Rattle.bitcode_schema.specs.declared.schema.IntKind.{IntKind}
 use Rattle.bitcode_schema.specs.declared.schema.IntKind.TheVariants as int

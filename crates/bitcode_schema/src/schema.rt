@@ -1,11 +1,7 @@
 //! Schemas: trees that say which columns the bytes have, and what the values are called.
-ghost use Rattle.std.specs.Prelude.{◌≡◌, ◌&&◌, ◌<◌, ◌≤◌, nat_le, length, true, IfOk, IfErr, IfSome, slice_get, Some, IsSome, IfNone};
+ghost use Rattle.std.specs.Prelude.{◌≡◌, ◌&&◌, nat_le, length, true, IfOk, IfErr};
 ghost use Rattle.std.specs.List.{list_all};
-ghost use Rattle.bitcode_shapes.specs.Shape.{unit_shape};
-ghost use Rattle.bitcode_enums.specs.ByNumber.{shape_at};
-ghost use Rattle.bitcode_schema.specs.Forms.{shape_of, shapes_of};
-ghost use Rattle.bitcode_schema.specs.Reading.{variant_shapes};
-ghost use Rattle.bitcode_schema.specs.Depth.{depth, has_few_variants, IsAccepted, IsRefused, fields_of, most_variants};
+ghost use Rattle.bitcode_schema.specs.Depth.{depth, has_few_variants, IsAccepted, IsRefused, most_variants};
 
 use bitcode_memory::error::{Error, Reason};
 use bitcode_memory::refuse::err;
@@ -25,11 +21,32 @@ pub enum IntKind {
     I128,
 }
 
-/// The values at one place.
+/// The values at one place. A node says which columns they have, and which case of `Value` holds one of them.
+///
+/// | Node | Case |
+/// |---|---|
+/// | `Unit`, `Bool`, `Char`, `F32`, `F64`, `Str`, `Map` | the case of that name |
+/// | `Never` | none: there is no value |
+/// | `Int`, `NonZero` | `U8` to `I128`: that of the kind |
+/// | `Duration` | `Tuple`: a `U64` and a `U32` |
+/// | `Uuid` | `Seq`: 16 `U8` |
+/// | `List`, `Array` | `Seq` |
+/// | `Tuple`, `Struct` | `Tuple` |
+/// | `Option` | `Option` |
+/// | `Result` | `Enum`: variant 0 is `Ok`, and variant 1 is `Err` |
+/// | `Enum` | `Enum`, also with one variant, which has no column |
+///
+/// Sets are lists. Boxes and wrappers are the nodes of what they hold, and an address is what it is encoded as: an
+/// `Ipv4Addr` is `Int(U32)`.
+///
+/// ```
+/// let fields = vec![in alloc; SchemaNode::Bool, SchemaNode::Int(IntKind::U16)]?;
+/// let flags = SchemaNode::List(None, Box::new(alloc, SchemaNode::Tuple(fields))?);
+/// ```
 #[derive(Debug, Drop)]
 pub enum SchemaNode {
     Unit,
-    /// There is no value: an enum without variants.
+    /// An enum without variants.
     Never,
     Bool,
     Char,
@@ -40,9 +57,8 @@ pub enum SchemaNode {
     F64,
     /// A text, of at most so many bytes if there is a capacity.
     Str(Option<usize>),
-    /// Seconds and nanoseconds: a tuple of a `U64` and a `U32` of at most 999999999.
+    /// Seconds, and nanoseconds of at most 999999999.
     Duration,
-    /// An array of 16 `U8`.
     Uuid,
     /// A list or a set, of at most so many elements if there is a capacity.
     List(Option<usize>, Box<SchemaNode>),
@@ -51,11 +67,11 @@ pub enum SchemaNode {
     /// So many elements.
     Array(usize, Box<SchemaNode>),
     Tuple(Vec<SchemaNode>),
-    /// Fields with their names. Names change no byte.
+    /// Fields with their names, which change no byte.
     Struct(Vec<(String, SchemaNode)>),
     Option(Box<SchemaNode>),
     Result(Box<SchemaNode>, Box<SchemaNode>),
-    /// Variants, each with its name and the node of its payload.
+    /// Variants with their names, which change no byte, and the nodes of their payloads.
     Enum(Vec<(String, SchemaNode)>),
 }
 
@@ -102,68 +118,6 @@ impl SchemaNode {
             SchemaNode::Result(ok, err) => ok.has_few_variants() && err.has_few_variants(),
             SchemaNode::Enum(variants) => variants_have_few(variants),
             _ => true,
-        }
-    }
-
-    /// The number of fields of a tuple or struct.
-    pub(crate) fn field_count(&self) -> usize
-        ensures { result ≡ length (fields_of self.now) }
-    {
-        match self {
-            SchemaNode::Tuple(fields) => fields.len(),
-            SchemaNode::Struct(fields) => fields.len(),
-            _ => 0,
-        }
-    }
-
-    /// The node of a field of a tuple or struct.
-    pub(crate) fn field(&self, i: usize) -> Option<&SchemaNode>
-        ensures found { IfSome result (λ node. slice_get (fields_of self.now) i ≡ Some node.now) }
-        ensures none { i < length (fields_of self.now) → IsSome result }
-        ensures deeper { IfSome result (λ node. depth node.now < depth self.now) }
-        ensures few { has_few_variants self.now ≡ true
-            → IfSome result (λ node. has_few_variants node.now ≡ true) }
-    {
-        match self {
-            SchemaNode::Tuple(fields) => fields.get(i),
-            SchemaNode::Struct(fields) => match fields.get(i) {
-                Some(field) => Some(&field.1),
-                None => None,
-            },
-            _ => None,
-        }
-    }
-
-    /// The node of the payload of a variant, unless it is the unit of `None`.
-    pub(crate) fn payload(&self, i: usize) -> Option<&SchemaNode>
-        requires { i < length (variant_shapes self.now) }
-        ensures found { IfSome result
-            (λ node. shape_at i (shapes_of (variant_shapes self.now)) ≡ shape_of node.now) }
-        ensures none { IfNone result (shape_at i (shapes_of (variant_shapes self.now)) ≡ unit_shape) }
-        ensures deeper { IfSome result (λ node. depth node.now < depth self.now) }
-        ensures few { has_few_variants self.now ≡ true
-            → IfSome result (λ node. has_few_variants node.now ≡ true) }
-    {
-        match self {
-            SchemaNode::Option(some) => {
-                if i == 1 {
-                    Some(some)
-                } else {
-                    None
-                }
-            }
-            SchemaNode::Result(ok, err) => {
-                if i == 0 {
-                    Some(ok)
-                } else {
-                    Some(err)
-                }
-            }
-            SchemaNode::Enum(variants) => match variants.get(i) {
-                Some(variant) => Some(&variant.1),
-                None => None,
-            },
-            _ => None,
         }
     }
 }
@@ -224,7 +178,7 @@ fn variants_have_few(variants: &[(String, SchemaNode)]) -> bool
     variants.len() <= MOST_VARIANTS && parts_have_few(variants)
 }
 
-/// A tree of nodes for the bytes of one value.
+/// The node of a whole value, which has few enough variants and nodes in one another.
 #[derive(Debug, Drop)]
 pub struct Schema {
     root: SchemaNode,
