@@ -3,3 +3,4 @@ pub mod Leaves
 pub mod Forms
 pub mod FormRows
 pub mod Depth
+pub mod Placing
