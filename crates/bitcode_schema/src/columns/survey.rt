@@ -1,5 +1,5 @@
 //! Reading the columns of an input one after another, and noting where each is.
-ghost use Rattle.std.specs.Prelude.{◌≡◌, ◌≤◌, ◌-◌, length, true, IfOk};
+ghost use Rattle.std.specs.Prelude.{◌≡◌, ◌≤◌, ◌-◌, ◌++◌, ◌∷◌, [], length, true, IfOk, IsTrue, IsFalse};
 ghost use Rattle.bitcode_coder.specs.Length.{lengths_left};
 ghost use Rattle.bitcode_schema.specs.Placing.{stand_from};
 
@@ -52,6 +52,17 @@ fn packing_of(kind: PartKind, entries: usize, piece: &[u8]) -> Packing {
         PartKind::Lengths => packing_of_bytes(entries, piece),
         PartKind::Variants(variants) => packing_of_variants(variants),
         PartKind::TextBytes => Packing::Raw,
+    }
+}
+
+// Adds a column, if memory allows it.
+fn add(parts: &mut Vec<ColumnPart>, part: ColumnPart) -> bool
+    ensures added { IsTrue result → parts.new.items ≡ parts.old.items ++ part ∷ [] }
+    ensures kept { IsFalse result → parts.new.items ≡ parts.old.items }
+{
+    match parts.push(part) {
+        Ok(()) => true,
+        Err(_) => false,
     }
 }
 
@@ -177,6 +188,7 @@ impl<'a> Survey<'a> {
     }
 
     // Notes the column that was read, up to a rest of the input.
+    #[tactic(auto, using(crate::proofs::PlacingLemmas::stand_next))]
     fn note(
         &mut self,
         path: &str,
@@ -199,13 +211,11 @@ impl<'a> Survey<'a> {
             size: self.rest.len() - rest.len(),
             packing,
         };
-        match self.parts.push(part) {
-            Ok(()) => {
-                self.rest = rest;
-                Ok(())
-            }
-            Err(_) => Err(self.fault("", self.rest, Reason::OutOfMemory)),
+        if !add(&mut self.parts, part) {
+            return Err(self.fault("", self.rest, Reason::OutOfMemory));
         }
+        self.rest = rest;
+        Ok(())
     }
 
     /// Reads a column of `k` entries.
