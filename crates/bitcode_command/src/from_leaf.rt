@@ -189,5 +189,9 @@ fn read_uuid(alloc: Global, json: &Json<'_>) -> Result<Value, Fault> {
     let Ok(uuid) = Uuid::parse_str(text) else {
         return Err(expected(alloc, "the text of a UUID", json));
     };
-    Ok(Value::Bytes(uuid.as_bytes().to_vec(alloc)?))
+    let mut bytes = Vec::with_capacity(alloc, 16)?;
+    for byte in uuid.as_bytes() {
+        bytes.push(Value::U8(*byte))?;
+    }
+    Ok(Value::Seq(bytes))
 }

@@ -110,12 +110,30 @@ fn write_duration(value: &Value, out: &mut Writer) -> Result<bool, AllocError> {
     Ok(true)
 }
 
+// The sixteen bytes of a list.
+fn bytes_of(values: &[Value]) -> Option<[u8; 16]> {
+    if values.len() != 16 {
+        return None;
+    }
+    let mut bytes = [0; 16];
+    for index in 0..16 {
+        match &values[index] {
+            Value::U8(byte) => bytes[index] = *byte,
+            _ => return None,
+        }
+    }
+    Some(bytes)
+}
+
 // Hexadecimal digits, in five groups.
 fn write_uuid(value: &Value, out: &mut Writer) -> Result<bool, AllocError> {
-    let Value::Bytes(bytes) = value else {
+    let Value::Seq(values) = value else {
         return Ok(false);
     };
-    let Ok(uuid) = Uuid::from_slice(bytes) else {
+    let Some(bytes) = bytes_of(values) else {
+        return Ok(false);
+    };
+    let Ok(uuid) = Uuid::from_slice(&bytes) else {
         return Ok(false);
     };
     let mut buffer = Uuid::encode_buffer();
