@@ -17,13 +17,14 @@ import sys
 
 # The pages, and how many words each may have.
 WORDS = {
-    "README.md": 650,
+    "README.md": 770,
     "CHANGES.md": 1500,
     "CONTRIBUTING.md": 1200,
     "SECURITY.md": 350,
-    "docs/ARCHITECTURE.md": 1770,
+    "docs/ARCHITECTURE.md": 1800,
     "docs/CODERS.md": 2500,
-    "docs/DECISIONS.md": 3600,
+    "docs/COMMAND.md": 600,
+    "docs/DECISIONS.md": 3900,
     "docs/DIFFERENCES.md": 1500,
     "docs/EXAMPLES.md": 1200,
     "docs/FORMAT.md": 3600,
@@ -32,7 +33,7 @@ WORDS = {
     "docs/PROVING.md": 1050,
     "docs/SEALED.md": 1050,
     "docs/SPEED.md": 880,
-    "docs/TESTING.md": 1220,
+    "docs/TESTING.md": 1260,
     "docs/TOOLCHAIN.md": 1650,
 }
 WORDS_IN_ALL = 29200
@@ -41,8 +42,8 @@ HISTORY = "docs/HISTORY.md"
 COUNTED = "docs/TESTING.md"
 BEGIN, END = "<!-- scripts/pages.py --write -->\n", "<!-- end -->\n"
 BY_SCRIPT = re.compile(r"^<!-- scripts/.*?^<!-- end -->$", re.M | re.S)
-# What else is in docs/, which scripts/speed/picture.py reads and writes.
-NO_PAGES = ["docs/speed.svg", "docs/speed.tsv"]
+# What else is in docs/, which scripts/speed/picture.py reads and writes, and a picture that the command writes.
+NO_PAGES = ["docs/speed.svg", "docs/speed.tsv", "docs/columns.svg"]
 DATE = re.compile(r"\b20\d\d-\d\d-\d\d\b")
 BY_HAND = re.compile(r"\b\d[\d,]* (?:tests|edits|must-fail edits|functions|crates)\b")
 TEST = r"^#\[test\]"

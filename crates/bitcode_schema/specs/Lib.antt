@@ -1,0 +1,6 @@
+pub mod Halves
+pub mod Leaves
+pub mod Forms
+pub mod FormRows
+pub mod Depth
+pub mod Placing

@@ -1,0 +1,217 @@
+//! Schemas: trees that say which columns the bytes have, and what the values are called.
+ghost use Rattle.std.specs.Prelude.{◌≡◌, ◌&&◌, nat_le, length, true, IfOk, IfErr};
+ghost use Rattle.std.specs.List.{list_all};
+ghost use Rattle.bitcode_schema.specs.Depth.{depth, has_few_variants, IsAccepted, IsRefused, most_variants};
+
+use bitcode_memory::error::{Error, Reason};
+use bitcode_memory::refuse::err;
+
+/// The integer types. `usize` is `U64`, and `isize` is `I64`.
+#[derive(Clone, Copy, Debug, PartialEq, Eq)]
+pub enum IntKind {
+    U8,
+    U16,
+    U32,
+    U64,
+    U128,
+    I8,
+    I16,
+    I32,
+    I64,
+    I128,
+}
+
+/// The values at one place. A node says which columns they have, and which case of `Value` holds one of them.
+///
+/// | Node | Case |
+/// |---|---|
+/// | `Unit`, `Bool`, `Char`, `F32`, `F64`, `Str`, `Map` | the case of that name |
+/// | `Never` | none: there is no value |
+/// | `Int`, `NonZero` | `U8` to `I128`: that of the kind |
+/// | `Duration` | `Tuple`: a `U64` and a `U32` |
+/// | `Uuid` | `Seq`: 16 `U8` |
+/// | `List`, `Array` | `Seq` |
+/// | `Tuple`, `Struct` | `Tuple` |
+/// | `Option` | `Option` |
+/// | `Result` | `Enum`: variant 0 is `Ok`, and variant 1 is `Err` |
+/// | `Enum` | `Enum`, also with one variant, which has no column |
+///
+/// Sets are lists. Boxes and wrappers are the nodes of what they hold, and an address is what it is encoded as: an
+/// `Ipv4Addr` is `Int(U32)`.
+///
+/// ```
+/// let fields = vec![in alloc; SchemaNode::Bool, SchemaNode::Int(IntKind::U16)]?;
+/// let flags = SchemaNode::List(None, Box::new(alloc, SchemaNode::Tuple(fields))?);
+/// ```
+#[derive(Debug, Drop)]
+pub enum SchemaNode {
+    Unit,
+    /// An enum without variants.
+    Never,
+    Bool,
+    Char,
+    Int(IntKind),
+    /// An integer except 0.
+    NonZero(IntKind),
+    F32,
+    F64,
+    /// A text, of at most so many bytes if there is a capacity.
+    Str(Option<usize>),
+    /// Seconds, and nanoseconds of at most 999999999.
+    Duration,
+    Uuid,
+    /// A list or a set, of at most so many elements if there is a capacity.
+    List(Option<usize>, Box<SchemaNode>),
+    /// Keys and values.
+    Map(Box<SchemaNode>, Box<SchemaNode>),
+    /// So many elements.
+    Array(usize, Box<SchemaNode>),
+    Tuple(Vec<SchemaNode>),
+    /// Fields with their names, which change no byte.
+    Struct(Vec<(String, SchemaNode)>),
+    Option(Box<SchemaNode>),
+    Result(Box<SchemaNode>, Box<SchemaNode>),
+    /// Variants with their names, which change no byte, and the nodes of their payloads.
+    Enum(Vec<(String, SchemaNode)>),
+}
+
+/// The maximal number of nodes in one another.
+pub const MOST_NESTED: usize = 512;
+
+/// The maximal number of variants of an enum.
+pub const MOST_VARIANTS: usize = 256;
+
+impl SchemaNode {
+    // Whether at most so many nodes are in one another.
+    #[cycle(within)]
+    fn is_within(&self, left: usize) -> bool
+        ensures { result ≡ nat_le (depth self.now) left }
+    {
+        if left == 0 {
+            return false;
+        }
+        match self {
+            SchemaNode::List(_, element) => element.is_within(left - 1),
+            SchemaNode::Map(key, value) => key.is_within(left - 1) && value.is_within(left - 1),
+            SchemaNode::Array(_, element) => element.is_within(left - 1),
+            SchemaNode::Tuple(fields) => all_within(fields, left - 1),
+            SchemaNode::Struct(fields) => parts_within(fields, left - 1),
+            SchemaNode::Option(some) => some.is_within(left - 1),
+            SchemaNode::Result(ok, err) => ok.is_within(left - 1) && err.is_within(left - 1),
+            SchemaNode::Enum(variants) => parts_within(variants, left - 1),
+            _ => true,
+        }
+    }
+
+    // Whether each enum has at most 256 variants.
+    #[cycle(few)]
+    fn has_few_variants(&self) -> bool
+        ensures { result ≡ has_few_variants self.now }
+    {
+        match self {
+            SchemaNode::List(_, element) => element.has_few_variants(),
+            SchemaNode::Map(key, value) => key.has_few_variants() && value.has_few_variants(),
+            SchemaNode::Array(_, element) => element.has_few_variants(),
+            SchemaNode::Tuple(fields) => all_have_few(fields),
+            SchemaNode::Struct(fields) => parts_have_few(fields),
+            SchemaNode::Option(some) => some.has_few_variants(),
+            SchemaNode::Result(ok, err) => ok.has_few_variants() && err.has_few_variants(),
+            SchemaNode::Enum(variants) => variants_have_few(variants),
+            _ => true,
+        }
+    }
+}
+
+#[cycle(within)]
+fn all_within(nodes: &[SchemaNode], left: usize) -> bool
+    ensures { result ≡ list_all (λ node. nat_le (depth node) left) nodes.now }
+{
+    for node in nodes {
+        if !node.is_within(left) {
+            return false;
+        }
+    }
+    true
+}
+
+#[cycle(within)]
+fn parts_within(parts: &[(String, SchemaNode)], left: usize) -> bool
+    ensures { result ≡ list_all (λ part. nat_le (depth part.1) left) parts.now }
+{
+    for part in parts {
+        if !part.1.is_within(left) {
+            return false;
+        }
+    }
+    true
+}
+
+#[cycle(few)]
+fn all_have_few(nodes: &[SchemaNode]) -> bool
+    ensures { result ≡ list_all has_few_variants nodes.now }
+{
+    for node in nodes {
+        if !node.has_few_variants() {
+            return false;
+        }
+    }
+    true
+}
+
+#[cycle(few)]
+fn parts_have_few(parts: &[(String, SchemaNode)]) -> bool
+    ensures { result ≡ list_all (λ part. has_few_variants part.1) parts.now }
+{
+    for part in parts {
+        if !part.1.has_few_variants() {
+            return false;
+        }
+    }
+    true
+}
+
+#[cycle(few)]
+fn variants_have_few(variants: &[(String, SchemaNode)]) -> bool
+    ensures { result ≡ (nat_le (length variants.now) most_variants
+        && list_all (λ part. has_few_variants part.1) variants.now) }
+{
+    variants.len() <= MOST_VARIANTS && parts_have_few(variants)
+}
+
+/// The node of a whole value, which has few enough variants and nodes in one another.
+#[derive(Debug, Drop)]
+pub struct Schema {
+    root: SchemaNode,
+    ghost accepted: { IsAccepted root },
+}
+
+impl Schema {
+    /// Creates the schema of a node.
+    ///
+    /// Errors: `nested too deep` if more than 512 nodes are in one another, and else
+    /// `enums with more than 256 variants are unsupported` if an enum has more variants. After an error the node is
+    /// dropped.
+    ///
+    /// ```
+    /// let flags = Schema::new(SchemaNode::List(None, Box::new(alloc, SchemaNode::Bool)?))?;
+    /// ```
+    pub fn new(root: SchemaNode) -> Result<Schema, Error>
+        ensures kept { IfOk result (λ schema. (schema.root ≡ root) × IsAccepted root) }
+        ensures refused { IfErr result (λ e. IsRefused root e.reason) }
+    {
+        if !root.is_within(MOST_NESTED) {
+            return err(Reason::NestedTooDeep);
+        }
+        if !root.has_few_variants() {
+            return err(Reason::TooManyVariants);
+        }
+        Ok(Schema { root })
+    }
+
+    /// The node of the whole value.
+    pub fn root(&self) -> &SchemaNode
+        ensures { result.now ≡ self.now.root }
+    {
+        &self.root
+    }
+}
