@@ -36,7 +36,7 @@ WORDS = {
     "docs/TESTING.md": 1260,
     "docs/TOOLCHAIN.md": 1650,
 }
-WORDS_IN_ALL = 29200
+WORDS_IN_ALL = 30000
 COLUMNS = 120
 HISTORY = "docs/HISTORY.md"
 COUNTED = "docs/TESTING.md"
