@@ -9,7 +9,7 @@ use std::alloc::Global;
 /// schema's shape.
 ///
 /// Errors: `value is not of the shape` if the value does not fit the schema, and `out of memory` if an allocation
-/// fails. Nothing was written then.
+/// fails. Nothing was written then. What the bytes are is tested, and not proved.
 ///
 /// ```rust
 /// let pair = SchemaNode::Tuple(vec![in alloc; SchemaNode::Bool, SchemaNode::Int(IntKind::U16)]?);
