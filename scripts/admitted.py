@@ -22,7 +22,9 @@ CHECKED = """impl$life FromChecked<$parts, <$parts as HasDecoder<$input>>::Decod
 
     ghost admits = { admits $back (λ p. $of_parts) };
 
-    fn from_checked(fields: $parts) -> Option<Self> {
+    fn from_checked(fields: $parts) -> Option<Self>
+        ensures { MatchOption result (($of_tuple) ≡ false) (λ t. (($of_tuple) ≡ true) × ($lent ≡ fields)) }
+    {
         let $taken = fields;
         $constructor($arguments)
     }
@@ -230,6 +232,7 @@ def admitted(text, item):
         "name": name,
         "back": inside(list(check.kinds.values())),
         "of_parts": check.ghost(check.tree, dict(zip(check.kinds, places(len(fields))))),
+        "of_tuple": check.ghost(check.tree, dict(zip(check.kinds, places(len(fields), "fields")))),
         "of_fields": check.ghost(check.tree, by_name),
         "rust": check.rust(check.tree, {one: one for one in check.kinds}),
         "asked": check.rust(check.tree, by_name),
@@ -242,6 +245,7 @@ def admitted(text, item):
     life, parts, _, taken, built = converted.groups()
     data = DATA.search(text)
     row |= {"life": "<'a>", "input": "'a", "parts": parts, "taken": taken, "built": built, "ghost_parts": data[1][1:-1]}
+    row["lent"] = row["ghost_parts"].removeprefix("λ t. ")
 
     def filled(template):
         return re.sub(r"\$(\w+)", lambda found: row[found[1]], template)
@@ -268,11 +272,7 @@ def admitted(text, item):
         {"not"} if "not (" in row["of_parts"] else set()
     )
     signs |= {one for one in ("pos", "negsuc") if f"({one} " in row["of_parts"]}
-    text = with_names(
-        text,
-        "Rattle.std.specs.Prelude",
-        {"◌≡◌", "true", *signs, *(() if check.constructor else ("false", "MatchOption"))},
-    )
+    text = with_names(text, "Rattle.std.specs.Prelude", {"◌≡◌", "true", "false", "MatchOption", *signs})
     text = re.sub(r"(?m)^use bitcode::\{(.*)\};$", lambda found: uses(found[1]), text, count=1)
     return text if re.search(r"(?m)^(?!use ).*\bGlobal\b", text) else text.replace("use std::alloc::Global;\n", "")
 

@@ -48,7 +48,11 @@ impl<'a> FromChecked<(u16, u16), <(u16, u16) as HasDecoder<'a>>::Decoder> for Gr
     ghost admits = { admits (pair_back natural_back natural_back)
         (λ p. nat_lt 0 p.1 && nat_le p.0 p.1) };
 
-    fn from_checked(fields: (u16, u16)) -> Option<Self> {
+    fn from_checked(fields: (u16, u16)) -> Option<Self>
+        ensures { MatchOption result ((nat_lt 0 fields.1 && nat_le fields.0 fields.1) ≡ false)
+            (λ t. ((nat_lt 0 fields.1 && nat_le fields.0 fields.1) ≡ true)
+            × ((t.points, t.most) ≡ fields)) }
+    {
         let (points, most) = fields;
         Grade::new(points, most)
     }

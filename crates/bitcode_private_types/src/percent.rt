@@ -42,7 +42,10 @@ impl<'a> FromChecked<u8, <u8 as HasDecoder<'a>>::Decoder> for Percent {
 
     ghost admits = { admits natural_back (λ p. nat_le p 100) };
 
-    fn from_checked(fields: u8) -> Option<Self> {
+    fn from_checked(fields: u8) -> Option<Self>
+        ensures { MatchOption result ((nat_le fields 100) ≡ false)
+            (λ t. ((nat_le fields 100) ≡ true) × (t.hundredths ≡ fields)) }
+    {
         let hundredths = fields;
         Percent::new(hundredths)
     }

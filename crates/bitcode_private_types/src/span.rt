@@ -46,7 +46,10 @@ impl<'a> FromChecked<(u64, u64), <(u64, u64) as HasDecoder<'a>>::Decoder> for Sp
 
     ghost admits = { admits (pair_back natural_back natural_back) (λ p. nat_le p.0 p.1) };
 
-    fn from_checked(fields: (u64, u64)) -> Option<Self> {
+    fn from_checked(fields: (u64, u64)) -> Option<Self>
+        ensures { MatchOption result ((nat_le fields.0 fields.1) ≡ false)
+            (λ t. ((nat_le fields.0 fields.1) ≡ true) × ((t.start, t.end) ≡ fields)) }
+    {
         let (start, end) = fields;
         Span::new(start, end)
     }
