@@ -20,7 +20,7 @@ CHECKED = """impl$life FromChecked<$parts, <$parts as HasDecoder<$input>>::Decod
 
     ghost takes = { λ p. $of_parts };
 
-    ghost admits = { admits $back (λ p. $of_parts) };
+    ghost admits = { admits $typed_back (λ p. $of_parts) };
 
     fn from_checked(fields: $parts) -> Option<Self>
         ensures { MatchOption result (($of_tuple) ≡ false) (λ t. (($of_tuple) ≡ true) × ($lent ≡ fields)) }
@@ -35,7 +35,7 @@ CHECKED = """impl$life FromChecked<$parts, <$parts as HasDecoder<$input>>::Decod
 
     ghost admitted = { admits-takes $back (λ p. $of_parts) };
 
-    ghost free = { tt };
+    ghost free = { refl };
 }"""
 CONSTRUCTOR = """impl $name {
     /// Makes the value if `$rust`.
@@ -210,6 +210,11 @@ def inside(kinds):
     return kinds[0] if len(kinds) == 1 else f"({back(kinds)})"
 
 
+def typed(kind, field):
+    """How the field is read back, with what its values are."""
+    return f"({kind} {{is_value = ⟦<{of_text(field.type)} as Shaped>⟧.data.is_value}})"
+
+
 def check_of(item):
     """The check of the item, if it has one."""
     for text in item.attributes:
@@ -231,6 +236,7 @@ def admitted(text, item):
     row = {
         "name": name,
         "back": inside(list(check.kinds.values())),
+        "typed_back": inside([typed(kind, field) for kind, field in zip(check.kinds.values(), fields)]),
         "of_parts": check.ghost(check.tree, dict(zip(check.kinds, places(len(fields))))),
         "of_tuple": check.ghost(check.tree, dict(zip(check.kinds, places(len(fields), "fields")))),
         "of_fields": check.ghost(check.tree, by_name),
@@ -252,7 +258,7 @@ def admitted(text, item):
 
     text = CONVERSION.sub(lambda _: filled(CHECKED), text)
     made = f"(λ p h. (record {{ {data[2]}; checked = h }}, refl))"
-    law = f"admitted_data {data[1]} (λ p. {row['of_parts']}) {data[3]} tt {row['back']} (λ t. t.checked) {made} }}"
+    law = f"admitted_data {data[1]} (λ p. {row['of_parts']}) {data[3]} refl {row['back']} (λ t. t.checked) {made} }}"
     text = DATA.sub(lambda _: law, text)
     text = text.replace("    ghost of_fields = { λ d h. h };", "    ghost of_fields = { λ d h. h.0 };")
     text = with_invariant(text, item, check.ghost(check.tree, of_self))

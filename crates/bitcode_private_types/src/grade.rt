@@ -31,7 +31,7 @@ impl Grade {
 
 impl Shaped for Grade {
     ghost data = { admitted_data (λ t. (t.points, t.most)) (λ p. nat_lt 0 p.1 && nat_le p.0 p.1)
-        ⟦<(u16, u16) as Shaped>⟧.data tt (pair_back natural_back natural_back) (λ t. t.checked)
+        ⟦<(u16, u16) as Shaped>⟧.data refl (pair_back natural_back natural_back) (λ t. t.checked)
         (λ p h. (record { points = p.0; most = p.1; checked = h }, refl)) };
 
     fn told(&self) {
@@ -45,7 +45,9 @@ impl<'a> FromChecked<(u16, u16), <(u16, u16) as HasDecoder<'a>>::Decoder> for Gr
 
     ghost takes = { λ p. nat_lt 0 p.1 && nat_le p.0 p.1 };
 
-    ghost admits = { admits (pair_back natural_back natural_back)
+    ghost admits = { admits
+        (pair_back (natural_back {is_value = ⟦<u16 as Shaped>⟧.data.is_value})
+        (natural_back {is_value = ⟦<u16 as Shaped>⟧.data.is_value}))
         (λ p. nat_lt 0 p.1 && nat_le p.0 p.1) };
 
     fn from_checked(fields: (u16, u16)) -> Option<Self>
@@ -64,7 +66,7 @@ impl<'a> FromChecked<(u16, u16), <(u16, u16) as HasDecoder<'a>>::Decoder> for Gr
     ghost admitted = { admits-takes (pair_back natural_back natural_back)
         (λ p. nat_lt 0 p.1 && nat_le p.0 p.1) };
 
-    ghost free = { tt };
+    ghost free = { refl };
 }
 
 impl HasField<0> for Grade {

@@ -27,7 +27,7 @@ impl Percent {
 }
 
 impl Shaped for Percent {
-    ghost data = { admitted_data (λ t. t.hundredths) (λ p. nat_le p 100) ⟦<u8 as Shaped>⟧.data tt
+    ghost data = { admitted_data (λ t. t.hundredths) (λ p. nat_le p 100) ⟦<u8 as Shaped>⟧.data refl
         natural_back (λ t. t.checked) (λ p h. (record { hundredths = p; checked = h }, refl)) };
 
     fn told(&self) {
@@ -40,7 +40,8 @@ impl<'a> FromChecked<u8, <u8 as HasDecoder<'a>>::Decoder> for Percent {
 
     ghost takes = { λ p. nat_le p 100 };
 
-    ghost admits = { admits natural_back (λ p. nat_le p 100) };
+    ghost admits = { admits (natural_back {is_value = ⟦<u8 as Shaped>⟧.data.is_value})
+        (λ p. nat_le p 100) };
 
     fn from_checked(fields: u8) -> Option<Self>
         ensures { MatchOption result ((nat_le fields 100) ≡ false)
@@ -56,7 +57,7 @@ impl<'a> FromChecked<u8, <u8 as HasDecoder<'a>>::Decoder> for Percent {
 
     ghost admitted = { admits-takes natural_back (λ p. nat_le p 100) };
 
-    ghost free = { tt };
+    ghost free = { refl };
 }
 
 impl HasField<0> for Percent {

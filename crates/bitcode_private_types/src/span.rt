@@ -30,7 +30,7 @@ impl Span {
 
 impl Shaped for Span {
     ghost data = { admitted_data (λ t. (t.start, t.end)) (λ p. nat_le p.0 p.1)
-        ⟦<(u64, u64) as Shaped>⟧.data tt (pair_back natural_back natural_back) (λ t. t.checked)
+        ⟦<(u64, u64) as Shaped>⟧.data refl (pair_back natural_back natural_back) (λ t. t.checked)
         (λ p h. (record { start = p.0; end = p.1; checked = h }, refl)) };
 
     fn told(&self) {
@@ -44,7 +44,9 @@ impl<'a> FromChecked<(u64, u64), <(u64, u64) as HasDecoder<'a>>::Decoder> for Sp
 
     ghost takes = { λ p. nat_le p.0 p.1 };
 
-    ghost admits = { admits (pair_back natural_back natural_back) (λ p. nat_le p.0 p.1) };
+    ghost admits = { admits
+        (pair_back (natural_back {is_value = ⟦<u64 as Shaped>⟧.data.is_value})
+        (natural_back {is_value = ⟦<u64 as Shaped>⟧.data.is_value})) (λ p. nat_le p.0 p.1) };
 
     fn from_checked(fields: (u64, u64)) -> Option<Self>
         ensures { MatchOption result ((nat_le fields.0 fields.1) ≡ false)
@@ -60,7 +62,7 @@ impl<'a> FromChecked<(u64, u64), <(u64, u64) as HasDecoder<'a>>::Decoder> for Sp
 
     ghost admitted = { admits-takes (pair_back natural_back natural_back) (λ p. nat_le p.0 p.1) };
 
-    ghost free = { tt };
+    ghost free = { refl };
 }
 
 impl HasField<0> for Span {
