@@ -1,4 +1,4 @@
-"""The schema of declarations, or of a type: what `scripts/new_type --schema` writes (docs/COMMAND.md)."""
+"""The schema of declarations, or of a type: what `scripts/new_type --schema` writes."""
 
 import json
 
