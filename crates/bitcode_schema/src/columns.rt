@@ -1,7 +1,7 @@
 //! Where each column of an input is, and how it is packed.
 use crate::columns::part::{ColumnFault, ColumnPart, PartKind};
 use crate::columns::survey::Survey;
-use crate::schema::{IntKind, Named, Schema, SchemaNode};
+use crate::schema::{IntKind, Schema, SchemaNode};
 use bitcode_coder::bool::BoolDecoder;
 use bitcode_floats::float32::F32Decoder;
 use bitcode_floats::float64::F64Decoder;
@@ -214,13 +214,13 @@ fn survey_tuples(
 #[cycle(survey)]
 fn survey_structs(
     survey: &mut Survey<'_>,
-    fields: &[Named],
+    fields: &[(String, SchemaNode)],
     k: usize,
     path: &str,
 ) -> Result<(), ColumnFault> {
     for field in fields {
-        let below = survey.below(path, &field.name)?;
-        survey_node(survey, &field.node, k, &below)?;
+        let below = survey.below(path, &field.0)?;
+        survey_node(survey, &field.1, k, &below)?;
     }
     Ok(())
 }
@@ -258,15 +258,15 @@ fn survey_results(
 #[cycle(survey)]
 fn survey_enums(
     survey: &mut Survey<'_>,
-    variants: &[Named],
+    variants: &[(String, SchemaNode)],
     k: usize,
     path: &str,
 ) -> Result<(), ColumnFault> {
     match variants {
         [] => survey_never(survey, k, path),
         [only] => {
-            let below = survey.below(path, &only.name)?;
-            survey_node(survey, &only.node, k, &below)
+            let below = survey.below(path, &only.0)?;
+            survey_node(survey, &only.1, k, &below)
         }
         _ => {
             let counts = survey.variants(path, k, variants.len())?;
@@ -279,15 +279,15 @@ fn survey_enums(
 #[cycle(survey)]
 fn survey_payloads(
     survey: &mut Survey<'_>,
-    variants: &[Named],
+    variants: &[(String, SchemaNode)],
     counts: &[usize; 256],
     path: &str,
 ) -> Result<(), ColumnFault> {
     for i in 0..variants.len() {
         let variant = &variants[i];
-        let below = survey.below(path, &variant.name)?;
+        let below = survey.below(path, &variant.0)?;
         let k = if i < 256 { counts[i] } else { 0 };
-        survey_node(survey, &variant.node, k, &below)?;
+        survey_node(survey, &variant.1, k, &below)?;
     }
     Ok(())
 }
