@@ -15,7 +15,6 @@ use std::num::{
     NonZeroU64, NonZeroU128,
 };
 
-mod choices;
 mod packing;
 pub mod part;
 mod survey;
