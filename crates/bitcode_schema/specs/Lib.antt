@@ -1,0 +1,9 @@
+pub mod Halves
+pub mod Leaves
+pub mod Forms
+pub mod FormRows
+pub mod Depth
+pub mod Reading
+pub mod Views
+pub mod Writing
+pub mod Choosing

@@ -113,9 +113,7 @@ fn survey_node(
         SchemaNode::Str(capacity) => survey.texts(path, k, *capacity),
         SchemaNode::Duration => survey_durations(survey, k, path),
         SchemaNode::Uuid => survey_uuids(survey, k, path),
-        SchemaNode::List(capacity, element) => {
-            survey_lists(survey, *capacity, element, k, path)
-        }
+        SchemaNode::List(capacity, element) => { survey_lists(survey, *capacity, element, k, path) }
         SchemaNode::Map(key, value) => survey_maps(survey, key, value, k, path),
         SchemaNode::Array(count, element) => survey_arrays(survey, *count, element, k, path),
         SchemaNode::Tuple(nodes) => survey_tuples(survey, nodes, k, path),

@@ -10,7 +10,6 @@ pub mod leaves;
 pub mod limits;
 pub mod read;
 pub mod schema;
-pub mod write;
-
 #[cfg(test)]
 mod tests;
+pub mod write;

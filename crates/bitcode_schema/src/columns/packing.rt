@@ -68,7 +68,11 @@ pub fn packing_of_bytes(entries: usize, piece: &[u8]) -> Packing {
             by: u128::from(*least),
             within,
         },
-        _ => if level == 0 { Packing::Raw } else { Packing::Within(within) },
+        _ => if level == 0 {
+            Packing::Raw
+        } else {
+            Packing::Within(within)
+        },
     }
 }
 

@@ -1,8 +1,8 @@
 //! Reading the columns of an input one after another, and noting where each is.
+use crate::choices::read_variants;
 use crate::columns::packing::{
     packing_of_bytes, packing_of_ints, packing_of_lengths, packing_of_variants,
 };
-use crate::choices::read_variants;
 use crate::columns::part::{ColumnFault, ColumnPart, Packing, PartKind};
 use crate::schema::IntKind;
 use bitcode_coder::coder::View;
@@ -282,14 +282,7 @@ impl<'a> Survey<'a> {
     ) -> Result<[usize; 256], ColumnFault> {
         let before = self.rest;
         let mut entries = CowSlice::new(self.alloc);
-        match read_variants(
-            self.alloc,
-            &mut self.rest,
-            k,
-            variants,
-            &mut entries,
-            false,
-        ) {
+        match read_variants(self.alloc, &mut self.rest, k, variants, &mut entries, false) {
             Ok(_) => {
                 let counts = histogram(entries.as_slice());
                 let packing = packing_of_variants(variants);
