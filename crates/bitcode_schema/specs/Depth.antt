@@ -1,8 +1,10 @@
 -- Which nodes a schema accepts: enums of at most 256 variants, and at most 512 nodes in one another.
-use Rattle.std.specs.Prelude.{ℕ, ◌+◌, ◌≤◌, Bool, true, ◌&&◌, max, nat_le, List, [], ◌∷◌, length, map}
+use Rattle.std.specs.Prelude.{◌≡◌, ℕ, ◌+◌, ◌<◌, ◌≤◌, Bool, true, false, ◌&&◌, ◌⊎◌, max, nat_le, List, [], ◌∷◌, length, map}
 use Rattle.std.specs.List.{list_all}
 use Rattle.bitcode_schema.specs.Forms.{parts_of}
-use Rattle.bitcode_schema.specs.declared.schema.SchemaNode.{SchemaNode, fold-SchemaNode}
+use Rattle.bitcode_memory.specs.declared.error.Reason.{Reason}
+use Rattle.bitcode_memory.specs.declared.error.Reason.TheVariants.{NestedTooDeep, TooManyVariants}
+use Rattle.bitcode_schema.specs.declared.schema.SchemaNode.{SchemaNode, fold-SchemaNode, out-SchemaNode}
 use Rattle.bitcode_schema.specs.declared.schema.SchemaNode.TheOpen.{SchemaNode-F}
 
 abbrev pub greatest : List ℕ → ℕ
@@ -46,3 +48,26 @@ few_variants_step _ = true
 -- whether each enum in the node has at most 256 variants
 abbrev pub has_few_variants : SchemaNode → Bool
 has_few_variants = fold-SchemaNode Bool few_variants_step
+
+-- ---- the nodes that a schema accepts
+
+pub record IsAccepted (node : SchemaNode) : Type 0 where
+  pub nested : depth node ≤ greatest_depth
+  pub variants : has_few_variants node ≡ true
+
+-- why a schema refuses a node
+abbrev pub IsRefused : SchemaNode → Reason → Type 0
+IsRefused node reason =
+    ((reason ≡ NestedTooDeep) × (greatest_depth < depth node))
+    ⊎ ((reason ≡ TooManyVariants) × (depth node ≤ greatest_depth) × (has_few_variants node ≡ false))
+
+-- ---- the parts of a node
+
+-- the nodes of the fields of a tuple or struct
+abbrev pub fields_step : SchemaNode-F SchemaNode → List SchemaNode
+fields_step (SchemaNode-F.Tuple fields) = fields.items
+fields_step (SchemaNode-F.Struct fields) = parts_of fields.items
+fields_step _ = []
+
+abbrev pub fields_of : SchemaNode → List SchemaNode
+fields_of node = fields_step (out-SchemaNode node)

@@ -5,7 +5,6 @@ use Rattle.bitcode_shapes.specs.Checked.{nanosecond_shape, nonzero_shape, char_s
 use Rattle.bitcode_shapes.specs.Datum.{Datum, unit, list, choice, pair, data_of}
 use Rattle.bitcode_shapes.specs.Ints.{int_shape}
 use Rattle.bitcode_shapes.specs.Shape.{Shape, Shapes, unit_shape, never_shape, bool_shape, float_shape, text_shape, seq_shape, map_shape, array_shape, pair_shape, choice_shape, no_shapes, shape_and}
-use Rattle.bitcode_coder.specs.Spelling.{natural}
 use Rattle.bitcode_untyped.specs.Leaves.{Leaf, entry_of}
 use Rattle.bitcode_untyped.specs.declared.value.Value.{Value, out-Value}
 use Rattle.bitcode_untyped.specs.declared.value.Value.TheOpen.{Value-F}
@@ -91,7 +90,6 @@ pub record Form : Type 0 where
   pub shape : Shape
   pub content : Content
 
--- the form of the part that has the second of two components
 abbrev pub shapes_in : List Form → List Shape
 shapes_in forms = map (λ form. form.shape) forms
 
@@ -131,7 +129,7 @@ shape_step (SchemaNode-F.Enum variants) = enum_shape (shapes_in (parts_of varian
 abbrev pub content_step : SchemaNode-F Form → Value-F Value → Option Datum
 content_step SchemaNode-F.Unit Value-F.Unit = Some unit
 content_step SchemaNode-F.Duration (Value-F.Tuple fields) = fields_content span_contents fields.items
-content_step SchemaNode-F.Uuid (Value-F.Bytes bytes) = Some (list (data_of (map natural bytes.items)))
+content_step SchemaNode-F.Uuid (Value-F.Seq values) = list_content (leaf_content (Some (int_leaf int.U8))) values.items
 content_step (SchemaNode-F.List capacity element) (Value-F.Seq values) = list_content element.value.content values.items
 content_step (SchemaNode-F.Map key value) (Value-F.Map pairs) = list_content (pair_content key.value.content value.value.content) pairs.items
 content_step (SchemaNode-F.Array count element) (Value-F.Seq values) = list_content element.value.content values.items
@@ -143,8 +141,12 @@ content_step (SchemaNode-F.Result ok err) (Value-F.Enum i payload) = choice_cont
 content_step (SchemaNode-F.Enum variants) (Value-F.Enum i payload) = enum_content (contents_in (parts_of variants.items)) i payload.value
 content_step node value = datum_in (case_of node) (entry_of value)
 
+-- the datum of a value, if the value has the form of the node
+abbrev pub node_content : SchemaNode-F Form → Content
+node_content node value = content_step node (out-Value value)
+
 abbrev pub form_step : SchemaNode-F Form → Form
-form_step node = record { shape = shape_step node; content = λ value. content_step node (out-Value value) }
+form_step node = record { shape = shape_step node; content = node_content node }
 
 abbrev pub form_of : SchemaNode → Form
 form_of = fold-SchemaNode Form form_step

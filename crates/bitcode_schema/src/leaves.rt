@@ -2,9 +2,7 @@
 use crate::read::{Found, Pass};
 use bitcode_coder::coder::{Decoder, View};
 use bitcode_memory::error::Error;
-use bitcode_serde::case::Case;
 use bitcode_shapes::nanosecond::Nanosecond;
-use bitcode_shapes::no_variants::{Absent, NoVariants};
 use bitcode_shapes::shaped::Shaped;
 use bitcode_untyped::value::Value;
 use std::alloc::Global;
@@ -22,9 +20,93 @@ pub trait Becomes<T: Shaped> {
 /// The case of the type.
 pub struct OfCase;
 
-impl<T: Case> Becomes<T> for OfCase {
-    fn value(_alloc: Global, t: T) -> Result<Value, Error> {
-        Ok(t.into_value())
+impl Becomes<bool> for OfCase {
+    fn value(_alloc: Global, t: bool) -> Result<Value, Error> {
+        Ok(Value::Bool(t))
+    }
+}
+
+impl Becomes<char> for OfCase {
+    fn value(_alloc: Global, t: char) -> Result<Value, Error> {
+        Ok(Value::Char(t))
+    }
+}
+
+impl Becomes<u8> for OfCase {
+    fn value(_alloc: Global, t: u8) -> Result<Value, Error> {
+        Ok(Value::U8(t))
+    }
+}
+
+impl Becomes<u16> for OfCase {
+    fn value(_alloc: Global, t: u16) -> Result<Value, Error> {
+        Ok(Value::U16(t))
+    }
+}
+
+impl Becomes<u32> for OfCase {
+    fn value(_alloc: Global, t: u32) -> Result<Value, Error> {
+        Ok(Value::U32(t))
+    }
+}
+
+impl Becomes<u64> for OfCase {
+    fn value(_alloc: Global, t: u64) -> Result<Value, Error> {
+        Ok(Value::U64(t))
+    }
+}
+
+impl Becomes<u128> for OfCase {
+    fn value(_alloc: Global, t: u128) -> Result<Value, Error> {
+        Ok(Value::U128(t))
+    }
+}
+
+impl Becomes<i8> for OfCase {
+    fn value(_alloc: Global, t: i8) -> Result<Value, Error> {
+        Ok(Value::I8(t))
+    }
+}
+
+impl Becomes<i16> for OfCase {
+    fn value(_alloc: Global, t: i16) -> Result<Value, Error> {
+        Ok(Value::I16(t))
+    }
+}
+
+impl Becomes<i32> for OfCase {
+    fn value(_alloc: Global, t: i32) -> Result<Value, Error> {
+        Ok(Value::I32(t))
+    }
+}
+
+impl Becomes<i64> for OfCase {
+    fn value(_alloc: Global, t: i64) -> Result<Value, Error> {
+        Ok(Value::I64(t))
+    }
+}
+
+impl Becomes<i128> for OfCase {
+    fn value(_alloc: Global, t: i128) -> Result<Value, Error> {
+        Ok(Value::I128(t))
+    }
+}
+
+impl Becomes<f32> for OfCase {
+    fn value(_alloc: Global, t: f32) -> Result<Value, Error> {
+        Ok(Value::F32(t))
+    }
+}
+
+impl Becomes<f64> for OfCase {
+    fn value(_alloc: Global, t: f64) -> Result<Value, Error> {
+        Ok(Value::F64(t))
+    }
+}
+
+impl Becomes<String> for OfCase {
+    fn value(_alloc: Global, t: String) -> Result<Value, Error> {
+        Ok(Value::Str(t))
     }
 }
 
@@ -34,41 +116,6 @@ pub struct OfUnit;
 impl Becomes<()> for OfUnit {
     fn value(_alloc: Global, _t: ()) -> Result<Value, Error> {
         Ok(Value::Unit)
-    }
-}
-
-/// A char.
-pub struct OfChar;
-
-impl Becomes<char> for OfChar {
-    fn value(_alloc: Global, t: char) -> Result<Value, Error> {
-        Ok(Value::Char(t))
-    }
-}
-
-/// A type without values.
-#[derive(Drop)]
-pub enum Void {}
-
-impl NoVariants for Void {
-    ghost never = { λ t P h. elim t [ ] };
-}
-
-/// No value.
-pub struct OfAbsent;
-
-impl Becomes<Absent<Void>> for OfAbsent {
-    fn value(_alloc: Global, _t: Absent<Void>) -> Result<Value, Error> {
-        Ok(Value::Unit)
-    }
-}
-
-/// The bytes of an array.
-pub struct OfBytes;
-
-impl Becomes<[u8; 16]> for OfBytes {
-    fn value(alloc: Global, t: [u8; 16]) -> Result<Value, Error> {
-        Ok(Value::Bytes(Vec::from_slice(alloc, t.as_slice())?))
     }
 }
 

@@ -10,6 +10,4 @@ pub mod leaves;
 pub mod limits;
 pub mod read;
 pub mod schema;
-#[cfg(test)]
-mod tests;
 pub mod write;

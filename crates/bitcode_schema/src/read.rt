@@ -1,16 +1,13 @@
 //! Passes over the columns of a node.
 use crate::choices::{deal, read_variants, times};
 use crate::gather::{arrays, lists, maps, only_variants, put_field, rows, tuples};
-use crate::leaves::{
-    OfAbsent, OfBytes, OfCase, OfChar, OfNonZero, OfSpan, OfUnit, Void, read_leaf,
-};
+use crate::leaves::{OfCase, OfNonZero, OfSpan, OfUnit, read_leaf};
 use crate::limits::any_over;
 use crate::schema::{IntKind, SchemaNode};
 use bitcode_coder::bool::BoolDecoder;
 use bitcode_coder::coder::both;
 use bitcode_coder::length::LengthDecoder;
 use bitcode_coder::str::StrDecoder;
-use bitcode_derive::absent::AbsentDecoder;
 use bitcode_floats::float32::F32Decoder;
 use bitcode_floats::float64::F64Decoder;
 use bitcode_ints::checked::CheckedIntDecoder;
@@ -19,10 +16,8 @@ use bitcode_memory::consume::mul_length;
 use bitcode_memory::error::{Error, Reason};
 use bitcode_memory::fast::CowSlice;
 use bitcode_memory::refuse::err;
-use bitcode_parts::arrays::ArrayDecoder;
 use bitcode_parts::empty::EmptyCoder;
 use bitcode_shapes::nanosecond::Nanosecond;
-use bitcode_shapes::no_variants::Absent;
 use bitcode_tuples::decoder::TupleDecoder;
 use bitcode_untyped::value::Value;
 use std::alloc::Global;
@@ -113,6 +108,33 @@ fn read_nonzeros<'a>(
     }
 }
 
+// Reads `k` data of a type without values: none.
+fn read_nothing(alloc: Global, k: usize) -> Result<Found, Error> {
+    if k > 0 {
+        return err(Reason::InvalidEnumVariant);
+    }
+    Ok(Found {
+        values: VecDeque::new(alloc),
+        written: true,
+    })
+}
+
+// Reads `k` arrays of 16 bytes.
+fn read_uuids<'a>(
+    alloc: Global,
+    pass: Pass,
+    input: &mut &'a [u8],
+    k: usize,
+) -> Result<Found, Error> {
+    let count = mul_length(k, 16)?;
+    let found = read_leaf::<u8, IntDecoder<u8>, OfCase>(alloc, pass, input, count)?;
+    let values = arrays(alloc, 16, k, found.values, pass.make)?;
+    Ok(Found {
+        values,
+        written: found.written,
+    })
+}
+
 // Reads `k` texts of at most so many bytes.
 fn read_texts<'a>(
     alloc: Global,
@@ -140,11 +162,9 @@ pub fn read<'a>(
 ) -> Result<Found, Error> {
     match node {
         SchemaNode::Unit => read_leaf::<(), EmptyCoder, OfUnit>(alloc, pass, input, k),
-        SchemaNode::Never => read_leaf::<Absent<Void>, AbsentDecoder, OfAbsent>(
-            alloc, pass, input, k,
-        ),
+        SchemaNode::Never => read_nothing(alloc, k),
         SchemaNode::Bool => read_leaf::<bool, BoolDecoder, OfCase>(alloc, pass, input, k),
-        SchemaNode::Char => read_leaf::<char, CheckedIntDecoder<char, u32>, OfChar>(
+        SchemaNode::Char => read_leaf::<char, CheckedIntDecoder<char, u32>, OfCase>(
             alloc, pass, input, k,
         ),
         SchemaNode::Int(kind) => read_ints(alloc, *kind, pass, input, k),
@@ -158,9 +178,7 @@ pub fn read<'a>(
             TupleDecoder<IntDecoder<u64>, CheckedIntDecoder<Nanosecond, u32>>,
             OfSpan,
         >(alloc, pass, input, k),
-        SchemaNode::Uuid => read_leaf::<[u8; 16], ArrayDecoder<IntDecoder<u8>, 16>, OfBytes>(
-            alloc, pass, input, k,
-        ),
+        SchemaNode::Uuid => read_uuids(alloc, pass, input, k),
         SchemaNode::List(None, element) => read_lists(alloc, element, pass, input, k),
         SchemaNode::List(Some(limit), element) => read_limited(
             alloc, *limit, element, pass, input, k,
@@ -173,7 +191,7 @@ pub fn read<'a>(
         SchemaNode::Result(_, _) => read_choices(alloc, node, 2, false, pass, input, k),
         SchemaNode::Enum(variants) => {
             if variants.len() == 0 {
-                return read_leaf::<Absent<Void>, AbsentDecoder, OfAbsent>(alloc, pass, input, k);
+                return read_nothing(alloc, k);
             }
             if variants.len() == 1 {
                 return read_only(alloc, node, pass, input, k);

@@ -1,1 +1,0 @@
--- Worked rows: the shapes of nodes.
