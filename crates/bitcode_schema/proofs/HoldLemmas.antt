@@ -4,7 +4,7 @@ use Rattle.std.specs.List.{flat_map}
 use Rattle.bitcode_shapes.specs.Datum.{Datum, list, data_of, pair}
 use Rattle.bitcode_shapes.specs.LawfulLists.{zip_length}
 use Rattle.bitcode_schema.specs.Forms.{Content, changed, both, contents, contents_each, list_content}
-use Rattle.bitcode_schema.specs.Views.{Hold, HasOther}
+use Rattle.bitcode_schema.specs.Views.{Hold, HasOther, under}
 
 pub some_same : {A : Type 0} {x y : A} → Some x ≡ Some y → x ≡ y
 some_same e = cc
@@ -37,7 +37,7 @@ module _ {A B : Type 0} (view : A → Option B) where
   hold_once [] (u ∷ us) vs h k = absurd h
   hold_once (x ∷ xs) [] vs h k = absurd h
   hold_once (x ∷ xs) (u ∷ us) [] h k = absurd k
-  hold_once (x ∷ xs) (u ∷ us) (v ∷ vs) h k = ap₂ (λ a as. a ∷ as) (some_same (sym h.0 ∙ k.0)) (hold_once xs us vs h.1 k.1)
+  hold_once (x ∷ xs) (u ∷ us) (v ∷ vs) h k = ap₂ (λ a rest. a ∷ rest) (some_same (sym h.0 ∙ k.0)) (hold_once xs us vs h.1 k.1)
 
   pub hold_length : (xs : List A) (us : List B) → Hold view xs us → length xs ≡ length us
   hold_length xs us h = zip_length (λ x u. view x ≡ Some u) xs us h
@@ -69,10 +69,6 @@ map_hold view f (x ∷ xs) [] h = absurd h
 map_hold view f (x ∷ xs) (u ∷ us) h = (h.0, map_hold view f xs us h.1)
 
 -- ---- one view after another
-
-abbrev pub under : {B C : Type 0} → Option B → (B → Option C) → Option C
-under (Some b) f = f b
-under None f = None
 
 module _ {A B C : Type 0} (view : A → Option B) (f : B → Option C) where
   pub hold_under : (xs : List A) (us : List B) (ds : List C) → Hold view xs us → Hold f us ds → Hold (λ x. under (view x) f) xs ds

@@ -6,12 +6,11 @@ use Rattle.bitcode_shapes.specs.Shape.{Shape, unit_shape, never_shape, array_sha
 use Rattle.bitcode_untyped.specs.declared.value.Value.{Value, out-Value}
 use Rattle.bitcode_untyped.specs.declared.value.Value.TheOpen.{Value-F}
 use Rattle.bitcode_schema.specs.Forms.{Form, Content, changed, list_content, pair_content, content_step, form_step, form_of, shape_of, content_under}
-use Rattle.bitcode_schema.specs.Views.{seq_items, map_pairs, elements_of, pairs_of}
+use Rattle.bitcode_schema.specs.Views.{seq_items, map_pairs, elements_of, pairs_of, under}
 use Rattle.bitcode_schema.specs.declared.schema.SchemaNode.{SchemaNode}
 use Rattle.bitcode_schema.specs.declared.schema.SchemaNode.TheOpen.{SchemaNode-F}
 use Rattle.bitcode_schema.specs.declared.schema.SchemaNode.TheFolds.{fold-roll-SchemaNode}
 use Rattle.bitcode_schema.specs.declared.schema.SchemaNode.TheVariants as node
-use Rattle.bitcode_schema.proofs.HoldLemmas.{under}
 
 -- ---- lists
 

@@ -3,9 +3,9 @@ use Rattle.std.proofs.Common.{◌≡◌, ◌⊎◌, inl, inr, ℕ, Option, List,
 use Rattle.bitcode_memory.specs.declared.error.Reason.{Reason}
 use Rattle.bitcode_shapes.specs.Datum.{Datum}
 use Rattle.bitcode_shapes.specs.Shape.{Shape}
-use Rattle.bitcode_schema.specs.Views.{Hold, HasOther}
+use Rattle.bitcode_schema.specs.Views.{Hold, HasOther, under}
 use Rattle.bitcode_schema.specs.Writing.{AreOf, Writes, HasStranger, IsRefusal}
-use Rattle.bitcode_schema.proofs.HoldLemmas.{hold_same, hold_map, map_hold, hold_once, under, hold_under, hold_between}
+use Rattle.bitcode_schema.proofs.HoldLemmas.{hold_same, hold_map, map_hold, hold_once, hold_under, hold_between}
 
 pub refusal_as : {S T : Type 0} (reason : Reason) → (S → T) → IsRefusal reason S → IsRefusal reason T
 refusal_as reason f (inl memory) = inl memory

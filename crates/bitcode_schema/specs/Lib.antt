@@ -6,3 +6,4 @@ pub mod Reading
 pub mod Views
 pub mod Writing
 pub mod Choosing
+pub mod Cases

@@ -64,6 +64,11 @@ enum_of value = enum_held (out-Value value)
 
 -- ---- of each of several values
 
+-- what is seen in what an item holds
+abbrev pub under : {B C : Type 0} → Option B → (B → Option C) → Option C
+under (Some b) f = f b
+under None f = None
+
 -- each value has what its place in the list says
 abbrev pub Hold : {A B : Type 0} → (A → Option B) → List A → List B → Type 0
 Hold view values held = AllZip (λ value one. view value ≡ Some one) values held

@@ -96,8 +96,9 @@ impl SchemaNode {
             SchemaNode::Struct(fields) => parts_have_few(fields),
             SchemaNode::Option(some) => some.has_few_variants(),
             SchemaNode::Result(ok, err) => ok.has_few_variants() && err.has_few_variants(),
-            SchemaNode::Enum(variants) => variants.len() <= MOST_VARIANTS
-                && parts_have_few(variants),
+            SchemaNode::Enum(variants) => variants.len() <= MOST_VARIANTS && parts_have_few(
+                variants,
+            ),
             _ => true,
         }
     }
@@ -131,8 +132,20 @@ impl SchemaNode {
     /// The node of the payload of a variant, unless it is the unit of `None`.
     pub(crate) fn payload(&self, i: usize) -> Option<&SchemaNode> {
         match self {
-            SchemaNode::Option(some) => { if i == 1 { Some(some) } else { None } }
-            SchemaNode::Result(ok, err) => { if i == 0 { Some(ok) } else { Some(err) } }
+            SchemaNode::Option(some) => {
+                if i == 1 {
+                    Some(some)
+                } else {
+                    None
+                }
+            }
+            SchemaNode::Result(ok, err) => {
+                if i == 0 {
+                    Some(ok)
+                } else {
+                    Some(err)
+                }
+            }
             SchemaNode::Enum(variants) => match variants.get(i) {
                 Some(variant) => Some(&variant.1),
                 None => None,

@@ -1,43 +1,14 @@
-//! Writing single columns: values of one case, lengths, variants and bytes.
-ghost use Rattle.std.specs.Prelude.{◌≡◌, ◌≢◌, ◌++◌, ◌<◌, ◌≤◌, All, length, map, OnOk, IfErr};
-ghost use Rattle.std.specs.List.{AllByRecursion};
+//! Writing single columns: lengths and variants.
+ghost use Rattle.std.specs.Prelude.{◌≡◌, ◌++◌, ◌<◌, ◌≤◌, All, length, map, OnOk, IfErr};
 ghost use Rattle.bitcode_memory.specs.declared.error.Reason.TheVariants.{OutOfMemory};
 ghost use Rattle.bitcode_coder.specs.LengthColumn.{length_bytes};
-ghost use Rattle.bitcode_coder.specs.Spelling.{column_bytes};
 ghost use Rattle.bitcode_columns.specs.VariantColumn.{variant_text};
-ghost use Rattle.bitcode_serde.specs.Leaves.{IsEntryIn, HasOther};
-ghost use Rattle.bitcode_serde.specs.ReadColumns.{kind_of};
-ghost use Rattle.bitcode_untyped.specs.View.{datum_of};
-ghost use Rattle.bitcode_schema.specs.Writing.{IsRefusal};
 
+use bitcode_coder::coder::Buffer;
+use bitcode_coder::length::LengthEncoder;
 use bitcode_columns::pack::pack_bytes_less_than;
 use bitcode_memory::error::Error;
-use bitcode_serde::column::{ColumnKind, WrittenColumn};
-use bitcode_serde::write_column::Entry;
-use bitcode_untyped::value::Value;
 use std::alloc::Global;
-
-/// Appends the column of values of one case.
-pub fn write_entries(
-    alloc: Global,
-    kind: ColumnKind,
-    values: &[&Value],
-    out: &mut Vec<u8>,
-) -> Result<(), Error>
-    requires { kind ≢ ColumnKind.Lengths }
-    ensures written { OnOk result
-        (out.new.items ≡ out.old.items ++ column_bytes (kind_of kind)
-        (map datum_of (map (λ v. v.now) values.now))) }
-    ensures entries { OnOk result (AllByRecursion (IsEntryIn kind) (map (λ v. v.now) values.now)) }
-    ensures refused { IfErr result
-        (λ e. IsRefusal e.reason (HasOther kind (map (λ v. v.now) values.now))) }
-{
-    let mut column = WrittenColumn::of(kind, alloc);
-    for value in values {
-        column.push_one(kind, value)?;
-    }
-    column.collect_into(out)
-}
 
 /// Appends the column of the lengths of lists.
 pub fn write_lengths<T>(alloc: Global, lists: &[&[T]], out: &mut Vec<u8>) -> Result<(), Error>
@@ -46,9 +17,10 @@ pub fn write_lengths<T>(alloc: Global, lists: &[&[T]], out: &mut Vec<u8>) -> Res
         (map (λ l. length l) (map (λ l. l.now) lists.now))) }
     ensures refused { IfErr result (λ e. e.reason ≡ OutOfMemory) }
 {
-    let mut column = WrittenColumn::of(ColumnKind::Lengths, alloc);
+    let mut column = LengthEncoder::new(alloc);
+    column.reserve(lists.len())?;
     for list in lists {
-        column.push(Entry::Length(list.len()))?;
+        column.encode(list.len())?;
     }
     column.collect_into(out)
 }

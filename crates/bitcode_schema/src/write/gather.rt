@@ -1,5 +1,6 @@
 //! The parts of what several values hold, in order.
-ghost use Rattle.std.specs.Prelude.{◌≡◌, ◌++◌, ◌<◌, ◌≤◌, ℕ, All, Some, length, map, slice_index, IfOk, OnOk, IfErr};
+ghost use Rattle.std.specs.Prelude.{◌≡◌, ◌++◌, ◌<◌, ◌≤◌, ℕ, All, Some, length, map, slice_index, IfOk, OnOk, IfErr, MatchBool};
+ghost use Rattle.bitcode_shapes.specs.Shape.{IsWithin};
 ghost use Rattle.std.specs.List.{flat_map};
 ghost use Rattle.bitcode_memory.specs.declared.error.Reason.TheVariants.{OutOfMemory};
 ghost use Rattle.bitcode_schema.specs.Choosing.{of_variant, option_variant};
@@ -150,4 +151,21 @@ pub fn enum_variants(alloc: Global, count: usize, enums: &[(u32, &Value)]) -> Re
         variants.push(variant as u8)?;
     }
     Ok(variants)
+}
+
+/// Whether each list has at most so many elements, if there is a limit.
+pub fn are_within<T>(limit: Option<usize>, lists: &[&[T]]) -> bool
+    ensures { MatchBool result
+        (All (λ l. IsWithin limit (length l)) (map (λ l. l.now) lists.now))
+        (All (λ l. IsWithin limit (length l)) (map (λ l. l.now) lists.now) → ⊥) }
+{
+    let Some(limit) = limit else {
+        return true;
+    };
+    for list in lists {
+        if list.len() > limit {
+            return false;
+        }
+    }
+    true
 }
