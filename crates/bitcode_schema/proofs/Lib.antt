@@ -1,8 +1,11 @@
+pub mod ChoiceLemmas
+pub mod FieldLemmas
+pub mod SequenceLemmas
+pub mod NodeLemmas
 pub mod HoldLemmas
 pub mod SeenLemmas
 pub mod ListWritingLemmas
 pub mod PairWritingLemmas
 pub mod ArrayWritingLemmas
 pub mod ChoiceWritingLemmas
-pub mod NodeLemmas
 pub mod LeafWritingLemmas

@@ -4,12 +4,12 @@ use Rattle.std.specs.Prelude.{ℕ, zero, suc, ◌/◌, List, [], ◌∷◌, leng
 
 module _ {A : Type 0} (none : A) (both : A → A → A) where
   -- by halving them at most so many times
-  pub halved_within : ℕ → List A → A
-  halved_within most [] = none
-  halved_within most (x ∷ []) = x
-  halved_within zero (x ∷ y ∷ xs) = none
-  halved_within (suc most) (x ∷ y ∷ xs) =
-      both (halved_within most (take (length (x ∷ y ∷ xs) / 2) (x ∷ y ∷ xs))) (halved_within most (drop (length (x ∷ y ∷ xs) / 2) (x ∷ y ∷ xs)))
+  abbrev pub halved_within : List A → ℕ → A
+  halved_within [] most = none
+  halved_within (x ∷ []) most = x
+  halved_within (x ∷ y ∷ xs) zero = none
+  halved_within (x ∷ y ∷ xs) (suc most) =
+      both (halved_within (take (length (x ∷ y ∷ xs) / 2) (x ∷ y ∷ xs)) most) (halved_within (drop (length (x ∷ y ∷ xs) / 2) (x ∷ y ∷ xs)) most)
 
   abbrev pub halved : List A → A
-  halved xs = halved_within (length xs) xs
+  halved xs = halved_within xs (length xs)

@@ -1,6 +1,10 @@
 //! Schemas: trees that say which columns the bytes have, and what the values are called.
-ghost use Rattle.std.specs.Prelude.{◌≡◌, ◌<◌, ◌≤◌, nat_le, length, true, IfOk, IfErr, IfSome, slice_get, Some, IsSome};
+ghost use Rattle.std.specs.Prelude.{◌≡◌, ◌<◌, ◌≤◌, nat_le, length, true, IfOk, IfErr, IfSome, slice_get, Some, IsSome, IfNone};
 ghost use Rattle.std.specs.List.{list_all};
+ghost use Rattle.bitcode_shapes.specs.Shape.{unit_shape};
+ghost use Rattle.bitcode_enums.specs.ByNumber.{shape_at};
+ghost use Rattle.bitcode_schema.specs.Forms.{shape_of, shapes_of};
+ghost use Rattle.bitcode_schema.specs.Reading.{variant_shapes};
 ghost use Rattle.bitcode_schema.specs.Depth.{depth, has_few_variants, IsAccepted, IsRefused, fields_of};
 
 use bitcode_memory::error::{Error, Reason};
@@ -118,6 +122,9 @@ impl SchemaNode {
     pub(crate) fn field(&self, i: usize) -> Option<&SchemaNode>
         ensures found { IfSome result (λ node. slice_get (fields_of self.now) i ≡ Some node.now) }
         ensures none { i < length (fields_of self.now) → IsSome result }
+        ensures deeper { IfSome result (λ node. depth node.now < depth self.now) }
+        ensures few { has_few_variants self.now ≡ true
+            → IfSome result (λ node. has_few_variants node.now ≡ true) }
     {
         match self {
             SchemaNode::Tuple(fields) => fields.get(i),
@@ -130,7 +137,15 @@ impl SchemaNode {
     }
 
     /// The node of the payload of a variant, unless it is the unit of `None`.
-    pub(crate) fn payload(&self, i: usize) -> Option<&SchemaNode> {
+    pub(crate) fn payload(&self, i: usize) -> Option<&SchemaNode>
+        requires { i < length (variant_shapes self.now) }
+        ensures found { IfSome result
+            (λ node. shape_at i (shapes_of (variant_shapes self.now)) ≡ shape_of node.now) }
+        ensures none { IfNone result (shape_at i (shapes_of (variant_shapes self.now)) ≡ unit_shape) }
+        ensures deeper { IfSome result (λ node. depth node.now < depth self.now) }
+        ensures few { has_few_variants self.now ≡ true
+            → IfSome result (λ node. has_few_variants node.now ≡ true) }
+    {
         match self {
             SchemaNode::Option(some) => {
                 if i == 1 {
