@@ -1,10 +1,10 @@
 //! The parts of what several values hold, in order.
-ghost use Rattle.std.specs.Prelude.{◌≡◌, ◌++◌, ◌<◌, ◌≤◌, ℕ, All, Some, length, map, slice_index, IfOk, OnOk, IfErr, MatchBool};
+ghost use Rattle.std.specs.Prelude.{◌≡◌, ◌++◌, ◌<◌, ◌≤◌, ℕ, All, Some, length, map, slice_get, IfOk, OnOk, IfErr, MatchBool};
 ghost use Rattle.bitcode_shapes.specs.Shape.{IsWithin};
 ghost use Rattle.std.specs.List.{flat_map};
 ghost use Rattle.bitcode_memory.specs.declared.error.Reason.TheVariants.{OutOfMemory};
 ghost use Rattle.bitcode_schema.specs.Choosing.{of_variant, option_variant};
-ghost use Rattle.bitcode_schema.specs.Views.{boxed};
+ghost use Rattle.bitcode_schema.specs.Views.{Hold, HasOther, boxed};
 ghost use Rattle.bitcode_schema.specs.Writing.{IsRefusal};
 
 use bitcode_memory::error::{Error, Reason};
@@ -168,4 +168,37 @@ pub fn are_within<T>(limit: Option<usize>, lists: &[&[T]]) -> bool
         }
     }
     true
+}
+
+/// Whether each list has so many elements.
+pub fn are_of_size<T>(size: usize, lists: &[&[T]]) -> bool
+    ensures { MatchBool result
+        (All (λ l. length l ≡ size) (map (λ l. l.now) lists.now))
+        (All (λ l. length l ≡ size) (map (λ l. l.now) lists.now) → ⊥) }
+{
+    for list in lists {
+        if list.len() != size {
+            return false;
+        }
+    }
+    true
+}
+
+/// One field of each row.
+pub fn fields<'a>(alloc: Global, rows: &[&'a [Value]], i: usize) -> Result<Vec<&'a Value>, Error>
+    ensures held { IfOk result
+        (λ parts. Hold (λ row. slice_get row i) (map (λ r. r.now) rows.now)
+        (map (λ v. v.now) parts.items)) }
+    ensures refused { IfErr result
+        (λ e. IsRefusal e.reason
+        (HasOther (λ row. slice_get row i) (map (λ r. r.now) rows.now))) }
+{
+    let mut parts = Vec::new(alloc);
+    for row in rows {
+        match row.get(i) {
+            Some(field) => parts.push(field)?,
+            None => return err(Reason::NotOfTheShape),
+        }
+    }
+    Ok(parts)
 }
