@@ -9,3 +9,4 @@ pub mod PairWritingLemmas
 pub mod ArrayWritingLemmas
 pub mod ChoiceWritingLemmas
 pub mod LeafWritingLemmas
+pub mod ContentLemmas

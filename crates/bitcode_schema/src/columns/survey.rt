@@ -1,9 +1,13 @@
 //! Reading the columns of an input one after another, and noting where each is.
+ghost use Rattle.std.specs.Prelude.{◌≤◌, ◌+◌, length};
+ghost use Rattle.bitcode_coder.specs.Length.{lengths_left};
+
 use crate::choices::read_variants;
 use crate::columns::packing::{
     packing_of_bytes, packing_of_ints, packing_of_lengths, packing_of_variants,
 };
 use crate::columns::part::{ColumnFault, ColumnPart, Packing, PartKind};
+use crate::limits::any_over;
 use crate::schema::IntKind;
 use bitcode_coder::coder::View;
 use bitcode_coder::length::LengthDecoder;
@@ -49,6 +53,19 @@ fn packing_of(kind: PartKind, entries: usize, piece: &[u8]) -> Packing {
         PartKind::Variants(variants) => packing_of_variants(variants),
         PartKind::TextBytes => Packing::Raw,
     }
+}
+
+// How many of `k` lengths are 255 or more.
+fn count_large(lengths: &mut LengthDecoder<'_>, k: usize) -> usize
+    requires { k ≤ length (lengths_left lengths.old) }
+{
+    let mut large = 0;
+    for _ in 0..k {
+        if lengths.decode() >= ESCAPE {
+            large += 1;
+        }
+    }
+    large
 }
 
 /// The rest of an input, and the columns before it.
@@ -181,34 +198,6 @@ impl<'a> Survey<'a> {
         }
     }
 
-    // Whether one of `k` lengths is over the capacity. A length below 255 that stands among the large ones is over
-    // each capacity below 255.
-    fn is_one_over(lengths: &mut LengthDecoder<'a>, k: usize, capacity: Option<usize>) -> bool {
-        let Some(capacity) = capacity else {
-            return false;
-        };
-        if capacity < ESCAPE && lengths.any_greater_than::<254>() {
-            return true;
-        }
-        for _ in 0..k {
-            if lengths.decode() > capacity {
-                return true;
-            }
-        }
-        false
-    }
-
-    // How many of `k` lengths are 255 or more.
-    fn count_large(lengths: &mut LengthDecoder<'a>, k: usize) -> usize {
-        let mut large = 0;
-        for _ in 0..k {
-            if lengths.decode() >= ESCAPE {
-                large += 1;
-            }
-        }
-        large
-    }
-
     /// Reads a column of `k` lengths, and tells their sum.
     pub fn lengths(&mut self, path: &str, k: usize) -> Result<usize, ColumnFault> {
         let before = self.rest;
@@ -216,7 +205,7 @@ impl<'a> Survey<'a> {
         match lengths.populate(&mut self.rest, k) {
             Ok(()) => {
                 let sum = lengths.length();
-                let large = Survey::count_large(&mut lengths, k);
+                let large = count_large(&mut lengths, k);
                 let packing = packing_of_lengths(k, large, taken(before, self.rest));
                 self.note(path, PartKind::Lengths, k, packing, before)?;
                 Ok(sum)
@@ -225,18 +214,22 @@ impl<'a> Survey<'a> {
         }
     }
 
-    /// Whether one of `k` lengths at the front of an input is over the capacity.
-    pub fn exceeds(
+    /// Refuses `k` lengths at the front of an input, if one is over the capacity.
+    pub fn keep_within(
         &self,
+        path: &str,
         before: &'a [u8],
         k: usize,
         capacity: Option<usize>,
-    ) -> Result<bool, ColumnFault> {
-        let mut input = before;
-        let mut lengths = LengthDecoder::new(self.alloc);
-        match lengths.populate(&mut input, k) {
-            Ok(()) => Ok(Survey::is_one_over(&mut lengths, k, capacity)),
-            Err(error) => Err(self.fault("", before, error.reason)),
+        reason: Reason,
+    ) -> Result<(), ColumnFault> {
+        let Some(limit) = capacity else {
+            return Ok(());
+        };
+        match any_over(self.alloc, before, k, limit) {
+            Ok(false) => Ok(()),
+            Ok(true) => Err(self.fault(path, before, reason)),
+            Err(error) => Err(self.fault(path, before, error.reason)),
         }
     }
 
@@ -266,9 +259,7 @@ impl<'a> Survey<'a> {
             Ok(()) => (),
             Err(error) => return Err(self.fault(path, bytes, error.reason)),
         }
-        if self.exceeds(before, k, capacity)? {
-            return Err(self.fault(path, before, Reason::InvalidArrayString));
-        }
+        self.keep_within(path, before, k, capacity, Reason::InvalidArrayString)?;
         self.rest = input;
         self.note(path, PartKind::TextBytes, sum, Packing::Raw, bytes)
     }
@@ -279,7 +270,9 @@ impl<'a> Survey<'a> {
         path: &str,
         k: usize,
         variants: usize,
-    ) -> Result<[usize; 256], ColumnFault> {
+    ) -> Result<[usize; 256], ColumnFault>
+        requires { (2 ≤ variants) × (variants ≤ 256) }
+    {
         let before = self.rest;
         let mut entries = CowSlice::new(self.alloc);
         match read_variants(self.alloc, &mut self.rest, k, variants, &mut entries, false) {

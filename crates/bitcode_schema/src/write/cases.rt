@@ -1,6 +1,6 @@
 //! What each of several values holds, if all have one case.
 ghost use Rattle.std.specs.Prelude.{◌≡◌, None, map, IfOk, IfErr};
-ghost use Rattle.bitcode_schema.specs.Views.{Hold, HasOther, boxed, elements_of, pairs_of, fields_of, bytes_of};
+ghost use Rattle.bitcode_schema.specs.Views.{Hold, HasOther, boxed, elements_of, pairs_of, fields_of};
 ghost use Rattle.bitcode_schema.specs.Views.{option_of, enum_of};
 ghost use Rattle.bitcode_schema.specs.Writing.{IsRefusal};
 
@@ -54,23 +54,6 @@ pub fn tuples<'a>(alloc: Global, values: &[&'a Value]) -> Result<Vec<&'a [Value]
     for value in values {
         match value {
             Value::Tuple(fields) => held.push(fields.as_slice())?,
-            _ => return err(Reason::NotOfTheShape),
-        }
-    }
-    Ok(held)
-}
-
-/// The bytes of each id.
-pub fn ids<'a>(alloc: Global, values: &[&'a Value]) -> Result<Vec<&'a [u8]>, Error>
-    ensures held { IfOk result
-        (λ held. Hold bytes_of (map (λ v. v.now) values.now) (map (λ h. h.now) held.items)) }
-    ensures refused { IfErr result
-        (λ e. IsRefusal e.reason (HasOther bytes_of (map (λ v. v.now) values.now))) }
-{
-    let mut held = Vec::new(alloc);
-    for value in values {
-        match value {
-            Value::Bytes(bytes) => held.push(bytes.as_slice())?,
             _ => return err(Reason::NotOfTheShape),
         }
     }

@@ -1,0 +1,9 @@
+-- The variants of the enums so far.
+use Rattle.std.proofs.Common.{◌≡◌, ◌<◌, All, map, take}
+use Rattle.bitcode_schema.proofs.write.gather.enum_variants.Given as goal
+
+abbrev pub invariant-loop-entry : goal.invariant-loop-entry
+invariant-loop-entry l = record {
+  variants : l.variants.items ≡ map (λ e. e.0) (map (λ h. (h.0, h.1.now)) (take l.entry-index l.enums));
+  below : All (λ e. e.0 < l.count) (map (λ h. (h.0, h.1.now)) (take l.entry-index l.enums));
+}
