@@ -54,3 +54,32 @@ map_seen k e _ = refl
 pub content-Map : (k e : Box SchemaNode Global) (v : Value)
     → content_under (node.Map k e) v ≡ under (pairs_of v) (list_content (pair_content (content_under k.value) (content_under e.value)))
 content-Map k e v = content_rolled (SchemaNode-F.Map k e) (node.Map k e) v (node.rolls-Map k e) ∙ map_seen _ _ (out-Value v)
+
+uuid_seen : (w : Value-F Value) → content_step {A = Form} SchemaNode-F.Uuid w ≡ under (seq_items w) (list_content (leaf_content (Some (int_leaf int.U8))))
+uuid_seen (Value-F.Seq vs) = refl
+uuid_seen _ = refl
+
+pub content-Uuid : (v : Value) → content_under node.Uuid v ≡ under (elements_of v) (list_content (leaf_content (Some (int_leaf int.U8))))
+content-Uuid v = content_rolled SchemaNode-F.Uuid node.Uuid v node.rolls-Uuid ∙ uuid_seen (out-Value v)
+
+abbrev pub option_content : {A : Type 0} → (A → Option Datum) → Option A → Option Datum
+option_content content None = Some (choice 0 unit)
+option_content content (Some a) = changed (choice 1) (content a)
+
+option_seen : (b : Box Form Global) (w : Value-F Value)
+    → content_step (SchemaNode-F.Option b) w ≡ under (option_held w) (λ o. option_content b.value.content o)
+option_seen b (Value-F.Option None) = refl
+option_seen b (Value-F.Option (Some held)) = refl
+option_seen b _ = refl
+
+pub content-Option : (b : Box SchemaNode Global) (v : Value) → content_under (node.Option b) v ≡ under (option_of v) (option_content (content_under b.value))
+content-Option b v = content_rolled (SchemaNode-F.Option b) (node.Option b) v (node.rolls-Option b) ∙ option_seen _ (out-Value v)
+
+result_seen : (a b : Box Form Global) (w : Value-F Value)
+    → content_step (SchemaNode-F.Result a b) w ≡ under (enum_held w) (λ e. choice_content (a.value.content ∷ b.value.content ∷ []) e.0 e.1)
+result_seen a b (Value-F.Enum i payload) = refl
+result_seen a b _ = refl
+
+pub content-Result : (a b : Box SchemaNode Global) (v : Value)
+    → content_under (node.Result a b) v ≡ under (enum_of v) (λ e. choice_content (content_under a.value ∷ content_under b.value ∷ []) e.0 e.1)
+content-Result a b v = content_rolled (SchemaNode-F.Result a b) (node.Result a b) v (node.rolls-Result a b) ∙ result_seen _ _ (out-Value v)

@@ -10,3 +10,4 @@ pub mod ArrayWritingLemmas
 pub mod ChoiceWritingLemmas
 pub mod LeafWritingLemmas
 pub mod ContentLemmas
+pub mod LoopLemmas

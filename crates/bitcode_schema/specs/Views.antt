@@ -62,6 +62,20 @@ option_of value = option_held (out-Value value)
 abbrev pub enum_of : Value → Option (ℕ × Value)
 enum_of value = enum_held (out-Value value)
 
+-- ---- the parts of pairs
+
+abbrev pub key_in : Value × Value → Value
+key_in entry = entry.0
+
+abbrev pub value_in : Value × Value → Value
+value_in entry = entry.1
+
+abbrev pub variant_in : ℕ × Value → ℕ
+variant_in choice = choice.0
+
+abbrev pub payload_in : ℕ × Value → Value
+payload_in choice = choice.1
+
 -- ---- of each of several values
 
 -- what is seen in what an item holds

@@ -4,7 +4,7 @@ ghost use Rattle.bitcode_shapes.specs.Shape.{IsWithin};
 ghost use Rattle.std.specs.List.{flat_map};
 ghost use Rattle.bitcode_memory.specs.declared.error.Reason.TheVariants.{OutOfMemory};
 ghost use Rattle.bitcode_schema.specs.Choosing.{of_variant, option_variant};
-ghost use Rattle.bitcode_schema.specs.Views.{Hold, HasOther, boxed};
+ghost use Rattle.bitcode_schema.specs.Views.{Hold, HasOther, boxed, key_in, value_in, variant_in, payload_in};
 ghost use Rattle.bitcode_schema.specs.Writing.{IsRefusal};
 
 use bitcode_memory::error::{Error, Reason};
@@ -44,10 +44,10 @@ fn push_pairs<'a>(
     parts: &mut Vec<&'a Value>,
 ) -> Result<(), Error>
     ensures keys { OnOk result
-        (map (λ v. v.now) keys.new.items ≡ map (λ v. v.now) keys.old.items ++ map (λ e. e.0)
+        (map (λ v. v.now) keys.new.items ≡ map (λ v. v.now) keys.old.items ++ map key_in
         pairs.now) }
     ensures values { OnOk result
-        (map (λ v. v.now) parts.new.items ≡ map (λ v. v.now) parts.old.items ++ map (λ e. e.1)
+        (map (λ v. v.now) parts.new.items ≡ map (λ v. v.now) parts.old.items ++ map value_in
         pairs.now) }
     ensures refused { IfErr result (λ e. e.reason ≡ OutOfMemory) }
 {
@@ -64,10 +64,10 @@ pub fn split<'a>(
     maps: &[&'a [(Value, Value)]],
 ) -> Result<(Vec<&'a Value>, Vec<&'a Value>), Error>
     ensures keys { IfOk result
-        (λ parts. map (λ v. v.now) parts.0.items ≡ map (λ e. e.0)
+        (λ parts. map (λ v. v.now) parts.0.items ≡ map key_in
         (flat_map (λ l. l) (map (λ l. l.now) maps.now))) }
     ensures values { IfOk result
-        (λ parts. map (λ v. v.now) parts.1.items ≡ map (λ e. e.1)
+        (λ parts. map (λ v. v.now) parts.1.items ≡ map value_in
         (flat_map (λ l. l) (map (λ l. l.now) maps.now))) }
     ensures refused { IfErr result (λ e. e.reason ≡ OutOfMemory) }
 {
@@ -102,8 +102,8 @@ pub fn payloads<'a>(
     enums: &[(u32, &'a Value)],
 ) -> Result<Vec<&'a Value>, Error>
     ensures held { IfOk result
-        (λ parts. map (λ v. v.now) parts.items ≡ map (λ e. e.1)
-        (of_variant (λ e. e.0) variant (map (λ h. (h.0, h.1.now)) enums.now))) }
+        (λ parts. map (λ v. v.now) parts.items ≡ map payload_in
+        (of_variant variant_in variant (map (λ h. (h.0, h.1.now)) enums.now))) }
     ensures refused { IfErr result (λ e. e.reason ≡ OutOfMemory) }
 {
     let mut parts = Vec::new(alloc);
@@ -135,12 +135,12 @@ pub fn option_variants(alloc: Global, options: &[&Option<Box<Value>>]) -> Result
 pub fn enum_variants(alloc: Global, count: usize, enums: &[(u32, &Value)]) -> Result<Vec<u8>, Error>
     requires { count ≤ 256 }
     ensures variants { IfOk result
-        (λ variants. variants.items ≡ map (λ e. e.0) (map (λ h. (h.0, h.1.now)) enums.now)) }
+        (λ variants. variants.items ≡ map variant_in (map (λ h. (h.0, h.1.now)) enums.now)) }
     ensures below { OnOk result
-        (All (λ e. e.0 < count) (map (λ h. (h.0, h.1.now)) enums.now)) }
+        (All (λ e. variant_in e < count) (map (λ h. (h.0, h.1.now)) enums.now)) }
     ensures refused { IfErr result
         (λ e. IsRefusal e.reason
-        (All (λ e. e.0 < count) (map (λ h. (h.0, h.1.now)) enums.now) → ⊥)) }
+        (All (λ e. variant_in e < count) (map (λ h. (h.0, h.1.now)) enums.now) → ⊥)) }
 {
     let mut variants = Vec::new(alloc);
     for entry in enums {
