@@ -1,0 +1,296 @@
+//! Writing values as JSON.
+use crate::fault::Fault;
+use crate::json_leaf::write_leaf;
+use crate::maps::{are_distinct, has_text_keys};
+use crate::node::{Member, Node, Types};
+use crate::options::{is_nullable, looks_wrapped};
+use bitcode_untyped::value::Value;
+use json::Writer;
+use std::alloc::Global;
+
+/// How deep JSON may nest.
+pub const MOST_DEEP: usize = 127;
+
+/// Puts the JSON of a value of the schema behind what `out` has.
+///
+/// The error names the place of what nests deeper than 127 lists and objects.
+pub fn to_json(
+    alloc: Global,
+    types: &Types,
+    value: &Value,
+    out: Vec<u8>,
+) -> Result<Vec<u8>, Fault> {
+    let mut out = Writer::new(out);
+    let target = Target { alloc, types };
+    write(&target, value, &types.root, MOST_DEEP, &mut out)?;
+    Ok(out.into_inner())
+}
+
+// What all calls need.
+#[derive(Drop)]
+struct Target<'a> {
+    alloc: Global,
+    types: &'a Types,
+}
+
+impl Target<'_> {
+    fn fault(&self, what: &str) -> Fault {
+        Fault::new(self.alloc, what)
+    }
+
+    // The depth inside a list or an object.
+    fn inside(&self, depth: usize) -> Result<usize, Fault> {
+        match depth.checked_sub(1) {
+            Some(depth) => Ok(depth),
+            None => Err(self.fault("nested deeper than 127 lists and objects")),
+        }
+    }
+
+    fn mismatch(&self) -> Fault {
+        self.fault("the value is not of the schema")
+    }
+}
+
+#[cycle(write)]
+fn write(
+    to: &Target<'_>,
+    value: &Value,
+    node: &Node,
+    depth: usize,
+    out: &mut Writer,
+) -> Result<(), Fault> {
+    match to.types.resolve(node) {
+        Node::List(_, element) => write_list(to, value, element, depth, out),
+        Node::Array(element, _) => write_list(to, value, element, depth, out),
+        Node::Map(key, part) => match value {
+            Value::Map(pairs) => write_map(to, pairs, key, part, depth, out),
+            _ => Err(to.mismatch()),
+        },
+        Node::Tuple(nodes) => match value {
+            Value::Tuple(values) => write_tuple(to, values, nodes, depth, out),
+            _ => Err(to.mismatch()),
+        },
+        Node::Struct(members) => match value {
+            Value::Tuple(values) => write_struct(to, values, members, depth, out),
+            _ => Err(to.mismatch()),
+        },
+        Node::Option(inner) => match value {
+            Value::Option(None) => Ok(out.null()?),
+            Value::Option(Some(value)) => write_some(to, value, inner, depth, out),
+            _ => Err(to.mismatch()),
+        },
+        Node::Result(ok, err) => match value {
+            Value::Enum(0, value) => write_payload(to, value, ok, "Ok", depth, out),
+            Value::Enum(1, value) => write_payload(to, value, err, "Err", depth, out),
+            _ => Err(to.mismatch()),
+        },
+        Node::Enum(variants) => match value {
+            Value::Enum(index, value) => match variants.get(*index as usize) {
+                Some(variant) => write_variant(to, value, variant, depth, out),
+                None => Err(to.mismatch()),
+            },
+            _ => Err(to.mismatch()),
+        },
+        leaf => write_leaf(to.alloc, value, leaf, out),
+    }
+}
+
+// A list, a set or an array.
+#[cycle(write)]
+fn write_list(
+    to: &Target<'_>,
+    value: &Value,
+    element: &Node,
+    depth: usize,
+    out: &mut Writer,
+) -> Result<(), Fault> {
+    match value {
+        Value::Seq(values) => write_items(to, values, element, depth, out),
+        Value::Tuple(values) => write_items(to, values, element, depth, out),
+        Value::Bytes(bytes) => {
+            out.begin_array()?;
+            for byte in bytes {
+                out.u64(*byte as u64)?;
+            }
+            Ok(out.end_array()?)
+        }
+        _ => Err(to.mismatch()),
+    }
+}
+
+#[cycle(write)]
+fn write_items(
+    to: &Target<'_>,
+    values: &[Value],
+    element: &Node,
+    depth: usize,
+    out: &mut Writer,
+) -> Result<(), Fault> {
+    let inside = to.inside(depth)?;
+    out.begin_array()?;
+    for index in 0..values.len() {
+        if let Err(fault) = write(to, &values[index], element, inside, out) {
+            return Err(fault.in_item(to.alloc, index));
+        }
+    }
+    Ok(out.end_array()?)
+}
+
+#[cycle(write)]
+fn write_tuple(
+    to: &Target<'_>,
+    values: &[Value],
+    nodes: &[Node],
+    depth: usize,
+    out: &mut Writer,
+) -> Result<(), Fault> {
+    if values.len() != nodes.len() {
+        return Err(to.mismatch());
+    }
+    let inside = to.inside(depth)?;
+    out.begin_array()?;
+    for index in 0..values.len() {
+        if let Err(fault) = write(to, &values[index], &nodes[index], inside, out) {
+            return Err(fault.in_item(to.alloc, index));
+        }
+    }
+    Ok(out.end_array()?)
+}
+
+#[cycle(write)]
+fn write_struct(
+    to: &Target<'_>,
+    values: &[Value],
+    members: &[Member],
+    depth: usize,
+    out: &mut Writer,
+) -> Result<(), Fault> {
+    if values.len() != members.len() {
+        return Err(to.mismatch());
+    }
+    let inside = to.inside(depth)?;
+    out.begin_object()?;
+    for index in 0..values.len() {
+        let member = &members[index];
+        out.key(&member.name)?;
+        if let Err(fault) = write(to, &values[index], &member.node, inside, out) {
+            return Err(fault.in_field(to.alloc, &member.name));
+        }
+    }
+    Ok(out.end_object()?)
+}
+
+// A map: an object if the keys are different texts, and otherwise a list of pairs.
+#[cycle(write)]
+fn write_map(
+    to: &Target<'_>,
+    pairs: &[(Value, Value)],
+    key: &Node,
+    part: &Node,
+    depth: usize,
+    out: &mut Writer,
+) -> Result<(), Fault> {
+    if has_text_keys(to.types, key) && are_distinct(to.alloc, pairs)? {
+        write_object(to, pairs, part, depth, out)
+    } else {
+        write_pairs(to, pairs, key, part, depth, out)
+    }
+}
+
+#[cycle(write)]
+fn write_object(
+    to: &Target<'_>,
+    pairs: &[(Value, Value)],
+    part: &Node,
+    depth: usize,
+    out: &mut Writer,
+) -> Result<(), Fault> {
+    let inside = to.inside(depth)?;
+    out.begin_object()?;
+    for index in 0..pairs.len() {
+        let pair = &pairs[index];
+        let Value::Str(key) = &pair.0 else {
+            return Err(to.mismatch());
+        };
+        out.key(key)?;
+        if let Err(fault) = write(to, &pair.1, part, inside, out) {
+            return Err(fault.in_field(to.alloc, key));
+        }
+    }
+    Ok(out.end_object()?)
+}
+
+#[cycle(write)]
+fn write_pairs(
+    to: &Target<'_>,
+    pairs: &[(Value, Value)],
+    key: &Node,
+    part: &Node,
+    depth: usize,
+    out: &mut Writer,
+) -> Result<(), Fault> {
+    let inside = to.inside(depth)?;
+    out.begin_array()?;
+    for index in 0..pairs.len() {
+        let pair = &pairs[index];
+        let in_pair = to.inside(inside)?;
+        out.begin_array()?;
+        if let Err(fault) = write(to, &pair.0, key, in_pair, out) {
+            return Err(fault.in_item(to.alloc, 0).in_item(to.alloc, index));
+        }
+        if let Err(fault) = write(to, &pair.1, part, in_pair, out) {
+            return Err(fault.in_item(to.alloc, 1).in_item(to.alloc, index));
+        }
+        out.end_array()?;
+    }
+    Ok(out.end_array()?)
+}
+
+// `Some(value)`: the value, or an object with the member `Some` if the value alone would be read otherwise.
+#[cycle(write)]
+fn write_some(
+    to: &Target<'_>,
+    value: &Value,
+    inner: &Node,
+    depth: usize,
+    out: &mut Writer,
+) -> Result<(), Fault> {
+    if is_nullable(to.types, inner) && looks_wrapped(to.types, value, inner) {
+        write_payload(to, value, inner, "Some", depth, out)
+    } else {
+        write(to, value, inner, depth, out)
+    }
+}
+
+// An enum: the name of a variant without fields, and otherwise an object with one member.
+#[cycle(write)]
+fn write_variant(
+    to: &Target<'_>,
+    value: &Value,
+    variant: &Member,
+    depth: usize,
+    out: &mut Writer,
+) -> Result<(), Fault> {
+    match to.types.resolve(&variant.node) {
+        Node::Unit => Ok(out.string(&variant.name)?),
+        node => write_payload(to, value, node, &variant.name, depth, out),
+    }
+}
+
+#[cycle(write)]
+fn write_payload(
+    to: &Target<'_>,
+    value: &Value,
+    node: &Node,
+    name: &str,
+    depth: usize,
+    out: &mut Writer,
+) -> Result<(), Fault> {
+    let inside = to.inside(depth)?;
+    out.begin_object()?;
+    out.key(name)?;
+    match write(to, value, node, inside, out) {
+        Ok(()) => Ok(out.end_object()?),
+        Err(fault) => Err(fault.in_field(to.alloc, name)),
+    }
+}
