@@ -17,13 +17,6 @@ pub enum IntKind {
     I128,
 }
 
-/// A field of a struct or a variant of an enum: its name and its node. Names change no byte.
-#[derive(Debug, Drop)]
-pub struct Named {
-    pub name: String,
-    pub node: SchemaNode,
-}
-
 /// The values at one place.
 #[derive(Debug, Drop)]
 pub enum SchemaNode {
@@ -50,11 +43,143 @@ pub enum SchemaNode {
     /// So many elements.
     Array(usize, Box<SchemaNode>),
     Tuple(Vec<SchemaNode>),
-    Struct(Vec<Named>),
+    /// Fields with their names. Names change no byte.
+    Struct(Vec<(String, SchemaNode)>),
     Option(Box<SchemaNode>),
     Result(Box<SchemaNode>, Box<SchemaNode>),
-    /// The payload of each variant.
-    Enum(Vec<Named>),
+    /// Variants, each with its name and the node of its payload.
+    Enum(Vec<(String, SchemaNode)>),
+}
+
+/// The maximal number of nodes in one another.
+pub const MOST_NESTED: usize = 512;
+
+/// The maximal number of variants of an enum.
+pub const MOST_VARIANTS: usize = 256;
+
+impl SchemaNode {
+    // Whether at most so many nodes are in one another.
+    #[cycle(within)]
+    fn is_within(&self, left: usize) -> bool {
+        if left == 0 {
+            return false;
+        }
+        match self {
+            SchemaNode::List(_, element) => element.is_within(left - 1),
+            SchemaNode::Map(key, value) => key.is_within(left - 1) && value.is_within(left - 1),
+            SchemaNode::Array(_, element) => element.is_within(left - 1),
+            SchemaNode::Tuple(fields) => all_within(fields, left - 1),
+            SchemaNode::Struct(fields) => parts_within(fields, left - 1),
+            SchemaNode::Option(some) => some.is_within(left - 1),
+            SchemaNode::Result(ok, err) => ok.is_within(left - 1) && err.is_within(left - 1),
+            SchemaNode::Enum(variants) => parts_within(variants, left - 1),
+            _ => true,
+        }
+    }
+
+    // Whether each enum has at most 256 variants.
+    #[cycle(few)]
+    fn has_few_variants(&self) -> bool {
+        match self {
+            SchemaNode::List(_, element) => element.has_few_variants(),
+            SchemaNode::Map(key, value) => key.has_few_variants() && value.has_few_variants(),
+            SchemaNode::Array(_, element) => element.has_few_variants(),
+            SchemaNode::Tuple(fields) => all_have_few(fields),
+            SchemaNode::Struct(fields) => parts_have_few(fields),
+            SchemaNode::Option(some) => some.has_few_variants(),
+            SchemaNode::Result(ok, err) => ok.has_few_variants() && err.has_few_variants(),
+            SchemaNode::Enum(variants) => variants.len() <= MOST_VARIANTS && parts_have_few(
+                variants,
+            ),
+            _ => true,
+        }
+    }
+
+    /// The number of fields of a tuple or struct.
+    pub(crate) fn field_count(&self) -> usize {
+        match self {
+            SchemaNode::Tuple(fields) => fields.len(),
+            SchemaNode::Struct(fields) => fields.len(),
+            _ => 0,
+        }
+    }
+
+    /// The node of a field of a tuple or struct.
+    pub(crate) fn field(&self, i: usize) -> Option<&SchemaNode> {
+        match self {
+            SchemaNode::Tuple(fields) => fields.get(i),
+            SchemaNode::Struct(fields) => match fields.get(i) {
+                Some(field) => Some(&field.1),
+                None => None,
+            },
+            _ => None,
+        }
+    }
+
+    /// The node of the payload of a variant, unless it is the unit of `None`.
+    pub(crate) fn payload(&self, i: usize) -> Option<&SchemaNode> {
+        match self {
+            SchemaNode::Option(some) => {
+                if i == 1 {
+                    Some(some)
+                } else {
+                    None
+                }
+            }
+            SchemaNode::Result(ok, err) => {
+                if i == 0 {
+                    Some(ok)
+                } else {
+                    Some(err)
+                }
+            }
+            SchemaNode::Enum(variants) => match variants.get(i) {
+                Some(variant) => Some(&variant.1),
+                None => None,
+            },
+            _ => None,
+        }
+    }
+}
+
+#[cycle(within)]
+fn all_within(nodes: &[SchemaNode], left: usize) -> bool {
+    for node in nodes {
+        if !node.is_within(left) {
+            return false;
+        }
+    }
+    true
+}
+
+#[cycle(within)]
+fn parts_within(parts: &[(String, SchemaNode)], left: usize) -> bool {
+    for part in parts {
+        if !part.1.is_within(left) {
+            return false;
+        }
+    }
+    true
+}
+
+#[cycle(few)]
+fn all_have_few(nodes: &[SchemaNode]) -> bool {
+    for node in nodes {
+        if !node.has_few_variants() {
+            return false;
+        }
+    }
+    true
+}
+
+#[cycle(few)]
+fn parts_have_few(parts: &[(String, SchemaNode)]) -> bool {
+    for part in parts {
+        if !part.1.has_few_variants() {
+            return false;
+        }
+    }
+    true
 }
 
 /// A tree of nodes for the bytes of one value.
@@ -65,7 +190,21 @@ pub struct Schema {
 
 impl Schema {
     /// Creates the schema of a node.
+    ///
+    /// Errors: `nested too deep` if more than 512 nodes are in one another, and else
+    /// `enums with more than 256 variants are unsupported` if an enum has more variants. After an error the node is
+    /// dropped.
+    ///
+    /// ```
+    /// let flags = Schema::new(SchemaNode::List(None, Box::new(alloc, SchemaNode::Bool)?))?;
+    /// ```
     pub fn new(root: SchemaNode) -> Result<Schema, Error> {
+        if !root.is_within(MOST_NESTED) {
+            return err(Reason::NestedTooDeep);
+        }
+        if !root.has_few_variants() {
+            return err(Reason::TooManyVariants);
+        }
         Ok(Schema { root })
     }
 

@@ -1,0 +1,92 @@
+//! Choices: the column of variants, and values of variants and payloads.
+use bitcode_columns::strict::read_variants as read_variants_below;
+use bitcode_memory::error::{Error, Reason};
+use bitcode_memory::fast::CowSlice;
+use bitcode_memory::refuse::err;
+use bitcode_untyped::value::Value;
+use std::alloc::Global;
+use std::collections::VecDeque;
+
+// Reads a column of digits as the variants of an enum of `N` variants.
+fn read_below<'a, const N: usize>(
+    alloc: Global,
+    input: &mut &'a [u8],
+    k: usize,
+    out: &mut CowSlice<'a, u8>,
+    strict: bool,
+) -> Result<bool, Error> {
+    let ([], written) = read_variants_below::<N, 0>(alloc, input, k, out, strict)?;
+    Ok(written)
+}
+
+// Reads a column of digits in the base for so many variants.
+fn read_digits<'a>(
+    alloc: Global,
+    input: &mut &'a [u8],
+    k: usize,
+    count: usize,
+    out: &mut CowSlice<'a, u8>,
+    strict: bool,
+) -> Result<bool, Error> {
+    match count {
+        0..=2 => read_below::<2>(alloc, input, k, out, strict),
+        3 => read_below::<3>(alloc, input, k, out, strict),
+        4 => read_below::<4>(alloc, input, k, out, strict),
+        5..=6 => read_below::<6>(alloc, input, k, out, strict),
+        7..=16 => read_below::<16>(alloc, input, k, out, strict),
+        _ => read_below::<256>(alloc, input, k, out, strict),
+    }
+}
+
+/// Reads `k` variants of an enum of so many variants.
+pub fn read_variants<'a>(
+    alloc: Global,
+    input: &mut &'a [u8],
+    k: usize,
+    count: usize,
+    out: &mut CowSlice<'a, u8>,
+    strict: bool,
+) -> Result<bool, Error> {
+    let written = read_digits(alloc, input, k, count, out, strict)?;
+    if !out.as_slice().iter().all(|entry| (*entry as usize) < count) {
+        return err(Reason::InvalidPacking);
+    }
+    Ok(written)
+}
+
+/// How often a variant stands among others.
+pub fn times(variants: &[u8], variant: usize) -> usize {
+    variants
+        .iter()
+        .filter(|entry| **entry as usize == variant)
+        .count()
+}
+
+// The value of a variant and its payload: an option or an enum.
+fn chosen(alloc: Global, is_option: bool, variant: u8, payload: Value) -> Result<Value, Error> {
+    if is_option {
+        if variant == 0 {
+            return Ok(Value::Option(None));
+        }
+        return Ok(Value::Option(Some(Box::new(alloc, payload)?)));
+    }
+    Ok(Value::Enum(u32::from(variant), Box::new(alloc, payload)?))
+}
+
+/// The values of variants, each with the next of its payloads.
+pub fn deal(
+    alloc: Global,
+    is_option: bool,
+    variants: &[u8],
+    mut lists: Vec<VecDeque<Value>>,
+    make: bool,
+) -> Result<VecDeque<Value>, Error> {
+    let mut values = VecDeque::new(alloc);
+    if make {
+        for variant in variants {
+            let payload = lists[*variant as usize].pop_front().unwrap();
+            values.push_back(chosen(alloc, is_option, *variant, payload)?)?;
+        }
+    }
+    Ok(values)
+}
