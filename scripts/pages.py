@@ -17,13 +17,14 @@ import sys
 
 # The pages, and how many words each may have.
 WORDS = {
-    "README.md": 650,
+    "README.md": 730,
     "CHANGES.md": 1500,
     "CONTRIBUTING.md": 1200,
     "SECURITY.md": 350,
     "docs/ARCHITECTURE.md": 1770,
     "docs/CODERS.md": 2500,
-    "docs/DECISIONS.md": 3450,
+    "docs/COMMAND.md": 600,
+    "docs/DECISIONS.md": 3650,
     "docs/DIFFERENCES.md": 1500,
     "docs/EXAMPLES.md": 1200,
     "docs/FORMAT.md": 3500,
@@ -35,7 +36,7 @@ WORDS = {
     "docs/TESTING.md": 1220,
     "docs/TOOLCHAIN.md": 1650,
 }
-WORDS_IN_ALL = 28100
+WORDS_IN_ALL = 28900
 COLUMNS = 120
 HISTORY = "docs/HISTORY.md"
 COUNTED = "docs/TESTING.md"

@@ -129,16 +129,24 @@ class Nodes:
 
 
 def root_of(items, told):
-    """The type that no other one names, where there is one."""
-    inner = {name for item in items for field in fields_of(item) for name in names_in(field.type) if name != item.name}
-    roots = [item for item in items if item.name not in inner]
-    if len(roots) != 1 and len(items) != 1:
-        names = ", ".join(f"`{item.name}`" for item in roots or items)
+    """The type that leads to all others: of several that lead to each other the first."""
+    named = {item.name: {name for field in fields_of(item) for name in names_in(field.type)} for item in items}
+
+    def reached(name, found):
+        if name in named and name not in found:
+            found.add(name)
+            for inner in named[name]:
+                reached(inner, found)
+        return found
+
+    roots = [item for item in items if len(reached(item.name, set())) == len(items)]
+    if not roots:
+        names = ", ".join(f"`{item.name}`" for item in items)
         raise Refused(items[0].line, f"say which type the schema is of, with `--type`: {names}")
-    item = (roots or items)[0]
-    if item.types or item.consts:
-        raise Refused(item.line, f"say what `{item.name}` is given, as in `--type '{item.name}<u8>'`")
-    return item.name
+    if roots[0].types or roots[0].consts:
+        name = roots[0].name
+        raise Refused(roots[0].line, f"say what `{name}` is given, as in `--type '{name}<u8>'`")
+    return roots[0].name
 
 
 def parsed(text, told):

@@ -5,8 +5,10 @@ use crate::format::Format;
 use crate::from_json::from_json;
 use crate::json_text::parse;
 use crate::node::Types;
+use crate::picture::picture;
 use crate::schema_file::read_schema;
 use crate::sealed_parts::{Part, bare_part, sealed_parts};
+use crate::table::{table, table_json};
 use crate::to_json::to_json;
 use bitcode_sealed::bytes::seal_bytes;
 use bitcode_sealed::label::Label;
@@ -118,6 +120,33 @@ pub fn check(
     }
     let count = bytes.len();
     println!(rt; "ok: {count} bytes")?;
+    Ok(())
+}
+
+/// Shows the columns of the file.
+pub fn show(
+    rt: &(impl AllocGlobal + Files + Input + Print + Eprint),
+    words: &ArgMatches<'_>,
+    shows: bool,
+) -> Result<(), Failure> {
+    let alloc = rt.alloc();
+    let types = types_of(rt, words)?;
+    let format = format_of(alloc, words, &types, false)?;
+    let bytes = read_bytes(rt, words.get_str("file"), shows)?;
+    for part in &parts_of(alloc, words, &bytes)? {
+        let found = format.columns(alloc, part.bytes)?;
+        if let Some(path) = words.get_str("svg") {
+            write_bytes(rt, Some(path), picture(alloc, &found)?.as_bytes())?;
+        }
+        if words.get_flag("json") {
+            write_bytes(rt, None, &table_json(alloc, &found)?)?;
+            continue;
+        }
+        if let Some(line) = part.line(alloc)? {
+            println!(rt; "{line}")?;
+        }
+        write_bytes(rt, None, table(alloc, &found)?.as_bytes())?;
+    }
     Ok(())
 }
 

@@ -48,6 +48,14 @@ impl Format {
         }
     }
 
+    /// The columns of bytes of the first format.
+    pub fn columns(&self, alloc: Global, bytes: &[u8]) -> Result<Vec<ColumnPart>, Failure> {
+        match self {
+            Format::First(schema) => Ok(columns(alloc, schema, bytes)?),
+            Format::Second(_) => Ok(Vec::new(alloc)),
+        }
+    }
+
     /// The bytes of the value.
     pub fn encode(&self, alloc: Global, value: &Value) -> Result<Vec<u8>, Failure> {
         match self {

@@ -1,4 +1,6 @@
 //! The schemas of both formats.
+ghost use Rattle.std.specs.Prelude.{◌<◌, IfOk};
+
 use crate::fault::Fault;
 use crate::node::{Member, Node, Types};
 use bitcode_schema::schema::{IntKind, Schema, SchemaNode};
@@ -24,7 +26,9 @@ impl Writing<'_> {
     }
 
     // Counts a node, and gives how deep the nodes inside may be.
-    fn inside(&mut self, depth: usize) -> Result<usize, Fault> {
+    fn inside(&mut self, depth: usize) -> Result<usize, Fault>
+        ensures { IfOk result (λ inside. inside < depth) }
+    {
         let Some(inside) = depth.checked_sub(1) else {
             return Err(self.fault("the type is nested too deep, or recursive without an end"));
         };

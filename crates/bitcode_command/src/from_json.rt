@@ -1,10 +1,14 @@
 //! Making values from JSON.
 use crate::fault::Fault;
 use crate::from_leaf::read_leaf;
+use crate::json_parts::{
+    JsonMember, find, list_of, list_of_pairs, list_within, members_of_map, members_of_struct, pair_of,
+    result_of, variant_of, wrapped,
+};
 use crate::json_text::expected;
-use crate::maps::{are_distinct, has_text_keys};
+use crate::maps::are_distinct;
 use crate::node::{Member, Node, Types};
-use crate::options::{SOME, is_nullable};
+use crate::options::SOME;
 use bitcode_untyped::value::Value;
 use json::Value as Json;
 use std::alloc::Global;
@@ -55,6 +59,27 @@ impl Source<'_> {
         Ok(Value::Enum(index, self.boxed(value)?))
     }
 
+    // The value of a field that is left out.
+    fn missing(&self, node: &Node) -> Result<Value, Fault> {
+        match self.types.resolve(node) {
+            Node::Option(_) => Ok(Value::Option(None)),
+            _ => Err(Fault::new(self.alloc, "the field is missing")),
+        }
+    }
+
+    // The payload of a variant of which only the name is given.
+    fn unit(&self, json: &Json<'_>, variant: &Member) -> Result<Value, Fault> {
+        match self.types.resolve(&variant.node) {
+            Node::Unit => Ok(Value::Unit),
+            _ => Err(self.expected("an object with the variant and its fields", json)),
+        }
+    }
+
+    // A key of a map.
+    fn key(&self, name: &str, node: &Node) -> Result<Value, Fault> {
+        read_leaf(self.alloc, &Json::String(name), self.types.resolve(node))
+    }
+
     // The value of an array.
     fn array(&self, values: Vec<Value>) -> Value {
         if self.second {
@@ -65,60 +90,67 @@ impl Source<'_> {
     }
 }
 
+// The value of the JSON. `left` is how many nodes may still be inside each other.
 #[cycle(read)]
 fn read(from: &Source<'_>, json: &Json<'_>, node: &Node, left: usize) -> Result<Value, Fault> {
     let Some(left) = left.checked_sub(1) else {
         return Err(Fault::new(from.alloc, "the type contains itself without end"));
     };
     match from.types.resolve(node) {
-        Node::List(limit, element) => read_list(from, json, element, *limit, left),
-        Node::Array(element, count) => read_array(from, json, element, *count, left),
-        Node::Map(key, part) => read_map(from, json, key, part, left),
-        Node::Tuple(nodes) => read_tuple(from, json, nodes, left),
-        Node::Struct(members) => read_struct(from, json, members, left),
-        Node::Option(inner) => read_option(from, json, inner, left),
-        Node::Result(ok, err) => read_result(from, json, ok, err, left),
-        Node::Enum(variants) => read_enum(from, json, variants, left),
-        leaf => read_leaf(from.alloc, json, leaf, from.second),
-    }
-}
-
-#[cycle(read)]
-fn read_list(
-    from: &Source<'_>,
-    json: &Json<'_>,
-    element: &Node,
-    limit: Option<usize>,
-    left: usize,
-) -> Result<Value, Fault> {
-    let Json::Array(items) = json else {
-        return Err(from.expected("a list", json));
-    };
-    if let Some(limit) = limit
-        && items.len() > limit
-    {
-        let what = format!(in from.alloc; "expected at most {limit} elements")?;
-        return Err(Fault::new(from.alloc, what.as_str()));
-    }
-    Ok(Value::Seq(read_items(from, items, element, left)?))
-}
-
-#[cycle(read)]
-fn read_array(
-    from: &Source<'_>,
-    json: &Json<'_>,
-    element: &Node,
-    count: usize,
-    left: usize,
-) -> Result<Value, Fault> {
-    match json {
-        Json::Array(items) if items.len() == count => {
+        Node::List(limit, element) => {
+            let items = list_within(from.alloc, json, *limit)?;
+            Ok(Value::Seq(read_items(from, items, element, left)?))
+        }
+        Node::Array(element, count) => {
+            let items = list_of(from.alloc, json, *count, "elements")?;
             Ok(from.array(read_items(from, items, element, left)?))
         }
-        _ => {
-            let what = format!(in from.alloc; "a list of {count} elements")?;
-            Err(from.expected(what.as_str(), json))
+        Node::Map(key, part) => {
+            if let Some(members) = members_of_map(from.types, json, key) {
+                read_object(from, members, key, part, left)
+            } else {
+                read_pairs(from, list_of_pairs(from.alloc, json)?, key, part, left)
+            }
         }
+        Node::Tuple(nodes) => {
+            let items = list_of(from.alloc, json, nodes.len(), "fields")?;
+            Ok(Value::Tuple(read_tuple(from, items, nodes, left)?))
+        }
+        Node::Struct(members) => {
+            let given = members_of_struct(from.alloc, json, members)?;
+            Ok(Value::Tuple(read_struct(from, given, members, left)?))
+        }
+        Node::Option(inner) => {
+            if json.is_null() {
+                return Ok(Value::Option(None));
+            }
+            let value = match wrapped(from.types, json, inner) {
+                Some(part) => read_payload(from, part, inner, SOME, left)?,
+                None => read(from, json, inner, left)?,
+            };
+            Ok(Value::Option(Some(from.boxed(value)?)))
+        }
+        Node::Result(ok, err) => {
+            let (index, part) = result_of(from.alloc, json)?;
+            let value = if index == 0 {
+                read_payload(from, part, ok, "Ok", left)?
+            } else {
+                read_payload(from, part, err, "Err", left)?
+            };
+            from.variant(index, value)
+        }
+        Node::Enum(variants) => {
+            let (index, part) = variant_of(from.alloc, json, variants)?;
+            let Some(variant) = variants.get(index) else {
+                return Err(from.expected("a variant", json));
+            };
+            let value = match part {
+                Some(part) => read_payload(from, part, &variant.node, &variant.name, left)?,
+                None => from.unit(json, variant)?,
+            };
+            from.variant(index, value)
+        }
+        leaf => read_leaf(from.alloc, json, leaf),
     }
 }
 
@@ -142,127 +174,58 @@ fn read_items(
 #[cycle(read)]
 fn read_tuple(
     from: &Source<'_>,
-    json: &Json<'_>,
+    items: &[Json<'_>],
     nodes: &[Node],
     left: usize,
-) -> Result<Value, Fault> {
-    let count = nodes.len();
-    let items = match json {
-        Json::Array(items) if items.len() == count => items,
-        _ => {
-            let what = format!(in from.alloc; "a list of {count} fields")?;
-            return Err(from.expected(what.as_str(), json));
-        }
-    };
-    let mut values = Vec::with_capacity(from.alloc, count)?;
-    for index in 0..items.len() {
-        match read(from, &items[index], &nodes[index], left) {
+) -> Result<Vec<Value>, Fault> {
+    let mut values = Vec::with_capacity(from.alloc, items.len())?;
+    for (index, (item, node)) in items.iter().zip(nodes).enumerate() {
+        match read(from, item, node, left) {
             Ok(value) => values.push(value)?,
             Err(fault) => return Err(fault.in_item(from.alloc, index)),
         }
     }
-    Ok(Value::Tuple(values))
+    Ok(values)
 }
 
+// The fields of a struct. An option may be left out.
 #[cycle(read)]
-fn read_struct(
+fn read_struct<'a>(
     from: &Source<'_>,
-    json: &Json<'_>,
+    given: &[JsonMember<'a>],
     members: &[Member],
     left: usize,
-) -> Result<Value, Fault> {
-    let Json::Object(given) = json else {
-        return Err(from.expected("an object", json));
-    };
+) -> Result<Vec<Value>, Fault> {
     let mut values = Vec::with_capacity(from.alloc, members.len())?;
-    let mut found = 0usize;
     for index in 0..members.len() {
         let member = &members[index];
-        let part = find(json, given, index, &member.name);
-        found = found.saturating_add(usize::from(part.is_some()));
-        match read_field(from, part, &member.node, left) {
+        let value = match find(given, index, &member.name) {
+            Some(part) => read(from, part, &member.node, left),
+            None => from.missing(&member.node),
+        };
+        match value {
             Ok(value) => values.push(value)?,
             Err(fault) => return Err(fault.in_field(from.alloc, &member.name)),
         }
     }
-    if given.len() != found {
-        return Err(other_field(from.alloc, given, members));
-    }
-    Ok(Value::Tuple(values))
+    Ok(values)
 }
 
-// The member of this name, which is sought in its place first.
-fn find<'v, 'a>(
-    json: &'v Json<'a>,
-    given: &'v [(&'a str, Json<'a>)],
-    index: usize,
-    name: &str,
-) -> Option<&'v Json<'a>> {
-    match given.get(index) {
-        Some(member) if member.0 == name => Some(&member.1),
-        _ => json.get(name),
-    }
-}
-
-// A field of a struct. An option may be left out.
+// A map whose keys are texts, from an object.
 #[cycle(read)]
-fn read_field(
+fn read_object<'a>(
     from: &Source<'_>,
-    part: Option<&Json<'_>>,
-    node: &Node,
-    left: usize,
-) -> Result<Value, Fault> {
-    match part {
-        Some(part) => read(from, part, node, left),
-        None => match from.types.resolve(node) {
-            Node::Option(_) => Ok(Value::Option(None)),
-            _ => Err(Fault::new(from.alloc, "the field is missing")),
-        },
-    }
-}
-
-// What is said of a member that is no field of the struct, or that comes twice.
-fn other_field(alloc: Global, given: &[(&str, Json<'_>)], members: &[Member]) -> Fault {
-    for member in given {
-        if !members.iter().any(|known| known.name.as_str() == member.0) {
-            return Fault::new(alloc, "the type has no such field").in_field(alloc, member.0);
-        }
-    }
-    Fault::new(alloc, "a field comes twice")
-}
-
-#[cycle(read)]
-fn read_map(
-    from: &Source<'_>,
-    json: &Json<'_>,
-    key: &Node,
-    part: &Node,
-    left: usize,
-) -> Result<Value, Fault> {
-    let has_texts = has_text_keys(from.types, key);
-    match json {
-        Json::Object(members) if has_texts => read_object(from, members, key, part, left),
-        Json::Array(items) => read_pairs(from, items, key, part, left),
-        _ if has_texts => Err(from.expected("an object", json)),
-        _ => Err(from.expected("a list of pairs", json)),
-    }
-}
-
-#[cycle(read)]
-fn read_object(
-    from: &Source<'_>,
-    members: &[(&str, Json<'_>)],
+    members: &[JsonMember<'a>],
     key: &Node,
     part: &Node,
     left: usize,
 ) -> Result<Value, Fault> {
     let mut pairs = Vec::with_capacity(from.alloc, members.len())?;
     for member in members {
-        let pair = match read_member(from, member.0, &member.1, key, part, left) {
-            Ok(pair) => pair,
+        match read(from, &member.1, part, left) {
+            Ok(value) => pairs.push((from.key(member.0, key)?, value))?,
             Err(fault) => return Err(fault.in_field(from.alloc, member.0)),
-        };
-        pairs.push(pair)?;
+        }
     }
     if !are_distinct(from.alloc, &pairs)? {
         let what = "a key comes twice: write a list of pairs";
@@ -271,20 +234,7 @@ fn read_object(
     Ok(Value::Map(pairs))
 }
 
-// A pair of a map, whose key is a text.
-#[cycle(read)]
-fn read_member(
-    from: &Source<'_>,
-    name: &str,
-    json: &Json<'_>,
-    key: &Node,
-    part: &Node,
-    left: usize,
-) -> Result<(Value, Value), Fault> {
-    let key = read_leaf(from.alloc, &Json::String(name), from.types.resolve(key), from.second)?;
-    Ok((key, read(from, json, part, left)?))
-}
-
+// Any map, from a list of pairs.
 #[cycle(read)]
 fn read_pairs(
     from: &Source<'_>,
@@ -295,118 +245,20 @@ fn read_pairs(
 ) -> Result<Value, Fault> {
     let mut pairs = Vec::with_capacity(from.alloc, items.len())?;
     for index in 0..items.len() {
-        match read_pair(from, &items[index], key, part, left) {
-            Ok(pair) => pairs.push(pair)?,
+        let (first, second) = match pair_of(from.alloc, &items[index]) {
+            Ok(pair) => pair,
             Err(fault) => return Err(fault.in_item(from.alloc, index)),
+        };
+        let first = match read(from, first, key, left) {
+            Ok(first) => first,
+            Err(fault) => return Err(fault.in_item(from.alloc, 0).in_item(from.alloc, index)),
+        };
+        match read(from, second, part, left) {
+            Ok(second) => pairs.push((first, second))?,
+            Err(fault) => return Err(fault.in_item(from.alloc, 1).in_item(from.alloc, index)),
         }
     }
     Ok(Value::Map(pairs))
-}
-
-#[cycle(read)]
-fn read_pair(
-    from: &Source<'_>,
-    json: &Json<'_>,
-    key: &Node,
-    part: &Node,
-    left: usize,
-) -> Result<(Value, Value), Fault> {
-    let (first, second) = match json {
-        Json::Array(items) => match items.as_slice() {
-            [first, second] => (first, second),
-            _ => return Err(from.expected("a list of a key and a value", json)),
-        },
-        _ => return Err(from.expected("a list of a key and a value", json)),
-    };
-    let key = match read(from, first, key, left) {
-        Ok(key) => key,
-        Err(fault) => return Err(fault.in_item(from.alloc, 0)),
-    };
-    match read(from, second, part, left) {
-        Ok(value) => Ok((key, value)),
-        Err(fault) => Err(fault.in_item(from.alloc, 1)),
-    }
-}
-
-// The one member of an object.
-fn only_member<'v, 'a>(json: &'v Json<'a>) -> Option<&'v (&'a str, Json<'a>)> {
-    match json {
-        Json::Object(members) => match members.as_slice() {
-            [member] => Some(member),
-            _ => None,
-        },
-        _ => None,
-    }
-}
-
-#[cycle(read)]
-fn read_option(
-    from: &Source<'_>,
-    json: &Json<'_>,
-    inner: &Node,
-    left: usize,
-) -> Result<Value, Fault> {
-    if let Json::Null = json {
-        return Ok(Value::Option(None));
-    }
-    let value = match only_member(json) {
-        Some(member) if member.0 == SOME && is_nullable(from.types, inner) => {
-            read_payload(from, &member.1, inner, member.0, left)?
-        }
-        _ => read(from, json, inner, left)?,
-    };
-    Ok(Value::Option(Some(from.boxed(value)?)))
-}
-
-#[cycle(read)]
-fn read_result(
-    from: &Source<'_>,
-    json: &Json<'_>,
-    ok: &Node,
-    err: &Node,
-    left: usize,
-) -> Result<Value, Fault> {
-    let Some(member) = only_member(json) else {
-        return Err(from.expected("an object with `Ok` or `Err`", json));
-    };
-    match member.0 {
-        "Ok" => from.variant(0, read_payload(from, &member.1, ok, "Ok", left)?),
-        "Err" => from.variant(1, read_payload(from, &member.1, err, "Err", left)?),
-        _ => Err(from.expected("an object with `Ok` or `Err`", json)),
-    }
-}
-
-#[cycle(read)]
-fn read_enum(
-    from: &Source<'_>,
-    json: &Json<'_>,
-    variants: &[Member],
-    left: usize,
-) -> Result<Value, Fault> {
-    let (name, part) = match json {
-        Json::String(name) => (*name, None),
-        _ => match only_member(json) {
-            Some(member) => (member.0, Some(&member.1)),
-            None => return Err(from.expected("a variant", json)),
-        },
-    };
-    let Some(index) = variants.iter().position(|variant| variant.name.as_str() == name) else {
-        let what = format!(in from.alloc; "the type has no variant `{name}`")?;
-        return Err(Fault::new(from.alloc, what.as_str()));
-    };
-    let variant = &variants[index];
-    match part {
-        Some(part) => {
-            from.variant(index, read_payload(from, part, &variant.node, name, left)?)
-        }
-        None => match from.types.resolve(&variant.node) {
-            Node::Unit => from.variant(index, Value::Unit),
-            _ => {
-                let what = format!(in from.alloc; "an object with `{name}` and its fields")?;
-                Err(from.expected(what.as_str(), json))
-            }
-        },
-    }
 }
 
 // The value of a member.

@@ -12,12 +12,7 @@ use uuid::Uuid;
 const MOST_NANOS: u32 = 999_999_999;
 
 /// The value of a node without parts.
-pub fn read_leaf(
-    alloc: Global,
-    json: &Json<'_>,
-    node: &Node,
-    second: bool,
-) -> Result<Value, Fault> {
+pub fn read_leaf(alloc: Global, json: &Json<'_>, node: &Node) -> Result<Value, Fault> {
     match node {
         Node::Int(kind) => match integer(json, *kind) {
             Some(value) => Ok(value),
@@ -30,7 +25,7 @@ pub fn read_leaf(
         },
         Node::Text(limit) => read_text(alloc, json, *limit),
         Node::Duration => read_duration(alloc, json),
-        Node::Uuid => read_uuid(alloc, json, second),
+        Node::Uuid => read_uuid(alloc, json),
         Node::Named(_) => Err(Fault::new(alloc, "the type contains itself without end")),
         _ => match plain(json, node) {
             Some(value) => Ok(value),
@@ -180,18 +175,10 @@ fn read_duration(alloc: Global, json: &Json<'_>) -> Result<Value, Fault> {
     }
 }
 
-fn read_uuid(alloc: Global, json: &Json<'_>, second: bool) -> Result<Value, Fault> {
+fn read_uuid(alloc: Global, json: &Json<'_>) -> Result<Value, Fault> {
     let text = json.as_str().unwrap_or("");
     let Ok(uuid) = Uuid::parse_str(text) else {
         return Err(expected(alloc, "the text of a UUID", json));
     };
-    let mut bytes = Vec::with_capacity(alloc, 16)?;
-    for byte in uuid.as_bytes() {
-        bytes.push(Value::U8(*byte))?;
-    }
-    Ok(if second {
-        Value::Tuple(bytes)
-    } else {
-        Value::Seq(bytes)
-    })
+    Ok(Value::Bytes(uuid.as_bytes().to_vec(alloc)?))
 }

@@ -105,35 +105,15 @@ fn write_duration(value: &Value, out: &mut Writer) -> Result<bool, AllocError> {
     Ok(true)
 }
 
-// The sixteen bytes of a list.
-fn bytes_of(values: &[Value]) -> Option<[u8; 16]> {
-    let mut bytes = [0; 16];
-    if values.len() != 16 {
-        return None;
-    }
-    for index in 0..16 {
-        match &values[index] {
-            Value::U8(byte) => bytes[index] = *byte,
-            _ => return None,
-        }
-    }
-    Some(bytes)
-}
-
 // Hexadecimal digits, in five groups.
 fn write_uuid(value: &Value, out: &mut Writer) -> Result<bool, AllocError> {
-    let bytes = match value {
-        Value::Seq(values) => bytes_of(values),
-        Value::Tuple(values) => bytes_of(values),
-        _ => None,
+    let Value::Bytes(bytes) = value else {
+        return Ok(false);
     };
-    match bytes {
-        Some(bytes) => {
-            let mut buffer = Uuid::encode_buffer();
-            let text = Uuid::from_bytes(bytes).hyphenated();
-            out.string(text.encode_lower(&mut buffer))?;
-            Ok(true)
-        }
-        None => Ok(false),
-    }
+    let Ok(uuid) = Uuid::from_slice(bytes) else {
+        return Ok(false);
+    };
+    let mut buffer = Uuid::encode_buffer();
+    out.string(uuid.hyphenated().encode_lower(&mut buffer))?;
+    Ok(true)
 }

@@ -10,12 +10,14 @@ mod formats;
 mod from_json;
 mod from_leaf;
 mod json_leaf;
+mod json_parts;
 mod json_text;
 mod leaf;
 mod maps;
 mod node;
 mod options;
 mod part_text;
+mod picture;
 mod schema_file;
 mod sealed_parts;
 mod table;
@@ -35,6 +37,7 @@ fn call(
     shows: bool,
 ) -> Result<(), Failure> {
     match matches.subcommand() {
+        Some(("columns", words)) => calls::show(rt, words, shows),
         Some(("decode", words)) => calls::decode(rt, words, shows),
         Some(("encode", words)) => calls::encode(rt, words, shows),
         Some(("check", words)) => calls::check(rt, words, shows),

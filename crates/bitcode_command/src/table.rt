@@ -1,6 +1,7 @@
-//! The columns of an input as a table.
+//! The columns of an input as a table, and as JSON.
 use crate::part_text::{kind_text, packing_text, path_text};
 use bitcode_schema::columns::part::ColumnPart;
+use json::Writer;
 use std::alloc::{AllocError, Global};
 
 // How many cells the bar of all bytes has.
@@ -68,6 +69,32 @@ fn bar(alloc: Global, cells: usize) -> Result<String, AllocError> {
         text.push_str("█")?;
     }
     Ok(text)
+}
+
+/// The same as a list of JSON.
+pub fn table_json(alloc: Global, parts: &[ColumnPart]) -> Result<Vec<u8>, AllocError> {
+    let mut out = Writer::new(Vec::new(alloc));
+    out.begin_array()?;
+    for part in parts {
+        out.begin_object()?;
+        out.key("path")?;
+        out.string(&part.path)?;
+        out.key("kind")?;
+        out.string(&kind_text(alloc, part.kind)?)?;
+        out.key("entries")?;
+        out.u64(part.entries as u64)?;
+        out.key("offset")?;
+        out.u64(part.offset as u64)?;
+        out.key("bytes")?;
+        out.u64(part.size as u64)?;
+        out.key("packing")?;
+        out.string(&packing_text(alloc, part)?)?;
+        out.end_object()?;
+    }
+    out.end_array()?;
+    let mut bytes = out.into_inner();
+    bytes.push(b'\n')?;
+    Ok(bytes)
 }
 
 // How wide each column of the table is.

@@ -3,10 +3,10 @@ use crate::fault::Fault;
 use crate::json_leaf::write_leaf;
 use crate::maps::{are_distinct, has_text_keys};
 use crate::node::{Member, Node, Types};
-use crate::options::{is_nullable, looks_wrapped};
+use crate::options::{SOME, is_nullable, looks_wrapped};
 use bitcode_untyped::value::Value;
 use json::Writer;
-use std::alloc::Global;
+use std::alloc::{AllocError, Global};
 
 /// How deep JSON may nest.
 pub const MOST_DEEP: usize = 127;
@@ -60,10 +60,24 @@ fn write(
     out: &mut Writer,
 ) -> Result<(), Fault> {
     match to.types.resolve(node) {
-        Node::List(_, element) => write_list(to, value, element, depth, out),
-        Node::Array(element, _) => write_list(to, value, element, depth, out),
+        Node::List(_, element) => match value {
+            Value::Seq(values) => write_items(to, values, element, depth, out),
+            Value::Bytes(bytes) => Ok(write_numbers(bytes, out)?),
+            _ => Err(to.mismatch()),
+        },
+        Node::Array(element, _) => match value {
+            Value::Seq(values) => write_items(to, values, element, depth, out),
+            Value::Tuple(values) => write_items(to, values, element, depth, out),
+            _ => Err(to.mismatch()),
+        },
         Node::Map(key, part) => match value {
-            Value::Map(pairs) => write_map(to, pairs, key, part, depth, out),
+            Value::Map(pairs) => {
+                if has_text_keys(to.types, key) && are_distinct(to.alloc, pairs)? {
+                    write_object(to, pairs, part, depth, out)
+                } else {
+                    write_pairs(to, pairs, key, part, depth, out)
+                }
+            }
             _ => Err(to.mismatch()),
         },
         Node::Tuple(nodes) => match value {
@@ -76,7 +90,13 @@ fn write(
         },
         Node::Option(inner) => match value {
             Value::Option(None) => Ok(out.null()?),
-            Value::Option(Some(value)) => write_some(to, value, inner, depth, out),
+            Value::Option(Some(value)) => {
+                if is_nullable(to.types, inner) && looks_wrapped(to.types, value, inner) {
+                    write_payload(to, value, inner, SOME, depth, out)
+                } else {
+                    write(to, value, inner, depth, out)
+                }
+            }
             _ => Err(to.mismatch()),
         },
         Node::Result(ok, err) => match value {
@@ -86,7 +106,10 @@ fn write(
         },
         Node::Enum(variants) => match value {
             Value::Enum(index, value) => match variants.get(*index as usize) {
-                Some(variant) => write_variant(to, value, variant, depth, out),
+                Some(variant) => match to.types.resolve(&variant.node) {
+                    Node::Unit => Ok(out.string(&variant.name)?),
+                    node => write_payload(to, value, node, &variant.name, depth, out),
+                },
                 None => Err(to.mismatch()),
             },
             _ => Err(to.mismatch()),
@@ -95,27 +118,13 @@ fn write(
     }
 }
 
-// A list, a set or an array.
-#[cycle(write)]
-fn write_list(
-    to: &Target<'_>,
-    value: &Value,
-    element: &Node,
-    depth: usize,
-    out: &mut Writer,
-) -> Result<(), Fault> {
-    match value {
-        Value::Seq(values) => write_items(to, values, element, depth, out),
-        Value::Tuple(values) => write_items(to, values, element, depth, out),
-        Value::Bytes(bytes) => {
-            out.begin_array()?;
-            for byte in bytes {
-                out.u64(*byte as u64)?;
-            }
-            Ok(out.end_array()?)
-        }
-        _ => Err(to.mismatch()),
+// The bytes of a list.
+fn write_numbers(bytes: &[u8], out: &mut Writer) -> Result<(), AllocError> {
+    out.begin_array()?;
+    for byte in bytes {
+        out.u64(*byte as u64)?;
     }
+    out.end_array()
 }
 
 #[cycle(write)]
@@ -180,23 +189,7 @@ fn write_struct(
     Ok(out.end_object()?)
 }
 
-// A map: an object if the keys are different texts, and otherwise a list of pairs.
-#[cycle(write)]
-fn write_map(
-    to: &Target<'_>,
-    pairs: &[(Value, Value)],
-    key: &Node,
-    part: &Node,
-    depth: usize,
-    out: &mut Writer,
-) -> Result<(), Fault> {
-    if has_text_keys(to.types, key) && are_distinct(to.alloc, pairs)? {
-        write_object(to, pairs, part, depth, out)
-    } else {
-        write_pairs(to, pairs, key, part, depth, out)
-    }
-}
-
+// A map whose keys are different texts.
 #[cycle(write)]
 fn write_object(
     to: &Target<'_>,
@@ -220,6 +213,7 @@ fn write_object(
     Ok(out.end_object()?)
 }
 
+// Any other map: a list of pairs.
 #[cycle(write)]
 fn write_pairs(
     to: &Target<'_>,
@@ -246,37 +240,7 @@ fn write_pairs(
     Ok(out.end_array()?)
 }
 
-// `Some(value)`: the value, or an object with the member `Some` if the value alone would be read otherwise.
-#[cycle(write)]
-fn write_some(
-    to: &Target<'_>,
-    value: &Value,
-    inner: &Node,
-    depth: usize,
-    out: &mut Writer,
-) -> Result<(), Fault> {
-    if is_nullable(to.types, inner) && looks_wrapped(to.types, value, inner) {
-        write_payload(to, value, inner, "Some", depth, out)
-    } else {
-        write(to, value, inner, depth, out)
-    }
-}
-
-// An enum: the name of a variant without fields, and otherwise an object with one member.
-#[cycle(write)]
-fn write_variant(
-    to: &Target<'_>,
-    value: &Value,
-    variant: &Member,
-    depth: usize,
-    out: &mut Writer,
-) -> Result<(), Fault> {
-    match to.types.resolve(&variant.node) {
-        Node::Unit => Ok(out.string(&variant.name)?),
-        node => write_payload(to, value, node, &variant.name, depth, out),
-    }
-}
-
+// An object with one member.
 #[cycle(write)]
 fn write_payload(
     to: &Target<'_>,
