@@ -100,7 +100,16 @@ fn character(text: &str) -> Option<char> {
 }
 
 // A float that JSON cannot say as a number.
-fn named_float(name: &str) -> Option<f64> {
+fn named32(name: &str) -> Option<f32> {
+    match name {
+        "NaN" => Some(f32::NAN),
+        "Infinity" => Some(f32::INFINITY),
+        "-Infinity" => Some(f32::NEG_INFINITY),
+        _ => None,
+    }
+}
+
+fn named64(name: &str) -> Option<f64> {
     match name {
         "NaN" => Some(f64::NAN),
         "Infinity" => Some(f64::INFINITY),
@@ -115,7 +124,7 @@ fn float32(json: &Json<'_>) -> Option<f32> {
             let x: f32 = fast_float::parse(*text).ok()?;
             if x.is_finite() { Some(x) } else { None }
         }
-        Json::String(name) => Some(named_float(name)? as f32),
+        Json::String(name) => named32(name),
         _ => None,
     }
 }
@@ -126,7 +135,7 @@ fn float64(json: &Json<'_>) -> Option<f64> {
             let x: f64 = fast_float::parse(*text).ok()?;
             if x.is_finite() { Some(x) } else { None }
         }
-        Json::String(name) => named_float(name),
+        Json::String(name) => named64(name),
         _ => None,
     }
 }

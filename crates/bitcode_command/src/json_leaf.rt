@@ -65,7 +65,7 @@ fn write_f32(x: f32, out: &mut Writer) -> Result<(), AllocError> {
     if x.is_finite() {
         out.float(x)
     } else {
-        out.string(name_of(x as f64))
+        out.string(name_of(x.is_nan(), x > 0.0))
     }
 }
 
@@ -73,15 +73,15 @@ fn write_f64(x: f64, out: &mut Writer) -> Result<(), AllocError> {
     if x.is_finite() {
         out.float(x)
     } else {
-        out.string(name_of(x))
+        out.string(name_of(x.is_nan(), x > 0.0))
     }
 }
 
 // The name of a float that is not finite.
-fn name_of(x: f64) -> &'static str {
-    if x.is_nan() {
+fn name_of(is_nan: bool, is_positive: bool) -> &'static str {
+    if is_nan {
         "NaN"
-    } else if x > 0.0 {
+    } else if is_positive {
         "Infinity"
     } else {
         "-Infinity"

@@ -51,7 +51,7 @@ fn row(alloc: Global, part: &ColumnPart, all: usize) -> Result<Vec<String>, Allo
     cells.push(format!(in alloc; "{offset}")?)?;
     cells.push(format!(in alloc; "{size}")?)?;
     cells.push(packing_text(alloc, part)?)?;
-    cells.push(format!(in alloc; "{share:>3}% {bar}")?)?;
+    cells.push(format!(in alloc; "{share:>3}%{bar}")?)?;
     Ok(cells)
 }
 
@@ -65,6 +65,9 @@ pub fn share_of(bytes: usize, all: usize, cells: usize) -> usize {
 
 fn bar(alloc: Global, cells: usize) -> Result<String, AllocError> {
     let mut text = String::new(alloc);
+    if cells > 0 {
+        text.push_str(" ")?;
+    }
     for _ in 0..cells {
         text.push_str("█")?;
     }
