@@ -17,7 +17,7 @@ import sys
 
 # The pages, and how many words each may have.
 WORDS = {
-    "README.md": 730,
+    "README.md": 770,
     "CHANGES.md": 1500,
     "CONTRIBUTING.md": 1200,
     "SECURITY.md": 350,
@@ -36,7 +36,7 @@ WORDS = {
     "docs/TESTING.md": 1220,
     "docs/TOOLCHAIN.md": 1650,
 }
-WORDS_IN_ALL = 28900
+WORDS_IN_ALL = 29000
 COLUMNS = 120
 HISTORY = "docs/HISTORY.md"
 COUNTED = "docs/TESTING.md"

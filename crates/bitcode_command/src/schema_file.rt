@@ -7,6 +7,9 @@ use json::{Scratch, Value};
 use std::alloc::Global;
 use std::collections::BTreeMap;
 
+// How many nodes may be inside each other: as many as JSON may nest.
+const MOST_DEEP: usize = 128;
+
 // The indices of the declared types, by their names.
 type Names<'a> = BTreeMap<&'a str, usize>;
 
@@ -29,7 +32,7 @@ pub fn read_schema(alloc: Global, text: &str) -> Result<Types, Fault> {
     let Some(part) = file.get("root") else {
         return Err(Fault::new(alloc, "expected `root`"));
     };
-    match read_node(alloc, part, &names) {
+    match read_node(alloc, part, &names, MOST_DEEP) {
         Ok(root) => Ok(Types { nodes, root }),
         Err(fault) => Err(fault.in_field(alloc, "root")),
     }
@@ -75,7 +78,7 @@ fn read_types<'a>(
 ) -> Result<Vec<Node>, Fault> {
     let mut nodes = Vec::new(alloc);
     for member in types {
-        match read_node(alloc, &member.1, names) {
+        match read_node(alloc, &member.1, names, MOST_DEEP) {
             Ok(node) => nodes.push(node)?,
             Err(fault) => return Err(fault.in_field(alloc, member.0).in_field(alloc, "types")),
         }
@@ -85,11 +88,19 @@ fn read_types<'a>(
 
 // A node: a name, or an object of one member.
 #[cycle(schema)]
-fn read_node<'a>(alloc: Global, value: &Value<'a>, names: &Names<'a>) -> Result<Node, Fault> {
+fn read_node<'a>(
+    alloc: Global,
+    value: &Value<'a>,
+    names: &Names<'a>,
+    left: usize,
+) -> Result<Node, Fault> {
+    let Some(left) = left.checked_sub(1) else {
+        return Err(Fault::new(alloc, "nested too deep"));
+    };
     match value {
         Value::String(name) => read_name(alloc, name, names),
         Value::Object(members) => match members.as_slice() {
-            [member] => match read_composite(alloc, &member.1, member.0, names) {
+            [member] => match read_composite(alloc, &member.1, member.0, names, left) {
                 Ok(node) => Ok(node),
                 Err(fault) => Err(fault.in_field(alloc, member.0)),
             },
@@ -120,16 +131,17 @@ fn read_composite<'a>(
     value: &Value<'a>,
     name: &str,
     names: &Names<'a>,
+    left: usize,
 ) -> Result<Node, Fault> {
     match name {
-        "Vec" => Ok(Node::List(None, Box::new(alloc, read_node(alloc, value, names)?)?)),
-        "Option" => Ok(Node::Option(Box::new(alloc, read_node(alloc, value, names)?)?)),
+        "Vec" => Ok(Node::List(None, Box::new(alloc, read_node(alloc, value, names, left)?)?)),
+        "Option" => Ok(Node::Option(Box::new(alloc, read_node(alloc, value, names, left)?)?)),
         "ArrayString" => Ok(Node::Text(Some(read_number(alloc, value)?))),
-        "ArrayVec" | "array" => read_counted(alloc, value, name, names),
-        "BTreeMap" | "Result" => read_two(alloc, value, name, names),
-        "tuple" => Ok(Node::Tuple(read_nodes(alloc, items_of(alloc, value)?, names)?)),
-        "struct" => Ok(Node::Struct(read_members(alloc, members_of(alloc, value)?, names)?)),
-        "enum" => Ok(Node::Enum(read_members(alloc, members_of(alloc, value)?, names)?)),
+        "ArrayVec" | "array" => read_counted(alloc, value, name, names, left),
+        "BTreeMap" | "Result" => read_two(alloc, value, name, names, left),
+        "tuple" => Ok(Node::Tuple(read_nodes(alloc, items_of(alloc, value)?, names, left)?)),
+        "struct" => Ok(Node::Struct(read_members(alloc, members_of(alloc, value)?, names, left)?)),
+        "enum" => Ok(Node::Enum(read_members(alloc, members_of(alloc, value)?, names, left)?)),
         _ => {
             let what = format!(in alloc; "`{name}` is no type with parameters")?;
             Err(Fault::new(alloc, what.as_str()))
@@ -152,11 +164,12 @@ fn read_counted<'a>(
     value: &Value<'a>,
     name: &str,
     names: &Names<'a>,
+    left: usize,
 ) -> Result<Node, Fault> {
     let [element, count] = items_of(alloc, value)?.as_slice() else {
         return Err(expected(alloc, "a list of a type and a number", value));
     };
-    let element = match read_node(alloc, element, names) {
+    let element = match read_node(alloc, element, names, left) {
         Ok(node) => Box::new(alloc, node)?,
         Err(fault) => return Err(fault.in_item(alloc, 0)),
     };
@@ -174,15 +187,16 @@ fn read_two<'a>(
     value: &Value<'a>,
     name: &str,
     names: &Names<'a>,
+    left: usize,
 ) -> Result<Node, Fault> {
     let [first, second] = items_of(alloc, value)?.as_slice() else {
         return Err(expected(alloc, "a list of two types", value));
     };
-    let first = match read_node(alloc, first, names) {
+    let first = match read_node(alloc, first, names, left) {
         Ok(node) => Box::new(alloc, node)?,
         Err(fault) => return Err(fault.in_item(alloc, 0)),
     };
-    let second = match read_node(alloc, second, names) {
+    let second = match read_node(alloc, second, names, left) {
         Ok(node) => Box::new(alloc, node)?,
         Err(fault) => return Err(fault.in_item(alloc, 1)),
     };
@@ -199,10 +213,11 @@ fn read_nodes<'a>(
     alloc: Global,
     values: &[Value<'a>],
     names: &Names<'a>,
+    left: usize,
 ) -> Result<Vec<Node>, Fault> {
     let mut nodes = Vec::new(alloc);
     for index in 0..values.len() {
-        match read_node(alloc, &values[index], names) {
+        match read_node(alloc, &values[index], names, left) {
             Ok(node) => nodes.push(node)?,
             Err(fault) => return Err(fault.in_item(alloc, index)),
         }
@@ -216,10 +231,11 @@ fn read_members<'a>(
     alloc: Global,
     values: &[(&'a str, Value<'a>)],
     names: &Names<'a>,
+    left: usize,
 ) -> Result<Vec<Member>, Fault> {
     let mut members = Vec::new(alloc);
     for member in values {
-        let node = match read_node(alloc, &member.1, names) {
+        let node = match read_node(alloc, &member.1, names, left) {
             Ok(node) => node,
             Err(fault) => return Err(fault.in_field(alloc, member.0)),
         };

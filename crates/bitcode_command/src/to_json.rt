@@ -1,4 +1,6 @@
 //! Writing values as JSON.
+ghost use Rattle.std.specs.Prelude.{◌≡◌, ◌<◌, IfOk};
+
 use crate::fault::Fault;
 use crate::json_leaf::write_leaf;
 use crate::maps::{are_distinct, has_text_keys};
@@ -8,8 +10,11 @@ use bitcode_untyped::value::Value;
 use json::Writer;
 use std::alloc::{AllocError, Global};
 
-/// How deep JSON may nest.
-pub const MOST_DEEP: usize = 127;
+// How many lists and objects may be inside each other, and how many values: options between them count too.
+const ROOM: Room = Room {
+    depth: 127,
+    left: 1024,
+};
 
 /// Puts the JSON of a value of the schema behind what `out` has.
 ///
@@ -22,8 +27,15 @@ pub fn to_json(
 ) -> Result<Vec<u8>, Fault> {
     let mut out = Writer::new(out);
     let target = Target { alloc, types };
-    write(&target, value, &types.root, MOST_DEEP, &mut out)?;
+    write(&target, value, &types.root, ROOM, &mut out)?;
     Ok(out.into_inner())
+}
+
+// How many lists and objects may still be inside, and how many values.
+#[derive(Clone, Copy)]
+struct Room {
+    depth: usize,
+    left: usize,
 }
 
 // What all calls need.
@@ -38,10 +50,28 @@ impl Target<'_> {
         Fault::new(self.alloc, what)
     }
 
-    // The depth inside a list or an object.
-    fn inside(&self, depth: usize) -> Result<usize, Fault> {
-        match depth.checked_sub(1) {
-            Some(depth) => Ok(depth),
+    // The room inside a value.
+    fn below(&self, room: Room) -> Result<Room, Fault>
+        ensures { IfOk result (λ below. below.left < room.left) }
+    {
+        match room.left.checked_sub(1) {
+            Some(left) => Ok(Room {
+                depth: room.depth,
+                left,
+            }),
+            None => Err(self.fault("nested too deep")),
+        }
+    }
+
+    // The room inside a list or an object.
+    fn inside(&self, room: Room) -> Result<Room, Fault>
+        ensures { IfOk result (λ inside. inside.left ≡ room.left) }
+    {
+        match room.depth.checked_sub(1) {
+            Some(depth) => Ok(Room {
+                depth,
+                left: room.left,
+            }),
             None => Err(self.fault("nested deeper than 127 lists and objects")),
         }
     }
@@ -56,59 +86,60 @@ fn write(
     to: &Target<'_>,
     value: &Value,
     node: &Node,
-    depth: usize,
+    room: Room,
     out: &mut Writer,
 ) -> Result<(), Fault> {
+    let room = to.below(room)?;
     match to.types.resolve(node) {
         Node::List(_, element) => match value {
-            Value::Seq(values) => write_items(to, values, element, depth, out),
+            Value::Seq(values) => write_items(to, values, element, room, out),
             Value::Bytes(bytes) => Ok(write_numbers(bytes, out)?),
             _ => Err(to.mismatch()),
         },
         Node::Array(element, _) => match value {
-            Value::Seq(values) => write_items(to, values, element, depth, out),
-            Value::Tuple(values) => write_items(to, values, element, depth, out),
+            Value::Seq(values) => write_items(to, values, element, room, out),
+            Value::Tuple(values) => write_items(to, values, element, room, out),
             _ => Err(to.mismatch()),
         },
         Node::Map(key, part) => match value {
             Value::Map(pairs) => {
                 if has_text_keys(to.types, key) && are_distinct(to.alloc, pairs)? {
-                    write_object(to, pairs, part, depth, out)
+                    write_object(to, pairs, part, room, out)
                 } else {
-                    write_pairs(to, pairs, key, part, depth, out)
+                    write_pairs(to, pairs, key, part, room, out)
                 }
             }
             _ => Err(to.mismatch()),
         },
         Node::Tuple(nodes) => match value {
-            Value::Tuple(values) => write_tuple(to, values, nodes, depth, out),
+            Value::Tuple(values) => write_tuple(to, values, nodes, room, out),
             _ => Err(to.mismatch()),
         },
         Node::Struct(members) => match value {
-            Value::Tuple(values) => write_struct(to, values, members, depth, out),
+            Value::Tuple(values) => write_struct(to, values, members, room, out),
             _ => Err(to.mismatch()),
         },
         Node::Option(inner) => match value {
             Value::Option(None) => Ok(out.null()?),
             Value::Option(Some(value)) => {
                 if is_nullable(to.types, inner) && looks_wrapped(to.types, value, inner) {
-                    write_payload(to, value, inner, SOME, depth, out)
+                    write_payload(to, value, inner, SOME, room, out)
                 } else {
-                    write(to, value, inner, depth, out)
+                    write(to, value, inner, room, out)
                 }
             }
             _ => Err(to.mismatch()),
         },
         Node::Result(ok, err) => match value {
-            Value::Enum(0, value) => write_payload(to, value, ok, "Ok", depth, out),
-            Value::Enum(1, value) => write_payload(to, value, err, "Err", depth, out),
+            Value::Enum(0, value) => write_payload(to, value, ok, "Ok", room, out),
+            Value::Enum(1, value) => write_payload(to, value, err, "Err", room, out),
             _ => Err(to.mismatch()),
         },
         Node::Enum(variants) => match value {
             Value::Enum(index, value) => match variants.get(*index as usize) {
                 Some(variant) => match to.types.resolve(&variant.node) {
                     Node::Unit => Ok(out.string(&variant.name)?),
-                    node => write_payload(to, value, node, &variant.name, depth, out),
+                    node => write_payload(to, value, node, &variant.name, room, out),
                 },
                 None => Err(to.mismatch()),
             },
@@ -132,10 +163,10 @@ fn write_items(
     to: &Target<'_>,
     values: &[Value],
     element: &Node,
-    depth: usize,
+    room: Room,
     out: &mut Writer,
 ) -> Result<(), Fault> {
-    let inside = to.inside(depth)?;
+    let inside = to.inside(room)?;
     out.begin_array()?;
     for index in 0..values.len() {
         if let Err(fault) = write(to, &values[index], element, inside, out) {
@@ -150,13 +181,13 @@ fn write_tuple(
     to: &Target<'_>,
     values: &[Value],
     nodes: &[Node],
-    depth: usize,
+    room: Room,
     out: &mut Writer,
 ) -> Result<(), Fault> {
     if values.len() != nodes.len() {
         return Err(to.mismatch());
     }
-    let inside = to.inside(depth)?;
+    let inside = to.inside(room)?;
     out.begin_array()?;
     for index in 0..values.len() {
         if let Err(fault) = write(to, &values[index], &nodes[index], inside, out) {
@@ -171,13 +202,13 @@ fn write_struct(
     to: &Target<'_>,
     values: &[Value],
     members: &[Member],
-    depth: usize,
+    room: Room,
     out: &mut Writer,
 ) -> Result<(), Fault> {
     if values.len() != members.len() {
         return Err(to.mismatch());
     }
-    let inside = to.inside(depth)?;
+    let inside = to.inside(room)?;
     out.begin_object()?;
     for index in 0..values.len() {
         let member = &members[index];
@@ -195,10 +226,10 @@ fn write_object(
     to: &Target<'_>,
     pairs: &[(Value, Value)],
     part: &Node,
-    depth: usize,
+    room: Room,
     out: &mut Writer,
 ) -> Result<(), Fault> {
-    let inside = to.inside(depth)?;
+    let inside = to.inside(room)?;
     out.begin_object()?;
     for index in 0..pairs.len() {
         let pair = &pairs[index];
@@ -220,10 +251,10 @@ fn write_pairs(
     pairs: &[(Value, Value)],
     key: &Node,
     part: &Node,
-    depth: usize,
+    room: Room,
     out: &mut Writer,
 ) -> Result<(), Fault> {
-    let inside = to.inside(depth)?;
+    let inside = to.inside(room)?;
     out.begin_array()?;
     for index in 0..pairs.len() {
         let pair = &pairs[index];
@@ -247,10 +278,10 @@ fn write_payload(
     value: &Value,
     node: &Node,
     name: &str,
-    depth: usize,
+    room: Room,
     out: &mut Writer,
 ) -> Result<(), Fault> {
-    let inside = to.inside(depth)?;
+    let inside = to.inside(room)?;
     out.begin_object()?;
     out.key(name)?;
     match write(to, value, node, inside, out) {
