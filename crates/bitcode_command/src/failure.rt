@@ -85,7 +85,10 @@ impl fmt::Display for Failure {
             Failure::Bytes(error) => write!(f, "{error}"),
             Failure::Column(fault) => write_column(fault, f),
             Failure::Sealed { error, offset: 0 } => write!(f, "{error}"),
-            Failure::Sealed { error, offset } => write!(f, "{error}, in the value at byte {offset}"),
+            Failure::Sealed { error, offset } => write!(
+                f,
+                "{error}, in the value at byte {offset}"
+            ),
             Failure::Words(what) => write!(f, "{what}"),
         }
     }

@@ -7,10 +7,7 @@ use std::fmt;
 pub enum Fault {
     OutOfMemory,
     /// What is wrong at the place that the path leads to. The path of the whole is empty.
-    At {
-        path: String,
-        what: String,
-    },
+    At { path: String, what: String },
 }
 
 impl Fault {

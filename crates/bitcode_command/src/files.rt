@@ -7,10 +7,12 @@ use std::{fs, io};
 
 // How many bytes are read at once, and after how many a terminal shows the progress.
 const CHUNK: usize = 1 << 16;
+
 const SHOWN: usize = 1 << 24;
 
 // The name of standard input and output in messages.
 const STANDARD_INPUT: &str = "standard input";
+
 const STANDARD_OUTPUT: &str = "standard output";
 
 /// The bytes of a file, or of standard input. With `shows` a terminal shows how many of a long input there are so far.

@@ -66,7 +66,12 @@ impl Format {
 
     /// Accepts only the bytes that are written for their value. The failure of the first format names the first column
     /// with other bytes.
-    pub fn check_strictly(&self, alloc: Global, bytes: &[u8], value: &Value) -> Result<(), Failure> {
+    pub fn check_strictly(
+        &self,
+        alloc: Global,
+        bytes: &[u8],
+        value: &Value,
+    ) -> Result<(), Failure> {
         let written = self.encode(alloc, value)?;
         if written.as_slice() == bytes {
             return Ok(());
@@ -78,7 +83,10 @@ impl Format {
             return Err(other);
         };
         let parts = columns(alloc, schema, bytes)?;
-        match parts.into_iter().find(|part| !is_written(part, bytes, &written)) {
+        match parts
+            .into_iter()
+            .find(|part| !is_written(part, bytes, &written))
+        {
             Some(part) => Err(Failure::Column(ColumnFault {
                 path: part.path,
                 offset: part.offset,

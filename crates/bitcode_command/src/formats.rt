@@ -10,6 +10,7 @@ use std::alloc::{AllocFailed, Global};
 // How deep the nodes of a schema may lie inside each other, and how many there may be, if each type is written out
 // wherever it is named.
 const MOST_DEEP: usize = 512;
+
 const MOST_NODES: usize = 1 << 16;
 
 // What all calls need. `left` is how many nodes may still be made.

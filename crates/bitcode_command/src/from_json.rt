@@ -2,8 +2,8 @@
 use crate::fault::Fault;
 use crate::from_leaf::read_leaf;
 use crate::json_parts::{
-    JsonMember, find, list_of, list_of_pairs, list_within, members_of_map, members_of_struct, pair_of,
-    result_of, variant_of, wrapped,
+    JsonMember, find, list_of, list_of_pairs, list_within, members_of_map, members_of_struct,
+    pair_of, result_of, variant_of, wrapped,
 };
 use crate::json_text::expected;
 use crate::maps::are_distinct;

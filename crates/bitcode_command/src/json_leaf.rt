@@ -7,7 +7,12 @@ use std::alloc::{AllocError, Global};
 use uuid::Uuid;
 
 /// Writes a value of a node without parts.
-pub fn write_leaf(alloc: Global, value: &Value, node: &Node, out: &mut Writer) -> Result<(), Fault> {
+pub fn write_leaf(
+    alloc: Global,
+    value: &Value,
+    node: &Node,
+    out: &mut Writer,
+) -> Result<(), Fault> {
     let is_written = match node {
         Node::Duration => write_duration(value, out)?,
         Node::Uuid => write_uuid(value, out)?,

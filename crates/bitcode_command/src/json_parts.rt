@@ -146,11 +146,7 @@ fn only_member<'v, 'a>(json: &'v Value<'a>) -> Option<&'v JsonMember<'a>> {
 }
 
 /// What an object with the one member `Some` holds, where it stands for an option.
-pub fn wrapped<'v, 'a>(
-    types: &Types,
-    json: &'v Value<'a>,
-    inner: &Node,
-) -> Option<&'v Value<'a>> {
+pub fn wrapped<'v, 'a>(types: &Types, json: &'v Value<'a>, inner: &Node) -> Option<&'v Value<'a>> {
     match only_member(json) {
         Some(member) if member.0 == SOME && is_nullable(types, inner) => Some(&member.1),
         _ => None,

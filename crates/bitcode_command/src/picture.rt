@@ -6,9 +6,11 @@ use std::alloc::{AllocError, Global};
 
 // The height of a row, and how long the bar of all bytes is.
 const ROW: usize = 24;
+
 const WIDEST: usize = 400;
 
-const STYLE: &str = "<style>text{font:13px sans-serif;fill:#1f2328}.quiet{fill:#59636e}rect{fill:#0969da}\
+const STYLE: &str =
+    "<style>text{font:13px sans-serif;fill:#1f2328}.quiet{fill:#59636e}rect{fill:#0969da}\
 @media(prefers-color-scheme:dark){text{fill:#f0f6fc}.quiet{fill:#9198a1}rect{fill:#4493f8}}</style>";
 
 /// An SVG picture of an input's columns: a bar for each, as long as its share of the bytes. Its colours suit a light and

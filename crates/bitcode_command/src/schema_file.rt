@@ -118,7 +118,9 @@ fn read_name<'a>(alloc: Global, name: &'a str, names: &Names<'a>) -> Result<Node
     match leaf(name) {
         Some(node) => Ok(node),
         None => {
-            let what = format!(in alloc; "`{name}` is neither a type of the format nor one of `types`")?;
+            let what = format!(in alloc;
+                "`{name}` is neither a type of the format nor one of `types`"
+            )?;
             Err(Fault::new(alloc, what.as_str()))
         }
     }
@@ -134,7 +136,10 @@ fn read_composite<'a>(
     left: usize,
 ) -> Result<Node, Fault> {
     match name {
-        "Vec" => Ok(Node::List(None, Box::new(alloc, read_node(alloc, value, names, left)?)?)),
+        "Vec" => Ok(Node::List(
+            None,
+            Box::new(alloc, read_node(alloc, value, names, left)?)?,
+        )),
         "Option" => Ok(Node::Option(Box::new(alloc, read_node(alloc, value, names, left)?)?)),
         "ArrayString" => Ok(Node::Text(Some(read_number(alloc, value)?))),
         "ArrayVec" | "array" => read_counted(alloc, value, name, names, left),

@@ -70,7 +70,10 @@ pub fn sealed_parts(alloc: Global, input: &[u8], many: bool) -> Result<Vec<Part<
     for _ in 0..input.len().max(1) {
         let (part, behind) = match open_front(rest) {
             Ok(found) => found,
-            Err(error) => return Err(Failure::of_seal(error, input.len().saturating_sub(rest.len()))),
+            Err(error) => return Err(Failure::of_seal(
+                error,
+                input.len().saturating_sub(rest.len()),
+            )),
         };
         parts.push(part)?;
         rest = behind;

@@ -8,7 +8,10 @@ use std::alloc::{AllocError, Global};
 const CELLS: usize = 20;
 
 // What heads the columns of the table. Numbers are on the right in theirs.
-const HEADS: [&str; 7] = ["column", "kind", "entries", "offset", "bytes", "packing", "share"];
+const HEADS: [&str; 7] = [
+    "column", "kind", "entries", "offset", "bytes", "packing", "share",
+];
+
 const NUMBERS: [bool; 7] = [false, false, true, true, true, false, false];
 
 /// The table of an input's columns: a line for each, with a bar for its share of the bytes.
@@ -120,7 +123,11 @@ fn push_row(text: &mut String, cells: &[String], widths: &[usize]) -> Result<(),
         }
         push_spaces(text, gap)?;
         text.push_str(cell)?;
-        gap = if *is_number { 2 } else { missing.saturating_add(2) };
+        gap = if *is_number {
+            2
+        } else {
+            missing.saturating_add(2)
+        };
     }
     text.push_str("\n")
 }

@@ -64,11 +64,19 @@ fn sealed<'a>(alloc: Global) -> Arg<'a> {
 }
 
 fn many<'a>(alloc: Global) -> Arg<'a> {
-    flag(alloc, "many", "The file has sealed values, one behind the other")
+    flag(
+        alloc,
+        "many",
+        "The file has sealed values, one behind the other",
+    )
 }
 
 fn second<'a>(alloc: Global) -> Arg<'a> {
-    flag(alloc, "second", "The second format, which has recursive types")
+    flag(
+        alloc,
+        "second",
+        "The second format, which has recursive types",
+    )
 }
 
 fn limit<'a>(alloc: Global) -> Arg<'a> {
@@ -118,14 +126,20 @@ fn encode<'a>(alloc: Global) -> Result<Command<'a>, AllocError> {
 
 fn check<'a>(alloc: Global) -> Result<Command<'a>, AllocError> {
     Command::new(alloc, "check")
-        .about("Tells in a line whether the file has a value of the type, or which column is at fault")
+        .about(
+            "Tells in a line whether the file has a value of the type, or which column is at fault",
+        )
         .arg(file(alloc))?
         .arg(schema(alloc).required(true))?
         .arg(second(alloc))?
         .arg(limit(alloc))?
         .arg(sealed(alloc))?
         .arg(many(alloc))?
-        .arg(flag(alloc, "strict", "Accept only the bytes that `encode` writes"))
+        .arg(flag(
+            alloc,
+            "strict",
+            "Accept only the bytes that `encode` writes",
+        ))
 }
 
 fn seal<'a>(alloc: Global) -> Result<Command<'a>, AllocError> {
