@@ -33,7 +33,7 @@ WORDS = {
     "docs/PROVING.md": 1050,
     "docs/SEALED.md": 1050,
     "docs/SPEED.md": 780,
-    "docs/TESTING.md": 1220,
+    "docs/TESTING.md": 1240,
     "docs/TOOLCHAIN.md": 1650,
 }
 WORDS_IN_ALL = 29000
