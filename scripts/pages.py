@@ -36,7 +36,7 @@ WORDS = {
     "docs/TESTING.md": 1240,
     "docs/TOOLCHAIN.md": 1650,
 }
-WORDS_IN_ALL = 29000
+WORDS_IN_ALL = 29100
 COLUMNS = 120
 HISTORY = "docs/HISTORY.md"
 COUNTED = "docs/TESTING.md"
