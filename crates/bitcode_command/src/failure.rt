@@ -33,6 +33,10 @@ impl Failure {
     pub fn status(&self) -> u8 {
         match self {
             Failure::Json(Fault::OutOfMemory) | Failure::OutOfMemory => 5,
+            Failure::Schema {
+                fault: Fault::OutOfMemory,
+                ..
+            } => 5,
             Failure::File { .. } | Failure::Print(_) => 4,
             Failure::Schema { .. } => 3,
             Failure::Words(_) => 2,
