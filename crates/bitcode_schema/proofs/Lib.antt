@@ -2,12 +2,3 @@ pub mod ChoiceLemmas
 pub mod FieldLemmas
 pub mod SequenceLemmas
 pub mod NodeLemmas
-pub mod HoldLemmas
-pub mod SeenLemmas
-pub mod ListWritingLemmas
-pub mod PairWritingLemmas
-pub mod ArrayWritingLemmas
-pub mod ChoiceWritingLemmas
-pub mod LeafWritingLemmas
-pub mod ContentLemmas
-pub mod LoopLemmas

@@ -4,7 +4,3 @@ pub mod Forms
 pub mod Depth
 pub mod Reading
 pub mod Variants
-pub mod Views
-pub mod Writing
-pub mod Choosing
-pub mod Cases

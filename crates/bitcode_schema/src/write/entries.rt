@@ -1,21 +1,16 @@
 //! Writing single columns: lengths and variants.
-ghost use Rattle.std.specs.Prelude.{◌≡◌, ◌++◌, ◌<◌, ◌≤◌, All, length, map, OnOk, IfErr};
-ghost use Rattle.bitcode_memory.specs.declared.error.Reason.TheVariants.{OutOfMemory};
-ghost use Rattle.bitcode_coder.specs.LengthColumn.{length_bytes};
-ghost use Rattle.bitcode_columns.specs.VariantColumn.{variant_text};
+ghost use Rattle.std.specs.Prelude.{◌<◌, All, IsTrue};
+
 
 use bitcode_coder::coder::Buffer;
 use bitcode_coder::length::LengthEncoder;
 use bitcode_columns::pack::pack_bytes_less_than;
-use bitcode_memory::error::Error;
+use bitcode_memory::error::{Error, Reason};
+use bitcode_memory::refuse::err;
 use std::alloc::Global;
 
 /// Appends the column of the lengths of lists.
 pub fn write_lengths<T>(alloc: Global, lists: &[&[T]], out: &mut Vec<u8>) -> Result<(), Error>
-    ensures written { OnOk result
-        (out.new.items ≡ out.old.items ++ length_bytes
-        (map (λ l. length l) (map (λ l. l.now) lists.now))) }
-    ensures refused { IfErr result (λ e. e.reason ≡ OutOfMemory) }
 {
     let mut column = LengthEncoder::new(alloc);
     column.reserve(lists.len())?;
@@ -25,20 +20,29 @@ pub fn write_lengths<T>(alloc: Global, lists: &[&[T]], out: &mut Vec<u8>) -> Res
     column.collect_into(out)
 }
 
-/// Appends the column of variants, each one of so many.
-pub fn write_variants(count: usize, variants: &[u8], out: &mut Vec<u8>) -> Result<(), Error>
-    requires count { (2 ≤ count) × (count ≤ 256) }
-    requires below { All (λ variant. variant < count) variants.now }
-    ensures written { OnOk result
-        (out.new.items ≡ out.old.items ++ variant_text count variants.now) }
-    ensures refused { IfErr result (λ e. e.reason ≡ OutOfMemory) }
+// Whether each of the variants is below a number.
+fn are_below(variants: &[u8], count: usize) -> bool
+    ensures { IsTrue result → All (λ variant. variant < count) variants.now }
 {
+    variants.iter().all(|variant| (*variant as usize) < count)
+}
+
+// Appends the column of variants below `N`.
+fn write_below<const N: usize>(variants: &[u8], out: &mut Vec<u8>) -> Result<(), Error> {
+    if !are_below(variants, N) {
+        return err(Reason::NotOfTheShape);
+    }
+    pack_bytes_less_than::<N>(variants, out)
+}
+
+/// Appends the column of variants, each one of so many.
+pub fn write_variants(count: usize, variants: &[u8], out: &mut Vec<u8>) -> Result<(), Error> {
     match count {
-        0..=2 => pack_bytes_less_than::<2>(variants, out),
-        3 => pack_bytes_less_than::<3>(variants, out),
-        4 => pack_bytes_less_than::<4>(variants, out),
-        5..=6 => pack_bytes_less_than::<6>(variants, out),
-        7..=16 => pack_bytes_less_than::<16>(variants, out),
-        _ => pack_bytes_less_than::<256>(variants, out),
+        0..=2 => write_below::<2>(variants, out),
+        3 => write_below::<3>(variants, out),
+        4 => write_below::<4>(variants, out),
+        5..=6 => write_below::<6>(variants, out),
+        7..=16 => write_below::<16>(variants, out),
+        _ => write_below::<256>(variants, out),
     }
 }
