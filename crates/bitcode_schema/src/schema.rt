@@ -1,11 +1,11 @@
 //! Schemas: trees that say which columns the bytes have, and what the values are called.
-ghost use Rattle.std.specs.Prelude.{◌≡◌, ◌<◌, ◌≤◌, nat_le, length, true, IfOk, IfErr, IfSome, slice_get, Some, IsSome, IfNone};
+ghost use Rattle.std.specs.Prelude.{◌≡◌, ◌&&◌, ◌<◌, ◌≤◌, nat_le, length, true, IfOk, IfErr, IfSome, slice_get, Some, IsSome, IfNone};
 ghost use Rattle.std.specs.List.{list_all};
 ghost use Rattle.bitcode_shapes.specs.Shape.{unit_shape};
 ghost use Rattle.bitcode_enums.specs.ByNumber.{shape_at};
 ghost use Rattle.bitcode_schema.specs.Forms.{shape_of, shapes_of};
 ghost use Rattle.bitcode_schema.specs.Reading.{variant_shapes};
-ghost use Rattle.bitcode_schema.specs.Depth.{depth, has_few_variants, IsAccepted, IsRefused, fields_of};
+ghost use Rattle.bitcode_schema.specs.Depth.{depth, has_few_variants, IsAccepted, IsRefused, fields_of, most_variants};
 
 use bitcode_memory::error::{Error, Reason};
 use bitcode_memory::refuse::err;
@@ -100,9 +100,7 @@ impl SchemaNode {
             SchemaNode::Struct(fields) => parts_have_few(fields),
             SchemaNode::Option(some) => some.has_few_variants(),
             SchemaNode::Result(ok, err) => ok.has_few_variants() && err.has_few_variants(),
-            SchemaNode::Enum(variants) => variants.len() <= MOST_VARIANTS && parts_have_few(
-                variants,
-            ),
+            SchemaNode::Enum(variants) => variants_have_few(variants),
             _ => true,
         }
     }
@@ -216,6 +214,14 @@ fn parts_have_few(parts: &[(String, SchemaNode)]) -> bool
         }
     }
     true
+}
+
+#[cycle(few)]
+fn variants_have_few(variants: &[(String, SchemaNode)]) -> bool
+    ensures { result ≡ (nat_le (length variants.now) most_variants
+        && list_all (λ part. has_few_variants part.1) variants.now) }
+{
+    variants.len() <= MOST_VARIANTS && parts_have_few(variants)
 }
 
 /// A tree of nodes for the bytes of one value.
