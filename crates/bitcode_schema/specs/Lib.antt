@@ -4,3 +4,4 @@ pub mod Forms
 pub mod Depth
 pub mod Reading
 pub mod Variants
+pub mod Placing

@@ -1,6 +1,7 @@
 //! Where each column of an input is, and how it is packed.
-ghost use Rattle.std.specs.Prelude.{◌≡◌, ◌<◌, ◌≤◌, length, true};
+ghost use Rattle.std.specs.Prelude.{◌≡◌, ◌<◌, ◌≤◌, length, true, IfOk};
 ghost use Rattle.bitcode_schema.specs.Depth.{has_few_variants};
+ghost use Rattle.bitcode_schema.specs.Placing.{stand_from};
 ghost use Rattle.bitcode_schema.specs.Reading.{variant_shapes};
 
 use crate::columns::part::{ColumnFault, ColumnPart, PartKind};
@@ -32,11 +33,9 @@ const ID_BYTES: usize = 16;
 /// The columns stand one behind another, in the order of the input, and fill it. A column of texts has two parts.
 ///
 /// The error is the first fault of the input, with the path and the offset of the column at fault.
-pub fn columns(
-    alloc: Global,
-    schema: &Schema,
-    bytes: &[u8],
-) -> Result<Vec<ColumnPart>, ColumnFault> {
+pub fn columns(alloc: Global, schema: &Schema, bytes: &[u8]) -> Result<Vec<ColumnPart>, ColumnFault>
+    ensures { IfOk result (λ parts. stand_from 0 parts.items (length bytes.now) ≡ true) }
+{
     let mut survey = Survey::new(alloc, bytes);
     survey_node(&mut survey, schema.root(), 1, "")?;
     survey.into_parts()
@@ -48,7 +47,9 @@ fn survey_ints(
     kind: IntKind,
     k: usize,
     path: &str,
-) -> Result<(), ColumnFault> {
+) -> Result<(), ColumnFault>
+    ensures { survey.new.whole.now ≡ survey.old.whole.now }
+{
     let part = PartKind::Ints(kind);
     match kind {
         IntKind::U8 => survey.column::<IntDecoder<u8>>(path, part, k),
@@ -70,7 +71,9 @@ fn survey_nonzero(
     kind: IntKind,
     k: usize,
     path: &str,
-) -> Result<(), ColumnFault> {
+) -> Result<(), ColumnFault>
+    ensures { survey.new.whole.now ≡ survey.old.whole.now }
+{
     let part = PartKind::Ints(kind);
     match kind {
         IntKind::U8 => survey.column::<CheckedIntDecoder<NonZeroU8, u8>>(path, part, k),
@@ -87,7 +90,9 @@ fn survey_nonzero(
 }
 
 // Reads the columns of `k` durations.
-fn survey_durations(survey: &mut Survey<'_>, k: usize, path: &str) -> Result<(), ColumnFault> {
+fn survey_durations(survey: &mut Survey<'_>, k: usize, path: &str) -> Result<(), ColumnFault>
+    ensures { survey.new.whole.now ≡ survey.old.whole.now }
+{
     let seconds = survey.below(path, "secs")?;
     survey.column::<IntDecoder<u64>>(&seconds, PartKind::Ints(IntKind::U64), k)?;
     let nanoseconds = survey.below(path, "nanos")?;
@@ -99,7 +104,9 @@ fn survey_durations(survey: &mut Survey<'_>, k: usize, path: &str) -> Result<(),
 }
 
 // Reads `k` values of a type without values.
-fn survey_never(survey: &mut Survey<'_>, k: usize, path: &str) -> Result<(), ColumnFault> {
+fn survey_never(survey: &mut Survey<'_>, k: usize, path: &str) -> Result<(), ColumnFault>
+    ensures { survey.new.whole.now ≡ survey.old.whole.now }
+{
     if k == 0 {
         return Ok(());
     }
@@ -107,7 +114,9 @@ fn survey_never(survey: &mut Survey<'_>, k: usize, path: &str) -> Result<(), Col
 }
 
 // Reads the column of the bytes of `k` ids.
-fn survey_ids(survey: &mut Survey<'_>, k: usize, path: &str) -> Result<(), ColumnFault> {
+fn survey_ids(survey: &mut Survey<'_>, k: usize, path: &str) -> Result<(), ColumnFault>
+    ensures { survey.new.whole.now ≡ survey.old.whole.now }
+{
     match k.checked_mul(ID_BYTES) {
         Some(bytes) => survey_ints(survey, IntKind::U8, bytes, path),
         None => survey.refuse(path, survey.rest(), Reason::LengthOverflow),
@@ -142,9 +151,7 @@ fn variant_path(
             Some(named) => survey.below(path, &named.0),
             None => survey.field(path, variant),
         },
-        SchemaNode::Result(_, _) => {
-            survey.below(path, if variant == 0 { "Ok" } else { "Err" })
-        }
+        SchemaNode::Result(_, _) => { survey.below(path, if variant == 0 { "Ok" } else { "Err" }) }
         _ => survey.below(path, if variant == 0 { "None" } else { "Some" }),
     }
 }
@@ -158,6 +165,7 @@ fn survey_node(
     path: &str,
 ) -> Result<(), ColumnFault>
     requires { has_few_variants node.now ≡ true }
+    ensures { survey.new.whole.now ≡ survey.old.whole.now }
 {
     match node {
         SchemaNode::Unit => Ok(()),
@@ -173,9 +181,7 @@ fn survey_node(
         SchemaNode::Str(capacity) => survey.texts(path, k, *capacity),
         SchemaNode::Duration => survey_durations(survey, k, path),
         SchemaNode::Uuid => survey_ids(survey, k, path),
-        SchemaNode::List(capacity, element) => {
-            survey_lists(survey, *capacity, element, k, path)
-        }
+        SchemaNode::List(capacity, element) => { survey_lists(survey, *capacity, element, k, path) }
         SchemaNode::Map(key, value) => survey_maps(survey, key, value, k, path),
         SchemaNode::Array(count, element) => survey_arrays(survey, *count, element, k, path),
         SchemaNode::Tuple(_) => survey_fields(survey, node, k, path),
@@ -204,6 +210,7 @@ fn survey_lists(
     path: &str,
 ) -> Result<(), ColumnFault>
     requires { has_few_variants element.now ≡ true }
+    ensures { survey.new.whole.now ≡ survey.old.whole.now }
 {
     let before = survey.rest();
     let sum = survey.lengths(path, k)?;
@@ -223,6 +230,7 @@ fn survey_maps(
 ) -> Result<(), ColumnFault>
     requires keys { has_few_variants key.now ≡ true }
     requires values { has_few_variants value.now ≡ true }
+    ensures { survey.new.whole.now ≡ survey.old.whole.now }
 {
     let sum = survey.lengths(path, k)?;
     let below = survey.elements(path)?;
@@ -242,6 +250,7 @@ fn survey_arrays(
     path: &str,
 ) -> Result<(), ColumnFault>
     requires { has_few_variants element.now ≡ true }
+    ensures { survey.new.whole.now ≡ survey.old.whole.now }
 {
     match k.checked_mul(count) {
         Some(all) => {
@@ -261,6 +270,7 @@ fn survey_fields(
     path: &str,
 ) -> Result<(), ColumnFault>
     requires { has_few_variants node.now ≡ true }
+    ensures { survey.new.whole.now ≡ survey.old.whole.now }
 {
     for i in 0..node.field_count() {
         let below = field_path(survey, node, path, i)?;
@@ -284,6 +294,7 @@ fn survey_choices(
     requires few { has_few_variants node.now ≡ true }
     requires several { (2 ≤ count) × (count ≤ 256) }
     requires count { length (variant_shapes node.now) ≡ count }
+    ensures { survey.new.whole.now ≡ survey.old.whole.now }
 {
     let counts = survey.variants(path, k, count)?;
     for variant in 0..count {
@@ -303,6 +314,7 @@ fn survey_payloads(
 ) -> Result<(), ColumnFault>
     requires few { has_few_variants node.now ≡ true }
     requires variant { variant < length (variant_shapes node.now) }
+    ensures { survey.new.whole.now ≡ survey.old.whole.now }
 {
     let below = variant_path(survey, node, path, variant)?;
     match node.payload(variant) {

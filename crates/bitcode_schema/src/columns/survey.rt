@@ -1,6 +1,7 @@
 //! Reading the columns of an input one after another, and noting where each is.
-ghost use Rattle.std.specs.Prelude.{◌≤◌, ◌+◌, length};
+ghost use Rattle.std.specs.Prelude.{◌≡◌, ◌≤◌, ◌-◌, length, true, IfOk};
 ghost use Rattle.bitcode_coder.specs.Length.{lengths_left};
+ghost use Rattle.bitcode_schema.specs.Placing.{stand_from};
 
 use crate::choices::read_variants;
 use crate::columns::packing::{
@@ -75,11 +76,15 @@ pub struct Survey<'a> {
     whole: &'a [u8],
     rest: &'a [u8],
     parts: Vec<ColumnPart>,
+    ghost within: { length rest.now ≤ length whole.now },
+    ghost stand: { stand_from 0 parts.items (length whole.now - length rest.now) ≡ true },
 }
 
 impl<'a> Survey<'a> {
     /// Creates the survey of an input of which nothing was read.
-    pub fn new(alloc: Global, input: &'a [u8]) -> Self {
+    pub fn new(alloc: Global, input: &'a [u8]) -> Self
+        ensures { result.whole.now ≡ input.now }
+    {
         Survey {
             alloc,
             whole: input,
@@ -89,7 +94,9 @@ impl<'a> Survey<'a> {
     }
 
     /// The columns, if nothing is left of the input.
-    pub fn into_parts(self) -> Result<Vec<ColumnPart>, ColumnFault> {
+    pub fn into_parts(self) -> Result<Vec<ColumnPart>, ColumnFault>
+        ensures { IfOk result (λ parts. stand_from 0 parts.items (length self.entry.whole.now) ≡ true) }
+    {
         if !self.rest.is_empty() {
             return Err(self.fault("", self.rest, Reason::ExpectedEof));
         }
@@ -154,29 +161,35 @@ impl<'a> Survey<'a> {
         }
     }
 
-    // Notes the column that was read from an input, up to the rest.
+    // Notes the column that was read, up to a rest of the input.
     fn note(
         &mut self,
         path: &str,
         kind: PartKind,
         entries: usize,
         packing: Packing,
-        before: &'a [u8],
-    ) -> Result<(), ColumnFault> {
+        rest: &'a [u8],
+    ) -> Result<(), ColumnFault>
+        requires { length rest.now ≤ length self.old.rest.now }
+        ensures { self.new.whole.now ≡ self.old.whole.now }
+    {
         let Ok(path) = String::from_str(self.alloc, path) else {
-            return Err(self.fault("", before, Reason::OutOfMemory));
+            return Err(self.fault("", self.rest, Reason::OutOfMemory));
         };
         let part = ColumnPart {
             path,
             kind,
             entries,
-            offset: self.offset_of(before),
-            size: taken(before, self.rest).len(),
+            offset: self.whole.len() - self.rest.len(),
+            size: self.rest.len() - rest.len(),
             packing,
         };
         match self.parts.push(part) {
-            Ok(()) => Ok(()),
-            Err(_) => Err(self.fault("", before, Reason::OutOfMemory)),
+            Ok(()) => {
+                self.rest = rest;
+                Ok(())
+            }
+            Err(_) => Err(self.fault("", self.rest, Reason::OutOfMemory)),
         }
     }
 
@@ -186,31 +199,35 @@ impl<'a> Survey<'a> {
         path: &str,
         kind: PartKind,
         k: usize,
-    ) -> Result<(), ColumnFault> {
-        let before = self.rest;
+    ) -> Result<(), ColumnFault>
+        ensures { self.new.whole.now ≡ self.old.whole.now }
+    {
+        let mut input = self.rest;
         let mut column = V::new(self.alloc);
-        match column.populate(&mut self.rest, k) {
+        match column.populate(&mut input, k) {
             Ok(()) => {
-                let packing = packing_of(kind, k, taken(before, self.rest));
-                self.note(path, kind, k, packing, before)
+                let packing = packing_of(kind, k, taken(self.rest, input));
+                self.note(path, kind, k, packing, input)
             }
-            Err(error) => Err(self.fault(path, before, error.reason)),
+            Err(error) => Err(self.fault(path, self.rest, error.reason)),
         }
     }
 
     /// Reads a column of `k` lengths, and tells their sum.
-    pub fn lengths(&mut self, path: &str, k: usize) -> Result<usize, ColumnFault> {
-        let before = self.rest;
+    pub fn lengths(&mut self, path: &str, k: usize) -> Result<usize, ColumnFault>
+        ensures { self.new.whole.now ≡ self.old.whole.now }
+    {
+        let mut input = self.rest;
         let mut lengths = LengthDecoder::new(self.alloc);
-        match lengths.populate(&mut self.rest, k) {
+        match lengths.populate(&mut input, k) {
             Ok(()) => {
                 let sum = lengths.length();
                 let large = count_large(&mut lengths, k);
-                let packing = packing_of_lengths(k, large, taken(before, self.rest));
-                self.note(path, PartKind::Lengths, k, packing, before)?;
+                let packing = packing_of_lengths(k, large, taken(self.rest, input));
+                self.note(path, PartKind::Lengths, k, packing, input)?;
                 Ok(sum)
             }
-            Err(error) => Err(self.fault(path, before, error.reason)),
+            Err(error) => Err(self.fault(path, self.rest, error.reason)),
         }
     }
 
@@ -249,19 +266,29 @@ impl<'a> Survey<'a> {
         path: &str,
         k: usize,
         capacity: Option<usize>,
-    ) -> Result<(), ColumnFault> {
+    ) -> Result<(), ColumnFault>
+        ensures { self.new.whole.now ≡ self.old.whole.now }
+    {
         let before = self.rest;
         let sum = self.lengths(path, k)?;
-        let bytes = self.rest;
-        let mut texts = StrDecoder::new(self.alloc);
         let mut input = before;
+        let mut texts = StrDecoder::new(self.alloc);
         match texts.populate(&mut input, k) {
             Ok(()) => (),
-            Err(error) => return Err(self.fault(path, bytes, error.reason)),
+            Err(error) => return Err(self.fault(path, self.rest, error.reason)),
         }
         self.keep_within(path, before, k, capacity, Reason::InvalidArrayString)?;
-        self.rest = input;
-        self.note(path, PartKind::TextBytes, sum, Packing::Raw, bytes)
+        self.bytes(path, sum)
+    }
+
+    // Takes so many bytes of texts, which were read.
+    fn bytes(&mut self, path: &str, count: usize) -> Result<(), ColumnFault>
+        ensures { self.new.whole.now ≡ self.old.whole.now }
+    {
+        match self.rest.get(count..) {
+            Some(behind) => self.note(path, PartKind::TextBytes, count, Packing::Raw, behind),
+            None => Err(self.fault(path, self.rest, Reason::Eof)),
+        }
     }
 
     /// Reads a column of `k` variants, and counts each.
@@ -272,17 +299,18 @@ impl<'a> Survey<'a> {
         variants: usize,
     ) -> Result<[usize; 256], ColumnFault>
         requires { (2 ≤ variants) × (variants ≤ 256) }
+        ensures { self.new.whole.now ≡ self.old.whole.now }
     {
-        let before = self.rest;
+        let mut input = self.rest;
         let mut entries = CowSlice::new(self.alloc);
-        match read_variants(self.alloc, &mut self.rest, k, variants, &mut entries, false) {
+        match read_variants(self.alloc, &mut input, k, variants, &mut entries, false) {
             Ok(_) => {
                 let counts = histogram(entries.as_slice());
                 let packing = packing_of_variants(variants);
-                self.note(path, PartKind::Variants(variants), k, packing, before)?;
+                self.note(path, PartKind::Variants(variants), k, packing, input)?;
                 Ok(counts)
             }
-            Err(error) => Err(self.fault(path, before, error.reason)),
+            Err(error) => Err(self.fault(path, self.rest, error.reason)),
         }
     }
 }

@@ -6,8 +6,7 @@ use bitcode_untyped::value::Value;
 use std::alloc::Global;
 
 /// The elements of each list.
-pub fn lists<'a>(alloc: Global, values: &[&'a Value]) -> Result<Vec<&'a [Value]>, Error>
-{
+pub fn lists<'a>(alloc: Global, values: &[&'a Value]) -> Result<Vec<&'a [Value]>, Error> {
     let mut held = Vec::new(alloc);
     for value in values {
         match value {
@@ -19,8 +18,7 @@ pub fn lists<'a>(alloc: Global, values: &[&'a Value]) -> Result<Vec<&'a [Value]>
 }
 
 /// The keys and values of each map.
-pub fn maps<'a>(alloc: Global, values: &[&'a Value]) -> Result<Vec<&'a [(Value, Value)]>, Error>
-{
+pub fn maps<'a>(alloc: Global, values: &[&'a Value]) -> Result<Vec<&'a [(Value, Value)]>, Error> {
     let mut held = Vec::new(alloc);
     for value in values {
         match value {
@@ -32,8 +30,7 @@ pub fn maps<'a>(alloc: Global, values: &[&'a Value]) -> Result<Vec<&'a [(Value, 
 }
 
 /// The fields of each tuple.
-pub fn tuples<'a>(alloc: Global, values: &[&'a Value]) -> Result<Vec<&'a [Value]>, Error>
-{
+pub fn tuples<'a>(alloc: Global, values: &[&'a Value]) -> Result<Vec<&'a [Value]>, Error> {
     let mut held = Vec::new(alloc);
     for value in values {
         match value {
@@ -48,8 +45,7 @@ pub fn tuples<'a>(alloc: Global, values: &[&'a Value]) -> Result<Vec<&'a [Value]
 pub fn options<'a>(
     alloc: Global,
     values: &[&'a Value],
-) -> Result<Vec<&'a Option<Box<Value>>>, Error>
-{
+) -> Result<Vec<&'a Option<Box<Value>>>, Error> {
     let mut held = Vec::new(alloc);
     for value in values {
         match value {
@@ -61,8 +57,7 @@ pub fn options<'a>(
 }
 
 /// The variant of each enum, and its payload.
-pub fn enums<'a>(alloc: Global, values: &[&'a Value]) -> Result<Vec<(u32, &'a Value)>, Error>
-{
+pub fn enums<'a>(alloc: Global, values: &[&'a Value]) -> Result<Vec<(u32, &'a Value)>, Error> {
     let mut held = Vec::new(alloc);
     for value in values {
         match value {

@@ -1,7 +1,6 @@
 //! Writing single columns: lengths and variants.
 ghost use Rattle.std.specs.Prelude.{◌<◌, All, IsTrue};
 
-
 use bitcode_coder::coder::Buffer;
 use bitcode_coder::length::LengthEncoder;
 use bitcode_columns::pack::pack_bytes_less_than;
@@ -10,8 +9,7 @@ use bitcode_memory::refuse::err;
 use std::alloc::Global;
 
 /// Appends the column of the lengths of lists.
-pub fn write_lengths<T>(alloc: Global, lists: &[&[T]], out: &mut Vec<u8>) -> Result<(), Error>
-{
+pub fn write_lengths<T>(alloc: Global, lists: &[&[T]], out: &mut Vec<u8>) -> Result<(), Error> {
     let mut column = LengthEncoder::new(alloc);
     column.reserve(lists.len())?;
     for list in lists {

@@ -7,8 +7,7 @@ use bitcode_untyped::value::Value;
 use std::alloc::Global;
 
 // Adds references to each of several values.
-fn push_each<'a>(items: &'a [Value], parts: &mut Vec<&'a Value>) -> Result<(), Error>
-{
+fn push_each<'a>(items: &'a [Value], parts: &mut Vec<&'a Value>) -> Result<(), Error> {
     for item in items {
         parts.push(item)?;
     }
@@ -16,8 +15,7 @@ fn push_each<'a>(items: &'a [Value], parts: &mut Vec<&'a Value>) -> Result<(), E
 }
 
 /// The elements of all lists.
-pub fn flatten<'a>(alloc: Global, lists: &[&'a [Value]]) -> Result<Vec<&'a Value>, Error>
-{
+pub fn flatten<'a>(alloc: Global, lists: &[&'a [Value]]) -> Result<Vec<&'a Value>, Error> {
     let mut parts = Vec::new(alloc);
     for list in lists {
         push_each(list, &mut parts)?;
@@ -30,8 +28,7 @@ fn push_pairs<'a>(
     pairs: &'a [(Value, Value)],
     keys: &mut Vec<&'a Value>,
     parts: &mut Vec<&'a Value>,
-) -> Result<(), Error>
-{
+) -> Result<(), Error> {
     for pair in pairs {
         keys.push(&pair.0)?;
         parts.push(&pair.1)?;
@@ -43,8 +40,7 @@ fn push_pairs<'a>(
 pub fn split<'a>(
     alloc: Global,
     maps: &[&'a [(Value, Value)]],
-) -> Result<(Vec<&'a Value>, Vec<&'a Value>), Error>
-{
+) -> Result<(Vec<&'a Value>, Vec<&'a Value>), Error> {
     let mut keys = Vec::new(alloc);
     let mut parts = Vec::new(alloc);
     for map in maps {
@@ -54,8 +50,10 @@ pub fn split<'a>(
 }
 
 /// What those options hold that hold a value.
-pub fn somes<'a>(alloc: Global, options: &[&'a Option<Box<Value>>]) -> Result<Vec<&'a Value>, Error>
-{
+pub fn somes<'a>(
+    alloc: Global,
+    options: &[&'a Option<Box<Value>>],
+) -> Result<Vec<&'a Value>, Error> {
     let mut parts = Vec::new(alloc);
     for option in options {
         if let Some(held) = option {
@@ -70,8 +68,7 @@ pub fn payloads<'a>(
     alloc: Global,
     variant: usize,
     enums: &[(u32, &'a Value)],
-) -> Result<Vec<&'a Value>, Error>
-{
+) -> Result<Vec<&'a Value>, Error> {
     let mut parts = Vec::new(alloc);
     for entry in enums {
         if entry.0 as usize == variant {
@@ -82,8 +79,7 @@ pub fn payloads<'a>(
 }
 
 /// The variants of options: 0 for none.
-pub fn option_variants(alloc: Global, options: &[&Option<Box<Value>>]) -> Result<Vec<u8>, Error>
-{
+pub fn option_variants(alloc: Global, options: &[&Option<Box<Value>>]) -> Result<Vec<u8>, Error> {
     let mut variants = Vec::new(alloc);
     for option in options {
         match option {
@@ -110,8 +106,7 @@ pub fn enum_variants(alloc: Global, count: usize, enums: &[(u32, &Value)]) -> Re
 }
 
 /// Whether each list has at most so many elements, if there is a limit.
-pub fn are_within<T>(limit: Option<usize>, lists: &[&[T]]) -> bool
-{
+pub fn are_within<T>(limit: Option<usize>, lists: &[&[T]]) -> bool {
     let Some(limit) = limit else {
         return true;
     };
@@ -124,8 +119,7 @@ pub fn are_within<T>(limit: Option<usize>, lists: &[&[T]]) -> bool
 }
 
 /// Whether each list has so many elements.
-pub fn are_of_size<T>(size: usize, lists: &[&[T]]) -> bool
-{
+pub fn are_of_size<T>(size: usize, lists: &[&[T]]) -> bool {
     for list in lists {
         if list.len() != size {
             return false;
@@ -135,8 +129,7 @@ pub fn are_of_size<T>(size: usize, lists: &[&[T]]) -> bool
 }
 
 /// One field of each row.
-pub fn fields<'a>(alloc: Global, rows: &[&'a [Value]], i: usize) -> Result<Vec<&'a Value>, Error>
-{
+pub fn fields<'a>(alloc: Global, rows: &[&'a [Value]], i: usize) -> Result<Vec<&'a Value>, Error> {
     let mut parts = Vec::new(alloc);
     for row in rows {
         match row.get(i) {

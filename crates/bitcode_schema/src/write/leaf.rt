@@ -12,8 +12,7 @@ pub fn write_leaf<T: InCase, E: Buffer + Encoder<T> + Drop>(
     alloc: Global,
     values: &[&Value],
     out: &mut Vec<u8>,
-) -> Result<(), Error>
-{
+) -> Result<(), Error> {
     let mut column = E::new(alloc);
     column.reserve(values.len())?;
     for value in values {

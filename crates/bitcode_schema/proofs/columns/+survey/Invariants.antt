@@ -1,5 +1,5 @@
 -- The parts of a node are less deep.
-use Rattle.std.proofs.Common.{ℕ, ◌+◌, ◌*◌, max}
+use Rattle.std.proofs.Common.{◌≡◌, ℕ, ◌+◌, ◌*◌, max}
 use Rattle.bitcode_schema.specs.Depth.{depth}
 use Rattle.bitcode_schema.proofs.columns.+survey.Given as goal
 
@@ -23,3 +23,9 @@ decreases-survey_choices l = 8 * depth l.node.now + 3
 
 abbrev pub decreases-survey_payloads : goal.decreases-survey_payloads
 decreases-survey_payloads l = 8 * depth l.node.now + 2
+
+abbrev pub invariant-survey_fields-loop-i : goal.invariant-survey_fields-loop-i
+invariant-survey_fields-loop-i l = l.survey.whole.now ≡ l.initial.survey.whole.now
+
+abbrev pub invariant-survey_choices-loop-variant : goal.invariant-survey_choices-loop-variant
+invariant-survey_choices-loop-variant l = l.survey.whole.now ≡ l.initial.survey.whole.now
