@@ -61,7 +61,7 @@ fn count_large(lengths: &mut LengthDecoder<'_>, k: usize) -> usize
     requires { k ≤ length (lengths_left lengths.old) }
 {
     let mut large = 0;
-    for _ in 0..k {
+    for _taken in 0..k {
         if lengths.decode() >= ESCAPE {
             large += 1;
         }
