@@ -1,4 +1,14 @@
 //! Choices: the column of variants, and values of variants and payloads.
+ghost use Rattle.std.specs.Prelude.{◌≡◌, ◌<◌, ◌≤◌, ◌-◌, ◌++◌, ◌↔◌, ℕ, length, All, slice_index_or, IsTrue, IfOk, IfErr, OnOk};
+ghost use Rattle.bitcode_memory.specs.Fast.{cow_rest};
+ghost use Rattle.bitcode_memory.specs.declared.error.Reason.{Reason};
+ghost use Rattle.bitcode_columns.specs.Digits.{base_for};
+ghost use Rattle.bitcode_columns.specs.Histogram.{count_of};
+ghost use Rattle.bitcode_columns.specs.Reading.{Reads};
+ghost use Rattle.bitcode_columns.specs.VariantColumn.{SpellsVariants, variant_text};
+ghost use Rattle.bitcode_coder.specs.Faults.{NamesVariantsFault};
+ghost use Rattle.bitcode_schema.specs.Variants.{ReadsDigits, HasPayloads};
+
 use bitcode_columns::strict::read_variants as read_variants_below;
 use bitcode_memory::error::{Error, Reason};
 use bitcode_memory::fast::CowSlice;
@@ -14,7 +24,14 @@ fn read_below<'a, const N: usize>(
     k: usize,
     out: &mut CowSlice<'a, u8>,
     strict: bool,
-) -> Result<bool, Error> {
+) -> Result<bool, Error>
+    ensures read { OnOk result
+        (Reads (SpellsVariants N) k input.old.now (cow_rest out.new) input.new.now) }
+    ensures judged { IsTrue strict → IfOk result
+        (λ written. IsTrue written
+        ↔ (input.old.now ≡ variant_text N (cow_rest out.new) ++ input.new.now)) }
+    ensures refused { IfErr result (λ e. NamesVariantsFault N e.reason k input.old.now) }
+{
     let ([], written) = read_variants_below::<N, 0>(alloc, input, k, out, strict)?;
     Ok(written)
 }
@@ -27,7 +44,15 @@ fn read_digits<'a>(
     count: usize,
     out: &mut CowSlice<'a, u8>,
     strict: bool,
-) -> Result<bool, Error> {
+) -> Result<bool, Error>
+    requires { (2 ≤ count) × (count ≤ 256) }
+    ensures read { OnOk result
+        (ReadsDigits count k input.old.now (cow_rest out.new) input.new.now) }
+    ensures judged { IsTrue strict → IfOk result
+        (λ written. IsTrue written
+        ↔ (input.old.now ≡ variant_text count (cow_rest out.new) ++ input.new.now)) }
+    ensures refused { IfErr result (λ e. NamesVariantsFault count e.reason k input.old.now) }
+{
     match count {
         0..=2 => read_below::<2>(alloc, input, k, out, strict),
         3 => read_below::<3>(alloc, input, k, out, strict),
@@ -46,7 +71,15 @@ pub fn read_variants<'a>(
     count: usize,
     out: &mut CowSlice<'a, u8>,
     strict: bool,
-) -> Result<bool, Error> {
+) -> Result<bool, Error>
+    requires { (2 ≤ count) × (count ≤ 256) }
+    ensures read { OnOk result
+        (Reads (SpellsVariants count) k input.old.now (cow_rest out.new) input.new.now) }
+    ensures judged { IsTrue strict → IfOk result
+        (λ written. IsTrue written
+        ↔ (input.old.now ≡ variant_text count (cow_rest out.new) ++ input.new.now)) }
+    ensures refused { IfErr result (λ e. NamesVariantsFault count e.reason k input.old.now) }
+{
     let written = read_digits(alloc, input, k, count, out, strict)?;
     if !out.as_slice().iter().all(|entry| (*entry as usize) < count) {
         return err(Reason::InvalidPacking);
@@ -55,7 +88,9 @@ pub fn read_variants<'a>(
 }
 
 /// How often a variant stands among others.
-pub fn times(variants: &[u8], variant: usize) -> usize {
+pub fn times(variants: &[u8], variant: usize) -> usize
+    ensures { result ≡ count_of variant variants.now }
+{
     variants
         .iter()
         .filter(|entry| **entry as usize == variant)
@@ -63,7 +98,9 @@ pub fn times(variants: &[u8], variant: usize) -> usize {
 }
 
 // The value of a variant and its payload: an option or an enum.
-fn chosen(alloc: Global, is_option: bool, variant: u8, payload: Value) -> Result<Value, Error> {
+fn chosen(alloc: Global, is_option: bool, variant: u8, payload: Value) -> Result<Value, Error>
+    ensures refused { IfErr result (λ e. e.reason ≡ Reason.OutOfMemory) }
+{
     if is_option {
         if variant == 0 {
             return Ok(Value::Option(None));
@@ -80,7 +117,14 @@ pub fn deal(
     variants: &[u8],
     mut lists: Vec<VecDeque<Value>>,
     make: bool,
-) -> Result<VecDeque<Value>, Error> {
+) -> Result<VecDeque<Value>, Error>
+    requires known { IsTrue make → All (λ variant. variant < length lists.items) variants.now }
+    requires enough { IsTrue make
+        → HasPayloads variants.now (length lists.items) lists.items }
+    ensures count { IfOk result
+        (λ values. IsTrue make → length values.items ≡ length variants.now) }
+    ensures refused { IfErr result (λ e. IsTrue make × (e.reason ≡ Reason.OutOfMemory)) }
+{
     let mut values = VecDeque::new(alloc);
     if make {
         for variant in variants {

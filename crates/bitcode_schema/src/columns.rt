@@ -1,4 +1,9 @@
 //! Where each column of an input is, and how it is packed.
+ghost use Rattle.std.specs.Prelude.{◌≡◌, ◌<◌, ◌≤◌, length, true, IfOk};
+ghost use Rattle.bitcode_schema.specs.Depth.{has_few_variants};
+ghost use Rattle.bitcode_schema.specs.Placing.{stand_from};
+ghost use Rattle.bitcode_schema.specs.Reading.{variant_shapes};
+
 use crate::columns::part::{ColumnFault, ColumnPart, PartKind};
 use crate::columns::survey::Survey;
 use crate::schema::{IntKind, Schema, SchemaNode};
@@ -19,17 +24,18 @@ mod packing;
 pub mod part;
 mod survey;
 
+// The bytes of an id.
+const ID_BYTES: usize = 16;
+
 /// Tells where each column of the bytes is, and how it is packed. The bytes must encode exactly one value of the
 /// schema.
 ///
 /// The columns stand one behind another, in the order of the input, and fill it. A column of texts has two parts.
 ///
 /// The error is the first fault of the input, with the path and the offset of the column at fault.
-pub fn columns(
-    alloc: Global,
-    schema: &Schema,
-    bytes: &[u8],
-) -> Result<Vec<ColumnPart>, ColumnFault> {
+pub fn columns(alloc: Global, schema: &Schema, bytes: &[u8]) -> Result<Vec<ColumnPart>, ColumnFault>
+    ensures { IfOk result (λ parts. stand_from 0 parts.items (length bytes.now) ≡ true) }
+{
     let mut survey = Survey::new(alloc, bytes);
     survey_node(&mut survey, schema.root(), 1, "")?;
     survey.into_parts()
@@ -41,7 +47,9 @@ fn survey_ints(
     kind: IntKind,
     k: usize,
     path: &str,
-) -> Result<(), ColumnFault> {
+) -> Result<(), ColumnFault>
+    ensures { survey.new.whole.now ≡ survey.old.whole.now }
+{
     let part = PartKind::Ints(kind);
     match kind {
         IntKind::U8 => survey.column::<IntDecoder<u8>>(path, part, k),
@@ -63,7 +71,9 @@ fn survey_nonzero(
     kind: IntKind,
     k: usize,
     path: &str,
-) -> Result<(), ColumnFault> {
+) -> Result<(), ColumnFault>
+    ensures { survey.new.whole.now ≡ survey.old.whole.now }
+{
     let part = PartKind::Ints(kind);
     match kind {
         IntKind::U8 => survey.column::<CheckedIntDecoder<NonZeroU8, u8>>(path, part, k),
@@ -80,7 +90,9 @@ fn survey_nonzero(
 }
 
 // Reads the columns of `k` durations.
-fn survey_durations(survey: &mut Survey<'_>, k: usize, path: &str) -> Result<(), ColumnFault> {
+fn survey_durations(survey: &mut Survey<'_>, k: usize, path: &str) -> Result<(), ColumnFault>
+    ensures { survey.new.whole.now ≡ survey.old.whole.now }
+{
     let seconds = survey.below(path, "secs")?;
     survey.column::<IntDecoder<u64>>(&seconds, PartKind::Ints(IntKind::U64), k)?;
     let nanoseconds = survey.below(path, "nanos")?;
@@ -91,6 +103,59 @@ fn survey_durations(survey: &mut Survey<'_>, k: usize, path: &str) -> Result<(),
     )
 }
 
+// Reads `k` values of a type without values.
+fn survey_never(survey: &mut Survey<'_>, k: usize, path: &str) -> Result<(), ColumnFault>
+    ensures { survey.new.whole.now ≡ survey.old.whole.now }
+{
+    if k == 0 {
+        return Ok(());
+    }
+    survey.refuse(path, survey.rest(), Reason::InvalidEnumVariant)
+}
+
+// Reads the column of the bytes of `k` ids.
+fn survey_ids(survey: &mut Survey<'_>, k: usize, path: &str) -> Result<(), ColumnFault>
+    ensures { survey.new.whole.now ≡ survey.old.whole.now }
+{
+    match k.checked_mul(ID_BYTES) {
+        Some(bytes) => survey_ints(survey, IntKind::U8, bytes, path),
+        None => survey.refuse(path, survey.rest(), Reason::LengthOverflow),
+    }
+}
+
+// The path of a field of a node.
+fn field_path(
+    survey: &Survey<'_>,
+    node: &SchemaNode,
+    path: &str,
+    i: usize,
+) -> Result<String, ColumnFault> {
+    match node {
+        SchemaNode::Struct(fields) => match fields.get(i) {
+            Some(field) => survey.below(path, &field.0),
+            None => survey.field(path, i),
+        },
+        _ => survey.field(path, i),
+    }
+}
+
+// The path of the payload of a variant of a node.
+fn variant_path(
+    survey: &Survey<'_>,
+    node: &SchemaNode,
+    path: &str,
+    variant: usize,
+) -> Result<String, ColumnFault> {
+    match node {
+        SchemaNode::Enum(variants) => match variants.get(variant) {
+            Some(named) => survey.below(path, &named.0),
+            None => survey.field(path, variant),
+        },
+        SchemaNode::Result(_, _) => { survey.below(path, if variant == 0 { "Ok" } else { "Err" }) }
+        _ => survey.below(path, if variant == 0 { "None" } else { "Some" }),
+    }
+}
+
 // Reads the columns of `k` values of a node.
 #[cycle(survey)]
 fn survey_node(
@@ -98,7 +163,10 @@ fn survey_node(
     node: &SchemaNode,
     k: usize,
     path: &str,
-) -> Result<(), ColumnFault> {
+) -> Result<(), ColumnFault>
+    requires { has_few_variants node.now ≡ true }
+    ensures { survey.new.whole.now ≡ survey.old.whole.now }
+{
     match node {
         SchemaNode::Unit => Ok(()),
         SchemaNode::Never => survey_never(survey, k, path),
@@ -112,33 +180,23 @@ fn survey_node(
         SchemaNode::F64 => survey.column::<F64Decoder>(path, PartKind::F64, k),
         SchemaNode::Str(capacity) => survey.texts(path, k, *capacity),
         SchemaNode::Duration => survey_durations(survey, k, path),
-        SchemaNode::Uuid => survey_uuids(survey, k, path),
-        SchemaNode::List(capacity, element) => {
-            survey_lists(survey, *capacity, element, k, path)
-        }
+        SchemaNode::Uuid => survey_ids(survey, k, path),
+        SchemaNode::List(capacity, element) => { survey_lists(survey, *capacity, element, k, path) }
         SchemaNode::Map(key, value) => survey_maps(survey, key, value, k, path),
         SchemaNode::Array(count, element) => survey_arrays(survey, *count, element, k, path),
-        SchemaNode::Tuple(nodes) => survey_tuples(survey, nodes, k, path),
-        SchemaNode::Struct(fields) => survey_structs(survey, fields, k, path),
-        SchemaNode::Option(some) => survey_options(survey, some, k, path),
-        SchemaNode::Result(ok, other) => survey_results(survey, ok, other, k, path),
-        SchemaNode::Enum(variants) => survey_enums(survey, variants, k, path),
-    }
-}
-
-// Reads `k` values of a type without values.
-fn survey_never(survey: &mut Survey<'_>, k: usize, path: &str) -> Result<(), ColumnFault> {
-    if k == 0 {
-        return Ok(());
-    }
-    survey.refuse(path, survey.rest(), Reason::InvalidEnumVariant)
-}
-
-// Reads the column of the bytes of `k` ids.
-fn survey_uuids(survey: &mut Survey<'_>, k: usize, path: &str) -> Result<(), ColumnFault> {
-    match k.checked_mul(16) {
-        Some(bytes) => survey_ints(survey, IntKind::U8, bytes, path),
-        None => survey.refuse(path, survey.rest(), Reason::LengthOverflow),
+        SchemaNode::Tuple(_) => survey_fields(survey, node, k, path),
+        SchemaNode::Struct(_) => survey_fields(survey, node, k, path),
+        SchemaNode::Option(_) => survey_choices(survey, node, 2, k, path),
+        SchemaNode::Result(_, _) => survey_choices(survey, node, 2, k, path),
+        SchemaNode::Enum(variants) => {
+            if variants.len() == 0 {
+                return survey_never(survey, k, path);
+            }
+            if variants.len() == 1 {
+                return survey_payloads(survey, node, 0, k, path);
+            }
+            survey_choices(survey, node, variants.len(), k, path)
+        }
     }
 }
 
@@ -150,15 +208,15 @@ fn survey_lists(
     element: &SchemaNode,
     k: usize,
     path: &str,
-) -> Result<(), ColumnFault> {
+) -> Result<(), ColumnFault>
+    requires { has_few_variants element.now ≡ true }
+    ensures { survey.new.whole.now ≡ survey.old.whole.now }
+{
     let before = survey.rest();
     let sum = survey.lengths(path, k)?;
     let below = survey.elements(path)?;
     survey_node(survey, element, sum, &below)?;
-    if capacity.is_some() && survey.exceeds(before, k, capacity)? {
-        return survey.refuse(path, before, Reason::InvalidArrayVec);
-    }
-    Ok(())
+    survey.keep_within(path, before, k, capacity, Reason::InvalidArrayVec)
 }
 
 // Reads the columns of `k` maps.
@@ -169,7 +227,11 @@ fn survey_maps(
     value: &SchemaNode,
     k: usize,
     path: &str,
-) -> Result<(), ColumnFault> {
+) -> Result<(), ColumnFault>
+    requires keys { has_few_variants key.now ≡ true }
+    requires values { has_few_variants value.now ≡ true }
+    ensures { survey.new.whole.now ≡ survey.old.whole.now }
+{
     let sum = survey.lengths(path, k)?;
     let below = survey.elements(path)?;
     let keys = survey.below(&below, "key")?;
@@ -186,107 +248,77 @@ fn survey_arrays(
     element: &SchemaNode,
     k: usize,
     path: &str,
-) -> Result<(), ColumnFault> {
-    let Some(all) = k.checked_mul(count) else {
-        return survey.refuse(path, survey.rest(), Reason::LengthOverflow);
-    };
-    let below = survey.elements(path)?;
-    survey_node(survey, element, all, &below)
+) -> Result<(), ColumnFault>
+    requires { has_few_variants element.now ≡ true }
+    ensures { survey.new.whole.now ≡ survey.old.whole.now }
+{
+    match k.checked_mul(count) {
+        Some(all) => {
+            let below = survey.elements(path)?;
+            survey_node(survey, element, all, &below)
+        }
+        None => survey.refuse(path, survey.rest(), Reason::LengthOverflow),
+    }
 }
 
-// Reads the columns of `k` tuples.
+// Reads the columns of the fields of `k` tuples.
 #[cycle(survey)]
-fn survey_tuples(
+fn survey_fields(
     survey: &mut Survey<'_>,
-    nodes: &[SchemaNode],
+    node: &SchemaNode,
     k: usize,
     path: &str,
-) -> Result<(), ColumnFault> {
-    for i in 0..nodes.len() {
-        let below = survey.field(path, i)?;
-        survey_node(survey, &nodes[i], k, &below)?;
+) -> Result<(), ColumnFault>
+    requires { has_few_variants node.now ≡ true }
+    ensures { survey.new.whole.now ≡ survey.old.whole.now }
+{
+    for i in 0..node.field_count() {
+        let below = field_path(survey, node, path, i)?;
+        match node.field(i) {
+            Some(field) => survey_node(survey, field, k, &below)?,
+            None => unreachable!(),
+        }
     }
     Ok(())
 }
 
-// Reads the columns of `k` structs.
+// Reads the column of variants of `k` choices among so many, and the columns of their payloads.
 #[cycle(survey)]
-fn survey_structs(
+fn survey_choices(
     survey: &mut Survey<'_>,
-    fields: &[(String, SchemaNode)],
+    node: &SchemaNode,
+    count: usize,
     k: usize,
     path: &str,
-) -> Result<(), ColumnFault> {
-    for field in fields {
-        let below = survey.below(path, &field.0)?;
-        survey_node(survey, &field.1, k, &below)?;
+) -> Result<(), ColumnFault>
+    requires few { has_few_variants node.now ≡ true }
+    requires several { (2 ≤ count) × (count ≤ 256) }
+    requires count { length (variant_shapes node.now) ≡ count }
+    ensures { survey.new.whole.now ≡ survey.old.whole.now }
+{
+    let counts = survey.variants(path, k, count)?;
+    for variant in 0..count {
+        survey_payloads(survey, node, variant, counts[variant], path)?;
     }
     Ok(())
 }
 
-// Reads the columns of `k` options.
-#[cycle(survey)]
-fn survey_options(
-    survey: &mut Survey<'_>,
-    some: &SchemaNode,
-    k: usize,
-    path: &str,
-) -> Result<(), ColumnFault> {
-    let counts = survey.variants(path, k, 2)?;
-    let below = survey.below(path, "Some")?;
-    survey_node(survey, some, counts[1], &below)
-}
-
-// Reads the columns of `k` results.
-#[cycle(survey)]
-fn survey_results(
-    survey: &mut Survey<'_>,
-    ok: &SchemaNode,
-    other: &SchemaNode,
-    k: usize,
-    path: &str,
-) -> Result<(), ColumnFault> {
-    let counts = survey.variants(path, k, 2)?;
-    let oks = survey.below(path, "Ok")?;
-    survey_node(survey, ok, counts[0], &oks)?;
-    let others = survey.below(path, "Err")?;
-    survey_node(survey, other, counts[1], &others)
-}
-
-// Reads the columns of `k` values of an enum.
-#[cycle(survey)]
-fn survey_enums(
-    survey: &mut Survey<'_>,
-    variants: &[(String, SchemaNode)],
-    k: usize,
-    path: &str,
-) -> Result<(), ColumnFault> {
-    match variants {
-        [] => survey_never(survey, k, path),
-        [only] => {
-            let below = survey.below(path, &only.0)?;
-            survey_node(survey, &only.1, k, &below)
-        }
-        _ => {
-            let counts = survey.variants(path, k, variants.len())?;
-            survey_payloads(survey, variants, &counts, path)
-        }
-    }
-}
-
-// Reads the columns of the payloads of variants, so many of each.
+// Reads the columns of `k` payloads of a variant of a node.
 #[cycle(survey)]
 fn survey_payloads(
     survey: &mut Survey<'_>,
-    variants: &[(String, SchemaNode)],
-    counts: &[usize; 256],
+    node: &SchemaNode,
+    variant: usize,
+    k: usize,
     path: &str,
-) -> Result<(), ColumnFault> {
-    for i in 0..variants.len() {
-        let variant = &variants[i];
-        let below = survey.below(path, &variant.0)?;
-        let k = if i < 256 { counts[i] } else { 0 };
-        survey_node(survey, &variant.1, k, &below)?;
+) -> Result<(), ColumnFault>
+    requires few { has_few_variants node.now ≡ true }
+    requires variant { variant < length (variant_shapes node.now) }
+    ensures { survey.new.whole.now ≡ survey.old.whole.now }
+{
+    let below = variant_path(survey, node, path, variant)?;
+    match node.payload(variant) {
+        Some(payload) => survey_node(survey, payload, k, &below),
+        None => Ok(()),
     }
-    Ok(())
 }

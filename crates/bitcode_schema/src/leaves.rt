@@ -1,10 +1,12 @@
 //! Leaves: nodes that a decoder of a Rust type reads.
+ghost use Rattle.std.specs.Prelude.{◌≡◌, length, IsTrue, IfOk, IfErr};
+ghost use Rattle.bitcode_memory.specs.declared.error.Reason.{Reason};
+ghost use Rattle.bitcode_schema.specs.Reading.{Passes, IsFault};
+
 use crate::read::{Found, Pass};
 use bitcode_coder::coder::{Decoder, View};
 use bitcode_memory::error::Error;
-use bitcode_serde::case::Case;
 use bitcode_shapes::nanosecond::Nanosecond;
-use bitcode_shapes::no_variants::{Absent, NoVariants};
 use bitcode_shapes::shaped::Shaped;
 use bitcode_untyped::value::Value;
 use std::alloc::Global;
@@ -16,15 +18,99 @@ use std::num::{
 
 /// How a value of a Rust type becomes a `Value`.
 pub trait Becomes<T: Shaped> {
-    fn value(alloc: Global, t: T) -> Result<Value, Error>;
+    fn value(t: T) -> Value;
 }
 
 /// The case of the type.
 pub struct OfCase;
 
-impl<T: Case> Becomes<T> for OfCase {
-    fn value(_alloc: Global, t: T) -> Result<Value, Error> {
-        Ok(t.into_value())
+impl Becomes<bool> for OfCase {
+    fn value(t: bool) -> Value {
+        Value::Bool(t)
+    }
+}
+
+impl Becomes<char> for OfCase {
+    fn value(t: char) -> Value {
+        Value::Char(t)
+    }
+}
+
+impl Becomes<u8> for OfCase {
+    fn value(t: u8) -> Value {
+        Value::U8(t)
+    }
+}
+
+impl Becomes<u16> for OfCase {
+    fn value(t: u16) -> Value {
+        Value::U16(t)
+    }
+}
+
+impl Becomes<u32> for OfCase {
+    fn value(t: u32) -> Value {
+        Value::U32(t)
+    }
+}
+
+impl Becomes<u64> for OfCase {
+    fn value(t: u64) -> Value {
+        Value::U64(t)
+    }
+}
+
+impl Becomes<u128> for OfCase {
+    fn value(t: u128) -> Value {
+        Value::U128(t)
+    }
+}
+
+impl Becomes<i8> for OfCase {
+    fn value(t: i8) -> Value {
+        Value::I8(t)
+    }
+}
+
+impl Becomes<i16> for OfCase {
+    fn value(t: i16) -> Value {
+        Value::I16(t)
+    }
+}
+
+impl Becomes<i32> for OfCase {
+    fn value(t: i32) -> Value {
+        Value::I32(t)
+    }
+}
+
+impl Becomes<i64> for OfCase {
+    fn value(t: i64) -> Value {
+        Value::I64(t)
+    }
+}
+
+impl Becomes<i128> for OfCase {
+    fn value(t: i128) -> Value {
+        Value::I128(t)
+    }
+}
+
+impl Becomes<f32> for OfCase {
+    fn value(t: f32) -> Value {
+        Value::F32(t)
+    }
+}
+
+impl Becomes<f64> for OfCase {
+    fn value(t: f64) -> Value {
+        Value::F64(t)
+    }
+}
+
+impl Becomes<String> for OfCase {
+    fn value(t: String) -> Value {
+        Value::Str(t)
     }
 }
 
@@ -32,53 +118,8 @@ impl<T: Case> Becomes<T> for OfCase {
 pub struct OfUnit;
 
 impl Becomes<()> for OfUnit {
-    fn value(_alloc: Global, _t: ()) -> Result<Value, Error> {
-        Ok(Value::Unit)
-    }
-}
-
-/// A char.
-pub struct OfChar;
-
-impl Becomes<char> for OfChar {
-    fn value(_alloc: Global, t: char) -> Result<Value, Error> {
-        Ok(Value::Char(t))
-    }
-}
-
-/// A type without values.
-#[derive(Drop)]
-pub enum Void {}
-
-impl NoVariants for Void {
-    ghost never = { λ t P h. elim t [ ] };
-}
-
-/// No value.
-pub struct OfAbsent;
-
-impl Becomes<Absent<Void>> for OfAbsent {
-    fn value(_alloc: Global, _t: Absent<Void>) -> Result<Value, Error> {
-        Ok(Value::Unit)
-    }
-}
-
-/// The bytes of an array.
-pub struct OfBytes;
-
-impl Becomes<[u8; 16]> for OfBytes {
-    fn value(alloc: Global, t: [u8; 16]) -> Result<Value, Error> {
-        Ok(Value::Bytes(Vec::from_slice(alloc, t.as_slice())?))
-    }
-}
-
-/// The tuple of seconds and nanoseconds.
-pub struct OfSpan;
-
-impl Becomes<(u64, Nanosecond)> for OfSpan {
-    fn value(alloc: Global, t: (u64, Nanosecond)) -> Result<Value, Error> {
-        let fields = vec![in alloc; Value::U64(t.0), Value::U32(t.1.into_inner())]?;
-        Ok(Value::Tuple(fields))
+    fn value(_t: ()) -> Value {
+        Value::Unit
     }
 }
 
@@ -86,76 +127,86 @@ impl Becomes<(u64, Nanosecond)> for OfSpan {
 pub struct OfNonZero;
 
 impl Becomes<NonZeroU8> for OfNonZero {
-    fn value(_alloc: Global, t: NonZeroU8) -> Result<Value, Error> {
-        Ok(Value::U8(t.get()))
+    fn value(t: NonZeroU8) -> Value {
+        Value::U8(t.get())
     }
 }
 
 impl Becomes<NonZeroU16> for OfNonZero {
-    fn value(_alloc: Global, t: NonZeroU16) -> Result<Value, Error> {
-        Ok(Value::U16(t.get()))
+    fn value(t: NonZeroU16) -> Value {
+        Value::U16(t.get())
     }
 }
 
 impl Becomes<NonZeroU32> for OfNonZero {
-    fn value(_alloc: Global, t: NonZeroU32) -> Result<Value, Error> {
-        Ok(Value::U32(t.get()))
+    fn value(t: NonZeroU32) -> Value {
+        Value::U32(t.get())
     }
 }
 
 impl Becomes<NonZeroU64> for OfNonZero {
-    fn value(_alloc: Global, t: NonZeroU64) -> Result<Value, Error> {
-        Ok(Value::U64(t.get()))
+    fn value(t: NonZeroU64) -> Value {
+        Value::U64(t.get())
     }
 }
 
 impl Becomes<NonZeroU128> for OfNonZero {
-    fn value(_alloc: Global, t: NonZeroU128) -> Result<Value, Error> {
-        Ok(Value::U128(t.get()))
+    fn value(t: NonZeroU128) -> Value {
+        Value::U128(t.get())
     }
 }
 
 impl Becomes<NonZeroI8> for OfNonZero {
-    fn value(_alloc: Global, t: NonZeroI8) -> Result<Value, Error> {
-        Ok(Value::I8(t.get()))
+    fn value(t: NonZeroI8) -> Value {
+        Value::I8(t.get())
     }
 }
 
 impl Becomes<NonZeroI16> for OfNonZero {
-    fn value(_alloc: Global, t: NonZeroI16) -> Result<Value, Error> {
-        Ok(Value::I16(t.get()))
+    fn value(t: NonZeroI16) -> Value {
+        Value::I16(t.get())
     }
 }
 
 impl Becomes<NonZeroI32> for OfNonZero {
-    fn value(_alloc: Global, t: NonZeroI32) -> Result<Value, Error> {
-        Ok(Value::I32(t.get()))
+    fn value(t: NonZeroI32) -> Value {
+        Value::I32(t.get())
     }
 }
 
 impl Becomes<NonZeroI64> for OfNonZero {
-    fn value(_alloc: Global, t: NonZeroI64) -> Result<Value, Error> {
-        Ok(Value::I64(t.get()))
+    fn value(t: NonZeroI64) -> Value {
+        Value::I64(t.get())
     }
 }
 
 impl Becomes<NonZeroI128> for OfNonZero {
-    fn value(_alloc: Global, t: NonZeroI128) -> Result<Value, Error> {
-        Ok(Value::I128(t.get()))
+    fn value(t: NonZeroI128) -> Value {
+        Value::I128(t.get())
     }
 }
 
-// Makes values of the next data, as many as are left.
+impl Becomes<Nanosecond> for OfCase {
+    fn value(t: Nanosecond) -> Value {
+        Value::U32(t.into_inner())
+    }
+}
+
+// Makes values of all data of a column, if they are wanted.
 fn values<T: Shaped + Drop, D: Decoder<T>, B: Becomes<T>>(
     alloc: Global,
     column: &mut D,
     k: usize,
     make: bool,
-) -> Result<VecDeque<Value>, Error> {
+) -> Result<VecDeque<Value>, Error>
+    requires { k ≡ length (D.held column.old) }
+    ensures count { IfOk result (λ values. IsTrue make → length values.items ≡ k) }
+    ensures refused { IfErr result (λ e. IsTrue make × (e.reason ≡ Reason.OutOfMemory)) }
+{
     let mut values = VecDeque::new(alloc);
     if make {
-        for _ in 0..k {
-            values.push_back(B::value(alloc, column.decode()?)?)?;
+        for _made in 0..k {
+            values.push_back(B::value(column.decode()?))?;
         }
     }
     Ok(values)
@@ -167,7 +218,12 @@ pub fn read_leaf<'a, T: Shaped + Drop, D: View<'a> + Decoder<T> + Drop, B: Becom
     pass: Pass,
     input: &mut &'a [u8],
     k: usize,
-) -> Result<Found, Error> {
+) -> Result<Found, Error>
+    ensures read { IfOk result
+        (λ found. Passes D.shape k pass input.old.now found.written input.new.now) }
+    ensures count { IfOk result (λ found. IsTrue pass.make → length found.values.items ≡ k) }
+    ensures exact { IfErr result (λ e. IsFault pass D.shape e.reason k input.old.now) }
+{
     let mut column = D::new(alloc);
     let written = column.read(input, k, pass.strict)?;
     let values = values::<T, D, B>(alloc, &mut column, k, pass.make)?;

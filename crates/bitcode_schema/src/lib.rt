@@ -11,6 +11,3 @@ pub mod limits;
 pub mod read;
 pub mod schema;
 pub mod write;
-
-#[cfg(test)]
-mod tests;

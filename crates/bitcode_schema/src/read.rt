@@ -1,16 +1,25 @@
 //! Passes over the columns of a node.
+ghost use Rattle.std.specs.Prelude.{◌≡◌, ◌+◌, ◌-◌, ◌*◌, ◌<◌, ◌≤◌, ◌⊎◌, None, Some, true, false, length, map, take, drop, IsTrue, IfOk, IfErr};
+ghost use Rattle.std.specs.Prelude.{OnOk};
+ghost use Rattle.bitcode_shapes.specs.Checked.{nonzero_shape};
+ghost use Rattle.bitcode_shapes.specs.Ints.{int_shape};
+ghost use Rattle.bitcode_shapes.specs.Shape.{never_shape, text_shape, seq_shape, map_shape, array_shape, pair_shape, choice_shape};
+ghost use Rattle.bitcode_shapes.specs.Durations.{duration_shape};
+ghost use Rattle.bitcode_enums.specs.ByNumber.{shape_at};
+ghost use Rattle.bitcode_schema.specs.Depth.{fields_of, has_few_variants};
+ghost use Rattle.bitcode_schema.specs.Forms.{shape_of, shapes_of};
+ghost use Rattle.bitcode_schema.specs.Leaves.{width_of, is_signed};
+ghost use Rattle.bitcode_schema.specs.Reading.{Passes, IsFault, shape_of_fields, variant_shapes};
+
 use crate::choices::{deal, read_variants, times};
 use crate::gather::{arrays, lists, maps, only_variants, put_field, rows, tuples};
-use crate::leaves::{
-    OfAbsent, OfBytes, OfCase, OfChar, OfNonZero, OfSpan, OfUnit, Void, read_leaf,
-};
+use crate::leaves::{OfCase, OfNonZero, OfUnit, read_leaf};
 use crate::limits::any_over;
 use crate::schema::{IntKind, SchemaNode};
 use bitcode_coder::bool::BoolDecoder;
 use bitcode_coder::coder::both;
 use bitcode_coder::length::LengthDecoder;
 use bitcode_coder::str::StrDecoder;
-use bitcode_derive::absent::AbsentDecoder;
 use bitcode_floats::float32::F32Decoder;
 use bitcode_floats::float64::F64Decoder;
 use bitcode_ints::checked::CheckedIntDecoder;
@@ -19,11 +28,8 @@ use bitcode_memory::consume::mul_length;
 use bitcode_memory::error::{Error, Reason};
 use bitcode_memory::fast::CowSlice;
 use bitcode_memory::refuse::err;
-use bitcode_parts::arrays::ArrayDecoder;
 use bitcode_parts::empty::EmptyCoder;
 use bitcode_shapes::nanosecond::Nanosecond;
-use bitcode_shapes::no_variants::Absent;
-use bitcode_tuples::decoder::TupleDecoder;
 use bitcode_untyped::value::Value;
 use std::alloc::Global;
 use std::collections::VecDeque;
@@ -56,7 +62,12 @@ fn read_ints<'a>(
     pass: Pass,
     input: &mut &'a [u8],
     k: usize,
-) -> Result<Found, Error> {
+) -> Result<Found, Error>
+    ensures read { IfOk result
+        (λ found. Passes (int_shape (width_of kind) (is_signed kind)) k pass input.old.now found.written input.new.now) }
+    ensures count { IfOk result (λ found. IsTrue pass.make → length found.values.items ≡ k) }
+    ensures exact { IfErr result (λ e. IsFault pass (int_shape (width_of kind) (is_signed kind)) e.reason k input.old.now) }
+{
     match kind {
         IntKind::U8 => read_leaf::<u8, IntDecoder<u8>, OfCase>(alloc, pass, input, k),
         IntKind::U16 => read_leaf::<u16, IntDecoder<u16>, OfCase>(alloc, pass, input, k),
@@ -78,7 +89,12 @@ fn read_nonzeros<'a>(
     pass: Pass,
     input: &mut &'a [u8],
     k: usize,
-) -> Result<Found, Error> {
+) -> Result<Found, Error>
+    ensures read { IfOk result
+        (λ found. Passes (nonzero_shape (width_of kind) (is_signed kind)) k pass input.old.now found.written input.new.now) }
+    ensures count { IfOk result (λ found. IsTrue pass.make → length found.values.items ≡ k) }
+    ensures exact { IfErr result (λ e. IsFault pass (nonzero_shape (width_of kind) (is_signed kind)) e.reason k input.old.now) }
+{
     match kind {
         IntKind::U8 => read_leaf::<NonZeroU8, CheckedIntDecoder<NonZeroU8, u8>, OfNonZero>(
             alloc, pass, input, k,
@@ -113,6 +129,74 @@ fn read_nonzeros<'a>(
     }
 }
 
+// Reads `k` data of a type without values: none.
+fn read_nothing<'a>(
+    alloc: Global,
+    pass: Pass,
+    input: &mut &'a [u8],
+    k: usize,
+) -> Result<Found, Error>
+    ensures read { IfOk result
+        (λ found. Passes never_shape k pass input.old.now found.written input.new.now) }
+    ensures count { IfOk result (λ found. IsTrue pass.make → length found.values.items ≡ k) }
+    ensures exact { IfErr result (λ e. IsFault pass never_shape e.reason k input.old.now) }
+{
+    if k > 0 {
+        return err(Reason::InvalidEnumVariant);
+    }
+    Ok(Found {
+        values: VecDeque::new(alloc),
+        written: true,
+    })
+}
+
+// Reads `k` arrays of 16 bytes.
+fn read_uuids<'a>(
+    alloc: Global,
+    pass: Pass,
+    input: &mut &'a [u8],
+    k: usize,
+) -> Result<Found, Error>
+    ensures read { IfOk result
+        (λ found. Passes (array_shape 16 (int_shape 1 false)) k pass input.old.now found.written input.new.now) }
+    ensures count { IfOk result (λ found. IsTrue pass.make → length found.values.items ≡ k) }
+    ensures exact { IfErr result (λ e. IsFault pass (array_shape 16 (int_shape 1 false)) e.reason k input.old.now) }
+{
+    let count = mul_length(k, 16)?;
+    let found = read_leaf::<u8, IntDecoder<u8>, OfCase>(alloc, pass, input, count)?;
+    let values = arrays(alloc, 16, k, found.values, pass.make)?;
+    Ok(Found {
+        values,
+        written: found.written,
+    })
+}
+
+// Reads `k` durations: the seconds, and then the nanoseconds.
+fn read_durations<'a>(
+    alloc: Global,
+    pass: Pass,
+    input: &mut &'a [u8],
+    k: usize,
+) -> Result<Found, Error>
+    ensures read { IfOk result
+        (λ found. Passes duration_shape k pass input.old.now found.written input.new.now) }
+    ensures count { IfOk result (λ found. IsTrue pass.make → length found.values.items ≡ k) }
+    ensures exact { IfErr result (λ e. IsFault pass duration_shape e.reason k input.old.now) }
+{
+    let mut fields = rows(alloc, k, pass.make)?;
+    let seconds = read_leaf::<u64, IntDecoder<u64>, OfCase>(alloc, pass, input, k)?;
+    put_field(&mut fields, seconds.values)?;
+    let nanos = read_leaf::<Nanosecond, CheckedIntDecoder<Nanosecond, u32>, OfCase>(
+        alloc, pass, input, k,
+    )?;
+    put_field(&mut fields, nanos.values)?;
+    let values = tuples(alloc, fields)?;
+    Ok(Found {
+        values,
+        written: both(seconds.written, nanos.written),
+    })
+}
+
 // Reads `k` texts of at most so many bytes.
 fn read_texts<'a>(
     alloc: Global,
@@ -120,7 +204,12 @@ fn read_texts<'a>(
     pass: Pass,
     input: &mut &'a [u8],
     k: usize,
-) -> Result<Found, Error> {
+) -> Result<Found, Error>
+    ensures read { IfOk result
+        (λ found. Passes (text_shape (Some limit)) k pass input.old.now found.written input.new.now) }
+    ensures count { IfOk result (λ found. IsTrue pass.make → length found.values.items ≡ k) }
+    ensures exact { IfErr result (λ e. IsFault pass (text_shape (Some limit)) e.reason k input.old.now) }
+{
     let before = *input;
     let found = read_leaf::<String, StrDecoder, OfCase>(alloc, pass, input, k)?;
     if any_over(alloc, before, k, limit)? {
@@ -137,14 +226,18 @@ pub fn read<'a>(
     pass: Pass,
     input: &mut &'a [u8],
     k: usize,
-) -> Result<Found, Error> {
+) -> Result<Found, Error>
+    requires few { has_few_variants node.now ≡ true }
+    ensures read { IfOk result
+        (λ found. Passes (shape_of node.now) k pass input.old.now found.written input.new.now) }
+    ensures count { IfOk result (λ found. IsTrue pass.make → length found.values.items ≡ k) }
+    ensures exact { IfErr result (λ e. IsFault pass (shape_of node.now) e.reason k input.old.now) }
+{
     match node {
         SchemaNode::Unit => read_leaf::<(), EmptyCoder, OfUnit>(alloc, pass, input, k),
-        SchemaNode::Never => read_leaf::<Absent<Void>, AbsentDecoder, OfAbsent>(
-            alloc, pass, input, k,
-        ),
+        SchemaNode::Never => read_nothing(alloc, pass, input, k),
         SchemaNode::Bool => read_leaf::<bool, BoolDecoder, OfCase>(alloc, pass, input, k),
-        SchemaNode::Char => read_leaf::<char, CheckedIntDecoder<char, u32>, OfChar>(
+        SchemaNode::Char => read_leaf::<char, CheckedIntDecoder<char, u32>, OfCase>(
             alloc, pass, input, k,
         ),
         SchemaNode::Int(kind) => read_ints(alloc, *kind, pass, input, k),
@@ -153,14 +246,8 @@ pub fn read<'a>(
         SchemaNode::F64 => read_leaf::<f64, F64Decoder, OfCase>(alloc, pass, input, k),
         SchemaNode::Str(None) => read_leaf::<String, StrDecoder, OfCase>(alloc, pass, input, k),
         SchemaNode::Str(Some(limit)) => read_texts(alloc, *limit, pass, input, k),
-        SchemaNode::Duration => read_leaf::<
-            (u64, Nanosecond),
-            TupleDecoder<IntDecoder<u64>, CheckedIntDecoder<Nanosecond, u32>>,
-            OfSpan,
-        >(alloc, pass, input, k),
-        SchemaNode::Uuid => read_leaf::<[u8; 16], ArrayDecoder<IntDecoder<u8>, 16>, OfBytes>(
-            alloc, pass, input, k,
-        ),
+        SchemaNode::Duration => read_durations(alloc, pass, input, k),
+        SchemaNode::Uuid => read_uuids(alloc, pass, input, k),
         SchemaNode::List(None, element) => read_lists(alloc, element, pass, input, k),
         SchemaNode::List(Some(limit), element) => read_limited(
             alloc, *limit, element, pass, input, k,
@@ -173,7 +260,7 @@ pub fn read<'a>(
         SchemaNode::Result(_, _) => read_choices(alloc, node, 2, false, pass, input, k),
         SchemaNode::Enum(variants) => {
             if variants.len() == 0 {
-                return read_leaf::<Absent<Void>, AbsentDecoder, OfAbsent>(alloc, pass, input, k);
+                return read_nothing(alloc, pass, input, k);
             }
             if variants.len() == 1 {
                 return read_only(alloc, node, pass, input, k);
@@ -191,7 +278,13 @@ fn read_lists<'a>(
     pass: Pass,
     input: &mut &'a [u8],
     k: usize,
-) -> Result<Found, Error> {
+) -> Result<Found, Error>
+    requires few { has_few_variants element.now ≡ true }
+    ensures read { IfOk result
+        (λ found. Passes (seq_shape None (shape_of element.now)) k pass input.old.now found.written input.new.now) }
+    ensures count { IfOk result (λ found. IsTrue pass.make → length found.values.items ≡ k) }
+    ensures exact { IfErr result (λ e. IsFault pass (seq_shape None (shape_of element.now)) e.reason k input.old.now) }
+{
     let mut lengths = LengthDecoder::new(alloc);
     let lengths_written = lengths.read(input, k, pass.strict)?;
     let found = read(alloc, element, pass, input, lengths.length())?;
@@ -211,7 +304,13 @@ fn read_limited<'a>(
     pass: Pass,
     input: &mut &'a [u8],
     k: usize,
-) -> Result<Found, Error> {
+) -> Result<Found, Error>
+    requires few { has_few_variants element.now ≡ true }
+    ensures read { IfOk result
+        (λ found. Passes (seq_shape (Some limit) (shape_of element.now)) k pass input.old.now found.written input.new.now) }
+    ensures count { IfOk result (λ found. IsTrue pass.make → length found.values.items ≡ k) }
+    ensures exact { IfErr result (λ e. IsFault pass (seq_shape (Some limit) (shape_of element.now)) e.reason k input.old.now) }
+{
     let before = *input;
     let found = read_lists(alloc, element, pass, input, k)?;
     if any_over(alloc, before, k, limit)? {
@@ -229,7 +328,13 @@ fn read_maps<'a>(
     pass: Pass,
     input: &mut &'a [u8],
     k: usize,
-) -> Result<Found, Error> {
+) -> Result<Found, Error>
+    requires few { (has_few_variants key.now ≡ true) × (has_few_variants value.now ≡ true) }
+    ensures read { IfOk result
+        (λ found. Passes (map_shape (shape_of key.now) (shape_of value.now)) k pass input.old.now found.written input.new.now) }
+    ensures count { IfOk result (λ found. IsTrue pass.make → length found.values.items ≡ k) }
+    ensures exact { IfErr result (λ e. IsFault pass (map_shape (shape_of key.now) (shape_of value.now)) e.reason k input.old.now) }
+{
     let mut lengths = LengthDecoder::new(alloc);
     let lengths_written = lengths.read(input, k, pass.strict)?;
     let keys = read(alloc, key, pass, input, lengths.length())?;
@@ -250,7 +355,13 @@ fn read_arrays<'a>(
     pass: Pass,
     input: &mut &'a [u8],
     k: usize,
-) -> Result<Found, Error> {
+) -> Result<Found, Error>
+    requires few { has_few_variants element.now ≡ true }
+    ensures read { IfOk result
+        (λ found. Passes (array_shape size (shape_of element.now)) k pass input.old.now found.written input.new.now) }
+    ensures count { IfOk result (λ found. IsTrue pass.make → length found.values.items ≡ k) }
+    ensures exact { IfErr result (λ e. IsFault pass (array_shape size (shape_of element.now)) e.reason k input.old.now) }
+{
     let count = mul_length(k, size)?;
     let found = read(alloc, element, pass, input, count)?;
     let values = arrays(alloc, size, k, found.values, pass.make)?;
@@ -268,7 +379,13 @@ fn read_tuples<'a>(
     pass: Pass,
     input: &mut &'a [u8],
     k: usize,
-) -> Result<Found, Error> {
+) -> Result<Found, Error>
+    requires few { has_few_variants node.now ≡ true }
+    ensures read { IfOk result
+        (λ found. Passes (shape_of_fields (fields_of node.now)) k pass input.old.now found.written input.new.now) }
+    ensures count { IfOk result (λ found. IsTrue pass.make → length found.values.items ≡ k) }
+    ensures exact { IfErr result (λ e. IsFault pass (shape_of_fields (fields_of node.now)) e.reason k input.old.now) }
+{
     let mut fields = rows(alloc, k, pass.make)?;
     let count = node.field_count();
     let mut written = true;
@@ -290,7 +407,15 @@ fn read_fields<'a>(
     input: &mut &'a [u8],
     k: usize,
     rows: &mut Vec<Vec<Value>>,
-) -> Result<bool, Error> {
+) -> Result<bool, Error>
+    requires few { has_few_variants node.now ≡ true }
+    requires range { (from < to) × (to ≤ length (fields_of node.now)) }
+    requires rows { (IsTrue pass.make × (length rows.old.items ≡ k)) ⊎ (length rows.old.items ≡ 0) }
+    ensures rows { OnOk result (length rows.new.items ≡ length rows.old.items) }
+    ensures read { IfOk result
+        (λ written. Passes (shape_of_fields (take (to - from) (drop from (fields_of node.now)))) k pass input.old.now written input.new.now) }
+    ensures exact { IfErr result (λ e. IsFault pass (shape_of_fields (take (to - from) (drop from (fields_of node.now)))) e.reason k input.old.now) }
+{
     let count = to - from;
     if count > 1 {
         let middle = from + count / 2;
@@ -318,7 +443,15 @@ fn read_choices<'a>(
     pass: Pass,
     input: &mut &'a [u8],
     k: usize,
-) -> Result<Found, Error> {
+) -> Result<Found, Error>
+    requires few { has_few_variants node.now ≡ true }
+    requires several { (2 ≤ count) × (count ≤ 256) }
+    requires count { length (variant_shapes node.now) ≡ count }
+    ensures read { IfOk result
+        (λ found. Passes (choice_shape (shapes_of (variant_shapes node.now))) k pass input.old.now found.written input.new.now) }
+    ensures count { IfOk result (λ found. IsTrue pass.make → length found.values.items ≡ k) }
+    ensures exact { IfErr result (λ e. IsFault pass (choice_shape (shapes_of (variant_shapes node.now))) e.reason k input.old.now) }
+{
     let mut variants = CowSlice::new(alloc);
     let mut written = read_variants(alloc, input, k, count, &mut variants, pass.strict)?;
     let mut payloads = Vec::new(alloc);
@@ -343,7 +476,14 @@ fn read_payloads<'a>(
     pass: Pass,
     input: &mut &'a [u8],
     k: usize,
-) -> Result<Found, Error> {
+) -> Result<Found, Error>
+    requires few { has_few_variants node.now ≡ true }
+    requires variant { variant < length (variant_shapes node.now) }
+    ensures read { IfOk result
+        (λ found. Passes (shape_at variant (shapes_of (variant_shapes node.now))) k pass input.old.now found.written input.new.now) }
+    ensures count { IfOk result (λ found. IsTrue pass.make → length found.values.items ≡ k) }
+    ensures exact { IfErr result (λ e. IsFault pass (shape_at variant (shapes_of (variant_shapes node.now))) e.reason k input.old.now) }
+{
     match node.payload(variant) {
         Some(payload) => read(alloc, payload, pass, input, k),
         None => read_leaf::<(), EmptyCoder, OfUnit>(alloc, pass, input, k),
@@ -358,7 +498,14 @@ fn read_only<'a>(
     pass: Pass,
     input: &mut &'a [u8],
     k: usize,
-) -> Result<Found, Error> {
+) -> Result<Found, Error>
+    requires few { has_few_variants node.now ≡ true }
+    requires variant { 0 < length (variant_shapes node.now) }
+    ensures read { IfOk result
+        (λ found. Passes (shape_at 0 (shapes_of (variant_shapes node.now))) k pass input.old.now found.written input.new.now) }
+    ensures count { IfOk result (λ found. IsTrue pass.make → length found.values.items ≡ k) }
+    ensures exact { IfErr result (λ e. IsFault pass (shape_at 0 (shapes_of (variant_shapes node.now))) e.reason k input.old.now) }
+{
     let found = read_payloads(alloc, node, 0, pass, input, k)?;
     let values = only_variants(alloc, found.values, k, pass.make)?;
     Ok(Found {

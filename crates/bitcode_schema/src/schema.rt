@@ -1,4 +1,12 @@
 //! Schemas: trees that say which columns the bytes have, and what the values are called.
+ghost use Rattle.std.specs.Prelude.{◌≡◌, ◌&&◌, ◌<◌, ◌≤◌, nat_le, length, true, IfOk, IfErr, IfSome, slice_get, Some, IsSome, IfNone};
+ghost use Rattle.std.specs.List.{list_all};
+ghost use Rattle.bitcode_shapes.specs.Shape.{unit_shape};
+ghost use Rattle.bitcode_enums.specs.ByNumber.{shape_at};
+ghost use Rattle.bitcode_schema.specs.Forms.{shape_of, shapes_of};
+ghost use Rattle.bitcode_schema.specs.Reading.{variant_shapes};
+ghost use Rattle.bitcode_schema.specs.Depth.{depth, has_few_variants, IsAccepted, IsRefused, fields_of, most_variants};
+
 use bitcode_memory::error::{Error, Reason};
 use bitcode_memory::refuse::err;
 
@@ -60,7 +68,9 @@ pub const MOST_VARIANTS: usize = 256;
 impl SchemaNode {
     // Whether at most so many nodes are in one another.
     #[cycle(within)]
-    fn is_within(&self, left: usize) -> bool {
+    fn is_within(&self, left: usize) -> bool
+        ensures { result ≡ nat_le (depth self.now) left }
+    {
         if left == 0 {
             return false;
         }
@@ -79,7 +89,9 @@ impl SchemaNode {
 
     // Whether each enum has at most 256 variants.
     #[cycle(few)]
-    fn has_few_variants(&self) -> bool {
+    fn has_few_variants(&self) -> bool
+        ensures { result ≡ has_few_variants self.now }
+    {
         match self {
             SchemaNode::List(_, element) => element.has_few_variants(),
             SchemaNode::Map(key, value) => key.has_few_variants() && value.has_few_variants(),
@@ -88,15 +100,15 @@ impl SchemaNode {
             SchemaNode::Struct(fields) => parts_have_few(fields),
             SchemaNode::Option(some) => some.has_few_variants(),
             SchemaNode::Result(ok, err) => ok.has_few_variants() && err.has_few_variants(),
-            SchemaNode::Enum(variants) => variants.len() <= MOST_VARIANTS && parts_have_few(
-                variants,
-            ),
+            SchemaNode::Enum(variants) => variants_have_few(variants),
             _ => true,
         }
     }
 
     /// The number of fields of a tuple or struct.
-    pub(crate) fn field_count(&self) -> usize {
+    pub(crate) fn field_count(&self) -> usize
+        ensures { result ≡ length (fields_of self.now) }
+    {
         match self {
             SchemaNode::Tuple(fields) => fields.len(),
             SchemaNode::Struct(fields) => fields.len(),
@@ -105,7 +117,13 @@ impl SchemaNode {
     }
 
     /// The node of a field of a tuple or struct.
-    pub(crate) fn field(&self, i: usize) -> Option<&SchemaNode> {
+    pub(crate) fn field(&self, i: usize) -> Option<&SchemaNode>
+        ensures found { IfSome result (λ node. slice_get (fields_of self.now) i ≡ Some node.now) }
+        ensures none { i < length (fields_of self.now) → IsSome result }
+        ensures deeper { IfSome result (λ node. depth node.now < depth self.now) }
+        ensures few { has_few_variants self.now ≡ true
+            → IfSome result (λ node. has_few_variants node.now ≡ true) }
+    {
         match self {
             SchemaNode::Tuple(fields) => fields.get(i),
             SchemaNode::Struct(fields) => match fields.get(i) {
@@ -117,7 +135,15 @@ impl SchemaNode {
     }
 
     /// The node of the payload of a variant, unless it is the unit of `None`.
-    pub(crate) fn payload(&self, i: usize) -> Option<&SchemaNode> {
+    pub(crate) fn payload(&self, i: usize) -> Option<&SchemaNode>
+        requires { i < length (variant_shapes self.now) }
+        ensures found { IfSome result
+            (λ node. shape_at i (shapes_of (variant_shapes self.now)) ≡ shape_of node.now) }
+        ensures none { IfNone result (shape_at i (shapes_of (variant_shapes self.now)) ≡ unit_shape) }
+        ensures deeper { IfSome result (λ node. depth node.now < depth self.now) }
+        ensures few { has_few_variants self.now ≡ true
+            → IfSome result (λ node. has_few_variants node.now ≡ true) }
+    {
         match self {
             SchemaNode::Option(some) => {
                 if i == 1 {
@@ -143,7 +169,9 @@ impl SchemaNode {
 }
 
 #[cycle(within)]
-fn all_within(nodes: &[SchemaNode], left: usize) -> bool {
+fn all_within(nodes: &[SchemaNode], left: usize) -> bool
+    ensures { result ≡ list_all (λ node. nat_le (depth node) left) nodes.now }
+{
     for node in nodes {
         if !node.is_within(left) {
             return false;
@@ -153,7 +181,9 @@ fn all_within(nodes: &[SchemaNode], left: usize) -> bool {
 }
 
 #[cycle(within)]
-fn parts_within(parts: &[(String, SchemaNode)], left: usize) -> bool {
+fn parts_within(parts: &[(String, SchemaNode)], left: usize) -> bool
+    ensures { result ≡ list_all (λ part. nat_le (depth part.1) left) parts.now }
+{
     for part in parts {
         if !part.1.is_within(left) {
             return false;
@@ -163,7 +193,9 @@ fn parts_within(parts: &[(String, SchemaNode)], left: usize) -> bool {
 }
 
 #[cycle(few)]
-fn all_have_few(nodes: &[SchemaNode]) -> bool {
+fn all_have_few(nodes: &[SchemaNode]) -> bool
+    ensures { result ≡ list_all has_few_variants nodes.now }
+{
     for node in nodes {
         if !node.has_few_variants() {
             return false;
@@ -173,7 +205,9 @@ fn all_have_few(nodes: &[SchemaNode]) -> bool {
 }
 
 #[cycle(few)]
-fn parts_have_few(parts: &[(String, SchemaNode)]) -> bool {
+fn parts_have_few(parts: &[(String, SchemaNode)]) -> bool
+    ensures { result ≡ list_all (λ part. has_few_variants part.1) parts.now }
+{
     for part in parts {
         if !part.1.has_few_variants() {
             return false;
@@ -182,10 +216,19 @@ fn parts_have_few(parts: &[(String, SchemaNode)]) -> bool {
     true
 }
 
+#[cycle(few)]
+fn variants_have_few(variants: &[(String, SchemaNode)]) -> bool
+    ensures { result ≡ (nat_le (length variants.now) most_variants
+        && list_all (λ part. has_few_variants part.1) variants.now) }
+{
+    variants.len() <= MOST_VARIANTS && parts_have_few(variants)
+}
+
 /// A tree of nodes for the bytes of one value.
 #[derive(Debug, Drop)]
 pub struct Schema {
     root: SchemaNode,
+    ghost accepted: { IsAccepted root },
 }
 
 impl Schema {
@@ -198,7 +241,10 @@ impl Schema {
     /// ```
     /// let flags = Schema::new(SchemaNode::List(None, Box::new(alloc, SchemaNode::Bool)?))?;
     /// ```
-    pub fn new(root: SchemaNode) -> Result<Schema, Error> {
+    pub fn new(root: SchemaNode) -> Result<Schema, Error>
+        ensures kept { IfOk result (λ schema. (schema.root ≡ root) × IsAccepted root) }
+        ensures refused { IfErr result (λ e. IsRefused root e.reason) }
+    {
         if !root.is_within(MOST_NESTED) {
             return err(Reason::NestedTooDeep);
         }
@@ -209,7 +255,9 @@ impl Schema {
     }
 
     /// The node of the whole value.
-    pub fn root(&self) -> &SchemaNode {
+    pub fn root(&self) -> &SchemaNode
+        ensures { result.now ≡ self.now.root }
+    {
         &self.root
     }
 }

@@ -1,77 +1,56 @@
 //! Writing the columns of several values of one node.
+ghost use Rattle.std.specs.Prelude.{◌≡◌, ◌<◌, ◌≤◌, length, true};
+ghost use Rattle.bitcode_schema.specs.Depth.{fields_of, has_few_variants};
+ghost use Rattle.bitcode_schema.specs.Reading.{variant_shapes};
+
 use crate::schema::{IntKind, SchemaNode};
-use crate::write::entries::{
-    write_bytes, write_chars, write_entries, write_lengths, write_variants,
+use crate::write::allowed::{are_nonzero, are_short, are_spans};
+use crate::write::cases::{enums, lists, maps, options, tuples};
+use crate::write::entries::{write_lengths, write_variants};
+use crate::write::gather::{
+    are_of_size, are_within, enum_variants, fields, flatten, option_variants, payloads, somes,
+    split,
 };
-use crate::write::limits::{are_nonzero, are_within, lengths_within};
-use crate::write::parts::{
-    array_elements, elements, fields, pairs, payloads, rows, somes, spans, units, uuids, variants,
-};
+use crate::write::leaf::write_leaf;
+use bitcode_coder::bool::BoolEncoder;
+use bitcode_coder::str::StrEncoder;
+use bitcode_floats::float32::F32Encoder;
+use bitcode_floats::float64::F64Encoder;
+use bitcode_ints::int::IntEncoder;
 use bitcode_memory::error::{Error, Reason};
 use bitcode_memory::refuse::err;
-use bitcode_serde::column::ColumnKind;
 use bitcode_untyped::value::Value;
 use std::alloc::Global;
 
+mod allowed;
+mod cases;
 mod entries;
-mod limits;
-mod parts;
+mod gather;
+mod in_case;
+mod leaf;
 
-// The column of integers of a kind.
-fn column_of(kind: IntKind) -> ColumnKind {
-    match kind {
-        IntKind::U8 => ColumnKind::Bytes,
-        IntKind::U16 => ColumnKind::U16,
-        IntKind::U32 => ColumnKind::U32,
-        IntKind::U64 => ColumnKind::U64,
-        IntKind::U128 => ColumnKind::U128,
-        IntKind::I8 => ColumnKind::I8,
-        IntKind::I16 => ColumnKind::I16,
-        IntKind::I32 => ColumnKind::I32,
-        IntKind::I64 => ColumnKind::I64,
-        IntKind::I128 => ColumnKind::I128,
-    }
-}
+// The bytes of an id.
+const ID_BYTES: usize = 16;
 
-/// Appends the columns of values of a node.
-///
-/// Errors: `value is not of the shape` if a value does not fit the node, and `out of memory`.
-#[cycle(write)]
-pub fn write_each(
+// Appends the column of integers of a kind.
+fn write_ints(
     alloc: Global,
-    node: &SchemaNode,
+    kind: IntKind,
     values: &[&Value],
     out: &mut Vec<u8>,
 ) -> Result<(), Error> {
-    match node {
-        SchemaNode::Unit => units(values),
-        SchemaNode::Never => write_never(values),
-        SchemaNode::Bool => write_entries(alloc, ColumnKind::Bools, values, out),
-        SchemaNode::Char => write_chars(alloc, values, out),
-        SchemaNode::Int(kind) => write_entries(alloc, column_of(*kind), values, out),
-        SchemaNode::NonZero(kind) => write_nonzeros(alloc, *kind, values, out),
-        SchemaNode::F32 => write_entries(alloc, ColumnKind::F32, values, out),
-        SchemaNode::F64 => write_entries(alloc, ColumnKind::F64, values, out),
-        SchemaNode::Str(capacity) => write_texts(alloc, *capacity, values, out),
-        SchemaNode::Duration => write_spans(alloc, values, out),
-        SchemaNode::Uuid => write_uuids(alloc, values, out),
-        SchemaNode::List(capacity, element) => write_lists(alloc, *capacity, element, values, out),
-        SchemaNode::Map(key, value) => write_maps(alloc, key, value, values, out),
-        SchemaNode::Array(size, element) => write_arrays(alloc, *size, element, values, out),
-        SchemaNode::Tuple(_) => write_tuples(alloc, node, values, out),
-        SchemaNode::Struct(_) => write_tuples(alloc, node, values, out),
-        SchemaNode::Option(some) => write_options(alloc, some, values, out),
-        SchemaNode::Result(ok, other) => write_results(alloc, ok, other, values, out),
-        SchemaNode::Enum(nodes) => write_enums(alloc, nodes, values, out),
+    match kind {
+        IntKind::U8 => write_leaf::<u8, IntEncoder<u8>>(alloc, values, out),
+        IntKind::U16 => write_leaf::<u16, IntEncoder<u16>>(alloc, values, out),
+        IntKind::U32 => write_leaf::<u32, IntEncoder<u32>>(alloc, values, out),
+        IntKind::U64 => write_leaf::<u64, IntEncoder<u64>>(alloc, values, out),
+        IntKind::U128 => write_leaf::<u128, IntEncoder<u128>>(alloc, values, out),
+        IntKind::I8 => write_leaf::<i8, IntEncoder<i8>>(alloc, values, out),
+        IntKind::I16 => write_leaf::<i16, IntEncoder<i16>>(alloc, values, out),
+        IntKind::I32 => write_leaf::<i32, IntEncoder<i32>>(alloc, values, out),
+        IntKind::I64 => write_leaf::<i64, IntEncoder<i64>>(alloc, values, out),
+        IntKind::I128 => write_leaf::<i128, IntEncoder<i128>>(alloc, values, out),
     }
-}
-
-// Of a type without values there is none.
-fn write_never(values: &[&Value]) -> Result<(), Error> {
-    if values.is_empty() {
-        return Ok(());
-    }
-    err(Reason::NotOfTheShape)
 }
 
 // Appends the column of integers except 0.
@@ -84,7 +63,7 @@ fn write_nonzeros(
     if !are_nonzero(values) {
         return err(Reason::NotOfTheShape);
     }
-    write_entries(alloc, column_of(kind), values, out)
+    write_ints(alloc, kind, values, out)
 }
 
 // Appends the column of texts of at most so many bytes.
@@ -94,23 +73,89 @@ fn write_texts(
     values: &[&Value],
     out: &mut Vec<u8>,
 ) -> Result<(), Error> {
-    if !are_within(capacity, values) {
+    if !are_short(capacity, values) {
         return err(Reason::NotOfTheShape);
     }
-    write_entries(alloc, ColumnKind::Texts, values, out)
+    write_leaf::<String, StrEncoder>(alloc, values, out)
 }
 
-// Appends the columns of seconds and nanoseconds.
+// Appends the columns of the seconds and the nanoseconds of durations.
 fn write_spans(alloc: Global, values: &[&Value], out: &mut Vec<u8>) -> Result<(), Error> {
-    let (seconds, nanoseconds) = spans(alloc, values)?;
-    write_entries(alloc, ColumnKind::U64, &seconds, out)?;
-    write_entries(alloc, ColumnKind::U32, &nanoseconds, out)
+    let rows = tuples(alloc, values)?;
+    if !are_of_size(2, &rows) {
+        return err(Reason::NotOfTheShape);
+    }
+    let seconds = fields(alloc, &rows, 0)?;
+    let nanoseconds = fields(alloc, &rows, 1)?;
+    if !are_spans(&nanoseconds) {
+        return err(Reason::NotOfTheShape);
+    }
+    write_leaf::<u64, IntEncoder<u64>>(alloc, &seconds, out)?;
+    write_leaf::<u32, IntEncoder<u32>>(alloc, &nanoseconds, out)
 }
 
 // Appends the column of the bytes of ids.
-fn write_uuids(alloc: Global, values: &[&Value], out: &mut Vec<u8>) -> Result<(), Error> {
-    let mut bytes = uuids(alloc, values)?;
-    write_bytes(&mut bytes, out)
+fn write_ids(alloc: Global, values: &[&Value], out: &mut Vec<u8>) -> Result<(), Error> {
+    let held = lists(alloc, values)?;
+    if !are_of_size(ID_BYTES, &held) {
+        return err(Reason::NotOfTheShape);
+    }
+    let parts = flatten(alloc, &held)?;
+    write_leaf::<u8, IntEncoder<u8>>(alloc, &parts, out)
+}
+
+// Whether all values are units.
+fn are_units(values: &[&Value]) -> Result<(), Error> {
+    for value in values {
+        match value {
+            Value::Unit => {}
+            _ => return err(Reason::NotOfTheShape),
+        }
+    }
+    Ok(())
+}
+
+// Of a node without values there is none.
+fn are_none(values: &[&Value]) -> Result<(), Error> {
+    if values.is_empty() {
+        return Ok(());
+    }
+    err(Reason::NotOfTheShape)
+}
+
+/// Appends the columns of values of a node.
+///
+/// Errors: `value is not of the shape` if a value does not fit the node, and `out of memory`.
+#[cycle(write)]
+pub fn write_each(
+    alloc: Global,
+    node: &SchemaNode,
+    values: &[&Value],
+    out: &mut Vec<u8>,
+) -> Result<(), Error>
+    requires few { has_few_variants node.now ≡ true }
+{
+    match node {
+        SchemaNode::Unit => are_units(values),
+        SchemaNode::Never => are_none(values),
+        SchemaNode::Bool => write_leaf::<bool, BoolEncoder>(alloc, values, out),
+        SchemaNode::Char => write_leaf::<char, IntEncoder<u32>>(alloc, values, out),
+        SchemaNode::Int(kind) => write_ints(alloc, *kind, values, out),
+        SchemaNode::NonZero(kind) => write_nonzeros(alloc, *kind, values, out),
+        SchemaNode::F32 => write_leaf::<f32, F32Encoder>(alloc, values, out),
+        SchemaNode::F64 => write_leaf::<f64, F64Encoder>(alloc, values, out),
+        SchemaNode::Str(capacity) => write_texts(alloc, *capacity, values, out),
+        SchemaNode::Duration => write_spans(alloc, values, out),
+        SchemaNode::Uuid => write_ids(alloc, values, out),
+        SchemaNode::List(capacity, element) => write_lists(alloc, *capacity, element, values, out),
+        SchemaNode::Map(key, value) => write_maps(alloc, key, value, values, out),
+        SchemaNode::Array(size, element) => write_arrays(alloc, *size, element, values, out),
+        SchemaNode::Tuple(_) => write_tuples(alloc, node, values, out),
+        SchemaNode::Struct(_) => write_tuples(alloc, node, values, out),
+        SchemaNode::Option(_) => write_options(alloc, node, values, out),
+        SchemaNode::Result(_, _) => write_enums(alloc, node, 2, values, out),
+        SchemaNode::Enum(variants) => write_enums(alloc, node, variants.len(), values, out),
+    }
 }
 
 // Appends the columns of lists of at most so many elements.
@@ -121,12 +166,15 @@ fn write_lists(
     element: &SchemaNode,
     values: &[&Value],
     out: &mut Vec<u8>,
-) -> Result<(), Error> {
-    let (lengths, parts) = elements(alloc, values)?;
-    if !lengths_within(capacity, &lengths) {
+) -> Result<(), Error>
+    requires few { has_few_variants element.now ≡ true }
+{
+    let held = lists(alloc, values)?;
+    if !are_within(capacity, &held) {
         return err(Reason::NotOfTheShape);
     }
-    write_lengths(alloc, &lengths, out)?;
+    write_lengths(alloc, &held, out)?;
+    let parts = flatten(alloc, &held)?;
     write_each(alloc, element, &parts, out)
 }
 
@@ -138,9 +186,13 @@ fn write_maps(
     value: &SchemaNode,
     values: &[&Value],
     out: &mut Vec<u8>,
-) -> Result<(), Error> {
-    let (lengths, keys, parts) = pairs(alloc, values)?;
-    write_lengths(alloc, &lengths, out)?;
+) -> Result<(), Error>
+    requires keys { has_few_variants key.now ≡ true }
+    requires values { has_few_variants value.now ≡ true }
+{
+    let held = maps(alloc, values)?;
+    write_lengths(alloc, &held, out)?;
+    let (keys, parts) = split(alloc, &held)?;
     write_each(alloc, key, &keys, out)?;
     write_each(alloc, value, &parts, out)
 }
@@ -153,28 +205,39 @@ fn write_arrays(
     element: &SchemaNode,
     values: &[&Value],
     out: &mut Vec<u8>,
-) -> Result<(), Error> {
-    let parts = array_elements(alloc, size, values)?;
+) -> Result<(), Error>
+    requires few { has_few_variants element.now ≡ true }
+{
+    let held = lists(alloc, values)?;
+    if !are_of_size(size, &held) {
+        return err(Reason::NotOfTheShape);
+    }
+    let parts = flatten(alloc, &held)?;
     write_each(alloc, element, &parts, out)
 }
 
-// Appends the columns of tuples.
+// Appends the columns of tuples of the fields of a node.
 #[cycle(write)]
 fn write_tuples(
     alloc: Global,
     node: &SchemaNode,
     values: &[&Value],
     out: &mut Vec<u8>,
-) -> Result<(), Error> {
+) -> Result<(), Error>
+    requires few { has_few_variants node.now ≡ true }
+{
+    let rows = tuples(alloc, values)?;
     let count = node.field_count();
-    let rows = rows(alloc, count, values)?;
+    if !are_of_size(count, &rows) {
+        return err(Reason::NotOfTheShape);
+    }
     if count == 0 {
         return Ok(());
     }
     write_fields(alloc, node, 0, count, &rows, out)
 }
 
-// Appends the columns of some fields of tuples.
+// Appends the columns of some fields of a node.
 #[cycle(write)]
 fn write_fields(
     alloc: Global,
@@ -183,7 +246,10 @@ fn write_fields(
     to: usize,
     rows: &[&[Value]],
     out: &mut Vec<u8>,
-) -> Result<(), Error> {
+) -> Result<(), Error>
+    requires few { has_few_variants node.now ≡ true }
+    requires range { (from < to) × (to ≤ length (fields_of node.now)) }
+{
     let count = to - from;
     if count > 1 {
         let middle = from + count / 2;
@@ -203,47 +269,62 @@ fn write_fields(
 #[cycle(write)]
 fn write_options(
     alloc: Global,
-    some: &SchemaNode,
+    node: &SchemaNode,
     values: &[&Value],
     out: &mut Vec<u8>,
-) -> Result<(), Error> {
-    let (variants, parts) = somes(alloc, values)?;
+) -> Result<(), Error>
+    requires few { has_few_variants node.now ≡ true }
+    requires two { length (variant_shapes node.now) ≡ 2 }
+{
+    let held = options(alloc, values)?;
+    let variants = option_variants(alloc, &held)?;
     write_variants(2, &variants, out)?;
-    write_each(alloc, some, &parts, out)
+    let parts = somes(alloc, &held)?;
+    match node.payload(1) {
+        Some(some) => write_each(alloc, some, &parts, out),
+        None => Ok(()),
+    }
 }
 
-// Appends the columns of results.
-#[cycle(write)]
-fn write_results(
-    alloc: Global,
-    ok: &SchemaNode,
-    other: &SchemaNode,
-    values: &[&Value],
-    out: &mut Vec<u8>,
-) -> Result<(), Error> {
-    let variants = variants(alloc, 2, values)?;
-    write_variants(2, &variants, out)?;
-    let oks = payloads(alloc, 0, values)?;
-    write_each(alloc, ok, &oks, out)?;
-    let others = payloads(alloc, 1, values)?;
-    write_each(alloc, other, &others, out)
-}
-
-// Appends the columns of enums. Those of one variant have no column of variants.
+// Appends the columns of enums of so many variants. A column of variants is only there if there are several.
 #[cycle(write)]
 fn write_enums(
     alloc: Global,
-    nodes: &[(String, SchemaNode)],
+    node: &SchemaNode,
+    count: usize,
     values: &[&Value],
     out: &mut Vec<u8>,
-) -> Result<(), Error> {
-    let variants = variants(alloc, nodes.len(), values)?;
-    if nodes.len() > 1 {
-        write_variants(nodes.len(), &variants, out)?;
+) -> Result<(), Error>
+    requires few { has_few_variants node.now ≡ true }
+    requires most { count ≤ 256 }
+    requires count { length (variant_shapes node.now) ≡ count }
+{
+    let held = enums(alloc, values)?;
+    let variants = enum_variants(alloc, count, &held)?;
+    if count > 1 {
+        write_variants(count, &variants, out)?;
     }
-    for i in 0..nodes.len() {
-        let parts = payloads(alloc, i, values)?;
-        write_each(alloc, &nodes[i].1, &parts, out)?;
+    for variant in 0..count {
+        let parts = payloads(alloc, variant, &held)?;
+        write_payloads(alloc, node, variant, &parts, out)?;
     }
     Ok(())
+}
+
+// Appends the columns of payloads of a variant of a node.
+#[cycle(write)]
+fn write_payloads(
+    alloc: Global,
+    node: &SchemaNode,
+    variant: usize,
+    values: &[&Value],
+    out: &mut Vec<u8>,
+) -> Result<(), Error>
+    requires few { has_few_variants node.now ≡ true }
+    requires variant { variant < length (variant_shapes node.now) }
+{
+    match node.payload(variant) {
+        Some(payload) => write_each(alloc, payload, values, out),
+        None => are_none(values),
+    }
 }

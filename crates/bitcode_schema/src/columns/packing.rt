@@ -39,9 +39,11 @@ fn numbers_in_width(width: usize) -> Option<u128> {
 // The sum of two offsets, in entries of so many bytes.
 fn shifted_by(first: u128, second: u128, width: usize) -> u128 {
     let sum = first.wrapping_add(second);
-    match numbers_in_width(width) {
-        Some(numbers) => sum % numbers,
-        None => sum,
+    match width {
+        2 => sum % 0x1_0000,
+        4 => sum % 0x1_0000_0000,
+        8 => sum % 0x1_0000_0000_0000_0000,
+        _ => sum,
     }
 }
 
@@ -68,7 +70,11 @@ pub fn packing_of_bytes(entries: usize, piece: &[u8]) -> Packing {
             by: u128::from(*least),
             within,
         },
-        _ => if level == 0 { Packing::Raw } else { Packing::Within(within) },
+        _ => if level == 0 {
+            Packing::Raw
+        } else {
+            Packing::Within(within)
+        },
     }
 }
 

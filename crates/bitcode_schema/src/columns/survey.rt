@@ -1,9 +1,14 @@
 //! Reading the columns of an input one after another, and noting where each is.
+ghost use Rattle.std.specs.Prelude.{◌≡◌, ◌≤◌, ◌-◌, length, true, IfOk};
+ghost use Rattle.bitcode_coder.specs.Length.{lengths_left};
+ghost use Rattle.bitcode_schema.specs.Placing.{stand_from};
+
+use crate::choices::read_variants;
 use crate::columns::packing::{
     packing_of_bytes, packing_of_ints, packing_of_lengths, packing_of_variants,
 };
-use crate::choices::read_variants;
 use crate::columns::part::{ColumnFault, ColumnPart, Packing, PartKind};
+use crate::limits::any_over;
 use crate::schema::IntKind;
 use bitcode_coder::coder::View;
 use bitcode_coder::length::LengthDecoder;
@@ -51,6 +56,19 @@ fn packing_of(kind: PartKind, entries: usize, piece: &[u8]) -> Packing {
     }
 }
 
+// How many of `k` lengths are 255 or more.
+fn count_large(lengths: &mut LengthDecoder<'_>, k: usize) -> usize
+    requires { k ≤ length (lengths_left lengths.old) }
+{
+    let mut large = 0;
+    for _taken in 0..k {
+        if lengths.decode() >= ESCAPE {
+            large += 1;
+        }
+    }
+    large
+}
+
 /// The rest of an input, and the columns before it.
 #[derive(Drop)]
 pub struct Survey<'a> {
@@ -58,11 +76,15 @@ pub struct Survey<'a> {
     whole: &'a [u8],
     rest: &'a [u8],
     parts: Vec<ColumnPart>,
+    ghost within: { length rest.now ≤ length whole.now },
+    ghost stand: { stand_from 0 parts.items (length whole.now - length rest.now) ≡ true },
 }
 
 impl<'a> Survey<'a> {
     /// Creates the survey of an input of which nothing was read.
-    pub fn new(alloc: Global, input: &'a [u8]) -> Self {
+    pub fn new(alloc: Global, input: &'a [u8]) -> Self
+        ensures { result.whole.now ≡ input.now }
+    {
         Survey {
             alloc,
             whole: input,
@@ -72,7 +94,9 @@ impl<'a> Survey<'a> {
     }
 
     /// The columns, if nothing is left of the input.
-    pub fn into_parts(self) -> Result<Vec<ColumnPart>, ColumnFault> {
+    pub fn into_parts(self) -> Result<Vec<ColumnPart>, ColumnFault>
+        ensures { IfOk result (λ parts. stand_from 0 parts.items (length self.entry.whole.now) ≡ true) }
+    {
         if !self.rest.is_empty() {
             return Err(self.fault("", self.rest, Reason::ExpectedEof));
         }
@@ -137,29 +161,35 @@ impl<'a> Survey<'a> {
         }
     }
 
-    // Notes the column that was read from an input, up to the rest.
+    // Notes the column that was read, up to a rest of the input.
     fn note(
         &mut self,
         path: &str,
         kind: PartKind,
         entries: usize,
         packing: Packing,
-        before: &'a [u8],
-    ) -> Result<(), ColumnFault> {
+        rest: &'a [u8],
+    ) -> Result<(), ColumnFault>
+        requires { length rest.now ≤ length self.old.rest.now }
+        ensures { self.new.whole.now ≡ self.old.whole.now }
+    {
         let Ok(path) = String::from_str(self.alloc, path) else {
-            return Err(self.fault("", before, Reason::OutOfMemory));
+            return Err(self.fault("", self.rest, Reason::OutOfMemory));
         };
         let part = ColumnPart {
             path,
             kind,
             entries,
-            offset: self.offset_of(before),
-            size: taken(before, self.rest).len(),
+            offset: self.whole.len() - self.rest.len(),
+            size: self.rest.len() - rest.len(),
             packing,
         };
         match self.parts.push(part) {
-            Ok(()) => Ok(()),
-            Err(_) => Err(self.fault("", before, Reason::OutOfMemory)),
+            Ok(()) => {
+                self.rest = rest;
+                Ok(())
+            }
+            Err(_) => Err(self.fault("", self.rest, Reason::OutOfMemory)),
         }
     }
 
@@ -169,74 +199,54 @@ impl<'a> Survey<'a> {
         path: &str,
         kind: PartKind,
         k: usize,
-    ) -> Result<(), ColumnFault> {
-        let before = self.rest;
+    ) -> Result<(), ColumnFault>
+        ensures { self.new.whole.now ≡ self.old.whole.now }
+    {
+        let mut input = self.rest;
         let mut column = V::new(self.alloc);
-        match column.populate(&mut self.rest, k) {
+        match column.populate(&mut input, k) {
             Ok(()) => {
-                let packing = packing_of(kind, k, taken(before, self.rest));
-                self.note(path, kind, k, packing, before)
+                let packing = packing_of(kind, k, taken(self.rest, input));
+                self.note(path, kind, k, packing, input)
             }
-            Err(error) => Err(self.fault(path, before, error.reason)),
+            Err(error) => Err(self.fault(path, self.rest, error.reason)),
         }
-    }
-
-    // Whether one of `k` lengths is over the capacity. A length below 255 that stands among the large ones is over
-    // each capacity below 255.
-    fn is_one_over(lengths: &mut LengthDecoder<'a>, k: usize, capacity: Option<usize>) -> bool {
-        let Some(capacity) = capacity else {
-            return false;
-        };
-        if capacity < ESCAPE && lengths.any_greater_than::<254>() {
-            return true;
-        }
-        for _ in 0..k {
-            if lengths.decode() > capacity {
-                return true;
-            }
-        }
-        false
-    }
-
-    // How many of `k` lengths are 255 or more.
-    fn count_large(lengths: &mut LengthDecoder<'a>, k: usize) -> usize {
-        let mut large = 0;
-        for _ in 0..k {
-            if lengths.decode() >= ESCAPE {
-                large += 1;
-            }
-        }
-        large
     }
 
     /// Reads a column of `k` lengths, and tells their sum.
-    pub fn lengths(&mut self, path: &str, k: usize) -> Result<usize, ColumnFault> {
-        let before = self.rest;
+    pub fn lengths(&mut self, path: &str, k: usize) -> Result<usize, ColumnFault>
+        ensures { self.new.whole.now ≡ self.old.whole.now }
+    {
+        let mut input = self.rest;
         let mut lengths = LengthDecoder::new(self.alloc);
-        match lengths.populate(&mut self.rest, k) {
+        match lengths.populate(&mut input, k) {
             Ok(()) => {
                 let sum = lengths.length();
-                let large = Survey::count_large(&mut lengths, k);
-                let packing = packing_of_lengths(k, large, taken(before, self.rest));
-                self.note(path, PartKind::Lengths, k, packing, before)?;
+                let large = count_large(&mut lengths, k);
+                let packing = packing_of_lengths(k, large, taken(self.rest, input));
+                self.note(path, PartKind::Lengths, k, packing, input)?;
                 Ok(sum)
             }
-            Err(error) => Err(self.fault(path, before, error.reason)),
+            Err(error) => Err(self.fault(path, self.rest, error.reason)),
         }
     }
 
-    /// Whether one of `k` lengths at the front of an input is over the capacity.
-    pub fn exceeds(
+    /// Refuses `k` lengths at the front of an input, if one is over the capacity.
+    pub fn keep_within(
         &self,
+        path: &str,
         before: &'a [u8],
         k: usize,
         capacity: Option<usize>,
-    ) -> Result<bool, ColumnFault> {
-        let mut input = before;
-        let mut lengths = LengthDecoder::new(self.alloc);
-        match lengths.populate(&mut input, k) {
-            Ok(()) => Ok(Survey::is_one_over(&mut lengths, k, capacity)),
-            Err(error) => Err(self.fault("", before, error.reason)),
+        reason: Reason,
+    ) -> Result<(), ColumnFault> {
+        let Some(limit) = capacity else {
+            return Ok(());
+        };
+        match any_over(self.alloc, before, k, limit) {
+            Ok(false) => Ok(()),
+            Ok(true) => Err(self.fault(path, before, reason)),
+            Err(error) => Err(self.fault(path, before, error.reason)),
         }
     }
 
@@ -256,21 +266,29 @@ impl<'a> Survey<'a> {
         path: &str,
         k: usize,
         capacity: Option<usize>,
-    ) -> Result<(), ColumnFault> {
+    ) -> Result<(), ColumnFault>
+        ensures { self.new.whole.now ≡ self.old.whole.now }
+    {
         let before = self.rest;
         let sum = self.lengths(path, k)?;
-        let bytes = self.rest;
-        let mut texts = StrDecoder::new(self.alloc);
         let mut input = before;
+        let mut texts = StrDecoder::new(self.alloc);
         match texts.populate(&mut input, k) {
             Ok(()) => (),
-            Err(error) => return Err(self.fault(path, bytes, error.reason)),
+            Err(error) => return Err(self.fault(path, self.rest, error.reason)),
         }
-        if self.exceeds(before, k, capacity)? {
-            return Err(self.fault(path, before, Reason::InvalidArrayString));
+        self.keep_within(path, before, k, capacity, Reason::InvalidArrayString)?;
+        self.bytes(path, sum)
+    }
+
+    // Takes so many bytes of texts, which were read.
+    fn bytes(&mut self, path: &str, count: usize) -> Result<(), ColumnFault>
+        ensures { self.new.whole.now ≡ self.old.whole.now }
+    {
+        match self.rest.get(count..) {
+            Some(behind) => self.note(path, PartKind::TextBytes, count, Packing::Raw, behind),
+            None => Err(self.fault(path, self.rest, Reason::Eof)),
         }
-        self.rest = input;
-        self.note(path, PartKind::TextBytes, sum, Packing::Raw, bytes)
     }
 
     /// Reads a column of `k` variants, and counts each.
@@ -279,24 +297,20 @@ impl<'a> Survey<'a> {
         path: &str,
         k: usize,
         variants: usize,
-    ) -> Result<[usize; 256], ColumnFault> {
-        let before = self.rest;
+    ) -> Result<[usize; 256], ColumnFault>
+        requires { (2 ≤ variants) × (variants ≤ 256) }
+        ensures { self.new.whole.now ≡ self.old.whole.now }
+    {
+        let mut input = self.rest;
         let mut entries = CowSlice::new(self.alloc);
-        match read_variants(
-            self.alloc,
-            &mut self.rest,
-            k,
-            variants,
-            &mut entries,
-            false,
-        ) {
+        match read_variants(self.alloc, &mut input, k, variants, &mut entries, false) {
             Ok(_) => {
                 let counts = histogram(entries.as_slice());
                 let packing = packing_of_variants(variants);
-                self.note(path, PartKind::Variants(variants), k, packing, before)?;
+                self.note(path, PartKind::Variants(variants), k, packing, input)?;
                 Ok(counts)
             }
-            Err(error) => Err(self.fault(path, before, error.reason)),
+            Err(error) => Err(self.fault(path, self.rest, error.reason)),
         }
     }
 }

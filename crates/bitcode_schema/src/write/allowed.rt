@@ -1,6 +1,9 @@
 //! Values that a node allows.
 use bitcode_untyped::value::Value;
 
+// The greatest number of nanoseconds below a second.
+const MOST_NANOSECONDS: u32 = 999_999_999;
+
 // Whether a value is the integer 0 of some type.
 fn is_zero(value: &Value) -> bool {
     match value {
@@ -28,30 +31,26 @@ pub fn are_nonzero(values: &[&Value]) -> bool {
     true
 }
 
-// Whether a number is at most a limit, if there is one.
-fn is_within(limit: Option<usize>, number: usize) -> bool {
-    match limit {
-        Some(limit) => number <= limit,
-        None => true,
-    }
-}
-
-/// Whether each of the texts has at most so many bytes.
-pub fn are_within(limit: Option<usize>, values: &[&Value]) -> bool {
+/// Whether each of the texts has at most so many bytes, if there is a limit.
+pub fn are_short(limit: Option<usize>, values: &[&Value]) -> bool {
+    let Some(limit) = limit else {
+        return true;
+    };
     for value in values {
         match value {
-            Value::Str(text) if !is_within(limit, text.len()) => return false,
+            Value::Str(text) if text.len() > limit => return false,
             _ => {}
         }
     }
     true
 }
 
-/// Whether each of the lengths is at most a limit, if there is one.
-pub fn lengths_within(limit: Option<usize>, lengths: &[usize]) -> bool {
-    for length in lengths {
-        if !is_within(limit, *length) {
-            return false;
+/// Whether each of the numbers is one of nanoseconds below a second.
+pub fn are_spans(values: &[&Value]) -> bool {
+    for value in values {
+        match value {
+            Value::U32(n) if *n > MOST_NANOSECONDS => return false,
+            _ => {}
         }
     }
     true
