@@ -51,6 +51,9 @@ def main():
             return text
 
         written = BLOCK.sub(block, page)
+        if run(f"cmp monsters.svg {os.path.dirname(os.path.realpath(PAGE))}/columns.svg", folder, f"{work}/bin"):
+            wrong += 1
+            print("command: docs/columns.svg is not the picture that the page's session writes")
     if "--write" in sys.argv:
         with open(PAGE, "w") as file:
             file.write(written)
