@@ -121,7 +121,8 @@ impl<'a> Survey<'a> {
 
     /// The columns, if nothing is left of the input.
     pub fn into_parts(self) -> Result<Vec<ColumnPart>, ColumnFault>
-        ensures { IfOk result (λ parts. stand_from 0 parts.items (length self.entry.whole.now) ≡ true) }
+        ensures { IfOk result
+            (λ parts. stand_from 0 parts.items (length self.entry.whole.now) ≡ true) }
     {
         if !self.rest.is_empty() {
             return Err(self.fault("", self.rest, Reason::ExpectedEof));
