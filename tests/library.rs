@@ -1,5 +1,4 @@
 //! The library: each public call, single columns, and values of each type.
 mod calls;
 mod columns;
-mod schemas;
 mod values;

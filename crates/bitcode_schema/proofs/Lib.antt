@@ -1,2 +1,1 @@
 pub mod NodeLemmas
-pub mod PlacingLemmas

@@ -3,4 +3,3 @@ pub mod Leaves
 pub mod Forms
 pub mod FormRows
 pub mod Depth
-pub mod Placing

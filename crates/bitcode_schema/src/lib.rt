@@ -1,7 +1,4 @@
-//! Schemas that are made at run time: encoding by them, and where the columns of an input are.
+//! Schemas that are made at run time.
 #![tactic(auto)]
 
-pub mod columns;
-pub mod encode;
 pub mod schema;
-mod write;
