@@ -1,5 +1,5 @@
 -- Data that a type's own check admits are read as the data of its fields are.
-use Rattle.std.proofs.Common.{◌≡◌, Bool, true, ℕ, List, refl, sym, subst}
+use Rattle.std.proofs.Common.{◌≡◌, Bool, true, ℕ, List, sym, subst}
 use Rattle.std.specs.Prelude.{All}
 use Rattle.std.proofs.lemmas.List.Elements.{All-weaker}
 use Rattle.bitcode_memory.specs.declared.error.Reason.{Reason}

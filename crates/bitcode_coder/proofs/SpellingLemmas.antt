@@ -1,5 +1,5 @@
 -- What holds of each kind of column holds of each shape.
-use Rattle.std.proofs.Common.{◌≡◌, ℕ, zero, suc, ◌+◌, ◌*◌, ◌≤◌, ◌<◌, Bool, true, Option, None, List, [], ◌++◌, length, map, replicate, All, refl, sym, ◌∙◌, ap, ap₂, subst, ⊎_elim, eq-or-lt_of_le, append_assoc, arith, length-append}
+use Rattle.std.proofs.Common.{◌≡◌, ℕ, zero, suc, ◌+◌, ◌*◌, ◌≤◌, ◌<◌, Bool, Option, None, List, [], ◌++◌, length, map, replicate, All, refl, sym, ◌∙◌, ap, ap₂, subst, ⊎_elim, eq-or-lt_of_le, append_assoc, arith, length-append}
 use Rattle.std.proofs.lemmas.List.Elements.{All-map, All-weaker}
 use Rattle.bitcode_columns.specs.Laws.{IsReadOnce}
 use Rattle.bitcode_shapes.specs.Datum.{Datum, unit, elements_in, first_in, second_in, variant_in}

@@ -1,6 +1,6 @@
 -- Worked rows: the shape of each node, and the datum of some values.
 use Rattle.std.proofs.Common.{refl}
-use Rattle.std.specs.Prelude.{◌≡◌, ℕ, pos, true, false, Option, List, [], ◌∷◌}
+use Rattle.std.specs.Prelude.{◌≡◌, ℕ, pos, true, false, Option, [], ◌∷◌}
 use Rattle.std.specs.Float.{binary32, binary64}
 use Rattle.std.specs.declared.alloc.Global.{Global}
 use Rattle.std.specs.declared.boxed.Box.{Box}
@@ -45,11 +45,47 @@ u128_row = refl
 i8_row : shape_at_layer (SchemaNode-F.Int int.I8) ≡ number_shape 1 true any_number
 i8_row = refl
 
+i16_row : shape_at_layer (SchemaNode-F.Int int.I16) ≡ number_shape 2 true any_number
+i16_row = refl
+
+i32_row : shape_at_layer (SchemaNode-F.Int int.I32) ≡ number_shape 4 true any_number
+i32_row = refl
+
+i64_row : shape_at_layer (SchemaNode-F.Int int.I64) ≡ number_shape 8 true any_number
+i64_row = refl
+
 i128_row : shape_at_layer (SchemaNode-F.Int int.I128) ≡ number_shape 16 true any_number
 i128_row = refl
 
-nonzero_row : shape_at_layer (SchemaNode-F.NonZero int.I32) ≡ number_shape 4 true nonzero
-nonzero_row = refl
+nonzero_u8_row : shape_at_layer (SchemaNode-F.NonZero int.U8) ≡ number_shape 1 false nonzero
+nonzero_u8_row = refl
+
+nonzero_i8_row : shape_at_layer (SchemaNode-F.NonZero int.I8) ≡ number_shape 1 true nonzero
+nonzero_i8_row = refl
+
+nonzero_u16_row : shape_at_layer (SchemaNode-F.NonZero int.U16) ≡ number_shape 2 false nonzero
+nonzero_u16_row = refl
+
+nonzero_i16_row : shape_at_layer (SchemaNode-F.NonZero int.I16) ≡ number_shape 2 true nonzero
+nonzero_i16_row = refl
+
+nonzero_u32_row : shape_at_layer (SchemaNode-F.NonZero int.U32) ≡ number_shape 4 false nonzero
+nonzero_u32_row = refl
+
+nonzero_i32_row : shape_at_layer (SchemaNode-F.NonZero int.I32) ≡ number_shape 4 true nonzero
+nonzero_i32_row = refl
+
+nonzero_u64_row : shape_at_layer (SchemaNode-F.NonZero int.U64) ≡ number_shape 8 false nonzero
+nonzero_u64_row = refl
+
+nonzero_i64_row : shape_at_layer (SchemaNode-F.NonZero int.I64) ≡ number_shape 8 true nonzero
+nonzero_i64_row = refl
+
+nonzero_u128_row : shape_at_layer (SchemaNode-F.NonZero int.U128) ≡ number_shape 16 false nonzero
+nonzero_u128_row = refl
+
+nonzero_i128_row : shape_at_layer (SchemaNode-F.NonZero int.I128) ≡ number_shape 16 true nonzero
+nonzero_i128_row = refl
 
 f32_row : shape_at_layer SchemaNode-F.F32 ≡ float_shape binary32
 f32_row = refl

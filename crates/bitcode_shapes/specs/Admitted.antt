@@ -1,8 +1,8 @@
 -- A type whose own check admits only some of the values of another type, such as a struct whose constructor checks its
 -- fields. The check is part of the shape: it says which data of the fields the type has.
-use Rattle.std.proofs.Common.{◌≡◌, ℕ, Bool, true, false, ℤ, pos, List, refl, sym, ◌∙◌, ap, ap₂, subst}
+use Rattle.std.proofs.Common.{◌≡◌, ℕ, Bool, true, false, ℤ, pos, refl, sym, ◌∙◌, ap, ap₂, subst}
 use Rattle.std.specs.Prelude.{◌==◌, if◌then◌else◌, IsTrue}
-use Rattle.bitcode_shapes.specs.Datum.{Datum, number, text, number_in, natural_in, text_in, first_in, second_in}
+use Rattle.bitcode_shapes.specs.Datum.{Datum, number_in, natural_in, first_in, second_in}
 use Rattle.bitcode_shapes.specs.Shape.{admitted_shape}
 use Rattle.bitcode_shapes.specs.CompareAlike.{images_alike}
 use Rattle.bitcode_shapes.specs.DataOf.{DataOf, data_of}
@@ -29,9 +29,6 @@ one_or_zero false = refl
 
 abbrev pub bool_back : {is_value : Bool → Type 0} → ReadsBack is_value (MakesNumber bool_number)
 bool_back = record { value = λ d. natural_in d == 1; is = λ b d h m. ap (λ e. natural_in e == 1) m ∙ one_or_zero b }
-
-abbrev pub text_back : {is_value : List ℕ → Type 0} → ReadsBack is_value (λ d bytes. d ≡ text bytes)
-text_back = record { value = text_in; is = λ bytes d h m. ap text_in m }
 
 abbrev pub pair_back : {A B : Type 0} {is_a : A → Type 0} {is_b : B → Type 0} {makes_a : Datum → A → Type 0} {makes_b : Datum → B → Type 0}
     → ReadsBack is_a makes_a → ReadsBack is_b makes_b → ReadsBack (IsPairValue is_a is_b) (MakesPair makes_a makes_b)

@@ -1,8 +1,7 @@
 -- The fields are read, and then the constructor is asked about what is read again: the same data.
-use Rattle.std.proofs.Common.{◌≡◌, true, ℕ, List, All, refl, sym, ◌∙◌, ap, subst}
+use Rattle.std.proofs.Common.{◌≡◌, true, List, All, refl, sym, ◌∙◌, ap, subst}
 use Rattle.std.proofs.lemmas.Result.{err_from_is_err_and}
 use Rattle.bitcode_columns.specs.Reading.{Reads}
-use Rattle.bitcode_shapes.specs.Datum.{Datum}
 use Rattle.bitcode_shapes.specs.Shape.{admitted_shape}
 use Rattle.bitcode_coder.specs.ColumnFree.{free_count, saturated}
 use Rattle.bitcode_coder.specs.Spelling.{Spells}
@@ -10,7 +9,6 @@ use Rattle.bitcode_coder.specs.Strict.{JudgesData}
 use Rattle.bitcode_coder.proofs.AdmittedLemmas.{read_checked, refuses_admitted, refuses_unadmitted}
 use Rattle.bitcode_coder.proofs.LengthRefusalLemmas.{reads_once}
 use Rattle.bitcode_coder.proofs.SpellingLemmas.{Spells-unambiguous}
-use Rattle.bitcode_structs.specs.CheckedFields.{admitted_front}
 use Rattle.bitcode_structs.proofs.CheckedLemmas.{whole_front}
 use Rattle.bitcode_structs.proofs.checked.CheckedDecoderView.read.Goals as goal
 
