@@ -3,6 +3,7 @@
 //! With the word `send` it writes some messages to standard output instead, for another run to read.
 #![tactic(auto)]
 
+pub mod celsius;
 pub mod level;
 pub mod message;
 mod sender;

@@ -5,6 +5,7 @@ ghost use Rattle.bitcode.specs.ByHand.{columns_in, each_variant, enum_data, is_v
 ghost use Rattle.bitcode.specs.ByHand.{payload_and, payloads_in, refl};
 ghost use Rattle.frames.specs.declared.message.Message.{Message};
 
+use crate::celsius::Celsius;
 use crate::level::Level;
 use bitcode::own::{
     At, DecodersOf4, EncodersOf4, Enum, EnumDecoder, EnumEncoder, EnumOf, OneOf4, VariantColumns,
@@ -17,7 +18,7 @@ use std::alloc::Global;
 #[derive(Debug, Clone, Copy, PartialEq)]
 pub enum Message<'a> {
     Hello { name: &'a str, version: u16 },
-    Measured { sensor: u32, value: i64 },
+    Measured { sensor: u32, value: Celsius },
     Log(Level, &'a str),
     Bye,
 }
@@ -25,7 +26,7 @@ pub enum Message<'a> {
 impl<'a> Enum for Message<'a> {
     ghost each = { each_variant
         (payload_and ⟦<(&'a str, u16) as Shaped>⟧.data
-        (payload_and ⟦<(u32, i64) as Shaped>⟧.data
+        (payload_and ⟦<(u32, Celsius) as Shaped>⟧.data
         (payload_and ⟦<(Level, &'a str) as Shaped>⟧.data (last_payload ⟦<() as Shaped>⟧.data))))
         refl (λ at. elim [
           | Message.Hello a b ↦ at 0 (a, b)
@@ -73,7 +74,8 @@ impl<'a> EnumOf<4> for Message<'a> {
     ghost makes_variants = { λ d t made. made };
 }
 
-impl<'a> Variants4<At<0>, At<4>, (&'a str, u16), (u32, i64), (Level, &'a str), ()> for Message<'a> {
+impl<'a> Variants4<At<0>, At<4>, (&'a str, u16), (u32, Celsius), (Level, &'a str), ()>
+    for Message<'a> {
     ghost values = { (
       λ p. Message.Hello p.0 p.1,
       λ p. Message.Measured p.0 p.1,
@@ -82,7 +84,7 @@ impl<'a> Variants4<At<0>, At<4>, (&'a str, u16), (u32, i64), (Level, &'a str), (
       λ p. Message.Bye,
     ) };
 
-    fn of_payload(payload: OneOf4<(&'a str, u16), (u32, i64), (Level, &'a str), ()>) -> Self
+    fn of_payload(payload: OneOf4<(&'a str, u16), (u32, Celsius), (Level, &'a str), ()>) -> Self
         ensures { result ≡ of_one_of_4 (λ p. Message.Hello p.0 p.1) (λ p. Message.Measured p.0 p.1)
             (λ p. Message.Log p.0 p.1) (λ p. Message.Bye) payload.entry }
     {
@@ -105,7 +107,7 @@ impl<'a> Variants4<At<0>, At<4>, (&'a str, u16), (u32, i64), (Level, &'a str), (
     ) };
 }
 
-type Columns = EncodersOf4<At<0>, (&'static str, u16), (u32, i64), (Level, &'static str), ()>;
+type Columns = EncodersOf4<At<0>, (&'static str, u16), (u32, Celsius), (Level, &'static str), ()>;
 
 impl<'a> WritesVariants<At<0>, At<4>, Columns> for Message<'a> {
     fn write(&self, to: &mut Columns) -> Result<(), Error> {
@@ -114,10 +116,14 @@ impl<'a> WritesVariants<At<0>, At<4>, Columns> for Message<'a> {
                 self,
                 &(name, version),
             ),
-            Message::Measured { sensor, value } => to.encode_second::<_, _, _, _, _, (&u32, &i64)>(
-                self,
-                &(sensor, value),
-            ),
+            Message::Measured { sensor, value } => to.encode_second::<
+                _,
+                _,
+                _,
+                _,
+                _,
+                (&u32, &Celsius),
+            >(self, &(sensor, value)),
             Message::Log(a, b) => to.encode_third::<_, _, _, _, _, (&Level, &&'a str)>(
                 self,
                 &(a, b),
@@ -129,7 +135,7 @@ impl<'a> WritesVariants<At<0>, At<4>, Columns> for Message<'a> {
     ghost are_columns = { λ c. (refl, refl) };
 }
 
-type Decoders<'a> = DecodersOf4<'a, At<0>, (&'a str, u16), (u32, i64), (Level, &'a str), ()>;
+type Decoders<'a> = DecodersOf4<'a, At<0>, (&'a str, u16), (u32, Celsius), (Level, &'a str), ()>;
 
 /// The columns of the payloads of `Message`.
 #[derive(Drop)]

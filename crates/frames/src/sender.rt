@@ -1,4 +1,5 @@
 //! The other end of the stream.
+use crate::celsius::Celsius;
 use crate::level::Level;
 use crate::message::Message;
 use crate::stream::MESSAGES;
@@ -15,12 +16,12 @@ pub fn frames(alloc: Global) -> Result<Vec<u8>, Error> {
         },
         Message::Measured {
             sensor: 17,
-            value: -40,
+            value: Celsius { tenths: -40 },
         },
         Message::Log(Level::Warning, "low pressure"),
         Message::Measured {
             sensor: 18,
-            value: 1_000_000,
+            value: Celsius { tenths: 215 },
         },
         Message::Bye,
     ];
