@@ -1,1 +1,13 @@
 pub mod NodeLemmas
+pub mod HalfLemmas
+pub mod HoldLemmas
+pub mod SeenLemmas
+pub mod ListWritingLemmas
+pub mod PairWritingLemmas
+pub mod ArrayWritingLemmas
+pub mod ChoiceWritingLemmas
+pub mod LeafWritingLemmas
+pub mod ContentLemmas
+pub mod LoopLemmas
+pub mod CaseLemmas
+pub mod VariantLemmas

@@ -3,3 +3,7 @@ pub mod Leaves
 pub mod Forms
 pub mod FormRows
 pub mod Depth
+pub mod Views
+pub mod Writing
+pub mod Choosing
+pub mod Cases

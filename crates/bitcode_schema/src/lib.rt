@@ -1,4 +1,5 @@
-//! Schemas that are made at run time.
+//! Schemas that are made at run time, and encoding values by them.
 #![tactic(auto)]
 
 pub mod schema;
+mod write;

@@ -1,0 +1,6 @@
+-- The lists so far are within the limit.
+use Rattle.std.proofs.Common.{◌≤◌, All, length, map, take}
+use Rattle.bitcode_schema.proofs.write.gather.are_within.Given as goal
+
+abbrev pub invariant-loop-list : goal.invariant-loop-list
+invariant-loop-list g l = All (λ x. length x ≤ l.limit) (map (λ x. x.now) (take l.list-index l.lists))
