@@ -7,10 +7,10 @@ use Rattle.bitcode_untyped.specs.declared.value.Value.TheVariants as value
 use Rattle.bitcode_schema.specs.Views.{seq_items, map_pairs, tuple_fields, elements_of, pairs_of, fields_of, option_of, enum_of, boxed}
 use Rattle.bitcode_schema.specs.Views.{option_held as held_by_option, enum_held as held_by_enum}
 
-out_of : (layer : Value-F Value) (v : Value) → roll-Value layer ≡ v → out-Value v ≡ layer
+pub out_of : (layer : Value-F Value) (v : Value) → roll-Value layer ≡ v → out-Value v ≡ layer
 out_of layer v is = ap out-Value (sym is) ∙ out-roll-Value layer
 
-made_of : (layer : Value-F Value) (v : Value) → out-Value v ≡ layer → v ≡ roll-Value layer
+pub made_of : (layer : Value-F Value) (v : Value) → out-Value v ≡ layer → v ≡ roll-Value layer
 made_of layer v is = sym (roll-out-Value v) ∙ ap roll-Value is
 
 pub elements_held : (v : Value) (vs : Vec Value Global) → v ≡ value.Seq vs → elements_of v ≡ Some vs.items

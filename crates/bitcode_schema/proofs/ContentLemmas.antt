@@ -10,6 +10,7 @@ use Rattle.bitcode_untyped.specs.declared.value.Value.{Value, out-Value}
 use Rattle.bitcode_untyped.specs.declared.value.Value.TheOpen.{Value-F}
 use Rattle.bitcode_schema.specs.Forms.{Form, Content, changed, list_content, pair_content, fields_content, choice_content, enum_content, span_contents, leaf_content, parts_of, contents_in, content_step, form_step, form_of, content_under}
 use Rattle.bitcode_schema.specs.Leaves.{int_leaf, datum_in}
+use Rattle.bitcode_schema.specs.Parts.{unit_content, option_content, contents_of}
 use Rattle.bitcode_schema.specs.Views.{seq_items, map_pairs, tuple_fields, option_held, enum_held, elements_of, pairs_of, fields_of, option_of, enum_of, under}
 use Rattle.bitcode_schema.specs.declared.schema.IntKind.{IntKind}
 use Rattle.bitcode_schema.specs.declared.schema.IntKind.TheVariants as int
@@ -49,10 +50,6 @@ content-Map k e v = rolled (SchemaNode-F.Map k e) (node.Map k e) v (node.rolls-M
     seen (Value-F.Map pairs) = refl
     seen _ = refl
 
-abbrev pub option_content : (Value → Option Datum) → Option Value → Option Datum
-option_content content None = Some (choice 0 unit)
-option_content content (Some value) = changed (choice 1) (content value)
-
 pub content-Option : (b : Box SchemaNode Global) (v : Value) → content_under (node.Option b) v ≡ under (option_of v) (option_content (content_under b.value))
 content-Option b v = rolled (SchemaNode-F.Option b) (node.Option b) v (node.rolls-Option b) ∙ seen (out-Value v)
   where
@@ -69,9 +66,6 @@ content-Result a b v = rolled (SchemaNode-F.Result a b) (node.Result a b) v (nod
     seen _ = refl
 
 -- ---- nodes with several nodes in them
-
-abbrev pub contents_of : List SchemaNode → List Content
-contents_of nodes = map content_under nodes
 
 formed_nodes : (nodes : List SchemaNode) → contents_in (map form_of nodes) ≡ contents_of nodes
 formed_nodes nodes = map-map (λ (form : Form). form.content) form_of nodes
@@ -104,10 +98,6 @@ content-Enum named v = rolled (SchemaNode-F.Enum named) (node.Enum named) v (nod
     seen _ = refl
 
 -- ---- nodes without nodes in them
-
-abbrev pub plain_unit : Value-F Value → Option Datum
-plain_unit Value-F.Unit = Some unit
-plain_unit _ = None
 
 pub content-Duration : (v : Value) → content_under node.Duration v ≡ under (fields_of v) (fields_content span_contents)
 content-Duration v = rolled SchemaNode-F.Duration node.Duration v node.rolls-Duration ∙ seen (out-Value v)
@@ -165,9 +155,9 @@ content-Str capacity v = rolled (SchemaNode-F.Str capacity) (node.Str capacity) 
     seen : (w : Value-F Value) → content_step (formed (SchemaNode-F.Str capacity)) w ≡ datum_in (Some (leaf_of (texts None))) (entry_of w)
     seen w = refl
 
-pub content-Unit : (v : Value) → content_under node.Unit v ≡ plain_unit (out-Value v)
+pub content-Unit : (v : Value) → content_under node.Unit v ≡ unit_content (out-Value v)
 content-Unit v = rolled SchemaNode-F.Unit node.Unit v node.rolls-Unit ∙ seen (out-Value v)
   where
-    seen : (w : Value-F Value) → content_step (formed SchemaNode-F.Unit) w ≡ plain_unit w
+    seen : (w : Value-F Value) → content_step (formed SchemaNode-F.Unit) w ≡ unit_content w
     seen Value-F.Unit = refl
     seen _ = refl

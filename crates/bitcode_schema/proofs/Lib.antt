@@ -11,3 +11,6 @@ pub mod ContentLemmas
 pub mod LoopLemmas
 pub mod CaseLemmas
 pub mod VariantLemmas
+pub mod AllowedLemmas
+pub mod RowLemmas
+pub mod UnitLemmas

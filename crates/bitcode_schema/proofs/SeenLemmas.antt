@@ -1,5 +1,6 @@
 -- Writing values through what they hold.
-use Rattle.std.proofs.Common.{◌≡◌, ◌⊎◌, inl, inr, ℕ, Option, List, map, refl, sym, ap, subst}
+use Rattle.std.proofs.Common.{◌≡◌, ◌⊎◌, inl, inr, ℕ, Option, List, [], ◌∷◌, map, All, refl, sym, ap, subst, ◌∙◌}
+use Rattle.std.proofs.lemmas.List.Elements.{All-head, All-tail}
 use Rattle.bitcode_memory.specs.declared.error.Reason.{Reason}
 use Rattle.bitcode_shapes.specs.Datum.{Datum}
 use Rattle.bitcode_shapes.specs.Shape.{Shape}
@@ -56,3 +57,26 @@ module _ {A B : Type 0} (content : B → Option Datum) (f : A → B) (s : Shape)
   pub stranger_mapped : HasStranger content s ys → HasStranger (λ x. content (f x)) s xs
   stranger_mapped stranger ds h =
       stranger ds (record { held = subst (λ zs. Hold content zs ds) (sym are) (map_hold content f xs ds h.held); of_shape = h.of_shape })
+
+-- ---- where the contents of these items are the same
+
+module _ {A : Type 0} (content other : A → Option Datum) where
+  hold_where : (xs : List A) (us : List Datum) → All (λ a. content a ≡ other a) xs → Hold content xs us → Hold other xs us
+  hold_where [] [] each h = tt
+  hold_where [] (u ∷ us) each h = absurd h
+  hold_where (x ∷ xs) [] each h = absurd h
+  hold_where (x ∷ xs) (u ∷ us) each h =
+      (sym (All-head (λ a. content a ≡ other a) x xs each) ∙ h.0, hold_where xs us (All-tail (λ a. content a ≡ other a) x xs each) h.1)
+
+module _ {A : Type 0} (content other : A → Option Datum) (s : Shape) (xs : List A) (each : All (λ a. content a ≡ other a) xs) where
+  pub writes_where : (old new : List ℕ) → Writes content s xs old new → Writes other s xs old new
+  writes_where old new w = record {
+    contents = w.contents;
+    are = record { held = hold_where content other xs w.contents each w.are.held; of_shape = w.are.of_shape };
+    counts = w.counts;
+    written = w.written;
+  }
+
+  pub stranger_where : HasStranger content s xs → HasStranger other s xs
+  stranger_where stranger ds are =
+      stranger ds (record { held = hold_where other content xs ds (λ k d lt. sym (each k d lt)) are.held; of_shape = are.of_shape })

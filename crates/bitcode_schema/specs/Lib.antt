@@ -7,3 +7,5 @@ pub mod Views
 pub mod Writing
 pub mod Choosing
 pub mod Cases
+pub mod Allowing
+pub mod Parts
