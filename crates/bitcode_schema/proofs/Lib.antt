@@ -14,3 +14,5 @@ pub mod VariantLemmas
 pub mod AllowedLemmas
 pub mod RowLemmas
 pub mod UnitLemmas
+pub mod WholeLemmas
+pub mod SpanLemmas

@@ -26,7 +26,7 @@ one_field c (suc at) (v ∷ vs) = one_field c at vs
 
 -- ---- the fields of two parts
 
-both_lists : Option (List Datum) → Option (List Datum) → Option (List Datum)
+abbrev both_lists : Option (List Datum) → Option (List Datum) → Option (List Datum)
 both_lists = both (λ ds es. ds ++ es)
 
 cons_both : (o : Option Datum) (p q : Option (List Datum)) → both (λ d ds. d ∷ ds) o (both_lists p q) ≡ both_lists (both (λ d ds. d ∷ ds) o p) q
@@ -67,15 +67,16 @@ pub each_length : (cs : List Content) (row : List Value) (ds : List Datum) → c
 each_length [] [] ds e = (ap length (sym (some_same e)), refl)
 each_length [] (v ∷ vs) ds e = cc
 each_length (c ∷ cs) [] ds e = cc
-each_length (c ∷ cs) (v ∷ vs) ds e = split (c v) (contents_each cs vs) refl refl
+each_length (c ∷ cs) (v ∷ vs) ds e = split (c v) (contents_each cs vs) refl refl (λ es f. each_length cs vs es f)
   where
-    split : (o : Option Datum) (p : Option (List Datum)) → c v ≡ o → contents_each cs vs ≡ p → (length ds ≡ suc (length cs)) × (suc (length vs) ≡ suc (length cs))
-    split (Some d) (Some es) x y =
-        let rest = each_length cs vs es y in
-        let whole : d ∷ es ≡ ds = some_same (sym (ap₂ (both (λ a as. a ∷ as)) x y) ∙ e) in
+    split : (o : Option Datum) (p : Option (List Datum)) → c v ≡ o → contents_each cs vs ≡ p
+        → ((es : List Datum) → contents_each cs vs ≡ Some es → (length es ≡ length cs) × (length vs ≡ length cs)) → (length ds ≡ suc (length cs)) × (suc (length vs) ≡ suc (length cs))
+    split (Some d) (Some es) x y each =
+        let rest = each es y in
+        let whole : d ∷ es ≡ ds = some_same (sym (ap₂ (both (λ x xs. x ∷ xs)) x y) ∙ e) in
         (ap length (sym whole) ∙ ap suc rest.0, ap suc rest.1)
-    split (Some d) None x y = let never : None ≡ Some ds = sym (ap₂ (both (λ a as. a ∷ as)) x y) ∙ e in cc
-    split None p x y = let never : None ≡ Some ds = sym (ap₂ (both (λ a as. a ∷ as)) x y) ∙ e in cc
+    split (Some d) None x y each = let never : None ≡ Some ds = sym (ap₂ (both (λ x xs. x ∷ xs)) x y) ∙ e in cc
+    split None p x y each = let never : None ≡ Some ds = sym (ap₂ (both (λ x xs. x ∷ xs)) x y) ∙ e in cc
 
 halved_data : (front back : List Datum) → 1 < length (front ++ back) → length front ≡ length (front ++ back) / 2
     → fields_datum (front ++ back) ≡ pair (fields_datum front) (fields_datum back)
