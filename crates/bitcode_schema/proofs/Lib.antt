@@ -16,3 +16,4 @@ pub mod RowLemmas
 pub mod UnitLemmas
 pub mod WholeLemmas
 pub mod SpanLemmas
+pub mod FieldWritingLemmas

@@ -21,21 +21,20 @@ unit_none v other = at (out-Value v) refl
     at Value-F.Unit is = absurd (other (made_of Value-F.Unit v is ∙ value.rolls-Unit))
     at _ is = refl
 
-abbrev content : Value → Option Datum
-content v = unit_content (out-Value v)
+-- items whose datum is the unit
+module _ {A : Type 0} (content : A → Option Datum) where
+  units_held : (xs : List A) → All (λ x. content x ≡ Some unit) xs → Hold content xs (map (λ x. unit) xs)
+  units_held [] each = tt
+  units_held (x ∷ xs) each = (All-head (λ y. content y ≡ Some unit) x xs each, units_held xs (All-tail (λ y. content y ≡ Some unit) x xs each))
 
-units_held : (vs : List Value) → All (λ v. content v ≡ Some unit) vs → Hold content vs (map (λ v. unit) vs)
-units_held [] each = tt
-units_held (v ∷ vs) each = (All-head (λ w. content w ≡ Some unit) v vs each, units_held vs (All-tail (λ w. content w ≡ Some unit) v vs each))
+  units_are : (xs : List A) → All (IsOf unit_shape) (map (λ x. unit) xs)
+  units_are [] = All-nil (IsOf unit_shape)
+  units_are (x ∷ xs) = All-cons (IsOf unit_shape) unit (map (λ y. unit) xs) refl (units_are xs)
 
-units_are : (vs : List Value) → All (IsOf unit_shape) (map (λ v. unit) vs)
-units_are [] = All-nil (IsOf unit_shape)
-units_are (v ∷ vs) = All-cons (IsOf unit_shape) unit (map (λ w. unit) vs) refl (units_are vs)
-
-pub units_written : (vs : List Value) (old : List ℕ) → All (λ v. content v ≡ Some unit) vs → Writes content unit_shape vs old old
-units_written vs old each = record {
-  contents = map (λ v. unit) vs;
-  are = record { held = units_held vs each; of_shape = units_are vs };
-  counts = tt;
-  written = sym (append-nil old);
-}
+  pub units_written : (xs : List A) (old : List ℕ) → All (λ x. content x ≡ Some unit) xs → Writes content unit_shape xs old old
+  units_written xs old each = record {
+    contents = map (λ x. unit) xs;
+    are = record { held = units_held xs each; of_shape = units_are xs };
+    counts = tt;
+    written = sym (append-nil old);
+  }

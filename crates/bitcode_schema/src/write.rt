@@ -11,10 +11,11 @@ ghost use Rattle.bitcode_untyped.specs.declared.value.Value.{out-Value};
 ghost use Rattle.bitcode_schema.specs.Choosing.{chosen};
 ghost use Rattle.bitcode_schema.specs.Depth.{has_few_variants};
 ghost use Rattle.bitcode_schema.specs.Forms.{content_under, enum_content, enum_shape, fields_content};
-ghost use Rattle.bitcode_schema.specs.Forms.{fields_shape, leaf_content, list_content, pair_content, span_contents};
+ghost use Rattle.bitcode_schema.specs.Forms.{Content, fields_shape, leaf_content, list_content, pair_content};
+ghost use Rattle.bitcode_schema.specs.Forms.{parts_of, span_contents};
 ghost use Rattle.bitcode_schema.specs.Forms.{shape_of};
 ghost use Rattle.bitcode_schema.specs.Leaves.{int_leaf, is_signed, width_of};
-ghost use Rattle.bitcode_schema.specs.Parts.{unit_content};
+ghost use Rattle.bitcode_schema.specs.Parts.{contents_of, row_content, unit_content};
 ghost use Rattle.bitcode_schema.specs.Views.{elements_of, enum_of, fields_of, option_of, pairs_of, under, variant_in};
 ghost use Rattle.bitcode_schema.specs.Writing.{HasStranger, IsRefusal, Writes};
 ghost use Rattle.bitcode_schema.specs.declared.schema.IntKind.TheVariants as int;
@@ -193,4 +194,219 @@ fn write_units(values: &[&Value], _out: &mut Vec<u8>) -> Result<(), Error>
         }
     }
     Ok(())
+}
+
+// References to the nodes.
+fn each_node<'a>(alloc: Global, nodes: &'a [SchemaNode]) -> Result<Vec<&'a SchemaNode>, Error>
+    ensures same { IfOk result (λ parts. map (λ n. n.now) parts.items ≡ nodes.now) }
+    ensures refused { IfErr result (λ e. e.reason ≡ OutOfMemory) }
+{
+    let mut parts = Vec::new(alloc);
+    for node in nodes {
+        parts.push(node)?;
+    }
+    Ok(parts)
+}
+
+// References to the nodes of named fields or variants.
+fn named_nodes<'a>(
+    alloc: Global,
+    named: &'a [(String, SchemaNode)],
+) -> Result<Vec<&'a SchemaNode>, Error>
+    ensures same { IfOk result (λ parts. map (λ n. n.now) parts.items ≡ parts_of named.now) }
+    ensures refused { IfErr result (λ e. e.reason ≡ OutOfMemory) }
+{
+    let mut parts = Vec::new(alloc);
+    for part in named {
+        parts.push(&part.1)?;
+    }
+    Ok(parts)
+}
+
+// Of a node without values there is none.
+fn write_never(values: &[&Value], _out: &mut Vec<u8>) -> Result<(), Error>
+    ensures written { (content : Content) → OnOk result
+        (Writes content never_shape (map (λ v. v.now) values.now) _out.old.items _out.new.items) }
+    ensures refused { (content : Content) → IfErr result
+        (λ e. IsRefusal e.reason
+        (HasStranger content never_shape (map (λ v. v.now) values.now))) }
+{
+    if values.is_empty() {
+        return Ok(());
+    }
+    err(Reason::NotOfTheShape)
+}
+
+// Appends the columns of lists of at most so many elements.
+#[cycle(write)]
+fn write_lists(
+    alloc: Global,
+    capacity: Option<usize>,
+    element: &SchemaNode,
+    values: &[&Value],
+    out: &mut Vec<u8>,
+) -> Result<(), Error>
+    requires few { has_few_variants element.now ≡ true }
+    ensures written { OnOk result
+        (Writes (λ v. under (elements_of v) (list_content (content_under element.now)))
+        (seq_shape capacity (shape_of element.now)) (map (λ v. v.now) values.now) out.old.items
+        out.new.items) }
+    ensures refused { IfErr result
+        (λ e. IsRefusal e.reason
+        (HasStranger (λ v. under (elements_of v) (list_content (content_under element.now)))
+        (seq_shape capacity (shape_of element.now)) (map (λ v. v.now) values.now))) }
+{
+    let held = lists(alloc, values)?;
+    if !are_within(capacity, &held) {
+        return err(Reason::NotOfTheShape);
+    }
+    write_lengths(alloc, &held, out)?;
+    let parts = flatten(alloc, &held)?;
+    write_each(alloc, element, &parts, out)
+}
+
+// Appends the columns of maps.
+#[cycle(write)]
+fn write_maps(
+    alloc: Global,
+    key: &SchemaNode,
+    value: &SchemaNode,
+    values: &[&Value],
+    out: &mut Vec<u8>,
+) -> Result<(), Error>
+    requires keys { has_few_variants key.now ≡ true }
+    requires values { has_few_variants value.now ≡ true }
+    ensures written { OnOk result
+        (Writes (λ v. under (pairs_of v)
+        (list_content (pair_content (content_under key.now) (content_under value.now))))
+        (map_shape (shape_of key.now) (shape_of value.now)) (map (λ v. v.now) values.now)
+        out.old.items out.new.items) }
+    ensures refused { IfErr result
+        (λ e. IsRefusal e.reason
+        (HasStranger (λ v. under (pairs_of v)
+        (list_content (pair_content (content_under key.now) (content_under value.now))))
+        (map_shape (shape_of key.now) (shape_of value.now)) (map (λ v. v.now) values.now))) }
+{
+    let held = maps(alloc, values)?;
+    write_lengths(alloc, &held, out)?;
+    let (keys, parts) = split(alloc, &held)?;
+    write_each(alloc, key, &keys, out)?;
+    write_each(alloc, value, &parts, out)
+}
+
+// Appends the columns of arrays of one size.
+#[cycle(write)]
+fn write_arrays(
+    alloc: Global,
+    size: usize,
+    element: &SchemaNode,
+    values: &[&Value],
+    out: &mut Vec<u8>,
+) -> Result<(), Error>
+    requires few { has_few_variants element.now ≡ true }
+    ensures written { OnOk result
+        (Writes (λ v. under (elements_of v) (list_content (content_under element.now)))
+        (array_shape size (shape_of element.now)) (map (λ v. v.now) values.now) out.old.items
+        out.new.items) }
+    ensures refused { IfErr result
+        (λ e. IsRefusal e.reason
+        (HasStranger (λ v. under (elements_of v) (list_content (content_under element.now)))
+        (array_shape size (shape_of element.now)) (map (λ v. v.now) values.now))) }
+{
+    let held = lists(alloc, values)?;
+    if !are_of_size(size, &held) {
+        return err(Reason::NotOfTheShape);
+    }
+    let parts = flatten(alloc, &held)?;
+    write_each(alloc, element, &parts, out)
+}
+
+// Appends the columns of some fields of rows, from one on.
+#[cycle(write)]
+fn write_fields(
+    alloc: Global,
+    nodes: &[&SchemaNode],
+    at: usize,
+    rows: &[&[Value]],
+    out: &mut Vec<u8>,
+) -> Result<(), Error>
+    requires few { All (λ n. has_few_variants n ≡ true) (map (λ n. n.now) nodes.now) }
+    requires some { 0 < length nodes.now }
+    requires fits { at + length nodes.now < 2 ^ 64 }
+    ensures written { OnOk result
+        (Writes (row_content (contents_of (map (λ n. n.now) nodes.now)) at)
+        (fields_shape (map shape_of (map (λ n. n.now) nodes.now))) (map (λ r. r.now) rows.now)
+        out.old.items out.new.items) }
+    ensures refused { IfErr result
+        (λ e. IsRefusal e.reason
+        (HasStranger (row_content (contents_of (map (λ n. n.now) nodes.now)) at)
+        (fields_shape (map shape_of (map (λ n. n.now) nodes.now))) (map (λ r. r.now) rows.now))) }
+{
+    let count = nodes.len();
+    if count > 1 {
+        let (front, back) = nodes.split_at(count / 2);
+        write_fields(alloc, front, at, rows, out)?;
+        return write_fields(alloc, back, at + count / 2, rows, out);
+    }
+    let node = nodes[0];
+    let parts = fields(alloc, rows, at)?;
+    write_each(alloc, node, &parts, out)
+}
+
+// Appends the columns of the fields of tuples.
+#[cycle(write)]
+fn write_rows(
+    alloc: Global,
+    nodes: &[&SchemaNode],
+    values: &[&Value],
+    out: &mut Vec<u8>,
+) -> Result<(), Error>
+    requires few { All (λ n. has_few_variants n ≡ true) (map (λ n. n.now) nodes.now) }
+    ensures written { OnOk result
+        (Writes (λ v. under (fields_of v)
+        (fields_content (contents_of (map (λ n. n.now) nodes.now))))
+        (fields_shape (map shape_of (map (λ n. n.now) nodes.now))) (map (λ v. v.now) values.now)
+        out.old.items out.new.items) }
+    ensures refused { IfErr result
+        (λ e. IsRefusal e.reason
+        (HasStranger (λ v. under (fields_of v)
+        (fields_content (contents_of (map (λ n. n.now) nodes.now))))
+        (fields_shape (map shape_of (map (λ n. n.now) nodes.now)))
+        (map (λ v. v.now) values.now))) }
+{
+    let rows = tuples(alloc, values)?;
+    if !are_of_size(nodes.len(), &rows) {
+        return err(Reason::NotOfTheShape);
+    }
+    if nodes.is_empty() {
+        return Ok(());
+    }
+    write_fields(alloc, nodes, 0, &rows, out)
+}
+
+// Appends the columns of values of a node.
+#[cycle(write)]
+pub fn write_each(
+    alloc: Global,
+    node: &SchemaNode,
+    values: &[&Value],
+    out: &mut Vec<u8>,
+) -> Result<(), Error>
+    requires few { has_few_variants node.now ≡ true }
+    ensures written { OnOk result
+        (Writes (content_under node.now) (shape_of node.now) (map (λ v. v.now) values.now)
+        out.old.items out.new.items) }
+    ensures refused { IfErr result
+        (λ e. IsRefusal e.reason
+        (HasStranger (content_under node.now) (shape_of node.now)
+        (map (λ v. v.now) values.now))) }
+{
+    match node {
+        SchemaNode::List(capacity, element) => write_lists(alloc, *capacity, element, values, out),
+        SchemaNode::Map(key, value) => write_maps(alloc, key, value, values, out),
+        SchemaNode::Array(size, element) => write_arrays(alloc, *size, element, values, out),
+        SchemaNode::Tuple(nodes) => write_rows(alloc, &each_node(alloc, nodes)?, values, out),
+        SchemaNode::Struct(named) => write_rows(alloc, &named_nodes(alloc, named)?, values, out),
+        _ => err(Reason::OutOfMemory),
+    }
 }

@@ -23,6 +23,6 @@ loop-value-preserved c =
 
 pub returns-clause-written : goal.returns-clause-written
 returns-clause-written c =
-    units_written (map (λ v. v.now) c.args.values.now) c.args._out.now.items
+    units_written (λ v. unit_content (out-Value v)) (map (λ v. v.now) c.args.values.now) c.args._out.now.items
     (all_values (λ v. unit_content (out-Value v) ≡ Some unit) (λ v. v.now) c.args.values.now c.loop-value.value-index c.loop-value-test.false
     c.loop-value.auto.value-index-end c.loop-value.invariant)
