@@ -17,10 +17,10 @@ use Rattle.bitcode_schema.proofs.HoldLemmas.{some_same, hold_once}
 
 -- ---- numbers
 
-is_itself : (n : ℕ) → (n == n) ≡ true
+pub is_itself : (n : ℕ) → (n == n) ≡ true
 is_itself n = eq-eqb n n refl
 
-same_number : (m n : ℕ) → (m == n) ≡ true → m ≡ n
+pub same_number : (m n : ℕ) → (m == n) ≡ true → m ≡ n
 same_number m n e = eqb-true m n e
 
 -- ---- the first of some items

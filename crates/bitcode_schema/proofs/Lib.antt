@@ -17,3 +17,5 @@ pub mod UnitLemmas
 pub mod WholeLemmas
 pub mod SpanLemmas
 pub mod FieldWritingLemmas
+pub mod ShapeLemmas
+pub mod CaseWritingLemmas

@@ -4,7 +4,7 @@ use Rattle.bitcode_shapes.specs.Datum.{Datum, unit, choice}
 use Rattle.bitcode_untyped.specs.declared.value.Value.{Value}
 use Rattle.bitcode_untyped.specs.declared.value.Value.TheOpen.{Value-F}
 use Rattle.bitcode_schema.specs.Choosing.{Payload}
-use Rattle.bitcode_schema.specs.Forms.{Content, changed, content_under, fields_content, shape_of}
+use Rattle.bitcode_schema.specs.Forms.{Content, changed, choice_content, content_under, enum_content, fields_content, shape_of}
 use Rattle.bitcode_schema.specs.Views.{payload_in}
 use Rattle.bitcode_schema.specs.declared.schema.SchemaNode.{SchemaNode}
 
@@ -29,3 +29,10 @@ payload_under node = record { content = λ e. content_under node (payload_in e);
 
 abbrev pub payloads_under : List SchemaNode → List (Payload (ℕ × Value))
 payloads_under nodes = map payload_under nodes
+
+-- of a variant and its payload, among several variants or of any number
+abbrev pub choice_under : List Content → ℕ × Value → Option Datum
+choice_under contents e = choice_content contents e.0 e.1
+
+abbrev pub enum_under : List Content → ℕ × Value → Option Datum
+enum_under contents e = enum_content contents e.0 e.1

@@ -8,14 +8,14 @@ ghost use Rattle.bitcode_shapes.specs.Shape.{array_shape, choice_shape, map_shap
 ghost use Rattle.bitcode_shapes.specs.Shape.{text_shape, unit_shape, no_shapes, shape_and};
 ghost use Rattle.bitcode_untyped.specs.Leaves.{leaf_of};
 ghost use Rattle.bitcode_untyped.specs.declared.value.Value.{out-Value};
-ghost use Rattle.bitcode_schema.specs.Choosing.{chosen};
+ghost use Rattle.bitcode_schema.specs.Choosing.{chosen, shapes_from};
 ghost use Rattle.bitcode_schema.specs.Depth.{has_few_variants};
-ghost use Rattle.bitcode_schema.specs.Forms.{content_under, enum_content, enum_shape, fields_content};
+ghost use Rattle.bitcode_schema.specs.Forms.{content_under, enum_shape, fields_content};
 ghost use Rattle.bitcode_schema.specs.Forms.{Content, fields_shape, leaf_content, list_content, pair_content};
 ghost use Rattle.bitcode_schema.specs.Forms.{parts_of, span_contents};
 ghost use Rattle.bitcode_schema.specs.Forms.{shape_of};
 ghost use Rattle.bitcode_schema.specs.Leaves.{int_leaf, is_signed, width_of};
-ghost use Rattle.bitcode_schema.specs.Parts.{contents_of, row_content, unit_content};
+ghost use Rattle.bitcode_schema.specs.Parts.{choice_under, contents_of, enum_under, option_content, payloads_under, row_content, unit_content};
 ghost use Rattle.bitcode_schema.specs.Views.{elements_of, enum_of, fields_of, option_of, pairs_of, under, variant_in};
 ghost use Rattle.bitcode_schema.specs.Writing.{HasStranger, IsRefusal, Writes};
 ghost use Rattle.bitcode_schema.specs.declared.schema.IntKind.TheVariants as int;
@@ -29,8 +29,11 @@ use crate::write::gather::{
     split,
 };
 use crate::write::leaf::write_leaf;
-use bitcode_ints::int::IntEncoder;
+use bitcode_coder::bool::BoolEncoder;
 use bitcode_coder::str::StrEncoder;
+use bitcode_floats::float32::F32Encoder;
+use bitcode_floats::float64::F64Encoder;
+use bitcode_ints::int::IntEncoder;
 use bitcode_memory::error::{Error, Reason};
 use bitcode_memory::refuse::err;
 use bitcode_untyped::value::Value;
@@ -384,7 +387,145 @@ fn write_rows(
     write_fields(alloc, nodes, 0, &rows, out)
 }
 
-// Appends the columns of values of a node.
+// Appends the columns of options.
+#[cycle(write)]
+fn write_options(
+    alloc: Global,
+    some: &SchemaNode,
+    values: &[&Value],
+    out: &mut Vec<u8>,
+) -> Result<(), Error>
+    requires few { has_few_variants some.now ≡ true }
+    ensures written { OnOk result
+        (Writes (λ v. under (option_of v) (option_content (content_under some.now)))
+        (choice_shape (shape_and unit_shape (shape_and (shape_of some.now) no_shapes)))
+        (map (λ v. v.now) values.now) out.old.items out.new.items) }
+    ensures refused { IfErr result
+        (λ e. IsRefusal e.reason
+        (HasStranger (λ v. under (option_of v) (option_content (content_under some.now)))
+        (choice_shape (shape_and unit_shape (shape_and (shape_of some.now) no_shapes)))
+        (map (λ v. v.now) values.now))) }
+{
+    let held = options(alloc, values)?;
+    let variants = option_variants(alloc, &held)?;
+    write_variants(2, &variants, out)?;
+    let parts = somes(alloc, &held)?;
+    write_each(alloc, some, &parts, out)
+}
+
+// Appends the columns of enums of several variants.
+#[cycle(write)]
+fn write_choices(
+    alloc: Global,
+    nodes: &[&SchemaNode],
+    held: &[(u32, &Value)],
+    out: &mut Vec<u8>,
+) -> Result<(), Error>
+    requires few { All (λ n. has_few_variants n ≡ true) (map (λ n. n.now) nodes.now) }
+    requires count { (2 ≤ length nodes.now) × (length nodes.now ≤ 256) }
+    ensures written { OnOk result
+        (Writes (chosen variant_in (payloads_under (map (λ n. n.now) nodes.now)))
+        (choice_shape (shapes_from (payloads_under (map (λ n. n.now) nodes.now))))
+        (map (λ h. (h.0, h.1.now)) held.now) out.old.items out.new.items) }
+    ensures refused { IfErr result
+        (λ e. IsRefusal e.reason
+        (HasStranger (chosen variant_in (payloads_under (map (λ n. n.now) nodes.now)))
+        (choice_shape (shapes_from (payloads_under (map (λ n. n.now) nodes.now))))
+        (map (λ h. (h.0, h.1.now)) held.now))) }
+{
+    let variants = enum_variants(alloc, nodes.len(), held)?;
+    write_variants(nodes.len(), &variants, out)?;
+    for i in 0..nodes.len() {
+        let node = nodes[i];
+        let parts = payloads(alloc, i, held)?;
+        write_each(alloc, node, &parts, out)?;
+    }
+    Ok(())
+}
+
+// Appends the columns of enums of one variant, which has no column.
+#[cycle(write)]
+fn write_single(
+    alloc: Global,
+    node: &SchemaNode,
+    held: &[(u32, &Value)],
+    out: &mut Vec<u8>,
+) -> Result<(), Error>
+    requires few { has_few_variants node.now ≡ true }
+    ensures written { OnOk result
+        (Writes (enum_under (content_under node.now ∷ [])) (shape_of node.now)
+        (map (λ h. (h.0, h.1.now)) held.now) out.old.items out.new.items) }
+    ensures refused { IfErr result
+        (λ e. IsRefusal e.reason
+        (HasStranger (enum_under (content_under node.now ∷ []))
+        (shape_of node.now) (map (λ h. (h.0, h.1.now)) held.now))) }
+{
+    let _variants = enum_variants(alloc, 1, held)?;
+    let parts = payloads(alloc, 0, held)?;
+    write_each(alloc, node, &parts, out)
+}
+
+// Appends the columns of results.
+#[cycle(write)]
+fn write_results(
+    alloc: Global,
+    ok: &SchemaNode,
+    other: &SchemaNode,
+    values: &[&Value],
+    out: &mut Vec<u8>,
+) -> Result<(), Error>
+    requires ok { has_few_variants ok.now ≡ true }
+    requires other { has_few_variants other.now ≡ true }
+    ensures written { OnOk result
+        (Writes (λ v. under (enum_of v)
+        (choice_under (content_under ok.now ∷ content_under other.now ∷ [])))
+        (choice_shape (shape_and (shape_of ok.now) (shape_and (shape_of other.now) no_shapes)))
+        (map (λ v. v.now) values.now) out.old.items out.new.items) }
+    ensures refused { IfErr result
+        (λ e. IsRefusal e.reason
+        (HasStranger (λ v. under (enum_of v)
+        (choice_under (content_under ok.now ∷ content_under other.now ∷ [])))
+        (choice_shape (shape_and (shape_of ok.now) (shape_and (shape_of other.now) no_shapes)))
+        (map (λ v. v.now) values.now))) }
+{
+    let held = enums(alloc, values)?;
+    write_choices(alloc, &[ok, other], &held, out)
+}
+
+// Appends the columns of enums.
+#[cycle(write)]
+fn write_enums(
+    alloc: Global,
+    nodes: &[&SchemaNode],
+    values: &[&Value],
+    out: &mut Vec<u8>,
+) -> Result<(), Error>
+    requires few { All (λ n. has_few_variants n ≡ true) (map (λ n. n.now) nodes.now) }
+    requires most { length nodes.now ≤ 256 }
+    ensures written { OnOk result
+        (Writes (λ v. under (enum_of v)
+        (enum_under (contents_of (map (λ n. n.now) nodes.now))))
+        (enum_shape (map shape_of (map (λ n. n.now) nodes.now))) (map (λ v. v.now) values.now)
+        out.old.items out.new.items) }
+    ensures refused { IfErr result
+        (λ e. IsRefusal e.reason
+        (HasStranger (λ v. under (enum_of v)
+        (enum_under (contents_of (map (λ n. n.now) nodes.now))))
+        (enum_shape (map shape_of (map (λ n. n.now) nodes.now))) (map (λ v. v.now) values.now))) }
+{
+    if nodes.is_empty() {
+        return write_never(values, out);
+    }
+    let held = enums(alloc, values)?;
+    if nodes.len() == 1 {
+        return write_single(alloc, nodes[0], &held, out);
+    }
+    write_choices(alloc, nodes, &held, out)
+}
+
+/// Appends the columns of values of a node.
+///
+/// Errors: `value is not of the shape` if a value does not fit the node, and `out of memory`.
 #[cycle(write)]
 pub fn write_each(
     alloc: Global,
@@ -402,11 +543,24 @@ pub fn write_each(
         (map (λ v. v.now) values.now))) }
 {
     match node {
+        SchemaNode::Unit => write_units(values, out),
+        SchemaNode::Never => write_never(values, out),
+        SchemaNode::Bool => write_leaf::<bool, BoolEncoder>(alloc, values, out),
+        SchemaNode::Char => write_leaf::<char, IntEncoder<u32>>(alloc, values, out),
+        SchemaNode::Int(kind) => write_ints(alloc, *kind, values, out),
+        SchemaNode::NonZero(kind) => write_nonzeros(alloc, *kind, values, out),
+        SchemaNode::F32 => write_leaf::<f32, F32Encoder>(alloc, values, out),
+        SchemaNode::F64 => write_leaf::<f64, F64Encoder>(alloc, values, out),
+        SchemaNode::Str(capacity) => write_texts(alloc, *capacity, values, out),
+        SchemaNode::Duration => write_spans(alloc, values, out),
+        SchemaNode::Uuid => write_ids(alloc, values, out),
         SchemaNode::List(capacity, element) => write_lists(alloc, *capacity, element, values, out),
         SchemaNode::Map(key, value) => write_maps(alloc, key, value, values, out),
         SchemaNode::Array(size, element) => write_arrays(alloc, *size, element, values, out),
         SchemaNode::Tuple(nodes) => write_rows(alloc, &each_node(alloc, nodes)?, values, out),
         SchemaNode::Struct(named) => write_rows(alloc, &named_nodes(alloc, named)?, values, out),
-        _ => err(Reason::OutOfMemory),
+        SchemaNode::Option(some) => write_options(alloc, some, values, out),
+        SchemaNode::Result(ok, other) => write_results(alloc, ok, other, values, out),
+        SchemaNode::Enum(named) => write_enums(alloc, &named_nodes(alloc, named)?, values, out),
     }
 }

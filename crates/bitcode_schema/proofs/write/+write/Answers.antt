@@ -1,6 +1,7 @@
 -- By the node, and part by part.
 use Rattle.std.proofs.Common.{◌≡◌, ◌<◌, ◌≤◌, ◌^◌, ◌/◌, ◌∷◌, ◌++◌, [], true, None, Some, inr, refl, map, length, max, take, drop, slice_get, ap, sym, subst, All, ◌∙◌, arith}
 use Rattle.std.specs.List.{flat_map, take-map, drop-map}
+use Rattle.std.proofs.lemmas.Bool.{eqb-true}
 use Rattle.std.proofs.lemmas.List.{length-map, nil_from_length}
 use Rattle.std.proofs.lemmas.List.Elements.{All-take, All-drop, All-head}
 use Rattle.std.proofs.lemmas.Result.{on_ok_weaker, IfErr-weaker, err_from_is_err_and}
@@ -179,11 +180,12 @@ write_rows-returns-then-not-are_of_size-clause-refused t c =
 
 pub write_rows-returns-then-is_empty-clause-written : goal.write_rows-returns-then-is_empty-clause-written
 write_rows-returns-then-is_empty-clause-written t c =
-    let none : c.args.nodes.now ≡ [] = nil_from_length c.args.nodes.now (sym c.if-is_empty.ensures) in
+    let none : c.args.nodes.now ≡ [] = nil_from_length c.args.nodes.now (eqb-true (length c.args.nodes.now) 0 (sym c.if-is_empty.ensures)) in
+    let sized = subst (λ ns. All (λ l. length l ≡ length ns) (map (λ r. r.now) c.in_ok-rows.rows.items)) none (subst (λ rs. All (λ l. length l ≡ length c.args.nodes.now) (map (λ r. r.now) rs)) c.deref.ensures.value c.if-not-are_of_size.ensures) in
     let each = units_written (row_content [] 0) (map (λ r. r.now) c.in_ok-rows.rows.items) c.args.out.now.items (λ k d lt. refl) in
     subst (λ ns. Writes (λ v. under (fields_of v) (fields_content (contents_of (map (λ n. n.now) ns)))) (fields_shape (map shape_of (map (λ n. n.now) ns))) (map (λ v. v.now) c.args.values.now) c.args.out.now.items c.args.out.now.items)
     (sym none)
-    (writes_rows [] unit_shape (map (λ v. v.now) c.args.values.now) (map (λ r. r.now) c.in_ok-rows.rows.items) c.in_ok-rows.ensures.held ? c.args.out.now.items c.args.out.now.items each)
+    (writes_rows [] unit_shape (map (λ v. v.now) c.args.values.now) (map (λ r. r.now) c.in_ok-rows.rows.items) c.in_ok-rows.ensures.held sized c.args.out.now.items c.args.out.now.items each)
 
 pub write_rows-returns-clause-written : goal.write_rows-returns-clause-written
 write_rows-returns-clause-written t c =
@@ -199,8 +201,56 @@ write_rows-returns-clause-refused t c =
     (λ stranger. stranger_in_rows (contents_of (map (λ n. n.now) c.args.nodes.now)) (fields_shape (map shape_of (map (λ n. n.now) c.args.nodes.now))) (map (λ v. v.now) c.args.values.now) (map (λ r. r.now) c.in_ok-rows.rows.items) c.in_ok-rows.ensures.held (subst (λ n. All (λ l. length l ≡ n) (map (λ r. r.now) c.in_ok-rows.rows.items)) (sym (length-map (map (λ n. n.now) c.args.nodes.now) content_under ∙ length-map c.args.nodes.now (λ n. n.now))) (subst (λ rs. All (λ l. length l ≡ length c.args.nodes.now) (map (λ r. r.now) rs)) c.deref.ensures.value c.if-not-are_of_size.ensures))
     (subst (λ rs. HasStranger (row_content (contents_of (map (λ n. n.now) c.args.nodes.now)) 0) (fields_shape (map shape_of (map (λ n. n.now) c.args.nodes.now))) (map (λ r. r.now) rs)) c.deref-2.ensures.value stranger))) c.write_fields.ensures.refused
 
+pub write_choices-loop-i-preserved : goal.write_choices-loop-i-preserved
+write_choices-loop-i-preserved t c =
+    ?
+
+pub write_choices-returns-clause-written : goal.write_choices-returns-clause-written
+write_choices-returns-clause-written t c =
+    ?
+
+pub write_choices-returns-in_err-variants-clause-refused : goal.write_choices-returns-in_err-variants-clause-refused
+write_choices-returns-in_err-variants-clause-refused t c =
+    ?
+
+pub write_choices-returns-in_err-write_each-clause-refused : goal.write_choices-returns-in_err-write_each-clause-refused
+write_choices-returns-in_err-write_each-clause-refused t c =
+    ?
+
+pub write_choices-write_each-requires : goal.write_choices-write_each-requires
+write_choices-write_each-requires t c =
+    ?
+
+pub write_choices-write_variants-requires-clause-below : goal.write_choices-write_variants-requires-clause-below
+write_choices-write_variants-requires-clause-below t c =
+    ?
+
 pub write_each-returns-in-Array-clause-refused : goal.write_each-returns-in-Array-clause-refused
 write_each-returns-in-Array-clause-refused t c =
+    ?
+
+pub write_each-returns-in-Bool-clause-refused : goal.write_each-returns-in-Bool-clause-refused
+write_each-returns-in-Bool-clause-refused t c =
+    ?
+
+pub write_each-returns-in-Char-clause-refused : goal.write_each-returns-in-Char-clause-refused
+write_each-returns-in-Char-clause-refused t c =
+    ?
+
+pub write_each-returns-in-Duration-clause-refused : goal.write_each-returns-in-Duration-clause-refused
+write_each-returns-in-Duration-clause-refused t c =
+    ?
+
+pub write_each-returns-in-F32-clause-refused : goal.write_each-returns-in-F32-clause-refused
+write_each-returns-in-F32-clause-refused t c =
+    ?
+
+pub write_each-returns-in-F64-clause-refused : goal.write_each-returns-in-F64-clause-refused
+write_each-returns-in-F64-clause-refused t c =
+    ?
+
+pub write_each-returns-in-Int-clause-refused : goal.write_each-returns-in-Int-clause-refused
+write_each-returns-in-Int-clause-refused t c =
     ?
 
 pub write_each-returns-in-List-clause-refused : goal.write_each-returns-in-List-clause-refused
@@ -219,12 +269,56 @@ pub write_each-returns-in-Map-clause-written : goal.write_each-returns-in-Map-cl
 write_each-returns-in-Map-clause-written t c =
     ?
 
+pub write_each-returns-in-Never-clause-refused : goal.write_each-returns-in-Never-clause-refused
+write_each-returns-in-Never-clause-refused t c =
+    ?
+
+pub write_each-returns-in-NonZero-clause-refused : goal.write_each-returns-in-NonZero-clause-refused
+write_each-returns-in-NonZero-clause-refused t c =
+    ?
+
+pub write_each-returns-in-Option-clause-refused : goal.write_each-returns-in-Option-clause-refused
+write_each-returns-in-Option-clause-refused t c =
+    ?
+
+pub write_each-returns-in-Option-clause-written : goal.write_each-returns-in-Option-clause-written
+write_each-returns-in-Option-clause-written t c =
+    ?
+
+pub write_each-returns-in-Result-clause-refused : goal.write_each-returns-in-Result-clause-refused
+write_each-returns-in-Result-clause-refused t c =
+    ?
+
+pub write_each-returns-in-Result-clause-written : goal.write_each-returns-in-Result-clause-written
+write_each-returns-in-Result-clause-written t c =
+    ?
+
+pub write_each-returns-in-Str-clause-refused : goal.write_each-returns-in-Str-clause-refused
+write_each-returns-in-Str-clause-refused t c =
+    ?
+
+pub write_each-returns-in-Unit-clause-refused : goal.write_each-returns-in-Unit-clause-refused
+write_each-returns-in-Unit-clause-refused t c =
+    ?
+
+pub write_each-returns-in-Uuid-clause-refused : goal.write_each-returns-in-Uuid-clause-refused
+write_each-returns-in-Uuid-clause-refused t c =
+    ?
+
 pub write_each-returns-in_ok-each_node-in-Tuple-clause-refused : goal.write_each-returns-in_ok-each_node-in-Tuple-clause-refused
 write_each-returns-in_ok-each_node-in-Tuple-clause-refused t c =
     ?
 
 pub write_each-returns-in_ok-each_node-in-Tuple-clause-written : goal.write_each-returns-in_ok-each_node-in-Tuple-clause-written
 write_each-returns-in_ok-each_node-in-Tuple-clause-written t c =
+    ?
+
+pub write_each-returns-in_ok-named_nodes-in-Enum-clause-refused : goal.write_each-returns-in_ok-named_nodes-in-Enum-clause-refused
+write_each-returns-in_ok-named_nodes-in-Enum-clause-refused t c =
+    ?
+
+pub write_each-returns-in_ok-named_nodes-in-Enum-clause-written : goal.write_each-returns-in_ok-named_nodes-in-Enum-clause-written
+write_each-returns-in_ok-named_nodes-in-Enum-clause-written t c =
     ?
 
 pub write_each-returns-in_ok-named_nodes-in-Struct-clause-refused : goal.write_each-returns-in_ok-named_nodes-in-Struct-clause-refused
@@ -235,10 +329,82 @@ pub write_each-returns-in_ok-named_nodes-in-Struct-clause-written : goal.write_e
 write_each-returns-in_ok-named_nodes-in-Struct-clause-written t c =
     ?
 
+pub write_each-write_enums-requires : goal.write_each-write_enums-requires
+write_each-write_enums-requires t c =
+    ?
+
 pub write_each-write_rows-requires : goal.write_each-write_rows-requires
 write_each-write_rows-requires t c =
     ?
 
 pub write_each-write_rows-requires-in-Struct : goal.write_each-write_rows-requires-in-Struct
 write_each-write_rows-requires-in-Struct t c =
+    ?
+
+pub write_enums-returns-clause-refused : goal.write_enums-returns-clause-refused
+write_enums-returns-clause-refused t c =
+    ?
+
+pub write_enums-returns-clause-written : goal.write_enums-returns-clause-written
+write_enums-returns-clause-written t c =
+    ?
+
+pub write_enums-returns-in_err-held-clause-refused : goal.write_enums-returns-in_err-held-clause-refused
+write_enums-returns-in_err-held-clause-refused t c =
+    ?
+
+pub write_enums-returns-then-is_empty-clause-refused : goal.write_enums-returns-then-is_empty-clause-refused
+write_enums-returns-then-is_empty-clause-refused t c =
+    ?
+
+pub write_enums-returns-then-nodes-eq1-clause-refused : goal.write_enums-returns-then-nodes-eq1-clause-refused
+write_enums-returns-then-nodes-eq1-clause-refused t c =
+    ?
+
+pub write_enums-returns-then-nodes-eq1-clause-written : goal.write_enums-returns-then-nodes-eq1-clause-written
+write_enums-returns-then-nodes-eq1-clause-written t c =
+    ?
+
+pub write_enums-write_single-requires : goal.write_enums-write_single-requires
+write_enums-write_single-requires t c =
+    ?
+
+pub write_options-returns-clause-refused : goal.write_options-returns-clause-refused
+write_options-returns-clause-refused t c =
+    ?
+
+pub write_options-returns-clause-written : goal.write_options-returns-clause-written
+write_options-returns-clause-written t c =
+    ?
+
+pub write_options-returns-in_err-held-clause-refused : goal.write_options-returns-in_err-held-clause-refused
+write_options-returns-in_err-held-clause-refused t c =
+    ?
+
+pub write_options-write_variants-requires-clause-below : goal.write_options-write_variants-requires-clause-below
+write_options-write_variants-requires-clause-below t c =
+    ?
+
+pub write_results-returns-clause-refused : goal.write_results-returns-clause-refused
+write_results-returns-clause-refused t c =
+    ?
+
+pub write_results-returns-clause-written : goal.write_results-returns-clause-written
+write_results-returns-clause-written t c =
+    ?
+
+pub write_results-returns-in_err-held-clause-refused : goal.write_results-returns-in_err-held-clause-refused
+write_results-returns-in_err-held-clause-refused t c =
+    ?
+
+pub write_single-returns-clause-refused : goal.write_single-returns-clause-refused
+write_single-returns-clause-refused t c =
+    ?
+
+pub write_single-returns-clause-written : goal.write_single-returns-clause-written
+write_single-returns-clause-written t c =
+    ?
+
+pub write_single-returns-in_err-_variants-clause-refused : goal.write_single-returns-in_err-_variants-clause-refused
+write_single-returns-in_err-_variants-clause-refused t c =
     ?
