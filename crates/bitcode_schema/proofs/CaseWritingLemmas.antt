@@ -1,14 +1,22 @@
 -- Options, results and enums as choices.
-use Rattle.std.proofs.Common.{◌≡◌, ◌<◌, ◌≤◌, ◌+◌, ◌++◌, ℕ, zero, suc, Option, Some, None, List, [], ◌∷◌, length, map, filter, slice_get, take, get_or, All, refl, sym, ap, ap₂, subst, ◌∙◌, ◌==◌, arith}
-use Rattle.std.proofs.lemmas.List.{length-map}
-use Rattle.std.proofs.lemmas.List.Elements.{All-nil, All-cons, All-head, All-tail}
+use Rattle.std.proofs.Common.{◌≡◌, ◌<◌, ◌≤◌, ◌+◌, ◌++◌, ℕ, zero, suc, Option, Some, None, List, [], ◌∷◌, length, map, filter, slice_get, take, get_or, Global, true, All, refl, sym, ap, ap₂, subst, ◌∙◌, ◌==◌, arith}
+use Rattle.std.proofs.Math.ListN.{get_or-map}
+use Rattle.std.proofs.lemmas.List.{length-map, length-take-le, map-append}
+use Rattle.std.proofs.lemmas.List.Folds.{list_all-map}
+use Rattle.std.proofs.lemmas.List.Sums.{AllPass-from_list_all}
+use Rattle.std.proofs.lemmas.Option.{slice_get-map, slice_get_read}
+use Rattle.std.specs.List.{list_all}
+use Rattle.std.specs.declared.string.String.{String}
+use Rattle.std.proofs.lemmas.List.Elements.{All-nil, All-cons, All-head, All-tail, All-map}
 use Rattle.std.specs.Option.{option_map}
 use Rattle.bitcode_columns.specs.VariantColumn.{variant_text}
 use Rattle.bitcode_shapes.specs.Datum.{Datum, unit, choice}
-use Rattle.bitcode_shapes.specs.Shape.{Shape, unit_shape, choice_shape, no_shapes, shape_and}
+use Rattle.bitcode_shapes.specs.Shape.{Shape, IsOf, unit_shape, never_shape, choice_shape, no_shapes, shape_and}
 use Rattle.bitcode_untyped.specs.declared.value.Value.{Value}
 use Rattle.bitcode_schema.specs.Choosing.{Payload, shapes_from, payload_of, chosen, of_variant, WritesPayloads, option_variant, none_content, some_content}
-use Rattle.bitcode_schema.specs.Forms.{Content, changed, choice_content, chosen_content, content_under, enum_content, enum_shape, shape_of, shapes_of}
+use Rattle.bitcode_coder.proofs.EachLemmas.{parts_more}
+use Rattle.bitcode_schema.specs.Depth.{depth, greatest, has_few_variants}
+use Rattle.bitcode_schema.specs.Forms.{Content, changed, choice_content, chosen_content, content_under, enum_content, enum_shape, parts_of, shape_of, shapes_of}
 use Rattle.bitcode_schema.specs.Parts.{contents_of, option_content, payload_under, payloads_under}
 use Rattle.bitcode_schema.specs.Views.{Hold, option_of, enum_of, payload_in, variant_in, under}
 use Rattle.bitcode_schema.specs.Writing.{Writes, HasStranger}
@@ -45,12 +53,15 @@ nones_are (None ∷ os) zero d lt = refl
 nones_are (None ∷ os) (suc k) d lt = nones_are os k d (let h : suc k < suc (length (of_variant option_variant 0 os)) = lt in omega arith)
 nones_are (Some v ∷ os) k d lt = nones_are os k d lt
 
+option_below : (o : Option Value) → option_variant o < 2
+option_below None = omega arith
+option_below (Some v) = omega arith
+
+pub options_below : (os : List (Option Value)) → All (λ v. v < 2) (map option_variant os)
+options_below os = All-map (λ v. v < 2) option_variant os (λ k d lt. option_below (get_or os k d))
+
 module _ (content : Content) (s : Shape) (vs : List Value) (os : List (Option Value)) (h : Hold option_of vs os) (parts : List Value)
     (are : of_variant option_variant 1 os ≡ map (λ v. Some v) parts) where
-  below : (o : Option Value) → option_variant o < 2
-  below None = omega arith
-  below (Some v) = omega arith
-
   pub whole_options : (old middle new : List ℕ) → middle ≡ old ++ variant_text 2 (map option_variant os) → Writes content s parts middle new
       → Writes (λ v. under (option_of v) (option_content content)) (choice_shape (shape_and unit_shape (shape_and s no_shapes))) vs old new
   whole_options old middle new variants w =
@@ -59,7 +70,7 @@ module _ (content : Content) (s : Shape) (vs : List Value) (os : List (Option Va
       writes_seen option_of (option_content content) (choice_shape (shape_and unit_shape (shape_and s no_shapes))) vs os h old new
       (writes_as (chosen option_variant (option_payloads content s)) (option_content content) (option_chosen content s)
       (choice_shape (shapes_from (option_payloads content s))) (choice_shape (shape_and unit_shape (shape_and s no_shapes))) refl os old new
-      (writes_choices option_variant (option_payloads content s) os old middle new (λ k d lt. below (get_or os k d)) variants
+      (writes_choices option_variant (option_payloads content s) os old middle new (λ k d lt. option_below (get_or os k d)) variants
       (middle, (first, (new, (second, refl))))))
     where
       writes_some : (ps : List Value) (a b : List ℕ) → Writes content s ps a b → Writes (some_content content) s (map (λ v. Some v) ps) a b
@@ -155,3 +166,46 @@ pub stranger_none : (s : Shape) (items : List (ℕ × Value)) → 0 < length ite
 stranger_none s [] some ds are = absurd (omega (arith, some))
 stranger_none s (e ∷ items) some [] are = absurd are.held
 stranger_none s (e ∷ items) some (d ∷ ds) are = let never : None ≡ Some d = are.held.0 in cc
+
+-- ---- nodes
+
+pub payloads_more : {R : Type 0} (seen : R → SchemaNode) (refs : List R) (i : ℕ) (r : R) → i < length refs → r ≡ get_or refs i r
+    → payloads_under (map seen (take (i + 1) refs)) ≡ payloads_under (map seen (take i refs)) ++ payload_under (seen r) ∷ []
+payloads_more seen refs i r here is = ap payloads_under (parts_more seen refs i r here is) ∙ map-append payload_under (map seen (take i refs)) (seen r ∷ [])
+
+pub payloads_count : {R : Type 0} (seen : R → SchemaNode) (refs : List R) (i : ℕ) → i ≤ length refs → length (payloads_under (map seen (take i refs))) ≡ i
+payloads_count seen refs i most = length-map (map seen (take i refs)) payload_under ∙ length-map (take i refs) seen ∙ length-take-le i refs most
+
+pub payload_of_node : {R : Type 0} (seen : R → SchemaNode) (refs : List R) (i : ℕ) (r : R) → i < length refs → r ≡ get_or refs i r
+    → slice_get (payloads_under (map seen refs)) i ≡ Some (payload_under (seen r))
+payload_of_node seen refs i r here is =
+    payload_there (map seen refs) i (seen r) (slice_get-map seen refs i ∙ ap (option_map seen) (slice_get_read refs (length refs) i r refl here is))
+
+pub one_of : {R : Type 0} (seen : R → SchemaNode) (refs : List R) (i : ℕ) (r : R) → i < length refs → r ≡ get_or refs i r
+    → get_or (map seen refs) i (seen r) ≡ seen r
+one_of seen refs i r here is = get_or-map seen refs i r ∙ ap seen (sym is)
+
+pub greatest_at : (ns : List ℕ) (i d : ℕ) → i < length ns → get_or ns i d ≤ greatest ns
+greatest_at [] i d here = absurd (omega (arith, here))
+greatest_at (n ∷ ns) zero d here = grind arith
+greatest_at (n ∷ ns) (suc i) d here = let rest = greatest_at ns i d (let h : suc i < suc (length ns) = here in omega arith) in grind (arith, rest)
+
+pub depth_at : {R : Type 0} (seen : R → SchemaNode) (refs : List R) (i : ℕ) (r : R) → i < length refs → r ≡ get_or refs i r
+    → depth (seen r) ≤ greatest (map depth (map seen refs))
+depth_at seen refs i r here is =
+    let there : get_or (map depth (map seen refs)) i (depth (seen r)) ≡ depth (seen r) = get_or-map depth (map seen refs) i (seen r) ∙ ap depth (one_of seen refs i r here is) in
+    let size : i < length (map depth (map seen refs)) = omega (arith, here, length-map (map seen refs) depth, length-map refs seen) in
+    subst (λ n. n ≤ greatest (map depth (map seen refs))) there (greatest_at (map depth (map seen refs)) i (depth (seen r)) size)
+
+pub few_nodes : (nodes : List SchemaNode) → list_all has_few_variants nodes ≡ true → All (λ n. has_few_variants n ≡ true) nodes
+few_nodes nodes few = AllPass-from_list_all has_few_variants nodes few
+
+pub few_parts : (named : List (String Global × SchemaNode)) → list_all (λ p. has_few_variants p.1) named ≡ true
+    → All (λ n. has_few_variants n ≡ true) (parts_of named)
+few_parts named few = few_nodes (parts_of named) (list_all-map has_few_variants (λ p. p.1) named ∙ few)
+
+-- no value has a node without values
+pub stranger_never : {A : Type 0} (content : A → Option Datum) (xs : List A) → 0 < length xs → HasStranger content never_shape xs
+stranger_never content [] some ds are = absurd (omega (arith, some))
+stranger_never content (x ∷ xs) some [] are = absurd are.held
+stranger_never content (x ∷ xs) some (d ∷ ds) are = absurd (All-head (IsOf never_shape) d ds are.of_shape)
