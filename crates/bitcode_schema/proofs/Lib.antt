@@ -19,3 +19,4 @@ pub mod SpanLemmas
 pub mod FieldWritingLemmas
 pub mod ShapeLemmas
 pub mod CaseWritingLemmas
+pub mod OneLemmas

@@ -9,3 +9,4 @@ pub mod Choosing
 pub mod Cases
 pub mod Allowing
 pub mod Parts
+pub mod Encoding
