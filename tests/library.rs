@@ -2,3 +2,4 @@
 mod calls;
 mod columns;
 mod values;
+mod values_by_schema;

@@ -33,13 +33,13 @@ module _ {R : Type 0} (seen : R → SchemaNode) (refs front back : List R) (is_f
   pub front_deep : deep front ≤ deep refs
   front_deep =
       let same = ap (λ rs. map depth (map seen rs)) is_front
-          ∙ ap (map depth) (sym (take-map seen (length refs / 2) refs)) ∙ sym (take-map depth (length refs / 2) (map seen refs)) in
+      ∙ ap (map depth) (sym (take-map seen (length refs / 2) refs)) ∙ sym (take-map depth (length refs / 2) (map seen refs)) in
       subst (λ ns. greatest ns ≤ deep refs) (sym same) (greatest_front (length refs / 2) (map depth (map seen refs)))
 
   pub back_deep : deep back ≤ deep refs
   back_deep =
       let same = ap (λ rs. map depth (map seen rs)) is_back
-          ∙ ap (map depth) (sym (drop-map seen (length refs / 2) refs)) ∙ sym (drop-map depth (length refs / 2) (map seen refs)) in
+      ∙ ap (map depth) (sym (drop-map seen (length refs / 2) refs)) ∙ sym (drop-map depth (length refs / 2) (map seen refs)) in
       subst (λ ns. greatest ns ≤ deep refs) (sym same) (greatest_back (length refs / 2) (map depth (map seen refs)))
 
   module _ (some : 1 < length refs) (at : ℕ) (rows : List (List Value)) where
@@ -80,9 +80,9 @@ module _ {R : Type 0} (seen : R → SchemaNode) (refs front back : List R) (is_f
         let ss = map shape_of (map seen refs) in
         let n = length refs / 2 in
         let first = ap (λ k. take (k / 2) ss) shapes_size ∙ take-map shape_of n (map seen refs) ∙ ap (map shape_of) (take-map seen n refs)
-            ∙ ap (λ rs. map shape_of (map seen rs)) (sym is_front) in
+        ∙ ap (λ rs. map shape_of (map seen rs)) (sym is_front) in
         let second = ap (λ k. drop (k / 2) ss) shapes_size ∙ drop-map shape_of n (map seen refs) ∙ ap (map shape_of) (drop-map seen n refs)
-            ∙ ap (λ rs. map shape_of (map seen rs)) (sym is_back) in
+        ∙ ap (λ rs. map shape_of (map seen rs)) (sym is_back) in
         sym (halved_pair unit_shape pair_shape ss (subst (λ k. 1 < k) (sym shapes_size) some)
         ∙ ap₂ (λ f b. pair_shape (fields_shape f) (fields_shape b)) first second)
 

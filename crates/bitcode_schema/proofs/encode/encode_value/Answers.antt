@@ -18,7 +18,7 @@ returns-in_err-write_each-clause-refused c =
 pub returns-clause-written : goal.returns-clause-written
 returns-clause-written c =
     let root = subst (λ n. Writes (content_under n) (shape_of n) (c.args.value.now ∷ []) c.new-out.result.items c.write_each.new.out.items) c.root.ensures
-        c.in_ok-write_each.ensures.written in
+    c.in_ok-write_each.ensures.written in
     one_written c.args.schema.now.root c.args.value.now c.write_each.new.out.items
     (subst (λ old. Writes (content_under c.args.schema.now.root) (shape_of c.args.schema.now.root) (c.args.value.now ∷ []) old c.write_each.new.out.items)
     c.new-out.ensures.items root)

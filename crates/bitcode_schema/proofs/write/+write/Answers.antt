@@ -45,8 +45,11 @@ write_arrays-returns-in_err-held-clause-refused t c =
 pub write_arrays-returns-then-not-are_of_size-clause-refused : goal.write_arrays-returns-then-not-are_of_size-clause-refused
 write_arrays-returns-then-not-are_of_size-clause-refused t c =
     rw c.err.ensures
-    (inr (refl, stranger_sized (content_under c.args.element.now) (shape_of c.args.element.now) (map (λ v. v.now) c.args.values.now) (map (λ h. h.now) c.in_ok-held.held.items) c.in_ok-held.ensures.held c.args.size
-    (subst (λ hs. All (λ l. length l ≡ c.args.size) (map (λ h. h.now) hs) → ⊥) c.deref.ensures.value c.if-not-are_of_size.ensures)))
+    (inr (
+      refl,
+      stranger_sized (content_under c.args.element.now) (shape_of c.args.element.now) (map (λ v. v.now) c.args.values.now) (map (λ h. h.now) c.in_ok-held.held.items) c.in_ok-held.ensures.held c.args.size
+          (subst (λ hs. All (λ l. length l ≡ c.args.size) (map (λ h. h.now) hs) → ⊥) c.deref.ensures.value c.if-not-are_of_size.ensures),
+    ))
 
 pub write_arrays-returns-clause-written : goal.write_arrays-returns-clause-written
 write_arrays-returns-clause-written t c =
@@ -73,8 +76,11 @@ write_lists-returns-in_err-held-clause-refused t c =
 pub write_lists-returns-then-not-are_within-clause-refused : goal.write_lists-returns-then-not-are_within-clause-refused
 write_lists-returns-then-not-are_within-clause-refused t c =
     rw c.err.ensures
-    (inr (refl, stranger_long (content_under c.args.element.now) (shape_of c.args.element.now) (map (λ v. v.now) c.args.values.now) (map (λ h. h.now) c.in_ok-held.held.items) c.in_ok-held.ensures.held c.args.capacity
-    (subst (λ hs. All (λ l. IsWithin c.args.capacity (length l)) (map (λ h. h.now) hs) → ⊥) c.deref.ensures.value c.if-not-are_within.ensures)))
+    (inr (
+      refl,
+      stranger_long (content_under c.args.element.now) (shape_of c.args.element.now) (map (λ v. v.now) c.args.values.now) (map (λ h. h.now) c.in_ok-held.held.items) c.in_ok-held.ensures.held c.args.capacity
+          (subst (λ hs. All (λ l. IsWithin c.args.capacity (length l)) (map (λ h. h.now) hs) → ⊥) c.deref.ensures.value c.if-not-are_within.ensures),
+    ))
 
 pub write_lists-returns-clause-written : goal.write_lists-returns-clause-written
 write_lists-returns-clause-written t c =
@@ -124,14 +130,14 @@ pub write_fields-write_fields-requires : goal.write_fields-write_fields-requires
 write_fields-write_fields-requires t c =
     let deep = front_deep (λ n. n.now) c.args.nodes.now c.split_at.result.0.now c.split_at.result.1.now c.split_at.ensures.front c.split_at.ensures.back in
     let few = subst (λ ns. All (λ n. has_few_variants n ≡ true) (map (λ n. n.now) ns)) (sym c.split_at.ensures.front)
-        (subst (All (λ n. has_few_variants n ≡ true)) (take-map (λ n. n.now) (length c.args.nodes.now / 2) c.args.nodes.now) (All-take (λ n. has_few_variants n ≡ true) (length c.args.nodes.now / 2) (map (λ n. n.now) c.args.nodes.now) c.requires.few)) in
+    (subst (All (λ n. has_few_variants n ≡ true)) (take-map (λ n. n.now) (length c.args.nodes.now / 2) c.args.nodes.now) (All-take (λ n. has_few_variants n ≡ true) (length c.args.nodes.now / 2) (map (λ n. n.now) c.args.nodes.now) c.requires.few)) in
     (omega (arith, c.decreases, deep, c.if-count-gt1.true, c.split_at.ensures.front_len), (few, (omega (arith, c.if-count-gt1.true, c.split_at.ensures.front_len), omega (arith, c.requires.fits, c.split_at.ensures.front_len))))
 
 pub write_fields-write_fields-requires-then-count-gt1 : goal.write_fields-write_fields-requires-then-count-gt1
 write_fields-write_fields-requires-then-count-gt1 t c =
     let deep = back_deep (λ n. n.now) c.args.nodes.now c.split_at.result.0.now c.split_at.result.1.now c.split_at.ensures.front c.split_at.ensures.back in
     let few = subst (λ ns. All (λ n. has_few_variants n ≡ true) (map (λ n. n.now) ns)) (sym c.split_at.ensures.back)
-        (subst (All (λ n. has_few_variants n ≡ true)) (drop-map (λ n. n.now) (length c.args.nodes.now / 2) c.args.nodes.now) (All-drop (λ n. has_few_variants n ≡ true) (length c.args.nodes.now / 2) (map (λ n. n.now) c.args.nodes.now) c.requires.few)) in
+    (subst (All (λ n. has_few_variants n ≡ true)) (drop-map (λ n. n.now) (length c.args.nodes.now / 2) c.args.nodes.now) (All-drop (λ n. has_few_variants n ≡ true) (length c.args.nodes.now / 2) (map (λ n. n.now) c.args.nodes.now) c.requires.few)) in
     (omega (arith, c.decreases, deep, c.if-count-gt1.true, c.split_at.ensures.back_len), (few, (omega (arith, c.if-count-gt1.true, c.split_at.ensures.back_len), omega (arith, c.requires.fits, c.split_at.ensures.back_len, c.split_at.ensures.front_len))))
 
 pub write_fields-write_each-requires : goal.write_fields-write_each-requires
@@ -193,9 +199,12 @@ write_rows-returns-in_err-rows-clause-refused t c =
 pub write_rows-returns-then-not-are_of_size-clause-refused : goal.write_rows-returns-then-not-are_of_size-clause-refused
 write_rows-returns-then-not-are_of_size-clause-refused t c =
     rw c.err.ensures
-    (inr (refl, stranger_of_size (contents_of (map (λ n. n.now) c.args.nodes.now)) (fields_shape (map shape_of (map (λ n. n.now) c.args.nodes.now))) (map (λ v. v.now) c.args.values.now) (map (λ r. r.now) c.in_ok-rows.rows.items) c.in_ok-rows.ensures.held
-    (λ each. subst (λ rs. All (λ l. length l ≡ length c.args.nodes.now) (map (λ r. r.now) rs) → ⊥) c.deref.ensures.value c.if-not-are_of_size.ensures
-    (subst (λ n. All (λ l. length l ≡ n) (map (λ r. r.now) c.in_ok-rows.rows.items)) (length-map (map (λ n. n.now) c.args.nodes.now) content_under ∙ length-map c.args.nodes.now (λ n. n.now)) each))))
+    (inr (
+      refl,
+      stranger_of_size (contents_of (map (λ n. n.now) c.args.nodes.now)) (fields_shape (map shape_of (map (λ n. n.now) c.args.nodes.now))) (map (λ v. v.now) c.args.values.now) (map (λ r. r.now) c.in_ok-rows.rows.items) c.in_ok-rows.ensures.held
+          (λ each. subst (λ rs. All (λ l. length l ≡ length c.args.nodes.now) (map (λ r. r.now) rs) → ⊥) c.deref.ensures.value c.if-not-are_of_size.ensures
+          (subst (λ n. All (λ l. length l ≡ n) (map (λ r. r.now) c.in_ok-rows.rows.items)) (length-map (map (λ n. n.now) c.args.nodes.now) content_under ∙ length-map c.args.nodes.now (λ n. n.now)) each)),
+    ))
 
 pub write_rows-returns-then-is_empty-clause-written : goal.write_rows-returns-then-is_empty-clause-written
 write_rows-returns-then-is_empty-clause-written t c =
@@ -236,7 +245,7 @@ write_choices-returns-clause-written t c =
     let at_end : c.loop-i.i ≡ length c.args.nodes.now = omega (arith, c.loop-i-test.false, c.loop-i.auto.i-end) in
     let whole = ap (λ n. payloads_under (map (λ n. n.now) (take n c.args.nodes.now))) at_end ∙ ap (λ ns. payloads_under (map (λ n. n.now) ns)) (take-length c.args.nodes.now) in
     let variants = c.in_ok-write_variants.ensures.written ∙ ap (λ vs. c.args.out.now.items ++ variant_text (length c.args.nodes.now) vs) (c.deref.ensures.value ∙ c.in_ok-variants.ensures.variants)
-        ∙ ap (λ n. c.args.out.now.items ++ variant_text n (map variant_in (map (λ h. (h.0, h.1.now)) c.args.held.now))) (sym count) in
+    ∙ ap (λ n. c.args.out.now.items ++ variant_text n (map variant_in (map (λ h. (h.0, h.1.now)) c.args.held.now))) (sym count) in
     writes_choices variant_in (payloads_under (map (λ n. n.now) c.args.nodes.now)) (map (λ h. (h.0, h.1.now)) c.args.held.now) c.args.out.now.items c.write_variants.new.out.items c.loop-i.out.items
     (subst (λ n. All (λ e. variant_in e < n) (map (λ h. (h.0, h.1.now)) c.args.held.now)) (sym count) c.in_ok-variants.ensures.below) variants
     (subst (λ ps. WritesPayloads variant_in ps 0 (map (λ h. (h.0, h.1.now)) c.args.held.now) c.write_variants.new.out.items c.loop-i.out.items) whole c.loop-i.invariant)
@@ -270,7 +279,7 @@ write_options-returns-in_err-held-clause-refused t c =
 pub write_options-returns-clause-written : goal.write_options-returns-clause-written
 write_options-returns-clause-written t c =
     let variants = c.in_ok-write_variants.ensures.written ∙ ap (λ vs. c.args.out.now.items ++ variant_text 2 vs) (c.deref-2.ensures.value ∙ c.in_ok-variants.ensures.variants
-        ∙ ap (λ hs. map option_variant (map (λ h. boxed h.now) hs)) c.deref.ensures.value) in
+    ∙ ap (λ hs. map option_variant (map (λ h. boxed h.now) hs)) c.deref.ensures.value) in
     on_ok_weaker c.write_each.result
     (λ w. whole_options (content_under c.args.some.now) (shape_of c.args.some.now) (map (λ v. v.now) c.args.values.now) (map (λ h. boxed h.now) c.in_ok-held.held.items) c.in_ok-held.ensures.held (map (λ v. v.now) c.in_ok-parts.parts.items) (ap (λ hs. of_variant option_variant 1 (map (λ h. boxed h.now) hs)) (sym c.deref-3.ensures.value) ∙ c.in_ok-parts.ensures.held ∙ sym (map-map (λ v. Some v) (λ v. v.now) c.in_ok-parts.parts.items))
     c.args.out.now.items c.write_variants.new.out.items c.write_each.new.out.items variants
@@ -389,7 +398,7 @@ write_each-returns-in-Bool-clause-refused t c =
     rw c.in-Bool.is
     (IfErr-weaker c.write_leaf.result _ _
     (λ e. refusal_as e.reason
-    (λ w. stranger_as (leaf_content (Some (leaf_of bools))) (content_under node.Bool) (λ v. sym (content-Bool  v)) (bool_shape) (shape_of node.Bool) (sym (shape-Bool )) (map (λ v. v.now) c.args.values.now)
+    (λ w. stranger_as (leaf_content (Some (leaf_of bools))) (content_under node.Bool) (λ v. sym (content-Bool v)) (bool_shape) (shape_of node.Bool) (sym (shape-Bool)) (map (λ v. v.now) c.args.values.now)
     w)) c.write_leaf.ensures.refused)
 
 pub write_each-returns-in-Char-clause-refused : goal.write_each-returns-in-Char-clause-refused
@@ -397,7 +406,7 @@ write_each-returns-in-Char-clause-refused t c =
     rw c.in-Char.is
     (IfErr-weaker c.write_leaf-in-Char.result _ _
     (λ e. refusal_as e.reason
-    (λ w. stranger_as (leaf_content (Some char_leaf)) (content_under node.Char) (λ v. sym (content-Char  v)) (char_shape) (shape_of node.Char) (sym (shape-Char )) (map (λ v. v.now) c.args.values.now)
+    (λ w. stranger_as (leaf_content (Some char_leaf)) (content_under node.Char) (λ v. sym (content-Char v)) (char_shape) (shape_of node.Char) (sym (shape-Char)) (map (λ v. v.now) c.args.values.now)
     w)) c.write_leaf-in-Char.ensures.refused)
 
 pub write_each-returns-in-Duration-clause-refused : goal.write_each-returns-in-Duration-clause-refused
@@ -405,7 +414,7 @@ write_each-returns-in-Duration-clause-refused t c =
     rw c.in-Duration.is
     (IfErr-weaker c.write_spans.result _ _
     (λ e. refusal_as e.reason
-    (λ w. stranger_as (λ v. under (fields_of v) (fields_content span_contents)) (content_under node.Duration) (λ v. sym (content-Duration  v)) (pair_shape (int_shape 8 false) nanosecond_shape) (shape_of node.Duration) (sym (shape-Duration )) (map (λ v. v.now) c.args.values.now)
+    (λ w. stranger_as (λ v. under (fields_of v) (fields_content span_contents)) (content_under node.Duration) (λ v. sym (content-Duration v)) (pair_shape (int_shape 8 false) nanosecond_shape) (shape_of node.Duration) (sym (shape-Duration)) (map (λ v. v.now) c.args.values.now)
     w)) c.write_spans.ensures.refused)
 
 pub write_each-returns-in-F32-clause-refused : goal.write_each-returns-in-F32-clause-refused
@@ -413,7 +422,7 @@ write_each-returns-in-F32-clause-refused t c =
     rw c.in-F32.is
     (IfErr-weaker c.write_leaf-in-F32.result _ _
     (λ e. refusal_as e.reason
-    (λ w. stranger_as (leaf_content (Some (leaf_of (floats binary32)))) (content_under node.F32) (λ v. sym (content-F32  v)) (float_shape binary32) (shape_of node.F32) (sym (shape-F32 )) (map (λ v. v.now) c.args.values.now)
+    (λ w. stranger_as (leaf_content (Some (leaf_of (floats binary32)))) (content_under node.F32) (λ v. sym (content-F32 v)) (float_shape binary32) (shape_of node.F32) (sym (shape-F32)) (map (λ v. v.now) c.args.values.now)
     w)) c.write_leaf-in-F32.ensures.refused)
 
 pub write_each-returns-in-F64-clause-refused : goal.write_each-returns-in-F64-clause-refused
@@ -421,7 +430,7 @@ write_each-returns-in-F64-clause-refused t c =
     rw c.in-F64.is
     (IfErr-weaker c.write_leaf-in-F64.result _ _
     (λ e. refusal_as e.reason
-    (λ w. stranger_as (leaf_content (Some (leaf_of (floats binary64)))) (content_under node.F64) (λ v. sym (content-F64  v)) (float_shape binary64) (shape_of node.F64) (sym (shape-F64 )) (map (λ v. v.now) c.args.values.now)
+    (λ w. stranger_as (leaf_content (Some (leaf_of (floats binary64)))) (content_under node.F64) (λ v. sym (content-F64 v)) (float_shape binary64) (shape_of node.F64) (sym (shape-F64)) (map (λ v. v.now) c.args.values.now)
     w)) c.write_leaf-in-F64.ensures.refused)
 
 pub write_each-returns-in-Int-clause-refused : goal.write_each-returns-in-Int-clause-refused
@@ -453,7 +462,7 @@ write_each-returns-in-Unit-clause-refused t c =
     rw c.in-Unit.is
     (IfErr-weaker c.write_units.result _ _
     (λ e. refusal_as e.reason
-    (λ w. stranger_as (λ v. unit_content (out-Value v)) (content_under node.Unit) (λ v. sym (content-Unit  v)) (unit_shape) (shape_of node.Unit) (sym (shape-Unit )) (map (λ v. v.now) c.args.values.now)
+    (λ w. stranger_as (λ v. unit_content (out-Value v)) (content_under node.Unit) (λ v. sym (content-Unit v)) (unit_shape) (shape_of node.Unit) (sym (shape-Unit)) (map (λ v. v.now) c.args.values.now)
     w)) c.write_units.ensures.refused)
 
 pub write_each-returns-in-Uuid-clause-refused : goal.write_each-returns-in-Uuid-clause-refused
@@ -461,7 +470,7 @@ write_each-returns-in-Uuid-clause-refused t c =
     rw c.in-Uuid.is
     (IfErr-weaker c.write_ids.result _ _
     (λ e. refusal_as e.reason
-    (λ w. stranger_as (λ v. under (elements_of v) (list_content (leaf_content (Some (int_leaf int.U8))))) (content_under node.Uuid) (λ v. sym (content-Uuid  v)) (array_shape 16 (int_shape 1 false)) (shape_of node.Uuid) (sym (shape-Uuid )) (map (λ v. v.now) c.args.values.now)
+    (λ w. stranger_as (λ v. under (elements_of v) (list_content (leaf_content (Some (int_leaf int.U8))))) (content_under node.Uuid) (λ v. sym (content-Uuid v)) (array_shape 16 (int_shape 1 false)) (shape_of node.Uuid) (sym (shape-Uuid)) (map (λ v. v.now) c.args.values.now)
     w)) c.write_ids.ensures.refused)
 
 pub write_each-returns-in-Never-clause-refused : goal.write_each-returns-in-Never-clause-refused
@@ -591,7 +600,7 @@ pub write_each-write_rows-requires-in-Struct : goal.write_each-write_rows-requir
 write_each-write_rows-requires-in-Struct t c =
     let few = few_parts c.in-Struct.named.items (sym (few-Struct c.in-Struct.named) ∙ ap has_few_variants (sym c.in-Struct.is) ∙ c.requires.few) in
     let deep = ap depth c.in-Struct.is ∙ depth-Struct c.in-Struct.named ∙ ap (λ ns. greatest ns + 1) (sym (map-map depth (λ p. p.1) c.in-Struct.named.items))
-        ∙ ap (λ ns. greatest (map depth ns) + 1) (sym (ap (map (λ n. n.now)) c.deref-in-Struct-2.ensures.value ∙ c.in_ok-named_nodes-in-Struct.ensures.same ∙ ap parts_of c.deref-in-Struct.ensures.value)) in
+    ∙ ap (λ ns. greatest (map depth ns) + 1) (sym (ap (map (λ n. n.now)) c.deref-in-Struct-2.ensures.value ∙ c.in_ok-named_nodes-in-Struct.ensures.same ∙ ap parts_of c.deref-in-Struct.ensures.value)) in
     (omega (arith, c.decreases, deep), subst (All (λ n. has_few_variants n ≡ true)) (sym (ap (map (λ n. n.now)) c.deref-in-Struct-2.ensures.value ∙ c.in_ok-named_nodes-in-Struct.ensures.same ∙ ap parts_of c.deref-in-Struct.ensures.value)) few)
 
 pub write_each-write_enums-requires : goal.write_each-write_enums-requires
@@ -601,5 +610,5 @@ write_each-write_enums-requires t c =
     let lt = leb-true (length c.in-Enum.named.items) most_variants both.0 in
     let size : length c.deref-in-Enum-2.result.now ≡ length c.in-Enum.named.items = sym (length-map c.deref-in-Enum-2.result.now (λ n. n.now)) ∙ ap length (ap (map (λ n. n.now)) c.deref-in-Enum-2.ensures.value ∙ c.in_ok-named_nodes-in-Enum.ensures.same ∙ ap parts_of c.deref-in-Enum.ensures.value) ∙ length-map c.in-Enum.named.items (λ p. p.1) in
     let deep = ap depth c.in-Enum.is ∙ depth-Enum c.in-Enum.named ∙ ap (λ ns. greatest ns + 1) (sym (map-map depth (λ p. p.1) c.in-Enum.named.items))
-        ∙ ap (λ ns. greatest (map depth ns) + 1) (sym (ap (map (λ n. n.now)) c.deref-in-Enum-2.ensures.value ∙ c.in_ok-named_nodes-in-Enum.ensures.same ∙ ap parts_of c.deref-in-Enum.ensures.value)) in
+    ∙ ap (λ ns. greatest (map depth ns) + 1) (sym (ap (map (λ n. n.now)) c.deref-in-Enum-2.ensures.value ∙ c.in_ok-named_nodes-in-Enum.ensures.same ∙ ap parts_of c.deref-in-Enum.ensures.value)) in
     (omega (arith, c.decreases, deep), (subst (All (λ n. has_few_variants n ≡ true)) (sym (ap (map (λ n. n.now)) c.deref-in-Enum-2.ensures.value ∙ c.in_ok-named_nodes-in-Enum.ensures.same ∙ ap parts_of c.deref-in-Enum.ensures.value)) few, omega (arith, size, lt)))

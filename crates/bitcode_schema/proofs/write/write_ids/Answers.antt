@@ -24,9 +24,12 @@ returns-in_err-held-clause-refused c =
 pub returns-then-not-are_of_size-clause-refused : goal.returns-then-not-are_of_size-clause-refused
 returns-then-not-are_of_size-clause-refused c =
     rw c.err.ensures
-    (inr (refl, stranger_sized (leaf_content (Some (int_leaf int.U8))) (int_shape 1 false) (map (λ v. v.now) c.args.values.now)
-    (map (λ h. h.now) c.in_ok-held.held.items) c.in_ok-held.ensures.held 16
-    (subst (λ hs. All (λ l. length l ≡ 16) (map (λ h. h.now) hs) → ⊥) c.deref.ensures.value c.if-not-are_of_size.ensures)))
+    (inr (
+      refl,
+      stranger_sized (leaf_content (Some (int_leaf int.U8))) (int_shape 1 false) (map (λ v. v.now) c.args.values.now)
+          (map (λ h. h.now) c.in_ok-held.held.items) c.in_ok-held.ensures.held 16
+          (subst (λ hs. All (λ l. length l ≡ 16) (map (λ h. h.now) hs) → ⊥) c.deref.ensures.value c.if-not-are_of_size.ensures),
+    ))
 
 pub returns-clause-written : goal.returns-clause-written
 returns-clause-written c =

@@ -17,8 +17,11 @@ returns-in_err-rows-clause-refused c =
 pub returns-then-not-are_of_size-clause-refused : goal.returns-then-not-are_of_size-clause-refused
 returns-then-not-are_of_size-clause-refused c =
     rw c.err.ensures
-    (inr (refl, other_size (map (λ v. v.now) c.args.values.now) (map (λ r. r.now) c.in_ok-rows.rows.items) c.in_ok-rows.ensures.held
-    (subst (λ rs. All (λ l. length l ≡ 2) (map (λ r. r.now) rs) → ⊥) c.deref.ensures.value c.if-not-are_of_size.ensures)))
+    (inr (
+      refl,
+      other_size (map (λ v. v.now) c.args.values.now) (map (λ r. r.now) c.in_ok-rows.rows.items) c.in_ok-rows.ensures.held
+          (subst (λ rs. All (λ l. length l ≡ 2) (map (λ r. r.now) rs) → ⊥) c.deref.ensures.value c.if-not-are_of_size.ensures),
+    ))
 
 pub returns-in_err-seconds-clause-refused : goal.returns-in_err-seconds-clause-refused
 returns-in_err-seconds-clause-refused c =

@@ -13,7 +13,7 @@ pub returns-in_default : goal.returns-in_default
 returns-in_default c =
     let none = unit_none c.value-item.result.now c.in_default.not-Unit in
     let here = stranger_here (λ v. unit_content (out-Value v)) unit_shape (λ v. v.now) c.args.values.now c.loop-value.value-index c.value-item.result
-        c.loop-value-test.true c.value-item.is (λ d is of. let never : None ≡ Some d = sym none ∙ is in cc) in
+    c.loop-value-test.true c.value-item.is (λ d is of. let never : None ≡ Some d = sym none ∙ is in cc) in
     record { written = rw c.err.ensures tt; refused = rw c.err.ensures (inr (refl, here)) }
 
 pub loop-value-preserved : goal.loop-value-preserved

@@ -8,7 +8,7 @@ use Rattle.bitcode_schema.proofs.write.cases.maps.Goals as goal
 pub returns-in_default : goal.returns-in_default
 returns-in_default c =
     let here = other_here pairs_of (λ v. v.now) c.args.values.now c.loop-value.value-index c.value-item.result c.loop-value-test.true c.value-item.is
-        (pairs_none c.value-item.result.now c.in_default.not-Map) in
+    (pairs_none c.value-item.result.now c.in_default.not-Map) in
     record { held = rw c.err.ensures tt; refused = rw c.err.ensures (inr (refl, here)) }
 
 pub loop-value-preserved : goal.loop-value-preserved

@@ -9,7 +9,7 @@ use Rattle.bitcode_schema.proofs.write.gather.enum_variants.Goals as goal
 pub returns-then-variant-count-clause-refused : goal.returns-then-variant-count-clause-refused
 returns-then-variant-count-clause-refused c =
     let away = not_all (λ e. variant_in e < c.args.count) (λ h. (h.0, h.1.now)) c.args.enums.now c.loop-entry.entry-index c.entry-item.result c.loop-entry-test.true
-        c.entry-item.is (λ below. omega (arith, below, c.if-variant-count.true)) in
+    c.entry-item.is (λ below. omega (arith, below, c.if-variant-count.true)) in
     rw c.err.ensures (inr (refl, away))
 
 pub loop-entry-preserved : goal.loop-entry-preserved

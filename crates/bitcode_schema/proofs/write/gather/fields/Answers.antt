@@ -8,7 +8,7 @@ use Rattle.bitcode_schema.proofs.write.gather.fields.Goals as goal
 pub returns-in-None-clause-refused : goal.returns-in-None-clause-refused
 returns-in-None-clause-refused c =
     let here = other_here (λ row. slice_get row c.args.i) (λ r. r.now) c.args.rows.now c.loop-row.row-index c.row-item.result c.loop-row-test.true c.row-item.is
-        (none_there c.row-item.result.now c.args.i (sym c.in-None.ensures.lookup.0)) in
+    (none_there c.row-item.result.now c.args.i (sym c.in-None.ensures.lookup.0)) in
     rw c.err.ensures (inr (refl, here))
 
 pub loop-row-preserved : goal.loop-row-preserved
