@@ -1,16 +1,14 @@
 -- Values whose node allows only some entries of its column.
-use Rattle.std.proofs.Common.{◌≡◌, ◌<◌, ◌≤◌, ℕ, zero, suc, Bool, Option, Some, None, List, [], ◌∷◌, length, map, get_or, All, refl, sym, ap, subst, ◌∙◌, arith}
+use Rattle.std.proofs.Common.{◌≡◌, ◌<◌, ◌≤◌, ℕ, zero, suc, Bool, Option, Some, None, List, [], ◌∷◌, length, map, get_or, All, sym, ap, subst, ◌∙◌, arith}
 use Rattle.std.proofs.lemmas.List.Elements.{All-nil, All-cons, All-head, All-tail}
 use Rattle.bitcode_coder.specs.Columns.{texts}
-use Rattle.bitcode_shapes.specs.Checked.{nonzero_shape, nanosecond_shape, below_second}
-use Rattle.bitcode_shapes.specs.Datum.{Datum, number, number_in, text_in}
+use Rattle.bitcode_shapes.specs.Datum.{Datum, number_in, text_in}
 use Rattle.bitcode_shapes.specs.Ints.{int_shape}
-use Rattle.bitcode_shapes.specs.Shape.{Shape, Allowed, IsOf, IsAllowed, number_shape, text_shape, any_number}
+use Rattle.bitcode_shapes.specs.Shape.{Shape, Allowed, IsOf, IsAllowed, number_shape, text_shape}
 use Rattle.bitcode_untyped.specs.Leaves.{Leaf, leaf_of}
 use Rattle.bitcode_untyped.specs.declared.value.Value.{Value}
 use Rattle.bitcode_schema.specs.Allowing.{AsEntry, IsShort}
 use Rattle.bitcode_schema.specs.Forms.{leaf_content}
-use Rattle.bitcode_schema.specs.Leaves.{int_leaf}
 use Rattle.bitcode_schema.specs.Views.{Hold}
 use Rattle.bitcode_schema.specs.Writing.{AreOf, Writes, HasStranger}
 

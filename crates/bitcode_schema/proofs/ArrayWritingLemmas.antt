@@ -8,7 +8,7 @@ use Rattle.bitcode_coder.specs.Spelling.{columns_bytes}
 use Rattle.bitcode_coder.specs.Transposition.{columns_of, joined, array_columns}
 use Rattle.bitcode_coder.proofs.DatumLemmas.{joined_each}
 use Rattle.bitcode_schema.specs.Forms.{list_content}
-use Rattle.bitcode_schema.specs.Writing.{AreOf, Writes, HasStranger}
+use Rattle.bitcode_schema.specs.Writing.{Writes, HasStranger}
 use Rattle.bitcode_schema.proofs.HoldLemmas.{hold_length}
 use Rattle.bitcode_schema.proofs.ListWritingLemmas.{flat, listed, elements_held, counts_held}
 

@@ -1,5 +1,5 @@
 -- Options, results and enums as choices.
-use Rattle.std.proofs.Common.{◌≡◌, ◌<◌, ◌≤◌, ◌+◌, ◌++◌, ℕ, zero, suc, Option, Some, None, List, [], ◌∷◌, length, map, filter, slice_get, take, get_or, Global, true, All, refl, sym, ap, ap₂, subst, ◌∙◌, ◌==◌, arith}
+use Rattle.std.proofs.Common.{◌≡◌, ◌<◌, ◌≤◌, ◌+◌, ◌++◌, ℕ, zero, suc, Option, Some, None, List, [], ◌∷◌, length, map, slice_get, take, get_or, Global, true, All, refl, sym, ap, subst, ◌∙◌, ◌==◌, arith}
 use Rattle.std.proofs.Math.ListN.{get_or-map}
 use Rattle.std.proofs.lemmas.List.{length-map, length-take-le, map-append}
 use Rattle.std.proofs.lemmas.List.Folds.{list_all-map}
@@ -10,20 +10,20 @@ use Rattle.std.specs.declared.string.String.{String}
 use Rattle.std.proofs.lemmas.List.Elements.{All-nil, All-cons, All-head, All-tail, All-map}
 use Rattle.std.specs.Option.{option_map}
 use Rattle.bitcode_columns.specs.VariantColumn.{variant_text}
-use Rattle.bitcode_shapes.specs.Datum.{Datum, unit, choice}
+use Rattle.bitcode_shapes.specs.Datum.{Datum, unit}
 use Rattle.bitcode_shapes.specs.Shape.{Shape, IsOf, unit_shape, never_shape, choice_shape, no_shapes, shape_and}
 use Rattle.bitcode_untyped.specs.declared.value.Value.{Value}
 use Rattle.bitcode_schema.specs.Choosing.{Payload, shapes_from, payload_of, chosen, of_variant, WritesPayloads, option_variant, none_content, some_content}
 use Rattle.bitcode_coder.proofs.EachLemmas.{parts_more}
 use Rattle.bitcode_schema.specs.Depth.{depth, greatest, has_few_variants}
-use Rattle.bitcode_schema.specs.Forms.{Content, changed, choice_content, chosen_content, content_under, enum_content, enum_shape, parts_of, shape_of, shapes_of}
+use Rattle.bitcode_schema.specs.Forms.{Content, choice_content, chosen_content, enum_content, enum_shape, parts_of, shape_of, shapes_of}
 use Rattle.bitcode_schema.specs.Parts.{contents_of, option_content, payload_under, payloads_under}
-use Rattle.bitcode_schema.specs.Views.{Hold, option_of, enum_of, payload_in, variant_in, under}
+use Rattle.bitcode_schema.specs.Views.{Hold, option_of, payload_in, variant_in, under}
 use Rattle.bitcode_schema.specs.Writing.{Writes, HasStranger}
 use Rattle.bitcode_schema.specs.declared.schema.SchemaNode.{SchemaNode}
-use Rattle.bitcode_schema.proofs.ChoiceWritingLemmas.{writes_choices, stranger_of_variant, stranger_variant, filter-first, is_itself, same_number}
+use Rattle.bitcode_schema.proofs.ChoiceWritingLemmas.{writes_choices, stranger_of_variant, filter-first, is_itself}
 use Rattle.bitcode_schema.proofs.HoldLemmas.{hold_map, map_hold}
-use Rattle.bitcode_schema.proofs.SeenLemmas.{writes_seen, stranger_seen, stranger_other, writes_as, stranger_as, writes_mapped, stranger_mapped, writes_where, stranger_where}
+use Rattle.bitcode_schema.proofs.SeenLemmas.{writes_seen, stranger_seen, writes_as, stranger_as, writes_mapped, stranger_mapped, writes_where, stranger_where}
 use Rattle.bitcode_schema.proofs.UnitLemmas.{units_written}
 
 -- ---- the payloads of variants, one after another
@@ -161,11 +161,6 @@ pub several_shape : (nodes : List SchemaNode) → 2 ≤ length nodes → choice_
 several_shape [] most = absurd (omega (arith, most))
 several_shape (n ∷ []) most = absurd (omega (arith, most))
 several_shape (n ∷ m ∷ nodes) most = refl
-
-pub stranger_none : (s : Shape) (items : List (ℕ × Value)) → 0 < length items → HasStranger (λ e. enum_content [] e.0 e.1) s items
-stranger_none s [] some ds are = absurd (omega (arith, some))
-stranger_none s (e ∷ items) some [] are = absurd are.held
-stranger_none s (e ∷ items) some (d ∷ ds) are = let never : None ≡ Some d = are.held.0 in cc
 
 -- ---- nodes
 

@@ -1,9 +1,9 @@
 -- Choices are written as their variants, and then the payloads of each variant.
-use Rattle.std.proofs.Common.{◌≡◌, ℕ, zero, suc, ◌+◌, ◌<◌, ◌≤◌, Bool, true, false, ◌==◌, Option, Some, None, List, [], ◌∷◌, ◌++◌, length, map, filter, slice_get, refl, sym, ap, ap₂, subst, ◌∙◌, inl, inr, append_assoc, append-nil, arith, All}
+use Rattle.std.proofs.Common.{◌≡◌, ℕ, zero, suc, ◌+◌, ◌<◌, Bool, true, false, ◌==◌, Option, Some, None, List, [], ◌∷◌, ◌++◌, length, map, filter, slice_get, refl, sym, ap, ap₂, subst, ◌∙◌, inl, inr, append_assoc, append-nil, arith, All}
 use Rattle.std.proofs.lemmas.List.Elements.{All-nil, All-cons, All-head, All-tail}
 use Rattle.std.proofs.lemmas.Bool.{cases_Bool, eq-eqb, eqb-true}
 use Rattle.bitcode_shapes.specs.Datum.{Datum, choice, variant_in, payload_in, natural_in}
-use Rattle.bitcode_shapes.specs.Shape.{Shape, Shapes, no_shapes, shape_and, choice_shape, variant_count, IsOf, IsOfVariant, IsChoiceOf}
+use Rattle.bitcode_shapes.specs.Shape.{choice_shape, variant_count, IsOf, IsOfVariant, IsChoiceOf}
 use Rattle.bitcode_columns.specs.VariantColumn.{variant_text}
 use Rattle.bitcode_coder.specs.Columns.{CountsFit}
 use Rattle.bitcode_coder.specs.Spelling.{natural, columns_bytes}

@@ -1,14 +1,13 @@
 -- The content of a value under each node, by what the value holds.
-use Rattle.std.proofs.Common.{◌≡◌, ℕ, zero, suc, Option, Some, None, List, [], ◌∷◌, map, Box, Vec, Global, refl, sym, ap, ◌∙◌}
+use Rattle.std.proofs.Common.{◌≡◌, ℕ, Option, Some, None, List, [], ◌∷◌, map, Box, Vec, Global, refl, sym, ap, ◌∙◌}
 use Rattle.std.specs.declared.string.String.{String}
 use Rattle.std.specs.Float.{binary32, binary64}
 use Rattle.std.proofs.lemmas.Simd.{map-map}
-use Rattle.bitcode_shapes.specs.Datum.{Datum, unit, choice}
 use Rattle.bitcode_coder.specs.Columns.{bools, floats, texts}
 use Rattle.bitcode_untyped.specs.Leaves.{leaf_of, char_leaf, entry_of}
 use Rattle.bitcode_untyped.specs.declared.value.Value.{Value, out-Value}
 use Rattle.bitcode_untyped.specs.declared.value.Value.TheOpen.{Value-F}
-use Rattle.bitcode_schema.specs.Forms.{Form, Content, changed, list_content, pair_content, fields_content, choice_content, enum_content, span_contents, leaf_content, parts_of, contents_in, content_step, form_step, form_of, content_under}
+use Rattle.bitcode_schema.specs.Forms.{Form, list_content, pair_content, fields_content, choice_content, enum_content, span_contents, leaf_content, parts_of, contents_in, content_step, form_step, form_of, content_under}
 use Rattle.bitcode_schema.specs.Leaves.{int_leaf, datum_in}
 use Rattle.bitcode_schema.specs.Parts.{unit_content, option_content, contents_of}
 use Rattle.bitcode_schema.specs.Views.{seq_items, map_pairs, tuple_fields, option_held, enum_held, elements_of, pairs_of, fields_of, option_of, enum_of, under}

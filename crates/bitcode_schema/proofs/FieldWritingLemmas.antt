@@ -1,10 +1,10 @@
 -- The fields of rows are written by halves, down to one.
-use Rattle.std.proofs.Common.{◌≡◌, ◌<◌, ◌≤◌, ◌+◌, ◌/◌, ◌++◌, ℕ, zero, suc, true, List, [], ◌∷◌, length, map, take, drop, get_or, max, All, refl, sym, ap, ap₂, subst, ◌∙◌, arith, inl, inr}
+use Rattle.std.proofs.Common.{◌≡◌, ◌<◌, ◌≤◌, ◌+◌, ◌/◌, ◌++◌, ℕ, zero, suc, List, [], ◌∷◌, length, map, take, drop, get_or, sym, ap, ap₂, subst, ◌∙◌, arith}
 use Rattle.std.specs.List.{take-map, drop-map}
 use Rattle.std.proofs.lemmas.List.{map-append, length-map, length-take-le, take-append-drop}
 use Rattle.bitcode_shapes.specs.Shape.{Shape, unit_shape, pair_shape}
 use Rattle.bitcode_untyped.specs.declared.value.Value.{Value}
-use Rattle.bitcode_schema.specs.Depth.{depth, greatest, has_few_variants}
+use Rattle.bitcode_schema.specs.Depth.{depth, greatest}
 use Rattle.bitcode_schema.specs.Forms.{Content, content_under, shape_of, fields_shape}
 use Rattle.bitcode_schema.specs.Parts.{contents_of, row_content}
 use Rattle.bitcode_schema.specs.Writing.{Writes, HasStranger}

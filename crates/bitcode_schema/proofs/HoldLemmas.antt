@@ -1,10 +1,9 @@
 -- What each of several items holds.
-use Rattle.std.proofs.Common.{◌≡◌, ℕ, Option, Some, None, List, [], ◌∷◌, ◌++◌, length, map, refl, sym, ap, ap₂, ◌∙◌}
-use Rattle.std.specs.List.{flat_map}
-use Rattle.bitcode_shapes.specs.Datum.{Datum, list, data_of, pair}
+use Rattle.std.proofs.Common.{◌≡◌, Option, Some, None, List, [], ◌∷◌, ◌++◌, length, map, refl, sym, ap, ap₂, ◌∙◌}
+use Rattle.bitcode_shapes.specs.Datum.{Datum, list, data_of}
 use Rattle.bitcode_shapes.specs.LawfulLists.{zip_length}
-use Rattle.bitcode_schema.specs.Forms.{Content, changed, both, contents, contents_each, list_content}
-use Rattle.bitcode_schema.specs.Views.{Hold, HasOther, under}
+use Rattle.bitcode_schema.specs.Forms.{changed, both, contents, list_content}
+use Rattle.bitcode_schema.specs.Views.{Hold, under}
 
 pub some_same : {A : Type 0} {x y : A} → Some x ≡ Some y → x ≡ y
 some_same e = cc
@@ -41,14 +40,6 @@ module _ {A B : Type 0} (view : A → Option B) where
 
   pub hold_length : (xs : List A) (us : List B) → Hold view xs us → length xs ≡ length us
   hold_length xs us h = zip_length (λ x u. view x ≡ Some u) xs us h
-
-  -- one item has another case
-  pub other_front : (xs ys : List A) → HasOther view ys → HasOther view (xs ++ ys)
-  other_front xs ys other held h = let r = hold_parts xs ys held h in other r.back r.second
-
-  pub other_first : (x : A) (ys : List A) → view x ≡ None → HasOther view (x ∷ ys)
-  other_first x ys none [] h = h
-  other_first x ys none (u ∷ us) h = let e : None ≡ Some u = sym none ∙ h.0 in cc
 
 pub hold_same : {A B : Type 0} (view other : A → Option B) → ((a : A) → view a ≡ other a) → (xs : List A) (us : List B) → Hold view xs us → Hold other xs us
 hold_same view other same [] [] h = tt

@@ -1,7 +1,7 @@
 -- Lists are written as their lengths and then the elements of all of them.
-use Rattle.std.proofs.Common.{◌≡◌, ℕ, Option, Some, None, List, [], ◌∷◌, ◌++◌, length, map, refl, sym, ap, ap₂, subst, ◌∙◌, append_assoc, All}
+use Rattle.std.proofs.Common.{◌≡◌, ℕ, Option, List, [], ◌∷◌, ◌++◌, length, map, refl, sym, ap, ap₂, subst, ◌∙◌, append_assoc, All}
 use Rattle.std.specs.List.{flat_map}
-use Rattle.std.proofs.lemmas.List.Elements.{All-nil, All-cons, All-head, All-tail, All-append}
+use Rattle.std.proofs.lemmas.List.Elements.{All-nil, All-cons, All-head, All-tail}
 use Rattle.bitcode_shapes.specs.Datum.{Datum, list, data_of, elements_in, natural_in}
 use Rattle.bitcode_shapes.specs.LawfulLists.{list_of_data, elements_once}
 use Rattle.bitcode_shapes.specs.Shape.{Shape, IsOf, IsListOf, IsWithin, seq_shape}
@@ -13,8 +13,8 @@ use Rattle.bitcode_coder.proofs.DatumLemmas.{joined_each}
 use Rattle.bitcode_coder.proofs.LengthPartLemmas.{naturals_in}
 use Rattle.bitcode_schema.specs.Forms.{list_content}
 use Rattle.bitcode_schema.specs.Views.{Hold}
-use Rattle.bitcode_schema.specs.Writing.{AreOf, Writes, HasStranger}
-use Rattle.bitcode_schema.proofs.HoldLemmas.{HoldsParts, hold_parts, hold_length, hold-append, list_held, held_list}
+use Rattle.bitcode_schema.specs.Writing.{Writes, HasStranger}
+use Rattle.bitcode_schema.proofs.HoldLemmas.{hold_parts, hold_length, hold-append, list_held, held_list}
 
 abbrev pub flat : {A : Type 0} → List (List A) → List A
 flat lists = flat_map (λ l. l) lists

@@ -9,7 +9,7 @@ use Rattle.std.proofs.lemmas.Option.{slice_get_past}
 use lib.Dec.{ltb}
 use Rattle.bitcode_coder.proofs.EachLemmas.{parts_more}
 use Rattle.bitcode_schema.specs.Views.{Hold, HasOther}
-use Rattle.bitcode_schema.proofs.HoldLemmas.{hold-append, hold_parts}
+use Rattle.bitcode_schema.proofs.HoldLemmas.{hold-append}
 
 module _ {R A B : Type 0} (view : A → Option B) (seen : R → A) (values : List R) (i : ℕ) (value : R) (here : i < length values) (is : value ≡ get_or values i value) where
   pub more_held : {S : Type 0} (gives : S → B) (held : List S) (one : S) → Hold view (map seen (take i values)) (map gives held) → view (seen value) ≡ Some (gives one)

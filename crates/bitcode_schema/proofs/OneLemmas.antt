@@ -8,7 +8,7 @@ use Rattle.bitcode_coder.specs.Transposition.{columns_of}
 use Rattle.bitcode_shapes.specs.Datum.{Datum}
 use Rattle.bitcode_shapes.specs.Shape.{IsOf}
 use Rattle.bitcode_untyped.specs.declared.value.Value.{Value}
-use Rattle.bitcode_schema.specs.Encoding.{HasDatum, HasNoDatum, IsEncodingOf}
+use Rattle.bitcode_schema.specs.Encoding.{HasNoDatum, IsEncodingOf}
 use Rattle.bitcode_schema.specs.Forms.{content_under, shape_of}
 use Rattle.bitcode_schema.specs.Views.{Hold}
 use Rattle.bitcode_schema.specs.Writing.{Writes, HasStranger}

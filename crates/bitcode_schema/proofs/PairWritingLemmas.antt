@@ -9,7 +9,7 @@ use Rattle.bitcode_coder.specs.Transposition.{columns_of}
 use Rattle.bitcode_coder.proofs.DatumLemmas.{firsts_each, seconds_each}
 use Rattle.bitcode_schema.specs.Forms.{both}
 use Rattle.bitcode_schema.specs.Views.{Hold}
-use Rattle.bitcode_schema.specs.Writing.{AreOf, Writes, HasStranger}
+use Rattle.bitcode_schema.specs.Writing.{Writes, HasStranger}
 use Rattle.bitcode_schema.proofs.HoldLemmas.{some_same}
 
 both_of : {A B C : Type 0} (f : A → B → C) (o : Option A) (p : Option B) (c : C) → both f o p ≡ Some c

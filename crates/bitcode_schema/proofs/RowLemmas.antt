@@ -1,5 +1,5 @@
 -- The fields of rows, some of them or all.
-use Rattle.std.proofs.Common.{◌≡◌, ◌<◌, ◌≤◌, ◌+◌, ◌-◌, ◌/◌, ℕ, zero, suc, Option, Some, None, List, [], ◌∷◌, ◌++◌, length, map, take, drop, slice_get, get_or, All, refl, sym, ap, ap₂, subst, ◌∙◌, arith, length-append}
+use Rattle.std.proofs.Common.{◌≡◌, ◌<◌, ◌+◌, ◌/◌, ℕ, zero, suc, Option, Some, None, List, [], ◌∷◌, ◌++◌, length, take, drop, slice_get, get_or, All, refl, sym, ap, ap₂, ◌∙◌, arith, length-append}
 use Rattle.std.proofs.Math.Seq.{take-append_seam, drop-append_seam, take-length}
 use Rattle.std.proofs.lemmas.List.{drop-drop}
 use Rattle.std.proofs.lemmas.List.Elements.{All-nil, All-cons}

@@ -1,11 +1,11 @@
 -- Writing values through what they hold.
-use Rattle.std.proofs.Common.{◌≡◌, ◌⊎◌, inl, inr, ℕ, Option, List, [], ◌∷◌, map, All, refl, sym, ap, subst, ◌∙◌}
+use Rattle.std.proofs.Common.{◌≡◌, inl, inr, ℕ, Option, List, [], ◌∷◌, map, All, sym, subst, ◌∙◌}
 use Rattle.std.proofs.lemmas.List.Elements.{All-head, All-tail}
 use Rattle.bitcode_memory.specs.declared.error.Reason.{Reason}
 use Rattle.bitcode_shapes.specs.Datum.{Datum}
 use Rattle.bitcode_shapes.specs.Shape.{Shape}
 use Rattle.bitcode_schema.specs.Views.{Hold, HasOther, under}
-use Rattle.bitcode_schema.specs.Writing.{AreOf, Writes, HasStranger, IsRefusal}
+use Rattle.bitcode_schema.specs.Writing.{Writes, HasStranger, IsRefusal}
 use Rattle.bitcode_schema.proofs.HoldLemmas.{hold_same, hold_map, map_hold, hold_once, hold_under, hold_between}
 
 pub refusal_as : {S T : Type 0} (reason : Reason) → (S → T) → IsRefusal reason S → IsRefusal reason T

@@ -5,7 +5,7 @@ use Rattle.std.specs.Float.{binary32, binary64}
 use Rattle.std.proofs.lemmas.Simd.{map-map}
 use Rattle.bitcode_shapes.specs.Checked.{nanosecond_shape, nonzero_shape, char_shape}
 use Rattle.bitcode_shapes.specs.Ints.{int_shape}
-use Rattle.bitcode_shapes.specs.Shape.{Shape, unit_shape, never_shape, bool_shape, float_shape, text_shape, seq_shape, map_shape, array_shape, pair_shape, choice_shape, no_shapes, shape_and}
+use Rattle.bitcode_shapes.specs.Shape.{unit_shape, never_shape, bool_shape, float_shape, text_shape, seq_shape, map_shape, array_shape, pair_shape, choice_shape, no_shapes, shape_and}
 use Rattle.bitcode_schema.specs.Forms.{Form, form_of, form_step, shape_of, shape_step, shapes_in, parts_of, fields_shape, enum_shape}
 use Rattle.bitcode_schema.specs.Leaves.{width_of, is_signed}
 use Rattle.bitcode_schema.specs.declared.schema.IntKind.{IntKind}

@@ -1,5 +1,5 @@
 -- Values of one case, written by what they hold.
-use Rattle.std.proofs.Common.{◌≡◌, ◌<◌, ◌^◌, ◌++◌, ◌∷◌, [], ◌+◌, ◌/◌, ℕ, Option, Some, None, List, length, map, slice_get, All, refl, sym, subst}
+use Rattle.std.proofs.Common.{◌≡◌, ◌<◌, ◌^◌, ◌++◌, ◌∷◌, [], ◌+◌, ◌/◌, ℕ, Option, None, List, length, map, slice_get, All, refl, subst}
 use Rattle.bitcode_coder.specs.LengthColumn.{length_bytes}
 use Rattle.bitcode_shapes.specs.Datum.{Datum, pair}
 use Rattle.bitcode_shapes.specs.Shape.{Shape, array_shape, map_shape, pair_shape, seq_shape, IsWithin}

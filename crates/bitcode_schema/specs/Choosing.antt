@@ -1,8 +1,8 @@
 -- Items of one of several variants each.
-use Rattle.std.specs.Prelude.{◌≡◌, ℕ, suc, Option, Some, None, List, [], ◌∷◌, ◌==◌, length, map, filter, slice_get}
+use Rattle.std.specs.Prelude.{◌≡◌, ℕ, suc, Option, Some, None, List, [], ◌∷◌, ◌==◌, filter, slice_get}
 use Rattle.bitcode_shapes.specs.Datum.{Datum, unit, choice}
 use Rattle.bitcode_shapes.specs.Shape.{Shape, Shapes, no_shapes, shape_and}
-use Rattle.bitcode_schema.specs.Forms.{Content, changed}
+use Rattle.bitcode_schema.specs.Forms.{changed}
 use Rattle.bitcode_schema.specs.Writing.{Writes}
 
 -- the payload that an item of a variant has, and its shape

@@ -1,5 +1,5 @@
 -- What a node means: which data its columns hold, and which datum a value holds.
-use Rattle.std.specs.Prelude.{◌≡◌, ℕ, zero, suc, false, Option, Some, None, List, [], ◌∷◌, map, slice_get}
+use Rattle.std.specs.Prelude.{ℕ, zero, suc, false, Option, Some, None, List, [], ◌∷◌, map, slice_get}
 use Rattle.std.specs.Float.{binary32, binary64}
 use Rattle.bitcode_shapes.specs.Checked.{nanosecond_shape, nonzero_shape, char_shape}
 use Rattle.bitcode_shapes.specs.Datum.{Datum, unit, list, choice, pair, data_of}
@@ -158,7 +158,3 @@ shape_of node = (form_of node).shape
 -- the datum of a value of a node, if the value has the form of the node; limits and numbers are left to the shape
 abbrev pub content_under : SchemaNode → Value → Option Datum
 content_under node = (form_of node).content
-
--- The datum makes the value: it is the value's own.
-abbrev pub MakesValue : SchemaNode → Datum → Value → Type 0
-MakesValue node d value = content_under node value ≡ Some d

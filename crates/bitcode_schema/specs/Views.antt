@@ -1,5 +1,5 @@
 -- What a value holds, by its case.
-use Rattle.std.specs.Prelude.{◌≡◌, ℕ, Option, Some, None, List, [], ◌∷◌}
+use Rattle.std.specs.Prelude.{◌≡◌, ℕ, Option, Some, None, List}
 use Rattle.std.specs.List.{AllZip}
 use Rattle.std.specs.declared.alloc.Global.{Global}
 use Rattle.std.specs.declared.boxed.Box.{Box}
@@ -19,10 +19,6 @@ map_pairs _ = None
 abbrev pub tuple_fields : Value-F Value → Option (List Value)
 tuple_fields (Value-F.Tuple values) = Some values.items
 tuple_fields _ = None
-
-abbrev pub plain_bytes : Value-F Value → Option (List ℕ)
-plain_bytes (Value-F.Bytes bytes) = Some bytes.items
-plain_bytes _ = None
 
 abbrev pub boxed : Option (Box Value Global) → Option Value
 boxed None = None
@@ -50,9 +46,6 @@ pairs_of value = map_pairs (out-Value value)
 -- the fields of a tuple
 abbrev pub fields_of : Value → Option (List Value)
 fields_of value = tuple_fields (out-Value value)
-
-abbrev pub bytes_of : Value → Option (List ℕ)
-bytes_of value = plain_bytes (out-Value value)
 
 -- what an option holds, if it holds a value
 abbrev pub option_of : Value → Option (Option Value)

@@ -1,5 +1,6 @@
 //! Writing the columns of several values of one node.
-ghost use Rattle.std.specs.Prelude.{◌≡◌, ◌+◌, ◌^◌, ◌<◌, ◌≤◌, Some, None, [], ◌∷◌, length, map, true, false, All, OnOk, IfOk, IfErr};
+ghost use Rattle.std.specs.Prelude.{◌≡◌, ◌+◌, ◌^◌, ◌<◌, ◌≤◌, Some, None, [], ◌∷◌, length, map, true, false, All};
+ghost use Rattle.std.specs.Prelude.{OnOk, IfOk, IfErr};
 ghost use Rattle.bitcode_coder.specs.Columns.{texts};
 ghost use Rattle.bitcode_memory.specs.declared.error.Reason.TheVariants.{OutOfMemory};
 ghost use Rattle.bitcode_shapes.specs.Checked.{nonzero_shape, nanosecond_shape};
@@ -15,7 +16,8 @@ ghost use Rattle.bitcode_schema.specs.Forms.{Content, fields_shape, leaf_content
 ghost use Rattle.bitcode_schema.specs.Forms.{parts_of, span_contents};
 ghost use Rattle.bitcode_schema.specs.Forms.{shape_of};
 ghost use Rattle.bitcode_schema.specs.Leaves.{int_leaf, is_signed, width_of};
-ghost use Rattle.bitcode_schema.specs.Parts.{choice_under, contents_of, enum_under, option_content, payloads_under, row_content, unit_content};
+ghost use Rattle.bitcode_schema.specs.Parts.{choice_under, contents_of, enum_under, option_content, payloads_under};
+ghost use Rattle.bitcode_schema.specs.Parts.{row_content, unit_content};
 ghost use Rattle.bitcode_schema.specs.Views.{elements_of, enum_of, fields_of, option_of, pairs_of, under, variant_in};
 ghost use Rattle.bitcode_schema.specs.Writing.{HasStranger, IsRefusal, Writes};
 ghost use Rattle.bitcode_schema.specs.declared.schema.IntKind.TheVariants as int;

@@ -83,7 +83,8 @@ pub fn options<'a>(
 /// The variant of each enum, and its payload.
 pub fn enums<'a>(alloc: Global, values: &[&'a Value]) -> Result<Vec<(u32, &'a Value)>, Error>
     ensures held { IfOk result
-        (λ held. Hold enum_of (map (λ v. v.now) values.now) (map (λ h. (h.0, h.1.now)) held.items)) }
+        (λ held. Hold enum_of (map (λ v. v.now) values.now)
+        (map (λ h. (h.0, h.1.now)) held.items)) }
     ensures refused { IfErr result
         (λ e. IsRefusal e.reason (HasOther enum_of (map (λ v. v.now) values.now))) }
 {

@@ -1,5 +1,6 @@
 //! The parts of what several values hold, in order.
-ghost use Rattle.std.specs.Prelude.{◌≡◌, ◌++◌, ◌<◌, ◌≤◌, ℕ, All, Some, length, map, slice_get, IfOk, OnOk, IfErr, MatchBool};
+ghost use Rattle.std.specs.Prelude.{◌≡◌, ◌++◌, ◌<◌, ◌≤◌, ℕ, All, Some, length, map, slice_get, IfOk, OnOk, IfErr};
+ghost use Rattle.std.specs.Prelude.{MatchBool};
 ghost use Rattle.bitcode_shapes.specs.Shape.{IsWithin};
 ghost use Rattle.std.specs.List.{flat_map};
 ghost use Rattle.bitcode_memory.specs.declared.error.Reason.TheVariants.{OutOfMemory};

@@ -42,7 +42,8 @@ impl InCase for bool {
         }
     }
 
-    ghost laws = { case_laws _ _ _ _ (λ t. Value-F.Bool t) (λ t. truth t) value.rolls-Bool (λ t. refl)
+    ghost laws = { case_laws _ _ _ _ (λ t. Value-F.Bool t) (λ t. truth t)
+        value.rolls-Bool (λ t. refl)
         (λ t d is. is) (λ ds. refl) (λ ds. tt) (λ d. refl) };
 }
 
@@ -74,7 +75,8 @@ impl InCase for u16 {
         }
     }
 
-    ghost laws = { case_laws _ _ _ _ (λ t. Value-F.U16 t) (λ t. natural t) value.rolls-U16 (λ t. refl)
+    ghost laws = { case_laws _ _ _ _ (λ t. Value-F.U16 t) (λ t. natural t)
+        value.rolls-U16 (λ t. refl)
         (λ t d is. is) (λ ds. refl) (λ ds. tt) (λ d. refl) };
 }
 
@@ -90,7 +92,8 @@ impl InCase for u32 {
         }
     }
 
-    ghost laws = { case_laws _ _ _ _ (λ t. Value-F.U32 t) (λ t. natural t) value.rolls-U32 (λ t. refl)
+    ghost laws = { case_laws _ _ _ _ (λ t. Value-F.U32 t) (λ t. natural t)
+        value.rolls-U32 (λ t. refl)
         (λ t d is. is) (λ ds. refl) (λ ds. tt) (λ d. refl) };
 }
 
@@ -106,7 +109,8 @@ impl InCase for u64 {
         }
     }
 
-    ghost laws = { case_laws _ _ _ _ (λ t. Value-F.U64 t) (λ t. natural t) value.rolls-U64 (λ t. refl)
+    ghost laws = { case_laws _ _ _ _ (λ t. Value-F.U64 t) (λ t. natural t)
+        value.rolls-U64 (λ t. refl)
         (λ t d is. is) (λ ds. refl) (λ ds. tt) (λ d. refl) };
 }
 
@@ -122,7 +126,8 @@ impl InCase for u128 {
         }
     }
 
-    ghost laws = { case_laws _ _ _ _ (λ t. Value-F.U128 t) (λ t. natural t) value.rolls-U128 (λ t. refl)
+    ghost laws = { case_laws _ _ _ _ (λ t. Value-F.U128 t) (λ t. natural t)
+        value.rolls-U128 (λ t. refl)
         (λ t d is. is) (λ ds. refl) (λ ds. tt) (λ d. refl) };
 }
 
@@ -154,7 +159,8 @@ impl InCase for i16 {
         }
     }
 
-    ghost laws = { case_laws _ _ _ _ (λ t. Value-F.I16 t) (λ t. number t) value.rolls-I16 (λ t. refl)
+    ghost laws = { case_laws _ _ _ _ (λ t. Value-F.I16 t) (λ t. number t)
+        value.rolls-I16 (λ t. refl)
         (λ t d is. is) (λ ds. refl) (λ ds. tt) (λ d. refl) };
 }
 
@@ -170,7 +176,8 @@ impl InCase for i32 {
         }
     }
 
-    ghost laws = { case_laws _ _ _ _ (λ t. Value-F.I32 t) (λ t. number t) value.rolls-I32 (λ t. refl)
+    ghost laws = { case_laws _ _ _ _ (λ t. Value-F.I32 t) (λ t. number t)
+        value.rolls-I32 (λ t. refl)
         (λ t d is. is) (λ ds. refl) (λ ds. tt) (λ d. refl) };
 }
 
@@ -186,7 +193,8 @@ impl InCase for i64 {
         }
     }
 
-    ghost laws = { case_laws _ _ _ _ (λ t. Value-F.I64 t) (λ t. number t) value.rolls-I64 (λ t. refl)
+    ghost laws = { case_laws _ _ _ _ (λ t. Value-F.I64 t) (λ t. number t)
+        value.rolls-I64 (λ t. refl)
         (λ t d is. is) (λ ds. refl) (λ ds. tt) (λ d. refl) };
 }
 
@@ -202,7 +210,8 @@ impl InCase for i128 {
         }
     }
 
-    ghost laws = { case_laws _ _ _ _ (λ t. Value-F.I128 t) (λ t. number t) value.rolls-I128 (λ t. refl)
+    ghost laws = { case_laws _ _ _ _ (λ t. Value-F.I128 t) (λ t. number t)
+        value.rolls-I128 (λ t. refl)
         (λ t d is. is) (λ ds. refl) (λ ds. tt) (λ d. refl) };
 }
 
@@ -218,7 +227,8 @@ impl InCase for f32 {
         }
     }
 
-    ghost laws = { case_laws _ _ _ _ (λ t. Value-F.F32 t) (λ t. number (float_number binary32 t)) value.rolls-F32 (λ t. refl)
+    ghost laws = { case_laws _ _ _ _ (λ t. Value-F.F32 t) (λ t. number (float_number binary32 t))
+        value.rolls-F32 (λ t. refl)
         (λ t d is. is) (λ ds. refl) (λ ds. tt) (λ d. refl) };
 }
 
@@ -234,7 +244,8 @@ impl InCase for f64 {
         }
     }
 
-    ghost laws = { case_laws _ _ _ _ (λ t. Value-F.F64 t) (λ t. number (float_number binary64 t)) value.rolls-F64 (λ t. refl)
+    ghost laws = { case_laws _ _ _ _ (λ t. Value-F.F64 t) (λ t. number (float_number binary64 t))
+        value.rolls-F64 (λ t. refl)
         (λ t d is. is) (λ ds. refl) (λ ds. tt) (λ d. refl) };
 }
 
@@ -250,7 +261,8 @@ impl InCase for char {
         }
     }
 
-    ghost laws = { case_laws _ _ _ _ (λ t. Value-F.Char t) (λ t. natural t) value.rolls-Char (λ t. refl)
+    ghost laws = { case_laws _ _ _ _ (λ t. Value-F.Char t) (λ t. natural t)
+        value.rolls-Char (λ t. refl)
         (λ t d is. is) (λ ds. refl) (λ ds. tt) (λ d. refl) };
 }
 
@@ -266,6 +278,7 @@ impl InCase for String {
         }
     }
 
-    ghost laws = { case_laws _ _ _ _ (λ t. Value-F.Str t) (λ t. text (string_bytes t)) value.rolls-Str (λ t. refl)
+    ghost laws = { case_laws _ _ _ _ (λ t. Value-F.Str t) (λ t. text (string_bytes t))
+        value.rolls-Str (λ t. refl)
         (λ t d is. is) (λ ds. refl) (λ ds. tt) (λ d. refl) };
 }

@@ -1,5 +1,5 @@
 -- By the node, and part by part.
-use Rattle.std.proofs.Common.{◌≡◌, ◌<◌, ◌≤◌, ◌^◌, ◌+◌, ◌/◌, false, ◌∷◌, ◌++◌, [], true, None, Some, inr, refl, map, length, max, take, drop, slice_get, ap, sym, subst, All, ◌∙◌, arith}
+use Rattle.std.proofs.Common.{◌≡◌, ◌<◌, ◌≤◌, ◌^◌, ◌+◌, ◌/◌, false, ◌∷◌, ◌++◌, [], true, None, Some, inr, refl, map, length, max, take, ap, sym, subst, All, ◌∙◌, arith}
 use Rattle.std.specs.List.{flat_map, take-map, drop-map}
 use Rattle.std.proofs.lemmas.Bool.{eqb-true, eqb-false, leb-true}
 use Rattle.bitcode_shapes.specs.LawfulPairs.{both as and_both}
@@ -24,7 +24,7 @@ use Rattle.bitcode_schema.specs.Choosing.{chosen, of_variant, option_variant, sh
 use Rattle.bitcode_schema.specs.Depth.{depth, greatest, has_few_variants, most_variants}
 use Rattle.bitcode_schema.specs.Forms.{content_under, enum_shape, parts_of, shape_of, fields_shape, fields_content, leaf_content, list_content, pair_content, span_contents}
 use Rattle.bitcode_schema.specs.Parts.{choice_under, contents_of, enum_under, option_content, payload_under, payloads_under, row_content, unit_content}
-use Rattle.bitcode_schema.specs.Views.{Hold, HasOther, boxed, key_in, value_in, variant_in, payload_in, option_of, enum_of, elements_of, pairs_of, fields_of, under}
+use Rattle.bitcode_schema.specs.Views.{boxed, key_in, value_in, variant_in, payload_in, option_of, enum_of, elements_of, pairs_of, fields_of, under}
 use Rattle.bitcode_schema.specs.Writing.{Writes, HasStranger}
 use Rattle.bitcode_schema.proofs.FieldWritingLemmas.{front_deep, back_deep, fields_written, front_stranger, back_stranger, only_one}
 use Rattle.bitcode_schema.proofs.SeenLemmas.{refusal_as, stranger_other, writes_seen, stranger_seen, writes_as, stranger_as, writes_mapped, stranger_mapped}

@@ -1,5 +1,5 @@
 -- Some value is there.
-use Rattle.std.proofs.Common.{◌<◌, ℕ, length, map, inr, refl, arith, sym}
+use Rattle.std.proofs.Common.{length, map, inr, refl, arith, sym}
 use Rattle.std.proofs.lemmas.Bool.{eqb-false}
 use Rattle.std.proofs.lemmas.List.{length-map}
 use Rattle.bitcode_schema.proofs.CaseWritingLemmas.{stranger_never}

@@ -1,5 +1,5 @@
 -- A value of another case ends the loop.
-use Rattle.std.proofs.Common.{Some, inr, refl, sym, ap, ◌∙◌}
+use Rattle.std.proofs.Common.{inr, refl}
 use Rattle.bitcode_schema.specs.Views.{option_of, boxed}
 use Rattle.bitcode_schema.proofs.CaseLemmas.{option_held, option_none}
 use Rattle.bitcode_schema.proofs.LoopLemmas.{more_held, other_here}

@@ -1,5 +1,5 @@
 -- A variant that is none of the enum's ends the loop.
-use Rattle.std.proofs.Common.{◌≡◌, ◌<◌, ◌++◌, ◌∷◌, [], map, take, inr, refl, sym, ap, ◌∙◌, arith}
+use Rattle.std.proofs.Common.{◌<◌, ◌++◌, ◌∷◌, [], map, inr, refl, sym, ap, ◌∙◌, arith}
 use Rattle.std.proofs.lemmas.List.{map-append}
 use Rattle.bitcode_coder.proofs.EachLemmas.{parts_more}
 use Rattle.bitcode_schema.specs.Views.{variant_in}

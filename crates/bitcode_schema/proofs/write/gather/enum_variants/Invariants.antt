@@ -1,6 +1,6 @@
 -- The variants of the enums so far.
 use Rattle.std.proofs.Common.{◌≡◌, ◌<◌, All, map, take}
-use Rattle.bitcode_schema.specs.Views.{variant_in, payload_in}
+use Rattle.bitcode_schema.specs.Views.{variant_in}
 use Rattle.bitcode_schema.proofs.write.gather.enum_variants.Given as goal
 
 abbrev pub invariant-loop-entry : goal.invariant-loop-entry

@@ -1,5 +1,5 @@
 -- A row without the field ends the loop.
-use Rattle.std.proofs.Common.{slice_get, length, inr, refl, sym, ◌∙◌}
+use Rattle.std.proofs.Common.{slice_get, length, inr, refl, sym}
 use Rattle.std.proofs.lemmas.Bool.{ltb-true}
 use Rattle.std.proofs.lemmas.Option.{slice_get_read}
 use Rattle.bitcode_schema.proofs.LoopLemmas.{more_held, other_here, none_there}

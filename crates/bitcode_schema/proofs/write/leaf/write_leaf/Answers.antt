@@ -1,5 +1,5 @@
 -- Each value has the case, and one column never overflows.
-use Rattle.std.proofs.Common.{◌≡◌, Some, length, map, take, inl, inr, refl, sym, ap, ◌∙◌, subst, arith}
+use Rattle.std.proofs.Common.{◌≡◌, length, map, take, inr, refl, sym, ap, ◌∙◌, subst, arith}
 use Rattle.std.proofs.Math.Seq.{take-length}
 use Rattle.std.proofs.lemmas.Result.{err_from_is_err_and, on_ok_weaker}
 use Rattle.std.proofs.lemmas.Option.{slice_get_read, slice_get-map}
