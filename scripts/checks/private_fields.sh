@@ -24,7 +24,7 @@ fn main(rt: HostRuntime) -> Result<(), Error> {
 PROGRAM
   rm -rf "$work/crates/stranger" && sed -i '/^stranger: /d' "$work/crates.txt"
   add_program "$work" stranger "$work/main.rt" "bitcode bitcode_private_types" || exit 2
-  (cd "$work/crates/stranger" && "$try" --steps 1000 --seconds 600 >"$work/log" 2>&1)
+  (cd "$work/crates/stranger" && "$try" --steps 1000 --seconds 7200 >"$work/log" 2>&1)
   grep -qF "$reason" "$work/log" || { echo "private_fields: $line: $(grep -m 1 -E 'error|run=' "$work/log")"; wrong=1; }
 done <<'LINES'
 field `fields` of struct `Decoded` is private|let _p: Percent = FromDecoded::from_decoded(Decoded { fields: 200u8 });

@@ -16,6 +16,6 @@ done < <(cd "$work/kept" && find . -type f)
 . scripts/libraries.sh
 copy_libraries "$work" || exit 2
 add_program "$work" random_values scripts/recursive_types/values.txt "$(sed -n 's/^bitcode_recursive_types: //p' crates.txt) bitcode_recursive_types anyhow" || exit 2
-(cd "$work/crates/random_values" && "$try" --steps 1000 --seconds 600 >"$work/log" 2>&1)
+(cd "$work/crates/random_values" && "$try" --optimized --steps 1000 --seconds 7200 >"$work/log" 2>&1)
 grep -q '^10000 values came back$' "$work/log" && grep -q 'checked: ended status=0' "$work/log" || { grep -m 5 -E 'error|status=|run=' "$work/log" | sed 's/^/second_format: /'; wrong=1; }
 exit "$wrong"
