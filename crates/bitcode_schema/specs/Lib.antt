@@ -3,3 +3,5 @@ pub mod Leaves
 pub mod Forms
 pub mod FormRows
 pub mod Depth
+pub mod Reading
+pub mod Variants
