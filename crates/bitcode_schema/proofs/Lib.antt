@@ -1,1 +1,9 @@
 pub mod NodeLemmas
+pub mod ShapeLemmas
+pub mod PartLemmas
+pub mod LimitLemmas
+pub mod VariantLemmas
+pub mod FieldLemmas
+pub mod SequenceLemmas
+pub mod ChoiceLemmas
+pub mod CheckLemmas

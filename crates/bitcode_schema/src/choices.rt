@@ -1,8 +1,7 @@
 //! The column of variants of an enum whose number of variants is known only at run time.
-ghost use Rattle.std.specs.Prelude.{◌≡◌, ◌<◌, ◌≤◌, ◌-◌, ◌++◌, ◌↔◌, ℕ, length, All, slice_index_or, IsTrue, IfOk, IfErr, OnOk};
+ghost use Rattle.std.specs.Prelude.{◌≡◌, ◌≤◌, ◌++◌, ◌↔◌, nat_lt, IsTrue, IfOk, IfErr, OnOk};
+ghost use Rattle.std.specs.List.{list_all};
 ghost use Rattle.bitcode_memory.specs.Fast.{cow_rest};
-ghost use Rattle.bitcode_memory.specs.declared.error.Reason.{Reason};
-ghost use Rattle.bitcode_columns.specs.Digits.{base_for};
 ghost use Rattle.bitcode_columns.specs.Histogram.{count_of};
 ghost use Rattle.bitcode_columns.specs.Reading.{Reads};
 ghost use Rattle.bitcode_columns.specs.VariantColumn.{SpellsVariants, variant_text};
@@ -61,6 +60,13 @@ fn read_digits<'a>(
     }
 }
 
+// Whether each entry is below the number of variants.
+fn are_below(entries: &[u8], count: usize) -> bool
+    ensures { result ≡ list_all (λ entry. nat_lt entry count) entries.now }
+{
+    entries.iter().all(|entry| (*entry as usize) < count)
+}
+
 /// Reads `k` variants of an enum of so many variants.
 pub(crate) fn read_variants<'a>(
     alloc: Global,
@@ -79,7 +85,7 @@ pub(crate) fn read_variants<'a>(
     ensures refused { IfErr result (λ e. NamesVariantsFault count e.reason k input.old.now) }
 {
     let written = read_digits(alloc, input, k, count, out, strict)?;
-    if !out.as_slice().iter().all(|entry| (*entry as usize) < count) {
+    if !are_below(out.as_slice(), count) {
         return err(Reason::InvalidPacking);
     }
     Ok(written)

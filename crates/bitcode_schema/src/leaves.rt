@@ -8,9 +8,10 @@ ghost use Rattle.bitcode_coder.specs.FirstFault.{IsFirstFault};
 ghost use Rattle.bitcode_schema.specs.Leaves.{width_of, is_signed};
 ghost use Rattle.bitcode_schema.specs.Reading.{ReadsData};
 
-use crate::limits::any_over;
+use crate::limits::exceed;
 use crate::schema::IntKind;
 use bitcode_coder::coder::{View, both};
+use bitcode_coder::length::LengthDecoder;
 use bitcode_coder::str::StrDecoder;
 use bitcode_ints::checked::CheckedIntDecoder;
 use bitcode_ints::int::IntDecoder;
@@ -153,9 +154,11 @@ pub(crate) fn read_texts<'a>(
     ensures exact { IfErr result
         (λ e. IsFirstFault (text_shape (Some limit)) e.reason k input.old.now) }
 {
-    let before = *input;
+    let mut bytes = *input;
+    let mut lengths = LengthDecoder::new(alloc);
+    lengths.populate(&mut bytes, k)?;
     let written = read_leaf::<StrDecoder>(alloc, input, k, strict)?;
-    if any_over(alloc, before, k, limit)? {
+    if exceed(&mut lengths, k, limit) {
         return err(Reason::InvalidArrayString);
     }
     Ok(written)

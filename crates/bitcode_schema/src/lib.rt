@@ -1,6 +1,7 @@
 //! Schemas that are made at run time.
 #![tactic(auto)]
 
+pub mod check;
 mod choices;
 mod leaves;
 mod limits;

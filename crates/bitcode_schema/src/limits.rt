@@ -1,32 +1,52 @@
-//! Limits on lengths.
-ghost use Rattle.std.specs.Prelude.{◌≡◌, ℕ, ◌≤◌, Some, List, All, MatchBool, IfOk, IfErr, IsTrue, IsFalse};
-ghost use Rattle.bitcode_coder.specs.LengthColumn.{KeepsCap, lengths_from};
-ghost use Rattle.bitcode_coder.specs.LengthParts.{ReadsParts, NamesLengthFault};
-ghost use Rattle.bitcode_schema.specs.Variants.{BreaksCap, KeepsToCap};
+//! Limits on lengths that are known only at run time.
+#![tactic(auto, unfolding(bitcode_coder::specs::Length::short_left, bitcode_coder::specs::Length::lengths_left))]
+
+ghost use Rattle.std.specs.Prelude.{◌≡◌, ◌≤◌, Some, length, All, MatchBool};
+ghost use Rattle.bitcode_coder.specs.Length.{short_left, lengths_left};
+ghost use Rattle.bitcode_coder.specs.LengthColumn.{KeepsCap};
 
 use bitcode_coder::length::LengthDecoder;
-use bitcode_memory::error::Error;
-use std::alloc::Global;
 
-// A limit below it applies to the short bytes of lengths, so that each large length exceeds it.
+// The byte of a length column that announces a large length.
 const ESCAPE: usize = 255;
 
-/// Whether a length of the column at the front of the bytes exceeds a limit.
-pub(crate) fn any_over(alloc: Global, bytes: &[u8], k: usize, limit: usize) -> Result<bool, Error>
-    ensures over { IfOk result (λ over. IsTrue over → BreaksCap limit k bytes.now) }
-    ensures within { IfOk result (λ over. IsFalse over → KeepsToCap limit k bytes.now) }
-    ensures refused { IfErr result (λ e. NamesLengthFault e.reason k bytes.now) }
+// Whether one of the `k` lengths is over the limit.
+fn is_any_over(lengths: &mut LengthDecoder<'_>, k: usize, limit: usize) -> bool
+    requires { length (lengths_left lengths.old) ≡ k }
+    ensures { MatchBool result (All (λ n. n ≤ limit) (lengths_left lengths.old) → ⊥)
+        (All (λ n. n ≤ limit) (lengths_left lengths.old)) }
 {
-    let mut input = bytes;
-    let mut lengths = LengthDecoder::new(alloc);
-    lengths.populate(&mut input, k)?;
-    if limit < ESCAPE && lengths.any_greater_than::<254>() {
-        return Ok(true);
-    }
     for _ in 0..k {
         if lengths.decode() > limit {
-            return Ok(true);
+            return true;
         }
     }
-    Ok(false)
+    false
+}
+
+// The same of a limit below 255, which every large length exceeds.
+fn exceed_short(lengths: &mut LengthDecoder<'_>, k: usize, limit: usize) -> bool
+    requires { length (lengths_left lengths.old) ≡ k }
+    ensures { MatchBool result
+        (KeepsCap (Some 254) (short_left lengths.old) (lengths_left lengths.old)
+        × All (λ n. n ≤ limit) (lengths_left lengths.old) → ⊥)
+        (KeepsCap (Some 254) (short_left lengths.old) (lengths_left lengths.old)
+        × All (λ n. n ≤ limit) (lengths_left lengths.old)) }
+{
+    lengths.any_greater_than::<254>() || is_any_over(lengths, k, limit)
+}
+
+/// Whether one of the `k` lengths that were read exceeds the limit. A limit below 255 applies to the short bytes, so
+/// that every large length exceeds it.
+pub(crate) fn exceed(lengths: &mut LengthDecoder<'_>, k: usize, limit: usize) -> bool
+    requires { length (lengths_left lengths.old) ≡ k }
+    ensures { MatchBool result
+        (KeepsCap (Some limit) (short_left lengths.old) (lengths_left lengths.old) → ⊥)
+        (KeepsCap (Some limit) (short_left lengths.old) (lengths_left lengths.old)) }
+{
+    if limit < ESCAPE {
+        exceed_short(lengths, k, limit)
+    } else {
+        is_any_over(lengths, k, limit)
+    }
 }

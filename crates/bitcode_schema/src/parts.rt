@@ -29,7 +29,10 @@ impl SchemaNode {
             → IfSome result (λ node. has_few_variants node.now ≡ true) }
     {
         match self {
-            SchemaNode::Tuple(fields) => fields.get(i),
+            SchemaNode::Tuple(fields) => match fields.get(i) {
+                Some(field) => Some(field),
+                None => None,
+            },
             SchemaNode::Struct(fields) => match fields.get(i) {
                 Some(field) => Some(&field.1),
                 None => None,

@@ -11,7 +11,7 @@ use crate::choices::{read_variants, times};
 use crate::leaves::{
     read_durations, read_ints, read_leaf, read_nonzeros, read_nothing, read_texts, read_uuids,
 };
-use crate::limits::any_over;
+use crate::limits::exceed;
 use crate::schema::SchemaNode;
 use bitcode_coder::bool::BoolDecoder;
 use bitcode_coder::coder::both;
@@ -58,9 +58,8 @@ pub(crate) fn read<'a>(
         SchemaNode::Str(Some(limit)) => read_texts(alloc, *limit, input, k, strict),
         SchemaNode::Duration => read_durations(alloc, input, k, strict),
         SchemaNode::Uuid => read_uuids(alloc, input, k, strict),
-        SchemaNode::List(None, element) => read_lists(alloc, element, input, k, strict),
-        SchemaNode::List(Some(limit), element) => {
-            read_limited(alloc, *limit, element, input, k, strict)
+        SchemaNode::List(capacity, element) => {
+            read_lists(alloc, *capacity, element, input, k, strict)
         }
         SchemaNode::Map(key, value) => read_maps(alloc, key, value, input, k, strict),
         SchemaNode::Array(size, element) => read_arrays(alloc, *size, element, input, k, strict),
@@ -76,10 +75,11 @@ pub(crate) fn read<'a>(
     }
 }
 
-// Reads `k` lists.
+// Reads `k` lists, of at most so many elements if there is a capacity.
 #[cycle(read)]
 fn read_lists<'a>(
     alloc: Global,
+    capacity: Option<usize>,
     element: &SchemaNode,
     input: &mut &'a [u8],
     k: usize,
@@ -87,38 +87,19 @@ fn read_lists<'a>(
 ) -> Result<bool, Error>
     requires few { has_few_variants element.now ≡ true }
     ensures read { IfOk result
-        (ReadsData (seq_shape None (shape_of element.now)) k strict input.old.now input.new.now) }
+        (ReadsData (seq_shape capacity (shape_of element.now)) k strict input.old.now input.new.now) }
     ensures exact { IfErr result
-        (λ e. IsFirstFault (seq_shape None (shape_of element.now)) e.reason k input.old.now) }
+        (λ e. IsFirstFault (seq_shape capacity (shape_of element.now)) e.reason k input.old.now) }
 {
     let mut lengths = LengthDecoder::new(alloc);
     let lengths_written = lengths.read(input, k, strict)?;
     let elements_written = read(alloc, element, input, lengths.length(), strict)?;
-    Ok(both(lengths_written, elements_written))
-}
-
-// Reads `k` lists of at most so many elements.
-#[cycle(read)]
-fn read_limited<'a>(
-    alloc: Global,
-    limit: usize,
-    element: &SchemaNode,
-    input: &mut &'a [u8],
-    k: usize,
-    strict: bool,
-) -> Result<bool, Error>
-    requires few { has_few_variants element.now ≡ true }
-    ensures read { IfOk result
-        (ReadsData (seq_shape (Some limit) (shape_of element.now)) k strict input.old.now input.new.now) }
-    ensures exact { IfErr result
-        (λ e. IsFirstFault (seq_shape (Some limit) (shape_of element.now)) e.reason k input.old.now) }
-{
-    let before = *input;
-    let written = read_lists(alloc, element, input, k, strict)?;
-    if any_over(alloc, before, k, limit)? {
-        return err(Reason::InvalidArrayVec);
+    if let Some(limit) = capacity {
+        if exceed(&mut lengths, k, limit) {
+            return err(Reason::InvalidArrayVec);
+        }
     }
-    Ok(written)
+    Ok(both(lengths_written, elements_written))
 }
 
 // Reads `k` maps.
