@@ -1,4 +1,5 @@
 //! The library: each public call, single columns, and values of each type.
 mod calls;
 mod columns;
+mod schemas;
 mod values;

@@ -7,3 +7,4 @@ pub mod FieldLemmas
 pub mod SequenceLemmas
 pub mod ChoiceLemmas
 pub mod CheckLemmas
+pub mod LeafLemmas

@@ -45,23 +45,24 @@ module _ (k : ℕ) (strict : Bool) where
         judged = λ asked. judges_sequence None s k new elements.found a b lengths elements.read (told asked) (elements.judged asked);
       }
 
-      module _ (limit : ℕ) (short large : List ℕ) (is : ns ≡ lengths_from short large) (parts : ReadsParts k old short large middle) where
-        pub reads_limited : KeepsCap (Some limit) short ns → ReadsData (seq_shape (Some limit) s) k strict old new (a && b)
-        reads_limited keeps =
-            let capped : Reads (SpellsLengths (Some limit)) k old ns middle = record {
+      module _ {short large : List ℕ} (is : ns ≡ lengths_from short large) (parts : ReadsParts k old short large middle) where
+        pub reads_capped : (capacity : Option ℕ) → KeepsCap capacity short ns → ReadsData (seq_shape capacity s) k strict old new (a && b)
+        reads_capped capacity keeps =
+            let capped : Reads (SpellsLengths capacity) k old ns middle = record {
               size = lengths.size;
               piece = lengths.piece;
               whole = lengths.whole;
-              spelled = cap_kept (Some limit) k old short large middle parts (subst (KeepsCap (Some limit) short) is keeps) lengths;
+              spelled = cap_kept capacity k old short large middle parts (subst (KeepsCap capacity short) is keeps) lengths;
             } in
             record {
               found = lists_of ns elements.found;
-              read = reads_sequence (Some limit) s k new elements.found capped elements.read;
-              judged = λ asked. judges_sequence (Some limit) s k new elements.found a b lengths elements.read (told asked) (elements.judged asked);
+              read = reads_sequence capacity s k new elements.found capped elements.read;
+              judged = λ asked. judges_sequence capacity s k new elements.found a b lengths elements.read (told asked) (elements.judged asked);
             }
 
-        pub lists_over : (KeepsCap (Some limit) short ns → ⊥) → IsFirstFault (seq_shape (Some limit) s) InvalidArrayVec k old
-        lists_over broken = inr (record {
+        pub lists_over : (capacity : Option ℕ) → (KeepsCap capacity short ns → ⊥) → IsFirstFault (seq_shape capacity s) InvalidArrayVec k old
+        lists_over None broken = absurd (broken tt)
+        lists_over (Some limit) broken = inr (record {
           is = refl;
           lists = reads_lists.found;
           rest = new;
@@ -78,6 +79,10 @@ module _ (k : ℕ) (strict : Bool) where
     read = reads_map s t k old new lists.found lists.read;
     judged = λ asked. lists.judged asked;
   }
+
+  pub maps_fault : (s t : Shape) (reason : Reason) (old : List ℕ) → IsFirstFault (seq_shape None (pair_shape s t)) reason k old
+      → IsFirstFault (map_shape s t) reason k old
+  maps_fault s t reason old fault = fault
 
   -- ---- arrays
 

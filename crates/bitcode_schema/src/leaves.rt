@@ -3,7 +3,7 @@ ghost use Rattle.std.specs.Prelude.{Some, false, IfOk, IfErr};
 ghost use Rattle.bitcode_shapes.specs.Checked.{nonzero_shape};
 ghost use Rattle.bitcode_shapes.specs.Durations.{duration_shape};
 ghost use Rattle.bitcode_shapes.specs.Ints.{int_shape};
-ghost use Rattle.bitcode_shapes.specs.Shape.{never_shape, text_shape, array_shape};
+ghost use Rattle.bitcode_shapes.specs.Shape.{text_shape, array_shape};
 ghost use Rattle.bitcode_coder.specs.FirstFault.{IsFirstFault};
 ghost use Rattle.bitcode_schema.specs.Leaves.{width_of, is_signed};
 ghost use Rattle.bitcode_schema.specs.Reading.{ReadsData};
@@ -95,19 +95,6 @@ pub(crate) fn read_nonzeros<'a>(
     }
 }
 
-/// Reads `k` data of a type without values: there are none.
-pub(crate) fn read_nothing<'a>(input: &mut &'a [u8], k: usize, strict: bool) -> Result<bool, Error>
-    ensures read { IfOk result
-        (ReadsData never_shape k strict input.old.now input.new.now) }
-    ensures exact { IfErr result
-        (λ e. IsFirstFault never_shape e.reason k input.old.now) }
-{
-    if k > 0 {
-        return err(Reason::InvalidEnumVariant);
-    }
-    Ok(true)
-}
-
 /// Reads `k` arrays of 16 bytes.
 pub(crate) fn read_uuids<'a>(
     alloc: Global,
@@ -158,7 +145,7 @@ pub(crate) fn read_texts<'a>(
     let mut lengths = LengthDecoder::new(alloc);
     lengths.populate(&mut bytes, k)?;
     let written = read_leaf::<StrDecoder>(alloc, input, k, strict)?;
-    if exceed(&mut lengths, k, limit) {
+    if exceed(&mut lengths, k, Some(limit)) {
         return err(Reason::InvalidArrayString);
     }
     Ok(written)

@@ -36,9 +36,8 @@ fn exceed_short(lengths: &mut LengthDecoder<'_>, k: usize, limit: usize) -> bool
     lengths.any_greater_than::<254>() || is_any_over(lengths, k, limit)
 }
 
-/// Whether one of the `k` lengths that were read exceeds the limit. A limit below 255 applies to the short bytes, so
-/// that every large length exceeds it.
-pub(crate) fn exceed(lengths: &mut LengthDecoder<'_>, k: usize, limit: usize) -> bool
+// The same of any limit. One below 255 applies to the short bytes, so that every large length exceeds it.
+fn exceed_limit(lengths: &mut LengthDecoder<'_>, k: usize, limit: usize) -> bool
     requires { length (lengths_left lengths.old) ≡ k }
     ensures { MatchBool result
         (KeepsCap (Some limit) (short_left lengths.old) (lengths_left lengths.old) → ⊥)
@@ -48,5 +47,18 @@ pub(crate) fn exceed(lengths: &mut LengthDecoder<'_>, k: usize, limit: usize) ->
         exceed_short(lengths, k, limit)
     } else {
         is_any_over(lengths, k, limit)
+    }
+}
+
+/// Whether one of the `k` lengths that were read exceeds the capacity, if there is one.
+pub(crate) fn exceed(lengths: &mut LengthDecoder<'_>, k: usize, capacity: Option<usize>) -> bool
+    requires { length (lengths_left lengths.old) ≡ k }
+    ensures { MatchBool result
+        (KeepsCap capacity (short_left lengths.old) (lengths_left lengths.old) → ⊥)
+        (KeepsCap capacity (short_left lengths.old) (lengths_left lengths.old)) }
+{
+    match capacity {
+        None => false,
+        Some(limit) => exceed_limit(lengths, k, limit),
     }
 }

@@ -4,12 +4,12 @@ ghost use Rattle.bitcode_shapes.specs.Shape.{seq_shape, map_shape, array_shape, 
 ghost use Rattle.bitcode_coder.specs.FirstFault.{IsFirstFault};
 ghost use Rattle.bitcode_enums.specs.ByNumber.{shape_at};
 ghost use Rattle.bitcode_schema.specs.Depth.{has_few_variants};
-ghost use Rattle.bitcode_schema.specs.Forms.{shape_of, shapes_of};
+ghost use Rattle.bitcode_schema.specs.Forms.{shape_of, shapes_of, enum_shape};
 ghost use Rattle.bitcode_schema.specs.Reading.{ReadsData, fields_of, shape_of_fields, variant_shapes};
 
 use crate::choices::{read_variants, times};
 use crate::leaves::{
-    read_durations, read_ints, read_leaf, read_nonzeros, read_nothing, read_texts, read_uuids,
+    read_durations, read_ints, read_leaf, read_nonzeros, read_texts, read_uuids,
 };
 use crate::limits::exceed;
 use crate::schema::SchemaNode;
@@ -17,6 +17,7 @@ use bitcode_coder::bool::BoolDecoder;
 use bitcode_coder::coder::both;
 use bitcode_coder::length::LengthDecoder;
 use bitcode_coder::str::StrDecoder;
+use bitcode_derive::absent::AbsentDecoder;
 use bitcode_floats::float32::F32Decoder;
 use bitcode_floats::float64::F64Decoder;
 use bitcode_ints::checked::CheckedIntDecoder;
@@ -47,7 +48,7 @@ pub(crate) fn read<'a>(
 {
     match node {
         SchemaNode::Unit => read_leaf::<EmptyCoder>(alloc, input, k, strict),
-        SchemaNode::Never => read_nothing(input, k, strict),
+        SchemaNode::Never => read_leaf::<AbsentDecoder>(alloc, input, k, strict),
         SchemaNode::Bool => read_leaf::<BoolDecoder>(alloc, input, k, strict),
         SchemaNode::Char => read_leaf::<CheckedIntDecoder<char, u32>>(alloc, input, k, strict),
         SchemaNode::Int(kind) => read_ints(alloc, *kind, input, k, strict),
@@ -67,11 +68,7 @@ pub(crate) fn read<'a>(
         SchemaNode::Struct(_) => read_tuples(alloc, node, input, k, strict),
         SchemaNode::Option(_) => read_choices(alloc, node, 2, input, k, strict),
         SchemaNode::Result(_, _) => read_choices(alloc, node, 2, input, k, strict),
-        SchemaNode::Enum(variants) => match variants.len() {
-            0 => read_nothing(input, k, strict),
-            1 => read_payloads(alloc, node, 0, input, k, strict),
-            count => read_choices(alloc, node, count, input, k, strict),
-        },
+        SchemaNode::Enum(variants) => read_enum(alloc, node, variants.len(), input, k, strict),
     }
 }
 
@@ -94,10 +91,8 @@ fn read_lists<'a>(
     let mut lengths = LengthDecoder::new(alloc);
     let lengths_written = lengths.read(input, k, strict)?;
     let elements_written = read(alloc, element, input, lengths.length(), strict)?;
-    if let Some(limit) = capacity {
-        if exceed(&mut lengths, k, limit) {
-            return err(Reason::InvalidArrayVec);
-        }
+    if exceed(&mut lengths, k, capacity) {
+        return err(Reason::InvalidArrayVec);
     }
     Ok(both(lengths_written, elements_written))
 }
@@ -196,6 +191,33 @@ fn read_fields<'a>(
         Some(field) => read(alloc, field, input, k, strict),
         None => unreachable!(),
     }
+}
+
+// Reads `k` enums of so many variants.
+#[cycle(read)]
+fn read_enum<'a>(
+    alloc: Global,
+    node: &SchemaNode,
+    count: usize,
+    input: &mut &'a [u8],
+    k: usize,
+    strict: bool,
+) -> Result<bool, Error>
+    requires few { has_few_variants node.now ≡ true }
+    requires most { count ≤ 256 }
+    requires count { length (variant_shapes node.now) ≡ count }
+    ensures read { IfOk result
+        (ReadsData (enum_shape (variant_shapes node.now)) k strict input.old.now input.new.now) }
+    ensures exact { IfErr result
+        (λ e. IsFirstFault (enum_shape (variant_shapes node.now)) e.reason k input.old.now) }
+{
+    if count == 0 {
+        return read_leaf::<AbsentDecoder>(alloc, input, k, strict);
+    }
+    if count == 1 {
+        return read_payloads(alloc, node, 0, input, k, strict);
+    }
+    read_choices(alloc, node, count, input, k, strict)
 }
 
 // Reads `k` choices of a node among so many variants.
