@@ -42,22 +42,23 @@ module _ (ss : Shapes) (count : ℕ) (strict : Bool) (entries middle : List ℕ)
   }
 
   module _ (known : variant_count ss ≡ count) (variant : ℕ) (written : Bool) (now : List ℕ) (before : ChoicesTo variant written now) (below : variant < count) where
-    pub choices_next : (answer : Bool) (new : List ℕ) → ReadsData (shape_at variant ss) (count_of variant entries) strict now new answer
-        → ChoicesTo (suc variant) (written && answer) new
-    choices_next answer new read =
-        let lists = slice_set before.lists variant read.found in
+    pub choices_next : (answer : Bool) (new : List ℕ) (next : ℕ) → next ≡ suc variant
+        → ReadsData (shape_at variant ss) (count_of variant entries) strict now new answer → ChoicesTo next (written && answer) new
+    choices_next answer new next is passed =
+        let lists = slice_set before.lists variant passed.found in
         let there : variant < length before.lists = subst (λ n. variant < n) (sym before.size) below in
-        let here : payloads_of variant lists ≡ read.found = get_or-set_same before.lists variant read.found [] there in
+        let here : payloads_of variant lists ≡ passed.found = get_or-set_same before.lists variant passed.found [] there in
         let others : KeepsOthers [] variant before.lists lists = ap (slice_set before.lists variant) (sym here) in
         let among : variant < variant_count ss = subst (λ n. variant < n) (sym known) below in
-        record {
+        subst (λ n. ChoicesTo n (written && answer) new) (sym is)
+        (record {
           lists = lists;
-          size = length-set before.lists variant read.found ∙ before.size;
+          size = length-set before.lists variant passed.found ∙ before.size;
           read = read_next ss entries middle variant before.lists now before.read among lists new there others
-              (subst (λ ds. Reads (Spells (shape_at variant ss)) (count_of variant entries) now ds new) (sym here) read.read);
+              (subst (λ ds. Reads (Spells (shape_at variant ss)) (count_of variant entries) now ds new) (sym here) passed.read);
           judged = λ asked. judged_next ss middle variants variant before.lists written now (before.judged asked) among lists new there others answer
-              (subst (λ ds. JudgesData (shape_at variant ss) ds answer now new) (sym here) (read.judged asked));
-        }
+              (subst (λ ds. JudgesData (shape_at variant ss) ds answer now new) (sym here) (passed.judged asked));
+        })
 
     pub choices_fault : (k : ℕ) (old : List ℕ) → Reads (SpellsVariants count) k old entries middle → (reason : Reason)
         → IsFirstFault (shape_at variant ss) reason (count_of variant entries) now → IsFirstFault (choice_shape ss) reason k old

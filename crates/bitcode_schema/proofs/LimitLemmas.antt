@@ -44,3 +44,13 @@ module _ (limit : ℕ) (short large : List ℕ) (small : limit < escape) where
       let within = short_cap limit short (lengths_from short large) small keeps in
       let low : All (λ byte. byte ≤ 254) short = λ k d inside. let h = within k d inside in omega (arith, h, small) in
       (low, subst (All (λ n. n ≤ limit)) (sym (none_large low)) within)
+
+-- ---- answers
+
+pub both_judged : (b : Bool) {A B : Type 0} → A → MatchBool b (B → ⊥) B → MatchBool b (A × B → ⊥) (A × B)
+both_judged true a broken = λ all. broken all.1
+both_judged false a kept = (a, kept)
+
+pub judged_as : (b : Bool) {A B : Type 0} → (A → B) → (B → A) → MatchBool b (A → ⊥) A → MatchBool b (B → ⊥) B
+judged_as true to from broken = λ kept. broken (from kept)
+judged_as false to from kept = to kept

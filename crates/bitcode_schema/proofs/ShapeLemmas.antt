@@ -1,5 +1,5 @@
 -- The shape of each node, by its variant.
-use Rattle.std.proofs.Common.{◌≡◌, ℕ, ◌≤◌, Option, List, [], ◌∷◌, map, length, Vec, Box, Global, refl, sym, ap, ◌∙◌, arith}
+use Rattle.std.proofs.Common.{◌≡◌, ℕ, ◌≤◌, false, Option, List, [], ◌∷◌, map, length, Vec, Box, Global, refl, sym, ap, ◌∙◌, arith}
 use Rattle.std.specs.Float.{binary32, binary64}
 use Rattle.std.specs.declared.string.String.{String}
 use Rattle.std.proofs.lemmas.List.{length-map}

@@ -1,5 +1,5 @@
 -- What reading the columns of a node does, and the parts of nodes that are read one after another.
-use Rattle.std.specs.Prelude.{◌≡◌, ℕ, Bool, IsTrue, List, [], ◌∷◌, map}
+use Rattle.std.specs.Prelude.{ℕ, ◌-◌, Bool, IsTrue, List, [], ◌∷◌, map, take, drop}
 use Rattle.bitcode_columns.specs.Reading.{Reads}
 use Rattle.bitcode_shapes.specs.Datum.{Datum}
 use Rattle.bitcode_shapes.specs.Shape.{Shape, unit_shape}
@@ -23,6 +23,10 @@ fields_step _ = []
 
 abbrev pub fields_of : SchemaNode → List SchemaNode
 fields_of node = fields_step (out-SchemaNode node)
+
+-- those from one number to another
+abbrev pub fields_between : (from to : ℕ) → SchemaNode → List SchemaNode
+fields_between from to node = take (to - from) (drop from (fields_of node))
 
 -- the shape of fields, as one
 abbrev pub shape_of_fields : List SchemaNode → Shape

@@ -50,9 +50,11 @@ pub(crate) fn read_ints<'a>(
     strict: bool,
 ) -> Result<bool, Error>
     ensures read { IfOk result
-        (ReadsData (int_shape (width_of kind) (is_signed kind)) k strict input.old.now input.new.now) }
+        (ReadsData (int_shape (width_of kind) (is_signed kind)) k strict
+        input.old.now input.new.now) }
     ensures exact { IfErr result
-        (λ e. IsFirstFault (int_shape (width_of kind) (is_signed kind)) e.reason k input.old.now) }
+        (λ e. IsFirstFault (int_shape (width_of kind) (is_signed kind)) e.reason k
+        input.old.now) }
 {
     match kind {
         IntKind::U8 => read_leaf::<IntDecoder<u8>>(alloc, input, k, strict),
@@ -77,9 +79,11 @@ pub(crate) fn read_nonzeros<'a>(
     strict: bool,
 ) -> Result<bool, Error>
     ensures read { IfOk result
-        (ReadsData (nonzero_shape (width_of kind) (is_signed kind)) k strict input.old.now input.new.now) }
+        (ReadsData (nonzero_shape (width_of kind) (is_signed kind)) k strict
+        input.old.now input.new.now) }
     ensures exact { IfErr result
-        (λ e. IsFirstFault (nonzero_shape (width_of kind) (is_signed kind)) e.reason k input.old.now) }
+        (λ e. IsFirstFault (nonzero_shape (width_of kind) (is_signed kind)) e.reason k
+        input.old.now) }
 {
     match kind {
         IntKind::U8 => read_leaf::<CheckedIntDecoder<NonZeroU8, u8>>(alloc, input, k, strict),

@@ -33,7 +33,10 @@ fn exceed_short(lengths: &mut LengthDecoder<'_>, k: usize, limit: usize) -> bool
         (KeepsCap (Some 254) (short_left lengths.old) (lengths_left lengths.old)
         × All (λ n. n ≤ limit) (lengths_left lengths.old)) }
 {
-    lengths.any_greater_than::<254>() || is_any_over(lengths, k, limit)
+    if lengths.any_greater_than::<254>() {
+        return true;
+    }
+    is_any_over(lengths, k, limit)
 }
 
 // The same of any limit. One below 255 applies to the short bytes, so that every large length exceeds it.
@@ -44,10 +47,9 @@ fn exceed_limit(lengths: &mut LengthDecoder<'_>, k: usize, limit: usize) -> bool
         (KeepsCap (Some limit) (short_left lengths.old) (lengths_left lengths.old)) }
 {
     if limit < ESCAPE {
-        exceed_short(lengths, k, limit)
-    } else {
-        is_any_over(lengths, k, limit)
+        return exceed_short(lengths, k, limit);
     }
+    is_any_over(lengths, k, limit)
 }
 
 /// Whether one of the `k` lengths that were read exceeds the capacity, if there is one.

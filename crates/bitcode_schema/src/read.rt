@@ -1,11 +1,11 @@
 //! Reading the columns of a node.
-ghost use Rattle.std.specs.Prelude.{◌≡◌, ◌-◌, ◌<◌, ◌≤◌, None, Some, true, length, take, drop, IfOk, IfErr};
+ghost use Rattle.std.specs.Prelude.{◌≡◌, ◌<◌, ◌≤◌, true, length, IfOk, IfErr};
 ghost use Rattle.bitcode_shapes.specs.Shape.{seq_shape, map_shape, array_shape, choice_shape};
 ghost use Rattle.bitcode_coder.specs.FirstFault.{IsFirstFault};
 ghost use Rattle.bitcode_enums.specs.ByNumber.{shape_at};
 ghost use Rattle.bitcode_schema.specs.Depth.{has_few_variants};
 ghost use Rattle.bitcode_schema.specs.Forms.{shape_of, shapes_of, enum_shape};
-ghost use Rattle.bitcode_schema.specs.Reading.{ReadsData, fields_of, shape_of_fields, variant_shapes};
+ghost use Rattle.bitcode_schema.specs.Reading.{ReadsData, fields_of, fields_between, shape_of_fields, variant_shapes};
 
 use crate::choices::{read_variants, times};
 use crate::leaves::{
@@ -64,10 +64,10 @@ pub(crate) fn read<'a>(
         }
         SchemaNode::Map(key, value) => read_maps(alloc, key, value, input, k, strict),
         SchemaNode::Array(size, element) => read_arrays(alloc, *size, element, input, k, strict),
-        SchemaNode::Tuple(_) => read_tuples(alloc, node, input, k, strict),
-        SchemaNode::Struct(_) => read_tuples(alloc, node, input, k, strict),
-        SchemaNode::Option(_) => read_choices(alloc, node, 2, input, k, strict),
-        SchemaNode::Result(_, _) => read_choices(alloc, node, 2, input, k, strict),
+        SchemaNode::Tuple(_fields) => read_tuples(alloc, node, input, k, strict),
+        SchemaNode::Struct(_fields) => read_tuples(alloc, node, input, k, strict),
+        SchemaNode::Option(_some) => read_choices(alloc, node, 2, input, k, strict),
+        SchemaNode::Result(_ok, _err) => read_choices(alloc, node, 2, input, k, strict),
         SchemaNode::Enum(variants) => read_enum(alloc, node, variants.len(), input, k, strict),
     }
 }
@@ -84,9 +84,11 @@ fn read_lists<'a>(
 ) -> Result<bool, Error>
     requires few { has_few_variants element.now ≡ true }
     ensures read { IfOk result
-        (ReadsData (seq_shape capacity (shape_of element.now)) k strict input.old.now input.new.now) }
+        (ReadsData (seq_shape capacity (shape_of element.now)) k strict
+        input.old.now input.new.now) }
     ensures exact { IfErr result
-        (λ e. IsFirstFault (seq_shape capacity (shape_of element.now)) e.reason k input.old.now) }
+        (λ e. IsFirstFault (seq_shape capacity (shape_of element.now)) e.reason k
+        input.old.now) }
 {
     let mut lengths = LengthDecoder::new(alloc);
     let lengths_written = lengths.read(input, k, strict)?;
@@ -109,9 +111,11 @@ fn read_maps<'a>(
 ) -> Result<bool, Error>
     requires few { (has_few_variants key.now ≡ true) × (has_few_variants value.now ≡ true) }
     ensures read { IfOk result
-        (ReadsData (map_shape (shape_of key.now) (shape_of value.now)) k strict input.old.now input.new.now) }
+        (ReadsData (map_shape (shape_of key.now) (shape_of value.now)) k strict
+        input.old.now input.new.now) }
     ensures exact { IfErr result
-        (λ e. IsFirstFault (map_shape (shape_of key.now) (shape_of value.now)) e.reason k input.old.now) }
+        (λ e. IsFirstFault (map_shape (shape_of key.now) (shape_of value.now)) e.reason k
+        input.old.now) }
 {
     let mut lengths = LengthDecoder::new(alloc);
     let lengths_written = lengths.read(input, k, strict)?;
@@ -132,9 +136,11 @@ fn read_arrays<'a>(
 ) -> Result<bool, Error>
     requires few { has_few_variants element.now ≡ true }
     ensures read { IfOk result
-        (ReadsData (array_shape size (shape_of element.now)) k strict input.old.now input.new.now) }
+        (ReadsData (array_shape size (shape_of element.now)) k strict
+        input.old.now input.new.now) }
     ensures exact { IfErr result
-        (λ e. IsFirstFault (array_shape size (shape_of element.now)) e.reason k input.old.now) }
+        (λ e. IsFirstFault (array_shape size (shape_of element.now)) e.reason k
+        input.old.now) }
 {
     let count = mul_length(k, size)?;
     read(alloc, element, input, count, strict)
@@ -151,9 +157,11 @@ fn read_tuples<'a>(
 ) -> Result<bool, Error>
     requires few { has_few_variants node.now ≡ true }
     ensures read { IfOk result
-        (ReadsData (shape_of_fields (fields_of node.now)) k strict input.old.now input.new.now) }
+        (ReadsData (shape_of_fields (fields_of node.now)) k strict
+        input.old.now input.new.now) }
     ensures exact { IfErr result
-        (λ e. IsFirstFault (shape_of_fields (fields_of node.now)) e.reason k input.old.now) }
+        (λ e. IsFirstFault (shape_of_fields (fields_of node.now)) e.reason k
+        input.old.now) }
 {
     let count = node.field_count();
     if count == 0 {
@@ -176,9 +184,11 @@ fn read_fields<'a>(
     requires few { has_few_variants node.now ≡ true }
     requires range { (from < to) × (to ≤ length (fields_of node.now)) }
     ensures read { IfOk result
-        (ReadsData (shape_of_fields (take (to - from) (drop from (fields_of node.now)))) k strict input.old.now input.new.now) }
+        (ReadsData (shape_of_fields (fields_between from to node.now)) k strict
+        input.old.now input.new.now) }
     ensures exact { IfErr result
-        (λ e. IsFirstFault (shape_of_fields (take (to - from) (drop from (fields_of node.now)))) e.reason k input.old.now) }
+        (λ e. IsFirstFault (shape_of_fields (fields_between from to node.now)) e.reason k
+        input.old.now) }
 {
     let count = to - from;
     if count > 1 {
@@ -207,9 +217,11 @@ fn read_enum<'a>(
     requires most { count ≤ 256 }
     requires count { length (variant_shapes node.now) ≡ count }
     ensures read { IfOk result
-        (ReadsData (enum_shape (variant_shapes node.now)) k strict input.old.now input.new.now) }
+        (ReadsData (enum_shape (variant_shapes node.now)) k strict
+        input.old.now input.new.now) }
     ensures exact { IfErr result
-        (λ e. IsFirstFault (enum_shape (variant_shapes node.now)) e.reason k input.old.now) }
+        (λ e. IsFirstFault (enum_shape (variant_shapes node.now)) e.reason k
+        input.old.now) }
 {
     if count == 0 {
         return read_leaf::<AbsentDecoder>(alloc, input, k, strict);
@@ -234,9 +246,11 @@ fn read_choices<'a>(
     requires several { (2 ≤ count) × (count ≤ 256) }
     requires count { length (variant_shapes node.now) ≡ count }
     ensures read { IfOk result
-        (ReadsData (choice_shape (shapes_of (variant_shapes node.now))) k strict input.old.now input.new.now) }
+        (ReadsData (choice_shape (shapes_of (variant_shapes node.now))) k strict
+        input.old.now input.new.now) }
     ensures exact { IfErr result
-        (λ e. IsFirstFault (choice_shape (shapes_of (variant_shapes node.now))) e.reason k input.old.now) }
+        (λ e. IsFirstFault (choice_shape (shapes_of (variant_shapes node.now))) e.reason k
+        input.old.now) }
 {
     let mut variants = CowSlice::new(alloc);
     let mut written = read_variants(alloc, input, k, count, &mut variants, strict)?;
@@ -261,9 +275,11 @@ fn read_payloads<'a>(
     requires few { has_few_variants node.now ≡ true }
     requires variant { variant < length (variant_shapes node.now) }
     ensures read { IfOk result
-        (ReadsData (shape_at variant (shapes_of (variant_shapes node.now))) k strict input.old.now input.new.now) }
+        (ReadsData (shape_at variant (shapes_of (variant_shapes node.now))) k strict
+        input.old.now input.new.now) }
     ensures exact { IfErr result
-        (λ e. IsFirstFault (shape_at variant (shapes_of (variant_shapes node.now))) e.reason k input.old.now) }
+        (λ e. IsFirstFault (shape_at variant (shapes_of (variant_shapes node.now))) e.reason k
+        input.old.now) }
 {
     match node.payload(variant) {
         Some(payload) => read(alloc, payload, input, k, strict),

@@ -103,28 +103,28 @@ pub read-returns-in-Array-clause-exact : goal.read-returns-in-Array-clause-exact
 read-returns-in-Array-clause-exact t c = rw (c.in-Array.is, shape-Array c.in-Array.size c.in-Array.element, ← c.deref-in-Array.ensures) c.read_arrays.ensures.exact
 
 pub read-returns-in-Tuple-clause-read : goal.read-returns-in-Tuple-clause-read
-read-returns-in-Tuple-clause-read t c = rw (c.in-Tuple.is, shape-Tuple c.in-Tuple.field-0, ← c.in-Tuple.is) c.read_tuples.ensures.read
+read-returns-in-Tuple-clause-read t c = rw (c.in-Tuple.is, shape-Tuple c.in-Tuple._fields, ← c.in-Tuple.is) c.read_tuples.ensures.read
 
 pub read-returns-in-Tuple-clause-exact : goal.read-returns-in-Tuple-clause-exact
-read-returns-in-Tuple-clause-exact t c = rw (c.in-Tuple.is, shape-Tuple c.in-Tuple.field-0, ← c.in-Tuple.is) c.read_tuples.ensures.exact
+read-returns-in-Tuple-clause-exact t c = rw (c.in-Tuple.is, shape-Tuple c.in-Tuple._fields, ← c.in-Tuple.is) c.read_tuples.ensures.exact
 
 pub read-returns-in-Struct-clause-read : goal.read-returns-in-Struct-clause-read
-read-returns-in-Struct-clause-read t c = rw (c.in-Struct.is, shape-Struct c.in-Struct.field-0, ← c.in-Struct.is) c.read_tuples-in-Struct.ensures.read
+read-returns-in-Struct-clause-read t c = rw (c.in-Struct.is, shape-Struct c.in-Struct._fields, ← c.in-Struct.is) c.read_tuples-in-Struct.ensures.read
 
 pub read-returns-in-Struct-clause-exact : goal.read-returns-in-Struct-clause-exact
-read-returns-in-Struct-clause-exact t c = rw (c.in-Struct.is, shape-Struct c.in-Struct.field-0, ← c.in-Struct.is) c.read_tuples-in-Struct.ensures.exact
+read-returns-in-Struct-clause-exact t c = rw (c.in-Struct.is, shape-Struct c.in-Struct._fields, ← c.in-Struct.is) c.read_tuples-in-Struct.ensures.exact
 
 pub read-returns-in-Option-clause-read : goal.read-returns-in-Option-clause-read
-read-returns-in-Option-clause-read t c = rw (c.in-Option.is, shape-Option c.in-Option.field-0, ← c.in-Option.is) c.read_choices.ensures.read
+read-returns-in-Option-clause-read t c = rw (c.in-Option.is, shape-Option c.in-Option._some, ← c.in-Option.is) c.read_choices.ensures.read
 
 pub read-returns-in-Option-clause-exact : goal.read-returns-in-Option-clause-exact
-read-returns-in-Option-clause-exact t c = rw (c.in-Option.is, shape-Option c.in-Option.field-0, ← c.in-Option.is) c.read_choices.ensures.exact
+read-returns-in-Option-clause-exact t c = rw (c.in-Option.is, shape-Option c.in-Option._some, ← c.in-Option.is) c.read_choices.ensures.exact
 
 pub read-returns-in-Result-clause-read : goal.read-returns-in-Result-clause-read
-read-returns-in-Result-clause-read t c = rw (c.in-Result.is, shape-Result c.in-Result.field-0 c.in-Result.field-1, ← c.in-Result.is) c.read_choices-in-Result.ensures.read
+read-returns-in-Result-clause-read t c = rw (c.in-Result.is, shape-Result c.in-Result._ok c.in-Result._err, ← c.in-Result.is) c.read_choices-in-Result.ensures.read
 
 pub read-returns-in-Result-clause-exact : goal.read-returns-in-Result-clause-exact
-read-returns-in-Result-clause-exact t c = rw (c.in-Result.is, shape-Result c.in-Result.field-0 c.in-Result.field-1, ← c.in-Result.is) c.read_choices-in-Result.ensures.exact
+read-returns-in-Result-clause-exact t c = rw (c.in-Result.is, shape-Result c.in-Result._ok c.in-Result._err, ← c.in-Result.is) c.read_choices-in-Result.ensures.exact
 
 pub read-returns-in-Enum-clause-read : goal.read-returns-in-Enum-clause-read
 read-returns-in-Enum-clause-read t c = rw (c.in-Enum.is, shape-Enum c.in-Enum.variants, ← c.in-Enum.is) c.read_enum.ensures.read
@@ -241,6 +241,15 @@ read_choices-returns-in_err-written-clause-exact t c =
 
 pub read_choices-loop-variant-init : goal.read_choices-loop-variant-init
 read_choices-loop-variant-init t c = choices_none (shapes_of (variant_shapes c.args.node.now)) c.args.count c.args.strict _ _ _
+
+pub read_choices-loop-variant-preserved : goal.read_choices-loop-variant-preserved
+read_choices-loop-variant-preserved t c = ?
+
+pub read_choices-returns-in_err-payloads_written-clause-exact : goal.read_choices-returns-in_err-payloads_written-clause-exact
+read_choices-returns-in_err-payloads_written-clause-exact t c = ?
+
+pub read_choices-returns-clause-read : goal.read_choices-returns-clause-read
+read_choices-returns-clause-read t c = ?
 
 pub read_payloads-returns-in-Some-clause-read : goal.read_payloads-returns-in-Some-clause-read
 read_payloads-returns-in-Some-clause-read t c = rw c.in-Some.ensures.found c.read.ensures.read
