@@ -2,6 +2,7 @@
 use Rattle.std.proofs.Common.{◌≡◌, ◌≢◌, ℕ, ◌+◌, ◌<◌, ◌≤◌, Bool, true, false, cond, eqb, MatchBool, Some, List, [], ◌∷◌, All, refl, sym, ◌∙◌, subst, arith}
 use Rattle.std.specs.Prelude.{count_by}
 use Rattle.std.proofs.lemmas.Bool.{lt-ltb, le-ltb, ne_eqb, cond-false}
+use Rattle.std.proofs.lemmas.List.Sums.{sum_by-cons}
 use Rattle.std.proofs.lemmas.List.Elements.{All-head, All-tail}
 use Rattle.bitcode_coder.specs.LengthColumn.{escape, KeepsCap, lengths_from}
 use Rattle.bitcode_coder.proofs.LengthLemmas.{no_escapes}
@@ -11,7 +12,8 @@ few_escapes [] below = refl
 few_escapes (byte ∷ bytes) below =
     let low : byte ≤ 254 = All-head (λ byte. byte ≤ 254) byte bytes below in
     let other : byte ≢ escape = λ is. omega (arith, low, is) in
-    cond-false _ _ _ (ne_eqb byte escape other) ∙ few_escapes bytes (All-tail (λ byte. byte ≤ 254) byte bytes below)
+    let counted = sum_by-cons (λ b. cond (eqb b escape) 1 0) byte bytes in
+    omega (arith, counted, cond-false {A = ℕ} (eqb byte escape) 1 0 (ne_eqb byte escape other), few_escapes bytes (All-tail (λ byte. byte ≤ 254) byte bytes below))
 
 module _ (limit : ℕ) (short lengths : List ℕ) where
   abbrev Cap : Bool → Type 0
@@ -47,9 +49,9 @@ module _ (limit : ℕ) (short large : List ℕ) (small : limit < escape) where
 
 -- ---- answers
 
-pub both_judged : (b : Bool) {A B : Type 0} → A → MatchBool b (B → ⊥) B → MatchBool b (A × B → ⊥) (A × B)
-both_judged true a broken = λ all. broken all.1
-both_judged false a kept = (a, kept)
+pub both_judged : (A B : Type 0) (b : Bool) → A → MatchBool b (B → ⊥) B → MatchBool b (A × B → ⊥) (A × B)
+both_judged A B true a broken = λ all. broken all.1
+both_judged A B false a kept = (a, kept)
 
 pub judged_as : (b : Bool) {A B : Type 0} → (A → B) → (B → A) → MatchBool b (A → ⊥) A → MatchBool b (B → ⊥) B
 judged_as true to from broken = λ kept. broken (from kept)

@@ -3,6 +3,8 @@ use Rattle.std.proofs.Common.{◌≡◌, ℕ, zero, suc, ◌+◌, ◌<◌, ◌�
 use Rattle.std.specs.Prelude.{nat_le, slice_get, option_map}
 use Rattle.std.specs.List.{list_all}
 use Rattle.std.specs.declared.string.String.{String}
+use Rattle.std.proofs.lemmas.Bool.{leb-true}
+use Rattle.std.proofs.lemmas.List.{length-map}
 use Rattle.std.proofs.lemmas.List.Sums.{AllPass-from_list_all}
 use Rattle.std.proofs.lemmas.Option.{slice_get_within, get_or_from_slice_get, slice_get-map, slice_get_read}
 use Rattle.bitcode_shapes.specs.Shape.{Shape}
@@ -78,6 +80,20 @@ module _ (v : Vec (String Global × SchemaNode) Global) (i : ℕ) (part : String
       second_true : (a b : Bool) → (a && b) ≡ true → b ≡ true
       second_true true b h = h
       second_true false b h = absurd cc
+
+-- a field that is there has a node
+pub field_there : (v : Vec (String Global × SchemaNode) Global) (i : ℕ) → i < length (fields_of (node.Struct v)) → length v.items ≤ i → ⊥
+field_there v i below past =
+    let e : length (fields_of (node.Struct v)) ≡ length v.items = ap length (fields-Struct v) ∙ length-map v.items (λ p. p.1) in
+    omega (arith, below, past, e)
+
+-- an enum has few variants
+pub few_payloads : (v : Vec (String Global × SchemaNode) Global) → has_few_variants (node.Enum v) ≡ true → length v.items ≤ most_variants
+few_payloads v few = leb-true (length v.items) most_variants (first_true _ _ (sym (few-Enum v) ∙ few))
+  where
+    first_true : (a b : Bool) → (a && b) ≡ true → a ≡ true
+    first_true true b h = refl
+    first_true false b h = absurd cc
 
 -- a variant that is there has a payload
 pub payload_there : (v : Vec (String Global × SchemaNode) Global) (i : ℕ) → i < length (variant_shapes (node.Enum v)) → length v.items ≤ i → ⊥

@@ -12,6 +12,7 @@ use Rattle.bitcode_columns.specs.declared.pack.Base.TheVariants.{Whole, Sixteen,
 use Rattle.bitcode_columns.specs.Digits.{radix, digits_in_byte, base_for, digits_text, SpellsDigits}
 use Rattle.bitcode_columns.specs.Reading.{Reads, NamesVariantFault, variants_fault, is_variant_at, digits_fault}
 use Rattle.bitcode_columns.specs.VariantColumn.{SpellsVariants, variant_text}
+use Rattle.bitcode_columns.proofs.DigitLemmas.{some_digits}
 use Rattle.bitcode_columns.proofs.VariantColumnLemmas.{variant_text-is, are_variants, known_variants, names_unknown}
 use Rattle.bitcode_coder.specs.Faults.{NamesVariantsFault}
 use Rattle.bitcode_schema.specs.Variants.{ReadsDigits}
@@ -77,13 +78,19 @@ module _ {whole count : ℕ} (is : IsWhole whole count) where
   same_text entries = variant_text-is whole entries ∙ ap (λ b. digits_text b entries) is.base ∙ sym (variant_text-is count entries)
 
   module _ (k : ℕ) (input : List ℕ) where
-    size : Base → ℕ
+    abbrev size : Base → ℕ
     size base = div_ceil k (digits_in_byte base)
+
+    below : (n : ℕ) → n % radix (base_for (whole - 1)) < whole
+    below n =
+        let some : 0 < radix (base_for (whole - 1)) = omega (arith, (some_digits (base_for (whole - 1))).2) in
+        let less : n % radix (base_for (whole - 1)) < radix (base_for (whole - 1)) = mod-lt n some in
+        omega (arith, less, is.full)
 
     -- each digit is a variant
     all_known : list_all (is_variant_at whole input) (range_with_len 0 k) ≡ true
     all_known = list_all-from_AllPass (is_variant_at whole input) (range_with_len 0 k)
-        (λ i d inside. lt-ltb _ whole (let below = mod-lt _ (radix (base_for (whole - 1))) (omega arith) in omega (arith, below, is.full)))
+        (λ i d inside. lt-ltb _ whole (below _))
 
     -- so the only fault is that bytes are missing
     fault_there : (reason : Reason) → variants_fault whole k input ≡ Some reason → variants_fault count k input ≡ Some reason

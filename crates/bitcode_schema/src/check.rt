@@ -1,5 +1,5 @@
 //! Checking bytes by a schema, without making a value.
-ghost use Rattle.std.specs.Prelude.{◌≢◌, ◌↔◌, ℕ, IsTrue, IfOk, OnOk, IfErr};
+ghost use Rattle.std.specs.Prelude.{◌≢◌, ◌↔◌, ℕ, true, IsTrue, IfOk, OnOk, IfErr};
 ghost use Rattle.bitcode_shapes.specs.Datum.{Datum};
 ghost use Rattle.bitcode_coder.specs.Coder.{IsReadingReason};
 ghost use Rattle.bitcode_derive.specs.Strict.{StrictlySpellsDatum, IsStrictRefusal};

@@ -132,8 +132,8 @@ pub(crate) fn read_durations<'a>(
     Ok(both(seconds, nanos))
 }
 
-/// Reads `k` texts of at most so many bytes.
-pub(crate) fn read_texts<'a>(
+// Reads `k` texts of at most so many bytes.
+fn read_limited<'a>(
     alloc: Global,
     limit: usize,
     input: &mut &'a [u8],
@@ -153,4 +153,23 @@ pub(crate) fn read_texts<'a>(
         return err(Reason::InvalidArrayString);
     }
     Ok(written)
+}
+
+/// Reads `k` texts, of at most so many bytes if there is a capacity.
+pub(crate) fn read_texts<'a>(
+    alloc: Global,
+    capacity: Option<usize>,
+    input: &mut &'a [u8],
+    k: usize,
+    strict: bool,
+) -> Result<bool, Error>
+    ensures read { IfOk result
+        (ReadsData (text_shape capacity) k strict input.old.now input.new.now) }
+    ensures exact { IfErr result
+        (λ e. IsFirstFault (text_shape capacity) e.reason k input.old.now) }
+{
+    match capacity {
+        None => read_leaf::<StrDecoder>(alloc, input, k, strict),
+        Some(limit) => read_limited(alloc, limit, input, k, strict),
+    }
 }

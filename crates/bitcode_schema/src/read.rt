@@ -16,7 +16,6 @@ use crate::schema::SchemaNode;
 use bitcode_coder::bool::BoolDecoder;
 use bitcode_coder::coder::both;
 use bitcode_coder::length::LengthDecoder;
-use bitcode_coder::str::StrDecoder;
 use bitcode_derive::absent::AbsentDecoder;
 use bitcode_floats::float32::F32Decoder;
 use bitcode_floats::float64::F64Decoder;
@@ -55,8 +54,7 @@ pub(crate) fn read<'a>(
         SchemaNode::NonZero(kind) => read_nonzeros(alloc, *kind, input, k, strict),
         SchemaNode::F32 => read_leaf::<F32Decoder>(alloc, input, k, strict),
         SchemaNode::F64 => read_leaf::<F64Decoder>(alloc, input, k, strict),
-        SchemaNode::Str(None) => read_leaf::<StrDecoder>(alloc, input, k, strict),
-        SchemaNode::Str(Some(limit)) => read_texts(alloc, *limit, input, k, strict),
+        SchemaNode::Str(capacity) => read_texts(alloc, *capacity, input, k, strict),
         SchemaNode::Duration => read_durations(alloc, input, k, strict),
         SchemaNode::Uuid => read_uuids(alloc, input, k, strict),
         SchemaNode::List(capacity, element) => {

@@ -6,4 +6,4 @@ pub returns-then-any_greater_than : goal.returns-then-any_greater_than
 returns-then-any_greater_than c = λ all. (rw c.if-any_greater_than.true at c.any_greater_than.ensures) all.0
 
 pub returns : goal.returns
-returns c = both_judged c.is_any_over.result (rw c.if-any_greater_than.false at c.any_greater_than.ensures) c.is_any_over.ensures
+returns c = both_judged _ _ c.is_any_over.result (rw c.if-any_greater_than.false at c.any_greater_than.ensures) c.is_any_over.ensures

@@ -9,7 +9,7 @@ pub loop-preserved : goal.loop-preserved
 loop-preserved c =
     let P : ℕ → Type 0 = λ n. n ≤ c.args.limit in
     let taken = c.decode.ensures.taken in
-    let rest = lengths_left c.decode.new.lengths in
+    let rest = lengths_left c.decode.new.self in
     record {
       left = omega (arith, (taken_from (lengths_left c.loop.lengths) c.decode.result rest taken).1);
       kept = λ all. c.loop.invariant.kept (subst (All P) (sym taken) (All-cons P c.decode.result rest c.if-decode-limit.false all));

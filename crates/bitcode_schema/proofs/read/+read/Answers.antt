@@ -2,12 +2,14 @@
 use Rattle.std.proofs.Common.{◌≡◌, ◌∙◌, ◌≤◌, ◌<◌, ◌*◌, ◌^◌, refl, sym, inl, length, Some, None, arith}
 use Rattle.std.proofs.lemmas.Bool.{false≢true}
 use Rattle.std.proofs.lemmas.Result.{err_from_is_err_and, IfErr-weaker, IfOk-weaker}
+use Rattle.bitcode_shapes.specs.Shape.{pair_shape}
 use Rattle.bitcode_coder.specs.Length.{short_left, large_left, lengths_left}
 use Rattle.bitcode_enums.proofs.ReadingLemmas.{fault_of_variants}
 use Rattle.bitcode_schema.specs.Forms.{shape_of, shapes_of}
 use Rattle.bitcode_schema.specs.Reading.{fields_of, variant_shapes}
 use Rattle.bitcode_schema.proofs.ChoiceLemmas.{count_shapes, choices_none, choices_next, choices_fault, choices_all}
 use Rattle.bitcode_schema.proofs.FieldLemmas.{range_pair, whole_range, one_field, no_fields, reads_both, fault_of_second}
+use Rattle.bitcode_schema.proofs.PartLemmas.{few_payloads}
 use Rattle.bitcode_schema.proofs.ShapeLemmas.{shape-Unit, shape-Never, shape-Bool, shape-Char, shape-Int, shape-NonZero, shape-F32, shape-F64, shape-Str, shape-Duration, shape-Uuid, shape-List, shape-Map, shape-Array, shape-Tuple, shape-Struct, shape-Option, shape-Result, shape-Enum, two-Option, two-Result, length-Enum, no_variants, only_variant, several_variants}
 use Rattle.bitcode_schema.proofs.SequenceLemmas.{lengths_fault, elements_fault, reads_lists, reads_capped, lists_over, reads_maps, maps_fault, reads_all, fault_of_elements, arrays_over}
 use Rattle.bitcode_schema.proofs.read.+read.Goals as goal
@@ -60,17 +62,11 @@ read-returns-in-NonZero-clause-read t c = rw (c.in-NonZero.is, shape-NonZero c.i
 pub read-returns-in-NonZero-clause-exact : goal.read-returns-in-NonZero-clause-exact
 read-returns-in-NonZero-clause-exact t c = rw (c.in-NonZero.is, shape-NonZero c.in-NonZero.kind) c.read_nonzeros.ensures.exact
 
-pub read-returns-in-Str-None-clause-read : goal.read-returns-in-Str-None-clause-read
-read-returns-in-Str-None-clause-read t c = rw (c.in-Str-None.is, shape-Str None) c.read_leaf-in-Str-None.ensures.read
+pub read-returns-in-Str-clause-read : goal.read-returns-in-Str-clause-read
+read-returns-in-Str-clause-read t c = rw (c.in-Str.is, shape-Str c.in-Str.capacity) c.read_texts.ensures.read
 
-pub read-returns-in-Str-None-clause-exact : goal.read-returns-in-Str-None-clause-exact
-read-returns-in-Str-None-clause-exact t c = rw (c.in-Str-None.is, shape-Str None) c.read_leaf-in-Str-None.ensures.exact
-
-pub read-returns-in-Str-Some-clause-read : goal.read-returns-in-Str-Some-clause-read
-read-returns-in-Str-Some-clause-read t c = rw (c.in-Str-Some.is, shape-Str (Some c.in-Str-Some.limit)) c.read_texts.ensures.read
-
-pub read-returns-in-Str-Some-clause-exact : goal.read-returns-in-Str-Some-clause-exact
-read-returns-in-Str-Some-clause-exact t c = rw (c.in-Str-Some.is, shape-Str (Some c.in-Str-Some.limit)) c.read_texts.ensures.exact
+pub read-returns-in-Str-clause-exact : goal.read-returns-in-Str-clause-exact
+read-returns-in-Str-clause-exact t c = rw (c.in-Str.is, shape-Str c.in-Str.capacity) c.read_texts.ensures.exact
 
 pub read-returns-in-Duration-clause-read : goal.read-returns-in-Duration-clause-read
 read-returns-in-Duration-clause-read t c = rw (c.in-Duration.is, shape-Duration) c.read_durations.ensures.read
@@ -103,34 +99,34 @@ pub read-returns-in-Array-clause-exact : goal.read-returns-in-Array-clause-exact
 read-returns-in-Array-clause-exact t c = rw (c.in-Array.is, shape-Array c.in-Array.size c.in-Array.element, ← c.deref-in-Array.ensures) c.read_arrays.ensures.exact
 
 pub read-returns-in-Tuple-clause-read : goal.read-returns-in-Tuple-clause-read
-read-returns-in-Tuple-clause-read t c = rw (c.in-Tuple.is, shape-Tuple c.in-Tuple._fields, ← c.in-Tuple.is) c.read_tuples.ensures.read
+read-returns-in-Tuple-clause-read t c = rw (c.in-Tuple.is, shape-Tuple c.in-Tuple._fields) (rw c.in-Tuple.is at c.read_tuples.ensures.read)
 
 pub read-returns-in-Tuple-clause-exact : goal.read-returns-in-Tuple-clause-exact
-read-returns-in-Tuple-clause-exact t c = rw (c.in-Tuple.is, shape-Tuple c.in-Tuple._fields, ← c.in-Tuple.is) c.read_tuples.ensures.exact
+read-returns-in-Tuple-clause-exact t c = rw (c.in-Tuple.is, shape-Tuple c.in-Tuple._fields) (rw c.in-Tuple.is at c.read_tuples.ensures.exact)
 
 pub read-returns-in-Struct-clause-read : goal.read-returns-in-Struct-clause-read
-read-returns-in-Struct-clause-read t c = rw (c.in-Struct.is, shape-Struct c.in-Struct._fields, ← c.in-Struct.is) c.read_tuples-in-Struct.ensures.read
+read-returns-in-Struct-clause-read t c = rw (c.in-Struct.is, shape-Struct c.in-Struct._fields) (rw c.in-Struct.is at c.read_tuples-in-Struct.ensures.read)
 
 pub read-returns-in-Struct-clause-exact : goal.read-returns-in-Struct-clause-exact
-read-returns-in-Struct-clause-exact t c = rw (c.in-Struct.is, shape-Struct c.in-Struct._fields, ← c.in-Struct.is) c.read_tuples-in-Struct.ensures.exact
+read-returns-in-Struct-clause-exact t c = rw (c.in-Struct.is, shape-Struct c.in-Struct._fields) (rw c.in-Struct.is at c.read_tuples-in-Struct.ensures.exact)
 
 pub read-returns-in-Option-clause-read : goal.read-returns-in-Option-clause-read
-read-returns-in-Option-clause-read t c = rw (c.in-Option.is, shape-Option c.in-Option._some, ← c.in-Option.is) c.read_choices.ensures.read
+read-returns-in-Option-clause-read t c = rw (c.in-Option.is, shape-Option c.in-Option._some) (rw c.in-Option.is at c.read_choices.ensures.read)
 
 pub read-returns-in-Option-clause-exact : goal.read-returns-in-Option-clause-exact
-read-returns-in-Option-clause-exact t c = rw (c.in-Option.is, shape-Option c.in-Option._some, ← c.in-Option.is) c.read_choices.ensures.exact
+read-returns-in-Option-clause-exact t c = rw (c.in-Option.is, shape-Option c.in-Option._some) (rw c.in-Option.is at c.read_choices.ensures.exact)
 
 pub read-returns-in-Result-clause-read : goal.read-returns-in-Result-clause-read
-read-returns-in-Result-clause-read t c = rw (c.in-Result.is, shape-Result c.in-Result._ok c.in-Result._err, ← c.in-Result.is) c.read_choices-in-Result.ensures.read
+read-returns-in-Result-clause-read t c = rw (c.in-Result.is, shape-Result c.in-Result._ok c.in-Result._err) (rw c.in-Result.is at c.read_choices-in-Result.ensures.read)
 
 pub read-returns-in-Result-clause-exact : goal.read-returns-in-Result-clause-exact
-read-returns-in-Result-clause-exact t c = rw (c.in-Result.is, shape-Result c.in-Result._ok c.in-Result._err, ← c.in-Result.is) c.read_choices-in-Result.ensures.exact
+read-returns-in-Result-clause-exact t c = rw (c.in-Result.is, shape-Result c.in-Result._ok c.in-Result._err) (rw c.in-Result.is at c.read_choices-in-Result.ensures.exact)
 
 pub read-returns-in-Enum-clause-read : goal.read-returns-in-Enum-clause-read
-read-returns-in-Enum-clause-read t c = rw (c.in-Enum.is, shape-Enum c.in-Enum.variants, ← c.in-Enum.is) c.read_enum.ensures.read
+read-returns-in-Enum-clause-read t c = rw (c.in-Enum.is, shape-Enum c.in-Enum.variants) (rw c.in-Enum.is at c.read_enum.ensures.read)
 
 pub read-returns-in-Enum-clause-exact : goal.read-returns-in-Enum-clause-exact
-read-returns-in-Enum-clause-exact t c = rw (c.in-Enum.is, shape-Enum c.in-Enum.variants, ← c.in-Enum.is) c.read_enum.ensures.exact
+read-returns-in-Enum-clause-exact t c = rw (c.in-Enum.is, shape-Enum c.in-Enum.variants) (rw c.in-Enum.is at c.read_enum.ensures.exact)
 
 pub read_lists-returns-in_err-lengths_written-clause-exact : goal.read_lists-returns-in_err-lengths_written-clause-exact
 read_lists-returns-in_err-lengths_written-clause-exact t c = 
@@ -155,21 +151,21 @@ read_lists-returns-clause-read t c =
 pub read_maps-returns-in_err-lengths_written-clause-exact : goal.read_maps-returns-in_err-lengths_written-clause-exact
 read_maps-returns-in_err-lengths_written-clause-exact t c = 
     let refused = err_from_is_err_and c.from_residual.result c.from_residual.ensures.1 in
-    rw (refused.1, refused.2) (maps_fault c.args.k c.args.strict (shape_of c.args.key.now) (shape_of c.args.value.now) _ _ (lengths_fault c.args.k c.args.strict None _ _ _ c.in_err-lengths_written.ensures.refused))
+    rw (refused.1, refused.2) (maps_fault c.args.k c.args.strict (shape_of c.args.key.now) (shape_of c.args.value.now) _ _ (lengths_fault c.args.k c.args.strict None (pair_shape (shape_of c.args.key.now) (shape_of c.args.value.now)) _ _ c.in_err-lengths_written.ensures.refused))
 
 pub read_maps-returns-in_err-keys_written-clause-exact : goal.read_maps-returns-in_err-keys_written-clause-exact
 read_maps-returns-in_err-keys_written-clause-exact t c = 
     let refused = err_from_is_err_and c.from_residual-in_err-keys_written.result c.from_residual-in_err-keys_written.ensures.1 in
-    rw (refused.1, refused.2) (maps_fault c.args.k c.args.strict (shape_of c.args.key.now) (shape_of c.args.value.now) _ _ (elements_fault c.args.k c.args.strict _ c.in_ok-lengths_written.ensures.read None _ (inl (rw (c.length.ensures, c.in_ok-lengths_written.ensures.sum) at c.in_err-keys_written.ensures.exact))))
+    rw (refused.1, refused.2) (maps_fault c.args.k c.args.strict (shape_of c.args.key.now) (shape_of c.args.value.now) _ _ (elements_fault c.args.k c.args.strict (pair_shape (shape_of c.args.key.now) (shape_of c.args.value.now)) c.in_ok-lengths_written.ensures.read None _ (inl (rw (c.length.ensures, c.in_ok-lengths_written.ensures.sum) at c.in_err-keys_written.ensures.exact))))
 
 pub read_maps-returns-in_err-values_written-clause-exact : goal.read_maps-returns-in_err-values_written-clause-exact
 read_maps-returns-in_err-values_written-clause-exact t c = 
     let refused = err_from_is_err_and c.from_residual-in_err-values_written.result c.from_residual-in_err-values_written.ensures.1 in
-    rw (refused.1, refused.2) (maps_fault c.args.k c.args.strict (shape_of c.args.key.now) (shape_of c.args.value.now) _ _ (elements_fault c.args.k c.args.strict _ c.in_ok-lengths_written.ensures.read None _ (fault_of_second _ _ _ c.args.strict _ (rw (c.length.ensures, c.in_ok-lengths_written.ensures.sum) at c.in_ok-keys_written.ensures.read) (rw (c.length-values_written.ensures, c.in_ok-lengths_written.ensures.sum) at c.in_err-values_written.ensures.exact))))
+    rw (refused.1, refused.2) (maps_fault c.args.k c.args.strict (shape_of c.args.key.now) (shape_of c.args.value.now) _ _ (elements_fault c.args.k c.args.strict (pair_shape (shape_of c.args.key.now) (shape_of c.args.value.now)) c.in_ok-lengths_written.ensures.read None _ (fault_of_second _ _ _ c.args.strict _ (rw (c.length.ensures, c.in_ok-lengths_written.ensures.sum) at c.in_ok-keys_written.ensures.read) (rw (c.length-2.ensures, c.in_ok-lengths_written.ensures.sum) at c.in_err-values_written.ensures.exact))))
 
 pub read_maps-returns-clause-read : goal.read_maps-returns-clause-read
 read_maps-returns-clause-read t c = 
-    rw (c.both.ensures, c.both-2.ensures) (reads_maps c.args.k c.args.strict _ _ (reads_lists c.args.k c.args.strict _ c.in_ok-lengths_written.ensures.read c.in_ok-lengths_written.ensures.judged (reads_both _ _ _ c.args.strict (rw (c.length.ensures, c.in_ok-lengths_written.ensures.sum) at c.in_ok-keys_written.ensures.read) (rw (c.length-values_written.ensures, c.in_ok-lengths_written.ensures.sum) at c.in_ok-values_written.ensures.read))))
+    rw (c.both-2.ensures, c.both.ensures) (reads_maps c.args.k c.args.strict _ _ (reads_lists c.args.k c.args.strict _ c.in_ok-lengths_written.ensures.read c.in_ok-lengths_written.ensures.judged (reads_both _ _ _ c.args.strict (rw (c.length.ensures, c.in_ok-lengths_written.ensures.sum) at c.in_ok-keys_written.ensures.read) (rw (c.length-2.ensures, c.in_ok-lengths_written.ensures.sum) at c.in_ok-values_written.ensures.read))))
 
 pub read_arrays-returns-in_err-count-clause-exact : goal.read_arrays-returns-in_err-count-clause-exact
 read_arrays-returns-in_err-count-clause-exact t c = 
@@ -185,16 +181,16 @@ read_arrays-returns-clause-read t c =
     IfOk-weaker c.read.result _ _ (λ written found. reads_all c.args.k c.args.strict _ _ (let over : 2 ^ 64 ≤ c.args.k * c.args.size → ⊥ = λ many. false≢true (c.in_ok-count.ensures.refused.1 many) in omega arith) (rw c.in_ok-count.ensures.product at found)) c.read.ensures.read
 
 pub read_tuples-returns-then-count-eq0-clause-read : goal.read_tuples-returns-then-count-eq0-clause-read
-read_tuples-returns-then-count-eq0-clause-read t c = rw (no_fields (fields_of c.args.node.now) (sym c.field_count.ensures ∙ c.if-count-eq0.true)) c.read_leaf.ensures.read
+read_tuples-returns-then-count-eq0-clause-read t c = rw (no_fields (fields_of c.args.node.now) (sym c.field_count-count.ensures ∙ c.if-count-eq0.true)) c.read_leaf.ensures.read
 
 pub read_tuples-returns-clause-read : goal.read_tuples-returns-clause-read
-read_tuples-returns-clause-read t c = rw (whole_range (fields_of c.args.node.now) c.field_count.result c.field_count.ensures) at c.read_fields.ensures.read
+read_tuples-returns-clause-read t c = rw (whole_range (fields_of c.args.node.now) c.field_count-count.result c.field_count-count.ensures) at c.read_fields.ensures.read
 
 pub read_tuples-returns-then-count-eq0-clause-exact : goal.read_tuples-returns-then-count-eq0-clause-exact
-read_tuples-returns-then-count-eq0-clause-exact t c = rw (no_fields (fields_of c.args.node.now) (sym c.field_count.ensures ∙ c.if-count-eq0.true)) c.read_leaf.ensures.exact
+read_tuples-returns-then-count-eq0-clause-exact t c = rw (no_fields (fields_of c.args.node.now) (sym c.field_count-count.ensures ∙ c.if-count-eq0.true)) c.read_leaf.ensures.exact
 
 pub read_tuples-returns-clause-exact : goal.read_tuples-returns-clause-exact
-read_tuples-returns-clause-exact t c = rw (whole_range (fields_of c.args.node.now) c.field_count.result c.field_count.ensures) at c.read_fields.ensures.exact
+read_tuples-returns-clause-exact t c = rw (whole_range (fields_of c.args.node.now) c.field_count-count.result c.field_count-count.ensures) at c.read_fields.ensures.exact
 
 pub read_fields-returns-in_err-first_written-clause-exact : goal.read_fields-returns-in_err-first_written-clause-exact
 read_fields-returns-in_err-first_written-clause-exact t c = 
@@ -210,11 +206,20 @@ pub read_fields-returns-then-count-gt1-clause-read : goal.read_fields-returns-th
 read_fields-returns-then-count-gt1-clause-read t c = 
     rw (range_pair (fields_of c.args.node.now) c.args.from c.args.to c.if-count-gt1.true c.requires.range.1) (rw c.both.ensures (reads_both c.args.k _ _ c.args.strict c.in_ok-first_written.ensures.read c.in_ok-second_written.ensures.read))
 
-pub read_fields-returns-in-Some-clause-read : goal.read_fields-returns-in-Some-clause-read
-read_fields-returns-in-Some-clause-read t c = rw (one_field (fields_of c.args.node.now) c.args.from c.args.to c.in-Some.field.now (omega (arith, c.if-count-gt1.false, c.requires.range)) c.in-Some.ensures.found) c.read.ensures.read
+pub read_fields-returns-clause-read : goal.read_fields-returns-clause-read
+read_fields-returns-clause-read t c = rw (one_field (fields_of c.args.node.now) c.args.from c.args.to c.in-Some.field.now (omega (arith, c.if-count-gt1.false, c.requires.range)) c.in-Some.ensures.found) c.read.ensures.read
 
-pub read_fields-returns-in-Some-clause-exact : goal.read_fields-returns-in-Some-clause-exact
-read_fields-returns-in-Some-clause-exact t c = rw (one_field (fields_of c.args.node.now) c.args.from c.args.to c.in-Some.field.now (omega (arith, c.if-count-gt1.false, c.requires.range)) c.in-Some.ensures.found) c.read.ensures.exact
+pub read_fields-returns-clause-exact : goal.read_fields-returns-clause-exact
+read_fields-returns-clause-exact t c = rw (one_field (fields_of c.args.node.now) c.args.from c.args.to c.in-Some.field.now (omega (arith, c.if-count-gt1.false, c.requires.range)) c.in-Some.ensures.found) c.read.ensures.exact
+
+pub read-read_enum-requires : goal.read-read_enum-requires
+read-read_enum-requires t c = ?
+
+pub read_enum-read_payloads-requires : goal.read_enum-read_payloads-requires
+read_enum-read_payloads-requires t c = ?
+
+pub read_enum-read_choices-requires : goal.read_enum-read_choices-requires
+read_enum-read_choices-requires t c = ?
 
 pub read_enum-returns-then-count-eq0-clause-read : goal.read_enum-returns-then-count-eq0-clause-read
 read_enum-returns-then-count-eq0-clause-read t c = rw (no_variants (variant_shapes c.args.node.now) (c.requires.count ∙ c.if-count-eq0.true)) c.read_leaf.ensures.read

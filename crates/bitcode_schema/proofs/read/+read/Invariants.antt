@@ -40,4 +40,4 @@ decreases-read_payloads l = steps (depth l.node.now) 2
 
 abbrev pub invariant-read_choices-loop-variant : goal.invariant-read_choices-loop-variant
 invariant-read_choices-loop-variant l =
-    ChoicesTo (shapes_of (variant_shapes l.node.now)) l.count l.strict (cow_rest l.variants) l.initial.input.now l.initial.written l.variant l.written l.input.now
+    ChoicesTo (shapes_of (variant_shapes l.node)) l.count l.strict (cow_rest l.variants) l.initial.input.now l.initial.written l.variant l.written l.input.now
