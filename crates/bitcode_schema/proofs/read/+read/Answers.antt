@@ -1,8 +1,9 @@
 -- By the variant of the node; lengths and variants first, and then what they are of.
-use Rattle.std.proofs.Common.{◌≡◌, ◌∙◌, ◌≤◌, ◌<◌, ◌*◌, ◌^◌, refl, sym, inl, length, Some, None, arith}
+use Rattle.std.proofs.Common.{rules, ◌≡◌, ◌+◌, ◌∙◌, ◌≤◌, ◌<◌, ◌*◌, ◌^◌, refl, sym, inl, length, Some, None, arith}
 use Rattle.std.proofs.lemmas.Bool.{false≢true}
 use Rattle.std.proofs.lemmas.Result.{err_from_is_err_and, IfErr-weaker, IfOk-weaker}
 use Rattle.bitcode_shapes.specs.Shape.{pair_shape}
+use Rattle.bitcode_memory.specs.Fast.{cow_rest}
 use Rattle.bitcode_coder.specs.Length.{short_left, large_left, lengths_left}
 use Rattle.bitcode_enums.proofs.ReadingLemmas.{fault_of_variants}
 use Rattle.bitcode_schema.specs.Forms.{shape_of, shapes_of}
@@ -213,13 +214,19 @@ pub read_fields-returns-clause-exact : goal.read_fields-returns-clause-exact
 read_fields-returns-clause-exact t c = rw (one_field (fields_of c.args.node.now) c.args.from c.args.to c.in-Some.field.now (omega (arith, c.if-count-gt1.false, c.requires.range)) c.in-Some.ensures.found) c.read.ensures.exact
 
 pub read-read_enum-requires : goal.read-read_enum-requires
-read-read_enum-requires t c = ?
+read-read_enum-requires t c = 
+    let most : c.len.result ≤ 256 =
+    (let few = few_payloads c.in-Enum.variants (rw c.in-Enum.is at c.requires.few) in omega (arith, few, c.len.ensures, c.in-Enum.variants.ok.0)) in
+    let count : length (variant_shapes c.args.node.now) ≡ c.len.result =
+    rw c.in-Enum.is (let e = length-Enum c.in-Enum.variants in omega (arith, e, c.len.ensures, c.in-Enum.variants.ok.0)) in
+    (search rules, (c.requires.few, (most, count)))
 
 pub read_enum-read_payloads-requires : goal.read_enum-read_payloads-requires
-read_enum-read_payloads-requires t c = ?
+read_enum-read_payloads-requires t c = (search rules, (c.requires.few, omega (arith, c.requires.count, c.if-count-eq1.true)))
 
 pub read_enum-read_choices-requires : goal.read_enum-read_choices-requires
-read_enum-read_choices-requires t c = ?
+read_enum-read_choices-requires t c = 
+    (search rules, (c.requires.few, ((omega (arith, c.if-count-eq0.false, c.if-count-eq1.false), c.requires.most), c.requires.count)))
 
 pub read_enum-returns-then-count-eq0-clause-read : goal.read_enum-returns-then-count-eq0-clause-read
 read_enum-returns-then-count-eq0-clause-read t c = rw (no_variants (variant_shapes c.args.node.now) (c.requires.count ∙ c.if-count-eq0.true)) c.read_leaf.ensures.read
@@ -248,13 +255,25 @@ pub read_choices-loop-variant-init : goal.read_choices-loop-variant-init
 read_choices-loop-variant-init t c = choices_none (shapes_of (variant_shapes c.args.node.now)) c.args.count c.args.strict _ _ _
 
 pub read_choices-loop-variant-preserved : goal.read_choices-loop-variant-preserved
-read_choices-loop-variant-preserved t c = ?
+read_choices-loop-variant-preserved t c = 
+    rw c.both-written.ensures
+    (choices_next (shapes_of (variant_shapes c.args.node.now)) c.args.count c.args.strict (cow_rest c.read_variants.new.out) c.read_variants.new.input.now c.in_ok-written.written
+    (count_shapes (variant_shapes c.args.node.now) ∙ c.requires.count) c.loop-variant.variant c.loop-variant.written c.loop-variant.input.now c.loop-variant.invariant c.loop-variant-test.true
+    c.in_ok-payloads_written.payloads_written c.read_payloads.new.input.now (c.loop-variant.variant + 1) (omega arith)
+    (rw (c.times-number.ensures, c.as_slice.ensures) at c.in_ok-payloads_written.ensures.read))
 
 pub read_choices-returns-in_err-payloads_written-clause-exact : goal.read_choices-returns-in_err-payloads_written-clause-exact
-read_choices-returns-in_err-payloads_written-clause-exact t c = ?
+read_choices-returns-in_err-payloads_written-clause-exact t c = 
+    let refused = err_from_is_err_and c.from_residual-in_err-payloads_written.result c.from_residual-in_err-payloads_written.ensures.1 in
+    rw (refused.1, refused.2) (choices_fault (shapes_of (variant_shapes c.args.node.now)) c.args.count c.args.strict (cow_rest c.read_variants.new.out) c.read_variants.new.input.now c.in_ok-written.written
+    (count_shapes (variant_shapes c.args.node.now) ∙ c.requires.count) c.loop-variant.variant c.loop-variant.written c.loop-variant.input.now c.loop-variant.invariant c.loop-variant-test.true
+    c.args.k c.args.input.now.now c.in_ok-written.ensures.read _ (rw (c.times-number.ensures, c.as_slice.ensures) at c.in_err-payloads_written.ensures.exact))
 
 pub read_choices-returns-clause-read : goal.read_choices-returns-clause-read
-read_choices-returns-clause-read t c = ?
+read_choices-returns-clause-read t c = 
+    choices_all (shapes_of (variant_shapes c.args.node.now)) c.args.count c.args.strict (cow_rest c.read_variants.new.out) c.read_variants.new.input.now c.in_ok-written.written
+    (count_shapes (variant_shapes c.args.node.now) ∙ c.requires.count) c.loop-variant.variant c.loop-variant.written c.loop-variant.input.now c.loop-variant.invariant c.loop-variant-test.false
+    c.args.k c.args.input.now.now c.in_ok-written.ensures.read c.in_ok-written.ensures.judged
 
 pub read_payloads-returns-in-Some-clause-read : goal.read_payloads-returns-in-Some-clause-read
 read_payloads-returns-in-Some-clause-read t c = rw c.in-Some.ensures.found c.read.ensures.read
