@@ -1,9 +1,9 @@
 -- What is known of a whole input that was checked.
-use Rattle.std.proofs.Common.{◌≡◌, ◌≢◌, Bool, true, false, IsTrue, ℕ, ◌<◌, List, [], ◌∷◌, length, refl, sym, ◌∙◌, subst, inl, inr, ⊎_elim, arith}
+use Rattle.std.proofs.Common.{◌≢◌, Bool, true, IsTrue, ℕ, ◌<◌, List, [], ◌∷◌, length, refl, sym, ◌∙◌, subst, ⊎_elim, arith}
 use Rattle.std.specs.Prelude.{◌↔◌}
 use Rattle.std.proofs.lemmas.List.{append-nil}
 use Rattle.bitcode_memory.specs.declared.error.Reason.{Reason}
-use Rattle.bitcode_memory.specs.declared.error.Reason.TheVariants.{OutOfMemory, ExpectedEof}
+use Rattle.bitcode_memory.specs.declared.error.Reason.TheVariants.{OutOfMemory}
 use Rattle.bitcode_columns.specs.Reading.{Reads}
 use Rattle.bitcode_shapes.specs.Datum.{Datum}
 use Rattle.bitcode_shapes.specs.Shape.{Shape}
@@ -11,7 +11,7 @@ use Rattle.bitcode_coder.specs.Coder.{IsReadingReason}
 use Rattle.bitcode_coder.specs.Spelling.{Spells}
 use Rattle.bitcode_coder.specs.Strict.{StrictlySpells, JudgesData}
 use Rattle.bitcode_coder.proofs.StrictLemmas.{judged_data}
-use Rattle.bitcode_derive.specs.Strict.{StrictlySpellsDatum, IsStrictRefusal, no_memory, none_spelled, SpellsOtherwise}
+use Rattle.bitcode_derive.specs.Strict.{StrictlySpellsDatum, IsStrictRefusal, no_memory, none_spelled}
 use Rattle.bitcode_derive.specs.Whole.{SpellsDatum, NamesWholeFault, in_columns, bytes_left, in_making}
 use Rattle.bitcode_derive.proofs.DecodingLemmas.{none_spelled-unread, none_spelled-left}
 use Rattle.bitcode_derive.proofs.FaultRefusalLemmas.{fault_refuses}

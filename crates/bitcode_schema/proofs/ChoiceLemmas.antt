@@ -1,7 +1,6 @@
 -- Choices are read as their variants, and then the payloads of one variant after another.
-use Rattle.std.proofs.Common.{◌≡◌, ℕ, suc, ◌+◌, ◌<◌, ◌≤◌, Bool, ◌&&◌, IsTrue, List, [], ◌∷◌, length, replicate, map, refl, sym, ap, subst, ◌∙◌, inl, inr, arith, get_or-set_same, length-set}
-use Rattle.std.specs.Prelude.{◌↔◌, ◌++◌, slice_set,}
-use Rattle.std.specs.declared.alloc.Global.{Global}
+use Rattle.std.proofs.Common.{◌≡◌, ℕ, suc, ◌<◌, ◌≤◌, Bool, ◌&&◌, IsTrue, List, [], ◌∷◌, length, replicate, refl, sym, ap, subst, ◌∙◌, get_or-set_same, length-set}
+use Rattle.std.specs.Prelude.{◌↔◌, ◌++◌, slice_set}
 use Rattle.std.proofs.lemmas.List.{length-replicate}
 use Rattle.bitcode_memory.specs.declared.error.Reason.{Reason}
 use Rattle.bitcode_columns.specs.Histogram.{count_of}
@@ -9,14 +8,13 @@ use Rattle.bitcode_columns.specs.Reading.{Reads}
 use Rattle.bitcode_columns.specs.VariantColumn.{SpellsVariants, variant_text}
 use Rattle.bitcode_shapes.specs.Datum.{Datum}
 use Rattle.bitcode_shapes.specs.Shape.{Shape, Shapes, choice_shape, variant_count}
-use Rattle.bitcode_coder.specs.Faults.{NamesVariantsFault}
 use Rattle.bitcode_coder.specs.FirstFault.{IsFirstFault}
 use Rattle.bitcode_coder.specs.Spelling.{Spells}
 use Rattle.bitcode_coder.specs.Strict.{JudgesData}
 use Rattle.bitcode_parts.specs.Payloads.{payloads_of, choices_of}
 use Rattle.bitcode_enums.specs.ByNumber.{shape_at, KeepsOthers}
 use Rattle.bitcode_enums.proofs.PayloadReadingLemmas.{ReadTo, read_none, fault_there, read_next, read_all}
-use Rattle.bitcode_enums.proofs.ReadingLemmas.{reads_enum, fault_of_variants, fault_of_payloads}
+use Rattle.bitcode_enums.proofs.ReadingLemmas.{reads_enum, fault_of_payloads}
 use Rattle.bitcode_enums.proofs.StrictLemmas.{JudgedTo, judged_none, judged_next, judged_all}
 use Rattle.bitcode_schema.specs.Forms.{shapes_of}
 use Rattle.bitcode_schema.specs.Reading.{ReadsData}

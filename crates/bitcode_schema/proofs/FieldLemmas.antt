@@ -1,5 +1,5 @@
 -- Fields are read by halves.
-use Rattle.std.proofs.Common.{◌≡◌, ℕ, zero, suc, ◌+◌, ◌-◌, ◌*◌, ◌/◌, ◌<◌, ◌≤◌, Bool, ◌&&◌, IsTrue, List, [], ◌∷◌, length, map, take, drop, Some, slice_get, refl, sym, ap, ap₂, subst, ◌∙◌, inl, inr, arith, length-drop}
+use Rattle.std.proofs.Common.{◌≡◌, ℕ, zero, suc, ◌+◌, ◌-◌, ◌/◌, ◌<◌, ◌≤◌, Bool, ◌&&◌, List, [], ◌∷◌, length, map, take, drop, Some, slice_get, refl, sym, ap, ap₂, ◌∙◌, inr, arith, length-drop}
 use Rattle.std.proofs.lemmas.List.{length-take-le, drop-take, length-map}
 use Rattle.std.specs.List.{take-map, drop-map}
 use Rattle.std.proofs.Math.Nat.{div-lt_self}

@@ -1,5 +1,5 @@
 -- A limit below 255 applies to the short bytes, which are the lengths where none of them is an escape.
-use Rattle.std.proofs.Common.{◌≡◌, ◌≢◌, ℕ, ◌+◌, ◌<◌, ◌≤◌, Bool, true, false, cond, eqb, MatchBool, Some, List, [], ◌∷◌, All, refl, sym, ◌∙◌, subst, arith}
+use Rattle.std.proofs.Common.{◌≡◌, ◌≢◌, ℕ, ◌<◌, ◌≤◌, Bool, true, false, cond, eqb, MatchBool, Some, List, [], ◌∷◌, All, refl, sym, subst, arith}
 use Rattle.std.specs.Prelude.{count_by}
 use Rattle.std.proofs.lemmas.Bool.{lt-ltb, le-ltb, ne_eqb, cond-false}
 use Rattle.std.proofs.lemmas.List.Sums.{sum_by-cons}

@@ -8,7 +8,6 @@ use Rattle.bitcode_shapes.specs.Shape.{Shape, seq_shape, map_shape, pair_shape, 
 use Rattle.bitcode_coder.specs.FirstFault.{ListsFault, IsFirstFault}
 use Rattle.bitcode_coder.specs.LengthColumn.{SpellsLengths, KeepsCap, length_bytes, lengths_from}
 use Rattle.bitcode_coder.specs.LengthParts.{NamesLengthFault, ReadsParts}
-use Rattle.bitcode_coder.specs.TextParts.{in_texts}
 use Rattle.bitcode_coder.proofs.LengthRefusalLemmas.{cap_kept}
 use Rattle.bitcode_coder.proofs.LimitedTextLemmas.{limited_read, limit_named}
 use Rattle.bitcode_parts.specs.Arrays.{arrays_of}

@@ -53,20 +53,8 @@ impl SchemaNode {
             → IfSome result (λ node. has_few_variants node.now ≡ true) }
     {
         match self {
-            SchemaNode::Option(some) => {
-                if i == 1 {
-                    Some(some)
-                } else {
-                    None
-                }
-            }
-            SchemaNode::Result(ok, err) => {
-                if i == 0 {
-                    Some(ok)
-                } else {
-                    Some(err)
-                }
-            }
+            SchemaNode::Option(some) => { if i == 1 { Some(some) } else { None } }
+            SchemaNode::Result(ok, err) => { if i == 0 { Some(ok) } else { Some(err) } }
             SchemaNode::Enum(variants) => match variants.get(i) {
                 Some(variant) => Some(&variant.1),
                 None => None,

@@ -8,9 +8,7 @@ ghost use Rattle.bitcode_schema.specs.Forms.{shape_of, shapes_of, enum_shape};
 ghost use Rattle.bitcode_schema.specs.Reading.{ReadsData, fields_of, fields_between, shape_of_fields, variant_shapes};
 
 use crate::choices::{read_variants, times};
-use crate::leaves::{
-    read_durations, read_ints, read_leaf, read_nonzeros, read_texts, read_uuids,
-};
+use crate::leaves::{read_durations, read_ints, read_leaf, read_nonzeros, read_texts, read_uuids};
 use crate::limits::exceed;
 use crate::schema::SchemaNode;
 use bitcode_coder::bool::BoolDecoder;

@@ -1,5 +1,5 @@
 -- By the base of the digits.
-use Rattle.std.proofs.Common.{◌≡◌, ◌≤◌, ◌++◌, IsTrue, subst, arith}
+use Rattle.std.proofs.Common.{◌≡◌, ◌++◌, IsTrue, subst, arith}
 use Rattle.std.specs.Prelude.{◌↔◌}
 use Rattle.std.proofs.lemmas.Result.{IfErr-weaker, IfOk-weaker}
 use Rattle.bitcode_memory.specs.Fast.{cow_rest}

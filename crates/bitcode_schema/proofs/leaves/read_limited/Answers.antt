@@ -1,5 +1,4 @@
 -- The lengths are compared with the limit once the texts are read.
-use Rattle.std.proofs.Common.{◌≡◌, true, false}
 use Rattle.std.proofs.lemmas.Result.{err_from_is_err_and}
 use Rattle.bitcode_coder.specs.Length.{short_left, large_left, lengths_left}
 use Rattle.bitcode_coder.specs.TextParts.{in_texts, in_lengths}

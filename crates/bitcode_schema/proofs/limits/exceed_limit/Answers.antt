@@ -1,5 +1,4 @@
 -- Below 255, each short byte is its length where none exceeds the limit.
-use Rattle.std.proofs.Common.{arith}
 use Rattle.bitcode_coder.specs.Length.{short_left, large_left, lengths_left}
 use Rattle.bitcode_schema.proofs.LimitLemmas.{judged_as, cap_from_both, both_from_cap, cap_long, long_cap}
 use Rattle.bitcode_schema.proofs.limits.exceed_limit.Goals as goal

@@ -1,5 +1,5 @@
 -- The parts of a node are less deep, and fewer fields are left. The payloads of the variants so far were read.
-use Rattle.std.proofs.Common.{◌≡◌, ℕ, ◌+◌, ◌-◌, ◌*◌, ◌^◌, max}
+use Rattle.std.proofs.Common.{ℕ, ◌+◌, ◌-◌, ◌*◌, ◌^◌, max}
 use Rattle.bitcode_memory.specs.Fast.{cow_rest}
 use Rattle.bitcode_schema.specs.Depth.{depth}
 use Rattle.bitcode_schema.specs.Forms.{shapes_of}

@@ -1,7 +1,6 @@
 -- By the variant of the node.
-use Rattle.std.proofs.Common.{◌≡◌, ◌<◌, ◌≤◌, Some, length, subst}
+use Rattle.std.proofs.Common.{◌≡◌, ◌≤◌, Some, length, subst}
 use Rattle.std.specs.Prelude.{slice_get}
-use Rattle.bitcode_schema.specs.Reading.{fields_of}
 use Rattle.bitcode_schema.proofs.PartLemmas.{element, found-Tuple, deeper-Tuple, few_in-Tuple, found-Struct, deeper-Struct, few_in-Struct, field_there}
 use Rattle.bitcode_schema.proofs.schema.SchemaNode.field.Goals as goal
 
