@@ -8,3 +8,4 @@ pub mod SequenceLemmas
 pub mod ChoiceLemmas
 pub mod CheckLemmas
 pub mod LeafLemmas
+pub mod SoundLemmas

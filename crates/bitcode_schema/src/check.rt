@@ -3,7 +3,7 @@ ghost use Rattle.std.specs.Prelude.{◌≢◌, ◌↔◌, ℕ, true, IsTrue, IfO
 ghost use Rattle.bitcode_shapes.specs.Datum.{Datum};
 ghost use Rattle.bitcode_coder.specs.Coder.{IsReadingReason};
 ghost use Rattle.bitcode_derive.specs.Strict.{StrictlySpellsDatum, IsStrictRefusal};
-ghost use Rattle.bitcode_derive.specs.Whole.{SpellsDatum, SpellsAtMostOne, NamesWholeFault};
+ghost use Rattle.bitcode_derive.specs.Whole.{SpellsDatum, SpellsAtMostOne, IsBoundedByBytes, NamesWholeFault};
 ghost use Rattle.bitcode_schema.specs.Forms.{shape_of};
 
 use crate::read::read;
@@ -44,6 +44,7 @@ pub fn check_value(alloc: Global, schema: &Schema, bytes: &[u8]) -> Result<(), E
     ensures spelled { OnOk result
         ((d : Datum) × SpellsDatum (shape_of schema.now.root) bytes.now d) }
     ensures unambiguous { SpellsAtMostOne (shape_of schema.now.root) bytes.now }
+    ensures bounded { IsBoundedByBytes (shape_of schema.now.root) bytes.now }
     ensures reasons { IfErr result (λ e. IsReadingReason e.reason) }
     ensures refused { IfErr result
         (λ e. e.reason ≢ Reason.OutOfMemory → (d : Datum)
@@ -69,6 +70,7 @@ pub fn check_value_strict(alloc: Global, schema: &Schema, bytes: &[u8]) -> Resul
     ensures spelled { OnOk result
         ((d : Datum) × StrictlySpellsDatum (shape_of schema.now.root) bytes.now d) }
     ensures unambiguous { SpellsAtMostOne (shape_of schema.now.root) bytes.now }
+    ensures bounded { IsBoundedByBytes (shape_of schema.now.root) bytes.now }
     ensures refused { IfErr result
         (λ e. IsStrictRefusal (shape_of schema.now.root) e.reason bytes.now) }
     ensures exact { IfErr result
