@@ -1,5 +1,6 @@
 //! The library: each public call, single columns, and values of each type.
 mod calls;
 mod columns;
+mod schemas;
 mod values;
 mod values_by_schema;

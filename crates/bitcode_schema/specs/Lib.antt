@@ -3,6 +3,8 @@ pub mod Leaves
 pub mod Forms
 pub mod FormRows
 pub mod Depth
+pub mod Reading
+pub mod Variants
 pub mod Views
 pub mod Writing
 pub mod Choosing

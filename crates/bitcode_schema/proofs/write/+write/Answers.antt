@@ -34,7 +34,8 @@ use Rattle.bitcode_schema.proofs.CaseWritingLemmas.{one_more, payloads_more, pay
 use Rattle.bitcode_schema.proofs.ChoiceWritingLemmas.{writes_choices, stranger_of_variant, stranger_variant}
 use Rattle.bitcode_schema.proofs.ContentLemmas.{content-Bool, content-Char, content-Duration, content-F32, content-F64, content-Int, content-NonZero, content-Str, content-Unit, content-Uuid, content-List, content-Map, content-Array, content-Option, content-Result, content-Tuple, content-Struct, content-Enum}
 use Rattle.bitcode_schema.proofs.NodeLemmas.{few-Tuple, few-Struct, few-Enum, depth-Tuple, depth-Struct, depth-Enum}
-use Rattle.bitcode_schema.proofs.ShapeLemmas.{shape-Never, shape-Bool, shape-Char, shape-Duration, shape-F32, shape-F64, shape-Int, shape-NonZero, shape-Str, shape-Unit, shape-Uuid, shape-List, shape-Map, shape-Array, shape-Option, shape-Result, shape-Tuple, shape-Struct, shape-Enum}
+use Rattle.bitcode_schema.proofs.PartShapeLemmas.{option_shape, result_shape, tuple_shape, struct_shape, enum_node_shape}
+use Rattle.bitcode_schema.proofs.ShapeLemmas.{shape-Never, shape-Bool, shape-Char, shape-Duration, shape-F32, shape-F64, shape-Int, shape-NonZero, shape-Str, shape-Unit, shape-Uuid, shape-List, shape-Map, shape-Array}
 use Rattle.bitcode_schema.proofs.write.+write.Goals as goal
 
 pub write_arrays-returns-in_err-held-clause-refused : goal.write_arrays-returns-in_err-held-clause-refused
@@ -495,35 +496,35 @@ pub write_each-returns-in-Option-clause-written : goal.write_each-returns-in-Opt
 write_each-returns-in-Option-clause-written t c =
     rw c.in-Option.is
     (on_ok_weaker c.write_options.result
-    (λ w. writes_as (λ v. under (option_of v) (option_content (content_under c.in-Option.some.value))) (content_under (node.Option c.in-Option.some)) (λ v. sym (content-Option c.in-Option.some v)) (choice_shape (shape_and unit_shape (shape_and (shape_of c.in-Option.some.value) no_shapes))) (shape_of (node.Option c.in-Option.some)) (sym (shape-Option c.in-Option.some)) (map (λ v. v.now) c.args.values.now) c.args.out.now.items c.write_options.new.out.items
+    (λ w. writes_as (λ v. under (option_of v) (option_content (content_under c.in-Option.some.value))) (content_under (node.Option c.in-Option.some)) (λ v. sym (content-Option c.in-Option.some v)) (choice_shape (shape_and unit_shape (shape_and (shape_of c.in-Option.some.value) no_shapes))) (shape_of (node.Option c.in-Option.some)) (sym (option_shape c.in-Option.some)) (map (λ v. v.now) c.args.values.now) c.args.out.now.items c.write_options.new.out.items
     (subst (λ m. Writes (λ v. under (option_of v) (option_content (content_under m))) (choice_shape (shape_and unit_shape (shape_and (shape_of m) no_shapes))) (map (λ v. v.now) c.args.values.now) c.args.out.now.items c.write_options.new.out.items) c.deref-in-Option.ensures w)) c.write_options.ensures.written)
 
 pub write_each-returns-in-Result-clause-written : goal.write_each-returns-in-Result-clause-written
 write_each-returns-in-Result-clause-written t c =
     rw c.in-Result.is
     (on_ok_weaker c.write_results.result
-    (λ w. writes_as (λ v. under (enum_of v) (choice_under (content_under c.in-Result.ok.value ∷ content_under c.in-Result.other.value ∷ []))) (content_under (node.Result c.in-Result.ok c.in-Result.other)) (λ v. sym (content-Result c.in-Result.ok c.in-Result.other v)) (choice_shape (shape_and (shape_of c.in-Result.ok.value) (shape_and (shape_of c.in-Result.other.value) no_shapes))) (shape_of (node.Result c.in-Result.ok c.in-Result.other)) (sym (shape-Result c.in-Result.ok c.in-Result.other)) (map (λ v. v.now) c.args.values.now) c.args.out.now.items c.write_results.new.out.items
+    (λ w. writes_as (λ v. under (enum_of v) (choice_under (content_under c.in-Result.ok.value ∷ content_under c.in-Result.other.value ∷ []))) (content_under (node.Result c.in-Result.ok c.in-Result.other)) (λ v. sym (content-Result c.in-Result.ok c.in-Result.other v)) (choice_shape (shape_and (shape_of c.in-Result.ok.value) (shape_and (shape_of c.in-Result.other.value) no_shapes))) (shape_of (node.Result c.in-Result.ok c.in-Result.other)) (sym (result_shape c.in-Result.ok c.in-Result.other)) (map (λ v. v.now) c.args.values.now) c.args.out.now.items c.write_results.new.out.items
     (subst (λ m. Writes (λ v. under (enum_of v) (choice_under (content_under c.in-Result.ok.value ∷ content_under m ∷ []))) (choice_shape (shape_and (shape_of c.in-Result.ok.value) (shape_and (shape_of m) no_shapes))) (map (λ v. v.now) c.args.values.now) c.args.out.now.items c.write_results.new.out.items) c.deref-in-Result-2.ensures (subst (λ m. Writes (λ v. under (enum_of v) (choice_under (content_under m ∷ content_under c.deref-in-Result-2.result.now ∷ []))) (choice_shape (shape_and (shape_of m) (shape_and (shape_of c.deref-in-Result-2.result.now) no_shapes))) (map (λ v. v.now) c.args.values.now) c.args.out.now.items c.write_results.new.out.items) c.deref-in-Result.ensures w))) c.write_results.ensures.written)
 
 pub write_each-returns-in_ok-each_node-in-Tuple-clause-written : goal.write_each-returns-in_ok-each_node-in-Tuple-clause-written
 write_each-returns-in_ok-each_node-in-Tuple-clause-written t c =
     rw c.in-Tuple.is
     (on_ok_weaker c.write_rows.result
-    (λ w. writes_as (λ v. under (fields_of v) (fields_content (contents_of c.in-Tuple.nodes.items))) (content_under (node.Tuple c.in-Tuple.nodes)) (λ v. sym (content-Tuple c.in-Tuple.nodes v)) (fields_shape (map shape_of c.in-Tuple.nodes.items)) (shape_of (node.Tuple c.in-Tuple.nodes)) (sym (shape-Tuple c.in-Tuple.nodes)) (map (λ v. v.now) c.args.values.now) c.args.out.now.items c.write_rows.new.out.items
+    (λ w. writes_as (λ v. under (fields_of v) (fields_content (contents_of c.in-Tuple.nodes.items))) (content_under (node.Tuple c.in-Tuple.nodes)) (λ v. sym (content-Tuple c.in-Tuple.nodes v)) (fields_shape (map shape_of c.in-Tuple.nodes.items)) (shape_of (node.Tuple c.in-Tuple.nodes)) (sym (tuple_shape c.in-Tuple.nodes)) (map (λ v. v.now) c.args.values.now) c.args.out.now.items c.write_rows.new.out.items
     (subst (λ m. Writes (λ v. under (fields_of v) (fields_content (contents_of m))) (fields_shape (map shape_of m)) (map (λ v. v.now) c.args.values.now) c.args.out.now.items c.write_rows.new.out.items) (ap (map (λ n. n.now)) c.deref-in-Tuple-2.ensures.value ∙ c.in_ok-each_node-in-Tuple.ensures.same ∙ c.deref-in-Tuple.ensures.value) w)) c.write_rows.ensures.written)
 
 pub write_each-returns-in_ok-named_nodes-in-Struct-clause-written : goal.write_each-returns-in_ok-named_nodes-in-Struct-clause-written
 write_each-returns-in_ok-named_nodes-in-Struct-clause-written t c =
     rw c.in-Struct.is
     (on_ok_weaker c.write_rows-in-Struct.result
-    (λ w. writes_as (λ v. under (fields_of v) (fields_content (contents_of (parts_of c.in-Struct.named.items)))) (content_under (node.Struct c.in-Struct.named)) (λ v. sym (content-Struct c.in-Struct.named v)) (fields_shape (map shape_of (parts_of c.in-Struct.named.items))) (shape_of (node.Struct c.in-Struct.named)) (sym (shape-Struct c.in-Struct.named)) (map (λ v. v.now) c.args.values.now) c.args.out.now.items c.write_rows-in-Struct.new.out.items
+    (λ w. writes_as (λ v. under (fields_of v) (fields_content (contents_of (parts_of c.in-Struct.named.items)))) (content_under (node.Struct c.in-Struct.named)) (λ v. sym (content-Struct c.in-Struct.named v)) (fields_shape (map shape_of (parts_of c.in-Struct.named.items))) (shape_of (node.Struct c.in-Struct.named)) (sym (struct_shape c.in-Struct.named)) (map (λ v. v.now) c.args.values.now) c.args.out.now.items c.write_rows-in-Struct.new.out.items
     (subst (λ m. Writes (λ v. under (fields_of v) (fields_content (contents_of m))) (fields_shape (map shape_of m)) (map (λ v. v.now) c.args.values.now) c.args.out.now.items c.write_rows-in-Struct.new.out.items) (ap (map (λ n. n.now)) c.deref-in-Struct-2.ensures.value ∙ c.in_ok-named_nodes-in-Struct.ensures.same ∙ ap parts_of c.deref-in-Struct.ensures.value) w)) c.write_rows-in-Struct.ensures.written)
 
 pub write_each-returns-in_ok-named_nodes-in-Enum-clause-written : goal.write_each-returns-in_ok-named_nodes-in-Enum-clause-written
 write_each-returns-in_ok-named_nodes-in-Enum-clause-written t c =
     rw c.in-Enum.is
     (on_ok_weaker c.write_enums.result
-    (λ w. writes_as (λ v. under (enum_of v) (enum_under (contents_of (parts_of c.in-Enum.named.items)))) (content_under (node.Enum c.in-Enum.named)) (λ v. sym (content-Enum c.in-Enum.named v)) (enum_shape (map shape_of (parts_of c.in-Enum.named.items))) (shape_of (node.Enum c.in-Enum.named)) (sym (shape-Enum c.in-Enum.named)) (map (λ v. v.now) c.args.values.now) c.args.out.now.items c.write_enums.new.out.items
+    (λ w. writes_as (λ v. under (enum_of v) (enum_under (contents_of (parts_of c.in-Enum.named.items)))) (content_under (node.Enum c.in-Enum.named)) (λ v. sym (content-Enum c.in-Enum.named v)) (enum_shape (map shape_of (parts_of c.in-Enum.named.items))) (shape_of (node.Enum c.in-Enum.named)) (sym (enum_node_shape c.in-Enum.named)) (map (λ v. v.now) c.args.values.now) c.args.out.now.items c.write_enums.new.out.items
     (subst (λ m. Writes (λ v. under (enum_of v) (enum_under (contents_of m))) (enum_shape (map shape_of m)) (map (λ v. v.now) c.args.values.now) c.args.out.now.items c.write_enums.new.out.items) (ap (map (λ n. n.now)) c.deref-in-Enum-2.ensures.value ∙ c.in_ok-named_nodes-in-Enum.ensures.same ∙ ap parts_of c.deref-in-Enum.ensures.value) w)) c.write_enums.ensures.written)
 
 pub write_each-returns-in-List-clause-refused : goal.write_each-returns-in-List-clause-refused
@@ -555,7 +556,7 @@ write_each-returns-in-Option-clause-refused t c =
     rw c.in-Option.is
     (IfErr-weaker c.write_options.result _ _
     (λ e. refusal_as e.reason
-    (λ w. stranger_as (λ v. under (option_of v) (option_content (content_under c.in-Option.some.value))) (content_under (node.Option c.in-Option.some)) (λ v. sym (content-Option c.in-Option.some v)) (choice_shape (shape_and unit_shape (shape_and (shape_of c.in-Option.some.value) no_shapes))) (shape_of (node.Option c.in-Option.some)) (sym (shape-Option c.in-Option.some)) (map (λ v. v.now) c.args.values.now)
+    (λ w. stranger_as (λ v. under (option_of v) (option_content (content_under c.in-Option.some.value))) (content_under (node.Option c.in-Option.some)) (λ v. sym (content-Option c.in-Option.some v)) (choice_shape (shape_and unit_shape (shape_and (shape_of c.in-Option.some.value) no_shapes))) (shape_of (node.Option c.in-Option.some)) (sym (option_shape c.in-Option.some)) (map (λ v. v.now) c.args.values.now)
     (subst (λ m. HasStranger (λ v. under (option_of v) (option_content (content_under m))) (choice_shape (shape_and unit_shape (shape_and (shape_of m) no_shapes))) (map (λ v. v.now) c.args.values.now)) c.deref-in-Option.ensures w))) c.write_options.ensures.refused)
 
 pub write_each-returns-in-Result-clause-refused : goal.write_each-returns-in-Result-clause-refused
@@ -563,7 +564,7 @@ write_each-returns-in-Result-clause-refused t c =
     rw c.in-Result.is
     (IfErr-weaker c.write_results.result _ _
     (λ e. refusal_as e.reason
-    (λ w. stranger_as (λ v. under (enum_of v) (choice_under (content_under c.in-Result.ok.value ∷ content_under c.in-Result.other.value ∷ []))) (content_under (node.Result c.in-Result.ok c.in-Result.other)) (λ v. sym (content-Result c.in-Result.ok c.in-Result.other v)) (choice_shape (shape_and (shape_of c.in-Result.ok.value) (shape_and (shape_of c.in-Result.other.value) no_shapes))) (shape_of (node.Result c.in-Result.ok c.in-Result.other)) (sym (shape-Result c.in-Result.ok c.in-Result.other)) (map (λ v. v.now) c.args.values.now)
+    (λ w. stranger_as (λ v. under (enum_of v) (choice_under (content_under c.in-Result.ok.value ∷ content_under c.in-Result.other.value ∷ []))) (content_under (node.Result c.in-Result.ok c.in-Result.other)) (λ v. sym (content-Result c.in-Result.ok c.in-Result.other v)) (choice_shape (shape_and (shape_of c.in-Result.ok.value) (shape_and (shape_of c.in-Result.other.value) no_shapes))) (shape_of (node.Result c.in-Result.ok c.in-Result.other)) (sym (result_shape c.in-Result.ok c.in-Result.other)) (map (λ v. v.now) c.args.values.now)
     (subst (λ m. HasStranger (λ v. under (enum_of v) (choice_under (content_under c.in-Result.ok.value ∷ content_under m ∷ []))) (choice_shape (shape_and (shape_of c.in-Result.ok.value) (shape_and (shape_of m) no_shapes))) (map (λ v. v.now) c.args.values.now)) c.deref-in-Result-2.ensures (subst (λ m. HasStranger (λ v. under (enum_of v) (choice_under (content_under m ∷ content_under c.deref-in-Result-2.result.now ∷ []))) (choice_shape (shape_and (shape_of m) (shape_and (shape_of c.deref-in-Result-2.result.now) no_shapes))) (map (λ v. v.now) c.args.values.now)) c.deref-in-Result.ensures w)))) c.write_results.ensures.refused)
 
 pub write_each-returns-in_ok-each_node-in-Tuple-clause-refused : goal.write_each-returns-in_ok-each_node-in-Tuple-clause-refused
@@ -571,7 +572,7 @@ write_each-returns-in_ok-each_node-in-Tuple-clause-refused t c =
     rw c.in-Tuple.is
     (IfErr-weaker c.write_rows.result _ _
     (λ e. refusal_as e.reason
-    (λ w. stranger_as (λ v. under (fields_of v) (fields_content (contents_of c.in-Tuple.nodes.items))) (content_under (node.Tuple c.in-Tuple.nodes)) (λ v. sym (content-Tuple c.in-Tuple.nodes v)) (fields_shape (map shape_of c.in-Tuple.nodes.items)) (shape_of (node.Tuple c.in-Tuple.nodes)) (sym (shape-Tuple c.in-Tuple.nodes)) (map (λ v. v.now) c.args.values.now)
+    (λ w. stranger_as (λ v. under (fields_of v) (fields_content (contents_of c.in-Tuple.nodes.items))) (content_under (node.Tuple c.in-Tuple.nodes)) (λ v. sym (content-Tuple c.in-Tuple.nodes v)) (fields_shape (map shape_of c.in-Tuple.nodes.items)) (shape_of (node.Tuple c.in-Tuple.nodes)) (sym (tuple_shape c.in-Tuple.nodes)) (map (λ v. v.now) c.args.values.now)
     (subst (λ m. HasStranger (λ v. under (fields_of v) (fields_content (contents_of m))) (fields_shape (map shape_of m)) (map (λ v. v.now) c.args.values.now)) (ap (map (λ n. n.now)) c.deref-in-Tuple-2.ensures.value ∙ c.in_ok-each_node-in-Tuple.ensures.same ∙ c.deref-in-Tuple.ensures.value) w))) c.write_rows.ensures.refused)
 
 pub write_each-returns-in_ok-named_nodes-in-Struct-clause-refused : goal.write_each-returns-in_ok-named_nodes-in-Struct-clause-refused
@@ -579,7 +580,7 @@ write_each-returns-in_ok-named_nodes-in-Struct-clause-refused t c =
     rw c.in-Struct.is
     (IfErr-weaker c.write_rows-in-Struct.result _ _
     (λ e. refusal_as e.reason
-    (λ w. stranger_as (λ v. under (fields_of v) (fields_content (contents_of (parts_of c.in-Struct.named.items)))) (content_under (node.Struct c.in-Struct.named)) (λ v. sym (content-Struct c.in-Struct.named v)) (fields_shape (map shape_of (parts_of c.in-Struct.named.items))) (shape_of (node.Struct c.in-Struct.named)) (sym (shape-Struct c.in-Struct.named)) (map (λ v. v.now) c.args.values.now)
+    (λ w. stranger_as (λ v. under (fields_of v) (fields_content (contents_of (parts_of c.in-Struct.named.items)))) (content_under (node.Struct c.in-Struct.named)) (λ v. sym (content-Struct c.in-Struct.named v)) (fields_shape (map shape_of (parts_of c.in-Struct.named.items))) (shape_of (node.Struct c.in-Struct.named)) (sym (struct_shape c.in-Struct.named)) (map (λ v. v.now) c.args.values.now)
     (subst (λ m. HasStranger (λ v. under (fields_of v) (fields_content (contents_of m))) (fields_shape (map shape_of m)) (map (λ v. v.now) c.args.values.now)) (ap (map (λ n. n.now)) c.deref-in-Struct-2.ensures.value ∙ c.in_ok-named_nodes-in-Struct.ensures.same ∙ ap parts_of c.deref-in-Struct.ensures.value) w))) c.write_rows-in-Struct.ensures.refused)
 
 pub write_each-returns-in_ok-named_nodes-in-Enum-clause-refused : goal.write_each-returns-in_ok-named_nodes-in-Enum-clause-refused
@@ -587,7 +588,7 @@ write_each-returns-in_ok-named_nodes-in-Enum-clause-refused t c =
     rw c.in-Enum.is
     (IfErr-weaker c.write_enums.result _ _
     (λ e. refusal_as e.reason
-    (λ w. stranger_as (λ v. under (enum_of v) (enum_under (contents_of (parts_of c.in-Enum.named.items)))) (content_under (node.Enum c.in-Enum.named)) (λ v. sym (content-Enum c.in-Enum.named v)) (enum_shape (map shape_of (parts_of c.in-Enum.named.items))) (shape_of (node.Enum c.in-Enum.named)) (sym (shape-Enum c.in-Enum.named)) (map (λ v. v.now) c.args.values.now)
+    (λ w. stranger_as (λ v. under (enum_of v) (enum_under (contents_of (parts_of c.in-Enum.named.items)))) (content_under (node.Enum c.in-Enum.named)) (λ v. sym (content-Enum c.in-Enum.named v)) (enum_shape (map shape_of (parts_of c.in-Enum.named.items))) (shape_of (node.Enum c.in-Enum.named)) (sym (enum_node_shape c.in-Enum.named)) (map (λ v. v.now) c.args.values.now)
     (subst (λ m. HasStranger (λ v. under (enum_of v) (enum_under (contents_of m))) (enum_shape (map shape_of m)) (map (λ v. v.now) c.args.values.now)) (ap (map (λ n. n.now)) c.deref-in-Enum-2.ensures.value ∙ c.in_ok-named_nodes-in-Enum.ensures.same ∙ ap parts_of c.deref-in-Enum.ensures.value) w))) c.write_enums.ensures.refused)
 
 pub write_each-write_rows-requires : goal.write_each-write_rows-requires

@@ -1,7 +1,7 @@
 -- Variants of several numbers have one base.
 use Rattle.std.proofs.Common.{◌≡◌, ◌++◌, subst}
 use Rattle.std.specs.Prelude.{OnOk}
-use Rattle.bitcode_schema.proofs.VariantLemmas.{same_base, five_or_six, up_to_sixteen, over_sixteen}
+use Rattle.bitcode_schema.proofs.VariantTextLemmas.{same_base, five_or_six, up_to_sixteen, over_sixteen}
 use Rattle.bitcode_schema.proofs.write.entries.write_variants.Goals as goal
 
 pub returns-then-count-le6-clause-written : goal.returns-then-count-le6-clause-written
