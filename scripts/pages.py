@@ -28,7 +28,7 @@ WORDS = {
     "docs/EXAMPLES.md": 1200,
     "docs/FORMAT.md": 3600,
     "docs/GUIDE.md": 3600,
-    "docs/PROMISES.md": 4350,
+    "docs/PROMISES.md": 4600,
     "docs/PROVING.md": 1050,
     "docs/SEALED.md": 1050,
     "docs/SPEED.md": 880,
