@@ -52,6 +52,7 @@ OF_SPECS = [
     ("bitcode_serde_types.specs.Options", "option_datum"),
     ("bitcode_serde_types.specs.Pairs", "map_datum set_datum"),
     ("bitcode_serde_types.specs.Results", "result_tree result_datum"),
+    ("bitcode_serde_types.specs.Restates", "HasNoMap"),
 ]
 
 
@@ -101,19 +102,15 @@ def specs(group):
             f"{shaped.word}_datum = fold-{shaped.name} {group.fold(shaped)}",
             "",
         ]
+    sound = sound_lines(group, inside)
     if several:
         lines.append("mutual")
-    for shaped in group.types:
-        if shaped.is_struct:
-            each = [part.sound("left") for part in shaped.parts]
-        else:
-            each = [payload_sound(parts) for _, parts in shaped.variants]
-        lines += [
-            f"{inside}pub {shaped.word}_sound : (left : ℕ) → IsSound ({shaped.word}_tree left)",
-            f"{inside}{shaped.word}_sound zero = tt",
-            f"{inside}{shaped.word}_sound (suc left) = {sounds(each)}",
-            "",
-        ]
+    lines += sound
+    if not any("map_tree" in shaped.trees("left") for shaped in group.types):
+        lines.append("-- there is no map in it, so that a value keeps all that was read")
+        if several:
+            lines.append("mutual")
+        lines += [re.sub(r"width_\d+", "tt", line).replace("_sound", "_plain").replace("IsSound", "HasNoMap") for line in sound]
     text = "\n".join(lines).rstrip() + "\n"
     names = ", ".join(f"`{shaped.name}`" for shaped in group.types)
     first = group.ordered[0].name
@@ -125,6 +122,23 @@ def specs(group):
     opened = ", ".join(f"{shaped.name}-F" for shaped in group.ordered)
     head += f"use Rattle.{group.crate}.specs.declared.{group.module}.{first}.TheOpen.{{{opened}}}\n"
     return head + "\n" + text
+
+
+def sound_lines(group, inside):
+    """That the columns of each type are such as there are."""
+    lines = []
+    for shaped in group.types:
+        if shaped.is_struct:
+            each = [part.sound("left") for part in shaped.parts]
+        else:
+            each = [payload_sound(parts) for _, parts in shaped.variants]
+        lines += [
+            f"{inside}pub {shaped.word}_sound : (left : ℕ) → IsSound ({shaped.word}_tree left)",
+            f"{inside}{shaped.word}_sound zero = tt",
+            f"{inside}{shaped.word}_sound (suc left) = {sounds(each)}",
+            "",
+        ]
+    return lines
 
 
 def payload_sound(parts):
