@@ -34,6 +34,11 @@ SOUND = {"bool": "tt", "char": "width_4", "String": "tt", "f32": "tt", "f64": "t
 SOUND |= {name: f"width_{width}" for name, width in (UNSIGNED | SIGNED).items()}
 
 
+# the maps, with the functions that make them of pairs, and the keys that they may have
+MAPS = {"BTreeMap": "ordered_map", "HashMap": "hashed_map"}
+KEYS = {*UNSIGNED, *SIGNED, "char", "String"}
+
+
 def rust(type_):
     """The type as Rust writes it."""
     if type_.kind == "reference":
@@ -54,8 +59,36 @@ def inner_of(type_, name):
     return type_.kind == "path" and type_.name == name and len(type_.parts) == 1
 
 
+def is_map(type_):
+    """Whether it is a map with keys that are leaves."""
+    return (
+        type_.kind == "path"
+        and type_.name in MAPS
+        and len(type_.parts) == 2
+        and type_.parts[0].kind == "path"
+        and not type_.parts[0].parts
+        and type_.parts[0].name in KEYS
+    )
+
+
+def is_set(type_):
+    """Whether it is a set of leaves that may be keys."""
+    return (
+        type_.kind == "path"
+        and type_.name in ("BTreeSet", "HashSet")
+        and len(type_.parts) == 1
+        and type_.parts[0].kind == "path"
+        and not type_.parts[0].parts
+        and type_.parts[0].name in KEYS
+    )
+
+
+def is_result(type_):
+    return type_.kind == "path" and type_.name == "Result" and len(type_.parts) == 2
+
+
 class Part:
-    """A field's type: a type of the group, a box or a list of one, a box of one in an option, or any other type."""
+    """A field's type: a type of the group, a box, a list or a map of such, a box of one in an option, or any other."""
 
     def __init__(self, type_, group):
         self.type, self.rust, self.kind, self.of = type_, rust(type_), "other", None
@@ -73,11 +106,13 @@ class Part:
             and len(group.named) == 1
         ):
             self.kind, self.of = "option", group.named[type_.parts[0].parts[0].name]
+        elif is_map(type_) and type_.parts[1].kind == "path" and type_.parts[1].name in group.named:
+            self.kind, self.of = "map", group.named[type_.parts[1].name]
         elif group.mentions(type_):
             raise Refused(
                 type_.line,
                 f"`{self.rust}` is not supported in a recursive type: write a struct for what it holds, or a "
-                "`Box` or a `Vec` of the type itself",
+                "`Box`, a `Vec` or a map of the type itself",
             )
 
     def tree(self, left):
@@ -85,6 +120,8 @@ class Part:
         if self.kind == "other":
             return tree_of(self.type, left)
         tree = f"({self.of.word}_tree {left})"
+        if self.kind == "map":
+            return f"(map_tree {tree_of(self.type.parts[0], left)} {tree})"
         return {"list": f"(seq_tree {tree})", "option": f"(option_tree {tree})"}.get(self.kind, tree)
 
     def datum(self):
@@ -92,6 +129,8 @@ class Part:
         if self.kind == "other":
             return datum_of(self.type)
         datum = f"{self.of.word}_datum"
+        if self.kind == "map":
+            return f"(λ m. map_datum {self.key()} {datum} m.entries)"
         return {
             "itself": datum,
             "box": f"(λ b. {datum} b.value)",
@@ -99,10 +138,23 @@ class Part:
             "option": f"(option_datum (λ b. {datum} b.value))",
         }[self.kind]
 
+    def key(self):
+        """The content of a key, as a function of it."""
+        return datum_of(self.type.parts[0])
+
+    def function(self):
+        """The function that reads it."""
+        name = {"list": "_list", "option": "_option"}.get(self.kind, "")
+        if self.kind == "map":
+            name = f"_{'by' if self.type.name == 'BTreeMap' else 'hashed_by'}_{self.type.parts[0].name.lower()}"
+        return f"read_{self.of.word}{name}"
+
     def in_step(self, value):
         """Its content where the content of each value of the group stands in its place."""
         if self.kind == "other":
             return applied(datum_of(self.type), value)
+        if self.kind == "map":
+            return f"(map_datum {self.key()} (λ d. d) {value}.entries)"
         return {
             "itself": value,
             "box": f"{value}.value",
@@ -110,23 +162,29 @@ class Part:
             "option": f"(option_datum (λ b. b.value) {value})",
         }[self.kind]
 
+    def mapped(self, value):
+        """A map's content where its values were replaced by theirs."""
+        return f"(map_datum {self.key()} (λ d. d) (map (λ e. (e.0, {self.of.word}_datum e.1)) {value}.entries))"
+
     def sound(self, left):
         if self.kind == "other":
             return sound_of(self.type, left)
         sound = f"({self.of.word}_sound {left})"
+        if self.kind == "map":
+            return f"({sound_of(self.type.parts[0], left)}, {sound})"
         return f"(tt, ({sound}, tt))" if self.kind == "option" else sound
 
     def has_columns(self, n):
         """The proof that it has columns, where that needs no more than its form; or of a type of the group."""
         if self.kind == "other":
             return "refl" if has_columns(self.type) else None
-        return "refl" if self.kind in ("list", "option") else f"{self.of.word}_columns ({n})"
+        return "refl" if self.kind in ("list", "option", "map") else f"{self.of.word}_columns ({n})"
 
 
 def applied(function, value):
     """A function of a value, as a term."""
     found = re.fullmatch(r"\(λ (\w+)\. (.*)\)", function)
-    if not found:
+    if not found or f"λ {found[1]}." in found[2]:
         return f"({function} {value})"
     return "(" + re.sub(rf"(?<![\w.]){found[1]}(?!\w)", value, found[2]) + ")"
 
@@ -144,6 +202,14 @@ def tree_of(type_, left):
     if type_.kind == "path" and len(type_.parts) == 1 and type_.name in ("Vec", "Option", "Box"):
         inner = tree_of(type_.parts[0], left)
         return {"Vec": f"(seq_tree {inner})", "Option": f"(option_tree {inner})", "Box": inner}[type_.name]
+    if is_map(type_):
+        key, value = (tree_of(part, left) for part in type_.parts)
+        return f"(map_tree {key} {value})"
+    if is_set(type_):
+        return f"(map_tree {tree_of(type_.parts[0], left)} unit_tree)"
+    if is_result(type_):
+        ok, err = (tree_of(part, left) for part in type_.parts)
+        return f"(result_tree {ok} {err})"
     raise Refused(type_.line, f"`{rust(type_)}` is not supported in the second format yet")
 
 
@@ -157,6 +223,14 @@ def datum_of(type_):
         return f"(λ t. tuple {data})" if type_.parts else "(λ u. unit)"
     if not type_.parts:
         return LEAVES[type_.name][1]
+    if is_map(type_):
+        key, value = map(datum_of, type_.parts)
+        return f"(λ m. map_datum {key} {value} m.entries)"
+    if is_set(type_):
+        return f"(λ c. set_datum {datum_of(type_.parts[0])} c.keys)"
+    if is_result(type_):
+        ok, err = map(datum_of, type_.parts)
+        return f"(result_datum {ok} {err})"
     inner = datum_of(type_.parts[0])
     return {
         "Vec": f"(λ v. list (data_of (map {inner} v.items)))",
@@ -172,6 +246,13 @@ def sound_of(type_, left):
         return sounds([sound_of(part, left) for part in type_.parts])
     if not type_.parts:
         return SOUND[type_.name]
+    if is_map(type_):
+        key, value = (sound_of(part, left) for part in type_.parts)
+        return f"({key}, {value})"
+    if is_set(type_):
+        return f"({sound_of(type_.parts[0], left)}, tt)"
+    if is_result(type_):
+        return sounds([sound_of(part, left) for part in type_.parts])
     inner = sound_of(type_.parts[0], left)
     return f"(tt, ({inner}, tt))" if type_.name == "Option" else inner
 
@@ -219,6 +300,12 @@ class Shaped:
         if self.is_struct:
             self.parts = [Part(field.type, group) for field in self.item.fields]
             self.options = [field.name for field, part in zip(self.item.fields, self.parts) if part.kind == "option"]
+            maps = [part for part in self.parts if part.kind == "map"]
+            if self.options and maps:
+                raise Refused(
+                    maps[0].type.line,
+                    "a struct with an option and a map of itself is not supported: move the map to another struct",
+                )
             return
         self.variants = [
             (variant, [Part(field.type, group) for field in variant.fields]) for variant in self.item.variants
@@ -271,6 +358,7 @@ class Group:
             if any(part.kind == "list" and part.of is shaped for part in self.all_parts())
         ]
         self.options = [shaped for shaped in self.types if shaped.options]
+        self.maps = list({part.function(): part for part in self.all_parts() if part.kind == "map"}.values())
         self.payloads = [
             (shaped, variant, parts)
             for shaped in self.types

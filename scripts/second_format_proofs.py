@@ -1,7 +1,8 @@
 """The proofs of a group of recursive types in the second format."""
 
-from second_format import SIGNED, applied, data_of, payload_tree
-from second_format_text import list_datum, option_datum, payload_datum, used, variant_name
+from second_format import SIGNED, applied, data_of, payload_tree, tree_of
+from second_format_containers import ENUM, list_answers, map_answers, option_answers
+from second_format_text import payload_datum, used, variant_name
 
 OF_LEMMAS = [
     (
@@ -18,24 +19,26 @@ OF_LEMMAS = [
     ("bitcode_serde_types.proofs.EnteringLemmas", "columns_first columns_behind"),
 ]
 OF_ANSWERS = [
-    ("std.proofs.Common", "rules arith ◌≡◌ ◌<◌ ◌-◌ Some None map refl ap sym subst ◌∙◌ string_bytes"),
+    ("std.proofs.Common", "rules arith ◌≡◌ ◌<◌ ◌-◌ Some None [] map refl ap sym subst ◌∙◌ string_bytes"),
     ("std.proofs.lemmas.Result", "err_from_is_err_and"),
     ("std.specs.Float", "binary32 binary64"),
     ("bitcode_memory.specs.declared.error.Reason.TheVariants", "NestedTooDeep"),
-    ("bitcode_shapes.specs.Datum", "Datum unit number text list tuple datum_and no_data data_of"),
+    ("bitcode_shapes.specs.Datum", "Datum unit number text list tuple choice datum_and no_data data_of"),
     ("bitcode_shapes.specs.Floats", "float_number"),
     ("bitcode_coder.specs.Spelling", "natural truth"),
     (
         "bitcode_untyped.specs.ShapeTree",
-        "unit_tree never_tree bool_tree natural_tree integer_tree float_tree char_tree text_tree seq_tree option_tree tuple_tree choice_tree tree_and no_trees",
+        "unit_tree never_tree bool_tree natural_tree integer_tree float_tree char_tree text_tree seq_tree map_tree option_tree tuple_tree choice_tree tree_and no_trees",
     ),
     ("bitcode_untyped.proofs.ReadLemmas", "never_read"),
-    ("bitcode_serde.specs.Budget", "KeepsEach"),
-    ("bitcode_serde.specs.ReadingValues", "IsRefusalAt ReadsListAt"),
+    ("bitcode_serde.specs.ReadingValues", "IsRefusalAt"),
     ("bitcode_serde.proofs.ColumnLemmas", "passed_on"),
     ("bitcode_serde.proofs.SerializeLemmas", "one_fault"),
-    ("bitcode_serde.proofs.ValueLemmas", "continues_on seq_refused"),
+    ("bitcode_serde.proofs.ValueLemmas", "continues_on still_there seq_refused"),
     ("bitcode_serde_types.specs.Options", "option_datum"),
+    ("bitcode_serde_types.specs.Pairs", "map_datum set_datum"),
+    ("bitcode_serde_types.specs.Results", "result_tree result_datum"),
+    ("bitcode_serde_types.specs.ReadingAs", "ReadsEachAs"),
     (
         "bitcode_serde_types.proofs.FieldsRead",
         "no_fields_kept place_there field_kept field_not_kept field_kept_at field_not_kept_at tuple_kept",
@@ -43,6 +46,10 @@ OF_ANSWERS = [
     (
         "bitcode_serde_types.proofs.KeptLemmas",
         "ElementsKept elements_more element_refused elements_there list_kept unit_kept choice_kept payload_refused",
+    ),
+    (
+        "bitcode_serde_types.proofs.PairLemmas",
+        "PairsKept no_memory no_pairs pairs_more keys_there values_there key_not_kept value_not_kept pairs_kept map_kept entries_mapped",
     ),
 ]
 
@@ -188,17 +195,45 @@ def variant_equation(group, shaped, variant, taken):
     """The content of a variant's value."""
     w = shaped.word
     args = "".join(f" {one}" for one in taken)
+    if not taken:
+        return f"ap {w}_datum (sym {w}'.rolls-{variant.name}) ∙ fold-roll-{shaped.name} {group.fold(shaped)} {shaped.name}-F.{variant.name}"
+    index = [other for other, _ in shaped.variants].index(variant)
+    parts = shaped.variants[index][1]
+    several = len(parts) > 1
     return (
         f"ap {w}_datum (sym ({w}'.rolls-{variant.name}{args})) ∙ fold-roll-{shaped.name} {group.fold(shaped)} ({shaped.name}-F.{variant.name}{args})"
-        if taken
-        else f"ap {w}_datum (sym {w}'.rolls-{variant.name}) ∙ fold-roll-{shaped.name} {group.fold(shaped)} {shaped.name}-F.{variant.name}"
+        + maps_told(
+            parts, taken, lambda terms: f"choice {index} " + (f"(tuple {data_of(terms)})" if several else terms[0])
+        )
     )
+
+
+def maps_told(parts, values, whole):
+    """The content of the maps among the parts, one after another, where that of their values was in the place of these.
+    `whole` is the content of the whole, by the terms of the parts."""
+    text = ""
+    for place, part in enumerate(parts):
+        if part.kind != "map":
+            continue
+        terms = [
+            "z" if n == place else other.mapped(value) if other.kind == "map" and n > place else applied(other.datum(), value)
+            for n, (other, value) in enumerate(zip(parts, values))
+        ]
+        text += f"\n    ∙ ap (λ z. {whole(terms)}) (entries_mapped {part.key()} {part.of.word}_datum {values[place]}.entries)"
+    return text
+
+
+def tuple_of(terms):
+    return f"tuple {data_of(terms)}"
 
 
 def of_struct(group, shaped):
     """The content of the struct that is written."""
     if not shaped.options:
-        return f"fold_out-{shaped.name} {group.fold(shaped)} c.args.self.now"
+        values = [f"(out-{shaped.name} c.args.self.now).{field.name}" for field in shaped.item.fields]
+        return f"fold_out-{shaped.name} {group.fold(shaped)} c.args.self.now" + maps_told(
+            shaped.parts, values, tuple_of
+        )
     now = f"(out-{shaped.name} c.args.self.now)"
     return f"{shaped.word}_content c.args.self.now {' '.join(f'{now}.{option}' for option in shaped.options)} {' '.join('refl' for _ in shaped.options)}"
 
@@ -252,9 +287,7 @@ def lets(trees, parts, k):
         if part.kind == "other":
             text += f"    let done{n + 1} = field_kept {PRE} done{n} {part.datum()} c.in_ok-field{n}.field{n} _ _ c.in_ok-field{n}.ensures.continues\n    c.in_ok-field{n}.ensures.read in\n"
         else:
-            datum = {"list": list_datum(part.of), "option": option_datum(part.of)}.get(
-                part.kind, f"{part.of.word}_datum"
-            )
+            datum = f"{part.of.word}_datum" if part.kind in ("itself", "box") else part.datum()
             text += f"    let done{n + 1} = field_kept_at {PRE} done{n} _ c.in_ok-place{n}.place{n} c.in_ok-place{n}.ensures.continues\n    c.in_ok-place{n}.ensures.found c.in_ok-place{n}.ensures.stands {datum} c.in_ok-{value}.{value} _ _\n    c.in_ok-{value}.ensures.continues c.in_ok-{value}.ensures.read in\n"
     return text
 
@@ -354,56 +387,12 @@ def raise_on_boxes(shaped):
     assert all(part.kind != "box" for part in shaped.parts)
 
 
-def option_answers(group, shaped):
-    w, fn = shaped.word, f"read_{shaped.word}_option"
-    lead = f"""    let s = {w}_tree c.args.left in
-    let ss = tree_and unit_tree (tree_and s no_trees) in
-    let found = c.in_ok-found.found in
-"""
-    known = """    let known = c.in_ok-found.ensures.known in
-    let this : found.index ≡ 1 = omega (arith, known) in
-"""
-    return f"""
-pub {fn}-returns-in_err-found-clause-refused : goal.{fn}-returns-in_err-found-clause-refused
-{fn}-returns-in_err-found-clause-refused t c =
-    let ss = tree_and unit_tree (tree_and ({w}_tree c.args.left) no_trees) in
-    let y = err_from_is_err_and c.from_residual.result c.from_residual.ensures.1 in
-    passed_on (λ e. IsRefusalAt (choice_tree ss) c.args.place c.args.reader.now e.reason) c.from_residual.result c.in_err-found.field-0.0 y.0 y.1 y.2
-    (c.in_err-found.ensures.refused ss refl)
-
-pub {fn}-returns-then-found-eq0-clause-read : goal.{fn}-returns-then-found-eq0-clause-read
-{fn}-returns-then-found-eq0-clause-read t c =
-{lead}    let this : found.index ≡ 0 = omega arith in
-    let mid = c.enter_variant.new.reader in
-    choice_kept (λ d. d) {option_datum(shaped)} ss found.index 0 unit_tree {ENUM} c.in_ok-found.ensures.enters this refl mid
-    c.args.budget.now c.enter_variant.new.budget c.take.new.self unit None refl c.enter_variant.ensures.taken
-    (unit_kept (λ d. d) found.place mid c.enter_variant.new.budget c.take.new.self unit refl c.take.ensures)
-
-pub {fn}-returns-in_err-value-clause-refused : goal.{fn}-returns-in_err-value-clause-refused
-{fn}-returns-in_err-value-clause-refused t c =
-{lead}{known}    let y = err_from_is_err_and c.from_residual-in_err-value.result c.from_residual-in_err-value.ensures.1 in
-    passed_on (λ e. IsRefusalAt (choice_tree ss) c.args.place c.args.reader.now e.reason) c.from_residual-in_err-value.result
-    c.in_err-value.field-0.0 y.0 y.1 y.2
-    (payload_refused ss found.index 1 s {ENUM} _ c.in_ok-found.ensures.enters this refl
-    c.in_err-value.ensures.refused)
-
-pub {fn}-returns-clause-continues : goal.{fn}-returns-clause-continues
-{fn}-returns-clause-continues t c =
-    continues_on c.args.reader.now c.enter_variant.new.reader _ c.in_ok-found.ensures.continues c.in_ok-value.ensures.continues
-
-pub {fn}-returns-clause-read : goal.{fn}-returns-clause-read
-{fn}-returns-clause-read t c =
-{lead}{known}    choice_kept {w}_datum {option_datum(shaped)} ss found.index 1 s {ENUM} c.in_ok-found.ensures.enters this refl _
-    c.args.budget.now c.enter_variant.new.budget _ c.in_ok-value.value (Some c.in_ok-held.held) (rw c.in_ok-held.ensures.ok refl)
-    c.enter_variant.ensures.taken c.in_ok-value.ensures.read
-"""
-
-
 def struct_answers(group, shaped):
     w, fn = shaped.word, f"read_{shaped.word}"
     fields = "; ".join(f"{field.name} = c.in_ok-field{n}.field{n}" for n, field in enumerate(shaped.item.fields))
     value = f"(record {{ {fields} }})"
-    equation = f"fold-roll-{shaped.name} {group.fold(shaped)} {value}"
+    values = [f"c.in_ok-field{n}.field{n}" for n in range(len(shaped.parts))]
+    equation = f"fold-roll-{shaped.name} {group.fold(shaped)} {value}" + maps_told(shaped.parts, values, tuple_of)
     if shaped.options:
         read = [
             f"c.in_ok-field{n}.field{n}" for n, field in enumerate(shaped.item.fields) if field.name in shaped.options
@@ -415,9 +404,6 @@ def struct_answers(group, shaped):
     return deep_answer(fn, f"{w}_tree") + fields_answers(
         fn, f"{w}_trees (c.args.left - 1)", shaped.parts, f"{w}_more", f"{w}_datum", "_", equation
     )
-
-
-ENUM = "c.args.reader.now c.enter_variant.new.reader c.args.place found.place"
 
 
 def enum_answers(group, shaped):
@@ -514,61 +500,6 @@ def first_take(shaped, variant):
     return next(other for other, parts in shaped.variants if not parts) is variant
 
 
-def list_answers(shaped):
-    w, one, fn = shaped.word, f"read_{shaped.word}", f"read_{shaped.word}_list"
-    return f"""
-pub {fn}-{one}-requires : goal.{fn}-{one}-requires
-{fn}-{one}-requires t c =
-    let l = c.loop-i in
-    let h = elements_there {w}_datum ({w}_tree c.args.left) c.in_ok-found.found.place c.enter_list.new.reader l.reader c.enter_list.new.budget l.budget l._i
-    l.items.items l.invariant c.in_ok-found.ensures.inside in
-    let s = l.invariant.0.steady in
-    search (rules, h, s)
-
-pub {fn}-returns-in_err-found-clause-refused : goal.{fn}-returns-in_err-found-clause-refused
-{fn}-returns-in_err-found-clause-refused t c =
-    let s = {w}_tree c.args.left in
-    let y = err_from_is_err_and c.from_residual.result c.from_residual.ensures.1 in
-    passed_on (λ e. IsRefusalAt (seq_tree s) c.args.place c.args.reader.now e.reason) c.from_residual.result c.in_err-found.field-0.0 y.0 y.1 y.2
-    (c.in_err-found.ensures.refused s ({w}_columns c.args.left))
-
-pub {fn}-returns-in_err-item-clause-refused : goal.{fn}-returns-in_err-item-clause-refused
-{fn}-returns-in_err-item-clause-refused t c =
-    let s = {w}_tree c.args.left in
-    let l = c.loop-i in
-    let found = c.in_ok-found.found in
-    let y = err_from_is_err_and c.from_residual-in_err-item.result c.from_residual-in_err-item.ensures.1 in
-    let lt : l._i < found.count = omega arith in
-    passed_on (λ e. IsRefusalAt (seq_tree s) c.args.place c.args.reader.now e.reason) c.from_residual-in_err-item.result c.in_err-item.field-0.0 y.0 y.1 y.2
-    (seq_refused s c.args.reader.now c.enter_list.new.reader c.args.place found.place found.count _ c.in_ok-found.ensures.enters
-    (element_refused {w}_datum s found.place c.enter_list.new.reader l.reader c.enter_list.new.budget l.budget l._i l.items.items l.invariant
-    found.count _ lt c.in_err-item.ensures.refused))
-
-pub {fn}-loop-i-preserved : goal.{fn}-loop-i-preserved
-{fn}-loop-i-preserved t c =
-    let l = c.loop-i in
-    elements_more {w}_datum ({w}_tree c.args.left) c.in_ok-found.found.place c.enter_list.new.reader l.reader c.enter_list.new.budget l.budget l._i
-    l.items.items l.invariant _ _ c.keep.new.items.items c.in_ok-item.item c.in_ok-item.ensures.continues
-    c.in_ok-item.ensures.read c.in_ok-keep.ensures.kept
-
-pub {fn}-returns-clause-continues : goal.{fn}-returns-clause-continues
-{fn}-returns-clause-continues t c =
-    continues_on c.args.reader.now c.enter_list.new.reader c.loop-i.reader c.in_ok-found.ensures.continues c.loop-i.invariant.0
-
-pub {fn}-returns-clause-read : goal.{fn}-returns-clause-read
-{fn}-returns-clause-read t c =
-    let s = {w}_tree c.args.left in
-    let l = c.loop-i in
-    let found = c.in_ok-found.found in
-    let e : l._i ≡ found.count = omega arith in
-    list_kept {w}_datum {list_datum(shaped)} s c.args.reader.now c.enter_list.new.reader l.reader c.args.place found.place
-    found.count c.args.budget.now c.enter_list.new.budget l.budget l.items.items l.items refl c.enter_list.ensures.taken c.in_ok-found.ensures.enters
-    (λ free. let h = {w}_columns c.args.left ∙ free in cc)
-    (subst (λ n. KeepsEach {w}_datum (λ ds. ReadsListAt s found.place c.enter_list.new.reader n ds l.reader) c.enter_list.new.budget l.items.items l.budget) e
-    l.invariant.1)
-"""
-
-
 def reading(group):
     text = ""
     for shaped in group.types:
@@ -582,6 +513,8 @@ def reading(group):
         text += option_answers(group, shaped)
     for shaped in group.lists:
         text += list_answers(shaped)
+    for part in group.maps:
+        text += map_answers(part)
     return text
 
 
@@ -603,9 +536,18 @@ abbrev pub invariant-{fn}-loop-i : goal.invariant-{fn}-loop-i
 invariant-{fn}-loop-i l =
     ElementsKept {shaped.word}_datum ({shaped.word}_tree l.left) l.found.place l.initial.reader l.initial.budget l._i l.items.items l.reader l.budget
 """
+    for part in group.maps:
+        fn = part.function()
+        text += f"\nabbrev pub decreases-{fn} : goal.decreases-{fn}\ndecreases-{fn} l = 3 * l.left + 1\n"
+        text += f"""
+abbrev pub invariant-{fn}-loop-i : goal.invariant-{fn}-loop-i
+invariant-{fn}-loop-i l =
+    PairsKept {part.key()} {part.of.word}_datum {tree_of(part.type.parts[0], 'l.left')} ({part.of.word}_tree l.left) l.found.keys l.found.values
+    l.initial.reader l.initial.budget l._i l.pairs.items l.reader l.budget
+"""
     plus = (
         "use Rattle.std.proofs.Common.{◌*◌"
-        + (", ◌+◌" if group.payloads or group.lists or group.options else "")
+        + (", ◌+◌" if group.payloads or group.lists or group.options or group.maps else "")
         + "}\n"
     )
     return (

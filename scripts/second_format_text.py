@@ -2,7 +2,7 @@
 
 import re
 
-from second_format import LIBRARY, data_of, payload_tree, sounds, trees_of
+from second_format import LIBRARY, MAPS, data_of, payload_tree, sounds, trees_of
 from declarations import Struct
 from names import module_of
 from structs import declaration as struct_declaration
@@ -47,9 +47,12 @@ OF_SPECS = [
     ("bitcode_coder.specs.Spelling", "natural truth"),
     (
         "bitcode_untyped.specs.ShapeTree",
-        "ShapeTree ShapeTrees unit_tree never_tree bool_tree natural_tree integer_tree float_tree char_tree text_tree seq_tree option_tree tuple_tree choice_tree no_trees tree_and IsSound",
+        "ShapeTree ShapeTrees unit_tree never_tree bool_tree natural_tree integer_tree float_tree char_tree text_tree seq_tree map_tree option_tree tuple_tree choice_tree no_trees tree_and IsSound",
     ),
     ("bitcode_serde_types.specs.Options", "option_datum"),
+    ("bitcode_serde_types.specs.Pairs", "map_datum set_datum"),
+    ("bitcode_serde_types.specs.Results", "result_tree result_datum"),
+    ("bitcode_serde_types.specs.Restates", "HasNoMap"),
 ]
 
 
@@ -99,19 +102,15 @@ def specs(group):
             f"{shaped.word}_datum = fold-{shaped.name} {group.fold(shaped)}",
             "",
         ]
+    sound = sound_lines(group, inside)
     if several:
         lines.append("mutual")
-    for shaped in group.types:
-        if shaped.is_struct:
-            each = [part.sound("left") for part in shaped.parts]
-        else:
-            each = [payload_sound(parts) for _, parts in shaped.variants]
-        lines += [
-            f"{inside}pub {shaped.word}_sound : (left : ℕ) → IsSound ({shaped.word}_tree left)",
-            f"{inside}{shaped.word}_sound zero = tt",
-            f"{inside}{shaped.word}_sound (suc left) = {sounds(each)}",
-            "",
-        ]
+    lines += sound
+    if not any("map_tree" in shaped.trees("left") for shaped in group.types):
+        lines.append("-- there is no map in it, so that a value keeps all that was read")
+        if several:
+            lines.append("mutual")
+        lines += [re.sub(r"width_\d+", "tt", line).replace("_sound", "_plain").replace("IsSound", "HasNoMap") for line in sound]
     text = "\n".join(lines).rstrip() + "\n"
     names = ", ".join(f"`{shaped.name}`" for shaped in group.types)
     first = group.ordered[0].name
@@ -123,6 +122,23 @@ def specs(group):
     opened = ", ".join(f"{shaped.name}-F" for shaped in group.ordered)
     head += f"use Rattle.{group.crate}.specs.declared.{group.module}.{first}.TheOpen.{{{opened}}}\n"
     return head + "\n" + text
+
+
+def sound_lines(group, inside):
+    """That the columns of each type are such as there are."""
+    lines = []
+    for shaped in group.types:
+        if shaped.is_struct:
+            each = [part.sound("left") for part in shaped.parts]
+        else:
+            each = [payload_sound(parts) for _, parts in shaped.variants]
+        lines += [
+            f"{inside}pub {shaped.word}_sound : (left : ℕ) → IsSound ({shaped.word}_tree left)",
+            f"{inside}{shaped.word}_sound zero = tt",
+            f"{inside}{shaped.word}_sound (suc left) = {sounds(each)}",
+            "",
+        ]
+    return lines
 
 
 def payload_sound(parts):
@@ -140,9 +156,11 @@ OF_CODE = [
     ("bitcode_shapes.specs.Floats", "float_number"),
     ("bitcode_coder.specs.Spelling", "natural truth"),
     ("bitcode_untyped.specs.Bounds", "column_free"),
-    ("bitcode_untyped.specs.ShapeTree", "seq_tree option_tree tuple_tree"),
+    ("bitcode_untyped.specs.ShapeTree", "natural_tree integer_tree char_tree text_tree seq_tree map_tree option_tree tuple_tree"),
     ("bitcode_serde.specs.ReadingValues", "IsSteady Continues IsRefusalAt"),
     ("bitcode_serde_types.specs.Options", "option_datum"),
+    ("bitcode_serde_types.specs.Pairs", "map_datum set_datum"),
+    ("bitcode_serde_types.specs.Results", "result_tree result_datum"),
     ("bitcode_serde_types.specs.ReadingAs", "ReadsAs"),
 ]
 OF_LIBRARY = [
@@ -152,11 +170,13 @@ OF_LIBRARY = [
     ("bitcode_serde::reader", "Reader"),
     ("bitcode_serde::writer", "Writer"),
     ("bitcode_serde_types::deserialize_as", "DeserializeAs"),
-    ("bitcode_serde_types::entering", "enter_list enter_variant read_at read_field"),
+    ("bitcode_serde_types::entering", "enter_list enter_map enter_variant read_at read_field"),
     ("bitcode_serde_types::fields", "write_tuple"),
+    ("bitcode_serde_types::maps", " ".join(MAPS.values())),
     ("bitcode_serde_types::serialize_as", "SerializeAs"),
     ("bitcode_serde_types::variants", "write_variant"),
     ("std::alloc", "Global"),
+    ("std::collections", " ".join([*MAPS, "BTreeSet", "HashSet"])),
 ]
 
 
@@ -200,8 +220,7 @@ def fields_read(parts, left):
 
 def held_read(part, left, place, name, value, indent):
     """Reads a value of the group, a box or a list of such, at a place."""
-    function = f"read_{part.of.word}" + {"list": "_list", "option": "_option"}.get(part.kind, "")
-    call = f"{function}(alloc, reader, budget, {left}, {place})?;\n"
+    call = f"{part.function()}(alloc, reader, budget, {left}, {place})?;\n"
     if part.kind != "box":
         return f"{indent}let {name} = {call}"
     return f"{indent}let {value} = {call}{indent}let {name} = Box::new(alloc, {value})?;\n"
@@ -290,6 +309,27 @@ def reading(group):
             f"(seq_tree ({shaped.word}_tree left))",
             list_datum(shaped),
             f"Reads a list of `{shaped.name}`.",
+            body,
+        )
+    for part in group.maps:
+        body = f"""    let found = enter_map(reader, budget, place)?;
+    let mut pairs = Vec::new(alloc);
+    for _i in 0..found.count {{
+        budget.take(1);
+        let key: {part.type.parts[0].name} = read_at(alloc, reader, budget, left, found.keys)?;
+        let value = read_{part.of.word}(alloc, reader, budget, left, found.values)?;
+        budget.keep(&mut pairs, (key, value))?;
+    }}
+    let made = {MAPS[part.type.name]}(alloc, pairs)?;
+    Ok(made)
+"""
+        text += reads(
+            group,
+            part.function(),
+            part.rust,
+            part.tree("left"),
+            part.datum(),
+            f"Reads a map to `{part.of.name}`.",
             body,
         )
     return text

@@ -1,7 +1,7 @@
 #!/usr/bin/env bash
 # What scripts/second_format writes: the types of bitcode_recursive_types are up to date. For 10,000 random values of
-# them, `serialize_as` writes the bytes of `serialize` for the same content under the type's shape, and `deserialize_as`,
-# `deserialize_as_within` and `deserialize` read the same content of them.
+# them, and 10,000 maps of them, `serialize_as` writes the bytes of `serialize` for the same content under the type's
+# shape, and `deserialize_as`, `deserialize_as_within` and `deserialize` read the same content of them.
 cd "$(dirname "$0")/../.." || exit 2
 work=$(mktemp -d)
 trap 'rm -rf "$work"' EXIT
@@ -17,5 +17,5 @@ done < <(cd "$work/kept" && find . -type f)
 copy_libraries "$work" || exit 2
 add_program "$work" random_values scripts/recursive_types/values.txt "$(sed -n 's/^bitcode_recursive_types: //p' crates.txt) bitcode_recursive_types anyhow" || exit 2
 (cd "$work/crates/random_values" && "$try" --optimized --steps 1000 --seconds 7200 >"$work/log" 2>&1)
-grep -q '^10000 values came back$' "$work/log" && grep -q 'checked: ended status=0' "$work/log" || { grep -m 5 -E 'error|status=|run=' "$work/log" | sed 's/^/second_format: /'; wrong=1; }
+grep -q '^20000 values came back$' "$work/log" && grep -q 'checked: ended status=0' "$work/log" || { grep -m 5 -E 'error|status=|run=' "$work/log" | sed 's/^/second_format: /'; wrong=1; }
 exit "$wrong"

@@ -4,4 +4,5 @@ pub enum Expr {
     Neg(Box<Expr>),
     Add(Box<Expr>, Box<Expr>),
     Call(String, Vec<Expr>),
+    Bind(BTreeMap<String, Expr>, Box<Expr>),
 }

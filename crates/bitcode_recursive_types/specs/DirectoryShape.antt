@@ -1,9 +1,10 @@
 -- The shapes of `Directory`, `Entry`, and the content of their values. Written by `scripts/second_format`.
-use Rattle.std.specs.Prelude.{ℕ, zero, suc, string_bytes}
+use Rattle.std.specs.Prelude.{ℕ, zero, suc, map, string_bytes}
 use Rattle.bitcode_shapes.specs.Datum.{Datum, unit, text, list, tuple, choice, no_data, datum_and, data_of}
 use Rattle.bitcode_shapes.specs.LawfulInts.{width_8}
 use Rattle.bitcode_coder.specs.Spelling.{natural}
 use Rattle.bitcode_untyped.specs.ShapeTree.{ShapeTree, ShapeTrees, unit_tree, never_tree, natural_tree, text_tree, seq_tree, tuple_tree, choice_tree, no_trees, tree_and, IsSound}
+use Rattle.bitcode_serde_types.specs.Restates.{HasNoMap}
 use Rattle.bitcode_recursive_types.specs.declared.directory.Directory.{Directory, fold-Directory}
 use Rattle.bitcode_recursive_types.specs.declared.directory.Entry.{Entry, fold-Entry}
 use Rattle.bitcode_recursive_types.specs.declared.directory.Entry.TheOpen.{Entry-F, Directory-F}
@@ -48,3 +49,13 @@ mutual
   pub entry_sound : (left : ℕ) → IsSound (entry_tree left)
   entry_sound zero = tt
   entry_sound (suc left) = (width_8, ((directory_sound left), (tt, tt)))
+
+-- there is no map in it, so that a value keeps all that was read
+mutual
+  pub directory_plain : (left : ℕ) → HasNoMap (directory_tree left)
+  directory_plain zero = tt
+  directory_plain (suc left) = (tt, ((entry_plain left), tt))
+
+  pub entry_plain : (left : ℕ) → HasNoMap (entry_tree left)
+  entry_plain zero = tt
+  entry_plain (suc left) = (tt, ((directory_plain left), (tt, tt)))

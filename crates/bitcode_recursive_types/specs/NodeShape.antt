@@ -4,6 +4,7 @@ use Rattle.bitcode_shapes.specs.Datum.{Datum, number, text, list, tuple, no_data
 use Rattle.bitcode_shapes.specs.LawfulInts.{width_1, width_4}
 use Rattle.bitcode_coder.specs.Spelling.{natural, truth}
 use Rattle.bitcode_untyped.specs.ShapeTree.{ShapeTree, ShapeTrees, never_tree, bool_tree, natural_tree, integer_tree, text_tree, seq_tree, tuple_tree, no_trees, tree_and, IsSound}
+use Rattle.bitcode_serde_types.specs.Restates.{HasNoMap}
 use Rattle.bitcode_recursive_types.specs.declared.node.Node.{Node, fold-Node}
 use Rattle.bitcode_recursive_types.specs.declared.node.Node.TheOpen.{Node-F}
 
@@ -26,3 +27,8 @@ node_datum = fold-Node Datum node_step
 pub node_sound : (left : ℕ) → IsSound (node_tree left)
 node_sound zero = tt
 node_sound (suc left) = (tt, (width_4, ((node_sound left), ((width_1, (tt, tt)), tt))))
+
+-- there is no map in it, so that a value keeps all that was read
+pub node_plain : (left : ℕ) → HasNoMap (node_tree left)
+node_plain zero = tt
+node_plain (suc left) = (tt, (tt, ((node_plain left), ((tt, (tt, tt)), tt))))

@@ -1,10 +1,11 @@
 -- The shapes of `SearchTree`, and the content of their values. Written by `scripts/second_format`.
-use Rattle.std.specs.Prelude.{ℕ, zero, suc}
+use Rattle.std.specs.Prelude.{ℕ, zero, suc, map}
 use Rattle.bitcode_shapes.specs.Datum.{Datum, tuple, no_data, datum_and}
 use Rattle.bitcode_shapes.specs.LawfulInts.{width_4}
 use Rattle.bitcode_coder.specs.Spelling.{natural}
 use Rattle.bitcode_untyped.specs.ShapeTree.{ShapeTree, ShapeTrees, never_tree, natural_tree, option_tree, tuple_tree, no_trees, tree_and, IsSound}
 use Rattle.bitcode_serde_types.specs.Options.{option_datum}
+use Rattle.bitcode_serde_types.specs.Restates.{HasNoMap}
 use Rattle.bitcode_recursive_types.specs.declared.search_tree.SearchTree.{SearchTree, fold-SearchTree}
 use Rattle.bitcode_recursive_types.specs.declared.search_tree.SearchTree.TheOpen.{SearchTree-F}
 
@@ -27,3 +28,8 @@ search_tree_datum = fold-SearchTree Datum search_tree_step
 pub search_tree_sound : (left : ℕ) → IsSound (search_tree_tree left)
 search_tree_sound zero = tt
 search_tree_sound (suc left) = ((tt, ((search_tree_sound left), tt)), (width_4, ((tt, ((search_tree_sound left), tt)), tt)))
+
+-- there is no map in it, so that a value keeps all that was read
+pub search_tree_plain : (left : ℕ) → HasNoMap (search_tree_tree left)
+search_tree_plain zero = tt
+search_tree_plain (suc left) = ((tt, ((search_tree_plain left), tt)), (tt, ((tt, ((search_tree_plain left), tt)), tt)))

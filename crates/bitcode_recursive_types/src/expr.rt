@@ -1,10 +1,12 @@
 //! `Expr` in the second format. What is below the declarations was written by `scripts/second_format`.
 ghost use Rattle.std.specs.Prelude.{◌≤◌, length, map, string_bytes, IfOk, IfErr, OnOk};
 ghost use Rattle.bitcode_shapes.specs.Datum.{text, list, tuple, no_data, datum_and, data_of};
-ghost use Rattle.bitcode_untyped.specs.ShapeTree.{seq_tree, tuple_tree};
+ghost use Rattle.bitcode_untyped.specs.ShapeTree.{text_tree, seq_tree, map_tree, tuple_tree};
 ghost use Rattle.bitcode_serde.specs.ReadingValues.{IsSteady, Continues, IsRefusalAt};
+ghost use Rattle.bitcode_serde_types.specs.Pairs.{map_datum};
 ghost use Rattle.bitcode_serde_types.specs.ReadingAs.{ReadsAs};
 ghost use Rattle.bitcode_recursive_types.specs.ExprShape.{expr_tree, expr_datum, expr_add_trees, expr_call_trees};
+ghost use Rattle.bitcode_recursive_types.specs.ExprShape.{expr_bind_trees};
 
 use bitcode_memory::error::{Error, Reason};
 use bitcode_memory::refuse::err;
@@ -12,10 +14,12 @@ use bitcode_serde::budget::Budget;
 use bitcode_serde::reader::Reader;
 use bitcode_serde::writer::Writer;
 use bitcode_serde_types::deserialize_as::DeserializeAs;
-use bitcode_serde_types::entering::{enter_list, enter_variant, read_at, read_field};
+use bitcode_serde_types::entering::{enter_list, enter_map, enter_variant, read_at, read_field};
+use bitcode_serde_types::maps::ordered_map;
 use bitcode_serde_types::serialize_as::SerializeAs;
 use bitcode_serde_types::variants::write_variant;
 use std::alloc::Global;
+use std::collections::BTreeMap;
 
 /// An expression.
 #[derive(Drop)]
@@ -24,6 +28,7 @@ pub enum Expr {
     Neg(Box<Expr>),
     Add(Box<Expr>, Box<Expr>),
     Call(String, Vec<Expr>),
+    Bind(BTreeMap<String, Expr>, Box<Expr>),
 }
 
 impl SerializeAs for Expr {
@@ -44,6 +49,7 @@ impl SerializeAs for Expr {
             Expr::Neg(x0) => { write_variant(x0, 1, writer, left - 1, place) }
             Expr::Add(x0, x1) => { write_variant(&(x0, x1), 2, writer, left - 1, place) }
             Expr::Call(x0, x1) => { write_variant(&(x0, x1), 3, writer, left - 1, place) }
+            Expr::Bind(x0, x1) => { write_variant(&(x0, x1), 4, writer, left - 1, place) }
         }
     }
 }
@@ -84,7 +90,7 @@ fn read_expr(
     if left == 0 {
         return err(Reason::NestedTooDeep);
     }
-    let found = enter_variant(reader, budget, 4, Reason::InvalidEnumVariant, place)?;
+    let found = enter_variant(reader, budget, 5, Reason::InvalidEnumVariant, place)?;
     match found.index {
         0 => {
             let held: i64 = read_at(alloc, reader, budget, left - 1, found.place)?;
@@ -99,9 +105,13 @@ fn read_expr(
             let held = read_expr_add(alloc, reader, budget, left - 1, found.place)?;
             Ok(Expr::Add(held.0, held.1))
         }
-        _ => {
+        3 => {
             let held = read_expr_call(alloc, reader, budget, left - 1, found.place)?;
             Ok(Expr::Call(held.0, held.1))
+        }
+        _ => {
+            let held = read_expr_bind(alloc, reader, budget, left - 1, found.place)?;
+            Ok(Expr::Bind(held.0, held.1))
         }
     }
 }
@@ -162,6 +172,35 @@ fn read_expr_call(
     Ok((field0, field1))
 }
 
+// Reads the fields of `Bind`.
+#[cycle(expr)]
+fn read_expr_bind(
+    alloc: Global,
+    reader: &mut Reader<'_>,
+    budget: &mut Budget,
+    left: usize,
+    place: usize,
+) -> Result<(BTreeMap<String, Expr>, Box<Expr>), Error>
+    requires place { place ≤ length reader.old.places.below.items }
+    requires steady { IsSteady reader.old }
+    ensures continues { OnOk result (Continues reader.old reader.new) }
+    ensures read { IfOk result
+        (λ t. ReadsAs
+        (λ t. tuple (datum_and (map_datum (λ s. text (string_bytes s)) expr_datum t.0.entries)
+        (datum_and (expr_datum t.1.value) no_data))) (tuple_tree (expr_bind_trees left)) place
+        reader.old budget.old t reader.new budget.new) }
+    ensures refused { IfErr result
+        (λ e. IsRefusalAt (tuple_tree (expr_bind_trees left)) place reader.old e.reason) }
+{
+    budget.take(1);
+    let place0 = reader.field(place, 0, 2, 0)?;
+    let field0 = read_expr_by_string(alloc, reader, budget, left, place0)?;
+    let place1 = reader.field(place, 1, 2, 1)?;
+    let value1 = read_expr(alloc, reader, budget, left, place1)?;
+    let field1 = Box::new(alloc, value1)?;
+    Ok((field0, field1))
+}
+
 // Reads a list of `Expr`.
 #[cycle(expr)]
 fn read_expr_list(
@@ -187,4 +226,34 @@ fn read_expr_list(
         budget.keep(&mut items, item)?;
     }
     Ok(items)
+}
+
+// Reads a map to `Expr`.
+#[cycle(expr)]
+fn read_expr_by_string(
+    alloc: Global,
+    reader: &mut Reader<'_>,
+    budget: &mut Budget,
+    left: usize,
+    place: usize,
+) -> Result<BTreeMap<String, Expr>, Error>
+    requires place { place ≤ length reader.old.places.below.items }
+    requires steady { IsSteady reader.old }
+    ensures continues { OnOk result (Continues reader.old reader.new) }
+    ensures read { IfOk result
+        (λ t. ReadsAs (λ m. map_datum (λ s. text (string_bytes s)) expr_datum m.entries)
+        (map_tree text_tree (expr_tree left)) place reader.old budget.old t reader.new budget.new) }
+    ensures refused { IfErr result
+        (λ e. IsRefusalAt (map_tree text_tree (expr_tree left)) place reader.old e.reason) }
+{
+    let found = enter_map(reader, budget, place)?;
+    let mut pairs = Vec::new(alloc);
+    for _i in 0..found.count {
+        budget.take(1);
+        let key: String = read_at(alloc, reader, budget, left, found.keys)?;
+        let value = read_expr(alloc, reader, budget, left, found.values)?;
+        budget.keep(&mut pairs, (key, value))?;
+    }
+    let made = ordered_map(alloc, pairs)?;
+    Ok(made)
 }

@@ -1,6 +1,7 @@
 -- Reading the fields of a tuple, one after another.
 use Rattle.std.proofs.Common.{◌≡◌, ℕ, ◌+◌, ◌≤◌, List, [], ◌∷◌, ◌++◌, length, refl, ap, sym, subst, ◌∙◌}
 use Rattle.bitcode_memory.specs.declared.error.Reason.{Reason}
+use Rattle.std.proofs.lemmas.List.{append_assoc, append-nil}
 use Rattle.bitcode_shapes.specs.Datum.{Datum, tuple, data_of}
 use Rattle.bitcode_untyped.specs.Nodes.{node_count, node_counts}
 use Rattle.bitcode_untyped.specs.Reads.{ReadsDatum, ReadsNoDatum}
@@ -20,7 +21,13 @@ use Rattle.bitcode_serde.proofs.FieldLemmas.{field_inside, field_inside_refused}
 use Rattle.bitcode_serde.proofs.ValueLemmas.{asked_alike, continues_on, still_there}
 use Rattle.bitcode_serde_types.specs.FieldsWritten.{tree_count}
 use Rattle.bitcode_serde_types.specs.ReadingAs.{ReadsAs, ReadsFieldAs}
+use Rattle.bitcode_serde_types.specs.Restates.{RestatesFields}
 use Rattle.bitcode_serde_types.proofs.FieldLemmas.{field_of_count}
+
+-- if the fields of the trees that are left restate others, those from the first on do so
+abbrev AreRestated : ShapeTrees → List Datum → List Datum → ShapeTrees → Type 0
+AreRestated trees listing content left =
+    (ds es : List Datum) → RestatesFields left (data_of ds) (data_of es) → RestatesFields trees (data_of (listing ++ ds)) (data_of (content ++ es))
 
 module _ (trees : ShapeTrees) (place : ℕ) (old : Reader) (before : Budget) where
   -- The fields before number i were read, with this content, as far as a budget keeps it. These trees are left.
@@ -29,7 +36,7 @@ module _ (trees : ShapeTrees) (place : ℕ) (old : Reader) (before : Budget) whe
     pub continues : Continues old mid
     pub read : GoesAlong old place mid (λ p a b. FieldsSoFar (field_place trees p) trees a listing left i b)
     pub taken : after ≡ spend (node_counts (data_of listing)) before
-    pub same : IsLeft after → content ≡ listing
+    pub same : IsLeft after → AreRestated trees listing content left
 
   pub no_fields_kept : IsSteady old → FieldsKept 0 [] trees old before
   no_fields_kept steady = record {
@@ -37,7 +44,7 @@ module _ (trees : ShapeTrees) (place : ℕ) (old : Reader) (before : Budget) whe
     continues = record { steady = steady; asked = asked_alike old; kept = λ i p at. at };
     read = λ p at a st. (a, st, no_fields_yet (field_place trees p) trees a);
     taken = refl;
-    same = λ left. refl;
+    same = λ left ds es h. h;
   }
 
   module _ {i : ℕ} {content : List Datum} {s : ShapeTree} {left : ShapeTrees} {mid : Reader} {between : Budget}
@@ -61,9 +68,10 @@ module _ (trees : ShapeTrees) (place : ℕ) (old : Reader) (before : Budget) whe
           );
       taken = one.taken ∙ ap (spend (node_count one.datum)) k.taken ∙ spend-then (node_counts (data_of k.listing)) (node_count one.datum) before
           ∙ ap (λ n. spend n before) (sym (node_counts-push k.listing one.datum));
-      same = λ h.
-          ap (λ ds. ds ++ datum t ∷ []) (k.same (left_before (node_count one.datum) between (subst IsLeft one.taken h)))
-          ∙ ap (λ d. k.listing ++ d ∷ []) (one.same h);
+      same = λ h ds es rest.
+          subst (λ xs. RestatesFields trees (data_of xs) (data_of ((content ++ datum t ∷ []) ++ es))) (sym (append_assoc k.listing (one.datum ∷ []) ds))
+          (subst (λ ys. RestatesFields trees (data_of (k.listing ++ one.datum ∷ ds)) (data_of ys)) (sym (append_assoc content (datum t ∷ []) es))
+          (k.same (left_before (node_count one.datum) between (subst IsLeft one.taken h)) (one.datum ∷ ds) (datum t ∷ es) (one.same h, rest)));
     }
 
     pub field_not_kept : (why : Reason) → IsFieldRefusalAt s place i (tree_count trees) mid why → IsRefusalAt (tuple_tree trees) place old why
@@ -101,11 +109,18 @@ module _ (trees : ShapeTrees) (place : ℕ) (old : Reader) (before : Budget) whe
   pub tuple_kept : {A : Type 0} {i : ℕ} {content : List Datum} {mid : Reader} {after : Budget} → FieldsKept i content no_trees mid after
       → (datum : A → Datum) (t : A) (first : Budget) → datum t ≡ tuple (data_of content) → before ≡ spend 1 first
       → ReadsAs datum (tuple_tree trees) place old first t mid after
-  tuple_kept {i = i} k datum t first is taken = record {
+  tuple_kept {i = i} {content = content} k datum t first is taken = record {
     datum = tuple (data_of k.listing);
     read = λ p at a st.
         let g = k.read p at a st in
         (g.0, g.1, tuple_read trees p a (data_of k.listing) g.0 (all_fields (field_place trees p) trees a g.0 k.listing i g.2));
     taken = k.taken ∙ ap (spend (node_counts (data_of k.listing))) taken ∙ spend-then 1 (node_counts (data_of k.listing)) first;
-    same = λ left. is ∙ ap (λ ds. tuple (data_of ds)) (k.same left);
+    same = λ left. (
+      data_of k.listing,
+      data_of content,
+      refl,
+      is,
+      subst (λ xs. RestatesFields trees (data_of xs) (data_of content)) (append-nil k.listing)
+          (subst (λ ys. RestatesFields trees (data_of (k.listing ++ [])) (data_of ys)) (append-nil content) (k.same left [] [] tt)),
+    );
   }

@@ -5,3 +5,8 @@ pub mod FieldLemmas
 pub mod KeptLemmas
 pub mod FieldsRead
 pub mod EnteringLemmas
+pub mod RestatesLemmas
+pub mod EntryLemmas
+pub mod PairLemmas
+pub mod MapWritten
+pub mod SetLemmas

@@ -1,4 +1,9 @@
 pub mod DeepFaults
 pub mod FieldsWritten
+pub mod Keys
+pub mod LawfulKeys
 pub mod Options
+pub mod Pairs
 pub mod ReadingAs
+pub mod Restates
+pub mod Results

@@ -1,16 +1,46 @@
 -- What reading a value of a Rust type does.
-use Rattle.std.specs.Prelude.{ℕ}
-use Rattle.bitcode_shapes.specs.Datum.{Datum}
+use Rattle.std.specs.Prelude.{◌≡◌, ℕ, List, map}
+use Rattle.std.specs.List.{AllZip}
+use Rattle.bitcode_shapes.specs.Datum.{Datum, data_of}
+use Rattle.bitcode_untyped.specs.Nodes.{node_count, node_counts}
 use Rattle.bitcode_untyped.specs.ShapeTree.{ShapeTree}
-use Rattle.bitcode_serde.specs.Budget.{Keeps}
-use Rattle.bitcode_serde.specs.ReadingValues.{ReadsAt, ReadsFieldAt}
+use Rattle.bitcode_untyped.specs.Spelling.{SpellsDatum}
+use Rattle.bitcode_serde.specs.Budget.{spend, IsLeft}
+use Rattle.bitcode_serde.specs.ReadingValues.{ReadsAt, ReadsFieldAt, ReadsListAt}
 use Rattle.bitcode_serde.specs.declared.budget.Budget.{Budget}
 use Rattle.bitcode_serde.specs.declared.reader.Reader.{Reader}
+use Rattle.bitcode_serde_types.specs.Restates.{Restates}
 
--- A datum is read at the place, and its nodes are taken from the budget. Unless that is spent, it is the value's content.
+-- A datum is read and its nodes are taken from the budget. Unless that is spent, what is kept is this of the datum.
+pub record KeepsAs {A : Type 0} (Is : Datum → Datum → Type 0) (content : A → Datum) (Reads : Datum → Type 0) (before : Budget) (kept : A) (after : Budget) : Type 0 where
+  pub datum : Datum
+  pub read : Reads datum
+  pub taken : after ≡ spend (node_count datum) before
+  pub same : IsLeft after → Is datum (content kept)
+
+-- The same of several data.
+pub record KeepsEachAs {A : Type 0} (Is : Datum → Datum → Type 0) (content : A → Datum) (Reads : List Datum → Type 0) (before : Budget) (kept : List A) (after : Budget) : Type 0 where
+  pub listing : List Datum
+  pub read : Reads listing
+  pub taken : after ≡ spend (node_counts (data_of listing)) before
+  pub same : IsLeft after → AllZip Is listing (map content kept)
+
+-- A datum is read at the place, and its nodes are taken from the budget. Unless that is spent, the value's content
+-- restates it.
 abbrev pub ReadsAs : {A : Type 0} → (A → Datum) → ShapeTree → ℕ → Reader → Budget → A → Reader → Budget → Type 0
-ReadsAs datum s place old before t new after = Keeps datum (λ d. ReadsAt s place old d new) before t after
+ReadsAs datum s place old before t new after = KeepsAs (Restates s) datum (λ d. ReadsAt s place old d new) before t after
+
+-- the same of so many data, one after another
+abbrev pub ReadsEachAs : {A : Type 0} → (A → Datum) → ShapeTree → ℕ → Reader → Budget → ℕ → List A → Reader → Budget → Type 0
+ReadsEachAs datum s place old before count ts new after =
+    KeepsEachAs (Restates s) datum (λ ds. ReadsListAt s place old count ds new) before ts after
 
 -- the same of field i of so many of a tuple at the place
 abbrev pub ReadsFieldAs : {A : Type 0} → (A → Datum) → ShapeTree → ℕ → ℕ → ℕ → Reader → Budget → A → Reader → Budget → Type 0
-ReadsFieldAs datum s place i fields old before t new after = Keeps datum (λ d. ReadsFieldAt s place i fields old d new) before t after
+ReadsFieldAs datum s place i fields old before t new after = KeepsAs (Restates s) datum (λ d. ReadsFieldAt s place i fields old d new) before t after
+
+-- ---- a whole input
+
+-- the input spells a datum that this restates
+abbrev pub SpellsAs : ShapeTree → List ℕ → Datum → Type 0
+SpellsAs s bytes e = (d : Datum) × SpellsDatum s bytes d × Restates s d e

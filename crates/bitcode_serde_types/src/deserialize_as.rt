@@ -5,10 +5,10 @@ ghost use Rattle.bitcode_untyped.specs.Bounds.{column_free, element_count};
 ghost use Rattle.bitcode_untyped.specs.Nodes.{node_count};
 ghost use Rattle.bitcode_untyped.specs.PlacedColumns.{columns_of, entry_count};
 ghost use Rattle.bitcode_untyped.specs.Spelling.{SpellsDatum};
-ghost use Rattle.bitcode_serde.specs.Budget.{Keeps};
 ghost use Rattle.bitcode_serde.specs.ReadingValues.{IsSteady, Continues, IsRefusalAt, IsValueReason};
 ghost use Rattle.bitcode_serde.specs.ReadingValues.{IsRefusalWithin};
-ghost use Rattle.bitcode_serde_types.specs.ReadingAs.{ReadsAs};
+ghost use Rattle.bitcode_serde_types.specs.ReadingAs.{KeepsAs, ReadsAs, SpellsAs};
+ghost use Rattle.bitcode_serde_types.specs.Restates.{Restates, HasNoMap};
 
 use crate::serialize_as::{DEEPEST, SerializeAs};
 use bitcode_memory::error::{Error, Reason};
@@ -51,7 +51,8 @@ fn read_whole<'a, T: DeserializeAs<'a>>(
     budget: &mut Budget,
 ) -> Result<T, Error>
     ensures read { IfOk result
-        (λ t. Keeps T.datum (SpellsDatum (T.tree 513) bytes.now) budget.old t budget.new) }
+        (λ t. KeepsAs (Restates (T.tree 513)) T.datum (SpellsDatum (T.tree 513) bytes.now)
+        budget.old t budget.new) }
     ensures refused { IfErr result
         (λ e. IsValueReason e.reason
         × (e.reason ≢ Reason.OutOfMemory → (d : Datum) → SpellsDatum (T.tree 513) bytes.now d
@@ -74,7 +75,9 @@ fn read_whole<'a, T: DeserializeAs<'a>>(
 /// A byte may spell up to 524296 elements, and each is allocated: decode untrusted input with
 /// [`deserialize_as_within`].
 pub fn deserialize_as<'a, T: DeserializeAs<'a>>(alloc: Global, bytes: &'a [u8]) -> Result<T, Error>
-    ensures read { IfOk result (λ t. SpellsDatum (T.tree 513) bytes.now (T.datum t)) }
+    ensures read { IfOk result (λ t. SpellsAs (T.tree 513) bytes.now (T.datum t)) }
+    ensures exact { HasNoMap (T.tree 513) → IfOk result
+        (λ t. SpellsDatum (T.tree 513) bytes.now (T.datum t)) }
     ensures refused { IfErr result
         (λ e. IsValueReason e.reason
         × (e.reason ≢ Reason.OutOfMemory → (d : Datum) → SpellsDatum (T.tree 513) bytes.now d
@@ -104,8 +107,11 @@ pub fn deserialize_as_within<'a, T: DeserializeAs<'a>>(
     bytes: &'a [u8],
     limit: usize,
 ) -> Result<T, Error>
-    ensures read { IfOk result (λ t. SpellsDatum (T.tree 513) bytes.now (T.datum t)) }
-    ensures within { IfOk result (λ t. node_count (T.datum t) ≤ limit) }
+    ensures read { IfOk result (λ t. SpellsAs (T.tree 513) bytes.now (T.datum t)) }
+    ensures exact { HasNoMap (T.tree 513) → IfOk result
+        (λ t. SpellsDatum (T.tree 513) bytes.now (T.datum t)) }
+    ensures within { (d : Datum) → SpellsDatum (T.tree 513) bytes.now d
+        → OnOk result (node_count d ≤ limit) }
     ensures refused { IfErr result
         (λ e. IsRefusalWithin limit (SpellsDatum (T.tree 513) bytes.now) e.reason) }
     ensures unambiguous { (d e : Datum) → SpellsDatum (T.tree 513) bytes.now d

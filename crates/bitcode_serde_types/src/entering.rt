@@ -1,12 +1,13 @@
-//! Steps into lists, variants and fields.
+//! Steps into lists, maps, variants and fields.
 ghost use Rattle.std.specs.Prelude.{◌≡◌, ◌≤◌, ◌<◌, true, length, IfOk, IfErr, OnOk};
 ghost use Rattle.bitcode_coder.specs.Spelling.{natural};
 ghost use Rattle.bitcode_untyped.specs.Bounds.{column_free, free_limit};
-ghost use Rattle.bitcode_untyped.specs.ShapeTree.{ShapeTree, ShapeTrees, seq_tree, choice_tree};
+ghost use Rattle.bitcode_untyped.specs.ShapeTree.{ShapeTree, ShapeTrees, seq_tree, map_tree, choice_tree};
 ghost use Rattle.bitcode_untyped.specs.Walk.{variant, index_kind};
 ghost use Rattle.bitcode_serde.specs.Budget.{spend};
 ghost use Rattle.bitcode_serde.specs.ReadingValues.{IsSteady, Continues, IsRefusalAt, IsValueReason};
 ghost use Rattle.bitcode_serde.specs.ReadingValues.{Enters, EntersList, IsFieldRefusalAt};
+ghost use Rattle.bitcode_serde.proofs.ValueLemmas.{EntersMap};
 ghost use Rattle.bitcode_serde_types.specs.FieldsWritten.{tree_count};
 ghost use Rattle.bitcode_serde_types.specs.ReadingAs.{ReadsAs, ReadsFieldAs};
 
@@ -23,6 +24,14 @@ use std::alloc::Global;
 #[derive(Clone, Copy)]
 pub struct Elements {
     pub place: usize,
+    pub count: usize,
+}
+
+/// The places of the keys and of the values of a map, and how many pairs there are.
+#[derive(Clone, Copy)]
+pub struct Pairs {
+    pub keys: usize,
+    pub values: usize,
     pub count: usize,
 }
 
@@ -63,6 +72,33 @@ pub fn enter_list(
     let elements = reader.step(place, Step::Element, taken.total)?;
     Ok(Elements {
         place: elements,
+        count: taken.length,
+    })
+}
+
+/// Reads how many pairs a map has, and finds the places of its keys and of its values.
+///
+/// Errors: those of the column of lengths.
+pub fn enter_map(reader: &mut Reader<'_>, budget: &mut Budget, place: usize) -> Result<Pairs, Error>
+    requires place { place ≤ length reader.old.places.below.items }
+    requires steady { IsSteady reader.old }
+    ensures taken { budget.new ≡ spend 1 budget.old }
+    ensures continues { OnOk result (Continues reader.old reader.new) }
+    ensures inside { IfOk result
+        (λ found. (found.keys ≤ length reader.new.places.below.items)
+        × (found.values ≤ length reader.new.places.below.items)) }
+    ensures enters { IfOk result
+        (λ found. EntersMap reader.old reader.new place found.keys found.values found.count) }
+    ensures refused { IfErr result
+        (λ e. (k v : ShapeTree) → IsRefusalAt (map_tree k v) place reader.old e.reason) }
+{
+    budget.take(1);
+    let taken = reader.take_length(place)?;
+    let keys = reader.step(place, Step::Key, taken.total)?;
+    let values = reader.step(place, Step::Value, taken.total)?;
+    Ok(Pairs {
+        keys,
+        values,
         count: taken.length,
     })
 }

@@ -4,11 +4,15 @@
 pub mod deserialize_as;
 pub mod entering;
 pub mod fields;
+pub mod keys;
 mod leaves;
+pub mod maps;
 mod options;
 mod pointers;
 mod read_leaves;
+mod results;
 pub mod sequences;
 pub mod serialize_as;
+mod sets;
 mod tuples;
 pub mod variants;

@@ -4,8 +4,8 @@
 ghost use Rattle.std.specs.Prelude.{◌≤◌, length, map, IfOk, IfErr, OnOk};
 ghost use Rattle.bitcode_shapes.specs.Datum.{list, data_of};
 ghost use Rattle.bitcode_untyped.specs.ShapeTree.{seq_tree};
-ghost use Rattle.bitcode_serde.specs.Budget.{KeepsEach};
-ghost use Rattle.bitcode_serde.specs.ReadingValues.{IsSteady, Continues, ReadsListAt, IsListRefusalAt};
+ghost use Rattle.bitcode_serde.specs.ReadingValues.{IsSteady, Continues, IsListRefusalAt};
+ghost use Rattle.bitcode_serde_types.specs.ReadingAs.{ReadsEachAs};
 
 use crate::deserialize_as::DeserializeAs;
 use crate::entering::{Elements, enter_list};
@@ -48,9 +48,8 @@ fn read_elements<'a, T: DeserializeAs<'a>>(
     requires steady { IsSteady reader.old }
     ensures continues { OnOk result (Continues reader.old reader.new) }
     ensures read { IfOk result
-        (λ v. KeepsEach T.datum
-        (λ ds. ReadsListAt (T.tree left) list.place reader.old list.count ds reader.new)
-        budget.old v.items budget.new) }
+        (λ v. ReadsEachAs T.datum (T.tree left) list.place reader.old budget.old list.count v.items
+        reader.new budget.new) }
     ensures refused { IfErr result
         (λ e. IsListRefusalAt (T.tree left) list.place reader.old list.count e.reason) }
 {

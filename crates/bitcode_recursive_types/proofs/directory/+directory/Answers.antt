@@ -5,10 +5,10 @@ use Rattle.bitcode_shapes.specs.Datum.{Datum, unit, text, list, data_of}
 use Rattle.bitcode_coder.specs.Spelling.{natural}
 use Rattle.bitcode_untyped.specs.ShapeTree.{unit_tree, natural_tree, seq_tree, tuple_tree, choice_tree}
 use Rattle.bitcode_untyped.proofs.ReadLemmas.{never_read}
-use Rattle.bitcode_serde.specs.Budget.{KeepsEach}
-use Rattle.bitcode_serde.specs.ReadingValues.{IsRefusalAt, ReadsListAt}
+use Rattle.bitcode_serde.specs.ReadingValues.{IsRefusalAt}
 use Rattle.bitcode_serde.proofs.ColumnLemmas.{passed_on}
 use Rattle.bitcode_serde.proofs.ValueLemmas.{continues_on, seq_refused}
+use Rattle.bitcode_serde_types.specs.ReadingAs.{ReadsEachAs}
 use Rattle.bitcode_serde_types.proofs.FieldsRead.{no_fields_kept, place_there, field_kept, field_not_kept, field_kept_at, field_not_kept_at, tuple_kept}
 use Rattle.bitcode_serde_types.proofs.KeptLemmas.{elements_more, element_refused, elements_there, list_kept, unit_kept, choice_kept, payload_refused}
 use Rattle.bitcode_recursive_types.specs.DirectoryShape.{directory_tree, directory_trees, directory_step, directory_datum, entry_tree, entry_trees, entry_step, entry_datum}
@@ -211,5 +211,4 @@ read_entry_list-returns-clause-read t c =
     list_kept entry_datum (λ v. list (data_of (map entry_datum v.items))) s c.args.reader.now c.enter_list.new.reader l.reader c.args.place found.place
     found.count c.args.budget.now c.enter_list.new.budget l.budget l.items.items l.items refl c.enter_list.ensures.taken c.in_ok-found.ensures.enters
     (λ free. let h = entry_columns c.args.left ∙ free in cc)
-    (subst (λ n. KeepsEach entry_datum (λ ds. ReadsListAt s found.place c.enter_list.new.reader n ds l.reader) c.enter_list.new.budget l.items.items l.budget) e
-    l.invariant.1)
+    (subst (λ n. ReadsEachAs entry_datum s found.place c.enter_list.new.reader c.enter_list.new.budget n l.items.items l.reader l.budget) e l.invariant.1)

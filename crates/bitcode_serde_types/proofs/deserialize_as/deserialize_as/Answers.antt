@@ -1,8 +1,11 @@
 -- What was read from the root, and the laws of what is spelled.
+use Rattle.std.proofs.Common.{sym, subst}
 use Rattle.bitcode_untyped.specs.Spelling.{SpellsDatum}
 use Rattle.bitcode_untyped.proofs.LawLemmas.{datum_takes_an_eighth, elements_are_bounded}
 use Rattle.bitcode_serde.proofs.WholeLemmas.{one_spelled}
+use Rattle.bitcode_serde_types.specs.Restates.{Restates}
 use Rattle.bitcode_serde_types.proofs.KeptLemmas.{all_kept_of}
+use Rattle.bitcode_serde_types.proofs.RestatesLemmas.{kept_whole}
 use Rattle.bitcode_serde_types.proofs.deserialize_as.deserialize_as.Goals as goal
 
 pub returns-in_err-value-clause-unambiguous : goal.returns-in_err-value-clause-unambiguous
@@ -25,4 +28,11 @@ returns-clause-bounded g c = (elements_are_bounded (g.T.SerializeAs.tree 513) (g
 
 pub returns-clause-read : goal.returns-clause-read
 returns-clause-read g c =
-    (all_kept_of g.T.SerializeAs.datum (SpellsDatum (g.T.SerializeAs.tree 513) c.args.bytes.now) c.in_ok-value.value _ c.in_ok-value.ensures.read).1
+    let s = g.T.SerializeAs.tree 513 in
+    all_kept_of (Restates s) g.T.SerializeAs.datum (SpellsDatum s c.args.bytes.now) c.in_ok-value.value _ c.in_ok-value.ensures.read
+
+pub returns-clause-exact : goal.returns-clause-exact
+returns-clause-exact g c = λ none.
+    let s = g.T.SerializeAs.tree 513 in
+    let k = all_kept_of (Restates s) g.T.SerializeAs.datum (SpellsDatum s c.args.bytes.now) c.in_ok-value.value _ c.in_ok-value.ensures.read in
+    subst (SpellsDatum s c.args.bytes.now) (sym (kept_whole s none k.0 (g.T.SerializeAs.datum c.in_ok-value.value) k.2)) k.1

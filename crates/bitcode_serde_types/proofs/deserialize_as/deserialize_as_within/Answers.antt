@@ -9,6 +9,7 @@ use Rattle.bitcode_serde.proofs.BudgetLemmas.{within_limit, over_limit}
 use Rattle.bitcode_serde.proofs.ColumnLemmas.{passed_on}
 use Rattle.bitcode_serde.proofs.WholeLemmas.{one_spelled}
 use Rattle.bitcode_serde.proofs.WithinLemmas.{too_many_refused}
+use Rattle.bitcode_serde_types.proofs.RestatesLemmas.{kept_whole}
 use Rattle.bitcode_serde_types.proofs.deserialize_as.deserialize_as_within.Goals as goal
 
 pub returns-in_err-value-clause-unambiguous : goal.returns-in_err-value-clause-unambiguous
@@ -46,7 +47,21 @@ returns-then-is_spent-clause-refused g c =
     (too_many_refused c.args.limit spells k.datum k.read (over_limit (node_count k.datum) c.args.limit (sym k.taken ∙ c.if-is_spent.ensures)))
 
 pub returns-clause-within : goal.returns-clause-within
-returns-clause-within g c =
+returns-clause-within g c = λ d spelled.
     let k = c.in_ok-value.ensures.read in
     let left : IsLeft c.read_whole.new.budget = c.if-is_spent.ensures in
-    subst (λ d. node_count d ≤ c.args.limit) (sym (k.same left)) (within_limit (node_count k.datum) c.args.limit (subst IsLeft k.taken left))
+    subst (λ e. node_count e ≤ c.args.limit) (one_spelled (g.T.SerializeAs.tree 513) c.args.bytes.now k.datum d k.read spelled)
+    (within_limit (node_count k.datum) c.args.limit (subst IsLeft k.taken left))
+
+pub returns-clause-read : goal.returns-clause-read
+returns-clause-read g c =
+    let k = c.in_ok-value.ensures.read in
+    let left : IsLeft c.read_whole.new.budget = c.if-is_spent.ensures in
+    (k.datum, k.read, k.same left)
+
+pub returns-clause-exact : goal.returns-clause-exact
+returns-clause-exact g c = λ none.
+    let k = c.in_ok-value.ensures.read in
+    let s = g.T.SerializeAs.tree 513 in
+    let left : IsLeft c.read_whole.new.budget = c.if-is_spent.ensures in
+    subst (SpellsDatum s c.args.bytes.now) (sym (kept_whole s none k.datum (g.T.SerializeAs.datum c.in_ok-value.value) (k.same left))) k.read

@@ -2,10 +2,10 @@
 use Rattle.std.proofs.Common.{rules, arith, ◌≡◌, ◌<◌, ◌+◌, ◌-◌, true, sym, subst}
 use Rattle.std.proofs.lemmas.Result.{err_from_is_err_and}
 use Rattle.bitcode_untyped.specs.Bounds.{column_free}
-use Rattle.bitcode_serde.specs.Budget.{KeepsEach}
-use Rattle.bitcode_serde.specs.ReadingValues.{ReadsListAt, IsListRefusalAt}
+use Rattle.bitcode_serde.specs.ReadingValues.{IsListRefusalAt}
 use Rattle.bitcode_serde.specs.declared.budget.Budget.TheVariants.{Spent}
 use Rattle.bitcode_serde.proofs.ColumnLemmas.{passed_on}
+use Rattle.bitcode_serde_types.specs.ReadingAs.{ReadsEachAs}
 use Rattle.bitcode_serde_types.proofs.KeptLemmas.{rest_kept, elements_more, element_refused, elements_there}
 use Rattle.bitcode_serde_types.proofs.sequences.read_elements.Goals as goal
 
@@ -38,8 +38,8 @@ pub returns-clause-read : goal.returns-clause-read
 returns-clause-read g c =
     let l = c.loop-i in
     let e : l._i ≡ c.args.list.count = omega arith in
-    subst (λ n. KeepsEach g.T.SerializeAs.datum (λ ds. ReadsListAt (g.T.SerializeAs.tree c.args.left) c.args.list.place c.args.reader.now n ds l.reader)
-    c.args.budget.now l.values.items l.budget) e l.invariant.1
+    subst (λ n. ReadsEachAs g.T.SerializeAs.datum (g.T.SerializeAs.tree c.args.left) c.args.list.place c.args.reader.now c.args.budget.now n l.values.items
+    l.reader l.budget) e l.invariant.1
 
 pub returns-then-is_free-clause-read : goal.returns-then-is_free-clause-read
 returns-then-is_free-clause-read g c =
@@ -51,7 +51,7 @@ returns-then-is_free-clause-read g c =
     let gone : l.budget ≡ Spent = c.if-is_spent.ensures in
     let free : column_free s ≡ true = sym (c.if-is_free.ensures c.args.left) in
     let all : l._i + (c.args.list.count - l._i) ≡ c.args.list.count = omega arith in
-    let so_far = subst (λ b. KeepsEach datum (λ ds. ReadsListAt s place old l._i ds l.reader) c.args.budget.now l.values.items b) gone l.invariant.1 in
+    let so_far = subst (ReadsEachAs datum s place old c.args.budget.now l._i l.values.items l.reader) gone l.invariant.1 in
     let rest = rest_kept datum s place old l.reader c.args.budget.now l.values.items (c.args.list.count - l._i) l._i l.invariant.0 free so_far in
-    subst (λ b. KeepsEach datum (λ ds. ReadsListAt s place old c.args.list.count ds l.reader) c.args.budget.now l.values.items b) (sym gone)
-    (subst (λ n. KeepsEach datum (λ ds. ReadsListAt s place old n ds l.reader) c.args.budget.now l.values.items Spent) all rest)
+    subst (ReadsEachAs datum s place old c.args.budget.now c.args.list.count l.values.items l.reader) (sym gone)
+    (subst (λ n. ReadsEachAs datum s place old c.args.budget.now n l.values.items l.reader Spent) all rest)

@@ -1,9 +1,10 @@
 -- The fields or the variant, or one reference too many. Written by `scripts/second_format`.
-use Rattle.std.proofs.Common.{arith, ◌<◌, ◌-◌, refl, ap, sym, ◌∙◌}
+use Rattle.std.proofs.Common.{arith, ◌<◌, ◌-◌, refl, ap, sym, ◌∙◌, string_bytes}
 use Rattle.bitcode_memory.specs.declared.error.Reason.TheVariants.{NestedTooDeep}
-use Rattle.bitcode_shapes.specs.Datum.{Datum}
+use Rattle.bitcode_shapes.specs.Datum.{Datum, text, tuple, choice, datum_and, no_data}
 use Rattle.bitcode_untyped.specs.ShapeTree.{never_tree}
 use Rattle.bitcode_serde.proofs.SerializeLemmas.{one_fault}
+use Rattle.bitcode_serde_types.proofs.PairLemmas.{entries_mapped}
 use Rattle.bitcode_recursive_types.specs.ExprShape.{expr_trees, expr_step, expr_datum}
 use Rattle.bitcode_recursive_types.specs.declared.expr.Expr.TheFolds.{fold-roll-Expr}
 use Rattle.bitcode_recursive_types.specs.declared.expr.Expr.TheVariants as expr'
@@ -39,3 +40,14 @@ returns-in-Call t c =
     let h : 0 < c.args.left = omega arith in
     rw (expr_more c.args.left h, c.in-Call.is, ap expr_datum (sym (expr'.rolls-Call c.in-Call.x0 c.in-Call.x1)) ∙ fold-roll-Expr Datum expr_step (Expr-F.Call c.in-Call.x0 c.in-Call.x1))
     (c.write_variant-in-Call.ensures (expr_trees (c.args.left - 1)) refl)
+
+pub returns-in-Bind : goal.returns-in-Bind
+returns-in-Bind t c =
+    let h : 0 < c.args.left = omega arith in
+    rw (
+      expr_more c.args.left h,
+      c.in-Bind.is,
+      ap expr_datum (sym (expr'.rolls-Bind c.in-Bind.x0 c.in-Bind.x1)) ∙ fold-roll-Expr Datum expr_step (Expr-F.Bind c.in-Bind.x0 c.in-Bind.x1)
+          ∙ ap (λ z. choice 4 (tuple (datum_and z (datum_and (expr_datum c.in-Bind.x1.value) no_data)))) (entries_mapped (λ s. text (string_bytes s)) expr_datum c.in-Bind.x0.entries),
+    )
+    (c.write_variant-in-Bind.ensures (expr_trees (c.args.left - 1)) refl)
