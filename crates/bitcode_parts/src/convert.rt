@@ -177,6 +177,8 @@ impl<'a, T: Drop, D: View<'a>> View<'a> for ConvertFromDecoder<T, D> {
 impl<T: Shaped + Drop, F: ConvertFrom<T>, D: Decoder<T>> Decoder<F> for ConvertFromDecoder<T, D> {
     ghost makes_free = { D.makes_free && F.is_free };
 
+    // As for tuples.
+    #[inline(always)]
     fn decode(&mut self) -> Result<F, Error> {
         let value = self.inner.decode()?;
         F::convert_from(self.alloc, value)

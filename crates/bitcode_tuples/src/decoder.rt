@@ -86,6 +86,9 @@ impl<P: Shaped + Drop, Q: Shaped, A: Decoder<P>, B: Decoder<Q>> Decoder<(P, Q)>
     for TupleDecoder<A, B> {
     ghost makes_free = { A.makes_free && B.makes_free };
 
+    // Tuples and structs are decoded where they are needed: each field then goes to its place without a copy, and the
+    // positions in all columns are kept in registers.
+    #[inline(always)]
     fn decode(&mut self) -> Result<(P, Q), Error> {
         let first = self.first.decode()?;
         let second = self.second.decode()?;

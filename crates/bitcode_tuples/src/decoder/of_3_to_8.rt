@@ -13,6 +13,7 @@ impl<T1: Shaped + Drop, T2: Shaped, T3: Shaped, A: Decoder<T1>, B: Decoder<(T2, 
 > for TupleDecoder<A, B> {
     ghost makes_free = { A.makes_free && B.makes_free };
 
+    #[inline(always)]
     fn decode(&mut self) -> Result<(T1, T2, T3), Error> {
         let (t1, (t2, t3)) = Decoder::<(T1, (T2, T3))>::decode(self)?;
         Ok((t1, t2, t3))
@@ -31,6 +32,7 @@ impl<
 > Decoder<(T1, T2, T3, T4)> for TupleDecoder<A, B> {
     ghost makes_free = { A.makes_free && B.makes_free };
 
+    #[inline(always)]
     fn decode(&mut self) -> Result<(T1, T2, T3, T4), Error> {
         let ((t1, t2), (t3, t4)) = Decoder::<((T1, T2), (T3, T4))>::decode(self)?;
         Ok((t1, t2, t3, t4))
@@ -50,6 +52,7 @@ impl<
 > Decoder<(T1, T2, T3, T4, T5)> for TupleDecoder<A, B> {
     ghost makes_free = { A.makes_free && B.makes_free };
 
+    #[inline(always)]
     fn decode(&mut self) -> Result<(T1, T2, T3, T4, T5), Error> {
         let ((t1, t2), (t3, t4, t5)) = Decoder::<((T1, T2), (T3, T4, T5))>::decode(self)?;
         Ok((t1, t2, t3, t4, t5))
@@ -70,6 +73,7 @@ impl<
 > Decoder<(T1, T2, T3, T4, T5, T6)> for TupleDecoder<A, B> {
     ghost makes_free = { A.makes_free && B.makes_free };
 
+    #[inline(always)]
     fn decode(&mut self) -> Result<(T1, T2, T3, T4, T5, T6), Error> {
         let ((t1, t2, t3), (t4, t5, t6)) = Decoder::<((T1, T2, T3), (T4, T5, T6))>::decode(self)?;
         Ok((t1, t2, t3, t4, t5, t6))
@@ -91,6 +95,7 @@ impl<
 > Decoder<(T1, T2, T3, T4, T5, T6, T7)> for TupleDecoder<A, B> {
     ghost makes_free = { A.makes_free && B.makes_free };
 
+    #[inline(always)]
     fn decode(&mut self) -> Result<(T1, T2, T3, T4, T5, T6, T7), Error> {
         let ((t1, t2, t3), (t4, t5, t6, t7)) = Decoder::<((T1, T2, T3), (T4, T5, T6, T7))>::decode(
             self,
@@ -115,6 +120,7 @@ impl<
 > Decoder<(T1, T2, T3, T4, T5, T6, T7, T8)> for TupleDecoder<A, B> {
     ghost makes_free = { A.makes_free && B.makes_free };
 
+    #[inline(always)]
     fn decode(&mut self) -> Result<(T1, T2, T3, T4, T5, T6, T7, T8), Error> {
         let ((t1, t2, t3, t4), (t5, t6, t7, t8)) = Decoder::<
             ((T1, T2, T3, T4), (T5, T6, T7, T8)),

@@ -23,6 +23,7 @@ impl<
 > Decoder<(T1, T2, T3, T4, T5, T6, T7, T8, T9)> for TupleDecoder<A, B> {
     ghost makes_free = { A.makes_free && B.makes_free };
 
+    #[inline(always)]
     fn decode(&mut self) -> Result<(T1, T2, T3, T4, T5, T6, T7, T8, T9), Error> {
         let ((t1, t2, t3, t4), (t5, t6, t7, t8, t9)) = Decoder::<
             ((T1, T2, T3, T4), (T5, T6, T7, T8, T9)),
@@ -49,6 +50,7 @@ impl<
 > Decoder<(T1, T2, T3, T4, T5, T6, T7, T8, T9, T10)> for TupleDecoder<A, B> {
     ghost makes_free = { A.makes_free && B.makes_free };
 
+    #[inline(always)]
     fn decode(&mut self) -> Result<(T1, T2, T3, T4, T5, T6, T7, T8, T9, T10), Error> {
         let ((t1, t2, t3, t4, t5), (t6, t7, t8, t9, t10)) = Decoder::<
             ((T1, T2, T3, T4, T5), (T6, T7, T8, T9, T10)),
@@ -76,6 +78,7 @@ impl<
 > Decoder<(T1, T2, T3, T4, T5, T6, T7, T8, T9, T10, T11)> for TupleDecoder<A, B> {
     ghost makes_free = { A.makes_free && B.makes_free };
 
+    #[inline(always)]
     fn decode(&mut self) -> Result<(T1, T2, T3, T4, T5, T6, T7, T8, T9, T10, T11), Error> {
         let ((t1, t2, t3, t4, t5), (t6, t7, t8, t9, t10, t11)) = Decoder::<
             ((T1, T2, T3, T4, T5), (T6, T7, T8, T9, T10, T11)),
@@ -104,6 +107,7 @@ impl<
 > Decoder<(T1, T2, T3, T4, T5, T6, T7, T8, T9, T10, T11, T12)> for TupleDecoder<A, B> {
     ghost makes_free = { A.makes_free && B.makes_free };
 
+    #[inline(always)]
     fn decode(&mut self) -> Result<(T1, T2, T3, T4, T5, T6, T7, T8, T9, T10, T11, T12), Error> {
         let ((t1, t2, t3, t4, t5, t6), (t7, t8, t9, t10, t11, t12)) = Decoder::<
             ((T1, T2, T3, T4, T5, T6), (T7, T8, T9, T10, T11, T12)),
@@ -133,6 +137,7 @@ impl<
 > Decoder<(T1, T2, T3, T4, T5, T6, T7, T8, T9, T10, T11, T12, T13)> for TupleDecoder<A, B> {
     ghost makes_free = { A.makes_free && B.makes_free };
 
+    #[inline(always)]
     fn decode(
         &mut self,
     ) -> Result<(T1, T2, T3, T4, T5, T6, T7, T8, T9, T10, T11, T12, T13), Error> {
@@ -165,6 +170,7 @@ impl<
 > Decoder<(T1, T2, T3, T4, T5, T6, T7, T8, T9, T10, T11, T12, T13, T14)> for TupleDecoder<A, B> {
     ghost makes_free = { A.makes_free && B.makes_free };
 
+    #[inline(always)]
     fn decode(
         &mut self,
     ) -> Result<(T1, T2, T3, T4, T5, T6, T7, T8, T9, T10, T11, T12, T13, T14), Error> {
@@ -219,6 +225,7 @@ impl<
 > for TupleDecoder<A, B> {
     ghost makes_free = { A.makes_free && B.makes_free };
 
+    #[inline(always)]
     fn decode(
         &mut self,
     ) -> Result<
@@ -296,6 +303,7 @@ impl<
 > for TupleDecoder<A, B> {
     ghost makes_free = { A.makes_free && B.makes_free };
 
+    #[inline(always)]
     fn decode(
         &mut self,
     ) -> Result<
