@@ -135,12 +135,15 @@ fn read_parts<'a>(
     Ok(both(both(small_written, large_written), enough))
 }
 
-// The byte of a column of one length below 255, and the bytes behind it, if the input begins with such a column.
-fn single_short(bytes: &[u8], k: usize) -> Option<(&[u8], &[u8])>
+// The byte of a column of one length below 255, the bytes behind it, and that length, if the input begins with such a
+// column.
+fn single_short(bytes: &[u8], k: usize) -> Option<(&[u8], &[u8], usize)>
     ensures read { IfSome result
         (λ parts. ReadsParts k bytes.now parts.0.now [] parts.1.now) }
     ensures written { IfSome result
         (λ parts. bytes.now ≡ length_bytes (lengths_from parts.0.now []) ++ parts.1.now) }
+    ensures sum { IfSome result (λ parts. parts.2 ≡ sum (lengths_from parts.0.now [])) }
+    ensures below { IfSome result (λ parts. sum (lengths_from parts.0.now []) < length_limit) }
 {
     if k != 1 {
         return None;
@@ -150,36 +153,7 @@ fn single_short(bytes: &[u8], k: usize) -> Option<(&[u8], &[u8])>
         return None;
     }
     known_bytes(bytes);
-    Some((&bytes[..1], rest))
-}
-
-// Reads both parts of a column, as `read_parts` does, and one length below 255 sooner.
-fn read_column<'a>(
-    alloc: Global,
-    input: &mut &'a [u8],
-    k: usize,
-    small: &mut CowSlice<'a, u8>,
-    large: &mut CowSlice<'a, [u8; 8]>,
-    strict: bool,
-) -> Result<bool, Error>
-    ensures read { OnOk result
-        (ReadsParts k input.old.now (cow_rest small.new) (map little_endian (cow_rest large.new))
-        input.new.now) }
-    ensures judged { IsTrue strict → IfOk result (λ written. IsTrue written
-        ↔ (input.old.now ≡ length_bytes
-        (lengths_from (cow_rest small.new) (map little_endian (cow_rest large.new)))
-        ++ input.new.now)) }
-    ensures refused { IfErr result (λ e. NamesLengthFault e.reason k input.old.now) }
-    ensures rest { OnErr result (IsEndOf input.old.now input.new.now) }
-{
-    let bytes = *input;
-    if let Some((byte, rest)) = single_short(bytes, k) {
-        *input = rest;
-        small.set_borrowed(byte);
-        large.set_borrowed(&[]);
-        return Ok(true);
-    }
-    read_parts(alloc, input, k, small, large, strict)
+    Some((&bytes[..1], rest, *first as usize))
 }
 
 // Whether a byte is over the limit.
@@ -241,7 +215,32 @@ impl<'a> LengthDecoder<'a> {
         ensures refused { IfErr result (λ e. NamesLengthFault e.reason k input.old.now) }
         ensures rest { OnErr result (IsEndOf input.old.now input.new.now) }
     {
-        let parts = read_column(
+        let bytes = *input;
+        if let Some((byte, rest, length)) = single_short(bytes, k) {
+            *input = rest;
+            self.small.set_borrowed(byte);
+            self.large.set_borrowed(&[]);
+            self.sum = length;
+            return Ok(true);
+        }
+        self.read_any(input, k, strict)
+    }
+
+    // Like `read`, for all other columns. It is never inlined, so that `read` needs no stack frame of its size.
+    #[inline(never)]
+    fn read_any(&mut self, input: &mut &'a [u8], k: usize, strict: bool) -> Result<bool, Error>
+        ensures read { OnOk result
+            (Reads (SpellsLengths None) k input.old.now (lengths_left self.new) input.new.now) }
+        ensures parts { OnOk result
+            (ReadsParts k input.old.now (short_left self.new) (large_left self.new) input.new.now) }
+        ensures sum { OnOk result (lengths_sum self.new ≡ sum (lengths_left self.new)) }
+        ensures judged { IsTrue strict → IfOk result
+            (λ written. IsTrue written
+            ↔ (input.old.now ≡ length_bytes (lengths_left self.new) ++ input.new.now)) }
+        ensures refused { IfErr result (λ e. NamesLengthFault e.reason k input.old.now) }
+        ensures rest { OnErr result (IsEndOf input.old.now input.new.now) }
+    {
+        let parts = read_parts(
             self.alloc,
             input,
             k,
